@@ -1,0 +1,7 @@
+.PHONY: demo test
+
+demo:
+	@bash demo.sh
+
+test:
+	rt ci

@@ -1,0 +1,6 @@
+pub mod Lists
+pub mod Counting
+pub mod Gathering
+pub mod Holding
+pub mod Sameness
+pub mod Roses

@@ -1,0 +1,5 @@
+pub mod Numbers
+pub mod Kind
+pub mod Typ
+pub mod Seen
+pub mod Words

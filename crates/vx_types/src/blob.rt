@@ -1,0 +1,92 @@
+//! Plain bytes.
+
+ghost use Rattle.std.specs.Prelude.{◌≡◌, ◌==◌, IfOk, IsOkUnless, bytes_eq, length};
+ghost use Rattle.std.specs.Cmp.{partial_equiv_from_equiv};
+ghost use Rattle.std.specs.Cmp.Lexicographic.{nat_list_eq_equiv};
+
+use crate::error::TypeError;
+use std::alloc::Global;
+use std::marker::Model;
+
+/// Bytes that are owned, as metadata or the content of a file. Contracts see
+/// their list.
+#[derive(Drop)]
+pub struct Blob {
+    bytes: Vec<u8>,
+}
+
+impl Model for Blob {
+    ghost use Rattle.std.specs.Prelude.{List, ℕ};
+
+    ghost Value = { List ℕ };
+
+    ghost view = { λ a. a.bytes.items };
+}
+
+impl Blob {
+    /// These bytes.
+    pub fn new(bytes: Vec<u8>) -> Blob
+        ensures { result ≡ bytes.items }
+    {
+        Blob { bytes }
+    }
+
+    /// A copy of these bytes.
+    pub fn copy_from(alloc: Global, bytes: &[u8]) -> Result<Blob, TypeError>
+        ensures ok { IfOk result (λ blob. blob ≡ bytes.now) }
+        ensures err { IsOkUnless result TypeError.OutOfMemory }
+    {
+        let bytes = Vec::from_slice(alloc, bytes)?;
+        Ok(Blob { bytes })
+    }
+
+    /// The bytes.
+    pub fn as_slice(&self) -> &[u8]
+        ensures { result.now ≡ self.now }
+    {
+        self.bytes.as_slice()
+    }
+
+    /// How many bytes there are.
+    pub fn len(&self) -> usize
+        ensures { result ≡ length self.now }
+    {
+        self.bytes.len()
+    }
+
+    /// Whether there is no byte.
+    pub fn is_empty(&self) -> bool
+        ensures { result ≡ (length self.now == 0) }
+    {
+        self.bytes.is_empty()
+    }
+
+    /// The bytes, handed out.
+    pub fn into_vec(self) -> Vec<u8>
+        ensures { result.items ≡ self }
+    {
+        self.bytes
+    }
+
+    /// Equal bytes.
+    pub fn clone(&self, alloc: Global) -> Result<Blob, TypeError>
+        ensures ok { IfOk result (λ blob. blob ≡ self.now) }
+        ensures err { IsOkUnless result TypeError.OutOfMemory }
+    {
+        Blob::copy_from(alloc, self.as_slice())
+    }
+}
+
+impl PartialEq for Blob {
+    ghost eq = { λ a b. bytes_eq a b };
+
+    ghost laws = { partial_equiv_from_equiv nat_list_eq_equiv };
+
+    fn eq(&self, other: &Blob) -> bool {
+        self.as_slice() == other.as_slice()
+    }
+}
+
+impl Eq for Blob {
+    ghost laws = { nat_list_eq_equiv };
+}

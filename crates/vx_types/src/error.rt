@@ -1,0 +1,31 @@
+//! Refusals of this crate.
+
+ghost use Rattle.std.specs.Prelude.{◌≡◌};
+ghost use Rattle.vx_types.specs.declared.error.TypeError.TheVariants.{OutOfMemory};
+
+use std::alloc::{AllocError, AllocFailed};
+use thiserror::Error;
+
+/// Why a type or a plain value could not be made.
+#[derive(Clone, Copy, Debug, PartialEq, Eq, Error)]
+pub enum TypeError {
+    /// The allocator gave no memory.
+    #[error("out of memory")]
+    OutOfMemory,
+}
+
+impl From<AllocError> for TypeError {
+    ghost from_gives = { λ _ e. e ≡ OutOfMemory };
+
+    fn from(_e: AllocError) -> TypeError {
+        TypeError::OutOfMemory
+    }
+}
+
+impl<T: Drop> From<AllocFailed<T>> for TypeError {
+    ghost from_gives = { λ _ e. e ≡ OutOfMemory };
+
+    fn from(_e: AllocFailed<T>) -> TypeError {
+        TypeError::OutOfMemory
+    }
+}

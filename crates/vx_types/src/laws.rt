@@ -1,0 +1,10 @@
+//! What holds of types, for the contracts of other crates.
+
+ghost use Rattle.std.specs.Prelude.{◌≡◌};
+ghost use Rattle.vx_types.specs.declared.dtype.DType.{DType};
+ghost use Rattle.vx_types.specs.Seen.{typ};
+
+/// Types that are seen as the same tree are the same type.
+pub fn same_tree_is_same_type()
+    ensures { (a b : DType) → typ a ≡ typ b → a ≡ b }
+{}
