@@ -4,3 +4,7 @@ pub mod MessageValue
 pub mod Wire
 pub mod WireCode
 pub mod Blob
+pub mod Numbered
+pub mod Placing
+pub mod Written
+pub mod Errors

@@ -1,14 +1,12 @@
 -- How wire trees are stored, where a struct has one as its model.
 use Rattle.std.specs.Prelude.{ℕ, List, [], Option, None, refl}
 use Rattle.std.specs.Coded.{Coded, code_by, coded×, coded_ℕ, coded_list, coded_option}
-use Rattle.vx_buffer.specs.Buffer.{Buffer}
+use Rattle.vx_buffer.specs.Buffer.{Buffer, coded_buffer}
 use Rattle.vx_trees.specs.Codes.{coded_rose}
 use Rattle.vx_serde.specs.Wire.{WireHead}
 pub use Rattle.vx_serde.specs.Wire.{Wire}
 
-abbrev pub coded_buffer : Coded Buffer
-coded_buffer = code_by (List ℕ × ℕ) (coded× (coded_list coded_ℕ) coded_ℕ) (λ b. (b.bytes, b.exponent)) (λ p. record { bytes = p.0; exponent = p.1 }) (λ _. refl)
-
+-- A node is stored as its identifier, its metadata and its buffers.
 abbrev pub wire_code : Coded Wire
 wire_code = coded_rose (record { id = None; metadata = []; buffers = [] })
     (code_by (Option (List ℕ) × (List ℕ × List (Option Buffer))) (coded× (coded_option (coded_list coded_ℕ)) (coded× (coded_list coded_ℕ) (coded_list (coded_option coded_buffer))))
