@@ -3,14 +3,9 @@ use Rattle.std.specs.Prelude.{ℕ, List, [], ◌∷◌, Option, Some, None}
 use Rattle.std.specs.Int.{w16, w32, from_le_bytes}
 use Rattle.vx_flat.specs.Value.{Field, number, elements, table, tables, Fields, field, Rows, no_rows, row}
 use Rattle.vx_trees.specs.Rose.{Rose, Roses, node, end, more}
-
 -- A buffer descriptor: how many bytes are skipped in front of the buffer, the
 -- exponent of its alignment, its compression (0 is none) and its length.
-pub record Descriptor : Type 0 where
-  pub padding : ℕ
-  pub exponent : ℕ
-  pub compression : ℕ
-  pub len : ℕ
+pub use Rattle.vx_serde.specs.declared.message.Descriptor.{Descriptor}
 
 -- A node names its encoding by its place in a list of identifiers that stands
 -- beside the blob, and its buffers by the places of their descriptors.
