@@ -1,2 +1,5 @@
 pub mod Pieces
 pub mod PartViews
+pub mod MessageRead
+pub mod PlacedRead
+pub mod NumberedRead
