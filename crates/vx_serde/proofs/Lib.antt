@@ -3,3 +3,5 @@ pub mod PartViews
 pub mod MessageRead
 pub mod PlacedRead
 pub mod NumberedRead
+pub mod Carried
+pub mod CarriedOnce

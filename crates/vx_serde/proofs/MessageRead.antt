@@ -1,5 +1,5 @@
 -- The table value of a message tells that message, and is a value of the schema.
-use Rattle.std.proofs.Common.{ℕ, zero, suc, ◌≡◌, ◌+◌, ◌*◌, ◌<◌, ◌^◌, List, [], ◌∷◌, ◌++◌, length, Some, refl, arith, lit<}
+use Rattle.std.proofs.Common.{ℕ, ◌≡◌, ◌*◌, ◌<◌, ◌^◌, List, [], ◌∷◌, length, Some, refl, arith, lit<}
 use Rattle.std.specs.Prelude.{All}
 use Rattle.std.proofs.lemmas.Nat.{from_le_bytes-to_le_bytes_2, from_le_bytes-to_le_bytes_4}
 use Rattle.std.proofs.lemmas.List.Elements.{All-head, All-tail}
@@ -7,7 +7,7 @@ use Rattle.vx_flat.specs.Kinds.{IsOf, OfFields, OfRows}
 use Rattle.vx_trees.specs.Rose.{Rose, Roses, node, end, more}
 use Rattle.vx_trees.specs.Everywhere.{EverywhereBelow}
 use Rattle.vx_serde.specs.ArraySchema.{array_schema, node_fields, stats_fields}
-use Rattle.vx_serde.specs.Message.{Descriptor, NodeFields, Message, indices_of, descriptors_of, node_of, nodes_of, message_of}
+use Rattle.vx_serde.specs.Message.{Descriptor, NodeFields, indices_of, descriptors_of, node_of, nodes_of, message_of}
 use Rattle.vx_serde.specs.MessageValue.{index_bytes, descriptors_bytes, no_stats, node_value, rows_value, message_value, IsNumberedNode, IsDescribed, IsNumbered}
 
 -- Indices are read as they were written, two bytes each.

@@ -1,13 +1,13 @@
 -- Numbered nodes, read with the identifiers and the buffers that they were numbered by, are the tree.
-use Rattle.std.proofs.Common.{ℕ, zero, suc, ◌≡◌, ◌+◌, ◌<◌, ◌≤◌, ◌^◌, List, [], ◌∷◌, ◌++◌, Option, Some, None, length, get_or, map, refl, sym, ap, ◌∙◌, subst, arith, add-one, length-append}
+use Rattle.std.proofs.Common.{ℕ, zero, suc, ◌≡◌, ◌+◌, ◌<◌, ◌≤◌, ◌^◌, List, [], ◌∷◌, ◌++◌, Option, Some, length, map, refl, sym, ap, ◌∙◌, subst, arith, add-one, length-append}
 use Rattle.std.specs.Prelude.{All, slice_get}
 use Rattle.std.proofs.lemmas.List.{append_assoc}
-use Rattle.std.proofs.lemmas.List.Elements.{All-nil, All-cons, All-from_recursion, recursion_from_All}
+use Rattle.std.proofs.lemmas.List.Elements.{All-nil, All-cons, recursion_from_All}
 use Rattle.std.proofs.lemmas.Option.{slice_get_within}
 use Rattle.std.specs.List.{AllByRecursion}
 use Rattle.vx_buffer.specs.Buffer.{Buffer}
-use Rattle.vx_trees.specs.Rose.{Rose, Roses, node, end, more}
-use Rattle.vx_trees.specs.Walks.{gathered, gathered_below}
+use Rattle.vx_trees.specs.Rose.{node, end, more}
+use Rattle.vx_trees.specs.Walks.{gathered_below}
 use Rattle.vx_trees.specs.Everywhere.{Everywhere, EverywhereBelow}
 use Rattle.vx_serde.specs.MessageValue.{IsNumberedNode, IsNumbered}
 use Rattle.vx_serde.specs.Wire.{WireHead, Wire, Wires, IsCleanNode, IsClean}
@@ -43,15 +43,17 @@ first_of_one ids o id rest e h =
 
 mutual
   placed_by : (ids : List (List ℕ)) (w : Wire) → IsClean w → AllByRecursion (IsPlaced ids) (ids_in w) → Everywhere (IsPlacedNode ids) w
-  placed_by ids (node h ws) clean all =
-      (record { name = clean.0.0.0; named = clean.0.0.1; placed = first_of_one ids h.id clean.0.0.0 (gathered_below id_in ws) clean.0.0.1 all; standing = clean.0.1.0; stand = clean.0.1.1 },
-      placed_below ids ws clean.1 (right_part (IsPlaced ids) (id_in h) (gathered_below id_in ws) all))
+  placed_by ids (node h ws) clean all = (
+    record { name = clean.0.0.0; named = clean.0.0.1; placed = first_of_one ids h.id clean.0.0.0 (gathered_below id_in ws) clean.0.0.1 all; standing = clean.0.1.0; stand = clean.0.1.1 },
+    placed_below ids ws clean.1 (right_part (IsPlaced ids) (id_in h) (gathered_below id_in ws) all),
+  )
 
   placed_below : (ids : List (List ℕ)) (ws : Wires) → EverywhereBelow IsCleanNode ws → AllByRecursion (IsPlaced ids) (gathered_below id_in ws) → EverywhereBelow (IsPlacedNode ids) ws
   placed_below ids end clean all = tt
-  placed_below ids (more w ws) clean all =
-      (placed_by ids w clean.0 (left_part (IsPlaced ids) (ids_in w) (gathered_below id_in ws) all),
-      placed_below ids ws clean.1 (right_part (IsPlaced ids) (ids_in w) (gathered_below id_in ws) all))
+  placed_below ids (more w ws) clean all = (
+    placed_by ids w clean.0 (left_part (IsPlaced ids) (ids_in w) (gathered_below id_in ws) all),
+    placed_below ids ws clean.1 (right_part (IsPlaced ids) (ids_in w) (gathered_below id_in ws) all),
+  )
 
 -- Each node of a clean tree is placed where all its identifiers are.
 pub placed_from_ids : (ids : List (List ℕ)) (w : Wire) → IsClean w → All (IsPlaced ids) (ids_in w) → Everywhere (IsPlacedNode ids) w
@@ -73,9 +75,10 @@ mutual
   pub numbered_fits : (ids : List (List ℕ)) (n : ℕ) (w : Wire) → length ids ≤ 2 ^ 16 → n + length (buffers_in w) ≤ 2 ^ 16 → Everywhere (IsPlacedNode ids) w
       → IsNumbered (numbered ids n w)
   numbered_fits ids n (node h ws) few fit placed =
-      let sum = length-append (present h.buffers) (gathered_below buffers_at_node ws) in
-      ((omega (arith, few, index_within ids h.id placed.0.name placed.0.named placed.0.placed), number_within n (length (present h.buffers)) (omega (arith, fit, sum))),
-      numbered_below_fits ids (n + length (present h.buffers)) ws few (omega (arith, fit, sum)) placed.1)
+      let sum = length-append (present h.buffers) (gathered_below buffers_at_node ws) in (
+        (omega (arith, few, index_within ids h.id placed.0.name placed.0.named placed.0.placed), number_within n (length (present h.buffers)) (omega (arith, fit, sum))),
+        numbered_below_fits ids (n + length (present h.buffers)) ws few (omega (arith, fit, sum)) placed.1,
+      )
 
   numbered_below_fits : (ids : List (List ℕ)) (n : ℕ) (ws : Wires) → length ids ≤ 2 ^ 16 → n + length (gathered_below buffers_at_node ws) ≤ 2 ^ 16 → EverywhereBelow (IsPlacedNode ids) ws
       → EverywhereBelow IsNumberedNode (numbered_below ids n ws)

@@ -1,5 +1,5 @@
 -- Buffers stand in the segment where their descriptors say.
-use Rattle.std.proofs.Common.{ℕ, zero, suc, ◌≡◌, ◌+◌, ◌-◌, ◌*◌, ◌%◌, ◌<◌, ◌≤◌, ◌^◌, Bool, true, false, List, [], ◌∷◌, ◌++◌, length, take, drop, replicate, refl, sym, ap, ◌∙◌, arith, length-append}
+use Rattle.std.proofs.Common.{ℕ, ◌≡◌, ◌+◌, ◌-◌, ◌%◌, ◌<◌, ◌≤◌, ◌^◌, Bool, true, false, List, [], ◌∷◌, ◌++◌, length, take, drop, replicate, refl, sym, ap, ◌∙◌, arith, length-append}
 use Rattle.std.specs.Prelude.{All, if◌then◌else◌}
 use Rattle.std.proofs.Math.Nat.{mod-lt, pow-le-pow_right}
 use Rattle.std.proofs.Math.Seq.{take-append_seam, drop-append_seam}
@@ -8,7 +8,6 @@ use Rattle.std.proofs.lemmas.List.Elements.{All-nil, All-cons, All-head, All-tai
 use Rattle.std.proofs.lemmas.Nat.{pow_pos}
 use Rattle.vx_buffer.specs.Buffer.{Buffer}
 use Rattle.vx_serde.specs.declared.options.SerializeOptions.{SerializeOptions}
-use Rattle.vx_serde.specs.Message.{Descriptor}
 use Rattle.vx_serde.specs.MessageValue.{IsDescribed}
 use Rattle.vx_serde.specs.Blob.{buffers_at, end_of}
 use Rattle.vx_serde.specs.Placing.{gap_to, pad, descriptors_from, data_from}
@@ -34,13 +33,13 @@ buffers_at-descriptors_from options position (b ∷ bs) before after p e =
     let regroup : (zeros ++ (b.bytes ++ rest)) ++ after ≡ zeros ++ (b.bytes ++ (rest ++ after)) = append_assoc zeros (b.bytes ++ rest) after ∙ ap (λ s. zeros ++ s) (append_assoc b.bytes rest after) in
     let whole : before ++ ((zeros ++ (b.bytes ++ rest)) ++ after) ≡ before ++ (zeros ++ (b.bytes ++ (rest ++ after))) = ap (λ s. before ++ s) regroup in
     let passed : before ++ (zeros ++ (b.bytes ++ (rest ++ after))) ≡ ((before ++ zeros) ++ b.bytes) ++ (rest ++ after) =
-        sym (append_assoc before zeros (b.bytes ++ (rest ++ after))) ∙ sym (append_assoc (before ++ zeros) b.bytes (rest ++ after)) in
+    sym (append_assoc before zeros (b.bytes ++ (rest ++ after))) ∙ sym (append_assoc (before ++ zeros) b.bytes (rest ++ after)) in
     let first : take (length b.bytes) (drop (p + n) (before ++ ((zeros ++ (b.bytes ++ rest)) ++ after))) ≡ b.bytes =
-        ap (λ s. take (length b.bytes) (drop (p + n) s)) whole ∙ taken before zeros b.bytes (rest ++ after) p n e (length-replicate {A = ℕ} n 0) in
+    ap (λ s. take (length b.bytes) (drop (p + n) s)) whole ∙ taken before zeros b.bytes (rest ++ after) p n e (length-replicate {A = ℕ} n 0) in
     let place : length ((before ++ zeros) ++ b.bytes) ≡ p + n + length b.bytes =
-        omega (arith, length-append (before ++ zeros) b.bytes, length-append before zeros, e, length-replicate {A = ℕ} n 0) in
+    omega (arith, length-append (before ++ zeros) b.bytes, length-append before zeros, e, length-replicate {A = ℕ} n 0) in
     let others = ap (λ s. buffers_at s (p + n + length b.bytes) (descriptors_from options (position + n + length b.bytes) bs)) (whole ∙ passed)
-        ∙ buffers_at-descriptors_from options (position + n + length b.bytes) bs ((before ++ zeros) ++ b.bytes) after (p + n + length b.bytes) place in
+    ∙ buffers_at-descriptors_from options (position + n + length b.bytes) bs ((before ++ zeros) ++ b.bytes) after (p + n + length b.bytes) place in
     λ k. record { bytes = first k; exponent = b.exponent } ∷ others k
 
 -- The last buffer ends where the data ends.
