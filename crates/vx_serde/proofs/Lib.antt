@@ -1,2 +1,5 @@
 pub mod Pieces
 pub mod PartViews
+pub mod Descriptions
+pub mod NodeParts
+pub mod Refusing
