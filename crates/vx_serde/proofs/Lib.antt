@@ -1,5 +1,8 @@
 pub mod Pieces
 pub mod PartViews
+pub mod Descriptions
+pub mod NodeParts
+pub mod Refusing
 pub mod MessageRead
 pub mod PlacedRead
 pub mod NumberedRead
