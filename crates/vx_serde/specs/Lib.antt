@@ -8,3 +8,4 @@ pub mod Numbered
 pub mod Placing
 pub mod Written
 pub mod Errors
+pub mod Opening

@@ -99,3 +99,11 @@ impl From<BufferError> for WireError {
         WireError::OutOfMemory
     }
 }
+
+impl From<TypeError> for WireError {
+    ghost from_gives = { λ _ e. e ≡ OutOfMemory };
+
+    fn from(_e: TypeError) -> WireError {
+        WireError::OutOfMemory
+    }
+}

@@ -4,6 +4,7 @@
 mod array_kind;
 mod error;
 mod message;
+mod opening;
 mod options;
 mod tree;
 

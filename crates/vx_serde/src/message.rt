@@ -2,6 +2,9 @@
 
 ghost use Rattle.std.specs.Prelude.{◌≡◌, ◌<◌, ◌∷◌, [], IfOk, IfSome, IfNone, map, length};
 ghost use Rattle.vx_flat.specs.View.{view, views, rows_from};
+ghost use Rattle.vx_flat.specs.Kinds.{OfKind, OfRows};
+ghost use Rattle.vx_flat.specs.declared.schema.FieldKind.TheVariants.{Tables};
+ghost use Rattle.vx_serde.specs.ArraySchema.{array_schema};
 ghost use Rattle.vx_serde.specs.Message.{number_in, bytes_in, nodes_in, nodes_of, indices_of, descriptors_of};
 
 use std::alloc::{AllocError, Global};
@@ -42,7 +45,8 @@ pub(crate) fn bytes_of(part: &Part) -> &[u8]
 
 /// The tables of a vector; an absent one has none.
 pub(crate) fn rows_of(part: &Part) -> &[Vec<Part>]
-    ensures { nodes_of (rows_from (map (λ r. views r.items) result.now)) ≡ nodes_in (view part.now) }
+    ensures nodes { nodes_of (rows_from (map (λ r. views r.items) result.now)) ≡ nodes_in (view part.now) }
+    ensures kind { OfKind array_schema (Tables 1) (view part.now) → OfRows array_schema 1 (rows_from (map (λ r. views r.items) result.now)) }
 {
     match part {
         Part::Tables(rows) => rows.as_slice(),
