@@ -1,0 +1,18 @@
+//! Tagged messages.
+#![tactic(auto)]
+
+mod element;
+mod error;
+mod fields;
+mod message;
+mod reading;
+mod schema;
+mod wire;
+mod writing;
+
+pub use element::Element;
+pub use error::ProtoError;
+pub use fields::Fields;
+pub use message::Message;
+pub use schema::{Kind, Member, Rule, Schema, Slot, SlotList};
+pub use wire::{Field, Part};
