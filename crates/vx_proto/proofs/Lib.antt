@@ -11,7 +11,6 @@ pub mod Causes
 pub mod Told
 pub mod Spelled
 pub mod Again
-pub mod Puts
 pub mod Formed
-pub mod OneForm
 pub mod LawfulTest
+pub mod Suffixes

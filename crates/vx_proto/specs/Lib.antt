@@ -5,6 +5,6 @@ pub mod Reads
 pub mod Reading
 pub mod Form
 pub mod Written
-pub mod Writing
 pub mod Fields
 pub mod Lawful
+pub mod Parts

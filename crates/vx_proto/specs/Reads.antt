@@ -7,7 +7,7 @@ use Rattle.vx_proto.specs.declared.schema.Rule.{Rule}
 use Rattle.vx_proto.specs.declared.schema.Rule.TheVariants.{Plain, Optional, Single, Repeated}
 use Rattle.vx_proto.specs.declared.schema.Member.{Member}
 use Rattle.vx_proto.specs.declared.error.ProtoError.{ProtoError}
-use Rattle.vx_proto.specs.declared.error.ProtoError.TheVariants.{BadMessage, TooDeep, OutOfRange}
+use Rattle.vx_proto.specs.declared.error.ProtoError.TheVariants.{OutOfMemory, BadMessage, TooDeep, OutOfRange}
 use Rattle.vx_proto.specs.Wire.{Part, varint, eight, delimited, four, Field, Spells, cut}
 use Rattle.vx_proto.specs.Value.{Elem, number, octets, message, Entry, Value, slots_of, Slot, Schema}
 
@@ -140,6 +140,24 @@ Cause schema (suc left) error place bytes =
     ⊎ ((error ≡ BadMessage) × ((cut bytes).1 ≡ false))
     ⊎ ((error ≡ BadMessage) × IsTwice (list_at schema place) (map (λ f. f.number) (cut bytes).0))
 
--- messages nest over 100; a number is out of range; the form is broken
-unfoldable pub NestsOver : Schema → ℕ → List ℕ → Type 0
-NestsOver schema place bytes = Cause schema 100 TooDeep place bytes
+-- ---- answers
+
+-- The members that a slot keeps where none of them occurs.
+abbrev pub default_by : Rule → List Member → List Entry
+default_by Plain members = default_of members
+default_by r members = []
+
+abbrev pub defaults : List Slot → Value
+defaults [] = []
+defaults (s ∷ ss) = default_by s.rule s.members ∷ defaults ss
+
+-- The value of a message without fields: each plain member at its default, and nothing else.
+abbrev pub default_value : Schema → ℕ → Value
+default_value schema place = defaults (list_at schema place)
+
+-- A refusal and its cause; want of memory is free.
+abbrev pub IsCaused : Schema → ℕ → List ℕ → ProtoError → Type 0
+IsCaused schema place bytes OutOfMemory = Unit {0}
+IsCaused schema place bytes BadMessage = Cause schema 100 BadMessage place bytes
+IsCaused schema place bytes TooDeep = Cause schema 100 TooDeep place bytes
+IsCaused schema place bytes OutOfRange = Cause schema 100 OutOfRange place bytes

@@ -1,11 +1,13 @@
 -- The one written form of a value.
-use Rattle.std.specs.Prelude.{ℕ, zero, suc, ◌+◌, ◌*◌, ◌/◌, ◌%◌, max, nat_lt, ◌==◌, Bool, false, if◌then◌else◌, List, [], ◌∷◌, ◌++◌, length, unwrap_or}
+use Rattle.std.specs.Prelude.{◌<◌, ℕ, zero, suc, ◌+◌, ◌*◌, ◌/◌, ◌%◌, max, nat_lt, ◌==◌, Bool, false, if◌then◌else◌, List, [], ◌∷◌, ◌++◌, length, unwrap_or}
 use Rattle.std.specs.Int.{w32, w64, to_le_bytes}
 use Rattle.vx_proto.specs.declared.schema.Kind.{Kind}
 use Rattle.vx_proto.specs.declared.schema.Kind.TheVariants.{Whole, Fixed32, Fixed64, Text, Bytes, Inner}
 use Rattle.vx_proto.specs.declared.schema.Rule.{Rule}
 use Rattle.vx_proto.specs.declared.schema.Rule.TheVariants.{Plain}
 use Rattle.vx_proto.specs.declared.schema.Member.{Member}
+use Rattle.vx_proto.specs.declared.error.ProtoError.{ProtoError}
+use Rattle.vx_proto.specs.declared.error.ProtoError.TheVariants.{OutOfMemory, BadMessage, TooDeep, OutOfRange}
 use Rattle.vx_proto.specs.Value.{Elem, number, octets, message, Slots, no_slots, slot, Entries, no_entries, entry, Value, slots_of, Slot, Schema}
 use Rattle.vx_proto.specs.Reads.{list_at, kind_in}
 
@@ -49,27 +51,38 @@ is_left_out r e = false
 abbrev pub field_bytes : Kind → ℕ → List ℕ → List ℕ
 field_bytes k n part = varint_bytes (8 * n + wire_of k) ++ part
 
+-- One member: nothing where it is a plain one at its default, else its key and what it holds.
+abbrev pub entry_bytes : Slot → ℕ → Elem → List ℕ → List ℕ
+entry_bytes s n e part = if is_left_out s.rule e then [] else field_bytes (member_kind s.members n) n part
+
 abbrev mutual
+  -- What a member holds, behind its key: a number by its kind, anything else behind its length.
   pub written_elem : Schema → Kind → Elem → List ℕ
   written_elem schema k (number n) = number_bytes k n
   written_elem schema k (octets s) = counted s
   written_elem schema k (message v) = counted (written_slots schema (list_at schema (place_in k)) v)
 
+  -- The members of a slot, in order.
+  pub written_entries : Schema → Slot → Entries → List ℕ
+  written_entries schema s no_entries = []
+  written_entries schema s (entry n e es) = entry_bytes s n e (written_elem schema (member_kind s.members n) e) ++ written_entries schema s es
+
+  -- The slots of a message, in the order of its list.
   pub written_slots : Schema → List Slot → Slots → List ℕ
   written_slots schema list no_slots = []
   written_slots schema [] (slot es v) = []
   written_slots schema (s ∷ ss) (slot es v) = written_entries schema s es ++ written_slots schema ss v
 
-  pub written_entries : Schema → Slot → Entries → List ℕ
-  written_entries schema s no_entries = []
-  written_entries schema s (entry n e es) =
-      (if is_left_out s.rule e then [] else field_bytes (member_kind s.members n) n (written_elem schema (member_kind s.members n) e)) ++ written_entries schema s es
+-- A member of a slot as it is written.
+abbrev pub written_entry : Schema → Slot → ℕ → Elem → List ℕ
+written_entry schema s n e = entry_bytes s n e (written_elem schema (member_kind s.members n) e)
 
+-- The written form of a value: the one that encoding gives.
 unfoldable pub written : Schema → ℕ → Value → List ℕ
 written schema place v = written_slots schema (list_at schema place) (slots_of v)
 
--- how many messages nest in a value, itself counted
 abbrev mutual
+  -- How many messages nest in what a member holds.
   pub elem_depth : Elem → ℕ
   elem_depth (number n) = 0
   elem_depth (octets s) = 0
@@ -83,5 +96,13 @@ abbrev mutual
   entries_depth no_entries = 0
   entries_depth (entry n e es) = max (elem_depth e) (entries_depth es)
 
-unfoldable pub value_depth : Value → ℕ
-value_depth v = suc (slots_depth (slots_of v))
+-- How many messages nest in a message, itself counted.
+abbrev pub nested : Value → ℕ
+nested v = suc (slots_depth (slots_of v))
+
+-- Why a value is not written: it nests over 100 messages; want of memory is free.
+abbrev pub IsTooDeep : Value → ProtoError → Type 0
+IsTooDeep v OutOfMemory = Unit {0}
+IsTooDeep v BadMessage = ⊥
+IsTooDeep v TooDeep = 100 < nested v
+IsTooDeep v OutOfRange = ⊥

@@ -1,4 +1,4 @@
-//! Tagged messages.
+//! Tagged messages: one decoder and one encoder, proved once for every schema.
 #![tactic(auto)]
 
 mod element;
@@ -10,7 +10,7 @@ mod schema;
 mod wire;
 mod writing;
 
-pub use element::Element;
+pub use element::{Element, Entries, Entry};
 pub use error::ProtoError;
 pub use fields::Fields;
 pub use message::Message;
