@@ -1,5 +1,5 @@
 -- What a reader tells of its answer, in the words of the bytes.
-use Rattle.std.proofs.Common.{◌≡◌, ◌≤◌, ◌<◌, ◌^◌, ℕ, List, [], ◌∷◌, length, arith, Result, Ok, Err, refl}
+use Rattle.std.proofs.Common.{◌≡◌, ◌≤◌, ◌<◌, ◌^◌, ◌⊎◌, inl, inr, ℕ, List, [], ◌∷◌, length, arith, Result, Ok, Err, refl}
 use Rattle.std.specs.Prelude.{IsTrue}
 use Rattle.vx_proto.specs.declared.error.ProtoError.{ProtoError}
 use Rattle.vx_proto.specs.declared.error.ProtoError.TheVariants as errors
@@ -7,7 +7,7 @@ use Rattle.vx_proto.specs.declared.schema.Rule.{Rule}
 use Rattle.vx_proto.specs.declared.schema.Rule.TheVariants.{Plain, Optional, Single, Repeated}
 use Rattle.vx_proto.specs.declared.schema.Member.{Member}
 use Rattle.vx_proto.specs.Value.{Value, Slot, Schema}
-use Rattle.vx_proto.specs.Reads.{ReadsWithin, Reads, Cause, IsCaused, list_at, Keeps, ShowsSlots, default_by, defaults, default_value}
+use Rattle.vx_proto.specs.Reads.{ReadsWithin, Reads, Cause, list_at, Keeps, ShowsSlots, default_by, defaults, default_value}
 use Rattle.vx_proto.specs.Reading.{Fails, decoded}
 use Rattle.vx_proto.specs.Form.{HasForm}
 use Rattle.vx_proto.specs.Lawful.{is_lawful}
@@ -18,11 +18,11 @@ use Rattle.vx_proto.specs.Written.{written, nested}
 use Rattle.vx_proto.proofs.Again.{written_reads}
 use Rattle.vx_proto.proofs.LawfulTest.{lawful_by}
 
-pub fails_caused : (err : ProtoError) (schema : Schema) (place : ℕ) (bytes : List ℕ) → Fails err (decoded schema 100 place bytes) → IsCaused schema place bytes err
-fails_caused errors.OutOfMemory schema place bytes h = tt
-fails_caused errors.BadMessage schema place bytes h = decoded_cause schema 100 place bytes errors.BadMessage h
-fails_caused errors.TooDeep schema place bytes h = decoded_cause schema 100 place bytes errors.TooDeep h
-fails_caused errors.OutOfRange schema place bytes h = decoded_cause schema 100 place bytes errors.OutOfRange h
+pub fails_caused : (err : ProtoError) (schema : Schema) (place : ℕ) (bytes : List ℕ) → Fails err (decoded schema 100 place bytes) → (err ≡ errors.OutOfMemory) ⊎ Cause schema 100 err place bytes
+fails_caused errors.OutOfMemory schema place bytes h = inl refl
+fails_caused errors.BadMessage schema place bytes h = inr (decoded_cause schema 100 place bytes errors.BadMessage h)
+fails_caused errors.TooDeep schema place bytes h = inr (decoded_cause schema 100 place bytes errors.TooDeep h)
+fails_caused errors.OutOfRange schema place bytes h = inr (decoded_cause schema 100 place bytes errors.OutOfRange h)
 
 pub same_ok : (x : Result Value ProtoError) (v w : Value) → x ≡ Ok v → x ≡ Ok w → v ≡ w
 same_ok x v w a b = cc

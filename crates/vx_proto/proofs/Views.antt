@@ -5,7 +5,7 @@ use Rattle.vx_proto.specs.declared.element.Element.{Element, fold-roll-Element}
 use Rattle.vx_proto.specs.declared.element.Element.TheOpen.{Element-F}
 use Rattle.vx_proto.specs.declared.element.Element.TheVariants.{rolls-Message}
 use Rattle.vx_proto.specs.declared.element.Element.TheViews.{Message}
-use Rattle.vx_proto.specs.Value.{Elem, message, Entry, Value, slots_of, view, view_step, entries_view, value_view}
+use Rattle.vx_proto.specs.Value.{Elem, message, Entry, Value, entries_of, slots_of, list_of, value_of, view, view_step, entries_view, value_view}
 use Rattle.vx_proto.specs.Reading.{push_at}
 
 map_twice : {A B C : Type 0} (f : A → B) (g : B → C) (xs : List A) → map g (map f xs) ≡ map (λ x. g (f x)) xs
@@ -33,3 +33,12 @@ view_get (s ∷ slots) (suc i) x lt e = view_get slots i x (omega arith) e
 pub view_push : (slots : List (Vec (ℕ × Element))) (i : ℕ) (old new : Vec (ℕ × Element)) (e : ℕ × Element) → i < length slots → old ≡ get_or slots i old → new.items ≡ old.items ++ e ∷ []
     → value_view (set slots i new) ≡ push_at i (e.0, view e.1) (value_view slots)
 view_push slots i old new e lt was more = view_set slots i new ∙ ap (set (value_view slots) i) (ap entries_view more ∙ view_append old.items (e ∷ []) ∙ ap (λ (t : List Entry). t ++ (e.0, view e.1) ∷ []) (sym (view_get slots i old lt was)))
+
+list_again : (es : List Entry) → list_of (entries_of es) ≡ es
+list_again [] = refl
+list_again (x ∷ xs) = ap (λ (t : List Entry). x ∷ t) (list_again xs)
+
+-- what was nested is taken out as it was
+pub value_again : (v : Value) → value_of (slots_of v) ≡ v
+value_again [] = refl
+value_again (es ∷ v) = ap (λ (t : List Entry). t ∷ value_of (slots_of v)) (list_again es) ∙ ap (λ (t : Value). es ∷ t) (value_again v)

@@ -7,7 +7,7 @@ use Rattle.vx_proto.specs.declared.schema.Rule.{Rule}
 use Rattle.vx_proto.specs.declared.schema.Rule.TheVariants.{Plain, Optional, Single, Repeated}
 use Rattle.vx_proto.specs.declared.schema.Member.{Member}
 use Rattle.vx_proto.specs.declared.error.ProtoError.{ProtoError}
-use Rattle.vx_proto.specs.declared.error.ProtoError.TheVariants.{OutOfMemory, BadMessage, TooDeep, OutOfRange}
+use Rattle.vx_proto.specs.declared.error.ProtoError.TheVariants.{BadMessage, TooDeep, OutOfRange}
 use Rattle.vx_proto.specs.Wire.{Part, varint, eight, delimited, four, Field, Spells, cut}
 use Rattle.vx_proto.specs.Value.{Elem, number, octets, message, Entry, Value, slots_of, Slot, Schema}
 
@@ -154,10 +154,3 @@ defaults (s ∷ ss) = default_by s.rule s.members ∷ defaults ss
 -- The value of a message without fields: each plain member at its default, and nothing else.
 abbrev pub default_value : Schema → ℕ → Value
 default_value schema place = defaults (list_at schema place)
-
--- A refusal and its cause; want of memory is free.
-abbrev pub IsCaused : Schema → ℕ → List ℕ → ProtoError → Type 0
-IsCaused schema place bytes OutOfMemory = Unit {0}
-IsCaused schema place bytes BadMessage = Cause schema 100 BadMessage place bytes
-IsCaused schema place bytes TooDeep = Cause schema 100 TooDeep place bytes
-IsCaused schema place bytes OutOfRange = Cause schema 100 OutOfRange place bytes

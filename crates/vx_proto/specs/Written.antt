@@ -1,13 +1,11 @@
 -- The one written form of a value.
-use Rattle.std.specs.Prelude.{◌<◌, ℕ, zero, suc, ◌+◌, ◌*◌, ◌/◌, ◌%◌, max, nat_lt, ◌==◌, Bool, false, if◌then◌else◌, List, [], ◌∷◌, ◌++◌, length, unwrap_or}
+use Rattle.std.specs.Prelude.{ℕ, zero, suc, ◌+◌, ◌*◌, ◌/◌, ◌%◌, max, nat_lt, ◌==◌, Bool, false, if◌then◌else◌, List, [], ◌∷◌, ◌++◌, length, unwrap_or}
 use Rattle.std.specs.Int.{w32, w64, to_le_bytes}
 use Rattle.vx_proto.specs.declared.schema.Kind.{Kind}
 use Rattle.vx_proto.specs.declared.schema.Kind.TheVariants.{Whole, Fixed32, Fixed64, Text, Bytes, Inner}
 use Rattle.vx_proto.specs.declared.schema.Rule.{Rule}
 use Rattle.vx_proto.specs.declared.schema.Rule.TheVariants.{Plain}
 use Rattle.vx_proto.specs.declared.schema.Member.{Member}
-use Rattle.vx_proto.specs.declared.error.ProtoError.{ProtoError}
-use Rattle.vx_proto.specs.declared.error.ProtoError.TheVariants.{OutOfMemory, BadMessage, TooDeep, OutOfRange}
 use Rattle.vx_proto.specs.Value.{Elem, number, octets, message, Slots, no_slots, slot, Entries, no_entries, entry, Value, slots_of, Slot, Schema}
 use Rattle.vx_proto.specs.Reads.{list_at, kind_in}
 
@@ -99,10 +97,3 @@ abbrev mutual
 -- How many messages nest in a message, itself counted.
 abbrev pub nested : Value → ℕ
 nested v = suc (slots_depth (slots_of v))
-
--- Why a value is not written: it nests over 100 messages; want of memory is free.
-abbrev pub IsTooDeep : Value → ProtoError → Type 0
-IsTooDeep v OutOfMemory = Unit {0}
-IsTooDeep v BadMessage = ⊥
-IsTooDeep v TooDeep = 100 < nested v
-IsTooDeep v OutOfRange = ⊥

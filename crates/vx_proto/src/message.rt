@@ -1,12 +1,12 @@
 //! Messages of a schema, read and written by one pair of calls for all of them.
 
-ghost use Rattle.std.specs.Prelude.{◌≡◌, ◌≤◌, ℕ, IfOk, IfErr, IsOk, IsErr, IsTrue, MatchResult};
+ghost use Rattle.std.specs.Prelude.{◌≡◌, ◌<◌, ◌≤◌, ◌⊎◌, ℕ, IfOk, IfErr, IsOk, IsErr, IsTrue, MatchResult};
 ghost use Rattle.vx_proto.specs.declared.error.ProtoError.{ProtoError as Refusal};
-ghost use Rattle.vx_proto.specs.declared.error.ProtoError.TheVariants.{OutOfMemory};
+ghost use Rattle.vx_proto.specs.declared.error.ProtoError.TheVariants.{OutOfMemory, TooDeep};
 ghost use Rattle.vx_proto.specs.Value.{Schema, Value, value_view, schema_view};
-ghost use Rattle.vx_proto.specs.Reads.{Reads, Cause, IsCaused, default_value};
+ghost use Rattle.vx_proto.specs.Reads.{Reads, Cause, default_value};
 ghost use Rattle.vx_proto.specs.Form.{HasForm};
-ghost use Rattle.vx_proto.specs.Written.{written, nested, IsTooDeep};
+ghost use Rattle.vx_proto.specs.Written.{written, nested};
 ghost use Rattle.vx_proto.specs.Lawful.{is_lawful};
 
 use crate::element::Entries;
@@ -71,9 +71,10 @@ pub trait Message: Drop {
         // What they show is read, unless memory runs out.
         ensures complete { (v : Value) → Reads schema place bytes.now v → MatchResult result (λ m. value m ≡ v) (λ e. e ≡ OutOfMemory) }
         // Each refusal comes only where its cause stands.
-        ensures cause { IfErr result (IsCaused schema place bytes.now) }
+        ensures cause { IfErr result (λ e. (e ≡ OutOfMemory) ⊎ Cause schema 100 e place bytes.now) }
         // Where a cause stands, there is a refusal.
         ensures refused { (e : Refusal) → Cause schema 100 e place bytes.now → IsErr result }
+        ensures in_range { IfOk result fits }
     {
         let slots = message_of(
             alloc,
@@ -93,7 +94,7 @@ pub trait Message: Drop {
         ensures read { IfOk result (λ bytes. Reads schema place bytes.items (value self.now)) }
         // It is refused exactly where messages nest too deep, unless memory runs out.
         ensures nests { IsOk result → nested (value self.now) ≤ 100 }
-        ensures cause { IfErr result (IsTooDeep (value self.now)) }
+        ensures cause { IfErr result (λ e. (e ≡ OutOfMemory) ⊎ ((e ≡ TooDeep) × (100 < nested (value self.now)))) }
     {
         let slots = self.to_value(alloc)?;
         if !nests_within(&slots, NESTED_MESSAGES) {

@@ -6,7 +6,7 @@ ghost use Rattle.vx_proto.specs.Value.{view, value_view, entries_view, slot_view
 ghost use Rattle.vx_proto.specs.Reads.{list_at, kind_in, default_in, default_of as default_entries, last_of as last_in};
 ghost use Rattle.vx_proto.specs.Reading.{Gives, varint_in, octets_in, place_of, typed, gather_all, kept_of, finished, decoded};
 
-use crate::element::Element;
+use crate::element::{Element, Entries, Entry};
 use crate::error::ProtoError;
 use crate::schema::{Kind, Member, Rule, Schema, Slot};
 use crate::wire::{Part, field_of};
@@ -56,7 +56,7 @@ fn octets_of(part: Part<'_>) -> Result<&[u8], ProtoError>
     }
 }
 
-fn empty_slots(alloc: Global, count: usize) -> Result<Vec<Vec<(u32, Element)>>, ProtoError>
+fn empty_slots(alloc: Global, count: usize) -> Result<Vec<Entries>, ProtoError>
     ensures { Gives (λ v. value_view v.items) result (Ok (replicate count [])) }
 {
     let mut slots = Vec::new(alloc);
@@ -67,10 +67,7 @@ fn empty_slots(alloc: Global, count: usize) -> Result<Vec<Vec<(u32, Element)>>, 
 }
 
 /// The last entry, or those before.
-fn last_of(
-    mut entries: Vec<(u32, Element)>,
-    before: Vec<(u32, Element)>,
-) -> Result<Vec<(u32, Element)>, ProtoError>
+fn last_of(mut entries: Entries, before: Entries) -> Result<Entries, ProtoError>
     ensures { Gives (λ v. entries_view v.items) result (Ok (last_in (entries_view before.items) (entries_view entries.items))) }
 {
     match entries.pop() {
@@ -93,7 +90,7 @@ fn default_of(alloc: Global, kind: Kind) -> Element
     }
 }
 
-fn defaults_of(alloc: Global, members: &[Member]) -> Result<Vec<(u32, Element)>, ProtoError>
+fn defaults_of(alloc: Global, members: &[Member]) -> Result<Entries, ProtoError>
     ensures { Gives (λ v. entries_view v.items) result (Ok (default_entries members.now)) }
 {
     let mut entries = Vec::new(alloc);
@@ -106,11 +103,7 @@ fn defaults_of(alloc: Global, members: &[Member]) -> Result<Vec<(u32, Element)>,
 
 /// What a slot keeps of the occurrences of its members.
 #[tactic(auto, unfolding(crate::specs::Reading::kept_of))]
-fn keep(
-    alloc: Global,
-    slot: &Slot,
-    entries: Vec<(u32, Element)>,
-) -> Result<Vec<(u32, Element)>, ProtoError>
+fn keep(alloc: Global, slot: &Slot, entries: Entries) -> Result<Entries, ProtoError>
     ensures { Gives (λ v. entries_view v.items) result (kept_of (slot_view slot.now) (entries_view entries.items)) }
 {
     match slot.rule {
@@ -130,11 +123,7 @@ fn keep(
 }
 
 /// What each slot keeps.
-fn finish(
-    alloc: Global,
-    list: &[Slot],
-    mut slots: Vec<Vec<(u32, Element)>>,
-) -> Result<Vec<Vec<(u32, Element)>>, ProtoError>
+fn finish(alloc: Global, list: &[Slot], mut slots: Vec<Entries>) -> Result<Vec<Entries>, ProtoError>
     requires { length slots.items ≡ length list.now }
     ensures { Gives (λ v. value_view v.items) result (finished (list_view list.now) (value_view slots.items)) }
 {
@@ -214,7 +203,7 @@ fn element_of(
 fn is_text(bytes: &[u8]) -> bool
     ensures { result ≡ is_utf8 bytes.now }
 {
-    std::str::from_utf8(bytes).is_ok()
+    simdutf8::basic::from_utf8(bytes).is_ok()
 }
 
 /// What the fields show, each in its slot.
@@ -225,7 +214,7 @@ fn gather(
     left: u8,
     list: &[Slot],
     bytes: &[u8],
-) -> Result<Vec<Vec<(u32, Element)>>, ProtoError>
+) -> Result<Vec<Entries>, ProtoError>
     ensures value { Gives (λ v. value_view v.items) result (gather_all (decoded (schema_view schema) left) (list_view list.now) (cut bytes.now) (replicate (length list.now) [])) }
     ensures length { IfOk result (λ v. length v.items ≡ length list.now) }
 {
@@ -253,7 +242,7 @@ pub fn message_of(
     left: u8,
     place: u32,
     bytes: &[u8],
-) -> Result<Vec<Vec<(u32, Element)>>, ProtoError>
+) -> Result<Vec<Entries>, ProtoError>
     ensures { Gives (λ v. value_view v.items) result (decoded (schema_view schema) left place bytes.now) }
 {
     if left == 0 {
