@@ -1,0 +1,177 @@
+ghost use Rattle.std.specs.Prelude.{◌≡◌, ◌≤◌, ◌<◌, ◌*◌, ◌^◌, ◌↔◌, [], length, slice_range, fold, IfOk, IsTrue, true, false, IsSomeAnd};
+ghost use Rattle.std.specs.Hash as fed;
+ghost use Rattle.vx_buffer.specs.Buffer.{IsAligned};
+
+use crate::align::Alignment;
+use crate::byte_buffer::ByteBuffer;
+use crate::error::BufferError;
+use std::alloc::Global;
+use std::hash::{Hash, Hasher};
+use std::marker::Model;
+use std::ops::Range;
+
+/// A buffer of an array, always in the memory of the host.
+#[derive(Drop)]
+pub struct BufferHandle {
+    buffer: ByteBuffer,
+}
+
+impl Model for BufferHandle {
+    ghost use Rattle.vx_buffer.specs.Buffer.{Buffer};
+
+    ghost Value = { Buffer };
+
+    ghost view = { λ h. h.buffer };
+}
+
+impl BufferHandle {
+    pub fn new_host(buffer: ByteBuffer) -> BufferHandle
+        ensures { result ≡ buffer }
+    {
+        BufferHandle { buffer }
+    }
+
+    pub fn is_on_host(&self) -> bool
+        ensures { result ≡ true }
+    {
+        true
+    }
+
+    pub fn is_on_device(&self) -> bool
+        ensures { result ≡ false }
+    {
+        false
+    }
+
+    /// How many bytes there are.
+    pub fn len(&self) -> usize
+        ensures { result ≡ length self.now.bytes }
+    {
+        self.buffer.len()
+    }
+
+    pub fn is_empty(&self) -> bool
+        ensures { IsTrue result ↔ (self.now.bytes ≡ []) }
+    {
+        self.buffer.is_empty()
+    }
+
+    pub fn alignment(&self) -> Alignment
+        ensures { result ≡ self.now.exponent }
+    {
+        self.buffer.alignment()
+    }
+
+    /// Whether the buffer's alignment is at least this one.
+    pub fn is_aligned_to(&self, alignment: Alignment) -> bool
+        ensures { IsTrue result ↔ (alignment ≤ self.now.exponent) }
+    {
+        self.buffer.alignment().is_aligned_to(alignment)
+    }
+
+    /// The same bytes with this alignment.
+    pub fn ensure_aligned(self, alignment: Alignment) -> BufferHandle
+        ensures bytes { result.bytes ≡ self.bytes }
+        ensures exponent { result.exponent ≡ alignment }
+    {
+        BufferHandle {
+            buffer: self.buffer.aligned(alignment),
+        }
+    }
+
+    /// These places of the buffer, counted in bytes, with its alignment.
+    pub fn slice(&self, alloc: Global, range: Range<usize>) -> Result<BufferHandle, BufferError>
+        requires in_order { range.start ≤ range.end }
+        requires inside { range.end ≤ length self.now.bytes }
+        requires aligned { IsAligned range.start self.now.exponent }
+        ensures bytes { IfOk result (λ h. h.bytes ≡ slice_range self.now.bytes range.start range.end) }
+        ensures exponent { IfOk result (λ h. h.exponent ≡ self.now.exponent) }
+    {
+        Ok(BufferHandle {
+            buffer: self.buffer.slice(alloc, range)?,
+        })
+    }
+
+    /// These places of the buffer, counted in values of `width` bytes, with its alignment.
+    pub fn slice_typed(
+        &self,
+        alloc: Global,
+        width: usize,
+        range: Range<usize>,
+    ) -> Result<BufferHandle, BufferError>
+        requires in_order { range.start ≤ range.end }
+        requires fits { range.end * width < 2 ^ 64 }
+        requires inside { range.end * width ≤ length self.now.bytes }
+        requires aligned { IsAligned (range.start * width) self.now.exponent }
+        ensures bytes { IfOk result (λ h. h.bytes ≡ slice_range self.now.bytes (range.start * width) (range.end * width)) }
+        ensures exponent { IfOk result (λ h. h.exponent ≡ self.now.exponent) }
+    {
+        self.slice(alloc, range.start * width..range.end * width)
+    }
+
+    pub fn as_host(&self) -> &ByteBuffer
+        ensures { result.now ≡ self.now }
+    {
+        &self.buffer
+    }
+
+    /// The buffer on the host: always there.
+    pub fn as_host_opt(&self) -> Option<&ByteBuffer>
+        ensures { IsSomeAnd result (λ b. b.now ≡ self.now) }
+    {
+        Some(&self.buffer)
+    }
+
+    pub fn unwrap_host(self) -> ByteBuffer
+        ensures { result ≡ self }
+    {
+        self.buffer
+    }
+
+    pub fn into_host_sync(self) -> ByteBuffer
+        ensures { result ≡ self }
+    {
+        self.buffer
+    }
+
+    pub fn try_into_host_sync(self) -> ByteBuffer
+        ensures { result ≡ self }
+    {
+        self.buffer
+    }
+
+    pub fn to_host_sync(&self, alloc: Global) -> Result<ByteBuffer, BufferError>
+        ensures { IfOk result (λ b. b ≡ self.now) }
+    {
+        self.buffer.clone(alloc)
+    }
+
+    pub fn try_to_host_sync(&self, alloc: Global) -> Result<ByteBuffer, BufferError>
+        ensures { IfOk result (λ b. b ≡ self.now) }
+    {
+        self.buffer.clone(alloc)
+    }
+
+    /// The same buffer again. No byte is copied; the count of their owners may be full.
+    pub fn clone(&self, alloc: Global) -> Result<BufferHandle, BufferError>
+        ensures { IfOk result (λ h. h ≡ self.now) }
+    {
+        Ok(BufferHandle {
+            buffer: self.buffer.clone(alloc)?,
+        })
+    }
+
+    /// Whether the bytes are equal, whatever the alignments.
+    pub fn array_eq(&self, other: &BufferHandle) -> bool
+        ensures { IsTrue result ↔ (self.now.bytes ≡ other.now.bytes) }
+    {
+        self.buffer.as_slice() == other.buffer.as_slice()
+    }
+
+    /// Feeds the bytes to a hash, and not the alignment.
+    pub fn array_hash<H: Hasher>(&self, state: &mut H)
+        ensures { state.new ≡ fold H.write state.old (fed.slice fed.u8 self.now.bytes) }
+    {
+        self.buffer.as_slice().hash(state);
+    }
+}

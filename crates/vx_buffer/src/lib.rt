@@ -1,0 +1,16 @@
+//! Buffers of bytes with their alignment: plain values that share memory when they are sliced.
+#![tactic(auto)]
+
+mod align;
+mod byte_buffer;
+mod error;
+mod handle;
+mod lists;
+#[cfg(test)]
+mod tests;
+
+pub use align::Alignment;
+pub use byte_buffer::ByteBuffer;
+pub use error::BufferError;
+pub use handle::BufferHandle;
+pub use lists::{BufferHandles, ByteBuffers};

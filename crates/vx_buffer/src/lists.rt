@@ -1,0 +1,160 @@
+ghost use Rattle.std.specs.Prelude.{◌≡◌, ◌↔◌, [], ◌∷◌, ◌++◌, length, slice_get, IfOk, IsTrue, OnOk, OnErr};
+ghost use Rattle.std.specs.Option.{option_copied};
+
+use crate::byte_buffer::ByteBuffer;
+use crate::error::BufferError;
+use crate::handle::BufferHandle;
+use std::alloc::Global;
+use std::marker::Model;
+
+/// A list of byte buffers.
+#[derive(Drop)]
+pub struct ByteBuffers {
+    items: Vec<ByteBuffer>,
+}
+
+impl Model for ByteBuffers {
+    ghost use Rattle.std.specs.Prelude.{List};
+    ghost use Rattle.vx_buffer.specs.Buffer.{Buffer};
+
+    ghost Value = { List Buffer };
+
+    ghost view = { λ b. b.items.items };
+}
+
+impl ByteBuffers {
+    /// The empty list. It takes no memory.
+    pub fn new(alloc: Global) -> ByteBuffers
+        ensures { result ≡ [] }
+    {
+        ByteBuffers {
+            items: Vec::new(alloc),
+        }
+    }
+
+    pub fn push(&mut self, buffer: ByteBuffer) -> Result<(), BufferError>
+        ensures ok { OnOk result (self.new ≡ self.old ++ buffer ∷ []) }
+        ensures err { OnErr result (self.new ≡ self.old) }
+    {
+        self.items.push(buffer)?;
+        Ok(())
+    }
+
+    pub fn len(&self) -> usize
+        ensures { result ≡ length self.now }
+    {
+        self.items.len()
+    }
+
+    pub fn is_empty(&self) -> bool
+        ensures { IsTrue result ↔ (self.now ≡ []) }
+    {
+        self.items.is_empty()
+    }
+
+    /// The buffer at this place: `None` exactly past the end.
+    pub fn get(&self, index: usize) -> Option<&ByteBuffer>
+        ensures { option_copied result ≡ slice_get self.now index }
+    {
+        self.items.get(index)
+    }
+
+    pub fn as_slice(&self) -> &[ByteBuffer]
+        ensures { result.now ≡ self.now }
+    {
+        self.items.as_slice()
+    }
+
+    pub fn into_vec(self) -> Vec<ByteBuffer>
+        ensures { result.items ≡ self }
+    {
+        self.items
+    }
+
+    /// The same list again. No buffer's bytes are copied.
+    pub fn clone(&self, alloc: Global) -> Result<ByteBuffers, BufferError>
+        ensures { IfOk result (λ b. b ≡ self.now) }
+    {
+        let mut items = Vec::new(alloc);
+        for buffer in self.as_slice() {
+            items.push(buffer.clone(alloc)?)?;
+        }
+        Ok(ByteBuffers { items })
+    }
+}
+
+/// A list of buffer handles.
+#[derive(Drop)]
+pub struct BufferHandles {
+    items: Vec<BufferHandle>,
+}
+
+impl Model for BufferHandles {
+    ghost use Rattle.std.specs.Prelude.{List};
+    ghost use Rattle.vx_buffer.specs.Buffer.{Buffer};
+
+    ghost Value = { List Buffer };
+
+    ghost view = { λ b. b.items.items };
+}
+
+impl BufferHandles {
+    /// The empty list. It takes no memory.
+    pub fn new(alloc: Global) -> BufferHandles
+        ensures { result ≡ [] }
+    {
+        BufferHandles {
+            items: Vec::new(alloc),
+        }
+    }
+
+    pub fn push(&mut self, buffer: BufferHandle) -> Result<(), BufferError>
+        ensures ok { OnOk result (self.new ≡ self.old ++ buffer ∷ []) }
+        ensures err { OnErr result (self.new ≡ self.old) }
+    {
+        self.items.push(buffer)?;
+        Ok(())
+    }
+
+    pub fn len(&self) -> usize
+        ensures { result ≡ length self.now }
+    {
+        self.items.len()
+    }
+
+    pub fn is_empty(&self) -> bool
+        ensures { IsTrue result ↔ (self.now ≡ []) }
+    {
+        self.items.is_empty()
+    }
+
+    /// The buffer at this place: `None` exactly past the end.
+    pub fn get(&self, index: usize) -> Option<&BufferHandle>
+        ensures { option_copied result ≡ slice_get self.now index }
+    {
+        self.items.get(index)
+    }
+
+    pub fn as_slice(&self) -> &[BufferHandle]
+        ensures { result.now ≡ self.now }
+    {
+        self.items.as_slice()
+    }
+
+    pub fn into_vec(self) -> Vec<BufferHandle>
+        ensures { result.items ≡ self }
+    {
+        self.items
+    }
+
+    /// The same list again. No buffer's bytes are copied.
+    pub fn clone(&self, alloc: Global) -> Result<BufferHandles, BufferError>
+        ensures { IfOk result (λ b. b ≡ self.now) }
+    {
+        let mut items = Vec::new(alloc);
+        for buffer in self.as_slice() {
+            items.push(buffer.clone(alloc)?)?;
+        }
+        Ok(BufferHandles { items })
+    }
+}
