@@ -1,18 +1,22 @@
 -- What the children of a node are to be.
-use Rattle.std.specs.Prelude.{ℕ, zero, suc, ◌≡◌, List, [], ◌∷◌, Option, Some, None}
-use Rattle.vx_trees.specs.Rose.{Rose, Roses, node, end, more, label, count}
+use Rattle.std.specs.Prelude.{ℕ, zero, suc, ◌≡◌, List, [], ◌∷◌, Option, Some, None, refl}
+use Rattle.std.specs.Coded.{Coded, code_by, coded×, coded_ℕ, coded_list}
+use Rattle.vx_trees.specs.Rose.{node, end, more, label, count}
 use Rattle.vx_types.specs.Kind.{null, boolean, primitive}
-use Rattle.vx_types.specs.Typ.{Typ}
+use Rattle.vx_types.specs.Typ.{Typ, typ_code}
 use Rattle.vx_types.specs.declared.nullability.Nullability.{Nullability}
 use Rattle.vx_types.specs.declared.nullability.Nullability.TheVariants.{NonNullable, Nullable}
-use Rattle.vx_arrays.specs.Tree.{Tree, Trees, Head}
-use Rattle.vx_arrays.specs.declared.body.Body.{Body}
+use Rattle.vx_arrays.specs.Tree.{Trees, Head}
 use Rattle.vx_arrays.specs.declared.body.Body.TheVariants.{Primitive}
 
 -- A child's place: the type and the number of rows that it has.
 pub record Place : Type 0 where
   pub dtype : Typ
   pub len : ℕ
+
+-- The code by which places are told apart.
+abbrev pub places_code : Coded (List Place)
+places_code = coded_list (code_by (Typ × ℕ) (coded× typ_code coded_ℕ) (λ p. (p.dtype, p.len)) (λ p. record { dtype = p.0; len = p.1 }) (λ _. refl))
 
 -- The places of children, in their order.
 abbrev pub places : Trees → List Place

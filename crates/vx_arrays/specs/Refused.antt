@@ -1,5 +1,5 @@
 -- When a call on arrays is refused.
-use Rattle.std.specs.Prelude.{ℕ, ◌<◌, Result, Ok, Err}
+use Rattle.std.specs.Prelude.{ℕ, ◌<◌}
 use Rattle.vx_arrays.specs.Tree.{Tree}
 use Rattle.vx_arrays.specs.Sound.{IsSound}
 use Rattle.vx_arrays.specs.Rows.{cells}

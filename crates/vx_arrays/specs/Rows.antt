@@ -1,7 +1,7 @@
 -- The rows of an array.
 use Rattle.std.specs.Prelude.{ℕ, List, [], ◌∷◌, Option, Some, None, true, false, Bool, ◌*◌, take, drop, slice_index}
 use Rattle.std.specs.Int.{w8, w16, w32, w64, from_le_bytes, cast_signed}
-use Rattle.vx_trees.specs.Rose.{Rose, Roses, node, end, more, label}
+use Rattle.vx_trees.specs.Rose.{node, end, more}
 use Rattle.vx_types.specs.Kind.{null, boolean, primitive}
 use Rattle.vx_types.specs.Numbers.{width_of}
 use Rattle.vx_types.specs.Typ.{Typ}

@@ -1,7 +1,7 @@
 -- When an array is sound: each node's parts fit its type, its rows and one another.
 use Rattle.std.specs.Prelude.{ℕ, ◌≡◌, ◌*◌, ◌≤◌, ◌^◌, Option, Some, None, length}
 use Rattle.vx_buffer.specs.Buffer.{Buffer}
-use Rattle.vx_trees.specs.Rose.{Rose, Roses, node, end, more, label, count}
+use Rattle.vx_trees.specs.Rose.{node, end, more, count}
 use Rattle.vx_trees.specs.Everywhere.{Everywhere}
 use Rattle.vx_types.specs.Kind.{null, boolean, primitive}
 use Rattle.vx_types.specs.Numbers.{width_of}
@@ -10,7 +10,6 @@ use Rattle.vx_types.specs.declared.nullability.Nullability.{Nullability}
 use Rattle.vx_types.specs.declared.ptype.PType.{PType}
 use Rattle.vx_arrays.specs.Tree.{Tree, Trees, Head}
 use Rattle.vx_arrays.specs.Places.{AllowsValidity, places, child_places}
-use Rattle.vx_arrays.specs.declared.body.Body.{Body}
 use Rattle.vx_arrays.specs.declared.body.Body.TheVariants.{Primitive}
 
 -- n numbers of a kind stand one after the other in a buffer that is aligned to their width; with k

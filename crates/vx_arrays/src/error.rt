@@ -7,7 +7,7 @@ use vx_buffer::BufferError;
 use vx_types::TypeError;
 
 /// Why a call on arrays was refused.
-#[derive(Debug, Drop, Error)]
+#[derive(Clone, Copy, Debug, PartialEq, Eq, Error)]
 pub enum ArrayError {
     /// Memory was wanted and not to be had.
     #[error("out of memory")]

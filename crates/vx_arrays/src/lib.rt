@@ -15,3 +15,6 @@ pub use error::ArrayError;
 pub use list::Arrays;
 pub use primitive::PrimitiveArray;
 pub use row::RowValue;
+
+#[cfg(test)]
+mod tests;

@@ -55,7 +55,7 @@ impl Arrays {
     pub fn len(&self) -> usize
         ensures { result ≡ count self.now }
     {
-        self.items.len()
+        self.items.as_slice().len()
     }
 
     pub fn as_slice(&self) -> &[Array]
