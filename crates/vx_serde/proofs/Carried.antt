@@ -5,8 +5,8 @@ use Rattle.std.specs.Int.{w32, to_le_bytes}
 use Rattle.std.proofs.lemmas.List.{append_assoc, append-nil}
 use Rattle.std.proofs.lemmas.Nat.{from_le_bytes-to_le_bytes_4}
 use Rattle.vx_flat.specs.Value.{Fields}
-use Rattle.vx_flat.specs.Denotes.{Shows}
-use Rattle.vx_flat.specs.Kinds.{IsOf}
+use Rattle.vx_flat.specs.Shows.{Shows}
+use Rattle.vx_flat.specs.IsOf.{IsOf}
 use Rattle.vx_flat.specs.Layout.{layout}
 use Rattle.vx_buffer.specs.Buffer.{Buffer}
 use Rattle.vx_trees.specs.Everywhere.{Everywhere}

@@ -3,7 +3,7 @@ use Rattle.std.proofs.Common.{ℕ, ◌≡◌, List, ◌++◌, Some, length, take
 use Rattle.std.specs.Int.{w32, from_le_bytes}
 use Rattle.std.proofs.Math.Seq.{take-append_seam, drop-append_seam}
 use Rattle.vx_flat.specs.Value.{Fields}
-use Rattle.vx_flat.specs.Denotes.{Shows}
+use Rattle.vx_flat.specs.Shows.{Shows}
 use Rattle.vx_trees.specs.Rose.{Rose}
 use Rattle.vx_serde.specs.ArraySchema.{array_schema}
 use Rattle.vx_serde.specs.Message.{NodeFields, message_of}

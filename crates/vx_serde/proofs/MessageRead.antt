@@ -3,7 +3,8 @@ use Rattle.std.proofs.Common.{ℕ, ◌≡◌, ◌*◌, ◌<◌, ◌^◌, List, [
 use Rattle.std.specs.Prelude.{All}
 use Rattle.std.proofs.lemmas.Nat.{from_le_bytes-to_le_bytes_2, from_le_bytes-to_le_bytes_4}
 use Rattle.std.proofs.lemmas.List.Elements.{All-head, All-tail}
-use Rattle.vx_flat.specs.Kinds.{IsOf, OfFields, OfRows}
+use Rattle.vx_flat.specs.IsOf.{IsOf, AreOf, AreRowsOf}
+use Rattle.vx_flat.specs.Schema.{struct_size}
 use Rattle.vx_trees.specs.Rose.{Rose, Roses, node, end, more}
 use Rattle.vx_trees.specs.Everywhere.{EverywhereBelow}
 use Rattle.vx_serde.specs.ArraySchema.{array_schema, node_fields, stats_fields}
@@ -60,19 +61,26 @@ message_of-message_value root ds numbered described =
     λ k. record { root = Some (a k); descriptors = b k }
 
 -- The table without statistics is of the schema.
-no_stats_is_of : OfFields array_schema stats_fields no_stats
+no_stats_is_of : AreOf array_schema stats_fields no_stats
 no_stats_is_of = (tt, (lit< tt, (tt, (lit< tt, (tt, (tt, (tt, (tt, (tt, (tt, (tt, tt)))))))))))
 
 mutual
   -- The table of a node is of the schema, and so are those of the nodes below it.
-  pub node_value_is_of : (t : Rose NodeFields) → IsNumbered t → OfFields array_schema node_fields (node_value t)
+  pub node_value_is_of : (t : Rose NodeFields) → IsNumbered t → AreOf array_schema node_fields (node_value t)
   node_value_is_of (node f ts) fit =
       (fit.0.0, ((length f.metadata, omega arith), (rows_value_are_of ts fit.1, ((length f.buffers, length-index_bytes f.buffers), (no_stats_is_of, tt)))))
 
-  pub rows_value_are_of : (ts : Roses NodeFields) → EverywhereBelow IsNumberedNode ts → OfRows array_schema 1 (rows_value ts)
+  pub rows_value_are_of : (ts : Roses NodeFields) → EverywhereBelow IsNumberedNode ts → AreRowsOf array_schema 1 (rows_value ts)
   rows_value_are_of end fit = tt
   rows_value_are_of (more t ts) fit = (node_value_is_of t fit.0, rows_value_are_of ts fit.1)
 
+-- A descriptor's struct has eight bytes.
+struct_size-descriptor : struct_size array_schema 0 ≡ 8
+unfolding struct_size
+struct_size-descriptor = refl
+
 -- The table of a message is of the schema.
 pub message_value_is_of : (root : Rose NodeFields) (ds : List Descriptor) → IsNumbered root → IsOf array_schema (message_value root ds)
-message_value_is_of root ds fit = (node_value_is_of root fit, ((length ds, length-descriptors_bytes ds), tt))
+message_value_is_of root ds fit =
+    let whole : length (descriptors_bytes ds) ≡ struct_size array_schema 0 * length ds = rw struct_size-descriptor (length-descriptors_bytes ds) in
+    (node_value_is_of root fit, ((length ds, whole), tt))

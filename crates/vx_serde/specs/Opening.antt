@@ -2,8 +2,9 @@
 use Rattle.std.specs.Prelude.{ℕ, ◌≡◌, ◌<◌, ◌+◌, ◌⊎◌, List, ◌++◌, Some, length, Any}
 use Rattle.std.specs.Int.{w32, from_le_bytes}
 use Rattle.vx_flat.specs.Value.{Fields}
-use Rattle.vx_flat.specs.Denotes.{Shows}
-use Rattle.vx_flat.specs.Weight.{weight, IsLight}
+use Rattle.vx_flat.specs.Shows.{Shows}
+use Rattle.vx_flat.specs.Weight.{weight}
+use Rattle.vx_flat.specs.Limits.{limits, IsLight}
 use Rattle.vx_trees.specs.Rose.{Rose}
 use Rattle.vx_serde.specs.declared.error.WireError.{WireError}
 use Rattle.vx_serde.specs.declared.error.WireError.TheVariants.{OutOfMemory, TooShort, BadTable, TableLimit, BadAlignment, Compressed, OutOfBounds}
@@ -31,7 +32,7 @@ pub record IsHeavy (blob : List ℕ) : Type 0 where
   pub segment : List ℕ
   pub message : List ℕ
   pub blob_is : IsBlob blob segment message
-  pub heavy : IsLight (weight array_schema message) → ⊥
+  pub heavy : IsLight limits (weight array_schema message) → ⊥
 
 -- The refusals of descriptors over a segment: an exponent over 16, a compression,
 -- or a range that ends past the segment.
@@ -67,7 +68,7 @@ IsUnopened _ blob = ⊥
 pub record IsOpened (blob : List ℕ) (ids : List (List ℕ)) (w : Wire) : Type 0 where
   pub carried : Carries blob ids w
   pub clean : AreClean carried.segment (message_of carried.value).descriptors
-  pub light : IsLight (weight array_schema carried.message)
+  pub light : IsLight limits (weight array_schema carried.message)
 
 -- Why a descriptor is refused that begins its padding at a place of a segment of so many bytes.
 abbrev pub IsUndescribed : WireError → Descriptor → ℕ → ℕ → Type 0

@@ -2,7 +2,7 @@
 
 ghost use Rattle.std.specs.Prelude.{◌≡◌, ◌+◌, ◌-◌, ◌<◌, ◌≤◌, ◌^◌, IfOk, IfErr, IfSome, IfNone, OnOk, IsOkUnless, map, length, take, drop, slice_get};
 ghost use Rattle.vx_flat.specs.View.{view, views, value as value_of, rows_from};
-ghost use Rattle.vx_flat.specs.Kinds.{OfFields, OfKind, OfRows};
+ghost use Rattle.vx_flat.specs.IsOf.{AreOf, IsOfKind, AreRowsOf};
 ghost use Rattle.vx_flat.specs.declared.schema.FieldKind.TheVariants.{Number};
 ghost use Rattle.vx_flat.specs.declared.schema.Width.TheVariants.{Two};
 ghost use Rattle.vx_trees.specs.Rose.{roses_of};
@@ -17,7 +17,7 @@ use crate::message::{Descriptor, bytes_of, descriptors, indices, number_of, rows
 use crate::tree::WireNode;
 use std::alloc::Global;
 use vx_buffer::{Alignment, BufferHandle, BufferHandles, ByteBuffer};
-use vx_flat::{FlatError, Part, read_value};
+use vx_flat::{FieldValue, FlatError, read_value};
 use vx_registry::ReadContext;
 use vx_types::{Blob, Id};
 
@@ -123,8 +123,8 @@ fn named_buffers(
 }
 
 /// The identifier that a node's encoding is named by, where its number has one.
-fn named_id(alloc: Global, encoding: &Part, ids: &ReadContext) -> Result<Option<Id>, WireError>
-    requires { OfKind array_schema (Number Two) (view encoding.now) }
+fn named_id(alloc: Global, encoding: &FieldValue, ids: &ReadContext) -> Result<Option<Id>, WireError>
+    requires { IsOfKind array_schema (Number Two) (view encoding.now) }
     ensures ok { IfOk result (λ id. id ≡ slice_get ids.now (number_in (view encoding.now))) }
     ensures err { IsOkUnless result WireError.OutOfMemory }
 {
@@ -138,11 +138,11 @@ fn named_id(alloc: Global, encoding: &Part, ids: &ReadContext) -> Result<Option<
 #[cycle(wire_nodes)]
 fn wire_node(
     alloc: Global,
-    fields: &[Part],
+    fields: &[FieldValue],
     ids: &ReadContext,
     buffers: &BufferHandles,
 ) -> Result<WireNode, WireError>
-    requires { OfFields array_schema node_fields (views fields.now) }
+    requires { AreOf array_schema node_fields (views fields.now) }
     ensures ok { IfOk result (λ w. w ≡ wire_of ids.now buffers.now (node_of (views fields.now))) }
     ensures err { IsOkUnless result WireError.OutOfMemory }
 {
@@ -161,11 +161,11 @@ fn wire_node(
 #[cycle(wire_nodes)]
 fn wire_rows(
     alloc: Global,
-    rows: &[Vec<Part>],
+    rows: &[Vec<FieldValue>],
     ids: &ReadContext,
     buffers: &BufferHandles,
 ) -> Result<Vec<WireNode>, WireError>
-    requires { OfRows array_schema 1 (rows_from (map (λ r. views r.items) rows.now)) }
+    requires { AreRowsOf array_schema 1 (rows_from (map (λ r. views r.items) rows.now)) }
     ensures ok { IfOk result (λ v. roses_of v.items ≡ wires_of ids.now buffers.now (nodes_of (rows_from (map (λ r. views r.items) rows.now)))) }
     ensures err { IsOkUnless result WireError.OutOfMemory }
 {

@@ -2,7 +2,7 @@ use Rattle.std.proofs.Common.{ap, sym, ◌∙◌, subst, List}
 use Rattle.std.specs.Prelude.{map}
 use Rattle.vx_flat.specs.Value.{Field, tables}
 use Rattle.vx_flat.specs.View.{view, views, rows_from}
-use Rattle.vx_flat.specs.Kinds.{OfKind, OfRows}
+use Rattle.vx_flat.specs.IsOf.{IsOfKind, AreRowsOf}
 use Rattle.vx_flat.specs.declared.schema.FieldKind.TheVariants.{Tables}
 use Rattle.vx_serde.specs.ArraySchema.{array_schema}
 use Rattle.vx_serde.specs.Message.{nodes_of, nodes_in}
@@ -16,5 +16,5 @@ returns-in-Tables-clause-nodes c =
 
 pub returns-in-Tables-clause-kind : goal.returns-in-Tables-clause-kind
 returns-in-Tables-clause-kind c = λ kind.
-    let P : Field → Type 0 = λ field. OfKind array_schema (Tables 1) field in
+    let P : Field → Type 0 = λ field. IsOfKind array_schema (Tables 1) field in
     rw c.as_slice.ensures.value (subst P (ap (λ part. view part) c.in-Tables.is ∙ view-Tables c.in-Tables.rows) kind)
