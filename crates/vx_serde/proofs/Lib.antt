@@ -1,0 +1,10 @@
+pub mod Pieces
+pub mod PartViews
+pub mod Descriptions
+pub mod NodeParts
+pub mod Refusing
+pub mod MessageRead
+pub mod PlacedRead
+pub mod NumberedRead
+pub mod Carried
+pub mod CarriedOnce

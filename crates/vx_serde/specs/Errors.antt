@@ -1,0 +1,21 @@
+-- The numbers of refusals.
+use Rattle.std.specs.Prelude.{ℕ}
+use Rattle.vx_serde.specs.declared.error.WireError.{WireError}
+use Rattle.vx_serde.specs.declared.error.WireError.TheVariants.{OutOfMemory, TooShort, BadTable, TableLimit, BadAlignment, Compressed, OutOfBounds, UnknownIndex, UnknownEncoding, BadMetadata, BadShape, NotPermitted, WireLimit}
+
+-- Want of memory is 1. The blob's own faults are 10 to 15, a node's 16 to 19, and
+-- those of writing 23 and 24.
+abbrev pub error_number : WireError → ℕ
+error_number OutOfMemory = 1
+error_number TooShort = 10
+error_number BadTable = 11
+error_number TableLimit = 12
+error_number BadAlignment = 13
+error_number Compressed = 14
+error_number OutOfBounds = 15
+error_number UnknownIndex = 16
+error_number UnknownEncoding = 17
+error_number BadMetadata = 18
+error_number BadShape = 19
+error_number NotPermitted = 23
+error_number WireLimit = 24

@@ -1,0 +1,11 @@
+pub mod ArraySchema
+pub mod Message
+pub mod MessageValue
+pub mod Wire
+pub mod WireCode
+pub mod Blob
+pub mod Numbered
+pub mod Placing
+pub mod Written
+pub mod Errors
+pub mod Opening

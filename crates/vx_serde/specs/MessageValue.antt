@@ -1,0 +1,56 @@
+-- The table value that is written for an array message.
+use Rattle.std.specs.Prelude.{ℕ, ◌<◌, ◌^◌, List, [], ◌∷◌, ◌++◌, All}
+use Rattle.std.specs.Int.{w16, w32, to_le_bytes}
+use Rattle.vx_flat.specs.Value.{Field, absent, number, elements, table, tables, Fields, no_fields, field, Rows, no_rows, row}
+use Rattle.vx_trees.specs.Rose.{Rose, Roses, node, end, more}
+use Rattle.vx_trees.specs.Everywhere.{Everywhere}
+use Rattle.vx_serde.specs.Message.{Descriptor, NodeFields}
+
+-- Indices as numbers of two bytes.
+abbrev pub index_bytes : List ℕ → List ℕ
+index_bytes [] = []
+index_bytes (i ∷ is) = to_le_bytes w16 i ++ index_bytes is
+
+-- A descriptor as a struct of eight bytes.
+abbrev pub descriptor_bytes : Descriptor → List ℕ
+descriptor_bytes d = to_le_bytes w16 d.padding ++ d.exponent ∷ d.compression ∷ to_le_bytes w32 d.len
+
+-- Descriptors one after the other.
+abbrev pub descriptors_bytes : List Descriptor → List ℕ
+descriptors_bytes [] = []
+descriptors_bytes (d ∷ ds) = descriptor_bytes d ++ descriptors_bytes ds
+
+-- No statistics: a table of which no field stands.
+abbrev pub no_stats : Fields
+no_stats =
+    field absent (field (number 0) (field absent (field (number 0) (field absent
+    (field absent (field absent (field absent (field absent (field absent (field absent no_fields))))))))))
+
+abbrev mutual
+  -- A node as a table: metadata, children, buffers and statistics stand, empty or not.
+  pub node_value : Rose NodeFields → Fields
+  node_value (node f ts) =
+      field (number f.encoding) (field (elements f.metadata) (field (tables (rows_value ts)) (field (elements (index_bytes f.buffers)) (field (table no_stats) no_fields))))
+
+  pub rows_value : Roses NodeFields → Rows
+  rows_value end = no_rows
+  rows_value (more t ts) = row (node_value t) (rows_value ts)
+
+-- A message as a table: its root and its descriptors stand.
+abbrev pub message_value : Rose NodeFields → List Descriptor → Fields
+message_value root descriptors = field (table (node_value root)) (field (elements (descriptors_bytes descriptors)) no_fields)
+
+-- A node whose indices fit two bytes each.
+abbrev pub IsNumberedNode : NodeFields → Roses NodeFields → Type 0
+IsNumberedNode f ts = (f.encoding < 2 ^ 16) × All (λ i. i < 2 ^ 16) f.buffers
+
+-- A descriptor whose parts fit their bytes.
+pub record IsDescribed (d : Descriptor) : Type 0 where
+  pub padding : d.padding < 2 ^ 16
+  pub exponent : d.exponent < 2 ^ 8
+  pub compression : d.compression < 2 ^ 8
+  pub len : d.len < 2 ^ 32
+
+-- A tree of nodes that a message can tell.
+abbrev pub IsNumbered : Rose NodeFields → Type 0
+IsNumbered = Everywhere IsNumberedNode

@@ -1,0 +1,57 @@
+-- A wire tree as a message's nodes: identifiers and buffers by number.
+use Rattle.std.specs.Prelude.{ℕ, zero, suc, ◌+◌, List, [], ◌∷◌, Option, Some, None, length, bytes_eq, if◌then◌else◌}
+use Rattle.vx_buffer.specs.Buffer.{Buffer}
+use Rattle.vx_trees.specs.Rose.{Rose, Roses, node, end, more}
+use Rattle.vx_trees.specs.Walks.{gathered, gathered_below}
+use Rattle.vx_serde.specs.Message.{NodeFields}
+use Rattle.vx_serde.specs.Wire.{WireHead, Wire, Wires}
+
+-- What stands, of a list in which something may be missing.
+abbrev pub present : {A : Type 0} → List (Option A) → List A
+present [] = []
+present (Some x ∷ xs) = x ∷ present xs
+present (None ∷ xs) = present xs
+
+-- A node's identifier, as a list of one, or of none where it is missing.
+abbrev pub id_in : WireHead → List (List ℕ)
+id_in h = present (h.id ∷ [])
+
+-- A node's buffers that stand.
+abbrev pub buffers_at_node : WireHead → List Buffer
+buffers_at_node h = present h.buffers
+
+-- The identifiers of a tree in preorder, as often as they occur.
+abbrev pub ids_in : Wire → List (List ℕ)
+ids_in w = gathered id_in w
+
+-- The buffers of a tree in preorder.
+abbrev pub buffers_in : Wire → List Buffer
+buffers_in w = gathered buffers_at_node w
+
+-- The first place of an identifier in a list.
+abbrev pub index_of : List ℕ → List (List ℕ) → ℕ
+index_of id [] = 0
+index_of id (other ∷ ids) = if bytes_eq id other then 0 else suc (index_of id ids)
+
+-- The place of a node's identifier; 0 where it is missing.
+abbrev pub encoding_index : Option (List ℕ) → List (List ℕ) → ℕ
+encoding_index None ids = 0
+encoding_index (Some id) ids = index_of id ids
+
+-- The k numbers from n on.
+abbrev pub numbers_from : ℕ → ℕ → List ℕ
+numbers_from n zero = []
+numbers_from n (suc k) = n ∷ numbers_from (suc n) k
+
+abbrev mutual
+  -- A tree with its identifiers' places in ids, and its buffers numbered in
+  -- preorder from n on: a node's own before those of its children.
+  pub numbered : List (List ℕ) → ℕ → Wire → Rose NodeFields
+  numbered ids n (node h ws) =
+      node (record { encoding = encoding_index h.id ids; metadata = h.metadata; buffers = numbers_from n (length (present h.buffers)) })
+      (numbered_below ids (n + length (present h.buffers)) ws)
+
+  -- The trees below a node, each numbered on from where the one before it ends.
+  pub numbered_below : List (List ℕ) → ℕ → Wires → Roses NodeFields
+  numbered_below ids n end = end
+  numbered_below ids n (more w ws) = more (numbered ids n w) (numbered_below ids (n + length (gathered buffers_at_node w)) ws)

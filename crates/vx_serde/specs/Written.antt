@@ -1,0 +1,43 @@
+-- The bytes that are written for a wire tree.
+use Rattle.std.specs.Prelude.{ℕ, ◌+◌, ◌≤◌, ◌-◌, ◌^◌, List, [], ◌++◌, length, replicate, false, All}
+use Rattle.std.specs.Int.{w32, to_le_bytes}
+use Rattle.vx_buffer.specs.Buffer.{Buffer}
+use Rattle.vx_flat.specs.Layout.{layout}
+use Rattle.vx_flat.specs.Weight.{weight}
+use Rattle.vx_flat.specs.Limits.{limits, IsLight}
+use Rattle.vx_trees.specs.Walks.{levels}
+use Rattle.vx_serde.specs.declared.options.SerializeOptions.{SerializeOptions}
+use Rattle.vx_serde.specs.ArraySchema.{array_schema}
+use Rattle.vx_serde.specs.MessageValue.{message_value}
+use Rattle.vx_serde.specs.Wire.{Wire}
+use Rattle.vx_serde.specs.Numbered.{numbered, buffers_in}
+use Rattle.vx_serde.specs.Placing.{pad, descriptors_from, data_from, data_end}
+
+-- The array message of a tree: its nodes with the identifiers' places in ids and
+-- the buffers numbered from 0 on, and the descriptors of the buffers.
+abbrev pub message_bytes : List (List ℕ) → SerializeOptions → Wire → List ℕ
+message_bytes ids options w =
+    layout false array_schema (message_value (numbered ids 0 w) (descriptors_from options options.offset (buffers_in w)))
+
+-- The pad in front of the message, which is aligned to 8 and stands in no descriptor.
+abbrev pub message_pad : SerializeOptions → Wire → ℕ
+message_pad options w = pad options 3 (data_end options options.offset (buffers_in w))
+
+-- The blob: the buffers in preorder, each behind its pad, the message behind its
+-- own, and the message's length as a word of four bytes.
+abbrev pub blob_bytes : List (List ℕ) → SerializeOptions → Wire → List ℕ
+blob_bytes ids options w =
+    data_from options options.offset (buffers_in w)
+    ++ (replicate (message_pad options w) 0 ++ (message_bytes ids options w ++ to_le_bytes w32 (length (message_bytes ids options w))))
+
+-- The limits on writing: at most 62 levels and 65,535 buffers, of at most 2^32 - 1
+-- bytes and an exponent of at most 16 each; a message of at most 2^31 - 1 bytes that a
+-- reader's limits admit; and an end within the positions of 64 bits.
+pub record IsWritable (ids : List (List ℕ)) (options : SerializeOptions) (w : Wire) : Type 0 where
+  pub nested : levels w ≤ 62
+  pub buffers : length (buffers_in w) ≤ 65535
+  pub lengths : All (λ b. length b.bytes ≤ 2 ^ 32 - 1) (buffers_in w)
+  pub exponents : All (λ b. b.exponent ≤ 16) (buffers_in w)
+  pub short : length (message_bytes ids options w) ≤ 2 ^ 31 - 1
+  pub light : IsLight limits (weight array_schema (message_bytes ids options w))
+  pub ends : options.offset + length (blob_bytes ids options w) ≤ 2 ^ 64 - 1

@@ -1,0 +1,14 @@
+//! Arrays as blobs: reading a blob back into an array, and writing an array as one.
+#![tactic(auto)]
+
+mod array_kind;
+mod error;
+mod message;
+mod opening;
+mod options;
+mod tree;
+
+pub use array_kind::ArrayKind;
+pub use error::WireError;
+pub use message::Descriptor;
+pub use options::SerializeOptions;
