@@ -92,8 +92,8 @@ abbrev mutual
       table_block (cells (fields_of s T) vs (n + 1)) ∷ fields_blocks s (fields_of s T) vs (n + 1)
   field_blocks s (Tables T) (tables rs) n =
       links_block (row_links rs (n + 1)) ∷ rows_blocks s T rs (n + 1)
-  field_blocks s (Union u) (member g vs) n = let ks =
-      union_fields s (table_of (members_of s u) g) in
+  field_blocks s (Union u) (member g vs) n =
+      let ks = union_fields s (table_of (members_of s u) g) in
       table_block (cells ks vs (n + 1)) ∷ fields_blocks s ks vs (n + 1)
   field_blocks s _ _ n = []
 

@@ -19,7 +19,8 @@ known_at (k ∷ ks) bs = if bytes_eq k.0 bs then Some k.1 else known_at ks bs
 abbrev pub table_spot : ℕ → List Cell → Option ℕ → Spot
 table_spot p cs (Some q) =
     record { start = p; aim = p; end = p + inline_end 4 cs; fields = q; is_own = false }
-table_spot p cs None = let t = p + align 8 (4 + 2 * length cs) in
+table_spot p cs None =
+    let t = p + align 8 (4 + 2 * length cs) in
     record { start = p; aim = t; end = t + inline_end 4 cs; fields = p; is_own = true }
 
 -- Where a block goes that starts at p. Offsets aim at a table, and at a vector's count or a
@@ -43,7 +44,8 @@ learn sharing known s b = known
 -- Where the blocks go, from p on: each starts at the next multiple of 8.
 abbrev pub spots : Bool → Known → ℕ → List Block → List Spot
 spots sharing known p [] = []
-spots sharing known p (b ∷ bs) = let s = spot known (align 8 p) b in
+spots sharing known p (b ∷ bs) =
+    let s = spot known (align 8 p) b in
     s ∷ spots sharing (learn sharing known s b) s.end bs
 
 -- What an offset to block k aims at.
