@@ -16,7 +16,11 @@ use vx_types::{DType, Nullability};
 ///
 /// `BadMetadata` where its metadata is none of the encoding's, else `BadShape` where its type is of another
 /// kind or so many children do not fit.
-pub fn plan(alloc: Global, encoding: Encoding, head: &ArrayHead) -> Result<ChildPlans, EncodingError>
+pub fn plan(
+    alloc: Global,
+    encoding: Encoding,
+    head: &ArrayHead,
+) -> Result<ChildPlans, EncodingError>
     ensures plan { IfOk result (λ plans. IsPlanned encoding head.now plans) }
     ensures err { IfErr result (λ e. IsUnplanned e encoding head.now) }
     ensures complete { (ps : List Place) → IsPlanned encoding head.now ps → IsOkOrMemory result }
@@ -47,7 +51,12 @@ pub(crate) fn read_metadata(encoding: Encoding, bytes: &[u8]) -> Result<Metadata
 }
 
 // The children of a node of numbers: at most a validity.
-fn plan_primitive(alloc: Global, dtype: &DType, len: usize, count: usize) -> Result<ChildPlans, EncodingError>
+fn plan_primitive(
+    alloc: Global,
+    dtype: &DType,
+    len: usize,
+    count: usize,
+) -> Result<ChildPlans, EncodingError>
     ensures plan { IfOk result (λ plans. primitive_plan (typ dtype.now) len count ≡ Some plans) }
     ensures err { IfErr result (λ e. IsWithoutPlan e (primitive_plan (typ dtype.now) len count)) }
 {
