@@ -1,3 +1,5 @@
+//! What the children of a node are to be.
+
 ghost use Rattle.std.specs.Prelude.{◌≡◌, ℕ, List, Some, IfOk, IfErr};
 ghost use Rattle.vx_types.specs.Seen.{typ};
 ghost use Rattle.vx_arrays.specs.Places.{Place, primitive_plan, validity_plan};

@@ -1,3 +1,5 @@
+//! Tests of one level: planned, built and written.
+
 use crate::{ArrayHead, Arrays, Encoding, EncodingError, build, metadata, plan};
 use std::alloc::Global;
 use std::test::Fail;
