@@ -3,3 +3,4 @@ pub mod PartViews
 pub mod Descriptions
 pub mod NodeParts
 pub mod Refusing
+pub mod NodeTold

@@ -9,3 +9,7 @@ pub mod Placing
 pub mod Written
 pub mod Errors
 pub mod Opening
+pub mod Matches
+pub mod Spells
+pub mod Placed
+pub mod Causes

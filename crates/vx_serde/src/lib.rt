@@ -2,6 +2,7 @@
 #![tactic(auto)]
 
 mod array_kind;
+mod decoding;
 mod error;
 mod message;
 mod opening;
