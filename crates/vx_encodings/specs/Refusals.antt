@@ -5,6 +5,8 @@ use Rattle.vx_trees.specs.Rose.{count}
 use Rattle.vx_types.specs.Typ.{Typ}
 use Rattle.vx_arrays.specs.Tree.{Trees}
 use Rattle.vx_arrays.specs.Places.{Place}
+use Rattle.vx_arrays.specs.declared.error.ArrayError.{ArrayError}
+use Rattle.vx_arrays.specs.declared.error.ArrayError.TheVariants as A
 use Rattle.vx_encodings.specs.declared.encoding.Encoding.{Encoding}
 use Rattle.vx_encodings.specs.declared.encoding.Metadata.{Metadata}
 use Rattle.vx_encodings.specs.declared.error.EncodingError.{EncodingError}
@@ -58,3 +60,9 @@ abbrev pub IsWithoutPlan : EncodingError → Option (List Place) → Type 0
 IsWithoutPlan OutOfMemory plan = Unit {0}
 IsWithoutPlan BadMetadata plan = ⊥
 IsWithoutPlan BadShape plan = plan ≡ None
+
+-- A refusal of an array's constructor as one of its encoding.
+abbrev pub error_of : ArrayError → EncodingError
+error_of A.OutOfMemory = OutOfMemory
+error_of A.BadShape = BadShape
+error_of A.ValueTooLarge = BadShape

@@ -1,5 +1,4 @@
 ghost use Rattle.std.specs.Prelude.{◌≡◌};
-ghost use Rattle.vx_arrays.specs.declared.error.ArrayError.{ArrayError};
 ghost use Rattle.vx_encodings.specs.declared.error.EncodingError.TheVariants.{OutOfMemory};
 
 use std::alloc::{AllocError, AllocFailed};
@@ -33,5 +32,18 @@ impl<T: Drop> From<AllocFailed<T>> for EncodingError {
 
     fn from(_: AllocFailed<T>) -> EncodingError {
         EncodingError::OutOfMemory
+    }
+}
+
+impl From<ArrayError> for EncodingError {
+    ghost use Rattle.vx_encodings.specs.Refusals.{error_of};
+
+    ghost from_gives = { λ e r. r ≡ error_of e };
+
+    fn from(e: ArrayError) -> EncodingError {
+        match e {
+            ArrayError::OutOfMemory => EncodingError::OutOfMemory,
+            ArrayError::BadShape | ArrayError::ValueTooLarge => EncodingError::BadShape,
+        }
     }
 }

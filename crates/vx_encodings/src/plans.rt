@@ -1,4 +1,4 @@
-ghost use Rattle.std.specs.Prelude.{◌≡◌, ◌∷◌, ◌++◌, [], length, slice_get, option_map, OnOk, OnErr};
+ghost use Rattle.std.specs.Prelude.{◌≡◌, ◌∷◌, ◌++◌, [], length, slice_get, option_map, OnOk, OnErr, IsOkUnless};
 
 use crate::error::EncodingError;
 use std::alloc::Global;
@@ -47,7 +47,8 @@ impl ChildPlans {
     /// One more child at the end.
     pub fn push(&mut self, plan: ChildPlan) -> Result<(), EncodingError>
         ensures ok { OnOk result (self.new ≡ self.old ++ place_of plan ∷ []) }
-        ensures err { OnErr result (self.new ≡ self.old) }
+        ensures unchanged { OnErr result (self.new ≡ self.old) }
+        ensures err { IsOkUnless result EncodingError.OutOfMemory }
     {
         self.items.push(plan)?;
         Ok(())

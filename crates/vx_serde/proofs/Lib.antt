@@ -4,3 +4,8 @@ pub mod Descriptions
 pub mod NodeParts
 pub mod Refusing
 pub mod NodeTold
+pub mod MessageRead
+pub mod PlacedRead
+pub mod NumberedRead
+pub mod Carried
+pub mod CarriedOnce

@@ -1,15 +1,15 @@
 -- A table is of one type at most.
-use Rattle.std.specs.Prelude.{◌≡◌, ℕ, zero, suc, refl}
+use Rattle.std.specs.Prelude.{◌≡◌, ℕ, refl}
 use Rattle.std.proofs.Common.{ap, arith, sym, ◌∙◌}
 use Rattle.vx_trees.specs.Rose.{Roses, node, end, more, count}
-use Rattle.vx_flat.specs.Value.{Fields, no_fields, field, number, member}
+use Rattle.vx_flat.specs.Value.{Fields, field, number}
 use Rattle.vx_types.specs.declared.nullability.Nullability.{Nullability}
 use Rattle.vx_types.specs.declared.nullability.Nullability.TheVariants.{NonNullable, Nullable}
 use Rattle.vx_types.specs.declared.ptype.PType.{PType}
 use Rattle.vx_types.specs.Kind.{Kind, null, boolean, primitive}
 use Rattle.vx_types.specs.Typ.{Typ, IsType}
 use Rattle.vx_types.specs.Numbers.{code_of}
-use Rattle.vx_type_wire.specs.TypeTable.{type_table, tag_of, parts_of, flag_of}
+use Rattle.vx_type_wire.specs.TypeTable.{type_table, flag_of}
 use Rattle.vx_type_wire.proofs.Tables.{first_tag, first_parts}
 
 abbrev first_number : Fields → ℕ

@@ -1,12 +1,12 @@
 -- Tables that are no type's.
-use Rattle.std.specs.Prelude.{◌≡◌, ◌≢◌, ℕ, zero, suc, ◌+◌, ◌≤◌, ◌<◌, List, [], ◌∷◌, length, refl}
-use Rattle.std.proofs.Common.{ap, arith, sym, ◌∙◌, rules, Vec, Global}
+use Rattle.std.specs.Prelude.{◌≡◌, ◌≢◌, ℕ, suc, ◌≤◌, List, [], ◌∷◌, length, refl}
+use Rattle.std.proofs.Common.{ap, arith, rules, Vec, Global}
 use Rattle.vx_trees.specs.Rose.{node, label, below}
-use Rattle.vx_flat.specs.Value.{Field, absent, number, elements, text, texts, table, tables, member, unknown, Fields, no_fields, field}
+use Rattle.vx_flat.specs.Value.{Field, absent, member, Fields, no_fields, field}
 use Rattle.vx_flat.specs.View.{view, views}
 use Rattle.vx_flat.specs.declared.value.Part.{Part, Member, the_lemmas}
 use Rattle.vx_types.specs.Kind.{null, boolean, primitive}
-use Rattle.vx_types.specs.Typ.{Typ, IsType}
+use Rattle.vx_types.specs.Typ.{Typ}
 use Rattle.vx_type_wire.specs.TypeTable.{type_table, tag_of, parts_of}
 use Rattle.vx_type_wire.specs.Shown.{IsNoType}
 

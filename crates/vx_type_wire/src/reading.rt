@@ -108,9 +108,7 @@ fn primitive_type(fields: &[Part]) -> Option<DType>
     ensures none { IfNone result (IsNoType (field (member 3 (views fields.now)) no_fields)) }
 {
     match fields {
-        [ptype, nullable] => {
-            Some(DType::Primitive(ptype_in(ptype)?, nullability_in(nullable)?))
-        }
+        [ptype, nullable] => { Some(DType::Primitive(ptype_in(ptype)?, nullability_in(nullable)?)) }
         _ => None,
     }
 }

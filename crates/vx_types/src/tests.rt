@@ -75,7 +75,10 @@ fn identifiers_stand_in_order_and_are_keys(rt: HostRuntime) -> Result<(), Fail> 
     ids.push(Id::new(alloc, "vortex.null")?)?;
     ids.push(Id::new(alloc, "vortex.primitive")?)?;
     assert_eq!(rt; ids.len(), 2);
-    assert!(rt; ids.get(1).is_some_and(|id| id.as_str() == "vortex.primitive"));
+    assert!(rt;
+        ids.get(1)
+            .is_some_and(|id| id.as_str() == "vortex.primitive")
+    );
     assert!(rt; ids.get(2).is_none());
     let mut places = HashMap::new(alloc);
     for (place, id) in ids.as_slice().iter().enumerate() {

@@ -1,5 +1,4 @@
 use Rattle.vx_type_wire.proofs.Tables.{no_null}
-use Rattle.std.proofs.Common.{arith}
 use Rattle.vx_type_wire.proofs.reading.null_type.Goals as goal
 
 pub returns-in_default-clause-none : goal.returns-in_default-clause-none

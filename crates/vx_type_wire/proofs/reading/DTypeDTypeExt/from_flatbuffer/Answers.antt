@@ -1,4 +1,4 @@
-use Rattle.std.proofs.Common.{◌≡◌, ◌∙◌, sym, ap, refl, Err}
+use Rattle.std.proofs.Common.{◌∙◌, sym, ap, Err}
 use Rattle.vx_flat.specs.View.{value, views}
 use Rattle.vx_type_wire.specs.Schema.{type_schema}
 use Rattle.vx_type_wire.specs.TypeTable.{type_table}

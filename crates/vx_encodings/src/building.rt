@@ -69,11 +69,10 @@ fn build_primitive(
         Some(values) => values,
         None => return Err(EncodingError::BadShape),
     };
-    let validity = validity_of(children);
+    let validity = validity_of(children.into_vec());
     match PrimitiveArray::try_new(alloc, values, ptype, nullability, head.len, validity) {
         Ok(array) => Ok(array),
-        Err(ArrayError::OutOfMemory) => Err(EncodingError::OutOfMemory),
-        Err(_) => Err(EncodingError::BadShape),
+        Err(e) => Err(EncodingError::from(e)),
     }
 }
 
@@ -90,10 +89,10 @@ fn only(buffers: BufferHandles) -> Option<BufferHandle>
 }
 
 // The validity among the children of a node that has no others.
-fn validity_of(children: Arrays) -> Option<Array>
-    requires { count children ≤ 1 }
-    ensures { option_trees result ≡ children }
+fn validity_of(children: Vec<Array>) -> Option<Array>
+    requires { length children.items ≤ 1 }
+    ensures { option_trees result ≡ roses_of children.items }
 {
-    let mut items = children.into_vec();
+    let mut items = children;
     items.pop()
 }
