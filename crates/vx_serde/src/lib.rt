@@ -3,6 +3,7 @@
 
 mod array_kind;
 mod error;
+pub mod laws;
 mod message;
 mod opening;
 mod options;
