@@ -8,3 +8,4 @@ pub mod Written
 pub mod Fields
 pub mod Lawful
 pub mod Parts
+pub mod FormLaws

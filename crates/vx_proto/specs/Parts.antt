@@ -1,5 +1,5 @@
 -- The parts of a plain value, as a message type takes it apart.
-use Rattle.std.specs.Prelude.{ℕ, List, [], ◌∷◌, get_or, Option, Some, None, option_and_then}
+use Rattle.std.specs.Prelude.{ℕ, Bool, if◌then◌else◌, List, [], ◌∷◌, get_or, Option, Some, None, option_and_then}
 use Rattle.vx_proto.specs.Value.{Elem, number, octets, message, Entry, Value, value_of}
 
 -- The members of a slot that count; none past the last slot.
@@ -38,3 +38,7 @@ octets_in es = option_and_then octets_of (first_in es)
 
 abbrev pub message_in : List Entry → Option Value
 message_in es = option_and_then message_of (first_in es)
+
+-- A flag as the number that a member holds.
+abbrev pub flag_number : Bool → ℕ
+flag_number b = if b then 1 else 0

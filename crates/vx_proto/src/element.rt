@@ -1,9 +1,9 @@
 //! Plain values: what a message of any schema shows, and the calls by which a message type takes
 //! one apart and puts one together.
 
-ghost use Rattle.std.specs.Prelude.{◌≡◌, ◌∷◌, [], IfOk, option_map};
-ghost use Rattle.vx_proto.specs.Value.{view, value_view, entries_view, octets};
-ghost use Rattle.vx_proto.specs.Parts.{entries_in, number_of, octets_of, message_of, number_in, octets_in, message_in};
+ghost use Rattle.std.specs.Prelude.{◌≡◌, ◌<◌, ◌^◌, ℕ, Some, ◌∷◌, [], IfOk, option_map};
+ghost use Rattle.vx_proto.specs.Value.{view, value_view, entries_view, number, octets};
+ghost use Rattle.vx_proto.specs.Parts.{entries_in, flag_number, number_of, octets_of, message_of, number_in, octets_in, message_in};
 
 use std::alloc::{AllocError, Global};
 
@@ -80,6 +80,39 @@ pub fn number_at(slots: &[Entries], slot: usize) -> Option<u64>
     }
 }
 
+/// The number that a slot's first member holds, or 0.
+pub fn u64_at(slots: &[Entries], slot: usize) -> u64
+    ensures { (n : ℕ) → number_in (entries_in (value_view slots.now) slot) ≡ Some n → result ≡ n }
+{
+    match number_at(slots, slot) {
+        Some(n) => n,
+        None => 0,
+    }
+}
+
+/// The number that a slot's first member holds, where it is below 2^32, or 0.
+pub fn u32_at(slots: &[Entries], slot: usize) -> u32
+    ensures { (n : ℕ) → number_in (entries_in (value_view slots.now) slot) ≡ Some n → n < 2 ^ 32 → result ≡ n }
+{
+    let n = u64_at(slots, slot);
+    if n < 1 << 32 { n as u32 } else { 0 }
+}
+
+/// The number that a slot's first member holds, where it is below 256, or 0.
+pub fn u8_at(slots: &[Entries], slot: usize) -> u8
+    ensures { (n : ℕ) → number_in (entries_in (value_view slots.now) slot) ≡ Some n → n < 256 → result ≡ n }
+{
+    let n = u64_at(slots, slot);
+    if n < 256 { n as u8 } else { 0 }
+}
+
+/// Whether the number that a slot's first member holds isn't 0.
+pub fn flag_at(slots: &[Entries], slot: usize) -> bool
+    ensures { (n : ℕ) → number_in (entries_in (value_view slots.now) slot) ≡ Some n → n < 2 → flag_number result ≡ n }
+{
+    u64_at(slots, slot) != 0
+}
+
 /// The bytes that a slot's first member holds, if it is a text or bytes.
 pub fn octets_at(slots: &[Entries], slot: usize) -> Option<&[u8]>
     ensures { option_map (λ s. s.now) result ≡ octets_in (entries_in (value_view slots.now) slot) }
@@ -105,6 +138,13 @@ pub fn copied(alloc: Global, bytes: &[u8]) -> Result<Element, AllocError>
     ensures { IfOk result (λ element. view element ≡ octets bytes.now) }
 {
     Ok(Element::Octets(Vec::from_slice(alloc, bytes)?))
+}
+
+/// A flag as what a member holds.
+pub fn flag(value: bool) -> Element
+    ensures { view result ≡ number (flag_number value) }
+{
+    Element::Number(if value { 1 } else { 0 })
 }
 
 /// A slot with one member.

@@ -15,7 +15,8 @@ mod writing;
 
 pub use blob::Blob;
 pub use element::{
-    Element, Entries, Entry, copied, entries_at, message_at, number_at, octets_at, one,
+    Element, Entries, Entry, copied, entries_at, flag, flag_at, message_at, number_at, octets_at,
+    one, u8_at, u32_at, u64_at,
 };
 pub use error::ProtoError;
 pub use fields::Fields;
@@ -26,3 +27,6 @@ pub use metadata::{
 };
 pub use schema::{Kind, Member, Rule, Schema, Slot, SlotList};
 pub use wire::{Field, Part};
+
+#[cfg(test)]
+mod tests;

@@ -1,6 +1,6 @@
 //! Messages of a schema, read and written by one pair of calls for all of them.
 
-ghost use Rattle.std.specs.Prelude.{◌≡◌, ◌<◌, ◌≤◌, ◌⊎◌, ℕ, IfOk, IfErr, IsOk, IsErr, IsTrue, MatchResult};
+ghost use Rattle.std.specs.Prelude.{◌≡◌, ◌<◌, ◌≤◌, ◌⊎◌, ℕ, IfOk, IfErr, OnOk, IsOk, IsErr, IsTrue, MatchResult};
 ghost use Rattle.vx_proto.specs.declared.error.ProtoError.{ProtoError as Refusal};
 ghost use Rattle.vx_proto.specs.declared.error.ProtoError.TheVariants.{OutOfMemory, TooDeep};
 ghost use Rattle.vx_proto.specs.Value.{Schema, Value, value_view, schema_view};
@@ -55,8 +55,8 @@ pub trait Message: Drop {
     /// The plain value of this message.
     fn to_value(&self, alloc: Global) -> Result<Vec<Entries>, AllocError>
         ensures same { IfOk result (λ v. value_view v.items ≡ value self.now) }
-        ensures form { HasForm schema place (value self.now) }
-        ensures in_range { fits self.now };
+        ensures form { OnOk result (HasForm schema place (value self.now)) }
+        ensures in_range { OnOk result (fits self.now) };
 
     /// The schema is lawful: a test, which `refl` proves of a schema that is written out.
     ghost lawful: { IsTrue (is_lawful schema) };

@@ -1,4 +1,4 @@
-ghost use Rattle.std.specs.Prelude.{◌≡◌, ◌≤◌, ◌<◌, [], true, false, None, Some, IfOk, IfNone, IfSome, OnErr, option_map, bytes_eq};
+ghost use Rattle.std.specs.Prelude.{◌≡◌, ◌≤◌, ◌<◌, [], length, true, false, None, Some, IfOk, IfNone, IfSome, OnErr, option_map, bytes_eq};
 ghost use Rattle.vx_registry.specs.Context.{interned, is_allowed, place_of};
 ghost use Rattle.std.specs.List.{list_any};
 
@@ -23,6 +23,10 @@ impl Model for ArrayContext {
     ghost Value = { Context };
 
     ghost view = { λ c. record { ids = c.ids.keys; allowed = option_map (λ s. s.keys) c.allowed } };
+
+    ghost use Rattle.std.specs.Prelude.{◌≤◌, length};
+
+    ghost invariant = { λ c. length c.ids.keys ≤ 65536 };
 }
 
 impl ArrayContext {
@@ -54,6 +58,14 @@ impl ArrayContext {
             Some(index) => Ok(place(index)),
             None => self.append(id),
         }
+    }
+
+    /// What is known of each context: it has at most as many identifiers as nodes can name. Nothing runs; a
+    /// caller gets the fact.
+    pub fn hold(&self)
+        ensures { length self.now.ids ≤ 65536 }
+    {
+        let _ = &self.alloc;
     }
 
     // Puts a new identifier last.

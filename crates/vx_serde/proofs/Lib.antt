@@ -9,3 +9,4 @@ pub mod PlacedRead
 pub mod NumberedRead
 pub mod Carried
 pub mod CarriedOnce
+pub mod GrownPlaced

@@ -4,6 +4,7 @@
 mod array_kind;
 mod decoding;
 mod error;
+pub mod laws;
 mod message;
 mod opening;
 mod options;

@@ -16,4 +16,4 @@ returns-clause-read g c =
     let is : bytes.items ≡ written schema place v = c.in_ok-message_bytes.ensures ∙ ap (λ s. written s c.place_of.result (value_view c.deref-2.result.now)) c.lists.ensures ∙ ap (λ p. written schema p (value_view c.deref-2.result.now)) c.place_of.ensures ∙ ap (written schema place) shown in
     let short : length (written schema place v) < 2 ^ 64 = omega (arith, ap length is, bytes.ok, bytes.small) in
     let within : nested v ≤ 100 = omega (arith, ap nested shown_too, c.nests_within.ensures.within c.if-not-nests_within.false) in
-    subst (λ s. Reads schema place s v) (sym is) (written_shown schema place v g.met.Self.Message.lawful c.to_value.ensures.form within short)
+    subst (λ s. Reads schema place s v) (sym is) (written_shown schema place v g.met.Self.Message.lawful c.in_ok-slots.ensures.form within short)
