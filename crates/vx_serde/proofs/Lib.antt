@@ -10,3 +10,5 @@ pub mod NumberedRead
 pub mod Carried
 pub mod CarriedOnce
 pub mod GrownPlaced
+pub mod TreesWired
+pub mod Openings

@@ -9,6 +9,7 @@ mod message;
 mod opening;
 mod options;
 mod tree;
+mod wiring;
 
 pub use array_kind::ArrayKind;
 pub use error::WireError;
