@@ -12,3 +12,6 @@ pub mod CarriedOnce
 pub mod GrownPlaced
 pub mod TreesWired
 pub mod Openings
+pub mod OneArray
+pub mod GrownIds
+pub mod WrittenAgain
