@@ -7,4 +7,9 @@ pub mod Blob
 pub mod Numbered
 pub mod Placing
 pub mod Written
+pub mod Describable
+pub mod KeptContext
+pub mod Unwritten
+pub mod WrittenBuffers
+pub mod TableViews
 pub mod Errors

@@ -3,9 +3,16 @@
 
 mod array_kind;
 mod error;
+mod limits;
 mod message;
+mod numbering;
 mod options;
+mod placing;
 mod tree;
+mod writing;
+
+#[cfg(test)]
+mod writing_tests;
 
 pub use array_kind::ArrayKind;
 pub use error::WireError;
