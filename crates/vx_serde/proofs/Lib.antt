@@ -1,2 +1,5 @@
 pub mod Pieces
 pub mod PartViews
+pub mod Growing
+pub mod NumberedTables
+pub mod PlacedData

@@ -20,7 +20,7 @@ pub const MAX_BUFFER_LEN: usize = 4_294_967_295;
 pub const MAX_EXPONENT: u8 = 16;
 
 /// Whether a tree has at most this many levels.
-#[tactic(auto, using(vx_trees::proofs::Counting::level_facts))]
+#[tactic(auto, using(vx_trees::proofs::Counting::level_facts, vx_trees::proofs::Roses::roses))]
 pub(crate) fn has_levels_within(node: &WireNode, limit: usize) -> bool
     ensures { IsTrue result ↔ (levels node.now ≤ limit) }
 {

@@ -123,6 +123,7 @@ fn node_table(
 
 /// A tree as a table. Its identifiers are taken into the context in preorder, and its buffers are
 /// numbered in preorder from `next` on, which goes to the number behind them.
+#[tactic(auto, using(vx_trees::proofs::Roses::roses))]
 pub(crate) fn tree_table(
     alloc: Global,
     node: &WireNode,

@@ -37,6 +37,7 @@ fn push_present(
 }
 
 /// The buffers of a tree, in preorder.
+#[tactic(auto, using(vx_trees::proofs::Roses::roses))]
 pub(crate) fn push_buffers(
     alloc: Global,
     node: &WireNode,
