@@ -120,3 +120,13 @@ pub kept-taken : (id : List ℕ) (a b : Context) → interned id a ≡ Some b �
 kept-taken id a b e =
     let w = with_id-added id a.ids (nat_lt (place_of id a.ids) (length a.ids)) in
     record { added = w.0; front = ap (λ c. c.ids) (taken-is id a b e) ∙ w.1; among = w.2; permissions = ap (λ c. c.allowed) (taken-is id a b e) }
+
+kept-stepped : (x : List ℕ) (xs : List (List ℕ)) (a b : Context) (o : Option Context) → ((d : Context) → grown_by xs d ≡ Some b → KeepsContext xs d b)
+    → interned x a ≡ o → stepped o (λ d. grown_by xs d) ≡ Some b → KeepsContext (x ∷ xs) a b
+kept-stepped x xs a b None f p e = absurd (cc)
+kept-stepped x xs a b (Some d) f p e = kept-both (x ∷ []) xs a d b (kept-taken x a d p) (f d e)
+
+-- A context that has taken identifiers keeps the old ones.
+pub kept-grown : (xs : List (List ℕ)) (a b : Context) → grown_by xs a ≡ Some b → KeepsContext xs a b
+kept-grown [] a b e = kept-same [] a b (cc)
+kept-grown (x ∷ xs) a b e = kept-stepped x xs a b (interned x a) (λ d g. kept-grown xs d b g) refl e

@@ -1,7 +1,7 @@
 //! The nodes of a wire tree as tables: identifiers by their numbers in a context, buffers by their
 //! numbers in preorder.
 
-ghost use Rattle.std.specs.Prelude.{◌≡◌, ◌+◌, ◌≤◌, ◌++◌, ℕ, List, Some, length, IfOk, IfErr, OnOk};
+ghost use Rattle.std.specs.Prelude.{◌≡◌, ◌+◌, ◌≤◌, ◌<◌, ◌^◌, ◌++◌, ℕ, List, Some, length, IfOk, IfErr, OnOk};
 ghost use Rattle.vx_flat.specs.Kinds.{OfFields, OfRows};
 ghost use Rattle.vx_flat.specs.Value.{number, elements, table, tables, no_fields, field};
 ghost use Rattle.vx_flat.specs.View.{views};
@@ -36,6 +36,7 @@ impl From<RegistryError> for WireError {
 fn encoding_number(node: &WireNode, ctx: &mut ArrayContext) -> Result<u16, WireError>
     ensures grown { OnOk result (grown_by (id_in (label node.now)) ctx.old ≡ Some ctx.new) }
     ensures number { IfOk result (λ n. (more : List (List ℕ)) → encoding_index (label node.now).id (ctx.new.ids ++ more) ≡ n) }
+    ensures fits { IfOk result (λ n. n < 2 ^ 16) }
     ensures kept { KeepsContext (id_in (label node.now)) ctx.old ctx.new }
     ensures refused { IfErr result (IsUngrown (id_in (label node.now)) ctx.old) }
 {
