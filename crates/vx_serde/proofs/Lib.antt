@@ -5,3 +5,13 @@ pub mod NumberedTables
 pub mod PlacedData
 pub mod WalkedNodes
 pub mod GrownNodes
+pub mod Descriptions
+pub mod NodeParts
+pub mod Refusing
+pub mod NodeTold
+pub mod MessageRead
+pub mod PlacedRead
+pub mod NumberedRead
+pub mod Carried
+pub mod CarriedOnce
+pub mod GrownPlaced

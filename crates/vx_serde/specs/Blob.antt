@@ -3,7 +3,7 @@ use Rattle.std.specs.Prelude.{ℕ, ◌≡◌, ◌≤◌, ◌+◌, List, [], ◌�
 use Rattle.std.specs.Int.{w32, from_le_bytes}
 use Rattle.vx_buffer.specs.Buffer.{Buffer}
 use Rattle.vx_flat.specs.Value.{Fields}
-use Rattle.vx_flat.specs.Denotes.{Shows}
+use Rattle.vx_flat.specs.Shows.{Shows}
 use Rattle.vx_trees.specs.Rose.{Rose, Roses, node, end, more}
 use Rattle.vx_serde.specs.ArraySchema.{array_schema}
 use Rattle.vx_serde.specs.Message.{Descriptor, NodeFields, Message, message_of}

@@ -13,3 +13,8 @@ pub mod Unwritten
 pub mod WrittenBuffers
 pub mod TableViews
 pub mod Errors
+pub mod Opening
+pub mod Matches
+pub mod Spells
+pub mod Placed
+pub mod Causes

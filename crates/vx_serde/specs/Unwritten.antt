@@ -1,6 +1,7 @@
 -- Why a tree is not written.
 use Rattle.std.specs.Prelude.{ℕ, ◌≡◌, ◌<◌, ◌≤◌, ◌^◌, List, Some, None, length}
-use Rattle.vx_flat.specs.Weight.{weight, IsLight}
+use Rattle.vx_flat.specs.Limits.{limits, IsLight}
+use Rattle.vx_flat.specs.Weight.{weight}
 use Rattle.vx_registry.specs.Context.{Context, grown_by}
 use Rattle.vx_serde.specs.declared.error.WireError.{WireError}
 use Rattle.vx_serde.specs.declared.error.WireError.TheVariants.{OutOfMemory, NotPermitted, WireLimit}
@@ -51,5 +52,5 @@ IsUnplaced options w _ = ⊥
 -- A message is not written for want of memory, or because it is too long or too heavy.
 abbrev pub IsTooHeavy : List ℕ → WireError → Type 0
 IsTooHeavy message OutOfMemory = Unit {0}
-IsTooHeavy message WireLimit = length message < 2 ^ 31 → IsLight (weight array_schema message) → ⊥
+IsTooHeavy message WireLimit = length message < 2 ^ 31 → IsLight limits (weight array_schema message) → ⊥
 IsTooHeavy message _ = ⊥

@@ -3,7 +3,8 @@ use Rattle.std.specs.Prelude.{ℕ, ◌+◌, ◌≤◌, ◌-◌, ◌^◌, List, [
 use Rattle.std.specs.Int.{w32, to_le_bytes}
 use Rattle.vx_buffer.specs.Buffer.{Buffer}
 use Rattle.vx_flat.specs.Layout.{layout}
-use Rattle.vx_flat.specs.Weight.{weight, IsLight}
+use Rattle.vx_flat.specs.Weight.{weight}
+use Rattle.vx_flat.specs.Limits.{limits, IsLight}
 use Rattle.vx_trees.specs.Walks.{levels}
 use Rattle.vx_serde.specs.declared.options.SerializeOptions.{SerializeOptions}
 use Rattle.vx_serde.specs.ArraySchema.{array_schema}
@@ -38,5 +39,5 @@ pub record IsWritable (ids : List (List ℕ)) (options : SerializeOptions) (w : 
   pub lengths : All (λ b. length b.bytes ≤ 2 ^ 32 - 1) (buffers_in w)
   pub exponents : All (λ b. b.exponent ≤ 16) (buffers_in w)
   pub short : length (message_bytes ids options w) ≤ 2 ^ 31 - 1
-  pub light : IsLight (weight array_schema (message_bytes ids options w))
+  pub light : IsLight limits (weight array_schema (message_bytes ids options w))
   pub ends : options.offset + length (blob_bytes ids options w) ≤ 2 ^ 64 - 1

@@ -6,7 +6,7 @@ use vx_flat::{FieldKind, Member, TableKind, Width};
 #[derive(Clone, Copy, Debug)]
 pub struct ArrayKind;
 
-static ARRAY: [FieldKind; 2] = [FieldKind::Table(1), FieldKind::Vector(Width::Eight)];
+static ARRAY: [FieldKind; 2] = [FieldKind::Table(1), FieldKind::Structs(0)];
 
 static NODE: [FieldKind; 5] = [
     FieldKind::Number(Width::Two),
@@ -30,16 +30,21 @@ static STATS: [FieldKind; 11] = [
     FieldKind::OptNumber(Width::Eight),
 ];
 
+static DESCRIPTOR: [Width; 4] = [Width::Two, Width::One, Width::One, Width::Four];
+
 static NO_FIELDS: [FieldKind; 0] = [];
 
 static NO_MEMBERS: [Member; 0] = [];
 
+static NO_WIDTHS: [Width; 0] = [];
+
 impl TableKind for ArrayKind {
-    ghost use Rattle.vx_serde.specs.ArraySchema.{array_schema, array_schema_lawful};
+    ghost use Rattle.std.specs.Prelude.{refl};
+    ghost use Rattle.vx_serde.specs.ArraySchema.{array_schema};
 
     ghost schema = { array_schema };
 
-    ghost lawful = { array_schema_lawful };
+    ghost lawful = { refl };
 
     fn root(&self) -> u16 {
         0
@@ -56,5 +61,12 @@ impl TableKind for ArrayKind {
 
     fn members(&self, _union: u16) -> &'static [Member] {
         &NO_MEMBERS
+    }
+
+    fn structs(&self, number: u16) -> &'static [Width] {
+        match number {
+            0 => &DESCRIPTOR,
+            _ => &NO_WIDTHS,
+        }
     }
 }

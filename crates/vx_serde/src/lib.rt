@@ -2,10 +2,13 @@
 #![tactic(auto)]
 
 mod array_kind;
+mod decoding;
 mod error;
+pub mod laws;
 mod limits;
 mod message;
 mod numbering;
+mod opening;
 mod options;
 mod placing;
 mod tree;

@@ -2,10 +2,13 @@
 
 ghost use Rattle.std.specs.Prelude.{◌≡◌, ◌<◌, ◌∷◌, [], IfOk, IfSome, IfNone, map, length};
 ghost use Rattle.vx_flat.specs.View.{view, views, rows_from};
+ghost use Rattle.vx_flat.specs.IsOf.{IsOfKind, AreRowsOf};
+ghost use Rattle.vx_flat.specs.declared.schema.FieldKind.TheVariants.{Tables};
+ghost use Rattle.vx_serde.specs.ArraySchema.{array_schema};
 ghost use Rattle.vx_serde.specs.Message.{number_in, bytes_in, nodes_in, nodes_of, indices_of, descriptors_of};
 
 use std::alloc::{AllocError, Global};
-use vx_flat::Part;
+use vx_flat::FieldValue;
 
 /// Where a buffer lies in the segment.
 #[derive(Clone, Copy, Debug, PartialEq, Eq)]
@@ -21,31 +24,32 @@ pub struct Descriptor {
 }
 
 /// A number that stands; what is absent counts as 0.
-pub(crate) fn number_of(part: &Part) -> u64
+pub(crate) fn number_of(part: &FieldValue) -> u64
     ensures { result ≡ number_in (view part.now) }
 {
     match part {
-        Part::Number(number) => *number,
+        FieldValue::Number(number) => *number,
         _ => 0,
     }
 }
 
 /// The bytes of a vector; an absent one has none.
-pub(crate) fn bytes_of(part: &Part) -> &[u8]
+pub(crate) fn bytes_of(part: &FieldValue) -> &[u8]
     ensures { result.now ≡ bytes_in (view part.now) }
 {
     match part {
-        Part::Elements(bytes) => bytes.as_slice(),
+        FieldValue::Elements(bytes) => bytes.as_slice(),
         _ => &[],
     }
 }
 
 /// The tables of a vector; an absent one has none.
-pub(crate) fn rows_of(part: &Part) -> &[Vec<Part>]
-    ensures { nodes_of (rows_from (map (λ r. views r.items) result.now)) ≡ nodes_in (view part.now) }
+pub(crate) fn rows_of(part: &FieldValue) -> &[Vec<FieldValue>]
+    ensures nodes { nodes_of (rows_from (map (λ r. views r.items) result.now)) ≡ nodes_in (view part.now) }
+    ensures kind { IsOfKind array_schema (Tables 1) (view part.now) → AreRowsOf array_schema 1 (rows_from (map (λ r. views r.items) result.now)) }
 {
     match part {
-        Part::Tables(rows) => rows.as_slice(),
+        FieldValue::Tables(rows) => rows.as_slice(),
         _ => &[],
     }
 }

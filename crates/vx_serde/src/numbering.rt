@@ -2,7 +2,7 @@
 //! numbers in preorder.
 
 ghost use Rattle.std.specs.Prelude.{◌≡◌, ◌+◌, ◌≤◌, ◌<◌, ◌^◌, ◌++◌, ℕ, List, Some, length, IfOk, IfErr, OnOk};
-ghost use Rattle.vx_flat.specs.Kinds.{OfFields, OfRows};
+ghost use Rattle.vx_flat.specs.IsOf.{AreOf, AreRowsOf};
 ghost use Rattle.vx_flat.specs.Value.{number, elements, table, tables, no_fields, field};
 ghost use Rattle.vx_flat.specs.View.{views};
 ghost use Rattle.vx_registry.specs.Context.{grown_by};
@@ -18,7 +18,7 @@ use crate::error::WireError;
 use crate::tree::WireNode;
 use std::alloc::{AllocError, Global};
 use vx_buffer::BufferHandle;
-use vx_flat::Part;
+use vx_flat::FieldValue;
 use vx_registry::{ArrayContext, RegistryError};
 
 impl From<RegistryError> for WireError {
@@ -75,23 +75,23 @@ fn number_bytes(alloc: Global, first: usize, count: usize) -> Result<Vec<u8>, Al
 }
 
 /// Statistics of which none stands.
-fn no_statistics(alloc: Global) -> Result<Vec<Part>, AllocError>
+fn no_statistics(alloc: Global) -> Result<Vec<FieldValue>, AllocError>
     ensures { IfOk result (λ v. views v.items ≡ no_stats) }
 {
     Ok(Vec::from_array(
         alloc,
         [
-            Part::Absent,
-            Part::Number(0),
-            Part::Absent,
-            Part::Number(0),
-            Part::Absent,
-            Part::Absent,
-            Part::Absent,
-            Part::Absent,
-            Part::Absent,
-            Part::Absent,
-            Part::Absent,
+            FieldValue::Absent,
+            FieldValue::Number(0),
+            FieldValue::Absent,
+            FieldValue::Number(0),
+            FieldValue::Absent,
+            FieldValue::Absent,
+            FieldValue::Absent,
+            FieldValue::Absent,
+            FieldValue::Absent,
+            FieldValue::Absent,
+            FieldValue::Absent,
         ],
     )?)
 }
@@ -102,9 +102,9 @@ fn node_table(
     alloc: Global,
     encoding: u16,
     metadata: &[u8],
-    children: Vec<Vec<Part>>,
+    children: Vec<Vec<FieldValue>>,
     buffers: Vec<u8>,
-) -> Result<Vec<Part>, AllocError>
+) -> Result<Vec<FieldValue>, AllocError>
     ensures { IfOk result (λ v. views v.items ≡
         field (number encoding) (field (elements metadata.now) (field (tables (tables_of children.items)) (field (elements buffers.items) (field (table no_stats) no_fields))))) }
 {
@@ -113,11 +113,11 @@ fn node_table(
     Ok(Vec::from_array(
         alloc,
         [
-            Part::Number(encoding as u64),
-            Part::Elements(metadata),
-            Part::Tables(children),
-            Part::Elements(buffers),
-            Part::Table(statistics),
+            FieldValue::Number(encoding as u64),
+            FieldValue::Elements(metadata),
+            FieldValue::Tables(children),
+            FieldValue::Elements(buffers),
+            FieldValue::Table(statistics),
         ],
     )?)
 }
@@ -130,11 +130,11 @@ pub(crate) fn tree_table(
     node: &WireNode,
     ctx: &mut ArrayContext,
     next: &mut usize,
-) -> Result<Vec<Part>, WireError>
+) -> Result<Vec<FieldValue>, WireError>
     requires { next.old + length (buffers_in node.now) ≤ 65535 }
     ensures grown { OnOk result (grown_by (ids_in node.now) ctx.old ≡ Some ctx.new) }
     ensures value { IfOk result (λ v. (more : List (List ℕ)) → views v.items ≡ node_value (numbered (ctx.new.ids ++ more) next.old node.now)) }
-    ensures of_kind { IfOk result (λ v. OfFields array_schema node_fields (views v.items)) }
+    ensures of_kind { IfOk result (λ v. AreOf array_schema node_fields (views v.items)) }
     ensures next { OnOk result (next.new ≡ next.old + length (buffers_in node.now)) }
     ensures kept { KeepsContext (ids_in node.now) ctx.old ctx.new }
     ensures refused { IfErr result (IsUngrown (ids_in node.now) ctx.old) }

@@ -2,10 +2,11 @@
 
 ghost use Rattle.std.specs.Prelude.{◌≡◌, ◌+◌, ◌≤◌, ◌<◌, ◌-◌, ◌^◌, ◌++◌, [], ◌∷◌, Some, false, length, IfOk, IfErr, OnOk};
 ghost use Rattle.std.specs.Int.{w32, to_le_bytes};
-ghost use Rattle.vx_flat.specs.Kinds.{IsOf};
+ghost use Rattle.vx_flat.specs.IsOf.{IsOf};
 ghost use Rattle.vx_flat.specs.Layout.{layout};
 ghost use Rattle.vx_flat.specs.Value.{table, elements, no_fields, field};
 ghost use Rattle.vx_flat.specs.View.{views, value as value_of};
+ghost use Rattle.vx_flat.specs.Limits.{limits, IsLight};
 ghost use Rattle.vx_flat.specs.Weight as weigh;
 ghost use Rattle.vx_registry.specs.Context.{grown_by};
 ghost use Rattle.vx_trees.specs.Walks.{levels};
@@ -28,19 +29,23 @@ use crate::placing::{Placed, describe, greatest_alignment, pad_at, push_buffers,
 use crate::tree::WireNode;
 use std::alloc::{AllocError, Global};
 use vx_buffer::{BufferError, BufferHandle, BufferHandles, ByteBuffer, ByteBuffers};
-use vx_flat::{FlatError, Part, TableValue, read_value, write_value};
+use vx_flat::laws::layout_is_shown;
+use vx_flat::{FlatError, FieldValue, TableValue, read_value, write_value};
 use vx_registry::ArrayContext;
 
 /// The value of an array message: a root node and descriptors.
 fn message_table(
     alloc: Global,
-    root: Vec<Part>,
+    root: Vec<FieldValue>,
     descriptors: Vec<u8>,
 ) -> Result<TableValue, AllocError>
     ensures { IfOk result (λ v. value_of v ≡ field (table (views root.items)) (field (elements descriptors.items) no_fields)) }
 {
-    let parts = Vec::from_array(alloc, [Part::Table(root), Part::Elements(descriptors)])?;
-    Ok(TableValue { parts })
+    let fields = Vec::from_array(
+        alloc,
+        [FieldValue::Table(root), FieldValue::Elements(descriptors)],
+    )?;
+    Ok(TableValue { fields })
 }
 
 /// The bytes of an array message, where a reader's limits admit it.
@@ -48,18 +53,23 @@ fn message_bytes(alloc: Global, value: &TableValue) -> Result<Vec<u8>, WireError
     requires { IsOf array_schema (value_of value.now) }
     ensures written { IfOk result (λ v. v.items ≡ layout false array_schema (value_of value.now)) }
     ensures short { OnOk result (length (layout false array_schema (value_of value.now)) < 2 ^ 31) }
-    ensures light { OnOk result (weigh.IsLight (weigh.weight array_schema (layout false array_schema (value_of value.now)))) }
+    ensures light { OnOk result (IsLight limits (weigh.weight array_schema (layout false array_schema (value_of value.now)))) }
     ensures refused { IfErr result (IsTooHeavy (layout false array_schema (value_of value.now))) }
 {
-    let message = match write_value(alloc, &ArrayKind, false, value) {
+    layout_is_shown();
+    let message = match write_value(alloc, &ArrayKind, value) {
         Ok(message) => message,
         Err(FlatError::OutOfMemory) => return Err(WireError::OutOfMemory),
-        Err(_) => return Err(WireError::WireLimit),
+        Err(FlatError::MessageTooLong) => return Err(WireError::WireLimit),
+        Err(FlatError::BadTable) => unreachable!(),
+        Err(FlatError::TableLimit) => unreachable!(),
     };
-    match read_value(alloc, message.bytes.as_slice(), &ArrayKind) {
-        Ok(_) => Ok(message.bytes),
+    match read_value(alloc, message.as_slice(), &ArrayKind) {
+        Ok(_) => Ok(message.into_vec()),
         Err(FlatError::OutOfMemory) => Err(WireError::OutOfMemory),
-        Err(_) => Err(WireError::WireLimit),
+        Err(FlatError::TableLimit) => Err(WireError::WireLimit),
+        Err(FlatError::BadTable) => unreachable!(),
+        Err(FlatError::MessageTooLong) => unreachable!(),
     }
 }
 

@@ -2,9 +2,17 @@
 
 ghost use Rattle.std.specs.Prelude.{◌≡◌};
 ghost use Rattle.vx_types.specs.declared.dtype.DType.{DType};
+ghost use Rattle.vx_types.specs.declared.ptype.PType.{PType};
+ghost use Rattle.vx_types.specs.Numbers.{code_of};
 ghost use Rattle.vx_types.specs.Seen.{typ};
 
 /// Types that are seen as the same tree are the same type.
 pub fn same_tree_is_same_type()
     ensures { (a b : DType) → typ a ≡ typ b → a ≡ b }
 {}
+
+/// A code is of one kind of numbers at most.
+pub fn code_is_of_one_kind()
+    ensures { (a b : PType) → code_of a ≡ code_of b → a ≡ b }
+{
+}

@@ -1,0 +1,192 @@
+ghost use Rattle.std.specs.Prelude.{◌≡◌, ◌<◌, ◌≤◌, ◌==◌, length, IfOk, IfErr, IsOk, Some, slice_get};
+ghost use Rattle.vx_trees.specs.Rose.{label, below, node, roses_of};
+ghost use Rattle.vx_trees.specs.Everywhere.{EverywhereBelow};
+ghost use Rattle.vx_types.specs.Seen.{typ};
+ghost use Rattle.vx_arrays.specs.Tree.{encoding_id_of, buffers_of};
+ghost use Rattle.vx_arrays.specs.Sound.{IsSound, IsSoundNode};
+ghost use Rattle.vx_arrays.specs.Rows.{row_at, valid_at, cells};
+ghost use Rattle.vx_arrays.specs.Refused.{IsRowRefused};
+
+use crate::body::Body;
+use crate::error::ArrayError;
+use crate::numbers::number_at;
+use crate::row::RowValue;
+use std::alloc::Global;
+use std::marker::Model;
+use vx_buffer::BufferHandle;
+use vx_types::DType;
+
+/// An array: a tree of nodes that is sound as a whole.
+#[derive(Drop)]
+pub struct Array {
+    dtype: DType,
+    len: usize,
+    body: Body,
+    children: Vec<Array>,
+}
+
+impl Model for Array {
+    ghost use Rattle.vx_arrays.specs.Tree.{Tree, tree_code};
+
+    ghost Value = { Tree };
+
+    ghost coded = { tree_code };
+
+    ghost use Rattle.vx_types.specs.Seen.{typ};
+    ghost use Rattle.vx_trees.specs.Rose.{node, roses_of};
+    ghost use Rattle.vx_trees.specs.Walks.{nodes};
+    ghost use Rattle.vx_trees.proofs.Counting.{most_le-nodes};
+    ghost use Rattle.vx_arrays.specs.Sound.{IsSound};
+    ghost use Rattle.std.proofs.Common.{arith};
+
+    ghost view = { λ a. node (record { dtype = typ a.dtype; len = a.len; body = a.body }) (roses_of a.children.items) };
+
+    ghost invariant = { λ a. IsSound (node (record { dtype = typ a.dtype; len = a.len; body = a.body }) (roses_of a.children.items)) };
+
+    ghost size = { nodes };
+
+    ghost size_decreases = { λ a h. Prim.omega (arith, most_le-nodes a.children.items) };
+}
+
+impl Array {
+    // An array of parts that are sound together.
+    pub(crate) fn from_parts(dtype: DType, len: usize, body: Body, children: Vec<Array>) -> Array
+        requires node { IsSoundNode (record { dtype = typ dtype; len = len; body = body }) (roses_of children.items) }
+        requires below { EverywhereBelow IsSoundNode (roses_of children.items) }
+        ensures { result ≡ node (record { dtype = typ dtype; len = len; body = body }) (roses_of children.items) }
+    {
+        Array {
+            dtype,
+            len,
+            body,
+            children,
+        }
+    }
+
+    /// What is known of each array: its tree is sound. Nothing runs; a caller gets the fact.
+    pub fn hold(&self)
+        ensures { IsSound self.now }
+    {
+        let _ = &self.len;
+    }
+
+    /// The logical type of the rows.
+    pub fn dtype(&self) -> &DType
+        ensures dtype { typ result.now ≡ (label self.now).dtype }
+        ensures sound { IsSound self.now }
+    {
+        &self.dtype
+    }
+
+    /// How many rows there are.
+    pub fn len(&self) -> usize
+        ensures { result ≡ (label self.now).len }
+    {
+        self.len
+    }
+
+    pub fn is_empty(&self) -> bool
+        ensures { result ≡ ((label self.now).len == 0) }
+    {
+        self.len == 0
+    }
+
+    /// What the root's encoding holds.
+    pub fn body(&self) -> &Body
+        ensures { result.now ≡ (label self.now).body }
+    {
+        &self.body
+    }
+
+    /// The identifier of the root's encoding.
+    pub fn encoding_id(&self) -> &str
+        ensures { result.now ≡ encoding_id_of (label self.now).body }
+    {
+        match self.body {
+            Body::Primitive(_) => "vortex.primitive",
+        }
+    }
+
+    /// The arrays below the root, in the order in which they are written.
+    pub fn children(&self) -> &[Array]
+        ensures children { roses_of result.now ≡ below self.now }
+        ensures sound { EverywhereBelow IsSoundNode (below self.now) }
+    {
+        self.children.as_slice()
+    }
+
+    /// How many buffers the root holds itself.
+    pub fn nbuffers(&self) -> usize
+        ensures { result ≡ length (buffers_of (label self.now).body) }
+    {
+        match self.body {
+            Body::Primitive(_) => 1,
+        }
+    }
+
+    /// The root's buffer of this number.
+    pub fn buffer(&self, index: usize) -> &BufferHandle
+        requires { index < length (buffers_of (label self.now).body) }
+        ensures { slice_get (buffers_of (label self.now).body) index ≡ Some result.now }
+    {
+        match &self.body {
+            Body::Primitive(values) => values,
+        }
+    }
+
+    /// Checks the whole tree. Since no other array can be made, the answer is always Ok.
+    pub fn validate(&self) -> Result<(), ArrayError>
+        ensures ok { IsOk result }
+        ensures sound { IsSound self.now }
+    {
+        self.hold();
+        Ok(())
+    }
+
+    /// Whether the row is there; None where that is not known.
+    pub fn is_valid(&self, index: usize) -> Option<bool>
+        requires { index < (label self.now).len }
+        ensures { result ≡ valid_at self.now index }
+    {
+        Some(true)
+    }
+
+    /// The row's value, if it takes at most `budget` cells.
+    pub fn value_at(
+        &self,
+        _alloc: Global,
+        index: usize,
+        budget: u64,
+    ) -> Result<RowValue, ArrayError>
+        requires { index < (label self.now).len }
+        ensures row { IfOk result (λ row. row ≡ row_at self.now index) }
+        ensures fits { IfOk result (λ _. cells self.now index ≤ budget) }
+        ensures err { IfErr result (λ e. IsRowRefused e self.now index budget) }
+    {
+        if budget == 0 {
+            return Err(ArrayError::ValueTooLarge);
+        }
+        match (&self.body, &self.dtype) {
+            (Body::Primitive(values), DType::Primitive(kind, _)) => {
+                let width = kind.byte_width();
+                let rest = &values.as_host().as_slice()[width * index..];
+                Ok(RowValue::Primitive(number_at(*kind, rest)))
+            }
+            _ => unreachable!(),
+        }
+    }
+
+    /// The same array again. No buffer's bytes are copied.
+    #[tactic(auto, using(vx_trees::proofs::Roses::roses))]
+    pub fn clone(&self, alloc: Global) -> Result<Array, ArrayError>
+        ensures { IfOk result (λ a. a ≡ self.now) }
+    {
+        let dtype = self.dtype().clone(alloc)?;
+        let body = self.body().clone(alloc)?;
+        let mut children = Vec::new(alloc);
+        for child in self.children() {
+            children.push(child.clone(alloc)?)?;
+        }
+        Ok(Array::from_parts(dtype, self.len(), body, children))
+    }
+}

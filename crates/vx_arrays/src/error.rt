@@ -1,0 +1,53 @@
+ghost use Rattle.std.specs.Prelude.{◌≡◌};
+ghost use Rattle.vx_arrays.specs.declared.error.ArrayError.TheVariants.{OutOfMemory};
+
+use std::alloc::{AllocError, AllocFailed};
+use thiserror::Error;
+use vx_buffer::BufferError;
+use vx_types::TypeError;
+
+/// Why a call on arrays was refused.
+#[derive(Clone, Copy, Debug, PartialEq, Eq, Error)]
+pub enum ArrayError {
+    /// Memory was wanted and not to be had.
+    #[error("out of memory")]
+    OutOfMemory,
+    /// The parts do not fit the type, the rows or one another.
+    #[error("the parts fit no sound array")]
+    BadShape,
+    /// A row takes more cells than there are to spend.
+    #[error("the row takes too many cells")]
+    ValueTooLarge,
+}
+
+impl From<AllocError> for ArrayError {
+    ghost from_gives = { λ _ e. e ≡ OutOfMemory };
+
+    fn from(_: AllocError) -> ArrayError {
+        ArrayError::OutOfMemory
+    }
+}
+
+impl<T: Drop> From<AllocFailed<T>> for ArrayError {
+    ghost from_gives = { λ _ e. e ≡ OutOfMemory };
+
+    fn from(_: AllocFailed<T>) -> ArrayError {
+        ArrayError::OutOfMemory
+    }
+}
+
+impl From<BufferError> for ArrayError {
+    ghost from_gives = { λ _ e. e ≡ OutOfMemory };
+
+    fn from(_: BufferError) -> ArrayError {
+        ArrayError::OutOfMemory
+    }
+}
+
+impl From<TypeError> for ArrayError {
+    ghost from_gives = { λ _ e. e ≡ OutOfMemory };
+
+    fn from(_: TypeError) -> ArrayError {
+        ArrayError::OutOfMemory
+    }
+}

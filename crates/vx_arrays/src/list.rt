@@ -1,0 +1,74 @@
+ghost use Rattle.std.specs.Prelude.{◌≡◌, OnOk, OnErr};
+ghost use Rattle.vx_trees.specs.Everywhere.{EverywhereBelow};
+ghost use Rattle.vx_trees.specs.Rose.{count, end, roses_list, roses_of};
+ghost use Rattle.std.specs.Prelude.{◌++◌, ◌∷◌, []};
+ghost use Rattle.vx_arrays.specs.Sound.{IsSoundNode};
+
+use crate::array::Array;
+use crate::error::ArrayError;
+use std::alloc::Global;
+use std::marker::Model;
+
+/// A list of arrays, as the children of a node.
+#[derive(Drop)]
+pub struct Arrays {
+    items: Vec<Array>,
+}
+
+impl Model for Arrays {
+    ghost use Rattle.vx_arrays.specs.Tree.{Trees, trees_code};
+
+    ghost Value = { Trees };
+
+    ghost coded = { trees_code };
+
+    ghost use Rattle.vx_trees.specs.Rose.{roses_of};
+    ghost use Rattle.vx_trees.specs.Everywhere.{EverywhereBelow};
+    ghost use Rattle.vx_arrays.specs.Sound.{IsSoundNode};
+
+    ghost view = { λ a. roses_of a.items.items };
+
+    ghost invariant = { λ a. EverywhereBelow IsSoundNode (roses_of a.items.items) };
+}
+
+impl Arrays {
+    /// The empty list. It takes no memory.
+    pub fn new(alloc: Global) -> Arrays
+        ensures { result ≡ end }
+    {
+        Arrays {
+            items: Vec::new(alloc),
+        }
+    }
+
+    /// One more array at the end. Where there is no memory for it, the list stays as it was, and the array
+    /// is dropped.
+    pub fn push(&mut self, array: Array) -> Result<(), ArrayError>
+        ensures ok { OnOk result (roses_list self.new ≡ roses_list self.old ++ array ∷ []) }
+        ensures err { OnErr result (self.new ≡ self.old) }
+    {
+        array.hold();
+        self.items.push(array)?;
+        Ok(())
+    }
+
+    pub fn len(&self) -> usize
+        ensures { result ≡ count self.now }
+    {
+        self.items.as_slice().len()
+    }
+
+    pub fn as_slice(&self) -> &[Array]
+        ensures items { roses_of result.now ≡ self.now }
+        ensures sound { EverywhereBelow IsSoundNode self.now }
+    {
+        self.items.as_slice()
+    }
+
+    pub fn into_vec(self) -> Vec<Array>
+        ensures items { roses_of result.items ≡ self }
+        ensures sound { EverywhereBelow IsSoundNode self }
+    {
+        self.items
+    }
+}

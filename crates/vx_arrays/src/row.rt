@@ -1,0 +1,10 @@
+use vx_types::PValue;
+
+/// The value of a row.
+#[derive(Clone, Copy, Debug, PartialEq, Eq)]
+pub enum RowValue {
+    /// The row is not there.
+    Null,
+    /// A number, floats as their bits.
+    Primitive(PValue),
+}

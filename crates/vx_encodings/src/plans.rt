@@ -1,0 +1,70 @@
+ghost use Rattle.std.specs.Prelude.{◌≡◌, ◌∷◌, ◌++◌, [], length, slice_get, option_map, OnOk, OnErr, IsOkUnless};
+
+use crate::error::EncodingError;
+use std::alloc::Global;
+use std::marker::Model;
+use vx_types::DType;
+
+/// What a child is to be.
+#[derive(Drop)]
+pub struct ChildPlan {
+    /// Its type.
+    pub dtype: DType,
+    /// How many rows it has.
+    pub len: usize,
+}
+
+/// What the children of a node are to be, in their order. Contracts see their places.
+#[derive(Drop)]
+pub struct ChildPlans {
+    items: Vec<ChildPlan>,
+}
+
+impl Model for ChildPlans {
+    ghost use Rattle.std.specs.Prelude.{List, map};
+    ghost use Rattle.vx_arrays.specs.Places.{Place, places_code};
+    ghost use Rattle.vx_encodings.specs.Plans.{place_of};
+
+    ghost Value = { List Place };
+
+    ghost coded = { places_code };
+
+    ghost view = { λ p. map place_of p.items.items };
+}
+
+impl ChildPlans {
+    ghost use Rattle.vx_encodings.specs.Plans.{place_of};
+
+    /// No children. It takes no memory.
+    pub fn new(alloc: Global) -> ChildPlans
+        ensures { result ≡ [] }
+    {
+        ChildPlans {
+            items: Vec::new(alloc),
+        }
+    }
+
+    /// One more child at the end.
+    pub fn push(&mut self, plan: ChildPlan) -> Result<(), EncodingError>
+        ensures ok { OnOk result (self.new ≡ self.old ++ place_of plan ∷ []) }
+        ensures unchanged { OnErr result (self.new ≡ self.old) }
+        ensures err { IsOkUnless result EncodingError.OutOfMemory }
+    {
+        self.items.push(plan)?;
+        Ok(())
+    }
+
+    /// How many children there are to be.
+    pub fn len(&self) -> usize
+        ensures { result ≡ length self.now }
+    {
+        self.items.as_slice().len()
+    }
+
+    /// What the child of this number is to be: `None` exactly past the end.
+    pub fn get(&self, index: usize) -> Option<&ChildPlan>
+        ensures { option_map (λ p. place_of p.now) result ≡ slice_get self.now index }
+    {
+        self.items.as_slice().get(index)
+    }
+}

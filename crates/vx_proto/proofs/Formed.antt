@@ -1,0 +1,139 @@
+-- What is read has the form of its schema.
+use Rattle.std.proofs.Common.{◌≡◌, ℕ, zero, suc, ◌^◌, ◌<◌, ◌≤◌, Bool, true, false, not, cond, eqb, List, [], ◌∷◌, ◌++◌, length, get_or, Some, refl, sym, ap, subst, ◌∙◌, arith, inl, inr}
+use Rattle.std.specs.Prelude.{filter}
+use Rattle.std.specs.Int.{w32, w64, from_le_bytes}
+use Rattle.std.proofs.lemmas.Str.{IsUtf8-nil}
+use Rattle.std.proofs.lemmas.Bool.{eq-eqb}
+use Rattle.vx_proto.specs.declared.schema.Kind.{Kind}
+use Rattle.vx_proto.specs.declared.schema.Kind.TheVariants.{Below, Whole, Signed32, Flag, Fixed32, Fixed64, Text, Bytes, Inner}
+use Rattle.vx_proto.specs.declared.schema.Rule.{Rule}
+use Rattle.vx_proto.specs.declared.schema.Rule.TheVariants.{Plain, Optional, Single, Repeated}
+use Rattle.vx_proto.specs.declared.schema.Member.{Member}
+use Rattle.vx_proto.specs.Wire.{SpellsNumber, Part, eight, delimited, four, Field, SpellsPart, Spells}
+use Rattle.vx_proto.specs.Value.{Content, Entry, Value, entries_of, slots_of, Slot, Schema}
+use Rattle.vx_proto.specs.Reads.{list_at, default_in, default_of, last_of, kind_in, has, kind_of, ShowsContent, ShowsEntries, ShowsSlots, Keeps, ReadsWithin}
+use Rattle.vx_proto.specs.Form.{FormContent, FormEntries, FormCount, FormSlots, FormWithin, IsPlainDefault, IsLawfulList}
+
+abbrev pub AreBytes : List ℕ → Type 0
+AreBytes [] = Unit {0}
+AreBytes (b ∷ bs) = (b < 256) × AreBytes bs
+
+pub from_index : (bs : List ℕ) → ((i : ℕ) → get_or bs i 0 < 256) → AreBytes bs
+from_index [] h = tt
+from_index (b ∷ bs) h = (h 0, from_index bs (λ i. h (suc i)))
+
+at_index : (bs : List ℕ) → AreBytes bs → (i : ℕ) → get_or bs i 0 < 256
+at_index [] h i = omega arith
+at_index (b ∷ bs) h zero = h.0
+at_index (b ∷ bs) h (suc i) = at_index bs h.1 i
+
+front : (a b : List ℕ) → AreBytes (a ++ b) → AreBytes a
+front [] b h = tt
+front (x ∷ a) b h = (h.0, front a b h.1)
+
+back : (a b : List ℕ) → AreBytes (a ++ b) → AreBytes b
+back [] b h = h
+back (x ∷ a) b h = back a b h.1
+
+four_small : (bs : List ℕ) → AreBytes bs → from_le_bytes w32 bs < 2 ^ 32
+four_small bs h = let f = at_index bs h in omega (arith, f 0, f 1, f 2, f 3)
+
+eight_small : (bs : List ℕ) → AreBytes bs → from_le_bytes w64 bs < 2 ^ 64
+eight_small bs h = let f = at_index bs h in omega (arith, f 0, f 1, f 2, f 3, f 4, f 5, f 6, f 7)
+
+abbrev pub Formed : (ℕ → List ℕ → Value → Type 0) → (ℕ → Value → Type 0) → Type 0
+Formed R F = (m : ℕ) (s : List ℕ) (v : Value) → R m s v → AreBytes s → F m v
+
+flag_small : (n : ℕ) → cond (eqb n 0) 0 1 < 2
+flag_small n = go (eqb n 0)
+  where
+    go : (b : Bool) → cond b 0 1 < 2
+    go true = omega arith
+    go false = omega arith
+
+part_form : (R : ℕ → List ℕ → Value → Type 0) (F : ℕ → Value → Type 0) (k : Kind) (p : Part) (e : Content) (body : List ℕ) → Formed R F → ShowsContent R k p e → SpellsPart body p → AreBytes body → FormContent F k e
+part_form R F (Below limit) p e body h s w b = (s.0, s.3, s.2)
+part_form R F Whole p e body h s w b = let t : SpellsNumber body s.0 = subst (SpellsPart body) s.1 w in (s.0, s.2, t.fits)
+part_form R F Signed32 p e body h s w b = let t : SpellsNumber body s.0 = subst (SpellsPart body) s.1 w in (s.0, s.3, t.fits, s.2)
+part_form R F Flag p e body h s w b = (cond (eqb s.0 0) 0 1, s.2, flag_small s.0)
+part_form R F Fixed32 p e body h s w b = let t : SpellsPart body (four s.0) = subst (SpellsPart body) s.1 w in (s.0, s.2, omega (arith, t.1, four_small body b))
+part_form R F Fixed64 p e body h s w b = let t : SpellsPart body (eight s.0) = subst (SpellsPart body) s.1 w in (s.0, s.2, omega (arith, t.1, eight_small body b))
+part_form R F Text p e body h s w b = (s.0, s.3, s.2)
+part_form R F Bytes p e body h s w b = (s.0, s.2)
+part_form R F (Inner m) p e body h s w b = let t : SpellsPart body (delimited s.0) = subst (SpellsPart body) s.2 w in (s.1, s.4, h m s.0 s.1 s.3 (back t.0 s.0 (subst AreBytes t.2 b)))
+
+-- entries of these slots, each of its kind's form
+abbrev pub AllForm : (ℕ → Value → Type 0) → List Slot → List Entry → Type 0
+AllForm F list [] = Unit {0}
+AllForm F list (x ∷ xs) = ((k : Kind) × (kind_of list x.0 ≡ Some k) × FormContent F k x.1) × AllForm F list xs
+
+entries_form : (R : ℕ → List ℕ → Value → Type 0) (F : ℕ → Value → Type 0) (list : List Slot) (bytes : List ℕ) (fs : List Field) (es : List Entry) → Formed R F → Spells bytes fs → AreBytes bytes → ShowsEntries R list fs es → AllForm F list es
+entries_form R F list bytes [] es h w b s = subst (AllForm F list) (sym s) tt
+entries_form R F list bytes (f ∷ fs) es h w b (inl s) = entries_form R F list w.1 fs es h w.4 (back w.0 w.1 (subst AreBytes w.2 b)) s.1
+entries_form R F list bytes (f ∷ fs) es h w b (inr s) =
+    let parts = subst AreBytes w.2 b in
+    let mine = subst AreBytes w.3.whole (front w.0 w.1 parts) in
+    subst (AllForm F list) (sym s.5)
+    ((s.0, s.3, part_form R F s.0 f.part s.1 w.3.part h s.4 w.3.part_is (back w.3.key w.3.part mine)), entries_form R F list w.1 fs s.2 h w.4 (back w.0 w.1 parts) s.6)
+
+mine_form : (F : ℕ → Value → Type 0) (s : Slot) (ss : List Slot) (es : List Entry) → AllForm F (s ∷ ss) es → FormEntries F s.members (filter (λ e. has s e.0) es)
+mine_form F s ss [] a = tt
+mine_form F s ss (x ∷ xs) a = go (has s x.0) refl (mine_form F s ss xs a.1)
+  where
+    go : (b : Bool) → has s x.0 ≡ b → FormEntries F s.members (filter (λ e. has s e.0) xs) → FormEntries F s.members (cond b (x ∷ filter (λ e. has s e.0) xs) (filter (λ e. has s e.0) xs))
+    go true e ih = ((a.0.0, sym (ap (λ b. cond b (kind_in s.members x.0) (kind_of ss x.0)) e) ∙ a.0.1, a.0.2), ih)
+    go false e ih = ih
+
+others_form : (F : ℕ → Value → Type 0) (s : Slot) (ss : List Slot) (es : List Entry) → AllForm F (s ∷ ss) es → AllForm F ss (filter (λ e. not (has s e.0)) es)
+others_form F s ss [] a = tt
+others_form F s ss (x ∷ xs) a = go (has s x.0) refl (others_form F s ss xs a.1)
+  where
+    go : (b : Bool) → has s x.0 ≡ b → AllForm F ss (filter (λ e. not (has s e.0)) xs) → AllForm F ss (cond (not b) (x ∷ filter (λ e. not (has s e.0)) xs) (filter (λ e. not (has s e.0)) xs))
+    go true e ih = ih
+    go false e ih = ((a.0.0, sym (ap (λ b. cond b (kind_in s.members x.0) (kind_of ss x.0)) e) ∙ a.0.1, a.0.2), ih)
+
+last_form : (F : ℕ → Value → Type 0) (members : List Member) (before es : List Entry) → FormEntries F members before → FormEntries F members es → FormEntries F members (last_of before es)
+last_form F members before [] b f = b
+last_form F members before (x ∷ xs) b f = last_form F members (x ∷ []) xs (f.0, tt) f.1
+
+last_length : (before es : List Entry) → length before ≤ 1 → length (last_of before es) ≤ 1
+last_length before [] le = le
+last_length before (x ∷ xs) le = last_length (x ∷ []) xs (omega arith)
+
+last_one : (before es : List Entry) → length before ≡ 1 → length (last_of before es) ≡ 1
+last_one before [] e = e
+last_one before (x ∷ xs) e = last_one (x ∷ []) xs refl
+
+default_form : (F : ℕ → Value → Type 0) (k : Kind) → ((m : ℕ) → k ≡ Inner m → ⊥) → ((l : ℕ) → k ≡ Below l → 0 < l) → FormContent F k (default_in k)
+default_form F (Below limit) no_message h = (0, refl, h limit refl)
+default_form F Whole no_message h = (0, refl, omega arith)
+default_form F Signed32 no_message h = (0, refl, omega arith, inl (omega arith))
+default_form F Flag no_message h = (0, refl, omega arith)
+default_form F Fixed32 no_message h = (0, refl, omega arith)
+default_form F Fixed64 no_message h = (0, refl, omega arith)
+default_form F Text no_message h = ([], refl, IsUtf8-nil)
+default_form F Bytes no_message h = ([], refl)
+default_form F (Inner m) no_message h = absurd (no_message m refl)
+
+defaults_form : (F : ℕ → Value → Type 0) (members : List Member) → IsPlainDefault members → FormEntries F members (default_of members) × (length (default_of members) ≡ 1)
+defaults_form F members d = subst (λ ms. FormEntries F ms (default_of ms) × (length (default_of ms) ≡ 1)) (sym d.one)
+    (((d.member.kind, rw (eq-eqb d.member.number d.member.number refl) refl, default_form F d.member.kind d.simple d.positive), tt), refl)
+
+kept_form : (F : ℕ → Value → Type 0) (r : Rule) (members : List Member) (es kept : List Entry) → (r ≡ Plain → IsPlainDefault members) → FormEntries F members es → Keeps r members es kept → FormCount r kept × FormEntries F members kept
+kept_form F Plain members es kept d f k = let w = defaults_form F members (d refl) in subst (λ t. (length t ≡ 1) × FormEntries F members t) (sym k) (last_one (default_of members) es w.1, last_form F members (default_of members) es w.0 f)
+kept_form F Optional members es kept d f k = subst (λ t. (length t ≤ 1) × FormEntries F members t) (sym k) (last_length [] es (omega arith), last_form F members [] es tt f)
+kept_form F Single members es kept d f k = subst (λ t. (length t ≤ 1) × FormEntries F members t) (sym k.0) (k.1, f)
+kept_form F Repeated members es kept d f k = (tt, subst (FormEntries F members) (sym k) f)
+
+slots_form : (F : ℕ → Value → Type 0) (ss : List Slot) (es : List Entry) (v : Value) → IsLawfulList ss → AllForm F ss es → ShowsSlots ss es v → FormSlots F ss v
+slots_form F [] es v l a s = s
+slots_form F (s ∷ ss) es v l a h =
+    let w = kept_form F s.rule s.members (filter (λ e. has s e.0) es) h.0 l.0.plain (mine_form F s ss es a) h.3 in
+    (h.0, h.1, h.2, w.0, w.1, slots_form F ss (filter (λ e. not (has s e.0)) es) h.1 l.1 (others_form F s ss es a) h.4)
+
+pub reads_form : (schema : Schema) (left place : ℕ) (bytes : List ℕ) (v : Value) → ((m : ℕ) → IsLawfulList (list_at schema m)) → AreBytes bytes → ReadsWithin schema left place bytes v → FormWithin schema left place v
+unfolding ReadsWithin FormWithin
+reads_form schema zero place bytes v l b r = absurd r
+reads_form schema (suc left) place bytes v l b r =
+    slots_form (FormWithin schema left) (list_at schema place) r.entries v (l place)
+    (entries_form (ReadsWithin schema left) (FormWithin schema left) (list_at schema place) bytes r.fields r.entries (λ m s w x y. reads_form schema left m s w l y x) r.spelled b r.each) r.kept

@@ -1,0 +1,16 @@
+pub mod Steps
+pub mod Varint
+pub mod CutOne
+pub mod CutAll
+pub mod Loops
+pub mod Views
+pub mod Typed
+pub mod Split
+pub mod Judged
+pub mod Causes
+pub mod Told
+pub mod Spelled
+pub mod Again
+pub mod Formed
+pub mod LawfulTest
+pub mod Suffixes

@@ -1,0 +1,79 @@
+-- What a reader tells of its answer, in the words of the bytes.
+use Rattle.std.proofs.Common.{◌≡◌, ◌≤◌, ◌<◌, ◌^◌, ◌⊎◌, inl, inr, ℕ, List, [], ◌∷◌, length, arith, Result, Ok, Err, refl}
+use Rattle.std.specs.Prelude.{IsTrue}
+use Rattle.vx_proto.specs.declared.error.ProtoError.{ProtoError}
+use Rattle.vx_proto.specs.declared.error.ProtoError.TheVariants as errors
+use Rattle.vx_proto.specs.declared.schema.Rule.{Rule}
+use Rattle.vx_proto.specs.declared.schema.Rule.TheVariants.{Plain, Optional, Single, Repeated}
+use Rattle.vx_proto.specs.declared.schema.Member.{Member}
+use Rattle.vx_proto.specs.Value.{Value, Slot, Schema}
+use Rattle.vx_proto.specs.Reads.{ReadsWithin, Reads, Cause, list_at, Keeps, ShowsSlots, default_by, defaults, default_value}
+use Rattle.vx_proto.specs.Reading.{Fails, decoded}
+use Rattle.vx_proto.specs.Form.{HasForm}
+use Rattle.vx_proto.specs.Lawful.{is_lawful}
+use Rattle.vx_proto.proofs.Judged.{decoded_sound, decoded_again}
+use Rattle.vx_proto.proofs.Causes.{decoded_cause, reads_excludes}
+use Rattle.vx_proto.proofs.Formed.{AreBytes, reads_form}
+use Rattle.vx_proto.specs.FormLaws.{form_within}
+use Rattle.vx_proto.specs.Written.{written, nested}
+use Rattle.vx_proto.proofs.Again.{written_reads}
+use Rattle.vx_proto.proofs.LawfulTest.{lawful_by}
+
+pub fails_caused : (err : ProtoError) (schema : Schema) (place : ℕ) (bytes : List ℕ) → Fails err (decoded schema 100 place bytes) → (err ≡ errors.OutOfMemory) ⊎ Cause schema 100 err place bytes
+fails_caused errors.OutOfMemory schema place bytes h = inl refl
+fails_caused errors.BadMessage schema place bytes h = inr (decoded_cause schema 100 place bytes errors.BadMessage h)
+fails_caused errors.TooDeep schema place bytes h = inr (decoded_cause schema 100 place bytes errors.TooDeep h)
+fails_caused errors.OutOfRange schema place bytes h = inr (decoded_cause schema 100 place bytes errors.OutOfRange h)
+
+pub same_ok : (x : Result Value ProtoError) (v w : Value) → x ≡ Ok v → x ≡ Ok w → v ≡ w
+same_ok x v w a b = cc
+
+clash : (x : Result Value ProtoError) (v : Value) (e : ProtoError) (P : Type 0) → x ≡ Ok v → x ≡ Err e → P
+clash x v e P a b = absurd cc
+
+pub reads_given : (schema : Schema) (place : ℕ) (bytes : List ℕ) (v : Value) → Reads schema place bytes v → decoded schema 100 place bytes ≡ Ok v
+unfolding Reads
+reads_given schema place bytes v r = decoded_again schema 100 place bytes v r
+
+pub fails_only : (err : ProtoError) (schema : Schema) (place : ℕ) (bytes : List ℕ) (v : Value) → Fails err (decoded schema 100 place bytes) → Reads schema place bytes v → err ≡ errors.OutOfMemory
+fails_only errors.OutOfMemory schema place bytes v h r = refl
+fails_only errors.BadMessage schema place bytes v h r = clash (decoded schema 100 place bytes) v errors.BadMessage _ (reads_given schema place bytes v r) h
+fails_only errors.TooDeep schema place bytes v h r = clash (decoded schema 100 place bytes) v errors.TooDeep _ (reads_given schema place bytes v r) h
+fails_only errors.OutOfRange schema place bytes v h r = clash (decoded schema 100 place bytes) v errors.OutOfRange _ (reads_given schema place bytes v r) h
+
+pub is_read : (schema : Schema) (place : ℕ) (bytes : List ℕ) (v : Value) → decoded schema 100 place bytes ≡ Ok v → Reads schema place bytes v
+unfolding Reads
+is_read schema place bytes v e = decoded_sound schema 100 place bytes v e
+
+pub read_uncaused : (schema : Schema) (place : ℕ) (bytes : List ℕ) (v : Value) (e : ProtoError) → Reads schema place bytes v → Cause schema 100 e place bytes → ⊥
+unfolding Reads
+read_uncaused schema place bytes v e r c = reads_excludes schema 100 place bytes v e r c
+
+-- bytes read as one value at most
+pub reads_one : (schema : Schema) (place : ℕ) (bytes : List ℕ) (v w : Value) → Reads schema place bytes v → Reads schema place bytes w → v ≡ w
+reads_one schema place bytes v w a b = same_ok (decoded schema 100 place bytes) v w (reads_given schema place bytes v a) (reads_given schema place bytes w b)
+
+-- what is read has the form of its schema
+pub read_formed : (schema : Schema) (place : ℕ) (bytes : List ℕ) (v : Value) → IsTrue (is_lawful schema) → AreBytes bytes → Reads schema place bytes v → HasForm schema place v
+unfolding Reads HasForm
+read_formed schema place bytes v l b r = (100, reads_form schema 100 place bytes v (lawful_by schema l) b r)
+
+-- what is written of a value of the schema that nests within the limit shows the value
+pub written_shown : (schema : Schema) (place : ℕ) (v : Value) → IsTrue (is_lawful schema) → HasForm schema place v → nested v ≤ 100 → length (written schema place v) < 2 ^ 64 → Reads schema place (written schema place v) v
+unfolding Reads HasForm
+written_shown schema place v l f le lt = written_reads schema 100 place v (lawful_by schema l) (form_within schema f.0 100 place v f.1 le) lt
+
+-- no bytes show the value of a message without fields
+default_kept : (r : Rule) (members : List Member) → Keeps r members [] (default_by r members)
+default_kept Plain members = refl
+default_kept Optional members = refl
+default_kept Single members = (refl, omega arith)
+default_kept Repeated members = refl
+
+defaults_shown : (list : List Slot) → ShowsSlots list [] (defaults list)
+defaults_shown [] = refl
+defaults_shown (s ∷ ss) = (default_by s.rule s.members, defaults ss, refl, default_kept s.rule s.members, defaults_shown ss)
+
+pub nothing_shown : (schema : Schema) (place : ℕ) → Reads schema place [] (default_value schema place)
+unfolding Reads ReadsWithin
+nothing_shown schema place = record { fields = []; entries = []; spelled = refl; each = refl; kept = defaults_shown (list_at schema place) }

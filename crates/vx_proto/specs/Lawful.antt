@@ -1,0 +1,66 @@
+-- A schema is lawful, as a test that computes: so a type proves it of its schema by `refl`.
+use Rattle.std.specs.Prelude.{ℕ, ◌+◌, ◌^◌, Bool, true, false, ◌&&◌, nat_lt, nat_le, List, [], ◌∷◌, ◌++◌, length}
+use Rattle.vx_proto.specs.declared.schema.Kind.{Kind}
+use Rattle.vx_proto.specs.declared.schema.Kind.TheVariants.{Below, Inner}
+use Rattle.vx_proto.specs.declared.schema.Rule.{Rule}
+use Rattle.vx_proto.specs.declared.schema.Rule.TheVariants.{Plain}
+use Rattle.vx_proto.specs.declared.schema.Member.{Member}
+use Rattle.vx_proto.specs.Value.{Slot, Schema}
+
+-- The field numbers of a slot's members, as they are listed.
+abbrev pub member_numbers : List Member → List ℕ
+member_numbers [] = []
+member_numbers (m ∷ ms) = m.number ∷ member_numbers ms
+
+-- The field numbers of a message, slot after slot.
+abbrev pub field_numbers : List Slot → List ℕ
+field_numbers [] = []
+field_numbers (s ∷ ss) = member_numbers s.members ++ field_numbers ss
+
+-- Numbers that are at least a bound, each greater than the one before, and each below 2 ^ 29, as field numbers are.
+abbrev pub is_ascending : ℕ → List ℕ → Bool
+is_ascending least [] = true
+is_ascending least (n ∷ ns) = nat_le least n && nat_lt n (2 ^ 29) && is_ascending (n + 1) ns
+
+-- A nested message has its list among those of the schema; a limited number has a limit from 1 to 2 ^ 64.
+abbrev pub is_kind : ℕ → Kind → Bool
+is_kind count (Inner place) = nat_lt place count
+is_kind count (Below limit) = nat_lt 0 limit && nat_le limit (2 ^ 64)
+is_kind count k = true
+
+-- Each member of a slot is of such a kind.
+abbrev pub are_kinds : ℕ → List Member → Bool
+are_kinds count [] = true
+are_kinds count (m ∷ ms) = is_kind count m.kind && are_kinds count ms
+
+-- A number, a text or bytes: a kind with a default.
+abbrev pub is_simple : Kind → Bool
+is_simple (Inner place) = false
+is_simple k = true
+
+-- A plain slot has one member, and that has a default.
+abbrev pub has_default : List Member → Bool
+has_default [] = false
+has_default (m ∷ []) = is_simple m.kind
+has_default (m ∷ n ∷ ms) = false
+
+abbrev pub fits_rule : Rule → List Member → Bool
+fits_rule Plain members = has_default members
+fits_rule r members = true
+
+-- Each slot of a message has members of lawful kinds, as its rule asks.
+abbrev pub are_slots : ℕ → List Slot → Bool
+are_slots count [] = true
+are_slots count (s ∷ ss) = fits_rule s.rule s.members && are_kinds count s.members && are_slots count ss
+
+-- A message has at most 1,000 fields, with ascending numbers from 1 on: so no number stands twice.
+abbrev pub is_lawful_list : ℕ → List Slot → Bool
+is_lawful_list count l = is_ascending 1 (field_numbers l) && nat_le (length (field_numbers l)) 1000 && are_slots count l
+
+abbrev pub are_lawful : ℕ → List (List Slot) → Bool
+are_lawful count [] = true
+are_lawful count (l ∷ ls) = is_lawful_list count l && are_lawful count ls
+
+-- Each message of the schema is lawful, where places are below the number of its messages.
+abbrev pub is_lawful : Schema → Bool
+is_lawful schema = are_lawful (length schema) schema

@@ -1,0 +1,11 @@
+pub mod Wire
+pub mod WireView
+pub mod Value
+pub mod Reads
+pub mod Reading
+pub mod Form
+pub mod Written
+pub mod Fields
+pub mod Lawful
+pub mod Parts
+pub mod FormLaws

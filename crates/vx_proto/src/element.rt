@@ -1,0 +1,157 @@
+//! Plain values: what a message of any schema shows, and the calls by which a message type takes
+//! one apart and puts one together.
+
+ghost use Rattle.std.specs.Prelude.{◌≡◌, ◌<◌, ◌^◌, ℕ, Some, ◌∷◌, [], IfOk, option_map};
+ghost use Rattle.vx_proto.specs.Value.{view, value_view, entries_view, number, octets};
+ghost use Rattle.vx_proto.specs.Parts.{entries_in, flag_number, number_of, octets_of, message_of, number_in, octets_in, message_in};
+
+use std::alloc::{AllocError, Global};
+
+/// What a member of a message holds.
+#[derive(Debug, Drop)]
+pub enum Element {
+    /// A number as on the wire: of a flag 0 or 1, of an int32 its 64-bit two's complement, of a
+    /// sint64 its zigzag number.
+    Number(u64),
+    /// The bytes of a text, or bytes.
+    Octets(Vec<u8>),
+    /// A message: of each slot of its list the members that count.
+    Message(Vec<Entries>),
+}
+
+/// A member's field number, and what it holds.
+pub type Entry = (u32, Element);
+
+/// The members of a slot that count.
+pub type Entries = Vec<Entry>;
+
+/// The members of a slot that count; none past the last slot.
+pub fn entries_at(slots: &[Entries], slot: usize) -> &[Entry]
+    ensures { entries_view result.now ≡ entries_in (value_view slots.now) slot }
+{
+    match slots.get(slot) {
+        Some(entries) => entries,
+        None => &[],
+    }
+}
+
+impl Element {
+    /// The number, if the member holds one.
+    pub fn as_number(&self) -> Option<u64>
+        ensures { result ≡ number_of (view self.now) }
+    {
+        match self {
+            Element::Number(n) => Some(*n),
+            Element::Octets(_) => None,
+            Element::Message(_) => None,
+        }
+    }
+
+    /// The bytes, if the member holds a text or bytes.
+    pub fn as_octets(&self) -> Option<&[u8]>
+        ensures { option_map (λ s. s.now) result ≡ octets_of (view self.now) }
+    {
+        match self {
+            Element::Number(_) => None,
+            Element::Octets(s) => Some(s.as_slice()),
+            Element::Message(_) => None,
+        }
+    }
+
+    /// The message, if the member holds one.
+    pub fn as_message(&self) -> Option<&[Entries]>
+        ensures { option_map (λ v. value_view v.now) result ≡ message_of (view self.now) }
+    {
+        match self {
+            Element::Number(_) => None,
+            Element::Octets(_) => None,
+            Element::Message(slots) => Some(slots.as_slice()),
+        }
+    }
+}
+
+/// The number that a slot's first member holds, if it is one.
+pub fn number_at(slots: &[Entries], slot: usize) -> Option<u64>
+    ensures { result ≡ number_in (entries_in (value_view slots.now) slot) }
+{
+    match entries_at(slots, slot) {
+        [(_, element), ..] => element.as_number(),
+        [] => None,
+    }
+}
+
+/// The number that a slot's first member holds, or 0.
+pub fn u64_at(slots: &[Entries], slot: usize) -> u64
+    ensures { (n : ℕ) → number_in (entries_in (value_view slots.now) slot) ≡ Some n → result ≡ n }
+{
+    match number_at(slots, slot) {
+        Some(n) => n,
+        None => 0,
+    }
+}
+
+/// The number that a slot's first member holds, where it is below 2^32, or 0.
+pub fn u32_at(slots: &[Entries], slot: usize) -> u32
+    ensures { (n : ℕ) → number_in (entries_in (value_view slots.now) slot) ≡ Some n → n < 2 ^ 32 → result ≡ n }
+{
+    let n = u64_at(slots, slot);
+    if n < 1 << 32 { n as u32 } else { 0 }
+}
+
+/// The number that a slot's first member holds, where it is below 256, or 0.
+pub fn u8_at(slots: &[Entries], slot: usize) -> u8
+    ensures { (n : ℕ) → number_in (entries_in (value_view slots.now) slot) ≡ Some n → n < 256 → result ≡ n }
+{
+    let n = u64_at(slots, slot);
+    if n < 256 { n as u8 } else { 0 }
+}
+
+/// Whether the number that a slot's first member holds isn't 0.
+pub fn flag_at(slots: &[Entries], slot: usize) -> bool
+    ensures { (n : ℕ) → number_in (entries_in (value_view slots.now) slot) ≡ Some n → n < 2 → flag_number result ≡ n }
+{
+    u64_at(slots, slot) != 0
+}
+
+/// The bytes that a slot's first member holds, if it is a text or bytes.
+pub fn octets_at(slots: &[Entries], slot: usize) -> Option<&[u8]>
+    ensures { option_map (λ s. s.now) result ≡ octets_in (entries_in (value_view slots.now) slot) }
+{
+    match entries_at(slots, slot) {
+        [(_, element), ..] => element.as_octets(),
+        [] => None,
+    }
+}
+
+/// The message that a slot's first member holds, if it is one.
+pub fn message_at(slots: &[Entries], slot: usize) -> Option<&[Entries]>
+    ensures { option_map (λ v. value_view v.now) result ≡ message_in (entries_in (value_view slots.now) slot) }
+{
+    match entries_at(slots, slot) {
+        [(_, element), ..] => element.as_message(),
+        [] => None,
+    }
+}
+
+/// A copy of bytes, or of the bytes of a text, as what a member holds.
+pub fn copied(alloc: Global, bytes: &[u8]) -> Result<Element, AllocError>
+    ensures { IfOk result (λ element. view element ≡ octets bytes.now) }
+{
+    Ok(Element::Octets(Vec::from_slice(alloc, bytes)?))
+}
+
+/// A flag as what a member holds.
+pub fn flag(value: bool) -> Element
+    ensures { view result ≡ number (flag_number value) }
+{
+    Element::Number(if value { 1 } else { 0 })
+}
+
+/// A slot with one member.
+pub fn one(alloc: Global, number: u32, element: Element) -> Result<Entries, AllocError>
+    ensures { IfOk result (λ entries. entries_view entries.items ≡ (number, view element) ∷ []) }
+{
+    let mut entries = Vec::new(alloc);
+    entries.push((number, element))?;
+    Ok(entries)
+}

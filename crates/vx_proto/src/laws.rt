@@ -1,0 +1,30 @@
+//! What holds of the definitions of this crate, for each schema at once. A caller of these functions learns the laws.
+
+ghost use Rattle.std.specs.Prelude.{◌≡◌, ◌<◌, ◌≤◌, ◌^◌, ℕ, List, [], length, IsTrue};
+ghost use Rattle.vx_proto.specs.declared.error.ProtoError.{ProtoError as Refusal};
+ghost use Rattle.vx_proto.specs.Value.{Schema, Value};
+ghost use Rattle.vx_proto.specs.Reads.{Reads, Cause, default_value};
+ghost use Rattle.vx_proto.specs.Form.{HasForm};
+ghost use Rattle.vx_proto.specs.Written.{written, nested};
+ghost use Rattle.vx_proto.specs.Lawful.{is_lawful};
+
+/// At most one value is read from given bytes.
+pub fn one_value()
+    ensures { (s : Schema) (place : ℕ) (bytes : List ℕ) (v w : Value) → Reads s place bytes v → Reads s place bytes w → v ≡ w }
+{}
+
+/// Where the cause of a refusal stands, no value is read.
+pub fn caused_is_unread()
+    ensures { (s : Schema) (place : ℕ) (bytes : List ℕ) (v : Value) (e : Refusal) → Reads s place bytes v → Cause s 100 e place bytes → ⊥ }
+{}
+
+/// The written form of a value of a lawful schema reads as that value, and by [`one_value`] as no other, where at most 100
+/// messages nest in it and the form has fewer than 2^64 bytes.
+pub fn written_is_read()
+    ensures { (s : Schema) (place : ℕ) (v : Value) → IsTrue (is_lawful s) → HasForm s place v → nested v ≤ 100 → length (written s place v) < 2 ^ 64 → Reads s place (written s place v) v }
+{}
+
+/// No bytes read as the value of a message without fields: each plain member at its default, and nothing else.
+pub fn nothing_is_the_default()
+    ensures { (s : Schema) (place : ℕ) → Reads s place [] (default_value s place) }
+{}

@@ -1,0 +1,113 @@
+//! Messages of a schema, read and written by one pair of calls for all of them.
+
+ghost use Rattle.std.specs.Prelude.{◌≡◌, ◌<◌, ◌≤◌, ◌⊎◌, ℕ, IfOk, IfErr, OnOk, IsOk, IsErr, IsTrue, MatchResult};
+ghost use Rattle.vx_proto.specs.declared.error.ProtoError.{ProtoError as Refusal};
+ghost use Rattle.vx_proto.specs.declared.error.ProtoError.TheVariants.{OutOfMemory, TooDeep};
+ghost use Rattle.vx_proto.specs.Value.{Schema, Value, value_view, schema_view};
+ghost use Rattle.vx_proto.specs.Reads.{Reads, Cause, default_value};
+ghost use Rattle.vx_proto.specs.Form.{HasForm};
+ghost use Rattle.vx_proto.specs.Written.{written, nested};
+ghost use Rattle.vx_proto.specs.Lawful.{is_lawful};
+
+use crate::element::Entries;
+use crate::error::ProtoError;
+use crate::reading::message_of;
+use crate::schema::Schema as Lists;
+use crate::writing::{message_bytes, nests_within};
+use std::alloc::{AllocError, Global};
+
+/// At most so many messages nest, the root counted. Past it both calls answer `TooDeep`.
+const NESTED_MESSAGES: u8 = 100;
+
+/// A message of a schema. A type says its schema, its place there, and how its values and plain
+/// values go over into one another; `decode` and `encode_to_vec` are then proved for it.
+pub trait Message: Drop {
+    /// The messages of the schema, each as its list of slots.
+    ghost schema: { Schema };
+
+    /// Which of them this type is.
+    ghost place: { ℕ };
+
+    /// The plain value that a message shows.
+    ghost value: { Self → Value };
+
+    /// The numbers of a value lie in the ranges of their types. A type without signed numbers
+    /// need not say it.
+    ghost fits: { Self → Type 0 } = { λ _. Unit {0} };
+
+    /// The schema.
+    fn lists() -> Lists
+        ensures { schema_view result ≡ schema };
+
+    /// The place of this type's message among the schema's.
+    fn place_of() -> u32
+        ensures { result ≡ place };
+
+    /// The message whose fields all have their defaults. It takes no memory.
+    fn default(alloc: Global) -> Self
+        ensures { value result ≡ default_value schema place };
+
+    /// The message of a plain value.
+    fn from_value(alloc: Global, slots: &[Entries]) -> Result<Self, AllocError>
+        ensures same { HasForm schema place (value_view slots.now) → IfOk result (λ m. value m ≡ value_view slots.now) }
+        ensures in_range { IfOk result fits };
+
+    /// The plain value of this message.
+    fn to_value(&self, alloc: Global) -> Result<Vec<Entries>, AllocError>
+        ensures same { IfOk result (λ v. value_view v.items ≡ value self.now) }
+        ensures form { OnOk result (HasForm schema place (value self.now)) }
+        ensures in_range { OnOk result (fits self.now) };
+
+    /// The schema is lawful: a test, which `refl` proves of a schema that is written out.
+    ghost lawful: { IsTrue (is_lawful schema) };
+
+    /// Messages of one plain value are one message, by what contracts see of them.
+    ghost determined: { (m n : Self) → fits m → fits n → value m ≡ value n → m ≡ n };
+
+    /// The message that the bytes show.
+    final fn decode(alloc: Global, bytes: &[u8]) -> Result<Self, ProtoError>
+        // What is read is what the bytes show.
+        ensures found { IfOk result (λ m. Reads schema place bytes.now (value m)) }
+        // What they show is read, unless memory runs out.
+        ensures complete { (v : Value) → Reads schema place bytes.now v → MatchResult result (λ m. value m ≡ v) (λ e. e ≡ OutOfMemory) }
+        // Each refusal comes only where its cause stands.
+        ensures cause { IfErr result (λ e. (e ≡ OutOfMemory) ⊎ Cause schema 100 e place bytes.now) }
+        // Where a cause stands, there is a refusal.
+        ensures refused { (e : Refusal) → Cause schema 100 e place bytes.now → IsErr result }
+        ensures in_range { IfOk result fits }
+    {
+        let slots = message_of(
+            alloc,
+            Self::lists(),
+            NESTED_MESSAGES,
+            Self::place_of(),
+            bytes,
+        )?;
+        Ok(Self::from_value(alloc, &slots)?)
+    }
+
+    /// The bytes of the message.
+    final fn encode_to_vec(&self, alloc: Global) -> Result<Vec<u8>, ProtoError>
+        // What is written is the one written form.
+        ensures exact { IfOk result (λ bytes. bytes.items ≡ written schema place (value self.now)) }
+        // What is written shows the message.
+        ensures read { IfOk result (λ bytes. Reads schema place bytes.items (value self.now)) }
+        // It is refused exactly where messages nest too deep, unless memory runs out.
+        ensures nests { IsOk result → nested (value self.now) ≤ 100 }
+        ensures cause { IfErr result (λ e. (e ≡ OutOfMemory) ⊎ ((e ≡ TooDeep) × (100 < nested (value self.now)))) }
+    {
+        let slots = self.to_value(alloc)?;
+        if !nests_within(&slots, NESTED_MESSAGES) {
+            return Err(ProtoError::TooDeep);
+        }
+        Ok(message_bytes(alloc, Self::lists(), Self::place_of(), &slots)?)
+    }
+
+    /// A message with equal fields.
+    final fn clone(&self, alloc: Global) -> Result<Self, AllocError>
+        ensures { IfOk result (λ m. m ≡ self.now) }
+    {
+        let slots = self.to_value(alloc)?;
+        Self::from_value(alloc, &slots)
+    }
+}

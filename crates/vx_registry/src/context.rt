@@ -1,0 +1,120 @@
+ghost use Rattle.std.specs.Prelude.{◌≡◌, ◌≤◌, ◌<◌, [], length, true, false, None, Some, IfOk, IfNone, IfSome, OnErr, option_map, bytes_eq};
+ghost use Rattle.vx_registry.specs.Context.{interned, is_allowed, place_of};
+ghost use Rattle.std.specs.List.{list_any};
+
+use crate::error::RegistryError;
+use indexmap::IndexSet;
+use std::alloc::Global;
+use std::marker::Model;
+use vx_types::{Id, Ids};
+
+/// The identifiers that a written blob's nodes name by number, each once, in the order in which they came.
+#[derive(Drop)]
+pub struct ArrayContext {
+    ids: IndexSet<Id>,
+    allowed: Option<IndexSet<Id>>,
+    alloc: Global,
+}
+
+impl Model for ArrayContext {
+    ghost use Rattle.std.specs.Prelude.{option_map};
+    ghost use Rattle.vx_registry.specs.Context.{Context};
+
+    ghost Value = { Context };
+
+    ghost view = { λ c. record { ids = c.ids.keys; allowed = option_map (λ s. s.keys) c.allowed } };
+
+    ghost use Rattle.std.specs.Prelude.{◌≤◌, length};
+
+    ghost invariant = { λ c. length c.ids.keys ≤ 65536 };
+}
+
+impl ArrayContext {
+    /// A context with no identifier that allows all. It takes no memory.
+    pub fn empty(alloc: Global) -> ArrayContext
+        ensures ids { result.ids ≡ [] }
+        ensures allowed { result.allowed ≡ None }
+    {
+        ArrayContext {
+            ids: IndexSet::new(alloc),
+            allowed: None,
+            alloc,
+        }
+    }
+
+    /// The place of an identifier, which goes last if it is new. `None` exactly where it is not allowed, or
+    /// its place is not below 65,536; nothing has changed then, nor for want of memory.
+    pub fn intern(&mut self, id: &Id) -> Result<Option<u16>, RegistryError>
+        ensures interned { IfOk result (λ place. IfSome place (λ _. interned id.now self.old ≡ Some self.new)) }
+        ensures place { IfOk result (λ place. IfSome place (λ i. place_of id.now self.new.ids ≡ i)) }
+        ensures refused { IfOk result (λ place. IfNone place (interned id.now self.old ≡ None)) }
+        ensures none { IfOk result (λ place. IfNone place (self.new ≡ self.old)) }
+        ensures err { OnErr result (self.new ≡ self.old) }
+    {
+        if !is_allowed(&self.allowed, id) {
+            return Ok(None);
+        }
+        match self.ids.get_index_of(id) {
+            Some(index) => Ok(place(index)),
+            None => self.append(id),
+        }
+    }
+
+    /// What is known of each context: it has at most as many identifiers as nodes can name. Nothing runs; a
+    /// caller gets the fact.
+    pub fn hold(&self)
+        ensures { length self.now.ids ≤ 65536 }
+    {
+        let _ = &self.alloc;
+    }
+
+    // Puts a new identifier last.
+    fn append(&mut self, id: &Id) -> Result<Option<u16>, RegistryError>
+        requires allowed { is_allowed self.old.allowed id.now ≡ true }
+        requires new { list_any (bytes_eq id.now) self.old.ids ≡ false }
+        ensures interned { IfOk result (λ place. IfSome place (λ _. interned id.now self.old ≡ Some self.new)) }
+        ensures place { IfOk result (λ place. IfSome place (λ i. place_of id.now self.new.ids ≡ i)) }
+        ensures refused { IfOk result (λ place. IfNone place (interned id.now self.old ≡ None)) }
+        ensures none { IfOk result (λ place. IfNone place (self.new ≡ self.old)) }
+        ensures err { OnErr result (self.new ≡ self.old) }
+    {
+        let last = match place(self.ids.len()) {
+            Some(last) => last,
+            None => return Ok(None),
+        };
+        let id = id.clone(self.alloc)?;
+        self.ids.insert(id)?;
+        Ok(Some(last))
+    }
+
+    /// The identifiers by number.
+    pub fn to_ids(&self, alloc: Global) -> Result<Ids, RegistryError>
+        ensures { IfOk result (λ ids. ids ≡ self.now.ids) }
+    {
+        let mut ids = Ids::new(alloc);
+        for id in self.ids.iter() {
+            ids.push(id.clone(alloc)?)?;
+        }
+        Ok(ids)
+    }
+}
+
+// Whether an identifier is among those that may come, where they are limited.
+#[tactic(auto, using(crate::proofs::Interning::among))]
+fn is_allowed(allowed: &Option<IndexSet<Id>>, id: &Id) -> bool
+    ensures { result ≡ is_allowed (option_map (λ s. s.keys) allowed.now) id.now }
+{
+    match allowed {
+        None => true,
+        Some(allowed) => allowed.contains(id),
+    }
+}
+
+// A place as a number that a node can name.
+fn place(index: usize) -> Option<u16>
+    ensures some { IfSome result (λ place. place ≡ index) }
+    ensures small { IfSome result (λ _. index < 65536) }
+    ensures none { IfNone result (65536 ≤ index) }
+{
+    u16::try_from(index).ok()
+}

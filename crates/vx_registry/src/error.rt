@@ -1,0 +1,38 @@
+ghost use Rattle.std.specs.Prelude.{◌≡◌};
+ghost use Rattle.vx_registry.specs.declared.error.RegistryError.TheVariants.{OutOfMemory};
+
+use std::alloc::{AllocError, AllocFailed};
+use thiserror::Error;
+use vx_types::TypeError;
+
+/// Why a call on sessions and contexts was refused.
+#[derive(Clone, Copy, Debug, PartialEq, Eq, Error)]
+pub enum RegistryError {
+    /// Memory was wanted and not to be had.
+    #[error("out of memory")]
+    OutOfMemory,
+}
+
+impl From<AllocError> for RegistryError {
+    ghost from_gives = { λ _ e. e ≡ OutOfMemory };
+
+    fn from(_: AllocError) -> RegistryError {
+        RegistryError::OutOfMemory
+    }
+}
+
+impl<T: Drop> From<AllocFailed<T>> for RegistryError {
+    ghost from_gives = { λ _ e. e ≡ OutOfMemory };
+
+    fn from(_: AllocFailed<T>) -> RegistryError {
+        RegistryError::OutOfMemory
+    }
+}
+
+impl From<TypeError> for RegistryError {
+    ghost from_gives = { λ _ e. e ≡ OutOfMemory };
+
+    fn from(_: TypeError) -> RegistryError {
+        RegistryError::OutOfMemory
+    }
+}

@@ -1,0 +1,12 @@
+//! Which encodings a session reads and writes, and the numbered identifiers of a blob.
+#![tactic(auto)]
+
+mod context;
+mod error;
+mod read;
+mod session;
+
+pub use context::ArrayContext;
+pub use error::RegistryError;
+pub use read::ReadContext;
+pub use session::{ArraySession, VortexSession};

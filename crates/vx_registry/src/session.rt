@@ -1,0 +1,88 @@
+ghost use Rattle.std.specs.Prelude.{◌≡◌, [], Some, IfOk, option_map};
+ghost use Rattle.vx_registry.specs.Session.{shipped, registry_meaning, shipped_registry, IsPaired};
+
+use crate::error::RegistryError;
+use indexmap::IndexMap;
+use std::alloc::Global;
+use std::marker::Model;
+use vx_encodings::Encoding;
+use vx_types::Id;
+
+/// Which encodings read and write arrays, each by its identifier.
+#[derive(Drop)]
+pub struct ArraySession {
+    readers: IndexMap<Id, Encoding>,
+    writers: IndexMap<Id, Encoding>,
+}
+
+impl Model for ArraySession {
+    ghost use Rattle.vx_registry.specs.Session.{Registry, registry_meaning, IsPaired};
+
+    ghost Value = { Registry };
+
+    ghost view = { λ s. record { readers = s.readers.entries; writers = s.writers.entries } };
+
+    ghost invariant = { λ s. IsPaired (registry_meaning (record { readers = s.readers.entries; writers = s.writers.entries })) };
+}
+
+impl ArraySession {
+    /// A session that reads and writes nothing.
+    pub fn empty(alloc: Global) -> ArraySession
+        ensures readers { result.readers ≡ [] }
+        ensures writers { result.writers ≡ [] }
+    {
+        ArraySession {
+            readers: IndexMap::new(alloc),
+            writers: IndexMap::new(alloc),
+        }
+    }
+
+    /// A session of the shipped encodings.
+    pub fn default(alloc: Global) -> Result<ArraySession, RegistryError>
+        ensures { IfOk result (λ s. s ≡ shipped_registry) }
+    {
+        let mut readers = IndexMap::new(alloc);
+        let mut writers = IndexMap::new(alloc);
+        let encoding = Encoding::Primitive;
+        readers.insert(Id::new(alloc, encoding.id())?, encoding)?;
+        writers.insert(Id::new(alloc, encoding.id())?, encoding)?;
+        Ok(ArraySession { readers, writers })
+    }
+
+    /// What is known of each session: what reads is written under its own identifier, and what is written
+    /// is read by the encoding that wrote it. Nothing runs; a caller gets the fact.
+    pub fn hold(&self)
+        ensures { IsPaired (registry_meaning self.now) }
+    {
+        let _ = &self.readers;
+    }
+
+    /// What reads the arrays of this identifier: `None` where it is not registered.
+    pub fn reader(&self, id: &Id) -> Option<Encoding>
+        ensures { option_map shipped result ≡ (registry_meaning self.now).reader id.now }
+    {
+        self.readers.get(id).copied()
+    }
+
+    /// What writes the arrays of this identifier.
+    pub fn writer(&self, id: &Id) -> Option<Encoding>
+        ensures { option_map shipped result ≡ (registry_meaning self.now).writer id.now }
+    {
+        self.writers.get(id).copied()
+    }
+}
+
+/// What arrays are read and written by.
+#[derive(Drop)]
+pub struct VortexSession {
+    /// The encodings.
+    pub arrays: ArraySession,
+}
+
+impl VortexSession {
+    pub fn new(arrays: ArraySession) -> VortexSession
+        ensures { result.arrays ≡ arrays }
+    {
+        VortexSession { arrays }
+    }
+}

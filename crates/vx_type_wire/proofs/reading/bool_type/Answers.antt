@@ -1,0 +1,6 @@
+use Rattle.vx_type_wire.proofs.Tables.{no_bool}
+use Rattle.std.proofs.Common.{arith}
+use Rattle.vx_type_wire.proofs.reading.bool_type.Goals as goal
+
+pub returns-in_default-2-clause-none : goal.returns-in_default-2-clause-none
+returns-in_default-2-clause-none c = no_bool _ (λ e. omega (arith, e, c.in_default.len_at_least))
