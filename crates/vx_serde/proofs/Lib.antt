@@ -1,5 +1,10 @@
 pub mod Pieces
 pub mod PartViews
+pub mod Growing
+pub mod NumberedTables
+pub mod PlacedData
+pub mod WalkedNodes
+pub mod GrownNodes
 pub mod Descriptions
 pub mod NodeParts
 pub mod Refusing
