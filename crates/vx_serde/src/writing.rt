@@ -1,6 +1,6 @@
 //! Wire trees as blobs.
 
-ghost use Rattle.std.specs.Prelude.{◌≡◌, ◌+◌, ◌≤◌, ◌<◌, ◌-◌, ◌^◌, ◌++◌, [], ◌∷◌, Some, false, length, IfOk, IfErr, OnOk};
+ghost use Rattle.std.specs.Prelude.{◌≡◌, ◌+◌, ◌≤◌, ◌<◌, ◌-◌, ◌^◌, ◌++◌, [], ◌∷◌, Some, false, IsTrue, IsFalse, length, IfOk, IfErr, OnOk};
 ghost use Rattle.std.specs.Int.{w32, to_le_bytes};
 ghost use Rattle.vx_flat.specs.IsOf.{IsOf};
 ghost use Rattle.vx_flat.specs.Layout.{layout};
@@ -121,6 +121,17 @@ fn place(
     Ok((buffers, placed))
 }
 
+/// Whether a blob ends within the positions of 64 bits: the position where its data ends, the
+/// pad in front of its message, and the message's length are given.
+fn has_end(end: usize, padding: usize, message: usize) -> bool
+    requires pad { padding < 2 ^ 16 }
+    requires short { message < 2 ^ 31 }
+    ensures within { IsTrue result → end + (padding + message + 4) < 2 ^ 64 }
+    ensures late { IsFalse result → 2 ^ 64 ≤ end + (padding + message + 4) }
+{
+    end.checked_add(padding + message + 4).is_some()
+}
+
 /// Writes a wire tree: the buffers, one after the other, are its blob.
 pub(crate) fn write_wire(
     alloc: Global,
@@ -141,7 +152,7 @@ pub(crate) fn write_wire(
     let value = message_table(alloc, root, placed.descriptors)?;
     let message = message_bytes(alloc, &value)?;
     let padding = pad_at(options, 3, placed.end);
-    if placed.end.checked_add(padding + message.len() + 4).is_none() {
+    if !has_end(placed.end, padding, message.len()) {
         return Err(WireError::WireLimit);
     }
     Ok(blob_buffers(
