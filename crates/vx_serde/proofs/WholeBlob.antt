@@ -33,8 +33,8 @@ pub message-is : (ids : List (List ℕ)) (o : SerializeOptions) (w : Wire) (root
     → ((more : List (List ℕ)) → root ≡ node_value (numbered (ids ++ more) 0 w)) → ds ≡ descriptors_bytes (descriptors_from o o.offset (buffers_in w)) → layout false array_schema value ≡ message_bytes ids o w
 message-is ids o w root value ds p q r =
     let whole : value ≡ message_value (numbered ids 0 w) (descriptors_from o o.offset (buffers_in w)) =
-        p ∙ ap (λ v. field (table v) (field (elements ds) no_fields)) (q []) ∙ ap (λ z. field (table (node_value (numbered z 0 w))) (field (elements ds) no_fields)) (append-nil ids)
-        ∙ ap (λ bs. field (table (node_value (numbered ids 0 w))) (field (elements bs) no_fields)) r in
+    p ∙ ap (λ v. field (table v) (field (elements ds) no_fields)) (q []) ∙ ap (λ z. field (table (node_value (numbered z 0 w))) (field (elements ds) no_fields)) (append-nil ids)
+    ∙ ap (λ bs. field (table (node_value (numbered ids 0 w))) (field (elements bs) no_fields)) r in
     ap (λ v. layout false array_schema v) whole
 
 -- a descriptor's struct has eight bytes
@@ -60,8 +60,15 @@ length-blob ids o w =
     let front = data_from o o.offset (buffers_in w) in
     let message = message_bytes ids o w in
     let word = to_le_bytes w32 (length message) in
-    omega (arith, length-data o o.offset (buffers_in w), length-append front (replicate (message_pad o w) 0 ++ (message ++ word)), length-append (replicate (message_pad o w) 0) (message ++ word),
-        length-append message word, length-replicate {A = ℕ} (message_pad o w) 0, length-word (length message))
+    omega (
+      arith,
+      length-data o o.offset (buffers_in w),
+      length-append front (replicate (message_pad o w) 0 ++ (message ++ word)),
+      length-append (replicate (message_pad o w) 0) (message ++ word),
+      length-append message word,
+      length-replicate {A = ℕ} (message_pad o w) 0,
+      length-word (length message),
+    )
 
 -- ---- limits
 

@@ -13,7 +13,6 @@ mod options;
 mod placing;
 mod tree;
 mod writing;
-
 #[cfg(test)]
 mod writing_tests;
 

@@ -25,12 +25,14 @@ use crate::error::WireError;
 use crate::limits::{MAX_BUFFERS, MAX_LEVELS, are_describable, has_levels_within};
 use crate::numbering::tree_table;
 use crate::options::SerializeOptions;
-use crate::placing::{Placed, describe, greatest_alignment, pad_at, push_buffers, push_data, push_pad};
+use crate::placing::{
+    Placed, describe, greatest_alignment, pad_at, push_buffers, push_data, push_pad,
+};
 use crate::tree::WireNode;
 use std::alloc::{AllocError, Global};
 use vx_buffer::{BufferError, BufferHandle, BufferHandles, ByteBuffer, ByteBuffers};
 use vx_flat::laws::layout_is_shown;
-use vx_flat::{FlatError, FieldValue, TableValue, read_value, write_value};
+use vx_flat::{FieldValue, FlatError, TableValue, read_value, write_value};
 use vx_registry::ArrayContext;
 
 /// The value of an array message: a root node and descriptors.
@@ -155,11 +157,5 @@ pub(crate) fn write_wire(
     if !has_end(placed.end, padding, message.len()) {
         return Err(WireError::WireLimit);
     }
-    Ok(blob_buffers(
-        alloc,
-        options,
-        buffers.as_slice(),
-        padding,
-        message,
-    )?)
+    Ok(blob_buffers(alloc, options, buffers.as_slice(), padding, message)?)
 }
