@@ -16,3 +16,8 @@ pub mod NumberedRead
 pub mod Carried
 pub mod CarriedOnce
 pub mod GrownPlaced
+pub mod TreesWired
+pub mod Openings
+pub mod OneArray
+pub mod GrownIds
+pub mod WrittenAgain

@@ -71,7 +71,7 @@ places-snoc us vs u ps i p e g d n q =
 pub all_matched : (s : SessionMeaning) (ws : List Wire) (us : Trees) (i : ℕ) → length ws ≤ i → AllMatch s (roses_of (take i ws)) us → AllMatch s (roses_of ws) us
 all_matched s ws us i h m = rw (take_all i ws h) at m
 
-of_reader : (r : Option Reader) (e : Encoding) (w : WireHead) (t : Tree) (B : Trees → Type 0) → r ≡ Some (shipped e) → IsShippedNode e w t B → IsNodeBy r w t B
+pub of_reader : (r : Option Reader) (e : Encoding) (w : WireHead) (t : Tree) (B : Trees → Type 0) → r ≡ Some (shipped e) → IsShippedNode e w t B → IsNodeBy r w t B
 of_reader r e w t B p m = let P : Option Reader → Type 0 = λ r. IsNodeBy r w t B in subst P (sym p) m
 
 matches_node : (s : SessionMeaning) (w : Wire) (t : Tree) (id : List ℕ) → (label w).id ≡ Some id → IsNodeBy (s.reader id) (label w) t (λ us. AllMatch s (below w) us) → Matches s w t

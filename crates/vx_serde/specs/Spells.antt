@@ -57,7 +57,7 @@ canon t = t
 -- A list with identifiers at its end, each once and only where it is new.
 abbrev pub with_ids : List (List ℕ) → List (List ℕ) → List (List ℕ)
 with_ids ids [] = ids
-with_ids ids (id ∷ others) = with_ids (with_id ids id) others
+with_ids ids (id ∷ others) = with_ids (with_id id ids) others
 
 -- The identifiers by which an array is written that is written under a context.
 abbrev pub ids_after : SessionMeaning → Tree → Context → List (List ℕ)

@@ -11,7 +11,9 @@ mod numbering;
 mod opening;
 mod options;
 mod placing;
+mod recoding;
 mod tree;
+mod wiring;
 mod writing;
 #[cfg(test)]
 mod writing_tests;
@@ -20,3 +22,4 @@ pub use array_kind::ArrayKind;
 pub use error::WireError;
 pub use message::Descriptor;
 pub use options::SerializeOptions;
+pub use recoding::{Recoded, recode};
