@@ -5,6 +5,7 @@ pub mod NumberedTables
 pub mod PlacedData
 pub mod WalkedNodes
 pub mod GrownNodes
+pub mod WholeBlob
 pub mod Descriptions
 pub mod NodeParts
 pub mod Refusing
@@ -20,3 +21,4 @@ pub mod Openings
 pub mod OneArray
 pub mod GrownIds
 pub mod WrittenAgain
+pub mod Recodings
