@@ -68,6 +68,26 @@ fn table_spot(
     }
 }
 
+/// Where a block of `size` bytes goes that is no table's.
+fn plain_spot(start: usize, size: usize) -> Spot
+    requires { start + size < 2 ^ 64 }
+    ensures value { result ≡ record {
+      start = start;
+      aim = start;
+      end = start + size;
+      fields = 0;
+      is_own = true;
+    } }
+{
+    Spot {
+        start,
+        aim: start,
+        end: start + size,
+        fields: 0,
+        is_own: true,
+    }
+}
+
 /// How many bytes a vector of offsets has.
 fn links_size(links: &[usize]) -> usize
     ensures value { result ≡ 4 + 4 * length links.now }
@@ -89,27 +109,9 @@ fn spot_of(
 {
     match block {
         Block::Table(cells) => table_spot(alloc, known, start, cells),
-        Block::Elements(_, bytes) => Ok(Spot {
-            start,
-            aim: start,
-            end: start + (4 + bytes.len()),
-            fields: 0,
-            is_own: true,
-        }),
-        Block::Links(links) => Ok(Spot {
-            start,
-            aim: start,
-            end: start + links_size(links),
-            fields: 0,
-            is_own: true,
-        }),
-        Block::Text(bytes) => Ok(Spot {
-            start,
-            aim: start,
-            end: start + (5 + bytes.len()),
-            fields: 0,
-            is_own: true,
-        }),
+        Block::Elements(_, bytes) => Ok(plain_spot(start, 4 + bytes.len())),
+        Block::Links(links) => Ok(plain_spot(start, links_size(links))),
+        Block::Text(bytes) => Ok(plain_spot(start, 5 + bytes.len())),
     }
 }
 
