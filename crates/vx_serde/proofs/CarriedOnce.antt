@@ -20,7 +20,7 @@ fronts a b c d e h =
     let n : length a ≡ length c = omega (arith, ap length e, length-append a b, length-append c d, h) in
     sym (take-append_seam a b) ∙ ap (λ s. take (length a) s) e ∙ ap (λ n. take n (c ++ d)) n ∙ take-append_seam c d
 
-backs : (a b c d : List ℕ) → a ++ b ≡ c ++ d → length b ≡ length d → b ≡ d
+pub backs : (a b c d : List ℕ) → a ++ b ≡ c ++ d → length b ≡ length d → b ≡ d
 backs a b c d e h =
     let n : length a ≡ length c = omega (arith, ap length e, length-append a b, length-append c d, h) in
     sym (drop-append_seam a b) ∙ ap (λ s. drop (length a) s) e ∙ ap (λ n. drop n (c ++ d)) n ∙ drop-append_seam c d

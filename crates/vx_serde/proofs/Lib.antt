@@ -22,3 +22,4 @@ pub mod OneArray
 pub mod GrownIds
 pub mod WrittenAgain
 pub mod Recodings
+pub mod NeverCaused

@@ -1,19 +1,24 @@
 //! What holds of the definitions of this crate. A caller of these functions learns the laws.
 
-ghost use Rattle.std.specs.Prelude.{◌≡◌, ℕ, List, Some, ◌≤◌, length, slice_get, All};
+ghost use Rattle.std.specs.Prelude.{◌≡◌, ℕ, List, Some, ◌≤◌, length, slice_get, All, IsSome};
 ghost use Rattle.vx_serde.specs.declared.options.SerializeOptions.{SerializeOptions};
 ghost use Rattle.vx_serde.specs.Message.{message_of};
 ghost use Rattle.vx_serde.specs.Wire.{Wire, IsClean};
 ghost use Rattle.vx_serde.specs.Blob.{Carries, AreClean};
 ghost use Rattle.vx_serde.specs.Numbered.{ids_in, index_of};
 ghost use Rattle.vx_serde.specs.Written.{blob_bytes, IsWritable};
-ghost use Rattle.vx_serde.specs.Spells.{Spells, canon, blob_of, KeepsWriterLimits};
+ghost use Rattle.vx_serde.specs.declared.error.WireError.{WireError};
+ghost use Rattle.vx_serde.specs.Causes.{Call, IsCaused};
+ghost use Rattle.vx_serde.specs.Spells.{Spells, canon, blob_of, KeepsReaderLimits, KeepsWriterLimits};
 ghost use Rattle.vx_types.specs.Typ.{Typ};
 ghost use Rattle.vx_arrays.specs.Tree.{Tree};
 ghost use Rattle.vx_registry.specs.Context.{Context, grown};
 ghost use Rattle.vx_registry.specs.Session.{SessionMeaning, IsPaired};
 
-use vx_encodings::laws::{body_law, id_law, one_value_law, plan_law, read_back_law};
+use crate::error::WireError;
+use vx_encodings::laws::{
+    body_law, fair_law, id_law, one_value_law, plan_law, read_back_law, shape_law,
+};
 use vx_flat::laws::{layout_is_shown, one_value};
 
 /// A blob carries at most one wire tree, beside one list of identifiers.
@@ -52,4 +57,17 @@ pub fn written_is_spelled()
     id_law();
     read_back_law();
     written_is_carried();
+}
+
+/// Where a blob spells an array, the limits hold and the context can grow, no refusal but want of memory has a cause.
+pub fn never_caused()
+    ensures { (c : Call) (t : Tree) → Spells c.blob c.ids c.dtype c.len c.session t → KeepsReaderLimits c.blob → KeepsWriterLimits c.session t c.context c.options
+        → IsSome (grown c.context t) → (e : WireError) → IsCaused c e → e ≡ WireError.OutOfMemory }
+{
+    one_value();
+    one_array();
+    plan_law();
+    one_value_law();
+    fair_law();
+    shape_law();
 }
