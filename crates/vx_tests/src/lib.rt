@@ -1,0 +1,11 @@
+//! Worked rows, and tests that cross crates: the program over files in memory and over real ones, and blobs of every
+//! kind of number.
+#![tactic(auto)]
+
+pub mod files;
+pub mod laws;
+
+#[cfg(test)]
+mod blobs;
+#[cfg(test)]
+mod program;
