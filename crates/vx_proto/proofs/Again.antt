@@ -10,18 +10,18 @@ use Rattle.vx_proto.specs.declared.schema.Rule.{Rule}
 use Rattle.vx_proto.specs.declared.schema.Rule.TheVariants.{Plain, Optional, Single, Repeated}
 use Rattle.vx_proto.specs.declared.schema.Member.{Member}
 use Rattle.vx_proto.specs.Wire.{Part, varint, eight, delimited, four, Field, wire_type, SpellsPart, SpellsField, Spells}
-use Rattle.vx_proto.specs.Value.{Elem, number, octets, Entry, Value, entries_of, slots_of, Slot, Schema}
-use Rattle.vx_proto.specs.Reads.{list_at, default_in, default_of, last_of, kind_in, has, kind_of, ShowsElem, ShowsEntries, ShowsSlots, Keeps, ReadsWithin}
-use Rattle.vx_proto.specs.Form.{FormElem, FormEntries, FormCount, FormSlots, FormWithin, IsPlainDefault, IsLawfulSlot, IsLawfulList}
-use Rattle.vx_proto.specs.Written.{varint_bytes, wire_of, member_kind, is_left_out, field_bytes, written_elem, written_slots, written_entries, written}
+use Rattle.vx_proto.specs.Value.{Content, number, octets, Entry, Value, entries_of, slots_of, Slot, Schema}
+use Rattle.vx_proto.specs.Reads.{list_at, default_in, default_of, last_of, kind_in, has, kind_of, ShowsContent, ShowsEntries, ShowsSlots, Keeps, ReadsWithin}
+use Rattle.vx_proto.specs.Form.{FormContent, FormEntries, FormCount, FormSlots, FormWithin, IsPlainDefault, IsLawfulSlot, IsLawfulList}
+use Rattle.vx_proto.specs.Written.{varint_bytes, wire_of, member_kind, is_left_out, field_bytes, written_content, written_slots, written_entries, written}
 use Rattle.vx_proto.proofs.Spelled.{varint_spelled, counted_spelled, counted_long, field_spelled}
 
 -- the part that is written of an element
-pub record PartOf (schema : Schema) (R : ℕ → List ℕ → Value → Type 0) (k : Kind) (e : Elem) : Type 0 where
+pub record PartOf (schema : Schema) (R : ℕ → List ℕ → Value → Type 0) (k : Kind) (e : Content) : Type 0 where
   pub part : Part
-  pub spelled : SpellsPart (written_elem schema k e) part
+  pub spelled : SpellsPart (written_content schema k e) part
   pub wire : wire_type part ≡ wire_of k
-  pub shows : ShowsElem R k part e
+  pub shows : ShowsContent R k part e
 
 abbrev pub Back : Schema → (ℕ → List ℕ → Value → Type 0) → (ℕ → Value → Type 0) → Type 0
 Back schema R F = (m : ℕ) (v : Value) → F m v → length (written schema m v) < 2 ^ 64 → R m (written schema m v) v
@@ -31,8 +31,8 @@ flag_same zero lt = refl
 flag_same (suc zero) lt = refl
 flag_same (suc (suc n)) lt = absurd (omega arith)
 
-pub part_of : (schema : Schema) (R : ℕ → List ℕ → Value → Type 0) (F : ℕ → Value → Type 0) (k : Kind) (e : Elem) → Back schema R F → ((l : ℕ) → k ≡ Below l → l ≤ 2 ^ 64)
-    → FormElem F k e → length (written_elem schema k e) < 2 ^ 64 → PartOf schema R k e
+pub part_of : (schema : Schema) (R : ℕ → List ℕ → Value → Type 0) (F : ℕ → Value → Type 0) (k : Kind) (e : Content) → Back schema R F → ((l : ℕ) → k ≡ Below l → l ≤ 2 ^ 64)
+    → FormContent F k e → length (written_content schema k e) < 2 ^ 64 → PartOf schema R k e
 unfolding written
 part_of schema R F (Below limit) e h fits f lt = subst (PartOf schema R (Below limit)) (sym f.1) (record { part = varint f.0; spelled = varint_spelled f.0 (omega (arith, f.2, fits limit refl)); wire = refl; shows = (f.0, refl, f.2, refl) })
 part_of schema R F Whole e h fits f lt = subst (PartOf schema R Whole) (sym f.1) (record { part = varint f.0; spelled = varint_spelled f.0 f.2; wire = refl; shows = (f.0, refl, refl) })
@@ -40,9 +40,9 @@ part_of schema R F Signed32 e h fits f lt = subst (PartOf schema R Signed32) (sy
 part_of schema R F Flag e h fits f lt = subst (PartOf schema R Flag) (sym f.1) (record { part = varint f.0; spelled = varint_spelled f.0 (omega (arith, f.2)); wire = refl; shows = (f.0, refl, flag_same f.0 f.2) })
 part_of schema R F Fixed32 e h fits f lt = subst (PartOf schema R Fixed32) (sym f.1) (record { part = four f.0; spelled = (refl, sym (from_le_bytes-to_le_bytes_4 f.0 f.2)); wire = refl; shows = (f.0, refl, refl) })
 part_of schema R F Fixed64 e h fits f lt = subst (PartOf schema R Fixed64) (sym f.1) (record { part = eight f.0; spelled = (refl, sym (from_le_bytes-to_le_bytes_8 f.0 f.2)); wire = refl; shows = (f.0, refl, refl) })
-part_of schema R F Text e h fits f lt = subst (λ x. length (written_elem schema Text x) < 2 ^ 64 → PartOf schema R Text x) (sym f.1) (λ l. record { part = delimited f.0; spelled = counted_spelled f.0 (omega (arith, l, counted_long f.0)); wire = refl; shows = (f.0, refl, f.2, refl) }) lt
-part_of schema R F Bytes e h fits f lt = subst (λ x. length (written_elem schema Bytes x) < 2 ^ 64 → PartOf schema R Bytes x) (sym f.1) (λ l. record { part = delimited f.0; spelled = counted_spelled f.0 (omega (arith, l, counted_long f.0)); wire = refl; shows = (f.0, refl, refl) }) lt
-part_of schema R F (Inner m) e h fits f lt = subst (λ x. length (written_elem schema (Inner m) x) < 2 ^ 64 → PartOf schema R (Inner m) x) (sym f.1) (λ l.
+part_of schema R F Text e h fits f lt = subst (λ x. length (written_content schema Text x) < 2 ^ 64 → PartOf schema R Text x) (sym f.1) (λ l. record { part = delimited f.0; spelled = counted_spelled f.0 (omega (arith, l, counted_long f.0)); wire = refl; shows = (f.0, refl, f.2, refl) }) lt
+part_of schema R F Bytes e h fits f lt = subst (λ x. length (written_content schema Bytes x) < 2 ^ 64 → PartOf schema R Bytes x) (sym f.1) (λ l. record { part = delimited f.0; spelled = counted_spelled f.0 (omega (arith, l, counted_long f.0)); wire = refl; shows = (f.0, refl, refl) }) lt
+part_of schema R F (Inner m) e h fits f lt = subst (λ x. length (written_content schema (Inner m) x) < 2 ^ 64 → PartOf schema R (Inner m) x) (sym f.1) (λ l.
     let inner = written_slots schema (list_at schema m) (slots_of f.0) in
     let small : length inner < 2 ^ 64 = omega (arith, l, counted_long inner) in
     record { part = delimited inner; spelled = counted_spelled inner small; wire = refl; shows = (inner, f.0, refl, h m f.0 f.2 small, refl) }) lt
@@ -67,12 +67,12 @@ pub record Placed (list : List Slot) (members : List Member) : Type 0 where
 
 -- one member, and then more
 one_more : (schema : Schema) (R : ℕ → List ℕ → Value → Type 0) (F : ℕ → Value → Type 0) (list : List Slot) (members : List Member) (x : Entry) (k j : Kind) (more : List ℕ) (rest : List Entry)
-    → Back schema R F → Placed list members → kind_in members x.0 ≡ Some k → FormElem F k x.1 → j ≡ k
-    → length (field_bytes j x.0 (written_elem schema j x.1) ++ more) < 2 ^ 64 → (length more < 2 ^ 64 → Shown R list more rest)
-    → Shown R list (field_bytes j x.0 (written_elem schema j x.1) ++ more) (x ∷ rest)
+    → Back schema R F → Placed list members → kind_in members x.0 ≡ Some k → FormContent F k x.1 → j ≡ k
+    → length (field_bytes j x.0 (written_content schema j x.1) ++ more) < 2 ^ 64 → (length more < 2 ^ 64 → Shown R list more rest)
+    → Shown R list (field_bytes j x.0 (written_content schema j x.1) ++ more) (x ∷ rest)
 one_more schema R F list members x k j more rest h p has f same lt ih =
-    subst (λ i. length (field_bytes i x.0 (written_elem schema i x.1) ++ more) < 2 ^ 64 → Shown R list (field_bytes i x.0 (written_elem schema i x.1) ++ more) (x ∷ rest)) (sym same) (λ l.
-    let body = written_elem schema k x.1 in
+    subst (λ i. length (field_bytes i x.0 (written_content schema i x.1) ++ more) < 2 ^ 64 → Shown R list (field_bytes i x.0 (written_content schema i x.1) ++ more) (x ∷ rest)) (sym same) (λ l.
+    let body = written_content schema k x.1 in
     let front = field_bytes k x.0 body in
     let l1 = length-append front more in
     let l2 = length-append (varint_bytes (8 * x.0 + wire_of k)) body in
@@ -92,9 +92,9 @@ entries_shown schema R F list s [] h p f lt = record { fields = []; spelled = re
 entries_shown schema R F list s (x ∷ xs) h p f lt =
     go (is_left_out s.rule x.1) lt (λ l. entries_shown schema R F list s xs h p f.1 l)
   where
-    go : (b : Bool) → length (cond b [] (field_bytes (member_kind s.members x.0) x.0 (written_elem schema (member_kind s.members x.0) x.1)) ++ written_entries schema s (entries_of xs)) < 2 ^ 64
+    go : (b : Bool) → length (cond b [] (field_bytes (member_kind s.members x.0) x.0 (written_content schema (member_kind s.members x.0) x.1)) ++ written_entries schema s (entries_of xs)) < 2 ^ 64
         → (length (written_entries schema s (entries_of xs)) < 2 ^ 64 → Shown R list (written_entries schema s (entries_of xs)) (stays s.rule xs))
-        → Shown R list (cond b [] (field_bytes (member_kind s.members x.0) x.0 (written_elem schema (member_kind s.members x.0) x.1)) ++ written_entries schema s (entries_of xs)) (cond (not b) (x ∷ stays s.rule xs) (stays s.rule xs))
+        → Shown R list (cond b [] (field_bytes (member_kind s.members x.0) x.0 (written_content schema (member_kind s.members x.0) x.1)) ++ written_entries schema s (entries_of xs)) (cond (not b) (x ∷ stays s.rule xs) (stays s.rule xs))
     go true l ih = ih l
     go false l ih = one_more schema R F list s.members x f.0.0 (member_kind s.members x.0) (written_entries schema s (entries_of xs)) (stays s.rule xs) h p f.0.1 f.0.2 (ap (λ o. unwrap_or o Whole) f.0.1) l ih
 
@@ -107,7 +107,7 @@ nil_is : (s : List ℕ) → eqb (length s) 0 ≡ true → octets s ≡ octets []
 nil_is s e = ap octets (nil_from_length s (eqb-true (length s) 0 e))
 
 -- what is left out is the default
-default_is : (F : ℕ → Value → Type 0) (k : Kind) (e : Elem) → FormElem F k e → is_left_out Plain e ≡ true → ((m : ℕ) → k ≡ Inner m → ⊥) → e ≡ default_in k
+default_is : (F : ℕ → Value → Type 0) (k : Kind) (e : Content) → FormContent F k e → is_left_out Plain e ≡ true → ((m : ℕ) → k ≡ Inner m → ⊥) → e ≡ default_in k
 default_is F (Below limit) e f h no_message = f.1 ∙ zero_is f.0 (sym (ap (is_left_out Plain) f.1) ∙ h)
 default_is F Whole e f h no_message = f.1 ∙ zero_is f.0 (sym (ap (is_left_out Plain) f.1) ∙ h)
 default_is F Signed32 e f h no_message = f.1 ∙ zero_is f.0 (sym (ap (is_left_out Plain) f.1) ∙ h)
@@ -125,11 +125,11 @@ one_kind m n k h = go (eqb m.number n) refl h
     go true e q = (eqb-true m.number n e, cc)
     go false e q = absurd cc
 
-plain_default : (F : ℕ → Value → Type 0) (members : List Member) (x : Entry) (k : Kind) → IsPlainDefault members → kind_in members x.0 ≡ Some k → FormElem F k x.1 → is_left_out Plain x.1 ≡ true → x ∷ [] ≡ default_of members
+plain_default : (F : ℕ → Value → Type 0) (members : List Member) (x : Entry) (k : Kind) → IsPlainDefault members → kind_in members x.0 ≡ Some k → FormContent F k x.1 → is_left_out Plain x.1 ≡ true → x ∷ [] ≡ default_of members
 plain_default F members x k d has f out =
     let w = one_kind d.member x.0 k (sym (ap (λ ms. kind_in ms x.0) d.one) ∙ has) in
     let e : x.1 ≡ default_in d.member.kind = default_is F k x.1 f out (λ m z. d.simple m (w.1 ∙ z)) ∙ ap default_in (sym w.1) in
-    ap (λ (n : ℕ). (n, x.1) ∷ []) (sym w.0) ∙ ap (λ (t : Elem). (d.member.number, t) ∷ []) e ∙ ap default_of (sym d.one)
+    ap (λ (n : ℕ). (n, x.1) ∷ []) (sym w.0) ∙ ap (λ (t : Content). (d.member.number, t) ∷ []) e ∙ ap default_of (sym d.one)
 
 pub kept_again : (F : ℕ → Value → Type 0) (r : Rule) (members : List Member) (es : List Entry) → (r ≡ Plain → IsPlainDefault members) → FormCount r es → FormEntries F members es → Keeps r members (stays r es) es
 kept_again F Plain members [] d c f = absurd (omega (arith, c))

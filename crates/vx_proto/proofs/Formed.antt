@@ -10,10 +10,9 @@ use Rattle.vx_proto.specs.declared.schema.Rule.{Rule}
 use Rattle.vx_proto.specs.declared.schema.Rule.TheVariants.{Plain, Optional, Single, Repeated}
 use Rattle.vx_proto.specs.declared.schema.Member.{Member}
 use Rattle.vx_proto.specs.Wire.{SpellsNumber, Part, eight, delimited, four, Field, SpellsPart, Spells}
-use Rattle.vx_proto.specs.Value.{Elem, Entry, Value, entries_of, slots_of, Slot, Schema}
-use Rattle.vx_proto.specs.Reads.{list_at, default_in, default_of, last_of, kind_in, has, kind_of, ShowsElem, ShowsEntries, ShowsSlots, Keeps, ReadsWithin}
-use Rattle.vx_proto.specs.Form.{FormElem, FormEntries, FormCount, FormSlots, FormWithin, IsPlainDefault, IsLawfulList}
-use Rattle.vx_proto.specs.Written.{elem_depth, entries_depth, slots_depth, nested}
+use Rattle.vx_proto.specs.Value.{Content, Entry, Value, entries_of, slots_of, Slot, Schema}
+use Rattle.vx_proto.specs.Reads.{list_at, default_in, default_of, last_of, kind_in, has, kind_of, ShowsContent, ShowsEntries, ShowsSlots, Keeps, ReadsWithin}
+use Rattle.vx_proto.specs.Form.{FormContent, FormEntries, FormCount, FormSlots, FormWithin, IsPlainDefault, IsLawfulList}
 
 abbrev pub AreBytes : List ℕ → Type 0
 AreBytes [] = Unit {0}
@@ -52,7 +51,7 @@ flag_small n = go (eqb n 0)
     go true = omega arith
     go false = omega arith
 
-part_form : (R : ℕ → List ℕ → Value → Type 0) (F : ℕ → Value → Type 0) (k : Kind) (p : Part) (e : Elem) (body : List ℕ) → Formed R F → ShowsElem R k p e → SpellsPart body p → AreBytes body → FormElem F k e
+part_form : (R : ℕ → List ℕ → Value → Type 0) (F : ℕ → Value → Type 0) (k : Kind) (p : Part) (e : Content) (body : List ℕ) → Formed R F → ShowsContent R k p e → SpellsPart body p → AreBytes body → FormContent F k e
 part_form R F (Below limit) p e body h s w b = (s.0, s.3, s.2)
 part_form R F Whole p e body h s w b = let t : SpellsNumber body s.0 = subst (SpellsPart body) s.1 w in (s.0, s.2, t.fits)
 part_form R F Signed32 p e body h s w b = let t : SpellsNumber body s.0 = subst (SpellsPart body) s.1 w in (s.0, s.3, t.fits, s.2)
@@ -66,7 +65,7 @@ part_form R F (Inner m) p e body h s w b = let t : SpellsPart body (delimited s.
 -- entries of these slots, each of its kind's form
 abbrev pub AllForm : (ℕ → Value → Type 0) → List Slot → List Entry → Type 0
 AllForm F list [] = Unit {0}
-AllForm F list (x ∷ xs) = ((k : Kind) × (kind_of list x.0 ≡ Some k) × FormElem F k x.1) × AllForm F list xs
+AllForm F list (x ∷ xs) = ((k : Kind) × (kind_of list x.0 ≡ Some k) × FormContent F k x.1) × AllForm F list xs
 
 entries_form : (R : ℕ → List ℕ → Value → Type 0) (F : ℕ → Value → Type 0) (list : List Slot) (bytes : List ℕ) (fs : List Field) (es : List Entry) → Formed R F → Spells bytes fs → AreBytes bytes → ShowsEntries R list fs es → AllForm F list es
 entries_form R F list bytes [] es h w b s = subst (AllForm F list) (sym s) tt
@@ -105,7 +104,7 @@ last_one : (before es : List Entry) → length before ≡ 1 → length (last_of 
 last_one before [] e = e
 last_one before (x ∷ xs) e = last_one (x ∷ []) xs refl
 
-default_form : (F : ℕ → Value → Type 0) (k : Kind) → ((m : ℕ) → k ≡ Inner m → ⊥) → ((l : ℕ) → k ≡ Below l → 0 < l) → FormElem F k (default_in k)
+default_form : (F : ℕ → Value → Type 0) (k : Kind) → ((m : ℕ) → k ≡ Inner m → ⊥) → ((l : ℕ) → k ≡ Below l → 0 < l) → FormContent F k (default_in k)
 default_form F (Below limit) no_message h = (0, refl, h limit refl)
 default_form F Whole no_message h = (0, refl, omega arith)
 default_form F Signed32 no_message h = (0, refl, omega arith, inl (omega arith))
@@ -138,34 +137,3 @@ reads_form schema zero place bytes v l b r = absurd r
 reads_form schema (suc left) place bytes v l b r =
     slots_form (FormWithin schema left) (list_at schema place) r.entries v (l place)
     (entries_form (ReadsWithin schema left) (FormWithin schema left) (list_at schema place) bytes r.fields r.entries (λ m s w x y. reads_form schema left m s w l y x) r.spelled b r.each) r.kept
-
--- ---- a form within so many messages
-
-elem_within : (F G : ℕ → Value → Type 0) (m : ℕ) (k : Kind) (e : Elem) → ((p : ℕ) (v : Value) → F p v → nested v ≤ m → G p v) → FormElem F k e → elem_depth e ≤ m → FormElem G k e
-elem_within F G m (Below limit) e h f le = f
-elem_within F G m Whole e h f le = f
-elem_within F G m Signed32 e h f le = f
-elem_within F G m Flag e h f le = f
-elem_within F G m Fixed32 e h f le = f
-elem_within F G m Fixed64 e h f le = f
-elem_within F G m Text e h f le = f
-elem_within F G m Bytes e h f le = f
-elem_within F G m (Inner p) e h f le = (f.0, f.1, h p f.0 f.2 (subst (λ t. elem_depth t ≤ m) f.1 le))
-
-entries_within : (F G : ℕ → Value → Type 0) (m : ℕ) (members : List Member) (es : List Entry) → ((p : ℕ) (v : Value) → F p v → nested v ≤ m → G p v) → FormEntries F members es → entries_depth (entries_of es) ≤ m → FormEntries G members es
-entries_within F G m members [] h f le = tt
-entries_within F G m members (x ∷ xs) h f le = ((f.0.0, f.0.1, elem_within F G m f.0.0 x.1 h f.0.2 (omega arith)), entries_within F G m members xs h f.1 (omega arith))
-
-slots_within : (F G : ℕ → Value → Type 0) (m : ℕ) (ss : List Slot) (v : Value) → ((p : ℕ) (w : Value) → F p w → nested w ≤ m → G p w) → FormSlots F ss v → slots_depth (slots_of v) ≤ m → FormSlots G ss v
-slots_within F G m [] v h f le = f
-slots_within F G m (s ∷ ss) v h f le =
-    let both : slots_depth (slots_of (f.0 ∷ f.1)) ≤ m = subst (λ t. slots_depth (slots_of t) ≤ m) f.2 le in
-    (f.0, f.1, f.2, f.3, entries_within F G m s.members f.0 h f.4 (omega (arith, both)), slots_within F G m ss f.1 h f.5 (omega (arith, both)))
-
--- a value that nests so many messages at most has its form within so many
-pub form_within : (schema : Schema) (left m place : ℕ) (v : Value) → FormWithin schema left place v → nested v ≤ m → FormWithin schema m place v
-unfolding FormWithin
-form_within schema zero m place v f le = absurd f
-form_within schema (suc left) zero place v f le = absurd (omega arith)
-form_within schema (suc left) (suc m) place v f le =
-    slots_within (FormWithin schema left) (FormWithin schema m) m (list_at schema place) v (λ p w x y. form_within schema left m p w x y) f (omega arith)

@@ -9,7 +9,7 @@ use Rattle.vx_proto.specs.declared.element.Element.{Element}
 use Rattle.vx_proto.specs.declared.element.Element.TheViews.{Message}
 use Rattle.vx_proto.specs.Value.{Entry, Value, entries_of, slots_of, Schema, view, entries_view, value_view, slot_view, list_view}
 use Rattle.vx_proto.specs.Reads.{list_at}
-use Rattle.vx_proto.specs.Written.{varint_bytes, counted, place_in, written_elem, written_entries, written_slots, elem_depth, entries_depth, slots_depth, nested}
+use Rattle.vx_proto.specs.Written.{varint_bytes, counted, place_in, written_content, written_entries, written_slots, content_depth, entries_depth, slots_depth, nested}
 use Rattle.vx_proto.proofs.Views.{view_message}
 
 at : {A : Type 0} (xs : List A) (i : ℕ) (x : A) → i < length xs → x ≡ get_or xs i x → drop i xs ≡ x ∷ drop (i + 1) xs
@@ -24,7 +24,7 @@ slots_at v i x lt is = ap value_view (at v i x lt is)
 -- ---- nesting
 
 pub entries_depth_at : (es : List (ℕ × Element)) (i : ℕ) (x : ℕ × Element) → i < length es → x ≡ get_or es i x
-    → entries_depth (entries_of (entries_view (drop i es))) ≡ max (elem_depth (view x.1)) (entries_depth (entries_of (entries_view (drop (i + 1) es))))
+    → entries_depth (entries_of (entries_view (drop i es))) ≡ max (content_depth (view x.1)) (entries_depth (entries_of (entries_view (drop (i + 1) es))))
 entries_depth_at es i x lt is = ap (λ (t : List Entry). entries_depth (entries_of t)) (entries_at es i x lt is)
 
 pub slots_depth_at : (v : List (Vec (ℕ × Element))) (i : ℕ) (x : Vec (ℕ × Element)) → i < length v → x ≡ get_or v i x
@@ -45,14 +45,14 @@ slots_depth_drop (x ∷ v) zero = omega arith
 slots_depth_drop (x ∷ v) (suc i) = omega (arith, slots_depth_drop v i)
 
 -- each member nests no deeper than its slot, and each slot no deeper than its message
-pub entry_depth_le : (es : List (ℕ × Element)) (i : ℕ) (x : ℕ × Element) → i < length es → x ≡ get_or es i x → elem_depth (view x.1) ≤ entries_depth (entries_of (entries_view es))
+pub entry_depth_le : (es : List (ℕ × Element)) (i : ℕ) (x : ℕ × Element) → i < length es → x ≡ get_or es i x → content_depth (view x.1) ≤ entries_depth (entries_of (entries_view es))
 entry_depth_le es i x lt is = omega (arith, entries_depth_drop es i, entries_depth_at es i x lt is)
 
 pub slot_depth_le : (v : List (Vec (ℕ × Element))) (i : ℕ) (x : Vec (ℕ × Element)) → i < length v → x ≡ get_or v i x → entries_depth (entries_of (entries_view x.items)) ≤ slots_depth (slots_of (value_view v))
 slot_depth_le v i x lt is = omega (arith, slots_depth_drop v i, slots_depth_at v i x lt is)
 
-pub message_depth : (e : Element) (slots : Vec (Vec (ℕ × Element))) → e ≡ Message slots → elem_depth (view e) ≡ nested (value_view slots.items)
-message_depth e slots is = ap elem_depth (ap view is ∙ view_message slots)
+pub message_depth : (e : Element) (slots : Vec (Vec (ℕ × Element))) → e ≡ Message slots → content_depth (view e) ≡ nested (value_view slots.items)
+message_depth e slots is = ap content_depth (ap view is ∙ view_message slots)
 
 -- ---- writing
 
@@ -86,8 +86,8 @@ turned out front back = append_assoc out (reverse back) (reverse front) ∙ ap (
 
 -- a nested message is written behind its length
 pub message_written : (schema : Schema) (k : Kind) (e : Element) (slots : Vec (Vec (ℕ × Element))) → e ≡ Message slots
-    → written_elem schema k (view e) ≡ counted (written_slots schema (list_at schema (place_in k)) (slots_of (value_view slots.items)))
-message_written schema k e slots is = ap (written_elem schema k) (ap view is ∙ view_message slots)
+    → written_content schema k (view e) ≡ counted (written_slots schema (list_at schema (place_in k)) (slots_of (value_view slots.items)))
+message_written schema k e slots is = ap (written_content schema k) (ap view is ∙ view_message slots)
 
 -- the length of what was written is told by the ends, before and after
 pub turned_length : (out new inner : List ℕ) → new ≡ out ++ reverse inner → length new - length out ≡ length inner

@@ -13,7 +13,8 @@ use Rattle.vx_proto.specs.Form.{HasForm}
 use Rattle.vx_proto.specs.Lawful.{is_lawful}
 use Rattle.vx_proto.proofs.Judged.{decoded_sound, decoded_again}
 use Rattle.vx_proto.proofs.Causes.{decoded_cause, reads_excludes}
-use Rattle.vx_proto.proofs.Formed.{AreBytes, reads_form, form_within}
+use Rattle.vx_proto.proofs.Formed.{AreBytes, reads_form}
+use Rattle.vx_proto.specs.FormLaws.{form_within}
 use Rattle.vx_proto.specs.Written.{written, nested}
 use Rattle.vx_proto.proofs.Again.{written_reads}
 use Rattle.vx_proto.proofs.LawfulTest.{lawful_by}

@@ -5,7 +5,7 @@ use Rattle.vx_proto.specs.declared.element.Element.{Element, fold-roll-Element}
 use Rattle.vx_proto.specs.declared.element.Element.TheOpen.{Element-F}
 use Rattle.vx_proto.specs.declared.element.Element.TheVariants.{rolls-Message}
 use Rattle.vx_proto.specs.declared.element.Element.TheViews.{Message}
-use Rattle.vx_proto.specs.Value.{Elem, message, Entry, Value, entries_of, slots_of, list_of, value_of, view, view_step, entries_view, value_view}
+use Rattle.vx_proto.specs.Value.{Content, message, Entry, Value, entries_of, slots_of, list_of, value_of, view, view_step, entries_view, value_view}
 use Rattle.vx_proto.specs.Reading.{push_at}
 
 map_twice : {A B C : Type 0} (f : A → B) (g : B → C) (xs : List A) → map g (map f xs) ≡ map (λ x. g (f x)) xs
@@ -13,7 +13,7 @@ map_twice f g [] = refl
 map_twice {C = C} f g (x ∷ xs) = ap (λ (t : List C). g (f x) ∷ t) (map_twice f g xs)
 
 pub view_message : (slots : Vec (Vec (ℕ × Element))) → view (Message slots) ≡ message (slots_of (value_view slots.items))
-view_message slots = ap view (sym (rolls-Message slots)) ∙ fold-roll-Element Elem view_step (Element-F.Message slots) ∙ ap (λ (l : Value). message (slots_of l)) (map_twice _ (λ es. es.items) slots.items)
+view_message slots = ap view (sym (rolls-Message slots)) ∙ fold-roll-Element Content view_step (Element-F.Message slots) ∙ ap (λ (l : Value). message (slots_of l)) (map_twice _ (λ es. es.items) slots.items)
 
 view_set : (slots : List (Vec (ℕ × Element))) (i : ℕ) (x : Vec (ℕ × Element)) → value_view (set slots i x) ≡ set (value_view slots) i (entries_view x.items)
 view_set [] i x = refl

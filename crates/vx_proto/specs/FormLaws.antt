@@ -1,44 +1,69 @@
--- What the form of a value says, slot by slot: for the types whose plain values have it.
-use Rattle.std.specs.Prelude.{◌≡◌, ◌≤◌, ◌<◌, ℕ, zero, suc, ◌⊎◌, Bool, true, false, cond, List, [], ◌∷◌, length, Option, Some, None, refl}
+-- What the form of a value says, one message at a time, for the types whose plain values have it.
+use Rattle.std.specs.Prelude.{◌≡◌, ◌≤◌, ◌<◌, ℕ, zero, suc, ◌⊎◌, Bool, true, false, cond, eqb, List, [], ◌∷◌, length, Option, Some, None, refl}
 use Rattle.std.proofs.Common.{sym, ap, subst, ◌∙◌, inl, inr, arith}
 use Rattle.std.proofs.lemmas.Bool.{eqb-true}
-use Rattle.std.specs.Prelude.{eqb}
 use Rattle.vx_proto.specs.declared.schema.Kind.{Kind}
+use Rattle.vx_proto.specs.declared.schema.Kind.TheVariants.{Below, Whole, Signed32, Flag, Fixed32, Fixed64, Text, Bytes, Inner}
 use Rattle.vx_proto.specs.declared.schema.Member.{Member}
-use Rattle.vx_proto.specs.Value.{Elem, number, octets, message, Slots, Entry, Value, entries_of, slots_of, list_of, value_of, Schema}
+use Rattle.vx_proto.specs.Value.{Content, number, octets, message, Slots, Entry, Value, entries_of, slots_of, list_of, value_of, Slot, Schema}
 use Rattle.vx_proto.specs.Reads.{list_at, kind_in}
-use Rattle.vx_proto.specs.Form.{FormElem, FormEntries, FormSlots, FormWithin, HasForm}
+use Rattle.vx_proto.specs.Form.{FormContent, FormEntries, FormSlots, FormWithin, HasForm}
+use Rattle.vx_proto.specs.Written.{content_depth, entries_depth, slots_depth, nested}
 
--- The form of a message, one level opened: within so many messages, slot by slot.
-pub record Formed (schema : Schema) (place : ℕ) (v : Value) : Type 0 where
-  pub left : ℕ
-  pub slots : FormSlots (FormWithin schema left) (list_at schema place) v
+-- ---- a form within so many messages
 
-pub formed_of : (schema : Schema) (place : ℕ) (v : Value) → HasForm schema place v → Formed schema place v
+elem_within : (F G : ℕ → Value → Type 0) (m : ℕ) (k : Kind) (e : Content) → ((p : ℕ) (v : Value) → F p v → nested v ≤ m → G p v) → FormContent F k e → content_depth e ≤ m → FormContent G k e
+elem_within F G m (Below limit) e h f le = f
+elem_within F G m Whole e h f le = f
+elem_within F G m Signed32 e h f le = f
+elem_within F G m Flag e h f le = f
+elem_within F G m Fixed32 e h f le = f
+elem_within F G m Fixed64 e h f le = f
+elem_within F G m Text e h f le = f
+elem_within F G m Bytes e h f le = f
+elem_within F G m (Inner p) e h f le = (f.0, f.1, h p f.0 f.2 (subst (λ t. content_depth t ≤ m) f.1 le))
+
+entries_within : (F G : ℕ → Value → Type 0) (m : ℕ) (members : List Member) (es : List Entry) → ((p : ℕ) (v : Value) → F p v → nested v ≤ m → G p v) → FormEntries F members es → entries_depth (entries_of es) ≤ m → FormEntries G members es
+entries_within F G m members [] h f le = tt
+entries_within F G m members (x ∷ xs) h f le = ((f.0.0, f.0.1, elem_within F G m f.0.0 x.1 h f.0.2 (omega arith)), entries_within F G m members xs h f.1 (omega arith))
+
+slots_within : (F G : ℕ → Value → Type 0) (m : ℕ) (ss : List Slot) (v : Value) → ((p : ℕ) (w : Value) → F p w → nested w ≤ m → G p w) → FormSlots F ss v → slots_depth (slots_of v) ≤ m → FormSlots G ss v
+slots_within F G m [] v h f le = f
+slots_within F G m (s ∷ ss) v h f le =
+    let both : slots_depth (slots_of (f.0 ∷ f.1)) ≤ m = subst (λ t. slots_depth (slots_of t) ≤ m) f.2 le in
+    (f.0, f.1, f.2, f.3, entries_within F G m s.members f.0 h f.4 (omega (arith, both)), slots_within F G m ss f.1 h f.5 (omega (arith, both)))
+
+-- A value that nests so many messages at most has its form within so many.
+pub form_within : (schema : Schema) (left m place : ℕ) (v : Value) → FormWithin schema left place v → nested v ≤ m → FormWithin schema m place v
+unfolding FormWithin
+form_within schema zero m place v f le = absurd f
+form_within schema (suc left) zero place v f le = absurd (omega arith)
+form_within schema (suc left) (suc m) place v f le =
+    slots_within (FormWithin schema left) (FormWithin schema m) m (list_at schema place) v (λ p w x y. form_within schema left m p w x y) f (omega arith)
+
+-- A message has the form of its schema where its slots have it, the messages in them as well.
+pub form_of_slots : (schema : Schema) (place : ℕ) (v : Value) → FormSlots (HasForm schema) (list_at schema place) v → HasForm schema place v
 unfolding HasForm FormWithin
-formed_of schema place v f = go f.0 f.1
+form_of_slots schema place v f =
+    let m = slots_depth (slots_of v) in
+    (suc m, slots_within (HasForm schema) (FormWithin schema m) m (list_at schema place) v (λ p w x le. form_within schema x.0 m p w x.1 le) f (omega arith))
+
+pub slots_of_form : (schema : Schema) (place : ℕ) (v : Value) → HasForm schema place v → FormSlots (HasForm schema) (list_at schema place) v
+unfolding HasForm FormWithin
+slots_of_form schema place v f = go f.0 f.1
   where
-    go : (left : ℕ) → FormWithin schema left place v → Formed schema place v
+    go : (left : ℕ) → FormWithin schema left place v → FormSlots (HasForm schema) (list_at schema place) v
     go zero w = absurd w
-    go (suc left) w = record { left = left; slots = w }
-
-pub form_of : (schema : Schema) (left place : ℕ) (v : Value) → FormSlots (FormWithin schema left) (list_at schema place) v → HasForm schema place v
-unfolding HasForm FormWithin
-form_of schema left place v f = (suc left, f)
-
--- A message nested in one of the form has the form, too.
-pub nested_form : (schema : Schema) (left place : ℕ) (v : Value) → FormWithin schema left place v → HasForm schema place v
-unfolding HasForm
-nested_form schema left place v f = (left, f)
+    go (suc left) w = slots_within (FormWithin schema left) (HasForm schema) (slots_depth (slots_of v)) (list_at schema place) v (λ p u x le. (left, x)) w (omega arith)
 
 -- A slot that holds one member of these: which one, of which kind, and what it holds.
 pub record HoldsOne (F : ℕ → Value → Type 0) (members : List Member) (es : List Entry) : Type 0 where
   pub name : ℕ
-  pub element : Elem
+  pub element : Content
   pub kind : Kind
   pub is : es ≡ (name, element) ∷ []
   pub has : kind_in members name ≡ Some kind
-  pub form : FormElem F kind element
+  pub form : FormContent F kind element
 
 -- A slot that keeps one member at most is empty or holds one.
 pub at_most_one : (F : ℕ → Value → Type 0) (members : List Member) (es : List Entry) → length es ≤ 1 → FormEntries F members es → (es ≡ []) ⊎ HoldsOne F members es
@@ -48,15 +73,15 @@ at_most_one F members (x ∷ y ∷ es) le f = absurd (omega arith)
 
 -- A plain slot holds its one member, whose number and kind are known.
 pub record HoldsMember (F : ℕ → Value → Type 0) (m : Member) (es : List Entry) : Type 0 where
-  pub element : Elem
+  pub element : Content
   pub is : es ≡ (m.number, element) ∷ []
-  pub form : FormElem F m.kind element
+  pub form : FormContent F m.kind element
 
-known : (F : ℕ → Value → Type 0) (m : Member) (n : ℕ) (k : Kind) (e : Elem) → kind_in (m ∷ []) n ≡ Some k → FormElem F k e → (n ≡ m.number) × FormElem F m.kind e
+known : (F : ℕ → Value → Type 0) (m : Member) (n : ℕ) (k : Kind) (e : Content) → kind_in (m ∷ []) n ≡ Some k → FormContent F k e → (n ≡ m.number) × FormContent F m.kind e
 known F m n k e h f = go (eqb m.number n) refl h
   where
-    go : (b : Bool) → eqb m.number n ≡ b → cond b (Some m.kind) None ≡ Some k → (n ≡ m.number) × FormElem F m.kind e
-    go true is q = (sym (eqb-true m.number n is), (let same : k ≡ m.kind = cc in subst (λ j. FormElem F j e) same f))
+    go : (b : Bool) → eqb m.number n ≡ b → cond b (Some m.kind) None ≡ Some k → (n ≡ m.number) × FormContent F m.kind e
+    go true is q = (sym (eqb-true m.number n is), (let same : k ≡ m.kind = cc in subst (λ j. FormContent F j e) same f))
     go false is q = absurd cc
 
 pub exactly_one : (F : ℕ → Value → Type 0) (m : Member) (es : List Entry) → length es ≡ 1 → FormEntries F (m ∷ []) es → HoldsMember F m es
@@ -70,27 +95,32 @@ none_or_one F m [] le f = inl refl
 none_or_one F m (x ∷ []) le f = inr (exactly_one F m (x ∷ []) refl f)
 none_or_one F m (x ∷ y ∷ es) le f = absurd (omega arith)
 
--- ---- values that are equal have equal parts
+-- ---- lists that are equal have equal parts
 
-first_of : Value → Elem
-first_of [] = number 0
-first_of ([] ∷ v) = number 0
-first_of ((x ∷ xs) ∷ v) = x.1
+first_name : List Entry → ℕ
+first_name [] = 0
+first_name (x ∷ xs) = x.0
 
-rest_of : Value → Value
-rest_of [] = []
-rest_of (es ∷ v) = v
+first_content : List Entry → Content
+first_content [] = number 0
+first_content (x ∷ xs) = x.1
 
-pub same_member : (n : ℕ) (a b : Elem) (v w : Value) → ((n, a) ∷ []) ∷ v ≡ ((n, b) ∷ []) ∷ w → a ≡ b
-unfolding first_of
-same_member n a b v w e = ap first_of e
+pub same_name : (m n : ℕ) (a b : Content) (xs ys : List Entry) → (m, a) ∷ xs ≡ (n, b) ∷ ys → m ≡ n
+unfolding first_name
+same_name m n a b xs ys e = ap first_name e
 
-pub same_rest : (xs ys : List Entry) (v w : Value) → xs ∷ v ≡ ys ∷ w → v ≡ w
-unfolding rest_of
-same_rest xs ys v w e = ap rest_of e
+pub same_content : (m n : ℕ) (a b : Content) (xs ys : List Entry) → (m, a) ∷ xs ≡ (n, b) ∷ ys → a ≡ b
+unfolding first_content
+same_content m n a b xs ys e = ap first_content e
+
+pub same_others : (m n : ℕ) (a b : Content) (xs ys : List Entry) → (m, a) ∷ xs ≡ (n, b) ∷ ys → xs ≡ ys
+same_others m n a b xs ys e = cc
 
 pub same_slot : (xs ys : List Entry) (v w : Value) → xs ∷ v ≡ ys ∷ w → xs ≡ ys
 same_slot xs ys v w e = cc
+
+pub same_rest : (xs ys : List Entry) (v w : Value) → xs ∷ v ≡ ys ∷ w → v ≡ w
+same_rest xs ys v w e = cc
 
 pub same_number : (a b : ℕ) → number a ≡ number b → a ≡ b
 same_number a b e = cc

@@ -1,30 +1,30 @@
 -- The parts of a plain value, as a message type takes it apart.
 use Rattle.std.specs.Prelude.{ℕ, Bool, if◌then◌else◌, List, [], ◌∷◌, get_or, Option, Some, None, option_and_then}
-use Rattle.vx_proto.specs.Value.{Elem, number, octets, message, Entry, Value, value_of}
+use Rattle.vx_proto.specs.Value.{Content, number, octets, message, Entry, Value, value_of}
 
 -- The members of a slot that count; none past the last slot.
 abbrev pub entries_in : Value → ℕ → List Entry
 entries_in v i = get_or v i []
 
 -- What the first member of a slot holds.
-abbrev pub first_in : List Entry → Option Elem
+abbrev pub first_in : List Entry → Option Content
 first_in [] = None
 first_in (x ∷ xs) = Some x.1
 
 -- The number that a member holds, if it is one.
-abbrev pub number_of : Elem → Option ℕ
+abbrev pub number_of : Content → Option ℕ
 number_of (number n) = Some n
 number_of (octets s) = None
 number_of (message v) = None
 
 -- The bytes that a member holds, if it is a text or bytes.
-abbrev pub octets_of : Elem → Option (List ℕ)
+abbrev pub octets_of : Content → Option (List ℕ)
 octets_of (number n) = None
 octets_of (octets s) = Some s
 octets_of (message v) = None
 
 -- The message that a member holds, if it is one.
-abbrev pub message_of : Elem → Option Value
+abbrev pub message_of : Content → Option Value
 message_of (number n) = None
 message_of (octets s) = None
 message_of (message v) = Some (value_of v)

@@ -1,5 +1,6 @@
-ghost use Rattle.std.specs.Prelude.{◌≡◌, ◌≤◌, ◌<◌, [], length, true, false, None, IfOk, IfNone, IfSome, OnErr, option_map};
-ghost use Rattle.vx_registry.specs.Context.{IsInterned, is_allowed, is_among};
+ghost use Rattle.std.specs.Prelude.{◌≡◌, ◌≤◌, ◌<◌, [], length, true, false, None, Some, IfOk, IfNone, IfSome, OnErr, option_map, bytes_eq};
+ghost use Rattle.vx_registry.specs.Context.{interned, is_allowed, place_of};
+ghost use Rattle.std.specs.List.{list_any};
 
 use crate::error::RegistryError;
 use indexmap::IndexSet;
@@ -44,7 +45,10 @@ impl ArrayContext {
     /// The place of an identifier, which goes last if it is new. `None` exactly where it is not allowed, or
     /// its place is not below 65,536; nothing has changed then, nor for want of memory.
     pub fn intern(&mut self, id: &Id) -> Result<Option<u16>, RegistryError>
-        ensures interned { IfOk result (λ place. IsInterned self.old id.now place self.new) }
+        ensures interned { IfOk result (λ place. IfSome place (λ _. interned id.now self.old ≡ Some self.new)) }
+        ensures place { IfOk result (λ place. IfSome place (λ i. place_of id.now self.new.ids ≡ i)) }
+        ensures refused { IfOk result (λ place. IfNone place (interned id.now self.old ≡ None)) }
+        ensures none { IfOk result (λ place. IfNone place (self.new ≡ self.old)) }
         ensures err { OnErr result (self.new ≡ self.old) }
     {
         if !is_allowed(&self.allowed, id) {
@@ -67,8 +71,11 @@ impl ArrayContext {
     // Puts a new identifier last.
     fn append(&mut self, id: &Id) -> Result<Option<u16>, RegistryError>
         requires allowed { is_allowed self.old.allowed id.now ≡ true }
-        requires new { is_among id.now self.old.ids ≡ false }
-        ensures interned { IfOk result (λ place. IsInterned self.old id.now place self.new) }
+        requires new { list_any (bytes_eq id.now) self.old.ids ≡ false }
+        ensures interned { IfOk result (λ place. IfSome place (λ _. interned id.now self.old ≡ Some self.new)) }
+        ensures place { IfOk result (λ place. IfSome place (λ i. place_of id.now self.new.ids ≡ i)) }
+        ensures refused { IfOk result (λ place. IfNone place (interned id.now self.old ≡ None)) }
+        ensures none { IfOk result (λ place. IfNone place (self.new ≡ self.old)) }
         ensures err { OnErr result (self.new ≡ self.old) }
     {
         let last = match place(self.ids.len()) {
@@ -92,7 +99,8 @@ impl ArrayContext {
     }
 }
 
-// Whether an identifier is among those that are allowed, where they are limited.
+// Whether an identifier is among those that may come, where they are limited.
+#[tactic(auto, using(crate::proofs::Interning::among))]
 fn is_allowed(allowed: &Option<IndexSet<Id>>, id: &Id) -> bool
     ensures { result ≡ is_allowed (option_map (λ s. s.keys) allowed.now) id.now }
 {

@@ -1,12 +1,12 @@
 -- A context that has taken identifiers gives each of them its place.
-use Rattle.std.proofs.Common.{ℕ, suc, ◌≡◌, ◌<◌, ◌≤◌, Bool, true, false, List, [], ◌∷◌, ◌++◌, Some, length, refl, sym, ap, ◌∙◌, subst, arith, append_assoc, append-nil, length-append}
+use Rattle.std.proofs.Common.{ℕ, suc, ◌≡◌, ◌<◌, ◌≤◌, Bool, true, false, List, [], ◌∷◌, ◌++◌, Option, Some, None, length, refl, sym, ap, ◌∙◌, subst, arith, append_assoc, append-nil, length-append}
 use Rattle.std.specs.Prelude.{All, slice_get, bytes_eq, nat_lt, ◌&&◌, ◌||◌, if◌then◌else◌}
 use Rattle.std.specs.List.{list_any}
 use Rattle.std.proofs.lemmas.List.Elements.{All-nil, All-cons, All-weaker}
-use Rattle.std.proofs.lemmas.Bool.{ltb-true}
-use Rattle.std.proofs.lemmas.Option.{slice_get_within, option_and_then_some, cond_some}
+use Rattle.std.proofs.lemmas.Bool.{ltb-true, ltb-false}
+use Rattle.std.proofs.lemmas.Option.{slice_get_within, cond_some}
 use Rattle.std.proofs.lemmas.Slice.Eq.{bytes_eq-Decides}
-use Rattle.vx_registry.specs.Context.{Context, is_among, place_of, with_id, is_allowed, interned, grown_by}
+use Rattle.vx_registry.specs.Context.{Context, is_among, place_of, with_id, is_allowed, interned, stepped, grown_by}
 use Rattle.vx_serde.proofs.NumberedRead.{IsPlaced}
 
 -- ---- the first place of an identifier
@@ -37,11 +37,7 @@ placed-more id ids rest h = placed-within id (ids ++ rest) (within-more id ids r
 -- ---- a list with an identifier
 
 among-within : (id : List ℕ) (ids : List (List ℕ)) → is_among id ids ≡ true → place_of id ids < length ids
-among-within id [] h = absurd (cc)
-among-within id (other ∷ ids) h = at (bytes_eq id other) h (λ g. among-within id ids g) where
-  at : (b : Bool) → (b || list_any (bytes_eq id) ids) ≡ true → (list_any (bytes_eq id) ids ≡ true → place_of id ids < length ids) → (if b then 0 else suc (place_of id ids)) < suc (length ids)
-  at true h f = omega arith
-  at false h f = let g = f h in omega (arith, g)
+among-within id ids h = ltb-true (place_of id ids) (length ids) h
 
 last-within : (id : List ℕ) (ids : List (List ℕ)) → place_of id (ids ++ id ∷ []) < length (ids ++ id ∷ [])
 last-within id [] = rw ((bytes_eq-Decides id id).1 refl) (omega arith)
@@ -50,12 +46,15 @@ last-within id (other ∷ ids) = at (bytes_eq id other) (place_of id (ids ++ id 
   at true p n h = omega arith
   at false p n h = omega (arith, h)
 
+place-bounded : (id : List ℕ) (ids : List (List ℕ)) → place_of id ids ≤ length ids
+place-bounded id [] = omega arith
+place-bounded id (other ∷ ids) = at (bytes_eq id other) (place_of id ids) (length ids) (place-bounded id ids) where
+  at : (b : Bool) (p n : ℕ) → p ≤ n → (if b then 0 else suc p) ≤ suc n
+  at true p n h = omega arith
+  at false p n h = omega (arith, h)
+
 absent-place : (id : List ℕ) (ids : List (List ℕ)) → is_among id ids ≡ false → place_of id ids ≡ length ids
-absent-place id [] h = refl
-absent-place id (other ∷ ids) h = at (bytes_eq id other) h (λ g. absent-place id ids g) where
-  at : (b : Bool) → (b || list_any (bytes_eq id) ids) ≡ false → (list_any (bytes_eq id) ids ≡ false → place_of id ids ≡ length ids) → (if b then 0 else suc (place_of id ids)) ≡ suc (length ids)
-  at true h f = absurd (cc)
-  at false h f = ap (λ n. suc n) (f h)
+absent-place id ids h = omega (arith, ltb-false (place_of id ids) (length ids) h, place-bounded id ids)
 
 -- What an identifier's coming makes of a list: more may stand behind what was there, and the identifier has its place.
 record Comes (ids new : List (List ℕ)) (id : List ℕ) : Type 0 where
@@ -64,7 +63,7 @@ record Comes (ids new : List (List ℕ)) (id : List ℕ) : Type 0 where
   pub few : place_of id ids < 65536 → length ids ≤ 65536 → length new ≤ 65536
   pub placed : IsPlaced new id
 
-comes : (ids : List (List ℕ)) (id : List ℕ) → Comes ids (with_id ids id) id
+comes : (ids : List (List ℕ)) (id : List ℕ) → Comes ids (with_id id ids) id
 comes ids id = at (is_among id ids) (λ e. among-within id ids e) (λ e. absent-place id ids e) where
   at : (b : Bool) → (b ≡ true → place_of id ids < length ids) → (b ≡ false → place_of id ids ≡ length ids) → Comes ids (if b then ids else ids ++ id ∷ []) id
   at true f g = record { rest = []; front = sym (append-nil ids); few = λ h k. k; placed = placed-within id ids (f refl) }
@@ -89,14 +88,18 @@ second : (a b : Bool) → (a && b) ≡ true → b ≡ true
 second true b h = h
 second false b h = absurd (cc)
 
-interned-comes : (old new : Context) (id : List ℕ) → interned old id ≡ Some new → (place_of id old.ids < 65536) × Comes old.ids new.ids id
+interned-comes : (old new : Context) (id : List ℕ) → interned id old ≡ Some new → (place_of id old.ids < 65536) × Comes old.ids new.ids id
 interned-comes old new id e =
-    let parts = cond_some (is_allowed old.allowed id && nat_lt (place_of id old.ids) 65536) (record { ids = with_id old.ids id; allowed = old.allowed }) new e in
+    let parts = cond_some (is_allowed old.allowed id && nat_lt (place_of id old.ids) 65536) (record { ids = with_id id old.ids; allowed = old.allowed }) new e in
     let P : Context → Type 0 = λ c. Comes old.ids c.ids id in
     (ltb-true (place_of id old.ids) 65536 (second (is_allowed old.allowed id) (nat_lt (place_of id old.ids) 65536) parts.0), subst P parts.1 (comes old.ids id))
 
 placed-all : (ids new rest came : List (List ℕ)) → new ≡ ids ++ rest → All (λ id. IsPlaced ids id) came → All (λ id. IsPlaced new id) came
 placed-all ids new rest came e h = rw e (All-weaker (λ id. IsPlaced ids id) (λ id. IsPlaced (ids ++ rest) id) (λ id p. placed-more id ids rest p) came h)
+
+stepped_some : {P : Type 0} (o : Option Context) (step : Context → Option Context) (new : Context) → stepped o step ≡ Some new → ((next : Context) → o ≡ Some next → step next ≡ Some new → P) → P
+stepped_some None step new e f = absurd (cc)
+stepped_some (Some next) step new e f = f next refl e
 
 -- A context that is grown has the identifiers that it was grown by.
 pub grown_by-placed : (came : List (List ℕ)) (old new : Context) → grown_by came old ≡ Some new → IsGrownBy came old new
@@ -104,7 +107,7 @@ grown_by-placed [] old new e =
     let same : new ≡ old = cc in
     rw same (record { rest = []; front = sym (append-nil old.ids); few = λ h. h; placed = All-nil (λ id. IsPlaced old.ids id) })
 grown_by-placed (id ∷ came) old new e =
-    option_and_then_some (grown_by came) (interned old id) new e (λ next p q. joined next (interned-comes old next id p) (grown_by-placed came next new q)) where
+    stepped_some (interned id old) (λ d. grown_by came d) new e (λ next p q. joined next (interned-comes old next id p) (grown_by-placed came next new q)) where
       joined : (next : Context) → (place_of id old.ids < 65536) × Comes old.ids next.ids id → IsGrownBy came next new → IsGrownBy (id ∷ came) old new
       joined next a b = record {
         rest = a.1.rest ++ b.rest;

@@ -10,7 +10,7 @@ use Rattle.vx_flat.specs.IsOf.{AreOf, IsOfKind, AreRowsOf}
 use Rattle.vx_buffer.specs.Buffer.{Buffer}
 use Rattle.vx_trees.specs.Rose.{Rose, Roses, node, end, more, roses_of}
 use Rattle.vx_trees.specs.Walks as walk
-use Rattle.vx_serde.specs.ArraySchema.{array_schema, node_fields}
+use Rattle.vx_serde.specs.ArraySchema.{array_schema, array_fields, node_fields}
 use Rattle.vx_serde.specs.Message.{NodeFields, node_of, nodes_of, nodes_in, number_in, bytes_in, indices_of}
 use Rattle.vx_serde.specs.Wire.{Wire, Wires}
 use Rattle.vx_serde.specs.Blob.{wire_of, wires_of}
@@ -78,3 +78,9 @@ pub wires_of-take : (ids : List (List ℕ)) (bs : List Buffer) (rows : List (Vec
   → roses_of ws ≡ wires_of ids bs (nodes_of (rows_value (take i rows))) → w ≡ wire_of ids bs (node_of (views r.items)) → us ≡ ws ++ w ∷ []
   → roses_of us ≡ wires_of ids bs (nodes_of (rows_value (take (i + 1) rows)))
 wires_of-take ids bs rows ws us i r w h e inv is q = rw (q, add-one i) (wires_of-take_suc ids bs rows ws i r w h e inv is)
+
+-- a message has more than one field
+pub array_fields-length : (ps : List FieldValue) → AreOf array_schema array_fields (views ps) → length ps < 2 → ⊥
+array_fields-length [] of h = of
+array_fields-length (x ∷ []) of h = of.1
+array_fields-length (x ∷ y ∷ ps) of h = omega (arith, h)

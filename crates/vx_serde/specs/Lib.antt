@@ -7,5 +7,14 @@ pub mod Blob
 pub mod Numbered
 pub mod Placing
 pub mod Written
+pub mod Describable
+pub mod KeptContext
+pub mod Unwritten
+pub mod WrittenBuffers
+pub mod TableViews
 pub mod Errors
 pub mod Opening
+pub mod Matches
+pub mod Spells
+pub mod Placed
+pub mod Causes

@@ -1,8 +1,9 @@
 -- A wire tree as a message's nodes: identifiers and buffers by number.
-use Rattle.std.specs.Prelude.{ℕ, zero, suc, ◌+◌, List, [], ◌∷◌, Option, Some, None, length, bytes_eq, if◌then◌else◌}
+use Rattle.std.specs.Prelude.{ℕ, zero, suc, ◌+◌, List, [], ◌∷◌, Option, Some, None, length}
 use Rattle.vx_buffer.specs.Buffer.{Buffer}
 use Rattle.vx_trees.specs.Rose.{Rose, Roses, node, end, more}
 use Rattle.vx_trees.specs.Walks.{gathered, gathered_below}
+use Rattle.vx_registry.specs.Context.{place_of}
 use Rattle.vx_serde.specs.Message.{NodeFields}
 use Rattle.vx_serde.specs.Wire.{WireHead, Wire, Wires}
 
@@ -30,8 +31,7 @@ buffers_in w = gathered buffers_at_node w
 
 -- The first place of an identifier in a list.
 abbrev pub index_of : List ℕ → List (List ℕ) → ℕ
-index_of id [] = 0
-index_of id (other ∷ ids) = if bytes_eq id other then 0 else suc (index_of id ids)
+index_of id ids = place_of id ids
 
 -- The place of a node's identifier; 0 where it is missing.
 abbrev pub encoding_index : Option (List ℕ) → List (List ℕ) → ℕ

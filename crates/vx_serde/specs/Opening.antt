@@ -1,13 +1,15 @@
 -- Why a blob's wire tree is not read.
 use Rattle.std.specs.Prelude.{ℕ, ◌≡◌, ◌<◌, ◌+◌, ◌⊎◌, List, ◌++◌, Some, length, Any}
 use Rattle.std.specs.Int.{w32, from_le_bytes}
+use Rattle.vx_flat.specs.declared.error.FlatError.{FlatError}
+use Rattle.vx_flat.specs.declared.error.FlatError.TheVariants as tables
 use Rattle.vx_flat.specs.Value.{Fields}
 use Rattle.vx_flat.specs.Shows.{Shows}
 use Rattle.vx_flat.specs.Weight.{weight}
 use Rattle.vx_flat.specs.Limits.{limits, IsLight}
 use Rattle.vx_trees.specs.Rose.{Rose}
 use Rattle.vx_serde.specs.declared.error.WireError.{WireError}
-use Rattle.vx_serde.specs.declared.error.WireError.TheVariants.{OutOfMemory, TooShort, BadTable, TableLimit, BadAlignment, Compressed, OutOfBounds}
+use Rattle.vx_serde.specs.declared.error.WireError.TheVariants.{OutOfMemory, TooShort, BadTable, TableLimit, BadAlignment, Compressed, OutOfBounds, WireLimit}
 use Rattle.vx_serde.specs.ArraySchema.{array_schema}
 use Rattle.vx_serde.specs.Message.{Descriptor, NodeFields, Message, message_of}
 use Rattle.vx_serde.specs.Blob.{IsBlob, Carries, AreClean, end_of}
@@ -76,3 +78,10 @@ IsUndescribed BadAlignment d place segment = 16 < d.exponent
 IsUndescribed Compressed d place segment = 0 < d.compression
 IsUndescribed OutOfBounds d place segment = segment < place + d.padding + d.len
 IsUndescribed _ d place segment = ⊥
+
+-- Why a message is not read, as a refusal of a blob.
+abbrev pub table_error : FlatError → WireError
+table_error tables.OutOfMemory = OutOfMemory
+table_error tables.BadTable = BadTable
+table_error tables.TableLimit = TableLimit
+table_error tables.MessageTooLong = WireLimit

@@ -6,6 +6,7 @@ ghost use Rattle.vx_serde.specs.Errors.{error_number};
 
 use std::alloc::{AllocError, AllocFailed};
 use thiserror::Error;
+use vx_arrays::ArrayError;
 use vx_buffer::BufferError;
 use vx_types::TypeError;
 
@@ -104,6 +105,14 @@ impl From<TypeError> for WireError {
     ghost from_gives = { λ _ e. e ≡ OutOfMemory };
 
     fn from(_e: TypeError) -> WireError {
+        WireError::OutOfMemory
+    }
+}
+
+impl From<ArrayError> for WireError {
+    ghost from_gives = { λ _ e. e ≡ OutOfMemory };
+
+    fn from(_e: ArrayError) -> WireError {
         WireError::OutOfMemory
     }
 }

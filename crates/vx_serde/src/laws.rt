@@ -1,13 +1,19 @@
 //! What holds of the definitions of this crate. A caller of these functions learns the laws.
 
-ghost use Rattle.std.specs.Prelude.{◌≡◌, ℕ, List, ◌≤◌, length, slice_get, All};
+ghost use Rattle.std.specs.Prelude.{◌≡◌, ℕ, List, Some, ◌≤◌, length, slice_get, All};
 ghost use Rattle.vx_serde.specs.declared.options.SerializeOptions.{SerializeOptions};
 ghost use Rattle.vx_serde.specs.Message.{message_of};
 ghost use Rattle.vx_serde.specs.Wire.{Wire, IsClean};
 ghost use Rattle.vx_serde.specs.Blob.{Carries, AreClean};
 ghost use Rattle.vx_serde.specs.Numbered.{ids_in, index_of};
 ghost use Rattle.vx_serde.specs.Written.{blob_bytes, IsWritable};
+ghost use Rattle.vx_serde.specs.Spells.{Spells, canon, blob_of, KeepsWriterLimits};
+ghost use Rattle.vx_types.specs.Typ.{Typ};
+ghost use Rattle.vx_arrays.specs.Tree.{Tree};
+ghost use Rattle.vx_registry.specs.Context.{Context, grown};
+ghost use Rattle.vx_registry.specs.Session.{SessionMeaning, IsPaired};
 
+use vx_encodings::laws::{body_law, id_law, one_value_law, plan_law, read_back_law};
 use vx_flat::laws::{layout_is_shown, one_value};
 
 /// A blob carries at most one wire tree, beside one list of identifiers.
@@ -24,4 +30,26 @@ pub fn written_is_carried()
         → IsWritable ids options w → (c : Carries (blob_bytes ids options w) ids w) × AreClean c.segment (message_of c.value).descriptors }
 {
     layout_is_shown();
+}
+
+/// A blob spells at most one array at a type and a length, beside one list of identifiers and under one session.
+pub fn one_array()
+    ensures { (blob : List ℕ) (ids : List (List ℕ)) (d : Typ) (n : ℕ) (s : SessionMeaning) (t u : Tree) → Spells blob ids d n s t → Spells blob ids d n s u → t ≡ u }
+{
+    body_law();
+    plan_law();
+    one_value_law();
+    one_tree();
+}
+
+/// What is written for an array that was read, under limits that hold, spells the array again with the context's
+/// identifiers.
+pub fn written_is_spelled()
+    ensures { (s : SessionMeaning) (blob : List ℕ) (ids : List (List ℕ)) (d : Typ) (n : ℕ) (t : Tree) (old new : Context) (options : SerializeOptions)
+        → IsPaired s → Spells blob ids d n s t → grown old t ≡ Some new → length old.ids ≤ 65536 → KeepsWriterLimits s t old options
+        → Spells (blob_of s t old options) new.ids d n s (canon t) }
+{
+    id_law();
+    read_back_law();
+    written_is_carried();
 }

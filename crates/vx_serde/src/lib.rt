@@ -2,14 +2,25 @@
 #![tactic(auto)]
 
 mod array_kind;
+mod decoding;
 mod error;
 pub mod laws;
+mod limits;
 mod message;
+mod numbering;
 mod opening;
 mod options;
+mod placing;
+mod recoding;
 mod tree;
+mod wiring;
+mod writing;
+
+#[cfg(test)]
+mod writing_tests;
 
 pub use array_kind::ArrayKind;
 pub use error::WireError;
 pub use message::Descriptor;
 pub use options::SerializeOptions;
+pub use recoding::{Recoded, recode};

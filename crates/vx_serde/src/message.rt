@@ -1,11 +1,11 @@
 //! The parts of an array message's value.
 
-ghost use Rattle.std.specs.Prelude.{◌≡◌, ◌<◌, ◌∷◌, [], IfOk, IfSome, IfNone, map, length};
+ghost use Rattle.std.specs.Prelude.{◌≡◌, ◌<◌, ◌∷◌, [], IfOk, IfSome, IfNone, Some, None, map, length};
 ghost use Rattle.vx_flat.specs.View.{view, views, rows_from};
-ghost use Rattle.vx_flat.specs.IsOf.{IsOfKind, AreRowsOf};
-ghost use Rattle.vx_flat.specs.declared.schema.FieldKind.TheVariants.{Tables};
-ghost use Rattle.vx_serde.specs.ArraySchema.{array_schema};
-ghost use Rattle.vx_serde.specs.Message.{number_in, bytes_in, nodes_in, nodes_of, indices_of, descriptors_of};
+ghost use Rattle.vx_flat.specs.IsOf.{AreOf, IsOfKind, AreRowsOf};
+ghost use Rattle.vx_flat.specs.declared.schema.FieldKind.TheVariants.{Table, Tables};
+ghost use Rattle.vx_serde.specs.ArraySchema.{array_schema, node_fields};
+ghost use Rattle.vx_serde.specs.Message.{number_in, bytes_in, node_of, nodes_in, nodes_of, root_in, indices_of, descriptors_of};
 
 use std::alloc::{AllocError, Global};
 use vx_flat::FieldValue;
@@ -40,6 +40,19 @@ pub(crate) fn bytes_of(part: &FieldValue) -> &[u8]
     match part {
         FieldValue::Elements(bytes) => bytes.as_slice(),
         _ => &[],
+    }
+}
+
+/// The fields of a table, where it stands.
+pub(crate) fn table_of(part: &FieldValue) -> Option<&[FieldValue]>
+    requires { IsOfKind array_schema (Table 1) (view part.now) }
+    ensures some { IfSome result (λ fields. root_in (view part.now) ≡ Some (node_of (views fields.now))) }
+    ensures kind { IfSome result (λ fields. AreOf array_schema node_fields (views fields.now)) }
+    ensures none { IfNone result (root_in (view part.now) ≡ None) }
+{
+    match part {
+        FieldValue::Table(fields) => Some(fields.as_slice()),
+        _ => None,
     }
 }
 

@@ -1,22 +1,23 @@
 //! From a blob to its wire tree.
 
-ghost use Rattle.std.specs.Prelude.{◌≡◌, ◌+◌, ◌-◌, ◌<◌, ◌≤◌, ◌^◌, IfOk, IfErr, IfSome, IfNone, OnOk, IsOkUnless, map, length, take, drop, slice_get};
+ghost use Rattle.std.specs.Prelude.{◌≡◌, ◌+◌, ◌-◌, ◌<◌, ◌≤◌, ◌^◌, IfOk, IfErr, IfSome, IfNone, OnOk, IsOkUnless, MatchOption, None, Some, map, length, take, drop, slice_get};
 ghost use Rattle.vx_flat.specs.View.{view, views, value as value_of, rows_from};
 ghost use Rattle.vx_flat.specs.IsOf.{AreOf, IsOfKind, AreRowsOf};
 ghost use Rattle.vx_flat.specs.declared.schema.FieldKind.TheVariants.{Number};
 ghost use Rattle.vx_flat.specs.declared.schema.Width.TheVariants.{Two};
 ghost use Rattle.vx_trees.specs.Rose.{roses_of};
-ghost use Rattle.vx_serde.specs.ArraySchema.{array_schema, node_fields};
+ghost use Rattle.vx_serde.specs.ArraySchema.{array_schema, array_fields, node_fields};
 ghost use Rattle.vx_serde.specs.Message.{number_in, bytes_in, nodes_in, nodes_of, node_of, message_of, indices_of, descriptors_of};
 ghost use Rattle.vx_serde.specs.Blob.{IsBlob, AreClean, buffers_at, end_of, wire_of, wires_of};
 ghost use Rattle.vx_serde.specs.Opening.{IsTooShort, AreRefused, IsUnopened, IsOpened, IsUndescribed};
 
 use crate::array_kind::ArrayKind;
 use crate::error::WireError;
-use crate::message::{Descriptor, bytes_of, descriptors, indices, number_of, rows_of};
+use crate::message::{Descriptor, bytes_of, descriptors, indices, number_of, rows_of, table_of};
 use crate::tree::WireNode;
 use std::alloc::Global;
 use vx_buffer::{Alignment, BufferHandle, BufferHandles, ByteBuffer};
+use vx_flat::laws::one_value;
 use vx_flat::{FieldValue, FlatError, read_value};
 use vx_registry::ReadContext;
 use vx_types::{Blob, Id};
@@ -174,4 +175,62 @@ fn wire_rows(
         nodes.push(wire_node(alloc, row.as_slice(), ids, buffers)?)?;
     }
     Ok(nodes)
+}
+
+/// Why a message is not read, as a refusal of a blob.
+impl From<FlatError> for WireError {
+    ghost use Rattle.std.specs.Prelude.{◌≡◌};
+    ghost use Rattle.vx_serde.specs.Opening.{table_error};
+
+    ghost from_gives = { λ e r. r ≡ table_error e };
+
+    fn from(e: FlatError) -> WireError {
+        match e {
+            FlatError::OutOfMemory => WireError::OutOfMemory,
+            FlatError::BadTable => WireError::BadTable,
+            FlatError::TableLimit => WireError::TableLimit,
+            FlatError::MessageTooLong => WireError::WireLimit,
+        }
+    }
+}
+
+/// The parts of a message's value: its root, where it stands, and its descriptors.
+fn parts_of(alloc: Global, fields: &[FieldValue]) -> Result<(Option<&[FieldValue]>, Vec<Descriptor>), WireError>
+    requires { AreOf array_schema array_fields (views fields.now) }
+    ensures root { IfOk result (λ p. MatchOption p.0 ((message_of (views fields.now)).root ≡ None)
+        (λ root. ((message_of (views fields.now)).root ≡ Some (node_of (views root.now))) × AreOf array_schema node_fields (views root.now))) }
+    ensures descriptors { IfOk result (λ p. p.1.items ≡ (message_of (views fields.now)).descriptors) }
+    ensures err { IsOkUnless result WireError.OutOfMemory }
+{
+    let [root, buffers, ..] = fields else {
+        unreachable!();
+    };
+    let root = table_of(root);
+    let buffers = descriptors(alloc, bytes_of(buffers))?;
+    Ok((root, buffers))
+}
+
+/// The wire tree that a blob carries, its nodes' identifiers taken from a list.
+pub(crate) fn open(alloc: Global, blob: &ByteBuffer, ids: &ReadContext) -> Result<WireNode, WireError>
+    ensures opened { IfOk result (λ w. IsOpened blob.now.bytes ids.now w) }
+    ensures cause { IfErr result (λ e. IsUnopened e blob.now.bytes) }
+{
+    one_value();
+    let Some((segment, message)) = split_blob(blob.as_slice()) else {
+        return Err(WireError::TooShort);
+    };
+    let value = match read_value(alloc, message, &ArrayKind) {
+        Ok(value) => value,
+        Err(e) => return Err(WireError::from(e)),
+    };
+    let (root, descriptors) = parts_of(alloc, value.fields.as_slice())?;
+    let segment = blob.slice(alloc, 0..segment.len())?;
+    let buffers = match take_buffers(alloc, &segment, descriptors.as_slice()) {
+        Ok(buffers) => buffers,
+        Err(e) => return Err(e),
+    };
+    let Some(root) = root else {
+        return Err(WireError::BadTable);
+    };
+    Ok(wire_node(alloc, root, ids, &buffers)?)
 }

@@ -1,8 +1,9 @@
 -- What it means that a message shows a type.
 use Rattle.std.specs.Prelude.{◌≡◌, ℕ, List}
-use Rattle.vx_flat.specs.Denotes.{Shows}
+use Rattle.vx_flat.specs.Limits.{IsLight, limits}
+use Rattle.vx_flat.specs.Shows.{Shows}
 use Rattle.vx_flat.specs.Value.{Fields}
-use Rattle.vx_flat.specs.Weight.{IsLight, weight}
+use Rattle.vx_flat.specs.Weight.{weight}
 use Rattle.vx_types.specs.Typ.{Typ, IsType}
 use Rattle.vx_type_wire.specs.Schema.{type_schema}
 use Rattle.vx_type_wire.specs.TypeTable.{type_table}
@@ -14,7 +15,7 @@ ShowsTable m = (v : Fields) × Shows type_schema m v
 -- The message is within the limits: nesting, tables and bytes, each as often as
 -- a path from the root reaches it.
 abbrev pub IsWithinLimits : List ℕ → Type 0
-IsWithinLimits m = IsLight (weight type_schema m)
+IsWithinLimits m = IsLight limits (weight type_schema m)
 
 -- The message is read as the type: within the limits it shows the type's table.
 pub record IsRead (m : List ℕ) (t : Typ) : Type 0 where

@@ -15,7 +15,7 @@ use crate::error::TypeWireError;
 use crate::kind::TypeKind;
 use std::alloc::Global;
 use vx_flat::laws::one_value;
-use vx_flat::{FlatError, Part, read_value};
+use vx_flat::{FieldValue, FlatError, read_value};
 use vx_types::laws::code_is_of_one_kind;
 use vx_types::{DType, Nullability, PType};
 
@@ -47,7 +47,7 @@ impl DTypeExt for DType {
             Err(FlatError::TableLimit) => return Err(TypeWireError::TableLimit),
             Err(FlatError::MessageTooLong) => unreachable!(),
         };
-        let Some(dtype) = type_of(value.parts.as_slice()) else {
+        let Some(dtype) = type_of(value.fields.as_slice()) else {
             return Err(TypeWireError::BadType);
         };
         dtype.hold();
@@ -56,7 +56,7 @@ impl DTypeExt for DType {
 }
 
 // The type whose table has these parts.
-fn type_of(parts: &[Part]) -> Option<DType>
+fn type_of(parts: &[FieldValue]) -> Option<DType>
     ensures table { IfSome result (λ d. type_table (typ d) ≡ views parts.now) }
     ensures none { IfNone result (IsNoType (views parts.now)) }
 {
@@ -68,7 +68,7 @@ fn type_of(parts: &[Part]) -> Option<DType>
 }
 
 // The type of the union's member with this tag, with these parts.
-fn type_at(tag: u8, fields: &[Part]) -> Option<DType>
+fn type_at(tag: u8, fields: &[FieldValue]) -> Option<DType>
     ensures table { IfSome result (λ d. type_table (typ d) ≡ field (member tag (views fields.now)) no_fields) }
     ensures none { IfNone result (IsNoType (field (member tag (views fields.now)) no_fields)) }
 {
@@ -81,7 +81,7 @@ fn type_at(tag: u8, fields: &[Part]) -> Option<DType>
 }
 
 // The type of nulls, where there is no part.
-fn null_type(fields: &[Part]) -> Option<DType>
+fn null_type(fields: &[FieldValue]) -> Option<DType>
     ensures table { IfSome result (λ d. type_table (typ d) ≡ field (member 1 (views fields.now)) no_fields) }
     ensures none { IfNone result (IsNoType (field (member 1 (views fields.now)) no_fields)) }
 {
@@ -92,7 +92,7 @@ fn null_type(fields: &[Part]) -> Option<DType>
 }
 
 // The type of true and false with these parts.
-fn bool_type(fields: &[Part]) -> Option<DType>
+fn bool_type(fields: &[FieldValue]) -> Option<DType>
     ensures table { IfSome result (λ d. type_table (typ d) ≡ field (member 2 (views fields.now)) no_fields) }
     ensures none { IfNone result (IsNoType (field (member 2 (views fields.now)) no_fields)) }
 {
@@ -103,7 +103,7 @@ fn bool_type(fields: &[Part]) -> Option<DType>
 }
 
 // The type of numbers with these parts.
-fn primitive_type(fields: &[Part]) -> Option<DType>
+fn primitive_type(fields: &[FieldValue]) -> Option<DType>
     ensures table { IfSome result (λ d. type_table (typ d) ≡ field (member 3 (views fields.now)) no_fields) }
     ensures none { IfNone result (IsNoType (field (member 3 (views fields.now)) no_fields)) }
 {
@@ -114,7 +114,7 @@ fn primitive_type(fields: &[Part]) -> Option<DType>
 }
 
 // The kind of numbers whose code a part is.
-fn ptype_in(part: &Part) -> Option<PType>
+fn ptype_in(part: &FieldValue) -> Option<PType>
     ensures code { IfSome result (λ kind. number (code_of kind) ≡ view part.now) }
     ensures none { IfNone result ((kind : PType) → number (code_of kind) ≡ view part.now → ⊥) }
 {
@@ -126,7 +126,7 @@ fn ptype_in(part: &Part) -> Option<PType>
 }
 
 // The nullability whose flag a part is.
-fn nullability_in(part: &Part) -> Option<Nullability>
+fn nullability_in(part: &FieldValue) -> Option<Nullability>
     ensures flag { IfSome result (λ n. number (flag_of n) ≡ view part.now) }
     ensures none { IfNone result ((n : Nullability) → number (flag_of n) ≡ view part.now → ⊥) }
 {
@@ -138,23 +138,23 @@ fn nullability_in(part: &Part) -> Option<Nullability>
 }
 
 // The number that a part is.
-fn number_in(part: &Part) -> Option<u64>
+fn number_in(part: &FieldValue) -> Option<u64>
     ensures number { IfSome result (λ n. number n ≡ view part.now) }
     ensures none { IfNone result ((n : ℕ) → number n ≡ view part.now → ⊥) }
 {
     match part {
-        Part::Number(n) => Some(*n),
+        FieldValue::Number(n) => Some(*n),
         _ => None,
     }
 }
 
 // The member of a union that a part is: its tag and its fields.
-fn member_in(part: &Part) -> Option<(u8, &[Part])>
+fn member_in(part: &FieldValue) -> Option<(u8, &[FieldValue])>
     ensures member { IfSome result (λ p. member p.0 (views p.1.now) ≡ view part.now) }
     ensures none { IfNone result ((tag : ℕ) (fields : Fields) → member tag fields ≡ view part.now → ⊥) }
 {
     match part {
-        Part::Member(tag, fields) => Some((*tag, fields.as_slice())),
+        FieldValue::Member(tag, fields) => Some((*tag, fields.as_slice())),
         _ => None,
     }
 }

@@ -1,6 +1,6 @@
 ghost use Rattle.std.specs.Prelude.{◌^◌, [], ◌∷◌, refl};
 ghost use Rattle.std.proofs.Common.{ap};
-ghost use Rattle.vx_proto.specs.FormLaws.{same_member, same_number};
+ghost use Rattle.vx_proto.specs.FormLaws.{same_content, same_number, same_slot};
 ghost use Rattle.vx_proto.specs.Value.{number};
 ghost use Rattle.vx_proto.specs.declared.schema.Kind.TheVariants.{Below};
 ghost use Rattle.vx_proto.specs.declared.schema.Rule.TheVariants.{Plain};
@@ -58,5 +58,5 @@ impl Message for BoolMetadata {
 
     ghost lawful = { refl };
 
-    ghost determined = { λ m n p q e. ap (λ k. record { offset = k }) (same_number m.offset n.offset (same_member 1 (number m.offset) (number n.offset) [] [] e)) };
+    ghost determined = { λ m n p q e. ap (λ k. record { offset = k }) (same_number m.offset n.offset (same_content 1 1 (number m.offset) (number n.offset) [] [] (same_slot ((1, number m.offset) ∷ []) ((1, number n.offset) ∷ []) [] [] e))) };
 }

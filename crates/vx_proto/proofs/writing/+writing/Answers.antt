@@ -2,13 +2,13 @@ use Rattle.std.proofs.Common.{◌≡◌, ◌-◌, ℕ, ◌++◌, List, length, s
 use Rattle.std.specs.Prelude.{reverse}
 use Rattle.vx_proto.specs.Value.{view, slots_of, value_view, entries_view, entries_of, schema_view}
 use Rattle.vx_proto.specs.Reads.{list_at}
-use Rattle.vx_proto.specs.Written.{written_slots, place_in, nested, elem_depth, entries_depth}
+use Rattle.vx_proto.specs.Written.{written_slots, place_in, nested, content_depth, entries_depth}
 use Rattle.vx_proto.proofs.Suffixes.{entry_depth_le, slot_depth_le, message_depth, written_past, turned_length, turned_counted, message_written, on_ok}
 use Rattle.vx_proto.proofs.writing.+writing.Goals as goal
 
 pub push_element-push_message-requires : goal.push_element-push_message-requires
 push_element-push_message-requires t c =
-    let same : elem_depth (view c.args.element.now) ≡ nested (value_view c.deref-in-Message.result.now)
+    let same : content_depth (view c.args.element.now) ≡ nested (value_view c.deref-in-Message.result.now)
     = message_depth c.args.element.now c.in-Message.slots c.in-Message.is ∙ ap (λ v. nested (value_view v)) (sym c.deref-in-Message.ensures.value) in
     (omega (arith, same, c.decreases), tt)
 

@@ -1,12 +1,19 @@
-use Rattle.std.proofs.Common.{◌≡◌, Option, Some, true, false, option_map, position, sym, ◌∙◌, subst}
-use Rattle.vx_registry.specs.Context.{Context, is_allowed, is_among, IsInterned}
-use Rattle.vx_registry.proofs.Interning.{found}
+use Rattle.std.proofs.Common.{sym, ◌∙◌}
+use Rattle.vx_registry.specs.contracts.context.ArrayContext.{the_view}
+use Rattle.vx_registry.proofs.Interning.{found_in}
 use Rattle.vx_registry.proofs.context.ArrayContext.intern.Goals as goal
 
 pub returns-in-Some-clause-interned : goal.returns-in-Some-clause-interned
 returns-in-Some-clause-interned c =
-    let shown : Context = record { ids = c.self.inside.ids.keys; allowed = option_map (λ s. s.keys) c.self.inside.allowed } in
-    let P : Context → Type 0 = λ z. IsInterned z c.args.id.now c.place.result z in
-    let allowed : is_allowed shown.allowed c.args.id.now ≡ true = cc in
-    subst P c.self.view_is
-    (found shown c.args.id.now c.in-Some.index c.place.result allowed (sym c.in-Some.ensures.index) (sym c.in-Some.ensures.found) c.place.ensures.some c.place.ensures.small c.place.ensures.none)
+    (found_in (the_view c.self.inside) c.args.self.now c.args.id.now c.in-Some.index c.place.result c.self.view_is (sym c.is_allowed.ensures ∙ c.if-not-is_allowed.false) (sym c.in-Some.ensures.index) (sym c.in-Some.ensures.found)
+      c.place.ensures.some c.place.ensures.small c.place.ensures.none).interned_is
+
+pub returns-in-Some-clause-place : goal.returns-in-Some-clause-place
+returns-in-Some-clause-place c =
+    (found_in (the_view c.self.inside) c.args.self.now c.args.id.now c.in-Some.index c.place.result c.self.view_is (sym c.is_allowed.ensures ∙ c.if-not-is_allowed.false) (sym c.in-Some.ensures.index) (sym c.in-Some.ensures.found)
+      c.place.ensures.some c.place.ensures.small c.place.ensures.none).place_is
+
+pub returns-in-Some-clause-refused : goal.returns-in-Some-clause-refused
+returns-in-Some-clause-refused c =
+    (found_in (the_view c.self.inside) c.args.self.now c.args.id.now c.in-Some.index c.place.result c.self.view_is (sym c.is_allowed.ensures ∙ c.if-not-is_allowed.false) (sym c.in-Some.ensures.index) (sym c.in-Some.ensures.found)
+      c.place.ensures.some c.place.ensures.small c.place.ensures.none).refused

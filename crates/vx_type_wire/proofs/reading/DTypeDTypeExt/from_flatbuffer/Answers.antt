@@ -14,9 +14,9 @@ returns-in-Err-BadTable-clause-complete c = λ t r. absurd (c.in-Err-BadTable.en
 
 pub returns-in_default-clause-complete : goal.returns-in_default-clause-complete
 returns-in_default-clause-complete c =
-    λ t r. absurd (c.in_default.ensures.none t r.is_type (c.one_value.ensures type_schema c.args.message.now (type_table t) (value c.in-Ok.value) r.shown c.in-Ok.ensures.shows ∙ ap views (sym c.as_slice.ensures.value)))
+    λ t r. absurd (c.in_default.ensures.none t r.is_type (c.one_value.ensures.message type_schema c.args.message.now (type_table t) (value c.in-Ok.value) r.shown c.in-Ok.ensures.shows ∙ ap views (sym c.as_slice.ensures.value)))
 
 pub returns-clause-complete : goal.returns-clause-complete
 returns-clause-complete c =
     λ t r. type_table-injective c.code_is_of_one_kind.ensures (typ c.in-Some.dtype) t c.hold.ensures r.is_type
-    (c.in-Some.ensures.table ∙ ap views c.as_slice.ensures.value ∙ c.one_value.ensures type_schema c.args.message.now (value c.in-Ok.value) (type_table t) c.in-Ok.ensures.shows r.shown)
+    (c.in-Some.ensures.table ∙ ap views c.as_slice.ensures.value ∙ c.one_value.ensures.message type_schema c.args.message.now (value c.in-Ok.value) (type_table t) c.in-Ok.ensures.shows r.shown)

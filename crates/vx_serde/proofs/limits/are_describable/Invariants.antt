@@ -1,0 +1,7 @@
+use Rattle.std.proofs.Common.{ℕ, ◌<◌, get_or}
+use Rattle.vx_buffer.specs.Buffer.{Buffer}
+use Rattle.vx_serde.specs.Describable.{IsDescribable}
+use Rattle.vx_serde.proofs.limits.are_describable.Given as goal
+
+abbrev pub invariant-loop-buffer : goal.invariant-loop-buffer
+invariant-loop-buffer l = (k : ℕ) (d : Buffer) → k < l.buffer-index → IsDescribable (get_or l.buffers k d)

@@ -1,0 +1,56 @@
+-- Why a tree is not written.
+use Rattle.std.specs.Prelude.{ℕ, ◌≡◌, ◌<◌, ◌≤◌, ◌^◌, List, Some, None, length}
+use Rattle.vx_flat.specs.Limits.{limits, IsLight}
+use Rattle.vx_flat.specs.Weight.{weight}
+use Rattle.vx_registry.specs.Context.{Context, grown_by}
+use Rattle.vx_serde.specs.declared.error.WireError.{WireError}
+use Rattle.vx_serde.specs.declared.error.WireError.TheVariants.{OutOfMemory, NotPermitted, WireLimit}
+use Rattle.vx_serde.specs.declared.options.SerializeOptions.{SerializeOptions}
+use Rattle.vx_serde.specs.Wire.{Wire}
+use Rattle.vx_trees.specs.Walks.{levels}
+use Rattle.vx_serde.specs.ArraySchema.{array_schema}
+use Rattle.vx_serde.specs.Describable.{AreDescribable}
+use Rattle.vx_serde.specs.MessageValue.{descriptors_bytes}
+use Rattle.vx_serde.specs.Numbered.{ids_in, buffers_in}
+use Rattle.vx_serde.specs.Placing.{descriptors_from, data_end}
+use Rattle.vx_serde.specs.Written.{IsWritable}
+
+-- Identifiers are refused because the context takes one of them not, or for want of memory.
+abbrev pub IsUngrown : List (List ℕ) → Context → WireError → Type 0
+IsUngrown ids c OutOfMemory = Unit {0}
+IsUngrown ids c NotPermitted = grown_by ids c ≡ None
+IsUngrown ids c _ = ⊥
+
+-- A tree is refused for want of memory, because the context does not take its
+-- identifiers, or because it passes a limit with the context that takes them.
+abbrev pub IsUnwritten : Context → SerializeOptions → Wire → WireError → Type 0
+IsUnwritten c options w OutOfMemory = Unit {0}
+IsUnwritten c options w NotPermitted = grown_by (ids_in w) c ≡ None
+IsUnwritten c options w WireLimit = (d : Context) → grown_by (ids_in w) c ≡ Some d → IsWritable d.ids options w → ⊥
+IsUnwritten c options w _ = ⊥
+
+-- The limits that a tree keeps whatever its identifiers: its levels, its buffers, and
+-- the position where the last of them ends.
+pub record IsPlaceable (options : SerializeOptions) (w : Wire) : Type 0 where
+  pub nested : levels w ≤ 62
+  pub few : length (buffers_in w) ≤ 65535
+  pub describable : AreDescribable (buffers_in w)
+  pub ends : data_end options options.offset (buffers_in w) < 2 ^ 64
+
+-- A tree with such limits, the bytes of its descriptors, and where its last buffer ends.
+pub record IsPlaced (options : SerializeOptions) (w : Wire) (descriptors : List ℕ) (last : ℕ) : Type 0 where
+  pub placeable : IsPlaceable options w
+  pub descriptors_are : descriptors ≡ descriptors_bytes (descriptors_from options options.offset (buffers_in w))
+  pub last_is : last ≡ data_end options options.offset (buffers_in w)
+
+-- Buffers are not placed for want of memory, or because the tree passes one of these limits.
+abbrev pub IsUnplaced : SerializeOptions → Wire → WireError → Type 0
+IsUnplaced options w OutOfMemory = Unit {0}
+IsUnplaced options w WireLimit = IsPlaceable options w → ⊥
+IsUnplaced options w _ = ⊥
+
+-- A message is not written for want of memory, or because it is too long or too heavy.
+abbrev pub IsTooHeavy : List ℕ → WireError → Type 0
+IsTooHeavy message OutOfMemory = Unit {0}
+IsTooHeavy message WireLimit = length message < 2 ^ 31 → IsLight limits (weight array_schema message) → ⊥
+IsTooHeavy message _ = ⊥

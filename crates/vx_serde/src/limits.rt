@@ -1,0 +1,58 @@
+//! The limits on trees that are written.
+
+ghost use Rattle.std.specs.Prelude.{◌≡◌, ◌≤◌, ◌<◌, ◌^◌, ◌-◌, ◌↔◌, IsTrue, All, length};
+ghost use Rattle.vx_trees.specs.Walks.{levels};
+ghost use Rattle.vx_serde.specs.Describable.{IsDescribable, AreDescribable};
+
+use crate::tree::WireNode;
+use vx_buffer::BufferHandle;
+
+/// How many levels of nodes a written tree may have.
+pub const MAX_LEVELS: usize = 62;
+
+/// How many buffers a written tree may have.
+pub const MAX_BUFFERS: usize = 65_535;
+
+/// How many bytes a written buffer may have.
+pub const MAX_BUFFER_LEN: usize = 4_294_967_295;
+
+/// The greatest exponent of a written buffer's alignment.
+pub const MAX_EXPONENT: u8 = 16;
+
+/// Whether a tree has at most this many levels.
+#[tactic(auto, using(vx_trees::proofs::Counting::level_facts, vx_trees::proofs::Roses::roses))]
+pub(crate) fn has_levels_within(node: &WireNode, limit: usize) -> bool
+    ensures { IsTrue result ↔ (levels node.now ≤ limit) }
+{
+    if limit == 0 {
+        return false;
+    }
+    for child in node.children() {
+        if !has_levels_within(child, limit - 1) {
+            return false;
+        }
+    }
+    true
+}
+
+/// Whether a descriptor can tell a buffer.
+fn is_describable(buffer: &BufferHandle) -> bool
+    ensures { IsTrue result ↔ IsDescribable buffer.now }
+{
+    if buffer.alignment().exponent() > MAX_EXPONENT {
+        return false;
+    }
+    buffer.len() <= MAX_BUFFER_LEN
+}
+
+/// Whether a descriptor can tell each of these buffers: its exponent and its length.
+pub(crate) fn are_describable(buffers: &[BufferHandle]) -> bool
+    ensures { IsTrue result ↔ AreDescribable buffers.now }
+{
+    for buffer in buffers {
+        if !is_describable(buffer) {
+            return false;
+        }
+    }
+    true
+}

@@ -1,0 +1,157 @@
+//! The nodes of a wire tree as tables: identifiers by their numbers in a context, buffers by their
+//! numbers in preorder.
+
+ghost use Rattle.std.specs.Prelude.{◌≡◌, ◌+◌, ◌≤◌, ◌<◌, ◌^◌, ◌++◌, ℕ, List, Some, length, IfOk, IfErr, OnOk};
+ghost use Rattle.vx_flat.specs.IsOf.{AreOf, AreRowsOf};
+ghost use Rattle.vx_flat.specs.Value.{number, elements, table, tables, no_fields, field};
+ghost use Rattle.vx_flat.specs.View.{views};
+ghost use Rattle.vx_registry.specs.Context.{grown_by};
+ghost use Rattle.vx_trees.specs.Rose.{label};
+ghost use Rattle.vx_serde.specs.ArraySchema.{array_schema, node_fields, stats_fields};
+ghost use Rattle.vx_serde.specs.KeptContext.{KeepsContext};
+ghost use Rattle.vx_serde.specs.MessageValue.{index_bytes, no_stats, node_value};
+ghost use Rattle.vx_serde.specs.Numbered.{present, id_in, ids_in, buffers_in, encoding_index, numbers_from, numbered};
+ghost use Rattle.vx_serde.specs.TableViews.{tables_of};
+ghost use Rattle.vx_serde.specs.Unwritten.{IsUngrown};
+
+use crate::error::WireError;
+use crate::tree::WireNode;
+use std::alloc::{AllocError, Global};
+use vx_buffer::BufferHandle;
+use vx_flat::FieldValue;
+use vx_registry::{ArrayContext, RegistryError};
+
+impl From<RegistryError> for WireError {
+    ghost use Rattle.std.specs.Prelude.{◌≡◌};
+    ghost use Rattle.vx_serde.specs.declared.error.WireError.TheVariants.{OutOfMemory};
+
+    ghost from_gives = { λ _ e. e ≡ OutOfMemory };
+
+    fn from(_e: RegistryError) -> WireError {
+        WireError::OutOfMemory
+    }
+}
+
+/// The number of a node's identifier, which the context takes where it is new; 0 where it is missing.
+fn encoding_number(node: &WireNode, ctx: &mut ArrayContext) -> Result<u16, WireError>
+    ensures grown { OnOk result (grown_by (id_in (label node.now)) ctx.old ≡ Some ctx.new) }
+    ensures number { IfOk result (λ n. (more : List (List ℕ)) → encoding_index (label node.now).id (ctx.new.ids ++ more) ≡ n) }
+    ensures fits { IfOk result (λ n. n < 2 ^ 16) }
+    ensures kept { KeepsContext (id_in (label node.now)) ctx.old ctx.new }
+    ensures refused { IfErr result (IsUngrown (id_in (label node.now)) ctx.old) }
+{
+    let Some(id) = node.id() else {
+        return Ok(0);
+    };
+    match ctx.intern(id)? {
+        Some(number) => Ok(number),
+        None => Err(WireError::NotPermitted),
+    }
+}
+
+/// How many buffers are not missing.
+fn count_present(buffers: &[Option<BufferHandle>]) -> usize
+    ensures { result ≡ length (present buffers.now) }
+{
+    let mut count: usize = 0;
+    for buffer in buffers {
+        if buffer.is_some() {
+            count += 1;
+        }
+    }
+    count
+}
+
+/// This many numbers from the first on, in two bytes each.
+fn number_bytes(alloc: Global, first: usize, count: usize) -> Result<Vec<u8>, AllocError>
+    requires { first + count ≤ 65535 }
+    ensures { IfOk result (λ v. v.items ≡ index_bytes (numbers_from first count)) }
+{
+    let mut bytes = Vec::new(alloc);
+    for i in 0..count {
+        bytes.extend_from_slice(&((first + i) as u16).to_le_bytes())?;
+    }
+    Ok(bytes)
+}
+
+/// Statistics of which none stands.
+fn no_statistics(alloc: Global) -> Result<Vec<FieldValue>, AllocError>
+    ensures { IfOk result (λ v. views v.items ≡ no_stats) }
+{
+    Ok(Vec::from_array(
+        alloc,
+        [
+            FieldValue::Absent,
+            FieldValue::Number(0),
+            FieldValue::Absent,
+            FieldValue::Number(0),
+            FieldValue::Absent,
+            FieldValue::Absent,
+            FieldValue::Absent,
+            FieldValue::Absent,
+            FieldValue::Absent,
+            FieldValue::Absent,
+            FieldValue::Absent,
+        ],
+    )?)
+}
+
+/// A node as a table: its encoding's number, its metadata, its children as tables, and the numbers of
+/// its buffers.
+fn node_table(
+    alloc: Global,
+    encoding: u16,
+    metadata: &[u8],
+    children: Vec<Vec<FieldValue>>,
+    buffers: Vec<u8>,
+) -> Result<Vec<FieldValue>, AllocError>
+    ensures { IfOk result (λ v. views v.items ≡
+        field (number encoding) (field (elements metadata.now) (field (tables (tables_of children.items)) (field (elements buffers.items) (field (table no_stats) no_fields))))) }
+{
+    let metadata = Vec::from_slice(alloc, metadata)?;
+    let statistics = no_statistics(alloc)?;
+    Ok(Vec::from_array(
+        alloc,
+        [
+            FieldValue::Number(encoding as u64),
+            FieldValue::Elements(metadata),
+            FieldValue::Tables(children),
+            FieldValue::Elements(buffers),
+            FieldValue::Table(statistics),
+        ],
+    )?)
+}
+
+/// A tree as a table. Its identifiers are taken into the context in preorder, and its buffers are
+/// numbered in preorder from `next` on, which goes to the number behind them.
+#[tactic(auto, using(vx_trees::proofs::Roses::roses))]
+pub(crate) fn tree_table(
+    alloc: Global,
+    node: &WireNode,
+    ctx: &mut ArrayContext,
+    next: &mut usize,
+) -> Result<Vec<FieldValue>, WireError>
+    requires { next.old + length (buffers_in node.now) ≤ 65535 }
+    ensures grown { OnOk result (grown_by (ids_in node.now) ctx.old ≡ Some ctx.new) }
+    ensures value { IfOk result (λ v. (more : List (List ℕ)) → views v.items ≡ node_value (numbered (ctx.new.ids ++ more) next.old node.now)) }
+    ensures of_kind { IfOk result (λ v. AreOf array_schema node_fields (views v.items)) }
+    ensures next { OnOk result (next.new ≡ next.old + length (buffers_in node.now)) }
+    ensures kept { KeepsContext (ids_in node.now) ctx.old ctx.new }
+    ensures refused { IfErr result (IsUngrown (ids_in node.now) ctx.old) }
+{
+    let encoding = encoding_number(node, ctx)?;
+    let own = count_present(node.buffers());
+    let buffers = number_bytes(alloc, *next, own)?;
+    *next += own;
+    let mut children = Vec::new(alloc);
+    for child in node.children() {
+        children.push(tree_table(alloc, child, ctx, next)?)?;
+    }
+    Ok(node_table(
+        alloc,
+        encoding,
+        node.metadata().as_slice(),
+        children,
+        buffers,
+    )?)
+}

@@ -1,0 +1,5 @@
+mod DecimalNumbers
+mod IdLines
+mod KnownText
+mod Listings
+mod SevenWords

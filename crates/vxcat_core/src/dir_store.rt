@@ -1,0 +1,112 @@
+use crate::store::{Store, StoreError};
+use std::alloc::{AllocError, AllocFailed, Global};
+use std::fs;
+use std::io::{Read, Write};
+use std::rt::Files;
+use vx_types::{Blob, Name};
+
+// How many bytes one read asks for.
+const PIECE: usize = 1 << 16;
+
+// After as many reads, each of which gave at least one byte, a file counts as one without end.
+const MAX_READS: u64 = 1 << 32;
+
+/// The real files, by their paths from the folder that the program runs in.
+///
+/// It tells nothing of what they hold, since no contract can. Each error of the system is a fault,
+/// an interrupted read or write too; so are a missing file, a folder, and a file without end.
+#[derive(Drop)]
+pub struct DirStore<'a, R: Files> {
+    files: &'a R,
+    asked: Vec<Name>,
+    load_faults: u64,
+    save_faults: u64,
+}
+
+impl<'a, R: Files> DirStore<'a, R> {
+    /// A store that has been asked for nothing.
+    pub fn new(alloc: Global, files: &'a R) -> DirStore<'a, R> {
+        DirStore {
+            files,
+            asked: Vec::new(alloc),
+            load_faults: 0,
+            save_faults: 0,
+        }
+    }
+}
+
+fn read_all<F: Read>(alloc: Global, file: &mut F) -> Result<Vec<u8>, StoreError> {
+    let mut piece = vec![in alloc; 0u8; PIECE]?;
+    let mut bytes = Vec::new(alloc);
+    for _ in 0..MAX_READS {
+        match file.read(piece.as_mut_slice()) {
+            Ok(0) => return Ok(bytes),
+            Ok(count) => bytes.extend_from_slice(&piece[..count])?,
+            Err(_) => return Err(StoreError::Failed),
+        }
+    }
+    Err(StoreError::Failed)
+}
+
+fn write_all<F: Write>(file: &mut F, bytes: &[u8]) -> Result<(), StoreError> {
+    let mut rest = bytes;
+    while !rest.is_empty() {
+        match file.write(rest) {
+            Ok(count) if count > 0 => {
+                let (_, after) = rest.split_at(count);
+                rest = after;
+            }
+            _ => return Err(StoreError::Failed),
+        }
+    }
+    file.flush().map_err(|_| StoreError::Failed)
+}
+
+fn load_file<R: Files>(alloc: Global, files: &R, name: &Name) -> Result<Vec<u8>, StoreError> {
+    match fs::open(files, name.as_str()) {
+        Ok(mut file) => read_all(alloc, &mut file),
+        Err(_) => Err(StoreError::Failed),
+    }
+}
+
+fn save_file<R: Files>(files: &R, name: &Name, bytes: &[u8]) -> Result<(), StoreError> {
+    match fs::create(files, name.as_str()) {
+        Ok(mut file) => write_all(&mut file, bytes),
+        Err(_) => Err(StoreError::Failed),
+    }
+}
+
+impl<R: Files> Store for DirStore<'_, R> {
+    ghost use Rattle.std.specs.Prelude.{false, None};
+
+    ghost state = { λ s. record {
+      tells = false;
+      file = λ name. None;
+      asked = s.asked.items;
+      load_faults = s.load_faults;
+      save_faults = s.save_faults;
+    } };
+
+    fn load(&mut self, alloc: Global, name: &Name) -> Result<Blob, StoreError> {
+        let asked = name.clone(alloc).map_err(|_| StoreError::OutOfMemory)?;
+        self.asked.push(asked)?;
+        match load_file(alloc, self.files, name) {
+            Ok(bytes) => Ok(Blob::new(bytes)),
+            Err(StoreError::OutOfMemory) => Err(StoreError::OutOfMemory),
+            Err(StoreError::Failed) => {
+                self.load_faults = self.load_faults.saturating_add(1);
+                Err(StoreError::Failed)
+            }
+        }
+    }
+
+    fn save(&mut self, _alloc: Global, name: &Name, bytes: &[u8]) -> Result<(), StoreError> {
+        match save_file(self.files, name, bytes) {
+            Ok(()) => Ok(()),
+            Err(_) => {
+                self.save_faults = self.save_faults.saturating_add(1);
+                Err(StoreError::Failed)
+            }
+        }
+    }
+}

@@ -1,0 +1,21 @@
+//! The program over a store of files and a sink for its text, which the caller hands in.
+#![tactic(auto)]
+
+mod dir_store;
+mod id_file;
+mod listing;
+mod mem_sink;
+mod mem_store;
+mod output;
+mod print;
+mod row_text;
+mod sink;
+mod store;
+mod words;
+
+pub use dir_store::DirStore;
+pub use mem_sink::MemSink;
+pub use mem_store::MemStore;
+pub use output::Output;
+pub use sink::{Sink, SinkError};
+pub use store::{Store, StoreError};

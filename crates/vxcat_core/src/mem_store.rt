@@ -1,0 +1,107 @@
+use crate::store::{Store, StoreError};
+use std::alloc::{AllocError, Global};
+use std::collections::BTreeMap;
+use vx_types::{Blob, Name};
+
+/// Files in memory, for tests. Chosen calls of it fail.
+#[derive(Drop)]
+pub struct MemStore {
+    files: BTreeMap<String, Vec<u8>>,
+    asked: Vec<Name>,
+    failing: Vec<u64>,
+    calls: u64,
+    load_faults: u64,
+    save_faults: u64,
+}
+
+impl MemStore {
+    ghost use Rattle.std.specs.Prelude.{◌≡◌};
+
+    /// No files, and no call fails.
+    pub fn new(alloc: Global) -> MemStore {
+        MemStore {
+            files: BTreeMap::new(alloc),
+            asked: Vec::new(alloc),
+            failing: Vec::new(alloc),
+            calls: 0,
+            load_faults: 0,
+            save_faults: 0,
+        }
+    }
+
+    /// Lets the call of this number fail, counted from 1 over loads and saves.
+    ///
+    /// # Errors
+    /// Want of memory.
+    pub fn fail_call(&mut self, number: u64) -> Result<(), AllocError> {
+        self.failing.push(number)?;
+        Ok(())
+    }
+
+    /// Puts a file there. It counts as no call.
+    ///
+    /// # Errors
+    /// Want of memory.
+    pub fn insert(&mut self, alloc: Global, name: &str, bytes: &[u8]) -> Result<(), AllocError> {
+        let key = String::from_str(alloc, name)?;
+        self.files.insert(key, bytes.to_vec(alloc)?)?;
+        Ok(())
+    }
+
+    /// What stands at a name. It counts as no call.
+    pub fn get(&self, name: &str) -> Option<&[u8]> {
+        match self.files.get(name) {
+            Some(bytes) => Some(bytes.as_slice()),
+            None => None,
+        }
+    }
+
+    // Counts a call, and says whether it fails.
+    fn next_call_fails(&mut self) -> bool
+        ensures { self.new ≡ record self.old { calls = self.new.calls } }
+    {
+        self.calls = self.calls.saturating_add(1);
+        self.failing.contains(&self.calls)
+    }
+}
+
+/// A missing name is a fault of loading; a failed save changes no file.
+impl Store for MemStore {
+    ghost use Rattle.std.specs.Prelude.{true};
+    ghost use Rattle.std.specs.Option.{option_map};
+    ghost use Rattle.std.specs.BTreeMap.{get_by_text};
+
+    ghost state = { λ s. record {
+      tells = true;
+      file = λ name. option_map (λ v. v.items) (get_by_text s.files name);
+      asked = s.asked.items;
+      load_faults = s.load_faults;
+      save_faults = s.save_faults;
+    } };
+
+    fn load(&mut self, alloc: Global, name: &Name) -> Result<Blob, StoreError> {
+        let asked = name.clone(alloc).map_err(|_| StoreError::OutOfMemory)?;
+        self.asked.push(asked)?;
+        if !self.next_call_fails()
+            && let Some(bytes) = self.files.get(name.as_str())
+        {
+            let blob = Blob::copy_from(alloc, bytes.as_slice()).map_err(
+                |_| StoreError::OutOfMemory,
+            )?;
+            return Ok(blob);
+        }
+        self.load_faults = self.load_faults.saturating_add(1);
+        Err(StoreError::Failed)
+    }
+
+    #[tactic(auto, using(std::proofs::lemmas::Map::Text::text_keys))]
+    fn save(&mut self, alloc: Global, name: &Name, bytes: &[u8]) -> Result<(), StoreError> {
+        if self.next_call_fails() {
+            self.save_faults = self.save_faults.saturating_add(1);
+            return Err(StoreError::Failed);
+        }
+        let key = String::from_str(alloc, name.as_str())?;
+        self.files.insert(key, bytes.to_vec(alloc)?)?;
+        Ok(())
+    }
+}
