@@ -63,11 +63,6 @@ kept-both xs ys a b c k l = record {
 
 -- ---- places
 
--- the two words for the first place of an identifier
-pub index_of-is : (id : List ℕ) (ids : List (List ℕ)) → index_of id ids ≡ place_of id ids
-index_of-is id [] = refl
-index_of-is id (other ∷ ids) = ap (λ n. if bytes_eq id other then 0 else suc n) (index_of-is id ids)
-
 same-step : (b : Bool) (p q n : ℕ) → (if b then 0 else suc p) < suc n → (p < n → q ≡ p) → (if b then 0 else suc q) ≡ (if b then 0 else suc p)
 same-step true p q n h f = refl
 same-step false p q n h f = ap (λ k. suc k) (f (omega (arith, h)))
@@ -106,7 +101,7 @@ taken-place id a b e = rw (taken-is id a b e) (with_id-place id a.ids)
 
 -- the number of an identifier stays, whatever comes behind it
 pub taken-number : (id : List ℕ) (a b : Context) (n : ℕ) (more : List (List ℕ)) → interned id a ≡ Some b → place_of id b.ids ≡ n → index_of id (b.ids ++ more) ≡ n
-taken-number id a b n more e p = index_of-is id (b.ids ++ more) ∙ place_of-more id b.ids more (taken-place id a b e) ∙ p
+taken-number id a b n more e p = place_of-more id b.ids more (taken-place id a b e) ∙ p
 
 one-among : (id : List ℕ) → All (λ x. Contains (id ∷ []) x) (id ∷ [])
 one-among id zero d h = (0, omega arith, refl)

@@ -69,8 +69,8 @@ kept-child w ts i child a b c d e h at p q k =
     let Q : Wire → Type 0 = λ t. KeepsContext (ids_in t) c d in
     subst P (sym (gathered-child (λ h. id_in h) w ts i child e h))
     (kept-first (before ++ ids_in (get_or ts i child)) rest a d
-     (kept-both before (ids_in (get_or ts i child)) a c d
-      (kept-grown before a c (grown-both (id_in (label w)) (gathered_below (λ h. id_in h) (roses_of (take i ts))) a b c p q)) (subst Q at k)))
+    (kept-both before (ids_in (get_or ts i child)) a c d
+    (kept-grown before a c (grown-both (id_in (label w)) (gathered_below (λ h. id_in h) (roses_of (take i ts))) a b c p q)) (subst Q at k)))
 
 pub ungrown-child : (w : Wire) (ts : List Wire) (i : ℕ) (child : Wire) (a b c : Context) (r : WireError) → roses_of ts ≡ below w → i < length ts → child ≡ get_or ts i child
     → grown_by (id_in (label w)) a ≡ Some b → grown_by (gathered_below (λ h. id_in h) (roses_of (take i ts))) b ≡ Some c → IsUngrown (ids_in child) c r → IsUngrown (ids_in w) a r
@@ -81,8 +81,8 @@ ungrown-child w ts i child a b c r e h at p q u =
     let Q : Wire → Type 0 = λ t. IsUngrown (ids_in t) c r in
     subst P (sym (gathered-child (λ h. id_in h) w ts i child e h))
     (ungrown-first (before ++ ids_in (get_or ts i child)) rest a r
-     (ungrown-second before (ids_in (get_or ts i child)) a c r
-      (grown-both (id_in (label w)) (gathered_below (λ h. id_in h) (roses_of (take i ts))) a b c p q) (subst Q at u)))
+    (ungrown-second before (ids_in (get_or ts i child)) a c r
+    (grown-both (id_in (label w)) (gathered_below (λ h. id_in h) (roses_of (take i ts))) a b c p q) (subst Q at u)))
 
 pub grown-child : (ts : List Wire) (i : ℕ) (child : Wire) (b c d : Context) → i < length ts → child ≡ get_or ts i child
     → grown_by (gathered_below (λ h. id_in h) (roses_of (take i ts))) b ≡ Some c → grown_by (ids_in child) c ≡ Some d → grown_by (gathered_below (λ h. id_in h) (roses_of (take (i + 1) ts))) b ≡ Some d
@@ -105,4 +105,4 @@ kept-front w ts i a b c e p q =
     let P : List (List ℕ) → Type 0 = λ ids. KeepsContext ids a c in
     subst P (sym (gathered-front (λ h. id_in h) w ts i e))
     (kept-first before (gathered_below (λ h. id_in h) (roses_of (drop i ts))) a c
-     (kept-grown before a c (grown-both (id_in (label w)) (gathered_below (λ h. id_in h) (roses_of (take i ts))) a b c p q)))
+    (kept-grown before a c (grown-both (id_in (label w)) (gathered_below (λ h. id_in h) (roses_of (take i ts))) a b c p q)))

@@ -5,6 +5,7 @@ pub mod NumberedTables
 pub mod PlacedData
 pub mod WalkedNodes
 pub mod GrownNodes
+pub mod WholeBlob
 pub mod Descriptions
 pub mod NodeParts
 pub mod Refusing

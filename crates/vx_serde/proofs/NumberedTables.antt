@@ -100,13 +100,13 @@ pub value-whole : (ids : List (List ℕ)) (n own encoding i : ℕ) (rows : List 
     → field (number encoding) (field (elements metadata) (field (tables (tables_of rows)) (field (elements buffers) (field (table no_stats) no_fields)))) ≡ node_value (numbered ids n w)
 value-whole ids n own encoding i rows metadata buffers w ts e h p q c d v =
     let all : tables_of rows ≡ rows_value (numbered_below ids (n + length (present (label w).buffers)) (below w)) =
-        v ∙ ap (λ us. rows_value (numbered_below ids (n + own) (roses_of us))) (take_all i ts h) ∙ ap (λ us. rows_value (numbered_below ids (n + own) us)) e
-        ∙ ap (λ k. rows_value (numbered_below ids (n + k) (below w))) c in
+    v ∙ ap (λ us. rows_value (numbered_below ids (n + own) (roses_of us))) (take_all i ts h) ∙ ap (λ us. rows_value (numbered_below ids (n + own) us)) e
+    ∙ ap (λ k. rows_value (numbered_below ids (n + k) (below w))) c in
     ap (λ k. field (number k) (field (elements metadata) (field (tables (tables_of rows)) (field (elements buffers) (field (table no_stats) no_fields))))) (sym p)
     ∙ ap (λ m. field (number (encoding_index (label w).id ids)) (field (elements m) (field (tables (tables_of rows)) (field (elements buffers) (field (table no_stats) no_fields))))) q
     ∙ ap (λ rs. field (number (encoding_index (label w).id ids)) (field (elements (label w).metadata) (field (tables rs) (field (elements buffers) (field (table no_stats) no_fields))))) all
     ∙ ap (λ bs. field (number (encoding_index (label w).id ids)) (field (elements (label w).metadata) (field (tables (rows_value (numbered_below ids (n + length (present (label w).buffers)) (below w)))) (field (elements bs) (field (table no_stats) no_fields)))))
-      (d ∙ ap (λ k. index_bytes (numbers_from n k)) c)
+    (d ∙ ap (λ k. index_bytes (numbers_from n k)) c)
     ∙ ap (λ t. node_value t) (sym (numbered-is ids n w))
 
 even-bytes : (n k : ℕ) → length (index_bytes (numbers_from n k)) ≡ 2 * k

@@ -19,7 +19,7 @@ pub data_end-next : (o : SerializeOptions) (p : ℕ) (bs : List Buffer) (i : ℕ
 data_end-next o p bs i b h e =
     rw (drop-cons bs i b)
     (let P : Buffer → Type 0 = λ d. p + pad o b.exponent p + length b.bytes ≤ data_end o p (d ∷ drop (suc i) bs) in
-     subst P e (data_end-least o (p + pad o b.exponent p + length b.bytes) (drop (suc i) bs)))
+    subst P e (data_end-least o (p + pad o b.exponent p + length b.bytes) (drop (suc i) bs)))
 
 -- ---- bytes
 

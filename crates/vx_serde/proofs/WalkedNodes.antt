@@ -39,8 +39,13 @@ module _ {L A : Type 0} (f : L → List A) where
   room-child t ts i d first own next limit e h p q r =
       let before = f (label t) ++ gathered_below f (roses_of (take i ts)) in
       let child = gathered f (get_or ts i d) in
-      omega (arith, ap (λ z. length z) (gathered-child t ts i d e h), length-append (before ++ child) (gathered_below f (roses_of (drop (suc i) ts))), length-append before child,
-          length-append (f (label t)) (gathered_below f (roses_of (take i ts))))
+      omega (
+        arith,
+        ap (λ z. length z) (gathered-child t ts i d e h),
+        length-append (before ++ child) (gathered_below f (roses_of (drop (suc i) ts))),
+        length-append before child,
+        length-append (f (label t)) (gathered_below f (roses_of (take i ts))),
+      )
 
   pub room-own : (t : Rose L) (first own limit : ℕ) → own ≡ length (f (label t)) → first + length (gathered f t) ≤ limit → first + own ≤ limit
   room-own t first own limit p r = omega (arith, ap (λ z. length z) (gathered-is f t), length-append (f (label t)) (gathered_below f (below t)))

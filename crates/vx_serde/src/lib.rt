@@ -15,7 +15,6 @@ mod recoding;
 mod tree;
 mod wiring;
 mod writing;
-
 #[cfg(test)]
 mod writing_tests;
 

@@ -66,11 +66,7 @@ pub(crate) fn pad_at(options: &SerializeOptions, exponent: u8, position: usize) 
 }
 
 /// The descriptor of a buffer that may start at this position.
-fn descriptor_at(
-    options: &SerializeOptions,
-    position: usize,
-    buffer: &BufferHandle,
-) -> Descriptor
+fn descriptor_at(options: &SerializeOptions, position: usize, buffer: &BufferHandle) -> Descriptor
     requires { IsDescribable buffer.now }
     ensures padding { result.padding ≡ pad options.now buffer.now.exponent position }
     ensures exponent { result.exponent ≡ buffer.now.exponent }

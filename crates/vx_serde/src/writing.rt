@@ -1,6 +1,6 @@
 //! Wire trees as blobs.
 
-ghost use Rattle.std.specs.Prelude.{◌≡◌, ◌+◌, ◌≤◌, ◌<◌, ◌-◌, ◌^◌, ◌++◌, [], ◌∷◌, Some, false, length, IfOk, IfErr, OnOk};
+ghost use Rattle.std.specs.Prelude.{◌≡◌, ◌+◌, ◌≤◌, ◌<◌, ◌-◌, ◌^◌, ◌++◌, [], ◌∷◌, Some, false, IsTrue, IsFalse, length, IfOk, IfErr, OnOk};
 ghost use Rattle.std.specs.Int.{w32, to_le_bytes};
 ghost use Rattle.vx_flat.specs.IsOf.{IsOf};
 ghost use Rattle.vx_flat.specs.Layout.{layout};
@@ -25,12 +25,14 @@ use crate::error::WireError;
 use crate::limits::{MAX_BUFFERS, MAX_LEVELS, are_describable, has_levels_within};
 use crate::numbering::tree_table;
 use crate::options::SerializeOptions;
-use crate::placing::{Placed, describe, greatest_alignment, pad_at, push_buffers, push_data, push_pad};
+use crate::placing::{
+    Placed, describe, greatest_alignment, pad_at, push_buffers, push_data, push_pad,
+};
 use crate::tree::WireNode;
 use std::alloc::{AllocError, Global};
 use vx_buffer::{BufferError, BufferHandle, BufferHandles, ByteBuffer, ByteBuffers};
 use vx_flat::laws::layout_is_shown;
-use vx_flat::{FlatError, FieldValue, TableValue, read_value, write_value};
+use vx_flat::{FieldValue, FlatError, TableValue, read_value, write_value};
 use vx_registry::ArrayContext;
 
 /// The value of an array message: a root node and descriptors.
@@ -121,6 +123,17 @@ fn place(
     Ok((buffers, placed))
 }
 
+/// Whether a blob ends within the positions of 64 bits: the position where its data ends, the
+/// pad in front of its message, and the message's length are given.
+fn has_end(end: usize, padding: usize, message: usize) -> bool
+    requires pad { padding < 2 ^ 16 }
+    requires short { message < 2 ^ 31 }
+    ensures within { IsTrue result → end + (padding + message + 4) < 2 ^ 64 }
+    ensures late { IsFalse result → 2 ^ 64 ≤ end + (padding + message + 4) }
+{
+    end.checked_add(padding + message + 4).is_some()
+}
+
 /// Writes a wire tree: the buffers, one after the other, are its blob.
 pub(crate) fn write_wire(
     alloc: Global,
@@ -141,14 +154,8 @@ pub(crate) fn write_wire(
     let value = message_table(alloc, root, placed.descriptors)?;
     let message = message_bytes(alloc, &value)?;
     let padding = pad_at(options, 3, placed.end);
-    if placed.end.checked_add(padding + message.len() + 4).is_none() {
+    if !has_end(placed.end, padding, message.len()) {
         return Err(WireError::WireLimit);
     }
-    Ok(blob_buffers(
-        alloc,
-        options,
-        buffers.as_slice(),
-        padding,
-        message,
-    )?)
+    Ok(blob_buffers(alloc, options, buffers.as_slice(), padding, message)?)
 }

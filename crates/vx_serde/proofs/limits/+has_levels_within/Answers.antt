@@ -1,5 +1,4 @@
 use Rattle.std.proofs.Common.{◌≤◌, ◌-◌, subst}
-use Rattle.vx_trees.specs.Rose.{Rose}
 use Rattle.vx_trees.specs.Walks.{levels}
 use Rattle.vx_trees.proofs.Counting.{levels-more}
 use Rattle.vx_serde.specs.Wire.{Wire}

@@ -1,7 +1,7 @@
 use Rattle.std.proofs.Common.{◌≡◌, ◌+◌, ◌++◌, ℕ, List, Some, length, take}
 use Rattle.vx_flat.specs.IsOf.{AreRowsOf}
 use Rattle.vx_registry.specs.Context.{grown_by}
-use Rattle.vx_trees.specs.Rose.{roses_of, label}
+use Rattle.vx_trees.specs.Rose.{roses_of}
 use Rattle.vx_trees.specs.Walks.{nodes, gathered_below}
 use Rattle.vx_serde.specs.ArraySchema.{array_schema}
 use Rattle.vx_serde.specs.MessageValue.{rows_value}

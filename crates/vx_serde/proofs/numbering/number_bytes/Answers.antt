@@ -8,4 +8,4 @@ pub loop-i-preserved : goal.loop-i-preserved
 loop-i-preserved c =
     rw (c.in_ok-extend_from_slice.ensures.items, c.to_le_bytes.ensures)
     (number_next c.loop-i.bytes.items (index_bytes (numbers_from c.args.first c.args.count)) (c.args.first + c.loop-i.i) (c.args.first + (c.loop-i.i + 1)) (c.args.count - c.loop-i.i) (c.args.count - (c.loop-i.i + 1))
-     (omega arith) (omega arith) c.loop-i.invariant)
+    (omega arith) (omega arith) c.loop-i.invariant)

@@ -1,5 +1,4 @@
-use Rattle.std.proofs.Common.{◌≤◌, ◌+◌, arith, length, drop}
-use Rattle.vx_serde.specs.Placing.{pad, data_end}
+use Rattle.std.proofs.Common.{arith}
 use Rattle.vx_serde.proofs.PlacedData.{data_end-next}
 use Rattle.vx_serde.proofs.placing.describe.Goals as goal
 
