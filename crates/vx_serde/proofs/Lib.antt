@@ -21,3 +21,4 @@ pub mod Openings
 pub mod OneArray
 pub mod GrownIds
 pub mod WrittenAgain
+pub mod Recodings

@@ -20,6 +20,7 @@ use Rattle.vx_serde.specs.Message.{Descriptor}
 use Rattle.vx_serde.specs.MessageValue.{node_value, message_value, descriptors_bytes}
 use Rattle.vx_serde.specs.Numbered.{ids_in, buffers_in, numbered}
 use Rattle.vx_serde.specs.Placing.{pad, descriptors_from, data_from, data_end}
+use Rattle.vx_serde.proofs.GrownIds.{grown_by-ids}
 use Rattle.vx_serde.specs.Unwritten.{IsUngrown, IsUnwritten, IsPlaceable, IsPlaced, IsUnplaced, IsTooHeavy}
 use Rattle.vx_serde.specs.Wire.{Wire}
 use Rattle.vx_serde.specs.Written.{message_bytes, message_pad, blob_bytes, IsWritable}
@@ -101,7 +102,7 @@ writable-is ids o w last ds message p e short light ends =
 
 pub unplaced-unwritten : (c : Context) (o : SerializeOptions) (w : Wire) (e : WireError) → IsUnplaced o w e → IsUnwritten c o w e
 unplaced-unwritten c o w OutOfMemory h = tt
-unplaced-unwritten c o w WireLimit h = λ d g k. h (writable-placeable d.ids o w k)
+unplaced-unwritten c o w WireLimit h = λ k. h (writable-placeable _ o w k)
 unplaced-unwritten c o w NotPermitted h = absurd h
 unplaced-unwritten c o w TooShort h = h
 unplaced-unwritten c o w BadTable h = h
@@ -116,7 +117,9 @@ unplaced-unwritten c o w BadShape h = h
 
 -- A limit that fails with the context that the identifiers make.
 pub limit-unwritten : (c d : Context) (o : SerializeOptions) (w : Wire) → grown_by (ids_in w) c ≡ Some d → (IsWritable d.ids o w → ⊥) → IsUnwritten c o w WireLimit
-limit-unwritten c d o w g h = λ b k. let same : b ≡ d = cc in let P : Context → Type 0 = λ z. IsWritable z.ids o w → ⊥ in subst P (sym same) h
+limit-unwritten c d o w g h =
+    let P : List (List ℕ) → Type 0 = λ ids. IsWritable ids o w → ⊥ in
+    subst P (grown_by-ids (ids_in w) c d g) h
 
 heavy : (m n : List ℕ) → m ≡ n → (length m < 2 ^ 31 → IsLight limits (weight array_schema m) → ⊥) → length n ≤ 2 ^ 31 - 1 → IsLight limits (weight array_schema n) → ⊥
 heavy m n e h short light =

@@ -1,5 +1,5 @@
 -- Why a tree is not written.
-use Rattle.std.specs.Prelude.{ℕ, ◌≡◌, ◌<◌, ◌≤◌, ◌^◌, List, Some, None, length}
+use Rattle.std.specs.Prelude.{ℕ, ◌≡◌, ◌<◌, ◌≤◌, ◌^◌, List, None, length}
 use Rattle.vx_flat.specs.Limits.{limits, IsLight}
 use Rattle.vx_flat.specs.Weight.{weight}
 use Rattle.vx_registry.specs.Context.{Context, grown_by}
@@ -14,6 +14,7 @@ use Rattle.vx_serde.specs.MessageValue.{descriptors_bytes}
 use Rattle.vx_serde.specs.Numbered.{ids_in, buffers_in}
 use Rattle.vx_serde.specs.Placing.{descriptors_from, data_end}
 use Rattle.vx_serde.specs.Written.{IsWritable}
+use Rattle.vx_serde.specs.Spells.{with_ids}
 
 -- Identifiers are refused because the context takes one of them not, or for want of memory.
 abbrev pub IsUngrown : List (List ℕ) → Context → WireError → Type 0
@@ -22,11 +23,11 @@ IsUngrown ids c NotPermitted = grown_by ids c ≡ None
 IsUngrown ids c _ = ⊥
 
 -- A tree is refused for want of memory, because the context does not take its
--- identifiers, or because it passes a limit with the context that takes them.
+-- identifiers, or because it passes a limit with the identifiers that the context would have then.
 abbrev pub IsUnwritten : Context → SerializeOptions → Wire → WireError → Type 0
 IsUnwritten c options w OutOfMemory = Unit {0}
 IsUnwritten c options w NotPermitted = grown_by (ids_in w) c ≡ None
-IsUnwritten c options w WireLimit = (d : Context) → grown_by (ids_in w) c ≡ Some d → IsWritable d.ids options w → ⊥
+IsUnwritten c options w WireLimit = IsWritable (with_ids c.ids (ids_in w)) options w → ⊥
 IsUnwritten c options w _ = ⊥
 
 -- The limits that a tree keeps whatever its identifiers: its levels, its buffers, and

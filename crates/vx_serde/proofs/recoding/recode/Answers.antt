@@ -1,0 +1,75 @@
+use Rattle.std.proofs.Common.{◌≡◌, ◌∙◌, sym, subst, List, ℕ}
+use Rattle.vx_types.specs.Seen.{typ}
+use Rattle.vx_registry.specs.Session.{registry_meaning}
+use Rattle.vx_serde.specs.Spells.{Spells}
+use Rattle.vx_serde.specs.Causes.{Call}
+use Rattle.vx_serde.specs.WrittenBuffers.{joined}
+use Rattle.vx_serde.proofs.Recodings.{spells, reader_limits, grown-wire, written-wire, limits-wire, kept-wire, caused_by_writing}
+use Rattle.vx_serde.proofs.recoding.recode.Goals as goal
+
+pub returns-in-Err-write_wire-clause-kept : goal.returns-in-Err-write_wire-clause-kept
+returns-in-Err-write_wire-clause-kept c = λ t x.
+    kept-wire (registry_meaning c.args.session.now.arrays) c.in-Ok-decode.array t c.in_ok-node.node c.args.ctx.now c.write_wire.new.ctx (c.in_ok-node.ensures.ok (registry_meaning c.args.session.now.arrays))
+    (c.one_array.ensures c.args.blob.bytes c.args.read_ids.now (typ c.args.dtype.now) c.args.len (registry_meaning c.args.session.now.arrays) t c.in-Ok-decode.array x (spells c.args.blob.bytes c.args.read_ids.now (typ c.args.dtype.now) c.args.len (registry_meaning c.args.session.now.arrays) c.in-Ok.node c.in-Ok-decode.array c.in-Ok.ensures.opened
+    c.in-Ok-decode.ensures.matches c.in-Ok-decode.ensures.sound c.in-Ok-decode.ensures.dtype c.in-Ok-decode.ensures.len)) c.write_wire.ensures.kept
+
+pub returns-in-Err-write_wire-clause-untouched : goal.returns-in-Err-write_wire-clause-untouched
+returns-in-Err-write_wire-clause-untouched c = λ none. absurd (none c.in-Ok-decode.array (spells c.args.blob.bytes c.args.read_ids.now (typ c.args.dtype.now) c.args.len (registry_meaning c.args.session.now.arrays) c.in-Ok.node c.in-Ok-decode.array c.in-Ok.ensures.opened
+    c.in-Ok-decode.ensures.matches c.in-Ok-decode.ensures.sound c.in-Ok-decode.ensures.dtype c.in-Ok-decode.ensures.len))
+
+pub returns-in-Err-write_wire-clause-cause : goal.returns-in-Err-write_wire-clause-cause
+returns-in-Err-write_wire-clause-cause c = λ _.
+    let call : Call = record {
+      blob = c.args.blob.bytes;
+      dtype = typ c.args.dtype.now;
+      len = c.args.len;
+      ids = c.args.read_ids.now;
+      context = c.args.ctx.now;
+      session = registry_meaning c.args.session.now.arrays;
+      options = c.args.options.now;
+    } in
+    caused_by_writing call c.in-Err-write_wire.e c.in_ok-node.node c.in-Ok-decode.array (c.in_ok-node.ensures.ok (registry_meaning c.args.session.now.arrays)) (spells c.args.blob.bytes c.args.read_ids.now (typ c.args.dtype.now) c.args.len (registry_meaning c.args.session.now.arrays) c.in-Ok.node c.in-Ok-decode.array c.in-Ok.ensures.opened
+    c.in-Ok-decode.ensures.matches c.in-Ok-decode.ensures.sound c.in-Ok-decode.ensures.dtype c.in-Ok-decode.ensures.len) c.in-Err-write_wire.ensures.refused
+
+pub returns-clause-spelled : goal.returns-clause-spelled
+returns-clause-spelled c = λ _.
+    (spells c.args.blob.bytes c.args.read_ids.now (typ c.args.dtype.now) c.args.len (registry_meaning c.args.session.now.arrays) c.in-Ok.node c.in-Ok-decode.array c.in-Ok.ensures.opened
+    c.in-Ok-decode.ensures.matches c.in-Ok-decode.ensures.sound c.in-Ok-decode.ensures.dtype c.in-Ok-decode.ensures.len)
+
+pub returns-clause-the_one : goal.returns-clause-the_one
+returns-clause-the_one c = λ _ t x.
+    c.one_array.ensures c.args.blob.bytes c.args.read_ids.now (typ c.args.dtype.now) c.args.len (registry_meaning c.args.session.now.arrays) t c.in-Ok-decode.array x (spells c.args.blob.bytes c.args.read_ids.now (typ c.args.dtype.now) c.args.len (registry_meaning c.args.session.now.arrays) c.in-Ok.node c.in-Ok-decode.array c.in-Ok.ensures.opened
+    c.in-Ok-decode.ensures.matches c.in-Ok-decode.ensures.sound c.in-Ok-decode.ensures.dtype c.in-Ok-decode.ensures.len)
+
+pub returns-clause-written : goal.returns-clause-written
+returns-clause-written c = 
+    written-wire (registry_meaning c.args.session.now.arrays) c.in-Ok-decode.array c.in_ok-node.node c.args.ctx.now c.write_wire.new.ctx c.args.options.now (joined c.in-Ok-write_wire.buffers) (c.in_ok-node.ensures.ok (registry_meaning c.args.session.now.arrays)) c.in-Ok-write_wire.ensures.grown c.in-Ok-write_wire.ensures.written
+
+pub returns-clause-grown : goal.returns-clause-grown
+returns-clause-grown c = 
+    sym (grown-wire (registry_meaning c.args.session.now.arrays) c.in-Ok-decode.array c.in_ok-node.node c.args.ctx.now (c.in_ok-node.ensures.ok (registry_meaning c.args.session.now.arrays))) ∙ c.in-Ok-write_wire.ensures.grown
+
+pub returns-clause-reader_limits : goal.returns-clause-reader_limits
+returns-clause-reader_limits c = reader_limits c.args.blob.bytes c.args.read_ids.now c.in-Ok.node c.in-Ok.ensures.opened
+
+pub returns-clause-writer_limits : goal.returns-clause-writer_limits
+returns-clause-writer_limits c = 
+    limits-wire (registry_meaning c.args.session.now.arrays) c.in-Ok-decode.array c.in_ok-node.node c.args.ctx.now c.write_wire.new.ctx c.args.options.now (c.in_ok-node.ensures.ok (registry_meaning c.args.session.now.arrays)) c.in-Ok-write_wire.ensures.grown c.in-Ok-write_wire.ensures.writable
+
+pub returns-clause-again : goal.returns-clause-again
+returns-clause-again c = λ _.
+    let P : List ℕ → Type 0 = λ bytes. Spells bytes c.write_wire.new.ctx.ids (typ c.args.dtype.now) c.args.len (registry_meaning c.args.session.now.arrays) c.in-Ok-decode.array in
+    subst P (sym (returns-clause-written c))
+    (c.written_is_spelled.ensures (registry_meaning c.args.session.now.arrays) c.args.blob.bytes c.args.read_ids.now (typ c.args.dtype.now) c.args.len c.in-Ok-decode.array c.args.ctx.now c.write_wire.new.ctx c.args.options.now c.hold.ensures
+    (spells c.args.blob.bytes c.args.read_ids.now (typ c.args.dtype.now) c.args.len (registry_meaning c.args.session.now.arrays) c.in-Ok.node c.in-Ok-decode.array c.in-Ok.ensures.opened
+    c.in-Ok-decode.ensures.matches c.in-Ok-decode.ensures.sound c.in-Ok-decode.ensures.dtype c.in-Ok-decode.ensures.len) (returns-clause-grown c) c.hold-2.ensures (returns-clause-writer_limits c))
+
+pub returns-clause-kept : goal.returns-clause-kept
+returns-clause-kept c = λ t x.
+    kept-wire (registry_meaning c.args.session.now.arrays) c.in-Ok-decode.array t c.in_ok-node.node c.args.ctx.now c.write_wire.new.ctx (c.in_ok-node.ensures.ok (registry_meaning c.args.session.now.arrays))
+    (c.one_array.ensures c.args.blob.bytes c.args.read_ids.now (typ c.args.dtype.now) c.args.len (registry_meaning c.args.session.now.arrays) t c.in-Ok-decode.array x (spells c.args.blob.bytes c.args.read_ids.now (typ c.args.dtype.now) c.args.len (registry_meaning c.args.session.now.arrays) c.in-Ok.node c.in-Ok-decode.array c.in-Ok.ensures.opened
+    c.in-Ok-decode.ensures.matches c.in-Ok-decode.ensures.sound c.in-Ok-decode.ensures.dtype c.in-Ok-decode.ensures.len)) c.write_wire.ensures.kept
+
+pub returns-clause-untouched : goal.returns-clause-untouched
+returns-clause-untouched c = λ none. absurd (none c.in-Ok-decode.array (spells c.args.blob.bytes c.args.read_ids.now (typ c.args.dtype.now) c.args.len (registry_meaning c.args.session.now.arrays) c.in-Ok.node c.in-Ok-decode.array c.in-Ok.ensures.opened
+    c.in-Ok-decode.ensures.matches c.in-Ok-decode.ensures.sound c.in-Ok-decode.ensures.dtype c.in-Ok-decode.ensures.len))
