@@ -2,10 +2,9 @@
 //! kind of number.
 #![tactic(auto)]
 
-pub mod files;
-pub mod laws;
-
 #[cfg(test)]
 mod blobs;
+pub mod files;
+pub mod laws;
 #[cfg(test)]
 mod program;

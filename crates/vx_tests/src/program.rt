@@ -81,7 +81,11 @@ fn words_are_judged(rt: HostRuntime) -> Result<(), Fail> {
         ["recode", "t", "b", "4", "i", "o", "o"].as_slice(),
         ["recode", "t", "b", "4", "i", "o", "j", "--pad"].as_slice(),
     ] {
-        assert_eq!(rt; refused(alloc, &rt, words, &TYPE, &BLOB, IDS)?, 2, "{words:?}");
+        assert_eq!(rt;
+            refused(alloc, &rt, words, &TYPE, &BLOB, IDS)?,
+            2,
+            "{words:?}"
+        );
     }
     Ok(())
 }
@@ -150,7 +154,11 @@ fn each_fault_has_its_status(rt: HostRuntime) -> Result<(), Fail> {
         let mut store = store_of(alloc, &TYPE, &BLOB, IDS)?;
         store.fail_call(call)?;
         let mut out = MemSink::new(alloc);
-        assert_eq!(rt; run(alloc, &words, &mut store, &mut out), status, "call {call}");
+        assert_eq!(rt;
+            run(alloc, &words, &mut store, &mut out),
+            status,
+            "call {call}"
+        );
         assert!(rt; store.get("o").is_some() == blob && store.get("j").is_some() == ids);
         assert!(rt; out.text().is_empty() == (status != 0));
     }
@@ -173,7 +181,9 @@ fn real_files_are_written_again(rt: HostRuntime) -> Result<(), Fail> {
     let mut out = MemSink::new(alloc);
     let words = names(
         alloc,
-        &["recode", "t.table", "b.blob", "4", "i.ids", "o.blob", "j.ids"],
+        &[
+            "recode", "t.table", "b.blob", "4", "i.ids", "o.blob", "j.ids",
+        ],
     )?;
     assert_eq!(rt; run(alloc, &words, &mut store, &mut out), 3);
     for (name, bytes) in [
@@ -181,7 +191,10 @@ fn real_files_are_written_again(rt: HostRuntime) -> Result<(), Fail> {
         ("b.blob", BLOB.as_slice()),
         ("i.ids", IDS.as_bytes()),
     ] {
-        assert!(rt; store.save(alloc, &Name::new(alloc, name)?, bytes).is_ok(), "{name}");
+        assert!(rt;
+            store.save(alloc, &Name::new(alloc, name)?, bytes).is_ok(),
+            "{name}"
+        );
     }
     assert_eq!(rt; run(alloc, &words, &mut store, &mut out), 0);
     assert_eq!(rt; out.text(), LISTING.as_bytes());
