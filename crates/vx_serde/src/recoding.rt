@@ -1,6 +1,6 @@
 //! Reading a blob and writing its array again.
 
-ghost use Rattle.std.specs.Prelude.{◌≡◌, Some, IfOk, IfErr, OnOk};
+ghost use Rattle.std.specs.Prelude.{◌≡◌, Some, IfOk, IfErr, OnOk, IsSome};
 ghost use Rattle.vx_types.specs.Seen.{typ};
 ghost use Rattle.vx_arrays.specs.Tree.{Tree, encoding_ids};
 ghost use Rattle.vx_registry.specs.Context.{grown};
@@ -12,7 +12,7 @@ ghost use Rattle.vx_serde.specs.WrittenBuffers.{joined};
 
 use crate::decoding::decode;
 use crate::error::WireError;
-use crate::laws::{one_array, written_is_spelled};
+use crate::laws::{never_caused, one_array, written_is_spelled};
 use crate::opening::open;
 use crate::options::SerializeOptions;
 use crate::wiring::wire_node;
@@ -89,8 +89,15 @@ pub fn recode(
         let call : Call = record { blob = blob.bytes; dtype = typ dtype.now; len = len; ids = read_ids.now; context = ctx.old; session = s; options = options.now } in
         IsShipped s → IfErr result (IsCaused call)
     }
+    // Where the blob spells an array within the limits and the context can grow, it is answered, or memory is wanted.
+    ensures complete {
+        let s = registry_meaning session.now.arrays in
+        IsShipped s → (t : Tree) → Spells blob.bytes read_ids.now (typ dtype.now) len s t → KeepsReaderLimits blob.bytes → KeepsWriterLimits s t ctx.old options.now
+            → IsSome (grown ctx.old t) → IfErr result (λ e. e ≡ WireError.OutOfMemory)
+    }
 {
     one_array();
+    never_caused();
     written_is_spelled();
     session.arrays.hold();
     ctx.hold();
