@@ -10,11 +10,11 @@ use vx_types::{DType, Id, Ids, Nullability, PType};
 /// The blob of the numbers 1, 2, 3 and 4 of kind I32: 16 bytes of numbers, a message of 148 bytes, and its length.
 const NUMBERS: [u8; 168] = [
     1, 0, 0, 0, 2, 0, 0, 0, 3, 0, 0, 0, 4, 0, 0, 0, 16, 0, 0, 0, 0, 0, 0, 0, 8, 0, 12, 0, 4, 0, 8,
-    0, 8, 0, 0, 0, 28, 0, 0, 0, 112, 0, 0, 0, 0, 0, 0, 0, 14, 0, 20, 0, 0, 0, 4, 0, 8, 0, 12, 0, 16,
-    0, 0, 0, 16, 0, 0, 0, 20, 0, 0, 0, 24, 0, 0, 0, 28, 0, 0, 0, 64, 0, 0, 0, 0, 0, 0, 0, 0, 0, 0,
-    0, 0, 0, 0, 0, 0, 0, 0, 0, 0, 0, 0, 0, 1, 0, 0, 0, 0, 0, 0, 0, 26, 0, 4, 0, 0, 0, 0, 0, 0, 0, 0,
-    0, 0, 0, 0, 0, 0, 0, 0, 0, 0, 0, 0, 0, 0, 0, 0, 0, 0, 0, 0, 0, 32, 0, 0, 0, 0, 0, 0, 0, 1, 0, 0,
-    0, 0, 0, 2, 0, 16, 0, 0, 0, 148, 0, 0, 0,
+    0, 8, 0, 0, 0, 28, 0, 0, 0, 112, 0, 0, 0, 0, 0, 0, 0, 14, 0, 20, 0, 0, 0, 4, 0, 8, 0, 12, 0,
+    16, 0, 0, 0, 16, 0, 0, 0, 20, 0, 0, 0, 24, 0, 0, 0, 28, 0, 0, 0, 64, 0, 0, 0, 0, 0, 0, 0, 0, 0,
+    0, 0, 0, 0, 0, 0, 0, 0, 0, 0, 0, 0, 0, 0, 1, 0, 0, 0, 0, 0, 0, 0, 26, 0, 4, 0, 0, 0, 0, 0, 0,
+    0, 0, 0, 0, 0, 0, 0, 0, 0, 0, 0, 0, 0, 0, 0, 0, 0, 0, 0, 0, 0, 0, 0, 32, 0, 0, 0, 0, 0, 0, 0,
+    1, 0, 0, 0, 0, 0, 2, 0, 16, 0, 0, 0, 148, 0, 0, 0,
 ];
 
 /// What is written for a blob at I32, and the identifiers that it is written by.
@@ -107,12 +107,30 @@ fn pads_count_from_the_offset(rt: HostRuntime) -> Result<(), Fail> {
 fn each_fault_has_its_number(rt: HostRuntime) -> Result<(), Fail> {
     let alloc = rt.alloc();
     let ids = ["vortex.primitive"];
-    assert_eq!(rt; number_of(recoded(alloc, &[], 4, &ids, SerializeOptions::default())), 10);
-    assert_eq!(rt; number_of(recoded(alloc, &[0, 0, 0], 4, &ids, SerializeOptions::default())), 10);
-    assert_eq!(rt; number_of(recoded(alloc, &[0, 0, 0, 0], 4, &ids, SerializeOptions::default())), 11);
-    assert_eq!(rt; number_of(recoded(alloc, &NUMBERS[1..], 4, &ids, SerializeOptions::default())), 15);
-    assert_eq!(rt; number_of(recoded(alloc, &NUMBERS, 4, &[], SerializeOptions::default())), 16);
-    assert_eq!(rt; number_of(recoded(alloc, &NUMBERS, 4, &["x.y"], SerializeOptions::default())), 17);
+    assert_eq!(rt;
+        number_of(recoded(alloc, &[], 4, &ids, SerializeOptions::default())),
+        10
+    );
+    assert_eq!(rt;
+        number_of(recoded(alloc, &[0, 0, 0], 4, &ids, SerializeOptions::default())),
+        10
+    );
+    assert_eq!(rt;
+        number_of(recoded(alloc, &[0, 0, 0, 0], 4, &ids, SerializeOptions::default())),
+        11
+    );
+    assert_eq!(rt;
+        number_of(recoded(alloc, &NUMBERS[1..], 4, &ids, SerializeOptions::default())),
+        15
+    );
+    assert_eq!(rt;
+        number_of(recoded(alloc, &NUMBERS, 4, &[], SerializeOptions::default())),
+        16
+    );
+    assert_eq!(rt;
+        number_of(recoded(alloc, &NUMBERS, 4, &["x.y"], SerializeOptions::default())),
+        17
+    );
     assert_eq!(rt; status(alloc, 158, 17, 4)?, 13);
     assert_eq!(rt; status(alloc, 159, 1, 4)?, 14);
     assert_eq!(rt; status(alloc, 108, 1, 4)?, 15);

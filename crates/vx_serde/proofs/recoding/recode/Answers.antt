@@ -83,18 +83,18 @@ returns-clause-the_one c = λ _ t x.
     c.in-Ok-decode.ensures.matches c.in-Ok-decode.ensures.sound c.in-Ok-decode.ensures.dtype c.in-Ok-decode.ensures.len)
 
 pub returns-clause-written : goal.returns-clause-written
-returns-clause-written c = 
+returns-clause-written c =
     written-wire (registry_meaning c.args.session.now.arrays) c.in-Ok-decode.array c.in_ok-node.node c.args.ctx.now c.write_wire.new.ctx c.args.options.now (joined c.in-Ok-write_wire.buffers) (c.in_ok-node.ensures.ok (registry_meaning c.args.session.now.arrays)) c.in-Ok-write_wire.ensures.grown c.in-Ok-write_wire.ensures.written
 
 pub returns-clause-grown : goal.returns-clause-grown
-returns-clause-grown c = 
+returns-clause-grown c =
     sym (grown-wire (registry_meaning c.args.session.now.arrays) c.in-Ok-decode.array c.in_ok-node.node c.args.ctx.now (c.in_ok-node.ensures.ok (registry_meaning c.args.session.now.arrays))) ∙ c.in-Ok-write_wire.ensures.grown
 
 pub returns-clause-reader_limits : goal.returns-clause-reader_limits
 returns-clause-reader_limits c = reader_limits c.args.blob.bytes c.args.read_ids.now c.in-Ok.node c.in-Ok.ensures.opened
 
 pub returns-clause-writer_limits : goal.returns-clause-writer_limits
-returns-clause-writer_limits c = 
+returns-clause-writer_limits c =
     limits-wire (registry_meaning c.args.session.now.arrays) c.in-Ok-decode.array c.in_ok-node.node c.args.ctx.now c.write_wire.new.ctx c.args.options.now (c.in_ok-node.ensures.ok (registry_meaning c.args.session.now.arrays)) c.in-Ok-write_wire.ensures.grown c.in-Ok-write_wire.ensures.writable
 
 pub returns-clause-again : goal.returns-clause-again
