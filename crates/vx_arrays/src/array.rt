@@ -1,3 +1,5 @@
+//! Arrays, each a tree of nodes, and what they tell of themselves.
+
 ghost use Rattle.std.specs.Prelude.{◌≡◌, ◌<◌, ◌≤◌, ◌==◌, length, IfOk, IfErr, IsOk, Some, slice_get};
 ghost use Rattle.vx_trees.specs.Rose.{label, below, node, roses_of};
 ghost use Rattle.vx_trees.specs.Everywhere.{EverywhereBelow};

@@ -1,3 +1,5 @@
+//! What a node's encoding holds beside its type, its rows and its children.
+
 ghost use Rattle.std.specs.Prelude.{◌≡◌, IfOk};
 ghost use Rattle.vx_arrays.specs.declared.body.Body.{Body};
 

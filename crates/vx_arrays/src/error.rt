@@ -1,3 +1,5 @@
+//! Refusals of this crate.
+
 ghost use Rattle.std.specs.Prelude.{◌≡◌};
 ghost use Rattle.vx_arrays.specs.declared.error.ArrayError.TheVariants.{OutOfMemory};
 

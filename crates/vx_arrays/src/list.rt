@@ -1,3 +1,5 @@
+//! Lists of arrays, as the children of a node.
+
 ghost use Rattle.std.specs.Prelude.{◌≡◌, OnOk, OnErr};
 ghost use Rattle.vx_trees.specs.Everywhere.{EverywhereBelow};
 ghost use Rattle.vx_trees.specs.Rose.{count, end, roses_list, roses_of};

@@ -1,3 +1,5 @@
+//! Numbers out of the bytes of a buffer.
+
 ghost use Rattle.std.specs.Prelude.{◌≡◌, ◌≤◌, length};
 ghost use Rattle.vx_types.specs.Numbers.{width_of};
 ghost use Rattle.vx_arrays.specs.Rows.{number_at};

@@ -1,3 +1,5 @@
+//! Arrays of numbers.
+
 ghost use Rattle.std.specs.Prelude.{◌≡◌, ◌↔◌, IfOk, IfErr, IsTrue, IsOkUnless};
 ghost use Rattle.vx_arrays.specs.Places.{IsValidity};
 ghost use Rattle.vx_trees.specs.Everywhere.{EverywhereBelow};

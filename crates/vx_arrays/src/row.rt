@@ -1,3 +1,5 @@
+//! The values of rows.
+
 use vx_types::PValue;
 
 /// The value of a row.

@@ -1,3 +1,5 @@
+//! Tests of arrays of numbers: their rows, their parts and their refusals.
+
 use crate::{Array, ArrayError, Arrays, PrimitiveArray, RowValue};
 use std::alloc::Global;
 use std::test::Fail;

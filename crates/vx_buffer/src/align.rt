@@ -1,3 +1,5 @@
+//! Alignments of buffers.
+
 ghost use Rattle.std.specs.Prelude.{◌≡◌, ◌≤◌, ◌↔◌, ◌^◌, IfSome, IfNone, IsTrue};
 ghost use Rattle.std.specs.Int.{IsPowerOfTwo};
 

@@ -1,3 +1,5 @@
+//! Shared bytes with an alignment.
+
 ghost use Rattle.std.specs.Prelude.{◌≡◌, ◌≤◌, ◌↔◌, [], length, slice_range, IfOk, IsTrue};
 
 use crate::align::Alignment;

@@ -1,3 +1,5 @@
+//! The buffers that arrays hold.
+
 ghost use Rattle.std.specs.Prelude.{◌≡◌, ◌≤◌, ◌<◌, ◌*◌, ◌^◌, ◌↔◌, [], length, slice_range, fold, IfOk, IsTrue, true, false, IsSomeAnd};
 ghost use Rattle.std.specs.Hash as fed;
 ghost use Rattle.vx_buffer.specs.Buffer.{IsAligned};

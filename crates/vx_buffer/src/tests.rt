@@ -1,3 +1,5 @@
+//! Tests of slices, alignments and lists of buffers.
+
 use crate::{Alignment, BufferHandle, BufferHandles, ByteBuffer, ByteBuffers};
 use std::hash::{FoldHasher, Hasher};
 use std::test::Fail;

@@ -1,17 +1,16 @@
 -- Nodes of numbers: what is built of planned parts, and what is not.
-use Rattle.std.proofs.Common.{ℕ, zero, suc, ◌≡◌, ◌≤◌, List, [], ◌∷◌, Option, Some, None, refl, sym, ap, ◌∙◌, subst, length, arith}
+use Rattle.std.proofs.Common.{ℕ, zero, suc, ◌≡◌, ◌≤◌, List, [], ◌∷◌, Option, Some, refl, sym, ap, ◌∙◌, subst, length, arith}
 use Rattle.vx_buffer.specs.Buffer.{Buffer}
-use Rattle.vx_trees.specs.Rose.{Rose, Roses, node, end, more, label, below, count, roses_of}
+use Rattle.vx_trees.specs.Rose.{node, end, more, below, count, roses_of}
 use Rattle.vx_trees.specs.Everywhere.{EverywhereBelow}
 use Rattle.vx_trees.proofs.Lists.{count-roses_of}
 use Rattle.vx_types.specs.Kind.{null, boolean, primitive}
 use Rattle.vx_types.specs.Seen.{typ}
 use Rattle.vx_types.specs.Typ.{Typ}
-use Rattle.vx_types.specs.declared.dtype.DType.{DType}
 use Rattle.vx_types.specs.declared.dtype.DType.TheVariants as D
 use Rattle.vx_types.specs.declared.nullability.Nullability.{Nullability}
 use Rattle.vx_types.specs.declared.ptype.PType.{PType}
-use Rattle.vx_arrays.specs.Tree.{Tree, Trees, Head}
+use Rattle.vx_arrays.specs.Tree.{Tree, Trees}
 use Rattle.vx_arrays.specs.Places.{Place, places, primitive_plan, validity_plan}
 use Rattle.vx_arrays.specs.Refused.{IsRefused}
 use Rattle.vx_arrays.specs.Sound.{IsSound, IsSoundNode, IsPrimitive, option_trees, primitive_tree}
@@ -24,10 +23,10 @@ use Rattle.vx_encodings.specs.declared.encoding.Metadata.TheVariants.{Empty}
 use Rattle.vx_encodings.specs.declared.error.EncodingError.TheVariants.{BadShape}
 use Rattle.vx_encodings.specs.declared.head.ArrayHead.{ArrayHead}
 use Rattle.vx_encodings.specs.Encodings.{IsShaped}
-use Rattle.vx_encodings.specs.Metadata.{Reads, IsMetadata}
+use Rattle.vx_encodings.specs.Metadata.{Reads}
 use Rattle.vx_encodings.specs.Parts.{HasParts}
 use Rattle.vx_encodings.specs.Plans.{IsPlanned}
-use Rattle.vx_encodings.specs.Refusals.{IsUnbuilt, IsMisshaped, error_of}
+use Rattle.vx_encodings.specs.Refusals.{IsUnbuilt, error_of}
 use Rattle.vx_encodings.proofs.Rows.{plan_length}
 
 pub length-places : (us : Trees) → length (places us) ≡ count us
@@ -79,7 +78,8 @@ primitive_sound d n k v us p m b o e plan c shaped below r =
         shaped = subst (λ (z : Typ). IsPrimitive z n b (count us)) e shaped;
         planned = subst (λ (z : Typ). primitive_plan z n (count us) ≡ Some (places us)) e (subst (λ (z : ℕ). primitive_plan d n z ≡ Some (places us)) c plan);
       },
-      below)
+      below,
+    )
 
 children_count : (h : ArrayHead) (us : Trees) → IsPlanned Primitive h (places us) → h.nchildren ≡ count us
 children_count h us p = sym (plan_length Primitive (typ h.dtype) h.len p.value h.nchildren (places us) p.plan) ∙ length-places us

@@ -1,18 +1,17 @@
 -- What is refused has no plan and no array.
-use Rattle.std.proofs.Common.{ℕ, zero, suc, ◌≡◌, List, [], ◌∷◌, Option, Some, None, refl, sym, ap, ◌∙◌, subst, length}
+use Rattle.std.proofs.Common.{ℕ, ◌≡◌, List, Option, Some, None, sym, ap, ◌∙◌, subst}
 use Rattle.vx_buffer.specs.Buffer.{Buffer}
-use Rattle.vx_trees.specs.Rose.{Rose, Roses, node, end, more, label, below, count}
+use Rattle.vx_trees.specs.Rose.{node, count}
 use Rattle.vx_types.specs.Seen.{typ}
 use Rattle.vx_types.specs.Typ.{Typ}
-use Rattle.vx_arrays.specs.Tree.{Tree, Trees, Head, buffers_of}
-use Rattle.vx_arrays.specs.Places.{Place, places}
-use Rattle.vx_arrays.specs.Sound.{IsSound, IsSoundNode}
+use Rattle.vx_arrays.specs.Tree.{Tree, Trees, buffers_of}
+use Rattle.vx_arrays.specs.Places.{Place}
+use Rattle.vx_arrays.specs.Sound.{IsSound}
 use Rattle.vx_encodings.specs.declared.encoding.Encoding.{Encoding}
 use Rattle.vx_encodings.specs.declared.encoding.Metadata.{Metadata}
 use Rattle.vx_encodings.specs.declared.error.EncodingError.{EncodingError}
 use Rattle.vx_encodings.specs.declared.error.EncodingError.TheVariants.{OutOfMemory, BadMetadata, BadShape}
 use Rattle.vx_encodings.specs.declared.head.ArrayHead.{ArrayHead}
-use Rattle.vx_encodings.specs.Metadata.{Reads, IsMetadata}
 use Rattle.vx_encodings.specs.Encodings.{metadata_of, plan_of, IsShaped}
 use Rattle.vx_encodings.specs.Plans.{IsPlanned, HasNoPlan}
 use Rattle.vx_encodings.specs.Parts.{HasParts}

@@ -1,20 +1,18 @@
 -- The laws of the encodings' rows, encoding by encoding.
-use Rattle.std.proofs.Common.{ℕ, zero, suc, ◌≡◌, List, [], ◌∷◌, Option, Some, None, refl, length}
-use Rattle.vx_buffer.specs.Buffer.{Buffer}
-use Rattle.vx_trees.specs.Rose.{Rose, Roses, node, end, more, count}
+use Rattle.std.proofs.Common.{ℕ, zero, suc, ◌≡◌, List, [], ◌∷◌, Some, refl, length}
+use Rattle.vx_trees.specs.Rose.{node, end, more, count}
 use Rattle.vx_types.specs.Kind.{null, boolean, primitive}
 use Rattle.vx_types.specs.Typ.{Typ}
-use Rattle.vx_arrays.specs.Tree.{Head, Trees, buffers_of, encoding_id_of}
+use Rattle.vx_arrays.specs.Tree.{Head, Trees, buffers_of}
 use Rattle.vx_arrays.specs.Places.{Place, places, primitive_plan, validity_plan}
 use Rattle.vx_arrays.specs.Sound.{IsSoundNode}
 use Rattle.vx_arrays.specs.declared.body.Body.{Body}
 use Rattle.vx_arrays.specs.declared.body.Body.TheVariants.{Primitive as PrimitiveBody}
 use Rattle.vx_encodings.specs.declared.encoding.Encoding.{Encoding}
 use Rattle.vx_encodings.specs.declared.encoding.Encoding.TheVariants.{Primitive}
-use Rattle.vx_encodings.specs.declared.encoding.Metadata.{Metadata}
 use Rattle.vx_encodings.specs.declared.encoding.Metadata.TheVariants.{Empty}
 use Rattle.vx_encodings.specs.Metadata.{Reads, IsFair, written}
-use Rattle.vx_encodings.specs.Encodings.{id_of, encoding_of, metadata_of, body_of, plan_of, IsShaped}
+use Rattle.vx_encodings.specs.Encodings.{encoding_of, metadata_of, body_of, plan_of, IsShaped}
 use Rattle.vx_encodings.specs.Laws.{IdLaw, DistinctIdLaw, BodyLaw, PlanLaw, ShapeLaw, FairLaw, EncodedLaw, OneValueLaw, ReadBackLaw, PlanLengthLaw}
 
 -- the head of a node by its parts

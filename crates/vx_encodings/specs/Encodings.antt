@@ -1,5 +1,5 @@
 -- The table of encodings: what each one's nodes are on the wire.
-use Rattle.std.specs.Prelude.{ℕ, ◌≡◌, List, [], ◌∷◌, Option, Some, None, codes}
+use Rattle.std.specs.Prelude.{ℕ, List, [], ◌∷◌, Option, Some, None, codes}
 use Rattle.vx_buffer.specs.Buffer.{Buffer}
 use Rattle.vx_types.specs.Typ.{Typ}
 use Rattle.vx_arrays.specs.Tree.{Head, Trees}

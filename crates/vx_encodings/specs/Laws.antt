@@ -1,5 +1,5 @@
 -- What holds of each encoding's row.
-use Rattle.std.specs.Prelude.{ℕ, ◌≡◌, List, Option, Some, length}
+use Rattle.std.specs.Prelude.{ℕ, ◌≡◌, List, Some, length}
 use Rattle.vx_trees.specs.Rose.{count}
 use Rattle.vx_types.specs.Typ.{Typ}
 use Rattle.vx_arrays.specs.Tree.{Head, Trees, buffers_of, encoding_id_of}
@@ -8,7 +8,7 @@ use Rattle.vx_arrays.specs.Sound.{IsSoundNode}
 use Rattle.vx_arrays.specs.declared.body.Body.{Body}
 use Rattle.vx_encodings.specs.declared.encoding.Encoding.{Encoding}
 use Rattle.vx_encodings.specs.declared.encoding.Metadata.{Metadata}
-use Rattle.vx_encodings.specs.Metadata.{Reads, IsMetadata, IsFair, written}
+use Rattle.vx_encodings.specs.Metadata.{Reads, IsFair, written}
 use Rattle.vx_encodings.specs.Encodings.{id_of, encoding_of, metadata_of, body_of, plan_of, IsShaped}
 
 -- A node is known by its encoding's identifier.

@@ -1,5 +1,5 @@
 -- When the children of a node are planned.
-use Rattle.std.specs.Prelude.{ℕ, ◌≡◌, List, Option, Some, None}
+use Rattle.std.specs.Prelude.{◌≡◌, List, Some, None}
 use Rattle.vx_types.specs.Seen.{typ}
 use Rattle.vx_arrays.specs.Places.{Place}
 use Rattle.vx_encodings.specs.declared.encoding.Encoding.{Encoding}

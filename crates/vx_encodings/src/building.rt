@@ -1,3 +1,5 @@
+//! A node out of its parts, and the metadata of a node.
+
 ghost use Rattle.std.specs.Prelude.{◌≡◌, ℕ, List, [], ◌∷◌, ◌≤◌, Some, IfOk, IfErr, IfSome, IfNone, IsOkUnless, length};
 ghost use Rattle.vx_trees.specs.Rose.{label, below, count, roses_of};
 ghost use Rattle.vx_types.specs.Seen.{typ};

@@ -1,3 +1,5 @@
+//! The encodings, and the values of their nodes' metadata.
+
 ghost use Rattle.std.specs.Prelude.{◌≡◌};
 ghost use Rattle.vx_encodings.specs.Encodings.{id_of};
 

@@ -1,3 +1,5 @@
+//! Refusals of this crate.
+
 ghost use Rattle.std.specs.Prelude.{◌≡◌};
 ghost use Rattle.vx_encodings.specs.declared.error.EncodingError.TheVariants.{OutOfMemory};
 

@@ -1,3 +1,5 @@
+//! What is told of a node before its children.
+
 use vx_types::{Blob, DType, Id};
 
 /// What is told of a node before its children: how it is written, and the type and number of rows that it

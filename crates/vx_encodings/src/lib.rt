@@ -16,3 +16,6 @@ pub use head::ArrayHead;
 pub use planning::plan;
 pub use plans::{ChildPlan, ChildPlans};
 pub use vx_arrays::Arrays;
+
+#[cfg(test)]
+mod tests;

@@ -1,3 +1,5 @@
+//! What the children of a node are to be.
+
 ghost use Rattle.std.specs.Prelude.{◌≡◌, ℕ, List, Some, IfOk, IfErr};
 ghost use Rattle.vx_types.specs.Seen.{typ};
 ghost use Rattle.vx_arrays.specs.Places.{Place, primitive_plan, validity_plan};
@@ -16,7 +18,11 @@ use vx_types::{DType, Nullability};
 ///
 /// `BadMetadata` where its metadata is none of the encoding's, else `BadShape` where its type is of another
 /// kind or so many children do not fit.
-pub fn plan(alloc: Global, encoding: Encoding, head: &ArrayHead) -> Result<ChildPlans, EncodingError>
+pub fn plan(
+    alloc: Global,
+    encoding: Encoding,
+    head: &ArrayHead,
+) -> Result<ChildPlans, EncodingError>
     ensures plan { IfOk result (λ plans. IsPlanned encoding head.now plans) }
     ensures err { IfErr result (λ e. IsUnplanned e encoding head.now) }
     ensures complete { (ps : List Place) → IsPlanned encoding head.now ps → IsOkOrMemory result }
@@ -47,7 +53,12 @@ pub(crate) fn read_metadata(encoding: Encoding, bytes: &[u8]) -> Result<Metadata
 }
 
 // The children of a node of numbers: at most a validity.
-fn plan_primitive(alloc: Global, dtype: &DType, len: usize, count: usize) -> Result<ChildPlans, EncodingError>
+fn plan_primitive(
+    alloc: Global,
+    dtype: &DType,
+    len: usize,
+    count: usize,
+) -> Result<ChildPlans, EncodingError>
     ensures plan { IfOk result (λ plans. primitive_plan (typ dtype.now) len count ≡ Some plans) }
     ensures err { IfErr result (λ e. IsWithoutPlan e (primitive_plan (typ dtype.now) len count)) }
 {

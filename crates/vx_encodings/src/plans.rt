@@ -1,3 +1,5 @@
+//! Lists of the places of children.
+
 ghost use Rattle.std.specs.Prelude.{◌≡◌, ◌∷◌, ◌++◌, [], length, slice_get, option_map, OnOk, OnErr, IsOkUnless};
 
 use crate::error::EncodingError;

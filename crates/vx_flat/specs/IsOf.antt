@@ -2,11 +2,14 @@
 use Rattle.std.specs.Prelude.{◌≡◌, ℕ, ◌*◌, ◌<◌, ◌^◌, true, List, [], ◌∷◌, length, Some, None}
 use Rattle.std.specs.Str.{is_utf8}
 use Rattle.vx_flat.specs.declared.schema.FieldKind.{FieldKind}
-use Rattle.vx_flat.specs.declared.schema.FieldKind.TheVariants.{Number, OptNumber, Flag, OptFlag, Vector, Structs, Text, Texts, Table, Tables, Union}
+use Rattle.vx_flat.specs.declared.schema.FieldKind.TheVariants.{Number, OptNumber, Flag, OptFlag}
+use Rattle.vx_flat.specs.declared.schema.FieldKind.TheVariants.{Vector, Structs, Text, Texts, Table}
+use Rattle.vx_flat.specs.declared.schema.FieldKind.TheVariants.{Tables, Union}
 use Rattle.vx_flat.specs.declared.schema.Width.{Width}
 use Rattle.vx_flat.specs.declared.schema.Width.TheVariants.{One, Two, Four, Eight}
 use Rattle.vx_flat.specs.Schema.{Schema, fields_of, members_of, table_of, width, struct_size}
-use Rattle.vx_flat.specs.Value.{Field, absent, number, elements, text, texts, table, tables, member, unknown, Fields, no_fields, field, Rows, no_rows, row}
+use Rattle.vx_flat.specs.Value.{Field, absent, number, elements, text, texts, table, tables, member}
+use Rattle.vx_flat.specs.Value.{unknown, Fields, no_fields, field, Rows, no_rows, row}
 
 -- The numbers of a width are below this.
 abbrev pub bound : Width → ℕ
@@ -27,8 +30,10 @@ abbrev mutual
   AreOf s (k ∷ ks) (field v vs) = IsOfKind s k v × AreOf s ks vs
   AreOf s _ _ = ⊥
 
-  -- A value is of a kind: a number is in the range of its width and a flag 0 or 1; elements are whole; texts are UTF-8; a union's tag is a byte and not 0, with the table of that tag, or with none where the schema does not have the tag.
-  -- Nothing may stand but at a number or flag that has a default.
+  -- A value is of a kind: a number is in the range of its width and a flag 0 or 1; elements are
+  -- whole; texts are UTF-8; a union's tag is a byte and not 0, with the table of that tag, or with
+  -- none where the schema does not have the tag. Nothing may stand but at a number or flag that has
+  -- a default.
   pub IsOfKind : Schema → FieldKind → Field → Type 0
   IsOfKind s (Number w) (number n) = n < bound w
   IsOfKind s (OptNumber w) absent = Unit {0}
@@ -49,7 +54,9 @@ abbrev mutual
   IsOfKind s (Tables T) absent = Unit {0}
   IsOfKind s (Tables T) (tables rs) = AreRowsOf s T rs
   IsOfKind s (Union u) absent = Unit {0}
-  IsOfKind s (Union u) (member g vs) = (0 < g) × (g < 256) × ((T : ℕ) × (table_of (members_of s u) g ≡ Some T) × AreOf s (fields_of s T) vs)
+  IsOfKind s (Union u) (member g vs) =
+      (0 < g) × (g < 256)
+      × ((T : ℕ) × (table_of (members_of s u) g ≡ Some T) × AreOf s (fields_of s T) vs)
   IsOfKind s (Union u) (unknown g) = (0 < g) × (g < 256) × (table_of (members_of s u) g ≡ None)
   IsOfKind s _ _ = ⊥
 

@@ -2,7 +2,8 @@
 use Rattle.std.specs.Prelude.{ℕ, ◌≤◌, ◌^◌}
 use Rattle.vx_flat.specs.Weight.{Weight}
 
--- How deep tables may nest, the root counted; how many tables there may be; and how many bytes. Tables and bytes count as often as a path from the root reaches them.
+-- How deep tables may nest, the root counted; how many tables there may be; and how many bytes.
+-- Tables and bytes count as often as a path from the root reaches them.
 pub record Limits : Type 0 where
   pub nested : ℕ
   pub tables : ℕ

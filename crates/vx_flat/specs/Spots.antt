@@ -1,5 +1,6 @@
 -- Where the blocks of a message go, and which field tables they share.
-use Rattle.std.specs.Prelude.{ℕ, zero, suc, ◌+◌, ◌*◌, Bool, true, false, List, [], ◌∷◌, ◌++◌, length, Option, Some, None, if◌then◌else◌, bytes_eq}
+use Rattle.std.specs.Prelude.{ℕ, zero, suc, ◌+◌, ◌*◌, Bool, true, false, List, [], ◌∷◌, ◌++◌}
+use Rattle.std.specs.Prelude.{length, Option, Some, None, if◌then◌else◌, bytes_eq}
 pub use Rattle.vx_flat.specs.declared.block.Spot.{Spot}
 use Rattle.vx_flat.specs.Blocks.{Cell, Block, table_block, elements_block, links_block, text_block}
 use Rattle.vx_flat.specs.FieldTables.{align, inline_end, field_table_bytes}
@@ -13,27 +14,39 @@ abbrev pub known_at : Known → List ℕ → Option ℕ
 known_at [] bs = None
 known_at (k ∷ ks) bs = if bytes_eq k.0 bs then Some k.1 else known_at ks bs
 
--- A table's block at p begins with its own field table, and the table follows at the next multiple of 8. Where an equal field table is known, the block is the table alone.
+-- A table's block at p begins with its own field table, and the table follows at the next multiple
+-- of 8. Where an equal field table is known, the block is the table alone.
 abbrev pub table_spot : ℕ → List Cell → Option ℕ → Spot
-table_spot p cs (Some q) = record { start = p; aim = p; end = p + inline_end 4 cs; fields = q; is_own = false }
-table_spot p cs None = let t = p + align 8 (4 + 2 * length cs) in record { start = p; aim = t; end = t + inline_end 4 cs; fields = p; is_own = true }
+table_spot p cs (Some q) =
+    record { start = p; aim = p; end = p + inline_end 4 cs; fields = q; is_own = false }
+table_spot p cs None =
+    let t = p + align 8 (4 + 2 * length cs) in
+    record { start = p; aim = t; end = t + inline_end 4 cs; fields = p; is_own = true }
 
--- Where a block goes that starts at p. Offsets aim at a table, and at a vector's count or a string's length, which begins its block. A string ends with a zero byte.
+-- Where a block goes that starts at p. Offsets aim at a table, and at a vector's count or a
+-- string's length, which begins its block. A string ends with a zero byte.
 abbrev pub spot : Known → ℕ → Block → Spot
 spot known p (table_block cs) = table_spot p cs (known_at known (field_table_bytes cs))
-spot known p (elements_block n bs) = record { start = p; aim = p; end = p + (4 + length bs); fields = 0; is_own = true }
-spot known p (links_block ls) = record { start = p; aim = p; end = p + (4 + 4 * length ls); fields = 0; is_own = true }
-spot known p (text_block bs) = record { start = p; aim = p; end = p + (5 + length bs); fields = 0; is_own = true }
+spot known p (elements_block n bs) =
+    record { start = p; aim = p; end = p + (4 + length bs); fields = 0; is_own = true }
+spot known p (links_block ls) =
+    record { start = p; aim = p; end = p + (4 + 4 * length ls); fields = 0; is_own = true }
+spot known p (text_block bs) =
+    record { start = p; aim = p; end = p + (5 + length bs); fields = 0; is_own = true }
 
--- The field tables that are known after a block: in the sharing form its own as well, and in the plain form none.
+-- The field tables that are known after a block: in the sharing form its own as well, and in the
+-- plain form none.
 abbrev pub learn : Bool → Known → Spot → Block → Known
-learn true known s (table_block cs) = if s.is_own then known ++ (field_table_bytes cs, s.fields) ∷ [] else known
+learn true known s (table_block cs) =
+    if s.is_own then known ++ (field_table_bytes cs, s.fields) ∷ [] else known
 learn sharing known s b = known
 
 -- Where the blocks go, from p on: each starts at the next multiple of 8.
 abbrev pub spots : Bool → Known → ℕ → List Block → List Spot
 spots sharing known p [] = []
-spots sharing known p (b ∷ bs) = let s = spot known (align 8 p) b in s ∷ spots sharing (learn sharing known s b) s.end bs
+spots sharing known p (b ∷ bs) =
+    let s = spot known (align 8 p) b in
+    s ∷ spots sharing (learn sharing known s b) s.end bs
 
 -- What an offset to block k aims at.
 abbrev pub aim_of : List Spot → ℕ → ℕ

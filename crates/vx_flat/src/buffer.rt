@@ -4,7 +4,8 @@ ghost use Rattle.std.specs.Prelude.{◌≡◌, ℕ, List, length, IsTrue, ◌↔
 
 use std::marker::Model;
 
-/// A message that was written. Its places count from its first byte, which is to stand at a multiple of 8.
+/// A message that was written. Its places count from its first byte, which is to stand at a
+/// multiple of 8.
 #[derive(Debug, Drop)]
 pub struct FlatBuffer {
     bytes: Vec<u8>,

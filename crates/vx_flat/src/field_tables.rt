@@ -9,7 +9,8 @@ use crate::numbers::{align, push_number};
 use crate::schema::Width;
 use std::alloc::AllocError;
 
-/// How far from its table a cell lies, where the cells before it end at `end`; 0 where nothing is written.
+/// How far from its table a cell lies, where the cells before it end at `end`; 0 where nothing is
+/// written.
 fn distance(cell: Cell, end: usize) -> usize
     requires { end ≤ 2 ^ 63 }
     ensures { result ≡ cell_form.distance cell end }
@@ -50,7 +51,8 @@ pub fn inline_end(cells: &[Cell]) -> usize
 
 /// Adds the distances of the cells from their table.
 fn push_distances(cells: &[Cell], out: &mut Vec<u8>) -> Result<(), AllocError>
-    ensures { OnOk result (out.new.items ≡ out.old.items ++ form.entry_bytes (form.distances 4 cells.now)) }
+    ensures { OnOk result
+        (out.new.items ≡ out.old.items ++ form.entry_bytes (form.distances 4 cells.now)) }
 {
     let mut end: usize = 4;
     for cell in cells {

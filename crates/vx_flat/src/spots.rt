@@ -1,6 +1,7 @@
 //! Where blocks go, and which field tables they share.
 
-ghost use Rattle.std.specs.Prelude.{◌≡◌, ◌+◌, ◌*◌, [], ◌<◌, ◌≤◌, ◌^◌, length, map, IfOk, IfSome, OnOk, OnErr, is_none, true};
+ghost use Rattle.std.specs.Prelude.{◌≡◌, ◌+◌, ◌*◌, [], ◌<◌, ◌≤◌, ◌^◌, length, map, IfOk, IfSome};
+ghost use Rattle.std.specs.Prelude.{OnOk, OnErr, is_none, true};
 ghost use Rattle.vx_flat.specs.FieldTables as form;
 ghost use Rattle.vx_flat.specs.Spots as place;
 ghost use Rattle.vx_flat.specs.BlockView.{block_view, known_view};
@@ -39,7 +40,9 @@ fn table_spot(
     cells: &[Cell],
 ) -> Result<Spot, AllocError>
     requires { start ≤ 2 ^ 32 }
-    ensures { IfOk result (λ s. s ≡ place.table_spot start cells.now (place.known_at (known_view known.now) (form.field_table_bytes cells.now))) }
+    ensures { IfOk result
+        (λ s. s ≡ place.table_spot start cells.now
+        (place.known_at (known_view known.now) (form.field_table_bytes cells.now))) }
 {
     let size = inline_end(cells);
     let mut bytes = Vec::new(alloc);
@@ -65,6 +68,26 @@ fn table_spot(
     }
 }
 
+/// Where a block of `size` bytes goes that is no table's.
+fn plain_spot(start: usize, size: usize) -> Spot
+    requires { start + size < 2 ^ 64 }
+    ensures value { result ≡ record {
+      start = start;
+      aim = start;
+      end = start + size;
+      fields = 0;
+      is_own = true;
+    } }
+{
+    Spot {
+        start,
+        aim: start,
+        end: start + size,
+        fields: 0,
+        is_own: true,
+    }
+}
+
 /// How many bytes a vector of offsets has.
 fn links_size(links: &[usize]) -> usize
     ensures value { result ≡ 4 + 4 * length links.now }
@@ -81,31 +104,14 @@ fn spot_of(
     block: &Block,
 ) -> Result<Spot, AllocError>
     requires { start ≤ 2 ^ 32 }
-    ensures { IfOk result (λ s. s ≡ place.spot (known_view known.now) start (block_view block.now)) }
+    ensures { IfOk result
+        (λ s. s ≡ place.spot (known_view known.now) start (block_view block.now)) }
 {
     match block {
         Block::Table(cells) => table_spot(alloc, known, start, cells),
-        Block::Elements(_, bytes) => Ok(Spot {
-            start,
-            aim: start,
-            end: start + (4 + bytes.len()),
-            fields: 0,
-            is_own: true,
-        }),
-        Block::Links(links) => Ok(Spot {
-            start,
-            aim: start,
-            end: start + links_size(links),
-            fields: 0,
-            is_own: true,
-        }),
-        Block::Text(bytes) => Ok(Spot {
-            start,
-            aim: start,
-            end: start + (5 + bytes.len()),
-            fields: 0,
-            is_own: true,
-        }),
+        Block::Elements(_, bytes) => Ok(plain_spot(start, 4 + bytes.len())),
+        Block::Links(links) => Ok(plain_spot(start, links_size(links))),
+        Block::Text(bytes) => Ok(plain_spot(start, 5 + bytes.len())),
     }
 }
 
@@ -117,7 +123,9 @@ fn learn(
     block: &Block,
     known: &mut Vec<KnownTable>,
 ) -> Result<(), AllocError>
-    ensures learned { OnOk result (known_view known.new.items ≡ place.learn sharing (known_view known.old.items) spot (block_view block.now)) }
+    ensures learned { OnOk result
+        (known_view known.new.items
+        ≡ place.learn sharing (known_view known.old.items) spot (block_view block.now)) }
     ensures err { OnErr result (known_view known.new.items ≡ known_view known.old.items) }
 {
     if !sharing {
@@ -148,9 +156,14 @@ pub fn spots_of(
     sharing: bool,
     blocks: &[Block],
 ) -> Result<Option<Vec<Spot>>, AllocError>
-    ensures value { IfOk result (λ o. IfSome o (λ v. v.items ≡ place.spots sharing [] 8 (map block_view blocks.now))) }
-    ensures fits { IfOk result (λ o. IfSome o (λ v. place.last_end 8 (place.spots sharing [] 8 (map block_view blocks.now)) < 2 ^ 31)) }
-    ensures long { IfOk result (λ o. is_none o ≡ true → 2 ^ 31 ≤ place.last_end 8 (place.spots sharing [] 8 (map block_view blocks.now))) }
+    ensures value { IfOk result
+        (λ o. IfSome o (λ v. v.items ≡ place.spots sharing [] 8 (map block_view blocks.now))) }
+    ensures fits { IfOk result
+        (λ o. IfSome o
+        (λ v. place.last_end 8 (place.spots sharing [] 8 (map block_view blocks.now)) < 2 ^ 31)) }
+    ensures long { IfOk result
+        (λ o. is_none o ≡ true
+        → 2 ^ 31 ≤ place.last_end 8 (place.spots sharing [] 8 (map block_view blocks.now))) }
 {
     let mut spots = Vec::new(alloc);
     let mut known = Vec::new(alloc);

@@ -10,7 +10,7 @@ use Rattle.vx_proto.specs.declared.schema.Rule.{Rule}
 use Rattle.vx_proto.specs.declared.schema.Rule.TheVariants.{Plain, Optional, Single, Repeated}
 use Rattle.vx_proto.specs.declared.schema.Member.{Member}
 use Rattle.vx_proto.specs.Wire.{SpellsNumber, Part, eight, delimited, four, Field, SpellsPart, Spells}
-use Rattle.vx_proto.specs.Value.{Content, Entry, Value, entries_of, slots_of, Slot, Schema}
+use Rattle.vx_proto.specs.Value.{Content, Entry, Value, Slot, Schema}
 use Rattle.vx_proto.specs.Reads.{list_at, default_in, default_of, last_of, kind_in, has, kind_of, ShowsContent, ShowsEntries, ShowsSlots, Keeps, ReadsWithin}
 use Rattle.vx_proto.specs.Form.{FormContent, FormEntries, FormCount, FormSlots, FormWithin, IsPlainDefault, IsLawfulList}
 

@@ -14,3 +14,4 @@ pub mod Again
 pub mod Formed
 pub mod LawfulTest
 pub mod Suffixes
+pub mod TreeSteps

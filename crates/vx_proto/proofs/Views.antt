@@ -20,7 +20,7 @@ view_set [] i x = refl
 view_set (s ∷ slots) zero x = refl
 view_set (s ∷ slots) (suc i) x = ap (λ (t : Value). entries_view s.items ∷ t) (view_set slots i x)
 
-view_append : (xs ys : List (ℕ × Element)) → entries_view (xs ++ ys) ≡ entries_view xs ++ entries_view ys
+pub view_append : (xs ys : List (ℕ × Element)) → entries_view (xs ++ ys) ≡ entries_view xs ++ entries_view ys
 view_append [] ys = refl
 view_append (x ∷ xs) ys = ap (λ (t : List Entry). (x.0, view x.1) ∷ t) (view_append xs ys)
 

@@ -1,5 +1,5 @@
 -- What the form of a value says, one message at a time, for the types whose plain values have it.
-use Rattle.std.specs.Prelude.{◌≡◌, ◌≤◌, ◌<◌, ℕ, zero, suc, ◌⊎◌, Bool, true, false, cond, eqb, List, [], ◌∷◌, length, Option, Some, None, refl}
+use Rattle.std.specs.Prelude.{◌≡◌, ◌≤◌, ℕ, zero, suc, ◌⊎◌, Bool, true, false, cond, eqb, List, [], ◌∷◌, length, Some, None, refl}
 use Rattle.std.proofs.Common.{sym, ap, subst, ◌∙◌, inl, inr, arith}
 use Rattle.std.proofs.lemmas.Bool.{eqb-true}
 use Rattle.vx_proto.specs.declared.schema.Kind.{Kind}
@@ -141,3 +141,6 @@ same_message v w e = sym (slots_back v) ∙ ap value_of (go (slots_of v) (slots_
     slots_back : (u : Value) → value_of (slots_of u) ≡ u
     slots_back [] = refl
     slots_back (es ∷ u) = ap (λ (t : List Entry). t ∷ value_of (slots_of u)) (list_back es) ∙ ap (λ (t : Value). es ∷ t) (slots_back u)
+
+pub same_entry : (x y : Entry) → x ∷ [] ≡ y ∷ [] → x ≡ y
+same_entry x y e = cc

@@ -9,3 +9,4 @@ pub mod Fields
 pub mod Lawful
 pub mod Parts
 pub mod FormLaws
+pub mod SampleTree

@@ -1,5 +1,6 @@
 mod bool_metadata;
 mod rows;
+mod tree;
 
 use self::bool_metadata::BoolMetadata;
 use crate::{

@@ -1,5 +1,5 @@
 -- The numbered identifiers of a write: how they grow.
-use Rattle.std.specs.Prelude.{ℕ, suc, ◌≡◌, List, [], ◌∷◌, ◌++◌, Option, Some, None, Bool, true, ◌&&◌, bytes_eq, length, nat_lt, if◌then◌else◌}
+use Rattle.std.specs.Prelude.{ℕ, suc, List, [], ◌∷◌, ◌++◌, Option, Some, None, Bool, true, ◌&&◌, bytes_eq, length, nat_lt, if◌then◌else◌}
 use Rattle.vx_arrays.specs.Tree.{Tree, encoding_ids}
 
 -- A context is a list of identifiers, each numbered by its place; where they are limited, also a list of

@@ -10,3 +10,6 @@ pub use context::ArrayContext;
 pub use error::RegistryError;
 pub use read::ReadContext;
 pub use session::{ArraySession, VortexSession};
+
+#[cfg(test)]
+mod tests;

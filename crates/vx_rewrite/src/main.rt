@@ -2,8 +2,8 @@
 #![tactic(auto)]
 
 use anyhow::{Context, Result, bail};
-use std::{env, fs};
 use std::rt::Files;
+use std::{env, fs};
 use vx_flat::{read_value, write_value};
 use vx_serde::ArrayKind;
 

@@ -1,2 +1,3 @@
 pub mod Tables
 pub mod Injective
+pub mod Worked

@@ -1,9 +1,10 @@
 -- The table of a type.
 use Rattle.std.specs.Prelude.{ℕ}
-use Rattle.vx_trees.specs.Rose.{Roses, node}
+use Rattle.vx_trees.specs.Rose.{Roses, node, end}
 use Rattle.vx_flat.specs.Value.{Fields, no_fields, field, number, member}
 use Rattle.vx_types.specs.declared.nullability.Nullability.{Nullability}
 use Rattle.vx_types.specs.declared.nullability.Nullability.TheVariants.{NonNullable, Nullable}
+use Rattle.vx_types.specs.declared.ptype.PType.TheVariants.{I32}
 use Rattle.vx_types.specs.Kind.{Kind, null, boolean, primitive}
 use Rattle.vx_types.specs.Typ.{Typ}
 use Rattle.vx_types.specs.Numbers.{code_of}
@@ -29,3 +30,7 @@ parts_of (primitive p n) ts = field (number (code_of p)) (field (number (flag_of
 -- A type's table has one field: the member of its kind, with the kind's parts.
 abbrev pub type_table : Typ → Fields
 type_table (node k ts) = field (member (tag_of k) (parts_of k ts)) no_fields
+
+-- An example: integers of four bytes, not nullable.
+abbrev pub integers : Typ
+integers = node (primitive I32 NonNullable) end

@@ -9,6 +9,7 @@
 
 mod error;
 mod kind;
+pub mod laws;
 mod reading;
 
 pub use error::TypeWireError;

@@ -14,5 +14,4 @@ pub fn same_tree_is_same_type()
 /// A code is of one kind of numbers at most.
 pub fn code_is_of_one_kind()
     ensures { (a b : PType) → code_of a ≡ code_of b → a ≡ b }
-{
-}
+{}

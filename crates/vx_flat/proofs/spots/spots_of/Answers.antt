@@ -13,11 +13,15 @@ loop-block-preserved c =
     let k = known_view c.loop-block.known.items in
     let p = c.loop-block.end in
     let m = map_at block_view bs i c.block-item.result c.loop-block-test.true c.block-item.is in
-    let s : c.in_ok-spot.spot ≡ spot k (align 8 p) (block_view c.block-item.result) = rw (← c.deref.ensures.value, ← c.align.ensures.value) c.in_ok-spot.ensures in
+    let s : c.in_ok-spot.spot ≡ spot k (align 8 p) (block_view c.block-item.result) =
+    rw (← c.deref.ensures.value, ← c.align.ensures.value) c.in_ok-spot.ensures in
     let rest = map block_view (drop (i + 1) bs) in
     record {
-      so_far = spots_at c.args.sharing k _ p c.in_ok-spot.spot (block_view c.block-item.result) rest c.loop-block.spots.items c.push.new.self.items _ (rw m at c.loop-block.invariant.so_far) s c.in_ok-learn.ensures.learned c.in_ok-push.ensures.items;
-      last = last_at c.args.sharing k _ p c.in_ok-spot.spot (block_view c.block-item.result) rest _ (rw m at c.loop-block.invariant.last) s c.in_ok-learn.ensures.learned;
+      so_far = spots_at c.args.sharing k _ p c.in_ok-spot.spot
+          (block_view c.block-item.result) rest c.loop-block.spots.items c.push.new.self.items _
+          (rw m at c.loop-block.invariant.so_far) s c.in_ok-learn.ensures.learned c.in_ok-push.ensures.items;
+      last = last_at c.args.sharing k _ p c.in_ok-spot.spot (block_view c.block-item.result) rest _
+          (rw m at c.loop-block.invariant.last) s c.in_ok-learn.ensures.learned;
       fits = omega (arith, c.if-spot-gt-MAX_MESSAGE.false);
     }
 
@@ -28,7 +32,9 @@ returns-then-spot-gt-MAX_MESSAGE-clause-long c =
     let k = known_view c.loop-block.known.items in
     let p = c.loop-block.end in
     let m = map_at block_view bs i c.block-item.result c.loop-block-test.true c.block-item.is in
-    let s : c.in_ok-spot.spot ≡ spot k (align 8 p) (block_view c.block-item.result) = rw (← c.deref.ensures.value, ← c.align.ensures.value) c.in_ok-spot.ensures in
+    let s : c.in_ok-spot.spot ≡ spot k (align 8 p) (block_view c.block-item.result) =
+    rw (← c.deref.ensures.value, ← c.align.ensures.value) c.in_ok-spot.ensures in
     let rest = map block_view (drop (i + 1) bs) in
-    let e = ends_within c.args.sharing k p c.in_ok-spot.spot (block_view c.block-item.result) rest _ (rw m at c.loop-block.invariant.last) s in
+    let e = ends_within c.args.sharing k p c.in_ok-spot.spot (block_view c.block-item.result) rest _
+    (rw m at c.loop-block.invariant.last) s in
     λ _. omega (arith, e, c.if-spot-gt-MAX_MESSAGE.true)

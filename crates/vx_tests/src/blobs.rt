@@ -1,0 +1,114 @@
+//! Blobs of every kind of number, recoded.
+
+use crate::files::{BLOB, IDS};
+use std::alloc::Global;
+use std::test::Fail;
+use vx_buffer::ByteBuffer;
+use vx_registry::{ArrayContext, ArraySession, ReadContext, VortexSession};
+use vx_serde::{Recoded, SerializeOptions, WireError, recode};
+use vx_types::{DType, Id, Ids, Nullability, PType};
+
+// The blob of `len` numbers of `width` bytes, which is two to the exponent: the worked message with another exponent and
+// another length of its buffer, behind other bytes.
+fn blob_of(
+    alloc: Global,
+    exponent: u8,
+    width: u8,
+    len: u8,
+) -> Result<Vec<u8>, std::alloc::AllocError> {
+    let size = len.saturating_mul(width);
+    let mut blob = Vec::new(alloc);
+    for i in 0..size {
+        blob.push(i)?;
+    }
+    let mut rest = Vec::from_slice(alloc, &BLOB[16..])?;
+    if let Some(byte) = rest.get_mut(142) {
+        *byte = exponent;
+    }
+    if let Some(byte) = rest.get_mut(144) {
+        *byte = size;
+    }
+    blob.extend_from_slice(&rest)?;
+    Ok(blob)
+}
+
+// What the buffers of a blob are, one after the other.
+fn joined(alloc: Global, recoded: &Recoded) -> Result<Vec<u8>, std::alloc::AllocError> {
+    let mut bytes = Vec::new(alloc);
+    for buffer in recoded.buffers.as_slice() {
+        bytes.extend_from_slice(buffer.as_slice())?;
+    }
+    Ok(bytes)
+}
+
+fn recoded(
+    alloc: Global,
+    blob: &[u8],
+    dtype: &DType,
+    len: usize,
+    ctx: &mut ArrayContext,
+) -> Result<Recoded, WireError> {
+    let mut ids = Ids::new(alloc);
+    ids.push(Id::new(alloc, IDS.trim_end())?)?;
+    let session = VortexSession::new(ArraySession::default(alloc)?);
+    recode(
+        alloc,
+        ByteBuffer::copy_from(alloc, blob)?,
+        dtype,
+        len,
+        &ReadContext::new(ids),
+        ctx,
+        &session,
+        &SerializeOptions::default(),
+    )
+}
+
+#[test]
+fn each_kind_of_number_is_written_again(rt: HostRuntime) -> Result<(), Fail> {
+    let alloc = rt.alloc();
+    for (kind, exponent, width) in [
+        (PType::U8, 0, 1),
+        (PType::I8, 0, 1),
+        (PType::U16, 1, 2),
+        (PType::I16, 1, 2),
+        (PType::F16, 1, 2),
+        (PType::U32, 2, 4),
+        (PType::I32, 2, 4),
+        (PType::F32, 2, 4),
+        (PType::U64, 3, 8),
+        (PType::I64, 3, 8),
+        (PType::F64, 3, 8),
+    ] {
+        for len in [0, 1, 5] {
+            for nullability in [Nullability::NonNullable, Nullability::Nullable] {
+                let blob = blob_of(alloc, exponent, width, len)?;
+                let mut ctx = ArrayContext::empty(alloc);
+                let dtype = DType::Primitive(kind, nullability);
+                let recoded = recoded(alloc, &blob, &dtype, usize::from(len), &mut ctx)?;
+                assert!(rt; *recoded.array.dtype() == dtype);
+                assert_eq!(rt; recoded.array.len(), usize::from(len));
+                assert_eq!(rt; joined(alloc, &recoded)?.as_slice(), blob.as_slice());
+                assert_eq!(rt; ctx.to_ids(alloc)?.len(), 1);
+            }
+        }
+    }
+    Ok(())
+}
+
+#[test]
+fn other_types_are_refused(rt: HostRuntime) -> Result<(), Fail> {
+    let alloc = rt.alloc();
+    for dtype in [
+        DType::Null,
+        DType::Bool(Nullability::NonNullable),
+        DType::Primitive(PType::I64, Nullability::NonNullable),
+    ] {
+        let mut ctx = ArrayContext::empty(alloc);
+        match recoded(alloc, &BLOB, &dtype, 4, &mut ctx) {
+            Err(WireError::BadShape) => {}
+            _ => assert!(rt; false, "{dtype:?}"),
+        }
+        assert!(rt; ctx.to_ids(alloc)?.is_empty());
+    }
+    Ok(())
+}

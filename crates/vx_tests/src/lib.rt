@@ -1,0 +1,10 @@
+//! Worked rows, and tests that cross crates: the program over files in memory and over real ones, and blobs of every
+//! kind of number.
+#![tactic(auto)]
+
+#[cfg(test)]
+mod blobs;
+pub mod files;
+pub mod laws;
+#[cfg(test)]
+mod program;

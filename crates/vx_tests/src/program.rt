@@ -1,0 +1,206 @@
+//! The program, run on the worked files.
+
+use crate::files::{BLOB, BLOB_OF_ANOTHER, BLOB_OF_SECOND, IDS, TYPE};
+use std::alloc::Global;
+use std::test::Fail;
+use vx_types::{Name, TypeError};
+use vxcat_core::{DirStore, MemSink, MemStore, Store, run};
+
+const WORDS: [&str; 7] = ["recode", "t", "b", "4", "i", "o", "j"];
+
+const LISTING: &str = "vortex.primitive len=4 buffers=[16]\n0: 1\n1: 2\n2: 3\n3: 4\n";
+
+fn names(alloc: Global, words: &[&str]) -> Result<Vec<Name>, TypeError> {
+    let mut names = Vec::new(alloc);
+    for word in words {
+        names.push(Name::new(alloc, word)?)?;
+    }
+    Ok(names)
+}
+
+// A store of a type file, a blob and an identifier file.
+fn store_of(
+    alloc: Global,
+    dtype: &[u8],
+    blob: &[u8],
+    ids: &str,
+) -> Result<MemStore, std::alloc::AllocError> {
+    let mut store = MemStore::new(alloc);
+    store.insert(alloc, "t", dtype)?;
+    store.insert(alloc, "b", blob)?;
+    store.insert(alloc, "i", ids.as_bytes())?;
+    Ok(store)
+}
+
+#[test]
+fn integers_are_written_again(rt: HostRuntime) -> Result<(), Fail> {
+    let alloc = rt.alloc();
+    let words = names(alloc, &WORDS)?;
+    for (blob, ids) in [
+        (BLOB.as_slice(), IDS),
+        (BLOB_OF_ANOTHER.as_slice(), IDS),
+        (BLOB_OF_SECOND.as_slice(), "a\nvortex.primitive"),
+    ] {
+        let mut store = store_of(alloc, &TYPE, blob, ids)?;
+        let mut out = MemSink::new(alloc);
+        assert_eq!(rt; run(alloc, &words, &mut store, &mut out), 0);
+        assert_eq!(rt; store.get("o"), Some(BLOB.as_slice()));
+        assert_eq!(rt; store.get("j"), Some(IDS.as_bytes()));
+        assert_eq!(rt; out.text(), LISTING.as_bytes());
+    }
+    Ok(())
+}
+
+// The status of these words over these files, with nothing saved and nothing printed.
+fn refused(
+    alloc: Global,
+    rt: &impl std::process::Abort,
+    words: &[&str],
+    dtype: &[u8],
+    blob: &[u8],
+    ids: &str,
+) -> Result<u8, Fail> {
+    let words = names(alloc, words)?;
+    let mut store = store_of(alloc, dtype, blob, ids)?;
+    let mut out = MemSink::new(alloc);
+    let status = run(alloc, &words, &mut store, &mut out);
+    assert!(rt; store.get("o").is_none() && store.get("j").is_none() && out.text().is_empty());
+    Ok(status)
+}
+
+#[test]
+fn words_are_judged(rt: HostRuntime) -> Result<(), Fail> {
+    let alloc = rt.alloc();
+    for words in [
+        [].as_slice(),
+        ["recode", "t", "b", "4", "i", "o"].as_slice(),
+        ["decode", "t", "b", "4", "i", "o", "j"].as_slice(),
+        ["recode", "t", "b", "04", "i", "o", "j"].as_slice(),
+        ["recode", "t", "b", "+4", "i", "o", "j"].as_slice(),
+        ["recode", "t", "b", "18446744073709551616", "i", "o", "j"].as_slice(),
+        ["recode", "t", "b", "4", "i", "o", "o"].as_slice(),
+        ["recode", "t", "b", "4", "i", "o", "j", "--pad"].as_slice(),
+    ] {
+        assert_eq!(rt;
+            refused(alloc, &rt, words, &TYPE, &BLOB, IDS)?,
+            2,
+            "{words:?}"
+        );
+    }
+    Ok(())
+}
+
+#[test]
+fn files_are_judged(rt: HostRuntime) -> Result<(), Fail> {
+    let alloc = rt.alloc();
+    for (dtype, blob, ids, status) in [
+        (&TYPE[..3], BLOB.as_slice(), IDS, 6),
+        (TYPE.as_slice(), BLOB.as_slice(), "a\n\nb", 7),
+        (TYPE.as_slice(), &BLOB[..0], IDS, 10),
+        (TYPE.as_slice(), &BLOB[..3], IDS, 10),
+        (TYPE.as_slice(), [0, 0, 0, 0].as_slice(), IDS, 11),
+        (TYPE.as_slice(), &BLOB[1..], IDS, 15),
+        (TYPE.as_slice(), BLOB.as_slice(), "", 16),
+        (TYPE.as_slice(), BLOB.as_slice(), "vortex.bool", 17),
+    ] {
+        let got = refused(alloc, &rt, &WORDS, dtype, blob, ids)?;
+        assert_eq!(rt; got, status, "status {status}");
+    }
+    Ok(())
+}
+
+// A blob with one byte set.
+fn with_byte(alloc: Global, place: usize, byte: u8) -> Result<Vec<u8>, std::alloc::AllocError> {
+    let mut blob = Vec::from_slice(alloc, &BLOB)?;
+    if let Some(old) = blob.get_mut(place) {
+        *old = byte;
+    }
+    Ok(blob)
+}
+
+#[test]
+fn parts_of_the_blob_are_judged(rt: HostRuntime) -> Result<(), Fail> {
+    let alloc = rt.alloc();
+    for (part, place, byte, status) in [
+        ("exponent", 158, 17, 13),
+        ("compression", 159, 1, 14),
+        ("padding", 156, 1, 15),
+        ("buffer index", 108, 1, 15),
+        ("exponent", 158, 1, 19),
+        ("length", 160, 12, 19),
+    ] {
+        let blob = with_byte(alloc, place, byte)?;
+        let got = refused(alloc, &rt, &WORDS, &TYPE, &blob, IDS)?;
+        assert_eq!(rt; got, status, "{part}");
+    }
+    let longer = ["recode", "t", "b", "5", "i", "o", "j"];
+    assert_eq!(rt; refused(alloc, &rt, &longer, &TYPE, &BLOB, IDS)?, 19);
+    Ok(())
+}
+
+#[test]
+fn each_fault_has_its_status(rt: HostRuntime) -> Result<(), Fail> {
+    let alloc = rt.alloc();
+    let words = names(alloc, &WORDS)?;
+    // The call of the store that fails, the status, and whether the blob and the identifiers are saved.
+    for (call, status, blob, ids) in [
+        (1, 3, false, false),
+        (2, 3, false, false),
+        (3, 3, false, false),
+        (4, 4, false, false),
+        (5, 4, true, false),
+        (6, 0, true, true),
+    ] {
+        let mut store = store_of(alloc, &TYPE, &BLOB, IDS)?;
+        store.fail_call(call)?;
+        let mut out = MemSink::new(alloc);
+        assert_eq!(rt;
+            run(alloc, &words, &mut store, &mut out),
+            status,
+            "call {call}"
+        );
+        assert!(rt; store.get("o").is_some() == blob && store.get("j").is_some() == ids);
+        assert!(rt; out.text().is_empty() == (status != 0));
+    }
+    let mut store = store_of(alloc, &TYPE, &BLOB, IDS)?;
+    let mut out = MemSink::failing(alloc, 1);
+    assert_eq!(rt; run(alloc, &words, &mut store, &mut out), 5);
+    assert_eq!(rt; store.get("o"), Some(BLOB.as_slice()));
+    assert_eq!(rt; store.get("j"), Some(IDS.as_bytes()));
+    // A write that fails in mid-stream leaves a prefix.
+    let mut out = MemSink::failing(alloc, 4).taking(7);
+    assert_eq!(rt; run(alloc, &words, &mut store, &mut out), 5);
+    assert_eq!(rt; out.text(), b"vortex.primitive len=".as_slice());
+    Ok(())
+}
+
+#[test]
+fn real_files_are_written_again(rt: HostRuntime) -> Result<(), Fail> {
+    let alloc = rt.alloc();
+    let mut store = DirStore::new(alloc, &rt);
+    let mut out = MemSink::new(alloc);
+    let words = names(
+        alloc,
+        &[
+            "recode", "t.table", "b.blob", "4", "i.ids", "o.blob", "j.ids",
+        ],
+    )?;
+    assert_eq!(rt; run(alloc, &words, &mut store, &mut out), 3);
+    for (name, bytes) in [
+        ("t.table", TYPE.as_slice()),
+        ("b.blob", BLOB.as_slice()),
+        ("i.ids", IDS.as_bytes()),
+    ] {
+        assert!(rt;
+            store.save(alloc, &Name::new(alloc, name)?, bytes).is_ok(),
+            "{name}"
+        );
+    }
+    assert_eq!(rt; run(alloc, &words, &mut store, &mut out), 0);
+    assert_eq!(rt; out.text(), LISTING.as_bytes());
+    for (name, bytes) in [("o.blob", BLOB.as_slice()), ("j.ids", IDS.as_bytes())] {
+        let loaded = store.load(alloc, &Name::new(alloc, name)?)?;
+        assert_eq!(rt; loaded.as_slice(), bytes, "{name}");
+    }
+    Ok(())
+}
