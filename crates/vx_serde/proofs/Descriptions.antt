@@ -27,7 +27,7 @@ end_of-front p [] (suc i) = omega arith
 end_of-front p (x ∷ ds) (suc i) = end_of-front (p + x.padding + x.len) ds i
 
 buffers_at-take_suc : (s : List ℕ) (p : ℕ) (ds : List Descriptor) (i : ℕ) (d : Descriptor) → i < length ds → d ≡ get_or ds i d
-  → buffers_at s p (take (suc i) ds) ≡ buffers_at s p (take i ds) ++ (record { bytes = take d.len (drop (end_of p (take i ds) + d.padding) s); exponent = d.exponent }) ∷ []
+    → buffers_at s p (take (suc i) ds) ≡ buffers_at s p (take i ds) ++ (record { bytes = take d.len (drop (end_of p (take i ds) + d.padding) s); exponent = d.exponent }) ∷ []
 buffers_at-take_suc s p [] i d h e = absurd (omega (arith, h))
 buffers_at-take_suc s p (x ∷ ds) zero d h e =
     let same = sym e in λ i. (record { bytes = take (same i).len (drop (p + (same i).padding) s); exponent = (same i).exponent }) ∷ []
@@ -36,8 +36,8 @@ buffers_at-take_suc s p (x ∷ ds) (suc i) d h e =
 
 -- one buffer more, which ends at end
 pub buffers_at-take : (s : List ℕ) (ds : List Descriptor) (i : ℕ) (d : Descriptor) (place end : ℕ) (seen now : List Buffer) (b : Buffer) → i < length ds → d ≡ get_or ds i d
-  → place ≡ end_of 0 (take i ds) → end ≡ place + d.padding + d.len → seen ≡ buffers_at s 0 (take i ds) → b ≡ buffer_before s d end → now ≡ seen ++ b ∷ []
-  → now ≡ buffers_at s 0 (take (i + 1) ds)
+    → place ≡ end_of 0 (take i ds) → end ≡ place + d.padding + d.len → seen ≡ buffers_at s 0 (take i ds) → b ≡ buffer_before s d end → now ≡ seen ++ b ∷ []
+    → now ≡ buffers_at s 0 (take (i + 1) ds)
 buffers_at-take s ds i d place end seen now b h e at to before is q =
     let start : end - d.len ≡ end_of 0 (take i ds) + d.padding = omega (arith, at, to) in
     rw (add-one i) (q ∙ (λ j. before j ++ (is ∙ ap (λ z. record { bytes = take d.len (drop z s); exponent = d.exponent }) start) j ∷ []) ∙ sym (buffers_at-take_suc s 0 ds i d h e))
@@ -50,6 +50,6 @@ at_place (x ∷ ds) (suc i) a b h = at_place ds i a b (omega (arith, h))
 
 -- a fact of the descriptors up to i, and of the one at i
 pub one_more : (P : Descriptor → Type 0) (ds : List Descriptor) (i : ℕ) (a : Descriptor) → i < length ds → ((k : ℕ) (d : Descriptor) → k < i → P (get_or ds k d)) → P (get_or ds i a)
-  → (k : ℕ) (d : Descriptor) → k < i + 1 → P (get_or ds k d)
+    → (k : ℕ) (d : Descriptor) → k < i + 1 → P (get_or ds k d)
 one_more P ds i a h before here k d below =
     below_more (λ j. P (get_or ds j d)) i (λ j lt. before j d lt) (subst P (at_place ds i a d h) here) k below

@@ -145,8 +145,9 @@ module _ (plans : PlanLaw) (one : OneValueLaw) (fair : FairLaw) (shape : ShapeLa
       let Q : Type 0 = ⊥ in
       let at_plan : plan_of h.encoding d n h.value (count (below w)) ≡ None → ⊥ = λ none. none_some (places (below t)) (sym none ∙ planned w d n t h.encoding h.value at m h.metadata) in
       elim h.broken [
-        inl none ↦ at_plan none
-      | inr b ↦ misshaped w d n t h.encoding h.value at m h.metadata b.0 b.1 b.2 ]
+        | inl none ↦ at_plan none
+        | inr b ↦ misshaped w d n t h.encoding h.value at m h.metadata b.0 b.1 b.2
+      ]
     where
       misshaped : (w : Wire) (d : Typ) (n : ℕ) (t : Tree) (e : Encoding) (v : Metadata) → IsAt s w d n t → IsShippedNode e (label w) t (λ us. AllMatch s (below w) us) → IsMetadata e (label w).metadata v
           → (bs : List Buffer) → (label w).buffers ≡ map (λ b. Some b) bs → (IsShaped e d n v bs (count (below w)) → ⊥) → ⊥

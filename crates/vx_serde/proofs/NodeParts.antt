@@ -28,7 +28,7 @@ parts_of ps e m c b rest p of =
     record { node_is = ap (λ z. node_of (views z)) p; encoding = here.0; children = here.1.1.0 }
 
 pub node_parts : (ps : List FieldValue) (e m c b : FieldValue) → 4 ≤ length ps → e ≡ get_or ps 0 e → m ≡ get_or ps 1 m → c ≡ get_or ps 2 c → b ≡ get_or ps 3 b
-  → AreOf array_schema node_fields (views ps) → Parts ps e m c b
+    → AreOf array_schema node_fields (views ps) → Parts ps e m c b
 node_parts [] e m c b h p q r s of = absurd (omega (arith, h))
 node_parts (x ∷ []) e m c b h p q r s of = absurd (omega (arith, h))
 node_parts (x ∷ y ∷ []) e m c b h p q r s of = absurd (omega (arith, h))
@@ -63,8 +63,8 @@ row_nodes (x ∷ rows) zero r h e = let same = ap (λ z. walk.nodes (node_of (vi
 row_nodes (x ∷ rows) (suc i) r h e = omega (arith, row_nodes rows i r (omega (arith, h)) e)
 
 wires_of-take_suc : (ids : List (List ℕ)) (bs : List Buffer) (rows : List (Vec FieldValue Global)) (ws : List Wire) (i : ℕ) (r : Vec FieldValue Global) (w : Wire) → i < length rows → r ≡ get_or rows i r
-  → roses_of ws ≡ wires_of ids bs (nodes_of (rows_value (take i rows))) → w ≡ wire_of ids bs (node_of (views r.items))
-  → roses_of (ws ++ w ∷ []) ≡ wires_of ids bs (nodes_of (rows_value (take (suc i) rows)))
+    → roses_of ws ≡ wires_of ids bs (nodes_of (rows_value (take i rows))) → w ≡ wire_of ids bs (node_of (views r.items))
+    → roses_of (ws ++ w ∷ []) ≡ wires_of ids bs (nodes_of (rows_value (take (suc i) rows)))
 wires_of-take_suc ids bs [] ws i r w h e inv is = absurd (omega (arith, h))
 wires_of-take_suc ids bs (x ∷ rows) [] zero r w h e inv is = ap (λ z. more z end) (is ∙ ap (λ z. wire_of ids bs (node_of (views z.items))) e)
 wires_of-take_suc ids bs (x ∷ rows) (v ∷ ws) zero r w h e inv is = absurd (cc)
@@ -75,8 +75,8 @@ wires_of-take_suc ids bs (x ∷ rows) (v ∷ ws) (suc i) r w h e inv is =
     λ j. more (first j) (wires_of-take_suc ids bs rows ws i r w (omega (arith, h)) e others is j)
 
 pub wires_of-take : (ids : List (List ℕ)) (bs : List Buffer) (rows : List (Vec FieldValue Global)) (ws us : List Wire) (i : ℕ) (r : Vec FieldValue Global) (w : Wire) → i < length rows → r ≡ get_or rows i r
-  → roses_of ws ≡ wires_of ids bs (nodes_of (rows_value (take i rows))) → w ≡ wire_of ids bs (node_of (views r.items)) → us ≡ ws ++ w ∷ []
-  → roses_of us ≡ wires_of ids bs (nodes_of (rows_value (take (i + 1) rows)))
+    → roses_of ws ≡ wires_of ids bs (nodes_of (rows_value (take i rows))) → w ≡ wire_of ids bs (node_of (views r.items)) → us ≡ ws ++ w ∷ []
+    → roses_of us ≡ wires_of ids bs (nodes_of (rows_value (take (i + 1) rows)))
 wires_of-take ids bs rows ws us i r w h e inv is q = rw (q, add-one i) (wires_of-take_suc ids bs rows ws i r w h e inv is)
 
 -- a message has more than one field

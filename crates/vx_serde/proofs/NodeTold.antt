@@ -86,9 +86,12 @@ matches-parts s w t by e d n md bs ws us p q mp bp wp a parts =
     let P : Wires → Type 0 = λ z. AllMatch s z (below t) in
     let Q : Trees → Type 0 = λ z. AllMatch s (roses_of ws) z in
     matches_node s w t by p
-    (of_reader (s.reader by) e (label w) t (λ vs. AllMatch s (below w) vs) q
-    (parts.encoding, subst M mp parts.metadata_is, bp ∙ ap (λ z. map (λ b. Some b) z) (sym parts.buffers_are),
-     subst P wp (subst Q (sym parts.children_are) a)))
+    (of_reader (s.reader by) e (label w) t (λ vs. AllMatch s (below w) vs) q (
+      parts.encoding,
+      subst M mp parts.metadata_is,
+      bp ∙ ap (λ z. map (λ b. Some b) z) (sym parts.buffers_are),
+      subst P wp (subst Q (sym parts.children_are) a),
+    ))
 
 -- ---- what is at a place of a list
 
@@ -165,14 +168,16 @@ pub caused_by_plan : (s : SessionMeaning) (x : EncodingError) (w : Wire) (d : Ty
 caused_by_plan s refusals.OutOfMemory w d n e h by is c = tt
 caused_by_plan s refusals.BadMetadata w d n e h by is c =
     ([], record { encoding = e; by = by; refused = λ v m. c v (metadata_at e (label w).metadata h.metadata v (sym is.metadata) m) })
-caused_by_plan s refusals.BadShape w d n e h by is c =
-    ([], record {
-      encoding = e;
-      by = by;
-      value = c.value;
-      metadata = metadata_at e h.metadata (label w).metadata c.value is.metadata c.metadata;
-      broken = inl (plan_at h w d n e c.value is ∙ c.none);
-    })
+caused_by_plan s refusals.BadShape w d n e h by is c = (
+  [],
+  record {
+    encoding = e;
+    by = by;
+    value = c.value;
+    metadata = metadata_at e h.metadata (label w).metadata c.value is.metadata c.metadata;
+    broken = inl (plan_at h w d n e c.value is ∙ c.none);
+  },
+)
 
 shaped_at : (e : Encoding) (d d2 : Typ) (n n2 : ℕ) (v : Metadata) (bs : List Buffer) (k k2 : ℕ) → d ≡ d2 → n ≡ n2 → k ≡ k2 → IsShaped e d n v bs k → IsShaped e d2 n2 v bs k2
 shaped_at e d d2 n n2 v bs k k2 p q r m =
@@ -185,14 +190,16 @@ pub caused_by_build : (s : SessionMeaning) (x : EncodingError) (w : Wire) (d : T
     → (label w).buffers ≡ map (λ b. Some b) bs → count us ≡ count (below w) → IsUnbuilt x e (typ h.dtype) h.len h.metadata bs us → IsCausedIn s (error_of x) w d n
 caused_by_build s refusals.OutOfMemory w d n e h bs us by is own same c = tt
 caused_by_build s refusals.BadMetadata w d n e h bs us by is own same c = absurd c
-caused_by_build s refusals.BadShape w d n e h bs us by is own same c =
-    ([], record {
-      encoding = e;
-      by = by;
-      value = c.value;
-      metadata = metadata_at e h.metadata (label w).metadata c.value is.metadata c.metadata_is;
-      broken = inr (bs, own, λ m. c.misshaped (shaped_at e d (typ h.dtype) n h.len c.value bs (count (below w)) (count us) (sym is.dtype) (sym is.len) (sym same) m));
-    })
+caused_by_build s refusals.BadShape w d n e h bs us by is own same c = (
+  [],
+  record {
+    encoding = e;
+    by = by;
+    value = c.value;
+    metadata = metadata_at e h.metadata (label w).metadata c.value is.metadata c.metadata_is;
+    broken = inr (bs, own, λ m. c.misshaped (shaped_at e d (typ h.dtype) n h.len c.value bs (count (below w)) (count us) (sym is.dtype) (sym is.len) (sym same) m));
+  },
+)
 
 -- as many places as children
 pub length-places : (ts : Trees) → length (places ts) ≡ count ts

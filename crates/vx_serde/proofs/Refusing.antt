@@ -8,7 +8,7 @@ use Rattle.vx_serde.specs.Opening.{AreRefused, IsUndescribed}
 use Rattle.vx_serde.proofs.Descriptions.{end_of-take, end_of-front}
 
 pub refused_at : (e : WireError) (segment : List ℕ) (ds : List Descriptor) (i : ℕ) (d : Descriptor) (place : ℕ) → i < length ds → d ≡ get_or ds i d → place ≡ end_of 0 (take i ds)
-  → IsUndescribed e d place (length segment) → AreRefused e segment ds
+    → IsUndescribed e d place (length segment) → AreRefused e segment ds
 refused_at BadAlignment segment ds i d place h is at refused = (i, d, h, sym is, refused)
 refused_at Compressed segment ds i d place h is at refused = (i, d, h, sym is, refused)
 refused_at OutOfBounds segment ds i d place h is at refused =

@@ -50,9 +50,12 @@ module _ (ids : IdLaw) (back : ReadBackLaw) (s : SessionMeaning) (paired : IsPai
     matches-again (node w ws) (node h ts) m =
         let x = by_reader (s.reader m.0) w (node h ts) (λ us. AllMatch s ws us) m.2 in
         let own : encoding_id_of h.body ≡ id_of x.0 = ids h.body x.0 x.2.0 in
-        let reads : s.reader (encoding_id_of h.body) ≡ Some (shipped x.0) = ap (λ z. s.reader z) own ∙ paired.written_is_read (id_of x.0) x.0 (paired.read_is_written m.0 x.0 x.1) in
-        (encoding_id_of h.body, refl, of_reader (s.reader (encoding_id_of h.body)) x.0 (label (wire s (node h ts))) (node h ts) (λ us. AllMatch s (wires s ts) us) reads
-         (x.2.0, back h ts x.0 x.2.0, refl, all_match-again ws ts x.2.3))
+        let reads : s.reader (encoding_id_of h.body) ≡ Some (shipped x.0) = ap (λ z. s.reader z) own ∙ paired.written_is_read (id_of x.0) x.0 (paired.read_is_written m.0 x.0 x.1) in (
+          encoding_id_of h.body,
+          refl,
+          of_reader (s.reader (encoding_id_of h.body)) x.0 (label (wire s (node h ts))) (node h ts) (λ us. AllMatch s (wires s ts) us) reads
+              (x.2.0, back h ts x.0 x.2.0, refl, all_match-again ws ts x.2.3),
+        )
 
     all_match-again : (ws : Wires) (ts : Trees) → AllMatch s ws ts → AllMatch s (wires s ts) ts
     all_match-again end ts m = rw m refl

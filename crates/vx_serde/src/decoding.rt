@@ -59,10 +59,7 @@ fn head_of(
 }
 
 /// A node's buffers, where none is missing.
-fn own_buffers(
-    alloc: Global,
-    buffers: &[Option<BufferHandle>],
-) -> Result<BufferHandles, WireError>
+fn own_buffers(alloc: Global, buffers: &[Option<BufferHandle>]) -> Result<BufferHandles, WireError>
     ensures ok { IfOk result (λ bs. buffers.now ≡ map (λ b. Some b) bs) }
     ensures cause { IfErr result (λ e. IsLacking e buffers.now) }
 {

@@ -12,6 +12,8 @@ mod opening;
 mod options;
 mod placing;
 mod recoding;
+#[cfg(test)]
+mod recoding_tests;
 mod tree;
 mod wiring;
 mod writing;

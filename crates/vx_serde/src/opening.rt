@@ -124,7 +124,11 @@ fn named_buffers(
 }
 
 /// The identifier that a node's encoding is named by, where its number has one.
-fn named_id(alloc: Global, encoding: &FieldValue, ids: &ReadContext) -> Result<Option<Id>, WireError>
+fn named_id(
+    alloc: Global,
+    encoding: &FieldValue,
+    ids: &ReadContext,
+) -> Result<Option<Id>, WireError>
     requires { IsOfKind array_schema (Number Two) (view encoding.now) }
     ensures ok { IfOk result (λ id. id ≡ slice_get ids.now (number_in (view encoding.now))) }
     ensures err { IsOkUnless result WireError.OutOfMemory }
@@ -195,7 +199,10 @@ impl From<FlatError> for WireError {
 }
 
 /// The parts of a message's value: its root, where it stands, and its descriptors.
-fn parts_of(alloc: Global, fields: &[FieldValue]) -> Result<(Option<&[FieldValue]>, Vec<Descriptor>), WireError>
+fn parts_of(
+    alloc: Global,
+    fields: &[FieldValue],
+) -> Result<(Option<&[FieldValue]>, Vec<Descriptor>), WireError>
     requires { AreOf array_schema array_fields (views fields.now) }
     ensures root { IfOk result (λ p. MatchOption p.0 ((message_of (views fields.now)).root ≡ None)
         (λ root. ((message_of (views fields.now)).root ≡ Some (node_of (views root.now))) × AreOf array_schema node_fields (views root.now))) }
@@ -211,7 +218,11 @@ fn parts_of(alloc: Global, fields: &[FieldValue]) -> Result<(Option<&[FieldValue
 }
 
 /// The wire tree that a blob carries, its nodes' identifiers taken from a list.
-pub(crate) fn open(alloc: Global, blob: &ByteBuffer, ids: &ReadContext) -> Result<WireNode, WireError>
+pub(crate) fn open(
+    alloc: Global,
+    blob: &ByteBuffer,
+    ids: &ReadContext,
+) -> Result<WireNode, WireError>
     ensures opened { IfOk result (λ w. IsOpened blob.now.bytes ids.now w) }
     ensures cause { IfErr result (λ e. IsUnopened e blob.now.bytes) }
 {

@@ -1,6 +1,6 @@
 //! Reading a blob and writing its array again.
 
-ghost use Rattle.std.specs.Prelude.{◌≡◌, Some, IfOk, IfErr, OnOk};
+ghost use Rattle.std.specs.Prelude.{◌≡◌, Some, IfOk, IfErr, OnOk, IsSome};
 ghost use Rattle.vx_types.specs.Seen.{typ};
 ghost use Rattle.vx_arrays.specs.Tree.{Tree, encoding_ids};
 ghost use Rattle.vx_registry.specs.Context.{grown};
@@ -12,7 +12,7 @@ ghost use Rattle.vx_serde.specs.WrittenBuffers.{joined};
 
 use crate::decoding::decode;
 use crate::error::WireError;
-use crate::laws::{one_array, written_is_spelled};
+use crate::laws::{never_caused, one_array, written_is_spelled};
 use crate::opening::open;
 use crate::options::SerializeOptions;
 use crate::wiring::wire_node;
@@ -50,47 +50,36 @@ pub fn recode(
     options: &SerializeOptions,
 ) -> Result<Recoded, WireError>
     // The blob spells the array, and no other one.
-    ensures spelled {
-        let s = registry_meaning session.now.arrays in
-        IsShipped s → IfOk result (λ r. Spells blob.bytes read_ids.now (typ dtype.now) len s r.array)
-    }
-    ensures the_one {
-        let s = registry_meaning session.now.arrays in
-        IsShipped s → IfOk result (λ r. (t : Tree) → Spells blob.bytes read_ids.now (typ dtype.now) len s t → t ≡ r.array)
-    }
+    ensures spelled { let s = registry_meaning session.now.arrays in
+        IsShipped s → IfOk result (λ r. Spells blob.bytes read_ids.now (typ dtype.now) len s r.array) }
+    ensures the_one { let s = registry_meaning session.now.arrays in
+        IsShipped s → IfOk result (λ r. (t : Tree) → Spells blob.bytes read_ids.now (typ dtype.now) len s t → t ≡ r.array) }
     // What is written is the array's blob, and the context is the one that it grows.
-    ensures written {
-        let s = registry_meaning session.now.arrays in
-        IfOk result (λ r. joined r.buffers ≡ blob_of s r.array ctx.old options.now)
-    }
+    ensures written { let s = registry_meaning session.now.arrays in
+        IfOk result (λ r. joined r.buffers ≡ blob_of s r.array ctx.old options.now) }
     ensures grown { IfOk result (λ r. grown ctx.old r.array ≡ Some ctx.new) }
     // The new blob spells the same array, read with the grown context.
-    ensures again {
-        let s = registry_meaning session.now.arrays in
-        IsShipped s → IfOk result (λ r. Spells (joined r.buffers) ctx.new.ids (typ dtype.now) len s (canon r.array))
-    }
+    ensures again { let s = registry_meaning session.now.arrays in
+        IsShipped s → IfOk result (λ r. Spells (joined r.buffers) ctx.new.ids (typ dtype.now) len s (canon r.array)) }
     ensures reader_limits { OnOk result (KeepsReaderLimits blob.bytes) }
-    ensures writer_limits {
-        let s = registry_meaning session.now.arrays in
-        IfOk result (λ r. KeepsWriterLimits s r.array ctx.old options.now)
-    }
+    ensures writer_limits { let s = registry_meaning session.now.arrays in
+        IfOk result (λ r. KeepsWriterLimits s r.array ctx.old options.now) }
     // Whatever the answer, the context keeps what it had, and what comes to it is the array's.
-    ensures kept {
-        let s = registry_meaning session.now.arrays in
-        (t : Tree) → Spells blob.bytes read_ids.now (typ dtype.now) len s t → KeepsContext (encoding_ids t) ctx.old ctx.new
-    }
-    ensures untouched {
-        let s = registry_meaning session.now.arrays in
-        ((t : Tree) → Spells blob.bytes read_ids.now (typ dtype.now) len s t → ⊥) → ctx.new ≡ ctx.old
-    }
+    ensures kept { let s = registry_meaning session.now.arrays in
+        (t : Tree) → Spells blob.bytes read_ids.now (typ dtype.now) len s t → KeepsContext (encoding_ids t) ctx.old ctx.new }
+    ensures untouched { let s = registry_meaning session.now.arrays in
+        ((t : Tree) → Spells blob.bytes read_ids.now (typ dtype.now) len s t → ⊥) → ctx.new ≡ ctx.old }
     // Each refusal has its cause.
-    ensures cause {
-        let s = registry_meaning session.now.arrays in
+    ensures cause { let s = registry_meaning session.now.arrays in
         let call : Call = record { blob = blob.bytes; dtype = typ dtype.now; len = len; ids = read_ids.now; context = ctx.old; session = s; options = options.now } in
-        IsShipped s → IfErr result (IsCaused call)
-    }
+        IsShipped s → IfErr result (IsCaused call) }
+    // Where the blob spells an array within the limits and the context can grow, it is answered, or memory is wanted.
+    ensures complete { let s = registry_meaning session.now.arrays in
+        IsShipped s → (t : Tree) → Spells blob.bytes read_ids.now (typ dtype.now) len s t → KeepsReaderLimits blob.bytes → KeepsWriterLimits s t ctx.old options.now
+        → IsSome (grown ctx.old t) → IfErr result (λ e. e ≡ WireError.OutOfMemory) }
 {
     one_array();
+    never_caused();
     written_is_spelled();
     session.arrays.hold();
     ctx.hold();

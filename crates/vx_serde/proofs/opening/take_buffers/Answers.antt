@@ -26,10 +26,11 @@ loop-descriptor-preserved c =
     let i = c.loop-descriptor.descriptor-index in
     let d : Descriptor = get_or ds i nothing in
     let is = at_place ds i nothing d c.loop-descriptor-test.true in
-    let inv = c.loop-descriptor.invariant in
-    (omega (arith, c.in-Ok.ensures.end, inv.0, end_of-take 0 ds i d c.loop-descriptor-test.true is),
-     omega (arith, c.in-Ok.ensures.within, c.len.ensures),
-     buffers_at-take c.args.segment.now.bytes ds i d c.loop-descriptor.place c.in-Ok.end c.loop-descriptor.buffers c.push.new.self c.in_ok-buffer_before.field-0 c.loop-descriptor-test.true is
-     inv.0 c.in-Ok.ensures.end inv.2 c.in_ok-buffer_before.ensures.ok c.in_ok-push.ensures.ok,
-     one_more (λ x. x.exponent ≤ 16) ds i nothing c.loop-descriptor-test.true inv.3 c.in-Ok.ensures.aligned,
-     one_more (λ x. x.compression ≡ 0) ds i nothing c.loop-descriptor-test.true inv.4 c.in-Ok.ensures.plain)
+    let inv = c.loop-descriptor.invariant in (
+      omega (arith, c.in-Ok.ensures.end, inv.0, end_of-take 0 ds i d c.loop-descriptor-test.true is),
+      omega (arith, c.in-Ok.ensures.within, c.len.ensures),
+      buffers_at-take c.args.segment.now.bytes ds i d c.loop-descriptor.place c.in-Ok.end c.loop-descriptor.buffers c.push.new.self c.in_ok-buffer_before.field-0 c.loop-descriptor-test.true is
+          inv.0 c.in-Ok.ensures.end inv.2 c.in_ok-buffer_before.ensures.ok c.in_ok-push.ensures.ok,
+      one_more (λ x. x.exponent ≤ 16) ds i nothing c.loop-descriptor-test.true inv.3 c.in-Ok.ensures.aligned,
+      one_more (λ x. x.compression ≡ 0) ds i nothing c.loop-descriptor-test.true inv.4 c.in-Ok.ensures.plain,
+    )

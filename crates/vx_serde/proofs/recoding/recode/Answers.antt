@@ -4,7 +4,7 @@ use Rattle.vx_registry.specs.Session.{registry_meaning}
 use Rattle.vx_serde.specs.Spells.{Spells}
 use Rattle.vx_serde.specs.Causes.{Call}
 use Rattle.vx_serde.specs.WrittenBuffers.{joined}
-use Rattle.vx_serde.proofs.Recodings.{spells, reader_limits, grown-wire, written-wire, limits-wire, kept-wire, caused_by_writing}
+use Rattle.vx_serde.proofs.Recodings.{spells, reader_limits, grown-wire, written-wire, limits-wire, kept-wire, caused_by_blob, caused_by_tree, caused_by_writing}
 use Rattle.vx_serde.proofs.recoding.recode.Goals as goal
 
 pub returns-in-Err-write_wire-clause-kept : goal.returns-in-Err-write_wire-clause-kept
@@ -31,6 +31,47 @@ returns-in-Err-write_wire-clause-cause c = λ _.
     caused_by_writing call c.in-Err-write_wire.e c.in_ok-node.node c.in-Ok-decode.array (c.in_ok-node.ensures.ok (registry_meaning c.args.session.now.arrays)) (spells c.args.blob.bytes c.args.read_ids.now (typ c.args.dtype.now) c.args.len (registry_meaning c.args.session.now.arrays) c.in-Ok.node c.in-Ok-decode.array c.in-Ok.ensures.opened
     c.in-Ok-decode.ensures.matches c.in-Ok-decode.ensures.sound c.in-Ok-decode.ensures.dtype c.in-Ok-decode.ensures.len) c.in-Err-write_wire.ensures.refused
 
+pub returns-in-Err-clause-complete : goal.returns-in-Err-clause-complete
+returns-in-Err-clause-complete c = λ _ t x light fits grows.
+    let call : Call = record {
+      blob = c.args.blob.bytes;
+      dtype = typ c.args.dtype.now;
+      len = c.args.len;
+      ids = c.args.read_ids.now;
+      context = c.args.ctx.now;
+      session = registry_meaning c.args.session.now.arrays;
+      options = c.args.options.now;
+    } in
+    c.never_caused.ensures call t x light fits grows c.in-Err.e (caused_by_blob call c.in-Err.e c.in-Err.ensures.cause)
+
+pub returns-in-Err-decode-clause-complete : goal.returns-in-Err-decode-clause-complete
+returns-in-Err-decode-clause-complete c = λ _ t x light fits grows.
+    let call : Call = record {
+      blob = c.args.blob.bytes;
+      dtype = typ c.args.dtype.now;
+      len = c.args.len;
+      ids = c.args.read_ids.now;
+      context = c.args.ctx.now;
+      session = registry_meaning c.args.session.now.arrays;
+      options = c.args.options.now;
+    } in
+    c.never_caused.ensures call t x light fits grows c.in-Err-decode.e (caused_by_tree call c.in-Err-decode.e c.in-Ok.node c.in-Ok.ensures.opened.carried c.in-Err-decode.ensures.cause)
+
+pub returns-in-Err-write_wire-clause-complete : goal.returns-in-Err-write_wire-clause-complete
+returns-in-Err-write_wire-clause-complete c = λ _ t x light fits grows.
+    let call : Call = record {
+      blob = c.args.blob.bytes;
+      dtype = typ c.args.dtype.now;
+      len = c.args.len;
+      ids = c.args.read_ids.now;
+      context = c.args.ctx.now;
+      session = registry_meaning c.args.session.now.arrays;
+      options = c.args.options.now;
+    } in
+    c.never_caused.ensures call t x light fits grows c.in-Err-write_wire.e
+    (caused_by_writing call c.in-Err-write_wire.e c.in_ok-node.node c.in-Ok-decode.array (c.in_ok-node.ensures.ok (registry_meaning c.args.session.now.arrays)) (spells c.args.blob.bytes c.args.read_ids.now (typ c.args.dtype.now) c.args.len (registry_meaning c.args.session.now.arrays) c.in-Ok.node c.in-Ok-decode.array c.in-Ok.ensures.opened
+    c.in-Ok-decode.ensures.matches c.in-Ok-decode.ensures.sound c.in-Ok-decode.ensures.dtype c.in-Ok-decode.ensures.len) c.in-Err-write_wire.ensures.refused)
+
 pub returns-clause-spelled : goal.returns-clause-spelled
 returns-clause-spelled c = λ _.
     (spells c.args.blob.bytes c.args.read_ids.now (typ c.args.dtype.now) c.args.len (registry_meaning c.args.session.now.arrays) c.in-Ok.node c.in-Ok-decode.array c.in-Ok.ensures.opened
@@ -42,18 +83,18 @@ returns-clause-the_one c = λ _ t x.
     c.in-Ok-decode.ensures.matches c.in-Ok-decode.ensures.sound c.in-Ok-decode.ensures.dtype c.in-Ok-decode.ensures.len)
 
 pub returns-clause-written : goal.returns-clause-written
-returns-clause-written c = 
+returns-clause-written c =
     written-wire (registry_meaning c.args.session.now.arrays) c.in-Ok-decode.array c.in_ok-node.node c.args.ctx.now c.write_wire.new.ctx c.args.options.now (joined c.in-Ok-write_wire.buffers) (c.in_ok-node.ensures.ok (registry_meaning c.args.session.now.arrays)) c.in-Ok-write_wire.ensures.grown c.in-Ok-write_wire.ensures.written
 
 pub returns-clause-grown : goal.returns-clause-grown
-returns-clause-grown c = 
+returns-clause-grown c =
     sym (grown-wire (registry_meaning c.args.session.now.arrays) c.in-Ok-decode.array c.in_ok-node.node c.args.ctx.now (c.in_ok-node.ensures.ok (registry_meaning c.args.session.now.arrays))) ∙ c.in-Ok-write_wire.ensures.grown
 
 pub returns-clause-reader_limits : goal.returns-clause-reader_limits
 returns-clause-reader_limits c = reader_limits c.args.blob.bytes c.args.read_ids.now c.in-Ok.node c.in-Ok.ensures.opened
 
 pub returns-clause-writer_limits : goal.returns-clause-writer_limits
-returns-clause-writer_limits c = 
+returns-clause-writer_limits c =
     limits-wire (registry_meaning c.args.session.now.arrays) c.in-Ok-decode.array c.in_ok-node.node c.args.ctx.now c.write_wire.new.ctx c.args.options.now (c.in_ok-node.ensures.ok (registry_meaning c.args.session.now.arrays)) c.in-Ok-write_wire.ensures.grown c.in-Ok-write_wire.ensures.writable
 
 pub returns-clause-again : goal.returns-clause-again
