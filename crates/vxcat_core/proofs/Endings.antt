@@ -11,8 +11,9 @@ use Rattle.vxcat_core.specs.Words.{Line, Spells}
 use Rattle.vxcat_core.specs.Status.{status_number, print_status}
 use Rattle.vxcat_core.specs.Listing.{listing}
 use Rattle.vxcat_core.specs.Written.{AppendsPrefix}
-use Rattle.vxcat_core.specs.Recoding.{AreSaved, KeepsOthers, EndsSaving}
+use Rattle.vxcat_core.specs.Recoding.{AreInputs, AreSaved, CanRecodeInputs, EndsSaving, IsRefused, KeepsOthers}
 use Rattle.vxcat_core.specs.Outcome.{rows_of, Work, Ends, Outcome, HasOutcome}
+use Rattle.vxcat_core.specs.declared.recoding.Inputs.{Inputs}
 use Rattle.vxcat_core.specs.declared.print.PrintError.{PrintError}
 use Rattle.vxcat_core.specs.declared.print.PrintError.TheVariants as print_error
 use Rattle.vxcat_core.specs.declared.status.Status.{Status}
@@ -40,6 +41,38 @@ save_ends WriteFault line before mid after out same others cause = absurd cause
 save_ends BadType line before mid after out same others cause = absurd cause
 save_ends BadIds line before mid after out same others cause = absurd cause
 save_ends (Refused e) line before mid after out same others cause = absurd cause
+
+-- A run that ends at what it loaded.
+pub refused_ends : (status : Status) (line : Line) (before after : StoreState) (out : SinkState) (loaded : Inputs) → AreInputs line before loaded → IsRefused status line loaded
+    → (CanRecodeInputs line loaded → status ≡ OutOfMemory) → after.tells ≡ before.tells → after.file ≡ before.file → Ends status line before after out out
+refused_ends Done line before after out loaded are cause complete tells file = absurd cause
+refused_ends OutOfMemory line before after out loaded are cause complete tells file =
+    (record { told = tells; files = λ told name not_out not_ids. ap (λ (f : List ℕ → Option (List ℕ)). f name) file }, inl (keeps_same out.written))
+refused_ends NoCommand line before after out loaded are cause complete tells file = absurd cause
+refused_ends LoadFault line before after out loaded are cause complete tells file = absurd cause
+refused_ends SaveFault line before after out loaded are cause complete tells file = absurd cause
+refused_ends WriteFault line before after out loaded are cause complete tells file = absurd cause
+refused_ends BadType line before after out loaded are cause complete tells file = record {
+  loaded = loaded;
+  are_inputs = are;
+  refused = cause;
+  cannot = λ can. (let never = complete can in cc);
+  untouched = record { told = tells; files = file; written = keeps_same out.written };
+}
+refused_ends BadIds line before after out loaded are cause complete tells file = record {
+  loaded = loaded;
+  are_inputs = are;
+  refused = cause;
+  cannot = λ can. (let never = complete can in cc);
+  untouched = record { told = tells; files = file; written = keeps_same out.written };
+}
+refused_ends (Refused e) line before after out loaded are cause complete tells file = record {
+  loaded = loaded;
+  are_inputs = are;
+  refused = cause;
+  cannot = λ can. (let never = complete can in cc);
+  untouched = record { told = tells; files = file; written = keeps_same out.written };
+}
 
 -- A run that ends at the listing.
 pub print_ends : (error : PrintError) (line : Line) (before after : StoreState) (out_before out_after : SinkState) (work : Work line before) → AreSaved line after work.made → KeepsOthers line before after

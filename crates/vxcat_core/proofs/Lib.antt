@@ -1,4 +1,5 @@
 mod AskedNames
+mod Completeness
 mod DecimalNumbers
 mod Endings
 mod IdLines

@@ -87,3 +87,19 @@ too_many_rows (Pad m) rest other n many fits range same = absurd (omega (arith, 
 too_many_rows (Rows m) rest other n many fits range same =
     let is : n ≡ m = decimal_injective n m fits (omega (arith, range)) (second _ _ same) in
     omega (arith, is, many, range)
+
+choices_same : (cs ds : List Choice) → AllByRecursion IsInRange cs → AllByRecursion IsInRange ds → flat_map choice_words cs ≡ flat_map choice_words ds → cs ≡ ds
+choices_same [] [] first second same = refl
+choices_same [] (d ∷ ds) first second same = absurd (no_words d (flat_map choice_words ds) same)
+choices_same (c ∷ cs) [] first second same = absurd (no_words c (flat_map choice_words cs) (sym same))
+choices_same (c ∷ cs) (d ∷ ds) first second same =
+    let parts = front c d (flat_map choice_words cs) (flat_map choice_words ds) first.0 second.0 same in
+    let tails = choices_same cs ds first.1 second.1 parts.1 in
+    (λ k. parts.0 k ∷ tails k)
+
+-- Words spell one set of options at most.
+pub options_same : (before a b : Options) (words : List (List ℕ)) → SpellOptions before words a → SpellOptions before words b → a ≡ b
+options_same before a b words first second =
+    let choices = choices_same first.choices second.choices first.in_range second.in_range (sym first.words_are ∙ second.words_are) in
+    let both : Some a ≡ Some b = sym first.once ∙ ap (λ (cs : List Choice). with_choices (Some before) cs) choices ∙ second.once in
+    cc

@@ -1,6 +1,7 @@
 -- From what the recoding of a blob ensures to what the program promises of it.
-use Rattle.std.proofs.Common.{◌≡◌, ℕ, List, [], Option, None, Some, option_map, Result, Ok, Err, IfOk, IfErr, refl, sym, ap, subst}
+use Rattle.std.proofs.Common.{◌≡◌, ℕ, List, [], Option, None, Some, option_map, Result, Ok, Err, IfOk, IfErr, sym, ap, subst, ◌∙◌}
 use Rattle.vx_types.specs.Typ.{Typ}
+use Rattle.vx_type_wire.specs.Shown.{IsRead}
 use Rattle.vx_arrays.specs.Tree.{Tree}
 use Rattle.vx_encodings.specs.declared.encoding.Encoding.{Encoding}
 use Rattle.vx_registry.specs.Context.{Context}
@@ -10,10 +11,14 @@ use Rattle.vx_serde.specs.declared.error.WireError.{WireError}
 use Rattle.vx_serde.specs.declared.error.WireError.TheVariants as wire
 use Rattle.vx_serde.specs.Causes.{Call, IsCaused}
 use Rattle.vxcat_core.specs.Status.{wire_status}
-use Rattle.vxcat_core.specs.Recoding.{call, IsBlobRecoded, IsBlobRefused}
+use Rattle.vxcat_core.specs.Words.{Line}
+use Rattle.vxcat_core.specs.IdFile.{ReadsIds}
+use Rattle.vxcat_core.specs.Recoding.{asked_by, call, write_options, CanRecode, CanRecodeInputs, IsBlobRecoded, IsBlobRefused, IsRefused}
+use Rattle.vxcat_core.specs.declared.recoding.Inputs.{Inputs}
 use Rattle.vxcat_core.specs.declared.recoding.Outputs.{Outputs}
 use Rattle.vxcat_core.specs.declared.status.Status.{Status}
-use Rattle.vxcat_core.specs.declared.status.Status.TheVariants.{OutOfMemory}
+use Rattle.vxcat_core.specs.declared.status.Status.TheVariants.{Done, OutOfMemory, NoCommand, LoadFault, SaveFault, WriteFault, BadType, BadIds, Refused}
+use Rattle.vxcat_core.proofs.IdLines.{lines_unique}
 
 by_shipped : (found : Option Encoding) → IsShippedReader (option_map shipped found)
 by_shipped None = tt
@@ -59,3 +64,47 @@ refused wire.BadMetadata asked cause = cause
 refused wire.BadShape asked cause = cause
 refused wire.NotPermitted asked cause = cause
 refused wire.WireLimit asked cause = cause
+
+if_err_map : {A E : Type 0} (result : Result A E) (P Q : E → Type 0) → ((e : E) → P e → Q e) → IfErr result P → IfErr result Q
+if_err_map (Ok x) P Q f p = tt
+if_err_map (Err e) P Q f p = f e p
+
+blob_to_inputs : (line : Line) (loaded : Inputs) (dtype : Typ) (read_ids : List (List ℕ)) → IsRead loaded.type_bytes dtype → ReadsIds loaded.id_bytes read_ids
+    → (status : Status) → IsBlobRefused status (asked_by line loaded dtype read_ids) → IsRefused status line loaded
+blob_to_inputs line loaded dtype read_ids types ids OutOfMemory cause = tt
+blob_to_inputs line loaded dtype read_ids types ids (Refused e) cause = (dtype, read_ids, types, ids, cause)
+blob_to_inputs line loaded dtype read_ids types ids Done cause = absurd cause
+blob_to_inputs line loaded dtype read_ids types ids NoCommand cause = absurd cause
+blob_to_inputs line loaded dtype read_ids types ids LoadFault cause = absurd cause
+blob_to_inputs line loaded dtype read_ids types ids SaveFault cause = absurd cause
+blob_to_inputs line loaded dtype read_ids types ids WriteFault cause = absurd cause
+blob_to_inputs line loaded dtype read_ids types ids BadType cause = absurd cause
+blob_to_inputs line loaded dtype read_ids types ids BadIds cause = absurd cause
+
+module _ (line : Line) (loaded : Inputs) (type_bytes id_bytes : List ℕ) (dtype : Typ) (read_ids : List (List ℕ)) (options : SerializeOptions) (result : Result Outputs Status)
+    (types_are : type_bytes ≡ loaded.type_bytes) (ids_are : id_bytes ≡ loaded.id_bytes) (options_are : options ≡ write_options line.options.pad)
+    (type_read : IsRead type_bytes dtype) (ids_read : ReadsIds id_bytes read_ids) where
+  type_here : IsRead loaded.type_bytes dtype
+  type_here = subst (λ (l : List ℕ). IsRead l dtype) types_are type_read
+
+  ids_here : ReadsIds loaded.id_bytes read_ids
+  ids_here = subst (λ (l : List ℕ). ReadsIds l read_ids) ids_are ids_read
+
+  -- A refused blob is a cause among those of what was loaded.
+  pub inputs_refused : IfErr result (λ s. IsBlobRefused s (call loaded.blob dtype line.len read_ids options)) → IfErr result (λ s. IsRefused s line loaded)
+  inputs_refused refused =
+      let here = subst (λ (o : SerializeOptions). IfErr result (λ s. IsBlobRefused s (call loaded.blob dtype line.len read_ids o))) options_are refused in
+      if_err_map result _ _ (blob_to_inputs line loaded dtype read_ids type_here ids_here) here
+
+  -- What can be recoded at some type and with some identifiers can be so at those that were read.
+  pub inputs_complete : ((m : List ℕ) (t u : Typ) → IsRead m t → IsRead m u → t ≡ u) → (CanRecode (call loaded.blob dtype line.len read_ids options) → IfErr result (λ s. s ≡ OutOfMemory))
+      → CanRecodeInputs line loaded → IfErr result (λ s. s ≡ OutOfMemory)
+  inputs_complete one_type complete can =
+      let types : can.dtype ≡ dtype = one_type loaded.type_bytes can.dtype dtype can.type_read type_here in
+      let ids : can.read_ids ≡ read_ids = lines_unique loaded.id_bytes read_ids can.read_ids ids_here.lines can.ids_read.lines in
+      let asked : asked_by line loaded can.dtype can.read_ids ≡ call loaded.blob dtype line.len read_ids options = λ k. call loaded.blob (types k) line.len (ids k) (sym options_are k) in
+      complete (subst CanRecode asked can.can_recode)
+
+-- Where the refusal of a blob is want of memory, so is the status.
+pub memory_status : (error : WireError) (status : Status) → status ≡ wire_status error → error ≡ wire.OutOfMemory → status ≡ OutOfMemory
+memory_status error status is memory = is ∙ ap wire_status memory

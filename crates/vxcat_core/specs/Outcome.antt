@@ -1,12 +1,12 @@
 -- How a run of the program ends, and what stands afterwards.
-use Rattle.std.specs.Prelude.{◌≡◌, ◌⊎◌, ℕ, List, unwrap_or}
+use Rattle.std.specs.Prelude.{◌≡◌, ◌⊎◌, ℕ, IsTrue, List, unwrap_or}
 use Rattle.std.specs.Io.KnownBytes.{Appends, Keeps}
 use Rattle.vxcat_core.specs.StoreState.{StoreState, HasRisen}
 use Rattle.vxcat_core.specs.SinkState.{SinkState}
 use Rattle.vxcat_core.specs.Words.{Line, Spells, inputs}
 use Rattle.vxcat_core.specs.Written.{AppendsPrefix}
 use Rattle.vxcat_core.specs.Listing.{listing}
-use Rattle.vxcat_core.specs.Recoding.{AreInputs, IsRecoded, IsRefused, AskedOnly, KeepsOthers, AreSaved}
+use Rattle.vxcat_core.specs.Recoding.{AreInputs, CanRecodeInputs, IsRecoded, IsRefused, AskedOnly, KeepsOthers, AreSaved}
 use Rattle.vxcat_core.specs.Status.{status_number}
 use Rattle.vxcat_core.specs.declared.options.Options.{Options}
 use Rattle.vxcat_core.specs.declared.recoding.Inputs.{Inputs}
@@ -39,11 +39,12 @@ pub record EndsPrinting (line : Line) (before after : StoreState) (IsPrinted : L
   pub others : KeepsOthers line before after
   pub printed : IsPrinted (listing work.made.array (rows_of line.options))
 
--- The command was refused by what it loaded, before it saved or printed anything.
+-- The command was refused by what it loaded, which cannot be recoded, before it saved or printed anything.
 pub record EndsRefused (status : Status) (line : Line) (before after : StoreState) (out_before out_after : SinkState) : Type 0 where
   pub loaded : Inputs
   pub are_inputs : AreInputs line before loaded
   pub refused : IsRefused status line loaded
+  pub cannot : CanRecodeInputs line loaded → ⊥
   pub untouched : IsUntouched before after out_before out_after
 
 -- How the command ends, by its status. 0: the outputs are saved and the listing printed. 1: at most a prefix of the
@@ -77,3 +78,18 @@ pub record HasOutcome (number : ℕ) (words : List (List ℕ)) (before after : S
   pub status : Status
   pub number_is : number ≡ status_number status
   pub outcome : Outcome status words before after out_before out_after
+
+-- A run can end well: the words spell a command, and the store tells inputs of it that can be recoded.
+pub record CanRun (words : List (List ℕ)) (before : StoreState) : Type 0 where
+  pub line : Line
+  pub spelled : Spells words line
+  pub tells : IsTrue before.tells
+  pub loaded : Inputs
+  pub are_inputs : AreInputs line before loaded
+  pub can_recode : CanRecodeInputs line loaded
+
+-- No count of faults rose.
+pub record HasNoFault (before after : StoreState) (out_before out_after : SinkState) : Type 0 where
+  pub loads : HasRisen before.load_faults after.load_faults → ⊥
+  pub saves : HasRisen before.save_faults after.save_faults → ⊥
+  pub writes : HasRisen out_before.faults out_after.faults → ⊥

@@ -1,5 +1,5 @@
 -- What the command `recode` reads, makes and saves.
-use Rattle.std.specs.Prelude.{◌≡◌, ◌≢◌, ℕ, true, false, IsTrue, Option, None, Some, option_map, List, [], ◌++◌, Contains}
+use Rattle.std.specs.Prelude.{◌≡◌, ◌≢◌, ℕ, true, false, IsTrue, IsSome, Option, None, Some, option_map, List, [], ◌++◌, Contains}
 use Rattle.std.specs.List.{AllByRecursion}
 use Rattle.vx_types.specs.Typ.{Typ}
 use Rattle.vx_type_wire.specs.Shown.{IsRead}
@@ -55,6 +55,14 @@ pub record IsBlobRecoded (asked : Call) (array : Tree) (bytes : List ℕ) (ids :
   pub reader_limits : KeepsReaderLimits asked.blob
   pub writer_limits : KeepsWriterLimits asked.session array asked.context asked.options
 
+-- The blob can be recoded: it spells an array, the limits on reading and writing hold, and the context can grow.
+pub record CanRecode (asked : Call) : Type 0 where
+  pub array : Tree
+  pub spelled : Spells asked.blob asked.ids asked.dtype asked.len asked.session array
+  pub reader_limits : KeepsReaderLimits asked.blob
+  pub writer_limits : KeepsWriterLimits asked.session array asked.context asked.options
+  pub grows : IsSome (grown asked.context array)
+
 -- What a command asks of the blob that it loaded, at a type and with identifiers.
 abbrev pub asked_by : Line → Inputs → Typ → List (List ℕ) → Call
 asked_by line loaded dtype read_ids = call loaded.blob dtype line.len read_ids (write_options line.options.pad)
@@ -66,6 +74,15 @@ pub record IsRecoded (line : Line) (loaded : Inputs) (made : Outputs) : Type 0 w
   pub type_read : IsRead loaded.type_bytes dtype
   pub ids_read : ReadsIds loaded.id_bytes read_ids
   pub recoded : IsBlobRecoded (asked_by line loaded dtype read_ids) made.array made.blob made.ids
+
+-- What was loaded can be recoded: the type file shows a type, the id file has identifiers, and the blob can be recoded
+-- at that type and with these.
+pub record CanRecodeInputs (line : Line) (loaded : Inputs) : Type 0 where
+  pub dtype : Typ
+  pub read_ids : List (List ℕ)
+  pub type_read : IsRead loaded.type_bytes dtype
+  pub ids_read : ReadsIds loaded.id_bytes read_ids
+  pub can_recode : CanRecode (asked_by line loaded dtype read_ids)
 
 -- A blob is refused for want of memory, or by a refusal that has its cause.
 abbrev pub IsBlobRefused : Status → Call → Type 0

@@ -1,7 +1,7 @@
 ghost use Rattle.std.specs.Prelude.{◌≡◌, []};
 
 use crate::store::{Store, StoreError};
-use std::alloc::{AllocError, AllocFailed, Global};
+use std::alloc::Global;
 use std::fs;
 use std::io::{Read, Write};
 use std::rt::Files;

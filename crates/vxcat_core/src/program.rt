@@ -1,7 +1,7 @@
-ghost use Rattle.std.specs.Prelude.{◌≡◌, ◌≢◌, ◌↔◌};
+ghost use Rattle.std.specs.Prelude.{◌≡◌, ◌≢◌, ◌⊎◌, ◌↔◌};
 ghost use Rattle.vxcat_core.specs.Words.{Line, Spells};
 ghost use Rattle.vxcat_core.specs.RecodeWords.{line_of};
-ghost use Rattle.vxcat_core.specs.Outcome.{Ends, HasOutcome, rows_of};
+ghost use Rattle.vxcat_core.specs.Outcome.{CanRun, Ends, HasNoFault, HasOutcome, rows_of};
 
 use crate::listing::print_listing;
 use crate::options::Options;
@@ -24,6 +24,9 @@ const DEFAULT_ROWS: u64 = 10;
 pub fn run<S: Store, O: Sink>(alloc: Global, words: &[Name], store: &mut S, out: &mut O) -> u8
     ensures outcome { HasOutcome result words.now (S.state store.old) (S.state store.new) (O.state out.old) (O.state out.new) }
     ensures no_command { (result ≡ 2) ↔ ((line : Line) → ¬ (Spells words.now line)) }
+    ensures complete { CanRun words.now (S.state store.old)
+        → HasNoFault (S.state store.old) (S.state store.new) (O.state out.old) (O.state out.new)
+        → (result ≡ 0) ⊎ (result ≡ 1) }
 {
     match parse_words(words) {
         Some(words) => run_recode(alloc, &words, store, out).number(),

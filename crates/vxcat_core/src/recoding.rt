@@ -3,19 +3,20 @@ ghost use Rattle.vx_types.specs.Seen.{typ};
 ghost use Rattle.vxcat_core.specs.RecodeWords.{line_of};
 ghost use Rattle.vxcat_core.specs.Words.{inputs};
 ghost use Rattle.vx_serde.specs.WrittenBuffers.{joined};
-ghost use Rattle.vxcat_core.specs.Recoding.{AreInputs, AreSaved, AskedOnly, EndsLoading, EndsSaving, IsBlobRecoded, IsBlobRefused, IsRecoded, IsRefused, KeepsOthers, call, write_options};
+ghost use Rattle.vxcat_core.specs.Recoding.{AreInputs, AreSaved, AskedOnly, CanRecode, CanRecodeInputs, EndsLoading, EndsSaving, IsBlobRecoded, IsBlobRefused, IsRecoded, IsRefused, KeepsOthers, call, write_options};
 ghost use Rattle.vxcat_core.specs.declared.status.Status.TheVariants.{OutOfMemory};
 
 use crate::id_file::{read_ids, write_ids};
 use crate::status::Status;
 use crate::store::Store;
 use crate::words::RecodeWords;
-use vx_serde::{Recoded, SerializeOptions, recode};
 use std::alloc::{AllocError, Global};
 use vx_arrays::Array;
 use vx_buffer::{ByteBuffer, ByteBuffers};
 use vx_registry::{ArrayContext, ArraySession, ReadContext, VortexSession};
+use vx_serde::{Recoded, SerializeOptions, recode};
 use vx_type_wire::DTypeExt;
+use vx_type_wire::laws::one_type;
 use vx_types::{Blob, DType, Ids};
 
 /// The contents of the files that the command reads.
@@ -69,7 +70,9 @@ pub fn load_inputs<S: Store>(
 pub fn recode_inputs(alloc: Global, words: &RecodeWords, loaded: Inputs) -> Result<Outputs, Status>
     ensures recoded { IfOk result (λ made. IsRecoded (line_of words.now) loaded made) }
     ensures cause { IfErr result (λ status. IsRefused status (line_of words.now) loaded) }
+    ensures complete { CanRecodeInputs (line_of words.now) loaded → IfErr result (λ status. status ≡ OutOfMemory) }
 {
+    one_type();
     let dtype = match DType::from_flatbuffer(alloc, loaded.type_bytes.as_slice()) {
         Ok(dtype) => dtype,
         Err(error) => return Err(Status::of_type(error)),
@@ -104,11 +107,10 @@ fn recode_blob(
     read_ids: Ids,
     options: &SerializeOptions,
 ) -> Result<Outputs, Status>
-    ensures recoded {
-        let asked = call blob (typ dtype.now) len read_ids options.now in
-        IfOk result (λ made. IsBlobRecoded asked made.array made.blob made.ids)
-    }
+    ensures recoded { let asked = call blob (typ dtype.now) len read_ids options.now in
+        IfOk result (λ made. IsBlobRecoded asked made.array made.blob made.ids) }
     ensures cause { IfErr result (λ status. IsBlobRefused status (call blob (typ dtype.now) len read_ids options.now)) }
+    ensures complete { CanRecode (call blob (typ dtype.now) len read_ids options.now) → IfErr result (λ status. status ≡ OutOfMemory) }
 {
     let Ok(buffer) = ByteBuffer::from_vec(blob.into_vec()) else {
         return Err(Status::OutOfMemory);

@@ -1,7 +1,8 @@
 use Rattle.std.proofs.Common.{refl, sym, ◌∙◌}
 use Rattle.vxcat_core.specs.RecodeWords.{line_of}
 use Rattle.vxcat_core.specs.declared.status.Status.TheVariants.{NoCommand}
-use Rattle.vxcat_core.proofs.Endings.{keeps_same, ends_not_two, has_outcome}
+use Rattle.vxcat_core.proofs.Completeness.{complete}
+use Rattle.vxcat_core.proofs.Endings.{keeps_same, ends_not_two, has_outcome, outcome_from_ends}
 use Rattle.vxcat_core.proofs.program.run.Goals as goal
 
 pub returns-in-Some-clause-no_command : goal.returns-in-Some-clause-no_command
@@ -14,9 +15,18 @@ pub returns-in-Some-clause-outcome : goal.returns-in-Some-clause-outcome
 returns-in-Some-clause-outcome g c =
     has_outcome c.number.result c.run_recode.result c.args.words.now (line_of c.in-Some.words) _ _ _ _ c.number.ensures c.in-Some.ensures.spelled c.run_recode.ensures
 
+pub returns-in-Some-clause-complete : goal.returns-in-Some-clause-complete
+returns-in-Some-clause-complete g c = λ can quiet.
+    let outcome = outcome_from_ends c.run_recode.result c.args.words.now (line_of c.in-Some.words) _ _ _ _ c.in-Some.ensures.spelled c.run_recode.ensures in
+    let ends = complete c.args.words.now _ _ _ _ can c.run_recode.result outcome quiet in
+    rw c.number.ensures ends
+
 pub returns-in-None-clause-outcome : goal.returns-in-None-clause-outcome
 returns-in-None-clause-outcome g c = record {
   status = NoCommand;
   number_is = c.number-in-None.ensures;
   outcome = (c.in-None.ensures.none, record { told = refl; files = refl; written = keeps_same (g.O.Sink.state c.args.out.now).written });
 }
+
+pub returns-in-None-clause-complete : goal.returns-in-None-clause-complete
+returns-in-None-clause-complete g c = λ can quiet. absurd (c.in-None.ensures.none can.line can.spelled)

@@ -3,8 +3,13 @@ use Rattle.std.specs.Io.KnownBytes.{Appends}
 use Rattle.vxcat_core.specs.RecodeWords.{line_of}
 use Rattle.vxcat_core.specs.Listing.{listing}
 use Rattle.vxcat_core.specs.Written.{AppendsPrefix}
-use Rattle.vxcat_core.proofs.Endings.{others_through, save_ends, print_ends}
+use Rattle.vxcat_core.proofs.Endings.{others_through, refused_ends, save_ends, print_ends}
 use Rattle.vxcat_core.proofs.program.run_recode.Goals as goal
+
+pub returns-in-Err-recode_inputs : goal.returns-in-Err-recode_inputs
+returns-in-Err-recode_inputs g c =
+    let load = c.load_inputs.ensures in
+    refused_ends c.in-Err-recode_inputs.status (line_of c.args.words.now) _ _ _ c.in-Ok.loaded c.in-Ok.ensures.inputs c.in-Err-recode_inputs.ensures.cause c.in-Err-recode_inputs.ensures.complete load.told load.files
 
 pub returns-in-Err-save_outputs : goal.returns-in-Err-save_outputs
 returns-in-Err-save_outputs g c =
@@ -15,7 +20,7 @@ pub returns-in-Ok-print_listing : goal.returns-in-Ok-print_listing
 returns-in-Ok-print_listing g c =
     let load = c.load_inputs.ensures in
     let printed = subst (λ (n : ℕ). Appends (g.O.Sink.state c.args.out.now).written (g.O.Sink.state c.print_listing.new.out).written (listing c.in-Ok-recode_inputs.made.array n))
-        c.shown_rows.ensures c.in-Ok-print_listing.ensures.ok in
+    c.shown_rows.ensures c.in-Ok-print_listing.ensures.ok in
     record {
       work = record { loaded = c.in-Ok.loaded; made = c.in-Ok-recode_inputs.made; are_inputs = c.in-Ok.ensures.inputs; is_recoded = c.in-Ok-recode_inputs.ensures.recoded };
       saved = c.in_default.ensures.saved;
@@ -27,11 +32,11 @@ pub returns : goal.returns
 returns g c =
     let load = c.load_inputs.ensures in
     let prefix = subst (λ (n : ℕ). AppendsPrefix (g.O.Sink.state c.args.out.now).written (g.O.Sink.state c.print_listing.new.out).written (listing c.in-Ok-recode_inputs.made.array n))
-        c.shown_rows.ensures c.print_listing.ensures.prefix in
+    c.shown_rows.ensures c.print_listing.ensures.prefix in
     let ends = print_ends c.in-Err-print_listing.error (line_of c.args.words.now) _ _ _ _
-        (record { loaded = c.in-Ok.loaded; made = c.in-Ok-recode_inputs.made; are_inputs = c.in-Ok.ensures.inputs; is_recoded = c.in-Ok-recode_inputs.ensures.recoded })
-        c.in_default.ensures.saved
-        (others_through _ _ _ _ load.files load.told c.save_outputs.ensures.others)
-        prefix
-        (λ is. c.in-Err-print_listing.ensures.fault (ap Err is)) in
+    (record { loaded = c.in-Ok.loaded; made = c.in-Ok-recode_inputs.made; are_inputs = c.in-Ok.ensures.inputs; is_recoded = c.in-Ok-recode_inputs.ensures.recoded })
+    c.in_default.ensures.saved
+    (others_through _ _ _ _ load.files load.told c.save_outputs.ensures.others)
+    prefix
+    (λ is. c.in-Err-print_listing.ensures.fault (ap Err is)) in
     rw c.of_print.ensures ends

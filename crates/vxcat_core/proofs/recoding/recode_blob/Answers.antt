@@ -1,11 +1,11 @@
-use Rattle.std.proofs.Common.{ap, option_map, subst, ◌∙◌}
+use Rattle.std.proofs.Common.{ap, option_map, subst, sym, ◌∙◌}
 use Rattle.vx_types.specs.Seen.{typ}
 use Rattle.vx_registry.specs.Context.{Context}
 use Rattle.vx_registry.specs.Session.{registry_meaning}
 use Rattle.vx_serde.specs.WrittenBuffers.{joined}
 use Rattle.vx_serde.specs.Causes.{Call, IsCaused}
-use Rattle.vxcat_core.specs.Recoding.{IsBlobRecoded}
-use Rattle.vxcat_core.proofs.Recodings.{registry_shipped, same_call, outputs_recoded, memory_refused, refused}
+use Rattle.vxcat_core.specs.Recoding.{CanRecode, IsBlobRecoded}
+use Rattle.vxcat_core.proofs.Recodings.{registry_shipped, same_call, outputs_recoded, memory_refused, memory_status, refused}
 use Rattle.vxcat_core.proofs.recoding.recode_blob.Goals as goal
 
 pub returns-in-Ok-recode-clause-recoded : goal.returns-in-Ok-recode-clause-recoded
@@ -15,7 +15,7 @@ returns-in-Ok-recode-clause-recoded c =
     let blob = c.in-Ok.ensures.bytes ∙ c.into_vec.ensures in
     let arrays = c.new-session.ensures ∙ c.in-Ok-default.ensures in
     let asked = same_call c.args.blob c.in-Ok.buffer.bytes (typ c.args.dtype.now) c.args.len c.args.read_ids c.new-read.result c.empty-ids.result c.new-session.result.arrays c.args.options.now
-        blob c.new-read.ensures c.empty-ids.ensures.ids c.empty-ids.ensures.allowed arrays in
+    blob c.new-read.ensures c.empty-ids.ensures.ids c.empty-ids.ensures.allowed arrays in
     let here : Call = record {
       blob = c.in-Ok.buffer.bytes;
       dtype = typ c.args.dtype.now;
@@ -45,6 +45,16 @@ returns-clause-cause c =
     let blob = c.in-Ok.ensures.bytes ∙ c.into_vec.ensures in
     let arrays = c.new-session.ensures ∙ c.in-Ok-default.ensures in
     let asked = same_call c.args.blob c.in-Ok.buffer.bytes (typ c.args.dtype.now) c.args.len c.args.read_ids c.new-read.result c.empty-ids.result c.new-session.result.arrays c.args.options.now
-        blob c.new-read.ensures c.empty-ids.ensures.ids c.empty-ids.ensures.allowed arrays in
+    blob c.new-read.ensures c.empty-ids.ensures.ids c.empty-ids.ensures.allowed arrays in
     let cause = subst (λ (call : Call). IsCaused call c.in-Err.error) asked (c.in-Err.ensures.cause (registry_shipped c.new-session.result.arrays)) in
     rw c.of_blob.ensures (refused c.in-Err.error _ cause)
+
+pub returns-clause-complete : goal.returns-clause-complete
+returns-clause-complete c = λ can.
+    let blob = c.in-Ok.ensures.bytes ∙ c.into_vec.ensures in
+    let arrays = c.new-session.ensures ∙ c.in-Ok-default.ensures in
+    let asked = same_call c.args.blob c.in-Ok.buffer.bytes (typ c.args.dtype.now) c.args.len c.args.read_ids c.new-read.result c.empty-ids.result c.new-session.result.arrays c.args.options.now
+    blob c.new-read.ensures c.empty-ids.ensures.ids c.empty-ids.ensures.allowed arrays in
+    let here = subst CanRecode (sym asked) can in
+    let memory = c.in-Err.ensures.complete (registry_shipped c.new-session.result.arrays) here.array here.spelled here.reader_limits here.writer_limits here.grows in
+    memory_status c.in-Err.error c.of_blob.result c.of_blob.ensures memory

@@ -1,0 +1,14 @@
+use Rattle.vx_types.specs.Seen.{typ}
+use Rattle.vxcat_core.specs.RecodeWords.{line_of}
+use Rattle.vxcat_core.proofs.Recodings.{inputs_refused, inputs_complete}
+use Rattle.vxcat_core.proofs.recoding.recode_inputs.Goals as goal
+
+pub returns-clause-cause : goal.returns-clause-cause
+returns-clause-cause c =
+    inputs_refused (line_of c.args.words.now) c.args.loaded c.as_slice.result.now c.as_slice-2.result.now (typ c.in-Ok.dtype) c.in-Ok-read_ids.ids c.serialize_options-options.result c.recode_blob.result
+    c.as_slice.ensures c.as_slice-2.ensures c.serialize_options-options.ensures c.in-Ok.ensures.read c.in-Ok-read_ids.ensures.reads c.recode_blob.ensures.cause
+
+pub returns-clause-complete : goal.returns-clause-complete
+returns-clause-complete c =
+    inputs_complete (line_of c.args.words.now) c.args.loaded c.as_slice.result.now c.as_slice-2.result.now (typ c.in-Ok.dtype) c.in-Ok-read_ids.ids c.serialize_options-options.result c.recode_blob.result
+    c.as_slice.ensures c.as_slice-2.ensures c.serialize_options-options.ensures c.in-Ok.ensures.read c.in-Ok-read_ids.ensures.reads c.one_type.ensures c.recode_blob.ensures.complete
