@@ -1,5 +1,9 @@
+mod AskedNames
 mod DecimalNumbers
+mod Endings
 mod IdLines
 mod KnownText
 mod Listings
+mod OptionFronts
+mod Recodings
 mod SevenWords

@@ -1,8 +1,7 @@
 -- The texts of a listing, one part after the other.
-use Rattle.std.proofs.Common.{◌≡◌, ℕ, zero, suc, ◌+◌, ◌-◌, ◌<◌, List, [], ◌∷◌, ◌++◌, length, drop, get_or, codes, refl, sym, ap, ◌∙◌, arith, add-one, append_assoc, drop-cons}
-use Rattle.std.proofs.lemmas.List.{append-nil}
+use Rattle.std.proofs.Common.{◌≡◌, ℕ, zero, suc, ◌+◌, ◌-◌, ◌<◌, List, [], ◌∷◌, ◌++◌, length, drop, get_or, codes, refl, ap, arith, add-one}
 use Rattle.std.specs.List.{flat_map}
-use Rattle.vx_trees.specs.Rose.{node, end, more, label, below, roses_of}
+use Rattle.vx_trees.specs.Rose.{node, label, below, roses_of}
 use Rattle.vx_buffer.specs.Buffer.{Buffer}
 use Rattle.vx_arrays.specs.Tree.{Tree}
 use Rattle.vxcat_core.specs.Listing.{length_text, further_length, lengths_text, node_line, node_lines, node_lines_below, row_line, row_lines}

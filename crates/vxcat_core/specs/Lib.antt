@@ -1,8 +1,12 @@
 pub mod IdFile
 pub mod Listing
+pub mod Options
+pub mod Outcome
 pub mod RecodeWords
+pub mod Recoding
 pub mod RowText
 pub mod SinkState
+pub mod Status
 pub mod StoreState
 pub mod Words
 pub mod Written

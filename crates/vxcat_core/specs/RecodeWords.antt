@@ -11,4 +11,5 @@ line_of words = record {
   id_file = words.id_file.now;
   out = words.out.now;
   out_ids = words.out_ids.now;
+  options = words.options;
 }

@@ -1,3 +1,5 @@
+ghost use Rattle.std.specs.Prelude.{◌≡◌, []};
+
 use crate::store::{Store, StoreError};
 use std::alloc::{AllocError, AllocFailed, Global};
 use std::fs;
@@ -25,7 +27,9 @@ pub struct DirStore<'a, R: Files> {
 
 impl<'a, R: Files> DirStore<'a, R> {
     /// A store that has been asked for nothing.
-    pub fn new(alloc: Global, files: &'a R) -> DirStore<'a, R> {
+    pub fn new(alloc: Global, files: &'a R) -> DirStore<'a, R>
+        ensures { (⟦<DirStore<'a, R> as Store>⟧.state result).asked ≡ [] }
+    {
         DirStore {
             files,
             asked: Vec::new(alloc),

@@ -1,4 +1,4 @@
-ghost use Rattle.std.specs.Prelude.{◌<◌};
+ghost use Rattle.std.specs.Prelude.{◌≡◌, ◌<◌, [], Some};
 
 use crate::sink::{Sink, SinkError};
 use std::alloc::Global;
@@ -16,12 +16,16 @@ pub struct MemSink {
 
 impl MemSink {
     /// Every write takes its whole piece.
-    pub fn new(alloc: Global) -> MemSink {
+    pub fn new(alloc: Global) -> MemSink
+        ensures { ⟦<MemSink as Sink>⟧.state result ≡ record { written = Some []; faults = 0 } }
+    {
         MemSink::failing(alloc, 0)
     }
 
     /// The write of this number, counted from 1, fails, and no other.
-    pub fn failing(alloc: Global, number: u64) -> MemSink {
+    pub fn failing(alloc: Global, number: u64) -> MemSink
+        ensures { ⟦<MemSink as Sink>⟧.state result ≡ record { written = Some []; faults = 0 } }
+    {
         MemSink {
             text: Vec::new(alloc),
             failing: number,
@@ -34,6 +38,7 @@ impl MemSink {
     /// The same, and a write takes at most this number of bytes.
     pub fn taking(self, most: usize) -> MemSink
         requires { 0 < most }
+        ensures { ⟦<MemSink as Sink>⟧.state result ≡ ⟦<MemSink as Sink>⟧.state self }
     {
         let MemSink {
             text,
@@ -52,7 +57,9 @@ impl MemSink {
     }
 
     /// All that was written.
-    pub fn text(&self) -> &[u8] {
+    pub fn text(&self) -> &[u8]
+        ensures { (⟦<MemSink as Sink>⟧.state self.now).written ≡ Some result.now }
+    {
         self.text.as_slice()
     }
 }

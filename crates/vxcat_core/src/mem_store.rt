@@ -1,3 +1,6 @@
+ghost use Rattle.std.specs.Prelude.{◌≡◌, ◌≢◌, ℕ, List, [], Some, None, OnOk};
+ghost use Rattle.std.specs.Option.{option_copied};
+
 use crate::store::{Store, StoreError};
 use std::alloc::{AllocError, Global};
 use std::collections::BTreeMap;
@@ -15,10 +18,11 @@ pub struct MemStore {
 }
 
 impl MemStore {
-    ghost use Rattle.std.specs.Prelude.{◌≡◌};
-
     /// No files, and no call fails.
-    pub fn new(alloc: Global) -> MemStore {
+    pub fn new(alloc: Global) -> MemStore
+        ensures files { (name : List ℕ) → (⟦<MemStore as Store>⟧.state result).file name ≡ None }
+        ensures asked { (⟦<MemStore as Store>⟧.state result).asked ≡ [] }
+    {
         MemStore {
             files: BTreeMap::new(alloc),
             asked: Vec::new(alloc),
@@ -33,7 +37,9 @@ impl MemStore {
     ///
     /// # Errors
     /// Want of memory.
-    pub fn fail_call(&mut self, number: u64) -> Result<(), AllocError> {
+    pub fn fail_call(&mut self, number: u64) -> Result<(), AllocError>
+        ensures { ⟦<MemStore as Store>⟧.state self.new ≡ ⟦<MemStore as Store>⟧.state self.old }
+    {
         self.failing.push(number)?;
         Ok(())
     }
@@ -42,14 +48,21 @@ impl MemStore {
     ///
     /// # Errors
     /// Want of memory.
-    pub fn insert(&mut self, alloc: Global, name: &str, bytes: &[u8]) -> Result<(), AllocError> {
+    #[tactic(auto, using(std::proofs::lemmas::Map::Text::text_keys))]
+    pub fn insert(&mut self, alloc: Global, name: &str, bytes: &[u8]) -> Result<(), AllocError>
+        ensures ok { OnOk result ((⟦<MemStore as Store>⟧.state self.new).file name.now ≡ Some bytes.now) }
+        ensures others { (other : List ℕ) → other ≢ name.now
+            → (⟦<MemStore as Store>⟧.state self.new).file other ≡ (⟦<MemStore as Store>⟧.state self.old).file other }
+    {
         let key = String::from_str(alloc, name)?;
         self.files.insert(key, bytes.to_vec(alloc)?)?;
         Ok(())
     }
 
     /// What stands at a name. It counts as no call.
-    pub fn get(&self, name: &str) -> Option<&[u8]> {
+    pub fn get(&self, name: &str) -> Option<&[u8]>
+        ensures { option_copied result ≡ (⟦<MemStore as Store>⟧.state self.now).file name.now }
+    {
         match self.files.get(name) {
             Some(bytes) => Some(bytes.as_slice()),
             None => None,

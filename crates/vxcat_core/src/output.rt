@@ -1,3 +1,5 @@
+ghost use Rattle.std.specs.Prelude.{◌≡◌};
+
 use crate::sink::{Sink, SinkError};
 use std::io::Write;
 
@@ -11,11 +13,9 @@ pub struct Output<W: Write + Drop> {
 }
 
 impl<W: Write + Drop> Output<W> {
-    ghost use Rattle.std.specs.Prelude.{◌≡◌};
-
     /// A sink over the writer, with no fault so far.
     pub fn new(writer: W) -> Output<W>
-        ensures { result ≡ record { writer = writer; faults = 0 } }
+        ensures { ⟦<Output<W> as Sink>⟧.state result ≡ record { written = W.contents writer; faults = 0 } }
     {
         Output { writer, faults: 0 }
     }

@@ -1,4 +1,4 @@
-use Rattle.std.proofs.Common.{◌≡◌, ◌++◌, List, ℕ, codes, sym, ap, ◌∙◌, arith}
+use Rattle.std.proofs.Common.{◌++◌, List, ℕ, codes, sym, ap, ◌∙◌, arith}
 use Rattle.vx_trees.specs.Rose.{below}
 use Rattle.vxcat_core.specs.Listing.{node_lines, node_lines_below}
 use Rattle.vxcat_core.proofs.KnownText.{up_to_start, up_to_ok, up_to_err}

@@ -1,4 +1,4 @@
-use Rattle.std.proofs.Common.{◌≡◌, ◌++◌, min, refl, sym}
+use Rattle.std.proofs.Common.{min, refl, sym}
 use Rattle.std.proofs.lemmas.List.{append-nil}
 use Rattle.vx_trees.specs.Rose.{label}
 use Rattle.vxcat_core.specs.Listing.{row_lines, listing}

@@ -1,6 +1,6 @@
-use Rattle.std.proofs.Common.{◌≡◌, ◌++◌, List, ℕ, ◌+◌, ◌-◌, ◌≤◌, sym, ap, ◌∙◌, arith}
-use Rattle.vxcat_core.specs.Listing.{row_line, row_lines}
-use Rattle.vxcat_core.proofs.KnownText.{AppendsUpTo, up_to_ok, up_to_err}
+use Rattle.std.proofs.Common.{◌++◌, List, ℕ, ◌+◌, ◌-◌, sym, ap, ◌∙◌, arith}
+use Rattle.vxcat_core.specs.Listing.{row_lines}
+use Rattle.vxcat_core.proofs.KnownText.{up_to_ok, up_to_err}
 use Rattle.vxcat_core.proofs.Listings.{row_lines-next}
 use Rattle.vxcat_core.proofs.listing.print_rows.Goals as goal
 

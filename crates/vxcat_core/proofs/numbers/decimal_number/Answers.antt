@@ -5,7 +5,7 @@ use Rattle.std.specs.Str.Parse.{ParsesUnsigned}
 use Rattle.std.specs.Char.{is_ascii_digit}
 use Rattle.std.specs.List.{list_all}
 use Rattle.vxcat_core.proofs.DecimalNumbers.{parsed_is_decimal, decimal_is_digits, decimal_no_zero, decimal_parses, all_digits_is}
-use Rattle.vxcat_core.proofs.words.decimal_number.Goals as goal
+use Rattle.vxcat_core.proofs.numbers.decimal_number.Goals as goal
 
 some : {E : Type 0} (bs : List ℕ) (r : Result ℕ E) (o : Option ℕ) → o ≡ result_ok r → ParsesUnsigned 64 10 bs r → all_ascii_digits bs ≡ true → (get_or bs 0 0 ≡ 48 → length bs ≡ 1) → IfSome o (λ n. bs ≡ decimal n)
 some bs (Err e) o is parses digits no_zero = rw is tt

@@ -1,0 +1,37 @@
+use Rattle.std.proofs.Common.{ℕ, Err, ap, subst}
+use Rattle.std.specs.Io.KnownBytes.{Appends}
+use Rattle.vxcat_core.specs.RecodeWords.{line_of}
+use Rattle.vxcat_core.specs.Listing.{listing}
+use Rattle.vxcat_core.specs.Written.{AppendsPrefix}
+use Rattle.vxcat_core.proofs.Endings.{others_through, save_ends, print_ends}
+use Rattle.vxcat_core.proofs.program.run_recode.Goals as goal
+
+pub returns-in-Err-save_outputs : goal.returns-in-Err-save_outputs
+returns-in-Err-save_outputs g c =
+    let load = c.load_inputs.ensures in
+    save_ends c.in-Err-save_outputs.status (line_of c.args.words.now) _ _ _ _ load.save_faults (others_through _ _ _ _ load.files load.told c.save_outputs.ensures.others) c.in-Err-save_outputs.ensures.cause
+
+pub returns-in-Ok-print_listing : goal.returns-in-Ok-print_listing
+returns-in-Ok-print_listing g c =
+    let load = c.load_inputs.ensures in
+    let printed = subst (λ (n : ℕ). Appends (g.O.Sink.state c.args.out.now).written (g.O.Sink.state c.print_listing.new.out).written (listing c.in-Ok-recode_inputs.made.array n))
+        c.shown_rows.ensures c.in-Ok-print_listing.ensures.ok in
+    record {
+      work = record { loaded = c.in-Ok.loaded; made = c.in-Ok-recode_inputs.made; are_inputs = c.in-Ok.ensures.inputs; is_recoded = c.in-Ok-recode_inputs.ensures.recoded };
+      saved = c.in_default.ensures.saved;
+      others = others_through _ _ _ _ load.files load.told c.save_outputs.ensures.others;
+      printed = printed;
+    }
+
+pub returns : goal.returns
+returns g c =
+    let load = c.load_inputs.ensures in
+    let prefix = subst (λ (n : ℕ). AppendsPrefix (g.O.Sink.state c.args.out.now).written (g.O.Sink.state c.print_listing.new.out).written (listing c.in-Ok-recode_inputs.made.array n))
+        c.shown_rows.ensures c.print_listing.ensures.prefix in
+    let ends = print_ends c.in-Err-print_listing.error (line_of c.args.words.now) _ _ _ _
+        (record { loaded = c.in-Ok.loaded; made = c.in-Ok-recode_inputs.made; are_inputs = c.in-Ok.ensures.inputs; is_recoded = c.in-Ok-recode_inputs.ensures.recoded })
+        c.in_default.ensures.saved
+        (others_through _ _ _ _ load.files load.told c.save_outputs.ensures.others)
+        prefix
+        (λ is. c.in-Err-print_listing.ensures.fault (ap Err is)) in
+    rw c.of_print.ensures ends

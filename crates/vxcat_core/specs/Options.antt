@@ -1,0 +1,52 @@
+-- The options of a command.
+use Rattle.std.specs.Prelude.{◌≡◌, ℕ, ◌<◌, ◌≤◌, ◌^◌, List, [], ◌∷◌, Option, Some, None, codes, decimal}
+use Rattle.std.specs.List.{AllByRecursion, flat_map}
+use Rattle.vxcat_core.specs.declared.options.TheConstants.{MAX_ROWS}
+use Rattle.vxcat_core.specs.declared.options.Choice.{Choice}
+use Rattle.vxcat_core.specs.declared.options.Choice.TheVariants.{Pad, Rows}
+use Rattle.vxcat_core.specs.declared.options.Options.{Options}
+
+-- An option is spelled by its name, and behind it its number.
+abbrev pub choice_words : Choice → List (List ℕ)
+choice_words (Pad n) = codes "--pad" ∷ decimal n ∷ []
+choice_words (Rows n) = codes "--rows" ∷ decimal n ∷ []
+
+-- A position lies below 2^64, and a listing has at most 1,000 rows.
+abbrev pub IsInRange : Choice → Type 0
+IsInRange (Pad n) = n < 2 ^ 64
+IsInRange (Rows n) = n ≤ MAX_ROWS
+
+-- An option's number, where it was not given before.
+abbrev pub given_once : Option ℕ → ℕ → Option (Option ℕ)
+given_once None n = Some (Some n)
+given_once (Some m) n = None
+
+abbrev pub pad_given : Options → Option (Option ℕ) → Option Options
+pad_given options None = None
+pad_given options (Some pad) = Some (record { pad = pad; rows = options.rows })
+
+abbrev pub rows_given : Options → Option (Option ℕ) → Option Options
+rows_given options None = None
+rows_given options (Some rows) = Some (record { pad = options.pad; rows = rows })
+
+-- Options with one more: none where it was given before.
+abbrev pub with_choice : Options → Choice → Option Options
+with_choice options (Pad n) = pad_given options (given_once options.pad n)
+with_choice options (Rows n) = rows_given options (given_once options.rows n)
+
+-- Options with more, one after the other: none where one is given twice.
+abbrev pub with_choices : Option Options → List Choice → Option Options
+with_choices options [] = options
+with_choices None (choice ∷ choices) = with_choices None choices
+with_choices (Some options) (choice ∷ choices) = with_choices (with_choice options choice) choices
+
+-- The words spell options, in any order and each at most once, beside those that were given before.
+pub record SpellOptions (before : Options) (words : List (List ℕ)) (after : Options) : Type 0 where
+  pub choices : List Choice
+  pub words_are : words ≡ flat_map choice_words choices
+  pub in_range : AllByRecursion IsInRange choices
+  pub once : with_choices (Some before) choices ≡ Some after
+
+-- No option was given.
+abbrev pub no_options : Options
+no_options = record { pad = None; rows = None }

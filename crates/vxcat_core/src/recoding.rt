@@ -1,0 +1,189 @@
+ghost use Rattle.std.specs.Prelude.{◌≡◌, ◌≢◌, IfOk, IfErr, OnOk};
+ghost use Rattle.vx_types.specs.Seen.{typ};
+ghost use Rattle.vxcat_core.specs.RecodeWords.{line_of};
+ghost use Rattle.vxcat_core.specs.Words.{inputs};
+ghost use Rattle.vx_serde.specs.WrittenBuffers.{joined};
+ghost use Rattle.vxcat_core.specs.Recoding.{AreInputs, AreSaved, AskedOnly, EndsLoading, EndsSaving, IsBlobRecoded, IsBlobRefused, IsRecoded, IsRefused, KeepsOthers, call, write_options};
+ghost use Rattle.vxcat_core.specs.declared.status.Status.TheVariants.{OutOfMemory};
+
+use crate::id_file::{read_ids, write_ids};
+use crate::status::Status;
+use crate::store::Store;
+use crate::words::RecodeWords;
+use vx_serde::{Recoded, SerializeOptions, recode};
+use std::alloc::{AllocError, Global};
+use vx_arrays::Array;
+use vx_buffer::{ByteBuffer, ByteBuffers};
+use vx_registry::{ArrayContext, ArraySession, ReadContext, VortexSession};
+use vx_type_wire::DTypeExt;
+use vx_types::{Blob, DType, Ids};
+
+/// The contents of the files that the command reads.
+#[derive(Drop)]
+pub struct Inputs {
+    pub type_bytes: Blob,
+    pub blob: Blob,
+    pub id_bytes: Blob,
+}
+
+/// What the command makes: the array that it lists, and the new blob with its identifiers.
+#[derive(Drop)]
+pub struct Outputs {
+    pub array: Array,
+    pub blob: Blob,
+    pub ids: Ids,
+}
+
+/// Loads the type file, the blob and the id file, in this order.
+pub fn load_inputs<S: Store>(
+    alloc: Global,
+    words: &RecodeWords,
+    store: &mut S,
+) -> Result<Inputs, Status>
+    ensures inputs { IfOk result (λ loaded. AreInputs (line_of words.now) (S.state store.old) loaded) }
+    ensures asked { AskedOnly (inputs (line_of words.now)) (S.state store.old).asked (S.state store.new).asked }
+    ensures told { (S.state store.new).tells ≡ (S.state store.old).tells }
+    ensures files { (S.state store.new).file ≡ (S.state store.old).file }
+    ensures save_faults { (S.state store.new).save_faults ≡ (S.state store.old).save_faults }
+    ensures cause { IfErr result (λ status. EndsLoading status (S.state store.old) (S.state store.new)) }
+{
+    let type_bytes = match store.load(alloc, words.type_file) {
+        Ok(bytes) => bytes,
+        Err(error) => return Err(Status::of_load(error)),
+    };
+    let blob = match store.load(alloc, words.blob_file) {
+        Ok(bytes) => bytes,
+        Err(error) => return Err(Status::of_load(error)),
+    };
+    match store.load(alloc, words.id_file) {
+        Ok(id_bytes) => Ok(Inputs {
+            type_bytes,
+            blob,
+            id_bytes,
+        }),
+        Err(error) => Err(Status::of_load(error)),
+    }
+}
+
+/// Judges the type file, then the id file, and recodes the blob.
+pub fn recode_inputs(alloc: Global, words: &RecodeWords, loaded: Inputs) -> Result<Outputs, Status>
+    ensures recoded { IfOk result (λ made. IsRecoded (line_of words.now) loaded made) }
+    ensures cause { IfErr result (λ status. IsRefused status (line_of words.now) loaded) }
+{
+    let dtype = match DType::from_flatbuffer(alloc, loaded.type_bytes.as_slice()) {
+        Ok(dtype) => dtype,
+        Err(error) => return Err(Status::of_type(error)),
+    };
+    let read_ids = match read_ids(alloc, loaded.id_bytes.as_slice()) {
+        Ok(ids) => ids,
+        Err(error) => return Err(Status::of_ids(error)),
+    };
+    let options = serialize_options(words.options.pad);
+    recode_blob(alloc, loaded.blob, &dtype, words.len, read_ids, &options)
+}
+
+// How the new blob is written: with pads where their position is given.
+fn serialize_options(pad: Option<u64>) -> SerializeOptions
+    ensures { result ≡ write_options pad }
+{
+    match pad {
+        None => SerializeOptions::default(),
+        Some(offset) => SerializeOptions {
+            offset: offset as usize,
+            include_padding: true,
+        },
+    }
+}
+
+// Recodes a blob with the encodings that are shipped, from an empty context.
+fn recode_blob(
+    alloc: Global,
+    blob: Blob,
+    dtype: &DType,
+    len: u64,
+    read_ids: Ids,
+    options: &SerializeOptions,
+) -> Result<Outputs, Status>
+    ensures recoded {
+        let asked = call blob (typ dtype.now) len read_ids options.now in
+        IfOk result (λ made. IsBlobRecoded asked made.array made.blob made.ids)
+    }
+    ensures cause { IfErr result (λ status. IsBlobRefused status (call blob (typ dtype.now) len read_ids options.now)) }
+{
+    let Ok(buffer) = ByteBuffer::from_vec(blob.into_vec()) else {
+        return Err(Status::OutOfMemory);
+    };
+    let Ok(arrays) = ArraySession::default(alloc) else {
+        return Err(Status::OutOfMemory);
+    };
+    let session = VortexSession::new(arrays);
+    let read = ReadContext::new(read_ids);
+    let mut ids = ArrayContext::empty(alloc);
+    match recode(
+        alloc,
+        buffer,
+        dtype,
+        len as usize,
+        &read,
+        &mut ids,
+        &session,
+        options,
+    ) {
+        Ok(recoded) => make_outputs(alloc, recoded, &ids),
+        Err(error) => Err(Status::of_blob(error)),
+    }
+}
+
+fn make_outputs(alloc: Global, recoded: Recoded, ids: &ArrayContext) -> Result<Outputs, Status>
+    ensures array { IfOk result (λ made. made.array ≡ recoded.array) }
+    ensures blob { IfOk result (λ made. made.blob ≡ joined recoded.buffers) }
+    ensures ids { IfOk result (λ made. made.ids ≡ ids.now.ids) }
+    ensures memory { IfErr result (λ status. status ≡ OutOfMemory) }
+{
+    let Ok(blob) = join(alloc, &recoded.buffers) else {
+        return Err(Status::OutOfMemory);
+    };
+    match ids.to_ids(alloc) {
+        Ok(ids) => Ok(Outputs {
+            array: recoded.array,
+            blob: Blob::new(blob),
+            ids,
+        }),
+        Err(_) => Err(Status::OutOfMemory),
+    }
+}
+
+// The bytes of the buffers, one after the other.
+fn join(alloc: Global, buffers: &ByteBuffers) -> Result<Vec<u8>, AllocError>
+    ensures { IfOk result (λ bytes. bytes.items ≡ joined buffers.now) }
+{
+    let mut bytes = Vec::new(alloc);
+    for buffer in buffers.as_slice() {
+        bytes.extend_from_slice(buffer.as_slice())?;
+    }
+    Ok(bytes)
+}
+
+/// Saves the new blob, then the text of its identifiers.
+pub fn save_outputs<S: Store>(
+    alloc: Global,
+    words: &RecodeWords,
+    made: &Outputs,
+    store: &mut S,
+) -> Result<(), Status>
+    requires { words.now.out.now ≢ words.now.out_ids.now }
+    ensures saved { OnOk result (AreSaved (line_of words.now) (S.state store.new) made.now) }
+    ensures others { KeepsOthers (line_of words.now) (S.state store.old) (S.state store.new) }
+    ensures cause { IfErr result (λ status. EndsSaving status (S.state store.old) (S.state store.new)) }
+{
+    let Ok(text) = write_ids(alloc, &made.ids) else {
+        return Err(Status::OutOfMemory);
+    };
+    if let Err(error) = store.save(alloc, words.out, made.blob.as_slice()) {
+        return Err(Status::of_save(error));
+    }
+    match store.save(alloc, words.out_ids, text.as_slice()) {
+        Ok(()) => Ok(()),
+        Err(error) => Err(Status::of_save(error)),
+    }
+}

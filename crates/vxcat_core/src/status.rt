@@ -1,0 +1,103 @@
+ghost use Rattle.std.specs.Prelude.{◌≡◌};
+ghost use Rattle.vxcat_core.specs.Status.{status_number, load_status, save_status, print_status, type_status, id_status, wire_status};
+
+use crate::id_file::IdFileError;
+use crate::print::PrintError;
+use crate::store::StoreError;
+use vx_serde::WireError;
+use vx_type_wire::TypeWireError;
+
+/// How a run of the program ends.
+#[derive(Clone, Copy, Debug, PartialEq, Eq)]
+pub enum Status {
+    Done,
+    OutOfMemory,
+    NoCommand,
+    LoadFault,
+    SaveFault,
+    WriteFault,
+    BadType,
+    BadIds,
+    Refused(WireError),
+}
+
+impl Status {
+    /// The number with which the process ends.
+    pub fn number(self) -> u8
+        ensures { result ≡ status_number self }
+    {
+        match self {
+            Status::Done => 0,
+            Status::OutOfMemory => 1,
+            Status::NoCommand => 2,
+            Status::LoadFault => 3,
+            Status::SaveFault => 4,
+            Status::WriteFault => 5,
+            Status::BadType => 6,
+            Status::BadIds => 7,
+            Status::Refused(error) => error.number(),
+        }
+    }
+
+    /// The status of a load that was refused.
+    pub fn of_load(error: StoreError) -> Status
+        ensures { result ≡ load_status error }
+    {
+        match error {
+            StoreError::OutOfMemory => Status::OutOfMemory,
+            StoreError::Failed => Status::LoadFault,
+        }
+    }
+
+    /// The status of a save that was refused.
+    pub fn of_save(error: StoreError) -> Status
+        ensures { result ≡ save_status error }
+    {
+        match error {
+            StoreError::OutOfMemory => Status::OutOfMemory,
+            StoreError::Failed => Status::SaveFault,
+        }
+    }
+
+    /// The status of a listing that was not wholly printed.
+    pub fn of_print(error: PrintError) -> Status
+        ensures { result ≡ print_status error }
+    {
+        match error {
+            PrintError::OutOfMemory => Status::OutOfMemory,
+            PrintError::Failed => Status::WriteFault,
+        }
+    }
+
+    /// The status of a type file that was refused.
+    pub fn of_type(error: TypeWireError) -> Status
+        ensures { result ≡ type_status error }
+    {
+        match error {
+            TypeWireError::OutOfMemory => Status::OutOfMemory,
+            TypeWireError::BadTable | TypeWireError::TableLimit | TypeWireError::BadType => {
+                Status::BadType
+            }
+        }
+    }
+
+    /// The status of an id file that was refused.
+    pub fn of_ids(error: IdFileError) -> Status
+        ensures { result ≡ id_status error }
+    {
+        match error {
+            IdFileError::OutOfMemory => Status::OutOfMemory,
+            IdFileError::BadText => Status::BadIds,
+        }
+    }
+
+    /// The status of a blob that was refused.
+    pub fn of_blob(error: WireError) -> Status
+        ensures { result ≡ wire_status error }
+    {
+        match error {
+            WireError::OutOfMemory => Status::OutOfMemory,
+            refusal => Status::Refused(refusal),
+        }
+    }
+}
