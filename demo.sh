@@ -3,8 +3,14 @@
 set -eu
 top=$(cd "$(dirname "$0")" && pwd)
 work=$top/out/demo
+program=$top/crates/vxcat/out/vxcat
 mkdir -p "$work"
 cp "$top"/crates/vxcat/data/* "$work"
-(cd "$top/crates/vxcat" && rt run -- --none) >"$work/build.log" 2>&1 || true
+# The build proves every crate below; run without a command, the program itself then ends with status 2.
+(cd "$top/crates/vxcat" && rt run -- none) >"$work/build.log" 2>&1 || true
+if [ ! -x "$program" ]; then
+  tail -n 20 "$work/build.log" >&2
+  exit 1
+fi
 cd "$work"
-exec "$top/crates/vxcat/out/vxcat" recode t b 4 i o j
+exec "$program" recode t b 4 i o j
