@@ -12,13 +12,9 @@ mod opening;
 mod options;
 mod placing;
 mod recoding;
-#[cfg(test)]
-mod recoding_tests;
 mod tree;
 mod wiring;
 mod writing;
-#[cfg(test)]
-mod writing_tests;
 
 pub use array_kind::ArrayKind;
 pub use error::WireError;

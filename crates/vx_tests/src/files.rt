@@ -26,6 +26,16 @@ pub const BLOB_OF_SECOND: [u8; 168] = [
     1, 0, 0, 0, 0, 0, 2, 0, 16, 0, 0, 0, 148, 0, 0, 0,
 ];
 
+/// The same, padded for position 3.
+pub const PADDED_BLOB: [u8; 173] = [
+    0, 1, 0, 0, 0, 2, 0, 0, 0, 3, 0, 0, 0, 4, 0, 0, 0, 0, 0, 0, 0, 16, 0, 0, 0, 0, 0, 0, 0, 8, 0,
+    12, 0, 4, 0, 8, 0, 8, 0, 0, 0, 28, 0, 0, 0, 112, 0, 0, 0, 0, 0, 0, 0, 14, 0, 20, 0, 0, 0, 4, 0,
+    8, 0, 12, 0, 16, 0, 0, 0, 16, 0, 0, 0, 20, 0, 0, 0, 24, 0, 0, 0, 28, 0, 0, 0, 64, 0, 0, 0, 0,
+    0, 0, 0, 0, 0, 0, 0, 0, 0, 0, 0, 0, 0, 0, 0, 0, 0, 0, 0, 1, 0, 0, 0, 0, 0, 0, 0, 26, 0, 4, 0,
+    0, 0, 0, 0, 0, 0, 0, 0, 0, 0, 0, 0, 0, 0, 0, 0, 0, 0, 0, 0, 0, 0, 0, 0, 0, 0, 0, 0, 32, 0, 0,
+    0, 0, 0, 0, 0, 1, 0, 0, 0, 1, 0, 2, 0, 16, 0, 0, 0, 148, 0, 0, 0,
+];
+
 /// The same by another writer: parts in another order, at places that are not aligned, with an unknown
 /// further field, and bytes of the segment that no descriptor covers.
 pub const BLOB_OF_ANOTHER: [u8; 93] = [

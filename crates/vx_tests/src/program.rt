@@ -1,6 +1,6 @@
 //! The program, run on the worked files.
 
-use crate::files::{BLOB, BLOB_OF_ANOTHER, BLOB_OF_SECOND, IDS, TYPE};
+use crate::files::{BLOB, BLOB_OF_ANOTHER, BLOB_OF_SECOND, IDS, PADDED_BLOB, TYPE};
 use std::alloc::Global;
 use std::test::Fail;
 use vx_types::{Name, TypeError};
@@ -48,6 +48,44 @@ fn integers_are_written_again(rt: HostRuntime) -> Result<(), Fail> {
         assert_eq!(rt; store.get("j"), Some(IDS.as_bytes()));
         assert_eq!(rt; out.text(), LISTING.as_bytes());
     }
+    Ok(())
+}
+
+#[test]
+fn pads_count_from_the_offset(rt: HostRuntime) -> Result<(), Fail> {
+    let alloc = rt.alloc();
+    let words = names(
+        alloc,
+        &[
+            "recode", "t", "b", "4", "i", "o", "j", "--rows", "1", "--pad", "3",
+        ],
+    )?;
+    let mut store = store_of(alloc, &TYPE, &BLOB, IDS)?;
+    let mut out = MemSink::new(alloc);
+    assert_eq!(rt; run(alloc, &words, &mut store, &mut out), 0);
+    assert_eq!(rt;
+        out.text(),
+        b"vortex.primitive len=4 buffers=[16]\n0: 1\n".as_slice()
+    );
+    // A pad of one byte, the numbers at position 4, a pad of four, and the message, whose descriptor has the first pad.
+    assert_eq!(rt; store.get("o"), Some(PADDED_BLOB.as_slice()));
+    // What was padded is read again, and written without pads.
+    let again = names(alloc, &["recode", "t", "o", "4", "i", "p", "q"])?;
+    let mut out = MemSink::new(alloc);
+    assert_eq!(rt; run(alloc, &again, &mut store, &mut out), 0);
+    assert_eq!(rt; store.get("p"), Some(BLOB.as_slice()));
+    let last = [
+        "recode",
+        "t",
+        "b",
+        "4",
+        "i",
+        "o",
+        "j",
+        "--pad",
+        "18446744073709551615",
+    ];
+    assert_eq!(rt; refused(alloc, &rt, &last, &TYPE, &BLOB, IDS)?, 24);
     Ok(())
 }
 
