@@ -23,3 +23,4 @@ pub mod GrownIds
 pub mod WrittenAgain
 pub mod Recodings
 pub mod NeverCaused
+pub mod PadsAlign

@@ -21,7 +21,7 @@ use Rattle.vx_serde.specs.MessageValue.{node_value, message_value, descriptors_b
 use Rattle.vx_serde.specs.Numbered.{ids_in, buffers_in, numbered}
 use Rattle.vx_serde.specs.Placing.{pad, descriptors_from, data_from, data_end}
 use Rattle.vx_serde.proofs.GrownIds.{grown_by-ids}
-use Rattle.vx_serde.specs.Unwritten.{IsUngrown, IsUnwritten, IsPlaceable, IsPlaced, IsUnplaced, IsTooHeavy}
+use Rattle.vx_serde.specs.Unwritten.{IsUngrown, IsUnwritten, KeepsTreeLimits, IsLaidOut, IsNotLaidOut, IsTooHeavy}
 use Rattle.vx_serde.specs.Wire.{Wire}
 use Rattle.vx_serde.specs.Written.{message_bytes, message_pad, blob_bytes, IsWritable}
 use Rattle.vx_serde.specs.WrittenBuffers.{joined, unaligned, pad_buffers, data_buffers, greatest_exponent, written_buffers}
@@ -76,7 +76,7 @@ length-blob ids o w =
 describable-from : (bs : List Buffer) → All (λ b. b.exponent ≤ 16) bs → All (λ b. length b.bytes ≤ 2 ^ 32 - 1) bs → AreDescribable bs
 describable-from bs h g k d l = record { exponent = h k d l; len = g k d l }
 
-pub writable-placeable : (ids : List (List ℕ)) (o : SerializeOptions) (w : Wire) → IsWritable ids o w → IsPlaceable o w
+pub writable-placeable : (ids : List (List ℕ)) (o : SerializeOptions) (w : Wire) → IsWritable ids o w → KeepsTreeLimits o w
 writable-placeable ids o w h = record {
   nested = h.nested;
   few = h.buffers;
@@ -84,7 +84,7 @@ writable-placeable ids o w h = record {
   ends = omega (arith, h.ends, length-blob ids o w);
 }
 
-pub writable-is : (ids : List (List ℕ)) (o : SerializeOptions) (w : Wire) (last : ℕ) (ds message : List ℕ) → IsPlaced o w ds last → message ≡ message_bytes ids o w
+pub writable-is : (ids : List (List ℕ)) (o : SerializeOptions) (w : Wire) (last : ℕ) (ds message : List ℕ) → IsLaidOut o w ds last → message ≡ message_bytes ids o w
     → length message < 2 ^ 31 → IsLight limits (weight array_schema message) → last + (pad o 3 last + length message + 4) < 2 ^ 64 → IsWritable ids o w
 writable-is ids o w last ds message p e short light ends =
     let P : List ℕ → Type 0 = λ m. IsLight limits (weight array_schema m) in
@@ -100,7 +100,7 @@ writable-is ids o w last ds message p e short light ends =
 
 -- ---- refusals
 
-pub unplaced-unwritten : (c : Context) (o : SerializeOptions) (w : Wire) (e : WireError) → IsUnplaced o w e → IsUnwritten c o w e
+pub unplaced-unwritten : (c : Context) (o : SerializeOptions) (w : Wire) (e : WireError) → IsNotLaidOut o w e → IsUnwritten c o w e
 unplaced-unwritten c o w OutOfMemory h = tt
 unplaced-unwritten c o w WireLimit h = λ k. h (writable-placeable _ o w k)
 unplaced-unwritten c o w NotPermitted h = absurd h
@@ -143,14 +143,14 @@ heavy-unwritten c d o w message BadMetadata g p h = h
 heavy-unwritten c d o w message BadShape g p h = h
 
 -- A blob that would end past the positions of 64 bits.
-pub late-unwritten : (c d : Context) (o : SerializeOptions) (w : Wire) (last : ℕ) (ds message : List ℕ) → grown_by (ids_in w) c ≡ Some d → IsPlaced o w ds last → message ≡ message_bytes d.ids o w
+pub late-unwritten : (c d : Context) (o : SerializeOptions) (w : Wire) (last : ℕ) (ds message : List ℕ) → grown_by (ids_in w) c ≡ Some d → IsLaidOut o w ds last → message ≡ message_bytes d.ids o w
     → 2 ^ 64 ≤ last + (pad o 3 last + length message + 4) → IsUnwritten c o w WireLimit
 late-unwritten c d o w last ds message g p e late =
     limit-unwritten c d o w g (λ k. omega (arith, late, k.ends, length-blob d.ids o w, p.last_is, ap (λ n. pad o 3 n) p.last_is, ap (λ m. length m) e))
 
 -- ---- buffers
 
-pub buffers-are : (ids : List (List ℕ)) (o : SerializeOptions) (w : Wire) (last : ℕ) (ds message : List ℕ) (bs : List Buffer) (padding : ℕ) → IsPlaced o w ds last → message ≡ message_bytes ids o w → bs ≡ buffers_in w → padding ≡ pad o 3 last
+pub buffers-are : (ids : List (List ℕ)) (o : SerializeOptions) (w : Wire) (last : ℕ) (ds message : List ℕ) (bs : List Buffer) (padding : ℕ) → IsLaidOut o w ds last → message ≡ message_bytes ids o w → bs ≡ buffers_in w → padding ≡ pad o 3 last
     → record { bytes = []; exponent = greatest_exponent 3 bs } ∷ (data_buffers o o.offset bs ++ (pad_buffers padding ++ (unaligned message ∷ unaligned (to_le_bytes w32 (length message)) ∷ []))) ≡ written_buffers ids o w
 buffers-are ids o w last ds message bs padding p e f g =
     ap (λ cs. record { bytes = []; exponent = greatest_exponent 3 cs } ∷ (data_buffers o o.offset cs ++ (pad_buffers padding ++ (unaligned message ∷ unaligned (to_le_bytes w32 (length message)) ∷ [])))) f

@@ -18,3 +18,4 @@ pub mod Matches
 pub mod Spells
 pub mod Placed
 pub mod Causes
+pub mod Aligned

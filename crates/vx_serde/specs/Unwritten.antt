@@ -32,23 +32,23 @@ IsUnwritten c options w _ = ⊥
 
 -- The limits that a tree keeps whatever its identifiers: its levels, its buffers, and
 -- the position where the last of them ends.
-pub record IsPlaceable (options : SerializeOptions) (w : Wire) : Type 0 where
+pub record KeepsTreeLimits (options : SerializeOptions) (w : Wire) : Type 0 where
   pub nested : levels w ≤ 62
   pub few : length (buffers_in w) ≤ 65535
   pub describable : AreDescribable (buffers_in w)
   pub ends : data_end options options.offset (buffers_in w) < 2 ^ 64
 
 -- A tree with such limits, the bytes of its descriptors, and where its last buffer ends.
-pub record IsPlaced (options : SerializeOptions) (w : Wire) (descriptors : List ℕ) (last : ℕ) : Type 0 where
-  pub placeable : IsPlaceable options w
+pub record IsLaidOut (options : SerializeOptions) (w : Wire) (descriptors : List ℕ) (last : ℕ) : Type 0 where
+  pub placeable : KeepsTreeLimits options w
   pub descriptors_are : descriptors ≡ descriptors_bytes (descriptors_from options options.offset (buffers_in w))
   pub last_is : last ≡ data_end options options.offset (buffers_in w)
 
 -- Buffers are not placed for want of memory, or because the tree passes one of these limits.
-abbrev pub IsUnplaced : SerializeOptions → Wire → WireError → Type 0
-IsUnplaced options w OutOfMemory = Unit {0}
-IsUnplaced options w WireLimit = IsPlaceable options w → ⊥
-IsUnplaced options w _ = ⊥
+abbrev pub IsNotLaidOut : SerializeOptions → Wire → WireError → Type 0
+IsNotLaidOut options w OutOfMemory = Unit {0}
+IsNotLaidOut options w WireLimit = KeepsTreeLimits options w → ⊥
+IsNotLaidOut options w _ = ⊥
 
 -- A message is not written for want of memory, or because it is too long or too heavy.
 abbrev pub IsTooHeavy : List ℕ → WireError → Type 0

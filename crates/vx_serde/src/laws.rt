@@ -1,8 +1,11 @@
 //! What holds of the definitions of this crate. A caller of these functions learns the laws.
 
-ghost use Rattle.std.specs.Prelude.{◌≡◌, ℕ, List, Some, ◌≤◌, length, slice_get, All, IsSome};
+ghost use Rattle.std.specs.Prelude.{◌≡◌, ℕ, List, Some, ◌≤◌, length, slice_get, All, IsSome, IsTrue};
 ghost use Rattle.vx_serde.specs.declared.options.SerializeOptions.{SerializeOptions};
+ghost use Rattle.vx_buffer.specs.Buffer.{Buffer};
+ghost use Rattle.vx_serde.specs.Aligned.{AreAligned};
 ghost use Rattle.vx_serde.specs.Message.{message_of};
+ghost use Rattle.vx_serde.specs.Placing.{descriptors_from};
 ghost use Rattle.vx_serde.specs.Wire.{Wire, IsClean};
 ghost use Rattle.vx_serde.specs.Blob.{Carries, AreClean};
 ghost use Rattle.vx_serde.specs.Numbered.{ids_in, index_of};
@@ -71,3 +74,8 @@ pub fn never_caused()
     fair_law();
     shape_law();
 }
+
+/// Where padding is asked, each buffer of a blob begins at a multiple of its alignment, the position of the blob counted.
+pub fn pads_align()
+    ensures { (options : SerializeOptions) (position : ℕ) (bs : List Buffer) → IsTrue options.include_padding → AreAligned position (descriptors_from options position bs) }
+{}

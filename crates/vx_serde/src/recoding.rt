@@ -1,18 +1,21 @@
 //! Reading a blob and writing its array again.
 
-ghost use Rattle.std.specs.Prelude.{◌≡◌, Some, IfOk, IfErr, OnOk, IsSome};
+ghost use Rattle.std.specs.Prelude.{◌≡◌, Some, IfOk, IfErr, OnOk, IsSome, IsTrue};
 ghost use Rattle.vx_types.specs.Seen.{typ};
 ghost use Rattle.vx_arrays.specs.Tree.{Tree, encoding_ids};
 ghost use Rattle.vx_registry.specs.Context.{grown};
 ghost use Rattle.vx_registry.specs.Session.{registry_meaning, IsShipped};
-ghost use Rattle.vx_serde.specs.Spells.{Spells, KeepsReaderLimits, KeepsWriterLimits, blob_of, canon};
+ghost use Rattle.vx_serde.specs.Spells.{Spells, KeepsReaderLimits, KeepsWriterLimits, blob_of, canon, wire};
+ghost use Rattle.vx_serde.specs.Aligned.{AreAligned};
+ghost use Rattle.vx_serde.specs.Numbered.{buffers_in};
+ghost use Rattle.vx_serde.specs.Placing.{descriptors_from};
 ghost use Rattle.vx_serde.specs.Causes.{Call, IsCaused};
 ghost use Rattle.vx_serde.specs.KeptContext.{KeepsContext};
 ghost use Rattle.vx_serde.specs.WrittenBuffers.{joined};
 
 use crate::decoding::decode;
 use crate::error::WireError;
-use crate::laws::{never_caused, one_array, written_is_spelled};
+use crate::laws::{never_caused, one_array, pads_align, written_is_spelled};
 use crate::opening::open;
 use crate::options::SerializeOptions;
 use crate::wiring::wire_node;
@@ -64,6 +67,10 @@ pub fn recode(
     ensures reader_limits { OnOk result (KeepsReaderLimits blob.bytes) }
     ensures writer_limits { let s = registry_meaning session.now.arrays in
         IfOk result (λ r. KeepsWriterLimits s r.array ctx.old options.now) }
+    // Where padding is asked, each data buffer begins at a position of its alignment.
+    ensures aligned { let s = registry_meaning session.now.arrays in
+        IfOk result (λ r. IsTrue options.now.include_padding
+        → AreAligned options.now.offset (descriptors_from options.now options.now.offset (buffers_in (wire s r.array)))) }
     // Whatever the answer, the context keeps what it had, and what comes to it is the array's.
     ensures kept { let s = registry_meaning session.now.arrays in
         (t : Tree) → Spells blob.bytes read_ids.now (typ dtype.now) len s t → KeepsContext (encoding_ids t) ctx.old ctx.new }
@@ -80,6 +87,7 @@ pub fn recode(
 {
     one_array();
     never_caused();
+    pads_align();
     written_is_spelled();
     session.arrays.hold();
     ctx.hold();

@@ -16,7 +16,7 @@ ghost use Rattle.vx_serde.specs.KeptContext.{KeepsContext};
 ghost use Rattle.vx_serde.specs.MessageValue.{descriptors_bytes};
 ghost use Rattle.vx_serde.specs.Numbered.{ids_in, buffers_in};
 ghost use Rattle.vx_serde.specs.Placing.{descriptors_from, data_end};
-ghost use Rattle.vx_serde.specs.Unwritten.{IsUnwritten, IsPlaced, IsUnplaced, IsTooHeavy};
+ghost use Rattle.vx_serde.specs.Unwritten.{IsUnwritten, IsLaidOut, IsNotLaidOut, IsTooHeavy};
 ghost use Rattle.vx_serde.specs.Written.{IsWritable, blob_bytes};
 ghost use Rattle.vx_serde.specs.WrittenBuffers.{joined, unaligned, pad_buffers, data_buffers, greatest_exponent, written_buffers};
 
@@ -106,8 +106,8 @@ fn place(
     options: &SerializeOptions,
 ) -> Result<(BufferHandles, Placed), WireError>
     ensures buffers { IfOk result (λ p. p.0 ≡ buffers_in node.now) }
-    ensures placed { IfOk result (λ p. IsPlaced options.now node.now p.1.descriptors.items p.1.end) }
-    ensures refused { IfErr result (IsUnplaced options.now node.now) }
+    ensures placed { IfOk result (λ p. IsLaidOut options.now node.now p.1.descriptors.items p.1.end) }
+    ensures refused { IfErr result (IsNotLaidOut options.now node.now) }
 {
     if !has_levels_within(node, MAX_LEVELS) {
         return Err(WireError::WireLimit);

@@ -13,6 +13,42 @@ const OUT_OF_MEMORY: u8 = 1;
 // The status for words that are no command, as those that are no text.
 const NO_COMMAND: u8 = 2;
 
+// The status for a text that could not be printed.
+const WRITE_FAULT: u8 = 5;
+
+const HELP: &str = "vxcat reads the blob of an array from a file and writes it again.
+
+vxcat recode TYPE BLOB LEN IDS OUT OUTIDS [--pad OFFSET] [--rows N]
+    TYPE      a file with the logical type, as a table message
+    BLOB      a file with the blob
+    LEN       the number of rows
+    IDS       a file with the identifiers of the blob's encodings, one a line
+    OUT       the file for the new blob
+    OUTIDS    the file for its identifiers
+    --pad     write pads, as at this position
+    --rows    list so many rows, at most 1000, in the place of 10
+vxcat --help
+vxcat --version
+";
+
+const VERSION: &str = "vxcat 0.1.0\n";
+
+// What is printed for a word that asks for no command.
+fn answer(word: &str) -> Option<&'static str> {
+    match word {
+        "--help" => Some(HELP),
+        "--version" => Some(VERSION),
+        _ => None,
+    }
+}
+
+fn print(rt: &impl Print, text: &str) -> ExitCode {
+    match rt.print(text) {
+        Ok(()) => ExitCode::SUCCESS,
+        Err(_) => ExitCode::from(WRITE_FAULT),
+    }
+}
+
 // The words behind the program's name.
 fn words(alloc: Global, args: env::Args) -> Result<Vec<Name>, TypeError> {
     let mut words = Vec::new(alloc);
@@ -34,6 +70,11 @@ fn main(rt: HostRuntime) -> ExitCode {
     let Ok(words) = words(alloc, args) else {
         return ExitCode::from(OUT_OF_MEMORY);
     };
+    if let [word] = words.as_slice()
+        && let Some(text) = answer(word.as_str())
+    {
+        return print(&rt, text);
+    }
     let mut store = DirStore::new(alloc, &rt);
     let mut out = Output::new(io::writer(&rt));
     ExitCode::from(run(alloc, words.as_slice(), &mut store, &mut out))
