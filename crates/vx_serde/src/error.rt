@@ -8,6 +8,7 @@ use std::alloc::{AllocError, AllocFailed};
 use thiserror::Error;
 use vx_arrays::ArrayError;
 use vx_buffer::BufferError;
+use vx_registry::RegistryError;
 use vx_types::TypeError;
 
 /// Why a blob is not read, or an array not written.
@@ -113,6 +114,14 @@ impl From<ArrayError> for WireError {
     ghost from_gives = { λ _ e. e ≡ OutOfMemory };
 
     fn from(_e: ArrayError) -> WireError {
+        WireError::OutOfMemory
+    }
+}
+
+impl From<RegistryError> for WireError {
+    ghost from_gives = { λ _ e. e ≡ OutOfMemory };
+
+    fn from(_e: RegistryError) -> WireError {
         WireError::OutOfMemory
     }
 }

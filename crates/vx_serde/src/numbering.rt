@@ -19,18 +19,7 @@ use crate::tree::WireNode;
 use std::alloc::{AllocError, Global};
 use vx_buffer::BufferHandle;
 use vx_flat::FieldValue;
-use vx_registry::{ArrayContext, RegistryError};
-
-impl From<RegistryError> for WireError {
-    ghost use Rattle.std.specs.Prelude.{◌≡◌};
-    ghost use Rattle.vx_serde.specs.declared.error.WireError.TheVariants.{OutOfMemory};
-
-    ghost from_gives = { λ _ e. e ≡ OutOfMemory };
-
-    fn from(_e: RegistryError) -> WireError {
-        WireError::OutOfMemory
-    }
-}
+use vx_registry::ArrayContext;
 
 /// The number of a node's identifier, which the context takes where it is new; 0 where it is missing.
 fn encoding_number(node: &WireNode, ctx: &mut ArrayContext) -> Result<u16, WireError>

@@ -2,7 +2,7 @@ ghost use Rattle.std.specs.Prelude.{◌≡◌, []};
 
 use crate::store::{Store, StoreError};
 use std::alloc::Global;
-use std::fs;
+use std::fs::{self, OpenFile};
 use std::io::{Read, Write};
 use std::rt::Files;
 use vx_types::{Blob, Name};
@@ -39,9 +39,21 @@ impl<'a, R: Files> DirStore<'a, R> {
     }
 }
 
-fn read_all<F: Read>(alloc: Global, file: &mut F) -> Result<Vec<u8>, StoreError> {
+// Room for as many bytes as the file says that it has; none where it does not say, or says too much.
+fn room_for<F: OpenFile>(alloc: Global, file: &F) -> Vec<u8> {
+    let size = match file.metadata() {
+        Ok(metadata) => metadata.len(),
+        Err(_) => 0,
+    };
+    match Vec::with_capacity(alloc, size as usize) {
+        Ok(room) => room,
+        Err(_) => Vec::new(alloc),
+    }
+}
+
+fn read_all<F: Read + OpenFile>(alloc: Global, file: &mut F) -> Result<Vec<u8>, StoreError> {
     let mut piece = vec![in alloc; 0u8; PIECE]?;
-    let mut bytes = Vec::new(alloc);
+    let mut bytes = room_for(alloc, file);
     for _ in 0..MAX_READS {
         match file.read(piece.as_mut_slice()) {
             Ok(0) => return Ok(bytes),

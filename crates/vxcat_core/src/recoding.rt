@@ -155,11 +155,20 @@ fn make_outputs(alloc: Global, recoded: Recoded, ids: &ArrayContext) -> Result<O
     }
 }
 
+// How many bytes the buffers have together, or the greatest number where they have more.
+fn total_len(buffers: &ByteBuffers) -> usize {
+    let mut total: usize = 0;
+    for buffer in buffers.as_slice() {
+        total = total.saturating_add(buffer.len());
+    }
+    total
+}
+
 // The bytes of the buffers, one after the other.
 fn join(alloc: Global, buffers: &ByteBuffers) -> Result<Vec<u8>, AllocError>
     ensures { IfOk result (λ bytes. bytes.items ≡ joined buffers.now) }
 {
-    let mut bytes = Vec::new(alloc);
+    let mut bytes = Vec::with_capacity(alloc, total_len(buffers))?;
     for buffer in buffers.as_slice() {
         bytes.extend_from_slice(buffer.as_slice())?;
     }
