@@ -200,6 +200,38 @@ fn parts_of_the_blob_are_judged(rt: HostRuntime) -> Result<(), Fail> {
 }
 
 #[test]
+fn the_greatest_pad_is_written(rt: HostRuntime) -> Result<(), Fail> {
+    let alloc = rt.alloc();
+    let mut words = names(alloc, &WORDS)?;
+    words.push(Name::new(alloc, "--pad")?)?;
+    words.push(Name::new(alloc, "1")?)?;
+    // Exponent 16: the numbers begin at position 65,536.
+    let blob = with_byte(alloc, 158, 16)?;
+    let mut store = store_of(alloc, &TYPE, &blob, IDS)?;
+    let mut out = MemSink::new(alloc);
+    assert_eq!(rt; run(alloc, &words, &mut store, &mut out), 0);
+    let (len, numbers) = match store.get("o") {
+        Some(made) => (made.len(), made.get(65_535..65_551) == Some(&BLOB[..16])),
+        None => (0, false),
+    };
+    assert_eq!(rt; len, 65_703);
+    assert!(rt; numbers);
+    Ok(())
+}
+
+#[test]
+fn an_index_names_a_line(rt: HostRuntime) -> Result<(), Fail> {
+    let alloc = rt.alloc();
+    let mut blob = Vec::from_slice(alloc, &BLOB_OF_SECOND)?;
+    if let Some(byte) = blob.get_mut(68) {
+        *byte = 9;
+    }
+    let got = refused(alloc, &rt, &WORDS, &TYPE, &blob, "a\nvortex.primitive")?;
+    assert_eq!(rt; got, 16);
+    Ok(())
+}
+
+#[test]
 fn each_fault_has_its_status(rt: HostRuntime) -> Result<(), Fail> {
     let alloc = rt.alloc();
     let words = names(alloc, &WORDS)?;
