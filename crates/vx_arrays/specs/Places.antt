@@ -7,7 +7,7 @@ use Rattle.vx_types.specs.Typ.{Typ, typ_code}
 use Rattle.vx_types.specs.declared.nullability.Nullability.{Nullability}
 use Rattle.vx_types.specs.declared.nullability.Nullability.TheVariants.{NonNullable, Nullable}
 use Rattle.vx_arrays.specs.Tree.{Trees, Head}
-use Rattle.vx_arrays.specs.declared.body.Body.TheVariants.{Primitive}
+use Rattle.vx_arrays.specs.declared.body.Body.TheVariants.{Null, Primitive}
 
 -- A child's place: the type and the number of rows that it has.
 pub record Place : Type 0 where
@@ -44,6 +44,11 @@ pub record IsValidity (m : Nullability) (n : ℕ) (ts : Trees) : Type 0 where
   pub allowed : AllowsValidity m (count ts)
   pub planned : validity_plan n (count ts) ≡ Some (places ts)
 
+-- A node of nulls has no children, whatever its type.
+abbrev pub null_plan : ℕ → Option (List Place)
+null_plan zero = Some []
+null_plan (suc k) = None
+
 -- Under a type of numbers a node of n rows and k children has at most a validity child; other types have
 -- no such node.
 abbrev pub primitive_plan : Typ → ℕ → ℕ → Option (List Place)
@@ -53,6 +58,6 @@ primitive_plan (node null ds) n k = None
 primitive_plan (node (boolean m) ds) n k = None
 
 -- The places that the k children of a node are to have, by its type, its rows and its encoding: none where
--- the type is of another kind or so many do not fit.
+-- the encoding has no children of such a type or so many do not fit.
 abbrev pub child_places : Head → ℕ → Option (List Place)
-child_places h k = elim h.body [ Primitive values ↦ primitive_plan h.dtype h.len k ]
+child_places h k = elim h.body [ Null ↦ null_plan k | Primitive values ↦ primitive_plan h.dtype h.len k ]

@@ -10,7 +10,7 @@ use Rattle.vx_types.specs.declared.ptype.PType.TheVariants.{U8, U16, U32, U64, I
 use Rattle.vx_types.specs.declared.value.PValue.{PValue}
 use Rattle.vx_types.specs.declared.value.PValue.TheVariants.{U8 as u8, U16 as u16, U32 as u32, U64 as u64, I8 as i8, I16 as i16, I32 as i32, I64 as i64, F16 as f16, F32 as f32, F64 as f64}
 use Rattle.vx_arrays.specs.Tree.{Tree, Trees, Head}
-use Rattle.vx_arrays.specs.declared.body.Body.TheVariants.{Primitive as PrimitiveBody}
+use Rattle.vx_arrays.specs.declared.body.Body.TheVariants.{Null as NullBody, Primitive as PrimitiveBody}
 use Rattle.vx_arrays.specs.declared.row.RowValue.{RowValue}
 use Rattle.vx_arrays.specs.declared.row.RowValue.TheVariants.{Null, Primitive}
 
@@ -56,13 +56,13 @@ typed_row (node (primitive p m) ds) valid bytes i = number_row valid (primitive_
 typed_row (node null ds) valid bytes i = Null
 typed_row (node (boolean m) ds) valid bytes i = Null
 
--- A node's row, by its children's rows.
+-- A node's row, by its children's rows; each row of nulls is null.
 abbrev pub row_of : Head → List (ℕ → RowValue) → ℕ → RowValue
-row_of h rows i = elim h.body [ PrimitiveBody values ↦ typed_row h.dtype (validity_at rows i) values.bytes i ]
+row_of h rows i = elim h.body [ NullBody ↦ Null | PrimitiveBody values ↦ typed_row h.dtype (validity_at rows i) values.bytes i ]
 
--- Whether a node's row is there; none where that is not known.
+-- Whether a node's row is there; none where that is not known. No row of nulls is.
 abbrev pub valid_of : Head → List (ℕ → RowValue) → ℕ → Option Bool
-valid_of h rows i = elim h.body [ PrimitiveBody values ↦ validity_at rows i ]
+valid_of h rows i = elim h.body [ NullBody ↦ Some false | PrimitiveBody values ↦ validity_at rows i ]
 
 abbrev mutual
   -- The row of an array at an index, by the rows of the arrays below.

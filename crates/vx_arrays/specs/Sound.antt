@@ -10,7 +10,11 @@ use Rattle.vx_types.specs.declared.nullability.Nullability.{Nullability}
 use Rattle.vx_types.specs.declared.ptype.PType.{PType}
 use Rattle.vx_arrays.specs.Tree.{Tree, Trees, Head}
 use Rattle.vx_arrays.specs.Places.{AllowsValidity, places, child_places}
-use Rattle.vx_arrays.specs.declared.body.Body.TheVariants.{Primitive}
+use Rattle.vx_arrays.specs.declared.body.Body.TheVariants.{Null, Primitive}
+
+-- A node of the null encoding is of the type of nulls, and holds nothing.
+abbrev pub IsNull : Typ → Type 0
+IsNull d = d ≡ node null end
 
 -- n numbers of a kind stand one after the other in a buffer that is aligned to their width; with k
 -- children, of which a validity is the only one that fits.
@@ -28,7 +32,7 @@ IsPrimitive (node (boolean m) ds) n values k = ⊥
 
 -- The row of a node's encoding in the table of encodings: its type, its buffers, how many children.
 abbrev pub IsShaped : Head → ℕ → Type 0
-IsShaped h k = elim h.body [ Primitive values ↦ IsPrimitive h.dtype h.len values k ]
+IsShaped h k = elim h.body [ Null ↦ IsNull h.dtype | Primitive values ↦ IsPrimitive h.dtype h.len values k ]
 
 -- A node is sound if it is shaped by its encoding's row, and its children have the places that it plans.
 pub record IsSoundNode (h : Head) (ts : Trees) : Type 0 where
@@ -43,6 +47,10 @@ IsSound = Everywhere IsSoundNode
 abbrev pub option_trees : Option Tree → Trees
 option_trees None = end
 option_trees (Some t) = more t end
+
+-- The tree of a null array.
+abbrev pub null_tree : ℕ → Tree
+null_tree n = node (record { dtype = node null end; len = n; body = Null }) end
 
 -- The tree of a primitive array's parts.
 abbrev pub primitive_tree : PType → Nullability → ℕ → Buffer → Option Tree → Tree

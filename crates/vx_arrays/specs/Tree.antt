@@ -8,7 +8,7 @@ use Rattle.vx_trees.specs.Codes.{coded_rose, coded_roses}
 use Rattle.vx_types.specs.Kind.{null}
 use Rattle.vx_types.specs.Typ.{Typ, typ_code}
 use Rattle.vx_arrays.specs.declared.body.Body.{Body}
-use Rattle.vx_arrays.specs.declared.body.Body.TheVariants.{Primitive}
+use Rattle.vx_arrays.specs.declared.body.Body.TheVariants.{Null, Primitive}
 use Rattle.vx_arrays.specs.contracts.body.Body as body
 
 -- What a node is beside its children: its type, how many rows it has, and what its encoding holds.
@@ -26,10 +26,12 @@ Trees = Roses Head
 
 -- An encoding's identifier, which its nodes are known by on the wire.
 abbrev pub encoding_id_of : Body → List ℕ
+encoding_id_of Null = codes "vortex.null"
 encoding_id_of (Primitive values) = codes "vortex.primitive"
 
 -- The buffers that a node holds, in the order in which they are written.
 abbrev pub buffers_of : Body → List Buffer
+buffers_of Null = []
 buffers_of (Primitive values) = values ∷ []
 
 -- The identifiers of a tree's nodes, in preorder.

@@ -105,6 +105,7 @@ impl Array {
         ensures { result.now ≡ encoding_id_of (label self.now).body }
     {
         match self.body {
+            Body::Null => "vortex.null",
             Body::Primitive(_) => "vortex.primitive",
         }
     }
@@ -122,6 +123,7 @@ impl Array {
         ensures { result ≡ length (buffers_of (label self.now).body) }
     {
         match self.body {
+            Body::Null => 0,
             Body::Primitive(_) => 1,
         }
     }
@@ -132,6 +134,7 @@ impl Array {
         ensures { slice_get (buffers_of (label self.now).body) index ≡ Some result.now }
     {
         match &self.body {
+            Body::Null => unreachable!(),
             Body::Primitive(values) => values,
         }
     }
@@ -150,7 +153,10 @@ impl Array {
         requires { index < (label self.now).len }
         ensures { result ≡ valid_at self.now index }
     {
-        Some(true)
+        match &self.body {
+            Body::Null => Some(false),
+            Body::Primitive(_) => Some(true),
+        }
     }
 
     /// The row's value, if it takes at most `budget` cells.
@@ -169,6 +175,7 @@ impl Array {
             return Err(ArrayError::ValueTooLarge);
         }
         match (&self.body, &self.dtype) {
+            (Body::Null, _) => Ok(RowValue::Null),
             (Body::Primitive(values), DType::Primitive(kind, _)) => {
                 let width = kind.byte_width();
                 let rest = &values.as_host().as_slice()[width * index..];
@@ -183,12 +190,12 @@ impl Array {
     pub fn clone(&self, alloc: Global) -> Result<Array, ArrayError>
         ensures { IfOk result (λ a. a ≡ self.now) }
     {
-        let dtype = self.dtype().clone(alloc)?;
-        let body = self.body().clone(alloc)?;
         let mut children = Vec::new(alloc);
         for child in self.children() {
             children.push(child.clone(alloc)?)?;
         }
+        let dtype = self.dtype().clone(alloc)?;
+        let body = self.body().clone(alloc)?;
         Ok(Array::from_parts(dtype, self.len(), body, children))
     }
 }

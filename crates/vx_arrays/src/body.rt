@@ -10,6 +10,8 @@ use vx_buffer::BufferHandle;
 /// What a node's encoding holds beside its type, its rows and its children.
 #[derive(Drop)]
 pub enum Body {
+    /// Nothing: each row is null.
+    Null,
     /// Numbers of the type's kind, one after the other, each with its lowest byte first.
     Primitive(BufferHandle),
 }
@@ -20,6 +22,7 @@ impl Body {
         ensures { IfOk result (λ body. body ≡ self.now) }
     {
         match self {
+            Body::Null => Ok(Body::Null),
             Body::Primitive(values) => Ok(Body::Primitive(values.clone(alloc)?)),
         }
     }

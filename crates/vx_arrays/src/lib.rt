@@ -5,6 +5,7 @@ mod array;
 mod body;
 mod error;
 mod list;
+mod null;
 mod numbers;
 mod primitive;
 mod row;
@@ -13,6 +14,7 @@ pub use array::Array;
 pub use body::Body;
 pub use error::ArrayError;
 pub use list::Arrays;
+pub use null::NullArray;
 pub use primitive::PrimitiveArray;
 pub use row::RowValue;
 

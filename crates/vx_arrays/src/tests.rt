@@ -1,6 +1,6 @@
-//! Tests of arrays of numbers: their rows, their parts and their refusals.
+//! Tests of arrays of numbers and of nulls: their rows, their parts and their refusals.
 
-use crate::{Array, ArrayError, Arrays, PrimitiveArray, RowValue};
+use crate::{Array, ArrayError, Arrays, NullArray, PrimitiveArray, RowValue};
 use std::alloc::Global;
 use std::test::Fail;
 use vx_buffer::{Alignment, BufferHandle, ByteBuffer};
@@ -116,5 +116,18 @@ fn parts_are_lent_and_cloned(rt: HostRuntime) -> Result<(), Fail> {
     arrays.push(array)?;
     assert!(rt; arrays.len() == 1);
     assert!(rt; arrays.into_vec().len() == 1);
+    Ok(())
+}
+
+#[test]
+fn each_row_of_nulls_is_null(rt: HostRuntime) -> Result<(), Fail> {
+    let alloc = rt.alloc();
+    let array = NullArray::new(alloc, usize::MAX)?.clone(alloc)?;
+    assert!(rt; array.encoding_id() == "vortex.null");
+    assert!(rt; array.len() == usize::MAX && array.nbuffers() == 0 && array.children().len() == 0);
+    for index in [0, usize::MAX - 1] {
+        assert!(rt; array.is_valid(index) == Some(false));
+        assert!(rt; array.value_at(alloc, index, 1)? == RowValue::Null);
+    }
     Ok(())
 }

@@ -1,3 +1,4 @@
 pub mod Rows
 mod Refusing
 mod PrimitiveParts
+mod NullParts

@@ -9,7 +9,7 @@ ghost use Rattle.vx_arrays.specs.Sound.{IsSound, option_trees};
 ghost use Rattle.vx_encodings.specs.Metadata.{written};
 ghost use Rattle.vx_encodings.specs.Encodings.{metadata_of};
 ghost use Rattle.vx_encodings.specs.Plans.{IsPlanned};
-ghost use Rattle.vx_encodings.specs.declared.encoding.Encoding.TheVariants.{Primitive};
+ghost use Rattle.vx_encodings.specs.declared.encoding.Encoding.TheVariants.{Null, Primitive};
 ghost use Rattle.vx_encodings.specs.Parts.{HasParts};
 ghost use Rattle.vx_encodings.specs.Refusals.{IsOkOrMemory, IsUnbuilt};
 
@@ -17,7 +17,7 @@ use crate::encoding::Encoding;
 use crate::error::EncodingError;
 use crate::head::ArrayHead;
 use std::alloc::Global;
-use vx_arrays::{Array, ArrayError, Arrays, Body, PrimitiveArray};
+use vx_arrays::{Array, ArrayError, Arrays, Body, NullArray, PrimitiveArray};
 use vx_buffer::{BufferHandle, BufferHandles};
 use vx_types::{Blob, DType};
 
@@ -38,6 +38,7 @@ pub fn build(
     ensures complete { (t : Tree) → HasParts encoding (typ head.dtype) head.len head.metadata buffers children t → IsSound t → IsOkOrMemory result }
 {
     match encoding {
+        Encoding::Null => build_null(alloc, head, buffers, children),
         Encoding::Primitive => build_primitive(alloc, head, buffers, children),
     }
 }
@@ -48,10 +49,36 @@ pub fn metadata(alloc: Global, array: &Array) -> Result<Blob, EncodingError>
     ensures err { IsOkUnless result EncodingError.OutOfMemory }
 {
     match array.body() {
-        Body::Primitive(_) => Ok(Blob::new(Vec::new(alloc))),
+        Body::Null | Body::Primitive(_) => Ok(Blob::new(Vec::new(alloc))),
     }
 }
 
+// A node of nulls; no children are planned.
+fn build_null(
+    alloc: Global,
+    head: ArrayHead,
+    buffers: BufferHandles,
+    children: Arrays,
+) -> Result<Array, EncodingError>
+    requires { IsPlanned Null head (places children) }
+    ensures parts { IfOk result (λ t. HasParts Null (typ head.dtype) head.len head.metadata buffers children t) }
+    ensures sound { IfOk result IsSound }
+    ensures err { IfErr result (λ e. IsUnbuilt e Null (typ head.dtype) head.len head.metadata buffers children) }
+{
+    match head.dtype {
+        DType::Null => {}
+        _ => return Err(EncodingError::BadShape),
+    }
+    if !buffers.is_empty() {
+        return Err(EncodingError::BadShape);
+    }
+    match NullArray::new(alloc, head.len) {
+        Ok(array) => Ok(array),
+        Err(e) => Err(EncodingError::from(e)),
+    }
+}
+
+// A node of numbers.
 fn build_primitive(
     alloc: Global,
     head: ArrayHead,

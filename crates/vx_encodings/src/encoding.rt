@@ -6,6 +6,8 @@ ghost use Rattle.vx_encodings.specs.Encodings.{id_of};
 /// The shipped encodings.
 #[derive(Clone, Copy, Debug, PartialEq, Eq)]
 pub enum Encoding {
+    /// Nulls alone.
+    Null,
     /// Numbers, one after the other.
     Primitive,
 }
@@ -16,6 +18,7 @@ impl Encoding {
         ensures { result.now ≡ id_of self }
     {
         match self {
+            Encoding::Null => "vortex.null",
             Encoding::Primitive => "vortex.primitive",
         }
     }

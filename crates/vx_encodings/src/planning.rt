@@ -2,7 +2,7 @@
 
 ghost use Rattle.std.specs.Prelude.{◌≡◌, ℕ, List, Some, IfOk, IfErr};
 ghost use Rattle.vx_types.specs.Seen.{typ};
-ghost use Rattle.vx_arrays.specs.Places.{Place, primitive_plan, validity_plan};
+ghost use Rattle.vx_arrays.specs.Places.{Place, null_plan, primitive_plan, validity_plan};
 ghost use Rattle.vx_encodings.specs.Metadata.{IsMetadata};
 ghost use Rattle.vx_encodings.specs.Plans.{IsPlanned};
 ghost use Rattle.vx_encodings.specs.Refusals.{IsOkOrMemory, IsUnplanned, IsUnread, IsWithoutPlan};
@@ -32,6 +32,7 @@ pub fn plan(
         Err(e) => return Err(e),
     };
     match encoding {
+        Encoding::Null => plan_null(alloc, head.nchildren),
         Encoding::Primitive => plan_primitive(alloc, &head.dtype, head.len, head.nchildren),
     }
 }
@@ -42,7 +43,7 @@ pub(crate) fn read_metadata(encoding: Encoding, bytes: &[u8]) -> Result<Metadata
     ensures err { IfErr result (λ e. IsUnread e encoding bytes.now) }
 {
     match encoding {
-        Encoding::Primitive => {
+        Encoding::Null | Encoding::Primitive => {
             if bytes.is_empty() {
                 Ok(Metadata::Empty)
             } else {
@@ -50,6 +51,17 @@ pub(crate) fn read_metadata(encoding: Encoding, bytes: &[u8]) -> Result<Metadata
             }
         }
     }
+}
+
+// The children of a node of nulls: none.
+fn plan_null(alloc: Global, count: usize) -> Result<ChildPlans, EncodingError>
+    ensures plan { IfOk result (λ plans. null_plan count ≡ Some plans) }
+    ensures err { IfErr result (λ e. IsWithoutPlan e (null_plan count)) }
+{
+    if count != 0 {
+        return Err(EncodingError::BadShape);
+    }
+    Ok(ChildPlans::new(alloc))
 }
 
 // The children of a node of numbers: at most a validity.

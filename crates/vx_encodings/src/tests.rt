@@ -65,20 +65,15 @@ fn plans_have_at_most_a_validity(rt: HostRuntime) -> Result<(), Fail> {
 // A node without children.
 fn build_leaf(
     alloc: Global,
+    encoding: Encoding,
     head: ArrayHead,
     buffers: BufferHandles,
 ) -> Result<Array, EncodingError> {
-    let plans = plan(alloc, Encoding::Primitive, &head)?;
+    let plans = plan(alloc, encoding, &head)?;
     if plans.len() != 0 {
         return Err(EncodingError::BadShape);
     }
-    build(
-        alloc,
-        Encoding::Primitive,
-        head,
-        buffers,
-        Arrays::new(alloc),
-    )
+    build(alloc, encoding, head, buffers, Arrays::new(alloc))
 }
 
 #[test]
@@ -95,7 +90,7 @@ fn a_node_is_built_of_its_parts(rt: HostRuntime) -> Result<(), Fail> {
         let mut buffers = BufferHandles::new(alloc);
         let values = ByteBuffer::copy_from(alloc, &[1, 0, 0, 0, 2, 0, 0, 0])?;
         buffers.push(BufferHandle::new_host(values.aligned(alignment)))?;
-        let built = build_leaf(alloc, head, buffers);
+        let built = build_leaf(alloc, Encoding::Primitive, head, buffers);
         match built {
             Ok(array) => {
                 assert!(rt; fits, "{len} numbers");
@@ -105,6 +100,56 @@ fn a_node_is_built_of_its_parts(rt: HostRuntime) -> Result<(), Fail> {
                 assert!(rt; !fits, "{len} numbers");
                 assert!(rt; e == EncodingError::BadShape);
             }
+        }
+    }
+    Ok(())
+}
+
+#[test]
+fn nulls_are_built_of_nothing(rt: HostRuntime) -> Result<(), Fail> {
+    let alloc = rt.alloc();
+    for (dtype, bytes, nchildren, buffers, error) in [
+        (DType::Null, [].as_slice(), 0, 0, None),
+        (
+            DType::Null,
+            [0].as_slice(),
+            0,
+            0,
+            Some(EncodingError::BadMetadata),
+        ),
+        (
+            DType::Null,
+            [].as_slice(),
+            1,
+            0,
+            Some(EncodingError::BadShape),
+        ),
+        (
+            DType::Null,
+            [].as_slice(),
+            0,
+            1,
+            Some(EncodingError::BadShape),
+        ),
+        (
+            DType::Bool(Nullability::Nullable),
+            [].as_slice(),
+            0,
+            0,
+            Some(EncodingError::BadShape),
+        ),
+    ] {
+        let head = head_of(alloc, dtype, usize::MAX, bytes, nchildren)?;
+        let mut handles = BufferHandles::new(alloc);
+        for _ in 0..buffers {
+            handles.push(BufferHandle::new_host(ByteBuffer::copy_from(alloc, &[])?))?;
+        }
+        match build_leaf(alloc, Encoding::Null, head, handles) {
+            Ok(array) => {
+                assert!(rt; error.is_none() && array.len() == usize::MAX);
+                assert!(rt; metadata(alloc, &array)?.is_empty());
+            }
+            Err(e) => assert!(rt; error == Some(e)),
         }
     }
     Ok(())

@@ -1,1 +1,2 @@
 mod Interning
+mod Shipped

@@ -1,9 +1,9 @@
 -- What a session means: which identifiers it reads, and which it writes.
-use Rattle.std.specs.Prelude.{ℕ, ◌≡◌, List, [], ◌∷◌, Option, Some, None, option_map, bytes_eq}
+use Rattle.std.specs.Prelude.{ℕ, ◌≡◌, List, [], ◌∷◌, Option, Some, None, option_map, map, bytes_eq}
 use Rattle.std.specs.Map.{lookup}
 use Rattle.vx_encodings.specs.Encodings.{id_of}
 use Rattle.vx_encodings.specs.declared.encoding.Encoding.{Encoding}
-use Rattle.vx_encodings.specs.declared.encoding.Encoding.TheVariants.{Primitive}
+use Rattle.vx_encodings.specs.declared.encoding.Encoding.TheVariants.{Null, Primitive}
 
 -- What a session's arrays are registered as: encodings by the identifiers that they read, and by the
 -- identifiers of the arrays that they write.
@@ -42,6 +42,10 @@ pub record IsPaired (s : SessionMeaning) : Type 0 where
   pub own_identifier : (id : List ℕ) (e : Encoding) → s.writer id ≡ Some (shipped e) → id ≡ id_of e
   pub written_is_read : (id : List ℕ) (e : Encoding) → s.writer id ≡ Some (shipped e) → s.reader id ≡ Some (shipped e)
 
+-- The shipped encodings.
+abbrev pub shipped_encodings : List Encoding
+shipped_encodings = Null ∷ Primitive ∷ []
+
 -- The registry of the shipped encodings, each under its own identifier.
 abbrev pub shipped_registry : Registry
-shipped_registry = record { readers = (id_of Primitive, Primitive) ∷ []; writers = (id_of Primitive, Primitive) ∷ [] }
+shipped_registry = record { readers = map (λ e. (id_of e, e)) shipped_encodings; writers = map (λ e. (id_of e, e)) shipped_encodings }

@@ -43,9 +43,10 @@ impl ArraySession {
     {
         let mut readers = IndexMap::new(alloc);
         let mut writers = IndexMap::new(alloc);
-        let encoding = Encoding::Primitive;
-        readers.insert(Id::new(alloc, encoding.id())?, encoding)?;
-        writers.insert(Id::new(alloc, encoding.id())?, encoding)?;
+        for encoding in [Encoding::Null, Encoding::Primitive] {
+            readers.insert(Id::new(alloc, encoding.id())?, encoding)?;
+            writers.insert(Id::new(alloc, encoding.id())?, encoding)?;
+        }
         Ok(ArraySession { readers, writers })
     }
 

@@ -40,11 +40,12 @@ fn repeats_are_kept_on_reading(rt: HostRuntime) -> Result<(), Fail> {
 }
 
 #[test]
-fn the_shipped_session_reads_and_writes_numbers(rt: HostRuntime) -> Result<(), Fail> {
+fn the_shipped_session_reads_and_writes_nulls_and_numbers(rt: HostRuntime) -> Result<(), Fail> {
     let alloc = rt.alloc();
     let session = VortexSession::new(ArraySession::default(alloc)?);
     let none = ArraySession::empty(alloc);
     for (text, encoding) in [
+        ("vortex.null", Some(Encoding::Null)),
         ("vortex.primitive", Some(Encoding::Primitive)),
         ("vortex.bool", None),
         ("", None),

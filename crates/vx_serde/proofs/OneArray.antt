@@ -9,7 +9,7 @@ use Rattle.vx_arrays.specs.Places.{Place, places}
 use Rattle.vx_arrays.specs.Sound.{IsSound, IsSoundNode}
 use Rattle.vx_arrays.specs.Normal.{IsNormal, IsNormalNode}
 use Rattle.vx_arrays.specs.declared.body.Body.{Body}
-use Rattle.vx_arrays.specs.declared.body.Body.TheVariants.{Primitive}
+use Rattle.vx_arrays.specs.declared.body.Body.TheVariants.{Null, Primitive}
 use Rattle.vx_encodings.specs.Metadata.{Reads}
 use Rattle.vx_encodings.specs.Encodings.{encoding_of, metadata_of, body_of, plan_of}
 use Rattle.vx_encodings.specs.Laws.{BodyLaw, PlanLaw, OneValueLaw}
@@ -61,7 +61,8 @@ mutual
   all_matched-clean s (more w ws) (more u us) m = (matched-clean s w u m.0, all_matched-clean s ws us m.1)
 
 -- each array of the encodings that stand so far is normal
-normal_node : (b : Body) → elim b as (λ _. Type 0) [ Primitive values ↦ Unit {0} ]
+normal_node : (b : Body) → elim b as (λ _. Type 0) [ Null ↦ Unit {0} | Primitive values ↦ Unit {0} ]
+normal_node Null = tt
 normal_node (Primitive values) = tt
 
 mutual

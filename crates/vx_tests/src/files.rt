@@ -1,4 +1,4 @@
-//! Worked files: the type, the blobs and the identifiers of the integers 1, 2, 3, 4.
+//! Worked files: the types, the blobs and the identifiers of the integers 1, 2, 3, 4 and of nulls.
 
 /// The type of 32-bit signed integers, not nullable, as a table message.
 pub const TYPE: [u8; 45] = [
@@ -47,3 +47,21 @@ pub const BLOB_OF_ANOTHER: [u8; 93] = [
 
 /// The identifiers of the blob, one a line.
 pub const IDS: &str = "vortex.primitive\n";
+
+/// The type of nulls as a table message.
+pub const NULL_TYPE: [u8; 44] = [
+    16, 0, 0, 0, 0, 0, 0, 0, 8, 0, 12, 0, 4, 0, 8, 0, 8, 0, 0, 0, 1, 0, 0, 0, 16, 0, 0, 0, 0, 0, 0,
+    0, 4, 0, 4, 0, 0, 0, 0, 0, 8, 0, 0, 0,
+];
+
+/// The blob of nulls, however many: the message and its length. The place of the metadata is 72.
+pub const NULL_BLOB: [u8; 144] = [
+    16, 0, 0, 0, 0, 0, 0, 0, 8, 0, 12, 0, 4, 0, 8, 0, 8, 0, 0, 0, 28, 0, 0, 0, 112, 0, 0, 0, 0, 0,
+    0, 0, 14, 0, 20, 0, 0, 0, 4, 0, 8, 0, 12, 0, 16, 0, 0, 0, 16, 0, 0, 0, 20, 0, 0, 0, 24, 0, 0,
+    0, 28, 0, 0, 0, 64, 0, 0, 0, 0, 0, 0, 0, 0, 0, 0, 0, 0, 0, 0, 0, 0, 0, 0, 0, 0, 0, 0, 0, 0, 0,
+    0, 0, 0, 0, 0, 0, 26, 0, 4, 0, 0, 0, 0, 0, 0, 0, 0, 0, 0, 0, 0, 0, 0, 0, 0, 0, 0, 0, 0, 0, 0,
+    0, 0, 0, 0, 0, 0, 0, 32, 0, 0, 0, 0, 0, 0, 0, 0, 0, 0, 0, 140, 0, 0, 0,
+];
+
+/// The identifiers of the blob of nulls.
+pub const NULL_IDS: &str = "vortex.null\n";

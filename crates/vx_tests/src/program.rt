@@ -1,6 +1,8 @@
 //! The program, run on the worked files.
 
-use crate::files::{BLOB, BLOB_OF_ANOTHER, BLOB_OF_SECOND, IDS, PADDED_BLOB, TYPE};
+use crate::files::{
+    BLOB, BLOB_OF_ANOTHER, BLOB_OF_SECOND, IDS, NULL_BLOB, NULL_IDS, NULL_TYPE, PADDED_BLOB, TYPE,
+};
 use std::alloc::Global;
 use std::test::Fail;
 use vx_types::{Name, TypeError};
@@ -171,8 +173,13 @@ fn files_are_judged(rt: HostRuntime) -> Result<(), Fail> {
 }
 
 // A blob with one byte set.
-fn with_byte(alloc: Global, place: usize, byte: u8) -> Result<Vec<u8>, std::alloc::AllocError> {
-    let mut blob = Vec::from_slice(alloc, &BLOB)?;
+fn with_byte(
+    alloc: Global,
+    blob: &[u8],
+    place: usize,
+    byte: u8,
+) -> Result<Vec<u8>, std::alloc::AllocError> {
+    let mut blob = Vec::from_slice(alloc, blob)?;
     if let Some(old) = blob.get_mut(place) {
         *old = byte;
     }
@@ -190,7 +197,7 @@ fn parts_of_the_blob_are_judged(rt: HostRuntime) -> Result<(), Fail> {
         ("exponent", 158, 1, 19),
         ("length", 160, 12, 19),
     ] {
-        let blob = with_byte(alloc, place, byte)?;
+        let blob = with_byte(alloc, &BLOB, place, byte)?;
         let got = refused(alloc, &rt, &WORDS, &TYPE, &blob, IDS)?;
         assert_eq!(rt; got, status, "{part}");
     }
@@ -206,7 +213,7 @@ fn the_greatest_pad_is_written(rt: HostRuntime) -> Result<(), Fail> {
     words.push(Name::new(alloc, "--pad")?)?;
     words.push(Name::new(alloc, "1")?)?;
     // Exponent 16: the numbers begin at position 65,536.
-    let blob = with_byte(alloc, 158, 16)?;
+    let blob = with_byte(alloc, &BLOB, 158, 16)?;
     let mut store = store_of(alloc, &TYPE, &blob, IDS)?;
     let mut out = MemSink::new(alloc);
     assert_eq!(rt; run(alloc, &words, &mut store, &mut out), 0);
@@ -222,12 +229,49 @@ fn the_greatest_pad_is_written(rt: HostRuntime) -> Result<(), Fail> {
 #[test]
 fn an_index_names_a_line(rt: HostRuntime) -> Result<(), Fail> {
     let alloc = rt.alloc();
-    let mut blob = Vec::from_slice(alloc, &BLOB_OF_SECOND)?;
-    if let Some(byte) = blob.get_mut(68) {
-        *byte = 9;
-    }
+    let blob = with_byte(alloc, &BLOB_OF_SECOND, 68, 9)?;
     let got = refused(alloc, &rt, &WORDS, &TYPE, &blob, "a\nvortex.primitive")?;
     assert_eq!(rt; got, 16);
+    Ok(())
+}
+
+#[test]
+fn nulls_are_written_again(rt: HostRuntime) -> Result<(), Fail> {
+    let alloc = rt.alloc();
+    for (len, listing) in [
+        ("0", "vortex.null len=0 buffers=[]\n"),
+        (
+            "18446744073709551615",
+            "vortex.null len=18446744073709551615 buffers=[]\n0: null\n",
+        ),
+    ] {
+        let words = names(
+            alloc,
+            &["recode", "t", "b", len, "i", "o", "j", "--rows", "1"],
+        )?;
+        let mut store = store_of(alloc, &NULL_TYPE, &NULL_BLOB, NULL_IDS)?;
+        let mut out = MemSink::new(alloc);
+        assert_eq!(rt; run(alloc, &words, &mut store, &mut out), 0);
+        assert!(rt; holds(&store, "o", NULL_BLOB.as_slice()));
+        assert!(rt; holds(&store, "j", NULL_IDS.as_bytes()));
+        assert_eq!(rt; out.text(), listing.as_bytes());
+    }
+    Ok(())
+}
+
+#[test]
+fn nulls_hold_nothing(rt: HostRuntime) -> Result<(), Fail> {
+    let alloc = rt.alloc();
+    let with_metadata = with_byte(alloc, &NULL_BLOB, 72, 1)?;
+    // Under the identifier of nulls the blob of numbers is a node of nulls with a buffer.
+    for (dtype, blob, status) in [
+        (NULL_TYPE.as_slice(), with_metadata.as_slice(), 18),
+        (NULL_TYPE.as_slice(), BLOB.as_slice(), 19),
+        (TYPE.as_slice(), NULL_BLOB.as_slice(), 19),
+    ] {
+        let got = refused(alloc, &rt, &WORDS, dtype, blob, NULL_IDS)?;
+        assert_eq!(rt; got, status, "status {status}");
+    }
     Ok(())
 }
 
