@@ -95,6 +95,7 @@ impl DecimalDType {
     /// the precision is 0 or over 76.
     pub fn try_new(precision: u8, scale: i8) -> Result<DecimalDType, TypeError>
         ensures ok { IfOk result (λ d. d ≡ record { precision = precision; scale = scale }) }
+        ensures fit { IfOk result (λ _. IsDecimal precision scale) }
         ensures err { IfErr result (λ e. (e ≡ TypeError.BadDecimal) × ((precision ≡ 0) ⊎ (76 < precision))) }
     {
         if precision == 0 {

@@ -134,6 +134,7 @@ impl DType {
     /// Whether the type has at most this many levels: a type that holds no other
     /// has one, and each other type one more than the deepest that it holds.
     #[cycle(within)]
+    #[tactic(auto, using(vx_trees::proofs::Counting::level_facts))]
     pub fn is_within(&self, limit: u32) -> bool
         ensures { IsTrue result ↔ (levels (typ self.now) ≤ limit) }
     {

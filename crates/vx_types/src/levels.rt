@@ -9,6 +9,7 @@ use crate::dtype::DType;
 
 // Whether each of the types has at most this many levels.
 #[cycle(within)]
+#[tactic(auto, using(crate::proofs::Lists::falling, vx_trees::proofs::Counting::level_facts))]
 pub(crate) fn are_within(types: &[DType], limit: u32) -> bool
     ensures { IsTrue result ↔ (levels_below (roses_of (typs types.now)) ≤ limit) }
 {

@@ -50,3 +50,5 @@ pub use value::PValue;
 
 #[cfg(test)]
 mod tests;
+#[cfg(test)]
+mod type_tests;

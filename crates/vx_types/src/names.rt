@@ -107,6 +107,13 @@ fn copy_all(names: &[Name], alloc: Global) -> Result<Vec<Name>, TypeError>
     Ok(copies)
 }
 
+// Whether two names are the same text, with a clause that says so plainly.
+fn is_same_name(a: &Name, b: &Name) -> bool
+    ensures { IsTrue result ↔ (a.now ≡ b.now) }
+{
+    a.as_str() == b.as_str()
+}
+
 // Whether two lists have the same names in the same order.
 pub(crate) fn are_same_names(a: &Names, b: &Names) -> bool
     ensures { IsTrue result ↔ (a.now ≡ b.now) }
@@ -117,7 +124,7 @@ pub(crate) fn are_same_names(a: &Names, b: &Names) -> bool
     let xs = a.as_slice();
     let ys = b.as_slice();
     for i in 0..xs.len() {
-        if xs[i] != ys[i] {
+        if !is_same_name(&xs[i], &ys[i]) {
             return false;
         }
     }

@@ -40,6 +40,7 @@ impl StructFields {
     /// as many names as types.
     pub fn try_new(names: Names, types: DTypes) -> Result<StructFields, TypeError>
         ensures ok { IfOk result (λ fields. fields ≡ record { names = names; types = types }) }
+        ensures fit { IfOk result (λ _. length names ≡ length types) }
         ensures err { IfErr result (λ e. (e ≡ TypeError.FieldCount) × (length names ≢ length types)) }
     {
         if names.len() != types.len() {

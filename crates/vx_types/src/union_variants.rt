@@ -43,11 +43,13 @@ impl Model for UnionVariants {
 
 impl UnionVariants {
     /// Members of these names, types and tags. `FieldCount` exactly where the
-    /// lists are not of one length, `DuplicateTag` only where two tags are equal:
-    /// where either cause stands, one of the two is answered.
+    /// lists are not of one length, and else `DuplicateTag` exactly where two tags
+    /// are equal.
     pub fn try_new(names: Names, types: DTypes, ids: TypeIds) -> Result<UnionVariants, TypeError>
         ensures ok { IfOk result (λ members. members ≡ record { names = names; types = types; ids = ids }) }
-        ensures fit { IfOk result (λ members. AreDistinct ids) }
+        ensures types_fit { IfOk result (λ _. length names ≡ length types) }
+        ensures ids_fit { IfOk result (λ _. length names ≡ length ids) }
+        ensures distinct { IfOk result (λ _. AreDistinct ids) }
         ensures err { IfErr result (λ e. IsRefusedUnion e names types ids) }
     {
         if names.len() != types.len() {
