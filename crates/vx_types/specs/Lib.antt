@@ -1,5 +1,11 @@
 pub mod Numbers
 pub mod Kind
+pub mod Content
+pub mod Digits
 pub mod Typ
+pub mod Parts
 pub mod Seen
+pub mod Falls
 pub mod Words
+pub mod Refused
+pub mod Decimals

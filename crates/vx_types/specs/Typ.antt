@@ -1,10 +1,11 @@
 -- Types as trees of kinds.
-use Rattle.std.specs.Prelude.{◌≡◌}
+use Rattle.std.specs.Prelude.{ℕ, ◌≡◌, ◌<◌, ◌^◌, List, length}
 use Rattle.std.specs.Coded.{Coded}
-use Rattle.vx_trees.specs.Rose.{Rose, Roses, count}
-use Rattle.vx_trees.specs.Everywhere.{Everywhere}
+use Rattle.vx_trees.specs.Rose.{Rose, Roses, count, roses_of}
+use Rattle.vx_trees.specs.Everywhere.{Everywhere, EverywhereBelow}
 use Rattle.vx_trees.specs.Codes.{coded_rose}
-use Rattle.vx_types.specs.Kind.{Kind, null, boolean, primitive, kind_code}
+use Rattle.vx_types.specs.Content.{IsText, AreTexts, AreBytes, AreDistinct, IsDecimal}
+use Rattle.vx_types.specs.Kind.{Kind, null, boolean, primitive, decimal, utf8, binary, list, fixed_size_list, structure, union, map, variant, extension, kind_code}
 
 -- A type is a tree: a kind, and the types within it.
 abbrev pub Typ : Type 0
@@ -14,12 +15,42 @@ Typ = Rose Kind
 abbrev pub typ_code : Coded Typ
 typ_code = coded_rose null kind_code
 
--- A kind stands over as many types as it asks for: these three over none.
+-- A structure has one name for each of its fields.
+pub record IsStructure (names : List (List ℕ)) (size : ℕ) : Type 0 where
+  pub types : size ≡ length names
+  pub texts : AreTexts names
+
+-- A union has one name and one tag for each of its members, and no tag twice.
+pub record IsUnion (names : List (List ℕ)) (ids : List ℕ) (size : ℕ) : Type 0 where
+  pub types : size ≡ length names
+  pub tags : length ids ≡ length names
+  pub texts : AreTexts names
+  pub bytes : AreBytes ids
+  pub distinct : AreDistinct ids
+
+-- A kind stands over as many types as it asks for: an extension over its storage,
+-- a list over the type of its elements, a map over the types of its keys and its
+-- values, a structure and a union over one for each name. Its own parts are such
+-- as they may be.
 abbrev pub IsTypeNode : Kind → Roses Kind → Type 0
 IsTypeNode null ts = count ts ≡ 0
 IsTypeNode (boolean n) ts = count ts ≡ 0
 IsTypeNode (primitive p n) ts = count ts ≡ 0
+IsTypeNode (decimal p s n) ts = (count ts ≡ 0) × IsDecimal p s
+IsTypeNode (utf8 n) ts = count ts ≡ 0
+IsTypeNode (binary n) ts = count ts ≡ 0
+IsTypeNode (list n) ts = count ts ≡ 1
+IsTypeNode (fixed_size_list k n) ts = (count ts ≡ 1) × (k < 2 ^ 32)
+IsTypeNode (structure ns n) ts = IsStructure ns (count ts)
+IsTypeNode (union ns ids n) ts = IsUnion ns ids (count ts)
+IsTypeNode (map b n) ts = count ts ≡ 2
+IsTypeNode (variant n) ts = count ts ≡ 0
+IsTypeNode (extension id bs) ts = (count ts ≡ 1) × IsText id × AreBytes bs
 
 -- A tree of kinds is a type if this holds at each of its nodes.
 abbrev pub IsType : Typ → Type 0
 IsType = Everywhere IsTypeNode
+
+-- Each of a list of trees is a type.
+abbrev pub AreTypes : List Typ → Type 0
+AreTypes ts = EverywhereBelow IsTypeNode (roses_of ts)

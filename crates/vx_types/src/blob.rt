@@ -1,16 +1,18 @@
 //! Plain bytes.
 
 ghost use Rattle.std.specs.Prelude.{◌≡◌, ◌==◌, IfOk, IsOkUnless, bytes_eq, length};
+ghost use Rattle.vx_types.specs.Content.{AreBytes};
 ghost use Rattle.std.specs.Cmp.{partial_equiv_from_equiv};
 ghost use Rattle.std.specs.Cmp.Lexicographic.{nat_list_eq_equiv};
 
+use crate::bytes::are_bytes;
 use crate::error::TypeError;
 use std::alloc::Global;
 use std::marker::Model;
 
 /// Bytes that are owned, as metadata or the content of a file. Contracts see
 /// their list.
-#[derive(Drop)]
+#[derive(Debug, Drop)]
 pub struct Blob {
     bytes: Vec<u8>,
 }
@@ -74,6 +76,14 @@ impl Blob {
         ensures err { IsOkUnless result TypeError.OutOfMemory }
     {
         Blob::copy_from(alloc, self.as_slice())
+    }
+
+    /// What is known of what it holds: bytes. Nothing runs; a caller gets the
+    /// fact.
+    pub fn hold(&self)
+        ensures { AreBytes self.now }
+    {
+        are_bytes(self.as_slice());
     }
 }
 

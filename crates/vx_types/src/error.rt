@@ -12,6 +12,15 @@ pub enum TypeError {
     /// The allocator gave no memory.
     #[error("out of memory")]
     OutOfMemory,
+    /// A decimal's precision is 0 or over 76.
+    #[error("a decimal's precision is not 1 to 76")]
+    BadDecimal,
+    /// There are not as many names, or tags, as types.
+    #[error("the numbers of names, types and tags differ")]
+    FieldCount,
+    /// A tag stands twice in a union.
+    #[error("a union's tag stands twice")]
+    DuplicateTag,
 }
 
 impl From<AllocError> for TypeError {

@@ -1,6 +1,7 @@
 //! Identifiers.
 
 ghost use Rattle.std.specs.Prelude.{◌≡◌, IfOk, IsOkUnless, bytes_eq, string_bytes};
+ghost use Rattle.vx_types.specs.Content.{IsText};
 ghost use Rattle.std.proofs.Common.{rules};
 ghost use Rattle.std.specs.Hash as fed;
 ghost use Rattle.std.specs.Cmp.{on_equiv, on_per, partial_equiv_from_equiv};
@@ -13,7 +14,7 @@ use std::hash::{Hash, Hasher};
 use std::marker::Model;
 
 /// An identifier, as of an encoding: a text. Contracts see its UTF-8 bytes.
-#[derive(Drop)]
+#[derive(Debug, Drop)]
 pub struct Id {
     text: String,
 }
@@ -49,6 +50,14 @@ impl Id {
         ensures err { IsOkUnless result TypeError.OutOfMemory }
     {
         Id::new(alloc, self.as_str())
+    }
+
+    /// What is known of each identifier: it is a text. Nothing runs; a caller gets
+    /// the fact.
+    pub fn hold(&self)
+        ensures { IsText self.now }
+    {
+        let _text = self.as_str();
     }
 }
 

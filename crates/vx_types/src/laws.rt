@@ -1,14 +1,21 @@
 //! What holds of types, for the contracts of other crates.
 
 ghost use Rattle.std.specs.Prelude.{◌≡◌};
+ghost use Rattle.vx_types.specs.declared.decimal.DecimalType.{DecimalType};
 ghost use Rattle.vx_types.specs.declared.dtype.DType.{DType};
 ghost use Rattle.vx_types.specs.declared.ptype.PType.{PType};
+ghost use Rattle.vx_types.specs.Decimals.{decimal_code_of};
 ghost use Rattle.vx_types.specs.Numbers.{code_of};
 ghost use Rattle.vx_types.specs.Seen.{typ};
 
 /// Types that are seen as the same tree are the same type.
 pub fn same_tree_is_same_type()
     ensures { (a b : DType) → typ a ≡ typ b → a ≡ b }
+{}
+
+/// A code is of one width of decimals at most.
+pub fn code_is_of_one_decimal_type()
+    ensures { (a b : DecimalType) → decimal_code_of a ≡ decimal_code_of b → a ≡ b }
 {}
 
 /// A code is of one kind of numbers at most.

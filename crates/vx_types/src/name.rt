@@ -1,6 +1,7 @@
 //! Names.
 
 ghost use Rattle.std.specs.Prelude.{◌≡◌, IfOk, IsOkUnless, bytes_eq, string_bytes};
+ghost use Rattle.vx_types.specs.Content.{IsText};
 ghost use Rattle.std.specs.Cmp.{on_equiv, on_per, partial_equiv_from_equiv};
 ghost use Rattle.std.specs.Cmp.Lexicographic.{nat_list_eq_equiv};
 
@@ -9,7 +10,7 @@ use std::alloc::Global;
 use std::marker::Model;
 
 /// A text: of a field, a file or a word. Contracts see its UTF-8 bytes.
-#[derive(Drop)]
+#[derive(Debug, Drop)]
 pub struct Name {
     text: String,
 }
@@ -45,6 +46,14 @@ impl Name {
         ensures err { IsOkUnless result TypeError.OutOfMemory }
     {
         Name::new(alloc, self.as_str())
+    }
+
+    /// What is known of each name: it is a text. Nothing runs; a caller gets the
+    /// fact.
+    pub fn hold(&self)
+        ensures { IsText self.now }
+    {
+        let _text = self.as_str();
     }
 }
 

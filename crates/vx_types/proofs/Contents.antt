@@ -1,0 +1,13 @@
+-- Bytes and texts in lists.
+use Rattle.std.specs.Prelude.{ℕ, zero, suc, ◌<◌, List, [], ◌∷◌, ◌++◌}
+use Rattle.std.proofs.Common.{arith, get_or}
+use Rattle.vx_types.specs.Content.{IsText, AreTexts, AreBytes}
+
+pub bytes-from_index : (bs : List ℕ) → ((i : ℕ) → get_or bs i 0 < 256) → AreBytes bs
+bytes-from_index [] h = tt
+bytes-from_index (b ∷ bs) h = (omega (arith, h zero), bytes-from_index bs (λ i. h (suc i)))
+
+-- One text more at the end.
+pub texts-push : (ss : List (List ℕ)) (s : List ℕ) → AreTexts ss → IsText s → AreTexts (ss ++ s ∷ [])
+texts-push [] s h k = (k, tt)
+texts-push (t ∷ ss) s h k = (h.0, texts-push ss s h.1 k)

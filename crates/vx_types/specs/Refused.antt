@@ -1,0 +1,14 @@
+-- When the parts of a type are refused.
+use Rattle.std.specs.Prelude.{ℕ, List, length, ◌≢◌, ◌⊎◌}
+use Rattle.vx_types.specs.Content.{AreDistinct}
+use Rattle.vx_types.specs.Typ.{Typ}
+use Rattle.vx_types.specs.declared.error.TypeError.{TypeError}
+use Rattle.vx_types.specs.declared.error.TypeError.TheVariants.{OutOfMemory, BadDecimal, FieldCount, DuplicateTag}
+
+-- The lists of a union's parts are refused where they are not of one length, and
+-- where two tags are equal.
+abbrev pub IsRefusedUnion : TypeError → List (List ℕ) → List Typ → List ℕ → Type 0
+IsRefusedUnion OutOfMemory names types ids = ⊥
+IsRefusedUnion BadDecimal names types ids = ⊥
+IsRefusedUnion FieldCount names types ids = (length names ≢ length types) ⊎ (length names ≢ length ids)
+IsRefusedUnion DuplicateTag names types ids = AreDistinct ids → ⊥

@@ -1,0 +1,122 @@
+//! Extensions.
+
+ghost use Rattle.std.specs.Prelude.{◌≡◌, IfOk, IsOkUnless};
+ghost use Rattle.vx_types.specs.Content.{IsText, AreBytes};
+ghost use Rattle.vx_types.specs.Seen.{typ};
+ghost use Rattle.vx_types.specs.Typ.{IsType};
+ghost use Rattle.vx_types.specs.Words.{with_nullability};
+
+use crate::blob::Blob;
+use crate::dtype::DType;
+use crate::error::TypeError;
+use crate::id::Id;
+use crate::nullability::Nullability;
+use crate::type_ref::TypeRef;
+use std::alloc::Global;
+use std::marker::Model;
+
+/// A type that is stored as another: its identifier, its metadata, and the type
+/// of its storage.
+#[cycle(dtype)]
+#[derive(Debug, Drop)]
+pub struct ExtDType {
+    id: Id,
+    metadata: Blob,
+    storage: TypeRef,
+}
+
+impl Model for ExtDType {
+    ghost use Rattle.std.proofs.Common.{arith};
+    ghost use Rattle.vx_types.specs.Parts.{Ext, ext_code, ext_size};
+
+    ghost Value = { Ext };
+
+    ghost coded = { ext_code };
+
+    ghost view = { λ a. record { id = a.id; metadata = a.metadata; storage = a.storage } };
+
+    ghost size = { ext_size };
+
+    ghost size_decreases = { λ a h. Prim.omega arith };
+}
+
+impl ExtDType {
+    /// An extension of this identifier, metadata and storage.
+    pub fn new(alloc: Global, id: Id, metadata: Blob, storage: DType) -> Result<ExtDType, TypeError>
+        ensures ok { IfOk result (λ ext. ext ≡ record { id = id; metadata = metadata; storage = typ storage }) }
+        ensures err { IsOkUnless result TypeError.OutOfMemory }
+    {
+        let storage = TypeRef::new(alloc, storage)?;
+        Ok(ExtDType {
+            id,
+            metadata,
+            storage,
+        })
+    }
+
+    /// The identifier.
+    pub fn id(&self) -> &Id
+        ensures { result.now ≡ self.now.id }
+    {
+        &self.id
+    }
+
+    /// The metadata.
+    pub fn metadata(&self) -> &Blob
+        ensures { result.now ≡ self.now.metadata }
+    {
+        &self.metadata
+    }
+
+    /// The type of the storage.
+    pub fn storage_dtype(&self) -> &DType
+        ensures { typ result.now ≡ self.now.storage }
+    {
+        self.storage.get()
+    }
+
+    /// An equal extension.
+    #[cycle(copy)]
+    pub fn clone(&self, alloc: Global) -> Result<ExtDType, TypeError>
+        ensures ok { IfOk result (λ ext. ext ≡ self.now) }
+        ensures err { IsOkUnless result TypeError.OutOfMemory }
+    {
+        let id = self.id.clone(alloc)?;
+        let metadata = self.metadata.clone(alloc)?;
+        let storage = self.storage.clone(alloc)?;
+        Ok(ExtDType {
+            id,
+            metadata,
+            storage,
+        })
+    }
+
+    // The same extension, with this nullability of its storage.
+    #[cycle(nullable)]
+    pub(crate) fn with_nullability(
+        &self,
+        alloc: Global,
+        nullability: Nullability,
+    ) -> Result<ExtDType, TypeError>
+        ensures ok { IfOk result (λ ext. ext ≡ record { id = self.now.id; metadata = self.now.metadata; storage = with_nullability nullability self.now.storage }) }
+        ensures err { IsOkUnless result TypeError.OutOfMemory }
+    {
+        let id = self.id.clone(alloc)?;
+        let metadata = self.metadata.clone(alloc)?;
+        let storage = self.storage_dtype().with_nullability(alloc, nullability)?;
+        ExtDType::new(alloc, id, metadata, storage)
+    }
+
+    /// What is known of each extension: its identifier is a text, its metadata
+    /// are bytes, and its storage is of a type. Nothing runs; a caller gets the
+    /// fact.
+    pub fn hold(&self)
+        ensures id { IsText self.now.id }
+        ensures metadata { AreBytes self.now.metadata }
+        ensures storage { IsType self.now.storage }
+    {
+        self.id.hold();
+        self.metadata.hold();
+        self.storage.hold();
+    }
+}

@@ -1,0 +1,132 @@
+//! Lists of names.
+
+ghost use Rattle.std.specs.Prelude.{◌≡◌, ◌==◌, ◌↔◌, [], ◌∷◌, ◌++◌, IfOk, OnOk, OnErr, IsOkUnless, IsTrue, length, slice_get, option_copied};
+ghost use Rattle.vx_types.specs.Content.{AreTexts};
+
+use crate::error::TypeError;
+use crate::name::Name;
+use std::alloc::Global;
+use std::marker::Model;
+
+/// A list of names, in order, as of a structure's fields. Contracts see the list
+/// of their UTF-8 bytes.
+#[derive(Debug, Drop)]
+pub struct Names {
+    items: Vec<Name>,
+}
+
+impl Model for Names {
+    ghost use Rattle.std.specs.Prelude.{List, ℕ};
+    ghost use Rattle.vx_types.specs.Content.{AreTexts};
+
+    ghost Value = { List (List ℕ) };
+
+    ghost view = { λ a. a.items.items };
+
+    ghost invariant = { λ a. AreTexts a.items.items };
+}
+
+impl Names {
+    /// No name; more are stored by this allocator.
+    pub fn new(alloc: Global) -> Names
+        ensures { result ≡ [] }
+    {
+        Names {
+            items: Vec::new(alloc),
+        }
+    }
+
+    /// How many names there are.
+    pub fn len(&self) -> usize
+        ensures { result ≡ length self.now }
+    {
+        self.items.len()
+    }
+
+    /// Whether there is no name.
+    pub fn is_empty(&self) -> bool
+        ensures { result ≡ (length self.now == 0) }
+    {
+        self.items.is_empty()
+    }
+
+    /// The name at this place, counted from 0; None past the end.
+    pub fn get(&self, index: usize) -> Option<&Name>
+        ensures { option_copied result ≡ slice_get self.now index }
+    {
+        self.items.as_slice().get(index)
+    }
+
+    /// All names, in order.
+    pub fn as_slice(&self) -> &[Name]
+        ensures { result.now ≡ self.now }
+    {
+        self.items.as_slice()
+    }
+
+    /// One more name at the end. Where there is no memory for it, the list stays
+    /// as it was, and the name is dropped.
+    pub fn push(&mut self, name: Name) -> Result<(), TypeError>
+        ensures ok { OnOk result (self.new ≡ self.old ++ name ∷ []) }
+        ensures unchanged { OnErr result (self.new ≡ self.old) }
+        ensures err { IsOkUnless result TypeError.OutOfMemory }
+    {
+        name.hold();
+        self.items.push(name)?;
+        Ok(())
+    }
+
+    /// An equal list.
+    pub fn clone(&self, alloc: Global) -> Result<Names, TypeError>
+        ensures ok { IfOk result (λ names. names ≡ self.now) }
+        ensures err { IsOkUnless result TypeError.OutOfMemory }
+    {
+        let items = copy_all(self.as_slice(), alloc)?;
+        self.hold();
+        Ok(Names { items })
+    }
+
+    /// What is known of each list of names: they are texts. Nothing runs; a
+    /// caller gets the fact.
+    pub fn hold(&self)
+        ensures { AreTexts self.now }
+    {
+        let _ = &self.items;
+    }
+}
+
+// Copies of the names.
+fn copy_all(names: &[Name], alloc: Global) -> Result<Vec<Name>, TypeError>
+    ensures ok { IfOk result (λ copies. copies.items ≡ names.now) }
+    ensures err { IsOkUnless result TypeError.OutOfMemory }
+{
+    let mut copies = Vec::new(alloc);
+    for name in names {
+        copies.push(name.clone(alloc)?)?;
+    }
+    Ok(copies)
+}
+
+// Whether two names are the same text, with a clause that says so plainly.
+fn is_same_name(a: &Name, b: &Name) -> bool
+    ensures { IsTrue result ↔ (a.now ≡ b.now) }
+{
+    a.as_str() == b.as_str()
+}
+
+// Whether two lists have the same names in the same order.
+pub(crate) fn are_same_names(a: &Names, b: &Names) -> bool
+    ensures { IsTrue result ↔ (a.now ≡ b.now) }
+{
+    if a.len() != b.len() {
+        return false;
+    }
+    let xs = a.as_slice();
+    let ys = b.as_slice();
+    for i in 0..xs.len() {
+        if !is_same_name(&xs[i], &ys[i]) {
+            return false;
+        }
+    }
+    true
+}

@@ -1,0 +1,79 @@
+//! The tags of a union.
+
+ghost use Rattle.std.specs.Prelude.{◌≡◌, ◌==◌, IfOk, IsOkUnless, length};
+ghost use Rattle.vx_types.specs.Content.{AreBytes};
+
+use crate::bytes::are_bytes;
+use crate::error::TypeError;
+use std::alloc::Global;
+use std::marker::Model;
+
+/// The tags of a union's members, in the members' order. Contracts see their
+/// list.
+#[derive(Debug, Drop)]
+pub struct TypeIds {
+    ids: Vec<u8>,
+}
+
+impl Model for TypeIds {
+    ghost use Rattle.std.specs.Prelude.{List, ℕ};
+
+    ghost Value = { List ℕ };
+
+    ghost view = { λ a. a.ids.items };
+}
+
+impl TypeIds {
+    /// These tags.
+    pub fn new(ids: Vec<u8>) -> TypeIds
+        ensures { result ≡ ids.items }
+    {
+        TypeIds { ids }
+    }
+
+    /// A copy of these tags.
+    pub fn copy_from(alloc: Global, ids: &[u8]) -> Result<TypeIds, TypeError>
+        ensures ok { IfOk result (λ copy. copy ≡ ids.now) }
+        ensures err { IsOkUnless result TypeError.OutOfMemory }
+    {
+        let ids = Vec::from_slice(alloc, ids)?;
+        Ok(TypeIds { ids })
+    }
+
+    /// The tags.
+    pub fn as_slice(&self) -> &[u8]
+        ensures { result.now ≡ self.now }
+    {
+        self.ids.as_slice()
+    }
+
+    /// How many tags there are.
+    pub fn len(&self) -> usize
+        ensures { result ≡ length self.now }
+    {
+        self.ids.len()
+    }
+
+    /// Whether there is no tag.
+    pub fn is_empty(&self) -> bool
+        ensures { result ≡ (length self.now == 0) }
+    {
+        self.ids.is_empty()
+    }
+
+    /// Equal tags.
+    pub fn clone(&self, alloc: Global) -> Result<TypeIds, TypeError>
+        ensures ok { IfOk result (λ ids. ids ≡ self.now) }
+        ensures err { IsOkUnless result TypeError.OutOfMemory }
+    {
+        TypeIds::copy_from(alloc, self.as_slice())
+    }
+
+    /// What is known of each list of tags: they are bytes. Nothing runs; a caller
+    /// gets the fact.
+    pub fn hold(&self)
+        ensures { AreBytes self.now }
+    {
+        are_bytes(self.as_slice());
+    }
+}

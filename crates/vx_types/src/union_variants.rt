@@ -1,0 +1,132 @@
+//! The members of a union.
+
+ghost use Rattle.std.specs.Prelude.{◌≡◌, ◌≢◌, ◌==◌, ◌⊎◌, IfOk, IfErr, IsOkUnless, MatchBool, length, position};
+ghost use Rattle.vx_types.specs.Content.{AreDistinct};
+ghost use Rattle.vx_types.specs.Typ.{AreTypes, IsUnion};
+ghost use Rattle.vx_types.specs.Refused.{IsRefusedUnion};
+
+use crate::dtypes::DTypes;
+use crate::error::TypeError;
+use crate::names::Names;
+use crate::type_ids::TypeIds;
+use std::alloc::Global;
+use std::marker::Model;
+
+/// The names of a union's members, and as many types and tags in the same order.
+/// No tag stands twice.
+#[cycle(dtype)]
+#[derive(Debug, Drop)]
+pub struct UnionVariants {
+    names: Names,
+    types: DTypes,
+    ids: TypeIds,
+}
+
+impl Model for UnionVariants {
+    ghost use Rattle.std.specs.Prelude.{◌≡◌, length};
+    ghost use Rattle.std.proofs.Common.{arith};
+    ghost use Rattle.vx_types.specs.Content.{AreDistinct};
+    ghost use Rattle.vx_types.specs.Parts.{Members, members_code, members_size};
+
+    ghost Value = { Members };
+
+    ghost coded = { members_code };
+
+    ghost view = { λ a. record { names = a.names; types = a.types; ids = a.ids } };
+
+    ghost invariant = { λ a. (length a.types ≡ length a.names) × (length a.ids ≡ length a.names) × AreDistinct a.ids };
+
+    ghost size = { members_size };
+
+    ghost size_decreases = { λ a h. Prim.omega arith };
+}
+
+impl UnionVariants {
+    /// Members of these names, types and tags. `FieldCount` exactly where the
+    /// lists are not of one length, and else `DuplicateTag` exactly where two tags
+    /// are equal.
+    pub fn try_new(names: Names, types: DTypes, ids: TypeIds) -> Result<UnionVariants, TypeError>
+        ensures ok { IfOk result (λ members. members ≡ record { names = names; types = types; ids = ids }) }
+        ensures types_fit { IfOk result (λ _. length names ≡ length types) }
+        ensures ids_fit { IfOk result (λ _. length names ≡ length ids) }
+        ensures distinct { IfOk result (λ _. AreDistinct ids) }
+        ensures err { IfErr result (λ e. IsRefusedUnion e names types ids) }
+    {
+        if names.len() != types.len() {
+            return Err(TypeError::FieldCount);
+        }
+        if names.len() != ids.len() {
+            return Err(TypeError::FieldCount);
+        }
+        if has_duplicate(ids.as_slice()) {
+            return Err(TypeError::DuplicateTag);
+        }
+        Ok(UnionVariants { names, types, ids })
+    }
+
+    /// The names, in the members' order.
+    pub fn names(&self) -> &Names
+        ensures { result.now ≡ self.now.names }
+    {
+        &self.names
+    }
+
+    /// The types, in the members' order.
+    pub fn variants(&self) -> &DTypes
+        ensures { result.now ≡ self.now.types }
+    {
+        &self.types
+    }
+
+    /// The tags, in the members' order.
+    pub fn type_ids(&self) -> &TypeIds
+        ensures { result.now ≡ self.now.ids }
+    {
+        &self.ids
+    }
+
+    /// Which member has this tag, counted from 0; None if none has.
+    pub fn tag_to_child_index(&self, tag: u8) -> Option<usize>
+        ensures { result ≡ position (λ id. id == tag) self.now.ids }
+    {
+        self.ids.as_slice().iter().position(|id| *id == tag)
+    }
+
+    /// Equal members.
+    #[cycle(copy)]
+    pub fn clone(&self, alloc: Global) -> Result<UnionVariants, TypeError>
+        ensures ok { IfOk result (λ members. members ≡ self.now) }
+        ensures err { IsOkUnless result TypeError.OutOfMemory }
+    {
+        let names = self.names.clone(alloc)?;
+        let types = self.types.clone(alloc)?;
+        let ids = self.ids.clone(alloc)?;
+        Ok(UnionVariants { names, types, ids })
+    }
+
+    /// What is known of the members of each union: there are as many types and
+    /// tags as names, the names are texts, the tags are bytes and distinct, and
+    /// the types are types. Nothing runs; a caller gets the fact.
+    pub fn hold(&self)
+        ensures union { IsUnion self.now.names self.now.ids (length self.now.types) }
+        ensures types { AreTypes self.now.types }
+    {
+        self.names.hold();
+        self.types.hold();
+        self.ids.hold();
+    }
+}
+
+// Whether a tag stands twice.
+fn has_duplicate(ids: &[u8]) -> bool
+    ensures { MatchBool result (AreDistinct ids.now → ⊥) (AreDistinct ids.now) }
+{
+    for i in 0..ids.len() {
+        for j in 0..i {
+            if ids[j] == ids[i] {
+                return true;
+            }
+        }
+    }
+    false
+}
