@@ -99,7 +99,10 @@ pub fn recode(
         Ok(array) => array,
         Err(e) => return Err(e),
     };
-    let node = wire_node(alloc, &array)?;
+    let node = match wire_node(alloc, &array) {
+        Ok(node) => node,
+        Err(_) => return Err(WireError::OutOfMemory),
+    };
     let buffers = match write_wire(alloc, &node, ctx, options) {
         Ok(buffers) => buffers,
         Err(e) => return Err(e),

@@ -9,7 +9,7 @@ use Rattle.vx_serde.proofs.recoding.recode.Goals as goal
 
 pub returns-in-Err-write_wire-clause-kept : goal.returns-in-Err-write_wire-clause-kept
 returns-in-Err-write_wire-clause-kept c = λ t x.
-    kept-wire (registry_meaning c.args.session.now.arrays) c.in-Ok-decode.array t c.in_ok-node.node c.args.ctx.now c.write_wire.new.ctx (c.in_ok-node.ensures.ok (registry_meaning c.args.session.now.arrays))
+    kept-wire (registry_meaning c.args.session.now.arrays) c.in-Ok-decode.array t c.in-Ok-wire_node.node c.args.ctx.now c.write_wire.new.ctx (c.in-Ok-wire_node.ensures.ok (registry_meaning c.args.session.now.arrays))
     (c.one_array.ensures c.args.blob.bytes c.args.read_ids.now (typ c.args.dtype.now) c.args.len (registry_meaning c.args.session.now.arrays) t c.in-Ok-decode.array x (spells c.args.blob.bytes c.args.read_ids.now (typ c.args.dtype.now) c.args.len (registry_meaning c.args.session.now.arrays) c.in-Ok.node c.in-Ok-decode.array c.in-Ok.ensures.opened
     c.in-Ok-decode.ensures.matches c.in-Ok-decode.ensures.sound c.in-Ok-decode.ensures.dtype c.in-Ok-decode.ensures.len)) c.write_wire.ensures.kept
 
@@ -28,7 +28,7 @@ returns-in-Err-write_wire-clause-cause c = λ _.
       session = registry_meaning c.args.session.now.arrays;
       options = c.args.options.now;
     } in
-    caused_by_writing call c.in-Err-write_wire.e c.in_ok-node.node c.in-Ok-decode.array (c.in_ok-node.ensures.ok (registry_meaning c.args.session.now.arrays)) (spells c.args.blob.bytes c.args.read_ids.now (typ c.args.dtype.now) c.args.len (registry_meaning c.args.session.now.arrays) c.in-Ok.node c.in-Ok-decode.array c.in-Ok.ensures.opened
+    caused_by_writing call c.in-Err-write_wire.e c.in-Ok-wire_node.node c.in-Ok-decode.array (c.in-Ok-wire_node.ensures.ok (registry_meaning c.args.session.now.arrays)) (spells c.args.blob.bytes c.args.read_ids.now (typ c.args.dtype.now) c.args.len (registry_meaning c.args.session.now.arrays) c.in-Ok.node c.in-Ok-decode.array c.in-Ok.ensures.opened
     c.in-Ok-decode.ensures.matches c.in-Ok-decode.ensures.sound c.in-Ok-decode.ensures.dtype c.in-Ok-decode.ensures.len) c.in-Err-write_wire.ensures.refused
 
 pub returns-in-Err-clause-complete : goal.returns-in-Err-clause-complete
@@ -69,7 +69,7 @@ returns-in-Err-write_wire-clause-complete c = λ _ t x light fits grows.
       options = c.args.options.now;
     } in
     c.never_caused.ensures call t x light fits grows c.in-Err-write_wire.e
-    (caused_by_writing call c.in-Err-write_wire.e c.in_ok-node.node c.in-Ok-decode.array (c.in_ok-node.ensures.ok (registry_meaning c.args.session.now.arrays)) (spells c.args.blob.bytes c.args.read_ids.now (typ c.args.dtype.now) c.args.len (registry_meaning c.args.session.now.arrays) c.in-Ok.node c.in-Ok-decode.array c.in-Ok.ensures.opened
+    (caused_by_writing call c.in-Err-write_wire.e c.in-Ok-wire_node.node c.in-Ok-decode.array (c.in-Ok-wire_node.ensures.ok (registry_meaning c.args.session.now.arrays)) (spells c.args.blob.bytes c.args.read_ids.now (typ c.args.dtype.now) c.args.len (registry_meaning c.args.session.now.arrays) c.in-Ok.node c.in-Ok-decode.array c.in-Ok.ensures.opened
     c.in-Ok-decode.ensures.matches c.in-Ok-decode.ensures.sound c.in-Ok-decode.ensures.dtype c.in-Ok-decode.ensures.len) c.in-Err-write_wire.ensures.refused)
 
 pub returns-clause-spelled : goal.returns-clause-spelled
@@ -84,18 +84,18 @@ returns-clause-the_one c = λ _ t x.
 
 pub returns-clause-written : goal.returns-clause-written
 returns-clause-written c =
-    written-wire (registry_meaning c.args.session.now.arrays) c.in-Ok-decode.array c.in_ok-node.node c.args.ctx.now c.write_wire.new.ctx c.args.options.now (joined c.in-Ok-write_wire.buffers) (c.in_ok-node.ensures.ok (registry_meaning c.args.session.now.arrays)) c.in-Ok-write_wire.ensures.grown c.in-Ok-write_wire.ensures.written
+    written-wire (registry_meaning c.args.session.now.arrays) c.in-Ok-decode.array c.in-Ok-wire_node.node c.args.ctx.now c.write_wire.new.ctx c.args.options.now (joined c.in-Ok-write_wire.buffers) (c.in-Ok-wire_node.ensures.ok (registry_meaning c.args.session.now.arrays)) c.in-Ok-write_wire.ensures.grown c.in-Ok-write_wire.ensures.written
 
 pub returns-clause-grown : goal.returns-clause-grown
 returns-clause-grown c =
-    sym (grown-wire (registry_meaning c.args.session.now.arrays) c.in-Ok-decode.array c.in_ok-node.node c.args.ctx.now (c.in_ok-node.ensures.ok (registry_meaning c.args.session.now.arrays))) ∙ c.in-Ok-write_wire.ensures.grown
+    sym (grown-wire (registry_meaning c.args.session.now.arrays) c.in-Ok-decode.array c.in-Ok-wire_node.node c.args.ctx.now (c.in-Ok-wire_node.ensures.ok (registry_meaning c.args.session.now.arrays))) ∙ c.in-Ok-write_wire.ensures.grown
 
 pub returns-clause-reader_limits : goal.returns-clause-reader_limits
 returns-clause-reader_limits c = reader_limits c.args.blob.bytes c.args.read_ids.now c.in-Ok.node c.in-Ok.ensures.opened
 
 pub returns-clause-writer_limits : goal.returns-clause-writer_limits
 returns-clause-writer_limits c =
-    limits-wire (registry_meaning c.args.session.now.arrays) c.in-Ok-decode.array c.in_ok-node.node c.args.ctx.now c.write_wire.new.ctx c.args.options.now (c.in_ok-node.ensures.ok (registry_meaning c.args.session.now.arrays)) c.in-Ok-write_wire.ensures.grown c.in-Ok-write_wire.ensures.writable
+    limits-wire (registry_meaning c.args.session.now.arrays) c.in-Ok-decode.array c.in-Ok-wire_node.node c.args.ctx.now c.write_wire.new.ctx c.args.options.now (c.in-Ok-wire_node.ensures.ok (registry_meaning c.args.session.now.arrays)) c.in-Ok-write_wire.ensures.grown c.in-Ok-write_wire.ensures.writable
 
 pub returns-clause-again : goal.returns-clause-again
 returns-clause-again c = λ _.
@@ -107,7 +107,7 @@ returns-clause-again c = λ _.
 
 pub returns-clause-kept : goal.returns-clause-kept
 returns-clause-kept c = λ t x.
-    kept-wire (registry_meaning c.args.session.now.arrays) c.in-Ok-decode.array t c.in_ok-node.node c.args.ctx.now c.write_wire.new.ctx (c.in_ok-node.ensures.ok (registry_meaning c.args.session.now.arrays))
+    kept-wire (registry_meaning c.args.session.now.arrays) c.in-Ok-decode.array t c.in-Ok-wire_node.node c.args.ctx.now c.write_wire.new.ctx (c.in-Ok-wire_node.ensures.ok (registry_meaning c.args.session.now.arrays))
     (c.one_array.ensures c.args.blob.bytes c.args.read_ids.now (typ c.args.dtype.now) c.args.len (registry_meaning c.args.session.now.arrays) t c.in-Ok-decode.array x (spells c.args.blob.bytes c.args.read_ids.now (typ c.args.dtype.now) c.args.len (registry_meaning c.args.session.now.arrays) c.in-Ok.node c.in-Ok-decode.array c.in-Ok.ensures.opened
     c.in-Ok-decode.ensures.matches c.in-Ok-decode.ensures.sound c.in-Ok-decode.ensures.dtype c.in-Ok-decode.ensures.len)) c.write_wire.ensures.kept
 
