@@ -9,7 +9,7 @@ use Rattle.std.specs.Coded.{Coded, code_by, coded×, coded_ℕ, coded_list, code
 use Rattle.vx_proto.specs.declared.schema.Kind.TheVariants.{Whole, Text, Inner}
 use Rattle.vx_proto.specs.declared.schema.Rule.TheVariants.{Single, Repeated}
 use Rattle.vx_proto.specs.Value.{Content, number, octets, message, Entry, Value, slots_of, Schema}
-use Rattle.vx_proto.specs.FormLaws.{HoldsOne, at_most_one, exactly_one, form_of_slots, same_name, same_content, same_others, same_entry, same_slot, same_rest, same_message, same_number, same_octets}
+use Rattle.vx_proto.specs.FormLaws.{HoldsOne, at_most_one, form_of_slots, same_name, same_content, same_others, same_slot, same_rest, same_message, same_number, same_octets}
 use Rattle.vx_proto.specs.declared.schema.Member.{Member}
 use Rattle.vx_proto.specs.Reads.{kind_in}
 use Rattle.vx_proto.specs.Form.{FormContent, FormEntries, HasForm}
@@ -194,17 +194,6 @@ label_formed es le f = go (at_most_one (HasForm tree_schema) label_members es le
     go : (es ≡ []) ⊎ HoldsOne (HasForm tree_schema) label_members es → LabelOf es
     go (inl e) = none es e
     go (inr h) = one h (eqb 1 h.name) refl h.has
-
--- The first child of a form: a message of the form, and the others.
-pub record ChildOf (x : Entry) : Type 0 where
-  pub value : Value
-  pub is : x ≡ (3, message (slots_of value))
-  pub form : HasForm tree_schema 0 value
-
-pub child_formed : (x : Entry) (xs : List Entry) → FormEntries (HasForm tree_schema) child_members (x ∷ xs) → ChildOf x
-child_formed x xs f =
-    let h = exactly_one (HasForm tree_schema) (record { number = 3; kind = Inner 0 }) (x ∷ []) refl (f.0, tt) in
-    record { value = h.form.0; is = same_entry x (3, h.element) h.is ∙ ap (λ (e : Content). (3, e)) h.form.1; form = h.form.2 }
 
 -- ---- the size of a tree
 

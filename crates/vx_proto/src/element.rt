@@ -3,8 +3,11 @@
 
 ghost use Rattle.std.specs.Prelude.{◌≡◌, ◌<◌, ◌^◌, ℕ, Some, ◌∷◌, [], IfOk, option_map};
 ghost use Rattle.vx_proto.specs.Value.{view, value_view, entries_view, number, octets};
-ghost use Rattle.vx_proto.specs.Parts.{entries_in, flag_number, number_of, octets_of, message_of, number_in, octets_in, message_in};
+ghost use Rattle.vx_proto.specs.Parts.{entries_in, flag_number, number_of, octets_of, text_of_bytes, text_of, message_of, number_in, octets_in, text_in, message_in};
+ghost use Rattle.vx_proto.specs.Signed.{IsInt32};
+ghost use Rattle.std.specs.Int.{w64, cast_unsigned};
 
+use crate::signed::int32_of;
 use std::alloc::{AllocError, Global};
 
 /// What a member of a message holds.
@@ -58,6 +61,17 @@ impl Element {
         }
     }
 
+    /// The text, if the member holds one: bytes that are UTF-8.
+    pub fn as_text(&self) -> Option<&str>
+        ensures { option_map (λ s. s.now) result ≡ text_of (view self.now) }
+    {
+        match self {
+            Element::Number(_) => None,
+            Element::Octets(s) => as_utf8(s.as_slice()),
+            Element::Message(_) => None,
+        }
+    }
+
     /// The message, if the member holds one.
     pub fn as_message(&self) -> Option<&[Entries]>
         ensures { option_map (λ v. value_view v.now) result ≡ message_of (view self.now) }
@@ -67,6 +81,16 @@ impl Element {
             Element::Octets(_) => None,
             Element::Message(slots) => Some(slots.as_slice()),
         }
+    }
+}
+
+/// The text that bytes are, if they are UTF-8.
+fn as_utf8(bytes: &[u8]) -> Option<&str>
+    ensures { option_map (λ s. s.now) result ≡ text_of_bytes bytes.now }
+{
+    match simdutf8::basic::from_utf8(bytes) {
+        Ok(text) => Some(text),
+        Err(_) => None,
     }
 }
 
@@ -106,6 +130,13 @@ pub fn u8_at(slots: &[Entries], slot: usize) -> u8
     if n < 256 { n as u8 } else { 0 }
 }
 
+/// The int32 that a slot's first member holds, or 0.
+pub fn i32_at(slots: &[Entries], slot: usize) -> i32
+    ensures { (n : ℕ) → number_in (entries_in (value_view slots.now) slot) ≡ Some n → IsInt32 n → cast_unsigned w64 result ≡ n }
+{
+    int32_of(u64_at(slots, slot))
+}
+
 /// Whether the number that a slot's first member holds isn't 0.
 pub fn flag_at(slots: &[Entries], slot: usize) -> bool
     ensures { (n : ℕ) → number_in (entries_in (value_view slots.now) slot) ≡ Some n → n < 2 → flag_number result ≡ n }
@@ -119,6 +150,16 @@ pub fn octets_at(slots: &[Entries], slot: usize) -> Option<&[u8]>
 {
     match entries_at(slots, slot) {
         [(_, element), ..] => element.as_octets(),
+        [] => None,
+    }
+}
+
+/// The text that a slot's first member holds, if it is one.
+pub fn text_at(slots: &[Entries], slot: usize) -> Option<&str>
+    ensures { option_map (λ s. s.now) result ≡ text_in (entries_in (value_view slots.now) slot) }
+{
+    match entries_at(slots, slot) {
+        [(_, element), ..] => element.as_text(),
         [] => None,
     }
 }
