@@ -6,7 +6,7 @@ use Rattle.vx_proto.specs.Form.{FormEntries, HasForm}
 use Rattle.vx_proto.specs.FormLaws.{slots_of_form, exactly_one}
 use Rattle.vx_proto.specs.Written.{content_depth, entries_depth, slots_depth}
 use Rattle.vx_proto.specs.ViewLaws.{entry_form, some_value, no_value, message_is, entry_depth_le, held_depth, slot_depth_in}
-use Rattle.vx_proto.specs.Repeated.{messages, nested_member, holds_message, member_read, all_read}
+use Rattle.vx_proto.specs.Repeated.{as_message, messages, nested_member, holds_message, member_read, all_read}
 use Rattle.vx_trees.specs.Rose.{roses_of}
 use Rattle.vx_reencode.specs.Document.{section_schema, section_value, sections_slot, sections_are}
 use Rattle.vx_reencode.proofs.section.+section_of.Goals.{in-Some+in_ok-section_of+in_ok-push, in_default}
@@ -31,7 +31,7 @@ loop-element-preserved t c = λ form.
       | in-Some+in_ok-section_of+in_ok-push w ↦ (let s = w.in_ok-section_of.field-0 in
           let inner : value_view w.in-Some.inner.now ≡ held.value = some_value (value_view w.in-Some.inner.now) held.value (w.in-Some.ensures ∙ message_is (view x.1) held.value (ap (λ (e : Entry). e.1) held.is)) in
           let same : section_value s ≡ held.value = w.in_ok-section_of.ensures (subst (HasForm section_schema 0) (sym inner) held.form) ∙ inner in
-          let all = member_read section_value 2 c.loop-element.sections.items s es i x c.loop-element-test.true c.loop-element-item.is (held.is ∙ ap (λ (v : Value). (2, message (slots_of v))) (sym same)) (c.loop-element.invariant form) in
+          let all = member_read (as_message section_value) 2 c.loop-element.sections.items s es i x c.loop-element-test.true c.loop-element-item.is (held.is ∙ ap (λ (v : Value). (2, message (slots_of v))) (sym same)) (c.loop-element.invariant form) in
           ap (λ z. messages section_value 2 z.items ++ entries_view (drop (i + 1) es)) w.sections-is ∙ ap (λ z. messages section_value 2 z ++ entries_view (drop (i + 1) es)) w.in_ok-push.ensures.items ∙ all)
       | in_default w ↦ absurd (no_value held.value (w.in_default.ensures ∙ message_is (view x.1) held.value (ap (λ (e : Entry). e.1) held.is)))
     ]
@@ -48,5 +48,5 @@ returns t c = λ form.
     let body : c.in_ok-body.body ≡ one.form.0 = c.in_ok-body.ensures one.form.0 (ap (λ z. octets_in (entries_in z 0)) whole ∙ ap octets_in first) in
     let second : entries_view c.entries_at-element-items.result.now ≡ rest.0 = c.entries_at-element-items.ensures ∙ ap (λ z. entries_in z 1) whole in
     let sections : sections_slot (roses_of ts) ≡ rest.0
-    = sections_are ts ∙ all_read section_value 2 ts c.entries_at-element-items.result.now c.loop-element.element-index c.loop-element-test.false (c.loop-element.invariant (subst (FormEntries (HasForm section_schema) (nested_member 2 0 ∷ [])) (sym second) rest.4)) ∙ second in
+    = sections_are ts ∙ all_read (as_message section_value) 2 ts c.entries_at-element-items.result.now c.loop-element.element-index c.loop-element-test.false (c.loop-element.invariant (subst (FormEntries (HasForm section_schema) (nested_member 2 0 ∷ [])) (sym second) rest.4)) ∙ second in
     ap (λ (b : List ℕ). ((1, octets b) ∷ []) ∷ sections_slot (roses_of ts) ∷ []) body ∙ ap (λ (z : List Entry). z ∷ sections_slot (roses_of ts) ∷ []) (sym first) ∙ ap (λ (z : List Entry). s.0 ∷ z ∷ []) sections ∙ sym whole
