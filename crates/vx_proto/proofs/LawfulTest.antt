@@ -51,7 +51,7 @@ has_kind members n h = go (kind_in members n) h
     go (Some k) e = (k, refl)
     go None e = absurd cc
 
-kind_lawful : (count : ℕ) (members : List Member) (n : ℕ) (k : Kind) → are_kinds count members ≡ true → kind_in members n ≡ Some k → is_kind count k ≡ true
+pub kind_lawful : (count : ℕ) (members : List Member) (n : ℕ) (k : Kind) → are_kinds count members ≡ true → kind_in members n ≡ Some k → is_kind count k ≡ true
 kind_lawful count [] n k h e = absurd cc
 kind_lawful count (m ∷ ms) n k h e = go (eqb m.number n) e (kind_lawful count ms n k (and_parts (is_kind count m.kind) (are_kinds count ms) h).1)
   where

@@ -15,3 +15,6 @@ pub mod Formed
 pub mod LawfulTest
 pub mod Suffixes
 pub mod TreeSteps
+pub mod Longer
+pub mod Signs
+pub mod NestedSteps

@@ -89,6 +89,22 @@ exactly_one F m [] one f = absurd (omega arith)
 exactly_one F m (x ∷ []) one f = let w = known F m x.0 f.0.0 x.1 f.0.1 f.0.2 in record { element = x.1; is = ap (λ (n : ℕ). (n, x.1) ∷ []) w.0; form = w.1 }
 exactly_one F m (x ∷ y ∷ es) one f = absurd (omega arith)
 
+-- Of a oneof's members the first is the one that is held, or it is one of the later; of none it is none.
+pub first_or_later : (F : ℕ → Value → Type 0) (m : Member) (ms : List Member) (es : List Entry) → HoldsOne F (m ∷ ms) es → HoldsMember F m es ⊎ HoldsOne F ms es
+first_or_later F m ms es h = go (eqb m.number h.name) refl h.has
+  where
+    go : (b : Bool) → eqb m.number h.name ≡ b → cond b (Some m.kind) (kind_in ms h.name) ≡ Some h.kind → HoldsMember F m es ⊎ HoldsOne F ms es
+    go true is q =
+        let same : m.kind ≡ h.kind = cc in
+        inl (record { element = h.element; is = h.is ∙ ap (λ (n : ℕ). (n, h.element) ∷ []) (sym (eqb-true m.number h.name is)); form = subst (λ k. FormContent F k h.element) (sym same) h.form })
+    go false is q = inr (record { name = h.name; element = h.element; kind = h.kind; is = h.is; has = q; form = h.form })
+
+pub holds_none : (F : ℕ → Value → Type 0) (es : List Entry) → HoldsOne F [] es → ⊥
+holds_none F es h = absurd (no_kind h.kind h.has)
+  where
+    no_kind : (k : Kind) → None ≡ Some k → ⊥
+    no_kind k e = absurd cc
+
 -- A slot with one member that need not stand: empty, or holding that member.
 pub none_or_one : (F : ℕ → Value → Type 0) (m : Member) (es : List Entry) → length es ≤ 1 → FormEntries F (m ∷ []) es → (es ≡ []) ⊎ HoldsMember F m es
 none_or_one F m [] le f = inl refl

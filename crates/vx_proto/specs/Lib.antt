@@ -9,4 +9,8 @@ pub mod Fields
 pub mod Lawful
 pub mod Parts
 pub mod FormLaws
+pub mod ViewLaws
+pub mod Repeated
+pub mod Signed
 pub mod SampleTree
+pub mod SampleNested

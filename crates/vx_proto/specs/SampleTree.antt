@@ -1,18 +1,16 @@
 -- A small tree as a message: a text or a number at each node, and the trees below it. It stands for the types, scalars and
 -- expressions that nest their own kind.
-use Rattle.std.specs.Prelude.{◌≡◌, ◌⊎◌, ◌+◌, ◌<◌, ◌≤◌, ◌^◌, ℕ, zero, suc, Bool, true, false, cond, eqb, List, [], ◌∷◌, length, Option, Some, None, refl}
+use Rattle.std.specs.Prelude.{◌≡◌, ◌⊎◌, ◌+◌, ◌<◌, ◌≤◌, ◌^◌, ℕ, zero, suc, List, [], ◌∷◌, length, Option, Some, None, refl}
 use Rattle.std.specs.Str.{IsUtf8}
-use Rattle.std.proofs.Common.{inl, inr, sym, ap, subst, ◌∙◌, arith}
-use Rattle.std.proofs.lemmas.Bool.{eqb-true}
+use Rattle.std.proofs.Common.{inl, inr, ap, ◌∙◌, arith}
 use denote.Param.Weighed.{most}
 use Rattle.std.specs.Coded.{Coded, code_by, coded×, coded_ℕ, coded_list, coded_option, coded⊎}
 use Rattle.vx_proto.specs.declared.schema.Kind.TheVariants.{Whole, Text, Inner}
 use Rattle.vx_proto.specs.declared.schema.Rule.TheVariants.{Single, Repeated}
 use Rattle.vx_proto.specs.Value.{Content, number, octets, message, Entry, Value, slots_of, Schema}
-use Rattle.vx_proto.specs.FormLaws.{HoldsOne, at_most_one, exactly_one, form_of_slots, same_name, same_content, same_others, same_entry, same_slot, same_rest, same_message, same_number, same_octets}
+use Rattle.vx_proto.specs.FormLaws.{HoldsOne, HoldsMember, at_most_one, first_or_later, holds_none, form_of_slots, same_name, same_content, same_others, same_slot, same_rest, same_message, same_number, same_octets}
 use Rattle.vx_proto.specs.declared.schema.Member.{Member}
-use Rattle.vx_proto.specs.Reads.{kind_in}
-use Rattle.vx_proto.specs.Form.{FormContent, FormEntries, HasForm}
+use Rattle.vx_proto.specs.Form.{FormEntries, HasForm}
 
 -- What stands at a node: nothing, a text or a number.
 abbrev pub Label : Type 0
@@ -171,40 +169,26 @@ pub record LabelOf (es : List Entry) : Type 0 where
   pub is : es ≡ label_slot label
   pub holds : IsLabel label
 
-none : (es : List Entry) → es ≡ [] → LabelOf es
-none es e = record { label = None; is = e; holds = tt }
+text_label : (es : List Entry) → HoldsMember (HasForm tree_schema) (record { number = 1; kind = Text }) es → LabelOf es
+text_label es h = record { label = Some (inl h.form.0); is = h.is ∙ ap (λ (e : Content). (1, e) ∷ []) h.form.1; holds = h.form.2 }
 
-text : (es : List Entry) (n : ℕ) (e : Content) → 1 ≡ n → es ≡ (n, e) ∷ [] → FormContent (HasForm tree_schema) Text e → LabelOf es
-text es n e one is f = record { label = Some (inl f.0); is = is ∙ ap (λ (m : ℕ). (m, e) ∷ []) (sym one) ∙ ap (λ (t : Content). (1, t) ∷ []) f.1; holds = f.2 }
-
-whole : (es : List Entry) (n : ℕ) (e : Content) → 2 ≡ n → es ≡ (n, e) ∷ [] → FormContent (HasForm tree_schema) Whole e → LabelOf es
-whole es n e two is f = record { label = Some (inr f.0); is = is ∙ ap (λ (m : ℕ). (m, e) ∷ []) (sym two) ∙ ap (λ (t : Content). (2, t) ∷ []) f.1; holds = f.2 }
+count_label : (es : List Entry) → HoldsMember (HasForm tree_schema) (record { number = 2; kind = Whole }) es → LabelOf es
+count_label es h = record { label = Some (inr h.form.0); is = h.is ∙ ap (λ (e : Content). (2, e) ∷ []) h.form.1; holds = h.form.2 }
 
 pub label_formed : (es : List Entry) → length es ≤ 1 → FormEntries (HasForm tree_schema) label_members es → LabelOf es
 label_formed es le f = go (at_most_one (HasForm tree_schema) label_members es le f)
   where
-    second : (h : HoldsOne (HasForm tree_schema) label_members es) (b : Bool) → eqb 2 h.name ≡ b → cond b (Some Whole) None ≡ Some h.kind → LabelOf es
-    second h true is q = whole es h.name h.element (eqb-true 2 h.name is) h.is (let same : Whole ≡ h.kind = cc in subst (λ k. FormContent (HasForm tree_schema) k h.element) (sym same) h.form)
-    second h false is q = absurd cc
+    second : HoldsMember (HasForm tree_schema) (record { number = 2; kind = Whole }) es ⊎ HoldsOne (HasForm tree_schema) [] es → LabelOf es
+    second (inl h) = count_label es h
+    second (inr h) = absurd (holds_none (HasForm tree_schema) es h)
 
-    one : (h : HoldsOne (HasForm tree_schema) label_members es) (b : Bool) → eqb 1 h.name ≡ b → cond b (Some Text) (kind_in (record { number = 2; kind = Whole } ∷ []) h.name) ≡ Some h.kind → LabelOf es
-    one h true is q = text es h.name h.element (eqb-true 1 h.name is) h.is (let same : Text ≡ h.kind = cc in subst (λ k. FormContent (HasForm tree_schema) k h.element) (sym same) h.form)
-    one h false is q = second h (eqb 2 h.name) refl q
+    first : HoldsMember (HasForm tree_schema) (record { number = 1; kind = Text }) es ⊎ HoldsOne (HasForm tree_schema) (record { number = 2; kind = Whole } ∷ []) es → LabelOf es
+    first (inl h) = text_label es h
+    first (inr h) = second (first_or_later (HasForm tree_schema) (record { number = 2; kind = Whole }) [] es h)
 
     go : (es ≡ []) ⊎ HoldsOne (HasForm tree_schema) label_members es → LabelOf es
-    go (inl e) = none es e
-    go (inr h) = one h (eqb 1 h.name) refl h.has
-
--- The first child of a form: a message of the form, and the others.
-pub record ChildOf (x : Entry) : Type 0 where
-  pub value : Value
-  pub is : x ≡ (3, message (slots_of value))
-  pub form : HasForm tree_schema 0 value
-
-pub child_formed : (x : Entry) (xs : List Entry) → FormEntries (HasForm tree_schema) child_members (x ∷ xs) → ChildOf x
-child_formed x xs f =
-    let h = exactly_one (HasForm tree_schema) (record { number = 3; kind = Inner 0 }) (x ∷ []) refl (f.0, tt) in
-    record { value = h.form.0; is = same_entry x (3, h.element) h.is ∙ ap (λ (e : Content). (3, e)) h.form.1; form = h.form.2 }
+    go (inl e) = record { label = None; is = e; holds = tt }
+    go (inr h) = first (first_or_later (HasForm tree_schema) (record { number = 1; kind = Text }) (record { number = 2; kind = Whole } ∷ []) es h)
 
 -- ---- the size of a tree
 

@@ -1,10 +1,13 @@
 //! Plain values: what a message of any schema shows, and the calls by which a message type takes
 //! one apart and puts one together.
 
-ghost use Rattle.std.specs.Prelude.{◌≡◌, ◌<◌, ◌^◌, ℕ, Some, ◌∷◌, [], IfOk, option_map};
+ghost use Rattle.std.specs.Prelude.{◌≡◌, ◌<◌, ◌≤◌, ◌^◌, ℕ, pos, Some, None, ◌∷◌, [], IfOk, IsTrue, IsFalse, option_map};
 ghost use Rattle.vx_proto.specs.Value.{view, value_view, entries_view, number, octets};
-ghost use Rattle.vx_proto.specs.Parts.{entries_in, flag_number, number_of, octets_of, message_of, number_in, octets_in, message_in};
+ghost use Rattle.vx_proto.specs.Parts.{entries_in, flag_number, number_of, octets_of, text_of_bytes, text_of, message_of, number_in, octets_in, text_in, message_in};
+ghost use Rattle.vx_proto.specs.Signed.{IsInt32};
+ghost use Rattle.std.specs.Int.{w64, cast_unsigned};
 
+use crate::signed::int32_of;
 use std::alloc::{AllocError, Global};
 
 /// What a member of a message holds.
@@ -58,6 +61,17 @@ impl Element {
         }
     }
 
+    /// The text, if the member holds one: bytes that are UTF-8.
+    pub fn as_text(&self) -> Option<&str>
+        ensures { option_map (λ s. s.now) result ≡ text_of (view self.now) }
+    {
+        match self {
+            Element::Number(_) => None,
+            Element::Octets(s) => as_utf8(s.as_slice()),
+            Element::Message(_) => None,
+        }
+    }
+
     /// The message, if the member holds one.
     pub fn as_message(&self) -> Option<&[Entries]>
         ensures { option_map (λ v. value_view v.now) result ≡ message_of (view self.now) }
@@ -67,6 +81,16 @@ impl Element {
             Element::Octets(_) => None,
             Element::Message(slots) => Some(slots.as_slice()),
         }
+    }
+}
+
+/// The text that bytes are, if they are UTF-8.
+fn as_utf8(bytes: &[u8]) -> Option<&str>
+    ensures { option_map (λ s. s.now) result ≡ text_of_bytes bytes.now }
+{
+    match simdutf8::basic::from_utf8(bytes) {
+        Ok(text) => Some(text),
+        Err(_) => None,
     }
 }
 
@@ -82,7 +106,8 @@ pub fn number_at(slots: &[Entries], slot: usize) -> Option<u64>
 
 /// The number that a slot's first member holds, or 0.
 pub fn u64_at(slots: &[Entries], slot: usize) -> u64
-    ensures { (n : ℕ) → number_in (entries_in (value_view slots.now) slot) ≡ Some n → result ≡ n }
+    ensures same { (n : ℕ) → number_in (entries_in (value_view slots.now) slot) ≡ Some n → result ≡ n }
+    ensures none { number_in (entries_in (value_view slots.now) slot) ≡ None → result ≡ 0 }
 {
     match number_at(slots, slot) {
         Some(n) => n,
@@ -92,7 +117,9 @@ pub fn u64_at(slots: &[Entries], slot: usize) -> u64
 
 /// The number that a slot's first member holds, where it is below 2^32, or 0.
 pub fn u32_at(slots: &[Entries], slot: usize) -> u32
-    ensures { (n : ℕ) → number_in (entries_in (value_view slots.now) slot) ≡ Some n → n < 2 ^ 32 → result ≡ n }
+    ensures same { (n : ℕ) → number_in (entries_in (value_view slots.now) slot) ≡ Some n → n < 2 ^ 32 → result ≡ n }
+    ensures past { (n : ℕ) → number_in (entries_in (value_view slots.now) slot) ≡ Some n → 2 ^ 32 ≤ n → result ≡ 0 }
+    ensures none { number_in (entries_in (value_view slots.now) slot) ≡ None → result ≡ 0 }
 {
     let n = u64_at(slots, slot);
     if n < 1 << 32 { n as u32 } else { 0 }
@@ -100,15 +127,28 @@ pub fn u32_at(slots: &[Entries], slot: usize) -> u32
 
 /// The number that a slot's first member holds, where it is below 256, or 0.
 pub fn u8_at(slots: &[Entries], slot: usize) -> u8
-    ensures { (n : ℕ) → number_in (entries_in (value_view slots.now) slot) ≡ Some n → n < 256 → result ≡ n }
+    ensures same { (n : ℕ) → number_in (entries_in (value_view slots.now) slot) ≡ Some n → n < 256 → result ≡ n }
+    ensures past { (n : ℕ) → number_in (entries_in (value_view slots.now) slot) ≡ Some n → 256 ≤ n → result ≡ 0 }
+    ensures none { number_in (entries_in (value_view slots.now) slot) ≡ None → result ≡ 0 }
 {
     let n = u64_at(slots, slot);
     if n < 256 { n as u8 } else { 0 }
 }
 
+/// The int32 that a slot's first member holds, or 0.
+pub fn i32_at(slots: &[Entries], slot: usize) -> i32
+    ensures same { (n : ℕ) → number_in (entries_in (value_view slots.now) slot) ≡ Some n → IsInt32 n → cast_unsigned w64 result ≡ n }
+    ensures past { (n : ℕ) → number_in (entries_in (value_view slots.now) slot) ≡ Some n → ¬ (IsInt32 n) → result ≡ pos 0 }
+    ensures none { number_in (entries_in (value_view slots.now) slot) ≡ None → result ≡ pos 0 }
+{
+    int32_of(u64_at(slots, slot))
+}
+
 /// Whether the number that a slot's first member holds isn't 0.
 pub fn flag_at(slots: &[Entries], slot: usize) -> bool
-    ensures { (n : ℕ) → number_in (entries_in (value_view slots.now) slot) ≡ Some n → n < 2 → flag_number result ≡ n }
+    ensures same { (n : ℕ) → number_in (entries_in (value_view slots.now) slot) ≡ Some n → n < 2 → flag_number result ≡ n }
+    ensures past { (n : ℕ) → number_in (entries_in (value_view slots.now) slot) ≡ Some n → 2 ≤ n → IsTrue result }
+    ensures none { number_in (entries_in (value_view slots.now) slot) ≡ None → IsFalse result }
 {
     u64_at(slots, slot) != 0
 }
@@ -119,6 +159,16 @@ pub fn octets_at(slots: &[Entries], slot: usize) -> Option<&[u8]>
 {
     match entries_at(slots, slot) {
         [(_, element), ..] => element.as_octets(),
+        [] => None,
+    }
+}
+
+/// The text that a slot's first member holds, if it is one.
+pub fn text_at(slots: &[Entries], slot: usize) -> Option<&str>
+    ensures { option_map (λ s. s.now) result ≡ text_in (entries_in (value_view slots.now) slot) }
+{
+    match entries_at(slots, slot) {
+        [(_, element), ..] => element.as_text(),
         [] => None,
     }
 }

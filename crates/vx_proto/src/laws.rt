@@ -1,12 +1,13 @@
 //! What holds of the definitions of this crate, for each schema at once. A caller of these functions learns the laws.
 
-ghost use Rattle.std.specs.Prelude.{◌≡◌, ◌<◌, ◌≤◌, ◌^◌, ℕ, List, [], length, IsTrue};
+ghost use Rattle.std.specs.Prelude.{◌≡◌, ◌<◌, ◌≤◌, ◌^◌, ◌↔◌, ℕ, ℤ, List, [], ◌++◌, length, IsTrue};
 ghost use Rattle.vx_proto.specs.declared.error.ProtoError.{ProtoError as Refusal};
 ghost use Rattle.vx_proto.specs.Value.{Schema, Value};
 ghost use Rattle.vx_proto.specs.Reads.{Reads, Cause, default_value};
 ghost use Rattle.vx_proto.specs.Form.{HasForm};
 ghost use Rattle.vx_proto.specs.Written.{written, nested};
 ghost use Rattle.vx_proto.specs.Lawful.{is_lawful};
+ghost use Rattle.vx_proto.specs.Signed.{zigzag};
 
 /// At most one value is read from given bytes.
 pub fn one_value()
@@ -27,4 +28,18 @@ pub fn written_is_read()
 /// No bytes read as the value of a message without fields: each plain member at its default, and nothing else.
 pub fn nothing_is_the_default()
     ensures { (s : Schema) (place : ℕ) → Reads s place [] (default_value s place) }
+{}
+
+/// The messages of a lawful schema stay what they are where more messages stand behind them: so a
+/// message type can nest one of another schema, whose messages come first in its own.
+pub fn longer_schema()
+    ensures form { (s t : Schema) (place : ℕ) (v : Value) → IsTrue (is_lawful s) → place < length s → HasForm s place v ↔ HasForm (s ++ t) place v }
+    ensures read { (s t : Schema) (place : ℕ) (bytes : List ℕ) (v : Value) → IsTrue (is_lawful s) → place < length s → Reads s place bytes v ↔ Reads (s ++ t) place bytes v }
+    ensures cause { (s t : Schema) (place : ℕ) (bytes : List ℕ) (e : Refusal) → IsTrue (is_lawful s) → place < length s → Cause s 100 e place bytes ↔ Cause (s ++ t) 100 e place bytes }
+    ensures written { (s t : Schema) (place : ℕ) (v : Value) → IsTrue (is_lawful s) → place < length s → written s place v ≡ written (s ++ t) place v }
+{}
+
+/// Signed numbers of one zigzag number are one number.
+pub fn one_zigzag()
+    ensures { (a b : ℤ) → zigzag a ≡ zigzag b → a ≡ b }
 {}

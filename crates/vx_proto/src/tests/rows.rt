@@ -287,6 +287,28 @@ const EXPRESSIONS: Schema = Schema {
     }],
 };
 
+/// A function over many values: an identifier, and metadata that may stand.
+const AGGREGATES: Schema = Schema {
+    lists: &[SlotList {
+        slots: &[
+            Slot {
+                rule: Rule::Plain,
+                members: &[Member {
+                    number: 1,
+                    kind: Kind::Text,
+                }],
+            },
+            Slot {
+                rule: Rule::Optional,
+                members: &[Member {
+                    number: 2,
+                    kind: Kind::Bytes,
+                }],
+            },
+        ],
+    }],
+};
+
 /// Reads the bytes by the first message of a schema, and writes what was read.
 fn again(alloc: Global, schema: Schema, bytes: &[u8]) -> Result<Vec<u8>, ProtoError> {
     let slots = message_of(alloc, schema, 100, 0, bytes)?;
@@ -484,7 +506,15 @@ fn types_and_scalars(rt: HostRuntime) {
             b"\x42\x08\x0a\x04\x1a\x02\x08\x01\x10\x01",
         ],
     );
-    // A message twice, and two members of a oneof; a member that is no message; a fault inside.
+    // A longer spelling of a number is read where the message's length has room for it.
+    written(
+        &rt,
+        rt.alloc(),
+        TYPES,
+        &[(b"\x1a\x05\x08\x86\x80\x80\x00", b"\x1a\x02\x08\x06")],
+    );
+    // A message twice, and two members of a oneof; a member that is no message; a number that the
+    // message's length cuts; a fault inside.
     refused(
         &rt,
         rt.alloc(),
@@ -494,7 +524,7 @@ fn types_and_scalars(rt: HostRuntime) {
             b"\x0a\x00\x0a\x00",
             b"\x0a\x00\x1a\x00",
             b"\x08\x00",
-            b"\x1a\x02\x08\x86",
+            b"\x1a\x02\x08\x86\x80\x80\x00",
             b"\x42\x04\x0a\x00\x0a\x00",
         ],
     );
@@ -516,6 +546,7 @@ fn types_and_scalars(rt: HostRuntime) {
             b"\x18\xff\x01",
             b"\x20\x2a",
             b"\x31\x00\x00\x00\x00\x00\x00\xf8\x7f",
+            b"\x31\x00\x00\x00\x00\x00\x00\x08\x40",
             b"\x50\xb8\x6d",
             b"\x3a\x02hi",
             b"\x42\x04\x40\xe2\x01\x00",
@@ -548,6 +579,12 @@ fn types_and_scalars(rt: HostRuntime) {
         &[
             b"\x0a\x1dvortex.test.foreign_scalar_fn\x12\x0f\x0a\x0bvortex.root\x1a\x00\x1a\x04\x01\x02\x03\x04",
         ],
+    );
+    kept(
+        &rt,
+        rt.alloc(),
+        AGGREGATES,
+        &[b"\x0a\x1dvortex.test.foreign_aggregate\x12\x03\x07\x08\x09"],
     );
 }
 

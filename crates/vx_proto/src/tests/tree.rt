@@ -151,32 +151,33 @@ impl Model for Tree {
     ghost size_decreases = { λ a h. Prim.omega (arith, most_le-nodes a.children.items) };
 }
 
-const SCHEMA: Schema = Schema {
-    lists: &[SlotList {
-        slots: &[
-            Slot {
-                rule: Rule::Single,
-                members: &[
-                    Member {
-                        number: 1,
-                        kind: Kind::Text,
-                    },
-                    Member {
-                        number: 2,
-                        kind: Kind::Whole,
-                    },
-                ],
-            },
-            Slot {
-                rule: Rule::Repeated,
-                members: &[Member {
-                    number: 3,
-                    kind: Kind::Inner(0),
-                }],
-            },
-        ],
-    }],
+/// The message of trees.
+pub const TREE: SlotList = SlotList {
+    slots: &[
+        Slot {
+            rule: Rule::Single,
+            members: &[
+                Member {
+                    number: 1,
+                    kind: Kind::Text,
+                },
+                Member {
+                    number: 2,
+                    kind: Kind::Whole,
+                },
+            ],
+        },
+        Slot {
+            rule: Rule::Repeated,
+            members: &[Member {
+                number: 3,
+                kind: Kind::Inner(0),
+            }],
+        },
+    ],
 };
+
+const SCHEMA: Schema = Schema { lists: &[TREE] };
 
 /// The plain value of a tree.
 fn slots_of(alloc: Global, tree: &Tree) -> Result<Vec<Entries>, AllocError>

@@ -5,7 +5,7 @@ use Rattle.vx_proto.specs.Wire.{cut}
 use Rattle.vx_proto.specs.WireView.{field_view}
 use Rattle.vx_proto.specs.Value.{view, value_view, list_view, schema_view}
 use Rattle.vx_proto.specs.Reading.{typed, gather_all, decoded}
-use Rattle.vx_proto.proofs.Views.{view_message}
+use Rattle.vx_proto.specs.ViewLaws.{view_message}
 use Rattle.vx_proto.proofs.Loops.{goes_past, goes_on, ends, ends_bad, is_done, message_gives}
 use Rattle.std.proofs.lemmas.Result.{err_from_is_err_and}
 use Rattle.vx_proto.proofs.Views.{view_push}

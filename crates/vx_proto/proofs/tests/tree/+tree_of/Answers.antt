@@ -4,9 +4,10 @@ use Rattle.vx_proto.specs.Parts.{entries_in}
 use Rattle.vx_proto.specs.Form.{FormEntries, HasForm}
 use Rattle.vx_proto.specs.FormLaws.{slots_of_form}
 use Rattle.vx_proto.specs.Written.{content_depth, entries_depth, slots_depth}
-use Rattle.vx_proto.specs.SampleTree.{trees_of, child_slot, child_members, tree_schema, tree_value, label_slot, label_formed, child_formed}
-use Rattle.vx_proto.proofs.Suffixes.{entry_depth_le}
-use Rattle.vx_proto.proofs.TreeSteps.{child_read, entry_form, some_value, no_none, message_is, held_depth, slot_depth_in, all_read}
+use Rattle.vx_proto.specs.SampleTree.{trees_of, child_slot, child_members, tree_schema, tree_value, label_slot, label_formed}
+use Rattle.vx_proto.specs.ViewLaws.{entry_form, some_value, no_value, message_is, entry_depth_le, held_depth, slot_depth_in}
+use Rattle.vx_proto.specs.Repeated.{holds_message}
+use Rattle.vx_proto.proofs.TreeSteps.{child_read, all_read}
 use Rattle.vx_proto.proofs.tests.tree.+tree_of.Goals.{in-Some+in_ok-tree_of+in_ok-push, in_default}
 use Rattle.vx_proto.proofs.tests.tree.+tree_of.Goals as goal
 
@@ -24,14 +25,14 @@ loop-element-preserved t c = λ form.
     let es = c.entries_at-element-items.result.now in
     let i = c.loop-element.element-index in
     let x = c.loop-element-item.result in
-    let child = child_formed (x.0, view x.1) [] (entry_form (HasForm tree_schema) child_members es i x c.loop-element-test.true c.loop-element-item.is form) in
+    let child = holds_message (HasForm tree_schema) 3 0 (x.0, view x.1) (entry_form (HasForm tree_schema) child_members es i x c.loop-element-test.true c.loop-element-item.is form) in
     elim c.match-as_message.branch [
       | in-Some+in_ok-tree_of+in_ok-push w ↦ (let t = w.in_ok-tree_of.field-0 in
           let inner : value_view w.in-Some.child.now ≡ child.value = some_value (value_view w.in-Some.child.now) child.value (w.in-Some.ensures ∙ message_is (view x.1) child.value (ap (λ (e : Entry). e.1) child.is)) in
           let same : tree_value t ≡ child.value = w.in_ok-tree_of.ensures (subst (HasForm tree_schema 0) (sym inner) child.form) ∙ inner in
           let all = child_read c.loop-element.children.items t es i x c.loop-element-test.true c.loop-element-item.is (child.is ∙ ap (λ (v : Value). (3, message (slots_of v))) (sym same)) (c.loop-element.invariant form) in
           ap (λ z. child_slot (trees_of z.items) ++ entries_view (drop (i + 1) es)) w.children-is ∙ ap (λ z. child_slot (trees_of z) ++ entries_view (drop (i + 1) es)) w.in_ok-push.ensures.items ∙ all)
-      | in_default w ↦ absurd (no_none child.value (w.in_default.ensures ∙ message_is (view x.1) child.value (ap (λ (e : Entry). e.1) child.is)))
+      | in_default w ↦ absurd (no_value child.value (w.in_default.ensures ∙ message_is (view x.1) child.value (ap (λ (e : Entry). e.1) child.is)))
     ]
 
 pub returns : goal.returns

@@ -12,5 +12,5 @@ returns-clause-same c = λ form.
     let h = exactly_one _ (record { number = 1; kind = Below (2 ^ 32) }) s.0 s.3 s.4 in
     let n = h.form.0 in
     let whole : v ≡ ((1, number n) ∷ []) ∷ [] = s.2 ∙ ap (λ (t : Value). s.0 ∷ t) s.5 ∙ ap (λ (t : List Entry). t ∷ []) h.is ∙ ap (λ (e : Content). ((1, e) ∷ []) ∷ []) h.form.1 in
-    let same : c.u32_at-offset.result ≡ n = c.u32_at-offset.ensures n (ap (λ w. number_in (entries_in w 0)) whole) h.form.2 in
+    let same : c.u32_at-offset.result ≡ n = c.u32_at-offset.ensures.same n (ap (λ w. number_in (entries_in w 0)) whole) h.form.2 in
     ap (λ (k : ℕ). ((1, number k) ∷ []) ∷ []) same ∙ sym whole
