@@ -1,6 +1,6 @@
 -- Contexts that identifiers are taken into, one after the other.
-use Rattle.std.specs.Prelude.{ℕ, zero, suc, ◌≡◌, ◌<◌, ◌≤◌, ◌+◌, Bool, true, false, ◌&&◌, List, [], ◌∷◌, ◌++◌, Option, Some, None, length, nat_lt, bytes_eq, if◌then◌else◌, All, Contains, refl}
-use Rattle.std.proofs.Common.{arith, sym, ◌∙◌, ap, get_or, append_assoc, append-nil, length-append}
+use Rattle.std.specs.Prelude.{ℕ, zero, suc, ◌≡◌, ◌<◌, Bool, true, false, ◌&&◌, List, [], ◌∷◌, ◌++◌, Option, Some, None, length, nat_lt, bytes_eq, if◌then◌else◌, All, Contains, refl}
+use Rattle.std.proofs.Common.{arith, sym, ◌∙◌, ap, get_or, append_assoc, append-nil}
 use Rattle.std.proofs.lemmas.List.Elements.{All-append, Contains-append_left, Contains-append_right}
 use Rattle.std.proofs.lemmas.Bool.{ltb-true}
 use Rattle.std.proofs.lemmas.Slice.Eq.{bytes_eq-Decides}

@@ -1,6 +1,6 @@
 -- The identifiers of a context that is grown.
-use Rattle.std.proofs.Common.{ℕ, ◌≡◌, ◌<◌, Bool, true, false, List, [], ◌∷◌, Option, Some, None, refl, sym, ap, ◌∙◌}
-use Rattle.std.specs.Prelude.{nat_lt, ◌&&◌, if◌then◌else◌}
+use Rattle.std.proofs.Common.{ℕ, ◌≡◌, List, [], ◌∷◌, Option, Some, None, refl, sym, ap, ◌∙◌}
+use Rattle.std.specs.Prelude.{nat_lt, ◌&&◌}
 use Rattle.std.proofs.lemmas.Option.{cond_some}
 use Rattle.vx_registry.specs.Context.{Context, place_of, with_id, is_allowed, interned, stepped, grown_by}
 use Rattle.vx_serde.specs.Spells.{with_ids}

@@ -1,9 +1,9 @@
 -- The identifiers of a node and of the trees below it, taken in preorder.
-use Rattle.std.specs.Prelude.{ℕ, suc, ◌+◌, ◌≡◌, ◌<◌, ◌≤◌, List, ◌++◌, Some, None, length, take, drop}
+use Rattle.std.specs.Prelude.{ℕ, suc, ◌+◌, ◌≡◌, ◌<◌, ◌≤◌, List, ◌++◌, Some, length, take, drop}
 use Rattle.std.proofs.Common.{sym, ◌∙◌, ap, subst, get_or}
 use Rattle.vx_registry.specs.Context.{Context, grown_by}
 use Rattle.vx_trees.specs.Rose.{label, below, roses_of}
-use Rattle.vx_trees.specs.Walks.{gathered, gathered_below}
+use Rattle.vx_trees.specs.Walks.{gathered_below}
 use Rattle.vx_trees.proofs.Gathering.{gathered-is, gathered_below-take}
 use Rattle.vx_serde.specs.declared.error.WireError.{WireError}
 use Rattle.vx_serde.specs.declared.error.WireError.TheVariants.{OutOfMemory, TooShort, BadTable, TableLimit, BadAlignment, Compressed, OutOfBounds, UnknownIndex, UnknownEncoding, BadMetadata, BadShape, NotPermitted, WireLimit}

@@ -1,18 +1,18 @@
 -- Where a blob spells an array within the limits, no refusal but want of memory has a cause.
-use Rattle.std.proofs.Common.{ℕ, zero, suc, ◌≡◌, ◌+◌, ◌<◌, ◌≤◌, ◌^◌, List, [], ◌∷◌, ◌++◌, Option, Some, None, length, map, refl, sym, ap, ◌∙◌, subst, arith, get_or, length-append, inl, inr}
-use Rattle.std.specs.Prelude.{All, Any, slice_get, ◌⊎◌, IsSome}
+use Rattle.std.proofs.Common.{ℕ, zero, suc, ◌≡◌, List, [], ◌∷◌, ◌++◌, Option, Some, None, length, map, refl, sym, ap, ◌∙◌, subst, arith, length-append, inl, inr}
+use Rattle.std.specs.Prelude.{slice_get, IsSome}
 use Rattle.std.specs.Int.{w32, from_le_bytes}
 use Rattle.vx_buffer.specs.Buffer.{Buffer}
-use Rattle.vx_trees.specs.Rose.{Rose, Roses, node, end, more, label, below, count, roses_list}
-use Rattle.vx_trees.specs.Everywhere.{Everywhere, EverywhereBelow}
+use Rattle.vx_trees.specs.Rose.{node, end, more, label, below, count, roses_list}
+use Rattle.vx_trees.specs.Everywhere.{EverywhereBelow}
 use Rattle.vx_types.specs.Typ.{Typ}
-use Rattle.vx_arrays.specs.Tree.{Tree, Trees, Head, buffers_of}
+use Rattle.vx_arrays.specs.Tree.{Tree, Trees, buffers_of}
 use Rattle.vx_arrays.specs.Places.{Place, places}
 use Rattle.vx_arrays.specs.Sound.{IsSound, IsSoundNode}
 use Rattle.vx_flat.specs.Value.{Fields}
 use Rattle.vx_flat.specs.Shows.{Shows}
-use Rattle.vx_encodings.specs.Metadata.{Reads, IsMetadata}
-use Rattle.vx_encodings.specs.Encodings.{encoding_of, metadata_of, plan_of, IsShaped}
+use Rattle.vx_encodings.specs.Metadata.{IsMetadata}
+use Rattle.vx_encodings.specs.Encodings.{metadata_of, plan_of, IsShaped}
 use Rattle.vx_encodings.specs.Laws.{PlanLaw, OneValueLaw, FairLaw, ShapeLaw}
 use Rattle.vx_encodings.specs.declared.encoding.Encoding.{Encoding}
 use Rattle.vx_encodings.specs.declared.encoding.Metadata.{Metadata}
@@ -23,10 +23,10 @@ use Rattle.vx_serde.specs.declared.error.WireError.TheVariants.{OutOfMemory, Too
 use Rattle.vx_serde.specs.ArraySchema.{array_schema}
 use Rattle.vx_serde.specs.Message.{Descriptor, message_of}
 use Rattle.vx_serde.specs.Wire.{WireHead, Wire, Wires, IsClean, IsCleanNode}
-use Rattle.vx_serde.specs.Blob.{IsBlob, Carries, AreClean, end_of}
-use Rattle.vx_serde.specs.Opening.{IsTooShort, AreRefused, HasRefusedDescriptors, ShowsNoRoot, IsHeavy, IsUnopened}
+use Rattle.vx_serde.specs.Blob.{IsBlob, AreClean}
+use Rattle.vx_serde.specs.Opening.{IsTooShort, AreRefused, HasRefusedDescriptors, ShowsNoRoot}
 use Rattle.vx_serde.specs.Matches.{Matches, AllMatch, IsNodeBy, IsShippedNode}
-use Rattle.vx_serde.specs.Placed.{IsBy, IsChild, HasPlan, HoldsAt, HoldsUnder, HoldsSomewhere}
+use Rattle.vx_serde.specs.Placed.{IsBy, IsChild, HoldsAt, HoldsUnder}
 use Rattle.vx_serde.specs.Causes.{Call, IsCaused, IsCausedIn, IsCausedBelow, SpellsOne, IsUnregistered, HasBadMetadata, HasBadShape, LacksId, LacksBuffer}
 use Rattle.vx_serde.specs.Spells.{Spells, KeepsReaderLimits, KeepsWriterLimits}
 use Rattle.vx_serde.proofs.NodeTold.{all_count}

@@ -1,10 +1,9 @@
 -- A node's fields, one by one.
-use Rattle.std.proofs.Common.{ℕ, zero, suc, ◌≡◌, ◌+◌, ◌*◌, ◌<◌, ◌≤◌, List, [], ◌∷◌, ◌++◌, length, get_or, take, map, refl, ap, sym, ◌∙◌, subst, arith, add-one, Vec, Global}
-use Rattle.vx_flat.specs.declared.schema.FieldKind.{FieldKind}
-use Rattle.vx_flat.specs.declared.schema.FieldKind.TheVariants.{Number, Vector, Tables, Table}
-use Rattle.vx_flat.specs.declared.schema.Width.TheVariants.{One, Two}
+use Rattle.std.proofs.Common.{ℕ, zero, suc, ◌≡◌, ◌+◌, ◌<◌, ◌≤◌, List, [], ◌∷◌, ◌++◌, length, get_or, take, map, ap, sym, ◌∙◌, subst, arith, add-one, Vec, Global}
+use Rattle.vx_flat.specs.declared.schema.FieldKind.TheVariants.{Number, Tables}
+use Rattle.vx_flat.specs.declared.schema.Width.TheVariants.{Two}
 use Rattle.vx_flat.specs.declared.value.FieldValue.{FieldValue}
-use Rattle.vx_flat.specs.Value.{Fields, Rows}
+use Rattle.vx_flat.specs.Value.{Rows}
 use Rattle.vx_flat.specs.View.{view, views, rows_from}
 use Rattle.vx_flat.specs.IsOf.{AreOf, IsOfKind, AreRowsOf}
 use Rattle.vx_buffer.specs.Buffer.{Buffer}
@@ -12,7 +11,7 @@ use Rattle.vx_trees.specs.Rose.{Rose, Roses, node, end, more, roses_of}
 use Rattle.vx_trees.specs.Walks as walk
 use Rattle.vx_serde.specs.ArraySchema.{array_schema, array_fields, node_fields}
 use Rattle.vx_serde.specs.Message.{NodeFields, node_of, nodes_of, nodes_in, number_in, bytes_in, indices_of}
-use Rattle.vx_serde.specs.Wire.{Wire, Wires}
+use Rattle.vx_serde.specs.Wire.{Wire}
 use Rattle.vx_serde.specs.Blob.{wire_of, wires_of}
 
 -- what the first four fields of a node tell

@@ -3,17 +3,17 @@ use Rattle.std.proofs.Common.{ℕ, zero, suc, ◌≡◌, ◌+◌, ◌<◌, ◌�
 use Rattle.std.specs.Prelude.{slice_get}
 use Rattle.std.proofs.lemmas.List.{take_all}
 use Rattle.vx_buffer.specs.Buffer.{Buffer}
-use Rattle.vx_trees.specs.Rose.{Rose, Roses, node, end, more, label, below, roses_of, roses_list, count}
-use Rattle.vx_trees.proofs.Lists.{roses_of-roses_list, roses_list-roses_of, count-roses_of}
+use Rattle.vx_trees.specs.Rose.{node, end, more, label, below, roses_of, roses_list, count}
+use Rattle.vx_trees.proofs.Lists.{roses_of-roses_list, roses_list-roses_of}
 use Rattle.vx_types.specs.Typ.{Typ}
 use Rattle.vx_types.specs.Seen.{typ}
-use Rattle.vx_arrays.specs.Tree.{Tree, Trees, buffers_of}
+use Rattle.vx_arrays.specs.Tree.{Tree, Trees}
 use Rattle.vx_arrays.specs.Places.{Place, places}
 use Rattle.vx_encodings.specs.Metadata.{IsMetadata, Reads}
 use Rattle.vx_encodings.specs.Encodings.{plan_of, IsShaped, metadata_of}
 use Rattle.vx_encodings.specs.Parts.{HasParts}
-use Rattle.vx_encodings.specs.Plans.{IsPlanned, HasNoPlan}
-use Rattle.vx_encodings.specs.Refusals.{IsUnplanned, IsUnbuilt, IsMisshaped}
+use Rattle.vx_encodings.specs.Plans.{IsPlanned}
+use Rattle.vx_encodings.specs.Refusals.{IsUnplanned, IsUnbuilt}
 use Rattle.vx_encodings.specs.declared.encoding.Encoding.{Encoding}
 use Rattle.vx_encodings.specs.declared.encoding.Metadata.{Metadata}
 use Rattle.vx_encodings.specs.declared.error.EncodingError.{EncodingError}
@@ -24,7 +24,7 @@ use Rattle.vx_serde.specs.declared.error.WireError.{WireError}
 use Rattle.vx_serde.specs.declared.error.WireError.TheVariants.{OutOfMemory, OutOfBounds, UnknownIndex, UnknownEncoding, BadMetadata, BadShape}
 use Rattle.vx_serde.specs.Wire.{WireHead, Wire, Wires}
 use Rattle.vx_serde.specs.Matches.{Matches, AllMatch, IsNodeBy, IsShippedNode}
-use Rattle.vx_serde.specs.Placed.{IsBy, IsChild, HasPlan, HoldsAt, HoldsUnder, HoldsSomewhere}
+use Rattle.vx_serde.specs.Placed.{IsBy, IsChild, HasPlan}
 use Rattle.vx_serde.specs.Causes.{IsCausedIn, IsCausedUnder, IsLacking, error_of}
 
 -- ---- matching

@@ -1,10 +1,9 @@
 -- A wire tree tells at most one sound array of a type and a length.
-use Rattle.std.proofs.Common.{ℕ, suc, ◌≡◌, List, [], ◌∷◌, Option, Some, None, map, refl, sym, ap, ◌∙◌, subst}
-use Rattle.vx_buffer.specs.Buffer.{Buffer}
-use Rattle.vx_trees.specs.Rose.{Rose, Roses, node, end, more, label, below, count}
+use Rattle.std.proofs.Common.{ℕ, ◌≡◌, List, [], ◌∷◌, Option, Some, None, map, refl, sym, ap, ◌∙◌, subst}
+use Rattle.vx_trees.specs.Rose.{node, end, more, label, below, count}
 use Rattle.vx_trees.specs.Everywhere.{EverywhereBelow}
 use Rattle.vx_types.specs.Typ.{Typ}
-use Rattle.vx_arrays.specs.Tree.{Head, Tree, Trees, buffers_of, encoding_id_of}
+use Rattle.vx_arrays.specs.Tree.{Head, Tree, Trees, buffers_of}
 use Rattle.vx_arrays.specs.Places.{Place, places}
 use Rattle.vx_arrays.specs.Sound.{IsSound, IsSoundNode}
 use Rattle.vx_arrays.specs.Normal.{IsNormal, IsNormalNode}
@@ -14,7 +13,6 @@ use Rattle.vx_encodings.specs.Metadata.{Reads}
 use Rattle.vx_encodings.specs.Encodings.{encoding_of, metadata_of, body_of, plan_of}
 use Rattle.vx_encodings.specs.Laws.{BodyLaw, PlanLaw, OneValueLaw}
 use Rattle.vx_encodings.specs.declared.encoding.Encoding.{Encoding}
-use Rattle.vx_encodings.specs.declared.encoding.Metadata.{Metadata}
 use Rattle.vx_registry.specs.Session.{SessionMeaning, Reader, shipped}
 use Rattle.vx_serde.specs.Wire.{WireHead, Wire, Wires, IsClean, IsCleanNode}
 use Rattle.vx_serde.specs.Blob.{Carries}

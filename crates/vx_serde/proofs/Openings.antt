@@ -1,5 +1,5 @@
 -- Why a blob is not opened, and what it carries where it is.
-use Rattle.std.proofs.Common.{ℕ, ◌≡◌, ◌+◌, ◌-◌, ◌≤◌, List, [], ◌∷◌, ◌++◌, Option, Some, None, length, take, drop, refl, ap, sym, ◌∙◌, subst, arith, append_assoc}
+use Rattle.std.proofs.Common.{ℕ, ◌≡◌, ◌-◌, List, ◌++◌, Some, length, refl, ap, ◌∙◌, arith, append_assoc}
 use Rattle.std.specs.Prelude.{slice_range}
 use Rattle.std.proofs.Math.Seq.{take-append_seam}
 use Rattle.vx_flat.specs.declared.error.FlatError.{FlatError}
@@ -13,9 +13,9 @@ use Rattle.vx_trees.specs.Rose.{Rose}
 use Rattle.vx_serde.specs.declared.error.WireError.{WireError}
 use Rattle.vx_serde.specs.declared.error.WireError.TheVariants.{OutOfMemory, BadAlignment, Compressed, OutOfBounds}
 use Rattle.vx_serde.specs.ArraySchema.{array_schema}
-use Rattle.vx_serde.specs.Message.{Descriptor, NodeFields, message_of}
+use Rattle.vx_serde.specs.Message.{NodeFields, message_of}
 use Rattle.vx_serde.specs.Wire.{Wire}
-use Rattle.vx_serde.specs.Blob.{IsBlob, Carries, AreClean, buffers_at, wire_of}
+use Rattle.vx_serde.specs.Blob.{IsBlob, AreClean, buffers_at, wire_of}
 use Rattle.vx_serde.specs.Opening.{IsUnopened, IsOpened, AreRefused, table_error}
 
 -- the message is not read

@@ -1,5 +1,5 @@
 -- Descriptors are read eight bytes at a time.
-use Rattle.std.proofs.Common.{ℕ, zero, suc, ◌≡◌, ◌<◌, ◌≤◌, List, [], ◌∷◌, length, get_or, drop, refl, arith}
+use Rattle.std.proofs.Common.{ℕ, ◌≡◌, ◌<◌, ◌≤◌, List, [], ◌∷◌, length, get_or, drop, refl, arith}
 use Rattle.std.specs.Int.{w16, w32, from_le_bytes}
 use Rattle.vx_serde.specs.Message.{Descriptor, descriptors_of}
 

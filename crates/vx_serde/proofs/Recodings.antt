@@ -1,6 +1,6 @@
 -- What recoding a blob gives, and why it does not.
-use Rattle.std.proofs.Common.{ℕ, ◌≡◌, ◌≤◌, List, [], ◌∷◌, ◌++◌, Option, Some, None, length, refl, sym, ap, ◌∙◌, subst, inl, inr, append-nil}
-use Rattle.std.specs.Prelude.{All, Contains}
+use Rattle.std.proofs.Common.{ℕ, ◌≡◌, List, [], Some, refl, sym, ap, ◌∙◌, subst, inl, inr, append-nil}
+use Rattle.std.specs.Prelude.{Contains}
 use Rattle.std.proofs.lemmas.List.Elements.{All-nil}
 use Rattle.vx_trees.specs.Rose.{label}
 use Rattle.vx_types.specs.Typ.{Typ}
@@ -15,15 +15,15 @@ use Rattle.vx_serde.specs.declared.error.WireError.TheVariants.{OutOfMemory, Too
 use Rattle.vx_serde.specs.declared.options.SerializeOptions.{SerializeOptions}
 use Rattle.vx_serde.specs.ArraySchema.{array_schema}
 use Rattle.vx_serde.specs.Wire.{Wire}
-use Rattle.vx_serde.specs.Blob.{IsBlob, Carries}
+use Rattle.vx_serde.specs.Blob.{Carries}
 use Rattle.vx_serde.specs.Numbered.{ids_in}
 use Rattle.vx_serde.specs.Opening.{IsUnopened, IsOpened}
 use Rattle.vx_serde.specs.Matches.{Matches}
 use Rattle.vx_serde.specs.Written.{blob_bytes, IsWritable}
 use Rattle.vx_serde.specs.KeptContext.{KeepsContext}
 use Rattle.vx_serde.specs.Unwritten.{IsUnwritten}
-use Rattle.vx_serde.specs.Spells.{Spells, KeepsReaderLimits, KeepsWriterLimits, wire, blob_of, ids_after}
-use Rattle.vx_serde.specs.Causes.{Call, IsCaused, IsCausedIn, IsCausedBelow, SpellsOne}
+use Rattle.vx_serde.specs.Spells.{Spells, KeepsReaderLimits, KeepsWriterLimits, wire, blob_of}
+use Rattle.vx_serde.specs.Causes.{Call, IsCaused, IsCausedIn}
 use Rattle.vx_serde.proofs.CarriedOnce.{one_blob}
 use Rattle.vx_serde.proofs.OneArray.{matched-clean, normal}
 use Rattle.vx_serde.proofs.WrittenAgain.{ids_in-wire, grown-ids}

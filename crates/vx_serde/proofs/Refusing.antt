@@ -1,5 +1,5 @@
 -- A descriptor that is refused, among the others.
-use Rattle.std.proofs.Common.{ℕ, ◌≡◌, ◌+◌, ◌<◌, ◌≤◌, List, length, get_or, take, sym, arith, subst}
+use Rattle.std.proofs.Common.{ℕ, ◌≡◌, ◌+◌, ◌<◌, List, length, get_or, take, sym, arith}
 use Rattle.vx_serde.specs.declared.error.WireError.{WireError}
 use Rattle.vx_serde.specs.declared.error.WireError.TheVariants.{BadAlignment, Compressed, OutOfBounds}
 use Rattle.vx_serde.specs.Message.{Descriptor}

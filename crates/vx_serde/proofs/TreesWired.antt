@@ -1,6 +1,6 @@
 -- The wire trees of several arrays, one by one.
-use Rattle.std.proofs.Common.{ℕ, zero, suc, ◌≡◌, ◌+◌, ◌<◌, List, [], ◌∷◌, ◌++◌, refl, ap, sym, ◌∙◌, arith, take, length, get_or, add-one}
-use Rattle.vx_trees.specs.Rose.{Rose, Roses, node, end, more, roses_of}
+use Rattle.std.proofs.Common.{ℕ, zero, suc, ◌≡◌, ◌+◌, ◌<◌, List, [], ◌∷◌, ◌++◌, ap, ◌∙◌, arith, take, length, get_or, add-one}
+use Rattle.vx_trees.specs.Rose.{end, more, roses_of}
 use Rattle.vx_arrays.specs.Tree.{Tree}
 use Rattle.vx_registry.specs.Session.{SessionMeaning}
 use Rattle.vx_serde.specs.Wire.{Wire}

@@ -1,6 +1,6 @@
 -- What is gathered at a node, before, at and behind one of the trees below it.
-use Rattle.std.specs.Prelude.{ℕ, zero, suc, ◌≡◌, ◌<◌, ◌≤◌, ◌+◌, List, [], ◌∷◌, ◌++◌, length, take, drop, refl}
-use Rattle.std.proofs.Common.{arith, sym, ◌∙◌, ap, get_or, append_assoc, append-nil, length-append, drop-cons}
+use Rattle.std.specs.Prelude.{ℕ, suc, ◌≡◌, ◌<◌, ◌≤◌, ◌+◌, List, [], ◌∷◌, ◌++◌, length, take, drop, refl}
+use Rattle.std.proofs.Common.{arith, sym, ◌∙◌, ap, get_or, append_assoc, length-append, drop-cons}
 use Rattle.std.proofs.lemmas.List.{take-append-drop, take_all}
 use Rattle.vx_trees.specs.Rose.{Rose, label, below, roses_of}
 use Rattle.vx_trees.specs.Walks.{gathered, gathered_below}

@@ -1,7 +1,7 @@
 -- A blob whole: its message, its limits and its buffers.
-use Rattle.std.specs.Prelude.{ℕ, zero, suc, ◌≡◌, ◌<◌, ◌≤◌, ◌+◌, ◌*◌, ◌-◌, ◌^◌, false, List, [], ◌∷◌, ◌++◌, Some, None, length, replicate, All, refl}
+use Rattle.std.specs.Prelude.{ℕ, ◌≡◌, ◌<◌, ◌≤◌, ◌+◌, ◌*◌, ◌-◌, ◌^◌, false, List, [], ◌∷◌, ◌++◌, Some, length, replicate, All, refl}
 use Rattle.std.specs.Int.{w32, to_le_bytes}
-use Rattle.std.proofs.Common.{arith, sym, ◌∙◌, ap, subst, append_assoc, append-nil, length-append}
+use Rattle.std.proofs.Common.{arith, sym, ◌∙◌, ap, subst, append-nil, length-append}
 use Rattle.std.proofs.lemmas.List.{length-replicate}
 use Rattle.vx_buffer.specs.Buffer.{Buffer}
 use Rattle.vx_flat.specs.IsOf.{AreOf, IsOf}
@@ -15,13 +15,13 @@ use Rattle.vx_serde.specs.declared.error.WireError.{WireError}
 use Rattle.vx_serde.specs.declared.error.WireError.TheVariants.{OutOfMemory, TooShort, BadTable, TableLimit, BadAlignment, Compressed, OutOfBounds, UnknownIndex, UnknownEncoding, BadMetadata, BadShape, NotPermitted, WireLimit}
 use Rattle.vx_serde.specs.declared.options.SerializeOptions.{SerializeOptions}
 use Rattle.vx_serde.specs.ArraySchema.{array_schema, node_fields}
-use Rattle.vx_serde.specs.Describable.{IsDescribable, AreDescribable}
+use Rattle.vx_serde.specs.Describable.{AreDescribable}
 use Rattle.vx_serde.specs.Message.{Descriptor}
 use Rattle.vx_serde.specs.MessageValue.{node_value, message_value, descriptors_bytes}
 use Rattle.vx_serde.specs.Numbered.{ids_in, buffers_in, numbered}
 use Rattle.vx_serde.specs.Placing.{pad, descriptors_from, data_from, data_end}
 use Rattle.vx_serde.proofs.GrownIds.{grown_by-ids}
-use Rattle.vx_serde.specs.Unwritten.{IsUngrown, IsUnwritten, KeepsTreeLimits, IsLaidOut, IsNotLaidOut, IsTooHeavy}
+use Rattle.vx_serde.specs.Unwritten.{IsUnwritten, KeepsTreeLimits, IsLaidOut, IsNotLaidOut, IsTooHeavy}
 use Rattle.vx_serde.specs.Wire.{Wire}
 use Rattle.vx_serde.specs.Written.{message_bytes, message_pad, blob_bytes, IsWritable}
 use Rattle.vx_serde.specs.WrittenBuffers.{joined, unaligned, pad_buffers, data_buffers, greatest_exponent, written_buffers}

@@ -1,17 +1,15 @@
 -- The blob that is written for an array spells it again.
-use Rattle.std.proofs.Common.{ℕ, ◌≡◌, ◌≤◌, List, [], ◌∷◌, ◌++◌, Option, Some, None, length, map, refl, sym, ap, ◌∙◌, subst}
+use Rattle.std.proofs.Common.{ℕ, ◌≡◌, ◌≤◌, List, [], ◌∷◌, ◌++◌, Some, length, refl, sym, ap, ◌∙◌, subst}
 use Rattle.std.specs.Prelude.{All, slice_get}
-use Rattle.vx_buffer.specs.Buffer.{Buffer}
-use Rattle.vx_trees.specs.Rose.{node, end, more, label, below}
-use Rattle.vx_trees.specs.Walks.{gathered, gathered_below}
+use Rattle.vx_trees.specs.Rose.{node, end, more, label}
+use Rattle.vx_trees.specs.Walks.{gathered_below}
 use Rattle.vx_trees.specs.Everywhere.{EverywhereBelow}
 use Rattle.vx_types.specs.Typ.{Typ}
 use Rattle.vx_arrays.specs.Tree.{Tree, Trees, buffers_of, encoding_id_of, encoding_ids}
-use Rattle.vx_encodings.specs.Encodings.{id_of, encoding_of}
+use Rattle.vx_encodings.specs.Encodings.{id_of}
 use Rattle.vx_encodings.specs.Laws.{IdLaw, ReadBackLaw}
-use Rattle.vx_encodings.specs.declared.encoding.Encoding.{Encoding}
 use Rattle.vx_registry.specs.Context.{Context, grown, grown_by}
-use Rattle.vx_registry.specs.Session.{SessionMeaning, Reader, shipped, IsPaired}
+use Rattle.vx_registry.specs.Session.{SessionMeaning, shipped, IsPaired}
 use Rattle.vx_serde.specs.declared.options.SerializeOptions.{SerializeOptions}
 use Rattle.vx_serde.specs.Message.{message_of}
 use Rattle.vx_serde.specs.Wire.{Wire, Wires, IsClean, IsCleanNode}

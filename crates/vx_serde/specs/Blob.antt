@@ -1,13 +1,13 @@
 -- What a blob carries: its segment, its message, and the wire tree that they tell.
-use Rattle.std.specs.Prelude.{ℕ, ◌≡◌, ◌≤◌, ◌+◌, List, [], ◌∷◌, ◌++◌, Option, Some, map, length, take, drop, slice_get, All}
+use Rattle.std.specs.Prelude.{ℕ, ◌≡◌, ◌≤◌, ◌+◌, List, [], ◌∷◌, ◌++◌, Some, map, length, take, drop, slice_get, All}
 use Rattle.std.specs.Int.{w32, from_le_bytes}
 use Rattle.vx_buffer.specs.Buffer.{Buffer}
 use Rattle.vx_flat.specs.Value.{Fields}
 use Rattle.vx_flat.specs.Shows.{Shows}
 use Rattle.vx_trees.specs.Rose.{Rose, Roses, node, end, more}
 use Rattle.vx_serde.specs.ArraySchema.{array_schema}
-use Rattle.vx_serde.specs.Message.{Descriptor, NodeFields, Message, message_of}
-use Rattle.vx_serde.specs.Wire.{WireHead, Wire, Wires}
+use Rattle.vx_serde.specs.Message.{Descriptor, NodeFields, message_of}
+use Rattle.vx_serde.specs.Wire.{Wire, Wires}
 
 -- A blob is a segment, a message, and the message's length as a word of four bytes.
 pub record IsBlob (blob segment message : List ℕ) : Type 0 where

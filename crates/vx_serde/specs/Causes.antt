@@ -16,7 +16,7 @@ use Rattle.vx_registry.specs.Session.{SessionMeaning}
 use Rattle.vx_serde.specs.declared.error.WireError.{WireError}
 use Rattle.vx_serde.specs.declared.error.WireError.TheVariants.{OutOfMemory, TooShort, BadTable, TableLimit, BadAlignment, Compressed, OutOfBounds, UnknownIndex, UnknownEncoding, BadMetadata, BadShape, NotPermitted, WireLimit}
 use Rattle.vx_serde.specs.declared.options.SerializeOptions.{SerializeOptions}
-use Rattle.vx_serde.specs.Wire.{WireHead, Wire}
+use Rattle.vx_serde.specs.Wire.{Wire}
 use Rattle.vx_serde.specs.Blob.{Carries}
 use Rattle.vx_serde.specs.Opening.{IsUnopened}
 use Rattle.vx_serde.specs.Placed.{IsBy, Claim, HoldsSomewhere, HoldsUnder}

@@ -1,5 +1,5 @@
 -- Buffers that a descriptor can tell.
-use Rattle.std.specs.Prelude.{ℕ, ◌≤◌, ◌-◌, ◌^◌, List, length, All}
+use Rattle.std.specs.Prelude.{◌≤◌, ◌-◌, ◌^◌, List, length, All}
 use Rattle.vx_buffer.specs.Buffer.{Buffer}
 
 -- The exponent is at most 16, and the length fits four bytes.

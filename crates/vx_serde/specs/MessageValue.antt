@@ -1,7 +1,7 @@
 -- The table value that is written for an array message.
 use Rattle.std.specs.Prelude.{ℕ, ◌<◌, ◌^◌, List, [], ◌∷◌, ◌++◌, All}
 use Rattle.std.specs.Int.{w16, w32, to_le_bytes}
-use Rattle.vx_flat.specs.Value.{Field, absent, number, elements, table, tables, Fields, no_fields, field, Rows, no_rows, row}
+use Rattle.vx_flat.specs.Value.{absent, number, elements, table, tables, Fields, no_fields, field, Rows, no_rows, row}
 use Rattle.vx_trees.specs.Rose.{Rose, Roses, node, end, more}
 use Rattle.vx_trees.specs.Everywhere.{Everywhere}
 use Rattle.vx_serde.specs.Message.{Descriptor, NodeFields}

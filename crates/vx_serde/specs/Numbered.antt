@@ -2,7 +2,7 @@
 use Rattle.std.specs.Prelude.{ℕ, zero, suc, ◌+◌, List, [], ◌∷◌, Option, Some, None, length}
 use Rattle.vx_buffer.specs.Buffer.{Buffer}
 use Rattle.vx_trees.specs.Rose.{Rose, Roses, node, end, more}
-use Rattle.vx_trees.specs.Walks.{gathered, gathered_below}
+use Rattle.vx_trees.specs.Walks.{gathered}
 use Rattle.vx_registry.specs.Context.{place_of}
 use Rattle.vx_serde.specs.Message.{NodeFields}
 use Rattle.vx_serde.specs.Wire.{WireHead, Wire, Wires}

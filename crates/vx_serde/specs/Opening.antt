@@ -11,7 +11,7 @@ use Rattle.vx_trees.specs.Rose.{Rose}
 use Rattle.vx_serde.specs.declared.error.WireError.{WireError}
 use Rattle.vx_serde.specs.declared.error.WireError.TheVariants.{OutOfMemory, TooShort, BadTable, TableLimit, BadAlignment, Compressed, OutOfBounds, WireLimit}
 use Rattle.vx_serde.specs.ArraySchema.{array_schema}
-use Rattle.vx_serde.specs.Message.{Descriptor, NodeFields, Message, message_of}
+use Rattle.vx_serde.specs.Message.{Descriptor, NodeFields, message_of}
 use Rattle.vx_serde.specs.Blob.{IsBlob, Carries, AreClean, end_of}
 use Rattle.vx_serde.specs.Wire.{Wire}
 

@@ -1,5 +1,5 @@
 -- When a blob spells an array, and the blob that is written for one.
-use Rattle.std.specs.Prelude.{ℕ, ◌≡◌, List, [], ◌∷◌, Some, map, IsSome}
+use Rattle.std.specs.Prelude.{ℕ, ◌≡◌, List, [], ◌∷◌, Some, map}
 use Rattle.vx_trees.specs.Rose.{node, end, more, label}
 use Rattle.vx_types.specs.Typ.{Typ}
 use Rattle.vx_arrays.specs.Tree.{Tree, Trees, encoding_id_of, buffers_of}

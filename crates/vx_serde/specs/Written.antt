@@ -1,7 +1,6 @@
 -- The bytes that are written for a wire tree.
-use Rattle.std.specs.Prelude.{ℕ, ◌+◌, ◌≤◌, ◌-◌, ◌^◌, List, [], ◌++◌, length, replicate, false, All}
+use Rattle.std.specs.Prelude.{ℕ, ◌+◌, ◌≤◌, ◌-◌, ◌^◌, List, ◌++◌, length, replicate, false, All}
 use Rattle.std.specs.Int.{w32, to_le_bytes}
-use Rattle.vx_buffer.specs.Buffer.{Buffer}
 use Rattle.vx_flat.specs.Layout.{layout}
 use Rattle.vx_flat.specs.Weight.{weight}
 use Rattle.vx_flat.specs.Limits.{limits, IsLight}

@@ -1,11 +1,11 @@
-use Rattle.std.proofs.Common.{arith, ◌≡◌, ap, sym, ◌∙◌, length}
-use Rattle.vx_trees.specs.Rose.{label, below, count}
+use Rattle.std.proofs.Common.{arith, ap, sym, ◌∙◌}
+use Rattle.vx_trees.specs.Rose.{count}
 use Rattle.vx_trees.specs.Walks as walk
 use Rattle.vx_trees.proofs.Counting.{nodes-is, nodes-at}
 use Rattle.vx_trees.proofs.Lists.{count-roses_of}
 use Rattle.vx_types.specs.Seen.{typ}
 use Rattle.vx_registry.specs.Session.{registry_meaning}
-use Rattle.vx_serde.specs.Placed.{IsBy, HasPlan}
+use Rattle.vx_serde.specs.Placed.{IsBy}
 use Rattle.vx_serde.proofs.NodeTold.{all_match-snoc, places-snoc, matches-parts, get_at, caused_at, caused_by_child, IsHeadOf, planned, caused_by_build, all_count}
 use Rattle.vx_serde.proofs.decoding.+decode.Goals as goal
 

@@ -1,4 +1,4 @@
-use Rattle.std.proofs.Common.{◌≡◌, ◌≤◌, length, arith}
+use Rattle.std.proofs.Common.{◌≤◌, length, arith}
 use Rattle.vx_serde.proofs.Pieces.{descriptors_of-eight}
 use Rattle.vx_serde.proofs.message.first_descriptor.Goals as goal
 

@@ -1,8 +1,8 @@
-use Rattle.std.proofs.Common.{ap, sym, ◌∙◌, subst, List}
+use Rattle.std.proofs.Common.{ap, sym, ◌∙◌, subst}
 use Rattle.std.specs.Prelude.{map}
-use Rattle.vx_flat.specs.Value.{Field, tables}
+use Rattle.vx_flat.specs.Value.{Field}
 use Rattle.vx_flat.specs.View.{view, views, rows_from}
-use Rattle.vx_flat.specs.IsOf.{IsOfKind, AreRowsOf}
+use Rattle.vx_flat.specs.IsOf.{IsOfKind}
 use Rattle.vx_flat.specs.declared.schema.FieldKind.TheVariants.{Tables}
 use Rattle.vx_serde.specs.ArraySchema.{array_schema}
 use Rattle.vx_serde.specs.Message.{nodes_of, nodes_in}

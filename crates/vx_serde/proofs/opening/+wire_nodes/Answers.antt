@@ -1,4 +1,4 @@
-use Rattle.std.proofs.Common.{arith, ◌≡◌, ap, sym, ◌∙◌, map}
+use Rattle.std.proofs.Common.{arith, ap, sym, ◌∙◌, map}
 use Rattle.std.specs.Prelude.{slice_get}
 use Rattle.vx_trees.specs.Rose.{node}
 use Rattle.vx_serde.specs.Blob.{wire_of, wires_of}

@@ -1,9 +1,6 @@
-use Rattle.std.proofs.Common.{◌≡◌, ◌∙◌, ap, sym, List, ℕ, Err}
-use Rattle.std.specs.Prelude.{slice_range}
+use Rattle.std.proofs.Common.{◌∙◌, ap, Err}
 use Rattle.vx_flat.specs.View.{views}
-use Rattle.vx_flat.specs.IsOf.{AreOf}
-use Rattle.vx_serde.specs.Message.{message_of, node_of}
-use Rattle.vx_serde.specs.Blob.{IsBlob}
+use Rattle.vx_serde.specs.Message.{message_of}
 use Rattle.vx_serde.proofs.Openings.{unread, refused, segment_is, opened}
 use Rattle.vx_serde.proofs.opening.open.Goals as goal
 

@@ -1,5 +1,4 @@
-use Rattle.std.proofs.Common.{arith, ◌≡◌, ◌≤◌, sym, get_or, subst, length, ℕ}
-use Rattle.vx_serde.specs.declared.error.WireError.{WireError}
+use Rattle.std.proofs.Common.{arith, ◌≡◌, ◌≤◌, get_or, subst, ℕ}
 use Rattle.vx_serde.specs.Message.{Descriptor}
 use Rattle.vx_serde.specs.Opening.{IsUndescribed}
 use Rattle.vx_serde.proofs.Descriptions.{end_of-take, buffers_at-take, at_place, one_more}

@@ -1,4 +1,4 @@
-use Rattle.std.proofs.Common.{◌≡◌, ◌∙◌, sym, subst, List, ℕ}
+use Rattle.std.proofs.Common.{◌∙◌, sym, subst, List, ℕ}
 use Rattle.vx_types.specs.Seen.{typ}
 use Rattle.vx_registry.specs.Session.{registry_meaning}
 use Rattle.vx_serde.specs.Spells.{Spells}
