@@ -22,6 +22,9 @@ use Rattle.vx_flat.specs.Pieces.{Piece, table_piece, links_piece, text_piece, fi
 use Rattle.vx_flat.specs.Pieces.{field_pieces, fields_pieces, rows_pieces, pieces}
 use Rattle.vx_flat.specs.Linking.{width_at, cells_of, left_by_all, firsts, rests, Linked, nothing_linked, before}
 use Rattle.vx_flat.specs.Linking.{all_before, linked}
+use Rattle.vx_flat.specs.Linking.{written_length}
+use Rattle.vx_flat.specs.Layout.{layout, bytes_of}
+use Rattle.vx_flat.proofs.Lengths.{bytes_length}
 use Rattle.vx_flat.proofs.Standing.{length_map}
 
 -- ---- entries
@@ -318,3 +321,7 @@ value_linked s vs h =
     ap (λ z. before 0 (table_piece (entries ks vs)) z) (fields_before s ks vs 1 nothing_linked h)
     ∙ table_before s ks vs 0 (fields_blocks s ks vs 1) nothing_linked h in
     ap (λ z. z.blocks) e ∙ append-nil (blocks s vs)
+
+pub value_length : (s : Schema) (vs : Fields) → IsOf s vs → written_length (pieces s vs) ≡ length (layout false s vs)
+value_length s vs h =
+    sym (bytes_length (pieces s vs)) ∙ ap (λ z. length (bytes_of false z)) (value_linked s vs h)

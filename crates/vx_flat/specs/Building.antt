@@ -132,3 +132,10 @@ IsRefused old p TableLimit new = ⊥
 pub record Keeps (old new : Built) : Type 0 where
   pub more : List Piece
   pub blocks : new.blocks ≡ old.blocks ++ more
+
+-- Why writing these blocks stopped, and what is left.
+abbrev pub IsStopped : Built → List Piece → FlatError → Built → Type 0
+IsStopped old ps OutOfMemory new = Keeps old new
+IsStopped old ps MessageTooLong new = Keeps old new × (new.failed ≡ true) × IsTooLong old ps
+IsStopped old ps BadTable new = ⊥
+IsStopped old ps TableLimit new = ⊥
