@@ -1,5 +1,5 @@
 -- The plain piece that a `Piece` stands for, and what a `Builder` has built.
-use Rattle.std.specs.Prelude.{◌≡◌, ℕ, ◌+◌, ◌*◌, ◌<◌, ◌≤◌, ◌^◌, Bool, true, List, [], ◌∷◌, ◌++◌}
+use Rattle.std.specs.Prelude.{◌≡◌, ℕ, ◌+◌, ◌%◌, ◌<◌, ◌≤◌, ◌^◌, Bool, true, List, [], ◌∷◌, ◌++◌}
 use Rattle.std.specs.Prelude.{length, map, None, if◌then◌else◌}
 use Rattle.vx_flat.specs.declared.piece.BlockVector.{BlockVector}
 use Rattle.vx_flat.specs.declared.piece.BlockVector.TheVariants as vector
@@ -47,5 +47,5 @@ vector_piece (vector.Links k n) = links_piece k n
 
 -- The elements of a vector are whole: so many bytes each may make a number.
 abbrev pub IsVector : BlockVector → Type 0
-IsVector (vector.Numbers w bs) = (is_width w ≡ true) × ((n : ℕ) × (length bs.now ≡ w * n))
+IsVector (vector.Numbers w bs) = (is_width w ≡ true) × (length bs.now % w ≡ 0)
 IsVector (vector.Links k n) = Unit {0}

@@ -167,9 +167,9 @@ impl Builder {
     /// Lets the next link wait for the next block. It is given by the number of its block, and by
     /// its place among the table's entries or the vector's elements. The entry of a union's link is
     /// that of its offset.
-    pub fn link(&mut self, _block: u32, _index: usize)
+    pub fn link(&mut self, block: u32, index: usize)
         requires idle { self.old.waits ≡ None }
-        requires next { IsNext self.old.left _block _index }
+        requires next { IsNext self.old.left block index }
         ensures { self.new ≡ waiting self.old }
     {
         self.waits = true;

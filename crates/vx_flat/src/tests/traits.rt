@@ -4,14 +4,16 @@ ghost use Rattle.std.specs.Prelude.{◌≡◌, ◌∷◌, [], ◌++◌, ◌⊎�
 ghost use Rattle.vx_flat.specs.declared.error.FlatError.TheVariants.{OutOfMemory, BadTable};
 ghost use Rattle.vx_flat.specs.Building.{IsStopped, Built};
 ghost use Rattle.vx_flat.specs.Pieces.{pieces, default_entry};
-ghost use Rattle.vx_flat.specs.Value.{number, member, field, no_fields};
+ghost use Rattle.vx_flat.specs.Value.{Fields, number, member, field, no_fields};
 ghost use Rattle.vx_flat.specs.Worked.{primitive_schema};
 
 use super::TYPE;
 use super::kinds::TypeKind;
 use crate::laws::stops_in_parts;
-use crate::{BlockField, Builder, FieldValue, FlatBufferRoot, FlatError, LinkKind, ReadFlatBuffer};
-use crate::{TableValue, WriteFlatBuffer, WriteFlatBufferExt};
+use crate::{
+    BlockField, Builder, FieldValue, FlatBufferRoot, FlatError, LinkKind, ReadFlatBuffer,
+    TableValue, WriteFlatBuffer, WriteFlatBufferExt,
+};
 use std::alloc::Global;
 use std::test::Fail;
 
@@ -56,6 +58,40 @@ impl WriteFlatBuffer for Primitive {
         builder.table(&[byte_entry(self.code), BlockField::Absent])?;
         Ok(())
     }
+}
+
+/// The tag of a type.
+#[derive(Drop)]
+struct Tag {
+    tag: u8,
+}
+
+impl ReadFlatBuffer for Tag {
+    type Kind = TypeKind;
+
+    const KIND: TypeKind = TypeKind;
+
+    type Error = FlatError;
+
+    ghost reads = { λ v t. (vs : Fields) × (v ≡ field (member t.tag vs) no_fields) };
+
+    ghost unread = { λ v e. e ≡ BadTable };
+
+    fn read_flatbuffer(_alloc: Global, value: &TableValue) -> Result<Tag, FlatError> {
+        match value.fields.as_slice() {
+            [FieldValue::Member(tag, _)] => Ok(Tag { tag: *tag }),
+            _ => Err(FlatError::BadTable),
+        }
+    }
+}
+
+#[test]
+fn read_by_trait(rt: HostRuntime) -> Result<(), Fail> {
+    let tag = Tag::read_flatbuffer_bytes(rt.alloc(), &TYPE)?;
+    assert_eq!(rt; tag.tag, 3);
+    let refused = Tag::read_flatbuffer_bytes(rt.alloc(), &TYPE[..44]);
+    assert_eq!(rt; refused.err(), Some(FlatError::BadTable));
+    Ok(())
 }
 
 #[test]

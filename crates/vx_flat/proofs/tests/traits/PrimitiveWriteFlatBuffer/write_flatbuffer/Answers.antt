@@ -29,6 +29,6 @@ returns-in_err-table-clause-cause c =
     rw (p.1, p.2) (
       c.table-2.new.self,
       c.stops_in_parts.ensures.later old c.link.new.self c.table-2.new.self (one ∷ []) (two ∷ []) [] e
-      (ap (λ b. b.blocks) mid) (ap (λ b. b.failed) mid)
-      (c.stops_in_parts.ensures.first c.link.new.self c.table-2.new.self two [] e r),
+          (ap (λ b. b.blocks) mid) (ap (λ b. b.failed) mid)
+          (c.stops_in_parts.ensures.first c.link.new.self c.table-2.new.self two [] e r),
     )
