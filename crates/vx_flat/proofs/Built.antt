@@ -5,8 +5,8 @@ use Rattle.std.specs.Prelude.{None}
 use Rattle.vx_flat.specs.declared.piece.LinkKind.{LinkKind}
 use Rattle.vx_flat.specs.declared.piece.LinkKind.TheVariants.{Table, Vector, Text}
 use Rattle.vx_flat.specs.Pieces.{Piece}
-use Rattle.vx_flat.specs.Building.{Link, Built, links_of, next_link, later_links, Takes, with_piece}
-use Rattle.vx_flat.specs.PieceView.{left_after, built}
+use Rattle.vx_flat.specs.Building.{Link, Built, links_of, next_link, later_links, left_after, Takes, with_piece}
+use Rattle.vx_flat.specs.PieceView.{built}
 
 left_after_last : (n : ℕ) (ls : List Link) (ps : List Piece) (p : Piece) → left_after n ls (ps ++ p ∷ [])
     ≡ links_of (n + length ps) p ++ later_links (left_after n ls ps)

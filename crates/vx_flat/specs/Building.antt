@@ -59,6 +59,12 @@ abbrev pub later_links : List Link → List Link
 later_links [] = []
 later_links (l ∷ ls) = ls
 
+-- The links that are left once pieces were written, numbered from n on, where these were left
+-- before: each piece but the first is aimed at by the next link, and its own links come first.
+abbrev pub left_after : ℕ → List Link → List Piece → List Link
+left_after n ls [] = ls
+left_after n ls (p ∷ ps) = left_after (n + 1) (links_of n p ++ later_links ls) ps
+
 -- ---- what is asked of a caller
 
 -- What a link to a piece aims at.

@@ -8,7 +8,7 @@ use Rattle.vx_flat.specs.declared.piece.Piece.TheVariants as variants
 use Rattle.vx_flat.specs.Pieces.{Piece, table_piece, elements_piece, links_piece, text_piece}
 use Rattle.vx_flat.specs.Pieces.{is_width}
 use Rattle.vx_flat.specs.Linking.{written_length}
-use Rattle.vx_flat.specs.Building.{Link, Built, links_of, next_link, later_links}
+use Rattle.vx_flat.specs.Building.{Built, next_link, later_links, left_after}
 
 -- A piece's variant, with its vector as a list.
 abbrev pub piece_view : RustPiece → Piece
@@ -16,12 +16,6 @@ piece_view (variants.Table v) = table_piece v.items
 piece_view (variants.Elements n v) = elements_piece n v.items
 piece_view (variants.Links k n) = links_piece k n
 piece_view (variants.Text v) = text_piece v.items
-
--- The links that are left once pieces were written, numbered from n on, where these were left
--- before: each piece but the first is aimed at by the next link, and its own links come first.
-abbrev pub left_after : ℕ → List Link → List Piece → List Link
-left_after n ls [] = ls
-left_after n ls (p ∷ ps) = left_after (n + 1) (links_of n p ++ later_links ls) ps
 
 -- What was built, where these pieces were written and one link waits or none.
 abbrev pub built : List Piece → Bool → Bool → Built

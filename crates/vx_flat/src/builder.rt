@@ -1,13 +1,15 @@
 //! A message that is written block by block.
 
-ghost use Rattle.std.specs.Prelude.{◌≡◌, ◌∷◌, [], ◌<◌, ◌≤◌, ◌^◌, true, false, length, map, None};
+ghost use Rattle.std.specs.Prelude.{◌≡◌, ◌∷◌, [], ◌<◌, ◌≤◌, ◌^◌, true, false, length, map, List};
+ghost use Rattle.std.specs.Prelude.{None, Some, ◌++◌};
 ghost use Rattle.std.specs.Prelude.{IfOk, IfErr, OnOk, IsOk, IsErrOf, ◌⊎◌, ◌*◌, ℕ};
 ghost use Rattle.vx_flat.specs.Schema.{Schema};
 ghost use Rattle.vx_flat.specs.Value.{Fields};
 ghost use Rattle.vx_flat.specs.IsOf.{IsOf};
-ghost use Rattle.vx_flat.specs.Layout.{layout};
-ghost use Rattle.vx_flat.specs.Pieces.{pieces, table_piece, text_piece, AreEntries};
-ghost use Rattle.vx_flat.specs.Linking.{written_length};
+ghost use Rattle.vx_flat.specs.Layout.{layout, bytes_of};
+ghost use Rattle.vx_flat.specs.Aiming.{aim_in};
+ghost use Rattle.vx_flat.specs.Pieces.{Piece as Plain, pieces, table_piece, text_piece, AreEntries};
+ghost use Rattle.vx_flat.specs.Linking.{linked, written_length};
 ghost use Rattle.vx_flat.specs.Building.{nothing_built, with_piece, waiting, kind_of, Takes};
 ghost use Rattle.vx_flat.specs.Building.{IsNext, IsRefused};
 ghost use Rattle.vx_flat.specs.PieceView.{piece_view, vector_piece, IsVector};
@@ -164,22 +166,28 @@ impl Builder {
         self.add(Piece::Text(bytes))
     }
 
-    /// Lets the next link wait for the next block. It is given by the number of its block, and by
+    /// Lets the next link aim at the next block, whatever that is and whatever comes after it. The
+    /// link is given by the number of its block, and by
     /// its place among the table's entries or the vector's elements. The entry of a union's link is
     /// that of its offset.
     pub fn link(&mut self, block: u32, index: usize)
         requires idle { self.old.waits ≡ None }
         requires next { IsNext self.old.left block index }
-        ensures { self.new ≡ waiting self.old }
+        ensures waits { self.new ≡ waiting self.old }
+        ensures aims { (p : Plain) (ps : List Plain)
+            → aim_in (linked (self.old.blocks ++ p ∷ ps)) block index
+            ≡ Some (length self.old.blocks) }
     {
         self.waits = true;
     }
 
-    /// The message.
+    /// The message. Where the blocks are those of a value, it is the value's layout in the plain
+    /// form, as [`write_value`](crate::write_value) gives it.
     pub fn finish(self) -> Result<FlatBuffer, FlatError>
         requires written { 0 < length self.blocks }
         requires linked { self.left ≡ [] }
         requires idle { self.waits ≡ None }
+        ensures built { IfOk result (λ b. b ≡ bytes_of false (linked self.blocks)) }
         ensures layout { IfOk result (λ b. (s : Schema) (v : Fields) → IsOf s v → self.blocks ≡ pieces s v → b ≡ layout false s v) }
         ensures length { IfOk result (λ b. length b ≡ written_length self.blocks) }
         ensures fits { IfOk result (λ b. length b < 2 ^ 31) }

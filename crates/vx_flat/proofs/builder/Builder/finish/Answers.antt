@@ -1,5 +1,4 @@
 use Rattle.std.proofs.Common.{arith, ◌≡◌, ◌<◌, ◌≤◌, ◌^◌, [], refl, sym, ap, ◌∙◌, subst, map, length, false}
-use Rattle.vx_flat.specs.Blocks.{blocks}
 use Rattle.vx_flat.specs.Spots.{spots, last_end}
 use Rattle.vx_flat.specs.Layout.{bytes_of}
 use Rattle.vx_flat.specs.BlockView.{block_view}
@@ -33,34 +32,26 @@ bytes_of-requires c =
     ∙ (length_map block_view c.deref.result.now
     ∙ (ap length c.deref.ensures.value ∙ ap length (sym c.deref-3.ensures.value)))))
 
+pub returns-clause-built : goal.returns-clause-built
+returns-clause-built c =
+    let ps = map piece_view c.self.inside.pieces.items in
+    let all = linked ps in
+    let k : map block_view c.deref.result.now ≡ all =
+    ap (λ z. map block_view z) c.deref.ensures.value ∙ c.in_ok-blocks.ensures in
+    let v : c.in-Some.spots.items ≡ spots false [] 8 (map block_view c.deref.result.now) =
+    rw c.in-Some.is at c.in_ok-spots.ensures.value in
+    let sp : c.deref-2.result.now ≡ spots false [] 8 all =
+    c.deref-2.ensures.value ∙ (v ∙ ap (λ z. spots false [] 8 z) k) in
+    let w = bytes_are false c.deref-2.result.now (map block_view c.deref-3.result.now) all c.in_ok-bytes.bytes.items sp
+    (ap (λ z. map block_view z) c.deref-3.ensures.value ∙ c.in_ok-blocks.ensures) c.in_ok-bytes.ensures in
+    c.new.ensures ∙ (w ∙ ap (λ b. bytes_of false (linked b.blocks)) c.self.view_is)
+
 pub returns-clause-layout : goal.returns-clause-layout
 returns-clause-layout c s vs of is =
-    let ps = map piece_view c.self.inside.pieces.items in
-    let all = linked ps in
-    let k : map block_view c.deref.result.now ≡ all =
-    ap (λ z. map block_view z) c.deref.ensures.value ∙ c.in_ok-blocks.ensures in
-    let v : c.in-Some.spots.items ≡ spots false [] 8 (map block_view c.deref.result.now) =
-    rw c.in-Some.is at c.in_ok-spots.ensures.value in
-    let sp : c.deref-2.result.now ≡ spots false [] 8 all =
-    c.deref-2.ensures.value ∙ (v ∙ ap (λ z. spots false [] 8 z) k) in
-    let w = bytes_are false c.deref-2.result.now (map block_view c.deref-3.result.now) all c.in_ok-bytes.bytes.items sp
-    (ap (λ z. map block_view z) c.deref-3.ensures.value ∙ c.in_ok-blocks.ensures) c.in_ok-bytes.ensures in
-    let mine : all ≡ blocks s vs = ap linked (ap (λ b. b.blocks) c.self.view_is ∙ is) ∙ value_linked s vs of in
-    c.new.ensures ∙ (w ∙ ap (λ z. bytes_of false z) mine)
+    returns-clause-built c ∙ ap (λ z. bytes_of false z) (ap linked is ∙ value_linked s vs of)
 
 pub returns-clause-length : goal.returns-clause-length
-returns-clause-length c =
-    let ps = map piece_view c.self.inside.pieces.items in
-    let all = linked ps in
-    let k : map block_view c.deref.result.now ≡ all =
-    ap (λ z. map block_view z) c.deref.ensures.value ∙ c.in_ok-blocks.ensures in
-    let v : c.in-Some.spots.items ≡ spots false [] 8 (map block_view c.deref.result.now) =
-    rw c.in-Some.is at c.in_ok-spots.ensures.value in
-    let sp : c.deref-2.result.now ≡ spots false [] 8 all =
-    c.deref-2.ensures.value ∙ (v ∙ ap (λ z. spots false [] 8 z) k) in
-    let w = bytes_are false c.deref-2.result.now (map block_view c.deref-3.result.now) all c.in_ok-bytes.bytes.items sp
-    (ap (λ z. map block_view z) c.deref-3.ensures.value ∙ c.in_ok-blocks.ensures) c.in_ok-bytes.ensures in
-    ap length (c.new.ensures ∙ w) ∙ (bytes_length ps ∙ ap (λ b. written_length b.blocks) c.self.view_is)
+returns-clause-length c = ap length (returns-clause-built c) ∙ bytes_length c.args.self.blocks
 
 pub returns-clause-fits : goal.returns-clause-fits
 returns-clause-fits c =
