@@ -1,6 +1,6 @@
 -- A link aims at the block that comes once it is the next one.
 use Rattle.std.proofs.Common.{◌≡◌, ℕ, zero, suc, ◌+◌, Bool, true, false, List, [], ◌∷◌, ◌++◌, length, inl, inr, ◌⊎◌}
-use Rattle.std.proofs.Common.{refl, sym, ap, subst, ◌∙◌, arith}
+use Rattle.std.proofs.Common.{refl, sym, ap, ◌∙◌, arith}
 use Rattle.std.specs.Prelude.{Option, Some, None}
 use Rattle.vx_flat.specs.declared.piece.LinkKind.{LinkKind}
 use Rattle.vx_flat.specs.declared.piece.BlockField.{BlockField}
@@ -9,7 +9,7 @@ use Rattle.vx_flat.specs.Pieces.{Piece, table_piece, elements_piece, links_piece
 use Rattle.vx_flat.specs.Linking.{first, rest, cells_of, left_by_all, firsts, rests, block_of, left_by_piece}
 use Rattle.vx_flat.specs.Linking.{Linked, nothing_linked, all_before, linked}
 use Rattle.vx_flat.specs.Building.{Link, entry_links, element_links, links_of, later_links, next_link, left_after}
-use Rattle.vx_flat.specs.Building.{IsNext, Built}
+use Rattle.vx_flat.specs.Building.{IsNext}
 use Rattle.vx_flat.specs.PieceView.{built}
 use Rattle.vx_flat.specs.Aiming.{cell_aim, number_in, block_aim, aim_in}
 use Rattle.vx_flat.proofs.Depth.{all_before_append}

@@ -1,11 +1,11 @@
 -- What a builder has built, a piece at a time.
-use Rattle.std.proofs.Common.{◌≡◌, ℕ, suc, ◌+◌, ◌<◌, ◌≤◌, ◌^◌, Bool, true, false, List, [], ◌∷◌, ◌++◌, length, map}
-use Rattle.std.proofs.Common.{refl, sym, ap, subst, ◌∙◌, arith}
+use Rattle.std.proofs.Common.{◌≡◌, ℕ, ◌+◌, Bool, true, false, List, [], ◌∷◌, ◌++◌, length}
+use Rattle.std.proofs.Common.{ap, ◌∙◌, arith}
 use Rattle.std.specs.Prelude.{None}
 use Rattle.vx_flat.specs.declared.piece.LinkKind.{LinkKind}
 use Rattle.vx_flat.specs.declared.piece.LinkKind.TheVariants.{Table, Vector, Text}
 use Rattle.vx_flat.specs.Pieces.{Piece}
-use Rattle.vx_flat.specs.Building.{Link, Built, links_of, next_link, later_links, left_after, Takes, with_piece}
+use Rattle.vx_flat.specs.Building.{Link, links_of, later_links, left_after, Takes, with_piece}
 use Rattle.vx_flat.specs.PieceView.{built}
 
 left_after_last : (n : ℕ) (ls : List Link) (ps : List Piece) (p : Piece) → left_after n ls (ps ++ p ∷ [])

@@ -1,8 +1,8 @@
 -- The pieces of a value are linked depth first to the value's blocks.
-use Rattle.std.proofs.Common.{◌≡◌, ℕ, zero, suc, ◌+◌, Bool, true, false, List, [], ◌∷◌, ◌++◌, length, map, cond, eqb}
+use Rattle.std.proofs.Common.{◌≡◌, ℕ, zero, suc, ◌+◌, Bool, true, false, List, [], ◌∷◌, ◌++◌, length, map, eqb}
 use Rattle.std.proofs.Common.{refl, sym, ap, subst, ◌∙◌, arith, append_assoc, append-nil}
 use Rattle.std.proofs.lemmas.List.{length-append}
-use Rattle.std.specs.Prelude.{Option, Some, if◌then◌else◌}
+use Rattle.std.specs.Prelude.{if◌then◌else◌}
 use Rattle.vx_flat.specs.declared.piece.LinkKind.TheVariants as kinds
 use Rattle.vx_flat.specs.declared.piece.BlockField.{BlockField}
 use Rattle.vx_flat.specs.declared.piece.BlockField.TheVariants as entry
@@ -15,7 +15,7 @@ use Rattle.vx_flat.specs.Schema.{Schema, fields_of, members_of, table_of, width}
 use Rattle.vx_flat.specs.Value.{Field, absent, number, elements, text, texts, table, tables, member, unknown, Fields}
 use Rattle.vx_flat.specs.Value.{no_fields, field, Rows, no_rows, row}
 use Rattle.vx_flat.specs.IsOf.{AreOf, IsOfKind, AreRowsOf, IsOf}
-use Rattle.vx_flat.specs.Blocks.{Cell, gap, inline, Block, table_block, text_block, links_block, field_count}
+use Rattle.vx_flat.specs.Blocks.{gap, inline, Block, table_block, text_block, links_block, field_count}
 use Rattle.vx_flat.specs.Blocks.{fields_count, rows_count, field_cells, cells, row_links, count_up, union_fields}
 use Rattle.vx_flat.specs.Blocks.{field_blocks, fields_blocks, rows_blocks, blocks}
 use Rattle.vx_flat.specs.Pieces.{Piece, table_piece, links_piece, text_piece, field_entries, entries, rows_length}

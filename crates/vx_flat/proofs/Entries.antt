@@ -1,5 +1,5 @@
 -- The entries of a table of a schema are those that a builder takes.
-use Rattle.std.proofs.Common.{◌≡◌, ℕ, ◌<◌, ◌^◌, Bool, true, false, not, cond, eqb, List, [], ◌∷◌, ◌++◌, refl, arith, ap}
+use Rattle.std.proofs.Common.{◌≡◌, ℕ, ◌<◌, ◌^◌, Bool, true, false, not, eqb, List, [], ◌∷◌, ◌++◌, refl, arith}
 use Rattle.std.specs.Prelude.{if◌then◌else◌}
 use Rattle.vx_flat.specs.declared.piece.BlockField.{BlockField}
 use Rattle.vx_flat.specs.declared.piece.BlockField.TheVariants as entry

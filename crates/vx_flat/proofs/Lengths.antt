@@ -1,18 +1,18 @@
 -- How many bytes pieces have, written one after the other.
-use Rattle.std.proofs.Common.{◌≡◌, ℕ, zero, suc, ◌+◌, ◌*◌, ◌<◌, ◌≤◌, ◌^◌, Bool, true, false, List, [], ◌∷◌, ◌++◌}
-use Rattle.std.proofs.Common.{length, map, refl, sym, ap, subst, ◌∙◌, arith}
+use Rattle.std.proofs.Common.{◌≡◌, ℕ, ◌+◌, ◌*◌, ◌<◌, ◌≤◌, ◌^◌, false, List, [], ◌∷◌, ◌++◌}
+use Rattle.std.proofs.Common.{length, map, refl, sym, ap, ◌∙◌, arith}
 use Rattle.std.proofs.lemmas.List.{map-append, length-append}
 use Rattle.vx_flat.specs.declared.piece.BlockField.{BlockField}
 use Rattle.vx_flat.specs.declared.piece.BlockField.TheVariants as entry
 use Rattle.vx_flat.specs.declared.schema.Width.TheVariants.{Eight}
-use Rattle.vx_flat.specs.Blocks.{Block, table_block}
-use Rattle.vx_flat.specs.FieldTables.{align, inline_end, cell_size}
+use Rattle.vx_flat.specs.Blocks.{Block}
+use Rattle.vx_flat.specs.FieldTables.{align, inline_end}
 use Rattle.vx_flat.specs.Schema.{width}
 use Rattle.vx_flat.specs.Spots.{spot, spots, last_end}
 use Rattle.vx_flat.specs.Layout.{bytes_of, length_of}
 use Rattle.vx_flat.specs.Pieces.{Piece, table_piece, elements_piece, links_piece, text_piece}
-use Rattle.vx_flat.specs.Linking.{rest, width_at, cell_at, left_by, cells_of, firsts, block_of, loose_block, linked}
-use Rattle.vx_flat.specs.Linking.{Linked, nothing_linked, before, all_before, written_length}
+use Rattle.vx_flat.specs.Linking.{width_at, cell_at, left_by, cells_of, block_of, loose_block, linked}
+use Rattle.vx_flat.specs.Linking.{nothing_linked, all_before, written_length}
 use Rattle.vx_flat.specs.PieceView.{IsSized}
 use Rattle.vx_flat.proofs.Bytes.{align_past}
 use Rattle.vx_flat.proofs.Cells.{end_past}

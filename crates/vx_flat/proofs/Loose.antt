@@ -6,7 +6,7 @@ use Rattle.vx_flat.specs.declared.piece.BlockField.{BlockField}
 use Rattle.vx_flat.specs.declared.piece.BlockField.TheVariants as entry
 use Rattle.vx_flat.specs.declared.piece.Piece.{Piece as RustPiece}
 use Rattle.vx_flat.specs.declared.block.Block.{Block as RustBlock}
-use Rattle.vx_flat.specs.Blocks.{Cell, Block, table_block, links_block}
+use Rattle.vx_flat.specs.Blocks.{Cell, table_block, links_block}
 use Rattle.vx_flat.specs.BlockView.{block_view}
 use Rattle.vx_flat.specs.FieldTables.{align, inline_end}
 use Rattle.vx_flat.specs.Spots.{spot}
@@ -14,7 +14,7 @@ use Rattle.vx_flat.specs.CellForm.{end_after}
 use Rattle.vx_flat.specs.Pieces.{Piece}
 use Rattle.vx_flat.specs.PieceView.{piece_view}
 use Rattle.vx_flat.specs.Linking.{first, rest, cell_at, left_by, cells_of, left_by_all, firsts, rests, block_of}
-use Rattle.vx_flat.specs.Linking.{left_by_piece, Linked, nothing_linked, before, all_before}
+use Rattle.vx_flat.specs.Linking.{left_by_piece, Linked, before, all_before}
 use Rattle.vx_flat.proofs.Pushing.{inline_end_next}
 use Rattle.vx_flat.proofs.Standing.{length_map}
 

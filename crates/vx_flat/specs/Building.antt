@@ -9,7 +9,7 @@ use Rattle.vx_flat.specs.declared.piece.LinkKind.TheVariants.{Table, Vector, Tex
 use Rattle.vx_flat.specs.declared.piece.BlockField.{BlockField}
 use Rattle.vx_flat.specs.declared.piece.BlockField.TheVariants as entry
 use Rattle.vx_flat.specs.declared.schema.FieldKind.{FieldKind}
-use Rattle.vx_flat.specs.Schema.{Schema, fields_of}
+use Rattle.vx_flat.specs.Schema.{Schema}
 use Rattle.vx_flat.specs.Value.{Fields}
 use Rattle.vx_flat.specs.Pieces.{Piece, table_piece, elements_piece, links_piece, text_piece}
 use Rattle.vx_flat.specs.Pieces.{table_pieces}

@@ -1,6 +1,6 @@
 -- The blocks of pieces, with their links set. A link aims at the first block after its own at which
 -- no link between the two aims, so that the blocks stand depth first.
-use Rattle.std.specs.Prelude.{ℕ, zero, suc, ◌+◌, List, [], ◌∷◌, ◌++◌, length, map, ◌==◌}
+use Rattle.std.specs.Prelude.{ℕ, zero, suc, ◌+◌, List, [], ◌∷◌, map, ◌==◌}
 use Rattle.std.specs.Prelude.{false, if◌then◌else◌}
 use Rattle.vx_flat.specs.declared.piece.BlockField.{BlockField}
 use Rattle.vx_flat.specs.declared.piece.BlockField.TheVariants as entry

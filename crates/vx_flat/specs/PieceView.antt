@@ -1,6 +1,6 @@
 -- The plain piece that a `Piece` stands for, and what a `Builder` has built.
-use Rattle.std.specs.Prelude.{◌≡◌, ℕ, ◌+◌, ◌%◌, ◌<◌, ◌≤◌, ◌^◌, Bool, true, List, [], ◌∷◌, ◌++◌}
-use Rattle.std.specs.Prelude.{length, map, None, if◌then◌else◌}
+use Rattle.std.specs.Prelude.{◌≡◌, ℕ, ◌%◌, ◌<◌, ◌≤◌, ◌^◌, Bool, true, List, []}
+use Rattle.std.specs.Prelude.{length, None, if◌then◌else◌}
 use Rattle.vx_flat.specs.declared.piece.BlockVector.{BlockVector}
 use Rattle.vx_flat.specs.declared.piece.BlockVector.TheVariants as vector
 use Rattle.vx_flat.specs.declared.piece.Piece.{Piece as RustPiece}

@@ -1,5 +1,5 @@
 -- The blocks of a value as a builder takes them, in order, before their links are set.
-use Rattle.std.specs.Prelude.{ℕ, zero, suc, ◌+◌, ◌<◌, ◌^◌, ◌≡◌, Bool, true, false, not, ◌&&◌, ◌||◌}
+use Rattle.std.specs.Prelude.{ℕ, suc, ◌<◌, ◌^◌, ◌≡◌, Bool, true, false, not, ◌&&◌, ◌||◌}
 use Rattle.std.specs.Prelude.{List, [], ◌∷◌, ◌++◌, length, map, ◌==◌, if◌then◌else◌}
 use Rattle.vx_flat.specs.declared.piece.LinkKind.{LinkKind}
 use Rattle.vx_flat.specs.declared.piece.LinkKind.TheVariants as link
@@ -12,7 +12,7 @@ use Rattle.vx_flat.specs.declared.schema.FieldKind.TheVariants.{Tables, Union}
 use Rattle.vx_flat.specs.Schema.{Schema, fields_of, members_of, table_of, width, struct_size}
 use Rattle.vx_flat.specs.Blocks.{union_fields}
 use Rattle.vx_flat.specs.Value.{Field, absent, number, elements, text, texts, table, tables, member}
-use Rattle.vx_flat.specs.Value.{unknown, Fields, no_fields, field, Rows, no_rows, row}
+use Rattle.vx_flat.specs.Value.{unknown, Fields, field, Rows, no_rows, row}
 
 -- A table by the entries of its field table; the elements of a vector, each of so many bytes; a
 -- vector of so many links of a kind; and a string.

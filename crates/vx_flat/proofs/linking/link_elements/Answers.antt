@@ -1,4 +1,4 @@
-use Rattle.std.proofs.Common.{arith, ◌≡◌, ◌+◌, ◌-◌, ◌++◌, ◌∷◌, [], ap, subst, ◌∙◌, reverse}
+use Rattle.std.proofs.Common.{arith, ◌≡◌, ◌+◌, ◌-◌, ◌++◌, ◌∷◌, [], reverse}
 use Rattle.vx_flat.specs.Linking.{firsts, rests}
 use Rattle.vx_flat.proofs.Loose.{firsts_next, rests_next}
 use Rattle.vx_flat.proofs.linking.link_elements.Goals as goal

@@ -1,5 +1,5 @@
 use Rattle.std.proofs.lemmas.List.{nil_from_length}
-use Rattle.std.proofs.Common.{arith, ◌≡◌, ◌++◌, ◌∷◌, [], ap, sym, ◌∙◌, subst, map, reverse, length, append-nil}
+use Rattle.std.proofs.Common.{arith, ◌≡◌, ◌++◌, ◌∷◌, [], ap, ◌∙◌, map, length}
 use Rattle.vx_flat.specs.Linking.{all_before, nothing_linked}
 use Rattle.vx_flat.specs.PieceView.{piece_view}
 use Rattle.vx_flat.proofs.Loose.{linked_next, linked_all}

@@ -1,4 +1,4 @@
-use Rattle.std.proofs.Common.{◌≡◌, ◌+◌, ap, sym, ◌∙◌, [], subst}
+use Rattle.std.proofs.Common.{ap, sym, ◌∙◌, []}
 use Rattle.vx_flat.specs.Spots.{spot}
 use Rattle.vx_flat.specs.Linking.{loose_block}
 use Rattle.vx_flat.specs.PieceView.{piece_view}

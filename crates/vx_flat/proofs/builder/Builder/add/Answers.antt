@@ -1,6 +1,5 @@
-use Rattle.std.proofs.Common.{arith, ◌≡◌, ◌++◌, ◌∷◌, [], ap, sym, subst, ◌∙◌, map, inr, false, refl}
+use Rattle.std.proofs.Common.{arith, ◌≡◌, ◌++◌, ◌∷◌, [], ap, sym, subst, ◌∙◌, map, inr, false}
 use Rattle.std.proofs.lemmas.List.{map_push}
-use Rattle.vx_flat.specs.Pieces.{Piece}
 use Rattle.vx_flat.specs.Linking.{written_length}
 use Rattle.vx_flat.specs.Building.{failing, with_piece, kind_of, Takes}
 use Rattle.vx_flat.specs.PieceView.{piece_view, built, IsSized}

@@ -1,4 +1,4 @@
-use Rattle.std.proofs.Common.{inl, ◌≡◌, ap, Err}
+use Rattle.std.proofs.Common.{inl, ap, Err}
 use Rattle.std.proofs.lemmas.Result.{err_from_is_err_and}
 use Rattle.vx_flat.proofs.Refusing.{unread_for}
 use Rattle.vx_flat.proofs.traits.ReadFlatBuffer.read_flatbuffer_bytes.Goals as goal

@@ -1,4 +1,4 @@
-use Rattle.std.proofs.Common.{◌≡◌, ◌++◌, ◌∷◌, [], ap, ◌∙◌, subst}
+use Rattle.std.proofs.Common.{◌≡◌, ◌∷◌, [], ap, ◌∙◌, subst}
 use Rattle.std.proofs.lemmas.Result.{err_from_is_err_and}
 use Rattle.vx_flat.specs.declared.piece.LinkKind.TheVariants as kinds
 use Rattle.vx_flat.specs.declared.piece.BlockField.TheVariants as entry
@@ -22,7 +22,7 @@ returns-in_err-table-clause-cause c =
     let one = table_piece (entry.Number 1 3 ∷ entry.Link kinds.Table ∷ []) in
     let two = table_piece (default_entry 1 c.args.self.now.code ∷ entry.Absent ∷ []) in
     let mid : c.link.new.self ≡ waiting (with_piece old one) =
-    c.link.ensures ∙ ap waiting c.in_ok-dtype.ensures.written in
+    c.link.ensures.waits ∙ ap waiting c.in_ok-dtype.ensures.written in
     let r : IsRefused c.link.new.self two e c.table-2.new.self =
     subst (λ z. IsRefused c.link.new.self (table_piece (z ∷ entry.Absent ∷ [])) e c.table-2.new.self) c.byte_entry.ensures
     c.in_err-table.ensures.refused in
