@@ -1,5 +1,5 @@
 -- What a builder has written, and what is left to link.
-use Rattle.std.specs.Prelude.{◌≡◌, ℕ, zero, suc, ◌+◌, ◌≤◌, ◌^◌, ◌⊎◌, Bool, true, false}
+use Rattle.std.specs.Prelude.{◌≡◌, ℕ, zero, suc, ◌+◌, ◌-◌, ◌≤◌, ◌^◌, ◌⊎◌, Bool, true, false}
 use Rattle.std.specs.Prelude.{List, [], ◌∷◌, ◌++◌, length, Option, Some, None}
 use Rattle.vx_flat.specs.declared.error.FlatError.{FlatError}
 use Rattle.vx_flat.specs.declared.error.FlatError.TheVariants.{OutOfMemory, BadTable, TableLimit}
@@ -114,6 +114,16 @@ with_piece b p = record {
 abbrev pub with_pieces : Built → List Piece → Built
 with_pieces b ps =
     record { blocks = b.blocks ++ ps; left = b.left; waits = None; failed = false }
+
+-- A vector of so many links of a kind was written, with the blocks of its first i elements: the
+-- links of the others are left.
+abbrev pub with_elements : Built → LinkKind → ℕ → ℕ → List Piece → Built
+with_elements b k count i ps = record {
+  blocks = b.blocks ++ (links_piece k count ∷ ps);
+  left = element_links (length b.blocks) i k (count - i) ++ b.left;
+  waits = None;
+  failed = false;
+}
 
 -- The value of a table with these fields was written.
 abbrev pub Written : Schema → List FieldKind → Fields → Built → Built → Type 0

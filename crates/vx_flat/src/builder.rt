@@ -94,7 +94,8 @@ impl Builder {
 
     /// Adds a block.
     fn add(&mut self, piece: Piece) -> Result<(), FlatError>
-        requires { Takes (kind_of (piece_view piece)) self.old.waits self.old.blocks }
+        requires works { self.old.failed ≡ false }
+        requires takes { Takes (kind_of (piece_view piece)) self.old.waits self.old.blocks }
         ensures written { OnOk result (self.new ≡ with_piece self.old (piece_view piece)) }
         ensures fits { IsOk result → written_length self.new.blocks < 2 ^ 31 }
         ensures refused { IfErr result (λ e. IsRefused self.old (piece_view piece) e self.new) }
@@ -107,7 +108,6 @@ impl Builder {
         self.pieces.push(piece)?;
         self.end = end;
         self.waits = false;
-        self.failed = false;
         Ok(())
     }
 
@@ -167,9 +167,8 @@ impl Builder {
     }
 
     /// Lets the next link aim at the next block, whatever that is and whatever comes after it. The
-    /// link is given by the number of its block, and by
-    /// its place among the table's entries or the vector's elements. The entry of a union's link is
-    /// that of its offset.
+    /// link is given by the number of its block, and by its place among the table's entries or the
+    /// vector's elements. The entry of a union's link is that of its offset.
     pub fn link(&mut self, block: u32, index: usize)
         requires idle { self.old.waits ≡ None }
         requires next { IsNext self.old.left block index }

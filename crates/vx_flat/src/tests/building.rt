@@ -1,11 +1,12 @@
 //! Messages that are written block by block.
 
-ghost use Rattle.std.specs.Prelude.{◌≡◌, ◌∷◌, [], OnOk};
+ghost use Rattle.std.specs.Prelude.{◌≡◌, ◌∷◌, [], ◌<◌, ◌^◌, OnOk, length, map, string_bytes};
 ghost use Rattle.vx_flat.specs.Building.{Takes, with_pieces};
 ghost use Rattle.vx_flat.specs.Pieces.{table_piece, links_piece, text_piece};
 
 use super::kinds::{ArrayKind, EveryKind, TypeKind};
 use super::{ARRAY, TYPE};
+use crate::laws::elements_in_order;
 use crate::{
     BlockField, BlockVector, Builder, FlatBuffer, FlatError, LinkKind, TableKind, read_value,
     write_value,
@@ -97,20 +98,23 @@ const EVERY: [BlockField; 22] = [
     ABSENT,
 ];
 
-/// A vector of two strings, with them.
-fn two_texts(builder: &mut Builder) -> Result<(), FlatError>
-    requires { Takes LinkKind.Vector builder.old.waits builder.old.blocks }
+/// A vector of strings, with them.
+fn texts(builder: &mut Builder, texts: &[String]) -> Result<(), FlatError>
+    requires few { length texts.now < 2 ^ 32 }
+    requires takes { Takes LinkKind.Vector builder.old.waits builder.old.blocks }
     ensures { OnOk result (builder.new ≡ with_pieces builder.old
-        (links_piece LinkKind.Text 2 ∷ text_piece [] ∷ text_piece (195 ∷ 169 ∷ []) ∷ [])) }
+        (links_piece LinkKind.Text (length texts.now) ∷ map text_piece (map string_bytes texts.now))) }
 {
-    let texts = builder.vector(BlockVector::Links {
+    elements_in_order();
+    let vector = builder.vector(BlockVector::Links {
         kind: LinkKind::Text,
-        count: 2,
+        count: texts.len() as u32,
     })?;
-    builder.link(texts, 0);
-    builder.string("")?;
-    builder.link(texts, 1);
-    builder.string("é")
+    for (i, text) in texts.iter().enumerate() {
+        builder.link(vector, i);
+        builder.string(text.as_str())?;
+    }
+    Ok(())
 }
 
 /// A vector of two tables of a number, with them.
@@ -132,7 +136,9 @@ fn two_tables(builder: &mut Builder) -> Result<(), FlatError>
 }
 
 /// A table with a field of every kind but a vector of structs.
-fn every(alloc: Global) -> Result<FlatBuffer, FlatError> {
+fn every(alloc: Global, names: &[String]) -> Result<FlatBuffer, FlatError>
+    requires { length names.now < 2 ^ 32 }
+{
     let mut builder = Builder::new(alloc);
     let every = builder.table(&EVERY)?;
     builder.link(every, 10);
@@ -143,7 +149,7 @@ fn every(alloc: Global) -> Result<FlatBuffer, FlatError> {
     builder.link(every, 12);
     builder.string("ab")?;
     builder.link(every, 13);
-    two_texts(&mut builder)?;
+    texts(&mut builder, names)?;
     builder.link(every, 14);
     builder.table(&[BlockField::Number { width: 1, bits: 7 }])?;
     builder.link(every, 15);
@@ -179,7 +185,11 @@ fn worked_messages_by_blocks(rt: HostRuntime) -> Result<(), Fail> {
 
 #[test]
 fn every_kind_of_block(rt: HostRuntime) -> Result<(), Fail> {
-    let every = every(rt.alloc())?;
+    let names = [
+        String::from_str(rt.alloc(), "")?,
+        String::from_str(rt.alloc(), "é")?,
+    ];
+    let every = every(rt.alloc(), &names)?;
     assert!(rt; is_read_back(rt.alloc(), &EveryKind, &every)?);
     let value = read_value(rt.alloc(), every.as_slice(), &EveryKind)?;
     assert_eq!(rt;
