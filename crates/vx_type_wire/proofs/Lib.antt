@@ -1,3 +1,7 @@
-pub mod Tables
-pub mod Injective
-pub mod Worked
+pub mod Distinct
+pub mod ReadBack
+pub mod Sound
+pub mod Rows
+pub mod Sizes
+pub mod Views
+pub mod OfParts
