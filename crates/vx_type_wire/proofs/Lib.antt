@@ -5,3 +5,4 @@ pub mod Rows
 pub mod Sizes
 pub mod Views
 pub mod OfParts
+pub mod Judging

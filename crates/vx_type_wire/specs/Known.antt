@@ -1,9 +1,11 @@
 -- Which types a session of extension readers knows.
 use Rattle.std.specs.Prelude.{◌≡◌, ◌⊎◌, ℕ, List, Bool, false, Option, Some, None, IsTrue}
 use Rattle.vx_trees.specs.Rose.{Roses, node, end, more}
-use Rattle.vx_trees.specs.Everywhere.{Everywhere}
+use Rattle.vx_trees.specs.Everywhere.{Everywhere, EverywhereBelow}
 use Rattle.vx_types.specs.Kind.{Kind, extension}
 use Rattle.vx_types.specs.Typ.{Typ}
+use Rattle.vx_type_wire.specs.declared.error.TypeWireError.{TypeWireError}
+use Rattle.vx_type_wire.specs.declared.error.TypeWireError.TheVariants.{UnknownExtension, ExtensionRefused}
 
 -- What the readers of a session mean: an identifier has a reader or none, and a reader accepts an
 -- extension or not by its metadata and its storage. Extensions without a reader are allowed or not.
@@ -29,6 +31,12 @@ pub record IsRefused (s : ExtMeaning) (id metadata : List ℕ) (storage : Typ) :
   pub accepts : List ℕ → Typ → Bool
   pub read : s.reader id ≡ Some accepts
   pub refused : accepts metadata storage ≡ false
+
+-- Why an extension is not accepted.
+abbrev pub IsNotAccepted : TypeWireError → ExtMeaning → List ℕ → List ℕ → Typ → Type 0
+IsNotAccepted UnknownExtension = IsUnknown
+IsNotAccepted ExtensionRefused = IsRefused
+IsNotAccepted error = λ s id metadata storage. ⊥
 
 -- A fact of a node that is an extension, by its identifier, its metadata and its storage.
 abbrev pub IfExtension : (List ℕ → List ℕ → Typ → Type 0) → Kind → Roses Kind → Type 0
@@ -57,3 +65,14 @@ abbrev mutual
 -- A type is known under a session where each extension in it is accepted.
 abbrev pub IsKnown : ExtMeaning → Typ → Type 0
 IsKnown s = EachExtension (IsAccepted s)
+
+-- Each of the types is known.
+abbrev pub AreKnown : ExtMeaning → Roses Kind → Type 0
+AreKnown s = EverywhereBelow (IfExtension (IsAccepted s))
+
+-- Why a type is not known: some extension in it is not accepted.
+abbrev pub IsNotKnown : TypeWireError → ExtMeaning → Typ → Type 0
+IsNotKnown error s = SomeExtension (IsNotAccepted error s)
+
+abbrev pub AreNotKnown : TypeWireError → ExtMeaning → Roses Kind → Type 0
+AreNotKnown error s = SomeExtensionIn (IsNotAccepted error s)

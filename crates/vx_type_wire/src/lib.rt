@@ -3,6 +3,7 @@
 
 mod error;
 mod kind;
+mod known;
 mod parts;
 mod readers;
 pub mod reading;

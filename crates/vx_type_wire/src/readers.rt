@@ -1,8 +1,9 @@
 //! Readers of extension types.
 
-ghost use Rattle.std.specs.Prelude.{◌≡◌, ◌↔◌, ℕ, Bool, List, None, Some, true, false, cond, bytes_eq, OnOk, OnErr, IsOkUnless};
+ghost use Rattle.std.specs.Prelude.{◌≡◌, ◌↔◌, ℕ, Bool, List, None, Some, true, false, cond, bytes_eq, OnOk, OnErr, IfErr, IsOkUnless};
 ghost use Rattle.vx_types.specs.Typ.{Typ};
 ghost use Rattle.vx_types.specs.Seen.{typ};
+ghost use Rattle.vx_type_wire.specs.Known.{IsAccepted, IsNotAccepted};
 ghost use Rattle.vx_type_wire.specs.Session.{ext_meaning};
 
 use crate::error::TypeWireError;
@@ -80,6 +81,32 @@ impl ExtSession {
     {
         self.unknown
     }
+
+    // Whether an extension of this identifier, metadata and storage is accepted.
+    pub(crate) fn judge(
+        &self,
+        id: &Id,
+        metadata: &[u8],
+        storage: &DType,
+    ) -> Result<(), TypeWireError>
+        ensures accepted { OnOk result (IsAccepted (ext_meaning accepted self.now) id.now metadata.now (typ storage.now)) }
+        ensures cause { IfErr result (λ e. IsNotAccepted e (ext_meaning accepted self.now) id.now metadata.now (typ storage.now)) }
+    {
+        match self.readers.get(id) {
+            Some(reader) => {
+                if asks(reader, metadata, storage) {
+                    return Ok(());
+                }
+                Err(TypeWireError::ExtensionRefused)
+            }
+            None => {
+                if self.unknown {
+                    return Ok(());
+                }
+                Err(TypeWireError::UnknownExtension)
+            }
+        }
+    }
 }
 
 // The identifier of a reader.
@@ -87,4 +114,11 @@ fn id_of(reader: &Box<dyn ExtPlugin>) -> &Id
     ensures { result.now ≡ its_id reader.now }
 {
     reader.id()
+}
+
+// Whether a reader accepts this metadata and storage.
+fn asks(reader: &Box<dyn ExtPlugin>, metadata: &[u8], storage: &DType) -> bool
+    ensures { result ≡ accepted reader.now metadata.now (typ storage.now) }
+{
+    reader.accepts(metadata, storage)
 }
