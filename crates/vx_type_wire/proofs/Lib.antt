@@ -6,3 +6,6 @@ pub mod Sizes
 pub mod Views
 pub mod OfParts
 pub mod Judging
+pub mod OneType
+pub mod Worked
+pub mod Found

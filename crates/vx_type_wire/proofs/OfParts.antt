@@ -1,8 +1,8 @@
 -- What is read of a kind's parts, and where nothing is.
-use Rattle.std.proofs.Common.{◌≡◌, ◌≢◌, ◌⊎◌, ◌==◌, ◌^◌, ◌&&◌, if◌then◌else◌, Bool, true, false, ℕ, suc, List, [], ◌∷◌, length, Option, Some, None, Result, Ok, Err, refl, ap, sym, subst, ◌∙◌, arith, inl, inr}
+use Rattle.std.proofs.Common.{◌≡◌, ◌≢◌, ◌==◌, ◌^◌, ◌&&◌, if◌then◌else◌, Bool, true, false, ℕ, suc, List, [], ◌∷◌, length, Option, Some, None, Result, Err, refl, ap, sym, subst, ◌∙◌, inl, inr}
 use Rattle.std.proofs.lemmas.Bool.{eqb-true, eq-eqb}
-use Rattle.vx_trees.specs.Rose.{Roses, node, end, more, count, roses_of}
-use Rattle.vx_flat.specs.Value.{Field, absent, table, tables, member, Fields, no_fields, field}
+use Rattle.vx_trees.specs.Rose.{node, end, more, count, roses_of}
+use Rattle.vx_flat.specs.Value.{Field, member, Fields, no_fields, field}
 use Rattle.vx_types.specs.Content.{AreDistinct}
 use Rattle.vx_types.specs.Refused.{IsRefusedUnion}
 use Rattle.vx_types.specs.declared.error.TypeError.{TypeError}

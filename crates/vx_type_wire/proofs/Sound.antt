@@ -1,16 +1,15 @@
 -- A table is that of the type that is read from it.
-use Rattle.std.specs.Prelude.{◌≡◌, ◌⊎◌, ℕ, suc, ◌-◌, ◌<◌, ◌≤◌, ◌^◌, ◌==◌, ◌&&◌, nat_lt, if◌then◌else◌, ℤ, pos, negsuc, Bool, true, false, List, [], ◌∷◌, length, Option, Some, None, refl}
+use Rattle.std.specs.Prelude.{◌≡◌, ℕ, ◌-◌, ◌<◌, ◌^◌, ◌==◌, ◌&&◌, nat_lt, if◌then◌else◌, pos, negsuc, Bool, true, false, List, [], ◌∷◌, length, Option, Some, None, refl}
 use Rattle.std.specs.List.{find}
 use Rattle.std.proofs.Common.{ap, arith, sym, ◌∙◌, subst}
 use Rattle.std.proofs.lemmas.Bool.{eqb-true, ltb-true}
-use Rattle.std.proofs.lemmas.Bool.Decides.{nat_tests}
 use Rattle.vx_trees.specs.Rose.{Roses, node, end, more, count}
-use Rattle.vx_flat.specs.Value.{Field, absent, number, elements, text, texts, table, tables, member}
+use Rattle.vx_flat.specs.Value.{Field, number, elements, text, texts, table, tables, member}
 use Rattle.vx_flat.specs.Value.{Fields, no_fields, field, Rows, no_rows, row}
 use Rattle.vx_types.specs.declared.nullability.Nullability.{Nullability}
 use Rattle.vx_types.specs.declared.nullability.Nullability.TheVariants.{NonNullable, Nullable}
 use Rattle.vx_types.specs.declared.ptype.PType.{PType}
-use Rattle.vx_types.specs.Kind.{Kind, null, boolean, primitive, decimal, utf8, binary, list, fixed_size_list}
+use Rattle.vx_types.specs.Kind.{Kind, boolean, primitive, decimal, utf8, binary, list, fixed_size_list}
 use Rattle.vx_types.specs.Kind.{structure, union, map, variant, extension}
 use Rattle.vx_types.specs.Typ.{Typ}
 use Rattle.vx_types.specs.Numbers.{code_of}

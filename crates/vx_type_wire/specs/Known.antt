@@ -13,6 +13,10 @@ pub record ExtMeaning : Type 0 where
   pub reader : List ℕ → Option (List ℕ → Typ → Bool)
   pub unknown : Bool
 
+-- No identifier has a reader, and extensions without one are not allowed.
+abbrev pub no_readers : ExtMeaning
+no_readers = record { reader = λ id. None; unknown = false }
+
 -- An extension is accepted by the reader of its identifier, or has none and such ones are allowed.
 abbrev pub IsAcceptedBy : Option (List ℕ → Typ → Bool) → Bool → List ℕ → Typ → Type 0
 IsAcceptedBy (Some accepts) unknown metadata storage = IsTrue (accepts metadata storage)

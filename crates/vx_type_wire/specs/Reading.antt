@@ -1,9 +1,9 @@
 -- The type that a table is of, by what stands in the table.
-use Rattle.std.specs.Prelude.{◌≡◌, ℕ, ◌-◌, ◌<◌, ◌^◌, ◌==◌, ◌&&◌, nat_lt, not, if◌then◌else◌, ℤ, pos, negsuc, Bool, true, false}
+use Rattle.std.specs.Prelude.{ℕ, ◌-◌, ◌^◌, ◌==◌, ◌&&◌, nat_lt, not, if◌then◌else◌, ℤ, pos, negsuc, Bool, true, false}
 use Rattle.std.specs.Prelude.{List, [], ◌∷◌, length, Option, Some, None}
 use Rattle.std.specs.List.{find, list_any}
 use Rattle.vx_trees.specs.Rose.{Roses, node, end, more, count}
-use Rattle.vx_flat.specs.Value.{Field, absent, number, elements, text, texts, table, tables, member}
+use Rattle.vx_flat.specs.Value.{Field, number, elements, text, texts, table, tables, member}
 use Rattle.vx_flat.specs.Value.{Fields, no_fields, field, Rows, no_rows, row}
 use Rattle.vx_types.specs.declared.nullability.Nullability.{Nullability}
 use Rattle.vx_types.specs.declared.nullability.Nullability.TheVariants.{NonNullable, Nullable}

@@ -3,7 +3,7 @@
 ghost use Rattle.std.specs.Prelude.{◌≡◌, ◌↔◌, ℕ, Bool, List, None, Some, true, false, cond, bytes_eq, OnOk, OnErr, IfErr, IsOkUnless};
 ghost use Rattle.vx_types.specs.Typ.{Typ};
 ghost use Rattle.vx_types.specs.Seen.{typ};
-ghost use Rattle.vx_type_wire.specs.Known.{IsAccepted, IsNotAccepted};
+ghost use Rattle.vx_type_wire.specs.Known.{IsAccepted, IsNotAccepted, no_readers};
 ghost use Rattle.vx_type_wire.specs.Session.{ext_meaning};
 
 use crate::error::TypeWireError;
@@ -40,8 +40,7 @@ impl ExtSession {
     /// No reader, and none allowed but with one. It takes no memory; readers are
     /// stored by this allocator.
     pub fn new(alloc: Global) -> ExtSession
-        ensures readers { (id : List ℕ) → (ext_meaning accepted result).reader id ≡ None }
-        ensures unknown { (ext_meaning accepted result).unknown ≡ false }
+        ensures { ext_meaning accepted result ≡ no_readers }
     {
         ExtSession {
             readers: HashMap::new(alloc),

@@ -1,6 +1,4 @@
-use Rattle.std.proofs.Common.{◌≡◌, None, Some}
 use Rattle.vx_flat.specs.View.{view}
-use Rattle.vx_types.specs.declared.ptype.PType.{PType}
 use Rattle.vx_type_wire.proofs.Sound.{no_code}
 use Rattle.vx_type_wire.proofs.parts.ptype_in.Goals as goal
 
