@@ -5,7 +5,7 @@ ghost use Rattle.std.specs.Prelude.{◌≡◌, ℕ, List, length, IsTrue, ◌↔
 use std::marker::Model;
 
 /// A message that was written. Its places count from its first byte, which is to stand at a
-/// multiple of 8.
+/// multiple of [`ALIGNMENT`](FlatBuffer::ALIGNMENT).
 #[derive(Debug, Drop)]
 pub struct FlatBuffer {
     bytes: Vec<u8>,
@@ -19,6 +19,9 @@ impl Model for FlatBuffer {
 
 impl FlatBuffer {
     ghost use Rattle.std.specs.Prelude.{[]};
+
+    /// At a multiple of how many bytes the message's first byte is to stand.
+    pub const ALIGNMENT: usize = 8;
 
     pub(crate) fn new(bytes: Vec<u8>) -> FlatBuffer
         ensures { result ≡ bytes.items }

@@ -1,3 +1,11 @@
-pub mod Tables
-pub mod Injective
+pub mod Distinct
+pub mod ReadBack
+pub mod Sound
+pub mod Rows
+pub mod Sizes
+pub mod Views
+pub mod OfParts
+pub mod Judging
+pub mod OneType
 pub mod Worked
+pub mod Found

@@ -1,3 +1,7 @@
 pub mod Schema
 pub mod TypeTable
+pub mod Known
+pub mod Session
+pub mod Reading
+pub mod Answers
 pub mod Shown

@@ -1,6 +1,11 @@
 //! Refusals of this crate.
 
+ghost use Rattle.std.specs.Prelude.{◌≡◌};
+ghost use Rattle.vx_type_wire.specs.declared.error.TypeWireError.TheVariants.{OutOfMemory};
+
+use std::alloc::{AllocError, AllocFailed};
 use thiserror::Error;
+use vx_types::TypeError;
 
 /// Why a message is not read as a type.
 #[derive(Clone, Copy, Debug, PartialEq, Eq, Error)]
@@ -15,7 +20,45 @@ pub enum TypeWireError {
     #[error("the message nests too deep or unfolds to too many tables or bytes")]
     TableLimit,
     /// The table is no type's: its union has no member or one that is not known,
-    /// a part is absent, or a number is no code.
+    /// a part is absent, a number is no code or out of range, lists of parts are
+    /// not of one length, a tag stands twice, or a decimal has no digit or too many.
     #[error("the table is no type's")]
     BadType,
+    /// An extension's identifier has no reader, and such extensions are not
+    /// allowed.
+    #[error("an extension's identifier has no reader")]
+    UnknownExtension,
+    /// The reader of an extension's identifier does not accept its metadata and
+    /// storage.
+    #[error("an extension's reader does not accept it")]
+    ExtensionRefused,
+}
+
+impl From<AllocError> for TypeWireError {
+    ghost from_gives = { λ _ e. e ≡ OutOfMemory };
+
+    fn from(_e: AllocError) -> TypeWireError {
+        TypeWireError::OutOfMemory
+    }
+}
+
+impl<T: Drop> From<AllocFailed<T>> for TypeWireError {
+    ghost from_gives = { λ _ e. e ≡ OutOfMemory };
+
+    fn from(_e: AllocFailed<T>) -> TypeWireError {
+        TypeWireError::OutOfMemory
+    }
+}
+
+impl From<TypeError> for TypeWireError {
+    ghost use Rattle.vx_type_wire.specs.Answers.{refusal_of};
+
+    ghost from_gives = { λ t e. e ≡ refusal_of t };
+
+    fn from(error: TypeError) -> TypeWireError {
+        match error {
+            TypeError::OutOfMemory => TypeWireError::OutOfMemory,
+            _ => TypeWireError::BadType,
+        }
+    }
 }

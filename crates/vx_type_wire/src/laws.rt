@@ -3,27 +3,33 @@
 ghost use Rattle.std.specs.Prelude.{◌≡◌, Bool, List, ℕ};
 ghost use Rattle.vx_flat.specs.Layout.{layout};
 ghost use Rattle.vx_flat.specs.Worked.{type_message};
-ghost use Rattle.vx_types.specs.Typ.{Typ};
+ghost use Rattle.vx_types.specs.Typ.{Typ, IsType};
+ghost use Rattle.vx_type_wire.specs.declared.error.TypeWireError.{TypeWireError};
+ghost use Rattle.vx_type_wire.specs.Known.{ExtMeaning, IsKnown, IsNotKnown};
 ghost use Rattle.vx_type_wire.specs.Schema.{type_schema};
-ghost use Rattle.vx_type_wire.specs.Shown.{IsRead};
+ghost use Rattle.vx_type_wire.specs.Shown.{ShowsType};
 ghost use Rattle.vx_type_wire.specs.TypeTable.{type_table, integers};
 
 use vx_flat::laws::{one_value, worked_type};
-use vx_types::laws::code_is_of_one_kind;
 
-/// A message is read as one type at most.
+/// A table is of one type at most, and a message shows one type at most.
 pub fn one_type()
-    ensures { (m : List ℕ) (t u : Typ) → IsRead m t → IsRead m u → t ≡ u }
+    ensures table { (t u : Typ) → IsType t → IsType u → type_table t ≡ type_table u → t ≡ u }
+    ensures message { (m : List ℕ) (t u : Typ) → ShowsType m t → ShowsType m u → t ≡ u }
 {
     one_value();
-    code_is_of_one_kind();
 }
 
+/// A type is not both known and not known under a session.
+pub fn known_or_not()
+    ensures { (e : TypeWireError) (s : ExtMeaning) (t : Typ) → IsNotKnown e s t → IsKnown s t → ⊥ }
+{}
+
 /// The worked message of 45 bytes is the layout of the table of I32, not
-/// nullable, in both forms, and is read as that type.
+/// nullable, in both forms, and shows that type.
 pub fn worked_integers()
     ensures laid_out { (sharing : Bool) → layout sharing type_schema (type_table integers) ≡ type_message }
-    ensures read { IsRead type_message integers }
+    ensures shown { ShowsType type_message integers }
 {
     worked_type();
 }

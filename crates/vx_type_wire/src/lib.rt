@@ -2,19 +2,25 @@
 //!
 //! [`TypeKind`] is the kind of messages that show a type: a table with one
 //! field, a union whose members are the kinds of types. [`DTypeExt`] gives a
-//! type its reader. What contracts say is written down in `specs::TypeTable`,
-//! the table of each type, and `specs::Shown`, what it means that a message
-//! shows one.
+//! type its reader, which asks an [`ExtSession`] for the extensions that stand in
+//! a type. What contracts say is written down in `specs::TypeTable`, the table of
+//! each type, `specs::Known`, which types a session knows, and `specs::Shown`,
+//! what it means that a message shows a type.
 #![tactic(auto)]
 
 mod error;
 mod kind;
+mod known;
 pub mod laws;
+mod messages;
+mod parts;
+mod readers;
 mod reading;
 
 pub use error::TypeWireError;
 pub use kind::TypeKind;
-pub use reading::DTypeExt;
+pub use messages::DTypeExt;
+pub use readers::{ExtPlugin, ExtSession};
 
-#[cfg(test)]
-mod tests;
+
+

@@ -71,6 +71,7 @@ impl TableKind for ArrayKind {
 }
 
 /// The messages of types, as far as the worked one goes: a primitive, as member 3.
+#[derive(Drop)]
 pub struct TypeKind;
 
 static TYPE: [FieldKind; 1] = [FieldKind::Union(0)];

@@ -1,0 +1,105 @@
+//! Values that are read from messages, and written block by block.
+
+ghost use Rattle.std.specs.Prelude.{◌≡◌, ◌<◌, ◌^◌, ◌⊎◌, false, IfOk, IfErr, OnOk, OnErr, IsOk, length};
+ghost use Rattle.vx_flat.specs.Schema.{fields_of};
+ghost use Rattle.vx_flat.specs.Value.{Fields};
+ghost use Rattle.vx_flat.specs.View.{value as value_of};
+ghost use Rattle.vx_flat.specs.IsOf.{IsOf};
+ghost use Rattle.vx_flat.specs.Shows.{Shows};
+ghost use Rattle.vx_flat.specs.Layout.{layout};
+ghost use Rattle.vx_flat.specs.Linking.{written_length};
+ghost use Rattle.vx_flat.specs.Building.{Built, nothing_built, Takes, Written, Keeps};
+ghost use Rattle.vx_flat.specs.Refusing.{IsUnread};
+ghost use Rattle.vx_flat.specs.declared.error.FlatError.TheVariants.{OutOfMemory};
+
+use crate::buffer::FlatBuffer;
+use crate::builder::Builder;
+use crate::error::FlatError;
+use crate::piece::LinkKind;
+use crate::reading::read_value;
+use crate::schema::TableKind;
+use crate::value::TableValue;
+use std::alloc::Global;
+
+/// A type whose table is the root of a message.
+pub trait FlatBufferRoot {}
+
+/// A type that is read from a message.
+pub trait ReadFlatBuffer: Sized {
+    /// The kind of its messages.
+    type Kind: TableKind + Drop;
+
+    const KIND: Self::Kind;
+
+    type Error: From<FlatError>;
+
+    /// A table and what it is read as.
+    ghost reads: { Fields → Self → Type 0 };
+
+    /// Why a table is not read. Want of memory has no cause in the table.
+    ghost unread: { Fields → Self.Error → Type 0 };
+
+    /// What a table shows.
+    fn read_flatbuffer(alloc: Global, value: &TableValue) -> Result<Self, Self::Error>
+        requires { IsOf Self.Kind.schema (value_of value.now) }
+        ensures read { IfOk result (λ x. reads (value_of value.now) x) }
+        ensures cause { IfErr result (λ e. unread (value_of value.now) e) };
+
+    /// What a message's root table shows.
+    fn read_flatbuffer_bytes(alloc: Global, message: &[u8]) -> Result<Self, Self::Error>
+        ensures read { IfOk result
+            (λ x. (v : Fields) × Shows Self.Kind.schema message.now v × reads v x) }
+        ensures cause { IfErr result
+            (λ e. ((f : FlatError) × IsUnread Self.Kind.schema message.now f × Self.Error.from_gives f e)
+            ⊎ ((v : Fields) × Shows Self.Kind.schema message.now v × unread v e)) }
+    {
+        let value = read_value(alloc, message, &Self::KIND)?;
+        Self::read_flatbuffer(alloc, &value)
+    }
+}
+
+/// A type that is written as a table, block by block.
+pub trait WriteFlatBuffer {
+    /// The kind of its messages.
+    type Kind: TableKind + Drop;
+
+    const KIND: Self::Kind;
+
+    type Error: From<FlatError>;
+
+    /// The value's table.
+    ghost table: { Self → Fields };
+
+    /// Why a value is not written by a builder.
+    ghost unwritten: { Self → Built → Self.Error → Type 0 };
+
+    /// Writes the blocks of the value, its table first. After a refusal the builder keeps the
+    /// blocks that it has.
+    fn write_flatbuffer(&self, builder: &mut Builder) -> Result<(), Self::Error>
+        requires { Takes LinkKind.Table builder.old.waits builder.old.blocks }
+        ensures of_kind { IsOk result → IsOf Self.Kind.schema (table self.now) }
+        ensures written { OnOk result
+            (Written Self.Kind.schema (fields_of Self.Kind.schema Self.Kind.schema.root) (table self.now)
+            builder.old builder.new) }
+        ensures fits { IsOk result → written_length builder.new.blocks < 2 ^ 31 }
+        ensures kept { OnErr result (Keeps builder.old builder.new) }
+        ensures cause { IfErr result (λ e. unwritten self.now builder.old e) };
+}
+
+/// The message of a value.
+pub trait WriteFlatBufferExt: WriteFlatBuffer + FlatBufferRoot {
+    /// The message whose root is the value's table: its layout in the plain form.
+    fn write_flatbuffer_bytes(&self, alloc: Global) -> Result<FlatBuffer, Self::Error>
+        ensures written { IfOk result (λ b. b ≡ layout false Self.Kind.schema (Self.table self.now)) }
+        ensures fits { IfOk result (λ b. length b < 2 ^ 31) }
+        ensures cause { IfErr result
+            (λ e. Self.unwritten self.now nothing_built e ⊎ Self.Error.from_gives OutOfMemory e) }
+    {
+        let mut builder = Builder::new(alloc);
+        self.write_flatbuffer(&mut builder)?;
+        let message = builder.finish()?;
+        Ok(message)
+    }
+}
+
+impl<T: WriteFlatBuffer + FlatBufferRoot> WriteFlatBufferExt for T {}
