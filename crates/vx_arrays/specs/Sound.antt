@@ -3,7 +3,7 @@ use Rattle.std.specs.Prelude.{ℕ, ◌≡◌, ◌*◌, ◌≤◌, ◌^◌, Optio
 use Rattle.vx_buffer.specs.Buffer.{Buffer}
 use Rattle.vx_trees.specs.Rose.{node, end, more, count}
 use Rattle.vx_trees.specs.Everywhere.{Everywhere}
-use Rattle.vx_types.specs.Kind.{primitive}
+use Rattle.vx_types.specs.Kind.{null, primitive}
 use Rattle.vx_types.specs.Numbers.{width_of}
 use Rattle.vx_types.specs.Typ.{Typ}
 use Rattle.vx_types.specs.declared.nullability.Nullability.{Nullability}
