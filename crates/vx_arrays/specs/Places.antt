@@ -2,7 +2,7 @@
 use Rattle.std.specs.Prelude.{ℕ, zero, suc, ◌≡◌, List, [], ◌∷◌, Option, Some, None, refl}
 use Rattle.std.specs.Coded.{Coded, code_by, coded×, coded_ℕ, coded_list}
 use Rattle.vx_trees.specs.Rose.{node, end, more, label, count}
-use Rattle.vx_types.specs.Kind.{null, boolean, primitive}
+use Rattle.vx_types.specs.Kind.{boolean, primitive}
 use Rattle.vx_types.specs.Typ.{Typ, typ_code}
 use Rattle.vx_types.specs.declared.nullability.Nullability.{Nullability}
 use Rattle.vx_types.specs.declared.nullability.Nullability.TheVariants.{NonNullable, Nullable}
@@ -48,9 +48,7 @@ pub record IsValidity (m : Nullability) (n : ℕ) (ts : Trees) : Type 0 where
 -- no such node.
 abbrev pub primitive_plan : Typ → ℕ → ℕ → Option (List Place)
 primitive_plan (node (primitive p m) end) n k = validity_plan n k
-primitive_plan (node (primitive p m) (more d ds)) n k = None
-primitive_plan (node null ds) n k = None
-primitive_plan (node (boolean m) ds) n k = None
+primitive_plan _ n k = None
 
 -- The places that the k children of a node are to have, by its type, its rows and its encoding: none where
 -- the type is of another kind or so many do not fit.

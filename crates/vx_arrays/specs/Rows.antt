@@ -2,7 +2,7 @@
 use Rattle.std.specs.Prelude.{ℕ, List, [], ◌∷◌, Option, Some, None, true, false, Bool, ◌*◌, take, drop, slice_index}
 use Rattle.std.specs.Int.{w8, w16, w32, w64, from_le_bytes, cast_signed}
 use Rattle.vx_trees.specs.Rose.{node, end, more}
-use Rattle.vx_types.specs.Kind.{null, boolean, primitive}
+use Rattle.vx_types.specs.Kind.{primitive}
 use Rattle.vx_types.specs.Numbers.{width_of}
 use Rattle.vx_types.specs.Typ.{Typ}
 use Rattle.vx_types.specs.declared.ptype.PType.{PType}
@@ -53,8 +53,7 @@ number_row (Some true) v = Primitive v
 -- The number at a row, under a type of numbers. (No sound node of numbers has another type.)
 abbrev pub typed_row : Typ → Option Bool → List ℕ → ℕ → RowValue
 typed_row (node (primitive p m) ds) valid bytes i = number_row valid (primitive_at p bytes i)
-typed_row (node null ds) valid bytes i = Null
-typed_row (node (boolean m) ds) valid bytes i = Null
+typed_row _ valid bytes i = Null
 
 -- A node's row, by its children's rows.
 abbrev pub row_of : Head → List (ℕ → RowValue) → ℕ → RowValue

@@ -3,7 +3,7 @@ use Rattle.std.specs.Prelude.{ℕ, ◌≡◌, ◌*◌, ◌≤◌, ◌^◌, Optio
 use Rattle.vx_buffer.specs.Buffer.{Buffer}
 use Rattle.vx_trees.specs.Rose.{node, end, more, count}
 use Rattle.vx_trees.specs.Everywhere.{Everywhere}
-use Rattle.vx_types.specs.Kind.{null, boolean, primitive}
+use Rattle.vx_types.specs.Kind.{primitive}
 use Rattle.vx_types.specs.Numbers.{width_of}
 use Rattle.vx_types.specs.Typ.{Typ}
 use Rattle.vx_types.specs.declared.nullability.Nullability.{Nullability}
@@ -22,9 +22,7 @@ pub record HoldsNumbers (p : PType) (m : Nullability) (n : ℕ) (values : Buffer
 -- A node of the primitive encoding holds numbers of its type's kind, and has no other type.
 abbrev pub IsPrimitive : Typ → ℕ → Buffer → ℕ → Type 0
 IsPrimitive (node (primitive p m) end) n values k = HoldsNumbers p m n values k
-IsPrimitive (node (primitive p m) (more d ds)) n values k = ⊥
-IsPrimitive (node null ds) n values k = ⊥
-IsPrimitive (node (boolean m) ds) n values k = ⊥
+IsPrimitive _ n values k = ⊥
 
 -- The row of a node's encoding in the table of encodings: its type, its buffers, how many children.
 abbrev pub IsShaped : Head → ℕ → Type 0

@@ -183,12 +183,12 @@ impl Array {
     pub fn clone(&self, alloc: Global) -> Result<Array, ArrayError>
         ensures { IfOk result (λ a. a ≡ self.now) }
     {
-        let dtype = self.dtype().clone(alloc)?;
-        let body = self.body().clone(alloc)?;
         let mut children = Vec::new(alloc);
         for child in self.children() {
             children.push(child.clone(alloc)?)?;
         }
+        let dtype = self.dtype().clone(alloc)?;
+        let body = self.body().clone(alloc)?;
         Ok(Array::from_parts(dtype, self.len(), body, children))
     }
 }

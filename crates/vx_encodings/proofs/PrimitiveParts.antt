@@ -4,7 +4,7 @@ use Rattle.vx_buffer.specs.Buffer.{Buffer}
 use Rattle.vx_trees.specs.Rose.{node, end, more, below, count, roses_of}
 use Rattle.vx_trees.specs.Everywhere.{EverywhereBelow}
 use Rattle.vx_trees.proofs.Lists.{count-roses_of}
-use Rattle.vx_types.specs.Kind.{null, boolean, primitive}
+use Rattle.vx_types.specs.Kind.{primitive}
 use Rattle.vx_types.specs.Seen.{typ}
 use Rattle.vx_types.specs.Typ.{Typ}
 use Rattle.vx_types.specs.declared.dtype.DType.TheVariants as D
@@ -42,9 +42,7 @@ validity_few n (suc (suc k)) (p ∷ q ∷ ps) e = absurd (cc)
 
 primitive_few : (d : Typ) (n k : ℕ) (ps : List Place) → primitive_plan d n k ≡ Some ps → length ps ≤ 1
 primitive_few (node (primitive p m) end) n k ps e = validity_few n k ps e
-primitive_few (node (primitive p m) (more d ds)) n k ps e = absurd (cc)
-primitive_few (node null ds) n k ps e = absurd (cc)
-primitive_few (node (boolean m) ds) n k ps e = absurd (cc)
+primitive_few _ n k ps e = absurd (cc)
 
 -- a planned node of numbers has at most one child
 pub few_children : (h : ArrayHead) (us : Trees) (ts : List Tree) → IsPlanned Primitive h (places us) → roses_of ts ≡ us → length ts ≤ 1

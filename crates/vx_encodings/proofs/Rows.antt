@@ -1,7 +1,7 @@
 -- The laws of the encodings' rows, encoding by encoding.
 use Rattle.std.proofs.Common.{ℕ, zero, suc, ◌≡◌, List, [], ◌∷◌, Some, refl, length}
 use Rattle.vx_trees.specs.Rose.{node, end, more, count}
-use Rattle.vx_types.specs.Kind.{null, boolean, primitive}
+use Rattle.vx_types.specs.Kind.{primitive}
 use Rattle.vx_types.specs.Typ.{Typ}
 use Rattle.vx_arrays.specs.Tree.{Head, Trees, buffers_of}
 use Rattle.vx_arrays.specs.Places.{Place, places, primitive_plan, validity_plan}
@@ -76,9 +76,7 @@ validity_length n (suc (suc k)) ps e = absurd (cc)
 
 primitive_length : (d : Typ) (n k : ℕ) (ps : List Place) → primitive_plan d n k ≡ Some ps → length ps ≡ k
 primitive_length (node (primitive p m) end) n k ps e = validity_length n k ps e
-primitive_length (node (primitive p m) (more d ds)) n k ps e = absurd (cc)
-primitive_length (node null ds) n k ps e = absurd (cc)
-primitive_length (node (boolean m) ds) n k ps e = absurd (cc)
+primitive_length _ n k ps e = absurd (cc)
 
 pub plan_length : PlanLengthLaw
 plan_length Primitive d n v k ps e = primitive_length d n k ps e

@@ -65,7 +65,7 @@ fn build_primitive(
 {
     let (ptype, nullability) = match head.dtype {
         DType::Primitive(ptype, nullability) => (ptype, nullability),
-        DType::Null | DType::Bool(_) => return Err(EncodingError::BadShape),
+        _ => return Err(EncodingError::BadShape),
     };
     let values = match only(buffers) {
         Some(values) => values,

@@ -64,7 +64,7 @@ fn plan_primitive(
 {
     match dtype {
         DType::Primitive(_, _) => plan_validity(alloc, len, count),
-        DType::Null | DType::Bool(_) => Err(EncodingError::BadShape),
+        _ => Err(EncodingError::BadShape),
     }
 }
 

@@ -1,7 +1,7 @@
 -- The tree of a type tells the type.
 use Rattle.std.specs.Prelude.{◌≡◌, List, [], ◌∷◌, ◌++◌, refl}
-use Rattle.std.proofs.Common.{ap, sym, ◌∙◌, subst}
-use Rattle.vx_trees.specs.Rose.{Rose, Roses, node, end, more, roses_of, roses_list, count}
+use Rattle.std.proofs.Common.{ap, sym, ◌∙◌}
+use Rattle.vx_trees.specs.Rose.{Roses, node, end, more, roses_list}
 use Rattle.vx_trees.proofs.Holding.{everywhere_below-snoc}
 use Rattle.vx_trees.proofs.Lists.{roses_list-roses_of}
 use Rattle.vx_types.specs.Kind.{Kind, null, boolean, primitive, decimal, utf8, binary, list, fixed_size_list, structure, union, map, variant, extension}

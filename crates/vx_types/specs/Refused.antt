@@ -1,5 +1,5 @@
 -- When the parts of a type are refused.
-use Rattle.std.specs.Prelude.{ℕ, List, length, ◌≡◌, ◌≢◌, ◌⊎◌}
+use Rattle.std.specs.Prelude.{ℕ, List, length, ◌≢◌, ◌⊎◌}
 use Rattle.vx_types.specs.Content.{AreDistinct}
 use Rattle.vx_types.specs.Typ.{Typ}
 use Rattle.vx_types.specs.declared.error.TypeError.{TypeError}
