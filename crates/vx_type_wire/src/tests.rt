@@ -213,7 +213,7 @@ impl ExtPlugin for Days {
 }
 
 // A reader of this identifier that accepts all extensions or none.
-fn days(alloc: Global, id: &str, accepts: bool) -> Result<Days, TypeError> {
+fn reader_of(alloc: Global, id: &str, accepts: bool) -> Result<Days, TypeError> {
     let id = Id::new(alloc, id)?;
     Ok(Days { id, accepts })
 }
@@ -222,13 +222,13 @@ fn days(alloc: Global, id: &str, accepts: bool) -> Result<Days, TypeError> {
 fn extensions_are_judged_by_their_readers(rt: HostRuntime) -> Result<(), Fail> {
     let alloc = rt.alloc();
     let mut readers = ExtSession::new(alloc);
-    readers.register(Box::new(alloc, days(alloc, "x.night", true)?)?)?;
+    readers.register(Box::new(alloc, reader_of(alloc, "x.night", true)?)?)?;
     let unread = DType::from_flatbuffer(alloc, &EXTENSION, &readers).err();
     assert!(rt; unread == Some(TypeWireError::UnknownExtension));
-    readers.register(Box::new(alloc, days(alloc, "x.day", false)?)?)?;
+    readers.register(Box::new(alloc, reader_of(alloc, "x.day", false)?)?)?;
     let refused = DType::from_flatbuffer(alloc, &EXTENSION, &readers).err();
     assert!(rt; refused == Some(TypeWireError::ExtensionRefused));
-    readers.register(Box::new(alloc, days(alloc, "x.day", true)?)?)?;
+    readers.register(Box::new(alloc, reader_of(alloc, "x.day", true)?)?)?;
     assert!(rt; DType::from_flatbuffer(alloc, &EXTENSION, &readers).is_ok());
     Ok(())
 }
@@ -241,7 +241,7 @@ fn extensions_without_a_reader_may_be_allowed(rt: HostRuntime) -> Result<(), Fai
     readers.allow_unknown();
     assert!(rt; readers.allows_unknown());
     assert!(rt; DType::from_flatbuffer(alloc, &EXTENSION, &readers).is_ok());
-    readers.register(Box::new(alloc, days(alloc, "x.day", false)?)?)?;
+    readers.register(Box::new(alloc, reader_of(alloc, "x.day", false)?)?)?;
     let refused = DType::from_flatbuffer(alloc, &EXTENSION, &readers).err();
     assert!(rt; refused == Some(TypeWireError::ExtensionRefused));
     Ok(())
