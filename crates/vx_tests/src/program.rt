@@ -1,6 +1,6 @@
 //! The program, run on the worked files.
 
-use crate::files::{BLOB, BLOB_OF_ANOTHER, BLOB_OF_SECOND, IDS, PADDED_BLOB, TYPE};
+use crate::files::{BLOB, BLOB_OF_ANOTHER, BLOB_OF_SECOND, EXTENSION_TYPE, IDS, PADDED_BLOB, TYPE};
 use std::alloc::Global;
 use std::test::Fail;
 use vx_types::{Name, TypeError};
@@ -156,6 +156,7 @@ fn files_are_judged(rt: HostRuntime) -> Result<(), Fail> {
     let alloc = rt.alloc();
     for (dtype, blob, ids, status) in [
         (&TYPE[..3], BLOB.as_slice(), IDS, 6),
+        (EXTENSION_TYPE.as_slice(), BLOB.as_slice(), IDS, 6),
         (TYPE.as_slice(), BLOB.as_slice(), "a\n\nb", 7),
         (TYPE.as_slice(), &BLOB[..0], IDS, 10),
         (TYPE.as_slice(), &BLOB[..3], IDS, 10),
