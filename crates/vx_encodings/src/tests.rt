@@ -38,27 +38,32 @@ fn plans_have_at_most_a_validity(rt: HostRuntime) -> Result<(), Fail> {
         }
         None => assert!(rt; false, "a plan of one child"),
     }
-    let numbers = DType::Primitive(PType::I32, Nullability::NonNullable);
-    let cases = [
-        (
-            head_of(alloc, DType::Null, 4, &[], 0)?,
-            EncodingError::BadShape,
-        ),
-        (
-            head_of(alloc, DType::Bool(Nullability::Nullable), 4, &[], 0)?,
-            EncodingError::BadShape,
-        ),
-        (
-            head_of(alloc, numbers, 4, &[8], 0)?,
-            EncodingError::BadMetadata,
-        ),
-    ];
-    for (head, error) in &cases {
-        match plan(alloc, Encoding::Primitive, head) {
-            Ok(_) => assert!(rt; false, "no plan"),
-            Err(e) => assert!(rt; e == *error),
-        }
+    Ok(())
+}
+
+// Why numbers of this type and metadata are not planned, if they are not.
+fn plan_refusal(
+    alloc: Global,
+    dtype: DType,
+    metadata: &[u8],
+) -> Result<Option<EncodingError>, Fail> {
+    let head = head_of(alloc, dtype, 4, metadata, 0)?;
+    match plan(alloc, Encoding::Primitive, &head) {
+        Ok(_) => Ok(None),
+        Err(e) => Ok(Some(e)),
     }
+}
+
+#[test]
+fn plans_of_numbers_are_refused(rt: HostRuntime) -> Result<(), Fail> {
+    let alloc = rt.alloc();
+    let nulls = plan_refusal(alloc, DType::Null, &[])?;
+    assert!(rt; nulls == Some(EncodingError::BadShape));
+    let truths = plan_refusal(alloc, DType::Bool(Nullability::Nullable), &[])?;
+    assert!(rt; truths == Some(EncodingError::BadShape));
+    let numbers = DType::Primitive(PType::I32, Nullability::NonNullable);
+    let with_metadata = plan_refusal(alloc, numbers, &[8])?;
+    assert!(rt; with_metadata == Some(EncodingError::BadMetadata));
     Ok(())
 }
 
@@ -76,6 +81,17 @@ fn build_leaf(
     build(alloc, encoding, head, buffers, Arrays::new(alloc))
 }
 
+// The metadata of a node without children, once it is built.
+fn built_metadata(
+    alloc: Global,
+    encoding: Encoding,
+    head: ArrayHead,
+    buffers: BufferHandles,
+) -> Result<Blob, EncodingError> {
+    let array = build_leaf(alloc, encoding, head, buffers)?;
+    metadata(alloc, &array)
+}
+
 #[test]
 fn a_node_is_built_of_its_parts(rt: HostRuntime) -> Result<(), Fail> {
     let alloc = rt.alloc();
@@ -85,21 +101,14 @@ fn a_node_is_built_of_its_parts(rt: HostRuntime) -> Result<(), Fail> {
         (3, word, false),
         (2, Alignment::none(), false),
     ] {
-        let dtype = DType::Primitive(PType::I32, Nullability::NonNullable);
-        let head = head_of(alloc, dtype, len, &[], 0)?;
         let mut buffers = BufferHandles::new(alloc);
         let values = ByteBuffer::copy_from(alloc, &[1, 0, 0, 0, 2, 0, 0, 0])?;
         buffers.push(BufferHandle::new_host(values.aligned(alignment)))?;
-        let built = build_leaf(alloc, Encoding::Primitive, head, buffers);
-        match built {
-            Ok(array) => {
-                assert!(rt; fits, "{len} numbers");
-                assert!(rt; metadata(alloc, &array)?.is_empty());
-            }
-            Err(e) => {
-                assert!(rt; !fits, "{len} numbers");
-                assert!(rt; e == EncodingError::BadShape);
-            }
+        let dtype = DType::Primitive(PType::I32, Nullability::NonNullable);
+        let head = head_of(alloc, dtype, len, &[], 0)?;
+        match built_metadata(alloc, Encoding::Primitive, head, buffers) {
+            Ok(bytes) => assert!(rt; fits && bytes.is_empty(), "{len} numbers"),
+            Err(e) => assert!(rt; !fits && e == EncodingError::BadShape, "{len} numbers"),
         }
     }
     Ok(())
@@ -108,49 +117,32 @@ fn a_node_is_built_of_its_parts(rt: HostRuntime) -> Result<(), Fail> {
 #[test]
 fn nulls_are_built_of_nothing(rt: HostRuntime) -> Result<(), Fail> {
     let alloc = rt.alloc();
-    for (dtype, bytes, nchildren, buffers, error) in [
-        (DType::Null, [].as_slice(), 0, 0, None),
-        (
-            DType::Null,
-            [0].as_slice(),
-            0,
-            0,
-            Some(EncodingError::BadMetadata),
-        ),
-        (
-            DType::Null,
-            [].as_slice(),
-            1,
-            0,
-            Some(EncodingError::BadShape),
-        ),
-        (
-            DType::Null,
-            [].as_slice(),
-            0,
-            1,
-            Some(EncodingError::BadShape),
-        ),
-        (
-            DType::Bool(Nullability::Nullable),
-            [].as_slice(),
-            0,
-            0,
-            Some(EncodingError::BadShape),
-        ),
+    for (bytes, nchildren, buffers, error) in [
+        ([].as_slice(), 0, 0, None),
+        ([0].as_slice(), 0, 0, Some(EncodingError::BadMetadata)),
+        ([].as_slice(), 1, 0, Some(EncodingError::BadShape)),
+        ([].as_slice(), 0, 1, Some(EncodingError::BadShape)),
     ] {
-        let head = head_of(alloc, dtype, usize::MAX, bytes, nchildren)?;
         let mut handles = BufferHandles::new(alloc);
         for _ in 0..buffers {
             handles.push(BufferHandle::new_host(ByteBuffer::copy_from(alloc, &[])?))?;
         }
-        match build_leaf(alloc, Encoding::Null, head, handles) {
-            Ok(array) => {
-                assert!(rt; error.is_none() && array.len() == usize::MAX);
-                assert!(rt; metadata(alloc, &array)?.is_empty());
-            }
+        let head = head_of(alloc, DType::Null, usize::MAX, bytes, nchildren)?;
+        match built_metadata(alloc, Encoding::Null, head, handles) {
+            Ok(bytes) => assert!(rt; error.is_none() && bytes.is_empty()),
             Err(e) => assert!(rt; error == Some(e)),
         }
+    }
+    Ok(())
+}
+
+#[test]
+fn nulls_have_the_type_of_nulls(rt: HostRuntime) -> Result<(), Fail> {
+    let alloc = rt.alloc();
+    let head = head_of(alloc, DType::Bool(Nullability::Nullable), 1, &[], 0)?;
+    match built_metadata(alloc, Encoding::Null, head, BufferHandles::new(alloc)) {
+        Ok(_) => assert!(rt; false, "truths are no nulls"),
+        Err(e) => assert!(rt; e == EncodingError::BadShape),
     }
     Ok(())
 }
