@@ -205,7 +205,7 @@ union_none type_error.BadDecimal ns ts ids n h = absurd h
 union_none type_error.FieldCount ns ts ids n h =
     failed (count (roses_of ts) == length ns && (length ids == length ns && are_distinct ids)) (node (union ns ids n) (roses_of ts))
     (elim h [
-      inl k ↦ fst_false (count (roses_of ts) == length ns) (length ids == length ns) (are_distinct ids) (is_false _ (λ e. k (sym (sym (count-roses_of ts) ∙ eqb-true _ _ e))))
+      | inl k ↦ fst_false (count (roses_of ts) == length ns) (length ids == length ns) (are_distinct ids) (is_false _ (λ e. k (sym (sym (count-roses_of ts) ∙ eqb-true _ _ e))))
       | inr k ↦ snd_false (count (roses_of ts) == length ns) (length ids == length ns) (are_distinct ids) (is_false _ (λ e. k (sym (eqb-true _ _ e))))
     ])
 union_none type_error.DuplicateTag ns ts ids n h =

@@ -22,5 +22,5 @@ pub use kind::TypeKind;
 pub use messages::DTypeExt;
 pub use readers::{ExtPlugin, ExtSession};
 
-
-
+#[cfg(test)]
+mod tests;

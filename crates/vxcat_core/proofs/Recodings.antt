@@ -1,7 +1,9 @@
 -- From what the recoding of a blob ensures to what the program promises of it.
 use Rattle.std.proofs.Common.{◌≡◌, ℕ, List, [], Option, None, Some, option_map, Result, Ok, Err, IfOk, IfErr, sym, ap, subst, ◌∙◌}
 use Rattle.vx_types.specs.Typ.{Typ}
-use Rattle.vx_type_wire.specs.Shown.{IsRead}
+use Rattle.vx_type_wire.specs.Shown.{ShowsType}
+use Rattle.vx_type_wire.specs.declared.error.TypeWireError.{TypeWireError}
+use Rattle.vx_type_wire.specs.declared.error.TypeWireError.TheVariants as type_error
 use Rattle.vx_arrays.specs.Tree.{Tree}
 use Rattle.vx_encodings.specs.declared.encoding.Encoding.{Encoding}
 use Rattle.vx_registry.specs.Context.{Context}
@@ -10,10 +12,10 @@ use Rattle.vx_serde.specs.declared.options.SerializeOptions.{SerializeOptions}
 use Rattle.vx_serde.specs.declared.error.WireError.{WireError}
 use Rattle.vx_serde.specs.declared.error.WireError.TheVariants as wire
 use Rattle.vx_serde.specs.Causes.{Call, IsCaused}
-use Rattle.vxcat_core.specs.Status.{wire_status}
+use Rattle.vxcat_core.specs.Status.{wire_status, type_status}
 use Rattle.vxcat_core.specs.Words.{Line}
 use Rattle.vxcat_core.specs.IdFile.{ReadsIds}
-use Rattle.vxcat_core.specs.Recoding.{asked_by, call, write_options, CanRecode, CanRecodeInputs, IsBlobRecoded, IsBlobRefused, IsRefused}
+use Rattle.vxcat_core.specs.Recoding.{asked_by, call, write_options, CanRecode, CanRecodeInputs, IsBlobRecoded, IsBlobRefused, IsRefused, IsTypeStatus, ReadsType}
 use Rattle.vxcat_core.specs.declared.recoding.Inputs.{Inputs}
 use Rattle.vxcat_core.specs.declared.recoding.Outputs.{Outputs}
 use Rattle.vxcat_core.specs.declared.status.Status.{Status}
@@ -65,11 +67,41 @@ refused wire.BadShape asked cause = cause
 refused wire.NotPermitted asked cause = cause
 refused wire.WireLimit asked cause = cause
 
+-- The refusal of a type file has a status of its own, but for want of memory.
+pub type_refused : (error : TypeWireError) → IsTypeStatus (type_status error)
+type_refused type_error.OutOfMemory = tt
+type_refused type_error.BadTable = tt
+type_refused type_error.TableLimit = tt
+type_refused type_error.BadType = tt
+type_refused type_error.UnknownExtension = tt
+type_refused type_error.ExtensionRefused = tt
+
+not_memory : BadType ≡ OutOfMemory → ⊥
+not_memory e = absurd (cc)
+
+-- A type file that is refused, but for want of memory, is read as no type.
+pub type_cause : (status : Status) (line : Line) (loaded : Inputs) (bytes : List ℕ) → bytes ≡ loaded.type_bytes → IsTypeStatus status
+    → ((t : Typ) → ReadsType bytes t → status ≡ OutOfMemory) → IsRefused status line loaded
+type_cause OutOfMemory line loaded bytes e s complete = tt
+type_cause BadType line loaded bytes e s complete = λ t r. not_memory (complete t (subst (λ (m : List ℕ). ReadsType m t) (sym e) r))
+type_cause Done line loaded bytes e s complete = absurd s
+type_cause NoCommand line loaded bytes e s complete = absurd s
+type_cause LoadFault line loaded bytes e s complete = absurd s
+type_cause SaveFault line loaded bytes e s complete = absurd s
+type_cause WriteFault line loaded bytes e s complete = absurd s
+type_cause BadIds line loaded bytes e s complete = absurd s
+type_cause (Refused error) line loaded bytes e s complete = absurd s
+
+-- Where what was loaded can be recoded, its type file is refused for want of memory alone.
+pub type_memory : (status : Status) (line : Line) (loaded : Inputs) (bytes : List ℕ) → bytes ≡ loaded.type_bytes
+    → ((t : Typ) → ReadsType bytes t → status ≡ OutOfMemory) → CanRecodeInputs line loaded → status ≡ OutOfMemory
+type_memory status line loaded bytes e complete can = complete can.dtype (subst (λ (m : List ℕ). ReadsType m can.dtype) (sym e) can.type_read)
+
 if_err_map : {A E : Type 0} (result : Result A E) (P Q : E → Type 0) → ((e : E) → P e → Q e) → IfErr result P → IfErr result Q
 if_err_map (Ok x) P Q f p = tt
 if_err_map (Err e) P Q f p = f e p
 
-blob_to_inputs : (line : Line) (loaded : Inputs) (dtype : Typ) (read_ids : List (List ℕ)) → IsRead loaded.type_bytes dtype → ReadsIds loaded.id_bytes read_ids
+blob_to_inputs : (line : Line) (loaded : Inputs) (dtype : Typ) (read_ids : List (List ℕ)) → ReadsType loaded.type_bytes dtype → ReadsIds loaded.id_bytes read_ids
     → (status : Status) → IsBlobRefused status (asked_by line loaded dtype read_ids) → IsRefused status line loaded
 blob_to_inputs line loaded dtype read_ids types ids OutOfMemory cause = tt
 blob_to_inputs line loaded dtype read_ids types ids (Refused e) cause = (dtype, read_ids, types, ids, cause)
@@ -83,9 +115,9 @@ blob_to_inputs line loaded dtype read_ids types ids BadIds cause = absurd cause
 
 module _ (line : Line) (loaded : Inputs) (type_bytes id_bytes : List ℕ) (dtype : Typ) (read_ids : List (List ℕ)) (options : SerializeOptions) (result : Result Outputs Status)
     (types_are : type_bytes ≡ loaded.type_bytes) (ids_are : id_bytes ≡ loaded.id_bytes) (options_are : options ≡ write_options line.options.pad)
-    (type_read : IsRead type_bytes dtype) (ids_read : ReadsIds id_bytes read_ids) where
-  type_here : IsRead loaded.type_bytes dtype
-  type_here = subst (λ (l : List ℕ). IsRead l dtype) types_are type_read
+    (type_read : ReadsType type_bytes dtype) (ids_read : ReadsIds id_bytes read_ids) where
+  type_here : ReadsType loaded.type_bytes dtype
+  type_here = subst (λ (l : List ℕ). ReadsType l dtype) types_are type_read
 
   ids_here : ReadsIds loaded.id_bytes read_ids
   ids_here = subst (λ (l : List ℕ). ReadsIds l read_ids) ids_are ids_read
@@ -97,10 +129,10 @@ module _ (line : Line) (loaded : Inputs) (type_bytes id_bytes : List ℕ) (dtype
       if_err_map result _ _ (blob_to_inputs line loaded dtype read_ids type_here ids_here) here
 
   -- What can be recoded at some type and with some identifiers can be so at those that were read.
-  pub inputs_complete : ((m : List ℕ) (t u : Typ) → IsRead m t → IsRead m u → t ≡ u) → (CanRecode (call loaded.blob dtype line.len read_ids options) → IfErr result (λ s. s ≡ OutOfMemory))
+  pub inputs_complete : ((m : List ℕ) (t u : Typ) → ShowsType m t → ShowsType m u → t ≡ u) → (CanRecode (call loaded.blob dtype line.len read_ids options) → IfErr result (λ s. s ≡ OutOfMemory))
       → CanRecodeInputs line loaded → IfErr result (λ s. s ≡ OutOfMemory)
   inputs_complete one_type complete can =
-      let types : can.dtype ≡ dtype = one_type loaded.type_bytes can.dtype dtype can.type_read type_here in
+      let types : can.dtype ≡ dtype = one_type loaded.type_bytes can.dtype dtype can.type_read.shows type_here.shows in
       let ids : can.read_ids ≡ read_ids = lines_unique loaded.id_bytes read_ids can.read_ids ids_here.lines can.ids_read.lines in
       let asked : asked_by line loaded can.dtype can.read_ids ≡ call loaded.blob dtype line.len read_ids options = λ k. call loaded.blob (types k) line.len (ids k) (sym options_are k) in
       complete (subst CanRecode asked can.can_recode)

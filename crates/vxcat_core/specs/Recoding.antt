@@ -2,6 +2,7 @@
 use Rattle.std.specs.Prelude.{◌≡◌, ◌≢◌, ℕ, true, false, IsTrue, IsSome, Option, None, Some, option_map, List, [], ◌++◌, Contains}
 use Rattle.std.specs.List.{AllByRecursion}
 use Rattle.vx_types.specs.Typ.{Typ}
+use Rattle.vx_type_wire.specs.Known.{no_readers}
 use Rattle.vx_type_wire.specs.Shown.{IsRead}
 use Rattle.vx_arrays.specs.Tree.{Tree}
 use Rattle.vx_registry.specs.Context.{Context, grown}
@@ -26,6 +27,11 @@ pub record AreInputs (line : Line) (store : StoreState) (loaded : Inputs) : Type
   pub type_stands : Stands store line.type_file loaded.type_bytes
   pub blob_stands : Stands store line.blob_file loaded.blob
   pub ids_stand : Stands store line.id_file loaded.id_bytes
+
+-- A type file is read as the type whose table it shows within the limits. The program has no readers of extensions, so
+-- no extension stands in the type.
+abbrev pub ReadsType : List ℕ → Typ → Type 0
+ReadsType = IsRead no_readers
 
 -- The program reads and writes the encodings that are shipped, and writes under a context that is empty at first.
 abbrev pub session : SessionMeaning
@@ -71,7 +77,7 @@ asked_by line loaded dtype read_ids = call loaded.blob dtype line.len read_ids (
 pub record IsRecoded (line : Line) (loaded : Inputs) (made : Outputs) : Type 0 where
   pub dtype : Typ
   pub read_ids : List (List ℕ)
-  pub type_read : IsRead loaded.type_bytes dtype
+  pub type_read : ReadsType loaded.type_bytes dtype
   pub ids_read : ReadsIds loaded.id_bytes read_ids
   pub recoded : IsBlobRecoded (asked_by line loaded dtype read_ids) made.array made.blob made.ids
 
@@ -80,9 +86,15 @@ pub record IsRecoded (line : Line) (loaded : Inputs) (made : Outputs) : Type 0 w
 pub record CanRecodeInputs (line : Line) (loaded : Inputs) : Type 0 where
   pub dtype : Typ
   pub read_ids : List (List ℕ)
-  pub type_read : IsRead loaded.type_bytes dtype
+  pub type_read : ReadsType loaded.type_bytes dtype
   pub ids_read : ReadsIds loaded.id_bytes read_ids
   pub can_recode : CanRecode (asked_by line loaded dtype read_ids)
+
+-- A type file is refused for want of memory, or as a bad one.
+abbrev pub IsTypeStatus : Status → Type 0
+IsTypeStatus OutOfMemory = Unit {0}
+IsTypeStatus BadType = Unit {0}
+IsTypeStatus status = ⊥
 
 -- A blob is refused for want of memory, or by a refusal that has its cause.
 abbrev pub IsBlobRefused : Status → Call → Type 0
@@ -90,15 +102,15 @@ IsBlobRefused OutOfMemory asked = Unit {0}
 IsBlobRefused (Refused error) asked = IsCaused asked error
 IsBlobRefused status asked = ⊥
 
--- What was loaded is refused with its cause: the type file shows no type within the limits; the id file is no text of
+-- What was loaded is refused with its cause: the type file shows no type within the limits, or one with an extension; the id file is no text of
 -- at most 65,536 lines; or the blob is refused at the type and with the identifiers that were read. Want of memory
 -- needs no cause.
 abbrev pub IsRefused : Status → Line → Inputs → Type 0
 IsRefused OutOfMemory line loaded = Unit {0}
-IsRefused BadType line loaded = (dtype : Typ) → ¬ (IsRead loaded.type_bytes dtype)
+IsRefused BadType line loaded = (dtype : Typ) → ¬ (ReadsType loaded.type_bytes dtype)
 IsRefused BadIds line loaded = (ids : List (List ℕ)) → ¬ (ReadsIds loaded.id_bytes ids)
 IsRefused (Refused error) line loaded =
-    (dtype : Typ) × (read_ids : List (List ℕ)) × IsRead loaded.type_bytes dtype × ReadsIds loaded.id_bytes read_ids
+    (dtype : Typ) × (read_ids : List (List ℕ)) × ReadsType loaded.type_bytes dtype × ReadsIds loaded.id_bytes read_ids
     × IsCaused (asked_by line loaded dtype read_ids) error
 IsRefused status line loaded = ⊥
 

@@ -45,6 +45,8 @@ type_status type_error.OutOfMemory = OutOfMemory
 type_status type_error.BadTable = BadType
 type_status type_error.TableLimit = BadType
 type_status type_error.BadType = BadType
+type_status type_error.UnknownExtension = BadType
+type_status type_error.ExtensionRefused = BadType
 
 abbrev pub id_status : IdFileError → Status
 id_status id_error.OutOfMemory = OutOfMemory

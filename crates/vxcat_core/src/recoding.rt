@@ -1,9 +1,10 @@
 ghost use Rattle.std.specs.Prelude.{◌≡◌, ◌≢◌, IfOk, IfErr, OnOk};
 ghost use Rattle.vx_types.specs.Seen.{typ};
+ghost use Rattle.vx_types.specs.Typ.{Typ};
 ghost use Rattle.vxcat_core.specs.RecodeWords.{line_of};
 ghost use Rattle.vxcat_core.specs.Words.{inputs};
 ghost use Rattle.vx_serde.specs.WrittenBuffers.{joined};
-ghost use Rattle.vxcat_core.specs.Recoding.{AreInputs, AreSaved, AskedOnly, CanRecode, CanRecodeInputs, EndsLoading, EndsSaving, IsBlobRecoded, IsBlobRefused, IsRecoded, IsRefused, KeepsOthers, call, write_options};
+ghost use Rattle.vxcat_core.specs.Recoding.{AreInputs, AreSaved, AskedOnly, CanRecode, CanRecodeInputs, EndsLoading, EndsSaving, IsBlobRecoded, IsBlobRefused, IsRecoded, IsRefused, IsTypeStatus, KeepsOthers, ReadsType, call, write_options};
 ghost use Rattle.vxcat_core.specs.declared.status.Status.TheVariants.{OutOfMemory};
 
 use crate::id_file::{read_ids, write_ids};
@@ -15,8 +16,8 @@ use vx_arrays::Array;
 use vx_buffer::{ByteBuffer, ByteBuffers};
 use vx_registry::{ArrayContext, ArraySession, ReadContext, VortexSession};
 use vx_serde::{Recoded, SerializeOptions, recode};
-use vx_type_wire::DTypeExt;
 use vx_type_wire::laws::one_type;
+use vx_type_wire::{DTypeExt, ExtSession};
 use vx_types::{Blob, DType, Ids};
 
 /// The contents of the files that the command reads.
@@ -73,9 +74,9 @@ pub fn recode_inputs(alloc: Global, words: &RecodeWords, loaded: Inputs) -> Resu
     ensures complete { CanRecodeInputs (line_of words.now) loaded → IfErr result (λ status. status ≡ OutOfMemory) }
 {
     one_type();
-    let dtype = match DType::from_flatbuffer(alloc, loaded.type_bytes.as_slice()) {
+    let dtype = match read_type(alloc, loaded.type_bytes.as_slice()) {
         Ok(dtype) => dtype,
-        Err(error) => return Err(Status::of_type(error)),
+        Err(status) => return Err(status),
     };
     let read_ids = match read_ids(alloc, loaded.id_bytes.as_slice()) {
         Ok(ids) => ids,
@@ -83,6 +84,19 @@ pub fn recode_inputs(alloc: Global, words: &RecodeWords, loaded: Inputs) -> Resu
     };
     let options = serialize_options(words.options.pad);
     recode_blob(alloc, loaded.blob, &dtype, words.len, read_ids, &options)
+}
+
+// The type that a type file shows, where no extension is known.
+fn read_type(alloc: Global, bytes: &[u8]) -> Result<DType, Status>
+    ensures read { IfOk result (λ d. ReadsType bytes.now (typ d)) }
+    ensures status { IfErr result IsTypeStatus }
+    ensures complete { (t : Typ) → ReadsType bytes.now t → IfErr result (λ status. status ≡ OutOfMemory) }
+{
+    let readers = ExtSession::new(alloc);
+    match DType::from_flatbuffer(alloc, bytes, &readers) {
+        Ok(dtype) => Ok(dtype),
+        Err(error) => Err(Status::of_type(error)),
+    }
 }
 
 // How the new blob is written: with pads where their position is given.

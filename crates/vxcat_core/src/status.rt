@@ -75,9 +75,11 @@ impl Status {
     {
         match error {
             TypeWireError::OutOfMemory => Status::OutOfMemory,
-            TypeWireError::BadTable | TypeWireError::TableLimit | TypeWireError::BadType => {
-                Status::BadType
-            }
+            TypeWireError::BadTable
+            | TypeWireError::TableLimit
+            | TypeWireError::BadType
+            | TypeWireError::UnknownExtension
+            | TypeWireError::ExtensionRefused => Status::BadType,
         }
     }
 

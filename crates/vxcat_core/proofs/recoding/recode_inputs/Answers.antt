@@ -1,6 +1,6 @@
 use Rattle.vx_types.specs.Seen.{typ}
 use Rattle.vxcat_core.specs.RecodeWords.{line_of}
-use Rattle.vxcat_core.proofs.Recodings.{inputs_refused, inputs_complete}
+use Rattle.vxcat_core.proofs.Recodings.{inputs_refused, inputs_complete, type_cause, type_memory}
 use Rattle.vxcat_core.proofs.recoding.recode_inputs.Goals as goal
 
 pub returns-clause-cause : goal.returns-clause-cause
@@ -11,4 +11,12 @@ returns-clause-cause c =
 pub returns-clause-complete : goal.returns-clause-complete
 returns-clause-complete c =
     inputs_complete (line_of c.args.words.now) c.args.loaded c.as_slice.result.now c.as_slice-2.result.now (typ c.in-Ok.dtype) c.in-Ok-read_ids.ids c.serialize_options-options.result c.recode_blob.result
-    c.as_slice.ensures c.as_slice-2.ensures c.serialize_options-options.ensures c.in-Ok.ensures.read c.in-Ok-read_ids.ensures.reads c.one_type.ensures c.recode_blob.ensures.complete
+    c.as_slice.ensures c.as_slice-2.ensures c.serialize_options-options.ensures c.in-Ok.ensures.read c.in-Ok-read_ids.ensures.reads c.one_type.ensures.message c.recode_blob.ensures.complete
+
+pub returns-in-Err-clause-cause : goal.returns-in-Err-clause-cause
+returns-in-Err-clause-cause c =
+    type_cause c.in-Err.status (line_of c.args.words.now) c.args.loaded c.as_slice.result.now c.as_slice.ensures c.in-Err.ensures.status c.in-Err.ensures.complete
+
+pub returns-in-Err-clause-complete : goal.returns-in-Err-clause-complete
+returns-in-Err-clause-complete c = λ can.
+    type_memory c.in-Err.status (line_of c.args.words.now) c.args.loaded c.as_slice.result.now c.as_slice.ensures c.in-Err.ensures.complete can

@@ -68,9 +68,13 @@ returns-in_err-judge-clause-unknown g c = λ h.
     let s = ext_meaning (λ b. (goal.ExtPlugin-dyn g (b.vtable, b.value)).accepted b.value) c.args.readers.now in
     let e = c.in_err-judge.field-0.0 in
     let d = typ c.in_ok-dtype.dtype in
-    let found = ap (λ ps. type_in (views ps)) (sym c.as_slice.ensures.value) ∙ c.in_ok-dtype.ensures in
-    (d, (shows_type c.args.message.now (value c.in-Ok.value) d c.in-Ok.ensures.shows found c.hold.ensures c.in-Ok.ensures.light,
-    not_bad e UnknownExtension s d (the_error c.from_residual-in_err-judge.result p.0 e UnknownExtension p.1 p.2 h) c.in_err-judge.ensures.cause))
+    let found = ap (λ ps. type_in (views ps)) (sym c.as_slice.ensures.value) ∙ c.in_ok-dtype.ensures in (
+      d,
+      (
+        shows_type c.args.message.now (value c.in-Ok.value) d c.in-Ok.ensures.shows found c.hold.ensures c.in-Ok.ensures.light,
+        not_bad e UnknownExtension s d (the_error c.from_residual-in_err-judge.result p.0 e UnknownExtension p.1 p.2 h) c.in_err-judge.ensures.cause,
+      ),
+    )
 
 pub returns-in_err-judge-clause-refused : goal.returns-in_err-judge-clause-refused
 returns-in_err-judge-clause-refused g c = λ h.
@@ -78,9 +82,13 @@ returns-in_err-judge-clause-refused g c = λ h.
     let s = ext_meaning (λ b. (goal.ExtPlugin-dyn g (b.vtable, b.value)).accepted b.value) c.args.readers.now in
     let e = c.in_err-judge.field-0.0 in
     let d = typ c.in_ok-dtype.dtype in
-    let found = ap (λ ps. type_in (views ps)) (sym c.as_slice.ensures.value) ∙ c.in_ok-dtype.ensures in
-    (d, (shows_type c.args.message.now (value c.in-Ok.value) d c.in-Ok.ensures.shows found c.hold.ensures c.in-Ok.ensures.light,
-    not_bad e ExtensionRefused s d (the_error c.from_residual-in_err-judge.result p.0 e ExtensionRefused p.1 p.2 h) c.in_err-judge.ensures.cause))
+    let found = ap (λ ps. type_in (views ps)) (sym c.as_slice.ensures.value) ∙ c.in_ok-dtype.ensures in (
+      d,
+      (
+        shows_type c.args.message.now (value c.in-Ok.value) d c.in-Ok.ensures.shows found c.hold.ensures c.in-Ok.ensures.light,
+        not_bad e ExtensionRefused s d (the_error c.from_residual-in_err-judge.result p.0 e ExtensionRefused p.1 p.2 h) c.in_err-judge.ensures.cause,
+      ),
+    )
 
 pub returns-in_err-judge-clause-complete : goal.returns-in_err-judge-clause-complete
 returns-in_err-judge-clause-complete g c = λ t r.
