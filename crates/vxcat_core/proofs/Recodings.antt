@@ -75,6 +75,7 @@ type_refused type_error.TableLimit = tt
 type_refused type_error.BadType = tt
 type_refused type_error.UnknownExtension = tt
 type_refused type_error.ExtensionRefused = tt
+type_refused type_error.WireLimit = tt
 
 not_memory : BadType ≡ OutOfMemory → ⊥
 not_memory e = absurd (cc)
