@@ -15,11 +15,6 @@ part_way b p ls ps = record { blocks = b.blocks ++ (p ∷ ps); left = ls ++ b.le
 pub record IsPartWay (b : Built) (p : Piece) (ls : List Link) (ps : List Piece) (now : Built) : Type 0 where
   pub same : now ≡ part_way b p ls ps
 
--- A number is no link.
-pub no_link : (n i w v : ℕ) (es : List BlockField) → entry_links n i (default_entry w v ∷ es) ≡ entry_links n (i + 1) es
-no_link n i w zero es = refl
-no_link n i w (suc v) es = refl
-
 -- After the block itself.
 pub begun : (b now : Built) (p q : Piece) (ls : List Link) → now ≡ with_piece b q → q ≡ p → links_of (length b.blocks) p ≡ ls → IsPartWay b p ls [] now
 begun b now p q ls h e f = record {
@@ -32,11 +27,6 @@ gone_on b p l ls ps now mid new qs h e w = record {
   same = w.0 ∙ ap (λ m. with_pieces m qs) (e ∙ ap waiting h.same)
       ∙ ap (λ bs. record { blocks = bs; left = ls ++ b.left; waits = None; failed = false }) (append_assoc b.blocks (p ∷ ps) qs);
 }
-
--- After the blocks of all links.
-pub ended : (b : Built) (p : Piece) (ps whole : List Piece) (new : Built) → IsPartWay b p [] ps new → written_length new.blocks < 2 ^ 31 → whole ≡ p ∷ ps
-    → AreWritten b whole new
-ended b p ps whole new h f e = (h.same ∙ ap (with_pieces b) (sym e), f)
 
 -- Where the blocks of a link stop, the whole stops.
 abbrev pub Later : Type 0
@@ -59,3 +49,9 @@ refused first b new p q ps e w r = first b new p ps e (subst (λ z. IsRefused b 
 
 pub at_error : {T : Type 0} (r : Result T FlatError) (y e : FlatError) (P : FlatError → Type 0) → r ≡ Err y → y ≡ e → P e → IfErr r P
 at_error r y e P p q h = subst (λ s. IfErr s P) (sym (p ∙ ap Err q)) h
+
+-- Where after some blocks a link aims at blocks that stop, the whole stops.
+pub stop_at : Later → (old now mid new : Built) (ps qs rs whole : List Piece) (e : FlatError) → now.blocks ≡ old.blocks ++ ps → now.failed ≡ false
+    → mid ≡ waiting now → IsStopped mid qs e new → ps ++ (qs ++ rs) ≡ whole → IsStopped old whole e new
+stop_at later old now mid new ps qs rs whole e b f m s w =
+    subst (λ z. IsStopped old z e new) w (later old mid new ps qs rs e (ap (λ (x : Built). x.blocks) m ∙ b) (ap (λ (x : Built). x.failed) m ∙ f) s)

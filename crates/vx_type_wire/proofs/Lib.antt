@@ -12,3 +12,4 @@ pub mod Found
 pub mod Chains
 pub mod Members
 pub mod Weights
+pub mod Elements
