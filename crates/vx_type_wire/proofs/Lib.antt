@@ -13,3 +13,4 @@ pub mod Chains
 pub mod Members
 pub mod Weights
 pub mod Elements
+pub mod Written

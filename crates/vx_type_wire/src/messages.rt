@@ -22,7 +22,7 @@ use crate::reading::type_in;
 use crate::weighing::is_writable;
 use crate::writing::write_type;
 use std::alloc::Global;
-use vx_flat::laws::one_value;
+use vx_flat::laws::{layout_is_shown, one_value, weight_of_shown};
 use vx_flat::{Builder, FlatBuffer, FlatError, LinkKind, read_value};
 use vx_types::DType;
 
@@ -64,6 +64,7 @@ impl DTypeExt for DType {
             → ShowsNotKnown TypeWireError.UnknownExtension (ext_meaning accepted readers.now) message.now }
         ensures refused { IsErrOf result TypeWireError.ExtensionRefused
             → ShowsNotKnown TypeWireError.ExtensionRefused (ext_meaning accepted readers.now) message.now }
+        ensures never_limit { IsErrOf result TypeWireError.WireLimit → ⊥ }
         ensures complete { (t : Typ) → IsRead (ext_meaning accepted readers.now) message.now t
             → MatchResult result (λ d. typ d ≡ t) (λ e. e ≡ TypeWireError.OutOfMemory) }
     {
@@ -88,6 +89,7 @@ impl DTypeExt for DType {
     /// too long or was before. After a refusal the builder keeps the blocks that
     /// it has.
     fn write_flatbuffer(&self, builder: &mut Builder) -> Result<(), TypeWireError>
+        requires { Takes LinkKind.Table builder.old.waits builder.old.blocks }
         ensures of_kind { IsOk result → IsOf type_schema (type_table (typ self.now)) }
         ensures written { OnOk result
             (Written type_schema type_fields (type_table (typ self.now)) builder.old builder.new) }
@@ -95,10 +97,12 @@ impl DTypeExt for DType {
         ensures writable { IsOk result → IsWritable (typ self.now) }
         ensures kept { OnErr result (Keeps builder.old builder.new) }
         ensures cause { IfErr result (λ e. IsUnwritten (typ self.now) builder.old e) }
+        ensures limit { IsUnwritten (typ self.now) builder.old TypeWireError.WireLimit → IsOk result → ⊥ }
     {
         if !is_writable(self) {
             return Err(TypeWireError::WireLimit);
         }
+        self.hold();
         write_type(self, builder)?;
         Ok(())
     }
@@ -113,7 +117,11 @@ impl DTypeExt for DType {
         ensures fits { IfOk result (λ m. length m < 2 ^ 31) }
         ensures read_back { IfOk result (λ m. (s : ExtMeaning) → IsKnown s (typ self.now) → IsRead s m (typ self.now)) }
         ensures cause { IfErr result (λ e. IsUnwritten (typ self.now) nothing_built e) }
+        ensures limit { IsUnwritten (typ self.now) nothing_built TypeWireError.WireLimit → IsOk result → ⊥ }
     {
+        layout_is_shown();
+        weight_of_shown();
+        self.hold();
         let mut builder = Builder::new(alloc);
         self.write_flatbuffer(&mut builder)?;
         let message = builder.finish()?;

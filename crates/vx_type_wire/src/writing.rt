@@ -1,6 +1,6 @@
 //! Types written as tables, block by block.
 
-ghost use Rattle.std.specs.Prelude.{◌≡◌, ◌∷◌, [], ◌<◌, ◌≤◌, ◌^◌, OnOk, IfErr, false, ℕ, length};
+ghost use Rattle.std.specs.Prelude.{◌≡◌, ◌∷◌, [], ◌<◌, ◌≤◌, ◌^◌, OnOk, IsOk, IfErr, false, ℕ, length};
 ghost use Rattle.vx_trees.specs.Rose.{node, end, more, roses_of};
 ghost use Rattle.vx_flat.specs.Building.{Takes, IsStopped, links_of};
 ghost use Rattle.vx_flat.specs.Pieces.{table_piece, elements_piece, text_piece, AreEntries};
@@ -24,6 +24,7 @@ pub fn write_type(dtype: &DType, builder: &mut Builder) -> Result<(), FlatError>
     requires few { IsFew (typ dtype.now) }
     ensures written { OnOk result (AreWritten builder.old (type_pieces (typ dtype.now)) builder.new) }
     ensures stopped { IfErr result (λ e. IsStopped builder.old (type_pieces (typ dtype.now)) e builder.new) }
+    ensures works { IsOk result → builder.old.failed ≡ false }
 {
     stops_in_parts();
     let tag = BlockField::Number {
