@@ -9,3 +9,8 @@ pub mod Judging
 pub mod OneType
 pub mod Worked
 pub mod Found
+pub mod Chains
+pub mod Members
+pub mod Weights
+pub mod Elements
+pub mod Written

@@ -5,3 +5,4 @@ pub mod Session
 pub mod Reading
 pub mod Answers
 pub mod Shown
+pub mod Written

@@ -5,9 +5,10 @@ ghost use Rattle.vx_type_wire.specs.declared.error.TypeWireError.TheVariants.{Ou
 
 use std::alloc::{AllocError, AllocFailed};
 use thiserror::Error;
+use vx_flat::FlatError;
 use vx_types::TypeError;
 
-/// Why a message is not read as a type.
+/// Why a message is not read as a type, or a type is not written.
 #[derive(Clone, Copy, Debug, PartialEq, Eq, Error)]
 pub enum TypeWireError {
     /// The allocator gave no memory.
@@ -32,6 +33,10 @@ pub enum TypeWireError {
     /// storage.
     #[error("an extension's reader does not accept it")]
     ExtensionRefused,
+    /// The type has more levels than are written, its table would pass a limit of
+    /// messages, or the message has no room for it.
+    #[error("the type is too deep or too large to be written")]
+    WireLimit,
 }
 
 impl From<AllocError> for TypeWireError {
@@ -47,6 +52,21 @@ impl<T: Drop> From<AllocFailed<T>> for TypeWireError {
 
     fn from(_e: AllocFailed<T>) -> TypeWireError {
         TypeWireError::OutOfMemory
+    }
+}
+
+impl From<FlatError> for TypeWireError {
+    ghost use Rattle.vx_type_wire.specs.Answers.{refusal_of_flat};
+
+    ghost from_gives = { λ f e. e ≡ refusal_of_flat f };
+
+    fn from(error: FlatError) -> TypeWireError {
+        match error {
+            FlatError::OutOfMemory => TypeWireError::OutOfMemory,
+            FlatError::BadTable => TypeWireError::BadTable,
+            FlatError::TableLimit => TypeWireError::TableLimit,
+            FlatError::MessageTooLong => TypeWireError::WireLimit,
+        }
     }
 }
 

@@ -8,6 +8,7 @@
 //! what it means that a message shows a type.
 #![tactic(auto)]
 
+mod entries;
 mod error;
 mod kind;
 mod known;
@@ -16,11 +17,18 @@ mod messages;
 mod parts;
 mod readers;
 mod reading;
+mod table;
+mod weighing;
+mod writing;
 
 pub use error::TypeWireError;
 pub use kind::TypeKind;
 pub use messages::DTypeExt;
 pub use readers::{ExtPlugin, ExtSession};
+pub use table::TypeTable;
+pub use weighing::MAX_LEVELS;
 
 #[cfg(test)]
 mod tests;
+#[cfg(test)]
+mod write_tests;

@@ -47,6 +47,7 @@ type_status type_error.TableLimit = BadType
 type_status type_error.BadType = BadType
 type_status type_error.UnknownExtension = BadType
 type_status type_error.ExtensionRefused = BadType
+type_status type_error.WireLimit = BadType
 
 abbrev pub id_status : IdFileError → Status
 id_status id_error.OutOfMemory = OutOfMemory

@@ -79,7 +79,8 @@ impl Status {
             | TypeWireError::TableLimit
             | TypeWireError::BadType
             | TypeWireError::UnknownExtension
-            | TypeWireError::ExtensionRefused => Status::BadType,
+            | TypeWireError::ExtensionRefused
+            | TypeWireError::WireLimit => Status::BadType,
         }
     }
 
