@@ -183,8 +183,7 @@ write_types-returns-clause-written t c =
     let all : take i ds ≡ ds = take_all i ds (omega arith) in
     let count : n ≡ rows_length (type_tables (roses_of (typs ds))) = sym (rows_count ds) in
     let same : with_elements old link.Table n i (blocks_of (take i ds)) ≡ with_elements old link.Table n n (blocks_of ds) =
-    λ k. with_elements old link.Table n (at_end k) (blocks_of (all k)) in
-    (
+    λ k. with_elements old link.Table n (at_end k) (blocks_of (all k)) in (
       c.loop-i.invariant.so_far ∙ same ∙ c.elements_in_order.ensures.all old link.Table n (blocks_of ds) ∙ ap (λ m. with_pieces old (links_piece link.Table m ∷ blocks_of ds)) count,
       c.loop-i.invariant.fits,
     )
