@@ -1,7 +1,8 @@
 //! The program, run on the worked files.
 
 use crate::files::{
-    BLOB, BLOB_OF_ANOTHER, BLOB_OF_SECOND, IDS, NULL_BLOB, NULL_IDS, NULL_TYPE, PADDED_BLOB, TYPE,
+    BLOB, BLOB_OF_ANOTHER, BLOB_OF_SECOND, EXTENSION_TYPE, IDS, NULL_BLOB, NULL_IDS, NULL_TYPE,
+    PADDED_BLOB, TYPE,
 };
 use std::alloc::Global;
 use std::test::Fail;
@@ -158,6 +159,7 @@ fn files_are_judged(rt: HostRuntime) -> Result<(), Fail> {
     let alloc = rt.alloc();
     for (dtype, blob, ids, status) in [
         (&TYPE[..3], BLOB.as_slice(), IDS, 6),
+        (EXTENSION_TYPE.as_slice(), BLOB.as_slice(), IDS, 6),
         (TYPE.as_slice(), BLOB.as_slice(), "a\n\nb", 7),
         (TYPE.as_slice(), &BLOB[..0], IDS, 10),
         (TYPE.as_slice(), &BLOB[..3], IDS, 10),

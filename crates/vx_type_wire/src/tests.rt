@@ -191,7 +191,7 @@ fn messages_that_show_no_table(rt: HostRuntime) -> Result<(), Fail> {
     Ok(())
 }
 
-// A reader of one identifier that accepts all extensions or none.
+// Accepts all extensions of one identifier, or none.
 #[derive(Drop)]
 struct Days {
     id: Id,
@@ -212,24 +212,23 @@ impl ExtPlugin for Days {
     }
 }
 
-// Registers a reader of this identifier that accepts all extensions or none.
-fn register(alloc: Global, readers: &mut ExtSession, id: &str, accepts: bool) -> Result<(), Fail> {
+// A reader of this identifier that accepts all extensions or none.
+fn reader_of(alloc: Global, id: &str, accepts: bool) -> Result<Days, TypeError> {
     let id = Id::new(alloc, id)?;
-    readers.register(Box::new(alloc, Days { id, accepts })?)?;
-    Ok(())
+    Ok(Days { id, accepts })
 }
 
 #[test]
 fn extensions_are_judged_by_their_readers(rt: HostRuntime) -> Result<(), Fail> {
     let alloc = rt.alloc();
     let mut readers = ExtSession::new(alloc);
-    register(alloc, &mut readers, "x.night", true)?;
+    readers.register(Box::new(alloc, reader_of(alloc, "x.night", true)?)?)?;
     let unread = DType::from_flatbuffer(alloc, &EXTENSION, &readers).err();
     assert!(rt; unread == Some(TypeWireError::UnknownExtension));
-    register(alloc, &mut readers, "x.day", false)?;
+    readers.register(Box::new(alloc, reader_of(alloc, "x.day", false)?)?)?;
     let refused = DType::from_flatbuffer(alloc, &EXTENSION, &readers).err();
     assert!(rt; refused == Some(TypeWireError::ExtensionRefused));
-    register(alloc, &mut readers, "x.day", true)?;
+    readers.register(Box::new(alloc, reader_of(alloc, "x.day", true)?)?)?;
     assert!(rt; DType::from_flatbuffer(alloc, &EXTENSION, &readers).is_ok());
     Ok(())
 }
@@ -242,7 +241,7 @@ fn extensions_without_a_reader_may_be_allowed(rt: HostRuntime) -> Result<(), Fai
     readers.allow_unknown();
     assert!(rt; readers.allows_unknown());
     assert!(rt; DType::from_flatbuffer(alloc, &EXTENSION, &readers).is_ok());
-    register(alloc, &mut readers, "x.day", false)?;
+    readers.register(Box::new(alloc, reader_of(alloc, "x.day", false)?)?)?;
     let refused = DType::from_flatbuffer(alloc, &EXTENSION, &readers).err();
     assert!(rt; refused == Some(TypeWireError::ExtensionRefused));
     Ok(())

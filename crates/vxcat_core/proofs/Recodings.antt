@@ -2,8 +2,6 @@
 use Rattle.std.proofs.Common.{◌≡◌, ℕ, List, [], Option, None, Some, option_map, Result, Ok, Err, IfOk, IfErr, sym, ap, subst, ◌∙◌}
 use Rattle.vx_types.specs.Typ.{Typ}
 use Rattle.vx_type_wire.specs.Shown.{ShowsType}
-use Rattle.vx_type_wire.specs.declared.error.TypeWireError.{TypeWireError}
-use Rattle.vx_type_wire.specs.declared.error.TypeWireError.TheVariants as type_error
 use Rattle.vx_arrays.specs.Tree.{Tree}
 use Rattle.vx_encodings.specs.declared.encoding.Encoding.{Encoding}
 use Rattle.vx_registry.specs.Context.{Context}
@@ -12,10 +10,12 @@ use Rattle.vx_serde.specs.declared.options.SerializeOptions.{SerializeOptions}
 use Rattle.vx_serde.specs.declared.error.WireError.{WireError}
 use Rattle.vx_serde.specs.declared.error.WireError.TheVariants as wire
 use Rattle.vx_serde.specs.Causes.{Call, IsCaused}
-use Rattle.vxcat_core.specs.Status.{wire_status, type_status}
+use Rattle.vxcat_core.specs.Status.{wire_status, id_status}
 use Rattle.vxcat_core.specs.Words.{Line}
 use Rattle.vxcat_core.specs.IdFile.{ReadsIds}
-use Rattle.vxcat_core.specs.Recoding.{asked_by, call, write_options, CanRecode, CanRecodeInputs, IsBlobRecoded, IsBlobRefused, IsRefused, IsTypeStatus, ReadsType}
+use Rattle.vxcat_core.specs.Recoding.{asked_by, call, write_options, CanRecode, CanRecodeInputs, IsBlobRecoded, IsBlobRefused, IsRecoded, IsRefused, IsTypeStatus, ReadsType}
+use Rattle.vxcat_core.specs.declared.id_file.IdFileError.{IdFileError}
+use Rattle.vxcat_core.specs.declared.id_file.IdFileError.TheVariants as id_error
 use Rattle.vxcat_core.specs.declared.recoding.Inputs.{Inputs}
 use Rattle.vxcat_core.specs.declared.recoding.Outputs.{Outputs}
 use Rattle.vxcat_core.specs.declared.status.Status.{Status}
@@ -67,16 +67,6 @@ refused wire.BadShape asked cause = cause
 refused wire.NotPermitted asked cause = cause
 refused wire.WireLimit asked cause = cause
 
--- The refusal of a type file has a status of its own, but for want of memory.
-pub type_refused : (error : TypeWireError) → IsTypeStatus (type_status error)
-type_refused type_error.OutOfMemory = tt
-type_refused type_error.BadTable = tt
-type_refused type_error.TableLimit = tt
-type_refused type_error.BadType = tt
-type_refused type_error.UnknownExtension = tt
-type_refused type_error.ExtensionRefused = tt
-type_refused type_error.WireLimit = tt
-
 not_memory : BadType ≡ OutOfMemory → ⊥
 not_memory e = absurd (cc)
 
@@ -97,6 +87,24 @@ type_cause (Refused error) line loaded bytes e s complete = absurd s
 pub type_memory : (status : Status) (line : Line) (loaded : Inputs) (bytes : List ℕ) → bytes ≡ loaded.type_bytes
     → ((t : Typ) → ReadsType bytes t → status ≡ OutOfMemory) → CanRecodeInputs line loaded → status ≡ OutOfMemory
 type_memory status line loaded bytes e complete can = complete can.dtype (subst (λ (m : List ℕ). ReadsType m can.dtype) (sym e) can.type_read)
+
+-- An id file that is refused, but for want of memory, is no text of identifiers.
+pub ids_cause : {T : Type 0} (error : IdFileError) (status : Status) (line : Line) (loaded : Inputs) (bytes : List ℕ) (r : Result T IdFileError) → r ≡ Err error → bytes ≡ loaded.id_bytes
+    → status ≡ id_status error → (r ≡ Err id_error.BadText → (ids : List (List ℕ)) → ¬ (ReadsIds bytes ids)) → IsRefused status line loaded
+ids_cause id_error.OutOfMemory status line loaded bytes r p e s bad = subst (λ (x : Status). IsRefused x line loaded) (sym s) tt
+ids_cause id_error.BadText status line loaded bytes r p e s bad =
+    subst (λ (x : Status). IsRefused x line loaded) (sym s) (λ ids h. bad p ids (subst (λ (m : List ℕ). ReadsIds m ids) (sym e) h))
+
+-- Where what was loaded can be recoded, its id file is refused for want of memory alone.
+pub ids_memory : {T : Type 0} (error : IdFileError) (status : Status) (line : Line) (loaded : Inputs) (bytes : List ℕ) (r : Result T IdFileError) → r ≡ Err error → bytes ≡ loaded.id_bytes
+    → status ≡ id_status error → (r ≡ Err id_error.BadText → (ids : List (List ℕ)) → ¬ (ReadsIds bytes ids)) → CanRecodeInputs line loaded → status ≡ OutOfMemory
+ids_memory id_error.OutOfMemory status line loaded bytes r p e s bad can = s
+ids_memory id_error.BadText status line loaded bytes r p e s bad can =
+    absurd (bad p can.read_ids (subst (λ (m : List ℕ). ReadsIds m can.read_ids) (sym e) can.ids_read))
+
+if_ok_map : {A E : Type 0} (result : Result A E) (P Q : A → Type 0) → ((x : A) → P x → Q x) → IfOk result P → IfOk result Q
+if_ok_map (Ok x) P Q f p = f x p
+if_ok_map (Err e) P Q f p = tt
 
 if_err_map : {A E : Type 0} (result : Result A E) (P Q : E → Type 0) → ((e : E) → P e → Q e) → IfErr result P → IfErr result Q
 if_err_map (Ok x) P Q f p = tt
@@ -122,6 +130,12 @@ module _ (line : Line) (loaded : Inputs) (type_bytes id_bytes : List ℕ) (dtype
 
   ids_here : ReadsIds loaded.id_bytes read_ids
   ids_here = subst (λ (l : List ℕ). ReadsIds l read_ids) ids_are ids_read
+
+  -- What was recoded of the blob was recoded of what was loaded.
+  pub inputs_recoded : IfOk result (λ made. IsBlobRecoded (call loaded.blob dtype line.len read_ids options) made.array made.blob made.ids) → IfOk result (λ made. IsRecoded line loaded made)
+  inputs_recoded recoded =
+      let here = subst (λ (o : SerializeOptions). IfOk result (λ made. IsBlobRecoded (call loaded.blob dtype line.len read_ids o) made.array made.blob made.ids)) options_are recoded in
+      if_ok_map result _ _ (λ made k. record { dtype = dtype; read_ids = read_ids; type_read = type_here; ids_read = ids_here; recoded = k }) here
 
   -- A refused blob is a cause among those of what was loaded.
   pub inputs_refused : IfErr result (λ s. IsBlobRefused s (call loaded.blob dtype line.len read_ids options)) → IfErr result (λ s. IsRefused s line loaded)

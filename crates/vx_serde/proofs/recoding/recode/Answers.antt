@@ -1,4 +1,4 @@
-use Rattle.std.proofs.Common.{◌≡◌, ◌∙◌, sym, subst, List, ℕ}
+use Rattle.std.proofs.Common.{rules, ◌≡◌, ◌∙◌, sym, subst, List, ℕ}
 use Rattle.vx_types.specs.Seen.{typ}
 use Rattle.vx_registry.specs.Session.{registry_meaning}
 use Rattle.vx_serde.specs.Spells.{Spells}
@@ -56,6 +56,9 @@ returns-in-Err-decode-clause-complete c = λ _ t x light fits grows.
       options = c.args.options.now;
     } in
     c.never_caused.ensures call t x light fits grows c.in-Err-decode.e (caused_by_tree call c.in-Err-decode.e c.in-Ok.node c.in-Ok.ensures.opened.carried c.in-Err-decode.ensures.cause)
+
+pub returns-in_err-node-clause-complete : goal.returns-in_err-node-clause-complete
+returns-in_err-node-clause-complete c = λ _ _ _ _ _ _. search rules
 
 pub returns-in-Err-write_wire-clause-complete : goal.returns-in-Err-write_wire-clause-complete
 returns-in-Err-write_wire-clause-complete c = λ _ t x light fits grows.

@@ -1,17 +1,12 @@
 use Rattle.std.proofs.Common.{subst, sym, ap, ◌∙◌}
 use Rattle.vx_types.specs.Seen.{typ}
 use Rattle.vx_type_wire.specs.Shown.{IsRead}
-use Rattle.vxcat_core.specs.Recoding.{IsTypeStatus}
 use Rattle.vxcat_core.specs.Status.{type_status}
-use Rattle.vxcat_core.proofs.Recodings.{type_refused}
 use Rattle.vxcat_core.proofs.recoding.read_type.Goals as goal
 
 pub returns-in-Ok-clause-read : goal.returns-in-Ok-clause-read
 returns-in-Ok-clause-read c = subst (λ s. IsRead s c.args.bytes.now (typ c.in-Ok.dtype)) c.new-readers.ensures c.in-Ok.ensures.read
 
-pub returns-in-Err-clause-status : goal.returns-in-Err-clause-status
-returns-in-Err-clause-status c = subst IsTypeStatus (sym c.of_type.ensures) (type_refused c.in-Err.error)
-
-pub returns-in-Err-clause-complete : goal.returns-in-Err-clause-complete
-returns-in-Err-clause-complete c = λ t r.
+pub returns-clause-complete : goal.returns-clause-complete
+returns-clause-complete c = λ t r.
     c.of_type.ensures ∙ ap type_status (c.in-Err.ensures.complete t (subst (λ s. IsRead s c.args.bytes.now t) (sym c.new-readers.ensures) r))
