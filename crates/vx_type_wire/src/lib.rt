@@ -3,9 +3,11 @@
 //! [`TypeKind`] is the kind of messages that show a type: a table with one
 //! field, a union whose members are the kinds of types. [`DTypeExt`] gives a
 //! type its reader, which asks an [`ExtSession`] for the extensions that stand in
-//! a type. What contracts say is written down in `specs::TypeTable`, the table of
-//! each type, `specs::Known`, which types a session knows, and `specs::Shown`,
-//! what it means that a message shows a type.
+//! a type, and writes a type as such a table, block by block or as a message of
+//! its own. [`TypeTable`] is a type for the writers of tables. What contracts say
+//! is written down in `specs::TypeTable`, the table of each type, `specs::Known`,
+//! which types a session knows, `specs::Shown`, what it means that a message shows
+//! a type, and `specs::Written`, which types are written.
 #![tactic(auto)]
 
 mod entries;
