@@ -5,7 +5,7 @@ use Rattle.vx_flat.specs.Shows.{Shows}
 use Rattle.vx_flat.specs.Value.{Fields}
 use Rattle.vx_types.specs.Typ.{Typ, IsType}
 use Rattle.vx_type_wire.specs.declared.error.TypeWireError.{TypeWireError}
-use Rattle.vx_type_wire.specs.declared.error.TypeWireError.TheVariants.{OutOfMemory, BadTable, TableLimit, BadType, UnknownExtension, ExtensionRefused}
+use Rattle.vx_type_wire.specs.declared.error.TypeWireError.TheVariants.{OutOfMemory, BadTable, TableLimit, BadType, UnknownExtension, ExtensionRefused, WireLimit}
 use Rattle.vx_type_wire.specs.Answers.{Fails}
 use Rattle.vx_type_wire.specs.Known.{ExtMeaning, IsKnown, IsNotKnown}
 use Rattle.vx_type_wire.specs.Reading.{type_in}
@@ -42,6 +42,7 @@ only_memory TableLimit x t p h = absurd h
 only_memory BadType x t p h = absurd (cc)
 only_memory UnknownExtension x t p h = absurd h
 only_memory ExtensionRefused x t p h = absurd h
+only_memory WireLimit x t p h = absurd h
 
 pub no_memory : {T : Type 0} (P : T → Type 0) (r : Result T TypeWireError) (y e : TypeWireError) → r ≡ Err y → y ≡ e → e ≡ OutOfMemory → MatchResult r P (λ x. x ≡ OutOfMemory)
 no_memory P r y e p q h = subst (λ s. MatchResult s P (λ x. x ≡ OutOfMemory)) (sym (p ∙ ap Err q)) h

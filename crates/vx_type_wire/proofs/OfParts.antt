@@ -12,7 +12,7 @@ use Rattle.vx_types.specs.Parts.{Fields as StructFields, Members, Entries, Ext}
 use Rattle.vx_types.specs.Kind.{Kind, list, fixed_size_list, structure, union, map, extension}
 use Rattle.vx_types.specs.Typ.{Typ}
 use Rattle.vx_type_wire.specs.declared.error.TypeWireError.{TypeWireError}
-use Rattle.vx_type_wire.specs.declared.error.TypeWireError.TheVariants.{OutOfMemory, BadTable, TableLimit, BadType, UnknownExtension, ExtensionRefused}
+use Rattle.vx_type_wire.specs.declared.error.TypeWireError.TheVariants.{OutOfMemory, BadTable, TableLimit, BadType, UnknownExtension, ExtensionRefused, WireLimit}
 use Rattle.vx_type_wire.specs.Answers.{Fails, Gives, refusal_of}
 use Rattle.vx_type_wire.specs.Reading.{list_from, fixed_size_list_from, structure_from, union_from, map_from, extension_from, are_distinct}
 use Rattle.vx_type_wire.specs.Reading.{nullability_in, truth_in, number_in, text_in, texts_in, elements_in}
@@ -103,6 +103,7 @@ through f x TableLimit k h = absurd h
 through f x BadType k h = ap f h ∙ k
 through f x UnknownExtension k h = absurd h
 through f x ExtensionRefused k h = absurd h
+through f x WireLimit k h = absurd h
 
 -- A reader that ends with the failure of a part.
 pub refused : {T X Y : Type 0} (see : T → Y) (r : Result T TypeWireError) (e y : TypeWireError) (read : Fields → Option Y) (vs ws : Fields) (f : Option X → Option Y)

@@ -6,7 +6,7 @@ use Rattle.vx_flat.specs.Value.{Fields}
 use Rattle.vx_types.specs.Kind.{Kind, extension}
 use Rattle.vx_types.specs.Typ.{Typ, IsType}
 use Rattle.vx_type_wire.specs.declared.error.TypeWireError.{TypeWireError}
-use Rattle.vx_type_wire.specs.declared.error.TypeWireError.TheVariants.{OutOfMemory, BadTable, TableLimit, BadType, UnknownExtension, ExtensionRefused}
+use Rattle.vx_type_wire.specs.declared.error.TypeWireError.TheVariants.{OutOfMemory, BadTable, TableLimit, BadType, UnknownExtension, ExtensionRefused, WireLimit}
 use Rattle.vx_type_wire.specs.Known.{ExtMeaning, IsAcceptedBy, IsAccepted, IsNotAccepted, IfExtension, IsExtension, IsKnown, AreKnown, IsNotKnown, AreNotKnown}
 use Rattle.vx_type_wire.specs.Reading.{type_in}
 use Rattle.vx_type_wire.specs.Shown.{IsNoType}
@@ -37,6 +37,7 @@ not_both TableLimit s id bs t n a = n
 not_both BadType s id bs t n a = n
 not_both UnknownExtension s id bs t n a = true_false s.unknown (subst (λ r. IsAcceptedBy r s.unknown bs t) n.unread a) n.not_allowed
 not_both ExtensionRefused s id bs t n a = true_false (n.accepts bs t) (subst (λ r. IsAcceptedBy r s.unknown bs t) n.read a) n.refused
+not_both WireLimit s id bs t n a = n
 
 at_node : (e : TypeWireError) (s : ExtMeaning) (k : Kind) (ts : Roses Kind) → IsExtension (IsNotAccepted e s) k ts → IfExtension (IsAccepted s) k ts → ⊥
 at_node e s (extension id bs) (more t ts) n a = not_both e s id bs t n a
