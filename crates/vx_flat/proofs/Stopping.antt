@@ -5,7 +5,7 @@ use Rattle.std.specs.Prelude.{None, Some, length}
 use Rattle.vx_flat.specs.declared.error.FlatError.{FlatError}
 use Rattle.vx_flat.specs.declared.error.FlatError.TheVariants.{OutOfMemory, BadTable, TableLimit}
 use Rattle.vx_flat.specs.declared.error.FlatError.TheVariants.{MessageTooLong}
-use Rattle.vx_flat.specs.declared.piece.LinkKind.{LinkKind}
+use Rattle.vx_flat.specs.declared.builder.piece.LinkKind.{LinkKind}
 use Rattle.vx_flat.specs.Pieces.{Piece, links_piece}
 use Rattle.vx_flat.specs.Linking.{written_length}
 use Rattle.vx_flat.specs.Building.{with_piece, with_elements, waiting, IsNext, next_link, later_links}

@@ -4,10 +4,10 @@ use Rattle.std.specs.Prelude.{List, [], ◌∷◌, ◌++◌, length, Option, Som
 use Rattle.vx_flat.specs.declared.error.FlatError.{FlatError}
 use Rattle.vx_flat.specs.declared.error.FlatError.TheVariants.{OutOfMemory, BadTable, TableLimit}
 use Rattle.vx_flat.specs.declared.error.FlatError.TheVariants.{MessageTooLong}
-use Rattle.vx_flat.specs.declared.piece.LinkKind.{LinkKind}
-use Rattle.vx_flat.specs.declared.piece.LinkKind.TheVariants.{Table, Vector, Text}
-use Rattle.vx_flat.specs.declared.piece.BlockField.{BlockField}
-use Rattle.vx_flat.specs.declared.piece.BlockField.TheVariants as entry
+use Rattle.vx_flat.specs.declared.builder.piece.LinkKind.{LinkKind}
+use Rattle.vx_flat.specs.declared.builder.piece.LinkKind.TheVariants.{Table, Vector, Text}
+use Rattle.vx_flat.specs.declared.builder.piece.BlockField.{BlockField}
+use Rattle.vx_flat.specs.declared.builder.piece.BlockField.TheVariants as entry
 use Rattle.vx_flat.specs.declared.schema.FieldKind.{FieldKind}
 use Rattle.vx_flat.specs.Schema.{Schema}
 use Rattle.vx_flat.specs.Value.{Fields}

@@ -2,8 +2,8 @@
 -- no link between the two aims, so that the blocks stand depth first.
 use Rattle.std.specs.Prelude.{ℕ, zero, suc, ◌+◌, List, [], ◌∷◌, map, ◌==◌}
 use Rattle.std.specs.Prelude.{false, if◌then◌else◌}
-use Rattle.vx_flat.specs.declared.piece.BlockField.{BlockField}
-use Rattle.vx_flat.specs.declared.piece.BlockField.TheVariants as entry
+use Rattle.vx_flat.specs.declared.builder.piece.BlockField.{BlockField}
+use Rattle.vx_flat.specs.declared.builder.piece.BlockField.TheVariants as entry
 use Rattle.vx_flat.specs.declared.schema.Width.{Width}
 use Rattle.vx_flat.specs.declared.schema.Width.TheVariants.{One, Two, Four, Eight}
 use Rattle.vx_flat.specs.Blocks.{Cell, gap, inline, link, null, Block, table_block, elements_block}

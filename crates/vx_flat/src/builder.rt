@@ -14,15 +14,18 @@ ghost use Rattle.vx_flat.specs.Building.{nothing_built, with_piece, waiting, kin
 ghost use Rattle.vx_flat.specs.Building.{IsNext, IsRefused};
 ghost use Rattle.vx_flat.specs.PieceView.{piece_view, vector_piece, IsVector};
 
+mod linking;
+pub(crate) mod piece;
+
 use crate::buffer::FlatBuffer;
+use crate::builder::linking::{link_pieces, piece_end};
+use crate::builder::piece::{BlockField, BlockVector, LinkKind, Piece};
 use crate::error::FlatError;
 use crate::limits::MAX_MESSAGE;
-use crate::linking::{link_pieces, piece_end};
-use crate::numbers::align;
-use crate::piece::{BlockField, BlockVector, LinkKind, Piece};
 use crate::schema::Width;
-use crate::spots::spots_of;
 use crate::writing::bytes_of;
+use crate::writing::numbers::align;
+use crate::writing::spots::spots_of;
 use std::alloc::Global;
 use std::marker::Model;
 

@@ -14,8 +14,8 @@ ghost use Rattle.vx_flat.specs.declared.error.FlatError.TheVariants.{OutOfMemory
 
 use crate::buffer::FlatBuffer;
 use crate::builder::Builder;
+use crate::builder::piece::LinkKind;
 use crate::error::FlatError;
-use crate::piece::LinkKind;
 use crate::reading::read_value;
 use crate::schema::TableKind;
 use crate::value::TableValue;

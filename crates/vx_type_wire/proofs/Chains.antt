@@ -2,7 +2,7 @@
 use Rattle.std.proofs.Common.{◌≡◌, ◌∙◌, ℕ, zero, suc, ◌+◌, ◌<◌, ◌^◌, false, List, [], ◌∷◌, ◌++◌, length, None, Result, Err, refl, ap, sym, subst, append_assoc}
 use Rattle.std.specs.Prelude.{IfErr}
 use Rattle.vx_flat.specs.declared.error.FlatError.{FlatError}
-use Rattle.vx_flat.specs.declared.piece.BlockField.{BlockField}
+use Rattle.vx_flat.specs.declared.builder.piece.BlockField.{BlockField}
 use Rattle.vx_flat.specs.Building.{Built, Link, with_piece, with_pieces, waiting, links_of, entry_links, IsRefused, IsStopped}
 use Rattle.vx_flat.specs.Linking.{written_length}
 use Rattle.vx_flat.specs.Pieces.{Piece, default_entry}

@@ -1,9 +1,9 @@
 use Rattle.std.proofs.Common.{◌≡◌, ◌∙◌, [], ◌∷◌, ◌++◌, ◌+◌, length, take, drop, refl, ap, sym, subst, arith}
 use Rattle.std.proofs.lemmas.Result.{err_from_is_err_and}
 use Rattle.vx_trees.specs.Rose.{node, end, more, roses_of}
-use Rattle.vx_flat.specs.declared.piece.BlockField.{BlockField}
-use Rattle.vx_flat.specs.declared.piece.BlockField.TheVariants as entry
-use Rattle.vx_flat.specs.declared.piece.LinkKind.TheVariants as link
+use Rattle.vx_flat.specs.declared.builder.piece.BlockField.{BlockField}
+use Rattle.vx_flat.specs.declared.builder.piece.BlockField.TheVariants as entry
+use Rattle.vx_flat.specs.declared.builder.piece.LinkKind.TheVariants as link
 use Rattle.std.proofs.lemmas.List.{take_all}
 use Rattle.vx_flat.specs.Building.{Built, Takes, IsNext, IsStopped, waiting, with_pieces, with_elements}
 use Rattle.vx_flat.specs.Pieces.{Piece, default_entry, table_piece, elements_piece, links_piece, text_piece, rows_length}

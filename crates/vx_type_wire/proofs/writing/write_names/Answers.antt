@@ -1,6 +1,6 @@
 use Rattle.std.proofs.Common.{◌≡◌, ◌∙◌, [], ◌∷◌, ◌++◌, ◌+◌, length, get_or, map, take, drop, ap, sym, subst, ◌<◌, List, ℕ}
 use Rattle.std.proofs.lemmas.Result.{err_from_is_err_and}
-use Rattle.vx_flat.specs.declared.piece.LinkKind.TheVariants.{Text}
+use Rattle.vx_flat.specs.declared.builder.piece.LinkKind.TheVariants.{Text}
 use Rattle.vx_flat.specs.Building.{Built, IsStopped}
 use Rattle.vx_flat.specs.Pieces.{links_piece, text_piece}
 use Rattle.vx_type_wire.specs.Written.{names_pieces}
