@@ -1,13 +1,13 @@
 -- The table of a type is one of the schema, and has as many levels as the type twice.
-use Rattle.std.proofs.Common.{◌≡◌, ◌∙◌, ℕ, suc, ◌+◌, ◌*◌, ◌-◌, ◌<◌, ◌≤◌, ◌^◌, max, Bool, true, false, ℤ, pos, negsuc, List, [], ◌∷◌, length, Some, refl, ap, sym, arith}
+use Rattle.std.proofs.Common.{◌≡◌, ℕ, ◌*◌, ◌<◌, Bool, true, false, ℤ, pos, negsuc, List, [], ◌∷◌, length, Some, refl, arith}
 use Rattle.std.proofs.lemmas.Int.{ints}
-use Rattle.vx_trees.specs.Rose.{Roses, node, end, more, count}
+use Rattle.vx_trees.specs.Rose.{Roses, node, end, more}
 use Rattle.vx_trees.specs.Everywhere.{EverywhereBelow}
 use Rattle.vx_trees.specs.Walks.{levels, levels_below}
 use Rattle.vx_flat.specs.IsOf.{IsOf, AreOf, AreUtf8, AreRowsOf}
 use Rattle.vx_flat.specs.Schema.{fields_of, members_of, table_of}
-use Rattle.vx_flat.specs.Value.{Fields, no_fields, field, member}
-use Rattle.vx_flat.specs.ValueWeight.{weight_of, weight_of_fields, weight_of_rows, weight_of_texts}
+use Rattle.vx_flat.specs.Value.{Fields}
+use Rattle.vx_flat.specs.ValueWeight.{weight_of, weight_of_rows, weight_of_texts}
 use Rattle.vx_types.specs.Content.{AreTexts, IsDecimal}
 use Rattle.vx_types.specs.declared.nullability.Nullability.{Nullability}
 use Rattle.vx_types.specs.declared.nullability.Nullability.TheVariants.{NonNullable, Nullable}

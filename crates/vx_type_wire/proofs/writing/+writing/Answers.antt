@@ -6,7 +6,7 @@ use Rattle.vx_flat.specs.declared.builder.piece.BlockField.TheVariants as entry
 use Rattle.vx_flat.specs.declared.builder.piece.LinkKind.TheVariants as link
 use Rattle.std.proofs.lemmas.List.{take_all}
 use Rattle.vx_flat.specs.Building.{Built, Takes, IsNext, IsStopped, waiting, with_pieces, with_elements}
-use Rattle.vx_flat.specs.Pieces.{Piece, default_entry, table_piece, elements_piece, links_piece, text_piece, rows_length}
+use Rattle.vx_flat.specs.Pieces.{default_entry, table_piece, elements_piece, links_piece, text_piece, rows_length}
 use Rattle.vx_types.specs.Kind as kind
 use Rattle.vx_types.specs.Seen.{typ, typs}
 use Rattle.vx_type_wire.specs.TypeTable.{flag_of, bit_of, type_tables}
