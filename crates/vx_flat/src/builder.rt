@@ -185,7 +185,7 @@ impl Builder {
 
     /// The message. Where the blocks are those of a value, it is the value's layout in the plain
     /// form, as [`write_value`](crate::write_value) gives it.
-    pub fn finish(self) -> Result<FlatBuffer, FlatError>
+    pub fn finish(self, alloc: Global) -> Result<FlatBuffer, FlatError>
         requires written { 0 < length self.blocks }
         requires linked { self.left ≡ [] }
         requires idle { self.waits ≡ None }
@@ -198,12 +198,7 @@ impl Builder {
         ensures never_bad { IsErrOf result FlatError.BadTable → ⊥ }
         ensures never_limit { IsErrOf result FlatError.TableLimit → ⊥ }
     {
-        let Builder {
-            alloc,
-            pieces,
-            failed,
-            ..
-        } = self;
+        let Builder { pieces, failed, .. } = self;
         if failed {
             return Err(FlatError::MessageTooLong);
         }

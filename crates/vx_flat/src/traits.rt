@@ -7,6 +7,9 @@ ghost use Rattle.vx_flat.specs.View.{value as value_of};
 ghost use Rattle.vx_flat.specs.IsOf.{IsOf};
 ghost use Rattle.vx_flat.specs.Shows.{Shows};
 ghost use Rattle.vx_flat.specs.Layout.{layout};
+ghost use Rattle.vx_flat.specs.Limits.{limits, IsLight};
+ghost use Rattle.vx_flat.specs.Weight.{weight};
+ghost use Rattle.vx_flat.specs.Pieces.{table_pieces};
 ghost use Rattle.vx_flat.specs.Linking.{written_length};
 ghost use Rattle.vx_flat.specs.Building.{Built, nothing_built, Takes, Written, Keeps};
 ghost use Rattle.vx_flat.specs.Refusing.{IsUnread};
@@ -29,8 +32,10 @@ pub trait ReadFlatBuffer: Sized {
     /// The kind of its messages.
     type Kind: TableKind + Drop;
 
+    /// The kind, as a value.
     const KIND: Self::Kind;
 
+    /// Why a message or a table is not read.
     type Error: From<FlatError>;
 
     /// A table and what it is read as.
@@ -49,6 +54,7 @@ pub trait ReadFlatBuffer: Sized {
     fn read_flatbuffer_bytes(alloc: Global, message: &[u8]) -> Result<Self, Self::Error>
         ensures read { IfOk result
             (λ x. (v : Fields) × Shows Self.Kind.schema message.now v × reads v x) }
+        ensures light { OnOk result (IsLight limits (weight Self.Kind.schema message.now)) }
         ensures cause { IfErr result
             (λ e. ((f : FlatError) × IsUnread Self.Kind.schema message.now f × Self.Error.from_gives f e)
             ⊎ ((v : Fields) × Shows Self.Kind.schema message.now v × unread v e)) }
@@ -63,8 +69,10 @@ pub trait WriteFlatBuffer {
     /// The kind of its messages.
     type Kind: TableKind + Drop;
 
+    /// The kind, as a value.
     const KIND: Self::Kind;
 
+    /// Why a value is not written.
     type Error: From<FlatError>;
 
     /// The value's table.
@@ -74,7 +82,7 @@ pub trait WriteFlatBuffer {
     ghost unwritten: { Self → Built → Self.Error → Type 0 };
 
     /// Writes the blocks of the value, its table first. After a refusal the builder keeps the
-    /// blocks that it has.
+    /// blocks that it has, and those of the value that were written so far.
     fn write_flatbuffer(&self, builder: &mut Builder) -> Result<(), Self::Error>
         requires { Takes LinkKind.Table builder.old.waits builder.old.blocks }
         ensures of_kind { IsOk result → IsOf Self.Kind.schema (table self.now) }
@@ -82,7 +90,9 @@ pub trait WriteFlatBuffer {
             (Written Self.Kind.schema (fields_of Self.Kind.schema Self.Kind.schema.root) (table self.now)
             builder.old builder.new) }
         ensures fits { IsOk result → written_length builder.new.blocks < 2 ^ 31 }
-        ensures kept { OnErr result (Keeps builder.old builder.new) }
+        ensures kept { OnErr result (Keeps builder.old
+            (table_pieces Self.Kind.schema (fields_of Self.Kind.schema Self.Kind.schema.root) (table self.now))
+            builder.new) }
         ensures cause { IfErr result (λ e. unwritten self.now builder.old e) };
 }
 
@@ -97,7 +107,7 @@ pub trait WriteFlatBufferExt: WriteFlatBuffer + FlatBufferRoot {
     {
         let mut builder = Builder::new(alloc);
         self.write_flatbuffer(&mut builder)?;
-        let message = builder.finish()?;
+        let message = builder.finish(alloc)?;
         Ok(message)
     }
 }

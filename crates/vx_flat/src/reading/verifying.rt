@@ -20,7 +20,7 @@ use crate::reading::places::{
 };
 use crate::schema::{FieldKind, TableKind, struct_size, tag_table};
 
-/// The string at a place.
+/// Judges and counts the string at a place.
 fn verify_text(message: &[u8], place: usize, count: &mut Count) -> Result<(), FlatError>
     ensures { (levels : ℕ) → Verifies result (read.text_shown message.now place)
         count.old levels (weigh.text_weight message.now place) count.new }
@@ -31,7 +31,7 @@ fn verify_text(message: &[u8], place: usize, count: &mut Count) -> Result<(), Fl
     count.add_bytes(5 + text.len() as u64)
 }
 
-/// The elements of the vector at a place, of `size` bytes each.
+/// Judges and counts the elements of the vector at a place, of `size` bytes each.
 fn verify_elements(
     message: &[u8],
     place: usize,
@@ -48,7 +48,7 @@ fn verify_elements(
     count.add_bytes(4 + bytes.len() as u64)
 }
 
-/// The strings that the `n` offsets from a place on aim at.
+/// Judges and counts the strings that the `n` offsets from a place on aim at.
 fn verify_each_text(
     message: &[u8],
     place: usize,
@@ -70,7 +70,7 @@ fn verify_each_text(
     Ok(())
 }
 
-/// The strings of the vector at a place.
+/// Judges and counts the strings of the vector at a place.
 fn verify_texts(message: &[u8], place: usize, count: &mut Count) -> Result<(), FlatError>
     ensures { (levels : ℕ) → Verifies result
         (read.vector_shown (λ q. read.text_shown message.now q) message.now place)
@@ -85,7 +85,7 @@ fn verify_texts(message: &[u8], place: usize, count: &mut Count) -> Result<(), F
     verify_each_text(message, place + 4, n, count)
 }
 
-/// The tables that the `n` offsets from a place on aim at.
+/// Judges and counts the tables that the `n` offsets from a place on aim at.
 #[cycle(verifying)]
 fn verify_each_table<K: TableKind>(
     message: &[u8],
@@ -113,7 +113,7 @@ fn verify_each_table<K: TableKind>(
     Ok(())
 }
 
-/// The tables of the vector at a place.
+/// Judges and counts the tables of the vector at a place.
 #[cycle(verifying)]
 fn verify_tables<K: TableKind>(
     message: &[u8],
@@ -137,7 +137,7 @@ fn verify_tables<K: TableKind>(
     verify_each_table(message, kind, place + 4, n, table, levels, count)
 }
 
-/// The table that a union's offset aims at, where its tag has one.
+/// Judges and counts the table that a union's offset aims at, where its tag has one.
 #[cycle(verifying)]
 fn verify_member<K: TableKind>(
     message: &[u8],
@@ -162,7 +162,7 @@ fn verify_member<K: TableKind>(
     }
 }
 
-/// A present field that is not a union.
+/// Judges and counts what hangs on a present field that is not a union.
 #[cycle(verifying)]
 fn verify_present<K: TableKind>(
     message: &[u8],
@@ -204,7 +204,7 @@ fn verify_present<K: TableKind>(
     }
 }
 
-/// The field of an entry and, where it is a union, of the entry after that.
+/// Judges and counts what hangs on the field of an entry and, where it is a union, of the entry after that.
 #[cycle(verifying)]
 fn verify_field<K: TableKind>(
     message: &[u8],
@@ -253,7 +253,7 @@ fn verify_field<K: TableKind>(
     }
 }
 
-/// The fields of a table.
+/// Judges and counts what hangs on the fields of a table.
 #[cycle(verifying)]
 fn verify_fields<K: TableKind>(
     message: &[u8],
@@ -283,7 +283,7 @@ fn verify_fields<K: TableKind>(
     Ok(())
 }
 
-/// The table at a place, where `levels` tables may nest still, this one counted.
+/// Judges and counts the table at a place, where `levels` tables may nest still, this one counted.
 #[cycle(verifying)]
 fn verify_table<K: TableKind>(
     message: &[u8],
