@@ -1,3 +1,5 @@
+//! Sessions: what reads and writes arrays, and what reads extension types.
+
 ghost use Rattle.std.specs.Prelude.{◌≡◌, [], Some, IfOk, option_map};
 ghost use Rattle.vx_registry.specs.Session.{shipped, registry_meaning, shipped_registry, IsPaired};
 
@@ -6,6 +8,7 @@ use indexmap::IndexMap;
 use std::alloc::Global;
 use std::marker::Model;
 use vx_encodings::Encoding;
+use vx_type_wire::ExtSession;
 use vx_types::Id;
 
 /// Which encodings read and write arrays, each by its identifier.
@@ -73,17 +76,21 @@ impl ArraySession {
     }
 }
 
-/// What arrays are read and written by.
+/// What arrays and types are read and written by.
 #[derive(Drop)]
 pub struct VortexSession {
-    /// The encodings.
+    /// The encodings of arrays.
     pub arrays: ArraySession,
+    /// The readers of extension types.
+    pub ext: ExtSession,
 }
 
 impl VortexSession {
-    pub fn new(arrays: ArraySession) -> VortexSession
-        ensures { result.arrays ≡ arrays }
+    /// A session of these encodings and these readers.
+    pub fn new(arrays: ArraySession, ext: ExtSession) -> VortexSession
+        ensures arrays { result.arrays ≡ arrays }
+        ensures ext { result.ext ≡ ext }
     {
-        VortexSession { arrays }
+        VortexSession { arrays, ext }
     }
 }

@@ -1,6 +1,7 @@
 use crate::{ArrayContext, ArraySession, ReadContext, VortexSession};
 use std::test::Fail;
 use vx_encodings::Encoding;
+use vx_type_wire::ExtSession;
 use vx_types::{Id, Ids};
 
 #[test]
@@ -42,7 +43,7 @@ fn repeats_are_kept_on_reading(rt: HostRuntime) -> Result<(), Fail> {
 #[test]
 fn the_shipped_session_reads_and_writes_nulls_and_numbers(rt: HostRuntime) -> Result<(), Fail> {
     let alloc = rt.alloc();
-    let session = VortexSession::new(ArraySession::default(alloc)?);
+    let session = VortexSession::new(ArraySession::default(alloc)?, ExtSession::new(alloc));
     let none = ArraySession::empty(alloc);
     for (text, encoding) in [
         ("vortex.null", Some(Encoding::Null)),

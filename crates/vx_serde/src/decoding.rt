@@ -16,7 +16,7 @@ use vx_arrays::{Array, Arrays};
 use vx_buffer::{BufferHandle, BufferHandles};
 use vx_encodings::laws::plan_length_law;
 use vx_encodings::{ArrayHead, ChildPlans, EncodingError, build, plan};
-use vx_registry::VortexSession;
+use vx_registry::ArraySession;
 use vx_types::{DType, Id};
 
 impl From<EncodingError> for WireError {
@@ -80,19 +80,19 @@ pub(crate) fn decode(
     node: &WireNode,
     dtype: &DType,
     len: usize,
-    session: &VortexSession,
+    session: &ArraySession,
 ) -> Result<Array, WireError>
-    ensures matches { IfOk result (λ t. Matches (registry_meaning session.now.arrays) node.now t) }
+    ensures matches { IfOk result (λ t. Matches (registry_meaning session.now) node.now t) }
     ensures sound { IfOk result IsSound }
     ensures dtype { IfOk result (λ t. (label t).dtype ≡ typ dtype.now) }
     ensures len { IfOk result (λ t. (label t).len ≡ len) }
-    ensures cause { IfErr result (λ e. IsCausedIn (registry_meaning session.now.arrays) e node.now (typ dtype.now) len) }
+    ensures cause { IfErr result (λ e. IsCausedIn (registry_meaning session.now) e node.now (typ dtype.now) len) }
 {
     plan_length_law();
     let Some(id) = node.id() else {
         return Err(WireError::UnknownIndex);
     };
-    let Some(encoding) = session.arrays.reader(id) else {
+    let Some(encoding) = session.reader(id) else {
         return Err(WireError::UnknownEncoding);
     };
     let head = head_of(alloc, node, id, dtype, len)?;
@@ -120,12 +120,12 @@ fn decode_children(
     alloc: Global,
     nodes: &[WireNode],
     plans: &ChildPlans,
-    session: &VortexSession,
+    session: &ArraySession,
 ) -> Result<Arrays, WireError>
     requires { length plans.now ≡ length nodes.now }
-    ensures matches { IfOk result (λ us. AllMatch (registry_meaning session.now.arrays) (roses_of nodes.now) us) }
+    ensures matches { IfOk result (λ us. AllMatch (registry_meaning session.now) (roses_of nodes.now) us) }
     ensures places { IfOk result (λ us. places us ≡ plans.now) }
-    ensures cause { IfErr result (λ e. IsCausedUnder (registry_meaning session.now.arrays) e nodes.now plans.now) }
+    ensures cause { IfErr result (λ e. IsCausedUnder (registry_meaning session.now) e nodes.now plans.now) }
 {
     let mut children = Arrays::new(alloc);
     for (i, node) in nodes.iter().enumerate() {

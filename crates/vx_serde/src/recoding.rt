@@ -95,7 +95,7 @@ pub fn recode(
         Ok(node) => node,
         Err(e) => return Err(e),
     };
-    let array = match decode(alloc, &node, dtype, len, session) {
+    let array = match decode(alloc, &node, dtype, len, &session.arrays) {
         Ok(array) => array,
         Err(e) => return Err(e),
     };

@@ -6,6 +6,7 @@ use std::test::Fail;
 use vx_buffer::ByteBuffer;
 use vx_registry::{ArrayContext, ArraySession, ReadContext, VortexSession};
 use vx_serde::{Recoded, SerializeOptions, WireError, recode};
+use vx_type_wire::ExtSession;
 use vx_types::{DType, Id, Ids, Nullability, PType};
 
 // The blob of `len` numbers of `width` bytes, which is two to the exponent: the worked message with another exponent and
@@ -50,7 +51,7 @@ fn recoded(
 ) -> Result<Recoded, WireError> {
     let mut ids = Ids::new(alloc);
     ids.push(Id::new(alloc, IDS.trim_end())?)?;
-    let session = VortexSession::new(ArraySession::default(alloc)?);
+    let session = VortexSession::new(ArraySession::default(alloc)?, ExtSession::new(alloc));
     recode(
         alloc,
         ByteBuffer::copy_from(alloc, blob)?,

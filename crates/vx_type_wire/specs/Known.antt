@@ -22,6 +22,7 @@ abbrev pub IsAcceptedBy : Option (List ℕ → Typ → Bool) → Bool → List �
 IsAcceptedBy (Some accepts) unknown metadata storage = IsTrue (accepts metadata storage)
 IsAcceptedBy None unknown metadata storage = IsTrue unknown
 
+-- An extension is accepted in a session.
 abbrev pub IsAccepted : ExtMeaning → List ℕ → List ℕ → Typ → Type 0
 IsAccepted s id metadata storage = IsAcceptedBy (s.reader id) s.unknown metadata storage
 
@@ -78,5 +79,6 @@ AreKnown s = EverywhereBelow (IfExtension (IsAccepted s))
 abbrev pub IsNotKnown : TypeWireError → ExtMeaning → Typ → Type 0
 IsNotKnown error s = SomeExtension (IsNotAccepted error s)
 
+-- The same of some type in a list.
 abbrev pub AreNotKnown : TypeWireError → ExtMeaning → Roses Kind → Type 0
 AreNotKnown error s = SomeExtensionIn (IsNotAccepted error s)

@@ -12,7 +12,7 @@ ghost use Rattle.vx_type_wire.specs.Schema.{type_schema, type_fields};
 ghost use Rattle.vx_type_wire.specs.Session.{ext_meaning};
 ghost use Rattle.vx_type_wire.specs.Shown.{ShowsTable, IsWithinLimits, IsRead, ShowsNoType, ShowsNotKnown};
 ghost use Rattle.vx_type_wire.specs.TypeTable.{type_table};
-ghost use Rattle.vx_type_wire.specs.Written.{IsWritable, IsUnwritten};
+ghost use Rattle.vx_type_wire.specs.Written.{IsWritable, IsUnwritten, type_pieces};
 
 use crate::error::TypeWireError;
 use crate::kind::TypeKind;
@@ -87,7 +87,7 @@ impl DTypeExt for DType {
     /// at. `WireLimit` exactly where the type has over 32 levels, its table would
     /// pass a limit of nesting, tables or bytes, or the builder's message would be
     /// too long or was before. After a refusal the builder keeps the blocks that
-    /// it has.
+    /// it has, and those of the type that were written so far.
     fn write_flatbuffer(&self, builder: &mut Builder) -> Result<(), TypeWireError>
         requires { Takes LinkKind.Table builder.old.waits builder.old.blocks }
         ensures of_kind { IsOk result → IsOf type_schema (type_table (typ self.now)) }
@@ -95,7 +95,7 @@ impl DTypeExt for DType {
             (Written type_schema type_fields (type_table (typ self.now)) builder.old builder.new) }
         ensures fits { IsOk result → written_length builder.new.blocks < 2 ^ 31 }
         ensures writable { IsOk result → IsWritable (typ self.now) }
-        ensures kept { OnErr result (Keeps builder.old builder.new) }
+        ensures kept { OnErr result (Keeps builder.old (type_pieces (typ self.now)) builder.new) }
         ensures cause { IfErr result (λ e. IsUnwritten (typ self.now) builder.old e) }
         ensures limit { IsUnwritten (typ self.now) builder.old TypeWireError.WireLimit → IsOk result → ⊥ }
     {
@@ -124,7 +124,7 @@ impl DTypeExt for DType {
         self.hold();
         let mut builder = Builder::new(alloc);
         self.write_flatbuffer(&mut builder)?;
-        let message = builder.finish()?;
+        let message = builder.finish(alloc)?;
         Ok(message)
     }
 }

@@ -132,7 +132,7 @@ fn recode_blob(
     let Ok(arrays) = ArraySession::default(alloc) else {
         return Err(Status::OutOfMemory);
     };
-    let session = VortexSession::new(arrays);
+    let session = VortexSession::new(arrays, ExtSession::new(alloc));
     let read = ReadContext::new(read_ids);
     let mut ids = ArrayContext::empty(alloc);
     match recode(

@@ -18,7 +18,7 @@ decode-decode_children-requires t c =
 
 pub decode-returns-in-Err-decode_children-clause-cause : goal.decode-returns-in-Err-decode_children-clause-cause
 decode-returns-in-Err-decode_children-clause-cause t c =
-    let s = registry_meaning c.args.session.now.arrays in
+    let s = registry_meaning c.args.session.now in
     let by : IsBy s c.args.node.now c.in-Some-reader.encoding = record { id = c.in-Some.id.now; id_is = sym c.in-Some.ensures; reader_is = sym c.in-Some-reader.ensures } in
     let head : IsHeadOf c.in_ok-head.head c.args.node.now (typ c.args.dtype.now) c.args.len =
     record { dtype = c.in_ok-head.ensures.dtype; len = c.in_ok-head.ensures.len; metadata = c.in_ok-head.ensures.metadata; children = c.in_ok-head.ensures.children } in
@@ -27,14 +27,14 @@ decode-returns-in-Err-decode_children-clause-cause t c =
 
 pub decode-returns-in-Ok-build-clause-matches : goal.decode-returns-in-Ok-build-clause-matches
 decode-returns-in-Ok-build-clause-matches t c =
-    let s = registry_meaning c.args.session.now.arrays in
+    let s = registry_meaning c.args.session.now in
     matches-parts s c.args.node.now c.in-Ok-build.array c.in-Some.id.now c.in-Some-reader.encoding (typ c.in_ok-head.head.dtype) c.in_ok-head.head.len c.in_ok-head.head.metadata c.in-Ok-own_buffers.buffers
     c.children.result.now c.in-Ok-decode_children.children (sym c.in-Some.ensures) (sym c.in-Some-reader.ensures) c.in_ok-head.ensures.metadata (sym c.buffers.ensures ∙ c.in-Ok-own_buffers.ensures.ok)
     c.children.ensures c.in-Ok-decode_children.ensures.matches c.in-Ok-build.ensures.parts
 
 pub decode-returns-clause-cause : goal.decode-returns-clause-cause
 decode-returns-clause-cause t c =
-    let s = registry_meaning c.args.session.now.arrays in
+    let s = registry_meaning c.args.session.now in
     let by : IsBy s c.args.node.now c.in-Some-reader.encoding = record { id = c.in-Some.id.now; id_is = sym c.in-Some.ensures; reader_is = sym c.in-Some-reader.ensures } in
     let head : IsHeadOf c.in_ok-head.head c.args.node.now (typ c.args.dtype.now) c.args.len =
     record { dtype = c.in_ok-head.ensures.dtype; len = c.in_ok-head.ensures.len; metadata = c.in_ok-head.ensures.metadata; children = c.in_ok-head.ensures.children } in
@@ -51,12 +51,12 @@ decode_children-decode-requires t c =
 
 pub decode_children-returns-in-Err-clause-cause : goal.decode_children-returns-in-Err-clause-cause
 decode_children-returns-in-Err-clause-cause t c =
-    caused_at (registry_meaning c.args.session.now.arrays) c.in-Err.e c.args.nodes.now c.args.plans.now c.loop-i.i c.index-nodes-i.result _
+    caused_at (registry_meaning c.args.session.now) c.in-Err.e c.args.nodes.now c.args.plans.now c.loop-i.i c.index-nodes-i.result _
     (get_at c.args.nodes.now c.loop-i.i c.index-nodes-i.result c.loop-i-test.true c.index-nodes-i.is) (sym c.in-Some.ensures) c.in-Err.ensures.cause
 
 pub decode_children-loop-i-preserved : goal.decode_children-loop-i-preserved
 decode_children-loop-i-preserved t c = (
-  all_match-snoc (registry_meaning c.args.session.now.arrays) c.args.nodes.now c.loop-i.i c.index-nodes-i.result c.loop-i.children c.push.new.self c.in-Ok.child
+  all_match-snoc (registry_meaning c.args.session.now) c.args.nodes.now c.loop-i.i c.index-nodes-i.result c.loop-i.children c.push.new.self c.in-Ok.child
       c.loop-i-test.true c.loop-i.invariant.0 c.index-nodes-i.is c.in-Ok.ensures.matches c.in_ok-push.ensures.ok,
   places-snoc c.loop-i.children c.push.new.self c.in-Ok.child c.args.plans.now c.loop-i.i _ c.loop-i.invariant.1 (sym c.in-Some.ensures) c.in-Ok.ensures.dtype c.in-Ok.ensures.len c.in_ok-push.ensures.ok,
 )

@@ -14,4 +14,4 @@ decreases-decode_children l = 2 * walk.nodes_of (roses_of l.nodes.now) + 1
 
 abbrev pub invariant-decode_children-loop-i : goal.invariant-decode_children-loop-i
 invariant-decode_children-loop-i l =
-    AllMatch (registry_meaning l.session.arrays) (roses_of (take l.i l.nodes)) l.children × (places l.children ≡ take l.i l.plans)
+    AllMatch (registry_meaning l.session) (roses_of (take l.i l.nodes)) l.children × (places l.children ≡ take l.i l.plans)
