@@ -1,3 +1,4 @@
+pub mod Errors
 pub mod Tree
 pub mod Places
 pub mod Sound

@@ -33,8 +33,8 @@ number_at F64 bytes = f64 (from_le_bytes w64 (take 8 bytes))
 abbrev pub primitive_at : PType → List ℕ → ℕ → PValue
 primitive_at p bytes i = number_at p (drop (width_of p * i) bytes)
 
--- What a validity's row says: false where the row that it stands for is null. (A row of numbers says
--- nothing, and no sound node has such a validity.)
+-- What a validity's row says of the row that it stands for: a null and a number both say that it is there.
+-- (No sound node has a validity of such rows.)
 abbrev pub says : RowValue → Option Bool
 says Null = Some true
 says (Primitive v) = Some true
@@ -68,6 +68,7 @@ abbrev mutual
   pub row_at : Tree → ℕ → RowValue
   row_at (node h ts) i = row_of h (rows_below ts) i
 
+  -- The rows of each of a node's children, in the children's order.
   pub rows_below : Trees → List (ℕ → RowValue)
   rows_below end = []
   rows_below (more t ts) = (λ i. row_at t i) ∷ rows_below ts
@@ -81,5 +82,6 @@ abbrev pub row_cells : RowValue → ℕ
 row_cells Null = 1
 row_cells (Primitive v) = 1
 
+-- How many cells an array's row at an index takes.
 abbrev pub cells : Tree → ℕ → ℕ
 cells t i = row_cells (row_at t i)

@@ -21,6 +21,7 @@ pub record Head : Type 0 where
 abbrev pub Tree : Type 0
 Tree = Rose Head
 
+-- The children of a node: trees in their order.
 abbrev pub Trees : Type 0
 Trees = Roses Head
 
@@ -38,20 +39,20 @@ buffers_of (Primitive values) = values ∷ []
 abbrev pub encoding_ids : Tree → List (List ℕ)
 encoding_ids t = gathered (λ h. encoding_id_of h.body ∷ []) t
 
--- The buffers of a tree, in preorder.
-abbrev pub all_buffers : Tree → List Buffer
-all_buffers t = gathered (λ h. buffers_of h.body) t
-
--- The codes by which nodes and trees are told apart.
+-- The code by which nodes without their children are told apart: the type, the rows and what the encoding
+-- holds, side by side.
 abbrev pub head_code : Coded Head
 head_code = code_by (Typ × (ℕ × Body)) (coded× typ_code (coded× coded_ℕ body.the_row.coded))
     (λ h. (h.dtype, (h.len, h.body))) (λ p. record { dtype = p.0; len = p.1.0; body = p.1.1 }) (λ _. refl)
 
+-- A node that stands for none where a code wants one; which it is does not matter.
 abbrev no_head : Head
 no_head = record { dtype = node null end; len = 0; body = Primitive (record { bytes = []; exponent = 0 }) }
 
+-- The code by which arrays are told apart.
 abbrev pub tree_code : Coded Tree
 tree_code = coded_rose no_head head_code
 
+-- The code by which lists of children are told apart.
 abbrev pub trees_code : Coded Trees
 trees_code = coded_roses head_code

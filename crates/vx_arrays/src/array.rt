@@ -1,6 +1,6 @@
 //! Arrays, each a tree of nodes, and what they tell of themselves.
 
-ghost use Rattle.std.specs.Prelude.{◌≡◌, ◌<◌, ◌≤◌, ◌==◌, length, IfOk, IfErr, IsOk, Some, slice_get};
+ghost use Rattle.std.specs.Prelude.{◌≡◌, ◌<◌, ◌≤◌, ◌==◌, length, IfOk, IfErr, IsOk, IsOkUnless, Some, slice_get};
 ghost use Rattle.vx_trees.specs.Rose.{label, below, node, roses_of};
 ghost use Rattle.vx_trees.specs.Everywhere.{EverywhereBelow};
 ghost use Rattle.vx_types.specs.Seen.{typ};
@@ -87,6 +87,7 @@ impl Array {
         self.len
     }
 
+    /// Whether there are no rows.
     pub fn is_empty(&self) -> bool
         ensures { result ≡ ((label self.now).len == 0) }
     {
@@ -188,7 +189,8 @@ impl Array {
     /// The same array again. No buffer's bytes are copied.
     #[tactic(auto, using(vx_trees::proofs::Roses::roses))]
     pub fn clone(&self, alloc: Global) -> Result<Array, ArrayError>
-        ensures { IfOk result (λ a. a ≡ self.now) }
+        ensures ok { IfOk result (λ a. a ≡ self.now) }
+        ensures err { IsOkUnless result ArrayError.OutOfMemory }
     {
         let mut children = Vec::new(alloc);
         for child in self.children() {

@@ -1,6 +1,6 @@
 //! What a node's encoding holds beside its type, its rows and its children.
 
-ghost use Rattle.std.specs.Prelude.{◌≡◌, IfOk};
+ghost use Rattle.std.specs.Prelude.{◌≡◌, IfOk, IsOkUnless};
 ghost use Rattle.vx_arrays.specs.declared.body.Body.{Body};
 
 use crate::error::ArrayError;
@@ -19,7 +19,8 @@ pub enum Body {
 impl Body {
     /// The same buffers again.
     pub(crate) fn clone(&self, alloc: Global) -> Result<Body, ArrayError>
-        ensures { IfOk result (λ body. body ≡ self.now) }
+        ensures ok { IfOk result (λ body. body ≡ self.now) }
+        ensures err { IsOkUnless result ArrayError.OutOfMemory }
     {
         match self {
             Body::Null => Ok(Body::Null),

@@ -41,15 +41,24 @@ impl<T: Drop> From<AllocFailed<T>> for ArrayError {
 impl From<BufferError> for ArrayError {
     ghost from_gives = { λ _ e. e ≡ OutOfMemory };
 
-    fn from(_: BufferError) -> ArrayError {
-        ArrayError::OutOfMemory
+    fn from(e: BufferError) -> ArrayError {
+        match e {
+            BufferError::OutOfMemory => ArrayError::OutOfMemory,
+        }
     }
 }
 
 impl From<TypeError> for ArrayError {
-    ghost from_gives = { λ _ e. e ≡ OutOfMemory };
+    ghost use Rattle.vx_arrays.specs.Errors.{error_of};
 
-    fn from(_: TypeError) -> ArrayError {
-        ArrayError::OutOfMemory
+    ghost from_gives = { λ e r. r ≡ error_of e };
+
+    fn from(e: TypeError) -> ArrayError {
+        match e {
+            TypeError::OutOfMemory => ArrayError::OutOfMemory,
+            TypeError::BadDecimal | TypeError::FieldCount | TypeError::DuplicateTag => {
+                ArrayError::BadShape
+            }
+        }
     }
 }

@@ -1,6 +1,6 @@
 //! Lists of arrays, as the children of a node.
 
-ghost use Rattle.std.specs.Prelude.{◌≡◌, OnOk, OnErr};
+ghost use Rattle.std.specs.Prelude.{◌≡◌, OnOk, OnErr, IsOkUnless};
 ghost use Rattle.vx_trees.specs.Everywhere.{EverywhereBelow};
 ghost use Rattle.vx_trees.specs.Rose.{count, end, roses_list, roses_of};
 ghost use Rattle.std.specs.Prelude.{◌++◌, ◌∷◌, []};
@@ -47,19 +47,22 @@ impl Arrays {
     /// is dropped.
     pub fn push(&mut self, array: Array) -> Result<(), ArrayError>
         ensures ok { OnOk result (roses_list self.new ≡ roses_list self.old ++ array ∷ []) }
-        ensures err { OnErr result (self.new ≡ self.old) }
+        ensures unchanged { OnErr result (self.new ≡ self.old) }
+        ensures err { IsOkUnless result ArrayError.OutOfMemory }
     {
         array.hold();
         self.items.push(array)?;
         Ok(())
     }
 
+    /// How many arrays there are.
     pub fn len(&self) -> usize
         ensures { result ≡ count self.now }
     {
         self.items.as_slice().len()
     }
 
+    /// The arrays in their order, lent.
     pub fn as_slice(&self) -> &[Array]
         ensures items { roses_of result.now ≡ self.now }
         ensures sound { EverywhereBelow IsSoundNode self.now }
@@ -67,6 +70,7 @@ impl Arrays {
         self.items.as_slice()
     }
 
+    /// The arrays in their order, handed over.
     pub fn into_vec(self) -> Vec<Array>
         ensures items { roses_of result.items ≡ self }
         ensures sound { EverywhereBelow IsSoundNode self }

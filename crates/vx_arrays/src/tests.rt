@@ -1,4 +1,4 @@
-//! Tests of arrays of numbers and of nulls: their rows, their parts and their refusals.
+//! Tests of arrays of numbers and of nulls: their rows, their parts and their refusals, with the texts.
 
 use crate::{Array, ArrayError, Arrays, NullArray, PrimitiveArray, RowValue};
 use std::alloc::Global;
@@ -128,6 +128,18 @@ fn each_row_of_nulls_is_null(rt: HostRuntime) -> Result<(), Fail> {
     for index in [0, usize::MAX - 1] {
         assert!(rt; array.is_valid(index) == Some(false));
         assert!(rt; array.value_at(alloc, index, 1)? == RowValue::Null);
+    }
+    Ok(())
+}
+
+#[test]
+fn errors_are_printed(rt: HostRuntime) -> Result<(), Fail> {
+    for (error, text) in [
+        (ArrayError::OutOfMemory, "out of memory"),
+        (ArrayError::BadShape, "the parts fit no sound array"),
+        (ArrayError::ValueTooLarge, "the row takes too many cells"),
+    ] {
+        assert_eq!(rt; format!(in rt.alloc(); "{error}")?.as_str(), text);
     }
     Ok(())
 }

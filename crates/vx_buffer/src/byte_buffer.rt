@@ -67,18 +67,21 @@ impl ByteBuffer {
         self.bytes.len()
     }
 
+    /// Whether there is no byte.
     pub fn is_empty(&self) -> bool
         ensures { IsTrue result ↔ (self.now.bytes ≡ []) }
     {
         self.bytes.is_empty()
     }
 
+    /// The bytes, lent.
     pub fn as_slice(&self) -> &[u8]
         ensures { result.now ≡ self.now.bytes }
     {
         self.bytes.as_slice()
     }
 
+    /// The alignment that the bytes are said to have.
     pub fn alignment(&self) -> Alignment
         ensures { result ≡ self.now.exponent }
     {

@@ -27,18 +27,21 @@ impl Model for BufferHandle {
 }
 
 impl BufferHandle {
+    /// The handle of a buffer on the host. No byte is copied.
     pub fn new_host(buffer: ByteBuffer) -> BufferHandle
         ensures { result ≡ buffer }
     {
         BufferHandle { buffer }
     }
 
+    /// Whether the bytes are in the memory of the host: always.
     pub fn is_on_host(&self) -> bool
         ensures { result ≡ true }
     {
         true
     }
 
+    /// Whether the bytes are in the memory of a device: never.
     pub fn is_on_device(&self) -> bool
         ensures { result ≡ false }
     {
@@ -52,12 +55,14 @@ impl BufferHandle {
         self.buffer.len()
     }
 
+    /// Whether there is no byte.
     pub fn is_empty(&self) -> bool
         ensures { IsTrue result ↔ (self.now.bytes ≡ []) }
     {
         self.buffer.is_empty()
     }
 
+    /// The alignment that the bytes are said to have.
     pub fn alignment(&self) -> Alignment
         ensures { result ≡ self.now.exponent }
     {
@@ -111,43 +116,51 @@ impl BufferHandle {
         self.slice(alloc, range.start * width..range.end * width)
     }
 
+    /// The buffer on the host, lent: always there.
     pub fn as_host(&self) -> &ByteBuffer
         ensures { result.now ≡ self.now }
     {
         &self.buffer
     }
 
-    /// The buffer on the host: always there.
+    /// The buffer on the host, lent: always `Some`.
     pub fn as_host_opt(&self) -> Option<&ByteBuffer>
         ensures { IsSomeAnd result (λ b. b.now ≡ self.now) }
     {
         Some(&self.buffer)
     }
 
+    /// The buffer on the host, handed over: always there.
     pub fn unwrap_host(self) -> ByteBuffer
         ensures { result ≡ self }
     {
         self.buffer
     }
 
+    /// The buffer on the host, handed over. There is nothing to wait for.
     pub fn into_host_sync(self) -> ByteBuffer
         ensures { result ≡ self }
     {
         self.buffer
     }
 
+    /// The buffer on the host, handed over. There is nothing to wait for, and nothing to refuse.
     pub fn try_into_host_sync(self) -> ByteBuffer
         ensures { result ≡ self }
     {
         self.buffer
     }
 
+    /// The buffer on the host, as a clone. No byte is copied; `OutOfMemory` where the count of their owners
+    /// is full.
     pub fn to_host_sync(&self, alloc: Global) -> Result<ByteBuffer, BufferError>
         ensures { IfOk result (λ b. b ≡ self.now) }
     {
         self.buffer.clone(alloc)
     }
 
+    /// The buffer on the host, as a clone. No byte is copied; `OutOfMemory` where the count of their owners
+    /// is full.
     pub fn try_to_host_sync(&self, alloc: Global) -> Result<ByteBuffer, BufferError>
         ensures { IfOk result (λ b. b ≡ self.now) }
     {

@@ -34,6 +34,8 @@ impl ByteBuffers {
         }
     }
 
+    /// One more buffer at the end. `OutOfMemory` where there is no memory for it: the list stays as it was,
+    /// and the buffer is dropped.
     pub fn push(&mut self, buffer: ByteBuffer) -> Result<(), BufferError>
         ensures ok { OnOk result (self.new ≡ self.old ++ buffer ∷ []) }
         ensures err { OnErr result (self.new ≡ self.old) }
@@ -42,12 +44,14 @@ impl ByteBuffers {
         Ok(())
     }
 
+    /// How many buffers there are.
     pub fn len(&self) -> usize
         ensures { result ≡ length self.now }
     {
         self.items.len()
     }
 
+    /// Whether there is no buffer.
     pub fn is_empty(&self) -> bool
         ensures { IsTrue result ↔ (self.now ≡ []) }
     {
@@ -61,12 +65,14 @@ impl ByteBuffers {
         self.items.get(index)
     }
 
+    /// The buffers in their order, lent.
     pub fn as_slice(&self) -> &[ByteBuffer]
         ensures { result.now ≡ self.now }
     {
         self.items.as_slice()
     }
 
+    /// The buffers in their order, handed over.
     pub fn into_vec(self) -> Vec<ByteBuffer>
         ensures { result.items ≡ self }
     {
@@ -110,6 +116,8 @@ impl BufferHandles {
         }
     }
 
+    /// One more buffer at the end. `OutOfMemory` where there is no memory for it: the list stays as it was,
+    /// and the buffer is dropped.
     pub fn push(&mut self, buffer: BufferHandle) -> Result<(), BufferError>
         ensures ok { OnOk result (self.new ≡ self.old ++ buffer ∷ []) }
         ensures err { OnErr result (self.new ≡ self.old) }
@@ -118,12 +126,14 @@ impl BufferHandles {
         Ok(())
     }
 
+    /// How many buffers there are.
     pub fn len(&self) -> usize
         ensures { result ≡ length self.now }
     {
         self.items.len()
     }
 
+    /// Whether there is no buffer.
     pub fn is_empty(&self) -> bool
         ensures { IsTrue result ↔ (self.now ≡ []) }
     {
@@ -137,12 +147,14 @@ impl BufferHandles {
         self.items.get(index)
     }
 
+    /// The buffers in their order, lent.
     pub fn as_slice(&self) -> &[BufferHandle]
         ensures { result.now ≡ self.now }
     {
         self.items.as_slice()
     }
 
+    /// The buffers in their order, handed over.
     pub fn into_vec(self) -> Vec<BufferHandle>
         ensures { result.items ≡ self }
     {

@@ -1,6 +1,6 @@
-//! Tests of slices, alignments and lists of buffers.
+//! Tests of slices, alignments and lists of buffers, and of the texts of errors.
 
-use crate::{Alignment, BufferHandle, BufferHandles, ByteBuffer, ByteBuffers};
+use crate::{Alignment, BufferError, BufferHandle, BufferHandles, ByteBuffer, ByteBuffers};
 use std::hash::{FoldHasher, Hasher};
 use std::test::Fail;
 
@@ -76,5 +76,15 @@ fn handles_are_sliced_by_bytes_and_by_values(rt: HostRuntime) -> Result<(), Fail
         .ensure_aligned(aligned.alignment())
         .array_hash(&mut second);
     assert_eq!(rt; first.finish(), second.finish());
+    Ok(())
+}
+
+#[test]
+fn errors_are_printed(rt: HostRuntime) -> Result<(), Fail> {
+    let error = BufferError::OutOfMemory;
+    assert_eq!(rt;
+        format!(in rt.alloc(); "{error}")?.as_str(),
+        "out of memory"
+    );
     Ok(())
 }

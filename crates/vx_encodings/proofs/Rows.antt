@@ -1,6 +1,6 @@
 -- The laws of the encodings' rows, encoding by encoding.
 use Rattle.std.proofs.Common.{ℕ, zero, suc, ◌≡◌, List, [], ◌∷◌, Some, refl, length}
-use Rattle.vx_trees.specs.Rose.{node, end, more, count}
+use Rattle.vx_trees.specs.Rose.{node, end, count}
 use Rattle.vx_types.specs.Kind.{primitive}
 use Rattle.vx_types.specs.Typ.{Typ}
 use Rattle.vx_arrays.specs.Tree.{Head, Trees, buffers_of}
@@ -13,7 +13,7 @@ use Rattle.vx_encodings.specs.declared.encoding.Encoding.TheVariants.{Null, Prim
 use Rattle.vx_encodings.specs.declared.encoding.Metadata.TheVariants.{Empty}
 use Rattle.vx_encodings.specs.Metadata.{Reads, IsFair, written}
 use Rattle.vx_encodings.specs.Encodings.{encoding_of, metadata_of, body_of, plan_of, IsShaped}
-use Rattle.vx_encodings.specs.Laws.{IdLaw, DistinctIdLaw, BodyLaw, PlanLaw, ShapeLaw, FairLaw, EncodedLaw, OneValueLaw, ReadBackLaw, PlanLengthLaw}
+use Rattle.vx_encodings.specs.Laws.{IdLaw, DistinctIdLaw, BodyLaw, PlanLaw, ShapeLaw, FairLaw, OneValueLaw, ReadBackLaw, PlanLengthLaw}
 
 -- the head of a node by its parts
 abbrev head_of : Typ → ℕ → Body → Head
@@ -68,13 +68,6 @@ fair_at (PrimitiveBody values) d n ts Primitive p = tt
 
 pub fair_metadata : FairLaw
 fair_metadata h ts e s p = fair_at h.body h.dtype h.len ts e p
-
-encoded_at : (b : Body) → (e : Encoding) × (encoding_of b ≡ Some e)
-encoded_at NullBody = (Null, refl)
-encoded_at (PrimitiveBody values) = (Primitive, refl)
-
-pub encoded : EncodedLaw
-encoded h ts s = encoded_at h.body
 
 pub one_value : OneValueLaw
 one_value Null bytes Empty Empty p q = refl

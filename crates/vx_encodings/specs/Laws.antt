@@ -33,15 +33,11 @@ abbrev pub ShapeLaw : Type 0
 ShapeLaw = (h : Head) (ts : Trees) (e : Encoding) → IsSoundNode h ts → encoding_of h.body ≡ Some e
     → IsShaped e h.dtype h.len (metadata_of h ts) (buffers_of h.body) (count ts)
 
--- And so is its metadata one that its encoding admits.
+-- A sound node's metadata is one that its encoding admits.
 abbrev pub FairLaw : Type 0
 FairLaw = (h : Head) (ts : Trees) (e : Encoding) → IsSoundNode h ts → encoding_of h.body ≡ Some e → IsFair e (metadata_of h ts)
 
--- Each sound node is of an encoding.
-abbrev pub EncodedLaw : Type 0
-EncodedLaw = (h : Head) (ts : Trees) → IsSoundNode h ts → (e : Encoding) × (encoding_of h.body ≡ Some e)
-
--- Bytes show at most one value.
+-- Bytes show at most one value of metadata.
 abbrev pub OneValueLaw : Type 0
 OneValueLaw = (e : Encoding) (bytes : List ℕ) (v w : Metadata) → Reads e bytes v → Reads e bytes w → v ≡ w
 

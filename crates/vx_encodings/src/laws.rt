@@ -1,6 +1,6 @@
 //! What holds of each encoding's row, for the proofs of other crates. Nothing runs; a caller gets the fact.
 
-ghost use Rattle.vx_encodings.specs.Laws.{IdLaw, DistinctIdLaw, BodyLaw, PlanLaw, ShapeLaw, FairLaw, EncodedLaw, OneValueLaw, ReadBackLaw, PlanLengthLaw};
+ghost use Rattle.vx_encodings.specs.Laws.{IdLaw, DistinctIdLaw, BodyLaw, PlanLaw, ShapeLaw, FairLaw, OneValueLaw, ReadBackLaw, PlanLengthLaw};
 
 /// A node is known by its encoding's identifier.
 #[tactic(auto, using(crate::proofs::Rows::same_id))]
@@ -36,12 +36,6 @@ pub fn shape_law()
 #[tactic(auto, using(crate::proofs::Rows::fair_metadata))]
 pub fn fair_law()
     ensures { FairLaw }
-{}
-
-/// Each sound node is of an encoding.
-#[tactic(auto, using(crate::proofs::Rows::encoded))]
-pub fn encoded_law()
-    ensures { EncodedLaw }
 {}
 
 /// Bytes show at most one value of metadata.

@@ -15,7 +15,6 @@ pub use error::EncodingError;
 pub use head::ArrayHead;
 pub use planning::plan;
 pub use plans::{ChildPlan, ChildPlans};
-pub use vx_arrays::Arrays;
 
 #[cfg(test)]
 mod tests;

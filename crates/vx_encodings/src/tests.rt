@@ -1,9 +1,9 @@
-//! Tests of one level: planned, built and written.
+//! Tests of one level: planned, built and written; and of the texts of errors.
 
-use crate::{ArrayHead, Arrays, Encoding, EncodingError, build, metadata, plan};
+use crate::{ArrayHead, Encoding, EncodingError, build, metadata, plan};
 use std::alloc::Global;
 use std::test::Fail;
-use vx_arrays::Array;
+use vx_arrays::{Array, Arrays};
 use vx_buffer::{Alignment, BufferHandle, BufferHandles, ByteBuffer};
 use vx_types::{Blob, DType, Id, Nullability, PType};
 
@@ -143,6 +143,21 @@ fn nulls_have_the_type_of_nulls(rt: HostRuntime) -> Result<(), Fail> {
     match built_metadata(alloc, Encoding::Null, head, BufferHandles::new(alloc)) {
         Ok(_) => assert!(rt; false, "truths are no nulls"),
         Err(e) => assert!(rt; e == EncodingError::BadShape),
+    }
+    Ok(())
+}
+
+#[test]
+fn errors_are_printed(rt: HostRuntime) -> Result<(), Fail> {
+    for (error, text) in [
+        (EncodingError::OutOfMemory, "out of memory"),
+        (
+            EncodingError::BadMetadata,
+            "the metadata is none of the encoding's",
+        ),
+        (EncodingError::BadShape, "the parts do not fit the encoding"),
+    ] {
+        assert_eq!(rt; format!(in rt.alloc(); "{error}")?.as_str(), text);
     }
     Ok(())
 }
