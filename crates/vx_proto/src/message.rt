@@ -45,7 +45,8 @@ pub trait Message: Drop {
 
     /// The message whose fields all have their defaults. It takes no memory.
     fn default(alloc: Global) -> Self
-        ensures { value result ≡ default_value schema place };
+        ensures same { value result ≡ default_value schema place }
+        ensures in_range { fits result };
 
     /// The message of a plain value.
     fn from_value(alloc: Global, slots: &[Entries]) -> Result<Self, AllocError>
