@@ -116,7 +116,7 @@ impl DeserializeMetadata for RawMetadata {
     ghost unread = { λ _ _. ⊥ };
 
     fn deserialize(alloc: Global, metadata: &[u8]) -> Result<Blob, ProtoError> {
-        Ok(Blob::copy_from(alloc, metadata)?)
+        Blob::copy_from(alloc, metadata)
     }
 }
 
