@@ -9,6 +9,7 @@ ghost use Rattle.vx_proto.specs.Form.{HasForm};
 ghost use Rattle.vx_proto.specs.Written.{written, nested};
 ghost use Rattle.vx_proto.specs.Lawful.{is_lawful};
 
+use crate::blob::Blob;
 use crate::element::Entries;
 use crate::error::ProtoError;
 use crate::reading::message_of;
@@ -90,11 +91,11 @@ pub trait Message: Drop {
     }
 
     /// The bytes of the message.
-    final fn encode_to_vec(&self, alloc: Global) -> Result<Vec<u8>, ProtoError>
+    final fn encode_to_vec(&self, alloc: Global) -> Result<Blob, ProtoError>
         // What is written is the one written form.
-        ensures exact { IfOk result (λ bytes. bytes.items ≡ written schema place (value self.now)) }
+        ensures exact { IfOk result (λ bytes. bytes ≡ written schema place (value self.now)) }
         // What is written shows the message.
-        ensures read { IfOk result (λ bytes. Reads schema place bytes.items (value self.now)) }
+        ensures read { IfOk result (λ bytes. Reads schema place bytes (value self.now)) }
         // It is refused exactly where messages nest too deep, unless memory runs out.
         ensures nests { IsOk result → nested (value self.now) ≤ 100 }
         ensures cause { IfErr result (λ e. (e ≡ OutOfMemory) ⊎ ((e ≡ TooDeep) × (100 < nested (value self.now)))) }
@@ -103,7 +104,8 @@ pub trait Message: Drop {
         if !nests_within(&slots, NESTED_MESSAGES) {
             return Err(ProtoError::TooDeep);
         }
-        Ok(message_bytes(alloc, Self::lists(), Self::place_of(), &slots)?)
+        let bytes = message_bytes(alloc, Self::lists(), Self::place_of(), &slots)?;
+        Ok(Blob::new(bytes))
     }
 
     /// A message with equal fields.

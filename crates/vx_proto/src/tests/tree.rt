@@ -294,7 +294,7 @@ fn trees(rt: HostRuntime) -> Result<(), Fail> {
     );
 
     let bytes = chain(alloc, 100)?.encode_to_vec(alloc)?;
-    assert!(rt; Tree::decode(alloc, &bytes).is_ok());
+    assert!(rt; Tree::decode(alloc, bytes.as_slice()).is_ok());
     assert!(rt;
         matches!(
             chain(alloc, 101)?.encode_to_vec(alloc),
