@@ -1,6 +1,6 @@
 -- What a reader tells of its answer, in the words of the bytes.
 use Rattle.std.proofs.Common.{◌≡◌, ◌≤◌, ◌<◌, ◌^◌, ◌⊎◌, inl, inr, ℕ, List, [], ◌∷◌, length, arith, Result, Ok, Err, refl}
-use Rattle.std.specs.Prelude.{IsTrue}
+use Rattle.std.specs.Prelude.{IsTrue, IfOk, IfErr, IsOkUnless, MatchResult}
 use Rattle.vx_proto.specs.declared.error.ProtoError.{ProtoError}
 use Rattle.vx_proto.specs.declared.error.ProtoError.TheVariants as errors
 use Rattle.vx_proto.specs.declared.schema.Rule.{Rule}
@@ -18,6 +18,20 @@ use Rattle.vx_proto.specs.FormLaws.{form_within}
 use Rattle.vx_proto.specs.Written.{written, nested}
 use Rattle.vx_proto.proofs.Again.{written_reads}
 use Rattle.vx_proto.proofs.LawfulTest.{lawful_by}
+
+-- an answer that is Ok keeps what follows
+pub where_ok : {X E : Type 0} (r : Result X E) (P Q : X → Type 0) → IfOk r P → ((x : X) → P x → Q x) → IfOk r Q
+where_ok (Ok x) P Q h more = more x h
+where_ok (Err e) P Q h more = tt
+
+-- an answer that has one refusal alone
+pub ok_unless : {X E : Type 0} (r : Result X E) (only : E) (P Q : X → Type 0) → IfOk r P → IsOkUnless r only → ((x : X) → P x → Q x) → MatchResult r Q (λ e. e ≡ only)
+ok_unless (Ok x) only P Q h err more = more x h
+ok_unless (Err e) only P Q h err more = err
+
+pub caused_unless : {X E : Type 0} (r : Result X E) (only : E) (P : E → Type 0) → IsOkUnless r only → IfErr r (λ e. (e ≡ only) ⊎ P e)
+caused_unless (Ok x) only P err = tt
+caused_unless (Err e) only P err = inl err
 
 pub fails_caused : (err : ProtoError) (schema : Schema) (place : ℕ) (bytes : List ℕ) → Fails err (decoded schema 100 place bytes) → (err ≡ errors.OutOfMemory) ⊎ Cause schema 100 err place bytes
 fails_caused errors.OutOfMemory schema place bytes h = inl refl

@@ -1,14 +1,15 @@
 //! Plain values: what a message of any schema shows, and the calls by which a message type takes
 //! one apart and puts one together.
 
-ghost use Rattle.std.specs.Prelude.{◌≡◌, ◌<◌, ◌≤◌, ◌^◌, ℕ, pos, Some, None, ◌∷◌, [], IfOk, IsTrue, IsFalse, option_map};
+ghost use Rattle.std.specs.Prelude.{◌≡◌, ◌<◌, ◌≤◌, ◌^◌, ℕ, pos, Some, None, ◌∷◌, [], IfOk, IsOkUnless, IsTrue, IsFalse, option_map};
 ghost use Rattle.vx_proto.specs.Value.{view, value_view, entries_view, number, octets};
 ghost use Rattle.vx_proto.specs.Parts.{entries_in, flag_number, number_of, octets_of, text_of_bytes, text_of, message_of, number_in, octets_in, text_in, message_in};
 ghost use Rattle.vx_proto.specs.Signed.{IsInt32};
 ghost use Rattle.std.specs.Int.{w64, cast_unsigned};
 
+use crate::error::ProtoError;
 use crate::signed::int32_of;
-use std::alloc::{AllocError, Global};
+use std::alloc::Global;
 
 /// What a member of a message holds.
 #[derive(Debug, Drop)]
@@ -184,8 +185,9 @@ pub fn message_at(slots: &[Entries], slot: usize) -> Option<&[Entries]>
 }
 
 /// A copy of bytes, or of the bytes of a text, as what a member holds.
-pub fn copied(alloc: Global, bytes: &[u8]) -> Result<Element, AllocError>
-    ensures { IfOk result (λ element. view element ≡ octets bytes.now) }
+pub fn copied(alloc: Global, bytes: &[u8]) -> Result<Element, ProtoError>
+    ensures same { IfOk result (λ element. view element ≡ octets bytes.now) }
+    ensures err { IsOkUnless result ProtoError.OutOfMemory }
 {
     Ok(Element::Octets(Vec::from_slice(alloc, bytes)?))
 }
@@ -198,8 +200,9 @@ pub fn flag(value: bool) -> Element
 }
 
 /// A slot with one member.
-pub fn one(alloc: Global, number: u32, element: Element) -> Result<Entries, AllocError>
-    ensures { IfOk result (λ entries. entries_view entries.items ≡ (number, view element) ∷ []) }
+pub fn one(alloc: Global, number: u32, element: Element) -> Result<Entries, ProtoError>
+    ensures same { IfOk result (λ entries. entries_view entries.items ≡ (number, view element) ∷ []) }
+    ensures err { IsOkUnless result ProtoError.OutOfMemory }
 {
     let mut entries = Vec::new(alloc);
     entries.push((number, element))?;

@@ -1,6 +1,6 @@
 //! Messages of a schema, read and written by one pair of calls for all of them.
 
-ghost use Rattle.std.specs.Prelude.{◌≡◌, ◌<◌, ◌≤◌, ◌⊎◌, ℕ, IfOk, IfErr, OnOk, IsOk, IsErr, IsTrue, MatchResult};
+ghost use Rattle.std.specs.Prelude.{◌≡◌, ◌<◌, ◌≤◌, ◌⊎◌, ℕ, IfOk, IfErr, OnOk, IsOkUnless, IsOk, IsErr, IsTrue, MatchResult};
 ghost use Rattle.vx_proto.specs.declared.error.ProtoError.{ProtoError as Refusal};
 ghost use Rattle.vx_proto.specs.declared.error.ProtoError.TheVariants.{OutOfMemory, TooDeep};
 ghost use Rattle.vx_proto.specs.Value.{Schema, Value, value_view, schema_view};
@@ -9,12 +9,13 @@ ghost use Rattle.vx_proto.specs.Form.{HasForm};
 ghost use Rattle.vx_proto.specs.Written.{written, nested};
 ghost use Rattle.vx_proto.specs.Lawful.{is_lawful};
 
+use crate::blob::Blob;
 use crate::element::Entries;
 use crate::error::ProtoError;
 use crate::reading::message_of;
 use crate::schema::Schema as Lists;
 use crate::writing::{message_bytes, nests_within};
-use std::alloc::{AllocError, Global};
+use std::alloc::Global;
 
 /// At most so many messages nest, the root counted. Past it both calls answer `TooDeep`.
 const NESTED_MESSAGES: u8 = 100;
@@ -45,18 +46,21 @@ pub trait Message: Drop {
 
     /// The message whose fields all have their defaults. It takes no memory.
     fn default(alloc: Global) -> Self
-        ensures { value result ≡ default_value schema place };
+        ensures same { value result ≡ default_value schema place }
+        ensures in_range { fits result };
 
     /// The message of a plain value.
-    fn from_value(alloc: Global, slots: &[Entries]) -> Result<Self, AllocError>
+    fn from_value(alloc: Global, slots: &[Entries]) -> Result<Self, ProtoError>
         ensures same { HasForm schema place (value_view slots.now) → IfOk result (λ m. value m ≡ value_view slots.now) }
-        ensures in_range { IfOk result fits };
+        ensures in_range { IfOk result fits }
+        ensures err { IsOkUnless result ProtoError.OutOfMemory };
 
     /// The plain value of this message.
-    fn to_value(&self, alloc: Global) -> Result<Vec<Entries>, AllocError>
+    fn to_value(&self, alloc: Global) -> Result<Vec<Entries>, ProtoError>
         ensures same { IfOk result (λ v. value_view v.items ≡ value self.now) }
         ensures form { OnOk result (HasForm schema place (value self.now)) }
-        ensures in_range { OnOk result (fits self.now) };
+        ensures in_range { OnOk result (fits self.now) }
+        ensures err { IsOkUnless result ProtoError.OutOfMemory };
 
     /// The schema is lawful: a test, which `refl` proves of a schema that is written out.
     ghost lawful: { IsTrue (is_lawful schema) };
@@ -83,15 +87,15 @@ pub trait Message: Drop {
             Self::place_of(),
             bytes,
         )?;
-        Ok(Self::from_value(alloc, &slots)?)
+        Self::from_value(alloc, &slots)
     }
 
     /// The bytes of the message.
-    final fn encode_to_vec(&self, alloc: Global) -> Result<Vec<u8>, ProtoError>
+    final fn encode_to_vec(&self, alloc: Global) -> Result<Blob, ProtoError>
         // What is written is the one written form.
-        ensures exact { IfOk result (λ bytes. bytes.items ≡ written schema place (value self.now)) }
+        ensures exact { IfOk result (λ bytes. bytes ≡ written schema place (value self.now)) }
         // What is written shows the message.
-        ensures read { IfOk result (λ bytes. Reads schema place bytes.items (value self.now)) }
+        ensures read { IfOk result (λ bytes. Reads schema place bytes (value self.now)) }
         // It is refused exactly where messages nest too deep, unless memory runs out.
         ensures nests { IsOk result → nested (value self.now) ≤ 100 }
         ensures cause { IfErr result (λ e. (e ≡ OutOfMemory) ⊎ ((e ≡ TooDeep) × (100 < nested (value self.now)))) }
@@ -100,14 +104,16 @@ pub trait Message: Drop {
         if !nests_within(&slots, NESTED_MESSAGES) {
             return Err(ProtoError::TooDeep);
         }
-        Ok(message_bytes(alloc, Self::lists(), Self::place_of(), &slots)?)
+        let bytes = message_bytes(alloc, Self::lists(), Self::place_of(), &slots)?;
+        Ok(Blob::new(bytes))
     }
 
     /// A message with equal fields.
-    final fn clone(&self, alloc: Global) -> Result<Self, AllocError>
-        ensures { IfOk result (λ m. m ≡ self.now) }
+    final fn clone(&self, alloc: Global) -> Result<Self, ProtoError>
+        ensures same { IfOk result (λ m. m ≡ self.now) }
+        ensures err { IsOkUnless result ProtoError.OutOfMemory }
     {
-        let slots = self.to_value(alloc)?;
-        Self::from_value(alloc, &slots)
+        let value = self.to_value(alloc)?;
+        Self::from_value(alloc, &value)
     }
 }

@@ -1,16 +1,16 @@
 //! A document: a message that nests its own kind.
 
-ghost use Rattle.std.specs.Prelude.{◌≡◌, ℕ, List, Some, IfOk, OnOk};
+ghost use Rattle.std.specs.Prelude.{◌≡◌, ℕ, List, Some, IfOk, OnOk, IsOkUnless};
 ghost use Rattle.vx_proto.specs.Value.{value_view};
 ghost use Rattle.vx_proto.specs.Parts.{entries_in, octets_in};
 ghost use Rattle.vx_proto.specs.Form.{HasForm};
 ghost use Rattle.vx_reencode.specs.Document.{section_schema, section_value, section_determined};
 
-use std::alloc::{AllocError, Global};
+use std::alloc::Global;
 use std::marker::Model;
 use vx_proto::{
-    Blob, Element, Entries, Kind, Member, Message, Rule, Schema, Slot, SlotList, copied,
-    entries_at, octets_at, one,
+    Blob, Element, Entries, Kind, Member, Message, ProtoError, Rule, Schema, Slot, SlotList,
+    copied, entries_at, octets_at, one,
 };
 
 /// A section of a document: its body, and the sections in it.
@@ -61,9 +61,10 @@ const SCHEMA: Schema = Schema {
 };
 
 /// The plain value of a section.
-fn slots_of(alloc: Global, section: &Section) -> Result<Vec<Entries>, AllocError>
+fn slots_of(alloc: Global, section: &Section) -> Result<Vec<Entries>, ProtoError>
     ensures same { IfOk result (λ v. value_view v.items ≡ section_value section.now) }
     ensures form { OnOk result (HasForm section_schema 0 (section_value section.now)) }
+    ensures err { IsOkUnless result ProtoError.OutOfMemory }
 {
     let mut sections = Vec::new(alloc);
     for inner in &section.sections {
@@ -77,8 +78,9 @@ fn slots_of(alloc: Global, section: &Section) -> Result<Vec<Entries>, AllocError
 }
 
 /// The body that a plain value shows; none where it shows no bytes.
-fn body_of(alloc: Global, slots: &[Entries]) -> Result<Blob, AllocError>
-    ensures { (s : List ℕ) → octets_in (entries_in (value_view slots.now) 0) ≡ Some s → IfOk result (λ body. body ≡ s) }
+fn body_of(alloc: Global, slots: &[Entries]) -> Result<Blob, ProtoError>
+    ensures same { (s : List ℕ) → octets_in (entries_in (value_view slots.now) 0) ≡ Some s → IfOk result (λ body. body ≡ s) }
+    ensures err { IsOkUnless result ProtoError.OutOfMemory }
 {
     match octets_at(slots, 0) {
         Some(bytes) => Blob::copy_from(alloc, bytes),
@@ -87,8 +89,9 @@ fn body_of(alloc: Global, slots: &[Entries]) -> Result<Blob, AllocError>
 }
 
 /// The section of a plain value.
-fn section_of(alloc: Global, slots: &[Entries]) -> Result<Section, AllocError>
-    ensures { HasForm section_schema 0 (value_view slots.now) → IfOk result (λ section. section_value section ≡ value_view slots.now) }
+fn section_of(alloc: Global, slots: &[Entries]) -> Result<Section, ProtoError>
+    ensures same { HasForm section_schema 0 (value_view slots.now) → IfOk result (λ section. section_value section ≡ value_view slots.now) }
+    ensures err { IsOkUnless result ProtoError.OutOfMemory }
 {
     let body = body_of(alloc, slots)?;
     let mut sections = Vec::new(alloc);
@@ -122,11 +125,11 @@ impl Message for Section {
         }
     }
 
-    fn from_value(alloc: Global, slots: &[Entries]) -> Result<Section, AllocError> {
+    fn from_value(alloc: Global, slots: &[Entries]) -> Result<Section, ProtoError> {
         section_of(alloc, slots)
     }
 
-    fn to_value(&self, alloc: Global) -> Result<Vec<Entries>, AllocError> {
+    fn to_value(&self, alloc: Global) -> Result<Vec<Entries>, ProtoError> {
         slots_of(alloc, self)
     }
 

@@ -5,8 +5,10 @@ ghost use Rattle.vx_proto.specs.Value.{number};
 ghost use Rattle.vx_proto.specs.declared.schema.Kind.TheVariants.{Below};
 ghost use Rattle.vx_proto.specs.declared.schema.Rule.TheVariants.{Plain};
 
-use crate::{Element, Entries, Kind, Member, Message, Rule, Schema, Slot, SlotList, one, u32_at};
-use std::alloc::{AllocError, Global};
+use crate::{
+    Element, Entries, Kind, Member, Message, ProtoError, Rule, Schema, Slot, SlotList, one, u32_at,
+};
+use std::alloc::Global;
 
 /// The metadata of a bool array: the bit at which its first row lies.
 #[derive(Debug, Drop)]
@@ -45,12 +47,12 @@ impl Message for BoolMetadata {
         BoolMetadata { offset: 0 }
     }
 
-    fn from_value(_alloc: Global, slots: &[Entries]) -> Result<BoolMetadata, AllocError> {
+    fn from_value(_alloc: Global, slots: &[Entries]) -> Result<BoolMetadata, ProtoError> {
         let offset = u32_at(slots, 0);
         Ok(BoolMetadata { offset })
     }
 
-    fn to_value(&self, alloc: Global) -> Result<Vec<Entries>, AllocError> {
+    fn to_value(&self, alloc: Global) -> Result<Vec<Entries>, ProtoError> {
         let mut slots = Vec::new(alloc);
         slots.push(one(alloc, 1, Element::Number(self.offset as u64))?)?;
         Ok(slots)

@@ -1,7 +1,7 @@
 //! A message type that nests its own kind, as types, scalars and expressions do: a oneof of a text
 //! and a number, and a repeated message.
 
-ghost use Rattle.std.specs.Prelude.{◌≡◌, ◌≤◌, Some, None, length, OnOk, IfOk, IsTrue};
+ghost use Rattle.std.specs.Prelude.{◌≡◌, ◌≤◌, Some, None, length, OnOk, IfOk, IsOkUnless, IsTrue};
 ghost use Rattle.std.proofs.Common.{inl, inr};
 ghost use Rattle.vx_proto.specs.Value.{value_view, entries_view};
 ghost use Rattle.vx_proto.specs.Form.{FormEntries, HasForm};
@@ -11,7 +11,7 @@ use crate::{
     Element, Entries, Entry, Kind, Member, Message, ProtoError, Rule, Schema, Slot, SlotList,
     copied, entries_at, one,
 };
-use std::alloc::{AllocError, Global};
+use std::alloc::Global;
 use std::marker::Model;
 use std::test::Fail;
 
@@ -30,8 +30,9 @@ impl Model for Name {
 }
 
 impl Name {
-    pub fn new(alloc: Global, text: &str) -> Result<Name, AllocError>
-        ensures { IfOk result (λ name. name ≡ text.now) }
+    pub fn new(alloc: Global, text: &str) -> Result<Name, ProtoError>
+        ensures same { IfOk result (λ name. name ≡ text.now) }
+        ensures err { IsOkUnless result ProtoError.OutOfMemory }
     {
         let text = String::from_str(alloc, text)?;
         Ok(Name { text })
@@ -94,9 +95,10 @@ impl Label {
     }
 
     /// The label as the members of a oneof.
-    fn entries(&self, alloc: Global) -> Result<Entries, AllocError>
+    fn entries(&self, alloc: Global) -> Result<Entries, ProtoError>
         ensures same { IfOk result (λ entries. entries_view entries.items ≡ label_slot self.now) }
         ensures label { OnOk result (IsLabel self.now) }
+        ensures err { IsOkUnless result ProtoError.OutOfMemory }
     {
         match &self.content {
             Content::Absent => Ok(Vec::new(alloc)),
@@ -110,8 +112,9 @@ impl Label {
     }
 
     /// The label that the members of a oneof show.
-    fn from_entries(alloc: Global, entries: &[Entry]) -> Result<Label, AllocError>
-        ensures { (l : LabelValue) → entries_view entries.now ≡ label_slot l → IsLabel l → IfOk result (λ label. label ≡ l) }
+    fn from_entries(alloc: Global, entries: &[Entry]) -> Result<Label, ProtoError>
+        ensures same { (l : LabelValue) → entries_view entries.now ≡ label_slot l → IsLabel l → IfOk result (λ label. label ≡ l) }
+        ensures err { IsOkUnless result ProtoError.OutOfMemory }
     {
         let Some((number, element)) = entries.first() else {
             return Ok(Label::absent());
@@ -180,9 +183,10 @@ pub const TREE: SlotList = SlotList {
 const SCHEMA: Schema = Schema { lists: &[TREE] };
 
 /// The plain value of a tree.
-fn slots_of(alloc: Global, tree: &Tree) -> Result<Vec<Entries>, AllocError>
+fn slots_of(alloc: Global, tree: &Tree) -> Result<Vec<Entries>, ProtoError>
     ensures same { IfOk result (λ v. value_view v.items ≡ tree_value tree.now) }
     ensures form { OnOk result (HasForm tree_schema 0 (tree_value tree.now)) }
+    ensures err { IsOkUnless result ProtoError.OutOfMemory }
 {
     let mut children = Vec::new(alloc);
     for child in &tree.children {
@@ -195,8 +199,9 @@ fn slots_of(alloc: Global, tree: &Tree) -> Result<Vec<Entries>, AllocError>
 }
 
 /// The tree of a plain value.
-fn tree_of(alloc: Global, slots: &[Entries]) -> Result<Tree, AllocError>
-    ensures { HasForm tree_schema 0 (value_view slots.now) → IfOk result (λ tree. tree_value tree ≡ value_view slots.now) }
+fn tree_of(alloc: Global, slots: &[Entries]) -> Result<Tree, ProtoError>
+    ensures same { HasForm tree_schema 0 (value_view slots.now) → IfOk result (λ tree. tree_value tree ≡ value_view slots.now) }
+    ensures err { IsOkUnless result ProtoError.OutOfMemory }
 {
     let label = Label::from_entries(alloc, entries_at(slots, 0))?;
     let mut children = Vec::new(alloc);
@@ -230,11 +235,11 @@ impl Message for Tree {
         }
     }
 
-    fn from_value(alloc: Global, slots: &[Entries]) -> Result<Tree, AllocError> {
+    fn from_value(alloc: Global, slots: &[Entries]) -> Result<Tree, ProtoError> {
         tree_of(alloc, slots)
     }
 
-    fn to_value(&self, alloc: Global) -> Result<Vec<Entries>, AllocError> {
+    fn to_value(&self, alloc: Global) -> Result<Vec<Entries>, ProtoError> {
         slots_of(alloc, self)
     }
 
@@ -289,7 +294,7 @@ fn trees(rt: HostRuntime) -> Result<(), Fail> {
     );
 
     let bytes = chain(alloc, 100)?.encode_to_vec(alloc)?;
-    assert!(rt; Tree::decode(alloc, &bytes).is_ok());
+    assert!(rt; Tree::decode(alloc, bytes.as_slice()).is_ok());
     assert!(rt;
         matches!(
             chain(alloc, 101)?.encode_to_vec(alloc),

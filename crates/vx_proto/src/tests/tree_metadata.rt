@@ -10,7 +10,7 @@ use crate::{
     Element, Entries, Kind, Member, Message, ProtoError, Rule, Schema, Slot, SlotList,
     longer_schema, message_at, one,
 };
-use std::alloc::{AllocError, Global};
+use std::alloc::Global;
 use std::test::Fail;
 
 /// Metadata with a tree that may stand.
@@ -53,7 +53,7 @@ impl Message for TreeMetadata {
         TreeMetadata { tree: None }
     }
 
-    fn from_value(alloc: Global, slots: &[Entries]) -> Result<TreeMetadata, AllocError> {
+    fn from_value(alloc: Global, slots: &[Entries]) -> Result<TreeMetadata, ProtoError> {
         longer_schema();
         match message_at(slots, 0) {
             Some(inner) => {
@@ -64,7 +64,7 @@ impl Message for TreeMetadata {
         }
     }
 
-    fn to_value(&self, alloc: Global) -> Result<Vec<Entries>, AllocError> {
+    fn to_value(&self, alloc: Global) -> Result<Vec<Entries>, ProtoError> {
         longer_schema();
         let mut slots = Vec::new(alloc);
         match &self.tree {

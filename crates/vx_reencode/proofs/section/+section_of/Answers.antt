@@ -30,14 +30,14 @@ loop-element-preserved t c = λ form.
     elim c.match-as_message.branch [
       | in-Some+in_ok-section_of+in_ok-push w ↦ (let s = w.in_ok-section_of.field-0 in
           let inner : value_view w.in-Some.inner.now ≡ held.value = some_value (value_view w.in-Some.inner.now) held.value (w.in-Some.ensures ∙ message_is (view x.1) held.value (ap (λ (e : Entry). e.1) held.is)) in
-          let same : section_value s ≡ held.value = w.in_ok-section_of.ensures (subst (HasForm section_schema 0) (sym inner) held.form) ∙ inner in
+          let same : section_value s ≡ held.value = w.in_ok-section_of.ensures.same (subst (HasForm section_schema 0) (sym inner) held.form) ∙ inner in
           let all = member_read (as_message section_value) 2 c.loop-element.sections.items s es i x c.loop-element-test.true c.loop-element-item.is (held.is ∙ ap (λ (v : Value). (2, message (slots_of v))) (sym same)) (c.loop-element.invariant form) in
           ap (λ z. messages section_value 2 z.items ++ entries_view (drop (i + 1) es)) w.sections-is ∙ ap (λ z. messages section_value 2 z ++ entries_view (drop (i + 1) es)) w.in_ok-push.ensures.items ∙ all)
       | in_default w ↦ absurd (no_value held.value (w.in_default.ensures ∙ message_is (view x.1) held.value (ap (λ (e : Entry). e.1) held.is)))
     ]
 
-pub returns : goal.returns
-returns t c = λ form.
+pub returns-clause-same : goal.returns-clause-same
+returns-clause-same t c = λ form.
     let v = value_view c.args.slots.now in
     let ts = c.loop-element.sections.items in
     let s = slots_of_form section_schema 0 v form in
@@ -45,7 +45,7 @@ returns t c = λ form.
     let one = exactly_one (HasForm section_schema) (record { number = 1; kind = Bytes }) s.0 s.3 s.4 in
     let whole : v ≡ s.0 ∷ rest.0 ∷ [] = s.2 ∙ ap (λ (z : Value). s.0 ∷ z) (rest.2 ∙ ap (λ (z : Value). rest.0 ∷ z) rest.5) in
     let first : s.0 ≡ (1, octets one.form.0) ∷ [] = one.is ∙ ap (λ (e : Content). (1, e) ∷ []) one.form.1 in
-    let body : c.in_ok-body.body ≡ one.form.0 = c.in_ok-body.ensures one.form.0 (ap (λ z. octets_in (entries_in z 0)) whole ∙ ap octets_in first) in
+    let body : c.in_ok-body.body ≡ one.form.0 = c.in_ok-body.ensures.same one.form.0 (ap (λ z. octets_in (entries_in z 0)) whole ∙ ap octets_in first) in
     let second : entries_view c.entries_at-element-items.result.now ≡ rest.0 = c.entries_at-element-items.ensures ∙ ap (λ z. entries_in z 1) whole in
     let sections : sections_slot (roses_of ts) ≡ rest.0
     = sections_are ts ∙ all_read (as_message section_value) 2 ts c.entries_at-element-items.result.now c.loop-element.element-index c.loop-element-test.false (c.loop-element.invariant (subst (FormEntries (HasForm section_schema) (nested_member 2 0 ∷ [])) (sym second) rest.4)) ∙ second in

@@ -27,7 +27,7 @@ returns-clause-same t c =
     let out = c.loop-inner.sections in
     let all : entries_view out.items ≡ messages section_value 2 ts = all_written (as_message section_value) 2 out.items ts c.loop-inner.inner-index c.loop-inner-test.false c.loop-inner.invariant.same in
     ap value_view (c.in_ok-push-3.ensures.items ∙ ap (λ z. z ++ out ∷ []) (c.in_ok-push-2.ensures.items ∙ ap (λ z. z ++ c.in_ok-one.field-0 ∷ []) c.new-slots.ensures.items))
-    ∙ ap (λ (z : List Entry). z ∷ entries_view out.items ∷ []) (c.in_ok-one.ensures ∙ ap (λ (e : Content). (1, e) ∷ []) (c.in_ok-body.ensures ∙ ap octets c.as_slice.ensures))
+    ∙ ap (λ (z : List Entry). z ∷ entries_view out.items ∷ []) (c.in_ok-one.ensures.same ∙ ap (λ (e : Content). (1, e) ∷ []) (c.in_ok-body.ensures.same ∙ ap octets c.as_slice.ensures))
     ∙ ap (λ (z : List Entry). ((1, octets c.section.inside.body) ∷ []) ∷ z ∷ []) (all ∙ sym (sections_are ts) ∙ ap (λ z. sections_slot (roses_of z)) c.deref-inner-items.ensures.value)
     ∙ ap section_value c.section.view_is
 
