@@ -12,6 +12,7 @@ use Rattle.vx_buffer.specs.Buffer.{Buffer}
 use Rattle.vx_trees.specs.Everywhere.{Everywhere}
 use Rattle.vx_serde.specs.declared.options.SerializeOptions.{SerializeOptions}
 use Rattle.vx_serde.specs.ArraySchema.{array_schema}
+use Rattle.vx_serde.specs.Describable.{AreDescribable}
 use Rattle.vx_serde.specs.Message.{Descriptor, message_of}
 use Rattle.vx_serde.specs.MessageValue.{message_value}
 use Rattle.vx_serde.specs.Wire.{Wire, IsClean}
@@ -28,7 +29,7 @@ abbrev pub IsLayoutShown : Type 0
 IsLayoutShown = (v : Fields) → IsOf array_schema v → length (layout false array_schema v) < 2 ^ 31 → Shows array_schema (layout false array_schema v) v
 
 -- Data, its pad, a message and the message's length make a blob.
-is_blob : (data_bytes zeros message : List ℕ) → length message ≤ 2 ^ 31 - 1
+pub is_blob : (data_bytes zeros message : List ℕ) → length message ≤ 2 ^ 31 - 1
     → IsBlob (data_bytes ++ (zeros ++ (message ++ to_le_bytes w32 (length message)))) (data_bytes ++ zeros) message
 is_blob data_bytes zeros message short = record {
   word = to_le_bytes w32 (length message);
@@ -42,11 +43,11 @@ module _ (options : SerializeOptions) (position : ℕ) (bs : List Buffer) (zeros
   read_buffers : buffers_at (data_from options position bs ++ zeros) 0 ds ≡ bs
   read_buffers = ap (λ ds. buffers_at (data_from options position bs ++ zeros) 0 ds) same ∙ buffers_at-descriptors_from options position bs [] zeros 0 refl
 
-  are_clean : All (λ b. b.exponent ≤ 16) bs → AreClean (data_from options position bs ++ zeros) ds
-  are_clean aligned =
+  are_clean : AreDescribable bs → AreClean (data_from options position bs ++ zeros) ds
+  are_clean fit =
       let within : end_of 0 (descriptors_from options position bs) ≤ length (data_from options position bs ++ zeros) =
       omega (arith, end_of-descriptors_from options position bs 0, length-append (data_from options position bs) zeros) in
-      rw same (record { aligned = aligned-descriptors_from options position bs aligned; plain = plain-descriptors_from options position bs; within = within })
+      rw same (record { aligned = aligned-descriptors_from options position bs fit; plain = plain-descriptors_from options position bs; within = within })
 
 read_wire : (ids : List (List ℕ)) (w : Wire) (bs : List Buffer) → bs ≡ buffers_in w → Everywhere (IsPlacedNode ids) w → w ≡ wire_of ids bs (numbered ids 0 w)
 read_wire ids w bs e placed =
@@ -61,8 +62,8 @@ carried shown ids options w clean all few fit =
     let bs = buffers_in w in
     let ds = descriptors_from options options.offset bs in
     let zeros : List ℕ = replicate (message_pad options w) 0 in
-    let numbered = numbered_fits ids 0 w (omega (arith, few)) (omega (arith, fit.buffers)) placed in
-    let told = message_of-message_value root ds numbered (described-descriptors_from options options.offset bs fit.exponents fit.lengths) in
+    let numbered = numbered_fits ids 0 w (omega (arith, few)) (omega (arith, fit.tree.few)) placed in
+    let told = message_of-message_value root ds numbered (described-descriptors_from options options.offset bs fit.tree.describable) in
     let same : (message_of (message_value root ds)).descriptors ≡ ds = ap (λ m. m.descriptors) told in
     let shows = shown (message_value root ds) (message_value_is_of root ds numbered) (omega (arith, fit.short)) in (
       record {
@@ -75,5 +76,5 @@ carried shown ids options w clean all few fit =
         root_is = ap (λ m. m.root) told;
         wire_is = read_wire ids w (buffers_at (data_from options options.offset bs ++ zeros) 0 (message_of (message_value root ds)).descriptors) (read_buffers options options.offset bs zeros (message_of (message_value root ds)).descriptors same) placed;
       },
-      are_clean options options.offset bs zeros (message_of (message_value root ds)).descriptors same fit.exponents,
+      are_clean options options.offset bs zeros (message_of (message_value root ds)).descriptors same fit.tree.describable,
     )

@@ -24,3 +24,4 @@ pub mod WrittenAgain
 pub mod Recodings
 pub mod NeverCaused
 pub mod PadsAlign
+pub mod AlignedBlob

@@ -8,6 +8,7 @@ use Rattle.std.proofs.lemmas.List.Elements.{All-nil, All-cons, All-head, All-tai
 use Rattle.std.proofs.lemmas.Nat.{pow_pos}
 use Rattle.vx_buffer.specs.Buffer.{Buffer}
 use Rattle.vx_serde.specs.declared.options.SerializeOptions.{SerializeOptions}
+use Rattle.vx_serde.specs.Describable.{IsDescribable, AreDescribable}
 use Rattle.vx_serde.specs.MessageValue.{IsDescribed}
 use Rattle.vx_serde.specs.Blob.{buffers_at, end_of}
 use Rattle.vx_serde.specs.Placing.{gap_to, pad, descriptors_from, data_from}
@@ -51,12 +52,12 @@ end_of-descriptors_from options position (b ∷ bs) p =
     omega (arith, end_of-descriptors_from options (position + n + length b.bytes) bs (p + n + length b.bytes), length-append (replicate n 0) (b.bytes ++ rest), length-append b.bytes rest, length-replicate {A = ℕ} n 0)
 
 -- The alignments are the buffers' own, and nothing is compressed.
-pub aligned-descriptors_from : (options : SerializeOptions) (position : ℕ) (bs : List Buffer) → All (λ b. b.exponent ≤ 16) bs → All (λ d. d.exponent ≤ 16) (descriptors_from options position bs)
+pub aligned-descriptors_from : (options : SerializeOptions) (position : ℕ) (bs : List Buffer) → AreDescribable bs → All (λ d. d.exponent ≤ 16) (descriptors_from options position bs)
 aligned-descriptors_from options position [] fit = All-nil (λ d. d.exponent ≤ 16)
 aligned-descriptors_from options position (b ∷ bs) fit =
     let rest = position + pad options b.exponent position + length b.bytes in
-    All-cons (λ d. d.exponent ≤ 16) _ (descriptors_from options rest bs) (All-head (λ b. b.exponent ≤ 16) b bs fit)
-    (aligned-descriptors_from options rest bs (All-tail (λ b. b.exponent ≤ 16) b bs fit))
+    All-cons (λ d. d.exponent ≤ 16) _ (descriptors_from options rest bs) (All-head (λ b. IsDescribable b) b bs fit).exponent
+    (aligned-descriptors_from options rest bs (All-tail (λ b. IsDescribable b) b bs fit))
 
 pub plain-descriptors_from : (options : SerializeOptions) (position : ℕ) (bs : List Buffer) → All (λ d. d.compression ≡ 0) (descriptors_from options position bs)
 plain-descriptors_from options position [] = All-nil (λ d. d.compression ≡ 0)
@@ -78,13 +79,11 @@ pad-below options exponent position h =
     pad_by options.include_padding (gap_to (2 ^ exponent) position) (omega (arith, gap_below (2 ^ exponent) position (pow_pos exponent), most))
 
 -- What descriptors say fits their bytes.
-pub described-descriptors_from : (options : SerializeOptions) (position : ℕ) (bs : List Buffer) → All (λ b. b.exponent ≤ 16) bs → All (λ b. length b.bytes ≤ 2 ^ 32 - 1) bs
-    → All IsDescribed (descriptors_from options position bs)
-described-descriptors_from options position [] aligned short = All-nil IsDescribed
-described-descriptors_from options position (b ∷ bs) aligned short =
+pub described-descriptors_from : (options : SerializeOptions) (position : ℕ) (bs : List Buffer) → AreDescribable bs → All IsDescribed (descriptors_from options position bs)
+described-descriptors_from options position [] fit = All-nil IsDescribed
+described-descriptors_from options position (b ∷ bs) fit =
     let n = pad options b.exponent position in
-    let exponent : b.exponent ≤ 16 = All-head (λ b. b.exponent ≤ 16) b bs aligned in
-    let len : length b.bytes ≤ 2 ^ 32 - 1 = All-head (λ b. length b.bytes ≤ 2 ^ 32 - 1) b bs short in
+    let own : IsDescribable b = All-head (λ b. IsDescribable b) b bs fit in
     All-cons IsDescribed (record { padding = n; exponent = b.exponent; compression = 0; len = length b.bytes }) (descriptors_from options (position + n + length b.bytes) bs)
-    (record { padding = pad-below options b.exponent position exponent; exponent = omega (arith, exponent); compression = omega arith; len = omega (arith, len) })
-    (described-descriptors_from options (position + n + length b.bytes) bs (All-tail (λ b. b.exponent ≤ 16) b bs aligned) (All-tail (λ b. length b.bytes ≤ 2 ^ 32 - 1) b bs short))
+    (record { padding = pad-below options b.exponent position own.exponent; exponent = omega (arith, own.exponent); compression = omega arith; len = omega (arith, own.len) })
+    (described-descriptors_from options (position + n + length b.bytes) bs (All-tail (λ b. IsDescribable b) b bs fit))

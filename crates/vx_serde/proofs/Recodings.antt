@@ -2,6 +2,7 @@
 use Rattle.std.proofs.Common.{ℕ, ◌≡◌, List, [], Some, refl, sym, ap, ◌∙◌, subst, inl, inr, append-nil}
 use Rattle.std.specs.Prelude.{Contains}
 use Rattle.std.proofs.lemmas.List.Elements.{All-nil}
+use Rattle.vx_buffer.specs.Buffer.{Buffer}
 use Rattle.vx_trees.specs.Rose.{label}
 use Rattle.vx_types.specs.Typ.{Typ}
 use Rattle.vx_arrays.specs.Tree.{Tree, encoding_ids}
@@ -22,7 +23,8 @@ use Rattle.vx_serde.specs.Matches.{Matches}
 use Rattle.vx_serde.specs.Written.{blob_bytes, IsWritable}
 use Rattle.vx_serde.specs.KeptContext.{KeepsContext}
 use Rattle.vx_serde.specs.Unwritten.{IsUnwritten}
-use Rattle.vx_serde.specs.Spells.{Spells, KeepsReaderLimits, KeepsWriterLimits, wire, blob_of}
+use Rattle.vx_serde.specs.WrittenBuffers.{written_buffers}
+use Rattle.vx_serde.specs.Spells.{Spells, KeepsReaderLimits, KeepsWriterLimits, wire, blob_of, blob_buffers}
 use Rattle.vx_serde.specs.Causes.{Call, IsCaused, IsCausedIn}
 use Rattle.vx_serde.proofs.CarriedOnce.{one_blob}
 use Rattle.vx_serde.proofs.OneArray.{matched-clean, normal}
@@ -58,6 +60,11 @@ pub written-wire : (s : SessionMeaning) (t : Tree) (w : Wire) (old new : Context
     → bytes ≡ blob_bytes new.ids options w → bytes ≡ blob_of s t old options
 written-wire s t w old new options bytes e g b =
     b ∙ ap (λ z. blob_bytes new.ids options z) e ∙ ap (λ ids. blob_bytes ids options (wire s t)) (grown-ids s t old new (sym (grown-wire s t w old e) ∙ g))
+
+pub buffers-wire : (s : SessionMeaning) (t : Tree) (w : Wire) (old new : Context) (options : SerializeOptions) (bs : List Buffer) → w ≡ wire s t → grown_by (ids_in w) old ≡ Some new
+    → bs ≡ written_buffers new.ids options w → bs ≡ blob_buffers s t old options
+buffers-wire s t w old new options bs e g b =
+    b ∙ ap (λ z. written_buffers new.ids options z) e ∙ ap (λ ids. written_buffers ids options (wire s t)) (grown-ids s t old new (sym (grown-wire s t w old e) ∙ g))
 
 pub limits-wire : (s : SessionMeaning) (t : Tree) (w : Wire) (old new : Context) (options : SerializeOptions) → w ≡ wire s t → grown_by (ids_in w) old ≡ Some new
     → IsWritable new.ids options w → KeepsWriterLimits s t old options

@@ -1,5 +1,5 @@
 -- A blob whole: its message, its limits and its buffers.
-use Rattle.std.specs.Prelude.{ℕ, ◌≡◌, ◌<◌, ◌≤◌, ◌+◌, ◌*◌, ◌-◌, ◌^◌, false, List, [], ◌∷◌, ◌++◌, Some, length, replicate, All, refl}
+use Rattle.std.specs.Prelude.{ℕ, ◌≡◌, ◌<◌, ◌≤◌, ◌+◌, ◌*◌, ◌-◌, ◌^◌, false, List, [], ◌∷◌, ◌++◌, Some, length, replicate, refl}
 use Rattle.std.specs.Int.{w32, to_le_bytes}
 use Rattle.std.proofs.Common.{arith, sym, ◌∙◌, ap, subst, append-nil, length-append}
 use Rattle.std.proofs.lemmas.List.{length-replicate}
@@ -15,7 +15,6 @@ use Rattle.vx_serde.specs.declared.error.WireError.{WireError}
 use Rattle.vx_serde.specs.declared.error.WireError.TheVariants.{OutOfMemory, TooShort, BadTable, TableLimit, BadAlignment, Compressed, OutOfBounds, UnknownIndex, UnknownEncoding, BadMetadata, BadShape, NotPermitted, WireLimit}
 use Rattle.vx_serde.specs.declared.options.SerializeOptions.{SerializeOptions}
 use Rattle.vx_serde.specs.ArraySchema.{array_schema, node_fields}
-use Rattle.vx_serde.specs.Describable.{AreDescribable}
 use Rattle.vx_serde.specs.Message.{Descriptor}
 use Rattle.vx_serde.specs.MessageValue.{node_value, message_value, descriptors_bytes}
 use Rattle.vx_serde.specs.Numbered.{ids_in, buffers_in, numbered}
@@ -73,26 +72,15 @@ length-blob ids o w =
 
 -- ---- limits
 
-describable-from : (bs : List Buffer) → All (λ b. b.exponent ≤ 16) bs → All (λ b. length b.bytes ≤ 2 ^ 32 - 1) bs → AreDescribable bs
-describable-from bs h g k d l = record { exponent = h k d l; len = g k d l }
-
 pub writable-placeable : (ids : List (List ℕ)) (o : SerializeOptions) (w : Wire) → IsWritable ids o w → KeepsTreeLimits o w
-writable-placeable ids o w h = record {
-  nested = h.nested;
-  few = h.buffers;
-  describable = describable-from (buffers_in w) h.exponents h.lengths;
-  ends = omega (arith, h.ends, length-blob ids o w);
-}
+writable-placeable ids o w h = record { tree = h.tree; ends = omega (arith, h.ends, length-blob ids o w) }
 
 pub writable-is : (ids : List (List ℕ)) (o : SerializeOptions) (w : Wire) (last : ℕ) (ds message : List ℕ) → IsLaidOut o w ds last → message ≡ message_bytes ids o w
     → length message < 2 ^ 31 → IsLight limits (weight array_schema message) → last + (pad o 3 last + length message + 4) < 2 ^ 64 → IsWritable ids o w
 writable-is ids o w last ds message p e short light ends =
     let P : List ℕ → Type 0 = λ m. IsLight limits (weight array_schema m) in
     record {
-      nested = p.placeable.nested;
-      buffers = p.placeable.few;
-      lengths = λ k d l. (p.placeable.describable k d l).len;
-      exponents = λ k d l. (p.placeable.describable k d l).exponent;
+      tree = p.placeable.tree;
       short = omega (arith, short, ap (λ m. length m) e);
       light = subst P e light;
       ends = omega (arith, ends, length-blob ids o w, p.last_is, ap (λ n. pad o 3 n) p.last_is, ap (λ m. length m) e);

@@ -1,9 +1,23 @@
 -- Where the buffers that descriptors tell begin, counted as positions.
 use Rattle.std.specs.Prelude.{ℕ, ◌≡◌, ◌+◌, ◌%◌, ◌^◌, List, [], ◌∷◌}
-use Rattle.vx_serde.specs.Message.{Descriptor}
+use Rattle.vx_flat.specs.Value.{Fields}
+use Rattle.vx_flat.specs.Shows.{Shows}
+use Rattle.vx_serde.specs.ArraySchema.{array_schema}
+use Rattle.vx_serde.specs.Blob.{IsBlob}
+use Rattle.vx_serde.specs.Message.{Descriptor, message_of}
 
 -- Each buffer begins at a multiple of two to its exponent, where the first one's
 -- padding begins at a position, and each other one's where the one before it ends.
 abbrev pub AreAligned : ℕ → List Descriptor → Type 0
 AreAligned position [] = Unit {0}
 AreAligned position (d ∷ ds) = ((position + d.padding) % 2 ^ d.exponent ≡ 0) × AreAligned (position + d.padding + d.len) ds
+
+-- The buffers that the blob's own message tells begin so, where the blob stands at a
+-- position. A blob has one message, and that shows one value at most.
+pub record IsAlignedBlob (position : ℕ) (blob : List ℕ) : Type 0 where
+  pub segment : List ℕ
+  pub message : List ℕ
+  pub value : Fields
+  pub blob_is : IsBlob blob segment message
+  pub shows : Shows array_schema message value
+  pub aligned : AreAligned position (message_of value).descriptors

@@ -34,6 +34,7 @@ abbrev mutual
   wire_of ids bs (node f ts) =
       node (record { id = slice_get ids f.encoding; metadata = f.metadata; buffers = map (λ i. slice_get bs i) f.buffers }) (wires_of ids bs ts)
 
+  -- Several nodes of a message, each with its identifier and its buffers.
   pub wires_of : List (List ℕ) → List Buffer → Roses NodeFields → Wires
   wires_of ids bs end = end
   wires_of ids bs (more t ts) = more (wire_of ids bs t) (wires_of ids bs ts)

@@ -1,5 +1,7 @@
--- The numbers of refusals.
+-- The numbers of refusals, and those of lower calls as refusals of a blob.
 use Rattle.std.specs.Prelude.{ℕ}
+use Rattle.vx_types.specs.declared.error.TypeError.{TypeError}
+use Rattle.vx_types.specs.declared.error.TypeError.TheVariants as types
 use Rattle.vx_serde.specs.declared.error.WireError.{WireError}
 use Rattle.vx_serde.specs.declared.error.WireError.TheVariants.{OutOfMemory, TooShort, BadTable, TableLimit, BadAlignment, Compressed, OutOfBounds, UnknownIndex, UnknownEncoding, BadMetadata, BadShape, NotPermitted, WireLimit}
 
@@ -19,3 +21,11 @@ error_number BadMetadata = 18
 error_number BadShape = 19
 error_number NotPermitted = 23
 error_number WireLimit = 24
+
+-- Why a type or a plain value is not made, as a refusal of a blob: parts that make
+-- none fit no node.
+abbrev pub type_refusal : TypeError → WireError
+type_refusal types.OutOfMemory = OutOfMemory
+type_refusal types.BadDecimal = BadShape
+type_refusal types.FieldCount = BadShape
+type_refusal types.DuplicateTag = BadShape

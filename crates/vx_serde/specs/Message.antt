@@ -53,6 +53,7 @@ abbrev mutual
   nodes_in (tables rows) = nodes_of rows
   nodes_in _ = end
 
+  -- The nodes that table values tell, in order.
   pub nodes_of : Rows → Roses NodeFields
   nodes_of no_rows = end
   nodes_of (row vs rows) = more (node_of vs) (nodes_of rows)

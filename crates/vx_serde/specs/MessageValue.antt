@@ -32,6 +32,7 @@ abbrev mutual
   node_value (node f ts) =
       field (number f.encoding) (field (elements f.metadata) (field (tables (rows_value ts)) (field (elements (index_bytes f.buffers)) (field (table no_stats) no_fields))))
 
+  -- Nodes as tables, in order.
   pub rows_value : Roses NodeFields → Rows
   rows_value end = no_rows
   rows_value (more t ts) = row (node_value t) (rows_value ts)

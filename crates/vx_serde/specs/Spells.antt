@@ -7,6 +7,7 @@ use Rattle.vx_arrays.specs.Sound.{IsSound}
 use Rattle.vx_arrays.specs.Normal.{IsNormal}
 use Rattle.vx_encodings.specs.Metadata.{written}
 use Rattle.vx_encodings.specs.Encodings.{metadata_of}
+use Rattle.vx_buffer.specs.Buffer.{Buffer}
 use Rattle.vx_flat.specs.Weight.{weight}
 use Rattle.vx_flat.specs.Limits.{limits, IsLight}
 use Rattle.vx_registry.specs.Context.{Context, with_id}
@@ -19,6 +20,7 @@ use Rattle.vx_serde.specs.Blob.{IsBlob, Carries, AreClean}
 use Rattle.vx_serde.specs.Matches.{Matches}
 use Rattle.vx_serde.specs.Numbered.{ids_in}
 use Rattle.vx_serde.specs.Written.{blob_bytes, IsWritable}
+use Rattle.vx_serde.specs.WrittenBuffers.{written_buffers}
 
 -- A blob spells an array at a type and a length, with identifiers to read by:
 -- it carries a wire tree from which nothing is missing, under clean descriptors,
@@ -45,6 +47,7 @@ abbrev mutual
   wire s (node h ts) =
       node (record { id = Some (encoding_id_of h.body); metadata = written (metadata_of h ts); buffers = map (λ b. Some b) (buffers_of h.body) }) (wires s ts)
 
+  -- The wire trees of several arrays.
   pub wires : SessionMeaning → Trees → Wires
   wires s end = end
   wires s (more t ts) = more (wire s t) (wires s ts)
@@ -66,6 +69,10 @@ ids_after s t ctx = with_ids ctx.ids (ids_in (wire s t))
 -- The blob of an array under a context: that of its wire tree.
 abbrev pub blob_of : SessionMeaning → Tree → Context → SerializeOptions → List ℕ
 blob_of s t ctx options = blob_bytes (ids_after s t ctx) options (wire s t)
+
+-- The buffers that the blob of an array is written as: those of its wire tree.
+abbrev pub blob_buffers : SessionMeaning → Tree → Context → SerializeOptions → List Buffer
+blob_buffers s t ctx options = written_buffers (ids_after s t ctx) options (wire s t)
 
 -- An array keeps the limits on writing under a context.
 abbrev pub KeepsWriterLimits : SessionMeaning → Tree → Context → SerializeOptions → Type 0

@@ -1,5 +1,5 @@
 -- Why a tree is not written.
-use Rattle.std.specs.Prelude.{ℕ, ◌≡◌, ◌<◌, ◌≤◌, ◌^◌, List, None, length}
+use Rattle.std.specs.Prelude.{ℕ, ◌≡◌, ◌<◌, ◌^◌, List, None, length}
 use Rattle.vx_flat.specs.Limits.{limits, IsLight}
 use Rattle.vx_flat.specs.Weight.{weight}
 use Rattle.vx_registry.specs.Context.{Context, grown_by}
@@ -7,13 +7,11 @@ use Rattle.vx_serde.specs.declared.error.WireError.{WireError}
 use Rattle.vx_serde.specs.declared.error.WireError.TheVariants.{OutOfMemory, NotPermitted, WireLimit}
 use Rattle.vx_serde.specs.declared.options.SerializeOptions.{SerializeOptions}
 use Rattle.vx_serde.specs.Wire.{Wire}
-use Rattle.vx_trees.specs.Walks.{levels}
 use Rattle.vx_serde.specs.ArraySchema.{array_schema}
-use Rattle.vx_serde.specs.Describable.{AreDescribable}
 use Rattle.vx_serde.specs.MessageValue.{descriptors_bytes}
 use Rattle.vx_serde.specs.Numbered.{ids_in, buffers_in}
 use Rattle.vx_serde.specs.Placing.{descriptors_from, data_end}
-use Rattle.vx_serde.specs.Written.{IsWritable}
+use Rattle.vx_serde.specs.Written.{IsWritableTree, IsWritable}
 use Rattle.vx_serde.specs.Spells.{with_ids}
 
 -- Identifiers are refused because the context takes one of them not, or for want of memory.
@@ -30,12 +28,10 @@ IsUnwritten c options w NotPermitted = grown_by (ids_in w) c ≡ None
 IsUnwritten c options w WireLimit = IsWritable (with_ids c.ids (ids_in w)) options w → ⊥
 IsUnwritten c options w _ = ⊥
 
--- The limits that a tree keeps whatever its identifiers: its levels, its buffers, and
--- the position where the last of them ends.
+-- The limits that a tree keeps before its message is known: those on the tree, and one
+-- on the position where the last of its buffers ends.
 pub record KeepsTreeLimits (options : SerializeOptions) (w : Wire) : Type 0 where
-  pub nested : levels w ≤ 62
-  pub few : length (buffers_in w) ≤ 65535
-  pub describable : AreDescribable (buffers_in w)
+  pub tree : IsWritableTree w
   pub ends : data_end options options.offset (buffers_in w) < 2 ^ 64
 
 -- A tree with such limits, the bytes of its descriptors, and where its last buffer ends.

@@ -11,9 +11,11 @@ pub record WireHead : Type 0 where
   pub metadata : List ℕ
   pub buffers : List (Option Buffer)
 
+-- A wire tree: a node with the nodes below it.
 abbrev pub Wire : Type 0
 Wire = Rose WireHead
 
+-- Several wire trees in order.
 abbrev pub Wires : Type 0
 Wires = Roses WireHead
 

@@ -2,7 +2,7 @@
 
 ghost use Rattle.std.specs.Prelude.{◌≡◌};
 ghost use Rattle.vx_serde.specs.declared.error.WireError.TheVariants.{OutOfMemory};
-ghost use Rattle.vx_serde.specs.Errors.{error_number};
+ghost use Rattle.vx_serde.specs.Errors.{error_number, type_refusal};
 
 use std::alloc::{AllocError, AllocFailed};
 use thiserror::Error;
@@ -97,16 +97,23 @@ impl<T: Drop> From<AllocFailed<T>> for WireError {
 impl From<BufferError> for WireError {
     ghost from_gives = { λ _ e. e ≡ OutOfMemory };
 
-    fn from(_e: BufferError) -> WireError {
-        WireError::OutOfMemory
+    fn from(e: BufferError) -> WireError {
+        match e {
+            BufferError::OutOfMemory => WireError::OutOfMemory,
+        }
     }
 }
 
 impl From<TypeError> for WireError {
-    ghost from_gives = { λ _ e. e ≡ OutOfMemory };
+    ghost from_gives = { λ e r. r ≡ type_refusal e };
 
-    fn from(_e: TypeError) -> WireError {
-        WireError::OutOfMemory
+    fn from(e: TypeError) -> WireError {
+        match e {
+            TypeError::OutOfMemory => WireError::OutOfMemory,
+            TypeError::BadDecimal => WireError::BadShape,
+            TypeError::FieldCount => WireError::BadShape,
+            TypeError::DuplicateTag => WireError::BadShape,
+        }
     }
 }
 
@@ -121,7 +128,9 @@ impl From<ArrayError> for WireError {
 impl From<RegistryError> for WireError {
     ghost from_gives = { λ _ e. e ≡ OutOfMemory };
 
-    fn from(_e: RegistryError) -> WireError {
-        WireError::OutOfMemory
+    fn from(e: RegistryError) -> WireError {
+        match e {
+            RegistryError::OutOfMemory => WireError::OutOfMemory,
+        }
     }
 }

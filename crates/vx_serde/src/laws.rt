@@ -1,11 +1,11 @@
 //! What holds of the definitions of this crate. A caller of these functions learns the laws.
 
-ghost use Rattle.std.specs.Prelude.{◌≡◌, ℕ, List, Some, ◌≤◌, length, slice_get, All, IsSome, IsTrue};
+ghost use Rattle.std.specs.Prelude.{◌≡◌, ℕ, List, Some, ◌+◌, ◌%◌, ◌<◌, ◌≤◌, length, slice_get, All, IsSome, IsTrue};
 ghost use Rattle.vx_serde.specs.declared.options.SerializeOptions.{SerializeOptions};
 ghost use Rattle.vx_buffer.specs.Buffer.{Buffer};
-ghost use Rattle.vx_serde.specs.Aligned.{AreAligned};
+ghost use Rattle.vx_serde.specs.Aligned.{AreAligned, IsAlignedBlob};
 ghost use Rattle.vx_serde.specs.Message.{message_of};
-ghost use Rattle.vx_serde.specs.Placing.{descriptors_from};
+ghost use Rattle.vx_serde.specs.Placing.{gap_to, descriptors_from};
 ghost use Rattle.vx_serde.specs.Wire.{Wire, IsClean};
 ghost use Rattle.vx_serde.specs.Blob.{Carries, AreClean};
 ghost use Rattle.vx_serde.specs.Numbered.{ids_in, index_of};
@@ -75,7 +75,19 @@ pub fn never_caused()
     shape_law();
 }
 
-/// Where padding is asked, each buffer of a blob begins at a multiple of its alignment, the position of the blob counted.
+/// Where padding is asked, each buffer of a blob begins at a multiple of its alignment, the position of the blob counted;
+/// and no pad is longer than it has to be.
 pub fn pads_align()
-    ensures { (options : SerializeOptions) (position : ℕ) (bs : List Buffer) → IsTrue options.include_padding → AreAligned position (descriptors_from options position bs) }
+    ensures aligned { (options : SerializeOptions) (position : ℕ) (bs : List Buffer) → IsTrue options.include_padding → AreAligned position (descriptors_from options position bs) }
+    ensures least { (n position m : ℕ) → 0 < n → (position + m) % n ≡ 0 → gap_to n position ≤ m }
 {}
+
+/// Where padding is asked, what is written for an array under limits that hold tells of each of its buffers that it begins at
+/// a position of its alignment.
+pub fn written_is_aligned()
+    ensures { (s : SessionMeaning) (t : Tree) (old new : Context) (options : SerializeOptions)
+        → grown old t ≡ Some new → length old.ids ≤ 65536 → KeepsWriterLimits s t old options
+        → IsTrue options.include_padding → IsAlignedBlob options.offset (blob_of s t old options) }
+{
+    layout_is_shown();
+}

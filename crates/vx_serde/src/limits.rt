@@ -1,4 +1,4 @@
-//! The limits on trees that are written.
+//! The limits on trees that are written, and on a buffer's alignment.
 
 ghost use Rattle.std.specs.Prelude.{◌≡◌, ◌≤◌, ◌<◌, ◌^◌, ◌-◌, ◌↔◌, IsTrue, All, length};
 ghost use Rattle.vx_trees.specs.Walks.{levels};
@@ -8,16 +8,16 @@ use crate::tree::WireNode;
 use vx_buffer::BufferHandle;
 
 /// How many levels of nodes a written tree may have.
-pub const MAX_LEVELS: usize = 62;
+pub(crate) const MAX_LEVELS: usize = 62;
 
 /// How many buffers a written tree may have.
-pub const MAX_BUFFERS: usize = 65_535;
+pub(crate) const MAX_BUFFERS: usize = 65_535;
 
 /// How many bytes a written buffer may have.
-pub const MAX_BUFFER_LEN: usize = 4_294_967_295;
+pub(crate) const MAX_BUFFER_LEN: usize = 4_294_967_295;
 
-/// The greatest exponent of a written buffer's alignment.
-pub const MAX_EXPONENT: u8 = 16;
+/// The greatest exponent of the alignment of a buffer that is read or written.
+pub(crate) const MAX_EXPONENT: u8 = 16;
 
 /// Whether a tree has at most this many levels.
 #[tactic(auto, using(vx_trees::proofs::Counting::level_facts, vx_trees::proofs::Roses::roses))]

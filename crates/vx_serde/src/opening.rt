@@ -13,6 +13,7 @@ ghost use Rattle.vx_serde.specs.Opening.{IsTooShort, AreRefused, IsUnopened, IsO
 
 use crate::array_kind::ArrayKind;
 use crate::error::WireError;
+use crate::limits::MAX_EXPONENT;
 use crate::message::{Descriptor, bytes_of, descriptors, indices, number_of, rows_of, table_of};
 use crate::tree::WireNode;
 use std::alloc::Global;
@@ -48,7 +49,7 @@ fn end_of_buffer(descriptor: &Descriptor, place: usize, segment: usize) -> Resul
     ensures plain { OnOk result (descriptor.now.compression ≡ 0) }
     ensures cause { IfErr result (λ e. IsUndescribed e descriptor.now place segment) }
 {
-    if descriptor.exponent > 16 {
+    if descriptor.exponent > MAX_EXPONENT {
         return Err(WireError::BadAlignment);
     }
     if descriptor.compression != 0 {
@@ -76,7 +77,7 @@ fn buffer_before(
 {
     let bytes = segment.slice(alloc, end - descriptor.len as usize..end)?;
     let Some(alignment) = Alignment::from_exponent(descriptor.exponent) else {
-        return Err(WireError::OutOfMemory);
+        unreachable!();
     };
     Ok(BufferHandle::new_host(bytes.aligned(alignment)))
 }

@@ -1,4 +1,6 @@
-/// How a blob is written.
+//! How a blob is written.
+
+/// Where a blob is to stand, and whether its buffers are aligned there.
 #[derive(Clone, Copy, Debug, PartialEq, Eq)]
 pub struct SerializeOptions {
     /// The position at which the blob is to stand, in bytes.

@@ -5,17 +5,15 @@ ghost use Rattle.vx_types.specs.Seen.{typ};
 ghost use Rattle.vx_arrays.specs.Tree.{Tree, encoding_ids};
 ghost use Rattle.vx_registry.specs.Context.{grown};
 ghost use Rattle.vx_registry.specs.Session.{registry_meaning, IsShipped};
-ghost use Rattle.vx_serde.specs.Spells.{Spells, KeepsReaderLimits, KeepsWriterLimits, blob_of, canon, wire};
-ghost use Rattle.vx_serde.specs.Aligned.{AreAligned};
-ghost use Rattle.vx_serde.specs.Numbered.{buffers_in};
-ghost use Rattle.vx_serde.specs.Placing.{descriptors_from};
+ghost use Rattle.vx_serde.specs.Spells.{Spells, KeepsReaderLimits, KeepsWriterLimits, blob_of, blob_buffers, canon};
+ghost use Rattle.vx_serde.specs.Aligned.{IsAlignedBlob};
 ghost use Rattle.vx_serde.specs.Causes.{Call, IsCaused};
 ghost use Rattle.vx_serde.specs.KeptContext.{KeepsContext};
 ghost use Rattle.vx_serde.specs.WrittenBuffers.{joined};
 
 use crate::decoding::decode;
 use crate::error::WireError;
-use crate::laws::{never_caused, one_array, pads_align, written_is_spelled};
+use crate::laws::{never_caused, one_array, written_is_aligned, written_is_spelled};
 use crate::opening::open;
 use crate::options::SerializeOptions;
 use crate::wiring::wire_node;
@@ -61,16 +59,17 @@ pub fn recode(
     ensures written { let s = registry_meaning session.now.arrays in
         IfOk result (λ r. joined r.buffers ≡ blob_of s r.array ctx.old options.now) }
     ensures grown { IfOk result (λ r. grown ctx.old r.array ≡ Some ctx.new) }
+    // It comes as an empty buffer of the greatest alignment, then the pads, the data, the message and its length.
+    ensures buffers { let s = registry_meaning session.now.arrays in
+        IfOk result (λ r. r.buffers ≡ blob_buffers s r.array ctx.old options.now) }
     // The new blob spells the same array, read with the grown context.
     ensures again { let s = registry_meaning session.now.arrays in
         IsShipped s → IfOk result (λ r. Spells (joined r.buffers) ctx.new.ids (typ dtype.now) len s (canon r.array)) }
     ensures reader_limits { OnOk result (KeepsReaderLimits blob.bytes) }
     ensures writer_limits { let s = registry_meaning session.now.arrays in
         IfOk result (λ r. KeepsWriterLimits s r.array ctx.old options.now) }
-    // Where padding is asked, each data buffer begins at a position of its alignment.
-    ensures aligned { let s = registry_meaning session.now.arrays in
-        IfOk result (λ r. IsTrue options.now.include_padding
-        → AreAligned options.now.offset (descriptors_from options.now options.now.offset (buffers_in (wire s r.array)))) }
+    // Where padding is asked, each data buffer that the new blob tells begins at a position of its alignment.
+    ensures aligned { IfOk result (λ r. IsTrue options.now.include_padding → IsAlignedBlob options.now.offset (joined r.buffers)) }
     // Whatever the answer, the context keeps what it had, and what comes to it is the array's.
     ensures kept { let s = registry_meaning session.now.arrays in
         (t : Tree) → Spells blob.bytes read_ids.now (typ dtype.now) len s t → KeepsContext (encoding_ids t) ctx.old ctx.new }
@@ -87,8 +86,8 @@ pub fn recode(
 {
     one_array();
     never_caused();
-    pads_align();
     written_is_spelled();
+    written_is_aligned();
     session.arrays.hold();
     ctx.hold();
     let node = match open(alloc, &blob, read_ids) {

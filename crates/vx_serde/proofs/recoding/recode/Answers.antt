@@ -2,9 +2,10 @@ use Rattle.std.proofs.Common.{◌∙◌, sym, subst, List, ℕ}
 use Rattle.vx_types.specs.Seen.{typ}
 use Rattle.vx_registry.specs.Session.{registry_meaning}
 use Rattle.vx_serde.specs.Spells.{Spells}
+use Rattle.vx_serde.specs.Aligned.{IsAlignedBlob}
 use Rattle.vx_serde.specs.Causes.{Call}
 use Rattle.vx_serde.specs.WrittenBuffers.{joined}
-use Rattle.vx_serde.proofs.Recodings.{spells, reader_limits, grown-wire, written-wire, limits-wire, kept-wire, caused_by_blob, caused_by_tree, caused_by_writing}
+use Rattle.vx_serde.proofs.Recodings.{spells, reader_limits, grown-wire, written-wire, buffers-wire, limits-wire, kept-wire, caused_by_blob, caused_by_tree, caused_by_writing}
 use Rattle.vx_serde.proofs.recoding.recode.Goals as goal
 
 pub returns-in-Err-write_wire-clause-kept : goal.returns-in-Err-write_wire-clause-kept
@@ -86,6 +87,10 @@ pub returns-clause-written : goal.returns-clause-written
 returns-clause-written c =
     written-wire (registry_meaning c.args.session.now.arrays) c.in-Ok-decode.array c.in-Ok-wire_node.node c.args.ctx.now c.write_wire.new.ctx c.args.options.now (joined c.in-Ok-write_wire.buffers) (c.in-Ok-wire_node.ensures.ok (registry_meaning c.args.session.now.arrays)) c.in-Ok-write_wire.ensures.grown c.in-Ok-write_wire.ensures.written
 
+pub returns-clause-buffers : goal.returns-clause-buffers
+returns-clause-buffers c =
+    buffers-wire (registry_meaning c.args.session.now.arrays) c.in-Ok-decode.array c.in-Ok-wire_node.node c.args.ctx.now c.write_wire.new.ctx c.args.options.now c.in-Ok-write_wire.buffers (c.in-Ok-wire_node.ensures.ok (registry_meaning c.args.session.now.arrays)) c.in-Ok-write_wire.ensures.grown c.in-Ok-write_wire.ensures.buffers
+
 pub returns-clause-grown : goal.returns-clause-grown
 returns-clause-grown c =
     sym (grown-wire (registry_meaning c.args.session.now.arrays) c.in-Ok-decode.array c.in-Ok-wire_node.node c.args.ctx.now (c.in-Ok-wire_node.ensures.ok (registry_meaning c.args.session.now.arrays))) ∙ c.in-Ok-write_wire.ensures.grown
@@ -104,6 +109,13 @@ returns-clause-again c = λ _.
     (c.written_is_spelled.ensures (registry_meaning c.args.session.now.arrays) c.args.blob.bytes c.args.read_ids.now (typ c.args.dtype.now) c.args.len c.in-Ok-decode.array c.args.ctx.now c.write_wire.new.ctx c.args.options.now c.hold.ensures
     (spells c.args.blob.bytes c.args.read_ids.now (typ c.args.dtype.now) c.args.len (registry_meaning c.args.session.now.arrays) c.in-Ok.node c.in-Ok-decode.array c.in-Ok.ensures.opened
     c.in-Ok-decode.ensures.matches c.in-Ok-decode.ensures.sound c.in-Ok-decode.ensures.dtype c.in-Ok-decode.ensures.len) (returns-clause-grown c) c.hold-2.ensures (returns-clause-writer_limits c))
+
+pub returns-clause-aligned : goal.returns-clause-aligned
+returns-clause-aligned c = λ asked.
+    let P : List ℕ → Type 0 = λ bytes. IsAlignedBlob c.args.options.now.offset bytes in
+    subst P (sym (returns-clause-written c))
+    (c.written_is_aligned.ensures (registry_meaning c.args.session.now.arrays) c.in-Ok-decode.array c.args.ctx.now c.write_wire.new.ctx c.args.options.now
+    (returns-clause-grown c) c.hold-2.ensures (returns-clause-writer_limits c) asked)
 
 pub returns-clause-kept : goal.returns-clause-kept
 returns-clause-kept c = λ t x.
