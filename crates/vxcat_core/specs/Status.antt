@@ -27,19 +27,22 @@ status_number BadType = 6
 status_number BadIds = 7
 status_number (Refused error) = error_number error
 
--- Want of memory is one status, wherever it was met; each other refusal has the status of the step that it ended.
+-- Want of memory is one status, wherever it was met; a load that failed is a fault of loading.
 abbrev pub load_status : StoreError → Status
 load_status store_error.OutOfMemory = OutOfMemory
 load_status store_error.Failed = LoadFault
 
+-- A save that failed is a fault of saving.
 abbrev pub save_status : StoreError → Status
 save_status store_error.OutOfMemory = OutOfMemory
 save_status store_error.Failed = SaveFault
 
+-- A listing that could not be wholly printed is a fault of writing.
 abbrev pub print_status : PrintError → Status
 print_status print_error.OutOfMemory = OutOfMemory
 print_status print_error.Failed = WriteFault
 
+-- Each refusal of a type file, but for want of memory, is one of a bad type.
 abbrev pub type_status : TypeWireError → Status
 type_status type_error.OutOfMemory = OutOfMemory
 type_status type_error.BadTable = BadType
@@ -49,10 +52,12 @@ type_status type_error.UnknownExtension = BadType
 type_status type_error.ExtensionRefused = BadType
 type_status type_error.WireLimit = BadType
 
+-- An id file that is no text of identifiers is a bad one.
 abbrev pub id_status : IdFileError → Status
 id_status id_error.OutOfMemory = OutOfMemory
 id_status id_error.BadText = BadIds
 
+-- A blob's refusal, but for want of memory, is the status itself.
 abbrev pub wire_status : WireError → Status
 wire_status wire.OutOfMemory = OutOfMemory
 wire_status error = Refused error

@@ -1,3 +1,5 @@
+//! The real files, as a store.
+
 ghost use Rattle.std.specs.Prelude.{◌≡◌, []};
 
 use crate::store::{Store, StoreError};

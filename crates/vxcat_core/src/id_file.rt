@@ -1,3 +1,5 @@
+//! Files of identifiers, one on each line: reading and writing them.
+
 ghost use Rattle.std.specs.Prelude.{◌≡◌, ◌⊎◌, ◌<◌, ◌≤◌, ℕ, List, [], ◌∷◌, ◌++◌, length, IfOk, IfErr, OnOk, IsErrOf};
 ghost use Rattle.vxcat_core.specs.IdFile.{ReadsIds, HasLines, id_text};
 ghost use Rattle.vxcat_core.specs.declared.id_file.IdFileError.TheVariants as id_file_error;
@@ -12,8 +14,10 @@ pub const MAX_LINES: usize = 65_536;
 /// Why bytes are not read as an id file.
 #[derive(Clone, Copy, Debug, PartialEq, Eq, Error)]
 pub enum IdFileError {
+    /// Memory was wanted and not to be had.
     #[error("out of memory")]
     OutOfMemory,
+    /// The bytes are no UTF-8, or a line is empty, or there are more than 65,536 lines.
     #[error("no text of identifiers, one on each line")]
     BadText,
 }

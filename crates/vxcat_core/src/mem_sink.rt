@@ -1,3 +1,5 @@
+//! Text in memory, as a sink.
+
 ghost use Rattle.std.specs.Prelude.{◌≡◌, ◌<◌, [], Some};
 
 use crate::sink::{Sink, SinkError};

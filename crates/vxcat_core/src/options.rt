@@ -1,3 +1,5 @@
+//! The options behind the words of a command.
+
 ghost use Rattle.std.specs.Prelude.{◌≡◌, ◌≢◌, ℕ, List, ◌++◌, IfSome, IfNone};
 ghost use Rattle.vxcat_core.specs.Options.{choice_words, IsInRange, with_choice, no_options, SpellOptions};
 ghost use Rattle.vxcat_core.specs.declared.options.Choice.{Choice as ChoiceType};

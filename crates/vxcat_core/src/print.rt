@@ -1,3 +1,5 @@
+//! Printing a whole text into a sink.
+
 ghost use Rattle.std.specs.Prelude.{◌≡◌, ◌≤◌, OnOk, OnErr};
 ghost use Rattle.std.specs.Io.KnownBytes.{Appends};
 ghost use Rattle.vxcat_core.specs.StoreState.{HasRisen};
@@ -11,8 +13,10 @@ use thiserror::Error;
 /// Why a text was not wholly printed.
 #[derive(Clone, Copy, Debug, PartialEq, Eq, Error)]
 pub enum PrintError {
+    /// Memory was wanted for the text and not to be had.
     #[error("out of memory")]
     OutOfMemory,
+    /// A write failed, behind none or some of the text.
     #[error("the text could not be written")]
     Failed,
 }

@@ -1,3 +1,5 @@
+//! The text of a row's value.
+
 ghost use Rattle.std.specs.Prelude.{◌≡◌, IfOk, string_bytes};
 ghost use Rattle.vxcat_core.specs.RowText.{float_text, number_text, row_text};
 

@@ -1,3 +1,5 @@
+//! What the program prints into.
+
 ghost use Rattle.std.specs.Prelude.{◌≡◌, ◌<◌, ◌≤◌, length, IfOk, OnOk, OnErr};
 ghost use Rattle.std.specs.Io.KnownBytes.{WriteAppends};
 ghost use Rattle.vxcat_core.specs.StoreState.{HasRisen};
@@ -8,6 +10,7 @@ use thiserror::Error;
 /// Why a piece of text was not taken.
 #[derive(Clone, Copy, Debug, PartialEq, Eq, Error)]
 pub enum SinkError {
+    /// Nothing of the piece could be written.
     #[error("the text could not be written")]
     Failed,
 }

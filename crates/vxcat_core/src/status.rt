@@ -1,3 +1,5 @@
+//! The statuses with which the program ends, and their numbers.
+
 ghost use Rattle.std.specs.Prelude.{◌≡◌};
 ghost use Rattle.vxcat_core.specs.Status.{status_number, load_status, save_status, print_status, type_status, id_status, wire_status};
 
@@ -10,14 +12,23 @@ use vx_type_wire::TypeWireError;
 /// How a run of the program ends.
 #[derive(Clone, Copy, Debug, PartialEq, Eq)]
 pub enum Status {
+    /// The outputs are saved and the listing is printed.
     Done,
+    /// Memory was wanted and not to be had, at whatever step.
     OutOfMemory,
+    /// The words spell no command.
     NoCommand,
+    /// An input could not be loaded.
     LoadFault,
+    /// An output could not be saved.
     SaveFault,
+    /// The listing could not be wholly printed; the outputs are saved.
     WriteFault,
+    /// The type file shows no type within the limits, or one with an extension.
     BadType,
+    /// The id file is no text of identifiers.
     BadIds,
+    /// The blob cannot be read or written again, for this cause.
     Refused(WireError),
 }
 

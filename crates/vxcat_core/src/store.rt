@@ -1,3 +1,5 @@
+//! What the program loads from and saves into.
+
 ghost use Rattle.std.specs.Prelude.{◌≡◌, ◌≢◌, ◌⊎◌, ◌≤◌, ℕ, Some, List, [], ◌∷◌, ◌++◌, IsTrue, IfOk, OnOk, IsErrOf};
 ghost use Rattle.vxcat_core.specs.StoreState.{StoreState, HasRisen};
 ghost use Rattle.vxcat_core.specs.declared.store.StoreError.TheVariants as store_error;
@@ -9,8 +11,10 @@ use vx_types::{Blob, Name};
 /// Why a file was not loaded or not saved.
 #[derive(Clone, Copy, Debug, PartialEq, Eq, Error)]
 pub enum StoreError {
+    /// Memory was wanted and not to be had.
     #[error("out of memory")]
     OutOfMemory,
+    /// The file is not there, or a read or write of it failed.
     #[error("the file could not be read or written")]
     Failed,
 }

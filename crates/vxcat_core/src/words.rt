@@ -1,3 +1,5 @@
+//! The words of the command line, as a command.
+
 ghost use Rattle.std.specs.Prelude.{IfSome, IfNone};
 ghost use Rattle.vxcat_core.specs.Words.{Line, Spells};
 ghost use Rattle.vxcat_core.specs.RecodeWords.{line_of};
