@@ -12,7 +12,8 @@ use Rattle.vx_proto.specs.declared.schema.Member.{Member}
 use Rattle.vx_proto.specs.Wire.{SpellsNumber, Part, eight, delimited, four, Field, SpellsPart, Spells}
 use Rattle.vx_proto.specs.Value.{Content, Entry, Value, Slot, Schema}
 use Rattle.vx_proto.specs.Reads.{list_at, default_in, default_of, last_of, kind_in, has, kind_of, ShowsContent, ShowsEntries, ShowsSlots, Keeps, ReadsWithin}
-use Rattle.vx_proto.specs.Form.{FormContent, FormEntries, FormCount, FormSlots, FormWithin, IsPlainDefault, IsLawfulList}
+use Rattle.vx_proto.specs.Form.{FormContent, FormEntries, FormCount, FormSlots, FormWithin}
+use Rattle.vx_proto.proofs.LawfulSlots.{IsPlainDefault, IsLawfulList}
 
 abbrev pub AreBytes : List ℕ → Type 0
 AreBytes [] = Unit {0}

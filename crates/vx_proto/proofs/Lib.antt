@@ -12,6 +12,7 @@ pub mod Told
 pub mod Spelled
 pub mod Again
 pub mod Formed
+pub mod LawfulSlots
 pub mod LawfulTest
 pub mod Suffixes
 pub mod TreeSteps

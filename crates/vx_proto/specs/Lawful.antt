@@ -44,6 +44,7 @@ has_default [] = false
 has_default (m ∷ []) = is_simple m.kind
 has_default (m ∷ n ∷ ms) = false
 
+-- The members of a slot are such as its rule asks: of a plain one, one with a default; of any other, any.
 abbrev pub fits_rule : Rule → List Member → Bool
 fits_rule Plain members = has_default members
 fits_rule r members = true
@@ -57,6 +58,7 @@ are_slots count (s ∷ ss) = fits_rule s.rule s.members && are_kinds count s.mem
 abbrev pub is_lawful_list : ℕ → List Slot → Bool
 is_lawful_list count l = is_ascending 1 (field_numbers l) && nat_le (length (field_numbers l)) 1000 && are_slots count l
 
+-- Each of these messages is lawful.
 abbrev pub are_lawful : ℕ → List (List Slot) → Bool
 are_lawful count [] = true
 are_lawful count (l ∷ ls) = is_lawful_list count l && are_lawful count ls

@@ -1,12 +1,14 @@
+//! Reading of plain values: the fields of a message, each put into its slot, and what each slot keeps.
+
 ghost use Rattle.std.specs.Prelude.{◌≡◌, ◌<◌, ℕ, List, length, map, option_map, replicate, [], IfSome, IfOk, Ok};
 ghost use Rattle.std.specs.Str.{is_utf8};
 ghost use Rattle.vx_proto.specs.Wire.{cut};
 ghost use Rattle.vx_proto.specs.WireView.{part_view};
 ghost use Rattle.vx_proto.specs.Value.{view, value_view, entries_view, slot_view, list_view, schema_view};
 ghost use Rattle.vx_proto.specs.Reads.{list_at, kind_in, default_in, default_of as default_entries, last_of as last_in};
-ghost use Rattle.vx_proto.specs.Reading.{Gives, varint_in, octets_in, place_of, typed, gather_all, kept_of, finished, decoded};
+ghost use Rattle.vx_proto.specs.Reading.{Gives, varint_in, octets_in, place_of, limited, limited_signed, typed, gather_all, kept_of, finished, decoded};
 
-use crate::element::{Element, Entries, Entry};
+use crate::element::{Element, Entries, Entry, copied, flag};
 use crate::error::ProtoError;
 use crate::schema::{Kind, Member, Rule, Schema, Slot};
 use crate::wire::{Part, field_of};
@@ -47,6 +49,7 @@ fn varint_of(part: Part<'_>) -> Result<u64, ProtoError>
     }
 }
 
+/// The bytes in a field.
 fn octets_of(part: Part<'_>) -> Result<&[u8], ProtoError>
     ensures { Gives (λ s. s.now) result (octets_in (part_view part.entry)) }
 {
@@ -136,6 +139,26 @@ fn finish(alloc: Global, list: &[Slot], mut slots: Vec<Entries>) -> Result<Vec<E
     Ok(done)
 }
 
+/// A number that is below a limit.
+fn limited_number(n: u64, limit: u64) -> Result<Element, ProtoError>
+    ensures { Gives view result (limited limit n) }
+{
+    if n >= limit {
+        return Err(ProtoError::OutOfRange);
+    }
+    Ok(Element::Number(n))
+}
+
+/// The number of an int32.
+fn signed_number(n: u64) -> Result<Element, ProtoError>
+    ensures { Gives view result (limited_signed n) }
+{
+    if n < 1 << 31 || n >= 0xffff_ffff_8000_0000 {
+        return Ok(Element::Number(n));
+    }
+    Err(ProtoError::OutOfRange)
+}
+
 /// What a part shows of a kind, with at most so many messages nested in it.
 #[cycle(reading)]
 #[tactic(auto, unfolding(crate::specs::Reading::typed))]
@@ -149,30 +172,10 @@ fn element_of(
     ensures { Gives view result (typed (decoded (schema_view schema) left) kind (part_view part.entry)) }
 {
     match kind {
-        Kind::Below(limit) => {
-            let n = varint_of(part)?;
-            if n < limit {
-                Ok(Element::Number(n))
-            } else {
-                Err(ProtoError::OutOfRange)
-            }
-        }
-        Kind::Whole => {
-            let n = varint_of(part)?;
-            Ok(Element::Number(n))
-        }
-        Kind::Signed32 => {
-            let n = varint_of(part)?;
-            if n < 1 << 31 || n >= 0xffff_ffff_8000_0000 {
-                Ok(Element::Number(n))
-            } else {
-                Err(ProtoError::OutOfRange)
-            }
-        }
-        Kind::Flag => {
-            let n = varint_of(part)?;
-            Ok(Element::Number(if n == 0 { 0 } else { 1 }))
-        }
+        Kind::Below(limit) => limited_number(varint_of(part)?, limit),
+        Kind::Whole => Ok(Element::Number(varint_of(part)?)),
+        Kind::Signed32 => signed_number(varint_of(part)?),
+        Kind::Flag => Ok(flag(varint_of(part)? != 0)),
         Kind::Fixed32 => match part {
             Part::Four(n) => Ok(Element::Number(n as u64)),
             _ => Err(ProtoError::BadMessage),
@@ -186,12 +189,9 @@ fn element_of(
             if !is_text(s) {
                 return Err(ProtoError::BadMessage);
             }
-            Ok(Element::Octets(Vec::from_slice(alloc, s)?))
+            copied(alloc, s)
         }
-        Kind::Bytes => {
-            let s = octets_of(part)?;
-            Ok(Element::Octets(Vec::from_slice(alloc, s)?))
-        }
+        Kind::Bytes => copied(alloc, octets_of(part)?),
         Kind::Inner(place) => {
             let s = octets_of(part)?;
             let slots = message_of(alloc, schema, left, place, s)?;
@@ -253,6 +253,7 @@ pub fn message_of(
     finish(alloc, list, slots)
 }
 
+/// The slots of the message at this place of the schema; none past the last.
 pub fn list_of(schema: Schema, place: u32) -> &'static [Slot]
     ensures { list_view result.now ≡ list_at (schema_view schema) place }
 {
