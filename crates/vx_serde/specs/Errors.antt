@@ -2,6 +2,8 @@
 use Rattle.std.specs.Prelude.{ℕ}
 use Rattle.vx_types.specs.declared.error.TypeError.{TypeError}
 use Rattle.vx_types.specs.declared.error.TypeError.TheVariants as types
+use Rattle.vx_arrays.specs.declared.error.ArrayError.{ArrayError}
+use Rattle.vx_arrays.specs.declared.error.ArrayError.TheVariants as arrays
 use Rattle.vx_serde.specs.declared.error.WireError.{WireError}
 use Rattle.vx_serde.specs.declared.error.WireError.TheVariants.{OutOfMemory, TooShort, BadTable, TableLimit, BadAlignment, Compressed, OutOfBounds, UnknownIndex, UnknownEncoding, BadMetadata, BadShape, NotPermitted, WireLimit}
 
@@ -29,3 +31,9 @@ type_refusal types.OutOfMemory = OutOfMemory
 type_refusal types.BadDecimal = BadShape
 type_refusal types.FieldCount = BadShape
 type_refusal types.DuplicateTag = BadShape
+
+-- Why an array is not made, as a refusal of a blob.
+abbrev pub array_refusal : ArrayError → WireError
+array_refusal arrays.OutOfMemory = OutOfMemory
+array_refusal arrays.BadShape = BadShape
+array_refusal arrays.ValueTooLarge = WireLimit

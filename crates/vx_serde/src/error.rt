@@ -2,7 +2,7 @@
 
 ghost use Rattle.std.specs.Prelude.{◌≡◌};
 ghost use Rattle.vx_serde.specs.declared.error.WireError.TheVariants.{OutOfMemory};
-ghost use Rattle.vx_serde.specs.Errors.{error_number, type_refusal};
+ghost use Rattle.vx_serde.specs.Errors.{array_refusal, error_number, type_refusal};
 
 use std::alloc::{AllocError, AllocFailed};
 use thiserror::Error;
@@ -118,10 +118,14 @@ impl From<TypeError> for WireError {
 }
 
 impl From<ArrayError> for WireError {
-    ghost from_gives = { λ _ e. e ≡ OutOfMemory };
+    ghost from_gives = { λ e r. r ≡ array_refusal e };
 
-    fn from(_e: ArrayError) -> WireError {
-        WireError::OutOfMemory
+    fn from(e: ArrayError) -> WireError {
+        match e {
+            ArrayError::OutOfMemory => WireError::OutOfMemory,
+            ArrayError::BadShape => WireError::BadShape,
+            ArrayError::ValueTooLarge => WireError::WireLimit,
+        }
     }
 }
 
