@@ -13,7 +13,7 @@ returns-in-Ok-recode-clause-recoded c =
     let ok = c.in-Ok-recode.ensures in
     let shipped = registry_shipped c.new-session.result.arrays in
     let blob = c.in-Ok.ensures.bytes ∙ c.into_vec.ensures in
-    let arrays = c.new-session.ensures ∙ c.in-Ok-default.ensures in
+    let arrays = c.new-session.ensures.arrays ∙ c.in-Ok-default.ensures in
     let asked = same_call c.args.blob c.in-Ok.buffer.bytes (typ c.args.dtype.now) c.args.len c.args.read_ids c.new-read.result c.empty-ids.result c.new-session.result.arrays c.args.options.now
     blob c.new-read.ensures c.empty-ids.ensures.ids c.empty-ids.ensures.allowed arrays in
     let here : Call = record {
@@ -43,7 +43,7 @@ returns-in-Ok-recode-clause-cause c = memory_refused _ c.make_outputs.result c.m
 pub returns-clause-cause : goal.returns-clause-cause
 returns-clause-cause c =
     let blob = c.in-Ok.ensures.bytes ∙ c.into_vec.ensures in
-    let arrays = c.new-session.ensures ∙ c.in-Ok-default.ensures in
+    let arrays = c.new-session.ensures.arrays ∙ c.in-Ok-default.ensures in
     let asked = same_call c.args.blob c.in-Ok.buffer.bytes (typ c.args.dtype.now) c.args.len c.args.read_ids c.new-read.result c.empty-ids.result c.new-session.result.arrays c.args.options.now
     blob c.new-read.ensures c.empty-ids.ensures.ids c.empty-ids.ensures.allowed arrays in
     let cause = subst (λ (call : Call). IsCaused call c.in-Err.error) asked (c.in-Err.ensures.cause (registry_shipped c.new-session.result.arrays)) in
@@ -52,7 +52,7 @@ returns-clause-cause c =
 pub returns-clause-complete : goal.returns-clause-complete
 returns-clause-complete c = λ can.
     let blob = c.in-Ok.ensures.bytes ∙ c.into_vec.ensures in
-    let arrays = c.new-session.ensures ∙ c.in-Ok-default.ensures in
+    let arrays = c.new-session.ensures.arrays ∙ c.in-Ok-default.ensures in
     let asked = same_call c.args.blob c.in-Ok.buffer.bytes (typ c.args.dtype.now) c.args.len c.args.read_ids c.new-read.result c.empty-ids.result c.new-session.result.arrays c.args.options.now
     blob c.new-read.ensures c.empty-ids.ensures.ids c.empty-ids.ensures.allowed arrays in
     let here = subst CanRecode (sym asked) can in
