@@ -7,7 +7,7 @@ use crate::files::{
 use std::alloc::Global;
 use std::test::Fail;
 use vx_types::{Name, TypeError};
-use vxcat_core::{DirStore, MemSink, MemStore, Store, run};
+use vxcat_core::{DirStore, MemSink, MemStore, Store, StoreError, run};
 
 const WORDS: [&str; 7] = ["recode", "t", "b", "4", "i", "o", "j"];
 
@@ -22,12 +22,7 @@ fn names(alloc: Global, words: &[&str]) -> Result<Vec<Name>, TypeError> {
 }
 
 // A store of a type file, a blob and an identifier file.
-fn store_of(
-    alloc: Global,
-    dtype: &[u8],
-    blob: &[u8],
-    ids: &str,
-) -> Result<MemStore, std::alloc::AllocError> {
+fn store_of(alloc: Global, dtype: &[u8], blob: &[u8], ids: &str) -> Result<MemStore, StoreError> {
     let mut store = MemStore::new(alloc);
     store.insert(alloc, "t", dtype)?;
     store.insert(alloc, "b", blob)?;

@@ -2,7 +2,6 @@
 use Rattle.std.specs.Prelude.{◌≡◌, ◌≢◌, ◌⊎◌, ℕ, ◌<◌, ◌≤◌, List, ◌++◌, length, codes}
 use Rattle.std.specs.List.{flat_map, AllByRecursion}
 use Rattle.std.specs.Str.{IsUtf8}
-use Rattle.vxcat_core.specs.declared.id_file.TheConstants.{MAX_LINES}
 
 -- The text of a list of identifiers has each of them in order, and a line feed after each.
 abbrev pub id_text : List (List ℕ) → List ℕ
@@ -21,4 +20,4 @@ pub record HasLines (bytes : List ℕ) (ids : List (List ℕ)) : Type 0 where
 pub record ReadsIds (bytes : List ℕ) (ids : List (List ℕ)) : Type 0 where
   pub utf8 : IsUtf8 bytes
   pub lines : HasLines bytes ids
-  pub few : length ids ≤ MAX_LINES
+  pub few : length ids ≤ 65536

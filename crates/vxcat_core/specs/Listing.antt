@@ -6,7 +6,6 @@ use Rattle.vx_buffer.specs.Buffer.{Buffer}
 use Rattle.vx_arrays.specs.Tree.{Tree, Trees, Head, encoding_id_of, buffers_of}
 use Rattle.vx_arrays.specs.Rows.{row_at, cells}
 use Rattle.vxcat_core.specs.RowText.{row_text}
-use Rattle.vxcat_core.specs.declared.listing.TheConstants.{MAX_CELLS}
 
 -- A buffer is listed by the number of its bytes.
 abbrev pub length_text : Buffer → List ℕ
@@ -37,7 +36,7 @@ abbrev mutual
 
 -- A row is shown by its value, or as `(large)` where that has more than 10,000 cells.
 abbrev pub shown_row : Tree → ℕ → List ℕ
-shown_row tree i = if nat_lt MAX_CELLS (cells tree i) then codes "(large)" else row_text (row_at tree i)
+shown_row tree i = if nat_lt 10000 (cells tree i) then codes "(large)" else row_text (row_at tree i)
 
 -- A row's line has its number, counted from 0, and the row.
 abbrev pub row_line : Tree → ℕ → List ℕ

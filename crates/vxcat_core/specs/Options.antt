@@ -1,7 +1,6 @@
 -- The options of a command.
 use Rattle.std.specs.Prelude.{◌≡◌, ℕ, ◌<◌, ◌≤◌, ◌^◌, List, [], ◌∷◌, Option, Some, None, codes, decimal}
 use Rattle.std.specs.List.{AllByRecursion, flat_map}
-use Rattle.vxcat_core.specs.declared.options.TheConstants.{MAX_ROWS}
 use Rattle.vxcat_core.specs.declared.options.Choice.{Choice}
 use Rattle.vxcat_core.specs.declared.options.Choice.TheVariants.{Pad, Rows}
 use Rattle.vxcat_core.specs.declared.options.Options.{Options}
@@ -14,17 +13,19 @@ choice_words (Rows n) = codes "--rows" ∷ decimal n ∷ []
 -- A position lies below 2^64, and a listing has at most 1,000 rows.
 abbrev pub IsInRange : Choice → Type 0
 IsInRange (Pad n) = n < 2 ^ 64
-IsInRange (Rows n) = n ≤ MAX_ROWS
+IsInRange (Rows n) = n ≤ 1000
 
--- An option's number, where it was not given before.
+-- An option's number, where it was not given before; none where it was.
 abbrev pub given_once : Option ℕ → ℕ → Option (Option ℕ)
 given_once None n = Some (Some n)
 given_once (Some m) n = None
 
+-- Options with this position; none where it cannot be given.
 abbrev pub pad_given : Options → Option (Option ℕ) → Option Options
 pad_given options None = None
 pad_given options (Some pad) = Some (record { pad = pad; rows = options.rows })
 
+-- Options with this number of rows; none where it cannot be given.
 abbrev pub rows_given : Options → Option (Option ℕ) → Option Options
 rows_given options None = None
 rows_given options (Some rows) = Some (record { pad = options.pad; rows = rows })

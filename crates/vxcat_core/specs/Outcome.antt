@@ -6,7 +6,7 @@ use Rattle.vxcat_core.specs.SinkState.{SinkState}
 use Rattle.vxcat_core.specs.Words.{Line, Spells, inputs}
 use Rattle.vxcat_core.specs.Written.{AppendsPrefix}
 use Rattle.vxcat_core.specs.Listing.{listing}
-use Rattle.vxcat_core.specs.Recoding.{AreInputs, CanRecodeInputs, IsRecoded, IsRefused, AskedOnly, KeepsOthers, AreSaved}
+use Rattle.vxcat_core.specs.Recoding.{AreInputs, CanRecodeInputs, IsRecoded, IsRefused, AskedOnly, KeepsOthers, SavesInOrder, AreSaved}
 use Rattle.vxcat_core.specs.Status.{status_number}
 use Rattle.vxcat_core.specs.declared.options.Options.{Options}
 use Rattle.vxcat_core.specs.declared.recoding.Inputs.{Inputs}
@@ -31,6 +31,14 @@ pub record Work (line : Line) (before : StoreState) : Type 0 where
   pub are_inputs : AreInputs line before loaded
   pub is_recoded : IsRecoded line loaded made
 
+-- The command came to its saves and no further: its outputs were made, and their names are the only ones that may have
+-- changed, in the order in which they are saved. Nothing is printed.
+pub record EndsSaves (line : Line) (before after : StoreState) (out_before out_after : SinkState) : Type 0 where
+  pub work : Work line before
+  pub in_order : SavesInOrder line before after work.made
+  pub others : KeepsOthers line before after
+  pub unprinted : Keeps out_before.written out_after.written
+
 -- The command came to its listing: its outputs are saved, other names hold what they held, and of the listing there
 -- was printed what is said of it.
 pub record EndsPrinting (line : Line) (before after : StoreState) (IsPrinted : List ℕ → Type 0) : Type 0 where
@@ -47,23 +55,24 @@ pub record EndsRefused (status : Status) (line : Line) (before after : StoreStat
   pub cannot : CanRecodeInputs line loaded → ⊥
   pub untouched : IsUntouched before after out_before out_after
 
--- How the command ends, by its status. 0: the outputs are saved and the listing printed. 1: at most a prefix of the
--- listing is printed. 3: the count of load faults rose, and only inputs were asked for. 4: the count of save faults
--- rose, and nothing is printed. 5: the count of the sink's faults rose, the outputs are saved, and a prefix of the
--- listing is printed. At 1, 4 and 5 names that are no outputs hold what they held; at 3, 6, 7 and each refusal of the
--- blob all do, and nothing is printed.
+-- How the command ends, by its status. 0: the outputs are saved and the listing printed. 1: nothing is saved or printed,
+-- or the outputs were made and not all saved, or they are saved and a prefix of the listing is printed. 3: the count of
+-- load faults rose, and only inputs were asked for. 4: the count of save faults rose, and the outputs were made. 5: the
+-- count of the sink's faults rose, the outputs are saved, and a prefix of the listing is printed. At 3, 6, 7 and each
+-- refusal of the blob nothing is saved or printed. So nothing is saved unless the outputs were made from the inputs, and
+-- names that are no outputs hold what they held.
 abbrev pub Ends : Status → Line → StoreState → StoreState → SinkState → SinkState → Type 0
 Ends Done line before after out_before out_after =
     EndsPrinting line before after (λ text. Appends out_before.written out_after.written text)
 Ends OutOfMemory line before after out_before out_after =
-    KeepsOthers line before after
-    × (Keeps out_before.written out_after.written
-    ⊎ ((work : Work line before) × AppendsPrefix out_before.written out_after.written (listing work.made.array (rows_of line.options))))
+    IsUntouched before after out_before out_after
+    ⊎ (EndsSaves line before after out_before out_after
+    ⊎ EndsPrinting line before after (λ text. AppendsPrefix out_before.written out_after.written text))
 Ends NoCommand line before after out_before out_after = ⊥
 Ends LoadFault line before after out_before out_after =
     HasRisen before.load_faults after.load_faults × AskedOnly (inputs line) before.asked after.asked × IsUntouched before after out_before out_after
 Ends SaveFault line before after out_before out_after =
-    HasRisen before.save_faults after.save_faults × KeepsOthers line before after × Keeps out_before.written out_after.written
+    HasRisen before.save_faults after.save_faults × EndsSaves line before after out_before out_after
 Ends WriteFault line before after out_before out_after =
     HasRisen out_before.faults out_after.faults × EndsPrinting line before after (λ text. AppendsPrefix out_before.written out_after.written text)
 Ends status line before after out_before out_after = EndsRefused status line before after out_before out_after

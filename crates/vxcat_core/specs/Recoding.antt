@@ -1,5 +1,5 @@
 -- What the command `recode` reads, makes and saves.
-use Rattle.std.specs.Prelude.{◌≡◌, ◌≢◌, ℕ, true, false, IsTrue, IsSome, Option, None, Some, option_map, List, [], ◌++◌, Contains}
+use Rattle.std.specs.Prelude.{◌≡◌, ◌≢◌, ◌⊎◌, ℕ, true, false, IsTrue, IsSome, Option, None, Some, option_map, List, [], ◌++◌, Contains}
 use Rattle.std.specs.List.{AllByRecursion}
 use Rattle.vx_types.specs.Typ.{Typ}
 use Rattle.vx_type_wire.specs.Known.{no_readers}
@@ -37,6 +37,7 @@ ReadsType = IsRead no_readers
 abbrev pub session : SessionMeaning
 session = registry_meaning shipped_registry
 
+-- The empty context has no identifiers, and allows each encoding.
 abbrev pub empty_context : Context
 empty_context = record { ids = []; allowed = None }
 
@@ -134,6 +135,12 @@ EndsSaving status before after = ⊥
 pub record KeepsOthers (line : Line) (before after : StoreState) : Type 0 where
   pub told : after.tells ≡ before.tells
   pub files : IsTrue before.tells → (name : List ℕ) → name ≢ line.out → name ≢ line.out_ids → after.file name ≡ before.file name
+
+-- The blob is saved before its identifiers: the name of the second output still holds what it held, or the new blob
+-- stands at the name of the first.
+abbrev pub SavesInOrder : Line → StoreState → StoreState → Outputs → Type 0
+SavesInOrder line before after made =
+    (IsTrue before.tells → after.file line.out_ids ≡ before.file line.out_ids) ⊎ Stands after line.out made.blob
 
 -- The outputs stand at their names: the new blob, and the text of its identifiers.
 pub record AreSaved (line : Line) (after : StoreState) (made : Outputs) : Type 0 where

@@ -1,8 +1,10 @@
+//! Files in memory, as a store.
+
 ghost use Rattle.std.specs.Prelude.{◌≡◌, ◌≢◌, ℕ, List, [], Some, None, OnOk};
 ghost use Rattle.std.specs.Option.{option_copied};
 
 use crate::store::{Store, StoreError};
-use std::alloc::{AllocError, Global};
+use std::alloc::Global;
 use std::collections::BTreeMap;
 use vx_types::{Blob, Name};
 
@@ -36,8 +38,8 @@ impl MemStore {
     /// Lets the call of this number fail, counted from 1 over loads and saves.
     ///
     /// # Errors
-    /// Want of memory.
-    pub fn fail_call(&mut self, number: u64) -> Result<(), AllocError>
+    /// `OutOfMemory`, and no other.
+    pub fn fail_call(&mut self, number: u64) -> Result<(), StoreError>
         ensures { ⟦<MemStore as Store>⟧.state self.new ≡ ⟦<MemStore as Store>⟧.state self.old }
     {
         self.failing.push(number)?;
@@ -47,9 +49,9 @@ impl MemStore {
     /// Puts a file there. It counts as no call.
     ///
     /// # Errors
-    /// Want of memory.
+    /// `OutOfMemory`, and no other.
     #[tactic(auto, using(std::proofs::lemmas::Map::Text::text_keys))]
-    pub fn insert(&mut self, alloc: Global, name: &str, bytes: &[u8]) -> Result<(), AllocError>
+    pub fn insert(&mut self, alloc: Global, name: &str, bytes: &[u8]) -> Result<(), StoreError>
         ensures ok { OnOk result ((⟦<MemStore as Store>⟧.state self.new).file name.now ≡ Some bytes.now) }
         ensures others { (other : List ℕ) → other ≢ name.now
             → (⟦<MemStore as Store>⟧.state self.new).file other ≡ (⟦<MemStore as Store>⟧.state self.old).file other }

@@ -1,3 +1,5 @@
+//! The whole run: from the words of the command line to the number of its status.
+
 ghost use Rattle.std.specs.Prelude.{◌≡◌, ◌≢◌, ◌⊎◌, ◌↔◌};
 ghost use Rattle.vxcat_core.specs.Words.{Line, Spells};
 ghost use Rattle.vxcat_core.specs.RecodeWords.{line_of};
@@ -49,7 +51,7 @@ fn run_recode<S: Store, O: Sink>(
     };
     let made = match recode_inputs(alloc, words, loaded) {
         Ok(made) => made,
-        Err(status) => return status,
+        Err(refusal) => return refusal,
     };
     if let Err(status) = save_outputs(alloc, words, &made, store) {
         return status;

@@ -1,10 +1,12 @@
+//! The steps of the command: loading its inputs, recoding the blob, and saving the outputs.
+
 ghost use Rattle.std.specs.Prelude.{◌≡◌, ◌≢◌, IfOk, IfErr, OnOk};
 ghost use Rattle.vx_types.specs.Seen.{typ};
 ghost use Rattle.vx_types.specs.Typ.{Typ};
 ghost use Rattle.vxcat_core.specs.RecodeWords.{line_of};
 ghost use Rattle.vxcat_core.specs.Words.{inputs};
 ghost use Rattle.vx_serde.specs.WrittenBuffers.{joined};
-ghost use Rattle.vxcat_core.specs.Recoding.{AreInputs, AreSaved, AskedOnly, CanRecode, CanRecodeInputs, EndsLoading, EndsSaving, IsBlobRecoded, IsBlobRefused, IsRecoded, IsRefused, IsTypeStatus, KeepsOthers, ReadsType, call, write_options};
+ghost use Rattle.vxcat_core.specs.Recoding.{AreInputs, AreSaved, AskedOnly, CanRecode, CanRecodeInputs, EndsLoading, EndsSaving, IsBlobRecoded, IsBlobRefused, IsRecoded, IsRefused, IsTypeStatus, KeepsOthers, ReadsType, SavesInOrder, call, write_options};
 ghost use Rattle.vxcat_core.specs.declared.status.Status.TheVariants.{OutOfMemory};
 
 use crate::id_file::{read_ids, write_ids};
@@ -199,6 +201,7 @@ pub fn save_outputs<S: Store>(
     requires { words.now.out.now ≢ words.now.out_ids.now }
     ensures saved { OnOk result (AreSaved (line_of words.now) (S.state store.new) made.now) }
     ensures others { KeepsOthers (line_of words.now) (S.state store.old) (S.state store.new) }
+    ensures in_order { SavesInOrder (line_of words.now) (S.state store.old) (S.state store.new) made.now }
     ensures cause { IfErr result (λ status. EndsSaving status (S.state store.old) (S.state store.new)) }
 {
     let Ok(text) = write_ids(alloc, &made.ids) else {

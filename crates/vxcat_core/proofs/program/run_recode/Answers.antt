@@ -3,18 +3,29 @@ use Rattle.std.specs.Io.KnownBytes.{Appends}
 use Rattle.vxcat_core.specs.RecodeWords.{line_of}
 use Rattle.vxcat_core.specs.Listing.{listing}
 use Rattle.vxcat_core.specs.Written.{AppendsPrefix}
-use Rattle.vxcat_core.proofs.Endings.{others_through, refused_ends, save_ends, print_ends}
+use Rattle.vxcat_core.proofs.Endings.{others_through, order_through, load_ends, refused_ends, save_ends, print_ends}
 use Rattle.vxcat_core.proofs.program.run_recode.Goals as goal
+
+pub returns-in-Err : goal.returns-in-Err
+returns-in-Err g c =
+    let load = c.load_inputs.ensures in
+    load_ends c.in-Err.status (line_of c.args.words.now) _ _ _ load.asked load.told load.files c.in-Err.ensures.cause
 
 pub returns-in-Err-recode_inputs : goal.returns-in-Err-recode_inputs
 returns-in-Err-recode_inputs g c =
     let load = c.load_inputs.ensures in
-    refused_ends c.in-Err-recode_inputs.status (line_of c.args.words.now) _ _ _ c.in-Ok.loaded c.in-Ok.ensures.inputs c.in-Err-recode_inputs.ensures.cause c.in-Err-recode_inputs.ensures.complete load.told load.files
+    refused_ends c.in-Err-recode_inputs.refusal (line_of c.args.words.now) _ _ _ c.in-Ok.loaded c.in-Ok.ensures.inputs c.in-Err-recode_inputs.ensures.cause c.in-Err-recode_inputs.ensures.complete load.told load.files
 
 pub returns-in-Err-save_outputs : goal.returns-in-Err-save_outputs
 returns-in-Err-save_outputs g c =
     let load = c.load_inputs.ensures in
-    save_ends c.in-Err-save_outputs.status (line_of c.args.words.now) _ _ _ _ load.save_faults (others_through _ _ _ _ load.files load.told c.save_outputs.ensures.others) c.in-Err-save_outputs.ensures.cause
+    save_ends c.in-Err-save_outputs.status (line_of c.args.words.now) _ _ _ _
+    (record { loaded = c.in-Ok.loaded; made = c.in-Ok-recode_inputs.made; are_inputs = c.in-Ok.ensures.inputs; is_recoded = c.in-Ok-recode_inputs.ensures.recoded })
+    load.save_faults
+    (others_through _ _ _ _ load.files load.told c.save_outputs.ensures.others)
+    (order_through (line_of c.args.words.now) (g.S.Store.state c.args.store.now) (g.S.Store.state c.load_inputs.new.store) (g.S.Store.state c.save_outputs.new.store) c.in-Ok-recode_inputs.made
+    load.files load.told c.save_outputs.ensures.in_order)
+    c.in-Err-save_outputs.ensures.cause
 
 pub returns-in-Ok-print_listing : goal.returns-in-Ok-print_listing
 returns-in-Ok-print_listing g c =
