@@ -1,3 +1,4 @@
 pub mod Contents
 pub mod Lists
 pub mod Trees
+pub mod Nullabilities
