@@ -5,3 +5,7 @@ pub mod Retyped
 pub mod RetypedParts
 pub mod CanonPlaces
 pub mod CanonLaws
+pub mod RowsFit
+pub mod MergeFits
+pub mod VariantsFit
+pub mod RowsOfSound
