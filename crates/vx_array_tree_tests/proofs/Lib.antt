@@ -2,3 +2,5 @@ pub mod Samples
 pub mod SampleRows
 pub mod SampleParts
 pub mod SampleMerges
+pub mod SoundSamples
+pub mod BrokenSamples

@@ -1,6 +1,6 @@
 -- The identifiers and the metadata of samples, the places of their children, and what is read back of them.
-use Rattle.std.specs.Prelude.{ℕ, ◌≡◌, ◌-◌, ◌^◌, [], ◌∷◌, ◌++◌, Some, None, false, true, codes, refl}
-use Rattle.vx_trees.specs.Rose.{node, end, more, label, below, count}
+use Rattle.std.specs.Prelude.{◌≡◌, ◌-◌, ◌^◌, [], ◌∷◌, ◌++◌, Some, None, false, true, codes, refl}
+use Rattle.vx_trees.specs.Rose.{node, end, more, label, below}
 use Rattle.vx_types.specs.Kind as K
 use Rattle.vx_types.specs.declared.decimal.DecimalType.TheVariants as D
 use Rattle.vx_types.specs.declared.nullability.Nullability.TheVariants.{Nullable, NonNullable}
@@ -19,7 +19,7 @@ use Rattle.vx_array_tree_tests.proofs.Samples.{kind, number_type, text_type, lis
 
 map_ids : encoding_ids (maps entries)
     ≡ codes "vortex.map" ∷ codes "vortex.listview" ∷ codes "vortex.struct" ∷ codes "vortex.primitive" ∷ codes "vortex.varbin" ∷ codes "vortex.primitive" ∷ codes "vortex.primitive"
-      ∷ codes "vortex.primitive" ∷ []
+    ∷ codes "vortex.primitive" ∷ []
 map_ids = refl
 
 days_ids : encoding_ids days ≡ codes "vortex.ext" ∷ codes "vortex.primitive" ∷ []

@@ -1,5 +1,5 @@
 -- The rows of each encoding's samples, and how many cells a row takes.
-use Rattle.std.specs.Prelude.{◌≡◌, List, [], ◌∷◌, ◌++◌, Option, Some, None, false, true, codes, pos, negsuc, refl}
+use Rattle.std.specs.Prelude.{◌≡◌, List, [], ◌∷◌, ◌++◌, Some, None, false, true, codes, pos, negsuc, refl}
 use Rattle.vx_trees.specs.Rose.{node, end, more}
 use Rattle.vx_types.specs.Value as V
 use Rattle.vx_types.specs.Value.{Value, lone, variant_of}

@@ -174,7 +174,7 @@ abbrev pub entry : Tree
 entry =
     array entry_type 1 B.struct
     (i32s NonNullable (1 ∷ []) []
-     ∷ array (text_type Nullable) 1 (B.varbin (record { bytes = buffer (codes "a") 0 })) (i32s NonNullable (0 ∷ 1 ∷ []) [] ∷ []) ∷ [])
+    ∷ array (text_type Nullable) 1 (B.varbin (record { bytes = buffer (codes "a") 0 })) (i32s NonNullable (0 ∷ 1 ∷ []) [] ∷ []) ∷ [])
 
 abbrev pub entries : Tree
 entries =
