@@ -11,3 +11,4 @@ pub mod RowsFit
 pub mod MergeFits
 pub mod VariantsFit
 pub mod RowsOfSound
+pub mod RowsAgree
