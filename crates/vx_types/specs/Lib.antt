@@ -9,3 +9,4 @@ pub mod Falls
 pub mod Words
 pub mod Refused
 pub mod Decimals
+pub mod Known
