@@ -10,3 +10,6 @@ pub mod Words
 pub mod Refused
 pub mod Decimals
 pub mod Known
+pub mod Value
+pub mod Fits
+pub mod Well

@@ -1,23 +1,22 @@
 -- The cause of each refusal of a tree.
-use Rattle.std.specs.Prelude.{ℕ, ◌≡◌, ◌≢◌, List, [], ◌∷◌, Option, Some, None, ◌⊎◌, slice_get}
+use Rattle.std.specs.Prelude.{ℕ, ◌≡◌, List, [], ◌∷◌, Option, Some, None, ◌⊎◌, slice_get}
 use Rattle.vx_buffer.specs.Buffer.{Buffer}
-use Rattle.vx_trees.specs.Rose.{label, below, count, roses_list}
+use Rattle.vx_trees.specs.Rose.{label, below, count, end, more}
 use Rattle.vx_trees.specs.Everywhere.{EverywhereBelow}
 use Rattle.vx_types.specs.Typ.{Typ}
 use Rattle.vx_array_tree.specs.Encoding.{Encoding}
-use Rattle.vx_array_tree.specs.Encoding as E
 use Rattle.vx_array_tree.specs.Metadata.{Metadata}
 use Rattle.vx_array_tree.specs.Normal.{IsNormalNode}
 use Rattle.vx_array_tree.specs.Place.{Place}
 use Rattle.vx_array_tree.specs.Sound.{IsSoundNode}
-use Rattle.vx_array_tree.specs.Table.{encoding_of, id_of, plan_of, IsShaped, Content}
+use Rattle.vx_array_tree.specs.Table.{encoding_of, id_of, plan_of, IsShaped, Takes, Content}
 use Rattle.vx_array_tree.specs.Tree.{Tree, Trees, places, rows_below}
 use Rattle.vx_wire_tree.specs.Codec.{Codec}
 use Rattle.vx_wire_tree.specs.Matches.{AllMatch}
 use Rattle.vx_wire_tree.specs.Placed.{Claim, HoldsSomewhere, Anywhere}
 use Rattle.vx_wire_tree.specs.Reads.{IsMetadata}
 use Rattle.vx_wire_tree.specs.Session.{SessionMeaning, Reader, shipped}
-use Rattle.vx_wire_tree.specs.Wire.{Wire, all_present}
+use Rattle.vx_wire_tree.specs.Wire.{Wire, Wires, all_present}
 
 -- ---- any node
 
@@ -58,22 +57,21 @@ MayStandFor (o ∷ os) [] = ⊥
 MayStandFor (Some b ∷ os) (x ∷ xs) = (x ≡ b) × MayStandFor os xs
 MayStandFor (None ∷ os) (x ∷ xs) = MayStandFor os xs
 
--- A node's first child is read by an encoding that is no list view.
-pub record HasOtherEntries (s : SessionMeaning) (w : Wire) : Type 0 where
-  pub entries : Wire
-  pub encoding : Encoding
-  pub entries_are : slice_get (roses_list (below w)) 0 ≡ Some entries
-  pub by : IsOf s entries encoding
-  pub other : encoding ≢ E.listview
+-- Nodes are read by these encodings, one by one.
+abbrev pub AreOf : SessionMeaning → Wires → List Encoding → Type 0
+AreOf s end es = es ≡ []
+AreOf s (more w ws) [] = ⊥
+AreOf s (more w ws) (e ∷ es) = IsOf s w e × AreOf s ws es
 
 -- The parts of a node whose metadata is read break its encoding's row: nothing is planned for such a type
 -- and so many children; what is planned may not stand, or the buffers are wrong, by their number or by one
--- that is there, whatever stands for those that are missing; or the entries of a map are no list view.
+-- that is there, whatever stands for those that are missing; or its children are read by encodings that may
+-- not stand below it.
 abbrev pub IsBroken : SessionMeaning → Encoding → Metadata → Claim
 IsBroken s e v w d n =
     (plan_of e d n v (count (below w)) ≡ None)
     ⊎ ((bs : List Buffer) → MayStandFor (label w).buffers bs → IsShaped e d n v bs (count (below w)) → ⊥)
-    ⊎ ((e ≡ E.map) × HasOtherEntries s w)
+    ⊎ ((es : List Encoding) × AreOf s (below w) es × (Takes e es → ⊥))
 
 -- A node's metadata is read, and its parts break its encoding's row.
 pub record HasBadShape (c : Codec) (s : SessionMeaning) (w : Wire) (d : Typ) (n : ℕ) : Type 0 where

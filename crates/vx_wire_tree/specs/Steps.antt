@@ -6,12 +6,10 @@ use Rattle.vx_types.specs.Known.{ExtMeaning}
 use Rattle.vx_types.specs.Typ.{Typ}
 use Rattle.vx_array_tree.specs.Body.{Body}
 use Rattle.vx_array_tree.specs.Encoding.{Encoding}
-use Rattle.vx_array_tree.specs.Encoding as E
 use Rattle.vx_array_tree.specs.Metadata.{Metadata}
 use Rattle.vx_array_tree.specs.Place.{Place}
-use Rattle.vx_array_tree.specs.Sound.{HasEntries}
-use Rattle.vx_array_tree.specs.Table.{body_of, plan_of, Content, IsShaped}
-use Rattle.vx_array_tree.specs.Tree.{Tree, Trees, rows_below}
+use Rattle.vx_array_tree.specs.Table.{body_of, plan_of, Takes, Content, IsShaped}
+use Rattle.vx_array_tree.specs.Tree.{Tree, Trees, encodings, rows_below}
 use Rattle.vx_wire_tree.specs.Codec.{Codec}
 use Rattle.vx_wire_tree.specs.Reads.{IsMetadata}
 
@@ -44,12 +42,12 @@ pub record HasParts (c : Codec) (x : ExtMeaning) (e : Encoding) (d : Typ) (n : �
   pub body_is : body_of e value bs ≡ Some body
   pub tree_is : t ≡ node (record { dtype = d; len = n; body = body }) ts
 
--- Parts break their encoding's row: buffers or what is planned may not stand, or the entries of a map are no
--- list view.
+-- Parts break their encoding's row: their shape is wrong, or the children are of encodings that may not stand
+-- below it.
 pub record HasWrongShape (c : Codec) (x : ExtMeaning) (e : Encoding) (d : Typ) (n : ℕ) (bytes : List ℕ) (bs : List Buffer) (ts : Trees) : Type 0 where
   pub value : Metadata
   pub metadata : IsMetadata c x e d bytes value
-  pub wrong : (IsShaped e d n value bs (count ts) → ⊥) ⊎ ((e ≡ E.map) × (HasEntries Body.map ts → ⊥))
+  pub wrong : (IsShaped e d n value bs (count ts) → ⊥) ⊎ (Takes e (encodings ts) → ⊥)
 
 -- Parts are as their encoding's row asks, and their content is broken.
 pub record HasWrongContent (c : Codec) (x : ExtMeaning) (e : Encoding) (d : Typ) (n : ℕ) (bytes : List ℕ) (bs : List Buffer) (ts : Trees) : Type 0 where
