@@ -9,3 +9,4 @@ pub mod RowsFit
 pub mod MergeFits
 pub mod VariantsFit
 pub mod RowsOfSound
+pub mod Built
