@@ -139,7 +139,7 @@ built_shaped e d n v bs b ts x s t =
     let m = built_metadata e d n v bs b ts x in
     let q = some_inj s.body b (sym s.body_is ∙ x.body_is) in
     let a : Allows (encoding_of b) d (metadata_of b (places ts)) (count ts) =
-        subst (λ (f : Encoding). Allows f d (metadata_of b (places ts)) (count ts)) (sym g) (subst (λ (z : Metadata). Allows e d z (count ts)) (sym m) s.allows) in
+    subst (λ (f : Encoding). Allows f d (metadata_of b (places ts)) (count ts)) (sym g) (subst (λ (z : Metadata). Allows e d z (count ts)) (sym m) s.allows) in
     let own : lifted b (places ts) ≡ places ts = own_places b d (places ts) (count ts) (built_normal e d n v (count ts) bs b (places ts) x.body_is x.planned) a in
     record {
       fair = subst (λ (f : Encoding). IsFair f (metadata_of b (places ts))) (sym g) (subst (λ (z : Metadata). IsFair e z) (sym m) x.fair);

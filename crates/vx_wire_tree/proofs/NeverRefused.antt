@@ -1,5 +1,5 @@
 -- Where a wire tree tells an array, no refusal has its cause.
-use Rattle.std.proofs.Common.{ℕ, zero, suc, ◌≡◌, ◌⊎◌, inl, inr, List, [], ◌∷◌, Option, Some, None, refl, sym, ap, ◌∙◌, subst, slice_get}
+use Rattle.std.proofs.Common.{ℕ, zero, suc, ◌≡◌, inl, inr, List, [], ◌∷◌, Option, Some, None, refl, sym, ap, ◌∙◌, subst, slice_get}
 use Rattle.vx_buffer.specs.Buffer.{Buffer}
 use Rattle.vx_trees.specs.Rose.{Rose, Roses, node, end, more, label, below, count, roses_list}
 use Rattle.vx_trees.specs.Everywhere.{Everywhere, EverywhereBelow}
@@ -13,10 +13,10 @@ use Rattle.vx_array_tree.specs.Sound.{IsSound, IsSoundNode, metadata_in}
 use Rattle.vx_array_tree.specs.Table.{encoding_of, buffers_of, body_of, plan_of, Allows, IsShaped, Takes, Content}
 use Rattle.vx_array_tree.specs.Tree.{Head, Tree, Trees, places, encodings, rows_below}
 use Rattle.vx_array_tree.proofs.Options.{some_inj}
-use Rattle.vx_wire_tree.specs.Causes.{LacksId, LacksBuffer, IsReadBy, IsOf, IsUnregistered, HasBadMetadata, MayStandFor, AreOf, IsBroken, HasBadShape, HasChildren, HasBadContent, Refusal, out_of_bounds, unknown_index, unknown_encoding, bad_metadata, bad_shape, bad_content, RefusesTree}
+use Rattle.vx_wire_tree.specs.Causes.{LacksId, LacksBuffer, IsOf, IsUnregistered, HasBadMetadata, MayStandFor, AreOf, IsBroken, HasBadShape, HasChildren, HasBadContent, Refusal, out_of_bounds, unknown_index, unknown_encoding, bad_metadata, bad_shape, bad_content, RefusesTree}
 use Rattle.vx_wire_tree.specs.Codec.{Codec, IsLawful}
 use Rattle.vx_wire_tree.specs.Matches.{IsEncodedNode, IsNodeBy, Matches, AllMatch}
-use Rattle.vx_wire_tree.specs.Placed.{IsPlanned, IsPlannedBy, HasPlan, IsChild, Claim, HoldsAt, HoldsSomewhere, HoldsUnder}
+use Rattle.vx_wire_tree.specs.Placed.{IsPlanned, IsPlannedBy, HasPlan, IsChild, Claim, HoldsAt, HoldsUnder}
 use Rattle.vx_wire_tree.specs.Reads.{IsMetadata}
 use Rattle.vx_wire_tree.specs.Session.{SessionMeaning, Reader, shipped, IsShippedReader, IsShipped}
 use Rattle.vx_wire_tree.specs.Tells.{Tells}

@@ -1,5 +1,5 @@
 -- The conditions under which what is written of an array is read back.
-use Rattle.std.specs.Prelude.{ℕ, ◌≡◌, Some}
+use Rattle.std.specs.Prelude.{◌≡◌, Some}
 use Rattle.vx_trees.specs.Everywhere.{Everywhere}
 use Rattle.vx_array_tree.specs.Sound.{metadata_in}
 use Rattle.vx_array_tree.specs.Table.{encoding_of, id_of}

@@ -1,5 +1,5 @@
 -- The wire tree of an array, and the array that is read back from it.
-use Rattle.std.specs.Prelude.{ℕ, Some}
+use Rattle.std.specs.Prelude.{Some}
 use Rattle.vx_trees.specs.Rose.{node, end, more, label}
 use Rattle.vx_array_tree.specs.Canon.{canon_at}
 use Rattle.vx_array_tree.specs.Sound.{metadata_in}
