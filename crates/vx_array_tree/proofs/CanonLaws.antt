@@ -20,6 +20,7 @@ use Rattle.vx_array_tree.specs.Table.{encoding_of, metadata_of, plan_of, lifted,
 use Rattle.vx_array_tree.specs.Tree.{Head, Tree, Trees, places, encodings, rows_of, rows_below}
 use Rattle.vx_array_tree.proofs.Bodies.{cleared_encoding, normal_cleared}
 use Rattle.vx_array_tree.proofs.CanonPlaces.{Planned, planned_at, types_at, kids_metadata, kids_places, canon_count, canon_encodings}
+use Rattle.vx_array_tree.proofs.NodeLaws.{planned_places}
 use Rattle.vx_array_tree.proofs.Plans.{exactly_is}
 use Rattle.vx_array_tree.proofs.Retyped.{IsRetyped, AreRetyped, retyped_same, own_places}
 use Rattle.vx_array_tree.proofs.RetypedParts.{rows_retyped, holds_retyped, content_retyped, allows_retyped}
@@ -123,8 +124,7 @@ mutual
 
 -- A sound normal node's children are read back at their own types.
 pub own_types : (h : Head) (ts : Trees) → IsSoundNode h ts → IsNormalNode h ts → child_types h.dtype h ts ≡ types_in (places ts)
-own_types h ts x n =
-    ap (λ o. planned_types o ts) (x.planned ∙ ap (λ (ps : List Place). Some ps) (own_places h.body h.dtype (places ts) (count ts) n x.allows))
+own_types h ts x n = ap (λ o. planned_types o ts) (planned_places h ts x n)
 
 mutual
   -- A sound normal array is read back as itself.

@@ -1,8 +1,10 @@
 pub mod Options
+pub mod Identifiers
 pub mod Bodies
 pub mod Plans
 pub mod Retyped
 pub mod RetypedParts
+pub mod NodeLaws
 pub mod CanonPlaces
 pub mod CanonLaws
 pub mod RowsFit

@@ -45,7 +45,8 @@ before_front p ps n (suc k) qs e =
     let m = mapped (λ (rs : List Place). p ∷ rs) (before_validity ps n k) qs e in
     record { others = m.0; some = k; is = m.1; rest = m.2 }
 
-bufferless_is : (x : Body) (bs : List Buffer) (b : Body) → bufferless x bs ≡ Some b → b ≡ x
+-- A body that has no buffers is built of none.
+pub bufferless_is : (x : Body) (bs : List Buffer) (b : Body) → bufferless x bs ≡ Some b → b ≡ x
 bufferless_is x [] b e = let q : b ≡ x = cc in q
 bufferless_is x (c ∷ bs) b e = absurd (cc)
 

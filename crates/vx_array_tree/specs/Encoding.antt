@@ -1,4 +1,5 @@
 -- The encodings.
+use Rattle.std.specs.Prelude.{List, [], ◌∷◌}
 
 -- An encoding is a way to lay out an array's rows in buffers and in further arrays.
 pub data Encoding : Type 0 where
@@ -17,3 +18,7 @@ pub data Encoding : Type 0 where
   variant : Encoding
   ext : Encoding
   dict : Encoding
+
+-- Each of them, once.
+abbrev pub all : List Encoding
+all = null ∷ bool ∷ primitive ∷ decimal ∷ varbin ∷ varbinview ∷ list ∷ listview ∷ fixed_size_list ∷ map ∷ struct ∷ union ∷ variant ∷ ext ∷ dict ∷ []

@@ -1,5 +1,5 @@
 -- The table of encodings: for each of them, what its own file says. Nothing else is said of an encoding here.
-use Rattle.std.specs.Prelude.{ℕ, ◌≡◌, List, [], ◌∷◌, Option, Some, None, option_map}
+use Rattle.std.specs.Prelude.{ℕ, ◌≡◌, List, [], ◌∷◌, Option, Some, None, option_map, bytes_eq, if◌then◌else◌}
 use Rattle.vx_buffer.specs.Buffer.{Buffer}
 use Rattle.vx_types.specs.Typ.{Typ}
 use Rattle.vx_array_tree.specs.Encoding.{Encoding}
@@ -43,6 +43,15 @@ id_of E.union = Unions.id
 id_of E.variant = Variants.id
 id_of E.ext = Exts.id
 id_of E.dict = Dicts.id
+
+-- The first of these encodings that has an identifier, if any.
+abbrev pub named_in : List ℕ → List Encoding → Option Encoding
+named_in id [] = None
+named_in id (e ∷ es) = if bytes_eq id (id_of e) then Some e else named_in id es
+
+-- The encoding of an identifier, if one has it.
+abbrev pub encoding_named : List ℕ → Option Encoding
+encoding_named id = named_in id E.all
 
 -- The encoding that a node is of.
 abbrev pub encoding_of : Body → Encoding

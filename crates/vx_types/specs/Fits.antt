@@ -1,8 +1,7 @@
 -- When a value is one of a type.
 use Rattle.std.specs.Prelude.{ℕ, ◌≡◌, List, [], ◌∷◌, Option, Some, None, ◌==◌, if◌then◌else◌}
 use Rattle.vx_trees.specs.Rose.{Rose, Roses, node, end, more, count}
-use Rattle.vx_types.specs.Kind.{Kind, boolean, primitive, decimal as decimal_kind, utf8 as utf8_kind, binary as binary_kind, list, fixed_size_list, structure, union as union_kind, map, variant as variant_kind, extension}
-use Rattle.vx_types.specs.Kind.{null as null_kind}
+use Rattle.vx_types.specs.Kind.{Kind, null as null_kind, boolean, primitive, decimal as decimal_kind, utf8 as utf8_kind, binary as binary_kind, list, fixed_size_list, structure, union as union_kind, map, variant as variant_kind, extension}
 use Rattle.vx_types.specs.Typ.{Typ}
 use Rattle.vx_types.specs.Words.{nullability, entries}
 use Rattle.vx_types.specs.Numbers.{kind_of}
@@ -16,16 +15,19 @@ abbrev mutual
   bare (node (extension id bs) ts) = bare_first ts
   bare (node k ts) = node k ts
 
+  -- The same of the first of these types.
   pub bare_first : Roses Kind → Typ
   bare_first end = node null_kind end
   bare_first (more t ts) = bare t
 
--- The member of a union that a tag names: the first, if any.
+-- What stands under a tag in a list beside the tags: the first, if any.
 abbrev pub member : {A : Type 0} → ℕ → List ℕ → Roses A → Option (Rose A)
 member tag [] ts = None
 member tag (id ∷ ids) end = None
 member tag (id ∷ ids) (more t ts) = if tag == id then Some t else member tag ids ts
 
+-- The type of flags; the type of numbers of a kind; a type of decimals; the types of texts and of bytes; the
+-- type of variants.
 abbrev pub IsBoolean : Typ → Type 0
 IsBoolean (node (boolean m) ts) = Unit {0}
 IsBoolean _ = ⊥
