@@ -21,21 +21,16 @@ use Rattle.vx_array_tree.specs.Refused.{IsWellShaped}
 use Rattle.vx_array_tree.specs.Sound.{IsSoundNode, metadata_in}
 use Rattle.vx_array_tree.specs.Table.{encoding_of, metadata_of, IsFair, buffers_of, bufferless, body_of, plan_of, lifted, Allows, Holds, IsShaped, Takes, Content, IsNormalBody}
 use Rattle.vx_array_tree.specs.Tree.{Head, Trees, places, encodings, rows_below}
+use Rattle.vx_array_tree.proofs.NodeLaws.{body_encoding}
 use Rattle.vx_array_tree.proofs.Options.{some_inj, mapped}
 use Rattle.vx_array_tree.proofs.Plans.{exactly_is, metadata_again}
 use Rattle.vx_array_tree.proofs.Retyped.{own_places}
 
--- ---- a body is of the encoding that it was built by, with the buffers that it was built of
+-- ---- a body has the buffers that it was built of
 
-pub record IsBuilt (e : Encoding) (bs : List Buffer) (b : Body) : Type 0 where
-  pub encoding : encoding_of b ≡ e
-  pub buffers : buffers_of b ≡ bs
-
-bufferless_built : (x : Body) (bs : List Buffer) (b : Body) → buffers_of x ≡ [] → bufferless x bs ≡ Some b → IsBuilt (encoding_of x) bs b
-bufferless_built x [] b n e =
-    let q : x ≡ b = some_inj x b e in
-    record { encoding = ap (λ z. encoding_of z) (sym q); buffers = ap (λ z. buffers_of z) (sym q) ∙ n }
-bufferless_built x (c ∷ bs) b n e = absurd (cc)
+bufferless_buffers : (x : Body) (bs : List Buffer) (b : Body) → buffers_of x ≡ [] → bufferless x bs ≡ Some b → buffers_of b ≡ bs
+bufferless_buffers x [] b n e = ap (λ z. buffers_of z) (sym (some_inj x b e)) ∙ n
+bufferless_buffers x (c ∷ bs) b n e = absurd (cc)
 
 data_buffers : (b : Buffer) (bs : List Buffer) → VarBinViews.buffers_of (VarBinViews.data_of b bs) ≡ b ∷ bs
 data_buffers b [] = refl
@@ -65,23 +60,23 @@ view_buffers : (bs : List Buffer) (x : VarBinViews.Data) → VarBinViews.body_of
 view_buffers [] x e = absurd (cc)
 view_buffers (b ∷ bs) x e = ap (λ y. VarBinViews.buffers_of y) (sym (some_inj (VarBinViews.data_of b bs) x e)) ∙ data_buffers b bs
 
-pub built : (e : Encoding) (v : Metadata) (bs : List Buffer) (b : Body) → body_of e v bs ≡ Some b → IsBuilt e bs b
-built E.null M.empty bs b q = bufferless_built B.null bs b refl q
-built E.bool (M.bool v) bs b q = let m = mapped B.bool (Bools.body_of v bs) b q in rw (m.1) (record { encoding = refl; buffers = bool_buffers v bs m.0 m.2 })
-built E.primitive M.empty bs b q = let m = mapped B.primitive (Primitives.body_of bs) b q in rw (m.1) (record { encoding = refl; buffers = primitive_buffers bs m.0 m.2 })
-built E.decimal (M.decimal v) bs b q = let m = mapped B.decimal (Decimals.body_of v bs) b q in rw (m.1) (record { encoding = refl; buffers = decimal_buffers v bs m.0 m.2 })
-built E.varbin (M.varbin v) bs b q = let m = mapped B.varbin (VarBins.body_of bs) b q in rw (m.1) (record { encoding = refl; buffers = varbin_buffers bs m.0 m.2 })
-built E.varbinview M.empty bs b q = let m = mapped B.varbinview (VarBinViews.body_of bs) b q in rw (m.1) (record { encoding = refl; buffers = view_buffers bs m.0 m.2 })
-built E.list (M.list v) bs b q = bufferless_built B.list bs b refl q
-built E.listview (M.listview v) bs b q = bufferless_built (B.listview _) bs b refl q
-built E.fixed_size_list M.empty bs b q = bufferless_built B.fixed_size_list bs b refl q
-built E.map M.empty bs b q = bufferless_built B.map bs b refl q
-built E.struct M.empty bs b q = bufferless_built B.struct bs b refl q
-built E.union M.empty bs b q = bufferless_built B.union bs b refl q
-built E.variant (M.variant v) bs b q = bufferless_built B.variant bs b refl q
-built E.ext M.empty bs b q = bufferless_built B.ext bs b refl q
-built E.dict (M.dict v) bs b q = bufferless_built (B.dict (Dicts.body_of v)) bs b refl q
-built _ v bs b q = absurd (cc)
+pub body_buffers : (e : Encoding) (v : Metadata) (bs : List Buffer) (b : Body) → body_of e v bs ≡ Some b → buffers_of b ≡ bs
+body_buffers E.null M.empty bs b q = bufferless_buffers B.null bs b refl q
+body_buffers E.bool (M.bool v) bs b q = let m = mapped B.bool (Bools.body_of v bs) b q in rw (m.1) (bool_buffers v bs m.0 m.2)
+body_buffers E.primitive M.empty bs b q = let m = mapped B.primitive (Primitives.body_of bs) b q in rw (m.1) (primitive_buffers bs m.0 m.2)
+body_buffers E.decimal (M.decimal v) bs b q = let m = mapped B.decimal (Decimals.body_of v bs) b q in rw (m.1) (decimal_buffers v bs m.0 m.2)
+body_buffers E.varbin (M.varbin v) bs b q = let m = mapped B.varbin (VarBins.body_of bs) b q in rw (m.1) (varbin_buffers bs m.0 m.2)
+body_buffers E.varbinview M.empty bs b q = let m = mapped B.varbinview (VarBinViews.body_of bs) b q in rw (m.1) (view_buffers bs m.0 m.2)
+body_buffers E.list (M.list v) bs b q = bufferless_buffers B.list bs b refl q
+body_buffers E.listview (M.listview v) bs b q = bufferless_buffers (B.listview _) bs b refl q
+body_buffers E.fixed_size_list M.empty bs b q = bufferless_buffers B.fixed_size_list bs b refl q
+body_buffers E.map M.empty bs b q = bufferless_buffers B.map bs b refl q
+body_buffers E.struct M.empty bs b q = bufferless_buffers B.struct bs b refl q
+body_buffers E.union M.empty bs b q = bufferless_buffers B.union bs b refl q
+body_buffers E.variant (M.variant v) bs b q = bufferless_buffers B.variant bs b refl q
+body_buffers E.ext M.empty bs b q = bufferless_buffers B.ext bs b refl q
+body_buffers E.dict (M.dict v) bs b q = bufferless_buffers (B.dict (Dicts.body_of v)) bs b refl q
+body_buffers _ v bs b q = absurd (cc)
 
 -- ---- and of the form in which it is read
 
@@ -128,15 +123,15 @@ pub record IsBuiltOver (e : Encoding) (d : Typ) (n : ℕ) (v : Metadata) (bs : L
   pub planned : plan_of e d n v (count ts) ≡ Some (places ts)
 
 -- Its metadata is what it was built by.
-pub built_metadata : (e : Encoding) (d : Typ) (n : ℕ) (v : Metadata) (bs : List Buffer) (b : Body) (ts : Trees) → IsBuiltOver e d n v bs b ts → metadata_of b (places ts) ≡ v
-built_metadata e d n v bs b ts x = metadata_again e d n v (count ts) bs b (places ts) x.body_is x.planned
+pub own_metadata : (e : Encoding) (d : Typ) (n : ℕ) (v : Metadata) (bs : List Buffer) (b : Body) (ts : Trees) → IsBuiltOver e d n v bs b ts → metadata_of b (places ts) ≡ v
+own_metadata e d n v bs b ts x = metadata_again e d n v (count ts) bs b (places ts) x.body_is x.planned
 
 -- It is of the right shape where its parts are, and its encoding takes the children.
 pub built_shaped : (e : Encoding) (d : Typ) (n : ℕ) (v : Metadata) (bs : List Buffer) (b : Body) (ts : Trees) → IsBuiltOver e d n v bs b ts
     → IsShaped e d n v bs (count ts) → Takes e (encodings ts) → IsWellShaped (record { dtype = d; len = n; body = b }) ts
 built_shaped e d n v bs b ts x s t =
-    let g = (built e v bs b x.body_is).encoding in
-    let m = built_metadata e d n v bs b ts x in
+    let g = body_encoding e v bs b x.body_is in
+    let m = own_metadata e d n v bs b ts x in
     let q = some_inj s.body b (sym s.body_is ∙ x.body_is) in
     let a : Allows (encoding_of b) d (metadata_of b (places ts)) (count ts) =
     subst (λ (f : Encoding). Allows f d (metadata_of b (places ts)) (count ts)) (sym g) (subst (λ (z : Metadata). Allows e d z (count ts)) (sym m) s.allows) in
@@ -153,8 +148,8 @@ built_shaped e d n v bs b ts x s t =
 pub shaped_built : (e : Encoding) (d : Typ) (n : ℕ) (v : Metadata) (bs : List Buffer) (b : Body) (ts : Trees) → IsBuiltOver e d n v bs b ts
     → IsWellShaped (record { dtype = d; len = n; body = b }) ts → IsShaped e d n v bs (count ts) × Takes e (encodings ts)
 shaped_built e d n v bs b ts x s =
-    let g = (built e v bs b x.body_is).encoding in
-    let m = built_metadata e d n v bs b ts x in (
+    let g = body_encoding e v bs b x.body_is in
+    let m = own_metadata e d n v bs b ts x in (
       record {
         body = b;
         body_is = x.body_is;
@@ -168,5 +163,5 @@ shaped_built e d n v bs b ts x s =
 pub shaped_sound : (h : Head) (ts : Trees) → IsWellShaped h ts → Content h.dtype h.len h.body (rows_below ts) → IsSoundNode h ts
 shaped_sound h ts s c = record { fair = s.fair; planned = s.planned; allows = s.allows; takes = s.takes; holds = s.holds; content = c }
 
-pub sound_shaped : (h : Head) (ts : Trees) → IsSoundNode h ts → IsWellShaped h ts
-sound_shaped h ts s = record { fair = s.fair; planned = s.planned; allows = s.allows; takes = s.takes; holds = s.holds }
+pub sound_well_shaped : (h : Head) (ts : Trees) → IsSoundNode h ts → IsWellShaped h ts
+sound_well_shaped h ts s = record { fair = s.fair; planned = s.planned; allows = s.allows; takes = s.takes; holds = s.holds }

@@ -9,7 +9,8 @@ use Rattle.vx_array_tree.specs.Place.{Place}
 use Rattle.vx_array_tree.specs.Sound.{IsSound}
 use Rattle.vx_array_tree.specs.Table.{plan_of}
 use Rattle.vx_array_tree.specs.Tree.{Tree, Trees, places}
-use Rattle.vx_array_tree.proofs.Built.{built, built_normal, built_metadata, IsBuiltOver}
+use Rattle.vx_array_tree.proofs.Built.{body_buffers, built_normal, own_metadata, IsBuiltOver}
+use Rattle.vx_array_tree.proofs.NodeLaws.{body_encoding}
 use Rattle.vx_wire_tree.specs.Codec.{Codec, IsLawful}
 use Rattle.vx_wire_tree.specs.Causes.{HasChildren}
 use Rattle.vx_wire_tree.specs.Matches.{IsNodeBy, IsEncodedNode, AllMatch}
@@ -30,12 +31,11 @@ module _ (c : Codec) (s : SessionMeaning) (law : IsLawful c s) where
       let plan : plan_of e d n x.value (count ts) ≡ Some (places ts) =
       (λ j. plan_of e d n (sym same j) (all_count c s ws ts k.matched j)) ∙ p.plan ∙ ap (λ (qs : List Place). Some qs) (sym k.placed) in
       let over : IsBuiltOver e d n x.value bs x.body ts = record { fair = x.metadata.fair; body_is = x.body_is; planned = plan } in
-      let y = built e x.value bs x.body x.body_is in
       let told = node (record { dtype = d; len = n; body = x.body }) ts in
       let m : IsEncodedNode c s e w told (λ us. AllMatch c s ws us) = record {
-        encoding = y.encoding;
-        metadata = subst (λ (v : Metadata). IsMetadata c s.ext e d w.metadata v) (sym (built_metadata e d n x.value bs x.body ts over)) x.metadata;
-        buffers = b ∙ ap (λ zs. all_present zs) (sym y.buffers);
+        encoding = body_encoding e x.value bs x.body x.body_is;
+        metadata = subst (λ (v : Metadata). IsMetadata c s.ext e d w.metadata v) (sym (own_metadata e d n x.value bs x.body ts over)) x.metadata;
+        buffers = b ∙ ap (λ zs. all_present zs) (sym (body_buffers e x.value bs x.body x.body_is));
         children = k.matched;
       } in
       let all : Tells c s (node w ws) d n told = record {

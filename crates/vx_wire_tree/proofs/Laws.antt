@@ -27,10 +27,6 @@ use Rattle.vx_wire_tree.proofs.NeverRefused as NeverRefused
 use Rattle.vx_wire_tree.proofs.ReadAgain as ReadAgain
 use Rattle.vx_wire_tree.proofs.Unique as Unique
 
--- No two encodings have one identifier.
-pub distinct_ids : (e f : Encoding) → id_of e ≡ id_of f → e ≡ f
-distinct_ids e f q = ReadAgain.distinct_ids e f q
-
 module _ (c : Codec) (s : SessionMeaning) where
   -- A sound normal array is read back as itself, and written as what is read back.
   pub canon_own : (t : Tree) → IsSound t → IsNormal t → canon s t ≡ t

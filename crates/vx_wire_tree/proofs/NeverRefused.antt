@@ -12,6 +12,7 @@ use Rattle.vx_array_tree.specs.Place.{Place, place}
 use Rattle.vx_array_tree.specs.Sound.{IsSound, IsSoundNode, metadata_in}
 use Rattle.vx_array_tree.specs.Table.{encoding_of, buffers_of, body_of, plan_of, Allows, IsShaped, Takes, Content}
 use Rattle.vx_array_tree.specs.Tree.{Head, Tree, Trees, places, encodings, rows_below}
+use Rattle.vx_array_tree.proofs.NodeLaws.{planned_places, own_body}
 use Rattle.vx_array_tree.proofs.Options.{some_inj}
 use Rattle.vx_wire_tree.specs.Causes.{LacksId, LacksBuffer, IsOf, IsUnregistered, HasBadMetadata, MayStandFor, AreOf, IsBroken, HasBadShape, HasChildren, HasBadContent, Refusal, out_of_bounds, unknown_index, unknown_encoding, bad_metadata, bad_shape, bad_content, RefusesTree}
 use Rattle.vx_wire_tree.specs.Codec.{Codec, IsLawful}
@@ -21,7 +22,7 @@ use Rattle.vx_wire_tree.specs.Reads.{IsMetadata}
 use Rattle.vx_wire_tree.specs.Session.{SessionMeaning, Reader, shipped, IsShippedReader, IsShipped}
 use Rattle.vx_wire_tree.specs.Tells.{Tells}
 use Rattle.vx_wire_tree.specs.Wire.{WireHead, Wire, Wires, all_present, IsWholeNode, IsWhole}
-use Rattle.vx_wire_tree.proofs.Unique.{all_present_inj, planned_places, own_body, all_count, one_metadata, one_tree_each}
+use Rattle.vx_wire_tree.proofs.Unique.{all_present_inj, all_count, one_metadata, one_tree_each}
 
 -- ---- nothing is missing
 

@@ -16,7 +16,7 @@ use Rattle.vx_array_tree.specs.Table.{encoding_of, id_of}
 use Rattle.vx_array_tree.specs.Tree.{Head, Tree, Trees, places}
 use Rattle.vx_array_tree.proofs.Bodies.{cleared_encoding, cleared_buffers}
 use Rattle.vx_array_tree.proofs.CanonPlaces.{Planned, planned_at, types_at, kids_metadata}
-use Rattle.vx_array_tree.proofs.Options.{some_inj}
+use Rattle.vx_array_tree.proofs.Identifiers.{distinct_ids}
 use Rattle.vx_array_tree.proofs.Retyped.{IsRetyped, AreRetyped, retyped_same}
 use Rattle.vx_wire_tree.specs.Codec.{Codec, IsLawful}
 use Rattle.vx_wire_tree.specs.Fields.{meant, told, nullable_if, is_nullable}
@@ -76,35 +76,6 @@ module _ (c : Codec) (s : SessionMeaning) (law : IsLawful c s) where
 
   pub written_matches : (t : Tree) → IsSound t → ReadsBack s t → Matches c s (wire c s t) (canon s t)
   written_matches t x b = canon_matches (label t).dtype t x b (retyped_same (label t).dtype)
-
--- ---- no two encodings have one identifier
-
-abbrev named_in : List ℕ → List Encoding → Option Encoding
-named_in id [] = None
-named_in id (e ∷ es) = if bytes_eq id (id_of e) then Some e else named_in id es
-
-abbrev encoding_named : List ℕ → Option Encoding
-encoding_named id = named_in id (E.null ∷ E.bool ∷ E.primitive ∷ E.decimal ∷ E.varbin ∷ E.varbinview ∷ E.list ∷ E.listview ∷ E.fixed_size_list ∷ E.map ∷ E.struct ∷ E.union ∷ E.variant ∷ E.ext ∷ E.dict ∷ [])
-
-named_again : (e : Encoding) → encoding_named (id_of e) ≡ Some e
-named_again E.null = refl
-named_again E.bool = refl
-named_again E.primitive = refl
-named_again E.decimal = refl
-named_again E.varbin = refl
-named_again E.varbinview = refl
-named_again E.list = refl
-named_again E.listview = refl
-named_again E.fixed_size_list = refl
-named_again E.map = refl
-named_again E.struct = refl
-named_again E.union = refl
-named_again E.variant = refl
-named_again E.ext = refl
-named_again E.dict = refl
-
-pub distinct_ids : (e f : Encoding) → id_of e ≡ id_of f → e ≡ f
-distinct_ids e f q = some_inj e f (sym (named_again e) ∙ ap (λ id. encoding_named id) q ∙ named_again f)
 
 -- ---- the conditions on reading back are met
 

@@ -10,9 +10,7 @@ use Rattle.vx_array_tree.specs.Place.{place}
 use Rattle.vx_array_tree.specs.Sound.{IsSound, IsSoundNode, metadata_in}
 use Rattle.vx_array_tree.specs.Table.{encoding_of, body_of, buffers_of, plan_of}
 use Rattle.vx_array_tree.specs.Tree.{Head, Tree, Trees, places}
-use Rattle.vx_array_tree.proofs.Bodies.{body_again, normal_cleared}
-use Rattle.vx_array_tree.proofs.Options.{some_inj}
-use Rattle.vx_array_tree.proofs.Retyped.{own_places}
+use Rattle.vx_array_tree.proofs.NodeLaws.{IsSameNode, same_head, same_places}
 use Rattle.vx_wire_tree.specs.Codec.{Codec, IsLawful, IsLawfulAt}
 use Rattle.vx_wire_tree.specs.Fields.{meant}
 use Rattle.vx_wire_tree.specs.Matches.{IsEncodedNode, IsNodeBy, Matches, AllMatch}
@@ -29,15 +27,6 @@ all_present_inj (x ∷ xs) (y ∷ ys) e =
     let a : x ≡ y = cc in
     let b : all_present xs ≡ all_present ys = cc in
     λ i. a i ∷ all_present_inj xs ys b i
-
--- Of a sound and normal node the children stand where they are planned.
-pub planned_places : (h : Head) (ts : Trees) → IsSoundNode h ts → IsNormalNode h ts
-    → plan_of (encoding_of h.body) h.dtype h.len (metadata_in h ts) (count ts) ≡ Some (places ts)
-planned_places h ts s n = s.planned ∙ ap (λ ps. Some ps) (own_places h.body h.dtype (places ts) (count ts) n s.allows)
-
--- A normal node's metadata and buffers give back all that it holds.
-pub own_body : (h : Head) (ts : Trees) → IsNormalNode h ts → body_of (encoding_of h.body) (metadata_in h ts) (buffers_of h.body) ≡ Some h.body
-own_body h ts n = body_again h.body (places ts) ∙ ap (λ b. Some b) (normal_cleared h.body h.dtype (places ts) n)
 
 -- The first of equal lists of places.
 same_place : (t u : Tree) (ts us : Trees) → places (more t ts) ≡ places (more u us)
@@ -67,13 +56,17 @@ module _ (c : Codec) (s : SessionMeaning) where
       → IsSoundNode h ts → IsSoundNode g us → IsNormalNode h ts → IsNormalNode g us → h.dtype ≡ g.dtype → h.len ≡ g.len
       → count ts ≡ count us → (Below ts → Below us → places ts ≡ places us → ts ≡ us) → node h ts ≡ node g us
   encoded_unique e law w h g ts us Below a b sh sg nh ng d n k kids =
-      let q : encoding_of h.body ≡ encoding_of g.body = a.encoding ∙ sym b.encoding in
-      let m = one_metadata e law h.dtype g.dtype w.metadata (metadata_in h ts) (metadata_in g us) d a.metadata b.metadata in
-      let r = all_present_inj (buffers_of h.body) (buffers_of g.body) (sym a.buffers ∙ b.buffers) in
-      let body = some_inj h.body g.body (sym (own_body h ts nh) ∙ (λ i. body_of (q i) (m i) (r i)) ∙ own_body g us ng) in
-      let ps = some_inj (places ts) (places us) (sym (planned_places h ts sh nh) ∙ (λ i. plan_of (q i) (d i) (n i) (m i) (k i)) ∙ planned_places g us sg ng) in
-      let below = kids a.children b.children ps in
-      λ i. node (record { dtype = d i; len = n i; body = body i }) (below i)
+      let same : IsSameNode h g ts us = record {
+        dtype = d;
+        len = n;
+        encoding = a.encoding ∙ sym b.encoding;
+        metadata = one_metadata e law h.dtype g.dtype w.metadata (metadata_in h ts) (metadata_in g us) d a.metadata b.metadata;
+        buffers = all_present_inj (buffers_of h.body) (buffers_of g.body) (sym a.buffers ∙ b.buffers);
+        children = k;
+      } in
+      let head = same_head h g ts us same nh ng in
+      let below = kids a.children b.children (same_places h g ts us same sh sg nh ng) in
+      λ i. node (head i) (below i)
 
   module _ (law : IsLawful c s) where
     node_unique : (r : Option Reader) → IsShippedReader r → (id : List ℕ) → s.reader id ≡ r → (w : WireHead) (ws : Wires) (h g : Head) (ts us : Trees)
