@@ -1,23 +1,11 @@
 //! Types of each kind, and the refusals of their parts.
 
-use crate::blob::Blob;
-use crate::decimal::{DecimalDType, DecimalType};
-use crate::dtype::DType;
-use crate::dtypes::DTypes;
-use crate::error::TypeError;
-use crate::ext::ExtDType;
-use crate::id::Id;
-use crate::map::MapDType;
-use crate::name::Name;
-use crate::names::Names;
-use crate::nullability::Nullability;
-use crate::ptype::PType;
-use crate::struct_fields::StructFields;
-use crate::type_ids::TypeIds;
-use crate::type_ref::TypeRef;
-use crate::union_variants::UnionVariants;
 use std::alloc::Global;
 use std::test::Fail;
+use vx_types::{
+    Blob, DType, DTypes, DecimalDType, DecimalType, ExtDType, Id, MapDType, Name, Names,
+    Nullability, PType, StructFields, TypeError, TypeIds, TypeRef, UnionVariants,
+};
 
 fn two_names(alloc: Global) -> Result<Names, TypeError> {
     let mut names = Names::new(alloc);

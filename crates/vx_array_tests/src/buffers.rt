@@ -1,8 +1,10 @@
 //! Tests of slices, alignments and lists of buffers, and of the texts of errors.
 
-use crate::{Alignment, BufferError, BufferHandle, BufferHandles, ByteBuffer, ByteBuffers};
 use std::hash::{FoldHasher, Hasher};
 use std::test::Fail;
+use vx_buffer::{
+    Alignment, BufferError, BufferHandle, BufferHandles, ByteBuffer, ByteBuffers,
+};
 
 #[test]
 fn alignments_are_powers_of_two(rt: HostRuntime) -> Result<(), Fail> {

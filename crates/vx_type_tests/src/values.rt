@@ -1,15 +1,8 @@
-//! Values from outside, and one call of each function that takes memory.
+//! Texts, identifiers and kinds of numbers: values from outside, and calls that take memory.
 
-use crate::blob::Blob;
-use crate::dtype::DType;
-use crate::id::Id;
-use crate::ids::Ids;
-use crate::name::Name;
-use crate::nullability::Nullability;
-use crate::ptype::PType;
-use crate::value::PValue;
 use std::collections::HashMap;
 use std::test::Fail;
+use vx_types::{Blob, DType, Id, Ids, Name, Nullability, PType, PValue};
 
 #[test]
 fn numbers_have_widths_and_codes(rt: HostRuntime) {

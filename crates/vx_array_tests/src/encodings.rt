@@ -1,10 +1,10 @@
 //! Tests of one level: planned, built and written; and of the texts of errors.
 
-use crate::{ArrayHead, Encoding, EncodingError, build, metadata, plan};
 use std::alloc::Global;
 use std::test::Fail;
 use vx_arrays::{Array, Arrays};
 use vx_buffer::{Alignment, BufferHandle, BufferHandles, ByteBuffer};
+use vx_encodings::{ArrayHead, Encoding, EncodingError, build, metadata, plan};
 use vx_types::{Blob, DType, Id, Nullability, PType};
 
 fn head_of(

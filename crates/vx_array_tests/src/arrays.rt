@@ -1,8 +1,8 @@
 //! Tests of arrays of numbers and of nulls: their rows, their parts and their refusals, with the texts.
 
-use crate::{Array, ArrayError, Arrays, NullArray, PrimitiveArray, RowValue};
 use std::alloc::Global;
 use std::test::Fail;
+use vx_arrays::{Array, ArrayError, Arrays, NullArray, PrimitiveArray, RowValue};
 use vx_buffer::{Alignment, BufferHandle, ByteBuffer};
 use vx_types::{DType, Nullability, PType, PValue};
 

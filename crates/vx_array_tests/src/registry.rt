@@ -1,6 +1,8 @@
-use crate::{ArrayContext, ArraySession, ReadContext, VortexSession};
+//! Tests of numbered identifiers, and of what sessions read and write.
+
 use std::test::Fail;
 use vx_encodings::Encoding;
+use vx_registry::{ArrayContext, ArraySession, ReadContext, VortexSession};
 use vx_type_wire::ExtSession;
 use vx_types::{Id, Ids};
 
