@@ -17,9 +17,10 @@ use Rattle.vx_array_tree.proofs.Options.{some_inj}
 use Rattle.vx_wire_tree.specs.Causes.{LacksId, LacksBuffer, IsOf, IsUnregistered, HasBadMetadata, MayStandFor, AreOf, IsBroken, HasBadShape, HasChildren, HasBadContent, Refusal, out_of_bounds, unknown_index, unknown_encoding, bad_metadata, bad_shape, bad_content, RefusesTree}
 use Rattle.vx_wire_tree.specs.Codec.{Codec, IsLawful}
 use Rattle.vx_wire_tree.specs.Matches.{IsEncodedNode, IsNodeBy, Matches, AllMatch}
-use Rattle.vx_wire_tree.specs.Placed.{IsPlanned, IsPlannedBy, HasPlan, IsChild, Claim, HoldsAt, HoldsUnder}
+use Rattle.vx_wire_tree.specs.Placed.{IsPlannedBy, HasPlan, IsChild, Claim, HoldsAt, HoldsUnder}
 use Rattle.vx_wire_tree.specs.Reads.{IsMetadata}
 use Rattle.vx_wire_tree.specs.Session.{SessionMeaning, Reader, shipped, IsShippedReader, IsShipped}
+use Rattle.vx_wire_tree.specs.Steps.{PlansChildren}
 use Rattle.vx_wire_tree.specs.Tells.{Tells}
 use Rattle.vx_wire_tree.specs.Wire.{WireHead, Wire, Wires, all_present, IsWholeNode, IsWhole}
 use Rattle.vx_wire_tree.proofs.Unique.{all_present_inj, all_count, one_metadata, one_tree_each}
@@ -148,7 +149,7 @@ module _ (c : Codec) (s : SessionMeaning) where
           (λ i. plan_of (sym x.told.encoding i) h.dtype h.len (q i) (sym k i)) ∙ planned_places h ts y n
 
       planned_by : (r : Option Reader) → IsShippedReader r → (id : List ℕ) (w : Wire) (d : Typ) (n : ℕ) (ps : List Place) → (label w).id ≡ Some id → s.reader id ≡ r → IsPlannedBy c s r w d n ps
-          → (e : Encoding) × IsOf s w e × IsPlanned c s e w d n ps
+          → (e : Encoding) × IsOf s w e × PlansChildren c s.ext e d n (label w).metadata (count (below w)) ps
       planned_by None q id w d n ps i r p = absurd p
       planned_by (Some (shipped e)) q id w d n ps i r p = (e, record { id = id; id_is = i; reader_is = r }, p)
 
@@ -157,7 +158,8 @@ module _ (c : Codec) (s : SessionMeaning) where
       plan_told w h ts ps x y n p =
           let z = planned_by (s.reader p.id) (ok.reads p.id) p.id w h.dtype h.len ps p.id_is refl p.planned in
           let q = same_encoding w z.0 x.0 z.1 x.1.by in
-          let a : IsPlanned c s x.0 w h.dtype h.len ps = subst (λ (e : Encoding). IsPlanned c s e w h.dtype h.len ps) q z.2 in
+          let P : Encoding → Type 0 = λ e. PlansChildren c s.ext e h.dtype h.len (label w).metadata (count (below w)) ps in
+          let a = subst P q z.2 in
           some_inj ps (places ts) (sym a.plan ∙ plan_is x.0 w h ts a.value x.1 y n a.metadata)
 
       -- ---- the placed nodes of what is told are told at their places

@@ -16,6 +16,7 @@ use Rattle.vx_wire_tree.specs.Matches.{AllMatch}
 use Rattle.vx_wire_tree.specs.Placed.{Claim, HoldsSomewhere, Anywhere}
 use Rattle.vx_wire_tree.specs.Reads.{IsMetadata}
 use Rattle.vx_wire_tree.specs.Session.{SessionMeaning, Reader, shipped}
+use Rattle.vx_wire_tree.specs.Steps.{HasNoMetadata}
 use Rattle.vx_wire_tree.specs.Wire.{Wire, Wires, all_present}
 
 -- ---- any node
@@ -48,7 +49,7 @@ IsUnregistered s w d n = IsReadBy s w None
 pub record HasBadMetadata (c : Codec) (s : SessionMeaning) (w : Wire) (d : Typ) (n : ℕ) : Type 0 where
   pub encoding : Encoding
   pub by : IsOf s w encoding
-  pub none : (v : Metadata) → IsMetadata c s.ext encoding d (label w).metadata v → ⊥
+  pub none : HasNoMetadata c s.ext encoding d (label w).metadata
 
 -- These buffers may stand for a node's: each that is there is its own, and any stands for one that is missing.
 abbrev pub MayStandFor : List (Option Buffer) → List Buffer → Type 0

@@ -9,6 +9,6 @@ pub mod Written
 pub mod Context
 pub mod Limits
 pub mod ReadBack
+pub mod Steps
 pub mod Placed
 pub mod Causes
-pub mod Steps

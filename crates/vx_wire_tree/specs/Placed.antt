@@ -2,25 +2,15 @@
 use Rattle.std.specs.Prelude.{ℕ, ◌≡◌, List, [], ◌∷◌, Option, Some, None, slice_get}
 use Rattle.vx_trees.specs.Rose.{Rose, label, below, count, roses_list}
 use Rattle.vx_types.specs.Typ.{Typ}
-use Rattle.vx_array_tree.specs.Encoding.{Encoding}
-use Rattle.vx_array_tree.specs.Metadata.{Metadata}
 use Rattle.vx_array_tree.specs.Place.{Place}
-use Rattle.vx_array_tree.specs.Table.{plan_of}
 use Rattle.vx_wire_tree.specs.Codec.{Codec}
-use Rattle.vx_wire_tree.specs.Reads.{IsMetadata}
 use Rattle.vx_wire_tree.specs.Session.{SessionMeaning, Reader, shipped}
+use Rattle.vx_wire_tree.specs.Steps.{PlansChildren}
 use Rattle.vx_wire_tree.specs.Wire.{Wire}
 
--- A node's metadata is of an encoding, which plans these places for its children. Its buffers are not looked
--- at.
-pub record IsPlanned (c : Codec) (s : SessionMeaning) (e : Encoding) (w : Wire) (d : Typ) (n : ℕ) (ps : List Place) : Type 0 where
-  pub value : Metadata
-  pub metadata : IsMetadata c s.ext e d (label w).metadata value
-  pub plan : plan_of e d n value (count (below w)) ≡ Some ps
-
--- A plan by what reads a node.
+-- A plan by what reads a node: its encoding plans its children. Its buffers are not looked at.
 abbrev pub IsPlannedBy : Codec → SessionMeaning → Option Reader → Wire → Typ → ℕ → List Place → Type 0
-IsPlannedBy c s (Some (shipped e)) w d n ps = IsPlanned c s e w d n ps
+IsPlannedBy c s (Some (shipped e)) w d n ps = PlansChildren c s.ext e d n (label w).metadata (count (below w)) ps
 IsPlannedBy c s None w d n ps = ⊥
 
 -- A node that stands at a type and a length has a plan.
