@@ -8,7 +8,7 @@ use Rattle.vx_array_tree.specs.Metadata.{Metadata}
 use Rattle.vx_array_tree.specs.Normal.{IsNormal, IsNormalNode}
 use Rattle.vx_array_tree.specs.Place.{place}
 use Rattle.vx_array_tree.specs.Sound.{IsSound, IsSoundNode, metadata_in}
-use Rattle.vx_array_tree.specs.Table.{encoding_of, body_of, buffers_of, plan_of}
+use Rattle.vx_array_tree.specs.Table.{buffers_of}
 use Rattle.vx_array_tree.specs.Tree.{Head, Tree, Trees, places}
 use Rattle.vx_array_tree.proofs.NodeLaws.{IsSameNode, same_head, same_places}
 use Rattle.vx_wire_tree.specs.Codec.{Codec, IsLawful, IsLawfulAt}
