@@ -12,3 +12,4 @@ pub mod MergeFits
 pub mod VariantsFit
 pub mod RowsOfSound
 pub mod RowsAgree
+pub mod Built

@@ -12,3 +12,4 @@ pub mod Sound
 pub mod Normal
 pub mod Canon
 pub mod FitRows
+pub mod Refused
