@@ -1,5 +1,6 @@
 -- A merge of values that fit their types is a variant, with nothing opaque.
 use Rattle.std.proofs.Common.{ℕ, ◌≡◌, ◌||◌, List, [], ◌∷◌, ◌++◌, Option, Some, None, Bool, true, false, refl, ap, ◌∙◌, subst, bytes_eq, if◌then◌else◌}
+use Rattle.std.proofs.lemmas.Option.{same_Some, none-some}
 use Rattle.vx_trees.specs.Rose.{Roses, node, end, more}
 use Rattle.vx_types.specs.Kind as K
 use Rattle.vx_types.specs.Kind.{Kind}
@@ -9,11 +10,7 @@ use Rattle.vx_types.specs.declared.nullability.Nullability.TheVariants.{Nullable
 use Rattle.vx_types.specs.Fits.{Fits, EachFits, FitBy}
 use Rattle.vx_array_tree.specs.Merge.{Named, variants, wrapped, each_wrapped, Raw, structure_in, raw_structure, raw_field, structure_at, first_named, kept, given, is_named, raw_value, others, types_of, values_of, structure_of, joined, over, merged, merged_fields, fallback_structure, variant_list, merge}
 use Rattle.vx_types.specs.Value.{Value, Values, null, opaque, tuple, union, variant, variant_of, has_opaque, have_opaque, is_null}
-use Rattle.vx_array_tree.proofs.Options.{some_inj}
 use Rattle.vx_array_tree.proofs.RowsFit.{or_left, or_right}
-
-clash : {A : Type 0} {z : A} → None ≡ Some z → ⊥
-clash e = cc
 
 -- A value of a type, with nothing opaque.
 pub record IsGood (d : Typ) (v : Value) : Type 0 where
@@ -68,8 +65,8 @@ list_good e vs f p =
 -- The structure that a value is, is of such fields.
 no_structure : (d : Typ) (v : Value) (r : Raw) → IsGood d v → structure_in d v ≡ Some r → IsGoodRaw r
 no_structure (node (K.structure ns x) ts) (node tuple vs) r g e =
-    subst (λ (z : Raw). IsGoodRaw z) (some_inj (record { names = ns; types = ts; values = vs }) r e) (record { fits = g.fits; plain = g.plain })
-no_structure _ _ r g e = absurd (clash e)
+    subst (λ (z : Raw). IsGoodRaw z) (same_Some (record { names = ns; types = ts; values = vs }) r e) (record { fits = g.fits; plain = g.plain })
+no_structure _ _ r g e = absurd (none-some _ e)
 
 raw_good : (d : Typ) (v : Value) (r : Raw) → IsGood d v → raw_structure d v ≡ Some r → IsGoodRaw r
 raw_good d (node (variant e0) (more v vs)) r g e = no_structure e0 v r (record { fits = g.fits.1.0; plain = or_left (has_opaque v) (have_opaque vs) g.plain }) e
@@ -80,14 +77,14 @@ pub record IsGoodField (f : Typ × Value) : Type 0 where
   pub good : IsGood f.0 f.1
 
 field_found : (b : Bool) (d : Typ) (v : Value) (rest : Option (Typ × Value)) (f : Typ × Value) → IsGood d v → (rest ≡ Some f → IsGoodField f) → (if b then Some (d, v) else rest) ≡ Some f → IsGoodField f
-field_found true d v rest f g k e = subst (λ (z : Typ × Value). IsGoodField z) (some_inj (d, v) f e) (record { good = g })
+field_found true d v rest f g k e = subst (λ (z : Typ × Value). IsGoodField z) (same_Some (d, v) f e) (record { good = g })
 field_found false d v rest f g k e = k e
 
 field_good : (name : List ℕ) (ns : List (List ℕ)) (ts : Roses Kind) (vs : Values) (f : Typ × Value) → FitBy vs ts → have_opaque vs ≡ false → raw_field name ns ts vs ≡ Some f → IsGoodField f
-field_good name [] ts vs f b p e = absurd (clash e)
-field_good name (n ∷ ns) end end f b p e = absurd (clash e)
-field_good name (n ∷ ns) end (more v vs) f b p e = absurd (clash e)
-field_good name (n ∷ ns) (more t ts) end f b p e = absurd (clash e)
+field_good name [] ts vs f b p e = absurd (none-some _ e)
+field_good name (n ∷ ns) end end f b p e = absurd (none-some _ e)
+field_good name (n ∷ ns) end (more v vs) f b p e = absurd (none-some _ e)
+field_good name (n ∷ ns) (more t ts) end f b p e = absurd (none-some _ e)
 field_good name (n ∷ ns) (more t ts) (more v vs) f b p e =
     field_found (bytes_eq name n) t v (raw_field name ns ts vs) f (record { fits = b.0; plain = or_left (has_opaque v) (have_opaque vs) p })
     (λ k. field_good name ns ts vs f b.1 (or_right (has_opaque v) (have_opaque vs) p) k) e

@@ -1,5 +1,6 @@
 -- A node and its parts: metadata, buffers and the places of its children.
 use Rattle.std.proofs.Common.{ℕ, ◌≡◌, List, [], ◌∷◌, Some, refl, sym, ap, ◌∙◌, subst}
+use Rattle.std.proofs.lemmas.Option.{same_Some}
 use Rattle.vx_buffer.specs.Buffer.{Buffer}
 use Rattle.vx_trees.specs.Rose.{count}
 use Rattle.vx_types.specs.Typ.{Typ}
@@ -15,7 +16,7 @@ use Rattle.vx_array_tree.specs.Sound.{IsSoundNode, metadata_in}
 use Rattle.vx_array_tree.specs.Table.{encoding_of, metadata_of, buffers_of, body_of, plan_of, lifted, cleared, IsFair, IsShaped, Allows, Holds, Takes, Content}
 use Rattle.vx_array_tree.specs.Tree.{Head, Trees, places, encodings, rows_below}
 use Rattle.vx_array_tree.proofs.Bodies.{body_again, normal_cleared}
-use Rattle.vx_array_tree.proofs.Options.{some_inj, mapped}
+use Rattle.vx_array_tree.proofs.Options.{mapped}
 use Rattle.vx_array_tree.proofs.Plans.{metadata_again, bufferless_is}
 use Rattle.vx_array_tree.proofs.Retyped.{own_places}
 
@@ -97,7 +98,7 @@ pub record IsSameNode (h g : Head) (ts us : Trees) : Type 0 where
 
 pub same_body : (h g : Head) (ts us : Trees) → IsSameNode h g ts us → IsNormalNode h ts → IsNormalNode g us → h.body ≡ g.body
 same_body h g ts us q nh ng =
-    some_inj h.body g.body (sym (own_body h ts nh) ∙ (λ i. body_of (q.encoding i) (q.metadata i) (q.buffers i)) ∙ own_body g us ng)
+    same_Some h.body g.body (sym (own_body h ts nh) ∙ (λ i. body_of (q.encoding i) (q.metadata i) (q.buffers i)) ∙ own_body g us ng)
 
 pub same_head : (h g : Head) (ts us : Trees) → IsSameNode h g ts us → IsNormalNode h ts → IsNormalNode g us → h ≡ g
 same_head h g ts us q nh ng =
@@ -108,4 +109,4 @@ same_head h g ts us q nh ng =
 
 pub same_places : (h g : Head) (ts us : Trees) → IsSameNode h g ts us → IsSoundNode h ts → IsSoundNode g us → IsNormalNode h ts → IsNormalNode g us → places ts ≡ places us
 same_places h g ts us q sh sg nh ng =
-    some_inj (places ts) (places us) (sym (planned_places h ts sh nh) ∙ (λ i. plan_of (q.encoding i) (q.dtype i) (q.len i) (q.metadata i) (q.children i)) ∙ planned_places g us sg ng)
+    same_Some (places ts) (places us) (sym (planned_places h ts sh nh) ∙ (λ i. plan_of (q.encoding i) (q.dtype i) (q.len i) (q.metadata i) (q.children i)) ∙ planned_places g us sg ng)

@@ -1,5 +1,6 @@
 -- Plans of children.
 use Rattle.std.proofs.Common.{ℕ, zero, suc, ◌≡◌, List, [], ◌∷◌, Some, None, refl, sym, ap, ◌∙◌}
+use Rattle.std.proofs.lemmas.Option.{same_Some}
 use Rattle.vx_buffer.specs.Buffer.{Buffer}
 use Rattle.vx_trees.specs.Rose.{node, end, more}
 use Rattle.vx_types.specs.Kind as K
@@ -20,7 +21,7 @@ use Rattle.vx_array_tree.specs.Metadata.{Metadata}
 use Rattle.vx_array_tree.specs.Metadata as M
 use Rattle.vx_array_tree.specs.Place.{Place, place, numbers, exactly, before_validity, is_len}
 use Rattle.vx_array_tree.specs.Table.{metadata_of, body_of, bufferless, plan_of}
-use Rattle.vx_array_tree.proofs.Options.{some_inj, mapped, let_through}
+use Rattle.vx_array_tree.proofs.Options.{mapped, let_through}
 
 -- ---- what a plan holds
 
@@ -54,12 +55,12 @@ bufferless_is x (c ∷ bs) b e = absurd (cc)
 
 bool_offset : (v : Bools.Metadata) (bs : List Buffer) (x : Bools.Data) → Bools.body_of v bs ≡ Some x → x.offset ≡ v
 bool_offset v [] x e = absurd (cc)
-bool_offset v (b ∷ []) x e = ap (λ (y : Bools.Data). y.offset) (sym (some_inj (record { bits = b; offset = v }) x e))
+bool_offset v (b ∷ []) x e = ap (λ (y : Bools.Data). y.offset) (sym (same_Some (record { bits = b; offset = v }) x e))
 bool_offset v (b ∷ c ∷ bs) x e = absurd (cc)
 
 decimal_width : (v : Decimals.Metadata) (bs : List Buffer) (x : Decimals.Data) → Decimals.body_of v bs ≡ Some x → x.values_type ≡ v
 decimal_width v [] x e = absurd (cc)
-decimal_width v (b ∷ []) x e = ap (λ (y : Decimals.Data). y.values_type) (sym (some_inj (record { values = b; values_type = v }) x e))
+decimal_width v (b ∷ []) x e = ap (λ (y : Decimals.Data). y.values_type) (sym (same_Some (record { values = b; values_type = v }) x e))
 decimal_width v (b ∷ c ∷ bs) x e = absurd (cc)
 
 varbin_planned : (n : ℕ) (v : VarBins.Metadata) (k : ℕ) (ps : List Place) → VarBins.planned n v k ≡ Some ps → VarBins.metadata_of ps ≡ v

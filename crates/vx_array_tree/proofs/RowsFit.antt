@@ -1,5 +1,6 @@
 -- Rows of sound arrays fit their types where nothing in them is opaque.
 use Rattle.std.proofs.Common.{ℕ, zero, suc, ◌≡◌, ◌<◌, ◌≤◌, ◌+◌, ◌-◌, ◌*◌, ◌==◌, ◌||◌, ◌⊎◌, inl, inr, List, [], ◌∷◌, Option, Some, None, Bool, true, false, refl, sym, ap, ◌∙◌, subst, arith, length, IsTrue, is_some, unwrap_or, if◌then◌else◌, mul-le-mul_right}
+use Rattle.std.proofs.lemmas.Option.{none-some}
 use Rattle.std.proofs.lemmas.Bool.Decides.{nat_tests}
 use Rattle.vx_trees.specs.Rose.{Roses, node, end, more, label, count}
 use Rattle.vx_types.specs.Kind as K
@@ -131,10 +132,7 @@ first_planned p ps n t us e =
 
 varbin_rows_fit : (d : Typ) (n : ℕ) (v : VarBins.Metadata) (x : VarBins.Data) (us : Trees) → ((bs : List ℕ) → Fits (lone (VarBins.mark_of d bs)) d) → (IsVariant d → ⊥) → VarBins.planned n v (count us) ≡ Some (places us) → AllowsValidity d 1 (count us)
     → FitRows d n (VarBins.rows d n x (rows_below us))
-varbin_rows_fit d n v x end f nv p a = absurd (clash (let_through (is_len (suc n)) _ _ p))
-  where
-    clash : {A : Type 0} {z : A} → None ≡ Some z → ⊥
-    clash e = cc
+varbin_rows_fit d n v x end f nv p a = absurd (none-some _ (let_through (is_len (suc n)) _ _ p))
 varbin_rows_fit d n v x (more t us) f nv p a =
     let q = first_planned (place (numbers v) (suc n)) [] n t us (let_through (is_len (suc n)) _ _ p) in
     fit_leaf d us n (λ i. lone (VarBins.mark_of d (VarBins.bytes_at x.bytes.bytes (rows_of t) i))) q.others (λ e. a (ap (λ z. suc z) e)) (λ i. f _) nv
@@ -169,13 +167,10 @@ rising_to r n (suc k) f i e =
 pub retype : (t : Tree) (e : Typ) (m : ℕ) → place (label t).dtype (label t).len ≡ place e m → FitRows (label t).dtype (label t).len (rows_of t) → FitRows e m (rows_of t)
 retype t e m q f = subst (λ (p : Place). FitRows p.dtype p.len (rows_of t)) q f
 
-clash : {A : Type 0} {z : A} → None ≡ Some z → ⊥
-clash e = cc
-
 list_at : (m : Nullability) (e : Typ) (n : ℕ) (v : Lists.Metadata) (us : Trees) → before_validity (place e v.elements_len ∷ place (numbers v.offset_ptype) (suc n) ∷ []) n (count us) ≡ Some (places us) → AllowsValidity (node (K.list m) (more e end)) 2 (count us)
     → VarBins.AreOffsets (second (rows_below us)) n v.elements_len → FitAll us → FitRows (node (K.list m) (more e end)) n (Lists.rows n (rows_below us))
-list_at m e n v end p a c f = absurd (clash p)
-list_at m e n v (more t end) p a c f = absurd (clash p)
+list_at m e n v end p a c f = absurd (none-some _ p)
+list_at m e n v (more t end) p a c f = absurd (none-some _ p)
 list_at m e n v (more t (more o us)) p a c f =
     let x = first_planned (place e v.elements_len) (place (numbers v.offset_ptype) (suc n) ∷ []) n t (more o us) p in
     let y = first_planned (place (numbers v.offset_ptype) (suc n)) [] n o us x.others in
@@ -193,9 +188,9 @@ lists_fit _ n v us p a c f = absurd (cc)
 views_at : (m : Nullability) (e : Typ) (n : ℕ) (v : ListViews.Metadata) (us : Trees) → before_validity (place e v.elements_len ∷ place (numbers v.offset_ptype) n ∷ place (numbers v.size_ptype) n ∷ []) n (count us) ≡ Some (places us) → AllowsValidity (node (K.list m) (more e end)) 3 (count us)
     → ((i : ℕ) → i < n → IsThere (validity (rest (rest (rest (rows_below us))))) i → index_at (second (rows_below us)) i + index_at (first (rest (rest (rows_below us)))) i ≤ v.elements_len) → FitAll us
     → FitRows (node (K.list m) (more e end)) n (ListViews.rows n (rows_below us))
-views_at m e n v end p a c f = absurd (clash p)
-views_at m e n v (more t end) p a c f = absurd (clash p)
-views_at m e n v (more t (more o end)) p a c f = absurd (clash p)
+views_at m e n v end p a c f = absurd (none-some _ p)
+views_at m e n v (more t end) p a c f = absurd (none-some _ p)
+views_at m e n v (more t (more o end)) p a c f = absurd (none-some _ p)
 views_at m e n v (more t (more o (more z us))) p a c f =
     let x = first_planned (place e v.elements_len) (place (numbers v.offset_ptype) n ∷ place (numbers v.size_ptype) n ∷ []) n t (more o (more z us)) p in
     let y = first_planned (place (numbers v.offset_ptype) n) (place (numbers v.size_ptype) n ∷ []) n o (more z us) x.others in
@@ -218,7 +213,7 @@ product_room s n i l = grind (arith, mul-le-mul_right)
 
 fixed_at : (s : ℕ) (m : Nullability) (e : Typ) (n : ℕ) (us : Trees) → before_validity (place e (n * s) ∷ []) n (count us) ≡ Some (places us) → AllowsValidity (node (K.fixed_size_list s m) (more e end)) 1 (count us) → FitAll us
     → FitRows (node (K.fixed_size_list s m) (more e end)) n (FixedSizeLists.rows (node (K.fixed_size_list s m) (more e end)) n (rows_below us))
-fixed_at s m e n end p a f = absurd (clash p)
+fixed_at s m e n end p a f = absurd (none-some _ p)
 fixed_at s m e n (more t us) p a f =
     let x = first_planned (place e (n * s)) [] n t us p in
     fit_rows (node (K.fixed_size_list s m) (more e end)) us n (λ i. node tuple (values_from (rows_of t) (i * s) s)) _ x.others (λ q. a (ap (λ k. suc k) q))
@@ -316,7 +311,7 @@ raised_nullable NonNullable e d q n = subst (λ (z : Typ). nullability z ≡ Nul
 dict_missing : (o : Option Bool) (valid : ℕ → Option Bool) (j : ℕ) (d : Typ) → (o ≡ Some false → nullability d ≡ Nullable) → (o ≡ Some true → valid j ≡ Some false → nullability d ≡ Nullable) → Dicts.valid_by o valid j ≡ Some false → nullability d ≡ Nullable
 dict_missing (Some true) valid j d a b v = b refl v
 dict_missing (Some false) valid j d a b v = a refl
-dict_missing None valid j d a b v = absurd (clash v)
+dict_missing None valid j d a b v = absurd (none-some _ v)
 
 still_variant : (m : Nullability) (e : Typ) → IsVariant (with_nullability m e) → IsVariant e
 still_variant m (node (K.variant x) ts) k = k
@@ -352,8 +347,8 @@ second_len _ = 0
 
 pub dicts_fit : (d : Typ) (n : ℕ) (x : Dicts.Data) (us : Trees) → Dicts.plan d n (Dicts.metadata_of x (places us)) (count us) ≡ Some (Dicts.lifted (places us)) → Dicts.Allows d (Dicts.metadata_of x (places us))
     → ((i : ℕ) → i < n → IsThere (first (rows_below us)).valid i → index_at (first (rows_below us)) i < (second_len us)) → FitAll us → FitRows d n (Dicts.rows n (rows_below us))
-dicts_fit d n x end p a w f = absurd (clash p)
-dicts_fit d n x (more c end) p a w f = absurd (clash p)
+dicts_fit d n x end p a w f = absurd (none-some _ p)
+dicts_fit d n x (more c end) p a w f = absurd (none-some _ p)
 dicts_fit d n x (more c (more v us)) p a w f =
     let e = exactly_is (place (node (K.primitive (ptype_of (label c).dtype) (nullability (label c).dtype)) end) n ∷ place d (label v).len ∷ []) (suc (suc (count us))) (Dicts.lifted (places (more c (more v us)))) p in
     let t = cons_first _ _ _ _ (cons_rest _ _ _ _ e) in
@@ -371,8 +366,8 @@ fields_fit (more d ds) (more t us) n i l p f h =
 
 exactly_count : (ps : List Place) (k : ℕ) (qs : List Place) → exactly ps k ≡ Some qs → k ≡ length ps
 exactly_count [] zero qs e = refl
-exactly_count [] (suc k) qs e = absurd (clash e)
-exactly_count (p ∷ ps) zero qs e = absurd (clash e)
+exactly_count [] (suc k) qs e = absurd (none-some _ e)
+exactly_count (p ∷ ps) zero qs e = absurd (none-some _ e)
 exactly_count (p ∷ ps) (suc k) qs e = let m = mapped (λ (rs : List Place). p ∷ rs) (exactly ps k) qs e in ap (λ z. suc z) (exactly_count ps k m.0 m.2)
 
 length_at : (ds : Roses Kind) (n : ℕ) → length (places_at ds n) ≡ count ds
@@ -406,7 +401,7 @@ struct_at (Some qs) ns m ds n us e p a f =
     let q = exactly_is (places_at ds n) (count us) (places us) (e ∙ p) in
     let k = rows_count us in
     struct_by false ns m ds n us (grind (arith, nat_tests)) (λ i l v. absurd (never_false v)) (λ i l h. fields_fit ds us n i l q f h)
-struct_at None ns m ds n end e p a f = absurd (clash p)
+struct_at None ns m ds n end e p a f = absurd (none-some _ p)
 struct_at None ns m ds n (more t us) e p a f =
     let x = exactly_is (validity_place n ∷ places_at ds n) (suc (count us)) (places (more t us)) p in
     let c : suc (count us) ≡ suc (length (places_at ds n)) = exactly_count (validity_place n ∷ places_at ds n) (suc (count us)) (places (more t us)) p in

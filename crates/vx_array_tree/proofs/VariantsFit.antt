@@ -1,5 +1,6 @@
 -- The rows of variants fit their type.
 use Rattle.std.proofs.Common.{ℕ, suc, ◌≡◌, ◌<◌, ◌⊎◌, inl, inr, [], ◌∷◌, Option, Some, None, Bool, true, false, refl, sym, ap, ◌∙◌, if◌then◌else◌}
+use Rattle.std.proofs.lemmas.Option.{none-some}
 use Rattle.vx_trees.specs.Rose.{node, end, more, label, count}
 use Rattle.vx_types.specs.Kind as K
 use Rattle.vx_types.specs.Typ.{Typ}
@@ -76,12 +77,9 @@ both_fit m n e c s us p f =
       whole = λ k i l. row_whole m (row_over e ((rows_of s).row i) ((rows_of c).row i)) (is i l);
     }
 
-none_some : {A : Type 0} {x : A} → None ≡ Some x → ⊥
-none_some z = cc
-
 planned : (m : Nullability) (n : ℕ) (ts : Trees) → Variants.plan (node (K.variant m) end) n (Variants.metadata_of (places ts)) (count ts) ≡ Some (places ts) → FitAll ts
     → FitRows (node (K.variant m) end) n (Variants.rows n (Variants.metadata_of (places ts)) (rows_below ts))
-planned m n end p f = absurd (none_some p)
+planned m n end p f = absurd (none-some _ p)
 planned m n (more c end) p f = core_fits m n c end (exactly_is (place (node (K.variant m) end) n ∷ []) 1 (places (more c end)) p) f
 planned m n (more c (more s us)) p f =
     both_fit m n (label s).dtype c s us (exactly_is (place (node (K.variant m) end) n ∷ place (label s).dtype n ∷ []) (suc (suc (count us))) (places (more c (more s us))) p) f

@@ -69,6 +69,7 @@ restored (inr (inr (inr (inr (inr (inr (inr (inr (inr (inr (inr (inr (inl _)))))
 restored (inr (inr (inr (inr (inr (inr (inr (inr (inr (inr (inr (inr (inr (inl _)))))))))))))) = ext
 restored (inr (inr (inr (inr (inr (inr (inr (inr (inr (inr (inr (inr (inr (inr x)))))))))))))) = dict x
 
+-- What is stored gives back the body.
 pub restored-stored : (b : Body) → restored (stored b) ≡ b
 restored-stored null = refl
 restored-stored (bool x) = refl

@@ -40,5 +40,6 @@ decimal_value D.I64 bytes = V.i64 (cast_signed w64 (from_le_bytes w64 (take 8 by
 decimal_value D.I128 bytes = V.i128 (cast_signed w128 (from_le_bytes w128 (take 16 bytes)))
 decimal_value D.I256 bytes = V.i256 (take 32 bytes)
 
+-- Decimals of one width stand one after the other, as numbers do.
 abbrev pub decimal_at : DecimalType → List ℕ → ℕ → DecimalValue
 decimal_at w bytes i = decimal_value w (drop (decimal_width_of w * i) bytes)

@@ -20,6 +20,7 @@ wrapped (node (variant_kind m) ts) (node null vs) = variant_of (node (variant_ki
 wrapped (node (variant_kind m) ts) v = v
 wrapped d v = variant_of d v
 
+-- Each of the values so.
 abbrev pub each_wrapped : Typ → Values → Values
 each_wrapped d end = end
 each_wrapped d (more v vs) = more (wrapped d v) (each_wrapped d vs)
@@ -65,6 +66,7 @@ abbrev pub given : List (List ℕ × Option Value) → List (List ℕ × Option 
 given all [] = []
 given all (x ∷ xs) = kept x.0 (first_named x.0 all) ++ given all xs
 
+-- Whether something stands under a name.
 abbrev pub is_named : List ℕ → List Named → Bool
 is_named name [] = false
 is_named name (x ∷ xs) = if bytes_eq name x.0 then true else is_named name xs
@@ -81,14 +83,17 @@ others has raw [] = []
 others has raw (n ∷ ns) =
     (if is_named n has then [] else kept n (raw_value (raw_field n raw.names raw.types raw.values))) ++ others has raw ns
 
+-- The names.
 abbrev pub names_of : List Named → List (List ℕ)
 names_of [] = []
 names_of (x ∷ xs) = x.0 ∷ names_of xs
 
+-- A type of variants for each.
 abbrev pub types_of : List Named → Roses Kind
 types_of [] = end
 types_of (x ∷ xs) = more variants (types_of xs)
 
+-- What stands under them.
 abbrev pub values_of : List Named → Values
 values_of [] = end
 values_of (x ∷ xs) = more x.1 (values_of xs)

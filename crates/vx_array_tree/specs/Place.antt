@@ -71,15 +71,17 @@ AllowsValidity d m k = k ≡ suc m → nullability d ≡ Nullable
 abbrev pub no_place : Place
 no_place = place (numbers U8) 0
 
--- The first of a list of places, the second and the third.
+-- The first of a list of places.
 abbrev pub first_place : List Place → Place
 first_place [] = no_place
 first_place (p ∷ ps) = p
 
+-- The second of them.
 abbrev pub second_place : List Place → Place
 second_place [] = no_place
 second_place (p ∷ ps) = first_place ps
 
+-- The third of them.
 abbrev pub third_place : List Place → Place
 third_place [] = no_place
 third_place (p ∷ ps) = second_place ps

@@ -16,29 +16,33 @@ pub record Rows : Type 0 where
 abbrev pub no_rows : Rows
 no_rows = record { len = 0; valid = λ i. None; row = λ i. lone opaque; cells = λ i. 1 }
 
+-- The rows of the first of a node's children.
 abbrev pub first : List Rows → Rows
 first [] = no_rows
 first (r ∷ rs) = r
 
+-- Those of the children after the first.
 abbrev pub rest : List Rows → List Rows
 rest [] = []
 rest (r ∷ rs) = rs
 
+-- Those of the second.
 abbrev pub second : List Rows → Rows
 second rs = first (rest rs)
 
+-- Those of the third.
 abbrev pub third : List Rows → Rows
 third rs = first (rest (rest rs))
 
--- What a validity's row says.
-abbrev pub says : Value → Option Bool
-says (node (bool b) vs) = Some b
-says (node _ vs) = None
+-- A value as a flag: none, where it is no flag.
+abbrev pub flag_in : Value → Option Bool
+flag_in (node (bool b) vs) = Some b
+flag_in (node _ vs) = None
 
--- Whether a row is there, by the validity that may stand: where none does, each row is.
+-- Whether a row is there, by the flags of the validity that may stand: where none does, each row is.
 abbrev pub validity : List Rows → ℕ → Option Bool
 validity [] i = Some true
-validity (v ∷ vs) i = says (v.row i)
+validity (v ∷ vs) i = flag_in (v.row i)
 
 -- A row's value, where the row is there.
 abbrev pub where_valid : Option Bool → (ℕ → Value) → ℕ → Value
@@ -74,20 +78,22 @@ by_validity_with n valid value count = record {
 abbrev pub as_rows : ℕ → Rows → Rows
 as_rows n r = record { len = n; valid = r.valid; row = r.row; cells = r.cells }
 
--- As many rows' values, from one on, and the sum of their cells.
+-- As many rows' values, from one on.
 abbrev pub values_from : Rows → ℕ → ℕ → Values
 values_from r i zero = end
 values_from r i (suc k) = more (r.row i) (values_from r (suc i) k)
 
+-- The sum of their cells.
 abbrev pub cells_from : Rows → ℕ → ℕ → ℕ
 cells_from r i zero = 0
 cells_from r i (suc k) = r.cells i + cells_from r (suc i) k
 
--- Each array's row at one index, and the sum of their cells.
+-- Each array's row at one index.
 abbrev pub values_at : List Rows → ℕ → Values
 values_at [] i = end
 values_at (r ∷ rs) i = more (r.row i) (values_at rs i)
 
+-- The sum of their cells.
 abbrev pub cells_at : List Rows → ℕ → ℕ
 cells_at [] i = 0
 cells_at (r ∷ rs) i = r.cells i + cells_at rs i

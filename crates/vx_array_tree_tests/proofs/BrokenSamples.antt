@@ -1,5 +1,6 @@
 -- Arrays that break one rule each are not sound.
 use Rattle.std.proofs.Common.{ℕ, ◌≡◌, List, [], ◌∷◌, Option, Some, None, refl, ap, arith, false, true, codes}
+use Rattle.std.proofs.lemmas.Option.{none-some}
 use Rattle.std.specs.Str.{is_utf8, chars}
 use lib.Utf8.{encode}
 use Rattle.vx_types.specs.declared.nullability.Nullability.TheVariants.{Nullable, NonNullable}
@@ -12,9 +13,6 @@ use Rattle.vx_array_tree.specs.Place.{Place, first_place}
 use Rattle.vx_array_tree.specs.Sound.{IsSound}
 use Rattle.vx_array_tree.specs.Table.{IsFair}
 use Rattle.vx_array_tree_tests.proofs.Samples.{array, buffer, bits, u8s, u16s, number_type, flag_type, flags, decimals, varbins, texts, dictionary, lists, views, fixed, maps, list_of, entry_type, entry, i32s, unions}
-
-nothing_is : {A : Type 0} {x : A} → None ≡ Some x → ⊥
-nothing_is e = cc
 
 not_false : false ≡ true → ⊥
 not_false e = cc
@@ -51,7 +49,7 @@ other_tag s = let x = s.0.content 0 (omega arith) refl in not_false x.named
 
 -- A wrong prefix in a row that is there.
 wrong_prefix : IsSound (texts 21 98) → ⊥
-wrong_prefix s = let x = s.0.content 4 (omega arith) refl in nothing_is x.1
+wrong_prefix s = let x = s.0.content 4 (omega arith) refl in none-some _ x.1
 
 -- ---- shape
 
@@ -88,7 +86,7 @@ few_bits s = let x = s.0.holds in absurd (omega (arith, x))
 
 -- Nulls of another type.
 typed_nulls : IsSound (array (number_type P.I32 Nullable) 3 B.null []) → ⊥
-typed_nulls s = nothing_is s.0.planned
+typed_nulls s = none-some _ s.0.planned
 
 -- ---- metadata
 

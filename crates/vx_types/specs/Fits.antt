@@ -26,28 +26,32 @@ member tag [] ts = None
 member tag (id ∷ ids) end = None
 member tag (id ∷ ids) (more t ts) = if tag == id then Some t else member tag ids ts
 
--- The type of flags; the type of numbers of a kind; a type of decimals; the types of texts and of bytes; the
--- type of variants.
+-- A type of flags.
 abbrev pub IsBoolean : Typ → Type 0
 IsBoolean (node (boolean m) ts) = Unit {0}
 IsBoolean _ = ⊥
 
+-- A type of numbers of a kind.
 abbrev pub IsOf : PType → Typ → Type 0
 IsOf p (node (primitive q m) ts) = p ≡ q
 IsOf p _ = ⊥
 
+-- A type of decimals.
 abbrev pub IsDecimal : Typ → Type 0
 IsDecimal (node (decimal_kind p s m) ts) = Unit {0}
 IsDecimal _ = ⊥
 
+-- A type of texts.
 abbrev pub IsUtf8 : Typ → Type 0
 IsUtf8 (node (utf8_kind m) ts) = Unit {0}
 IsUtf8 _ = ⊥
 
+-- A type of bytes.
 abbrev pub IsBinary : Typ → Type 0
 IsBinary (node (binary_kind m) ts) = Unit {0}
 IsBinary _ = ⊥
 
+-- A type of variants.
 abbrev pub IsVariant : Typ → Type 0
 IsVariant (node (variant_kind m) ts) = Unit {0}
 IsVariant _ = ⊥

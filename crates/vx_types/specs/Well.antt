@@ -47,6 +47,7 @@ abbrev mutual
   pub IsWell : Value → Type 0
   IsWell (node m vs) = IsWellMark m × AreWell vs
 
+  -- Each of these values is well.
   pub AreWell : Values → Type 0
   AreWell end = Unit {0}
   AreWell (more v vs) = IsWell v × AreWell vs

@@ -18,6 +18,7 @@ pub record Data : Type 0 where
   pub bits : Buffer
   pub offset : ℕ
 
+-- The code by which what nodes hold is told apart.
 abbrev pub data_code : Coded Data
 data_code = code_by (Buffer × ℕ) (coded× coded_buffer coded_ℕ) (λ x. (x.bits, x.offset)) (λ p. record { bits = p.0; offset = p.1 }) (λ _. refl)
 
@@ -25,6 +26,7 @@ data_code = code_by (Buffer × ℕ) (coded× coded_buffer coded_ℕ) (λ x. (x.b
 abbrev pub Metadata : Type 0
 Metadata = ℕ
 
+-- The metadata of a node that holds this.
 abbrev pub metadata_of : Data → Metadata
 metadata_of x = x.offset
 

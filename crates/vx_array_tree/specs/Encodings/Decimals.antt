@@ -22,6 +22,7 @@ pub record Data : Type 0 where
   pub values : Buffer
   pub values_type : DecimalType
 
+-- The code by which what nodes hold is told apart.
 abbrev pub data_code : Coded Data
 data_code =
     code_by (Buffer × DecimalType) (coded× coded_buffer width.the_row.coded) (λ x. (x.values, x.values_type))
@@ -31,6 +32,7 @@ data_code =
 abbrev pub Metadata : Type 0
 Metadata = DecimalType
 
+-- The metadata of a node that holds this.
 abbrev pub metadata_of : Data → Metadata
 metadata_of x = x.values_type
 

@@ -20,6 +20,7 @@ id = codes "vortex.dict"
 pub record Data : Type 0 where
   pub all_values_referenced : Bool
 
+-- The code by which what nodes hold is told apart.
 abbrev pub data_code : Coded Data
 data_code = code_by Bool coded_bool (λ x. x.all_values_referenced) (λ b. record { all_values_referenced = b }) (λ _. refl)
 
@@ -30,6 +31,7 @@ pub record Metadata : Type 0 where
   pub nullable_codes : Nullability
   pub all_values_referenced : Bool
 
+-- The metadata of a node that holds this, over children at these places.
 abbrev pub metadata_of : Data → List Place → Metadata
 metadata_of x ps = record {
   values_len = (second_place ps).len;

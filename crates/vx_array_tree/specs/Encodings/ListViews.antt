@@ -19,6 +19,7 @@ id = codes "vortex.listview"
 pub record Data : Type 0 where
   pub zero_copy : Bool
 
+-- The code by which what nodes hold is told apart.
 abbrev pub data_code : Coded Data
 data_code = code_by Bool coded_bool (λ x. x.zero_copy) (λ b. record { zero_copy = b }) (λ _. refl)
 
@@ -40,6 +41,7 @@ pub record Metadata : Type 0 where
   pub offset_ptype : PType
   pub size_ptype : PType
 
+-- The metadata of a node over children at these places.
 abbrev pub metadata_of : List Place → Metadata
 metadata_of ps = record { elements_len = (first_place ps).len; offset_ptype = ptype_of (second_place ps).dtype; size_ptype = ptype_of (third_place ps).dtype }
 

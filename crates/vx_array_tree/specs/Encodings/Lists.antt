@@ -19,6 +19,7 @@ pub record Metadata : Type 0 where
   pub elements_len : ℕ
   pub offset_ptype : PType
 
+-- The metadata of a node over children at these places.
 abbrev pub metadata_of : List Place → Metadata
 metadata_of ps = record { elements_len = (first_place ps).len; offset_ptype = ptype_of (second_place ps).dtype }
 

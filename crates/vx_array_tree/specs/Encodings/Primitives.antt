@@ -19,6 +19,7 @@ id = codes "vortex.primitive"
 pub record Data : Type 0 where
   pub values : Buffer
 
+-- The code by which what nodes hold is told apart.
 abbrev pub data_code : Coded Data
 data_code = code_by Buffer coded_buffer (λ x. x.values) (λ b. record { values = b }) (λ _. refl)
 

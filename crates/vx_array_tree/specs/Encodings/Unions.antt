@@ -42,6 +42,7 @@ pub record HasMember (d : Typ) (rs : List Rows) (i : ℕ) : Type 0 where
 abbrev pub Content : Typ → ℕ → List Rows → Type 0
 Content d n rs = (i : ℕ) → i < n → IsThere (first rs).valid i → HasMember d rs i
 
+-- Rows, or those of which nothing is known. (Where a tag is right, some stand.)
 abbrev pub rows_or_none : Option Rows → Rows
 rows_or_none None = no_rows
 rows_or_none (Some r) = r

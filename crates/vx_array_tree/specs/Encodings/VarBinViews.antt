@@ -21,6 +21,7 @@ pub record Data : Type 0 where
   pub buffers : List Buffer
   pub views : Buffer
 
+-- The code by which what nodes hold is told apart.
 abbrev pub data_code : Coded Data
 data_code =
     code_by (List Buffer × Buffer) (coded× (coded_list coded_buffer) coded_buffer) (λ x. (x.buffers, x.views))

@@ -20,6 +20,7 @@ id = codes "vortex.varbin"
 pub record Data : Type 0 where
   pub bytes : Buffer
 
+-- The code by which what nodes hold is told apart.
 abbrev pub data_code : Coded Data
 data_code = code_by Buffer coded_buffer (λ x. x.bytes) (λ b. record { bytes = b }) (λ _. refl)
 
@@ -27,6 +28,7 @@ data_code = code_by Buffer coded_buffer (λ x. x.bytes) (λ b. record { bytes = 
 abbrev pub Metadata : Type 0
 Metadata = PType
 
+-- The metadata of a node over children at these places.
 abbrev pub metadata_of : List Place → Metadata
 metadata_of ps = ptype_of (first_place ps).dtype
 

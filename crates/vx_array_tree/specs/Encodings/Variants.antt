@@ -16,6 +16,7 @@ id = codes "vortex.variant"
 abbrev pub Metadata : Type 0
 Metadata = Option Typ
 
+-- The metadata of a node over children at these places.
 abbrev pub metadata_of : List Place → Metadata
 metadata_of (c ∷ s ∷ ps) = Some s.dtype
 metadata_of _ = None
@@ -38,6 +39,7 @@ valid_over (Some false) core = core
 valid_over (Some true) core = Some true
 valid_over None core = None
 
+-- Whether a type is one of structures.
 abbrev pub is_structure : Typ → Bool
 is_structure (node (structure ns m) ts) = true
 is_structure _ = false
