@@ -1,15 +1,10 @@
 -- The limits of what a message may weigh.
-use Rattle.std.specs.Prelude.{ℕ, ◌≤◌, ◌^◌}
+use Rattle.std.specs.Prelude.{◌≤◌, ◌^◌}
+pub use Rattle.vx_flat.specs.declared.limits.Limits.{Limits}
 use Rattle.vx_flat.specs.Weight.{Weight}
 
--- How deep tables may nest, the root counted; how many tables there may be; and how many bytes.
--- Tables and bytes count as often as a path from the root reaches them.
-pub record Limits : Type 0 where
-  pub nested : ℕ
-  pub tables : ℕ
-  pub bytes : ℕ
-
--- The limits of this project.
+-- The limits of this project: tables nest at most 64 deep, the root counted, and there are at most
+-- 1,000,000 tables and 2^31 bytes, each counted as often as a path from the root reaches it.
 abbrev pub limits : Limits
 limits = record { nested = 64; tables = 1000000; bytes = 2 ^ 31 }
 

@@ -3,7 +3,7 @@
 ghost use Rattle.std.specs.Prelude.{◌≡◌, ◌<◌, ◌^◌, ◌⊎◌, false, IfOk, IfErr, OnOk, OnErr, IsOk, length};
 ghost use Rattle.vx_flat.specs.Schema.{fields_of};
 ghost use Rattle.vx_flat.specs.Value.{Fields};
-ghost use Rattle.vx_flat.specs.View.{value as value_of};
+ghost use Rattle.vx_flat.specs.Seen.{seen, IsViewOf};
 ghost use Rattle.vx_flat.specs.IsOf.{IsOf};
 ghost use Rattle.vx_flat.specs.Shows.{Shows};
 ghost use Rattle.vx_flat.specs.Layout.{layout};
@@ -19,9 +19,8 @@ use crate::buffer::FlatBuffer;
 use crate::builder::Builder;
 use crate::builder::piece::LinkKind;
 use crate::error::FlatError;
-use crate::reading::read_value;
 use crate::schema::TableKind;
-use crate::value::TableValue;
+use crate::viewing::{View, verify_uncounted};
 use std::alloc::Global;
 
 /// A type whose table is the root of a message.
@@ -44,11 +43,15 @@ pub trait ReadFlatBuffer: Sized {
     /// Why a table is not read. Want of memory has no cause in the table.
     ghost unread: { Fields → Self.Error → Type 0 };
 
-    /// What a table shows.
-    fn read_flatbuffer(alloc: Global, value: &TableValue) -> Result<Self, Self::Error>
-        requires { IsOf Self.Kind.schema (value_of value.now) }
-        ensures read { IfOk result (λ x. reads (value_of value.now) x) }
-        ensures cause { IfErr result (λ e. unread (value_of value.now) e) };
+    /// What a table shows: a view of the kind's root table.
+    fn read_flatbuffer(alloc: Global, view: &View<'_>) -> Result<Self, Self::Error>
+        requires { IsViewOf Self.Kind.schema Self.Kind.schema.root view.now }
+        ensures read { IfOk result (λ x. reads (seen view.now) x) }
+        ensures cause { IfErr result (λ e. unread (seen view.now) e) }
+
+        // A table that can be read is read, unless memory runs out.
+        ensures complete { (x : Self) → reads (seen view.now) x
+            → IfErr result (λ e. Self.Error.from_gives OutOfMemory e) };
 
     /// What a message's root table shows.
     fn read_flatbuffer_bytes(alloc: Global, message: &[u8]) -> Result<Self, Self::Error>
@@ -58,9 +61,14 @@ pub trait ReadFlatBuffer: Sized {
         ensures cause { IfErr result
             (λ e. ((f : FlatError) × IsUnread Self.Kind.schema message.now f × Self.Error.from_gives f e)
             ⊎ ((v : Fields) × Shows Self.Kind.schema message.now v × unread v e)) }
+
+        // What a message shows within the limits and can be read is read, unless memory runs out.
+        ensures complete { (v : Fields) (x : Self) → Shows Self.Kind.schema message.now v
+            → IsLight limits (weight Self.Kind.schema message.now) → reads v x
+            → IfErr result (λ e. Self.Error.from_gives OutOfMemory e) }
     {
-        let value = read_value(alloc, message, &Self::KIND)?;
-        Self::read_flatbuffer(alloc, &value)
+        let view = verify_uncounted(message, &Self::KIND)?;
+        Self::read_flatbuffer(alloc, &view)
     }
 }
 

@@ -6,7 +6,7 @@ use Rattle.vx_types.specs.declared.nullability.Nullability.TheVariants.{NonNulla
 use Rattle.vx_types.specs.declared.ptype.PType.TheVariants.{I32}
 use Rattle.vx_arrays.specs.Tree.{Tree}
 use Rattle.vx_arrays.specs.declared.body.Body.TheVariants.{Primitive}
-use Rattle.vx_flat.specs.Worked.{array_message}
+use Rattle.vx_flat_tests.specs.Worked.{array_message}
 use Rattle.vx_registry.specs.Context.{Context}
 use Rattle.vx_serde.specs.declared.options.SerializeOptions.{SerializeOptions}
 

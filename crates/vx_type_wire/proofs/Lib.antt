@@ -2,12 +2,10 @@ pub mod Distinct
 pub mod ReadBack
 pub mod Sound
 pub mod Rows
-pub mod Sizes
-pub mod Views
+pub mod TypeViews
 pub mod OfParts
 pub mod Judging
 pub mod OneType
-pub mod Worked
 pub mod Found
 pub mod Chains
 pub mod Members

@@ -6,3 +6,4 @@ pub mod Reading
 pub mod Answers
 pub mod Shown
 pub mod Written
+pub mod Viewing

@@ -1,35 +1,19 @@
 //! What holds of the tables of types, for the contracts of other crates.
 
-ghost use Rattle.std.specs.Prelude.{◌≡◌, Bool, List, ℕ};
-ghost use Rattle.vx_flat.specs.Layout.{layout};
-ghost use Rattle.vx_flat.specs.Worked.{type_message};
+ghost use Rattle.std.specs.Prelude.{◌≡◌, List, ℕ};
 ghost use Rattle.vx_types.specs.Typ.{Typ, IsType};
 ghost use Rattle.vx_type_wire.specs.declared.error.TypeWireError.{TypeWireError};
 ghost use Rattle.vx_type_wire.specs.Known.{ExtMeaning, IsKnown, IsNotKnown};
-ghost use Rattle.vx_type_wire.specs.Schema.{type_schema};
 ghost use Rattle.vx_type_wire.specs.Shown.{ShowsType};
-ghost use Rattle.vx_type_wire.specs.TypeTable.{type_table, integers};
-
-use vx_flat::laws::{one_value, worked_type};
+ghost use Rattle.vx_type_wire.specs.TypeTable.{type_table};
 
 /// A table is of one type at most, and a message shows one type at most.
 pub fn one_type()
     ensures table { (t u : Typ) → IsType t → IsType u → type_table t ≡ type_table u → t ≡ u }
     ensures message { (m : List ℕ) (t u : Typ) → ShowsType m t → ShowsType m u → t ≡ u }
-{
-    one_value();
-}
+{}
 
 /// A type is not both known and not known under a session.
 pub fn known_or_not()
     ensures { (e : TypeWireError) (s : ExtMeaning) (t : Typ) → IsNotKnown e s t → IsKnown s t → ⊥ }
 {}
-
-/// The worked message of 45 bytes is the layout of the table of I32, not
-/// nullable, in both forms, and shows that type.
-pub fn worked_integers()
-    ensures laid_out { (sharing : Bool) → layout sharing type_schema (type_table integers) ≡ type_message }
-    ensures shown { ShowsType type_message integers }
-{
-    worked_type();
-}

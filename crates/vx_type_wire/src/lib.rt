@@ -29,8 +29,3 @@ pub use messages::DTypeExt;
 pub use readers::{ExtPlugin, ExtSession};
 pub use table::TypeTable;
 pub use weighing::MAX_LEVELS;
-
-#[cfg(test)]
-mod tests;
-#[cfg(test)]
-mod write_tests;

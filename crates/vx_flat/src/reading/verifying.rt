@@ -2,33 +2,32 @@
 //! is read.
 
 ghost use Rattle.std.specs.Prelude.{◌≡◌, ℕ, ◌+◌, ◌*◌, ◌^◌, ◌<◌, ◌≤◌, true, length};
-ghost use Rattle.std.specs.Prelude.{IsOk, IsErrOf, OnOk};
+ghost use Rattle.std.specs.Prelude.{OnOk};
 ghost use Rattle.vx_flat.specs.Schema.{table_of as table_of_tag, members_of};
 ghost use Rattle.vx_flat.specs.Places.{is_inline, are_inline, inline_size, place_of as placed};
 ghost use Rattle.vx_flat.specs.Counting.{Verifies};
 ghost use Rattle.vx_flat.specs.Weight as weigh;
-ghost use Rattle.vx_flat.specs.Limits.{limits, IsLight};
 ghost use Rattle.vx_flat.specs.Reading as read;
-ghost use Rattle.vx_flat.specs.Shows.{Shows};
-ghost use Rattle.vx_flat.specs.Value.{Fields};
 
 use crate::error::FlatError;
-use crate::limits::MAX_NESTED;
-use crate::reading::count::Count;
 use crate::reading::places::{
-    FieldTable, count_at, elements_at, place_of, table_at, tag_at, target, text_at, u32_at,
+    FieldTable, count_at, elements_at, place_of, table_at, tag_at, target, text_at,
 };
+use crate::reading::room::Room;
 use crate::schema::{FieldKind, TableKind, struct_size, tag_table};
+use crate::steps::Steps;
+use std::sync::ledger::Ledger;
 
 /// Judges and counts the string at a place.
-fn verify_text(message: &[u8], place: usize, count: &mut Count) -> Result<(), FlatError>
-    ensures { (levels : ℕ) → Verifies result (read.text_shown message.now place)
-        count.old levels (weigh.text_weight message.now place) count.new }
+fn verify_text(message: &[u8], place: usize, room: &mut Room) -> Result<(), FlatError>
+    ensures verifies { (levels : ℕ) → Verifies result (read.text_shown message.now place)
+        room.old levels (weigh.text_weight message.now place) room.new }
+    ensures tables { OnOk result (room.new.tables ≡ room.old.tables) }
 {
     let Some(text) = text_at(message, place) else {
         return Err(FlatError::BadTable);
     };
-    count.add_bytes(5 + text.len() as u64)
+    room.add_bytes(5 + text.len() as u64)
 }
 
 /// Judges and counts the elements of the vector at a place, of `size` bytes each.
@@ -36,78 +35,79 @@ fn verify_elements(
     message: &[u8],
     place: usize,
     size: usize,
-    count: &mut Count,
+    room: &mut Room,
 ) -> Result<(), FlatError>
     requires { size ≤ 8000 }
-    ensures { (levels : ℕ) → Verifies result (read.elements_shown message.now place size)
-        count.old levels (weigh.elements_weight message.now place size) count.new }
+    ensures verifies { (levels : ℕ) → Verifies result (read.elements_shown message.now place size)
+        room.old levels (weigh.elements_weight message.now place size) room.new }
+    ensures tables { OnOk result (room.new.tables ≡ room.old.tables) }
 {
     let Some(bytes) = elements_at(message, place, size) else {
         return Err(FlatError::BadTable);
     };
-    count.add_bytes(4 + bytes.len() as u64)
+    room.add_bytes(4 + bytes.len() as u64)
 }
 
 /// Judges and counts the strings that the `n` offsets from a place on aim at.
-fn verify_each_text(
-    message: &[u8],
-    place: usize,
-    n: u32,
-    count: &mut Count,
-) -> Result<(), FlatError>
+fn verify_each_text(message: &[u8], place: usize, n: u32, room: &mut Room) -> Result<(), FlatError>
     requires { place + 4 * n ≤ length message.now }
-    ensures { (levels : ℕ) → Verifies result
+    ensures verifies { (levels : ℕ) → Verifies result
         (read.each_shown (λ q. read.text_shown message.now q) message.now place n)
-        count.old levels
+        room.old levels
         (weigh.each_weight (λ q. weigh.text_weight message.now q) message.now place n)
-        count.new }
+        room.new }
+    ensures tables { OnOk result (room.new.tables ≡ room.old.tables) }
 {
     let mut at = place;
     for _ in 0..n {
-        verify_text(message, target(message, at), count)?;
+        verify_text(message, target(message, at), room)?;
         at += 4;
     }
     Ok(())
 }
 
 /// Judges and counts the strings of the vector at a place.
-fn verify_texts(message: &[u8], place: usize, count: &mut Count) -> Result<(), FlatError>
-    ensures { (levels : ℕ) → Verifies result
+fn verify_texts(message: &[u8], place: usize, room: &mut Room) -> Result<(), FlatError>
+    ensures verifies { (levels : ℕ) → Verifies result
         (read.vector_shown (λ q. read.text_shown message.now q) message.now place)
-        count.old levels
+        room.old levels
         (weigh.vector_weight (λ q. weigh.text_weight message.now q) message.now place)
-        count.new }
+        room.new }
+    ensures tables { OnOk result (room.new.tables ≡ room.old.tables) }
 {
     let Some(n) = count_at(message, place) else {
         return Err(FlatError::BadTable);
     };
-    count.add_bytes(4 + 4 * n as u64)?;
-    verify_each_text(message, place + 4, n, count)
+    room.add_bytes(4 + 4 * n as u64)?;
+    verify_each_text(message, place + 4, n, room)
 }
 
 /// Judges and counts the tables that the `n` offsets from a place on aim at.
 #[cycle(verifying)]
-fn verify_each_table<K: TableKind>(
+fn verify_each_table<K: TableKind, L: Ledger>(
     message: &[u8],
     kind: &K,
     place: usize,
     n: u32,
     table: u16,
     levels: u32,
-    count: &mut Count,
+    room: &mut Room,
+    steps: &mut Steps<L>,
 ) -> Result<(), FlatError>
     requires { place + 4 * n ≤ length message.now }
-    ensures { Verifies result
+    ensures verifies { Verifies result
         (read.each_shown (λ q. read.table_shown K.schema message.now q table) message.now place n)
-        count.old levels
+        room.old levels
         (weigh.each_weight (λ q. weigh.table_weight K.schema message.now q table)
         message.now place n)
-        count.new }
+        room.new }
+    ensures exact { OnOk result (steps.new + room.new.tables ≡ steps.old + room.old.tables) }
+    ensures bound { steps.new ≤ steps.old + room.old.tables + 1 }
 {
     let mut at = place;
     for _ in 0..n {
         let aim = target(message, at);
-        verify_table(message, kind, aim, table, levels, count)?;
+        verify_table(message, kind, aim, table, levels, room, steps)?;
         at += 4;
     }
     Ok(())
@@ -115,90 +115,99 @@ fn verify_each_table<K: TableKind>(
 
 /// Judges and counts the tables of the vector at a place.
 #[cycle(verifying)]
-fn verify_tables<K: TableKind>(
+fn verify_tables<K: TableKind, L: Ledger>(
     message: &[u8],
     kind: &K,
     place: usize,
     table: u16,
     levels: u32,
-    count: &mut Count,
+    room: &mut Room,
+    steps: &mut Steps<L>,
 ) -> Result<(), FlatError>
-    ensures { Verifies result
+    ensures verifies { Verifies result
         (read.vector_shown (λ q. read.table_shown K.schema message.now q table) message.now place)
-        count.old levels
+        room.old levels
         (weigh.vector_weight (λ q. weigh.table_weight K.schema message.now q table)
         message.now place)
-        count.new }
+        room.new }
+    ensures exact { OnOk result (steps.new + room.new.tables ≡ steps.old + room.old.tables) }
+    ensures bound { steps.new ≤ steps.old + room.old.tables + 1 }
 {
     let Some(n) = count_at(message, place) else {
         return Err(FlatError::BadTable);
     };
-    count.add_bytes(4 + 4 * n as u64)?;
-    verify_each_table(message, kind, place + 4, n, table, levels, count)
+    room.add_bytes(4 + 4 * n as u64)?;
+    verify_each_table(message, kind, place + 4, n, table, levels, room, steps)
 }
 
 /// Judges and counts the table that a union's offset aims at, where its tag has one.
 #[cycle(verifying)]
-fn verify_member<K: TableKind>(
+fn verify_member<K: TableKind, L: Ledger>(
     message: &[u8],
     kind: &K,
     union: u16,
     tag: u8,
     aim: usize,
     levels: u32,
-    count: &mut Count,
+    room: &mut Room,
+    steps: &mut Steps<L>,
 ) -> Result<(), FlatError>
-    ensures { Verifies result
+    ensures verifies { Verifies result
         (read.member_shown (λ q T. read.table_shown K.schema message.now q T) aim tag
         (table_of_tag (members_of K.schema union) tag))
-        count.old levels
+        room.old levels
         (weigh.member_weight (λ q T. weigh.table_weight K.schema message.now q T) aim
         (table_of_tag (members_of K.schema union) tag))
-        count.new }
+        room.new }
+    ensures exact { OnOk result (steps.new + room.new.tables ≡ steps.old + room.old.tables) }
+    ensures bound { steps.new ≤ steps.old + room.old.tables + 1 }
 {
     match tag_table(kind, union, tag) {
-        Some(table) => verify_table(message, kind, aim, table, levels, count),
+        Some(table) => verify_table(message, kind, aim, table, levels, room, steps),
         None => Ok(()),
     }
 }
 
 /// Judges and counts what hangs on a present field that is not a union.
 #[cycle(verifying)]
-fn verify_present<K: TableKind>(
+fn verify_present<K: TableKind, L: Ledger>(
     message: &[u8],
     kind: &K,
     field: FieldKind,
     place: usize,
     levels: u32,
-    count: &mut Count,
+    room: &mut Room,
+    steps: &mut Steps<L>,
 ) -> Result<(), FlatError>
     requires { place + inline_size field ≤ length message.now }
-    ensures { Verifies result
+    ensures verifies { Verifies result
         (read.present_shown K.schema (λ q T. read.table_shown K.schema message.now q T)
         message.now field place)
-        count.old levels
+        room.old levels
         (weigh.present_weight K.schema (λ q T. weigh.table_weight K.schema message.now q T)
         message.now field place)
-        count.new }
+        room.new }
+    ensures exact { OnOk result (steps.new + room.new.tables ≡ steps.old + room.old.tables) }
+    ensures bound { steps.new ≤ steps.old + room.old.tables + 1 }
 {
     match field {
         FieldKind::Vector(width) => {
             let aim = target(message, place);
-            verify_elements(message, aim, width.bytes(), count)
+            verify_elements(message, aim, width.bytes(), room)
         }
         FieldKind::Structs(number) => {
             let aim = target(message, place);
-            verify_elements(message, aim, struct_size(kind, number), count)
+            verify_elements(message, aim, struct_size(kind, number), room)
         }
-        FieldKind::Text => verify_text(message, target(message, place), count),
-        FieldKind::Texts => verify_texts(message, target(message, place), count),
+        FieldKind::Text => verify_text(message, target(message, place), room),
+        FieldKind::Texts => verify_texts(message, target(message, place), room),
         FieldKind::Table(table) => {
             let aim = target(message, place);
-            verify_table(message, kind, aim, table, levels, count)
+            verify_table(message, kind, aim, table, levels, room, steps)
         }
         FieldKind::Tables(table) => {
             let aim = target(message, place);
-            verify_tables(message, kind, aim, table, levels, count)
+            verify_tables(message, kind, aim, table, levels, room, steps)
         }
         _ => Ok(()),
     }
@@ -206,7 +215,7 @@ fn verify_present<K: TableKind>(
 
 /// Judges and counts what hangs on the field of an entry and, where it is a union, of the entry after that.
 #[cycle(verifying)]
-fn verify_field<K: TableKind>(
+fn verify_field<K: TableKind, L: Ledger>(
     message: &[u8],
     kind: &K,
     field: FieldKind,
@@ -214,22 +223,25 @@ fn verify_field<K: TableKind>(
     fields: FieldTable,
     entry: usize,
     levels: u32,
-    count: &mut Count,
+    room: &mut Room,
+    steps: &mut Steps<L>,
 ) -> Result<(), FlatError>
     requires lies { fields.place + fields.len ≤ length message.now }
     requires here { place < length message.now }
     requires few { entry + 1 < 2 ^ 62 }
     requires inline { is_inline message.now field (placed message.now place fields entry)
         (placed message.now place fields (entry + 1)) ≡ true }
-    ensures { Verifies result
+    ensures verifies { Verifies result
         (read.field_shown K.schema (λ q T. read.table_shown K.schema message.now q T)
         message.now field (placed message.now place fields entry)
         (placed message.now place fields (entry + 1)))
-        count.old levels
+        room.old levels
         (weigh.field_weight K.schema (λ q T. weigh.table_weight K.schema message.now q T)
         message.now field (placed message.now place fields entry)
         (placed message.now place fields (entry + 1)))
-        count.new }
+        room.new }
+    ensures exact { OnOk result (steps.new + room.new.tables ≡ steps.old + room.old.tables) }
+    ensures bound { steps.new ≤ steps.old + room.old.tables + 1 }
 {
     let here = place_of(message, place, fields, entry);
     if let FieldKind::Union(union) = field {
@@ -244,40 +256,46 @@ fn verify_field<K: TableKind>(
             tag,
             target(message, next),
             levels,
-            count,
+            room,
+            steps,
         );
     }
     match here {
         None => Ok(()),
-        Some(here) => verify_present(message, kind, field, here, levels, count),
+        Some(here) => verify_present(message, kind, field, here, levels, room, steps),
     }
 }
 
 /// Judges and counts what hangs on the fields of a table.
 #[cycle(verifying)]
-fn verify_fields<K: TableKind>(
+fn verify_fields<K: TableKind, L: Ledger>(
     message: &[u8],
     kind: &K,
     place: usize,
     fields: FieldTable,
     kinds: &[FieldKind],
     levels: u32,
-    count: &mut Count,
+    room: &mut Room,
+    steps: &mut Steps<L>,
 ) -> Result<(), FlatError>
     requires lies { fields.place + fields.len ≤ length message.now }
     requires here { place < length message.now }
     requires inline { are_inline message.now place fields kinds.now 0 ≡ true }
-    ensures { Verifies result
+    ensures verifies { Verifies result
         (read.fields_shown K.schema (λ q T. read.table_shown K.schema message.now q T)
         message.now place fields kinds.now 0)
-        count.old levels
+        room.old levels
         (weigh.fields_weight K.schema (λ q T. weigh.table_weight K.schema message.now q T)
         message.now place fields kinds.now 0)
-        count.new }
+        room.new }
+    ensures exact { OnOk result (steps.new + room.new.tables ≡ steps.old + room.old.tables) }
+    ensures bound { steps.new ≤ steps.old + room.old.tables + 1 }
 {
     let mut entry: usize = 0;
     for field in kinds {
-        verify_field(message, kind, *field, place, fields, entry, levels, count)?;
+        verify_field(
+            message, kind, *field, place, fields, entry, levels, room, steps,
+        )?;
         entry += field.slots();
     }
     Ok(())
@@ -285,17 +303,21 @@ fn verify_fields<K: TableKind>(
 
 /// Judges and counts the table at a place, where `levels` tables may nest still, this one counted.
 #[cycle(verifying)]
-fn verify_table<K: TableKind>(
+pub fn verify_table<K: TableKind, L: Ledger>(
     message: &[u8],
     kind: &K,
     place: usize,
     table: u16,
     levels: u32,
-    count: &mut Count,
+    room: &mut Room,
+    steps: &mut Steps<L>,
 ) -> Result<(), FlatError>
-    ensures { Verifies result (read.table_shown K.schema message.now place table)
-        count.old levels (weigh.table_weight K.schema message.now place table) count.new }
+    ensures verifies { Verifies result (read.table_shown K.schema message.now place table)
+        room.old levels (weigh.table_weight K.schema message.now place table) room.new }
+    ensures exact { OnOk result (steps.new + room.new.tables ≡ steps.old + room.old.tables) }
+    ensures bound { steps.new ≤ steps.old + room.old.tables + 1 }
 {
+    steps.tick();
     let kinds = kind.fields(table);
     let Some(fields) = table_at(message, place, kinds) else {
         return Err(FlatError::BadTable);
@@ -303,25 +325,6 @@ fn verify_table<K: TableKind>(
     if levels == 0 {
         return Err(FlatError::TableLimit);
     }
-    count.add_table()?;
-    verify_fields(message, kind, place, fields, kinds, levels - 1, count)
-}
-
-/// Whether the message shows a value within the limits.
-pub fn verify_message<K: TableKind>(message: &[u8], kind: &K) -> Result<(), FlatError>
-    ensures shows { IsOk result → (v : Fields) × Shows K.schema message.now v }
-    ensures light { OnOk result (IsLight limits (weigh.weight K.schema message.now)) }
-    ensures bad { IsErrOf result FlatError.BadTable
-        → (v : Fields) → Shows K.schema message.now v → ⊥ }
-    ensures limit { IsErrOf result FlatError.TableLimit
-        → IsLight limits (weigh.weight K.schema message.now) → ⊥ }
-    ensures takes_no_memory { IsErrOf result FlatError.OutOfMemory → ⊥ }
-    ensures never_long { IsErrOf result FlatError.MessageTooLong → ⊥ }
-{
-    if message.len() < 4 {
-        return Err(FlatError::BadTable);
-    }
-    let mut count = Count::new();
-    let root = u32_at(message, 0) as usize;
-    verify_table(message, kind, root, kind.root(), MAX_NESTED, &mut count)
+    room.add_table(levels - 1)?;
+    verify_fields(message, kind, place, fields, kinds, levels - 1, room, steps)
 }

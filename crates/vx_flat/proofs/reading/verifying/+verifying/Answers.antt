@@ -1,4 +1,4 @@
-use Rattle.std.proofs.Common.{rules, ◌≡◌, ◌-◌, suc, [], arith, drop, get_or, ◌+◌}
+use Rattle.std.proofs.Common.{rules, refl, ◌≡◌, ◌-◌, suc, [], arith, drop, get_or, ◌+◌}
 use Rattle.std.proofs.lemmas.Result.{err_from_is_err_and}
 use Rattle.std.proofs.lemmas.List.{drop_more}
 use Rattle.vx_flat.specs.declared.schema.FieldKind.TheVariants.{Number}
@@ -21,81 +21,85 @@ verify_each_table-loop-init g n c =
     let s = g.K.TableKind.schema in (
       omega arith,
       each_starts m (λ q. table_shown s m q c.args.table)
-          (λ q. table_weight s m q c.args.table) c.args.count.now c.args.levels c.args.place c.args.n,
+          (λ q. table_weight s m q c.args.table) c.args.room.now c.args.levels c.args.place c.args.n,
+      refl,
     )
 
-pub verify_each_table-returns-in_err-verify_table : goal.verify_each_table-returns-in_err-verify_table
-verify_each_table-returns-in_err-verify_table g n c =
+pub verify_each_table-returns-in_err-verify_table-clause-verifies : goal.verify_each_table-returns-in_err-verify_table-clause-verifies
+verify_each_table-returns-in_err-verify_table-clause-verifies g n c =
     let p = err_from_is_err_and c.from_residual.result c.from_residual.ensures.1 in
     let m = c.args.message.now in
     let s = g.K.TableKind.schema in
     rw (p.1, p.2)
     (each_fails m (λ q. table_shown s m q c.args.table)
-    (λ q. table_weight s m q c.args.table) c.args.count.now c.args.levels c.args.place c.args.n
-    c.in_err-verify_table.field-0.0 c.loop.count c.loop.at c.loop.counter
-    c.loop-test.true c.loop.invariant.1 (rw (← c.target-aim.ensures) c.in_err-verify_table.ensures))
+    (λ q. table_weight s m q c.args.table) c.args.room.now c.args.levels c.args.place c.args.n
+    c.in_err-verify_table.field-0.0 c.loop.room c.loop.at c.loop.counter
+    c.loop-test.true c.loop.invariant.1 (rw (← c.target-aim.ensures) c.in_err-verify_table.ensures.verifies))
 
 pub verify_each_table-loop-preserved : goal.verify_each_table-loop-preserved
 verify_each_table-loop-preserved g n c =
     let m = c.args.message.now in
     let s = g.K.TableKind.schema in
-    let k = c.in_ok-verify_table.ensures in (
+    let k = c.in_ok-verify_table.ensures.verifies in (
       omega (arith, c.loop.invariant.0),
       each_next m (λ q. table_shown s m q c.args.table)
-          (λ q. table_weight s m q c.args.table) c.args.count.now c.args.levels c.args.place c.args.n c.loop.count
-          c.verify_table.new.count c.loop.at c.loop.counter c.loop-test.true c.loop.invariant.1
+          (λ q. table_weight s m q c.args.table) c.args.room.now c.args.levels c.args.place c.args.n c.loop.room
+          c.verify_table.new.room c.loop.at c.loop.counter c.loop-test.true c.loop.invariant.1
           (rw (← c.target-aim.ensures) k.0)
           (rw (← c.target-aim.ensures) k.1),
+      let e = c.in_ok-verify_table.ensures.exact in
+          omega (arith, c.loop.invariant.2, e),
     )
 
-pub verify_each_table-returns : goal.verify_each_table-returns
-verify_each_table-returns g n c =
+pub verify_each_table-returns-clause-verifies : goal.verify_each_table-returns-clause-verifies
+verify_each_table-returns-clause-verifies g n c =
     let m = c.args.message.now in
     let s = g.K.TableKind.schema in
     each_done m (λ q. table_shown s m q c.args.table)
-    (λ q. table_weight s m q c.args.table) c.args.count.now c.args.levels c.args.place c.args.n c.loop.count
+    (λ q. table_weight s m q c.args.table) c.args.room.now c.args.levels c.args.place c.args.n c.loop.room
     c.loop.at c.loop.counter
     c.loop-test.false c.loop.invariant.1
 
-pub verify_tables-returns-in_err-add_bytes : goal.verify_tables-returns-in_err-add_bytes
-verify_tables-returns-in_err-add_bytes g n c =
+pub verify_tables-returns-in_err-add_bytes-clause-verifies : goal.verify_tables-returns-in_err-add_bytes-clause-verifies
+verify_tables-returns-in_err-add_bytes-clause-verifies g n c =
     let p = err_from_is_err_and c.from_residual.result c.from_residual.ensures.1 in
-    let k = c.in_err-add_bytes.ensures c.args.levels in
+    let k = c.in_err-add_bytes.ensures.counts c.args.levels in
     let m = c.args.message.now in
     let s = g.K.TableKind.schema in
     rw (p.1, p.2, k.0)
     (vector_crowded m (λ q. table_shown s m q c.args.table)
-    (λ q. table_weight s m q c.args.table) c.args.count.now c.args.levels c.args.place c.in-Some.n
+    (λ q. table_weight s m q c.args.table) c.args.room.now c.args.levels c.args.place c.in-Some.n
     c.in-Some.ensures.count k.1)
 
-pub verify_tables-returns : goal.verify_tables-returns
-verify_tables-returns g n c =
+pub verify_tables-returns-clause-verifies : goal.verify_tables-returns-clause-verifies
+verify_tables-returns-clause-verifies g n c =
     let m = c.args.message.now in
     let s = g.K.TableKind.schema in
     vector_verified m (λ q. table_shown s m q c.args.table)
-    (λ q. table_weight s m q c.args.table) c.args.count.now c.args.levels c.args.place c.in-Some.n
+    (λ q. table_weight s m q c.args.table) c.args.room.now c.args.levels c.args.place c.in-Some.n
     c.in-Some.ensures.count
-    c.verify_each_table.result c.add_bytes.new.self c.verify_each_table.new.count
-    (c.in_ok-add_bytes.ensures c.args.levels) c.verify_each_table.ensures
+    c.verify_each_table.result c.add_bytes.new.self c.verify_each_table.new.room
+    (c.in_ok-add_bytes.ensures.counts c.args.levels) c.verify_each_table.ensures.verifies
 
 pub verify_fields-loop-field-init : goal.verify_fields-loop-field-init
 verify_fields-loop-field-init g n c = record {
   few = omega arith;
   inline = c.requires.inline;
   so_far = fields_start g.K.TableKind.schema c.args.message.now c.args.place c.args.fields c.args.kinds.now
-      c.args.count.now c.args.levels;
+      c.args.room.now c.args.levels;
+  exact = refl;
 }
 
-pub verify_fields-returns-in_err-verify_field : goal.verify_fields-returns-in_err-verify_field
-verify_fields-returns-in_err-verify_field g n c =
+pub verify_fields-returns-in_err-verify_field-clause-verifies : goal.verify_fields-returns-in_err-verify_field-clause-verifies
+verify_fields-returns-in_err-verify_field-clause-verifies g n c =
     let p = err_from_is_err_and c.from_residual.result c.from_residual.ensures.1 in
     let ks = c.args.kinds.now in
     let i = c.loop-field.field-index in
     rw (p.1, p.2)
-    (fields_fail g.K.TableKind.schema c.args.message.now c.args.place c.args.fields ks c.args.count.now
-    c.args.levels c.loop-field.count (get_or ks i (Number One)) (drop (i + 1) ks) (drop i ks) c.loop-field.entry
+    (fields_fail g.K.TableKind.schema c.args.message.now c.args.place c.args.fields ks c.args.room.now
+    c.args.levels c.loop-field.room (get_or ks i (Number One)) (drop (i + 1) ks) (drop i ks) c.loop-field.entry
     (drop_more ks i (Number One) c.loop-field-test.true) c.loop-field.invariant.so_far c.in_err-verify_field.field-0.0
-    c.in_err-verify_field.ensures)
+    c.in_err-verify_field.ensures.verifies)
 
 pub verify_fields-loop-field-preserved : goal.verify_fields-loop-field-preserved
 verify_fields-loop-field-preserved g n c =
@@ -109,89 +113,90 @@ verify_fields-loop-field-preserved g n c =
           (inline_head g.K.TableKind.schema c.args.message.now c.args.place c.args.fields k (drop (i + 1) ks)
           (drop i ks) c.loop-field.entry more c.loop-field.invariant.inline).1;
       so_far = rw c.slots-entry.ensures.value
-          (fields_next g.K.TableKind.schema c.args.message.now c.args.place c.args.fields ks c.args.count.now
-          c.args.levels c.loop-field.count k (drop (i + 1) ks) (drop i ks) c.loop-field.entry more
-          c.loop-field.invariant.so_far c.verify_field.new.count c.in_ok-verify_field.ensures.0
-          c.in_ok-verify_field.ensures.1);
+          (fields_next g.K.TableKind.schema c.args.message.now c.args.place c.args.fields ks c.args.room.now
+          c.args.levels c.loop-field.room k (drop (i + 1) ks) (drop i ks) c.loop-field.entry more
+          c.loop-field.invariant.so_far c.verify_field.new.room c.in_ok-verify_field.ensures.verifies.0
+          c.in_ok-verify_field.ensures.verifies.1);
+      exact = let e = c.in_ok-verify_field.ensures.exact in omega (arith, c.loop-field.invariant.exact, e);
     }
 
-pub verify_fields-returns : goal.verify_fields-returns
-verify_fields-returns g n c =
+pub verify_fields-returns-clause-verifies : goal.verify_fields-returns-clause-verifies
+verify_fields-returns-clause-verifies g n c =
     let ks = c.args.kinds.now in
     let i = c.loop-field.field-index in
     let none : drop i ks ≡ [] = drop_of_length-le ks c.loop-field-test.false in
-    fields_done g.K.TableKind.schema c.args.message.now c.args.place c.args.fields ks c.args.count.now c.args.levels
-    c.loop-field.count (drop i ks) c.loop-field.entry none c.loop-field.invariant.so_far
+    fields_done g.K.TableKind.schema c.args.message.now c.args.place c.args.fields ks c.args.room.now c.args.levels
+    c.loop-field.room (drop i ks) c.loop-field.entry none c.loop-field.invariant.so_far
 
-pub verify_table-returns-in_default : goal.verify_table-returns-in_default
-verify_table-returns-in_default g n c =
+pub verify_table-returns-in_default-clause-verifies : goal.verify_table-returns-in_default-clause-verifies
+verify_table-returns-in_default-clause-verifies g n c =
     table_missing g.K.TableKind.schema c.args.message.now c.args.place c.args.table c.fields-kinds.result.now
     c.fields-kinds.ensures c.in_default.ensures
 
-pub verify_table-returns-then-levels-eq0 : goal.verify_table-returns-then-levels-eq0
-verify_table-returns-then-levels-eq0 g n c =
+pub verify_table-returns-then-levels-eq0-clause-verifies : goal.verify_table-returns-then-levels-eq0-clause-verifies
+verify_table-returns-then-levels-eq0-clause-verifies g n c =
     no_levels g.K.TableKind.schema c.args.message.now c.args.place c.args.table c.in-Some.fields
-    c.fields-kinds.result.now c.fields-kinds.ensures c.in-Some.ensures c.args.count.now c.args.levels
+    c.fields-kinds.result.now c.fields-kinds.ensures c.in-Some.ensures c.args.room.now c.args.levels
     c.if-levels-eq0.true
 
-pub verify_table-returns-in_err-add_table : goal.verify_table-returns-in_err-add_table
-verify_table-returns-in_err-add_table g n c =
+pub verify_table-returns-in_err-add_table-clause-verifies : goal.verify_table-returns-in_err-add_table-clause-verifies
+verify_table-returns-in_err-add_table-clause-verifies g n c =
     let p = err_from_is_err_and c.from_residual.result c.from_residual.ensures.1 in
-    let k = c.in_err-add_table.ensures (c.args.levels - 1) in
+    let k = c.in_err-add_table.ensures in
     let l : c.args.levels ≡ suc (c.args.levels - 1) = omega arith in
     rw (p.1, p.2, k.0, l)
     (crowded g.K.TableKind.schema c.args.message.now c.args.place c.args.table c.in-Some.fields
-    c.fields-kinds.result.now c.fields-kinds.ensures c.in-Some.ensures c.args.count.now (c.args.levels - 1) k.1)
+    c.fields-kinds.result.now c.fields-kinds.ensures c.in-Some.ensures c.args.room.now (c.args.levels - 1) k.1)
 
 pub verify_table-verify_fields-requires : goal.verify_table-verify_fields-requires
 verify_table-verify_fields-requires g n c =
     let l = table_lies c.args.message.now c.args.place c.fields-kinds.result.now c.in-Some.fields c.in-Some.ensures in
-    λ ks o. (search rules, (o, (l.0, (l.1, l.2))))
+    λ ks o. (search rules, (o.0, (o.1, (l.0, (l.1, l.2)))))
 
-pub verify_table-returns : goal.verify_table-returns
-verify_table-returns g n c =
+pub verify_table-returns-clause-verifies : goal.verify_table-returns-clause-verifies
+verify_table-returns-clause-verifies g n c =
     let l : c.args.levels ≡ suc (c.args.levels - 1) = omega arith in
     rw l (table_verified g.K.TableKind.schema c.args.message.now c.args.place c.args.table c.in-Some.fields
-    c.fields-kinds.result.now c.fields-kinds.ensures c.in-Some.ensures c.verify_fields.result c.args.count.now
-    c.add_table.new.self c.verify_fields.new.count
-    (c.args.levels - 1) (c.in_ok-add_table.ensures (c.args.levels - 1)) c.verify_fields.ensures)
+    c.fields-kinds.result.now c.fields-kinds.ensures c.in-Some.ensures c.verify_fields.result c.args.room.now
+    c.add_table.new.self c.verify_fields.new.room
+    (c.args.levels - 1) c.in_ok-add_table.ensures c.verify_fields.ensures.verifies)
 
-pub verify_present-returns-in-Vector : goal.verify_present-returns-in-Vector
-verify_present-returns-in-Vector g n c =
+pub verify_present-returns-in-Vector-clause-verifies : goal.verify_present-returns-in-Vector-clause-verifies
+verify_present-returns-in-Vector-clause-verifies g n c =
     let m = c.args.message.now in
     let s = g.K.TableKind.schema in
     rw (c.in-Vector.is, ← c.target-aim.ensures, ← c.bytes.ensures.value)
-    (verifies_map c.verify_elements.result (elements_shown m c.target-aim.result c.bytes.result) (λ bs. elements bs) c.args.count.now c.args.levels
-    (elements_weight m c.target-aim.result c.bytes.result) c.verify_elements.new.count (c.verify_elements.ensures c.args.levels))
+    (verifies_map c.verify_elements.result (elements_shown m c.target-aim.result c.bytes.result) (λ bs. elements bs) c.args.room.now c.args.levels
+    (elements_weight m c.target-aim.result c.bytes.result) c.verify_elements.new.room (c.verify_elements.ensures.verifies c.args.levels))
 
-pub verify_present-returns-in-Structs : goal.verify_present-returns-in-Structs
-verify_present-returns-in-Structs g n c =
+pub verify_present-returns-in-Structs-clause-verifies : goal.verify_present-returns-in-Structs-clause-verifies
+verify_present-returns-in-Structs-clause-verifies g n c =
     let m = c.args.message.now in
     let s = g.K.TableKind.schema in
     rw (c.in-Structs.is, ← c.target-aim-in-Structs.ensures, ← c.struct_size.ensures.value)
-    (verifies_map c.verify_elements-in-Structs.result (elements_shown m c.target-aim-in-Structs.result c.struct_size.result) (λ bs. elements bs) c.args.count.now c.args.levels
-    (elements_weight m c.target-aim-in-Structs.result c.struct_size.result) c.verify_elements-in-Structs.new.count (c.verify_elements-in-Structs.ensures c.args.levels))
+    (verifies_map c.verify_elements-in-Structs.result (elements_shown m c.target-aim-in-Structs.result c.struct_size.result) (λ bs. elements bs) c.args.room.now c.args.levels
+    (elements_weight m c.target-aim-in-Structs.result c.struct_size.result) c.verify_elements-in-Structs.new.room (c.verify_elements-in-Structs.ensures.verifies c.args.levels))
 
-pub verify_present-returns-in-Text : goal.verify_present-returns-in-Text
-verify_present-returns-in-Text g n c =
+pub verify_present-returns-in-Text-clause-verifies : goal.verify_present-returns-in-Text-clause-verifies
+verify_present-returns-in-Text-clause-verifies g n c =
     let m = c.args.message.now in
     let s = g.K.TableKind.schema in
     rw (c.in-Text.is, ← c.target.ensures)
-    (verifies_map c.verify_text.result (text_shown m c.target.result) (λ bs. text bs) c.args.count.now c.args.levels
-    (text_weight m c.target.result) c.verify_text.new.count (c.verify_text.ensures c.args.levels))
+    (verifies_map c.verify_text.result (text_shown m c.target.result) (λ bs. text bs) c.args.room.now c.args.levels
+    (text_weight m c.target.result) c.verify_text.new.room (c.verify_text.ensures.verifies c.args.levels))
 
-pub verify_present-returns-in-Texts : goal.verify_present-returns-in-Texts
-verify_present-returns-in-Texts g n c =
+pub verify_present-returns-in-Texts-clause-verifies : goal.verify_present-returns-in-Texts-clause-verifies
+verify_present-returns-in-Texts-clause-verifies g n c =
     let m = c.args.message.now in
     let s = g.K.TableKind.schema in
     rw (c.in-Texts.is, ← c.target-in-Texts.ensures)
-    (verifies_map c.verify_texts.result (vector_shown (λ q. text_shown m q) m c.target-in-Texts.result) (λ ss. texts ss) c.args.count.now c.args.levels
-    (vector_weight (λ q. text_weight m q) m c.target-in-Texts.result) c.verify_texts.new.count (c.verify_texts.ensures c.args.levels))
+    (verifies_map c.verify_texts.result (vector_shown (λ q. text_shown m q) m c.target-in-Texts.result) (λ ss. texts ss) c.args.room.now c.args.levels
+    (vector_weight (λ q. text_weight m q) m c.target-in-Texts.result) c.verify_texts.new.room (c.verify_texts.ensures.verifies c.args.levels))
 
-pub verify_present-returns-in-Tables : goal.verify_present-returns-in-Tables
-verify_present-returns-in-Tables g n c =
+pub verify_present-returns-in-Tables-clause-verifies : goal.verify_present-returns-in-Tables-clause-verifies
+verify_present-returns-in-Tables-clause-verifies g n c =
     let m = c.args.message.now in
     let s = g.K.TableKind.schema in
     rw (c.in-Tables.is, ← c.target-aim-in-Tables.ensures)
-    (verifies_map c.verify_tables.result (vector_shown (λ q. table_shown s m q c.in-Tables.table) m c.target-aim-in-Tables.result) (λ rs. tables (rows_from rs)) c.args.count.now c.args.levels
-    (vector_weight (λ q. table_weight s m q c.in-Tables.table) m c.target-aim-in-Tables.result) c.verify_tables.new.count c.verify_tables.ensures)
+    (verifies_map c.verify_tables.result (vector_shown (λ q. table_shown s m q c.in-Tables.table) m c.target-aim-in-Tables.result) (λ rs. tables (rows_from rs)) c.args.room.now c.args.levels
+    (vector_weight (λ q. table_weight s m q c.in-Tables.table) m c.target-aim-in-Tables.result) c.verify_tables.new.room c.verify_tables.ensures.verifies)

@@ -1,4 +1,4 @@
-use Rattle.std.proofs.Common.{arith}
+use Rattle.std.proofs.Common.{arith, refl, ◌∙◌}
 use Rattle.std.proofs.lemmas.Result.{err_from_is_err_and}
 use Rattle.vx_flat.specs.Weight.{text_weight}
 use Rattle.vx_flat.specs.Reading.{text_shown}
@@ -9,35 +9,37 @@ pub loop-init : goal.loop-init
 loop-init c = (
   omega arith,
   λ levels. each_starts c.args.message.now (λ q. text_shown c.args.message.now q)
-      (λ q. text_weight c.args.message.now q) c.args.count.now levels c.args.place c.args.n,
+      (λ q. text_weight c.args.message.now q) c.args.room.now levels c.args.place c.args.n,
+  refl,
 )
 
-pub returns-in_err-verify_text : goal.returns-in_err-verify_text
-returns-in_err-verify_text c = λ levels.
+pub returns-in_err-verify_text-clause-verifies : goal.returns-in_err-verify_text-clause-verifies
+returns-in_err-verify_text-clause-verifies c = λ levels.
     let p = err_from_is_err_and c.from_residual.result c.from_residual.ensures.1 in
     let m = c.args.message.now in
     rw (p.1, p.2)
     (each_fails m (λ q. text_shown m q)
-    (λ q. text_weight m q) c.args.count.now levels c.args.place c.args.n c.in_err-verify_text.field-0.0 c.loop.count
+    (λ q. text_weight m q) c.args.room.now levels c.args.place c.args.n c.in_err-verify_text.field-0.0 c.loop.room
     c.loop.at c.loop.counter
-    c.loop-test.true (c.loop.invariant.1 levels) (rw (← c.target.ensures) (c.in_err-verify_text.ensures levels)))
+    c.loop-test.true (c.loop.invariant.1 levels) (rw (← c.target.ensures) (c.in_err-verify_text.ensures.verifies levels)))
 
 pub loop-preserved : goal.loop-preserved
 loop-preserved c = (
   omega (arith, c.loop.invariant.0),
   λ levels.
       let m = c.args.message.now in
-      let k = c.in_ok-verify_text.ensures levels in
+      let k = c.in_ok-verify_text.ensures.verifies levels in
       each_next m (λ q. text_shown m q)
-      (λ q. text_weight m q) c.args.count.now levels c.args.place c.args.n c.loop.count c.verify_text.new.count
+      (λ q. text_weight m q) c.args.room.now levels c.args.place c.args.n c.loop.room c.verify_text.new.room
       c.loop.at c.loop.counter
       c.loop-test.true (c.loop.invariant.1 levels) (rw (← c.target.ensures) k.0)
       (rw (← c.target.ensures) k.1),
+  let e = c.in_ok-verify_text.ensures.tables in e ∙ c.loop.invariant.2,
 )
 
-pub returns : goal.returns
-returns c = λ levels.
+pub returns-clause-verifies : goal.returns-clause-verifies
+returns-clause-verifies c = λ levels.
     each_done c.args.message.now (λ q. text_shown c.args.message.now q)
-    (λ q. text_weight c.args.message.now q) c.args.count.now levels c.args.place c.args.n c.loop.count c.loop.at
+    (λ q. text_weight c.args.message.now q) c.args.room.now levels c.args.place c.args.n c.loop.room c.loop.at
     c.loop.counter
     c.loop-test.false (c.loop.invariant.1 levels)

@@ -9,4 +9,5 @@ invariant-loop l =
     (l.at ≡ l.place + 4 * l.counter)
     × ((levels : ℕ)
     → EachSoFar l.message (λ q. text_shown l.message q)
-    (λ q. text_weight l.message q) l.fn.count levels l.place l.n l.count l.at l.counter)
+    (λ q. text_weight l.message q) l.fn.room levels l.place l.n l.room l.at l.counter)
+    × (l.room.tables ≡ l.fn.room.tables)

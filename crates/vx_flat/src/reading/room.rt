@@ -1,0 +1,58 @@
+//! What a verifier may still count.
+
+ghost use Rattle.std.specs.Prelude.{◌≡◌, ℕ, suc};
+ghost use Rattle.vx_flat.specs.Counting.{Counts, all_of};
+ghost use Rattle.vx_flat.specs.Weight.{bytes_alone, table_around, nothing};
+
+use crate::error::FlatError;
+use crate::limits::Limits;
+
+/// How many tables may still be entered, how many bytes may still be counted, and how many tables
+/// could have been nested in the deepest one that was entered.
+#[derive(Drop)]
+pub struct Room {
+    pub tables: u32,
+    pub bytes: u64,
+    pub levels: u32,
+}
+
+impl Room {
+    /// All of what limits allow.
+    pub fn new(limits: Limits) -> Room
+        ensures { result ≡ all_of limits }
+    {
+        Room {
+            tables: limits.tables,
+            bytes: limits.bytes,
+            levels: limits.nested,
+        }
+    }
+
+    /// Counts a vector or a string.
+    pub fn add_bytes(&mut self, bytes: u64) -> Result<(), FlatError>
+        ensures counts { (levels : ℕ)
+            → Counts result self.old levels (bytes_alone bytes) self.new }
+        ensures tables { self.new.tables ≡ self.old.tables }
+    {
+        if bytes > self.bytes {
+            return Err(FlatError::TableLimit);
+        }
+        self.bytes -= bytes;
+        Ok(())
+    }
+
+    /// Counts a table in which this many may nest still, without what hangs on it.
+    pub fn add_table(&mut self, levels: u32) -> Result<(), FlatError>
+        ensures { Counts result self.old (suc levels) (table_around nothing) self.new }
+    {
+        if self.tables == 0 || self.bytes < 64 {
+            return Err(FlatError::TableLimit);
+        }
+        self.tables -= 1;
+        self.bytes -= 64;
+        if levels < self.levels {
+            self.levels = levels;
+        }
+        Ok(())
+    }
+}

@@ -1,0 +1,452 @@
+//! Views of messages that were verified: each lends the parts of one value, without a check, a
+//! refusal or memory.
+
+ghost use Rattle.std.specs.Prelude.{◌≡◌, ℕ, ◌<◌, ◌≤◌, length, Some, IsSome, IsTrue};
+ghost use Rattle.vx_flat.specs.Schema.{fields_of, is_lawful};
+ghost use Rattle.vx_flat.specs.SchemaLists.{schema_of};
+ghost use Rattle.vx_flat.specs.Places.{table_at as table_found, u32_at as number_of_four};
+ghost use Rattle.vx_flat.specs.Reading.{table_shown, elements_shown, text_shown};
+ghost use Rattle.vx_flat.specs.Parts.{elements_of_kind};
+ghost use Rattle.vx_flat.specs.Parts as is;
+
+mod opening;
+
+use crate::reading::places::{
+    FieldTable, field_table, flag_at, number_at, place_of, tag_at, target, u32_at,
+};
+use crate::schema::{FieldKind, SchemaLists, Width, size_of_struct, table_of_tag};
+use crate::weight::Weight;
+pub use opening::{verify, verify_uncounted, view_at};
+use std::str::from_utf8_unchecked;
+
+/// A table of a message that was verified.
+#[derive(Clone, Copy, Debug)]
+pub struct View<'a> {
+    message: &'a [u8],
+    schema: &'static SchemaLists,
+    table: u16,
+    place: usize,
+    fields: FieldTable,
+    weight: Weight,
+    ghost lawful: { IsTrue (is_lawful (schema_of schema.now)) },
+    ghost found: { table_found message.now place (fields_of (schema_of schema.now) table) ≡ Some fields },
+    ghost shown: { IsSome (table_shown (schema_of schema.now) message.now place table) },
+}
+
+/// A vector of a message that was verified.
+#[derive(Clone, Copy, Debug)]
+pub struct VectorView<'a> {
+    message: &'a [u8],
+    schema: &'static SchemaLists,
+    kind: FieldKind,
+    place: usize,
+    count: u32,
+    weight: Weight,
+    ghost lawful: { IsTrue (is_lawful (schema_of schema.now)) },
+    ghost counted: { count ≡ number_of_four message.now place },
+    ghost shown: { IsSome (elements_of_kind (schema_of schema.now)
+        (λ q T. table_shown (schema_of schema.now) message.now q T) message.now kind place) },
+}
+
+/// What a union has.
+#[derive(Clone, Copy, Debug)]
+pub enum UnionPart<'a> {
+    /// No member.
+    None,
+    /// A member: its tag and its table.
+    Known(u8, View<'a>),
+    /// A tag that the schema does not have. What hangs on it is not looked at.
+    Unknown(u8),
+}
+
+impl<'a> View<'a> {
+    ghost use Rattle.vx_flat.specs.Shows.{ShowsAt};
+    ghost use Rattle.vx_flat.specs.Seen.{seen, schema_in, message_seen, weight_seen, table_seen, place_seen};
+
+    /// Where the table is in the message. The message shows the view's value there.
+    pub fn place(&self) -> usize
+        ensures place { result ≡ place_seen self.now }
+        ensures within { result < length (message_seen self.now) }
+        ensures shows { ShowsAt (schema_in self.now) (message_seen self.now) result (table_seen self.now)
+            (seen self.now) }
+    {
+        self.place
+    }
+
+    /// What the message weighs that was verified.
+    pub fn weight(&self) -> Weight
+        ensures { result ≡ weight_seen self.now }
+    {
+        self.weight
+    }
+}
+
+impl<'a> View<'a> {
+    ghost use Rattle.std.specs.Prelude.{◌+◌, MatchOption, OnSome, IfSome, IfNone, None, option_map, if◌then◌else◌};
+    ghost use Rattle.vx_flat.specs.Places.{place_of as placed, inline_size};
+    ghost use Rattle.vx_flat.specs.Reading.{absent_shown, present_shown, member_shown};
+    ghost use Rattle.vx_flat.specs.Schema.{members_of, table_of as table_of_tag};
+    ghost use Rattle.vx_flat.specs.Value as value;
+    ghost use Rattle.vx_flat.specs.Seen.{kind_in, kinds_in, part_in, vector_seen, seen, schema_in, table_seen, kind_seen, IsBelow, IsVectorBelow, IsPart, HasMember};
+    ghost use Rattle.vx_flat.specs.Entries.{kind_from};
+    ghost use Rattle.vx_flat.specs.declared.schema.FieldKind.TheVariants as kind;
+
+    /// The fields of the view's table, in order.
+    pub(crate) fn kinds(&self) -> &'static [FieldKind]
+        ensures { result.now ≡ kinds_in self.now }
+    {
+        self.schema.fields(self.table)
+    }
+
+    /// The kind of the field whose first entry is `field`.
+    fn kind(&self, field: usize) -> FieldKind
+        requires { IsSome (kind_in self.now field) }
+        ensures { kind_in self.now field ≡ Some result }
+    {
+        let mut entry: usize = 0;
+        for kind in self.schema.fields(self.table) {
+            if entry == field {
+                return *kind;
+            }
+            entry += kind.slots();
+        }
+        unreachable!()
+    }
+
+    /// Where a field that is not a union lies.
+    fn present(&self, field: usize, kind: FieldKind) -> Option<usize>
+        requires kind { kind_in self.now field ≡ Some kind }
+        requires plain { is.IsPlain kind }
+        ensures lies { IfSome result (λ p. p + inline_size kind ≤ length self.now.message.now) }
+        ensures later { IfSome result (λ p. self.now.place < p) }
+        ensures absent { IfNone result (part_in self.now field ≡ absent_shown kind) }
+        ensures shown { IfSome result (λ p. present_shown (schema_in self.now)
+            (λ q T. table_shown (schema_in self.now) self.now.message.now q T) self.now.message.now
+            kind p ≡ Some (part_in self.now field)) }
+    {
+        place_of(self.message, self.place, self.fields, field)
+    }
+
+    /// The number in a field, by its bits.
+    pub fn number(&self, field: usize) -> u64
+        requires { is.IsNumber (kind_in self.now field) }
+        ensures { part_in self.now field ≡ value.number result }
+    {
+        let FieldKind::Number(width) = self.kind(field) else {
+            unreachable!();
+        };
+        match self.present(field, FieldKind::Number(width)) {
+            None => 0,
+            Some(place) => number_at(width, self.message, place),
+        }
+    }
+
+    /// The flag in a field.
+    pub fn flag(&self, field: usize) -> bool
+        requires { is.IsFlag (kind_in self.now field) }
+        ensures { part_in self.now field ≡ value.number (if result then 1 else 0) }
+    {
+        match self.present(field, FieldKind::Flag) {
+            None => false,
+            Some(place) => self.message[place] != 0,
+        }
+    }
+
+    /// The number or flag in a field that may be missing.
+    pub fn opt_number(&self, field: usize) -> Option<u64>
+        requires { is.IsOptional (kind_in self.now field) }
+        ensures { MatchOption result (part_in self.now field ≡ value.absent)
+            (λ n. part_in self.now field ≡ value.number n) }
+    {
+        match self.kind(field) {
+            FieldKind::OptNumber(width) => {
+                match self.present(field, FieldKind::OptNumber(width)) {
+                    None => None,
+                    Some(place) => Some(number_at(width, self.message, place)),
+                }
+            }
+            FieldKind::OptFlag => match self.present(field, FieldKind::OptFlag) {
+                None => None,
+                Some(place) => Some(flag_at(self.message, place)),
+            },
+            _ => unreachable!(),
+        }
+    }
+
+    /// The bytes of the elements in a field of numbers or structs.
+    pub fn bytes(&self, field: usize) -> Option<&'a [u8]>
+        requires { is.IsBytes (kind_in self.now field) }
+        ensures { MatchOption result (part_in self.now field ≡ value.absent)
+            (λ b. part_in self.now field ≡ value.elements b.now) }
+    {
+        match self.kind(field) {
+            FieldKind::Vector(width) => match self.present(field, FieldKind::Vector(width)) {
+                None => None,
+                Some(place) => {
+                    let aim = target(self.message, place);
+                    Some(elements_in(self.message, aim, width.bytes()))
+                }
+            },
+            FieldKind::Structs(number) => match self.present(field, FieldKind::Structs(number)) {
+                None => None,
+                Some(place) => {
+                    let aim = target(self.message, place);
+                    let size = size_of_struct(self.schema, number);
+                    Some(elements_in(self.message, aim, size))
+                }
+            },
+            _ => unreachable!(),
+        }
+    }
+
+    /// The string in a field.
+    pub fn text(&self, field: usize) -> Option<&'a str>
+        requires { is.IsText (kind_in self.now field) }
+        ensures { MatchOption result (part_in self.now field ≡ value.absent)
+            (λ t. part_in self.now field ≡ value.text t.now) }
+    {
+        match self.present(field, FieldKind::Text) {
+            None => None,
+            Some(place) => Some(text_in(self.message, target(self.message, place))),
+        }
+    }
+
+    /// A table of the message at a later place.
+    fn below(&self, place: usize, table: u16) -> View<'a>
+        requires shown { IsSome (table_shown (schema_in self.now) self.now.message.now place table) }
+        requires later { self.now.place < place }
+        ensures below { IsBelow self.now result }
+        ensures table { result.table ≡ table }
+        ensures seen { table_shown (schema_in self.now) self.now.message.now place table ≡ Some (seen result) }
+    {
+        let fields = fields_found(self.message, self.schema, place, table);
+        View {
+            message: self.message,
+            schema: self.schema,
+            table,
+            place,
+            fields,
+            weight: self.weight,
+        }
+    }
+
+    /// The table in a field.
+    pub fn table(&self, field: usize) -> Option<View<'a>>
+        requires { is.IsTable (kind_in self.now field) }
+        ensures part { MatchOption result (part_in self.now field ≡ value.absent)
+            (λ w. part_in self.now field ≡ value.table (seen w)) }
+        ensures below { IfSome result (λ w. IsBelow self.now w) }
+        ensures kind { IfSome result (λ w. kind_in self.now field ≡ Some (kind.Table (table_seen w))) }
+    {
+        let FieldKind::Table(table) = self.kind(field) else {
+            unreachable!();
+        };
+        match self.present(field, FieldKind::Table(table)) {
+            None => None,
+            Some(place) => Some(self.below(target(self.message, place), table)),
+        }
+    }
+
+    /// The vector in a field.
+    pub fn vector(&self, field: usize) -> Option<VectorView<'a>>
+        requires { is.IsVector (kind_in self.now field) }
+        ensures part { MatchOption result (part_in self.now field ≡ value.absent)
+            (λ w. part_in self.now field ≡ vector_seen w) }
+        ensures below { IfSome result (λ w. IsVectorBelow self.now w) }
+        ensures kind { IfSome result (λ w. kind_in self.now field ≡ Some (kind_seen w)) }
+    {
+        let kind = self.kind(field);
+        match self.present(field, kind) {
+            None => None,
+            Some(place) => {
+                let place = target(self.message, place);
+                let count = u32_at(self.message, place);
+                Some(VectorView {
+                    message: self.message,
+                    schema: self.schema,
+                    kind,
+                    place,
+                    count,
+                    weight: self.weight,
+                })
+            }
+        }
+    }
+
+    /// The tag of a union, and what its offset aims at.
+    fn member(&self, field: usize, union: u16) -> Option<(u8, usize)>
+        requires { kind_in self.now field ≡ Some (kind.Union union) }
+        ensures none { IfNone result (part_in self.now field ≡ value.absent) }
+        ensures later { IfSome result (λ p. self.now.place < p.1) }
+        ensures some { IfSome result (λ p. member_shown
+            (λ q T. table_shown (schema_in self.now) self.now.message.now q T) p.1 p.0
+            (table_of_tag (members_of (schema_in self.now) union) p.0)
+            ≡ Some (part_in self.now field)) }
+    {
+        match place_of(self.message, self.place, self.fields, field + 1) {
+            None => None,
+            Some(next) => {
+                let tag = tag_at(
+                    self.message,
+                    place_of(self.message, self.place, self.fields, field),
+                );
+                Some((tag, target(self.message, next)))
+            }
+        }
+    }
+
+    /// What a union has.
+    pub fn union_part(&self, field: usize) -> UnionPart<'a>
+        requires { is.IsUnion (kind_in self.now field) }
+        ensures part { IsPart self.now result (part_in self.now field) }
+        ensures member { HasMember self.now field result }
+    {
+        let FieldKind::Union(union) = self.kind(field) else {
+            unreachable!();
+        };
+        match self.member(field, union) {
+            None => UnionPart::None,
+            Some((tag, aim)) => match table_of_tag(self.schema.members(union), tag) {
+                None => UnionPart::Unknown(tag),
+                Some(table) => UnionPart::Known(tag, self.below(aim, table)),
+            },
+        }
+    }
+}
+
+impl<'a> VectorView<'a> {
+    ghost use Rattle.std.specs.Prelude.{◌+◌, ◌*◌, take};
+    ghost use Rattle.vx_flat.specs.Seen.{vector_seen, seen, IsElement, kind_seen, count_seen, size_seen, member_seen, table_seen};
+    ghost use Rattle.vx_flat.specs.declared.schema.FieldKind.TheVariants as kind;
+
+    /// How many elements the vector has.
+    pub fn len(&self) -> usize
+        ensures count { result ≡ count_seen self.now }
+        ensures elements { is.HasElements (size_seen self.now) (vector_seen self.now) result }
+    {
+        self.count as usize
+    }
+
+    /// How many bytes an element has.
+    fn size(&self) -> usize
+        ensures value { result ≡ size_seen self.now }
+        ensures small { result ≤ 8000 }
+    {
+        match self.kind {
+            FieldKind::Vector(width) => width.bytes(),
+            FieldKind::Structs(number) => size_of_struct(self.schema, number),
+            _ => 4,
+        }
+    }
+
+    /// A number of an element: its member 0, unless the elements are structs.
+    pub fn number(&self, i: usize, member: usize) -> u64
+        requires within { i < count_seen self.now }
+        requires member { IsSome (member_seen self.now member) }
+        ensures { is.number_of (size_seen self.now) (vector_seen self.now) i (member_seen self.now member)
+            ≡ Some result }
+    {
+        match self.kind {
+            FieldKind::Vector(width) => {
+                let bytes = elements_in(self.message, self.place, width.bytes());
+                number_at(width, bytes, width.bytes() * i)
+            }
+            FieldKind::Structs(number) => {
+                let size = size_of_struct(self.schema, number);
+                let bytes = elements_in(self.message, self.place, size);
+                let at = member_of(self.schema.widths(number), member);
+                number_at(at.width, bytes, size * i + at.place)
+            }
+            _ => unreachable!(),
+        }
+    }
+
+    /// A string.
+    pub fn text(&self, i: usize) -> &'a str
+        requires within { i < count_seen self.now }
+        requires kind { kind_seen self.now ≡ kind.Texts }
+        ensures { is.text_in (vector_seen self.now) i ≡ Some result.now }
+    {
+        text_in(self.message, target(self.message, self.place + 4 + 4 * i))
+    }
+
+    /// A table.
+    pub fn table(&self, i: usize) -> View<'a>
+        requires within { i < count_seen self.now }
+        requires kind { is.IsTables (kind_seen self.now) }
+        ensures part { is.table_in (vector_seen self.now) i ≡ Some (seen result) }
+        ensures below { IsElement self.now result }
+        ensures kind { kind_seen self.now ≡ kind.Tables (table_seen result) }
+    {
+        let FieldKind::Tables(table) = self.kind else {
+            unreachable!();
+        };
+        let place = target(self.message, self.place + 4 + 4 * i);
+        let fields = fields_found(self.message, self.schema, place, table);
+        View {
+            message: self.message,
+            schema: self.schema,
+            table,
+            place,
+            fields,
+            weight: self.weight,
+        }
+    }
+}
+
+/// Where a member of a struct lies in it.
+#[derive(Clone, Copy, Debug)]
+struct MemberPlace {
+    place: usize,
+    width: Width,
+}
+
+/// Where a member of a struct of these widths lies in it.
+fn member_of(widths: &[Width], member: usize) -> MemberPlace
+    requires few { length widths.now ≤ 1000 }
+    requires there { member < length widths.now }
+    ensures { is.member_from widths.now 0 member ≡ Some (is.member_place result.place result.width) }
+{
+    let mut place: usize = 0;
+    for (i, width) in widths.iter().enumerate() {
+        if i == member {
+            return MemberPlace {
+                place,
+                width: *width,
+            };
+        }
+        place += width.bytes();
+    }
+    unreachable!()
+}
+
+/// The field table of a table that is shown.
+fn fields_found(message: &[u8], _schema: &SchemaLists, place: usize, table: u16) -> FieldTable
+    requires { IsSome (table_shown (schema_of _schema.now) message.now place table) }
+    ensures { table_found message.now place (fields_of (schema_of _schema.now) table) ≡ Some result }
+{
+    match field_table(message, place) {
+        Some(fields) => fields,
+        None => unreachable!(),
+    }
+}
+
+/// The bytes of the elements of a vector that is shown.
+fn elements_in(message: &[u8], place: usize, size: usize) -> &[u8]
+    requires small { size ≤ 8000 }
+    requires shown { IsSome (elements_shown message.now place size) }
+    ensures { elements_shown message.now place size ≡ Some result.now }
+{
+    let len = size * u32_at(message, place) as usize;
+    &message[place + 4..place + 4 + len]
+}
+
+/// A string that is shown.
+fn text_in(message: &[u8], place: usize) -> &str
+    requires { IsSome (text_shown message.now place) }
+    ensures { text_shown message.now place ≡ Some result.now }
+{
+    let len = u32_at(message, place) as usize;
+    // What is shown as a string is UTF-8.
+    unsafe { from_utf8_unchecked(&message[place + 4..place + 4 + len]) }
+}

@@ -1,0 +1,158 @@
+//! From a message's bytes to the view of its root, and from a place that was told back to its view.
+
+ghost use Rattle.std.specs.Prelude.{◌≡◌, ◌+◌, ◌<◌, ◌≤◌, IsOk, IsErrOf, IfOk, OnOk};
+ghost use Rattle.vx_flat.specs.Value.{Fields};
+ghost use Rattle.vx_flat.specs.Shows.{Shows, ShowsAt};
+ghost use Rattle.vx_flat.specs.Weight as weigh;
+ghost use Rattle.vx_flat.specs.Limits.{limits, IsLight};
+ghost use Rattle.vx_flat.specs.Seen.{IsViewAt, IsRootView};
+
+use crate::error::FlatError;
+use crate::limits::{LIMITS, Limits};
+use crate::reading::places::u32_at;
+use crate::reading::room::Room;
+use crate::reading::verifying::verify_table;
+use crate::schema::TableKind;
+use crate::steps::Steps;
+use crate::viewing::{View, fields_found};
+use crate::weight::Weight;
+use std::marker::Brand;
+use std::sync::ledger::{Blank, Ledger};
+
+/// The view of a message's root, where the message shows a value within these limits.
+fn verify_within<'a, K: TableKind, L: Ledger>(
+    message: &'a [u8],
+    kind: &K,
+    limits: Limits,
+    steps: &mut Steps<L>,
+) -> Result<View<'a>, FlatError>
+    ensures shows { IfOk result (λ v. IsRootView K.schema message.now v) }
+    ensures light { OnOk result (IsLight limits (weigh.weight K.schema message.now)) }
+    ensures bad { IsErrOf result FlatError.BadTable
+        → (v : Fields) → Shows K.schema message.now v → ⊥ }
+    ensures limit { IsErrOf result FlatError.TableLimit
+        → IsLight limits (weigh.weight K.schema message.now) → ⊥ }
+    ensures takes_no_memory { IsErrOf result FlatError.OutOfMemory → ⊥ }
+    ensures never_long { IsErrOf result FlatError.MessageTooLong → ⊥ }
+    ensures complete { (v : Fields) → Shows K.schema message.now v
+        → IsLight limits (weigh.weight K.schema message.now) → IsOk result }
+    ensures exact { OnOk result (steps.new ≡ steps.old + (weigh.weight K.schema message.now).tables) }
+    ensures bound { steps.new ≤ steps.old + limits.tables + 1 }
+{
+    if message.len() < 4 {
+        return Err(FlatError::BadTable);
+    }
+    let mut room = Room::new(limits);
+    let place = u32_at(message, 0) as usize;
+    let table = kind.root();
+    verify_table(message, kind, place, table, limits.nested, &mut room, steps)?;
+    let schema = kind.lists();
+    let fields = fields_found(message, schema, place, table);
+    let weight = Weight {
+        nested: (limits.nested - room.levels) as u64,
+        tables: (limits.tables - room.tables) as u64,
+        bytes: limits.bytes - room.bytes,
+    };
+    Ok(View {
+        message,
+        schema,
+        table,
+        place,
+        fields,
+        weight,
+    })
+}
+
+/// The view of a message's root, where the message shows a value within the limits.
+///
+/// It takes no memory, and at most 1,000,001 steps: one for each table that it enters. The only
+/// refusals are [`FlatError::BadTable`] where the message shows no value, and
+/// [`FlatError::TableLimit`] where it passes a limit. Where a message has a fault and passes a
+/// limit too, either may come. A shared part is judged as often as a path reaches it.
+pub fn verify<'a, K: TableKind, L: Ledger>(
+    message: &'a [u8],
+    kind: &K,
+    steps: &mut Steps<L>,
+) -> Result<View<'a>, FlatError>
+    ensures shows { IfOk result (λ v. IsRootView K.schema message.now v) }
+    ensures light { OnOk result (IsLight limits (weigh.weight K.schema message.now)) }
+    ensures bad { IsErrOf result FlatError.BadTable
+        → (v : Fields) → Shows K.schema message.now v → ⊥ }
+    ensures limit { IsErrOf result FlatError.TableLimit
+        → IsLight limits (weigh.weight K.schema message.now) → ⊥ }
+    ensures takes_no_memory { IsErrOf result FlatError.OutOfMemory → ⊥ }
+    ensures never_long { IsErrOf result FlatError.MessageTooLong → ⊥ }
+    ensures complete { (v : Fields) → Shows K.schema message.now v
+        → IsLight limits (weigh.weight K.schema message.now) → IsOk result }
+    ensures exact { OnOk result (steps.new ≡ steps.old + (weigh.weight K.schema message.now).tables) }
+    ensures bound { steps.new ≤ steps.old + 1000001 }
+{
+    verify_within(message, kind, LIMITS, steps)
+}
+
+// [`verify`] by a counter of its own.
+fn verify_by<'a, K: TableKind, L: Ledger>(
+    message: &'a [u8],
+    kind: &K,
+    blank: Blank,
+) -> Result<View<'a>, FlatError>
+    requires name { blank.name ≡ L.name }
+    requires parts { blank.parts ≡ L.parts }
+    requires some { 0 < blank.parts }
+    ensures shows { IfOk result (λ v. IsRootView K.schema message.now v) }
+    ensures light { OnOk result (IsLight limits (weigh.weight K.schema message.now)) }
+    ensures bad { IsErrOf result FlatError.BadTable
+        → (v : Fields) → Shows K.schema message.now v → ⊥ }
+    ensures limit { IsErrOf result FlatError.TableLimit
+        → IsLight limits (weigh.weight K.schema message.now) → ⊥ }
+    ensures takes_no_memory { IsErrOf result FlatError.OutOfMemory → ⊥ }
+    ensures never_long { IsErrOf result FlatError.MessageTooLong → ⊥ }
+    ensures complete { (v : Fields) → Shows K.schema message.now v
+        → IsLight limits (weigh.weight K.schema message.now) → IsOk result }
+{
+    let mut steps: Steps<L> = Steps::new(blank);
+    verify(message, kind, &mut steps)
+}
+
+/// [`verify`] where nobody counts the steps.
+pub fn verify_uncounted<'a, K: TableKind>(
+    message: &'a [u8],
+    kind: &K,
+) -> Result<View<'a>, FlatError>
+    ensures shows { IfOk result (λ v. IsRootView K.schema message.now v) }
+    ensures light { OnOk result (IsLight limits (weigh.weight K.schema message.now)) }
+    ensures bad { IsErrOf result FlatError.BadTable
+        → (v : Fields) → Shows K.schema message.now v → ⊥ }
+    ensures limit { IsErrOf result FlatError.TableLimit
+        → IsLight limits (weigh.weight K.schema message.now) → ⊥ }
+    ensures takes_no_memory { IsErrOf result FlatError.OutOfMemory → ⊥ }
+    ensures never_long { IsErrOf result FlatError.MessageTooLong → ⊥ }
+    ensures complete { (v : Fields) → Shows K.schema message.now v
+        → IsLight limits (weigh.weight K.schema message.now) → IsOk result }
+{
+    verify_by::<K, Brand>(message, kind, Blank::new(1))
+}
+
+/// A view again, from a place that a view of this kind over the same bytes told: without a check, a
+/// refusal or memory. Its weight is the given one.
+pub fn view_at<'a, K: TableKind>(
+    message: &'a [u8],
+    kind: &K,
+    place: usize,
+    weight: Weight,
+) -> View<'a>
+    requires { (v : Fields) × ShowsAt K.schema message.now place K.schema.root v }
+    ensures { IsViewAt K.schema message.now place weight result }
+{
+    let schema = kind.lists();
+    let table = kind.root();
+    let fields = fields_found(message, schema, place, table);
+    View {
+        message,
+        schema,
+        table,
+        place,
+        fields,
+        weight,
+    }
+}

@@ -1,0 +1,11 @@
+//! The tests of the crate `vx_flat`: worked messages, and what the definitions say of them.
+#![tactic(auto)]
+
+#[cfg(test)]
+mod building;
+pub mod kinds;
+pub mod messages;
+#[cfg(test)]
+mod reading;
+pub mod traits;
+pub mod worked;

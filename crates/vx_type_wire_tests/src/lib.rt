@@ -1,0 +1,6 @@
+//! The tests of the crate `vx_type_wire`: worked messages, and what the definitions say of them.
+#![tactic(auto)]
+
+#[cfg(test)]
+mod tables;
+pub mod worked;
