@@ -2,8 +2,8 @@ use Rattle.std.proofs.Common.{subst, sym, ap, ◌∙◌}
 use Rattle.vx_types.specs.Seen.{typ}
 use Rattle.vx_type_wire.specs.Known.{IsRead}
 use Rattle.vx_type_wire.specs.Shown.{ShowsType}
-use Rattle.vxcat_core.specs.Status.{type_status}
-use Rattle.vxcat_core.proofs.recoding.read_type.Goals as goal
+use Rattle.vxcat_core.specs.Statuses.{type_status}
+use Rattle.vxcat_core.proofs.recode.steps.read_type.Goals as goal
 
 pub returns-in-Ok-clause-read : goal.returns-in-Ok-clause-read
 returns-in-Ok-clause-read c = subst (λ s. IsRead (ShowsType c.args.bytes.now) s (typ c.in-Ok.dtype)) c.new-readers.ensures c.in-Ok.ensures.read

@@ -3,22 +3,24 @@
 ghost use Rattle.std.specs.Prelude.{◌≡◌, ◌≢◌, IfOk, IfErr, OnOk};
 ghost use Rattle.vx_types.specs.Seen.{typ};
 ghost use Rattle.vx_types.specs.Typ.{Typ};
-ghost use Rattle.vxcat_core.specs.RecodeWords.{line_of};
-ghost use Rattle.vxcat_core.specs.Words.{inputs};
+ghost use Rattle.vx_type_wire.specs.Known.{IsRead, no_readers};
+ghost use Rattle.vx_type_wire.specs.Shown.{ShowsType};
+ghost use Rattle.vx_serde.specs.Request.{CanRecode};
 ghost use Rattle.vx_serde.specs.WrittenBuffers.{joined};
-ghost use Rattle.vxcat_core.specs.Recoding.{AreInputs, AreSaved, AskedOnly, CanRecode, CanRecodeInputs, EndsLoading, EndsSaving, IsBlobRecoded, IsBlobRefused, IsRecoded, IsRefused, IsTypeStatus, KeepsOthers, ReadsType, SavesInOrder, call, write_options};
+ghost use Rattle.vxcat_core.specs.Recode.{AreInputs, AreSaved, CanRecodeInputs, IsUnmade, KeepsOthers, SavesInOrder, inputs, padded_at};
+ghost use Rattle.vxcat_core.specs.StoreState.{AskedOnly};
+ghost use Rattle.vxcat_core.specs.RecodeViews.{AreMade, AreOutputs, IsLoadStatus, IsSaveStatus, IsTypeStatus, IsBlobStatus, asks, line_of, loaded_of};
 ghost use Rattle.vxcat_core.specs.declared.status.Status.TheVariants.{OutOfMemory};
 
+use super::words::RecodeWords;
 use crate::id_file::{read_ids, write_ids};
 use crate::status::Status;
 use crate::store::Store;
-use crate::words::RecodeWords;
 use std::alloc::{AllocError, Global};
 use vx_arrays::Array;
 use vx_buffer::{ByteBuffer, ByteBuffers};
 use vx_registry::{ArrayContext, ArraySession, ReadContext, VortexSession};
 use vx_serde::{Recoded, SerializeOptions, recode};
-use vx_type_wire::laws::one_type;
 use vx_type_wire::{DTypeExt, ExtSession};
 use vx_types::{Blob, DType, Ids};
 
@@ -44,12 +46,12 @@ pub fn load_inputs<S: Store>(
     words: &RecodeWords,
     store: &mut S,
 ) -> Result<Inputs, Status>
-    ensures inputs { IfOk result (λ loaded. AreInputs (line_of words.now) (S.state store.old) loaded) }
+    ensures inputs { IfOk result (λ loaded. AreInputs (line_of words.now) (S.state store.old) (loaded_of loaded)) }
     ensures asked { AskedOnly (inputs (line_of words.now)) (S.state store.old).asked (S.state store.new).asked }
     ensures told { (S.state store.new).tells ≡ (S.state store.old).tells }
     ensures files { (S.state store.new).file ≡ (S.state store.old).file }
     ensures save_faults { (S.state store.new).save_faults ≡ (S.state store.old).save_faults }
-    ensures cause { IfErr result (λ status. EndsLoading status (S.state store.old) (S.state store.new)) }
+    ensures cause { IfErr result (λ status. IsLoadStatus status (S.state store.old) (S.state store.new)) }
 {
     let type_bytes = match store.load(alloc, words.type_file) {
         Ok(bytes) => bytes,
@@ -71,11 +73,10 @@ pub fn load_inputs<S: Store>(
 
 /// Judges the type file, then the id file, and recodes the blob.
 pub fn recode_inputs(alloc: Global, words: &RecodeWords, loaded: Inputs) -> Result<Outputs, Status>
-    ensures recoded { IfOk result (λ made. IsRecoded (line_of words.now) loaded made) }
-    ensures cause { IfErr result (λ status. IsRefused status (line_of words.now) loaded) }
-    ensures complete { CanRecodeInputs (line_of words.now) loaded → IfErr result (λ status. status ≡ OutOfMemory) }
+    ensures made { IfOk result (λ made. AreOutputs (line_of words.now) (loaded_of loaded) made) }
+    ensures cause { IfErr result (λ status. IsUnmade status (line_of words.now) (loaded_of loaded)) }
+    ensures complete { CanRecodeInputs (line_of words.now) (loaded_of loaded) → IfErr result (λ status. status ≡ OutOfMemory) }
 {
-    one_type();
     let dtype = match read_type(alloc, loaded.type_bytes.as_slice()) {
         Ok(dtype) => dtype,
         Err(status) => return Err(status),
@@ -90,9 +91,9 @@ pub fn recode_inputs(alloc: Global, words: &RecodeWords, loaded: Inputs) -> Resu
 
 // The type that a type file shows, where no extension is known.
 fn read_type(alloc: Global, bytes: &[u8]) -> Result<DType, Status>
-    ensures read { IfOk result (λ d. ReadsType bytes.now (typ d)) }
+    ensures read { IfOk result (λ d. IsRead (ShowsType bytes.now) no_readers (typ d)) }
     ensures status { IfErr result IsTypeStatus }
-    ensures complete { (t : Typ) → ReadsType bytes.now t → IfErr result (λ status. status ≡ OutOfMemory) }
+    ensures complete { (t : Typ) → IsRead (ShowsType bytes.now) no_readers t → IfErr result (λ status. status ≡ OutOfMemory) }
 {
     let readers = ExtSession::new(alloc);
     match DType::from_flatbuffer(alloc, bytes, &readers) {
@@ -103,7 +104,7 @@ fn read_type(alloc: Global, bytes: &[u8]) -> Result<DType, Status>
 
 // How the new blob is written: with pads where their position is given.
 fn serialize_options(pad: Option<u64>) -> SerializeOptions
-    ensures { result ≡ write_options pad }
+    ensures { result ≡ padded_at pad }
 {
     match pad {
         None => SerializeOptions::default(),
@@ -123,10 +124,9 @@ fn recode_blob(
     read_ids: Ids,
     options: &SerializeOptions,
 ) -> Result<Outputs, Status>
-    ensures recoded { let asked = call blob (typ dtype.now) len read_ids options.now in
-        IfOk result (λ made. IsBlobRecoded asked made.array made.blob made.ids) }
-    ensures cause { IfErr result (λ status. IsBlobRefused status (call blob (typ dtype.now) len read_ids options.now)) }
-    ensures complete { CanRecode (call blob (typ dtype.now) len read_ids options.now) → IfErr result (λ status. status ≡ OutOfMemory) }
+    ensures made { IfOk result (AreMade (asks blob (typ dtype.now) len read_ids options.now)) }
+    ensures cause { IfErr result (λ status. IsBlobStatus status (asks blob (typ dtype.now) len read_ids options.now)) }
+    ensures complete { CanRecode (asks blob (typ dtype.now) len read_ids options.now) → IfErr result (λ status. status ≡ OutOfMemory) }
 {
     let Ok(buffer) = ByteBuffer::from_vec(blob.into_vec()) else {
         return Err(Status::OutOfMemory);
@@ -199,10 +199,10 @@ pub fn save_outputs<S: Store>(
     store: &mut S,
 ) -> Result<(), Status>
     requires { words.now.out.now ≢ words.now.out_ids.now }
-    ensures saved { OnOk result (AreSaved (line_of words.now) (S.state store.new) made.now) }
+    ensures saved { OnOk result (AreSaved (line_of words.now) (S.state store.new) made.now.blob made.now.ids) }
     ensures others { KeepsOthers (line_of words.now) (S.state store.old) (S.state store.new) }
-    ensures in_order { SavesInOrder (line_of words.now) (S.state store.old) (S.state store.new) made.now }
-    ensures cause { IfErr result (λ status. EndsSaving status (S.state store.old) (S.state store.new)) }
+    ensures in_order { SavesInOrder (line_of words.now) (S.state store.old) (S.state store.new) made.now.blob }
+    ensures cause { IfErr result (λ status. IsSaveStatus status (S.state store.old) (S.state store.new)) }
 {
     let Ok(text) = write_ids(alloc, &made.ids) else {
         return Err(Status::OutOfMemory);

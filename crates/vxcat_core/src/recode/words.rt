@@ -1,14 +1,14 @@
-//! The words of the command line, as a command.
+//! The words of the command `recode`.
 
-ghost use Rattle.std.specs.Prelude.{IfSome, IfNone};
-ghost use Rattle.vxcat_core.specs.Words.{Line, Spells};
-ghost use Rattle.vxcat_core.specs.RecodeWords.{line_of};
+ghost use Rattle.std.specs.Prelude.{List, ℕ, IfSome, IfNone};
+ghost use Rattle.vxcat_core.specs.Recode.{InvokesRecode, Recode};
+ghost use Rattle.vxcat_core.specs.RecodeViews.{line_of};
 
 use crate::numbers::decimal_number;
 use crate::options::{Options, parse_options};
 use vx_types::Name;
 
-/// The words behind `recode`: the files that it reads and writes, and the length of the array.
+/// The words behind `recode`: the files that it reads and writes, the length of the array, and the options.
 #[derive(Drop)]
 pub struct RecodeWords<'a> {
     pub type_file: &'a Name,
@@ -20,11 +20,11 @@ pub struct RecodeWords<'a> {
     pub options: Options,
 }
 
-/// The command that the words spell, if any: `recode TYPE BLOB LEN IDS OUT OUTIDS` and options behind
-/// these, where the two names of outputs differ.
-pub fn parse_words<'a>(words: &'a [Name]) -> Option<RecodeWords<'a>>
-    ensures spelled { IfSome result (λ recode. Spells words.now (line_of recode)) }
-    ensures none { IfNone result ((line : Line) → ¬ (Spells words.now line)) }
+/// What the words name where they are `recode TYPE BLOB LEN IDS OUT OUTIDS` and options behind these, and where the two
+/// names of outputs differ.
+pub fn parse_recode<'a>(words: &'a [Name]) -> Option<RecodeWords<'a>>
+    ensures invoked { IfSome result (λ recode. InvokesRecode words.now (line_of recode)) }
+    ensures none { IfNone result ((line : Recode) → ¬ (InvokesRecode words.now line)) }
 {
     let [
         command,

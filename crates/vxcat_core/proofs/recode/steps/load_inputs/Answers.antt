@@ -1,8 +1,8 @@
 use Rattle.std.proofs.Common.{refl, arith}
-use Rattle.vxcat_core.specs.Words.{inputs}
-use Rattle.vxcat_core.specs.RecodeWords.{line_of}
+use Rattle.vxcat_core.specs.Recode.{inputs}
+use Rattle.vxcat_core.specs.RecodeViews.{line_of}
 use Rattle.vxcat_core.proofs.AskedNames.{asked_none, asked_more}
-use Rattle.vxcat_core.proofs.recoding.load_inputs.Goals as goal
+use Rattle.vxcat_core.proofs.recode.steps.load_inputs.Goals as goal
 
 pub returns-in-Err-load-clause-asked : goal.returns-in-Err-load-clause-asked
 returns-in-Err-load-clause-asked g c =
