@@ -2,9 +2,7 @@
 
 use std::hash::{FoldHasher, Hasher};
 use std::test::Fail;
-use vx_buffer::{
-    Alignment, BufferError, BufferHandle, BufferHandles, ByteBuffer, ByteBuffers,
-};
+use vx_buffer::{Alignment, BufferError, BufferHandle, BufferHandles, ByteBuffer, ByteBuffers};
 
 #[test]
 fn alignments_are_powers_of_two(rt: HostRuntime) -> Result<(), Fail> {
