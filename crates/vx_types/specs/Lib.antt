@@ -9,3 +9,6 @@ pub mod Falls
 pub mod Words
 pub mod Refused
 pub mod Decimals
+pub mod Value
+pub mod Fits
+pub mod Well

@@ -1,0 +1,19 @@
+-- The encodings.
+
+-- An encoding is a way to lay out an array's rows in buffers and in further arrays.
+pub data Encoding : Type 0 where
+  null : Encoding
+  bool : Encoding
+  primitive : Encoding
+  decimal : Encoding
+  varbin : Encoding
+  varbinview : Encoding
+  list : Encoding
+  listview : Encoding
+  fixed_size_list : Encoding
+  map : Encoding
+  struct : Encoding
+  union : Encoding
+  variant : Encoding
+  ext : Encoding
+  dict : Encoding

@@ -1,0 +1,58 @@
+-- Values whose plain parts are what a machine holds: numbers in their range, texts of characters, bytes.
+use Rattle.std.specs.Prelude.{◌≡◌, ◌<◌, ◌^◌, length, FitsSigned}
+use Rattle.std.specs.Int.{w8, w16, w32, w64, w128}
+use Rattle.vx_trees.specs.Rose.{node, end, more}
+use Rattle.vx_types.specs.Content.{IsText, AreBytes}
+use Rattle.vx_types.specs.Kind as K
+use Rattle.vx_types.specs.Typ.{Typ, IsType}
+use Rattle.vx_types.specs.declared.value.PValue.{PValue}
+use Rattle.vx_types.specs.declared.value.PValue.TheVariants.{U8, U16, U32, U64, I8, I16, I32, I64, F16, F32, F64}
+use Rattle.vx_types.specs.Value as V
+use Rattle.vx_types.specs.Value.{Value, Values, Mark, DecimalValue, number, decimal, utf8, binary, union, variant}
+
+abbrev pub IsInRange : PValue → Type 0
+IsInRange (U8 n) = n < 2 ^ 8
+IsInRange (U16 n) = n < 2 ^ 16
+IsInRange (U32 n) = n < 2 ^ 32
+IsInRange (U64 n) = n < 2 ^ 64
+IsInRange (I8 z) = FitsSigned w8 z
+IsInRange (I16 z) = FitsSigned w16 z
+IsInRange (I32 z) = FitsSigned w32 z
+IsInRange (I64 z) = FitsSigned w64 z
+IsInRange (F16 bits) = bits < 2 ^ 16
+IsInRange (F32 bits) = bits < 2 ^ 32
+IsInRange (F64 bits) = bits < 2 ^ 64
+
+abbrev pub IsDecimalInRange : DecimalValue → Type 0
+IsDecimalInRange (V.i8 z) = FitsSigned w8 z
+IsDecimalInRange (V.i16 z) = FitsSigned w16 z
+IsDecimalInRange (V.i32 z) = FitsSigned w32 z
+IsDecimalInRange (V.i64 z) = FitsSigned w64 z
+IsDecimalInRange (V.i128 z) = FitsSigned w128 z
+IsDecimalInRange (V.i256 bytes) = (length bytes ≡ 32) × AreBytes bytes
+
+abbrev pub IsWellMark : Mark → Type 0
+IsWellMark (number n) = IsInRange n
+IsWellMark (decimal x) = IsDecimalInRange x
+IsWellMark (utf8 bs) = IsText bs
+IsWellMark (binary bs) = AreBytes bs
+IsWellMark (union tag) = tag < 2 ^ 8
+IsWellMark (variant d) = IsType d
+IsWellMark _ = Unit {0}
+
+abbrev mutual
+  pub IsWell : Value → Type 0
+  IsWell (node m vs) = IsWellMark m × AreWell vs
+
+  pub AreWell : Values → Type 0
+  AreWell end = Unit {0}
+  AreWell (more v vs) = IsWell v × AreWell vs
+
+-- A type whose values hold no others.
+abbrev pub IsFlat : Typ → Type 0
+IsFlat (node (K.boolean m) ts) = Unit {0}
+IsFlat (node (K.primitive p m) ts) = Unit {0}
+IsFlat (node (K.decimal p s m) ts) = Unit {0}
+IsFlat (node (K.utf8 m) ts) = Unit {0}
+IsFlat (node (K.binary m) ts) = Unit {0}
+IsFlat _ = ⊥
