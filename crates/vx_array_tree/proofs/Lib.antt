@@ -1,0 +1,11 @@
+pub mod Options
+pub mod Bodies
+pub mod Plans
+pub mod Retyped
+pub mod RetypedParts
+pub mod CanonPlaces
+pub mod CanonLaws
+pub mod RowsFit
+pub mod MergeFits
+pub mod VariantsFit
+pub mod RowsOfSound

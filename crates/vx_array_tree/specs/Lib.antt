@@ -11,3 +11,4 @@ pub mod Tree
 pub mod Sound
 pub mod Normal
 pub mod Canon
+pub mod FitRows

@@ -137,6 +137,6 @@ variant_list e vs = variant_of (node (list NonNullable) (more variants end)) (no
 -- wrapped; a variant is itself; a structure is merged with the fallback's; any other is wrapped.
 abbrev pub merge : Typ → Value → Option Value → Value
 merge d (node null vs) fallback = or_null fallback
-merge (node (list m) (more e ts)) (node k vs) fallback = variant_list e vs
-merge (node (fixed_size_list s m) (more e ts)) (node k vs) fallback = variant_list e vs
+merge (node (list m) (more e end)) (node tuple vs) fallback = variant_list e vs
+merge (node (fixed_size_list s m) (more e end)) (node tuple vs) fallback = variant_list e vs
 merge d v fallback = or_null (merged v d (fallback_structure fallback))

@@ -1,0 +1,4 @@
+pub mod Samples
+pub mod SampleRows
+pub mod SampleParts
+pub mod SampleMerges
