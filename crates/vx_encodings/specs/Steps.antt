@@ -1,7 +1,6 @@
 -- The steps of one node, as the calls of this crate take them, and when each is refused.
-use Rattle.std.specs.Prelude.{List, Result, Ok, Err}
+use Rattle.std.specs.Prelude.{◌≡◌, List, Option, None, Result, Ok, Err}
 use Rattle.vx_buffer.specs.Buffer.{Buffer}
-use Rattle.vx_trees.specs.Rose.{label, below}
 use Rattle.vx_types.specs.Known.{ExtMeaning}
 use Rattle.vx_types.specs.Seen.{typ}
 use Rattle.vx_array_tree.specs.Place.{Place}
@@ -37,6 +36,12 @@ abbrev pub IsUnbuilt : EncodingError → ExtMeaning → Encoding → ArrayHead �
 IsUnbuilt OutOfMemory x e h bs ts = Unit {0}
 IsUnbuilt BadMetadata x e h bs ts = ⊥
 IsUnbuilt BadShape x e h bs ts = HasWrongShape codec x (plain_encoding e) (typ h.dtype) h.len h.metadata bs ts
+
+-- There is no such plan, or memory was wanted.
+abbrev pub IsWithoutPlan : EncodingError → Option (List Place) → Type 0
+IsWithoutPlan OutOfMemory plan = Unit {0}
+IsWithoutPlan BadMetadata plan = ⊥
+IsWithoutPlan BadShape plan = plan ≡ None
 
 -- Of the refusals this one is want of memory.
 abbrev pub IsMemory : EncodingError → Type 0

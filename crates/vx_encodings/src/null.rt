@@ -17,6 +17,7 @@ use vx_buffer::BufferHandles;
 use vx_types::DType;
 
 // What the children of a node of nulls are to be: none.
+#[tactic(auto, using(crate::proofs::NullSteps::null_steps))]
 pub(crate) fn plan(alloc: Global, head: &ArrayHead) -> Result<ChildPlans, EncodingError>
     ensures plan { (x : ExtMeaning) → IfOk result (λ plans. IsPlanned x Null head.now plans) }
     ensures err { (x : ExtMeaning) → IfErr result (λ e. IsUnplanned e x Null head.now) }
@@ -33,6 +34,7 @@ pub(crate) fn plan(alloc: Global, head: &ArrayHead) -> Result<ChildPlans, Encodi
 }
 
 // The node of nulls of these parts.
+#[tactic(auto, using(crate::proofs::NullSteps::null_steps))]
 pub(crate) fn build(
     alloc: Global,
     head: ArrayHead,

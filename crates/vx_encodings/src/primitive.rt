@@ -6,7 +6,7 @@ ghost use Rattle.vx_types.specs.Known.{ExtMeaning};
 ghost use Rattle.vx_array_tree.specs.Place.{before_validity};
 ghost use Rattle.vx_array_tree.specs.Sound.{IsSound};
 ghost use Rattle.vx_array_tree.specs.Tree.{option_trees, places};
-ghost use Rattle.vx_encodings.specs.Steps.{IsPlanned, IsUnplanned, IsBuilt, IsUnbuilt, IsPlanOf};
+ghost use Rattle.vx_encodings.specs.Steps.{IsPlanned, IsUnplanned, IsWithoutPlan, IsBuilt, IsUnbuilt};
 ghost use Rattle.vx_encodings.specs.declared.encoding.Encoding.TheVariants.{Primitive};
 
 use crate::error::{EncodingError, of_constructor};
@@ -19,6 +19,7 @@ use vx_buffer::{BufferHandle, BufferHandles};
 use vx_types::{DType, Nullability};
 
 // What the children of a node of numbers are to be: at most a validity.
+#[tactic(auto, using(crate::proofs::PrimitiveSteps::primitive_steps))]
 pub(crate) fn plan(alloc: Global, head: &ArrayHead) -> Result<ChildPlans, EncodingError>
     ensures plan { (x : ExtMeaning) → IfOk result (λ plans. IsPlanned x Primitive head.now plans) }
     ensures err { (x : ExtMeaning) → IfErr result (λ e. IsUnplanned e x Primitive head.now) }
@@ -32,6 +33,7 @@ pub(crate) fn plan(alloc: Global, head: &ArrayHead) -> Result<ChildPlans, Encodi
 }
 
 // The node of numbers of these parts.
+#[tactic(auto, using(crate::proofs::PrimitiveSteps::primitive_steps))]
 pub(crate) fn build(
     alloc: Global,
     head: ArrayHead,
