@@ -2,7 +2,7 @@
 
 use std::alloc::Global;
 use std::test::Fail;
-use vx_arrays::{Array, ArrayError, Arrays, NullArray, PrimitiveArray, RowValue};
+use vx_arrays::{Array, ArrayError, Arrays, Body, NullArray, PrimitiveArray, RowValue};
 use vx_buffer::{Alignment, BufferHandle, ByteBuffer};
 use vx_types::{DType, Nullability, PType, PValue};
 
@@ -109,6 +109,10 @@ fn parts_are_lent_and_cloned(rt: HostRuntime) -> Result<(), Fail> {
     assert!(rt; array.encoding_id() == "vortex.primitive");
     assert!(rt; array.nbuffers() == 1);
     assert!(rt; array.buffer(0).as_host().as_slice() == [1, 0, 0, 0, 2, 0, 0, 0].as_slice());
+    match array.body() {
+        Body::Primitive(numbers) => assert!(rt; numbers.values().len() == 8),
+        Body::Null => assert!(rt; false, "numbers are no nulls"),
+    }
     assert!(rt; array.children().len() == 0);
     assert!(rt; array.validate().is_ok());
     assert!(rt; !array.is_empty());

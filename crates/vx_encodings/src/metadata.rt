@@ -3,6 +3,8 @@
 ghost use Rattle.std.specs.Prelude.{◌≡◌, ◌≢◌, [], OnOk, OnErr, IsOkUnless};
 
 use crate::error::EncodingError;
+use std::alloc::Global;
+use vx_types::Blob;
 
 // Reads the metadata of an encoding that keeps nothing: no byte stands there.
 pub(crate) fn read_nothing(bytes: &[u8]) -> Result<(), EncodingError>
@@ -14,4 +16,11 @@ pub(crate) fn read_nothing(bytes: &[u8]) -> Result<(), EncodingError>
         return Err(EncodingError::BadMetadata);
     }
     Ok(())
+}
+
+// The metadata of an encoding that keeps nothing, as it is written: no byte.
+pub(crate) fn write_nothing(alloc: Global) -> Blob
+    ensures { result ≡ [] }
+{
+    Blob::new(Vec::new(alloc))
 }

@@ -15,6 +15,7 @@ ghost use Rattle.vx_encodings.specs.Steps.{IsPlanned, IsUnplanned, IsBuilt, IsUn
 use crate::encoding::Encoding;
 use crate::error::EncodingError;
 use crate::head::ArrayHead;
+use crate::metadata::write_nothing;
 use crate::plans::ChildPlans;
 use crate::{null, primitive};
 use std::alloc::Global;
@@ -81,6 +82,7 @@ pub fn metadata(alloc: Global, array: &Array) -> Result<Blob, EncodingError>
     ensures err { IsOkUnless result EncodingError.OutOfMemory }
 {
     match array.body() {
-        Body::Null | Body::Primitive(_) => Ok(Blob::new(Vec::new(alloc))),
+        Body::Null => Ok(write_nothing(alloc)),
+        Body::Primitive(_) => Ok(write_nothing(alloc)),
     }
 }
