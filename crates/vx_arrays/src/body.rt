@@ -37,7 +37,7 @@ impl Body {
     {
         match self {
             Body::Null => 0,
-            Body::Primitive(numbers) => numbers.nbuffers(),
+            Body::Primitive(_) => 1,
         }
     }
 
@@ -48,7 +48,7 @@ impl Body {
     {
         match self {
             Body::Null => unreachable!(),
-            Body::Primitive(numbers) => numbers.buffer(index),
+            Body::Primitive(numbers) => numbers.values(),
         }
     }
 

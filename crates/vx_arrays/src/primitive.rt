@@ -1,13 +1,12 @@
 //! Arrays of numbers.
 
-ghost use Rattle.std.specs.Prelude.{◌≡◌, ◌<◌, ◌≤◌, Some, Option, Bool, IfOk, IfErr, IsOkUnless, length, slice_get};
+ghost use Rattle.std.specs.Prelude.{◌≡◌, ◌<◌, ◌≤◌, IfOk, IfErr, IsOkUnless};
 ghost use Rattle.vx_trees.specs.Rose.{roses_of};
 ghost use Rattle.vx_types.specs.Seen.{typ};
-ghost use Rattle.vx_array_tree.specs.Encodings.Primitives.{buffers_of as buffers_of_numbers, rows as rows_of_numbers};
+ghost use Rattle.vx_array_tree.specs.Encodings.Primitives.{rows as rows_of_numbers};
 ghost use Rattle.vx_array_tree.specs.Body as B;
-ghost use Rattle.vx_array_tree.specs.Rows.{validity};
 ghost use Rattle.vx_array_tree.specs.Sound.{IsSound, IsSoundNode};
-ghost use Rattle.vx_array_tree.specs.Tree.{Tree, rows_below};
+ghost use Rattle.vx_array_tree.specs.Tree.{Head, rows_below};
 ghost use Rattle.vx_arrays.specs.Plain.{plain_value};
 ghost use Rattle.vx_arrays.specs.Primitives.{primitive_tree};
 ghost use Rattle.vx_arrays.specs.Refused.{IsUnmade, IsRowRefused, IsOkOrMemory};
@@ -48,21 +47,6 @@ impl PrimitiveData {
         &self.values
     }
 
-    // How many buffers there are.
-    pub(crate) fn nbuffers(&self) -> usize
-        ensures { result ≡ length (buffers_of_numbers self.now) }
-    {
-        1
-    }
-
-    // The buffer of this number.
-    pub(crate) fn buffer(&self, _index: usize) -> &BufferHandle
-        requires { _index < length (buffers_of_numbers self.now) }
-        ensures { slice_get (buffers_of_numbers self.now) _index ≡ Some result.now }
-    {
-        &self.values
-    }
-
     // The same numbers again. No byte is copied.
     pub(crate) fn clone(&self, alloc: Global) -> Result<PrimitiveData, ArrayError>
         ensures ok { IfOk result (λ numbers. numbers ≡ self.now) }
@@ -82,11 +66,15 @@ impl PrimitiveData {
         index: usize,
         budget: u64,
     ) -> Result<RowValue, ArrayError>
-        requires sound { IsSoundNode (record { dtype = typ dtype.now; len = len; body = B.primitive self.now }) (roses_of children.now) }
+        requires sound { let head : Head = record { dtype = typ dtype.now; len = len; body = B.primitive self.now } in
+            IsSoundNode head (roses_of children.now) }
         requires inside { index < len }
-        ensures row { IfOk result (λ row. plain_value row ≡ (rows_of_numbers (typ dtype.now) len self.now (rows_below (roses_of children.now))).row index) }
-        ensures fits { IfOk result (λ _. (rows_of_numbers (typ dtype.now) len self.now (rows_below (roses_of children.now))).cells index ≤ budget) }
-        ensures err { IfErr result (λ e. IsRowRefused e (rows_of_numbers (typ dtype.now) len self.now (rows_below (roses_of children.now))) index budget) }
+        ensures row { let rows = rows_of_numbers (typ dtype.now) len self.now (rows_below (roses_of children.now)) in
+            IfOk result (λ row. plain_value row ≡ rows.row index) }
+        ensures fits { let rows = rows_of_numbers (typ dtype.now) len self.now (rows_below (roses_of children.now)) in
+            IfOk result (λ _. rows.cells index ≤ budget) }
+        ensures err { let rows = rows_of_numbers (typ dtype.now) len self.now (rows_below (roses_of children.now)) in
+            IfErr result (λ e. IsRowRefused e rows index budget) }
     {
         let kind = match dtype {
             DType::Primitive(kind, _) => *kind,

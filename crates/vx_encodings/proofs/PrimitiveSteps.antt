@@ -1,5 +1,5 @@
 -- The steps of nodes of numbers.
-use Rattle.std.proofs.Common.{ℕ, zero, suc, ◌≡◌, ◌≢◌, ◌≤◌, List, [], ◌∷◌, Option, Some, None, refl, sym, ap, ◌∙◌, subst, inl, length, arith}
+use Rattle.std.proofs.Common.{ℕ, zero, suc, ◌≡◌, ◌≢◌, ◌≤◌, List, [], ◌∷◌, Option, Some, None, Result, Ok, Err, IfOk, refl, sym, ap, ◌∙◌, subst, inl, length, arith}
 use Rattle.vx_buffer.specs.Buffer.{Buffer}
 use Rattle.vx_trees.specs.Rose.{node, end, more, count, roses_of}
 use Rattle.vx_trees.proofs.Lists.{count-roses_of}
@@ -40,6 +40,12 @@ primitive_planned x h ps p m b d e = record {
   metadata = primitive_metadata x (typ h.dtype) h.metadata b;
   plan = plan_is (typ h.dtype) h.len h.nchildren p m (ap (λ z. typ z) d) ∙ e;
 }
+
+-- So what is answered for a validity is the answer for the node.
+pub validity_planned : (x : ExtMeaning) (h : ArrayHead) (r : Result (List Place) EncodingError) (p : PType) (m : Nullability) → h.metadata ≡ [] → h.dtype ≡ D.Primitive p m
+    → IfOk r (λ ps. before_validity [] h.len h.nchildren ≡ Some ps) → IfOk r (λ ps. IsPlanned x Primitive h ps)
+validity_planned x h (Ok ps) p m b d e = primitive_planned x h ps p m b d e
+validity_planned x h (Err error) p m b d e = tt
 
 -- Where a byte stands there is no metadata.
 pub primitive_unread : (x : ExtMeaning) (h : ArrayHead) → h.metadata ≢ [] → IsUnplanned BadMetadata x Primitive h
@@ -158,4 +164,4 @@ primitive_buffers x h bs us planned none =
     }
 
 -- What the steps of numbers rest on.
-pub ruleset primitive_steps = (primitive_planned, primitive_unread, primitive_unplanned, validity_unplanned, few_children, primitive_built, primitive_refused, primitive_buffers)
+pub ruleset primitive_steps = (primitive_planned, validity_planned, primitive_unread, primitive_unplanned, validity_unplanned, few_children, primitive_built, primitive_refused, primitive_buffers)

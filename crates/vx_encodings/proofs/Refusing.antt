@@ -1,5 +1,5 @@
 -- What is refused has no plan and no array.
-use Rattle.std.proofs.Common.{ℕ, ◌≡◌, ◌⊎◌, List, Option, Some, None, refl, sym, ap, ◌∙◌, subst, inl, inr, option_map}
+use Rattle.std.proofs.Common.{ℕ, ◌≡◌, ◌⊎◌, List, Option, Some, None, refl, sym, ap, ◌∙◌, subst, inl, inr, Result, Ok, Err, IfErr}
 use Rattle.vx_buffer.specs.Buffer.{Buffer}
 use Rattle.vx_trees.specs.Rose.{node, count}
 use Rattle.vx_types.specs.Known.{ExtMeaning}
@@ -20,7 +20,7 @@ use Rattle.vx_encodings.proofs.Laws.{one_message}
 use Rattle.vx_encodings.proofs.Spelled.{body_encoding}
 use Rattle.vx_encodings.specs.Messages.{codec}
 use Rattle.vx_encodings.specs.Plain.{plain_encoding}
-use Rattle.vx_encodings.specs.Steps.{IsPlanned, IsUnplanned, IsBuilt, IsUnbuilt, IsMemory}
+use Rattle.vx_encodings.specs.Steps.{IsPlanned, IsUnplanned, IsBuilt, IsUnbuilt, IsMemory, IsOkOrMemory}
 use Rattle.vx_encodings.specs.declared.encoding.Encoding as Declared
 use Rattle.vx_encodings.specs.declared.error.EncodingError.{EncodingError}
 use Rattle.vx_encodings.specs.declared.error.EncodingError.TheVariants.{OutOfMemory, BadMetadata, BadShape}
@@ -86,5 +86,14 @@ built_refusal x BadMetadata e h bs ts t planned u parts sound = absurd u
 built_refusal x BadShape e h bs ts t planned u parts sound =
     absurd (not_wrong x (plain_encoding e) (typ h.dtype) h.len h.metadata h.nchildren bs ts t planned parts sound u)
 
--- What completeness of the steps rests on.
-pub ruleset refusals = (planned_refusal, built_refusal)
+-- An answer whose refusals are those of a plan is Ok, or want of memory, where there is a plan.
+pub plan_complete : (x : ExtMeaning) (e : Declared.Encoding) (h : ArrayHead) (r : Result (List Place) EncodingError) → IfErr r (λ error. IsUnplanned error x e h)
+    → (ps : List Place) → IsPlanned x e h ps → IsOkOrMemory r
+plan_complete x e h (Ok qs) u ps p = tt
+plan_complete x e h (Err error) u ps p = planned_refusal x error e h ps u p
+
+-- And one whose refusals are those of a node that is built, where such a node is sound.
+pub build_complete : (x : ExtMeaning) (e : Declared.Encoding) (h : ArrayHead) (bs : List Buffer) (ts : Trees) (r : Result Tree EncodingError) → IsPlanned x e h (places ts)
+    → IfErr r (λ error. IsUnbuilt error x e h bs ts) → (t : Tree) → IsBuilt x e h bs ts t → IsSound t → IsOkOrMemory r
+build_complete x e h bs ts (Ok u) planned refused t parts sound = tt
+build_complete x e h bs ts (Err error) planned refused t parts sound = built_refusal x error e h bs ts t planned refused parts sound

@@ -4,10 +4,10 @@
 //! for each encoding.
 #![tactic(auto)]
 
+mod empty_metadata;
 mod encoding;
 mod error;
 mod head;
-mod metadata;
 mod null;
 mod plans;
 mod primitive;

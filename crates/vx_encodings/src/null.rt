@@ -7,9 +7,9 @@ ghost use Rattle.vx_array_tree.specs.Tree.{places};
 ghost use Rattle.vx_encodings.specs.Steps.{IsPlanned, IsUnplanned, IsBuilt, IsUnbuilt};
 ghost use Rattle.vx_encodings.specs.declared.encoding.Encoding.TheVariants.{Null};
 
+use crate::empty_metadata::read_empty;
 use crate::error::{EncodingError, of_constructor};
 use crate::head::ArrayHead;
-use crate::metadata::read_nothing;
 use crate::plans::ChildPlans;
 use std::alloc::Global;
 use vx_arrays::{Array, Arrays, NullArray};
@@ -22,7 +22,7 @@ pub(crate) fn plan(alloc: Global, head: &ArrayHead) -> Result<ChildPlans, Encodi
     ensures plan { (x : ExtMeaning) → IfOk result (λ plans. IsPlanned x Null head.now plans) }
     ensures err { (x : ExtMeaning) → IfErr result (λ e. IsUnplanned e x Null head.now) }
 {
-    read_nothing(head.metadata.as_slice())?;
+    read_empty(head.metadata.as_slice())?;
     match head.dtype {
         DType::Null => {}
         _ => return Err(EncodingError::BadShape),

@@ -9,9 +9,9 @@ ghost use Rattle.vx_array_tree.specs.Tree.{option_trees, places};
 ghost use Rattle.vx_encodings.specs.Steps.{IsPlanned, IsUnplanned, IsWithoutPlan, IsBuilt, IsUnbuilt};
 ghost use Rattle.vx_encodings.specs.declared.encoding.Encoding.TheVariants.{Primitive};
 
+use crate::empty_metadata::read_empty;
 use crate::error::{EncodingError, of_constructor};
 use crate::head::ArrayHead;
-use crate::metadata::read_nothing;
 use crate::plans::{ChildPlan, ChildPlans};
 use std::alloc::Global;
 use vx_arrays::{Array, Arrays, PrimitiveArray};
@@ -24,7 +24,7 @@ pub(crate) fn plan(alloc: Global, head: &ArrayHead) -> Result<ChildPlans, Encodi
     ensures plan { (x : ExtMeaning) → IfOk result (λ plans. IsPlanned x Primitive head.now plans) }
     ensures err { (x : ExtMeaning) → IfErr result (λ e. IsUnplanned e x Primitive head.now) }
 {
-    read_nothing(head.metadata.as_slice())?;
+    read_empty(head.metadata.as_slice())?;
     match head.dtype {
         DType::Primitive(_, _) => {}
         _ => return Err(EncodingError::BadShape),

@@ -12,10 +12,10 @@ ghost use Rattle.vx_wire_tree.specs.Fields.{told};
 ghost use Rattle.vx_encodings.specs.Messages.{message_bytes};
 ghost use Rattle.vx_encodings.specs.Steps.{IsPlanned, IsUnplanned, IsBuilt, IsUnbuilt, IsOkOrMemory};
 
+use crate::empty_metadata::write_empty;
 use crate::encoding::Encoding;
 use crate::error::EncodingError;
 use crate::head::ArrayHead;
-use crate::metadata::write_nothing;
 use crate::plans::ChildPlans;
 use crate::{null, primitive};
 use std::alloc::Global;
@@ -28,8 +28,24 @@ use vx_types::Blob;
 ///
 /// `BadMetadata` where its metadata is none of the encoding's, else `BadShape` where its type is of another
 /// kind or so many children do not fit.
-#[tactic(auto, using(crate::proofs::Refusing::refusals))]
 pub fn plan(
+    alloc: Global,
+    encoding: Encoding,
+    head: &ArrayHead,
+    readers: &ExtSession,
+) -> Result<ChildPlans, EncodingError>
+    ensures plan { let x = ext_meaning (λ b. accepted (b.vtable, b.value)) readers.now in
+        IfOk result (λ plans. IsPlanned x encoding head.now plans) }
+    ensures err { let x = ext_meaning (λ b. accepted (b.vtable, b.value)) readers.now in
+        IfErr result (λ e. IsUnplanned e x encoding head.now) }
+    ensures complete { let x = ext_meaning (λ b. accepted (b.vtable, b.value)) readers.now in
+        (ps : List Place) → IsPlanned x encoding head.now ps → IsOkOrMemory result }
+{
+    plan_by(alloc, encoding, head, readers)
+}
+
+// The plan of the encoding's file.
+fn plan_by(
     alloc: Global,
     encoding: Encoding,
     head: &ArrayHead,
@@ -39,8 +55,6 @@ pub fn plan(
         IfOk result (λ plans. IsPlanned x encoding head.now plans) }
     ensures err { let x = ext_meaning (λ b. accepted (b.vtable, b.value)) _readers.now in
         IfErr result (λ e. IsUnplanned e x encoding head.now) }
-    ensures complete { let x = ext_meaning (λ b. accepted (b.vtable, b.value)) _readers.now in
-        (ps : List Place) → IsPlanned x encoding head.now ps → IsOkOrMemory result }
 {
     match encoding {
         Encoding::Null => null::plan(alloc, head),
@@ -51,8 +65,29 @@ pub fn plan(
 /// The array of these parts, of which the children have the planned places.
 ///
 /// `BadShape` where the parts are not as the encoding's row asks.
-#[tactic(auto, using(crate::proofs::Refusing::refusals))]
 pub fn build(
+    alloc: Global,
+    encoding: Encoding,
+    head: ArrayHead,
+    buffers: BufferHandles,
+    children: Arrays,
+    readers: &ExtSession,
+) -> Result<Array, EncodingError>
+    requires { let x = ext_meaning (λ b. accepted (b.vtable, b.value)) readers.now in
+        IsPlanned x encoding head (places children) }
+    ensures parts { let x = ext_meaning (λ b. accepted (b.vtable, b.value)) readers.now in
+        IfOk result (λ t. IsBuilt x encoding head buffers children t) }
+    ensures sound { IfOk result IsSound }
+    ensures err { let x = ext_meaning (λ b. accepted (b.vtable, b.value)) readers.now in
+        IfErr result (λ e. IsUnbuilt e x encoding head buffers children) }
+    ensures complete { let x = ext_meaning (λ b. accepted (b.vtable, b.value)) readers.now in
+        (t : Tree) → IsBuilt x encoding head buffers children t → IsSound t → IsOkOrMemory result }
+{
+    build_by(alloc, encoding, head, buffers, children, readers)
+}
+
+// The node that the encoding's file builds.
+fn build_by(
     alloc: Global,
     encoding: Encoding,
     head: ArrayHead,
@@ -67,8 +102,6 @@ pub fn build(
     ensures sound { IfOk result IsSound }
     ensures err { let x = ext_meaning (λ b. accepted (b.vtable, b.value)) _readers.now in
         IfErr result (λ e. IsUnbuilt e x encoding head buffers children) }
-    ensures complete { let x = ext_meaning (λ b. accepted (b.vtable, b.value)) _readers.now in
-        (t : Tree) → IsBuilt x encoding head buffers children t → IsSound t → IsOkOrMemory result }
 {
     match encoding {
         Encoding::Null => null::build(alloc, head, buffers, children),
@@ -82,7 +115,7 @@ pub fn metadata(alloc: Global, array: &Array) -> Result<Blob, EncodingError>
     ensures err { IsOkUnless result EncodingError.OutOfMemory }
 {
     match array.body() {
-        Body::Null => Ok(write_nothing(alloc)),
-        Body::Primitive(_) => Ok(write_nothing(alloc)),
+        Body::Null => Ok(write_empty(alloc)),
+        Body::Primitive(_) => Ok(write_empty(alloc)),
     }
 }

@@ -7,7 +7,7 @@ use std::alloc::Global;
 use vx_types::Blob;
 
 // Reads the metadata of an encoding that keeps nothing: no byte stands there.
-pub(crate) fn read_nothing(bytes: &[u8]) -> Result<(), EncodingError>
+pub(crate) fn read_empty(bytes: &[u8]) -> Result<(), EncodingError>
     ensures ok { OnOk result (bytes.now ≡ []) }
     ensures refused { OnErr result (bytes.now ≢ []) }
     ensures err { IsOkUnless result EncodingError.BadMetadata }
@@ -19,7 +19,7 @@ pub(crate) fn read_nothing(bytes: &[u8]) -> Result<(), EncodingError>
 }
 
 // The metadata of an encoding that keeps nothing, as it is written: no byte.
-pub(crate) fn write_nothing(alloc: Global) -> Blob
+pub(crate) fn write_empty(alloc: Global) -> Blob
     ensures { result ≡ [] }
 {
     Blob::new(Vec::new(alloc))
