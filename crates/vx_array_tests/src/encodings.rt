@@ -1,5 +1,6 @@
 //! Tests of one level: planned, built and written; and of the texts of errors.
 
+use crate::printed::prints;
 use std::alloc::Global;
 use std::test::Fail;
 use vx_arrays::{Array, Arrays};
@@ -160,7 +161,7 @@ fn errors_are_printed(rt: HostRuntime) -> Result<(), Fail> {
         ),
         (EncodingError::BadShape, "the parts do not fit the encoding"),
     ] {
-        assert_eq!(rt; format!(in rt.alloc(); "{error}")?.as_str(), text);
+        assert!(rt; prints(rt.alloc(), &error, text)?, "{text}");
     }
     Ok(())
 }

@@ -1,7 +1,8 @@
 -- The registry of the shipped encodings.
-use Rattle.std.proofs.Common.{ℕ, ◌≡◌, List, [], ◌∷◌, ◌++◌, Option, Some, None, Bool, true, false, cond, map, option_map, refl, sym, ap, ◌∙◌, subst}
+use Rattle.std.proofs.Common.{ℕ, ◌≡◌, List, [], ◌∷◌, ◌++◌, Option, Some, None, Bool, true, false, cond, map, option_map, refl, sym, ap, ◌∙◌, subst, take, length, ◌≤◌}
 use Rattle.std.specs.Prelude.{bytes_eq}
 use Rattle.std.specs.Map.{lookup}
+use Rattle.std.proofs.lemmas.List.{take_all}
 use Rattle.std.proofs.lemmas.Slice.Eq.{bytes_eq-Decides}
 use Rattle.indexmap.specs.IndexMap.{insert_entry}
 use Rattle.vx_encodings.specs.declared.encoding.Encoding.{Encoding}
@@ -68,3 +69,12 @@ shipped_paired x = record {
   own_identifier = λ id r p. own id r p;
   written_is_read = λ id e p. again (found shipped_registry.readers id) e p;
 }
+
+-- the tables that have come so far, once all of the encodings are in
+pub tables_paired : (r w : Entries) (n : ℕ) → r ≡ put_in [] (take n shipped_encodings) → w ≡ put_in [] (take n shipped_encodings) → length shipped_encodings ≤ n
+    → ArePaired (record { readers = r; writers = w })
+tables_paired r w n p q h =
+    let whole : (m : Entries) → m ≡ put_in [] (take n shipped_encodings) → m ≡ shipped_registry.readers =
+      λ m e. e ∙ ap (λ es. put_in [] es) (take_all n shipped_encodings h) ∙ all_in in
+    subst (λ (z : Entries). ArePaired (record { readers = z; writers = w })) (sym (whole r p))
+    (subst (λ (z : Entries). ArePaired (record { readers = shipped_registry.readers; writers = z })) (sym (whole w q)) shipped_paired)
