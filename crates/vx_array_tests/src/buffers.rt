@@ -1,10 +1,9 @@
 //! Tests of slices, alignments and lists of buffers, and of the texts of errors.
 
+use crate::printed::prints;
 use std::hash::{FoldHasher, Hasher};
 use std::test::Fail;
-use vx_buffer::{
-    Alignment, BufferError, BufferHandle, BufferHandles, ByteBuffer, ByteBuffers,
-};
+use vx_buffer::{Alignment, BufferError, BufferHandle, BufferHandles, ByteBuffer, ByteBuffers};
 
 #[test]
 fn alignments_are_powers_of_two(rt: HostRuntime) -> Result<(), Fail> {
@@ -83,10 +82,6 @@ fn handles_are_sliced_by_bytes_and_by_values(rt: HostRuntime) -> Result<(), Fail
 
 #[test]
 fn errors_are_printed(rt: HostRuntime) -> Result<(), Fail> {
-    let error = BufferError::OutOfMemory;
-    assert_eq!(rt;
-        format!(in rt.alloc(); "{error}")?.as_str(),
-        "out of memory"
-    );
+    assert!(rt; prints(rt.alloc(), &BufferError::OutOfMemory, "out of memory")?);
     Ok(())
 }

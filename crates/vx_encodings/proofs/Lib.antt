@@ -1,4 +1,6 @@
-pub mod Rows
+pub mod Laws
+mod Spelled
 mod Refusing
-mod PrimitiveParts
-mod NullParts
+mod Bare
+mod NullSteps
+mod PrimitiveSteps
