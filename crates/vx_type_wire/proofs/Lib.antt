@@ -14,3 +14,4 @@ pub mod Members
 pub mod Weights
 pub mod Elements
 pub mod Written
+pub mod LawsTypes
