@@ -12,3 +12,4 @@ pub mod Members
 pub mod Weights
 pub mod Elements
 pub mod Written
+pub mod LawsTypes

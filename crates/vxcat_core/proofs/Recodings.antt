@@ -1,19 +1,20 @@
 -- From what the recoding of a blob ensures to what the program promises of it.
-use Rattle.std.proofs.Common.{◌≡◌, ℕ, List, [], Option, None, Some, option_map, Result, Ok, Err, IfOk, IfErr, sym, ap, subst, ◌∙◌}
+use Rattle.std.proofs.Common.{◌≡◌, ℕ, List, [], None, Result, Ok, Err, IfOk, IfErr, sym, ap, subst, ◌∙◌}
 use Rattle.vx_types.specs.Typ.{Typ}
-use Rattle.vx_type_wire.specs.Shown.{ShowsType}
-use Rattle.vx_arrays.specs.Tree.{Tree}
-use Rattle.vx_encodings.specs.declared.encoding.Encoding.{Encoding}
+use Rattle.vx_type_wire.proofs.LawsTypes.{one_type_shown}
 use Rattle.vx_registry.specs.Context.{Context}
-use Rattle.vx_registry.specs.Session.{Registry, shipped, registry_meaning, shipped_registry, IsShipped, IsShippedReader}
+use Rattle.vx_registry.specs.Session.{Registry, registry_meaning, shipped_registry}
 use Rattle.vx_serde.specs.declared.options.SerializeOptions.{SerializeOptions}
 use Rattle.vx_serde.specs.declared.error.WireError.{WireError}
 use Rattle.vx_serde.specs.declared.error.WireError.TheVariants as wire
-use Rattle.vx_serde.specs.Causes.{Call, IsCaused}
+use Rattle.vx_serde.specs.Causes.{IsCaused}
+use Rattle.vx_serde.specs.Recoding.{IsFaithful, IsRecoded, Product}
+use Rattle.vx_serde.specs.Request.{CanRecode, Request}
+use Rattle.vx_serde.specs.WrittenBuffers.{joined}
 use Rattle.vxcat_core.specs.Status.{wire_status, id_status}
 use Rattle.vxcat_core.specs.Words.{Line}
 use Rattle.vxcat_core.specs.IdFile.{ReadsIds}
-use Rattle.vxcat_core.specs.Recoding.{asked_by, call, write_options, CanRecode, CanRecodeInputs, IsBlobRecoded, IsBlobRefused, IsRecoded, IsRefused, IsTypeStatus, ReadsType}
+use Rattle.vxcat_core.specs.Recoding.{AreMade, AreOutputs, CanRecodeInputs, IsBlobRefused, IsRefused, IsTypeStatus, ReadsType, asked_by, call, write_options}
 use Rattle.vxcat_core.specs.declared.id_file.IdFileError.{IdFileError}
 use Rattle.vxcat_core.specs.declared.id_file.IdFileError.TheVariants as id_error
 use Rattle.vxcat_core.specs.declared.recoding.Inputs.{Inputs}
@@ -22,37 +23,27 @@ use Rattle.vxcat_core.specs.declared.status.Status.{Status}
 use Rattle.vxcat_core.specs.declared.status.Status.TheVariants.{Done, OutOfMemory, NoCommand, LoadFault, SaveFault, WriteFault, BadType, BadIds, Refused}
 use Rattle.vxcat_core.proofs.IdLines.{lines_unique}
 
-by_shipped : (found : Option Encoding) → IsShippedReader (option_map shipped found)
-by_shipped None = tt
-by_shipped (Some encoding) = tt
-
--- A registry reads by shipped encodings.
-pub registry_shipped : (registry : Registry) → IsShipped (registry_meaning registry)
-registry_shipped registry id = by_shipped _
-
 -- What `recode` is asked is what the program asks.
 pub same_call : (blob bytes : List ℕ) (dtype : Typ) (len : ℕ) (read_ids ids : List (List ℕ)) (context : Context) (arrays : Registry) (options : SerializeOptions)
     → bytes ≡ blob → ids ≡ read_ids → context.ids ≡ [] → context.allowed ≡ None → arrays ≡ shipped_registry
-    → record { blob = bytes; dtype = dtype; len = len; ids = ids; context = context; session = registry_meaning arrays; options = options } ≡ call blob dtype len read_ids options
+    → record { blob = bytes; dtype = dtype; len = len; ids = ids; context = context; options = options; session = registry_meaning arrays } ≡ call blob dtype len read_ids options
 same_call blob bytes dtype len read_ids ids context arrays options b i c a r =
-    λ k. record { blob = b k; dtype = dtype; len = len; ids = i k; context = record { ids = c k; allowed = a k }; session = registry_meaning (r k); options = options }
+    λ k. record { blob = b k; dtype = dtype; len = len; ids = i k; context = record { ids = c k; allowed = a k }; options = options; session = registry_meaning (r k) }
 
--- The outputs are what was recoded.
-pub outputs_recoded : (asked : Call) (array : Tree) (bytes : List ℕ) (ids : List (List ℕ)) (result : Result Outputs Status) → IsBlobRecoded asked array bytes ids
-    → IfOk result (λ made. made.array ≡ array) → IfOk result (λ made. made.blob ≡ bytes) → IfOk result (λ made. made.ids ≡ ids) → IfOk result (λ made. IsBlobRecoded asked made.array made.blob made.ids)
-outputs_recoded asked array bytes ids (Ok made) recoded a b i =
-    let at_array = subst (λ (t : Tree). IsBlobRecoded asked t bytes ids) (sym a) recoded in
-    let at_bytes = subst (λ (l : List ℕ). IsBlobRecoded asked made.array l ids) (sym b) at_array in
-    subst (λ (l : List (List ℕ)). IsBlobRecoded asked made.array made.blob l) (sym i) at_bytes
-outputs_recoded asked array bytes ids (Err status) recoded a b i = tt
+-- The outputs are what was made.
+pub outputs_made : (asked : Request) (product : Product) (result : Result Outputs Status) → IsRecoded asked product → IsFaithful asked product
+    → IfOk result (λ made. made.array ≡ product.array) → IfOk result (λ made. made.blob ≡ joined product.buffers) → IfOk result (λ made. made.ids ≡ product.context.ids) → IfOk result (λ made. AreMade asked made)
+outputs_made asked product (Ok made) recoded faithful array blob ids =
+    record { product = product; recoded = recoded; faithful = faithful; array_is = array; blob_is = blob; ids_are = ids }
+outputs_made asked product (Err status) recoded faithful array blob ids = tt
 
 -- Want of memory needs no cause.
-pub memory_refused : (asked : Call) (result : Result Outputs Status) → IfErr result (λ status. status ≡ OutOfMemory) → IfErr result (λ status. IsBlobRefused status asked)
+pub memory_refused : (asked : Request) (result : Result Outputs Status) → IfErr result (λ status. status ≡ OutOfMemory) → IfErr result (λ status. IsBlobRefused status asked)
 memory_refused asked (Ok made) memory = tt
 memory_refused asked (Err status) memory = subst (λ (s : Status). IsBlobRefused s asked) (sym memory) tt
 
 -- A refusal that has its cause gives its status.
-pub refused : (error : WireError) (asked : Call) → IsCaused asked error → IsBlobRefused (wire_status error) asked
+pub refused : (error : WireError) (asked : Request) → IsCaused asked error → IsBlobRefused (wire_status error) asked
 refused wire.OutOfMemory asked cause = tt
 refused wire.TooShort asked cause = cause
 refused wire.BadTable asked cause = cause
@@ -132,10 +123,10 @@ module _ (line : Line) (loaded : Inputs) (type_bytes id_bytes : List ℕ) (dtype
   ids_here = subst (λ (l : List ℕ). ReadsIds l read_ids) ids_are ids_read
 
   -- What was recoded of the blob was recoded of what was loaded.
-  pub inputs_recoded : IfOk result (λ made. IsBlobRecoded (call loaded.blob dtype line.len read_ids options) made.array made.blob made.ids) → IfOk result (λ made. IsRecoded line loaded made)
+  pub inputs_recoded : IfOk result (λ made. AreMade (call loaded.blob dtype line.len read_ids options) made) → IfOk result (λ made. AreOutputs line loaded made)
   inputs_recoded recoded =
-      let here = subst (λ (o : SerializeOptions). IfOk result (λ made. IsBlobRecoded (call loaded.blob dtype line.len read_ids o) made.array made.blob made.ids)) options_are recoded in
-      if_ok_map result _ _ (λ made k. record { dtype = dtype; read_ids = read_ids; type_read = type_here; ids_read = ids_here; recoded = k }) here
+      let here = subst (λ (o : SerializeOptions). IfOk result (λ made. AreMade (call loaded.blob dtype line.len read_ids o) made)) options_are recoded in
+      if_ok_map result _ _ (λ made k. record { dtype = dtype; read_ids = read_ids; type_read = type_here; ids_read = ids_here; are_made = k }) here
 
   -- A refused blob is a cause among those of what was loaded.
   pub inputs_refused : IfErr result (λ s. IsBlobRefused s (call loaded.blob dtype line.len read_ids options)) → IfErr result (λ s. IsRefused s line loaded)
@@ -144,10 +135,10 @@ module _ (line : Line) (loaded : Inputs) (type_bytes id_bytes : List ℕ) (dtype
       if_err_map result _ _ (blob_to_inputs line loaded dtype read_ids type_here ids_here) here
 
   -- What can be recoded at some type and with some identifiers can be so at those that were read.
-  pub inputs_complete : ((m : List ℕ) (t u : Typ) → ShowsType m t → ShowsType m u → t ≡ u) → (CanRecode (call loaded.blob dtype line.len read_ids options) → IfErr result (λ s. s ≡ OutOfMemory))
+  pub inputs_complete : (CanRecode (call loaded.blob dtype line.len read_ids options) → IfErr result (λ s. s ≡ OutOfMemory))
       → CanRecodeInputs line loaded → IfErr result (λ s. s ≡ OutOfMemory)
-  inputs_complete one_type complete can =
-      let types : can.dtype ≡ dtype = one_type loaded.type_bytes can.dtype dtype can.type_read.shows type_here.shows in
+  inputs_complete complete can =
+      let types : can.dtype ≡ dtype = one_type_shown loaded.type_bytes can.dtype dtype can.type_read.shows type_here.shows in
       let ids : can.read_ids ≡ read_ids = lines_unique loaded.id_bytes read_ids can.read_ids ids_here.lines can.ids_read.lines in
       let asked : asked_by line loaded can.dtype can.read_ids ≡ call loaded.blob dtype line.len read_ids options = λ k. call loaded.blob (types k) line.len (ids k) (sym options_are k) in
       complete (subst CanRecode asked can.can_recode)

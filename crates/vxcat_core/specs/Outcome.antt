@@ -6,7 +6,7 @@ use Rattle.vxcat_core.specs.SinkState.{SinkState}
 use Rattle.vxcat_core.specs.Words.{Line, Spells, inputs}
 use Rattle.vxcat_core.specs.Written.{AppendsPrefix}
 use Rattle.vxcat_core.specs.Listing.{listing}
-use Rattle.vxcat_core.specs.Recoding.{AreInputs, CanRecodeInputs, IsRecoded, IsRefused, AskedOnly, KeepsOthers, SavesInOrder, AreSaved}
+use Rattle.vxcat_core.specs.Recoding.{AreInputs, AreOutputs, CanRecodeInputs, IsRefused, AskedOnly, KeepsOthers, SavesInOrder, AreSaved}
 use Rattle.vxcat_core.specs.Status.{status_number}
 use Rattle.vxcat_core.specs.declared.options.Options.{Options}
 use Rattle.vxcat_core.specs.declared.recoding.Inputs.{Inputs}
@@ -29,7 +29,7 @@ pub record Work (line : Line) (before : StoreState) : Type 0 where
   pub loaded : Inputs
   pub made : Outputs
   pub are_inputs : AreInputs line before loaded
-  pub is_recoded : IsRecoded line loaded made
+  pub are_outputs : AreOutputs line loaded made
 
 -- The command came to its saves and no further: its outputs were made, and their names are the only ones that may have
 -- changed, in the order in which they are saved. Nothing is printed.

@@ -1,15 +1,16 @@
 -- What the command `recode` reads, makes and saves.
-use Rattle.std.specs.Prelude.{◌≡◌, ◌≢◌, ◌⊎◌, ℕ, true, false, IsTrue, IsSome, Option, None, Some, option_map, List, [], ◌++◌, Contains}
+use Rattle.std.specs.Prelude.{◌≡◌, ◌≢◌, ◌⊎◌, ℕ, true, false, IsTrue, Option, None, Some, List, [], ◌++◌, Contains}
 use Rattle.std.specs.List.{AllByRecursion}
 use Rattle.vx_types.specs.Typ.{Typ}
-use Rattle.vx_type_wire.specs.Known.{IsRead, no_readers}
-use Rattle.vx_type_wire.specs.Shown.{ShowsType}
-use Rattle.vx_arrays.specs.Tree.{Tree}
-use Rattle.vx_registry.specs.Context.{Context, grown}
+use Rattle.vx_type_wire.specs.Known.{no_readers}
+use Rattle.vx_type_wire.specs.Shown.{IsRead}
+use Rattle.vx_registry.specs.Context.{Context}
 use Rattle.vx_registry.specs.Session.{SessionMeaning, registry_meaning, shipped_registry}
 use Rattle.vx_serde.specs.declared.options.SerializeOptions.{SerializeOptions}
-use Rattle.vx_serde.specs.Spells.{Spells, KeepsReaderLimits, KeepsWriterLimits, blob_of, canon}
-use Rattle.vx_serde.specs.Causes.{Call, IsCaused}
+use Rattle.vx_serde.specs.Causes.{IsCaused}
+use Rattle.vx_serde.specs.Recoding.{IsFaithful, IsRecoded, Product}
+use Rattle.vx_serde.specs.Request.{CanRecode, Request}
+use Rattle.vx_serde.specs.WrittenBuffers.{joined}
 use Rattle.vxcat_core.specs.StoreState.{StoreState, HasRisen}
 use Rattle.vxcat_core.specs.Words.{Line}
 use Rattle.vxcat_core.specs.IdFile.{ReadsIds, id_text}
@@ -31,7 +32,7 @@ pub record AreInputs (line : Line) (store : StoreState) (loaded : Inputs) : Type
 -- A type file is read as the type whose table it shows within the limits. The program has no readers of extensions, so
 -- no extension stands in the type.
 abbrev pub ReadsType : List ℕ → Typ → Type 0
-ReadsType bytes = IsRead (ShowsType bytes) no_readers
+ReadsType = IsRead no_readers
 
 -- The program reads and writes the encodings that are shipped, and writes under a context that is empty at first.
 abbrev pub session : SessionMeaning
@@ -46,41 +47,32 @@ abbrev pub write_options : Option ℕ → SerializeOptions
 write_options None = record { offset = 0; include_padding = false }
 write_options (Some offset) = record { offset = offset; include_padding = true }
 
--- What the program asks of the blob.
-abbrev pub call : List ℕ → Typ → ℕ → List (List ℕ) → SerializeOptions → Call
+-- What the program asks of a blob.
+abbrev pub call : List ℕ → Typ → ℕ → List (List ℕ) → SerializeOptions → Request
 call blob dtype len read_ids options =
-    record { blob = blob; dtype = dtype; len = len; ids = read_ids; context = empty_context; session = session; options = options }
-
--- The blob spells one array at its type, at its length and with its identifiers. The new bytes are that array's blob
--- under the context that is grown by it, and they spell the array again with that context's identifiers.
-pub record IsBlobRecoded (asked : Call) (array : Tree) (bytes : List ℕ) (ids : List (List ℕ)) : Type 0 where
-  pub spelled : Spells asked.blob asked.ids asked.dtype asked.len asked.session array
-  pub the_one : (other : Tree) → Spells asked.blob asked.ids asked.dtype asked.len asked.session other → other ≡ array
-  pub written : bytes ≡ blob_of asked.session array asked.context asked.options
-  pub ids_grown : option_map (λ context. context.ids) (grown asked.context array) ≡ Some ids
-  pub again : Spells bytes ids asked.dtype asked.len asked.session (canon array)
-  pub reader_limits : KeepsReaderLimits asked.blob
-  pub writer_limits : KeepsWriterLimits asked.session array asked.context asked.options
-
--- The blob can be recoded: it spells an array, the limits on reading and writing hold, and the context can grow.
-pub record CanRecode (asked : Call) : Type 0 where
-  pub array : Tree
-  pub spelled : Spells asked.blob asked.ids asked.dtype asked.len asked.session array
-  pub reader_limits : KeepsReaderLimits asked.blob
-  pub writer_limits : KeepsWriterLimits asked.session array asked.context asked.options
-  pub grows : IsSome (grown asked.context array)
+    record { blob = blob; dtype = dtype; len = len; ids = read_ids; context = empty_context; options = options; session = session }
 
 -- What a command asks of the blob that it loaded, at a type and with identifiers.
-abbrev pub asked_by : Line → Inputs → Typ → List (List ℕ) → Call
+abbrev pub asked_by : Line → Inputs → Typ → List (List ℕ) → Request
 asked_by line loaded dtype read_ids = call loaded.blob dtype line.len read_ids (write_options line.options.pad)
 
--- The outputs are what recoding gives at the type that the type file shows, with the identifiers that the id file has.
-pub record IsRecoded (line : Line) (loaded : Inputs) (made : Outputs) : Type 0 where
+-- The outputs are what `recode` makes where this is asked: its array, the bytes of its blob, and the identifiers of its
+-- context.
+pub record AreMade (asked : Request) (made : Outputs) : Type 0 where
+  pub product : Product
+  pub recoded : IsRecoded asked product
+  pub faithful : IsFaithful asked product
+  pub array_is : made.array ≡ product.array
+  pub blob_is : made.blob ≡ joined product.buffers
+  pub ids_are : made.ids ≡ product.context.ids
+
+-- The outputs are what recoding makes at the type that the type file shows, with the identifiers that the id file has.
+pub record AreOutputs (line : Line) (loaded : Inputs) (made : Outputs) : Type 0 where
   pub dtype : Typ
   pub read_ids : List (List ℕ)
   pub type_read : ReadsType loaded.type_bytes dtype
   pub ids_read : ReadsIds loaded.id_bytes read_ids
-  pub recoded : IsBlobRecoded (asked_by line loaded dtype read_ids) made.array made.blob made.ids
+  pub are_made : AreMade (asked_by line loaded dtype read_ids) made
 
 -- What was loaded can be recoded: the type file shows a type, the id file has identifiers, and the blob can be recoded
 -- at that type and with these.
@@ -98,7 +90,7 @@ IsTypeStatus BadType = Unit {0}
 IsTypeStatus status = ⊥
 
 -- A blob is refused for want of memory, or by a refusal that has its cause.
-abbrev pub IsBlobRefused : Status → Call → Type 0
+abbrev pub IsBlobRefused : Status → Request → Type 0
 IsBlobRefused OutOfMemory asked = Unit {0}
 IsBlobRefused (Refused error) asked = IsCaused asked error
 IsBlobRefused status asked = ⊥

@@ -5,8 +5,9 @@ ghost use Rattle.vx_types.specs.Seen.{typ};
 ghost use Rattle.vx_types.specs.Typ.{Typ};
 ghost use Rattle.vxcat_core.specs.RecodeWords.{line_of};
 ghost use Rattle.vxcat_core.specs.Words.{inputs};
+ghost use Rattle.vx_serde.specs.Request.{CanRecode};
 ghost use Rattle.vx_serde.specs.WrittenBuffers.{joined};
-ghost use Rattle.vxcat_core.specs.Recoding.{AreInputs, AreSaved, AskedOnly, CanRecode, CanRecodeInputs, EndsLoading, EndsSaving, IsBlobRecoded, IsBlobRefused, IsRecoded, IsRefused, IsTypeStatus, KeepsOthers, ReadsType, SavesInOrder, call, write_options};
+ghost use Rattle.vxcat_core.specs.Recoding.{AreInputs, AreMade, AreOutputs, AreSaved, AskedOnly, CanRecodeInputs, EndsLoading, EndsSaving, IsBlobRefused, IsRefused, IsTypeStatus, KeepsOthers, ReadsType, SavesInOrder, call, write_options};
 ghost use Rattle.vxcat_core.specs.declared.status.Status.TheVariants.{OutOfMemory};
 
 use crate::id_file::{read_ids, write_ids};
@@ -18,7 +19,6 @@ use vx_arrays::Array;
 use vx_buffer::{ByteBuffer, ByteBuffers};
 use vx_registry::{ArrayContext, ArraySession, ReadContext, VortexSession};
 use vx_serde::{Recoded, SerializeOptions, recode};
-use vx_type_wire::laws::one_type;
 use vx_type_wire::{DTypeExt, ExtSession};
 use vx_types::{Blob, DType, Ids};
 
@@ -71,11 +71,10 @@ pub fn load_inputs<S: Store>(
 
 /// Judges the type file, then the id file, and recodes the blob.
 pub fn recode_inputs(alloc: Global, words: &RecodeWords, loaded: Inputs) -> Result<Outputs, Status>
-    ensures recoded { IfOk result (λ made. IsRecoded (line_of words.now) loaded made) }
+    ensures recoded { IfOk result (λ made. AreOutputs (line_of words.now) loaded made) }
     ensures cause { IfErr result (λ status. IsRefused status (line_of words.now) loaded) }
     ensures complete { CanRecodeInputs (line_of words.now) loaded → IfErr result (λ status. status ≡ OutOfMemory) }
 {
-    one_type();
     let dtype = match read_type(alloc, loaded.type_bytes.as_slice()) {
         Ok(dtype) => dtype,
         Err(status) => return Err(status),
@@ -124,7 +123,7 @@ fn recode_blob(
     options: &SerializeOptions,
 ) -> Result<Outputs, Status>
     ensures recoded { let asked = call blob (typ dtype.now) len read_ids options.now in
-        IfOk result (λ made. IsBlobRecoded asked made.array made.blob made.ids) }
+        IfOk result (λ made. AreMade asked made) }
     ensures cause { IfErr result (λ status. IsBlobRefused status (call blob (typ dtype.now) len read_ids options.now)) }
     ensures complete { CanRecode (call blob (typ dtype.now) len read_ids options.now) → IfErr result (λ status. status ≡ OutOfMemory) }
 {

@@ -20,7 +20,7 @@ pub returns-in-Err-save_outputs : goal.returns-in-Err-save_outputs
 returns-in-Err-save_outputs g c =
     let load = c.load_inputs.ensures in
     save_ends c.in-Err-save_outputs.status (line_of c.args.words.now) _ _ _ _
-    (record { loaded = c.in-Ok.loaded; made = c.in-Ok-recode_inputs.made; are_inputs = c.in-Ok.ensures.inputs; is_recoded = c.in-Ok-recode_inputs.ensures.recoded })
+    (record { loaded = c.in-Ok.loaded; made = c.in-Ok-recode_inputs.made; are_inputs = c.in-Ok.ensures.inputs; are_outputs = c.in-Ok-recode_inputs.ensures.recoded })
     load.save_faults
     (others_through _ _ _ _ load.files load.told c.save_outputs.ensures.others)
     (order_through (line_of c.args.words.now) (g.S.Store.state c.args.store.now) (g.S.Store.state c.load_inputs.new.store) (g.S.Store.state c.save_outputs.new.store) c.in-Ok-recode_inputs.made
@@ -33,7 +33,7 @@ returns-in-Ok-print_listing g c =
     let printed = subst (λ (n : ℕ). Appends (g.O.Sink.state c.args.out.now).written (g.O.Sink.state c.print_listing.new.out).written (listing c.in-Ok-recode_inputs.made.array n))
     c.shown_rows.ensures c.in-Ok-print_listing.ensures.ok in
     record {
-      work = record { loaded = c.in-Ok.loaded; made = c.in-Ok-recode_inputs.made; are_inputs = c.in-Ok.ensures.inputs; is_recoded = c.in-Ok-recode_inputs.ensures.recoded };
+      work = record { loaded = c.in-Ok.loaded; made = c.in-Ok-recode_inputs.made; are_inputs = c.in-Ok.ensures.inputs; are_outputs = c.in-Ok-recode_inputs.ensures.recoded };
       saved = c.in_default.ensures.saved;
       others = others_through _ _ _ _ load.files load.told c.save_outputs.ensures.others;
       printed = printed;
@@ -45,7 +45,7 @@ returns g c =
     let prefix = subst (λ (n : ℕ). AppendsPrefix (g.O.Sink.state c.args.out.now).written (g.O.Sink.state c.print_listing.new.out).written (listing c.in-Ok-recode_inputs.made.array n))
     c.shown_rows.ensures c.print_listing.ensures.prefix in
     let ends = print_ends c.in-Err-print_listing.error (line_of c.args.words.now) _ _ _ _
-    (record { loaded = c.in-Ok.loaded; made = c.in-Ok-recode_inputs.made; are_inputs = c.in-Ok.ensures.inputs; is_recoded = c.in-Ok-recode_inputs.ensures.recoded })
+    (record { loaded = c.in-Ok.loaded; made = c.in-Ok-recode_inputs.made; are_inputs = c.in-Ok.ensures.inputs; are_outputs = c.in-Ok-recode_inputs.ensures.recoded })
     c.in_default.ensures.saved
     (others_through _ _ _ _ load.files load.told c.save_outputs.ensures.others)
     prefix

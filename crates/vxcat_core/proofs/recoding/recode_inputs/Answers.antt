@@ -11,7 +11,7 @@ returns-clause-cause c =
 pub returns-clause-complete : goal.returns-clause-complete
 returns-clause-complete c =
     inputs_complete (line_of c.args.words.now) c.args.loaded c.as_slice.result.now c.as_slice-2.result.now (typ c.in-Ok.dtype) c.in-Ok-read_ids.ids c.serialize_options-options.result c.recode_blob.result
-    c.as_slice.ensures c.as_slice-2.ensures c.serialize_options-options.ensures c.in-Ok.ensures.read c.in-Ok-read_ids.ensures.reads c.one_type.ensures.message c.recode_blob.ensures.complete
+    c.as_slice.ensures c.as_slice-2.ensures c.serialize_options-options.ensures c.in-Ok.ensures.read c.in-Ok-read_ids.ensures.reads c.recode_blob.ensures.complete
 
 pub returns-in-Err-clause-cause : goal.returns-in-Err-clause-cause
 returns-in-Err-clause-cause c =
