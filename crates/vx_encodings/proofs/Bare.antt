@@ -1,5 +1,5 @@
 -- Metadata of encodings that keep nothing: no byte, whatever the type and the readers.
-use Rattle.std.proofs.Common.{ℕ, ◌≡◌, ◌≢◌, List, [], refl}
+use Rattle.std.proofs.Common.{ℕ, ◌≡◌, List, [], refl}
 use Rattle.vx_types.specs.Known.{ExtMeaning}
 use Rattle.vx_types.specs.Typ.{Typ}
 use Rattle.vx_array_tree.specs.Encoding.{Encoding}

@@ -1,5 +1,5 @@
 -- The steps of nodes of nulls.
-use Rattle.std.proofs.Common.{ℕ, zero, suc, ◌≡◌, ◌≢◌, List, [], ◌∷◌, Some, None, refl, sym, ap, subst, inl}
+use Rattle.std.proofs.Common.{ℕ, zero, suc, ◌≡◌, ◌≢◌, List, [], ◌∷◌, Some, None, refl, sym, subst, inl}
 use Rattle.vx_buffer.specs.Buffer.{Buffer}
 use Rattle.vx_trees.specs.Rose.{node, end, more, count}
 use Rattle.vx_types.specs.Kind.{null}

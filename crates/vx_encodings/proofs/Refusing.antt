@@ -1,5 +1,5 @@
 -- What is refused has no plan and no array.
-use Rattle.std.proofs.Common.{ℕ, ◌≡◌, ◌⊎◌, List, Option, Some, None, refl, sym, ap, ◌∙◌, subst, inl, inr, Result, Ok, Err, IfErr}
+use Rattle.std.proofs.Common.{ℕ, ◌≡◌, ◌⊎◌, List, Option, Some, None, sym, ap, ◌∙◌, subst, inl, inr, Result, Ok, Err, IfErr}
 use Rattle.vx_buffer.specs.Buffer.{Buffer}
 use Rattle.vx_trees.specs.Rose.{node, count}
 use Rattle.vx_types.specs.Known.{ExtMeaning}
@@ -10,7 +10,7 @@ use Rattle.vx_array_tree.specs.Encoding.{Encoding}
 use Rattle.vx_array_tree.specs.Metadata.{Metadata}
 use Rattle.vx_array_tree.specs.Place.{Place}
 use Rattle.vx_array_tree.specs.Sound.{IsSound, IsSoundNode}
-use Rattle.vx_array_tree.specs.Table.{encoding_of, metadata_of, body_of, plan_of, lifted, Allows, Takes, IsShaped}
+use Rattle.vx_array_tree.specs.Table.{metadata_of, body_of, plan_of, Allows, Takes, IsShaped}
 use Rattle.vx_array_tree.specs.Tree.{Tree, Trees, Head, places, encodings}
 use Rattle.vx_array_tree.proofs.Plans.{metadata_again}
 use Rattle.vx_wire_tree.specs.Fields.{Fields, meant}
