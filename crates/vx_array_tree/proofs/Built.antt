@@ -1,5 +1,6 @@
 -- What is built of metadata and buffers, over children as they are planned.
 use Rattle.std.proofs.Common.{ℕ, ◌≡◌, ◌⊎◌, inl, inr, List, [], ◌∷◌, Some, refl, sym, ap, ◌∙◌, subst}
+use Rattle.std.proofs.lemmas.Option.{same_Some}
 use Rattle.vx_buffer.specs.Buffer.{Buffer}
 use Rattle.vx_trees.specs.Rose.{node, end, count}
 use Rattle.vx_types.specs.Kind as K
@@ -22,14 +23,14 @@ use Rattle.vx_array_tree.specs.Sound.{IsSoundNode}
 use Rattle.vx_array_tree.specs.Table.{encoding_of, metadata_of, IsFair, buffers_of, bufferless, body_of, plan_of, lifted, Allows, Holds, IsShaped, Takes, Content, IsNormalBody}
 use Rattle.vx_array_tree.specs.Tree.{Head, Trees, places, encodings, rows_below}
 use Rattle.vx_array_tree.proofs.NodeLaws.{body_encoding}
-use Rattle.vx_array_tree.proofs.Options.{some_inj, mapped}
+use Rattle.vx_array_tree.proofs.Options.{mapped}
 use Rattle.vx_array_tree.proofs.Plans.{exactly_is, metadata_again}
 use Rattle.vx_array_tree.proofs.Retyped.{own_places}
 
 -- ---- a body has the buffers that it was built of
 
 bufferless_buffers : (x : Body) (bs : List Buffer) (b : Body) → buffers_of x ≡ [] → bufferless x bs ≡ Some b → buffers_of b ≡ bs
-bufferless_buffers x [] b n e = ap (λ z. buffers_of z) (sym (some_inj x b e)) ∙ n
+bufferless_buffers x [] b n e = ap (λ z. buffers_of z) (sym (same_Some x b e)) ∙ n
 bufferless_buffers x (c ∷ bs) b n e = absurd (cc)
 
 data_buffers : (b : Buffer) (bs : List Buffer) → VarBinViews.buffers_of (VarBinViews.data_of b bs) ≡ b ∷ bs
@@ -38,27 +39,27 @@ data_buffers b (c ∷ bs) = ap (λ (xs : List Buffer). b ∷ xs) (data_buffers c
 
 bool_buffers : (v : ℕ) (bs : List Buffer) (x : Bools.Data) → Bools.body_of v bs ≡ Some x → Bools.buffers_of x ≡ bs
 bool_buffers v [] x e = absurd (cc)
-bool_buffers v (b ∷ []) x e = ap (λ y. Bools.buffers_of y) (sym (some_inj (record { bits = b; offset = v }) x e))
+bool_buffers v (b ∷ []) x e = ap (λ y. Bools.buffers_of y) (sym (same_Some (record { bits = b; offset = v }) x e))
 bool_buffers v (b ∷ c ∷ bs) x e = absurd (cc)
 
 primitive_buffers : (bs : List Buffer) (x : Primitives.Data) → Primitives.body_of bs ≡ Some x → Primitives.buffers_of x ≡ bs
 primitive_buffers [] x e = absurd (cc)
-primitive_buffers (b ∷ []) x e = ap (λ y. Primitives.buffers_of y) (sym (some_inj (record { values = b }) x e))
+primitive_buffers (b ∷ []) x e = ap (λ y. Primitives.buffers_of y) (sym (same_Some (record { values = b }) x e))
 primitive_buffers (b ∷ c ∷ bs) x e = absurd (cc)
 
 decimal_buffers : (v : Decimals.Metadata) (bs : List Buffer) (x : Decimals.Data) → Decimals.body_of v bs ≡ Some x → Decimals.buffers_of x ≡ bs
 decimal_buffers v [] x e = absurd (cc)
-decimal_buffers v (b ∷ []) x e = ap (λ y. Decimals.buffers_of y) (sym (some_inj (record { values = b; values_type = v }) x e))
+decimal_buffers v (b ∷ []) x e = ap (λ y. Decimals.buffers_of y) (sym (same_Some (record { values = b; values_type = v }) x e))
 decimal_buffers v (b ∷ c ∷ bs) x e = absurd (cc)
 
 varbin_buffers : (bs : List Buffer) (x : VarBins.Data) → VarBins.body_of bs ≡ Some x → VarBins.buffers_of x ≡ bs
 varbin_buffers [] x e = absurd (cc)
-varbin_buffers (b ∷ []) x e = ap (λ y. VarBins.buffers_of y) (sym (some_inj (record { bytes = b }) x e))
+varbin_buffers (b ∷ []) x e = ap (λ y. VarBins.buffers_of y) (sym (same_Some (record { bytes = b }) x e))
 varbin_buffers (b ∷ c ∷ bs) x e = absurd (cc)
 
 view_buffers : (bs : List Buffer) (x : VarBinViews.Data) → VarBinViews.body_of bs ≡ Some x → VarBinViews.buffers_of x ≡ bs
 view_buffers [] x e = absurd (cc)
-view_buffers (b ∷ bs) x e = ap (λ y. VarBinViews.buffers_of y) (sym (some_inj (VarBinViews.data_of b bs) x e)) ∙ data_buffers b bs
+view_buffers (b ∷ bs) x e = ap (λ y. VarBinViews.buffers_of y) (sym (same_Some (VarBinViews.data_of b bs) x e)) ∙ data_buffers b bs
 
 pub body_buffers : (e : Encoding) (v : Metadata) (bs : List Buffer) (b : Body) → body_of e v bs ≡ Some b → buffers_of b ≡ bs
 body_buffers E.null M.empty bs b q = bufferless_buffers B.null bs b refl q
@@ -84,7 +85,7 @@ own_values : (d : Typ) (a : Place) (n : ℕ) (ps : List Place) → ps ≡ a ∷ 
 own_values d a n ps e = subst (λ (qs : List Place). Dicts.IsNormal d qs) (sym e) refl
 
 bufferless_normal : (x : Body) (bs : List Buffer) (b : Body) (d : Typ) (ps : List Place) → IsNormalBody x d ps → bufferless x bs ≡ Some b → IsNormalBody b d ps
-bufferless_normal x [] b d ps n e = subst (λ z. IsNormalBody z d ps) (some_inj x b e) n
+bufferless_normal x [] b d ps n e = subst (λ z. IsNormalBody z d ps) (same_Some x b e) n
 bufferless_normal x (c ∷ bs) b d ps n e = absurd (cc)
 
 pub built_normal : (e : Encoding) (d : Typ) (n : ℕ) (v : Metadata) (k : ℕ) (bs : List Buffer) (b : Body) (ps : List Place) → body_of e v bs ≡ Some b → plan_of e d n v k ≡ Some ps → IsNormalBody b d ps
@@ -132,7 +133,7 @@ pub built_shaped : (e : Encoding) (d : Typ) (n : ℕ) (v : Metadata) (bs : List 
 built_shaped e d n v bs b ts x s t =
     let g = body_encoding e v bs b x.body_is in
     let m = own_metadata e d n v bs b ts x in
-    let q = some_inj s.body b (sym s.body_is ∙ x.body_is) in
+    let q = same_Some s.body b (sym s.body_is ∙ x.body_is) in
     let a : Allows (encoding_of b) d (metadata_of b (places ts)) (count ts) =
     subst (λ (f : Encoding). Allows f d (metadata_of b (places ts)) (count ts)) (sym g) (subst (λ (z : Metadata). Allows e d z (count ts)) (sym m) s.allows) in
     let own : lifted b (places ts) ≡ places ts = own_places b d (places ts) (count ts) (built_normal e d n v (count ts) bs b (places ts) x.body_is x.planned) a in

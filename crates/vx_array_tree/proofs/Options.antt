@@ -2,10 +2,6 @@
 use Rattle.std.proofs.Common.{◌≡◌, Option, Some, None, option_map, refl, Bool, true, false}
 use Rattle.vx_array_tree.specs.Place.{when}
 
-module _ {A : Type 0} where
-  pub some_inj : (x y : A) → Some x ≡ Some y → x ≡ y
-  some_inj x y e = cc
-
 module _ {A B : Type 0} where
   pub mapped : (f : A → B) (o : Option A) (b : B) → option_map f o ≡ Some b → (x : A) × (b ≡ f x) × (o ≡ Some x)
   mapped f None b e = absurd (cc)

@@ -1,5 +1,6 @@
 -- Where a wire tree tells an array, no refusal has its cause.
 use Rattle.std.proofs.Common.{ℕ, zero, suc, ◌≡◌, inl, inr, List, [], ◌∷◌, Option, Some, None, refl, sym, ap, ◌∙◌, subst, slice_get}
+use Rattle.std.proofs.lemmas.Option.{same_Some}
 use Rattle.vx_buffer.specs.Buffer.{Buffer}
 use Rattle.vx_trees.specs.Rose.{Rose, Roses, node, end, more, label, below, count, roses_list}
 use Rattle.vx_trees.specs.Everywhere.{Everywhere, EverywhereBelow}
@@ -13,7 +14,6 @@ use Rattle.vx_array_tree.specs.Sound.{IsSound, IsSoundNode, metadata_in}
 use Rattle.vx_array_tree.specs.Table.{encoding_of, buffers_of, body_of, plan_of, Allows, IsShaped, Takes, Content}
 use Rattle.vx_array_tree.specs.Tree.{Head, Tree, Trees, places, encodings, rows_below}
 use Rattle.vx_array_tree.proofs.NodeLaws.{planned_places, own_body}
-use Rattle.vx_array_tree.proofs.Options.{some_inj}
 use Rattle.vx_wire_tree.specs.Causes.{LacksId, LacksBuffer, IsOf, IsUnregistered, HasBadMetadata, MayStandFor, AreOf, IsBroken, HasBadShape, HasChildren, HasBadContent, Refusal, out_of_bounds, unknown_index, unknown_encoding, bad_metadata, bad_shape, bad_content, RefusesTree}
 use Rattle.vx_wire_tree.specs.Codec.{Codec, IsLawful}
 use Rattle.vx_wire_tree.specs.Matches.{IsEncodedNode, IsNodeBy, Matches, AllMatch}
@@ -160,7 +160,7 @@ module _ (c : Codec) (s : SessionMeaning) where
           let q = same_encoding w z.0 x.0 z.1 x.1.by in
           let P : Encoding → Type 0 = λ e. PlansChildren c s.ext e h.dtype h.len (label w).metadata (count (below w)) ps in
           let a = subst P q z.2 in
-          some_inj ps (places ts) (sym a.plan ∙ plan_is x.0 w h ts a.value x.1 y n a.metadata)
+          same_Some ps (places ts) (sym a.plan ∙ plan_is x.0 w h ts a.value x.1 y n a.metadata)
 
       -- ---- the placed nodes of what is told are told at their places
 
@@ -175,7 +175,7 @@ module _ (c : Codec) (s : SessionMeaning) where
       child_at w h ts i v p x y n k =
           let ps = plan_told w h ts k.places x y.0 n.0 k.planned in
           let z = child_told (below w) ts i v x.1.told.children k.child in
-          let q : place (label z.told).dtype (label z.told).len ≡ p = some_inj _ p (sym z.place_is ∙ ap (λ qs. slice_get qs i) (sym ps) ∙ k.place) in
+          let q : place (label z.told).dtype (label z.told).len ≡ p = same_Some _ p (sym z.place_is ∙ ap (λ qs. slice_get qs i) (sym ps) ∙ k.place) in
           record {
             array = z.told;
             tells = record {
@@ -248,10 +248,10 @@ module _ (c : Codec) (s : SessionMeaning) where
       content_at w h ts m y n k =
           let x = encoded_told w (node h ts) k.encoding m k.by in
           let q = value_is k.encoding w h ts k.value x k.metadata in
-          let p = some_inj k.places_are (places ts) (sym k.plan ∙ plan_is k.encoding w h ts k.value x y.0 n.0 k.metadata) in
+          let p = same_Some k.places_are (places ts) (sym k.plan ∙ plan_is k.encoding w h ts k.value x y.0 n.0 k.metadata) in
           let r = children_told w ts k.children k.places_are x.told.children y.1 n.1 k.matched p in
           let bs : k.buffers ≡ buffers_of h.body = all_present_inj k.buffers (buffers_of h.body) (sym k.buffers_are ∙ x.told.buffers) in
-          let b : k.shaped.body ≡ h.body = some_inj k.shaped.body h.body (sym k.shaped.body_is ∙ (λ i. body_of (sym x.told.encoding i) (q i) (bs i)) ∙ own_body h ts n.0) in
+          let b : k.shaped.body ≡ h.body = same_Some k.shaped.body h.body (sym k.shaped.body_is ∙ (λ i. body_of (sym x.told.encoding i) (q i) (bs i)) ∙ own_body h ts n.0) in
           k.broken (subst (λ (z : Body). Content h.dtype h.len z (rows_below k.children)) (sym b) (subst (λ (z : Trees). Content h.dtype h.len h.body (rows_below z)) (sym r) y.0.content))
 
       -- ---- all causes

@@ -1,5 +1,6 @@
 -- A wire tree of numbers, the array that it tells, and the causes of trees that tell none.
 use Rattle.std.proofs.Common.{ℕ, ◌≡◌, List, [], ◌∷◌, Option, Some, None, refl, sym, ap, subst, inl, inr, codes, length, arith}
+use Rattle.std.proofs.lemmas.Option.{same_Some}
 use Rattle.vx_buffer.specs.Buffer.{Buffer}
 use Rattle.vx_trees.specs.Rose.{node, end}
 use Rattle.vx_types.specs.Known.{no_readers}
@@ -12,7 +13,6 @@ use Rattle.vx_array_tree.specs.Encoding as E
 use Rattle.vx_array_tree.specs.Encodings.Primitives.{IsFilled}
 use Rattle.vx_array_tree.specs.Metadata as M
 use Rattle.vx_array_tree.specs.Table.{IsShaped, Holds}
-use Rattle.vx_array_tree.proofs.Options.{some_inj}
 use Rattle.vx_array_tree_tests.proofs.Samples.{number_type, buffer, four, i32s}
 use Rattle.vx_wire_tree.specs.Causes.{IsOf, MayStandFor, out_of_bounds, unknown_index, unknown_encoding, bad_shape, RefusesTree}
 use Rattle.vx_wire_tree.specs.Codec.{Codec}
@@ -81,7 +81,7 @@ is_numbers bs = record { id = name; id_is = refl; reader_is = refl }
 other_length : (bs : List Buffer) → MayStandFor (Some values ∷ []) bs → IsShaped E.primitive type 5 M.empty bs 0 → ⊥
 other_length [] m x = absurd m
 other_length (b ∷ []) (p, q) x =
-    let r : IsFilled 4 5 b = subst (λ z. Holds type 5 z) (sym (some_inj (B.primitive (record { values = b })) x.body x.body_is)) x.holds in
+    let r : IsFilled 4 5 b = subst (λ z. Holds type 5 z) (sym (same_Some (B.primitive (record { values = b })) x.body x.body_is)) x.holds in
     let m = r.length_is in
     let n : length b.bytes ≡ 16 = ap (λ z. length z.bytes) p in
     absurd (omega arith)
