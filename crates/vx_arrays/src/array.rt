@@ -4,7 +4,7 @@ ghost use Rattle.std.specs.Prelude.{◌≡◌, ◌<◌, ◌≤◌, ◌==◌, len
 ghost use Rattle.vx_trees.specs.Everywhere.{EverywhereBelow};
 ghost use Rattle.vx_trees.specs.Rose.{label, below, node, roses_of};
 ghost use Rattle.vx_types.specs.Seen.{typ};
-ghost use Rattle.vx_array_tree.specs.Rows.{says};
+ghost use Rattle.vx_array_tree.specs.Rows.{flag_in};
 ghost use Rattle.vx_array_tree.specs.Sound.{IsSound, IsSoundNode};
 ghost use Rattle.vx_array_tree.specs.Table.{id_of, encoding_of, buffers_of};
 ghost use Rattle.vx_array_tree.specs.Tree.{rows_of, row_at, valid_at, cells};
@@ -153,7 +153,7 @@ impl Array {
     // None where it says nothing.
     pub(crate) fn flag_at(&self, _index: usize) -> Option<bool>
         requires { _index < (label self.now).len }
-        ensures { result ≡ says (row_at self.now _index) }
+        ensures { result ≡ flag_in (row_at self.now _index) }
     {
         match &self.body {
             Body::Null => None,
