@@ -8,6 +8,9 @@ use Rattle.vx_array_tree.specs.Table.{IsFair}
 use Rattle.vx_wire_tree.specs.Codec.{IsLawfulAt}
 use Rattle.vx_wire_tree.specs.Fields.{Fields, FitsMessage, told}
 use Rattle.vx_encodings.specs.Messages.{Shows, ShowsNothing, message_bytes, codec}
+use Rattle.vx_encodings.specs.Plain.{plain_encoding}
+use Rattle.vx_encodings.specs.declared.encoding.Encoding as Declared
+use Rattle.vx_encodings.specs.declared.encoding.Encoding.TheVariants.{Null, Primitive}
 
 one_nothing : (bytes : List ℕ) (f g : Fields) → ShowsNothing bytes f → ShowsNothing bytes g → f ≡ g
 one_nothing bytes f g a b = a.fields_are ∙ sym b.fields_are
@@ -39,3 +42,8 @@ primitive_again _ fair fits = absurd fair
 -- So are those of numbers.
 pub primitive_lawful : IsLawfulAt codec E.primitive
 primitive_lawful = record { one_message = one_message E.primitive; message_again = primitive_again }
+
+-- So are those of each encoding that has code.
+pub lawful : (e : Declared.Encoding) → IsLawfulAt codec (plain_encoding e)
+lawful Null = null_lawful
+lawful Primitive = primitive_lawful

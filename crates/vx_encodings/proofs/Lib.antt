@@ -1,5 +1,4 @@
 pub mod Laws
-mod Spelled
 mod Refusing
 mod Bare
 mod NullSteps

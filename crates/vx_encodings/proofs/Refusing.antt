@@ -12,12 +12,12 @@ use Rattle.vx_array_tree.specs.Place.{Place}
 use Rattle.vx_array_tree.specs.Sound.{IsSound, IsSoundNode}
 use Rattle.vx_array_tree.specs.Table.{metadata_of, body_of, plan_of, Allows, Takes, IsShaped}
 use Rattle.vx_array_tree.specs.Tree.{Tree, Trees, Head, places, encodings}
+use Rattle.vx_array_tree.proofs.NodeLaws.{body_encoding}
 use Rattle.vx_array_tree.proofs.Plans.{metadata_again}
 use Rattle.vx_wire_tree.specs.Fields.{Fields, meant}
 use Rattle.vx_wire_tree.specs.Reads.{IsMetadata}
 use Rattle.vx_wire_tree.specs.Steps.{PlansChildren, HasNoPlan, HasParts, HasWrongShape}
 use Rattle.vx_encodings.proofs.Laws.{one_message}
-use Rattle.vx_encodings.proofs.Spelled.{body_encoding}
 use Rattle.vx_encodings.specs.Messages.{codec}
 use Rattle.vx_encodings.specs.Plain.{plain_encoding}
 use Rattle.vx_encodings.specs.Steps.{IsPlanned, IsUnplanned, IsBuilt, IsUnbuilt, IsMemory, IsOkOrMemory}
