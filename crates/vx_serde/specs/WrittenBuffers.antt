@@ -3,8 +3,7 @@ use Rattle.std.specs.Prelude.{ℕ, zero, suc, ◌+◌, max, List, [], ◌∷◌,
 use Rattle.std.specs.Int.{w32, to_le_bytes}
 use Rattle.vx_buffer.specs.Buffer.{Buffer}
 use Rattle.vx_serde.specs.declared.options.SerializeOptions.{SerializeOptions}
-use Rattle.vx_serde.specs.Wire.{Wire}
-use Rattle.vx_serde.specs.Numbered.{buffers_in}
+use Rattle.vx_wire_tree.specs.Wire.{Wire, buffers_in}
 use Rattle.vx_serde.specs.Placing.{pad}
 use Rattle.vx_serde.specs.Written.{message_bytes, message_pad}
 

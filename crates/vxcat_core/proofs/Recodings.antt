@@ -2,7 +2,7 @@
 use Rattle.std.proofs.Common.{◌≡◌, ℕ, List, [], None, Result, Ok, Err, IfOk, IfErr, sym, ap, subst, ◌∙◌}
 use Rattle.vx_types.specs.Typ.{Typ}
 use Rattle.vx_type_wire.proofs.LawsTypes.{one_type_shown}
-use Rattle.vx_registry.specs.Context.{Context}
+use Rattle.vx_wire_tree.specs.Context.{Context}
 use Rattle.vx_registry.specs.Session.{Registry, registry_meaning, shipped_registry}
 use Rattle.vx_serde.specs.declared.options.SerializeOptions.{SerializeOptions}
 use Rattle.vx_serde.specs.declared.error.WireError.{WireError}

@@ -4,8 +4,9 @@ use Rattle.std.specs.List.{AllByRecursion}
 use Rattle.vx_types.specs.Typ.{Typ}
 use Rattle.vx_type_wire.specs.Known.{no_readers}
 use Rattle.vx_type_wire.specs.Shown.{IsRead}
-use Rattle.vx_registry.specs.Context.{Context}
-use Rattle.vx_registry.specs.Session.{SessionMeaning, registry_meaning, shipped_registry}
+use Rattle.vx_wire_tree.specs.Context.{Context}
+use Rattle.vx_wire_tree.specs.Session.{SessionMeaning}
+use Rattle.vx_registry.specs.Session.{registry_meaning, shipped_registry}
 use Rattle.vx_serde.specs.declared.options.SerializeOptions.{SerializeOptions}
 use Rattle.vx_serde.specs.Causes.{IsCaused}
 use Rattle.vx_serde.specs.Recoding.{IsFaithful, IsRecoded, Product}
