@@ -4,10 +4,10 @@ use Rattle.vx_trees.specs.Rose.{node, end}
 use Rattle.vx_types.specs.Kind.{primitive}
 use Rattle.vx_types.specs.declared.nullability.Nullability.TheVariants.{NonNullable}
 use Rattle.vx_types.specs.declared.ptype.PType.TheVariants.{I32}
-use Rattle.vx_array_tree.specs.Tree.{Tree}
+use Rattle.vx_arrays.specs.Tree.{Tree}
 use Rattle.vx_arrays.specs.declared.body.Body.TheVariants.{Primitive}
 use Rattle.vx_flat_tests.specs.Worked.{array_message}
-use Rattle.vx_wire_tree.specs.Context.{Context}
+use Rattle.vx_registry.specs.Context.{Context}
 use Rattle.vx_serde.specs.declared.options.SerializeOptions.{SerializeOptions}
 
 -- The numbers, each with its lowest byte first.

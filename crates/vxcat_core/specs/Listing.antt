@@ -3,9 +3,7 @@ use Rattle.std.specs.Prelude.{ℕ, zero, suc, ◌+◌, min, nat_lt, List, [], �
 use Rattle.std.specs.List.{flat_map}
 use Rattle.vx_trees.specs.Rose.{node, end, more, label}
 use Rattle.vx_buffer.specs.Buffer.{Buffer}
-use Rattle.vx_array_tree.specs.Tree.{Tree, Trees, Head}
-use Rattle.vx_arrays.specs.Tree.{encoding_id_of}
-use Rattle.vx_array_tree.specs.Table.{buffers_of}
+use Rattle.vx_arrays.specs.Tree.{Tree, Trees, Head, encoding_id_of, buffers_of}
 use Rattle.vx_arrays.specs.Rows.{row_at, cells}
 use Rattle.vxcat_core.specs.RowText.{row_text}
 
