@@ -1,5 +1,4 @@
 -- What holds of each session, for the proofs of other crates.
-<<<<<<< HEAD
 use Rattle.std.proofs.Common.{ℕ, ◌≡◌, List, Option, Some, None, option_map, sym, subst}
 use Rattle.std.specs.Prelude.{bytes_eq}
 use Rattle.std.specs.Map.{lookup}
@@ -45,21 +44,3 @@ registry_messages r x id e v p fair =
     let own = entry_encoding (lookup (bytes_eq id) r.readers) e p in
     let P : E.Encoding → Type 0 = λ z. IsFair z v in
     fair_message own.0 v (subst P (sym own.1) fair)
-=======
-use Rattle.std.proofs.Common.{Option, Some, None, option_map}
-use Rattle.std.specs.Prelude.{bytes_eq}
-use Rattle.std.specs.Map.{lookup}
-use Rattle.vx_encodings.specs.declared.encoding.Encoding.{Encoding}
-use Rattle.vx_registry.specs.Session.{Registry, shipped, registry_meaning, IsShipped, IsShippedEntry}
-
-entry_shipped : (found : Option Encoding) → IsShippedEntry (option_map shipped found)
-entry_shipped None = tt
-entry_shipped (Some encoding) = tt
-
--- A registry has entries of shipped encodings alone.
-pub registry_shipped : (registry : Registry) → IsShipped (registry_meaning registry)
-registry_shipped registry = record {
-  reads = λ id. entry_shipped (lookup (bytes_eq id) registry.readers);
-  writes = λ id. entry_shipped (lookup (bytes_eq id) registry.writers);
-}
->>>>>>> origin/main

@@ -25,7 +25,6 @@ found table id = option_map entry (lookup (bytes_eq id) table)
 abbrev pub tables_meaning : Registry → ExtMeaning → SessionMeaning
 tables_meaning r x = record { reader = found r.readers; writer = found r.writers; ext = x }
 
-<<<<<<< HEAD
 -- The tables fit one another: what reads is also written, under its own identifier, and what is written is read
 -- by the encoding that wrote it. Readers of extension types have no part in that.
 abbrev pub ArePaired : Registry → Type 0
@@ -34,24 +33,6 @@ ArePaired r = (x : ExtMeaning) → IsPaired (tables_meaning r x)
 -- The identifier of an encoding.
 abbrev pub own_id : Encoding → List ℕ
 own_id e = id_of (plain_encoding e)
-=======
--- What reads or writes an identifier, if anything does, is a shipped encoding.
-abbrev pub IsShippedEntry : Option Reader → Type 0
-IsShippedEntry None = Unit {0}
-IsShippedEntry (Some (shipped e)) = Unit {0}
-
--- The session holds shipped encodings only: it reads by them, and writes by them.
-pub record IsShipped (s : SessionMeaning) : Type 0 where
-  pub reads : (id : List ℕ) → IsShippedEntry (s.reader id)
-  pub writes : (id : List ℕ) → IsShippedEntry (s.writer id)
-
--- The readers and the writers of a session fit one another: what reads is also written, under its own
--- identifier, and what is written is read by the encoding that wrote it.
-pub record IsPaired (s : SessionMeaning) : Type 0 where
-  pub read_is_written : (id : List ℕ) (e : Encoding) → s.reader id ≡ Some (shipped e) → s.writer (id_of e) ≡ Some (shipped e)
-  pub own_identifier : (id : List ℕ) (e : Encoding) → s.writer id ≡ Some (shipped e) → id ≡ id_of e
-  pub written_is_read : (id : List ℕ) (e : Encoding) → s.writer id ≡ Some (shipped e) → s.reader id ≡ Some (shipped e)
->>>>>>> origin/main
 
 -- The shipped encodings.
 abbrev pub shipped_encodings : List Encoding

@@ -1,10 +1,5 @@
-<<<<<<< HEAD
 ghost use Rattle.std.specs.Prelude.{◌≡◌, ◌≤◌, ◌<◌, [], length, true, false, None, Some, IfOk, IfNone, IfSome, OnErr, option_map, bytes_eq};
 ghost use Rattle.vx_wire_tree.specs.Context.{interned, is_allowed, index_of};
-=======
-ghost use Rattle.std.specs.Prelude.{◌≡◌, ◌≤◌, ◌<◌, [], true, false, None, Some, IfOk, IfNone, IfSome, OnErr, option_map, bytes_eq};
-ghost use Rattle.vx_registry.specs.Context.{interned, is_allowed, place_of};
->>>>>>> origin/main
 ghost use Rattle.std.specs.List.{list_any};
 
 use crate::error::RegistryError;

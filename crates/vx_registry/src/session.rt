@@ -1,12 +1,7 @@
 //! Sessions: what reads and writes arrays, and what reads extension types.
 
-<<<<<<< HEAD
 ghost use Rattle.std.specs.Prelude.{◌≡◌, [], Some, IfOk, option_map};
 ghost use Rattle.vx_registry.specs.Session.{entry, found, shipped_registry, ArePaired};
-=======
-ghost use Rattle.std.specs.Prelude.{◌≡◌, [], IfOk, option_map};
-ghost use Rattle.vx_registry.specs.Session.{shipped, registry_meaning, shipped_registry, IsPaired};
->>>>>>> origin/main
 
 use crate::error::RegistryError;
 use indexmap::IndexMap;
@@ -59,17 +54,9 @@ impl ArraySession {
     }
 
     /// What reads the arrays of this identifier: `None` where it is not registered.
-    ///
-    /// In each session readers and writers are paired: what reads is written under its own identifier,
-    /// and what is written is read by the encoding that wrote it.
     pub fn reader(&self, id: &Id) -> Option<Encoding>
-<<<<<<< HEAD
         ensures found { option_map entry result ≡ found self.now.readers id.now }
         ensures paired { ArePaired self.now }
-=======
-        ensures reader { option_map shipped result ≡ (registry_meaning self.now).reader id.now }
-        ensures paired { IsPaired (registry_meaning self.now) }
->>>>>>> origin/main
     {
         self.readers.get(id).copied()
     }

@@ -1,9 +1,5 @@
 -- A written blob tells buffers that begin at positions of their alignment.
-<<<<<<< HEAD
 use Rattle.std.proofs.Common.{ℕ, ◌≡◌, true, List, Some, ◌++◌, replicate, sym, ap, subst, arith}
-=======
-use Rattle.std.proofs.Common.{ℕ, ◌≡◌, true, List, Some, ◌++◌, replicate, sym, ap, ◌∙◌, subst, arith}
->>>>>>> origin/main
 use Rattle.std.specs.Prelude.{All}
 use Rattle.vx_array_tree.specs.Tree.{Tree}
 use Rattle.vx_wire_tree.specs.Context.{Context, grown}
@@ -17,12 +13,8 @@ use Rattle.vx_wire_tree.specs.Wire.{Wire, IsWhole, ids_in, buffers_in}
 use Rattle.vx_serde.specs.Numbered.{numbered}
 use Rattle.vx_serde.specs.Placing.{descriptors_from, data_from}
 use Rattle.vx_serde.specs.Written.{message_bytes, message_pad, blob_bytes, IsWritable}
-<<<<<<< HEAD
 use Rattle.vx_wire_tree.specs.Written.{wire}
 use Rattle.vx_serde.specs.Spells.{blob_of, KeepsWriterLimits}
-=======
-use Rattle.vx_serde.specs.Spells.{wire, blob_of, KeepsWriterLimits}
->>>>>>> origin/main
 use Rattle.vx_serde.proofs.Carried.{shows-layout, is_blob}
 use Rattle.vx_serde.proofs.GrownPlaced.{grown_by-placed}
 use Rattle.vx_serde.proofs.MessageRead.{message_of-message_value, message_value_is_of}
@@ -32,11 +24,7 @@ use Rattle.vx_serde.proofs.PlacedRead.{described-descriptors_from}
 use Rattle.vx_serde.proofs.WrittenAgain.{wire-whole, grown-ids}
 
 -- What is written for a wire tree, where its identifiers have their places.
-<<<<<<< HEAD
 aligned_bytes : (ids : List (List ℕ)) (options : SerializeOptions) (w : Wire) → IsWhole w → All (IsPlaced ids) (ids_in w)
-=======
-aligned_bytes : (ids : List (List ℕ)) (options : SerializeOptions) (w : Wire) → IsClean w → All (IsPlaced ids) (ids_in w)
->>>>>>> origin/main
     → IsWritable ids options w → options.include_padding ≡ true → IsAlignedBlob options.offset (blob_bytes ids options w)
 aligned_bytes ids options w clean all fit asked =
     let root = numbered ids 0 w in
@@ -57,23 +45,12 @@ aligned_bytes ids options w clean all fit asked =
     }
 
 -- What is written for an array under a context that takes its identifiers.
-<<<<<<< HEAD
 pub aligned_blob : (s : SessionMeaning) (t : Tree) (old new : Context) (options : SerializeOptions) → grown codec s old t ≡ Some new
     → KeepsWriterLimits s t old options → options.include_padding ≡ true → IsAlignedBlob options.offset (blob_of s t old options)
 aligned_blob s t old new options grew fit asked =
     let w = wire codec s t in
-=======
-pub aligned_blob : (s : SessionMeaning) (t : Tree) (old new : Context) (options : SerializeOptions) → grown old t ≡ Some new
-    → KeepsWriterLimits s t old options → options.include_padding ≡ true → IsAlignedBlob options.offset (blob_of s t old options)
-aligned_blob s t old new options grew fit asked =
-    let w = wire s t in
->>>>>>> origin/main
     let same = grown-ids s t old new grew in
     let placed = grown_by-placed (ids_in w) old new grew in
     let W : List (List ℕ) → Type 0 = λ z. IsWritable z options w in
     let P : List (List ℕ) → Type 0 = λ z. IsAlignedBlob options.offset (blob_bytes z options w) in
-<<<<<<< HEAD
     subst P same (aligned_bytes new.ids options w (wire-whole codec s t) placed.placed (subst W (sym same) fit.writable) asked)
-=======
-    subst P same (aligned_bytes new.ids options w (wire-clean s t) placed.placed (subst W (sym same) fit) asked)
->>>>>>> origin/main

@@ -8,11 +8,7 @@ use Rattle.vx_flat.specs.Value.{Fields}
 use Rattle.vx_flat.specs.Shows.{Shows}
 use Rattle.vx_flat.specs.IsOf.{IsOf}
 use Rattle.vx_flat.specs.Layout.{layout}
-<<<<<<< HEAD
 use Rattle.vx_flat.proofs.LawsOfMessages.{shown-layout}
-=======
-use Rattle.vx_flat.proofs.LawsOfMessages.{shown-layout}
->>>>>>> origin/main
 use Rattle.vx_buffer.specs.Buffer.{Buffer}
 use Rattle.vx_trees.specs.Everywhere.{Everywhere}
 use Rattle.vx_serde.specs.declared.options.SerializeOptions.{SerializeOptions}
@@ -31,11 +27,7 @@ use Rattle.vx_serde.proofs.NumberedRead.{IsPlacedNode, IsPlaced, placed_from_ids
 
 -- The layout of a value of array messages shows it.
 pub shows-layout : (v : Fields) → IsOf array_schema v → length (layout false array_schema v) < 2 ^ 31 → Shows array_schema (layout false array_schema v) v
-<<<<<<< HEAD
 shows-layout v of short = shown-layout array_schema false v refl of short
-=======
-shows-layout v of short = shown-layout array_schema false v refl of short
->>>>>>> origin/main
 
 -- Data, its pad, a message and the message's length make a blob.
 pub is_blob : (data_bytes zeros message : List ℕ) → length message ≤ 2 ^ 31 - 1
@@ -63,11 +55,7 @@ read_wire ids w bs e placed =
     sym (ap (λ bs. wire_of ids bs (numbered ids 0 w)) (e ∙ sym (append-nil (buffers_in w))) ∙ wire_of-numbered ids [] [] 0 w refl placed)
 
 -- What is written for a tree carries the tree, and its descriptors are in order.
-<<<<<<< HEAD
 pub carried : (ids : List (List ℕ)) (options : SerializeOptions) (w : Wire) → IsWhole w → All (IsPlaced ids) (ids_in w)
-=======
-pub carried : (ids : List (List ℕ)) (options : SerializeOptions) (w : Wire) → IsClean w → All (IsPlaced ids) (ids_in w)
->>>>>>> origin/main
     → IsWritable ids options w → (c : Carries (blob_bytes ids options w) ids w) × AreClean c.segment (message_of c.value).descriptors
 carried ids options w clean all fit =
     let placed = placed_from_ids ids w clean all in

@@ -3,11 +3,7 @@ use Rattle.std.proofs.Common.{ℕ, ◌≡◌, List, ◌++◌, Some, length, take
 use Rattle.std.specs.Int.{w32, from_le_bytes}
 use Rattle.std.proofs.Math.Seq.{take-append_seam, drop-append_seam}
 use Rattle.vx_flat.specs.Shows.{Shows}
-<<<<<<< HEAD
 use Rattle.vx_flat.proofs.LawsOfMessages.{shown-one}
-=======
-use Rattle.vx_flat.proofs.LawsOfMessages.{shown-one}
->>>>>>> origin/main
 use Rattle.vx_trees.specs.Rose.{Rose}
 use Rattle.vx_serde.specs.ArraySchema.{array_schema}
 use Rattle.vx_serde.specs.Message.{NodeFields, message_of}
@@ -50,11 +46,7 @@ pub carried_once : (blob : List ℕ) (ids : List (List ℕ)) (w w' : Wire) (a : 
 carried_once blob ids w w' a b =
     let parts = one_blob blob a.segment b.segment a.message b.message a.blob_is b.blob_is in
     let shows : Shows array_schema b.message a.value = (let P : List ℕ → Type 0 = λ m. Shows array_schema m a.value in subst P parts.1 a.shows) in
-<<<<<<< HEAD
     let value : a.value ≡ b.value = shown-one array_schema b.message a.value b.value shows b.shows in
-=======
-    let value : a.value ≡ b.value = shown-one array_schema b.message a.value b.value shows b.shows in
->>>>>>> origin/main
     let root : a.root ≡ b.root = one_root a.root b.root (sym a.root_is ∙ ap (λ v. (message_of v).root) value ∙ b.root_is) in
     let tree : w ≡ w' =
     a.wire_is

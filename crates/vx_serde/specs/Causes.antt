@@ -11,55 +11,13 @@ use Rattle.vx_wire_tree.specs.Wire.{Wire}
 use Rattle.vx_encodings.specs.Messages.{codec}
 use Rattle.vx_encodings.specs.declared.error.EncodingError.{EncodingError}
 use Rattle.vx_encodings.specs.declared.error.EncodingError.TheVariants as refusals
-<<<<<<< HEAD
 use Rattle.vx_serde.specs.declared.error.WireError.{WireError}
 use Rattle.vx_serde.specs.declared.error.WireError.TheVariants.{OutOfMemory, TooShort, BadTable, TableLimit, BadAlignment, Compressed, OutOfBounds, UnknownIndex, UnknownEncoding, BadMetadata, BadShape, NotPermitted, WireLimit}
-=======
-use Rattle.vx_registry.specs.Context.{grown}
-use Rattle.vx_registry.specs.Session.{SessionMeaning}
-use Rattle.vx_serde.specs.declared.error.WireError.{WireError}
-use Rattle.vx_serde.specs.declared.error.WireError.TheVariants.{OutOfMemory, TooShort, BadTable, TableLimit, BadAlignment, Compressed, OutOfBounds, UnknownIndex, UnknownEncoding, BadMetadata, BadShape, NotPermitted, WireLimit}
-use Rattle.vx_serde.specs.Wire.{Wire}
->>>>>>> origin/main
 use Rattle.vx_serde.specs.Blob.{Carries}
 use Rattle.vx_serde.specs.Limits.{message_limits}
 use Rattle.vx_serde.specs.Opening.{IsUnopened}
-<<<<<<< HEAD
 use Rattle.vx_serde.specs.Spells.{KeepsWriterLimits}
 use Rattle.vx_serde.specs.Request.{Request, IsSpelled}
-=======
-use Rattle.vx_serde.specs.Placed.{IsBy, Claim, HoldsSomewhere, HoldsUnder}
-use Rattle.vx_serde.specs.Spells.{KeepsWriterLimits}
-use Rattle.vx_serde.specs.Request.{Request, IsSpelled}
-
--- A node's identifier is there, and nothing reads it.
-abbrev pub IsUnregistered : SessionMeaning → Claim
-IsUnregistered s w d n = (id : List ℕ) × ((label w).id ≡ Some id) × (s.reader id ≡ None)
-
--- A node's metadata is none that its encoding reads.
-pub record HasBadMetadata (s : SessionMeaning) (w : Wire) (d : Typ) (n : ℕ) : Type 0 where
-  pub encoding : Encoding
-  pub by : IsBy s w encoding
-  pub refused : (v : Metadata) → IsMetadata encoding (label w).metadata v → ⊥
-
--- A node's parts break its encoding's row: its type is of another kind or so many
--- children do not fit, or its buffers, none of which is missing, do not.
-pub record HasBadShape (s : SessionMeaning) (w : Wire) (d : Typ) (n : ℕ) : Type 0 where
-  pub encoding : Encoding
-  pub by : IsBy s w encoding
-  pub value : Metadata
-  pub metadata : IsMetadata encoding (label w).metadata value
-  pub broken : (plan_of encoding d n value (count (below w)) ≡ None)
-      ⊎ ((bs : List Buffer) × ((label w).buffers ≡ map (λ b. Some b) bs) × (IsShaped encoding d n value bs (count (below w)) → ⊥))
-
--- A node's identifier is missing.
-abbrev pub LacksId : Wire → Type 0
-LacksId w = (label w).id ≡ None
-
--- One of a node's buffers is missing.
-abbrev pub LacksBuffer : Wire → Type 0
-LacksBuffer w = (i : ℕ) × (slice_get (label w).buffers i ≡ Some None)
->>>>>>> origin/main
 
 -- Why a node's buffers are not taken: one is missing, or memory was wanted.
 abbrev pub IsLacking : WireError → List (Option Buffer) → Type 0
@@ -78,14 +36,6 @@ IsCausedIn s BadMetadata w d n = RefusesTree trees.bad_metadata codec s w d n
 IsCausedIn s BadShape w d n = RefusesTree trees.bad_shape codec s w d n
 IsCausedIn s _ w d n = ⊥
 
-<<<<<<< HEAD
-=======
--- One of several wire trees tells no array at its place; or memory was wanted.
-abbrev pub IsCausedUnder : SessionMeaning → WireError → List Wire → List Place → Type 0
-IsCausedUnder s OutOfMemory ws ps = Unit {0}
-IsCausedUnder s e ws ps = (i : ℕ) × (w : Wire) × (p : Place) × (slice_get ws i ≡ Some w) × (slice_get ps i ≡ Some p) × IsCausedIn s e w p.dtype p.len
-
->>>>>>> origin/main
 -- The blob carries a wire tree that tells no array.
 pub record IsCausedBelow (asked : Request) (e : WireError) : Type 0 where
   pub wire : Wire
@@ -107,30 +57,17 @@ IsBlobUnopened asked e = IsUnopened (message_limits asked.options) e asked.blob
 -- that it spells: an identifier that the context does not take, or a limit on writing.
 abbrev pub IsCaused : Request → WireError → Type 0
 IsCaused asked OutOfMemory = Unit {0}
-<<<<<<< HEAD
 IsCaused asked TooShort = IsBlobUnopened asked TooShort
 IsCaused asked BadTable = IsBlobUnopened asked BadTable
 IsCaused asked TableLimit = IsBlobUnopened asked TableLimit
 IsCaused asked BadAlignment = IsBlobUnopened asked BadAlignment
 IsCaused asked Compressed = IsBlobUnopened asked Compressed
 IsCaused asked OutOfBounds = IsBlobUnopened asked OutOfBounds ⊎ IsCausedBelow asked OutOfBounds
-=======
-IsCaused asked TooShort = IsUnopened TooShort asked.blob
-IsCaused asked BadTable = IsUnopened BadTable asked.blob
-IsCaused asked TableLimit = IsUnopened TableLimit asked.blob
-IsCaused asked BadAlignment = IsUnopened BadAlignment asked.blob
-IsCaused asked Compressed = IsUnopened Compressed asked.blob
-IsCaused asked OutOfBounds = IsUnopened OutOfBounds asked.blob ⊎ IsCausedBelow asked OutOfBounds
->>>>>>> origin/main
 IsCaused asked UnknownIndex = IsCausedBelow asked UnknownIndex
 IsCaused asked UnknownEncoding = IsCausedBelow asked UnknownEncoding
 IsCaused asked BadMetadata = IsCausedBelow asked BadMetadata
 IsCaused asked BadShape = IsCausedBelow asked BadShape
-<<<<<<< HEAD
 IsCaused asked NotPermitted = SpellsOne asked (λ t. grown codec asked.session asked.context t ≡ None)
-=======
-IsCaused asked NotPermitted = SpellsOne asked (λ t. grown asked.context t ≡ None)
->>>>>>> origin/main
 IsCaused asked WireLimit = SpellsOne asked (λ t. KeepsWriterLimits asked.session t asked.context asked.options → ⊥)
 
 -- An encoding's refusal as one of a blob.

@@ -14,11 +14,7 @@ pub mod TableViews
 pub mod Errors
 pub mod Opening
 pub mod Spells
-<<<<<<< HEAD
 pub mod Decoding
-=======
-pub mod Placed
->>>>>>> origin/main
 pub mod Request
 pub mod Causes
 pub mod Aligned

@@ -4,16 +4,10 @@ use Rattle.vx_buffer.specs.Buffer.{Buffer}
 use Rattle.vx_types.specs.Typ.{Typ}
 use Rattle.vx_types.specs.Seen.{typ}
 use Rattle.vx_types.specs.declared.dtype.DType.{DType}
-<<<<<<< HEAD
 use Rattle.vx_array_tree.specs.Tree.{Tree}
 use Rattle.vx_wire_tree.specs.Context.{Context, grown}
 use Rattle.vx_wire_tree.specs.Session.{SessionMeaning}
 use Rattle.vx_encodings.specs.Messages.{codec}
-=======
-use Rattle.vx_arrays.specs.Tree.{Tree}
-use Rattle.vx_registry.specs.Context.{Context, grown}
-use Rattle.vx_registry.specs.Session.{Registry, SessionMeaning, registry_meaning}
->>>>>>> origin/main
 use Rattle.vx_serde.specs.declared.options.SerializeOptions.{SerializeOptions}
 use Rattle.vx_serde.specs.Spells.{Spells, KeepsReaderLimits, KeepsWriterLimits}
 
@@ -29,24 +23,15 @@ pub record Request : Type 0 where
   pub session : SessionMeaning
 
 -- What a call asks by its arguments.
-<<<<<<< HEAD
 abbrev pub request : Buffer → DType → ℕ → List (List ℕ) → Context → SessionMeaning → SerializeOptions → Request
 request blob dtype len ids context session options = record {
-=======
-abbrev pub request : Buffer → DType → ℕ → List (List ℕ) → Context → Registry → SerializeOptions → Request
-request blob dtype len ids context arrays options = record {
->>>>>>> origin/main
   blob = blob.bytes;
   dtype = typ dtype;
   len = len;
   ids = ids;
   context = context;
   options = options;
-<<<<<<< HEAD
   session = session;
-=======
-  session = registry_meaning arrays;
->>>>>>> origin/main
 }
 
 -- The blob spells the array, read as it is asked.
@@ -58,12 +43,6 @@ IsSpelled asked array = Spells asked.blob asked.ids asked.dtype asked.len asked.
 pub record CanRecode (asked : Request) : Type 0 where
   pub array : Tree
   pub spelled : IsSpelled asked array
-<<<<<<< HEAD
   pub reader_limits : KeepsReaderLimits asked.options asked.blob
   pub writer_limits : KeepsWriterLimits asked.session array asked.context asked.options
   pub grows : IsSome (grown codec asked.session asked.context array)
-=======
-  pub reader_limits : KeepsReaderLimits asked.blob
-  pub writer_limits : KeepsWriterLimits asked.session array asked.context asked.options
-  pub grows : IsSome (grown asked.context array)
->>>>>>> origin/main

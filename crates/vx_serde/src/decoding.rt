@@ -1,6 +1,5 @@
 //! From a wire tree to the array that it tells.
 
-<<<<<<< HEAD
 ghost use Rattle.std.specs.Prelude.{◌≡◌, IfOk, IfErr, OnOk, IsOkUnless};
 ghost use Rattle.vx_types.specs.Seen.{typ};
 ghost use Rattle.vx_wire_tree.specs.Tells.{Tells};
@@ -11,29 +10,14 @@ ghost use Rattle.vx_registry.specs.Meaning.{session_meaning};
 ghost use Rattle.vx_registry.specs.Session.{ArePaired};
 ghost use Rattle.vx_serde.specs.Causes.{IsCausedIn, IsLacking};
 ghost use Rattle.vx_serde.specs.Decoding.{IsHeadOf, IsReadBy};
-=======
-ghost use Rattle.std.specs.Prelude.{◌≡◌, length, map, Some, None, IfOk, IfErr, OnOk, IsOkUnless};
-ghost use Rattle.vx_trees.specs.Rose.{label, below, count, roses_of};
-ghost use Rattle.vx_types.specs.Seen.{typ};
-ghost use Rattle.vx_arrays.specs.Places.{places};
-ghost use Rattle.vx_arrays.specs.Sound.{IsSound};
-ghost use Rattle.vx_registry.specs.Session.{registry_meaning, IsPaired};
-ghost use Rattle.vx_serde.specs.Matches.{Matches, AllMatch};
-ghost use Rattle.vx_serde.specs.Causes.{IsCausedIn, IsCausedUnder, IsLacking};
->>>>>>> origin/main
 
 use crate::error::WireError;
 use crate::tree::WireNode;
 use std::alloc::Global;
 use vx_arrays::{Array, Arrays};
 use vx_buffer::{BufferHandle, BufferHandles};
-<<<<<<< HEAD
 use vx_encodings::{ArrayHead, ChildPlans, Encoding, EncodingError, build, plan};
 use vx_registry::VortexSession;
-=======
-use vx_encodings::{ArrayHead, ChildPlans, EncodingError, build, plan};
-use vx_registry::ArraySession;
->>>>>>> origin/main
 use vx_types::{DType, Id};
 
 impl From<EncodingError> for WireError {
@@ -136,7 +120,6 @@ pub(crate) fn decode(
     len: usize,
     session: &VortexSession,
 ) -> Result<Array, WireError>
-<<<<<<< HEAD
     ensures told { let s = session_meaning (λ b. accepted (b.vtable, b.value)) session.now in
         IfOk result (λ t. Tells codec s node.now (typ dtype.now) len t) }
     ensures paired { OnOk result (ArePaired session.now.arrays) }
@@ -145,28 +128,6 @@ pub(crate) fn decode(
 {
     let planned = match plan_node(alloc, node, dtype, len, session) {
         Ok(planned) => planned,
-=======
-    ensures matches { IfOk result (λ t. Matches (registry_meaning session.now) node.now t) }
-    ensures sound { IfOk result IsSound }
-    ensures dtype { IfOk result (λ t. (label t).dtype ≡ typ dtype.now) }
-    ensures len { IfOk result (λ t. (label t).len ≡ len) }
-    ensures paired { OnOk result (IsPaired (registry_meaning session.now)) }
-    ensures cause { IfErr result (λ e. IsCausedIn (registry_meaning session.now) e node.now (typ dtype.now) len) }
-{
-    let Some(id) = node.id() else {
-        return Err(WireError::UnknownIndex);
-    };
-    let Some(encoding) = session.reader(id) else {
-        return Err(WireError::UnknownEncoding);
-    };
-    let head = head_of(alloc, node, id, dtype, len)?;
-    let plans = match plan(alloc, encoding, &head) {
-        Ok(plans) => plans,
-        Err(e) => return Err(WireError::from(e)),
-    };
-    let children = match decode_children(alloc, node.children(), &plans, session) {
-        Ok(children) => children,
->>>>>>> origin/main
         Err(e) => return Err(e),
     };
     let nodes = node.children();

@@ -1,25 +1,18 @@
-<<<<<<< HEAD
 use Rattle.vx_type_wire.specs.Session.{ext_meaning}
 use Rattle.vx_encodings.specs.Messages.{codec}
 use Rattle.vx_registry.specs.Meaning.{session_meaning}
 use Rattle.vx_registry.proofs.LawsSessions.{registry_shipped, registry_lawful, registry_messages}
-=======
->>>>>>> origin/main
 use Rattle.vx_serde.specs.Request.{request}
 use Rattle.vx_serde.specs.Recoding.{product}
 use Rattle.vx_serde.proofs.NeverCaused.{memory_alone}
 use Rattle.vx_serde.proofs.Recodings.{spells, recoded, faithful, left-still, left-written, caused_by_blob, caused_by_tree, caused_by_writing}
-<<<<<<< HEAD
 use Rattle.vx_serde.proofs.WrittenAgain.{read_messages}
-=======
->>>>>>> origin/main
 use Rattle.vx_serde.proofs.recoding.recode.Goals as goal
 
 -- ---- the blob is not opened
 
 pub returns-in-Err-clause-shipped : goal.returns-in-Err-clause-shipped
 returns-in-Err-clause-shipped g c = λ shipped.
-<<<<<<< HEAD
     let x = ext_meaning (λ b. (goal.ExtPlugin-dyn g (b.vtable, b.value)).accepted b.value) c.args.session.now.ext in
     let asked = request c.args.blob c.args.dtype.now c.args.len c.args.read_ids.now c.args.ctx.now (session_meaning (λ b. (goal.ExtPlugin-dyn g (b.vtable, b.value)).accepted b.value) c.args.session.now) c.args.options.now in
     (tt, λ can. memory_alone asked (registry_shipped c.args.session.now.arrays x) (registry_lawful c.args.session.now.arrays x) c.in-Err.e can (caused_by_blob asked c.in-Err.e c.in-Err.ensures.cause))
@@ -30,24 +23,12 @@ returns-in-Err-clause-left g c = left-still (request c.args.blob c.args.dtype.no
 pub returns-in-Err-clause-cause : goal.returns-in-Err-clause-cause
 returns-in-Err-clause-cause g c =
     let asked = request c.args.blob c.args.dtype.now c.args.len c.args.read_ids.now c.args.ctx.now (session_meaning (λ b. (goal.ExtPlugin-dyn g (b.vtable, b.value)).accepted b.value) c.args.session.now) c.args.options.now in
-=======
-    let asked = request c.args.blob c.args.dtype.now c.args.len c.args.read_ids.now c.args.ctx.now c.args.session.now.arrays c.args.options.now in
-    (tt, λ can. memory_alone asked c.in-Err.e can (caused_by_blob asked c.in-Err.e c.in-Err.ensures.cause))
-
-pub returns-in-Err-clause-left : goal.returns-in-Err-clause-left
-returns-in-Err-clause-left g c = left-still (request c.args.blob c.args.dtype.now c.args.len c.args.read_ids.now c.args.ctx.now c.args.session.now.arrays c.args.options.now)
-
-pub returns-in-Err-clause-cause : goal.returns-in-Err-clause-cause
-returns-in-Err-clause-cause g c =
-    let asked = request c.args.blob c.args.dtype.now c.args.len c.args.read_ids.now c.args.ctx.now c.args.session.now.arrays c.args.options.now in
->>>>>>> origin/main
     caused_by_blob asked c.in-Err.e c.in-Err.ensures.cause
 
 -- ---- its wire tree tells no array
 
 pub returns-in-Err-decode-clause-shipped : goal.returns-in-Err-decode-clause-shipped
 returns-in-Err-decode-clause-shipped g c = λ shipped.
-<<<<<<< HEAD
     let x = ext_meaning (λ b. (goal.ExtPlugin-dyn g (b.vtable, b.value)).accepted b.value) c.args.session.now.ext in
     let asked = request c.args.blob c.args.dtype.now c.args.len c.args.read_ids.now c.args.ctx.now (session_meaning (λ b. (goal.ExtPlugin-dyn g (b.vtable, b.value)).accepted b.value) c.args.session.now) c.args.options.now in
     (tt, λ can. memory_alone asked (registry_shipped c.args.session.now.arrays x) (registry_lawful c.args.session.now.arrays x) c.in-Err-decode.e can (caused_by_tree asked c.in-Err-decode.e c.in-Ok.node c.in-Ok.ensures.opened.carried c.in-Err-decode.ensures.cause))
@@ -58,23 +39,11 @@ returns-in-Err-decode-clause-left g c = left-still (request c.args.blob c.args.d
 pub returns-in-Err-decode-clause-cause : goal.returns-in-Err-decode-clause-cause
 returns-in-Err-decode-clause-cause g c =
     let asked = request c.args.blob c.args.dtype.now c.args.len c.args.read_ids.now c.args.ctx.now (session_meaning (λ b. (goal.ExtPlugin-dyn g (b.vtable, b.value)).accepted b.value) c.args.session.now) c.args.options.now in
-=======
-    let asked = request c.args.blob c.args.dtype.now c.args.len c.args.read_ids.now c.args.ctx.now c.args.session.now.arrays c.args.options.now in
-    (tt, λ can. memory_alone asked c.in-Err-decode.e can (caused_by_tree asked c.in-Err-decode.e c.in-Ok.node c.in-Ok.ensures.opened.carried c.in-Err-decode.ensures.cause))
-
-pub returns-in-Err-decode-clause-left : goal.returns-in-Err-decode-clause-left
-returns-in-Err-decode-clause-left g c = left-still (request c.args.blob c.args.dtype.now c.args.len c.args.read_ids.now c.args.ctx.now c.args.session.now.arrays c.args.options.now)
-
-pub returns-in-Err-decode-clause-cause : goal.returns-in-Err-decode-clause-cause
-returns-in-Err-decode-clause-cause g c =
-    let asked = request c.args.blob c.args.dtype.now c.args.len c.args.read_ids.now c.args.ctx.now c.args.session.now.arrays c.args.options.now in
->>>>>>> origin/main
     caused_by_tree asked c.in-Err-decode.e c.in-Ok.node c.in-Ok.ensures.opened.carried c.in-Err-decode.ensures.cause
 
 -- ---- the array is not written
 
 pub returns-in-Err-wire_node-clause-left : goal.returns-in-Err-wire_node-clause-left
-<<<<<<< HEAD
 returns-in-Err-wire_node-clause-left g c = left-still (request c.args.blob c.args.dtype.now c.args.len c.args.read_ids.now c.args.ctx.now (session_meaning (λ b. (goal.ExtPlugin-dyn g (b.vtable, b.value)).accepted b.value) c.args.session.now) c.args.options.now)
 
 pub returns-in-Err-write_wire-clause-cause : goal.returns-in-Err-write_wire-clause-cause
@@ -82,19 +51,10 @@ returns-in-Err-write_wire-clause-cause g c =
     let x = ext_meaning (λ b. (goal.ExtPlugin-dyn g (b.vtable, b.value)).accepted b.value) c.args.session.now.ext in
     let asked = request c.args.blob c.args.dtype.now c.args.len c.args.read_ids.now c.args.ctx.now (session_meaning (λ b. (goal.ExtPlugin-dyn g (b.vtable, b.value)).accepted b.value) c.args.session.now) c.args.options.now in
     let spelled = spells asked (registry_shipped c.args.session.now.arrays x) c.in-Ok.node c.in-Ok-decode.array c.in-Ok.ensures.opened c.in-Ok-decode.ensures.told in
-=======
-returns-in-Err-wire_node-clause-left g c = left-still (request c.args.blob c.args.dtype.now c.args.len c.args.read_ids.now c.args.ctx.now c.args.session.now.arrays c.args.options.now)
-
-pub returns-in-Err-write_wire-clause-cause : goal.returns-in-Err-write_wire-clause-cause
-returns-in-Err-write_wire-clause-cause g c =
-    let asked = request c.args.blob c.args.dtype.now c.args.len c.args.read_ids.now c.args.ctx.now c.args.session.now.arrays c.args.options.now in
-    let spelled = spells asked c.in-Ok.node c.in-Ok-decode.array c.in-Ok.ensures.opened c.in-Ok-decode.ensures.matches c.in-Ok-decode.ensures.sound c.in-Ok-decode.ensures.dtype c.in-Ok-decode.ensures.len in
->>>>>>> origin/main
     caused_by_writing asked c.in-Err-write_wire.e c.in-Ok-wire_node.node c.in-Ok-decode.array (c.in-Ok-wire_node.ensures.ok asked.session) spelled c.in-Err-write_wire.ensures.refused
 
 pub returns-in-Err-write_wire-clause-shipped : goal.returns-in-Err-write_wire-clause-shipped
 returns-in-Err-write_wire-clause-shipped g c = λ shipped.
-<<<<<<< HEAD
     let x = ext_meaning (λ b. (goal.ExtPlugin-dyn g (b.vtable, b.value)).accepted b.value) c.args.session.now.ext in
     let asked = request c.args.blob c.args.dtype.now c.args.len c.args.read_ids.now c.args.ctx.now (session_meaning (λ b. (goal.ExtPlugin-dyn g (b.vtable, b.value)).accepted b.value) c.args.session.now) c.args.options.now in
     (tt, λ can. memory_alone asked (registry_shipped c.args.session.now.arrays x) (registry_lawful c.args.session.now.arrays x) c.in-Err-write_wire.e can (returns-in-Err-write_wire-clause-cause g c))
@@ -105,37 +65,20 @@ returns-in-Err-write_wire-clause-left g c =
     let asked = request c.args.blob c.args.dtype.now c.args.len c.args.read_ids.now c.args.ctx.now (session_meaning (λ b. (goal.ExtPlugin-dyn g (b.vtable, b.value)).accepted b.value) c.args.session.now) c.args.options.now in
     let spelled = spells asked (registry_shipped c.args.session.now.arrays x) c.in-Ok.node c.in-Ok-decode.array c.in-Ok.ensures.opened c.in-Ok-decode.ensures.told in
     left-written asked (registry_shipped c.args.session.now.arrays x) (registry_lawful c.args.session.now.arrays x) c.in-Ok-decode.array c.in-Ok-wire_node.node c.write_wire.new.ctx (c.in-Ok-wire_node.ensures.ok asked.session) spelled c.write_wire.ensures.kept
-=======
-    let asked = request c.args.blob c.args.dtype.now c.args.len c.args.read_ids.now c.args.ctx.now c.args.session.now.arrays c.args.options.now in
-    (tt, λ can. memory_alone asked c.in-Err-write_wire.e can (returns-in-Err-write_wire-clause-cause g c))
-
-pub returns-in-Err-write_wire-clause-left : goal.returns-in-Err-write_wire-clause-left
-returns-in-Err-write_wire-clause-left g c =
-    let asked = request c.args.blob c.args.dtype.now c.args.len c.args.read_ids.now c.args.ctx.now c.args.session.now.arrays c.args.options.now in
-    let spelled = spells asked c.in-Ok.node c.in-Ok-decode.array c.in-Ok.ensures.opened c.in-Ok-decode.ensures.matches c.in-Ok-decode.ensures.sound c.in-Ok-decode.ensures.dtype c.in-Ok-decode.ensures.len in
-    left-written asked c.in-Ok-decode.array c.in-Ok-wire_node.node c.write_wire.new.ctx (c.in-Ok-wire_node.ensures.ok asked.session) spelled c.write_wire.ensures.kept
->>>>>>> origin/main
 
 -- ---- all is done
 
 pub returns-clause-made : goal.returns-clause-made
 returns-clause-made g c =
-<<<<<<< HEAD
     let x = ext_meaning (λ b. (goal.ExtPlugin-dyn g (b.vtable, b.value)).accepted b.value) c.args.session.now.ext in
     let asked = request c.args.blob c.args.dtype.now c.args.len c.args.read_ids.now c.args.ctx.now (session_meaning (λ b. (goal.ExtPlugin-dyn g (b.vtable, b.value)).accepted b.value) c.args.session.now) c.args.options.now in
     let made = product (record { array = c.in-Ok-decode.array; buffers = c.in-Ok-write_wire.buffers }) c.write_wire.new.ctx in
     recoded asked made c.in-Ok-wire_node.node (c.in-Ok-wire_node.ensures.ok asked.session) c.in-Ok-write_wire.ensures.grown c.in-Ok.node c.in-Ok.ensures.opened
     (read_messages codec asked.session (registry_messages c.args.session.now.arrays x) c.in-Ok.node c.in-Ok-decode.array c.in-Ok-decode.ensures.told.matched)
-=======
-    let asked = request c.args.blob c.args.dtype.now c.args.len c.args.read_ids.now c.args.ctx.now c.args.session.now.arrays c.args.options.now in
-    let made = product (record { array = c.in-Ok-decode.array; buffers = c.in-Ok-write_wire.buffers }) c.write_wire.new.ctx in
-    recoded asked made c.in-Ok-wire_node.node (c.in-Ok-wire_node.ensures.ok asked.session) c.in-Ok-write_wire.ensures.grown c.in-Ok.node c.in-Ok.ensures.opened
->>>>>>> origin/main
     c.in-Ok-write_wire.ensures.buffers c.in-Ok-write_wire.ensures.writable
 
 pub returns-clause-shipped : goal.returns-clause-shipped
 returns-clause-shipped g c = λ shipped.
-<<<<<<< HEAD
     let x = ext_meaning (λ b. (goal.ExtPlugin-dyn g (b.vtable, b.value)).accepted b.value) c.args.session.now.ext in
     let asked = request c.args.blob c.args.dtype.now c.args.len c.args.read_ids.now c.args.ctx.now (session_meaning (λ b. (goal.ExtPlugin-dyn g (b.vtable, b.value)).accepted b.value) c.args.session.now) c.args.options.now in
     let made = product (record { array = c.in-Ok-decode.array; buffers = c.in-Ok-write_wire.buffers }) c.write_wire.new.ctx in
@@ -148,15 +91,3 @@ returns-clause-left g c =
     let asked = request c.args.blob c.args.dtype.now c.args.len c.args.read_ids.now c.args.ctx.now (session_meaning (λ b. (goal.ExtPlugin-dyn g (b.vtable, b.value)).accepted b.value) c.args.session.now) c.args.options.now in
     let spelled = spells asked (registry_shipped c.args.session.now.arrays x) c.in-Ok.node c.in-Ok-decode.array c.in-Ok.ensures.opened c.in-Ok-decode.ensures.told in
     left-written asked (registry_shipped c.args.session.now.arrays x) (registry_lawful c.args.session.now.arrays x) c.in-Ok-decode.array c.in-Ok-wire_node.node c.write_wire.new.ctx (c.in-Ok-wire_node.ensures.ok asked.session) spelled c.write_wire.ensures.kept
-=======
-    let asked = request c.args.blob c.args.dtype.now c.args.len c.args.read_ids.now c.args.ctx.now c.args.session.now.arrays c.args.options.now in
-    let made = product (record { array = c.in-Ok-decode.array; buffers = c.in-Ok-write_wire.buffers }) c.write_wire.new.ctx in
-    let spelled = spells asked c.in-Ok.node c.in-Ok-decode.array c.in-Ok.ensures.opened c.in-Ok-decode.ensures.matches c.in-Ok-decode.ensures.sound c.in-Ok-decode.ensures.dtype c.in-Ok-decode.ensures.len in
-    (faithful asked made c.in-Ok-decode.ensures.paired spelled (returns-clause-made g c), λ can. tt)
-
-pub returns-clause-left : goal.returns-clause-left
-returns-clause-left g c =
-    let asked = request c.args.blob c.args.dtype.now c.args.len c.args.read_ids.now c.args.ctx.now c.args.session.now.arrays c.args.options.now in
-    let spelled = spells asked c.in-Ok.node c.in-Ok-decode.array c.in-Ok.ensures.opened c.in-Ok-decode.ensures.matches c.in-Ok-decode.ensures.sound c.in-Ok-decode.ensures.dtype c.in-Ok-decode.ensures.len in
-    left-written asked c.in-Ok-decode.array c.in-Ok-wire_node.node c.write_wire.new.ctx (c.in-Ok-wire_node.ensures.ok asked.session) spelled c.write_wire.ensures.kept
->>>>>>> origin/main
