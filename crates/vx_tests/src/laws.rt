@@ -1,7 +1,7 @@
 //! What the definitions say of the worked rows.
 
 ghost use Rattle.std.specs.Prelude.{◌≡◌, ℕ, length};
-ghost use Rattle.vx_registry.specs.Session.{SessionMeaning};
+ghost use Rattle.vx_wire_tree.specs.Session.{SessionMeaning};
 ghost use Rattle.vx_serde.specs.Spells.{blob_of};
 ghost use Rattle.vx_tests.specs.Worked.{integers, integers_blob, no_ids, unpadded};
 
