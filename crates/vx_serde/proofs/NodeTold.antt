@@ -38,7 +38,7 @@ use Rattle.vx_registry.specs.Session.{entry}
 use Rattle.vx_serde.specs.declared.error.WireError.{WireError}
 use Rattle.vx_serde.specs.declared.error.WireError.TheVariants.{OutOfMemory, OutOfBounds, UnknownIndex, UnknownEncoding, BadMetadata, BadShape}
 use Rattle.vx_serde.specs.Causes.{IsCausedIn, IsLacking, error_of}
-use Rattle.vx_serde.specs.Decoding.{IsHeadOf, IsReadBy, AllTell}
+use Rattle.vx_serde.specs.Decoding.{IsHeadOf, IsNodeOf, AllTell}
 
 -- ---- children, one by one
 
@@ -145,10 +145,10 @@ at_node P h w d n is x =
     let D : ℕ → Type 0 = λ z. P d n (label w).metadata z in
     subst D is.children (subst C is.metadata (subst B is.len (subst A is.dtype x)))
 
-own_encoding : (s : SessionMeaning) (w : Wire) (d : Typ) (n : ℕ) (e : Encoding) (h : ArrayHead) → IsReadBy s w d n e h → IsOf s w (plain_encoding e)
+own_encoding : (s : SessionMeaning) (w : Wire) (d : Typ) (n : ℕ) (e : Encoding) (h : ArrayHead) → IsNodeOf s w d n e h → IsOf s w (plain_encoding e)
 own_encoding s w d n e h read = record { id = read.id; id_is = read.id_is; reader_is = read.reader_is }
 
-pub planned : (s : SessionMeaning) (w : Wire) (d : Typ) (n : ℕ) (e : Encoding) (h : ArrayHead) (ps : List Place) → IsReadBy s w d n e h → IsPlanned s.ext e h ps → HasPlan codec s w d n ps
+pub planned : (s : SessionMeaning) (w : Wire) (d : Typ) (n : ℕ) (e : Encoding) (h : ArrayHead) (ps : List Place) → IsNodeOf s w d n e h → IsPlanned s.ext e h ps → HasPlan codec s w d n ps
 planned s w d n e h ps read plan =
     let P : Option Reader → Type 0 = λ r. IsPlannedBy codec s r w d n ps in
     record {
@@ -157,7 +157,7 @@ planned s w d n e h ps read plan =
       planned = subst P (sym read.reader_is) (at_node (λ f m b k. PlansChildren codec s.ext (plain_encoding e) f m b k ps) h w d n read.head plan);
     }
 
-pub caused_by_plan : (s : SessionMeaning) (x : EncodingError) (w : Wire) (d : Typ) (n : ℕ) (e : Encoding) (h : ArrayHead) → IsReadBy s w d n e h → IsUnplanned x s.ext e h → IsCausedIn s (error_of x) w d n
+pub caused_by_plan : (s : SessionMeaning) (x : EncodingError) (w : Wire) (d : Typ) (n : ℕ) (e : Encoding) (h : ArrayHead) → IsNodeOf s w d n e h → IsUnplanned x s.ext e h → IsCausedIn s (error_of x) w d n
 caused_by_plan s refusals.OutOfMemory w d n e h read c = tt
 caused_by_plan s refusals.BadMetadata w d n e h read c =
     ([], record { encoding = plain_encoding e; by = own_encoding s w d n e h read; none = at_node (λ f m b k. HasNoMetadata codec s.ext (plain_encoding e) f b) h w d n read.head c })
@@ -186,7 +186,7 @@ are_of s end ts m = ap (λ us. encodings us) m
 are_of s (more w ws) end m = absurd m
 are_of s (more w ws) (more t ts) m = (is_of s w t m.0, are_of s ws ts m.1)
 
-pub caused_by_build : (s : SessionMeaning) (x : EncodingError) (w : Wire) (d : Typ) (n : ℕ) (e : Encoding) (h : ArrayHead) (bs : List Buffer) (ws : List Wire) (ps : List Place) (ts : Trees) → IsReadBy s w d n e h
+pub caused_by_build : (s : SessionMeaning) (x : EncodingError) (w : Wire) (d : Typ) (n : ℕ) (e : Encoding) (h : ArrayHead) (bs : List Buffer) (ws : List Wire) (ps : List Place) (ts : Trees) → IsNodeOf s w d n e h
     → (label w).buffers ≡ all_present bs → roses_of ws ≡ below w → AllTell s (roses_of ws) ps ts → IsUnbuilt x s.ext e h bs ts → IsCausedIn s (error_of x) w d n
 caused_by_build s refusals.OutOfMemory w d n e h bs ws ps ts read own own_children told c = tt
 caused_by_build s refusals.BadMetadata w d n e h bs ws ps ts read own own_children told c = absurd c
@@ -213,7 +213,7 @@ caused_by_build s refusals.BadShape w d n e h bs ws ps ts read own own_children 
     )
 
 -- The node of parts that a plan has told, over children that tell arrays.
-pub told_node : (s : SessionMeaning) → IsLawful codec s → (w : Wire) (d : Typ) (n : ℕ) (e : Encoding) (h : ArrayHead) (ps : List Place) (bs : List Buffer) (ws : List Wire) (ts : Trees) (t : Tree) → IsReadBy s w d n e h
+pub told_node : (s : SessionMeaning) → IsLawful codec s → (w : Wire) (d : Typ) (n : ℕ) (e : Encoding) (h : ArrayHead) (ps : List Place) (bs : List Buffer) (ws : List Wire) (ts : Trees) (t : Tree) → IsNodeOf s w d n e h
     → IsPlanned s.ext e h ps → (label w).buffers ≡ all_present bs → roses_of ws ≡ below w → AllTell s (roses_of ws) ps ts → IsBuilt s.ext e h bs ts t → IsSound t → Tells codec s w d n t
 told_node s law (node w below) d n e h ps bs ws ts t read plan own own_children told parts sound =
     let A : Wires → Type 0 = λ z. AllMatch codec s z ts in

@@ -23,8 +23,8 @@ pub record IsHeadOf (h : ArrayHead) (w : Wire) (d : Typ) (n : ℕ) : Type 0 wher
   pub metadata : h.metadata ≡ (label w).metadata
   pub children : h.nchildren ≡ count (below w)
 
--- A node is read by an encoding, which this head tells of it.
-pub record IsReadBy (s : SessionMeaning) (w : Wire) (d : Typ) (n : ℕ) (e : Encoding) (h : ArrayHead) : Type 0 where
+-- A node is of an encoding by what reads its identifier, and a head tells of it.
+pub record IsNodeOf (s : SessionMeaning) (w : Wire) (d : Typ) (n : ℕ) (e : Encoding) (h : ArrayHead) : Type 0 where
   pub id : List ℕ
   pub id_is : (label w).id ≡ Some id
   pub reader_is : s.reader id ≡ Some (entry e)

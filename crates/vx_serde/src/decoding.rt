@@ -9,7 +9,7 @@ ghost use Rattle.vx_encodings.specs.Steps.{IsPlanned};
 ghost use Rattle.vx_registry.specs.Meaning.{session_meaning};
 ghost use Rattle.vx_registry.specs.Session.{ArePaired};
 ghost use Rattle.vx_serde.specs.Causes.{IsCausedIn, IsLacking};
-ghost use Rattle.vx_serde.specs.Decoding.{IsHeadOf, IsReadBy};
+ghost use Rattle.vx_serde.specs.Decoding.{IsHeadOf, IsNodeOf};
 
 use crate::error::WireError;
 use crate::tree::WireNode;
@@ -73,7 +73,7 @@ fn plan_node(
     session: &VortexSession,
 ) -> Result<PlannedNode, WireError>
     ensures read { let s = session_meaning (λ b. accepted (b.vtable, b.value)) session.now in
-        IfOk result (λ p. IsReadBy s node.now (typ dtype.now) len p.encoding p.head) }
+        IfOk result (λ p. IsNodeOf s node.now (typ dtype.now) len p.encoding p.head) }
     ensures planned { let s = session_meaning (λ b. accepted (b.vtable, b.value)) session.now in
         IfOk result (λ p. IsPlanned s.ext p.encoding p.head p.children) }
     ensures paired { OnOk result (ArePaired session.now.arrays) }
