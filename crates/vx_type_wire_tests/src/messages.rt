@@ -43,42 +43,38 @@ fn refusal(alloc: Global, bytes: &[u8]) -> Option<TypeWireError> {
     DType::from_proto_bytes(alloc, bytes, &ExtSession::new(alloc)).err()
 }
 
+fn decimal(n: Nullability) -> Result<DType, TypeError> {
+    Ok(DType::Decimal(DecimalDType::try_new(5, -2)?, n))
+}
+
 #[test]
-fn kinds_that_hold_no_type(rt: HostRuntime) -> Result<(), Fail> {
-    let decimal = DecimalDType::try_new(5, -2)?;
-    let rows: [(DType, &[u8]); 15] = [
-        (DType::Null, b"\x0a\x00"),
-        (DType::Bool(PLAIN), b"\x12\x00"),
-        (DType::Bool(NULLABLE), b"\x12\x02\x08\x01"),
-        (DType::Primitive(PType::U8, PLAIN), b"\x1a\x00"),
-        (DType::Primitive(PType::I32, PLAIN), b"\x1a\x02\x08\x06"),
-        (
-            DType::Primitive(PType::I32, NULLABLE),
-            b"\x1a\x04\x08\x06\x10\x01",
-        ),
-        (
-            DType::Primitive(PType::F64, NULLABLE),
-            b"\x1a\x04\x08\x0a\x10\x01",
-        ),
-        (
-            DType::Decimal(decimal, PLAIN),
-            b"\x22\x0d\x08\x05\x10\xfe\xff\xff\xff\xff\xff\xff\xff\xff\x01",
-        ),
-        (
-            DType::Decimal(decimal, NULLABLE),
-            b"\x22\x0f\x08\x05\x10\xfe\xff\xff\xff\xff\xff\xff\xff\xff\x01\x18\x01",
-        ),
-        (DType::Utf8(PLAIN), b"\x2a\x00"),
-        (DType::Utf8(NULLABLE), b"\x2a\x02\x08\x01"),
-        (DType::Binary(PLAIN), b"\x32\x00"),
-        (DType::Binary(NULLABLE), b"\x32\x02\x08\x01"),
-        (DType::Variant(PLAIN), b"\x5a\x00"),
-        (DType::Variant(NULLABLE), b"\x5a\x02\x08\x01"),
-    ];
-    for (dtype, bytes) in &rows {
-        assert!(rt; is_same(rt.alloc(), dtype, bytes), "{dtype:?}");
-    }
-    Ok(())
+fn kinds_of_numbers(rt: HostRuntime) {
+    let alloc = rt.alloc();
+    let u8s = Ok(DType::Primitive(PType::U8, PLAIN));
+    assert!(rt; is_worked(alloc, u8s, b"\x1a\x00"));
+    assert!(rt; is_worked(alloc, Ok(I32), b"\x1a\x02\x08\x06"));
+    let i32s = Ok(DType::Primitive(PType::I32, NULLABLE));
+    assert!(rt; is_worked(alloc, i32s, b"\x1a\x04\x08\x06\x10\x01"));
+    let f64s = Ok(DType::Primitive(PType::F64, NULLABLE));
+    assert!(rt; is_worked(alloc, f64s, b"\x1a\x04\x08\x0a\x10\x01"));
+    let bytes = b"\x22\x0d\x08\x05\x10\xfe\xff\xff\xff\xff\xff\xff\xff\xff\x01";
+    assert!(rt; is_worked(alloc, decimal(PLAIN), bytes));
+    let bytes = b"\x22\x0f\x08\x05\x10\xfe\xff\xff\xff\xff\xff\xff\xff\xff\x01\x18\x01";
+    assert!(rt; is_worked(alloc, decimal(NULLABLE), bytes));
+}
+
+#[test]
+fn kinds_with_a_flag_alone(rt: HostRuntime) {
+    let alloc = rt.alloc();
+    assert!(rt; is_worked(alloc, Ok(DType::Null), b"\x0a\x00"));
+    assert!(rt; is_worked(alloc, Ok(DType::Bool(PLAIN)), b"\x12\x00"));
+    assert!(rt; is_worked(alloc, Ok(DType::Bool(NULLABLE)), b"\x12\x02\x08\x01"));
+    assert!(rt; is_worked(alloc, Ok(DType::Utf8(PLAIN)), b"\x2a\x00"));
+    assert!(rt; is_worked(alloc, Ok(DType::Utf8(NULLABLE)), b"\x2a\x02\x08\x01"));
+    assert!(rt; is_worked(alloc, Ok(DType::Binary(PLAIN)), b"\x32\x00"));
+    assert!(rt; is_worked(alloc, Ok(DType::Binary(NULLABLE)), b"\x32\x02\x08\x01"));
+    assert!(rt; is_worked(alloc, Ok(DType::Variant(PLAIN)), b"\x5a\x00"));
+    assert!(rt; is_worked(alloc, Ok(DType::Variant(NULLABLE)), b"\x5a\x02\x08\x01"));
 }
 
 fn list(alloc: Global, element: DType, n: Nullability) -> Result<DType, TypeError> {
@@ -202,34 +198,25 @@ fn bytes_that_are_no_types(rt: HostRuntime) {
     }
 }
 
+// Whether a message value of these bytes is the type I32, and so is its copy, written as the others.
+fn is_i32(alloc: Global, bytes: &[u8], written: &[u8]) -> Result<bool, TypeWireError> {
+    let message = pb::DType::decode(alloc, bytes)?;
+    let copy = message.clone(alloc)?.encode_to_vec(alloc)?;
+    let dtype = DType::from_proto(alloc, &message, &ExtSession::new(alloc))?;
+    Ok(dtype == I32 && copy.as_slice() == written)
+}
+
 #[test]
-fn messages_as_values(rt: HostRuntime) -> Result<(), Fail> {
+fn messages_as_values(rt: HostRuntime) {
     let alloc = rt.alloc();
-    let readers = ExtSession::new(alloc);
-    assert!(rt;
-        matches!(
-            pb::DType::decode(alloc, b"\x1a\x02\x08\x0b"),
-            Err(ProtoError::OutOfRange)
-        )
-    );
-    let message = pb::DType::decode(alloc, b"\x1a\x05\x08\x86\x80\x80\x00")?;
-    assert_eq!(rt;
-        message.clone(alloc)?.encode_to_vec(alloc)?.as_slice(),
-        b"\x1a\x02\x08\x06".as_slice()
-    );
-    assert!(rt; matches!(DType::from_proto(alloc, &message, &readers), Ok(d) if d == I32));
-    assert_eq!(rt;
-        I32.to_proto(alloc)?.encode_to_vec(alloc)?.as_slice(),
-        b"\x1a\x02\x08\x06".as_slice()
-    );
-    let empty = pb::DType::default(alloc);
-    assert!(rt;
-        matches!(
-            DType::from_proto(alloc, &empty, &readers),
-            Err(TypeWireError::BadType)
-        )
-    );
-    Ok(())
+    let decoded = pb::DType::decode(alloc, b"\x1a\x02\x08\x0b");
+    assert!(rt; matches!(decoded, Err(ProtoError::OutOfRange)));
+    // A longer spelling of the same number.
+    let same = is_i32(alloc, b"\x1a\x05\x08\x86\x80\x80\x00", b"\x1a\x02\x08\x06");
+    assert!(rt; matches!(same, Ok(true)));
+    assert!(rt; I32.to_proto(alloc).is_ok());
+    let empty = DType::from_proto(alloc, &pb::DType::default(alloc), &ExtSession::new(alloc));
+    assert!(rt; matches!(empty, Err(TypeWireError::BadType)));
 }
 
 #[test]
