@@ -76,21 +76,33 @@ fn is_entry(
     Ok(arrays.reader(&id) == encoding && arrays.writer(&id) == encoding)
 }
 
+// Whether the shipped session reads and writes an identifier by this encoding, or by none.
+fn is_shipped_as(
+    alloc: Global,
+    text: &str,
+    encoding: Option<Encoding>,
+) -> Result<bool, RegistryError> {
+    let arrays = ArraySession::default(alloc)?;
+    let session = VortexSession::new(arrays, ExtSession::new(alloc));
+    Ok(is_entry(alloc, &session.arrays, text, encoding)?)
+}
+
+// Whether the empty session neither reads nor writes an identifier.
+fn is_unread(alloc: Global, text: &str) -> Result<bool, TypeError> {
+    let arrays = ArraySession::empty(alloc);
+    is_entry(alloc, &arrays, text, None)
+}
+
 #[test]
 fn the_shipped_session_reads_and_writes_nulls_and_numbers(rt: HostRuntime) -> Result<(), Fail> {
-    let alloc = rt.alloc();
-    let session = VortexSession::new(ArraySession::default(alloc)?, ExtSession::new(alloc));
     for (text, encoding) in [
         ("vortex.null", Some(Encoding::Null)),
         ("vortex.primitive", Some(Encoding::Primitive)),
         ("vortex.bool", None),
         ("", None),
     ] {
-        assert!(rt; is_entry(alloc, &session.arrays, text, encoding)?, "{text}");
-        assert!(rt;
-            is_entry(alloc, &ArraySession::empty(alloc), text, None)?,
-            "{text}"
-        );
+        assert!(rt; is_shipped_as(rt.alloc(), text, encoding)?, "{text}");
+        assert!(rt; is_unread(rt.alloc(), text)?, "{text}");
     }
     Ok(())
 }
