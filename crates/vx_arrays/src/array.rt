@@ -2,8 +2,10 @@
 
 ghost use Rattle.std.specs.Prelude.{◌≡◌, ◌<◌, ◌≤◌, ◌==◌, length, IfOk, IfErr, IsOk, IsOkUnless, Some, slice_get};
 ghost use Rattle.vx_trees.specs.Everywhere.{EverywhereBelow};
-ghost use Rattle.vx_trees.specs.Rose.{label, below, node, roses_of};
+ghost use Rattle.vx_trees.specs.Rose.{label, below, node, end, roses_of};
+ghost use Rattle.vx_types.specs.Kind.{boolean};
 ghost use Rattle.vx_types.specs.Seen.{typ};
+ghost use Rattle.vx_types.specs.declared.nullability.Nullability.TheVariants.{NonNullable};
 ghost use Rattle.vx_array_tree.specs.Rows.{flag_in};
 ghost use Rattle.vx_array_tree.specs.Sound.{IsSound, IsSoundNode};
 ghost use Rattle.vx_array_tree.specs.Table.{id_of, encoding_of, buffers_of};
@@ -149,10 +151,10 @@ impl Array {
         }
     }
 
-    // What the row says of the row that it stands for, where this array is a validity: whether that is there, and
-    // None where it says nothing.
+    // The row's flag, where this array has the type of a validity; None where the row is no flag.
     pub(crate) fn flag_at(&self, _index: usize) -> Option<bool>
-        requires { _index < (label self.now).len }
+        requires inside { _index < (label self.now).len }
+        requires flags { (label self.now).dtype ≡ node (boolean NonNullable) end }
         ensures { result ≡ flag_in (row_at self.now _index) }
     {
         match &self.body {

@@ -22,6 +22,7 @@ use Rattle.vx_arrays.specs.Primitives.{primitive_tree}
 use Rattle.vx_arrays.specs.Refused.{IsUnmade}
 use Rattle.vx_arrays.specs.declared.error.ArrayError.{ArrayError}
 use Rattle.vx_arrays.specs.declared.error.ArrayError.TheVariants as A
+use Rattle.vx_encodings.proofs.Validities.{validity_few}
 use Rattle.vx_encodings.proofs.Bare.{primitive_metadata, primitive_nothing}
 use Rattle.vx_encodings.specs.Steps.{IsPlanned, IsUnplanned, IsWithoutPlan, IsBuilt, IsUnbuilt, constructor_error}
 use Rattle.vx_encodings.specs.declared.encoding.Encoding.TheVariants.{Primitive}
@@ -74,14 +75,6 @@ pub primitive_plan : (x : ExtMeaning) (h : ArrayHead) (us : Trees) → IsPlanned
 primitive_plan x h us p =
     let m = primitive_nothing x (typ h.dtype) h.metadata p.value p.metadata in
     record { no_byte = m.0; planned = plan_some p.value (typ h.dtype) h.len h.nchildren (places us) m.1 p.plan }
-
-validity_few : (n k : ℕ) (us : Trees) → before_validity [] n k ≡ Some (places us) → (count us ≤ 1) × (k ≡ count us)
-validity_few n zero end e = (omega arith, refl)
-validity_few n zero (more u us) e = absurd (cc)
-validity_few n (suc zero) end e = absurd (cc)
-validity_few n (suc zero) (more u end) e = (omega arith, refl)
-validity_few n (suc zero) (more u (more v us)) e = absurd (cc)
-validity_few n (suc (suc k)) us e = absurd (cc)
 
 few : (d : Typ) (n k : ℕ) (us : Trees) → plan d n k ≡ Some (places us) → (count us ≤ 1) × (k ≡ count us)
 few (node (primitive p m) end) n k us e = validity_few n k us e

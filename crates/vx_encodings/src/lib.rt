@@ -4,6 +4,7 @@
 //! for each encoding.
 #![tactic(auto)]
 
+mod buffers;
 mod empty_metadata;
 mod encoding;
 mod error;
@@ -12,6 +13,7 @@ mod null;
 mod plans;
 mod primitive;
 mod steps;
+mod validity;
 
 pub use encoding::Encoding;
 pub use error::EncodingError;
