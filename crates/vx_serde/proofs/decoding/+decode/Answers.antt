@@ -19,7 +19,7 @@ loop-i-init g t c = rw c.new-children.ensures (record { matched = refl; sound = 
 pub unreachable-requires : goal.unreachable-requires
 unreachable-requires g t c =
     let same = enough c.in-Ok.planned.encoding _ c.in-Ok.planned.head c.in-Ok.planned.children c.children-nodes.result.now c.args.node.now (typ c.args.dtype.now) c.args.len c.in-Ok.ensures.planned c.in-Ok.ensures.read.head c.children-nodes.ensures in
-    get_past c.in-Ok.planned.children c.loop-i.i (omega (arith, same, c.loop-i-test.true)) ?
+    get_past c.in-Ok.planned.children c.loop-i.i (omega (arith, same, c.loop-i-test.true)) (sym c.in_default.ensures)
 
 pub decode-requires : goal.decode-requires
 decode-requires g t c =
@@ -79,6 +79,6 @@ returns-clause-cause g t c =
     let nodes = c.children-nodes.result.now in
     let same = enough node.encoding x node.head node.children nodes c.args.node.now (typ c.args.dtype.now) c.args.len c.in-Ok.ensures.planned c.in-Ok.ensures.read.head c.children-nodes.ensures in
     let told = all_told s nodes node.children c.loop-i.children c.loop-i.i c.loop-i-test.false same c.loop-i.invariant in
-    rw c.from-in-Err-build.ensures
+    rw c.from.ensures
     (caused_by_build s c.in-Err-build.e c.args.node.now (typ c.args.dtype.now) c.args.len node.encoding node.head c.in-Ok-own_buffers.buffers nodes node.children c.loop-i.children c.in-Ok.ensures.read
     (sym c.buffers.ensures ∙ c.in-Ok-own_buffers.ensures.ok) c.children-nodes.ensures told c.in-Err-build.ensures.err)
