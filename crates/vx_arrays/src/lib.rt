@@ -17,6 +17,3 @@ pub use list::Arrays;
 pub use null::NullArray;
 pub use primitive::PrimitiveArray;
 pub use row::RowValue;
-
-#[cfg(test)]
-mod tests;

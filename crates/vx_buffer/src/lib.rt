@@ -6,8 +6,6 @@ mod byte_buffer;
 mod error;
 mod handle;
 mod lists;
-#[cfg(test)]
-mod tests;
 
 pub use align::Alignment;
 pub use byte_buffer::ByteBuffer;

@@ -15,6 +15,3 @@ pub use error::EncodingError;
 pub use head::ArrayHead;
 pub use planning::plan;
 pub use plans::{ChildPlan, ChildPlans};
-
-#[cfg(test)]
-mod tests;

@@ -5,19 +5,16 @@ use Rattle.std.specs.Int.{w32, w64, from_le_bytes}
 use Rattle.std.proofs.lemmas.Str.{IsUtf8-nil}
 use Rattle.std.proofs.lemmas.Bool.{eq-eqb}
 use Rattle.vx_proto.specs.declared.schema.Kind.{Kind}
-use Rattle.vx_proto.specs.declared.schema.Kind.TheVariants.{Below, Whole, Signed32, Flag, Fixed32, Fixed64, Text, Bytes, Inner}
-use Rattle.vx_proto.specs.declared.schema.Rule.{Rule}
-use Rattle.vx_proto.specs.declared.schema.Rule.TheVariants.{Plain, Optional, Single, Repeated}
+use Rattle.vx_proto.specs.declared.schema.Kind.TheVariants.{Scalar, Message}
+use Rattle.vx_proto.specs.declared.schema.ScalarKind.{ScalarKind}
+use Rattle.vx_proto.specs.declared.schema.ScalarKind.TheVariants.{Uint32, Uint64, Int32, Sint64, Flag, Enum, Fixed32, Fixed64, String, Bytes}
 use Rattle.vx_proto.specs.declared.schema.Member.{Member}
-use Rattle.vx_proto.specs.Wire.{SpellsNumber, Part, eight, delimited, four, Field, SpellsPart, Spells}
-use Rattle.vx_proto.specs.Value.{Content, Entry, Value, Slot, Schema}
-use Rattle.vx_proto.specs.Reads.{list_at, default_in, default_of, last_of, kind_in, has, kind_of, ShowsContent, ShowsEntries, ShowsSlots, Keeps, ReadsWithin}
-use Rattle.vx_proto.specs.Form.{FormContent, FormEntries, FormCount, FormSlots, FormWithin}
-use Rattle.vx_proto.proofs.LawfulSlots.{IsPlainDefault, IsLawfulList}
-
-abbrev pub AreBytes : List ℕ → Type 0
-AreBytes [] = Unit {0}
-AreBytes (b ∷ bs) = (b < 256) × AreBytes bs
+use Rattle.vx_proto.specs.Schema.{Slot, plain, optional, oneof, repeated, Schema, members_of, list_at, kind_in, has, kind_of}
+use Rattle.vx_proto.specs.Wire.{AreBytes, SpellsNumber, Part, i64, len, i32, Field, SpellsPart, Spells}
+use Rattle.vx_proto.specs.Value.{Content, Entry, Value}
+use Rattle.vx_proto.specs.Reads.{default_in, default_of, last_of, ShowsScalar, ShowsContent, ShowsEntries, ShowsSlots, Keeps, ReadsWithin}
+use Rattle.vx_proto.specs.Form.{FormScalar, FormContent, FormEntries, FormCount, FormSlots, FormWithin}
+use Rattle.vx_proto.proofs.LawfulSlots.{HasCodes, IsLawfulList}
 
 pub from_index : (bs : List ℕ) → ((i : ℕ) → get_or bs i 0 < 256) → AreBytes bs
 from_index [] h = tt
@@ -52,16 +49,21 @@ flag_small n = go (eqb n 0)
     go true = omega arith
     go false = omega arith
 
+scalar_form : (k : ScalarKind) (p : Part) (e : Content) (body : List ℕ) → ShowsScalar k p e → SpellsPart body p → AreBytes body → FormScalar k e
+scalar_form Uint32 p e body s w b = (s.0, s.3, s.2)
+scalar_form Uint64 p e body s w b = let t : SpellsNumber body s.0 = subst (SpellsPart body) s.1 w in (s.0, s.2, t.fits)
+scalar_form Int32 p e body s w b = let t : SpellsNumber body s.0 = subst (SpellsPart body) s.1 w in (s.0, s.3, (t.fits, s.2))
+scalar_form Sint64 p e body s w b = let t : SpellsNumber body s.0 = subst (SpellsPart body) s.1 w in (s.0, s.2, t.fits)
+scalar_form Flag p e body s w b = (cond (eqb s.0 0) 0 1, s.2, flag_small s.0)
+scalar_form (Enum codes) p e body s w b = (s.0, s.3, s.2)
+scalar_form Fixed32 p e body s w b = let t : SpellsPart body (i32 s.0) = subst (SpellsPart body) s.1 w in (s.0, s.2, omega (arith, t.1, four_small body b))
+scalar_form Fixed64 p e body s w b = let t : SpellsPart body (i64 s.0) = subst (SpellsPart body) s.1 w in (s.0, s.2, omega (arith, t.1, eight_small body b))
+scalar_form String p e body s w b = (s.0, s.3, s.2)
+scalar_form Bytes p e body s w b = (s.0, s.2)
+
 part_form : (R : ℕ → List ℕ → Value → Type 0) (F : ℕ → Value → Type 0) (k : Kind) (p : Part) (e : Content) (body : List ℕ) → Formed R F → ShowsContent R k p e → SpellsPart body p → AreBytes body → FormContent F k e
-part_form R F (Below limit) p e body h s w b = (s.0, s.3, s.2)
-part_form R F Whole p e body h s w b = let t : SpellsNumber body s.0 = subst (SpellsPart body) s.1 w in (s.0, s.2, t.fits)
-part_form R F Signed32 p e body h s w b = let t : SpellsNumber body s.0 = subst (SpellsPart body) s.1 w in (s.0, s.3, t.fits, s.2)
-part_form R F Flag p e body h s w b = (cond (eqb s.0 0) 0 1, s.2, flag_small s.0)
-part_form R F Fixed32 p e body h s w b = let t : SpellsPart body (four s.0) = subst (SpellsPart body) s.1 w in (s.0, s.2, omega (arith, t.1, four_small body b))
-part_form R F Fixed64 p e body h s w b = let t : SpellsPart body (eight s.0) = subst (SpellsPart body) s.1 w in (s.0, s.2, omega (arith, t.1, eight_small body b))
-part_form R F Text p e body h s w b = (s.0, s.3, s.2)
-part_form R F Bytes p e body h s w b = (s.0, s.2)
-part_form R F (Inner m) p e body h s w b = let t : SpellsPart body (delimited s.0) = subst (SpellsPart body) s.2 w in (s.1, s.4, h m s.0 s.1 s.3 (back t.0 s.0 (subst AreBytes t.2 b)))
+part_form R F (Scalar k) p e body h s w b = scalar_form k p e body s w b
+part_form R F (Message m) p e body h s w b = let t : SpellsPart body (len s.0) = subst (SpellsPart body) s.2 w in (s.1, s.4, h m s.0 s.1 s.3 (back t.0 s.0 (subst AreBytes t.2 b)))
 
 -- entries of these slots, each of its kind's form
 abbrev pub AllForm : (ℕ → Value → Type 0) → List Slot → List Entry → Type 0
@@ -77,12 +79,12 @@ entries_form R F list bytes (f ∷ fs) es h w b (inr s) =
     subst (AllForm F list) (sym s.5)
     ((s.0, s.3, part_form R F s.0 f.part s.1 w.3.part h s.4 w.3.part_is (back w.3.key w.3.part mine)), entries_form R F list w.1 fs s.2 h w.4 (back w.0 w.1 parts) s.6)
 
-mine_form : (F : ℕ → Value → Type 0) (s : Slot) (ss : List Slot) (es : List Entry) → AllForm F (s ∷ ss) es → FormEntries F s.members (filter (λ e. has s e.0) es)
+mine_form : (F : ℕ → Value → Type 0) (s : Slot) (ss : List Slot) (es : List Entry) → AllForm F (s ∷ ss) es → FormEntries F (members_of s) (filter (λ e. has s e.0) es)
 mine_form F s ss [] a = tt
 mine_form F s ss (x ∷ xs) a = go (has s x.0) refl (mine_form F s ss xs a.1)
   where
-    go : (b : Bool) → has s x.0 ≡ b → FormEntries F s.members (filter (λ e. has s e.0) xs) → FormEntries F s.members (cond b (x ∷ filter (λ e. has s e.0) xs) (filter (λ e. has s e.0) xs))
-    go true e ih = ((a.0.0, sym (ap (λ b. cond b (kind_in s.members x.0) (kind_of ss x.0)) e) ∙ a.0.1, a.0.2), ih)
+    go : (b : Bool) → has s x.0 ≡ b → FormEntries F (members_of s) (filter (λ e. has s e.0) xs) → FormEntries F (members_of s) (cond b (x ∷ filter (λ e. has s e.0) xs) (filter (λ e. has s e.0) xs))
+    go true e ih = ((a.0.0, sym (ap (λ b. cond b (kind_in (members_of s) x.0) (kind_of ss x.0)) e) ∙ a.0.1, a.0.2), ih)
     go false e ih = ih
 
 others_form : (F : ℕ → Value → Type 0) (s : Slot) (ss : List Slot) (es : List Entry) → AllForm F (s ∷ ss) es → AllForm F ss (filter (λ e. not (has s e.0)) es)
@@ -91,7 +93,7 @@ others_form F s ss (x ∷ xs) a = go (has s x.0) refl (others_form F s ss xs a.1
   where
     go : (b : Bool) → has s x.0 ≡ b → AllForm F ss (filter (λ e. not (has s e.0)) xs) → AllForm F ss (cond (not b) (x ∷ filter (λ e. not (has s e.0)) xs) (filter (λ e. not (has s e.0)) xs))
     go true e ih = ih
-    go false e ih = ((a.0.0, sym (ap (λ b. cond b (kind_in s.members x.0) (kind_of ss x.0)) e) ∙ a.0.1, a.0.2), ih)
+    go false e ih = ((a.0.0, sym (ap (λ b. cond b (kind_in (members_of s) x.0) (kind_of ss x.0)) e) ∙ a.0.1, a.0.2), ih)
 
 last_form : (F : ℕ → Value → Type 0) (members : List Member) (before es : List Entry) → FormEntries F members before → FormEntries F members es → FormEntries F members (last_of before es)
 last_form F members before [] b f = b
@@ -105,31 +107,33 @@ last_one : (before es : List Entry) → length before ≡ 1 → length (last_of 
 last_one before [] e = e
 last_one before (x ∷ xs) e = last_one (x ∷ []) xs refl
 
-default_form : (F : ℕ → Value → Type 0) (k : Kind) → ((m : ℕ) → k ≡ Inner m → ⊥) → ((l : ℕ) → k ≡ Below l → 0 < l) → FormContent F k (default_in k)
-default_form F (Below limit) no_message h = (0, refl, h limit refl)
-default_form F Whole no_message h = (0, refl, omega arith)
-default_form F Signed32 no_message h = (0, refl, omega arith, inl (omega arith))
-default_form F Flag no_message h = (0, refl, omega arith)
-default_form F Fixed32 no_message h = (0, refl, omega arith)
-default_form F Fixed64 no_message h = (0, refl, omega arith)
-default_form F Text no_message h = ([], refl, IsUtf8-nil)
-default_form F Bytes no_message h = ([], refl)
-default_form F (Inner m) no_message h = absurd (no_message m refl)
+default_form : (k : ScalarKind) → ((codes : ℕ) → k ≡ Enum codes → 0 < codes) → FormScalar k (default_in k)
+default_form Uint32 h = (0, refl, omega arith)
+default_form Uint64 h = (0, refl, omega arith)
+default_form Int32 h = (0, refl, (omega arith, inl (omega arith)))
+default_form Sint64 h = (0, refl, omega arith)
+default_form Flag h = (0, refl, omega arith)
+default_form (Enum codes) h = (0, refl, h codes refl)
+default_form Fixed32 h = (0, refl, omega arith)
+default_form Fixed64 h = (0, refl, omega arith)
+default_form String h = ([], refl, IsUtf8-nil)
+default_form Bytes h = ([], refl)
 
-defaults_form : (F : ℕ → Value → Type 0) (members : List Member) → IsPlainDefault members → FormEntries F members (default_of members) × (length (default_of members) ≡ 1)
-defaults_form F members d = subst (λ ms. FormEntries F ms (default_of ms) × (length (default_of ms) ≡ 1)) (sym d.one)
-    (((d.member.kind, rw (eq-eqb d.member.number d.member.number refl) refl, default_form F d.member.kind d.simple d.positive), tt), refl)
+default_entry : (F : ℕ → Value → Type 0) (n : ℕ) (k : ScalarKind) → ((codes : ℕ) → k ≡ Enum codes → 0 < codes) → FormEntries F (members_of (plain n k)) (default_of (plain n k))
+default_entry F n k h = ((Scalar k, rw (eq-eqb n n refl) refl, default_form k h), tt)
 
-kept_form : (F : ℕ → Value → Type 0) (r : Rule) (members : List Member) (es kept : List Entry) → (r ≡ Plain → IsPlainDefault members) → FormEntries F members es → Keeps r members es kept → FormCount r kept × FormEntries F members kept
-kept_form F Plain members es kept d f k = let w = defaults_form F members (d refl) in subst (λ t. (length t ≡ 1) × FormEntries F members t) (sym k) (last_one (default_of members) es w.1, last_form F members (default_of members) es w.0 f)
-kept_form F Optional members es kept d f k = subst (λ t. (length t ≤ 1) × FormEntries F members t) (sym k) (last_length [] es (omega arith), last_form F members [] es tt f)
-kept_form F Single members es kept d f k = subst (λ t. (length t ≤ 1) × FormEntries F members t) (sym k.0) (k.1, f)
-kept_form F Repeated members es kept d f k = (tt, subst (FormEntries F members) (sym k) f)
+kept_form : (F : ℕ → Value → Type 0) (s : Slot) (es kept : List Entry) → HasCodes s → FormEntries F (members_of s) es → Keeps s es kept → FormCount s kept × FormEntries F (members_of s) kept
+kept_form F (plain n k) es kept d f h =
+    subst (λ t. (length t ≡ 1) × FormEntries F (members_of (plain n k)) t) (sym h)
+    (last_one (default_of (plain n k)) es refl, last_form F (members_of (plain n k)) (default_of (plain n k)) es (default_entry F n k d) f)
+kept_form F (optional n k) es kept d f h = subst (λ t. (length t ≤ 1) × FormEntries F (members_of (optional n k)) t) (sym h) (last_length [] es (omega arith), last_form F (members_of (optional n k)) [] es tt f)
+kept_form F (oneof ms) es kept d f h = subst (λ t. (length t ≤ 1) × FormEntries F ms t) (sym h.0) (h.1, f)
+kept_form F (repeated n k) es kept d f h = (tt, subst (FormEntries F (members_of (repeated n k))) (sym h) f)
 
 slots_form : (F : ℕ → Value → Type 0) (ss : List Slot) (es : List Entry) (v : Value) → IsLawfulList ss → AllForm F ss es → ShowsSlots ss es v → FormSlots F ss v
 slots_form F [] es v l a s = s
 slots_form F (s ∷ ss) es v l a h =
-    let w = kept_form F s.rule s.members (filter (λ e. has s e.0) es) h.0 l.0.plain (mine_form F s ss es a) h.3 in
+    let w = kept_form F s (filter (λ e. has s e.0) es) h.0 l.0.codes (mine_form F s ss es a) h.3 in
     (h.0, h.1, h.2, w.0, w.1, slots_form F ss (filter (λ e. not (has s e.0)) es) h.1 l.1 (others_form F s ss es a) h.4)
 
 pub reads_form : (schema : Schema) (left place : ℕ) (bytes : List ℕ) (v : Value) → ((m : ℕ) → IsLawfulList (list_at schema m)) → AreBytes bytes → ReadsWithin schema left place bytes v → FormWithin schema left place v

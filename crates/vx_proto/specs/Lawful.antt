@@ -1,11 +1,11 @@
 -- A schema is lawful, as a test that computes: so a type proves it of its schema by `refl`.
-use Rattle.std.specs.Prelude.{ℕ, ◌+◌, ◌^◌, Bool, true, false, ◌&&◌, nat_lt, nat_le, List, [], ◌∷◌, ◌++◌, length}
+use Rattle.std.specs.Prelude.{ℕ, ◌+◌, ◌^◌, Bool, true, ◌&&◌, nat_lt, nat_le, List, [], ◌∷◌, ◌++◌, length}
+use Rattle.vx_proto.specs.declared.schema.ScalarKind.{ScalarKind}
+use Rattle.vx_proto.specs.declared.schema.ScalarKind.TheVariants.{Enum}
 use Rattle.vx_proto.specs.declared.schema.Kind.{Kind}
-use Rattle.vx_proto.specs.declared.schema.Kind.TheVariants.{Below, Inner}
-use Rattle.vx_proto.specs.declared.schema.Rule.{Rule}
-use Rattle.vx_proto.specs.declared.schema.Rule.TheVariants.{Plain}
+use Rattle.vx_proto.specs.declared.schema.Kind.TheVariants.{Scalar, Message}
 use Rattle.vx_proto.specs.declared.schema.Member.{Member}
-use Rattle.vx_proto.specs.Value.{Slot, Schema}
+use Rattle.vx_proto.specs.Schema.{Slot, Schema, members_of}
 
 -- The field numbers of a slot's members, as they are listed.
 abbrev pub member_numbers : List Member → List ℕ
@@ -15,44 +15,32 @@ member_numbers (m ∷ ms) = m.number ∷ member_numbers ms
 -- The field numbers of a message, slot after slot.
 abbrev pub field_numbers : List Slot → List ℕ
 field_numbers [] = []
-field_numbers (s ∷ ss) = member_numbers s.members ++ field_numbers ss
+field_numbers (s ∷ ss) = member_numbers (members_of s) ++ field_numbers ss
 
 -- Numbers that are at least a bound, each greater than the one before, and each below 2 ^ 29, as field numbers are.
 abbrev pub is_ascending : ℕ → List ℕ → Bool
 is_ascending least [] = true
 is_ascending least (n ∷ ns) = nat_le least n && nat_lt n (2 ^ 29) && is_ascending (n + 1) ns
 
--- A nested message has its list among those of the schema; a limited number has a limit from 1 to 2 ^ 64.
+-- An enum has at least the code 0, which is its default, and codes below 2 ^ 32.
+abbrev pub is_scalar : ScalarKind → Bool
+is_scalar (Enum codes) = nat_lt 0 codes && nat_le codes (2 ^ 32)
+is_scalar k = true
+
+-- A nested message has its list among those of the schema.
 abbrev pub is_kind : ℕ → Kind → Bool
-is_kind count (Inner place) = nat_lt place count
-is_kind count (Below limit) = nat_lt 0 limit && nat_le limit (2 ^ 64)
-is_kind count k = true
+is_kind count (Message place) = nat_lt place count
+is_kind count (Scalar k) = is_scalar k
 
 -- Each member of a slot is of such a kind.
 abbrev pub are_kinds : ℕ → List Member → Bool
 are_kinds count [] = true
 are_kinds count (m ∷ ms) = is_kind count m.kind && are_kinds count ms
 
--- A number, a text or bytes: a kind with a default.
-abbrev pub is_simple : Kind → Bool
-is_simple (Inner place) = false
-is_simple k = true
-
--- A plain slot has one member, and that has a default.
-abbrev pub has_default : List Member → Bool
-has_default [] = false
-has_default (m ∷ []) = is_simple m.kind
-has_default (m ∷ n ∷ ms) = false
-
--- The members of a slot are such as its rule asks: of a plain one, one with a default; of any other, any.
-abbrev pub fits_rule : Rule → List Member → Bool
-fits_rule Plain members = has_default members
-fits_rule r members = true
-
--- Each slot of a message has members of lawful kinds, as its rule asks.
+-- Each slot of a message has members of lawful kinds.
 abbrev pub are_slots : ℕ → List Slot → Bool
 are_slots count [] = true
-are_slots count (s ∷ ss) = fits_rule s.rule s.members && are_kinds count s.members && are_slots count ss
+are_slots count (s ∷ ss) = are_kinds count (members_of s) && are_slots count ss
 
 -- A message has at most 1,000 fields, with ascending numbers from 1 on: so no number stands twice.
 abbrev pub is_lawful_list : ℕ → List Slot → Bool

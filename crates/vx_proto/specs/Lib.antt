@@ -1,5 +1,6 @@
 pub mod Wire
 pub mod WireView
+pub mod Schema
 pub mod Value
 pub mod Reads
 pub mod Reading
@@ -8,9 +9,7 @@ pub mod Written
 pub mod Fields
 pub mod Lawful
 pub mod Parts
-pub mod FormLaws
-pub mod ViewLaws
 pub mod Repeated
 pub mod Signed
-pub mod SampleTree
-pub mod SampleNested
+pub mod Codes
+pub mod Plain

@@ -29,14 +29,19 @@ varint_at (suc left) (b ∷ bytes) =
 unfoldable pub number_at : List ℕ → Option (ℕ × List ℕ)
 number_at bytes = varint_at 10 bytes
 
+-- Each of a list of numbers is a byte.
+abbrev pub AreBytes : List ℕ → Type 0
+AreBytes [] = Unit {0}
+AreBytes (b ∷ bs) = (b < 256) × AreBytes bs
+
 -- ---- fields
 
--- What a field holds, by its wire type: a number, eight bytes, bytes behind their length, or four bytes.
+-- What a field holds, by its wire type: VARINT a number, I64 eight bytes, LEN bytes behind their length, I32 four bytes.
 pub data Part : Type 0 where
   varint : ℕ → Part
-  eight : ℕ → Part
-  delimited : List ℕ → Part
-  four : ℕ → Part
+  i64 : ℕ → Part
+  len : List ℕ → Part
+  i32 : ℕ → Part
 
 -- A field: its number and what it holds.
 pub record Field : Type 0 where
@@ -46,16 +51,16 @@ pub record Field : Type 0 where
 -- The wire type of a part.
 abbrev pub wire_type : Part → ℕ
 wire_type (varint n) = 0
-wire_type (eight n) = 1
-wire_type (delimited s) = 2
-wire_type (four n) = 5
+wire_type (i64 n) = 1
+wire_type (len s) = 2
+wire_type (i32 n) = 5
 
 -- The bytes that spell a part: a number; eight or four bytes, lowest first; or a length and that many bytes.
 abbrev pub SpellsPart : List ℕ → Part → Type 0
 SpellsPart bytes (varint n) = SpellsNumber bytes n
-SpellsPart bytes (eight n) = (length bytes ≡ 8) × (n ≡ from_le_bytes w64 bytes)
-SpellsPart bytes (delimited s) = (len : List ℕ) × SpellsNumber len (length s) × (bytes ≡ len ++ s)
-SpellsPart bytes (four n) = (length bytes ≡ 4) × (n ≡ from_le_bytes w32 bytes)
+SpellsPart bytes (i64 n) = (length bytes ≡ 8) × (n ≡ from_le_bytes w64 bytes)
+SpellsPart bytes (len s) = (front : List ℕ) × SpellsNumber front (length s) × (bytes ≡ front ++ s)
+SpellsPart bytes (i32 n) = (length bytes ≡ 4) × (n ≡ from_le_bytes w32 bytes)
 
 -- The bytes that spell a field: a key, which is the field number times 8 plus the wire type, and then the part. A field
 -- number is from 1 to 2 ^ 29 - 1, so a key is below 2 ^ 32.
@@ -73,6 +78,16 @@ abbrev pub Spells : List ℕ → List Field → Type 0
 Spells bytes [] = bytes ≡ []
 Spells bytes (f ∷ fs) = (front : List ℕ) × (rest : List ℕ) × (bytes ≡ front ++ rest) × SpellsField front f × Spells rest fs
 
+-- The bytes begin with those of a field, and these come after it.
+pub record BeginsWith (bytes : List ℕ) (f : Field) (rest : List ℕ) : Type 0 where
+  pub front : List ℕ
+  pub whole : bytes ≡ front ++ rest
+  pub spelled : SpellsField front f
+
+-- No field stands at the front.
+abbrev pub BeginsWithNone : List ℕ → Type 0
+BeginsWithNone bytes = (f : Field) (rest : List ℕ) → BeginsWith bytes f rest → ⊥
+
 -- ---- cutting
 
 -- So many bytes at the front, and the bytes after them; none where there are fewer.
@@ -82,11 +97,11 @@ bytes_at n bytes = if nat_lt (length bytes) n then None else Some (take n bytes,
 -- The part of this wire type at the front, and the bytes after it; none for a wire type that is none.
 unfoldable pub part_at : ℕ → List ℕ → Option (Part × List ℕ)
 part_at zero bytes = option_and_then (λ n. Some (varint n.0, n.1)) (number_at bytes)
-part_at (suc zero) bytes = option_and_then (λ x. Some (eight (from_le_bytes w64 x.0), x.1)) (bytes_at 8 bytes)
-part_at (suc (suc zero)) bytes = option_and_then (λ n. option_and_then (λ x. Some (delimited x.0, x.1)) (bytes_at n.0 n.1)) (number_at bytes)
+part_at (suc zero) bytes = option_and_then (λ x. Some (i64 (from_le_bytes w64 x.0), x.1)) (bytes_at 8 bytes)
+part_at (suc (suc zero)) bytes = option_and_then (λ n. option_and_then (λ x. Some (len x.0, x.1)) (bytes_at n.0 n.1)) (number_at bytes)
 part_at (suc (suc (suc zero))) bytes = None
 part_at (suc (suc (suc (suc zero)))) bytes = None
-part_at (suc (suc (suc (suc (suc zero))))) bytes = option_and_then (λ x. Some (four (from_le_bytes w32 x.0), x.1)) (bytes_at 4 bytes)
+part_at (suc (suc (suc (suc (suc zero))))) bytes = option_and_then (λ x. Some (i32 (from_le_bytes w32 x.0), x.1)) (bytes_at 4 bytes)
 part_at (suc (suc (suc (suc (suc (suc n)))))) bytes = None
 
 -- The field at the front, and the bytes after it.

@@ -204,7 +204,26 @@ pub fn one(alloc: Global, number: u32, element: Element) -> Result<Entries, Prot
     ensures same { IfOk result (λ entries. entries_view entries.items ≡ (number, view element) ∷ []) }
     ensures err { IsOkUnless result ProtoError.OutOfMemory }
 {
-    let mut entries = Vec::new(alloc);
+    let mut entries = Vec::with_capacity(alloc, 1)?;
     entries.push((number, element))?;
     Ok(entries)
+}
+
+/// The message that a slot's first member holds, if it is one, taken out of a plain value.
+pub fn take_message(mut slots: Vec<Entries>, slot: usize) -> Option<Vec<Entries>>
+    ensures { option_map (λ v. value_view v.items) result ≡ message_in (entries_in (value_view slots.items) slot) }
+{
+    if slot >= slots.len() {
+        return None;
+    }
+    let mut entries = slots.swap_remove(slot);
+    if entries.is_empty() {
+        return None;
+    }
+    let (_, element) = entries.swap_remove(0);
+    match element {
+        Element::Number(_) => None,
+        Element::Octets(_) => None,
+        Element::Message(inner) => Some(inner),
+    }
 }

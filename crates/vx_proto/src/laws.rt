@@ -1,9 +1,12 @@
 //! What holds of the definitions of this crate, for each schema at once. A caller of these functions learns the laws.
 
-ghost use Rattle.std.specs.Prelude.{◌≡◌, ◌<◌, ◌≤◌, ◌^◌, ◌↔◌, ℕ, ℤ, List, [], ◌++◌, length, IsTrue};
+ghost use Rattle.std.specs.Prelude.{◌≡◌, ◌<◌, ◌≤◌, ◌^◌, ◌↔◌, ℕ, ℤ, List, [], ◌++◌, length, IsTrue, Some, true};
+ghost use Rattle.vx_proto.specs.Wire.{Field, field_at, cut, BeginsWith, Spells};
 ghost use Rattle.vx_proto.specs.declared.error.ProtoError.{ProtoError as Refusal};
-ghost use Rattle.vx_proto.specs.Value.{Schema, Value};
-ghost use Rattle.vx_proto.specs.Reads.{Reads, Cause, default_value};
+ghost use Rattle.vx_proto.specs.Schema.{Schema};
+ghost use Rattle.vx_proto.specs.Value.{Value};
+ghost use Rattle.vx_proto.specs.declared.error.ProtoError.TheVariants.{TooDeep};
+ghost use Rattle.vx_proto.specs.Reads.{Reads, Cause, NestsOver, default_value};
 ghost use Rattle.vx_proto.specs.Form.{HasForm};
 ghost use Rattle.vx_proto.specs.Written.{written, nested};
 ghost use Rattle.vx_proto.specs.Lawful.{is_lawful};
@@ -42,4 +45,17 @@ pub fn longer_schema()
 /// Signed numbers of one zigzag number are one number.
 pub fn one_zigzag()
     ensures { (a b : ℤ) → zigzag a ≡ zigzag b → a ≡ b }
+{}
+
+/// Bytes are refused as too deep for the one reason that over 100 messages nest in them.
+pub fn deep_nests_over()
+    ensures { (s : Schema) (place : ℕ) (bytes : List ℕ) → Cause s 100 TooDeep place bytes ↔ NestsOver s 100 place bytes }
+{}
+
+/// What is cut from the front of bytes is what is spelled there: a field, and the bytes after it.
+pub fn front_is_spelled()
+    ensures cut { (bytes rest : List ℕ) (f : Field) → field_at bytes ≡ Some (f, rest) → BeginsWith bytes f rest }
+    ensures again { (bytes rest : List ℕ) (f : Field) → BeginsWith bytes f rest → field_at bytes ≡ Some (f, rest) }
+    ensures whole { (bytes : List ℕ) → (cut bytes).1 ≡ true → Spells bytes (cut bytes).0 }
+    ensures all { (bytes : List ℕ) (fs : List Field) → Spells bytes fs → cut bytes ≡ (fs, true) }
 {}

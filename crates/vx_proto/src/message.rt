@@ -1,10 +1,11 @@
 //! Messages of a schema, read and written by one pair of calls for all of them.
 
-ghost use Rattle.std.specs.Prelude.{◌≡◌, ◌<◌, ◌≤◌, ◌⊎◌, ℕ, IfOk, IfErr, OnOk, IsOkUnless, IsOk, IsErr, IsTrue, MatchResult};
+ghost use Rattle.std.specs.Prelude.{◌≡◌, ◌<◌, ◌≤◌, ◌⊎◌, ◌^◌, ℕ, IfOk, IfErr, OnOk, IsOkUnless, IsOk, IsErr, IsErrOf, IsTrue, MatchResult, length};
 ghost use Rattle.vx_proto.specs.declared.error.ProtoError.{ProtoError as Refusal};
 ghost use Rattle.vx_proto.specs.declared.error.ProtoError.TheVariants.{OutOfMemory, TooDeep};
-ghost use Rattle.vx_proto.specs.Value.{Schema, Value, value_view, schema_view};
-ghost use Rattle.vx_proto.specs.Reads.{Reads, Cause, default_value};
+ghost use Rattle.vx_proto.specs.Schema.{Schema, schema_view};
+ghost use Rattle.vx_proto.specs.Value.{Value, value_view};
+ghost use Rattle.vx_proto.specs.Reads.{Reads, Cause, NestsOver, default_value};
 ghost use Rattle.vx_proto.specs.Form.{HasForm};
 ghost use Rattle.vx_proto.specs.Written.{written, nested};
 ghost use Rattle.vx_proto.specs.Lawful.{is_lawful};
@@ -19,6 +20,25 @@ use std::alloc::Global;
 
 /// At most so many messages nest, the root counted. Past it both calls answer `TooDeep`.
 const NESTED_MESSAGES: u8 = 100;
+
+/// The bytes of a plain value.
+pub fn encoded(
+    alloc: Global,
+    schema: Lists,
+    place: u32,
+    slots: &[Entries],
+) -> Result<Blob, ProtoError>
+    ensures exact { IfOk result (λ bytes. bytes ≡ written (schema_view schema) place (value_view slots.now)) }
+    ensures short { IfOk result (λ bytes. length bytes < 2 ^ 64) }
+    ensures nests { IsOk result → nested (value_view slots.now) ≤ 100 }
+    ensures cause { IfErr result (λ e. (e ≡ OutOfMemory) ⊎ ((e ≡ TooDeep) × (100 < nested (value_view slots.now)))) }
+{
+    if !nests_within(slots, NESTED_MESSAGES) {
+        return Err(ProtoError::TooDeep);
+    }
+    let bytes = message_bytes(alloc, schema, place, slots)?;
+    Ok(Blob::new(bytes))
+}
 
 /// A message of a schema. A type says its schema, its place there, and how its values and plain
 /// values go over into one another; `decode` and `encode_to_vec` are then proved for it.
@@ -49,9 +69,10 @@ pub trait Message: Drop {
         ensures same { value result ≡ default_value schema place }
         ensures in_range { fits result };
 
-    /// The message of a plain value.
-    fn from_value(alloc: Global, slots: &[Entries]) -> Result<Self, ProtoError>
-        ensures same { HasForm schema place (value_view slots.now) → IfOk result (λ m. value m ≡ value_view slots.now) }
+    /// The message of a plain value, which has the form of the schema.
+    fn from_value(alloc: Global, slots: Vec<Entries>) -> Result<Self, ProtoError>
+        requires { HasForm schema place (value_view slots.items) }
+        ensures same { IfOk result (λ m. value m ≡ value_view slots.items) }
         ensures in_range { IfOk result fits }
         ensures err { IsOkUnless result ProtoError.OutOfMemory };
 
@@ -62,8 +83,24 @@ pub trait Message: Drop {
         ensures in_range { OnOk result (fits self.now) }
         ensures err { IsOkUnless result ProtoError.OutOfMemory };
 
+    /// The bytes of the plain value of this message. A type that has its plain value at hand need not
+    /// make it for that.
+    fn encode_value(&self, alloc: Global) -> Result<Blob, ProtoError>
+        ensures exact { IfOk result (λ bytes. bytes ≡ written schema place (value self.now)) }
+        ensures short { IfOk result (λ bytes. length bytes < 2 ^ 64) }
+        ensures form { OnOk result (HasForm schema place (value self.now)) }
+        ensures nests { IsOk result → nested (value self.now) ≤ 100 }
+        ensures cause { IfErr result (λ e. (e ≡ OutOfMemory) ⊎ ((e ≡ TooDeep) × (100 < nested (value self.now)))) }
+    {
+        let slots = self.to_value(alloc)?;
+        encoded(alloc, Self::lists(), Self::place_of(), &slots)
+    }
+
     /// The schema is lawful: a test, which `refl` proves of a schema that is written out.
     ghost lawful: { IsTrue (is_lawful schema) };
+
+    /// The type's message is one of the schema's: a test as well.
+    ghost placed: { place < length schema };
 
     /// Messages of one plain value are one message, by what contracts see of them.
     ghost determined: { (m n : Self) → fits m → fits n → value m ≡ value n → m ≡ n };
@@ -79,6 +116,10 @@ pub trait Message: Drop {
         // Where a cause stands, there is a refusal.
         ensures refused { (e : Refusal) → Cause schema 100 e place bytes.now → IsErr result }
         ensures in_range { IfOk result fits }
+        // Over 100 messages nest where they are refused for it, and never in what is read.
+        ensures deep { IsErrOf result TooDeep → NestsOver schema 100 place bytes.now }
+        ensures shallow { IsOk result → ¬ (NestsOver schema 100 place bytes.now) }
+        ensures nests { IfOk result (λ m. nested (value m) ≤ 100) }
     {
         let slots = message_of(
             alloc,
@@ -87,7 +128,7 @@ pub trait Message: Drop {
             Self::place_of(),
             bytes,
         )?;
-        Self::from_value(alloc, &slots)
+        Self::from_value(alloc, slots)
     }
 
     /// The bytes of the message.
@@ -100,12 +141,7 @@ pub trait Message: Drop {
         ensures nests { IsOk result → nested (value self.now) ≤ 100 }
         ensures cause { IfErr result (λ e. (e ≡ OutOfMemory) ⊎ ((e ≡ TooDeep) × (100 < nested (value self.now)))) }
     {
-        let slots = self.to_value(alloc)?;
-        if !nests_within(&slots, NESTED_MESSAGES) {
-            return Err(ProtoError::TooDeep);
-        }
-        let bytes = message_bytes(alloc, Self::lists(), Self::place_of(), &slots)?;
-        Ok(Blob::new(bytes))
+        self.encode_value(alloc)
     }
 
     /// A message with equal fields.
@@ -114,6 +150,6 @@ pub trait Message: Drop {
         ensures err { IsOkUnless result ProtoError.OutOfMemory }
     {
         let value = self.to_value(alloc)?;
-        Self::from_value(alloc, &value)
+        Self::from_value(alloc, value)
     }
 }

@@ -1,21 +1,22 @@
 //! Reading of plain values: the fields of a message, each put into its slot, and what each slot keeps.
 
-ghost use Rattle.std.specs.Prelude.{◌≡◌, ◌<◌, ℕ, List, length, map, option_map, replicate, [], IfSome, IfOk, Ok};
+ghost use Rattle.std.specs.Prelude.{◌≡◌, ◌<◌, ◌^◌, ℕ, List, length, map, option_map, replicate, [], ◌∷◌, ◌++◌, IfSome, IfOk, OnOk, Ok};
 ghost use Rattle.std.specs.Str.{is_utf8};
 ghost use Rattle.vx_proto.specs.Wire.{cut};
 ghost use Rattle.vx_proto.specs.WireView.{part_view};
-ghost use Rattle.vx_proto.specs.Value.{view, value_view, entries_view, slot_view, list_view, schema_view};
-ghost use Rattle.vx_proto.specs.Reads.{list_at, kind_in, default_in, default_of as default_entries, last_of as last_in};
-ghost use Rattle.vx_proto.specs.Reading.{Gives, varint_in, octets_in, place_of, limited, limited_signed, typed, gather_all, kept_of, finished, decoded};
+ghost use Rattle.vx_proto.specs.Schema.{members_of, list_at, kind_in, slot_view, list_view, schema_view};
+ghost use Rattle.vx_proto.specs.Value.{view, value_view, entries_view};
+ghost use Rattle.vx_proto.specs.Reads.{default_in, last_of};
+ghost use Rattle.vx_proto.specs.Reading.{Gives, varint_in, octets_in, place_of, limited, limited_signed, typed_scalar, typed, gather_all, kept_of, finished, decoded};
 
 use crate::element::{Element, Entries, Entry, copied, flag};
 use crate::error::ProtoError;
-use crate::schema::{Kind, Member, Rule, Schema, Slot};
+use crate::schema::{Kind, Member, ScalarKind, Schema, Slot};
 use crate::wire::{Part, field_of};
-use std::alloc::Global;
+use std::alloc::{AllocError, Global};
 
 /// The kind of the member of this number.
-pub fn kind_of(members: &[Member], number: u32) -> Option<Kind>
+fn member_kind(members: &[Member], number: u32) -> Option<Kind>
     ensures { result ≡ kind_in members.now number }
 {
     for member in members {
@@ -26,13 +27,30 @@ pub fn kind_of(members: &[Member], number: u32) -> Option<Kind>
     None
 }
 
+/// The kind that a slot has under this number.
+pub fn kind_of(slot: &Slot, number: u32) -> Option<Kind>
+    ensures { result ≡ kind_in (members_of (slot_view slot.now)) number }
+{
+    match slot {
+        Slot::Plain(n, kind) | Slot::Optional(n, kind) => {
+            if *n == number {
+                Some(Kind::Scalar(*kind))
+            } else {
+                None
+            }
+        }
+        Slot::OneOf(members) => member_kind(members, number),
+        Slot::Repeated(n, kind) => { if *n == number { Some(*kind) } else { None } }
+    }
+}
+
 /// The slot of this number, and its kind.
 fn slot_of(list: &[Slot], number: u32) -> Option<(usize, Kind)>
     ensures place { result ≡ place_of (map slot_view list.now) number }
     ensures bound { IfSome result (λ x. x.0 < length list.now) }
 {
     for (i, slot) in list.iter().enumerate() {
-        if let Some(kind) = kind_of(slot.members, number) {
+        if let Some(kind) = kind_of(slot, number) {
             return Some((i, kind));
         }
     }
@@ -54,7 +72,7 @@ fn octets_of(part: Part<'_>) -> Result<&[u8], ProtoError>
     ensures { Gives (λ s. s.now) result (octets_in (part_view part.entry)) }
 {
     match part {
-        Part::Delimited(s) => Ok(s),
+        Part::Len(s) => Ok(s),
         _ => Err(ProtoError::BadMessage),
     }
 }
@@ -62,81 +80,75 @@ fn octets_of(part: Part<'_>) -> Result<&[u8], ProtoError>
 fn empty_slots(alloc: Global, count: usize) -> Result<Vec<Entries>, ProtoError>
     ensures { Gives (λ v. value_view v.items) result (Ok (replicate count [])) }
 {
-    let mut slots = Vec::new(alloc);
+    let mut slots = Vec::with_capacity(alloc, count)?;
     for _ in 0..count {
         slots.push(Vec::new(alloc))?;
     }
     Ok(slots)
 }
 
-/// The last entry, or those before.
-fn last_of(mut entries: Entries, before: Entries) -> Result<Entries, ProtoError>
-    ensures { Gives (λ v. entries_view v.items) result (Ok (last_in (entries_view before.items) (entries_view entries.items))) }
-{
-    match entries.pop() {
-        None => Ok(before),
-        Some(entry) => {
-            entries.clear();
-            entries.push(entry)?;
-            Ok(entries)
-        }
-    }
-}
-
-fn default_of(alloc: Global, kind: Kind) -> Element
+/// The default of a kind.
+fn default_of(alloc: Global, kind: ScalarKind) -> Element
     ensures { view result ≡ default_in kind }
 {
     match kind {
-        Kind::Text => Element::Octets(Vec::new(alloc)),
-        Kind::Bytes => Element::Octets(Vec::new(alloc)),
+        ScalarKind::String | ScalarKind::Bytes => Element::Octets(Vec::new(alloc)),
         _ => Element::Number(0),
     }
 }
 
-fn defaults_of(alloc: Global, members: &[Member]) -> Result<Entries, ProtoError>
-    ensures { Gives (λ v. entries_view v.items) result (Ok (default_entries members.now)) }
+/// Leaves the last entry alone, if there is one.
+fn keep_last(entries: &mut Entries) -> Result<(), AllocError>
+    ensures { OnOk result (entries_view entries.new.items ≡ last_of [] (entries_view entries.old.items)) }
 {
-    let mut entries = Vec::new(alloc);
-    if let [member, ..] = members {
-        let element = default_of(alloc, member.kind);
-        entries.push((member.number, element))?;
+    if entries.len() < 2 {
+        return Ok(());
     }
-    Ok(entries)
+    let Some(last) = entries.pop() else {
+        return Ok(());
+    };
+    entries.clear();
+    entries.push(last)?;
+    Ok(())
 }
 
-/// What a slot keeps of the occurrences of its members.
+/// Leaves a slot with what it keeps of the occurrences of its members.
 #[tactic(auto, unfolding(crate::specs::Reading::kept_of))]
-fn keep(alloc: Global, slot: &Slot, entries: Entries) -> Result<Entries, ProtoError>
-    ensures { Gives (λ v. entries_view v.items) result (kept_of (slot_view slot.now) (entries_view entries.items)) }
+fn keep(alloc: Global, slot: &Slot, entries: &mut Entries) -> Result<(), ProtoError>
+    ensures { Gives (λ _. entries_view entries.new.items) result (kept_of (slot_view slot.now) (entries_view entries.old.items)) }
 {
-    match slot.rule {
-        Rule::Plain => {
-            let before = defaults_of(alloc, slot.members)?;
-            last_of(entries, before)
+    match slot {
+        Slot::Plain(number, kind) => {
+            if entries.is_empty() {
+                push_entry(entries, (*number, default_of(alloc, *kind)))?;
+                return Ok(());
+            }
+            keep_last(entries)?;
+            Ok(())
         }
-        Rule::Optional => last_of(entries, Vec::new(alloc)),
-        Rule::Single => {
+        Slot::Optional(_, _) => {
+            keep_last(entries)?;
+            Ok(())
+        }
+        Slot::OneOf(_) => {
             if entries.len() > 1 {
                 return Err(ProtoError::BadMessage);
             }
-            Ok(entries)
+            Ok(())
         }
-        Rule::Repeated => Ok(entries),
+        Slot::Repeated(_, _) => Ok(()),
     }
 }
 
-/// What each slot keeps.
+/// The slots, each with what it keeps.
 fn finish(alloc: Global, list: &[Slot], mut slots: Vec<Entries>) -> Result<Vec<Entries>, ProtoError>
     requires { length slots.items ≡ length list.now }
     ensures { Gives (λ v. value_view v.items) result (finished (list_view list.now) (value_view slots.items)) }
 {
-    let mut done = Vec::new(alloc);
-    for slot in list {
-        let entries = slots.remove(0);
-        let kept = keep(alloc, slot, entries)?;
-        done.push(kept)?;
+    for i in 0..list.len() {
+        keep(alloc, &list[i], &mut slots[i])?;
     }
-    Ok(done)
+    Ok(slots)
 }
 
 /// A number that is below a limit.
@@ -159,6 +171,35 @@ fn signed_number(n: u64) -> Result<Element, ProtoError>
     Err(ProtoError::OutOfRange)
 }
 
+/// What a part shows of a scalar kind.
+fn scalar_of(alloc: Global, kind: ScalarKind, part: Part<'_>) -> Result<Element, ProtoError>
+    ensures { Gives view result (typed_scalar kind (part_view part.entry)) }
+{
+    match kind {
+        ScalarKind::Uint32 => limited_number(varint_of(part)?, 1 << 32),
+        ScalarKind::Uint64 | ScalarKind::Sint64 => Ok(Element::Number(varint_of(part)?)),
+        ScalarKind::Int32 => signed_number(varint_of(part)?),
+        ScalarKind::Flag => Ok(flag(varint_of(part)? != 0)),
+        ScalarKind::Enum(codes) => limited_number(varint_of(part)?, codes as u64),
+        ScalarKind::Fixed32 => match part {
+            Part::I32(n) => Ok(Element::Number(n as u64)),
+            _ => Err(ProtoError::BadMessage),
+        },
+        ScalarKind::Fixed64 => match part {
+            Part::I64(n) => Ok(Element::Number(n)),
+            _ => Err(ProtoError::BadMessage),
+        },
+        ScalarKind::String => {
+            let s = octets_of(part)?;
+            if !is_text(s) {
+                return Err(ProtoError::BadMessage);
+            }
+            copied(alloc, s)
+        }
+        ScalarKind::Bytes => copied(alloc, octets_of(part)?),
+    }
+}
+
 /// What a part shows of a kind, with at most so many messages nested in it.
 #[cycle(reading)]
 #[tactic(auto, unfolding(crate::specs::Reading::typed))]
@@ -172,27 +213,8 @@ fn element_of(
     ensures { Gives view result (typed (decoded (schema_view schema) left) kind (part_view part.entry)) }
 {
     match kind {
-        Kind::Below(limit) => limited_number(varint_of(part)?, limit),
-        Kind::Whole => Ok(Element::Number(varint_of(part)?)),
-        Kind::Signed32 => signed_number(varint_of(part)?),
-        Kind::Flag => Ok(flag(varint_of(part)? != 0)),
-        Kind::Fixed32 => match part {
-            Part::Four(n) => Ok(Element::Number(n as u64)),
-            _ => Err(ProtoError::BadMessage),
-        },
-        Kind::Fixed64 => match part {
-            Part::Eight(n) => Ok(Element::Number(n)),
-            _ => Err(ProtoError::BadMessage),
-        },
-        Kind::Text => {
-            let s = octets_of(part)?;
-            if !is_text(s) {
-                return Err(ProtoError::BadMessage);
-            }
-            copied(alloc, s)
-        }
-        Kind::Bytes => copied(alloc, octets_of(part)?),
-        Kind::Inner(place) => {
+        Kind::Scalar(kind) => scalar_of(alloc, kind, part),
+        Kind::Message(place) => {
             let s = octets_of(part)?;
             let slots = message_of(alloc, schema, left, place, s)?;
             Ok(Element::Message(slots))
@@ -204,6 +226,17 @@ fn is_text(bytes: &[u8]) -> bool
     ensures { result ≡ is_utf8 bytes.now }
 {
     simdutf8::basic::from_utf8(bytes).is_ok()
+}
+
+/// One more entry, where most slots have but one.
+fn push_entry(entries: &mut Entries, entry: Entry) -> Result<(), AllocError>
+    ensures { OnOk result (entries.new.items ≡ entries.old.items ++ entry ∷ []) }
+{
+    if entries.is_empty() {
+        entries.reserve_exact(1)?;
+    }
+    entries.push(entry)?;
+    Ok(())
 }
 
 /// What the fields show, each in its slot.
@@ -226,7 +259,7 @@ fn gather(
         };
         if let Some((place, kind)) = slot_of(list, field.number) {
             let element = element_of(alloc, schema, left, kind, field.part)?;
-            slots[place].push((field.number, element))?;
+            push_entry(&mut slots[place], (field.number, element))?;
         }
         rest = after;
     }
@@ -257,8 +290,8 @@ pub fn message_of(
 pub fn list_of(schema: Schema, place: u32) -> &'static [Slot]
     ensures { list_view result.now ≡ list_at (schema_view schema) place }
 {
-    match schema.lists.get(place as usize) {
-        Some(list) => list.slots,
+    match schema.messages.get(place as usize) {
+        Some(list) => list,
         None => &[],
     }
 }

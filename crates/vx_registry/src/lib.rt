@@ -10,6 +10,3 @@ pub use context::ArrayContext;
 pub use error::RegistryError;
 pub use read::ReadContext;
 pub use session::{ArraySession, VortexSession};
-
-#[cfg(test)]
-mod tests;

@@ -20,6 +20,12 @@ pub enum TypeWireError {
     /// The message nests too deep or unfolds to too much.
     #[error("the message nests too deep or unfolds to too many tables or bytes")]
     TableLimit,
+    /// The bytes are no fields of a type's message: 3.
+    #[error("the bytes are no message of a type")]
+    BadMessage,
+    /// Over 100 messages nest: 4.
+    #[error("over 100 messages nest")]
+    TooDeep,
     /// The table is no type's: its union has no member or one that is not known,
     /// a part is absent, a number is no code or out of range, lists of parts are
     /// not of one length, a tag stands twice, or a decimal has no digit or too many.

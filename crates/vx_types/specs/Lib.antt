@@ -9,3 +9,7 @@ pub mod Falls
 pub mod Words
 pub mod Refused
 pub mod Decimals
+pub mod Known
+pub mod Value
+pub mod Fits
+pub mod Well

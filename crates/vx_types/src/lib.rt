@@ -47,8 +47,3 @@ pub use type_ids::TypeIds;
 pub use type_ref::TypeRef;
 pub use union_variants::UnionVariants;
 pub use value::PValue;
-
-#[cfg(test)]
-mod tests;
-#[cfg(test)]
-mod type_tests;

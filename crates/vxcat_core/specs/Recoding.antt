@@ -2,8 +2,8 @@
 use Rattle.std.specs.Prelude.{◌≡◌, ◌≢◌, ◌⊎◌, ℕ, true, false, IsTrue, IsSome, Option, None, Some, option_map, List, [], ◌++◌, Contains}
 use Rattle.std.specs.List.{AllByRecursion}
 use Rattle.vx_types.specs.Typ.{Typ}
-use Rattle.vx_type_wire.specs.Known.{no_readers}
-use Rattle.vx_type_wire.specs.Shown.{IsRead}
+use Rattle.vx_type_wire.specs.Known.{IsRead, no_readers}
+use Rattle.vx_type_wire.specs.Shown.{ShowsType}
 use Rattle.vx_arrays.specs.Tree.{Tree}
 use Rattle.vx_registry.specs.Context.{Context, grown}
 use Rattle.vx_registry.specs.Session.{SessionMeaning, registry_meaning, shipped_registry}
@@ -31,7 +31,7 @@ pub record AreInputs (line : Line) (store : StoreState) (loaded : Inputs) : Type
 -- A type file is read as the type whose table it shows within the limits. The program has no readers of extensions, so
 -- no extension stands in the type.
 abbrev pub ReadsType : List ℕ → Typ → Type 0
-ReadsType = IsRead no_readers
+ReadsType bytes = IsRead (ShowsType bytes) no_readers
 
 -- The program reads and writes the encodings that are shipped, and writes under a context that is empty at first.
 abbrev pub session : SessionMeaning

@@ -47,6 +47,8 @@ abbrev pub type_status : TypeWireError → Status
 type_status type_error.OutOfMemory = OutOfMemory
 type_status type_error.BadTable = BadType
 type_status type_error.TableLimit = BadType
+type_status type_error.BadMessage = BadType
+type_status type_error.TooDeep = BadType
 type_status type_error.BadType = BadType
 type_status type_error.UnknownExtension = BadType
 type_status type_error.ExtensionRefused = BadType

@@ -88,6 +88,8 @@ impl Status {
             TypeWireError::OutOfMemory => Status::OutOfMemory,
             TypeWireError::BadTable
             | TypeWireError::TableLimit
+            | TypeWireError::BadMessage
+            | TypeWireError::TooDeep
             | TypeWireError::BadType
             | TypeWireError::UnknownExtension
             | TypeWireError::ExtensionRefused

@@ -3,11 +3,12 @@ use Rattle.std.proofs.lemmas.List.{length-map}
 use Rattle.std.proofs.lemmas.Bool.{eqb-true}
 use Rattle.vx_proto.specs.Wire.{cut}
 use Rattle.vx_proto.specs.WireView.{field_view}
-use Rattle.vx_proto.specs.Value.{view, value_view, list_view, schema_view}
+use Rattle.vx_proto.specs.Value.{view, value_view}
 use Rattle.vx_proto.specs.Reading.{typed, gather_all, decoded}
-use Rattle.vx_proto.specs.ViewLaws.{view_message}
+use Rattle.vx_proto.proofs.LawsOfViews.{view_message}
 use Rattle.vx_proto.proofs.Loops.{goes_past, goes_on, ends, ends_bad, is_done, message_gives}
 use Rattle.std.proofs.lemmas.Result.{err_from_is_err_and}
+use Rattle.vx_proto.specs.Schema.{list_view, schema_view}
 use Rattle.vx_proto.proofs.Views.{view_push}
 use Rattle.vx_proto.proofs.reading.+reading.Goals as goal
 
@@ -15,9 +16,9 @@ some_left : (n : ℕ) → eqb n 0 ≡ false → 0 < n
 some_left zero e = absurd cc
 some_left (suc n) e = omega arith
 
-pub element_of-returns-in_ok-slots-in-Inner : goal.element_of-returns-in_ok-slots-in-Inner
+pub element_of-returns-in_ok-slots-in-Message : goal.element_of-returns-in_ok-slots-in-Message
 unfolding typed
-element_of-returns-in_ok-slots-in-Inner t c = rw (c.in-Inner.is, c.in_ok-s-in-Inner.ensures, c.in_ok-slots-in-Inner.ensures) (ap (λ e. Ok e) (sym (view_message c.in_ok-slots-in-Inner.slots)))
+element_of-returns-in_ok-slots-in-Message t c = rw (c.in-Message.is, c.in_ok-s-in-Message.ensures, c.in_ok-slots-in-Message.ensures) (ap (λ e. Ok e) (sym (view_message c.in_ok-slots-in-Message.slots)))
 
 pub gather-returns-in_default-clause-value : goal.gather-returns-in_default-clause-value
 gather-returns-in_default-clause-value t c =
@@ -29,10 +30,10 @@ gather-returns-in_err-element-clause-value t c =
     rw (p.1, p.2) (ends (decoded (schema_view c.args.schema) c.args.left) (list_view c.args.list.now) c.loop-rest.rest.now (field_view c.in-Some.field, c.in-Some.after.now) (c.in-Some-slot_of.place, c.in-Some-slot_of.kind) c.in_err-element.field-0.0 (value_view c.loop-rest.slots.items) _
     (sym c.in-Some.ensures.field) (sym c.in-Some-slot_of.ensures.place) c.in_err-element.ensures c.loop-rest.invariant.1)
 
-pub gather-loop-rest-preserved-in_ok-push : goal.gather-loop-rest-preserved-in_ok-push
-gather-loop-rest-preserved-in_ok-push t c =
+pub gather-loop-rest-preserved-in_ok-push_entry : goal.gather-loop-rest-preserved-in_ok-push_entry
+gather-loop-rest-preserved-in_ok-push_entry t c =
     let lt = c.in-Some-slot_of.ensures.bound in
-    let e = view_push c.loop-rest.slots.items c.in-Some-slot_of.place c.index_mut.result.now c.push.new.self (c.in-Some.field.number, c.in_ok-element.element) (omega (arith, lt, c.loop-rest.invariant.0)) c.index_mut.ensures.value c.in_ok-push.ensures.items in (
+    let e = view_push c.loop-rest.slots.items c.in-Some-slot_of.place c.index_mut.result.now c.push_entry.new.entries (c.in-Some.field.number, c.in_ok-element.element) (omega (arith, lt, c.loop-rest.invariant.0)) c.index_mut.ensures.value c.in_ok-push_entry.ensures in (
       length-set _ _ _ ∙ c.loop-rest.invariant.0,
       ap (gather_all (decoded (schema_view c.args.schema) c.args.left) (list_view c.args.list.now) (cut c.in-Some.after.now)) e
           ∙ goes_on (decoded (schema_view c.args.schema) c.args.left) (list_view c.args.list.now) c.loop-rest.rest.now (field_view c.in-Some.field, c.in-Some.after.now) (c.in-Some-slot_of.place, c.in-Some-slot_of.kind) (view c.in_ok-element.element) (value_view c.loop-rest.slots.items) _

@@ -1,0 +1,163 @@
+//! Tests of one level: planned, built and written; and of the texts of errors.
+
+use std::alloc::Global;
+use std::test::Fail;
+use vx_arrays::{Array, Arrays};
+use vx_buffer::{Alignment, BufferHandle, BufferHandles, ByteBuffer};
+use vx_encodings::{ArrayHead, Encoding, EncodingError, build, metadata, plan};
+use vx_types::{Blob, DType, Id, Nullability, PType};
+
+fn head_of(
+    alloc: Global,
+    dtype: DType,
+    len: usize,
+    metadata: &[u8],
+    nchildren: usize,
+) -> Result<ArrayHead, Fail> {
+    Ok(ArrayHead {
+        serialized_id: Id::new(alloc, Encoding::Primitive.id())?,
+        dtype,
+        len,
+        metadata: Blob::copy_from(alloc, metadata)?,
+        nbuffers: 1,
+        nchildren,
+    })
+}
+
+#[test]
+fn plans_have_at_most_a_validity(rt: HostRuntime) -> Result<(), Fail> {
+    let alloc = rt.alloc();
+    let numbers = DType::Primitive(PType::I32, Nullability::Nullable);
+    let head = head_of(alloc, numbers, 4, &[], 1)?;
+    let plans = plan(alloc, Encoding::Primitive, &head)?;
+    assert!(rt; plans.len() == 1);
+    match plans.get(0) {
+        Some(child) => {
+            assert!(rt; child.dtype == DType::Bool(Nullability::NonNullable));
+            assert!(rt; child.len == 4);
+        }
+        None => assert!(rt; false, "a plan of one child"),
+    }
+    Ok(())
+}
+
+// Why numbers of this type and metadata are not planned, if they are not.
+fn plan_refusal(
+    alloc: Global,
+    dtype: DType,
+    metadata: &[u8],
+) -> Result<Option<EncodingError>, Fail> {
+    let head = head_of(alloc, dtype, 4, metadata, 0)?;
+    match plan(alloc, Encoding::Primitive, &head) {
+        Ok(_) => Ok(None),
+        Err(e) => Ok(Some(e)),
+    }
+}
+
+#[test]
+fn plans_of_numbers_are_refused(rt: HostRuntime) -> Result<(), Fail> {
+    let alloc = rt.alloc();
+    let nulls = plan_refusal(alloc, DType::Null, &[])?;
+    assert!(rt; nulls == Some(EncodingError::BadShape));
+    let truths = plan_refusal(alloc, DType::Bool(Nullability::Nullable), &[])?;
+    assert!(rt; truths == Some(EncodingError::BadShape));
+    let numbers = DType::Primitive(PType::I32, Nullability::NonNullable);
+    let with_metadata = plan_refusal(alloc, numbers, &[8])?;
+    assert!(rt; with_metadata == Some(EncodingError::BadMetadata));
+    Ok(())
+}
+
+// A node without children.
+fn build_leaf(
+    alloc: Global,
+    encoding: Encoding,
+    head: ArrayHead,
+    buffers: BufferHandles,
+) -> Result<Array, EncodingError> {
+    let plans = plan(alloc, encoding, &head)?;
+    if plans.len() != 0 {
+        return Err(EncodingError::BadShape);
+    }
+    build(alloc, encoding, head, buffers, Arrays::new(alloc))
+}
+
+// The metadata of a node without children, once it is built.
+fn built_metadata(
+    alloc: Global,
+    encoding: Encoding,
+    head: ArrayHead,
+    buffers: BufferHandles,
+) -> Result<Blob, EncodingError> {
+    let array = build_leaf(alloc, encoding, head, buffers)?;
+    metadata(alloc, &array)
+}
+
+#[test]
+fn a_node_is_built_of_its_parts(rt: HostRuntime) -> Result<(), Fail> {
+    let alloc = rt.alloc();
+    let word = Alignment::from_exponent(2).ok_or("below 64")?;
+    for (len, alignment, fits) in [
+        (2, word, true),
+        (3, word, false),
+        (2, Alignment::none(), false),
+    ] {
+        let mut buffers = BufferHandles::new(alloc);
+        let values = ByteBuffer::copy_from(alloc, &[1, 0, 0, 0, 2, 0, 0, 0])?;
+        buffers.push(BufferHandle::new_host(values.aligned(alignment)))?;
+        let dtype = DType::Primitive(PType::I32, Nullability::NonNullable);
+        let head = head_of(alloc, dtype, len, &[], 0)?;
+        match built_metadata(alloc, Encoding::Primitive, head, buffers) {
+            Ok(bytes) => assert!(rt; fits && bytes.is_empty(), "{len} numbers"),
+            Err(e) => assert!(rt; !fits && e == EncodingError::BadShape, "{len} numbers"),
+        }
+    }
+    Ok(())
+}
+
+#[test]
+fn nulls_are_built_of_nothing(rt: HostRuntime) -> Result<(), Fail> {
+    let alloc = rt.alloc();
+    for (bytes, nchildren, buffers, error) in [
+        ([].as_slice(), 0, 0, None),
+        ([0].as_slice(), 0, 0, Some(EncodingError::BadMetadata)),
+        ([].as_slice(), 1, 0, Some(EncodingError::BadShape)),
+        ([].as_slice(), 0, 1, Some(EncodingError::BadShape)),
+    ] {
+        let mut handles = BufferHandles::new(alloc);
+        for _ in 0..buffers {
+            handles.push(BufferHandle::new_host(ByteBuffer::copy_from(alloc, &[])?))?;
+        }
+        let head = head_of(alloc, DType::Null, usize::MAX, bytes, nchildren)?;
+        match built_metadata(alloc, Encoding::Null, head, handles) {
+            Ok(bytes) => assert!(rt; error.is_none() && bytes.is_empty()),
+            Err(e) => assert!(rt; error == Some(e)),
+        }
+    }
+    Ok(())
+}
+
+#[test]
+fn nulls_have_the_type_of_nulls(rt: HostRuntime) -> Result<(), Fail> {
+    let alloc = rt.alloc();
+    let head = head_of(alloc, DType::Bool(Nullability::Nullable), 1, &[], 0)?;
+    match built_metadata(alloc, Encoding::Null, head, BufferHandles::new(alloc)) {
+        Ok(_) => assert!(rt; false, "truths are no nulls"),
+        Err(e) => assert!(rt; e == EncodingError::BadShape),
+    }
+    Ok(())
+}
+
+#[test]
+fn errors_are_printed(rt: HostRuntime) -> Result<(), Fail> {
+    for (error, text) in [
+        (EncodingError::OutOfMemory, "out of memory"),
+        (
+            EncodingError::BadMetadata,
+            "the metadata is none of the encoding's",
+        ),
+        (EncodingError::BadShape, "the parts do not fit the encoding"),
+    ] {
+        assert_eq!(rt; format!(in rt.alloc(); "{error}")?.as_str(), text);
+    }
+    Ok(())
+}

@@ -1,0 +1,11 @@
+//! Tests of buffers, arrays, encodings and sessions, each module over its crate's public calls.
+#![tactic(auto)]
+
+#[cfg(test)]
+mod arrays;
+#[cfg(test)]
+mod buffers;
+#[cfg(test)]
+mod encodings;
+#[cfg(test)]
+mod registry;

@@ -1,0 +1,15 @@
+pub mod Options
+pub mod Identifiers
+pub mod Bodies
+pub mod Plans
+pub mod Retyped
+pub mod RetypedParts
+pub mod NodeLaws
+pub mod CanonPlaces
+pub mod CanonLaws
+pub mod RowsFit
+pub mod MergeFits
+pub mod VariantsFit
+pub mod RowsOfSound
+pub mod RowsAgree
+pub mod Built

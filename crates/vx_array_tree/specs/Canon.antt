@@ -1,0 +1,47 @@
+-- The array that is read back where an array was written.
+use Rattle.std.specs.Prelude.{List, [], ◌∷◌, Option, Some, None}
+use Rattle.vx_trees.specs.Rose.{node, end, more, label, count}
+use Rattle.vx_types.specs.Typ.{Typ}
+use Rattle.vx_array_tree.specs.Place.{Place}
+use Rattle.vx_array_tree.specs.Sound.{metadata_in}
+use Rattle.vx_array_tree.specs.Table.{encoding_of, plan_of, cleared}
+use Rattle.vx_array_tree.specs.Tree.{Tree, Trees, Head, places}
+
+-- The types of places.
+abbrev pub types_in : List Place → List Typ
+types_in [] = []
+types_in (p ∷ ps) = p.dtype ∷ types_in ps
+
+-- The types of the places that are planned, or else of the children.
+abbrev pub planned_types : Option (List Place) → Trees → List Typ
+planned_types None ts = types_in (places ts)
+planned_types (Some ps) ts = types_in ps
+
+-- The types that a node's children are read back at, where the node is read back at a type: those that its
+-- encoding plans for such a node. Where the type brings nullability, this carries it down to a dictionary's
+-- values, an extension's storage, a map's entries, a union's tags and a variant's core; all other children
+-- keep their types. (Where nothing is planned the node is not sound.)
+abbrev pub child_types : Typ → Head → Trees → List Typ
+child_types d h ts = planned_types (plan_of (encoding_of h.body) d h.len (metadata_in h ts) (count ts)) ts
+
+-- A node as it is read back at a type: of that type, and holding what is not lost where it is written.
+abbrev pub canon_head : Typ → Head → Head
+canon_head d h = record { dtype = d; len = h.len; body = cleared h.body }
+
+abbrev mutual
+  -- An array as it is read back at a type: each node so, over its children, each at its own type.
+  pub canon_at : Typ → Tree → Tree
+  canon_at d (node h ts) = node (canon_head d h) (canon_all (child_types d h ts) ts)
+
+  -- Arrays as they are read back, each at a type. (As many types are given as there are arrays; where one is
+  -- missing, an array keeps its own.)
+  pub canon_all : List Typ → Trees → Trees
+  canon_all ds end = end
+  canon_all ds (more t ts) = elim ds [
+    | [] ↦ more (canon_at (label t).dtype t) (canon_all [] ts)
+    | d ∷ es ↦ more (canon_at d t) (canon_all es ts)
+  ]
+
+-- An array as it is read back at its own type.
+abbrev pub canon : Tree → Tree
+canon t = canon_at (label t).dtype t

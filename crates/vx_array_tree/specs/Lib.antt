@@ -1,0 +1,15 @@
+pub mod Merge
+pub mod Place
+pub mod Rows
+pub mod Bytes
+pub mod Encoding
+pub mod Encodings
+pub mod Metadata
+pub mod Body
+pub mod Table
+pub mod Tree
+pub mod Sound
+pub mod Normal
+pub mod Canon
+pub mod FitRows
+pub mod Refused

@@ -1,0 +1,105 @@
+-- Arrays that break one rule each are not sound.
+use Rattle.std.proofs.Common.{ℕ, ◌≡◌, List, [], ◌∷◌, Option, Some, None, refl, ap, arith, false, true, codes}
+use Rattle.std.proofs.lemmas.Option.{none-some}
+use Rattle.std.specs.Str.{is_utf8, chars}
+use lib.Utf8.{encode}
+use Rattle.vx_types.specs.declared.nullability.Nullability.TheVariants.{Nullable, NonNullable}
+use Rattle.vx_types.specs.declared.ptype.PType.TheVariants as P
+use Rattle.vx_types.specs.declared.decimal.DecimalType.TheVariants as D
+use Rattle.vx_array_tree.specs.Body as B
+use Rattle.vx_array_tree.specs.Encoding as E
+use Rattle.vx_array_tree.specs.Metadata as M
+use Rattle.vx_array_tree.specs.Place.{Place, first_place}
+use Rattle.vx_array_tree.specs.Sound.{IsSound}
+use Rattle.vx_array_tree.specs.Table.{IsFair}
+use Rattle.vx_array_tree_tests.proofs.Samples.{array, buffer, bits, u8s, u16s, number_type, flag_type, flags, decimals, varbins, texts, dictionary, lists, views, fixed, maps, list_of, entry_type, entry, i32s, unions}
+
+not_false : false ≡ true → ⊥
+not_false e = cc
+
+-- ---- content
+
+-- A code that names no value.
+code_past_values : IsSound (dictionary 3) → ⊥
+code_past_values s = let x = s.0.content 3 (omega arith) refl in absurd (omega (arith, x.within))
+
+-- Offsets that fall.
+falling_offsets : IsSound (lists (0 ∷ 2 ∷ 1 ∷ 3 ∷ [])) → ⊥
+falling_offsets s = let x = s.0.content.rising 1 (omega arith) in absurd (omega (arith, x))
+
+-- A last offset past the elements, and past the bytes.
+offset_past_elements : IsSound (lists (0 ∷ 2 ∷ 2 ∷ 4 ∷ [])) → ⊥
+offset_past_elements s = let x = s.0.content.within in absurd (omega (arith, x))
+
+offset_past_bytes : IsSound (varbins (0 ∷ 2 ∷ 2 ∷ 4 ∷ []) (codes "abc")) → ⊥
+offset_past_bytes s = let x = s.0.content.offsets.within in absurd (omega (arith, x))
+
+-- A text that is none.
+no_text : IsSound (varbins (0 ∷ 2 ∷ 2 ∷ 3 ∷ []) (97 ∷ 255 ∷ 99 ∷ [])) → ⊥
+unfolding is_utf8 chars encode
+no_text s = let x : false ≡ true = s.0.content.texts 0 (omega arith) refl in not_false x
+
+-- A view past the elements in a row that is there.
+view_past_elements : IsSound (views false NonNullable (1 ∷ 3 ∷ []) (2 ∷ 1 ∷ []) []) → ⊥
+view_past_elements s = let x = s.0.content 1 (omega arith) refl in absurd (omega (arith, x.within))
+
+-- A tag that the type has not.
+other_tag : IsSound (unions (7 ∷ 9 ∷ 5 ∷ [])) → ⊥
+other_tag s = let x = s.0.content 0 (omega arith) refl in not_false x.named
+
+-- A wrong prefix in a row that is there.
+wrong_prefix : IsSound (texts 21 98) → ⊥
+wrong_prefix s = let x = s.0.content 4 (omega arith) refl in none-some _ x.1
+
+-- ---- shape
+
+abbrev first_len : Option (List Place) → ℕ
+first_len None = 0
+first_len (Some ps) = (first_place ps).len
+
+-- Seven elements for two lists of the size 3.
+seven_elements : IsSound (fixed 3 2 (1 ∷ 2 ∷ 3 ∷ 4 ∷ 5 ∷ 6 ∷ 7 ∷ [])) → ⊥
+seven_elements s = let x : 6 ≡ 7 = ap first_len s.0.planned in absurd (omega (arith, x))
+
+-- A validity where no row may be null.
+validity_for_all : IsSound (flags NonNullable) → ⊥
+validity_for_all s = let x = s.0.allows refl in absurd (cc)
+
+-- Codes that may be null where no row may.
+codes_null : IsSound (array (number_type P.U16 NonNullable) 2 (B.dict (record { all_values_referenced = false })) (u8s Nullable (0 ∷ 1 ∷ []) (bits 2 1 ∷ []) ∷ u16s (3 ∷ 4 ∷ []) ∷ [])) → ⊥
+codes_null s = let x = s.0.allows refl in absurd (cc)
+
+-- Maps over lists that are no list view.
+other_entries : IsSound (maps (array (list_of entry_type) 1 B.list (entry ∷ i32s NonNullable (0 ∷ 1 ∷ []) [] ∷ []))) → ⊥
+other_entries s = s.0.takes
+
+-- Three numbers of four bytes in eleven bytes; and an alignment that is too small.
+short_buffer : IsSound (array (number_type P.I32 NonNullable) 3 (B.primitive (record { values = buffer (1 ∷ 0 ∷ 0 ∷ 0 ∷ 2 ∷ 0 ∷ 0 ∷ 0 ∷ 3 ∷ 0 ∷ 0 ∷ []) 2 })) []) → ⊥
+short_buffer s = let x : 11 ≡ 12 = s.0.holds.length_is in absurd (omega (arith, x))
+
+small_alignment : IsSound (decimals D.I32 (1 ∷ 0 ∷ 0 ∷ 0 ∷ []) 1 1) → ⊥
+small_alignment s = let x = s.0.holds.aligned in absurd (omega (arith, x))
+
+-- Eight bits for nine flags.
+few_bits : IsSound (array (flag_type NonNullable) 9 (B.bool (record { bits = buffer (1 ∷ []) 0; offset = 0 })) []) → ⊥
+few_bits s = let x = s.0.holds in absurd (omega (arith, x))
+
+-- Nulls of another type.
+typed_nulls : IsSound (array (number_type P.I32 Nullable) 3 B.null []) → ⊥
+typed_nulls s = none-some _ s.0.planned
+
+-- ---- metadata
+
+-- An offset of a whole byte.
+whole_byte : IsFair E.bool (M.bool 8) → ⊥
+whole_byte f = absurd (omega (arith, f))
+
+-- Codes, offsets and sizes that are floats.
+float_codes : IsFair E.dict (M.dict (record { values_len = 3; codes_ptype = P.F32; nullable_codes = NonNullable; all_values_referenced = false })) → ⊥
+float_codes f = not_false f
+
+float_offsets : IsFair E.list (M.list (record { elements_len = 3; offset_ptype = P.F64 })) → ⊥
+float_offsets f = not_false f
+
+float_sizes : IsFair E.listview (M.listview (record { elements_len = 3; offset_ptype = P.U8; size_ptype = P.F16 })) → ⊥
+float_sizes f = not_false f.sizes

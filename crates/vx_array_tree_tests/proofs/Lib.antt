@@ -1,0 +1,6 @@
+pub mod Samples
+pub mod SampleRows
+pub mod SampleParts
+pub mod SampleMerges
+pub mod SoundSamples
+pub mod BrokenSamples

@@ -1,0 +1,98 @@
+-- The identifiers and the metadata of samples, the places of their children, and what is read back of them.
+use Rattle.std.specs.Prelude.{◌≡◌, ◌-◌, ◌^◌, [], ◌∷◌, ◌++◌, Some, None, false, true, codes, refl}
+use Rattle.vx_trees.specs.Rose.{node, end, more, label, below}
+use Rattle.vx_types.specs.Kind as K
+use Rattle.vx_types.specs.declared.decimal.DecimalType.TheVariants as D
+use Rattle.vx_types.specs.declared.nullability.Nullability.TheVariants.{Nullable, NonNullable}
+use Rattle.vx_types.specs.declared.ptype.PType.TheVariants as P
+use Rattle.vx_array_tree.specs.Canon.{canon}
+use Rattle.vx_array_tree.specs.Encoding as E
+use Rattle.vx_array_tree.specs.Metadata.{Metadata}
+use Rattle.vx_array_tree.specs.Metadata as M
+use Rattle.vx_array_tree.specs.Place.{place}
+use Rattle.vx_array_tree.specs.Sound.{metadata_in}
+use Rattle.vx_array_tree.specs.Table.{plan_of}
+use Rattle.vx_array_tree.specs.Tree.{Tree, encoding_ids}
+use Rattle.vx_array_tree_tests.proofs.Samples.{kind, number_type, text_type, list_of, fixed_type, entry_type, map_type, flags_from, numbers, sixteen, decimals, varbins, dictionary, lists, views, entries, maps, unions, days, lifted_values}
+
+-- ---- identifiers, in preorder
+
+map_ids : encoding_ids (maps entries)
+    ≡ codes "vortex.map" ∷ codes "vortex.listview" ∷ codes "vortex.struct" ∷ codes "vortex.primitive" ∷ codes "vortex.varbin" ∷ codes "vortex.primitive" ∷ codes "vortex.primitive"
+    ∷ codes "vortex.primitive" ∷ []
+map_ids = refl
+
+days_ids : encoding_ids days ≡ codes "vortex.ext" ∷ codes "vortex.primitive" ∷ []
+days_ids = refl
+
+-- ---- metadata
+
+abbrev told : Tree → Metadata
+told t = metadata_in (label t) (below t)
+
+flags_tell : told (flags_from 2) ≡ M.bool 2
+flags_tell = refl
+
+numbers_tell : told numbers ≡ M.empty
+numbers_tell = refl
+
+decimals_tell : told (decimals D.I128 (sixteen 100 0 ++ sixteen 244 1) 4 2) ≡ M.decimal D.I128
+decimals_tell = refl
+
+varbins_tell : told (varbins (0 ∷ 2 ∷ 2 ∷ 3 ∷ []) (codes "abc")) ≡ M.varbin P.I32
+varbins_tell = refl
+
+lists_tell : told (lists (0 ∷ 2 ∷ 2 ∷ 3 ∷ [])) ≡ M.list (record { elements_len = 3; offset_ptype = P.I32 })
+lists_tell = refl
+
+views_tell : told (views false NonNullable (1 ∷ 0 ∷ []) (2 ∷ 1 ∷ []) []) ≡ M.listview (record { elements_len = 3; offset_ptype = P.U8; size_ptype = P.U8 })
+views_tell = refl
+
+dictionary_tells : told (dictionary 1) ≡ M.dict (record { values_len = 3; codes_ptype = P.U8; nullable_codes = Nullable; all_values_referenced = false })
+dictionary_tells = refl
+
+-- ---- places
+
+-- Two lists of the size 3 have six elements.
+fixed_places : plan_of E.fixed_size_list (fixed_type 3) 2 M.empty 1 ≡ Some (place (number_type P.U16 NonNullable) 6 ∷ [])
+fixed_places = refl
+
+-- One offset more than a length can count.
+endless_list : plan_of E.list (list_of (number_type P.U16 NonNullable)) (2 ^ 64 - 1) (M.list (record { elements_len = 3; offset_ptype = P.I32 })) 2 ≡ None
+endless_list = refl
+
+-- A structure of one field has a child for it.
+field_missing : plan_of E.struct (node (K.structure (codes "a" ∷ []) NonNullable) (more (number_type P.U16 NonNullable) end)) 7 M.empty 0 ≡ None
+field_missing = refl
+
+-- No validity stands beside nulls, and but one beside numbers.
+nulls_alone : plan_of E.null (kind K.null) 3 M.empty 1 ≡ None
+nulls_alone = refl
+
+two_validities : plan_of E.primitive (number_type P.I32 Nullable) 4 M.empty 2 ≡ None
+two_validities = refl
+
+-- An encoding has no children of another's type, nor by another's metadata.
+other_type : plan_of E.primitive (text_type Nullable) 4 M.empty 0 ≡ None
+other_type = refl
+
+other_metadata : plan_of E.primitive (number_type P.I32 Nullable) 4 (M.bool 0) 0 ≡ None
+other_metadata = refl
+
+-- The entries of maps are lists of structures of a key and a value.
+map_places : plan_of E.map map_type 1 M.empty 1 ≡ Some (place (list_of entry_type) 1 ∷ [])
+map_places = refl
+
+-- ---- what is read back
+
+-- A list view loses its flag.
+flag_lost : canon (views true NonNullable (1 ∷ 0 ∷ []) (2 ∷ 1 ∷ []) []) ≡ views false NonNullable (1 ∷ 0 ∷ []) (2 ∷ 1 ∷ []) []
+flag_lost = refl
+
+-- A dictionary's values take its type, and so their own parts do where they go by it.
+values_take : canon (lifted_values NonNullable) ≡ lifted_values Nullable
+values_take = refl
+
+-- All else stays.
+unions_stay : canon (unions (0 ∷ 9 ∷ 5 ∷ [])) ≡ unions (0 ∷ 9 ∷ 5 ∷ [])
+unions_stay = refl

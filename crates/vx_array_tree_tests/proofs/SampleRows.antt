@@ -1,0 +1,128 @@
+-- The rows of each encoding's samples, and how many cells a row takes.
+use Rattle.std.specs.Prelude.{◌≡◌, List, [], ◌∷◌, ◌++◌, Some, None, false, true, codes, pos, negsuc, refl}
+use Rattle.vx_trees.specs.Rose.{node, end, more}
+use Rattle.vx_types.specs.Value as V
+use Rattle.vx_types.specs.Value.{Value, lone, variant_of}
+use Rattle.vx_types.specs.declared.decimal.DecimalType.TheVariants as D
+use Rattle.vx_types.specs.declared.nullability.Nullability.TheVariants.{Nullable, NonNullable}
+use Rattle.vx_types.specs.declared.ptype.PType.TheVariants as P
+use Rattle.vx_array_tree.specs.Encodings.VarBinViews as VarBinViews
+use Rattle.vx_array_tree.specs.Encodings.Variants as Variants
+use Rattle.vx_array_tree.specs.Rows.{Rows, no_rows}
+use Rattle.vx_array_tree.specs.Tree.{rows_of, row_at, valid_at, cells}
+use Rattle.vx_array_tree_tests.proofs.Samples.{buffer, number_type, first_rows, i32, u16, flag, null, tuple, utf8, nulls, flags, flags_from, numbers, sixteen, decimals, varbins, long_text, long_view, texts, dictionary, lists, views, fixed, entries, maps, empty_structs, structs, unions, days, lifted_values}
+
+nulls_are : first_rows 3 nulls ≡ null ∷ null ∷ null ∷ []
+nulls_are = refl
+
+flags_are : first_rows 4 (flags Nullable) ≡ flag true ∷ null ∷ flag false ∷ null ∷ []
+flags_are = refl
+
+-- 44 is 101100, read from its lowest bit; from an offset on, the first rows are later bits.
+offset_flags_are : first_rows 5 (flags_from 2) ≡ flag true ∷ flag true ∷ flag false ∷ flag true ∷ flag false ∷ []
+offset_flags_are = refl
+
+numbers_are : first_rows 4 numbers ≡ i32 1 ∷ null ∷ i32 3 ∷ null ∷ []
+numbers_are = refl
+
+numbers_stand : valid_at numbers 0 ≡ Some true
+numbers_stand = refl
+
+numbers_lack : valid_at numbers 1 ≡ Some false
+numbers_lack = refl
+
+decimals_are : first_rows 2 (decimals D.I128 (sixteen 100 0 ++ sixteen 244 1) 4 2) ≡ lone (V.decimal (V.i128 (pos 100))) ∷ lone (V.decimal (V.i128 (pos 500))) ∷ []
+decimals_are = refl
+
+-- Signed integers are in two's complement.
+negative_decimals_are : first_rows 2 (decimals D.I8 (255 ∷ 128 ∷ []) 0 2) ≡ lone (V.decimal (V.i8 (negsuc 0))) ∷ lone (V.decimal (V.i8 (negsuc 127))) ∷ []
+negative_decimals_are = refl
+
+varbins_are : first_rows 3 (varbins (0 ∷ 2 ∷ 2 ∷ 3 ∷ []) (codes "abc")) ≡ utf8 (codes "ab") ∷ utf8 [] ∷ utf8 (codes "c") ∷ []
+varbins_are = refl
+
+texts_are : first_rows 5 (texts 21 97) ≡ utf8 (codes "hello") ∷ null ∷ utf8 (codes "world") ∷ null ∷ utf8 long_text ∷ []
+texts_are = refl
+
+-- A text takes one cell and one for each byte.
+text_cells : cells (texts 21 97) 4 ≡ 37
+text_cells = refl
+
+-- A wrong prefix names no bytes, nor does a buffer that is missing or too short.
+wrong_prefix : VarBinViews.bytes_at (record { buffers = buffer long_text 0 ∷ []; views = buffer (long_view 98) 4 }) 0 ≡ None
+wrong_prefix = refl
+
+no_buffer : VarBinViews.bytes_at (record { buffers = []; views = buffer (long_view 97) 4 }) 0 ≡ None
+no_buffer = refl
+
+short_buffer : VarBinViews.bytes_at (record { buffers = buffer (codes "a moderately") 0 ∷ []; views = buffer (long_view 97) 4 }) 0 ≡ None
+short_buffer = refl
+
+lists_are : first_rows 3 (lists (0 ∷ 2 ∷ 2 ∷ 3 ∷ [])) ≡ tuple (u16 1 ∷ u16 2 ∷ []) ∷ tuple [] ∷ tuple (u16 3 ∷ []) ∷ []
+lists_are = refl
+
+-- A list takes one cell, and its elements' cells.
+list_cells : cells (lists (0 ∷ 2 ∷ 2 ∷ 3 ∷ [])) 0 ≡ 3
+list_cells = refl
+
+views_are : first_rows 2 (views false NonNullable (1 ∷ 0 ∷ []) (2 ∷ 1 ∷ []) []) ≡ tuple (i32 2 ∷ i32 3 ∷ []) ∷ tuple (i32 1 ∷ []) ∷ []
+views_are = refl
+
+fixed_are : first_rows 2 (fixed 3 2 (1 ∷ 2 ∷ 3 ∷ 4 ∷ 5 ∷ 6 ∷ [])) ≡ tuple (u16 1 ∷ u16 2 ∷ u16 3 ∷ []) ∷ tuple (u16 4 ∷ u16 5 ∷ u16 6 ∷ []) ∷ []
+fixed_are = refl
+
+-- Lists of the size 0 have rows, though no elements.
+empty_fixed_are : first_rows 5 (fixed 0 5 []) ≡ tuple [] ∷ tuple [] ∷ tuple [] ∷ tuple [] ∷ tuple [] ∷ []
+empty_fixed_are = refl
+
+map_is : row_at (maps entries) 0 ≡ tuple (tuple (i32 1 ∷ utf8 (codes "a") ∷ []) ∷ [])
+map_is = refl
+
+empty_structs_are : first_rows 2 empty_structs ≡ tuple [] ∷ tuple [] ∷ []
+empty_structs_are = refl
+
+structs_are : first_rows 2 structs ≡ tuple (u16 7 ∷ []) ∷ null ∷ []
+structs_are = refl
+
+unions_are : first_rows 3 (unions (0 ∷ 9 ∷ 5 ∷ [])) ≡ node (V.union 0) (more (i32 7) end) ∷ null ∷ node (V.union 5) (more (utf8 (codes "c")) end) ∷ []
+unions_are = refl
+
+union_cells : cells (unions (0 ∷ 9 ∷ 5 ∷ [])) 2 ≡ 3
+union_cells = refl
+
+days_are : first_rows 2 days ≡ i32 1 ∷ i32 2 ∷ []
+days_are = refl
+
+dictionary_is : first_rows 4 (dictionary 1) ≡ utf8 (codes "a") ∷ utf8 (codes "c") ∷ null ∷ utf8 (codes "b") ∷ []
+dictionary_is = refl
+
+lifted_are : first_rows 2 (lifted_values NonNullable) ≡ u16 3 ∷ null ∷ []
+lifted_are = refl
+
+-- ---- variants
+
+-- Rows of nulls and of a variant that is 5, as a core.
+abbrev core : Value → Rows
+core v = record { len = 2; valid = λ i. Some true; row = λ i. v; cells = λ i. 9 }
+
+abbrev two_rows : Rows → List Value
+two_rows r = r.row 0 ∷ r.row 1 ∷ []
+
+abbrev five : Value
+five = variant_of (number_type P.U16 NonNullable) (u16 5)
+
+-- Without a shredded child the rows are the core's.
+variants_are : two_rows (Variants.rows 2 None (core five ∷ [])) ≡ five ∷ five ∷ []
+variants_are = refl
+
+-- A shredded row that is there stands over the core's; where it is null, the core's row is left.
+shredded_are : two_rows (Variants.rows 2 (Some (number_type P.I32 Nullable)) (core five ∷ rows_of numbers ∷ [])) ≡ variant_of (number_type P.I32 Nullable) (i32 1) ∷ five ∷ []
+shredded_are = refl
+
+-- Over a core of which nothing is known.
+over_unknown : two_rows (Variants.rows 2 (Some (number_type P.I32 Nullable)) (no_rows ∷ rows_of numbers ∷ [])) ≡ variant_of (number_type P.I32 Nullable) (i32 1) ∷ lone V.opaque ∷ []
+over_unknown = refl
+
+-- The greatest of its own cells, the core's and the shredded row's.
+shredded_cells : (Variants.rows 2 (Some (number_type P.I32 Nullable)) (core five ∷ rows_of numbers ∷ [])).cells 0 ≡ 9
+shredded_cells = refl

@@ -1,0 +1,9 @@
+//! Tests of the definitions of arrays: each lemma is a row of a table, which the definitions compute.
+//!
+//! - `proofs::Samples`: arrays of each encoding;
+//! - `proofs::SampleRows`: their rows, and how many cells a row takes;
+//! - `proofs::SampleParts`: their metadata, the places of their children, and what is read back of them;
+//! - `proofs::SoundSamples`: that they are sound;
+//! - `proofs::BrokenSamples`: that each array which breaks one rule is not;
+//! - `proofs::SampleMerges`: typed values over variants.
+#![tactic(auto)]

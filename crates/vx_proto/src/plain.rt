@@ -1,0 +1,159 @@
+//! Messages as their plain values: a message type for each schema, at no cost.
+
+ghost use Rattle.std.specs.Prelude.{◌≡◌, ◌<◌, ℕ, length, IfOk, IsOkUnless, IsTrue, MatchOption};
+ghost use Rattle.vx_proto.specs.Schema.{Schema, schema_view};
+ghost use Rattle.vx_proto.specs.Value.{Value, value_view};
+ghost use Rattle.vx_proto.specs.Reads.{default_value};
+ghost use Rattle.vx_proto.specs.Form.{HasForm};
+ghost use Rattle.vx_proto.specs.Lawful.{is_lawful};
+
+use crate::blob::Blob;
+use crate::copying::copied_slots;
+use crate::element::Entries;
+use crate::error::ProtoError;
+use crate::message::{Message, encoded};
+use crate::reading::message_of;
+use crate::schema::Schema as Lists;
+use std::alloc::Global;
+use std::marker::{Model, PhantomData};
+
+/// Which message a plain one is: a lawful schema, and a place there.
+pub trait MessageKind {
+    /// The messages of the schema, each as its list of slots.
+    ghost schema: { Schema };
+
+    /// Which of them it is.
+    ghost place: { ℕ };
+
+    /// The schema.
+    fn lists() -> Lists
+        ensures { schema_view result ≡ schema };
+
+    /// The place of the message among the schema's.
+    fn place_of() -> u32
+        ensures { result ≡ place };
+
+    /// The schema is lawful: a test, which `refl` proves of a schema that is written out.
+    ghost lawful: { IsTrue (is_lawful schema) };
+
+    /// The message is one of the schema's: a test as well.
+    ghost placed: { place < length schema };
+}
+
+/// A message of a kind. Contracts see its plain value, which has the form of the schema: of each
+/// plain slot one member, of a oneof at most one, each in its range.
+#[derive(Debug, Drop)]
+pub struct PlainMessage<K: MessageKind> {
+    // None where each slot is at its default.
+    slots: Option<Vec<Entries>>,
+    kind: PhantomData<K>,
+}
+
+impl<K: MessageKind> Model for PlainMessage<K> {
+    ghost use Rattle.vx_proto.specs.Value.{Value as PlainValue};
+    ghost use Rattle.vx_proto.specs.Reads.{default_value};
+    ghost use Rattle.vx_proto.specs.Form.{HasForm};
+    ghost use Rattle.vx_proto.specs.Codes.{value_code};
+    ghost use Rattle.vx_proto.specs.Plain.{plain_value};
+
+    ghost Value = { PlainValue };
+
+    ghost coded = { value_code };
+
+    ghost view = { λ m. plain_value (default_value K.schema K.place) m.slots };
+
+    ghost invariant = { λ m. HasForm K.schema K.place (plain_value (default_value K.schema K.place) m.slots) };
+}
+
+impl<K: MessageKind> PlainMessage<K> {
+    /// The message of a plain value that has the form.
+    pub fn new(slots: Vec<Entries>) -> PlainMessage<K>
+        requires { HasForm K.schema K.place (value_view slots.items) }
+        ensures { result ≡ value_view slots.items }
+    {
+        PlainMessage {
+            slots: Some(slots),
+            kind: PhantomData,
+        }
+    }
+
+    /// The plain value; None where each slot is at its default.
+    pub fn slots(&self) -> Option<&[Entries]>
+        ensures { MatchOption result (self.now ≡ default_value K.schema K.place) (λ v. value_view v.now ≡ self.now) }
+    {
+        match &self.slots {
+            Some(slots) => Some(slots.as_slice()),
+            None => None,
+        }
+    }
+
+    /// What is known of each message of the kind: it has the form. Nothing runs; a caller gets the
+    /// fact.
+    pub fn hold(&self)
+        ensures { HasForm K.schema K.place self.now }
+    {
+        let _ = &self.slots;
+    }
+}
+
+/// The plain value of a message without fields.
+fn default_slots(alloc: Global, schema: Lists, place: u32) -> Result<Vec<Entries>, ProtoError>
+    ensures same { IfOk result (λ v. value_view v.items ≡ default_value (schema_view schema) place) }
+    ensures err { IsOkUnless result ProtoError.OutOfMemory }
+{
+    message_of(alloc, schema, 100, place, &[])
+}
+
+impl<K: MessageKind> Message for PlainMessage<K> {
+    ghost schema = { K.schema };
+
+    ghost place = { K.place };
+
+    ghost value = { λ m. m };
+
+    fn lists() -> Lists {
+        K::lists()
+    }
+
+    fn place_of() -> u32 {
+        K::place_of()
+    }
+
+    #[tactic(auto, using(crate::proofs::LawsOfMessages::default_formed))]
+    fn default(_alloc: Global) -> PlainMessage<K> {
+        PlainMessage {
+            slots: None,
+            kind: PhantomData,
+        }
+    }
+
+    fn from_value(_alloc: Global, slots: Vec<Entries>) -> Result<PlainMessage<K>, ProtoError> {
+        Ok(PlainMessage::new(slots))
+    }
+
+    fn to_value(&self, alloc: Global) -> Result<Vec<Entries>, ProtoError> {
+        self.hold();
+        match self.slots() {
+            Some(slots) => copied_slots(alloc, slots),
+            None => default_slots(alloc, K::lists(), K::place_of()),
+        }
+    }
+
+    // The slots are at hand, so they are not copied first.
+    fn encode_value(&self, alloc: Global) -> Result<Blob, ProtoError> {
+        self.hold();
+        match self.slots() {
+            Some(slots) => encoded(alloc, K::lists(), K::place_of(), slots),
+            None => {
+                let slots = default_slots(alloc, K::lists(), K::place_of())?;
+                encoded(alloc, K::lists(), K::place_of(), &slots)
+            }
+        }
+    }
+
+    ghost lawful = { K.lawful };
+
+    ghost placed = { K.placed };
+
+    ghost determined = { λ m n p q e. e };
+}

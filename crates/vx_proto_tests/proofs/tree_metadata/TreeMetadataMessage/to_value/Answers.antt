@@ -1,0 +1,22 @@
+use Rattle.std.proofs.Common.{List, ◌∷◌, [], ap, sym, subst, ◌∙◌}
+use Rattle.vx_proto.specs.Form.{HasForm}
+use Rattle.vx_proto.specs.Value.{Content, Entry, value_view}
+use Rattle.vx_proto.proofs.LawsOfParts.{IfStands, whole_form}
+use Rattle.vx_proto.proofs.LawsOfRepeated.{shows_message}
+use Rattle.vx_proto_tests.specs.Samples.{trees}
+use Rattle.vx_proto_tests.specs.TreeMetadata.{tree_metadata_lists, tree_metadata_value, tree_metadata_parts}
+use Rattle.vx_proto_tests.proofs.tree_metadata.TreeMetadataMessage.to_value.Goals as goal
+
+pub returns-in_ok-vec-in-Some-clause-same : goal.returns-in_ok-vec-in-Some-clause-same
+returns-in_ok-vec-in-Some-clause-same c =
+    ap value_view c.in_ok-vec-in-Some.ensures.items
+    ∙ ap (λ (es : List Entry). es ∷ []) (c.in_ok-entries-in-Some.ensures.same ∙ ap (λ (e : Content). (1, e) ∷ []) (shows_message c.in_ok-inner-in-Some.inner _ c.in_ok-inner-in-Some.ensures.same))
+    ∙ sym (ap tree_metadata_value c.in-Some.is)
+
+pub returns-in_ok-vec-in-Some-clause-form : goal.returns-in_ok-vec-in-Some-clause-form
+returns-in_ok-vec-in-Some-clause-form c =
+    whole_form tree_metadata_lists 1 tree_metadata_parts (c.args.self.now.tree, tt) (subst (IfStands (HasForm trees 0)) (sym c.in-Some.is) c.hold.ensures, tt)
+
+pub returns-in_ok-vec-in-None-clause-form : goal.returns-in_ok-vec-in-None-clause-form
+returns-in_ok-vec-in-None-clause-form c =
+    whole_form tree_metadata_lists 1 tree_metadata_parts (c.args.self.now.tree, tt) (subst (IfStands (HasForm trees 0)) (sym c.in-None.is) tt, tt)

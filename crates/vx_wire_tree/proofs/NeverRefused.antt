@@ -1,0 +1,269 @@
+-- Where a wire tree tells an array, no refusal has its cause.
+use Rattle.std.proofs.Common.{ℕ, zero, suc, ◌≡◌, inl, inr, List, [], ◌∷◌, Option, Some, None, refl, sym, ap, ◌∙◌, subst, slice_get}
+use Rattle.std.proofs.lemmas.Option.{same_Some}
+use Rattle.vx_buffer.specs.Buffer.{Buffer}
+use Rattle.vx_trees.specs.Rose.{Rose, Roses, node, end, more, label, below, count, roses_list}
+use Rattle.vx_trees.specs.Everywhere.{Everywhere, EverywhereBelow}
+use Rattle.vx_types.specs.Typ.{Typ}
+use Rattle.vx_array_tree.specs.Body.{Body}
+use Rattle.vx_array_tree.specs.Encoding.{Encoding}
+use Rattle.vx_array_tree.specs.Metadata.{Metadata}
+use Rattle.vx_array_tree.specs.Normal.{IsNormal, IsNormalNode}
+use Rattle.vx_array_tree.specs.Place.{Place, place}
+use Rattle.vx_array_tree.specs.Sound.{IsSound, IsSoundNode, metadata_in}
+use Rattle.vx_array_tree.specs.Table.{encoding_of, buffers_of, body_of, plan_of, Allows, IsShaped, Takes, Content}
+use Rattle.vx_array_tree.specs.Tree.{Head, Tree, Trees, places, encodings, rows_below}
+use Rattle.vx_array_tree.proofs.NodeLaws.{planned_places, own_body}
+use Rattle.vx_wire_tree.specs.Causes.{LacksId, LacksBuffer, IsOf, IsUnregistered, HasBadMetadata, MayStandFor, AreOf, IsBroken, HasBadShape, HasChildren, HasBadContent, Refusal, out_of_bounds, unknown_index, unknown_encoding, bad_metadata, bad_shape, bad_content, RefusesTree}
+use Rattle.vx_wire_tree.specs.Codec.{Codec, IsLawful}
+use Rattle.vx_wire_tree.specs.Matches.{IsEncodedNode, IsNodeBy, Matches, AllMatch}
+use Rattle.vx_wire_tree.specs.Placed.{IsPlannedBy, HasPlan, IsChild, Claim, HoldsAt, HoldsUnder}
+use Rattle.vx_wire_tree.specs.Reads.{IsMetadata}
+use Rattle.vx_wire_tree.specs.Session.{SessionMeaning, Reader, shipped, IsShippedReader, IsShipped}
+use Rattle.vx_wire_tree.specs.Steps.{PlansChildren}
+use Rattle.vx_wire_tree.specs.Tells.{Tells}
+use Rattle.vx_wire_tree.specs.Wire.{WireHead, Wire, Wires, all_present, IsWholeNode, IsWhole}
+use Rattle.vx_wire_tree.proofs.Unique.{all_present_inj, all_count, one_metadata, one_tree_each}
+
+-- ---- nothing is missing
+
+none_some : {A : Type 0} {x : A} → None ≡ Some x → ⊥
+none_some e = cc
+
+all_there : (bs : List Buffer) (i : ℕ) → slice_get (all_present bs) i ≡ Some None → ⊥
+all_there [] i e = absurd (cc)
+all_there (b ∷ bs) zero e = absurd (cc)
+all_there (b ∷ bs) (suc i) e = all_there bs i e
+
+has_id : (w : Wire) → IsWholeNode (label w) (below w) → LacksId w → ⊥
+has_id w x l = none_some (sym l ∙ x.id_is)
+
+has_buffers : (w : Wire) → IsWholeNode (label w) (below w) → LacksBuffer w → ⊥
+has_buffers w x l = all_there x.buffers l.0 (ap (λ bs. slice_get bs l.0) (sym x.buffers_are) ∙ l.1)
+
+-- ---- facts of each node hold of the one on a path
+
+everywhere_here : {L : Type 0} (F : L → Roses L → Type 0) (t : Rose L) → Everywhere F t → F (label t) (below t)
+everywhere_here F (node l ts) a = a.0
+
+everywhere_below : {L : Type 0} (F : L → Roses L → Type 0) (t : Rose L) → Everywhere F t → EverywhereBelow F (below t)
+everywhere_below F (node l ts) a = a.1
+
+below_get : {L : Type 0} (F : L → Roses L → Type 0) (ts : Roses L) (i : ℕ) (u : Rose L) → EverywhereBelow F ts → slice_get (roses_list ts) i ≡ Some u → Everywhere F u
+below_get F end i u a e = absurd (cc)
+below_get F (more t ts) zero u a e = let q : t ≡ u = cc in subst (λ z. Everywhere F z) q a.0
+below_get F (more t ts) (suc i) u a e = below_get F ts i u a.1 e
+
+never_under : {L : Type 0} (F : L → Roses L → Type 0) (P : Rose L → Type 0) → ((t : Rose L) → F (label t) (below t) → P t → ⊥)
+    → (path : List ℕ) (t : Rose L) → Everywhere F t → HoldsUnder P path t → ⊥
+never_under F P never [] t a h = never t (everywhere_here F t a) h
+never_under F P never (i ∷ path) t a h = never_under F P never path h.0 (below_get F (below t) i h.0 (everywhere_below F t a) h.1) h.2
+
+-- What stands in a list of which nothing is missing may stand for it.
+may_stand : (os : List (Option Buffer)) (bs : List Buffer) → os ≡ all_present bs → MayStandFor os bs
+may_stand [] [] e = refl
+may_stand [] (b ∷ bs) e = absurd (cc)
+may_stand (o ∷ os) [] e = absurd (cc)
+may_stand (Some x ∷ os) (b ∷ bs) e = let p : b ≡ x = cc in let q : os ≡ all_present bs = cc in (p, may_stand os bs q)
+may_stand (None ∷ os) (b ∷ bs) e = let p : None ≡ Some b = cc in absurd (none_some p)
+
+module _ (c : Codec) (s : SessionMeaning) where
+  -- ---- what is told, node by node
+
+  -- A matched node is read by an encoding, and is of it.
+  pub record IsEncodedBy (e : Encoding) (w : Wire) (t : Tree) : Type 0 where
+    pub by : IsOf s w e
+    pub told : IsEncodedNode c s e (label w) t (λ us. AllMatch c s (below w) us)
+
+  told_by : (r : Option Reader) → IsShippedReader r → (id : List ℕ) (w : WireHead) (ws : Wires) (t : Tree) → w.id ≡ Some id → s.reader id ≡ r
+      → IsNodeBy c s r w t (λ us. AllMatch c s ws us) → (e : Encoding) × IsEncodedBy e (node w ws) t
+  told_by None ok id w ws t i r m = absurd m
+  told_by (Some (shipped e)) ok id w ws t i r m = (e, record { by = record { id = id; id_is = i; reader_is = r }; told = m })
+
+  -- Two readings of one node are by one encoding.
+  same_reader : (o : Option (List ℕ)) (i j : List ℕ) (r q : Option Reader) → o ≡ Some i → o ≡ Some j → s.reader i ≡ r → s.reader j ≡ q → r ≡ q
+  same_reader o i j r q a b x y = cc
+
+  same_encoding : (w : Wire) (e f : Encoding) → IsOf s w e → IsOf s w f → e ≡ f
+  same_encoding w e f a b = let q = same_reader (label w).id a.id b.id (Some (shipped e)) (Some (shipped f)) a.id_is b.id_is a.reader_is b.reader_is in cc
+
+  module _ (ok : IsShipped s) where
+    pub node_told : (w : Wire) (t : Tree) → Matches c s w t → (e : Encoding) × IsEncodedBy e w t
+    node_told (node w ws) t m = told_by (s.reader m.0) (ok.reads m.0) m.0 w ws t m.1 refl m.2
+
+    -- A told node that is read by an encoding is of it.
+    pub encoded_told : (w : Wire) (t : Tree) (e : Encoding) → Matches c s w t → IsOf s w e → IsEncodedBy e w t
+    encoded_told w t e m b =
+        let x = node_told w t m in
+        subst (λ (z : Encoding). IsEncodedBy z w t) (same_encoding w x.0 e x.1.by b) x.1
+
+    whole_node : (w : Wire) (t : Tree) → (e : Encoding) × IsEncodedBy e w t → IsWholeNode (label w) (below w)
+    whole_node w t x = record { id = x.1.by.id; id_is = x.1.by.id_is; buffers = buffers_of (label t).body; buffers_are = x.1.told.buffers }
+
+    mutual
+      -- Nothing is missing in what tells an array.
+      pub whole : (w : Wire) (t : Tree) → Matches c s w t → IsWhole w
+      whole (node w ws) t m =
+          let x = node_told (node w ws) t m in
+          (whole_node (node w ws) t x, whole_each ws (below t) x.1.told.children)
+
+      whole_each : (ws : Wires) (ts : Trees) → AllMatch c s ws ts → EverywhereBelow IsWholeNode ws
+      whole_each end ts m = tt
+      whole_each (more w ws) end m = absurd m
+      whole_each (more w ws) (more t ts) m = (whole w t m.0, whole_each ws ts m.1)
+
+    -- A child of what is told, with the array that it tells.
+    pub record ChildTold (ts : Trees) (i : ℕ) (u : Wire) : Type 0 where
+      pub told : Tree
+      pub matched : Matches c s u told
+      pub child : slice_get (roses_list ts) i ≡ Some told
+      pub place_is : slice_get (places ts) i ≡ Some (place (label told).dtype (label told).len)
+
+    child_told : (ws : Wires) (ts : Trees) (i : ℕ) (u : Wire) → AllMatch c s ws ts → slice_get (roses_list ws) i ≡ Some u → ChildTold ts i u
+    child_told end ts i u m e = absurd (cc)
+    child_told (more w ws) end i u m e = absurd m
+    child_told (more w ws) (more t ts) zero u m e = let q : w ≡ u = cc in record { told = t; matched = subst (λ z. Matches c s z t) q m.0; child = refl; place_is = refl }
+    child_told (more w ws) (more t ts) (suc i) u m e = let x = child_told ws ts i u m.1 e in record { told = x.told; matched = x.matched; child = x.child; place_is = x.place_is }
+
+    -- The children of what is told are of the encodings that read them.
+    encodings_told : (ws : Wires) (ts : Trees) (es : List Encoding) → AllMatch c s ws ts → AreOf s ws es → encodings ts ≡ es
+    encodings_told end ts es m a = ap (λ us. encodings us) m ∙ sym a
+    encodings_told (more w ws) end es m a = absurd m
+    encodings_told (more w ws) (more t ts) [] m a = absurd a
+    encodings_told (more w ws) (more t ts) (e ∷ es) m a =
+        let x : encoding_of (label t).body ≡ e = (encoded_told w t e m.0 a.0).told.encoding in
+        let y = encodings_told ws ts es m.1 a.1 in
+        λ i. x i ∷ y i
+
+    module _ (law : IsLawful c s) where
+      -- ---- what a told node is read as
+
+      value_is : (e : Encoding) (w : Wire) (h : Head) (ts : Trees) (v : Metadata) → IsEncodedBy e w (node h ts) → IsMetadata c s.ext e h.dtype (label w).metadata v → v ≡ metadata_in h ts
+      value_is e w h ts v x m = one_metadata c s e (law x.by.id e x.by.reader_is) h.dtype h.dtype (label w).metadata v (metadata_in h ts) refl m x.told.metadata
+
+      plan_is : (e : Encoding) (w : Wire) (h : Head) (ts : Trees) (v : Metadata) → IsEncodedBy e w (node h ts) → IsSoundNode h ts → IsNormalNode h ts → IsMetadata c s.ext e h.dtype (label w).metadata v
+          → plan_of e h.dtype h.len v (count (below w)) ≡ Some (places ts)
+      plan_is e w h ts v x y n m =
+          let q = value_is e w h ts v x m in
+          let k = all_count c s (below w) ts x.told.children in
+          (λ i. plan_of (sym x.told.encoding i) h.dtype h.len (q i) (sym k i)) ∙ planned_places h ts y n
+
+      planned_by : (r : Option Reader) → IsShippedReader r → (id : List ℕ) (w : Wire) (d : Typ) (n : ℕ) (ps : List Place) → (label w).id ≡ Some id → s.reader id ≡ r → IsPlannedBy c s r w d n ps
+          → (e : Encoding) × IsOf s w e × PlansChildren c s.ext e d n (label w).metadata (count (below w)) ps
+      planned_by None q id w d n ps i r p = absurd p
+      planned_by (Some (shipped e)) q id w d n ps i r p = (e, record { id = id; id_is = i; reader_is = r }, p)
+
+      -- What is planned of a told node are its children's places.
+      plan_told : (w : Wire) (h : Head) (ts : Trees) (ps : List Place) (x : (e : Encoding) × IsEncodedBy e w (node h ts)) → IsSoundNode h ts → IsNormalNode h ts → HasPlan c s w h.dtype h.len ps → ps ≡ places ts
+      plan_told w h ts ps x y n p =
+          let z = planned_by (s.reader p.id) (ok.reads p.id) p.id w h.dtype h.len ps p.id_is refl p.planned in
+          let q = same_encoding w z.0 x.0 z.1 x.1.by in
+          let P : Encoding → Type 0 = λ e. PlansChildren c s.ext e h.dtype h.len (label w).metadata (count (below w)) ps in
+          let a = subst P q z.2 in
+          same_Some ps (places ts) (sym a.plan ∙ plan_is x.0 w h ts a.value x.1 y n a.metadata)
+
+      -- ---- the placed nodes of what is told are told at their places
+
+      -- A placed child, with the array that it tells.
+      pub record ChildTells (t : Tree) (i : ℕ) (v : Wire) (p : Place) : Type 0 where
+        pub array : Tree
+        pub tells : Tells c s v p.dtype p.len array
+        pub child : slice_get (roses_list (below t)) i ≡ Some array
+
+      child_at : (w : Wire) (h : Head) (ts : Trees) (i : ℕ) (v : Wire) (p : Place) → (e : Encoding) × IsEncodedBy e w (node h ts) → IsSound (node h ts) → IsNormal (node h ts)
+          → IsChild c s w h.dtype h.len i v p → ChildTells (node h ts) i v p
+      child_at w h ts i v p x y n k =
+          let ps = plan_told w h ts k.places x y.0 n.0 k.planned in
+          let z = child_told (below w) ts i v x.1.told.children k.child in
+          let q : place (label z.told).dtype (label z.told).len ≡ p = same_Some _ p (sym z.place_is ∙ ap (λ qs. slice_get qs i) (sym ps) ∙ k.place) in
+          record {
+            array = z.told;
+            tells = record {
+              matched = z.matched;
+              dtype = ap (λ a. a.dtype) q;
+              len = ap (λ a. a.len) q;
+              sound = below_get IsSoundNode ts i z.told y.1 z.child;
+              normal = below_get IsNormalNode ts i z.told n.1 z.child;
+            };
+            child = z.child;
+          }
+
+      -- The child of what is told tells its array.
+      pub child_tells : (w : Wire) (d : Typ) (n : ℕ) (t : Tree) (i : ℕ) (v : Wire) (p : Place) → Tells c s w d n t → IsChild c s w d n i v p → ChildTells t i v p
+      child_tells w d n (node h ts) i v p x k =
+          child_at w h ts i v p (node_told w (node h ts) x.matched) x.sound x.normal (subst (λ z. IsChild c s w z h.len i v p) (sym x.dtype) (subst (λ z. IsChild c s w d z i v p) (sym x.len) k))
+
+      -- A claim that never holds of what is told does not hold of a placed node below it.
+      pub never_somewhere : (P : Claim) → ((w : Wire) (d : Typ) (n : ℕ) (t : Tree) → Tells c s w d n t → P w d n → ⊥)
+          → (path : List ℕ) (w : Wire) (d : Typ) (n : ℕ) (t : Tree) → Tells c s w d n t → HoldsAt c s P path w d n → ⊥
+      never_somewhere P never [] w d n t x h = never w d n t x h
+      never_somewhere P never (i ∷ path) w d n t x h =
+          let y = child_tells w d n t i h.0 h.1 x h.2 in
+          never_somewhere P never path h.0 h.1.dtype h.1.len y.array y.tells h.3
+
+      -- ---- the causes, one by one
+
+      not_unregistered : (w : Wire) (d : Typ) (n : ℕ) (t : Tree) → Tells c s w d n t → IsUnregistered s w d n → ⊥
+      not_unregistered w d n t x b =
+          let y = node_told w t x.matched in
+          none_some (same_reader (label w).id b.id y.1.by.id None (Some (shipped y.0)) b.id_is y.1.by.id_is b.reader_is y.1.by.reader_is)
+
+      metadata_told : (w : Wire) (d : Typ) (n : ℕ) (t : Tree) → Tells c s w d n t → HasBadMetadata c s w d n → ⊥
+      metadata_told w d n t x y =
+          let z = encoded_told w t y.encoding x.matched y.by in
+          y.none (metadata_in (label t) (below t)) (subst (λ k. IsMetadata c s.ext y.encoding k (label w).metadata (metadata_in (label t) (below t))) x.dtype z.told.metadata)
+
+      -- The parts of a told node are of its encoding's shape.
+      shaped_told : (e : Encoding) (w : Wire) (h : Head) (ts : Trees) (v : Metadata) → IsEncodedBy e w (node h ts) → IsSoundNode h ts → IsNormalNode h ts → v ≡ metadata_in h ts
+          → IsShaped e h.dtype h.len v (buffers_of h.body) (count (below w))
+      shaped_told e w h ts v x y n q =
+          let k = all_count c s (below w) ts x.told.children in
+          record {
+            body = h.body;
+            body_is = (λ i. body_of (sym x.told.encoding i) (q i) (buffers_of h.body)) ∙ own_body h ts n;
+            holds = y.holds;
+            allows =
+                subst (λ (f : Encoding). Allows f h.dtype v (count (below w))) x.told.encoding
+                (subst (λ (z : Metadata). Allows (encoding_of h.body) h.dtype z (count (below w))) (sym q)
+                (subst (λ (z : ℕ). Allows (encoding_of h.body) h.dtype (metadata_in h ts) z) k y.allows));
+          }
+
+      broken_told : (e : Encoding) (v : Metadata) (w : Wire) (h : Head) (ts : Trees) → IsEncodedBy e w (node h ts) → IsSoundNode h ts → IsNormalNode h ts → IsMetadata c s.ext e h.dtype (label w).metadata v
+          → IsBroken s e v w h.dtype h.len → ⊥
+      broken_told e v w h ts x y n m (inl k) = none_some (sym k ∙ plan_is e w h ts v x y n m)
+      broken_told e v w h ts x y n m (inr (inl k)) =
+          k (buffers_of h.body) (may_stand (label w).buffers (buffers_of h.body) x.told.buffers) (shaped_told e w h ts v x y n (value_is e w h ts v x m))
+      broken_told e v w h ts x y n m (inr (inr k)) =
+          let q = encodings_told (below w) ts k.0 x.told.children k.1 in
+          k.2 (subst (λ es. Takes e es) q (subst (λ (f : Encoding). Takes f (encodings ts)) x.told.encoding y.takes))
+
+      shape_at : (w : Wire) (h : Head) (ts : Trees) → Matches c s w (node h ts) → IsSound (node h ts) → IsNormal (node h ts) → HasBadShape c s w h.dtype h.len → ⊥
+      shape_at w h ts m y n k = broken_told k.encoding k.value w h ts (encoded_told w (node h ts) k.encoding m k.by) y.0 n.0 k.metadata k.broken
+
+      -- Children that match sound and normal arrays at the planned places are the told array's.
+      children_told : (w : Wire) (ts us : Trees) (ps : List Place) → AllMatch c s (below w) ts → EverywhereBelow IsSoundNode ts → EverywhereBelow IsNormalNode ts → HasChildren c s w ps us → ps ≡ places ts → us ≡ ts
+      children_told w ts us ps m y n k q = one_tree_each c s law ok (below w) us ts k.matched m k.sound y k.normal n (k.placed ∙ q)
+
+      content_at : (w : Wire) (h : Head) (ts : Trees) → Matches c s w (node h ts) → IsSound (node h ts) → IsNormal (node h ts) → HasBadContent c s w h.dtype h.len → ⊥
+      content_at w h ts m y n k =
+          let x = encoded_told w (node h ts) k.encoding m k.by in
+          let q = value_is k.encoding w h ts k.value x k.metadata in
+          let p = same_Some k.places_are (places ts) (sym k.plan ∙ plan_is k.encoding w h ts k.value x y.0 n.0 k.metadata) in
+          let r = children_told w ts k.children k.places_are x.told.children y.1 n.1 k.matched p in
+          let bs : k.buffers ≡ buffers_of h.body = all_present_inj k.buffers (buffers_of h.body) (sym k.buffers_are ∙ x.told.buffers) in
+          let b : k.shaped.body ≡ h.body = same_Some k.shaped.body h.body (sym k.shaped.body_is ∙ (λ i. body_of (sym x.told.encoding i) (q i) (bs i)) ∙ own_body h ts n.0) in
+          k.broken (subst (λ (z : Body). Content h.dtype h.len z (rows_below k.children)) (sym b) (subst (λ (z : Trees). Content h.dtype h.len h.body (rows_below z)) (sym r) y.0.content))
+
+      -- ---- all causes
+
+      at_own : (P : Claim) → ((w : Wire) (h : Head) (ts : Trees) → Matches c s w (node h ts) → IsSound (node h ts) → IsNormal (node h ts) → P w h.dtype h.len → ⊥)
+          → (w : Wire) (d : Typ) (n : ℕ) (t : Tree) → Tells c s w d n t → P w d n → ⊥
+      at_own P never w d n (node h ts) x k = never w h ts x.matched x.sound x.normal (subst (λ z. P w z h.len) (sym x.dtype) (subst (λ z. P w d z) (sym x.len) k))
+
+      pub never_refused : (r : Refusal) (w : Wire) (d : Typ) (n : ℕ) (t : Tree) → Tells c s w d n t → RefusesTree r c s w d n → ⊥
+      never_refused out_of_bounds w d n t x k = never_under IsWholeNode LacksBuffer has_buffers k.0 w (whole w t x.matched) k.1
+      never_refused unknown_index w d n t x k = never_under IsWholeNode LacksId has_id k.0 w (whole w t x.matched) k.1
+      never_refused unknown_encoding w d n t x k = never_somewhere (IsUnregistered s) not_unregistered k.0 w d n t x k.1
+      never_refused bad_metadata w d n t x k = never_somewhere (HasBadMetadata c s) metadata_told k.0 w d n t x k.1
+      never_refused bad_shape w d n t x k = never_somewhere (HasBadShape c s) (at_own (HasBadShape c s) shape_at) k.0 w d n t x k.1
+      never_refused bad_content w d n t x k = never_somewhere (HasBadContent c s) (at_own (HasBadContent c s) content_at) k.0 w d n t x k.1

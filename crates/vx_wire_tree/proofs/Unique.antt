@@ -1,0 +1,100 @@
+-- A wire tree tells at most one sound and normal array of a type and a length.
+use Rattle.std.proofs.Common.{ℕ, suc, ◌≡◌, List, [], ◌∷◌, Option, Some, None, refl, sym, ap, ◌∙◌, subst}
+use Rattle.vx_trees.specs.Rose.{node, end, more, label, count}
+use Rattle.vx_trees.specs.Everywhere.{EverywhereBelow}
+use Rattle.vx_types.specs.Typ.{Typ}
+use Rattle.vx_array_tree.specs.Encoding.{Encoding}
+use Rattle.vx_array_tree.specs.Metadata.{Metadata}
+use Rattle.vx_array_tree.specs.Normal.{IsNormal, IsNormalNode}
+use Rattle.vx_array_tree.specs.Place.{place}
+use Rattle.vx_array_tree.specs.Sound.{IsSound, IsSoundNode, metadata_in}
+use Rattle.vx_array_tree.specs.Table.{buffers_of}
+use Rattle.vx_array_tree.specs.Tree.{Head, Tree, Trees, places}
+use Rattle.vx_array_tree.proofs.NodeLaws.{IsSameNode, same_head, same_places}
+use Rattle.vx_wire_tree.specs.Codec.{Codec, IsLawful, IsLawfulAt}
+use Rattle.vx_wire_tree.specs.Fields.{meant}
+use Rattle.vx_wire_tree.specs.Matches.{IsEncodedNode, IsNodeBy, Matches, AllMatch}
+use Rattle.vx_wire_tree.specs.Reads.{IsMetadata}
+use Rattle.vx_wire_tree.specs.Session.{SessionMeaning, Reader, shipped, IsShippedReader, IsShipped}
+use Rattle.vx_wire_tree.specs.Wire.{WireHead, Wire, Wires, all_present}
+
+-- A list of which nothing is missing is given back by what stands in it.
+pub all_present_inj : {A : Type 0} (xs ys : List A) → all_present xs ≡ all_present ys → xs ≡ ys
+all_present_inj [] [] e = refl
+all_present_inj [] (y ∷ ys) e = absurd (cc)
+all_present_inj (x ∷ xs) [] e = absurd (cc)
+all_present_inj (x ∷ xs) (y ∷ ys) e =
+    let a : x ≡ y = cc in
+    let b : all_present xs ≡ all_present ys = cc in
+    λ i. a i ∷ all_present_inj xs ys b i
+
+-- The first of equal lists of places.
+same_place : (t u : Tree) (ts us : Trees) → places (more t ts) ≡ places (more u us)
+    → ((label t).dtype ≡ (label u).dtype) × ((label t).len ≡ (label u).len) × (places ts ≡ places us)
+same_place t u ts us e =
+    let p : place (label t).dtype (label t).len ≡ place (label u).dtype (label u).len = cc in
+    let r : places ts ≡ places us = cc in
+    (ap (λ z. z.dtype) p, ap (λ z. z.len) p, r)
+
+module _ (c : Codec) (s : SessionMeaning) where
+  -- As many arrays match as there are wire trees.
+  pub all_count : (ws : Wires) (ts : Trees) → AllMatch c s ws ts → count ts ≡ count ws
+  all_count end ts m = ap (λ z. count z) m
+  all_count (more w ws) end m = absurd m
+  all_count (more w ws) (more t ts) m = ap (λ n. suc n) (all_count ws ts m.1)
+
+  -- Bytes are one metadata at most, at a type.
+  pub one_metadata : (e : Encoding) → IsLawfulAt c e → (d f : Typ) (bytes : List ℕ) (v u : Metadata) → d ≡ f → IsMetadata c s.ext e d bytes v → IsMetadata c s.ext e f bytes u → v ≡ u
+  one_metadata e law d f bytes v u p a b =
+      let x = law.one_message bytes a.fields b.fields a.shown b.shown in
+      sym a.meaning ∙ (λ i. meant (p i) (x i)) ∙ b.meaning
+
+  -- Two nodes of one encoding that match one wire node are equal, if their children are wherever they stand
+  -- at equal places.
+  encoded_unique : (e : Encoding) → IsLawfulAt c e → (w : WireHead) (h g : Head) (ts us : Trees) (Below : Trees → Type 0)
+      → IsEncodedNode c s e w (node h ts) Below → IsEncodedNode c s e w (node g us) Below
+      → IsSoundNode h ts → IsSoundNode g us → IsNormalNode h ts → IsNormalNode g us → h.dtype ≡ g.dtype → h.len ≡ g.len
+      → count ts ≡ count us → (Below ts → Below us → places ts ≡ places us → ts ≡ us) → node h ts ≡ node g us
+  encoded_unique e law w h g ts us Below a b sh sg nh ng d n k kids =
+      let same : IsSameNode h g ts us = record {
+        dtype = d;
+        len = n;
+        encoding = a.encoding ∙ sym b.encoding;
+        metadata = one_metadata e law h.dtype g.dtype w.metadata (metadata_in h ts) (metadata_in g us) d a.metadata b.metadata;
+        buffers = all_present_inj (buffers_of h.body) (buffers_of g.body) (sym a.buffers ∙ b.buffers);
+        children = k;
+      } in
+      let head = same_head h g ts us same nh ng in
+      let below = kids a.children b.children (same_places h g ts us same sh sg nh ng) in
+      λ i. node (head i) (below i)
+
+  module _ (law : IsLawful c s) where
+    node_unique : (r : Option Reader) → IsShippedReader r → (id : List ℕ) → s.reader id ≡ r → (w : WireHead) (ws : Wires) (h g : Head) (ts us : Trees)
+        → IsNodeBy c s r w (node h ts) (λ vs. AllMatch c s ws vs) → IsNodeBy c s r w (node g us) (λ vs. AllMatch c s ws vs)
+        → IsSoundNode h ts → IsSoundNode g us → IsNormalNode h ts → IsNormalNode g us → h.dtype ≡ g.dtype → h.len ≡ g.len
+        → (AllMatch c s ws ts → AllMatch c s ws us → places ts ≡ places us → ts ≡ us) → node h ts ≡ node g us
+    node_unique None ok id q w ws h g ts us a b sh sg nh ng d n kids = absurd a
+    node_unique (Some (shipped e)) ok id q w ws h g ts us a b sh sg nh ng d n kids =
+        encoded_unique e (law id e q) w h g ts us (λ vs. AllMatch c s ws vs) a b sh sg nh ng d n (all_count ws ts a.children ∙ sym (all_count ws us b.children)) kids
+
+    same_id : (o : Option (List ℕ)) (i j : List ℕ) → o ≡ Some i → o ≡ Some j → i ≡ j
+    same_id o i j p q = cc
+
+    mutual
+      pub one_tree : IsShipped s → (w : Wire) (t u : Tree) → Matches c s w t → Matches c s w u → IsSound t → IsSound u → IsNormal t → IsNormal u
+          → (label t).dtype ≡ (label u).dtype → (label t).len ≡ (label u).len → t ≡ u
+      one_tree ok (node w ws) (node h ts) (node g us) a b st su nt nu d n =
+          let e = same_id w.id a.0 b.0 a.1 b.1 in
+          let b2 = subst (λ z. IsNodeBy c s (s.reader z) w (node g us) (λ vs. AllMatch c s ws vs)) (sym e) b.2 in
+          node_unique (s.reader a.0) (ok.reads a.0) a.0 refl w ws h g ts us a.2 b2 st.0 su.0 nt.0 nu.0 d n (λ x y l. one_tree_each ok ws ts us x y st.1 su.1 nt.1 nu.1 l)
+
+      pub one_tree_each : IsShipped s → (ws : Wires) (ts us : Trees) → AllMatch c s ws ts → AllMatch c s ws us → EverywhereBelow IsSoundNode ts → EverywhereBelow IsSoundNode us
+          → EverywhereBelow IsNormalNode ts → EverywhereBelow IsNormalNode us → places ts ≡ places us → ts ≡ us
+      one_tree_each ok end ts us a b st su nt nu l = a ∙ sym b
+      one_tree_each ok (more w ws) end us a b st su nt nu l = absurd a
+      one_tree_each ok (more w ws) (more t ts) end a b st su nt nu l = absurd b
+      one_tree_each ok (more w ws) (more t ts) (more u us) a b st su nt nu l =
+          let f = same_place t u ts us l in
+          let x = one_tree ok w t u a.0 b.0 st.0 su.0 nt.0 nu.0 f.0 f.1 in
+          let y = one_tree_each ok ws ts us a.1 b.1 st.1 su.1 nt.1 nu.1 f.2 in
+          λ i. more (x i) (y i)

@@ -1,0 +1,136 @@
+-- The cause of each refusal of a tree.
+use Rattle.std.specs.Prelude.{ℕ, ◌≡◌, List, [], ◌∷◌, Option, Some, None, ◌⊎◌, slice_get}
+use Rattle.vx_buffer.specs.Buffer.{Buffer}
+use Rattle.vx_trees.specs.Rose.{label, below, count, end, more}
+use Rattle.vx_trees.specs.Everywhere.{EverywhereBelow}
+use Rattle.vx_types.specs.Typ.{Typ}
+use Rattle.vx_array_tree.specs.Encoding.{Encoding}
+use Rattle.vx_array_tree.specs.Metadata.{Metadata}
+use Rattle.vx_array_tree.specs.Normal.{IsNormalNode}
+use Rattle.vx_array_tree.specs.Place.{Place}
+use Rattle.vx_array_tree.specs.Sound.{IsSoundNode}
+use Rattle.vx_array_tree.specs.Table.{encoding_of, id_of, plan_of, IsShaped, Takes, Content}
+use Rattle.vx_array_tree.specs.Tree.{Tree, Trees, places, rows_below}
+use Rattle.vx_wire_tree.specs.Codec.{Codec}
+use Rattle.vx_wire_tree.specs.Matches.{AllMatch}
+use Rattle.vx_wire_tree.specs.Placed.{Claim, HoldsSomewhere, Anywhere}
+use Rattle.vx_wire_tree.specs.Reads.{IsMetadata}
+use Rattle.vx_wire_tree.specs.Session.{SessionMeaning, Reader, shipped}
+use Rattle.vx_wire_tree.specs.Steps.{HasNoMetadata}
+use Rattle.vx_wire_tree.specs.Wire.{Wire, Wires, all_present}
+
+-- ---- any node
+
+-- A node's identifier is missing.
+abbrev pub LacksId : Wire → Type 0
+LacksId w = (label w).id ≡ None
+
+-- One of a node's buffers is missing.
+abbrev pub LacksBuffer : Wire → Type 0
+LacksBuffer w = (i : ℕ) × (slice_get (label w).buffers i ≡ Some None)
+
+-- ---- placed nodes, by what reads them
+
+-- A node's identifier is there, and this is what reads it.
+pub record IsReadBy (s : SessionMeaning) (w : Wire) (r : Option Reader) : Type 0 where
+  pub id : List ℕ
+  pub id_is : (label w).id ≡ Some id
+  pub reader_is : s.reader id ≡ r
+
+-- A node is read by an encoding.
+abbrev pub IsOf : SessionMeaning → Wire → Encoding → Type 0
+IsOf s w e = IsReadBy s w (Some (shipped e))
+
+-- Nothing reads a node.
+abbrev pub IsUnregistered : SessionMeaning → Claim
+IsUnregistered s w d n = IsReadBy s w None
+
+-- A node's metadata is none that its encoding reads.
+pub record HasBadMetadata (c : Codec) (s : SessionMeaning) (w : Wire) (d : Typ) (n : ℕ) : Type 0 where
+  pub encoding : Encoding
+  pub by : IsOf s w encoding
+  pub none : HasNoMetadata c s.ext encoding d (label w).metadata
+
+-- These buffers may stand for a node's: each that is there is its own, and any stands for one that is missing.
+abbrev pub MayStandFor : List (Option Buffer) → List Buffer → Type 0
+MayStandFor [] bs = bs ≡ []
+MayStandFor (o ∷ os) [] = ⊥
+MayStandFor (Some b ∷ os) (x ∷ xs) = (x ≡ b) × MayStandFor os xs
+MayStandFor (None ∷ os) (x ∷ xs) = MayStandFor os xs
+
+-- Nodes are read by these encodings, one by one.
+abbrev pub AreOf : SessionMeaning → Wires → List Encoding → Type 0
+AreOf s end es = es ≡ []
+AreOf s (more w ws) [] = ⊥
+AreOf s (more w ws) (e ∷ es) = IsOf s w e × AreOf s ws es
+
+-- The parts of a node whose metadata is read break its encoding's row: nothing is planned for such a type
+-- and so many children; what is planned may not stand, or the buffers are wrong, by their number or by one
+-- that is there, whatever stands for those that are missing; or its children are read by encodings that may
+-- not stand below it.
+abbrev pub IsBroken : SessionMeaning → Encoding → Metadata → Claim
+IsBroken s e v w d n =
+    (plan_of e d n v (count (below w)) ≡ None)
+    ⊎ ((bs : List Buffer) → MayStandFor (label w).buffers bs → IsShaped e d n v bs (count (below w)) → ⊥)
+    ⊎ ((es : List Encoding) × AreOf s (below w) es × (Takes e es → ⊥))
+
+-- A node's metadata is read, and its parts break its encoding's row.
+pub record HasBadShape (c : Codec) (s : SessionMeaning) (w : Wire) (d : Typ) (n : ℕ) : Type 0 where
+  pub encoding : Encoding
+  pub by : IsOf s w encoding
+  pub value : Metadata
+  pub metadata : IsMetadata c s.ext encoding d (label w).metadata value
+  pub broken : IsBroken s encoding value w d n
+
+-- A node's children match sound and normal arrays that stand at these places.
+pub record HasChildren (c : Codec) (s : SessionMeaning) (w : Wire) (ps : List Place) (ts : Trees) : Type 0 where
+  pub matched : AllMatch c s (below w) ts
+  pub sound : EverywhereBelow IsSoundNode ts
+  pub normal : EverywhereBelow IsNormalNode ts
+  pub placed : places ts ≡ ps
+
+-- A node's parts are right, its children match sound arrays, and its content is broken over them.
+pub record HasBadContent (c : Codec) (s : SessionMeaning) (w : Wire) (d : Typ) (n : ℕ) : Type 0 where
+  pub encoding : Encoding
+  pub by : IsOf s w encoding
+  pub value : Metadata
+  pub metadata : IsMetadata c s.ext encoding d (label w).metadata value
+  pub places_are : List Place
+  pub plan : plan_of encoding d n value (count (below w)) ≡ Some places_are
+  pub buffers : List Buffer
+  pub buffers_are : (label w).buffers ≡ all_present buffers
+  pub shaped : IsShaped encoding d n value buffers (count (below w))
+  pub children : Trees
+  pub matched : HasChildren c s w places_are children
+  pub broken : Content d n shaped.body (rows_below children) → ⊥
+
+-- ---- the whole tree
+
+-- The refusals of a wire tree, by name.
+pub data Refusal : Type 0 where
+  out_of_bounds : Refusal
+  unknown_index : Refusal
+  unknown_encoding : Refusal
+  bad_metadata : Refusal
+  bad_shape : Refusal
+  bad_content : Refusal
+
+-- Why a wire tree tells no array at a type and a length, by the refusal. An identifier or a buffer may be
+-- missing at any node, placed or not; all else is said of placed nodes.
+abbrev pub RefusesTree : Refusal → Codec → SessionMeaning → Wire → Typ → ℕ → Type 0
+RefusesTree out_of_bounds c s w d n = Anywhere LacksBuffer w
+RefusesTree unknown_index c s w d n = Anywhere LacksId w
+RefusesTree unknown_encoding c s w d n = HoldsSomewhere c s (IsUnregistered s) w d n
+RefusesTree bad_metadata c s w d n = HoldsSomewhere c s (HasBadMetadata c s) w d n
+RefusesTree bad_shape c s w d n = HoldsSomewhere c s (HasBadShape c s) w d n
+RefusesTree bad_content c s w d n = HoldsSomewhere c s (HasBadContent c s) w d n
+
+-- ---- writing
+
+-- The session has no writer of the encoding of an array's root.
+abbrev pub LacksWriter : SessionMeaning → Tree → Type 0
+LacksWriter s t = s.writer (id_of (encoding_of (label t).body)) ≡ None
+
+-- Some node of an array has no writer.
+abbrev pub HasUnwritten : SessionMeaning → Tree → Type 0
+HasUnwritten s t = Anywhere (LacksWriter s) t

@@ -1,0 +1,14 @@
+pub mod Fields
+pub mod Codec
+pub mod Reads
+pub mod Wire
+pub mod Session
+pub mod Matches
+pub mod Tells
+pub mod Written
+pub mod Context
+pub mod Limits
+pub mod ReadBack
+pub mod Steps
+pub mod Placed
+pub mod Causes

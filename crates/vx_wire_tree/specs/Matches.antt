@@ -1,0 +1,35 @@
+-- When an array is the one that a wire tree tells, under a session.
+use Rattle.std.specs.Prelude.{ℕ, ◌≡◌, List, Option, Some, None}
+use Rattle.vx_trees.specs.Rose.{node, end, more, label, below}
+use Rattle.vx_array_tree.specs.Encoding.{Encoding}
+use Rattle.vx_array_tree.specs.Sound.{metadata_in}
+use Rattle.vx_array_tree.specs.Table.{encoding_of, buffers_of}
+use Rattle.vx_array_tree.specs.Tree.{Tree, Trees}
+use Rattle.vx_wire_tree.specs.Codec.{Codec}
+use Rattle.vx_wire_tree.specs.Reads.{IsMetadata}
+use Rattle.vx_wire_tree.specs.Session.{SessionMeaning, Reader, shipped}
+use Rattle.vx_wire_tree.specs.Wire.{WireHead, Wire, Wires, all_present}
+
+-- A node of an encoding: the array is of that encoding, the metadata is its own, the buffers are equal with
+-- their exponents, and the children match.
+pub record IsEncodedNode (c : Codec) (s : SessionMeaning) (e : Encoding) (w : WireHead) (t : Tree) (Below : Trees → Type 0) : Type 0 where
+  pub encoding : encoding_of (label t).body ≡ e
+  pub metadata : IsMetadata c s.ext e (label t).dtype w.metadata (metadata_in (label t) (below t))
+  pub buffers : w.buffers ≡ all_present (buffers_of (label t).body)
+  pub children : Below (below t)
+
+-- A node by what reads its identifier; one that nothing reads tells no array.
+abbrev pub IsNodeBy : Codec → SessionMeaning → Option Reader → WireHead → Tree → (Trees → Type 0) → Type 0
+IsNodeBy c s (Some (shipped e)) w t Below = IsEncodedNode c s e w t Below
+IsNodeBy c s None w t Below = ⊥
+
+abbrev mutual
+  -- A wire tree matches an array: its identifier is there, and the array is a node by what reads it, over
+  -- children that match one by one.
+  pub Matches : Codec → SessionMeaning → Wire → Tree → Type 0
+  Matches c s (node w ws) t = (id : List ℕ) × (w.id ≡ Some id) × IsNodeBy c s (s.reader id) w t (λ us. AllMatch c s ws us)
+
+  -- Wire trees match arrays one by one.
+  pub AllMatch : Codec → SessionMeaning → Wires → Trees → Type 0
+  AllMatch c s end us = us ≡ end
+  AllMatch c s (more w ws) us = elim us [ end ↦ ⊥ | more u vs ↦ Matches c s w u × AllMatch c s ws vs ]

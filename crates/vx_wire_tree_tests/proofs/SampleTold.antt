@@ -1,0 +1,119 @@
+-- A wire tree of numbers, the array that it tells, and the causes of trees that tell none.
+use Rattle.std.proofs.Common.{ℕ, ◌≡◌, List, [], ◌∷◌, Option, Some, None, refl, sym, ap, subst, inl, inr, codes, length, arith}
+use Rattle.std.proofs.lemmas.Option.{same_Some}
+use Rattle.vx_buffer.specs.Buffer.{Buffer}
+use Rattle.vx_trees.specs.Rose.{node, end}
+use Rattle.vx_types.specs.Known.{no_readers}
+use Rattle.vx_types.specs.Typ.{Typ}
+use Rattle.vx_types.specs.declared.nullability.Nullability.TheVariants.{NonNullable}
+use Rattle.vx_types.specs.declared.ptype.PType.TheVariants as P
+use Rattle.vx_array_tree.specs.Body as B
+use Rattle.vx_array_tree.specs.Encoding.{Encoding}
+use Rattle.vx_array_tree.specs.Encoding as E
+use Rattle.vx_array_tree.specs.Encodings.Primitives.{IsFilled}
+use Rattle.vx_array_tree.specs.Metadata as M
+use Rattle.vx_array_tree.specs.Table.{IsShaped, Holds}
+use Rattle.vx_array_tree_tests.proofs.Samples.{number_type, buffer, four, i32s}
+use Rattle.vx_wire_tree.specs.Causes.{IsOf, MayStandFor, out_of_bounds, unknown_index, unknown_encoding, bad_shape, RefusesTree}
+use Rattle.vx_wire_tree.specs.Codec.{Codec}
+use Rattle.vx_wire_tree.specs.Fields as F
+use Rattle.vx_wire_tree.specs.Fields.{Fields}
+use Rattle.vx_wire_tree.specs.Matches.{Matches}
+use Rattle.vx_wire_tree.specs.Session.{SessionMeaning, Reader, shipped}
+use Rattle.vx_wire_tree.specs.Wire.{Wire}
+
+-- Nulls and numbers keep no metadata.
+abbrev Shows : Encoding → List ℕ → Fields → Type 0
+Shows E.null bytes F.empty = bytes ≡ []
+Shows E.primitive bytes F.empty = bytes ≡ []
+Shows _ bytes f = ⊥
+
+abbrev codec : Codec
+codec = record { Shows = Shows; fields_bytes = λ f. [] }
+
+-- One identifier is read, and nothing is written.
+abbrev session : Option Reader → SessionMeaning
+session r = record { reader = λ id. r; writer = λ id. None; ext = no_readers }
+
+abbrev numbers_session : SessionMeaning
+numbers_session = session (Some (shipped E.primitive))
+
+abbrev name : List ℕ
+name = codes "vortex.primitive"
+
+abbrev numbers_of : Option (List ℕ) → List (Option Buffer) → Wire
+numbers_of id bs = node (record { id = id; metadata = []; buffers = bs }) end
+
+abbrev values : Buffer
+values = buffer (four (1 ∷ 2 ∷ 3 ∷ 4 ∷ [])) 2
+
+abbrev type : Typ
+type = number_type P.I32 NonNullable
+
+-- Four numbers match.
+matched : Matches codec numbers_session (numbers_of (Some name) (Some values ∷ [])) (i32s NonNullable (1 ∷ 2 ∷ 3 ∷ 4 ∷ []) [])
+matched = (
+  name,
+  refl,
+  record {
+    encoding = refl;
+    metadata = record { fields = F.empty; shown = refl; meaning = refl; fair = tt; known = tt };
+    buffers = refl;
+    children = refl;
+  },
+)
+
+-- A buffer's index without a descriptor, an encoding's index without an identifier, an identifier that nothing
+-- reads.
+no_buffer : RefusesTree out_of_bounds codec numbers_session (numbers_of (Some name) (None ∷ [])) type 4
+no_buffer = ([], (0, refl))
+
+no_id : RefusesTree unknown_index codec numbers_session (numbers_of None (Some values ∷ [])) type 4
+no_id = ([], refl)
+
+no_reader : RefusesTree unknown_encoding codec (session None) (numbers_of (Some name) (Some values ∷ [])) type 4
+no_reader = ([], record { id = name; id_is = refl; reader_is = refl })
+
+is_numbers : (bs : List (Option Buffer)) → IsOf numbers_session (numbers_of (Some name) bs) E.primitive
+is_numbers bs = record { id = name; id_is = refl; reader_is = refl }
+
+-- Five rows do not fit the bytes of four.
+other_length : (bs : List Buffer) → MayStandFor (Some values ∷ []) bs → IsShaped E.primitive type 5 M.empty bs 0 → ⊥
+other_length [] m x = absurd m
+other_length (b ∷ []) (p, q) x =
+    let r : IsFilled 4 5 b = subst (λ z. Holds type 5 z) (sym (same_Some (B.primitive (record { values = b })) x.body x.body_is)) x.holds in
+    let m = r.length_is in
+    let n : length b.bytes ≡ 16 = ap (λ z. length z.bytes) p in
+    absurd (omega arith)
+other_length (b ∷ c ∷ bs) m x = absurd (cc)
+
+too_short : RefusesTree bad_shape codec numbers_session (numbers_of (Some name) (Some values ∷ [])) type 5
+too_short = (
+  [],
+  record {
+    encoding = E.primitive;
+    by = is_numbers (Some values ∷ []);
+    value = M.empty;
+    metadata = record { fields = F.empty; shown = refl; meaning = refl; fair = tt; known = tt };
+    broken = inr (inl other_length);
+  },
+)
+
+-- One buffer too many is a wrong shape, whether its index has a descriptor or not.
+two_buffers : (bs : List Buffer) → MayStandFor (Some values ∷ None ∷ []) bs → IsShaped E.primitive type 4 M.empty bs 0 → ⊥
+two_buffers [] m x = absurd m
+two_buffers (b ∷ []) (p, q) x = absurd q
+two_buffers (b ∷ c ∷ []) m x = let q = x.body_is in absurd (cc)
+two_buffers (b ∷ c ∷ d ∷ bs) m x = let q = x.body_is in absurd (cc)
+
+too_many : RefusesTree bad_shape codec numbers_session (numbers_of (Some name) (Some values ∷ None ∷ [])) type 4
+too_many = (
+  [],
+  record {
+    encoding = E.primitive;
+    by = is_numbers (Some values ∷ None ∷ []);
+    value = M.empty;
+    metadata = record { fields = F.empty; shown = refl; meaning = refl; fair = tt; known = tt };
+    broken = inr (inl two_buffers);
+  },
+)

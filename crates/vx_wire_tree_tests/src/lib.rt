@@ -1,0 +1,6 @@
+//! Tests of the definitions of wire trees: each lemma is a row of a table, which the definitions compute.
+//!
+//! - `proofs::SampleWires`: wire trees of arrays of each encoding, their messages and their identifiers;
+//! - `proofs::SampleContexts`: how contexts grow;
+//! - `proofs::SampleTold`: a wire tree that tells an array, and the causes of those that tell none.
+#![tactic(auto)]
