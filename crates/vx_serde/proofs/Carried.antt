@@ -7,7 +7,7 @@ use Rattle.std.proofs.lemmas.Nat.{from_le_bytes-to_le_bytes_4}
 use Rattle.vx_flat.specs.Value.{Fields}
 use Rattle.vx_flat.specs.Shows.{Shows}
 use Rattle.vx_flat.specs.IsOf.{IsOf}
-use Rattle.vx_flat.specs.Layout.{layout}
+use Rattle.vx_flat.specs.Layout.{written_layout}
 use Rattle.vx_buffer.specs.Buffer.{Buffer}
 use Rattle.vx_trees.specs.Everywhere.{Everywhere}
 use Rattle.vx_serde.specs.declared.options.SerializeOptions.{SerializeOptions}
@@ -26,7 +26,7 @@ use Rattle.vx_serde.proofs.NumberedRead.{IsPlacedNode, IsPlaced, placed_from_ids
 
 -- The layout of a value of array messages shows it.
 abbrev pub IsLayoutShown : Type 0
-IsLayoutShown = (v : Fields) → IsOf array_schema v → length (layout false array_schema v) < 2 ^ 31 → Shows array_schema (layout false array_schema v) v
+IsLayoutShown = (v : Fields) → IsOf array_schema v → length (written_layout array_schema v) < 2 ^ 31 → Shows array_schema (written_layout array_schema v) v
 
 -- Data, its pad, a message and the message's length make a blob.
 pub is_blob : (data_bytes zeros message : List ℕ) → length message ≤ 2 ^ 31 - 1
