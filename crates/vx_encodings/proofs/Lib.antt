@@ -2,3 +2,4 @@ pub mod Rows
 mod Refusing
 mod PrimitiveParts
 mod NullParts
+pub mod LawsRows

@@ -1,2 +1,3 @@
 mod Interning
 mod Shipped
+pub mod LawsSessions

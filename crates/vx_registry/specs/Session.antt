@@ -27,13 +27,15 @@ registry_meaning r = record {
   writer = λ id. option_map shipped (lookup (bytes_eq id) r.writers);
 }
 
-abbrev pub IsShippedReader : Option Reader → Type 0
-IsShippedReader None = Unit {0}
-IsShippedReader (Some (shipped e)) = Unit {0}
+-- What reads or writes an identifier, if anything does, is a shipped encoding.
+abbrev pub IsShippedEntry : Option Reader → Type 0
+IsShippedEntry None = Unit {0}
+IsShippedEntry (Some (shipped e)) = Unit {0}
 
--- The session reads by shipped encodings alone.
-abbrev pub IsShipped : SessionMeaning → Type 0
-IsShipped s = (id : List ℕ) → IsShippedReader (s.reader id)
+-- The session holds shipped encodings only: it reads by them, and writes by them.
+pub record IsShipped (s : SessionMeaning) : Type 0 where
+  pub reads : (id : List ℕ) → IsShippedEntry (s.reader id)
+  pub writes : (id : List ℕ) → IsShippedEntry (s.writer id)
 
 -- The readers and the writers of a session fit one another: what reads is also written, under its own
 -- identifier, and what is written is read by the encoding that wrote it.

@@ -1,4 +1,4 @@
-ghost use Rattle.std.specs.Prelude.{◌≡◌, ◌≤◌, ◌<◌, [], length, true, false, None, Some, IfOk, IfNone, IfSome, OnErr, option_map, bytes_eq};
+ghost use Rattle.std.specs.Prelude.{◌≡◌, ◌≤◌, ◌<◌, [], true, false, None, Some, IfOk, IfNone, IfSome, OnErr, option_map, bytes_eq};
 ghost use Rattle.vx_registry.specs.Context.{interned, is_allowed, place_of};
 ghost use Rattle.std.specs.List.{list_any};
 
@@ -58,14 +58,6 @@ impl ArrayContext {
             Some(index) => Ok(place(index)),
             None => self.append(id),
         }
-    }
-
-    /// What is known of each context: it has at most as many identifiers as nodes can name. Nothing runs; a
-    /// caller gets the fact.
-    pub fn hold(&self)
-        ensures { length self.now.ids ≤ 65536 }
-    {
-        let _ = &self.alloc;
     }
 
     // Puts a new identifier last.

@@ -1,6 +1,6 @@
 //! Sessions: what reads and writes arrays, and what reads extension types.
 
-ghost use Rattle.std.specs.Prelude.{◌≡◌, [], Some, IfOk, option_map};
+ghost use Rattle.std.specs.Prelude.{◌≡◌, [], IfOk, option_map};
 ghost use Rattle.vx_registry.specs.Session.{shipped, registry_meaning, shipped_registry, IsPaired};
 
 use crate::error::RegistryError;
@@ -53,17 +53,13 @@ impl ArraySession {
         Ok(ArraySession { readers, writers })
     }
 
-    /// What is known of each session: what reads is written under its own identifier, and what is written
-    /// is read by the encoding that wrote it. Nothing runs; a caller gets the fact.
-    pub fn hold(&self)
-        ensures { IsPaired (registry_meaning self.now) }
-    {
-        let _ = &self.readers;
-    }
-
     /// What reads the arrays of this identifier: `None` where it is not registered.
+    ///
+    /// In each session readers and writers are paired: what reads is written under its own identifier,
+    /// and what is written is read by the encoding that wrote it.
     pub fn reader(&self, id: &Id) -> Option<Encoding>
-        ensures { option_map shipped result ≡ (registry_meaning self.now).reader id.now }
+        ensures reader { option_map shipped result ≡ (registry_meaning self.now).reader id.now }
+        ensures paired { IsPaired (registry_meaning self.now) }
     {
         self.readers.get(id).copied()
     }

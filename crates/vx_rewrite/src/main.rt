@@ -1,11 +1,18 @@
-//! Reads an array message from a file and writes its value to another: what the benchmark of tables times.
+//! Reads an array message from a file and writes its value to another: what the benchmarks of tables time.
+//! Told a number of rounds, it also prints how long reading and writing take.
 #![tactic(auto)]
+
+ghost use Rattle.vx_flat.specs.IsOf.{IsOf};
+ghost use Rattle.vx_flat.specs.View.{value as value_of};
+ghost use Rattle.vx_serde.specs.ArraySchema.{array_schema};
 
 use anyhow::{Context, Result, bail};
 use std::rt::Files;
+use std::time::CpuClock;
 use std::{env, fs};
-use vx_flat::{read_value, write_value};
+use vx_flat::{FlatBuffer, read_value, write_value};
 use vx_serde::ArrayKind;
+use vx_timing::print_least;
 
 fn rewrite<R: Files + AllocGlobal + Print>(rt: &R, from: &str, to: &str) -> Result<()> {
     let message = fs::read(rt, from).context(format_args!("reading {from}"))?;
@@ -17,10 +24,30 @@ fn rewrite<R: Files + AllocGlobal + Print>(rt: &R, from: &str, to: &str) -> Resu
     Ok(())
 }
 
+fn time<R: CpuClock + Files + AllocGlobal + Print>(rt: &R, from: &str, rounds: u32) -> Result<()> {
+    let message = fs::read(rt, from).context(format_args!("reading {from}"))?;
+    print_least(rt, "read", rounds, || {
+        Ok(read_value(rt.alloc(), &message, &ArrayKind)?)
+    })?;
+    let value = read_value(rt.alloc(), &message, &ArrayKind)?;
+    print_least(
+        rt,
+        "write",
+        rounds,
+        || -> Result<FlatBuffer>
+            requires { IsOf array_schema (value_of value) }
+        { Ok(write_value(rt.alloc(), &ArrayKind, &value)?) },
+    )
+}
+
 fn main(rt: HostRuntime) -> Result<()> {
     let mut words = env::args(&rt)?.skip(1);
     let (Some(from), Some(to)) = (words.next(), words.next()) else {
-        bail!("usage: vx_rewrite FROM TO");
+        bail!("usage: vx_rewrite FROM TO [ROUNDS]");
     };
-    rewrite(&rt, from.as_str(), to.as_str())
+    rewrite(&rt, from.as_str(), to.as_str())?;
+    if let Some(rounds) = words.next() {
+        time(&rt, from.as_str(), rounds.as_str().parse()?)?;
+    }
+    Ok(())
 }

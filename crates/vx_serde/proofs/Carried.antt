@@ -7,7 +7,8 @@ use Rattle.std.proofs.lemmas.Nat.{from_le_bytes-to_le_bytes_4}
 use Rattle.vx_flat.specs.Value.{Fields}
 use Rattle.vx_flat.specs.Shows.{Shows}
 use Rattle.vx_flat.specs.IsOf.{IsOf}
-use Rattle.vx_flat.specs.Layout.{written_layout}
+use Rattle.vx_flat.specs.Layout.{written_layout, shares}
+use Rattle.vx_flat.proofs.LawsOfMessages.{shown-layout}
 use Rattle.vx_buffer.specs.Buffer.{Buffer}
 use Rattle.vx_trees.specs.Everywhere.{Everywhere}
 use Rattle.vx_serde.specs.declared.options.SerializeOptions.{SerializeOptions}
@@ -25,8 +26,8 @@ use Rattle.vx_serde.proofs.PlacedRead.{buffers_at-descriptors_from, end_of-descr
 use Rattle.vx_serde.proofs.NumberedRead.{IsPlacedNode, IsPlaced, placed_from_ids, numbered_fits, wire_of-numbered}
 
 -- The layout of a value of array messages shows it.
-abbrev pub IsLayoutShown : Type 0
-IsLayoutShown = (v : Fields) → IsOf array_schema v → length (written_layout array_schema v) < 2 ^ 31 → Shows array_schema (written_layout array_schema v) v
+pub shows-layout : (v : Fields) → IsOf array_schema v → length (written_layout array_schema v) < 2 ^ 31 → Shows array_schema (written_layout array_schema v) v
+shows-layout v of short = shown-layout array_schema shares v refl of short
 
 -- Data, its pad, a message and the message's length make a blob.
 pub is_blob : (data_bytes zeros message : List ℕ) → length message ≤ 2 ^ 31 - 1
@@ -54,18 +55,18 @@ read_wire ids w bs e placed =
     sym (ap (λ bs. wire_of ids bs (numbered ids 0 w)) (e ∙ sym (append-nil (buffers_in w))) ∙ wire_of-numbered ids [] [] 0 w refl placed)
 
 -- What is written for a tree carries the tree, and its descriptors are in order.
-pub carried : (shown : IsLayoutShown) (ids : List (List ℕ)) (options : SerializeOptions) (w : Wire) → IsClean w → All (IsPlaced ids) (ids_in w) → length ids ≤ 65536
+pub carried : (ids : List (List ℕ)) (options : SerializeOptions) (w : Wire) → IsClean w → All (IsPlaced ids) (ids_in w)
     → IsWritable ids options w → (c : Carries (blob_bytes ids options w) ids w) × AreClean c.segment (message_of c.value).descriptors
-carried shown ids options w clean all few fit =
+carried ids options w clean all fit =
     let placed = placed_from_ids ids w clean all in
     let root = numbered ids 0 w in
     let bs = buffers_in w in
     let ds = descriptors_from options options.offset bs in
     let zeros : List ℕ = replicate (message_pad options w) 0 in
-    let numbered = numbered_fits ids 0 w (omega (arith, few)) (omega (arith, fit.tree.few)) placed in
+    let numbered = numbered_fits ids 0 w (omega (arith, fit.tree.few)) placed in
     let told = message_of-message_value root ds numbered (described-descriptors_from options options.offset bs fit.tree.describable) in
     let same : (message_of (message_value root ds)).descriptors ≡ ds = ap (λ m. m.descriptors) told in
-    let shows = shown (message_value root ds) (message_value_is_of root ds numbered) (omega (arith, fit.short)) in (
+    let shows = shows-layout (message_value root ds) (message_value_is_of root ds numbered) (omega (arith, fit.short)) in (
       record {
         segment = data_from options options.offset bs ++ zeros;
         message = message_bytes ids options w;

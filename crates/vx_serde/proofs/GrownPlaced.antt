@@ -6,32 +6,29 @@ use Rattle.std.proofs.lemmas.Bool.{ltb-true, ltb-false}
 use Rattle.std.proofs.lemmas.Option.{slice_get_within, cond_some}
 use Rattle.std.proofs.lemmas.Slice.Eq.{bytes_eq-Decides}
 use Rattle.vx_registry.specs.Context.{Context, is_among, place_of, with_id, is_allowed, interned, stepped, grown_by}
+use Rattle.vx_serde.proofs.Growing.{place_of-more}
 use Rattle.vx_serde.proofs.NumberedRead.{IsPlaced}
 
 -- ---- the first place of an identifier
 
 -- Where the first place is within the list, the identifier stands there.
-placed-within : (id : List ℕ) (ids : List (List ℕ)) → place_of id ids < length ids → IsPlaced ids id
-placed-within id [] h = absurd (omega (arith, h))
-placed-within id (other ∷ ids) h = at (bytes_eq id other) (bytes_eq-Decides id other).0 h (λ g. placed-within id ids g) where
-  at : (b : Bool) → (b ≡ true → id ≡ other) → (if b then 0 else suc (place_of id ids)) < suc (length ids) → (place_of id ids < length ids → IsPlaced ids id)
+stands-within : (id : List ℕ) (ids : List (List ℕ)) → place_of id ids < length ids → slice_get ids (place_of id ids) ≡ Some id
+stands-within id [] h = absurd (omega (arith, h))
+stands-within id (other ∷ ids) h = at (bytes_eq id other) (bytes_eq-Decides id other).0 h (λ g. stands-within id ids g) where
+  at : (b : Bool) → (b ≡ true → id ≡ other) → (if b then 0 else suc (place_of id ids)) < suc (length ids) → (place_of id ids < length ids → slice_get ids (place_of id ids) ≡ Some id)
       → slice_get (other ∷ ids) (if b then 0 else suc (place_of id ids)) ≡ Some id
   at true f h g = ap (λ x. Some x) (sym (f refl))
   at false f h g = g (omega (arith, h))
 
-within-placed : (id : List ℕ) (ids : List (List ℕ)) → IsPlaced ids id → place_of id ids < length ids
-within-placed id ids h = slice_get_within ids (place_of id ids) id h
-
--- It stays within, whatever comes behind the list.
-within-more : (id : List ℕ) (ids rest : List (List ℕ)) → place_of id ids < length ids → place_of id (ids ++ rest) < length (ids ++ rest)
-within-more id [] rest h = absurd (omega (arith, h))
-within-more id (other ∷ ids) rest h = at (bytes_eq id other) (place_of id ids) (place_of id (ids ++ rest)) h (λ g. within-more id ids rest g) where
-  at : (b : Bool) (p q : ℕ) → (if b then 0 else suc p) < suc (length ids) → (p < length ids → q < length (ids ++ rest)) → (if b then 0 else suc q) < suc (length (ids ++ rest))
-  at true p q h f = omega arith
-  at false p q h f = let g = f (omega (arith, h)) in omega (arith, g)
-
+-- It stays where it is, whatever comes behind the list.
 pub placed-more : (id : List ℕ) (ids rest : List (List ℕ)) → IsPlaced ids id → IsPlaced (ids ++ rest) id
-placed-more id ids rest h = placed-within id (ids ++ rest) (within-more id ids rest (within-placed id ids h))
+placed-more id ids rest h =
+    let within = slice_get_within ids (place_of id ids) id h.stands in
+    let same = place_of-more id ids rest within in
+    record {
+      stands = stands-within id (ids ++ rest) (omega (arith, same, within, length-append ids rest));
+      fits = omega (arith, same, h.fits);
+    }
 
 -- ---- a list with an identifier
 
@@ -59,39 +56,36 @@ absent-place id ids h = omega (arith, ltb-false (place_of id ids) (length ids) h
 record Comes (ids new : List (List ℕ)) (id : List ℕ) : Type 0 where
   pub rest : List (List ℕ)
   pub front : new ≡ ids ++ rest
-  pub few : place_of id ids < 65536 → length ids ≤ 65536 → length new ≤ 65536
   pub placed : IsPlaced new id
 
-comes : (ids : List (List ℕ)) (id : List ℕ) → Comes ids (with_id id ids) id
-comes ids id = at (is_among id ids) (λ e. among-within id ids e) (λ e. absent-place id ids e) where
+comes : (ids : List (List ℕ)) (id : List ℕ) → place_of id ids < 65536 → Comes ids (with_id id ids) id
+comes ids id fits = at (is_among id ids) (λ e. among-within id ids e) (λ e. absent-place id ids e) where
   at : (b : Bool) → (b ≡ true → place_of id ids < length ids) → (b ≡ false → place_of id ids ≡ length ids) → Comes ids (if b then ids else ids ++ id ∷ []) id
-  at true f g = record { rest = []; front = sym (append-nil ids); few = λ h k. k; placed = placed-within id ids (f refl) }
+  at true f g = record { rest = []; front = sym (append-nil ids); placed = record { stands = stands-within id ids (f refl); fits = fits } }
   at false f g = record {
     rest = id ∷ [];
     front = refl;
-    few = λ h k. omega (arith, h, g refl, length-append ids (id ∷ []));
-    placed = placed-within id (ids ++ id ∷ []) (last-within id ids);
+    placed = record { stands = stands-within id (ids ++ id ∷ []) (last-within id ids); fits = omega (arith, last-within id ids, length-append ids (id ∷ []), g refl, fits) };
   }
 
 -- ---- contexts
 
--- What a context is after identifiers have come to it: more may stand behind what was there, it has at most 65,536
--- identifiers if it had, and each of those that came has its place.
+-- What a context is after identifiers have come to it: more may stand behind what was there, and each of those that
+-- came has its place.
 pub record IsGrownBy (came : List (List ℕ)) (old new : Context) : Type 0 where
   pub rest : List (List ℕ)
   pub front : new.ids ≡ old.ids ++ rest
-  pub few : length old.ids ≤ 65536 → length new.ids ≤ 65536
   pub placed : All (λ id. IsPlaced new.ids id) came
 
 second : (a b : Bool) → (a && b) ≡ true → b ≡ true
 second true b h = h
 second false b h = absurd (cc)
 
-interned-comes : (old new : Context) (id : List ℕ) → interned id old ≡ Some new → (place_of id old.ids < 65536) × Comes old.ids new.ids id
+interned-comes : (old new : Context) (id : List ℕ) → interned id old ≡ Some new → Comes old.ids new.ids id
 interned-comes old new id e =
     let parts = cond_some (is_allowed old.allowed id && nat_lt (place_of id old.ids) 65536) (record { ids = with_id id old.ids; allowed = old.allowed }) new e in
     let P : Context → Type 0 = λ c. Comes old.ids c.ids id in
-    (ltb-true (place_of id old.ids) 65536 (second (is_allowed old.allowed id) (nat_lt (place_of id old.ids) 65536) parts.0), subst P parts.1 (comes old.ids id))
+    subst P parts.1 (comes old.ids id (ltb-true (place_of id old.ids) 65536 (second (is_allowed old.allowed id) (nat_lt (place_of id old.ids) 65536) parts.0)))
 
 placed-all : (ids new rest came : List (List ℕ)) → new ≡ ids ++ rest → All (λ id. IsPlaced ids id) came → All (λ id. IsPlaced new id) came
 placed-all ids new rest came e h = rw e (All-weaker (λ id. IsPlaced ids id) (λ id. IsPlaced (ids ++ rest) id) (λ id p. placed-more id ids rest p) came h)
@@ -104,13 +98,12 @@ stepped_some (Some next) step new e f = f next refl e
 pub grown_by-placed : (came : List (List ℕ)) (old new : Context) → grown_by came old ≡ Some new → IsGrownBy came old new
 grown_by-placed [] old new e =
     let same : new ≡ old = cc in
-    rw same (record { rest = []; front = sym (append-nil old.ids); few = λ h. h; placed = All-nil (λ id. IsPlaced old.ids id) })
+    rw same (record { rest = []; front = sym (append-nil old.ids); placed = All-nil (λ id. IsPlaced old.ids id) })
 grown_by-placed (id ∷ came) old new e =
     stepped_some (interned id old) (λ d. grown_by came d) new e (λ next p q. joined next (interned-comes old next id p) (grown_by-placed came next new q)) where
-      joined : (next : Context) → (place_of id old.ids < 65536) × Comes old.ids next.ids id → IsGrownBy came next new → IsGrownBy (id ∷ came) old new
+      joined : (next : Context) → Comes old.ids next.ids id → IsGrownBy came next new → IsGrownBy (id ∷ came) old new
       joined next a b = record {
-        rest = a.1.rest ++ b.rest;
-        front = b.front ∙ ap (λ ids. ids ++ b.rest) a.1.front ∙ append_assoc old.ids a.1.rest b.rest;
-        few = λ h. b.few (a.1.few a.0 h);
-        placed = All-cons (λ id. IsPlaced new.ids id) id came (rw b.front (placed-more id next.ids b.rest a.1.placed)) b.placed;
+        rest = a.rest ++ b.rest;
+        front = b.front ∙ ap (λ ids. ids ++ b.rest) a.front ∙ append_assoc old.ids a.rest b.rest;
+        placed = All-cons (λ id. IsPlaced new.ids id) id came (rw b.front (placed-more id next.ids b.rest a.placed)) b.placed;
       }

@@ -11,9 +11,10 @@ use Rattle.vx_arrays.specs.Places.{Place, places}
 use Rattle.vx_arrays.specs.Sound.{IsSound, IsSoundNode}
 use Rattle.vx_flat.specs.Value.{Fields}
 use Rattle.vx_flat.specs.Shows.{Shows}
+use Rattle.vx_flat.proofs.LawsOfMessages.{shown-one}
 use Rattle.vx_encodings.specs.Metadata.{IsMetadata}
 use Rattle.vx_encodings.specs.Encodings.{metadata_of, plan_of, IsShaped}
-use Rattle.vx_encodings.specs.Laws.{PlanLaw, OneValueLaw, FairLaw, ShapeLaw}
+use Rattle.vx_encodings.proofs.LawsRows.{planned_places, one_value, fair_metadata, sound_shape}
 use Rattle.vx_encodings.specs.declared.encoding.Encoding.{Encoding}
 use Rattle.vx_encodings.specs.declared.encoding.Metadata.{Metadata}
 use Rattle.vx_registry.specs.Context.{Context, grown}
@@ -27,11 +28,12 @@ use Rattle.vx_serde.specs.Blob.{IsBlob, AreClean}
 use Rattle.vx_serde.specs.Opening.{IsTooShort, AreRefused, HasRefusedDescriptors, ShowsNoRoot}
 use Rattle.vx_serde.specs.Matches.{Matches, AllMatch, IsNodeBy, IsShippedNode}
 use Rattle.vx_serde.specs.Placed.{IsBy, IsChild, HoldsAt, HoldsUnder}
-use Rattle.vx_serde.specs.Causes.{Call, IsCaused, IsCausedIn, IsCausedBelow, SpellsOne, IsUnregistered, HasBadMetadata, HasBadShape, LacksId, LacksBuffer}
-use Rattle.vx_serde.specs.Spells.{Spells, KeepsReaderLimits, KeepsWriterLimits}
+use Rattle.vx_serde.specs.Causes.{IsCaused, IsCausedIn, IsCausedBelow, SpellsOne, IsUnregistered, HasBadMetadata, HasBadShape, LacksId, LacksBuffer}
+use Rattle.vx_serde.specs.Spells.{KeepsReaderLimits, KeepsWriterLimits}
+use Rattle.vx_serde.specs.Request.{Request, IsSpelled, CanRecode}
 use Rattle.vx_serde.proofs.NodeTold.{all_count}
-use Rattle.vx_serde.proofs.OneArray.{by_reader, map_some_inj}
-use Rattle.vx_serde.proofs.CarriedOnce.{IsShownOnce, one_blob, carried_once, backs}
+use Rattle.vx_serde.proofs.OneArray.{by_reader, map_some_inj, spelled_once}
+use Rattle.vx_serde.proofs.CarriedOnce.{one_blob, carried_once, backs}
 
 some_inj : {A : Type 0} (x y : A) → Some x ≡ Some y → x ≡ y
 some_inj x y e = cc
@@ -101,16 +103,16 @@ pub record IsAt (s : SessionMeaning) (w : Wire) (d : Typ) (n : ℕ) (t : Tree) :
   pub dtype : (label t).dtype ≡ d
   pub len : (label t).len ≡ n
 
-module _ (plans : PlanLaw) (one : OneValueLaw) (fair : FairLaw) (shape : ShapeLaw) (s : SessionMeaning) where
+module _ (s : SessionMeaning) where
   same_value : (w : Wire) (t : Tree) (e : Encoding) (v : Metadata) → IsShippedNode e (label w) t (λ us. AllMatch s (below w) us) → IsMetadata e (label w).metadata v → v ≡ metadata_of (label t) (below t)
-  same_value w t e v m md = one e (label w).metadata v (metadata_of (label t) (below t)) md.reads m.1
+  same_value w t e v m md = one_value e (label w).metadata v (metadata_of (label t) (below t)) md.reads m.1
 
   planned : (w : Wire) (d : Typ) (n : ℕ) (t : Tree) (e : Encoding) (v : Metadata) → IsAt s w d n t → IsShippedNode e (label w) t (λ us. AllMatch s (below w) us) → IsMetadata e (label w).metadata v
       → plan_of e d n v (count (below w)) ≡ Some (places (below t))
   planned w d n t e v at m md =
       let k = all_count s (below w) (below t) m.3 in
       let same = same_value w t e v m md in
-      (λ i. plan_of e (sym at.dtype i) (sym at.len i) (same i) (sym k i)) ∙ plans (label t) (below t) e (sound-parts t at.sound).0 m.0
+      (λ i. plan_of e (sym at.dtype i) (sym at.len i) (same i) (sym k i)) ∙ planned_places (label t) (below t) e (sound-parts t at.sound).0 m.0
 
   child_of : (w : Wire) (d : Typ) (n : ℕ) (t : Tree) (i : ℕ) (v : Wire) (p : Place) → IsAt s w d n t → IsChild s w d n i v p → (u : Tree) × IsAt s v p.dtype p.len u
   child_of w d n t i v p at child =
@@ -137,7 +139,7 @@ module _ (plans : PlanLaw) (one : OneValueLaw) (fair : FairLaw) (shape : ShapeLa
   no_bad_metadata : (w : Wire) (d : Typ) (n : ℕ) (t : Tree) → IsAt s w d n t → HasBadMetadata s w d n → ⊥
   no_bad_metadata w d n t at h =
       let m = told s w t h.encoding at.matched h.by in
-      h.refused (metadata_of (label t) (below t)) (record { reads = m.1; fair = fair (label t) (below t) h.encoding (sound-parts t at.sound).0 m.0 })
+      h.refused (metadata_of (label t) (below t)) (record { reads = m.1; fair = fair_metadata (label t) (below t) h.encoding (sound-parts t at.sound).0 m.0 })
 
   no_bad_shape : (w : Wire) (d : Typ) (n : ℕ) (t : Tree) → IsAt s w d n t → HasBadShape s w d n → ⊥
   no_bad_shape w d n t at h =
@@ -155,7 +157,7 @@ module _ (plans : PlanLaw) (one : OneValueLaw) (fair : FairLaw) (shape : ShapeLa
           let k = all_count s (below w) (below t) m.3 in
           let same = same_value w t e v m md in
           let bufs : buffers_of (label t).body ≡ bs = map_some_inj (buffers_of (label t).body) bs (sym m.2 ∙ own) in
-          let fits = shape (label t) (below t) e (sound-parts t at.sound).0 m.0 in
+          let fits = sound_shape (label t) (below t) e (sound-parts t at.sound).0 m.0 in
           let A : Typ → Type 0 = λ z. IsShaped e z (label t).len (metadata_of (label t) (below t)) (buffers_of (label t).body) (count (below t)) in
           let B : ℕ → Type 0 = λ z. IsShaped e d z (metadata_of (label t) (below t)) (buffers_of (label t).body) (count (below t)) in
           let C : Metadata → Type 0 = λ z. IsShaped e d n z (buffers_of (label t).body) (count (below t)) in
@@ -191,46 +193,45 @@ not_refused Compressed segment ds clean r = absurd (omega (arith, clean.plain r.
 not_refused OutOfBounds segment ds clean r = absurd (omega (arith, clean.within, r))
 not_refused _ segment ds clean r = absurd r
 
-module _ (shown : IsShownOnce) (once : (blob : List ℕ) (ids : List (List ℕ)) (d : Typ) (n : ℕ) (s : SessionMeaning) (t u : Tree) → Spells blob ids d n s t → Spells blob ids d n s u → t ≡ u)
-    (plans : PlanLaw) (one : OneValueLaw) (fair : FairLaw) (shape : ShapeLaw) (c : Call) (t : Tree) (spelled : Spells c.blob c.ids c.dtype c.len c.session t) where
-  same_value_of : (segment message : List ℕ) (v : Fields) → IsBlob c.blob segment message → Shows array_schema message v → (segment ≡ spelled.carried.segment) × (v ≡ spelled.carried.value)
+module _ (asked : Request) (t : Tree) (spelled : IsSpelled asked t) where
+  same_value_of : (segment message : List ℕ) (v : Fields) → IsBlob asked.blob segment message → Shows array_schema message v → (segment ≡ spelled.carried.segment) × (v ≡ spelled.carried.value)
   same_value_of segment message v is shows =
       let k = spelled.carried in
-      let parts = one_blob c.blob segment k.segment message k.message is k.blob_is in
+      let parts = one_blob asked.blob segment k.segment message k.message is k.blob_is in
       let P : List ℕ → Type 0 = λ m. Shows array_schema m v in
-      (parts.0, shown k.message v k.value (subst P parts.1 shows) k.shows)
+      (parts.0, shown-one array_schema k.message v k.value (subst P parts.1 shows) k.shows)
 
-  not_described : (x : WireError) → HasRefusedDescriptors x c.blob → x ≡ OutOfMemory
+  not_described : (x : WireError) → HasRefusedDescriptors x asked.blob → x ≡ OutOfMemory
   not_described x h =
       let same = same_value_of h.segment h.message h.value h.blob_is h.shows in
       let A : List ℕ → Type 0 = λ z. AreRefused x z (message_of h.value).descriptors in
       let B : Fields → Type 0 = λ z. AreRefused x spelled.carried.segment (message_of z).descriptors in
       not_refused x spelled.carried.segment (message_of spelled.carried.value).descriptors spelled.clean (subst B same.1 (subst A same.0 h.refused))
 
-  not_rootless : ShowsNoRoot c.blob → ⊥
+  not_rootless : ShowsNoRoot asked.blob → ⊥
   not_rootless h =
       let k = spelled.carried in
-      let parts = one_blob c.blob k.segment h.segment k.message h.message k.blob_is h.blob_is in
+      let parts = one_blob asked.blob k.segment h.segment k.message h.message k.blob_is h.blob_is in
       let P : List ℕ → Type 0 = λ m. Shows array_schema m k.value in
       h.none k.value k.root (subst P parts.1 k.shows) k.root_is
 
-  never_below : (x : WireError) → IsCausedBelow c x → x ≡ OutOfMemory
+  never_below : (x : WireError) → IsCausedBelow asked x → x ≡ OutOfMemory
   never_below x h =
-      let same = (carried_once shown c.blob c.ids h.wire spelled.wire h.carried spelled.carried).tree in
-      let P : Wire → Type 0 = λ z. IsCausedIn c.session x z c.dtype c.len in
-      never_caused_in plans one fair shape c.session x spelled.wire c.dtype c.len t spelled.whole
+      let same = (carried_once asked.blob asked.ids h.wire spelled.wire h.carried spelled.carried).tree in
+      let P : Wire → Type 0 = λ z. IsCausedIn asked.session x z asked.dtype asked.len in
+      never_caused_in asked.session x spelled.wire asked.dtype asked.len t spelled.whole
       (record { matched = spelled.matched; sound = spelled.sound; dtype = spelled.dtype; len = spelled.len }) (subst P same h.cause)
 
-  not_this : (P : Tree → Type 0) → (P t → ⊥) → SpellsOne c P → ⊥
-  not_this P never h = never (subst P (once c.blob c.ids c.dtype c.len c.session h.array t h.spelled spelled) h.holds)
+  not_this : (P : Tree → Type 0) → (P t → ⊥) → SpellsOne asked P → ⊥
+  not_this P never h = never (subst P (spelled_once asked.blob asked.ids asked.dtype asked.len asked.session h.array t h.spelled spelled) h.holds)
 
   is_grown : (o : Option Context) → IsSome o → o ≡ None → ⊥
   is_grown (Some d) some e = absurd (cc)
   is_grown None some e = absurd (cc)
 
-  pub never_caused : KeepsReaderLimits c.blob → KeepsWriterLimits c.session t c.context c.options → IsSome (grown c.context t) → (x : WireError) → IsCaused c x → x ≡ OutOfMemory
+  pub never_caused : KeepsReaderLimits asked.blob → KeepsWriterLimits asked.session t asked.context asked.options → IsSome (grown asked.context t) → (x : WireError) → IsCaused asked x → x ≡ OutOfMemory
   never_caused light fits grows OutOfMemory h = refl
-  never_caused light fits grows TooShort h = absurd (not_short c.blob spelled.carried.segment spelled.carried.message spelled.carried.blob_is h)
+  never_caused light fits grows TooShort h = absurd (not_short asked.blob spelled.carried.segment spelled.carried.message spelled.carried.blob_is h)
   never_caused light fits grows BadTable h = absurd (not_rootless h)
   never_caused light fits grows TableLimit h = absurd (h.heavy (light.light h.segment h.message h.blob_is))
   never_caused light fits grows BadAlignment h = not_described BadAlignment h
@@ -241,5 +242,9 @@ module _ (shown : IsShownOnce) (once : (blob : List ℕ) (ids : List (List ℕ))
   never_caused light fits grows UnknownEncoding h = never_below UnknownEncoding h
   never_caused light fits grows BadMetadata h = never_below BadMetadata h
   never_caused light fits grows BadShape h = never_below BadShape h
-  never_caused light fits grows NotPermitted h = absurd (not_this (λ u. grown c.context u ≡ None) (λ e. is_grown (grown c.context t) grows e) h)
-  never_caused light fits grows WireLimit h = absurd (not_this (λ u. KeepsWriterLimits c.session u c.context c.options → ⊥) (λ never. never fits) h)
+  never_caused light fits grows NotPermitted h = absurd (not_this (λ u. grown asked.context u ≡ None) (λ e. is_grown (grown asked.context t) grows e) h)
+  never_caused light fits grows WireLimit h = absurd (not_this (λ u. KeepsWriterLimits asked.session u asked.context asked.options → ⊥) (λ never. never fits) h)
+
+-- Where what is asked can be done, no refusal but want of memory has a cause.
+pub memory_alone : (asked : Request) (e : WireError) → CanRecode asked → IsCaused asked e → e ≡ OutOfMemory
+memory_alone asked e can cause = never_caused asked can.array can.spelled can.reader_limits can.writer_limits can.grows e cause

@@ -3,7 +3,6 @@ use Rattle.std.proofs.Common.{ℕ, zero, suc, ◌≡◌, ◌+◌, ◌<◌, ◌�
 use Rattle.std.specs.Prelude.{All, slice_get}
 use Rattle.std.proofs.lemmas.List.{append_assoc}
 use Rattle.std.proofs.lemmas.List.Elements.{All-nil, All-cons, recursion_from_All}
-use Rattle.std.proofs.lemmas.Option.{slice_get_within}
 use Rattle.std.specs.List.{AllByRecursion}
 use Rattle.vx_buffer.specs.Buffer.{Buffer}
 use Rattle.vx_trees.specs.Rose.{node, end, more}
@@ -14,17 +13,18 @@ use Rattle.vx_serde.specs.Wire.{WireHead, Wire, Wires, IsCleanNode, IsClean}
 use Rattle.vx_serde.specs.Blob.{wire_of, wires_of}
 use Rattle.vx_serde.specs.Numbered.{present, id_in, buffers_at_node, ids_in, buffers_in, index_of, encoding_index, numbers_from, numbered, numbered_below}
 
--- Nothing is missing at a node, and its identifier has its place in ids.
+-- The identifier's place leads to it, and fits two bytes.
+pub record IsPlaced (ids : List (List ℕ)) (id : List ℕ) : Type 0 where
+  pub stands : slice_get ids (index_of id ids) ≡ Some id
+  pub fits : index_of id ids < 65536
+
+-- Nothing is missing at a node, and its identifier has its place in ids, which fits two bytes.
 pub record IsPlacedNode (ids : List (List ℕ)) (h : WireHead) (ws : Wires) : Type 0 where
   pub name : List ℕ
   pub named : h.id ≡ Some name
-  pub placed : slice_get ids (index_of name ids) ≡ Some name
+  pub placed : IsPlaced ids name
   pub standing : List Buffer
   pub stand : h.buffers ≡ map (λ b. Some b) standing
-
--- The identifier's place leads to it.
-abbrev pub IsPlaced : List (List ℕ) → List ℕ → Type 0
-IsPlaced ids id = slice_get ids (index_of id ids) ≡ Some id
 
 -- ---- from the tree's identifiers to its nodes
 
@@ -65,27 +65,27 @@ number_within : (n k : ℕ) → n + k ≤ 2 ^ 16 → All (λ i. i < 2 ^ 16) (num
 number_within n zero h = All-nil (λ i. i < 2 ^ 16)
 number_within n (suc k) h = All-cons (λ i. i < 2 ^ 16) n (numbers_from (suc n) k) (omega (arith, h)) (number_within (suc n) k (omega (arith, h)))
 
-index_within : (ids : List (List ℕ)) (o : Option (List ℕ)) (id : List ℕ) → o ≡ Some id → IsPlaced ids id → encoding_index o ids < length ids
+index_within : (ids : List (List ℕ)) (o : Option (List ℕ)) (id : List ℕ) → o ≡ Some id → IsPlaced ids id → encoding_index o ids < 2 ^ 16
 index_within ids o id e h =
-    let P : Option (List ℕ) → Type 0 = λ o. encoding_index o ids < length ids in
-    subst P (sym e) (slice_get_within ids (index_of id ids) id h)
+    let P : Option (List ℕ) → Type 0 = λ o. encoding_index o ids < 2 ^ 16 in
+    subst P (sym e) (omega (arith, h.fits))
 
 mutual
   -- The nodes' numbers fit two bytes each.
-  pub numbered_fits : (ids : List (List ℕ)) (n : ℕ) (w : Wire) → length ids ≤ 2 ^ 16 → n + length (buffers_in w) ≤ 2 ^ 16 → Everywhere (IsPlacedNode ids) w
+  pub numbered_fits : (ids : List (List ℕ)) (n : ℕ) (w : Wire) → n + length (buffers_in w) ≤ 2 ^ 16 → Everywhere (IsPlacedNode ids) w
       → IsNumbered (numbered ids n w)
-  numbered_fits ids n (node h ws) few fit placed =
+  numbered_fits ids n (node h ws) fit placed =
       let sum = length-append (present h.buffers) (gathered_below buffers_at_node ws) in (
-        (omega (arith, few, index_within ids h.id placed.0.name placed.0.named placed.0.placed), number_within n (length (present h.buffers)) (omega (arith, fit, sum))),
-        numbered_below_fits ids (n + length (present h.buffers)) ws few (omega (arith, fit, sum)) placed.1,
+        (index_within ids h.id placed.0.name placed.0.named placed.0.placed, number_within n (length (present h.buffers)) (omega (arith, fit, sum))),
+        numbered_below_fits ids (n + length (present h.buffers)) ws (omega (arith, fit, sum)) placed.1,
       )
 
-  numbered_below_fits : (ids : List (List ℕ)) (n : ℕ) (ws : Wires) → length ids ≤ 2 ^ 16 → n + length (gathered_below buffers_at_node ws) ≤ 2 ^ 16 → EverywhereBelow (IsPlacedNode ids) ws
+  numbered_below_fits : (ids : List (List ℕ)) (n : ℕ) (ws : Wires) → n + length (gathered_below buffers_at_node ws) ≤ 2 ^ 16 → EverywhereBelow (IsPlacedNode ids) ws
       → EverywhereBelow IsNumberedNode (numbered_below ids n ws)
-  numbered_below_fits ids n end few fit placed = tt
-  numbered_below_fits ids n (more w ws) few fit placed =
+  numbered_below_fits ids n end fit placed = tt
+  numbered_below_fits ids n (more w ws) fit placed =
       let sum = length-append (buffers_in w) (gathered_below buffers_at_node ws) in
-      (numbered_fits ids n w few (omega (arith, fit, sum)) placed.0, numbered_below_fits ids (n + length (buffers_in w)) ws few (omega (arith, fit, sum)) placed.1)
+      (numbered_fits ids n w (omega (arith, fit, sum)) placed.0, numbered_below_fits ids (n + length (buffers_in w)) ws (omega (arith, fit, sum)) placed.1)
 
 -- ---- numbers lead back
 
@@ -114,7 +114,7 @@ by_number before (b ∷ bs) after n e =
 named_by_place : (ids : List (List ℕ)) (o : Option (List ℕ)) (id : List ℕ) → o ≡ Some id → IsPlaced ids id → slice_get ids (encoding_index o ids) ≡ o
 named_by_place ids o id e h =
     let P : Option (List ℕ) → Type 0 = λ o. slice_get ids (encoding_index o ids) ≡ o in
-    subst P (sym e) h
+    subst P (sym e) h.stands
 
 mutual
   -- The buffers stand in a list with others before and after them, and n is the number of those before.

@@ -11,13 +11,13 @@ use Rattle.vx_arrays.specs.declared.body.Body.{Body}
 use Rattle.vx_arrays.specs.declared.body.Body.TheVariants.{Null, Primitive}
 use Rattle.vx_encodings.specs.Metadata.{Reads}
 use Rattle.vx_encodings.specs.Encodings.{encoding_of, metadata_of, body_of, plan_of}
-use Rattle.vx_encodings.specs.Laws.{BodyLaw, PlanLaw, OneValueLaw}
+use Rattle.vx_encodings.proofs.LawsRows.{body_back, planned_places, one_value}
 use Rattle.vx_encodings.specs.declared.encoding.Encoding.{Encoding}
 use Rattle.vx_registry.specs.Session.{SessionMeaning, Reader, shipped}
 use Rattle.vx_serde.specs.Wire.{WireHead, Wire, Wires, IsClean, IsCleanNode}
-use Rattle.vx_serde.specs.Blob.{Carries}
 use Rattle.vx_serde.specs.Matches.{Matches, AllMatch, IsNodeBy, IsShippedNode}
 use Rattle.vx_serde.specs.Spells.{Spells}
+use Rattle.vx_serde.proofs.CarriedOnce.{carried_once}
 use Rattle.vx_serde.proofs.NodeTold.{all_count}
 
 -- what a node is read by
@@ -71,51 +71,49 @@ mutual
   all_normal end = tt
   all_normal (more t ts) = (normal t, all_normal ts)
 
-module _ (bodies : BodyLaw) (plans : PlanLaw) (one : OneValueLaw) where
-  -- what the parts of a node fix
-  same_metadata : (a b : Head) (ts us : Trees) (e f : Encoding) (bytes : List ℕ) → e ≡ f → Reads e bytes (metadata_of a ts) → Reads f bytes (metadata_of b us) → metadata_of a ts ≡ metadata_of b us
-  same_metadata a b ts us e f bytes same p q =
-      let P : Encoding → Type 0 = λ z. Reads z bytes (metadata_of b us) in
-      one e bytes (metadata_of a ts) (metadata_of b us) p (subst P (sym same) q)
+-- what the parts of a node fix
+same_metadata : (a b : Head) (ts us : Trees) (e f : Encoding) (bytes : List ℕ) → e ≡ f → Reads e bytes (metadata_of a ts) → Reads f bytes (metadata_of b us) → metadata_of a ts ≡ metadata_of b us
+same_metadata a b ts us e f bytes same p q =
+    let P : Encoding → Type 0 = λ z. Reads z bytes (metadata_of b us) in
+    one_value e bytes (metadata_of a ts) (metadata_of b us) p (subst P (sym same) q)
 
-  same_body : (a b : Head) (ts us : Trees) (e f : Encoding) → e ≡ f → encoding_of a.body ≡ Some e → encoding_of b.body ≡ Some f → metadata_of a ts ≡ metadata_of b us → buffers_of a.body ≡ buffers_of b.body → a.body ≡ b.body
-  same_body a b ts us e f ef p q m bs = some_inj a.body b.body (sym (bodies a ts e p) ∙ (λ i. body_of (ef i) (m i) (bs i)) ∙ bodies b us f q)
+same_body : (a b : Head) (ts us : Trees) (e f : Encoding) → e ≡ f → encoding_of a.body ≡ Some e → encoding_of b.body ≡ Some f → metadata_of a ts ≡ metadata_of b us → buffers_of a.body ≡ buffers_of b.body → a.body ≡ b.body
+same_body a b ts us e f ef p q m bs = some_inj a.body b.body (sym (body_back a ts e p) ∙ (λ i. body_of (ef i) (m i) (bs i)) ∙ body_back b us f q)
 
-  same_places : (a b : Head) (ts us : Trees) (e f : Encoding) → e ≡ f → encoding_of a.body ≡ Some e → encoding_of b.body ≡ Some f → metadata_of a ts ≡ metadata_of b us
-      → a.dtype ≡ b.dtype → a.len ≡ b.len → count ts ≡ count us → IsSoundNode a ts → IsSoundNode b us → places ts ≡ places us
-  same_places a b ts us e f ef p q m d n c s t =
-      some_inj (places ts) (places us) (sym (plans a ts e s p) ∙ (λ i. plan_of (ef i) (d i) (n i) (m i) (c i)) ∙ plans b us f t q)
+same_places : (a b : Head) (ts us : Trees) (e f : Encoding) → e ≡ f → encoding_of a.body ≡ Some e → encoding_of b.body ≡ Some f → metadata_of a ts ≡ metadata_of b us
+    → a.dtype ≡ b.dtype → a.len ≡ b.len → count ts ≡ count us → IsSoundNode a ts → IsSoundNode b us → places ts ≡ places us
+same_places a b ts us e f ef p q m d n c s t =
+    some_inj (places ts) (places us) (sym (planned_places a ts e s p) ∙ (λ i. plan_of (ef i) (d i) (n i) (m i) (c i)) ∙ planned_places b us f t q)
 
-  mutual
-    pub unique : (s : SessionMeaning) (w : Wire) (t u : Tree) → Matches s w t → Matches s w u → IsSound t → IsSound u
-        → (label t).dtype ≡ (label u).dtype → (label t).len ≡ (label u).len → t ≡ u
-    unique s (node w ws) (node a ts) (node b us) mt mu st su d n =
-        let x = by_reader (s.reader mt.0) w (node a ts) (λ vs. AllMatch s ws vs) mt.2 in
-        let y = by_reader (s.reader mu.0) w (node b us) (λ vs. AllMatch s ws vs) mu.2 in
-        let ef = same_encoding s w.id x.0 y.0 mt.0 mu.0 mt.1 mu.1 x.1 y.1 in
-        let m = same_metadata a b ts us x.0 y.0 w.metadata ef x.2.1 y.2.1 in
-        let bs = map_some_inj (buffers_of a.body) (buffers_of b.body) (sym x.2.2 ∙ y.2.2) in
-        let c = all_count s ws ts x.2.3 ∙ sym (all_count s ws us y.2.3) in
-        let ps = same_places a b ts us x.0 y.0 ef x.2.0 y.2.0 m d n c st.0 su.0 in
-        let body = same_body a b ts us x.0 y.0 ef x.2.0 y.2.0 m bs in
-        let bl = unique_all s ws ts us x.2.3 y.2.3 st.1 su.1 ps in
-        λ i. node (record { dtype = d i; len = n i; body = body i }) (bl i)
+mutual
+  pub unique : (s : SessionMeaning) (w : Wire) (t u : Tree) → Matches s w t → Matches s w u → IsSound t → IsSound u
+      → (label t).dtype ≡ (label u).dtype → (label t).len ≡ (label u).len → t ≡ u
+  unique s (node w ws) (node a ts) (node b us) mt mu st su d n =
+      let x = by_reader (s.reader mt.0) w (node a ts) (λ vs. AllMatch s ws vs) mt.2 in
+      let y = by_reader (s.reader mu.0) w (node b us) (λ vs. AllMatch s ws vs) mu.2 in
+      let ef = same_encoding s w.id x.0 y.0 mt.0 mu.0 mt.1 mu.1 x.1 y.1 in
+      let m = same_metadata a b ts us x.0 y.0 w.metadata ef x.2.1 y.2.1 in
+      let bs = map_some_inj (buffers_of a.body) (buffers_of b.body) (sym x.2.2 ∙ y.2.2) in
+      let c = all_count s ws ts x.2.3 ∙ sym (all_count s ws us y.2.3) in
+      let ps = same_places a b ts us x.0 y.0 ef x.2.0 y.2.0 m d n c st.0 su.0 in
+      let body = same_body a b ts us x.0 y.0 ef x.2.0 y.2.0 m bs in
+      let bl = unique_all s ws ts us x.2.3 y.2.3 st.1 su.1 ps in
+      λ i. node (record { dtype = d i; len = n i; body = body i }) (bl i)
 
-    unique_all : (s : SessionMeaning) (ws : Wires) (ts us : Trees) → AllMatch s ws ts → AllMatch s ws us → EverywhereBelow IsSoundNode ts → EverywhereBelow IsSoundNode us
-        → places ts ≡ places us → ts ≡ us
-    unique_all s end ts us p q st su l = p ∙ sym q
-    unique_all s (more w ws) end us p q st su l = absurd p
-    unique_all s (more w ws) (more t ts) end p q st su l = absurd q
-    unique_all s (more w ws) (more t ts) (more u us) p q st su l =
-        let f = first_place (record { dtype = (label t).dtype; len = (label t).len }) (record { dtype = (label u).dtype; len = (label u).len }) (places ts) (places us) l in
-        let a = unique s w t u p.0 q.0 st.0 su.0 (ap (λ z. z.dtype) f) (ap (λ z. z.len) f) in
-        let b = unique_all s ws ts us p.1 q.1 st.1 su.1 (other_places _ _ _ _ l) in
-        λ i. more (a i) (b i)
+  unique_all : (s : SessionMeaning) (ws : Wires) (ts us : Trees) → AllMatch s ws ts → AllMatch s ws us → EverywhereBelow IsSoundNode ts → EverywhereBelow IsSoundNode us
+      → places ts ≡ places us → ts ≡ us
+  unique_all s end ts us p q st su l = p ∙ sym q
+  unique_all s (more w ws) end us p q st su l = absurd p
+  unique_all s (more w ws) (more t ts) end p q st su l = absurd q
+  unique_all s (more w ws) (more t ts) (more u us) p q st su l =
+      let f = first_place (record { dtype = (label t).dtype; len = (label t).len }) (record { dtype = (label u).dtype; len = (label u).len }) (places ts) (places us) l in
+      let a = unique s w t u p.0 q.0 st.0 su.0 (ap (λ z. z.dtype) f) (ap (λ z. z.len) f) in
+      let b = unique_all s ws ts us p.1 q.1 st.1 su.1 (other_places _ _ _ _ l) in
+      λ i. more (a i) (b i)
 
-  -- a blob spells at most one array
-  pub spelled_once : ((blob : List ℕ) (ids : List (List ℕ)) (v w : Wire) → Carries blob ids v → Carries blob ids w → v ≡ w)
-      → (blob : List ℕ) (ids : List (List ℕ)) (d : Typ) (n : ℕ) (s : SessionMeaning) (t u : Tree) → Spells blob ids d n s t → Spells blob ids d n s u → t ≡ u
-  spelled_once carried blob ids d n s t u x y =
-      let w = carried blob ids y.wire x.wire y.carried x.carried in
-      let P : Wire → Type 0 = λ z. Matches s z u in
-      unique s x.wire t u x.matched (subst P w y.matched) x.sound y.sound (x.dtype ∙ sym y.dtype) (x.len ∙ sym y.len)
+-- a blob spells at most one array
+pub spelled_once : (blob : List ℕ) (ids : List (List ℕ)) (d : Typ) (n : ℕ) (s : SessionMeaning) (t u : Tree) → Spells blob ids d n s t → Spells blob ids d n s u → t ≡ u
+spelled_once blob ids d n s t u x y =
+    let w = (carried_once blob ids y.wire x.wire y.carried x.carried).tree in
+    let P : Wire → Type 0 = λ z. Matches s z u in
+    unique s x.wire t u x.matched (subst P w y.matched) x.sound y.sound (x.dtype ∙ sym y.dtype) (x.len ∙ sym y.len)

@@ -11,16 +11,16 @@ use Rattle.vx_encodings.specs.declared.encoding.Encoding.{Encoding}
 use Rattle.vx_encodings.specs.declared.encoding.Metadata.{Metadata}
 use Rattle.vx_encodings.specs.declared.error.EncodingError.{EncodingError}
 use Rattle.vx_encodings.specs.declared.error.EncodingError.TheVariants as refusals
-use Rattle.vx_registry.specs.Context.{Context, grown}
+use Rattle.vx_registry.specs.Context.{grown}
 use Rattle.vx_registry.specs.Session.{SessionMeaning}
 use Rattle.vx_serde.specs.declared.error.WireError.{WireError}
 use Rattle.vx_serde.specs.declared.error.WireError.TheVariants.{OutOfMemory, TooShort, BadTable, TableLimit, BadAlignment, Compressed, OutOfBounds, UnknownIndex, UnknownEncoding, BadMetadata, BadShape, NotPermitted, WireLimit}
-use Rattle.vx_serde.specs.declared.options.SerializeOptions.{SerializeOptions}
 use Rattle.vx_serde.specs.Wire.{Wire}
 use Rattle.vx_serde.specs.Blob.{Carries}
 use Rattle.vx_serde.specs.Opening.{IsUnopened}
 use Rattle.vx_serde.specs.Placed.{IsBy, Claim, HoldsSomewhere, HoldsUnder}
-use Rattle.vx_serde.specs.Spells.{Spells, KeepsWriterLimits}
+use Rattle.vx_serde.specs.Spells.{KeepsWriterLimits}
+use Rattle.vx_serde.specs.Request.{Request, IsSpelled}
 
 -- A node's identifier is there, and nothing reads it.
 abbrev pub IsUnregistered : SessionMeaning → Claim
@@ -75,45 +75,35 @@ abbrev pub IsCausedUnder : SessionMeaning → WireError → List Wire → List P
 IsCausedUnder s OutOfMemory ws ps = Unit {0}
 IsCausedUnder s e ws ps = (i : ℕ) × (w : Wire) × (p : Place) × (slice_get ws i ≡ Some w) × (slice_get ps i ≡ Some p) × IsCausedIn s e w p.dtype p.len
 
--- What a call of `recode` is given.
-pub record Call : Type 0 where
-  pub blob : List ℕ
-  pub dtype : Typ
-  pub len : ℕ
-  pub ids : List (List ℕ)
-  pub context : Context
-  pub session : SessionMeaning
-  pub options : SerializeOptions
-
 -- The blob carries a wire tree that tells no array.
-pub record IsCausedBelow (c : Call) (e : WireError) : Type 0 where
+pub record IsCausedBelow (asked : Request) (e : WireError) : Type 0 where
   pub wire : Wire
-  pub carried : Carries c.blob c.ids wire
-  pub cause : IsCausedIn c.session e wire c.dtype c.len
+  pub carried : Carries asked.blob asked.ids wire
+  pub cause : IsCausedIn asked.session e wire asked.dtype asked.len
 
 -- The blob spells an array of which this holds.
-pub record SpellsOne (c : Call) (P : Tree → Type 0) : Type 0 where
+pub record SpellsOne (asked : Request) (P : Tree → Type 0) : Type 0 where
   pub array : Tree
-  pub spelled : Spells c.blob c.ids c.dtype c.len c.session array
+  pub spelled : IsSpelled asked array
   pub holds : P array
 
 -- Why `recode` refuses: by the refusal. Want of memory has no cause but itself. The
 -- blob's own faults come first, then those of its nodes, then those of the array
 -- that it spells: an identifier that the context does not take, or a limit on writing.
-abbrev pub IsCaused : Call → WireError → Type 0
-IsCaused c OutOfMemory = Unit {0}
-IsCaused c TooShort = IsUnopened TooShort c.blob
-IsCaused c BadTable = IsUnopened BadTable c.blob
-IsCaused c TableLimit = IsUnopened TableLimit c.blob
-IsCaused c BadAlignment = IsUnopened BadAlignment c.blob
-IsCaused c Compressed = IsUnopened Compressed c.blob
-IsCaused c OutOfBounds = IsUnopened OutOfBounds c.blob ⊎ IsCausedBelow c OutOfBounds
-IsCaused c UnknownIndex = IsCausedBelow c UnknownIndex
-IsCaused c UnknownEncoding = IsCausedBelow c UnknownEncoding
-IsCaused c BadMetadata = IsCausedBelow c BadMetadata
-IsCaused c BadShape = IsCausedBelow c BadShape
-IsCaused c NotPermitted = SpellsOne c (λ t. grown c.context t ≡ None)
-IsCaused c WireLimit = SpellsOne c (λ t. KeepsWriterLimits c.session t c.context c.options → ⊥)
+abbrev pub IsCaused : Request → WireError → Type 0
+IsCaused asked OutOfMemory = Unit {0}
+IsCaused asked TooShort = IsUnopened TooShort asked.blob
+IsCaused asked BadTable = IsUnopened BadTable asked.blob
+IsCaused asked TableLimit = IsUnopened TableLimit asked.blob
+IsCaused asked BadAlignment = IsUnopened BadAlignment asked.blob
+IsCaused asked Compressed = IsUnopened Compressed asked.blob
+IsCaused asked OutOfBounds = IsUnopened OutOfBounds asked.blob ⊎ IsCausedBelow asked OutOfBounds
+IsCaused asked UnknownIndex = IsCausedBelow asked UnknownIndex
+IsCaused asked UnknownEncoding = IsCausedBelow asked UnknownEncoding
+IsCaused asked BadMetadata = IsCausedBelow asked BadMetadata
+IsCaused asked BadShape = IsCausedBelow asked BadShape
+IsCaused asked NotPermitted = SpellsOne asked (λ t. grown asked.context t ≡ None)
+IsCaused asked WireLimit = SpellsOne asked (λ t. KeepsWriterLimits asked.session t asked.context asked.options → ⊥)
 
 -- An encoding's refusal as one of a blob.
 abbrev pub error_of : EncodingError → WireError

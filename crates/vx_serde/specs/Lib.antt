@@ -17,5 +17,7 @@ pub mod Opening
 pub mod Matches
 pub mod Spells
 pub mod Placed
+pub mod Request
 pub mod Causes
 pub mod Aligned
+pub mod Recoding

@@ -2,16 +2,12 @@
 use Rattle.std.specs.Prelude.{ℕ, zero, suc, ◌+◌, max, List, [], ◌∷◌, ◌++◌, length, replicate}
 use Rattle.std.specs.Int.{w32, to_le_bytes}
 use Rattle.vx_buffer.specs.Buffer.{Buffer}
+pub use Rattle.vx_buffer.specs.Joined.{joined}
 use Rattle.vx_serde.specs.declared.options.SerializeOptions.{SerializeOptions}
 use Rattle.vx_serde.specs.Wire.{Wire}
 use Rattle.vx_serde.specs.Numbered.{buffers_in}
 use Rattle.vx_serde.specs.Placing.{pad}
 use Rattle.vx_serde.specs.Written.{message_bytes, message_pad}
-
--- The bytes of buffers, one after the other.
-abbrev pub joined : List Buffer → List ℕ
-joined [] = []
-joined (b ∷ bs) = b.bytes ++ joined bs
 
 -- Bytes with no alignment.
 abbrev pub unaligned : List ℕ → Buffer

@@ -1,11 +1,11 @@
 //! From a wire tree to the array that it tells.
 
-ghost use Rattle.std.specs.Prelude.{◌≡◌, length, map, Some, None, IfOk, IfErr, IsOkUnless};
+ghost use Rattle.std.specs.Prelude.{◌≡◌, length, map, Some, None, IfOk, IfErr, OnOk, IsOkUnless};
 ghost use Rattle.vx_trees.specs.Rose.{label, below, count, roses_of};
 ghost use Rattle.vx_types.specs.Seen.{typ};
 ghost use Rattle.vx_arrays.specs.Places.{places};
 ghost use Rattle.vx_arrays.specs.Sound.{IsSound};
-ghost use Rattle.vx_registry.specs.Session.{registry_meaning};
+ghost use Rattle.vx_registry.specs.Session.{registry_meaning, IsPaired};
 ghost use Rattle.vx_serde.specs.Matches.{Matches, AllMatch};
 ghost use Rattle.vx_serde.specs.Causes.{IsCausedIn, IsCausedUnder, IsLacking};
 
@@ -14,7 +14,6 @@ use crate::tree::WireNode;
 use std::alloc::Global;
 use vx_arrays::{Array, Arrays};
 use vx_buffer::{BufferHandle, BufferHandles};
-use vx_encodings::laws::plan_length_law;
 use vx_encodings::{ArrayHead, ChildPlans, EncodingError, build, plan};
 use vx_registry::ArraySession;
 use vx_types::{DType, Id};
@@ -86,9 +85,9 @@ pub(crate) fn decode(
     ensures sound { IfOk result IsSound }
     ensures dtype { IfOk result (λ t. (label t).dtype ≡ typ dtype.now) }
     ensures len { IfOk result (λ t. (label t).len ≡ len) }
+    ensures paired { OnOk result (IsPaired (registry_meaning session.now)) }
     ensures cause { IfErr result (λ e. IsCausedIn (registry_meaning session.now) e node.now (typ dtype.now) len) }
 {
-    plan_length_law();
     let Some(id) = node.id() else {
         return Err(WireError::UnknownIndex);
     };

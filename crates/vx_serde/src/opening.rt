@@ -18,7 +18,6 @@ use crate::message::{Descriptor, bytes_of, descriptors, indices, number_of, rows
 use crate::tree::WireNode;
 use std::alloc::Global;
 use vx_buffer::{Alignment, BufferHandle, BufferHandles, ByteBuffer};
-use vx_flat::laws::one_value;
 use vx_flat::{FieldValue, FlatError, read_value};
 use vx_registry::ReadContext;
 use vx_types::{Blob, Id};
@@ -227,7 +226,6 @@ pub(crate) fn open(
     ensures opened { IfOk result (λ w. IsOpened blob.now.bytes ids.now w) }
     ensures cause { IfErr result (λ e. IsUnopened e blob.now.bytes) }
 {
-    one_value();
     let Some((segment, message)) = split_blob(blob.as_slice()) else {
         return Err(WireError::TooShort);
     };

@@ -31,7 +31,6 @@ use crate::placing::{
 use crate::tree::WireNode;
 use std::alloc::{AllocError, Global};
 use vx_buffer::{BufferError, BufferHandle, BufferHandles, ByteBuffer, ByteBuffers};
-use vx_flat::laws::layout_is_shown;
 use vx_flat::{FieldValue, FlatError, TableValue, read_value, write_value};
 use vx_registry::ArrayContext;
 
@@ -58,7 +57,6 @@ fn message_bytes(alloc: Global, value: &TableValue) -> Result<Vec<u8>, WireError
     ensures light { OnOk result (IsLight limits (weigh.weight array_schema (written_layout array_schema (value_of value.now)))) }
     ensures refused { IfErr result (IsTooHeavy (written_layout array_schema (value_of value.now))) }
 {
-    layout_is_shown();
     let message = match write_value(alloc, &ArrayKind, value) {
         Ok(message) => message,
         Err(FlatError::OutOfMemory) => return Err(WireError::OutOfMemory),

@@ -12,3 +12,10 @@ pub mod Members
 pub mod Weights
 pub mod Elements
 pub mod Written
+pub mod LawsTypes
+pub mod MessageForm
+pub mod MessageBack
+pub mod MessageSound
+pub mod MessageFound
+pub mod Named
+pub mod MessageSteps

@@ -7,3 +7,5 @@ pub mod Answers
 pub mod Shown
 pub mod Written
 pub mod Viewing
+pub mod TypeMessage
+pub mod MessageReading

@@ -6,6 +6,7 @@ ghost use Rattle.vx_type_wire.specs.declared.error.TypeWireError.TheVariants.{Ou
 use std::alloc::{AllocError, AllocFailed};
 use thiserror::Error;
 use vx_flat::FlatError;
+use vx_proto::ProtoError;
 use vx_types::TypeError;
 
 /// Why a message is not read as a type, or a type is not written.
@@ -72,6 +73,21 @@ impl From<FlatError> for TypeWireError {
             FlatError::BadTable => TypeWireError::BadTable,
             FlatError::TableLimit => TypeWireError::TableLimit,
             FlatError::MessageTooLong => TypeWireError::WireLimit,
+        }
+    }
+}
+
+impl From<ProtoError> for TypeWireError {
+    ghost use Rattle.vx_type_wire.specs.Answers.{refusal_of_proto};
+
+    ghost from_gives = { λ p e. e ≡ refusal_of_proto p };
+
+    fn from(error: ProtoError) -> TypeWireError {
+        match error {
+            ProtoError::OutOfMemory => TypeWireError::OutOfMemory,
+            ProtoError::BadMessage => TypeWireError::BadMessage,
+            ProtoError::TooDeep => TypeWireError::TooDeep,
+            ProtoError::OutOfRange => TypeWireError::BadType,
         }
     }
 }

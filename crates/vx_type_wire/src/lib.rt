@@ -1,4 +1,4 @@
-//! Logical types as table messages.
+//! Logical types as table messages, and as tagged messages.
 //!
 //! [`TypeKind`] is the kind of messages that show a type: a table with one
 //! field, a union whose members are the kinds of types. [`DTypeExt`] gives a
@@ -8,6 +8,10 @@
 //! is written down in `specs::TypeTable`, the table of each type, `specs::Known`,
 //! which types a session knows, `specs::Shown`, what it means that a message shows
 //! a type, and `specs::Written`, which types are written.
+//!
+//! [`pb::DType`] is the tagged message of a type, and [`slots`] has its schema, for messages of other
+//! crates that hold types. `specs::TypeMessage` says which message each type has, and when a message
+//! is read as a type.
 #![tactic(auto)]
 
 mod entries;
@@ -17,6 +21,8 @@ mod known;
 pub mod laws;
 mod messages;
 mod parts;
+pub mod pb;
+mod proto;
 mod readers;
 mod reading;
 mod table;
@@ -26,6 +32,7 @@ mod writing;
 pub use error::TypeWireError;
 pub use kind::TypeKind;
 pub use messages::DTypeExt;
+pub use proto::{TypeMessage, slots};
 pub use readers::{ExtPlugin, ExtSession};
 pub use table::TypeTable;
 pub use weighing::MAX_LEVELS;

@@ -2,5 +2,7 @@
 #![tactic(auto)]
 
 #[cfg(test)]
+mod messages;
+#[cfg(test)]
 mod tables;
 pub mod worked;

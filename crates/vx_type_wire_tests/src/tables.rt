@@ -192,7 +192,7 @@ fn messages_that_show_no_table(rt: HostRuntime) -> Result<(), Fail> {
 
 // Accepts all extensions of one identifier, or none.
 #[derive(Drop)]
-struct Days {
+pub struct Days {
     id: Id,
     accepts: bool,
 }
@@ -212,7 +212,7 @@ impl ExtPlugin for Days {
 }
 
 // A reader of this identifier that accepts all extensions or none.
-fn reader_of(alloc: Global, id: &str, accepts: bool) -> Result<Days, TypeError> {
+pub fn reader_of(alloc: Global, id: &str, accepts: bool) -> Result<Days, TypeError> {
     let id = Id::new(alloc, id)?;
     Ok(Days { id, accepts })
 }

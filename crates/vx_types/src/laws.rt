@@ -1,16 +1,24 @@
 //! What holds of types, for the contracts of other crates.
 
-ghost use Rattle.std.specs.Prelude.{◌≡◌};
+ghost use Rattle.std.specs.Prelude.{◌≡◌, ◌↔◌, IsTrue};
+ghost use Rattle.vx_trees.specs.Same.{same};
 ghost use Rattle.vx_types.specs.declared.decimal.DecimalType.{DecimalType};
 ghost use Rattle.vx_types.specs.declared.dtype.DType.{DType};
 ghost use Rattle.vx_types.specs.declared.ptype.PType.{PType};
 ghost use Rattle.vx_types.specs.Decimals.{decimal_code_of};
 ghost use Rattle.vx_types.specs.Numbers.{code_of};
 ghost use Rattle.vx_types.specs.Seen.{typ};
+ghost use Rattle.vx_types.specs.Typ.{Typ, typ_code};
 
 /// Types that are seen as the same tree are the same type.
 pub fn same_tree_is_same_type()
     ensures { (a b : DType) → typ a ≡ typ b → a ≡ b }
+{}
+
+/// The test that `==` of types makes, which is stated by how trees are stored, is equality of the
+/// trees that they are seen as.
+pub fn equal_types_are_one_tree()
+    ensures { (a b : Typ) → IsTrue (same typ_code a b) ↔ (a ≡ b) }
 {}
 
 /// A code is of one width of decimals at most.

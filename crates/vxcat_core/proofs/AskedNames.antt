@@ -2,7 +2,7 @@
 use Rattle.std.proofs.Common.{◌≡◌, ◌⊎◌, inl, inr, ℕ, List, [], ◌∷◌, ◌++◌, Contains, sym, ap, ◌∙◌, append_assoc}
 use Rattle.std.proofs.lemmas.List.{append-nil}
 use Rattle.std.specs.List.{AllByRecursion}
-use Rattle.vxcat_core.specs.Recoding.{AskedOnly}
+use Rattle.vxcat_core.specs.StoreState.{AskedOnly}
 
 push : (P : List ℕ → Type 0) (more : List (List ℕ)) (name : List ℕ) → AllByRecursion P more → P name → AllByRecursion P (more ++ name ∷ [])
 push P [] name all one = (one, tt)

@@ -6,5 +6,6 @@ mod IdLines
 mod KnownText
 mod Listings
 mod OptionFronts
+mod OptionSettings
 mod Recodings
 mod SevenWords

@@ -1,11 +1,12 @@
--- Words spell options in one way alone.
+-- Words give options in one way alone.
 use Rattle.std.proofs.Common.{◌≡◌, ℕ, List, [], ◌∷◌, ◌++◌, Option, Some, None, ◌<◌, ◌^◌, codes, decimal, length, get_or, drop, refl, sym, ap, ◌∙◌, arith}
 use Rattle.std.specs.List.{AllByRecursion, flat_map}
 use Rattle.std.proofs.lemmas.Fmt.{decimal_injective}
-use Rattle.vxcat_core.specs.Options.{choice_words, IsInRange, with_choice, with_choices, SpellOptions}
+use Rattle.vxcat_core.specs.Options.{choice_words, IsInRange}
 use Rattle.vxcat_core.specs.declared.options.Choice.{Choice}
 use Rattle.vxcat_core.specs.declared.options.Choice.TheVariants.{Pad, Rows}
 use Rattle.vxcat_core.specs.declared.options.Options.{Options}
+use Rattle.vxcat_core.specs.GivenOptions.{Gives, with_choice, with_choices}
 
 length_at : (a b : List (List ℕ)) (k : ℕ) → a ≡ b → length (get_or a k []) ≡ length (get_or b k [])
 length_at a b k same = ap (λ (l : List (List ℕ)). length (get_or l k [])) same
@@ -33,33 +34,33 @@ no_words : (choice : Choice) (rest : List (List ℕ)) → [] ≡ choice_words ch
 no_words (Pad n) rest same = cc
 no_words (Rows n) rest same = cc
 
--- No words spell no option.
-pub none_spelled : (before : Options) (words : List (List ℕ)) → words ≡ [] → SpellOptions before words before
-none_spelled before words none = record { choices = []; words_are = none; in_range = tt; once = refl }
+-- No words give no option.
+pub none_given : (before : Options) (words : List (List ℕ)) → words ≡ [] → Gives before words before
+none_given before words none = record { choices = []; words_are = none; in_range = tt; once = refl }
 
 -- One option more at the front.
 pub one_more : (before next after : Options) (choice : Choice) (words rest : List (List ℕ)) → words ≡ choice_words choice ++ rest → IsInRange choice → with_choice before choice ≡ Some next
-    → SpellOptions next rest after → SpellOptions before words after
-one_more before next after choice words rest words_are in_range given spells = record {
-  choices = choice ∷ spells.choices;
-  words_are = words_are ∙ ap (λ (l : List (List ℕ)). choice_words choice ++ l) spells.words_are ∙ same_list;
-  in_range = (in_range, spells.in_range);
-  once = ap (λ (o : Option Options). with_choices o spells.choices) given ∙ spells.once;
+    → Gives next rest after → Gives before words after
+one_more before next after choice words rest words_are in_range given gives = record {
+  choices = choice ∷ gives.choices;
+  words_are = words_are ∙ ap (λ (l : List (List ℕ)). choice_words choice ++ l) gives.words_are ∙ same_list;
+  in_range = (in_range, gives.in_range);
+  once = ap (λ (o : Option Options). with_choices o gives.choices) given ∙ gives.once;
 } where
-  same_list : choice_words choice ++ flat_map choice_words spells.choices ≡ flat_map choice_words (choice ∷ spells.choices)
+  same_list : choice_words choice ++ flat_map choice_words gives.choices ≡ flat_map choice_words (choice ∷ gives.choices)
   same_list = refl
 
--- Words that begin with no option, and are some, spell none.
-pub not_begun : (before after : Options) (words : List (List ℕ)) → (words ≡ [] → ⊥) → ((choice : Choice) (rest : List (List ℕ)) → IsInRange choice → words ≡ choice_words choice ++ rest → ⊥) → SpellOptions before words after → ⊥
-not_begun before after words some none spells = by_choices spells.choices spells.words_are spells.in_range where
+-- Words that begin with no option, and are some, give none.
+pub not_begun : (before after : Options) (words : List (List ℕ)) → (words ≡ [] → ⊥) → ((choice : Choice) (rest : List (List ℕ)) → IsInRange choice → words ≡ choice_words choice ++ rest → ⊥) → Gives before words after → ⊥
+not_begun before after words some none gives = by_choices gives.choices gives.words_are gives.in_range where
   by_choices : (choices : List Choice) → words ≡ flat_map choice_words choices → AllByRecursion IsInRange choices → ⊥
   by_choices [] is ranges = some is
   by_choices (choice ∷ choices) is ranges = none choice (flat_map choice_words choices) ranges.0 is
 
--- Words that begin with an option spell what the rest spells beside it.
-pub rest_spelled : (before after : Options) (choice : Choice) (words rest : List (List ℕ)) → words ≡ choice_words choice ++ rest → IsInRange choice → SpellOptions before words after
+-- Words that begin with an option give what the rest gives beside it.
+pub rest_given : (before after : Options) (choice : Choice) (words rest : List (List ℕ)) → words ≡ choice_words choice ++ rest → IsInRange choice → Gives before words after
     → (more : List Choice) × (rest ≡ flat_map choice_words more) × AllByRecursion IsInRange more × (with_choices (with_choice before choice) more ≡ Some after)
-rest_spelled before after choice words rest words_are in_range spells = by_choices spells.choices spells.words_are spells.in_range spells.once where
+rest_given before after choice words rest words_are in_range gives = by_choices gives.choices gives.words_are gives.in_range gives.once where
   by_choices : (choices : List Choice) → words ≡ flat_map choice_words choices → AllByRecursion IsInRange choices → with_choices (Some before) choices ≡ Some after
       → (more : List Choice) × (rest ≡ flat_map choice_words more) × AllByRecursion IsInRange more × (with_choices (with_choice before choice) more ≡ Some after)
   by_choices [] is ranges once = absurd (no_words choice rest (sym is ∙ words_are))
@@ -68,17 +69,17 @@ rest_spelled before after choice words rest words_are in_range spells = by_choic
       (choices, same.1, ranges.1, ap (λ (d : Choice). with_choices (with_choice before d) choices) same.0 ∙ once)
 
 -- An option that was given before is not given again.
-pub given_twice : (before after : Options) (choice : Choice) (words rest : List (List ℕ)) → words ≡ choice_words choice ++ rest → IsInRange choice → with_choice before choice ≡ None → SpellOptions before words after → ⊥
-given_twice before after choice words rest words_are in_range refused spells =
-    let more = rest_spelled before after choice words rest words_are in_range spells in
+pub given_twice : (before after : Options) (choice : Choice) (words rest : List (List ℕ)) → words ≡ choice_words choice ++ rest → IsInRange choice → with_choice before choice ≡ None → Gives before words after → ⊥
+given_twice before after choice words rest words_are in_range refused gives =
+    let more = rest_given before after choice words rest words_are in_range gives in
     let never = sym (with_choices-None more.0) ∙ ap (λ (o : Option Options). with_choices o more.0) (sym refused) ∙ more.3 in
     cc
 
--- Where the rest spells no options, neither do all the words.
-pub rest_not_spelled : (before next : Options) (choice : Choice) (words rest : List (List ℕ)) → words ≡ choice_words choice ++ rest → IsInRange choice → with_choice before choice ≡ Some next
-    → ((after : Options) → SpellOptions next rest after → ⊥) → (after : Options) → SpellOptions before words after → ⊥
-rest_not_spelled before next choice words rest words_are in_range given none after spells =
-    let more = rest_spelled before after choice words rest words_are in_range spells in
+-- Where the rest gives no options, neither do all the words.
+pub rest_not_given : (before next : Options) (choice : Choice) (words rest : List (List ℕ)) → words ≡ choice_words choice ++ rest → IsInRange choice → with_choice before choice ≡ Some next
+    → ((after : Options) → Gives next rest after → ⊥) → (after : Options) → Gives before words after → ⊥
+rest_not_given before next choice words rest words_are in_range given none after gives =
+    let more = rest_given before after choice words rest words_are in_range gives in
     none after (record { choices = more.0; words_are = more.1; in_range = more.2; once = ap (λ (o : Option Options). with_choices o more.0) (sym given) ∙ more.3 })
 
 -- A number of rows over 1,000 is no option.
@@ -88,7 +89,8 @@ too_many_rows (Rows m) rest other n many fits range same =
     let is : n ≡ m = decimal_injective n m fits (omega (arith, range)) (second _ _ same) in
     omega (arith, is, many, range)
 
-choices_same : (cs ds : List Choice) → AllByRecursion IsInRange cs → AllByRecursion IsInRange ds → flat_map choice_words cs ≡ flat_map choice_words ds → cs ≡ ds
+-- Words are one list of options at most.
+pub choices_same : (cs ds : List Choice) → AllByRecursion IsInRange cs → AllByRecursion IsInRange ds → flat_map choice_words cs ≡ flat_map choice_words ds → cs ≡ ds
 choices_same [] [] first second same = refl
 choices_same [] (d ∷ ds) first second same = absurd (no_words d (flat_map choice_words ds) same)
 choices_same (c ∷ cs) [] first second same = absurd (no_words c (flat_map choice_words cs) (sym same))
@@ -96,10 +98,3 @@ choices_same (c ∷ cs) (d ∷ ds) first second same =
     let parts = front c d (flat_map choice_words cs) (flat_map choice_words ds) first.0 second.0 same in
     let tails = choices_same cs ds first.1 second.1 parts.1 in
     (λ k. parts.0 k ∷ tails k)
-
--- Words spell one set of options at most.
-pub options_same : (before a b : Options) (words : List (List ℕ)) → SpellOptions before words a → SpellOptions before words b → a ≡ b
-options_same before a b words first second =
-    let choices = choices_same first.choices second.choices first.in_range second.in_range (sym first.words_are ∙ second.words_are) in
-    let both : Some a ≡ Some b = sym first.once ∙ ap (λ (cs : List Choice). with_choices (Some before) cs) choices ∙ second.once in
-    cc

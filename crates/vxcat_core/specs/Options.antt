@@ -1,11 +1,10 @@
 -- The options of a command.
-use Rattle.std.specs.Prelude.{◌≡◌, ℕ, ◌<◌, ◌≤◌, ◌^◌, List, [], ◌∷◌, Option, Some, None, codes, decimal}
-use Rattle.std.specs.List.{AllByRecursion, flat_map}
+use Rattle.std.specs.Prelude.{ℕ, ◌<◌, ◌≤◌, ◌^◌, List, [], ◌∷◌, Option, codes, decimal, length, slice_get, unwrap_or}
+use Rattle.std.specs.List.{AllByRecursion}
 use Rattle.vxcat_core.specs.declared.options.Choice.{Choice}
 use Rattle.vxcat_core.specs.declared.options.Choice.TheVariants.{Pad, Rows}
-use Rattle.vxcat_core.specs.declared.options.Options.{Options}
 
--- An option is spelled by its name, and behind it its number.
+-- An option is written as its name, and behind it its number.
 abbrev pub choice_words : Choice → List (List ℕ)
 choice_words (Pad n) = codes "--pad" ∷ decimal n ∷ []
 choice_words (Rows n) = codes "--rows" ∷ decimal n ∷ []
@@ -15,39 +14,30 @@ abbrev pub IsInRange : Choice → Type 0
 IsInRange (Pad n) = n < 2 ^ 64
 IsInRange (Rows n) = n ≤ 1000
 
--- An option's number, where it was not given before; none where it was.
-abbrev pub given_once : Option ℕ → ℕ → Option (Option ℕ)
-given_once None n = Some (Some n)
-given_once (Some m) n = None
+-- The positions that options give by `--pad`, in order.
+abbrev pub positions : List Choice → List ℕ
+positions [] = []
+positions (Pad n ∷ choices) = n ∷ positions choices
+positions (Rows n ∷ choices) = positions choices
 
--- Options with this position; none where it cannot be given.
-abbrev pub pad_given : Options → Option (Option ℕ) → Option Options
-pad_given options None = None
-pad_given options (Some pad) = Some (record { pad = pad; rows = options.rows })
+-- The numbers of rows that options give by `--rows`, in order.
+abbrev pub counts : List Choice → List ℕ
+counts [] = []
+counts (Pad n ∷ choices) = counts choices
+counts (Rows n ∷ choices) = n ∷ counts choices
 
--- Options with this number of rows; none where it cannot be given.
-abbrev pub rows_given : Options → Option (Option ℕ) → Option Options
-rows_given options None = None
-rows_given options (Some rows) = Some (record { pad = options.pad; rows = rows })
-
--- Options with one more: none where it was given before.
-abbrev pub with_choice : Options → Choice → Option Options
-with_choice options (Pad n) = pad_given options (given_once options.pad n)
-with_choice options (Rows n) = rows_given options (given_once options.rows n)
-
--- Options with more, one after the other: none where one is given twice.
-abbrev pub with_choices : Option Options → List Choice → Option Options
-with_choices options [] = options
-with_choices None (choice ∷ choices) = with_choices None choices
-with_choices (Some options) (choice ∷ choices) = with_choices (with_choice options choice) choices
-
--- The words spell options, in any order and each at most once, beside those that were given before.
-pub record SpellOptions (before : Options) (words : List (List ℕ)) (after : Options) : Type 0 where
-  pub choices : List Choice
-  pub words_are : words ≡ flat_map choice_words choices
+-- Options stand in any order, each in its range, and no two of a kind.
+pub record AreOptions (choices : List Choice) : Type 0 where
   pub in_range : AllByRecursion IsInRange choices
-  pub once : with_choices (Some before) choices ≡ Some after
+  pub pad_once : length (positions choices) ≤ 1
+  pub rows_once : length (counts choices) ≤ 1
 
--- No option was given.
-abbrev pub no_options : Options
-no_options = record { pad = None; rows = None }
+-- What options set: the position at which pads are written as if the blob stood there, if any, and how many rows a
+-- listing has.
+pub record Settings : Type 0 where
+  pub pad : Option ℕ
+  pub rows : ℕ
+
+-- A listing has as many rows as `--rows` says, and ten without it.
+abbrev pub settings_of : List Choice → Settings
+settings_of choices = record { pad = slice_get (positions choices) 0; rows = unwrap_or (slice_get (counts choices) 0) 10 }

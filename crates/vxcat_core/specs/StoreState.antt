@@ -1,5 +1,6 @@
 -- What contracts see of a store.
-use Rattle.std.specs.Prelude.{ℕ, ◌+◌, ◌-◌, ◌^◌, ◌≤◌, min, Bool, Option, List}
+use Rattle.std.specs.Prelude.{◌≡◌, ℕ, ◌+◌, ◌-◌, ◌^◌, ◌≤◌, min, Bool, IsTrue, Option, Some, List, ◌++◌, Contains}
+use Rattle.std.specs.List.{AllByRecursion}
 
 -- A store is seen as whether it tells what stands at its names, what stands at each name, the names that it was asked
 -- for so far in their order, and the number of its loads and of its saves that failed.
@@ -13,3 +14,11 @@ pub record StoreState : Type 0 where
 -- A count of faults has risen; one that stands at 2^64 - 1 cannot count further, and counts as risen.
 abbrev pub HasRisen : ℕ → ℕ → Type 0
 HasRisen before after = min (before + 1) (2 ^ 64 - 1) ≤ after
+
+-- As far as the store tells, these bytes stand at the name.
+abbrev pub Stands : StoreState → List ℕ → List ℕ → Type 0
+Stands store name bytes = IsTrue store.tells → store.file name ≡ Some bytes
+
+-- Only these names were asked for in addition.
+abbrev pub AskedOnly : List (List ℕ) → List (List ℕ) → List (List ℕ) → Type 0
+AskedOnly names before after = (more : List (List ℕ)) × (after ≡ before ++ more) × AllByRecursion (λ name. Contains names name) more

@@ -11,12 +11,11 @@ mod options;
 mod output;
 mod print;
 mod program;
-mod recoding;
+mod recode;
 mod row_text;
 mod sink;
 mod status;
 mod store;
-mod words;
 
 pub use dir_store::DirStore;
 pub use mem_sink::MemSink;

@@ -1,7 +1,8 @@
 //! The options behind the words of a command.
 
 ghost use Rattle.std.specs.Prelude.{◌≡◌, ◌≢◌, ℕ, List, ◌++◌, IfSome, IfNone};
-ghost use Rattle.vxcat_core.specs.Options.{choice_words, IsInRange, with_choice, no_options, SpellOptions};
+ghost use Rattle.vxcat_core.specs.Options.{choice_words, IsInRange};
+ghost use Rattle.vxcat_core.specs.GivenOptions.{Gives, no_options, with_choice};
 ghost use Rattle.vxcat_core.specs.declared.options.Choice.{Choice as ChoiceType};
 ghost use Rattle.vxcat_core.specs.declared.options.Options.{Options as OptionsType};
 
@@ -20,7 +21,7 @@ pub enum Choice {
     Rows(u64),
 }
 
-/// The options of a command, each given at most once.
+/// The options of a command, no two of a kind.
 #[derive(Clone, Copy, Debug, PartialEq, Eq)]
 pub struct Options {
     pub pad: Option<u64>,
@@ -79,10 +80,10 @@ pub fn next_choice<'a>(words: &'a [Name]) -> Option<(Choice, &'a [Name])>
     Some((Choice::Rows(number), rest))
 }
 
-/// The options that the words spell, beside those that were given before.
+/// The options that the words give, beside those that were given before.
 pub fn parse_options(words: &[Name], before: Options) -> Option<Options>
-    ensures spelled { IfSome result (λ options. SpellOptions before words.now options) }
-    ensures none { IfNone result ((options : OptionsType) → ¬ (SpellOptions before words.now options)) }
+    ensures given { IfSome result (λ options. Gives before words.now options) }
+    ensures none { IfNone result ((options : OptionsType) → ¬ (Gives before words.now options)) }
 {
     if words.is_empty() {
         return Some(before);

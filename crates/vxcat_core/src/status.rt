@@ -1,13 +1,53 @@
 //! The statuses with which the program ends, and their numbers.
 
 ghost use Rattle.std.specs.Prelude.{◌≡◌};
-ghost use Rattle.vxcat_core.specs.Status.{status_number, load_status, save_status, print_status, type_status, id_status, wire_status};
+ghost use Rattle.vxcat_core.specs.Status.{status_number, wire_error};
+ghost use Rattle.vxcat_core.specs.Statuses.{load_status, save_status, print_status, type_status, id_status, blob_status};
 
 use crate::id_file::IdFileError;
 use crate::print::PrintError;
 use crate::store::StoreError;
 use vx_serde::WireError;
 use vx_type_wire::TypeWireError;
+
+/// Why a blob is not recoded, but for want of memory: the refusals of `WireError` beside that.
+#[derive(Clone, Copy, Debug, PartialEq, Eq)]
+pub enum BlobRefusal {
+    TooShort,
+    BadTable,
+    TableLimit,
+    BadAlignment,
+    Compressed,
+    OutOfBounds,
+    UnknownIndex,
+    UnknownEncoding,
+    BadMetadata,
+    BadShape,
+    NotPermitted,
+    WireLimit,
+}
+
+impl BlobRefusal {
+    /// The refusal as `recode` answers it.
+    pub fn wire_error(self) -> WireError
+        ensures { result ≡ wire_error self }
+    {
+        match self {
+            BlobRefusal::TooShort => WireError::TooShort,
+            BlobRefusal::BadTable => WireError::BadTable,
+            BlobRefusal::TableLimit => WireError::TableLimit,
+            BlobRefusal::BadAlignment => WireError::BadAlignment,
+            BlobRefusal::Compressed => WireError::Compressed,
+            BlobRefusal::OutOfBounds => WireError::OutOfBounds,
+            BlobRefusal::UnknownIndex => WireError::UnknownIndex,
+            BlobRefusal::UnknownEncoding => WireError::UnknownEncoding,
+            BlobRefusal::BadMetadata => WireError::BadMetadata,
+            BlobRefusal::BadShape => WireError::BadShape,
+            BlobRefusal::NotPermitted => WireError::NotPermitted,
+            BlobRefusal::WireLimit => WireError::WireLimit,
+        }
+    }
+}
 
 /// How a run of the program ends.
 #[derive(Clone, Copy, Debug, PartialEq, Eq)]
@@ -29,7 +69,7 @@ pub enum Status {
     /// The id file is no text of identifiers.
     BadIds,
     /// The blob cannot be read or written again, for this cause.
-    Refused(WireError),
+    Refused(BlobRefusal),
 }
 
 impl Status {
@@ -46,7 +86,7 @@ impl Status {
             Status::WriteFault => 5,
             Status::BadType => 6,
             Status::BadIds => 7,
-            Status::Refused(error) => error.number(),
+            Status::Refused(refusal) => refusal.wire_error().number(),
         }
     }
 
@@ -109,11 +149,22 @@ impl Status {
 
     /// The status of a blob that was refused.
     pub fn of_blob(error: WireError) -> Status
-        ensures { result ≡ wire_status error }
+        ensures { result ≡ blob_status error }
     {
         match error {
             WireError::OutOfMemory => Status::OutOfMemory,
-            refusal => Status::Refused(refusal),
+            WireError::TooShort => Status::Refused(BlobRefusal::TooShort),
+            WireError::BadTable => Status::Refused(BlobRefusal::BadTable),
+            WireError::TableLimit => Status::Refused(BlobRefusal::TableLimit),
+            WireError::BadAlignment => Status::Refused(BlobRefusal::BadAlignment),
+            WireError::Compressed => Status::Refused(BlobRefusal::Compressed),
+            WireError::OutOfBounds => Status::Refused(BlobRefusal::OutOfBounds),
+            WireError::UnknownIndex => Status::Refused(BlobRefusal::UnknownIndex),
+            WireError::UnknownEncoding => Status::Refused(BlobRefusal::UnknownEncoding),
+            WireError::BadMetadata => Status::Refused(BlobRefusal::BadMetadata),
+            WireError::BadShape => Status::Refused(BlobRefusal::BadShape),
+            WireError::NotPermitted => Status::Refused(BlobRefusal::NotPermitted),
+            WireError::WireLimit => Status::Refused(BlobRefusal::WireLimit),
         }
     }
 }

@@ -2,4 +2,4 @@ use Rattle.vx_serde.proofs.OneArray.{spelled_once}
 use Rattle.vx_serde.proofs.laws.one_array.Goals as goal
 
 pub returns : goal.returns
-returns c = spelled_once c.body_law.ensures c.plan_law.ensures c.one_value_law.ensures c.one_tree.ensures
+returns c = spelled_once

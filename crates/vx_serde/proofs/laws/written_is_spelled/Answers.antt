@@ -2,5 +2,4 @@ use Rattle.vx_serde.proofs.WrittenAgain.{spelled_again}
 use Rattle.vx_serde.proofs.laws.written_is_spelled.Goals as goal
 
 pub returns : goal.returns
-returns c = λ s blob ids d n t old new options paired x grew few fit.
-    spelled_again c.written_is_carried.ensures c.id_law.ensures c.read_back_law.ensures s paired blob ids d n t old new options x grew few fit
+returns c = λ s blob ids d n t old new options paired x grew fit. spelled_again s paired blob ids d n t old new options x grew fit

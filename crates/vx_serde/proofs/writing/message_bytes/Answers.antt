@@ -1,8 +1,9 @@
-use Rattle.std.proofs.Common.{◌≡◌, ◌<◌, ◌^◌, ℕ, List, length, false, sym, ◌∙◌, subst, refl, rules}
-use Rattle.vx_flat.specs.Layout.{written_layout, shares}
+use Rattle.std.proofs.Common.{◌≡◌, ◌<◌, ◌^◌, ℕ, List, length, false, sym, ◌∙◌, subst, rules}
+use Rattle.vx_flat.specs.Layout.{written_layout}
 use Rattle.vx_flat.specs.Shows.{Shows}
 use Rattle.vx_flat.specs.View.{value as value_of}
 use Rattle.vx_serde.specs.ArraySchema.{array_schema}
+use Rattle.vx_serde.proofs.Carried.{shows-layout}
 use Rattle.vx_serde.proofs.writing.message_bytes.Goals as goal
 
 pub unreachable-requires-in-Err-BadTable-read_value : goal.unreachable-requires-in-Err-BadTable-read_value
@@ -12,4 +13,4 @@ unreachable-requires-in-Err-BadTable-read_value c =
     let P : List ℕ → Type 0 = λ m. Shows array_schema m v in
     let Q : List ℕ → Type 0 = λ m. length m < 2 ^ 31 in
     c.in-Err-BadTable-read_value.ensures.bad (search rules) v
-    (subst P (sym same) (c.layout_is_shown.ensures array_schema shares v refl c.requires (subst Q c.in-Ok.ensures.written c.in-Ok.ensures.fits)))
+    (subst P (sym same) (shows-layout v c.requires (subst Q c.in-Ok.ensures.written c.in-Ok.ensures.fits)))

@@ -1,32 +1,39 @@
 use Rattle.std.proofs.Common.{refl, sym, ◌∙◌}
-use Rattle.vxcat_core.specs.RecodeWords.{line_of}
+use Rattle.vxcat_core.specs.Commands.{recode}
+use Rattle.vxcat_core.specs.RecodeViews.{line_of}
+use Rattle.vxcat_core.specs.RunState.{run_of}
 use Rattle.vxcat_core.specs.declared.status.Status.TheVariants.{NoCommand}
 use Rattle.vxcat_core.proofs.Completeness.{complete}
-use Rattle.vxcat_core.proofs.Endings.{keeps_same, ends_not_two, has_outcome, outcome_from_ends}
+use Rattle.vxcat_core.proofs.Endings.{ends_not_two, has_outcome, keeps_same, no_command}
 use Rattle.vxcat_core.proofs.program.run.Goals as goal
 
 pub returns-in-Some-clause-no_command : goal.returns-in-Some-clause-no_command
-returns-in-Some-clause-no_command g c = (
-  λ two. absurd (ends_not_two c.run_recode.result _ _ _ _ _ c.run_recode.ensures (sym c.number.ensures ∙ two)),
-  λ none. absurd (none _ c.in-Some.ensures.spelled),
-)
+returns-in-Some-clause-no_command g c =
+    let run = run_of (g.S.Store.state c.args.store.now) (g.S.Store.state c.run_recode.new.store) (g.O.Sink.state c.args.out.now) (g.O.Sink.state c.run_recode.new.out) in (
+      λ two. absurd (ends_not_two c.run_recode.result (recode (line_of c.in-Some.words)) run c.run_recode.ensures (sym c.number.ensures ∙ two)),
+      λ none. absurd (none (recode (line_of c.in-Some.words)) c.in-Some.ensures.invoked),
+    )
 
 pub returns-in-Some-clause-outcome : goal.returns-in-Some-clause-outcome
 returns-in-Some-clause-outcome g c =
-    has_outcome c.number.result c.run_recode.result c.args.words.now (line_of c.in-Some.words) _ _ _ _ c.number.ensures c.in-Some.ensures.spelled c.run_recode.ensures
+    let run = run_of (g.S.Store.state c.args.store.now) (g.S.Store.state c.run_recode.new.store) (g.O.Sink.state c.args.out.now) (g.O.Sink.state c.run_recode.new.out) in
+    has_outcome c.number.result c.run_recode.result c.args.words.now (recode (line_of c.in-Some.words)) run c.number.ensures c.in-Some.ensures.invoked c.run_recode.ensures
 
 pub returns-in-Some-clause-complete : goal.returns-in-Some-clause-complete
 returns-in-Some-clause-complete g c = λ can quiet.
-    let outcome = outcome_from_ends c.run_recode.result c.args.words.now (line_of c.in-Some.words) _ _ _ _ c.in-Some.ensures.spelled c.run_recode.ensures in
-    let ends = complete c.args.words.now _ _ _ _ can c.run_recode.result outcome quiet in
+    let run = run_of (g.S.Store.state c.args.store.now) (g.S.Store.state c.run_recode.new.store) (g.O.Sink.state c.args.out.now) (g.O.Sink.state c.run_recode.new.out) in
+    let ends = complete c.args.words.now c.run_recode.result (recode (line_of c.in-Some.words)) run can quiet c.in-Some.ensures.invoked c.run_recode.ensures in
     rw c.number.ensures ends
 
 pub returns-in-None-clause-outcome : goal.returns-in-None-clause-outcome
 returns-in-None-clause-outcome g c = record {
   status = NoCommand;
   number_is = c.number-in-None.ensures;
-  outcome = (c.in-None.ensures.none, record { told = refl; files = refl; written = keeps_same (g.O.Sink.state c.args.out.now).written });
+  outcome = (no_command c.args.words.now c.in-None.ensures.none, record { told = refl; files = refl; unprinted = keeps_same (g.O.Sink.state c.args.out.now).written });
 }
 
 pub returns-in-None-clause-complete : goal.returns-in-None-clause-complete
-returns-in-None-clause-complete g c = λ can quiet. absurd (c.in-None.ensures.none can.line can.spelled)
+returns-in-None-clause-complete g c = λ can quiet. absurd (no_command c.args.words.now c.in-None.ensures.none can.command can.invoked)
+
+pub returns-in-None-clause-no_command : goal.returns-in-None-clause-no_command
+returns-in-None-clause-no_command g c = (λ two. no_command c.args.words.now c.in-None.ensures.none, λ none. c.number-in-None.ensures)

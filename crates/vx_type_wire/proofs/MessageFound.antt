@@ -1,0 +1,104 @@
+-- What a plain value tells of the type whose message it is.
+use Rattle.std.specs.Prelude.{IfErr, MatchResult}
+use Rattle.std.proofs.Common.{◌≡◌, ◌∙◌, ℕ, List, [], ◌∷◌, ◌⊎◌, inl, inr, ◌<◌, ◌≤◌, ◌+◌, Option, None, Some, Result, Err, refl, ap, sym, subst, arith}
+use Rattle.vx_trees.specs.Walks.{levels}
+use Rattle.vx_proto.specs.Form.{HasForm}
+use Rattle.vx_proto.specs.Reads.{Reads, Cause}
+use Rattle.vx_proto.specs.Written.{nested}
+use Rattle.vx_proto.specs.declared.error.ProtoError.{ProtoError}
+use Rattle.vx_proto.specs.declared.error.ProtoError.TheVariants as proto
+use Rattle.vx_proto.specs.Value.{Value}
+use Rattle.vx_types.specs.Typ.{Typ, IsType}
+use Rattle.vx_type_wire.specs.declared.error.TypeWireError.{TypeWireError}
+use Rattle.vx_type_wire.specs.declared.error.TypeWireError.TheVariants.{OutOfMemory, BadTable, TableLimit, BadMessage, TooDeep, BadType, UnknownExtension, ExtensionRefused, WireLimit}
+use Rattle.vx_type_wire.specs.Answers.{Fails, refusal_of_proto}
+use Rattle.vx_type_wire.specs.Known.{ExtMeaning, IsKnown, IsNotKnown, IsRead, ShowsNotKnown}
+use Rattle.vx_type_wire.specs.MessageReading.{type_in}
+use Rattle.vx_type_wire.specs.TypeMessage.{type_lists, type_message, IsMessageOf, ShowsMessage, IsNoMessage, IsUnreadValue, IsUnreadBytes, IsUnwrittenMessage}
+use Rattle.vx_type_wire.proofs.MessageBack.{reads_back}
+use Rattle.vx_type_wire.proofs.MessageSound.{type_sound}
+use Rattle.vx_type_wire.proofs.OneType.{never}
+use Rattle.vx_type_wire.proofs.MessageForm.{type_depth}
+
+same : (t u : Typ) → Some t ≡ Some u → t ≡ u
+same t u e = cc
+
+none_some : (t : Typ) (x : Option Typ) → x ≡ None → x ≡ Some t → ⊥
+none_some t x e f = absurd (cc)
+
+-- A message is of one type at most.
+pub message-injective : (t u : Typ) → IsType t → IsType u → type_message t ≡ type_message u → t ≡ u
+message-injective t u h k e =
+    let n = levels t + levels u in
+    same t u (sym (reads_back n t h (omega arith)) ∙ ap (type_in n) e ∙ reads_back n u k (omega arith))
+
+-- The type whose message it is, is the one that is read.
+pub reads_message : (v : Value) (t : Typ) → levels t ≤ 50 → IsMessageOf v t → type_in 50 v ≡ Some t
+reads_message v t le h = ap (type_in 50) h.is ∙ reads_back 50 t h.is_type le
+
+-- A value of which nothing is read is no type's.
+pub no_message : (v : Value) → type_in 50 v ≡ None → IsNoMessage v
+no_message v e t le h = none_some t (type_in 50 v) e (reads_message v t le h)
+
+default_unread : type_in 50 ([] ∷ []) ≡ None
+unfolding type_in
+default_unread = refl
+
+-- Nor is the value of a message without fields.
+pub no_default : (v : Value) → v ≡ [] ∷ [] → IsNoMessage v
+no_default v e = no_message v (ap (type_in 50) e ∙ default_unread)
+
+-- The type that is read is shown.
+pub shows_message : (v w : Value) (t : Typ) → HasForm type_lists 0 v → w ≡ v → type_in 50 w ≡ Some t → IsType t → IsMessageOf v t
+shows_message v w t f same_value e h = record { is_type = h; is = sym (type_sound 50 v t f (ap (type_in 50) (sym same_value) ∙ e)) }
+
+pub only_memory : (e : TypeWireError) (x : Option Typ) (t : Typ) → x ≡ Some t → Fails e x → e ≡ OutOfMemory
+only_memory OutOfMemory x t p h = refl
+only_memory BadTable x t p h = absurd h
+only_memory TableLimit x t p h = absurd h
+only_memory BadMessage x t p h = absurd h
+only_memory TooDeep x t p h = absurd h
+only_memory BadType x t p h = absurd (cc)
+only_memory UnknownExtension x t p h = absurd h
+only_memory ExtensionRefused x t p h = absurd h
+only_memory WireLimit x t p h = absurd h
+
+-- Why nothing is read of a value.
+pub unread_value : (e : TypeWireError) (s : ExtMeaning) (v w : Value) → w ≡ v → Fails e (type_in 50 w) → IsUnreadValue e s v
+unread_value OutOfMemory s v w q h = tt
+unread_value BadTable s v w q h = absurd h
+unread_value TableLimit s v w q h = absurd h
+unread_value BadMessage s v w q h = absurd h
+unread_value TooDeep s v w q h = absurd h
+unread_value BadType s v w q h = no_message v (ap (type_in 50) (sym q) ∙ h)
+unread_value UnknownExtension s v w q h = absurd h
+unread_value ExtensionRefused s v w q h = absurd h
+unread_value WireLimit s v w q h = absurd h
+
+-- Why a type that is shown is not known.
+pub unknown_value : (e : TypeWireError) (s : ExtMeaning) (v : Value) (t : Typ) → IsMessageOf v t → IsNotKnown e s t → IsUnreadValue e s v
+unknown_value OutOfMemory s v t m h = tt
+unknown_value BadTable s v t m h = never BadTable s t (λ id bs u n. n) h
+unknown_value TableLimit s v t m h = never TableLimit s t (λ id bs u n. n) h
+unknown_value BadMessage s v t m h = never BadMessage s t (λ id bs u n. n) h
+unknown_value TooDeep s v t m h = never TooDeep s t (λ id bs u n. n) h
+unknown_value BadType s v t m h = absurd (never BadType s t (λ id bs u n. n) h)
+unknown_value UnknownExtension s v t m h = (t, (m, h))
+unknown_value ExtensionRefused s v t m h = (t, (m, h))
+unknown_value WireLimit s v t m h = never WireLimit s t (λ id bs u n. n) h
+
+-- A message is of the type that is read of it, and of no other.
+pub the_type : (v w : Value) (t u : Typ) → w ≡ v → type_in 50 w ≡ Some t → levels u ≤ 50 → IsMessageOf v u → t ≡ u
+the_type v w t u q e le m = same t u (sym e ∙ ap (type_in 50) q ∙ reads_message v u le m)
+
+pub at_error : {T : Type 0} (P : TypeWireError → Type 0) (r : Result T TypeWireError) (y e : TypeWireError) → r ≡ Err y → y ≡ e → P e → IfErr r P
+at_error P r y e p q h = subst (λ s. IfErr s P) (sym (p ∙ ap Err q)) h
+
+pub no_memory : {T : Type 0} (P : T → Type 0) (r : Result T TypeWireError) (y e : TypeWireError) → r ≡ Err y → y ≡ e → e ≡ OutOfMemory → MatchResult r P (λ x. x ≡ OutOfMemory)
+no_memory P r y e p q h = subst (λ s. MatchResult s P (λ x. x ≡ OutOfMemory)) (sym (p ∙ ap Err q)) h
+
+-- ---- bytes
+
+-- A type whose message bytes are read as has at most 50 levels.
+pub shallow_by : (t : Typ) (v : Value) → IsType t → v ≡ type_message t → nested v ≤ 100 → levels t ≤ 50
+shallow_by t v h e n = omega (arith, type_depth t h, ap nested e)

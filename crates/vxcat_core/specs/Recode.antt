@@ -1,0 +1,205 @@
+-- The command `recode`: its words, what it loads, request_for, makes, saves and prints, and how it ends.
+use Rattle.std.specs.Prelude.{◌≡◌, ◌≢◌, ◌⊎◌, ◌<◌, ◌^◌, ℕ, true, false, IsTrue, Option, None, Some, List, [], ◌∷◌, codes, decimal}
+use Rattle.std.specs.Io.KnownBytes.{Keeps}
+use Rattle.std.specs.List.{flat_map}
+use Rattle.vx_types.specs.Typ.{Typ}
+use Rattle.vx_type_wire.specs.Known.{ExtMeaning, IsRead, no_readers}
+use Rattle.vx_type_wire.specs.Shown.{ShowsType}
+use Rattle.vx_registry.specs.Context.{Context}
+use Rattle.vx_registry.specs.Session.{SessionMeaning, registry_meaning, shipped_registry}
+use Rattle.vx_serde.specs.declared.options.SerializeOptions.{SerializeOptions}
+use Rattle.vx_serde.specs.Causes.{IsCaused}
+use Rattle.vx_serde.specs.Recoding.{IsFaithful, IsRecoded, Product}
+use Rattle.vx_serde.specs.Request.{CanRecode, Request}
+use Rattle.vx_buffer.specs.Joined.{joined}
+use Rattle.vxcat_core.specs.declared.options.Choice.{Choice}
+use Rattle.vxcat_core.specs.declared.status.Status.{Status}
+use Rattle.vxcat_core.specs.declared.status.Status.TheVariants.{Done, OutOfMemory, NoCommand, LoadFault, SaveFault, WriteFault, BadType, BadIds, Refused}
+use Rattle.vxcat_core.specs.IdFile.{ReadsIds, id_text}
+use Rattle.vxcat_core.specs.Listing.{listing}
+use Rattle.vxcat_core.specs.Options.{AreOptions, Settings, choice_words, settings_of}
+use Rattle.vxcat_core.specs.RunState.{IsUntouched, Prints, PrintsPrefix, Run}
+use Rattle.vxcat_core.specs.Status.{wire_error}
+use Rattle.vxcat_core.specs.StoreState.{AskedOnly, HasRisen, Stands, StoreState}
+
+-- ---- the words
+
+-- What the words of the command name: the files of the type, of the blob and of the identifiers, the array's length, the
+-- files of the new blob and its identifiers, and what the options set.
+pub record Recode : Type 0 where
+  pub type_file : List ℕ
+  pub blob_file : List ℕ
+  pub len : ℕ
+  pub id_file : List ℕ
+  pub out : List ℕ
+  pub out_ids : List ℕ
+  pub settings : Settings
+
+-- The words are `recode TYPE BLOB LEN IDS OUT OUTIDS` with options behind them. A number is written in decimal digits
+-- without leading zeros and lies below 2^64, and the names of the two outputs differ; an output may have the name of an
+-- input.
+pub record InvokesRecode (words : List (List ℕ)) (line : Recode) : Type 0 where
+  pub choices : List Choice
+  pub words_are : words ≡ codes "recode" ∷ line.type_file ∷ line.blob_file ∷ decimal line.len ∷ line.id_file ∷ line.out ∷ line.out_ids ∷ flat_map choice_words choices
+  pub are_options : AreOptions choices
+  pub settings_are : line.settings ≡ settings_of choices
+  pub fits : line.len < 2 ^ 64
+  pub outputs_differ : line.out ≢ line.out_ids
+
+-- ---- the inputs
+
+-- The names that it loads.
+abbrev pub inputs : Recode → List (List ℕ)
+inputs line = line.type_file ∷ line.blob_file ∷ line.id_file ∷ []
+
+-- The contents of the files that it reads.
+pub record Loaded : Type 0 where
+  pub type_bytes : List ℕ
+  pub blob : List ℕ
+  pub id_bytes : List ℕ
+
+-- What was loaded stands at the names of the inputs.
+pub record AreInputs (line : Recode) (store : StoreState) (loaded : Loaded) : Type 0 where
+  pub type_stands : Stands store line.type_file loaded.type_bytes
+  pub blob_stands : Stands store line.blob_file loaded.blob
+  pub ids_stand : Stands store line.id_file loaded.id_bytes
+
+-- ---- what is asked
+
+-- The readers of extensions: there are none, whatever the options say, so no extension stands in a type.
+abbrev pub readers_of : Settings → ExtMeaning
+readers_of settings = no_readers
+
+-- What reads and writes arrays: the encodings that are shipped, whatever the options say.
+abbrev pub session_of : Settings → SessionMeaning
+session_of settings = registry_meaning shipped_registry
+
+-- The context under which the new blob is written: it has no identifiers, and allows each encoding, whatever was loaded.
+abbrev pub context_of : Settings → Loaded → Context
+context_of settings loaded = record { ids = []; allowed = None }
+
+-- Without `--pad` no pads are written; with it they are, as at its position.
+abbrev pub padded_at : Option ℕ → SerializeOptions
+padded_at None = record { offset = 0; include_padding = false }
+padded_at (Some offset) = record { offset = offset; include_padding = true }
+
+-- The type file shows the type within the limits, and the id file has the identifiers.
+pub record AreRead (line : Recode) (loaded : Loaded) (dtype : Typ) (ids : List (List ℕ)) : Type 0 where
+  pub type_read : IsRead (ShowsType loaded.type_bytes) (readers_of line.settings) dtype
+  pub ids_read : ReadsIds loaded.id_bytes ids
+
+-- What is asked of the blob, at the type and with the identifiers that were read.
+abbrev pub asked_by : Recode → Loaded → Typ → List (List ℕ) → Request
+asked_by line loaded dtype ids = record {
+  blob = loaded.blob;
+  dtype = dtype;
+  len = line.len;
+  ids = ids;
+  context = context_of line.settings loaded;
+  options = padded_at line.settings.pad;
+  session = session_of line.settings;
+}
+
+-- ---- what is made
+
+-- The outputs are what `recode` makes of what is asked: its array is the one that the blob spells, and the new blob,
+-- within the limits, spells it again.
+pub record IsMade (line : Recode) (loaded : Loaded) (made : Product) : Type 0 where
+  pub dtype : Typ
+  pub ids : List (List ℕ)
+  pub are_read : AreRead line loaded dtype ids
+  pub recoded : IsRecoded (asked_by line loaded dtype ids) made
+  pub faithful : IsFaithful (asked_by line loaded dtype ids) made
+
+-- What was loaded can be recoded: the type file shows a type, the id file has identifiers, and what is asked with these
+-- can be done.
+pub record CanRecodeInputs (line : Recode) (loaded : Loaded) : Type 0 where
+  pub dtype : Typ
+  pub ids : List (List ℕ)
+  pub are_read : AreRead line loaded dtype ids
+  pub can_recode : CanRecode (asked_by line loaded dtype ids)
+
+-- Why what was loaded is not recoded: the type file shows no type within the limits, or one with an extension; the id file
+-- is no text of at most 65,536 lines; or the blob is refused at the type and with the identifiers that were read. Want of
+-- memory needs no cause.
+abbrev pub RefusesInputs : Status → Recode → Loaded → Type 0
+RefusesInputs OutOfMemory line loaded = Unit {0}
+RefusesInputs BadType line loaded = (dtype : Typ) → ¬ (IsRead (ShowsType loaded.type_bytes) (readers_of line.settings) dtype)
+RefusesInputs BadIds line loaded = (ids : List (List ℕ)) → ¬ (ReadsIds loaded.id_bytes ids)
+RefusesInputs (Refused refusal) line loaded =
+    (dtype : Typ) × (ids : List (List ℕ)) × AreRead line loaded dtype ids × IsCaused (asked_by line loaded dtype ids) (wire_error refusal)
+RefusesInputs status line loaded = ⊥
+
+-- ---- what is saved
+
+-- Names that are no outputs of the command hold what they held.
+pub record KeepsOthers (line : Recode) (before after : StoreState) : Type 0 where
+  pub told : after.tells ≡ before.tells
+  pub files : IsTrue before.tells → (name : List ℕ) → name ≢ line.out → name ≢ line.out_ids → after.file name ≡ before.file name
+
+-- The blob is saved before its identifiers: the name of the second output still holds what it held, or the new blob
+-- stands at the name of the first.
+abbrev pub SavesInOrder : Recode → StoreState → StoreState → List ℕ → Type 0
+SavesInOrder line before after blob =
+    (IsTrue before.tells → after.file line.out_ids ≡ before.file line.out_ids) ⊎ Stands after line.out blob
+
+-- The outputs stand at their names: the new blob, and the text of its identifiers.
+pub record AreSaved (line : Recode) (after : StoreState) (blob : List ℕ) (ids : List (List ℕ)) : Type 0 where
+  pub blob_saved : Stands after line.out blob
+  pub ids_saved : Stands after line.out_ids (id_text ids)
+
+-- ---- how it ends
+
+-- The command's work: its inputs were loaded, and the outputs made from them.
+pub record Work (line : Recode) (before : StoreState) : Type 0 where
+  pub loaded : Loaded
+  pub made : Product
+  pub are_inputs : AreInputs line before loaded
+  pub is_made : IsMade line loaded made
+
+-- It came to its saves and no further: its outputs were made, and their names are the only ones that may have changed,
+-- in the order in which they are saved. Nothing is printed.
+pub record EndsSaving (line : Recode) (run : Run) : Type 0 where
+  pub work : Work line run.before
+  pub in_order : SavesInOrder line run.before run.after (joined work.made.buffers)
+  pub others : KeepsOthers line run.before run.after
+  pub unprinted : Keeps run.out_before.written run.out_after.written
+
+-- It came to its listing: its outputs are saved, other names hold what they held, and of the listing there was printed
+-- what is said of it.
+pub record EndsPrinting (line : Recode) (run : Run) (IsPrinted : Run → List ℕ → Type 0) : Type 0 where
+  pub work : Work line run.before
+  pub saved : AreSaved line run.after (joined work.made.buffers) work.made.context.ids
+  pub others : KeepsOthers line run.before run.after
+  pub printed : IsPrinted run (listing work.made.array line.settings.rows)
+
+-- It was refused by what it loaded, which cannot be recoded, before it saved or printed anything.
+pub record EndsRefused (status : Status) (line : Recode) (run : Run) : Type 0 where
+  pub loaded : Loaded
+  pub are_inputs : AreInputs line run.before loaded
+  pub cause : RefusesInputs status line loaded
+  pub cannot : CanRecodeInputs line loaded → ⊥
+  pub untouched : IsUntouched run
+
+-- How it ends, by its status. 0: the outputs are saved and the listing printed. 1: nothing is saved or printed, or the
+-- outputs were made and not all saved, or they are saved and a prefix of the listing is printed. 3: the count of load
+-- faults rose, and only inputs were asked for. 4: the count of save faults rose, and the outputs were made. 5: the count
+-- of the sink's faults rose, the outputs are saved, and a prefix of the listing is printed. At 3, 6, 7 and each refusal of
+-- the blob nothing is saved or printed. So nothing is saved unless the outputs were made from the inputs, and names that
+-- are no outputs hold what they held.
+abbrev pub EndsRecode : Status → Recode → Run → Type 0
+EndsRecode Done line run = EndsPrinting line run Prints
+EndsRecode OutOfMemory line run = IsUntouched run ⊎ (EndsSaving line run ⊎ EndsPrinting line run PrintsPrefix)
+EndsRecode NoCommand line run = ⊥
+EndsRecode LoadFault line run =
+    HasRisen run.before.load_faults run.after.load_faults × AskedOnly (inputs line) run.before.asked run.after.asked × IsUntouched run
+EndsRecode SaveFault line run = HasRisen run.before.save_faults run.after.save_faults × EndsSaving line run
+EndsRecode WriteFault line run = HasRisen run.out_before.faults run.out_after.faults × EndsPrinting line run PrintsPrefix
+EndsRecode status line run = EndsRefused status line run
+
+-- It can end well: the store tells its files, and inputs among them that can be recoded.
+pub record CanEndRecode (line : Recode) (before : StoreState) : Type 0 where
+  pub tells : IsTrue before.tells
+  pub loaded : Loaded
+  pub are_inputs : AreInputs line before loaded
+  pub can_recode : CanRecodeInputs line loaded

@@ -1,0 +1,96 @@
+-- What contracts see of the words of a command, and of what the program holds while it runs.
+use Rattle.std.specs.Prelude.{◌≡◌, ℕ, List, [], None, unwrap_or}
+use Rattle.vx_types.specs.Typ.{Typ}
+use Rattle.vx_registry.specs.Session.{registry_meaning, shipped_registry}
+use Rattle.vx_serde.specs.declared.options.SerializeOptions.{SerializeOptions}
+use Rattle.vx_serde.specs.Causes.{IsCaused}
+use Rattle.vx_serde.specs.Recoding.{IsFaithful, IsRecoded, Product}
+use Rattle.vx_serde.specs.Request.{Request}
+use Rattle.vx_buffer.specs.Joined.{joined}
+use Rattle.vxcat_core.specs.declared.options.Options.{Options}
+use Rattle.vxcat_core.specs.declared.recode.words.RecodeWords.{RecodeWords}
+use Rattle.vxcat_core.specs.declared.recode.steps.Inputs.{Inputs}
+use Rattle.vxcat_core.specs.declared.recode.steps.Outputs.{Outputs}
+use Rattle.vxcat_core.specs.declared.status.Status.{Status}
+use Rattle.vxcat_core.specs.declared.status.Status.TheVariants.{OutOfMemory, LoadFault, SaveFault, BadType, Refused}
+use Rattle.vxcat_core.specs.Options.{Settings}
+use Rattle.vxcat_core.specs.Recode.{IsMade, Loaded, Recode}
+use Rattle.vxcat_core.specs.Status.{wire_error}
+use Rattle.vxcat_core.specs.StoreState.{HasRisen, StoreState}
+
+-- What given options set.
+abbrev pub set_by : Options → Settings
+set_by options = record { pad = options.pad; rows = unwrap_or options.rows 10 }
+
+-- The line that words lend.
+abbrev pub line_of : RecodeWords → Recode
+line_of words = record {
+  type_file = words.type_file.now;
+  blob_file = words.blob_file.now;
+  len = words.len;
+  id_file = words.id_file.now;
+  out = words.out.now;
+  out_ids = words.out_ids.now;
+  settings = set_by words.options;
+}
+
+-- The contents of the files that were loaded.
+abbrev pub loaded_of : Inputs → Loaded
+loaded_of inputs = record { type_bytes = inputs.type_bytes; blob = inputs.blob; id_bytes = inputs.id_bytes }
+
+-- The outputs are a product's array, the bytes of its blob, and the identifiers of its context.
+pub record Holds (outputs : Outputs) (made : Product) : Type 0 where
+  pub array_is : outputs.array ≡ made.array
+  pub blob_is : outputs.blob.bytes ≡ joined made.buffers
+  pub ids_are : outputs.ids ≡ made.context.ids
+
+-- The outputs are what the command makes of what was loaded.
+pub record AreOutputs (line : Recode) (loaded : Loaded) (outputs : Outputs) : Type 0 where
+  pub made : Product
+  pub is_made : IsMade line loaded made
+  pub holds : Holds outputs made
+
+-- What the program asks for of a blob, at a type and with identifiers.
+abbrev pub request_for : List ℕ → Typ → ℕ → List (List ℕ) → SerializeOptions → Request
+request_for blob dtype len ids options = record {
+  blob = blob;
+  dtype = dtype;
+  len = len;
+  ids = ids;
+  context = record { ids = []; allowed = None };
+  options = options;
+  session = registry_meaning shipped_registry;
+}
+
+-- The outputs are what `recode` makes of what is asked.
+pub record AreMade (asked : Request) (outputs : Outputs) : Type 0 where
+  pub made : Product
+  pub recoded : IsRecoded asked made
+  pub faithful : IsFaithful asked made
+  pub holds : Holds outputs made
+
+-- ---- the status of a step that is refused
+
+-- A load fails where the count of load faults rose, or wants memory.
+abbrev pub RefusesLoad : Status → StoreState → StoreState → Type 0
+RefusesLoad LoadFault before after = HasRisen before.load_faults after.load_faults
+RefusesLoad OutOfMemory before after = Unit {0}
+RefusesLoad status before after = ⊥
+
+-- A save fails where the count of save faults rose, or wants memory.
+abbrev pub RefusesSave : Status → StoreState → StoreState → Type 0
+RefusesSave SaveFault before after = HasRisen before.save_faults after.save_faults
+RefusesSave OutOfMemory before after = Unit {0}
+RefusesSave status before after = ⊥
+
+-- A type file is a bad one, or wants memory.
+abbrev pub RefusesType : Status → Type 0
+RefusesType OutOfMemory = Unit {0}
+RefusesType BadType = Unit {0}
+RefusesType status = ⊥
+
+-- A blob is refused with its cause, or wants memory.
+abbrev pub RefusesBlob : Status → Request → Type 0
+RefusesBlob OutOfMemory asked = Unit {0}
+RefusesBlob (Refused refusal) asked = IsCaused asked (wire_error refusal)
+RefusesBlob status asked = ⊥
