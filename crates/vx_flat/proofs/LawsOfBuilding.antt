@@ -2,8 +2,9 @@
 use Rattle.std.proofs.Common.{◌≡◌, ℕ, suc, ◌+◌, ◌-◌, ◌<◌, List, [], ◌∷◌, ◌++◌, Bool, false, None, ap, arith}
 use Rattle.vx_flat.specs.declared.builder.piece.LinkKind.{LinkKind}
 use Rattle.vx_flat.specs.declared.error.FlatError.{FlatError}
+use Rattle.vx_flat.specs.declared.error.FlatError.TheVariants.{OutOfMemory, BadTable, TableLimit, MessageTooLong}
 use Rattle.vx_flat.specs.declared.schema.FieldKind.{FieldKind}
-use Rattle.vx_flat.specs.Building.{Built, waiting, with_piece, with_pieces, nothing_by, IsRefused, IsStopped, AreLeft, links_of, element_links}
+use Rattle.vx_flat.specs.Building.{Built, waiting, with_piece, with_pieces, nothing_by, IsRefused, IsStopped, Keeps, AreLeft, links_of, element_links}
 use Rattle.vx_flat.specs.IsOf.{IsOf, AreOf}
 use Rattle.vx_flat.specs.Layout.{layout}
 use Rattle.vx_flat.specs.Pieces.{Piece, pieces, entries, AreEntries}
@@ -60,3 +61,10 @@ stopped-later old mid new p ps qs rs e is h = stops_later old mid new p ps qs rs
 -- A builder takes the entries of each table of a schema.
 pub entries-taken : (s : Schema) (ks : List FieldKind) (v : Fields) → AreOf s ks v → AreEntries false (entries ks v)
 entries-taken s ks v of = entries_taken s ks v of
+
+-- Where the writing of blocks stops, those that were there are kept.
+pub keeps-stopped : (old new : Built) (ps : List Piece) (e : FlatError) → IsStopped old ps e new → Keeps old ps new
+keeps-stopped old new ps OutOfMemory h = h
+keeps-stopped old new ps MessageTooLong h = h.0
+keeps-stopped old new ps BadTable h = absurd h
+keeps-stopped old new ps TableLimit h = absurd h
