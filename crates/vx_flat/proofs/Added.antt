@@ -81,7 +81,7 @@ module _ (old new : Message) (known later : Known) (shares failed : Bool) (q : P
   bytes_are =
       raw
       ∙ ap (λ (z : Spot). aimed old.count old.waits z.aim (begun old.bytes.items)
-          ++ (zeros (z.start - length (begun old.bytes.items)) ++ block_bytes [] z (loose_block q))) (sym there)
+      ++ (zeros (z.start - length (begun old.bytes.items)) ++ block_bytes [] z (loose_block q))) (sym there)
 
   pub length_is : length new.bytes.items ≡ s.end
   length_is =
@@ -105,8 +105,8 @@ module _ (old new : Message) (known later : Known) (shares failed : Bool) (q : P
   built_is =
       let b = begun_same new.bytes.items some_new ∙ bytes_are in
       let l = h.left
-          ∙ (ap (λ x. x ++ reverse old.left.items) h.links_are
-          ∙ ap (λ (z : Spot). slots_of old.count z.aim q ++ reverse old.left.items) (sym there)) in
+      ∙ (ap (λ x. x ++ reverse old.left.items) h.links_are
+      ∙ ap (λ (z : Spot). slots_of old.count z.aim q ++ reverse old.left.items) (sym there)) in
       let k = h.learned ∙ ap (λ z. learn shares known z (loose_block q)) (sym there) in
       λ i. record {
         bytes = b i;

@@ -32,7 +32,7 @@ pub learned : (old new : List (Vec ℕ Global × ℕ)) (k : Vec ℕ Global) (p :
     → known_at t bs ≡ None → map {B = List ℕ × ℕ} (λ e. (e.0.items, e.1)) new ≡ t ++ (bs, p) ∷ []
 learned old new k p bs t h e is none =
     let absent : lookup (λ y. bytes_eq k.items y.items) old ≡ None =
-        lookup_known old k.items ∙ (ap (λ z. known_at z k.items) is ∙ (ap (λ b. known_at t b) e ∙ none)) in
+    lookup_known old k.items ∙ (ap (λ z. known_at z k.items) is ∙ (ap (λ b. known_at t b) e ∙ none)) in
     ap (λ z. map {B = List ℕ × ℕ} (λ e. (e.0.items, e.1)) z) (h ∙ last old absent)
     ∙ (map_end old k p ∙ (λ i. is i ++ (e i, p) ∷ []))
   where
@@ -41,6 +41,7 @@ learned old new k p bs t h e is none =
         → cond b ((o.0, p) ∷ os) (o ∷ insert_entry (λ x y. bytes_eq x.items y.items) os k p) ≡ o ∷ (os ++ (k, p) ∷ [])
     step true o os n r = absurd cc
     step false o os n r = ap (λ z. o ∷ z) (r n)
+
     last : (os : List (Vec ℕ Global × ℕ)) → lookup (λ y. bytes_eq k.items y.items) os ≡ None
         → insert_entry (λ x y. bytes_eq x.items y.items) os k p ≡ os ++ (k, p) ∷ []
     last [] n = refl

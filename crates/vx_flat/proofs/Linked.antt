@@ -172,10 +172,10 @@ module _ (places : List Spot) where
       let loose = cells_bytes [] t (d + 4) (cells_of es []) in
       let long = grown m t p d 4 b h (align_past Four p) (length_le 4 v) in
       let here : t + d ≡ length (m ++ gap) =
-          let a = length-append m gap in
-          let e = length-replicate {A = ℕ} (d - p) 0 in
-          let le = align_past Four p in
-          omega (arith, a, e, h, le) in
+      let a = length-append m gap in
+      let e = length-replicate {A = ℕ} (d - p) 0 in
+      let le = align_past Four p in
+      omega (arith, a, e, h, le) in
       let before : m ++ ((gap ++ (le_bytes 4 (0 - (t + d)) ++ loose)) ++ y) ≡ (m ++ gap) ++ (le_bytes 4 (0 - (t + d)) ++ (loose ++ y)) = simp append_assoc in
       let after : (m ++ gap) ++ (b ++ (loose ++ y)) ≡ (m ++ (gap ++ b)) ++ (loose ++ y) = simp append_assoc in
       ap (λ q. patches places (patch q (t + d) v) (entry_slots n t (i + 1) (d + 4) es ++ ls) ns) before
@@ -237,19 +237,19 @@ counts_same es ns ms = cells_length es ns ∙ sym (cells_length es ms)
 tables_same : (es : List BlockField) (ns ms : List ℕ) → field_table_bytes (cells_of es ns) ≡ field_table_bytes (cells_of es ms)
 tables_same es ns ms =
     λ i. le_bytes 2 (4 + 2 * counts_same es ns ms i)
-        ++ (le_bytes 2 (ends_same es 4 ns ms i) ++ entry_bytes (distances_same es 4 ns ms i))
+    ++ (le_bytes 2 (ends_same es 4 ns ms i) ++ entry_bytes (distances_same es 4 ns ms i))
 
 own_same : (own : Bool) (es : List BlockField) (ns ms : List ℕ) → own_field_table own (cells_of es ns) ≡ own_field_table own (cells_of es ms)
 own_same true es ns ms =
     λ i. tables_same es ns ms i
-        ++ zeros (align 8 (4 + 2 * counts_same es ns ms i) - (4 + 2 * counts_same es ns ms i))
+    ++ zeros (align 8 (4 + 2 * counts_same es ns ms i) - (4 + 2 * counts_same es ns ms i))
 own_same false es ns ms = refl
 
 table_spot_same : (p : ℕ) (o : Option ℕ) (es : List BlockField) (ns ms : List ℕ) → table_spot p (cells_of es ns) o ≡ table_spot p (cells_of es ms) o
 table_spot_same p (Some q) es ns ms = λ i. record { start = p; aim = p; end = p + ends_same es 4 ns ms i; fields = q; is_own = false }
 table_spot_same p None es ns ms =
     λ i. let t = p + align 8 (4 + 2 * counts_same es ns ms i) in
-        record { start = p; aim = t; end = t + ends_same es 4 ns ms i; fields = p; is_own = true }
+    record { start = p; aim = t; end = t + ends_same es 4 ns ms i; fields = p; is_own = true }
 
 spot_same : (known : Known) (p : ℕ) (q : Piece) (ns : List ℕ) → spot known p (block_of q ns) ≡ spot known p (loose_block q)
 spot_same known p (table_piece es) ns =
@@ -302,11 +302,11 @@ module _ (places : List Spot) where
       let own = own_field_table s.is_own cs in
       let back = le_bytes 4 (s.aim - s.fields) in
       let there : s.aim + 4 ≡ length (m ++ (own ++ back)) =
-          let a = length-append m (own ++ back) in
-          let b = length-append own back in
-          let c = own_length p cs (known_at known (field_table_bytes cs)) in
-          let d = length_le 4 (s.aim - s.fields) in
-          omega (arith, a, b, c, d, h) in
+      let a = length-append m (own ++ back) in
+      let b = length-append own back in
+      let c = own_length p cs (known_at known (field_table_bytes cs)) in
+      let d = length_le 4 (s.aim - s.fields) in
+      omega (arith, a, b, c, d, h) in
       ap (λ x. patches places x (entry_slots n s.aim 0 4 es ++ ls) ns) (regroup m own back (cells_bytes [] s.aim 4 cs) y)
       ∙ (entries_set places es n 0 s.aim 4 (m ++ (own ++ back)) y ls ns there z
       ∙ (ap (λ x. patches places x ls (left_by_all es ns)) (sym (regroup m own back (cells_bytes places s.aim 4 (cells_of es ns)) y))
@@ -463,34 +463,34 @@ rest_bytes places (q ∷ qs) b front n some is root four lies =
     let ends = ends_past b.known q p in
     let same_spot : spot b.known p x ≡ s = spot_same b.known p q r.loose in
     let same_spots : spots b.shares b.known (length b.bytes) (x ∷ r.blocks) ≡ s ∷ spots b.shares known' (length next.bytes) r.blocks =
-        (λ i. same_spot i ∷ spots b.shares (learn b.shares b.known (same_spot i) x) (same_spot i).end r.blocks)
-        ∙ ((λ i. s ∷ spots b.shares (learn_same b.shares b.known s q r.loose i) s.end r.blocks)
-        ∙ ap (λ m. s ∷ spots b.shares known' m r.blocks) (sym long)) in
+    (λ i. same_spot i ∷ spots b.shares (learn b.shares b.known (same_spot i) x) (same_spot i).end r.blocks)
+    ∙ ((λ i. s ∷ spots b.shares (learn_same b.shares b.known s q r.loose i) s.end r.blocks)
+    ∙ ap (λ m. s ∷ spots b.shares known' m r.blocks) (sym long)) in
     let ss = spots b.shares known' (length next.bytes) r.blocks in
     let whole : places ≡ (front ++ s ∷ []) ++ ss = is ∙ (ap (λ z. front ++ z) same_spots ∙ sym (append_assoc front (s ∷ []) ss)) in
     let here : s.aim ≡ aim_of places b.count =
-        sym (ap (λ z. aim_of z b.count) (is ∙ ap (λ z. front ++ z) same_spots) ∙ aim_at front s ss b.count n) in
+    sym (ap (λ z. aim_of z b.count) (is ∙ ap (λ z. front ++ z) same_spots) ∙ aim_at front s ss b.count n) in
     let m = aimed b.count (next_link b.left) s.aim b.bytes in
     let gap = zeros (s.start - length b.bytes) in
     let m_long = aimed_length b.count (next_link b.left) s.aim b.bytes four waits in
     let starts_at = starts b.known p (loose_block q) in
     let start : p ≡ length (m ++ gap) =
-        let a = length-append m gap in
-        let e = length-replicate {A = ℕ} (s.start - length b.bytes) 0 in
-        omega (arith, a, e, m_long, starts_at, past) in
+    let a = length-append m gap in
+    let e = length-replicate {A = ℕ} (s.start - length b.bytes) 0 in
+    omega (arith, a, e, m_long, starts_at, past) in
     let further = rest_bytes places qs next (front ++ s ∷ []) (let a = length-append front (s ∷ []) in omega (arith, a, n)) (omega arith)
-        whole (omega (arith, root, long, past, aims, ends)) (omega (arith, four, long, past, aims, ends))
-        (after_lie w q four waits later) in
+    whole (omega (arith, root, long, past, aims, ends)) (omega (arith, four, long, past, aims, ends))
+    (after_lie w q four waits later) in
     let laid : m ++ (gap ++ block_bytes [] s (loose_block q)) ≡ (m ++ gap) ++ (block_bytes [] s (loose_block q) ++ []) = simp (append_assoc, append-nil) in
     let done : (m ++ gap) ++ (block_bytes places s x ++ []) ≡ m ++ (gap ++ block_bytes places s x) = simp (append_assoc, append-nil) in
     let set : patches places next.bytes next.left r.loose ≡ patches places b.bytes b.left (b.count ∷ left_by_piece q r.loose) ++ (gap ++ block_bytes places s x) =
-        ap (λ z. patches places z (slots_of b.count s.aim q ++ later_links b.left) r.loose) laid
-        ∙ (piece_set places b.known q b.count p (m ++ gap) [] (later_links b.left) r.loose start (omega (arith, root, past, aims))
-        ∙ (ap (λ z. patches places z (later_links b.left) (left_by_piece q r.loose)) done
-        ∙ (set_front places (later_links b.left) m (gap ++ block_bytes places s x) (left_by_piece q r.loose)
-        (lie_same (later_links b.left) (length b.bytes) (length m) (omega (arith, m_long)) later)
-        ∙ ap (λ z. z ++ (gap ++ block_bytes places s x))
-        (aimed_set places b.count s.aim b.count b.left b.bytes (left_by_piece q r.loose) some here)))) in
+    ap (λ z. patches places z (slots_of b.count s.aim q ++ later_links b.left) r.loose) laid
+    ∙ (piece_set places b.known q b.count p (m ++ gap) [] (later_links b.left) r.loose start (omega (arith, root, past, aims))
+    ∙ (ap (λ z. patches places z (later_links b.left) (left_by_piece q r.loose)) done
+    ∙ (set_front places (later_links b.left) m (gap ++ block_bytes places s x) (left_by_piece q r.loose)
+    (lie_same (later_links b.left) (length b.bytes) (length m) (omega (arith, m_long)) later)
+    ∙ ap (λ z. z ++ (gap ++ block_bytes places s x))
+    (aimed_set places b.count s.aim b.count b.left b.bytes (left_by_piece q r.loose) some here)))) in
     let tail = bytes_from places (length next.bytes) ss r.blocks in
     let f = patches places b.bytes b.left (b.count ∷ left_by_piece q r.loose) in
     further
@@ -519,22 +519,22 @@ pieces_bytes shares p qs =
     let ss = spots shares known' (length b.bytes) r.blocks in
     let places : List Spot = spots shares [] 8 (x ∷ r.blocks) in
     let same_spots : places ≡ s ∷ ss =
-        (λ i. same_spot i ∷ spots shares (learn shares [] (same_spot i) x) (same_spot i).end r.blocks)
-        ∙ ((λ i. s ∷ spots shares (learn_same shares [] s p r.loose i) s.end r.blocks)
-        ∙ ap (λ m. s ∷ spots shares known' m r.blocks) (sym long)) in
+    (λ i. same_spot i ∷ spots shares (learn shares [] (same_spot i) x) (same_spot i).end r.blocks)
+    ∙ ((λ i. s ∷ spots shares (learn_same shares [] s p r.loose i) s.end r.blocks)
+    ∙ ap (λ m. s ∷ spots shares known' m r.blocks) (sym long)) in
     let root : aim_of places 0 ≡ s.aim = ap (λ z. aim_of z 0) same_spots in
     let further = rest_bytes places qs b (s ∷ []) refl (omega arith) same_spots (omega (arith, root, long, ends))
-        (omega (arith, long, aims, ends)) (after_lie (nothing_by shares) p (omega arith) tt tt) in
+    (omega (arith, long, aims, ends)) (after_lie (nothing_by shares) p (omega arith) tt tt) in
     let head = le_bytes 4 s.aim ++ zeros 4 in
     let starts_at = starts [] 8 (loose_block p) in
     let gap : zeros (s.start - 8) ≡ [] = ap (λ n. zeros (n - 8)) starts_at in
     let begun : b.bytes ≡ head ++ (block_bytes [] s (loose_block p) ++ []) =
-        ap (λ z. head ++ (z ++ block_bytes [] s (loose_block p))) gap
-        ∙ ap (λ z. head ++ z) (sym (append-nil (block_bytes [] s (loose_block p)))) in
+    ap (λ z. head ++ (z ++ block_bytes [] s (loose_block p))) gap
+    ∙ ap (λ z. head ++ z) (sym (append-nil (block_bytes [] s (loose_block p)))) in
     let set : patches places b.bytes b.left r.loose ≡ head ++ block_bytes places s x =
-        ap (λ z. patches places z (slots_of 0 s.aim p ++ []) r.loose) begun
-        ∙ (piece_set places [] p 0 8 head [] [] r.loose refl (omega (arith, root))
-        ∙ ap (λ z. head ++ z) (append-nil (block_bytes places s x))) in
+    ap (λ z. patches places z (slots_of 0 s.aim p ++ []) r.loose) begun
+    ∙ (piece_set places [] p 0 8 head [] [] r.loose refl (omega (arith, root))
+    ∙ ap (λ z. head ++ z) (append-nil (block_bytes places s x))) in
     let tail = λ (n : ℕ). bytes_from places n ss r.blocks in
     let gap' : zeros (s.start - 8) ≡ [] = gap in
     further

@@ -20,8 +20,8 @@ mod slot;
 
 use crate::buffer::FlatBuffer;
 use crate::builder::composing::{
-    is_shared, next_start, push_element_slots, push_elements, push_entry_slots, push_front, push_links,
-    push_table, push_text, table_spot,
+    is_shared, next_start, push_element_slots, push_elements, push_entry_slots, push_front,
+    push_links, push_table, push_text, table_spot,
 };
 use crate::builder::entries::push_entries;
 use crate::builder::known::FieldTables;
@@ -209,7 +209,13 @@ impl Builder {
         let count = count as u32;
         push_links(spot, count, &mut self.block)?;
         self.links.clear();
-        push_element_slots(kind, count, self.message.count, spot.aim + 4, &mut self.links)?;
+        push_element_slots(
+            kind,
+            count,
+            self.message.count,
+            spot.aim + 4,
+            &mut self.links,
+        )?;
         self.message.add(&self.block, &mut self.links, spot.aim)?;
         Ok(())
     }
@@ -320,7 +326,9 @@ impl Builder {
         ensures complete { self.failed ≡ false → IsOk result }
     {
         let Builder {
-            message, failed, ..
+            message,
+            failed,
+            ..
         } = self;
         if failed {
             return Err(FlatError::MessageTooLong);

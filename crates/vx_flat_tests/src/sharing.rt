@@ -19,9 +19,11 @@ fn has_both_forms<K: TableKind>(
     let plain = write_value_plain(alloc, kind, &value)?;
     let again = read_value(alloc, plain.as_slice(), kind)?;
     let shared_again = write_value(alloc, kind, &again)?;
-    Ok(plain.len() == plain_len
-        && shared.as_slice() == message
-        && shared_again.as_slice() == message)
+    Ok(
+        plain.len() == plain_len
+            && shared.as_slice() == message
+            && shared_again.as_slice() == message,
+    )
 }
 
 #[test]

@@ -86,12 +86,7 @@ impl Message {
 
     /// Adds a composed block, with what stands before it, and its links. The link that waits aims
     /// at it. Where memory runs out, nothing changes.
-    pub fn add(
-        &mut self,
-        block: &[u8],
-        links: &mut Vec<Slot>,
-        aim: usize,
-    ) -> Result<(), AllocError>
+    pub fn add(&mut self, block: &[u8], links: &mut Vec<Slot>, aim: usize) -> Result<(), AllocError>
         requires some { 4 ≤ length self.old.bytes.items + length block.now }
         requires lies { SlotLies self.old.waits (length self.old.bytes.items) }
         requires behind { length self.old.bytes.items ≤ aim }

@@ -10,10 +10,10 @@ ghost use Rattle.vx_flat.specs.Weight as weigh;
 ghost use Rattle.vx_flat.specs.Reading as read;
 
 use crate::error::FlatError;
-use crate::reading::room::Room;
 use crate::reading::places::{
     FieldTable, count_at, elements_at, place_of, table_at, tag_at, target, text_at,
 };
+use crate::reading::room::Room;
 use crate::schema::{FieldKind, TableKind, struct_size, tag_table};
 use crate::steps::Steps;
 use std::sync::ledger::Ledger;
@@ -49,12 +49,7 @@ fn verify_elements(
 }
 
 /// Judges and counts the strings that the `n` offsets from a place on aim at.
-fn verify_each_text(
-    message: &[u8],
-    place: usize,
-    n: u32,
-    room: &mut Room,
-) -> Result<(), FlatError>
+fn verify_each_text(message: &[u8], place: usize, n: u32, room: &mut Room) -> Result<(), FlatError>
     requires { place + 4 * n ≤ length message.now }
     ensures verifies { (levels : ℕ) → Verifies result
         (read.each_shown (λ q. read.text_shown message.now q) message.now place n)
@@ -331,14 +326,5 @@ pub fn verify_table<K: TableKind, L: Ledger>(
         return Err(FlatError::TableLimit);
     }
     room.add_table(levels - 1)?;
-    verify_fields(
-        message,
-        kind,
-        place,
-        fields,
-        kinds,
-        levels - 1,
-        room,
-        steps,
-    )
+    verify_fields(message, kind, place, fields, kinds, levels - 1, room, steps)
 }

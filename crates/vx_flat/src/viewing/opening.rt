@@ -9,8 +9,8 @@ ghost use Rattle.vx_flat.specs.Seen.{IsViewAt, IsRootView};
 
 use crate::error::FlatError;
 use crate::limits::{LIMITS, Limits};
-use crate::reading::room::Room;
 use crate::reading::places::u32_at;
+use crate::reading::room::Room;
 use crate::reading::verifying::verify_table;
 use crate::schema::TableKind;
 use crate::steps::Steps;
@@ -45,15 +45,7 @@ fn verify_within<'a, K: TableKind, L: Ledger>(
     let mut room = Room::new(limits);
     let place = u32_at(message, 0) as usize;
     let table = kind.root();
-    verify_table(
-        message,
-        kind,
-        place,
-        table,
-        limits.nested,
-        &mut room,
-        steps,
-    )?;
+    verify_table(message, kind, place, table, limits.nested, &mut room, steps)?;
     let schema = kind.lists();
     let fields = fields_found(message, schema, place, table);
     let weight = Weight {

@@ -18,7 +18,7 @@ returns-then-spot-gt-MAX_MESSAGE-clause-refused c =
     let start = c.next_start-start.ensures.value ∙ ap (λ d. align 8 (length (begun d))) c.deref.ensures.value in
     let ends : c.next_start-start.result + (4 + 4 * c.args.count) ≡ align 8 (length (begun i.message.bytes.items)) + (4 + 4 * length (firsts c.args.count [])) = omega (arith, start, links_length c.args.count []) in
     let place : c.plain_spot-spot.result ≡ spot i.known (align 8 (length (begun i.message.bytes.items))) (loose_block q) =
-        c.plain_spot-spot.ensures.value ∙ (λ k. record { start = start k; aim = start k; end = ends k; fields = 0; is_own = true }) in (
+    c.plain_spot-spot.ensures.value ∙ (λ k. record { start = start k; aim = start k; end = ends k; fields = 0; is_own = true }) in (
       ap failing c.self.view_is,
       subst (λ (b : Built). IsTooLong b (q ∷ [])) c.self.view_is
           (too_long i.message i.known i.shares i.failed q c.plain_spot-spot.result c.self.invariant.0 place (omega (arith, c.if-spot-gt-MAX_MESSAGE.true))),

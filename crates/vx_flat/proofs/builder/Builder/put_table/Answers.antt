@@ -27,11 +27,11 @@ returns-then-spot-gt-MAX_MESSAGE-clause-refused c =
     let start = c.next_start-start.ensures.value ∙ ap (λ d. align 8 (length (begun d))) c.deref.ensures.value in
     let cells = alone c.push_entries.new.cells.items c.clear.new.self.items cs cs c.in_ok-push_entries.ensures c.clear.ensures.items refl in
     let fields = alone c.push_field_table.new.out.items c.clear-2.new.self.items (field_table_bytes c.deref-2.result.now) (field_table_bytes cs)
-        c.in_ok-push_field_table.ensures c.clear-2.ensures.items (ap field_table_bytes (c.deref-2.ensures.value ∙ cells)) in
+    c.in_ok-push_field_table.ensures c.clear-2.ensures.items (ap field_table_bytes (c.deref-2.ensures.value ∙ cells)) in
     let known = c.place_of.ensures ∙ ap (λ b. known_at n.known b) (c.deref-4.ensures.value ∙ fields) in
     let shown = c.deref-3.ensures.value ∙ cells in
     let place : c.table_spot-spot.result ≡ spot n.known (align 8 (length (begun n.message.bytes.items))) (loose_block q) =
-        c.table_spot-spot.ensures.value ∙ (λ i. table_spot (start i) (shown i) (known i)) in (
+    c.table_spot-spot.ensures.value ∙ (λ i. table_spot (start i) (shown i) (known i)) in (
       ap failing c.self.view_is,
       subst (λ (b : Built). IsTooLong b (q ∷ [])) c.self.view_is
           (too_long n.message n.known n.shares n.failed q c.table_spot-spot.result c.self.invariant.0 place (omega (arith, c.if-spot-gt-MAX_MESSAGE.true))),
@@ -48,11 +48,11 @@ adds c =
     let start = c.next_start-start.ensures.value ∙ ap (λ d. align 8 (length (begun d))) c.deref.ensures.value in
     let cells = alone c.push_entries.new.cells.items c.clear.new.self.items cs cs c.in_ok-push_entries.ensures c.clear.ensures.items refl in
     let fields = alone c.push_field_table.new.out.items c.clear-2.new.self.items (field_table_bytes c.deref-2.result.now) (field_table_bytes cs)
-        c.in_ok-push_field_table.ensures c.clear-2.ensures.items (ap field_table_bytes (c.deref-2.ensures.value ∙ cells)) in
+    c.in_ok-push_field_table.ensures c.clear-2.ensures.items (ap field_table_bytes (c.deref-2.ensures.value ∙ cells)) in
     let known = c.place_of.ensures ∙ ap (λ b. known_at n.known b) (c.deref-4.ensures.value ∙ fields) in
     let shown = c.deref-3.ensures.value ∙ cells in
     let place : s ≡ spot n.known (align 8 (length (begun m))) (loose_block q) =
-        c.table_spot-spot.ensures.value ∙ (λ i. table_spot (start i) (shown i) (known i)) in
+    c.table_spot-spot.ensures.value ∙ (λ i. table_spot (start i) (shown i) (known i)) in
     record {
       place = place;
       block_is = c.deref-8.ensures.value

@@ -28,8 +28,8 @@ unreachable-requires g c =
     let ks = fields_of s s.root in
     let v = g.Self.WriteFlatBuffer.table c.args.self.now in
     let works : c.write_flatbuffer.new.builder.failed ≡ false =
-        ap (λ (b : Built). b.failed) c.in_ok-write_flatbuffer.ensures.written.blocks
-        ∙ runs_work c.new-builder.result (table_piece (entries ks v)) (fields_pieces s ks v) in
+    ap (λ (b : Built). b.failed) c.in_ok-write_flatbuffer.ensures.written.blocks
+    ∙ runs_work c.new-builder.result (table_piece (entries ks v)) (fields_pieces s ks v) in
     let ok = c.in-Err.ensures.complete works in
     absurd cc
 
@@ -40,9 +40,9 @@ returns-clause-written g c =
     let v = g.Self.WriteFlatBuffer.table c.args.self.now in
     let blocks = c.in_ok-write_flatbuffer.ensures.written.blocks in
     let share : c.write_flatbuffer.new.builder.shares ≡ true =
-        ap (λ (b : Built). b.shares) blocks
-        ∙ (runs_share c.new-builder.result (table_piece (entries ks v)) (fields_pieces s ks v)
-        ∙ ap (λ (b : Built). b.shares) c.new-builder.ensures) in
+    ap (λ (b : Built). b.shares) blocks
+    ∙ (runs_share c.new-builder.result (table_piece (entries ks v)) (fields_pieces s ks v)
+    ∙ ap (λ (b : Built). b.shares) c.new-builder.ensures) in
     c.in-Ok.ensures.layout s v (c.in_ok-write_flatbuffer.ensures.of_kind refl)
     (blocks ∙ ap (λ (b : Built). with_pieces b (pieces s v)) (c.new-builder.ensures ∙ ap nothing_by (sym share)))
     ∙ ap (λ sh. layout sh s v) share
