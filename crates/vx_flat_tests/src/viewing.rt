@@ -194,9 +194,10 @@ fn child<'a>(view: &View<'a>) -> Option<View<'a>>
 fn levels_below(root: &View<'_>) -> usize
     requires { IsViewOf array_schema 0 root.now }
 {
-    let Some(mut view) = node(root) else {
+    let Some(first) = node(root) else {
         return 0;
     };
+    let mut view = first;
     for level in 0..64 {
         match child(&view) {
             None => return level,
