@@ -131,6 +131,12 @@ pub rows_first : (P : Rows → Type 0) (rows : List (Vec FieldValue Global)) (i 
     → P (row (views x.items) (rows_from (map (λ r. views r.items) (drop (i + 1) rows))))
 rows_first P rows i x lt e w = subst (λ rs. P (rows_from rs)) (map_at (λ r. views r.items) rows i x lt e) w
 
+-- the strings that are left begin with string i
+pub texts_more : (xs : List (String Global)) (i : ℕ) (x : String Global) → i < length xs → x ≡ get_or xs i x
+    → map text_piece (map string_bytes (drop i xs))
+    ≡ text_piece (string_bytes x) ∷ map text_piece (map string_bytes (drop (i + 1) xs))
+texts_more xs i x lt e = ap (λ ys. map text_piece ys) (map_at string_bytes xs i x lt e)
+
 -- ---- the entries of a table
 
 -- a field has as many entries as its kind has
