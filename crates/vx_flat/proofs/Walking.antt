@@ -242,6 +242,15 @@ member_below s (Union u) g vs h = record {
 }
 member_below s _ g vs h = absurd h
 
+-- What was written of equal blocks.
+pub told : {T E : Type 0} (r : Result T E) (new old : Built) (ps qs : List Piece) → ps ≡ qs
+    → OnOk r (new ≡ with_rest old ps) → OnOk r (new ≡ with_rest old qs)
+told r new old ps qs e h = subst (λ ps. OnOk r (new ≡ with_rest old ps)) e h
+
+pub told_cut : {T : Type 0} (r : Result T FlatError) (old : Built) (ps qs : List Piece) → ps ≡ qs
+    → IfErr r (λ e. IsCut (with_rest old ps) e) → IfErr r (λ e. IsCut (with_rest old qs) e)
+told_cut r old ps qs e h = subst (λ ps. IfErr r (λ e. IsCut (with_rest old ps) e)) e h
+
 -- ---- the layout
 
 -- A walk over a value from nothing on writes its layout.

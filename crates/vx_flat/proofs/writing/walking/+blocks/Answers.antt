@@ -5,13 +5,17 @@ use Rattle.vx_flat.specs.declared.schema.FieldKind.{FieldKind}
 use Rattle.vx_flat.specs.declared.schema.FieldKind.TheVariants.{Number}
 use Rattle.vx_flat.specs.declared.schema.Width.TheVariants.{One}
 use Rattle.vx_flat.specs.Building.{Built, with_rest, with_pieces}
-use Rattle.vx_flat.specs.Pieces.{links_piece, table_piece, entries, field_pieces, fields_pieces, rows_pieces, table_pieces}
+use Rattle.vx_flat.specs.Pieces.{links_piece, elements_piece, text_piece, entries, field_pieces, fields_pieces, rows_pieces, table_pieces}
 use Rattle.vx_flat.specs.Schema.{fields_of}
-use Rattle.vx_flat.specs.Value.{Fields, Rows}
+use Rattle.vx_flat.specs.Value.{Fields, Rows, elements, text, texts, table, tables}
 use Rattle.vx_flat.specs.View.{view, views, rows_from}
 use Rattle.vx_flat.proofs.Entries.{entries_taken}
 use Rattle.vx_flat.proofs.Lawful.{tables_short}
 use Rattle.vx_flat.proofs.Sizes.{size_field, size_at, size_row_at}
+use Rattle.std.specs.Prelude.{OnOk}
+use Rattle.vx_flat.proofs.Pushing.{rows_of_kind}
+use Rattle.vx_flat.proofs.Views.{view-Elements, view-Text, view-Texts, view-Table, view-Tables}
+use Rattle.vx_flat.proofs.Walking.{told, told_cut, member_below, elements_below, text_below, texts_below, table_below, rows_below}
 use Rattle.vx_flat.proofs.Walking.{FieldsLeft, RowsLeft, cut_more, walked_first, walked_more, walked_cut, first_left, kind_there, rows_first, entries_slots}
 use Rattle.vx_flat.proofs.writing.walking.+blocks.Goals as goal
 
@@ -124,3 +128,80 @@ write_table-put_table-requires-clause-entries g n c =
     let vs = views c.args.values.now in
     let same = c.deref.ensures.value ∙ (c.in_ok-entries.ensures ∙ ap (λ ks. entries ks vs) c.fields-kinds.ensures) in
     rw same (entries_taken s (fields_of s c.args.table) vs c.requires.of_kinds)
+
+-- ---- what hangs on a field
+
+pub write_below-write_rows-requires : goal.write_below-write_rows-requires
+write_below-write_rows-requires g n c =
+    let rows = c.in-Tables.rows in
+    let here : view c.args.value.now ≡ tables (rows_from (map (λ r. views r.items) rows.items)) =
+    ap view c.in-Tables.is ∙ view-Tables rows in
+    let size = ap size_field here in
+    let of = rw here at c.requires.of_kind in
+    λ ks o. (
+      rw c.deref-in-Tables.ensures.value (omega (arith, size)),
+      (o, record {
+        of_kinds = rw (c.table_number-in-Tables.ensures, c.deref-in-Tables.ensures.value)
+            (rows_of_kind g.K.TableKind.schema c.args.field _ of);
+        works = c.requires.works;
+      }),
+    )
+
+pub write_below-returns-in-Elements-clause-written : goal.write_below-returns-in-Elements-clause-written
+write_below-returns-in-Elements-clause-written g n c =
+    let s = g.K.TableKind.schema in
+    let v = c.in-Elements.bytes in
+    let here : view c.args.value.now ≡ elements v.items = ap view c.in-Elements.is ∙ view-Elements v in
+    let of = rw here at c.requires.of_kind in
+    let same = (λ i. elements_piece (c.element_size.ensures i) (c.deref.ensures.value i) ∷ [])
+    ∙ (elements_below s c.args.field v.items of ∙ ap (λ f. field_pieces s c.args.field f) (sym here)) in
+    told c.write_elements.result c.write_elements.new.builder c.args.builder.now _ _ same c.write_elements.ensures.written
+
+pub write_below-returns-in-Text-clause-written : goal.write_below-returns-in-Text-clause-written
+write_below-returns-in-Text-clause-written g n c =
+    let s = g.K.TableKind.schema in
+    let t = c.in-Text.text in
+    let here : view c.args.value.now ≡ text (string_bytes t) = ap view c.in-Text.is ∙ view-Text t in
+    let of = rw here at c.requires.of_kind in
+    let same = ap (λ bs. text_piece bs ∷ []) c.as_str.ensures
+    ∙ (text_below s c.args.field (string_bytes t) of ∙ ap (λ f. field_pieces s c.args.field f) (sym here)) in
+    told c.write_text.result c.write_text.new.builder c.args.builder.now _ _ same c.write_text.ensures.written
+
+pub write_below-returns-in-Texts-clause-written : goal.write_below-returns-in-Texts-clause-written
+write_below-returns-in-Texts-clause-written g n c =
+    let s = g.K.TableKind.schema in
+    let xs = c.in-Texts.texts in
+    let here : view c.args.value.now ≡ texts (map string_bytes xs.items) = ap view c.in-Texts.is ∙ view-Texts xs in
+    let of = rw here at c.requires.of_kind in
+    let same = ap (λ ys. links_piece link.Text (length ys) ∷ map text_piece (map string_bytes ys)) c.deref-in-Texts.ensures.value
+    ∙ (texts_below s c.args.field xs.items of ∙ ap (λ f. field_pieces s c.args.field f) (sym here)) in
+    told c.write_texts.result c.write_texts.new.builder c.args.builder.now _ _ same c.write_texts.ensures.written
+
+pub write_below-returns-in-Table-clause-written : goal.write_below-returns-in-Table-clause-written
+write_below-returns-in-Table-clause-written g n c =
+    let s = g.K.TableKind.schema in
+    let v = c.in-Table.values in
+    let here : view c.args.value.now ≡ table (views v.items) = ap view c.in-Table.is ∙ view-Table v in
+    let of = rw here at c.requires.of_kind in
+    let same = (λ i. table_pieces s (fields_of s (c.table_number.ensures i)) (views (c.deref-in-Table.ensures.value i)))
+    ∙ (table_below s c.args.field (views v.items) of ∙ ap (λ f. field_pieces s c.args.field f) (sym here)) in
+    let first = subst (λ b. OnOk c.write_table.result (c.write_table.new.builder ≡ with_pieces b
+    (table_pieces s (fields_of s c.table_number.result) (views c.deref-in-Table.result.now)))) c.go_on.ensures c.write_table.ensures.written in
+    told c.write_table.result c.write_table.new.builder c.args.builder.now _ _ same first
+
+pub write_below-returns-in-Tables-clause-written : goal.write_below-returns-in-Tables-clause-written
+write_below-returns-in-Tables-clause-written g n c =
+    let s = g.K.TableKind.schema in
+    let rows = c.in-Tables.rows in
+    let here : view c.args.value.now ≡ tables (rows_from (map (λ r. views r.items) rows.items)) =
+    ap view c.in-Tables.is ∙ view-Tables rows in
+    let of = rw here at c.requires.of_kind in
+    let same = (λ i. links_piece link.Table (length (c.deref-in-Tables.ensures.value i))
+    ∷ rows_pieces s (c.table_number-in-Tables.ensures i) (rows_from (map (λ r. views r.items) (c.deref-in-Tables.ensures.value i))))
+    ∙ (rows_below s c.args.field rows.items of ∙ ap (λ f. field_pieces s c.args.field f) (sym here)) in
+    told c.write_rows.result c.write_rows.new.builder c.args.builder.now _ _ same c.write_rows.ensures.written
+
+-- The clauses `cut` of these arms go the same way, by `told_cut`; the arm of a member by
+-- `member_below` in the place of `table_below`; and those without a block by `absent_below`,
+-- `number_below` and `unknown_below`.
+
