@@ -92,6 +92,40 @@ fn counts(view: &View<'_>) -> [Option<usize>; 4]
     [numbers, structs, texts, tables]
 }
 
+/// The two numbers of the vector of numbers, and the second members of the two structs.
+fn numbers_of_elements(view: &View<'_>) -> Option<[u64; 4]>
+    requires { IsViewOf every_schema 0 view.now }
+{
+    let Some(numbers) = view.vector(10) else {
+        return None;
+    };
+    let Some(structs) = view.vector(11) else {
+        return None;
+    };
+    if numbers.len() != 2 || structs.len() != 2 {
+        return None;
+    }
+    Some([
+        numbers.number(0, 0),
+        numbers.number(1, 0),
+        structs.number(0, 1),
+        structs.number(1, 1),
+    ])
+}
+
+/// How many bytes the two strings of the vector of strings have.
+fn lengths_of_texts(view: &View<'_>) -> Option<[usize; 2]>
+    requires { IsViewOf every_schema 0 view.now }
+{
+    let Some(texts) = view.vector(13) else {
+        return None;
+    };
+    if texts.len() != 2 {
+        return None;
+    }
+    Some([texts.text(0).len(), texts.text(1).len()])
+}
+
 /// The tag of a union, if it has one, and whether the schema has it.
 fn tag_of(part: UnionPart<'_>) -> Option<(u8, bool)> {
     match part {
@@ -133,6 +167,8 @@ fn accessors_of_fields(rt: HostRuntime) -> Result<(), Fail> {
     assert_eq!(rt; flags(&every), [true, false]);
     assert_eq!(rt; lengths(&every), [Some(4), Some(6), Some(2)]);
     assert_eq!(rt; counts(&every), [Some(2), Some(2), Some(2), Some(2)]);
+    assert_eq!(rt; numbers_of_elements(&every), Some([1, 2, 2, 4]));
+    assert_eq!(rt; lengths_of_texts(&every), Some([0, 2]));
     assert_eq!(rt; tags(&every), [Some((2, true)), Some((9, false)), None]);
     assert_eq!(rt; place_of_table(&every), Some(200));
     let nothing = root_view(&NOTHING, &EveryKind)?;
@@ -144,6 +180,8 @@ fn accessors_of_fields(rt: HostRuntime) -> Result<(), Fail> {
     assert_eq!(rt; flags(&nothing), [false, false]);
     assert_eq!(rt; lengths(&nothing), [None, None, None]);
     assert_eq!(rt; counts(&nothing), [None, None, None, None]);
+    assert_eq!(rt; numbers_of_elements(&nothing), None);
+    assert_eq!(rt; lengths_of_texts(&nothing), None);
     assert_eq!(rt; tags(&nothing), [None, None, None]);
     assert_eq!(rt; place_of_table(&nothing), None);
     Ok(())
