@@ -2,6 +2,7 @@
 
 ghost use Rattle.std.specs.Prelude.{◌≡◌, ◌↔◌, [], ◌∷◌, ◌++◌, length, slice_get, IfOk, IsTrue, OnOk, OnErr};
 ghost use Rattle.std.specs.Option.{option_copied};
+ghost use Rattle.vx_buffer.specs.Joined.{joined};
 
 use crate::byte_buffer::ByteBuffer;
 use crate::error::BufferError;
@@ -79,6 +80,17 @@ impl ByteBuffers {
         self.items
     }
 
+    /// The bytes of the buffers, one after the other, as one buffer with no alignment. They are copied.
+    pub fn join(&self, alloc: Global) -> Result<ByteBuffer, BufferError>
+        ensures { IfOk result (λ b. b ≡ record { bytes = joined self.now; exponent = 0 }) }
+    {
+        let mut bytes = Vec::with_capacity(alloc, total_len(self.as_slice()))?;
+        for buffer in self.as_slice() {
+            bytes.extend_from_slice(buffer.as_slice())?;
+        }
+        ByteBuffer::from_vec(bytes)
+    }
+
     /// The same list again. No buffer's bytes are copied.
     pub fn clone(&self, alloc: Global) -> Result<ByteBuffers, BufferError>
         ensures { IfOk result (λ b. b ≡ self.now) }
@@ -89,6 +101,15 @@ impl ByteBuffers {
         }
         Ok(ByteBuffers { items })
     }
+}
+
+// How many bytes the buffers have together, or the greatest number where they have more.
+fn total_len(buffers: &[ByteBuffer]) -> usize {
+    let mut total: usize = 0;
+    for buffer in buffers {
+        total = total.saturating_add(buffer.len());
+    }
+    total
 }
 
 /// A list of buffer handles.

@@ -25,10 +25,10 @@ use Rattle.vx_serde.specs.ArraySchema.{array_schema}
 use Rattle.vx_serde.specs.Message.{Descriptor, message_of}
 use Rattle.vx_serde.specs.Wire.{WireHead, Wire, Wires, IsClean, IsCleanNode}
 use Rattle.vx_serde.specs.Blob.{IsBlob, AreClean}
-use Rattle.vx_serde.specs.Opening.{IsTooShort, AreRefused, HasRefusedDescriptors, ShowsNoRoot}
+use Rattle.vx_serde.specs.Opening.{IsTooShort, RefusesDescriptors, HasRefusedDescriptors, ShowsNoRoot}
 use Rattle.vx_serde.specs.Matches.{Matches, AllMatch, IsNodeBy, IsShippedNode}
 use Rattle.vx_serde.specs.Placed.{IsBy, IsChild, HoldsAt, HoldsUnder}
-use Rattle.vx_serde.specs.Causes.{IsCaused, IsCausedIn, IsCausedBelow, SpellsOne, IsUnregistered, HasBadMetadata, HasBadShape, LacksId, LacksBuffer}
+use Rattle.vx_serde.specs.Causes.{Refuses, RefusesTree, RefusesCarried, SpellsOne, IsUnregistered, HasBadMetadata, HasBadShape, LacksId, LacksBuffer}
 use Rattle.vx_serde.specs.Spells.{KeepsReaderLimits, KeepsWriterLimits}
 use Rattle.vx_serde.specs.Request.{Request, IsSpelled, CanRecode}
 use Rattle.vx_serde.proofs.NodeTold.{all_count}
@@ -166,7 +166,7 @@ module _ (s : SessionMeaning) where
           never (subst E k (subst D bufs (subst C (sym same) (subst B at.len (subst A at.dtype fits)))))
 
   -- no node of a wire tree refuses that tells a sound array
-  pub never_caused_in : (x : WireError) (w : Wire) (d : Typ) (n : ℕ) (t : Tree) → IsClean w → IsAt s w d n t → IsCausedIn s x w d n → x ≡ OutOfMemory
+  pub never_caused_in : (x : WireError) (w : Wire) (d : Typ) (n : ℕ) (t : Tree) → IsClean w → IsAt s w d n t → RefusesTree s x w d n → x ≡ OutOfMemory
   never_caused_in OutOfMemory w d n t clean at c = refl
   never_caused_in OutOfBounds w d n t clean at c = absurd (never_under LacksBuffer (λ v k h. no_buffer v k h) c.0 w clean c.1)
   never_caused_in UnknownIndex w d n t clean at c = absurd (never_under LacksId (λ v k h. no_id v k h) c.0 w clean c.1)
@@ -186,7 +186,7 @@ not_short blob segment message is (inr h) =
     let word = ap (λ z. from_le_bytes w32 z) (backs (segment ++ message) is.word h.0 h.1 same words) in
     omega (arith, h.4, word, is.message_len, ap (λ z. length z) same, length-append (segment ++ message) is.word, length-append h.0 h.1, length-append segment message, words)
 
-not_refused : (x : WireError) (segment : List ℕ) (ds : List Descriptor) → AreClean segment ds → AreRefused x segment ds → x ≡ OutOfMemory
+not_refused : (x : WireError) (segment : List ℕ) (ds : List Descriptor) → AreClean segment ds → RefusesDescriptors x segment ds → x ≡ OutOfMemory
 not_refused OutOfMemory segment ds clean r = refl
 not_refused BadAlignment segment ds clean r = absurd (omega (arith, clean.aligned r.0 r.1 r.2, ap (λ d. d.exponent) r.3, r.4))
 not_refused Compressed segment ds clean r = absurd (omega (arith, clean.plain r.0 r.1 r.2, ap (λ d. d.compression) r.3, r.4))
@@ -204,8 +204,8 @@ module _ (asked : Request) (t : Tree) (spelled : IsSpelled asked t) where
   not_described : (x : WireError) → HasRefusedDescriptors x asked.blob → x ≡ OutOfMemory
   not_described x h =
       let same = same_value_of h.segment h.message h.value h.blob_is h.shows in
-      let A : List ℕ → Type 0 = λ z. AreRefused x z (message_of h.value).descriptors in
-      let B : Fields → Type 0 = λ z. AreRefused x spelled.carried.segment (message_of z).descriptors in
+      let A : List ℕ → Type 0 = λ z. RefusesDescriptors x z (message_of h.value).descriptors in
+      let B : Fields → Type 0 = λ z. RefusesDescriptors x spelled.carried.segment (message_of z).descriptors in
       not_refused x spelled.carried.segment (message_of spelled.carried.value).descriptors spelled.clean (subst B same.1 (subst A same.0 h.refused))
 
   not_rootless : ShowsNoRoot asked.blob → ⊥
@@ -215,10 +215,10 @@ module _ (asked : Request) (t : Tree) (spelled : IsSpelled asked t) where
       let P : List ℕ → Type 0 = λ m. Shows array_schema m k.value in
       h.none k.value k.root (subst P parts.1 k.shows) k.root_is
 
-  never_below : (x : WireError) → IsCausedBelow asked x → x ≡ OutOfMemory
+  never_below : (x : WireError) → RefusesCarried asked x → x ≡ OutOfMemory
   never_below x h =
       let same = (carried_once asked.blob asked.ids h.wire spelled.wire h.carried spelled.carried).tree in
-      let P : Wire → Type 0 = λ z. IsCausedIn asked.session x z asked.dtype asked.len in
+      let P : Wire → Type 0 = λ z. RefusesTree asked.session x z asked.dtype asked.len in
       never_caused_in asked.session x spelled.wire asked.dtype asked.len t spelled.whole
       (record { matched = spelled.matched; sound = spelled.sound; dtype = spelled.dtype; len = spelled.len }) (subst P same h.cause)
 
@@ -229,7 +229,7 @@ module _ (asked : Request) (t : Tree) (spelled : IsSpelled asked t) where
   is_grown (Some d) some e = absurd (cc)
   is_grown None some e = absurd (cc)
 
-  pub never_caused : KeepsReaderLimits asked.blob → KeepsWriterLimits asked.session t asked.context asked.options → IsSome (grown asked.context t) → (x : WireError) → IsCaused asked x → x ≡ OutOfMemory
+  pub never_caused : KeepsReaderLimits asked.blob → KeepsWriterLimits asked.session t asked.context asked.options → IsSome (grown asked.context t) → (x : WireError) → Refuses asked x → x ≡ OutOfMemory
   never_caused light fits grows OutOfMemory h = refl
   never_caused light fits grows TooShort h = absurd (not_short asked.blob spelled.carried.segment spelled.carried.message spelled.carried.blob_is h)
   never_caused light fits grows BadTable h = absurd (not_rootless h)
@@ -246,5 +246,5 @@ module _ (asked : Request) (t : Tree) (spelled : IsSpelled asked t) where
   never_caused light fits grows WireLimit h = absurd (not_this (λ u. KeepsWriterLimits asked.session u asked.context asked.options → ⊥) (λ never. never fits) h)
 
 -- Where what is asked can be done, no refusal but want of memory has a cause.
-pub memory_alone : (asked : Request) (e : WireError) → CanRecode asked → IsCaused asked e → e ≡ OutOfMemory
+pub memory_alone : (asked : Request) (e : WireError) → CanRecode asked → Refuses asked e → e ≡ OutOfMemory
 memory_alone asked e can cause = never_caused asked can.array can.spelled can.reader_limits can.writer_limits can.grows e cause

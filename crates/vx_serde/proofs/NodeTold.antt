@@ -25,7 +25,8 @@ use Rattle.vx_serde.specs.declared.error.WireError.TheVariants.{OutOfMemory, Out
 use Rattle.vx_serde.specs.Wire.{WireHead, Wire, Wires}
 use Rattle.vx_serde.specs.Matches.{Matches, AllMatch, IsNodeBy, IsShippedNode}
 use Rattle.vx_serde.specs.Placed.{IsBy, IsChild, HasPlan}
-use Rattle.vx_serde.specs.Causes.{IsCausedIn, IsCausedUnder, IsLacking, error_of}
+use Rattle.vx_serde.specs.Causes.{RefusesTree}
+use Rattle.vx_serde.specs.ReadingSteps.{RefusesTrees, RefusesBuffers, encoding_refusal}
 
 -- ---- matching
 
@@ -108,12 +109,12 @@ get_past (x ∷ xs) (suc i) h g = get_past xs i (omega (arith, h)) g
 -- ---- causes
 
 pub caused_at : (s : SessionMeaning) (x : WireError) (ws : List Wire) (ps : List Place) (i : ℕ) (w : Wire) (p : Place) → slice_get ws i ≡ Some w → slice_get ps i ≡ Some p
-    → IsCausedIn s x w p.dtype p.len → IsCausedUnder s x ws ps
+    → RefusesTree s x w p.dtype p.len → RefusesTrees s x ws ps
 caused_at s OutOfMemory ws ps i w p g h c = tt
 caused_at s x ws ps i w p g h c = (i, w, p, g, h, c)
 
 -- a child's cause is its parent's
-caused_above : (s : SessionMeaning) (x : WireError) (w : Wire) (d : Typ) (n : ℕ) (i : ℕ) (v : Wire) (p : Place) → IsChild s w d n i v p → IsCausedIn s x v p.dtype p.len → IsCausedIn s x w d n
+caused_above : (s : SessionMeaning) (x : WireError) (w : Wire) (d : Typ) (n : ℕ) (i : ℕ) (v : Wire) (p : Place) → IsChild s w d n i v p → RefusesTree s x v p.dtype p.len → RefusesTree s x w d n
 caused_above s OutOfMemory w d n i v p child c = tt
 caused_above s OutOfBounds w d n i v p child c = (i ∷ c.0, (v, child.child, c.1))
 caused_above s UnknownIndex w d n i v p child c = (i ∷ c.0, (v, child.child, c.1))
@@ -123,19 +124,19 @@ caused_above s BadShape w d n i v p child c = (i ∷ c.0, (v, p, child, c.1))
 caused_above s _ w d n i v p child c = absurd c
 
 among : (s : SessionMeaning) (x : WireError) (w : Wire) (d : Typ) (n : ℕ) (ws : List Wire) (ps : List Place) → HasPlan s w d n ps → roses_of ws ≡ below w
-    → (i : ℕ) × (v : Wire) × (p : Place) × (slice_get ws i ≡ Some v) × (slice_get ps i ≡ Some p) × IsCausedIn s x v p.dtype p.len → IsCausedIn s x w d n
+    → (i : ℕ) × (v : Wire) × (p : Place) × (slice_get ws i ≡ Some v) × (slice_get ps i ≡ Some p) × RefusesTree s x v p.dtype p.len → RefusesTree s x w d n
 among s x w d n ws ps plan e c =
     let child : slice_get (roses_list (below w)) c.0 ≡ Some c.1 = ap (λ z. slice_get z c.0) (ap (λ z. roses_list z) (sym e) ∙ roses_list-roses_of ws) ∙ c.3 in
     caused_above s x w d n c.0 c.1 c.2 (record { places = ps; planned = plan; child = child; place = c.4 }) c.5
 
 -- and so is that of one child among several
 pub caused_by_child : (s : SessionMeaning) (x : WireError) (w : Wire) (d : Typ) (n : ℕ) (ws : List Wire) (ps : List Place) → HasPlan s w d n ps → roses_of ws ≡ below w
-    → IsCausedUnder s x ws ps → IsCausedIn s x w d n
+    → RefusesTrees s x ws ps → RefusesTree s x w d n
 caused_by_child s OutOfMemory w d n ws ps plan e c = tt
 caused_by_child s x w d n ws ps plan e c = among s x w d n ws ps plan e c
 
 -- a missing buffer
-pub caused_by_buffers : (s : SessionMeaning) (x : WireError) (w : Wire) (d : Typ) (n : ℕ) → IsLacking x (label w).buffers → IsCausedIn s x w d n
+pub caused_by_buffers : (s : SessionMeaning) (x : WireError) (w : Wire) (d : Typ) (n : ℕ) → RefusesBuffers x (label w).buffers → RefusesTree s x w d n
 caused_by_buffers s OutOfMemory w d n c = tt
 caused_by_buffers s OutOfBounds w d n c = ([], c)
 caused_by_buffers s _ w d n c = absurd c
@@ -164,7 +165,7 @@ planned s w d n e h ps by is plan = record {
   plan = plan_at h w d n e plan.value is ∙ plan.plan;
 }
 
-pub caused_by_plan : (s : SessionMeaning) (x : EncodingError) (w : Wire) (d : Typ) (n : ℕ) (e : Encoding) (h : ArrayHead) → IsBy s w e → IsHeadOf h w d n → IsUnplanned x e h → IsCausedIn s (error_of x) w d n
+pub caused_by_plan : (s : SessionMeaning) (x : EncodingError) (w : Wire) (d : Typ) (n : ℕ) (e : Encoding) (h : ArrayHead) → IsBy s w e → IsHeadOf h w d n → IsUnplanned x e h → RefusesTree s (encoding_refusal x) w d n
 caused_by_plan s refusals.OutOfMemory w d n e h by is c = tt
 caused_by_plan s refusals.BadMetadata w d n e h by is c =
     ([], record { encoding = e; by = by; refused = λ v m. c v (metadata_at e (label w).metadata h.metadata v (sym is.metadata) m) })
@@ -187,7 +188,7 @@ shaped_at e d d2 n n2 v bs k k2 p q r m =
     subst R r (subst Q q (subst P p m))
 
 pub caused_by_build : (s : SessionMeaning) (x : EncodingError) (w : Wire) (d : Typ) (n : ℕ) (e : Encoding) (h : ArrayHead) (bs : List Buffer) (us : Trees) → IsBy s w e → IsHeadOf h w d n
-    → (label w).buffers ≡ map (λ b. Some b) bs → count us ≡ count (below w) → IsUnbuilt x e (typ h.dtype) h.len h.metadata bs us → IsCausedIn s (error_of x) w d n
+    → (label w).buffers ≡ map (λ b. Some b) bs → count us ≡ count (below w) → IsUnbuilt x e (typ h.dtype) h.len h.metadata bs us → RefusesTree s (encoding_refusal x) w d n
 caused_by_build s refusals.OutOfMemory w d n e h bs us by is own same c = tt
 caused_by_build s refusals.BadMetadata w d n e h bs us by is own same c = absurd c
 caused_by_build s refusals.BadShape w d n e h bs us by is own same c = (

@@ -9,9 +9,7 @@ pub mod Placing
 pub mod Written
 pub mod Describable
 pub mod KeptContext
-pub mod Unwritten
 pub mod WrittenBuffers
-pub mod TableViews
 pub mod Errors
 pub mod Opening
 pub mod Matches
@@ -21,3 +19,7 @@ pub mod Request
 pub mod Causes
 pub mod Aligned
 pub mod Recoding
+-- What the contracts of private functions alone cite.
+pub mod ReadingSteps
+pub mod WritingSteps
+pub mod TableViews

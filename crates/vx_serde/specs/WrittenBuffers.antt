@@ -5,13 +5,8 @@ use Rattle.vx_buffer.specs.Buffer.{Buffer}
 use Rattle.vx_serde.specs.declared.options.SerializeOptions.{SerializeOptions}
 use Rattle.vx_serde.specs.Wire.{Wire}
 use Rattle.vx_serde.specs.Numbered.{buffers_in}
-use Rattle.vx_serde.specs.Placing.{pad}
+use Rattle.vx_serde.specs.Placing.{pad, position_behind}
 use Rattle.vx_serde.specs.Written.{message_bytes, message_pad}
-
--- The bytes of buffers, one after the other.
-abbrev pub joined : List Buffer → List ℕ
-joined [] = []
-joined (b ∷ bs) = b.bytes ++ joined bs
 
 -- Bytes with no alignment.
 abbrev pub unaligned : List ℕ → Buffer
@@ -26,8 +21,7 @@ pad_buffers (suc n) = unaligned (replicate (suc n) 0) ∷ []
 abbrev pub data_buffers : SerializeOptions → ℕ → List Buffer → List Buffer
 data_buffers options position [] = []
 data_buffers options position (b ∷ bs) =
-    let padding = pad options b.exponent position in
-    pad_buffers padding ++ (unaligned b.bytes ∷ data_buffers options (position + padding + length b.bytes) bs)
+    pad_buffers (pad options b.exponent position) ++ (unaligned b.bytes ∷ data_buffers options (position_behind options position b) bs)
 
 -- The greatest exponent of buffers, or n where it is greater.
 abbrev pub greatest_exponent : ℕ → List Buffer → ℕ

@@ -7,7 +7,8 @@ ghost use Rattle.vx_arrays.specs.Places.{places};
 ghost use Rattle.vx_arrays.specs.Sound.{IsSound};
 ghost use Rattle.vx_registry.specs.Session.{registry_meaning, IsPaired};
 ghost use Rattle.vx_serde.specs.Matches.{Matches, AllMatch};
-ghost use Rattle.vx_serde.specs.Causes.{IsCausedIn, IsCausedUnder, IsLacking};
+ghost use Rattle.vx_serde.specs.Causes.{RefusesTree};
+ghost use Rattle.vx_serde.specs.ReadingSteps.{RefusesTrees, RefusesBuffers};
 
 use crate::error::WireError;
 use crate::tree::WireNode;
@@ -20,9 +21,9 @@ use vx_types::{DType, Id};
 
 impl From<EncodingError> for WireError {
     ghost use Rattle.std.specs.Prelude.{◌≡◌};
-    ghost use Rattle.vx_serde.specs.Causes.{error_of};
+    ghost use Rattle.vx_serde.specs.ReadingSteps.{encoding_refusal};
 
-    ghost from_gives = { λ e r. r ≡ error_of e };
+    ghost from_gives = { λ e r. r ≡ encoding_refusal e };
 
     fn from(e: EncodingError) -> WireError {
         match e {
@@ -47,11 +48,20 @@ fn head_of(
     ensures children { IfOk result (λ h. h.nchildren ≡ count (below node.now)) }
     ensures err { IsOkUnless result WireError.OutOfMemory }
 {
+    let Ok(serialized_id) = id.clone(alloc) else {
+        return Err(WireError::OutOfMemory);
+    };
+    let Ok(metadata) = node.metadata().clone(alloc) else {
+        return Err(WireError::OutOfMemory);
+    };
+    let Ok(dtype) = dtype.clone(alloc) else {
+        return Err(WireError::OutOfMemory);
+    };
     Ok(ArrayHead {
-        serialized_id: id.clone(alloc)?,
-        dtype: dtype.clone(alloc)?,
+        serialized_id,
+        dtype,
         len,
-        metadata: node.metadata().clone(alloc)?,
+        metadata,
         nbuffers: node.buffers().len(),
         nchildren: node.children().len(),
     })
@@ -60,7 +70,7 @@ fn head_of(
 /// A node's buffers, where none is missing.
 fn own_buffers(alloc: Global, buffers: &[Option<BufferHandle>]) -> Result<BufferHandles, WireError>
     ensures ok { IfOk result (λ bs. buffers.now ≡ map (λ b. Some b) bs) }
-    ensures cause { IfErr result (λ e. IsLacking e buffers.now) }
+    ensures cause { IfErr result (λ e. RefusesBuffers e buffers.now) }
 {
     let mut own = BufferHandles::new(alloc);
     for buffer in buffers {
@@ -86,7 +96,7 @@ pub(crate) fn decode(
     ensures dtype { IfOk result (λ t. (label t).dtype ≡ typ dtype.now) }
     ensures len { IfOk result (λ t. (label t).len ≡ len) }
     ensures paired { OnOk result (IsPaired (registry_meaning session.now)) }
-    ensures cause { IfErr result (λ e. IsCausedIn (registry_meaning session.now) e node.now (typ dtype.now) len) }
+    ensures cause { IfErr result (λ e. RefusesTree (registry_meaning session.now) e node.now (typ dtype.now) len) }
 {
     let Some(id) = node.id() else {
         return Err(WireError::UnknownIndex);
@@ -124,7 +134,7 @@ fn decode_children(
     requires { length plans.now ≡ length nodes.now }
     ensures matches { IfOk result (λ us. AllMatch (registry_meaning session.now) (roses_of nodes.now) us) }
     ensures places { IfOk result (λ us. places us ≡ plans.now) }
-    ensures cause { IfErr result (λ e. IsCausedUnder (registry_meaning session.now) e nodes.now plans.now) }
+    ensures cause { IfErr result (λ e. RefusesTrees (registry_meaning session.now) e nodes.now plans.now) }
 {
     let mut children = Arrays::new(alloc);
     for (i, node) in nodes.iter().enumerate() {
@@ -135,7 +145,9 @@ fn decode_children(
             Ok(child) => child,
             Err(e) => return Err(e),
         };
-        children.push(child)?;
+        let Ok(()) = children.push(child) else {
+            return Err(WireError::OutOfMemory);
+        };
     }
     Ok(children)
 }

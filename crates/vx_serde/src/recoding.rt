@@ -4,7 +4,7 @@ ghost use Rattle.std.specs.Prelude.{◌≡◌, IfOk, IfErr};
 ghost use Rattle.vx_registry.specs.Session.{IsShipped};
 ghost use Rattle.vx_serde.specs.Request.{CanRecode, request};
 ghost use Rattle.vx_serde.specs.Recoding.{IsFaithful, IsRecoded, LeavesContext, product};
-ghost use Rattle.vx_serde.specs.Causes.{IsCaused};
+ghost use Rattle.vx_serde.specs.Causes.{Refuses};
 
 use crate::decoding::decode;
 use crate::error::WireError;
@@ -59,7 +59,7 @@ pub fn recode(
         LeavesContext asked ctx.new }
     // Each refusal has its cause.
     ensures cause { let asked = request blob dtype.now len read_ids.now ctx.old session.now.arrays options.now in
-        IfErr result (IsCaused asked) }
+        IfErr result (Refuses asked) }
 {
     let node = match open(alloc, &blob, read_ids) {
         Ok(node) => node,

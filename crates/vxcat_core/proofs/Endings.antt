@@ -1,10 +1,9 @@
 -- From what the steps of a command ensure to how it ends.
 use Rattle.std.proofs.Common.{◌≡◌, inl, inr, ℕ, Option, None, Some, List, refl, sym, ap, subst, ◌∙◌, arith}
 use Rattle.std.specs.Bool.{IsTrue}
-use Rattle.std.specs.Io.KnownBytes.{Appends, Keeps}
+use Rattle.std.specs.Io.KnownBytes.{Keeps}
 use Rattle.vx_serde.specs.Errors.{error_number}
-use Rattle.vx_serde.specs.Recoding.{Product}
-use Rattle.vx_serde.specs.WrittenBuffers.{joined}
+use Rattle.vx_buffer.specs.Joined.{joined}
 use Rattle.vxcat_core.specs.declared.recode.steps.Outputs.{Outputs}
 use Rattle.vxcat_core.specs.declared.print.PrintError.{PrintError}
 use Rattle.vxcat_core.specs.declared.print.PrintError.TheVariants as print_error
@@ -15,13 +14,13 @@ use Rattle.vxcat_core.specs.declared.status.Status.TheVariants.{Done, OutOfMemor
 use Rattle.vxcat_core.specs.Commands.{Command, Ends, Invokes, recode}
 use Rattle.vxcat_core.specs.Listing.{listing}
 use Rattle.vxcat_core.specs.Outcome.{HasOutcome, Outcome}
-use Rattle.vxcat_core.specs.Recode.{AreInputs, AreSaved, CanRecodeInputs, EndsRecode, InvokesRecode, IsUnmade, KeepsOthers, Loaded, Recode, SavesInOrder, Work, inputs}
+use Rattle.vxcat_core.specs.Recode.{AreInputs, AreSaved, CanRecodeInputs, EndsRecode, InvokesRecode, RefusesInputs, KeepsOthers, Loaded, Recode, SavesInOrder, Work, inputs}
 use Rattle.vxcat_core.specs.RunState.{IsUntouched, Run, run_of}
 use Rattle.vxcat_core.specs.SinkState.{SinkState}
 use Rattle.vxcat_core.specs.Status.{status_number, wire_error}
 use Rattle.vxcat_core.specs.StoreState.{AskedOnly, HasRisen, StoreState}
 use Rattle.vxcat_core.specs.Written.{AppendsPrefix}
-use Rattle.vxcat_core.specs.RecodeViews.{AreOutputs, IsLoadStatus, IsSaveStatus}
+use Rattle.vxcat_core.specs.RecodeViews.{AreOutputs, RefusesLoad, RefusesSave}
 use Rattle.vxcat_core.specs.Statuses.{print_status}
 
 pub keeps_same : (known : Option (List ℕ)) → Keeps known known
@@ -42,7 +41,7 @@ order_through line before mid after blob other file tells same (inl kept) =
 order_through line before mid after blob other file tells same (inr saved) = inr (λ told. saved told ∙ ap (λ (bytes : List ℕ). Some bytes) same)
 
 -- The outputs that were made stand where what the program holds was saved.
-pub saved_of : (line : Recode) (loaded : Loaded) (outputs : Outputs) (after : StoreState) (are : AreOutputs line loaded outputs) → AreSaved line after outputs.blob outputs.ids
+pub saved_of : (line : Recode) (loaded : Loaded) (outputs : Outputs) (after : StoreState) (are : AreOutputs line loaded outputs) → AreSaved line after outputs.blob.bytes outputs.ids
     → AreSaved line after (joined are.made.buffers) are.made.context.ids
 saved_of line loaded outputs after are saved =
     let B : List ℕ → Type 0 = λ z. AreSaved line after z outputs.ids in
@@ -57,7 +56,7 @@ untouched : (before after : StoreState) (out : SinkState) → after.tells ≡ be
 untouched before after out tells file = record { told = tells; files = file; unprinted = keeps_same out.written }
 
 -- A run that ends at a load.
-pub load_ends : (status : Status) (line : Recode) (before after : StoreState) (out : SinkState) → AskedOnly (inputs line) before.asked after.asked → after.tells ≡ before.tells → after.file ≡ before.file → IsLoadStatus status before after
+pub load_ends : (status : Status) (line : Recode) (before after : StoreState) (out : SinkState) → AskedOnly (inputs line) before.asked after.asked → after.tells ≡ before.tells → after.file ≡ before.file → RefusesLoad status before after
     → EndsRecode status line (run_of before after out out)
 load_ends OutOfMemory line before after out asked tells file cause = inl (untouched before after out tells file)
 load_ends LoadFault line before after out asked tells file cause = (cause, asked, untouched before after out tells file)
@@ -71,7 +70,7 @@ load_ends (Refused r) line before after out asked tells file cause = absurd caus
 
 -- A run that ends at a save.
 pub save_ends : (status : Status) (line : Recode) (before mid after : StoreState) (out : SinkState) (work : Work line before) → mid.save_faults ≡ before.save_faults → KeepsOthers line before after
-    → SavesInOrder line before after (joined work.made.buffers) → IsSaveStatus status mid after → EndsRecode status line (run_of before after out out)
+    → SavesInOrder line before after (joined work.made.buffers) → RefusesSave status mid after → EndsRecode status line (run_of before after out out)
 save_ends OutOfMemory line before mid after out work same others order cause =
     inr (inl (record { work = work; in_order = order; others = others; unprinted = keeps_same out.written }))
 save_ends SaveFault line before mid after out work same others order cause = (
@@ -87,7 +86,7 @@ save_ends BadIds line before mid after out work same others order cause = absurd
 save_ends (Refused r) line before mid after out work same others order cause = absurd cause
 
 -- A run that ends at what it loaded.
-pub refused_ends : (status : Status) (line : Recode) (before after : StoreState) (out : SinkState) (loaded : Loaded) → AreInputs line before loaded → IsUnmade status line loaded
+pub refused_ends : (status : Status) (line : Recode) (before after : StoreState) (out : SinkState) (loaded : Loaded) → AreInputs line before loaded → RefusesInputs status line loaded
     → (CanRecodeInputs line loaded → status ≡ OutOfMemory) → after.tells ≡ before.tells → after.file ≡ before.file → EndsRecode status line (run_of before after out out)
 refused_ends OutOfMemory line before after out loaded are cause complete tells file = inl (untouched before after out tells file)
 refused_ends BadType line before after out loaded are cause complete tells file = record {

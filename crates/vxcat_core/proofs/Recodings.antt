@@ -9,42 +9,42 @@ use Rattle.vx_registry.specs.Session.{Registry, registry_meaning, shipped_regist
 use Rattle.vx_serde.specs.declared.options.SerializeOptions.{SerializeOptions}
 use Rattle.vx_serde.specs.declared.error.WireError.{WireError}
 use Rattle.vx_serde.specs.declared.error.WireError.TheVariants as wire
-use Rattle.vx_serde.specs.Causes.{IsCaused}
+use Rattle.vx_serde.specs.Causes.{Refuses}
 use Rattle.vx_serde.specs.Recoding.{IsFaithful, IsRecoded, Product}
 use Rattle.vx_serde.specs.Request.{CanRecode, Request}
-use Rattle.vx_serde.specs.WrittenBuffers.{joined}
+use Rattle.vx_buffer.specs.Joined.{joined}
 use Rattle.vxcat_core.specs.declared.id_file.IdFileError.{IdFileError}
 use Rattle.vxcat_core.specs.declared.id_file.IdFileError.TheVariants as id_error
 use Rattle.vxcat_core.specs.declared.recode.steps.Outputs.{Outputs}
 use Rattle.vxcat_core.specs.declared.status.Status.{Status}
 use Rattle.vxcat_core.specs.declared.status.Status.TheVariants.{Done, OutOfMemory, NoCommand, LoadFault, SaveFault, WriteFault, BadType, BadIds, Refused}
 use Rattle.vxcat_core.specs.IdFile.{ReadsIds}
-use Rattle.vxcat_core.specs.Recode.{AreRead, CanRecodeInputs, IsUnmade, Loaded, Recode, asked_by, padded_at}
+use Rattle.vxcat_core.specs.Recode.{CanRecodeInputs, RefusesInputs, Loaded, Recode, asked_by, padded_at}
 use Rattle.vxcat_core.proofs.IdLines.{lines_unique}
-use Rattle.vxcat_core.specs.RecodeViews.{AreMade, AreOutputs, IsBlobStatus, IsTypeStatus, asks}
+use Rattle.vxcat_core.specs.RecodeViews.{AreMade, AreOutputs, RefusesBlob, RefusesType, request_for}
 use Rattle.vxcat_core.specs.Statuses.{blob_status, id_status}
 
--- What `recode` is asked is what the program asks.
+-- What `recode` is asked is what the program asks for.
 pub same_request : (blob bytes : List ℕ) (dtype : Typ) (len : ℕ) (read_ids ids : List (List ℕ)) (context : Context) (arrays : Registry) (options : SerializeOptions)
     → bytes ≡ blob → ids ≡ read_ids → context.ids ≡ [] → context.allowed ≡ None → arrays ≡ shipped_registry
-    → record { blob = bytes; dtype = dtype; len = len; ids = ids; context = context; options = options; session = registry_meaning arrays } ≡ asks blob dtype len read_ids options
+    → record { blob = bytes; dtype = dtype; len = len; ids = ids; context = context; options = options; session = registry_meaning arrays } ≡ request_for blob dtype len read_ids options
 same_request blob bytes dtype len read_ids ids context arrays options b i c a r =
     λ k. record { blob = b k; dtype = dtype; len = len; ids = i k; context = record { ids = c k; allowed = a k }; options = options; session = registry_meaning (r k) }
 
 -- The outputs are what was made.
 pub outputs_made : (asked : Request) (made : Product) (result : Result Outputs Status) → IsRecoded asked made → IsFaithful asked made
-    → IfOk result (λ outputs. outputs.array ≡ made.array) → IfOk result (λ outputs. outputs.blob ≡ joined made.buffers) → IfOk result (λ outputs. outputs.ids ≡ made.context.ids) → IfOk result (AreMade asked)
+    → IfOk result (λ outputs. outputs.array ≡ made.array) → IfOk result (λ outputs. outputs.blob.bytes ≡ joined made.buffers) → IfOk result (λ outputs. outputs.ids ≡ made.context.ids) → IfOk result (AreMade asked)
 outputs_made asked made (Ok outputs) recoded faithful array blob ids =
     record { made = made; recoded = recoded; faithful = faithful; holds = record { array_is = array; blob_is = blob; ids_are = ids } }
 outputs_made asked made (Err status) recoded faithful array blob ids = tt
 
 -- Want of memory needs no cause.
-pub memory_refused : (asked : Request) (result : Result Outputs Status) → IfErr result (λ status. status ≡ OutOfMemory) → IfErr result (λ status. IsBlobStatus status asked)
+pub memory_refused : (asked : Request) (result : Result Outputs Status) → IfErr result (λ status. status ≡ OutOfMemory) → IfErr result (λ status. RefusesBlob status asked)
 memory_refused asked (Ok made) memory = tt
-memory_refused asked (Err status) memory = subst (λ (s : Status). IsBlobStatus s asked) (sym memory) tt
+memory_refused asked (Err status) memory = subst (λ (s : Status). RefusesBlob s asked) (sym memory) tt
 
 -- A refusal that has its cause gives its status.
-pub refused : (error : WireError) (asked : Request) → IsCaused asked error → IsBlobStatus (blob_status error) asked
+pub refused : (error : WireError) (asked : Request) → Refuses asked error → RefusesBlob (blob_status error) asked
 refused wire.OutOfMemory asked cause = tt
 refused wire.TooShort asked cause = cause
 refused wire.BadTable asked cause = cause
@@ -63,8 +63,8 @@ not_memory : BadType ≡ OutOfMemory → ⊥
 not_memory e = absurd (cc)
 
 -- A type file that is refused, but for want of memory, is read as no type.
-pub type_cause : (status : Status) (line : Recode) (loaded : Loaded) (bytes : List ℕ) → bytes ≡ loaded.type_bytes → IsTypeStatus status
-    → ((t : Typ) → IsRead (ShowsType bytes) no_readers t → status ≡ OutOfMemory) → IsUnmade status line loaded
+pub type_cause : (status : Status) (line : Recode) (loaded : Loaded) (bytes : List ℕ) → bytes ≡ loaded.type_bytes → RefusesType status
+    → ((t : Typ) → IsRead (ShowsType bytes) no_readers t → status ≡ OutOfMemory) → RefusesInputs status line loaded
 type_cause OutOfMemory line loaded bytes e s complete = tt
 type_cause BadType line loaded bytes e s complete = λ t r. not_memory (complete t (subst (λ (m : List ℕ). IsRead (ShowsType m) no_readers t) (sym e) r))
 type_cause Done line loaded bytes e s complete = absurd s
@@ -82,10 +82,10 @@ type_memory status line loaded bytes e complete can = complete can.dtype (subst 
 
 -- An id file that is refused, but for want of memory, is no text of identifiers.
 pub ids_cause : {T : Type 0} (error : IdFileError) (status : Status) (line : Recode) (loaded : Loaded) (bytes : List ℕ) (r : Result T IdFileError) → r ≡ Err error → bytes ≡ loaded.id_bytes
-    → status ≡ id_status error → (r ≡ Err id_error.BadText → (ids : List (List ℕ)) → ¬ (ReadsIds bytes ids)) → IsUnmade status line loaded
-ids_cause id_error.OutOfMemory status line loaded bytes r p e s bad = subst (λ (x : Status). IsUnmade x line loaded) (sym s) tt
+    → status ≡ id_status error → (r ≡ Err id_error.BadText → (ids : List (List ℕ)) → ¬ (ReadsIds bytes ids)) → RefusesInputs status line loaded
+ids_cause id_error.OutOfMemory status line loaded bytes r p e s bad = subst (λ (x : Status). RefusesInputs x line loaded) (sym s) tt
 ids_cause id_error.BadText status line loaded bytes r p e s bad =
-    subst (λ (x : Status). IsUnmade x line loaded) (sym s) (λ ids h. bad p ids (subst (λ (m : List ℕ). ReadsIds m ids) (sym e) h))
+    subst (λ (x : Status). RefusesInputs x line loaded) (sym s) (λ ids h. bad p ids (subst (λ (m : List ℕ). ReadsIds m ids) (sym e) h))
 
 -- Where what was loaded can be recoded, its id file is refused for want of memory alone.
 pub ids_memory : {T : Type 0} (error : IdFileError) (status : Status) (line : Recode) (loaded : Loaded) (bytes : List ℕ) (r : Result T IdFileError) → r ≡ Err error → bytes ≡ loaded.id_bytes
@@ -103,7 +103,7 @@ if_err_map (Ok x) P Q f p = tt
 if_err_map (Err e) P Q f p = f e p
 
 blob_to_inputs : (line : Recode) (loaded : Loaded) (dtype : Typ) (read_ids : List (List ℕ)) → IsRead (ShowsType loaded.type_bytes) no_readers dtype → ReadsIds loaded.id_bytes read_ids
-    → (status : Status) → IsBlobStatus status (asked_by line loaded dtype read_ids) → IsUnmade status line loaded
+    → (status : Status) → RefusesBlob status (asked_by line loaded dtype read_ids) → RefusesInputs status line loaded
 blob_to_inputs line loaded dtype read_ids types ids OutOfMemory cause = tt
 blob_to_inputs line loaded dtype read_ids types ids (Refused r) cause = (dtype, read_ids, record { type_read = types; ids_read = ids }, cause)
 blob_to_inputs line loaded dtype read_ids types ids Done cause = absurd cause
@@ -124,9 +124,9 @@ module _ (line : Recode) (loaded : Loaded) (type_bytes id_bytes : List ℕ) (dty
   ids_here = subst (λ (l : List ℕ). ReadsIds l read_ids) ids_are ids_read
 
   -- What was recoded of the blob was recoded of what was loaded.
-  pub inputs_made : IfOk result (AreMade (asks loaded.blob dtype line.len read_ids options)) → IfOk result (λ outputs. AreOutputs line loaded outputs)
+  pub inputs_made : IfOk result (AreMade (request_for loaded.blob dtype line.len read_ids options)) → IfOk result (λ outputs. AreOutputs line loaded outputs)
   inputs_made recoded =
-      let here = subst (λ (o : SerializeOptions). IfOk result (AreMade (asks loaded.blob dtype line.len read_ids o))) options_are recoded in
+      let here = subst (λ (o : SerializeOptions). IfOk result (AreMade (request_for loaded.blob dtype line.len read_ids o))) options_are recoded in
       if_ok_map result _ _
       (λ outputs k. record {
         made = k.made;
@@ -136,18 +136,18 @@ module _ (line : Recode) (loaded : Loaded) (type_bytes id_bytes : List ℕ) (dty
       here
 
   -- A refused blob is a cause among those of what was loaded.
-  pub inputs_refused : IfErr result (λ s. IsBlobStatus s (asks loaded.blob dtype line.len read_ids options)) → IfErr result (λ s. IsUnmade s line loaded)
+  pub inputs_refused : IfErr result (λ s. RefusesBlob s (request_for loaded.blob dtype line.len read_ids options)) → IfErr result (λ s. RefusesInputs s line loaded)
   inputs_refused refused =
-      let here = subst (λ (o : SerializeOptions). IfErr result (λ s. IsBlobStatus s (asks loaded.blob dtype line.len read_ids o))) options_are refused in
+      let here = subst (λ (o : SerializeOptions). IfErr result (λ s. RefusesBlob s (request_for loaded.blob dtype line.len read_ids o))) options_are refused in
       if_err_map result _ _ (blob_to_inputs line loaded dtype read_ids type_here ids_here) here
 
   -- What can be recoded at some type and with some identifiers can be so at those that were read.
-  pub inputs_complete : (CanRecode (asks loaded.blob dtype line.len read_ids options) → IfErr result (λ s. s ≡ OutOfMemory))
+  pub inputs_complete : (CanRecode (request_for loaded.blob dtype line.len read_ids options) → IfErr result (λ s. s ≡ OutOfMemory))
       → CanRecodeInputs line loaded → IfErr result (λ s. s ≡ OutOfMemory)
   inputs_complete complete can =
       let types : can.dtype ≡ dtype = one_type_shown loaded.type_bytes can.dtype dtype can.are_read.type_read.shows type_here.shows in
       let ids : can.ids ≡ read_ids = lines_unique loaded.id_bytes read_ids can.ids ids_here.lines can.are_read.ids_read.lines in
-      let asked : asked_by line loaded can.dtype can.ids ≡ asks loaded.blob dtype line.len read_ids options = λ k. asks loaded.blob (types k) line.len (ids k) (sym options_are k) in
+      let asked : asked_by line loaded can.dtype can.ids ≡ request_for loaded.blob dtype line.len read_ids options = λ k. request_for loaded.blob (types k) line.len (ids k) (sym options_are k) in
       complete (subst CanRecode asked can.can_recode)
 
 -- Where the refusal of a blob is want of memory, so is the status.

@@ -1,4 +1,4 @@
--- The command `recode`: its words, what it loads, asks, makes, saves and prints, and how it ends.
+-- The command `recode`: its words, what it loads, request_for, makes, saves and prints, and how it ends.
 use Rattle.std.specs.Prelude.{◌≡◌, ◌≢◌, ◌⊎◌, ◌<◌, ◌^◌, ℕ, true, false, IsTrue, Option, None, Some, List, [], ◌∷◌, codes, decimal}
 use Rattle.std.specs.Io.KnownBytes.{Keeps}
 use Rattle.std.specs.List.{flat_map}
@@ -8,10 +8,10 @@ use Rattle.vx_type_wire.specs.Shown.{ShowsType}
 use Rattle.vx_registry.specs.Context.{Context}
 use Rattle.vx_registry.specs.Session.{SessionMeaning, registry_meaning, shipped_registry}
 use Rattle.vx_serde.specs.declared.options.SerializeOptions.{SerializeOptions}
-use Rattle.vx_serde.specs.Causes.{IsCaused}
+use Rattle.vx_serde.specs.Causes.{Refuses}
 use Rattle.vx_serde.specs.Recoding.{IsFaithful, IsRecoded, Product}
 use Rattle.vx_serde.specs.Request.{CanRecode, Request}
-use Rattle.vx_serde.specs.WrittenBuffers.{joined}
+use Rattle.vx_buffer.specs.Joined.{joined}
 use Rattle.vxcat_core.specs.declared.options.Choice.{Choice}
 use Rattle.vxcat_core.specs.declared.status.Status.{Status}
 use Rattle.vxcat_core.specs.declared.status.Status.TheVariants.{Done, OutOfMemory, NoCommand, LoadFault, SaveFault, WriteFault, BadType, BadIds, Refused}
@@ -122,13 +122,13 @@ pub record CanRecodeInputs (line : Recode) (loaded : Loaded) : Type 0 where
 -- Why what was loaded is not recoded: the type file shows no type within the limits, or one with an extension; the id file
 -- is no text of at most 65,536 lines; or the blob is refused at the type and with the identifiers that were read. Want of
 -- memory needs no cause.
-abbrev pub IsUnmade : Status → Recode → Loaded → Type 0
-IsUnmade OutOfMemory line loaded = Unit {0}
-IsUnmade BadType line loaded = (dtype : Typ) → ¬ (IsRead (ShowsType loaded.type_bytes) (readers_of line.settings) dtype)
-IsUnmade BadIds line loaded = (ids : List (List ℕ)) → ¬ (ReadsIds loaded.id_bytes ids)
-IsUnmade (Refused refusal) line loaded =
-    (dtype : Typ) × (ids : List (List ℕ)) × AreRead line loaded dtype ids × IsCaused (asked_by line loaded dtype ids) (wire_error refusal)
-IsUnmade status line loaded = ⊥
+abbrev pub RefusesInputs : Status → Recode → Loaded → Type 0
+RefusesInputs OutOfMemory line loaded = Unit {0}
+RefusesInputs BadType line loaded = (dtype : Typ) → ¬ (IsRead (ShowsType loaded.type_bytes) (readers_of line.settings) dtype)
+RefusesInputs BadIds line loaded = (ids : List (List ℕ)) → ¬ (ReadsIds loaded.id_bytes ids)
+RefusesInputs (Refused refusal) line loaded =
+    (dtype : Typ) × (ids : List (List ℕ)) × AreRead line loaded dtype ids × Refuses (asked_by line loaded dtype ids) (wire_error refusal)
+RefusesInputs status line loaded = ⊥
 
 -- ---- what is saved
 
@@ -177,7 +177,7 @@ pub record EndsPrinting (line : Recode) (run : Run) (IsPrinted : Run → List �
 pub record EndsRefused (status : Status) (line : Recode) (run : Run) : Type 0 where
   pub loaded : Loaded
   pub are_inputs : AreInputs line run.before loaded
-  pub cause : IsUnmade status line loaded
+  pub cause : RefusesInputs status line loaded
   pub cannot : CanRecodeInputs line loaded → ⊥
   pub untouched : IsUntouched run
 

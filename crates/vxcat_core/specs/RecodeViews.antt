@@ -3,10 +3,10 @@ use Rattle.std.specs.Prelude.{◌≡◌, ℕ, List, [], None, unwrap_or}
 use Rattle.vx_types.specs.Typ.{Typ}
 use Rattle.vx_registry.specs.Session.{registry_meaning, shipped_registry}
 use Rattle.vx_serde.specs.declared.options.SerializeOptions.{SerializeOptions}
-use Rattle.vx_serde.specs.Causes.{IsCaused}
+use Rattle.vx_serde.specs.Causes.{Refuses}
 use Rattle.vx_serde.specs.Recoding.{IsFaithful, IsRecoded, Product}
 use Rattle.vx_serde.specs.Request.{Request}
-use Rattle.vx_serde.specs.WrittenBuffers.{joined}
+use Rattle.vx_buffer.specs.Joined.{joined}
 use Rattle.vxcat_core.specs.declared.options.Options.{Options}
 use Rattle.vxcat_core.specs.declared.recode.words.RecodeWords.{RecodeWords}
 use Rattle.vxcat_core.specs.declared.recode.steps.Inputs.{Inputs}
@@ -41,7 +41,7 @@ loaded_of inputs = record { type_bytes = inputs.type_bytes; blob = inputs.blob; 
 -- The outputs are a product's array, the bytes of its blob, and the identifiers of its context.
 pub record Holds (outputs : Outputs) (made : Product) : Type 0 where
   pub array_is : outputs.array ≡ made.array
-  pub blob_is : outputs.blob ≡ joined made.buffers
+  pub blob_is : outputs.blob.bytes ≡ joined made.buffers
   pub ids_are : outputs.ids ≡ made.context.ids
 
 -- The outputs are what the command makes of what was loaded.
@@ -50,9 +50,9 @@ pub record AreOutputs (line : Recode) (loaded : Loaded) (outputs : Outputs) : Ty
   pub is_made : IsMade line loaded made
   pub holds : Holds outputs made
 
--- What the program asks of a blob, at a type and with identifiers.
-abbrev pub asks : List ℕ → Typ → ℕ → List (List ℕ) → SerializeOptions → Request
-asks blob dtype len ids options = record {
+-- What the program asks for of a blob, at a type and with identifiers.
+abbrev pub request_for : List ℕ → Typ → ℕ → List (List ℕ) → SerializeOptions → Request
+request_for blob dtype len ids options = record {
   blob = blob;
   dtype = dtype;
   len = len;
@@ -72,25 +72,25 @@ pub record AreMade (asked : Request) (outputs : Outputs) : Type 0 where
 -- ---- the status of a step that is refused
 
 -- A load fails where the count of load faults rose, or wants memory.
-abbrev pub IsLoadStatus : Status → StoreState → StoreState → Type 0
-IsLoadStatus LoadFault before after = HasRisen before.load_faults after.load_faults
-IsLoadStatus OutOfMemory before after = Unit {0}
-IsLoadStatus status before after = ⊥
+abbrev pub RefusesLoad : Status → StoreState → StoreState → Type 0
+RefusesLoad LoadFault before after = HasRisen before.load_faults after.load_faults
+RefusesLoad OutOfMemory before after = Unit {0}
+RefusesLoad status before after = ⊥
 
 -- A save fails where the count of save faults rose, or wants memory.
-abbrev pub IsSaveStatus : Status → StoreState → StoreState → Type 0
-IsSaveStatus SaveFault before after = HasRisen before.save_faults after.save_faults
-IsSaveStatus OutOfMemory before after = Unit {0}
-IsSaveStatus status before after = ⊥
+abbrev pub RefusesSave : Status → StoreState → StoreState → Type 0
+RefusesSave SaveFault before after = HasRisen before.save_faults after.save_faults
+RefusesSave OutOfMemory before after = Unit {0}
+RefusesSave status before after = ⊥
 
 -- A type file is a bad one, or wants memory.
-abbrev pub IsTypeStatus : Status → Type 0
-IsTypeStatus OutOfMemory = Unit {0}
-IsTypeStatus BadType = Unit {0}
-IsTypeStatus status = ⊥
+abbrev pub RefusesType : Status → Type 0
+RefusesType OutOfMemory = Unit {0}
+RefusesType BadType = Unit {0}
+RefusesType status = ⊥
 
 -- A blob is refused with its cause, or wants memory.
-abbrev pub IsBlobStatus : Status → Request → Type 0
-IsBlobStatus OutOfMemory asked = Unit {0}
-IsBlobStatus (Refused refusal) asked = IsCaused asked (wire_error refusal)
-IsBlobStatus status asked = ⊥
+abbrev pub RefusesBlob : Status → Request → Type 0
+RefusesBlob OutOfMemory asked = Unit {0}
+RefusesBlob (Refused refusal) asked = Refuses asked (wire_error refusal)
+RefusesBlob status asked = ⊥

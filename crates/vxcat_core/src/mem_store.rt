@@ -1,6 +1,6 @@
 //! Files in memory, as a store.
 
-ghost use Rattle.std.specs.Prelude.{◌≡◌, ◌≢◌, ℕ, List, [], Some, None, OnOk};
+ghost use Rattle.std.specs.Prelude.{◌≡◌, ◌≢◌, ℕ, List, [], Some, None, IsTrue, OnOk, OnErr};
 ghost use Rattle.std.specs.Option.{option_copied};
 
 use crate::store::{Store, StoreError};
@@ -22,8 +22,11 @@ pub struct MemStore {
 impl MemStore {
     /// No files, and no call fails.
     pub fn new(alloc: Global) -> MemStore
+        ensures tells { IsTrue (⟦<MemStore as Store>⟧.state result).tells }
         ensures files { (name : List ℕ) → (⟦<MemStore as Store>⟧.state result).file name ≡ None }
         ensures asked { (⟦<MemStore as Store>⟧.state result).asked ≡ [] }
+        ensures load_faults { (⟦<MemStore as Store>⟧.state result).load_faults ≡ 0 }
+        ensures save_faults { (⟦<MemStore as Store>⟧.state result).save_faults ≡ 0 }
     {
         MemStore {
             files: BTreeMap::new(alloc),
@@ -46,7 +49,7 @@ impl MemStore {
         Ok(())
     }
 
-    /// Puts a file there. It counts as no call.
+    /// Puts a file there. It counts as no call, and changes nothing where it is refused.
     ///
     /// # Errors
     /// `OutOfMemory`, and no other.
@@ -55,6 +58,8 @@ impl MemStore {
         ensures ok { OnOk result ((⟦<MemStore as Store>⟧.state self.new).file name.now ≡ Some bytes.now) }
         ensures others { (other : List ℕ) → other ≢ name.now
             → (⟦<MemStore as Store>⟧.state self.new).file other ≡ (⟦<MemStore as Store>⟧.state self.old).file other }
+        ensures err { OnErr result (⟦<MemStore as Store>⟧.state self.new ≡ ⟦<MemStore as Store>⟧.state self.old) }
+        ensures rest { ⟦<MemStore as Store>⟧.state self.new ≡ record (⟦<MemStore as Store>⟧.state self.old) { file = (⟦<MemStore as Store>⟧.state self.new).file } }
     {
         let key = String::from_str(alloc, name)?;
         self.files.insert(key, bytes.to_vec(alloc)?)?;

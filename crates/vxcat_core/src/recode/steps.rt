@@ -6,19 +6,19 @@ ghost use Rattle.vx_types.specs.Typ.{Typ};
 ghost use Rattle.vx_type_wire.specs.Known.{IsRead, no_readers};
 ghost use Rattle.vx_type_wire.specs.Shown.{ShowsType};
 ghost use Rattle.vx_serde.specs.Request.{CanRecode};
-ghost use Rattle.vx_serde.specs.WrittenBuffers.{joined};
-ghost use Rattle.vxcat_core.specs.Recode.{AreInputs, AreSaved, CanRecodeInputs, IsUnmade, KeepsOthers, SavesInOrder, inputs, padded_at};
+ghost use Rattle.vx_buffer.specs.Joined.{joined};
+ghost use Rattle.vxcat_core.specs.Recode.{AreInputs, AreSaved, CanRecodeInputs, RefusesInputs, KeepsOthers, SavesInOrder, inputs, padded_at};
 ghost use Rattle.vxcat_core.specs.StoreState.{AskedOnly};
-ghost use Rattle.vxcat_core.specs.RecodeViews.{AreMade, AreOutputs, IsLoadStatus, IsSaveStatus, IsTypeStatus, IsBlobStatus, asks, line_of, loaded_of};
+ghost use Rattle.vxcat_core.specs.RecodeViews.{AreMade, AreOutputs, RefusesLoad, RefusesSave, RefusesType, RefusesBlob, request_for, line_of, loaded_of};
 ghost use Rattle.vxcat_core.specs.declared.status.Status.TheVariants.{OutOfMemory};
 
 use super::words::RecodeWords;
 use crate::id_file::{read_ids, write_ids};
 use crate::status::Status;
 use crate::store::Store;
-use std::alloc::{AllocError, Global};
+use std::alloc::Global;
 use vx_arrays::Array;
-use vx_buffer::{ByteBuffer, ByteBuffers};
+use vx_buffer::ByteBuffer;
 use vx_registry::{ArrayContext, ArraySession, ReadContext, VortexSession};
 use vx_serde::{Recoded, SerializeOptions, recode};
 use vx_type_wire::{DTypeExt, ExtSession};
@@ -36,7 +36,7 @@ pub struct Inputs {
 #[derive(Drop)]
 pub struct Outputs {
     pub array: Array,
-    pub blob: Blob,
+    pub blob: ByteBuffer,
     pub ids: Ids,
 }
 
@@ -51,7 +51,7 @@ pub fn load_inputs<S: Store>(
     ensures told { (S.state store.new).tells ≡ (S.state store.old).tells }
     ensures files { (S.state store.new).file ≡ (S.state store.old).file }
     ensures save_faults { (S.state store.new).save_faults ≡ (S.state store.old).save_faults }
-    ensures cause { IfErr result (λ status. IsLoadStatus status (S.state store.old) (S.state store.new)) }
+    ensures cause { IfErr result (λ status. RefusesLoad status (S.state store.old) (S.state store.new)) }
 {
     let type_bytes = match store.load(alloc, words.type_file) {
         Ok(bytes) => bytes,
@@ -74,7 +74,7 @@ pub fn load_inputs<S: Store>(
 /// Judges the type file, then the id file, and recodes the blob.
 pub fn recode_inputs(alloc: Global, words: &RecodeWords, loaded: Inputs) -> Result<Outputs, Status>
     ensures made { IfOk result (λ made. AreOutputs (line_of words.now) (loaded_of loaded) made) }
-    ensures cause { IfErr result (λ status. IsUnmade status (line_of words.now) (loaded_of loaded)) }
+    ensures cause { IfErr result (λ status. RefusesInputs status (line_of words.now) (loaded_of loaded)) }
     ensures complete { CanRecodeInputs (line_of words.now) (loaded_of loaded) → IfErr result (λ status. status ≡ OutOfMemory) }
 {
     let dtype = match read_type(alloc, loaded.type_bytes.as_slice()) {
@@ -92,7 +92,7 @@ pub fn recode_inputs(alloc: Global, words: &RecodeWords, loaded: Inputs) -> Resu
 // The type that a type file shows, where no extension is known.
 fn read_type(alloc: Global, bytes: &[u8]) -> Result<DType, Status>
     ensures read { IfOk result (λ d. IsRead (ShowsType bytes.now) no_readers (typ d)) }
-    ensures status { IfErr result IsTypeStatus }
+    ensures status { IfErr result RefusesType }
     ensures complete { (t : Typ) → IsRead (ShowsType bytes.now) no_readers t → IfErr result (λ status. status ≡ OutOfMemory) }
 {
     let readers = ExtSession::new(alloc);
@@ -124,9 +124,9 @@ fn recode_blob(
     read_ids: Ids,
     options: &SerializeOptions,
 ) -> Result<Outputs, Status>
-    ensures made { IfOk result (AreMade (asks blob (typ dtype.now) len read_ids options.now)) }
-    ensures cause { IfErr result (λ status. IsBlobStatus status (asks blob (typ dtype.now) len read_ids options.now)) }
-    ensures complete { CanRecode (asks blob (typ dtype.now) len read_ids options.now) → IfErr result (λ status. status ≡ OutOfMemory) }
+    ensures made { IfOk result (AreMade (request_for blob (typ dtype.now) len read_ids options.now)) }
+    ensures cause { IfErr result (λ status. RefusesBlob status (request_for blob (typ dtype.now) len read_ids options.now)) }
+    ensures complete { CanRecode (request_for blob (typ dtype.now) len read_ids options.now) → IfErr result (λ status. status ≡ OutOfMemory) }
 {
     let Ok(buffer) = ByteBuffer::from_vec(blob.into_vec()) else {
         return Err(Status::OutOfMemory);
@@ -154,41 +154,21 @@ fn recode_blob(
 
 fn make_outputs(alloc: Global, recoded: Recoded, ids: &ArrayContext) -> Result<Outputs, Status>
     ensures array { IfOk result (λ made. made.array ≡ recoded.array) }
-    ensures blob { IfOk result (λ made. made.blob ≡ joined recoded.buffers) }
+    ensures blob { IfOk result (λ made. made.blob.bytes ≡ joined recoded.buffers) }
     ensures ids { IfOk result (λ made. made.ids ≡ ids.now.ids) }
     ensures memory { IfErr result (λ status. status ≡ OutOfMemory) }
 {
-    let Ok(blob) = join(alloc, &recoded.buffers) else {
+    let Ok(blob) = recoded.buffers.join(alloc) else {
         return Err(Status::OutOfMemory);
     };
     match ids.to_ids(alloc) {
         Ok(ids) => Ok(Outputs {
             array: recoded.array,
-            blob: Blob::new(blob),
+            blob,
             ids,
         }),
         Err(_) => Err(Status::OutOfMemory),
     }
-}
-
-// How many bytes the buffers have together, or the greatest number where they have more.
-fn total_len(buffers: &ByteBuffers) -> usize {
-    let mut total: usize = 0;
-    for buffer in buffers.as_slice() {
-        total = total.saturating_add(buffer.len());
-    }
-    total
-}
-
-// The bytes of the buffers, one after the other.
-fn join(alloc: Global, buffers: &ByteBuffers) -> Result<Vec<u8>, AllocError>
-    ensures { IfOk result (λ bytes. bytes.items ≡ joined buffers.now) }
-{
-    let mut bytes = Vec::with_capacity(alloc, total_len(buffers))?;
-    for buffer in buffers.as_slice() {
-        bytes.extend_from_slice(buffer.as_slice())?;
-    }
-    Ok(bytes)
 }
 
 /// Saves the new blob, then the text of its identifiers.
@@ -199,10 +179,10 @@ pub fn save_outputs<S: Store>(
     store: &mut S,
 ) -> Result<(), Status>
     requires { words.now.out.now ≢ words.now.out_ids.now }
-    ensures saved { OnOk result (AreSaved (line_of words.now) (S.state store.new) made.now.blob made.now.ids) }
+    ensures saved { OnOk result (AreSaved (line_of words.now) (S.state store.new) made.now.blob.bytes made.now.ids) }
     ensures others { KeepsOthers (line_of words.now) (S.state store.old) (S.state store.new) }
-    ensures in_order { SavesInOrder (line_of words.now) (S.state store.old) (S.state store.new) made.now.blob }
-    ensures cause { IfErr result (λ status. IsSaveStatus status (S.state store.old) (S.state store.new)) }
+    ensures in_order { SavesInOrder (line_of words.now) (S.state store.old) (S.state store.new) made.now.blob.bytes }
+    ensures cause { IfErr result (λ status. RefusesSave status (S.state store.old) (S.state store.new)) }
 {
     let Ok(text) = write_ids(alloc, &made.ids) else {
         return Err(Status::OutOfMemory);

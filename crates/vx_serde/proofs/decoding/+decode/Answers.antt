@@ -58,6 +58,6 @@ decode_children-returns-in-Err-clause-cause t c =
 pub decode_children-loop-i-preserved : goal.decode_children-loop-i-preserved
 decode_children-loop-i-preserved t c = (
   all_match-snoc (registry_meaning c.args.session.now) c.args.nodes.now c.loop-i.i c.index-nodes-i.result c.loop-i.children c.push.new.self c.in-Ok.child
-      c.loop-i-test.true c.loop-i.invariant.0 c.index-nodes-i.is c.in-Ok.ensures.matches c.in_ok-push.ensures.ok,
-  places-snoc c.loop-i.children c.push.new.self c.in-Ok.child c.args.plans.now c.loop-i.i _ c.loop-i.invariant.1 (sym c.in-Some.ensures) c.in-Ok.ensures.dtype c.in-Ok.ensures.len c.in_ok-push.ensures.ok,
+      c.loop-i-test.true c.loop-i.invariant.0 c.index-nodes-i.is c.in-Ok.ensures.matches c.in-Ok-push.ensures.ok,
+  places-snoc c.loop-i.children c.push.new.self c.in-Ok.child c.args.plans.now c.loop-i.i _ c.loop-i.invariant.1 (sym c.in-Some.ensures) c.in-Ok.ensures.dtype c.in-Ok.ensures.len c.in-Ok-push.ensures.ok,
 )

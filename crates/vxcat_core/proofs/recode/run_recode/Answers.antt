@@ -1,6 +1,6 @@
-use Rattle.std.proofs.Common.{ℕ, Err, ap, subst, refl}
+use Rattle.std.proofs.Common.{ℕ, Err, ap, subst}
 use Rattle.std.specs.Io.KnownBytes.{Appends}
-use Rattle.vx_serde.specs.WrittenBuffers.{joined}
+use Rattle.vx_buffer.specs.Joined.{joined}
 use Rattle.vxcat_core.specs.Listing.{listing}
 use Rattle.vxcat_core.specs.Written.{AppendsPrefix}
 use Rattle.vx_arrays.specs.Tree.{Tree}
@@ -26,7 +26,7 @@ returns-in-Err-save_outputs g c =
     (work_of (line_of c.args.words.now) (g.S.Store.state c.args.store.now) (loaded_of c.in-Ok.loaded) c.in-Ok-recode_inputs.made c.in-Ok.ensures.inputs outputs)
     load.save_faults
     (others_through _ _ _ _ load.files load.told c.save_outputs.ensures.others)
-    (order_through (line_of c.args.words.now) (g.S.Store.state c.args.store.now) (g.S.Store.state c.load_inputs.new.store) (g.S.Store.state c.save_outputs.new.store) c.in-Ok-recode_inputs.made.blob (joined outputs.made.buffers)
+    (order_through (line_of c.args.words.now) (g.S.Store.state c.args.store.now) (g.S.Store.state c.load_inputs.new.store) (g.S.Store.state c.save_outputs.new.store) c.in-Ok-recode_inputs.made.blob.bytes (joined outputs.made.buffers)
     load.files load.told outputs.holds.blob_is c.save_outputs.ensures.in_order)
     c.in-Err-save_outputs.ensures.cause
 
