@@ -2,8 +2,10 @@
 
 ghost use Rattle.std.specs.Prelude.{◌≡◌, ◌<◌, ◌≤◌, ◌==◌, length, IfOk, IfErr, IsOk, IsOkUnless, Some, slice_get};
 ghost use Rattle.vx_trees.specs.Everywhere.{EverywhereBelow};
-ghost use Rattle.vx_trees.specs.Rose.{label, below, node, roses_of};
+ghost use Rattle.vx_trees.specs.Rose.{label, below, node, end, roses_of};
+ghost use Rattle.vx_types.specs.Kind.{boolean};
 ghost use Rattle.vx_types.specs.Seen.{typ};
+ghost use Rattle.vx_types.specs.declared.nullability.Nullability.TheVariants.{NonNullable};
 ghost use Rattle.vx_array_tree.specs.Rows.{flag_in};
 ghost use Rattle.vx_array_tree.specs.Sound.{IsSound, IsSoundNode};
 ghost use Rattle.vx_array_tree.specs.Table.{id_of, encoding_of, buffers_of};
@@ -146,18 +148,21 @@ impl Array {
         match &self.body {
             Body::Null => Some(false),
             Body::Primitive(_) => validity_at(self.children.as_slice(), self.len, index),
+            Body::Bool(_) => validity_at(self.children.as_slice(), self.len, index),
         }
     }
 
     // What the row says of the row that it stands for, where this array is a validity: whether that is there, and
     // None where it says nothing.
-    pub(crate) fn flag_at(&self, _index: usize) -> Option<bool>
-        requires { _index < (label self.now).len }
-        ensures { result ≡ flag_in (row_at self.now _index) }
+    pub(crate) fn flag_at(&self, index: usize) -> Option<bool>
+        requires inside { index < (label self.now).len }
+        requires flags { (label self.now).dtype ≡ node (boolean NonNullable) end }
+        ensures { result ≡ flag_in (row_at self.now index) }
     {
         match &self.body {
             Body::Null => None,
             Body::Primitive(_) => None,
+            Body::Bool(flags) => Some(flags.flag_at(index)),
         }
     }
 
@@ -183,6 +188,7 @@ impl Array {
                 index,
                 budget,
             ),
+            Body::Bool(flags) => flags.value_at(&self.dtype, self.len, children, index, budget),
         }
     }
 
