@@ -1,10 +1,12 @@
 //! Tests of one level: planned, built and written; and of the texts of errors.
 
+use crate::printed::prints;
 use std::alloc::Global;
 use std::test::Fail;
 use vx_arrays::{Array, Arrays};
 use vx_buffer::{Alignment, BufferHandle, BufferHandles, ByteBuffer};
 use vx_encodings::{ArrayHead, Encoding, EncodingError, build, metadata, plan};
+use vx_type_wire::ExtSession;
 use vx_types::{Blob, DType, Id, Nullability, PType};
 
 fn head_of(
@@ -24,20 +26,26 @@ fn head_of(
     })
 }
 
-#[test]
-fn plans_have_at_most_a_validity(rt: HostRuntime) -> Result<(), Fail> {
-    let alloc = rt.alloc();
+// Whether the one child that is planned for four numbers is a validity.
+fn is_validity_planned(alloc: Global) -> Result<bool, Fail> {
     let numbers = DType::Primitive(PType::I32, Nullability::Nullable);
     let head = head_of(alloc, numbers, 4, &[], 1)?;
-    let plans = plan(alloc, Encoding::Primitive, &head)?;
-    assert!(rt; plans.len() == 1);
+    let plans = plan(alloc, Encoding::Primitive, &head, &ExtSession::new(alloc))?;
     match plans.get(0) {
         Some(child) => {
-            assert!(rt; child.dtype == DType::Bool(Nullability::NonNullable));
-            assert!(rt; child.len == 4);
+            Ok(
+                plans.len() == 1
+                    && child.len == 4
+                    && child.dtype == DType::Bool(Nullability::NonNullable),
+            )
         }
-        None => assert!(rt; false, "a plan of one child"),
+        None => Ok(false),
     }
+}
+
+#[test]
+fn plans_have_at_most_a_validity(rt: HostRuntime) -> Result<(), Fail> {
+    assert!(rt; is_validity_planned(rt.alloc())?);
     Ok(())
 }
 
@@ -48,7 +56,7 @@ fn plan_refusal(
     metadata: &[u8],
 ) -> Result<Option<EncodingError>, Fail> {
     let head = head_of(alloc, dtype, 4, metadata, 0)?;
-    match plan(alloc, Encoding::Primitive, &head) {
+    match plan(alloc, Encoding::Primitive, &head, &ExtSession::new(alloc)) {
         Ok(_) => Ok(None),
         Err(e) => Ok(Some(e)),
     }
@@ -74,11 +82,13 @@ fn build_leaf(
     head: ArrayHead,
     buffers: BufferHandles,
 ) -> Result<Array, EncodingError> {
-    let plans = plan(alloc, encoding, &head)?;
+    let readers = ExtSession::new(alloc);
+    let plans = plan(alloc, encoding, &head, &readers)?;
     if plans.len() != 0 {
         return Err(EncodingError::BadShape);
     }
-    build(alloc, encoding, head, buffers, Arrays::new(alloc))
+    let children = Arrays::new(alloc);
+    build(alloc, encoding, head, buffers, children, &readers)
 }
 
 // The metadata of a node without children, once it is built.
@@ -157,7 +167,7 @@ fn errors_are_printed(rt: HostRuntime) -> Result<(), Fail> {
         ),
         (EncodingError::BadShape, "the parts do not fit the encoding"),
     ] {
-        assert_eq!(rt; format!(in rt.alloc(); "{error}")?.as_str(), text);
+        assert!(rt; prints(rt.alloc(), &error, text)?, "{text}");
     }
     Ok(())
 }

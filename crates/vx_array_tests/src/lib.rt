@@ -8,4 +8,6 @@ mod buffers;
 #[cfg(test)]
 mod encodings;
 #[cfg(test)]
+mod printed;
+#[cfg(test)]
 mod registry;

@@ -1,5 +1,6 @@
-pub mod Rows
+pub mod Laws
 mod Refusing
-mod PrimitiveParts
-mod NullParts
-pub mod LawsRows
+mod Bare
+mod Validities
+mod NullSteps
+mod PrimitiveSteps

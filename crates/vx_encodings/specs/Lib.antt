@@ -1,6 +1,3 @@
-pub mod Metadata
-pub mod Encodings
-pub mod Plans
-pub mod Parts
-pub mod Refusals
-pub mod Laws
+pub mod Plain
+pub mod Messages
+pub mod Steps

@@ -1,6 +1,7 @@
 //! Refusals of this crate.
 
 ghost use Rattle.std.specs.Prelude.{◌≡◌};
+ghost use Rattle.vx_encodings.specs.Steps.{IsOfConstructor, constructor_error};
 ghost use Rattle.vx_encodings.specs.declared.error.EncodingError.TheVariants.{OutOfMemory};
 
 use std::alloc::{AllocError, AllocFailed};
@@ -37,15 +38,15 @@ impl<T: Drop> From<AllocFailed<T>> for EncodingError {
     }
 }
 
-impl From<ArrayError> for EncodingError {
-    ghost use Rattle.vx_encodings.specs.Refusals.{error_of};
-
-    ghost from_gives = { λ e r. r ≡ error_of e };
-
-    fn from(e: ArrayError) -> EncodingError {
-        match e {
-            ArrayError::OutOfMemory => EncodingError::OutOfMemory,
-            ArrayError::BadShape | ArrayError::ValueTooLarge => EncodingError::BadShape,
-        }
+// The refusal of an array's constructor as one of its encoding. A constructor answers no row, so none of its
+// refusals is one of a row.
+pub(crate) fn of_constructor(error: ArrayError) -> EncodingError
+    requires { IsOfConstructor error }
+    ensures { result ≡ constructor_error error }
+{
+    match error {
+        ArrayError::OutOfMemory => EncodingError::OutOfMemory,
+        ArrayError::BadShape => EncodingError::BadShape,
+        ArrayError::ValueTooLarge => unreachable!(),
     }
 }

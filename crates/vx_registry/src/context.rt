@@ -1,5 +1,5 @@
-ghost use Rattle.std.specs.Prelude.{◌≡◌, ◌≤◌, ◌<◌, [], true, false, None, Some, IfOk, IfNone, IfSome, OnErr, option_map, bytes_eq};
-ghost use Rattle.vx_registry.specs.Context.{interned, is_allowed, place_of};
+ghost use Rattle.std.specs.Prelude.{◌≡◌, ◌≤◌, ◌<◌, [], length, true, false, None, Some, IfOk, IfNone, IfSome, OnErr, option_map, bytes_eq};
+ghost use Rattle.vx_wire_tree.specs.Context.{interned, is_allowed, index_of};
 ghost use Rattle.std.specs.List.{list_any};
 
 use crate::error::RegistryError;
@@ -18,7 +18,7 @@ pub struct ArrayContext {
 
 impl Model for ArrayContext {
     ghost use Rattle.std.specs.Prelude.{option_map};
-    ghost use Rattle.vx_registry.specs.Context.{Context};
+    ghost use Rattle.vx_wire_tree.specs.Context.{Context};
 
     ghost Value = { Context };
 
@@ -46,7 +46,7 @@ impl ArrayContext {
     /// its place is not below 65,536; nothing has changed then, nor for want of memory.
     pub fn intern(&mut self, id: &Id) -> Result<Option<u16>, RegistryError>
         ensures interned { IfOk result (λ place. IfSome place (λ _. interned id.now self.old ≡ Some self.new)) }
-        ensures place { IfOk result (λ place. IfSome place (λ i. place_of id.now self.new.ids ≡ i)) }
+        ensures place { IfOk result (λ place. IfSome place (λ i. index_of id.now self.new.ids ≡ i)) }
         ensures refused { IfOk result (λ place. IfNone place (interned id.now self.old ≡ None)) }
         ensures none { IfOk result (λ place. IfNone place (self.new ≡ self.old)) }
         ensures err { OnErr result (self.new ≡ self.old) }
@@ -65,7 +65,7 @@ impl ArrayContext {
         requires allowed { is_allowed self.old.allowed id.now ≡ true }
         requires new { list_any (bytes_eq id.now) self.old.ids ≡ false }
         ensures interned { IfOk result (λ place. IfSome place (λ _. interned id.now self.old ≡ Some self.new)) }
-        ensures place { IfOk result (λ place. IfSome place (λ i. place_of id.now self.new.ids ≡ i)) }
+        ensures place { IfOk result (λ place. IfSome place (λ i. index_of id.now self.new.ids ≡ i)) }
         ensures refused { IfOk result (λ place. IfNone place (interned id.now self.old ≡ None)) }
         ensures none { IfOk result (λ place. IfNone place (self.new ≡ self.old)) }
         ensures err { OnErr result (self.new ≡ self.old) }
@@ -81,7 +81,8 @@ impl ArrayContext {
 
     /// The identifiers by number.
     pub fn to_ids(&self, alloc: Global) -> Result<Ids, RegistryError>
-        ensures { IfOk result (λ ids. ids ≡ self.now.ids) }
+        ensures ids { IfOk result (λ ids. ids ≡ self.now.ids) }
+        ensures few { length self.now.ids ≤ 65536 }
     {
         let mut ids = Ids::new(alloc);
         for id in self.ids.iter() {

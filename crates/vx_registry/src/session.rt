@@ -1,7 +1,7 @@
 //! Sessions: what reads and writes arrays, and what reads extension types.
 
-ghost use Rattle.std.specs.Prelude.{◌≡◌, [], IfOk, option_map};
-ghost use Rattle.vx_registry.specs.Session.{shipped, registry_meaning, shipped_registry, IsPaired};
+ghost use Rattle.std.specs.Prelude.{◌≡◌, [], Some, IfOk, option_map};
+ghost use Rattle.vx_registry.specs.Session.{entry, found, shipped_registry, ArePaired};
 
 use crate::error::RegistryError;
 use indexmap::IndexMap;
@@ -19,13 +19,13 @@ pub struct ArraySession {
 }
 
 impl Model for ArraySession {
-    ghost use Rattle.vx_registry.specs.Session.{Registry, registry_meaning, IsPaired};
+    ghost use Rattle.vx_registry.specs.Session.{Registry, ArePaired};
 
     ghost Value = { Registry };
 
     ghost view = { λ s. record { readers = s.readers.entries; writers = s.writers.entries } };
 
-    ghost invariant = { λ s. IsPaired (registry_meaning (record { readers = s.readers.entries; writers = s.writers.entries })) };
+    ghost invariant = { λ s. ArePaired (record { readers = s.readers.entries; writers = s.writers.entries }) };
 }
 
 impl ArraySession {
@@ -54,19 +54,17 @@ impl ArraySession {
     }
 
     /// What reads the arrays of this identifier: `None` where it is not registered.
-    ///
-    /// In each session readers and writers are paired: what reads is written under its own identifier,
-    /// and what is written is read by the encoding that wrote it.
     pub fn reader(&self, id: &Id) -> Option<Encoding>
-        ensures reader { option_map shipped result ≡ (registry_meaning self.now).reader id.now }
-        ensures paired { IsPaired (registry_meaning self.now) }
+        ensures found { option_map entry result ≡ found self.now.readers id.now }
+        ensures paired { ArePaired self.now }
     {
         self.readers.get(id).copied()
     }
 
     /// What writes the arrays of this identifier.
     pub fn writer(&self, id: &Id) -> Option<Encoding>
-        ensures { option_map shipped result ≡ (registry_meaning self.now).writer id.now }
+        ensures found { option_map entry result ≡ found self.now.writers id.now }
+        ensures paired { ArePaired self.now }
     {
         self.writers.get(id).copied()
     }

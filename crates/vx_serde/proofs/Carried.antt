@@ -13,12 +13,12 @@ use Rattle.vx_buffer.specs.Buffer.{Buffer}
 use Rattle.vx_trees.specs.Everywhere.{Everywhere}
 use Rattle.vx_serde.specs.declared.options.SerializeOptions.{SerializeOptions}
 use Rattle.vx_serde.specs.ArraySchema.{array_schema}
-use Rattle.vx_serde.specs.Describable.{AreDescribable}
+use Rattle.vx_wire_tree.specs.Limits.{AreDescribable}
 use Rattle.vx_serde.specs.Message.{Descriptor, message_of}
 use Rattle.vx_serde.specs.MessageValue.{message_value}
-use Rattle.vx_serde.specs.Wire.{Wire, IsClean}
+use Rattle.vx_wire_tree.specs.Wire.{Wire, IsWhole, ids_in, buffers_in}
 use Rattle.vx_serde.specs.Blob.{IsBlob, buffers_at, end_of, wire_of, Carries, AreClean}
-use Rattle.vx_serde.specs.Numbered.{ids_in, buffers_in, numbered}
+use Rattle.vx_serde.specs.Numbered.{numbered}
 use Rattle.vx_serde.specs.Placing.{descriptors_from, data_from}
 use Rattle.vx_serde.specs.Written.{message_bytes, message_pad, blob_bytes, IsWritable}
 use Rattle.vx_serde.proofs.MessageRead.{message_of-message_value, message_value_is_of}
@@ -55,7 +55,7 @@ read_wire ids w bs e placed =
     sym (ap (λ bs. wire_of ids bs (numbered ids 0 w)) (e ∙ sym (append-nil (buffers_in w))) ∙ wire_of-numbered ids [] [] 0 w refl placed)
 
 -- What is written for a tree carries the tree, and its descriptors are in order.
-pub carried : (ids : List (List ℕ)) (options : SerializeOptions) (w : Wire) → IsClean w → All (IsPlaced ids) (ids_in w)
+pub carried : (ids : List (List ℕ)) (options : SerializeOptions) (w : Wire) → IsWhole w → All (IsPlaced ids) (ids_in w)
     → IsWritable ids options w → (c : Carries (blob_bytes ids options w) ids w) × AreClean c.segment (message_of c.value).descriptors
 carried ids options w clean all fit =
     let placed = placed_from_ids ids w clean all in

@@ -1,16 +1,15 @@
 -- The identifiers of a node and of the trees below it, taken in preorder.
 use Rattle.std.specs.Prelude.{ℕ, suc, ◌+◌, ◌≡◌, ◌<◌, ◌≤◌, List, ◌++◌, Some, length, take, drop}
 use Rattle.std.proofs.Common.{sym, ◌∙◌, ap, subst, get_or}
-use Rattle.vx_registry.specs.Context.{Context, grown_by}
+use Rattle.vx_wire_tree.specs.Context.{Context, grown_by}
 use Rattle.vx_trees.specs.Rose.{label, below, roses_of}
 use Rattle.vx_trees.specs.Walks.{gathered_below}
 use Rattle.vx_trees.proofs.Gathering.{gathered-is, gathered_below-take}
 use Rattle.vx_serde.specs.declared.error.WireError.{WireError}
 use Rattle.vx_serde.specs.declared.error.WireError.TheVariants.{OutOfMemory, TooShort, BadTable, TableLimit, BadAlignment, Compressed, OutOfBounds, UnknownIndex, UnknownEncoding, BadMetadata, BadShape, NotPermitted, WireLimit}
 use Rattle.vx_serde.specs.KeptContext.{KeepsContext}
-use Rattle.vx_serde.specs.Numbered.{id_in, ids_in}
+use Rattle.vx_wire_tree.specs.Wire.{id_in, ids_in, Wire}
 use Rattle.vx_serde.specs.Unwritten.{IsUngrown}
-use Rattle.vx_serde.specs.Wire.{Wire}
 use Rattle.vx_serde.proofs.Growing.{grown-both, refused-first, refused-second, kept-first, kept-both, kept-grown}
 use Rattle.vx_serde.proofs.WalkedNodes.{gathered-front, gathered-child, gathered-whole}
 

@@ -11,7 +11,7 @@ use Rattle.vx_trees.specs.Rose.{Rose, Roses, node, end, more, roses_of}
 use Rattle.vx_trees.specs.Walks as walk
 use Rattle.vx_serde.specs.ArraySchema.{array_schema, array_fields, node_fields}
 use Rattle.vx_serde.specs.Message.{NodeFields, node_of, nodes_of, nodes_in, number_in, bytes_in, indices_of}
-use Rattle.vx_serde.specs.Wire.{Wire}
+use Rattle.vx_wire_tree.specs.Wire.{Wire}
 use Rattle.vx_serde.specs.Blob.{wire_of, wires_of}
 
 -- what the first four fields of a node tell

@@ -10,18 +10,18 @@ use Rattle.vx_flat.specs.Limits.{limits, IsLight}
 use Rattle.vx_flat.specs.Schema.{struct_size}
 use Rattle.vx_flat.specs.Value.{Fields, table, elements, no_fields, field}
 use Rattle.vx_flat.specs.Weight.{weight}
-use Rattle.vx_registry.specs.Context.{Context, grown_by}
+use Rattle.vx_wire_tree.specs.Context.{Context, grown_by}
 use Rattle.vx_serde.specs.declared.error.WireError.{WireError}
 use Rattle.vx_serde.specs.declared.error.WireError.TheVariants.{OutOfMemory, TooShort, BadTable, TableLimit, BadAlignment, Compressed, OutOfBounds, UnknownIndex, UnknownEncoding, BadMetadata, BadShape, NotPermitted, WireLimit}
 use Rattle.vx_serde.specs.declared.options.SerializeOptions.{SerializeOptions}
 use Rattle.vx_serde.specs.ArraySchema.{array_schema, node_fields}
 use Rattle.vx_serde.specs.Message.{Descriptor}
 use Rattle.vx_serde.specs.MessageValue.{node_value, message_value, descriptors_bytes}
-use Rattle.vx_serde.specs.Numbered.{ids_in, buffers_in, numbered}
+use Rattle.vx_wire_tree.specs.Wire.{ids_in, buffers_in, Wire}
+use Rattle.vx_serde.specs.Numbered.{numbered}
 use Rattle.vx_serde.specs.Placing.{pad, descriptors_from, data_from, data_end}
 use Rattle.vx_serde.proofs.GrownIds.{grown_by-ids}
 use Rattle.vx_serde.specs.Unwritten.{IsUnwritten, KeepsTreeLimits, IsLaidOut, IsNotLaidOut, IsTooHeavy}
-use Rattle.vx_serde.specs.Wire.{Wire}
 use Rattle.vx_serde.specs.Written.{message_bytes, message_pad, blob_bytes, IsWritable}
 use Rattle.vx_serde.specs.WrittenBuffers.{joined, unaligned, pad_buffers, data_buffers, greatest_exponent, written_buffers}
 use Rattle.vx_serde.proofs.MessageRead.{length-descriptors_bytes}

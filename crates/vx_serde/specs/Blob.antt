@@ -7,7 +7,7 @@ use Rattle.vx_flat.specs.Shows.{Shows}
 use Rattle.vx_trees.specs.Rose.{Rose, Roses, node, end, more}
 use Rattle.vx_serde.specs.ArraySchema.{array_schema}
 use Rattle.vx_serde.specs.Message.{Descriptor, NodeFields, message_of}
-use Rattle.vx_serde.specs.Wire.{Wire, Wires}
+use Rattle.vx_wire_tree.specs.Wire.{Wire, Wires}
 
 -- A blob is a segment, a message, and the message's length as a word of four bytes.
 pub record IsBlob (blob segment message : List ℕ) : Type 0 where

@@ -2,17 +2,17 @@
 use Rattle.std.specs.Prelude.{ℕ, ◌≡◌, ◌<◌, ◌^◌, List, None, length}
 use Rattle.vx_flat.specs.Limits.{limits, IsLight}
 use Rattle.vx_flat.specs.Weight.{weight}
-use Rattle.vx_registry.specs.Context.{Context, grown_by}
+use Rattle.vx_wire_tree.specs.Context.{Context, grown_by, with_ids}
 use Rattle.vx_serde.specs.declared.error.WireError.{WireError}
 use Rattle.vx_serde.specs.declared.error.WireError.TheVariants.{OutOfMemory, NotPermitted, WireLimit}
 use Rattle.vx_serde.specs.declared.options.SerializeOptions.{SerializeOptions}
-use Rattle.vx_serde.specs.Wire.{Wire}
+use Rattle.vx_wire_tree.specs.Wire.{Wire, ids_in, buffers_in}
 use Rattle.vx_serde.specs.ArraySchema.{array_schema}
+use Rattle.vx_serde.specs.Limits.{most_levels}
 use Rattle.vx_serde.specs.MessageValue.{descriptors_bytes}
-use Rattle.vx_serde.specs.Numbered.{ids_in, buffers_in}
 use Rattle.vx_serde.specs.Placing.{descriptors_from, data_end}
-use Rattle.vx_serde.specs.Written.{IsWritableTree, IsWritable}
-use Rattle.vx_serde.specs.Spells.{with_ids}
+use Rattle.vx_wire_tree.specs.Limits.{IsWritableTree}
+use Rattle.vx_serde.specs.Written.{IsWritable}
 
 -- Identifiers are refused because the context takes one of them not, or for want of memory.
 abbrev pub IsUngrown : List (List ℕ) → Context → WireError → Type 0
@@ -31,7 +31,7 @@ IsUnwritten c options w _ = ⊥
 -- The limits that a tree keeps before its message is known: those on the tree, and one
 -- on the position where the last of its buffers ends.
 pub record KeepsTreeLimits (options : SerializeOptions) (w : Wire) : Type 0 where
-  pub tree : IsWritableTree w
+  pub tree : IsWritableTree (most_levels options) w
   pub ends : data_end options options.offset (buffers_in w) < 2 ^ 64
 
 -- A tree with such limits, the bytes of its descriptors, and where its last buffer ends.

@@ -4,8 +4,7 @@ use Rattle.std.specs.Int.{w32, to_le_bytes}
 use Rattle.vx_buffer.specs.Buffer.{Buffer}
 pub use Rattle.vx_buffer.specs.Joined.{joined}
 use Rattle.vx_serde.specs.declared.options.SerializeOptions.{SerializeOptions}
-use Rattle.vx_serde.specs.Wire.{Wire}
-use Rattle.vx_serde.specs.Numbered.{buffers_in}
+use Rattle.vx_wire_tree.specs.Wire.{Wire, buffers_in}
 use Rattle.vx_serde.specs.Placing.{pad}
 use Rattle.vx_serde.specs.Written.{message_bytes, message_pad}
 

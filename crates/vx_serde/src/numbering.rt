@@ -5,12 +5,13 @@ ghost use Rattle.std.specs.Prelude.{◌≡◌, ◌+◌, ◌≤◌, ◌<◌, ◌^
 ghost use Rattle.vx_flat.specs.IsOf.{AreOf, AreRowsOf};
 ghost use Rattle.vx_flat.specs.Value.{number, elements, table, tables, no_fields, field};
 ghost use Rattle.vx_flat.specs.View.{views};
-ghost use Rattle.vx_registry.specs.Context.{grown_by};
+ghost use Rattle.vx_wire_tree.specs.Context.{grown_by};
 ghost use Rattle.vx_trees.specs.Rose.{label};
 ghost use Rattle.vx_serde.specs.ArraySchema.{array_schema, node_fields, stats_fields};
 ghost use Rattle.vx_serde.specs.KeptContext.{KeepsContext};
 ghost use Rattle.vx_serde.specs.MessageValue.{index_bytes, no_stats, node_value};
-ghost use Rattle.vx_serde.specs.Numbered.{present, id_in, ids_in, buffers_in, encoding_index, numbers_from, numbered};
+ghost use Rattle.vx_wire_tree.specs.Wire.{present, id_in, ids_in, buffers_in};
+ghost use Rattle.vx_serde.specs.Numbered.{encoding_index, numbers_from, numbered};
 ghost use Rattle.vx_serde.specs.TableViews.{tables_of};
 ghost use Rattle.vx_serde.specs.Unwritten.{IsUngrown};
 

@@ -5,6 +5,7 @@ ghost use Rattle.vx_flat.specs.View.{view, views, value as value_of, rows_from};
 ghost use Rattle.vx_flat.specs.IsOf.{AreOf, IsOfKind, AreRowsOf};
 ghost use Rattle.vx_flat.specs.declared.schema.FieldKind.TheVariants.{Number};
 ghost use Rattle.vx_flat.specs.declared.schema.Width.TheVariants.{Two};
+ghost use Rattle.vx_flat.specs.Limits.{limits};
 ghost use Rattle.vx_trees.specs.Rose.{roses_of};
 ghost use Rattle.vx_serde.specs.ArraySchema.{array_schema, array_fields, node_fields};
 ghost use Rattle.vx_serde.specs.Message.{number_in, bytes_in, nodes_in, nodes_of, node_of, message_of, indices_of, descriptors_of};
@@ -223,8 +224,8 @@ pub(crate) fn open(
     blob: &ByteBuffer,
     ids: &ReadContext,
 ) -> Result<WireNode, WireError>
-    ensures opened { IfOk result (λ w. IsOpened blob.now.bytes ids.now w) }
-    ensures cause { IfErr result (λ e. IsUnopened e blob.now.bytes) }
+    ensures opened { IfOk result (λ w. IsOpened limits blob.now.bytes ids.now w) }
+    ensures cause { IfErr result (λ e. IsUnopened limits e blob.now.bytes) }
 {
     let Some((segment, message)) = split_blob(blob.as_slice()) else {
         return Err(WireError::TooShort);

@@ -1,9 +1,9 @@
 //! Where the buffers of a written blob go.
 
 ghost use Rattle.std.specs.Prelude.{◌≡◌, ◌+◌, ◌≤◌, ◌<◌, ◌^◌, ◌++◌, length, replicate, IfOk, IfSome, IfNone, OnOk};
-ghost use Rattle.vx_serde.specs.Describable.{IsDescribable, AreDescribable};
+ghost use Rattle.vx_wire_tree.specs.Limits.{IsDescribable, AreDescribable};
 ghost use Rattle.vx_serde.specs.MessageValue.{descriptor_bytes, descriptors_bytes};
-ghost use Rattle.vx_serde.specs.Numbered.{present, buffers_in};
+ghost use Rattle.vx_wire_tree.specs.Wire.{present, buffers_in};
 ghost use Rattle.vx_serde.specs.Placing.{pad, descriptors_from, data_end};
 ghost use Rattle.vx_serde.specs.WrittenBuffers.{pad_buffers, data_buffers, greatest_exponent};
 

@@ -3,7 +3,7 @@ use Rattle.std.proofs.Common.{◌≡◌, ℕ, zero, suc, ◌+◌, ◌-◌, ◌<�
 use Rattle.std.specs.List.{flat_map}
 use Rattle.vx_trees.specs.Rose.{node, label, below, roses_of}
 use Rattle.vx_buffer.specs.Buffer.{Buffer}
-use Rattle.vx_arrays.specs.Tree.{Tree}
+use Rattle.vx_array_tree.specs.Tree.{Tree}
 use Rattle.vxcat_core.specs.Listing.{length_text, further_length, lengths_text, node_line, node_lines, node_lines_below, row_line, row_lines}
 
 -- The lengths that are left from a buffer on.

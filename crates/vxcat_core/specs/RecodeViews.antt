@@ -1,7 +1,7 @@
 -- What contracts see of the words of a command, and of what the program holds while it runs.
 use Rattle.std.specs.Prelude.{◌≡◌, ℕ, List, [], None, unwrap_or}
 use Rattle.vx_types.specs.Typ.{Typ}
-use Rattle.vx_registry.specs.Session.{registry_meaning, shipped_registry}
+use Rattle.vx_registry.specs.Session.{tables_meaning, shipped_registry}
 use Rattle.vx_serde.specs.declared.options.SerializeOptions.{SerializeOptions}
 use Rattle.vx_serde.specs.Causes.{IsCaused}
 use Rattle.vx_serde.specs.Recoding.{IsFaithful, IsRecoded, Product}
@@ -59,7 +59,7 @@ request_for blob dtype len ids options = record {
   ids = ids;
   context = record { ids = []; allowed = None };
   options = options;
-  session = registry_meaning shipped_registry;
+  session = tables_meaning shipped_registry no_readers;
 }
 
 -- The outputs are what `recode` makes of what is asked.

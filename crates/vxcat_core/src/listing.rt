@@ -3,7 +3,7 @@
 ghost use Rattle.std.specs.Prelude.{◌≡◌, ◌≤◌, ◌<◌, ◌++◌, min, [], IfOk, OnOk, IsErrOf, string_bytes, codes, decimal};
 ghost use Rattle.std.specs.Io.KnownBytes.{Appends};
 ghost use Rattle.vx_trees.specs.Rose.{label};
-ghost use Rattle.vx_arrays.specs.Tree.{buffers_of};
+ghost use Rattle.vx_array_tree.specs.Table.{buffers_of};
 ghost use Rattle.vxcat_core.specs.StoreState.{HasRisen};
 ghost use Rattle.vxcat_core.specs.Written.{AppendsPrefix};
 ghost use Rattle.vxcat_core.specs.Listing.{lengths_text, node_line, node_lines, row_line, row_lines, listing};

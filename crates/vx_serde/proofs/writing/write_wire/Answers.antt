@@ -3,7 +3,7 @@ use Rattle.std.proofs.lemmas.Result.{err_from_is_err_and}
 use Rattle.vx_flat.specs.Layout.{layout}
 use Rattle.vx_flat.specs.View.{views, value as value_of}
 use Rattle.vx_serde.specs.ArraySchema.{array_schema}
-use Rattle.vx_serde.specs.Numbered.{buffers_in}
+use Rattle.vx_wire_tree.specs.Wire.{buffers_in}
 use Rattle.vx_serde.specs.Placing.{descriptors_from}
 use Rattle.vx_serde.specs.WrittenBuffers.{joined}
 use Rattle.vx_serde.proofs.WholeBlob.{message-is, message-of_kind, unplaced-unwritten, heavy-unwritten, late-unwritten, writable-is, buffers-are, joined-written}

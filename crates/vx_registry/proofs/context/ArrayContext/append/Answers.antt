@@ -1,5 +1,5 @@
 use Rattle.std.proofs.Common.{◌≡◌, ◌<◌, ◌≤◌, ℕ, ◌∙◌, ap, subst, length}
-use Rattle.vx_registry.specs.Context.{Context, with_id}
+use Rattle.vx_wire_tree.specs.Context.{Context, with_id}
 use Rattle.vx_registry.specs.contracts.context.ArrayContext.{the_view}
 use Rattle.vx_registry.proofs.Interning.{full, added, added-place, insert_key-with_id}
 use Rattle.vx_registry.proofs.context.ArrayContext.append.Goals as goal
