@@ -7,7 +7,7 @@ use Rattle.std.proofs.lemmas.Nat.{from_le_bytes-to_le_bytes_4}
 use Rattle.vx_flat.specs.Value.{Fields}
 use Rattle.vx_flat.specs.Shows.{Shows}
 use Rattle.vx_flat.specs.IsOf.{IsOf}
-use Rattle.vx_flat.specs.Layout.{layout}
+use Rattle.vx_flat.specs.Layout.{written_layout, shares}
 use Rattle.vx_flat.proofs.LawsOfMessages.{shown-layout}
 use Rattle.vx_buffer.specs.Buffer.{Buffer}
 use Rattle.vx_trees.specs.Everywhere.{Everywhere}
@@ -26,8 +26,8 @@ use Rattle.vx_serde.proofs.PlacedRead.{buffers_at-descriptors_from, end_of-descr
 use Rattle.vx_serde.proofs.NumberedRead.{IsPlacedNode, IsPlaced, placed_from_ids, numbered_fits, wire_of-numbered}
 
 -- The layout of a value of array messages shows it.
-pub shows-layout : (v : Fields) → IsOf array_schema v → length (layout false array_schema v) < 2 ^ 31 → Shows array_schema (layout false array_schema v) v
-shows-layout v of short = shown-layout array_schema false v refl of short
+pub shows-layout : (v : Fields) → IsOf array_schema v → length (written_layout array_schema v) < 2 ^ 31 → Shows array_schema (written_layout array_schema v) v
+shows-layout v of short = shown-layout array_schema shares v refl of short
 
 -- Data, its pad, a message and the message's length make a blob.
 pub is_blob : (data_bytes zeros message : List ℕ) → length message ≤ 2 ^ 31 - 1

@@ -5,7 +5,7 @@ use Rattle.std.proofs.Common.{arith, sym, ◌∙◌, ap, subst, append-nil, leng
 use Rattle.std.proofs.lemmas.List.{length-replicate}
 use Rattle.vx_buffer.specs.Buffer.{Buffer}
 use Rattle.vx_flat.specs.IsOf.{AreOf, IsOf}
-use Rattle.vx_flat.specs.Layout.{layout}
+use Rattle.vx_flat.specs.Layout.{written_layout}
 use Rattle.vx_flat.specs.Limits.{limits, IsLight}
 use Rattle.vx_flat.specs.Schema.{struct_size}
 use Rattle.vx_flat.specs.Value.{Fields, table, elements, no_fields, field}
@@ -30,12 +30,12 @@ use Rattle.vx_serde.proofs.PlacedData.{joined-append, joined-pad, joined-data, l
 -- ---- the message
 
 pub message-is : (ids : List (List ℕ)) (o : SerializeOptions) (w : Wire) (root value : Fields) (ds : List ℕ) → value ≡ field (table root) (field (elements ds) no_fields)
-    → ((more : List (List ℕ)) → root ≡ node_value (numbered (ids ++ more) 0 w)) → ds ≡ descriptors_bytes (descriptors_from o o.offset (buffers_in w)) → layout false array_schema value ≡ message_bytes ids o w
+    → ((more : List (List ℕ)) → root ≡ node_value (numbered (ids ++ more) 0 w)) → ds ≡ descriptors_bytes (descriptors_from o o.offset (buffers_in w)) → written_layout array_schema value ≡ message_bytes ids o w
 message-is ids o w root value ds p q r =
     let whole : value ≡ message_value (numbered ids 0 w) (descriptors_from o o.offset (buffers_in w)) =
     p ∙ ap (λ v. field (table v) (field (elements ds) no_fields)) (q []) ∙ ap (λ z. field (table (node_value (numbered z 0 w))) (field (elements ds) no_fields)) (append-nil ids)
     ∙ ap (λ bs. field (table (node_value (numbered ids 0 w))) (field (elements bs) no_fields)) r in
-    ap (λ v. layout false array_schema v) whole
+    ap (λ v. written_layout array_schema v) whole
 
 -- a descriptor's struct has eight bytes
 eight : struct_size array_schema 0 ≡ 8

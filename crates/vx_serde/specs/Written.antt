@@ -1,7 +1,7 @@
 -- The bytes that are written for a wire tree.
 use Rattle.std.specs.Prelude.{ℕ, ◌+◌, ◌≤◌, ◌-◌, ◌^◌, List, ◌++◌, length, replicate, false}
 use Rattle.std.specs.Int.{w32, to_le_bytes}
-use Rattle.vx_flat.specs.Layout.{layout}
+use Rattle.vx_flat.specs.Layout.{written_layout}
 use Rattle.vx_flat.specs.Weight.{weight}
 use Rattle.vx_flat.specs.Limits.{IsLight}
 use Rattle.vx_serde.specs.declared.options.SerializeOptions.{SerializeOptions}
@@ -17,7 +17,7 @@ use Rattle.vx_serde.specs.Placing.{pad, descriptors_from, data_from, data_end}
 -- the buffers numbered from 0 on, and the descriptors of the buffers.
 abbrev pub message_bytes : List (List ℕ) → SerializeOptions → Wire → List ℕ
 message_bytes ids options w =
-    layout false array_schema (message_value (numbered ids 0 w) (descriptors_from options options.offset (buffers_in w)))
+    written_layout array_schema (message_value (numbered ids 0 w) (descriptors_from options options.offset (buffers_in w)))
 
 -- The pad in front of the message, which is aligned to 8 and stands in no descriptor.
 abbrev pub message_pad : SerializeOptions → Wire → ℕ

@@ -3,7 +3,7 @@
 ghost use Rattle.std.specs.Prelude.{◌≡◌, ◌+◌, ◌≤◌, ◌<◌, ◌-◌, ◌^◌, ◌++◌, [], ◌∷◌, Some, false, IsTrue, IsFalse, length, IfOk, IfErr, OnOk};
 ghost use Rattle.std.specs.Int.{w32, to_le_bytes};
 ghost use Rattle.vx_flat.specs.IsOf.{IsOf};
-ghost use Rattle.vx_flat.specs.Layout.{layout};
+ghost use Rattle.vx_flat.specs.Layout.{written_layout};
 ghost use Rattle.vx_flat.specs.Value.{table, elements, no_fields, field};
 ghost use Rattle.vx_flat.specs.View.{views, value as value_of};
 ghost use Rattle.vx_flat.specs.Limits.{limits, IsLight};
@@ -52,10 +52,10 @@ fn message_table(
 /// The bytes of an array message, where a reader's limits admit it.
 fn message_bytes(alloc: Global, value: &TableValue) -> Result<Vec<u8>, WireError>
     requires { IsOf array_schema (value_of value.now) }
-    ensures written { IfOk result (λ v. v.items ≡ layout false array_schema (value_of value.now)) }
-    ensures short { OnOk result (length (layout false array_schema (value_of value.now)) < 2 ^ 31) }
-    ensures light { OnOk result (IsLight limits (weigh.weight array_schema (layout false array_schema (value_of value.now)))) }
-    ensures refused { IfErr result (IsTooHeavy (layout false array_schema (value_of value.now))) }
+    ensures written { IfOk result (λ v. v.items ≡ written_layout array_schema (value_of value.now)) }
+    ensures short { OnOk result (length (written_layout array_schema (value_of value.now)) < 2 ^ 31) }
+    ensures light { OnOk result (IsLight limits (weigh.weight array_schema (written_layout array_schema (value_of value.now)))) }
+    ensures refused { IfErr result (IsTooHeavy (written_layout array_schema (value_of value.now))) }
 {
     let message = match write_value(alloc, &ArrayKind, value) {
         Ok(message) => message,
