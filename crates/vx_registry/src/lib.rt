@@ -9,4 +9,4 @@ mod session;
 pub use context::ArrayContext;
 pub use error::RegistryError;
 pub use read::ReadContext;
-pub use session::{ArraySession, VortexSession};
+pub use session::{ArraySession, PluginEntry, VortexSession};
