@@ -1,13 +1,16 @@
 //! Sessions: what reads and writes arrays, and what reads extension types.
 
-ghost use Rattle.std.specs.Prelude.{◌≡◌, ℕ, List, [], Some, IfOk, IfErr, OnOk, OnErr, IsOkUnless, option_map};
+ghost use Rattle.std.specs.Prelude.{◌≡◌, ℕ, List, [], Some, IfOk, IfErr, OnOk, OnErr, IsOkUnless, IfSome, IsSome, None, option_map};
 ghost use Rattle.vx_type_wire.specs.Session.{ext_meaning};
+ghost use Rattle.vx_registry.specs.Serialization.{HasPartsOf, array_id};
 ghost use Rattle.vx_registry.specs.Session.{encoding_in, entry, found, found_with, registered, shipped_registry, ArePaired};
 
 use crate::error::RegistryError;
+use crate::serialization::ArraySerialization;
 use indexmap::IndexMap;
 use std::alloc::{AllocFailed, Global};
 use std::marker::Model;
+use vx_arrays::Array;
 use vx_encodings::Encoding;
 use vx_type_wire::ExtSession;
 use vx_types::Id;
@@ -147,5 +150,24 @@ impl VortexSession {
         ensures { result ≡ (ext_meaning (λ b. accepted (b.vtable, b.value)) self.now.ext).unknown }
     {
         self.ext.allows_unknown()
+    }
+
+    /// An array's root as it is written: its parts, under the identifier that what writes its encoding's arrays
+    /// gives them. `NotRegistered` exactly where nothing writes them.
+    pub fn array_serialize(
+        &self,
+        alloc: Global,
+        array: &Array,
+    ) -> Result<Option<ArraySerialization>, RegistryError>
+        ensures parts { IfOk result (λ s. IfSome s (HasPartsOf array.now)) }
+        ensures given { IfOk result IsSome }
+        ensures registered { OnOk result (IsSome (found self.now.arrays.writers (array_id array.now))) }
+        ensures cause { IfErr result (λ e. e ≡ RegistryError.NotRegistered → found self.now.arrays.writers (array_id array.now) ≡ None) }
+    {
+        let id = Id::new(alloc, array.encoding_id())?;
+        match self.arrays.writer(&id) {
+            Some(_) => Ok(Some(ArraySerialization::from_array(alloc, array)?)),
+            None => Err(RegistryError::NotRegistered),
+        }
     }
 }
