@@ -11,3 +11,5 @@ mod encodings;
 mod printed;
 #[cfg(test)]
 mod registry;
+#[cfg(test)]
+mod sessions;

@@ -5,7 +5,7 @@ use Rattle.std.specs.List.{position_or_len, list_any}
 use Rattle.std.proofs.lemmas.Bool.{lt-ltb}
 use Rattle.std.proofs.lemmas.Slice.Eq.{bytes_eq-Decides}
 use Rattle.std.proofs.lemmas.List.Recursion.{is_position_or_len}
-use Rattle.vx_wire_tree.specs.Context.{Context, is_among, index_of, with_id, is_allowed, interned}
+use Rattle.vx_wire_tree.specs.Context.{Context, is_among, index_of, with_id, with_ids, is_allowed, interned}
 
 -- the two ways to say that a list has an identifier
 
@@ -133,3 +133,9 @@ added-place c d id place absent last e =
 
 -- for the test of what may come
 pub ruleset among = (list_any-among)
+
+-- identifiers that go in one after the other
+
+pub with_ids-snoc : (ids xs : List (List ℕ)) (id : List ℕ) → with_ids ids (xs ++ id ∷ []) ≡ with_id id (with_ids ids xs)
+with_ids-snoc ids [] id = refl
+with_ids-snoc ids (x ∷ xs) id = with_ids-snoc (with_id x ids) xs id

@@ -1,3 +1,4 @@
 mod Interning
+mod Pairing
 mod Shipped
 pub mod LawsSessions

@@ -1,5 +1,5 @@
-ghost use Rattle.std.specs.Prelude.{◌≡◌, ◌≤◌, ◌<◌, [], length, true, false, None, Some, IfOk, IfNone, IfSome, OnErr, option_map, bytes_eq};
-ghost use Rattle.vx_wire_tree.specs.Context.{interned, is_allowed, index_of};
+ghost use Rattle.std.specs.Prelude.{◌≡◌, ◌≤◌, ◌<◌, [], length, true, false, None, Some, IfOk, IfNone, IfSome, OnErr, IsOkUnless, option_map, bytes_eq};
+ghost use Rattle.vx_wire_tree.specs.Context.{interned, is_allowed, index_of, with_ids};
 ghost use Rattle.std.specs.List.{list_any};
 
 use crate::error::RegistryError;
@@ -23,10 +23,6 @@ impl Model for ArrayContext {
     ghost Value = { Context };
 
     ghost view = { λ c. record { ids = c.ids.keys; allowed = option_map (λ s. s.keys) c.allowed } };
-
-    ghost use Rattle.std.specs.Prelude.{◌≤◌, length};
-
-    ghost invariant = { λ c. length c.ids.keys ≤ 65536 };
 }
 
 impl ArrayContext {
@@ -40,6 +36,33 @@ impl ArrayContext {
             allowed: None,
             alloc,
         }
+    }
+
+    /// A context that has these identifiers, each once: one that stands there again is dropped. It allows all.
+    pub fn new(alloc: Global, ids: &Ids) -> Result<ArrayContext, RegistryError>
+        ensures ids { IfOk result (λ c. c.ids ≡ with_ids [] ids.now) }
+        ensures allowed { IfOk result (λ c. c.allowed ≡ None) }
+        ensures err { IsOkUnless result RegistryError.OutOfMemory }
+    {
+        Ok(ArrayContext {
+            ids: set_of(alloc, ids)?,
+            allowed: None,
+            alloc,
+        })
+    }
+
+    /// The context with what it has, in which only these identifiers may come from now on.
+    pub fn with_allowed_ids(self, alloc: Global, ids: &Ids) -> Result<ArrayContext, RegistryError>
+        ensures ids { IfOk result (λ c. c.ids ≡ self.ids) }
+        ensures allowed { IfOk result (λ c. c.allowed ≡ Some (with_ids [] ids.now)) }
+        ensures err { IsOkUnless result RegistryError.OutOfMemory }
+    {
+        let allowed = set_of(alloc, ids)?;
+        Ok(ArrayContext {
+            ids: self.ids,
+            allowed: Some(allowed),
+            alloc: self.alloc,
+        })
     }
 
     /// The place of an identifier, which goes last if it is new. `None` exactly where it is not allowed, or
@@ -82,7 +105,7 @@ impl ArrayContext {
     /// The identifiers by number.
     pub fn to_ids(&self, alloc: Global) -> Result<Ids, RegistryError>
         ensures ids { IfOk result (λ ids. ids ≡ self.now.ids) }
-        ensures few { length self.now.ids ≤ 65536 }
+        ensures err { IsOkUnless result RegistryError.OutOfMemory }
     {
         let mut ids = Ids::new(alloc);
         for id in self.ids.iter() {
@@ -90,6 +113,18 @@ impl ArrayContext {
         }
         Ok(ids)
     }
+}
+
+// Identifiers as a set: each once, in the order in which they come first.
+fn set_of(alloc: Global, ids: &Ids) -> Result<IndexSet<Id>, RegistryError>
+    ensures ids { IfOk result (λ set. set.keys ≡ with_ids [] ids.now) }
+    ensures err { IsOkUnless result RegistryError.OutOfMemory }
+{
+    let mut set = IndexSet::new(alloc);
+    for id in ids.as_slice() {
+        set.insert(id.clone(alloc)?)?;
+    }
+    Ok(set)
 }
 
 // Whether an identifier is among those that may come, where they are limited.

@@ -11,6 +11,9 @@ pub enum RegistryError {
     /// Memory was wanted and not to be had.
     #[error("out of memory")]
     OutOfMemory,
+    /// Nothing writes the arrays of this encoding.
+    #[error("nothing writes the arrays of this encoding")]
+    NotRegistered,
 }
 
 impl From<AllocError> for RegistryError {

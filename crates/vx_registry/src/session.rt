@@ -1,21 +1,33 @@
 //! Sessions: what reads and writes arrays, and what reads extension types.
 
-ghost use Rattle.std.specs.Prelude.{◌≡◌, [], Some, IfOk, option_map};
-ghost use Rattle.vx_registry.specs.Session.{entry, found, shipped_registry, ArePaired};
+ghost use Rattle.std.specs.Prelude.{◌≡◌, ℕ, List, [], Some, IfOk, IfErr, OnOk, OnErr, IsOkUnless, IfSome, IsSome, None, option_map};
+ghost use Rattle.vx_type_wire.specs.Session.{ext_meaning};
+ghost use Rattle.vx_registry.specs.Serialization.{HasPartsOf, array_id};
+ghost use Rattle.vx_registry.specs.Session.{encoding_in, entry, found, found_with, registered, shipped_registry, ArePaired};
 
 use crate::error::RegistryError;
+use crate::serialization::ArraySerialization;
 use indexmap::IndexMap;
-use std::alloc::Global;
+use std::alloc::{AllocFailed, Global};
 use std::marker::Model;
+use vx_arrays::Array;
 use vx_encodings::Encoding;
 use vx_type_wire::ExtSession;
 use vx_types::Id;
+
+/// What is registered to read and write arrays.
+#[derive(Debug, Drop)]
+pub enum PluginEntry {
+    /// A shipped encoding, which reads and writes under its own identifier.
+    Shipped(Encoding),
+}
 
 /// Which encodings read and write arrays, each by its identifier.
 #[derive(Drop)]
 pub struct ArraySession {
     readers: IndexMap<Id, Encoding>,
     writers: IndexMap<Id, Encoding>,
+    alloc: Global,
 }
 
 impl Model for ArraySession {
@@ -37,20 +49,65 @@ impl ArraySession {
         ArraySession {
             readers: IndexMap::new(alloc),
             writers: IndexMap::new(alloc),
+            alloc,
         }
     }
 
     /// A session of the shipped encodings.
     pub fn default(alloc: Global) -> Result<ArraySession, RegistryError>
-        ensures { IfOk result (λ s. s ≡ shipped_registry) }
+        ensures shipped { IfOk result (λ s. s ≡ shipped_registry) }
+        ensures err { IsOkUnless result RegistryError.OutOfMemory }
     {
-        let mut readers = IndexMap::new(alloc);
-        let mut writers = IndexMap::new(alloc);
+        let mut session = ArraySession::empty(alloc);
         for encoding in [Encoding::Null, Encoding::Primitive] {
-            readers.insert(Id::new(alloc, encoding.id())?, encoding)?;
-            writers.insert(Id::new(alloc, encoding.id())?, encoding)?;
+            session.set(encoding)?;
         }
-        Ok(ArraySession { readers, writers })
+        Ok(session)
+    }
+
+    /// Registers an entry in the place of what read its identifiers and of what wrote its encoding's arrays.
+    /// Where there is no memory for it, the session stays as it was, and the entry is handed back.
+    pub fn register(&mut self, entry: PluginEntry) -> Result<(), AllocFailed<PluginEntry>>
+        ensures readers { OnOk result ((id : List ℕ) → found self.new.readers id ≡ found_with (encoding_in entry) (found self.old.readers) id) }
+        ensures writers { OnOk result ((id : List ℕ) → found self.new.writers id ≡ found_with (encoding_in entry) (found self.old.writers) id) }
+        ensures unchanged { OnErr result (self.new ≡ self.old) }
+        ensures handed_back { IfErr result (λ refused. refused.value ≡ entry) }
+    {
+        let PluginEntry::Shipped(encoding) = entry;
+        match self.set(encoding) {
+            Ok(()) => Ok(()),
+            Err(_) => Err(AllocFailed {
+                value: PluginEntry::Shipped(encoding),
+            }),
+        }
+    }
+
+    // Sets what reads and writes an encoding's identifier.
+    fn set(&mut self, encoding: Encoding) -> Result<(), RegistryError>
+        ensures registered { OnOk result (self.new ≡ registered encoding self.old) }
+        ensures readers { OnOk result ((id : List ℕ) → found self.new.readers id ≡ found_with encoding (found self.old.readers) id) }
+        ensures writers { OnOk result ((id : List ℕ) → found self.new.writers id ≡ found_with encoding (found self.old.writers) id) }
+        ensures unchanged { OnErr result (self.new ≡ self.old) }
+        ensures err { IsOkUnless result RegistryError.OutOfMemory }
+    {
+        let read = Id::new(self.alloc, encoding.id())?;
+        let written = read.clone(self.alloc)?;
+        self.readers.reserve(1)?;
+        self.writers.reserve(1)?;
+        let Ok(_) = self.readers.insert(read, encoding) else {
+            unreachable!();
+        };
+        let Ok(_) = self.writers.insert(written, encoding) else {
+            unreachable!();
+        };
+        Ok(())
+    }
+
+    /// The encodings by the identifiers that they read, in the order in which these came.
+    pub fn registry(&self) -> &IndexMap<Id, Encoding>
+        ensures { result.now.entries ≡ self.now.readers }
+    {
+        &self.readers
     }
 
     /// What reads the arrays of this identifier: `None` where it is not registered.
@@ -86,5 +143,31 @@ impl VortexSession {
         ensures ext { result.ext ≡ ext }
     {
         VortexSession { arrays, ext }
+    }
+
+    /// Whether what nothing is registered for is allowed: the flag of `ext`, which `allow_unknown` sets there.
+    pub fn allows_unknown(&self) -> bool
+        ensures { result ≡ (ext_meaning (λ b. accepted (b.vtable, b.value)) self.now.ext).unknown }
+    {
+        self.ext.allows_unknown()
+    }
+
+    /// An array's root as it is written: its parts, under the identifier that what writes its encoding's arrays
+    /// gives them. `NotRegistered` exactly where nothing writes them.
+    pub fn array_serialize(
+        &self,
+        alloc: Global,
+        array: &Array,
+    ) -> Result<Option<ArraySerialization>, RegistryError>
+        ensures parts { IfOk result (λ s. IfSome s (HasPartsOf array.now)) }
+        ensures given { IfOk result IsSome }
+        ensures registered { OnOk result (IsSome (found self.now.arrays.writers (array_id array.now))) }
+        ensures cause { IfErr result (λ e. e ≡ RegistryError.NotRegistered → found self.now.arrays.writers (array_id array.now) ≡ None) }
+    {
+        let id = Id::new(alloc, array.encoding_id())?;
+        match self.arrays.writer(&id) {
+            Some(_) => Ok(Some(ArraySerialization::from_array(alloc, array)?)),
+            None => Err(RegistryError::NotRegistered),
+        }
     }
 }

@@ -1,6 +1,6 @@
-use Rattle.std.proofs.Common.{arith}
-use Rattle.vx_registry.proofs.Shipped.{tables_paired}
+use Rattle.std.proofs.Common.{arith, ◌∙◌}
+use Rattle.vx_registry.proofs.Shipped.{all_tables}
 use Rattle.vx_registry.proofs.session.ArraySession.default.Goals as goal
 
-pub invariant_of-result : goal.invariant_of-result
-invariant_of-result c = tables_paired _ _ c.loop-encoding.encoding-index c.loop-encoding.invariant.0 c.loop-encoding.invariant.1 (omega arith)
+pub returns-clause-shipped : goal.returns-clause-shipped
+returns-clause-shipped c = c.loop-encoding.invariant ∙ all_tables c.loop-encoding.encoding-index (omega arith)
