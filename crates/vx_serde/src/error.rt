@@ -8,7 +8,6 @@ use std::alloc::{AllocError, AllocFailed};
 use thiserror::Error;
 use vx_arrays::ArrayError;
 use vx_buffer::BufferError;
-use vx_registry::RegistryError;
 use vx_types::TypeError;
 
 /// Why a blob is not read, or an array not written.
@@ -125,16 +124,6 @@ impl From<ArrayError> for WireError {
             ArrayError::OutOfMemory => WireError::OutOfMemory,
             ArrayError::BadShape => WireError::BadShape,
             ArrayError::ValueTooLarge => WireError::WireLimit,
-        }
-    }
-}
-
-impl From<RegistryError> for WireError {
-    ghost from_gives = { λ _ e. e ≡ OutOfMemory };
-
-    fn from(e: RegistryError) -> WireError {
-        match e {
-            RegistryError::OutOfMemory => WireError::OutOfMemory,
         }
     }
 }

@@ -33,9 +33,10 @@ fn encoding_number(node: &WireNode, ctx: &mut ArrayContext) -> Result<u16, WireE
     let Some(id) = node.id() else {
         return Ok(0);
     };
-    match ctx.intern(id)? {
-        Some(number) => Ok(number),
-        None => Err(WireError::NotPermitted),
+    match ctx.intern(id) {
+        Ok(Some(number)) => Ok(number),
+        Ok(None) => Err(WireError::NotPermitted),
+        Err(_) => Err(WireError::OutOfMemory),
     }
 }
 
