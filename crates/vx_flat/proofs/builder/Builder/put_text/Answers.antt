@@ -8,7 +8,7 @@ use Rattle.vx_flat.specs.Linking.{loose_block}
 use Rattle.vx_flat.specs.Pieces.{Piece, text_piece}
 use Rattle.vx_flat.specs.Spots.{spot}
 use Rattle.vx_flat.proofs.Added.{Adds, built_is, opens, end_is, composed, learn_text}
-use Rattle.vx_flat.proofs.builder.Builder.string.Goals as goal
+use Rattle.vx_flat.proofs.builder.Builder.put_text.Goals as goal
 
 adds : (c : goal.In_ok-add) → Adds c.self.inside.message c.self.inside.known c.self.inside.shares (text_piece c.args.text.now) c.plain_spot-spot.result c.deref-3.result.now c.clear-2.new.self.items c.add.new.self c.self.inside.known
 adds c =

@@ -12,7 +12,7 @@ use Rattle.vx_flat.specs.Pieces.{Piece, table_piece}
 use Rattle.vx_flat.specs.Spots.{spot, table_spot, known_at}
 use Rattle.vx_flat.proofs.Added.{Adds, built_is, opens, end_is, composed, learn_table, too_long}
 use Rattle.vx_flat.proofs.Chain.{starts}
-use Rattle.vx_flat.proofs.builder.Builder.table.Goals as goal
+use Rattle.vx_flat.proofs.builder.Builder.put_table.Goals as goal
 
 -- what was appended to nothing
 alone : {A : Type 0} (new old x y : List A) → new ≡ old ++ x → old ≡ [] → x ≡ y → new ≡ y
