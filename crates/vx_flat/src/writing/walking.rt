@@ -1,6 +1,6 @@
 //! From a value to the blocks of a builder, depth first.
 
-ghost use Rattle.std.specs.Prelude.{◌≡◌, ◌+◌, ◌++◌, ◌∷◌, [], ◌≤◌, length, map, string_bytes, false, Some, OnOk, IfOk, IfErr};
+ghost use Rattle.std.specs.Prelude.{◌≡◌, ◌+◌, ◌^◌, ◌++◌, ◌∷◌, [], ◌≤◌, ℕ, length, map, string_bytes, false, Some, OnOk, IfOk, IfErr};
 ghost use Rattle.vx_flat.specs.Schema as kinds;
 ghost use Rattle.vx_flat.specs.KindParts as parts;
 ghost use Rattle.vx_flat.specs.Value as plain;
@@ -183,7 +183,8 @@ fn entries_of<K: TableKind>(
 {
     let mut entries = Vec::new(alloc);
     for i in 0..values.len() {
-        push_entries::<K>(kinds[i], &values[i], &mut entries)?;
+        let value = &values[i];
+        push_entries::<K>(kinds[i], value, &mut entries)?;
     }
     Ok(entries)
 }
@@ -295,7 +296,8 @@ fn write_fields<K: TableKind>(
         (with_rest builder.old (piece.fields_pieces K.schema kinds.now (views values.now))) e) }
 {
     for i in 0..values.len() {
-        write_below(alloc, kind, kinds[i], &values[i], builder)?;
+        let value = &values[i];
+        write_below(alloc, kind, kinds[i], value, builder)?;
     }
     Ok(())
 }

@@ -30,7 +30,7 @@ loop-text-preserved c =
     let x = c.text-item.result in
     let all = with_rest c.args.builder.now (links_piece link.Text (length xs) ∷ map text_piece (map string_bytes xs)) in
     let left = subst (λ (ps : List Piece). Walked b ps all) (texts_more xs i x c.loop-text-test.true c.text-item.is) c.loop-text.invariant in
-    let written = subst (λ t. c.write_text.new.builder ≡ with_rest b (text_piece t ∷ [])) c.as_str.ensures c.in_ok-write_text.ensures.written in
+    let written = subst (λ t. c.write_text.new.builder ≡ with_rest b (text_piece t ∷ [])) c.as_str.ensures.value c.in_ok-write_text.ensures.written in
     walked_more b c.write_text.new.builder (text_piece (string_bytes x) ∷ []) (map text_piece (map string_bytes (drop (i + 1) xs))) all left written
 
 pub returns-in_err-write_text-clause-cut : goal.returns-in_err-write_text-clause-cut
@@ -43,5 +43,5 @@ returns-in_err-write_text-clause-cut c =
     let x = c.text-item.result in
     let all = with_rest c.args.builder.now (links_piece link.Text (length xs) ∷ map text_piece (map string_bytes xs)) in
     let left = subst (λ (ps : List Piece). Walked b ps all) (texts_more xs i x c.loop-text-test.true c.text-item.is) c.loop-text.invariant in
-    let cut = subst (λ t. IsCut (with_rest b (text_piece t ∷ [])) e) c.as_str.ensures c.in_err-write_text.ensures.cut in
+    let cut = subst (λ t. IsCut (with_rest b (text_piece t ∷ [])) e) c.as_str.ensures.value c.in_err-write_text.ensures.cut in
     rw (q.1, q.2) (walked_cut b (text_piece (string_bytes x) ∷ []) (map text_piece (map string_bytes (drop (i + 1) xs))) all e left cut)
