@@ -30,7 +30,7 @@ pub runs : (b : Built) (p : Piece) (ps : List Piece) (q : Piece) (qs : List Piec
 runs b p ps q qs = rest_runs (with_piece b p) ps (q ∷ qs)
 
 -- a builder that wrote blocks had not failed with them
-rest_works : (b : Built) (ps : List Piece) → b.failed ≡ false → (with_rest b ps).failed ≡ false
+pub rest_works : (b : Built) (ps : List Piece) → b.failed ≡ false → (with_rest b ps).failed ≡ false
 rest_works b [] h = h
 rest_works b (p ∷ ps) h = rest_works (with_piece (waiting b) p) ps refl
 
