@@ -174,18 +174,6 @@ entries_slots s _ _ of = absurd of
 
 -- ---- what hangs on a field of each kind
 
-pub absent_below : (s : Schema) (k : FieldKind) → [] ≡ field_pieces s k absent
-absent_below s Text = refl
-absent_below s _ = refl
-
-pub number_below : (s : Schema) (k : FieldKind) (n : ℕ) → [] ≡ field_pieces s k (number n)
-number_below s Text n = refl
-number_below s _ n = refl
-
-pub unknown_below : (s : Schema) (k : FieldKind) (g : ℕ) → [] ≡ field_pieces s k (unknown g)
-unknown_below s Text g = refl
-unknown_below s _ g = refl
-
 pub elements_below : (s : Schema) (k : FieldKind) (bs : List ℕ) → IsOfKind s k (elements bs)
     → elements_piece (element_size s k) bs ∷ [] ≡ field_pieces s k (elements bs)
 elements_below s (Vector w) bs h = refl
@@ -208,11 +196,6 @@ pub table_below : (s : Schema) (k : FieldKind) (vs : Fields) → IsOfKind s k (t
     → table_pieces s (fields_of s (table_number k)) vs ≡ field_pieces s k (table vs)
 table_below s (Table T) vs h = refl
 table_below s _ vs h = absurd h
-
-pub table_of_kind : (s : Schema) (k : FieldKind) (vs : Fields) → IsOfKind s k (table vs)
-    → AreOf s (fields_of s (table_number k)) vs
-table_of_kind s (Table T) vs h = h
-table_of_kind s _ vs h = absurd h
 
 rows_count : (rs : List (Vec FieldValue Global)) → rows_length (rows_from (map (λ r. views r.items) rs)) ≡ length rs
 rows_count [] = refl

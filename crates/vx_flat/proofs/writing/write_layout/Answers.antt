@@ -23,7 +23,7 @@ returns-clause-written g c =
     c.into_message.ensures.built
     ∙ (ap (λ (b : Built). b.bytes) c.in_ok-write_table.ensures.written
     ∙ layout_walked g.K.TableKind.schema c.args.sharing (value_of c.args.value.now) c.sharing-builder.result c.root.result
-        (views c.deref.result.now) c.sharing-builder.ensures c.root.ensures (ap views c.deref.ensures.value) c.requires)
+    (views c.deref.result.now) c.sharing-builder.ensures c.root.ensures (ap views c.deref.ensures.value) c.requires)
 
 pub returns-in_err-write_table-clause-too_long : goal.returns-in_err-write_table-clause-too_long
 returns-in_err-write_table-clause-too_long g c =

@@ -1,6 +1,5 @@
-use Rattle.std.proofs.Common.{◌≡◌, ◌+◌, ◌*◌, ◌++◌, ◌∷◌, [], ap, sym, subst, ◌∙◌, arith, length, refl, true, false, List, ℕ, Option}
+use Rattle.std.proofs.Common.{◌≡◌, ◌++◌, ◌∷◌, [], ap, sym, subst, ◌∙◌, arith, length, refl, List}
 use Rattle.std.specs.Prelude.{if◌then◌else◌}
-use Rattle.vx_flat.specs.declared.writing.block.Cell.{Cell}
 use Rattle.vx_flat.specs.declared.writing.block.Spot.{Spot}
 use Rattle.vx_flat.specs.Blocks.{table_block}
 use Rattle.vx_flat.specs.Building.{Built, with_piece, entry_slots, failing, IsTooLong}

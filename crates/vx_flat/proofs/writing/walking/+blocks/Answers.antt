@@ -1,13 +1,12 @@
-use Rattle.std.proofs.Common.{arith, ◌≡◌, ◌+◌, ◌∷◌, [], List, map, drop, length, get_or, ap, ◌∙◌, sym, subst, string_bytes}
+use Rattle.std.proofs.Common.{arith, ◌≡◌, ◌+◌, ◌∷◌, [], map, drop, length, get_or, ap, ◌∙◌, sym, subst, string_bytes}
 use Rattle.std.proofs.lemmas.Result.{err_from_is_err_and}
 use Rattle.vx_flat.specs.declared.builder.piece.LinkKind.TheVariants as link
-use Rattle.vx_flat.specs.declared.schema.FieldKind.{FieldKind}
 use Rattle.vx_flat.specs.declared.schema.FieldKind.TheVariants.{Number}
 use Rattle.vx_flat.specs.declared.schema.Width.TheVariants.{One}
 use Rattle.vx_flat.specs.Building.{Built, with_rest, with_piece, with_pieces}
 use Rattle.vx_flat.specs.Pieces.{links_piece, table_piece, elements_piece, text_piece, entries, field_pieces, fields_pieces, rows_pieces, table_pieces}
 use Rattle.vx_flat.specs.Schema.{fields_of}
-use Rattle.vx_flat.specs.Value.{absent, number, elements, text, texts, table, tables, member, unknown}
+use Rattle.vx_flat.specs.Value.{elements, text, texts, table, tables, member}
 use Rattle.vx_flat.specs.View.{view, views, rows_from}
 use Rattle.vx_flat.proofs.Entries.{entries_taken}
 use Rattle.vx_flat.proofs.Lawful.{tables_short}
@@ -15,8 +14,8 @@ use Rattle.vx_flat.proofs.Sizes.{size_field, size_at, size_row_at}
 use Rattle.std.specs.Prelude.{OnOk, IfErr}
 use Rattle.vx_flat.specs.Walking.{IsCut}
 use Rattle.vx_flat.proofs.Pushing.{rows_of_kind}
-use Rattle.vx_flat.proofs.Views.{view-Elements, view-Text, view-Texts, view-Table, view-Tables, view-Member, view-Absent, view-Number, view-Unknown}
-use Rattle.vx_flat.proofs.Walking.{told, told_cut, refused_cut, absent_below, number_below, unknown_below, member_below, elements_below, text_below, texts_below, table_below, rows_below}
+use Rattle.vx_flat.proofs.Views.{view-Elements, view-Text, view-Texts, view-Table, view-Tables, view-Member}
+use Rattle.vx_flat.proofs.Walking.{told, told_cut, refused_cut, member_below, elements_below, text_below, texts_below, table_below, rows_below}
 use Rattle.vx_flat.proofs.Walking.{FieldsLeft, RowsLeft, cut_more, walked_first, walked_more, walked_cut, first_left, kind_there, rows_first, entries_slots}
 use Rattle.vx_flat.proofs.writing.walking.+blocks.Goals as goal
 
