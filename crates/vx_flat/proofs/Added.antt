@@ -1,5 +1,5 @@
 -- A composed block was added to a message: what was built is what was built before, with the block's piece.
-use Rattle.std.proofs.Common.{◌≡◌, ℕ, zero, suc, ◌+◌, ◌-◌, ◌*◌, ◌<◌, ◌≤◌, ◌^◌, Bool, true, false, List, [], ◌∷◌, ◌++◌, length, reverse, Option, Some, None}
+use Rattle.std.proofs.Common.{◌≡◌, ℕ, ◌+◌, ◌-◌, ◌<◌, ◌≤◌, ◌^◌, Bool, true, false, List, [], ◌∷◌, ◌++◌, length, reverse, Option, Some, None}
 use Rattle.std.proofs.Common.{refl, sym, ap, subst, ◌∙◌, arith, inr, append_assoc}
 use Rattle.std.specs.Prelude.{if◌then◌else◌, ◌&&◌}
 use Rattle.vx_flat.specs.declared.builder.piece.BlockField.{BlockField}
@@ -10,7 +10,7 @@ use Rattle.vx_flat.specs.declared.schema.Width.TheVariants.{Eight}
 use Rattle.vx_flat.specs.declared.writing.block.Spot.{Spot}
 use Rattle.vx_flat.specs.Building.{Built, aimed, spot_after, with_piece, slots_of, IsTooLong}
 use Rattle.vx_flat.specs.BuilderView.{begun, front, built, IsOpen, SlotsLie, SlotLies}
-use Rattle.vx_flat.specs.FieldTables.{align, zeros, inline_end, field_table_bytes}
+use Rattle.vx_flat.specs.FieldTables.{align, zeros, field_table_bytes}
 use Rattle.vx_flat.specs.Layout.{block_bytes}
 use Rattle.vx_flat.specs.Linking.{loose_block, cells_of}
 use Rattle.vx_flat.specs.Pieces.{Piece, table_piece, elements_piece, links_piece, text_piece}
@@ -18,7 +18,7 @@ use Rattle.vx_flat.specs.Spots.{Known, spot, learn, known_at}
 use Rattle.vx_flat.proofs.Bytes.{align_past}
 use Rattle.vx_flat.proofs.Cells.{end_past}
 use Rattle.vx_flat.proofs.Composing.{begun_front, begun_same, begun_length}
-use Rattle.vx_flat.proofs.Linked.{aimed_front, with_length, after_lie, lie_same, aims_past, ends_past, table_end}
+use Rattle.vx_flat.proofs.Linked.{aimed_front, with_length, after_lie, lie_same, aims_past, table_end}
 
 -- a block has at least four bytes
 spot_grows : (known : Known) (p : ℕ) (q : Piece) → p + 4 ≤ (spot known p (loose_block q)).end

@@ -1,6 +1,6 @@
 -- Blocks that are composed, a part at a time.
 use Rattle.std.proofs.Common.{◌≡◌, ℕ, zero, suc, ◌+◌, ◌-◌, ◌*◌, ◌<◌, ◌≤◌, List, [], ◌∷◌, ◌++◌, length, take, drop, get_or}
-use Rattle.std.proofs.Common.{refl, sym, ap, subst, ◌∙◌, arith, append_assoc}
+use Rattle.std.proofs.Common.{refl, sym, ap, ◌∙◌, arith, append_assoc}
 use Rattle.std.proofs.Math.ListN.{set}
 use Rattle.std.proofs.lemmas.List.{drop_more}
 use Rattle.vx_flat.specs.declared.builder.piece.BlockField.{BlockField}
@@ -13,7 +13,7 @@ use Rattle.vx_flat.specs.BuilderView.{begun, front}
 use Rattle.vx_flat.specs.FieldTables.{align, zeros, le_bytes}
 use Rattle.vx_flat.specs.CellForm.{end_after}
 use Rattle.vx_flat.specs.Layout.{links_bytes}
-use Rattle.vx_flat.specs.Linking.{cell_at, cells_of, first, firsts, left_by, rest}
+use Rattle.vx_flat.specs.Linking.{cell_at, cells_of, firsts, rest}
 use Rattle.vx_flat.proofs.Loose.{none_left}
 
 -- four bytes are set
@@ -28,16 +28,6 @@ set_four (x ∷ m) (suc p) a b c d h =
     rw (e1, e2, e3, e4) (ap (λ m. x ∷ m) (set_four m p a b c d (omega (arith, h))))
 set_four (x0 ∷ x1 ∷ x2 ∷ x3 ∷ m) zero a b c d h = refl
 set_four _ zero a b c d h = absurd (omega (arith, h))
-
--- the cells of entries, one more
-pub cells_next : (es : List BlockField) (i : ℕ) (out all : List Cell) → i < length es
-    → out ++ cells_of (drop i es) [] ≡ all
-    → (out ++ cell_at (get_or es i entry.Absent) 0 ∷ []) ++ cells_of (drop (i + 1) es) [] ≡ all
-cells_next es i out all lt h =
-    let x = get_or es i entry.Absent in
-    append_assoc out (cell_at x 0 ∷ []) (cells_of (drop (i + 1) es) [])
-    ∙ (ap (λ ns. out ++ (cell_at x 0 ∷ cells_of (drop (i + 1) es) ns)) (sym (none_left x))
-    ∙ (ap (λ ds. out ++ cells_of ds []) (sym (drop_more es i entry.Absent lt)) ∙ h))
 
 -- the links of entries, one more
 pub slots_link : (es : List BlockField) (n t i p : ℕ) (k : LinkKind) (out all : List Slot) → i < length es

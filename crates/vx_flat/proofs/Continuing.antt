@@ -1,6 +1,6 @@
 -- How a builder goes on, and stops, in parts.
-use Rattle.std.proofs.Common.{◌≡◌, ℕ, suc, zero, ◌+◌, ◌-◌, ◌*◌, ◌<◌, ◌≤◌, ◌^◌, true, false, List, [], ◌∷◌, ◌++◌, inl, inr, length, take, drop}
-use Rattle.std.proofs.Common.{refl, sym, ap, subst, ◌∙◌, arith, append_assoc, append-nil, Option, Some, None, length-take, length-drop}
+use Rattle.std.proofs.Common.{◌≡◌, ℕ, suc, zero, ◌+◌, ◌-◌, ◌<◌, ◌≤◌, false, List, [], ◌∷◌, ◌++◌, inl, inr, length, take, drop}
+use Rattle.std.proofs.Common.{refl, sym, ap, ◌∙◌, arith, append_assoc, append-nil, Option, Some, None, length-take, length-drop}
 use Rattle.std.proofs.lemmas.List.{length-append}
 use Rattle.vx_flat.specs.declared.builder.piece.BlockField.{BlockField}
 use Rattle.vx_flat.specs.declared.builder.piece.BlockField.TheVariants as entry
@@ -9,9 +9,9 @@ use Rattle.vx_flat.specs.declared.builder.slot.Slot.{Slot}
 use Rattle.vx_flat.specs.declared.error.FlatError.{FlatError}
 use Rattle.vx_flat.specs.declared.error.FlatError.TheVariants.{OutOfMemory, BadTable, TableLimit}
 use Rattle.vx_flat.specs.declared.error.FlatError.TheVariants.{MessageTooLong}
-use Rattle.vx_flat.specs.Building.{Built, patch, aimed, spot_after, with_piece, with_rest, with_pieces, waiting, failing}
-use Rattle.vx_flat.specs.Building.{IsTooLong, IsRefused, Keeps, IsStopped, Link, AreLeft, links_of, entry_links, element_links}
-use Rattle.vx_flat.specs.Building.{slots_of, entry_slots, element_slots}
+use Rattle.vx_flat.specs.Building.{Built, patch, aimed, spot_after, with_piece, with_rest, with_pieces, waiting}
+use Rattle.vx_flat.specs.Building.{IsTooLong, IsRefused, Keeps, IsStopped, AreLeft, links_of, entry_links, element_links}
+use Rattle.vx_flat.specs.Building.{entry_slots, element_slots}
 use Rattle.vx_flat.specs.CellForm.{end_after}
 use Rattle.vx_flat.specs.FieldTables.{le_bytes, zeros, align}
 use Rattle.vx_flat.specs.Layout.{block_bytes}
@@ -30,7 +30,7 @@ pub runs : (b : Built) (p : Piece) (ps : List Piece) (q : Piece) (qs : List Piec
 runs b p ps q qs = rest_runs (with_piece b p) ps (q ∷ qs)
 
 -- a builder that wrote blocks had not failed with them
-rest_works : (b : Built) (ps : List Piece) → b.failed ≡ false → (with_rest b ps).failed ≡ false
+pub rest_works : (b : Built) (ps : List Piece) → b.failed ≡ false → (with_rest b ps).failed ≡ false
 rest_works b [] h = h
 rest_works b (p ∷ ps) h = rest_works (with_piece (waiting b) p) ps refl
 

@@ -1,6 +1,6 @@
 -- What blocks are that are written one after the other: each link is set when the block comes at
 -- which it aims, and in the end all blocks are those of linked pieces.
-use Rattle.std.proofs.Common.{◌≡◌, refl, sym, ap, subst, ◌∙◌, arith, Bool, true, false, ℕ, zero, suc, ◌+◌, ◌-◌, ◌*◌, ◌/◌, ◌≤◌, ◌<◌}
+use Rattle.std.proofs.Common.{◌≡◌, refl, sym, ap, subst, ◌∙◌, arith, Bool, true, false, ℕ, zero, suc, ◌+◌, ◌-◌, ◌*◌, ◌≤◌, ◌<◌}
 use Rattle.std.proofs.Common.{List, [], ◌∷◌, ◌++◌, length, take, drop, append_assoc, append-nil, Option, Some, None, length-take, length-drop}
 use Rattle.std.specs.Prelude.{if◌then◌else◌}
 use Rattle.std.proofs.lemmas.List.{take-append-le, drop-append-le, length-append, length-replicate}
@@ -9,11 +9,10 @@ use Rattle.vx_flat.specs.declared.builder.piece.BlockField.TheVariants as entry
 use Rattle.vx_flat.specs.declared.builder.piece.LinkKind.{LinkKind}
 use Rattle.vx_flat.specs.declared.schema.Width.TheVariants.{Four, Eight}
 use Rattle.vx_flat.specs.declared.writing.block.Spot.{Spot}
-use Rattle.vx_flat.specs.Blocks.{Block, table_block, links_block}
 use Rattle.vx_flat.specs.declared.writing.block.Cell.{Cell}
 use Rattle.vx_flat.specs.FieldTables.{align, zeros, le_bytes, inline_end, distances, entry_bytes, field_table_bytes}
 use Rattle.vx_flat.specs.Layout.{cells_bytes, links_bytes, block_bytes, own_field_table, bytes_from, bytes_of, layout}
-use Rattle.vx_flat.specs.Linking.{first, rest, cells_of, cell_at, left_by, left_by_all, firsts, rests, width_at, block_of, left_by_piece, loose_block, all_before, nothing_linked, linked}
+use Rattle.vx_flat.specs.Linking.{rest, cells_of, left_by_all, firsts, rests, width_at, block_of, left_by_piece, loose_block, all_before, nothing_linked, linked}
 use Rattle.vx_flat.specs.IsOf.{IsOf}
 use Rattle.vx_flat.specs.Pieces.{Piece, table_piece, elements_piece, links_piece, text_piece, pieces, entries, fields_pieces}
 use Rattle.vx_flat.specs.Schema.{Schema, width, fields_of}

@@ -1,5 +1,5 @@
 -- What the fields of a builder stand for.
-use Rattle.std.specs.Prelude.{◌≡◌, ℕ, ◌+◌, ◌<◌, ◌≤◌, Bool, List, [], ◌∷◌, length, map, reverse, Option, Some, None}
+use Rattle.std.specs.Prelude.{◌≡◌, ℕ, ◌+◌, ◌<◌, ◌≤◌, Bool, List, [], ◌∷◌, length, reverse, Option, Some, None}
 use Rattle.vx_flat.specs.declared.builder.message.Message.{Message}
 use Rattle.vx_flat.specs.declared.builder.slot.Slot.{Slot}
 use Rattle.vx_flat.specs.Building.{Built}

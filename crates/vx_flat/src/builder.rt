@@ -102,12 +102,10 @@ impl Builder {
         }
     }
 
-    /// Writes a table by the entries of its field table, with `Absent` for a field that is left
-    /// out. Gives the table's number, for [`link`](Builder::link).
-    pub fn table(&mut self, fields: &[BlockField]) -> Result<u32, FlatError>
+    /// [`table`](Builder::table), whatever waits for a block.
+    pub(crate) fn put_table(&mut self, fields: &[BlockField]) -> Result<u32, FlatError>
         requires few { length fields.now ≤ 1000 }
         requires entries { AreEntries false fields.now }
-        requires takes { Takes LinkKind.Table self.old }
         ensures number { IfOk result (λ n. n ≡ self.old.count) }
         ensures written { OnOk result (self.new ≡ with_piece self.old (table_piece fields.now)) }
         ensures fits { IsOk result → length self.new.bytes < 2 ^ 31 }
@@ -144,9 +142,25 @@ impl Builder {
         Ok(number)
     }
 
+    /// Writes a table by the entries of its field table, with `Absent` for a field that is left
+    /// out. Gives the table's number, for [`link`](Builder::link).
+    pub fn table(&mut self, fields: &[BlockField]) -> Result<u32, FlatError>
+        requires few { length fields.now ≤ 1000 }
+        requires entries { AreEntries false fields.now }
+        requires takes { Takes LinkKind.Table self.old }
+        ensures number { IfOk result (λ n. n ≡ self.old.count) }
+        ensures written { OnOk result (self.new ≡ with_piece self.old (table_piece fields.now)) }
+        ensures fits { IsOk result → length self.new.bytes < 2 ^ 31 }
+        ensures works { IsOk result → self.old.failed ≡ false }
+        ensures refused { IfErr result
+            (λ e. IsRefused self.old (table_piece fields.now) e self.new) }
+        ensures failed { self.old.failed ≡ true → IsErrOf result FlatError.MessageTooLong }
+    {
+        self.put_table(fields)
+    }
+
     /// Writes a vector of numbers or structs of `size` bytes each.
     pub(crate) fn elements(&mut self, size: usize, bytes: &[u8]) -> Result<(), FlatError>
-        requires { Takes LinkKind.Vector self.old }
         ensures written { OnOk result (self.new ≡ with_piece self.old (elements_piece size bytes.now)) }
         ensures fits { IsOk result → length self.new.bytes < 2 ^ 31 }
         ensures works { IsOk result → self.old.failed ≡ false }
@@ -172,8 +186,8 @@ impl Builder {
     }
 
     /// Writes a vector of so many links of a kind.
-    fn links(&mut self, kind: LinkKind, count: u32) -> Result<(), FlatError>
-        requires { Takes LinkKind.Vector self.old }
+    pub(crate) fn links(&mut self, kind: LinkKind, count: usize) -> Result<(), FlatError>
+        requires { count ≤ 2 ^ 61 }
         ensures written { OnOk result (self.new ≡ with_piece self.old (links_piece kind count)) }
         ensures fits { IsOk result → length self.new.bytes < 2 ^ 31 }
         ensures works { IsOk result → self.old.failed ≡ false }
@@ -185,13 +199,14 @@ impl Builder {
             return Err(FlatError::MessageTooLong);
         }
         let start = next_start(&self.message.bytes);
-        let spot = plain_spot(start, 4 + 4 * count as usize);
+        let spot = plain_spot(start, 4 + 4 * count);
         if spot.end > MAX_MESSAGE {
             self.failed = true;
             return Err(FlatError::MessageTooLong);
         }
         self.block.clear();
         push_front(&self.message.bytes, start, &mut self.block)?;
+        let count = count as u32;
         push_links(spot, count, &mut self.block)?;
         self.links.clear();
         push_element_slots(
@@ -220,14 +235,13 @@ impl Builder {
         let number = self.message.count;
         match elements {
             BlockVector::Numbers { width, bytes } => self.elements(width as usize, bytes)?,
-            BlockVector::Links { kind, count } => self.links(kind, count)?,
+            BlockVector::Links { kind, count } => self.links(kind, count as usize)?,
         }
         Ok(number)
     }
 
-    /// Writes a string.
-    pub fn string(&mut self, text: &str) -> Result<(), FlatError>
-        requires { Takes LinkKind.Text self.old }
+    /// [`string`](Builder::string), whatever waits for a block.
+    pub(crate) fn put_text(&mut self, text: &str) -> Result<(), FlatError>
         ensures written { OnOk result (self.new ≡ with_piece self.old (text_piece text.now)) }
         ensures fits { IsOk result → length self.new.bytes < 2 ^ 31 }
         ensures works { IsOk result → self.old.failed ≡ false }
@@ -252,6 +266,19 @@ impl Builder {
         Ok(())
     }
 
+    /// Writes a string.
+    pub fn string(&mut self, text: &str) -> Result<(), FlatError>
+        requires { Takes LinkKind.Text self.old }
+        ensures written { OnOk result (self.new ≡ with_piece self.old (text_piece text.now)) }
+        ensures fits { IsOk result → length self.new.bytes < 2 ^ 31 }
+        ensures works { IsOk result → self.old.failed ≡ false }
+        ensures refused { IfErr result
+            (λ e. IsRefused self.old (text_piece text.now) e self.new) }
+        ensures failed { self.old.failed ≡ true → IsErrOf result FlatError.MessageTooLong }
+    {
+        self.put_text(text)
+    }
+
     /// Lets the next link aim at the next block. The link is given by the number of its block, and
     /// by its place among the table's entries or the vector's elements. The entry of a union's link
     /// is that of its offset.
@@ -262,8 +289,26 @@ impl Builder {
         ensures failed { self.old.failed ≡ true → self.new ≡ self.old }
     {
         if !self.failed {
-            self.message.waits = self.message.left.pop();
+            self.go_on();
         }
+    }
+
+    /// Lets the next link, if there is one, aim at the next block.
+    pub(crate) fn go_on(&mut self)
+        ensures { self.new ≡ waiting self.old }
+    {
+        self.message.waits = self.message.left.pop();
+    }
+
+    /// The message, of at least one block.
+    pub(crate) fn into_message(self) -> FlatBuffer
+        requires { 0 < self.count }
+        ensures built { result ≡ self.bytes }
+        ensures fits { length result < 2 ^ 31 }
+    {
+        let Builder { message, .. } = self;
+        let Message { bytes, .. } = message;
+        FlatBuffer::new(bytes)
     }
 
     /// The message. Where the blocks are those of a value, it is the value's layout.

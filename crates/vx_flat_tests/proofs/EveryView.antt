@@ -1,5 +1,5 @@
 -- The fields of the root table of the kind that has each kind of field, and of the tables of arrays.
-use Rattle.std.proofs.Common.{◌≡◌, ℕ, Option, Some, sym, ap, subst, ◌∙◌}
+use Rattle.std.proofs.Common.{◌≡◌, ℕ, Option, Some, sym, subst, ◌∙◌}
 use Rattle.std.specs.Prelude.{IsSome}
 use Rattle.vx_flat.specs.declared.schema.FieldKind.{FieldKind}
 use Rattle.vx_flat.specs.declared.viewing.View.{View}

@@ -1,16 +1,20 @@
 //! Views: each accessor at each kind of field, present and absent, and tables that many paths
 //! reach.
 
-ghost use Rattle.std.specs.Prelude.{IfOk, IfSome};
+ghost use Rattle.std.specs.Prelude.{◌≡◌, ◌+◌, ◌<◌, IfOk, IfSome, OnOk};
 ghost use Rattle.vx_flat.specs.Seen.{IsViewOf};
-ghost use Rattle.vx_flat_tests.specs.Worked.{array_schema, every_schema};
+ghost use Rattle.vx_flat_tests.specs.Worked.{array_schema, array_message, every_schema};
 
 use crate::kinds::{ArrayKind, EveryKind, PairKind};
 use crate::messages::{ARRAY, EVERY};
 use crate::reading::nested;
 use std::alloc::{AllocError, Global};
+use std::marker::Brand;
+use std::sync::ledger::{Blank, Ledger};
 use std::test::Fail;
-use vx_flat::{FlatError, TableKind, UnionPart, View, Weight, verify_uncounted, view_at};
+use vx_flat::{
+    FlatError, Steps, TableKind, UnionPart, View, Weight, verify, verify_uncounted, view_at,
+};
 
 /// A table without a field.
 const NOTHING: [u8; 12] = [8, 0, 0, 0, 4, 0, 4, 0, 4, 0, 0, 0];
@@ -271,12 +275,44 @@ fn worked_weight(rt: HostRuntime) -> Result<(), Fail> {
     Ok(())
 }
 
+/// The weight of the worked message, which is verified in three steps.
+fn weight_in_three_steps<L: Ledger>(
+    message: &[u8],
+    steps: &mut Steps<L>,
+) -> Result<Weight, FlatError>
+    requires { message.now ≡ array_message }
+    ensures { OnOk result (steps.new ≡ steps.old + 3) }
+{
+    let root = verify(message, &ArrayKind, steps)?;
+    Ok(root.weight())
+}
+
+/// The same, by a counter of its own.
+fn weight_by<L: Ledger>(blank: Blank) -> Result<Weight, FlatError>
+    requires name { blank.name ≡ L.name }
+    requires parts { blank.parts ≡ L.parts }
+    requires some { 0 < blank.parts }
+{
+    let mut steps = Steps::<L>::new(blank);
+    weight_in_three_steps(&ARRAY, &mut steps)
+}
+
+#[test]
+fn steps_are_counted(rt: HostRuntime) -> Result<(), Fail> {
+    let weight = weight_by::<Brand>(Blank::new(1))?;
+    assert_eq!(rt; weight.tables, 3);
+    Ok(())
+}
+
 #[test]
 fn nested_tables(rt: HostRuntime) -> Result<(), Fail> {
     let message = nested(rt.alloc(), 64, false)?;
     let root = verify_uncounted(&message, &PairKind)?;
     assert_eq!(rt; root.weight().nested, 64);
     let message = nested(rt.alloc(), 65, false)?;
+    let refused = verify_uncounted(&message, &PairKind);
+    assert_eq!(rt; refused.err(), Some(FlatError::TableLimit));
+    let message = nested(rt.alloc(), 20, true)?;
     let refused = verify_uncounted(&message, &PairKind);
     assert_eq!(rt; refused.err(), Some(FlatError::TableLimit));
     Ok(())

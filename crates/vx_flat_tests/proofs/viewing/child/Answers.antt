@@ -16,12 +16,12 @@ are_nodes v w h below kind = vector-of array_schema v w 2 (Tables 1) h.schema (k
 pub vector-requires : goal.vector-requires
 vector-requires c = subst IsVector (sym (kind-of array_schema 1 c.args.view.now c.requires 2)) tt
 
-pub table-requires-clause-kind : goal.table-requires-clause-kind
-table-requires-clause-kind c =
+pub table-first-requires-clause-kind : goal.table-first-requires-clause-kind
+table-first-requires-clause-kind c =
     let nodes = are_nodes c.args.view.now c.in-Some.children c.requires c.in-Some.ensures.below c.in-Some.ensures.kind in
     subst IsTables (sym nodes.kind) tt
 
-pub table-requires-2-clause-kind : goal.table-requires-2-clause-kind
-table-requires-2-clause-kind c =
+pub table-requires-clause-kind : goal.table-requires-clause-kind
+table-requires-clause-kind c =
     let nodes = are_nodes c.args.view.now c.in-Some.children c.requires c.in-Some.ensures.below c.in-Some.ensures.kind in
     subst IsTables (sym nodes.kind) tt

@@ -1,12 +1,11 @@
-use Rattle.std.proofs.Common.{◌≡◌, ◌+◌, ◌*◌, ◌++◌, [], ap, sym, ◌∙◌, arith, length, refl, false, true}
+use Rattle.std.proofs.Common.{◌≡◌, ◌+◌, [], ap, sym, ◌∙◌, arith, length, true}
 use Rattle.vx_flat.specs.declared.writing.block.Spot.{Spot}
-use Rattle.vx_flat.specs.Building.{Built, with_piece, slots_of}
+use Rattle.vx_flat.specs.Building.{Built, with_piece}
 use Rattle.vx_flat.specs.BuilderView.{built, begun}
 use Rattle.vx_flat.specs.FieldTables.{align}
 use Rattle.vx_flat.specs.Layout.{block_bytes}
 use Rattle.vx_flat.specs.Linking.{loose_block}
 use Rattle.vx_flat.specs.Pieces.{Piece, elements_piece}
-use Rattle.vx_flat.specs.Spots.{spot}
 use Rattle.vx_flat.proofs.Added.{Adds, built_is, opens, end_is, composed, learn_elements}
 use Rattle.vx_flat.proofs.builder.Builder.elements.Goals as goal
 

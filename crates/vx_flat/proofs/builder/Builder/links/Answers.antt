@@ -1,6 +1,6 @@
-use Rattle.std.proofs.Common.{◌≡◌, ◌+◌, ◌*◌, ◌++◌, [], ap, sym, ◌∙◌, arith, length, refl, false, true, subst, ◌∷◌}
+use Rattle.std.proofs.Common.{◌≡◌, ◌+◌, ◌*◌, ◌++◌, [], ap, sym, ◌∙◌, arith, length, true, subst, ◌∷◌}
 use Rattle.vx_flat.specs.declared.writing.block.Spot.{Spot}
-use Rattle.vx_flat.specs.Building.{Built, with_piece, slots_of, failing, IsTooLong, element_slots}
+use Rattle.vx_flat.specs.Building.{Built, with_piece, failing, IsTooLong, element_slots}
 use Rattle.vx_flat.specs.BuilderView.{built, begun}
 use Rattle.vx_flat.specs.FieldTables.{align}
 use Rattle.vx_flat.specs.Layout.{block_bytes}

@@ -1,4 +1,4 @@
-use Rattle.std.proofs.Common.{◌≡◌, ◌++◌, ◌∷◌, [], ◌+◌, ◌*◌, ◌-◌, rules}
+use Rattle.std.proofs.Common.{◌++◌}
 use Rattle.vx_flat.specs.Building.{element_slots}
 use Rattle.vx_flat.proofs.Composing.{elements_next}
 use Rattle.vx_flat.proofs.builder.composing.push_element_slots.Goals as goal

@@ -1,7 +1,5 @@
-use Rattle.std.proofs.Common.{◌≡◌, ◌+◌, ◌*◌, ◌++◌, [], ap, sym, ◌∙◌, append_assoc}
+use Rattle.std.proofs.Common.{◌+◌, ◌*◌, ◌++◌, [], ap, sym, ◌∙◌, append_assoc}
 use Rattle.vx_flat.specs.FieldTables.{le_bytes, zeros}
-use Rattle.vx_flat.specs.Layout.{links_bytes}
-use Rattle.vx_flat.specs.Linking.{firsts}
 use Rattle.vx_flat.proofs.Composing.{links_zero}
 use Rattle.vx_flat.proofs.Loose.{links_length}
 use Rattle.vx_flat.proofs.builder.composing.push_links.Goals as goal

@@ -1,4 +1,4 @@
-use Rattle.std.proofs.Common.{◌≡◌, ◌++◌, ◌∷◌, [], ap, sym, ◌∙◌, refl, Bool}
+use Rattle.std.proofs.Common.{◌++◌, ◌∷◌, [], ap, sym, ◌∙◌, Bool}
 use Rattle.std.specs.Prelude.{if◌then◌else◌}
 use Rattle.vx_flat.proofs.KnownTables.{learned}
 use Rattle.vx_flat.proofs.builder.known.FieldTables.learn.Goals as goal
