@@ -1,5 +1,4 @@
-use Rattle.std.proofs.Common.{◌≡◌, ◌∙◌, [], ◌∷◌, ap, refl}
-use Rattle.vx_flat.specs.Building.{Built, AreLeft, links_of}
+use Rattle.std.proofs.Common.{[], refl}
 use Rattle.vx_flat.specs.Pieces.{table_piece}
 use Rattle.vx_type_wire.proofs.Chains.{begun, ended}
 use Rattle.vx_type_wire.proofs.writing.write_numbers.Goals as goal
