@@ -8,12 +8,12 @@ use Rattle.vx_array_tree.specs.Metadata.{Metadata}
 use Rattle.vx_array_tree.specs.Table.{IsFair}
 use Rattle.vx_wire_tree.specs.Codec.{IsLawful, IsLawfulAt}
 use Rattle.vx_wire_tree.specs.Fields.{FitsMessage}
-use Rattle.vx_wire_tree.specs.Session.{Reader, shipped, IsShipped, IsShippedReader}
+use Rattle.vx_wire_tree.specs.Session.{shipped, IsShipped, IsShippedReader}
 use Rattle.vx_encodings.specs.Messages.{codec}
 use Rattle.vx_encodings.specs.Plain.{plain_encoding}
 use Rattle.vx_encodings.specs.declared.encoding.Encoding.{Encoding}
 use Rattle.vx_encodings.proofs.Laws.{lawful, fair_message}
-use Rattle.vx_registry.specs.Session.{Registry, entry, found, tables_meaning}
+use Rattle.vx_registry.specs.Session.{Registry, entry, tables_meaning}
 
 entry_shipped : (o : Option Encoding) → IsShippedReader (option_map entry o)
 entry_shipped None = tt

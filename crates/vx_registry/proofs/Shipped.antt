@@ -7,7 +7,6 @@ use Rattle.std.proofs.lemmas.Slice.Eq.{bytes_eq-Decides}
 use Rattle.indexmap.specs.IndexMap.{insert_entry}
 use Rattle.vx_encodings.specs.declared.encoding.Encoding.{Encoding}
 use Rattle.vx_encodings.specs.declared.encoding.Encoding.TheVariants.{Null, Primitive}
-use Rattle.vx_types.specs.Known.{ExtMeaning}
 use Rattle.vx_array_tree.specs.Encoding as E
 use Rattle.vx_wire_tree.specs.Session.{Reader, shipped, entry_id, IsReadAgainBy}
 use Rattle.vx_registry.specs.Session.{ArePaired, entry, found, own_id, shipped_encodings, shipped_registry}
@@ -75,6 +74,6 @@ pub tables_paired : (r w : Entries) (n : ℕ) → r ≡ put_in [] (take n shippe
     → ArePaired (record { readers = r; writers = w })
 tables_paired r w n p q h =
     let whole : (m : Entries) → m ≡ put_in [] (take n shipped_encodings) → m ≡ shipped_registry.readers =
-      λ m e. e ∙ ap (λ es. put_in [] es) (take_all n shipped_encodings h) ∙ all_in in
+    λ m e. e ∙ ap (λ es. put_in [] es) (take_all n shipped_encodings h) ∙ all_in in
     subst (λ (z : Entries). ArePaired (record { readers = z; writers = w })) (sym (whole r p))
     (subst (λ (z : Entries). ArePaired (record { readers = shipped_registry.readers; writers = z })) (sym (whole w q)) shipped_paired)

@@ -1,7 +1,7 @@
 -- The tables of a session: which encoding reads an identifier, and which writes the arrays of one.
 use Rattle.std.specs.Prelude.{ℕ, List, [], ◌∷◌, Option, option_map, map, bytes_eq}
 use Rattle.std.specs.Map.{lookup}
-use Rattle.vx_types.specs.Known.{ExtMeaning, no_readers}
+use Rattle.vx_types.specs.Known.{ExtMeaning}
 use Rattle.vx_array_tree.specs.Table.{id_of}
 use Rattle.vx_wire_tree.specs.Session.{Reader, shipped, SessionMeaning, IsPaired}
 use Rattle.vx_encodings.specs.Plain.{plain_encoding}
