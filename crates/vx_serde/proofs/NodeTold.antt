@@ -10,15 +10,14 @@ use Rattle.vx_trees.proofs.Lists.{count-roses_of, roses_of-roses_list, roses_lis
 use Rattle.vx_types.specs.Known.{ExtMeaning}
 use Rattle.vx_types.specs.Typ.{Typ}
 use Rattle.vx_types.specs.Seen.{typ}
-use Rattle.vx_array_tree.specs.Encoding as E
 use Rattle.vx_array_tree.specs.Normal.{IsNormalNode}
 use Rattle.vx_array_tree.specs.Place.{Place}
 use Rattle.vx_array_tree.specs.Sound.{IsSound, IsSoundNode}
-use Rattle.vx_array_tree.specs.Table.{encoding_of, IsShaped, Takes}
+use Rattle.vx_array_tree.specs.Table.{encoding_of, IsShaped}
 use Rattle.vx_array_tree.specs.Tree.{Tree, Trees, places, encodings}
 use Rattle.vx_wire_tree.specs.Causes.{IsOf, AreOf, MayStandFor}
 use Rattle.vx_wire_tree.specs.Codec.{IsLawful}
-use Rattle.vx_wire_tree.specs.Matches.{Matches, AllMatch, IsNodeBy, IsEncodedNode}
+use Rattle.vx_wire_tree.specs.Matches.{Matches, AllMatch, IsNodeBy}
 use Rattle.vx_wire_tree.specs.Placed.{IsChild, HasPlan, IsPlannedBy}
 use Rattle.vx_wire_tree.specs.Session.{SessionMeaning, Reader, shipped}
 use Rattle.vx_wire_tree.specs.Steps.{PlansChildren, HasNoMetadata, HasNoPlan, HasParts, HasWrongShape}
@@ -34,7 +33,6 @@ use Rattle.vx_encodings.specs.declared.encoding.Encoding.{Encoding}
 use Rattle.vx_encodings.specs.declared.error.EncodingError.{EncodingError}
 use Rattle.vx_encodings.specs.declared.error.EncodingError.TheVariants as refusals
 use Rattle.vx_encodings.specs.declared.head.ArrayHead.{ArrayHead}
-use Rattle.vx_registry.specs.Session.{entry}
 use Rattle.vx_serde.specs.declared.error.WireError.{WireError}
 use Rattle.vx_serde.specs.declared.error.WireError.TheVariants.{OutOfMemory, OutOfBounds, UnknownIndex, UnknownEncoding, BadMetadata, BadShape}
 use Rattle.vx_serde.specs.Causes.{IsCausedIn, IsLacking, error_of}
@@ -197,10 +195,10 @@ caused_by_build s refusals.BadShape w d n e h bs ws ps ts read own own_children 
     let same : count (below w) ≡ count ts = sym (all_count codec s (below w) ts matched) in
     let shaped : (IsShaped (plain_encoding e) d n wrong.value bs (count ts) → ⊥) → (cs : List Buffer) → MayStandFor (label w).buffers cs → IsShaped (plain_encoding e) d n wrong.value cs (count (below w)) → ⊥ =
     λ never cs stand fits.
-        let B : List (Option Buffer) → Type 0 = λ os. MayStandFor os cs in
-        let C : List Buffer → Type 0 = λ z. IsShaped (plain_encoding e) d n wrong.value z (count (below w)) in
-        let D : ℕ → Type 0 = λ z. IsShaped (plain_encoding e) d n wrong.value bs z in
-        never (subst D same (subst C (standing bs cs (subst B own stand)) fits))
+    let B : List (Option Buffer) → Type 0 = λ os. MayStandFor os cs in
+    let C : List Buffer → Type 0 = λ z. IsShaped (plain_encoding e) d n wrong.value z (count (below w)) in
+    let D : ℕ → Type 0 = λ z. IsShaped (plain_encoding e) d n wrong.value bs z in
+    never (subst D same (subst C (standing bs cs (subst B own stand)) fits))
     in (
       [],
       record {
@@ -208,7 +206,7 @@ caused_by_build s refusals.BadShape w d n e h bs ws ps ts read own own_children 
         by = own_encoding s w d n e h read;
         value = wrong.value;
         metadata = wrong.metadata;
-        broken = elim wrong.wrong [ | inl never ↦ inr (inl (shaped never)) | inr never ↦ inr (inr (encodings ts, are_of s (below w) ts matched, never)) ];
+        broken = elim wrong.wrong [ inl never ↦ inr (inl (shaped never)) | inr never ↦ inr (inr (encodings ts, are_of s (below w) ts matched, never)) ];
       },
     )
 

@@ -1,6 +1,6 @@
 -- The blob that is written for an array spells it again.
 use Rattle.std.proofs.Common.{ℕ, ◌≡◌, List, Option, Some, None, refl, sym, ap, ◌∙◌, subst}
-use Rattle.vx_trees.specs.Rose.{node, end, more, label, below}
+use Rattle.vx_trees.specs.Rose.{node, end, more, label}
 use Rattle.vx_trees.specs.Everywhere.{EverywhereBelow}
 use Rattle.vx_types.specs.Typ.{Typ}
 use Rattle.vx_array_tree.specs.Encoding.{Encoding}

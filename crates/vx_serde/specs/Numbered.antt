@@ -1,6 +1,5 @@
 -- A wire tree as a message's nodes: identifiers and buffers by number.
 use Rattle.std.specs.Prelude.{ℕ, zero, suc, ◌+◌, List, [], ◌∷◌, Option, Some, None, length}
-use Rattle.vx_buffer.specs.Buffer.{Buffer}
 use Rattle.vx_trees.specs.Rose.{Rose, Roses, node, end, more}
 use Rattle.vx_trees.specs.Walks.{gathered}
 use Rattle.vx_wire_tree.specs.Context.{index_of}

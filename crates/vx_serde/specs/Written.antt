@@ -1,5 +1,5 @@
 -- The bytes that are written for a wire tree.
-use Rattle.std.specs.Prelude.{ℕ, ◌+◌, ◌≤◌, ◌-◌, ◌^◌, List, ◌++◌, length, replicate, false}
+use Rattle.std.specs.Prelude.{ℕ, ◌+◌, ◌≤◌, ◌-◌, ◌^◌, List, ◌++◌, length, replicate}
 use Rattle.std.specs.Int.{w32, to_le_bytes}
 use Rattle.vx_flat.specs.Layout.{written_layout}
 use Rattle.vx_flat.specs.Weight.{weight}

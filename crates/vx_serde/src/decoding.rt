@@ -146,7 +146,14 @@ pub(crate) fn decode(
         Ok(buffers) => buffers,
         Err(e) => return Err(e),
     };
-    match build(alloc, planned.encoding, planned.head, buffers, children, &session.ext) {
+    match build(
+        alloc,
+        planned.encoding,
+        planned.head,
+        buffers,
+        children,
+        &session.ext,
+    ) {
         Ok(array) => Ok(array),
         Err(e) => Err(WireError::from(e)),
     }

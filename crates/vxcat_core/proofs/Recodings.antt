@@ -1,12 +1,16 @@
 -- From what `recode` ensures to what the program promises of its inputs.
-use Rattle.std.proofs.Common.{◌≡◌, ℕ, List, [], None, Result, Ok, Err, IfOk, IfErr, sym, ap, subst, ◌∙◌}
+use Rattle.std.proofs.Common.{◌≡◌, ℕ, Bool, List, [], None, Result, Ok, Err, IfOk, IfErr, Global, sym, ap, subst, ◌∙◌}
+use Rattle.std.specs.declared.dyn_box.DynBox.{DynBox}
 use Rattle.vx_types.specs.Typ.{Typ}
-use Rattle.vx_types.specs.Known.{ExtMeaning}
 use Rattle.vx_type_wire.specs.Known.{IsRead, no_readers}
 use Rattle.vx_type_wire.specs.Shown.{ShowsType}
+use Rattle.vx_type_wire.specs.Session.{ext_meaning}
+use Rattle.vx_type_wire.specs.declared.readers.ExtSession.{ExtSession}
 use Rattle.vx_type_wire.proofs.LawsTypes.{one_type_shown}
 use Rattle.vx_wire_tree.specs.Context.{Context}
 use Rattle.vx_wire_tree.specs.Session.{SessionMeaning}
+use Rattle.vx_registry.specs.declared.session.VortexSession.{VortexSession}
+use Rattle.vx_registry.specs.Meaning.{session_meaning}
 use Rattle.vx_registry.specs.Session.{Registry, tables_meaning, shipped_registry}
 use Rattle.vx_serde.specs.declared.options.SerializeOptions.{SerializeOptions}
 use Rattle.vx_serde.specs.declared.error.WireError.{WireError}
@@ -34,8 +38,9 @@ same_request blob bytes dtype len read_ids ids context session options b i c a r
     λ k. record { blob = b k; dtype = dtype; len = len; ids = i k; context = record { ids = c k; allowed = a k }; options = options; session = r k }
 
 -- The session that the program makes means the shipped encodings, and no readers.
-pub same_session : (arrays : Registry) (readers : ExtMeaning) → arrays ≡ shipped_registry → readers ≡ no_readers → tables_meaning arrays readers ≡ tables_meaning shipped_registry no_readers
-same_session arrays readers a r = λ k. tables_meaning (a k) (r k)
+pub same_session : {X : Type 0} {F : X → Type 0} (accepted : DynBox X Global F → List ℕ → Typ → Bool) (session : VortexSession X F) (arrays : Registry) (ext : ExtSession X F)
+    → session.arrays ≡ arrays → session.ext ≡ ext → arrays ≡ shipped_registry → ext_meaning accepted ext ≡ no_readers → session_meaning accepted session ≡ tables_meaning shipped_registry no_readers
+same_session accepted session arrays ext a e shipped none = λ k. tables_meaning ((a ∙ shipped) k) ((ap (λ x. ext_meaning accepted x) e ∙ none) k)
 
 -- The outputs are what was made.
 pub outputs_made : (asked : Request) (made : Product) (result : Result Outputs Status) → IsRecoded asked made → IsFaithful asked made

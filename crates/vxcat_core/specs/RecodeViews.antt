@@ -1,6 +1,7 @@
 -- What contracts see of the words of a command, and of what the program holds while it runs.
 use Rattle.std.specs.Prelude.{◌≡◌, ℕ, List, [], None, unwrap_or}
 use Rattle.vx_types.specs.Typ.{Typ}
+use Rattle.vx_type_wire.specs.Known.{no_readers}
 use Rattle.vx_registry.specs.Session.{tables_meaning, shipped_registry}
 use Rattle.vx_serde.specs.declared.options.SerializeOptions.{SerializeOptions}
 use Rattle.vx_serde.specs.Causes.{IsCaused}

@@ -1,8 +1,8 @@
 -- How a row's value is printed.
-use Rattle.std.specs.Prelude.{ℕ, Some, None, true, false, List, [], ◌∷◌, ◌++◌, codes}
+use Rattle.std.specs.Prelude.{ℕ, Some, None, true, false, List, [], ◌∷◌, ◌++◌, codes, reverse}
 use Rattle.std.specs.Fmt.{decimal, signed_decimal}
 use Rattle.std.specs.Int.{w16, w32, w64, to_be_bytes}
-use Rattle.std.specs.List.{flat_map, reverse}
+use Rattle.std.specs.List.{flat_map}
 use Rattle.hex.specs.Hex.{encode_lower}
 use Rattle.vx_trees.specs.Rose.{Roses, node, end, more}
 use Rattle.vx_types.specs.Fits.{bare, member}

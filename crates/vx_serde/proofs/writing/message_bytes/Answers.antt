@@ -1,4 +1,4 @@
-use Rattle.std.proofs.Common.{◌≡◌, ◌<◌, ◌^◌, ℕ, List, length, false, sym, ◌∙◌, subst, rules}
+use Rattle.std.proofs.Common.{◌≡◌, ◌<◌, ◌^◌, ℕ, List, length, sym, ◌∙◌, subst, rules}
 use Rattle.vx_flat.specs.Layout.{written_layout}
 use Rattle.vx_flat.specs.Shows.{Shows}
 use Rattle.vx_flat.specs.View.{value as value_of}

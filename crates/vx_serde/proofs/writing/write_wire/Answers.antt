@@ -1,4 +1,4 @@
-use Rattle.std.proofs.Common.{arith, length, false, ◌∙◌, ap}
+use Rattle.std.proofs.Common.{arith, length, ◌∙◌, ap}
 use Rattle.std.proofs.lemmas.Result.{err_from_is_err_and}
 use Rattle.vx_flat.specs.Layout.{written_layout}
 use Rattle.vx_flat.specs.View.{views, value as value_of}
