@@ -3,7 +3,7 @@ use Rattle.vx_types.specs.Seen.{typ}
 use Rattle.vx_type_wire.specs.Session.{ext_meaning}
 use Rattle.vx_registry.specs.Session.{tables_meaning}
 use Rattle.vx_registry.proofs.LawsSessions.{registry_shipped}
-use Rattle.vx_serde.specs.Causes.{IsCaused}
+use Rattle.vx_serde.specs.Causes.{Refuses}
 use Rattle.vx_serde.specs.Recoding.{IsFaithful, IsRecoded, product}
 use Rattle.vx_serde.specs.Request.{CanRecode, Request}
 use Rattle.vxcat_core.proofs.Recodings.{same_request, same_session, outputs_made, memory_refused, memory_status, refused}
@@ -34,7 +34,7 @@ returns-clause-cause g c =
     let session = same_session c.new-session.result.arrays readers (c.new-session.ensures.arrays ∙ c.in-Ok-default.ensures) none in
     let asked = same_request c.args.blob c.in-Ok.buffer.bytes (typ c.args.dtype.now) c.args.len c.args.read_ids c.new-read.result c.empty-ids.result (tables_meaning c.new-session.result.arrays readers) c.args.options.now
     blob c.new-read.ensures c.empty-ids.ensures.ids c.empty-ids.ensures.allowed session in
-    let cause = subst (λ (call : Request). IsCaused call c.in-Err.error) asked c.in-Err.ensures.cause in
+    let cause = subst (λ (call : Request). Refuses call c.in-Err.error) asked c.in-Err.ensures.cause in
     rw c.of_blob.ensures (refused c.in-Err.error _ cause)
 
 pub returns-clause-complete : goal.returns-clause-complete
