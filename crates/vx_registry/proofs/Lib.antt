@@ -1,3 +1,4 @@
 mod Interning
 mod Shipped
 pub mod LawsSessions
+pub mod LawsContexts

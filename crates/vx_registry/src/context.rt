@@ -1,4 +1,4 @@
-ghost use Rattle.std.specs.Prelude.{◌≡◌, ◌≤◌, ◌<◌, [], length, true, false, None, Some, IfOk, IfNone, IfSome, OnErr, option_map, bytes_eq};
+ghost use Rattle.std.specs.Prelude.{◌≡◌, ◌≤◌, ◌<◌, [], ◌∷◌, ◌++◌, length, true, false, None, Some, IfOk, IfNone, IfSome, OnErr, OnOk, option_map, bytes_eq};
 ghost use Rattle.vx_wire_tree.specs.Context.{interned, is_allowed, index_of};
 ghost use Rattle.std.specs.List.{list_any};
 
@@ -74,7 +74,9 @@ impl ArrayContext {
             Some(last) => last,
             None => return Ok(None),
         };
-        let id = id.clone(self.alloc)?;
+        let Ok(id) = id.clone(self.alloc) else {
+            return Err(RegistryError::OutOfMemory);
+        };
         self.ids.insert(id)?;
         Ok(Some(last))
     }
@@ -86,7 +88,7 @@ impl ArrayContext {
     {
         let mut ids = Ids::new(alloc);
         for id in self.ids.iter() {
-            ids.push(id.clone(alloc)?)?;
+            push_copy(alloc, id, &mut ids)?;
         }
         Ok(ids)
     }
@@ -100,6 +102,19 @@ fn is_allowed(allowed: &Option<IndexSet<Id>>, id: &Id) -> bool
     match allowed {
         None => true,
         Some(allowed) => allowed.contains(id),
+    }
+}
+
+// Puts a copy of an identifier last.
+fn push_copy(alloc: Global, id: &Id, ids: &mut Ids) -> Result<(), RegistryError>
+    ensures { OnOk result (ids.new ≡ ids.old ++ id.now ∷ []) }
+{
+    let Ok(id) = id.clone(alloc) else {
+        return Err(RegistryError::OutOfMemory);
+    };
+    match ids.push(id) {
+        Ok(()) => Ok(()),
+        Err(_) => Err(RegistryError::OutOfMemory),
     }
 }
 

@@ -1,7 +1,7 @@
 //! Sessions: what reads and writes arrays, and what reads extension types.
 
 ghost use Rattle.std.specs.Prelude.{◌≡◌, [], Some, IfOk, option_map};
-ghost use Rattle.vx_registry.specs.Session.{entry, found, shipped_registry, ArePaired};
+ghost use Rattle.vx_registry.specs.Session.{entry, found, own_id, shipped_registry, ArePaired};
 
 use crate::error::RegistryError;
 use indexmap::IndexMap;
@@ -47,8 +47,8 @@ impl ArraySession {
         let mut readers = IndexMap::new(alloc);
         let mut writers = IndexMap::new(alloc);
         for encoding in [Encoding::Null, Encoding::Primitive] {
-            readers.insert(Id::new(alloc, encoding.id())?, encoding)?;
-            writers.insert(Id::new(alloc, encoding.id())?, encoding)?;
+            readers.insert(own_id(alloc, encoding)?, encoding)?;
+            writers.insert(own_id(alloc, encoding)?, encoding)?;
         }
         Ok(ArraySession { readers, writers })
     }
@@ -67,6 +67,16 @@ impl ArraySession {
         ensures paired { ArePaired self.now }
     {
         self.writers.get(id).copied()
+    }
+}
+
+// The identifier of an encoding, as a name of its own.
+fn own_id(alloc: Global, encoding: Encoding) -> Result<Id, RegistryError>
+    ensures { IfOk result (λ id. id ≡ own_id encoding) }
+{
+    match Id::new(alloc, encoding.id()) {
+        Ok(id) => Ok(id),
+        Err(_) => Err(RegistryError::OutOfMemory),
     }
 }
 
