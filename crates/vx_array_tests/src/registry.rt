@@ -3,22 +3,18 @@
 use std::alloc::Global;
 use std::test::Fail;
 use vx_encodings::Encoding;
-use vx_registry::{ArrayContext, ArraySession, ReadContext, RegistryError, VortexSession};
+use vx_registry::{ArrayContext, ArraySession, ReadContext, VortexSession};
 use vx_type_wire::ExtSession;
 use vx_types::{Id, Ids, TypeError};
 
 // The number of an identifier in a context that it may come into.
-fn interned(
-    alloc: Global,
-    ctx: &mut ArrayContext,
-    text: &str,
-) -> Result<Option<u16>, RegistryError> {
+fn interned(alloc: Global, ctx: &mut ArrayContext, text: &str) -> Result<Option<u16>, Fail> {
     let id = Id::new(alloc, text)?;
-    ctx.intern(&id)
+    Ok(ctx.intern(&id)?)
 }
 
 // A context that these identifiers came into, numbered by their places.
-fn numbered(alloc: Global, rows: &[(&str, u16)]) -> Result<Option<Ids>, RegistryError> {
+fn numbered(alloc: Global, rows: &[(&str, u16)]) -> Result<Option<Ids>, Fail> {
     let mut ctx = ArrayContext::empty(alloc);
     for (text, place) in rows {
         if interned(alloc, &mut ctx, text)? != Some(*place) {
@@ -77,11 +73,7 @@ fn is_entry(
 }
 
 // Whether the shipped session reads and writes an identifier by this encoding, or by none.
-fn is_shipped_as(
-    alloc: Global,
-    text: &str,
-    encoding: Option<Encoding>,
-) -> Result<bool, RegistryError> {
+fn is_shipped_as(alloc: Global, text: &str, encoding: Option<Encoding>) -> Result<bool, Fail> {
     let arrays = ArraySession::default(alloc)?;
     let session = VortexSession::new(arrays, ExtSession::new(alloc));
     Ok(is_entry(alloc, &session.arrays, text, encoding)?)

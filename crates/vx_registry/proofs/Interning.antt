@@ -5,6 +5,7 @@ use Rattle.std.specs.List.{position_or_len, list_any}
 use Rattle.std.proofs.lemmas.Bool.{lt-ltb}
 use Rattle.std.proofs.lemmas.Slice.Eq.{bytes_eq-Decides}
 use Rattle.std.proofs.lemmas.List.Recursion.{is_position_or_len}
+use Rattle.vx_registry.proofs.LawsContexts.{index_of-absent}
 use Rattle.vx_wire_tree.specs.Context.{Context, is_among, index_of, with_id, with_ids, is_allowed, interned}
 
 -- the two ways to say that a list has an identifier
@@ -22,23 +23,8 @@ list_any-among id (x ∷ xs) = among_at (bytes_eq id x) (list_any (bytes_eq id) 
 
 -- places
 
-within_at : (b : Bool) (p n : ℕ) → p ≤ n → cond b 0 (suc p) ≤ suc n
-within_at true p n h = omega arith
-within_at false p n h = omega (arith, h)
-
-index_of-within : (id : List ℕ) (ids : List (List ℕ)) → index_of id ids ≤ length ids
-index_of-within id [] = omega arith
-index_of-within id (x ∷ xs) = within_at (bytes_eq id x) (index_of id xs) (length xs) (index_of-within id xs)
-
-not_below : (n m : ℕ) → nat_lt n m ≡ false → m ≤ n
-not_below n m e = grind (arith, e)
-
 past : (n m : ℕ) → m ≤ n → nat_lt n m ≡ false
 past n m h = grind arith
-
--- an identifier that a list has not has its place at the end
-pub index_of-absent : (id : List ℕ) (ids : List (List ℕ)) → is_among id ids ≡ false → index_of id ids ≡ length ids
-index_of-absent id ids e = omega (arith, not_below (index_of id ids) (length ids) e, index_of-within id ids)
 
 some_is : (b : Bool) (n i : ℕ) → cond b (Some n) None ≡ Some i → n ≡ i
 some_is true n i e = cc

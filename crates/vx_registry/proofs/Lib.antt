@@ -2,3 +2,4 @@ mod Interning
 mod Pairing
 mod Shipped
 pub mod LawsSessions
+pub mod LawsContexts

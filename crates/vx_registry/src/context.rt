@@ -1,8 +1,9 @@
-ghost use Rattle.std.specs.Prelude.{◌≡◌, ◌≤◌, ◌<◌, [], length, true, false, None, Some, IfOk, IfNone, IfSome, OnErr, IsOkUnless, option_map, bytes_eq};
+ghost use Rattle.std.specs.Prelude.{◌≡◌, ◌≤◌, ◌<◌, [], ◌∷◌, ◌++◌, length, true, false, None, Some, IfOk, IfNone, IfSome, OnErr, OnOk, IsOkUnless, option_map, bytes_eq};
 ghost use Rattle.vx_wire_tree.specs.Context.{interned, is_allowed, index_of, with_ids};
 ghost use Rattle.std.specs.List.{list_any};
 
 use crate::error::RegistryError;
+use crate::named::named;
 use indexmap::IndexSet;
 use std::alloc::Global;
 use std::marker::Model;
@@ -97,7 +98,7 @@ impl ArrayContext {
             Some(last) => last,
             None => return Ok(None),
         };
-        let id = id.clone(self.alloc)?;
+        let id = named(self.alloc, id.as_str())?;
         self.ids.insert(id)?;
         Ok(Some(last))
     }
@@ -109,7 +110,7 @@ impl ArrayContext {
     {
         let mut ids = Ids::new(alloc);
         for id in self.ids.iter() {
-            ids.push(id.clone(alloc)?)?;
+            push_copy(alloc, id, &mut ids)?;
         }
         Ok(ids)
     }
@@ -122,7 +123,7 @@ fn set_of(alloc: Global, ids: &Ids) -> Result<IndexSet<Id>, RegistryError>
 {
     let mut set = IndexSet::new(alloc);
     for id in ids.as_slice() {
-        set.insert(id.clone(alloc)?)?;
+        set.insert(named(alloc, id.as_str())?)?;
     }
     Ok(set)
 }
@@ -135,6 +136,18 @@ fn is_allowed(allowed: &Option<IndexSet<Id>>, id: &Id) -> bool
     match allowed {
         None => true,
         Some(allowed) => allowed.contains(id),
+    }
+}
+
+// Puts a copy of an identifier last.
+fn push_copy(alloc: Global, id: &Id, ids: &mut Ids) -> Result<(), RegistryError>
+    ensures ok { OnOk result (ids.new ≡ ids.old ++ id.now ∷ []) }
+    ensures err { IsOkUnless result RegistryError.OutOfMemory }
+{
+    let id = named(alloc, id.as_str())?;
+    match ids.push(id) {
+        Ok(()) => Ok(()),
+        Err(_) => Err(RegistryError::OutOfMemory),
     }
 }
 

@@ -3,7 +3,6 @@ ghost use Rattle.vx_registry.specs.declared.error.RegistryError.TheVariants.{Out
 
 use std::alloc::{AllocError, AllocFailed};
 use thiserror::Error;
-use vx_types::TypeError;
 
 /// Why a call on sessions and contexts was refused.
 #[derive(Clone, Copy, Debug, PartialEq, Eq, Error)]
@@ -28,14 +27,6 @@ impl<T: Drop> From<AllocFailed<T>> for RegistryError {
     ghost from_gives = { λ _ e. e ≡ OutOfMemory };
 
     fn from(_: AllocFailed<T>) -> RegistryError {
-        RegistryError::OutOfMemory
-    }
-}
-
-impl From<TypeError> for RegistryError {
-    ghost from_gives = { λ _ e. e ≡ OutOfMemory };
-
-    fn from(_: TypeError) -> RegistryError {
         RegistryError::OutOfMemory
     }
 }

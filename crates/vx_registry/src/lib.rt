@@ -3,6 +3,7 @@
 
 mod context;
 mod error;
+mod named;
 mod read;
 mod serialization;
 mod session;

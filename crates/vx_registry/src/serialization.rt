@@ -7,6 +7,7 @@ ghost use Rattle.vx_array_tree.specs.Table.{buffers_of};
 ghost use Rattle.vx_registry.specs.Serialization.{HasPartsOf};
 
 use crate::error::RegistryError;
+use crate::named::named;
 use std::alloc::Global;
 use vx_arrays::{Array, Arrays};
 use vx_buffer::BufferHandles;
@@ -53,7 +54,7 @@ impl ArraySerialization {
         ensures parts { IfOk result (HasPartsOf array.now) }
         ensures err { IsOkUnless result RegistryError.OutOfMemory }
     {
-        let serialized_id = Id::new(alloc, array.encoding_id())?;
+        let serialized_id = named(alloc, array.encoding_id())?;
         let metadata = match metadata(alloc, array) {
             Ok(metadata) => metadata,
             Err(_) => return Err(RegistryError::OutOfMemory),
@@ -71,8 +72,11 @@ impl ArraySerialization {
         ensures children { IfOk result (λ s. s.children ≡ self.now.children) }
         ensures err { IsOkUnless result RegistryError.OutOfMemory }
     {
-        let serialized_id = self.serialized_id.clone(alloc)?;
-        let metadata = self.metadata.clone(alloc)?;
+        let serialized_id = named(alloc, self.serialized_id.as_str())?;
+        let metadata = match self.metadata.clone(alloc) {
+            Ok(metadata) => metadata,
+            Err(_) => return Err(RegistryError::OutOfMemory),
+        };
         let buffers = match self.buffers.clone(alloc) {
             Ok(buffers) => buffers,
             Err(_) => return Err(RegistryError::OutOfMemory),

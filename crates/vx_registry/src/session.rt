@@ -6,6 +6,7 @@ ghost use Rattle.vx_registry.specs.Serialization.{HasPartsOf, array_id};
 ghost use Rattle.vx_registry.specs.Session.{encoding_in, entry, found, found_with, registered, shipped_registry, ArePaired};
 
 use crate::error::RegistryError;
+use crate::named::named;
 use crate::serialization::ArraySerialization;
 use indexmap::IndexMap;
 use std::alloc::{AllocFailed, Global};
@@ -90,8 +91,8 @@ impl ArraySession {
         ensures unchanged { OnErr result (self.new ≡ self.old) }
         ensures err { IsOkUnless result RegistryError.OutOfMemory }
     {
-        let read = Id::new(self.alloc, encoding.id())?;
-        let written = read.clone(self.alloc)?;
+        let read = named(self.alloc, encoding.id())?;
+        let written = named(self.alloc, encoding.id())?;
         self.readers.reserve(1)?;
         self.writers.reserve(1)?;
         let Ok(_) = self.readers.insert(read, encoding) else {
@@ -164,7 +165,7 @@ impl VortexSession {
         ensures registered { OnOk result (IsSome (found self.now.arrays.writers (array_id array.now))) }
         ensures cause { IfErr result (λ e. e ≡ RegistryError.NotRegistered → found self.now.arrays.writers (array_id array.now) ≡ None) }
     {
-        let id = Id::new(alloc, array.encoding_id())?;
+        let id = named(alloc, array.encoding_id())?;
         match self.arrays.writer(&id) {
             Some(_) => Ok(Some(ArraySerialization::from_array(alloc, array)?)),
             None => Err(RegistryError::NotRegistered),

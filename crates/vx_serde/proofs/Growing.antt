@@ -2,8 +2,7 @@
 use Rattle.std.specs.Prelude.{ℕ, zero, suc, ◌≡◌, ◌<◌, Bool, true, false, ◌&&◌, List, [], ◌∷◌, ◌++◌, Option, Some, None, length, nat_lt, bytes_eq, if◌then◌else◌, All, Contains, refl}
 use Rattle.std.proofs.Common.{arith, sym, ◌∙◌, ap, get_or, append_assoc, append-nil}
 use Rattle.std.proofs.lemmas.List.Elements.{All-append, Contains-append_left, Contains-append_right}
-use Rattle.std.proofs.lemmas.Bool.{ltb-true}
-use Rattle.std.proofs.lemmas.Slice.Eq.{bytes_eq-Decides}
+use Rattle.vx_registry.proofs.LawsContexts.{index_of-among, index_of-last}
 use Rattle.vx_wire_tree.specs.Context.{Context, index_of, with_id, is_allowed, interned, stepped, grown_by}
 use Rattle.vx_serde.specs.KeptContext.{KeepsContext}
 
@@ -71,20 +70,12 @@ pub index_of-more : (id : List ℕ) (ids more : List (List ℕ)) → index_of id
 index_of-more id [] more h = absurd (omega (arith, h))
 index_of-more id (other ∷ ids) more h = same-step (bytes_eq id other) (index_of id ids) (index_of id (ids ++ more)) (length ids) h (λ g. index_of-more id ids more g)
 
-within-step : (b : Bool) (p n : ℕ) → p < n → (if b then 0 else suc p) < suc n
-within-step true p n h = omega arith
-within-step false p n h = omega (arith, h)
-
-end-place : (id : List ℕ) (ids : List (List ℕ)) → index_of id (ids ++ id ∷ []) < length (ids ++ id ∷ [])
-end-place id [] = rw ((bytes_eq-Decides id id).1 refl) (omega arith)
-end-place id (other ∷ ids) = within-step (bytes_eq id other) (index_of id (ids ++ id ∷ [])) (length (ids ++ id ∷ [])) (end-place id ids)
-
 either-place : (id : List ℕ) (ids : List (List ℕ)) (b : Bool) → (b ≡ true → index_of id ids < length ids) → index_of id (if b then ids else ids ++ id ∷ []) < length (if b then ids else ids ++ id ∷ [])
 either-place id ids true f = f refl
-either-place id ids false f = end-place id ids
+either-place id ids false f = index_of-last id ids
 
 with_id-place : (id : List ℕ) (ids : List (List ℕ)) → index_of id (with_id id ids) < length (with_id id ids)
-with_id-place id ids = either-place id ids (nat_lt (index_of id ids) (length ids)) (λ e. ltb-true (index_of id ids) (length ids) e)
+with_id-place id ids = either-place id ids (nat_lt (index_of id ids) (length ids)) (λ e. index_of-among id ids e)
 
 -- ---- one identifier that is taken
 

@@ -2,10 +2,11 @@
 use Rattle.std.proofs.Common.{ℕ, suc, ◌≡◌, ◌<◌, ◌≤◌, Bool, true, false, List, [], ◌∷◌, ◌++◌, Option, Some, None, length, refl, sym, ap, ◌∙◌, subst, arith, append_assoc, append-nil, length-append}
 use Rattle.std.specs.Prelude.{All, slice_get, bytes_eq, nat_lt, ◌&&◌, if◌then◌else◌}
 use Rattle.std.proofs.lemmas.List.Elements.{All-nil, All-cons, All-weaker}
-use Rattle.std.proofs.lemmas.Bool.{ltb-true, ltb-false}
+use Rattle.std.proofs.lemmas.Bool.{ltb-true}
 use Rattle.std.proofs.lemmas.Option.{slice_get_within, cond_some}
 use Rattle.std.proofs.lemmas.Slice.Eq.{bytes_eq-Decides}
 use Rattle.vx_wire_tree.specs.Context.{Context, is_among, index_of, with_id, is_allowed, interned, stepped, grown_by}
+use Rattle.vx_registry.proofs.LawsContexts.{index_of-among, index_of-absent, index_of-last}
 use Rattle.vx_serde.proofs.Growing.{index_of-more}
 use Rattle.vx_serde.proofs.NumberedRead.{IsPlaced}
 
@@ -32,26 +33,6 @@ placed-more id ids rest h =
 
 -- ---- a list with an identifier
 
-among-within : (id : List ℕ) (ids : List (List ℕ)) → is_among id ids ≡ true → index_of id ids < length ids
-among-within id ids h = ltb-true (index_of id ids) (length ids) h
-
-last-within : (id : List ℕ) (ids : List (List ℕ)) → index_of id (ids ++ id ∷ []) < length (ids ++ id ∷ [])
-last-within id [] = rw ((bytes_eq-Decides id id).1 refl) (omega arith)
-last-within id (other ∷ ids) = at (bytes_eq id other) (index_of id (ids ++ id ∷ [])) (length (ids ++ id ∷ [])) (last-within id ids) where
-  at : (b : Bool) (p n : ℕ) → p < n → (if b then 0 else suc p) < suc n
-  at true p n h = omega arith
-  at false p n h = omega (arith, h)
-
-place-bounded : (id : List ℕ) (ids : List (List ℕ)) → index_of id ids ≤ length ids
-place-bounded id [] = omega arith
-place-bounded id (other ∷ ids) = at (bytes_eq id other) (index_of id ids) (length ids) (place-bounded id ids) where
-  at : (b : Bool) (p n : ℕ) → p ≤ n → (if b then 0 else suc p) ≤ suc n
-  at true p n h = omega arith
-  at false p n h = omega (arith, h)
-
-absent-place : (id : List ℕ) (ids : List (List ℕ)) → is_among id ids ≡ false → index_of id ids ≡ length ids
-absent-place id ids h = omega (arith, ltb-false (index_of id ids) (length ids) h, place-bounded id ids)
-
 -- What an identifier's coming makes of a list: more may stand behind what was there, and the identifier has its place.
 record Comes (ids new : List (List ℕ)) (id : List ℕ) : Type 0 where
   pub rest : List (List ℕ)
@@ -59,13 +40,13 @@ record Comes (ids new : List (List ℕ)) (id : List ℕ) : Type 0 where
   pub placed : IsPlaced new id
 
 comes : (ids : List (List ℕ)) (id : List ℕ) → index_of id ids < 65536 → Comes ids (with_id id ids) id
-comes ids id fits = at (is_among id ids) (λ e. among-within id ids e) (λ e. absent-place id ids e) where
+comes ids id fits = at (is_among id ids) (λ e. index_of-among id ids e) (λ e. index_of-absent id ids e) where
   at : (b : Bool) → (b ≡ true → index_of id ids < length ids) → (b ≡ false → index_of id ids ≡ length ids) → Comes ids (if b then ids else ids ++ id ∷ []) id
   at true f g = record { rest = []; front = sym (append-nil ids); placed = record { stands = stands-within id ids (f refl); fits = fits } }
   at false f g = record {
     rest = id ∷ [];
     front = refl;
-    placed = record { stands = stands-within id (ids ++ id ∷ []) (last-within id ids); fits = omega (arith, last-within id ids, length-append ids (id ∷ []), g refl, fits) };
+    placed = record { stands = stands-within id (ids ++ id ∷ []) (index_of-last id ids); fits = omega (arith, index_of-last id ids, length-append ids (id ∷ []), g refl, fits) };
   }
 
 -- ---- contexts

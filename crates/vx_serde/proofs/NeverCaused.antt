@@ -20,15 +20,15 @@ use Rattle.vx_serde.specs.declared.error.WireError.TheVariants.{OutOfMemory, Too
 use Rattle.vx_serde.specs.ArraySchema.{array_schema}
 use Rattle.vx_serde.specs.Message.{Descriptor, message_of}
 use Rattle.vx_serde.specs.Blob.{IsBlob, AreClean}
-use Rattle.vx_serde.specs.Opening.{IsTooShort, AreRefused, HasRefusedDescriptors, ShowsNoRoot}
-use Rattle.vx_serde.specs.Causes.{IsCaused, IsCausedIn, IsCausedBelow, SpellsOne}
+use Rattle.vx_serde.specs.Opening.{IsTooShort, RefusesDescriptors, HasRefusedDescriptors, ShowsNoRoot}
+use Rattle.vx_serde.specs.Causes.{Refuses, RefusesWire, RefusesCarried, SpellsOne}
 use Rattle.vx_serde.specs.Spells.{KeepsReaderLimits, KeepsWriterLimits}
 use Rattle.vx_serde.specs.Request.{Request, IsSpelled, CanRecode}
 use Rattle.vx_serde.proofs.OneArray.{spelled_once}
 use Rattle.vx_serde.proofs.CarriedOnce.{one_blob, carried_once, backs}
 
 -- No node of a wire tree that tells an array is refused.
-never_caused_in : (s : SessionMeaning) → IsShipped s → IsLawful codec s → (x : WireError) (w : Wire) (d : Typ) (n : ℕ) (t : Tree) → Tells codec s w d n t → IsCausedIn s x w d n → x ≡ OutOfMemory
+never_caused_in : (s : SessionMeaning) → IsShipped s → IsLawful codec s → (x : WireError) (w : Wire) (d : Typ) (n : ℕ) (t : Tree) → Tells codec s w d n t → RefusesWire s x w d n → x ≡ OutOfMemory
 never_caused_in s ok law OutOfMemory w d n t told c = refl
 never_caused_in s ok law OutOfBounds w d n t told c = absurd (never_refused codec s ok law trees.out_of_bounds w d n t told c)
 never_caused_in s ok law UnknownIndex w d n t told c = absurd (never_refused codec s ok law trees.unknown_index w d n t told c)
@@ -48,7 +48,7 @@ not_short blob segment message is (inr h) =
     let word = ap (λ z. from_le_bytes w32 z) (backs (segment ++ message) is.word h.0 h.1 same words) in
     omega (arith, h.4, word, is.message_len, ap (λ z. length z) same, length-append (segment ++ message) is.word, length-append h.0 h.1, length-append segment message, words)
 
-not_refused : (x : WireError) (segment : List ℕ) (ds : List Descriptor) → AreClean segment ds → AreRefused x segment ds → x ≡ OutOfMemory
+not_refused : (x : WireError) (segment : List ℕ) (ds : List Descriptor) → AreClean segment ds → RefusesDescriptors x segment ds → x ≡ OutOfMemory
 not_refused OutOfMemory segment ds clean r = refl
 not_refused BadAlignment segment ds clean r = absurd (omega (arith, clean.aligned r.0 r.1 r.2, ap (λ d. d.exponent) r.3, r.4))
 not_refused Compressed segment ds clean r = absurd (omega (arith, clean.plain r.0 r.1 r.2, ap (λ d. d.compression) r.3, r.4))
@@ -66,8 +66,8 @@ module _ (asked : Request) (ok : IsShipped asked.session) (law : IsLawful codec 
   not_described : (x : WireError) → HasRefusedDescriptors x asked.blob → x ≡ OutOfMemory
   not_described x h =
       let same = same_value_of h.segment h.message h.value h.blob_is h.shows in
-      let A : List ℕ → Type 0 = λ z. AreRefused x z (message_of h.value).descriptors in
-      let B : Fields → Type 0 = λ z. AreRefused x spelled.carried.segment (message_of z).descriptors in
+      let A : List ℕ → Type 0 = λ z. RefusesDescriptors x z (message_of h.value).descriptors in
+      let B : Fields → Type 0 = λ z. RefusesDescriptors x spelled.carried.segment (message_of z).descriptors in
       not_refused x spelled.carried.segment (message_of spelled.carried.value).descriptors spelled.clean (subst B same.1 (subst A same.0 h.refused))
 
   not_rootless : ShowsNoRoot asked.blob → ⊥
@@ -77,10 +77,10 @@ module _ (asked : Request) (ok : IsShipped asked.session) (law : IsLawful codec 
       let P : List ℕ → Type 0 = λ m. Shows array_schema m k.value in
       h.none k.value k.root (subst P parts.1 k.shows) k.root_is
 
-  never_below : (x : WireError) → IsCausedBelow asked x → x ≡ OutOfMemory
+  never_below : (x : WireError) → RefusesCarried asked x → x ≡ OutOfMemory
   never_below x h =
       let same = (carried_once asked.blob asked.ids h.wire spelled.wire h.carried spelled.carried).tree in
-      let P : Wire → Type 0 = λ z. IsCausedIn asked.session x z asked.dtype asked.len in
+      let P : Wire → Type 0 = λ z. RefusesWire asked.session x z asked.dtype asked.len in
       never_caused_in asked.session ok law x spelled.wire asked.dtype asked.len t spelled.told (subst P same h.cause)
 
   not_this : (P : Tree → Type 0) → (P t → ⊥) → SpellsOne asked P → ⊥
@@ -90,7 +90,7 @@ module _ (asked : Request) (ok : IsShipped asked.session) (law : IsLawful codec 
   is_grown (Some d) some e = absurd (cc)
   is_grown None some e = absurd (cc)
 
-  pub never_caused : KeepsReaderLimits asked.options asked.blob → KeepsWriterLimits asked.session t asked.context asked.options → IsSome (grown codec asked.session asked.context t) → (x : WireError) → IsCaused asked x → x ≡ OutOfMemory
+  pub never_caused : KeepsReaderLimits asked.options asked.blob → KeepsWriterLimits asked.session t asked.context asked.options → IsSome (grown codec asked.session asked.context t) → (x : WireError) → Refuses asked x → x ≡ OutOfMemory
   never_caused light fits grows OutOfMemory h = refl
   never_caused light fits grows TooShort h = absurd (not_short asked.blob spelled.carried.segment spelled.carried.message spelled.carried.blob_is h)
   never_caused light fits grows BadTable h = absurd (not_rootless h)
@@ -107,5 +107,5 @@ module _ (asked : Request) (ok : IsShipped asked.session) (law : IsLawful codec 
   never_caused light fits grows WireLimit h = absurd (not_this (λ u. KeepsWriterLimits asked.session u asked.context asked.options → ⊥) (λ never. never fits) h)
 
 -- Where what is asked can be done, no refusal but want of memory has a cause.
-pub memory_alone : (asked : Request) → IsShipped asked.session → IsLawful codec asked.session → (e : WireError) → CanRecode asked → IsCaused asked e → e ≡ OutOfMemory
+pub memory_alone : (asked : Request) → IsShipped asked.session → IsLawful codec asked.session → (e : WireError) → CanRecode asked → Refuses asked e → e ≡ OutOfMemory
 memory_alone asked ok law e can cause = never_caused asked ok law can.array can.spelled can.reader_limits can.writer_limits can.grows e cause

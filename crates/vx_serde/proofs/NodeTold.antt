@@ -35,7 +35,8 @@ use Rattle.vx_encodings.specs.declared.error.EncodingError.TheVariants as refusa
 use Rattle.vx_encodings.specs.declared.head.ArrayHead.{ArrayHead}
 use Rattle.vx_serde.specs.declared.error.WireError.{WireError}
 use Rattle.vx_serde.specs.declared.error.WireError.TheVariants.{OutOfMemory, OutOfBounds, UnknownIndex, UnknownEncoding, BadMetadata, BadShape}
-use Rattle.vx_serde.specs.Causes.{IsCausedIn, IsLacking, error_of}
+use Rattle.vx_serde.specs.Causes.{RefusesWire}
+use Rattle.vx_serde.specs.ReadingSteps.{RefusesBuffers, encoding_refusal}
 use Rattle.vx_serde.specs.Decoding.{IsHeadOf, IsNodeOf, AllTell}
 
 -- ---- children, one by one
@@ -106,7 +107,7 @@ get_past (x ∷ xs) (suc i) h g = get_past xs i (omega (arith, h)) g
 -- ---- causes
 
 -- a child's cause is its parent's
-caused_above : (s : SessionMeaning) (x : WireError) (w : Wire) (d : Typ) (n : ℕ) (i : ℕ) (v : Wire) (p : Place) → IsChild codec s w d n i v p → IsCausedIn s x v p.dtype p.len → IsCausedIn s x w d n
+caused_above : (s : SessionMeaning) (x : WireError) (w : Wire) (d : Typ) (n : ℕ) (i : ℕ) (v : Wire) (p : Place) → IsChild codec s w d n i v p → RefusesWire s x v p.dtype p.len → RefusesWire s x w d n
 caused_above s OutOfMemory w d n i v p child c = tt
 caused_above s OutOfBounds w d n i v p child c = (i ∷ c.0, (v, child.child, c.1))
 caused_above s UnknownIndex w d n i v p child c = (i ∷ c.0, (v, child.child, c.1))
@@ -117,19 +118,19 @@ caused_above s _ w d n i v p child c = absurd c
 
 -- and so is that of the child that stands at a place of a list
 pub caused_by_child : (s : SessionMeaning) (x : WireError) (w : Wire) (d : Typ) (n : ℕ) (ws : List Wire) (ps : List Place) (i : ℕ) (v : Wire) (p : Place) → HasPlan codec s w d n ps → roses_of ws ≡ below w
-    → slice_get ws i ≡ Some v → slice_get ps i ≡ Some p → IsCausedIn s x v p.dtype p.len → IsCausedIn s x w d n
+    → slice_get ws i ≡ Some v → slice_get ps i ≡ Some p → RefusesWire s x v p.dtype p.len → RefusesWire s x w d n
 caused_by_child s x w d n ws ps i v p plan e g f c =
     let child : slice_get (roses_list (below w)) i ≡ Some v = ap (λ z. slice_get z i) (ap (λ z. roses_list z) (sym e) ∙ roses_list-roses_of ws) ∙ g in
     caused_above s x w d n i v p (record { places = ps; planned = plan; child = child; place = f }) c
 
 -- a missing buffer
-pub caused_by_buffers : (s : SessionMeaning) (x : WireError) (w : Wire) (d : Typ) (n : ℕ) → IsLacking x (label w).buffers → IsCausedIn s x w d n
+pub caused_by_buffers : (s : SessionMeaning) (x : WireError) (w : Wire) (d : Typ) (n : ℕ) → RefusesBuffers x (label w).buffers → RefusesWire s x w d n
 caused_by_buffers s OutOfMemory w d n c = tt
 caused_by_buffers s OutOfBounds w d n c = ([], c)
 caused_by_buffers s _ w d n c = absurd c
 
 -- nothing reads the node
-pub caused_by_reader : (s : SessionMeaning) (w : Wire) (d : Typ) (n : ℕ) (id : List ℕ) → (label w).id ≡ Some id → s.reader id ≡ None → IsCausedIn s UnknownEncoding w d n
+pub caused_by_reader : (s : SessionMeaning) (w : Wire) (d : Typ) (n : ℕ) (id : List ℕ) → (label w).id ≡ Some id → s.reader id ≡ None → RefusesWire s UnknownEncoding w d n
 caused_by_reader s w d n id i r = ([], record { id = id; id_is = i; reader_is = r })
 
 -- ---- what is told of a node
@@ -155,7 +156,7 @@ planned s w d n e h ps read plan =
       planned = subst P (sym read.reader_is) (at_node (λ f m b k. PlansChildren codec s.ext (plain_encoding e) f m b k ps) h w d n read.head plan);
     }
 
-pub caused_by_plan : (s : SessionMeaning) (x : EncodingError) (w : Wire) (d : Typ) (n : ℕ) (e : Encoding) (h : ArrayHead) → IsNodeOf s w d n e h → IsUnplanned x s.ext e h → IsCausedIn s (error_of x) w d n
+pub caused_by_plan : (s : SessionMeaning) (x : EncodingError) (w : Wire) (d : Typ) (n : ℕ) (e : Encoding) (h : ArrayHead) → IsNodeOf s w d n e h → IsUnplanned x s.ext e h → RefusesWire s (encoding_refusal x) w d n
 caused_by_plan s refusals.OutOfMemory w d n e h read c = tt
 caused_by_plan s refusals.BadMetadata w d n e h read c =
     ([], record { encoding = plain_encoding e; by = own_encoding s w d n e h read; none = at_node (λ f m b k. HasNoMetadata codec s.ext (plain_encoding e) f b) h w d n read.head c })
@@ -185,7 +186,7 @@ are_of s (more w ws) end m = absurd m
 are_of s (more w ws) (more t ts) m = (is_of s w t m.0, are_of s ws ts m.1)
 
 pub caused_by_build : (s : SessionMeaning) (x : EncodingError) (w : Wire) (d : Typ) (n : ℕ) (e : Encoding) (h : ArrayHead) (bs : List Buffer) (ws : List Wire) (ps : List Place) (ts : Trees) → IsNodeOf s w d n e h
-    → (label w).buffers ≡ all_present bs → roses_of ws ≡ below w → AllTell s (roses_of ws) ps ts → IsUnbuilt x s.ext e h bs ts → IsCausedIn s (error_of x) w d n
+    → (label w).buffers ≡ all_present bs → roses_of ws ≡ below w → AllTell s (roses_of ws) ps ts → IsUnbuilt x s.ext e h bs ts → RefusesWire s (encoding_refusal x) w d n
 caused_by_build s refusals.OutOfMemory w d n e h bs ws ps ts read own own_children told c = tt
 caused_by_build s refusals.BadMetadata w d n e h bs ws ps ts read own own_children told c = absurd c
 caused_by_build s refusals.BadShape w d n e h bs ws ps ts read own own_children told c =

@@ -21,13 +21,15 @@ use Rattle.vx_serde.specs.Aligned.{IsAlignedBlob}
 use Rattle.vx_serde.specs.ArraySchema.{array_schema}
 use Rattle.vx_serde.specs.Blob.{Carries}
 use Rattle.vx_serde.specs.Limits.{message_limits}
-use Rattle.vx_serde.specs.Opening.{IsOpened}
+use Rattle.vx_serde.specs.Opening.{RefusesOpening}
+use Rattle.vx_serde.specs.ReadingSteps.{IsOpened}
 use Rattle.vx_serde.specs.Written.{IsWritable}
 use Rattle.vx_serde.specs.KeptContext.{KeepsContext}
-use Rattle.vx_serde.specs.Unwritten.{IsUnwritten}
-use Rattle.vx_serde.specs.WrittenBuffers.{joined, written_buffers}
+use Rattle.vx_serde.specs.WritingSteps.{RefusesWriting}
+use Rattle.vx_buffer.specs.Joined.{joined}
+use Rattle.vx_serde.specs.WrittenBuffers.{written_buffers}
 use Rattle.vx_serde.specs.Spells.{Spells, KeepsReaderLimits, KeepsWriterLimits, blob_of, blob_buffers, ids_after}
-use Rattle.vx_serde.specs.Causes.{IsCaused, IsCausedIn, IsBlobUnopened}
+use Rattle.vx_serde.specs.Causes.{Refuses, RefusesWire}
 use Rattle.vx_serde.specs.Request.{Request, IsSpelled}
 use Rattle.vx_serde.specs.Recoding.{Product, IsRecoded, IsFaithful, LeavesContext}
 use Rattle.vx_serde.proofs.CarriedOnce.{one_blob}
@@ -126,7 +128,7 @@ left-written asked ok law t w after own spelled keeps = record {
 -- ---- causes
 
 -- A blob that is not opened.
-pub caused_by_blob : (asked : Request) (e : WireError) → IsBlobUnopened asked e → IsCaused asked e
+pub caused_by_blob : (asked : Request) (e : WireError) → RefusesOpening (message_limits asked.options) e asked.blob → Refuses asked e
 caused_by_blob asked OutOfMemory u = tt
 caused_by_blob asked TooShort u = u
 caused_by_blob asked BadTable u = u
@@ -137,7 +139,7 @@ caused_by_blob asked OutOfBounds u = inl u
 caused_by_blob asked _ u = absurd u
 
 -- A wire tree that tells no array.
-pub caused_by_tree : (asked : Request) (e : WireError) (w : Wire) → Carries asked.blob asked.ids w → IsCausedIn asked.session e w asked.dtype asked.len → IsCaused asked e
+pub caused_by_tree : (asked : Request) (e : WireError) (w : Wire) → Carries asked.blob asked.ids w → RefusesWire asked.session e w asked.dtype asked.len → Refuses asked e
 caused_by_tree asked OutOfMemory w carried u = tt
 caused_by_tree asked OutOfBounds w carried u = inr (record { wire = w; carried = carried; cause = u })
 caused_by_tree asked UnknownIndex w carried u = record { wire = w; carried = carried; cause = u }
@@ -146,14 +148,14 @@ caused_by_tree asked BadMetadata w carried u = record { wire = w; carried = carr
 caused_by_tree asked BadShape w carried u = record { wire = w; carried = carried; cause = u }
 caused_by_tree asked _ w carried u = absurd u
 
-caused_by_limits : (asked : Request) (e : WireError) (t : Tree) → IsSpelled asked t → IsUnwritten asked.context asked.options (wire codec asked.session t) e → IsCaused asked e
+caused_by_limits : (asked : Request) (e : WireError) (t : Tree) → IsSpelled asked t → RefusesWriting asked.context asked.options (wire codec asked.session t) e → Refuses asked e
 caused_by_limits asked OutOfMemory t x u = tt
 caused_by_limits asked NotPermitted t x u = record { array = t; spelled = x; holds = u }
 caused_by_limits asked WireLimit t x u = record { array = t; spelled = x; holds = λ k. u k.writable }
 caused_by_limits asked _ t x u = absurd u
 
 -- An array that is not written.
-pub caused_by_writing : (asked : Request) (e : WireError) (w : Wire) (t : Tree) → w ≡ wire codec asked.session t → IsSpelled asked t → IsUnwritten asked.context asked.options w e → IsCaused asked e
+pub caused_by_writing : (asked : Request) (e : WireError) (w : Wire) (t : Tree) → w ≡ wire codec asked.session t → IsSpelled asked t → RefusesWriting asked.context asked.options w e → Refuses asked e
 caused_by_writing asked e w t own x u =
-    let P : Wire → Type 0 = λ z. IsUnwritten asked.context asked.options z e in
+    let P : Wire → Type 0 = λ z. RefusesWriting asked.context asked.options z e in
     caused_by_limits asked e t x (subst P own u)

@@ -21,9 +21,10 @@ use Rattle.vx_wire_tree.specs.Wire.{ids_in, buffers_in, Wire}
 use Rattle.vx_serde.specs.Numbered.{numbered}
 use Rattle.vx_serde.specs.Placing.{pad, descriptors_from, data_from, data_end}
 use Rattle.vx_serde.proofs.GrownIds.{grown_by-ids}
-use Rattle.vx_serde.specs.Unwritten.{IsUnwritten, KeepsTreeLimits, IsLaidOut, IsNotLaidOut, IsTooHeavy}
+use Rattle.vx_serde.specs.WritingSteps.{RefusesWriting, KeepsTreeLimits, IsLaidOut, RefusesLayout, RefusesMessage}
 use Rattle.vx_serde.specs.Written.{message_bytes, message_pad, blob_bytes, IsWritable}
-use Rattle.vx_serde.specs.WrittenBuffers.{joined, unaligned, pad_buffers, data_buffers, greatest_exponent, written_buffers}
+use Rattle.vx_buffer.specs.Joined.{joined}
+use Rattle.vx_serde.specs.WrittenBuffers.{unaligned, pad_buffers, data_buffers, greatest_exponent, written_buffers}
 use Rattle.vx_serde.proofs.MessageRead.{length-descriptors_bytes}
 use Rattle.vx_serde.proofs.PlacedData.{joined-append, joined-pad, joined-data, length-data}
 
@@ -88,7 +89,7 @@ writable-is ids o w last ds message p e short light ends =
 
 -- ---- refusals
 
-pub unplaced-unwritten : (c : Context) (o : SerializeOptions) (w : Wire) (e : WireError) → IsNotLaidOut o w e → IsUnwritten c o w e
+pub unplaced-unwritten : (c : Context) (o : SerializeOptions) (w : Wire) (e : WireError) → RefusesLayout o w e → RefusesWriting c o w e
 unplaced-unwritten c o w OutOfMemory h = tt
 unplaced-unwritten c o w WireLimit h = λ k. h (writable-placeable _ o w k)
 unplaced-unwritten c o w NotPermitted h = absurd h
@@ -104,7 +105,7 @@ unplaced-unwritten c o w BadMetadata h = h
 unplaced-unwritten c o w BadShape h = h
 
 -- A limit that fails with the context that the identifiers make.
-pub limit-unwritten : (c d : Context) (o : SerializeOptions) (w : Wire) → grown_by (ids_in w) c ≡ Some d → (IsWritable d.ids o w → ⊥) → IsUnwritten c o w WireLimit
+pub limit-unwritten : (c d : Context) (o : SerializeOptions) (w : Wire) → grown_by (ids_in w) c ≡ Some d → (IsWritable d.ids o w → ⊥) → RefusesWriting c o w WireLimit
 limit-unwritten c d o w g h =
     let P : List (List ℕ) → Type 0 = λ ids. IsWritable ids o w → ⊥ in
     subst P (grown_by-ids (ids_in w) c d g) h
@@ -115,7 +116,7 @@ heavy m n e h short light =
     h (omega (arith, short, ap (λ k. length k) e)) (subst P (sym e) light)
 
 pub heavy-unwritten : (c d : Context) (o : SerializeOptions) (w : Wire) (message : List ℕ) (e : WireError) → grown_by (ids_in w) c ≡ Some d → message ≡ message_bytes d.ids o w
-    → IsTooHeavy message e → IsUnwritten c o w e
+    → RefusesMessage message e → RefusesWriting c o w e
 heavy-unwritten c d o w message OutOfMemory g p h = tt
 heavy-unwritten c d o w message WireLimit g p h = limit-unwritten c d o w g (λ k. heavy message (message_bytes d.ids o w) p h k.short k.light)
 heavy-unwritten c d o w message NotPermitted g p h = absurd h
@@ -132,7 +133,7 @@ heavy-unwritten c d o w message BadShape g p h = h
 
 -- A blob that would end past the positions of 64 bits.
 pub late-unwritten : (c d : Context) (o : SerializeOptions) (w : Wire) (last : ℕ) (ds message : List ℕ) → grown_by (ids_in w) c ≡ Some d → IsLaidOut o w ds last → message ≡ message_bytes d.ids o w
-    → 2 ^ 64 ≤ last + (pad o 3 last + length message + 4) → IsUnwritten c o w WireLimit
+    → 2 ^ 64 ≤ last + (pad o 3 last + length message + 4) → RefusesWriting c o w WireLimit
 late-unwritten c d o w last ds message g p e late =
     limit-unwritten c d o w g (λ k. omega (arith, late, k.ends, length-blob d.ids o w, p.last_is, ap (λ n. pad o 3 n) p.last_is, ap (λ m. length m) e))
 

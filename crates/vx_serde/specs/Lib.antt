@@ -8,14 +8,16 @@ pub mod Numbered
 pub mod Placing
 pub mod Written
 pub mod KeptContext
-pub mod Unwritten
 pub mod WrittenBuffers
-pub mod TableViews
 pub mod Errors
 pub mod Opening
 pub mod Spells
-pub mod Decoding
 pub mod Request
 pub mod Causes
 pub mod Aligned
 pub mod Recoding
+-- What the contracts of private functions alone cite.
+pub mod Decoding
+pub mod ReadingSteps
+pub mod TableViews
+pub mod WritingSteps

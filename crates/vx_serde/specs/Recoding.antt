@@ -11,7 +11,7 @@ use Rattle.vx_serde.specs.Aligned.{IsAlignedBlob}
 use Rattle.vx_serde.specs.KeptContext.{KeepsContext}
 use Rattle.vx_serde.specs.Request.{Request, IsSpelled}
 use Rattle.vx_serde.specs.Spells.{Spells, KeepsReaderLimits, KeepsWriterLimits, blob_of, blob_buffers}
-use Rattle.vx_serde.specs.WrittenBuffers.{joined}
+use Rattle.vx_buffer.specs.Joined.{joined}
 
 -- What is made: an array, the buffers of its blob in order, and the context after it.
 pub record Product : Type 0 where

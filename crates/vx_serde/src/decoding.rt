@@ -8,8 +8,9 @@ ghost use Rattle.vx_encodings.specs.Messages.{codec};
 ghost use Rattle.vx_encodings.specs.Steps.{IsPlanned};
 ghost use Rattle.vx_registry.specs.Meaning.{session_meaning};
 ghost use Rattle.vx_registry.specs.Session.{ArePaired};
-ghost use Rattle.vx_serde.specs.Causes.{IsCausedIn, IsLacking};
+ghost use Rattle.vx_serde.specs.Causes.{RefusesWire};
 ghost use Rattle.vx_serde.specs.Decoding.{IsHeadOf, IsNodeOf};
+ghost use Rattle.vx_serde.specs.ReadingSteps.{RefusesBuffers};
 
 use crate::error::WireError;
 use crate::tree::WireNode;
@@ -22,9 +23,9 @@ use vx_types::{DType, Id};
 
 impl From<EncodingError> for WireError {
     ghost use Rattle.std.specs.Prelude.{◌≡◌};
-    ghost use Rattle.vx_serde.specs.Causes.{error_of};
+    ghost use Rattle.vx_serde.specs.ReadingSteps.{encoding_refusal};
 
-    ghost from_gives = { λ e r. r ≡ error_of e };
+    ghost from_gives = { λ e r. r ≡ encoding_refusal e };
 
     fn from(e: EncodingError) -> WireError {
         match e {
@@ -46,11 +47,20 @@ fn head_of(
     ensures head { IfOk result (λ h. IsHeadOf h node.now (typ dtype.now) len) }
     ensures err { IsOkUnless result WireError.OutOfMemory }
 {
+    let Ok(serialized_id) = id.clone(alloc) else {
+        return Err(WireError::OutOfMemory);
+    };
+    let Ok(metadata) = node.metadata().clone(alloc) else {
+        return Err(WireError::OutOfMemory);
+    };
+    let Ok(dtype) = dtype.clone(alloc) else {
+        return Err(WireError::OutOfMemory);
+    };
     Ok(ArrayHead {
-        serialized_id: id.clone(alloc)?,
-        dtype: dtype.clone(alloc)?,
+        serialized_id,
+        dtype,
         len,
-        metadata: node.metadata().clone(alloc)?,
+        metadata,
         nbuffers: node.buffers().len(),
         nchildren: node.children().len(),
     })
@@ -78,7 +88,7 @@ fn plan_node(
         IfOk result (λ p. IsPlanned s.ext p.encoding p.head p.children) }
     ensures paired { OnOk result (ArePaired session.now.arrays) }
     ensures cause { let s = session_meaning (λ b. accepted (b.vtable, b.value)) session.now in
-        IfErr result (λ e. IsCausedIn s e node.now (typ dtype.now) len) }
+        IfErr result (λ e. RefusesWire s e node.now (typ dtype.now) len) }
 {
     let Some(id) = node.id() else {
         return Err(WireError::UnknownIndex);
@@ -100,7 +110,7 @@ fn plan_node(
 /// A node's buffers, where none is missing.
 fn own_buffers(alloc: Global, buffers: &[Option<BufferHandle>]) -> Result<BufferHandles, WireError>
     ensures ok { IfOk result (λ bs. buffers.now ≡ all_present bs) }
-    ensures cause { IfErr result (λ e. IsLacking e buffers.now) }
+    ensures cause { IfErr result (λ e. RefusesBuffers e buffers.now) }
 {
     let mut own = BufferHandles::new(alloc);
     for buffer in buffers {
@@ -124,7 +134,7 @@ pub(crate) fn decode(
         IfOk result (λ t. Tells codec s node.now (typ dtype.now) len t) }
     ensures paired { OnOk result (ArePaired session.now.arrays) }
     ensures cause { let s = session_meaning (λ b. accepted (b.vtable, b.value)) session.now in
-        IfErr result (λ e. IsCausedIn s e node.now (typ dtype.now) len) }
+        IfErr result (λ e. RefusesWire s e node.now (typ dtype.now) len) }
 {
     let planned = match plan_node(alloc, node, dtype, len, session) {
         Ok(planned) => planned,
@@ -140,7 +150,9 @@ pub(crate) fn decode(
             Ok(child) => child,
             Err(e) => return Err(e),
         };
-        children.push(child)?;
+        let Ok(()) = children.push(child) else {
+            return Err(WireError::OutOfMemory);
+        };
     }
     let buffers = match own_buffers(alloc, node.buffers()) {
         Ok(buffers) => buffers,

@@ -5,7 +5,7 @@ ghost use Rattle.vx_wire_tree.specs.Session.{IsShipped};
 ghost use Rattle.vx_registry.specs.Meaning.{session_meaning};
 ghost use Rattle.vx_serde.specs.Request.{CanRecode, request};
 ghost use Rattle.vx_serde.specs.Recoding.{IsFaithful, IsRecoded, LeavesContext, product};
-ghost use Rattle.vx_serde.specs.Causes.{IsCaused};
+ghost use Rattle.vx_serde.specs.Causes.{Refuses};
 
 use crate::decoding::decode;
 use crate::error::WireError;
@@ -64,7 +64,7 @@ pub fn recode(
     // Each refusal has its cause.
     ensures cause { let s = session_meaning (λ b. accepted (b.vtable, b.value)) session.now in
         let asked = request blob dtype.now len read_ids.now ctx.old s options.now in
-        IfErr result (IsCaused asked) }
+        IfErr result (Refuses asked) }
 {
     let node = match open(alloc, &blob, read_ids) {
         Ok(node) => node,

@@ -34,8 +34,12 @@ pub(crate) fn wire_node(alloc: Global, array: &Array) -> Result<WireNode, WireEr
     ensures ok { (s : SessionMeaning) → IfOk result (λ w. w ≡ wire codec s array.now) }
     ensures err { IsOkUnless result WireError.OutOfMemory }
 {
-    let id = Id::new(alloc, array.encoding_id())?;
-    let metadata = metadata(alloc, array)?;
+    let Ok(id) = Id::new(alloc, array.encoding_id()) else {
+        return Err(WireError::OutOfMemory);
+    };
+    let Ok(metadata) = metadata(alloc, array) else {
+        return Err(WireError::OutOfMemory);
+    };
     let buffers = root_buffers(alloc, array)?;
     let children = wire_nodes(alloc, array.children())?;
     Ok(WireNode::new(Some(id), metadata, buffers, children))

@@ -15,7 +15,7 @@ use Rattle.vx_registry.specs.Session.{Registry, tables_meaning, shipped_registry
 use Rattle.vx_serde.specs.declared.options.SerializeOptions.{SerializeOptions}
 use Rattle.vx_serde.specs.declared.error.WireError.{WireError}
 use Rattle.vx_serde.specs.declared.error.WireError.TheVariants as wire
-use Rattle.vx_serde.specs.Causes.{IsCaused}
+use Rattle.vx_serde.specs.Causes.{Refuses}
 use Rattle.vx_serde.specs.Recoding.{IsFaithful, IsRecoded, Product}
 use Rattle.vx_serde.specs.Request.{CanRecode, Request}
 use Rattle.vx_buffer.specs.Joined.{joined}
@@ -55,7 +55,7 @@ memory_refused asked (Ok made) memory = tt
 memory_refused asked (Err status) memory = subst (λ (s : Status). RefusesBlob s asked) (sym memory) tt
 
 -- A refusal that has its cause gives its status.
-pub refused : (error : WireError) (asked : Request) → IsCaused asked error → RefusesBlob (blob_status error) asked
+pub refused : (error : WireError) (asked : Request) → Refuses asked error → RefusesBlob (blob_status error) asked
 refused wire.OutOfMemory asked cause = tt
 refused wire.TooShort asked cause = cause
 refused wire.BadTable asked cause = cause

@@ -9,7 +9,7 @@ use Rattle.vx_wire_tree.specs.Context.{Context}
 use Rattle.vx_wire_tree.specs.Session.{SessionMeaning}
 use Rattle.vx_registry.specs.Session.{tables_meaning, shipped_registry}
 use Rattle.vx_serde.specs.declared.options.SerializeOptions.{SerializeOptions}
-use Rattle.vx_serde.specs.Causes.{IsCaused}
+use Rattle.vx_serde.specs.Causes.{Refuses}
 use Rattle.vx_serde.specs.Recoding.{IsFaithful, IsRecoded, Product}
 use Rattle.vx_serde.specs.Request.{CanRecode, Request}
 use Rattle.vx_buffer.specs.Joined.{joined}
@@ -128,7 +128,7 @@ RefusesInputs OutOfMemory line loaded = Unit {0}
 RefusesInputs BadType line loaded = (dtype : Typ) → ¬ (IsRead (ShowsType loaded.type_bytes) (readers_of line.settings) dtype)
 RefusesInputs BadIds line loaded = (ids : List (List ℕ)) → ¬ (ReadsIds loaded.id_bytes ids)
 RefusesInputs (Refused refusal) line loaded =
-    (dtype : Typ) × (ids : List (List ℕ)) × AreRead line loaded dtype ids × IsCaused (asked_by line loaded dtype ids) (wire_error refusal)
+    (dtype : Typ) × (ids : List (List ℕ)) × AreRead line loaded dtype ids × Refuses (asked_by line loaded dtype ids) (wire_error refusal)
 RefusesInputs status line loaded = ⊥
 
 -- ---- what is saved

@@ -4,7 +4,7 @@ use Rattle.vx_types.specs.Typ.{Typ}
 use Rattle.vx_type_wire.specs.Known.{no_readers}
 use Rattle.vx_registry.specs.Session.{tables_meaning, shipped_registry}
 use Rattle.vx_serde.specs.declared.options.SerializeOptions.{SerializeOptions}
-use Rattle.vx_serde.specs.Causes.{IsCaused}
+use Rattle.vx_serde.specs.Causes.{Refuses}
 use Rattle.vx_serde.specs.Recoding.{IsFaithful, IsRecoded, Product}
 use Rattle.vx_serde.specs.Request.{Request}
 use Rattle.vx_buffer.specs.Joined.{joined}
@@ -93,5 +93,5 @@ RefusesType status = ⊥
 -- A blob is refused with its cause, or wants memory.
 abbrev pub RefusesBlob : Status → Request → Type 0
 RefusesBlob OutOfMemory asked = Unit {0}
-RefusesBlob (Refused refusal) asked = IsCaused asked (wire_error refusal)
+RefusesBlob (Refused refusal) asked = Refuses asked (wire_error refusal)
 RefusesBlob status asked = ⊥

@@ -8,7 +8,7 @@ use Rattle.vx_array_tree.specs.Place.{Place}
 use Rattle.vx_encodings.specs.Steps.{IsPlanned}
 use Rattle.vx_registry.specs.Meaning.{session_meaning}
 use Rattle.vx_registry.proofs.LawsSessions.{registry_lawful}
-use Rattle.vx_serde.specs.Causes.{IsLacking}
+use Rattle.vx_serde.specs.ReadingSteps.{RefusesBuffers}
 use Rattle.vx_serde.specs.contracts.decoding.decode.{dyn-1-ghosts}
 use Rattle.vx_serde.proofs.NodeTold.{told-snoc, all_told, enough, get_at, get_past, planned, caused_by_child, caused_by_buffers, caused_by_build, told_node}
 use Rattle.vx_serde.proofs.decoding.+decode.Goals as goal
@@ -41,13 +41,13 @@ pub loop-i-preserved : goal.loop-i-preserved
 loop-i-preserved g t c =
     let s = session_meaning (λ b. ((dyn-1-ghosts g.dyn-1).0.entry b.vtable).1.accepted b.value) c.args.session.now in
     told-snoc s c.children-nodes.result.now c.in-Ok.planned.children c.loop-i.i c.index-nodes-i.result _ c.loop-i.children c.push.new.self c.in-Ok-decode.child c.loop-i-test.true c.loop-i.invariant
-    c.index-nodes-i.is (sym c.in-Some.ensures) c.in-Ok-decode.ensures.told c.in_ok-push.ensures.ok
+    c.index-nodes-i.is (sym c.in-Some.ensures) c.in-Ok-decode.ensures.told c.in-Ok-push.ensures.ok
 
 pub returns-in-Err-own_buffers-clause-cause : goal.returns-in-Err-own_buffers-clause-cause
 returns-in-Err-own_buffers-clause-cause g t c =
     let s = session_meaning (λ b. ((dyn-1-ghosts g.dyn-1).0.entry b.vtable).1.accepted b.value) c.args.session.now in
     let e = c.in-Err-own_buffers.e in
-    let P : List (Option Buffer) → Type 0 = λ bs. IsLacking e bs in
+    let P : List (Option Buffer) → Type 0 = λ bs. RefusesBuffers e bs in
     caused_by_buffers s e c.args.node.now (typ c.args.dtype.now) c.args.len (subst P c.buffers.ensures c.in-Err-own_buffers.ensures.cause)
 
 pub build-requires : goal.build-requires

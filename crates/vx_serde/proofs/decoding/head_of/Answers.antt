@@ -7,8 +7,8 @@ use Rattle.vx_serde.proofs.decoding.head_of.Goals as goal
 
 pub returns-clause-head : goal.returns-clause-head
 returns-clause-head c = record {
-  dtype = ap (λ (d : DType). typ d) c.in_ok-clone-2.ensures.ok;
+  dtype = ap (λ (d : DType). typ d) c.in-Ok-clone-2.ensures.ok;
   len = refl;
-  metadata = c.in_ok-clone-3.ensures.ok ∙ c.metadata.ensures;
+  metadata = c.in-Ok-clone.ensures.ok ∙ c.metadata.ensures;
   children = sym (count-roses_of c.children.result.now) ∙ ap (λ ts. count ts) c.children.ensures;
 }

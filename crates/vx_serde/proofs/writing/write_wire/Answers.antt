@@ -5,7 +5,7 @@ use Rattle.vx_flat.specs.View.{views, value as value_of}
 use Rattle.vx_serde.specs.ArraySchema.{array_schema}
 use Rattle.vx_wire_tree.specs.Wire.{buffers_in}
 use Rattle.vx_serde.specs.Placing.{descriptors_from}
-use Rattle.vx_serde.specs.WrittenBuffers.{joined}
+use Rattle.vx_buffer.specs.Joined.{joined}
 use Rattle.vx_serde.proofs.WholeBlob.{message-is, message-of_kind, unplaced-unwritten, heavy-unwritten, late-unwritten, writable-is, buffers-are, joined-written}
 use Rattle.vx_serde.proofs.writing.write_wire.Goals as goal
 

@@ -15,7 +15,7 @@ read_by c =
 written_by : (c : In-Ok-insert) (id : List ℕ) → lookup (bytes_eq id) c.insert-2.new.self.entries ≡ cond (bytes_eq (own_id c.args.encoding) id) (Some c.args.encoding) (lookup (bytes_eq id) c.self.inside.writers.entries)
 written_by c =
     put_under c.args.encoding c.in_ok-written.written c.self.inside.writers.entries c.reserve-2.new.self.entries c.insert-2.new.self.entries
-    (c.in_ok-written.ensures.ok ∙ (c.in_ok-read.ensures.ok ∙ c.id.ensures)) c.reserve-2.ensures.entries c.in-Ok-insert.ensures.updates.0
+    (c.in_ok-written.ensures.ok ∙ c.id-2.ensures) c.reserve-2.ensures.entries c.in-Ok-insert.ensures.updates.0
 
 pub invariant_of-self-2 : goal.invariant_of-self-2
 invariant_of-self-2 c = stays_paired c.args.encoding _ _ _ c.self.invariant (read_by c) (written_by c)

@@ -1,7 +1,7 @@
 use Rattle.std.proofs.Common.{subst, sym, ◌∙◌}
 use Rattle.vx_types.specs.Seen.{typ}
 use Rattle.vx_registry.proofs.LawsSessions.{registry_shipped}
-use Rattle.vx_serde.specs.Causes.{IsCaused}
+use Rattle.vx_serde.specs.Causes.{Refuses}
 use Rattle.vx_serde.specs.Recoding.{IsFaithful, IsRecoded, product}
 use Rattle.vx_serde.specs.Request.{CanRecode, Request}
 use Rattle.vxcat_core.proofs.Recodings.{same_request, same_session, outputs_made, memory_refused, memory_status, refused}
@@ -26,7 +26,7 @@ returns-clause-cause c =
     let session = same_session _ c.new-session.result c.in-Ok-default.arrays c.new.result c.new-session.ensures.arrays c.new-session.ensures.ext c.in-Ok-default.ensures c.new.ensures in
     let asked = same_request c.args.blob c.in-Ok.buffer.bytes (typ c.args.dtype.now) c.args.len c.args.read_ids c.new-read.result c.empty-ids.result _ c.args.options.now
     (c.in-Ok.ensures.bytes ∙ c.into_vec.ensures) c.new-read.ensures c.empty-ids.ensures.ids c.empty-ids.ensures.allowed session in
-    let cause = subst (λ (call : Request). IsCaused call c.in-Err.error) asked c.in-Err.ensures.cause in
+    let cause = subst (λ (call : Request). Refuses call c.in-Err.error) asked c.in-Err.ensures.cause in
     rw c.of_blob.ensures (refused c.in-Err.error _ cause)
 
 pub returns-clause-complete : goal.returns-clause-complete

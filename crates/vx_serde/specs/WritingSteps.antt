@@ -1,4 +1,4 @@
--- Why a tree is not written.
+-- What the steps of writing a tree give, and why they refuse.
 use Rattle.std.specs.Prelude.{ℕ, ◌≡◌, ◌<◌, ◌^◌, List, None, length}
 use Rattle.vx_flat.specs.Limits.{limits, IsLight}
 use Rattle.vx_flat.specs.Weight.{weight}
@@ -15,18 +15,18 @@ use Rattle.vx_wire_tree.specs.Limits.{IsWritableTree}
 use Rattle.vx_serde.specs.Written.{IsWritable}
 
 -- Identifiers are refused because the context takes one of them not, or for want of memory.
-abbrev pub IsUngrown : List (List ℕ) → Context → WireError → Type 0
-IsUngrown ids c OutOfMemory = Unit {0}
-IsUngrown ids c NotPermitted = grown_by ids c ≡ None
-IsUngrown ids c _ = ⊥
+abbrev pub RefusesIds : List (List ℕ) → Context → WireError → Type 0
+RefusesIds ids c OutOfMemory = Unit {0}
+RefusesIds ids c NotPermitted = grown_by ids c ≡ None
+RefusesIds ids c _ = ⊥
 
 -- A tree is refused for want of memory, because the context does not take its
 -- identifiers, or because it passes a limit with the identifiers that the context would have then.
-abbrev pub IsUnwritten : Context → SerializeOptions → Wire → WireError → Type 0
-IsUnwritten c options w OutOfMemory = Unit {0}
-IsUnwritten c options w NotPermitted = grown_by (ids_in w) c ≡ None
-IsUnwritten c options w WireLimit = IsWritable (with_ids c.ids (ids_in w)) options w → ⊥
-IsUnwritten c options w _ = ⊥
+abbrev pub RefusesWriting : Context → SerializeOptions → Wire → WireError → Type 0
+RefusesWriting c options w OutOfMemory = Unit {0}
+RefusesWriting c options w NotPermitted = grown_by (ids_in w) c ≡ None
+RefusesWriting c options w WireLimit = IsWritable (with_ids c.ids (ids_in w)) options w → ⊥
+RefusesWriting c options w _ = ⊥
 
 -- The limits that a tree keeps before its message is known: those on the tree, and one
 -- on the position where the last of its buffers ends.
@@ -41,13 +41,13 @@ pub record IsLaidOut (options : SerializeOptions) (w : Wire) (descriptors : List
   pub last_is : last ≡ data_end options options.offset (buffers_in w)
 
 -- Buffers are not placed for want of memory, or because the tree passes one of these limits.
-abbrev pub IsNotLaidOut : SerializeOptions → Wire → WireError → Type 0
-IsNotLaidOut options w OutOfMemory = Unit {0}
-IsNotLaidOut options w WireLimit = KeepsTreeLimits options w → ⊥
-IsNotLaidOut options w _ = ⊥
+abbrev pub RefusesLayout : SerializeOptions → Wire → WireError → Type 0
+RefusesLayout options w OutOfMemory = Unit {0}
+RefusesLayout options w WireLimit = KeepsTreeLimits options w → ⊥
+RefusesLayout options w _ = ⊥
 
 -- A message is not written for want of memory, or because it is too long or too heavy.
-abbrev pub IsTooHeavy : List ℕ → WireError → Type 0
-IsTooHeavy message OutOfMemory = Unit {0}
-IsTooHeavy message WireLimit = length message < 2 ^ 31 → IsLight limits (weight array_schema message) → ⊥
-IsTooHeavy message _ = ⊥
+abbrev pub RefusesMessage : List ℕ → WireError → Type 0
+RefusesMessage message OutOfMemory = Unit {0}
+RefusesMessage message WireLimit = length message < 2 ^ 31 → IsLight limits (weight array_schema message) → ⊥
+RefusesMessage message _ = ⊥
