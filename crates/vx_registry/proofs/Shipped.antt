@@ -6,7 +6,7 @@ use Rattle.std.proofs.lemmas.List.{take_all}
 use Rattle.std.proofs.lemmas.Slice.Eq.{bytes_eq-Decides}
 use Rattle.indexmap.specs.IndexMap.{insert_entry}
 use Rattle.vx_encodings.specs.declared.encoding.Encoding.{Encoding}
-use Rattle.vx_encodings.specs.declared.encoding.Encoding.TheVariants.{Null, Primitive}
+use Rattle.vx_encodings.specs.declared.encoding.Encoding.TheVariants as Declared
 use Rattle.vx_types.specs.Known.{ExtMeaning}
 use Rattle.vx_array_tree.specs.Encoding as E
 use Rattle.vx_wire_tree.specs.Session.{Reader, shipped, entry_id, IsReadAgainBy}
@@ -44,8 +44,9 @@ own_entry id (x ∷ xs) e p =
 
 -- and is found there
 found_entry : (e : Encoding) → lookup (bytes_eq (own_id e)) (map (λ x. (own_id x, x)) shipped_encodings) ≡ Some e
-found_entry Null = refl
-found_entry Primitive = refl
+found_entry Declared.Null = refl
+found_entry Declared.Bool = refl
+found_entry Declared.Primitive = refl
 
 -- what is found is some encoding's entry
 entry_of : (o : Option Encoding) (r : Reader) → option_map entry o ≡ Some r → (e : Encoding) × (r ≡ entry e) × (o ≡ Some e)
@@ -75,6 +76,6 @@ pub tables_paired : (r w : Entries) (n : ℕ) → r ≡ put_in [] (take n shippe
     → ArePaired (record { readers = r; writers = w })
 tables_paired r w n p q h =
     let whole : (m : Entries) → m ≡ put_in [] (take n shipped_encodings) → m ≡ shipped_registry.readers =
-      λ m e. e ∙ ap (λ es. put_in [] es) (take_all n shipped_encodings h) ∙ all_in in
+    λ m e. e ∙ ap (λ es. put_in [] es) (take_all n shipped_encodings h) ∙ all_in in
     subst (λ (z : Entries). ArePaired (record { readers = z; writers = w })) (sym (whole r p))
     (subst (λ (z : Entries). ArePaired (record { readers = shipped_registry.readers; writers = z })) (sym (whole w q)) shipped_paired)

@@ -6,7 +6,7 @@ use Rattle.vx_array_tree.specs.Table.{id_of}
 use Rattle.vx_wire_tree.specs.Session.{Reader, shipped, SessionMeaning, IsPaired}
 use Rattle.vx_encodings.specs.Plain.{plain_encoding}
 use Rattle.vx_encodings.specs.declared.encoding.Encoding.{Encoding}
-use Rattle.vx_encodings.specs.declared.encoding.Encoding.TheVariants.{Null, Primitive}
+use Rattle.vx_encodings.specs.declared.encoding.Encoding.TheVariants.{Null, Bool, Primitive}
 
 -- Encodings by the identifiers that they read, and by the identifiers of the arrays that they write.
 pub record Registry : Type 0 where
@@ -36,7 +36,7 @@ own_id e = id_of (plain_encoding e)
 
 -- The shipped encodings.
 abbrev pub shipped_encodings : List Encoding
-shipped_encodings = Null ∷ Primitive ∷ []
+shipped_encodings = Null ∷ Bool ∷ Primitive ∷ []
 
 -- The registry of the shipped encodings, each under its own identifier.
 abbrev pub shipped_registry : Registry

@@ -46,7 +46,7 @@ impl ArraySession {
     {
         let mut readers = IndexMap::new(alloc);
         let mut writers = IndexMap::new(alloc);
-        for encoding in [Encoding::Null, Encoding::Primitive] {
+        for encoding in [Encoding::Null, Encoding::Bool, Encoding::Primitive] {
             readers.insert(Id::new(alloc, encoding.id())?, encoding)?;
             writers.insert(Id::new(alloc, encoding.id())?, encoding)?;
         }
