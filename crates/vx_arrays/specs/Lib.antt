@@ -1,5 +1,6 @@
 pub mod Plain
 pub mod Nulls
 pub mod Primitives
+pub mod Bools
 pub mod Validity
 pub mod Refused

@@ -6,7 +6,7 @@ use Rattle.vx_types.specs.Value as V
 use Rattle.vx_array_tree.specs.Body as B
 use Rattle.vx_array_tree.specs.Tree.{Head}
 use Rattle.vx_arrays.specs.declared.body.Body.{Body}
-use Rattle.vx_arrays.specs.declared.body.Body.TheVariants.{Null, Primitive}
+use Rattle.vx_arrays.specs.declared.body.Body.TheVariants.{Null, Primitive, Bool}
 use Rattle.vx_arrays.specs.declared.row.RowValue.{RowValue}
 use Rattle.vx_arrays.specs.declared.row.RowValue.TheVariants as R
 
@@ -14,6 +14,7 @@ use Rattle.vx_arrays.specs.declared.row.RowValue.TheVariants as R
 abbrev pub plain_body : Body → B.Body
 plain_body Null = B.null
 plain_body (Primitive x) = B.primitive x
+plain_body (Bool x) = B.bool x
 
 -- A node without its children, by its type, its rows and what its encoding holds.
 abbrev pub head_of : Typ → ℕ → Body → Head
@@ -23,4 +24,5 @@ head_of d n b = record { dtype = d; len = n; body = plain_body b }
 abbrev pub plain_value : RowValue → Value
 plain_value R.Null = lone V.null
 plain_value R.Opaque = lone V.opaque
+plain_value (R.Bool b) = lone (V.bool b)
 plain_value (R.Primitive v) = lone (V.number v)

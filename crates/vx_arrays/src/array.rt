@@ -148,18 +148,20 @@ impl Array {
         match &self.body {
             Body::Null => Some(false),
             Body::Primitive(_) => validity_at(self.children.as_slice(), self.len, index),
+            Body::Bool(_) => validity_at(self.children.as_slice(), self.len, index),
         }
     }
 
     // The row's flag, where this array has the type of a validity; None where the row is no flag.
-    pub(crate) fn flag_at(&self, _index: usize) -> Option<bool>
-        requires inside { _index < (label self.now).len }
+    pub(crate) fn flag_at(&self, index: usize) -> Option<bool>
+        requires inside { index < (label self.now).len }
         requires flags { (label self.now).dtype ≡ node (boolean NonNullable) end }
-        ensures { result ≡ flag_in (row_at self.now _index) }
+        ensures { result ≡ flag_in (row_at self.now index) }
     {
         match &self.body {
             Body::Null => None,
             Body::Primitive(_) => None,
+            Body::Bool(flags) => Some(flags.flag_at(index)),
         }
     }
 
@@ -185,6 +187,7 @@ impl Array {
                 index,
                 budget,
             ),
+            Body::Bool(flags) => flags.value_at(&self.dtype, self.len, children, index, budget),
         }
     }
 

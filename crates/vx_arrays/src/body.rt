@@ -3,6 +3,7 @@
 ghost use Rattle.std.specs.Prelude.{◌≡◌, ◌<◌, length, slice_get, Some, IfOk, IsOkUnless};
 ghost use Rattle.vx_array_tree.specs.Table.{id_of, encoding_of, buffers_of};
 
+use crate::bool::{BoolArray, BoolData};
 use crate::error::ArrayError;
 use crate::null::NullArray;
 use crate::primitive::{PrimitiveArray, PrimitiveData};
@@ -16,6 +17,8 @@ pub enum Body {
     Null,
     /// Numbers.
     Primitive(PrimitiveData),
+    /// Flags.
+    Bool(BoolData),
 }
 
 impl Body {
@@ -28,6 +31,7 @@ impl Body {
         match self {
             Body::Null => NullArray::ID,
             Body::Primitive(_) => PrimitiveArray::ID,
+            Body::Bool(_) => BoolArray::ID,
         }
     }
 
@@ -38,6 +42,7 @@ impl Body {
         match self {
             Body::Null => 0,
             Body::Primitive(_) => 1,
+            Body::Bool(_) => 1,
         }
     }
 
@@ -49,6 +54,7 @@ impl Body {
         match self {
             Body::Null => unreachable!(),
             Body::Primitive(numbers) => numbers.values(),
+            Body::Bool(flags) => flags.bits(),
         }
     }
 
@@ -60,6 +66,7 @@ impl Body {
         match self {
             Body::Null => Ok(Body::Null),
             Body::Primitive(numbers) => Ok(Body::Primitive(numbers.clone(alloc)?)),
+            Body::Bool(flags) => Ok(Body::Bool(flags.clone(alloc)?)),
         }
     }
 }

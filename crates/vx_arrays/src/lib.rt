@@ -6,6 +6,7 @@
 
 mod array;
 mod body;
+mod bool;
 mod error;
 mod list;
 mod null;
@@ -16,8 +17,10 @@ mod validity;
 
 pub use array::Array;
 pub use body::Body;
+pub use bool::{BoolArray, BoolData};
 pub use error::ArrayError;
 pub use list::Arrays;
 pub use null::NullArray;
 pub use primitive::{PrimitiveArray, PrimitiveData};
 pub use row::RowValue;
+pub use validity::validity_all_invalid;

@@ -12,6 +12,8 @@ pub enum RowValue {
     Null,
     /// Nothing is known of the row.
     Opaque,
+    /// A flag.
+    Bool(bool),
     /// A number, floats as their bits.
     Primitive(PValue),
 }

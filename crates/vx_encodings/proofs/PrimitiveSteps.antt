@@ -1,7 +1,7 @@
 -- The steps of nodes of numbers.
-use Rattle.std.proofs.Common.{ℕ, zero, suc, ◌≡◌, ◌≢◌, ◌≤◌, List, [], ◌∷◌, Option, Some, None, Result, Ok, Err, IfOk, refl, sym, ap, ◌∙◌, subst, inl, length, arith}
+use Rattle.std.proofs.Common.{ℕ, ◌≡◌, ◌≢◌, ◌≤◌, List, [], ◌∷◌, Option, Some, None, Result, Ok, Err, IfOk, refl, sym, ap, ◌∙◌, subst, inl, length, arith}
 use Rattle.vx_buffer.specs.Buffer.{Buffer}
-use Rattle.vx_trees.specs.Rose.{node, end, more, count, roses_of}
+use Rattle.vx_trees.specs.Rose.{node, end, count, roses_of}
 use Rattle.vx_trees.proofs.Lists.{count-roses_of}
 use Rattle.vx_types.specs.Kind.{primitive}
 use Rattle.vx_types.specs.Known.{ExtMeaning}
@@ -16,12 +16,13 @@ use Rattle.vx_array_tree.specs.Encodings.Primitives.{plan}
 use Rattle.vx_array_tree.specs.Metadata.{Metadata}
 use Rattle.vx_array_tree.specs.Metadata as M
 use Rattle.vx_array_tree.specs.Place.{Place, before_validity}
-use Rattle.vx_array_tree.specs.Table.{IsShaped, Holds, plan_of}
+use Rattle.vx_array_tree.specs.Table.{IsShaped, plan_of}
 use Rattle.vx_array_tree.specs.Tree.{Tree, Trees, places, option_trees}
 use Rattle.vx_arrays.specs.Primitives.{primitive_tree}
 use Rattle.vx_arrays.specs.Refused.{IsUnmade}
 use Rattle.vx_arrays.specs.declared.error.ArrayError.{ArrayError}
 use Rattle.vx_arrays.specs.declared.error.ArrayError.TheVariants as A
+use Rattle.vx_encodings.proofs.Fitting.{unfit}
 use Rattle.vx_encodings.proofs.Validities.{validity_few}
 use Rattle.vx_encodings.proofs.Bare.{primitive_metadata, primitive_nothing}
 use Rattle.vx_encodings.specs.Steps.{IsPlanned, IsUnplanned, IsWithoutPlan, IsBuilt, IsUnbuilt, constructor_error}
@@ -100,32 +101,14 @@ primitive_built x h bs us p m b o t planned d e c r =
       tree_is = rw (r, c, ap (λ z. typ z) d) refl;
     }
 
-filled : (n : ℕ) (p : PType) (m : Nullability) (b : Buffer) (k : ℕ) (s : IsShaped E.primitive (node (primitive p m) end) n M.empty (b ∷ []) k) → Holds (node (primitive p m) end) n (B.primitive (record { values = b }))
-filled n p m b k s =
-    let e : Some (B.primitive (record { values = b })) ≡ Some s.body = s.body_is in
-    let q : s.body ≡ B.primitive (record { values = b }) = cc in
-    subst (λ (z : B.Body). Holds (node (primitive p m) end) n z) q s.holds
-
-fitting_at : (n k : ℕ) (p : PType) (m : Nullability) (b : Buffer) (o : Option Tree) → plan (node (primitive p m) end) n k ≡ Some (places (option_trees o))
-    → IsUnmade A.BadShape (primitive_tree p m n b o) → IsShaped E.primitive (node (primitive p m) end) n M.empty (b ∷ []) (count (option_trees o)) → ⊥
-fitting_at n k p m b o planned refused s =
-    let c : k ≡ count (option_trees o) = (few (node (primitive p m) end) n k (option_trees o) planned).1 in
-    refused (record {
-      fair = tt;
-      planned = subst (λ (z : ℕ). plan (node (primitive p m) end) n z ≡ Some (places (option_trees o))) c planned;
-      allows = s.allows;
-      takes = tt;
-      holds = filled n p m b (count (option_trees o)) s;
-    })
-
 -- Parts that the constructor refuses do not fit the row of a planned node.
 fitting : (d : Typ) (n k : ℕ) (us : Trees) (p : PType) (m : Nullability) (b : Buffer) (o : Option Tree) → d ≡ node (primitive p m) end → plan d n k ≡ Some (places us)
     → option_trees o ≡ us → IsUnmade A.BadShape (primitive_tree p m n b o) → IsShaped E.primitive d n M.empty (b ∷ []) (count us) → ⊥
 fitting d n k us p m b o e planned c refused s =
-    fitting_at n k p m b o
-    (subst (λ (z : Trees). plan (node (primitive p m) end) n k ≡ Some (places z)) (sym c) (subst (λ (z : Typ). plan z n k ≡ Some (places us)) e planned))
-    refused
-    (subst (λ (z : Trees). IsShaped E.primitive (node (primitive p m) end) n M.empty (b ∷ []) (count z)) (sym c) (subst (λ (z : Typ). IsShaped E.primitive z n M.empty (b ∷ []) (count us)) e s))
+    let counted : plan d n (count us) ≡ Some (places us) = subst (λ (z : ℕ). plan d n z ≡ Some (places us)) (few d n k us planned).1 planned in
+    let wrong = subst (λ (z : Typ). IsUnmade A.BadShape (node (record { dtype = z; len = n; body = B.primitive (record { values = b }) }) us)) (sym e)
+    (subst (λ (z : Trees). IsUnmade A.BadShape (node (record { dtype = node (primitive p m) end; len = n; body = B.primitive (record { values = b }) }) z)) c refused) in
+    unfit E.primitive d n M.empty (b ∷ []) (B.primitive (record { values = b })) us refl tt counted refl tt wrong s
 
 pub primitive_refused : (x : ExtMeaning) (error : ArrayError) (h : ArrayHead) (bs : List Buffer) (us : Trees) (p : PType) (m : Nullability) (b : Buffer) (o : Option Tree)
     → (y : ExtMeaning) × IsPlanned y Primitive h (places us) → h.dtype ≡ D.Primitive p m → bs ≡ b ∷ [] → option_trees o ≡ us → IsUnmade error (primitive_tree p m h.len b o)

@@ -1,3 +1,4 @@
 pub mod Plain
+pub mod BoolMessage
 pub mod Messages
 pub mod Steps

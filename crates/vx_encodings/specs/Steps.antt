@@ -1,10 +1,15 @@
 -- The steps of one node, as the calls of this crate take them, and when each is refused.
-use Rattle.std.specs.Prelude.{◌≡◌, List, Option, None, Result, Ok, Err}
+use Rattle.std.specs.Prelude.{ℕ, ◌≡◌, List, Option, None, Result, Ok, Err}
 use Rattle.vx_buffer.specs.Buffer.{Buffer}
 use Rattle.vx_types.specs.Known.{ExtMeaning}
 use Rattle.vx_types.specs.Seen.{typ}
 use Rattle.vx_array_tree.specs.Place.{Place}
 use Rattle.vx_array_tree.specs.Tree.{Tree, Trees}
+use Rattle.vx_proto.specs.Reads.{Reads}
+use Rattle.vx_proto.specs.Schema.{Schema}
+use Rattle.vx_proto.specs.Value.{Value}
+use Rattle.vx_proto.specs.declared.error.ProtoError.{ProtoError}
+use Rattle.vx_proto.specs.declared.error.ProtoError.TheVariants as P
 use Rattle.vx_wire_tree.specs.Steps.{HasNoMetadata, PlansChildren, HasNoPlan, HasParts, HasWrongShape}
 use Rattle.vx_arrays.specs.declared.error.ArrayError.{ArrayError}
 use Rattle.vx_arrays.specs.declared.error.ArrayError.TheVariants as A
@@ -65,3 +70,16 @@ abbrev pub constructor_error : ArrayError → EncodingError
 constructor_error A.OutOfMemory = OutOfMemory
 constructor_error A.BadShape = BadShape
 constructor_error A.ValueTooLarge = OutOfMemory
+
+-- A message is not read: for want of memory, or as the bytes show none.
+abbrev pub IsUnread : EncodingError → Schema → ℕ → List ℕ → Type 0
+IsUnread OutOfMemory schema place bytes = Unit {0}
+IsUnread BadMetadata schema place bytes = (v : Value) → Reads schema place bytes v → ⊥
+IsUnread BadShape schema place bytes = ⊥
+
+-- A message's refusal as one of its encoding.
+abbrev pub message_error : ProtoError → EncodingError
+message_error P.OutOfMemory = OutOfMemory
+message_error P.BadMessage = BadMetadata
+message_error P.TooDeep = BadMetadata
+message_error P.OutOfRange = BadMetadata

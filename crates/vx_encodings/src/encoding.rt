@@ -3,13 +3,15 @@
 ghost use Rattle.std.specs.Prelude.{◌≡◌};
 ghost use Rattle.vx_array_tree.specs.Table.{id_of};
 
-use vx_arrays::{NullArray, PrimitiveArray};
+use vx_arrays::{BoolArray, NullArray, PrimitiveArray};
 
 /// The shipped encodings.
 #[derive(Clone, Copy, Debug, PartialEq, Eq)]
 pub enum Encoding {
     /// Nulls alone.
     Null,
+    /// Flags, a bit each.
+    Bool,
     /// Numbers, one after the other.
     Primitive,
 }
@@ -23,6 +25,7 @@ impl Encoding {
     {
         match self {
             Encoding::Null => NullArray::ID,
+            Encoding::Bool => BoolArray::ID,
             Encoding::Primitive => PrimitiveArray::ID,
         }
     }

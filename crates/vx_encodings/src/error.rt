@@ -1,12 +1,13 @@
 //! Refusals of this crate.
 
 ghost use Rattle.std.specs.Prelude.{◌≡◌};
-ghost use Rattle.vx_encodings.specs.Steps.{IsOfConstructor, constructor_error};
+ghost use Rattle.vx_encodings.specs.Steps.{IsOfConstructor, constructor_error, message_error};
 ghost use Rattle.vx_encodings.specs.declared.error.EncodingError.TheVariants.{OutOfMemory};
 
 use std::alloc::{AllocError, AllocFailed};
 use thiserror::Error;
 use vx_arrays::ArrayError;
+use vx_proto::ProtoError;
 
 /// Why a node was not planned or built.
 #[derive(Clone, Copy, Debug, PartialEq, Eq, Error)]
@@ -48,5 +49,16 @@ pub(crate) fn of_constructor(error: ArrayError) -> EncodingError
         ArrayError::OutOfMemory => EncodingError::OutOfMemory,
         ArrayError::BadShape => EncodingError::BadShape,
         ArrayError::ValueTooLarge => unreachable!(),
+    }
+}
+
+// The refusal of a message as one of its encoding.
+pub(crate) fn of_message(error: ProtoError) -> EncodingError
+    ensures { result ≡ message_error error }
+{
+    match error {
+        ProtoError::OutOfMemory => EncodingError::OutOfMemory,
+        ProtoError::BadMessage | ProtoError::TooDeep | ProtoError::OutOfRange =>
+            EncodingError::BadMetadata,
     }
 }

@@ -4,17 +4,20 @@
 //! for each encoding.
 #![tactic(auto)]
 
+mod bool;
 mod buffers;
 mod empty_metadata;
 mod encoding;
 mod error;
 mod head;
+mod messages;
 mod null;
 mod plans;
 mod primitive;
 mod steps;
 mod validity;
 
+pub use bool::BoolMetadata;
 pub use encoding::Encoding;
 pub use error::EncodingError;
 pub use head::ArrayHead;

@@ -17,7 +17,7 @@ use crate::encoding::Encoding;
 use crate::error::EncodingError;
 use crate::head::ArrayHead;
 use crate::plans::ChildPlans;
-use crate::{null, primitive};
+use crate::{bool, null, primitive};
 use std::alloc::Global;
 use vx_arrays::{Array, Arrays, Body};
 use vx_buffer::BufferHandles;
@@ -58,6 +58,7 @@ fn plan_by(
 {
     match encoding {
         Encoding::Null => null::plan(alloc, head),
+        Encoding::Bool => bool::plan(alloc, head),
         Encoding::Primitive => primitive::plan(alloc, head),
     }
 }
@@ -105,17 +106,20 @@ fn build_by(
 {
     match encoding {
         Encoding::Null => null::build(alloc, head, buffers, children),
+        Encoding::Bool => bool::build(alloc, head, buffers, children),
         Encoding::Primitive => primitive::build(alloc, head, buffers, children),
     }
 }
 
 /// The bytes of the root's metadata, as they are written.
+#[tactic(auto, using(crate::proofs::Kept::kept))]
 pub fn metadata(alloc: Global, array: &Array) -> Result<Blob, EncodingError>
     ensures ok { IfOk result (λ bytes. bytes ≡ message_bytes (told (metadata_in (label array.now) (below array.now)))) }
     ensures err { IsOkUnless result EncodingError.OutOfMemory }
 {
     match array.body() {
         Body::Null => Ok(write_empty(alloc)),
+        Body::Bool(flags) => bool::metadata(alloc, flags),
         Body::Primitive(_) => Ok(write_empty(alloc)),
     }
 }

@@ -60,7 +60,7 @@ impl ArraySession {
         ensures err { IsOkUnless result RegistryError.OutOfMemory }
     {
         let mut session = ArraySession::empty(alloc);
-        for encoding in [Encoding::Null, Encoding::Primitive] {
+        for encoding in [Encoding::Null, Encoding::Bool, Encoding::Primitive] {
             session.set(encoding)?;
         }
         Ok(session)
