@@ -9,7 +9,7 @@ use std::alloc::{AllocError, Global};
 use vx_arrays::RowValue;
 use vx_types::PValue;
 
-/// The text of a row's value: `null`, an integer in decimal, a float's bits as `0x` and hex digits, or `?` where
+/// The text of a row's value: `null`, `true`, `false`, an integer in decimal, a float's bits as `0x` and hex digits, or `?` where
 /// nothing is known of the row. None of these looks at the row's type.
 ///
 /// # Errors
@@ -20,6 +20,8 @@ pub fn row_text(alloc: Global, value: &RowValue) -> Result<String, AllocError>
     match value {
         RowValue::Null => String::from_str(alloc, "null"),
         RowValue::Opaque => String::from_str(alloc, "?"),
+        RowValue::Bool(true) => String::from_str(alloc, "true"),
+        RowValue::Bool(false) => String::from_str(alloc, "false"),
         RowValue::Primitive(number) => number_text(alloc, number),
     }
 }
