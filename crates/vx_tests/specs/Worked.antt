@@ -16,7 +16,7 @@ numbers = 1 ∷ 0 ∷ 0 ∷ 0 ∷ 2 ∷ 0 ∷ 0 ∷ 0 ∷ 3 ∷ 0 ∷ 0 ∷ 0 �
 
 -- Their array: four rows of 32-bit signed integers that are not nullable, in one buffer that is aligned to 4.
 abbrev pub integers : Tree
-integers = node (record { dtype = node (primitive I32 NonNullable) end; len = 4; body = B.primitive (record { bytes = numbers; exponent = 2 }) }) end
+integers = node (record { dtype = node (primitive I32 NonNullable) end; len = 4; body = B.primitive (record { values = record { bytes = numbers; exponent = 2 } }) }) end
 
 -- A context without identifiers that allows all.
 abbrev pub no_ids : Context
