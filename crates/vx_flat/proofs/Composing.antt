@@ -7,14 +7,12 @@ use Rattle.vx_flat.specs.declared.builder.piece.BlockField.{BlockField}
 use Rattle.vx_flat.specs.declared.builder.piece.BlockField.TheVariants as entry
 use Rattle.vx_flat.specs.declared.builder.piece.LinkKind.{LinkKind}
 use Rattle.vx_flat.specs.declared.builder.slot.Slot.{Slot}
-use Rattle.vx_flat.specs.declared.writing.block.Cell.{Cell}
 use Rattle.vx_flat.specs.Building.{entry_slots, element_slots}
 use Rattle.vx_flat.specs.BuilderView.{begun, front}
 use Rattle.vx_flat.specs.FieldTables.{align, zeros, le_bytes}
 use Rattle.vx_flat.specs.CellForm.{end_after}
 use Rattle.vx_flat.specs.Layout.{links_bytes}
-use Rattle.vx_flat.specs.Linking.{cell_at, cells_of, firsts, rest}
-use Rattle.vx_flat.proofs.Loose.{none_left}
+use Rattle.vx_flat.specs.Linking.{cell_at, firsts, rest}
 
 -- four bytes are set
 pub set_four : (m : List ℕ) (p a b c d : ℕ) → p + 4 ≤ length m

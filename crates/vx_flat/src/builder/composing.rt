@@ -72,13 +72,14 @@ pub fn is_shared(shares: bool, spot: Spot) -> bool
 }
 
 /// Adds a table.
+#[tactic(auto, using(crate::proofs::Pushing::cells_loose))]
 pub fn push_table(spot: Spot, cells: &[Cell], out: &mut Vec<u8>) -> Result<(), AllocError>
     ensures { OnOk result (out.new.items
         ≡ out.old.items ++ lay.block_bytes [] spot (table_block cells.now)) }
 {
     push_own(spot.is_own, cells, out)?;
     push_number(out, 4, spot.aim.saturating_sub(spot.fields) as u64)?;
-    push_cells(&[], spot.aim, cells, out)
+    push_cells(cells, out)
 }
 
 /// Adds a vector of numbers or structs of `size` bytes each.
