@@ -4,3 +4,6 @@ pub mod Told
 pub mod Refused
 pub mod Falls
 pub mod Falling
+pub mod StatTypes
+pub mod Stats
+pub mod Places
