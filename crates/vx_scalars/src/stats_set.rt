@@ -88,6 +88,15 @@ impl StatsSet {
     {
         self.entries.iter()
     }
+
+    /// An equal set.
+    pub fn clone(&self, alloc: Global) -> Result<StatsSet, ScalarError>
+        ensures ok { IfOk result (λ set. set ≡ self.now) }
+        ensures err { IsOkUnless result ScalarError.OutOfMemory }
+    {
+        let entries = copy_entries(self.entries.as_slice(), alloc)?;
+        Ok(StatsSet { entries })
+    }
 }
 
 // What is told, with its value lent.
@@ -171,4 +180,35 @@ fn add(
 {
     entries.push((stat, value))?;
     Ok(())
+}
+
+// Copies of the entries.
+fn copy_entries(
+    entries: &[(Stat, Precision<ScalarValue>)],
+    alloc: Global,
+) -> Result<Vec<(Stat, Precision<ScalarValue>)>, ScalarError>
+    ensures ok { IfOk result (λ copies. copies.items ≡ entries.now) }
+    ensures err { IsOkUnless result ScalarError.OutOfMemory }
+{
+    let mut copies = Vec::new(alloc);
+    for i in 0..entries.len() {
+        copies.push(copy_entry(&entries[i], alloc)?)?;
+    }
+    Ok(copies)
+}
+
+// A copy of an entry.
+fn copy_entry(
+    entry: &(Stat, Precision<ScalarValue>),
+    alloc: Global,
+) -> Result<(Stat, Precision<ScalarValue>), ScalarError>
+    ensures ok { IfOk result (λ copy. copy ≡ entry.now) }
+    ensures err { IsOkUnless result ScalarError.OutOfMemory }
+{
+    let stat = entry.0;
+    match &entry.1 {
+        Precision::Exact(value) => Ok((stat, Precision::Exact(value.clone(alloc)?))),
+        Precision::Inexact(value) => Ok((stat, Precision::Inexact(value.clone(alloc)?))),
+        Precision::Absent => Ok((stat, Precision::Absent)),
+    }
 }
