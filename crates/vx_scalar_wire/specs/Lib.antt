@@ -1,0 +1,4 @@
+pub mod ScalarMessage
+pub mod Shallow
+pub mod Writing
+pub mod Nans
