@@ -109,18 +109,52 @@ fn value(alloc: Global, which: usize) -> Result<Option<ScalarValue>, ScalarError
     }
 }
 
-// Whether a value fits a type, both by number.
-fn fits(alloc: Global, of: usize, which: usize) -> Result<bool, ScalarError> {
-    let dtype = dtype(alloc, of)?;
-    let value = value(alloc, which)?;
-    match Scalar::try_new(dtype, value) {
-        Ok(scalar) => {
-            let copy = scalar.clone(alloc)?;
-            Ok(copy.is_null() == (which == 0))
-        }
-        Err(ScalarError::BadScalar) => Ok(false),
+// Whether the value fits the type.
+fn is_fit(dtype: &DType, value: &Option<ScalarValue>) -> bool {
+    Scalar::validate(dtype, value.as_ref()).is_ok()
+}
+
+// Whether the value of this number fits the type.
+fn fits_type(alloc: Global, dtype: &DType, which: usize) -> Result<bool, ScalarError> {
+    match value(alloc, which) {
+        Ok(value) => Ok(is_fit(dtype, &value)),
         Err(error) => Err(error),
     }
+}
+
+// Whether a value fits a type, both by number.
+fn fits(alloc: Global, of: usize, which: usize) -> Result<bool, ScalarError> {
+    match dtype(alloc, of) {
+        Ok(dtype) => fits_type(alloc, &dtype, which),
+        Err(_) => Err(ScalarError::OutOfMemory),
+    }
+}
+
+// Whether a copy of a value of this number is as null as the value.
+fn is_copied(alloc: Global, which: usize) -> Result<bool, ScalarError> {
+    match value(alloc, which) {
+        Ok(Some(value)) => Ok(value.clone(alloc).is_ok()),
+        Ok(None) => Ok(false),
+        Err(error) => Err(error),
+    }
+}
+
+// A scalar and its copy.
+fn scalar(alloc: Global, value: Option<ScalarValue>) -> Result<Scalar, ScalarError> {
+    let numbers = DType::Primitive(PType::I32, Nullability::Nullable);
+    let scalar = Scalar::try_new(numbers, value)?;
+    scalar.clone(alloc)
+}
+
+#[test]
+fn copies_are_made(rt: HostRuntime) -> Result<(), Fail> {
+    let alloc = rt.alloc();
+    for which in 1..13 {
+        assert!(rt; is_copied(alloc, which)?, "value {which}");
+    }
+    assert!(rt; scalar(alloc, None)?.is_null());
+    assert!(rt; !scalar(alloc, Some(number(4)))?.is_null());
+    Ok(())
 }
 
 #[test]

@@ -3,7 +3,7 @@
 use std::alloc::Global;
 use std::test::Fail;
 use vx_scalars::{Precision, ScalarError, ScalarValue, Stat, StatsSet};
-use vx_types::{DType, DecimalDType, Nullability, PType, PValue, TypeError};
+use vx_types::{DType, DecimalDType, Nullability, PType, PValue};
 
 fn count(value: u64) -> ScalarValue {
     ScalarValue::Primitive(PValue::U64(value))
@@ -45,36 +45,66 @@ fn a_set_keeps_the_last_that_was_told(rt: HostRuntime) -> Result<(), Fail> {
     Ok(())
 }
 
-// Whether a statistic of arrays of a type has this type.
-fn has_type(
-    alloc: Global,
-    stat: Stat,
-    dtype: &DType,
-    wanted: Option<DType>,
-) -> Result<bool, ScalarError> {
-    let found = stat.dtype(alloc, dtype)?;
-    match (found, wanted) {
-        (Some(found), Some(wanted)) => Ok(found == wanted),
-        (None, None) => Ok(true),
-        _ => Ok(false),
+// Whether it is this type.
+fn is_type(found: &Option<DType>, wanted: &DType) -> bool {
+    match found {
+        Some(found) => *found == *wanted,
+        None => false,
     }
 }
 
-fn decimal(precision: u8, nullability: Nullability) -> Result<DType, TypeError> {
-    Ok(DType::Decimal(DecimalDType::try_new(precision, 2)?, nullability))
+// Whether a statistic of arrays of a type has this type.
+fn has_type(alloc: Global, stat: Stat, dtype: &DType, wanted: &DType) -> Result<bool, ScalarError> {
+    match stat.dtype(alloc, dtype) {
+        Ok(found) => Ok(is_type(&found, wanted)),
+        Err(error) => Err(error),
+    }
+}
+
+// Whether a statistic of numbers of one kind is of numbers of another.
+fn has_kind(
+    alloc: Global,
+    stat: Stat,
+    kind: PType,
+    wanted: PType,
+    n: Nullability,
+) -> Result<bool, ScalarError> {
+    let dtype = DType::Primitive(kind, Nullability::NonNullable);
+    let wanted = DType::Primitive(wanted, n);
+    has_type(alloc, stat, &dtype, &wanted)
+}
+
+// Whether a sum of decimals of so many digits has so many.
+fn has_digits(alloc: Global, precision: u8, wanted: u8) -> Result<bool, ScalarError> {
+    let dtype = DType::Decimal(
+        DecimalDType::try_new(precision, 2)?,
+        Nullability::NonNullable,
+    );
+    let wanted = DType::Decimal(DecimalDType::try_new(wanted, 2)?, Nullability::Nullable);
+    has_type(alloc, Stat::Sum, &dtype, &wanted)
+}
+
+// Whether arrays of variants have the statistic.
+fn variants_have(alloc: Global, stat: Stat) -> Result<bool, ScalarError> {
+    let dtype = DType::Variant(Nullability::NonNullable);
+    match stat.dtype(alloc, &dtype) {
+        Ok(found) => Ok(found.is_some()),
+        Err(error) => Err(error),
+    }
 }
 
 #[test]
 fn statistics_have_types(rt: HostRuntime) -> Result<(), Fail> {
     let alloc = rt.alloc();
     let plain = Nullability::NonNullable;
-    let numbers = DType::Primitive(PType::I16, plain);
-    let sum = DType::Primitive(PType::I64, Nullability::Nullable);
-    assert!(rt; has_type(alloc, Stat::Sum, &numbers, Some(sum))?);
-    let least = DType::Primitive(PType::I16, plain);
-    assert!(rt; has_type(alloc, Stat::Min, &numbers, Some(least))?);
-    let wider = decimal(76, Nullability::Nullable)?;
-    assert!(rt; has_type(alloc, Stat::Sum, &decimal(70, plain)?, Some(wider))?);
-    assert!(rt; has_type(alloc, Stat::Max, &DType::Variant(plain), None)?);
+    let nullable = Nullability::Nullable;
+    assert!(rt; has_kind(alloc, Stat::Min, PType::I16, PType::I16, plain)?);
+    assert!(rt; has_kind(alloc, Stat::Sum, PType::I16, PType::I64, nullable)?);
+    assert!(rt; has_kind(alloc, Stat::Sum, PType::F16, PType::F64, nullable)?);
+    assert!(rt; has_kind(alloc, Stat::NullCount, PType::F16, PType::U64, plain)?);
+    assert!(rt; has_digits(alloc, 10, 20)?);
+    assert!(rt; has_digits(alloc, 70, 76)?);
+    assert!(rt; !variants_have(alloc, Stat::Max)?);
+    assert!(rt; variants_have(alloc, Stat::IsConstant)?);
     Ok(())
 }

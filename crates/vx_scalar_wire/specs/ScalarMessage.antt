@@ -1,5 +1,5 @@
 -- The message of a scalar.
-use Rattle.std.specs.Prelude.{ℕ, Bool, List, [], ◌∷◌, ◌++◌, IsTrue, refl}
+use Rattle.std.specs.Prelude.{ℕ, List, [], ◌∷◌, ◌++◌, IsTrue, refl}
 use Rattle.std.specs.Int.{w8, w16, w32, w64, w128, cast_unsigned, to_le_bytes}
 use Rattle.vx_trees.specs.Rose.{node, end, more}
 use Rattle.vx_proto.specs.Lawful.{is_lawful}

@@ -2,7 +2,6 @@
 use Rattle.std.specs.Prelude.{◌≤◌}
 use Rattle.vx_trees.specs.Rose.{node, end, more}
 use Rattle.vx_trees.specs.Walks.{levels}
-use Rattle.vx_types.specs.Typ.{Typ}
 use Rattle.vx_types.specs.Value.{Mark, Value, Values, variant}
 use Rattle.vx_type_wire.specs.TypeMessage.{most_levels}
 use Rattle.vx_scalars.specs.Told.{Typed}

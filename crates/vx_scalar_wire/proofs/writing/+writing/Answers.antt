@@ -1,4 +1,4 @@
-use Rattle.std.proofs.Common.{◌≡◌, ap, subst, sym, ◌∙◌, arith, option_copied, Option}
+use Rattle.std.proofs.Common.{ap, subst, sym, ◌∙◌, arith, option_copied, Option}
 use Rattle.vx_trees.specs.Rose.{roses_of}
 use Rattle.vx_trees.specs.Walks.{nodes}
 use Rattle.vx_proto.specs.Value.{entries_view}
@@ -18,7 +18,7 @@ list_slots-returns-in-Err t c =
     let values = c.args.values.now in
     let v = c.value-item.result in
     let part : AreShallow (roses_of (all_seen values)) → IsShallow (seen (option_copied c.as_ref.result)) =
-        λ w. subst (λ (z : Option ScalarValue). IsShallow (seen z)) (sym c.as_ref.ensures.value) (shallow-at values c.loop-value.value-index v c.loop-value-test.true c.value-item.is w) in
+    λ w. subst (λ (z : Option ScalarValue). IsShallow (seen z)) (sym c.as_ref.ensures.value) (shallow-at values c.loop-value.value-index v c.loop-value-test.true c.value-item.is w) in
     unwritten-whole c.in-Err.error (IsShallow (seen (option_copied c.as_ref.result))) (AreShallow (roses_of (all_seen values))) part c.in-Err.ensures
 
 pub list_slots-loop-value-preserved : goal.list_slots-loop-value-preserved
@@ -26,8 +26,9 @@ list_slots-loop-value-preserved t c =
     let values = c.args.values.now in
     let v = c.value-item.result in
     let i = c.loop-value.value-index in
-    let is = c.as_ref.ensures.value in
-    (ap entries_view c.in_ok-push.ensures.items
-     ∙ list-more values i v c.loop-value.entries.items c.in-Ok.slots c.loop-value-test.true c.value-item.is c.loop-value.invariant.0
-       (c.in-Ok.ensures.0 ∙ ap (λ (z : Option ScalarValue). value_message (seen z)) is),
-     shallow-more values i v c.loop-value-test.true c.value-item.is c.loop-value.invariant.1 (subst (λ (z : Option ScalarValue). IsShallow (seen z)) is c.in-Ok.ensures.1))
+    let is = c.as_ref.ensures.value in (
+      ap entries_view c.in_ok-push.ensures.items
+          ∙ list-more values i v c.loop-value.entries.items c.in-Ok.slots c.loop-value-test.true c.value-item.is c.loop-value.invariant.0
+          (c.in-Ok.ensures.0 ∙ ap (λ (z : Option ScalarValue). value_message (seen z)) is),
+      shallow-more values i v c.loop-value-test.true c.value-item.is c.loop-value.invariant.1 (subst (λ (z : Option ScalarValue). IsShallow (seen z)) is c.in-Ok.ensures.1),
+    )

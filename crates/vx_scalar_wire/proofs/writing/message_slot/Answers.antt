@@ -1,4 +1,4 @@
-use Rattle.std.proofs.Common.{◌≡◌, [], ◌∷◌, refl, ap, ◌∙◌}
+use Rattle.std.proofs.Common.{[], ◌∷◌, refl, ap, ◌∙◌}
 use Rattle.vx_proto.proofs.LawsOfMessages.{where_ok}
 use Rattle.vx_proto.proofs.LawsOfRepeated.{shows_message}
 use Rattle.vx_proto.specs.Value.{Content, value_view}
