@@ -126,7 +126,12 @@ fn is_scalar(alloc: Global, bytes: &[u8]) -> Result<bool, ScalarWireError> {
 
 #[test]
 fn a_scalar_has_its_type(rt: HostRuntime) -> Result<(), Fail> {
-    assert!(rt; is_scalar(rt.alloc(), &[0x0a, 0x04, 0x1a, 0x02, 0x08, 0x06, 0x12, 0x02, 0x18, 0x54])?);
+    assert!(rt;
+        is_scalar(
+            rt.alloc(),
+            &[0x0a, 0x04, 0x1a, 0x02, 0x08, 0x06, 0x12, 0x02, 0x18, 0x54]
+        )?
+    );
     Ok(())
 }
 
@@ -136,8 +141,14 @@ fn sums_that_are_no_number_become_one(rt: HostRuntime) {
         (PValue::F16(0xfc01), PValue::F16(0x7e00)),
         (PValue::F16(0xfc00), PValue::F16(0xfc00)),
         (PValue::F32(0x7f80_0001), PValue::F32(0x7fc0_0000)),
-        (PValue::F64(0xffff_ffff_ffff_ffff), PValue::F64(0x7ff8_0000_0000_0000)),
-        (PValue::F64(0x7ff0_0000_0000_0000), PValue::F64(0x7ff0_0000_0000_0000)),
+        (
+            PValue::F64(0xffff_ffff_ffff_ffff),
+            PValue::F64(0x7ff8_0000_0000_0000),
+        ),
+        (
+            PValue::F64(0x7ff0_0000_0000_0000),
+            PValue::F64(0x7ff0_0000_0000_0000),
+        ),
         (PValue::U64(u64::MAX), PValue::U64(u64::MAX)),
     ] {
         assert!(rt; canonical_nan_sum(sum) == canonical);
