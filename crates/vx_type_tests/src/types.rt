@@ -122,7 +122,10 @@ fn each_kind_is_copied_and_made_nullable(rt: HostRuntime) -> Result<(), Fail> {
 
 // Whether a width of decimals has this code and so many bytes, and is found by its code.
 fn is_numbered(kind: DecimalType, code: u8, width: usize) -> bool {
-    kind.code() == code && kind.byte_width() == width && DecimalType::from_code(code) == Some(kind)
+    kind.code() == code
+        && kind.byte_width() == width
+        && kind.is_int()
+        && DecimalType::from_code(code) == Some(kind)
 }
 
 #[test]
