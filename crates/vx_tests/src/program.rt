@@ -13,7 +13,7 @@ const WORDS: [&str; 7] = ["recode", "t", "b", "4", "i", "o", "j"];
 
 const LISTING: &str = "vortex.primitive len=4 buffers=[16]\n0: 1\n1: 2\n2: 3\n3: 4\n";
 
-pub fn names(alloc: Global, words: &[&str]) -> Result<Vec<Name>, TypeError> {
+pub(crate) fn names(alloc: Global, words: &[&str]) -> Result<Vec<Name>, TypeError> {
     let mut names = Vec::new(alloc);
     for word in words {
         names.push(Name::new(alloc, word)?)?;
@@ -22,7 +22,7 @@ pub fn names(alloc: Global, words: &[&str]) -> Result<Vec<Name>, TypeError> {
 }
 
 // A store of a type file, a blob and an identifier file.
-pub fn store_of(
+pub(crate) fn store_of(
     alloc: Global,
     dtype: &[u8],
     blob: &[u8],
@@ -36,7 +36,7 @@ pub fn store_of(
 }
 
 // Whether these bytes stand at a name.
-pub fn holds(store: &MemStore, name: &str, bytes: &[u8]) -> bool {
+pub(crate) fn holds(store: &MemStore, name: &str, bytes: &[u8]) -> bool {
     match store.get(name) {
         Some(found) => found == bytes,
         None => false,
@@ -107,7 +107,7 @@ fn pads_count_from_the_offset(rt: HostRuntime) -> Result<(), Fail> {
 }
 
 // The status of these words over these files, with nothing saved and nothing printed.
-pub fn refused(
+pub(crate) fn refused(
     alloc: Global,
     rt: &impl std::process::Abort,
     words: &[&str],
@@ -177,7 +177,7 @@ fn files_are_judged(rt: HostRuntime) -> Result<(), Fail> {
 }
 
 // A blob with one byte set.
-pub fn with_byte(
+pub(crate) fn with_byte(
     alloc: Global,
     blob: &[u8],
     place: usize,
