@@ -57,9 +57,9 @@ mutual
   written-reads s (node V.null vs) d f w k = (f.1, refl)
   written-reads s (node V.opaque vs) d f w k = absurd f
   written-reads s (node (V.bool b) vs) d f w k = (f.0, f.1, refl)
-  written-reads s (node (V.number n) vs) d f w k = (f.0, f.1, numeral n)
-  written-reads s (node (V.decimal x) vs) d f w k = (f.0, f.1, refl)
-  written-reads s (node (V.utf8 bs) vs) d f w k = (f.0, f.1, inl refl)
+  written-reads s (node (V.number n) vs) d f w k = (f.0, f.1, w.0, numeral n)
+  written-reads s (node (V.decimal x) vs) d f w k = (f.0, f.1, w.0, refl)
+  written-reads s (node (V.utf8 bs) vs) d f w k = (f.0, f.1, w.0, inl refl)
   written-reads s (node (V.binary bs) vs) d f w k = (f.0, f.1, inr refl)
   written-reads s (node V.tuple vs) d f w k = (
     value_messages vs,

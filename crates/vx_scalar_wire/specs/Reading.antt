@@ -12,6 +12,8 @@ use Rattle.vx_types.specs.Kind.{Kind, list, fixed_size_list, structure, map}
 use Rattle.vx_types.specs.Numbers.{kind_of}
 use Rattle.vx_types.specs.Typ.{Typ}
 use Rattle.vx_types.specs.Value as V
+use Rattle.vx_types.specs.Content.{IsText}
+use Rattle.vx_types.specs.Well.{IsInRange, IsDecimalInRange}
 use Rattle.vx_types.specs.Words.{entries}
 use Rattle.vx_types.specs.declared.value.PValue.{PValue}
 use Rattle.vx_types.specs.declared.value.PValue.TheVariants.{U8, U16, U32, U64, I8, I16, I32, I64, F16, F32, F64}
@@ -63,15 +65,15 @@ ReadsParts Each By (node (map b m) (more x (more y end))) = Each (entries (recor
 ReadsParts Each By _ = ⊥
 
 abbrev mutual
-  -- A message is read as a value at a type, by the value's mark; null is read at every type. A union's value and
-  -- what stands in a variant also fit their types.
+  -- A message is read as a value at a type, by the value's mark: a number in the range of its kind, a text that is one.
+  -- Null is read at every type. A union's value and what stands in a variant also fit their types.
   pub ReadsValue : ExtMeaning → V.Value → Typ → Value → Type 0
   ReadsValue s (node V.null vs) d m = (vs ≡ end) × Holds m 1 (number 0)
   ReadsValue s (node V.opaque vs) d m = ⊥
   ReadsValue s (node (V.bool b) vs) d m = IsBoolean (bare d) × (vs ≡ end) × Holds m 2 (number (flag_number b))
-  ReadsValue s (node (V.number n) vs) d m = IsOf (kind_of n) (bare d) × (vs ≡ end) × HoldsNumber m n
-  ReadsValue s (node (V.decimal x) vs) d m = IsDecimal (bare d) × (vs ≡ end) × Holds m 8 (octets (decimal_bytes x))
-  ReadsValue s (node (V.utf8 bs) vs) d m = IsUtf8 (bare d) × (vs ≡ end) × HoldsOctets m bs
+  ReadsValue s (node (V.number n) vs) d m = IsOf (kind_of n) (bare d) × (vs ≡ end) × IsInRange n × HoldsNumber m n
+  ReadsValue s (node (V.decimal x) vs) d m = IsDecimal (bare d) × (vs ≡ end) × IsDecimalInRange x × Holds m 8 (octets (decimal_bytes x))
+  ReadsValue s (node (V.utf8 bs) vs) d m = IsUtf8 (bare d) × (vs ≡ end) × IsText bs × HoldsOctets m bs
   ReadsValue s (node (V.binary bs) vs) d m = IsBinary (bare d) × (vs ≡ end) × HoldsOctets m bs
   ReadsValue s (node V.tuple vs) d m =
       (ws : List Value) × Holds m 9 (message (slots_of (all_messages 1 ws ∷ []))) × ReadsParts (λ e. EachReads s vs e ws) (λ ts. ReadsBy s vs ts ws) (bare d)
