@@ -1,11 +1,11 @@
 -- Entries of a set of statistics: found, added, replaced and taken out.
-use Rattle.std.specs.Prelude.{ℕ, zero, suc, ◌≡◌, ◌==◌, ◌<◌, ◌+◌, Bool, true, false, cond, List, [], ◌∷◌, ◌++◌, length, take, drop, slice_set, refl}
+use Rattle.std.specs.Prelude.{ℕ, zero, suc, ◌≡◌, ◌==◌, ◌<◌, ◌+◌, Bool, true, false, cond, List, [], ◌∷◌, ◌++◌, length, take, slice_set, refl}
 use Rattle.std.specs.Cmp.{unsigned_Decides}
-use Rattle.std.proofs.Common.{arith, get_or, sym, ap, ◌∙◌, subst, add-one, true≢false}
+use Rattle.std.proofs.Common.{arith, get_or, sym, ap, ◌∙◌, add-one, true≢false}
 use Rattle.std.specs.List.{remove}
 use Rattle.vx_scalars.specs.Places.{IsPlace, changed, Changes, absence}
 use Rattle.vx_scalars.specs.StatTypes.{stat_index}
-use Rattle.vx_scalars.specs.Stats.{Told, Stats, stats_of, told_at, with_told, told, Entry, told_in, IsNowhere, IsTold, AreEntries}
+use Rattle.vx_scalars.specs.Stats.{Told, stats_of, told_at, with_told, told, Entry, told_in, IsNowhere, IsTold, AreEntries}
 use Rattle.vx_scalars.specs.declared.precision.Precision.{Precision}
 use Rattle.vx_scalars.specs.declared.precision.Precision.TheVariants.{Exact, Inexact, Absent}
 use Rattle.vx_scalars.specs.declared.stat.Stat.{Stat}

@@ -1,11 +1,10 @@
 -- Lists of values and of their trees, element by element.
-use Rattle.std.specs.Prelude.{ℕ, zero, suc, ◌+◌, ◌*◌, ◌≤◌, ◌<◌, ◌≡◌, ◌==◌, ◌↔◌, List, [], ◌∷◌, ◌++◌, length, take, Option, Some, None, position, cond, nat_lt, not, Bool, true, false, IsTrue, refl}
+use Rattle.std.specs.Prelude.{ℕ, zero, suc, ◌+◌, ◌≤◌, ◌<◌, ◌≡◌, ◌==◌, ◌↔◌, List, [], ◌∷◌, ◌++◌, length, take, Option, Some, None, position, cond, nat_lt, not, Bool, true, false, IsTrue, refl}
 use Rattle.std.specs.List.{position_or_len}
 use Rattle.std.specs.Cmp.{unsigned_Decides}
 use Rattle.std.proofs.lemmas.List.Quantifiers.{position-Some}
 use Rattle.std.proofs.Common.{arith, get_or, sym, ap, ◌∙◌, subst, add-one, true≢false}
-use Rattle.vx_trees.specs.Rose.{roses_of, node, end, more, count}
-use Rattle.vx_trees.specs.Walks.{nodes, nodes_of}
+use Rattle.vx_trees.specs.Rose.{roses_of, node, end, more}
 use Rattle.vx_trees.proofs.Lists.{count-roses_of}
 use Rattle.vx_trees.proofs.Counting.{nodes-at}
 use Rattle.vx_types.specs.Fits.{Fits, EachFits, FitBy, FitsMember, member}

@@ -1,8 +1,8 @@
 -- Each part of a value is smaller than the value, as the check asks for it.
-use Rattle.std.specs.Prelude.{ℕ, List, [], ◌∷◌, Option, Some, None, Box, ◌+◌, ◌*◌, ◌≤◌, max}
+use Rattle.std.specs.Prelude.{List, [], ◌∷◌, Option, Some, None, Box, ◌+◌, ◌*◌, ◌≤◌}
 use Rattle.std.proofs.Common.{arith, Global}
 use Rattle.vx_trees.specs.Rose.{roses_of}
-use Rattle.vx_trees.specs.Walks.{nodes, nodes_of}
+use Rattle.vx_trees.specs.Walks.{nodes_of}
 use denote.Param.Weighed.{most}
 use Rattle.vx_scalars.specs.Seen.{value_of, seen, all_seen, place_of}
 use Rattle.vx_scalars.specs.Falls.{value_size}

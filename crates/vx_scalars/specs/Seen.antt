@@ -1,10 +1,8 @@
 -- A declared value as the tree of marks that contracts see.
 use Rattle.std.specs.Prelude.{List, Option, Some, None, Box, map as each}
 use Rattle.vx_trees.specs.Rose.{node, end, more, roses_of}
-use Rattle.vx_trees.specs.Walks.{nodes, nodes_of}
 use Rattle.vx_types.specs.Value.{Value, lone, null, bool, number, decimal, utf8, binary, tuple, union, variant}
 use Rattle.vx_scalars.specs.Decimals.{decimal_of}
-use Rattle.vx_scalars.specs.Told.{Typed}
 use Rattle.vx_scalars.specs.declared.value.ScalarValue.{ScalarValue}
 use Rattle.vx_scalars.specs.declared.value.ScalarValue.TheVariants.{Bool, Primitive, Decimal, Utf8, Binary, Tuple, Union, Variant}
 

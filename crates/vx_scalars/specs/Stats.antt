@@ -1,5 +1,5 @@
 -- Statistics: what is told of an array's rows.
-use Rattle.std.specs.Prelude.{ℕ, ◌≡◌, ◌==◌, false, if◌then◌else◌, List, [], ◌∷◌, Option, Some, None, refl, ◌⊎◌}
+use Rattle.std.specs.Prelude.{◌≡◌, ◌==◌, false, if◌then◌else◌, List, [], ◌∷◌, Option, Some, None, refl, ◌⊎◌}
 use Rattle.std.specs.Coded.{Coded, code_by, coded⊎, coded_list}
 use Rattle.std.proofs.Common.{get_or}
 use mathlib.Core.Logic.{inl, inr}

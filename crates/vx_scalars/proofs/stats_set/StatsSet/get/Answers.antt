@@ -1,4 +1,4 @@
-use Rattle.std.proofs.Common.{◌≡◌, sym, ap, ◌∙◌, subst, arith}
+use Rattle.std.proofs.Common.{sym, ap, ◌∙◌, subst, arith}
 use Rattle.vx_scalars.specs.Places.{IsPlace}
 use Rattle.vx_scalars.specs.Stats.{told, told_at, told_in, IsNowhere}
 use Rattle.vx_scalars.proofs.Entries.{place-below, place-tells, nowhere-tells, told_at-stats_of}
