@@ -7,7 +7,7 @@ use vx_arrays::{Array, ArrayError, Arrays, Body, NullArray, PrimitiveArray, RowV
 use vx_buffer::{Alignment, BufferHandle, ByteBuffer};
 use vx_types::{DType, Nullability, PType, PValue};
 
-fn buffer_of(
+pub(crate) fn buffer_of(
     alloc: Global,
     bytes: &[u8],
     alignment: Alignment,
@@ -31,7 +31,11 @@ fn numbers(alloc: Global, bytes: &[u8], kind: PType, len: usize) -> Result<Array
 }
 
 // Whether a row is there, and its value.
-fn row(alloc: Global, array: &Array, index: usize) -> Result<(Option<bool>, RowValue), ArrayError> {
+pub(crate) fn row(
+    alloc: Global,
+    array: &Array,
+    index: usize,
+) -> Result<(Option<bool>, RowValue), ArrayError> {
     if index >= array.len() {
         return Err(ArrayError::BadShape);
     }
@@ -137,7 +141,7 @@ fn lends(array: &Array, bytes: &[u8]) -> bool {
     }
     let held = match array.body() {
         Body::Primitive(numbers) => numbers.values().len(),
-        Body::Null => 0,
+        Body::Null | Body::Bool(_) => 0,
     };
     held == bytes.len() && array.buffer(0).as_host().as_slice() == bytes
 }

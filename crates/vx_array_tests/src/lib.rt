@@ -4,6 +4,8 @@
 #[cfg(test)]
 mod arrays;
 #[cfg(test)]
+mod bools;
+#[cfg(test)]
 mod buffers;
 #[cfg(test)]
 mod encodings;
