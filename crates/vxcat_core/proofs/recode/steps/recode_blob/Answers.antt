@@ -9,7 +9,7 @@ use Rattle.vxcat_core.proofs.recode.steps.recode_blob.Goals as goal
 
 pub returns-in-Ok-recode-clause-made : goal.returns-in-Ok-recode-clause-made
 returns-in-Ok-recode-clause-made c =
-    let session = same_session _ c.new-session.result c.in-Ok-default.arrays c.new.result c.new-session.ensures.arrays c.new-session.ensures.ext c.in-Ok-default.ensures c.new.ensures in
+    let session = same_session _ c.new-session.result c.in-Ok-default.arrays c.new.result c.new-session.ensures.arrays c.new-session.ensures.ext c.in-Ok-default.ensures.shipped c.new.ensures in
     let asked = same_request c.args.blob c.in-Ok.buffer.bytes (typ c.args.dtype.now) c.args.len c.args.read_ids c.new-read.result c.empty-ids.result _ c.args.options.now
     (c.in-Ok.ensures.bytes ∙ c.into_vec.ensures) c.new-read.ensures c.empty-ids.ensures.ids c.empty-ids.ensures.allowed session in
     let made = product c.in-Ok-recode.recoded c.recode.new.ctx in
@@ -23,7 +23,7 @@ returns-in-Ok-recode-clause-cause c = memory_refused _ c.make_outputs.result c.m
 
 pub returns-clause-cause : goal.returns-clause-cause
 returns-clause-cause c =
-    let session = same_session _ c.new-session.result c.in-Ok-default.arrays c.new.result c.new-session.ensures.arrays c.new-session.ensures.ext c.in-Ok-default.ensures c.new.ensures in
+    let session = same_session _ c.new-session.result c.in-Ok-default.arrays c.new.result c.new-session.ensures.arrays c.new-session.ensures.ext c.in-Ok-default.ensures.shipped c.new.ensures in
     let asked = same_request c.args.blob c.in-Ok.buffer.bytes (typ c.args.dtype.now) c.args.len c.args.read_ids c.new-read.result c.empty-ids.result _ c.args.options.now
     (c.in-Ok.ensures.bytes ∙ c.into_vec.ensures) c.new-read.ensures c.empty-ids.ensures.ids c.empty-ids.ensures.allowed session in
     let cause = subst (λ (call : Request). Refuses call c.in-Err.error) asked c.in-Err.ensures.cause in
@@ -31,7 +31,7 @@ returns-clause-cause c =
 
 pub returns-clause-complete : goal.returns-clause-complete
 returns-clause-complete c = λ can.
-    let session = same_session _ c.new-session.result c.in-Ok-default.arrays c.new.result c.new-session.ensures.arrays c.new-session.ensures.ext c.in-Ok-default.ensures c.new.ensures in
+    let session = same_session _ c.new-session.result c.in-Ok-default.arrays c.new.result c.new-session.ensures.arrays c.new-session.ensures.ext c.in-Ok-default.ensures.shipped c.new.ensures in
     let asked = same_request c.args.blob c.in-Ok.buffer.bytes (typ c.args.dtype.now) c.args.len c.args.read_ids c.new-read.result c.empty-ids.result _ c.args.options.now
     (c.in-Ok.ensures.bytes ∙ c.into_vec.ensures) c.new-read.ensures c.empty-ids.ensures.ids c.empty-ids.ensures.allowed session in
     let memory = (c.in-Err.ensures.shipped (registry_shipped c.new-session.result.arrays _)).1 (subst CanRecode (sym asked) can) in
