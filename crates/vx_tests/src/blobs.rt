@@ -50,7 +50,10 @@ fn recoded(
     let Ok(ids) = worked_ids(alloc) else {
         return Err(WireError::OutOfMemory);
     };
-    let session = VortexSession::new(ArraySession::default(alloc)?, ExtSession::new(alloc));
+    let Ok(arrays) = ArraySession::default(alloc) else {
+        return Err(WireError::OutOfMemory);
+    };
+    let session = VortexSession::new(arrays, ExtSession::new(alloc));
     recode(
         alloc,
         ByteBuffer::copy_from(alloc, blob)?,
