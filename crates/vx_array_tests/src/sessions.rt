@@ -36,9 +36,9 @@ fn are_ids(ids: &Ids, texts: &[&str]) -> bool {
 }
 
 // A context that begins with `a`, `a` and `b`.
-fn begun(alloc: Global) -> Result<ArrayContext, RegistryError> {
+fn begun(alloc: Global) -> Result<ArrayContext, Fail> {
     let ids = list_of(alloc, &["a", "a", "b"])?;
-    ArrayContext::new(alloc, &ids)
+    Ok(ArrayContext::new(alloc, &ids)?)
 }
 
 #[test]
@@ -50,7 +50,7 @@ fn a_context_begins_with_each_identifier_once(rt: HostRuntime) -> Result<(), Fai
 }
 
 // The number of an identifier in that context, where only `a` is allowed, and the identifiers after it.
-fn limited(alloc: Global, text: &str) -> Result<(Option<u16>, Ids), RegistryError> {
+fn limited(alloc: Global, text: &str) -> Result<(Option<u16>, Ids), Fail> {
     let allowed = list_of(alloc, &["a"])?;
     let mut context = begun(alloc)?.with_allowed_ids(alloc, &allowed)?;
     let id = Id::new(alloc, text)?;
