@@ -1,8 +1,12 @@
--- What is written of a value that fits a type is read as the value at that type.
-use Rattle.std.proofs.Common.{ℕ, [], ◌∷◌, refl, inl, inr}
+-- What is written of a value that fits a type is read as the value at that type, and what is read at a type is one value.
+use Rattle.std.proofs.Common.{◌≡◌, ◌∙◌, ℕ, List, [], ◌∷◌, refl, sym, subst, inl, inr}
+use Rattle.vx_proto.specs.Value.{Value}
+use Rattle.vx_proto.proofs.LawsOfForms.{same_slot, same_rest}
+use Rattle.vx_proto.proofs.LawsOfMessages.{reads_one}
 use Rattle.vx_trees.specs.Rose.{Roses, node, end, more, count}
 use Rattle.vx_type_wire.specs.Known.{ExtMeaning, IsKnown}
 use Rattle.vx_type_wire.specs.TypeMessage.{type_message}
+use Rattle.vx_type_wire.proofs.MessageFound.{message-injective}
 use Rattle.vx_types.specs.Fits.{Fits, FitParts, FitsMember, EachFits, FitBy, bare}
 use Rattle.vx_types.specs.Kind as K
 use Rattle.vx_types.specs.Kind.{Kind}
@@ -13,8 +17,9 @@ use Rattle.vx_types.specs.Words.{entries}
 use Rattle.vx_types.specs.declared.value.PValue.{PValue}
 use Rattle.vx_types.specs.declared.value.PValue.TheVariants.{U8, U16, U32, U64, I8, I16, I32, I64, F16, F32, F64}
 use Rattle.vx_scalars.specs.Told.{Typed, IsTyped}
-use Rattle.vx_scalar_wire.specs.Reading.{HoldsNumber, ReadsParts, ReadsValue, EachReads, ReadsBy, ReadsScalar, IsKnownValue, AreKnownValues}
-use Rattle.vx_scalar_wire.specs.ScalarMessage.{number_member, value_message, value_messages, scalar_message}
+use Rattle.vx_scalar_wire.specs.Reading.{HoldsNumber, ReadsParts, ReadsValue, EachReads, ReadsBy, ReadsScalar, ShowsValue, IsKnownValue, AreKnownValues}
+use Rattle.vx_scalar_wire.specs.ScalarMessage.{number_member, value_message, value_messages, scalar_message, scalar_lists}
+use Rattle.vx_scalar_wire.proofs.OneValue.{reads-one, one_part}
 
 numeral : (n : PValue) → HoldsNumber (number_member n ∷ []) n
 numeral (U8 n) = inr refl
@@ -111,3 +116,26 @@ written-scalar_reads s x h k known = (
 
 -- For the clauses of writers.
 pub ruleset written = (written-reads, written-scalar_reads)
+
+-- ---- one value
+
+-- A message is read as one value at most, at a type and under the same readers.
+pub one_value : (s : ExtMeaning) (d : Typ) (m : Value) (v u : V.Value) → ReadsValue s v d m → ReadsValue s u d m → v ≡ u
+one_value s d m v u r q = reads-one s v u d m r q
+
+-- Bytes show one value at most at a type.
+pub one_shown : (s : ExtMeaning) (d : Typ) (bytes : List ℕ) (v u : V.Value) → ShowsValue s v d bytes → ShowsValue s u d bytes → v ≡ u
+one_shown s d bytes v u r q =
+    let same : r.0 ≡ q.0 = reads_one scalar_lists 15 bytes r.0 q.0 r.1 q.1 in
+    reads-one s v u d r.0 r.2 (subst (λ w. ReadsValue s u d w) (sym same) q.2)
+
+-- A scalar's message is read as one scalar at most.
+pub one_scalar : (s : ExtMeaning) (m : Value) (x y : Typed) → ReadsScalar s x m → ReadsScalar s y m → x ≡ y
+one_scalar s m x y r q =
+    let whole = sym r.2 ∙ q.2 in
+    let types : r.0 ≡ q.0 = one_part 1 r.0 q.0 (same_slot _ _ _ _ whole) in
+    let inner : r.1 ≡ q.1 = one_part 2 r.1 q.1 (same_slot _ _ [] [] (same_rest _ _ _ _ whole)) in
+    let dtype : x.dtype ≡ y.dtype = message-injective x.dtype y.dtype r.3.shows.is_type q.3.shows.is_type (sym r.3.shows.is ∙ types ∙ q.3.shows.is) in
+    let value : x.value ≡ y.value =
+    reads-one s x.value y.value x.dtype r.1 r.4 (subst (λ w. ReadsValue s y.value x.dtype w) (sym inner) (subst (λ d. ReadsValue s y.value d q.1) (sym dtype) q.4)) in
+    λ i. record { dtype = dtype i; value = value i }
