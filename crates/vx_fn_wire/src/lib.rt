@@ -1,0 +1,30 @@
+//! Expressions and functions as tagged messages.
+//!
+//! A [`ScalarFn`] is a function of rows as far as its messages tell: its identifier, its options as
+//! bytes, the text of these, and how its calls look. An [`AggregateFn`] is a function of columns, an
+//! identifier and options. Functions that nobody registered are foreign: [`ForeignScalarFnVTable`] and
+//! [`new_foreign_aggregate_fn`] make them of what their messages hold.
+//!
+//! The definitions that the contracts cite are public: `specs::Arity` says how many children a call may
+//! have, `specs::Messages` which message a function has, and `specs::Texts` how options look.
+#![tactic(auto)]
+
+mod aggregate_fn;
+mod arity;
+mod error;
+mod foreign;
+mod foreign_aggregate;
+pub mod pb;
+mod scalar_fn;
+mod views;
+
+pub use aggregate_fn::{AggregateFn, AggregateFnRef};
+pub use arity::Arity;
+pub use error::FnWireError;
+pub use foreign::{ForeignScalarFnOptions, ForeignScalarFnVTable};
+pub use foreign_aggregate::{
+    ForeignAggregateFnOptions, ForeignAggregateFnVTable, new_foreign_aggregate_fn,
+};
+pub use pb::{AggregateFnMessage, ExprMessage};
+pub use scalar_fn::{ScalarFn, ScalarFnRef};
+pub use views::{ScalarFnOptions, ScalarFnSignature};
