@@ -4,3 +4,8 @@ pub mod Schema
 pub mod Messages
 pub mod Texts
 pub mod Foreign
+pub mod Expr
+pub mod Parts
+pub mod Seen
+pub mod Falls
+pub mod ExprText

@@ -1,4 +1,4 @@
--- The texts of functions' options.
+-- The texts of functions' options, and of expressions.
 use Rattle.std.specs.Prelude.{ℕ, List, ◌++◌, codes, decimal, length, slice_get, unwrap_or}
 
 -- The options of a foreign function: how many children its calls have, and how many bytes its metadata.

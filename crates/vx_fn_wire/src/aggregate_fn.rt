@@ -1,13 +1,13 @@
 //! Functions of columns.
 
 ghost use Rattle.std.specs.Prelude.{◌≡◌, ◌⊎◌, None, IfOk, IfErr, IsOk, IsErr};
-ghost use Rattle.vx_proto.specs.Value.{entries_view};
-ghost use Rattle.vx_fn_wire.specs.Messages.{one_octets, aggregate_message, IsUnwrittenAggregate};
+ghost use Rattle.vx_fn_wire.specs.Messages.{aggregate_message, IsUnwrittenAggregate};
 
 use crate::error::FnWireError;
 use crate::pb;
+use crate::slots::octets_slot;
 use std::alloc::Global;
-use vx_proto::{Entries, PlainMessage, copied, one};
+use vx_proto::PlainMessage;
 use vx_types::{Blob, Id};
 
 /// A function of columns, as far as its message tells.
@@ -21,15 +21,6 @@ pub struct AggregateFn {
 
 /// An aggregate function, as it is held.
 pub type AggregateFnRef = AggregateFn;
-
-// The slot of a text or of bytes.
-fn octets_slot(alloc: Global, number: u32, bytes: &[u8]) -> Result<Entries, FnWireError>
-    ensures same { IfOk result (λ es. entries_view es.items ≡ one_octets number bytes.now) }
-    ensures err { IfErr result (λ e. e ≡ FnWireError.OutOfMemory) }
-{
-    let element = copied(alloc, bytes)?;
-    Ok(one(alloc, number, element)?)
-}
 
 impl AggregateFn {
     /// The function's message. `NotSerializable` exactly where its options cannot be written.

@@ -11,16 +11,24 @@
 
 mod aggregate_fn;
 mod arity;
+mod call;
 mod error;
+mod expression;
+mod expressions;
 mod foreign;
 mod foreign_aggregate;
 pub mod pb;
 mod scalar_fn;
+mod slots;
 mod views;
+mod writing;
 
 pub use aggregate_fn::{AggregateFn, AggregateFnRef};
 pub use arity::Arity;
+pub use call::Call;
 pub use error::FnWireError;
+pub use expression::{ExprSerializeProtoExt, Expression};
+pub use expressions::Expressions;
 pub use foreign::{ForeignScalarFnOptions, ForeignScalarFnVTable};
 pub use foreign_aggregate::{
     ForeignAggregateFnOptions, ForeignAggregateFnVTable, new_foreign_aggregate_fn,
