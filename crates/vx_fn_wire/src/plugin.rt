@@ -1,6 +1,8 @@
 //! Readers of functions, of the caller.
 
-ghost use Rattle.std.specs.Prelude.{◌≡◌, ℕ, List, Option};
+ghost use Rattle.std.specs.Prelude.{◌≡◌, ℕ, List, Option, Some, None};
+ghost use Rattle.vx_types.specs.Seen.{typ};
+ghost use Rattle.vx_types.specs.Typ.{Typ};
 ghost use Rattle.vx_fn_wire.specs.Plugin.{IsAnswer};
 ghost use Rattle.vx_fn_wire.specs.declared.scalar_fn.ScalarFn.{ScalarFn as Scalar};
 ghost use Rattle.vx_fn_wire.specs.declared.aggregate_fn.AggregateFn.{AggregateFn as Aggregate};
@@ -8,7 +10,7 @@ ghost use Rattle.vx_fn_wire.specs.declared.aggregate_fn.AggregateFn.{AggregateFn
 use crate::aggregate_fn::AggregateFn;
 use crate::scalar_fn::ScalarFn;
 use std::alloc::Global;
-use vx_types::Id;
+use vx_types::{DType, Id};
 
 /// Why a plugin gives no function.
 #[derive(Clone, Copy, Debug, PartialEq, Eq, Drop)]
@@ -51,6 +53,19 @@ pub trait AggregateFnPlugin: Drop {
     /// The function of this metadata. `Refused` exactly where the plugin's meaning refuses it.
     fn deserialize(&self, alloc: Global, metadata: &[u8]) -> Result<AggregateFn, PluginError>
         ensures { IsAnswer (aggregate_of self.now metadata.now) result };
+
+    /// The function by which zones of rows of a type are told apart, if there is one; None where the
+    /// plugin refuses the type. A plugin that does not say it has none for each type.
+    ghost zone_default: { Self → Typ → Option (Option Aggregate) } = { λ _ _. Some None };
+
+    /// The function by which zones of rows of this type are told apart, if there is one. `Refused`
+    /// exactly where the plugin's meaning refuses it.
+    fn zone_stat_default(
+        &self,
+        alloc: Global,
+        dtype: &DType,
+    ) -> Result<Option<AggregateFn>, PluginError>
+        ensures { IsAnswer (zone_default self.now (typ dtype.now)) result };
 }
 
 /// `id` of a box.
