@@ -9,3 +9,5 @@ pub mod Parts
 pub mod Seen
 pub mod Falls
 pub mod ExprText
+pub mod Plugin
+pub mod Session

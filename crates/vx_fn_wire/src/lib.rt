@@ -10,6 +10,7 @@
 #![tactic(auto)]
 
 mod aggregate_fn;
+mod aggregate_reading;
 mod arity;
 mod call;
 mod error;
@@ -18,7 +19,9 @@ mod expressions;
 mod foreign;
 mod foreign_aggregate;
 pub mod pb;
+mod plugin;
 mod scalar_fn;
+mod session;
 mod slots;
 mod views;
 mod writing;
@@ -34,5 +37,7 @@ pub use foreign_aggregate::{
     ForeignAggregateFnOptions, ForeignAggregateFnVTable, new_foreign_aggregate_fn,
 };
 pub use pb::{AggregateFnMessage, ExprMessage};
+pub use plugin::{AggregateFnPlugin, PluginError, ScalarFnPlugin};
 pub use scalar_fn::{ScalarFn, ScalarFnRef};
+pub use session::{AggregateFnSession, FnSession, ScalarFnSession};
 pub use views::{ScalarFnOptions, ScalarFnSignature};
