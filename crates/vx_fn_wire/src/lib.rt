@@ -5,8 +5,14 @@
 //! identifier and options. Functions that nobody registered are foreign: [`ForeignScalarFnVTable`] and
 //! [`new_foreign_aggregate_fn`] make them of what their messages hold.
 //!
+//! An [`Expression`] is a tree of calls over the root. It is written as a message and printed. A
+//! [`FnSession`] holds boxed plugins, by which an aggregate function is read of its message.
+//!
 //! The definitions that the contracts cite are public: `specs::Arity` says how many children a call may
-//! have, `specs::Messages` which message a function has, and `specs::Texts` how options look.
+//! have, `specs::Expr` which trees are expressions, `specs::Messages` which message a function and an
+//! expression have, `specs::Foreign` what a foreign function is, `specs::Texts` and `specs::ExprText`
+//! how options and expressions look, and `specs::Session` what a message is read as under a session, or
+//! why it is not.
 #![tactic(auto)]
 
 mod aggregate_fn;
