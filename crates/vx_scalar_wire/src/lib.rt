@@ -1,11 +1,13 @@
 //! Scalars as tagged messages.
 #![tactic(auto)]
 
+mod copying;
 mod error;
 mod kinds;
 mod messages;
 mod nans;
 pub mod pb;
+mod reading;
 mod writing;
 
 pub use error::{ScalarWireError, TypeRefusal};

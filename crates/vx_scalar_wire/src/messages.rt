@@ -15,10 +15,13 @@ ghost use Rattle.vx_scalar_wire.specs.Writing.{Writes, IsUnwritten, IsUnwrittenB
 
 use crate::error::ScalarWireError;
 use crate::pb;
+use crate::reading::{MOST_LEVELS, scalar_in, value_in};
 use crate::writing::{scalar_slots, value_slots};
 use std::alloc::Global;
 use vx_proto::{Blob, Message, PlainMessage};
 use vx_scalars::{Scalar, ScalarValue};
+use vx_type_wire::ExtSession;
+use vx_types::DType;
 
 /// A value into its message.
 pub trait ScalarValueExt: Sized {
@@ -27,6 +30,22 @@ pub trait ScalarValueExt: Sized {
 
     /// The bytes of that message.
     fn to_proto_bytes(alloc: Global, value: Option<&Self>) -> Result<Blob, ScalarWireError>;
+
+    /// The value, or the null, whose message this is at a type.
+    fn from_proto(
+        alloc: Global,
+        message: &pb::ScalarValue,
+        dtype: &DType,
+        readers: &ExtSession,
+    ) -> Result<Option<Self>, ScalarWireError>;
+
+    /// The value, or the null, whose message these bytes are at a type.
+    fn from_proto_bytes(
+        alloc: Global,
+        bytes: &[u8],
+        dtype: &DType,
+        readers: &ExtSession,
+    ) -> Result<Option<Self>, ScalarWireError>;
 }
 
 impl ScalarValueExt for ScalarValue {
@@ -64,12 +83,52 @@ impl ScalarValueExt for ScalarValue {
         let bytes = message.encode_to_vec(alloc)?;
         Ok(bytes)
     }
+
+    /// The value, or the null, whose message this is at a type.
+    fn from_proto(
+        alloc: Global,
+        message: &pb::ScalarValue,
+        dtype: &DType,
+        readers: &ExtSession,
+    ) -> Result<Option<ScalarValue>, ScalarWireError> {
+        message.hold();
+        let Some(slots) = message.slots() else {
+            return Err(ScalarWireError::MissingKind);
+        };
+        value_in(alloc, slots, dtype, readers, MOST_LEVELS)
+    }
+
+    /// The value, or the null, whose message these bytes are at a type.
+    fn from_proto_bytes(
+        alloc: Global,
+        bytes: &[u8],
+        dtype: &DType,
+        readers: &ExtSession,
+    ) -> Result<Option<ScalarValue>, ScalarWireError> {
+        let message = pb::ScalarValue::decode(alloc, bytes)?;
+        ScalarValue::from_proto(alloc, &message, dtype, readers)
+    }
 }
 
 /// A scalar into its message.
 pub trait ScalarExt: Sized {
     /// The message of the scalar.
     fn to_proto(&self, alloc: Global) -> Result<pb::Scalar, ScalarWireError>;
+
+    /// The scalar whose message this is.
+    fn from_proto(
+        alloc: Global,
+        message: &pb::Scalar,
+        readers: &ExtSession,
+    ) -> Result<Self, ScalarWireError>;
+
+    /// The scalar of a type whose value's message this is.
+    fn from_proto_value(
+        alloc: Global,
+        message: &pb::ScalarValue,
+        dtype: &DType,
+        readers: &ExtSession,
+    ) -> Result<Self, ScalarWireError>;
 }
 
 impl ScalarExt for Scalar {
@@ -83,6 +142,30 @@ impl ScalarExt for Scalar {
         self.hold();
         let slots = scalar_slots(alloc, self)?;
         Ok(PlainMessage::new(slots))
+    }
+
+    /// The scalar whose message this is.
+    fn from_proto(
+        alloc: Global,
+        message: &pb::Scalar,
+        readers: &ExtSession,
+    ) -> Result<Scalar, ScalarWireError> {
+        message.hold();
+        let Some(slots) = message.slots() else {
+            return Err(ScalarWireError::MissingKind);
+        };
+        scalar_in(alloc, slots, readers, MOST_LEVELS)
+    }
+
+    /// The scalar of a type whose value's message this is.
+    fn from_proto_value(
+        alloc: Global,
+        message: &pb::ScalarValue,
+        dtype: &DType,
+        readers: &ExtSession,
+    ) -> Result<Scalar, ScalarWireError> {
+        let value = ScalarValue::from_proto(alloc, message, dtype, readers)?;
+        Ok(Scalar::try_new(dtype.clone(alloc)?, value)?)
     }
 }
 

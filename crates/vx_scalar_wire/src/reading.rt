@@ -1,0 +1,236 @@
+//! Values out of plain values of messages.
+
+pub mod leaves;
+pub mod numbers;
+
+use crate::copying::copied_slots;
+use crate::error::{ScalarWireError, TypeRefusal};
+use crate::reading::leaves::{bytes_value, text_value};
+use crate::reading::numbers::number_value;
+use std::alloc::Global;
+use vx_proto::{Element, Entries, PlainMessage, entries_at, message_at, number_at};
+use vx_scalars::{Scalar, ScalarValue, ValueRef, Values, VariantRef, bare_dtype};
+use vx_type_wire::{DTypeExt, ExtSession, TypeWireError};
+use vx_types::{DType, StructFields, UnionVariants};
+
+/// At most so many levels of values are read: each nests two messages.
+pub const MOST_LEVELS: u8 = 50;
+
+/// The value whose message has this plain value, at a type, where it has at most
+/// so many levels; `None` is a null.
+#[cycle(reading)]
+pub fn value_in(
+    alloc: Global,
+    slots: &[Entries],
+    dtype: &DType,
+    readers: &ExtSession,
+    left: u8,
+) -> Result<Option<ScalarValue>, ScalarWireError> {
+    if left == 0 {
+        return Err(ScalarWireError::TooDeep);
+    }
+    match entries_at(slots, 0) {
+        [] => Err(ScalarWireError::MissingKind),
+        [(number, element), ..] => match element {
+            Element::Number(value) => number_value(*number, *value, dtype),
+            Element::Octets(bytes) => octets_value(alloc, *number, bytes, dtype),
+            Element::Message(parts) => {
+                message_value(alloc, *number, parts, dtype, readers, left - 1)
+            }
+        },
+    }
+}
+
+// What the octets of a member are read as: a string, or bytes.
+fn octets_value(
+    alloc: Global,
+    number: u32,
+    bytes: &[u8],
+    dtype: &DType,
+) -> Result<Option<ScalarValue>, ScalarWireError> {
+    match number {
+        7 => Ok(Some(text_value(alloc, bytes, dtype)?)),
+        8 => Ok(Some(bytes_value(alloc, bytes, dtype)?)),
+        _ => Err(ScalarWireError::MissingKind),
+    }
+}
+
+// What the message of a member is read as: a list, a union's value or a variant.
+#[cycle(reading)]
+fn message_value(
+    alloc: Global,
+    number: u32,
+    slots: &[Entries],
+    dtype: &DType,
+    readers: &ExtSession,
+    left: u8,
+) -> Result<Option<ScalarValue>, ScalarWireError> {
+    match number {
+        9 => Ok(Some(list_value(alloc, slots, dtype, readers, left)?)),
+        11 => Ok(Some(union_value(alloc, slots, dtype, readers, left)?)),
+        12 => Ok(Some(variant_value(alloc, slots, dtype, readers, left)?)),
+        _ => Err(ScalarWireError::MissingKind),
+    }
+}
+
+// A list at its type: of elements, of entries, or of one value a field.
+#[cycle(reading)]
+fn list_value(
+    alloc: Global,
+    slots: &[Entries],
+    dtype: &DType,
+    readers: &ExtSession,
+    left: u8,
+) -> Result<ScalarValue, ScalarWireError> {
+    let values = match bare_dtype(dtype) {
+        DType::List(element, _) => each_value(alloc, slots, element.get(), readers, left)?,
+        DType::FixedSizeList(element, _, _) => {
+            each_value(alloc, slots, element.get(), readers, left)?
+        }
+        DType::Map(map, _) => {
+            let entries = map.entries_dtype(alloc)?;
+            each_value(alloc, slots, &entries, readers, left)?
+        }
+        DType::Struct(fields, _) => field_values(alloc, slots, fields, readers, left)?,
+        _ => return Err(ScalarWireError::KindMismatch),
+    };
+    Ok(ScalarValue::Tuple(values))
+}
+
+// The values of a list's message, each at one type.
+#[cycle(reading)]
+fn each_value(
+    alloc: Global,
+    slots: &[Entries],
+    dtype: &DType,
+    readers: &ExtSession,
+    left: u8,
+) -> Result<Values, ScalarWireError> {
+    let mut values = Values::new(alloc);
+    for (_, element) in entries_at(slots, 0) {
+        let Some(message) = element.as_message() else {
+            return Err(ScalarWireError::MissingKind);
+        };
+        values.push(value_in(alloc, message, dtype, readers, left)?)?;
+    }
+    Ok(values)
+}
+
+// The values of a list's message, each at the type of its field.
+#[cycle(reading)]
+fn field_values(
+    alloc: Global,
+    slots: &[Entries],
+    fields: &StructFields,
+    readers: &ExtSession,
+    left: u8,
+) -> Result<Values, ScalarWireError> {
+    let members = entries_at(slots, 0);
+    let types = fields.fields().as_slice();
+    if members.len() != types.len() {
+        return Err(ScalarWireError::BadChild);
+    }
+    let mut values = Values::new(alloc);
+    for i in 0..members.len() {
+        let Some(message) = members[i].1.as_message() else {
+            return Err(ScalarWireError::MissingKind);
+        };
+        values.push(value_in(alloc, message, &types[i], readers, left)?)?;
+    }
+    Ok(values)
+}
+
+// A union's value: its tag, and the value of the member that has it.
+#[cycle(reading)]
+fn union_value(
+    alloc: Global,
+    slots: &[Entries],
+    dtype: &DType,
+    readers: &ExtSession,
+    left: u8,
+) -> Result<ScalarValue, ScalarWireError> {
+    let DType::Union(variants, _) = bare_dtype(dtype) else {
+        return Err(ScalarWireError::KindMismatch);
+    };
+    let Some(number) = number_at(slots, 0) else {
+        return Err(ScalarWireError::MissingKind);
+    };
+    if number > 255 {
+        return Err(ScalarWireError::OutOfRange);
+    }
+    let Some(message) = message_at(slots, 1) else {
+        return Err(ScalarWireError::MissingKind);
+    };
+    let tag = number as u8;
+    let dtype = member_type(variants, tag)?;
+    let value = value_in(alloc, message, dtype, readers, left)?;
+    match Scalar::validate(dtype, value.as_ref()) {
+        Ok(()) => Ok(ScalarValue::Union(tag, ValueRef::new(alloc, value)?)),
+        Err(_) => Err(ScalarWireError::BadChild),
+    }
+}
+
+// The type of the member that has a tag.
+fn member_type(variants: &UnionVariants, tag: u8) -> Result<&DType, ScalarWireError> {
+    variants.hold();
+    match variants.tag_to_child_index(tag) {
+        Some(index) => Ok(&variants.variants().as_slice()[index]),
+        None => Err(ScalarWireError::BadChild),
+    }
+}
+
+// A variant: a scalar of a type of its own.
+#[cycle(reading)]
+fn variant_value(
+    alloc: Global,
+    slots: &[Entries],
+    dtype: &DType,
+    readers: &ExtSession,
+    left: u8,
+) -> Result<ScalarValue, ScalarWireError> {
+    let DType::Variant(_) = bare_dtype(dtype) else {
+        return Err(ScalarWireError::KindMismatch);
+    };
+    let scalar = scalar_in(alloc, slots, readers, left)?;
+    Ok(ScalarValue::Variant(VariantRef::new(alloc, scalar)?))
+}
+
+/// The scalar whose message has this plain value, where its value has at most so
+/// many levels.
+#[cycle(reading)]
+pub fn scalar_in(
+    alloc: Global,
+    slots: &[Entries],
+    readers: &ExtSession,
+    left: u8,
+) -> Result<Scalar, ScalarWireError> {
+    let Some(type_slots) = message_at(slots, 0) else {
+        return Err(ScalarWireError::MissingKind);
+    };
+    let Some(value_slots) = message_at(slots, 1) else {
+        return Err(ScalarWireError::MissingKind);
+    };
+    let dtype = type_in(alloc, type_slots, readers)?;
+    let value = value_in(alloc, value_slots, &dtype, readers, left)?;
+    Ok(Scalar::try_new(dtype, value)?)
+}
+
+// The type whose message has this plain value.
+fn type_in(
+    alloc: Global,
+    slots: &[Entries],
+    readers: &ExtSession,
+) -> Result<DType, ScalarWireError> {
+    let message = PlainMessage::new(copied_slots(alloc, slots)?);
+    match DType::from_proto(alloc, &message, readers) {
+        Ok(dtype) => Ok(dtype),
+        Err(TypeWireError::OutOfMemory) => Err(ScalarWireError::OutOfMemory),
+        Err(TypeWireError::UnknownExtension) => {
+            Err(ScalarWireError::BadDType(TypeRefusal::UnknownExtension))
+        }
+        Err(TypeWireError::ExtensionRefused) => {
+            Err(ScalarWireError::BadDType(TypeRefusal::ExtensionRefused))
+        }
+        Err(_) => Err(ScalarWireError::BadDType(TypeRefusal::BadType)),
+    }
+}

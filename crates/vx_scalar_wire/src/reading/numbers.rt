@@ -1,0 +1,103 @@
+//! What the number of a member is read as.
+
+use crate::error::ScalarWireError;
+use vx_proto::unzigzag;
+use vx_scalars::{ScalarValue, bare_dtype};
+use vx_types::{DType, PType, PValue};
+
+/// What the number of a member is read as at a type: null, a flag, an integer or
+/// a float by its bits.
+pub fn number_value(
+    number: u32,
+    value: u64,
+    dtype: &DType,
+) -> Result<Option<ScalarValue>, ScalarWireError> {
+    match number {
+        1 => Ok(None),
+        2 => Ok(Some(flag_value(value, dtype)?)),
+        3 => Ok(Some(ScalarValue::Primitive(signed(unzigzag(value), dtype)?))),
+        4 => Ok(Some(ScalarValue::Primitive(unsigned(value, dtype)?))),
+        5 => Ok(Some(ScalarValue::Primitive(single(value, dtype)?))),
+        6 => Ok(Some(ScalarValue::Primitive(double(value, dtype)?))),
+        10 => Ok(Some(ScalarValue::Primitive(half(value, dtype)?))),
+        _ => Err(ScalarWireError::MissingKind),
+    }
+}
+
+// A flag.
+fn flag_value(value: u64, dtype: &DType) -> Result<ScalarValue, ScalarWireError> {
+    match bare_dtype(dtype) {
+        DType::Bool(_) => Ok(ScalarValue::Bool(value != 0)),
+        _ => Err(ScalarWireError::KindMismatch),
+    }
+}
+
+// The kind of the numbers of a type.
+fn kind_at(dtype: &DType) -> Result<PType, ScalarWireError> {
+    match bare_dtype(dtype) {
+        DType::Primitive(kind, _) => Ok(*kind),
+        _ => Err(ScalarWireError::KindMismatch),
+    }
+}
+
+// An integer that stands as one with sign.
+fn signed(value: i64, dtype: &DType) -> Result<PValue, ScalarWireError> {
+    integer(value as i128, kind_at(dtype)?)
+}
+
+// An integer that stands as one without sign, or the bits of a float of 16.
+fn unsigned(value: u64, dtype: &DType) -> Result<PValue, ScalarWireError> {
+    match kind_at(dtype)? {
+        PType::F16 => half_of(value),
+        kind => integer(value as i128, kind),
+    }
+}
+
+// A float of 16 bits.
+fn half(value: u64, dtype: &DType) -> Result<PValue, ScalarWireError> {
+    match kind_at(dtype)? {
+        PType::F16 => half_of(value),
+        _ => Err(ScalarWireError::KindMismatch),
+    }
+}
+
+// The float of 16 bits that has these.
+fn half_of(value: u64) -> Result<PValue, ScalarWireError> {
+    if value > 0xffff {
+        return Err(ScalarWireError::OutOfRange);
+    }
+    Ok(PValue::F16(value as u16))
+}
+
+// A float of 32 bits.
+fn single(value: u64, dtype: &DType) -> Result<PValue, ScalarWireError> {
+    match kind_at(dtype)? {
+        PType::F32 if value <= 0xffff_ffff => Ok(PValue::F32(value as u32)),
+        PType::F32 => Err(ScalarWireError::OutOfRange),
+        _ => Err(ScalarWireError::KindMismatch),
+    }
+}
+
+// A float of 64 bits.
+fn double(value: u64, dtype: &DType) -> Result<PValue, ScalarWireError> {
+    match kind_at(dtype)? {
+        PType::F64 => Ok(PValue::F64(value)),
+        _ => Err(ScalarWireError::KindMismatch),
+    }
+}
+
+// An integer as a number of a kind.
+fn integer(value: i128, kind: PType) -> Result<PValue, ScalarWireError> {
+    match kind {
+        PType::U8 if 0 <= value && value < 1 << 8 => Ok(PValue::U8(value as u8)),
+        PType::U16 if 0 <= value && value < 1 << 16 => Ok(PValue::U16(value as u16)),
+        PType::U32 if 0 <= value && value < 1 << 32 => Ok(PValue::U32(value as u32)),
+        PType::U64 if 0 <= value && value < 1 << 64 => Ok(PValue::U64(value as u64)),
+        PType::I8 if -(1 << 7) <= value && value < 1 << 7 => Ok(PValue::I8(value as i8)),
+        PType::I16 if -(1 << 15) <= value && value < 1 << 15 => Ok(PValue::I16(value as i16)),
+        PType::I32 if -(1 << 31) <= value && value < 1 << 31 => Ok(PValue::I32(value as i32)),
+        PType::I64 if -(1 << 63) <= value && value < 1 << 63 => Ok(PValue::I64(value as i64)),
+        PType::F16 | PType::F32 | PType::F64 => Err(ScalarWireError::KindMismatch),
+        _ => Err(ScalarWireError::OutOfRange),
+    }
+}
