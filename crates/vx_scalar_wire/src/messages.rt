@@ -20,7 +20,7 @@ use crate::writing::{scalar_slots, value_slots};
 use std::alloc::Global;
 use vx_proto::{Blob, Message, PlainMessage};
 use vx_scalars::{Scalar, ScalarValue};
-use vx_type_wire::ExtSession;
+use vx_type_wire::{DTypeExt, ExtSession};
 use vx_types::DType;
 
 /// A value into its message.
@@ -95,7 +95,7 @@ impl ScalarValueExt for ScalarValue {
         let Some(slots) = message.slots() else {
             return Err(ScalarWireError::MissingKind);
         };
-        value_in(alloc, slots, dtype, readers, MOST_LEVELS)
+        value_in(alloc, slots, dtype, &|alloc, message| DType::from_proto(alloc, message, readers), MOST_LEVELS)
     }
 
     /// The value, or the null, whose message these bytes are at a type.
@@ -154,7 +154,7 @@ impl ScalarExt for Scalar {
         let Some(slots) = message.slots() else {
             return Err(ScalarWireError::MissingKind);
         };
-        scalar_in(alloc, slots, readers, MOST_LEVELS)
+        scalar_in(alloc, slots, &|alloc, message| DType::from_proto(alloc, message, readers), MOST_LEVELS)
     }
 
     /// The scalar of a type whose value's message this is.

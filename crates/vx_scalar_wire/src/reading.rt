@@ -10,7 +10,7 @@ use crate::reading::numbers::number_value;
 use std::alloc::Global;
 use vx_proto::{Element, Entries, PlainMessage, entries_at, message_at, number_at};
 use vx_scalars::{Scalar, ScalarValue, ValueRef, Values, VariantRef, bare_dtype};
-use vx_type_wire::{DTypeExt, ExtSession, TypeWireError};
+use vx_type_wire::{TypeWireError, pb};
 use vx_types::{DType, StructFields, UnionVariants};
 
 /// At most so many levels of values are read: each nests two messages.
@@ -19,13 +19,15 @@ pub const MOST_LEVELS: u8 = 50;
 /// The value whose message has this plain value, at a type, where it has at most
 /// so many levels; `None` is a null.
 #[cycle(reading)]
-pub fn value_in(
+pub fn value_in<F: Fn(Global, &pb::DType) -> Result<DType, TypeWireError>>(
     alloc: Global,
     slots: &[Entries],
     dtype: &DType,
-    readers: &ExtSession,
+    types: &F,
     left: u8,
-) -> Result<Option<ScalarValue>, ScalarWireError> {
+) -> Result<Option<ScalarValue>, ScalarWireError>
+    requires { F.IsAlwaysCallable types.now }
+{
     if left == 0 {
         return Err(ScalarWireError::TooDeep);
     }
@@ -35,7 +37,7 @@ pub fn value_in(
             Element::Number(value) => number_value(*number, *value, dtype),
             Element::Octets(bytes) => octets_value(alloc, *number, bytes, dtype),
             Element::Message(parts) => {
-                message_value(alloc, *number, parts, dtype, readers, left - 1)
+                message_value(alloc, *number, parts, dtype, types, left - 1)
             }
         },
     }
@@ -57,41 +59,45 @@ fn octets_value(
 
 // What the message of a member is read as: a list, a union's value or a variant.
 #[cycle(reading)]
-fn message_value(
+fn message_value<F: Fn(Global, &pb::DType) -> Result<DType, TypeWireError>>(
     alloc: Global,
     number: u32,
     slots: &[Entries],
     dtype: &DType,
-    readers: &ExtSession,
+    types: &F,
     left: u8,
-) -> Result<Option<ScalarValue>, ScalarWireError> {
+) -> Result<Option<ScalarValue>, ScalarWireError>
+    requires { F.IsAlwaysCallable types.now }
+{
     match number {
-        9 => Ok(Some(list_value(alloc, slots, dtype, readers, left)?)),
-        11 => Ok(Some(union_value(alloc, slots, dtype, readers, left)?)),
-        12 => Ok(Some(variant_value(alloc, slots, dtype, readers, left)?)),
+        9 => Ok(Some(list_value(alloc, slots, dtype, types, left)?)),
+        11 => Ok(Some(union_value(alloc, slots, dtype, types, left)?)),
+        12 => Ok(Some(variant_value(alloc, slots, dtype, types, left)?)),
         _ => Err(ScalarWireError::MissingKind),
     }
 }
 
 // A list at its type: of elements, of entries, or of one value a field.
 #[cycle(reading)]
-fn list_value(
+fn list_value<F: Fn(Global, &pb::DType) -> Result<DType, TypeWireError>>(
     alloc: Global,
     slots: &[Entries],
     dtype: &DType,
-    readers: &ExtSession,
+    types: &F,
     left: u8,
-) -> Result<ScalarValue, ScalarWireError> {
+) -> Result<ScalarValue, ScalarWireError>
+    requires { F.IsAlwaysCallable types.now }
+{
     let values = match bare_dtype(dtype) {
-        DType::List(element, _) => each_value(alloc, slots, element.get(), readers, left)?,
+        DType::List(element, _) => each_value(alloc, slots, element.get(), types, left)?,
         DType::FixedSizeList(element, _, _) => {
-            each_value(alloc, slots, element.get(), readers, left)?
+            each_value(alloc, slots, element.get(), types, left)?
         }
         DType::Map(map, _) => {
             let entries = map.entries_dtype(alloc)?;
-            each_value(alloc, slots, &entries, readers, left)?
+            each_value(alloc, slots, &entries, types, left)?
         }
-        DType::Struct(fields, _) => field_values(alloc, slots, fields, readers, left)?,
+        DType::Struct(fields, _) => field_values(alloc, slots, fields, types, left)?,
         _ => return Err(ScalarWireError::KindMismatch),
     };
     Ok(ScalarValue::Tuple(values))
@@ -99,35 +105,39 @@ fn list_value(
 
 // The values of a list's message, each at one type.
 #[cycle(reading)]
-fn each_value(
+fn each_value<F: Fn(Global, &pb::DType) -> Result<DType, TypeWireError>>(
     alloc: Global,
     slots: &[Entries],
     dtype: &DType,
-    readers: &ExtSession,
+    types: &F,
     left: u8,
-) -> Result<Values, ScalarWireError> {
+) -> Result<Values, ScalarWireError>
+    requires { F.IsAlwaysCallable types.now }
+{
     let mut values = Values::new(alloc);
     for (_, element) in entries_at(slots, 0) {
         let Some(message) = element.as_message() else {
             return Err(ScalarWireError::MissingKind);
         };
-        values.push(value_in(alloc, message, dtype, readers, left)?)?;
+        values.push(value_in(alloc, message, dtype, types, left)?)?;
     }
     Ok(values)
 }
 
 // The values of a list's message, each at the type of its field.
 #[cycle(reading)]
-fn field_values(
+fn field_values<F: Fn(Global, &pb::DType) -> Result<DType, TypeWireError>>(
     alloc: Global,
     slots: &[Entries],
     fields: &StructFields,
-    readers: &ExtSession,
+    types: &F,
     left: u8,
-) -> Result<Values, ScalarWireError> {
+) -> Result<Values, ScalarWireError>
+    requires { F.IsAlwaysCallable types.now }
+{
     let members = entries_at(slots, 0);
-    let types = fields.fields().as_slice();
-    if members.len() != types.len() {
+    let dtypes = fields.fields().as_slice();
+    if members.len() != dtypes.len() {
         return Err(ScalarWireError::BadChild);
     }
     let mut values = Values::new(alloc);
@@ -135,20 +145,22 @@ fn field_values(
         let Some(message) = members[i].1.as_message() else {
             return Err(ScalarWireError::MissingKind);
         };
-        values.push(value_in(alloc, message, &types[i], readers, left)?)?;
+        values.push(value_in(alloc, message, &dtypes[i], types, left)?)?;
     }
     Ok(values)
 }
 
 // A union's value: its tag, and the value of the member that has it.
 #[cycle(reading)]
-fn union_value(
+fn union_value<F: Fn(Global, &pb::DType) -> Result<DType, TypeWireError>>(
     alloc: Global,
     slots: &[Entries],
     dtype: &DType,
-    readers: &ExtSession,
+    types: &F,
     left: u8,
-) -> Result<ScalarValue, ScalarWireError> {
+) -> Result<ScalarValue, ScalarWireError>
+    requires { F.IsAlwaysCallable types.now }
+{
     let DType::Union(variants, _) = bare_dtype(dtype) else {
         return Err(ScalarWireError::KindMismatch);
     };
@@ -163,7 +175,7 @@ fn union_value(
     };
     let tag = number as u8;
     let dtype = member_type(variants, tag)?;
-    let value = value_in(alloc, message, dtype, readers, left)?;
+    let value = value_in(alloc, message, dtype, types, left)?;
     match Scalar::validate(dtype, value.as_ref()) {
         Ok(()) => Ok(ScalarValue::Union(tag, ValueRef::new(alloc, value)?)),
         Err(_) => Err(ScalarWireError::BadChild),
@@ -181,48 +193,54 @@ fn member_type(variants: &UnionVariants, tag: u8) -> Result<&DType, ScalarWireEr
 
 // A variant: a scalar of a type of its own.
 #[cycle(reading)]
-fn variant_value(
+fn variant_value<F: Fn(Global, &pb::DType) -> Result<DType, TypeWireError>>(
     alloc: Global,
     slots: &[Entries],
     dtype: &DType,
-    readers: &ExtSession,
+    types: &F,
     left: u8,
-) -> Result<ScalarValue, ScalarWireError> {
+) -> Result<ScalarValue, ScalarWireError>
+    requires { F.IsAlwaysCallable types.now }
+{
     let DType::Variant(_) = bare_dtype(dtype) else {
         return Err(ScalarWireError::KindMismatch);
     };
-    let scalar = scalar_in(alloc, slots, readers, left)?;
+    let scalar = scalar_in(alloc, slots, types, left)?;
     Ok(ScalarValue::Variant(VariantRef::new(alloc, scalar)?))
 }
 
 /// The scalar whose message has this plain value, where its value has at most so
 /// many levels.
 #[cycle(reading)]
-pub fn scalar_in(
+pub fn scalar_in<F: Fn(Global, &pb::DType) -> Result<DType, TypeWireError>>(
     alloc: Global,
     slots: &[Entries],
-    readers: &ExtSession,
+    types: &F,
     left: u8,
-) -> Result<Scalar, ScalarWireError> {
+) -> Result<Scalar, ScalarWireError>
+    requires { F.IsAlwaysCallable types.now }
+{
     let Some(type_slots) = message_at(slots, 0) else {
         return Err(ScalarWireError::MissingKind);
     };
     let Some(value_slots) = message_at(slots, 1) else {
         return Err(ScalarWireError::MissingKind);
     };
-    let dtype = type_in(alloc, type_slots, readers)?;
-    let value = value_in(alloc, value_slots, &dtype, readers, left)?;
+    let dtype = type_in(alloc, type_slots, types)?;
+    let value = value_in(alloc, value_slots, &dtype, types, left)?;
     Ok(Scalar::try_new(dtype, value)?)
 }
 
 // The type whose message has this plain value.
-fn type_in(
+fn type_in<F: Fn(Global, &pb::DType) -> Result<DType, TypeWireError>>(
     alloc: Global,
     slots: &[Entries],
-    readers: &ExtSession,
-) -> Result<DType, ScalarWireError> {
+    types: &F,
+) -> Result<DType, ScalarWireError>
+    requires { F.IsAlwaysCallable types.now }
+{
     let message = PlainMessage::new(copied_slots(alloc, slots)?);
-    match DType::from_proto(alloc, &message, readers) {
+    match types(alloc, &message) {
         Ok(dtype) => Ok(dtype),
         Err(TypeWireError::OutOfMemory) => Err(ScalarWireError::OutOfMemory),
         Err(TypeWireError::UnknownExtension) => {
