@@ -255,3 +255,73 @@ fn a_scalar_is_read_at_its_type(rt: HostRuntime) -> Result<(), Fail> {
     assert!(rt; scalar_number(alloc, &[0x12, 0x02, 0x18, 0x54])? == Answer::Refused(ScalarWireError::MissingKind));
     Ok(())
 }
+
+// So many lists in one another, as a type.
+fn deep_type(alloc: Global, count: usize) -> Result<DType, TypeError> {
+    let mut dtype = numbers(PType::I32);
+    for _ in 0..count {
+        dtype = list_of(alloc, dtype)?;
+    }
+    Ok(dtype)
+}
+
+// One more message round others: its key, its length, and they.
+fn around(alloc: Global, key: u8, inner: &[u8]) -> Result<Vec<u8>, ScalarWireError> {
+    let mut bytes = Vec::new(alloc);
+    bytes.push(key)?;
+    let mut length = inner.len();
+    while length >= 128 {
+        bytes.push((length % 128) as u8 + 128)?;
+        length = length / 128;
+    }
+    bytes.push(length as u8)?;
+    bytes.extend_from_slice(inner)?;
+    Ok(bytes)
+}
+
+// The bytes of so many lists in one another, the innermost empty.
+fn deep_lists(alloc: Global, count: usize) -> Result<Vec<u8>, ScalarWireError> {
+    let mut bytes = around(alloc, 0x4a, &[])?;
+    for _ in 1..count {
+        let value = around(alloc, 0x0a, &bytes)?;
+        bytes = around(alloc, 0x4a, &value)?;
+    }
+    Ok(bytes)
+}
+
+fn read_lists(alloc: Global, count: usize) -> Result<Answer, ScalarWireError> {
+    let bytes = deep_lists(alloc, count)?;
+    match deep_type(alloc, count) {
+        Ok(dtype) => Ok(read_at(alloc, &bytes, &dtype)),
+        Err(_) => Err(ScalarWireError::OutOfMemory),
+    }
+}
+
+// The bytes of so many variants in one another, over the number 42.
+fn deep_variants(alloc: Global, count: usize) -> Result<Vec<u8>, ScalarWireError> {
+    let mut bytes = Vec::from_slice(alloc, &[0x18, 0x54])?;
+    let mut dtype = Vec::from_slice(alloc, &[0x0a, 0x04, 0x1a, 0x02, 0x08, 0x06])?;
+    for _ in 0..count {
+        let value = around(alloc, 0x12, &bytes)?;
+        dtype.extend_from_slice(&value)?;
+        bytes = around(alloc, 0x62, &dtype)?;
+        dtype = Vec::from_slice(alloc, &[0x0a, 0x02, 0x5a, 0x00])?;
+    }
+    Ok(bytes)
+}
+
+fn read_variants(alloc: Global, count: usize) -> Result<Answer, ScalarWireError> {
+    let bytes = deep_variants(alloc, count)?;
+    Ok(read_at(alloc, &bytes, &DType::Variant(NO)))
+}
+
+#[test]
+fn a_hundred_messages_are_read(rt: HostRuntime) -> Result<(), Fail> {
+    let alloc = rt.alloc();
+    let deep = Answer::Refused(ScalarWireError::TooDeep);
+    assert!(rt; read_lists(alloc, 50)? == Answer::Tuple(1));
+    assert!(rt; read_lists(alloc, 51)? == deep);
+    assert!(rt; read_variants(alloc, 49)? == Answer::Variant);
+    assert!(rt; read_variants(alloc, 50)? == deep);
+    Ok(())
+}
