@@ -2,4 +2,5 @@ pub mod Form
 pub mod Lists
 pub mod Digits
 pub mod OneValue
+pub mod Inversions
 pub mod LawsScalars
