@@ -41,7 +41,7 @@ held m g c e = ap tag_in e
 pub same_held : (m : Value) (g : ℕ) (a b : Content) → Holds m g a → Holds m g b → a ≡ b
 same_held m g a b e f = same_content g g a b [] [] (same_slot _ _ [] [] (sym e ∙ f))
 
-not_both : {P : Type 0} (m : Value) (g k : ℕ) (a b : Content) → Holds m g a → Holds m k b → (g ≡ k → P) → P
+pub not_both : {P : Type 0} (m : Value) (g k : ℕ) (a b : Content) → Holds m g a → Holds m k b → (g ≡ k → P) → P
 not_both m g k a b e f h = h (sym (held m g a e) ∙ held m k b f)
 
 -- ---- which mark is read, by the member's number and the type
@@ -135,7 +135,7 @@ one_flag true false e = absurd (omega (arith, e))
 one_flag false true e = absurd (omega (arith, e))
 one_flag false false e = refl
 
-one_integer : (m : Value) (y z : ℤ) → HoldsInteger m y → HoldsInteger m z → y ≡ z
+pub one_integer : (m : Value) (y z : ℤ) → HoldsInteger m y → HoldsInteger m z → y ≡ z
 one_integer m y z (inl e) (inl f) = zigzag_one y z (same_number _ _ (same_held m 3 _ _ e f))
 one_integer m y (pos n) (inl e) (inr f) = not_both m 3 4 _ _ e f (λ h. absurd (omega (arith, h)))
 one_integer m y (negsuc n) (inl e) (inr f) = absurd f
@@ -168,7 +168,7 @@ one_numeral m (F32 a) (F32 b) k h g = ap F32 (same_number a b (same_held m 5 _ _
 one_numeral m (F64 a) (F64 b) k h g = ap F64 (same_number a b (same_held m 6 _ _ h g))
 one_numeral m _ _ k h g = absurd (cc)
 
-of_kind : (p q : PType) (d : Typ) → IsOf p d → IsOf q d → p ≡ q
+pub of_kind : (p q : PType) (d : Typ) → IsOf p d → IsOf q d → p ≡ q
 of_kind p q (node (K.primitive r m) ts) h g = h ∙ sym g
 of_kind p q _ h g = absurd h
 

@@ -1,5 +1,16 @@
 //! What the number of a member is read as.
 
+ghost use Rattle.std.specs.Prelude.{◌≡◌, ◌<◌, ℕ, IfOk, IfErr, Some};
+ghost use Rattle.vx_types.specs.Fits.{IsOf, bare};
+ghost use Rattle.vx_types.specs.Numbers.{kind_of};
+ghost use Rattle.vx_types.specs.Well.{IsInRange};
+ghost use Rattle.vx_types.specs.declared.ptype.PType.{PType};
+ghost use Rattle.vx_proto.specs.Value.{number as a_number};
+ghost use Rattle.vx_type_wire.specs.Known.{ExtMeaning};
+ghost use Rattle.vx_types.specs.Seen.{typ};
+ghost use Rattle.vx_scalars.specs.Seen.{value_of};
+ghost use Rattle.vx_scalar_wire.specs.Answers.{GivesValue, integer_of, lone_member};
+
 use crate::error::ScalarWireError;
 use vx_proto::unzigzag;
 use vx_scalars::{ScalarValue, bare_dtype};
@@ -25,7 +36,10 @@ pub fn number_value(
 }
 
 // A flag.
-fn flag_value(value: u64, dtype: &DType) -> Result<ScalarValue, ScalarWireError> {
+#[tactic(auto, using(crate::proofs::Leaves::flag_read, crate::proofs::Leaves::flag_unread))]
+fn flag_value(value: u64, dtype: &DType) -> Result<ScalarValue, ScalarWireError>
+    ensures { (s : ExtMeaning) (most : ℕ) → value < 2 → GivesValue value_of result s most (typ dtype.now) (lone_member 2 (a_number value)) }
+{
     match bare_dtype(dtype) {
         DType::Bool(_) => Ok(ScalarValue::Bool(value != 0)),
         _ => Err(ScalarWireError::KindMismatch),
@@ -33,7 +47,11 @@ fn flag_value(value: u64, dtype: &DType) -> Result<ScalarValue, ScalarWireError>
 }
 
 // The kind of the numbers of a type.
-fn kind_at(dtype: &DType) -> Result<PType, ScalarWireError> {
+#[tactic(auto, using(crate::proofs::Leaves::not_numbers))]
+fn kind_at(dtype: &DType) -> Result<PType, ScalarWireError>
+    ensures ok { IfOk result (λ p. IsOf p (bare (typ dtype.now))) }
+    ensures err { IfErr result (λ e. (e ≡ ScalarWireError.KindMismatch) × ((p : PType) → IsOf p (bare (typ dtype.now)) → ⊥)) }
+{
     match bare_dtype(dtype) {
         DType::Primitive(kind, _) => Ok(*kind),
         _ => Err(ScalarWireError::KindMismatch),
@@ -87,7 +105,11 @@ fn double(value: u64, dtype: &DType) -> Result<PValue, ScalarWireError> {
 }
 
 // An integer as a number of a kind.
-fn integer(value: i128, kind: PType) -> Result<PValue, ScalarWireError> {
+fn integer(value: i128, kind: PType) -> Result<PValue, ScalarWireError>
+    ensures kind { IfOk result (λ n. kind_of n ≡ kind) }
+    ensures same { IfOk result (λ n. integer_of n ≡ Some value) }
+    ensures fits { IfOk result (λ n. IsInRange n) }
+{
     match kind {
         PType::U8 if 0 <= value && value < 1 << 8 => Ok(PValue::U8(value as u8)),
         PType::U16 if 0 <= value && value < 1 << 16 => Ok(PValue::U16(value as u16)),
