@@ -154,7 +154,7 @@ one_half m a b (inl e) (inr f) = not_both m 10 4 _ _ e f (λ h. absurd (omega (a
 one_half m a b (inr e) (inl f) = not_both m 4 10 _ _ e f (λ h. absurd (omega (arith, h)))
 one_half m a b (inr e) (inr f) = same_number a b (same_held m 4 _ _ e f)
 
-one_numeral : (m : Value) (a b : PValue) → kind_of a ≡ kind_of b → HoldsNumber m a → HoldsNumber m b → a ≡ b
+pub one_numeral : (m : Value) (a b : PValue) → kind_of a ≡ kind_of b → HoldsNumber m a → HoldsNumber m b → a ≡ b
 one_numeral m (U8 a) (U8 b) k h g = ap U8 (natural a b (one_integer m (pos a) (pos b) h g))
 one_numeral m (U16 a) (U16 b) k h g = ap U16 (natural a b (one_integer m (pos a) (pos b) h g))
 one_numeral m (U32 a) (U32 b) k h g = ap U32 (natural a b (one_integer m (pos a) (pos b) h g))

@@ -5,6 +5,10 @@ ghost use Rattle.vx_types.specs.Fits.{IsOf, bare};
 ghost use Rattle.vx_types.specs.Numbers.{kind_of};
 ghost use Rattle.vx_types.specs.Well.{IsInRange};
 ghost use Rattle.vx_types.specs.declared.ptype.PType.{PType};
+ghost use Rattle.vx_types.specs.declared.value.PValue.{PValue};
+ghost use Rattle.vx_types.specs.Value as V;
+ghost use Rattle.vx_proto.specs.Signed.{zigzag};
+ghost use Rattle.std.specs.Prelude.{pos};
 ghost use Rattle.vx_proto.specs.Value.{number as a_number};
 ghost use Rattle.vx_type_wire.specs.Known.{ExtMeaning};
 ghost use Rattle.vx_types.specs.Seen.{typ};
@@ -59,15 +63,27 @@ fn kind_at(dtype: &DType) -> Result<PType, ScalarWireError>
 }
 
 // An integer that stands as one with sign.
-fn signed(value: i64, dtype: &DType) -> Result<PValue, ScalarWireError> {
-    integer(value as i128, kind_at(dtype)?)
+#[tactic(auto, using(crate::proofs::Leaves::signed_given, crate::proofs::Leaves::no_kind))]
+fn signed(value: i64, dtype: &DType) -> Result<PValue, ScalarWireError>
+    ensures { (s : ExtMeaning) (most : ℕ) → GivesValue (λ n. V.lone (V.number n)) result s most (typ dtype.now) (lone_member 3 (a_number (zigzag value))) }
+{
+    match kind_at(dtype) {
+        Ok(kind) => integer(i128::from(value), kind),
+        Err(error) => Err(error),
+    }
 }
 
 // An integer that stands as one without sign, or the bits of a float of 16.
-fn unsigned(value: u64, dtype: &DType) -> Result<PValue, ScalarWireError> {
-    match kind_at(dtype)? {
-        PType::F16 => half_of(value),
-        kind => integer(value as i128, kind),
+#[tactic(auto, using(crate::proofs::Leaves::no_kind))]
+fn unsigned(value: u64, dtype: &DType) -> Result<PValue, ScalarWireError>
+    ensures { (s : ExtMeaning) (most : ℕ) → GivesValue (λ n. V.lone (V.number n)) result s most (typ dtype.now) (lone_member 4 (a_number value)) }
+{
+    match kind_at(dtype) {
+        Ok(kind) => match kind {
+            PType::F16 => half_of(value),
+            _ => integer(i128::from(value), kind),
+        },
+        Err(error) => Err(error),
     }
 }
 
@@ -80,7 +96,11 @@ fn half(value: u64, dtype: &DType) -> Result<PValue, ScalarWireError> {
 }
 
 // The float of 16 bits that has these.
-fn half_of(value: u64) -> Result<PValue, ScalarWireError> {
+fn half_of(value: u64) -> Result<PValue, ScalarWireError>
+    ensures same { IfOk result (λ n. n ≡ PValue.F16 value) }
+    ensures fits { IfOk result (λ n. IsInRange n) }
+    ensures none { IfErr result (λ e. IsInRange (PValue.F16 value) → ⊥) }
+{
     if value > 0xffff {
         return Err(ScalarWireError::OutOfRange);
     }
@@ -109,6 +129,7 @@ fn integer(value: i128, kind: PType) -> Result<PValue, ScalarWireError>
     ensures kind { IfOk result (λ n. kind_of n ≡ kind) }
     ensures same { IfOk result (λ n. integer_of n ≡ Some value) }
     ensures fits { IfOk result (λ n. IsInRange n) }
+    ensures none { IfErr result (λ e. (n : PValue) → kind_of n ≡ kind → IsInRange n → integer_of n ≡ Some value → ⊥) }
 {
     match kind {
         PType::U8 if 0 <= value && value < 1 << 8 => Ok(PValue::U8(value as u8)),
