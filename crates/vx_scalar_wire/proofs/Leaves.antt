@@ -1,6 +1,7 @@
 -- Members without messages in them, at a type.
 use Rattle.std.specs.Prelude.{IfOk, IfErr, Result, Ok, Err}
-use Rattle.std.proofs.Common.{◌≡◌, ◌∙◌, ◌<◌, Bool, true, false, ℕ, ℤ, pos, negsuc, Option, Some, None, List, [], ◌∷◌, refl, sym, ap, subst, inl, inr, arith}
+use Rattle.std.specs.Prelude.{if◌then◌else◌}
+use Rattle.std.proofs.Common.{◌≡◌, ◌∙◌, ◌<◌, ◌==◌, Bool, true, false, ℕ, ℤ, pos, negsuc, Option, Some, None, List, [], ◌∷◌, refl, sym, ap, subst, inl, inr, arith}
 use Rattle.vx_proto.specs.Parts.{flag_number}
 use Rattle.vx_proto.specs.Value.{Content, number, octets}
 use Rattle.vx_type_wire.specs.Known.{ExtMeaning}
@@ -166,3 +167,34 @@ float_given (Err e) s most d g c x w o h k i z =
 pub half_given : (r : Result PValue ScalarWireError) (s : ExtMeaning) (most : ℕ) (d : Typ) (k : ℕ) → IsOf kind.F16 (bare d)
     → IfOk r (λ n. n ≡ F16 k) → IfOk r (λ n. IsInRange n) → IfErr r (λ e. IsInRange (F16 k) → ⊥) → GivesValue (λ n. V.lone (V.number n)) r s most d (lone_member 4 (number k))
 half_given r s most d k o e i z = float_given r s most d 4 (number k) (F16 k) refl o (inr refl) e i z
+
+-- The kind of the floats that stand in a member.
+abbrev pub float_kind : ℕ → PType
+float_kind g = if g == 10 then kind.F16 else (if g == 5 then kind.F32 else kind.F64)
+
+not_integer : {P : Type 0} (g : ℕ) (c : Content) (y : ℤ) → (g ≡ 3 → ⊥) → (g ≡ 4 → ⊥) → HoldsInteger (lone_member g c) y → P
+not_integer g c y x z (inl e) = absurd (not_both (lone_member g c) g 3 c (number (zigzag y)) refl e x)
+not_integer g c (pos n) x z (inr e) = absurd (not_both (lone_member g c) g 4 c (number n) refl e z)
+not_integer g c (negsuc n) x z (inr e) = absurd e
+
+kind_held : (g : ℕ) (c : Content) (n : PValue) → (g ≡ 3 → ⊥) → (g ≡ 4 → ⊥) → HoldsNumber (lone_member g c) n → kind_of n ≡ float_kind g
+kind_held g c (U8 n) x z h = not_integer g c (pos n) x z h
+kind_held g c (U16 n) x z h = not_integer g c (pos n) x z h
+kind_held g c (U32 n) x z h = not_integer g c (pos n) x z h
+kind_held g c (U64 n) x z h = not_integer g c (pos n) x z h
+kind_held g c (I8 y) x z h = not_integer g c y x z h
+kind_held g c (I16 y) x z h = not_integer g c y x z h
+kind_held g c (I32 y) x z h = not_integer g c y x z h
+kind_held g c (I64 y) x z h = not_integer g c y x z h
+kind_held g c (F16 n) x z (inl h) = not_both (lone_member g c) g 10 c (number n) refl h (λ e. ap float_kind (sym e))
+kind_held g c (F16 n) x z (inr h) = absurd (not_both (lone_member g c) g 4 c (number n) refl h z)
+kind_held g c (F32 n) x z h = not_both (lone_member g c) g 5 c (number n) refl h (λ e. ap float_kind (sym e))
+kind_held g c (F64 n) x z h = not_both (lone_member g c) g 6 c (number n) refl h (λ e. ap float_kind (sym e))
+
+-- A float's member is read at no other kind.
+pub other_kind : (e : ScalarWireError) (s : ExtMeaning) (most : ℕ) (d : Typ) (g : ℕ) (c : Content) (p : PType) → rank_in g (bare d) ≡ 3 → (g ≡ 3 → ⊥) → (g ≡ 4 → ⊥) → IsOf p (bare d)
+    → (p ≡ float_kind g → ⊥) → FailsValue e s most d (lone_member g c)
+other_kind e s most d g c p w x z o h =
+    fails_any e s most d g c (λ v r.
+      let n = only_number s v d (lone_member g c) g c w refl r in
+      absurd (h (sym (of_kind (kind_of n.0) p (bare d) n.2 o) ∙ kind_held g c n.0 x z n.4)))
