@@ -88,10 +88,16 @@ fn unsigned(value: u64, dtype: &DType) -> Result<PValue, ScalarWireError>
 }
 
 // A float of 16 bits.
-fn half(value: u64, dtype: &DType) -> Result<PValue, ScalarWireError> {
-    match kind_at(dtype)? {
-        PType::F16 => half_of(value),
-        _ => Err(ScalarWireError::KindMismatch),
+#[tactic(auto, using(crate::proofs::Leaves::no_kind))]
+fn half(value: u64, dtype: &DType) -> Result<PValue, ScalarWireError>
+    ensures { (s : ExtMeaning) (most : ℕ) → GivesValue (λ n. V.lone (V.number n)) result s most (typ dtype.now) (lone_member 10 (a_number value)) }
+{
+    match kind_at(dtype) {
+        Ok(kind) => match kind {
+            PType::F16 => half_of(value),
+            _ => Err(ScalarWireError::KindMismatch),
+        },
+        Err(error) => Err(error),
     }
 }
 
