@@ -114,19 +114,42 @@ fn half_of(value: u64) -> Result<PValue, ScalarWireError>
 }
 
 // A float of 32 bits.
-fn single(value: u64, dtype: &DType) -> Result<PValue, ScalarWireError> {
-    match kind_at(dtype)? {
-        PType::F32 if value <= 0xffff_ffff => Ok(PValue::F32(value as u32)),
-        PType::F32 => Err(ScalarWireError::OutOfRange),
-        _ => Err(ScalarWireError::KindMismatch),
+#[tactic(auto, using(crate::proofs::Leaves::no_kind))]
+fn single(value: u64, dtype: &DType) -> Result<PValue, ScalarWireError>
+    ensures { (s : ExtMeaning) (most : ℕ) → GivesValue (λ n. V.lone (V.number n)) result s most (typ dtype.now) (lone_member 5 (a_number value)) }
+{
+    match kind_at(dtype) {
+        Ok(kind) => match kind {
+            PType::F32 => single_of(value),
+            _ => Err(ScalarWireError::KindMismatch),
+        },
+        Err(error) => Err(error),
     }
 }
 
+// The float of 32 bits that has these.
+fn single_of(value: u64) -> Result<PValue, ScalarWireError>
+    ensures same { IfOk result (λ n. n ≡ PValue.F32 value) }
+    ensures fits { IfOk result (λ n. IsInRange n) }
+    ensures none { IfErr result (λ e. IsInRange (PValue.F32 value) → ⊥) }
+{
+    if value > 0xffff_ffff {
+        return Err(ScalarWireError::OutOfRange);
+    }
+    Ok(PValue::F32(value as u32))
+}
+
 // A float of 64 bits.
-fn double(value: u64, dtype: &DType) -> Result<PValue, ScalarWireError> {
-    match kind_at(dtype)? {
-        PType::F64 => Ok(PValue::F64(value)),
-        _ => Err(ScalarWireError::KindMismatch),
+#[tactic(auto, using(crate::proofs::Leaves::no_kind))]
+fn double(value: u64, dtype: &DType) -> Result<PValue, ScalarWireError>
+    ensures { (s : ExtMeaning) (most : ℕ) → GivesValue (λ n. V.lone (V.number n)) result s most (typ dtype.now) (lone_member 6 (a_number value)) }
+{
+    match kind_at(dtype) {
+        Ok(kind) => match kind {
+            PType::F64 => Ok(PValue::F64(value)),
+            _ => Err(ScalarWireError::KindMismatch),
+        },
+        Err(error) => Err(error),
     }
 }
 
