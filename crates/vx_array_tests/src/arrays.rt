@@ -1,12 +1,13 @@
 //! Tests of arrays of numbers and of nulls: their rows, their parts and their refusals, with the texts.
 
+use crate::printed::prints;
 use std::alloc::Global;
 use std::test::Fail;
-use vx_arrays::{Array, ArrayError, Arrays, NullArray, PrimitiveArray, RowValue};
+use vx_arrays::{Array, ArrayError, Arrays, Body, NullArray, PrimitiveArray, RowValue};
 use vx_buffer::{Alignment, BufferHandle, ByteBuffer};
 use vx_types::{DType, Nullability, PType, PValue};
 
-fn buffer_of(
+pub(crate) fn buffer_of(
     alloc: Global,
     bytes: &[u8],
     alignment: Alignment,
@@ -29,40 +30,85 @@ fn numbers(alloc: Global, bytes: &[u8], kind: PType, len: usize) -> Result<Array
     )
 }
 
+// Whether a row is there, and its value.
+pub(crate) fn row(
+    alloc: Global,
+    array: &Array,
+    index: usize,
+) -> Result<(Option<bool>, RowValue), ArrayError> {
+    if index >= array.len() {
+        return Err(ArrayError::BadShape);
+    }
+    let value = array.value_at(alloc, index, 1)?;
+    Ok((array.is_valid(index), value))
+}
+
+// The same of numbers of a kind.
+fn number_row(
+    alloc: Global,
+    bytes: &[u8],
+    kind: PType,
+    len: usize,
+    index: usize,
+) -> Result<(Option<bool>, RowValue), ArrayError> {
+    let array = numbers(alloc, bytes, kind, len)?;
+    row(alloc, &array, index)
+}
+
 #[test]
 fn rows_are_numbers_lowest_byte_first(rt: HostRuntime) -> Result<(), Fail> {
     let alloc = rt.alloc();
     let bytes = [
         254, 255, 255, 255, 255, 255, 255, 255, 1, 2, 3, 4, 5, 6, 7, 8,
     ];
-    for (kind, len, first) in [
-        (PType::U8, 16, PValue::U8(254)),
-        (PType::I8, 16, PValue::I8(-2)),
-        (PType::U16, 8, PValue::U16(0xfffe)),
-        (PType::I16, 8, PValue::I16(-2)),
-        (PType::F16, 8, PValue::F16(0xfffe)),
-        (PType::U32, 4, PValue::U32(0xffff_fffe)),
-        (PType::I32, 4, PValue::I32(-2)),
-        (PType::F32, 4, PValue::F32(0xffff_fffe)),
-        (PType::U64, 2, PValue::U64(0xffff_ffff_ffff_fffe)),
-        (PType::I64, 2, PValue::I64(-2)),
-        (PType::F64, 2, PValue::F64(0xffff_ffff_ffff_fffe)),
+    for (kind, len, index, value) in [
+        (PType::U8, 16, 0, PValue::U8(254)),
+        (PType::I8, 16, 0, PValue::I8(-2)),
+        (PType::U16, 8, 0, PValue::U16(0xfffe)),
+        (PType::I16, 8, 0, PValue::I16(-2)),
+        (PType::F16, 8, 0, PValue::F16(0xfffe)),
+        (PType::U32, 4, 0, PValue::U32(0xffff_fffe)),
+        (PType::I32, 4, 0, PValue::I32(-2)),
+        (PType::F32, 4, 0, PValue::F32(0xffff_fffe)),
+        (PType::U64, 2, 0, PValue::U64(0xffff_ffff_ffff_fffe)),
+        (PType::I64, 2, 0, PValue::I64(-2)),
+        (PType::F64, 2, 0, PValue::F64(0xffff_ffff_ffff_fffe)),
+        (PType::U64, 2, 1, PValue::U64(0x0807_0605_0403_0201)),
     ] {
-        let array = numbers(alloc, &bytes, kind, len)?;
-        assert!(rt; array.len() > 0);
-        assert!(rt; array.value_at(alloc, 0, 1)? == RowValue::Primitive(first));
-        assert!(rt; array.is_valid(0) == Some(true));
-    }
-    let array = numbers(alloc, &bytes, PType::U64, 2)?;
-    assert!(rt; array.len() == 2);
-    assert!(rt;
-        array.value_at(alloc, 1, 1)? == RowValue::Primitive(PValue::U64(0x0807_0605_0403_0201))
-    );
-    match array.value_at(alloc, 1, 0) {
-        Err(ArrayError::ValueTooLarge) => {}
-        _ => assert!(rt; false, "a row of one cell has no room in none"),
+        let (valid, row) = number_row(alloc, &bytes, kind, len, index)?;
+        assert!(rt; valid == Some(true), "{len} numbers");
+        assert!(rt; row == RowValue::Primitive(value), "{len} numbers");
     }
     Ok(())
+}
+
+// Why the first of two numbers is not told for so many cells, if it is not.
+fn refusal(alloc: Global, budget: u64) -> Result<Option<ArrayError>, ArrayError> {
+    let array = numbers(alloc, &[1, 2], PType::U8, 2)?;
+    if array.is_empty() {
+        return Err(ArrayError::BadShape);
+    }
+    Ok(array.value_at(alloc, 0, budget).err())
+}
+
+#[test]
+fn a_number_takes_a_cell(rt: HostRuntime) -> Result<(), Fail> {
+    assert!(rt; refusal(rt.alloc(), 0)? == Some(ArrayError::ValueTooLarge));
+    assert!(rt; refusal(rt.alloc(), 1)?.is_none());
+    Ok(())
+}
+
+// Whether so many integers that may be null are made of a buffer and a validity.
+fn is_made(alloc: Global, buffer: BufferHandle, len: usize, validity: Option<Array>) -> bool {
+    PrimitiveArray::try_new(
+        alloc,
+        buffer,
+        PType::I32,
+        Nullability::Nullable,
+        len,
+        validity,
+    )
+    .is_ok()
 }
 
 #[test]
@@ -77,57 +123,91 @@ fn parts_that_do_not_fit_are_refused(rt: HostRuntime) -> Result<(), Fail> {
         (Alignment::none(), 2, false),
     ] {
         let buffer = buffer_of(alloc, &bytes, alignment)?;
-        let made = PrimitiveArray::try_new(
-            alloc,
-            buffer,
-            PType::I32,
-            Nullability::Nullable,
-            len,
-            None,
-        );
-        assert!(rt; made.is_ok() == fits, "{len} numbers");
+        assert!(rt; is_made(alloc, buffer, len, None) == fits, "{len} numbers");
     }
-    let validity = numbers(alloc, &[1, 1], PType::U8, 2)?;
     let buffer = buffer_of(alloc, &bytes, word)?;
-    let made = PrimitiveArray::try_new(
-        alloc,
-        buffer,
-        PType::I32,
-        Nullability::Nullable,
-        2,
-        Some(validity),
+    let validity = numbers(alloc, &[1, 1], PType::U8, 2)?;
+    assert!(rt;
+        !is_made(alloc, buffer, 2, Some(validity)),
+        "numbers are no validity"
     );
-    assert!(rt; made.is_err(), "numbers are no validity");
     Ok(())
+}
+
+// Whether an array of integers that are never null lends the buffer of these bytes.
+fn lends(array: &Array, bytes: &[u8]) -> bool {
+    if array.nbuffers() != 1 {
+        return false;
+    }
+    let held = match array.body() {
+        Body::Primitive(numbers) => numbers.values().len(),
+        Body::Null | Body::Bool(_) => 0,
+    };
+    held == bytes.len() && array.buffer(0).as_host().as_slice() == bytes
+}
+
+// Whether a copy of integers has their parts.
+fn are_copied(alloc: Global, bytes: &[u8]) -> Result<bool, ArrayError> {
+    let array = numbers(alloc, bytes, PType::I32, bytes.len() / 4)?;
+    let copy = array.clone(alloc)?;
+    let integers = DType::Primitive(PType::I32, Nullability::NonNullable);
+    Ok(
+        *copy.dtype() == integers
+            && copy.encoding_id() == "vortex.primitive"
+            && copy.children().len() == 0
+            && copy.validate().is_ok()
+            && lends(&copy, bytes),
+    )
+}
+
+// How many arrays a list of one lends, and hands over.
+fn listed(alloc: Global) -> Result<(usize, usize), ArrayError> {
+    let array = numbers(alloc, &[1, 2], PType::U8, 2)?;
+    let mut arrays = Arrays::new(alloc);
+    arrays.push(array)?;
+    let count = arrays.len();
+    Ok((count, arrays.into_vec().len()))
 }
 
 #[test]
 fn parts_are_lent_and_cloned(rt: HostRuntime) -> Result<(), Fail> {
-    let alloc = rt.alloc();
-    let array = numbers(alloc, &[1, 0, 0, 0, 2, 0, 0, 0], PType::I32, 2)?.clone(alloc)?;
-    assert!(rt; *array.dtype() == DType::Primitive(PType::I32, Nullability::NonNullable));
-    assert!(rt; array.encoding_id() == "vortex.primitive");
-    assert!(rt; array.nbuffers() == 1);
-    assert!(rt; array.buffer(0).as_host().as_slice() == [1, 0, 0, 0, 2, 0, 0, 0].as_slice());
-    assert!(rt; array.children().len() == 0);
-    assert!(rt; array.validate().is_ok());
-    assert!(rt; !array.is_empty());
-    let mut arrays = Arrays::new(alloc);
-    arrays.push(array)?;
-    assert!(rt; arrays.len() == 1);
-    assert!(rt; arrays.into_vec().len() == 1);
+    assert!(rt; are_copied(rt.alloc(), &[1, 0, 0, 0, 2, 0, 0, 0])?);
+    assert!(rt; listed(rt.alloc())? == (1, 1));
     Ok(())
+}
+
+// Whether a copy of so many nulls is one node of that length.
+fn nulls_are_copied(alloc: Global, len: usize) -> Result<bool, ArrayError> {
+    let array = NullArray::new(alloc, len)?;
+    let copy = array.clone(alloc)?;
+    Ok(
+        copy.encoding_id() == "vortex.null"
+            && copy.len() == len
+            && copy.nbuffers() == 0
+            && copy.children().len() == 0,
+    )
+}
+
+// A row of so many nulls.
+fn null_row(
+    alloc: Global,
+    len: usize,
+    index: usize,
+) -> Result<(Option<bool>, RowValue), ArrayError> {
+    let array = NullArray::new(alloc, len)?;
+    row(alloc, &array, index)
 }
 
 #[test]
 fn each_row_of_nulls_is_null(rt: HostRuntime) -> Result<(), Fail> {
     let alloc = rt.alloc();
-    let array = NullArray::new(alloc, usize::MAX)?.clone(alloc)?;
-    assert!(rt; array.encoding_id() == "vortex.null");
-    assert!(rt; array.len() == usize::MAX && array.nbuffers() == 0 && array.children().len() == 0);
+    assert!(rt; nulls_are_copied(alloc, usize::MAX)?);
     for index in [0, usize::MAX - 1] {
-        assert!(rt; array.is_valid(index) == Some(false));
-        assert!(rt; array.value_at(alloc, index, 1)? == RowValue::Null);
+        let (valid, row) = null_row(alloc, usize::MAX, index)?;
+        assert!(rt;
+            valid == Some(false) && row == RowValue::Null,
+            "row {index}"
+        );
     }
     Ok(())
 }
@@ -139,7 +219,7 @@ fn errors_are_printed(rt: HostRuntime) -> Result<(), Fail> {
         (ArrayError::BadShape, "the parts fit no sound array"),
         (ArrayError::ValueTooLarge, "the row takes too many cells"),
     ] {
-        assert_eq!(rt; format!(in rt.alloc(); "{error}")?.as_str(), text);
+        assert!(rt; prints(rt.alloc(), &error, text)?, "{text}");
     }
     Ok(())
 }

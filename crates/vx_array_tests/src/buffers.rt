@@ -1,5 +1,7 @@
 //! Tests of slices, alignments and lists of buffers, and of the texts of errors.
 
+use crate::printed::prints;
+use std::alloc::Global;
 use std::hash::{FoldHasher, Hasher};
 use std::test::Fail;
 use vx_buffer::{Alignment, BufferError, BufferHandle, BufferHandles, ByteBuffer, ByteBuffers};
@@ -49,42 +51,64 @@ fn buffers_keep_their_alignment(rt: HostRuntime) -> Result<(), Fail> {
     Ok(())
 }
 
-#[test]
-fn handles_are_sliced_by_bytes_and_by_values(rt: HostRuntime) -> Result<(), Fail> {
-    let alloc = rt.alloc();
+// Four words, each of four bytes.
+const WORDS: [u8; 16] = [1, 0, 0, 0, 2, 0, 0, 0, 3, 0, 0, 0, 4, 0, 0, 0];
+
+// Whether a slice by bytes has those.
+fn is_sliced_by_bytes(alloc: Global) -> Result<bool, BufferError> {
     let bytes = BufferHandle::new_host(ByteBuffer::copy_from(alloc, &[1, 2, 3, 4])?);
     let part = bytes.slice(alloc, 1..4)?;
-    assert_eq!(rt; part.as_host().as_slice(), [2, 3, 4].as_slice());
-    let words = [1, 0, 0, 0, 2, 0, 0, 0, 3, 0, 0, 0, 4, 0, 0, 0];
-    let words = BufferHandle::new_host(ByteBuffer::copy_from(alloc, &words)?);
+    Ok(part.as_host().as_slice() == [2, 3, 4].as_slice())
+}
+
+// Whether a slice by words has those, lent and copied.
+fn is_sliced_by_words(alloc: Global) -> Result<bool, BufferError> {
+    let words = BufferHandle::new_host(ByteBuffer::copy_from(alloc, &WORDS)?);
     let part = words.slice_typed(alloc, 4, 1..4)?;
-    assert_eq!(rt;
-        part.to_host_sync(alloc)?.as_slice(),
-        [2, 0, 0, 0, 3, 0, 0, 0, 4, 0, 0, 0].as_slice()
-    );
-    assert_eq!(rt; part.try_to_host_sync(alloc)?.len(), 12);
+    let host = part.to_host_sync(alloc)?;
+    Ok(host.as_slice() == [2, 0, 0, 0, 3, 0, 0, 0, 4, 0, 0, 0].as_slice())
+}
+
+// How many bytes a copy of a buffer has, where one can be had.
+fn copied_len(alloc: Global) -> Result<usize, BufferError> {
+    let words = BufferHandle::new_host(ByteBuffer::copy_from(alloc, &WORDS)?);
+    let copy = words.try_to_host_sync(alloc)?;
+    Ok(copy.len())
+}
+
+// How many buffers a copy of a list of one has.
+fn listed(alloc: Global) -> Result<usize, BufferError> {
     let mut handles = BufferHandles::new(alloc);
-    handles.push(words.clone(alloc)?)?;
-    assert_eq!(rt; handles.clone(alloc)?.into_vec().len(), 1);
-    let aligned = words.ensure_aligned(Alignment::from_exponent(3).ok_or("below 64")?);
-    assert!(rt; aligned.is_aligned_to(aligned.alignment()));
+    handles.push(BufferHandle::new_host(ByteBuffer::copy_from(alloc, &WORDS)?))?;
+    let copy = handles.clone(alloc)?;
+    Ok(copy.into_vec().len())
+}
+
+// Whether a buffer's hash is that of its copy at this alignment.
+fn is_hashed_alike(alloc: Global, alignment: Alignment) -> Result<bool, BufferError> {
+    let bytes = BufferHandle::new_host(ByteBuffer::copy_from(alloc, &[1, 2])?);
+    let aligned = bytes.clone(alloc)?.ensure_aligned(alignment);
     let mut first = FoldHasher::default();
     let mut second = FoldHasher::default();
     bytes.array_hash(&mut first);
-    bytes
-        .clone(alloc)?
-        .ensure_aligned(aligned.alignment())
-        .array_hash(&mut second);
-    assert_eq!(rt; first.finish(), second.finish());
+    aligned.array_hash(&mut second);
+    Ok(aligned.is_aligned_to(alignment) && first.finish() == second.finish())
+}
+
+#[test]
+fn handles_are_sliced_by_bytes_and_by_values(rt: HostRuntime) -> Result<(), Fail> {
+    let alloc = rt.alloc();
+    assert!(rt; is_sliced_by_bytes(alloc)?);
+    assert!(rt; is_sliced_by_words(alloc)?);
+    assert_eq!(rt; copied_len(alloc)?, 16);
+    assert_eq!(rt; listed(alloc)?, 1);
+    let eight = Alignment::from_exponent(3).ok_or("below 64")?;
+    assert!(rt; is_hashed_alike(alloc, eight)?);
     Ok(())
 }
 
 #[test]
 fn errors_are_printed(rt: HostRuntime) -> Result<(), Fail> {
-    let error = BufferError::OutOfMemory;
-    assert_eq!(rt;
-        format!(in rt.alloc(); "{error}")?.as_str(),
-        "out of memory"
-    );
+    assert!(rt; prints(rt.alloc(), &BufferError::OutOfMemory, "out of memory")?);
     Ok(())
 }

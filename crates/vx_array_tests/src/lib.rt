@@ -4,8 +4,14 @@
 #[cfg(test)]
 mod arrays;
 #[cfg(test)]
+mod bools;
+#[cfg(test)]
 mod buffers;
 #[cfg(test)]
 mod encodings;
 #[cfg(test)]
+mod printed;
+#[cfg(test)]
 mod registry;
+#[cfg(test)]
+mod sessions;

@@ -1,7 +1,6 @@
-pub mod Errors
-pub mod Tree
-pub mod Places
-pub mod Sound
-pub mod Normal
-pub mod Rows
+pub mod Plain
+pub mod Nulls
+pub mod Primitives
+pub mod Bools
+pub mod Validity
 pub mod Refused

@@ -1,18 +1,23 @@
 //! Arrays, each a tree of nodes, and what they tell of themselves.
 
 ghost use Rattle.std.specs.Prelude.{◌≡◌, ◌<◌, ◌≤◌, ◌==◌, length, IfOk, IfErr, IsOk, IsOkUnless, Some, slice_get};
-ghost use Rattle.vx_trees.specs.Rose.{label, below, node, roses_of};
 ghost use Rattle.vx_trees.specs.Everywhere.{EverywhereBelow};
+ghost use Rattle.vx_trees.specs.Rose.{label, below, node, end, roses_of};
+ghost use Rattle.vx_types.specs.Kind.{boolean};
 ghost use Rattle.vx_types.specs.Seen.{typ};
-ghost use Rattle.vx_arrays.specs.Tree.{encoding_id_of, buffers_of};
-ghost use Rattle.vx_arrays.specs.Sound.{IsSound, IsSoundNode};
-ghost use Rattle.vx_arrays.specs.Rows.{row_at, valid_at, cells};
+ghost use Rattle.vx_types.specs.declared.nullability.Nullability.TheVariants.{NonNullable};
+ghost use Rattle.vx_array_tree.specs.Rows.{flag_in};
+ghost use Rattle.vx_array_tree.specs.Sound.{IsSound, IsSoundNode};
+ghost use Rattle.vx_array_tree.specs.Table.{id_of, encoding_of, buffers_of};
+ghost use Rattle.vx_array_tree.specs.Tree.{rows_of, row_at, valid_at, cells};
+ghost use Rattle.vx_arrays.specs.Plain.{plain_body, head_of, plain_value};
 ghost use Rattle.vx_arrays.specs.Refused.{IsRowRefused};
 
 use crate::body::Body;
 use crate::error::ArrayError;
-use crate::numbers::number_at;
+use crate::null::NullArray;
 use crate::row::RowValue;
+use crate::validity::validity_at;
 use std::alloc::Global;
 use std::marker::Model;
 use vx_buffer::BufferHandle;
@@ -28,22 +33,23 @@ pub struct Array {
 }
 
 impl Model for Array {
-    ghost use Rattle.vx_arrays.specs.Tree.{Tree, tree_code};
+    ghost use Rattle.vx_array_tree.specs.Tree.{Tree, tree_code};
 
     ghost Value = { Tree };
 
     ghost coded = { tree_code };
 
-    ghost use Rattle.vx_types.specs.Seen.{typ};
+    ghost use Rattle.std.proofs.Common.{arith};
     ghost use Rattle.vx_trees.specs.Rose.{node, roses_of};
     ghost use Rattle.vx_trees.specs.Walks.{nodes};
     ghost use Rattle.vx_trees.proofs.Counting.{most_le-nodes};
-    ghost use Rattle.vx_arrays.specs.Sound.{IsSound};
-    ghost use Rattle.std.proofs.Common.{arith};
+    ghost use Rattle.vx_types.specs.Seen.{typ};
+    ghost use Rattle.vx_array_tree.specs.Sound.{IsSound};
+    ghost use Rattle.vx_arrays.specs.Plain.{head_of};
 
-    ghost view = { λ a. node (record { dtype = typ a.dtype; len = a.len; body = a.body }) (roses_of a.children.items) };
+    ghost view = { λ a. node (head_of (typ a.dtype) a.len a.body) (roses_of a.children.items) };
 
-    ghost invariant = { λ a. IsSound (node (record { dtype = typ a.dtype; len = a.len; body = a.body }) (roses_of a.children.items)) };
+    ghost invariant = { λ a. IsSound (node (head_of (typ a.dtype) a.len a.body) (roses_of a.children.items)) };
 
     ghost size = { nodes };
 
@@ -53,9 +59,9 @@ impl Model for Array {
 impl Array {
     // An array of parts that are sound together.
     pub(crate) fn from_parts(dtype: DType, len: usize, body: Body, children: Vec<Array>) -> Array
-        requires node { IsSoundNode (record { dtype = typ dtype; len = len; body = body }) (roses_of children.items) }
+        requires node { IsSoundNode (head_of (typ dtype) len body) (roses_of children.items) }
         requires below { EverywhereBelow IsSoundNode (roses_of children.items) }
-        ensures { result ≡ node (record { dtype = typ dtype; len = len; body = body }) (roses_of children.items) }
+        ensures { result ≡ node (head_of (typ dtype) len body) (roses_of children.items) }
     {
         Array {
             dtype,
@@ -63,13 +69,6 @@ impl Array {
             body,
             children,
         }
-    }
-
-    /// What is known of each array: its tree is sound. Nothing runs; a caller gets the fact.
-    pub fn hold(&self)
-        ensures { IsSound self.now }
-    {
-        let _ = &self.len;
     }
 
     /// The logical type of the rows.
@@ -82,7 +81,8 @@ impl Array {
 
     /// How many rows there are.
     pub fn len(&self) -> usize
-        ensures { result ≡ (label self.now).len }
+        ensures len { result ≡ (label self.now).len }
+        ensures sound { IsSound self.now }
     {
         self.len
     }
@@ -96,19 +96,16 @@ impl Array {
 
     /// What the root's encoding holds.
     pub fn body(&self) -> &Body
-        ensures { result.now ≡ (label self.now).body }
+        ensures { plain_body result.now ≡ (label self.now).body }
     {
         &self.body
     }
 
     /// The identifier of the root's encoding.
     pub fn encoding_id(&self) -> &str
-        ensures { result.now ≡ encoding_id_of (label self.now).body }
+        ensures { result.now ≡ id_of (encoding_of (label self.now).body) }
     {
-        match self.body {
-            Body::Null => "vortex.null",
-            Body::Primitive(_) => "vortex.primitive",
-        }
+        self.body.encoding_id()
     }
 
     /// The arrays below the root, in the order in which they are written.
@@ -123,10 +120,7 @@ impl Array {
     pub fn nbuffers(&self) -> usize
         ensures { result ≡ length (buffers_of (label self.now).body) }
     {
-        match self.body {
-            Body::Null => 0,
-            Body::Primitive(_) => 1,
-        }
+        self.body.nbuffers()
     }
 
     /// The root's buffer of this number.
@@ -134,10 +128,7 @@ impl Array {
         requires { index < length (buffers_of (label self.now).body) }
         ensures { slice_get (buffers_of (label self.now).body) index ≡ Some result.now }
     {
-        match &self.body {
-            Body::Null => unreachable!(),
-            Body::Primitive(values) => values,
-        }
+        self.body.buffer(index)
     }
 
     /// Checks the whole tree. Since no other array can be made, the answer is always Ok.
@@ -145,7 +136,7 @@ impl Array {
         ensures ok { IsOk result }
         ensures sound { IsSound self.now }
     {
-        self.hold();
+        let _ = &self.body;
         Ok(())
     }
 
@@ -156,7 +147,21 @@ impl Array {
     {
         match &self.body {
             Body::Null => Some(false),
-            Body::Primitive(_) => Some(true),
+            Body::Primitive(_) => validity_at(self.children.as_slice(), self.len, index),
+            Body::Bool(_) => validity_at(self.children.as_slice(), self.len, index),
+        }
+    }
+
+    // The row's flag, where this array has the type of a validity; None where the row is no flag.
+    pub(crate) fn flag_at(&self, index: usize) -> Option<bool>
+        requires inside { index < (label self.now).len }
+        requires flags { (label self.now).dtype ≡ node (boolean NonNullable) end }
+        ensures { result ≡ flag_in (row_at self.now index) }
+    {
+        match &self.body {
+            Body::Null => None,
+            Body::Primitive(_) => None,
+            Body::Bool(flags) => Some(flags.flag_at(index)),
         }
     }
 
@@ -168,21 +173,21 @@ impl Array {
         budget: u64,
     ) -> Result<RowValue, ArrayError>
         requires { index < (label self.now).len }
-        ensures row { IfOk result (λ row. row ≡ row_at self.now index) }
+        ensures row { IfOk result (λ row. plain_value row ≡ row_at self.now index) }
         ensures fits { IfOk result (λ _. cells self.now index ≤ budget) }
-        ensures err { IfErr result (λ e. IsRowRefused e self.now index budget) }
+        ensures err { IfErr result (λ e. IsRowRefused e (rows_of self.now) index budget) }
     {
-        if budget == 0 {
-            return Err(ArrayError::ValueTooLarge);
-        }
-        match (&self.body, &self.dtype) {
-            (Body::Null, _) => Ok(RowValue::Null),
-            (Body::Primitive(values), DType::Primitive(kind, _)) => {
-                let width = kind.byte_width();
-                let rest = &values.as_host().as_slice()[width * index..];
-                Ok(RowValue::Primitive(number_at(*kind, rest)))
-            }
-            _ => unreachable!(),
+        let children = self.children.as_slice();
+        match &self.body {
+            Body::Null => NullArray::value_at(self.len, index, budget),
+            Body::Primitive(numbers) => numbers.value_at(
+                &self.dtype,
+                self.len,
+                children,
+                index,
+                budget,
+            ),
+            Body::Bool(flags) => flags.value_at(&self.dtype, self.len, children, index, budget),
         }
     }
 
@@ -196,7 +201,10 @@ impl Array {
         for child in self.children() {
             children.push(child.clone(alloc)?)?;
         }
-        let dtype = self.dtype().clone(alloc)?;
+        let dtype = match self.dtype().clone(alloc) {
+            Ok(dtype) => dtype,
+            Err(_) => return Err(ArrayError::OutOfMemory),
+        };
         let body = self.body().clone(alloc)?;
         Ok(Array::from_parts(dtype, self.len(), body, children))
     }

@@ -1,9 +1,12 @@
-//! What a node's encoding holds beside its type, its rows and its children.
+//! What a node's encoding holds beside its type, its rows and its children: a line for each encoding.
 
-ghost use Rattle.std.specs.Prelude.{◌≡◌, IfOk, IsOkUnless};
-ghost use Rattle.vx_arrays.specs.declared.body.Body.{Body};
+ghost use Rattle.std.specs.Prelude.{◌≡◌, ◌<◌, length, slice_get, Some, IfOk, IsOkUnless};
+ghost use Rattle.vx_array_tree.specs.Table.{id_of, encoding_of, buffers_of};
 
+use crate::bool::{BoolArray, BoolData};
 use crate::error::ArrayError;
+use crate::null::NullArray;
+use crate::primitive::{PrimitiveArray, PrimitiveData};
 use std::alloc::Global;
 use vx_buffer::BufferHandle;
 
@@ -12,19 +15,58 @@ use vx_buffer::BufferHandle;
 pub enum Body {
     /// Nothing: each row is null.
     Null,
-    /// Numbers of the type's kind, one after the other, each with its lowest byte first.
-    Primitive(BufferHandle),
+    /// Numbers.
+    Primitive(PrimitiveData),
+    /// Flags.
+    Bool(BoolData),
 }
 
 impl Body {
-    /// The same buffers again.
+    ghost use Rattle.vx_arrays.specs.Plain.{plain_body};
+
+    /// The identifier of the encoding.
+    pub fn encoding_id(&self) -> &'static str
+        ensures { result.now ≡ id_of (encoding_of (plain_body self.now)) }
+    {
+        match self {
+            Body::Null => NullArray::ID,
+            Body::Primitive(_) => PrimitiveArray::ID,
+            Body::Bool(_) => BoolArray::ID,
+        }
+    }
+
+    /// How many buffers there are.
+    pub fn nbuffers(&self) -> usize
+        ensures { result ≡ length (buffers_of (plain_body self.now)) }
+    {
+        match self {
+            Body::Null => 0,
+            Body::Primitive(_) => 1,
+            Body::Bool(_) => 1,
+        }
+    }
+
+    /// The buffer of this number.
+    pub fn buffer(&self, index: usize) -> &BufferHandle
+        requires { index < length (buffers_of (plain_body self.now)) }
+        ensures { slice_get (buffers_of (plain_body self.now)) index ≡ Some result.now }
+    {
+        match self {
+            Body::Null => unreachable!(),
+            Body::Primitive(numbers) => numbers.values(),
+            Body::Bool(flags) => flags.bits(),
+        }
+    }
+
+    // The same buffers again. No byte is copied.
     pub(crate) fn clone(&self, alloc: Global) -> Result<Body, ArrayError>
         ensures ok { IfOk result (λ body. body ≡ self.now) }
         ensures err { IsOkUnless result ArrayError.OutOfMemory }
     {
         match self {
             Body::Null => Ok(Body::Null),
-            Body::Primitive(values) => Ok(Body::Primitive(values.clone(alloc)?)),
+            Body::Primitive(numbers) => Ok(Body::Primitive(numbers.clone(alloc)?)),
+            Body::Bool(flags) => Ok(Body::Bool(flags.clone(alloc)?)),
         }
     }
 }

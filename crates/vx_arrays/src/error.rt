@@ -6,7 +6,6 @@ ghost use Rattle.vx_arrays.specs.declared.error.ArrayError.TheVariants.{OutOfMem
 use std::alloc::{AllocError, AllocFailed};
 use thiserror::Error;
 use vx_buffer::BufferError;
-use vx_types::TypeError;
 
 /// Why a call on arrays was refused.
 #[derive(Clone, Copy, Debug, PartialEq, Eq, Error)]
@@ -44,21 +43,6 @@ impl From<BufferError> for ArrayError {
     fn from(e: BufferError) -> ArrayError {
         match e {
             BufferError::OutOfMemory => ArrayError::OutOfMemory,
-        }
-    }
-}
-
-impl From<TypeError> for ArrayError {
-    ghost use Rattle.vx_arrays.specs.Errors.{error_of};
-
-    ghost from_gives = { λ e r. r ≡ error_of e };
-
-    fn from(e: TypeError) -> ArrayError {
-        match e {
-            TypeError::OutOfMemory => ArrayError::OutOfMemory,
-            TypeError::BadDecimal | TypeError::FieldCount | TypeError::DuplicateTag => {
-                ArrayError::BadShape
-            }
         }
     }
 }

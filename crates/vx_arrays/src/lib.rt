@@ -1,19 +1,26 @@
 //! Arrays as sound trees: a type, a number of rows, an encoding's buffers, and the arrays below.
+//!
+//! Contracts see an [`Array`] as the plain tree of `vx_array_tree`. All code of an encoding stands in the file
+//! named after it; `body` and `array` only hand on to it, by a line for each encoding.
 #![tactic(auto)]
 
 mod array;
 mod body;
+mod bool;
 mod error;
 mod list;
 mod null;
 mod numbers;
 mod primitive;
 mod row;
+mod validity;
 
 pub use array::Array;
 pub use body::Body;
+pub use bool::{BoolArray, BoolData};
 pub use error::ArrayError;
 pub use list::Arrays;
 pub use null::NullArray;
-pub use primitive::PrimitiveArray;
+pub use primitive::{PrimitiveArray, PrimitiveData};
 pub use row::RowValue;
+pub use validity::validity_all_invalid;

@@ -4,7 +4,7 @@ ghost use Rattle.std.specs.Prelude.{◌≡◌, OnOk, OnErr, IsOkUnless};
 ghost use Rattle.vx_trees.specs.Everywhere.{EverywhereBelow};
 ghost use Rattle.vx_trees.specs.Rose.{count, end, roses_list, roses_of};
 ghost use Rattle.std.specs.Prelude.{◌++◌, ◌∷◌, []};
-ghost use Rattle.vx_arrays.specs.Sound.{IsSoundNode};
+ghost use Rattle.vx_array_tree.specs.Sound.{IsSoundNode};
 
 use crate::array::Array;
 use crate::error::ArrayError;
@@ -18,7 +18,7 @@ pub struct Arrays {
 }
 
 impl Model for Arrays {
-    ghost use Rattle.vx_arrays.specs.Tree.{Trees, trees_code};
+    ghost use Rattle.vx_array_tree.specs.Tree.{Trees, trees_code};
 
     ghost Value = { Trees };
 
@@ -26,7 +26,7 @@ impl Model for Arrays {
 
     ghost use Rattle.vx_trees.specs.Rose.{roses_of};
     ghost use Rattle.vx_trees.specs.Everywhere.{EverywhereBelow};
-    ghost use Rattle.vx_arrays.specs.Sound.{IsSoundNode};
+    ghost use Rattle.vx_array_tree.specs.Sound.{IsSoundNode};
 
     ghost view = { λ a. roses_of a.items.items };
 
@@ -50,7 +50,7 @@ impl Arrays {
         ensures unchanged { OnErr result (self.new ≡ self.old) }
         ensures err { IsOkUnless result ArrayError.OutOfMemory }
     {
-        array.hold();
+        array.validate()?;
         self.items.push(array)?;
         Ok(())
     }

@@ -2,7 +2,7 @@
 
 ghost use Rattle.std.specs.Prelude.{◌≡◌, ◌≤◌, length};
 ghost use Rattle.vx_types.specs.Numbers.{width_of};
-ghost use Rattle.vx_arrays.specs.Rows.{number_at};
+ghost use Rattle.vx_array_tree.specs.Bytes.{number_at};
 
 use bytes::Buf;
 use vx_types::{PType, PValue};

@@ -1,23 +1,104 @@
 //! Arrays of numbers.
 
-ghost use Rattle.std.specs.Prelude.{◌≡◌, ◌↔◌, IfOk, IfErr, IsTrue, IsOkUnless};
-ghost use Rattle.vx_arrays.specs.Places.{IsValidity};
-ghost use Rattle.vx_trees.specs.Everywhere.{EverywhereBelow};
+ghost use Rattle.std.specs.Prelude.{◌≡◌, ◌<◌, ◌≤◌, IfOk, IfErr, IsOkUnless};
 ghost use Rattle.vx_trees.specs.Rose.{roses_of};
-ghost use Rattle.vx_arrays.specs.Sound.{IsSound, IsSoundNode, option_trees, primitive_tree};
-ghost use Rattle.vx_arrays.specs.Refused.{IsRefused};
+ghost use Rattle.vx_types.specs.Seen.{typ};
+ghost use Rattle.vx_array_tree.specs.Encodings.Primitives.{rows as rows_of_numbers};
+ghost use Rattle.vx_array_tree.specs.Body as B;
+ghost use Rattle.vx_array_tree.specs.Sound.{IsSound, IsSoundNode};
+ghost use Rattle.vx_array_tree.specs.Tree.{Head, rows_below};
+ghost use Rattle.vx_arrays.specs.Plain.{plain_value};
+ghost use Rattle.vx_arrays.specs.Primitives.{primitive_tree};
+ghost use Rattle.vx_arrays.specs.Refused.{IsUnmade, IsRowRefused, IsOkOrMemory};
 
 use crate::array::Array;
 use crate::body::Body;
 use crate::error::ArrayError;
+use crate::numbers::number_at;
+use crate::row::{RowValue, within_budget};
+use crate::validity::{is_validity, only_validity, validity_at};
 use std::alloc::Global;
+use std::marker::Model;
 use vx_buffer::BufferHandle;
 use vx_types::{DType, Nullability, PType};
+
+/// What a node of numbers holds: the numbers, one after the other, each with its lowest byte first. Their kind
+/// is that of the node's type.
+#[derive(Drop)]
+pub struct PrimitiveData {
+    values: BufferHandle,
+}
+
+impl Model for PrimitiveData {
+    ghost use Rattle.vx_array_tree.specs.Encodings.Primitives.{Data, data_code};
+
+    ghost Value = { Data };
+
+    ghost coded = { data_code };
+
+    ghost view = { λ x. record { values = x.values } };
+}
+
+impl PrimitiveData {
+    /// The buffer of the numbers.
+    pub fn values(&self) -> &BufferHandle
+        ensures { result.now ≡ self.now.values }
+    {
+        &self.values
+    }
+
+    // The same numbers again. No byte is copied.
+    pub(crate) fn clone(&self, alloc: Global) -> Result<PrimitiveData, ArrayError>
+        ensures ok { IfOk result (λ numbers. numbers ≡ self.now) }
+        ensures err { IsOkUnless result ArrayError.OutOfMemory }
+    {
+        Ok(PrimitiveData {
+            values: self.values.clone(alloc)?,
+        })
+    }
+
+    // A row's value in a node of this type, length and children, if there is a cell to spend for it.
+    pub(crate) fn value_at(
+        &self,
+        dtype: &DType,
+        len: usize,
+        children: &[Array],
+        index: usize,
+        budget: u64,
+    ) -> Result<RowValue, ArrayError>
+        requires sound { let head : Head = record { dtype = typ dtype.now; len = len; body = B.primitive self.now } in
+            IsSoundNode head (roses_of children.now) }
+        requires inside { index < len }
+        ensures row { let rows = rows_of_numbers (typ dtype.now) len self.now (rows_below (roses_of children.now)) in
+            IfOk result (λ row. plain_value row ≡ rows.row index) }
+        ensures fits { let rows = rows_of_numbers (typ dtype.now) len self.now (rows_below (roses_of children.now)) in
+            IfOk result (λ _. rows.cells index ≤ budget) }
+        ensures err { let rows = rows_of_numbers (typ dtype.now) len self.now (rows_below (roses_of children.now)) in
+            IfErr result (λ e. IsRowRefused e rows index budget) }
+    {
+        let kind = match dtype {
+            DType::Primitive(kind, _) => *kind,
+            _ => unreachable!(),
+        };
+        match validity_at(children, len, index) {
+            None => within_budget(RowValue::Opaque, budget),
+            Some(false) => within_budget(RowValue::Null, budget),
+            Some(true) => {
+                let width = kind.byte_width();
+                let rest = &self.values.as_host().as_slice()[width * index..];
+                within_budget(RowValue::Primitive(number_at(kind, rest)), budget)
+            }
+        }
+    }
+}
 
 /// Arrays of numbers, one after the other in a buffer.
 pub struct PrimitiveArray {}
 
 impl PrimitiveArray {
+    /// The identifier of the encoding.
+    pub const ID: &'static str = "vortex.primitive";
+
     /// The array of `len` numbers that the buffer holds, each with its lowest byte first, aligned to their
     /// width. Where some rows are null, `validity` holds for each row whether it is there.
     ///
@@ -32,7 +113,8 @@ impl PrimitiveArray {
     ) -> Result<Array, ArrayError>
         ensures ok { IfOk result (λ a. a ≡ primitive_tree ptype nullability len buffer validity) }
         ensures sound { IfOk result IsSound }
-        ensures err { IfErr result (λ e. IsRefused e (primitive_tree ptype nullability len buffer validity)) }
+        ensures err { IfErr result (λ e. IsUnmade e (primitive_tree ptype nullability len buffer validity)) }
+        ensures complete { IsSound (primitive_tree ptype nullability len buffer validity) → IsOkOrMemory result }
     {
         let width = ptype.byte_width();
         match len.checked_mul(width) {
@@ -49,46 +131,12 @@ impl PrimitiveArray {
         if !is_validity(nullability, len, &validity) {
             return Err(ArrayError::BadShape);
         }
-        let children = children_of(alloc, validity)?;
+        let children = only_validity(alloc, validity)?;
         Ok(Array::from_parts(
             DType::Primitive(ptype, nullability),
             len,
-            Body::Primitive(buffer),
+            Body::Primitive(PrimitiveData { values: buffer }),
             children,
         ))
     }
-}
-
-// Whether an array may be the validity of a node of this nullability and length.
-fn is_validity(nullability: Nullability, len: usize, validity: &Option<Array>) -> bool
-    ensures { IsTrue result ↔ IsValidity nullability len (option_trees validity.now) }
-{
-    let array = match validity {
-        None => return true,
-        Some(array) => array,
-    };
-    if nullability == Nullability::NonNullable {
-        return false;
-    }
-    if array.len() != len {
-        return false;
-    }
-    match array.dtype() {
-        DType::Bool(Nullability::NonNullable) => true,
-        _ => false,
-    }
-}
-
-// The children of a node that has a validity and no others.
-fn children_of(alloc: Global, validity: Option<Array>) -> Result<Vec<Array>, ArrayError>
-    ensures children { IfOk result (λ children. roses_of children.items ≡ option_trees validity) }
-    ensures sound { EverywhereBelow IsSoundNode (option_trees validity) }
-    ensures err { IsOkUnless result ArrayError.OutOfMemory }
-{
-    let mut children = Vec::new(alloc);
-    if let Some(array) = validity {
-        array.hold();
-        children.push(array)?;
-    }
-    Ok(children)
 }

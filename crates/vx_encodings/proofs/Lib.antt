@@ -1,5 +1,11 @@
-pub mod Rows
+pub mod Laws
 mod Refusing
-mod PrimitiveParts
-mod NullParts
-pub mod LawsRows
+mod Bare
+mod Unread
+mod Offsets
+mod Validities
+mod Fitting
+mod Kept
+mod NullSteps
+mod BoolSteps
+mod PrimitiveSteps

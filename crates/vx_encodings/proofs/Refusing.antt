@@ -1,52 +1,99 @@
 -- What is refused has no plan and no array.
-use Rattle.std.proofs.Common.{ℕ, ◌≡◌, List, Option, Some, None, sym, ap, ◌∙◌, subst}
+use Rattle.std.proofs.Common.{ℕ, ◌≡◌, ◌⊎◌, List, Option, Some, None, sym, ap, ◌∙◌, subst, inl, inr, Result, Ok, Err, IfErr}
 use Rattle.vx_buffer.specs.Buffer.{Buffer}
 use Rattle.vx_trees.specs.Rose.{node, count}
+use Rattle.vx_types.specs.Known.{ExtMeaning}
 use Rattle.vx_types.specs.Seen.{typ}
 use Rattle.vx_types.specs.Typ.{Typ}
-use Rattle.vx_arrays.specs.Tree.{Tree, Trees, buffers_of}
-use Rattle.vx_arrays.specs.Places.{Place}
-use Rattle.vx_arrays.specs.Sound.{IsSound}
-use Rattle.vx_encodings.specs.declared.encoding.Encoding.{Encoding}
-use Rattle.vx_encodings.specs.declared.encoding.Metadata.{Metadata}
+use Rattle.vx_array_tree.specs.Body.{Body}
+use Rattle.vx_array_tree.specs.Encoding.{Encoding}
+use Rattle.vx_array_tree.specs.Metadata.{Metadata}
+use Rattle.vx_array_tree.specs.Place.{Place}
+use Rattle.vx_array_tree.specs.Sound.{IsSound, IsSoundNode}
+use Rattle.vx_array_tree.specs.Table.{metadata_of, body_of, plan_of, Allows, Takes, IsShaped}
+use Rattle.vx_array_tree.specs.Tree.{Tree, Trees, Head, places, encodings}
+use Rattle.vx_array_tree.proofs.NodeLaws.{body_encoding}
+use Rattle.vx_array_tree.proofs.Plans.{metadata_again}
+use Rattle.vx_wire_tree.specs.Fields.{Fields, meant}
+use Rattle.vx_wire_tree.specs.Reads.{IsMetadata}
+use Rattle.vx_wire_tree.specs.Steps.{PlansChildren, HasNoPlan, HasParts, HasWrongShape}
+use Rattle.vx_encodings.proofs.Laws.{one_message}
+use Rattle.vx_encodings.specs.Messages.{codec}
+use Rattle.vx_encodings.specs.Plain.{plain_encoding}
+use Rattle.vx_encodings.specs.Steps.{IsPlanned, IsUnplanned, IsBuilt, IsUnbuilt, IsMemory, IsOkOrMemory}
+use Rattle.vx_encodings.specs.declared.encoding.Encoding as Declared
 use Rattle.vx_encodings.specs.declared.error.EncodingError.{EncodingError}
 use Rattle.vx_encodings.specs.declared.error.EncodingError.TheVariants.{OutOfMemory, BadMetadata, BadShape}
 use Rattle.vx_encodings.specs.declared.head.ArrayHead.{ArrayHead}
-use Rattle.vx_encodings.specs.Encodings.{metadata_of, plan_of, IsShaped}
-use Rattle.vx_encodings.specs.Plans.{IsPlanned, HasNoPlan}
-use Rattle.vx_encodings.specs.Parts.{HasParts}
-use Rattle.vx_encodings.specs.Refusals.{IsUnplanned, IsUnbuilt, IsMisshaped, IsMemory}
-use Rattle.vx_encodings.proofs.Rows.{one_value, sound_shape}
+
+-- Bytes are metadata of a node of a type in at most one way.
+pub one_value : (x : ExtMeaning) (e : Encoding) (d : Typ) (bytes : List ℕ) (v w : Metadata) → IsMetadata codec x e d bytes v → IsMetadata codec x e d bytes w → v ≡ w
+one_value x e d bytes v w m k = sym m.meaning ∙ ap (λ (f : Fields). meant d f) (one_message e bytes m.fields k.fields m.shown k.shown) ∙ k.meaning
 
 not_both : {A : Type 0} {x : A} (o : Option A) → o ≡ None → o ≡ Some x → ⊥
 not_both o p q = absurd (cc)
 
-no_plan : (e : Encoding) (h : ArrayHead) (ps : List Place) → HasNoPlan e h → IsPlanned e h ps → ⊥
-no_plan e h ps u p =
-    let same : u.value ≡ p.value = one_value e h.metadata u.value p.value u.metadata.reads p.metadata.reads in
-    not_both (plan_of e (typ h.dtype) h.len p.value h.nchildren) (sym (ap (λ v. plan_of e (typ h.dtype) h.len v h.nchildren) same) ∙ u.none) p.plan
+no_plan : (x : ExtMeaning) (e : Encoding) (d : Typ) (n : ℕ) (bytes : List ℕ) (k : ℕ) (ps : List Place) → HasNoPlan codec x e d n bytes k → PlansChildren codec x e d n bytes k ps → ⊥
+no_plan x e d n bytes k ps u p =
+    let same = one_value x e d bytes u.value p.value u.metadata p.metadata in
+    not_both (plan_of e d n p.value k) (sym (ap (λ v. plan_of e d n v k) same) ∙ u.none) p.plan
 
--- of what is planned only memory is refused
-pub planned_refusal : (x : EncodingError) (e : Encoding) (h : ArrayHead) (ps : List Place) → IsUnplanned x e h → IsPlanned e h ps → IsMemory x
-planned_refusal OutOfMemory e h ps u p = tt
-planned_refusal BadMetadata e h ps u p = absurd (u p.value p.metadata)
-planned_refusal BadShape e h ps u p = absurd (no_plan e h ps u p)
+-- Of what is planned only memory is refused.
+pub planned_refusal : (x : ExtMeaning) (error : EncodingError) (e : Declared.Encoding) (h : ArrayHead) (ps : List Place) → IsUnplanned error x e h → IsPlanned x e h ps → IsMemory error
+planned_refusal x OutOfMemory e h ps u p = tt
+planned_refusal x BadMetadata e h ps u p = absurd (u p.value p.metadata)
+planned_refusal x BadShape e h ps u p = absurd (no_plan x (plain_encoding e) (typ h.dtype) h.len h.metadata h.nchildren ps u p)
 
--- a sound array's parts are as its encoding's row asks
-parts_shape : (e : Encoding) (d : Typ) (n : ℕ) (metadata : List ℕ) (bs : List Buffer) (us : Trees) (t : Tree) → HasParts e d n metadata bs us t → IsSound t
-    → IsMisshaped e d n metadata bs us → ⊥
-parts_shape e d n metadata bs us (node h ts) parts sound m =
-    let same : m.value ≡ metadata_of h ts = one_value e metadata m.value (metadata_of h ts) m.metadata_is.reads parts.metadata_is in
-    let s = sound_shape h ts e sound.0 parts.encoding in
-    let s1 = subst (λ (z : Trees). IsShaped e h.dtype h.len (metadata_of h ts) (buffers_of h.body) (count z)) parts.children_are s in
-    let s2 = subst (λ (z : List Buffer). IsShaped e h.dtype h.len (metadata_of h ts) z (count us)) parts.buffers_are s1 in
-    let s3 = subst (λ (z : ℕ). IsShaped e h.dtype z (metadata_of h ts) bs (count us)) parts.len_is s2 in
-    let s4 = subst (λ (z : Typ). IsShaped e z n (metadata_of h ts) bs (count us)) parts.dtype_is s3 in
-    m.misshaped (subst (λ (z : Metadata). IsShaped e d n z bs (count us)) (sym same) s4)
+-- Parts of a sound array, of which the children were planned, are as its encoding's row asks.
+module _ (x : ExtMeaning) (e : Encoding) (d : Typ) (n : ℕ) (bytes : List ℕ) (k : ℕ) (bs : List Buffer) (ts : Trees) where
+  root_is : (t : Tree) (h : Head) → t ≡ node h ts → IsSound t → IsSoundNode h ts
+  root_is t h q s = let r : IsSound (node h ts) = subst (λ (z : Tree). IsSound z) q s in r.0
 
--- of what is a sound array's parts only memory is refused
-pub parts_refusal : (x : EncodingError) (e : Encoding) (d : Typ) (n : ℕ) (metadata : List ℕ) (bs : List Buffer) (us : Trees) (t : Tree)
-    → IsUnbuilt x e d n metadata bs us → HasParts e d n metadata bs us t → IsSound t → IsMemory x
-parts_refusal OutOfMemory e d n metadata bs us t u parts sound = tt
-parts_refusal BadMetadata e d n metadata bs us t u parts sound = absurd u
-parts_refusal BadShape e d n metadata bs us t u parts sound = absurd (parts_shape e d n metadata bs us t parts sound u)
+  metadata_is : (v : Metadata) (b : Body) → body_of e v bs ≡ Some b → plan_of e d n v k ≡ Some (places ts) → metadata_of b (places ts) ≡ v
+  metadata_is v b p q = metadata_again e d n v k bs b (places ts) p q
+
+  shaped : (v : Metadata) (b : Body) → body_of e v bs ≡ Some b → plan_of e d n v k ≡ Some (places ts) → IsSoundNode (record { dtype = d; len = n; body = b }) ts → IsShaped e d n v bs (count ts)
+  shaped v b p q s = record {
+    body = b;
+    body_is = p;
+    holds = s.holds;
+    allows = subst (λ (z : Metadata). Allows e d z (count ts)) (metadata_is v b p q)
+        (subst (λ (z : Encoding). Allows z d (metadata_of b (places ts)) (count ts)) (body_encoding e v bs b p) s.allows);
+  }
+
+  takes : (v : Metadata) (b : Body) → body_of e v bs ≡ Some b → IsSoundNode (record { dtype = d; len = n; body = b }) ts → Takes e (encodings ts)
+  takes v b p s = subst (λ (z : Encoding). Takes z (encodings ts)) (body_encoding e v bs b p) s.takes
+
+  wrong_parts : (v : Metadata) (b : Body) → body_of e v bs ≡ Some b → plan_of e d n v k ≡ Some (places ts) → IsSoundNode (record { dtype = d; len = n; body = b }) ts
+      → (IsShaped e d n v bs (count ts) → ⊥) ⊎ (Takes e (encodings ts) → ⊥) → ⊥
+  wrong_parts v b p q s (inl w) = w (shaped v b p q s)
+  wrong_parts v b p q s (inr w) = w (takes v b p s)
+
+  not_wrong : (t : Tree) → PlansChildren codec x e d n bytes k (places ts) → HasParts codec x e d n bytes bs ts t → IsSound t → HasWrongShape codec x e d n bytes bs ts → ⊥
+  not_wrong t planned parts sound w =
+      let same = one_value x e d bytes planned.value parts.value planned.metadata parts.metadata in
+      let other = one_value x e d bytes w.value parts.value w.metadata parts.metadata in
+      let plan : plan_of e d n parts.value k ≡ Some (places ts) = subst (λ (z : Metadata). plan_of e d n z k ≡ Some (places ts)) same planned.plan in
+      let s = root_is t (record { dtype = d; len = n; body = parts.body }) parts.tree_is sound in
+      wrong_parts parts.value parts.body parts.body_is plan s
+      (subst (λ (z : Metadata). (IsShaped e d n z bs (count ts) → ⊥) ⊎ (Takes e (encodings ts) → ⊥)) other w.wrong)
+
+-- Of what is a sound array's parts only memory is refused.
+pub built_refusal : (x : ExtMeaning) (error : EncodingError) (e : Declared.Encoding) (h : ArrayHead) (bs : List Buffer) (ts : Trees) (t : Tree)
+    → IsPlanned x e h (places ts) → IsUnbuilt error x e h bs ts → IsBuilt x e h bs ts t → IsSound t → IsMemory error
+built_refusal x OutOfMemory e h bs ts t planned u parts sound = tt
+built_refusal x BadMetadata e h bs ts t planned u parts sound = absurd u
+built_refusal x BadShape e h bs ts t planned u parts sound =
+    absurd (not_wrong x (plain_encoding e) (typ h.dtype) h.len h.metadata h.nchildren bs ts t planned parts sound u)
+
+-- An answer whose refusals are those of a plan is Ok, or want of memory, where there is a plan.
+pub plan_complete : (x : ExtMeaning) (e : Declared.Encoding) (h : ArrayHead) (r : Result (List Place) EncodingError) → IfErr r (λ error. IsUnplanned error x e h)
+    → (ps : List Place) → IsPlanned x e h ps → IsOkOrMemory r
+plan_complete x e h (Ok qs) u ps p = tt
+plan_complete x e h (Err error) u ps p = planned_refusal x error e h ps u p
+
+-- And one whose refusals are those of a node that is built, where such a node is sound.
+pub build_complete : (x : ExtMeaning) (e : Declared.Encoding) (h : ArrayHead) (bs : List Buffer) (ts : Trees) (r : Result Tree EncodingError) → IsPlanned x e h (places ts)
+    → IfErr r (λ error. IsUnbuilt error x e h bs ts) → (t : Tree) → IsBuilt x e h bs ts t → IsSound t → IsOkOrMemory r
+build_complete x e h bs ts (Ok u) planned refused t parts sound = tt
+build_complete x e h bs ts (Err error) planned refused t parts sound = built_refusal x error e h bs ts t planned refused parts sound

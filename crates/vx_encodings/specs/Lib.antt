@@ -1,6 +1,4 @@
-pub mod Metadata
-pub mod Encodings
-pub mod Plans
-pub mod Parts
-pub mod Refusals
-pub mod Laws
+pub mod Plain
+pub mod BoolMessage
+pub mod Messages
+pub mod Steps

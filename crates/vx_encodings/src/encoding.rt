@@ -1,32 +1,32 @@
-//! The encodings, and the values of their nodes' metadata.
+//! The encodings.
 
 ghost use Rattle.std.specs.Prelude.{◌≡◌};
-ghost use Rattle.vx_encodings.specs.Encodings.{id_of};
+ghost use Rattle.vx_array_tree.specs.Table.{id_of};
+
+use vx_arrays::{BoolArray, NullArray, PrimitiveArray};
 
 /// The shipped encodings.
 #[derive(Clone, Copy, Debug, PartialEq, Eq)]
 pub enum Encoding {
     /// Nulls alone.
     Null,
+    /// Flags, a bit each.
+    Bool,
     /// Numbers, one after the other.
     Primitive,
 }
 
 impl Encoding {
+    ghost use Rattle.vx_encodings.specs.Plain.{plain_encoding};
+
     /// The identifier by which nodes of the encoding are known.
     pub fn id(self) -> &'static str
-        ensures { result.now ≡ id_of self }
+        ensures { result.now ≡ id_of (plain_encoding self) }
     {
         match self {
-            Encoding::Null => "vortex.null",
-            Encoding::Primitive => "vortex.primitive",
+            Encoding::Null => NullArray::ID,
+            Encoding::Bool => BoolArray::ID,
+            Encoding::Primitive => PrimitiveArray::ID,
         }
     }
-}
-
-/// The value of a node's metadata.
-#[derive(Clone, Copy, Debug, PartialEq, Eq)]
-pub enum Metadata {
-    /// No metadata: no byte stands for it.
-    Empty,
 }

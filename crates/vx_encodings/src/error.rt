@@ -1,11 +1,13 @@
 //! Refusals of this crate.
 
 ghost use Rattle.std.specs.Prelude.{◌≡◌};
+ghost use Rattle.vx_encodings.specs.Steps.{IsOfConstructor, constructor_error, message_error};
 ghost use Rattle.vx_encodings.specs.declared.error.EncodingError.TheVariants.{OutOfMemory};
 
 use std::alloc::{AllocError, AllocFailed};
 use thiserror::Error;
 use vx_arrays::ArrayError;
+use vx_proto::ProtoError;
 
 /// Why a node was not planned or built.
 #[derive(Clone, Copy, Debug, PartialEq, Eq, Error)]
@@ -37,15 +39,26 @@ impl<T: Drop> From<AllocFailed<T>> for EncodingError {
     }
 }
 
-impl From<ArrayError> for EncodingError {
-    ghost use Rattle.vx_encodings.specs.Refusals.{error_of};
+// The refusal of an array's constructor as one of its encoding. A constructor answers no row, so none of its
+// refusals is one of a row.
+pub(crate) fn of_constructor(error: ArrayError) -> EncodingError
+    requires { IsOfConstructor error }
+    ensures { result ≡ constructor_error error }
+{
+    match error {
+        ArrayError::OutOfMemory => EncodingError::OutOfMemory,
+        ArrayError::BadShape => EncodingError::BadShape,
+        ArrayError::ValueTooLarge => unreachable!(),
+    }
+}
 
-    ghost from_gives = { λ e r. r ≡ error_of e };
-
-    fn from(e: ArrayError) -> EncodingError {
-        match e {
-            ArrayError::OutOfMemory => EncodingError::OutOfMemory,
-            ArrayError::BadShape | ArrayError::ValueTooLarge => EncodingError::BadShape,
-        }
+// The refusal of a message as one of its encoding.
+pub(crate) fn of_message(error: ProtoError) -> EncodingError
+    ensures { result ≡ message_error error }
+{
+    match error {
+        ProtoError::OutOfMemory => EncodingError::OutOfMemory,
+        ProtoError::BadMessage | ProtoError::TooDeep | ProtoError::OutOfRange =>
+            EncodingError::BadMetadata,
     }
 }

@@ -1,17 +1,25 @@
 //! The rows of the encodings: what each one's nodes are on the wire, one level at a time.
+//!
+//! All code of an encoding stands in the file named after it; `encoding` and `steps` only hand on to it, by a line
+//! for each encoding.
 #![tactic(auto)]
 
-mod building;
+mod bool;
+mod buffers;
+mod empty_metadata;
 mod encoding;
 mod error;
 mod head;
-pub mod laws;
-mod planning;
+mod messages;
+mod null;
 mod plans;
+mod primitive;
+mod steps;
+mod validity;
 
-pub use building::{build, metadata};
-pub use encoding::{Encoding, Metadata};
+pub use bool::BoolMetadata;
+pub use encoding::Encoding;
 pub use error::EncodingError;
 pub use head::ArrayHead;
-pub use planning::plan;
 pub use plans::{ChildPlan, ChildPlans};
+pub use steps::{build, metadata, plan};

@@ -24,18 +24,18 @@ pub struct ChildPlans {
 
 impl Model for ChildPlans {
     ghost use Rattle.std.specs.Prelude.{List, map};
-    ghost use Rattle.vx_arrays.specs.Places.{Place, places_code};
-    ghost use Rattle.vx_encodings.specs.Plans.{place_of};
+    ghost use Rattle.vx_array_tree.specs.Place.{Place, places_code};
+    ghost use Rattle.vx_encodings.specs.Plain.{planned_place};
 
     ghost Value = { List Place };
 
     ghost coded = { places_code };
 
-    ghost view = { λ p. map place_of p.items.items };
+    ghost view = { λ p. map planned_place p.items.items };
 }
 
 impl ChildPlans {
-    ghost use Rattle.vx_encodings.specs.Plans.{place_of};
+    ghost use Rattle.vx_encodings.specs.Plain.{planned_place};
 
     /// No children. It takes no memory.
     pub fn new(alloc: Global) -> ChildPlans
@@ -48,7 +48,7 @@ impl ChildPlans {
 
     /// One more child at the end.
     pub fn push(&mut self, plan: ChildPlan) -> Result<(), EncodingError>
-        ensures ok { OnOk result (self.new ≡ self.old ++ place_of plan ∷ []) }
+        ensures ok { OnOk result (self.new ≡ self.old ++ planned_place plan ∷ []) }
         ensures unchanged { OnErr result (self.new ≡ self.old) }
         ensures err { IsOkUnless result EncodingError.OutOfMemory }
     {
@@ -65,7 +65,7 @@ impl ChildPlans {
 
     /// What the child of this number is to be: `None` exactly past the end.
     pub fn get(&self, index: usize) -> Option<&ChildPlan>
-        ensures { option_map (λ p. place_of p.now) result ≡ slice_get self.now index }
+        ensures { option_map (λ p. planned_place p.now) result ≡ slice_get self.now index }
     {
         self.items.as_slice().get(index)
     }

@@ -1,7 +1,6 @@
 -- The view of a message's root, and of a place.
-use Rattle.std.proofs.Common.{◌≡◌, ℕ, ◌+◌, ◌-◌, ◌≤◌, List, length, Option, Some, None, Result, Ok, Err, refl, sym, ap, subst, ◌∙◌}
+use Rattle.std.proofs.Common.{◌≡◌, ℕ, ◌-◌, ◌≤◌, List, length, refl, sym, subst, ◌∙◌}
 use Rattle.std.proofs.Common.{arith, IsSome}
-use Rattle.std.specs.Prelude.{IsErrOf}
 use Rattle.vx_flat.specs.declared.error.FlatError.{FlatError}
 use Rattle.vx_flat.specs.declared.error.FlatError.TheVariants.{OutOfMemory, BadTable, TableLimit, MessageTooLong}
 use Rattle.vx_flat.specs.declared.reading.room.Room.{Room}

@@ -1,7 +1,7 @@
 -- Loops that read what a view sees, part by part.
-use Rattle.std.proofs.Common.{◌≡◌, ℕ, zero, suc, ◌+◌, ◌*◌, ◌<◌, ◌≤◌, Bool, true, false, cond, eqb, List, [], ◌∷◌, ◌++◌, Option, Some, None, ◌-◌}
-use Rattle.std.proofs.Common.{refl, sym, ap, subst, ◌∙◌, arith, length, take, drop, map}
-use Rattle.std.specs.Prelude.{slice_get, option_map, option_and_then}
+use Rattle.std.proofs.Common.{◌≡◌, ℕ, zero, suc, ◌+◌, ◌*◌, ◌<◌, ◌≤◌, true, false, cond, eqb, List, [], ◌∷◌, ◌++◌, Option, Some, None, ◌-◌}
+use Rattle.std.proofs.Common.{refl, sym, ap, subst, ◌∙◌, arith, length, take}
+use Rattle.std.specs.Prelude.{slice_get, option_map}
 use Rattle.std.proofs.lemmas.Option.{get_or_from_slice_get, slice_get_within}
 use Rattle.std.proofs.lemmas.List.{take_more}
 use Rattle.std.proofs.Math.Seq.{take-length}
@@ -21,7 +21,6 @@ use Rattle.vx_flat.specs.Places.{place_of}
 use Rattle.vx_flat.proofs.Agree.{then_is, map_is}
 use Rattle.vx_flat.specs.Parts.{IsTables, elements_of_kind, text_in, table_in, row_at, HasElements, element_size}
 use Rattle.vx_flat.specs.Seen.{vector_seen, field_or_absent, fields_or_none, kind_in, kinds_in, part_in, seen, schema_in, IsBelow, IsVectorBelow, IsElement}
-use Rattle.vx_flat.proofs.SeeingElements.{have}
 use Rattle.vx_flat.proofs.Seeing.{view_entry, view_shows, view_inline}
 use Rattle.vx_flat.proofs.FieldsLoop.{FieldsRead, read_start, read_next, read_done}
 

@@ -1,31 +1,38 @@
 //! A message that is written block by block.
 
-ghost use Rattle.std.specs.Prelude.{◌≡◌, ◌∷◌, [], ◌<◌, ◌≤◌, ◌^◌, true, false, length, map, List};
-ghost use Rattle.std.specs.Prelude.{None, Some, ◌++◌};
-ghost use Rattle.std.specs.Prelude.{IfOk, IfErr, OnOk, IsOk, IsErrOf, ◌⊎◌, ◌*◌, ℕ};
+ghost use Rattle.std.specs.Prelude.{◌≡◌, [], ◌<◌, ◌≤◌, ◌^◌, true, false, length, None};
+ghost use Rattle.std.specs.Prelude.{IfOk, IfErr, OnOk, OnErr, IsOk, IsErrOf, ◌∷◌};
 ghost use Rattle.vx_flat.specs.Schema.{Schema};
 ghost use Rattle.vx_flat.specs.Value.{Fields};
 ghost use Rattle.vx_flat.specs.IsOf.{IsOf};
-ghost use Rattle.vx_flat.specs.Layout.{layout, bytes_of};
-ghost use Rattle.vx_flat.specs.Aiming.{aim_in};
-ghost use Rattle.vx_flat.specs.Pieces.{Piece as Plain, pieces, table_piece, text_piece, AreEntries};
-ghost use Rattle.vx_flat.specs.Linking.{linked, written_length};
-ghost use Rattle.vx_flat.specs.Building.{nothing_built, with_piece, waiting, kind_of, Takes};
-ghost use Rattle.vx_flat.specs.Building.{IsNext, IsRefused};
-ghost use Rattle.vx_flat.specs.PieceView.{piece_view, vector_piece, IsVector};
+ghost use Rattle.vx_flat.specs.Layout.{layout};
+ghost use Rattle.vx_flat.specs.Pieces.{pieces, table_piece, elements_piece, links_piece, text_piece, AreEntries};
+ghost use Rattle.vx_flat.specs.Building.{nothing_by, nothing_built, with_piece, with_pieces, waiting};
+ghost use Rattle.vx_flat.specs.Building.{Takes, IsNext, IsRefused};
+ghost use Rattle.vx_flat.specs.PieceView.{vector_piece, IsVector};
 
-mod linking;
+mod composing;
+mod entries;
+mod known;
+mod message;
 pub(crate) mod piece;
+mod slot;
 
 use crate::buffer::FlatBuffer;
-use crate::builder::linking::{link_pieces, piece_end};
-use crate::builder::piece::{BlockField, BlockVector, LinkKind, Piece};
+use crate::builder::composing::{
+    is_shared, next_start, push_element_slots, push_elements, push_entry_slots, push_front,
+    push_links, push_table, push_text, table_spot,
+};
+use crate::builder::entries::push_entries;
+use crate::builder::known::FieldTables;
+use crate::builder::message::Message;
+use crate::builder::piece::{BlockField, BlockVector, LinkKind};
+use crate::builder::slot::Slot;
 use crate::error::FlatError;
 use crate::limits::MAX_MESSAGE;
-use crate::schema::Width;
-use crate::writing::bytes_of;
-use crate::writing::numbers::align;
-use crate::writing::spots::spots_of;
+use crate::writing::block::Cell;
+use crate::writing::field_tables::push_field_table;
+use crate::writing::spots::plain_spot;
 use std::alloc::Global;
 use std::marker::Model;
 
@@ -35,36 +42,39 @@ use std::marker::Model;
 /// order of its fields or elements, each with all that hangs on it before the next. [`link`] says
 /// which link aims at the next block, and so comes before each block but the first.
 ///
-/// A contract sees the blocks that were written, the links that are left with the next one first,
-/// the link that waits for the next block, and whether a block was refused.
+/// A table whose field table equals one that was written before, byte for byte, shares the first
+/// such one.
 ///
-/// The bytes are made by [`finish`]. The only refusals are want of memory, which changes nothing,
-/// and [`FlatError::MessageTooLong`] where the message would have more than
-/// [`MAX_MESSAGE`](crate::MAX_MESSAGE) bytes. After that refusal each later call has it too.
+/// Each block's bytes are added at once, and the offset of the link that waits is set to it. The
+/// only refusals are want of memory, which changes nothing, and [`FlatError::MessageTooLong`] where
+/// the message would have more than [`MAX_MESSAGE`](crate::MAX_MESSAGE) bytes. After that refusal
+/// the builder has failed: each later call has that refusal too, and [`link`] does nothing.
 ///
 /// [`link`]: Builder::link
-/// [`finish`]: Builder::finish
 #[derive(Drop)]
 pub struct Builder {
     alloc: Global,
-    pieces: Vec<Piece>,
-    /// How many bytes the message has so far.
-    end: usize,
-    /// Whether a link waits for the next block.
-    waits: bool,
+    message: Message,
+    known: FieldTables,
+    shares: bool,
     failed: bool,
+    /// The block that is composed: its bytes, its links, and the cells and field table of a table.
+    block: Vec<u8>,
+    links: Vec<Slot>,
+    cells: Vec<Cell>,
+    fields: Vec<u8>,
 }
 
 impl Model for Builder {
-    ghost use Rattle.std.specs.Prelude.{map};
+    ghost use Rattle.std.specs.Prelude.{◌<◌, ◌^◌, length};
     ghost use Rattle.vx_flat.specs.Building.{Built};
-    ghost use Rattle.vx_flat.specs.PieceView.{piece_view, built, IsSized};
+    ghost use Rattle.vx_flat.specs.BuilderView.{built, begun, IsOpen};
 
     ghost Value = { Built };
 
-    ghost view = { λ b. built (map piece_view b.pieces.items) b.waits b.failed };
+    ghost view = { λ b. built b.message b.known b.shares b.failed };
 
-    ghost invariant = { λ b. IsSized (map piece_view b.pieces.items) b.end };
+    ghost invariant = { λ b. IsOpen b.message × (length (begun b.message.bytes.items) < 2 ^ 31) };
 }
 
 impl Builder {
@@ -72,46 +82,64 @@ impl Builder {
     pub fn new(alloc: Global) -> Builder
         ensures { result ≡ nothing_built }
     {
+        Builder::sharing(alloc, true)
+    }
+
+    /// A message without a block, of which equal field tables are shared or not.
+    pub(crate) fn sharing(alloc: Global, shares: bool) -> Builder
+        ensures { result ≡ nothing_by shares }
+    {
         Builder {
             alloc,
-            pieces: Vec::new(alloc),
-            end: 8,
-            waits: false,
+            message: Message::new(alloc),
+            known: FieldTables::new(alloc),
+            shares,
             failed: false,
+            block: Vec::new(alloc),
+            links: Vec::new(alloc),
+            cells: Vec::new(alloc),
+            fields: Vec::new(alloc),
         }
     }
 
-    /// The number of the next block; a refusal where one was refused before.
-    fn number(&self) -> Result<u32, FlatError>
-        ensures number { IfOk result (λ n. n ≡ length self.now.blocks) }
-        ensures works { IsOk result → self.now.failed ≡ false }
-        ensures failed { self.now.failed ≡ true → IsErrOf result FlatError.MessageTooLong }
-        ensures cause { IfErr result
-            (λ e. (e ≡ FlatError.MessageTooLong) × (self.now.failed ≡ true)) }
+    /// [`table`](Builder::table), whatever waits for a block.
+    pub(crate) fn put_table(&mut self, fields: &[BlockField]) -> Result<u32, FlatError>
+        requires few { length fields.now ≤ 1000 }
+        requires entries { AreEntries false fields.now }
+        ensures number { IfOk result (λ n. n ≡ self.old.count) }
+        ensures written { OnOk result (self.new ≡ with_piece self.old (table_piece fields.now)) }
+        ensures fits { IsOk result → length self.new.bytes < 2 ^ 31 }
+        ensures works { IsOk result → self.old.failed ≡ false }
+        ensures refused { IfErr result
+            (λ e. IsRefused self.old (table_piece fields.now) e self.new) }
+        ensures failed { self.old.failed ≡ true → IsErrOf result FlatError.MessageTooLong }
     {
         if self.failed {
             return Err(FlatError::MessageTooLong);
         }
-        Ok(self.pieces.len() as u32)
-    }
-
-    /// Adds a block.
-    fn add(&mut self, piece: Piece) -> Result<(), FlatError>
-        requires works { self.old.failed ≡ false }
-        requires takes { Takes (kind_of (piece_view piece)) self.old.waits self.old.blocks }
-        ensures written { OnOk result (self.new ≡ with_piece self.old (piece_view piece)) }
-        ensures fits { IsOk result → written_length self.new.blocks < 2 ^ 31 }
-        ensures refused { IfErr result (λ e. IsRefused self.old (piece_view piece) e self.new) }
-    {
-        let end = piece_end(&piece, align(Width::Eight, self.end));
-        if end > MAX_MESSAGE {
+        let number = self.message.count;
+        let start = next_start(&self.message.bytes);
+        self.cells.clear();
+        push_entries(fields, &mut self.cells)?;
+        self.fields.clear();
+        push_field_table(&self.cells, &mut self.fields)?;
+        let spot = table_spot(start, &self.cells, self.known.place_of(&self.fields));
+        if spot.end > MAX_MESSAGE {
             self.failed = true;
             return Err(FlatError::MessageTooLong);
         }
-        self.pieces.push(piece)?;
-        self.end = end;
-        self.waits = false;
-        Ok(())
+        self.block.clear();
+        push_front(&self.message.bytes, start, &mut self.block)?;
+        push_table(spot, &self.cells, &mut self.block)?;
+        self.links.clear();
+        push_entry_slots(fields, number, spot.aim, &mut self.links)?;
+        let learns = is_shared(self.shares, spot);
+        self.known.learn(learns, &self.fields, spot.fields)?;
+        if let Err(error) = self.message.add(&self.block, &mut self.links, spot.aim) {
+            self.known.forget(learns);
+            return Err(FlatError::from(error));
+        }
+        Ok(number)
     }
 
     /// Writes a table by the entries of its field table, with `Absent` for a field that is left
@@ -119,94 +147,193 @@ impl Builder {
     pub fn table(&mut self, fields: &[BlockField]) -> Result<u32, FlatError>
         requires few { length fields.now ≤ 1000 }
         requires entries { AreEntries false fields.now }
-        requires takes { Takes LinkKind.Table self.old.waits self.old.blocks }
-        ensures number { IfOk result (λ n. n ≡ length self.old.blocks) }
+        requires takes { Takes LinkKind.Table self.old }
+        ensures number { IfOk result (λ n. n ≡ self.old.count) }
         ensures written { OnOk result (self.new ≡ with_piece self.old (table_piece fields.now)) }
-        ensures fits { IsOk result → written_length self.new.blocks < 2 ^ 31 }
+        ensures fits { IsOk result → length self.new.bytes < 2 ^ 31 }
+        ensures works { IsOk result → self.old.failed ≡ false }
         ensures refused { IfErr result
             (λ e. IsRefused self.old (table_piece fields.now) e self.new) }
         ensures failed { self.old.failed ≡ true → IsErrOf result FlatError.MessageTooLong }
     {
-        let number = self.number()?;
-        let entries = Vec::from_slice(self.alloc, fields)?;
-        self.add(Piece::Table(entries))?;
-        Ok(number)
+        self.put_table(fields)
+    }
+
+    /// Writes a vector of numbers or structs of `size` bytes each.
+    pub(crate) fn elements(&mut self, size: usize, bytes: &[u8]) -> Result<(), FlatError>
+        ensures written { OnOk result (self.new ≡ with_piece self.old (elements_piece size bytes.now)) }
+        ensures fits { IsOk result → length self.new.bytes < 2 ^ 31 }
+        ensures works { IsOk result → self.old.failed ≡ false }
+        ensures refused { IfErr result
+            (λ e. IsRefused self.old (elements_piece size bytes.now) e self.new) }
+        ensures failed { self.old.failed ≡ true → IsErrOf result FlatError.MessageTooLong }
+    {
+        if self.failed {
+            return Err(FlatError::MessageTooLong);
+        }
+        let start = next_start(&self.message.bytes);
+        let spot = plain_spot(start, 4 + bytes.len());
+        if spot.end > MAX_MESSAGE {
+            self.failed = true;
+            return Err(FlatError::MessageTooLong);
+        }
+        self.block.clear();
+        push_front(&self.message.bytes, start, &mut self.block)?;
+        push_elements(spot, size, bytes, &mut self.block)?;
+        self.links.clear();
+        self.message.add(&self.block, &mut self.links, spot.aim)?;
+        Ok(())
+    }
+
+    /// Writes a vector of so many links of a kind.
+    pub(crate) fn links(&mut self, kind: LinkKind, count: usize) -> Result<(), FlatError>
+        requires { count ≤ 2 ^ 61 }
+        ensures written { OnOk result (self.new ≡ with_piece self.old (links_piece kind count)) }
+        ensures fits { IsOk result → length self.new.bytes < 2 ^ 31 }
+        ensures works { IsOk result → self.old.failed ≡ false }
+        ensures refused { IfErr result
+            (λ e. IsRefused self.old (links_piece kind count) e self.new) }
+        ensures failed { self.old.failed ≡ true → IsErrOf result FlatError.MessageTooLong }
+    {
+        if self.failed {
+            return Err(FlatError::MessageTooLong);
+        }
+        let start = next_start(&self.message.bytes);
+        let spot = plain_spot(start, 4 + 4 * count);
+        if spot.end > MAX_MESSAGE {
+            self.failed = true;
+            return Err(FlatError::MessageTooLong);
+        }
+        self.block.clear();
+        push_front(&self.message.bytes, start, &mut self.block)?;
+        let count = count as u32;
+        push_links(spot, count, &mut self.block)?;
+        self.links.clear();
+        push_element_slots(
+            kind,
+            count,
+            self.message.count,
+            spot.aim + 4,
+            &mut self.links,
+        )?;
+        self.message.add(&self.block, &mut self.links, spot.aim)?;
+        Ok(())
     }
 
     /// Writes a vector. Gives its number, for [`link`](Builder::link).
     pub fn vector(&mut self, elements: BlockVector<'_>) -> Result<u32, FlatError>
         requires elements { IsVector elements }
-        requires takes { Takes LinkKind.Vector self.old.waits self.old.blocks }
-        ensures number { IfOk result (λ n. n ≡ length self.old.blocks) }
+        requires takes { Takes LinkKind.Vector self.old }
+        ensures number { IfOk result (λ n. n ≡ self.old.count) }
         ensures written { OnOk result (self.new ≡ with_piece self.old (vector_piece elements.entry)) }
-        ensures fits { IsOk result → written_length self.new.blocks < 2 ^ 31 }
+        ensures fits { IsOk result → length self.new.bytes < 2 ^ 31 }
+        ensures works { IsOk result → self.old.failed ≡ false }
         ensures refused { IfErr result
             (λ e. IsRefused self.old (vector_piece elements.entry) e self.new) }
         ensures failed { self.old.failed ≡ true → IsErrOf result FlatError.MessageTooLong }
     {
-        let number = self.number()?;
-        let piece = match elements {
-            BlockVector::Numbers { width, bytes } => {
-                Piece::Elements(width, Vec::from_slice(self.alloc, bytes)?)
-            }
-            BlockVector::Links { kind, count } => Piece::Links(kind, count),
-        };
-        self.add(piece)?;
+        let number = self.message.count;
+        match elements {
+            BlockVector::Numbers { width, bytes } => self.elements(width as usize, bytes)?,
+            BlockVector::Links { kind, count } => self.links(kind, count as usize)?,
+        }
         Ok(number)
     }
 
-    /// Writes a string.
-    pub fn string(&mut self, text: &str) -> Result<(), FlatError>
-        requires { Takes LinkKind.Text self.old.waits self.old.blocks }
+    /// [`string`](Builder::string), whatever waits for a block.
+    pub(crate) fn put_text(&mut self, text: &str) -> Result<(), FlatError>
         ensures written { OnOk result (self.new ≡ with_piece self.old (text_piece text.now)) }
-        ensures fits { IsOk result → written_length self.new.blocks < 2 ^ 31 }
+        ensures fits { IsOk result → length self.new.bytes < 2 ^ 31 }
+        ensures works { IsOk result → self.old.failed ≡ false }
         ensures refused { IfErr result
             (λ e. IsRefused self.old (text_piece text.now) e self.new) }
         ensures failed { self.old.failed ≡ true → IsErrOf result FlatError.MessageTooLong }
     {
-        self.number()?;
-        let bytes = Vec::from_slice(self.alloc, text.as_bytes())?;
-        self.add(Piece::Text(bytes))
+        if self.failed {
+            return Err(FlatError::MessageTooLong);
+        }
+        let start = next_start(&self.message.bytes);
+        let spot = plain_spot(start, 5 + text.len());
+        if spot.end > MAX_MESSAGE {
+            self.failed = true;
+            return Err(FlatError::MessageTooLong);
+        }
+        self.block.clear();
+        push_front(&self.message.bytes, start, &mut self.block)?;
+        push_text(spot, text.as_bytes(), &mut self.block)?;
+        self.links.clear();
+        self.message.add(&self.block, &mut self.links, spot.aim)?;
+        Ok(())
     }
 
-    /// Lets the next link aim at the next block, whatever that is and whatever comes after it. The
-    /// link is given by the number of its block, and by its place among the table's entries or the
-    /// vector's elements. The entry of a union's link is that of its offset.
-    pub fn link(&mut self, block: u32, index: usize)
-        requires idle { self.old.waits ≡ None }
-        requires next { IsNext self.old.left block index }
-        ensures waits { self.new ≡ waiting self.old }
-        ensures aims { (p : Plain) (ps : List Plain)
-            → aim_in (linked (self.old.blocks ++ p ∷ ps)) block index
-            ≡ Some (length self.old.blocks) }
+    /// Writes a string.
+    pub fn string(&mut self, text: &str) -> Result<(), FlatError>
+        requires { Takes LinkKind.Text self.old }
+        ensures written { OnOk result (self.new ≡ with_piece self.old (text_piece text.now)) }
+        ensures fits { IsOk result → length self.new.bytes < 2 ^ 31 }
+        ensures works { IsOk result → self.old.failed ≡ false }
+        ensures refused { IfErr result
+            (λ e. IsRefused self.old (text_piece text.now) e self.new) }
+        ensures failed { self.old.failed ≡ true → IsErrOf result FlatError.MessageTooLong }
     {
-        self.waits = true;
+        self.put_text(text)
     }
 
-    /// The message. Where the blocks are those of a value, it is the value's layout in the plain
-    /// form, as [`write_value`](crate::write_value) gives it.
-    pub fn finish(self, alloc: Global) -> Result<FlatBuffer, FlatError>
-        requires written { 0 < length self.blocks }
-        requires linked { self.left ≡ [] }
-        requires idle { self.waits ≡ None }
-        ensures built { IfOk result (λ b. b ≡ bytes_of false (linked self.blocks)) }
-        ensures layout { IfOk result (λ b. (s : Schema) (v : Fields) → IsOf s v → self.blocks ≡ pieces s v → b ≡ layout false s v) }
-        ensures length { IfOk result (λ b. length b ≡ written_length self.blocks) }
+    /// Lets the next link aim at the next block. The link is given by the number of its block, and
+    /// by its place among the table's entries or the vector's elements. The entry of a union's link
+    /// is that of its offset.
+    pub fn link(&mut self, _block: u32, _index: usize)
+        requires idle { self.old.failed ≡ false → self.old.waits ≡ None }
+        requires next { self.old.failed ≡ false → IsNext self.old.left _block _index }
+        ensures waits { self.old.failed ≡ false → self.new ≡ waiting self.old }
+        ensures failed { self.old.failed ≡ true → self.new ≡ self.old }
+    {
+        if !self.failed {
+            self.go_on();
+        }
+    }
+
+    /// Lets the next link, if there is one, aim at the next block.
+    pub(crate) fn go_on(&mut self)
+        ensures { self.new ≡ waiting self.old }
+    {
+        self.message.waits = self.message.left.pop();
+    }
+
+    /// The message, of at least one block.
+    pub(crate) fn into_message(self) -> FlatBuffer
+        requires { 0 < self.count }
+        ensures built { result ≡ self.bytes }
+        ensures fits { length result < 2 ^ 31 }
+    {
+        let Builder { message, .. } = self;
+        let Message { bytes, .. } = message;
+        FlatBuffer::new(bytes)
+    }
+
+    /// The message. Where the blocks are those of a value, it is the value's layout.
+    pub fn finish(self, _alloc: Global) -> Result<FlatBuffer, FlatError>
+        requires written { self.failed ≡ false → 0 < self.count }
+        requires linked { self.failed ≡ false → self.left ≡ [] }
+        requires idle { self.failed ≡ false → self.waits ≡ None }
+        ensures built { IfOk result (λ b. b ≡ self.bytes) }
+        ensures layout { IfOk result (λ b. (s : Schema) (v : Fields) → IsOf s v
+            → self ≡ with_pieces (nothing_by self.shares) (pieces s v) → b ≡ layout self.shares s v) }
         ensures fits { IfOk result (λ b. length b < 2 ^ 31) }
-        ensures too_long { IsErrOf result FlatError.MessageTooLong → self.failed ≡ true }
+        ensures works { IsOk result → self.failed ≡ false }
+        ensures cause { IfErr result (λ e. e ≡ FlatError.MessageTooLong) }
         ensures failed { self.failed ≡ true → IsErrOf result FlatError.MessageTooLong }
-        ensures never_bad { IsErrOf result FlatError.BadTable → ⊥ }
-        ensures never_limit { IsErrOf result FlatError.TableLimit → ⊥ }
+        ensures complete { self.failed ≡ false → IsOk result }
     {
-        let Builder { pieces, failed, .. } = self;
+        let Builder {
+            message,
+            failed,
+            ..
+        } = self;
         if failed {
             return Err(FlatError::MessageTooLong);
         }
-        let blocks = link_pieces(alloc, pieces)?;
-        let Some(spots) = spots_of(alloc, false, &blocks)? else {
-            return Err(FlatError::MessageTooLong);
-        };
-        let bytes = bytes_of(alloc, &spots, &blocks)?;
+        let Message { bytes, .. } = message;
         Ok(FlatBuffer::new(bytes))
     }
 }

@@ -6,11 +6,10 @@ ghost use Rattle.vx_flat.specs.Value.{Fields};
 ghost use Rattle.vx_flat.specs.Seen.{seen, IsViewOf};
 ghost use Rattle.vx_flat.specs.IsOf.{IsOf};
 ghost use Rattle.vx_flat.specs.Shows.{Shows};
-ghost use Rattle.vx_flat.specs.Layout.{layout};
+ghost use Rattle.vx_flat.specs.Layout.{written_layout};
 ghost use Rattle.vx_flat.specs.Limits.{limits, IsLight};
 ghost use Rattle.vx_flat.specs.Weight.{weight};
 ghost use Rattle.vx_flat.specs.Pieces.{table_pieces};
-ghost use Rattle.vx_flat.specs.Linking.{written_length};
 ghost use Rattle.vx_flat.specs.Building.{Built, nothing_built, Takes, Written, Keeps};
 ghost use Rattle.vx_flat.specs.Refusing.{IsUnread};
 ghost use Rattle.vx_flat.specs.declared.error.FlatError.TheVariants.{OutOfMemory};
@@ -89,15 +88,18 @@ pub trait WriteFlatBuffer {
     /// Why a value is not written by a builder.
     ghost unwritten: { Self → Built → Self.Error → Type 0 };
 
-    /// Writes the blocks of the value, its table first. After a refusal the builder keeps the
-    /// blocks that it has, and those of the value that were written so far.
-    fn write_flatbuffer(&self, builder: &mut Builder) -> Result<(), Self::Error>
-        requires { Takes LinkKind.Table builder.old.waits builder.old.blocks }
+    /// Writes the blocks of the value, its table first, after those that the builder has. Ok means
+    /// that the builder had not failed. After a refusal the builder keeps the blocks that it has,
+    /// and those of the value that were written so far; where the message would be too long, it has
+    /// failed.
+    fn write_flatbuffer(&self, alloc: Global, builder: &mut Builder) -> Result<(), Self::Error>
+        requires { Takes LinkKind.Table builder.old }
         ensures of_kind { IsOk result → IsOf Self.Kind.schema (table self.now) }
         ensures written { OnOk result
             (Written Self.Kind.schema (fields_of Self.Kind.schema Self.Kind.schema.root) (table self.now)
             builder.old builder.new) }
-        ensures fits { IsOk result → written_length builder.new.blocks < 2 ^ 31 }
+        ensures fits { IsOk result → length builder.new.bytes < 2 ^ 31 }
+        ensures works { IsOk result → builder.old.failed ≡ false }
         ensures kept { OnErr result (Keeps builder.old
             (table_pieces Self.Kind.schema (fields_of Self.Kind.schema Self.Kind.schema.root) (table self.now))
             builder.new) }
@@ -106,17 +108,19 @@ pub trait WriteFlatBuffer {
 
 /// The message of a value.
 pub trait WriteFlatBufferExt: WriteFlatBuffer + FlatBufferRoot {
-    /// The message whose root is the value's table: its layout in the plain form.
+    /// The message whose root is the value's table: its layout.
     fn write_flatbuffer_bytes(&self, alloc: Global) -> Result<FlatBuffer, Self::Error>
-        ensures written { IfOk result (λ b. b ≡ layout false Self.Kind.schema (Self.table self.now)) }
+        ensures written { IfOk result
+            (λ b. b ≡ written_layout Self.Kind.schema (Self.table self.now)) }
         ensures fits { IfOk result (λ b. length b < 2 ^ 31) }
-        ensures cause { IfErr result
-            (λ e. Self.unwritten self.now nothing_built e ⊎ Self.Error.from_gives OutOfMemory e) }
+        ensures cause { IfErr result (λ e. Self.unwritten self.now nothing_built e) }
     {
         let mut builder = Builder::new(alloc);
-        self.write_flatbuffer(&mut builder)?;
-        let message = builder.finish(alloc)?;
-        Ok(message)
+        self.write_flatbuffer(alloc, &mut builder)?;
+        match builder.finish(alloc) {
+            Ok(message) => Ok(message),
+            Err(_) => unreachable!(),
+        }
     }
 }
 

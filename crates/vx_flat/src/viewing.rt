@@ -82,7 +82,7 @@ impl<'a> View<'a> {
 }
 
 impl<'a> View<'a> {
-    ghost use Rattle.std.specs.Prelude.{◌+◌, MatchOption, OnSome, IfSome, IfNone, None, option_map, if◌then◌else◌};
+    ghost use Rattle.std.specs.Prelude.{◌+◌, true, false, MatchOption, OnSome, IfSome, IfNone, None, option_map, if◌then◌else◌};
     ghost use Rattle.vx_flat.specs.Places.{place_of as placed, inline_size};
     ghost use Rattle.vx_flat.specs.Reading.{absent_shown, present_shown, member_shown};
     ghost use Rattle.vx_flat.specs.Schema.{members_of, table_of as table_of_tag};
@@ -113,18 +113,32 @@ impl<'a> View<'a> {
         unreachable!()
     }
 
-    /// Where a field that is not a union lies.
-    fn present(&self, field: usize, kind: FieldKind) -> Option<usize>
+    /// Whether a field that is not a union is absent. It is asked before the field's kind, which is
+    /// looked for from the front of the table's list.
+    fn is_absent(&self, field: usize) -> bool
+        ensures there { result ≡ false
+            → IsSome (placed self.now.message.now self.now.place self.now.fields field) }
+        ensures absent { result ≡ true → (k : FieldKind) → kind_in self.now field ≡ Some k
+            → is.IsPlain k → part_in self.now field ≡ absent_shown k }
+    {
+        place_of(self.message, self.place, self.fields, field).is_none()
+    }
+
+    /// Where a field lies that is not a union and not absent.
+    fn place_in(&self, field: usize, kind: FieldKind) -> usize
         requires kind { kind_in self.now field ≡ Some kind }
         requires plain { is.IsPlain kind }
-        ensures lies { IfSome result (λ p. p + inline_size kind ≤ length self.now.message.now) }
-        ensures later { IfSome result (λ p. self.now.place < p) }
-        ensures absent { IfNone result (part_in self.now field ≡ absent_shown kind) }
-        ensures shown { IfSome result (λ p. present_shown (schema_in self.now)
+        requires there { IsSome (placed self.now.message.now self.now.place self.now.fields field) }
+        ensures lies { result + inline_size kind ≤ length self.now.message.now }
+        ensures later { self.now.place < result }
+        ensures shown { present_shown (schema_in self.now)
             (λ q T. table_shown (schema_in self.now) self.now.message.now q T) self.now.message.now
-            kind p ≡ Some (part_in self.now field)) }
+            kind result ≡ Some (part_in self.now field) }
     {
-        place_of(self.message, self.place, self.fields, field)
+        match place_of(self.message, self.place, self.fields, field) {
+            None => unreachable!(),
+            Some(place) => place,
+        }
     }
 
     /// The number in a field, by its bits.
@@ -132,13 +146,14 @@ impl<'a> View<'a> {
         requires { is.IsNumber (kind_in self.now field) }
         ensures { part_in self.now field ≡ value.number result }
     {
+        if self.is_absent(field) {
+            return 0;
+        }
         let FieldKind::Number(width) = self.kind(field) else {
             unreachable!();
         };
-        match self.present(field, FieldKind::Number(width)) {
-            None => 0,
-            Some(place) => number_at(width, self.message, place),
-        }
+        let place = self.place_in(field, FieldKind::Number(width));
+        number_at(width, self.message, place)
     }
 
     /// The flag in a field.
@@ -146,10 +161,10 @@ impl<'a> View<'a> {
         requires { is.IsFlag (kind_in self.now field) }
         ensures { part_in self.now field ≡ value.number (if result then 1 else 0) }
     {
-        match self.present(field, FieldKind::Flag) {
-            None => false,
-            Some(place) => self.message[place] != 0,
+        if self.is_absent(field) {
+            return false;
         }
+        self.message[self.place_in(field, FieldKind::Flag)] != 0
     }
 
     /// The number or flag in a field that may be missing.
@@ -158,17 +173,18 @@ impl<'a> View<'a> {
         ensures { MatchOption result (part_in self.now field ≡ value.absent)
             (λ n. part_in self.now field ≡ value.number n) }
     {
+        if self.is_absent(field) {
+            return None;
+        }
         match self.kind(field) {
             FieldKind::OptNumber(width) => {
-                match self.present(field, FieldKind::OptNumber(width)) {
-                    None => None,
-                    Some(place) => Some(number_at(width, self.message, place)),
-                }
+                let place = self.place_in(field, FieldKind::OptNumber(width));
+                Some(number_at(width, self.message, place))
             }
-            FieldKind::OptFlag => match self.present(field, FieldKind::OptFlag) {
-                None => None,
-                Some(place) => Some(flag_at(self.message, place)),
-            },
+            FieldKind::OptFlag => {
+                let place = self.place_in(field, FieldKind::OptFlag);
+                Some(flag_at(self.message, place))
+            }
             _ => unreachable!(),
         }
     }
@@ -179,22 +195,21 @@ impl<'a> View<'a> {
         ensures { MatchOption result (part_in self.now field ≡ value.absent)
             (λ b. part_in self.now field ≡ value.elements b.now) }
     {
+        if self.is_absent(field) {
+            return None;
+        }
         match self.kind(field) {
-            FieldKind::Vector(width) => match self.present(field, FieldKind::Vector(width)) {
-                None => None,
-                Some(place) => {
-                    let aim = target(self.message, place);
-                    Some(elements_in(self.message, aim, width.bytes()))
-                }
-            },
-            FieldKind::Structs(number) => match self.present(field, FieldKind::Structs(number)) {
-                None => None,
-                Some(place) => {
-                    let aim = target(self.message, place);
-                    let size = size_of_struct(self.schema, number);
-                    Some(elements_in(self.message, aim, size))
-                }
-            },
+            FieldKind::Vector(width) => {
+                let place = self.place_in(field, FieldKind::Vector(width));
+                let aim = target(self.message, place);
+                Some(elements_in(self.message, aim, width.bytes()))
+            }
+            FieldKind::Structs(number) => {
+                let place = self.place_in(field, FieldKind::Structs(number));
+                let aim = target(self.message, place);
+                let size = size_of_struct(self.schema, number);
+                Some(elements_in(self.message, aim, size))
+            }
             _ => unreachable!(),
         }
     }
@@ -205,10 +220,11 @@ impl<'a> View<'a> {
         ensures { MatchOption result (part_in self.now field ≡ value.absent)
             (λ t. part_in self.now field ≡ value.text t.now) }
     {
-        match self.present(field, FieldKind::Text) {
-            None => None,
-            Some(place) => Some(text_in(self.message, target(self.message, place))),
+        if self.is_absent(field) {
+            return None;
         }
+        let place = self.place_in(field, FieldKind::Text);
+        Some(text_in(self.message, target(self.message, place)))
     }
 
     /// A table of the message at a later place.
@@ -238,13 +254,14 @@ impl<'a> View<'a> {
         ensures below { IfSome result (λ w. IsBelow self.now w) }
         ensures kind { IfSome result (λ w. kind_in self.now field ≡ Some (kind.Table (table_seen w))) }
     {
+        if self.is_absent(field) {
+            return None;
+        }
         let FieldKind::Table(table) = self.kind(field) else {
             unreachable!();
         };
-        match self.present(field, FieldKind::Table(table)) {
-            None => None,
-            Some(place) => Some(self.below(target(self.message, place), table)),
-        }
+        let place = self.place_in(field, FieldKind::Table(table));
+        Some(self.below(target(self.message, place), table))
     }
 
     /// The vector in a field.
@@ -255,22 +272,20 @@ impl<'a> View<'a> {
         ensures below { IfSome result (λ w. IsVectorBelow self.now w) }
         ensures kind { IfSome result (λ w. kind_in self.now field ≡ Some (kind_seen w)) }
     {
-        let kind = self.kind(field);
-        match self.present(field, kind) {
-            None => None,
-            Some(place) => {
-                let place = target(self.message, place);
-                let count = u32_at(self.message, place);
-                Some(VectorView {
-                    message: self.message,
-                    schema: self.schema,
-                    kind,
-                    place,
-                    count,
-                    weight: self.weight,
-                })
-            }
+        if self.is_absent(field) {
+            return None;
         }
+        let kind = self.kind(field);
+        let place = target(self.message, self.place_in(field, kind));
+        let count = u32_at(self.message, place);
+        Some(VectorView {
+            message: self.message,
+            schema: self.schema,
+            kind,
+            place,
+            count,
+            weight: self.weight,
+        })
     }
 
     /// The tag of a union, and what its offset aims at.

@@ -1,1 +1,2 @@
+pub mod EveryView
 pub mod WorkedMessages

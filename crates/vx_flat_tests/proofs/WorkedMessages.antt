@@ -1,5 +1,5 @@
 -- The worked messages compute.
-use Rattle.std.proofs.Common.{◌≡◌, Some, Bool, true, false, refl, lit≤}
+use Rattle.std.proofs.Common.{◌≡◌, Some, Bool, true, false, refl, lit≤, length}
 use Rattle.vx_flat.specs.Schema.{struct_size, is_lawful}
 use Rattle.vx_flat.specs.Places.{u16_at, u32_at, u64_at, behind, field_table, place_of, table_at, is_vector, is_text}
 use Rattle.vx_flat.specs.Shows.{Shows}
@@ -7,6 +7,7 @@ use Rattle.vx_flat.specs.Weight.{weight, weight_within, table_weight}
 use Rattle.vx_flat.specs.Reading.{shown_within, table_shown}
 use Rattle.vx_flat.specs.Layout.{layout, bytes_of}
 use Rattle.vx_flat_tests.specs.Worked.{array_schema, array_value, array_message, type_schema, type_value, type_message}
+use Rattle.vx_flat_tests.specs.Worked.{nodes_value, nodes_message}
 use Rattle.vx_flat.proofs.Agree.{table_sound}
 
 -- ---- the array
@@ -49,3 +50,13 @@ type_read = refl
 
 pub type_shown : Shows type_schema type_message type_value
 type_shown = (lit≤ tt, table_sound type_schema type_message (u32_at type_message 0) 0 type_value type_read)
+
+-- ---- two nodes
+
+pub nodes_shared : layout true array_schema nodes_value ≡ nodes_message
+unfolding bytes_of struct_size
+nodes_shared = refl
+
+pub nodes_plain : length (layout false array_schema nodes_value) ≡ 260
+unfolding bytes_of struct_size
+nodes_plain = refl

@@ -1,6 +1,6 @@
 //! Messages that are written block by block.
 
-ghost use Rattle.std.specs.Prelude.{◌≡◌, ◌∷◌, [], ◌<◌, ◌^◌, OnOk, length, map, string_bytes};
+ghost use Rattle.std.specs.Prelude.{◌≡◌, ◌∷◌, [], OnOk};
 ghost use Rattle.vx_flat.specs.Building.{Takes, with_pieces};
 ghost use Rattle.vx_flat.specs.Pieces.{table_piece, links_piece, text_piece};
 
@@ -8,7 +8,6 @@ use crate::kinds::{ArrayKind, EveryKind, TypeKind};
 use crate::messages::{ARRAY, TYPE};
 use std::alloc::Global;
 use std::test::Fail;
-use vx_flat::laws::elements_in_order;
 use vx_flat::{
     BlockField, BlockVector, Builder, FlatBuffer, FlatError, LinkKind, TableKind, read_value,
     write_value,
@@ -98,28 +97,26 @@ const EVERY: [BlockField; 22] = [
     ABSENT,
 ];
 
-/// A vector of strings, with them.
-fn texts(builder: &mut Builder, texts: &[String]) -> Result<(), FlatError>
-    requires few { length texts.now < 2 ^ 32 }
-    requires takes { Takes LinkKind.Vector builder.old.waits builder.old.blocks }
+/// A vector of two strings, with them.
+fn two_texts(first: &str, second: &str, builder: &mut Builder) -> Result<(), FlatError>
+    requires { Takes LinkKind.Vector builder.old }
     ensures { OnOk result (builder.new ≡ with_pieces builder.old
-        (links_piece LinkKind.Text (length texts.now) ∷ map text_piece (map string_bytes texts.now))) }
+        (links_piece LinkKind.Text 2 ∷ text_piece first.now ∷ text_piece second.now ∷ [])) }
 {
-    elements_in_order();
-    let vector = builder.vector(BlockVector::Links {
+    let texts = builder.vector(BlockVector::Links {
         kind: LinkKind::Text,
-        count: texts.len() as u32,
+        count: 2,
     })?;
-    for (i, text) in texts.iter().enumerate() {
-        builder.link(vector, i);
-        builder.string(text.as_str())?;
-    }
+    builder.link(texts, 0);
+    builder.string(first)?;
+    builder.link(texts, 1);
+    builder.string(second)?;
     Ok(())
 }
 
 /// A vector of two tables of a number, with them.
 fn two_tables(builder: &mut Builder) -> Result<(), FlatError>
-    requires { Takes LinkKind.Vector builder.old.waits builder.old.blocks }
+    requires { Takes LinkKind.Vector builder.old }
     ensures { OnOk result (builder.new ≡ with_pieces builder.old
         (links_piece LinkKind.Table 2 ∷ table_piece (BlockField.Absent ∷ [])
         ∷ table_piece (BlockField.Number 1 8 ∷ []) ∷ [])) }
@@ -136,9 +133,7 @@ fn two_tables(builder: &mut Builder) -> Result<(), FlatError>
 }
 
 /// A table with a field of every kind but a vector of structs.
-fn every(alloc: Global, names: &[String]) -> Result<FlatBuffer, FlatError>
-    requires { length names.now < 2 ^ 32 }
-{
+fn every(alloc: Global) -> Result<FlatBuffer, FlatError> {
     let mut builder = Builder::new(alloc);
     let every = builder.table(&EVERY)?;
     builder.link(every, 10);
@@ -149,7 +144,7 @@ fn every(alloc: Global, names: &[String]) -> Result<FlatBuffer, FlatError>
     builder.link(every, 12);
     builder.string("ab")?;
     builder.link(every, 13);
-    texts(&mut builder, names)?;
+    two_texts("", "é", &mut builder)?;
     builder.link(every, 14);
     builder.table(&[BlockField::Number { width: 1, bits: 7 }])?;
     builder.link(every, 15);
@@ -185,11 +180,7 @@ fn worked_messages_by_blocks(rt: HostRuntime) -> Result<(), Fail> {
 
 #[test]
 fn every_kind_of_block(rt: HostRuntime) -> Result<(), Fail> {
-    let names = [
-        String::from_str(rt.alloc(), "")?,
-        String::from_str(rt.alloc(), "é")?,
-    ];
-    let every = every(rt.alloc(), &names)?;
+    let every = every(rt.alloc())?;
     assert!(rt; is_read_back(rt.alloc(), &EveryKind, &every)?);
     let value = read_value(rt.alloc(), every.as_slice(), &EveryKind)?;
     assert_eq!(rt;

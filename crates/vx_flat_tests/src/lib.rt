@@ -7,5 +7,9 @@ pub mod kinds;
 pub mod messages;
 #[cfg(test)]
 mod reading;
+#[cfg(test)]
+mod sharing;
 pub mod traits;
+#[cfg(test)]
+mod viewing;
 pub mod worked;

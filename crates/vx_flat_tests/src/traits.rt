@@ -9,7 +9,6 @@ ghost use Rattle.vx_flat_tests.specs.Worked.{primitive_schema};
 
 use crate::kinds::TypeKind;
 use std::alloc::Global;
-use vx_flat::laws::stops_in_parts;
 use vx_flat::{
     BlockField, Builder, FlatBufferRoot, FlatError, LinkKind, ReadFlatBuffer, UnionPart, View,
     WriteFlatBuffer,
@@ -49,8 +48,7 @@ impl WriteFlatBuffer for Primitive {
     ghost unwritten = { λ p b e. (c : Built) × IsStopped b (pieces primitive_schema
         (field (member 3 (field (number p.code) (field (number 0) no_fields))) no_fields)) e c };
 
-    fn write_flatbuffer(&self, builder: &mut Builder) -> Result<(), FlatError> {
-        stops_in_parts();
+    fn write_flatbuffer(&self, _alloc: Global, builder: &mut Builder) -> Result<(), FlatError> {
         let tag = BlockField::Number { width: 1, bits: 3 };
         let dtype = builder.table(&[tag, BlockField::Link(LinkKind::Table)])?;
         builder.link(dtype, 1);

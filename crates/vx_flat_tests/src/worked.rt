@@ -1,12 +1,12 @@
 //! What the definitions say of worked messages.
 
-ghost use Rattle.std.specs.Prelude.{◌≡◌, Bool, IsTrue};
+ghost use Rattle.std.specs.Prelude.{◌≡◌, Bool, true, false, IsTrue, length};
 ghost use Rattle.vx_flat.specs.Schema.{is_lawful};
 ghost use Rattle.vx_flat.specs.Shows.{Shows};
 ghost use Rattle.vx_flat.specs.Layout.{layout};
 ghost use Rattle.vx_flat.specs.Weight.{weight};
 ghost use Rattle.vx_flat_tests.specs.Worked.{array_schema, array_value, array_message, type_schema};
-ghost use Rattle.vx_flat_tests.specs.Worked.{type_value, type_message};
+ghost use Rattle.vx_flat_tests.specs.Worked.{type_value, type_message, nodes_value, nodes_message};
 
 /// The worked message of an array, of 148 bytes, is the layout of its value in both forms, and
 /// shows it. It has 3 tables, nested 3, and weighs 218 bytes.
@@ -24,4 +24,12 @@ pub fn worked_type()
     ensures lawful { IsTrue (is_lawful type_schema) }
     ensures laid_out { (sharing : Bool) → layout sharing type_schema type_value ≡ type_message }
     ensures shown { Shows type_schema type_message type_value }
+{}
+
+/// The message of two nodes has 212 bytes in the form that shares equal field tables, and 260 in
+/// the plain one.
+pub fn worked_nodes()
+    ensures shared { layout true array_schema nodes_value ≡ nodes_message }
+    ensures length { length nodes_message ≡ 212 }
+    ensures plain { length (layout false array_schema nodes_value) ≡ 260 }
 {}

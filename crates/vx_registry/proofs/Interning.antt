@@ -5,7 +5,8 @@ use Rattle.std.specs.List.{position_or_len, list_any}
 use Rattle.std.proofs.lemmas.Bool.{lt-ltb}
 use Rattle.std.proofs.lemmas.Slice.Eq.{bytes_eq-Decides}
 use Rattle.std.proofs.lemmas.List.Recursion.{is_position_or_len}
-use Rattle.vx_registry.specs.Context.{Context, is_among, place_of, with_id, is_allowed, interned}
+use Rattle.vx_registry.proofs.LawsContexts.{index_of-absent}
+use Rattle.vx_wire_tree.specs.Context.{Context, is_among, index_of, with_id, with_ids, is_allowed, interned}
 
 -- the two ways to say that a list has an identifier
 
@@ -18,36 +19,21 @@ among_at false rest p n e = e ∙ sym (same_test p n)
 
 pub list_any-among : (id : List ℕ) (ids : List (List ℕ)) → list_any (bytes_eq id) ids ≡ is_among id ids
 list_any-among id [] = refl
-list_any-among id (x ∷ xs) = among_at (bytes_eq id x) (list_any (bytes_eq id) xs) (place_of id xs) (length xs) (list_any-among id xs)
+list_any-among id (x ∷ xs) = among_at (bytes_eq id x) (list_any (bytes_eq id) xs) (index_of id xs) (length xs) (list_any-among id xs)
 
 -- places
 
-within_at : (b : Bool) (p n : ℕ) → p ≤ n → cond b 0 (suc p) ≤ suc n
-within_at true p n h = omega arith
-within_at false p n h = omega (arith, h)
-
-place_of-within : (id : List ℕ) (ids : List (List ℕ)) → place_of id ids ≤ length ids
-place_of-within id [] = omega arith
-place_of-within id (x ∷ xs) = within_at (bytes_eq id x) (place_of id xs) (length xs) (place_of-within id xs)
-
-not_below : (n m : ℕ) → nat_lt n m ≡ false → m ≤ n
-not_below n m e = grind (arith, e)
-
 past : (n m : ℕ) → m ≤ n → nat_lt n m ≡ false
 past n m h = grind arith
-
--- an identifier that a list has not has its place at the end
-pub place_of-absent : (id : List ℕ) (ids : List (List ℕ)) → is_among id ids ≡ false → place_of id ids ≡ length ids
-place_of-absent id ids e = omega (arith, not_below (place_of id ids) (length ids) e, place_of-within id ids)
 
 some_is : (b : Bool) (n i : ℕ) → cond b (Some n) None ≡ Some i → n ≡ i
 some_is true n i e = cc
 some_is false n i e = absurd (cc)
 
 -- one that it has, has the place where it is found
-pub place_of-found : (id : List ℕ) (ids : List (List ℕ)) (i : ℕ) → position (bytes_eq id) ids ≡ Some i → place_of id ids ≡ i
-place_of-found id ids i e =
-    is_position_or_len (place_of id) (bytes_eq id) refl (λ x xs. ap (λ n. cond (bytes_eq id x) 0 n) (omega arith)) ids
+pub index_of-found : (id : List ℕ) (ids : List (List ℕ)) (i : ℕ) → position (bytes_eq id) ids ≡ Some i → index_of id ids ≡ i
+index_of-found id ids i e =
+    is_position_or_len (index_of id) (bytes_eq id) refl (λ x xs. ap (λ n. cond (bytes_eq id x) 0 n) (omega arith)) ids
     ∙ some_is (nat_lt (position_or_len (bytes_eq id) ids) (length ids)) (position_or_len (bytes_eq id) ids) i e
 
 -- what the set makes of its keys
@@ -55,24 +41,24 @@ pub insert_key-with_id : (id : List ℕ) (ids : List (List ℕ)) → cond (list_
 insert_key-with_id id ids = ap (λ b. cond b ids (ids ++ id ∷ [])) (list_any-among id ids)
 
 -- an identifier that may come, at a place that a number names
-pub interned-some : (c : Context) (id : List ℕ) (ids : List (List ℕ)) → is_allowed c.allowed id ≡ true → place_of id c.ids < 65536 → ids ≡ with_id id c.ids
+pub interned-some : (c : Context) (id : List ℕ) (ids : List (List ℕ)) → is_allowed c.allowed id ≡ true → index_of id c.ids < 65536 → ids ≡ with_id id c.ids
     → interned id c ≡ Some (record { ids = ids; allowed = c.allowed })
 interned-some c id ids allowed small e =
-    let b : is_allowed c.allowed id && nat_lt (place_of id c.ids) 65536 ≡ true = ap (λ z. z && nat_lt (place_of id c.ids) 65536) allowed ∙ lt-ltb (place_of id c.ids) 65536 small in
+    let b : is_allowed c.allowed id && nat_lt (index_of id c.ids) 65536 ≡ true = ap (λ z. z && nat_lt (index_of id c.ids) 65536) allowed ∙ lt-ltb (index_of id c.ids) 65536 small in
     let some : Bool → Option Context = λ z. cond z (Some (record { ids = with_id id c.ids; allowed = c.allowed })) None in
     ap some b ∙ ap (λ z. Some (record { ids = z; allowed = c.allowed })) (sym e)
 
 -- and one at no such place
-pub interned-past : (c : Context) (id : List ℕ) → is_allowed c.allowed id ≡ true → 65536 ≤ place_of id c.ids → interned id c ≡ None
+pub interned-past : (c : Context) (id : List ℕ) → is_allowed c.allowed id ≡ true → 65536 ≤ index_of id c.ids → interned id c ≡ None
 interned-past c id allowed h =
-    let b : is_allowed c.allowed id && nat_lt (place_of id c.ids) 65536 ≡ false = ap (λ z. z && nat_lt (place_of id c.ids) 65536) allowed ∙ past (place_of id c.ids) 65536 h in
+    let b : is_allowed c.allowed id && nat_lt (index_of id c.ids) 65536 ≡ false = ap (λ z. z && nat_lt (index_of id c.ids) 65536) allowed ∙ past (index_of id c.ids) 65536 h in
     let some : Bool → Option Context = λ z. cond z (Some (record { ids = with_id id c.ids; allowed = c.allowed })) None in
     ap some b
 
 -- What the answer for an identifier says: the context with it, and its place there; or that there is none.
 pub record IsInterned (old : Context) (id : List ℕ) (place : Option ℕ) (new : Context) : Type 0 where
   pub interned_is : IfSome place (λ _. interned id old ≡ Some new)
-  pub place_is : IfSome place (λ i. place_of id new.ids ≡ i)
+  pub place_is : IfSome place (λ i. index_of id new.ids ≡ i)
   pub refused : IfNone place (interned id old ≡ None)
   pub none : IfNone place (new ≡ old)
 
@@ -80,7 +66,7 @@ pub record IsInterned (old : Context) (id : List ℕ) (place : Option ℕ) (new 
 pub found : (c : Context) (id : List ℕ) (i : ℕ) (p : Option ℕ) → is_allowed c.allowed id ≡ true → position (bytes_eq id) c.ids ≡ Some i → list_any (bytes_eq id) c.ids ≡ true
     → IfSome p (λ place. place ≡ i) → IfSome p (λ _. i < 65536) → IfNone p (65536 ≤ i) → IsInterned c id p c
 found c id i (Some place) allowed at there same small none =
-    let e = place_of-found id c.ids i at in
+    let e = index_of-found id c.ids i at in
     record {
       interned_is = interned-some c id c.ids allowed (omega (arith, e, small)) (sym (ap (λ z. cond z c.ids (c.ids ++ id ∷ [])) (sym (list_any-among id c.ids) ∙ there)));
       place_is = e ∙ sym same;
@@ -90,7 +76,7 @@ found c id i (Some place) allowed at there same small none =
 found c id i None allowed at there same small none = record {
   interned_is = tt;
   place_is = tt;
-  refused = interned-past c id allowed (omega (arith, place_of-found id c.ids i at, none));
+  refused = interned-past c id allowed (omega (arith, index_of-found id c.ids i at, none));
   none = refl;
 }
 
@@ -103,14 +89,14 @@ found_in v c id i p e allowed at there same small none =
 
 -- a new identifier where no place is left
 pub full : (c : Context) (id : List ℕ) → is_allowed c.allowed id ≡ true → list_any (bytes_eq id) c.ids ≡ false → 65536 ≤ length c.ids → interned id c ≡ None
-full c id allowed absent h = interned-past c id allowed (omega (arith, place_of-absent id c.ids (sym (list_any-among id c.ids) ∙ absent), h))
+full c id allowed absent h = interned-past c id allowed (omega (arith, index_of-absent id c.ids (sym (list_any-among id c.ids) ∙ absent), h))
 
 -- a new identifier that goes last
 
 pub added : (c d : Context) (id : List ℕ) → is_allowed c.allowed id ≡ true → list_any (bytes_eq id) c.ids ≡ false → length c.ids < 65536
     → d.ids ≡ with_id id c.ids → d.allowed ≡ c.allowed → interned id c ≡ Some d
 added c d id allowed absent small e f =
-    let at = place_of-absent id c.ids (sym (list_any-among id c.ids) ∙ absent) in
+    let at = index_of-absent id c.ids (sym (list_any-among id c.ids) ∙ absent) in
     interned-some c id d.ids allowed (omega (arith, at, small)) e ∙ ap (λ z. Some (record { ids = d.ids; allowed = z })) (sym f)
 
 end_at : (b rest : Bool) (p n : ℕ) → b || rest ≡ false → (rest ≡ false → p ≡ n) → cond b 0 (suc p) ≡ suc n
@@ -121,15 +107,21 @@ own_place : (b : Bool) (n : ℕ) → b ≡ true → cond b 0 (suc n) ≡ zero
 own_place true n e = refl
 own_place false n e = absurd (cc)
 
-place_of-end : (id : List ℕ) (ids : List (List ℕ)) → list_any (bytes_eq id) ids ≡ false → place_of id (ids ++ id ∷ []) ≡ length ids
-place_of-end id [] e = own_place (bytes_eq id id) 0 ((bytes_eq-Decides id id).1 refl)
-place_of-end id (x ∷ xs) e = end_at (bytes_eq id x) (list_any (bytes_eq id) xs) (place_of id (xs ++ id ∷ [])) (length xs) e (λ q. place_of-end id xs q)
+index_of-end : (id : List ℕ) (ids : List (List ℕ)) → list_any (bytes_eq id) ids ≡ false → index_of id (ids ++ id ∷ []) ≡ length ids
+index_of-end id [] e = own_place (bytes_eq id id) 0 ((bytes_eq-Decides id id).1 refl)
+index_of-end id (x ∷ xs) e = end_at (bytes_eq id x) (list_any (bytes_eq id) xs) (index_of id (xs ++ id ∷ [])) (length xs) e (λ q. index_of-end id xs q)
 
 -- and its place then
-pub added-place : (c d : Context) (id : List ℕ) (place : ℕ) → list_any (bytes_eq id) c.ids ≡ false → place ≡ length c.ids → d.ids ≡ with_id id c.ids → place_of id d.ids ≡ place
+pub added-place : (c d : Context) (id : List ℕ) (place : ℕ) → list_any (bytes_eq id) c.ids ≡ false → place ≡ length c.ids → d.ids ≡ with_id id c.ids → index_of id d.ids ≡ place
 added-place c d id place absent last e =
     let new : with_id id c.ids ≡ c.ids ++ id ∷ [] = ap (λ b. cond b c.ids (c.ids ++ id ∷ [])) (sym (list_any-among id c.ids) ∙ absent) in
-    ap (λ ids. place_of id ids) (e ∙ new) ∙ place_of-end id c.ids absent ∙ sym last
+    ap (λ ids. index_of id ids) (e ∙ new) ∙ index_of-end id c.ids absent ∙ sym last
 
 -- for the test of what may come
 pub ruleset among = (list_any-among)
+
+-- identifiers that go in one after the other
+
+pub with_ids-snoc : (ids xs : List (List ℕ)) (id : List ℕ) → with_ids ids (xs ++ id ∷ []) ≡ with_id id (with_ids ids xs)
+with_ids-snoc ids [] id = refl
+with_ids-snoc ids (x ∷ xs) id = with_ids-snoc (with_id x ids) xs id

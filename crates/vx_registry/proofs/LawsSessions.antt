@@ -1,17 +1,46 @@
 -- What holds of each session, for the proofs of other crates.
-use Rattle.std.proofs.Common.{Option, Some, None, option_map}
+use Rattle.std.proofs.Common.{ℕ, ◌≡◌, List, Option, Some, None, option_map, sym, subst}
 use Rattle.std.specs.Prelude.{bytes_eq}
 use Rattle.std.specs.Map.{lookup}
+use Rattle.vx_types.specs.Known.{ExtMeaning}
+use Rattle.vx_array_tree.specs.Encoding as E
+use Rattle.vx_array_tree.specs.Metadata.{Metadata}
+use Rattle.vx_array_tree.specs.Table.{IsFair}
+use Rattle.vx_wire_tree.specs.Codec.{IsLawful, IsLawfulAt}
+use Rattle.vx_wire_tree.specs.Fields.{FitsMessage}
+use Rattle.vx_wire_tree.specs.Session.{shipped, IsShipped, IsShippedReader}
+use Rattle.vx_encodings.specs.Messages.{codec}
+use Rattle.vx_encodings.specs.Plain.{plain_encoding}
 use Rattle.vx_encodings.specs.declared.encoding.Encoding.{Encoding}
-use Rattle.vx_registry.specs.Session.{Registry, shipped, registry_meaning, IsShipped, IsShippedEntry}
+use Rattle.vx_encodings.proofs.Laws.{lawful, fair_message}
+use Rattle.vx_registry.specs.Session.{Registry, entry, tables_meaning}
 
-entry_shipped : (found : Option Encoding) → IsShippedEntry (option_map shipped found)
+entry_shipped : (o : Option Encoding) → IsShippedReader (option_map entry o)
 entry_shipped None = tt
 entry_shipped (Some encoding) = tt
 
--- A registry has entries of shipped encodings alone.
-pub registry_shipped : (registry : Registry) → IsShipped (registry_meaning registry)
-registry_shipped registry = record {
-  reads = λ id. entry_shipped (lookup (bytes_eq id) registry.readers);
-  writes = λ id. entry_shipped (lookup (bytes_eq id) registry.writers);
+-- The tables of a session have entries of shipped encodings alone.
+pub registry_shipped : (r : Registry) (x : ExtMeaning) → IsShipped (tables_meaning r x)
+registry_shipped r x = record {
+  reads = λ id. entry_shipped (lookup (bytes_eq id) r.readers);
+  writes = λ id. entry_shipped (lookup (bytes_eq id) r.writers);
 }
+
+-- What an entry reads is of an encoding that has code.
+pub entry_encoding : (o : Option Encoding) (e : E.Encoding) → option_map entry o ≡ Some (shipped e) → (encoding : Encoding) × (plain_encoding encoding ≡ e)
+entry_encoding None e p = absurd (cc)
+entry_encoding (Some encoding) e p = (encoding, cc)
+
+-- The encodings by which a session reads have lawful messages of metadata.
+pub registry_lawful : (r : Registry) (x : ExtMeaning) → IsLawful codec (tables_meaning r x)
+registry_lawful r x = λ id e p.
+    let own = entry_encoding (lookup (bytes_eq id) r.readers) e p in
+    let P : E.Encoding → Type 0 = λ z. IsLawfulAt codec z in
+    subst P own.1 (lawful own.0)
+
+-- What a session reads of a node's metadata fits its message.
+pub registry_messages : (r : Registry) (x : ExtMeaning) (id : List ℕ) (e : E.Encoding) (v : Metadata) → (tables_meaning r x).reader id ≡ Some (shipped e) → IsFair e v → FitsMessage v
+registry_messages r x id e v p fair =
+    let own = entry_encoding (lookup (bytes_eq id) r.readers) e p in
+    let P : E.Encoding → Type 0 = λ z. IsFair z v in
+    fair_message own.0 v (subst P (sym own.1) fair)

@@ -1,3 +1,5 @@
 mod Interning
+mod Pairing
 mod Shipped
 pub mod LawsSessions
+pub mod LawsContexts

@@ -1,2 +1,3 @@
 pub mod Session
-pub mod Context
+pub mod Meaning
+pub mod Serialization

@@ -1,8 +1,9 @@
-ghost use Rattle.std.specs.Prelude.{◌≡◌, ◌≤◌, ◌<◌, [], true, false, None, Some, IfOk, IfNone, IfSome, OnErr, option_map, bytes_eq};
-ghost use Rattle.vx_registry.specs.Context.{interned, is_allowed, place_of};
+ghost use Rattle.std.specs.Prelude.{◌≡◌, ◌≤◌, ◌<◌, [], ◌∷◌, ◌++◌, length, true, false, None, Some, IfOk, IfNone, IfSome, OnErr, OnOk, IsOkUnless, option_map, bytes_eq};
+ghost use Rattle.vx_wire_tree.specs.Context.{interned, is_allowed, index_of, with_ids};
 ghost use Rattle.std.specs.List.{list_any};
 
 use crate::error::RegistryError;
+use crate::named::named;
 use indexmap::IndexSet;
 use std::alloc::Global;
 use std::marker::Model;
@@ -18,15 +19,11 @@ pub struct ArrayContext {
 
 impl Model for ArrayContext {
     ghost use Rattle.std.specs.Prelude.{option_map};
-    ghost use Rattle.vx_registry.specs.Context.{Context};
+    ghost use Rattle.vx_wire_tree.specs.Context.{Context};
 
     ghost Value = { Context };
 
     ghost view = { λ c. record { ids = c.ids.keys; allowed = option_map (λ s. s.keys) c.allowed } };
-
-    ghost use Rattle.std.specs.Prelude.{◌≤◌, length};
-
-    ghost invariant = { λ c. length c.ids.keys ≤ 65536 };
 }
 
 impl ArrayContext {
@@ -42,11 +39,38 @@ impl ArrayContext {
         }
     }
 
+    /// A context that has these identifiers, each once: one that stands there again is dropped. It allows all.
+    pub fn new(alloc: Global, ids: &Ids) -> Result<ArrayContext, RegistryError>
+        ensures ids { IfOk result (λ c. c.ids ≡ with_ids [] ids.now) }
+        ensures allowed { IfOk result (λ c. c.allowed ≡ None) }
+        ensures err { IsOkUnless result RegistryError.OutOfMemory }
+    {
+        Ok(ArrayContext {
+            ids: set_of(alloc, ids)?,
+            allowed: None,
+            alloc,
+        })
+    }
+
+    /// The context with what it has, in which only these identifiers may come from now on.
+    pub fn with_allowed_ids(self, alloc: Global, ids: &Ids) -> Result<ArrayContext, RegistryError>
+        ensures ids { IfOk result (λ c. c.ids ≡ self.ids) }
+        ensures allowed { IfOk result (λ c. c.allowed ≡ Some (with_ids [] ids.now)) }
+        ensures err { IsOkUnless result RegistryError.OutOfMemory }
+    {
+        let allowed = set_of(alloc, ids)?;
+        Ok(ArrayContext {
+            ids: self.ids,
+            allowed: Some(allowed),
+            alloc: self.alloc,
+        })
+    }
+
     /// The place of an identifier, which goes last if it is new. `None` exactly where it is not allowed, or
     /// its place is not below 65,536; nothing has changed then, nor for want of memory.
     pub fn intern(&mut self, id: &Id) -> Result<Option<u16>, RegistryError>
         ensures interned { IfOk result (λ place. IfSome place (λ _. interned id.now self.old ≡ Some self.new)) }
-        ensures place { IfOk result (λ place. IfSome place (λ i. place_of id.now self.new.ids ≡ i)) }
+        ensures place { IfOk result (λ place. IfSome place (λ i. index_of id.now self.new.ids ≡ i)) }
         ensures refused { IfOk result (λ place. IfNone place (interned id.now self.old ≡ None)) }
         ensures none { IfOk result (λ place. IfNone place (self.new ≡ self.old)) }
         ensures err { OnErr result (self.new ≡ self.old) }
@@ -65,7 +89,7 @@ impl ArrayContext {
         requires allowed { is_allowed self.old.allowed id.now ≡ true }
         requires new { list_any (bytes_eq id.now) self.old.ids ≡ false }
         ensures interned { IfOk result (λ place. IfSome place (λ _. interned id.now self.old ≡ Some self.new)) }
-        ensures place { IfOk result (λ place. IfSome place (λ i. place_of id.now self.new.ids ≡ i)) }
+        ensures place { IfOk result (λ place. IfSome place (λ i. index_of id.now self.new.ids ≡ i)) }
         ensures refused { IfOk result (λ place. IfNone place (interned id.now self.old ≡ None)) }
         ensures none { IfOk result (λ place. IfNone place (self.new ≡ self.old)) }
         ensures err { OnErr result (self.new ≡ self.old) }
@@ -74,21 +98,34 @@ impl ArrayContext {
             Some(last) => last,
             None => return Ok(None),
         };
-        let id = id.clone(self.alloc)?;
+        let id = named(self.alloc, id.as_str())?;
         self.ids.insert(id)?;
         Ok(Some(last))
     }
 
     /// The identifiers by number.
     pub fn to_ids(&self, alloc: Global) -> Result<Ids, RegistryError>
-        ensures { IfOk result (λ ids. ids ≡ self.now.ids) }
+        ensures ids { IfOk result (λ ids. ids ≡ self.now.ids) }
+        ensures err { IsOkUnless result RegistryError.OutOfMemory }
     {
         let mut ids = Ids::new(alloc);
         for id in self.ids.iter() {
-            ids.push(id.clone(alloc)?)?;
+            push_copy(alloc, id, &mut ids)?;
         }
         Ok(ids)
     }
+}
+
+// Identifiers as a set: each once, in the order in which they come first.
+fn set_of(alloc: Global, ids: &Ids) -> Result<IndexSet<Id>, RegistryError>
+    ensures ids { IfOk result (λ set. set.keys ≡ with_ids [] ids.now) }
+    ensures err { IsOkUnless result RegistryError.OutOfMemory }
+{
+    let mut set = IndexSet::new(alloc);
+    for id in ids.as_slice() {
+        set.insert(named(alloc, id.as_str())?)?;
+    }
+    Ok(set)
 }
 
 // Whether an identifier is among those that may come, where they are limited.
@@ -99,6 +136,18 @@ fn is_allowed(allowed: &Option<IndexSet<Id>>, id: &Id) -> bool
     match allowed {
         None => true,
         Some(allowed) => allowed.contains(id),
+    }
+}
+
+// Puts a copy of an identifier last.
+fn push_copy(alloc: Global, id: &Id, ids: &mut Ids) -> Result<(), RegistryError>
+    ensures ok { OnOk result (ids.new ≡ ids.old ++ id.now ∷ []) }
+    ensures err { IsOkUnless result RegistryError.OutOfMemory }
+{
+    let id = named(alloc, id.as_str())?;
+    match ids.push(id) {
+        Ok(()) => Ok(()),
+        Err(_) => Err(RegistryError::OutOfMemory),
     }
 }
 

@@ -3,7 +3,6 @@ ghost use Rattle.vx_registry.specs.declared.error.RegistryError.TheVariants.{Out
 
 use std::alloc::{AllocError, AllocFailed};
 use thiserror::Error;
-use vx_types::TypeError;
 
 /// Why a call on sessions and contexts was refused.
 #[derive(Clone, Copy, Debug, PartialEq, Eq, Error)]
@@ -11,6 +10,9 @@ pub enum RegistryError {
     /// Memory was wanted and not to be had.
     #[error("out of memory")]
     OutOfMemory,
+    /// Nothing writes the arrays of this encoding.
+    #[error("nothing writes the arrays of this encoding")]
+    NotRegistered,
 }
 
 impl From<AllocError> for RegistryError {
@@ -25,14 +27,6 @@ impl<T: Drop> From<AllocFailed<T>> for RegistryError {
     ghost from_gives = { λ _ e. e ≡ OutOfMemory };
 
     fn from(_: AllocFailed<T>) -> RegistryError {
-        RegistryError::OutOfMemory
-    }
-}
-
-impl From<TypeError> for RegistryError {
-    ghost from_gives = { λ _ e. e ≡ OutOfMemory };
-
-    fn from(_: TypeError) -> RegistryError {
         RegistryError::OutOfMemory
     }
 }

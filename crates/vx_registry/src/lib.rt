@@ -3,10 +3,13 @@
 
 mod context;
 mod error;
+mod named;
 mod read;
+mod serialization;
 mod session;
 
 pub use context::ArrayContext;
 pub use error::RegistryError;
 pub use read::ReadContext;
-pub use session::{ArraySession, VortexSession};
+pub use serialization::{ArrayDeserialization, ArraySerialization};
+pub use session::{ArraySession, PluginEntry, VortexSession};

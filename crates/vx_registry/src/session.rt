@@ -1,31 +1,44 @@
 //! Sessions: what reads and writes arrays, and what reads extension types.
 
-ghost use Rattle.std.specs.Prelude.{◌≡◌, [], IfOk, option_map};
-ghost use Rattle.vx_registry.specs.Session.{shipped, registry_meaning, shipped_registry, IsPaired};
+ghost use Rattle.std.specs.Prelude.{◌≡◌, ℕ, List, [], Some, IfOk, IfErr, OnOk, OnErr, IsOkUnless, IfSome, IsSome, None, option_map};
+ghost use Rattle.vx_type_wire.specs.Session.{ext_meaning};
+ghost use Rattle.vx_registry.specs.Serialization.{HasPartsOf, array_id};
+ghost use Rattle.vx_registry.specs.Session.{encoding_in, entry, found, found_with, registered, shipped_registry, ArePaired};
 
 use crate::error::RegistryError;
+use crate::named::named;
+use crate::serialization::ArraySerialization;
 use indexmap::IndexMap;
-use std::alloc::Global;
+use std::alloc::{AllocFailed, Global};
 use std::marker::Model;
+use vx_arrays::Array;
 use vx_encodings::Encoding;
 use vx_type_wire::ExtSession;
 use vx_types::Id;
+
+/// What is registered to read and write arrays.
+#[derive(Debug, Drop)]
+pub enum PluginEntry {
+    /// A shipped encoding, which reads and writes under its own identifier.
+    Shipped(Encoding),
+}
 
 /// Which encodings read and write arrays, each by its identifier.
 #[derive(Drop)]
 pub struct ArraySession {
     readers: IndexMap<Id, Encoding>,
     writers: IndexMap<Id, Encoding>,
+    alloc: Global,
 }
 
 impl Model for ArraySession {
-    ghost use Rattle.vx_registry.specs.Session.{Registry, registry_meaning, IsPaired};
+    ghost use Rattle.vx_registry.specs.Session.{Registry, ArePaired};
 
     ghost Value = { Registry };
 
     ghost view = { λ s. record { readers = s.readers.entries; writers = s.writers.entries } };
 
-    ghost invariant = { λ s. IsPaired (registry_meaning (record { readers = s.readers.entries; writers = s.writers.entries })) };
+    ghost invariant = { λ s. ArePaired (record { readers = s.readers.entries; writers = s.writers.entries }) };
 }
 
 impl ArraySession {
@@ -37,36 +50,79 @@ impl ArraySession {
         ArraySession {
             readers: IndexMap::new(alloc),
             writers: IndexMap::new(alloc),
+            alloc,
         }
     }
 
     /// A session of the shipped encodings.
     pub fn default(alloc: Global) -> Result<ArraySession, RegistryError>
-        ensures { IfOk result (λ s. s ≡ shipped_registry) }
+        ensures shipped { IfOk result (λ s. s ≡ shipped_registry) }
+        ensures err { IsOkUnless result RegistryError.OutOfMemory }
     {
-        let mut readers = IndexMap::new(alloc);
-        let mut writers = IndexMap::new(alloc);
-        for encoding in [Encoding::Null, Encoding::Primitive] {
-            readers.insert(Id::new(alloc, encoding.id())?, encoding)?;
-            writers.insert(Id::new(alloc, encoding.id())?, encoding)?;
+        let mut session = ArraySession::empty(alloc);
+        for encoding in [Encoding::Null, Encoding::Bool, Encoding::Primitive] {
+            session.set(encoding)?;
         }
-        Ok(ArraySession { readers, writers })
+        Ok(session)
+    }
+
+    /// Registers an entry in the place of what read its identifiers and of what wrote its encoding's arrays.
+    /// Where there is no memory for it, the session stays as it was, and the entry is handed back.
+    pub fn register(&mut self, entry: PluginEntry) -> Result<(), AllocFailed<PluginEntry>>
+        ensures readers { OnOk result ((id : List ℕ) → found self.new.readers id ≡ found_with (encoding_in entry) (found self.old.readers) id) }
+        ensures writers { OnOk result ((id : List ℕ) → found self.new.writers id ≡ found_with (encoding_in entry) (found self.old.writers) id) }
+        ensures unchanged { OnErr result (self.new ≡ self.old) }
+        ensures handed_back { IfErr result (λ refused. refused.value ≡ entry) }
+    {
+        let PluginEntry::Shipped(encoding) = entry;
+        match self.set(encoding) {
+            Ok(()) => Ok(()),
+            Err(_) => Err(AllocFailed {
+                value: PluginEntry::Shipped(encoding),
+            }),
+        }
+    }
+
+    // Sets what reads and writes an encoding's identifier.
+    fn set(&mut self, encoding: Encoding) -> Result<(), RegistryError>
+        ensures registered { OnOk result (self.new ≡ registered encoding self.old) }
+        ensures readers { OnOk result ((id : List ℕ) → found self.new.readers id ≡ found_with encoding (found self.old.readers) id) }
+        ensures writers { OnOk result ((id : List ℕ) → found self.new.writers id ≡ found_with encoding (found self.old.writers) id) }
+        ensures unchanged { OnErr result (self.new ≡ self.old) }
+        ensures err { IsOkUnless result RegistryError.OutOfMemory }
+    {
+        let read = named(self.alloc, encoding.id())?;
+        let written = named(self.alloc, encoding.id())?;
+        self.readers.reserve(1)?;
+        self.writers.reserve(1)?;
+        let Ok(_) = self.readers.insert(read, encoding) else {
+            unreachable!();
+        };
+        let Ok(_) = self.writers.insert(written, encoding) else {
+            unreachable!();
+        };
+        Ok(())
+    }
+
+    /// The encodings by the identifiers that they read, in the order in which these came.
+    pub fn registry(&self) -> &IndexMap<Id, Encoding>
+        ensures { result.now.entries ≡ self.now.readers }
+    {
+        &self.readers
     }
 
     /// What reads the arrays of this identifier: `None` where it is not registered.
-    ///
-    /// In each session readers and writers are paired: what reads is written under its own identifier,
-    /// and what is written is read by the encoding that wrote it.
     pub fn reader(&self, id: &Id) -> Option<Encoding>
-        ensures reader { option_map shipped result ≡ (registry_meaning self.now).reader id.now }
-        ensures paired { IsPaired (registry_meaning self.now) }
+        ensures found { option_map entry result ≡ found self.now.readers id.now }
+        ensures paired { ArePaired self.now }
     {
         self.readers.get(id).copied()
     }
 
     /// What writes the arrays of this identifier.
     pub fn writer(&self, id: &Id) -> Option<Encoding>
-        ensures { option_map shipped result ≡ (registry_meaning self.now).writer id.now }
+        ensures found { option_map entry result ≡ found self.now.writers id.now }
+        ensures paired { ArePaired self.now }
     {
         self.writers.get(id).copied()
     }
@@ -88,5 +144,31 @@ impl VortexSession {
         ensures ext { result.ext ≡ ext }
     {
         VortexSession { arrays, ext }
+    }
+
+    /// Whether what nothing is registered for is allowed: the flag of `ext`, which `allow_unknown` sets there.
+    pub fn allows_unknown(&self) -> bool
+        ensures { result ≡ (ext_meaning (λ b. accepted (b.vtable, b.value)) self.now.ext).unknown }
+    {
+        self.ext.allows_unknown()
+    }
+
+    /// An array's root as it is written: its parts, under the identifier that what writes its encoding's arrays
+    /// gives them. `NotRegistered` exactly where nothing writes them.
+    pub fn array_serialize(
+        &self,
+        alloc: Global,
+        array: &Array,
+    ) -> Result<Option<ArraySerialization>, RegistryError>
+        ensures parts { IfOk result (λ s. IfSome s (HasPartsOf array.now)) }
+        ensures given { IfOk result IsSome }
+        ensures registered { OnOk result (IsSome (found self.now.arrays.writers (array_id array.now))) }
+        ensures cause { IfErr result (λ e. e ≡ RegistryError.NotRegistered → found self.now.arrays.writers (array_id array.now) ≡ None) }
+    {
+        let id = named(alloc, array.encoding_id())?;
+        match self.arrays.writer(&id) {
+            Some(_) => Ok(Some(ArraySerialization::from_array(alloc, array)?)),
+            None => Err(RegistryError::NotRegistered),
+        }
     }
 }

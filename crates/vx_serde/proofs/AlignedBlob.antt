@@ -1,28 +1,30 @@
 -- A written blob tells buffers that begin at positions of their alignment.
-use Rattle.std.proofs.Common.{ℕ, ◌≡◌, true, List, Some, ◌++◌, replicate, sym, ap, ◌∙◌, subst, arith}
+use Rattle.std.proofs.Common.{ℕ, ◌≡◌, true, List, Some, ◌++◌, replicate, sym, ap, subst, arith}
 use Rattle.std.specs.Prelude.{All}
-use Rattle.vx_arrays.specs.Tree.{Tree}
-use Rattle.vx_registry.specs.Context.{Context, grown, grown_by}
-use Rattle.vx_registry.specs.Session.{SessionMeaning}
+use Rattle.vx_array_tree.specs.Tree.{Tree}
+use Rattle.vx_wire_tree.specs.Context.{Context, grown}
+use Rattle.vx_wire_tree.specs.Session.{SessionMeaning}
+use Rattle.vx_encodings.specs.Messages.{codec}
 use Rattle.vx_serde.specs.declared.options.SerializeOptions.{SerializeOptions}
 use Rattle.vx_serde.specs.Aligned.{AreAligned, IsAlignedBlob}
 use Rattle.vx_serde.specs.Message.{Descriptor, message_of}
 use Rattle.vx_serde.specs.MessageValue.{message_value}
-use Rattle.vx_serde.specs.Wire.{Wire, IsClean}
-use Rattle.vx_serde.specs.Numbered.{ids_in, buffers_in, numbered}
+use Rattle.vx_wire_tree.specs.Wire.{Wire, IsWhole, ids_in, buffers_in}
+use Rattle.vx_serde.specs.Numbered.{numbered}
 use Rattle.vx_serde.specs.Placing.{descriptors_from, data_from}
 use Rattle.vx_serde.specs.Written.{message_bytes, message_pad, blob_bytes, IsWritable}
-use Rattle.vx_serde.specs.Spells.{wire, blob_of, KeepsWriterLimits}
+use Rattle.vx_wire_tree.specs.Written.{wire}
+use Rattle.vx_serde.specs.Spells.{blob_of, KeepsWriterLimits}
 use Rattle.vx_serde.proofs.Carried.{shows-layout, is_blob}
 use Rattle.vx_serde.proofs.GrownPlaced.{grown_by-placed}
 use Rattle.vx_serde.proofs.MessageRead.{message_of-message_value, message_value_is_of}
 use Rattle.vx_serde.proofs.NumberedRead.{IsPlaced, placed_from_ids, numbered_fits}
 use Rattle.vx_serde.proofs.PadsAlign.{descriptors-align}
 use Rattle.vx_serde.proofs.PlacedRead.{described-descriptors_from}
-use Rattle.vx_serde.proofs.WrittenAgain.{wire-clean, ids_in-wire, grown-ids}
+use Rattle.vx_serde.proofs.WrittenAgain.{wire-whole, grown-ids}
 
 -- What is written for a wire tree, where its identifiers have their places.
-aligned_bytes : (ids : List (List ℕ)) (options : SerializeOptions) (w : Wire) → IsClean w → All (IsPlaced ids) (ids_in w)
+aligned_bytes : (ids : List (List ℕ)) (options : SerializeOptions) (w : Wire) → IsWhole w → All (IsPlaced ids) (ids_in w)
     → IsWritable ids options w → options.include_padding ≡ true → IsAlignedBlob options.offset (blob_bytes ids options w)
 aligned_bytes ids options w clean all fit asked =
     let root = numbered ids 0 w in
@@ -43,12 +45,12 @@ aligned_bytes ids options w clean all fit asked =
     }
 
 -- What is written for an array under a context that takes its identifiers.
-pub aligned_blob : (s : SessionMeaning) (t : Tree) (old new : Context) (options : SerializeOptions) → grown old t ≡ Some new
+pub aligned_blob : (s : SessionMeaning) (t : Tree) (old new : Context) (options : SerializeOptions) → grown codec s old t ≡ Some new
     → KeepsWriterLimits s t old options → options.include_padding ≡ true → IsAlignedBlob options.offset (blob_of s t old options)
 aligned_blob s t old new options grew fit asked =
-    let w = wire s t in
+    let w = wire codec s t in
     let same = grown-ids s t old new grew in
-    let placed = grown_by-placed (ids_in w) old new (ap (λ ids. grown_by ids old) (ids_in-wire s t) ∙ grew) in
+    let placed = grown_by-placed (ids_in w) old new grew in
     let W : List (List ℕ) → Type 0 = λ z. IsWritable z options w in
     let P : List (List ℕ) → Type 0 = λ z. IsAlignedBlob options.offset (blob_bytes z options w) in
-    subst P same (aligned_bytes new.ids options w (wire-clean s t) placed.placed (subst W (sym same) fit) asked)
+    subst P same (aligned_bytes new.ids options w (wire-whole codec s t) placed.placed (subst W (sym same) fit.writable) asked)

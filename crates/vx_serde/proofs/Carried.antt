@@ -1,5 +1,5 @@
 -- A written blob carries the tree that it was written for.
-use Rattle.std.proofs.Common.{ℕ, ◌≡◌, ◌-◌, ◌<◌, ◌≤◌, ◌^◌, false, List, [], ◌++◌, length, replicate, refl, sym, ap, ◌∙◌, arith, length-append}
+use Rattle.std.proofs.Common.{ℕ, ◌≡◌, ◌-◌, ◌<◌, ◌≤◌, ◌^◌, List, [], ◌++◌, length, replicate, refl, sym, ap, ◌∙◌, arith, length-append}
 use Rattle.std.specs.Prelude.{All}
 use Rattle.std.specs.Int.{w32, to_le_bytes}
 use Rattle.std.proofs.lemmas.List.{append_assoc, append-nil}
@@ -7,18 +7,18 @@ use Rattle.std.proofs.lemmas.Nat.{from_le_bytes-to_le_bytes_4}
 use Rattle.vx_flat.specs.Value.{Fields}
 use Rattle.vx_flat.specs.Shows.{Shows}
 use Rattle.vx_flat.specs.IsOf.{IsOf}
-use Rattle.vx_flat.specs.Layout.{layout}
+use Rattle.vx_flat.specs.Layout.{written_layout, shares}
 use Rattle.vx_flat.proofs.LawsOfMessages.{shown-layout}
 use Rattle.vx_buffer.specs.Buffer.{Buffer}
 use Rattle.vx_trees.specs.Everywhere.{Everywhere}
 use Rattle.vx_serde.specs.declared.options.SerializeOptions.{SerializeOptions}
 use Rattle.vx_serde.specs.ArraySchema.{array_schema}
-use Rattle.vx_serde.specs.Describable.{AreDescribable}
+use Rattle.vx_wire_tree.specs.Limits.{AreDescribable}
 use Rattle.vx_serde.specs.Message.{Descriptor, message_of}
 use Rattle.vx_serde.specs.MessageValue.{message_value}
-use Rattle.vx_serde.specs.Wire.{Wire, IsClean}
+use Rattle.vx_wire_tree.specs.Wire.{Wire, IsWhole, ids_in, buffers_in}
 use Rattle.vx_serde.specs.Blob.{IsBlob, buffers_at, end_of, wire_of, Carries, AreClean}
-use Rattle.vx_serde.specs.Numbered.{ids_in, buffers_in, numbered}
+use Rattle.vx_serde.specs.Numbered.{numbered}
 use Rattle.vx_serde.specs.Placing.{descriptors_from, data_from}
 use Rattle.vx_serde.specs.Written.{message_bytes, message_pad, blob_bytes, IsWritable}
 use Rattle.vx_serde.proofs.MessageRead.{message_of-message_value, message_value_is_of}
@@ -26,8 +26,8 @@ use Rattle.vx_serde.proofs.PlacedRead.{buffers_at-descriptors_from, end_of-descr
 use Rattle.vx_serde.proofs.NumberedRead.{IsPlacedNode, IsPlaced, placed_from_ids, numbered_fits, wire_of-numbered}
 
 -- The layout of a value of array messages shows it.
-pub shows-layout : (v : Fields) → IsOf array_schema v → length (layout false array_schema v) < 2 ^ 31 → Shows array_schema (layout false array_schema v) v
-shows-layout v of short = shown-layout array_schema false v refl of short
+pub shows-layout : (v : Fields) → IsOf array_schema v → length (written_layout array_schema v) < 2 ^ 31 → Shows array_schema (written_layout array_schema v) v
+shows-layout v of short = shown-layout array_schema shares v refl of short
 
 -- Data, its pad, a message and the message's length make a blob.
 pub is_blob : (data_bytes zeros message : List ℕ) → length message ≤ 2 ^ 31 - 1
@@ -55,7 +55,7 @@ read_wire ids w bs e placed =
     sym (ap (λ bs. wire_of ids bs (numbered ids 0 w)) (e ∙ sym (append-nil (buffers_in w))) ∙ wire_of-numbered ids [] [] 0 w refl placed)
 
 -- What is written for a tree carries the tree, and its descriptors are in order.
-pub carried : (ids : List (List ℕ)) (options : SerializeOptions) (w : Wire) → IsClean w → All (IsPlaced ids) (ids_in w)
+pub carried : (ids : List (List ℕ)) (options : SerializeOptions) (w : Wire) → IsWhole w → All (IsPlaced ids) (ids_in w)
     → IsWritable ids options w → (c : Carries (blob_bytes ids options w) ids w) × AreClean c.segment (message_of c.value).descriptors
 carried ids options w clean all fit =
     let placed = placed_from_ids ids w clean all in

@@ -7,7 +7,7 @@ use Rattle.vx_flat.proofs.LawsOfMessages.{shown-one}
 use Rattle.vx_trees.specs.Rose.{Rose}
 use Rattle.vx_serde.specs.ArraySchema.{array_schema}
 use Rattle.vx_serde.specs.Message.{NodeFields, message_of}
-use Rattle.vx_serde.specs.Wire.{Wire}
+use Rattle.vx_wire_tree.specs.Wire.{Wire}
 use Rattle.vx_serde.specs.Blob.{IsBlob, buffers_at, wire_of, Carries}
 
 -- Lists that are cut as far from their end fall apart alike.

@@ -2,11 +2,9 @@
 use Rattle.std.specs.Prelude.{ℕ, zero, suc, ◌≡◌, ◌<◌, Bool, true, false, ◌&&◌, List, [], ◌∷◌, ◌++◌, Option, Some, None, length, nat_lt, bytes_eq, if◌then◌else◌, All, Contains, refl}
 use Rattle.std.proofs.Common.{arith, sym, ◌∙◌, ap, get_or, append_assoc, append-nil}
 use Rattle.std.proofs.lemmas.List.Elements.{All-append, Contains-append_left, Contains-append_right}
-use Rattle.std.proofs.lemmas.Bool.{ltb-true}
-use Rattle.std.proofs.lemmas.Slice.Eq.{bytes_eq-Decides}
-use Rattle.vx_registry.specs.Context.{Context, place_of, with_id, is_allowed, interned, stepped, grown_by}
+use Rattle.vx_registry.proofs.LawsContexts.{index_of-among, index_of-last}
+use Rattle.vx_wire_tree.specs.Context.{Context, index_of, with_id, is_allowed, interned, stepped, grown_by}
 use Rattle.vx_serde.specs.KeptContext.{KeepsContext}
-use Rattle.vx_serde.specs.Numbered.{index_of}
 
 -- ---- one list of identifiers after the other
 
@@ -68,24 +66,16 @@ same-step true p q n h f = refl
 same-step false p q n h f = ap (λ k. suc k) (f (omega (arith, h)))
 
 -- a place within a list stays where more comes behind it
-pub place_of-more : (id : List ℕ) (ids more : List (List ℕ)) → place_of id ids < length ids → place_of id (ids ++ more) ≡ place_of id ids
-place_of-more id [] more h = absurd (omega (arith, h))
-place_of-more id (other ∷ ids) more h = same-step (bytes_eq id other) (place_of id ids) (place_of id (ids ++ more)) (length ids) h (λ g. place_of-more id ids more g)
+pub index_of-more : (id : List ℕ) (ids more : List (List ℕ)) → index_of id ids < length ids → index_of id (ids ++ more) ≡ index_of id ids
+index_of-more id [] more h = absurd (omega (arith, h))
+index_of-more id (other ∷ ids) more h = same-step (bytes_eq id other) (index_of id ids) (index_of id (ids ++ more)) (length ids) h (λ g. index_of-more id ids more g)
 
-within-step : (b : Bool) (p n : ℕ) → p < n → (if b then 0 else suc p) < suc n
-within-step true p n h = omega arith
-within-step false p n h = omega (arith, h)
-
-end-place : (id : List ℕ) (ids : List (List ℕ)) → place_of id (ids ++ id ∷ []) < length (ids ++ id ∷ [])
-end-place id [] = rw ((bytes_eq-Decides id id).1 refl) (omega arith)
-end-place id (other ∷ ids) = within-step (bytes_eq id other) (place_of id (ids ++ id ∷ [])) (length (ids ++ id ∷ [])) (end-place id ids)
-
-either-place : (id : List ℕ) (ids : List (List ℕ)) (b : Bool) → (b ≡ true → place_of id ids < length ids) → place_of id (if b then ids else ids ++ id ∷ []) < length (if b then ids else ids ++ id ∷ [])
+either-place : (id : List ℕ) (ids : List (List ℕ)) (b : Bool) → (b ≡ true → index_of id ids < length ids) → index_of id (if b then ids else ids ++ id ∷ []) < length (if b then ids else ids ++ id ∷ [])
 either-place id ids true f = f refl
-either-place id ids false f = end-place id ids
+either-place id ids false f = index_of-last id ids
 
-with_id-place : (id : List ℕ) (ids : List (List ℕ)) → place_of id (with_id id ids) < length (with_id id ids)
-with_id-place id ids = either-place id ids (nat_lt (place_of id ids) (length ids)) (λ e. ltb-true (place_of id ids) (length ids) e)
+with_id-place : (id : List ℕ) (ids : List (List ℕ)) → index_of id (with_id id ids) < length (with_id id ids)
+with_id-place id ids = either-place id ids (nat_lt (index_of id ids) (length ids)) (λ e. index_of-among id ids e)
 
 -- ---- one identifier that is taken
 
@@ -94,14 +84,14 @@ permitted true c d e = cc
 permitted false c d e = absurd (cc)
 
 taken-is : (id : List ℕ) (a b : Context) → interned id a ≡ Some b → b ≡ record { ids = with_id id a.ids; allowed = a.allowed }
-taken-is id a b e = permitted (is_allowed a.allowed id && nat_lt (place_of id a.ids) 65536) _ b e
+taken-is id a b e = permitted (is_allowed a.allowed id && nat_lt (index_of id a.ids) 65536) _ b e
 
-pub taken-place : (id : List ℕ) (a b : Context) → interned id a ≡ Some b → place_of id b.ids < length b.ids
+pub taken-place : (id : List ℕ) (a b : Context) → interned id a ≡ Some b → index_of id b.ids < length b.ids
 taken-place id a b e = rw (taken-is id a b e) (with_id-place id a.ids)
 
 -- the number of an identifier stays, whatever comes behind it
-pub taken-number : (id : List ℕ) (a b : Context) (n : ℕ) (more : List (List ℕ)) → interned id a ≡ Some b → place_of id b.ids ≡ n → index_of id (b.ids ++ more) ≡ n
-taken-number id a b n more e p = place_of-more id b.ids more (taken-place id a b e) ∙ p
+pub taken-number : (id : List ℕ) (a b : Context) (n : ℕ) (more : List (List ℕ)) → interned id a ≡ Some b → index_of id b.ids ≡ n → index_of id (b.ids ++ more) ≡ n
+taken-number id a b n more e p = index_of-more id b.ids more (taken-place id a b e) ∙ p
 
 one-among : (id : List ℕ) → All (λ x. Contains (id ∷ []) x) (id ∷ [])
 one-among id zero d h = (0, omega arith, refl)
@@ -113,7 +103,7 @@ with_id-added id ids false = (id ∷ [], refl, one-among id)
 
 pub kept-taken : (id : List ℕ) (a b : Context) → interned id a ≡ Some b → KeepsContext (id ∷ []) a b
 kept-taken id a b e =
-    let w = with_id-added id a.ids (nat_lt (place_of id a.ids) (length a.ids)) in
+    let w = with_id-added id a.ids (nat_lt (index_of id a.ids) (length a.ids)) in
     record { added = w.0; front = ap (λ c. c.ids) (taken-is id a b e) ∙ w.1; among = w.2; permissions = ap (λ c. c.allowed) (taken-is id a b e) }
 
 kept-stepped : (x : List ℕ) (xs : List (List ℕ)) (a b : Context) (o : Option Context) → ((d : Context) → grown_by xs d ≡ Some b → KeepsContext xs d b)

@@ -2,12 +2,11 @@
 use Rattle.std.proofs.Common.{ℕ, ◌≡◌, List, [], ◌∷◌, Option, Some, None, refl, sym, ap, ◌∙◌}
 use Rattle.std.specs.Prelude.{nat_lt, ◌&&◌}
 use Rattle.std.proofs.lemmas.Option.{cond_some}
-use Rattle.vx_registry.specs.Context.{Context, place_of, with_id, is_allowed, interned, stepped, grown_by}
-use Rattle.vx_serde.specs.Spells.{with_ids}
+use Rattle.vx_wire_tree.specs.Context.{Context, index_of, with_id, is_allowed, interned, stepped, grown_by, with_ids}
 
 interned-ids : (id : List ℕ) (old new : Context) → interned id old ≡ Some new → new.ids ≡ with_id id old.ids
 interned-ids id old new e =
-    let parts = cond_some (is_allowed old.allowed id && nat_lt (place_of id old.ids) 65536) (record { ids = with_id id old.ids; allowed = old.allowed }) new e in
+    let parts = cond_some (is_allowed old.allowed id && nat_lt (index_of id old.ids) 65536) (record { ids = with_id id old.ids; allowed = old.allowed }) new e in
     ap (λ c. c.ids) (sym parts.1)
 
 pub grown_by-ids : (came : List (List ℕ)) (old new : Context) → grown_by came old ≡ Some new → new.ids ≡ with_ids old.ids came

@@ -1,21 +1,20 @@
 -- The identifiers of a node and of the trees below it, taken in preorder.
 use Rattle.std.specs.Prelude.{ℕ, suc, ◌+◌, ◌≡◌, ◌<◌, ◌≤◌, List, ◌++◌, Some, length, take, drop}
 use Rattle.std.proofs.Common.{sym, ◌∙◌, ap, subst, get_or}
-use Rattle.vx_registry.specs.Context.{Context, grown_by}
+use Rattle.vx_wire_tree.specs.Context.{Context, grown_by}
 use Rattle.vx_trees.specs.Rose.{label, below, roses_of}
 use Rattle.vx_trees.specs.Walks.{gathered_below}
 use Rattle.vx_trees.proofs.Gathering.{gathered-is, gathered_below-take}
 use Rattle.vx_serde.specs.declared.error.WireError.{WireError}
 use Rattle.vx_serde.specs.declared.error.WireError.TheVariants.{OutOfMemory, TooShort, BadTable, TableLimit, BadAlignment, Compressed, OutOfBounds, UnknownIndex, UnknownEncoding, BadMetadata, BadShape, NotPermitted, WireLimit}
 use Rattle.vx_serde.specs.KeptContext.{KeepsContext}
-use Rattle.vx_serde.specs.Numbered.{id_in, ids_in}
-use Rattle.vx_serde.specs.Unwritten.{IsUngrown}
-use Rattle.vx_serde.specs.Wire.{Wire}
+use Rattle.vx_wire_tree.specs.Wire.{id_in, ids_in, Wire}
+use Rattle.vx_serde.specs.WritingSteps.{RefusesIds}
 use Rattle.vx_serde.proofs.Growing.{grown-both, refused-first, refused-second, kept-first, kept-both, kept-grown}
 use Rattle.vx_serde.proofs.WalkedNodes.{gathered-front, gathered-child, gathered-whole}
 
 -- A refusal of the first identifiers refuses all.
-pub ungrown-first : (xs ys : List (List ℕ)) (a : Context) (e : WireError) → IsUngrown xs a e → IsUngrown (xs ++ ys) a e
+pub ungrown-first : (xs ys : List (List ℕ)) (a : Context) (e : WireError) → RefusesIds xs a e → RefusesIds (xs ++ ys) a e
 ungrown-first xs ys a OutOfMemory h = tt
 ungrown-first xs ys a NotPermitted h = refused-first xs ys a h
 ungrown-first xs ys a TooShort h = h
@@ -31,7 +30,7 @@ ungrown-first xs ys a BadShape h = h
 ungrown-first xs ys a WireLimit h = h
 
 -- And so does a refusal of the second, once the first are taken.
-pub ungrown-second : (xs ys : List (List ℕ)) (a b : Context) (e : WireError) → grown_by xs a ≡ Some b → IsUngrown ys b e → IsUngrown (xs ++ ys) a e
+pub ungrown-second : (xs ys : List (List ℕ)) (a b : Context) (e : WireError) → grown_by xs a ≡ Some b → RefusesIds ys b e → RefusesIds (xs ++ ys) a e
 ungrown-second xs ys a b OutOfMemory g h = tt
 ungrown-second xs ys a b NotPermitted g h = refused-second xs ys a b g h
 ungrown-second xs ys a b TooShort g h = h
@@ -53,9 +52,9 @@ kept-own w a b k =
     let P : List (List ℕ) → Type 0 = λ ids. KeepsContext ids a b in
     subst P (sym (gathered-is (λ h. id_in h) w)) (kept-first (id_in (label w)) (gathered_below (λ h. id_in h) (below w)) a b k)
 
-pub ungrown-own : (w : Wire) (a : Context) (e : WireError) → IsUngrown (id_in (label w)) a e → IsUngrown (ids_in w) a e
+pub ungrown-own : (w : Wire) (a : Context) (e : WireError) → RefusesIds (id_in (label w)) a e → RefusesIds (ids_in w) a e
 ungrown-own w a e h =
-    let P : List (List ℕ) → Type 0 = λ ids. IsUngrown ids a e in
+    let P : List (List ℕ) → Type 0 = λ ids. RefusesIds ids a e in
     subst P (sym (gathered-is (λ h. id_in h) w)) (ungrown-first (id_in (label w)) (gathered_below (λ h. id_in h) (below w)) a e h)
 
 -- ---- at a tree below it
@@ -73,12 +72,12 @@ kept-child w ts i child a b c d e h at p q k =
     (kept-grown before a c (grown-both (id_in (label w)) (gathered_below (λ h. id_in h) (roses_of (take i ts))) a b c p q)) (subst Q at k)))
 
 pub ungrown-child : (w : Wire) (ts : List Wire) (i : ℕ) (child : Wire) (a b c : Context) (r : WireError) → roses_of ts ≡ below w → i < length ts → child ≡ get_or ts i child
-    → grown_by (id_in (label w)) a ≡ Some b → grown_by (gathered_below (λ h. id_in h) (roses_of (take i ts))) b ≡ Some c → IsUngrown (ids_in child) c r → IsUngrown (ids_in w) a r
+    → grown_by (id_in (label w)) a ≡ Some b → grown_by (gathered_below (λ h. id_in h) (roses_of (take i ts))) b ≡ Some c → RefusesIds (ids_in child) c r → RefusesIds (ids_in w) a r
 ungrown-child w ts i child a b c r e h at p q u =
     let before = id_in (label w) ++ gathered_below (λ h. id_in h) (roses_of (take i ts)) in
     let rest = gathered_below (λ h. id_in h) (roses_of (drop (suc i) ts)) in
-    let P : List (List ℕ) → Type 0 = λ ids. IsUngrown ids a r in
-    let Q : Wire → Type 0 = λ t. IsUngrown (ids_in t) c r in
+    let P : List (List ℕ) → Type 0 = λ ids. RefusesIds ids a r in
+    let Q : Wire → Type 0 = λ t. RefusesIds (ids_in t) c r in
     subst P (sym (gathered-child (λ h. id_in h) w ts i child e h))
     (ungrown-first (before ++ ids_in (get_or ts i child)) rest a r
     (ungrown-second before (ids_in (get_or ts i child)) a c r

@@ -1,30 +1,31 @@
 -- A context that has taken identifiers gives each of them its place.
-use Rattle.std.proofs.Common.{ℕ, suc, ◌≡◌, ◌<◌, ◌≤◌, Bool, true, false, List, [], ◌∷◌, ◌++◌, Option, Some, None, length, refl, sym, ap, ◌∙◌, subst, arith, append_assoc, append-nil, length-append}
+use Rattle.std.proofs.Common.{ℕ, suc, ◌≡◌, ◌<◌, Bool, true, false, List, [], ◌∷◌, ◌++◌, Option, Some, None, length, refl, sym, ap, ◌∙◌, subst, arith, append_assoc, append-nil, length-append}
 use Rattle.std.specs.Prelude.{All, slice_get, bytes_eq, nat_lt, ◌&&◌, if◌then◌else◌}
 use Rattle.std.proofs.lemmas.List.Elements.{All-nil, All-cons, All-weaker}
-use Rattle.std.proofs.lemmas.Bool.{ltb-true, ltb-false}
+use Rattle.std.proofs.lemmas.Bool.{ltb-true}
 use Rattle.std.proofs.lemmas.Option.{slice_get_within, cond_some}
 use Rattle.std.proofs.lemmas.Slice.Eq.{bytes_eq-Decides}
-use Rattle.vx_registry.specs.Context.{Context, is_among, place_of, with_id, is_allowed, interned, stepped, grown_by}
-use Rattle.vx_serde.proofs.Growing.{place_of-more}
+use Rattle.vx_wire_tree.specs.Context.{Context, is_among, index_of, with_id, is_allowed, interned, stepped, grown_by}
+use Rattle.vx_registry.proofs.LawsContexts.{index_of-among, index_of-absent, index_of-last}
+use Rattle.vx_serde.proofs.Growing.{index_of-more}
 use Rattle.vx_serde.proofs.NumberedRead.{IsPlaced}
 
 -- ---- the first place of an identifier
 
 -- Where the first place is within the list, the identifier stands there.
-stands-within : (id : List ℕ) (ids : List (List ℕ)) → place_of id ids < length ids → slice_get ids (place_of id ids) ≡ Some id
+stands-within : (id : List ℕ) (ids : List (List ℕ)) → index_of id ids < length ids → slice_get ids (index_of id ids) ≡ Some id
 stands-within id [] h = absurd (omega (arith, h))
 stands-within id (other ∷ ids) h = at (bytes_eq id other) (bytes_eq-Decides id other).0 h (λ g. stands-within id ids g) where
-  at : (b : Bool) → (b ≡ true → id ≡ other) → (if b then 0 else suc (place_of id ids)) < suc (length ids) → (place_of id ids < length ids → slice_get ids (place_of id ids) ≡ Some id)
-      → slice_get (other ∷ ids) (if b then 0 else suc (place_of id ids)) ≡ Some id
+  at : (b : Bool) → (b ≡ true → id ≡ other) → (if b then 0 else suc (index_of id ids)) < suc (length ids) → (index_of id ids < length ids → slice_get ids (index_of id ids) ≡ Some id)
+      → slice_get (other ∷ ids) (if b then 0 else suc (index_of id ids)) ≡ Some id
   at true f h g = ap (λ x. Some x) (sym (f refl))
   at false f h g = g (omega (arith, h))
 
 -- It stays where it is, whatever comes behind the list.
 pub placed-more : (id : List ℕ) (ids rest : List (List ℕ)) → IsPlaced ids id → IsPlaced (ids ++ rest) id
 placed-more id ids rest h =
-    let within = slice_get_within ids (place_of id ids) id h.stands in
-    let same = place_of-more id ids rest within in
+    let within = slice_get_within ids (index_of id ids) id h.stands in
+    let same = index_of-more id ids rest within in
     record {
       stands = stands-within id (ids ++ rest) (omega (arith, same, within, length-append ids rest));
       fits = omega (arith, same, h.fits);
@@ -32,40 +33,20 @@ placed-more id ids rest h =
 
 -- ---- a list with an identifier
 
-among-within : (id : List ℕ) (ids : List (List ℕ)) → is_among id ids ≡ true → place_of id ids < length ids
-among-within id ids h = ltb-true (place_of id ids) (length ids) h
-
-last-within : (id : List ℕ) (ids : List (List ℕ)) → place_of id (ids ++ id ∷ []) < length (ids ++ id ∷ [])
-last-within id [] = rw ((bytes_eq-Decides id id).1 refl) (omega arith)
-last-within id (other ∷ ids) = at (bytes_eq id other) (place_of id (ids ++ id ∷ [])) (length (ids ++ id ∷ [])) (last-within id ids) where
-  at : (b : Bool) (p n : ℕ) → p < n → (if b then 0 else suc p) < suc n
-  at true p n h = omega arith
-  at false p n h = omega (arith, h)
-
-place-bounded : (id : List ℕ) (ids : List (List ℕ)) → place_of id ids ≤ length ids
-place-bounded id [] = omega arith
-place-bounded id (other ∷ ids) = at (bytes_eq id other) (place_of id ids) (length ids) (place-bounded id ids) where
-  at : (b : Bool) (p n : ℕ) → p ≤ n → (if b then 0 else suc p) ≤ suc n
-  at true p n h = omega arith
-  at false p n h = omega (arith, h)
-
-absent-place : (id : List ℕ) (ids : List (List ℕ)) → is_among id ids ≡ false → place_of id ids ≡ length ids
-absent-place id ids h = omega (arith, ltb-false (place_of id ids) (length ids) h, place-bounded id ids)
-
 -- What an identifier's coming makes of a list: more may stand behind what was there, and the identifier has its place.
 record Comes (ids new : List (List ℕ)) (id : List ℕ) : Type 0 where
   pub rest : List (List ℕ)
   pub front : new ≡ ids ++ rest
   pub placed : IsPlaced new id
 
-comes : (ids : List (List ℕ)) (id : List ℕ) → place_of id ids < 65536 → Comes ids (with_id id ids) id
-comes ids id fits = at (is_among id ids) (λ e. among-within id ids e) (λ e. absent-place id ids e) where
-  at : (b : Bool) → (b ≡ true → place_of id ids < length ids) → (b ≡ false → place_of id ids ≡ length ids) → Comes ids (if b then ids else ids ++ id ∷ []) id
+comes : (ids : List (List ℕ)) (id : List ℕ) → index_of id ids < 65536 → Comes ids (with_id id ids) id
+comes ids id fits = at (is_among id ids) (λ e. index_of-among id ids e) (λ e. index_of-absent id ids e) where
+  at : (b : Bool) → (b ≡ true → index_of id ids < length ids) → (b ≡ false → index_of id ids ≡ length ids) → Comes ids (if b then ids else ids ++ id ∷ []) id
   at true f g = record { rest = []; front = sym (append-nil ids); placed = record { stands = stands-within id ids (f refl); fits = fits } }
   at false f g = record {
     rest = id ∷ [];
     front = refl;
-    placed = record { stands = stands-within id (ids ++ id ∷ []) (last-within id ids); fits = omega (arith, last-within id ids, length-append ids (id ∷ []), g refl, fits) };
+    placed = record { stands = stands-within id (ids ++ id ∷ []) (index_of-last id ids); fits = omega (arith, index_of-last id ids, length-append ids (id ∷ []), g refl, fits) };
   }
 
 -- ---- contexts
@@ -83,9 +64,9 @@ second false b h = absurd (cc)
 
 interned-comes : (old new : Context) (id : List ℕ) → interned id old ≡ Some new → Comes old.ids new.ids id
 interned-comes old new id e =
-    let parts = cond_some (is_allowed old.allowed id && nat_lt (place_of id old.ids) 65536) (record { ids = with_id id old.ids; allowed = old.allowed }) new e in
+    let parts = cond_some (is_allowed old.allowed id && nat_lt (index_of id old.ids) 65536) (record { ids = with_id id old.ids; allowed = old.allowed }) new e in
     let P : Context → Type 0 = λ c. Comes old.ids c.ids id in
-    subst P parts.1 (comes old.ids id (ltb-true (place_of id old.ids) 65536 (second (is_allowed old.allowed id) (nat_lt (place_of id old.ids) 65536) parts.0)))
+    subst P parts.1 (comes old.ids id (ltb-true (index_of id old.ids) 65536 (second (is_allowed old.allowed id) (nat_lt (index_of id old.ids) 65536) parts.0)))
 
 placed-all : (ids new rest came : List (List ℕ)) → new ≡ ids ++ rest → All (λ id. IsPlaced ids id) came → All (λ id. IsPlaced new id) came
 placed-all ids new rest came e h = rw e (All-weaker (λ id. IsPlaced ids id) (λ id. IsPlaced (ids ++ rest) id) (λ id p. placed-more id ids rest p) came h)

@@ -1,5 +1,4 @@
 pub mod Pieces
-pub mod PartViews
 pub mod Growing
 pub mod NumberedTables
 pub mod PlacedData

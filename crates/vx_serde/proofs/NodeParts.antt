@@ -10,13 +10,13 @@ use Rattle.vx_buffer.specs.Buffer.{Buffer}
 use Rattle.vx_trees.specs.Rose.{Rose, Roses, node, end, more, roses_of}
 use Rattle.vx_trees.specs.Walks as walk
 use Rattle.vx_serde.specs.ArraySchema.{array_schema, array_fields, node_fields}
-use Rattle.vx_serde.specs.Message.{NodeFields, node_of, nodes_of, nodes_in, number_in, bytes_in, indices_of}
-use Rattle.vx_serde.specs.Wire.{Wire}
+use Rattle.vx_serde.specs.Message.{NodeFields, node_of, nodes_of, nodes_in, number_of_field, bytes_of_field, indices_of}
+use Rattle.vx_wire_tree.specs.Wire.{Wire}
 use Rattle.vx_serde.specs.Blob.{wire_of, wires_of}
 
 -- what the first four fields of a node tell
 pub record Parts (ps : List FieldValue) (e m c b : FieldValue) : Type 0 where
-  pub node_is : node_of (views ps) ≡ node (record { encoding = number_in (view e); metadata = bytes_in (view m); buffers = indices_of (bytes_in (view b)) }) (nodes_in (view c))
+  pub node_is : node_of (views ps) ≡ node (record { encoding = number_of_field (view e); metadata = bytes_of_field (view m); buffers = indices_of (bytes_of_field (view b)) }) (nodes_in (view c))
   pub encoding : IsOfKind array_schema (Number Two) (view e)
   pub children : IsOfKind array_schema (Tables 1) (view c)
 

@@ -9,9 +9,10 @@ use Rattle.vx_trees.specs.Rose.{node, end, more}
 use Rattle.vx_trees.specs.Walks.{gathered_below}
 use Rattle.vx_trees.specs.Everywhere.{Everywhere, EverywhereBelow}
 use Rattle.vx_serde.specs.MessageValue.{IsNumberedNode, IsNumbered}
-use Rattle.vx_serde.specs.Wire.{WireHead, Wire, Wires, IsCleanNode, IsClean}
+use Rattle.vx_wire_tree.specs.Wire.{WireHead, Wire, Wires, IsWholeNode, IsWhole, present, id_in, buffers_at_node, ids_in, buffers_in}
 use Rattle.vx_serde.specs.Blob.{wire_of, wires_of}
-use Rattle.vx_serde.specs.Numbered.{present, id_in, buffers_at_node, ids_in, buffers_in, index_of, encoding_index, numbers_from, numbered, numbered_below}
+use Rattle.vx_wire_tree.specs.Context.{index_of}
+use Rattle.vx_serde.specs.Numbered.{encoding_index, numbers_from, numbered, numbered_below}
 
 -- The identifier's place leads to it, and fits two bytes.
 pub record IsPlaced (ids : List (List ℕ)) (id : List ℕ) : Type 0 where
@@ -42,13 +43,13 @@ first_of_one ids o id rest e h =
     (subst P e h).0
 
 mutual
-  placed_by : (ids : List (List ℕ)) (w : Wire) → IsClean w → AllByRecursion (IsPlaced ids) (ids_in w) → Everywhere (IsPlacedNode ids) w
+  placed_by : (ids : List (List ℕ)) (w : Wire) → IsWhole w → AllByRecursion (IsPlaced ids) (ids_in w) → Everywhere (IsPlacedNode ids) w
   placed_by ids (node h ws) clean all = (
-    record { name = clean.0.0.0; named = clean.0.0.1; placed = first_of_one ids h.id clean.0.0.0 (gathered_below id_in ws) clean.0.0.1 all; standing = clean.0.1.0; stand = clean.0.1.1 },
+    record { name = clean.0.id; named = clean.0.id_is; placed = first_of_one ids h.id clean.0.id (gathered_below id_in ws) clean.0.id_is all; standing = clean.0.buffers; stand = clean.0.buffers_are },
     placed_below ids ws clean.1 (right_part (IsPlaced ids) (id_in h) (gathered_below id_in ws) all),
   )
 
-  placed_below : (ids : List (List ℕ)) (ws : Wires) → EverywhereBelow IsCleanNode ws → AllByRecursion (IsPlaced ids) (gathered_below id_in ws) → EverywhereBelow (IsPlacedNode ids) ws
+  placed_below : (ids : List (List ℕ)) (ws : Wires) → EverywhereBelow IsWholeNode ws → AllByRecursion (IsPlaced ids) (gathered_below id_in ws) → EverywhereBelow (IsPlacedNode ids) ws
   placed_below ids end clean all = tt
   placed_below ids (more w ws) clean all = (
     placed_by ids w clean.0 (left_part (IsPlaced ids) (ids_in w) (gathered_below id_in ws) all),
@@ -56,7 +57,7 @@ mutual
   )
 
 -- Each node of a clean tree is placed where all its identifiers are.
-pub placed_from_ids : (ids : List (List ℕ)) (w : Wire) → IsClean w → All (IsPlaced ids) (ids_in w) → Everywhere (IsPlacedNode ids) w
+pub placed_from_ids : (ids : List (List ℕ)) (w : Wire) → IsWhole w → All (IsPlaced ids) (ids_in w) → Everywhere (IsPlacedNode ids) w
 placed_from_ids ids w clean all = placed_by ids w clean (recursion_from_All (IsPlaced ids) (ids_in w) all)
 
 -- ---- numbers fit
@@ -94,8 +95,8 @@ present-map [] = refl
 present-map (b ∷ bs) = ap (λ r. b ∷ r) (present-map bs)
 
 -- What stands, where nothing is missing.
-all_present : (os : List (Option Buffer)) (bs : List Buffer) → os ≡ map (λ b. Some b) bs → map (λ b. Some b) (present os) ≡ os
-all_present os bs e = ap (λ r. map (λ b. Some b) (present r)) e ∙ ap (λ r. map (λ b. Some b) r) (present-map bs) ∙ sym e
+present_all : (os : List (Option Buffer)) (bs : List Buffer) → os ≡ map (λ b. Some b) bs → map (λ b. Some b) (present os) ≡ os
+present_all os bs e = ap (λ r. map (λ b. Some b) (present r)) e ∙ ap (λ r. map (λ b. Some b) r) (present-map bs) ∙ sym e
 
 middle : (before : List Buffer) (x : Buffer) (after : List Buffer) (n : ℕ) → length before ≡ n → slice_get (before ++ x ∷ after) n ≡ Some x
 middle [] x after zero e = refl
@@ -126,7 +127,7 @@ mutual
       let regroup : before ++ ((bs ++ rest) ++ after) ≡ before ++ (bs ++ (rest ++ after)) = ap (λ z. before ++ z) (append_assoc bs rest after) in
       let passed : before ++ (bs ++ (rest ++ after)) ≡ (before ++ bs) ++ (rest ++ after) = sym (append_assoc before bs (rest ++ after)) in
       let name = named_by_place ids h.id placed.0.name placed.0.named placed.0.placed in
-      let buffers = ap (λ z. map (λ i. slice_get z i) (numbers_from n (length bs))) regroup ∙ by_number before bs (rest ++ after) n e ∙ all_present h.buffers placed.0.standing placed.0.stand in
+      let buffers = ap (λ z. map (λ i. slice_get z i) (numbers_from n (length bs))) regroup ∙ by_number before bs (rest ++ after) n e ∙ present_all h.buffers placed.0.standing placed.0.stand in
       let l : length (before ++ bs) ≡ n + length bs = length-append before bs ∙ ap (λ k. k + length bs) e in
       let children = ap (λ z. wires_of ids z (numbered_below ids (n + length bs) ws)) (regroup ∙ passed) ∙ wires_of-numbered ids (before ++ bs) after (n + length bs) ws l placed.1 in
       λ i. node (record { id = name i; metadata = h.metadata; buffers = buffers i }) (children i)

@@ -14,9 +14,9 @@ use Rattle.vx_trees.specs.Walks.{gathered, gathered_below}
 use Rattle.vx_serde.specs.ArraySchema.{array_schema, node_fields, stats_fields}
 use Rattle.vx_serde.specs.Message.{NodeFields}
 use Rattle.vx_serde.specs.MessageValue.{index_bytes, no_stats, node_value, rows_value}
-use Rattle.vx_serde.specs.Numbered.{present, buffers_at_node, encoding_index, numbers_from, numbered, numbered_below}
+use Rattle.vx_wire_tree.specs.Wire.{present, buffers_at_node, Wire}
+use Rattle.vx_serde.specs.Numbered.{encoding_index, numbers_from, numbered, numbered_below}
 use Rattle.vx_serde.specs.TableViews.{tables_of}
-use Rattle.vx_serde.specs.Wire.{Wire}
 
 -- what was written, then the next number, then the rest
 pub number_next : (out all : List ℕ) (n m k k' : ℕ) → k ≡ suc k' → m ≡ suc n → out ++ index_bytes (numbers_from n k) ≡ all → (out ++ to_le_bytes w16 n) ++ index_bytes (numbers_from m k') ≡ all

@@ -14,21 +14,22 @@ use Rattle.vx_serde.specs.declared.error.WireError.{WireError}
 use Rattle.vx_serde.specs.declared.error.WireError.TheVariants.{OutOfMemory, BadAlignment, Compressed, OutOfBounds}
 use Rattle.vx_serde.specs.ArraySchema.{array_schema}
 use Rattle.vx_serde.specs.Message.{NodeFields, message_of}
-use Rattle.vx_serde.specs.Wire.{Wire}
+use Rattle.vx_wire_tree.specs.Wire.{Wire}
 use Rattle.vx_serde.specs.Blob.{IsBlob, AreClean, buffers_at, wire_of}
-use Rattle.vx_serde.specs.Opening.{IsUnopened, IsOpened, AreRefused, table_error}
+use Rattle.vx_serde.specs.Opening.{RefusesOpening, RefusesDescriptors}
+use Rattle.vx_serde.specs.ReadingSteps.{IsOpened, message_refusal}
 
 -- the message is not read
 pub unread : (blob segment message : List ℕ) (e : FlatError) → IsBlob blob segment message
     → (e ≡ tables.BadTable → (v : Fields) → Shows array_schema message v → ⊥) → (e ≡ tables.TableLimit → IsLight limits (weight array_schema message) → ⊥) → (e ≡ tables.MessageTooLong → ⊥)
-    → IsUnopened (table_error e) blob
+    → RefusesOpening limits (message_refusal e) blob
 unread blob segment message tables.OutOfMemory is bad heavy long = tt
 unread blob segment message tables.BadTable is bad heavy long = record { segment = segment; message = message; blob_is = is; none = λ v r shows root. bad refl v shows }
 unread blob segment message tables.TableLimit is bad heavy long = record { segment = segment; message = message; blob_is = is; heavy = heavy refl }
 unread blob segment message tables.MessageTooLong is bad heavy long = absurd (long refl)
 
 -- the descriptors are refused
-pub refused : (blob segment message : List ℕ) (v : Fields) (e : WireError) → IsBlob blob segment message → Shows array_schema message v → AreRefused e segment (message_of v).descriptors → IsUnopened e blob
+pub refused : (blob segment message : List ℕ) (v : Fields) (e : WireError) → IsBlob blob segment message → Shows array_schema message v → RefusesDescriptors e segment (message_of v).descriptors → RefusesOpening limits e blob
 refused blob segment message v OutOfMemory is shows r = tt
 refused blob segment message v BadAlignment is shows r = record { segment = segment; message = message; value = v; blob_is = is; shows = shows; refused = r }
 refused blob segment message v Compressed is shows r = record { segment = segment; message = message; value = v; blob_is = is; shows = shows; refused = r }
@@ -46,7 +47,7 @@ segment_is blob segment message is =
 -- the blob is opened
 pub opened : (blob segment message : List ℕ) (ids : List (List ℕ)) (v : Fields) (root : Rose NodeFields) (bs : List Buffer) (w : Wire) → IsBlob blob segment message → Shows array_schema message v
     → IsLight limits (weight array_schema message) → (message_of v).root ≡ Some root → AreClean segment (message_of v).descriptors → bs ≡ buffers_at segment 0 (message_of v).descriptors → w ≡ wire_of ids bs root
-    → IsOpened blob ids w
+    → IsOpened limits blob ids w
 opened blob segment message ids v root bs w is shows light root_is clean own wire = record {
   carried = record {
     segment = segment;

@@ -5,7 +5,8 @@ use Rattle.std.proofs.lemmas.List.{length-replicate}
 use Rattle.vx_buffer.specs.Buffer.{Buffer}
 use Rattle.vx_serde.specs.declared.options.SerializeOptions.{SerializeOptions}
 use Rattle.vx_serde.specs.Placing.{pad, data_from, data_end}
-use Rattle.vx_serde.specs.WrittenBuffers.{joined, unaligned, pad_buffers, data_buffers}
+use Rattle.vx_buffer.specs.Joined.{joined}
+use Rattle.vx_serde.specs.WrittenBuffers.{unaligned, pad_buffers, data_buffers}
 
 -- ---- positions
 

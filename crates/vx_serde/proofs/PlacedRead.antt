@@ -8,7 +8,7 @@ use Rattle.std.proofs.lemmas.List.Elements.{All-nil, All-cons, All-head, All-tai
 use Rattle.std.proofs.lemmas.Nat.{pow_pos}
 use Rattle.vx_buffer.specs.Buffer.{Buffer}
 use Rattle.vx_serde.specs.declared.options.SerializeOptions.{SerializeOptions}
-use Rattle.vx_serde.specs.Describable.{IsDescribable, AreDescribable}
+use Rattle.vx_wire_tree.specs.Limits.{IsDescribable, AreDescribable}
 use Rattle.vx_serde.specs.MessageValue.{IsDescribed}
 use Rattle.vx_serde.specs.Blob.{buffers_at, end_of}
 use Rattle.vx_serde.specs.Placing.{gap_to, pad, descriptors_from, data_from}

@@ -1,41 +1,42 @@
 -- A blob whole: its message, its limits and its buffers.
-use Rattle.std.specs.Prelude.{ℕ, ◌≡◌, ◌<◌, ◌≤◌, ◌+◌, ◌*◌, ◌-◌, ◌^◌, false, List, [], ◌∷◌, ◌++◌, Some, length, replicate, refl}
+use Rattle.std.specs.Prelude.{ℕ, ◌≡◌, ◌<◌, ◌≤◌, ◌+◌, ◌*◌, ◌-◌, ◌^◌, List, [], ◌∷◌, ◌++◌, Some, length, replicate, refl}
 use Rattle.std.specs.Int.{w32, to_le_bytes}
 use Rattle.std.proofs.Common.{arith, sym, ◌∙◌, ap, subst, append-nil, length-append}
 use Rattle.std.proofs.lemmas.List.{length-replicate}
 use Rattle.vx_buffer.specs.Buffer.{Buffer}
 use Rattle.vx_flat.specs.IsOf.{AreOf, IsOf}
-use Rattle.vx_flat.specs.Layout.{layout}
+use Rattle.vx_flat.specs.Layout.{written_layout}
 use Rattle.vx_flat.specs.Limits.{limits, IsLight}
 use Rattle.vx_flat.specs.Schema.{struct_size}
 use Rattle.vx_flat.specs.Value.{Fields, table, elements, no_fields, field}
 use Rattle.vx_flat.specs.Weight.{weight}
-use Rattle.vx_registry.specs.Context.{Context, grown_by}
+use Rattle.vx_wire_tree.specs.Context.{Context, grown_by}
 use Rattle.vx_serde.specs.declared.error.WireError.{WireError}
 use Rattle.vx_serde.specs.declared.error.WireError.TheVariants.{OutOfMemory, TooShort, BadTable, TableLimit, BadAlignment, Compressed, OutOfBounds, UnknownIndex, UnknownEncoding, BadMetadata, BadShape, NotPermitted, WireLimit}
 use Rattle.vx_serde.specs.declared.options.SerializeOptions.{SerializeOptions}
 use Rattle.vx_serde.specs.ArraySchema.{array_schema, node_fields}
 use Rattle.vx_serde.specs.Message.{Descriptor}
 use Rattle.vx_serde.specs.MessageValue.{node_value, message_value, descriptors_bytes}
-use Rattle.vx_serde.specs.Numbered.{ids_in, buffers_in, numbered}
+use Rattle.vx_wire_tree.specs.Wire.{ids_in, buffers_in, Wire}
+use Rattle.vx_serde.specs.Numbered.{numbered}
 use Rattle.vx_serde.specs.Placing.{pad, descriptors_from, data_from, data_end}
 use Rattle.vx_serde.proofs.GrownIds.{grown_by-ids}
-use Rattle.vx_serde.specs.Unwritten.{IsUnwritten, KeepsTreeLimits, IsLaidOut, IsNotLaidOut, IsTooHeavy}
-use Rattle.vx_serde.specs.Wire.{Wire}
+use Rattle.vx_serde.specs.WritingSteps.{RefusesWriting, KeepsTreeLimits, IsLaidOut, RefusesLayout, RefusesMessage}
 use Rattle.vx_serde.specs.Written.{message_bytes, message_pad, blob_bytes, IsWritable}
-use Rattle.vx_serde.specs.WrittenBuffers.{joined, unaligned, pad_buffers, data_buffers, greatest_exponent, written_buffers}
+use Rattle.vx_buffer.specs.Joined.{joined}
+use Rattle.vx_serde.specs.WrittenBuffers.{unaligned, pad_buffers, data_buffers, greatest_exponent, written_buffers}
 use Rattle.vx_serde.proofs.MessageRead.{length-descriptors_bytes}
 use Rattle.vx_serde.proofs.PlacedData.{joined-append, joined-pad, joined-data, length-data}
 
 -- ---- the message
 
 pub message-is : (ids : List (List ℕ)) (o : SerializeOptions) (w : Wire) (root value : Fields) (ds : List ℕ) → value ≡ field (table root) (field (elements ds) no_fields)
-    → ((more : List (List ℕ)) → root ≡ node_value (numbered (ids ++ more) 0 w)) → ds ≡ descriptors_bytes (descriptors_from o o.offset (buffers_in w)) → layout false array_schema value ≡ message_bytes ids o w
+    → ((more : List (List ℕ)) → root ≡ node_value (numbered (ids ++ more) 0 w)) → ds ≡ descriptors_bytes (descriptors_from o o.offset (buffers_in w)) → written_layout array_schema value ≡ message_bytes ids o w
 message-is ids o w root value ds p q r =
     let whole : value ≡ message_value (numbered ids 0 w) (descriptors_from o o.offset (buffers_in w)) =
     p ∙ ap (λ v. field (table v) (field (elements ds) no_fields)) (q []) ∙ ap (λ z. field (table (node_value (numbered z 0 w))) (field (elements ds) no_fields)) (append-nil ids)
     ∙ ap (λ bs. field (table (node_value (numbered ids 0 w))) (field (elements bs) no_fields)) r in
-    ap (λ v. layout false array_schema v) whole
+    ap (λ v. written_layout array_schema v) whole
 
 -- a descriptor's struct has eight bytes
 eight : struct_size array_schema 0 ≡ 8
@@ -88,7 +89,7 @@ writable-is ids o w last ds message p e short light ends =
 
 -- ---- refusals
 
-pub unplaced-unwritten : (c : Context) (o : SerializeOptions) (w : Wire) (e : WireError) → IsNotLaidOut o w e → IsUnwritten c o w e
+pub unplaced-unwritten : (c : Context) (o : SerializeOptions) (w : Wire) (e : WireError) → RefusesLayout o w e → RefusesWriting c o w e
 unplaced-unwritten c o w OutOfMemory h = tt
 unplaced-unwritten c o w WireLimit h = λ k. h (writable-placeable _ o w k)
 unplaced-unwritten c o w NotPermitted h = absurd h
@@ -104,7 +105,7 @@ unplaced-unwritten c o w BadMetadata h = h
 unplaced-unwritten c o w BadShape h = h
 
 -- A limit that fails with the context that the identifiers make.
-pub limit-unwritten : (c d : Context) (o : SerializeOptions) (w : Wire) → grown_by (ids_in w) c ≡ Some d → (IsWritable d.ids o w → ⊥) → IsUnwritten c o w WireLimit
+pub limit-unwritten : (c d : Context) (o : SerializeOptions) (w : Wire) → grown_by (ids_in w) c ≡ Some d → (IsWritable d.ids o w → ⊥) → RefusesWriting c o w WireLimit
 limit-unwritten c d o w g h =
     let P : List (List ℕ) → Type 0 = λ ids. IsWritable ids o w → ⊥ in
     subst P (grown_by-ids (ids_in w) c d g) h
@@ -115,7 +116,7 @@ heavy m n e h short light =
     h (omega (arith, short, ap (λ k. length k) e)) (subst P (sym e) light)
 
 pub heavy-unwritten : (c d : Context) (o : SerializeOptions) (w : Wire) (message : List ℕ) (e : WireError) → grown_by (ids_in w) c ≡ Some d → message ≡ message_bytes d.ids o w
-    → IsTooHeavy message e → IsUnwritten c o w e
+    → RefusesMessage message e → RefusesWriting c o w e
 heavy-unwritten c d o w message OutOfMemory g p h = tt
 heavy-unwritten c d o w message WireLimit g p h = limit-unwritten c d o w g (λ k. heavy message (message_bytes d.ids o w) p h k.short k.light)
 heavy-unwritten c d o w message NotPermitted g p h = absurd h
@@ -132,7 +133,7 @@ heavy-unwritten c d o w message BadShape g p h = h
 
 -- A blob that would end past the positions of 64 bits.
 pub late-unwritten : (c d : Context) (o : SerializeOptions) (w : Wire) (last : ℕ) (ds message : List ℕ) → grown_by (ids_in w) c ≡ Some d → IsLaidOut o w ds last → message ≡ message_bytes d.ids o w
-    → 2 ^ 64 ≤ last + (pad o 3 last + length message + 4) → IsUnwritten c o w WireLimit
+    → 2 ^ 64 ≤ last + (pad o 3 last + length message + 4) → RefusesWriting c o w WireLimit
 late-unwritten c d o w last ds message g p e late =
     limit-unwritten c d o w g (λ k. omega (arith, late, k.ends, length-blob d.ids o w, p.last_is, ap (λ n. pad o 3 n) p.last_is, ap (λ m. length m) e))
 

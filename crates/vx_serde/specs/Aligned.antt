@@ -4,13 +4,13 @@ use Rattle.vx_flat.specs.Value.{Fields}
 use Rattle.vx_flat.specs.Shows.{Shows}
 use Rattle.vx_serde.specs.ArraySchema.{array_schema}
 use Rattle.vx_serde.specs.Blob.{IsBlob}
-use Rattle.vx_serde.specs.Message.{Descriptor, message_of}
+use Rattle.vx_serde.specs.Message.{Descriptor, message_of, place_behind}
 
 -- Each buffer begins at a multiple of two to its exponent, where the first one's
 -- padding begins at a position, and each other one's where the one before it ends.
 abbrev pub AreAligned : ℕ → List Descriptor → Type 0
 AreAligned position [] = Unit {0}
-AreAligned position (d ∷ ds) = ((position + d.padding) % 2 ^ d.exponent ≡ 0) × AreAligned (position + d.padding + d.len) ds
+AreAligned position (d ∷ ds) = ((position + d.padding) % 2 ^ d.exponent ≡ 0) × AreAligned (place_behind position d) ds
 
 -- The buffers that the blob's own message tells begin so, where the blob stands at a
 -- position. A blob has one message, and that shows one value at most.

@@ -6,8 +6,8 @@ use Rattle.vx_flat.specs.Value.{Fields}
 use Rattle.vx_flat.specs.Shows.{Shows}
 use Rattle.vx_trees.specs.Rose.{Rose, Roses, node, end, more}
 use Rattle.vx_serde.specs.ArraySchema.{array_schema}
-use Rattle.vx_serde.specs.Message.{Descriptor, NodeFields, message_of}
-use Rattle.vx_serde.specs.Wire.{Wire, Wires}
+use Rattle.vx_serde.specs.Message.{Descriptor, NodeFields, message_of, place_behind}
+use Rattle.vx_wire_tree.specs.Wire.{Wire, Wires}
 
 -- A blob is a segment, a message, and the message's length as a word of four bytes.
 pub record IsBlob (blob segment message : List ℕ) : Type 0 where
@@ -21,12 +21,12 @@ pub record IsBlob (blob segment message : List ℕ) : Type 0 where
 abbrev pub buffers_at : List ℕ → ℕ → List Descriptor → List Buffer
 buffers_at segment p [] = []
 buffers_at segment p (d ∷ ds) =
-    record { bytes = take d.len (drop (p + d.padding) segment); exponent = d.exponent } ∷ buffers_at segment (p + d.padding + d.len) ds
+    record { bytes = take d.len (drop (p + d.padding) segment); exponent = d.exponent } ∷ buffers_at segment (place_behind p d) ds
 
 -- The place where the last of these descriptors' buffers ends.
 abbrev pub end_of : ℕ → List Descriptor → ℕ
 end_of p [] = p
-end_of p (d ∷ ds) = end_of (p + d.padding + d.len) ds
+end_of p (d ∷ ds) = end_of (place_behind p d) ds
 
 abbrev mutual
   -- A message's node with its identifier and its buffers in the place of their indices.

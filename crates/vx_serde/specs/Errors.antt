@@ -1,9 +1,5 @@
--- The numbers of refusals, and those of lower calls as refusals of a blob.
+-- The numbers of refusals.
 use Rattle.std.specs.Prelude.{ℕ}
-use Rattle.vx_types.specs.declared.error.TypeError.{TypeError}
-use Rattle.vx_types.specs.declared.error.TypeError.TheVariants as types
-use Rattle.vx_arrays.specs.declared.error.ArrayError.{ArrayError}
-use Rattle.vx_arrays.specs.declared.error.ArrayError.TheVariants as arrays
 use Rattle.vx_serde.specs.declared.error.WireError.{WireError}
 use Rattle.vx_serde.specs.declared.error.WireError.TheVariants.{OutOfMemory, TooShort, BadTable, TableLimit, BadAlignment, Compressed, OutOfBounds, UnknownIndex, UnknownEncoding, BadMetadata, BadShape, NotPermitted, WireLimit}
 
@@ -23,17 +19,3 @@ error_number BadMetadata = 18
 error_number BadShape = 19
 error_number NotPermitted = 23
 error_number WireLimit = 24
-
--- Why a type or a plain value is not made, as a refusal of a blob: parts that make
--- none fit no node.
-abbrev pub type_refusal : TypeError → WireError
-type_refusal types.OutOfMemory = OutOfMemory
-type_refusal types.BadDecimal = BadShape
-type_refusal types.FieldCount = BadShape
-type_refusal types.DuplicateTag = BadShape
-
--- Why an array is not made, as a refusal of a blob.
-abbrev pub array_refusal : ArrayError → WireError
-array_refusal arrays.OutOfMemory = OutOfMemory
-array_refusal arrays.BadShape = BadShape
-array_refusal arrays.ValueTooLarge = WireLimit

@@ -1,6 +1,6 @@
 -- What becomes of a context while identifiers are taken into it.
 use Rattle.std.specs.Prelude.{ℕ, ◌≡◌, List, ◌++◌, All, Contains}
-use Rattle.vx_registry.specs.Context.{Context}
+use Rattle.vx_wire_tree.specs.Context.{Context}
 
 -- The identifiers from before stay in front, each one that was added is among those
 -- that were taken, and the permissions stay.

@@ -1,11 +1,15 @@
 -- An array message as plain data, and what a table value tells of it.
-use Rattle.std.specs.Prelude.{ℕ, List, [], ◌∷◌, Option, Some, None}
+use Rattle.std.specs.Prelude.{ℕ, ◌+◌, List, [], ◌∷◌, Option, Some, None}
 use Rattle.std.specs.Int.{w16, w32, from_le_bytes}
 use Rattle.vx_flat.specs.Value.{Field, number, elements, table, tables, Fields, field, Rows, no_rows, row}
 use Rattle.vx_trees.specs.Rose.{Rose, Roses, node, end, more}
 -- A buffer descriptor: how many bytes are skipped in front of the buffer, the
 -- exponent of its alignment, its compression (0 is none) and its length.
 pub use Rattle.vx_serde.specs.declared.message.Descriptor.{Descriptor}
+
+-- The place where the buffer of a descriptor ends that begins its padding at a place.
+abbrev pub place_behind : ℕ → Descriptor → ℕ
+place_behind place d = place + d.padding + d.len
 
 -- A node names its encoding by its place in a list of identifiers that stands
 -- beside the blob, and its buffers by the places of their descriptors.
@@ -20,14 +24,14 @@ pub record Message : Type 0 where
   pub descriptors : List Descriptor
 
 -- A number that stands; what is absent counts as 0.
-abbrev pub number_in : Field → ℕ
-number_in (number n) = n
-number_in _ = 0
+abbrev pub number_of_field : Field → ℕ
+number_of_field (number n) = n
+number_of_field _ = 0
 
 -- The bytes of a vector; an absent vector reads as an empty one.
-abbrev pub bytes_in : Field → List ℕ
-bytes_in (elements bs) = bs
-bytes_in _ = []
+abbrev pub bytes_of_field : Field → List ℕ
+bytes_of_field (elements bs) = bs
+bytes_of_field _ = []
 
 -- Indices are numbers of two bytes.
 abbrev pub indices_of : List ℕ → List ℕ
@@ -45,7 +49,7 @@ abbrev mutual
   -- are a table of their own and tell nothing of the tree.
   pub node_of : Fields → Rose NodeFields
   node_of (field encoding (field metadata (field children (field buffers stats)))) =
-      node (record { encoding = number_in encoding; metadata = bytes_in metadata; buffers = indices_of (bytes_in buffers) }) (nodes_in children)
+      node (record { encoding = number_of_field encoding; metadata = bytes_of_field metadata; buffers = indices_of (bytes_of_field buffers) }) (nodes_in children)
   node_of _ = node (record { encoding = 0; metadata = []; buffers = [] }) end
 
   -- The nodes of a vector of tables; absent children are none.
@@ -65,5 +69,5 @@ root_in _ = None
 
 -- The message that a table value tells; absent descriptors are none.
 abbrev pub message_of : Fields → Message
-message_of (field root (field descriptors vs)) = record { root = root_in root; descriptors = descriptors_of (bytes_in descriptors) }
+message_of (field root (field descriptors vs)) = record { root = root_in root; descriptors = descriptors_of (bytes_of_field descriptors) }
 message_of _ = record { root = None; descriptors = [] }

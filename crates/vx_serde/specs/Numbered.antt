@@ -1,37 +1,10 @@
 -- A wire tree as a message's nodes: identifiers and buffers by number.
 use Rattle.std.specs.Prelude.{ℕ, zero, suc, ◌+◌, List, [], ◌∷◌, Option, Some, None, length}
-use Rattle.vx_buffer.specs.Buffer.{Buffer}
 use Rattle.vx_trees.specs.Rose.{Rose, Roses, node, end, more}
 use Rattle.vx_trees.specs.Walks.{gathered}
-use Rattle.vx_registry.specs.Context.{place_of}
+use Rattle.vx_wire_tree.specs.Context.{index_of}
 use Rattle.vx_serde.specs.Message.{NodeFields}
-use Rattle.vx_serde.specs.Wire.{WireHead, Wire, Wires}
-
--- What stands, of a list in which something may be missing.
-abbrev pub present : {A : Type 0} → List (Option A) → List A
-present [] = []
-present (Some x ∷ xs) = x ∷ present xs
-present (None ∷ xs) = present xs
-
--- A node's identifier, as a list of one, or of none where it is missing.
-abbrev pub id_in : WireHead → List (List ℕ)
-id_in h = present (h.id ∷ [])
-
--- A node's buffers that stand.
-abbrev pub buffers_at_node : WireHead → List Buffer
-buffers_at_node h = present h.buffers
-
--- The identifiers of a tree in preorder, as often as they occur.
-abbrev pub ids_in : Wire → List (List ℕ)
-ids_in w = gathered id_in w
-
--- The buffers of a tree in preorder.
-abbrev pub buffers_in : Wire → List Buffer
-buffers_in w = gathered buffers_at_node w
-
--- The first place of an identifier in a list.
-abbrev pub index_of : List ℕ → List (List ℕ) → ℕ
-index_of id ids = place_of id ids
+use Rattle.vx_wire_tree.specs.Wire.{Wire, Wires, present, buffers_at_node}
 
 -- The place of a node's identifier; 0 where it is missing.
 abbrev pub encoding_index : Option (List ℕ) → List (List ℕ) → ℕ

@@ -14,23 +14,24 @@ gap_to n position = (n - position % n) % n
 abbrev pub pad : SerializeOptions → ℕ → ℕ → ℕ
 pad options exponent position = if options.include_padding then gap_to (2 ^ exponent) position else 0
 
+-- The position where a buffer ends that may start, behind its pad, at a position.
+abbrev pub position_behind : SerializeOptions → ℕ → Buffer → ℕ
+position_behind options position b = position + pad options b.exponent position + length b.bytes
+
 -- The descriptors of buffers of which the first may start at a position, and each
 -- other where the one before it ends: each has its pad in front of it.
 abbrev pub descriptors_from : SerializeOptions → ℕ → List Buffer → List Descriptor
 descriptors_from options position [] = []
 descriptors_from options position (b ∷ bs) =
-    let padding = pad options b.exponent position in
-    record { padding = padding; exponent = b.exponent; compression = 0; len = length b.bytes }
-    ∷ descriptors_from options (position + padding + length b.bytes) bs
+    record { padding = pad options b.exponent position; exponent = b.exponent; compression = 0; len = length b.bytes }
+    ∷ descriptors_from options (position_behind options position b) bs
 
 -- The bytes of these buffers, each behind its pad of zeros.
 abbrev pub data_from : SerializeOptions → ℕ → List Buffer → List ℕ
 data_from options position [] = []
-data_from options position (b ∷ bs) =
-    let padding = pad options b.exponent position in
-    replicate padding 0 ++ (b.bytes ++ data_from options (position + padding + length b.bytes) bs)
+data_from options position (b ∷ bs) = replicate (pad options b.exponent position) 0 ++ (b.bytes ++ data_from options (position_behind options position b) bs)
 
 -- The position where the last of these buffers ends.
 abbrev pub data_end : SerializeOptions → ℕ → List Buffer → ℕ
 data_end options position [] = position
-data_end options position (b ∷ bs) = data_end options (position + pad options b.exponent position + length b.bytes) bs
+data_end options position (b ∷ bs) = data_end options (position_behind options position b) bs

@@ -4,9 +4,10 @@ use Rattle.vx_buffer.specs.Buffer.{Buffer}
 use Rattle.vx_types.specs.Typ.{Typ}
 use Rattle.vx_types.specs.Seen.{typ}
 use Rattle.vx_types.specs.declared.dtype.DType.{DType}
-use Rattle.vx_arrays.specs.Tree.{Tree}
-use Rattle.vx_registry.specs.Context.{Context, grown}
-use Rattle.vx_registry.specs.Session.{Registry, SessionMeaning, registry_meaning}
+use Rattle.vx_array_tree.specs.Tree.{Tree}
+use Rattle.vx_wire_tree.specs.Context.{Context, grown}
+use Rattle.vx_wire_tree.specs.Session.{SessionMeaning}
+use Rattle.vx_encodings.specs.Messages.{codec}
 use Rattle.vx_serde.specs.declared.options.SerializeOptions.{SerializeOptions}
 use Rattle.vx_serde.specs.Spells.{Spells, KeepsReaderLimits, KeepsWriterLimits}
 
@@ -22,15 +23,15 @@ pub record Request : Type 0 where
   pub session : SessionMeaning
 
 -- What a call asks by its arguments.
-abbrev pub request : Buffer → DType → ℕ → List (List ℕ) → Context → Registry → SerializeOptions → Request
-request blob dtype len ids context arrays options = record {
+abbrev pub request : Buffer → DType → ℕ → List (List ℕ) → Context → SessionMeaning → SerializeOptions → Request
+request blob dtype len ids context session options = record {
   blob = blob.bytes;
   dtype = typ dtype;
   len = len;
   ids = ids;
   context = context;
   options = options;
-  session = registry_meaning arrays;
+  session = session;
 }
 
 -- The blob spells the array, read as it is asked.
@@ -42,6 +43,6 @@ IsSpelled asked array = Spells asked.blob asked.ids asked.dtype asked.len asked.
 pub record CanRecode (asked : Request) : Type 0 where
   pub array : Tree
   pub spelled : IsSpelled asked array
-  pub reader_limits : KeepsReaderLimits asked.blob
+  pub reader_limits : KeepsReaderLimits asked.options asked.blob
   pub writer_limits : KeepsWriterLimits asked.session array asked.context asked.options
-  pub grows : IsSome (grown asked.context array)
+  pub grows : IsSome (grown codec asked.session asked.context array)

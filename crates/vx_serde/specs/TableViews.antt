@@ -1,6 +1,5 @@
 -- Lists of tables, as the reader and the writer of tables keep them.
-use Rattle.std.specs.Prelude.{List, map}
-use Rattle.std.specs.Prelude.{Vec}
+use Rattle.std.specs.Prelude.{List, map, Vec}
 use Rattle.std.specs.Global.{Global}
 use Rattle.vx_flat.specs.declared.value.FieldValue.{FieldValue}
 use Rattle.vx_flat.specs.Value.{Rows}

@@ -3,7 +3,7 @@ use Rattle.std.specs.Prelude.{ℕ, List, [], Option, None, refl}
 use Rattle.std.specs.Coded.{Coded, code_by, coded×, coded_ℕ, coded_list, coded_option}
 use Rattle.vx_buffer.specs.Buffer.{Buffer, coded_buffer}
 use Rattle.vx_trees.specs.Codes.{coded_rose}
-pub use Rattle.vx_serde.specs.Wire.{Wire}
+pub use Rattle.vx_wire_tree.specs.Wire.{Wire}
 
 -- A node is stored as its identifier, its metadata and its buffers.
 abbrev pub wire_code : Coded Wire

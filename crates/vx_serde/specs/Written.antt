@@ -1,23 +1,23 @@
 -- The bytes that are written for a wire tree.
-use Rattle.std.specs.Prelude.{ℕ, ◌+◌, ◌≤◌, ◌-◌, ◌^◌, List, ◌++◌, length, replicate, false}
+use Rattle.std.specs.Prelude.{ℕ, ◌+◌, ◌≤◌, ◌-◌, ◌^◌, List, ◌++◌, length, replicate}
 use Rattle.std.specs.Int.{w32, to_le_bytes}
-use Rattle.vx_flat.specs.Layout.{layout}
+use Rattle.vx_flat.specs.Layout.{written_layout}
 use Rattle.vx_flat.specs.Weight.{weight}
-use Rattle.vx_flat.specs.Limits.{limits, IsLight}
-use Rattle.vx_trees.specs.Walks.{levels}
+use Rattle.vx_flat.specs.Limits.{IsLight}
 use Rattle.vx_serde.specs.declared.options.SerializeOptions.{SerializeOptions}
 use Rattle.vx_serde.specs.ArraySchema.{array_schema}
-use Rattle.vx_serde.specs.Describable.{AreDescribable}
+use Rattle.vx_wire_tree.specs.Limits.{IsWritableTree}
+use Rattle.vx_serde.specs.Limits.{message_limits, most_levels}
 use Rattle.vx_serde.specs.MessageValue.{message_value}
-use Rattle.vx_serde.specs.Wire.{Wire}
-use Rattle.vx_serde.specs.Numbered.{numbered, buffers_in}
+use Rattle.vx_wire_tree.specs.Wire.{Wire, buffers_in}
+use Rattle.vx_serde.specs.Numbered.{numbered}
 use Rattle.vx_serde.specs.Placing.{pad, descriptors_from, data_from, data_end}
 
 -- The array message of a tree: its nodes with the identifiers' places in ids and
 -- the buffers numbered from 0 on, and the descriptors of the buffers.
 abbrev pub message_bytes : List (List ℕ) → SerializeOptions → Wire → List ℕ
 message_bytes ids options w =
-    layout false array_schema (message_value (numbered ids 0 w) (descriptors_from options options.offset (buffers_in w)))
+    written_layout array_schema (message_value (numbered ids 0 w) (descriptors_from options options.offset (buffers_in w)))
 
 -- The pad in front of the message, which is aligned to 8 and stands in no descriptor.
 abbrev pub message_pad : SerializeOptions → Wire → ℕ
@@ -30,17 +30,10 @@ blob_bytes ids options w =
     data_from options options.offset (buffers_in w)
     ++ (replicate (message_pad options w) 0 ++ (message_bytes ids options w ++ to_le_bytes w32 (length (message_bytes ids options w))))
 
--- The limits on a written tree whatever its identifiers: at most 62 levels, and at most
--- 65,535 buffers, each of which a descriptor can tell.
-pub record IsWritableTree (w : Wire) : Type 0 where
-  pub nested : levels w ≤ 62
-  pub few : length (buffers_in w) ≤ 65535
-  pub describable : AreDescribable (buffers_in w)
-
 -- The limits on writing: those on the tree; a message of at most 2^31 - 1 bytes that a
 -- reader's limits admit; and an end within the positions of 64 bits.
 pub record IsWritable (ids : List (List ℕ)) (options : SerializeOptions) (w : Wire) : Type 0 where
-  pub tree : IsWritableTree w
+  pub tree : IsWritableTree (most_levels options) w
   pub short : length (message_bytes ids options w) ≤ 2 ^ 31 - 1
-  pub light : IsLight limits (weight array_schema (message_bytes ids options w))
+  pub light : IsLight (message_limits options) (weight array_schema (message_bytes ids options w))
   pub ends : options.offset + length (blob_bytes ids options w) ≤ 2 ^ 64 - 1

@@ -2,14 +2,11 @@
 
 ghost use Rattle.std.specs.Prelude.{◌≡◌};
 ghost use Rattle.vx_serde.specs.declared.error.WireError.TheVariants.{OutOfMemory};
-ghost use Rattle.vx_serde.specs.Errors.{array_refusal, error_number, type_refusal};
+ghost use Rattle.vx_serde.specs.Errors.{error_number};
 
 use std::alloc::{AllocError, AllocFailed};
 use thiserror::Error;
-use vx_arrays::ArrayError;
 use vx_buffer::BufferError;
-use vx_registry::RegistryError;
-use vx_types::TypeError;
 
 /// Why a blob is not read, or an array not written.
 #[derive(Clone, Copy, Debug, PartialEq, Eq, Error)]
@@ -100,41 +97,6 @@ impl From<BufferError> for WireError {
     fn from(e: BufferError) -> WireError {
         match e {
             BufferError::OutOfMemory => WireError::OutOfMemory,
-        }
-    }
-}
-
-impl From<TypeError> for WireError {
-    ghost from_gives = { λ e r. r ≡ type_refusal e };
-
-    fn from(e: TypeError) -> WireError {
-        match e {
-            TypeError::OutOfMemory => WireError::OutOfMemory,
-            TypeError::BadDecimal => WireError::BadShape,
-            TypeError::FieldCount => WireError::BadShape,
-            TypeError::DuplicateTag => WireError::BadShape,
-        }
-    }
-}
-
-impl From<ArrayError> for WireError {
-    ghost from_gives = { λ e r. r ≡ array_refusal e };
-
-    fn from(e: ArrayError) -> WireError {
-        match e {
-            ArrayError::OutOfMemory => WireError::OutOfMemory,
-            ArrayError::BadShape => WireError::BadShape,
-            ArrayError::ValueTooLarge => WireError::WireLimit,
-        }
-    }
-}
-
-impl From<RegistryError> for WireError {
-    ghost from_gives = { λ _ e. e ≡ OutOfMemory };
-
-    fn from(e: RegistryError) -> WireError {
-        match e {
-            RegistryError::OutOfMemory => WireError::OutOfMemory,
         }
     }
 }

@@ -5,13 +5,16 @@ ghost use Rattle.vx_serde.specs.declared.options.SerializeOptions.{SerializeOpti
 ghost use Rattle.vx_buffer.specs.Buffer.{Buffer};
 ghost use Rattle.vx_serde.specs.Aligned.{AreAligned};
 ghost use Rattle.vx_serde.specs.Placing.{gap_to, descriptors_from};
-ghost use Rattle.vx_serde.specs.Wire.{Wire};
+ghost use Rattle.vx_wire_tree.specs.Codec.{IsLawful};
+ghost use Rattle.vx_wire_tree.specs.Wire.{Wire};
+ghost use Rattle.vx_encodings.specs.Messages.{codec};
 ghost use Rattle.vx_serde.specs.Blob.{Carries};
-ghost use Rattle.vx_serde.specs.Spells.{Spells, canon, blob_of, KeepsWriterLimits};
+ghost use Rattle.vx_serde.specs.Spells.{Spells, blob_of, KeepsWriterLimits};
+ghost use Rattle.vx_wire_tree.specs.Written.{canon};
 ghost use Rattle.vx_types.specs.Typ.{Typ};
-ghost use Rattle.vx_arrays.specs.Tree.{Tree};
-ghost use Rattle.vx_registry.specs.Context.{Context, grown};
-ghost use Rattle.vx_registry.specs.Session.{SessionMeaning, IsPaired};
+ghost use Rattle.vx_array_tree.specs.Tree.{Tree};
+ghost use Rattle.vx_wire_tree.specs.Context.{Context, grown};
+ghost use Rattle.vx_wire_tree.specs.Session.{SessionMeaning, IsShipped, IsPaired};
 
 /// A blob carries at most one wire tree, beside one list of identifiers.
 pub fn one_tree()
@@ -20,15 +23,16 @@ pub fn one_tree()
 
 /// A blob spells at most one array at a type and a length, beside one list of identifiers and under one session.
 pub fn one_array()
-    ensures { (blob : List ℕ) (ids : List (List ℕ)) (d : Typ) (n : ℕ) (s : SessionMeaning) (t u : Tree) → Spells blob ids d n s t → Spells blob ids d n s u → t ≡ u }
+    ensures { (blob : List ℕ) (ids : List (List ℕ)) (d : Typ) (n : ℕ) (s : SessionMeaning) (t u : Tree)
+        → IsShipped s → IsLawful codec s → Spells blob ids d n s t → Spells blob ids d n s u → t ≡ u }
 {}
 
 /// What is written for an array that was read, under limits that hold, spells the array again with the context's
 /// identifiers.
 pub fn written_is_spelled()
     ensures { (s : SessionMeaning) (blob : List ℕ) (ids : List (List ℕ)) (d : Typ) (n : ℕ) (t : Tree) (old new : Context) (options : SerializeOptions)
-        → IsPaired s → Spells blob ids d n s t → grown old t ≡ Some new → KeepsWriterLimits s t old options
-        → Spells (blob_of s t old options) new.ids d n s (canon t) }
+        → IsShipped s → IsLawful codec s → IsPaired s → Spells blob ids d n s t → grown codec s old t ≡ Some new → KeepsWriterLimits s t old options
+        → Spells (blob_of s t old options) new.ids d n s (canon s t) }
 {}
 
 /// Where padding is asked, each buffer of a blob begins at a multiple of its alignment, the position of the blob counted;

@@ -2,7 +2,7 @@
 
 ghost use Rattle.std.specs.Prelude.{◌≡◌, ◌≤◌, ◌<◌, ◌^◌, ◌-◌, ◌↔◌, IsTrue, All, length};
 ghost use Rattle.vx_trees.specs.Walks.{levels};
-ghost use Rattle.vx_serde.specs.Describable.{IsDescribable, AreDescribable};
+ghost use Rattle.vx_wire_tree.specs.Limits.{IsDescribable, AreDescribable};
 
 use crate::tree::WireNode;
 use vx_buffer::BufferHandle;

@@ -5,7 +5,7 @@ ghost use Rattle.vx_flat.specs.View.{view, views, rows_from};
 ghost use Rattle.vx_flat.specs.IsOf.{AreOf, IsOfKind, AreRowsOf};
 ghost use Rattle.vx_flat.specs.declared.schema.FieldKind.TheVariants.{Table, Tables};
 ghost use Rattle.vx_serde.specs.ArraySchema.{array_schema, node_fields};
-ghost use Rattle.vx_serde.specs.Message.{number_in, bytes_in, node_of, nodes_in, nodes_of, root_in, indices_of, descriptors_of};
+ghost use Rattle.vx_serde.specs.Message.{number_of_field, bytes_of_field, node_of, nodes_in, nodes_of, root_in, indices_of, descriptors_of};
 
 use std::alloc::{AllocError, Global};
 use vx_flat::FieldValue;
@@ -25,7 +25,7 @@ pub struct Descriptor {
 
 /// A number that stands; what is absent counts as 0.
 pub(crate) fn number_of(part: &FieldValue) -> u64
-    ensures { result ≡ number_in (view part.now) }
+    ensures { result ≡ number_of_field (view part.now) }
 {
     match part {
         FieldValue::Number(number) => *number,
@@ -35,7 +35,7 @@ pub(crate) fn number_of(part: &FieldValue) -> u64
 
 /// The bytes of a vector; an absent one has none.
 pub(crate) fn bytes_of(part: &FieldValue) -> &[u8]
-    ensures { result.now ≡ bytes_in (view part.now) }
+    ensures { result.now ≡ bytes_of_field (view part.now) }
 {
     match part {
         FieldValue::Elements(bytes) => bytes.as_slice(),

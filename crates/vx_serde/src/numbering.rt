@@ -5,14 +5,15 @@ ghost use Rattle.std.specs.Prelude.{◌≡◌, ◌+◌, ◌≤◌, ◌<◌, ◌^
 ghost use Rattle.vx_flat.specs.IsOf.{AreOf, AreRowsOf};
 ghost use Rattle.vx_flat.specs.Value.{number, elements, table, tables, no_fields, field};
 ghost use Rattle.vx_flat.specs.View.{views};
-ghost use Rattle.vx_registry.specs.Context.{grown_by};
+ghost use Rattle.vx_wire_tree.specs.Context.{grown_by};
 ghost use Rattle.vx_trees.specs.Rose.{label};
 ghost use Rattle.vx_serde.specs.ArraySchema.{array_schema, node_fields, stats_fields};
 ghost use Rattle.vx_serde.specs.KeptContext.{KeepsContext};
 ghost use Rattle.vx_serde.specs.MessageValue.{index_bytes, no_stats, node_value};
-ghost use Rattle.vx_serde.specs.Numbered.{present, id_in, ids_in, buffers_in, encoding_index, numbers_from, numbered};
+ghost use Rattle.vx_wire_tree.specs.Wire.{present, id_in, ids_in, buffers_in};
+ghost use Rattle.vx_serde.specs.Numbered.{encoding_index, numbers_from, numbered};
 ghost use Rattle.vx_serde.specs.TableViews.{tables_of};
-ghost use Rattle.vx_serde.specs.Unwritten.{IsUngrown};
+ghost use Rattle.vx_serde.specs.WritingSteps.{RefusesIds};
 
 use crate::error::WireError;
 use crate::tree::WireNode;
@@ -27,14 +28,15 @@ fn encoding_number(node: &WireNode, ctx: &mut ArrayContext) -> Result<u16, WireE
     ensures number { IfOk result (λ n. (more : List (List ℕ)) → encoding_index (label node.now).id (ctx.new.ids ++ more) ≡ n) }
     ensures fits { IfOk result (λ n. n < 2 ^ 16) }
     ensures kept { KeepsContext (id_in (label node.now)) ctx.old ctx.new }
-    ensures refused { IfErr result (IsUngrown (id_in (label node.now)) ctx.old) }
+    ensures refused { IfErr result (RefusesIds (id_in (label node.now)) ctx.old) }
 {
     let Some(id) = node.id() else {
         return Ok(0);
     };
-    match ctx.intern(id)? {
-        Some(number) => Ok(number),
-        None => Err(WireError::NotPermitted),
+    match ctx.intern(id) {
+        Ok(Some(number)) => Ok(number),
+        Ok(None) => Err(WireError::NotPermitted),
+        Err(_) => Err(WireError::OutOfMemory),
     }
 }
 
@@ -126,7 +128,7 @@ pub(crate) fn tree_table(
     ensures of_kind { IfOk result (λ v. AreOf array_schema node_fields (views v.items)) }
     ensures next { OnOk result (next.new ≡ next.old + length (buffers_in node.now)) }
     ensures kept { KeepsContext (ids_in node.now) ctx.old ctx.new }
-    ensures refused { IfErr result (IsUngrown (ids_in node.now) ctx.old) }
+    ensures refused { IfErr result (RefusesIds (ids_in node.now) ctx.old) }
 {
     let encoding = encoding_number(node, ctx)?;
     let own = count_present(node.buffers());

@@ -5,11 +5,13 @@ ghost use Rattle.vx_flat.specs.View.{view, views, value as value_of, rows_from};
 ghost use Rattle.vx_flat.specs.IsOf.{AreOf, IsOfKind, AreRowsOf};
 ghost use Rattle.vx_flat.specs.declared.schema.FieldKind.TheVariants.{Number};
 ghost use Rattle.vx_flat.specs.declared.schema.Width.TheVariants.{Two};
+ghost use Rattle.vx_flat.specs.Limits.{limits};
 ghost use Rattle.vx_trees.specs.Rose.{roses_of};
 ghost use Rattle.vx_serde.specs.ArraySchema.{array_schema, array_fields, node_fields};
-ghost use Rattle.vx_serde.specs.Message.{number_in, bytes_in, nodes_in, nodes_of, node_of, message_of, indices_of, descriptors_of};
+ghost use Rattle.vx_serde.specs.Message.{number_of_field, bytes_of_field, nodes_in, nodes_of, node_of, message_of, indices_of, descriptors_of};
 ghost use Rattle.vx_serde.specs.Blob.{IsBlob, AreClean, buffers_at, end_of, wire_of, wires_of};
-ghost use Rattle.vx_serde.specs.Opening.{IsTooShort, AreRefused, IsUnopened, IsOpened, IsUndescribed};
+ghost use Rattle.vx_serde.specs.Opening.{IsTooShort, RefusesDescriptors, RefusesOpening};
+ghost use Rattle.vx_serde.specs.ReadingSteps.{IsOpened, RefusesDescriptor};
 
 use crate::array_kind::ArrayKind;
 use crate::error::WireError;
@@ -46,7 +48,7 @@ fn end_of_buffer(descriptor: &Descriptor, place: usize, segment: usize) -> Resul
     ensures within { IfOk result (λ end. end ≤ segment) }
     ensures aligned { OnOk result (descriptor.now.exponent ≤ 16) }
     ensures plain { OnOk result (descriptor.now.compression ≡ 0) }
-    ensures cause { IfErr result (λ e. IsUndescribed e descriptor.now place segment) }
+    ensures cause { IfErr result (λ e. RefusesDescriptor e descriptor.now place segment) }
 {
     if descriptor.exponent > MAX_EXPONENT {
         return Err(WireError::BadAlignment);
@@ -89,7 +91,7 @@ fn take_buffers(
 ) -> Result<BufferHandles, WireError>
     ensures buffers { IfOk result (λ bs. bs ≡ buffers_at segment.now.bytes 0 descriptors.now) }
     ensures clean { OnOk result (AreClean segment.now.bytes descriptors.now) }
-    ensures cause { IfErr result (λ e. AreRefused e segment.now.bytes descriptors.now) }
+    ensures cause { IfErr result (λ e. RefusesDescriptors e segment.now.bytes descriptors.now) }
 {
     let mut buffers = BufferHandles::new(alloc);
     let mut place = 0usize;
@@ -130,11 +132,14 @@ fn named_id(
     ids: &ReadContext,
 ) -> Result<Option<Id>, WireError>
     requires { IsOfKind array_schema (Number Two) (view encoding.now) }
-    ensures ok { IfOk result (λ id. id ≡ slice_get ids.now (number_in (view encoding.now))) }
+    ensures ok { IfOk result (λ id. id ≡ slice_get ids.now (number_of_field (view encoding.now))) }
     ensures err { IsOkUnless result WireError.OutOfMemory }
 {
     match ids.resolve(number_of(encoding) as u16) {
-        Some(id) => Ok(Some(id.clone(alloc)?)),
+        Some(id) => match id.clone(alloc) {
+            Ok(id) => Ok(Some(id)),
+            Err(_) => Err(WireError::OutOfMemory),
+        },
         None => Ok(None),
     }
 }
@@ -155,7 +160,9 @@ fn wire_node(
         unreachable!();
     };
     let id = named_id(alloc, encoding, ids)?;
-    let metadata = Blob::copy_from(alloc, bytes_of(metadata))?;
+    let Ok(metadata) = Blob::copy_from(alloc, bytes_of(metadata)) else {
+        return Err(WireError::OutOfMemory);
+    };
     let indices = indices(alloc, bytes_of(named))?;
     let named = named_buffers(alloc, indices.as_slice(), buffers)?;
     let children = wire_rows(alloc, rows_of(children), ids, buffers)?;
@@ -184,9 +191,9 @@ fn wire_rows(
 /// Why a message is not read, as a refusal of a blob.
 impl From<FlatError> for WireError {
     ghost use Rattle.std.specs.Prelude.{◌≡◌};
-    ghost use Rattle.vx_serde.specs.Opening.{table_error};
+    ghost use Rattle.vx_serde.specs.ReadingSteps.{message_refusal};
 
-    ghost from_gives = { λ e r. r ≡ table_error e };
+    ghost from_gives = { λ e r. r ≡ message_refusal e };
 
     fn from(e: FlatError) -> WireError {
         match e {
@@ -223,8 +230,8 @@ pub(crate) fn open(
     blob: &ByteBuffer,
     ids: &ReadContext,
 ) -> Result<WireNode, WireError>
-    ensures opened { IfOk result (λ w. IsOpened blob.now.bytes ids.now w) }
-    ensures cause { IfErr result (λ e. IsUnopened e blob.now.bytes) }
+    ensures opened { IfOk result (λ w. IsOpened limits blob.now.bytes ids.now w) }
+    ensures cause { IfErr result (λ e. RefusesOpening limits e blob.now.bytes) }
 {
     let Some((segment, message)) = split_blob(blob.as_slice()) else {
         return Err(WireError::TooShort);

@@ -1,9 +1,9 @@
 //! Where the buffers of a written blob go.
 
 ghost use Rattle.std.specs.Prelude.{◌≡◌, ◌+◌, ◌≤◌, ◌<◌, ◌^◌, ◌++◌, length, replicate, IfOk, IfSome, IfNone, OnOk};
-ghost use Rattle.vx_serde.specs.Describable.{IsDescribable, AreDescribable};
+ghost use Rattle.vx_wire_tree.specs.Limits.{IsDescribable, AreDescribable};
 ghost use Rattle.vx_serde.specs.MessageValue.{descriptor_bytes, descriptors_bytes};
-ghost use Rattle.vx_serde.specs.Numbered.{present, buffers_in};
+ghost use Rattle.vx_wire_tree.specs.Wire.{present, buffers_in};
 ghost use Rattle.vx_serde.specs.Placing.{pad, descriptors_from, data_end};
 ghost use Rattle.vx_serde.specs.WrittenBuffers.{pad_buffers, data_buffers, greatest_exponent};
 
@@ -15,7 +15,7 @@ use vx_buffer::{Alignment, BufferError, BufferHandle, BufferHandles, ByteBuffer,
 
 /// Descriptors as bytes, and the position where the last buffer ends.
 #[derive(Drop)]
-pub(crate) struct Placed {
+pub(crate) struct LaidOut {
     pub(crate) descriptors: Vec<u8>,
     pub(crate) end: usize,
 }
@@ -99,7 +99,7 @@ pub(crate) fn describe(
     alloc: Global,
     options: &SerializeOptions,
     buffers: &[BufferHandle],
-) -> Result<Option<Placed>, AllocError>
+) -> Result<Option<LaidOut>, AllocError>
     requires { AreDescribable buffers.now }
     ensures descriptors { IfOk result (λ o. IfSome o (λ p. p.descriptors.items ≡ descriptors_bytes (descriptors_from options.now options.now.offset buffers.now))) }
     ensures end { IfOk result (λ o. IfSome o (λ p. p.end ≡ data_end options.now options.now.offset buffers.now)) }
@@ -116,7 +116,7 @@ pub(crate) fn describe(
         push_descriptor(descriptor, &mut descriptors)?;
         position = end;
     }
-    Ok(Some(Placed {
+    Ok(Some(LaidOut {
         descriptors,
         end: position,
     }))

@@ -1,10 +1,12 @@
 //! The wire tree of an array.
 
-ghost use Rattle.std.specs.Prelude.{◌≡◌, map, Some, IfOk, IsOkUnless};
+ghost use Rattle.std.specs.Prelude.{◌≡◌, IfOk, IsOkUnless};
 ghost use Rattle.vx_trees.specs.Rose.{label, roses_of, below};
-ghost use Rattle.vx_arrays.specs.Tree.{buffers_of};
-ghost use Rattle.vx_registry.specs.Session.{SessionMeaning};
-ghost use Rattle.vx_serde.specs.Spells.{wire, wires};
+ghost use Rattle.vx_array_tree.specs.Table.{buffers_of};
+ghost use Rattle.vx_wire_tree.specs.Session.{SessionMeaning};
+ghost use Rattle.vx_wire_tree.specs.Wire.{all_present};
+ghost use Rattle.vx_wire_tree.specs.Written.{wire, wires};
+ghost use Rattle.vx_encodings.specs.Messages.{codec};
 
 use crate::error::WireError;
 use crate::tree::WireNode;
@@ -16,7 +18,7 @@ use vx_types::Id;
 
 /// The buffers of an array's root.
 fn root_buffers(alloc: Global, array: &Array) -> Result<Vec<Option<BufferHandle>>, WireError>
-    ensures ok { IfOk result (λ v. v.items ≡ map (λ b. Some b) (buffers_of (label array.now).body)) }
+    ensures ok { IfOk result (λ v. v.items ≡ all_present (buffers_of (label array.now).body)) }
     ensures err { IsOkUnless result WireError.OutOfMemory }
 {
     let mut buffers = Vec::new(alloc);
@@ -29,11 +31,15 @@ fn root_buffers(alloc: Global, array: &Array) -> Result<Vec<Option<BufferHandle>
 /// The wire tree of an array: its identifiers, its metadata as it is written, and its buffers.
 #[cycle(wiring)]
 pub(crate) fn wire_node(alloc: Global, array: &Array) -> Result<WireNode, WireError>
-    ensures ok { (s : SessionMeaning) → IfOk result (λ w. w ≡ wire s array.now) }
+    ensures ok { (s : SessionMeaning) → IfOk result (λ w. w ≡ wire codec s array.now) }
     ensures err { IsOkUnless result WireError.OutOfMemory }
 {
-    let id = Id::new(alloc, array.encoding_id())?;
-    let metadata = metadata(alloc, array)?;
+    let Ok(id) = Id::new(alloc, array.encoding_id()) else {
+        return Err(WireError::OutOfMemory);
+    };
+    let Ok(metadata) = metadata(alloc, array) else {
+        return Err(WireError::OutOfMemory);
+    };
     let buffers = root_buffers(alloc, array)?;
     let children = wire_nodes(alloc, array.children())?;
     Ok(WireNode::new(Some(id), metadata, buffers, children))
@@ -42,7 +48,7 @@ pub(crate) fn wire_node(alloc: Global, array: &Array) -> Result<WireNode, WireEr
 /// The wire trees of several arrays.
 #[cycle(wiring)]
 fn wire_nodes(alloc: Global, arrays: &[Array]) -> Result<Vec<WireNode>, WireError>
-    ensures ok { (s : SessionMeaning) → IfOk result (λ v. roses_of v.items ≡ wires s (roses_of arrays.now)) }
+    ensures ok { (s : SessionMeaning) → IfOk result (λ v. roses_of v.items ≡ wires codec s (roses_of arrays.now)) }
     ensures err { IsOkUnless result WireError.OutOfMemory }
 {
     let mut nodes = Vec::new(alloc);

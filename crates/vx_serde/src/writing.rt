@@ -3,22 +3,23 @@
 ghost use Rattle.std.specs.Prelude.{◌≡◌, ◌+◌, ◌≤◌, ◌<◌, ◌-◌, ◌^◌, ◌++◌, [], ◌∷◌, Some, false, IsTrue, IsFalse, length, IfOk, IfErr, OnOk};
 ghost use Rattle.std.specs.Int.{w32, to_le_bytes};
 ghost use Rattle.vx_flat.specs.IsOf.{IsOf};
-ghost use Rattle.vx_flat.specs.Layout.{layout};
+ghost use Rattle.vx_flat.specs.Layout.{written_layout};
 ghost use Rattle.vx_flat.specs.Value.{table, elements, no_fields, field};
 ghost use Rattle.vx_flat.specs.View.{views, value as value_of};
 ghost use Rattle.vx_flat.specs.Limits.{limits, IsLight};
 ghost use Rattle.vx_flat.specs.Weight as weigh;
-ghost use Rattle.vx_registry.specs.Context.{grown_by};
+ghost use Rattle.vx_wire_tree.specs.Context.{grown_by};
 ghost use Rattle.vx_trees.specs.Walks.{levels};
 ghost use Rattle.vx_serde.specs.ArraySchema.{array_schema};
-ghost use Rattle.vx_serde.specs.Describable.{AreDescribable};
+ghost use Rattle.vx_wire_tree.specs.Limits.{AreDescribable};
 ghost use Rattle.vx_serde.specs.KeptContext.{KeepsContext};
 ghost use Rattle.vx_serde.specs.MessageValue.{descriptors_bytes};
-ghost use Rattle.vx_serde.specs.Numbered.{ids_in, buffers_in};
+ghost use Rattle.vx_wire_tree.specs.Wire.{ids_in, buffers_in};
 ghost use Rattle.vx_serde.specs.Placing.{descriptors_from, data_end};
-ghost use Rattle.vx_serde.specs.Unwritten.{IsUnwritten, IsLaidOut, IsNotLaidOut, IsTooHeavy};
+ghost use Rattle.vx_serde.specs.WritingSteps.{RefusesWriting, IsLaidOut, RefusesLayout, RefusesMessage};
 ghost use Rattle.vx_serde.specs.Written.{IsWritable, blob_bytes};
-ghost use Rattle.vx_serde.specs.WrittenBuffers.{joined, unaligned, pad_buffers, data_buffers, greatest_exponent, written_buffers};
+ghost use Rattle.vx_buffer.specs.Joined.{joined};
+ghost use Rattle.vx_serde.specs.WrittenBuffers.{unaligned, pad_buffers, data_buffers, greatest_exponent, written_buffers};
 
 use crate::array_kind::ArrayKind;
 use crate::error::WireError;
@@ -26,7 +27,7 @@ use crate::limits::{MAX_BUFFERS, MAX_LEVELS, are_describable, has_levels_within}
 use crate::numbering::tree_table;
 use crate::options::SerializeOptions;
 use crate::placing::{
-    Placed, describe, greatest_alignment, pad_at, push_buffers, push_data, push_pad,
+    LaidOut, describe, greatest_alignment, pad_at, push_buffers, push_data, push_pad,
 };
 use crate::tree::WireNode;
 use std::alloc::{AllocError, Global};
@@ -52,10 +53,10 @@ fn message_table(
 /// The bytes of an array message, where a reader's limits admit it.
 fn message_bytes(alloc: Global, value: &TableValue) -> Result<Vec<u8>, WireError>
     requires { IsOf array_schema (value_of value.now) }
-    ensures written { IfOk result (λ v. v.items ≡ layout false array_schema (value_of value.now)) }
-    ensures short { OnOk result (length (layout false array_schema (value_of value.now)) < 2 ^ 31) }
-    ensures light { OnOk result (IsLight limits (weigh.weight array_schema (layout false array_schema (value_of value.now)))) }
-    ensures refused { IfErr result (IsTooHeavy (layout false array_schema (value_of value.now))) }
+    ensures written { IfOk result (λ v. v.items ≡ written_layout array_schema (value_of value.now)) }
+    ensures short { OnOk result (length (written_layout array_schema (value_of value.now)) < 2 ^ 31) }
+    ensures light { OnOk result (IsLight limits (weigh.weight array_schema (written_layout array_schema (value_of value.now)))) }
+    ensures refused { IfErr result (RefusesMessage (written_layout array_schema (value_of value.now))) }
 {
     let message = match write_value(alloc, &ArrayKind, value) {
         Ok(message) => message,
@@ -102,10 +103,10 @@ fn place(
     alloc: Global,
     node: &WireNode,
     options: &SerializeOptions,
-) -> Result<(BufferHandles, Placed), WireError>
+) -> Result<(BufferHandles, LaidOut), WireError>
     ensures buffers { IfOk result (λ p. p.0 ≡ buffers_in node.now) }
     ensures placed { IfOk result (λ p. IsLaidOut options.now node.now p.1.descriptors.items p.1.end) }
-    ensures refused { IfErr result (IsNotLaidOut options.now node.now) }
+    ensures refused { IfErr result (RefusesLayout options.now node.now) }
 {
     if !has_levels_within(node, MAX_LEVELS) {
         return Err(WireError::WireLimit);
@@ -144,7 +145,7 @@ pub(crate) fn write_wire(
     ensures written { IfOk result (λ bs. joined bs ≡ blob_bytes ctx.new.ids options.now node.now) }
     ensures writable { OnOk result (IsWritable ctx.new.ids options.now node.now) }
     ensures kept { KeepsContext (ids_in node.now) ctx.old ctx.new }
-    ensures refused { IfErr result (IsUnwritten ctx.old options.now node.now) }
+    ensures refused { IfErr result (RefusesWriting ctx.old options.now node.now) }
 {
     let (buffers, placed) = place(alloc, node, options)?;
     let mut next: usize = 0;

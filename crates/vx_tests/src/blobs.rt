@@ -7,7 +7,7 @@ use vx_buffer::ByteBuffer;
 use vx_registry::{ArrayContext, ArraySession, ReadContext, VortexSession};
 use vx_serde::{Recoded, SerializeOptions, WireError, recode};
 use vx_type_wire::ExtSession;
-use vx_types::{DType, Id, Ids, Nullability, PType};
+use vx_types::{DType, Id, Ids, Nullability, PType, TypeError};
 
 // The blob of `len` numbers of `width` bytes, which is two to the exponent: the worked message with another exponent and
 // another length of its buffer, behind other bytes.
@@ -33,13 +33,11 @@ fn blob_of(
     Ok(blob)
 }
 
-// What the buffers of a blob are, one after the other.
-fn joined(alloc: Global, recoded: &Recoded) -> Result<Vec<u8>, std::alloc::AllocError> {
-    let mut bytes = Vec::new(alloc);
-    for buffer in recoded.buffers.as_slice() {
-        bytes.extend_from_slice(buffer.as_slice())?;
-    }
-    Ok(bytes)
+// The worked identifiers.
+fn worked_ids(alloc: Global) -> Result<ReadContext, TypeError> {
+    let mut ids = Ids::new(alloc);
+    ids.push(Id::new(alloc, IDS.trim_end())?)?;
+    Ok(ReadContext::new(ids))
 }
 
 fn recoded(
@@ -49,15 +47,19 @@ fn recoded(
     len: usize,
     ctx: &mut ArrayContext,
 ) -> Result<Recoded, WireError> {
-    let mut ids = Ids::new(alloc);
-    ids.push(Id::new(alloc, IDS.trim_end())?)?;
-    let session = VortexSession::new(ArraySession::default(alloc)?, ExtSession::new(alloc));
+    let Ok(ids) = worked_ids(alloc) else {
+        return Err(WireError::OutOfMemory);
+    };
+    let Ok(arrays) = ArraySession::default(alloc) else {
+        return Err(WireError::OutOfMemory);
+    };
+    let session = VortexSession::new(arrays, ExtSession::new(alloc));
     recode(
         alloc,
         ByteBuffer::copy_from(alloc, blob)?,
         dtype,
         len,
-        &ReadContext::new(ids),
+        &ids,
         ctx,
         &session,
         &SerializeOptions::default(),
@@ -72,7 +74,7 @@ fn is_array_of(
     dtype: &DType,
     len: usize,
 ) -> Result<bool, Fail> {
-    let bytes = joined(alloc, recoded)?;
+    let bytes = recoded.buffers.join(alloc)?;
     Ok(*recoded.array.dtype() == *dtype && recoded.array.len() == len && bytes.as_slice() == blob)
 }
 

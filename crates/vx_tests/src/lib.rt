@@ -5,6 +5,10 @@
 #[cfg(test)]
 mod blobs;
 pub mod files;
+#[cfg(test)]
+mod flag_files;
+#[cfg(test)]
+mod flags;
 pub mod laws;
 #[cfg(test)]
 mod program;

@@ -13,7 +13,7 @@ const WORDS: [&str; 7] = ["recode", "t", "b", "4", "i", "o", "j"];
 
 const LISTING: &str = "vortex.primitive len=4 buffers=[16]\n0: 1\n1: 2\n2: 3\n3: 4\n";
 
-fn names(alloc: Global, words: &[&str]) -> Result<Vec<Name>, TypeError> {
+pub(crate) fn names(alloc: Global, words: &[&str]) -> Result<Vec<Name>, TypeError> {
     let mut names = Vec::new(alloc);
     for word in words {
         names.push(Name::new(alloc, word)?)?;
@@ -22,7 +22,12 @@ fn names(alloc: Global, words: &[&str]) -> Result<Vec<Name>, TypeError> {
 }
 
 // A store of a type file, a blob and an identifier file.
-fn store_of(alloc: Global, dtype: &[u8], blob: &[u8], ids: &str) -> Result<MemStore, StoreError> {
+pub(crate) fn store_of(
+    alloc: Global,
+    dtype: &[u8],
+    blob: &[u8],
+    ids: &str,
+) -> Result<MemStore, StoreError> {
     let mut store = MemStore::new(alloc);
     store.insert(alloc, "t", dtype)?;
     store.insert(alloc, "b", blob)?;
@@ -31,7 +36,7 @@ fn store_of(alloc: Global, dtype: &[u8], blob: &[u8], ids: &str) -> Result<MemSt
 }
 
 // Whether these bytes stand at a name.
-fn holds(store: &MemStore, name: &str, bytes: &[u8]) -> bool {
+pub(crate) fn holds(store: &MemStore, name: &str, bytes: &[u8]) -> bool {
     match store.get(name) {
         Some(found) => found == bytes,
         None => false,
@@ -102,7 +107,7 @@ fn pads_count_from_the_offset(rt: HostRuntime) -> Result<(), Fail> {
 }
 
 // The status of these words over these files, with nothing saved and nothing printed.
-fn refused(
+pub(crate) fn refused(
     alloc: Global,
     rt: &impl std::process::Abort,
     words: &[&str],
@@ -161,7 +166,8 @@ fn files_are_judged(rt: HostRuntime) -> Result<(), Fail> {
         (TYPE.as_slice(), [0, 0, 0, 0].as_slice(), IDS, 11),
         (TYPE.as_slice(), &BLOB[1..], IDS, 15),
         (TYPE.as_slice(), BLOB.as_slice(), "", 16),
-        (TYPE.as_slice(), BLOB.as_slice(), "vortex.bool", 17),
+        (TYPE.as_slice(), BLOB.as_slice(), "vortex.bool", 19),
+        (TYPE.as_slice(), BLOB.as_slice(), "x.y", 17),
         (UTF8_TYPE.as_slice(), BLOB.as_slice(), IDS, 19),
     ] {
         let got = refused(alloc, &rt, &WORDS, dtype, blob, ids)?;
@@ -171,7 +177,7 @@ fn files_are_judged(rt: HostRuntime) -> Result<(), Fail> {
 }
 
 // A blob with one byte set.
-fn with_byte(
+pub(crate) fn with_byte(
     alloc: Global,
     blob: &[u8],
     place: usize,

@@ -64,6 +64,17 @@ fn sample(alloc: Global, which: usize, n: Nullability) -> Result<DType, TypeErro
     }
 }
 
+// Whether this is the type of this number and nullability.
+fn is_sample(
+    alloc: Global,
+    dtype: &DType,
+    which: usize,
+    n: Nullability,
+) -> Result<bool, TypeError> {
+    let wanted = sample(alloc, which, n)?;
+    Ok(*dtype == wanted)
+}
+
 // Whether a copy of the type of this number is the same type.
 fn is_copied(alloc: Global, which: usize) -> Result<bool, TypeError> {
     let plain = sample(alloc, which, Nullability::NonNullable)?;
@@ -71,12 +82,16 @@ fn is_copied(alloc: Global, which: usize) -> Result<bool, TypeError> {
     Ok(copy == plain)
 }
 
-// Whether the type of this number made nullable is the nullable one of its kind.
-fn is_made_nullable(alloc: Global, which: usize) -> Result<bool, TypeError> {
+// The type of this number made nullable.
+fn made_nullable(alloc: Global, which: usize) -> Result<DType, TypeError> {
     let plain = sample(alloc, which, Nullability::NonNullable)?;
-    let nullable = sample(alloc, which, Nullability::Nullable)?;
-    let made = plain.with_nullability(alloc, Nullability::Nullable)?;
-    Ok(made == nullable && plain != nullable)
+    plain.with_nullability(alloc, Nullability::Nullable)
+}
+
+// Whether the type of this number made nullable is that of this nullability.
+fn is_made_nullable(alloc: Global, which: usize, n: Nullability) -> Result<bool, TypeError> {
+    let made = made_nullable(alloc, which)?;
+    is_sample(alloc, &made, which, n)
 }
 
 // The nullability of the type of this number.
@@ -90,12 +105,27 @@ fn each_kind_is_copied_and_made_nullable(rt: HostRuntime) -> Result<(), Fail> {
     let alloc = rt.alloc();
     for which in 0..12 {
         assert!(rt; is_copied(alloc, which)?, "at {which}");
-        assert!(rt; is_made_nullable(alloc, which)?, "at {which}");
+        assert!(rt;
+            is_made_nullable(alloc, which, Nullability::Nullable)?,
+            "at {which}"
+        );
+        assert!(rt;
+            !is_made_nullable(alloc, which, Nullability::NonNullable)?,
+            "at {which}"
+        );
         for n in [Nullability::NonNullable, Nullability::Nullable] {
             assert!(rt; nullability(alloc, which, n)? == n, "at {which}");
         }
     }
     Ok(())
+}
+
+// Whether a width of decimals has this code and so many bytes, and is found by its code.
+fn is_numbered(kind: DecimalType, code: u8, width: usize) -> bool {
+    kind.code() == code
+        && kind.byte_width() == width
+        && kind.is_int()
+        && DecimalType::from_code(code) == Some(kind)
 }
 
 #[test]
@@ -108,27 +138,26 @@ fn widths_of_decimals_have_codes(rt: HostRuntime) {
         (DecimalType::I128, 4, 16),
         (DecimalType::I256, 5, 32),
     ] {
-        assert_eq!(rt; kind.code(), code, "at {kind:?}");
-        assert_eq!(rt; kind.byte_width(), width, "at {kind:?}");
-        assert!(rt; DecimalType::from_code(code) == Some(kind), "at {kind:?}");
+        assert!(rt; is_numbered(kind, code, width), "code {code}");
     }
     assert!(rt; DecimalType::from_code(6).is_none());
+}
+
+// Whether decimals of so many digits are a type, or the refusal.
+fn decimal(precision: u8) -> Result<bool, TypeError> {
+    let decimal = DecimalDType::try_new(precision, -3)?;
+    Ok(decimal.precision() == precision && decimal.scale() == -3)
 }
 
 #[test]
 fn decimals_have_1_to_76_digits(rt: HostRuntime) {
     for (precision, is_fine) in [(0, false), (1, true), (76, true), (77, false), (255, false)] {
-        match DecimalDType::try_new(precision, -3) {
-            Ok(decimal) => {
-                assert!(rt; is_fine, "at {precision}");
-                assert_eq!(rt; decimal.precision(), precision);
-                assert_eq!(rt; decimal.scale(), -3);
-            }
-            Err(e) => {
-                assert!(rt; !is_fine, "at {precision}");
-                assert_eq!(rt; e, TypeError::BadDecimal);
-            }
-        }
+        let wanted = if is_fine {
+            Ok(true)
+        } else {
+            Err(TypeError::BadDecimal)
+        };
+        assert!(rt; decimal(precision) == wanted, "at {precision}");
     }
 }
 
@@ -177,17 +206,28 @@ fn tags_name_members(rt: HostRuntime) -> Result<(), Fail> {
     Ok(())
 }
 
-// Whether the type of a map's entries is the structure of these two names.
-fn are_entries(alloc: Global, key: &str, value: &str) -> Result<bool, TypeError> {
+// The structure of an entry's fields by these two names.
+fn entry(alloc: Global, key: &str, value: &str) -> Result<DType, TypeError> {
     let mut words = Names::new(alloc);
     words.push(Name::new(alloc, key)?)?;
     words.push(Name::new(alloc, value)?)?;
+    let fields = StructFields::try_new(words, entry_types(alloc)?)?;
+    Ok(DType::Struct(fields, Nullability::NonNullable))
+}
+
+// The types of an entry's fields.
+fn entry_types(alloc: Global) -> Result<DTypes, TypeError> {
     let mut types = DTypes::new(alloc);
     types.push(DType::Utf8(Nullability::NonNullable))?;
     types.push(DType::Binary(Nullability::Nullable))?;
-    let fields = StructFields::try_new(words, types)?;
+    Ok(types)
+}
+
+// Whether the type of a map's entries is the structure of these two names.
+fn are_entries(alloc: Global, key: &str, value: &str) -> Result<bool, TypeError> {
     let entries = map(alloc)?.entries_dtype(alloc)?;
-    Ok(entries == DType::Struct(fields, Nullability::NonNullable))
+    let wanted = entry(alloc, key, value)?;
+    Ok(entries == wanted)
 }
 
 #[test]

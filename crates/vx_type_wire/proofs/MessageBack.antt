@@ -1,6 +1,6 @@
 -- A type is read back from its message.
 use Rattle.std.specs.Prelude.{option_and_then}
-use Rattle.std.proofs.Common.{◌≡◌, ℕ, zero, suc, ◌<◌, ◌≤◌, ◌^◌, ◌-◌, ◌==◌, ◌&&◌, nat_lt, nat_le, if◌then◌else◌, ℤ, pos, negsuc, Bool, true, false, List, [], ◌∷◌, length, Option, Some, None, refl, ap, sym, ◌∙◌, arith}
+use Rattle.std.proofs.Common.{◌≡◌, ℕ, zero, suc, ◌<◌, ◌≤◌, ◌^◌, ◌-◌, ◌==◌, nat_lt, nat_le, if◌then◌else◌, ℤ, pos, negsuc, true, false, List, [], ◌∷◌, length, Some, None, refl, ap, ◌∙◌, arith}
 use Rattle.std.proofs.lemmas.Bool.{eq-eqb, lt-ltb, le-leb}
 use Rattle.std.proofs.lemmas.Bool.Decides.{nat_tests}
 use Rattle.std.proofs.lemmas.Int.{ints}
@@ -8,13 +8,13 @@ use Rattle.vx_trees.specs.Rose.{Roses, node, end, more, count}
 use Rattle.vx_trees.specs.Everywhere.{EverywhereBelow}
 use Rattle.vx_trees.specs.Walks.{levels, levels_below}
 use Rattle.vx_proto.specs.Parts.{text_of_bytes}
-use Rattle.vx_proto.specs.Value.{Value, slots_of, value_of}
+use Rattle.vx_proto.specs.Value.{slots_of, value_of}
 use Rattle.vx_proto.specs.Codes.{value_again}
 use Rattle.vx_types.specs.Content.{IsText, AreTexts, IsDecimal}
 use Rattle.vx_types.specs.Kind.{Kind, null, boolean, primitive, decimal, utf8, binary, list, fixed_size_list, structure, union, map, variant, extension}
 use Rattle.vx_types.specs.Typ.{Typ, IsType, IsTypeNode}
-use Rattle.vx_type_wire.specs.TypeTable.{flag_of, bit_of, scale_byte, tag_of}
-use Rattle.vx_type_wire.specs.Reading.{nullability_of, scale_of, are_distinct}
+use Rattle.vx_type_wire.specs.TypeTable.{scale_byte, tag_of}
+use Rattle.vx_type_wire.specs.Reading.{scale_of, are_distinct}
 use Rattle.vx_type_wire.specs.Reading.{plain, primitive_from, decimal_from, list_from, fixed_size_list_from, structure_from, union_from, map_from, extension_from, more_from}
 use Rattle.vx_type_wire.specs.TypeMessage.{int32_of, texts, all_messages, parts_of, type_message, type_messages}
 use Rattle.vx_type_wire.specs.MessageReading.{below, byte_of, with_text, texts_in, types_in, member_in, type_in}

@@ -1,19 +1,19 @@
 -- The message of a type has the form of the schema, and nests twice as deep as the type has levels.
 use Rattle.std.specs.Str.{IsUtf8}
-use Rattle.std.proofs.Common.{◌≡◌, Bool, ℕ, suc, ◌*◌, ◌<◌, ◌≤◌, ◌^◌, ◌⊎◌, inl, inr, ℤ, pos, negsuc, List, [], ◌∷◌, length, Some, refl, arith}
+use Rattle.std.proofs.Common.{◌≡◌, Bool, ℕ, ◌*◌, ◌<◌, ◌^◌, inl, inr, ℤ, pos, negsuc, List, [], ◌∷◌, refl, arith}
 use Rattle.std.proofs.lemmas.Int.{ints}
 use Rattle.std.proofs.lemmas.Str.{IsUtf8-from_is_utf8}
 use Rattle.vx_trees.specs.Rose.{Roses, node, end, more}
 use Rattle.vx_trees.specs.Everywhere.{EverywhereBelow}
 use Rattle.vx_trees.specs.Walks.{levels, levels_below}
-use Rattle.vx_proto.specs.Schema.{list_at, kind_in, plain, nested, repeated, Slot}
+use Rattle.vx_proto.specs.Schema.{list_at, plain, nested, repeated}
 use Rattle.vx_proto.specs.declared.schema.Kind.TheVariants.{Scalar, Message}
 use Rattle.vx_proto.specs.declared.schema.ScalarKind.TheVariants.{Uint32, Int32, Flag, Enum, String, Bytes}
 use Rattle.vx_proto.specs.Form.{FormSlots, HasForm}
 use Rattle.vx_proto.proofs.LawsOfForms.{form_of_slots}
 use Rattle.vx_proto.specs.Repeated.{as_message}
 use Rattle.vx_proto.proofs.LawsOfSlots.{Has, Each, has_plain, has_nested, has_none, has_repeated, form_one, form_two, form_three, form_four}
-use Rattle.vx_proto.specs.Value.{Entry, Value, number, octets, message, entries_of, slots_of}
+use Rattle.vx_proto.specs.Value.{Value, number, octets, message, entries_of, slots_of}
 use Rattle.vx_proto.specs.Written.{entries_depth, slots_depth, nested as nests}
 use Rattle.vx_types.specs.Content.{IsText, AreTexts, IsDecimal}
 use Rattle.vx_types.specs.declared.nullability.Nullability.{Nullability}

@@ -1,20 +1,17 @@
 -- What a plain value tells of the type whose message it is.
 use Rattle.std.specs.Prelude.{IfErr, MatchResult}
-use Rattle.std.proofs.Common.{◌≡◌, ◌∙◌, ℕ, List, [], ◌∷◌, ◌⊎◌, inl, inr, ◌<◌, ◌≤◌, ◌+◌, Option, None, Some, Result, Err, refl, ap, sym, subst, arith}
+use Rattle.std.proofs.Common.{◌≡◌, ◌∙◌, [], ◌∷◌, ◌≤◌, ◌+◌, Option, None, Some, Result, Err, refl, ap, sym, subst, arith}
 use Rattle.vx_trees.specs.Walks.{levels}
 use Rattle.vx_proto.specs.Form.{HasForm}
-use Rattle.vx_proto.specs.Reads.{Reads, Cause}
 use Rattle.vx_proto.specs.Written.{nested}
-use Rattle.vx_proto.specs.declared.error.ProtoError.{ProtoError}
-use Rattle.vx_proto.specs.declared.error.ProtoError.TheVariants as proto
 use Rattle.vx_proto.specs.Value.{Value}
 use Rattle.vx_types.specs.Typ.{Typ, IsType}
 use Rattle.vx_type_wire.specs.declared.error.TypeWireError.{TypeWireError}
 use Rattle.vx_type_wire.specs.declared.error.TypeWireError.TheVariants.{OutOfMemory, BadTable, TableLimit, BadMessage, TooDeep, BadType, UnknownExtension, ExtensionRefused, WireLimit}
-use Rattle.vx_type_wire.specs.Answers.{Fails, refusal_of_proto}
-use Rattle.vx_type_wire.specs.Known.{ExtMeaning, IsKnown, IsNotKnown, IsRead, ShowsNotKnown}
+use Rattle.vx_type_wire.specs.Answers.{Fails}
+use Rattle.vx_type_wire.specs.Known.{ExtMeaning, IsNotKnown}
 use Rattle.vx_type_wire.specs.MessageReading.{type_in}
-use Rattle.vx_type_wire.specs.TypeMessage.{type_lists, type_message, IsMessageOf, ShowsMessage, IsNoMessage, IsUnreadValue, IsUnreadBytes, IsUnwrittenMessage}
+use Rattle.vx_type_wire.specs.TypeMessage.{type_lists, type_message, IsMessageOf, IsNoMessage, IsUnreadValue}
 use Rattle.vx_type_wire.proofs.MessageBack.{reads_back}
 use Rattle.vx_type_wire.proofs.MessageSound.{type_sound}
 use Rattle.vx_type_wire.proofs.OneType.{never}

@@ -1,22 +1,22 @@
 -- A message of the form is that of the type that is read from it.
 use Rattle.std.specs.Prelude.{option_and_then}
 use Rattle.std.specs.Str.{is_utf8}
-use Rattle.std.proofs.Common.{◌≡◌, ◌⊎◌, inl, inr, ℕ, zero, suc, ◌<◌, ◌≤◌, ◌-◌, ◌^◌, ◌==◌, nat_lt, nat_le, if◌then◌else◌, pos, negsuc, Bool, true, false, List, [], ◌∷◌, length, Option, Some, None, refl, ap, sym, subst, ◌∙◌, arith}
+use Rattle.std.proofs.Common.{◌≡◌, ◌⊎◌, inl, inr, ℕ, zero, suc, ◌<◌, ◌≤◌, ◌-◌, ◌^◌, ◌==◌, nat_lt, nat_le, if◌then◌else◌, pos, negsuc, Bool, true, false, List, [], ◌∷◌, Option, Some, None, refl, ap, sym, subst, ◌∙◌, arith}
 use Rattle.std.proofs.lemmas.Bool.{eqb-true, ltb-true, leb-true, lt-ltb}
 use Rattle.std.proofs.lemmas.Bool.Decides.{nat_tests}
-use Rattle.vx_trees.specs.Rose.{Roses, node, end, more}
+use Rattle.vx_trees.specs.Rose.{Roses, node, end}
 use Rattle.vx_proto.specs.Schema.{kind_in, field, plain as plain_slot, nested, repeated, oneof}
 use Rattle.vx_proto.specs.declared.schema.ScalarKind.{ScalarKind}
 use Rattle.vx_proto.specs.declared.schema.Kind.{Kind as Spelling}
 use Rattle.vx_proto.specs.declared.schema.Kind.TheVariants.{Scalar, Message}
 use Rattle.vx_proto.specs.declared.schema.ScalarKind.TheVariants.{Uint32, Int32, Flag, Enum, String, Bytes}
 use Rattle.vx_proto.specs.declared.schema.Member.{Member}
-use Rattle.vx_proto.specs.Form.{FormContent, FormEntries, FormSlots, HasForm}
+use Rattle.vx_proto.specs.Form.{FormContent, FormEntries, FormSlots}
 use Rattle.vx_proto.proofs.LawsOfForms.{HoldsMember, slots_of_form}
 use Rattle.vx_proto.specs.Parts.{number_in, octets_in, text_in, text_of, text_of_bytes, message_of, message_in, entries_in}
 use Rattle.vx_proto.proofs.LawsOfParts.{IsNumeric, numbers, plain_read}
 use Rattle.vx_proto.proofs.LawsOfSlots.{Has, one_of, two_of, three_of, four_of, none_of, plain_holds, nested_holds, repeated_member}
-use Rattle.vx_proto.specs.Value.{Content, number, octets, message, Entry, Value, slots_of, value_of}
+use Rattle.vx_proto.specs.Value.{Content, octets, message, Entry, Value, slots_of}
 use Rattle.vx_proto.specs.Codes.{value_again}
 use Rattle.vx_proto.proofs.LawsOfViews.{message_is}
 use Rattle.vx_types.specs.declared.nullability.Nullability.{Nullability}
@@ -26,7 +26,6 @@ use Rattle.vx_types.specs.Numbers.{code_of}
 use Rattle.vx_types.specs.Typ.{Typ}
 use Rattle.vx_type_wire.specs.TypeTable.{flag_of, bit_of}
 use Rattle.vx_type_wire.specs.Reading.{nullability_of, truth_of, ptypes, ptype_of, scale_of}
-use Rattle.vx_type_wire.specs.Reading.{more_from}
 use Rattle.vx_type_wire.specs.TypeMessage.{type_members, type_lists, int32_of, one_number, one_octets, one_message, texts, all_messages, in_oneof, type_message, type_messages}
 use Rattle.vx_type_wire.specs.MessageReading.{below, byte_of, with_text, texts_in, types_in, nullability_at, truth_at, ptype_at, below_at, scale_at, text_at, bytes_at, texts_at, type_at, types_at}
 use Rattle.vx_type_wire.specs.MessageReading.{plain_in, primitive_in, decimal_in, structure_in, list_in, extension_in, fixed_size_list_in, union_in, map_in, member_in, oneof_in, type_in}

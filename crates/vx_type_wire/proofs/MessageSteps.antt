@@ -1,16 +1,12 @@
 -- The steps of the code that reads and writes the messages of types.
 use Rattle.std.specs.Prelude.{option_and_then}
 use Rattle.std.proofs.Common.{◌≡◌, ℕ, zero, suc, ◌+◌, ◌-◌, ◌<◌, ◌≤◌, List, [], ◌∷◌, ◌++◌, length, get_or, drop, Option, Some, None, refl, ap, sym, subst, ◌∙◌, arith}
-use Rattle.std.specs.Global.{Vec}
 use Rattle.std.proofs.lemmas.List.{drop_all}
 use Rattle.vx_trees.specs.Rose.{node, roses_of}
 use Rattle.vx_proto.specs.declared.element.Element.{Element}
-use Rattle.vx_proto.specs.declared.element.Element.TheViews.{Message}
 use Rattle.vx_proto.specs.Parts.{entries_in, message_of, text_of}
 use Rattle.vx_proto.specs.Repeated.{members, as_message}
-use Rattle.vx_proto.proofs.LawsOfRepeated.{shows_message, member_written}
-use Rattle.vx_proto.specs.Repeated as repeated
-use Rattle.vx_proto.specs.Value.{Entry, Value, message, view, entries_view, value_view, slots_of}
+use Rattle.vx_proto.specs.Value.{Entry, Value, message, view, entries_view, slots_of}
 use Rattle.vx_proto.proofs.Suffixes.{entries_at}
 use Rattle.vx_types.specs.declared.dtype.DType.{DType}
 use Rattle.vx_types.specs.Seen.{typ, typs}

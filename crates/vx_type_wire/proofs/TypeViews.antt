@@ -1,5 +1,5 @@
 -- What views of the tables of types see in their fields.
-use Rattle.std.proofs.Common.{◌≡◌, ◌∙◌, ℕ, ◌+◌, ◌*◌, ◌-◌, ◌<◌, ◌≤◌, if◌then◌else◌, Bool, true, false, List, [], ◌∷◌, length, drop, Option, Some, sym, ap, subst, refl, arith}
+use Rattle.std.proofs.Common.{◌≡◌, ◌∙◌, ℕ, ◌+◌, ◌-◌, ◌<◌, ◌≤◌, if◌then◌else◌, Bool, true, false, List, ◌∷◌, length, drop, Option, Some, sym, ap, subst, arith}
 use Rattle.std.specs.Prelude.{slice_get}
 use Rattle.std.proofs.lemmas.List.{drop_more}
 use Rattle.std.proofs.lemmas.Option.{get_or_from_slice_get, slice_get_within}
@@ -12,7 +12,6 @@ use Rattle.vx_flat.specs.SchemaLists.{schema_of}
 use Rattle.vx_flat.specs.Seen.{kind_in, table_seen, tag_table, IsViewOf, IsBelow, IsVectorBelow, IsElement}
 use Rattle.vx_flat.specs.Value.{Field, number}
 use Rattle.vx_flat.proofs.LawsOfViews.{kind-of, place-within}
-use Rattle.vx_types.specs.declared.nullability.Nullability.{Nullability}
 use Rattle.vx_types.specs.declared.nullability.Nullability.TheVariants.{NonNullable, Nullable}
 use Rattle.vx_type_wire.specs.Reading.{truth_in, nullability_in}
 use Rattle.vx_type_wire.specs.Schema.{type_schema, type_members}

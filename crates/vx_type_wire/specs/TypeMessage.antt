@@ -10,7 +10,6 @@ use Rattle.vx_proto.specs.Lawful.{is_lawful}
 use Rattle.vx_proto.specs.Reads.{Reads, Cause}
 use Rattle.vx_proto.specs.Repeated.{members, messages}
 use Rattle.vx_proto.specs.Value.{Entry, Value, number, octets, message, slots_of}
-use Rattle.vx_types.specs.declared.nullability.Nullability.{Nullability}
 use Rattle.vx_types.specs.Kind.{Kind, null, boolean, primitive, decimal, utf8, binary, list, fixed_size_list}
 use Rattle.vx_types.specs.Kind.{structure, union, map, variant, extension}
 use Rattle.vx_types.specs.Typ.{Typ, IsType}

@@ -1,5 +1,5 @@
 -- Which views are of the tables of types.
-use Rattle.std.specs.Prelude.{◌≡◌, ℕ, Option, Some}
+use Rattle.std.specs.Prelude.{◌≡◌, ℕ, Some}
 use Rattle.vx_flat.specs.declared.schema.FieldKind.{FieldKind}
 use Rattle.vx_flat.specs.declared.schema.FieldKind.TheVariants.{Tables}
 use Rattle.vx_flat.specs.declared.viewing.View.{View}

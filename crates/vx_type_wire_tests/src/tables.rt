@@ -41,24 +41,6 @@ fn refusal(alloc: Global, message: &[u8]) -> Option<TypeWireError> {
     DType::from_flatbuffer(alloc, message, &ExtSession::new(alloc)).err()
 }
 
-#[test]
-fn kinds_that_hold_no_type(rt: HostRuntime) -> Result<(), Fail> {
-    let n = Nullability::Nullable;
-    let rows: [(&[u8], DType); 7] = [
-        (&NULL, DType::Null),
-        (&BOOL, DType::Bool(n)),
-        (&PRIMITIVE, DType::Primitive(PType::I32, n)),
-        (&DECIMAL, DType::Decimal(DecimalDType::try_new(10, -2)?, n)),
-        (&UTF8, DType::Utf8(n)),
-        (&BINARY, DType::Binary(n)),
-        (&VARIANT, DType::Variant(n)),
-    ];
-    for (message, expected) in rows {
-        assert!(rt; is_read(rt.alloc(), message, &expected), "{expected:?}");
-    }
-    Ok(())
-}
-
 // The names `a` and `b`.
 fn names(alloc: Global) -> Result<Names, TypeError> {
     let mut names = Names::new(alloc);
@@ -94,27 +76,67 @@ fn extension(alloc: Global) -> Result<DType, TypeError> {
     Ok(DType::Extension(extension))
 }
 
-#[test]
-fn kinds_that_hold_one_or_two_types(rt: HostRuntime) -> Result<(), Fail> {
-    let alloc = rt.alloc();
-    let text = DType::Utf8(Nullability::NonNullable);
-    let list = DType::List(TypeRef::new(alloc, text)?, Nullability::Nullable);
-    assert!(rt; is_read(alloc, &LIST, &list));
-    let truth = TypeRef::new(alloc, DType::Bool(Nullability::NonNullable))?;
-    let three = DType::FixedSizeList(truth, 3, Nullability::Nullable);
-    assert!(rt; is_read(alloc, &FIXED_SIZE_LIST, &three));
+// Texts that are not null, as a list has them.
+fn text(alloc: Global) -> Result<TypeRef, TypeError> {
+    TypeRef::new(alloc, DType::Utf8(Nullability::NonNullable))
+}
+
+// Truths that are not null, as a list of fixed size has them.
+fn truth(alloc: Global) -> Result<TypeRef, TypeError> {
+    TypeRef::new(alloc, DType::Bool(Nullability::NonNullable))
+}
+
+fn map(alloc: Global) -> Result<MapDType, TypeError> {
     let key = DType::Utf8(Nullability::NonNullable);
-    let map = MapDType::new(alloc, key, DType::Bool(Nullability::Nullable), true)?;
-    assert!(rt; is_read(alloc, &MAP, &DType::Map(map, Nullability::Nullable)));
-    Ok(())
+    MapDType::new(alloc, key, DType::Bool(Nullability::Nullable), true)
+}
+
+// The type that a message shows, by number from 0, each nullable where its kind says so.
+fn expected(alloc: Global, which: usize) -> Result<DType, TypeError> {
+    let n = Nullability::Nullable;
+    match which {
+        0 => Ok(DType::Null),
+        1 => Ok(DType::Bool(n)),
+        2 => Ok(DType::Primitive(PType::I32, n)),
+        3 => Ok(DType::Decimal(DecimalDType::try_new(10, -2)?, n)),
+        4 => Ok(DType::Utf8(n)),
+        5 => Ok(DType::Binary(n)),
+        6 => structure(alloc),
+        7 => Ok(DType::List(text(alloc)?, n)),
+        8 => extension(alloc),
+        9 => Ok(DType::FixedSizeList(truth(alloc)?, 3, n)),
+        10 => union(alloc),
+        11 => Ok(DType::Map(map(alloc)?, n)),
+        _ => Ok(DType::Variant(n)),
+    }
+}
+
+// Whether the message is read as the type of this number.
+fn is_read_as(alloc: Global, message: &[u8], which: usize) -> Result<bool, TypeError> {
+    let dtype = expected(alloc, which)?;
+    Ok(is_read(alloc, message, &dtype))
 }
 
 #[test]
-fn kinds_with_names(rt: HostRuntime) -> Result<(), Fail> {
-    let alloc = rt.alloc();
-    assert!(rt; is_read(alloc, &STRUCT, &structure(alloc)?));
-    assert!(rt; is_read(alloc, &UNION, &union(alloc)?));
-    assert!(rt; is_read(alloc, &EXTENSION, &extension(alloc)?));
+fn each_kind_is_read(rt: HostRuntime) -> Result<(), Fail> {
+    let rows: [&[u8]; 13] = [
+        &NULL,
+        &BOOL,
+        &PRIMITIVE,
+        &DECIMAL,
+        &UTF8,
+        &BINARY,
+        &STRUCT,
+        &LIST,
+        &EXTENSION,
+        &FIXED_SIZE_LIST,
+        &UNION,
+        &MAP,
+        &VARIANT,
+    ];
+    for (which, message) in rows.iter().enumerate() {
+        assert!(rt; is_read_as(rt.alloc(), message, which)?, "kind {which}");
+    }
     Ok(())
 }
 

@@ -1,6 +1,6 @@
 //! Decimals.
 
-ghost use Rattle.std.specs.Prelude.{◌≡◌, ◌≤◌, ◌<◌, ◌⊎◌, IfOk, IfErr, IfSome, Some};
+ghost use Rattle.std.specs.Prelude.{◌≡◌, ◌≤◌, ◌<◌, ◌⊎◌, IfOk, IfErr, IfSome, IsTrue, Some};
 ghost use Rattle.vx_types.specs.declared.decimal.DecimalType.{DecimalType};
 ghost use Rattle.vx_types.specs.Decimals.{decimal_width_of, decimal_code_of};
 ghost use Rattle.vx_types.specs.Content.{IsDecimal};
@@ -33,6 +33,21 @@ impl DecimalType {
             DecimalType::I64 => 8,
             DecimalType::I128 => 16,
             DecimalType::I256 => 32,
+        }
+    }
+
+    /// Whether a decimal of this width is held as an integer: each is, the widest
+    /// one too, which has 256 bits.
+    pub fn is_int(&self) -> bool
+        ensures { IsTrue result }
+    {
+        match *self {
+            DecimalType::I8
+            | DecimalType::I16
+            | DecimalType::I32
+            | DecimalType::I64
+            | DecimalType::I128
+            | DecimalType::I256 => true,
         }
     }
 

@@ -1,30 +1,39 @@
 -- The texts of a listing, one part after the other.
-use Rattle.std.proofs.Common.{◌≡◌, ℕ, zero, suc, ◌+◌, ◌-◌, ◌<◌, List, [], ◌∷◌, ◌++◌, length, drop, get_or, codes, refl, ap, arith, add-one}
+use Rattle.std.proofs.Common.{◌≡◌, ℕ, zero, suc, ◌+◌, ◌-◌, ◌<◌, ◌≤◌, Bool, false, List, [], ◌∷◌, ◌++◌, Some, Result, Ok, Err, IfOk, String, Global, string_bytes, length, drop, get_or, codes, nat_lt, refl, sym, ap, ◌∙◌, arith, add-one, append_assoc}
+use Rattle.std.specs.Prelude.{slice_get, if◌then◌else◌}
 use Rattle.std.specs.List.{flat_map}
 use Rattle.vx_trees.specs.Rose.{node, label, below, roses_of}
 use Rattle.vx_buffer.specs.Buffer.{Buffer}
-use Rattle.vx_arrays.specs.Tree.{Tree}
-use Rattle.vxcat_core.specs.Listing.{length_text, further_length, lengths_text, node_line, node_lines, node_lines_below, row_line, row_lines}
+use Rattle.vx_types.specs.Typ.{Typ}
+use Rattle.vx_types.specs.Value.{Value}
+use Rattle.vx_array_tree.specs.Tree.{Tree, row_at, cells}
+use Rattle.vxcat_core.specs.Listing.{length_text, further_length, lengths_text, node_line, node_lines, node_lines_below, shown_row, row_line, row_lines}
+use Rattle.vxcat_core.specs.RowText.{value_text}
 
 -- The lengths that are left from a buffer on.
 abbrev pub lengths_from : ℕ → List Buffer → List ℕ
 lengths_from zero buffers = lengths_text buffers
 lengths_from (suc i) buffers = flat_map further_length (drop (suc i) buffers)
 
-further_from : (buffers : List Buffer) (i : ℕ) (d : Buffer) → i < length buffers
-    → flat_map further_length (drop i buffers) ≡ further_length (get_or buffers i d) ++ flat_map further_length (drop (suc i) buffers)
-further_from [] i d within = absurd (omega (arith, within))
-further_from (b ∷ bs) zero d within = refl
-further_from (b ∷ bs) (suc i) d within = further_from bs i d (omega (arith, within))
+further_from : (buffers : List Buffer) (i : ℕ) (b : Buffer) → slice_get buffers i ≡ Some b → flat_map further_length (drop i buffers) ≡ further_length b ++ flat_map further_length (drop (suc i) buffers)
+further_from [] i b at = absurd (cc)
+further_from (x ∷ xs) zero b at = let same : x ≡ b = cc in ap (λ (z : Buffer). further_length z ++ flat_map further_length xs) same
+further_from (x ∷ xs) (suc i) b at = further_from xs i b at
 
 -- The first buffer has no comma before it, and each further one has.
-pub lengths_from-first : (buffers : List Buffer) (d : Buffer) → 0 < length buffers → lengths_from 0 buffers ≡ length_text (get_or buffers 0 d) ++ lengths_from 1 buffers
-lengths_from-first [] d within = absurd (omega (arith, within))
-lengths_from-first (b ∷ bs) d within = refl
+first_from : (buffers : List Buffer) (b : Buffer) → slice_get buffers 0 ≡ Some b → lengths_from 0 buffers ≡ length_text b ++ lengths_from 1 buffers
+first_from [] b at = absurd (cc)
+first_from (x ∷ xs) b at = let same : x ≡ b = cc in ap (λ (z : Buffer). length_text z ++ flat_map further_length xs) same
 
-pub lengths_from-further : (buffers : List Buffer) (i : ℕ) (d : Buffer) → 0 < i → i < length buffers → lengths_from i buffers ≡ further_length (get_or buffers i d) ++ lengths_from (i + 1) buffers
-lengths_from-further buffers zero d some within = absurd (omega (arith, some))
-lengths_from-further buffers (suc i) d some within = rw (add-one (suc i)) (further_from buffers (suc i) d within)
+-- With the next buffer's length, the text goes on to what is left behind it.
+pub lengths_next : (buffers : List Buffer) (i : ℕ) (b : Buffer) (old new : List ℕ) → slice_get buffers i ≡ Some b → old ++ lengths_from i buffers ≡ lengths_text buffers
+    → (i ≡ 0 → new ≡ old ++ length_text b) → (0 < i → new ≡ old ++ further_length b) → new ++ lengths_from (i + 1) buffers ≡ lengths_text buffers
+lengths_next buffers zero b old new at so first further =
+    ap (λ z. z ++ lengths_from 1 buffers) (first refl) ∙ append_assoc old (length_text b) (lengths_from 1 buffers) ∙ ap (λ z. old ++ z) (sym (first_from buffers b at)) ∙ so
+lengths_next buffers (suc i) b old new at so first further =
+    let left = flat_map further_length (drop (suc (suc i)) buffers) in
+    let next : flat_map further_length (drop (suc i) buffers) ≡ further_length b ++ left = further_from buffers (suc i) b at in
+    rw (add-one (suc i)) (ap (λ z. z ++ left) (further (omega arith)) ∙ append_assoc old (further_length b) left ∙ ap (λ z. old ++ z) (sym next) ∙ so)
 
 none_from : (buffers : List Buffer) (i : ℕ) → length buffers < i + 1 → flat_map further_length (drop i buffers) ≡ []
 none_from [] zero past = refl
@@ -61,3 +70,15 @@ pub row_lines-next : (tree : Tree) (i shown : ℕ) → i < shown → row_lines t
 row_lines-next tree i shown within =
     let count : shown - i ≡ suc (shown - (i + 1)) = omega (arith, within) in
     ap (λ (n : ℕ). row_lines tree i n) count
+
+small : (n : ℕ) → n ≤ 10000 → nat_lt 10000 n ≡ false
+small n h = grind arith
+
+-- A row of few cells is shown by its value's text, which was made at every type.
+pub row_shown : {E : Type 0} (tree : Tree) (i : ℕ) (value : Value) (result : Result (String Global) E) → value ≡ row_at tree i → cells tree i ≤ 10000
+    → ((d : Typ) → IfOk result (λ text. string_bytes text ≡ value_text value d)) → IfOk result (λ text. string_bytes text ≡ shown_row tree i)
+row_shown tree i value (Err e) row few texts = tt
+row_shown tree i value (Ok text) row few texts =
+    let d = (label tree).dtype in
+    let shown : Bool → List ℕ = λ large. if large then codes "(large)" else value_text (row_at tree i) d in
+    texts d ∙ ap (λ v. value_text v d) row ∙ sym (ap shown (small (cells tree i) few))

@@ -1,11 +1,11 @@
 -- What options set that are given one after the other.
 use Rattle.std.proofs.Common.{ℕ, ◌≡◌, ◌≤◌, List, [], ◌∷◌, ◌++◌, Option, Some, None, length, unwrap_or, refl, sym, ap, ◌∙◌, subst, arith, append-nil}
 use Rattle.std.specs.Prelude.{slice_get}
-use Rattle.std.specs.List.{AllByRecursion, flat_map}
+use Rattle.std.specs.List.{flat_map}
 use Rattle.vxcat_core.specs.declared.options.Choice.{Choice}
 use Rattle.vxcat_core.specs.declared.options.Choice.TheVariants.{Pad, Rows}
 use Rattle.vxcat_core.specs.declared.options.Options.{Options}
-use Rattle.vxcat_core.specs.Options.{AreOptions, IsInRange, choice_words, counts, positions, settings_of}
+use Rattle.vxcat_core.specs.Options.{AreOptions, choice_words, counts, positions, settings_of}
 use Rattle.vxcat_core.specs.GivenOptions.{Gives, no_options, with_choices}
 use Rattle.vxcat_core.proofs.OptionFronts.{with_choices-None}
 use Rattle.vxcat_core.specs.RecodeViews.{set_by}

@@ -1,15 +1,21 @@
 -- From what `recode` ensures to what the program promises of its inputs.
-use Rattle.std.proofs.Common.{◌≡◌, ℕ, List, [], None, Result, Ok, Err, IfOk, IfErr, sym, ap, subst, ◌∙◌}
+use Rattle.std.proofs.Common.{◌≡◌, ℕ, Bool, List, [], None, Result, Ok, Err, IfOk, IfErr, Global, sym, ap, subst, ◌∙◌}
+use Rattle.std.specs.declared.dyn_box.DynBox.{DynBox}
 use Rattle.vx_types.specs.Typ.{Typ}
 use Rattle.vx_type_wire.specs.Known.{IsRead, no_readers}
 use Rattle.vx_type_wire.specs.Shown.{ShowsType}
+use Rattle.vx_type_wire.specs.Session.{ext_meaning}
+use Rattle.vx_type_wire.specs.declared.readers.ExtSession.{ExtSession}
 use Rattle.vx_type_wire.proofs.LawsTypes.{one_type_shown}
-use Rattle.vx_registry.specs.Context.{Context}
-use Rattle.vx_registry.specs.Session.{Registry, registry_meaning, shipped_registry}
+use Rattle.vx_wire_tree.specs.Context.{Context}
+use Rattle.vx_wire_tree.specs.Session.{SessionMeaning}
+use Rattle.vx_registry.specs.declared.session.VortexSession.{VortexSession}
+use Rattle.vx_registry.specs.Meaning.{session_meaning}
+use Rattle.vx_registry.specs.Session.{Registry, tables_meaning, shipped_registry}
 use Rattle.vx_serde.specs.declared.options.SerializeOptions.{SerializeOptions}
 use Rattle.vx_serde.specs.declared.error.WireError.{WireError}
 use Rattle.vx_serde.specs.declared.error.WireError.TheVariants as wire
-use Rattle.vx_serde.specs.Causes.{IsCaused}
+use Rattle.vx_serde.specs.Causes.{Refuses}
 use Rattle.vx_serde.specs.Recoding.{IsFaithful, IsRecoded, Product}
 use Rattle.vx_serde.specs.Request.{CanRecode, Request}
 use Rattle.vx_buffer.specs.Joined.{joined}
@@ -25,11 +31,16 @@ use Rattle.vxcat_core.specs.RecodeViews.{AreMade, AreOutputs, RefusesBlob, Refus
 use Rattle.vxcat_core.specs.Statuses.{blob_status, id_status}
 
 -- What `recode` is asked is what the program asks for.
-pub same_request : (blob bytes : List ℕ) (dtype : Typ) (len : ℕ) (read_ids ids : List (List ℕ)) (context : Context) (arrays : Registry) (options : SerializeOptions)
-    → bytes ≡ blob → ids ≡ read_ids → context.ids ≡ [] → context.allowed ≡ None → arrays ≡ shipped_registry
-    → record { blob = bytes; dtype = dtype; len = len; ids = ids; context = context; options = options; session = registry_meaning arrays } ≡ request_for blob dtype len read_ids options
-same_request blob bytes dtype len read_ids ids context arrays options b i c a r =
-    λ k. record { blob = b k; dtype = dtype; len = len; ids = i k; context = record { ids = c k; allowed = a k }; options = options; session = registry_meaning (r k) }
+pub same_request : (blob bytes : List ℕ) (dtype : Typ) (len : ℕ) (read_ids ids : List (List ℕ)) (context : Context) (session : SessionMeaning) (options : SerializeOptions)
+    → bytes ≡ blob → ids ≡ read_ids → context.ids ≡ [] → context.allowed ≡ None → session ≡ tables_meaning shipped_registry no_readers
+    → record { blob = bytes; dtype = dtype; len = len; ids = ids; context = context; options = options; session = session } ≡ request_for blob dtype len read_ids options
+same_request blob bytes dtype len read_ids ids context session options b i c a r =
+    λ k. record { blob = b k; dtype = dtype; len = len; ids = i k; context = record { ids = c k; allowed = a k }; options = options; session = r k }
+
+-- The session that the program makes means the shipped encodings, and no readers.
+pub same_session : {X : Type 0} {F : X → Type 0} (accepted : DynBox X Global F → List ℕ → Typ → Bool) (session : VortexSession X F) (arrays : Registry) (ext : ExtSession X F)
+    → session.arrays ≡ arrays → session.ext ≡ ext → arrays ≡ shipped_registry → ext_meaning accepted ext ≡ no_readers → session_meaning accepted session ≡ tables_meaning shipped_registry no_readers
+same_session accepted session arrays ext a e shipped none = λ k. tables_meaning ((a ∙ shipped) k) ((ap (λ x. ext_meaning accepted x) e ∙ none) k)
 
 -- The outputs are what was made.
 pub outputs_made : (asked : Request) (made : Product) (result : Result Outputs Status) → IsRecoded asked made → IsFaithful asked made
@@ -44,7 +55,7 @@ memory_refused asked (Ok made) memory = tt
 memory_refused asked (Err status) memory = subst (λ (s : Status). RefusesBlob s asked) (sym memory) tt
 
 -- A refusal that has its cause gives its status.
-pub refused : (error : WireError) (asked : Request) → IsCaused asked error → RefusesBlob (blob_status error) asked
+pub refused : (error : WireError) (asked : Request) → Refuses asked error → RefusesBlob (blob_status error) asked
 refused wire.OutOfMemory asked cause = tt
 refused wire.TooShort asked cause = cause
 refused wire.BadTable asked cause = cause

@@ -3,9 +3,9 @@ use Rattle.std.specs.Prelude.{ℕ, zero, suc, ◌+◌, min, nat_lt, List, [], �
 use Rattle.std.specs.List.{flat_map}
 use Rattle.vx_trees.specs.Rose.{node, end, more, label}
 use Rattle.vx_buffer.specs.Buffer.{Buffer}
-use Rattle.vx_arrays.specs.Tree.{Tree, Trees, Head, encoding_id_of, buffers_of}
-use Rattle.vx_arrays.specs.Rows.{row_at, cells}
-use Rattle.vxcat_core.specs.RowText.{row_text}
+use Rattle.vx_array_tree.specs.Tree.{Tree, Trees, Head, row_at, cells}
+use Rattle.vx_array_tree.specs.Table.{buffers_of, encoding_of, id_of}
+use Rattle.vxcat_core.specs.RowText.{value_text}
 
 -- A buffer is listed by the number of its bytes.
 abbrev pub length_text : Buffer → List ℕ
@@ -23,7 +23,7 @@ lengths_text (buffer ∷ buffers) = length_text buffer ++ flat_map further_lengt
 -- A node's line has its identifier, its length and the lengths of its own buffers.
 abbrev pub node_line : List ℕ → Head → List ℕ
 node_line indent head =
-    indent ++ (encoding_id_of head.body ++ (codes " len=" ++ (decimal head.len ++ (codes " buffers=[" ++ (lengths_text (buffers_of head.body) ++ codes "]\n")))))
+    indent ++ (id_of (encoding_of head.body) ++ (codes " len=" ++ (decimal head.len ++ (codes " buffers=[" ++ (lengths_text (buffers_of head.body) ++ codes "]\n")))))
 
 -- The nodes stand in preorder, each two spaces further in than its parent.
 abbrev mutual
@@ -36,7 +36,7 @@ abbrev mutual
 
 -- A row is shown by its value, or as `(large)` where that has more than 10,000 cells.
 abbrev pub shown_row : Tree → ℕ → List ℕ
-shown_row tree i = if nat_lt 10000 (cells tree i) then codes "(large)" else row_text (row_at tree i)
+shown_row tree i = if nat_lt 10000 (cells tree i) then codes "(large)" else value_text (row_at tree i) (label tree).dtype
 
 -- A row's line has its number, counted from 0, and the row.
 abbrev pub row_line : Tree → ℕ → List ℕ

@@ -5,10 +5,11 @@ use Rattle.std.specs.List.{flat_map}
 use Rattle.vx_types.specs.Typ.{Typ}
 use Rattle.vx_type_wire.specs.Known.{ExtMeaning, IsRead, no_readers}
 use Rattle.vx_type_wire.specs.Shown.{ShowsType}
-use Rattle.vx_registry.specs.Context.{Context}
-use Rattle.vx_registry.specs.Session.{SessionMeaning, registry_meaning, shipped_registry}
+use Rattle.vx_wire_tree.specs.Context.{Context}
+use Rattle.vx_wire_tree.specs.Session.{SessionMeaning}
+use Rattle.vx_registry.specs.Session.{tables_meaning, shipped_registry}
 use Rattle.vx_serde.specs.declared.options.SerializeOptions.{SerializeOptions}
-use Rattle.vx_serde.specs.Causes.{IsCaused}
+use Rattle.vx_serde.specs.Causes.{Refuses}
 use Rattle.vx_serde.specs.Recoding.{IsFaithful, IsRecoded, Product}
 use Rattle.vx_serde.specs.Request.{CanRecode, Request}
 use Rattle.vx_buffer.specs.Joined.{joined}
@@ -70,9 +71,9 @@ pub record AreInputs (line : Recode) (store : StoreState) (loaded : Loaded) : Ty
 abbrev pub readers_of : Settings → ExtMeaning
 readers_of settings = no_readers
 
--- What reads and writes arrays: the encodings that are shipped, whatever the options say.
+-- What reads and writes arrays: the encodings that are shipped, beside these readers, whatever the options say.
 abbrev pub session_of : Settings → SessionMeaning
-session_of settings = registry_meaning shipped_registry
+session_of settings = tables_meaning shipped_registry (readers_of settings)
 
 -- The context under which the new blob is written: it has no identifiers, and allows each encoding, whatever was loaded.
 abbrev pub context_of : Settings → Loaded → Context
@@ -127,7 +128,7 @@ RefusesInputs OutOfMemory line loaded = Unit {0}
 RefusesInputs BadType line loaded = (dtype : Typ) → ¬ (IsRead (ShowsType loaded.type_bytes) (readers_of line.settings) dtype)
 RefusesInputs BadIds line loaded = (ids : List (List ℕ)) → ¬ (ReadsIds loaded.id_bytes ids)
 RefusesInputs (Refused refusal) line loaded =
-    (dtype : Typ) × (ids : List (List ℕ)) × AreRead line loaded dtype ids × IsCaused (asked_by line loaded dtype ids) (wire_error refusal)
+    (dtype : Typ) × (ids : List (List ℕ)) × AreRead line loaded dtype ids × Refuses (asked_by line loaded dtype ids) (wire_error refusal)
 RefusesInputs status line loaded = ⊥
 
 -- ---- what is saved

@@ -1,9 +1,10 @@
 -- What contracts see of the words of a command, and of what the program holds while it runs.
 use Rattle.std.specs.Prelude.{◌≡◌, ℕ, List, [], None, unwrap_or}
 use Rattle.vx_types.specs.Typ.{Typ}
-use Rattle.vx_registry.specs.Session.{registry_meaning, shipped_registry}
+use Rattle.vx_type_wire.specs.Known.{no_readers}
+use Rattle.vx_registry.specs.Session.{tables_meaning, shipped_registry}
 use Rattle.vx_serde.specs.declared.options.SerializeOptions.{SerializeOptions}
-use Rattle.vx_serde.specs.Causes.{IsCaused}
+use Rattle.vx_serde.specs.Causes.{Refuses}
 use Rattle.vx_serde.specs.Recoding.{IsFaithful, IsRecoded, Product}
 use Rattle.vx_serde.specs.Request.{Request}
 use Rattle.vx_buffer.specs.Joined.{joined}
@@ -59,7 +60,7 @@ request_for blob dtype len ids options = record {
   ids = ids;
   context = record { ids = []; allowed = None };
   options = options;
-  session = registry_meaning shipped_registry;
+  session = tables_meaning shipped_registry no_readers;
 }
 
 -- The outputs are what `recode` makes of what is asked.
@@ -92,5 +93,5 @@ RefusesType status = ⊥
 -- A blob is refused with its cause, or wants memory.
 abbrev pub RefusesBlob : Status → Request → Type 0
 RefusesBlob OutOfMemory asked = Unit {0}
-RefusesBlob (Refused refusal) asked = IsCaused asked (wire_error refusal)
+RefusesBlob (Refused refusal) asked = Refuses asked (wire_error refusal)
 RefusesBlob status asked = ⊥

@@ -3,10 +3,10 @@
 ghost use Rattle.std.specs.Prelude.{◌≡◌, ◌≤◌, ◌<◌, ◌++◌, min, [], IfOk, OnOk, IsErrOf, string_bytes, codes, decimal};
 ghost use Rattle.std.specs.Io.KnownBytes.{Appends};
 ghost use Rattle.vx_trees.specs.Rose.{label};
-ghost use Rattle.vx_arrays.specs.Tree.{buffers_of};
+ghost use Rattle.vx_array_tree.specs.Table.{buffers_of};
 ghost use Rattle.vxcat_core.specs.StoreState.{HasRisen};
 ghost use Rattle.vxcat_core.specs.Written.{AppendsPrefix};
-ghost use Rattle.vxcat_core.specs.Listing.{lengths_text, node_line, node_lines, row_line, row_lines, listing};
+ghost use Rattle.vxcat_core.specs.Listing.{lengths_text, node_line, node_lines, shown_row, row_line, row_lines, listing};
 ghost use Rattle.vxcat_core.specs.declared.print.PrintError.TheVariants as print_error;
 
 use crate::print::{PrintError, write_text};
@@ -113,12 +113,17 @@ fn row_line(alloc: Global, array: &Array, i: usize) -> Result<String, AllocError
     requires { i < (label array.now).len }
     ensures { IfOk result (λ line. string_bytes line ≡ row_line array.now i) }
 {
+    let row = shown_row(alloc, array, i)?;
+    format!(in alloc; "{i}: {row}\n")
+}
+
+fn shown_row(alloc: Global, array: &Array, i: usize) -> Result<String, AllocError>
+    requires { i < (label array.now).len }
+    ensures { IfOk result (λ text. string_bytes text ≡ shown_row array.now i) }
+{
     match array.value_at(alloc, i, MAX_CELLS) {
-        Ok(value) => {
-            let text = row_text(alloc, &value)?;
-            format!(in alloc; "{i}: {text}\n")
-        }
-        Err(ArrayError::ValueTooLarge) => format!(in alloc; "{i}: (large)\n"),
+        Ok(value) => row_text(alloc, &value),
+        Err(ArrayError::ValueTooLarge) => String::from_str(alloc, "(large)"),
         Err(_) => Err(AllocError),
     }
 }

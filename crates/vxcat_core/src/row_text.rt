@@ -1,21 +1,27 @@
 //! The text of a row's value.
 
 ghost use Rattle.std.specs.Prelude.{◌≡◌, IfOk, string_bytes};
-ghost use Rattle.vxcat_core.specs.RowText.{float_text, number_text, row_text};
+ghost use Rattle.vx_types.specs.Typ.{Typ};
+ghost use Rattle.vx_arrays.specs.Plain.{plain_value};
+ghost use Rattle.vxcat_core.specs.RowText.{hex_text, number_text, value_text};
 
 use std::alloc::{AllocError, Global};
 use vx_arrays::RowValue;
 use vx_types::PValue;
 
-/// The text of a row's value: `null`, an integer in decimal, or a float's bits as `0x` and hex digits.
+/// The text of a row's value: `null`, `true`, `false`, an integer in decimal, a float's bits as `0x` and hex digits, or `?` where
+/// nothing is known of the row. None of these looks at the row's type.
 ///
 /// # Errors
 /// Want of memory.
 pub fn row_text(alloc: Global, value: &RowValue) -> Result<String, AllocError>
-    ensures { IfOk result (λ text. string_bytes text ≡ row_text value.now) }
+    ensures { (d : Typ) → IfOk result (λ text. string_bytes text ≡ value_text (plain_value value.now) d) }
 {
     match value {
         RowValue::Null => String::from_str(alloc, "null"),
+        RowValue::Opaque => String::from_str(alloc, "?"),
+        RowValue::Bool(true) => String::from_str(alloc, "true"),
+        RowValue::Bool(false) => String::from_str(alloc, "false"),
         RowValue::Primitive(number) => number_text(alloc, number),
     }
 }
@@ -32,15 +38,15 @@ fn number_text(alloc: Global, number: &PValue) -> Result<String, AllocError>
         PValue::I16(n) => format!(in alloc; "{n}"),
         PValue::I32(n) => format!(in alloc; "{n}"),
         PValue::I64(n) => format!(in alloc; "{n}"),
-        PValue::F16(bits) => float_text(alloc, bits.to_be_bytes().as_slice()),
-        PValue::F32(bits) => float_text(alloc, bits.to_be_bytes().as_slice()),
-        PValue::F64(bits) => float_text(alloc, bits.to_be_bytes().as_slice()),
+        PValue::F16(bits) => hex_text(alloc, bits.to_be_bytes().as_slice()),
+        PValue::F32(bits) => hex_text(alloc, bits.to_be_bytes().as_slice()),
+        PValue::F64(bits) => hex_text(alloc, bits.to_be_bytes().as_slice()),
     }
 }
 
-// The bytes of a float's bits, from the highest.
-fn float_text(alloc: Global, bytes: &[u8]) -> Result<String, AllocError>
-    ensures { IfOk result (λ text. string_bytes text ≡ float_text bytes.now) }
+// Bytes as hex digits.
+fn hex_text(alloc: Global, bytes: &[u8]) -> Result<String, AllocError>
+    ensures { IfOk result (λ text. string_bytes text ≡ hex_text bytes.now) }
 {
     let digits = hex::encode(alloc, bytes)?;
     format!(in alloc; "0x{digits}")

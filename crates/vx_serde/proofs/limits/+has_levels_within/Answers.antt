@@ -1,7 +1,7 @@
 use Rattle.std.proofs.Common.{◌≤◌, ◌-◌, subst}
 use Rattle.vx_trees.specs.Walks.{levels}
 use Rattle.vx_trees.proofs.Counting.{levels-more}
-use Rattle.vx_serde.specs.Wire.{Wire}
+use Rattle.vx_wire_tree.specs.Wire.{Wire}
 use Rattle.vx_serde.proofs.limits.+has_levels_within.Goals as goal
 
 pub loop-child-preserved : goal.loop-child-preserved

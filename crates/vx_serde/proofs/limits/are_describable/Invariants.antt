@@ -1,6 +1,6 @@
 use Rattle.std.proofs.Common.{ℕ, ◌<◌, get_or}
 use Rattle.vx_buffer.specs.Buffer.{Buffer}
-use Rattle.vx_serde.specs.Describable.{IsDescribable}
+use Rattle.vx_wire_tree.specs.Limits.{IsDescribable}
 use Rattle.vx_serde.proofs.limits.are_describable.Given as goal
 
 abbrev pub invariant-loop-buffer : goal.invariant-loop-buffer

@@ -6,7 +6,7 @@ use Rattle.vx_flat.specs.IsOf.{IsOfKind}
 use Rattle.vx_flat.specs.declared.schema.FieldKind.TheVariants.{Tables}
 use Rattle.vx_serde.specs.ArraySchema.{array_schema}
 use Rattle.vx_serde.specs.Message.{nodes_of, nodes_in}
-use Rattle.vx_serde.proofs.PartViews.{view-Tables}
+use Rattle.vx_flat.proofs.Views.{view-Tables}
 use Rattle.vx_serde.proofs.message.rows_of.Goals as goal
 
 pub returns-in-Tables-clause-nodes : goal.returns-in-Tables-clause-nodes

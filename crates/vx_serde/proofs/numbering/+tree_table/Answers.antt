@@ -3,9 +3,9 @@ use Rattle.std.proofs.lemmas.Result.{err_from_is_err_and}
 use Rattle.vx_trees.specs.Rose.{label, roses_of}
 use Rattle.vx_trees.proofs.Roses.{roses}
 use Rattle.vx_serde.specs.MessageValue.{rows_value}
-use Rattle.vx_serde.specs.Numbered.{present, buffers_at_node, buffers_in, encoding_index, numbered_below}
+use Rattle.vx_wire_tree.specs.Wire.{present, buffers_at_node, buffers_in, Wire}
+use Rattle.vx_serde.specs.Numbered.{encoding_index, numbered_below}
 use Rattle.vx_serde.specs.TableViews.{tables_of}
-use Rattle.vx_serde.specs.Wire.{Wire}
 use Rattle.vx_serde.proofs.Growing.{kept-grown}
 use Rattle.vx_serde.proofs.WalkedNodes.{room-child, count-next}
 use Rattle.vx_serde.proofs.GrownNodes.{kept-own, kept-child, kept-front, ungrown-child, grown-child}

@@ -1,11 +1,12 @@
 use Rattle.std.proofs.Common.{◌≡◌, ◌+◌, ◌++◌, ℕ, List, Some, length, take}
 use Rattle.vx_flat.specs.IsOf.{AreRowsOf}
-use Rattle.vx_registry.specs.Context.{grown_by}
+use Rattle.vx_wire_tree.specs.Context.{grown_by}
 use Rattle.vx_trees.specs.Rose.{roses_of}
 use Rattle.vx_trees.specs.Walks.{nodes, gathered_below}
 use Rattle.vx_serde.specs.ArraySchema.{array_schema}
 use Rattle.vx_serde.specs.MessageValue.{rows_value}
-use Rattle.vx_serde.specs.Numbered.{id_in, buffers_at_node, numbered_below}
+use Rattle.vx_wire_tree.specs.Wire.{id_in, buffers_at_node}
+use Rattle.vx_serde.specs.Numbered.{numbered_below}
 use Rattle.vx_serde.specs.TableViews.{tables_of}
 use Rattle.vx_serde.proofs.numbering.+tree_table.Given as goal
 

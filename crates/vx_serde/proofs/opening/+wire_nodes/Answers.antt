@@ -18,7 +18,7 @@ wire_node-wire_rows-requires t c =
 pub wire_node-returns-clause-ok : goal.wire_node-returns-clause-ok
 wire_node-returns-clause-ok t c =
     let parts = node_parts c.args.fields.now c.encoding-item.result c.metadata-item.result c.children-item.result c.named-item.result c.in-len4-up.len_at_least c.encoding-item.is c.metadata-item.is c.children-item.is c.named-item.is c.requires in
-    let metadata = c.in_ok-metadata.ensures.ok ∙ c.bytes_of.ensures in
+    let metadata = c.in-Ok.ensures.ok ∙ c.bytes_of.ensures in
     let buffers = c.in_ok-named.ensures.ok ∙ ap (λ is. map (λ i. slice_get c.args.buffers.now i) is) (c.as_slice.ensures.value ∙ c.in_ok-indices.ensures ∙ ap (λ bs. indices_of bs) c.bytes_of-2.ensures) in
     let children = c.in_ok-children.ensures.ok ∙ ap (λ ts. wires_of c.args.ids.now c.args.buffers.now ts) c.rows_of.ensures.nodes in
     c.new.ensures ∙ (λ i. node (record { id = c.in_ok-id.ensures.ok i; metadata = metadata i; buffers = buffers i }) (children i))

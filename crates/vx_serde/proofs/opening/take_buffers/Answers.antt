@@ -1,6 +1,6 @@
 use Rattle.std.proofs.Common.{arith, ◌≡◌, ◌≤◌, get_or, subst, ℕ}
 use Rattle.vx_serde.specs.Message.{Descriptor}
-use Rattle.vx_serde.specs.Opening.{IsUndescribed}
+use Rattle.vx_serde.specs.ReadingSteps.{RefusesDescriptor}
 use Rattle.vx_serde.proofs.Descriptions.{end_of-take, buffers_at-take, at_place, one_more}
 use Rattle.vx_serde.proofs.Refusing.{refused_at}
 use Rattle.vx_serde.proofs.opening.take_buffers.Goals as goal
@@ -14,7 +14,7 @@ unfolding nothing
 returns-in-Err-clause-cause c =
     let i = c.loop-descriptor.descriptor-index in
     let d : Descriptor = get_or c.args.descriptors.now i nothing in
-    let P : ℕ → Type 0 = λ n. IsUndescribed c.in-Err.e d c.loop-descriptor.place n in
+    let P : ℕ → Type 0 = λ n. RefusesDescriptor c.in-Err.e d c.loop-descriptor.place n in
     refused_at c.in-Err.e c.args.segment.now.bytes c.args.descriptors.now i d c.loop-descriptor.place c.loop-descriptor-test.true (at_place c.args.descriptors.now i nothing d c.loop-descriptor-test.true)
     c.loop-descriptor.invariant.0 (subst P c.len.ensures c.in-Err.ensures.cause)
 

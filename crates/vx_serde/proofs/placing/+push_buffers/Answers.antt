@@ -1,6 +1,6 @@
 use Rattle.std.proofs.Common.{◌++◌, ◌∙◌, ap}
 use Rattle.vx_trees.proofs.Gathering.{gathered-step}
-use Rattle.vx_serde.specs.Numbered.{buffers_at_node, buffers_in}
+use Rattle.vx_wire_tree.specs.Wire.{buffers_at_node, buffers_in}
 use Rattle.vx_serde.proofs.placing.+push_buffers.Goals as goal
 
 pub loop-child-preserved : goal.loop-child-preserved

@@ -1,7 +1,7 @@
 use Rattle.std.proofs.Common.{◌≡◌, ◌++◌, take}
 use Rattle.vx_trees.specs.Rose.{roses_of}
 use Rattle.vx_trees.specs.Walks.{nodes, gathered_below}
-use Rattle.vx_serde.specs.Numbered.{buffers_at_node}
+use Rattle.vx_wire_tree.specs.Wire.{buffers_at_node}
 use Rattle.vx_serde.proofs.placing.+push_buffers.Given as goal
 
 abbrev pub decreases-push_buffers : goal.decreases-push_buffers

@@ -1,5 +1,5 @@
 use Rattle.std.proofs.Common.{◌≡◌, ◌++◌, drop}
-use Rattle.vx_serde.specs.Numbered.{present}
+use Rattle.vx_wire_tree.specs.Wire.{present}
 use Rattle.vx_serde.proofs.placing.push_present.Given as goal
 
 abbrev pub invariant-loop-buffer : goal.invariant-loop-buffer

@@ -1,79 +1,93 @@
+use Rattle.vx_type_wire.specs.Session.{ext_meaning}
+use Rattle.vx_encodings.specs.Messages.{codec}
+use Rattle.vx_registry.specs.Meaning.{session_meaning}
+use Rattle.vx_registry.proofs.LawsSessions.{registry_shipped, registry_lawful, registry_messages}
 use Rattle.vx_serde.specs.Request.{request}
 use Rattle.vx_serde.specs.Recoding.{product}
 use Rattle.vx_serde.proofs.NeverCaused.{memory_alone}
 use Rattle.vx_serde.proofs.Recodings.{spells, recoded, faithful, left-still, left-written, caused_by_blob, caused_by_tree, caused_by_writing}
+use Rattle.vx_serde.proofs.WrittenAgain.{read_messages}
 use Rattle.vx_serde.proofs.recoding.recode.Goals as goal
 
 -- ---- the blob is not opened
 
 pub returns-in-Err-clause-shipped : goal.returns-in-Err-clause-shipped
 returns-in-Err-clause-shipped g c = λ shipped.
-    let asked = request c.args.blob c.args.dtype.now c.args.len c.args.read_ids.now c.args.ctx.now c.args.session.now.arrays c.args.options.now in
-    (tt, λ can. memory_alone asked c.in-Err.e can (caused_by_blob asked c.in-Err.e c.in-Err.ensures.cause))
+    let x = ext_meaning (λ b. (goal.ExtPlugin-dyn g (b.vtable, b.value)).accepted b.value) c.args.session.now.ext in
+    let asked = request c.args.blob c.args.dtype.now c.args.len c.args.read_ids.now c.args.ctx.now (session_meaning (λ b. (goal.ExtPlugin-dyn g (b.vtable, b.value)).accepted b.value) c.args.session.now) c.args.options.now in
+    (tt, λ can. memory_alone asked (registry_shipped c.args.session.now.arrays x) (registry_lawful c.args.session.now.arrays x) c.in-Err.e can (caused_by_blob asked c.in-Err.e c.in-Err.ensures.cause))
 
 pub returns-in-Err-clause-left : goal.returns-in-Err-clause-left
-returns-in-Err-clause-left g c = left-still (request c.args.blob c.args.dtype.now c.args.len c.args.read_ids.now c.args.ctx.now c.args.session.now.arrays c.args.options.now)
+returns-in-Err-clause-left g c = left-still (request c.args.blob c.args.dtype.now c.args.len c.args.read_ids.now c.args.ctx.now (session_meaning (λ b. (goal.ExtPlugin-dyn g (b.vtable, b.value)).accepted b.value) c.args.session.now) c.args.options.now)
 
 pub returns-in-Err-clause-cause : goal.returns-in-Err-clause-cause
 returns-in-Err-clause-cause g c =
-    let asked = request c.args.blob c.args.dtype.now c.args.len c.args.read_ids.now c.args.ctx.now c.args.session.now.arrays c.args.options.now in
+    let asked = request c.args.blob c.args.dtype.now c.args.len c.args.read_ids.now c.args.ctx.now (session_meaning (λ b. (goal.ExtPlugin-dyn g (b.vtable, b.value)).accepted b.value) c.args.session.now) c.args.options.now in
     caused_by_blob asked c.in-Err.e c.in-Err.ensures.cause
 
 -- ---- its wire tree tells no array
 
 pub returns-in-Err-decode-clause-shipped : goal.returns-in-Err-decode-clause-shipped
 returns-in-Err-decode-clause-shipped g c = λ shipped.
-    let asked = request c.args.blob c.args.dtype.now c.args.len c.args.read_ids.now c.args.ctx.now c.args.session.now.arrays c.args.options.now in
-    (tt, λ can. memory_alone asked c.in-Err-decode.e can (caused_by_tree asked c.in-Err-decode.e c.in-Ok.node c.in-Ok.ensures.opened.carried c.in-Err-decode.ensures.cause))
+    let x = ext_meaning (λ b. (goal.ExtPlugin-dyn g (b.vtable, b.value)).accepted b.value) c.args.session.now.ext in
+    let asked = request c.args.blob c.args.dtype.now c.args.len c.args.read_ids.now c.args.ctx.now (session_meaning (λ b. (goal.ExtPlugin-dyn g (b.vtable, b.value)).accepted b.value) c.args.session.now) c.args.options.now in
+    (tt, λ can. memory_alone asked (registry_shipped c.args.session.now.arrays x) (registry_lawful c.args.session.now.arrays x) c.in-Err-decode.e can (caused_by_tree asked c.in-Err-decode.e c.in-Ok.node c.in-Ok.ensures.opened.carried c.in-Err-decode.ensures.cause))
 
 pub returns-in-Err-decode-clause-left : goal.returns-in-Err-decode-clause-left
-returns-in-Err-decode-clause-left g c = left-still (request c.args.blob c.args.dtype.now c.args.len c.args.read_ids.now c.args.ctx.now c.args.session.now.arrays c.args.options.now)
+returns-in-Err-decode-clause-left g c = left-still (request c.args.blob c.args.dtype.now c.args.len c.args.read_ids.now c.args.ctx.now (session_meaning (λ b. (goal.ExtPlugin-dyn g (b.vtable, b.value)).accepted b.value) c.args.session.now) c.args.options.now)
 
 pub returns-in-Err-decode-clause-cause : goal.returns-in-Err-decode-clause-cause
 returns-in-Err-decode-clause-cause g c =
-    let asked = request c.args.blob c.args.dtype.now c.args.len c.args.read_ids.now c.args.ctx.now c.args.session.now.arrays c.args.options.now in
+    let asked = request c.args.blob c.args.dtype.now c.args.len c.args.read_ids.now c.args.ctx.now (session_meaning (λ b. (goal.ExtPlugin-dyn g (b.vtable, b.value)).accepted b.value) c.args.session.now) c.args.options.now in
     caused_by_tree asked c.in-Err-decode.e c.in-Ok.node c.in-Ok.ensures.opened.carried c.in-Err-decode.ensures.cause
 
 -- ---- the array is not written
 
 pub returns-in-Err-wire_node-clause-left : goal.returns-in-Err-wire_node-clause-left
-returns-in-Err-wire_node-clause-left g c = left-still (request c.args.blob c.args.dtype.now c.args.len c.args.read_ids.now c.args.ctx.now c.args.session.now.arrays c.args.options.now)
+returns-in-Err-wire_node-clause-left g c = left-still (request c.args.blob c.args.dtype.now c.args.len c.args.read_ids.now c.args.ctx.now (session_meaning (λ b. (goal.ExtPlugin-dyn g (b.vtable, b.value)).accepted b.value) c.args.session.now) c.args.options.now)
 
 pub returns-in-Err-write_wire-clause-cause : goal.returns-in-Err-write_wire-clause-cause
 returns-in-Err-write_wire-clause-cause g c =
-    let asked = request c.args.blob c.args.dtype.now c.args.len c.args.read_ids.now c.args.ctx.now c.args.session.now.arrays c.args.options.now in
-    let spelled = spells asked c.in-Ok.node c.in-Ok-decode.array c.in-Ok.ensures.opened c.in-Ok-decode.ensures.matches c.in-Ok-decode.ensures.sound c.in-Ok-decode.ensures.dtype c.in-Ok-decode.ensures.len in
+    let x = ext_meaning (λ b. (goal.ExtPlugin-dyn g (b.vtable, b.value)).accepted b.value) c.args.session.now.ext in
+    let asked = request c.args.blob c.args.dtype.now c.args.len c.args.read_ids.now c.args.ctx.now (session_meaning (λ b. (goal.ExtPlugin-dyn g (b.vtable, b.value)).accepted b.value) c.args.session.now) c.args.options.now in
+    let spelled = spells asked (registry_shipped c.args.session.now.arrays x) c.in-Ok.node c.in-Ok-decode.array c.in-Ok.ensures.opened c.in-Ok-decode.ensures.told in
     caused_by_writing asked c.in-Err-write_wire.e c.in-Ok-wire_node.node c.in-Ok-decode.array (c.in-Ok-wire_node.ensures.ok asked.session) spelled c.in-Err-write_wire.ensures.refused
 
 pub returns-in-Err-write_wire-clause-shipped : goal.returns-in-Err-write_wire-clause-shipped
 returns-in-Err-write_wire-clause-shipped g c = λ shipped.
-    let asked = request c.args.blob c.args.dtype.now c.args.len c.args.read_ids.now c.args.ctx.now c.args.session.now.arrays c.args.options.now in
-    (tt, λ can. memory_alone asked c.in-Err-write_wire.e can (returns-in-Err-write_wire-clause-cause g c))
+    let x = ext_meaning (λ b. (goal.ExtPlugin-dyn g (b.vtable, b.value)).accepted b.value) c.args.session.now.ext in
+    let asked = request c.args.blob c.args.dtype.now c.args.len c.args.read_ids.now c.args.ctx.now (session_meaning (λ b. (goal.ExtPlugin-dyn g (b.vtable, b.value)).accepted b.value) c.args.session.now) c.args.options.now in
+    (tt, λ can. memory_alone asked (registry_shipped c.args.session.now.arrays x) (registry_lawful c.args.session.now.arrays x) c.in-Err-write_wire.e can (returns-in-Err-write_wire-clause-cause g c))
 
 pub returns-in-Err-write_wire-clause-left : goal.returns-in-Err-write_wire-clause-left
 returns-in-Err-write_wire-clause-left g c =
-    let asked = request c.args.blob c.args.dtype.now c.args.len c.args.read_ids.now c.args.ctx.now c.args.session.now.arrays c.args.options.now in
-    let spelled = spells asked c.in-Ok.node c.in-Ok-decode.array c.in-Ok.ensures.opened c.in-Ok-decode.ensures.matches c.in-Ok-decode.ensures.sound c.in-Ok-decode.ensures.dtype c.in-Ok-decode.ensures.len in
-    left-written asked c.in-Ok-decode.array c.in-Ok-wire_node.node c.write_wire.new.ctx (c.in-Ok-wire_node.ensures.ok asked.session) spelled c.write_wire.ensures.kept
+    let x = ext_meaning (λ b. (goal.ExtPlugin-dyn g (b.vtable, b.value)).accepted b.value) c.args.session.now.ext in
+    let asked = request c.args.blob c.args.dtype.now c.args.len c.args.read_ids.now c.args.ctx.now (session_meaning (λ b. (goal.ExtPlugin-dyn g (b.vtable, b.value)).accepted b.value) c.args.session.now) c.args.options.now in
+    let spelled = spells asked (registry_shipped c.args.session.now.arrays x) c.in-Ok.node c.in-Ok-decode.array c.in-Ok.ensures.opened c.in-Ok-decode.ensures.told in
+    left-written asked (registry_shipped c.args.session.now.arrays x) (registry_lawful c.args.session.now.arrays x) c.in-Ok-decode.array c.in-Ok-wire_node.node c.write_wire.new.ctx (c.in-Ok-wire_node.ensures.ok asked.session) spelled c.write_wire.ensures.kept
 
 -- ---- all is done
 
 pub returns-clause-made : goal.returns-clause-made
 returns-clause-made g c =
-    let asked = request c.args.blob c.args.dtype.now c.args.len c.args.read_ids.now c.args.ctx.now c.args.session.now.arrays c.args.options.now in
+    let x = ext_meaning (λ b. (goal.ExtPlugin-dyn g (b.vtable, b.value)).accepted b.value) c.args.session.now.ext in
+    let asked = request c.args.blob c.args.dtype.now c.args.len c.args.read_ids.now c.args.ctx.now (session_meaning (λ b. (goal.ExtPlugin-dyn g (b.vtable, b.value)).accepted b.value) c.args.session.now) c.args.options.now in
     let made = product (record { array = c.in-Ok-decode.array; buffers = c.in-Ok-write_wire.buffers }) c.write_wire.new.ctx in
     recoded asked made c.in-Ok-wire_node.node (c.in-Ok-wire_node.ensures.ok asked.session) c.in-Ok-write_wire.ensures.grown c.in-Ok.node c.in-Ok.ensures.opened
+    (read_messages codec asked.session (registry_messages c.args.session.now.arrays x) c.in-Ok.node c.in-Ok-decode.array c.in-Ok-decode.ensures.told.matched)
     c.in-Ok-write_wire.ensures.buffers c.in-Ok-write_wire.ensures.writable
 
 pub returns-clause-shipped : goal.returns-clause-shipped
 returns-clause-shipped g c = λ shipped.
-    let asked = request c.args.blob c.args.dtype.now c.args.len c.args.read_ids.now c.args.ctx.now c.args.session.now.arrays c.args.options.now in
+    let x = ext_meaning (λ b. (goal.ExtPlugin-dyn g (b.vtable, b.value)).accepted b.value) c.args.session.now.ext in
+    let asked = request c.args.blob c.args.dtype.now c.args.len c.args.read_ids.now c.args.ctx.now (session_meaning (λ b. (goal.ExtPlugin-dyn g (b.vtable, b.value)).accepted b.value) c.args.session.now) c.args.options.now in
     let made = product (record { array = c.in-Ok-decode.array; buffers = c.in-Ok-write_wire.buffers }) c.write_wire.new.ctx in
-    let spelled = spells asked c.in-Ok.node c.in-Ok-decode.array c.in-Ok.ensures.opened c.in-Ok-decode.ensures.matches c.in-Ok-decode.ensures.sound c.in-Ok-decode.ensures.dtype c.in-Ok-decode.ensures.len in
-    (faithful asked made c.in-Ok-decode.ensures.paired spelled (returns-clause-made g c), λ can. tt)
+    let spelled = spells asked (registry_shipped c.args.session.now.arrays x) c.in-Ok.node c.in-Ok-decode.array c.in-Ok.ensures.opened c.in-Ok-decode.ensures.told in
+    (faithful asked made (registry_shipped c.args.session.now.arrays x) (registry_lawful c.args.session.now.arrays x) (c.in-Ok-decode.ensures.paired x) spelled (returns-clause-made g c), λ can. tt)
 
 pub returns-clause-left : goal.returns-clause-left
 returns-clause-left g c =
-    let asked = request c.args.blob c.args.dtype.now c.args.len c.args.read_ids.now c.args.ctx.now c.args.session.now.arrays c.args.options.now in
-    let spelled = spells asked c.in-Ok.node c.in-Ok-decode.array c.in-Ok.ensures.opened c.in-Ok-decode.ensures.matches c.in-Ok-decode.ensures.sound c.in-Ok-decode.ensures.dtype c.in-Ok-decode.ensures.len in
-    left-written asked c.in-Ok-decode.array c.in-Ok-wire_node.node c.write_wire.new.ctx (c.in-Ok-wire_node.ensures.ok asked.session) spelled c.write_wire.ensures.kept
+    let x = ext_meaning (λ b. (goal.ExtPlugin-dyn g (b.vtable, b.value)).accepted b.value) c.args.session.now.ext in
+    let asked = request c.args.blob c.args.dtype.now c.args.len c.args.read_ids.now c.args.ctx.now (session_meaning (λ b. (goal.ExtPlugin-dyn g (b.vtable, b.value)).accepted b.value) c.args.session.now) c.args.options.now in
+    let spelled = spells asked (registry_shipped c.args.session.now.arrays x) c.in-Ok.node c.in-Ok-decode.array c.in-Ok.ensures.opened c.in-Ok-decode.ensures.told in
+    left-written asked (registry_shipped c.args.session.now.arrays x) (registry_lawful c.args.session.now.arrays x) c.in-Ok-decode.array c.in-Ok-wire_node.node c.write_wire.new.ctx (c.in-Ok-wire_node.ensures.ok asked.session) spelled c.write_wire.ensures.kept

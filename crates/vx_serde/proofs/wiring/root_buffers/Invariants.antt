@@ -1,6 +1,6 @@
 use Rattle.std.proofs.Common.{◌≡◌, map, take, Some}
 use Rattle.vx_trees.specs.Rose.{label}
-use Rattle.vx_arrays.specs.Tree.{buffers_of}
+use Rattle.vx_array_tree.specs.Table.{buffers_of}
 use Rattle.vx_serde.proofs.wiring.root_buffers.Given as goal
 
 abbrev pub invariant-loop-i : goal.invariant-loop-i

@@ -1,5 +1,5 @@
-use Rattle.std.proofs.Common.{◌≡◌, ◌<◌, ◌^◌, ℕ, List, length, false, sym, ◌∙◌, subst, rules}
-use Rattle.vx_flat.specs.Layout.{layout}
+use Rattle.std.proofs.Common.{◌≡◌, ◌<◌, ◌^◌, ℕ, List, length, sym, ◌∙◌, subst, rules}
+use Rattle.vx_flat.specs.Layout.{written_layout}
 use Rattle.vx_flat.specs.Shows.{Shows}
 use Rattle.vx_flat.specs.View.{value as value_of}
 use Rattle.vx_serde.specs.ArraySchema.{array_schema}
@@ -9,7 +9,7 @@ use Rattle.vx_serde.proofs.writing.message_bytes.Goals as goal
 pub unreachable-requires-in-Err-BadTable-read_value : goal.unreachable-requires-in-Err-BadTable-read_value
 unreachable-requires-in-Err-BadTable-read_value c =
     let v = value_of c.args.value.now in
-    let same : c.as_slice.result.now ≡ layout false array_schema v = c.as_slice.ensures ∙ c.in-Ok.ensures.written in
+    let same : c.as_slice.result.now ≡ written_layout array_schema v = c.as_slice.ensures ∙ c.in-Ok.ensures.written in
     let P : List ℕ → Type 0 = λ m. Shows array_schema m v in
     let Q : List ℕ → Type 0 = λ m. length m < 2 ^ 31 in
     c.in-Err-BadTable-read_value.ensures.bad (search rules) v

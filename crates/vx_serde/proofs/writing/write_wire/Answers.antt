@@ -1,11 +1,11 @@
-use Rattle.std.proofs.Common.{arith, length, false, ◌∙◌, ap}
+use Rattle.std.proofs.Common.{arith, length, ◌∙◌, ap}
 use Rattle.std.proofs.lemmas.Result.{err_from_is_err_and}
-use Rattle.vx_flat.specs.Layout.{layout}
+use Rattle.vx_flat.specs.Layout.{written_layout}
 use Rattle.vx_flat.specs.View.{views, value as value_of}
 use Rattle.vx_serde.specs.ArraySchema.{array_schema}
-use Rattle.vx_serde.specs.Numbered.{buffers_in}
+use Rattle.vx_wire_tree.specs.Wire.{buffers_in}
 use Rattle.vx_serde.specs.Placing.{descriptors_from}
-use Rattle.vx_serde.specs.WrittenBuffers.{joined}
+use Rattle.vx_buffer.specs.Joined.{joined}
 use Rattle.vx_serde.proofs.WholeBlob.{message-is, message-of_kind, unplaced-unwritten, heavy-unwritten, late-unwritten, writable-is, buffers-are, joined-written}
 use Rattle.vx_serde.proofs.writing.write_wire.Goals as goal
 
@@ -25,7 +25,7 @@ returns-in_err-message-clause-refused c =
     let m = message-is c.tree_table.new.ctx.ids c.args.options.now c.args.node.now (views c.in_ok-root.root.items) (value_of c.in_ok-value.value) c.in_ok-buffers.placed.descriptors.items
     c.in_ok-value.ensures c.in_ok-root.ensures.value c.in_ok-buffers.ensures.placed.descriptors_are in
     rw (p.1, p.2)
-    (heavy-unwritten c.args.ctx.now c.tree_table.new.ctx c.args.options.now c.args.node.now (layout false array_schema (value_of c.in_ok-value.value)) c.in_err-message.field-0.0
+    (heavy-unwritten c.args.ctx.now c.tree_table.new.ctx c.args.options.now c.args.node.now (written_layout array_schema (value_of c.in_ok-value.value)) c.in_err-message.field-0.0
     c.in_ok-root.ensures.grown m c.in_err-message.ensures.refused)
 
 pub returns-then-not-has_end-clause-refused : goal.returns-then-not-has_end-clause-refused
@@ -51,6 +51,6 @@ pub returns-clause-writable : goal.returns-clause-writable
 returns-clause-writable c =
     let m = message-is c.tree_table.new.ctx.ids c.args.options.now c.args.node.now (views c.in_ok-root.root.items) (value_of c.in_ok-value.value) c.in_ok-buffers.placed.descriptors.items
     c.in_ok-value.ensures c.in_ok-root.ensures.value c.in_ok-buffers.ensures.placed.descriptors_are in
-    writable-is c.tree_table.new.ctx.ids c.args.options.now c.args.node.now c.in_ok-buffers.placed.end c.in_ok-buffers.placed.descriptors.items (layout false array_schema (value_of c.in_ok-value.value))
+    writable-is c.tree_table.new.ctx.ids c.args.options.now c.args.node.now c.in_ok-buffers.placed.end c.in_ok-buffers.placed.descriptors.items (written_layout array_schema (value_of c.in_ok-value.value))
     c.in_ok-buffers.ensures.placed m c.in_ok-message.ensures.short c.in_ok-message.ensures.light
     (omega (arith, c.has_end.ensures.within c.if-not-has_end.false, c.pad_at-padding.ensures.value, c.len.ensures, ap (λ bs. length bs) c.in_ok-message.ensures.written))

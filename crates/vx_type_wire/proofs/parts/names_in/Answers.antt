@@ -1,4 +1,4 @@
-use Rattle.std.proofs.Common.{◌≡◌, ◌∙◌, ◌+◌, ◌++◌, ◌∷◌, [], drop, ap, sym, append_assoc}
+use Rattle.std.proofs.Common.{◌∙◌, ◌+◌, ◌++◌, ◌∷◌, [], drop, ap, sym, append_assoc}
 use Rattle.vx_flat.specs.Seen.{vector_seen}
 use Rattle.vx_flat.proofs.LawsOfViews.{string-at}
 use Rattle.vx_flat.proofs.ReadingViews.{strings_in}

@@ -1,6 +1,6 @@
 use Rattle.std.proofs.Common.{◌≡◌, ◌++◌, string_bytes}
 use Rattle.vx_trees.specs.Rose.{label}
-use Rattle.vx_arrays.specs.Tree.{buffers_of}
+use Rattle.vx_array_tree.specs.Table.{buffers_of}
 use Rattle.vxcat_core.specs.Listing.{lengths_text}
 use Rattle.vxcat_core.proofs.Listings.{lengths_from}
 use Rattle.vxcat_core.proofs.listing.lengths_text.Given as goal

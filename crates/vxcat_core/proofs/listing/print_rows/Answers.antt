@@ -10,7 +10,7 @@ returns-in_err-write_text-clause-prefix g c =
     let next = row_lines-next c.args.array.now c.loop-i.i c.min-shown.result c.loop-i-test.true in
     let shown = next ∙ ap (λ (l : List ℕ). l ++ row_lines c.args.array.now (c.loop-i.i + 1) (c.min-shown.result - (c.loop-i.i + 1))) (sym line) in
     let all = up_to_err _ _ _ _ _ _ _ c.loop-i.invariant.written shown c.write_text.ensures.prefix in
-    rw (sym c.len.ensures, sym c.min-shown.ensures) all
+    rw (sym c.len.ensures.len, sym c.min-shown.ensures) all
 
 pub loop-i-preserved : goal.loop-i-preserved
 loop-i-preserved g c =

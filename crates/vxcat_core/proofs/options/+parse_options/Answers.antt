@@ -1,7 +1,6 @@
-use Rattle.std.proofs.Common.{◌≡◌, ℕ, ◌==◌, false, List, [], ◌∷◌, ◌++◌, Option, Some, None, IfSome, IfNone, length, sym, ap, subst, ◌∙◌}
-use Rattle.vxcat_core.specs.Options.{choice_words, IsInRange}
+use Rattle.std.proofs.Common.{◌≡◌, ℕ, ◌==◌, false, List, [], ◌∷◌, Option, Some, None, IfSome, IfNone, length, sym, ◌∙◌}
 use Rattle.vxcat_core.specs.declared.options.Options.{Options}
-use Rattle.vxcat_core.specs.GivenOptions.{Gives, with_choice}
+use Rattle.vxcat_core.specs.GivenOptions.{Gives}
 use Rattle.vxcat_core.proofs.OptionFronts.{not_begun, given_twice, one_more, rest_not_given}
 use Rattle.vxcat_core.proofs.options.+parse_options.Goals as goal
 

@@ -1,5 +1,4 @@
-use Rattle.std.proofs.Common.{rules, ◌≡◌, ℕ, ◌<◌, ◌^◌, List, ◌∷◌, ◌++◌, codes, decimal, sym, ◌∙◌, arith}
-use Rattle.vxcat_core.specs.Options.{choice_words}
+use Rattle.std.proofs.Common.{rules, ◌≡◌, ◌∷◌, codes, decimal, sym, ◌∙◌, arith}
 use Rattle.vxcat_core.proofs.OptionFronts.{too_many_rows}
 use Rattle.vxcat_core.proofs.options.next_choice.Goals as goal
 

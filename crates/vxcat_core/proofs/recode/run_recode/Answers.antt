@@ -3,7 +3,7 @@ use Rattle.std.specs.Io.KnownBytes.{Appends}
 use Rattle.vx_buffer.specs.Joined.{joined}
 use Rattle.vxcat_core.specs.Listing.{listing}
 use Rattle.vxcat_core.specs.Written.{AppendsPrefix}
-use Rattle.vx_arrays.specs.Tree.{Tree}
+use Rattle.vx_array_tree.specs.Tree.{Tree}
 use Rattle.vxcat_core.specs.RecodeViews.{line_of, loaded_of}
 use Rattle.vxcat_core.proofs.Endings.{others_through, order_through, saved_of, work_of, load_ends, refused_ends, save_ends, print_ends}
 use Rattle.vxcat_core.proofs.recode.run_recode.Goals as goal

@@ -1,7 +1,6 @@
-use Rattle.std.proofs.Common.{refl, ◌≡◌, ◌∙◌}
+use Rattle.std.proofs.Common.{refl}
 use Rattle.std.proofs.lemmas.Result.{err_from_is_err_and}
-use Rattle.vx_flat.specs.Weight.{weight}
-use Rattle.vx_flat.proofs.Opening.{view_is, root_view_is, weight_counted, bad_is, complete_is}
+use Rattle.vx_flat.proofs.Opening.{root_view_is, weight_counted, bad_is, complete_is}
 use Rattle.vx_flat.proofs.viewing.opening.verify_within.Goals as goal
 
 pub returns-in_err-verify_table-clause-bad : goal.returns-in_err-verify_table-clause-bad

@@ -1,9 +1,7 @@
-use Rattle.std.proofs.Common.{◌≡◌, [], take}
-use Rattle.vx_registry.proofs.Shipped.{put_in}
+use Rattle.std.proofs.Common.{◌≡◌, take}
+use Rattle.vx_registry.proofs.Shipped.{tables_of}
 use Rattle.vx_registry.proofs.session.ArraySession.default.Given as goal
 
 -- the encodings so far are put in, each under its own identifier
 abbrev pub invariant-loop-encoding : goal.invariant-loop-encoding
-invariant-loop-encoding l =
-    (l.readers.entries ≡ put_in [] (take l.encoding-index l.encoding-items))
-    × (l.writers.entries ≡ put_in [] (take l.encoding-index l.encoding-items))
+invariant-loop-encoding l = l.session ≡ tables_of (take l.encoding-index l.encoding-items)

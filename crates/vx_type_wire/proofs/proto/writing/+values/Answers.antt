@@ -1,13 +1,11 @@
-use Rattle.std.proofs.Common.{◌≡◌, ◌++◌, ◌+◌, [], ◌∷◌, List, drop, arith, ap, sym, ◌∙◌}
-use Rattle.vx_trees.specs.Rose.{roses_of}
-use Rattle.vx_trees.specs.Walks.{nodes, nodes_of}
+use Rattle.std.proofs.Common.{◌++◌, ◌+◌, [], ◌∷◌, List, drop, arith, ap, sym, ◌∙◌}
 use Rattle.vx_proto.specs.Repeated.{members, as_message}
 use Rattle.vx_proto.proofs.LawsOfRepeated.{shows_message, member_written, all_written}
-use Rattle.vx_proto.specs.Value.{Value, Entry, Content, message, slots_of, value_view, entries_view}
+use Rattle.vx_proto.specs.Value.{Entry, Content, value_view, entries_view}
 use Rattle.vx_proto.proofs.LawsOfMessages.{where_ok}
 use Rattle.vx_proto.specs.declared.element.Element.TheViews.{Message}
 use Rattle.vx_types.specs.declared.dtype.DType.{DType}
-use Rattle.vx_types.specs.Seen.{typ, typs}
+use Rattle.vx_types.specs.Seen.{typ}
 use Rattle.vx_type_wire.specs.TypeMessage.{type_message, parts_below}
 use Rattle.vx_type_wire.proofs.Judging.{nodes_at}
 use Rattle.vx_type_wire.proofs.MessageSteps.{written_types, whole_message}

@@ -1,4 +1,4 @@
-use Rattle.std.proofs.Common.{◌++◌, ◌+◌, drop, ap, sym, ◌∙◌, List, ℕ}
+use Rattle.std.proofs.Common.{◌++◌, ◌+◌, drop, ap, ◌∙◌, List, ℕ}
 use Rattle.vx_proto.specs.Repeated.{members}
 use Rattle.vx_proto.proofs.LawsOfRepeated.{member_written, all_written}
 use Rattle.vx_proto.specs.Value.{octets, entries_view}

@@ -1,4 +1,4 @@
-use Rattle.std.proofs.Common.{rules, ◌≡◌, IfNone, None, Some, Option, codes, decimal, arith, subst, sym, ap, ◌∙◌, List, ℕ, ◌∷◌}
+use Rattle.std.proofs.Common.{rules, ◌≡◌, IfNone, None, Some, Option, codes, decimal, arith, subst, sym, ◌∙◌}
 use Rattle.vxcat_core.specs.Recode.{InvokesRecode, Recode}
 use Rattle.vxcat_core.specs.declared.options.Options.{Options}
 use Rattle.vxcat_core.specs.GivenOptions.{Gives}

@@ -1,0 +1,28 @@
+-- Arrays and rows as the plain trees and values that contracts see.
+use Rattle.std.specs.Prelude.{ℕ}
+use Rattle.vx_types.specs.Typ.{Typ}
+use Rattle.vx_types.specs.Value.{Value, lone}
+use Rattle.vx_types.specs.Value as V
+use Rattle.vx_array_tree.specs.Body as B
+use Rattle.vx_array_tree.specs.Tree.{Head}
+use Rattle.vx_arrays.specs.declared.body.Body.{Body}
+use Rattle.vx_arrays.specs.declared.body.Body.TheVariants.{Null, Primitive, Bool}
+use Rattle.vx_arrays.specs.declared.row.RowValue.{RowValue}
+use Rattle.vx_arrays.specs.declared.row.RowValue.TheVariants as R
+
+-- What a node's encoding holds, by its encoding.
+abbrev pub plain_body : Body → B.Body
+plain_body Null = B.null
+plain_body (Primitive x) = B.primitive x
+plain_body (Bool x) = B.bool x
+
+-- A node without its children, by its type, its rows and what its encoding holds.
+abbrev pub head_of : Typ → ℕ → Body → Head
+head_of d n b = record { dtype = d; len = n; body = plain_body b }
+
+-- The value of a row.
+abbrev pub plain_value : RowValue → Value
+plain_value R.Null = lone V.null
+plain_value R.Opaque = lone V.opaque
+plain_value (R.Bool b) = lone (V.bool b)
+plain_value (R.Primitive v) = lone (V.number v)

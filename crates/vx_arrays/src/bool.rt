@@ -1,0 +1,157 @@
+//! Arrays of flags.
+
+ghost use Rattle.std.specs.Prelude.{◌≡◌, ◌<◌, ◌≤◌, IfOk, IfErr, IsOkUnless, ◌+◌, ◌*◌, length};
+ghost use Rattle.vx_trees.specs.Rose.{roses_of};
+ghost use Rattle.vx_types.specs.Seen.{typ};
+ghost use Rattle.vx_array_tree.specs.Body as B;
+ghost use Rattle.vx_array_tree.specs.Encodings.Bools.{bit_at, rows as rows_of_flags};
+ghost use Rattle.vx_array_tree.specs.Rows.{flag_in};
+ghost use Rattle.vx_array_tree.specs.Sound.{IsSound, IsSoundNode};
+ghost use Rattle.vx_array_tree.specs.Tree.{Head, rows_below};
+ghost use Rattle.vx_arrays.specs.Bools.{bool_tree};
+ghost use Rattle.vx_arrays.specs.Plain.{plain_value};
+ghost use Rattle.vx_arrays.specs.Refused.{IsUnmade, IsRowRefused, IsOkOrMemory};
+
+use crate::array::Array;
+use crate::body::Body;
+use crate::error::ArrayError;
+use crate::row::{RowValue, within_budget};
+use crate::validity::{is_validity, only_validity, validity_at};
+use std::alloc::Global;
+use std::marker::Model;
+use vx_buffer::BufferHandle;
+use vx_types::{DType, Nullability};
+
+/// What a node of flags holds: bits, and how many of them stand before the first row's.
+#[derive(Drop)]
+pub struct BoolData {
+    bits: BufferHandle,
+    offset: usize,
+}
+
+impl Model for BoolData {
+    ghost use Rattle.vx_array_tree.specs.Encodings.Bools.{Data, data_code};
+
+    ghost Value = { Data };
+
+    ghost coded = { data_code };
+
+    ghost use Rattle.std.specs.Prelude.{◌<◌};
+
+    ghost view = { λ x. record { bits = x.bits; offset = x.offset } };
+
+    ghost invariant = { λ x. x.offset < 8 };
+}
+
+impl BoolData {
+    /// The buffer of the bits.
+    pub fn bits(&self) -> &BufferHandle
+        ensures { result.now ≡ self.now.bits }
+    {
+        &self.bits
+    }
+
+    /// How many bits stand before the first row's.
+    pub fn offset(&self) -> usize
+        ensures offset { result ≡ self.now.offset }
+        ensures below { result < 8 }
+    {
+        self.offset
+    }
+
+    // The same bits again. No byte is copied.
+    pub(crate) fn clone(&self, alloc: Global) -> Result<BoolData, ArrayError>
+        ensures ok { IfOk result (λ flags. flags ≡ self.now) }
+        ensures err { IsOkUnless result ArrayError.OutOfMemory }
+    {
+        Ok(BoolData {
+            bits: self.bits.clone(alloc)?,
+            offset: self.offset,
+        })
+    }
+
+    // The bit of a row, the lowest of a byte first.
+    pub(crate) fn flag_at(&self, index: usize) -> bool
+        requires { self.now.offset + index < 8 * length self.now.bits.bytes }
+        ensures { result ≡ bit_at self.now.bits.bytes (self.now.offset + index) }
+    {
+        let place = self.offset as u128 + index as u128;
+        let byte = self.bits.as_host().as_slice()[(place / 8) as usize];
+        (byte >> ((place % 8) as u32)) % 2 == 1
+    }
+
+    // A row's value in a node of this type, length and children, if there is a cell to spend for it.
+    pub(crate) fn value_at(
+        &self,
+        dtype: &DType,
+        len: usize,
+        children: &[Array],
+        index: usize,
+        budget: u64,
+    ) -> Result<RowValue, ArrayError>
+        requires sound { let head : Head = record { dtype = typ dtype.now; len = len; body = B.bool self.now } in
+            IsSoundNode head (roses_of children.now) }
+        requires inside { index < len }
+        ensures row { let rows = rows_of_flags len self.now (rows_below (roses_of children.now)) in
+            IfOk result (λ row. plain_value row ≡ rows.row index) }
+        ensures fits { let rows = rows_of_flags len self.now (rows_below (roses_of children.now)) in
+            IfOk result (λ _. rows.cells index ≤ budget) }
+        ensures err { let rows = rows_of_flags len self.now (rows_below (roses_of children.now)) in
+            IfErr result (λ e. IsRowRefused e rows index budget) }
+    {
+        match dtype {
+            DType::Bool(_) => {}
+            _ => unreachable!(),
+        }
+        match validity_at(children, len, index) {
+            None => within_budget(RowValue::Opaque, budget),
+            Some(false) => within_budget(RowValue::Null, budget),
+            Some(true) => {
+                let flag = self.flag_at(index);
+                within_budget(RowValue::Bool(flag), budget)
+            }
+        }
+    }
+}
+
+/// Arrays of flags, a bit each.
+pub struct BoolArray {}
+
+impl BoolArray {
+    /// The identifier of the encoding.
+    pub const ID: &'static str = "vortex.bool";
+
+    /// The array of `len` flags that the buffer holds from this bit on.
+    ///
+    /// `BadShape` where such an array is not sound.
+    pub fn try_new(
+        alloc: Global,
+        bits: BufferHandle,
+        offset: usize,
+        len: usize,
+        nullability: Nullability,
+        validity: Option<Array>,
+    ) -> Result<Array, ArrayError>
+        ensures ok { IfOk result (λ a. a ≡ bool_tree bits offset len nullability validity) }
+        ensures sound { IfOk result IsSound }
+        ensures err { IfErr result (λ e. IsUnmade e (bool_tree bits offset len nullability validity)) }
+        ensures complete { IsSound (bool_tree bits offset len nullability validity) → IsOkOrMemory result }
+    {
+        if offset >= 8 {
+            return Err(ArrayError::BadShape);
+        }
+        if offset as u128 + len as u128 > 8 * (bits.len() as u128) {
+            return Err(ArrayError::BadShape);
+        }
+        if !is_validity(nullability, len, &validity) {
+            return Err(ArrayError::BadShape);
+        }
+        let children = only_validity(alloc, validity)?;
+        Ok(Array::from_parts(
+            DType::Bool(nullability),
+            len,
+            Body::Bool(BoolData { bits, offset }),
+            children,
+        ))
+    }
+}

@@ -1,0 +1,79 @@
+//! The validity of a node: the child that says which rows are there.
+
+ghost use Rattle.std.specs.Prelude.{◌≡◌, ◌<◌, ◌↔◌, ℕ, [], Some, false, IfOk, IsTrue, IsOkUnless};
+ghost use Rattle.vx_trees.specs.Everywhere.{EverywhereBelow};
+ghost use Rattle.vx_trees.specs.Rose.{count, roses_of};
+ghost use Rattle.vx_array_tree.specs.Place.{before_validity};
+ghost use Rattle.vx_array_tree.specs.Rows.{flag_in, validity};
+ghost use Rattle.vx_array_tree.specs.Sound.{IsSound, IsSoundNode};
+ghost use Rattle.vx_array_tree.specs.Tree.{option_trees, places, row_at, rows_below};
+ghost use Rattle.vx_arrays.specs.Validity.{IsValidity, all_invalid};
+
+use crate::array::Array;
+use crate::bool::BoolArray;
+use crate::error::ArrayError;
+use std::alloc::Global;
+use vx_buffer::{BufferHandle, ByteBuffer};
+use vx_types::{DType, Nullability};
+
+// Whether a row is there, by the validity that a node of `len` rows may have as its only child; None where that
+// is not known. Where no validity stands, each row is there.
+pub(crate) fn validity_at(children: &[Array], len: usize, index: usize) -> Option<bool>
+    requires planned { before_validity [] len (count (roses_of children.now)) ≡ Some (places (roses_of children.now)) }
+    requires inside { index < len }
+    ensures { result ≡ validity (rows_below (roses_of children.now)) index }
+{
+    match children {
+        [] => Some(true),
+        [array, ..] => array.flag_at(index),
+    }
+}
+
+// Whether an array may be the validity of a node of this nullability and length.
+pub(crate) fn is_validity(nullability: Nullability, len: usize, validity: &Option<Array>) -> bool
+    ensures fits { IsTrue result ↔ IsValidity nullability len (option_trees validity.now) }
+    ensures sound { EverywhereBelow IsSoundNode (option_trees validity.now) }
+{
+    let array = match validity {
+        None => return true,
+        Some(array) => array,
+    };
+    if array.len() != len {
+        return false;
+    }
+    if nullability == Nullability::NonNullable {
+        return false;
+    }
+    match array.dtype() {
+        DType::Bool(Nullability::NonNullable) => true,
+        _ => false,
+    }
+}
+
+// The children of a node that has a validity and no others.
+pub(crate) fn only_validity(
+    alloc: Global,
+    validity: Option<Array>,
+) -> Result<Vec<Array>, ArrayError>
+    ensures children { IfOk result (λ children. roses_of children.items ≡ option_trees validity) }
+    ensures err { IsOkUnless result ArrayError.OutOfMemory }
+{
+    let mut children = Vec::new(alloc);
+    if let Some(array) = validity {
+        children.push(array)?;
+    }
+    Ok(children)
+}
+
+/// The validity of `len` rows of which none is there: a bit of 0 for each, in the fewest bytes.
+#[tactic(auto, using(crate::proofs::AllInvalid::all_invalid_steps))]
+pub fn validity_all_invalid(alloc: Global, len: usize) -> Result<Array, ArrayError>
+    ensures ok { IfOk result (λ a. a ≡ all_invalid len) }
+    ensures sound { IfOk result IsSound }
+    ensures none { IfOk result (λ a. (i : ℕ) → i < len → flag_in (row_at a i) ≡ Some false) }
+    ensures err { IsOkUnless result ArrayError.OutOfMemory }
+{
+    let bytes = vec![in alloc; 0; len.div_ceil(8)]?;
+    let bits = BufferHandle::new_host(ByteBuffer::from_vec(bytes)?);
+    BoolArray::try_new(alloc, bits, 0, len, Nullability::NonNullable, None)
+}

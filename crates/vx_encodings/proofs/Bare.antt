@@ -1,0 +1,37 @@
+-- Metadata of encodings that keep nothing: no byte, whatever the type and the readers.
+use Rattle.std.proofs.Common.{ℕ, ◌≡◌, List, [], refl}
+use Rattle.vx_types.specs.Known.{ExtMeaning}
+use Rattle.vx_types.specs.Typ.{Typ}
+use Rattle.vx_array_tree.specs.Encoding.{Encoding}
+use Rattle.vx_array_tree.specs.Encoding as E
+use Rattle.vx_array_tree.specs.Metadata.{Metadata}
+use Rattle.vx_array_tree.specs.Metadata as M
+use Rattle.vx_array_tree.specs.Table.{IsFair}
+use Rattle.vx_wire_tree.specs.Fields as F
+use Rattle.vx_wire_tree.specs.Reads.{IsMetadata}
+use Rattle.vx_encodings.specs.Messages.{ShowsNothing, codec}
+
+-- No byte shows that nothing is kept.
+nothing_shown : (bytes : List ℕ) → bytes ≡ [] → ShowsNothing bytes F.empty
+nothing_shown bytes e = record { bytes_are = e; fields_are = refl }
+
+pub null_metadata : (x : ExtMeaning) (d : Typ) (bytes : List ℕ) → bytes ≡ [] → IsMetadata codec x E.null d bytes M.empty
+null_metadata x d bytes e = record { fields = F.empty; shown = nothing_shown bytes e; meaning = refl; fair = tt; known = tt }
+
+pub primitive_metadata : (x : ExtMeaning) (d : Typ) (bytes : List ℕ) → bytes ≡ [] → IsMetadata codec x E.primitive d bytes M.empty
+primitive_metadata x d bytes e = record { fields = F.empty; shown = nothing_shown bytes e; meaning = refl; fair = tt; known = tt }
+
+fair_null : (v : Metadata) → IsFair E.null v → v ≡ M.empty
+fair_null M.empty f = refl
+fair_null _ f = absurd f
+
+fair_primitive : (v : Metadata) → IsFair E.primitive v → v ≡ M.empty
+fair_primitive M.empty f = refl
+fair_primitive _ f = absurd f
+
+-- What is read is that nothing is kept, of no byte.
+pub null_nothing : (x : ExtMeaning) (d : Typ) (bytes : List ℕ) (v : Metadata) → IsMetadata codec x E.null d bytes v → (bytes ≡ []) × (v ≡ M.empty)
+null_nothing x d bytes v m = (m.shown.bytes_are, fair_null v m.fair)
+
+pub primitive_nothing : (x : ExtMeaning) (d : Typ) (bytes : List ℕ) (v : Metadata) → IsMetadata codec x E.primitive d bytes v → (bytes ≡ []) × (v ≡ M.empty)
+primitive_nothing x d bytes v m = (m.shown.bytes_are, fair_primitive v m.fair)

@@ -1,0 +1,37 @@
+-- The bytes that are written of a root's metadata, by what the root holds.
+use Rattle.std.proofs.Common.{ℕ, ◌≡◌, List, [], Result, Ok, Err, IfOk, sym, ap, ◌∙◌}
+use Rattle.vx_trees.specs.Rose.{label, below}
+use Rattle.vx_array_tree.specs.Body as B
+use Rattle.vx_array_tree.specs.Encodings.Bools as Bools
+use Rattle.vx_array_tree.specs.Encodings.Primitives as Primitives
+use Rattle.vx_array_tree.specs.Sound.{metadata_in}
+use Rattle.vx_array_tree.specs.Table.{metadata_of}
+use Rattle.vx_array_tree.specs.Tree.{Tree, places}
+use Rattle.vx_wire_tree.specs.Fields.{told}
+use Rattle.vx_arrays.specs.Plain.{plain_body}
+use Rattle.vx_arrays.specs.declared.body.Body.{Body}
+use Rattle.vx_arrays.specs.declared.body.Body.TheVariants.{Null, Bool, Primitive}
+use Rattle.vx_encodings.specs.BoolMessage.{bool_bytes}
+use Rattle.vx_encodings.specs.Messages.{message_bytes}
+use Rattle.vx_encodings.specs.declared.error.EncodingError.{EncodingError}
+
+-- The bytes of a root that holds this.
+abbrev pub kept_bytes : Tree → B.Body → List ℕ
+kept_bytes t b = message_bytes (told (metadata_of b (places (below t))))
+
+root : (t : Tree) (b c : Body) → b ≡ c → plain_body b ≡ (label t).body → kept_bytes t (plain_body c) ≡ message_bytes (told (metadata_in (label t) (below t)))
+root t b c e p = ap (λ (x : Body). kept_bytes t (plain_body x)) (sym e) ∙ ap (λ (x : B.Body). kept_bytes t x) p
+
+pub nulls_kept : (t : Tree) (b : Body) (bytes : List ℕ) → b ≡ Null → plain_body b ≡ (label t).body → bytes ≡ [] → bytes ≡ message_bytes (told (metadata_in (label t) (below t)))
+nulls_kept t b bytes e p q = q ∙ root t b Null e p
+
+pub numbers_kept : (t : Tree) (b : Body) (x : Primitives.Data) (bytes : List ℕ) → b ≡ Primitive x → plain_body b ≡ (label t).body → bytes ≡ [] → bytes ≡ message_bytes (told (metadata_in (label t) (below t)))
+numbers_kept t b x bytes e p q = q ∙ root t b (Primitive x) e p
+
+pub flags_kept : (t : Tree) (b : Body) (x : Bools.Data) (r : Result (List ℕ) EncodingError) → b ≡ Bool x → plain_body b ≡ (label t).body → IfOk r (λ bytes. bytes ≡ bool_bytes x.offset)
+    → IfOk r (λ bytes. bytes ≡ message_bytes (told (metadata_in (label t) (below t))))
+flags_kept t b x (Ok bytes) e p q = q ∙ root t b (Bool x) e p
+flags_kept t b x (Err error) e p q = tt
+
+-- What the writing of metadata rests on.
+pub ruleset kept = (nulls_kept, numbers_kept, flags_kept)

@@ -1,0 +1,112 @@
+-- What holds of the messages of metadata, encoding by encoding.
+use Rattle.std.proofs.Common.{ℕ, zero, suc, ◌≡◌, List, [], ◌∷◌, Some, length, refl, sym, ap, ◌∙◌}
+use Rattle.vx_trees.specs.Rose.{node, end}
+use Rattle.vx_types.specs.Kind.{null, boolean, primitive}
+use Rattle.vx_types.specs.Typ.{Typ}
+use Rattle.vx_array_tree.specs.Encoding as E
+use Rattle.vx_array_tree.specs.Encodings.Nulls as Nulls
+use Rattle.vx_array_tree.specs.Encodings.Bools as Bools
+use Rattle.vx_array_tree.specs.Encodings.Primitives as Primitives
+use Rattle.vx_array_tree.specs.Metadata.{Metadata}
+use Rattle.vx_array_tree.specs.Metadata as M
+use Rattle.vx_array_tree.specs.Place.{Place, exactly, before_validity, validity_place}
+use Rattle.vx_array_tree.specs.Table.{IsFair, plan_of}
+use Rattle.vx_array_tree.proofs.Options.{mapped}
+use Rattle.vx_wire_tree.specs.Codec.{IsLawfulAt}
+use Rattle.vx_wire_tree.specs.Fields.{Fields, FitsMessage, told}
+use Rattle.vx_encodings.proofs.Offsets.{one_offset, offset_again}
+use Rattle.vx_encodings.specs.Messages.{Shows, ShowsNothing, message_bytes, codec}
+use Rattle.vx_encodings.specs.Plain.{plain_encoding}
+use Rattle.vx_encodings.specs.declared.encoding.Encoding.{Encoding}
+use Rattle.vx_encodings.specs.declared.encoding.Encoding.TheVariants.{Null, Bool, Primitive}
+
+one_nothing : (bytes : List ℕ) (f g : Fields) → ShowsNothing bytes f → ShowsNothing bytes g → f ≡ g
+one_nothing bytes f g a b = a.fields_are ∙ sym b.fields_are
+
+-- Bytes show at most one message of an encoding's metadata.
+pub one_message : (e : E.Encoding) (bytes : List ℕ) (f g : Fields) → Shows e bytes f → Shows e bytes g → f ≡ g
+one_message E.null bytes f g a b = one_nothing bytes f g a b
+one_message E.bool bytes f g a b = one_offset bytes f g a b
+one_message E.primitive bytes f g a b = one_nothing bytes f g a b
+one_message E.varbinview bytes f g a b = one_nothing bytes f g a b
+one_message E.fixed_size_list bytes f g a b = one_nothing bytes f g a b
+one_message E.map bytes f g a b = one_nothing bytes f g a b
+one_message E.struct bytes f g a b = one_nothing bytes f g a b
+one_message E.union bytes f g a b = one_nothing bytes f g a b
+one_message E.ext bytes f g a b = one_nothing bytes f g a b
+one_message _ bytes f g a b = absurd a
+
+null_again : (v : Metadata) → IsFair E.null v → FitsMessage v → Shows E.null (message_bytes (told v)) (told v)
+null_again M.empty fair fits = record { bytes_are = refl; fields_are = refl }
+null_again _ fair fits = absurd fair
+
+-- The messages of nulls are lawful: one is shown at most, and what is written is shown.
+pub null_lawful : IsLawfulAt codec E.null
+null_lawful = record { one_message = one_message E.null; message_again = null_again }
+
+bool_again : (v : Metadata) → IsFair E.bool v → FitsMessage v → Shows E.bool (message_bytes (told v)) (told v)
+bool_again (M.bool o) fair fits = offset_again o fair
+bool_again _ fair fits = absurd fair
+
+-- So are those of flags.
+pub bool_lawful : IsLawfulAt codec E.bool
+bool_lawful = record { one_message = one_message E.bool; message_again = bool_again }
+
+primitive_again : (v : Metadata) → IsFair E.primitive v → FitsMessage v → Shows E.primitive (message_bytes (told v)) (told v)
+primitive_again M.empty fair fits = record { bytes_are = refl; fields_are = refl }
+primitive_again _ fair fits = absurd fair
+
+-- So are those of numbers.
+pub primitive_lawful : IsLawfulAt codec E.primitive
+primitive_lawful = record { one_message = one_message E.primitive; message_again = primitive_again }
+
+-- So are those of each encoding that has code.
+pub lawful : (e : Encoding) → IsLawfulAt codec (plain_encoding e)
+lawful Null = null_lawful
+lawful Bool = bool_lawful
+lawful Primitive = primitive_lawful
+
+-- What a node of an encoding that has code keeps fits its message.
+pub fair_message : (encoding : Encoding) (v : Metadata) → IsFair (plain_encoding encoding) v → FitsMessage v
+fair_message Null M.empty fair = tt
+fair_message Null _ fair = absurd fair
+fair_message Bool (M.bool o) fair = tt
+fair_message Bool _ fair = absurd fair
+fair_message Primitive M.empty fair = tt
+fair_message Primitive _ fair = absurd fair
+
+-- ---- plans
+
+exactly_count : (ps : List Place) (k : ℕ) (qs : List Place) → exactly ps k ≡ Some qs → length qs ≡ k
+exactly_count [] zero qs e = let q : qs ≡ [] = cc in ap (λ (rs : List Place). length rs) q
+exactly_count [] (suc k) qs e = absurd (cc)
+exactly_count (p ∷ ps) zero qs e = absurd (cc)
+exactly_count (p ∷ ps) (suc k) qs e =
+    let m = mapped (λ (rs : List Place). p ∷ rs) (exactly ps k) qs e in
+    ap (λ (rs : List Place). length rs) m.1 ∙ ap (λ n. suc n) (exactly_count ps k m.0 m.2)
+
+validity_count : (n k : ℕ) (qs : List Place) → before_validity [] n k ≡ Some qs → length qs ≡ k
+validity_count n zero qs e = let q : qs ≡ [] = cc in ap (λ (rs : List Place). length rs) q
+validity_count n (suc zero) qs e = let q : qs ≡ validity_place n ∷ [] = cc in ap (λ (rs : List Place). length rs) q
+validity_count n (suc (suc k)) qs e = absurd (cc)
+
+null_count : (d : Typ) (n k : ℕ) (qs : List Place) → Nulls.plan d n k ≡ Some qs → length qs ≡ k
+null_count (node null end) n k qs e = exactly_count [] k qs e
+null_count _ n k qs e = absurd (cc)
+
+bool_count : (d : Typ) (n k : ℕ) (qs : List Place) → Bools.plan d n k ≡ Some qs → length qs ≡ k
+bool_count (node (boolean m) end) n k qs e = validity_count n k qs e
+bool_count _ n k qs e = absurd (cc)
+
+primitive_count : (d : Typ) (n k : ℕ) (qs : List Place) → Primitives.plan d n k ≡ Some qs → length qs ≡ k
+primitive_count (node (primitive p m) end) n k qs e = validity_count n k qs e
+primitive_count _ n k qs e = absurd (cc)
+
+-- An encoding that has code plans a place for each child.
+pub plan_length : (encoding : Encoding) (d : Typ) (n : ℕ) (v : Metadata) (k : ℕ) (qs : List Place) → plan_of (plain_encoding encoding) d n v k ≡ Some qs → length qs ≡ k
+plan_length Null d n M.empty k qs e = null_count d n k qs e
+plan_length Null d n _ k qs e = absurd (cc)
+plan_length Bool d n (M.bool o) k qs e = bool_count d n k qs e
+plan_length Bool d n _ k qs e = absurd (cc)
+plan_length Primitive d n M.empty k qs e = primitive_count d n k qs e
+plan_length Primitive d n _ k qs e = absurd (cc)

@@ -1,0 +1,36 @@
+-- The messages of metadata: which bytes show one, and the bytes that are written.
+use Rattle.std.specs.Prelude.{ℕ, ◌≡◌, List, []}
+use Rattle.vx_array_tree.specs.Encoding.{Encoding}
+use Rattle.vx_array_tree.specs.Encoding as E
+use Rattle.vx_wire_tree.specs.Codec.{Codec}
+use Rattle.vx_wire_tree.specs.Fields.{Fields}
+use Rattle.vx_wire_tree.specs.Fields as F
+use Rattle.vx_encodings.specs.BoolMessage.{ShowsBool, bool_bytes}
+
+-- An encoding that keeps nothing has no metadata: no byte stands there.
+pub record ShowsNothing (bytes : List ℕ) (f : Fields) : Type 0 where
+  pub bytes_are : bytes ≡ []
+  pub fields_are : f ≡ F.empty
+
+-- Eight encodings keep nothing, and flags an offset. Messages of the other six are not read here yet: no bytes show
+-- one.
+abbrev pub Shows : Encoding → List ℕ → Fields → Type 0
+Shows E.null = ShowsNothing
+Shows E.bool = ShowsBool
+Shows E.primitive = ShowsNothing
+Shows E.varbinview = ShowsNothing
+Shows E.fixed_size_list = ShowsNothing
+Shows E.map = ShowsNothing
+Shows E.struct = ShowsNothing
+Shows E.union = ShowsNothing
+Shows E.ext = ShowsNothing
+Shows _ = λ bytes f. ⊥
+
+-- What keeps nothing is written as no byte, and an offset as its message. Other messages are not written here yet.
+abbrev pub message_bytes : Fields → List ℕ
+message_bytes (F.bool offset) = bool_bytes offset
+message_bytes _ = []
+
+-- The messages that are read and written here.
+abbrev pub codec : Codec
+codec = record { Shows = Shows; fields_bytes = message_bytes }

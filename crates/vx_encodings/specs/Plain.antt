@@ -1,0 +1,17 @@
+-- Encodings, the places of children and refusals as the plain values that contracts see.
+use Rattle.vx_types.specs.Seen.{typ}
+use Rattle.vx_array_tree.specs.Encoding as E
+use Rattle.vx_array_tree.specs.Place.{Place, place}
+use Rattle.vx_encodings.specs.declared.encoding.Encoding.{Encoding}
+use Rattle.vx_encodings.specs.declared.encoding.Encoding.TheVariants.{Null, Bool, Primitive}
+use Rattle.vx_encodings.specs.declared.plans.ChildPlan.{ChildPlan}
+
+-- An encoding, of those that definitions know.
+abbrev pub plain_encoding : Encoding → E.Encoding
+plain_encoding Null = E.null
+plain_encoding Bool = E.bool
+plain_encoding Primitive = E.primitive
+
+-- The place that a planned child is to have.
+abbrev pub planned_place : ChildPlan → Place
+planned_place p = place (typ p.dtype) p.len

@@ -1,0 +1,26 @@
+//! Metadata of encodings that keep nothing.
+
+ghost use Rattle.std.specs.Prelude.{◌≡◌, ◌≢◌, [], OnOk, OnErr, IsOkUnless};
+
+use crate::error::EncodingError;
+use std::alloc::Global;
+use vx_types::Blob;
+
+// Reads the metadata of an encoding that keeps nothing: no byte stands there.
+pub(crate) fn read_empty(bytes: &[u8]) -> Result<(), EncodingError>
+    ensures ok { OnOk result (bytes.now ≡ []) }
+    ensures refused { OnErr result (bytes.now ≢ []) }
+    ensures err { IsOkUnless result EncodingError.BadMetadata }
+{
+    if !bytes.is_empty() {
+        return Err(EncodingError::BadMetadata);
+    }
+    Ok(())
+}
+
+// The metadata of an encoding that keeps nothing, as it is written: no byte.
+pub(crate) fn write_empty(alloc: Global) -> Blob
+    ensures { result ≡ [] }
+{
+    Blob::new(Vec::new(alloc))
+}

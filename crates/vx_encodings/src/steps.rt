@@ -1,0 +1,125 @@
+//! The steps of one node: what its children are to be, the node out of its parts, and its metadata; a line for
+//! each encoding.
+
+ghost use Rattle.std.specs.Prelude.{◌≡◌, ℕ, List, IfOk, IfErr, IsOkUnless};
+ghost use Rattle.vx_trees.specs.Rose.{label, below};
+ghost use Rattle.vx_types.specs.Known.{ExtMeaning};
+ghost use Rattle.vx_type_wire.specs.Session.{ext_meaning};
+ghost use Rattle.vx_array_tree.specs.Place.{Place};
+ghost use Rattle.vx_array_tree.specs.Sound.{IsSound, metadata_in};
+ghost use Rattle.vx_array_tree.specs.Tree.{Tree, places};
+ghost use Rattle.vx_wire_tree.specs.Fields.{told};
+ghost use Rattle.vx_encodings.specs.Messages.{message_bytes};
+ghost use Rattle.vx_encodings.specs.Steps.{IsPlanned, IsUnplanned, IsBuilt, IsUnbuilt, IsOkOrMemory};
+
+use crate::empty_metadata::write_empty;
+use crate::encoding::Encoding;
+use crate::error::EncodingError;
+use crate::head::ArrayHead;
+use crate::plans::ChildPlans;
+use crate::{bool, null, primitive};
+use std::alloc::Global;
+use vx_arrays::{Array, Arrays, Body};
+use vx_buffer::BufferHandles;
+use vx_type_wire::ExtSession;
+use vx_types::Blob;
+
+/// What the children of a node of this encoding are to be. Buffers are not looked at.
+///
+/// `BadMetadata` where its metadata is none of the encoding's, else `BadShape` where its type is of another
+/// kind or so many children do not fit.
+pub fn plan(
+    alloc: Global,
+    encoding: Encoding,
+    head: &ArrayHead,
+    readers: &ExtSession,
+) -> Result<ChildPlans, EncodingError>
+    ensures plan { let x = ext_meaning (λ b. accepted (b.vtable, b.value)) readers.now in
+        IfOk result (λ plans. IsPlanned x encoding head.now plans) }
+    ensures err { let x = ext_meaning (λ b. accepted (b.vtable, b.value)) readers.now in
+        IfErr result (λ e. IsUnplanned e x encoding head.now) }
+    ensures complete { let x = ext_meaning (λ b. accepted (b.vtable, b.value)) readers.now in
+        (ps : List Place) → IsPlanned x encoding head.now ps → IsOkOrMemory result }
+{
+    plan_by(alloc, encoding, head, readers)
+}
+
+// The plan of the encoding's file.
+fn plan_by(
+    alloc: Global,
+    encoding: Encoding,
+    head: &ArrayHead,
+    _readers: &ExtSession,
+) -> Result<ChildPlans, EncodingError>
+    ensures plan { let x = ext_meaning (λ b. accepted (b.vtable, b.value)) _readers.now in
+        IfOk result (λ plans. IsPlanned x encoding head.now plans) }
+    ensures err { let x = ext_meaning (λ b. accepted (b.vtable, b.value)) _readers.now in
+        IfErr result (λ e. IsUnplanned e x encoding head.now) }
+{
+    match encoding {
+        Encoding::Null => null::plan(alloc, head),
+        Encoding::Bool => bool::plan(alloc, head),
+        Encoding::Primitive => primitive::plan(alloc, head),
+    }
+}
+
+/// The array of these parts, of which the children have the planned places.
+///
+/// `BadShape` where the parts are not as the encoding's row asks.
+pub fn build(
+    alloc: Global,
+    encoding: Encoding,
+    head: ArrayHead,
+    buffers: BufferHandles,
+    children: Arrays,
+    readers: &ExtSession,
+) -> Result<Array, EncodingError>
+    requires { let x = ext_meaning (λ b. accepted (b.vtable, b.value)) readers.now in
+        IsPlanned x encoding head (places children) }
+    ensures parts { let x = ext_meaning (λ b. accepted (b.vtable, b.value)) readers.now in
+        IfOk result (λ t. IsBuilt x encoding head buffers children t) }
+    ensures sound { IfOk result IsSound }
+    ensures err { let x = ext_meaning (λ b. accepted (b.vtable, b.value)) readers.now in
+        IfErr result (λ e. IsUnbuilt e x encoding head buffers children) }
+    ensures complete { let x = ext_meaning (λ b. accepted (b.vtable, b.value)) readers.now in
+        (t : Tree) → IsBuilt x encoding head buffers children t → IsSound t → IsOkOrMemory result }
+{
+    build_by(alloc, encoding, head, buffers, children, readers)
+}
+
+// The node that the encoding's file builds.
+fn build_by(
+    alloc: Global,
+    encoding: Encoding,
+    head: ArrayHead,
+    buffers: BufferHandles,
+    children: Arrays,
+    _readers: &ExtSession,
+) -> Result<Array, EncodingError>
+    requires { let x = ext_meaning (λ b. accepted (b.vtable, b.value)) _readers.now in
+        IsPlanned x encoding head (places children) }
+    ensures parts { let x = ext_meaning (λ b. accepted (b.vtable, b.value)) _readers.now in
+        IfOk result (λ t. IsBuilt x encoding head buffers children t) }
+    ensures sound { IfOk result IsSound }
+    ensures err { let x = ext_meaning (λ b. accepted (b.vtable, b.value)) _readers.now in
+        IfErr result (λ e. IsUnbuilt e x encoding head buffers children) }
+{
+    match encoding {
+        Encoding::Null => null::build(alloc, head, buffers, children),
+        Encoding::Bool => bool::build(alloc, head, buffers, children),
+        Encoding::Primitive => primitive::build(alloc, head, buffers, children),
+    }
+}
+
+/// The bytes of the root's metadata, as they are written.
+#[tactic(auto, using(crate::proofs::Kept::kept))]
+pub fn metadata(alloc: Global, array: &Array) -> Result<Blob, EncodingError>
+    ensures ok { IfOk result (λ bytes. bytes ≡ message_bytes (told (metadata_in (label array.now) (below array.now)))) }
+    ensures err { IsOkUnless result EncodingError.OutOfMemory }
+{
+    match array.body() {
+        Body::Null => Ok(write_empty(alloc)),
+        Body::Bool(flags) => bool::metadata(alloc, flags),
+        Body::Primitive(_) => Ok(write_empty(alloc)),
+    }
+}

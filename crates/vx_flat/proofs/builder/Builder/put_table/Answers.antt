@@ -1,0 +1,97 @@
+use Rattle.std.proofs.Common.{◌≡◌, ◌++◌, ◌∷◌, [], ap, sym, subst, ◌∙◌, arith, length, refl, List}
+use Rattle.std.specs.Prelude.{if◌then◌else◌}
+use Rattle.vx_flat.specs.declared.writing.block.Spot.{Spot}
+use Rattle.vx_flat.specs.Blocks.{table_block}
+use Rattle.vx_flat.specs.Building.{Built, with_piece, entry_slots, failing, IsTooLong}
+use Rattle.vx_flat.specs.BuilderView.{built, begun}
+use Rattle.vx_flat.specs.FieldTables.{align, field_table_bytes}
+use Rattle.vx_flat.specs.Layout.{block_bytes}
+use Rattle.vx_flat.specs.Linking.{loose_block, cells_of}
+use Rattle.vx_flat.specs.Pieces.{Piece, table_piece}
+use Rattle.vx_flat.specs.Spots.{spot, table_spot, known_at}
+use Rattle.vx_flat.proofs.Added.{Adds, built_is, opens, end_is, composed, learn_table, too_long}
+use Rattle.vx_flat.proofs.Chain.{starts}
+use Rattle.vx_flat.proofs.builder.Builder.put_table.Goals as goal
+
+-- what was appended to nothing
+alone : {A : Type 0} (new old x y : List A) → new ≡ old ++ x → old ≡ [] → x ≡ y → new ≡ y
+alone new old x y h e is = h ∙ ((λ i. e i ++ x) ∙ is)
+
+pub returns-then-spot-gt-MAX_MESSAGE-clause-refused : goal.returns-then-spot-gt-MAX_MESSAGE-clause-refused
+returns-then-spot-gt-MAX_MESSAGE-clause-refused c =
+    let n = c.self.inside in
+    let es = c.args.fields.now in
+    let cs = cells_of es [] in
+    let q : Piece = table_piece es in
+    let start = c.next_start-start.ensures.value ∙ ap (λ d. align 8 (length (begun d))) c.deref.ensures.value in
+    let cells = alone c.push_entries.new.cells.items c.clear.new.self.items cs cs c.in_ok-push_entries.ensures c.clear.ensures.items refl in
+    let fields = alone c.push_field_table.new.out.items c.clear-2.new.self.items (field_table_bytes c.deref-2.result.now) (field_table_bytes cs)
+    c.in_ok-push_field_table.ensures c.clear-2.ensures.items (ap field_table_bytes (c.deref-2.ensures.value ∙ cells)) in
+    let known = c.place_of.ensures ∙ ap (λ b. known_at n.known b) (c.deref-4.ensures.value ∙ fields) in
+    let shown = c.deref-3.ensures.value ∙ cells in
+    let place : c.table_spot-spot.result ≡ spot n.known (align 8 (length (begun n.message.bytes.items))) (loose_block q) =
+    c.table_spot-spot.ensures.value ∙ (λ i. table_spot (start i) (shown i) (known i)) in (
+      ap failing c.self.view_is,
+      subst (λ (b : Built). IsTooLong b (q ∷ [])) c.self.view_is
+          (too_long n.message n.known n.shares n.failed q c.table_spot-spot.result c.self.invariant.0 place (omega (arith, c.if-spot-gt-MAX_MESSAGE.true))),
+    )
+
+adds : (c : goal.In_default) → Adds c.self.inside.message c.self.inside.known c.self.inside.shares (table_piece c.args.fields.now) c.table_spot-spot.result c.deref-8.result.now c.push_entry_slots.new.slots.items c.add.new.self c.learn.new.self
+adds c =
+    let n = c.self.inside in
+    let m = n.message.bytes.items in
+    let es = c.args.fields.now in
+    let cs = cells_of es [] in
+    let q : Piece = table_piece es in
+    let s = c.table_spot-spot.result in
+    let start = c.next_start-start.ensures.value ∙ ap (λ d. align 8 (length (begun d))) c.deref.ensures.value in
+    let cells = alone c.push_entries.new.cells.items c.clear.new.self.items cs cs c.in_ok-push_entries.ensures c.clear.ensures.items refl in
+    let fields = alone c.push_field_table.new.out.items c.clear-2.new.self.items (field_table_bytes c.deref-2.result.now) (field_table_bytes cs)
+    c.in_ok-push_field_table.ensures c.clear-2.ensures.items (ap field_table_bytes (c.deref-2.ensures.value ∙ cells)) in
+    let known = c.place_of.ensures ∙ ap (λ b. known_at n.known b) (c.deref-4.ensures.value ∙ fields) in
+    let shown = c.deref-3.ensures.value ∙ cells in
+    let place : s ≡ spot n.known (align 8 (length (begun m))) (loose_block q) =
+    c.table_spot-spot.ensures.value ∙ (λ i. table_spot (start i) (shown i) (known i)) in
+    record {
+      place = place;
+      block_is = c.deref-8.ensures.value
+          ∙ composed c.push_table.new.out.items c.push_front.new.out.items c.clear-3.new.self.items c.deref-5.result.now m
+          (block_bytes [] s (loose_block q)) c.next_start-start.result s.start
+          (c.in_ok-push_table.ensures ∙ ap (λ x. c.push_front.new.out.items ++ block_bytes [] s (table_block x)) (c.deref-6.ensures.value ∙ cells))
+          c.in_ok-push_front.ensures c.clear-3.ensures.items c.deref-5.ensures.value
+          (start ∙ (sym (starts n.known (align 8 (length (begun m))) (loose_block q)) ∙ sym (ap (λ (s : Spot). s.start) place)));
+      links_are = alone c.push_entry_slots.new.slots.items c.clear-4.new.self.items (entry_slots n.message.count s.aim 0 4 es) (entry_slots n.message.count s.aim 0 4 es)
+          c.in_ok-push_entry_slots.ensures c.clear-4.ensures.items refl;
+      bytes = c.in_default.ensures.bytes;
+      count = c.in_default.ensures.count;
+      left = c.in_default.ensures.left;
+      waits = c.in_default.ensures.waits;
+      learned = c.in_ok-learn.ensures.learned
+          ∙ (ap (λ b. if b then n.known ++ (c.deref-7.result.now, s.fields) ∷ [] else n.known) c.is_shared-learns.ensures.value
+          ∙ learn_table n.shares n.known s es c.deref-7.result.now (c.deref-7.ensures.value ∙ fields));
+    }
+
+pub invariant_of-self-in_default : goal.invariant_of-self-in_default
+invariant_of-self-in_default c =
+    let i = c.self.inside in
+    let q : Piece = table_piece c.args.fields.now in
+    let h = adds c in
+    let e = end_is i.message c.add.new.self i.known c.learn.new.self i.shares i.failed q c.table_spot-spot.result c.deref-8.result.now c.push_entry_slots.new.slots.items c.self.invariant.0 h in (
+      opens i.message c.add.new.self i.known c.learn.new.self i.shares i.failed q c.table_spot-spot.result c.deref-8.result.now c.push_entry_slots.new.slots.items c.self.invariant.0 h,
+      omega (arith, e, c.if-spot-gt-MAX_MESSAGE.false),
+    )
+
+pub returns-clause-written : goal.returns-clause-written
+returns-clause-written c =
+    let i = c.self.inside in
+    let q : Piece = table_piece c.args.fields.now in
+    ap (λ f. built c.add.new.self c.learn.new.self i.shares f) c.if-self.false
+    ∙ (built_is i.message c.add.new.self i.known c.learn.new.self i.shares i.failed q c.table_spot-spot.result c.deref-8.result.now c.push_entry_slots.new.slots.items c.self.invariant.0 (adds c)
+    ∙ ap (λ (b : Built). with_piece b q) c.self.view_is)
+
+pub returns-clause-fits : goal.returns-clause-fits
+returns-clause-fits c = λ _.
+    let i = c.self.inside in
+    let q : Piece = table_piece c.args.fields.now in
+    let e = end_is i.message c.add.new.self i.known c.learn.new.self i.shares i.failed q c.table_spot-spot.result c.deref-8.result.now c.push_entry_slots.new.slots.items c.self.invariant.0 (adds c) in
+    omega (arith, e, c.if-spot-gt-MAX_MESSAGE.false)

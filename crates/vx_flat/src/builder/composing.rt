@@ -1,0 +1,171 @@
+//! Blocks that are composed, before they are added to a message.
+
+ghost use Rattle.std.specs.Prelude.{◌≡◌, ◌+◌, ◌-◌, ◌++◌, ◌≤◌, ◌<◌, ◌^◌, [], length, true, ◌&&◌, None, OnOk};
+ghost use Rattle.vx_flat.specs.Building.{entry_slots, element_slots};
+ghost use Rattle.vx_flat.specs.BuilderView.{begun, front};
+ghost use Rattle.vx_flat.specs.FieldTables as form;
+ghost use Rattle.vx_flat.specs.Layout as lay;
+ghost use Rattle.vx_flat.specs.Linking as to;
+ghost use Rattle.vx_flat.specs.Blocks.{table_block, elements_block, links_block, text_block};
+ghost use Rattle.vx_flat.specs.Spots as place;
+
+use crate::builder::entries::cell_at;
+use crate::builder::piece::{BlockField, LinkKind};
+use crate::builder::slot::Slot;
+use crate::schema::Width;
+use crate::writing::block::{Cell, Spot};
+use crate::writing::field_tables::{end_after, inline_end};
+use crate::writing::numbers::{align, push_number, push_zeros};
+use crate::writing::spots::own_spot;
+use crate::writing::{element_count, push_bytes, push_cells, push_own};
+use std::alloc::AllocError;
+
+/// Where the next block starts: at the next multiple of 8.
+pub fn next_start(bytes: &[u8]) -> usize
+    requires { length bytes.now ≤ 2 ^ 31 }
+    ensures value { result ≡ form.align 8 (length (begun bytes.now)) }
+    ensures past { length (begun bytes.now) ≤ result }
+    ensures near { result ≤ length (begun bytes.now) + 7 }
+{
+    if bytes.is_empty() {
+        return 8;
+    }
+    align(Width::Eight, bytes.len())
+}
+
+/// Adds what stands before a block that starts at `start`: zero bytes.
+pub fn push_front(bytes: &[u8], start: usize, out: &mut Vec<u8>) -> Result<(), AllocError>
+    ensures { OnOk result (out.new.items
+        ≡ out.old.items ++ (front bytes.now ++ form.zeros (start - length (begun bytes.now)))) }
+{
+    if bytes.is_empty() {
+        push_zeros(out, 8)?;
+        return push_zeros(out, start.saturating_sub(8));
+    }
+    push_zeros(out, start.saturating_sub(bytes.len()))
+}
+
+/// Where a table goes whose block starts at `start`, by the place of an equal field table.
+pub fn table_spot(start: usize, cells: &[Cell], known: Option<usize>) -> Spot
+    requires { start ≤ 2 ^ 32 }
+    ensures value { result ≡ place.table_spot start cells.now known }
+    ensures own { result.is_own ≡ true → known ≡ None }
+{
+    match known {
+        Some(fields) => Spot {
+            start,
+            aim: start,
+            end: start + inline_end(cells),
+            fields,
+            is_own: false,
+        },
+        None => own_spot(start, cells),
+    }
+}
+
+/// Whether the field table of a block is one that others may share.
+pub fn is_shared(shares: bool, spot: Spot) -> bool
+    ensures value { result ≡ (shares && spot.is_own) }
+    ensures own { result ≡ true → spot.is_own ≡ true }
+{
+    if shares { spot.is_own } else { false }
+}
+
+/// Adds a table.
+#[tactic(auto, using(crate::proofs::Pushing::cells_loose))]
+pub fn push_table(spot: Spot, cells: &[Cell], out: &mut Vec<u8>) -> Result<(), AllocError>
+    ensures { OnOk result (out.new.items
+        ≡ out.old.items ++ lay.block_bytes [] spot (table_block cells.now)) }
+{
+    push_own(spot.is_own, cells, out)?;
+    push_number(out, 4, spot.aim.saturating_sub(spot.fields) as u64)?;
+    push_cells(cells, out)
+}
+
+/// Adds a vector of numbers or structs of `size` bytes each.
+pub fn push_elements(
+    spot: Spot,
+    size: usize,
+    bytes: &[u8],
+    out: &mut Vec<u8>,
+) -> Result<(), AllocError>
+    ensures { OnOk result (out.new.items
+        ≡ out.old.items ++ lay.block_bytes [] spot (elements_block size bytes.now)) }
+{
+    push_number(out, 4, element_count(size, bytes.len()) as u64)?;
+    push_bytes(bytes, out)
+}
+
+/// Adds a vector of links that are still to be set.
+pub fn push_links(spot: Spot, count: u32, out: &mut Vec<u8>) -> Result<(), AllocError>
+    ensures { OnOk result (out.new.items
+        ≡ out.old.items ++ lay.block_bytes [] spot (links_block (to.firsts count []))) }
+{
+    push_number(out, 4, count as u64)?;
+    push_zeros(out, 4 * count as usize)?;
+    Ok(())
+}
+
+/// Adds a string.
+pub fn push_text(spot: Spot, text: &[u8], out: &mut Vec<u8>) -> Result<(), AllocError>
+    ensures { OnOk result (out.new.items
+        ≡ out.old.items ++ lay.block_bytes [] spot (text_block text.now)) }
+{
+    push_number(out, 4, text.len() as u64)?;
+    push_bytes(text, out)?;
+    push_zeros(out, 1)
+}
+
+/// Adds the links of a table's entries.
+pub fn push_entry_slots(
+    entries: &[BlockField],
+    block: u32,
+    aim: usize,
+    slots: &mut Vec<Slot>,
+) -> Result<(), AllocError>
+    requires few { length entries.now ≤ 1000 }
+    requires short { aim < 2 ^ 33 }
+    ensures { OnOk result
+        (slots.new.items ≡ slots.old.items ++ entry_slots block aim 0 4 entries.now) }
+{
+    let mut end: usize = 4;
+    let mut index: u32 = 0;
+    for entry in entries {
+        let cell = cell_at(*entry, 0);
+        if let BlockField::Link(kind) = *entry {
+            let place = aim + align(Width::Four, end);
+            slots.push(Slot {
+                block,
+                index,
+                kind,
+                place,
+            })?;
+        }
+        end = end_after(cell, end);
+        index += 1;
+    }
+    Ok(())
+}
+
+/// Adds the links of a vector of links, the first of which lies at `place`.
+pub fn push_element_slots(
+    kind: LinkKind,
+    count: u32,
+    block: u32,
+    place: usize,
+    slots: &mut Vec<Slot>,
+) -> Result<(), AllocError>
+    requires { place < 2 ^ 33 }
+    ensures { OnOk result
+        (slots.new.items ≡ slots.old.items ++ element_slots block kind place 0 count) }
+{
+    for index in 0..count {
+        slots.push(Slot {
+            block,
+            index,
+            kind,
+            place: place + 4 * index as usize,
+        })?;
+    }
+    Ok(())
+}

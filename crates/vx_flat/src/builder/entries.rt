@@ -1,0 +1,43 @@
+//! The entries of a table that is written, before its links are set.
+
+ghost use Rattle.std.specs.Prelude.{◌≡◌, ◌++◌, [], OnOk};
+ghost use Rattle.vx_flat.specs.Linking as to;
+
+use crate::builder::piece::BlockField;
+use crate::schema::Width;
+use crate::writing::block::Cell;
+use std::alloc::AllocError;
+
+/// The width of so many bytes: 1, 2, 4 or 8.
+fn width_at(bytes: u8) -> Width
+    ensures { result ≡ to.width_at bytes }
+{
+    match bytes {
+        1 => Width::One,
+        2 => Width::Two,
+        4 => Width::Four,
+        _ => Width::Eight,
+    }
+}
+
+/// The cell of an entry, where a link aims at a block.
+pub fn cell_at(entry: BlockField, block: usize) -> Cell
+    ensures { result ≡ to.cell_at entry block }
+{
+    match entry {
+        BlockField::Absent => Cell::Gap,
+        BlockField::Number { width, bits } => Cell::Inline(width_at(width), bits),
+        BlockField::Link(_) => Cell::Link(block),
+        BlockField::UnknownMember => Cell::Null,
+    }
+}
+
+/// Adds the cells of entries, whose links are still to be set.
+pub fn push_entries(entries: &[BlockField], cells: &mut Vec<Cell>) -> Result<(), AllocError>
+    ensures { OnOk result (cells.new.items ≡ cells.old.items ++ to.cells_of entries.now []) }
+{
+    for entry in entries {
+        cells.push(cell_at(*entry, 0))?;
+    }
+    Ok(())
+}

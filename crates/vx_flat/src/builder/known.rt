@@ -1,0 +1,68 @@
+//! The field tables that were written and may be shared.
+
+use indexmap::IndexMap;
+use std::alloc::{AllocError, Global};
+use std::marker::Model;
+
+/// The bytes of field tables, with their places, in the order in which they were written.
+#[derive(Drop)]
+pub struct FieldTables {
+    alloc: Global,
+    places: IndexMap<Vec<u8>, usize>,
+}
+
+impl Model for FieldTables {
+    ghost use Rattle.vx_flat.specs.KnownView.{known_of};
+    ghost use Rattle.vx_flat.specs.Spots.{Known};
+
+    ghost Value = { Known };
+
+    ghost view = { λ t. known_of t.places };
+}
+
+impl FieldTables {
+    ghost use Rattle.std.specs.Prelude.{◌≡◌, ◌++◌, ◌∷◌, [], true, OnOk, OnErr, None, ℕ, List, if◌then◌else◌};
+    ghost use Rattle.vx_flat.specs.Spots.{Known, known_at};
+
+    /// No field tables.
+    pub fn new(alloc: Global) -> FieldTables
+        ensures { result ≡ [] }
+    {
+        FieldTables {
+            alloc,
+            places: IndexMap::new(alloc),
+        }
+    }
+
+    /// The place of the first field table with these bytes.
+    pub fn place_of(&self, bytes: &[u8]) -> Option<usize>
+        ensures { result ≡ known_at self.now bytes.now }
+    {
+        self.places.get(bytes).copied()
+    }
+
+    /// One field table more, with other bytes than those before, where `learns` says so.
+    pub fn learn(&mut self, learns: bool, bytes: &[u8], place: usize) -> Result<(), AllocError>
+        requires { learns ≡ true → known_at self.old bytes.now ≡ None }
+        ensures learned { OnOk result
+            (self.new ≡ (if learns then self.old ++ (bytes.now, place) ∷ [] else self.old)) }
+        ensures unchanged { OnErr result (self.new ≡ self.old) }
+    {
+        if !learns {
+            return Ok(());
+        }
+        let key = Vec::from_slice(self.alloc, bytes)?;
+        self.places.insert(key, place)?;
+        Ok(())
+    }
+
+    /// Without the last field table, where it was learned.
+    pub fn forget(&mut self, learned: bool)
+        ensures { (before : Known) (last : List ℕ × ℕ)
+            → self.old ≡ (if learned then before ++ last ∷ [] else before) → self.new ≡ before }
+    {
+        if learned {
+            self.places.pop();
+        }
+    }
+}

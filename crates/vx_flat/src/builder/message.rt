@@ -1,0 +1,114 @@
+//! The bytes of a message that is written block by block, and its links that are still to be set.
+
+ghost use Rattle.std.specs.Prelude.{◌≡◌, ◌+◌, ◌++◌, ◌≤◌, ◌<◌, ◌^◌, [], length, reverse, take, OnOk, OnErr, None};
+ghost use Rattle.vx_flat.specs.Building.{patch, aimed};
+
+use crate::builder::slot::Slot;
+use std::alloc::{AllocError, Global};
+
+/// What was written, and the links that are left.
+#[derive(Drop)]
+pub struct Message {
+    /// The bytes so far. The offset of a link that is still to be set is 0.
+    pub bytes: Vec<u8>,
+    /// How many blocks there are.
+    pub count: u32,
+    /// The links that are left, the next one last.
+    pub left: Vec<Slot>,
+    /// The link that waits for the next block.
+    pub waits: Option<Slot>,
+}
+
+/// Sets the four bytes at a place to a number.
+fn set_number(bytes: &mut Vec<u8>, place: usize, number: u32)
+    requires { place + 4 ≤ length bytes.old.items }
+    ensures { bytes.new.items ≡ patch bytes.old.items place number }
+{
+    let second = number / 256;
+    let third = second / 256;
+    let fourth = third / 256;
+    bytes[place] = (number % 256) as u8;
+    bytes[place + 1] = (second % 256) as u8;
+    bytes[place + 2] = (third % 256) as u8;
+    bytes[place + 3] = (fourth % 256) as u8;
+}
+
+/// Adds links, the first one last; none where memory runs out.
+fn add_links(left: &mut Vec<Slot>, links: &mut Vec<Slot>) -> Result<(), AllocError>
+    ensures added { OnOk result
+        (reverse left.new.items ≡ links.old.items ++ reverse left.old.items) }
+    ensures back { OnOk result (take (length left.old.items) left.new.items ≡ left.old.items) }
+    ensures unchanged { OnErr result (left.new.items ≡ left.old.items) }
+{
+    links.reverse();
+    left.extend_from_slice(links.as_slice())?;
+    Ok(())
+}
+
+impl Message {
+    ghost use Rattle.vx_flat.specs.BuilderView.{begun, SlotLies, IsOpen, IsSame};
+
+    /// No blocks.
+    pub fn new(alloc: Global) -> Message
+        ensures bytes { result.bytes.items ≡ [] }
+        ensures count { result.count ≡ 0 }
+        ensures left { result.left.items ≡ [] }
+        ensures waits { result.waits ≡ None }
+    {
+        Message {
+            bytes: Vec::new(alloc),
+            count: 0,
+            left: Vec::new(alloc),
+            waits: None,
+        }
+    }
+
+    /// Sets the offset of the link that waits, or, at the first block, the place of the root table.
+    fn aim(&mut self, aim: usize)
+        requires begun { 4 ≤ length self.old.bytes.items }
+        requires lies { SlotLies self.old.waits (length self.old.bytes.items) }
+        requires behind { SlotLies self.old.waits aim }
+        requires small { aim < 2 ^ 32 }
+        ensures bytes { self.new.bytes.items
+            ≡ aimed self.old.count self.old.waits aim self.old.bytes.items }
+        ensures count { self.new.count ≡ self.old.count }
+        ensures left { self.new.left.items ≡ self.old.left.items }
+    {
+        match self.waits {
+            Some(link) => set_number(&mut self.bytes, link.place, (aim - link.place) as u32),
+            None => {
+                if self.count == 0 {
+                    set_number(&mut self.bytes, 0, aim as u32);
+                }
+            }
+        }
+    }
+
+    /// Adds a composed block, with what stands before it, and its links. The link that waits aims
+    /// at it. Where memory runs out, nothing changes.
+    pub fn add(&mut self, block: &[u8], links: &mut Vec<Slot>, aim: usize) -> Result<(), AllocError>
+        requires some { 4 ≤ length self.old.bytes.items + length block.now }
+        requires lies { SlotLies self.old.waits (length self.old.bytes.items) }
+        requires behind { length self.old.bytes.items ≤ aim }
+        requires small { aim < 2 ^ 32 }
+        requires few { self.old.count < 2 ^ 31 }
+        ensures bytes { OnOk result (self.new.bytes.items
+            ≡ aimed self.old.count self.old.waits aim (self.old.bytes.items ++ block.now)) }
+        ensures count { OnOk result (self.new.count ≡ self.old.count + 1) }
+        ensures left { OnOk result (reverse self.new.left.items
+            ≡ links.old.items ++ reverse self.old.left.items) }
+        ensures waits { OnOk result (self.new.waits ≡ None) }
+        ensures unchanged { OnErr result (IsSame self.old self.new) }
+    {
+        let kept = self.left.len();
+        add_links(&mut self.left, links)?;
+        if let Err(error) = self.bytes.extend_from_slice(block) {
+            self.left.truncate(kept);
+            return Err(error);
+        }
+        self.aim(aim);
+        self.waits = None;
+        self.count += 1;
+        Ok(())
+    }
+}

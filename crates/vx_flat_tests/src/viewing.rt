@@ -1,0 +1,327 @@
+//! Views: each accessor at each kind of field, present and absent, and tables that many paths
+//! reach.
+
+ghost use Rattle.std.specs.Prelude.{◌≡◌, ◌+◌, ◌<◌, IfOk, IfSome, OnOk};
+ghost use Rattle.vx_flat.specs.Seen.{IsViewOf};
+ghost use Rattle.vx_flat_tests.specs.Worked.{array_schema, array_message, every_schema};
+
+use crate::kinds::{ArrayKind, EveryKind, PairKind};
+use crate::messages::{ARRAY, EVERY};
+use crate::reading::nested;
+use std::alloc::{AllocError, Global};
+use std::marker::Brand;
+use std::sync::ledger::{Blank, Ledger};
+use std::test::Fail;
+use vx_flat::{
+    FlatError, Steps, TableKind, UnionPart, View, Weight, verify, verify_uncounted, view_at,
+};
+
+/// A table without a field.
+const NOTHING: [u8; 12] = [8, 0, 0, 0, 4, 0, 4, 0, 4, 0, 0, 0];
+
+/// The view of a message's root.
+fn root_view<'a, K: TableKind>(message: &'a [u8], kind: &K) -> Result<View<'a>, FlatError>
+    ensures { IfOk result (λ v. IsViewOf K.schema K.schema.root v) }
+{
+    verify_uncounted(message, kind)
+}
+
+fn numbers(view: &View<'_>) -> [u64; 4]
+    requires { IsViewOf every_schema 0 view.now }
+{
+    [
+        view.number(0),
+        view.number(1),
+        view.number(2),
+        view.number(3),
+    ]
+}
+
+fn numbers_that_may_be_missing(view: &View<'_>) -> [Option<u64>; 4]
+    requires { IsViewOf every_schema 0 view.now }
+{
+    [
+        view.opt_number(4),
+        view.opt_number(5),
+        view.opt_number(8),
+        view.opt_number(9),
+    ]
+}
+
+fn flags(view: &View<'_>) -> [bool; 2]
+    requires { IsViewOf every_schema 0 view.now }
+{
+    [view.flag(6), view.flag(7)]
+}
+
+/// How many bytes the vectors of numbers and of structs have, and the string; or none.
+fn lengths(view: &View<'_>) -> [Option<usize>; 3]
+    requires { IsViewOf every_schema 0 view.now }
+{
+    let elements = match view.bytes(10) {
+        None => None,
+        Some(bytes) => Some(bytes.len()),
+    };
+    let structs = match view.bytes(11) {
+        None => None,
+        Some(bytes) => Some(bytes.len()),
+    };
+    let text = match view.text(12) {
+        None => None,
+        Some(text) => Some(text.len()),
+    };
+    [elements, structs, text]
+}
+
+/// How many elements the vectors of numbers, structs, strings and tables have, or none.
+fn counts(view: &View<'_>) -> [Option<usize>; 4]
+    requires { IsViewOf every_schema 0 view.now }
+{
+    let numbers = match view.vector(10) {
+        None => None,
+        Some(vector) => Some(vector.len()),
+    };
+    let structs = match view.vector(11) {
+        None => None,
+        Some(vector) => Some(vector.len()),
+    };
+    let texts = match view.vector(13) {
+        None => None,
+        Some(vector) => Some(vector.len()),
+    };
+    let tables = match view.vector(15) {
+        None => None,
+        Some(vector) => Some(vector.len()),
+    };
+    [numbers, structs, texts, tables]
+}
+
+/// The two numbers of the vector of numbers, and the second members of the two structs.
+fn numbers_of_elements(view: &View<'_>) -> Option<[u64; 4]>
+    requires { IsViewOf every_schema 0 view.now }
+{
+    let Some(numbers) = view.vector(10) else {
+        return None;
+    };
+    let Some(structs) = view.vector(11) else {
+        return None;
+    };
+    if numbers.len() != 2 || structs.len() != 2 {
+        return None;
+    }
+    Some([
+        numbers.number(0, 0),
+        numbers.number(1, 0),
+        structs.number(0, 1),
+        structs.number(1, 1),
+    ])
+}
+
+/// How many bytes the two strings of the vector of strings have.
+fn lengths_of_texts(view: &View<'_>) -> Option<[usize; 2]>
+    requires { IsViewOf every_schema 0 view.now }
+{
+    let Some(texts) = view.vector(13) else {
+        return None;
+    };
+    if texts.len() != 2 {
+        return None;
+    }
+    Some([texts.text(0).len(), texts.text(1).len()])
+}
+
+/// The tag of a union, if it has one, and whether the schema has it.
+fn tag_of(part: UnionPart<'_>) -> Option<(u8, bool)> {
+    match part {
+        UnionPart::None => None,
+        UnionPart::Known(tag, _) => Some((tag, true)),
+        UnionPart::Unknown(tag) => Some((tag, false)),
+    }
+}
+
+/// The tags of the three unions.
+fn tags(view: &View<'_>) -> [Option<(u8, bool)>; 3]
+    requires { IsViewOf every_schema 0 view.now }
+{
+    [
+        tag_of(view.union_part(16)),
+        tag_of(view.union_part(18)),
+        tag_of(view.union_part(20)),
+    ]
+}
+
+/// The place of the table in a field, if there is one.
+fn place_of_table(view: &View<'_>) -> Option<usize>
+    requires { IsViewOf every_schema 0 view.now }
+{
+    match view.table(14) {
+        None => None,
+        Some(table) => Some(table.place()),
+    }
+}
+
+#[test]
+fn accessors_of_fields(rt: HostRuntime) -> Result<(), Fail> {
+    let every = root_view(&EVERY, &EveryKind)?;
+    assert_eq!(rt; numbers(&every), [0, 300, 70_000, 1_099_511_627_781]);
+    assert_eq!(rt;
+        numbers_that_may_be_missing(&every),
+        [Some(0), None, Some(0), None]
+    );
+    assert_eq!(rt; flags(&every), [true, false]);
+    assert_eq!(rt; lengths(&every), [Some(4), Some(6), Some(2)]);
+    assert_eq!(rt; counts(&every), [Some(2), Some(2), Some(2), Some(2)]);
+    assert_eq!(rt; numbers_of_elements(&every), Some([1, 2, 2, 4]));
+    assert_eq!(rt; lengths_of_texts(&every), Some([0, 2]));
+    assert_eq!(rt; tags(&every), [Some((2, true)), Some((9, false)), None]);
+    assert_eq!(rt; place_of_table(&every), Some(200));
+    let nothing = root_view(&NOTHING, &EveryKind)?;
+    assert_eq!(rt; numbers(&nothing), [0, 0, 0, 0]);
+    assert_eq!(rt;
+        numbers_that_may_be_missing(&nothing),
+        [None, None, None, None]
+    );
+    assert_eq!(rt; flags(&nothing), [false, false]);
+    assert_eq!(rt; lengths(&nothing), [None, None, None]);
+    assert_eq!(rt; counts(&nothing), [None, None, None, None]);
+    assert_eq!(rt; numbers_of_elements(&nothing), None);
+    assert_eq!(rt; lengths_of_texts(&nothing), None);
+    assert_eq!(rt; tags(&nothing), [None, None, None]);
+    assert_eq!(rt; place_of_table(&nothing), None);
+    Ok(())
+}
+
+/// Arrays of one another: so many levels of nodes, where each has two children in one place and the
+/// last has none.
+fn shared_children(alloc: Global, levels: usize) -> Result<Vec<u8>, AllocError> {
+    let mut message = Vec::from_slice(
+        alloc,
+        &[10, 0, 0, 0, 6, 0, 8, 0, 4, 0, 6, 0, 0, 0, 14, 0, 0, 0],
+    )?;
+    for _ in 1..levels {
+        message.extend_from_slice(&[10, 0, 8, 0, 0, 0, 0, 0, 4, 0, 10, 0, 0, 0])?;
+        message.extend_from_slice(&[4, 0, 0, 0, 2, 0, 0, 0, 18, 0, 0, 0, 14, 0, 0, 0])?;
+    }
+    message.extend_from_slice(&[0, 0, 0, 0, 0, 0, 4, 0, 4, 0, 4, 0, 0, 0])?;
+    Ok(message)
+}
+
+/// The root node of an array.
+fn node<'a>(view: &View<'a>) -> Option<View<'a>>
+    requires { IsViewOf array_schema 0 view.now }
+    ensures { IfSome result (λ w. IsViewOf array_schema 1 w) }
+{
+    view.table(0)
+}
+
+/// The first of two children, if both are in one place.
+fn child<'a>(view: &View<'a>) -> Option<View<'a>>
+    requires { IsViewOf array_schema 1 view.now }
+    ensures { IfSome result (λ w. IsViewOf array_schema 1 w) }
+{
+    let Some(children) = view.vector(2) else {
+        return None;
+    };
+    if children.len() != 2 {
+        return None;
+    }
+    let first = children.table(0);
+    if first.place() != children.table(1).place() {
+        return None;
+    }
+    Some(first)
+}
+
+/// How many levels of nodes there are below the root's node.
+fn levels_below(root: &View<'_>) -> usize
+    requires { IsViewOf array_schema 0 root.now }
+{
+    let Some(first) = node(root) else {
+        return 0;
+    };
+    let mut view = first;
+    for level in 0..64 {
+        match child(&view) {
+            None => return level,
+            Some(next) => view = next,
+        }
+    }
+    64
+}
+
+#[test]
+fn tables_that_many_paths_reach(rt: HostRuntime) -> Result<(), Fail> {
+    let message = shared_children(rt.alloc(), 19)?;
+    let root = root_view(&message, &ArrayKind)?;
+    assert_eq!(rt; root.weight().tables, 524_288);
+    assert_eq!(rt; root.weight().nested, 20);
+    assert_eq!(rt; levels_below(&root), 18);
+    Ok(())
+}
+
+#[test]
+fn worked_weight(rt: HostRuntime) -> Result<(), Fail> {
+    let weight = Weight {
+        nested: 3,
+        tables: 3,
+        bytes: 218,
+    };
+    let root = verify_uncounted(&ARRAY, &ArrayKind)?;
+    assert_eq!(rt; root.weight(), weight);
+    assert_eq!(rt; root.place(), 16);
+    let again = view_at(&ARRAY, &ArrayKind, root.place(), weight);
+    assert_eq!(rt; again.place(), 16);
+    assert_eq!(rt; again.weight(), weight);
+    Ok(())
+}
+
+/// The weight of the worked message, which is verified in three steps.
+fn weight_in_three_steps<L: Ledger>(
+    message: &[u8],
+    steps: &mut Steps<L>,
+) -> Result<Weight, FlatError>
+    requires { message.now ≡ array_message }
+    ensures { OnOk result (steps.new ≡ steps.old + 3) }
+{
+    let root = verify(message, &ArrayKind, steps)?;
+    Ok(root.weight())
+}
+
+/// The same, by a counter of its own.
+fn weight_by<L: Ledger>(blank: Blank) -> Result<Weight, FlatError>
+    requires name { blank.name ≡ L.name }
+    requires parts { blank.parts ≡ L.parts }
+    requires some { 0 < blank.parts }
+{
+    let mut steps = Steps::<L>::new(blank);
+    weight_in_three_steps(&ARRAY, &mut steps)
+}
+
+#[test]
+fn steps_are_counted(rt: HostRuntime) -> Result<(), Fail> {
+    let weight = weight_by::<Brand>(Blank::new(1))?;
+    assert_eq!(rt; weight.tables, 3);
+    Ok(())
+}
+
+#[test]
+fn nested_tables(rt: HostRuntime) -> Result<(), Fail> {
+    let message = nested(rt.alloc(), 64, false)?;
+    let root = verify_uncounted(&message, &PairKind)?;
+    assert_eq!(rt; root.weight().nested, 64);
+    let message = nested(rt.alloc(), 65, false)?;
+    let refused = verify_uncounted(&message, &PairKind);
+    assert_eq!(rt; refused.err(), Some(FlatError::TableLimit));
+    let message = nested(rt.alloc(), 20, true)?;
+    let refused = verify_uncounted(&message, &PairKind);
+    assert_eq!(rt; refused.err(), Some(FlatError::TableLimit));
+    Ok(())
+}
+
+#[test]
+fn prefixes_are_refused(rt: HostRuntime) {
+    for len in 0..ARRAY.len() {
+        let refused = verify_uncounted(&ARRAY[..len], &ArrayKind);
+        assert_eq!(rt; refused.err(), Some(FlatError::BadTable), "of {len} bytes");
+    }
+}

@@ -1,0 +1,49 @@
+//! A plugin of aggregate functions, for tests.
+
+ghost use Rattle.std.specs.Prelude.{Some, option_map};
+
+use std::alloc::Global;
+use vx_fn_wire::{AggregateFn, AggregateFnPlugin, PluginError};
+use vx_types::{Blob, DType, Id};
+
+/// Gives a function of an identifier, which may be another than its own, with the metadata as its
+/// options; it refuses all metadata where it has none to give.
+#[derive(Drop)]
+pub struct Echo {
+    pub id: Id,
+    pub gives: Option<Id>,
+}
+
+impl AggregateFnPlugin for Echo {
+    ghost aggregate_id = { λ p. p.id };
+
+    ghost aggregate_of = { λ p metadata. option_map (λ id. record { id = id; options = Some metadata }) p.gives };
+
+    fn id(&self) -> &Id {
+        &self.id
+    }
+
+    fn deserialize(&self, alloc: Global, metadata: &[u8]) -> Result<AggregateFn, PluginError> {
+        let Some(id) = &self.gives else {
+            return Err(PluginError::Refused);
+        };
+        let Ok(id) = id.clone(alloc) else {
+            return Err(PluginError::OutOfMemory);
+        };
+        let Ok(metadata) = Blob::copy_from(alloc, metadata) else {
+            return Err(PluginError::OutOfMemory);
+        };
+        Ok(AggregateFn {
+            id,
+            options: Some(metadata),
+        })
+    }
+
+    fn zone_stat_default(
+        &self,
+        _alloc: Global,
+        _dtype: &DType,
+    ) -> Result<Option<AggregateFn>, PluginError> {
+        Ok(None)
+    }
+}

@@ -1,0 +1,146 @@
+-- The parts of the message of an aggregate function, and the function that is read of them.
+use Rattle.std.proofs.Common.{◌≡◌, ◌⊎◌, inl, inr, Bool, true, false, ℕ, List, [], ◌∷◌, Option, Some, None, refl, ap, sym, subst, ◌∙◌, if◌then◌else◌, Result, Ok, Err, IfOk, IfErr, MatchResult}
+use Rattle.std.specs.Str.{IsUtf8}
+use Rattle.std.proofs.lemmas.Str.{is_utf8-from_IsUtf8}
+use Rattle.vx_proto.specs.Schema.{plain, optional, field}
+use Rattle.vx_proto.specs.declared.schema.Kind.TheVariants.{Scalar}
+use Rattle.vx_proto.specs.declared.schema.ScalarKind.TheVariants.{String, Bytes}
+use Rattle.vx_proto.specs.Form.{HasForm}
+use Rattle.vx_proto.specs.Parts.{entries_in, text_in, octets_in}
+use Rattle.vx_proto.specs.Value.{Entry, Value}
+use Rattle.vx_proto.proofs.LawsOfForms.{HoldsMember, none_or_one, slots_of_form}
+use Rattle.vx_proto.proofs.LawsOfSlots.{Has, plain_holds, two_of}
+use Rattle.vx_fn_wire.specs.Messages.{one_octets, metadata_of}
+use Rattle.vx_fn_wire.specs.Schema.{aggregate_lists}
+use Rattle.vx_fn_wire.specs.Session.{Registry, IsGivenBy, IsNotGiven, optional_octets, HoldsAggregate, ReadsAggregate, IsUnreadAggregate}
+use Rattle.vx_fn_wire.specs.declared.aggregate_fn.AggregateFn.{AggregateFn}
+use Rattle.vx_fn_wire.specs.declared.error.FnWireError.{FnWireError}
+use Rattle.vx_fn_wire.specs.declared.error.FnWireError.TheVariants.{OutOfMemory, BadMessage, TooDeep, RootWithChildren, UnknownId, ArityMismatch, IdMismatch, NotSerializable, PluginRefused}
+
+-- A text in its plain slot.
+pub record HoldsText (i : ℕ) (es : List Entry) : Type 0 where
+  pub text : List ℕ
+  pub is : es ≡ one_octets i text
+  pub utf8 : IsUtf8 text
+
+pub holds_text : (F : ℕ → Value → Type 0) (i : ℕ) (es : List Entry) → Has F (plain i String) es → HoldsText i es
+holds_text F i es h =
+    let m = plain_holds F i String es h in
+    record { text = m.form.0; is = m.is ∙ ap (λ e. (i, e) ∷ []) m.form.1; utf8 = m.form.2 }
+
+-- Metadata in its optional slot.
+pub holds_metadata : (F : ℕ → Value → Type 0) (i : ℕ) (es : List Entry) → Has F (optional i Bytes) es → (m : Option (List ℕ)) × (es ≡ optional_octets i m)
+holds_metadata F i es h = go (none_or_one F (field i (Scalar Bytes)) es h.count h.form)
+  where
+    go : (es ≡ []) ⊎ HoldsMember F (field i (Scalar Bytes)) es → (m : Option (List ℕ)) × (es ≡ optional_octets i m)
+    go (inl none) = (None, none)
+    go (inr one) = (Some one.form.0, one.is ∙ ap (λ e. (i, e) ∷ []) one.form.1)
+
+text_there : (i : ℕ) (s : List ℕ) → IsUtf8 s → text_in (one_octets i s) ≡ Some s
+text_there i s h = ap (λ b. if b then Some s else None) (is_utf8-from_IsUtf8 s h)
+
+octets_there : (i : ℕ) (m : Option (List ℕ)) → octets_in (optional_octets i m) ≡ m
+octets_there i None = refl
+octets_there i (Some s) = refl
+
+-- A message of the form holds an identifier and metadata, where its accessors find them.
+pub record Parts (v : Value) : Type 0 where
+  pub id : List ℕ
+  pub metadata : Option (List ℕ)
+  pub holds : HoldsAggregate v id metadata
+  pub id_there : text_in (entries_in v 0) ≡ Some id
+  pub metadata_there : octets_in (entries_in v 1) ≡ metadata
+
+pub parts : (v : Value) → HasForm aggregate_lists 0 v → Parts v
+parts v h =
+    let F = HasForm aggregate_lists in
+    let two = two_of F (plain 1 String) (optional 2 Bytes) v (slots_of_form aggregate_lists 0 v h) in
+    let id = holds_text F 1 two.a two.has_a in
+    let metadata = holds_metadata F 2 two.b two.has_b in
+    record {
+      id = id.text;
+      metadata = metadata.0;
+      holds = two.is ∙ (λ i. id.is i ∷ metadata.1 i ∷ []);
+      id_there = ap (λ w. text_in (entries_in w 0)) two.is ∙ ap text_in id.is ∙ text_there 1 id.text id.utf8;
+      metadata_there = ap (λ w. octets_in (entries_in w 1)) two.is ∙ ap octets_in metadata.1 ∙ octets_there 2 metadata.0;
+    }
+
+some_same : {A : Type 0} (x y : A) → Some x ≡ Some y → x ≡ y
+some_same x y e = cc
+
+none_some : {A : Type 0} (x : A) → None ≡ Some x → ⊥
+none_some x e = absurd (cc)
+
+-- The identifier of a message of the form is found.
+pub id_found : (v w : Value) → HasForm aggregate_lists 0 v → w ≡ v → None ≡ text_in (entries_in w 0) → ⊥
+id_found v w h same none =
+    let p = parts v h in
+    none_some p.id (none ∙ ap (λ z. text_in (entries_in z 0)) same ∙ p.id_there)
+
+-- What the accessors find of a message of the form is what it holds.
+pub parts_found : (v w : Value) (id : List ℕ) (m : Option (List ℕ)) → HasForm aggregate_lists 0 v → w ≡ v → Some id ≡ text_in (entries_in w 0) → m ≡ octets_in (entries_in w 1) → HoldsAggregate v id m
+parts_found v w id m h same found metadata =
+    let p = parts v h in
+    let id_is : id ≡ p.id = some_same id p.id (found ∙ ap (λ z. text_in (entries_in z 0)) same ∙ p.id_there) in
+    let m_is : m ≡ p.metadata = metadata ∙ ap (λ z. octets_in (entries_in z 1)) same ∙ p.metadata_there in
+    p.holds ∙ sym (λ i. one_octets 1 (id_is i) ∷ optional_octets 2 (m_is i) ∷ [])
+
+-- A message holds one identifier and one metadata.
+one_id : (v : Value) (a b : List ℕ) (m n : Option (List ℕ)) → HoldsAggregate v a m → HoldsAggregate v b n → a ≡ b
+one_id v a b m n h k = some_same a b (sym (ap (λ z. octets_in (entries_in z 0)) h) ∙ ap (λ z. octets_in (entries_in z 0)) k)
+
+one_metadata : (v : Value) (a b : List ℕ) (m n : Option (List ℕ)) → HoldsAggregate v a m → HoldsAggregate v b n → m ≡ n
+one_metadata v a b m n h k =
+    sym (octets_there 2 m) ∙ sym (ap (λ z. octets_in (entries_in z 1)) h) ∙ ap (λ z. octets_in (entries_in z 1)) k ∙ octets_there 2 n
+
+-- One function is given.
+one_given : (reader : Option (List ℕ → Option AggregateFn)) (unknown : Bool) (id metadata : List ℕ) (f g : AggregateFn) → IsGivenBy reader unknown id metadata f → IsGivenBy reader unknown id metadata g → f ≡ g
+one_given (Some gives) unknown id metadata f g h k = some_same f g (sym h.0 ∙ k.0)
+one_given None unknown id metadata f g h k = h.1 ∙ sym k.1
+
+-- Where one is given, memory alone can run out.
+none_given : (e : FnWireError) (reader : Option (List ℕ → Option AggregateFn)) (unknown : Bool) (id metadata : List ℕ) (g : AggregateFn) → IsNotGiven e reader unknown id metadata → IsGivenBy reader unknown id metadata g → e ≡ OutOfMemory
+none_given OutOfMemory reader unknown id metadata g h k = refl
+none_given BadMessage reader unknown id metadata g h k = absurd h
+none_given TooDeep reader unknown id metadata g h k = absurd h
+none_given RootWithChildren reader unknown id metadata g h k = absurd h
+none_given UnknownId (Some gives) unknown id metadata g h k = absurd (none_some gives (sym h.0))
+none_given UnknownId None unknown id metadata g h k = absurd (let e : true ≡ false = sym k.0 ∙ h.1 in cc)
+none_given ArityMismatch reader unknown id metadata g h k = absurd h
+none_given IdMismatch (Some gives) unknown id metadata g h k =
+    let same : gives ≡ h.0 = some_same gives h.0 h.2 in
+    let other : g ≡ h.1 = some_same g h.1 (sym k.0 ∙ ap (λ r. r metadata) same ∙ h.3) in
+    absurd (h.4 (ap (λ f. f.id) (sym other) ∙ k.1))
+none_given IdMismatch None unknown id metadata g h k = absurd (none_some h.0 h.2)
+none_given NotSerializable reader unknown id metadata g h k = absurd h
+none_given PluginRefused (Some gives) unknown id metadata g h k =
+    let same : gives ≡ h.0 = some_same gives h.0 h.1 in
+    absurd (none_some g (sym h.2 ∙ ap (λ r. r metadata) (sym same) ∙ k.0))
+none_given PluginRefused None unknown id metadata g h k = absurd (none_some h.0 h.1)
+
+-- What is given of the parts is read, and what is not has its cause.
+pub read_of : (registry : Registry AggregateFn) (unknown : Bool) (v : Value) (id there : List ℕ) (m : Option (List ℕ)) (metadata : List ℕ) (r : Result AggregateFn FnWireError)
+    → HoldsAggregate v there m → id ≡ there → metadata ≡ metadata_of m → IfOk r (λ f. IsGivenBy (registry id) unknown id metadata f) → IfOk r (λ f. ReadsAggregate registry unknown v f)
+read_of registry unknown v id there m metadata (Ok f) holds same is given =
+    record { id = id; metadata = m; holds = subst (λ i. HoldsAggregate v i m) (sym same) holds; given = subst (λ b. IsGivenBy (registry id) unknown id b f) is given }
+read_of registry unknown v id there m metadata (Err e) holds same is given = tt
+
+pub caused_of : (registry : Registry AggregateFn) (unknown : Bool) (v : Value) (id there : List ℕ) (m : Option (List ℕ)) (metadata : List ℕ) (r : Result AggregateFn FnWireError)
+    → HoldsAggregate v there m → id ≡ there → metadata ≡ metadata_of m → IfErr r (λ e. IsNotGiven e (registry id) unknown id metadata) → IfErr r (λ e. IsUnreadAggregate e registry unknown v)
+caused_of registry unknown v id there m metadata (Ok f) holds same is cause = tt
+caused_of registry unknown v id there m metadata (Err e) holds same is cause =
+    record { id = id; metadata = m; holds = subst (λ i. HoldsAggregate v i m) (sym same) holds; cause = subst (λ b. IsNotGiven e (registry id) unknown id b) is cause }
+
+-- One function is read of a message, and where one is, memory alone can run out.
+pub one_read : (registry : Registry AggregateFn) (unknown : Bool) (v : Value) (r : Result AggregateFn FnWireError) (g : AggregateFn)
+    → IfOk r (λ f. ReadsAggregate registry unknown v f) → IfErr r (λ e. IsUnreadAggregate e registry unknown v) → ReadsAggregate registry unknown v g → MatchResult r (λ f. f ≡ g) (λ e. e ≡ OutOfMemory)
+one_read registry unknown v (Ok f) g read cause k =
+    let id = one_id v k.id read.id k.metadata read.metadata k.holds read.holds in
+    let m = one_metadata v k.id read.id k.metadata read.metadata k.holds read.holds in
+    one_given (registry read.id) unknown read.id (metadata_of read.metadata) f g read.given
+    (subst (λ n. IsGivenBy (registry read.id) unknown read.id (metadata_of n) g) m (subst (λ i. IsGivenBy (registry i) unknown i (metadata_of k.metadata) g) id k.given))
+one_read registry unknown v (Err e) g read cause k =
+    let id = one_id v k.id cause.id k.metadata cause.metadata k.holds cause.holds in
+    let m = one_metadata v k.id cause.id k.metadata cause.metadata k.holds cause.holds in
+    none_given e (registry cause.id) unknown cause.id (metadata_of cause.metadata) g cause.cause
+    (subst (λ n. IsGivenBy (registry cause.id) unknown cause.id (metadata_of n) g) m (subst (λ i. IsGivenBy (registry i) unknown i (metadata_of k.metadata) g) id k.given))

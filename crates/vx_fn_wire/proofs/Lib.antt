@@ -1,0 +1,4 @@
+pub mod Forms
+pub mod Lists
+pub mod Texts
+pub mod AggregateParts

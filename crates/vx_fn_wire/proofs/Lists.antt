@@ -1,0 +1,67 @@
+-- Lists of expressions and of their trees, element by element.
+use Rattle.std.specs.Prelude.{ℕ, zero, suc, ◌+◌, ◌*◌, ◌<◌, ◌≡◌, List, [], ◌∷◌, ◌++◌, length, take, refl}
+use Rattle.std.proofs.Common.{arith, get_or, sym, ap, ◌∙◌, subst}
+use Rattle.std.proofs.lemmas.List.{take_more}
+use Rattle.vx_trees.specs.Rose.{roses_of}
+use Rattle.vx_trees.specs.Walks.{nodes, nodes_of}
+use Rattle.vx_trees.proofs.Counting.{nodes-at}
+use Rattle.vx_trees.proofs.Holding.{everywhere_below-snoc, everywhere-at}
+use Rattle.vx_proto.specs.Repeated.{members, as_message, messages}
+use Rattle.vx_proto.specs.Value.{Entry, message, slots_of}
+use Rattle.vx_fn_wire.specs.Expr.{IsExprNode, IsExpr, AreExprs}
+use Rattle.vx_fn_wire.specs.Messages.{CanWrite, IsSerializable, AreSerializable, expr_message, expr_messages}
+use Rattle.vx_fn_wire.specs.Parts.{expr_size, slice_size}
+use Rattle.vx_fn_wire.specs.Seen.{expr, exprs}
+use Rattle.vx_fn_wire.specs.declared.expression.Expression.{Expression}
+
+pub exprs-length : (es : List Expression) → length (exprs es) ≡ length es
+exprs-length [] = refl
+exprs-length (e ∷ es) = ap (λ n. suc n) (exprs-length es)
+
+pub exprs-at : (es : List Expression) (i : ℕ) (e : Expression) → get_or (exprs es) i (expr e) ≡ expr (get_or es i e)
+exprs-at [] i e = refl
+exprs-at (x ∷ es) zero e = refl
+exprs-at (x ∷ es) (suc i) e = exprs-at es i e
+
+pub exprs-push : (es : List Expression) (e : Expression) → exprs (es ++ e ∷ []) ≡ exprs es ++ expr e ∷ []
+exprs-push [] e = refl
+exprs-push (x ∷ es) e = ap (λ r. expr x ∷ r) (exprs-push es e)
+
+-- An element is smaller than the list.
+pub size-at : (es : List Expression) (i : ℕ) (e : Expression) → i < length es → expr_size (expr (get_or es i e)) < slice_size (exprs es)
+size-at es i e h =
+    let g : i < length (exprs es) = omega (arith, h, exprs-length es) in
+    let f : expr_size (get_or (exprs es) i (expr e)) < slice_size (exprs es) = omega (arith, nodes-at (exprs es) i (expr e) g) in
+    subst (λ t. expr_size t < slice_size (exprs es)) (exprs-at es i e) f
+
+-- One expression more at the end.
+pub exprs_pushed : (es fs : List Expression) (e : Expression) → AreExprs (exprs es) → IsExpr (expr e) → fs ≡ es ++ e ∷ [] → AreExprs (exprs fs)
+exprs_pushed es fs e h k is = everywhere_below-snoc IsExprNode (exprs es) (exprs fs) (expr e) h k (ap exprs is ∙ exprs-push es e)
+
+pub nodes_at : (es : List Expression) (i : ℕ) (e : Expression) → i < length es → e ≡ get_or es i e → 4 * nodes (expr e) < 4 * nodes_of (roses_of (exprs es)) + 1
+nodes_at es i e h is = subst (λ x. expr_size (expr x) < slice_size (exprs es)) (sym is) (size-at es i e h)
+
+-- ---- options that can be written
+
+-- Each of a list, and so the one at a place.
+pub serializable_at : (es : List Expression) (i : ℕ) (e : Expression) → i < length es → e ≡ get_or es i e → AreSerializable (roses_of (exprs es)) → IsSerializable (expr e)
+serializable_at es i e h is all =
+    let g : i < length (exprs es) = omega (arith, h, exprs-length es) in
+    subst IsSerializable (exprs-at es i e ∙ ap expr (sym is)) (everywhere-at CanWrite (exprs es) i (expr e) g all)
+
+-- One more of a list.
+pub serializable_more : (es : List Expression) (i : ℕ) (e : Expression) → i < length es → e ≡ get_or es i e → AreSerializable (roses_of (exprs (take i es))) → IsSerializable (expr e)
+    → AreSerializable (roses_of (exprs (take (i + 1) es)))
+serializable_more es i e h is some this =
+    everywhere_below-snoc CanWrite (exprs (take i es)) (exprs (take (i + 1) es)) (expr e) some this
+    (ap exprs (take_more es i e h ∙ ap (λ x. take i es ++ x ∷ []) (sym is)) ∙ exprs-push (take i es) e)
+
+-- ---- messages
+
+-- The messages of expressions, as members.
+pub written_exprs : (n : ℕ) (es : List Expression) → members (as_message (λ e. expr_message (expr e))) n es ≡ messages (λ v. v) n (expr_messages (roses_of (exprs es)))
+written_exprs n [] = refl
+written_exprs n (e ∷ es) = ap (λ (z : List Entry). (n, message (slots_of (expr_message (expr e)))) ∷ z) (written_exprs n es)
+
+-- For loops over expressions.
+pub ruleset falling = (size-at, exprs-length, exprs-at)

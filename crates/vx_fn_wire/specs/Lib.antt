@@ -1,0 +1,13 @@
+pub mod Arity
+pub mod Refusals
+pub mod Schema
+pub mod Messages
+pub mod Texts
+pub mod Foreign
+pub mod Expr
+pub mod Parts
+pub mod Seen
+pub mod Falls
+pub mod ExprText
+pub mod Plugin
+pub mod Session

@@ -1,0 +1,66 @@
+//! Functions of columns.
+
+ghost use Rattle.std.specs.Prelude.{◌≡◌, None, IfOk, IfErr, IsErr, MatchResult};
+ghost use Rattle.vx_fn_wire.specs.Messages.{aggregate_message, IsUnwrittenAggregate};
+ghost use Rattle.vx_fn_wire.specs.Session.{aggregates_meaning, ReadsAggregate, IsUnreadAggregate};
+ghost use Rattle.vx_fn_wire.specs.declared.aggregate_fn.AggregateFn.{AggregateFn as Aggregate};
+
+use crate::aggregate_reading::{function_of, parts_of};
+use crate::error::FnWireError;
+use crate::pb;
+use crate::plugin::AggregateFnPlugin;
+use crate::session::FnSession;
+use crate::slots::octets_slot;
+use std::alloc::Global;
+use vx_proto::PlainMessage;
+use vx_types::{Blob, Id};
+
+/// A function of columns, as far as its message tells.
+#[derive(Debug, Drop)]
+pub struct AggregateFn {
+    /// Which function it is.
+    pub id: Id,
+    /// Its options as bytes; None where they cannot be written.
+    pub options: Option<Blob>,
+}
+
+/// An aggregate function, as it is held.
+pub type AggregateFnRef = AggregateFn;
+
+impl AggregateFn {
+    /// The function whose message this is: its plugin's, or the foreign one where no plugin stands and
+    /// unknown ones are allowed. Absent metadata is read as empty. `UnknownId` where neither is,
+    /// `IdMismatch` where the plugin gives another identifier, `PluginRefused` where it refuses the
+    /// metadata.
+    pub fn from_proto(
+        alloc: Global,
+        message: &pb::AggregateFn,
+        session: &FnSession,
+    ) -> Result<AggregateFn, FnWireError>
+        ensures read { IfOk result (λ f. ReadsAggregate (aggregates_meaning aggregate_of session.now.aggregates) session.now.unknown message.now f) }
+        ensures cause { IfErr result (λ e. IsUnreadAggregate e (aggregates_meaning aggregate_of session.now.aggregates) session.now.unknown message.now) }
+        ensures complete { (f : Aggregate) → ReadsAggregate (aggregates_meaning aggregate_of session.now.aggregates) session.now.unknown message.now f
+            → MatchResult result (λ g. g ≡ f) (λ e. e ≡ FnWireError.OutOfMemory) }
+    {
+        let parts = parts_of(message);
+        let id = Id::new(alloc, parts.id)?;
+        let metadata = parts.metadata_or_none();
+        function_of(alloc, id, metadata, &session.aggregates, session.unknown)
+    }
+
+    /// The function's message. `NotSerializable` exactly where its options cannot be written.
+    pub fn serialize_proto(&self, alloc: Global) -> Result<pb::AggregateFn, FnWireError>
+        ensures same { IfOk result (λ m. m ≡ aggregate_message self.now) }
+        ensures cause { IfErr result (λ e. IsUnwrittenAggregate e self.now) }
+        ensures refused { self.now.options ≡ None → IsErr result }
+    {
+        let Some(metadata) = &self.options else {
+            return Err(FnWireError::NotSerializable);
+        };
+        self.id.hold();
+        let id = octets_slot(alloc, 1, self.id.as_str().as_bytes())?;
+        let metadata = octets_slot(alloc, 2, metadata.as_slice())?;
+        let slots = vec![in alloc; id, metadata]?;
+        Ok(PlainMessage::new(slots))
+    }
+}

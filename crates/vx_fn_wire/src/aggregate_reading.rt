@@ -1,0 +1,98 @@
+//! Aggregate functions out of messages.
+
+ghost use Rattle.std.specs.Prelude.{◌≡◌, Bool, Some, IfOk, IfErr, option_map};
+ghost use Rattle.vx_fn_wire.specs.Messages.{metadata_of};
+ghost use Rattle.vx_fn_wire.specs.Session.{aggregates_meaning, IsGivenBy, IsNotGiven, HoldsAggregate};
+
+use crate::aggregate_fn::AggregateFn;
+use crate::error::FnWireError;
+use crate::foreign_aggregate::new_foreign_aggregate_fn;
+use crate::pb;
+use crate::plugin::{AggregateFnPlugin, PluginError, aggregate_by};
+use crate::session::AggregateFnSession;
+use std::alloc::Global;
+use vx_proto::{octets_at, text_at};
+use vx_types::{Blob, Id};
+
+/// What the message of an aggregate function holds: its identifier, and metadata that may stand.
+#[derive(Clone, Copy)]
+pub struct AggregateParts<'a> {
+    pub id: &'a str,
+    pub metadata: Option<&'a [u8]>,
+}
+
+impl<'a> AggregateParts<'a> {
+    /// The metadata, which are empty where none stand.
+    pub fn metadata_or_none(&self) -> &'a [u8]
+        ensures { result.now ≡ metadata_of (option_map (λ s. s.now) self.now.metadata) }
+    {
+        match self.metadata {
+            Some(metadata) => metadata,
+            None => &[],
+        }
+    }
+}
+
+/// The parts of a message.
+pub fn parts_of(message: &pb::AggregateFn) -> AggregateParts<'_>
+    ensures { HoldsAggregate message.now result.id.now (option_map (λ s. s.now) result.metadata) }
+{
+    message.hold();
+    let Some(slots) = message.slots() else {
+        return AggregateParts {
+            id: "",
+            metadata: None,
+        };
+    };
+    let Some(id) = text_at(slots, 0) else {
+        unreachable!();
+    };
+    AggregateParts {
+        id,
+        metadata: octets_at(slots, 1),
+    }
+}
+
+/// The function of an identifier that has a plugin.
+fn registered(
+    alloc: Global,
+    id: &Id,
+    metadata: &[u8],
+    plugin: &Box<dyn AggregateFnPlugin>,
+) -> Result<AggregateFn, FnWireError>
+    ensures given { IfOk result (λ f. (aggregate_of plugin.now metadata.now ≡ Some f) × (f.id ≡ id.now)) }
+    ensures cause { IfErr result (λ e. (unknown : Bool) → IsNotGiven e (Some (aggregate_of plugin.now)) unknown id.now metadata.now) }
+{
+    match aggregate_by(alloc, plugin, metadata) {
+        Ok(function) => {
+            if function.id.as_str() != id.as_str() {
+                return Err(FnWireError::IdMismatch);
+            }
+            Ok(function)
+        }
+        Err(PluginError::OutOfMemory) => Err(FnWireError::OutOfMemory),
+        Err(PluginError::Refused) => Err(FnWireError::PluginRefused),
+    }
+}
+
+/// The function that is given of an identifier and metadata.
+pub fn function_of(
+    alloc: Global,
+    id: Id,
+    metadata: &[u8],
+    session: &AggregateFnSession,
+    unknown: bool,
+) -> Result<AggregateFn, FnWireError>
+    ensures given { IfOk result (λ f. IsGivenBy (aggregates_meaning aggregate_of session.now id) unknown id metadata.now f) }
+    ensures cause { IfErr result (λ e. IsNotGiven e (aggregates_meaning aggregate_of session.now id) unknown id metadata.now) }
+{
+    match session.plugins.get(&id) {
+        Some(plugin) => registered(alloc, &id, metadata, plugin),
+        None => {
+            if !unknown {
+                return Err(FnWireError::UnknownId);
+            }
+            Ok(new_foreign_aggregate_fn(id, Blob::copy_from(alloc, metadata)?))
+        }
+    }
+}

@@ -1,0 +1,129 @@
+//! Expressions.
+
+ghost use Rattle.std.specs.Prelude.{◌≡◌, ◌↔◌, ◌≤◌, Some, length, IsTrue, IfOk, IfErr, IsOk};
+ghost use Rattle.vx_trees.specs.Rose.{node, roses_of};
+ghost use Rattle.vx_trees.specs.Walks.{levels};
+ghost use Rattle.vx_proto.specs.Reads.{Reads};
+ghost use Rattle.vx_proto.specs.Written.{written};
+ghost use Rattle.vx_fn_wire.specs.Arity.{Admits};
+ghost use Rattle.vx_fn_wire.specs.Expr.{Expr, call, IsExpr};
+ghost use Rattle.vx_fn_wire.specs.ExprText.{expr_text};
+ghost use Rattle.vx_fn_wire.specs.Messages.{expr_message, IsSerializable, IsUnwritten, IsUnwrittenBytes};
+ghost use Rattle.vx_fn_wire.specs.Schema.{expr_lists};
+ghost use Rattle.vx_fn_wire.specs.Seen.{expr};
+
+use crate::call::Call;
+use crate::error::FnWireError;
+use crate::expressions::Expressions;
+use crate::pb;
+use crate::scalar_fn::ScalarFn;
+use crate::writing::{self, slots_of};
+use std::alloc::Global;
+use std::fmt;
+use std::fmt::Display;
+use vx_proto::{Message, PlainMessage};
+use vx_types::Blob;
+
+/// An expression: what rows are, or a call of a function on expressions. Contracts see its tree.
+#[cycle(expression)]
+#[derive(Debug, Drop)]
+pub enum Expression {
+    /// The rows that the expression is evaluated on.
+    Root,
+    /// A call of a function.
+    Call(Call),
+}
+
+impl Expression {
+    /// The call of a function on these children. The function's arity admits their number, which
+    /// [`crate::Arity::admits`] tells.
+    pub fn call(function: ScalarFn, children: Expressions) -> Expression
+        requires { Admits function.arity (length children) }
+        ensures { expr result ≡ node (call function) (roses_of children) }
+    {
+        Expression::Call(Call::new(function, children))
+    }
+
+    /// What is known of each expression: each call in it has as many children as its function's arity
+    /// admits. Nothing runs; a caller gets the fact.
+    pub fn hold(&self)
+        ensures { IsExpr (expr self.now) }
+    {
+        match self {
+            Expression::Root => {}
+            Expression::Call(call) => call.hold(),
+        }
+    }
+
+    /// Whether the options of each function in it can be written.
+    pub fn is_serializable(&self) -> bool
+        ensures { IsTrue result ↔ IsSerializable (expr self.now) }
+    {
+        writing::is_serializable(self)
+    }
+
+    /// The bytes of the expression's message. `NotSerializable` where the options of some function in
+    /// it cannot be written, `TooDeep` where over 100 calls nest, the root counted as one.
+    #[tactic(auto, using(crate::proofs::Forms::expr_form, crate::proofs::Forms::expr_depth))]
+    pub fn to_proto_bytes(&self, alloc: Global) -> Result<Blob, FnWireError>
+        ensures exact { IfOk result (λ bytes. bytes ≡ written expr_lists 0 (expr_message (expr self.now))) }
+        ensures read { IfOk result (λ bytes. Reads expr_lists 0 bytes (expr_message (expr self.now))) }
+        ensures whole { IsOk result → IsSerializable (expr self.now) }
+        ensures shallow { IsOk result → levels (expr self.now) ≤ 100 }
+        ensures cause { IfErr result (λ e. IsUnwrittenBytes e (expr self.now)) }
+    {
+        self.hold();
+        let message = self.serialize_proto(alloc)?;
+        let bytes = message.encode_to_vec(alloc)?;
+        Ok(Blob::new(bytes.into_vec()))
+    }
+}
+
+/// Writing an expression as its message.
+pub trait ExprSerializeProtoExt {
+    /// The tree of the expression.
+    ghost tree: { Self → Expr };
+
+    /// The message of the expression. `NotSerializable` where the options of some function in it cannot
+    /// be written.
+    fn serialize_proto(&self, alloc: Global) -> Result<pb::Expr, FnWireError>
+        ensures same { IfOk result (λ m. m ≡ expr_message (tree self.now)) }
+        ensures whole { IsOk result → IsSerializable (tree self.now) }
+        ensures cause { IfErr result (λ e. IsUnwritten e (tree self.now)) };
+}
+
+impl ExprSerializeProtoExt for Expression {
+    ghost tree = { expr };
+
+    #[tactic(auto, using(crate::proofs::Forms::expr_form))]
+    fn serialize_proto(&self, alloc: Global) -> Result<pb::Expr, FnWireError> {
+        if !self.is_serializable() {
+            return Err(FnWireError::NotSerializable);
+        }
+        self.hold();
+        let slots = slots_of(alloc, self)?;
+        Ok(PlainMessage::new(slots))
+    }
+}
+
+impl fmt::Display for Expression {
+    ghost output = { λ e. Some (expr_text (expr e)) };
+
+    fn fmt<W: fmt::Write>(&self, f: &mut fmt::Formatter<W>) -> fmt::Result {
+        match self {
+            Expression::Root => f.write_str("root"),
+            Expression::Call(call) => {
+                f.write_str(call.function().id.as_str())?;
+                f.write_str("(")?;
+                if let [first, rest @ ..] = call.children().as_slice() {
+                    first.fmt(f)?;
+                    for child in rest {
+                        f.write_str(", ")?;
+                        child.fmt(f)?;
+                    }
+                }
+                f.write_str(")")
+            }
+        }
+    }
+}

@@ -1,0 +1,49 @@
+//! Expressions and functions as tagged messages.
+//!
+//! A [`ScalarFn`] is a function of rows as far as its messages tell: its identifier, its options as
+//! bytes, the text of these, and how its calls look. An [`AggregateFn`] is a function of columns, an
+//! identifier and options. Functions that nobody registered are foreign: [`ForeignScalarFnVTable`] and
+//! [`new_foreign_aggregate_fn`] make them of what their messages hold.
+//!
+//! An [`Expression`] is a tree of calls over the root. It is written as a message and printed. A
+//! [`FnSession`] holds boxed plugins, by which an aggregate function is read of its message.
+//!
+//! The definitions that the contracts cite are public: `specs::Arity` says how many children a call may
+//! have, `specs::Expr` which trees are expressions, `specs::Messages` which message a function and an
+//! expression have, `specs::Foreign` what a foreign function is, `specs::Texts` and `specs::ExprText`
+//! how options and expressions look, and `specs::Session` what a message is read as under a session, or
+//! why it is not.
+#![tactic(auto)]
+
+mod aggregate_fn;
+mod aggregate_reading;
+mod arity;
+mod call;
+mod error;
+mod expression;
+mod expressions;
+mod foreign;
+mod foreign_aggregate;
+pub mod pb;
+mod plugin;
+mod scalar_fn;
+mod session;
+mod slots;
+mod views;
+mod writing;
+
+pub use aggregate_fn::{AggregateFn, AggregateFnRef};
+pub use arity::Arity;
+pub use call::Call;
+pub use error::FnWireError;
+pub use expression::{ExprSerializeProtoExt, Expression};
+pub use expressions::Expressions;
+pub use foreign::{ForeignScalarFnOptions, ForeignScalarFnVTable};
+pub use foreign_aggregate::{
+    ForeignAggregateFnOptions, ForeignAggregateFnVTable, new_foreign_aggregate_fn,
+};
+pub use pb::{AggregateFnMessage, ExprMessage};
+pub use plugin::{AggregateFnPlugin, PluginError, ScalarFnPlugin};
+pub use scalar_fn::{ScalarFn, ScalarFnRef};
+pub use session::{AggregateFnSession, FnSession, ScalarFnSession};
+pub use views::{ScalarFnOptions, ScalarFnSignature};

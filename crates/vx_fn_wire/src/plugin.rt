@@ -1,0 +1,94 @@
+//! Readers of functions, of the caller.
+
+ghost use Rattle.std.specs.Prelude.{◌≡◌, ℕ, List, Option, Some, None};
+ghost use Rattle.vx_types.specs.Seen.{typ};
+ghost use Rattle.vx_types.specs.Typ.{Typ};
+ghost use Rattle.vx_fn_wire.specs.Plugin.{IsAnswer};
+ghost use Rattle.vx_fn_wire.specs.declared.scalar_fn.ScalarFn.{ScalarFn as Scalar};
+ghost use Rattle.vx_fn_wire.specs.declared.aggregate_fn.AggregateFn.{AggregateFn as Aggregate};
+
+use crate::aggregate_fn::AggregateFn;
+use crate::scalar_fn::ScalarFn;
+use std::alloc::Global;
+use vx_types::{DType, Id};
+
+/// Why a plugin gives no function.
+#[derive(Clone, Copy, Debug, PartialEq, Eq, Drop)]
+pub enum PluginError {
+    /// The allocator gave no memory.
+    OutOfMemory,
+    /// The plugin refuses the metadata.
+    Refused,
+}
+
+/// What a caller knows of the functions of rows of one identifier.
+pub trait ScalarFnPlugin: Drop {
+    /// The identifier that the plugin is for.
+    ghost scalar_id: { Self → List ℕ };
+
+    /// The function of metadata; None where the plugin refuses them.
+    ghost scalar_of: { Self → List ℕ → Option Scalar };
+
+    /// The identifier of the functions.
+    fn id(&self) -> &Id
+        ensures { result.now ≡ scalar_id self.now };
+
+    /// The function of this metadata. `Refused` exactly where the plugin's meaning refuses it.
+    fn deserialize(&self, alloc: Global, metadata: &[u8]) -> Result<ScalarFn, PluginError>
+        ensures { IsAnswer (scalar_of self.now metadata.now) result };
+}
+
+/// What a caller knows of the aggregate functions of one identifier.
+pub trait AggregateFnPlugin: Drop {
+    /// The identifier that the plugin is for.
+    ghost aggregate_id: { Self → List ℕ };
+
+    /// The function of metadata; None where the plugin refuses them.
+    ghost aggregate_of: { Self → List ℕ → Option Aggregate };
+
+    /// The identifier of the functions.
+    fn id(&self) -> &Id
+        ensures { result.now ≡ aggregate_id self.now };
+
+    /// The function of this metadata. `Refused` exactly where the plugin's meaning refuses it.
+    fn deserialize(&self, alloc: Global, metadata: &[u8]) -> Result<AggregateFn, PluginError>
+        ensures { IsAnswer (aggregate_of self.now metadata.now) result };
+
+    /// The function by which zones of rows of a type are told apart, if there is one; None where the
+    /// plugin refuses the type. A plugin that does not say it has none for each type.
+    ghost zone_default: { Self → Typ → Option (Option Aggregate) } = { λ _ _. Some None };
+
+    /// The function by which zones of rows of this type are told apart, if there is one. `Refused`
+    /// exactly where the plugin's meaning refuses it.
+    fn zone_stat_default(
+        &self,
+        alloc: Global,
+        dtype: &DType,
+    ) -> Result<Option<AggregateFn>, PluginError>
+        ensures { IsAnswer (zone_default self.now (typ dtype.now)) result };
+}
+
+/// `id` of a box.
+pub(crate) fn id_of_scalar(plugin: &Box<dyn ScalarFnPlugin>) -> &Id
+    ensures { result.now ≡ scalar_id plugin.now }
+{
+    plugin.id()
+}
+
+/// `id` of a box.
+pub(crate) fn id_of_aggregate(plugin: &Box<dyn AggregateFnPlugin>) -> &Id
+    ensures { result.now ≡ aggregate_id plugin.now }
+{
+    plugin.id()
+}
+
+/// `deserialize` of a box.
+pub(crate) fn aggregate_by(
+    alloc: Global,
+    plugin: &Box<dyn AggregateFnPlugin>,
+    metadata: &[u8],
+) -> Result<AggregateFn, PluginError>
+    ensures { IsAnswer (aggregate_of plugin.now metadata.now) result }
+{
+    plugin.deserialize(alloc, metadata)
+}

@@ -1,0 +1,17 @@
+//! Slots of the messages of functions.
+
+ghost use Rattle.std.specs.Prelude.{◌≡◌, IfOk, IsOkUnless};
+ghost use Rattle.vx_proto.specs.Value.{entries_view};
+ghost use Rattle.vx_fn_wire.specs.Messages.{one_octets};
+
+use std::alloc::Global;
+use vx_proto::{Entries, ProtoError, copied, one};
+
+/// The slot of a text or of bytes.
+pub fn octets_slot(alloc: Global, number: u32, bytes: &[u8]) -> Result<Entries, ProtoError>
+    ensures same { IfOk result (λ es. entries_view es.items ≡ one_octets number bytes.now) }
+    ensures err { IsOkUnless result ProtoError.OutOfMemory }
+{
+    let element = copied(alloc, bytes)?;
+    one(alloc, number, element)
+}

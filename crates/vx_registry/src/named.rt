@@ -1,0 +1,18 @@
+//! Identifiers of texts.
+
+ghost use Rattle.std.specs.Prelude.{◌≡◌, IfOk, IsOkUnless};
+
+use crate::error::RegistryError;
+use std::alloc::Global;
+use vx_types::Id;
+
+/// The identifier of this text. The only refusal is want of memory.
+pub(crate) fn named(alloc: Global, text: &str) -> Result<Id, RegistryError>
+    ensures ok { IfOk result (λ id. id ≡ text.now) }
+    ensures err { IsOkUnless result RegistryError.OutOfMemory }
+{
+    match Id::new(alloc, text) {
+        Ok(id) => Ok(id),
+        Err(_) => Err(RegistryError::OutOfMemory),
+    }
+}

@@ -1,0 +1,5 @@
+pub mod ScalarMessage
+pub mod Shallow
+pub mod Reading
+pub mod Writing
+pub mod Nans

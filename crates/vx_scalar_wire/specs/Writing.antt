@@ -1,0 +1,32 @@
+-- What a writer of messages answers.
+use Rattle.std.specs.Prelude.{◌≡◌, ◌<◌, Result, Ok, Err}
+use Rattle.vx_proto.specs.Value.{Value}
+use Rattle.vx_proto.specs.Written.{nested}
+use Rattle.vx_proto.specs.declared.error.ProtoError.{ProtoError}
+use Rattle.vx_proto.specs.declared.error.ProtoError.TheVariants as proto
+use Rattle.vx_scalar_wire.specs.declared.error.ScalarWireError.{ScalarWireError}
+use Rattle.vx_scalar_wire.specs.declared.error.ScalarWireError.TheVariants.{OutOfMemory, BadMessage, TooDeep, OutOfRange, BadDType}
+use Rattle.vx_scalar_wire.specs.declared.error.TypeRefusal.TheVariants.{WireLimit}
+
+-- Why nothing is written: something is not shallow. Want of memory has no cause.
+abbrev pub IsUnwritten : ScalarWireError → Type 0 → Type 0
+IsUnwritten OutOfMemory Shallow = Unit {0}
+IsUnwritten (BadDType WireLimit) Shallow = Shallow → ⊥
+IsUnwritten error Shallow = ⊥
+
+-- A writer gives this, as view sees it, of what is shallow, or it has a cause.
+abbrev pub Writes : {X Y : Type 0} → (X → Y) → Result X ScalarWireError → Type 0 → Y → Type 0
+Writes view (Ok x) Shallow y = (view x ≡ y) × Shallow
+Writes view (Err e) Shallow y = IsUnwritten e Shallow
+
+-- A refusal of a message is that of its scalar.
+abbrev pub refusal_of_proto : ProtoError → ScalarWireError
+refusal_of_proto proto.OutOfMemory = OutOfMemory
+refusal_of_proto proto.BadMessage = BadMessage
+refusal_of_proto proto.TooDeep = TooDeep
+refusal_of_proto proto.OutOfRange = OutOfRange
+
+-- Why no bytes are written of a message: something is not shallow, or over 100 messages nest.
+abbrev pub IsUnwrittenBytes : ScalarWireError → Type 0 → Value → Type 0
+IsUnwrittenBytes TooDeep Shallow v = 100 < nested v
+IsUnwrittenBytes error Shallow v = IsUnwritten error Shallow

@@ -1,0 +1,14 @@
+//! Scalars as tagged messages.
+#![tactic(auto)]
+
+mod error;
+mod kinds;
+mod messages;
+mod nans;
+pub mod pb;
+mod writing;
+
+pub use error::{ScalarWireError, TypeRefusal};
+pub use kinds::{ListValueMessage, ScalarMessage, ScalarValueMessage, UnionValueMessage};
+pub use messages::{ScalarExt, ScalarValueExt};
+pub use nans::canonical_nan_sum;

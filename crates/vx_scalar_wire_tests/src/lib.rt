@@ -1,0 +1,5 @@
+//! Tests of scalars as messages, over the crate's public calls.
+#![tactic(auto)]
+
+#[cfg(test)]
+mod messages;

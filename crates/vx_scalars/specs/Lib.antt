@@ -1,0 +1,9 @@
+pub mod Decimals
+pub mod Seen
+pub mod Told
+pub mod Refused
+pub mod Falls
+pub mod Falling
+pub mod StatTypes
+pub mod Stats
+pub mod Places

@@ -1,0 +1,39 @@
+//! Copies of the parts of values.
+
+ghost use Rattle.std.specs.Prelude.{◌≡◌, IfOk, IsOkUnless, option_copied};
+
+use crate::error::ScalarError;
+use crate::value::ScalarValue;
+use std::alloc::Global;
+
+// A copy of a value that may be null.
+#[cycle(copy)]
+pub(crate) fn copied(
+    value: Option<&ScalarValue>,
+    alloc: Global,
+) -> Result<Option<ScalarValue>, ScalarError>
+    ensures ok { IfOk result (λ copy. copy ≡ option_copied value.entry) }
+    ensures err { IsOkUnless result ScalarError.OutOfMemory }
+{
+    match value {
+        None => Ok(None),
+        Some(value) => Ok(Some(value.clone(alloc)?)),
+    }
+}
+
+// Copies of the values.
+#[cycle(copy)]
+#[tactic(auto, using(crate::proofs::Lists::falling))]
+pub(crate) fn copy_all(
+    values: &[Option<ScalarValue>],
+    alloc: Global,
+) -> Result<Vec<Option<ScalarValue>>, ScalarError>
+    ensures ok { IfOk result (λ copies. copies.items ≡ values.now) }
+    ensures err { IsOkUnless result ScalarError.OutOfMemory }
+{
+    let mut copies = Vec::new(alloc);
+    for value in values {
+        copies.push(copied(value.as_ref(), alloc)?)?;
+    }
+    Ok(copies)
+}

@@ -1,0 +1,48 @@
+//! Refusals of this crate.
+
+ghost use Rattle.std.specs.Prelude.{◌≡◌};
+ghost use Rattle.vx_scalars.specs.declared.error.ScalarError.TheVariants.{OutOfMemory};
+
+use std::alloc::{AllocError, AllocFailed};
+use thiserror::Error;
+use vx_types::TypeError;
+
+/// Why a scalar could not be made.
+#[derive(Clone, Copy, Debug, PartialEq, Eq, Error)]
+pub enum ScalarError {
+    /// The allocator gave no memory.
+    #[error("out of memory")]
+    OutOfMemory,
+    /// A value is none of the type.
+    #[error("the value does not fit the type")]
+    BadScalar,
+}
+
+impl From<AllocError> for ScalarError {
+    ghost from_gives = { λ _ e. e ≡ OutOfMemory };
+
+    fn from(_e: AllocError) -> ScalarError {
+        ScalarError::OutOfMemory
+    }
+}
+
+impl<T: Drop> From<AllocFailed<T>> for ScalarError {
+    ghost from_gives = { λ _ e. e ≡ OutOfMemory };
+
+    fn from(_e: AllocFailed<T>) -> ScalarError {
+        ScalarError::OutOfMemory
+    }
+}
+
+impl From<TypeError> for ScalarError {
+    ghost use Rattle.vx_scalars.specs.Refused.{refusal_of};
+
+    ghost from_gives = { λ t e. e ≡ refusal_of t };
+
+    fn from(error: TypeError) -> ScalarError {
+        match error {
+            TypeError::OutOfMemory => ScalarError::OutOfMemory,
+            _ => ScalarError::BadScalar,
+        }
+    }
+}

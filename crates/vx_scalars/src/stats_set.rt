@@ -1,0 +1,214 @@
+//! Sets of statistics.
+
+ghost use Rattle.std.specs.Prelude.{◌≡◌, ◌==◌, false, IfOk, OnOk, OnErr, IsOkUnless, MatchOption};
+ghost use Rattle.std.specs.Slice.Iter.{iter_rest};
+ghost use Rattle.vx_types.specs.Value.{Value};
+ghost use Rattle.vx_scalars.specs.Places.{IsPlace, Changes, lent, absence};
+ghost use Rattle.vx_scalars.specs.Stats.{no_stats, told, told_at, with_told, told_in, IsNowhere, IsTold, AreEntries, ListsEach};
+ghost use Rattle.vx_scalars.specs.declared.precision.Precision.TheVariants.{Absent};
+
+use crate::error::ScalarError;
+use crate::precision::Precision;
+use crate::stat::Stat;
+use crate::value::ScalarValue;
+use std::alloc::Global;
+use std::marker::Model;
+use std::slice::Iter;
+
+/// What is told of an array's rows: for each statistic a value, exact or as a
+/// bound, or nothing. Contracts see what is told of each of the nine.
+#[derive(Debug, Drop)]
+pub struct StatsSet {
+    entries: Vec<(Stat, Precision<ScalarValue>)>,
+}
+
+impl Model for StatsSet {
+    ghost use Rattle.vx_scalars.specs.Stats.{Stats, stats_code};
+
+    ghost Value = { Stats };
+
+    ghost coded = { stats_code };
+
+    ghost use Rattle.vx_scalars.specs.Stats.{stats_of, told_in, AreEntries};
+
+    ghost view = { λ a. stats_of (λ s. told_in s a.entries.items) };
+
+    ghost invariant = { λ a. AreEntries a.entries.items };
+}
+
+impl StatsSet {
+    /// Nothing is told; more is stored by this allocator.
+    pub fn new(alloc: Global) -> StatsSet
+        ensures { result ≡ no_stats }
+    {
+        StatsSet {
+            entries: Vec::new(alloc),
+        }
+    }
+
+    /// What is told of a statistic.
+    pub fn get(&self, stat: Stat) -> Precision<&ScalarValue>
+        ensures { told (lent result) ≡ told_at self.now stat }
+    {
+        match place_in(self.entries.as_slice(), stat) {
+            Some(place) => borrowed(&self.entries[place].1),
+            None => Precision::Absent,
+        }
+    }
+
+    /// Another thing told of a statistic; `Absent` takes out what was told. Where
+    /// there is no memory for it, the set stays as it was, and the value is dropped.
+    pub fn set(&mut self, stat: Stat, value: Precision<ScalarValue>) -> Result<(), ScalarError>
+        ensures ok { OnOk result (self.new ≡ with_told self.old stat (told value)) }
+        ensures unchanged { OnErr result (self.new ≡ self.old) }
+        ensures err { IsOkUnless result ScalarError.OutOfMemory }
+    {
+        let absent = is_absent(&value);
+        match place_in(self.entries.as_slice(), stat) {
+            Some(place) => {
+                if absent {
+                    take_out(&mut self.entries, stat, place);
+                } else {
+                    replace(&mut self.entries, stat, place, value);
+                }
+                Ok(())
+            }
+            None => {
+                if absent {
+                    return Ok(());
+                }
+                add(&mut self.entries, stat, value)
+            }
+        }
+    }
+
+    /// The statistics of which something is told, each once, with what is told.
+    pub fn iter(&self) -> Iter<'_, (Stat, Precision<ScalarValue>)>
+        ensures { ListsEach self.now (iter_rest result) }
+    {
+        self.entries.iter()
+    }
+
+    /// An equal set.
+    pub fn clone(&self, alloc: Global) -> Result<StatsSet, ScalarError>
+        ensures ok { IfOk result (λ set. set ≡ self.now) }
+        ensures err { IsOkUnless result ScalarError.OutOfMemory }
+    {
+        let entries = copy_entries(self.entries.as_slice(), alloc)?;
+        Ok(StatsSet { entries })
+    }
+}
+
+// What is told, with its value lent.
+fn borrowed(value: &Precision<ScalarValue>) -> Precision<&ScalarValue>
+    ensures { lent result ≡ value.now }
+{
+    match value {
+        Precision::Exact(value) => Precision::Exact(value),
+        Precision::Inexact(value) => Precision::Inexact(value),
+        Precision::Absent => Precision::Absent,
+    }
+}
+
+// Whether nothing is told; of a value that is told, that its plain parts are such
+// as they may be.
+fn is_absent(value: &Precision<ScalarValue>) -> bool
+    ensures absent { result ≡ absence value.now }
+    ensures well { result ≡ false → IsTold (told value.now) }
+{
+    match value {
+        Precision::Exact(value) | Precision::Inexact(value) => {
+            value.hold();
+            false
+        }
+        Precision::Absent => true,
+    }
+}
+
+// The place of the entry of a statistic.
+#[tactic(auto, using(crate::proofs::Entries::placing))]
+fn place_in(entries: &[(Stat, Precision<ScalarValue>)], stat: Stat) -> Option<usize>
+    ensures { MatchOption result (IsNowhere stat entries.now) (λ i. IsPlace stat i entries.now) }
+{
+    for i in 0..entries.len() {
+        if entries[i].0.index() == stat.index() {
+            return Some(i);
+        }
+    }
+    None
+}
+
+// Takes the entry of a statistic out of its place.
+fn take_out(entries: &mut Vec<(Stat, Precision<ScalarValue>)>, stat: Stat, place: usize)
+    requires place { IsPlace stat place entries.old.items }
+    requires before { AreEntries entries.old.items }
+    ensures changes { Changes stat Absent entries.old.items entries.new.items }
+    ensures after { AreEntries entries.new.items }
+{
+    let _ = entries.remove(place);
+}
+
+// Puts what is told of a statistic in the place of what was.
+fn replace(
+    entries: &mut Vec<(Stat, Precision<ScalarValue>)>,
+    stat: Stat,
+    place: usize,
+    value: Precision<ScalarValue>,
+)
+    requires place { IsPlace stat place entries.old.items }
+    requires before { AreEntries entries.old.items }
+    requires told { IsTold (told value) }
+    ensures changes { Changes stat (told value) entries.old.items entries.new.items }
+    ensures after { AreEntries entries.new.items }
+{
+    entries[place] = (stat, value);
+}
+
+// Adds what is told of a statistic that has no entry.
+fn add(
+    entries: &mut Vec<(Stat, Precision<ScalarValue>)>,
+    stat: Stat,
+    value: Precision<ScalarValue>,
+) -> Result<(), ScalarError>
+    requires nowhere { IsNowhere stat entries.old.items }
+    requires before { AreEntries entries.old.items }
+    requires told { IsTold (told value) }
+    ensures changes { OnOk result (Changes stat (told value) entries.old.items entries.new.items) }
+    ensures after { AreEntries entries.new.items }
+    ensures unchanged { OnErr result (entries.new.items ≡ entries.old.items) }
+    ensures err { IsOkUnless result ScalarError.OutOfMemory }
+{
+    entries.push((stat, value))?;
+    Ok(())
+}
+
+// Copies of the entries.
+fn copy_entries(
+    entries: &[(Stat, Precision<ScalarValue>)],
+    alloc: Global,
+) -> Result<Vec<(Stat, Precision<ScalarValue>)>, ScalarError>
+    ensures ok { IfOk result (λ copies. copies.items ≡ entries.now) }
+    ensures err { IsOkUnless result ScalarError.OutOfMemory }
+{
+    let mut copies = Vec::new(alloc);
+    for i in 0..entries.len() {
+        copies.push(copy_entry(&entries[i], alloc)?)?;
+    }
+    Ok(copies)
+}
+
+// A copy of an entry.
+fn copy_entry(
+    entry: &(Stat, Precision<ScalarValue>),
+    alloc: Global,
+) -> Result<(Stat, Precision<ScalarValue>), ScalarError>
+    ensures ok { IfOk result (λ copy. copy ≡ entry.now) }
+    ensures err { IsOkUnless result ScalarError.OutOfMemory }
+{
+    let stat = entry.0;
+    match &entry.1 {
+        Precision::Exact(value) => Ok((stat, Precision::Exact(value.clone(alloc)?))),
+        Precision::Inexact(value) => Ok((stat, Precision::Inexact(value.clone(alloc)?))),
+        Precision::Absent => Ok((stat, Precision::Absent)),
+    }
+}

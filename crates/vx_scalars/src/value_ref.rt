@@ -1,0 +1,88 @@
+//! A value within a value.
+
+ghost use Rattle.std.specs.Prelude.{◌≡◌, IfOk, IsOkUnless, option_copied};
+ghost use Rattle.vx_types.specs.Well.{IsWell};
+ghost use Rattle.vx_scalars.specs.Seen.{seen};
+
+use crate::error::ScalarError;
+use crate::value::{ScalarValue, hold_seen};
+use std::alloc::Global;
+use std::marker::Model;
+
+/// The value of a union's member, which may be null. Contracts see its tree.
+#[cycle(scalar)]
+#[derive(Debug, Drop)]
+pub struct ValueRef {
+    value: Option<Box<ScalarValue>>,
+}
+
+impl Model for ValueRef {
+    ghost use Rattle.std.proofs.Common.{arith};
+    ghost use Rattle.vx_types.specs.Value.{Value as Tree, value_code};
+    ghost use Rattle.vx_scalars.specs.Falls.{place_size};
+
+    ghost Value = { Tree };
+
+    ghost coded = { value_code };
+
+    ghost use Rattle.vx_scalars.specs.Seen.{place_of};
+
+    ghost view = { λ a. place_of a.value };
+
+    ghost use Rattle.vx_types.specs.Well.{IsWell};
+
+    ghost invariant = { λ a. IsWell (place_of a.value) };
+
+    ghost size = { place_size };
+
+    ghost use Rattle.vx_scalars.specs.Falling.{place_le-size};
+
+    ghost size_decreases = { λ a h. Prim.omega (arith, place_le-size a.value) };
+}
+
+impl ValueRef {
+    /// This value, kept behind a pointer; a null takes no memory.
+    pub fn new(alloc: Global, value: Option<ScalarValue>) -> Result<ValueRef, ScalarError>
+        ensures ok { IfOk result (λ place. place ≡ seen value) }
+        ensures err { IsOkUnless result ScalarError.OutOfMemory }
+    {
+        match value {
+            None => Ok(ValueRef { value: None }),
+            Some(value) => {
+                value.hold();
+                let value = Box::new(alloc, value)?;
+                Ok(ValueRef { value: Some(value) })
+            }
+        }
+    }
+
+    /// The value; `None` is a null.
+    pub fn get(&self) -> Option<&ScalarValue>
+        ensures { seen (option_copied result) ≡ self.now }
+    {
+        match &self.value {
+            Some(value) => Some(value),
+            None => None,
+        }
+    }
+
+    /// An equal value.
+    #[cycle(copy)]
+    pub fn clone(&self, alloc: Global) -> Result<ValueRef, ScalarError>
+        ensures ok { IfOk result (λ place. place ≡ self.now) }
+        ensures err { IsOkUnless result ScalarError.OutOfMemory }
+    {
+        match self.get() {
+            None => Ok(ValueRef { value: None }),
+            Some(value) => ValueRef::new(alloc, Some(value.clone(alloc)?)),
+        }
+    }
+
+    /// What is known of each value within another: its numbers are in their
+    /// ranges, its texts are texts. Nothing runs; a caller gets the fact.
+    pub fn hold(&self)
+        ensures { IsWell self.now }
+    {
+        let _ = &self.value;
+    }
+}

@@ -1,0 +1,110 @@
+//! Lists of values.
+
+ghost use Rattle.std.specs.Prelude.{◌≡◌, ◌==◌, [], ◌∷◌, ◌++◌, OnOk, OnErr, IfOk, IsOkUnless, length, slice_get, option_map, option_copied};
+ghost use Rattle.vx_trees.specs.Rose.{roses_of};
+ghost use Rattle.vx_types.specs.Well.{AreWell};
+ghost use Rattle.vx_scalars.specs.Seen.{seen, all_seen};
+
+use crate::copy::copy_all;
+use crate::error::ScalarError;
+use crate::value::{ScalarValue, hold_seen};
+use std::alloc::Global;
+use std::marker::Model;
+
+/// The values of a tuple, in order, each of which may be null. Contracts see the
+/// list of their trees.
+#[cycle(scalar)]
+#[derive(Debug, Drop)]
+pub struct Values {
+    items: Vec<Option<ScalarValue>>,
+}
+
+impl Model for Values {
+    ghost use Rattle.std.specs.Prelude.{List};
+    ghost use Rattle.std.specs.Coded.{coded_list};
+    ghost use Rattle.std.proofs.Common.{arith};
+    ghost use Rattle.vx_types.specs.Value.{Value as Tree, value_code};
+    ghost use Rattle.vx_scalars.specs.Falls.{values_size};
+
+    ghost Value = { List Tree };
+
+    ghost coded = { coded_list value_code };
+
+    ghost use Rattle.vx_scalars.specs.Seen.{all_seen};
+
+    ghost view = { λ a. all_seen a.items.items };
+
+    ghost use Rattle.vx_trees.specs.Rose.{roses_of};
+    ghost use Rattle.vx_types.specs.Well.{AreWell};
+
+    ghost invariant = { λ a. AreWell (roses_of (all_seen a.items.items)) };
+
+    ghost size = { values_size };
+
+    ghost use Rattle.vx_scalars.specs.Falling.{most_le-size};
+
+    ghost size_decreases = { λ a h. Prim.omega (arith, most_le-size a.items.items) };
+}
+
+impl Values {
+    /// No value; more are stored by this allocator.
+    pub fn new(alloc: Global) -> Values
+        ensures { result ≡ [] }
+    {
+        Values {
+            items: Vec::new(alloc),
+        }
+    }
+
+    /// How many values there are.
+    pub fn len(&self) -> usize
+        ensures { result ≡ length self.now }
+    {
+        self.items.len()
+    }
+
+    /// Whether there is no value.
+    pub fn is_empty(&self) -> bool
+        ensures { result ≡ (length self.now == 0) }
+    {
+        self.items.is_empty()
+    }
+
+    /// All values, in order; `None` is a null.
+    pub fn as_slice(&self) -> &[Option<ScalarValue>]
+        ensures { all_seen result.now ≡ self.now }
+    {
+        self.items.as_slice()
+    }
+
+    /// One more value at the end, or a null. Where there is no memory for it, the
+    /// list stays as it was, and the value is dropped.
+    pub fn push(&mut self, value: Option<ScalarValue>) -> Result<(), ScalarError>
+        ensures ok { OnOk result (self.new ≡ self.old ++ seen value ∷ []) }
+        ensures unchanged { OnErr result (self.new ≡ self.old) }
+        ensures err { IsOkUnless result ScalarError.OutOfMemory }
+    {
+        hold_seen(&value);
+        self.items.push(value)?;
+        Ok(())
+    }
+
+    /// An equal list.
+    #[cycle(copy)]
+    pub fn clone(&self, alloc: Global) -> Result<Values, ScalarError>
+        ensures ok { IfOk result (λ values. values ≡ self.now) }
+        ensures err { IsOkUnless result ScalarError.OutOfMemory }
+    {
+        self.hold();
+        let items = copy_all(self.as_slice(), alloc)?;
+        Ok(Values { items })
+    }
+
+    /// What is known of each list of values: its numbers are in their ranges, its
+    /// texts are texts. Nothing runs; a caller gets the fact.
+    pub fn hold(&self)
+        ensures { AreWell (roses_of self.now) }
+    {
+        let _ = &self.items;
+    }
+}

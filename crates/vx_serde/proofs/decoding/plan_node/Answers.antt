@@ -1,0 +1,12 @@
+use Rattle.std.proofs.Common.{sym}
+use Rattle.vx_types.specs.Seen.{typ}
+use Rattle.vx_registry.specs.Meaning.{session_meaning}
+use Rattle.vx_serde.proofs.NodeTold.{caused_by_plan}
+use Rattle.vx_serde.proofs.decoding.plan_node.Goals as goal
+
+pub returns-in-Err-clause-cause : goal.returns-in-Err-clause-cause
+returns-in-Err-clause-cause g c =
+    let s = session_meaning (λ b. (goal.ExtPlugin-dyn g (b.vtable, b.value)).accepted b.value) c.args.session.now in
+    rw c.from.ensures
+    (caused_by_plan s c.in-Err.e c.args.node.now (typ c.args.dtype.now) c.args.len c.in-Some-reader.encoding c.in_ok-head.head
+    (record { id = c.in-Some.id.now; id_is = sym c.in-Some.ensures; reader_is = sym c.in-Some-reader.ensures.found; head = c.in_ok-head.ensures.head }) c.in-Err.ensures.err)

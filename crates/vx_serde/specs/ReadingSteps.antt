@@ -1,0 +1,49 @@
+-- What the steps of reading a blob give, and why they refuse.
+use Rattle.std.specs.Prelude.{ℕ, ◌≡◌, ◌<◌, List, Option, Some, None, slice_get}
+use Rattle.vx_buffer.specs.Buffer.{Buffer}
+use Rattle.vx_flat.specs.declared.error.FlatError.{FlatError}
+use Rattle.vx_flat.specs.declared.error.FlatError.TheVariants as tables
+use Rattle.vx_flat.specs.declared.limits.Limits.{Limits}
+use Rattle.vx_flat.specs.Limits.{IsLight}
+use Rattle.vx_flat.specs.Weight.{weight}
+use Rattle.vx_wire_tree.specs.Wire.{Wire}
+use Rattle.vx_encodings.specs.declared.error.EncodingError.{EncodingError}
+use Rattle.vx_encodings.specs.declared.error.EncodingError.TheVariants as encodings
+use Rattle.vx_serde.specs.declared.error.WireError.{WireError}
+use Rattle.vx_serde.specs.declared.error.WireError.TheVariants.{OutOfMemory, BadTable, TableLimit, BadAlignment, Compressed, OutOfBounds, BadMetadata, BadShape, WireLimit}
+use Rattle.vx_serde.specs.ArraySchema.{array_schema}
+use Rattle.vx_serde.specs.Blob.{Carries, AreClean}
+use Rattle.vx_serde.specs.Message.{Descriptor, message_of, place_behind}
+
+-- What opening a blob gives: the wire tree that it carries, under clean
+-- descriptors, from a message within the limits on reading.
+pub record IsOpened (most : Limits) (blob : List ℕ) (ids : List (List ℕ)) (w : Wire) : Type 0 where
+  pub carried : Carries blob ids w
+  pub clean : AreClean carried.segment (message_of carried.value).descriptors
+  pub light : IsLight most (weight array_schema carried.message)
+
+-- Why a descriptor is refused that begins its padding at a place of a segment of so many bytes.
+abbrev pub RefusesDescriptor : WireError → Descriptor → ℕ → ℕ → Type 0
+RefusesDescriptor BadAlignment d place segment = 16 < d.exponent
+RefusesDescriptor Compressed d place segment = 0 < d.compression
+RefusesDescriptor OutOfBounds d place segment = segment < place_behind place d
+RefusesDescriptor _ d place segment = ⊥
+
+-- Why a node's buffers are not taken: one is missing, or memory was wanted.
+abbrev pub RefusesBuffers : WireError → List (Option Buffer) → Type 0
+RefusesBuffers OutOfMemory bs = Unit {0}
+RefusesBuffers OutOfBounds bs = (i : ℕ) × (slice_get bs i ≡ Some None)
+RefusesBuffers _ bs = ⊥
+
+-- Why a message is not read, as a refusal of a blob.
+abbrev pub message_refusal : FlatError → WireError
+message_refusal tables.OutOfMemory = OutOfMemory
+message_refusal tables.BadTable = BadTable
+message_refusal tables.TableLimit = TableLimit
+message_refusal tables.MessageTooLong = WireLimit
+
+-- An encoding's refusal as one of a blob.
+abbrev pub encoding_refusal : EncodingError → WireError
+encoding_refusal encodings.OutOfMemory = OutOfMemory
+encoding_refusal encodings.BadMetadata = BadMetadata
+encoding_refusal encodings.BadShape = BadShape
