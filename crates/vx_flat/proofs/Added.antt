@@ -14,7 +14,7 @@ use Rattle.vx_flat.specs.FieldTables.{align, zeros, field_table_bytes}
 use Rattle.vx_flat.specs.Layout.{block_bytes}
 use Rattle.vx_flat.specs.Linking.{loose_block, cells_of}
 use Rattle.vx_flat.specs.Pieces.{Piece, table_piece, elements_piece, links_piece, text_piece}
-use Rattle.vx_flat.specs.Spots.{Known, spot, learn, known_at}
+use Rattle.vx_flat.specs.Spots.{Known, spot, intern, known_at}
 use Rattle.vx_flat.proofs.Bytes.{align_past}
 use Rattle.vx_flat.proofs.Cells.{end_past}
 use Rattle.vx_flat.proofs.Composing.{begun_front, begun_same, begun_length}
@@ -49,7 +49,7 @@ pub record Adds (old : Message) (known : Known) (shares : Bool) (q : Piece) (s :
   pub count : new.count ≡ old.count + 1
   pub left : reverse new.left.items ≡ links ++ reverse old.left.items
   pub waits : new.waits ≡ None
-  pub learned : later ≡ learn shares known s (loose_block q)
+  pub interned : later ≡ intern shares known s (loose_block q)
 
 module _ (old new : Message) (known later : Known) (shares failed : Bool) (q : Piece) (s : Spot) (block : List ℕ) (links : List Slot)
     (stands : IsOpen old) (h : Adds old known shares q s block links new later) where
@@ -107,7 +107,7 @@ module _ (old new : Message) (known later : Known) (shares failed : Bool) (q : P
       let l = h.left
       ∙ (ap (λ x. x ++ reverse old.left.items) h.links_are
       ∙ ap (λ (z : Spot). slots_of old.count z.aim q ++ reverse old.left.items) (sym there)) in
-      let k = h.learned ∙ ap (λ z. learn shares known z (loose_block q)) (sym there) in
+      let k = h.interned ∙ ap (λ z. intern shares known z (loose_block q)) (sym there) in
       λ i. record {
         bytes = b i;
         count = h.count i;
@@ -153,20 +153,20 @@ composed block begins cleared d m x start place b f c e s =
     ∙ (append_assoc (front d) (zeros (start - length (begun d))) x
     ∙ (λ i. front (e i) ++ (zeros (s i - length (begun (e i))) ++ x))))
 
--- only tables are learned
-pub learn_elements : (shares : Bool) (known : Known) (s : Spot) (n : ℕ) (bs : List ℕ) → known ≡ learn shares known s (loose_block (elements_piece n bs))
-learn_elements true known s n bs = refl
-learn_elements false known s n bs = refl
+-- only tables are interned
+pub intern_elements : (shares : Bool) (known : Known) (s : Spot) (n : ℕ) (bs : List ℕ) → known ≡ intern shares known s (loose_block (elements_piece n bs))
+intern_elements true known s n bs = refl
+intern_elements false known s n bs = refl
 
-pub learn_links : (shares : Bool) (known : Known) (s : Spot) (k : LinkKind) (n : ℕ) → known ≡ learn shares known s (loose_block (links_piece k n))
-learn_links true known s k n = refl
-learn_links false known s k n = refl
+pub intern_links : (shares : Bool) (known : Known) (s : Spot) (k : LinkKind) (n : ℕ) → known ≡ intern shares known s (loose_block (links_piece k n))
+intern_links true known s k n = refl
+intern_links false known s k n = refl
 
-pub learn_text : (shares : Bool) (known : Known) (s : Spot) (bs : List ℕ) → known ≡ learn shares known s (loose_block (text_piece bs))
-learn_text true known s bs = refl
-learn_text false known s bs = refl
+pub intern_text : (shares : Bool) (known : Known) (s : Spot) (bs : List ℕ) → known ≡ intern shares known s (loose_block (text_piece bs))
+intern_text true known s bs = refl
+intern_text false known s bs = refl
 
-pub learn_table : (shares : Bool) (known : Known) (s : Spot) (es : List BlockField) (bs : List ℕ) → bs ≡ field_table_bytes (cells_of es [])
-    → (if shares && s.is_own then known ++ (bs, s.fields) ∷ [] else known) ≡ learn shares known s (loose_block (table_piece es))
-learn_table true known s es bs e = ap (λ b. if s.is_own then known ++ (b, s.fields) ∷ [] else known) e
-learn_table false known s es bs e = refl
+pub intern_table : (shares : Bool) (known : Known) (s : Spot) (es : List BlockField) (bs : List ℕ) → bs ≡ field_table_bytes (cells_of es [])
+    → (if shares && s.is_own then known ++ (bs, s.fields) ∷ [] else known) ≡ intern shares known s (loose_block (table_piece es))
+intern_table true known s es bs e = ap (λ b. if s.is_own then known ++ (b, s.fields) ∷ [] else known) e
+intern_table false known s es bs e = refl

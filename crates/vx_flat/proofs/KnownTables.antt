@@ -27,10 +27,10 @@ map_end [] k p = refl
 map_end (e ∷ es) k p = ap (λ z. (e.0.items, e.1) ∷ z) (map_end es k p)
 
 -- a new field table comes last
-pub learned : (old new : List (Vec ℕ Global × ℕ)) (k : Vec ℕ Global) (p : ℕ) (bs : List ℕ) (t : Known)
+pub interned : (old new : List (Vec ℕ Global × ℕ)) (k : Vec ℕ Global) (p : ℕ) (bs : List ℕ) (t : Known)
     → new ≡ insert_entry (λ x y. bytes_eq x.items y.items) old k p → k.items ≡ bs → map {B = List ℕ × ℕ} (λ e. (e.0.items, e.1)) old ≡ t
     → known_at t bs ≡ None → map {B = List ℕ × ℕ} (λ e. (e.0.items, e.1)) new ≡ t ++ (bs, p) ∷ []
-learned old new k p bs t h e is none =
+interned old new k p bs t h e is none =
     let absent : lookup (λ y. bytes_eq k.items y.items) old ≡ None =
     lookup_known old k.items ∙ (ap (λ z. known_at z k.items) is ∙ (ap (λ b. known_at t b) e ∙ none)) in
     ap (λ z. map {B = List ℕ × ℕ} (λ e. (e.0.items, e.1)) z) (h ∙ last old absent)

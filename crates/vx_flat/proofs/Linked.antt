@@ -17,7 +17,7 @@ use Rattle.vx_flat.specs.IsOf.{IsOf}
 use Rattle.vx_flat.specs.Pieces.{Piece, table_piece, elements_piece, links_piece, text_piece, pieces, entries, fields_pieces}
 use Rattle.vx_flat.specs.Schema.{Schema, width, fields_of}
 use Rattle.vx_flat.specs.Value.{Fields}
-use Rattle.vx_flat.specs.Spots.{Known, known_at, table_spot, spot, learn, spots, aim_of}
+use Rattle.vx_flat.specs.Spots.{Known, known_at, table_spot, spot, intern, spots, aim_of}
 use Rattle.vx_flat.proofs.BlockBytes.{entries_length}
 use Rattle.vx_flat.proofs.Bytes.{align_past, length_le}
 use Rattle.vx_flat.proofs.Cells.{end_past}
@@ -260,16 +260,16 @@ spot_same known p (links_piece k n) ns =
     (links_length n ns ∙ sym (links_length n []))
 spot_same known p (text_piece bs) ns = refl
 
-learn_same : (shares : Bool) (known : Known) (s : Spot) (q : Piece) (ns : List ℕ) → learn shares known s (block_of q ns) ≡ learn shares known s (loose_block q)
-learn_same true known s (table_piece es) ns =
+intern_same : (shares : Bool) (known : Known) (s : Spot) (q : Piece) (ns : List ℕ) → intern shares known s (block_of q ns) ≡ intern shares known s (loose_block q)
+intern_same true known s (table_piece es) ns =
     ap (λ b. if s.is_own then known ++ (b, s.fields) ∷ [] else known) (tables_same es ns [])
-learn_same false known s (table_piece es) ns = refl
-learn_same true known s (elements_piece n bs) ns = refl
-learn_same false known s (elements_piece n bs) ns = refl
-learn_same true known s (links_piece k n) ns = refl
-learn_same false known s (links_piece k n) ns = refl
-learn_same true known s (text_piece bs) ns = refl
-learn_same false known s (text_piece bs) ns = refl
+intern_same false known s (table_piece es) ns = refl
+intern_same true known s (elements_piece n bs) ns = refl
+intern_same false known s (elements_piece n bs) ns = refl
+intern_same true known s (links_piece k n) ns = refl
+intern_same false known s (links_piece k n) ns = refl
+intern_same true known s (text_piece bs) ns = refl
+intern_same false known s (text_piece bs) ns = refl
 
 -- ---- the links of a block
 
@@ -453,7 +453,7 @@ rest_bytes places (q ∷ qs) b front n some is root four lies =
     let s = spot b.known p (loose_block q) in
     let x = block_of q r.loose in
     let next = with_piece w q in
-    let known' = learn b.shares b.known s (loose_block q) in
+    let known' = intern b.shares b.known s (loose_block q) in
     let waits = next_lies b.left (length b.bytes) lies in
     let later = later_lie b.left (length b.bytes) lies in
     let long : length next.bytes ≡ s.end = with_length w q four waits in
@@ -462,8 +462,8 @@ rest_bytes places (q ∷ qs) b front n some is root four lies =
     let ends = ends_past b.known q p in
     let same_spot : spot b.known p x ≡ s = spot_same b.known p q r.loose in
     let same_spots : spots b.shares b.known (length b.bytes) (x ∷ r.blocks) ≡ s ∷ spots b.shares known' (length next.bytes) r.blocks =
-    (λ i. same_spot i ∷ spots b.shares (learn b.shares b.known (same_spot i) x) (same_spot i).end r.blocks)
-    ∙ ((λ i. s ∷ spots b.shares (learn_same b.shares b.known s q r.loose i) s.end r.blocks)
+    (λ i. same_spot i ∷ spots b.shares (intern b.shares b.known (same_spot i) x) (same_spot i).end r.blocks)
+    ∙ ((λ i. s ∷ spots b.shares (intern_same b.shares b.known s q r.loose i) s.end r.blocks)
     ∙ ap (λ m. s ∷ spots b.shares known' m r.blocks) (sym long)) in
     let ss = spots b.shares known' (length next.bytes) r.blocks in
     let whole : places ≡ (front ++ s ∷ []) ++ ss = is ∙ (ap (λ z. front ++ z) same_spots ∙ sym (append_assoc front (s ∷ []) ss)) in
@@ -510,7 +510,7 @@ pieces_bytes shares p qs =
     let s = spot [] 8 (loose_block p) in
     let x = block_of p r.loose in
     let b = with_piece (nothing_by shares) p in
-    let known' = learn shares [] s (loose_block p) in
+    let known' = intern shares [] s (loose_block p) in
     let long : length b.bytes ≡ s.end = with_length (nothing_by shares) p (omega arith) tt in
     let aims = aims_past [] p 8 in
     let ends = ends_past [] p 8 in
@@ -518,8 +518,8 @@ pieces_bytes shares p qs =
     let ss = spots shares known' (length b.bytes) r.blocks in
     let places : List Spot = spots shares [] 8 (x ∷ r.blocks) in
     let same_spots : places ≡ s ∷ ss =
-    (λ i. same_spot i ∷ spots shares (learn shares [] (same_spot i) x) (same_spot i).end r.blocks)
-    ∙ ((λ i. s ∷ spots shares (learn_same shares [] s p r.loose i) s.end r.blocks)
+    (λ i. same_spot i ∷ spots shares (intern shares [] (same_spot i) x) (same_spot i).end r.blocks)
+    ∙ ((λ i. s ∷ spots shares (intern_same shares [] s p r.loose i) s.end r.blocks)
     ∙ ap (λ m. s ∷ spots shares known' m r.blocks) (sym long)) in
     let root : aim_of places 0 ≡ s.aim = ap (λ z. aim_of z 0) same_spots in
     let further = rest_bytes places qs b (s ∷ []) refl (omega arith) same_spots (omega (arith, root, long, ends))

@@ -133,10 +133,10 @@ impl Builder {
         push_table(spot, &self.cells, &mut self.block)?;
         self.links.clear();
         push_entry_slots(fields, number, spot.aim, &mut self.links)?;
-        let learns = is_shared(self.shares, spot);
-        self.known.learn(learns, &self.fields, spot.fields)?;
+        let interns = is_shared(self.shares, spot);
+        self.known.intern(interns, &self.fields, spot.fields)?;
         if let Err(error) = self.message.add(&self.block, &mut self.links, spot.aim) {
-            self.known.forget(learns);
+            self.known.forget(interns);
             return Err(FlatError::from(error));
         }
         Ok(number)

@@ -31,6 +31,7 @@ mod wire;
 mod writing;
 
 pub use blob::Blob;
+pub use copying::copied_slots;
 pub use element::{
     Element, Entries, Entry, copied, entries_at, flag, flag_at, i32_at, message_at, number_at,
     octets_at, one, take_message, text_at, u8_at, u32_at, u64_at,

@@ -23,8 +23,7 @@ use Rattle.vx_wire_tree.specs.Session.{SessionMeaning, Reader, shipped}
 use Rattle.vx_wire_tree.specs.Steps.{PlansChildren, HasNoMetadata, HasNoPlan, HasParts, HasWrongShape}
 use Rattle.vx_wire_tree.specs.Tells.{Tells}
 use Rattle.vx_wire_tree.specs.Wire.{WireHead, Wire, Wires, all_present}
-use Rattle.vx_wire_tree.proofs.Laws.{node_tells}
-use Rattle.vx_wire_tree.proofs.Unique.{all_count}
+use Rattle.vx_wire_tree.proofs.Laws.{node_tells, matched_count}
 use Rattle.vx_encodings.specs.Messages.{codec}
 use Rattle.vx_encodings.specs.Plain.{plain_encoding}
 use Rattle.vx_encodings.specs.Steps.{IsPlanned, IsUnplanned, IsBuilt, IsUnbuilt}
@@ -193,7 +192,7 @@ caused_by_build s refusals.BadShape w d n e h bs ws ps ts read own own_children 
     let wrong = at_node (λ f m b k. HasWrongShape codec s.ext (plain_encoding e) f m b bs ts) h w d n read.head c in
     let A : Wires → Type 0 = λ z. AllMatch codec s z ts in
     let matched : AllMatch codec s (below w) ts = subst A own_children told.matched in
-    let same : count (below w) ≡ count ts = sym (all_count codec s (below w) ts matched) in
+    let same : count (below w) ≡ count ts = sym (matched_count codec s (below w) ts matched) in
     let shaped : (IsShaped (plain_encoding e) d n wrong.value bs (count ts) → ⊥) → (cs : List Buffer) → MayStandFor (label w).buffers cs → IsShaped (plain_encoding e) d n wrong.value cs (count (below w)) → ⊥ =
     λ never cs stand fits.
     let B : List (Option Buffer) → Type 0 = λ os. MayStandFor os cs in

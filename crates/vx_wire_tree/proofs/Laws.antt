@@ -14,7 +14,7 @@ use Rattle.vx_wire_tree.specs.Causes.{HasChildren, Refusal, RefusesTree}
 use Rattle.vx_wire_tree.specs.Codec.{Codec, IsLawful}
 use Rattle.vx_wire_tree.specs.Context.{Context, grown}
 use Rattle.vx_wire_tree.specs.Limits.{HasMessages}
-use Rattle.vx_wire_tree.specs.Matches.{Matches}
+use Rattle.vx_wire_tree.specs.Matches.{Matches, AllMatch}
 use Rattle.vx_wire_tree.specs.ReadBack.{IsWritten, HasKnownTypes}
 use Rattle.vx_wire_tree.specs.Session.{SessionMeaning, IsShipped, IsPaired, shipped}
 use Rattle.vx_wire_tree.specs.Steps.{PlansChildren, HasParts}
@@ -49,6 +49,10 @@ module _ (c : Codec) (s : SessionMeaning) where
 
   pub canon_twice : (t : Tree) → IsSound t → canon s (canon s t) ≡ canon s t
   canon_twice t x = Canon.canon_twice t x
+
+  -- Wire trees that match arrays one by one are as many as these.
+  pub matched_count : (ws : Wires) (ts : Trees) → AllMatch c s ws ts → count ts ≡ count ws
+  matched_count ws ts m = Unique.all_count c s ws ts m
 
   module _ (ok : IsShipped s) where
     -- Nothing is missing in a wire tree that matches an array.

@@ -41,14 +41,14 @@ impl FieldTables {
         self.places.get(bytes).copied()
     }
 
-    /// One field table more, with other bytes than those before, where `learns` says so.
-    pub fn learn(&mut self, learns: bool, bytes: &[u8], place: usize) -> Result<(), AllocError>
-        requires { learns ≡ true → known_at self.old bytes.now ≡ None }
-        ensures learned { OnOk result
-            (self.new ≡ (if learns then self.old ++ (bytes.now, place) ∷ [] else self.old)) }
+    /// One field table more, with other bytes than those before, where `interns` says so.
+    pub fn intern(&mut self, interns: bool, bytes: &[u8], place: usize) -> Result<(), AllocError>
+        requires { interns ≡ true → known_at self.old bytes.now ≡ None }
+        ensures interned { OnOk result
+            (self.new ≡ (if interns then self.old ++ (bytes.now, place) ∷ [] else self.old)) }
         ensures unchanged { OnErr result (self.new ≡ self.old) }
     {
-        if !learns {
+        if !interns {
             return Ok(());
         }
         let key = Vec::from_slice(self.alloc, bytes)?;
@@ -56,12 +56,12 @@ impl FieldTables {
         Ok(())
     }
 
-    /// Without the last field table, where it was learned.
-    pub fn forget(&mut self, learned: bool)
+    /// Without the last field table, where it was interned.
+    pub fn forget(&mut self, interned: bool)
         ensures { (before : Known) (last : List ℕ × ℕ)
-            → self.old ≡ (if learned then before ++ last ∷ [] else before) → self.new ≡ before }
+            → self.old ≡ (if interned then before ++ last ∷ [] else before) → self.new ≡ before }
     {
-        if learned {
+        if interned {
             self.places.pop();
         }
     }

@@ -7,7 +7,7 @@ use Rattle.vx_flat.specs.Layout.{block_bytes}
 use Rattle.vx_flat.specs.Linking.{loose_block, firsts}
 use Rattle.vx_flat.specs.Pieces.{Piece, links_piece}
 use Rattle.vx_flat.specs.Spots.{spot}
-use Rattle.vx_flat.proofs.Added.{Adds, built_is, opens, end_is, composed, learn_links, too_long}
+use Rattle.vx_flat.proofs.Added.{Adds, built_is, opens, end_is, composed, intern_links, too_long}
 use Rattle.vx_flat.proofs.Loose.{links_length}
 use Rattle.vx_flat.proofs.builder.Builder.links.Goals as goal
 
@@ -46,7 +46,7 @@ adds c =
       count = c.in_ok-add.ensures.count;
       left = c.in_ok-add.ensures.left;
       waits = c.in_ok-add.ensures.waits;
-      learned = learn_links c.self.inside.shares c.self.inside.known s c.args.kind c.args.count;
+      interned = intern_links c.self.inside.shares c.self.inside.known s c.args.kind c.args.count;
     }
 
 pub invariant_of-self-2 : goal.invariant_of-self-2

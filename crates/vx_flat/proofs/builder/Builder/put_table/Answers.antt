@@ -9,7 +9,7 @@ use Rattle.vx_flat.specs.Layout.{block_bytes}
 use Rattle.vx_flat.specs.Linking.{loose_block, cells_of}
 use Rattle.vx_flat.specs.Pieces.{Piece, table_piece}
 use Rattle.vx_flat.specs.Spots.{spot, table_spot, known_at}
-use Rattle.vx_flat.proofs.Added.{Adds, built_is, opens, end_is, composed, learn_table, too_long}
+use Rattle.vx_flat.proofs.Added.{Adds, built_is, opens, end_is, composed, intern_table, too_long}
 use Rattle.vx_flat.proofs.Chain.{starts}
 use Rattle.vx_flat.proofs.builder.Builder.put_table.Goals as goal
 
@@ -36,7 +36,7 @@ returns-then-spot-gt-MAX_MESSAGE-clause-refused c =
           (too_long n.message n.known n.shares n.failed q c.table_spot-spot.result c.self.invariant.0 place (omega (arith, c.if-spot-gt-MAX_MESSAGE.true))),
     )
 
-adds : (c : goal.In_default) → Adds c.self.inside.message c.self.inside.known c.self.inside.shares (table_piece c.args.fields.now) c.table_spot-spot.result c.deref-8.result.now c.push_entry_slots.new.slots.items c.add.new.self c.learn.new.self
+adds : (c : goal.In_default) → Adds c.self.inside.message c.self.inside.known c.self.inside.shares (table_piece c.args.fields.now) c.table_spot-spot.result c.deref-8.result.now c.push_entry_slots.new.slots.items c.add.new.self c.intern.new.self
 adds c =
     let n = c.self.inside in
     let m = n.message.bytes.items in
@@ -66,9 +66,9 @@ adds c =
       count = c.in_default.ensures.count;
       left = c.in_default.ensures.left;
       waits = c.in_default.ensures.waits;
-      learned = c.in_ok-learn.ensures.learned
-          ∙ (ap (λ b. if b then n.known ++ (c.deref-7.result.now, s.fields) ∷ [] else n.known) c.is_shared-learns.ensures.value
-          ∙ learn_table n.shares n.known s es c.deref-7.result.now (c.deref-7.ensures.value ∙ fields));
+      interned = c.in_ok-intern.ensures.interned
+          ∙ (ap (λ b. if b then n.known ++ (c.deref-7.result.now, s.fields) ∷ [] else n.known) c.is_shared-interns.ensures.value
+          ∙ intern_table n.shares n.known s es c.deref-7.result.now (c.deref-7.ensures.value ∙ fields));
     }
 
 pub invariant_of-self-in_default : goal.invariant_of-self-in_default
@@ -76,8 +76,8 @@ invariant_of-self-in_default c =
     let i = c.self.inside in
     let q : Piece = table_piece c.args.fields.now in
     let h = adds c in
-    let e = end_is i.message c.add.new.self i.known c.learn.new.self i.shares i.failed q c.table_spot-spot.result c.deref-8.result.now c.push_entry_slots.new.slots.items c.self.invariant.0 h in (
-      opens i.message c.add.new.self i.known c.learn.new.self i.shares i.failed q c.table_spot-spot.result c.deref-8.result.now c.push_entry_slots.new.slots.items c.self.invariant.0 h,
+    let e = end_is i.message c.add.new.self i.known c.intern.new.self i.shares i.failed q c.table_spot-spot.result c.deref-8.result.now c.push_entry_slots.new.slots.items c.self.invariant.0 h in (
+      opens i.message c.add.new.self i.known c.intern.new.self i.shares i.failed q c.table_spot-spot.result c.deref-8.result.now c.push_entry_slots.new.slots.items c.self.invariant.0 h,
       omega (arith, e, c.if-spot-gt-MAX_MESSAGE.false),
     )
 
@@ -85,13 +85,13 @@ pub returns-clause-written : goal.returns-clause-written
 returns-clause-written c =
     let i = c.self.inside in
     let q : Piece = table_piece c.args.fields.now in
-    ap (λ f. built c.add.new.self c.learn.new.self i.shares f) c.if-self.false
-    ∙ (built_is i.message c.add.new.self i.known c.learn.new.self i.shares i.failed q c.table_spot-spot.result c.deref-8.result.now c.push_entry_slots.new.slots.items c.self.invariant.0 (adds c)
+    ap (λ f. built c.add.new.self c.intern.new.self i.shares f) c.if-self.false
+    ∙ (built_is i.message c.add.new.self i.known c.intern.new.self i.shares i.failed q c.table_spot-spot.result c.deref-8.result.now c.push_entry_slots.new.slots.items c.self.invariant.0 (adds c)
     ∙ ap (λ (b : Built). with_piece b q) c.self.view_is)
 
 pub returns-clause-fits : goal.returns-clause-fits
 returns-clause-fits c = λ _.
     let i = c.self.inside in
     let q : Piece = table_piece c.args.fields.now in
-    let e = end_is i.message c.add.new.self i.known c.learn.new.self i.shares i.failed q c.table_spot-spot.result c.deref-8.result.now c.push_entry_slots.new.slots.items c.self.invariant.0 (adds c) in
+    let e = end_is i.message c.add.new.self i.known c.intern.new.self i.shares i.failed q c.table_spot-spot.result c.deref-8.result.now c.push_entry_slots.new.slots.items c.self.invariant.0 (adds c) in
     omega (arith, e, c.if-spot-gt-MAX_MESSAGE.false)

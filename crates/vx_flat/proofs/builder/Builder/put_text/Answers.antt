@@ -6,7 +6,7 @@ use Rattle.vx_flat.specs.FieldTables.{align}
 use Rattle.vx_flat.specs.Layout.{block_bytes}
 use Rattle.vx_flat.specs.Linking.{loose_block}
 use Rattle.vx_flat.specs.Pieces.{Piece, text_piece}
-use Rattle.vx_flat.proofs.Added.{Adds, built_is, opens, end_is, composed, learn_text}
+use Rattle.vx_flat.proofs.Added.{Adds, built_is, opens, end_is, composed, intern_text}
 use Rattle.vx_flat.proofs.builder.Builder.put_text.Goals as goal
 
 adds : (c : goal.In_ok-add) → Adds c.self.inside.message c.self.inside.known c.self.inside.shares (text_piece c.args.text.now) c.plain_spot-spot.result c.deref-3.result.now c.clear-2.new.self.items c.add.new.self c.self.inside.known
@@ -30,7 +30,7 @@ adds c =
       count = c.in_ok-add.ensures.count;
       left = c.in_ok-add.ensures.left;
       waits = c.in_ok-add.ensures.waits;
-      learned = learn_text c.self.inside.shares c.self.inside.known s c.args.text.now;
+      interned = intern_text c.self.inside.shares c.self.inside.known s c.args.text.now;
     }
 
 pub invariant_of-self-2 : goal.invariant_of-self-2
