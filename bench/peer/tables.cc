@@ -6,8 +6,8 @@
 #include <memory>
 #include <vector>
 
-#include "array_generated.h"
 #include "timing.h"
+#include "vortex_generated.h"
 
 namespace {
 
@@ -24,7 +24,7 @@ uint64_t length(const Vector *vector) {
   return vector ? vector->size() : 0;
 }
 
-void walk(const peer::ArrayStats &stats, Tally &tally) {
+void walk(const vortex::ArrayStats &stats, Tally &tally) {
   tally.elements += length(stats.min()) + length(stats.max()) + length(stats.sum());
   tally.numbers += stats.min_precision() + stats.max_precision();
   for (auto flag : {stats.is_sorted(), stats.is_strict_sorted(), stats.is_constant()})
@@ -33,7 +33,7 @@ void walk(const peer::ArrayStats &stats, Tally &tally) {
     tally.numbers += count.value_or(0);
 }
 
-void walk(const peer::ArrayNode &node, Tally &tally) {
+void walk(const vortex::ArrayNode &node, Tally &tally) {
   tally.nodes += 1;
   tally.numbers += node.encoding();
   tally.elements += length(node.metadata()) + length(node.children()) + length(node.buffers());
@@ -44,7 +44,7 @@ void walk(const peer::ArrayNode &node, Tally &tally) {
     for (auto child : *children) walk(*child, tally);
 }
 
-Tally walk(const peer::Array &array) {
+Tally walk(const vortex::Array &array) {
   Tally tally;
   if (auto root = array.root()) walk(*root, tally);
   tally.elements += length(array.buffers());
@@ -54,27 +54,27 @@ Tally walk(const peer::Array &array) {
 }
 
 // The same message again: unlike the packing that is generated, it has the vectors of nodes that are empty.
-Offset<peer::ArrayNode> whole(FlatBufferBuilder &builder, const peer::ArrayNodeT &node) {
-  std::vector<Offset<peer::ArrayNode>> children;
+Offset<vortex::ArrayNode> whole(FlatBufferBuilder &builder, const vortex::ArrayNodeT &node) {
+  std::vector<Offset<vortex::ArrayNode>> children;
   for (auto &child : node.children) children.push_back(whole(builder, *child));
   auto metadata = builder.CreateVector(node.metadata);
   auto below = builder.CreateVector(children);
   auto buffers = builder.CreateVector(node.buffers);
-  auto stats = peer::ArrayStats::Pack(builder, node.stats.get());
-  return peer::CreateArrayNode(builder, node.encoding, metadata, below, buffers, stats);
+  auto stats = vortex::ArrayStats::Pack(builder, node.stats.get());
+  return vortex::CreateArrayNode(builder, node.encoding, metadata, below, buffers, stats);
 }
 
-flatbuffers::DetachedBuffer pack_whole(const peer::ArrayT &array) {
+flatbuffers::DetachedBuffer pack_whole(const vortex::ArrayT &array) {
   FlatBufferBuilder builder;
   auto root = whole(builder, *array.root);
   auto buffers = builder.CreateVectorOfStructs(array.buffers);
-  builder.Finish(peer::CreateArray(builder, root, buffers));
+  builder.Finish(vortex::CreateArray(builder, root, buffers));
   return builder.Release();
 }
 
-flatbuffers::DetachedBuffer pack(const peer::ArrayT &array) {
+flatbuffers::DetachedBuffer pack(const vortex::ArrayT &array) {
   FlatBufferBuilder builder;
-  builder.Finish(peer::Array::Pack(builder, &array));
+  builder.Finish(vortex::Array::Pack(builder, &array));
   return builder.Release();
 }
 
@@ -86,13 +86,13 @@ int main(int count, char **words) {
   auto bytes = reinterpret_cast<const uint8_t *>(message.data());
   auto verify = [&] {
     flatbuffers::Verifier verifier(bytes, message.size());
-    return peer::VerifyArrayBuffer(verifier);
+    return vortex::VerifyArrayBuffer(verifier);
   };
   if (!verify()) return std::fputs("refused\n", stderr), 1;
-  auto array = peer::GetArray(bytes);
+  auto array = vortex::GetArray(bytes);
   auto tally = walk(*array);
   std::printf("%lu nodes, %lu in numbers, %lu elements\n", tally.nodes, tally.numbers, tally.elements);
-  auto unpack = [&] { return std::unique_ptr<peer::ArrayT>(array->UnPack()); };
+  auto unpack = [&] { return std::unique_ptr<vortex::ArrayT>(array->UnPack()); };
   auto value = unpack();
   if (!value->root) return std::fputs("no root\n", stderr), 1;
   auto packed = pack_whole(*value);
