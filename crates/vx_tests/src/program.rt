@@ -239,6 +239,40 @@ fn an_index_names_a_line(rt: HostRuntime) -> Result<(), Fail> {
     Ok(())
 }
 
+// Only identifiers of the file behind `--allow` may be written; it is judged as the other files are.
+#[test]
+fn identifiers_are_allowed(rt: HostRuntime) -> Result<(), Fail> {
+    let alloc = rt.alloc();
+    let words = names(
+        alloc,
+        &[
+            "recode", "t", "b", "4", "i", "o", "j", "--allow", "f", "--rows", "0",
+        ],
+    )?;
+    for (allowed, status) in [
+        ("a\nvortex.primitive\na\n", 0),
+        ("vortex.bool\n", 23),
+        ("", 23),
+        ("a\n\n", 7),
+    ] {
+        let mut store = store_of(alloc, &TYPE, &BLOB, IDS)?;
+        store.insert(alloc, "f", allowed.as_bytes())?;
+        let mut out = MemSink::new(alloc);
+        let got = run(alloc, &words, &mut store, &mut out);
+        assert_eq!(rt; got, status, "{allowed}");
+        assert_eq!(rt;
+            holds(&store, "o", &BLOB) && holds(&store, "j", IDS.as_bytes()),
+            status == 0
+        );
+    }
+    let missing = ["recode", "t", "b", "4", "i", "o", "j", "--allow", "f"];
+    assert_eq!(rt; refused(alloc, &rt, &missing, &TYPE, &BLOB, IDS)?, 3);
+    let twice = [
+        "recode", "t", "b", "4", "i", "o", "j", "--allow", "i", "--allow", "i",
+    ];
+    is_no_command(alloc, &rt, &twice)
+}
+
 #[test]
 fn nulls_are_written_again(rt: HostRuntime) -> Result<(), Fail> {
     let alloc = rt.alloc();

@@ -18,7 +18,7 @@ const WRITE_FAULT: u8 = 5;
 
 const HELP: &str = "vxcat reads the blob of an array from a file and writes it again.
 
-vxcat recode TYPE BLOB LEN IDS OUT OUTIDS [--pad OFFSET] [--rows N]
+vxcat recode TYPE BLOB LEN IDS OUT OUTIDS [--pad OFFSET] [--rows N] [--allow FILE]
     TYPE      a file with the logical type, as a table message
     BLOB      a file with the blob
     LEN       the number of rows
@@ -27,6 +27,7 @@ vxcat recode TYPE BLOB LEN IDS OUT OUTIDS [--pad OFFSET] [--rows N]
     OUTIDS    the file for its identifiers
     --pad     write pads, as at this position
     --rows    list so many rows, at most 1000, in the place of 10
+    --allow   write with the identifiers of this file alone, one a line
 vxcat --help
 vxcat --version
 ";

@@ -1,19 +1,18 @@
 -- Where inputs can be recoded and no fault comes, a run ends well or for want of memory.
-use Rattle.std.proofs.Common.{◌≡◌, ◌⊎◌, inl, inr, ℕ, List, [], get_or, drop, refl, sym, ap, subst, ◌∙◌}
+use Rattle.std.proofs.Common.{◌≡◌, ◌⊎◌, inl, inr, ℕ, Option, Some, None, List, [], get_or, drop, refl, sym, ap, subst, ◌∙◌}
 use Rattle.std.specs.Bool.{IsTrue}
 use Rattle.std.specs.List.{flat_map}
 use Rattle.std.proofs.lemmas.Fmt.{decimal_injective}
-use Rattle.vxcat_core.specs.declared.options.Choice.{Choice}
 use Rattle.vxcat_core.specs.declared.status.Status.{Status}
 use Rattle.vxcat_core.specs.declared.status.Status.TheVariants.{Done, OutOfMemory, NoCommand, LoadFault, SaveFault, WriteFault, BadType, BadIds, Refused}
 use Rattle.vxcat_core.specs.Commands.{CanEnd, Command, Ends, Invokes, recode}
-use Rattle.vxcat_core.specs.Options.{choice_words, settings_of}
+use Rattle.vxcat_core.specs.Options.{Setting, setting_words, settings_of}
 use Rattle.vxcat_core.specs.Outcome.{CanRun}
-use Rattle.vxcat_core.specs.Recode.{AreInputs, CanEndRecode, CanRecodeInputs, EndsRecode, EndsRefused, InvokesRecode, Loaded, Recode}
+use Rattle.vxcat_core.specs.Recode.{AreInputs, CanEndRecode, CanRecodeInputs, EndsRecode, EndsRefused, InvokesRecode, Loaded, Recode, StandsIfNamed}
 use Rattle.vxcat_core.specs.RunState.{HasNoFault, Run}
 use Rattle.vxcat_core.specs.Status.{status_number}
 use Rattle.vxcat_core.specs.StoreState.{Stands, StoreState}
-use Rattle.vxcat_core.proofs.OptionFronts.{choices_same}
+use Rattle.vxcat_core.proofs.OptionFronts.{settings_same}
 
 word : (a b : List (List ℕ)) (k : ℕ) → a ≡ b → get_or a k [] ≡ get_or b k []
 word a b k same = ap (λ (l : List (List ℕ)). get_or l k []) same
@@ -22,9 +21,9 @@ word a b k same = ap (λ (l : List (List ℕ)). get_or l k []) same
 line_same : (words : List (List ℕ)) (a b : Recode) → InvokesRecode words a → InvokesRecode words b → a ≡ b
 line_same words a b first second =
     let same = sym first.words_are ∙ second.words_are in
-    let rests : flat_map choice_words first.choices ≡ flat_map choice_words second.choices = ap (λ (l : List (List ℕ)). drop 7 l) same in
-    let choices = choices_same first.choices second.choices first.are_options.in_range second.are_options.in_range rests in
-    let settings : a.settings ≡ b.settings = first.settings_are ∙ ap (λ (cs : List Choice). settings_of cs) choices ∙ sym second.settings_are in
+    let rests : flat_map setting_words first.given ≡ flat_map setting_words second.given = ap (λ (l : List (List ℕ)). drop 7 l) same in
+    let given = settings_same first.given second.given first.are_options.in_range second.are_options.in_range rests in
+    let settings : a.settings ≡ b.settings = first.settings_are ∙ ap (λ (l : List Setting). settings_of l) given ∙ sym second.settings_are in
     let types : a.type_file ≡ b.type_file = word _ _ 1 same in
     let blobs : a.blob_file ≡ b.blob_file = word _ _ 2 same in
     let lens : a.len ≡ b.len = decimal_injective a.len b.len first.fits second.fits (word _ _ 3 same) in
@@ -37,13 +36,22 @@ line_same words a b first second =
 stands_same : (store : StoreState) (name a b : List ℕ) → IsTrue store.tells → Stands store name a → Stands store name b → a ≡ b
 stands_same store name a b told first second = let x = first told in let y = second told in cc
 
+named_same : (store : StoreState) (name a b : Option (List ℕ)) → IsTrue store.tells → StandsIfNamed store name a → StandsIfNamed store name b → a ≡ b
+named_same store None None None told first second = refl
+named_same store None (Some a) b told first second = absurd first
+named_same store None None (Some b) told first second = absurd second
+named_same store (Some name) (Some a) (Some b) told first second = ap (λ (l : List ℕ). Some l) (stands_same store name a b told first second)
+named_same store (Some name) None b told first second = absurd first
+named_same store (Some name) (Some a) None told first second = absurd second
+
 -- A store tells one set of inputs of a line.
 inputs_same : (line : Recode) (store : StoreState) (a b : Loaded) → IsTrue store.tells → AreInputs line store a → AreInputs line store b → a ≡ b
 inputs_same line store a b told first second =
     let types = stands_same store line.type_file a.type_bytes b.type_bytes told first.type_stands second.type_stands in
     let blobs = stands_same store line.blob_file a.blob b.blob told first.blob_stands second.blob_stands in
     let ids = stands_same store line.id_file a.id_bytes b.id_bytes told first.ids_stand second.ids_stand in
-    λ k. record { type_bytes = types k; blob = blobs k; id_bytes = ids k }
+    let allowed = named_same store line.settings.allow a.allow_bytes b.allow_bytes told first.allow_stands second.allow_stands in
+    λ k. record { type_bytes = types k; blob = blobs k; id_bytes = ids k; allow_bytes = allowed k }
 
 never_refused : (status : Status) (line : Recode) (run : Run) → CanEndRecode line run.before → EndsRefused status line run → ⊥
 never_refused status line run can ends =

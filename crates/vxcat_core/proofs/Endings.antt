@@ -3,6 +3,7 @@ use Rattle.std.proofs.Common.{◌≡◌, inl, inr, ℕ, Option, None, Some, List
 use Rattle.std.specs.Bool.{IsTrue}
 use Rattle.std.specs.Io.KnownBytes.{Keeps}
 use Rattle.vx_serde.specs.Errors.{error_number}
+use Rattle.vx_buffer.specs.Buffer.{Buffer}
 use Rattle.vx_buffer.specs.Joined.{joined}
 use Rattle.vxcat_core.specs.declared.recode.steps.Outputs.{Outputs}
 use Rattle.vxcat_core.specs.declared.print.PrintError.{PrintError}
@@ -41,12 +42,12 @@ order_through line before mid after blob other file tells same (inl kept) =
 order_through line before mid after blob other file tells same (inr saved) = inr (λ told. saved told ∙ ap (λ (bytes : List ℕ). Some bytes) same)
 
 -- The outputs that were made stand where what the program holds was saved.
-pub saved_of : (line : Recode) (loaded : Loaded) (outputs : Outputs) (after : StoreState) (are : AreOutputs line loaded outputs) → AreSaved line after outputs.blob.bytes outputs.ids
+pub saved_of : (line : Recode) (loaded : Loaded) (outputs : Outputs) (after : StoreState) (are : AreOutputs line loaded outputs) → AreSaved line after (joined outputs.buffers) outputs.ids
     → AreSaved line after (joined are.made.buffers) are.made.context.ids
 saved_of line loaded outputs after are saved =
-    let B : List ℕ → Type 0 = λ z. AreSaved line after z outputs.ids in
+    let B : List Buffer → Type 0 = λ z. AreSaved line after (joined z) outputs.ids in
     let I : List (List ℕ) → Type 0 = λ z. AreSaved line after (joined are.made.buffers) z in
-    subst I are.holds.ids_are (subst B are.holds.blob_is saved)
+    subst I are.holds.ids_are (subst B are.holds.buffers_are saved)
 
 -- The work of a command that holds outputs.
 abbrev pub work_of : (line : Recode) (before : StoreState) (loaded : Loaded) (outputs : Outputs) → AreInputs line before loaded → AreOutputs line loaded outputs → Work line before

@@ -1,80 +1,89 @@
 -- What options set that are given one after the other.
 use Rattle.std.proofs.Common.{ℕ, ◌≡◌, ◌≤◌, List, [], ◌∷◌, ◌++◌, Option, Some, None, length, unwrap_or, refl, sym, ap, ◌∙◌, subst, arith, append-nil}
 use Rattle.std.specs.Prelude.{slice_get}
-use Rattle.std.specs.List.{flat_map}
-use Rattle.vxcat_core.specs.declared.options.Choice.{Choice}
-use Rattle.vxcat_core.specs.declared.options.Choice.TheVariants.{Pad, Rows}
-use Rattle.vxcat_core.specs.declared.options.Options.{Options}
-use Rattle.vxcat_core.specs.Options.{AreOptions, choice_words, counts, positions, settings_of}
-use Rattle.vxcat_core.specs.GivenOptions.{Gives, no_options, with_choices}
-use Rattle.vxcat_core.proofs.OptionFronts.{with_choices-None}
-use Rattle.vxcat_core.specs.RecodeViews.{set_by}
+use Rattle.std.specs.List.{flat_map, filter_map}
+use Rattle.vxcat_core.specs.Options.{AreOptions, Setting, pad, rows, allow, pad_of, rows_of, allow_of, setting_words, settings_of}
+use Rattle.vxcat_core.specs.GivenOptions.{Given, Gives, none_given, settings_by, with_settings}
+use Rattle.vxcat_core.proofs.OptionFronts.{with_settings-None}
 
-held : Option ℕ → List ℕ
+held : {A : Type 0} → Option A → List A
 held None = []
 held (Some n) = n ∷ []
 
-none_some : (options : Options) → (let n : Option Options = None in n ≡ Some options) → ⊥
-none_some options e = absurd (cc)
+none_some : (given : Given) → (let n : Option Given = None in n ≡ Some given) → ⊥
+none_some given e = absurd (cc)
 
-same_options : (a b : Options) → Some a ≡ Some b → a ≡ b
-same_options a b e = cc
+same_given : (a b : Given) → Some a ≡ Some b → a ≡ b
+same_given a b e = cc
+
+abbrev given : Option ℕ → Option ℕ → Option (List ℕ) → Given
+given p r a = record { pad = p; rows = r; allow = a }
 
 -- Each kind holds what it held before, and behind it what was given.
-record Adds (p r : Option ℕ) (choices : List Choice) (after : Options) : Type 0 where
-  pub pads : held after.pad ≡ held p ++ positions choices
-  pub rows : held after.rows ≡ held r ++ counts choices
+record Adds (p r : Option ℕ) (a : Option (List ℕ)) (more : List Setting) (after : Given) : Type 0 where
+  pub pads : held after.pad ≡ held p ++ filter_map pad_of more
+  pub rows : held after.rows ≡ held r ++ filter_map rows_of more
+  pub allows : held after.allow ≡ held a ++ filter_map allow_of more
 
-adds : (p r : Option ℕ) (choices : List Choice) (after : Options) → with_choices (Some (record { pad = p; rows = r })) choices ≡ Some after → Adds p r choices after
+adds : (p r : Option ℕ) (a : Option (List ℕ)) (more : List Setting) (after : Given) → with_settings (Some (given p r a)) more ≡ Some after → Adds p r a more after
 unfolding held
-adds p r [] after e =
-    let same = same_options (record { pad = p; rows = r }) after e in
-    record { pads = ap (λ (o : Options). held o.pad) (sym same) ∙ sym (append-nil (held p)); rows = ap (λ (o : Options). held o.rows) (sym same) ∙ sym (append-nil (held r)) }
-adds None r (Pad n ∷ choices) after e = let more = adds (Some n) r choices after e in record { pads = more.pads; rows = more.rows }
-adds (Some m) r (Pad n ∷ choices) after e = absurd (none_some after (sym (with_choices-None choices) ∙ e))
-adds p None (Rows n ∷ choices) after e = let more = adds p (Some n) choices after e in record { pads = more.pads; rows = more.rows }
-adds p (Some m) (Rows n ∷ choices) after e = absurd (none_some after (sym (with_choices-None choices) ∙ e))
+adds p r a [] after e =
+    let same = same_given (given p r a) after e in
+    record {
+      pads = ap (λ (o : Given). held o.pad) (sym same) ∙ sym (append-nil (held p));
+      rows = ap (λ (o : Given). held o.rows) (sym same) ∙ sym (append-nil (held r));
+      allows = ap (λ (o : Given). held o.allow) (sym same) ∙ sym (append-nil (held a));
+    }
+adds None r a (pad n ∷ more) after e = let x = adds (Some n) r a more after e in record { pads = x.pads; rows = x.rows; allows = x.allows }
+adds (Some m) r a (pad n ∷ more) after e = absurd (none_some after (sym (with_settings-None more) ∙ e))
+adds p None a (rows n ∷ more) after e = let x = adds p (Some n) a more after e in record { pads = x.pads; rows = x.rows; allows = x.allows }
+adds p (Some m) a (rows n ∷ more) after e = absurd (none_some after (sym (with_settings-None more) ∙ e))
+adds p r None (allow n ∷ more) after e = let x = adds p r (Some n) more after e in record { pads = x.pads; rows = x.rows; allows = x.allows }
+adds p r (Some m) (allow n ∷ more) after e = absurd (none_some after (sym (with_settings-None more) ∙ e))
 
-first_held : (o : Option ℕ) (ns : List ℕ) → held o ≡ ns → (length ns ≤ 1) × (o ≡ slice_get ns 0)
+first_held : {A : Type 0} (o : Option A) (ns : List A) → held o ≡ ns → (length ns ≤ 1) × (o ≡ slice_get ns 0)
 unfolding held
-first_held None ns e = let P : List ℕ → Type 0 = λ l. (length l ≤ 1) × (None ≡ slice_get l 0) in subst P e (omega arith, refl)
-first_held (Some n) ns e = let P : List ℕ → Type 0 = λ l. (length l ≤ 1) × (Some n ≡ slice_get l 0) in subst P e (omega arith, refl)
+first_held {A} None ns e = let P : List A → Type 0 = λ l. (length l ≤ 1) × (None ≡ slice_get l 0) in subst P e (omega arith, refl)
+first_held {A} (Some n) ns e = let P : List A → Type 0 = λ l. (length l ≤ 1) × (Some n ≡ slice_get l 0) in subst P e (omega arith, refl)
 
 -- The words are options, and they set what the given ones set.
-pub record Sets (words : List (List ℕ)) (after : Options) : Type 0 where
-  pub choices : List Choice
-  pub words_are : words ≡ flat_map choice_words choices
-  pub are_options : AreOptions choices
-  pub settings_are : set_by after ≡ settings_of choices
+pub record Sets (words : List (List ℕ)) (after : Given) : Type 0 where
+  pub settings : List Setting
+  pub words_are : words ≡ flat_map setting_words settings
+  pub are_options : AreOptions settings
+  pub settings_are : settings_by after ≡ settings_of settings
 
-pub sets : (words : List (List ℕ)) (after : Options) → Gives no_options words after → Sets words after
+pub sets : (words : List (List ℕ)) (after : Given) → Gives none_given words after → Sets words after
 unfolding held
 sets words after gives =
-    let more = adds None None gives.choices after gives.once in
-    let pads = first_held after.pad (positions gives.choices) more.pads in
-    let rows = first_held after.rows (counts gives.choices) more.rows in
+    let more = adds None None None gives.settings after gives.once in
+    let pads = first_held after.pad (filter_map pad_of gives.settings) more.pads in
+    let rows = first_held after.rows (filter_map rows_of gives.settings) more.rows in
+    let allows = first_held after.allow (filter_map allow_of gives.settings) more.allows in
     record {
-      choices = gives.choices;
+      settings = gives.settings;
       words_are = gives.words_are;
-      are_options = record { in_range = gives.in_range; pad_once = pads.0; rows_once = rows.0 };
-      settings_are = λ i. record { pad = pads.1 i; rows = unwrap_or (rows.1 i) 10 };
+      are_options = record { in_range = gives.in_range; pad_once = pads.0; rows_once = rows.0; allow_once = allows.0 };
+      settings_are = λ i. record { pad = pads.1 i; rows = unwrap_or (rows.1 i) 10; allow = allows.1 i };
     }
 
-one_at_most : (m n : ℕ) (ns : List ℕ) → length (m ∷ n ∷ ns) ≤ 1 → ⊥
+one_at_most : {A : Type 0} (m n : A) (ns : List A) → length (m ∷ n ∷ ns) ≤ 1 → ⊥
 one_at_most m n ns h = absurd (omega (arith, h))
 
-taken : (p r : Option ℕ) (choices : List Choice) → length (held p ++ positions choices) ≤ 1 → length (held r ++ counts choices) ≤ 1
-    → (after : Options) × (with_choices (Some (record { pad = p; rows = r })) choices ≡ Some after)
+taken : (p r : Option ℕ) (a : Option (List ℕ)) (more : List Setting) → length (held p ++ filter_map pad_of more) ≤ 1 → length (held r ++ filter_map rows_of more) ≤ 1
+    → length (held a ++ filter_map allow_of more) ≤ 1 → (after : Given) × (with_settings (Some (given p r a)) more ≡ Some after)
 unfolding held
-taken p r [] h k = (record { pad = p; rows = r }, refl)
-taken None r (Pad n ∷ choices) h k = taken (Some n) r choices h k
-taken (Some m) r (Pad n ∷ choices) h k = absurd (one_at_most m n (positions choices) h)
-taken p None (Rows n ∷ choices) h k = taken p (Some n) choices h k
-taken p (Some m) (Rows n ∷ choices) h k = absurd (one_at_most m n (counts choices) k)
+taken p r a [] h k l = (given p r a, refl)
+taken None r a (pad n ∷ more) h k l = taken (Some n) r a more h k l
+taken (Some m) r a (pad n ∷ more) h k l = absurd (one_at_most m n (filter_map pad_of more) h)
+taken p None a (rows n ∷ more) h k l = taken p (Some n) a more h k l
+taken p (Some m) a (rows n ∷ more) h k l = absurd (one_at_most m n (filter_map rows_of more) k)
+taken p r None (allow n ∷ more) h k l = taken p r (Some n) more h k l
+taken p r (Some m) (allow n ∷ more) h k l = absurd (one_at_most m n (filter_map allow_of more) l)
 
 -- Words that are options give some.
-pub given : (words : List (List ℕ)) (choices : List Choice) → words ≡ flat_map choice_words choices → AreOptions choices → (after : Options) × Gives no_options words after
+pub gives_some : (words : List (List ℕ)) (settings : List Setting) → words ≡ flat_map setting_words settings → AreOptions settings → (after : Given) × Gives none_given words after
 unfolding held
-given words choices words_are are =
-    let found = taken None None choices are.pad_once are.rows_once in
-    (found.0, record { choices = choices; words_are = words_are; in_range = are.in_range; once = found.1 })
+gives_some words settings words_are are =
+    let found = taken None None None settings are.pad_once are.rows_once are.allow_once in
+    (found.0, record { settings = settings; words_are = words_are; in_range = are.in_range; once = found.1 })

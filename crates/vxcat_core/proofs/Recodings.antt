@@ -1,5 +1,5 @@
 -- From what `recode` ensures to what the program promises of its inputs.
-use Rattle.std.proofs.Common.{◌≡◌, ℕ, Bool, List, [], None, Result, Ok, Err, IfOk, IfErr, Global, sym, ap, subst, ◌∙◌}
+use Rattle.std.proofs.Common.{◌≡◌, ℕ, Bool, List, Option, Some, None, inl, inr, refl, Result, Ok, Err, IfOk, IfErr, Global, sym, ap, subst, ◌∙◌}
 use Rattle.std.specs.declared.dyn_box.DynBox.{DynBox}
 use Rattle.vx_types.specs.Typ.{Typ}
 use Rattle.vx_type_wire.specs.Known.{IsRead, no_readers}
@@ -18,24 +18,23 @@ use Rattle.vx_serde.specs.declared.error.WireError.TheVariants as wire
 use Rattle.vx_serde.specs.Causes.{Refuses}
 use Rattle.vx_serde.specs.Recoding.{IsFaithful, IsRecoded, Product}
 use Rattle.vx_serde.specs.Request.{CanRecode, Request}
-use Rattle.vx_buffer.specs.Joined.{joined}
 use Rattle.vxcat_core.specs.declared.id_file.IdFileError.{IdFileError}
 use Rattle.vxcat_core.specs.declared.id_file.IdFileError.TheVariants as id_error
 use Rattle.vxcat_core.specs.declared.recode.steps.Outputs.{Outputs}
 use Rattle.vxcat_core.specs.declared.status.Status.{Status}
 use Rattle.vxcat_core.specs.declared.status.Status.TheVariants.{Done, OutOfMemory, NoCommand, LoadFault, SaveFault, WriteFault, BadType, BadIds, Refused}
 use Rattle.vxcat_core.specs.IdFile.{ReadsIds}
-use Rattle.vxcat_core.specs.Recode.{CanRecodeInputs, RefusesInputs, Loaded, Recode, asked_by, padded_at}
+use Rattle.vxcat_core.specs.Recode.{AreRead, CanRecodeInputs, ReadsAllowed, RefusesInputs, Loaded, Recode, Terms, asked_by, context_of, padded_at}
 use Rattle.vxcat_core.proofs.IdLines.{lines_unique}
-use Rattle.vxcat_core.specs.RecodeViews.{AreMade, AreOutputs, RefusesBlob, RefusesType, request_for}
+use Rattle.vxcat_core.specs.RecodeViews.{AreMade, AreOutputs, RefusesBlob, RefusesIds, RefusesType, request_for}
 use Rattle.vxcat_core.specs.Statuses.{blob_status, id_status}
 
 -- What `recode` is asked is what the program asks for.
-pub same_request : (blob bytes : List ℕ) (dtype : Typ) (len : ℕ) (read_ids ids : List (List ℕ)) (context : Context) (session : SessionMeaning) (options : SerializeOptions)
-    → bytes ≡ blob → ids ≡ read_ids → context.ids ≡ [] → context.allowed ≡ None → session ≡ tables_meaning shipped_registry no_readers
-    → record { blob = bytes; dtype = dtype; len = len; ids = ids; context = context; options = options; session = session } ≡ request_for blob dtype len read_ids options
-same_request blob bytes dtype len read_ids ids context session options b i c a r =
-    λ k. record { blob = b k; dtype = dtype; len = len; ids = i k; context = record { ids = c k; allowed = a k }; options = options; session = r k }
+pub same_request : (blob bytes : List ℕ) (dtype : Typ) (len : ℕ) (ids : List (List ℕ)) (context : Context) (session : SessionMeaning) (options : SerializeOptions)
+    → bytes ≡ blob → session ≡ tables_meaning shipped_registry no_readers
+    → record { blob = bytes; dtype = dtype; len = len; ids = ids; context = context; options = options; session = session } ≡ request_for blob dtype len ids context options
+same_request blob bytes dtype len ids context session options b r =
+    λ k. record { blob = b k; dtype = dtype; len = len; ids = ids; context = context; options = options; session = r k }
 
 -- The session that the program makes means the shipped encodings, and no readers.
 pub same_session : {X : Type 0} {F : X → Type 0} (accepted : DynBox X Global F → List ℕ → Typ → Bool) (session : VortexSession X F) (arrays : Registry) (ext : ExtSession X F)
@@ -44,10 +43,10 @@ same_session accepted session arrays ext a e shipped none = λ k. tables_meaning
 
 -- The outputs are what was made.
 pub outputs_made : (asked : Request) (made : Product) (result : Result Outputs Status) → IsRecoded asked made → IsFaithful asked made
-    → IfOk result (λ outputs. outputs.array ≡ made.array) → IfOk result (λ outputs. outputs.blob.bytes ≡ joined made.buffers) → IfOk result (λ outputs. outputs.ids ≡ made.context.ids) → IfOk result (AreMade asked)
-outputs_made asked made (Ok outputs) recoded faithful array blob ids =
-    record { made = made; recoded = recoded; faithful = faithful; holds = record { array_is = array; blob_is = blob; ids_are = ids } }
-outputs_made asked made (Err status) recoded faithful array blob ids = tt
+    → IfOk result (λ outputs. outputs.array ≡ made.array) → IfOk result (λ outputs. outputs.buffers ≡ made.buffers) → IfOk result (λ outputs. outputs.ids ≡ made.context.ids) → IfOk result (AreMade asked)
+outputs_made asked made (Ok outputs) recoded faithful array buffers ids =
+    record { made = made; recoded = recoded; faithful = faithful; holds = record { array_is = array; buffers_are = buffers; ids_are = ids } }
+outputs_made asked made (Err status) recoded faithful array buffers ids = tt
 
 -- Want of memory needs no cause.
 pub memory_refused : (asked : Request) (result : Result Outputs Status) → IfErr result (λ status. status ≡ OutOfMemory) → IfErr result (λ status. RefusesBlob status asked)
@@ -89,21 +88,72 @@ type_cause (Refused error) line loaded bytes e s complete = absurd s
 -- Where what was loaded can be recoded, its type file is refused for want of memory alone.
 pub type_memory : (status : Status) (line : Recode) (loaded : Loaded) (bytes : List ℕ) → bytes ≡ loaded.type_bytes
     → ((t : Typ) → IsRead (ShowsType bytes) no_readers t → status ≡ OutOfMemory) → CanRecodeInputs line loaded → status ≡ OutOfMemory
-type_memory status line loaded bytes e complete can = complete can.dtype (subst (λ (m : List ℕ). IsRead (ShowsType m) no_readers can.dtype) (sym e) can.are_read.type_read)
+type_memory status line loaded bytes e complete can = complete can.terms.dtype (subst (λ (m : List ℕ). IsRead (ShowsType m) no_readers can.terms.dtype) (sym e) can.are_read.type_read)
 
 -- An id file that is refused, but for want of memory, is no text of identifiers.
-pub ids_cause : {T : Type 0} (error : IdFileError) (status : Status) (line : Recode) (loaded : Loaded) (bytes : List ℕ) (r : Result T IdFileError) → r ≡ Err error → bytes ≡ loaded.id_bytes
-    → status ≡ id_status error → (r ≡ Err id_error.BadText → (ids : List (List ℕ)) → ¬ (ReadsIds bytes ids)) → RefusesInputs status line loaded
-ids_cause id_error.OutOfMemory status line loaded bytes r p e s bad = subst (λ (x : Status). RefusesInputs x line loaded) (sym s) tt
-ids_cause id_error.BadText status line loaded bytes r p e s bad =
-    subst (λ (x : Status). RefusesInputs x line loaded) (sym s) (λ ids h. bad p ids (subst (λ (m : List ℕ). ReadsIds m ids) (sym e) h))
+pub ids_refused : {T : Type 0} (error : IdFileError) (status : Status) (bytes : List ℕ) (r : Result T IdFileError) → r ≡ Err error
+    → status ≡ id_status error → (r ≡ Err id_error.BadText → (ids : List (List ℕ)) → ¬ (ReadsIds bytes ids)) → RefusesIds status (λ ids. ReadsIds bytes ids)
+ids_refused id_error.OutOfMemory status bytes r p s bad = subst (λ (x : Status). RefusesIds x (λ ids. ReadsIds bytes ids)) (sym s) tt
+ids_refused id_error.BadText status bytes r p s bad = subst (λ (x : Status). RefusesIds x (λ ids. ReadsIds bytes ids)) (sym s) (bad p)
 
--- Where what was loaded can be recoded, its id file is refused for want of memory alone.
-pub ids_memory : {T : Type 0} (error : IdFileError) (status : Status) (line : Recode) (loaded : Loaded) (bytes : List ℕ) (r : Result T IdFileError) → r ≡ Err error → bytes ≡ loaded.id_bytes
-    → status ≡ id_status error → (r ≡ Err id_error.BadText → (ids : List (List ℕ)) → ¬ (ReadsIds bytes ids)) → CanRecodeInputs line loaded → status ≡ OutOfMemory
-ids_memory id_error.OutOfMemory status line loaded bytes r p e s bad can = s
-ids_memory id_error.BadText status line loaded bytes r p e s bad can =
-    absurd (bad p can.ids (subst (λ (m : List ℕ). ReadsIds m can.ids) (sym e) can.are_read.ids_read))
+-- So are the identifiers that are allowed, where a file of them is named.
+pub allowed_refused : (status : Status) (bytes : List ℕ) → RefusesIds status (λ ids. ReadsIds bytes ids) → RefusesIds status (λ allowed. ReadsAllowed (Some bytes) allowed)
+allowed_refused OutOfMemory bytes h = tt
+allowed_refused BadIds bytes h = never where
+  never : (allowed : Option (List (List ℕ))) → ¬ (ReadsAllowed (Some bytes) allowed)
+  never None r = r
+  never (Some ids) r = h ids r
+allowed_refused Done bytes h = absurd h
+allowed_refused NoCommand bytes h = absurd h
+allowed_refused LoadFault bytes h = absurd h
+allowed_refused SaveFault bytes h = absurd h
+allowed_refused WriteFault bytes h = absurd h
+allowed_refused BadType bytes h = absurd h
+allowed_refused (Refused error) bytes h = absurd h
+
+-- A bad id file is a cause among those of what was loaded.
+pub ids_cause : (status : Status) (line : Recode) (loaded : Loaded) (bytes : List ℕ) → bytes ≡ loaded.id_bytes → RefusesIds status (λ ids. ReadsIds bytes ids) → RefusesInputs status line loaded
+ids_cause OutOfMemory line loaded bytes e h = tt
+ids_cause BadIds line loaded bytes e h = inl (λ ids r. h ids (subst (λ (m : List ℕ). ReadsIds m ids) (sym e) r))
+ids_cause Done line loaded bytes e h = absurd h
+ids_cause NoCommand line loaded bytes e h = absurd h
+ids_cause LoadFault line loaded bytes e h = absurd h
+ids_cause SaveFault line loaded bytes e h = absurd h
+ids_cause WriteFault line loaded bytes e h = absurd h
+ids_cause BadType line loaded bytes e h = absurd h
+ids_cause (Refused error) line loaded bytes e h = absurd h
+
+pub allowed_cause : (status : Status) (line : Recode) (loaded : Loaded) → RefusesIds status (λ allowed. ReadsAllowed loaded.allow_bytes allowed) → RefusesInputs status line loaded
+allowed_cause OutOfMemory line loaded h = tt
+allowed_cause BadIds line loaded h = inr h
+allowed_cause Done line loaded h = absurd h
+allowed_cause NoCommand line loaded h = absurd h
+allowed_cause LoadFault line loaded h = absurd h
+allowed_cause SaveFault line loaded h = absurd h
+allowed_cause WriteFault line loaded h = absurd h
+allowed_cause BadType line loaded h = absurd h
+allowed_cause (Refused error) line loaded h = absurd h
+
+-- A file of which something is read is refused for want of memory alone.
+pub ids_memory : {A : Type 0} (status : Status) (Reads : A → Type 0) → RefusesIds status Reads → (ids : A) → Reads ids → status ≡ OutOfMemory
+ids_memory OutOfMemory Reads h ids r = refl
+ids_memory BadIds Reads h ids r = absurd (h ids r)
+ids_memory Done Reads h ids r = absurd h
+ids_memory NoCommand Reads h ids r = absurd h
+ids_memory LoadFault Reads h ids r = absurd h
+ids_memory SaveFault Reads h ids r = absurd h
+ids_memory WriteFault Reads h ids r = absurd h
+ids_memory BadType Reads h ids r = absurd h
+ids_memory (Refused error) Reads h ids r = absurd h
+
+-- Bytes are one list of allowed identifiers at most.
+allowed_unique : (bytes : Option (List ℕ)) (a b : Option (List (List ℕ))) → ReadsAllowed bytes a → ReadsAllowed bytes b → a ≡ b
+allowed_unique None None None r q = refl
+allowed_unique None (Some a) b r q = absurd r
+allowed_unique None None (Some b) r q = absurd q
+allowed_unique (Some bytes) (Some a) (Some b) r q = ap (λ (l : List (List ℕ)). Some l) (lines_unique bytes b a q.lines r.lines)
+allowed_unique (Some bytes) None b r q = absurd r
+allowed_unique (Some bytes) (Some a) None r q = absurd q
 
 if_ok_map : {A E : Type 0} (result : Result A E) (P Q : A → Type 0) → ((x : A) → P x → Q x) → IfOk result P → IfOk result Q
 if_ok_map (Ok x) P Q f p = f x p
@@ -113,53 +163,54 @@ if_err_map : {A E : Type 0} (result : Result A E) (P Q : E → Type 0) → ((e :
 if_err_map (Ok x) P Q f p = tt
 if_err_map (Err e) P Q f p = f e p
 
-blob_to_inputs : (line : Recode) (loaded : Loaded) (dtype : Typ) (read_ids : List (List ℕ)) → IsRead (ShowsType loaded.type_bytes) no_readers dtype → ReadsIds loaded.id_bytes read_ids
-    → (status : Status) → RefusesBlob status (asked_by line loaded dtype read_ids) → RefusesInputs status line loaded
-blob_to_inputs line loaded dtype read_ids types ids OutOfMemory cause = tt
-blob_to_inputs line loaded dtype read_ids types ids (Refused r) cause = (dtype, read_ids, record { type_read = types; ids_read = ids }, cause)
-blob_to_inputs line loaded dtype read_ids types ids Done cause = absurd cause
-blob_to_inputs line loaded dtype read_ids types ids NoCommand cause = absurd cause
-blob_to_inputs line loaded dtype read_ids types ids LoadFault cause = absurd cause
-blob_to_inputs line loaded dtype read_ids types ids SaveFault cause = absurd cause
-blob_to_inputs line loaded dtype read_ids types ids WriteFault cause = absurd cause
-blob_to_inputs line loaded dtype read_ids types ids BadType cause = absurd cause
-blob_to_inputs line loaded dtype read_ids types ids BadIds cause = absurd cause
+blob_to_inputs : (line : Recode) (loaded : Loaded) (terms : Terms) → AreRead line loaded terms → (status : Status) → RefusesBlob status (asked_by line loaded terms) → RefusesInputs status line loaded
+blob_to_inputs line loaded terms read OutOfMemory cause = tt
+blob_to_inputs line loaded terms read (Refused r) cause = (terms, read, cause)
+blob_to_inputs line loaded terms read Done cause = absurd cause
+blob_to_inputs line loaded terms read NoCommand cause = absurd cause
+blob_to_inputs line loaded terms read LoadFault cause = absurd cause
+blob_to_inputs line loaded terms read SaveFault cause = absurd cause
+blob_to_inputs line loaded terms read WriteFault cause = absurd cause
+blob_to_inputs line loaded terms read BadType cause = absurd cause
+blob_to_inputs line loaded terms read BadIds cause = absurd cause
 
-module _ (line : Recode) (loaded : Loaded) (type_bytes id_bytes : List ℕ) (dtype : Typ) (read_ids : List (List ℕ)) (options : SerializeOptions) (result : Result Outputs Status)
-    (types_are : type_bytes ≡ loaded.type_bytes) (ids_are : id_bytes ≡ loaded.id_bytes) (options_are : options ≡ padded_at line.settings.pad)
-    (type_read : IsRead (ShowsType type_bytes) no_readers dtype) (ids_read : ReadsIds id_bytes read_ids) where
-  type_here : IsRead (ShowsType loaded.type_bytes) no_readers dtype
-  type_here = subst (λ (l : List ℕ). IsRead (ShowsType l) no_readers dtype) types_are type_read
+module _ (line : Recode) (loaded : Loaded) (dtype : Typ) (read_ids ids : List (List ℕ)) (context : Context) (options : SerializeOptions) (result : Result Outputs Status)
+    (type_read : IsRead (ShowsType loaded.type_bytes) no_readers dtype) (ids_read : ReadsIds loaded.id_bytes read_ids) (ids_are : ids ≡ read_ids)
+    (context_read : (allowed : Option (List (List ℕ))) × ReadsAllowed loaded.allow_bytes allowed × (context ≡ context_of allowed)) (options_are : options ≡ padded_at line.settings.pad) where
+  terms : Terms
+  terms = record { dtype = dtype; ids = read_ids; allowed = context_read.0 }
 
-  ids_here : ReadsIds loaded.id_bytes read_ids
-  ids_here = subst (λ (l : List ℕ). ReadsIds l read_ids) ids_are ids_read
+  read : AreRead line loaded terms
+  unfolding terms
+  read = record { type_read = type_read; ids_read = ids_read; allowed_read = context_read.1 }
+
+  -- What was asked is what the inputs ask for.
+  asked : request_for loaded.blob dtype line.len ids context options ≡ asked_by line loaded terms
+  unfolding terms
+  asked = λ k. request_for loaded.blob dtype line.len (ids_are k) (context_read.2 k) (options_are k)
 
   -- What was recoded of the blob was recoded of what was loaded.
-  pub inputs_made : IfOk result (AreMade (request_for loaded.blob dtype line.len read_ids options)) → IfOk result (λ outputs. AreOutputs line loaded outputs)
+  pub inputs_made : IfOk result (AreMade (request_for loaded.blob dtype line.len ids context options)) → IfOk result (λ outputs. AreOutputs line loaded outputs)
   inputs_made recoded =
-      let here = subst (λ (o : SerializeOptions). IfOk result (AreMade (request_for loaded.blob dtype line.len read_ids o))) options_are recoded in
-      if_ok_map result _ _
-      (λ outputs k. record {
-        made = k.made;
-        is_made = record { dtype = dtype; ids = read_ids; are_read = record { type_read = type_here; ids_read = ids_here }; recoded = k.recoded; faithful = k.faithful };
-        holds = k.holds;
-      })
-      here
+      let here = subst (λ (r : Request). IfOk result (AreMade r)) asked recoded in
+      if_ok_map result _ _ (λ outputs k. record { made = k.made; is_made = record { terms = terms; are_read = read; recoded = k.recoded; faithful = k.faithful }; holds = k.holds }) here
 
   -- A refused blob is a cause among those of what was loaded.
-  pub inputs_refused : IfErr result (λ s. RefusesBlob s (request_for loaded.blob dtype line.len read_ids options)) → IfErr result (λ s. RefusesInputs s line loaded)
+  pub inputs_refused : IfErr result (λ s. RefusesBlob s (request_for loaded.blob dtype line.len ids context options)) → IfErr result (λ s. RefusesInputs s line loaded)
   inputs_refused refused =
-      let here = subst (λ (o : SerializeOptions). IfErr result (λ s. RefusesBlob s (request_for loaded.blob dtype line.len read_ids o))) options_are refused in
-      if_err_map result _ _ (blob_to_inputs line loaded dtype read_ids type_here ids_here) here
+      let here = subst (λ (r : Request). IfErr result (λ s. RefusesBlob s r)) asked refused in
+      if_err_map result _ _ (blob_to_inputs line loaded terms read) here
 
-  -- What can be recoded at some type and with some identifiers can be so at those that were read.
-  pub inputs_complete : (CanRecode (request_for loaded.blob dtype line.len read_ids options) → IfErr result (λ s. s ≡ OutOfMemory))
+  -- What can be recoded on some terms can be so on those that were read.
+  pub inputs_complete : (CanRecode (request_for loaded.blob dtype line.len ids context options) → IfErr result (λ s. s ≡ OutOfMemory))
       → CanRecodeInputs line loaded → IfErr result (λ s. s ≡ OutOfMemory)
+  unfolding terms
   inputs_complete complete can =
-      let types : can.dtype ≡ dtype = one_type_shown loaded.type_bytes can.dtype dtype can.are_read.type_read.shows type_here.shows in
-      let ids : can.ids ≡ read_ids = lines_unique loaded.id_bytes read_ids can.ids ids_here.lines can.are_read.ids_read.lines in
-      let asked : asked_by line loaded can.dtype can.ids ≡ request_for loaded.blob dtype line.len read_ids options = λ k. request_for loaded.blob (types k) line.len (ids k) (sym options_are k) in
-      complete (subst CanRecode asked can.can_recode)
+      let types : can.terms.dtype ≡ dtype = one_type_shown loaded.type_bytes can.terms.dtype dtype can.are_read.type_read.shows type_read.shows in
+      let same_ids : can.terms.ids ≡ read_ids = lines_unique loaded.id_bytes read_ids can.terms.ids ids_read.lines can.are_read.ids_read.lines in
+      let alloweds : can.terms.allowed ≡ context_read.0 = allowed_unique loaded.allow_bytes can.terms.allowed context_read.0 can.are_read.allowed_read context_read.1 in
+      let same : asked_by line loaded can.terms ≡ asked_by line loaded terms = λ k. asked_by line loaded (record { dtype = types k; ids = same_ids k; allowed = alloweds k }) in
+      complete (subst CanRecode (same ∙ sym asked) can.can_recode)
 
 -- Where the refusal of a blob is want of memory, so is the status.
 pub memory_status : (error : WireError) (status : Status) → status ≡ blob_status error → error ≡ wire.OutOfMemory → status ≡ OutOfMemory

@@ -1,44 +1,56 @@
 -- Options that are given one after the other.
-use Rattle.std.specs.Prelude.{◌≡◌, ℕ, List, [], ◌∷◌, Option, Some, None}
+use Rattle.std.specs.Prelude.{◌≡◌, ℕ, List, [], ◌∷◌, Option, Some, None, option_map, unwrap_or}
 use Rattle.std.specs.List.{AllByRecursion, flat_map}
 use Rattle.vxcat_core.specs.declared.options.Choice.{Choice}
-use Rattle.vxcat_core.specs.declared.options.Choice.TheVariants.{Pad, Rows}
+use Rattle.vxcat_core.specs.declared.options.Choice.TheVariants.{Pad, Rows, Allow}
 use Rattle.vxcat_core.specs.declared.options.Options.{Options}
-use Rattle.vxcat_core.specs.Options.{IsInRange, choice_words}
+use Rattle.vxcat_core.specs.Options.{IsInRange, Setting, Settings, setting_words}
+use Rattle.vxcat_core.specs.Options as options
+
+-- The option that a choice is.
+abbrev pub setting_of : Choice → Setting
+setting_of (Pad n) = options.pad n
+setting_of (Rows n) = options.rows n
+setting_of (Allow name) = options.allow name.now
+
+-- The options that were given, at most one of a kind.
+pub record Given : Type 0 where
+  pub pad : Option ℕ
+  pub rows : Option ℕ
+  pub allow : Option (List ℕ)
+
+-- The options that are held.
+abbrev pub given_in : Options → Given
+given_in o = record { pad = o.pad; rows = o.rows; allow = option_map (λ name. name.now) o.allow }
+
+-- What given options set.
+abbrev pub settings_by : Given → Settings
+settings_by given = record { pad = given.pad; rows = unwrap_or given.rows 10; allow = given.allow }
 
 -- No option was given.
-abbrev pub no_options : Options
-no_options = record { pad = None; rows = None }
+abbrev pub none_given : Given
+none_given = record { pad = None; rows = None; allow = None }
 
--- An option's number, where none of its kind was given before; none where one was.
-abbrev pub given_once : Option ℕ → ℕ → Option (Option ℕ)
-given_once None n = Some (Some n)
-given_once (Some m) n = None
-
--- Options with this position; none where it cannot be given.
-abbrev pub pad_given : Options → Option (Option ℕ) → Option Options
-pad_given options None = None
-pad_given options (Some pad) = Some (record { pad = pad; rows = options.rows })
-
--- Options with this number of rows; none where it cannot be given.
-abbrev pub rows_given : Options → Option (Option ℕ) → Option Options
-rows_given options None = None
-rows_given options (Some rows) = Some (record { pad = options.pad; rows = rows })
+-- What one kind of option gives, where none of its kind was given before; none where one was.
+abbrev pub given_once : {A : Type 0} → Option A → A → Option (Option A)
+given_once None a = Some (Some a)
+given_once (Some b) a = None
 
 -- Options with one more: none where one of its kind was given before.
-abbrev pub with_choice : Options → Choice → Option Options
-with_choice options (Pad n) = pad_given options (given_once options.pad n)
-with_choice options (Rows n) = rows_given options (given_once options.rows n)
+abbrev pub with_setting : Given → Setting → Option Given
+with_setting given (options.pad n) = option_map (λ p. record { pad = p; rows = given.rows; allow = given.allow }) (given_once given.pad n)
+with_setting given (options.rows n) = option_map (λ r. record { pad = given.pad; rows = r; allow = given.allow }) (given_once given.rows n)
+with_setting given (options.allow name) = option_map (λ a. record { pad = given.pad; rows = given.rows; allow = a }) (given_once given.allow name)
 
 -- Options with more, one after the other: none where two are of a kind.
-abbrev pub with_choices : Option Options → List Choice → Option Options
-with_choices options [] = options
-with_choices None (choice ∷ choices) = with_choices None choices
-with_choices (Some options) (choice ∷ choices) = with_choices (with_choice options choice) choices
+abbrev pub with_settings : Option Given → List Setting → Option Given
+with_settings given [] = given
+with_settings None (setting ∷ more) = with_settings None more
+with_settings (Some given) (setting ∷ more) = with_settings (with_setting given setting) more
 
 -- The words are options that give these, beside those that were given before.
-pub record Gives (before : Options) (words : List (List ℕ)) (after : Options) : Type 0 where
-  pub choices : List Choice
-  pub words_are : words ≡ flat_map choice_words choices
-  pub in_range : AllByRecursion IsInRange choices
-  pub once : with_choices (Some before) choices ≡ Some after
+pub record Gives (before : Given) (words : List (List ℕ)) (after : Given) : Type 0 where
+  pub settings : List Setting
+  pub words_are : words ≡ flat_map setting_words settings
+  pub in_range : AllByRecursion IsInRange settings
+  pub once : with_settings (Some before) settings ≡ Some after

@@ -1,43 +1,60 @@
 -- The options of a command.
-use Rattle.std.specs.Prelude.{ℕ, ◌<◌, ◌≤◌, ◌^◌, List, [], ◌∷◌, Option, codes, decimal, length, slice_get, unwrap_or}
-use Rattle.std.specs.List.{AllByRecursion}
-use Rattle.vxcat_core.specs.declared.options.Choice.{Choice}
-use Rattle.vxcat_core.specs.declared.options.Choice.TheVariants.{Pad, Rows}
+use Rattle.std.specs.Prelude.{ℕ, ◌<◌, ◌≤◌, ◌^◌, List, [], ◌∷◌, Option, Some, None, codes, decimal, length, slice_get, unwrap_or}
+use Rattle.std.specs.List.{AllByRecursion, filter_map}
 
--- An option is written as its name, and behind it its number.
-abbrev pub choice_words : Choice → List (List ℕ)
-choice_words (Pad n) = codes "--pad" ∷ decimal n ∷ []
-choice_words (Rows n) = codes "--rows" ∷ decimal n ∷ []
+-- An option behind the words of a command: the position at which pads are written as if the blob stood there, how many rows
+-- a listing has, or the file of the identifiers that the new blob may have.
+pub data Setting : Type 0 where
+  pad : ℕ → Setting
+  rows : ℕ → Setting
+  allow : List ℕ → Setting
 
--- A position lies below 2^64, and a listing has at most 1,000 rows.
-abbrev pub IsInRange : Choice → Type 0
-IsInRange (Pad n) = n < 2 ^ 64
-IsInRange (Rows n) = n ≤ 1000
+-- An option is written as its name, and behind it its number or the file's name.
+abbrev pub setting_words : Setting → List (List ℕ)
+setting_words (pad n) = codes "--pad" ∷ decimal n ∷ []
+setting_words (rows n) = codes "--rows" ∷ decimal n ∷ []
+setting_words (allow name) = codes "--allow" ∷ name ∷ []
 
--- The positions that options give by `--pad`, in order.
-abbrev pub positions : List Choice → List ℕ
-positions [] = []
-positions (Pad n ∷ choices) = n ∷ positions choices
-positions (Rows n ∷ choices) = positions choices
+-- A position lies below 2^64, and a listing has at most 1,000 rows. A file may have any name.
+abbrev pub IsInRange : Setting → Type 0
+IsInRange (pad n) = n < 2 ^ 64
+IsInRange (rows n) = n ≤ 1000
+IsInRange (allow name) = Unit {0}
 
--- The numbers of rows that options give by `--rows`, in order.
-abbrev pub counts : List Choice → List ℕ
-counts [] = []
-counts (Pad n ∷ choices) = counts choices
-counts (Rows n ∷ choices) = n ∷ counts choices
+-- What an option gives by `--pad`, by `--rows` and by `--allow`, if it is one of these.
+abbrev pub pad_of : Setting → Option ℕ
+pad_of (pad n) = Some n
+pad_of (rows n) = None
+pad_of (allow name) = None
+
+abbrev pub rows_of : Setting → Option ℕ
+rows_of (pad n) = None
+rows_of (rows n) = Some n
+rows_of (allow name) = None
+
+abbrev pub allow_of : Setting → Option (List ℕ)
+allow_of (pad n) = None
+allow_of (rows n) = None
+allow_of (allow name) = Some name
 
 -- Options stand in any order, each in its range, and no two of a kind.
-pub record AreOptions (choices : List Choice) : Type 0 where
-  pub in_range : AllByRecursion IsInRange choices
-  pub pad_once : length (positions choices) ≤ 1
-  pub rows_once : length (counts choices) ≤ 1
+pub record AreOptions (given : List Setting) : Type 0 where
+  pub in_range : AllByRecursion IsInRange given
+  pub pad_once : length (filter_map pad_of given) ≤ 1
+  pub rows_once : length (filter_map rows_of given) ≤ 1
+  pub allow_once : length (filter_map allow_of given) ≤ 1
 
--- What options set: the position at which pads are written as if the blob stood there, if any, and how many rows a
--- listing has.
+-- What options set: the position at which pads are written as if the blob stood there, if any; how many rows a listing has;
+-- and the file of the identifiers that the new blob may have, if any.
 pub record Settings : Type 0 where
   pub pad : Option ℕ
   pub rows : ℕ
+  pub allow : Option (List ℕ)
 
 -- A listing has as many rows as `--rows` says, and ten without it.
-abbrev pub settings_of : List Choice → Settings
-settings_of choices = record { pad = slice_get (positions choices) 0; rows = unwrap_or (slice_get (counts choices) 0) 10 }
+abbrev pub settings_of : List Setting → Settings
+settings_of given = record {
+  pad = slice_get (filter_map pad_of given) 0;
+  rows = unwrap_or (slice_get (filter_map rows_of given) 0) 10;
+  allow = slice_get (filter_map allow_of given) 0;
+}

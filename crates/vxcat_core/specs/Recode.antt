@@ -1,11 +1,11 @@
--- The command `recode`: its words, what it loads, request_for, makes, saves and prints, and how it ends.
-use Rattle.std.specs.Prelude.{◌≡◌, ◌≢◌, ◌⊎◌, ◌<◌, ◌^◌, ℕ, true, false, IsTrue, Option, None, Some, List, [], ◌∷◌, codes, decimal}
+-- The command `recode`: its words, what it loads, asks, makes, saves and prints, and how it ends.
+use Rattle.std.specs.Prelude.{◌≡◌, ◌≢◌, ◌⊎◌, ◌<◌, ◌^◌, ℕ, true, false, IsTrue, Option, None, Some, option_map, List, [], ◌∷◌, codes, decimal}
 use Rattle.std.specs.Io.KnownBytes.{Keeps}
 use Rattle.std.specs.List.{flat_map}
 use Rattle.vx_types.specs.Typ.{Typ}
 use Rattle.vx_type_wire.specs.Known.{ExtMeaning, IsRead, no_readers}
 use Rattle.vx_type_wire.specs.Shown.{ShowsType}
-use Rattle.vx_wire_tree.specs.Context.{Context}
+use Rattle.vx_wire_tree.specs.Context.{Context, with_ids}
 use Rattle.vx_wire_tree.specs.Session.{SessionMeaning}
 use Rattle.vx_registry.specs.Session.{tables_meaning, shipped_registry}
 use Rattle.vx_serde.specs.declared.options.SerializeOptions.{SerializeOptions}
@@ -13,12 +13,11 @@ use Rattle.vx_serde.specs.Causes.{Refuses}
 use Rattle.vx_serde.specs.Recoding.{IsFaithful, IsRecoded, Product}
 use Rattle.vx_serde.specs.Request.{CanRecode, Request}
 use Rattle.vx_buffer.specs.Joined.{joined}
-use Rattle.vxcat_core.specs.declared.options.Choice.{Choice}
 use Rattle.vxcat_core.specs.declared.status.Status.{Status}
 use Rattle.vxcat_core.specs.declared.status.Status.TheVariants.{Done, OutOfMemory, NoCommand, LoadFault, SaveFault, WriteFault, BadType, BadIds, Refused}
 use Rattle.vxcat_core.specs.IdFile.{ReadsIds, id_text}
 use Rattle.vxcat_core.specs.Listing.{listing}
-use Rattle.vxcat_core.specs.Options.{AreOptions, Settings, choice_words, settings_of}
+use Rattle.vxcat_core.specs.Options.{AreOptions, Setting, Settings, setting_words, settings_of}
 use Rattle.vxcat_core.specs.RunState.{IsUntouched, Prints, PrintsPrefix, Run}
 use Rattle.vxcat_core.specs.Status.{wire_error}
 use Rattle.vxcat_core.specs.StoreState.{AskedOnly, HasRisen, Stands, StoreState}
@@ -40,30 +39,43 @@ pub record Recode : Type 0 where
 -- without leading zeros and lies below 2^64, and the names of the two outputs differ; an output may have the name of an
 -- input.
 pub record InvokesRecode (words : List (List ℕ)) (line : Recode) : Type 0 where
-  pub choices : List Choice
-  pub words_are : words ≡ codes "recode" ∷ line.type_file ∷ line.blob_file ∷ decimal line.len ∷ line.id_file ∷ line.out ∷ line.out_ids ∷ flat_map choice_words choices
-  pub are_options : AreOptions choices
-  pub settings_are : line.settings ≡ settings_of choices
+  pub given : List Setting
+  pub words_are : words ≡ codes "recode" ∷ line.type_file ∷ line.blob_file ∷ decimal line.len ∷ line.id_file ∷ line.out ∷ line.out_ids ∷ flat_map setting_words given
+  pub are_options : AreOptions given
+  pub settings_are : line.settings ≡ settings_of given
   pub fits : line.len < 2 ^ 64
   pub outputs_differ : line.out ≢ line.out_ids
 
 -- ---- the inputs
 
+-- A name that is given is one to load.
+abbrev pub if_named : Option (List ℕ) → List (List ℕ)
+if_named None = []
+if_named (Some name) = name ∷ []
+
 -- The names that it loads.
 abbrev pub inputs : Recode → List (List ℕ)
-inputs line = line.type_file ∷ line.blob_file ∷ line.id_file ∷ []
+inputs line = line.type_file ∷ line.blob_file ∷ line.id_file ∷ if_named line.settings.allow
 
--- The contents of the files that it reads.
+-- The contents of the files that it reads, the last where it is named.
 pub record Loaded : Type 0 where
   pub type_bytes : List ℕ
   pub blob : List ℕ
   pub id_bytes : List ℕ
+  pub allow_bytes : Option (List ℕ)
+
+-- Bytes stand at a name, where one is given, and else there are none.
+abbrev pub StandsIfNamed : StoreState → Option (List ℕ) → Option (List ℕ) → Type 0
+StandsIfNamed store None None = Unit {0}
+StandsIfNamed store (Some name) (Some bytes) = Stands store name bytes
+StandsIfNamed store _ _ = ⊥
 
 -- What was loaded stands at the names of the inputs.
 pub record AreInputs (line : Recode) (store : StoreState) (loaded : Loaded) : Type 0 where
   pub type_stands : Stands store line.type_file loaded.type_bytes
   pub blob_stands : Stands store line.blob_file loaded.blob
   pub ids_stand : Stands store line.id_file loaded.id_bytes
+  pub allow_stands : StandsIfNamed store line.settings.allow loaded.allow_bytes
 
 -- ---- what is asked
 
@@ -75,28 +87,42 @@ readers_of settings = no_readers
 abbrev pub session_of : Settings → SessionMeaning
 session_of settings = tables_meaning shipped_registry (readers_of settings)
 
--- The context under which the new blob is written: it has no identifiers, and allows each encoding, whatever was loaded.
-abbrev pub context_of : Settings → Loaded → Context
-context_of settings loaded = record { ids = []; allowed = None }
+-- The context under which the new blob is written: it has no identifiers, and allows those of the file that is named, or
+-- each encoding where none is.
+abbrev pub context_of : Option (List (List ℕ)) → Context
+context_of allowed = record { ids = []; allowed = option_map (λ ids. with_ids [] ids) allowed }
 
 -- Without `--pad` no pads are written; with it they are, as at its position.
 abbrev pub padded_at : Option ℕ → SerializeOptions
 padded_at None = record { offset = 0; include_padding = false }
 padded_at (Some offset) = record { offset = offset; include_padding = true }
 
--- The type file shows the type within the limits, and the id file has the identifiers.
-pub record AreRead (line : Recode) (loaded : Loaded) (dtype : Typ) (ids : List (List ℕ)) : Type 0 where
-  pub type_read : IsRead (ShowsType loaded.type_bytes) (readers_of line.settings) dtype
-  pub ids_read : ReadsIds loaded.id_bytes ids
+-- What the files say beside the blob: the type, the identifiers to read with, and those that are allowed, if a file says so.
+pub record Terms : Type 0 where
+  pub dtype : Typ
+  pub ids : List (List ℕ)
+  pub allowed : Option (List (List ℕ))
 
--- What is asked of the blob, at the type and with the identifiers that were read.
-abbrev pub asked_by : Recode → Loaded → Typ → List (List ℕ) → Request
-asked_by line loaded dtype ids = record {
+-- The file of allowed identifiers has these, where one is named.
+abbrev pub ReadsAllowed : Option (List ℕ) → Option (List (List ℕ)) → Type 0
+ReadsAllowed None None = Unit {0}
+ReadsAllowed (Some bytes) (Some ids) = ReadsIds bytes ids
+ReadsAllowed _ _ = ⊥
+
+-- The type file shows the type within the limits, and the id files have the identifiers.
+pub record AreRead (line : Recode) (loaded : Loaded) (terms : Terms) : Type 0 where
+  pub type_read : IsRead (ShowsType loaded.type_bytes) (readers_of line.settings) terms.dtype
+  pub ids_read : ReadsIds loaded.id_bytes terms.ids
+  pub allowed_read : ReadsAllowed loaded.allow_bytes terms.allowed
+
+-- What is asked of the blob, on the terms that were read.
+abbrev pub asked_by : Recode → Loaded → Terms → Request
+asked_by line loaded terms = record {
   blob = loaded.blob;
-  dtype = dtype;
+  dtype = terms.dtype;
   len = line.len;
-  ids = ids;
-  context = context_of line.settings loaded;
+  ids = terms.ids;
+  context = context_of terms.allowed;
   options = padded_at line.settings.pad;
   session = session_of line.settings;
 }
@@ -106,29 +132,27 @@ asked_by line loaded dtype ids = record {
 -- The outputs are what `recode` makes of what is asked: its array is the one that the blob spells, and the new blob,
 -- within the limits, spells it again.
 pub record IsMade (line : Recode) (loaded : Loaded) (made : Product) : Type 0 where
-  pub dtype : Typ
-  pub ids : List (List ℕ)
-  pub are_read : AreRead line loaded dtype ids
-  pub recoded : IsRecoded (asked_by line loaded dtype ids) made
-  pub faithful : IsFaithful (asked_by line loaded dtype ids) made
+  pub terms : Terms
+  pub are_read : AreRead line loaded terms
+  pub recoded : IsRecoded (asked_by line loaded terms) made
+  pub faithful : IsFaithful (asked_by line loaded terms) made
 
--- What was loaded can be recoded: the type file shows a type, the id file has identifiers, and what is asked with these
+-- What was loaded can be recoded: the type file shows a type, the id files have identifiers, and what is asked with these
 -- can be done.
 pub record CanRecodeInputs (line : Recode) (loaded : Loaded) : Type 0 where
-  pub dtype : Typ
-  pub ids : List (List ℕ)
-  pub are_read : AreRead line loaded dtype ids
-  pub can_recode : CanRecode (asked_by line loaded dtype ids)
+  pub terms : Terms
+  pub are_read : AreRead line loaded terms
+  pub can_recode : CanRecode (asked_by line loaded terms)
 
--- Why what was loaded is not recoded: the type file shows no type within the limits, or one with an extension; the id file
--- is no text of at most 65,536 lines; or the blob is refused at the type and with the identifiers that were read. Want of
--- memory needs no cause.
+-- Why what was loaded is not recoded: the type file shows no type within the limits, or one with an extension; an id file,
+-- or the file of those that are allowed, is no text of at most 65,536 lines; or the blob is refused at the type and with the
+-- identifiers that were read. Want of memory needs no cause.
 abbrev pub RefusesInputs : Status → Recode → Loaded → Type 0
 RefusesInputs OutOfMemory line loaded = Unit {0}
 RefusesInputs BadType line loaded = (dtype : Typ) → ¬ (IsRead (ShowsType loaded.type_bytes) (readers_of line.settings) dtype)
-RefusesInputs BadIds line loaded = (ids : List (List ℕ)) → ¬ (ReadsIds loaded.id_bytes ids)
-RefusesInputs (Refused refusal) line loaded =
-    (dtype : Typ) × (ids : List (List ℕ)) × AreRead line loaded dtype ids × Refuses (asked_by line loaded dtype ids) (wire_error refusal)
+RefusesInputs BadIds line loaded =
+    ((ids : List (List ℕ)) → ¬ (ReadsIds loaded.id_bytes ids)) ⊎ ((allowed : Option (List (List ℕ))) → ¬ (ReadsAllowed loaded.allow_bytes allowed))
+RefusesInputs (Refused refusal) line loaded = (terms : Terms) × AreRead line loaded terms × Refuses (asked_by line loaded terms) (wire_error refusal)
 RefusesInputs status line loaded = ⊥
 
 -- ---- what is saved

@@ -1,27 +1,22 @@
 -- What contracts see of the words of a command, and of what the program holds while it runs.
-use Rattle.std.specs.Prelude.{◌≡◌, ℕ, List, [], None, unwrap_or}
+use Rattle.std.specs.Prelude.{◌≡◌, ℕ, List}
 use Rattle.vx_types.specs.Typ.{Typ}
 use Rattle.vx_type_wire.specs.Known.{no_readers}
+use Rattle.vx_wire_tree.specs.Context.{Context}
 use Rattle.vx_registry.specs.Session.{tables_meaning, shipped_registry}
 use Rattle.vx_serde.specs.declared.options.SerializeOptions.{SerializeOptions}
 use Rattle.vx_serde.specs.Causes.{Refuses}
 use Rattle.vx_serde.specs.Recoding.{IsFaithful, IsRecoded, Product}
 use Rattle.vx_serde.specs.Request.{Request}
-use Rattle.vx_buffer.specs.Joined.{joined}
-use Rattle.vxcat_core.specs.declared.options.Options.{Options}
 use Rattle.vxcat_core.specs.declared.recode.words.RecodeWords.{RecodeWords}
 use Rattle.vxcat_core.specs.declared.recode.steps.Inputs.{Inputs}
 use Rattle.vxcat_core.specs.declared.recode.steps.Outputs.{Outputs}
 use Rattle.vxcat_core.specs.declared.status.Status.{Status}
-use Rattle.vxcat_core.specs.declared.status.Status.TheVariants.{OutOfMemory, LoadFault, SaveFault, BadType, Refused}
-use Rattle.vxcat_core.specs.Options.{Settings}
+use Rattle.vxcat_core.specs.declared.status.Status.TheVariants.{OutOfMemory, LoadFault, SaveFault, BadType, BadIds, Refused}
+use Rattle.vxcat_core.specs.GivenOptions.{given_in, settings_by}
 use Rattle.vxcat_core.specs.Recode.{IsMade, Loaded, Recode}
 use Rattle.vxcat_core.specs.Status.{wire_error}
 use Rattle.vxcat_core.specs.StoreState.{HasRisen, StoreState}
-
--- What given options set.
-abbrev pub set_by : Options → Settings
-set_by options = record { pad = options.pad; rows = unwrap_or options.rows 10 }
 
 -- The line that words lend.
 abbrev pub line_of : RecodeWords → Recode
@@ -32,17 +27,17 @@ line_of words = record {
   id_file = words.id_file.now;
   out = words.out.now;
   out_ids = words.out_ids.now;
-  settings = set_by words.options;
+  settings = settings_by (given_in words.options);
 }
 
 -- The contents of the files that were loaded.
 abbrev pub loaded_of : Inputs → Loaded
-loaded_of inputs = record { type_bytes = inputs.type_bytes; blob = inputs.blob; id_bytes = inputs.id_bytes }
+loaded_of inputs = record { type_bytes = inputs.type_bytes; blob = inputs.blob; id_bytes = inputs.id_bytes; allow_bytes = inputs.allow_bytes }
 
--- The outputs are a product's array, the bytes of its blob, and the identifiers of its context.
+-- The outputs are a product's array, the buffers of its blob, and the identifiers of its context.
 pub record Holds (outputs : Outputs) (made : Product) : Type 0 where
   pub array_is : outputs.array ≡ made.array
-  pub blob_is : outputs.blob.bytes ≡ joined made.buffers
+  pub buffers_are : outputs.buffers ≡ made.buffers
   pub ids_are : outputs.ids ≡ made.context.ids
 
 -- The outputs are what the command makes of what was loaded.
@@ -51,14 +46,14 @@ pub record AreOutputs (line : Recode) (loaded : Loaded) (outputs : Outputs) : Ty
   pub is_made : IsMade line loaded made
   pub holds : Holds outputs made
 
--- What the program asks for of a blob, at a type and with identifiers.
-abbrev pub request_for : List ℕ → Typ → ℕ → List (List ℕ) → SerializeOptions → Request
-request_for blob dtype len ids options = record {
+-- What the program asks for of a blob, at a type, with identifiers and under a context.
+abbrev pub request_for : List ℕ → Typ → ℕ → List (List ℕ) → Context → SerializeOptions → Request
+request_for blob dtype len ids context options = record {
   blob = blob;
   dtype = dtype;
   len = len;
   ids = ids;
-  context = record { ids = []; allowed = None };
+  context = context;
   options = options;
   session = tables_meaning shipped_registry no_readers;
 }
@@ -89,6 +84,12 @@ abbrev pub RefusesType : Status → Type 0
 RefusesType OutOfMemory = Unit {0}
 RefusesType BadType = Unit {0}
 RefusesType status = ⊥
+
+-- An id file is a bad one where nothing is read of it, or memory is wanted.
+abbrev pub RefusesIds : {A : Type 0} → Status → (A → Type 0) → Type 0
+RefusesIds OutOfMemory Reads = Unit {0}
+RefusesIds {A} BadIds Reads = (ids : A) → ¬ (Reads ids)
+RefusesIds status Reads = ⊥
 
 -- A blob is refused with its cause, or wants memory.
 abbrev pub RefusesBlob : Status → Request → Type 0

@@ -1,16 +1,18 @@
 //! The real files, as a store.
 
-ghost use Rattle.std.specs.Prelude.{◌≡◌, []};
+ghost use Rattle.std.specs.Prelude.{◌≡◌, ◌≤◌, ◌+◌, ◌-◌, ◌^◌, [], min, IsOk, IsErr, IsErrOf};
+ghost use Rattle.vxcat_core.specs.declared.store.StoreError.TheVariants as store_error;
 
 use crate::store::{Store, StoreError};
 use std::alloc::Global;
 use std::fs::{self, OpenFile};
 use std::io::{Read, Write};
 use std::rt::Files;
+use vx_buffer::{ByteBuffer, ByteBuffers};
 use vx_types::{Blob, Name};
 
-// How many bytes one read asks for.
-const PIECE: usize = 1 << 16;
+// How many bytes one read asks for at least.
+const PIECE: usize = 1 << 20;
 
 // After as many reads, each of which gave at least one byte, a file counts as one without end.
 const MAX_READS: u64 = 1 << 32;
@@ -39,27 +41,47 @@ impl<'a, R: Files> DirStore<'a, R> {
             save_faults: 0,
         }
     }
+
+    // Counts a save that failed.
+    fn count_save(&mut self, saved: Result<(), StoreError>) -> Result<(), StoreError>
+        ensures never_falls { self.old.save_faults ≤ self.new.save_faults }
+        ensures ok { IsOk saved → (result ≡ saved) × (self.new ≡ self.old) }
+        ensures err { IsErr saved → IsErrOf result store_error.Failed
+            × (self.new ≡ record self.old { save_faults = min (self.old.save_faults + 1) (2 ^ 64 - 1) }) }
+    {
+        if saved.is_ok() {
+            return Ok(());
+        }
+        self.save_faults = self.save_faults.saturating_add(1);
+        Err(StoreError::Failed)
+    }
 }
 
-// Room for as many bytes as the file says that it has; none where it does not say, or says too much.
+// Room for as many bytes as the file says that it has, and for the read that finds its end; none where it does not say, or
+// says too much.
 fn room_for<F: OpenFile>(alloc: Global, file: &F) -> Vec<u8> {
     let size = match file.metadata() {
         Ok(metadata) => metadata.len(),
         Err(_) => 0,
     };
-    match Vec::with_capacity(alloc, size as usize) {
+    match Vec::with_capacity(alloc, (size as usize).saturating_add(PIECE)) {
         Ok(room) => room,
         Err(_) => Vec::new(alloc),
     }
 }
 
+// The file's bytes, read into the memory that is handed on.
 fn read_all<F: Read + OpenFile>(alloc: Global, file: &mut F) -> Result<Vec<u8>, StoreError> {
-    let mut piece = vec![in alloc; 0u8; PIECE]?;
     let mut bytes = room_for(alloc, file);
+    let mut end = 0;
     for _ in 0..MAX_READS {
-        match file.read(piece.as_mut_slice()) {
-            Ok(0) => return Ok(bytes),
-            Ok(count) => bytes.extend_from_slice(&piece[..count])?,
+        bytes.resize(end + PIECE, 0)?;
+        match file.read(&mut bytes[end..]) {
+            Ok(0) => {
+                bytes.truncate(end);
+                return Ok(bytes);
+            }
+            Ok(count) => end += count,
             Err(_) => return Err(StoreError::Failed),
         }
     }
@@ -77,7 +99,7 @@ fn write_all<F: Write>(file: &mut F, bytes: &[u8]) -> Result<(), StoreError> {
             _ => return Err(StoreError::Failed),
         }
     }
-    file.flush().map_err(|_| StoreError::Failed)
+    Ok(())
 }
 
 fn load_file<R: Files>(alloc: Global, files: &R, name: &Name) -> Result<Vec<u8>, StoreError> {
@@ -87,11 +109,27 @@ fn load_file<R: Files>(alloc: Global, files: &R, name: &Name) -> Result<Vec<u8>,
     }
 }
 
+fn flush<F: Write>(file: &mut F) -> Result<(), StoreError> {
+    file.flush().map_err(|_| StoreError::Failed)
+}
+
 fn save_file<R: Files>(files: &R, name: &Name, bytes: &[u8]) -> Result<(), StoreError> {
-    match fs::create(files, name.as_str()) {
-        Ok(mut file) => write_all(&mut file, bytes),
-        Err(_) => Err(StoreError::Failed),
+    let Ok(mut file) = fs::create(files, name.as_str()) else {
+        return Err(StoreError::Failed);
+    };
+    write_all(&mut file, bytes)?;
+    flush(&mut file)
+}
+
+// Writes the buffers, one after the other, as the whole of a file.
+fn save_pieces<R: Files>(files: &R, name: &Name, buffers: &[ByteBuffer]) -> Result<(), StoreError> {
+    let Ok(mut file) = fs::create(files, name.as_str()) else {
+        return Err(StoreError::Failed);
+    };
+    for buffer in buffers {
+        write_all(&mut file, buffer.as_slice())?;
     }
+    flush(&mut file)
 }
 
 impl<R: Files> Store for DirStore<'_, R> {
@@ -119,12 +157,17 @@ impl<R: Files> Store for DirStore<'_, R> {
     }
 
     fn save(&mut self, _alloc: Global, name: &Name, bytes: &[u8]) -> Result<(), StoreError> {
-        match save_file(self.files, name, bytes) {
-            Ok(()) => Ok(()),
-            Err(_) => {
-                self.save_faults = self.save_faults.saturating_add(1);
-                Err(StoreError::Failed)
-            }
-        }
+        let saved = save_file(self.files, name, bytes);
+        self.count_save(saved)
+    }
+
+    fn save_buffers(
+        &mut self,
+        _alloc: Global,
+        name: &Name,
+        buffers: &ByteBuffers,
+    ) -> Result<(), StoreError> {
+        let saved = save_pieces(self.files, name, buffers.as_slice());
+        self.count_save(saved)
     }
 }

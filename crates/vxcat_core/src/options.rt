@@ -1,10 +1,8 @@
 //! The options behind the words of a command.
 
-ghost use Rattle.std.specs.Prelude.{◌≡◌, ◌≢◌, ℕ, List, ◌++◌, IfSome, IfNone};
-ghost use Rattle.vxcat_core.specs.Options.{choice_words, IsInRange};
-ghost use Rattle.vxcat_core.specs.GivenOptions.{Gives, no_options, with_choice};
-ghost use Rattle.vxcat_core.specs.declared.options.Choice.{Choice as ChoiceType};
-ghost use Rattle.vxcat_core.specs.declared.options.Options.{Options as OptionsType};
+ghost use Rattle.std.specs.Prelude.{◌≡◌, ◌≢◌, ℕ, List, ◌++◌, IfSome, IfNone, option_map};
+ghost use Rattle.vxcat_core.specs.Options.{IsInRange, Setting, setting_words};
+ghost use Rattle.vxcat_core.specs.GivenOptions.{Given, Gives, given_in, none_given, setting_of, with_setting};
 
 use crate::numbers::decimal_number;
 use vx_types::Name;
@@ -13,60 +11,70 @@ use vx_types::Name;
 pub const MAX_ROWS: u64 = 1000;
 
 /// An option behind the words of a command.
-#[derive(Clone, Copy, Debug, PartialEq, Eq)]
-pub enum Choice {
+#[derive(Clone, Copy)]
+pub enum Choice<'a> {
     /// `--pad OFFSET`: the blob is written with pads, as at this position.
     Pad(u64),
     /// `--rows N`: the listing has so many rows.
     Rows(u64),
+    /// `--allow FILE`: the new blob may have the identifiers of this file alone.
+    Allow(&'a Name),
 }
 
 /// The options of a command, no two of a kind.
-#[derive(Clone, Copy, Debug, PartialEq, Eq)]
-pub struct Options {
+#[derive(Clone, Copy)]
+pub struct Options<'a> {
     pub pad: Option<u64>,
     pub rows: Option<u64>,
+    pub allow: Option<&'a Name>,
 }
 
-impl Options {
+impl<'a> Options<'a> {
     /// No option is given.
-    pub fn none() -> Options
-        ensures { result ≡ no_options }
+    pub fn none() -> Options<'a>
+        ensures { given_in result ≡ none_given }
     {
         Options {
             pad: None,
             rows: None,
+            allow: None,
         }
     }
 
-    /// The options with one more; None where it is there already.
-    pub fn with(self, choice: Choice) -> Option<Options>
-        ensures { result ≡ with_choice self choice }
+    /// The options with one more; None where one of its kind is there already.
+    pub fn with(self, choice: Choice<'a>) -> Option<Options<'a>>
+        ensures { option_map given_in result ≡ with_setting (given_in self.entry) (setting_of choice.entry) }
     {
-        match (choice, self.pad, self.rows) {
-            (Choice::Pad(offset), None, rows) => Some(Options {
+        match choice {
+            Choice::Pad(offset) if self.pad.is_none() => Some(Options {
                 pad: Some(offset),
-                rows,
+                ..self
             }),
-            (Choice::Rows(count), pad, None) => Some(Options {
-                pad,
+            Choice::Rows(count) if self.rows.is_none() => Some(Options {
                 rows: Some(count),
+                ..self
             }),
-            (Choice::Pad(_), Some(_), _) => None,
-            (Choice::Rows(_), _, Some(_)) => None,
+            Choice::Allow(name) if self.allow.is_none() => Some(Options {
+                allow: Some(name),
+                ..self
+            }),
+            _ => None,
         }
     }
 }
 
 /// The option at the front of the words, and the words behind it.
-pub fn next_choice<'a>(words: &'a [Name]) -> Option<(Choice, &'a [Name])>
-    ensures spelled { IfSome result (λ found. words.now ≡ choice_words found.0 ++ found.1.now) }
-    ensures in_range { IfSome result (λ found. IsInRange found.0) }
-    ensures none { IfNone result ((choice : ChoiceType) (rest : List (List ℕ)) → IsInRange choice
-        → words.now ≢ choice_words choice ++ rest) }
+pub fn next_choice<'a>(words: &'a [Name]) -> Option<(Choice<'a>, &'a [Name])>
+    ensures spelled { IfSome result (λ found. words.now ≡ setting_words (setting_of found.0) ++ found.1.now) }
+    ensures in_range { IfSome result (λ found. IsInRange (setting_of found.0)) }
+    ensures none { IfNone result ((setting : Setting) (rest : List (List ℕ)) → IsInRange setting
+        → words.now ≢ setting_words setting ++ rest) }
 {
     let (option, after) = words.split_first()?;
     let (value, rest) = after.split_first()?;
+    if option.as_str() == "--allow" {
+        return Some((Choice::Allow(value), rest));
+    }
     let number = decimal_number(value.as_str())?;
     if option.as_str() == "--pad" {
         return Some((Choice::Pad(number), rest));
@@ -81,9 +89,9 @@ pub fn next_choice<'a>(words: &'a [Name]) -> Option<(Choice, &'a [Name])>
 }
 
 /// The options that the words give, beside those that were given before.
-pub fn parse_options(words: &[Name], before: Options) -> Option<Options>
-    ensures given { IfSome result (λ options. Gives before words.now options) }
-    ensures none { IfNone result ((options : OptionsType) → ¬ (Gives before words.now options)) }
+pub fn parse_options<'a>(words: &'a [Name], before: Options<'a>) -> Option<Options<'a>>
+    ensures given { IfSome result (λ options. Gives (given_in before.entry) words.now (given_in options)) }
+    ensures none { IfNone result ((after : Given) → ¬ (Gives (given_in before.entry) words.now after)) }
 {
     if words.is_empty() {
         return Some(before);

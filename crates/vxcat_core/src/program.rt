@@ -15,8 +15,8 @@ use vx_types::Name;
 /// Runs the command that the words invoke, and answers the status with which the program is to end.
 ///
 /// The words stand without the program's name. `recode TYPE BLOB LEN IDS OUT OUTIDS`, with
-/// `--pad OFFSET` and `--rows N` behind, loads TYPE, BLOB and IDS, saves OUT and OUTIDS, and prints
-/// the listing of the array.
+/// `--pad OFFSET`, `--rows N` and `--allow FILE` behind, loads TYPE, BLOB, IDS and FILE, saves OUT
+/// and OUTIDS, and prints the listing of the array.
 pub fn run<S: Store, O: Sink>(alloc: Global, words: &[Name], store: &mut S, out: &mut O) -> u8
     ensures outcome { HasOutcome result words.now (run_of (S.state store.old) (S.state store.new) (O.state out.old) (O.state out.new)) }
     ensures no_command { (result ≡ 2) ↔ ((command : Command) → ¬ (Invokes words.now command)) }

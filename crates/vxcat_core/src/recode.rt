@@ -3,7 +3,8 @@
 ghost use Rattle.std.specs.Prelude.{◌≡◌, ◌≢◌};
 ghost use Rattle.vxcat_core.specs.Recode.{EndsRecode};
 ghost use Rattle.vxcat_core.specs.RunState.{run_of};
-ghost use Rattle.vxcat_core.specs.RecodeViews.{line_of, set_by};
+ghost use Rattle.vxcat_core.specs.GivenOptions.{given_in, settings_by};
+ghost use Rattle.vxcat_core.specs.RecodeViews.{line_of};
 
 mod steps;
 mod words;
@@ -48,8 +49,8 @@ pub fn run_recode<S: Store, O: Sink>(
 }
 
 // How many rows are listed.
-fn shown_rows(options: Options) -> usize
-    ensures { result ≡ (set_by options).rows }
+fn shown_rows(options: Options<'_>) -> usize
+    ensures { result ≡ (settings_by (given_in options.entry)).rows }
 {
     options.rows.unwrap_or(DEFAULT_ROWS) as usize
 }

@@ -1,11 +1,13 @@
 //! What the program loads from and saves into.
 
 ghost use Rattle.std.specs.Prelude.{◌≡◌, ◌≢◌, ◌⊎◌, ◌≤◌, ℕ, Some, List, [], ◌∷◌, ◌++◌, IsTrue, IfOk, OnOk, IsErrOf};
+ghost use Rattle.vx_buffer.specs.Joined.{joined};
 ghost use Rattle.vxcat_core.specs.StoreState.{StoreState, HasRisen};
 ghost use Rattle.vxcat_core.specs.declared.store.StoreError.TheVariants as store_error;
 
 use std::alloc::{AllocError, AllocFailed, Global};
 use thiserror::Error;
+use vx_buffer::ByteBuffers;
 use vx_types::{Blob, Name};
 
 /// Why a file was not loaded or not saved.
@@ -81,4 +83,33 @@ pub trait Store {
         ensures no_fault { OnOk result ((state self.new).save_faults ≡ (state self.old).save_faults) }
         ensures fault { IsErrOf result store_error.Failed
             → HasRisen (state self.old).save_faults (state self.new).save_faults };
+
+    /// Puts the bytes of these buffers, one after the other, at the name, as [`save`](Store::save) of
+    /// them joined. A store that can write them in pieces needs no memory for the whole.
+    ///
+    /// # Errors
+    /// Those of [`save`](Store::save).
+    fn save_buffers(
+        &mut self,
+        alloc: Global,
+        name: &Name,
+        buffers: &ByteBuffers,
+    ) -> Result<(), StoreError>
+        ensures saved { IsTrue (state self.old).tells
+            → OnOk result ((state self.new).file name.now ≡ Some (joined buffers.now)) }
+        ensures others { IsTrue (state self.old).tells
+            → (other : List ℕ) → other ≢ name.now → (state self.new).file other ≡ (state self.old).file other }
+        ensures told { (state self.new).tells ≡ (state self.old).tells }
+        ensures asked { (state self.new).asked ≡ (state self.old).asked }
+        ensures load_faults { (state self.new).load_faults ≡ (state self.old).load_faults }
+        ensures never_falls { (state self.old).save_faults ≤ (state self.new).save_faults }
+        ensures no_fault { OnOk result ((state self.new).save_faults ≡ (state self.old).save_faults) }
+        ensures fault { IsErrOf result store_error.Failed
+            → HasRisen (state self.old).save_faults (state self.new).save_faults }
+    {
+        match buffers.join(alloc) {
+            Ok(bytes) => self.save(alloc, name, bytes.as_slice()),
+            Err(_) => Err(StoreError::OutOfMemory),
+        }
+    }
 }

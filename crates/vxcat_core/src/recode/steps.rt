@@ -1,15 +1,16 @@
 //! The steps of the command: loading its inputs, recoding the blob, and saving the outputs.
 
-ghost use Rattle.std.specs.Prelude.{◌≡◌, ◌≢◌, IfOk, IfErr, OnOk};
+ghost use Rattle.std.specs.Prelude.{◌≡◌, ◌≢◌, ◌⊎◌, [], ◌∷◌, ◌++◌, ◌≤◌, List, ℕ, None, Some, IfOk, IfErr, OnOk, Option, option_map};
 ghost use Rattle.vx_types.specs.Seen.{typ};
 ghost use Rattle.vx_types.specs.Typ.{Typ};
 ghost use Rattle.vx_type_wire.specs.Known.{IsRead, no_readers};
 ghost use Rattle.vx_type_wire.specs.Shown.{ShowsType};
 ghost use Rattle.vx_serde.specs.Request.{CanRecode};
 ghost use Rattle.vx_buffer.specs.Joined.{joined};
-ghost use Rattle.vxcat_core.specs.Recode.{AreInputs, AreSaved, CanRecodeInputs, RefusesInputs, KeepsOthers, SavesInOrder, inputs, padded_at};
+ghost use Rattle.vxcat_core.specs.Recode.{AreInputs, AreSaved, CanRecodeInputs, RefusesInputs, KeepsOthers, ReadsAllowed, SavesInOrder, StandsIfNamed, context_of, if_named, inputs, padded_at};
+ghost use Rattle.vxcat_core.specs.IdFile.{ReadsIds};
 ghost use Rattle.vxcat_core.specs.StoreState.{AskedOnly};
-ghost use Rattle.vxcat_core.specs.RecodeViews.{AreMade, AreOutputs, RefusesLoad, RefusesSave, RefusesType, RefusesBlob, request_for, line_of, loaded_of};
+ghost use Rattle.vxcat_core.specs.RecodeViews.{AreMade, AreOutputs, RefusesIds, RefusesLoad, RefusesSave, RefusesType, RefusesBlob, request_for, line_of, loaded_of};
 ghost use Rattle.vxcat_core.specs.declared.status.Status.TheVariants.{OutOfMemory};
 
 use super::words::RecodeWords;
@@ -18,11 +19,11 @@ use crate::status::Status;
 use crate::store::Store;
 use std::alloc::Global;
 use vx_arrays::Array;
-use vx_buffer::ByteBuffer;
+use vx_buffer::{ByteBuffer, ByteBuffers};
 use vx_registry::{ArrayContext, ArraySession, ReadContext, VortexSession};
 use vx_serde::{Recoded, SerializeOptions, recode};
 use vx_type_wire::{DTypeExt, ExtSession};
-use vx_types::{Blob, DType, Ids};
+use vx_types::{Blob, DType, Ids, Name};
 
 /// The contents of the files that the command reads.
 #[derive(Drop)]
@@ -30,17 +31,18 @@ pub struct Inputs {
     pub type_bytes: Blob,
     pub blob: Blob,
     pub id_bytes: Blob,
+    pub allow_bytes: Option<Blob>,
 }
 
-/// What the command makes: the array that it lists, and the new blob with its identifiers.
+/// What the command makes: the array that it lists, and the buffers of the new blob with its identifiers.
 #[derive(Drop)]
 pub struct Outputs {
     pub array: Array,
-    pub blob: ByteBuffer,
+    pub buffers: ByteBuffers,
     pub ids: Ids,
 }
 
-/// Loads the type file, the blob and the id file, in this order.
+/// Loads the type file, the blob, the id file and, where it is named, the file of allowed identifiers, in this order.
 pub fn load_inputs<S: Store>(
     alloc: Global,
     words: &RecodeWords,
@@ -61,17 +63,45 @@ pub fn load_inputs<S: Store>(
         Ok(bytes) => bytes,
         Err(error) => return Err(Status::of_load(error)),
     };
-    match store.load(alloc, words.id_file) {
-        Ok(id_bytes) => Ok(Inputs {
+    let id_bytes = match store.load(alloc, words.id_file) {
+        Ok(bytes) => bytes,
+        Err(error) => return Err(Status::of_load(error)),
+    };
+    match load_named(alloc, words.options.allow, store) {
+        Ok(allow_bytes) => Ok(Inputs {
             type_bytes,
             blob,
             id_bytes,
+            allow_bytes,
         }),
-        Err(error) => Err(Status::of_load(error)),
+        Err(status) => Err(status),
     }
 }
 
-/// Judges the type file, then the id file, and recodes the blob.
+// Loads a file, where one is named.
+fn load_named<S: Store>(
+    alloc: Global,
+    name: Option<&Name>,
+    store: &mut S,
+) -> Result<Option<Blob>, Status>
+    ensures stands { IfOk result (λ bytes. StandsIfNamed (S.state store.old) (option_map (λ n. n.now) name.entry) bytes) }
+    ensures asked { AskedOnly (if_named (option_map (λ n. n.now) name.entry)) (S.state store.old).asked (S.state store.new).asked }
+    ensures told { (S.state store.new).tells ≡ (S.state store.old).tells }
+    ensures files { (S.state store.new).file ≡ (S.state store.old).file }
+    ensures save_faults { (S.state store.new).save_faults ≡ (S.state store.old).save_faults }
+    ensures never_falls { (S.state store.old).load_faults ≤ (S.state store.new).load_faults }
+    ensures cause { IfErr result (λ status. RefusesLoad status (S.state store.old) (S.state store.new)) }
+{
+    match name {
+        None => Ok(None),
+        Some(name) => match store.load(alloc, name) {
+            Ok(bytes) => Ok(Some(bytes)),
+            Err(error) => Err(Status::of_load(error)),
+        },
+    }
+}
+
+/// Judges the type file, then the id files, and recodes the blob.
 pub fn recode_inputs(alloc: Global, words: &RecodeWords, loaded: Inputs) -> Result<Outputs, Status>
     ensures made { IfOk result (λ made. AreOutputs (line_of words.now) (loaded_of loaded) made) }
     ensures cause { IfErr result (λ status. RefusesInputs status (line_of words.now) (loaded_of loaded)) }
@@ -81,12 +111,25 @@ pub fn recode_inputs(alloc: Global, words: &RecodeWords, loaded: Inputs) -> Resu
         Ok(dtype) => dtype,
         Err(status) => return Err(status),
     };
-    let read_ids = match read_ids(alloc, loaded.id_bytes.as_slice()) {
+    let read_ids = match read_id_file(alloc, loaded.id_bytes.as_slice()) {
         Ok(ids) => ids,
-        Err(error) => return Err(Status::of_ids(error)),
+        Err(status) => return Err(status),
+    };
+    let context = match read_context(alloc, &loaded.allow_bytes) {
+        Ok(context) => context,
+        Err(status) => return Err(status),
     };
     let options = serialize_options(words.options.pad);
-    recode_blob(alloc, loaded.blob, &dtype, words.len, read_ids, &options)
+    let read = ReadContext::new(read_ids);
+    recode_blob(
+        alloc,
+        loaded.blob,
+        &dtype,
+        words.len,
+        &read,
+        context,
+        &options,
+    )
 }
 
 // The type that a type file shows, where no extension is known.
@@ -99,6 +142,36 @@ fn read_type(alloc: Global, bytes: &[u8]) -> Result<DType, Status>
     match DType::from_flatbuffer(alloc, bytes, &readers) {
         Ok(dtype) => Ok(dtype),
         Err(error) => Err(Status::of_type(error)),
+    }
+}
+
+// The identifiers of an id file.
+fn read_id_file(alloc: Global, bytes: &[u8]) -> Result<Ids, Status>
+    ensures read { IfOk result (λ ids. ReadsIds bytes.now ids) }
+    ensures cause { IfErr result (λ status. RefusesIds status (λ ids. ReadsIds bytes.now ids)) }
+{
+    match read_ids(alloc, bytes) {
+        Ok(ids) => Ok(ids),
+        Err(error) => Err(Status::of_ids(error)),
+    }
+}
+
+// The context under which the new blob is written: an empty one, which allows the identifiers of the file, if there is one.
+fn read_context(alloc: Global, allow_bytes: &Option<Blob>) -> Result<ArrayContext, Status>
+    ensures read { IfOk result (λ context. (allowed : Option (List (List ℕ))) × ReadsAllowed allow_bytes.now allowed × (context ≡ context_of allowed)) }
+    ensures cause { IfErr result (λ status. RefusesIds status (λ allowed. ReadsAllowed allow_bytes.now allowed)) }
+{
+    let context = ArrayContext::empty(alloc);
+    let Some(bytes) = allow_bytes else {
+        return Ok(context);
+    };
+    let ids = match read_id_file(alloc, bytes.as_slice()) {
+        Ok(ids) => ids,
+        Err(status) => return Err(status),
+    };
+    match context.with_allowed_ids(alloc, &ids) {
+        Ok(context) => Ok(context),
+        Err(_) => Err(Status::OutOfMemory),
     }
 }
 
@@ -115,18 +188,19 @@ fn serialize_options(pad: Option<u64>) -> SerializeOptions
     }
 }
 
-// Recodes a blob with the encodings that are shipped, from an empty context.
+// Recodes a blob with the encodings that are shipped, under this context.
 fn recode_blob(
     alloc: Global,
     blob: Blob,
     dtype: &DType,
     len: u64,
-    read_ids: Ids,
+    read: &ReadContext,
+    context: ArrayContext,
     options: &SerializeOptions,
 ) -> Result<Outputs, Status>
-    ensures made { IfOk result (AreMade (request_for blob (typ dtype.now) len read_ids options.now)) }
-    ensures cause { IfErr result (λ status. RefusesBlob status (request_for blob (typ dtype.now) len read_ids options.now)) }
-    ensures complete { CanRecode (request_for blob (typ dtype.now) len read_ids options.now) → IfErr result (λ status. status ≡ OutOfMemory) }
+    ensures made { IfOk result (AreMade (request_for blob (typ dtype.now) len read.now context options.now)) }
+    ensures cause { IfErr result (λ status. RefusesBlob status (request_for blob (typ dtype.now) len read.now context options.now)) }
+    ensures complete { CanRecode (request_for blob (typ dtype.now) len read.now context options.now) → IfErr result (λ status. status ≡ OutOfMemory) }
 {
     let Ok(buffer) = ByteBuffer::from_vec(blob.into_vec()) else {
         return Err(Status::OutOfMemory);
@@ -135,14 +209,13 @@ fn recode_blob(
         return Err(Status::OutOfMemory);
     };
     let session = VortexSession::new(arrays, ExtSession::new(alloc));
-    let read = ReadContext::new(read_ids);
-    let mut ids = ArrayContext::empty(alloc);
+    let mut ids = context;
     match recode(
         alloc,
         buffer,
         dtype,
         len as usize,
-        &read,
+        read,
         &mut ids,
         &session,
         options,
@@ -154,17 +227,14 @@ fn recode_blob(
 
 fn make_outputs(alloc: Global, recoded: Recoded, ids: &ArrayContext) -> Result<Outputs, Status>
     ensures array { IfOk result (λ made. made.array ≡ recoded.array) }
-    ensures blob { IfOk result (λ made. made.blob.bytes ≡ joined recoded.buffers) }
+    ensures buffers { IfOk result (λ made. made.buffers ≡ recoded.buffers) }
     ensures ids { IfOk result (λ made. made.ids ≡ ids.now.ids) }
     ensures memory { IfErr result (λ status. status ≡ OutOfMemory) }
 {
-    let Ok(blob) = recoded.buffers.join(alloc) else {
-        return Err(Status::OutOfMemory);
-    };
     match ids.to_ids(alloc) {
         Ok(ids) => Ok(Outputs {
             array: recoded.array,
-            blob,
+            buffers: recoded.buffers,
             ids,
         }),
         Err(_) => Err(Status::OutOfMemory),
@@ -179,15 +249,15 @@ pub fn save_outputs<S: Store>(
     store: &mut S,
 ) -> Result<(), Status>
     requires { words.now.out.now ≢ words.now.out_ids.now }
-    ensures saved { OnOk result (AreSaved (line_of words.now) (S.state store.new) made.now.blob.bytes made.now.ids) }
+    ensures saved { OnOk result (AreSaved (line_of words.now) (S.state store.new) (joined made.now.buffers) made.now.ids) }
     ensures others { KeepsOthers (line_of words.now) (S.state store.old) (S.state store.new) }
-    ensures in_order { SavesInOrder (line_of words.now) (S.state store.old) (S.state store.new) made.now.blob.bytes }
+    ensures in_order { SavesInOrder (line_of words.now) (S.state store.old) (S.state store.new) (joined made.now.buffers) }
     ensures cause { IfErr result (λ status. RefusesSave status (S.state store.old) (S.state store.new)) }
 {
     let Ok(text) = write_ids(alloc, &made.ids) else {
         return Err(Status::OutOfMemory);
     };
-    if let Err(error) = store.save(alloc, words.out, made.blob.as_slice()) {
+    if let Err(error) = store.save_buffers(alloc, words.out, &made.buffers) {
         return Err(Status::of_save(error));
     }
     match store.save(alloc, words.out_ids, text.as_slice()) {

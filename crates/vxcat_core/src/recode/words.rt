@@ -17,7 +17,7 @@ pub struct RecodeWords<'a> {
     pub id_file: &'a Name,
     pub out: &'a Name,
     pub out_ids: &'a Name,
-    pub options: Options,
+    pub options: Options<'a>,
 }
 
 /// What the words name where they are `recode TYPE BLOB LEN IDS OUT OUTIDS` and options behind these, and where the two

@@ -1,6 +1,5 @@
 use Rattle.std.proofs.Common.{◌≡◌, ℕ, ◌==◌, false, List, [], ◌∷◌, Option, Some, None, IfSome, IfNone, length, sym, ◌∙◌}
-use Rattle.vxcat_core.specs.declared.options.Options.{Options}
-use Rattle.vxcat_core.specs.GivenOptions.{Gives}
+use Rattle.vxcat_core.specs.GivenOptions.{Given, Gives, given_in, setting_of}
 use Rattle.vxcat_core.proofs.OptionFronts.{not_begun, given_twice, one_more, rest_not_given}
 use Rattle.vxcat_core.proofs.options.+parse_options.Goals as goal
 
@@ -23,20 +22,21 @@ if_some_map (Some x) P Q f p = f x p
 pub returns-in_err-choice-clause-none : goal.returns-in_err-choice-clause-none
 returns-in_err-choice-clause-none t c =
     let some = not_empty c.args.words.now (sym c.is_empty.ensures ∙ c.if-is_empty.false) in
-    let never : (options : Options) → Gives c.args.before c.args.words.now options → ⊥ = λ options. not_begun c.args.before options c.args.words.now some c.in_err-choice.ensures.none in
+    let never : (after : Given) → Gives (given_in c.args.before) c.args.words.now after → ⊥ =
+    λ after. not_begun (given_in c.args.before) after c.args.words.now some c.in_err-choice.ensures.none in
     if_none _ _ never
 
 pub returns-in_err-with-clause-none : goal.returns-in_err-with-clause-none
 returns-in_err-with-clause-none t c =
     let found = c.in_ok-choice.ensures in
-    let never : (options : Options) → Gives c.args.before c.args.words.now options → ⊥ =
-    λ options. given_twice c.args.before options c.in_ok-choice.choice c.args.words.now c.in_ok-choice.rest.now found.spelled found.in_range (sym c.in_err-with.ensures) in
+    let never : (after : Given) → Gives (given_in c.args.before) c.args.words.now after → ⊥ =
+    λ after. given_twice (given_in c.args.before) after (setting_of c.in_ok-choice.choice) c.args.words.now c.in_ok-choice.rest.now found.spelled found.in_range (sym c.in_err-with.ensures) in
     if_none _ _ never
 
 pub returns-clause-given : goal.returns-clause-given
-returns-clause-given t c = if_some_map c.parse_options.result _ _ (λ options. one_more c.args.before c.in_ok-with.field-0 options c.in_ok-choice.choice c.args.words.now c.in_ok-choice.rest.now
-    c.in_ok-choice.ensures.spelled c.in_ok-choice.ensures.in_range (sym c.in_ok-with.ensures)) c.parse_options.ensures.given
+returns-clause-given t c = if_some_map c.parse_options.result _ _ (λ options. one_more (given_in c.args.before) (given_in c.in_ok-with.field-0) (given_in options) (setting_of c.in_ok-choice.choice) c.args.words.now
+    c.in_ok-choice.rest.now c.in_ok-choice.ensures.spelled c.in_ok-choice.ensures.in_range (sym c.in_ok-with.ensures)) c.parse_options.ensures.given
 
 pub returns-clause-none : goal.returns-clause-none
-returns-clause-none t c = if_none_map c.parse_options.result _ _ (rest_not_given c.args.before c.in_ok-with.field-0 c.in_ok-choice.choice c.args.words.now c.in_ok-choice.rest.now
+returns-clause-none t c = if_none_map c.parse_options.result _ _ (rest_not_given (given_in c.args.before) (given_in c.in_ok-with.field-0) (setting_of c.in_ok-choice.choice) c.args.words.now c.in_ok-choice.rest.now
     c.in_ok-choice.ensures.spelled c.in_ok-choice.ensures.in_range (sym c.in_ok-with.ensures)) c.parse_options.ensures.none

@@ -26,8 +26,8 @@ returns-in-Err-save_outputs g c =
     (work_of (line_of c.args.words.now) (g.S.Store.state c.args.store.now) (loaded_of c.in-Ok.loaded) c.in-Ok-recode_inputs.made c.in-Ok.ensures.inputs outputs)
     load.save_faults
     (others_through _ _ _ _ load.files load.told c.save_outputs.ensures.others)
-    (order_through (line_of c.args.words.now) (g.S.Store.state c.args.store.now) (g.S.Store.state c.load_inputs.new.store) (g.S.Store.state c.save_outputs.new.store) c.in-Ok-recode_inputs.made.blob.bytes (joined outputs.made.buffers)
-    load.files load.told outputs.holds.blob_is c.save_outputs.ensures.in_order)
+    (order_through (line_of c.args.words.now) (g.S.Store.state c.args.store.now) (g.S.Store.state c.load_inputs.new.store) (g.S.Store.state c.save_outputs.new.store) (joined c.in-Ok-recode_inputs.made.buffers) (joined outputs.made.buffers)
+    load.files load.told (ap joined outputs.holds.buffers_are) c.save_outputs.ensures.in_order)
     c.in-Err-save_outputs.ensures.cause
 
 pub returns-in-Ok-print_listing : goal.returns-in-Ok-print_listing
