@@ -36,10 +36,10 @@ holds_metadata F i es h = go (none_or_one F (field i (Scalar Bytes)) es h.count 
     go (inl none) = (None, none)
     go (inr one) = (Some one.form.0, one.is ∙ ap (λ e. (i, e) ∷ []) one.form.1)
 
-text_there : (i : ℕ) (s : List ℕ) → IsUtf8 s → text_in (one_octets i s) ≡ Some s
+pub text_there : (i : ℕ) (s : List ℕ) → IsUtf8 s → text_in (one_octets i s) ≡ Some s
 text_there i s h = ap (λ b. if b then Some s else None) (is_utf8-from_IsUtf8 s h)
 
-octets_there : (i : ℕ) (m : Option (List ℕ)) → octets_in (optional_octets i m) ≡ m
+pub octets_there : (i : ℕ) (m : Option (List ℕ)) → octets_in (optional_octets i m) ≡ m
 octets_there i None = refl
 octets_there i (Some s) = refl
 

@@ -2,3 +2,8 @@ pub mod Forms
 pub mod Lists
 pub mod Texts
 pub mod AggregateParts
+pub mod ExprParts
+pub mod ReadNodes
+pub mod ReadExprs
+pub mod LawsOfExpressions
+pub mod ReadBytes

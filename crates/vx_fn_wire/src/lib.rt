@@ -21,6 +21,7 @@ mod arity;
 mod call;
 mod error;
 mod expression;
+mod expression_reading;
 mod expressions;
 mod foreign;
 mod foreign_aggregate;
@@ -36,7 +37,7 @@ pub use aggregate_fn::{AggregateFn, AggregateFnRef};
 pub use arity::Arity;
 pub use call::Call;
 pub use error::FnWireError;
-pub use expression::{ExprSerializeProtoExt, Expression};
+pub use expression::{ExprSerializeProtoExt, Expression, deserialize_expr_proto};
 pub use expressions::Expressions;
 pub use foreign::{ForeignScalarFnOptions, ForeignScalarFnVTable};
 pub use foreign_aggregate::{
