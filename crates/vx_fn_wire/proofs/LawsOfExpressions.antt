@@ -9,14 +9,16 @@ use Rattle.vx_proto.specs.Value.{Entry, Value, octets, message, slots_of}
 use Rattle.vx_proto.proofs.LawsOfForms.{same_slot, same_rest, same_content, same_others, same_octets, same_message}
 use Rattle.vx_fn_wire.specs.Arity.{Admits}
 use Rattle.vx_fn_wire.specs.Expr.{Head, root, call, Expr, IsExprNode, IsExpr}
+use Rattle.vx_fn_wire.specs.Foreign.{foreign_fn}
 use Rattle.vx_fn_wire.specs.Messages.{one_octets, metadata_of, root_id, id_of, metadata_at, expr_message, expr_messages}
-use Rattle.vx_fn_wire.specs.ReadsExpr.{HoldsExpr, IsScalarGivenBy, IsNoScalar, IsHeadOf, IsMessageOf, AreMessagesOf, ReadsExpr, IsNoHead, IsNoNode, IsChild, StandsBelow, IsUnreadExpr, GivesBack, GivesEachBack}
+use Rattle.vx_fn_wire.specs.ReadsExpr.{HoldsExpr, IsFunctionOf, IsHeadOf, IsMessageOf, AreMessagesOf, ReadsExpr, IsNoHead, IsNoNode, IsChild, StandsBelow, IsUnreadExpr, GivesBack, GivesEachBack}
 use Rattle.vx_fn_wire.specs.Session.{Registry, optional_octets}
 use Rattle.vx_fn_wire.specs.declared.error.FnWireError.{FnWireError}
 use Rattle.vx_fn_wire.specs.declared.error.FnWireError.TheVariants.{OutOfMemory, RootWithChildren, UnknownId, ArityMismatch, PluginRefused}
 use Rattle.vx_fn_wire.specs.declared.scalar_fn.ScalarFn.{ScalarFn}
 use Rattle.vx_fn_wire.proofs.AggregateParts.{octets_there}
 use Rattle.vx_fn_wire.proofs.ExprParts.{same_number}
+use Rattle.vx_fn_wire.proofs.Given.{given_same, given_excludes}
 
 -- ---- one message holds one identifier, one list of children and one metadata
 
@@ -45,37 +47,24 @@ holds_same v a b vs ws m n h k =
       metadata = sym (octets_there 3 m) ∙ ap (λ z. octets_in (entries_in z 2)) e ∙ octets_there 3 n;
     }
 
--- ---- one function is given, and no cause stands where one is
-
-given_same : (reader : Option (List ℕ → Option ScalarFn)) (unknown : Bool) (id metadata : List ℕ) (n : ℕ) (f g : ScalarFn) → IsScalarGivenBy reader unknown id metadata n f → IsScalarGivenBy reader unknown id metadata n g → f ≡ g
-given_same (Some gives) unknown id metadata n f g h k = let e : Some f ≡ Some g = sym h ∙ k in cc
-given_same None unknown id metadata n f g h k = h.1 ∙ sym k.1
-
-given_excludes : (e : FnWireError) (reader : Option (List ℕ → Option ScalarFn)) (unknown : Bool) (id metadata : List ℕ) (n : ℕ) (f : ScalarFn) → IsScalarGivenBy reader unknown id metadata n f → IsNoScalar e reader unknown metadata → ⊥
-given_excludes UnknownId (Some gives) unknown id metadata n f h k = absurd (let e : Some gives ≡ None = k.0 in cc)
-given_excludes UnknownId None unknown id metadata n f h k = absurd (let e : true ≡ false = sym h.0 ∙ k.1 in cc)
-given_excludes PluginRefused (Some gives) unknown id metadata n f h k =
-    let same : gives ≡ k.0 = (let e : Some gives ≡ Some k.0 = k.1 in cc) in
-    absurd (let e : None ≡ Some f = sym k.2 ∙ ap (λ (r : List ℕ → Option ScalarFn). r metadata) (sym same) ∙ h in cc)
-given_excludes PluginRefused None unknown id metadata n f h k = absurd (let e : None ≡ Some k.0 = k.1 in cc)
-given_excludes e reader unknown id metadata n f h k = absurd k
+-- ---- one function stands at a node, and no cause stands where one does
 
 module _ (registry : Registry ScalarFn) (unknown : Bool) where
   head_same : (id metadata : List ℕ) (n : ℕ) (h k : Head) → IsHeadOf registry unknown id metadata n h → IsHeadOf registry unknown id metadata n k → h ≡ k
   head_same id metadata n root root a b = refl
   head_same id metadata n root (call g) a b = absurd (b.0 a)
   head_same id metadata n (call f) root a b = absurd (a.0 b)
-  head_same id metadata n (call f) (call g) a b = ap call (given_same (registry id) unknown id metadata n f g a.1 b.1)
+  head_same id metadata n (call f) (call g) a b = ap call (given_same (registry id) unknown metadata (foreign_fn id metadata n) f g a.1 b.1)
 
   head_excludes : (e : FnWireError) (id metadata : List ℕ) (n : ℕ) (h : Head) (ts : Roses Head) → IsExprNode h ts → count ts ≡ n → IsHeadOf registry unknown id metadata n h → IsNoHead registry unknown e id metadata n → ⊥
   head_excludes RootWithChildren id metadata n root ts is number a c = absurd (omega (arith, is, number, c.1))
   head_excludes RootWithChildren id metadata n (call f) ts is number a c = a.0 c.0
   head_excludes ArityMismatch id metadata n root ts is number a c = c.0 a
   head_excludes ArityMismatch id metadata n (call f) ts is number a c =
-      let same = given_same (registry id) unknown id metadata n f c.1 a.1 c.2 in
+      let same = given_same (registry id) unknown metadata (foreign_fn id metadata n) f c.1 a.1 c.2 in
       c.3 (subst (λ (g : ScalarFn). Admits g.arity n) same (subst (λ (k : ℕ). Admits f.arity k) number is.0))
   head_excludes e id metadata n root ts is number a c = c.0 a
-  head_excludes e id metadata n (call f) ts is number a c = given_excludes e (registry id) unknown id metadata n f a.1 c.1
+  head_excludes e id metadata n (call f) ts is number a c = given_excludes e (registry id) unknown metadata (foreign_fn id metadata n) f a.1 c.1
 
   -- ---- one expression
 

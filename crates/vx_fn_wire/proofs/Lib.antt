@@ -1,6 +1,7 @@
 pub mod Forms
 pub mod Lists
 pub mod Texts
+pub mod Given
 pub mod AggregateParts
 pub mod ExprParts
 pub mod ReadNodes

@@ -1,5 +1,5 @@
 -- Which expression a message is, under a session that gives functions of rows, and why it is none.
-use Rattle.std.specs.Prelude.{◌≡◌, ◌<◌, ℕ, zero, suc, Bool, true, false, List, [], ◌∷◌, Option, Some, None, length}
+use Rattle.std.specs.Prelude.{◌≡◌, ◌<◌, ℕ, zero, suc, Bool, List, [], ◌∷◌, Option, length}
 use Rattle.std.specs.List.{IsAmong}
 use Rattle.vx_trees.specs.Rose.{Roses, node, end, more, count}
 use Rattle.vx_trees.specs.Everywhere.{Everywhere}
@@ -12,34 +12,26 @@ use Rattle.vx_fn_wire.specs.Expr.{Head, root, call, Expr, IsExpr}
 use Rattle.vx_fn_wire.specs.Foreign.{foreign_fn}
 use Rattle.vx_fn_wire.specs.Messages.{one_octets, metadata_of, root_id}
 use Rattle.vx_fn_wire.specs.Schema.{expr_lists}
-use Rattle.vx_fn_wire.specs.Session.{Registry, optional_octets}
+use Rattle.vx_fn_wire.specs.Session.{Registry, IsGiven, IsNotGiven, optional_octets}
 use Rattle.vx_fn_wire.specs.declared.scalar_fn.ScalarFn.{ScalarFn}
 use Rattle.vx_fn_wire.specs.declared.error.FnWireError.{FnWireError}
-use Rattle.vx_fn_wire.specs.declared.error.FnWireError.TheVariants.{BadMessage, TooDeep, RootWithChildren, UnknownId, ArityMismatch, PluginRefused}
+use Rattle.vx_fn_wire.specs.declared.error.FnWireError.TheVariants.{BadMessage, TooDeep, RootWithChildren, ArityMismatch}
 
 -- The message of an expression holds an identifier, the messages of children in order, and metadata, which may be absent.
 abbrev pub HoldsExpr : Value → List ℕ → List Value → Option (List ℕ) → Type 0
 HoldsExpr v id children metadata = v ≡ one_octets 1 id ∷ messages (λ w. w) 2 children ∷ optional_octets 3 metadata ∷ []
 
--- The function that is given of metadata, for a call on so many children: what the plugin of the identifier gives; where no
--- plugin stands and unknown ones are allowed, the foreign function.
-abbrev pub IsScalarGivenBy : Option (List ℕ → Option ScalarFn) → Bool → List ℕ → List ℕ → ℕ → ScalarFn → Type 0
-IsScalarGivenBy (Some gives) unknown id metadata children f = gives metadata ≡ Some f
-IsScalarGivenBy None unknown id metadata children f = (unknown ≡ true) × (f ≡ foreign_fn id metadata children)
-
--- Why no function is given of an identifier and metadata: it has no plugin and unknown ones are not allowed, or its plugin
--- refuses the metadata.
-abbrev pub IsNoScalar : FnWireError → Option (List ℕ → Option ScalarFn) → Bool → List ℕ → Type 0
-IsNoScalar UnknownId reader unknown metadata = (reader ≡ None) × (unknown ≡ false)
-IsNoScalar PluginRefused reader unknown metadata = (gives : List ℕ → Option ScalarFn) × (reader ≡ Some gives) × (gives metadata ≡ None)
-IsNoScalar error reader unknown metadata = ⊥
-
 module _ (registry : Registry ScalarFn) (unknown : Bool) where
+  -- The function of an identifier and metadata, for a call on so many children: the one that is given, a foreign one being
+  -- that of so many.
+  abbrev pub IsFunctionOf : List ℕ → List ℕ → ℕ → ScalarFn → Type 0
+  IsFunctionOf id metadata children f = IsGiven (registry id) unknown metadata (foreign_fn id metadata children) f
+
   -- What stands at a node, by its message's identifier and metadata and how many children it has: the root at the root's
-  -- identifier, whatever the metadata; at any other a call of the function that is given.
+  -- identifier, whatever the metadata; at any other a call of the function of these.
   abbrev pub IsHeadOf : List ℕ → List ℕ → ℕ → Head → Type 0
   IsHeadOf id metadata children root = id ≡ root_id
-  IsHeadOf id metadata children (call f) = (id ≡ root_id → ⊥) × IsScalarGivenBy (registry id) unknown id metadata children f
+  IsHeadOf id metadata children (call f) = (id ≡ root_id → ⊥) × IsFunctionOf id metadata children f
 
   -- An expression is such a node over these.
   abbrev pub IsNodeOf : List ℕ → List ℕ → Roses Head → Expr → Type 0
@@ -76,8 +68,8 @@ module _ (registry : Registry ScalarFn) (unknown : Bool) where
   abbrev pub IsNoHead : FnWireError → List ℕ → List ℕ → ℕ → Type 0
   IsNoHead RootWithChildren id metadata children = (id ≡ root_id) × (0 < children)
   IsNoHead ArityMismatch id metadata children =
-      (id ≡ root_id → ⊥) × (f : ScalarFn) × IsScalarGivenBy (registry id) unknown id metadata children f × (Admits f.arity children → ⊥)
-  IsNoHead error id metadata children = (id ≡ root_id → ⊥) × IsNoScalar error (registry id) unknown metadata
+      (id ≡ root_id → ⊥) × (f : ScalarFn) × IsFunctionOf id metadata children f × (Admits f.arity children → ⊥)
+  IsNoHead error id metadata children = (id ≡ root_id → ⊥) × IsNotGiven error (registry id) unknown metadata
 
   -- Nothing stands at the node of a message.
   pub record IsNoNode (error : FnWireError) (v : Value) : Type 0 where
@@ -116,7 +108,7 @@ module _ (registry : Registry ScalarFn) (unknown : Bool) where
   -- the root's identifier.
   abbrev pub GivesBack : Head → Roses Head → Type 0
   GivesBack root ts = Unit {0}
-  GivesBack (call f) ts = (f.id ≡ root_id → ⊥) × IsScalarGivenBy (registry f.id) unknown f.id (metadata_of f.options) (count ts) f
+  GivesBack (call f) ts = (f.id ≡ root_id → ⊥) × IsFunctionOf registry unknown f.id (metadata_of f.options) (count ts) f
 
   -- It does for each function in an expression.
   abbrev pub GivesEachBack : Expr → Type 0

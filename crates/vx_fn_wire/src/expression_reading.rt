@@ -6,10 +6,10 @@ ghost use Rattle.vx_proto.specs.Form.{HasForm};
 ghost use Rattle.vx_proto.specs.Parts.{entries_in, octets_in};
 ghost use Rattle.vx_proto.specs.Value.{value_view};
 ghost use Rattle.vx_fn_wire.specs.Messages.{metadata_of};
-ghost use Rattle.vx_fn_wire.specs.ReadsExpr.{IsScalarGivenBy, IsNoScalar, IsNodeOf, IsNoHead, IsMessageOf, IsUnreadExpr};
+ghost use Rattle.vx_fn_wire.specs.ReadsExpr.{IsFunctionOf, IsNodeOf, IsNoHead, IsMessageOf, IsUnreadExpr};
 ghost use Rattle.vx_fn_wire.specs.Schema.{expr_lists};
 ghost use Rattle.vx_fn_wire.specs.Seen.{expr};
-ghost use Rattle.vx_fn_wire.specs.Session.{scalars_meaning};
+ghost use Rattle.vx_fn_wire.specs.Session.{scalars_meaning, IsNotGiven};
 
 use crate::error::FnWireError;
 use crate::expression::Expression;
@@ -49,8 +49,8 @@ fn function_of(
     session: &ScalarFnSession,
     unknown: bool,
 ) -> Result<ScalarFn, FnWireError>
-    ensures given { IfOk result (λ f. IsScalarGivenBy (scalars_meaning scalar_of session.now id) unknown id metadata.now children f) }
-    ensures cause { IfErr result (λ e. (e ≡ FnWireError.OutOfMemory) ⊎ IsNoScalar e (scalars_meaning scalar_of session.now id) unknown metadata.now) }
+    ensures given { IfOk result (λ f. IsFunctionOf (scalars_meaning scalar_of session.now) unknown id metadata.now children f) }
+    ensures cause { IfErr result (λ e. (e ≡ FnWireError.OutOfMemory) ⊎ IsNotGiven e (scalars_meaning scalar_of session.now id) unknown metadata.now) }
 {
     match session.plugins.get(&id) {
         Some(plugin) => registered(alloc, metadata, plugin),
