@@ -70,23 +70,31 @@ fn read(rt: HostRuntime) -> Result<(), Fail> {
 #[test]
 fn refused(rt: HostRuntime) -> Result<(), Fail> {
     let alloc = rt.alloc();
-    let known = session(alloc, false)?;
     let rows = [
-        (b"\x0a\xff".as_slice(), FnWireError::BadMessage),
+        (true, b"\x0a\xff".as_slice(), FnWireError::BadMessage),
+        // A root with a child, and a call of one.
         (
+            true,
             b"\x0a\x0bvortex.root\x12\x0d\x0a\x0bvortex.root".as_slice(),
             FnWireError::RootWithChildren,
         ),
-        // The plugin's function has two children.
         (
+            true,
+            b"\x0a\x1dvortex.test.foreign_scalar_fn\x12\x1c\x0a\x0bvortex.root\x12\x0d\x0a\x0bvortex.root\x1a\x04\x01\x02\x03\x04".as_slice(),
+            FnWireError::RootWithChildren,
+        ),
+        // The plugin's function has two children, and the plugin refuses empty metadata.
+        (
+            false,
             b"\x0a\x03x.g\x12\x0d\x0a\x0bvortex.root\x1a\x01\x05".as_slice(),
             FnWireError::ArityMismatch,
         ),
-        (b"\x0a\x03x.g".as_slice(), FnWireError::PluginRefused),
-        (FOREIGN, FnWireError::UnknownId),
+        (true, b"\x0a\x03x.g".as_slice(), FnWireError::PluginRefused),
+        (false, FOREIGN, FnWireError::UnknownId),
     ];
-    for (bytes, error) in rows {
-        let answer = Expression::from_proto_bytes(alloc, bytes, &known);
+    for (unknown, bytes, error) in rows {
+        let session = session(alloc, unknown)?;
+        let answer = Expression::from_proto_bytes(alloc, bytes, &session);
         assert!(rt; answer.is_err_and(|e| e == error), "{error}");
     }
     Ok(())
