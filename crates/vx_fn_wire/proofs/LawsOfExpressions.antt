@@ -1,18 +1,22 @@
--- Laws of reading expressions: a message is of one expression at most, none stands where one is, and what is written is
--- read back where the session gives the functions back.
+-- Laws of reading expressions: a message is of one expression at most, no cause stands where one is, it nests as deep as
+-- that has levels, what is read without plugins can be written, and what is written is read back where the session gives
+-- the functions back.
+use Rattle.std.specs.Prelude.{IsSome}
 use Rattle.std.proofs.Common.{◌≡◌, ◌≢◌, ◌<◌, ◌⊎◌, inl, inr, ℕ, zero, suc, Bool, true, false, List, [], ◌∷◌, length, get_or, Option, Some, None, refl, ap, sym, subst, ◌∙◌, arith}
 use Rattle.vx_trees.specs.Rose.{Rose, Roses, node, end, more, count}
+use Rattle.vx_trees.specs.Walks.{levels, levels_below}
 use Rattle.vx_trees.specs.Everywhere.{Everywhere, EverywhereBelow}
 use Rattle.vx_proto.specs.Parts.{entries_in, octets_in}
 use Rattle.vx_proto.specs.Repeated.{messages}
-use Rattle.vx_proto.specs.Value.{Entry, Value, octets, message, slots_of}
+use Rattle.vx_proto.specs.Value.{Value, octets, message, slots_of, entries_of}
+use Rattle.vx_proto.specs.Written.{nested, entries_depth}
 use Rattle.vx_proto.proofs.LawsOfForms.{same_slot, same_rest, same_content, same_others, same_octets, same_message}
 use Rattle.vx_fn_wire.specs.Arity.{Admits}
 use Rattle.vx_fn_wire.specs.Expr.{Head, root, call, Expr, IsExprNode, IsExpr}
 use Rattle.vx_fn_wire.specs.Foreign.{foreign_fn}
-use Rattle.vx_fn_wire.specs.Messages.{one_octets, metadata_of, root_id, id_of, metadata_at, expr_message, expr_messages}
+use Rattle.vx_fn_wire.specs.Messages.{one_octets, metadata_of, root_id, expr_message, expr_messages, IsSerializable, AreSerializable}
 use Rattle.vx_fn_wire.specs.ReadsExpr.{HoldsExpr, IsFunctionOf, IsHeadOf, IsMessageOf, AreMessagesOf, ReadsExpr, IsNoHead, IsNoNode, IsChild, StandsBelow, IsUnreadExpr, GivesBack, GivesEachBack}
-use Rattle.vx_fn_wire.specs.Session.{Registry, optional_octets}
+use Rattle.vx_fn_wire.specs.Session.{Registry, IsGiven, optional_octets}
 use Rattle.vx_fn_wire.specs.declared.error.FnWireError.{FnWireError}
 use Rattle.vx_fn_wire.specs.declared.error.FnWireError.TheVariants.{OutOfMemory, RootWithChildren, UnknownId, ArityMismatch, PluginRefused}
 use Rattle.vx_fn_wire.specs.declared.scalar_fn.ScalarFn.{ScalarFn}
@@ -131,6 +135,44 @@ module _ (registry : Registry ScalarFn) (unknown : Bool) where
   read_uncaused e v t r u =
       let at = below_read u.depth v u.at t r u.stands in
       node_excludes e u.at at.0 at.1 u.cause
+
+  -- ---- how deep, and that it can be written
+
+  depth_of : (id : List ℕ) (vs : List Value) (m : Option (List ℕ)) → nested (one_octets 1 id ∷ messages (λ w. w) 2 vs ∷ optional_octets 3 m ∷ []) ≡ suc (entries_depth (entries_of (messages (λ w. w) 2 vs)))
+  depth_of id vs None = omega arith
+  depth_of id vs (Some s) = omega arith
+
+  mutual
+    message_depth : (t : Expr) (v : Value) → IsMessageOf registry unknown t v → nested v ≡ levels t
+    message_depth (node h ts) v m = ap nested m.3 ∙ depth_of m.0 m.1 m.2 ∙ ap (λ n. suc n) (messages_depth ts m.1 m.5)
+
+    messages_depth : (ts : Roses Head) (vs : List Value) → AreMessagesOf registry unknown ts vs → entries_depth (entries_of (messages (λ w. w) 2 vs)) ≡ levels_below ts
+    messages_depth end vs h = ap (λ z. entries_depth (entries_of (messages (λ w. w) 2 z))) h
+    messages_depth (more t ts) vs h =
+        ap (λ z. entries_depth (entries_of (messages (λ w. w) 2 z))) h.2
+        ∙ omega (arith, message_depth t h.0 h.3, messages_depth ts h.1 h.4)
+
+  -- The message that is read as an expression nests as deep as that has levels.
+  pub read_depth : (v : Value) (t : Expr) → ReadsExpr registry unknown v t → nested v ≡ levels t
+  read_depth v t r = message_depth t v r.message
+
+  foreign_written : (reader : Option (List ℕ → Option ScalarFn)) (metadata : List ℕ) (f g : ScalarFn) → reader ≡ None → IsSome g.options → IsGiven reader unknown metadata g f → IsSome f.options
+  foreign_written None metadata f g none some h = subst (λ (z : ScalarFn). IsSome z.options) (sym h.1) some
+  foreign_written (Some gives) metadata f g none some h = absurd (let e : Some gives ≡ None = none in cc)
+
+  module _ (none : (id : List ℕ) → registry id ≡ None) where
+    mutual
+      writable : (t : Expr) (v : Value) → IsMessageOf registry unknown t v → IsSerializable t
+      writable (node root ts) v m = (tt, all_writable ts m.1 m.5)
+      writable (node (call f) ts) v m = (foreign_written (registry m.0) (metadata_of m.2) f (foreign_fn m.0 (metadata_of m.2) (count ts)) (none m.0) refl m.4.1, all_writable ts m.1 m.5)
+
+      all_writable : (ts : Roses Head) (vs : List Value) → AreMessagesOf registry unknown ts vs → AreSerializable ts
+      all_writable end vs h = tt
+      all_writable (more t ts) vs h = (writable t h.0 h.3, all_writable ts h.1 h.4)
+
+    -- Where no identifier has a plugin, what is read can be written.
+    pub read_writable : (v : Value) (t : Expr) → ReadsExpr registry unknown v t → IsSerializable t
+    read_writable v t r = writable t v r.message
 
   -- ---- what is written is read
 

@@ -1,6 +1,7 @@
 -- Expressions out of bytes: why none is read, and that each answer is the only one.
-use Rattle.std.proofs.Common.{◌≡◌, ◌⊎◌, inl, inr, ℕ, zero, suc, Bool, true, false, if◌then◌else◌, eqb, List, [], ◌∷◌, Option, Some, None, Result, Ok, Err, IfOk, IfErr, MatchResult, refl, ap, sym, subst, ◌∙◌, arith}
+use Rattle.std.proofs.Common.{◌≡◌, ◌≤◌, ◌⊎◌, inl, inr, ℕ, zero, suc, Bool, true, false, if◌then◌else◌, eqb, List, [], ◌∷◌, Option, Some, None, Result, Ok, Err, IfOk, IfErr, MatchResult, refl, ap, sym, subst, ◌∙◌, arith}
 use Rattle.std.specs.Prelude.{IsErr, is_some}
+use Rattle.vx_trees.specs.Walks.{levels}
 use Rattle.vx_proto.specs.declared.error.ProtoError.{ProtoError}
 use Rattle.vx_proto.specs.declared.error.ProtoError.TheVariants as proto
 use Rattle.vx_proto.specs.declared.schema.Kind.{Kind}
@@ -10,6 +11,7 @@ use Rattle.vx_proto.specs.Schema.{list_at, kind_of}
 use Rattle.vx_proto.specs.Reads.{Reads, Cause, PartCause, SomeKnown, IsPast, IsWithin}
 use Rattle.vx_proto.specs.Wire.{Part, Field, cut}
 use Rattle.vx_proto.specs.Value.{Value}
+use Rattle.vx_proto.specs.Written.{nested}
 use Rattle.vx_proto.proofs.LawsOfMessages as laws
 use Rattle.vx_fn_wire.specs.Expr.{Expr}
 use Rattle.vx_fn_wire.specs.ReadsExpr.{ReadsExpr, IsUnreadExpr, ReadsExprBytes, IsUnreadExprBytes}
@@ -21,7 +23,7 @@ use Rattle.vx_fn_wire.specs.declared.error.FnWireError.{FnWireError}
 use Rattle.vx_fn_wire.specs.declared.error.FnWireError.TheVariants.{OutOfMemory, BadMessage, TooDeep, RootWithChildren, UnknownId, ArityMismatch, IdMismatch, NotSerializable, PluginRefused}
 use Rattle.vx_fn_wire.specs.declared.expression.Expression.{Expression}
 use Rattle.vx_fn_wire.specs.declared.scalar_fn.ScalarFn.{ScalarFn}
-use Rattle.vx_fn_wire.proofs.LawsOfExpressions.{one_expr, read_uncaused}
+use Rattle.vx_fn_wire.proofs.LawsOfExpressions.{read_uncaused, read_depth}
 
 -- ---- no number of the message is out of its range, since it has none
 
@@ -95,3 +97,8 @@ module _ (registry : Registry ScalarFn) (unknown : Bool) where
   refused_bytes bytes v r BadMessage shown refused c = absurd (laws.read_uncaused expr_lists 0 bytes v proto.BadMessage shown c)
   refused_bytes bytes v r TooDeep shown refused c = absurd (laws.read_uncaused expr_lists 0 bytes v proto.TooDeep shown c)
   refused_bytes bytes v r e shown refused c = refused e (subst (IsUnreadExpr registry unknown e) (laws.reads_one expr_lists 0 bytes c.0 v c.1.0 shown) c.1.1)
+
+  -- What is read of a message has as many levels as messages nest there.
+  pub read_shallow : (v : Value) (r : Result Expression FnWireError) → nested v ≤ 100 → IfOk r (λ x. ReadsExpr registry unknown v (expr x)) → IfOk r (λ x. levels (expr x) ≤ 100)
+  read_shallow v (Ok x) le read = omega (arith, le, read_depth registry unknown v (expr x) read)
+  read_shallow v (Err e) le read = tt

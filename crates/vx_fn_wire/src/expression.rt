@@ -96,6 +96,7 @@ impl Expression {
         ensures complete { (e : Expr) → ReadsExprBytes (scalars_meaning scalar_of session.now.scalars) session.now.unknown bytes.now e
             → MatchResult result (λ d. expr d ≡ e) (λ e. e ≡ FnWireError.OutOfMemory) }
         ensures refused { (e : Refusal) → IsUnreadExprBytes (scalars_meaning scalar_of session.now.scalars) session.now.unknown e bytes.now → IsErr result }
+        ensures shallow { IfOk result (λ e. levels (expr e) ≤ 100) }
     {
         let message = pb::Expr::decode(alloc, bytes)?;
         Expression::from_proto(alloc, &message, session)

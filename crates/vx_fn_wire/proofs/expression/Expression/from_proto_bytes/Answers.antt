@@ -4,7 +4,7 @@ use Rattle.vx_fn_wire.specs.ReadsExpr.{IsUnreadExprBytes}
 use Rattle.vx_fn_wire.specs.Refusals.{refusal_of_proto}
 use Rattle.vx_fn_wire.specs.Session.{scalars_meaning}
 use Rattle.vx_fn_wire.specs.declared.error.FnWireError.TheVariants.{OutOfMemory}
-use Rattle.vx_fn_wire.proofs.ReadBytes.{bytes_unread, of_bytes, refused_bytes}
+use Rattle.vx_fn_wire.proofs.ReadBytes.{bytes_unread, of_bytes, refused_bytes, read_shallow}
 use Rattle.vx_fn_wire.proofs.ReadNodes.{handed_on}
 use Rattle.vx_fn_wire.proofs.expression.Expression.from_proto_bytes.Goals as goal
 
@@ -26,3 +26,8 @@ pub returns-clause-refused : goal.returns-clause-refused
 returns-clause-refused g c =
     let registry = scalars_meaning (λ z. (g.dyn-1.0.entry z.vtable).1.scalar_of z.value) c.args.session.now.scalars in
     λ e u. refused_bytes registry c.args.session.now.unknown c.args.bytes.now c.in_ok-message.message c.from_proto.result e c.in_ok-message.ensures.found c.from_proto.ensures.refused u
+
+pub returns-clause-shallow : goal.returns-clause-shallow
+returns-clause-shallow g c =
+    let registry = scalars_meaning (λ z. (g.dyn-1.0.entry z.vtable).1.scalar_of z.value) c.args.session.now.scalars in
+    read_shallow registry c.args.session.now.unknown c.in_ok-message.message c.from_proto.result c.in_ok-message.ensures.nests c.from_proto.ensures.read
