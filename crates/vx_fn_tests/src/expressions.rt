@@ -1,6 +1,6 @@
 //! Expressions: their texts, and the messages by which they are written.
 
-use crate::samples::{foreign, named, over};
+use crate::samples::{deep, foreign, named, over};
 use std::alloc::Global;
 use std::test::Fail;
 use vx_fn_wire::{Expression, Expressions, FnWireError, pb};
@@ -18,15 +18,6 @@ fn pair(alloc: Global, options: Option<Blob>) -> Result<Expression, FnWireError>
     children.push(Expression::Root)?;
     children.push(over(alloc, foreign(alloc)?, Expression::Root)?)?;
     crate::samples::call(named(alloc, "x.f", options)?, children)
-}
-
-// So many levels, the root counted.
-fn deep(alloc: Global, levels: u32) -> Result<Expression, FnWireError> {
-    let mut expression = Expression::Root;
-    for _ in 1..levels {
-        expression = over(alloc, foreign(alloc)?, expression)?;
-    }
-    Ok(expression)
 }
 
 #[test]

@@ -3,9 +3,12 @@
 
 pub mod echo;
 #[cfg(test)]
+mod expression_reading;
+#[cfg(test)]
 mod expressions;
 #[cfg(test)]
 mod functions;
+pub mod pairing;
 #[cfg(test)]
 mod reading;
 #[cfg(test)]

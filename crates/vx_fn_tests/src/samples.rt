@@ -44,3 +44,12 @@ pub fn over(
     children.push(child)?;
     call(function, children)
 }
+
+/// A chain of foreign calls of so many levels, the root counted.
+pub fn deep(alloc: Global, levels: u32) -> Result<Expression, FnWireError> {
+    let mut expression = Expression::Root;
+    for _ in 1..levels {
+        expression = over(alloc, foreign(alloc)?, expression)?;
+    }
+    Ok(expression)
+}

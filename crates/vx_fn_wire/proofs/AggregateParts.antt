@@ -1,5 +1,6 @@
 -- The parts of the message of an aggregate function, and the function that is read of them.
 use Rattle.std.proofs.Common.{◌≡◌, ◌⊎◌, inl, inr, Bool, true, false, ℕ, List, [], ◌∷◌, Option, Some, None, refl, ap, sym, subst, ◌∙◌, if◌then◌else◌, Result, Ok, Err, IfOk, IfErr, MatchResult}
+use Rattle.std.specs.Prelude.{IsErr}
 use Rattle.std.specs.Str.{IsUtf8}
 use Rattle.std.proofs.lemmas.Str.{is_utf8-from_IsUtf8}
 use Rattle.vx_proto.specs.Schema.{plain, optional, field}
@@ -10,12 +11,14 @@ use Rattle.vx_proto.specs.Parts.{entries_in, text_in, octets_in}
 use Rattle.vx_proto.specs.Value.{Entry, Value}
 use Rattle.vx_proto.proofs.LawsOfForms.{HoldsMember, none_or_one, slots_of_form}
 use Rattle.vx_proto.proofs.LawsOfSlots.{Has, plain_holds, two_of}
+use Rattle.vx_fn_wire.specs.Foreign.{foreign_aggregate_fn}
 use Rattle.vx_fn_wire.specs.Messages.{one_octets, metadata_of}
 use Rattle.vx_fn_wire.specs.Schema.{aggregate_lists}
-use Rattle.vx_fn_wire.specs.Session.{Registry, IsGivenBy, IsNotGiven, optional_octets, HoldsAggregate, ReadsAggregate, IsUnreadAggregate}
+use Rattle.vx_fn_wire.specs.Session.{Registry, IsAggregateOf, IsNoAggregate, optional_octets, HoldsAggregate, ReadsAggregate, IsUnreadAggregate}
 use Rattle.vx_fn_wire.specs.declared.aggregate_fn.AggregateFn.{AggregateFn}
 use Rattle.vx_fn_wire.specs.declared.error.FnWireError.{FnWireError}
-use Rattle.vx_fn_wire.specs.declared.error.FnWireError.TheVariants.{OutOfMemory, BadMessage, TooDeep, RootWithChildren, UnknownId, ArityMismatch, IdMismatch, NotSerializable, PluginRefused}
+use Rattle.vx_fn_wire.specs.declared.error.FnWireError.TheVariants.{OutOfMemory, IdMismatch}
+use Rattle.vx_fn_wire.proofs.Given.{given_same, given_excludes}
 
 -- A text in its plain slot.
 pub record HoldsText (i : ℕ) (es : List Entry) : Type 0 where
@@ -36,10 +39,10 @@ holds_metadata F i es h = go (none_or_one F (field i (Scalar Bytes)) es h.count 
     go (inl none) = (None, none)
     go (inr one) = (Some one.form.0, one.is ∙ ap (λ e. (i, e) ∷ []) one.form.1)
 
-text_there : (i : ℕ) (s : List ℕ) → IsUtf8 s → text_in (one_octets i s) ≡ Some s
+pub text_there : (i : ℕ) (s : List ℕ) → IsUtf8 s → text_in (one_octets i s) ≡ Some s
 text_there i s h = ap (λ b. if b then Some s else None) (is_utf8-from_IsUtf8 s h)
 
-octets_there : (i : ℕ) (m : Option (List ℕ)) → octets_in (optional_octets i m) ≡ m
+pub octets_there : (i : ℕ) (m : Option (List ℕ)) → octets_in (optional_octets i m) ≡ m
 octets_there i None = refl
 octets_there i (Some s) = refl
 
@@ -93,54 +96,54 @@ one_metadata : (v : Value) (a b : List ℕ) (m n : Option (List ℕ)) → HoldsA
 one_metadata v a b m n h k =
     sym (octets_there 2 m) ∙ sym (ap (λ z. octets_in (entries_in z 1)) h) ∙ ap (λ z. octets_in (entries_in z 1)) k ∙ octets_there 2 n
 
--- One function is given.
-one_given : (reader : Option (List ℕ → Option AggregateFn)) (unknown : Bool) (id metadata : List ℕ) (f g : AggregateFn) → IsGivenBy reader unknown id metadata f → IsGivenBy reader unknown id metadata g → f ≡ g
-one_given (Some gives) unknown id metadata f g h k = some_same f g (sym h.0 ∙ k.0)
-one_given None unknown id metadata f g h k = h.1 ∙ sym k.1
+-- One function is that of an identifier and metadata.
+one_given : (reader : Option (List ℕ → Option AggregateFn)) (unknown : Bool) (id metadata : List ℕ) (f g : AggregateFn) → IsAggregateOf reader unknown id metadata f → IsAggregateOf reader unknown id metadata g → f ≡ g
+one_given reader unknown id metadata f g h k = given_same reader unknown metadata (foreign_aggregate_fn id metadata) f g h.0 k.0
 
--- Where one is given, memory alone can run out.
-none_given : (e : FnWireError) (reader : Option (List ℕ → Option AggregateFn)) (unknown : Bool) (id metadata : List ℕ) (g : AggregateFn) → IsNotGiven e reader unknown id metadata → IsGivenBy reader unknown id metadata g → e ≡ OutOfMemory
-none_given OutOfMemory reader unknown id metadata g h k = refl
-none_given BadMessage reader unknown id metadata g h k = absurd h
-none_given TooDeep reader unknown id metadata g h k = absurd h
-none_given RootWithChildren reader unknown id metadata g h k = absurd h
-none_given UnknownId (Some gives) unknown id metadata g h k = absurd (none_some gives (sym h.0))
-none_given UnknownId None unknown id metadata g h k = absurd (let e : true ≡ false = sym k.0 ∙ h.1 in cc)
-none_given ArityMismatch reader unknown id metadata g h k = absurd h
-none_given IdMismatch (Some gives) unknown id metadata g h k =
-    let same : gives ≡ h.0 = some_same gives h.0 h.2 in
-    let other : g ≡ h.1 = some_same g h.1 (sym k.0 ∙ ap (λ r. r metadata) same ∙ h.3) in
-    absurd (h.4 (ap (λ f. f.id) (sym other) ∙ k.1))
-none_given IdMismatch None unknown id metadata g h k = absurd (none_some h.0 h.2)
-none_given NotSerializable reader unknown id metadata g h k = absurd h
-none_given PluginRefused (Some gives) unknown id metadata g h k =
-    let same : gives ≡ h.0 = some_same gives h.0 h.1 in
-    absurd (none_some g (sym h.2 ∙ ap (λ r. r metadata) (sym same) ∙ k.0))
-none_given PluginRefused None unknown id metadata g h k = absurd (none_some h.0 h.1)
+-- Where there is one, no cause stands.
+none_given : (e : FnWireError) (reader : Option (List ℕ → Option AggregateFn)) (unknown : Bool) (id metadata : List ℕ) (g : AggregateFn) → IsNoAggregate e reader unknown id metadata → IsAggregateOf reader unknown id metadata g → ⊥
+none_given IdMismatch reader unknown id metadata g h k =
+    let same = given_same reader unknown metadata (foreign_aggregate_fn id metadata) h.0 g h.1 k.0 in
+    h.2 (ap (λ (f : AggregateFn). f.id) same ∙ k.1)
+none_given e reader unknown id metadata g h k = given_excludes e reader unknown metadata (foreign_aggregate_fn id metadata) g k.0 h
 
 -- What is given of the parts is read, and what is not has its cause.
 pub read_of : (registry : Registry AggregateFn) (unknown : Bool) (v : Value) (id there : List ℕ) (m : Option (List ℕ)) (metadata : List ℕ) (r : Result AggregateFn FnWireError)
-    → HoldsAggregate v there m → id ≡ there → metadata ≡ metadata_of m → IfOk r (λ f. IsGivenBy (registry id) unknown id metadata f) → IfOk r (λ f. ReadsAggregate registry unknown v f)
+    → HoldsAggregate v there m → id ≡ there → metadata ≡ metadata_of m → IfOk r (λ f. IsAggregateOf (registry id) unknown id metadata f) → IfOk r (λ f. ReadsAggregate registry unknown v f)
 read_of registry unknown v id there m metadata (Ok f) holds same is given =
-    record { id = id; metadata = m; holds = subst (λ i. HoldsAggregate v i m) (sym same) holds; given = subst (λ b. IsGivenBy (registry id) unknown id b f) is given }
+    record { id = id; metadata = m; holds = subst (λ i. HoldsAggregate v i m) (sym same) holds; given = subst (λ b. IsAggregateOf (registry id) unknown id b f) is given }
 read_of registry unknown v id there m metadata (Err e) holds same is given = tt
 
 pub caused_of : (registry : Registry AggregateFn) (unknown : Bool) (v : Value) (id there : List ℕ) (m : Option (List ℕ)) (metadata : List ℕ) (r : Result AggregateFn FnWireError)
-    → HoldsAggregate v there m → id ≡ there → metadata ≡ metadata_of m → IfErr r (λ e. IsNotGiven e (registry id) unknown id metadata) → IfErr r (λ e. IsUnreadAggregate e registry unknown v)
+    → HoldsAggregate v there m → id ≡ there → metadata ≡ metadata_of m → IfErr r (λ e. (e ≡ OutOfMemory) ⊎ IsNoAggregate e (registry id) unknown id metadata) → IfErr r (λ e. (e ≡ OutOfMemory) ⊎ IsUnreadAggregate e registry unknown v)
 caused_of registry unknown v id there m metadata (Ok f) holds same is cause = tt
-caused_of registry unknown v id there m metadata (Err e) holds same is cause =
-    record { id = id; metadata = m; holds = subst (λ i. HoldsAggregate v i m) (sym same) holds; cause = subst (λ b. IsNotGiven e (registry id) unknown id b) is cause }
+caused_of registry unknown v id there m metadata (Err e) holds same is (inl h) = inl h
+caused_of registry unknown v id there m metadata (Err e) holds same is (inr cause) =
+    inr (record { id = id; metadata = m; holds = subst (λ i. HoldsAggregate v i m) (sym same) holds; cause = subst (λ b. IsNoAggregate e (registry id) unknown id b) is cause })
 
--- One function is read of a message, and where one is, memory alone can run out.
-pub one_read : (registry : Registry AggregateFn) (unknown : Bool) (v : Value) (r : Result AggregateFn FnWireError) (g : AggregateFn)
-    → IfOk r (λ f. ReadsAggregate registry unknown v f) → IfErr r (λ e. IsUnreadAggregate e registry unknown v) → ReadsAggregate registry unknown v g → MatchResult r (λ f. f ≡ g) (λ e. e ≡ OutOfMemory)
-one_read registry unknown v (Ok f) g read cause k =
-    let id = one_id v k.id read.id k.metadata read.metadata k.holds read.holds in
-    let m = one_metadata v k.id read.id k.metadata read.metadata k.holds read.holds in
-    one_given (registry read.id) unknown read.id (metadata_of read.metadata) f g read.given
-    (subst (λ n. IsGivenBy (registry read.id) unknown read.id (metadata_of n) g) m (subst (λ i. IsGivenBy (registry i) unknown i (metadata_of k.metadata) g) id k.given))
-one_read registry unknown v (Err e) g read cause k =
-    let id = one_id v k.id cause.id k.metadata cause.metadata k.holds cause.holds in
-    let m = one_metadata v k.id cause.id k.metadata cause.metadata k.holds cause.holds in
-    none_given e (registry cause.id) unknown cause.id (metadata_of cause.metadata) g cause.cause
-    (subst (λ n. IsGivenBy (registry cause.id) unknown cause.id (metadata_of n) g) m (subst (λ i. IsGivenBy (registry i) unknown i (metadata_of k.metadata) g) id k.given))
+module _ (registry : Registry AggregateFn) (unknown : Bool) (v : Value) where
+  one_function : (f g : AggregateFn) → ReadsAggregate registry unknown v f → ReadsAggregate registry unknown v g → f ≡ g
+  one_function f g read k =
+      let id = one_id v k.id read.id k.metadata read.metadata k.holds read.holds in
+      let m = one_metadata v k.id read.id k.metadata read.metadata k.holds read.holds in
+      one_given (registry read.id) unknown read.id (metadata_of read.metadata) f g read.given
+      (subst (λ n. IsAggregateOf (registry read.id) unknown read.id (metadata_of n) g) m (subst (λ i. IsAggregateOf (registry i) unknown i (metadata_of k.metadata) g) id k.given))
+
+  uncaused : (e : FnWireError) (g : AggregateFn) → IsUnreadAggregate e registry unknown v → ReadsAggregate registry unknown v g → ⊥
+  uncaused e g cause k =
+      let id = one_id v k.id cause.id k.metadata cause.metadata k.holds cause.holds in
+      let m = one_metadata v k.id cause.id k.metadata cause.metadata k.holds cause.holds in
+      none_given e (registry cause.id) unknown cause.id (metadata_of cause.metadata) g cause.cause
+      (subst (λ n. IsAggregateOf (registry cause.id) unknown cause.id (metadata_of n) g) m (subst (λ i. IsAggregateOf (registry i) unknown i (metadata_of k.metadata) g) id k.given))
+
+  -- One function is read of a message, and where one is, memory alone can run out.
+  pub one_read : (r : Result AggregateFn FnWireError) (g : AggregateFn) → IfOk r (λ f. ReadsAggregate registry unknown v f) → IfErr r (λ e. (e ≡ OutOfMemory) ⊎ IsUnreadAggregate e registry unknown v) → ReadsAggregate registry unknown v g
+      → MatchResult r (λ f. f ≡ g) (λ e. e ≡ OutOfMemory)
+  one_read (Ok f) g read cause k = one_function f g read k
+  one_read (Err e) g read (inl h) k = h
+  one_read (Err e) g read (inr cause) k = absurd (uncaused e g cause k)
+
+  -- A message is refused where a cause stands.
+  pub none_read : (r : Result AggregateFn FnWireError) (e : FnWireError) → IfOk r (λ f. ReadsAggregate registry unknown v f) → IsUnreadAggregate e registry unknown v → IsErr r
+  none_read (Ok f) e read cause = absurd (uncaused e f cause read)
+  none_read (Err y) e read cause = refl

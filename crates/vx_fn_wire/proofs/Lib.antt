@@ -1,4 +1,10 @@
 pub mod Forms
 pub mod Lists
 pub mod Texts
+pub mod Given
 pub mod AggregateParts
+pub mod ExprParts
+pub mod ReadNodes
+pub mod ReadExprs
+pub mod LawsOfExpressions
+pub mod ReadBytes

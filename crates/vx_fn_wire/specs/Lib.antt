@@ -11,3 +11,4 @@ pub mod Falls
 pub mod ExprText
 pub mod Plugin
 pub mod Session
+pub mod ReadsExpr

@@ -7,7 +7,7 @@ use Rattle.vx_proto.specs.Value.{Entry, Value}
 use Rattle.vx_fn_wire.specs.declared.scalar_fn.ScalarFn.{ScalarFn}
 use Rattle.vx_fn_wire.specs.declared.aggregate_fn.AggregateFn.{AggregateFn}
 use Rattle.vx_fn_wire.specs.declared.error.FnWireError.{FnWireError}
-use Rattle.vx_fn_wire.specs.declared.error.FnWireError.TheVariants.{OutOfMemory, UnknownId, IdMismatch, PluginRefused}
+use Rattle.vx_fn_wire.specs.declared.error.FnWireError.TheVariants.{UnknownId, IdMismatch, PluginRefused}
 use Rattle.vx_fn_wire.specs.declared.session.ScalarFnSession.{ScalarFnSession}
 use Rattle.vx_fn_wire.specs.declared.session.AggregateFnSession.{AggregateFnSession}
 use Rattle.vx_fn_wire.specs.Foreign.{foreign_aggregate_fn}
@@ -24,13 +24,29 @@ scalars_meaning gives s = λ id. option_map (λ b. gives b) (get bytes_eq s.plug
 abbrev pub aggregates_meaning : {X : Type 0} {P : X → Type 0} → (DynBox X Global P → List ℕ → Option AggregateFn) → AggregateFnSession X P → Registry AggregateFn
 aggregates_meaning gives s = λ id. option_map (λ b. gives b) (get bytes_eq s.plugins id)
 
+-- ---- what is given of metadata
+
+-- A plugin gives its function; where none stands and unknown ones are allowed, it is the foreign function.
+abbrev pub IsGiven : {F : Type 0} → Option (List ℕ → Option F) → Bool → List ℕ → F → F → Type 0
+IsGiven (Some gives) unknown metadata foreign f = gives metadata ≡ Some f
+IsGiven None unknown metadata foreign f = (unknown ≡ true) × (f ≡ foreign)
+
+-- Why none is given: there is no plugin and unknown ones are not allowed, or the plugin refuses the metadata.
+abbrev pub IsNotGiven : {F : Type 0} → FnWireError → Option (List ℕ → Option F) → Bool → List ℕ → Type 0
+IsNotGiven UnknownId reader unknown metadata = (reader ≡ None) × (unknown ≡ false)
+IsNotGiven {F = F} PluginRefused reader unknown metadata = (gives : List ℕ → Option F) × (reader ≡ Some gives) × (gives metadata ≡ None)
+IsNotGiven error reader unknown metadata = ⊥
+
 -- ---- aggregate functions
 
--- A plugin's function, if it has the identifier that was asked for; where no plugin stands and unknown ones are allowed, the
--- foreign function.
-abbrev pub IsGivenBy : Option (List ℕ → Option AggregateFn) → Bool → List ℕ → List ℕ → AggregateFn → Type 0
-IsGivenBy (Some gives) unknown id metadata f = (gives metadata ≡ Some f) × (f.id ≡ id)
-IsGivenBy None unknown id metadata f = (unknown ≡ true) × (f ≡ foreign_aggregate_fn id metadata)
+-- The function of an identifier and metadata: the one that is given, if it has the identifier that was asked for.
+abbrev pub IsAggregateOf : Option (List ℕ → Option AggregateFn) → Bool → List ℕ → List ℕ → AggregateFn → Type 0
+IsAggregateOf reader unknown id metadata f = IsGiven reader unknown metadata (foreign_aggregate_fn id metadata) f × (f.id ≡ id)
+
+-- Why there is none: none is given, or one of another identifier.
+abbrev pub IsNoAggregate : FnWireError → Option (List ℕ → Option AggregateFn) → Bool → List ℕ → List ℕ → Type 0
+IsNoAggregate IdMismatch reader unknown id metadata = (f : AggregateFn) × IsGiven reader unknown metadata (foreign_aggregate_fn id metadata) f × (f.id ≡ id → ⊥)
+IsNoAggregate error reader unknown id metadata = IsNotGiven error reader unknown metadata
 
 -- Metadata in its slot, which is empty where none stands.
 abbrev pub optional_octets : ℕ → Option (List ℕ) → List Entry
@@ -41,24 +57,16 @@ optional_octets i (Some s) = one_octets i s
 abbrev pub HoldsAggregate : Value → List ℕ → Option (List ℕ) → Type 0
 HoldsAggregate v id metadata = v ≡ one_octets 1 id ∷ optional_octets 2 metadata ∷ []
 
--- A message is read as a function: the one that is given of its identifier and metadata, absent ones being empty.
+-- A message is read as a function: the one of its identifier and metadata, absent ones being empty.
 pub record ReadsAggregate (registry : Registry AggregateFn) (unknown : Bool) (v : Value) (f : AggregateFn) : Type 0 where
   pub id : List ℕ
   pub metadata : Option (List ℕ)
   pub holds : HoldsAggregate v id metadata
-  pub given : IsGivenBy (registry id) unknown id (metadata_of metadata) f
-
--- Why no function is given. Want of memory has no cause.
-abbrev pub IsNotGiven : FnWireError → Option (List ℕ → Option AggregateFn) → Bool → List ℕ → List ℕ → Type 0
-IsNotGiven OutOfMemory reader unknown id metadata = Unit {0}
-IsNotGiven UnknownId reader unknown id metadata = (reader ≡ None) × (unknown ≡ false)
-IsNotGiven IdMismatch reader unknown id metadata = (gives : List ℕ → Option AggregateFn) × (f : AggregateFn) × (reader ≡ Some gives) × (gives metadata ≡ Some f) × (f.id ≡ id → ⊥)
-IsNotGiven PluginRefused reader unknown id metadata = (gives : List ℕ → Option AggregateFn) × (reader ≡ Some gives) × (gives metadata ≡ None)
-IsNotGiven error reader unknown id metadata = ⊥
+  pub given : IsAggregateOf (registry id) unknown id (metadata_of metadata) f
 
 -- Why a message is read as no function.
 pub record IsUnreadAggregate (error : FnWireError) (registry : Registry AggregateFn) (unknown : Bool) (v : Value) : Type 0 where
   pub id : List ℕ
   pub metadata : Option (List ℕ)
   pub holds : HoldsAggregate v id metadata
-  pub cause : IsNotGiven error (registry id) unknown id (metadata_of metadata)
+  pub cause : IsNoAggregate error (registry id) unknown id (metadata_of metadata)

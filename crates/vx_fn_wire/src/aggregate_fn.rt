@@ -1,9 +1,10 @@
 //! Functions of columns.
 
-ghost use Rattle.std.specs.Prelude.{◌≡◌, None, IfOk, IfErr, IsErr, MatchResult};
+ghost use Rattle.std.specs.Prelude.{◌≡◌, ◌⊎◌, None, IfOk, IfErr, IsErr, MatchResult};
 ghost use Rattle.vx_fn_wire.specs.Messages.{aggregate_message, IsUnwrittenAggregate};
 ghost use Rattle.vx_fn_wire.specs.Session.{aggregates_meaning, ReadsAggregate, IsUnreadAggregate};
 ghost use Rattle.vx_fn_wire.specs.declared.aggregate_fn.AggregateFn.{AggregateFn as Aggregate};
+ghost use Rattle.vx_fn_wire.specs.declared.error.FnWireError.{FnWireError as Refusal};
 
 use crate::aggregate_reading::{function_of, parts_of};
 use crate::error::FnWireError;
@@ -38,9 +39,10 @@ impl AggregateFn {
         session: &FnSession,
     ) -> Result<AggregateFn, FnWireError>
         ensures read { IfOk result (λ f. ReadsAggregate (aggregates_meaning aggregate_of session.now.aggregates) session.now.unknown message.now f) }
-        ensures cause { IfErr result (λ e. IsUnreadAggregate e (aggregates_meaning aggregate_of session.now.aggregates) session.now.unknown message.now) }
+        ensures cause { IfErr result (λ e. (e ≡ FnWireError.OutOfMemory) ⊎ IsUnreadAggregate e (aggregates_meaning aggregate_of session.now.aggregates) session.now.unknown message.now) }
         ensures complete { (f : Aggregate) → ReadsAggregate (aggregates_meaning aggregate_of session.now.aggregates) session.now.unknown message.now f
             → MatchResult result (λ g. g ≡ f) (λ e. e ≡ FnWireError.OutOfMemory) }
+        ensures refused { (e : Refusal) → IsUnreadAggregate e (aggregates_meaning aggregate_of session.now.aggregates) session.now.unknown message.now → IsErr result }
     {
         let parts = parts_of(message);
         let id = Id::new(alloc, parts.id)?;

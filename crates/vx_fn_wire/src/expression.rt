@@ -1,6 +1,6 @@
 //! Expressions.
 
-ghost use Rattle.std.specs.Prelude.{◌≡◌, ◌↔◌, ◌≤◌, Some, length, IsTrue, IfOk, IfErr, IsOk};
+ghost use Rattle.std.specs.Prelude.{◌≡◌, ◌↔◌, ◌≤◌, ◌⊎◌, Bool, Some, length, IsTrue, IfOk, IfErr, IsOk, IsErr, MatchResult};
 ghost use Rattle.vx_trees.specs.Rose.{node, roses_of};
 ghost use Rattle.vx_trees.specs.Walks.{levels};
 ghost use Rattle.vx_proto.specs.Reads.{Reads};
@@ -9,14 +9,21 @@ ghost use Rattle.vx_fn_wire.specs.Arity.{Admits};
 ghost use Rattle.vx_fn_wire.specs.Expr.{Expr, call, IsExpr};
 ghost use Rattle.vx_fn_wire.specs.ExprText.{expr_text};
 ghost use Rattle.vx_fn_wire.specs.Messages.{expr_message, IsSerializable, IsUnwritten, IsUnwrittenBytes};
+ghost use Rattle.vx_fn_wire.specs.ReadsExpr.{ReadsExpr, IsUnreadExpr, ReadsExprBytes, IsUnreadExprBytes, GivesEachBack};
 ghost use Rattle.vx_fn_wire.specs.Schema.{expr_lists};
 ghost use Rattle.vx_fn_wire.specs.Seen.{expr};
+ghost use Rattle.vx_fn_wire.specs.Session.{Registry, scalars_meaning};
+ghost use Rattle.vx_fn_wire.specs.declared.error.FnWireError.{FnWireError as Refusal};
+ghost use Rattle.vx_fn_wire.specs.declared.scalar_fn.ScalarFn.{ScalarFn as Scalar};
 
 use crate::call::Call;
 use crate::error::FnWireError;
+use crate::expression_reading::expression_of;
 use crate::expressions::Expressions;
 use crate::pb;
+use crate::plugin::ScalarFnPlugin;
 use crate::scalar_fn::ScalarFn;
+use crate::session::FnSession;
 use crate::writing::{self, slots_of};
 use std::alloc::Global;
 use std::fmt;
@@ -55,6 +62,46 @@ impl Expression {
         }
     }
 
+    /// The expression whose message this is. Each identifier is that of the root, which is looked at
+    /// first, or has its plugin's function, or the foreign one where no plugin stands and unknown ones
+    /// are allowed. Absent metadata is read as empty, and a root's is ignored. `RootWithChildren` where a
+    /// root has children, `UnknownId` where an identifier has no plugin and unknown ones are not allowed,
+    /// `PluginRefused` where a plugin refuses the metadata, and `ArityMismatch` where the number of a
+    /// call's children is outside its function's arity.
+    pub fn from_proto(
+        alloc: Global,
+        message: &pb::Expr,
+        session: &FnSession,
+    ) -> Result<Expression, FnWireError>
+        ensures read { IfOk result (λ e. ReadsExpr (scalars_meaning scalar_of session.now.scalars) session.now.unknown message.now (expr e)) }
+        ensures cause { IfErr result (λ e. (e ≡ FnWireError.OutOfMemory) ⊎ IsUnreadExpr (scalars_meaning scalar_of session.now.scalars) session.now.unknown e message.now) }
+        ensures complete { (e : Expr) → ReadsExpr (scalars_meaning scalar_of session.now.scalars) session.now.unknown message.now e
+            → MatchResult result (λ d. expr d ≡ e) (λ e. e ≡ FnWireError.OutOfMemory) }
+        ensures refused { (e : Refusal) → IsUnreadExpr (scalars_meaning scalar_of session.now.scalars) session.now.unknown e message.now → IsErr result }
+    {
+        let expression = expression_of(alloc, message, &session.scalars, session.unknown)?;
+        expression.hold();
+        Ok(expression)
+    }
+
+    /// The expression whose message these bytes are. `BadMessage` where they are no fields of the
+    /// schema, `TooDeep` where over 100 messages nest, and as `from_proto`.
+    pub fn from_proto_bytes(
+        alloc: Global,
+        bytes: &[u8],
+        session: &FnSession,
+    ) -> Result<Expression, FnWireError>
+        ensures read { IfOk result (λ e. ReadsExprBytes (scalars_meaning scalar_of session.now.scalars) session.now.unknown bytes.now (expr e)) }
+        ensures cause { IfErr result (λ e. (e ≡ FnWireError.OutOfMemory) ⊎ IsUnreadExprBytes (scalars_meaning scalar_of session.now.scalars) session.now.unknown e bytes.now) }
+        ensures complete { (e : Expr) → ReadsExprBytes (scalars_meaning scalar_of session.now.scalars) session.now.unknown bytes.now e
+            → MatchResult result (λ d. expr d ≡ e) (λ e. e ≡ FnWireError.OutOfMemory) }
+        ensures refused { (e : Refusal) → IsUnreadExprBytes (scalars_meaning scalar_of session.now.scalars) session.now.unknown e bytes.now → IsErr result }
+        ensures shallow { IfOk result (λ e. levels (expr e) ≤ 100) }
+    {
+        let message = pb::Expr::decode(alloc, bytes)?;
+        Expression::from_proto(alloc, &message, session)
+    }
+
     /// Whether the options of each function in it can be written.
     pub fn is_serializable(&self) -> bool
         ensures { IsTrue result ↔ IsSerializable (expr self.now) }
@@ -63,11 +110,13 @@ impl Expression {
     }
 
     /// The bytes of the expression's message. `NotSerializable` where the options of some function in
-    /// it cannot be written, `TooDeep` where over 100 calls nest, the root counted as one.
+    /// it cannot be written, `TooDeep` where over 100 calls nest, the root counted as one. What is
+    /// written is read as the expression by each session that gives its functions back.
     #[tactic(auto, using(crate::proofs::Forms::expr_form, crate::proofs::Forms::expr_depth))]
     pub fn to_proto_bytes(&self, alloc: Global) -> Result<Blob, FnWireError>
         ensures exact { IfOk result (λ bytes. bytes ≡ written expr_lists 0 (expr_message (expr self.now))) }
         ensures read { IfOk result (λ bytes. Reads expr_lists 0 bytes (expr_message (expr self.now))) }
+        ensures read_back { IfOk result (λ bytes. (registry : Registry Scalar) (unknown : Bool) → GivesEachBack registry unknown (expr self.now) → ReadsExprBytes registry unknown bytes (expr self.now)) }
         ensures whole { IsOk result → IsSerializable (expr self.now) }
         ensures shallow { IsOk result → levels (expr self.now) ≤ 100 }
         ensures cause { IfErr result (λ e. IsUnwrittenBytes e (expr self.now)) }
@@ -77,6 +126,21 @@ impl Expression {
         let bytes = message.encode_to_vec(alloc)?;
         Ok(Blob::new(bytes.into_vec()))
     }
+}
+
+/// The expression whose message this is, as [`Expression::from_proto`] reads it.
+pub fn deserialize_expr_proto(
+    alloc: Global,
+    message: &pb::Expr,
+    session: &FnSession,
+) -> Result<Expression, FnWireError>
+    ensures read { IfOk result (λ e. ReadsExpr (scalars_meaning scalar_of session.now.scalars) session.now.unknown message.now (expr e)) }
+    ensures cause { IfErr result (λ e. (e ≡ FnWireError.OutOfMemory) ⊎ IsUnreadExpr (scalars_meaning scalar_of session.now.scalars) session.now.unknown e message.now) }
+    ensures complete { (e : Expr) → ReadsExpr (scalars_meaning scalar_of session.now.scalars) session.now.unknown message.now e
+        → MatchResult result (λ d. expr d ≡ e) (λ e. e ≡ FnWireError.OutOfMemory) }
+    ensures refused { (e : Refusal) → IsUnreadExpr (scalars_meaning scalar_of session.now.scalars) session.now.unknown e message.now → IsErr result }
+{
+    Expression::from_proto(alloc, message, session)
 }
 
 /// Writing an expression as its message.

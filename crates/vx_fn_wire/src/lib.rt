@@ -6,13 +6,14 @@
 //! [`new_foreign_aggregate_fn`] make them of what their messages hold.
 //!
 //! An [`Expression`] is a tree of calls over the root. It is written as a message and printed. A
-//! [`FnSession`] holds boxed plugins, by which an aggregate function is read of its message.
+//! [`FnSession`] holds boxed plugins, by which expressions and aggregate functions are read of their
+//! messages.
 //!
 //! The definitions that the contracts cite are public: `specs::Arity` says how many children a call may
 //! have, `specs::Expr` which trees are expressions, `specs::Messages` which message a function and an
 //! expression have, `specs::Foreign` what a foreign function is, `specs::Texts` and `specs::ExprText`
-//! how options and expressions look, and `specs::Session` what a message is read as under a session, or
-//! why it is not.
+//! how options and expressions look, `specs::ReadsExpr` which expression a message is under a session,
+//! or why it is none, and `specs::Session` the same of aggregate functions.
 #![tactic(auto)]
 
 mod aggregate_fn;
@@ -21,6 +22,7 @@ mod arity;
 mod call;
 mod error;
 mod expression;
+mod expression_reading;
 mod expressions;
 mod foreign;
 mod foreign_aggregate;
@@ -36,7 +38,7 @@ pub use aggregate_fn::{AggregateFn, AggregateFnRef};
 pub use arity::Arity;
 pub use call::Call;
 pub use error::FnWireError;
-pub use expression::{ExprSerializeProtoExt, Expression};
+pub use expression::{ExprSerializeProtoExt, Expression, deserialize_expr_proto};
 pub use expressions::Expressions;
 pub use foreign::{ForeignScalarFnOptions, ForeignScalarFnVTable};
 pub use foreign_aggregate::{

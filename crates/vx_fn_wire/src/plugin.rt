@@ -83,6 +83,17 @@ pub(crate) fn id_of_aggregate(plugin: &Box<dyn AggregateFnPlugin>) -> &Id
 }
 
 /// `deserialize` of a box.
+pub(crate) fn scalar_by(
+    alloc: Global,
+    plugin: &Box<dyn ScalarFnPlugin>,
+    metadata: &[u8],
+) -> Result<ScalarFn, PluginError>
+    ensures { IsAnswer (scalar_of plugin.now metadata.now) result }
+{
+    plugin.deserialize(alloc, metadata)
+}
+
+/// `deserialize` of a box.
 pub(crate) fn aggregate_by(
     alloc: Global,
     plugin: &Box<dyn AggregateFnPlugin>,

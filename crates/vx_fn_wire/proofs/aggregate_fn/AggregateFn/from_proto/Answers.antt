@@ -1,4 +1,4 @@
-use Rattle.vx_fn_wire.proofs.AggregateParts.{read_of, caused_of, one_read}
+use Rattle.vx_fn_wire.proofs.AggregateParts.{read_of, caused_of, one_read, none_read}
 use Rattle.vx_fn_wire.proofs.aggregate_fn.AggregateFn.from_proto.Goals as goal
 
 pub returns-clause-read : goal.returns-clause-read
@@ -12,3 +12,7 @@ returns-clause-cause g c =
 pub returns-clause-complete : goal.returns-clause-complete
 returns-clause-complete g c = λ f reads.
     one_read _ c.args.session.now.unknown _ _ f (returns-clause-read g c) (returns-clause-cause g c) reads
+
+pub returns-clause-refused : goal.returns-clause-refused
+returns-clause-refused g c = λ e cause.
+    none_read _ c.args.session.now.unknown _ _ e (returns-clause-read g c) cause

@@ -1,0 +1,29 @@
+use Rattle.std.proofs.Common.{◌⊎◌, inr, ◌≡◌, true, false, length, sym, subst}
+use Rattle.std.proofs.lemmas.Result.{err_from_is_err_and}
+use Rattle.vx_fn_wire.specs.Arity.{Admits}
+use Rattle.vx_fn_wire.specs.Seen.{expr}
+use Rattle.vx_fn_wire.specs.ReadsExpr.{IsNoHead}
+use Rattle.vx_fn_wire.specs.Session.{scalars_meaning}
+use Rattle.vx_fn_wire.specs.contracts.expression_reading.node_of.{dyn-1-ghosts}
+use Rattle.vx_fn_wire.specs.declared.error.FnWireError.TheVariants.{OutOfMemory}
+use Rattle.vx_fn_wire.proofs.ReadNodes.{handed_on, no_function, not_admitted, call_node}
+use Rattle.vx_fn_wire.proofs.expression_reading.node_of.Goals as goal
+
+pub returns-in_err-function-clause-cause : goal.returns-in_err-function-clause-cause
+returns-in_err-function-clause-cause g c =
+    let p = err_from_is_err_and c.from_residual-in_err-function.result c.from_residual-in_err-function.ensures.1 in
+    let registry = scalars_meaning (λ b. ((dyn-1-ghosts g.dyn-1).0.entry b.vtable).1.scalar_of b.value) c.args.session.now in
+    let n = length c.args.children in
+    handed_on c.from_residual-in_err-function.result p.0 c.in_err-function.field-0.0 (λ e. (e ≡ OutOfMemory) ⊎ IsNoHead registry c.args.unknown e c.args.id.now c.args.metadata.now n) p.1 p.2
+    (no_function registry c.args.unknown c.in_err-function.field-0.0 c.args.id.now c.in_ok-id.id c.args.metadata.now n c.in_ok-id.ensures.ok c.if-eq.ensures c.in_err-function.ensures.cause)
+
+pub returns-then-not-admits-clause-cause : goal.returns-then-not-admits-clause-cause
+returns-then-not-admits-clause-cause g c =
+    let registry = scalars_meaning (λ b. ((dyn-1-ghosts g.dyn-1).0.entry b.vtable).1.scalar_of b.value) c.args.session.now in
+    inr (not_admitted registry c.args.unknown c.args.id.now c.in_ok-id.id c.args.metadata.now (length c.args.children) c.len.result c.in_ok-function.function c.in_ok-id.ensures.ok c.if-eq.ensures c.len.ensures c.in_ok-function.ensures.given
+    (λ a. absurd (let e : false ≡ true = c.if-not-admits.ensures.1 (subst (λ n. Admits c.in_ok-function.function.arity n) (sym c.len-2.ensures) a) in cc)))
+
+pub returns-clause-given : goal.returns-clause-given
+returns-clause-given g c =
+    let registry = scalars_meaning (λ b. ((dyn-1-ghosts g.dyn-1).0.entry b.vtable).1.scalar_of b.value) c.args.session.now in
+    call_node registry c.args.unknown c.args.id.now c.in_ok-id.id c.args.metadata.now c.args.children c.len.result c.in_ok-function.function (expr c.call.result) c.in_ok-id.ensures.ok c.if-eq.ensures c.len.ensures c.in_ok-function.ensures.given c.call.ensures
