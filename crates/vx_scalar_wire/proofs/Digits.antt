@@ -1,12 +1,14 @@
 -- A decimal's bytes are of one integer.
-use Rattle.std.specs.Int.{w8, w16, w32, w64, w128, Width, byte_at, bytes_low_first, cast_unsigned, cast_signed, to_le_bytes}
+use Rattle.std.specs.Int.{w8, w16, w32, w64, w128, Width, byte_at, byte_worth, sum_through, bytes_low_first, cast_unsigned, cast_signed, to_le_bytes}
 use Rattle.std.specs.Prelude.{FitsSigned}
-use Rattle.std.proofs.Common.{◌≡◌, ◌∙◌, ◌<◌, ◌^◌, ◌+◌, ◌*◌, ◌/◌, ◌%◌, ℕ, zero, suc, ℤ, pos, negsuc, List, ◌∷◌, length, refl, sym, ap, arith}
+use mir.Val.{bits}
+use Rattle.std.proofs.Common.{◌≡◌, ◌∙◌, ◌<◌, ◌^◌, ◌+◌, ◌*◌, ◌/◌, ◌%◌, ℕ, zero, suc, ℤ, pos, negsuc, List, [], ◌∷◌, length, get_or, take, slice_index, refl, sym, ap, arith}
 use Rattle.std.proofs.Math.Arith.{mod-mul}
 use Rattle.std.proofs.Math.Nat.{div-div-eq-div-mul, mod-eq_of_lt}
-use Rattle.std.proofs.lemmas.Int.{ints, to_z-of_z}
+use Rattle.std.proofs.lemmas.Int.{ints, of_z-to_z, to_z-of_z}
 use Rattle.vx_types.specs.Value as V
 use Rattle.vx_types.specs.Value.{DecimalValue}
+use Rattle.vx_types.specs.Content.{AreBytes}
 use Rattle.vx_types.specs.Well.{IsDecimalInRange}
 use Rattle.vx_scalar_wire.specs.ScalarMessage.{decimal_bytes}
 
@@ -52,6 +54,76 @@ whole k n h = let one : n / 256 ^ 0 ≡ n = omega arith in ap (λ q. q % 256 ^ k
 
 one_number : (k n m : ℕ) → n < 256 ^ k → m < 256 ^ k → bytes_low_first 0 k n ≡ bytes_low_first 0 k m → n ≡ m
 one_number k n m h g e = sym (whole k n h) ∙ digits k 0 n m e ∙ whole k m g
+
+-- ---- the number that has these digits
+
+-- The number of the bytes, the lowest first.
+abbrev number_of : List ℕ → ℕ
+number_of [] = 0
+number_of (b ∷ bs) = number_of bs * 256 + b
+
+times : (b p : ℕ) → b * (p * 256) ≡ b * p * 256
+times b p = grind arith
+
+one_more : (bs : List ℕ) (j : ℕ) → number_of (take (suc j) bs) ≡ number_of (take j bs) + get_or bs j 0 * 256 ^ j
+one_more [] zero = omega arith
+one_more [] (suc j) = omega arith
+one_more (b ∷ bs) zero = omega arith
+one_more (b ∷ bs) (suc j) =
+    let e : number_of (take (suc j) bs) ≡ number_of (take j bs) + get_or bs j 0 * 256 ^ j = one_more bs j in
+    let p : get_or bs j 0 * 256 ^ suc j ≡ get_or bs j 0 * 256 ^ j * 256 = ap (λ q. get_or bs j 0 * q) (power j) ∙ times (get_or bs j 0) (256 ^ j) in
+    omega (arith, e, p)
+
+worth : (j b : ℕ) → byte_worth j b ≡ b * 256 ^ j
+worth zero b = omega arith
+worth (suc j) b = refl
+
+summed : (bs : List ℕ) (k : ℕ) → sum_through (λ i. byte_worth i (slice_index bs i)) k ≡ number_of (take (suc k) bs)
+summed bs zero = omega (arith, one_more bs 0)
+summed bs (suc k) = omega (arith, summed bs k, worth (suc k) (slice_index bs (suc k)), one_more bs (suc k))
+
+all_taken : (bs : List ℕ) (k : ℕ) → length bs ≡ k → take k bs ≡ bs
+all_taken [] zero e = refl
+all_taken [] (suc k) e = refl
+all_taken (b ∷ bs) zero e = absurd (omega arith)
+all_taken (b ∷ bs) (suc k) e = ap (λ t. b ∷ t) (all_taken bs k (omega arith))
+
+spelled : (bs : List ℕ) (i k n : ℕ) → length bs ≡ k → AreBytes bs → n / 256 ^ i ≡ number_of bs → bytes_low_first i k n ≡ bs
+spelled [] i zero n l h e = refl
+spelled [] i (suc k) n l h e = absurd (omega arith)
+spelled (b ∷ bs) i zero n l h e = absurd (omega arith)
+spelled (b ∷ bs) i (suc k) n l h e =
+    let first : byte_at i n ≡ b = byte_is i n ∙ omega (arith, e, h.0) in
+    let next : n / 256 ^ suc i ≡ number_of bs = next_digits i n ∙ omega (arith, e, h.0) in
+    ap (λ x. x ∷ bytes_low_first (suc i) k n) first ∙ ap (λ t. b ∷ t) (spelled bs (suc i) k n (omega arith) h.1 next)
+
+-- What is read of bytes, the lowest first, is written as them.
+pub spelled_again : (bs : List ℕ) (k n : ℕ) → length bs ≡ suc k → AreBytes bs → n ≡ sum_through (λ i. byte_worth i (slice_index bs i)) k → bytes_low_first 0 (suc k) n ≡ bs
+spelled_again bs k n l h e =
+    let one : n / 256 ^ 0 ≡ n = omega arith in
+    spelled bs 0 (suc k) n l h (one ∙ e ∙ summed bs k ∙ ap number_of (all_taken bs (suc k) l))
+
+below_power : (bs : List ℕ) → AreBytes bs → number_of bs < 256 ^ length bs
+below_power [] h = omega arith
+below_power (b ∷ bs) h = omega (arith, below_power bs h.1, h.0, power (length bs))
+
+-- An integer with sign, too.
+pub signed_again : (w : Width) (bs : List ℕ) (k : ℕ) → length bs ≡ suc k → 256 ^ suc k ≡ 2 ^ bits w → AreBytes bs
+    → bytes_low_first 0 (suc k) (cast_unsigned w (cast_signed w (sum_through (λ i. byte_worth i (slice_index bs i)) k))) ≡ bs
+signed_again w bs k l e h =
+    let n : ℕ = sum_through (λ i. byte_worth i (slice_index bs i)) k in
+    let is : n ≡ number_of bs = summed bs k ∙ ap number_of (all_taken bs (suc k) l) in
+    let same : 256 ^ length bs ≡ 2 ^ bits w = ap (λ j. 256 ^ j) l ∙ e in
+    let small : n < 2 ^ bits w = omega (arith, is, same, below_power bs h) in
+    ap (λ m. bytes_low_first 0 (suc k) m) (of_z-to_z w n small) ∙ spelled_again bs k n l h refl
+
+-- The elements of a list of bytes are bytes.
+pub bytes_known : (bs : List ℕ) → ((k : ℕ) → get_or bs k 0 < 256) → AreBytes bs
+bytes_known [] h = tt
+bytes_known (b ∷ bs) h = (h 0, bytes_known bs (λ k. h (suc k)))
+
+pub taken_whole : (bs : List ℕ) (k : ℕ) → length bs ≡ k → take k bs ≡ bs
+taken_whole bs k e = all_taken bs k e
 
 -- ---- integers
 

@@ -2,4 +2,8 @@ pub mod Form
 pub mod Lists
 pub mod Digits
 pub mod OneValue
+pub mod Inversions
+pub mod Leaves
+pub mod Held
+pub mod Gathered
 pub mod LawsScalars

@@ -27,27 +27,27 @@ use Rattle.vx_scalar_wire.proofs.Digits.{one_decimal}
 -- ---- the member that a message holds
 
 -- Its number; 0 where none is held.
-abbrev first_tag : List Entry → ℕ
+abbrev pub first_tag : List Entry → ℕ
 first_tag [] = 0
 first_tag (x ∷ xs) = x.0
 
-abbrev tag_in : Value → ℕ
+abbrev pub tag_in : Value → ℕ
 tag_in [] = 0
 tag_in (es ∷ m) = first_tag es
 
-held : (m : Value) (g : ℕ) (c : Content) → Holds m g c → tag_in m ≡ g
+pub held : (m : Value) (g : ℕ) (c : Content) → Holds m g c → tag_in m ≡ g
 held m g c e = ap tag_in e
 
-same_held : (m : Value) (g : ℕ) (a b : Content) → Holds m g a → Holds m g b → a ≡ b
+pub same_held : (m : Value) (g : ℕ) (a b : Content) → Holds m g a → Holds m g b → a ≡ b
 same_held m g a b e f = same_content g g a b [] [] (same_slot _ _ [] [] (sym e ∙ f))
 
-not_both : {P : Type 0} (m : Value) (g k : ℕ) (a b : Content) → Holds m g a → Holds m k b → (g ≡ k → P) → P
+pub not_both : {P : Type 0} (m : Value) (g k : ℕ) (a b : Content) → Holds m g a → Holds m k b → (g ≡ k → P) → P
 not_both m g k a b e f h = h (sym (held m g a e) ∙ held m k b f)
 
 -- ---- which mark is read, by the member's number and the type
 
 -- A number for each mark.
-abbrev rank : V.Mark → ℕ
+abbrev pub rank : V.Mark → ℕ
 rank V.opaque = 0
 rank V.null = 1
 rank (V.bool b) = 2
@@ -60,14 +60,14 @@ rank (V.union tag) = 8
 rank (V.variant d) = 9
 
 -- That of what bytes are read as at a type.
-abbrev bytes_rank : Typ → ℕ
+abbrev pub bytes_rank : Typ → ℕ
 bytes_rank (node (K.decimal p s m) ts) = 4
 bytes_rank (node (K.utf8 m) ts) = 5
 bytes_rank (node (K.binary m) ts) = 6
 bytes_rank _ = 0
 
 -- That of what a member is read as at a type.
-abbrev rank_in : ℕ → Typ → ℕ
+abbrev pub rank_in : ℕ → Typ → ℕ
 rank_in g d =
     if g == 1 then 1 else
     (if g == 2 then 2 else
@@ -77,22 +77,22 @@ rank_in g d =
     (if g == 11 then 8 else
     (if g == 12 then 9 else 3))))))
 
-decimals : (d : Typ) → IsDecimal d → bytes_rank d ≡ 4
+pub decimals : (d : Typ) → IsDecimal d → bytes_rank d ≡ 4
 decimals (node (K.decimal p s m) ts) h = refl
 decimals _ h = absurd h
 
-texts : (d : Typ) → IsUtf8 d → bytes_rank d ≡ 5
+pub texts : (d : Typ) → IsUtf8 d → bytes_rank d ≡ 5
 texts (node (K.utf8 m) ts) h = refl
 texts _ h = absurd h
 
-binaries : (d : Typ) → IsBinary d → bytes_rank d ≡ 6
+pub binaries : (d : Typ) → IsBinary d → bytes_rank d ≡ 6
 binaries (node (K.binary m) ts) h = refl
 binaries _ h = absurd h
 
-ranked : (m : Value) (g : ℕ) (c : Content) (d : Typ) → Holds m g c → rank_in g d ≡ rank_in (tag_in m) d
+pub ranked : (m : Value) (g : ℕ) (c : Content) (d : Typ) → Holds m g c → rank_in g d ≡ rank_in (tag_in m) d
 ranked m g c d e = ap (λ k. rank_in k d) (sym (held m g c e))
 
-octets_ranked : (m : Value) (s : List ℕ) (d : Typ) → HoldsOctets m s → bytes_rank d ≡ rank_in (tag_in m) d
+pub octets_ranked : (m : Value) (s : List ℕ) (d : Typ) → HoldsOctets m s → bytes_rank d ≡ rank_in (tag_in m) d
 octets_ranked m s d (inl e) = ranked m 7 (octets s) d e
 octets_ranked m s d (inr e) = ranked m 8 (octets s) d e
 
@@ -115,7 +115,7 @@ number_ranked m (F16 n) d (inr e) = ranked m 4 (number n) d e
 number_ranked m (F32 n) d e = ranked m 5 (number n) d e
 number_ranked m (F64 n) d e = ranked m 6 (number n) d e
 
-mark_ranked : (s : ExtMeaning) (k : V.Mark) (vs : V.Values) (d : Typ) (m : Value) → ReadsValue s (node k vs) d m → rank k ≡ rank_in (tag_in m) (bare d)
+pub mark_ranked : (s : ExtMeaning) (k : V.Mark) (vs : V.Values) (d : Typ) (m : Value) → ReadsValue s (node k vs) d m → rank k ≡ rank_in (tag_in m) (bare d)
 mark_ranked s V.null vs d m r = ranked m 1 (number 0) (bare d) r.1
 mark_ranked s V.opaque vs d m r = absurd r
 mark_ranked s (V.bool b) vs d m r = ranked m 2 (number (flag_number b)) (bare d) r.2
@@ -135,7 +135,7 @@ one_flag true false e = absurd (omega (arith, e))
 one_flag false true e = absurd (omega (arith, e))
 one_flag false false e = refl
 
-one_integer : (m : Value) (y z : ℤ) → HoldsInteger m y → HoldsInteger m z → y ≡ z
+pub one_integer : (m : Value) (y z : ℤ) → HoldsInteger m y → HoldsInteger m z → y ≡ z
 one_integer m y z (inl e) (inl f) = zigzag_one y z (same_number _ _ (same_held m 3 _ _ e f))
 one_integer m y (pos n) (inl e) (inr f) = not_both m 3 4 _ _ e f (λ h. absurd (omega (arith, h)))
 one_integer m y (negsuc n) (inl e) (inr f) = absurd f
@@ -154,7 +154,7 @@ one_half m a b (inl e) (inr f) = not_both m 10 4 _ _ e f (λ h. absurd (omega (a
 one_half m a b (inr e) (inl f) = not_both m 4 10 _ _ e f (λ h. absurd (omega (arith, h)))
 one_half m a b (inr e) (inr f) = same_number a b (same_held m 4 _ _ e f)
 
-one_numeral : (m : Value) (a b : PValue) → kind_of a ≡ kind_of b → HoldsNumber m a → HoldsNumber m b → a ≡ b
+pub one_numeral : (m : Value) (a b : PValue) → kind_of a ≡ kind_of b → HoldsNumber m a → HoldsNumber m b → a ≡ b
 one_numeral m (U8 a) (U8 b) k h g = ap U8 (natural a b (one_integer m (pos a) (pos b) h g))
 one_numeral m (U16 a) (U16 b) k h g = ap U16 (natural a b (one_integer m (pos a) (pos b) h g))
 one_numeral m (U32 a) (U32 b) k h g = ap U32 (natural a b (one_integer m (pos a) (pos b) h g))
@@ -168,11 +168,11 @@ one_numeral m (F32 a) (F32 b) k h g = ap F32 (same_number a b (same_held m 5 _ _
 one_numeral m (F64 a) (F64 b) k h g = ap F64 (same_number a b (same_held m 6 _ _ h g))
 one_numeral m _ _ k h g = absurd (cc)
 
-of_kind : (p q : PType) (d : Typ) → IsOf p d → IsOf q d → p ≡ q
+pub of_kind : (p q : PType) (d : Typ) → IsOf p d → IsOf q d → p ≡ q
 of_kind p q (node (K.primitive r m) ts) h g = h ∙ sym g
 of_kind p q _ h g = absurd h
 
-one_octets : (m : Value) (a b : List ℕ) → HoldsOctets m a → HoldsOctets m b → a ≡ b
+pub one_octets : (m : Value) (a b : List ℕ) → HoldsOctets m a → HoldsOctets m b → a ≡ b
 one_octets m a b (inl e) (inl f) = same_octets a b (same_held m 7 _ _ e f)
 one_octets m a b (inl e) (inr f) = not_both m 7 8 _ _ e f (λ h. absurd (omega (arith, h)))
 one_octets m a b (inr e) (inl f) = not_both m 8 7 _ _ e f (λ h. absurd (omega (arith, h)))

@@ -3,3 +3,4 @@ pub mod Shallow
 pub mod Reading
 pub mod Writing
 pub mod Nans
+pub mod Answers

@@ -5,7 +5,11 @@ use Rattle.vx_proto.specs.Written.{nested}
 use Rattle.vx_proto.specs.declared.error.ProtoError.{ProtoError}
 use Rattle.vx_proto.specs.declared.error.ProtoError.TheVariants as proto
 use Rattle.vx_scalar_wire.specs.declared.error.ScalarWireError.{ScalarWireError}
-use Rattle.vx_scalar_wire.specs.declared.error.ScalarWireError.TheVariants.{OutOfMemory, BadMessage, TooDeep, OutOfRange, BadDType}
+use Rattle.vx_scalars.specs.declared.error.ScalarError.{ScalarError}
+use Rattle.vx_scalars.specs.declared.error.ScalarError.TheVariants as scalar
+use Rattle.vx_types.specs.declared.error.TypeError.{TypeError}
+use Rattle.vx_types.specs.declared.error.TypeError.TheVariants as type_error
+use Rattle.vx_scalar_wire.specs.declared.error.ScalarWireError.TheVariants.{OutOfMemory, BadMessage, TooDeep, OutOfRange, BadScalar, BadDType}
 use Rattle.vx_scalar_wire.specs.declared.error.TypeRefusal.TheVariants.{WireLimit}
 
 -- Why nothing is written: something is not shallow. Want of memory has no cause.
@@ -25,6 +29,16 @@ refusal_of_proto proto.OutOfMemory = OutOfMemory
 refusal_of_proto proto.BadMessage = BadMessage
 refusal_of_proto proto.TooDeep = TooDeep
 refusal_of_proto proto.OutOfRange = OutOfRange
+
+-- A refusal of a scalar is that of its message.
+abbrev pub refusal_of_scalar : ScalarError → ScalarWireError
+refusal_of_scalar scalar.OutOfMemory = OutOfMemory
+refusal_of_scalar scalar.BadScalar = BadScalar
+
+-- A part of a type that cannot be made: want of memory stays that.
+abbrev pub refusal_of_type : TypeError → ScalarWireError
+refusal_of_type type_error.OutOfMemory = OutOfMemory
+refusal_of_type error = BadScalar
 
 -- Why no bytes are written of a message: something is not shallow, or over 100 messages nest.
 abbrev pub IsUnwrittenBytes : ScalarWireError → Type 0 → Value → Type 0

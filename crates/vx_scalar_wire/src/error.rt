@@ -6,6 +6,8 @@ ghost use Rattle.vx_scalar_wire.specs.declared.error.ScalarWireError.TheVariants
 use std::alloc::{AllocError, AllocFailed};
 use thiserror::Error;
 use vx_proto::ProtoError;
+use vx_scalars::ScalarError;
+use vx_types::TypeError;
 
 /// Why the type of a scalar is refused.
 #[derive(Clone, Copy, Debug, PartialEq, Eq, Error)]
@@ -36,9 +38,23 @@ pub enum ScalarWireError {
     /// Over 100 messages nest: 2.
     #[error("over 100 messages nest")]
     TooDeep,
+    /// No value stands where one is needed: a oneof without member, a union or a
+    /// variant without value, a scalar without type or value: 3.
+    #[error("the message has no value")]
+    MissingKind,
+    /// The member is none that is read at the type: 4.
+    #[error("the member is none of the type's")]
+    KindMismatch,
     /// A number is outside its field's range or outside its type: 5.
     #[error("a number is out of its type's range")]
     OutOfRange,
+    /// A structure has another number of values than of fields, no member of a union
+    /// has the tag, or a union's value does not fit the member: 6.
+    #[error("a child is missing, too many, or does not fit")]
+    BadChild,
+    /// A value does not fit its type, or bytes are no text: 7.
+    #[error("the value does not fit its type")]
+    BadScalar,
     /// The type of a scalar in it is refused: 9.
     #[error("a type is refused: {0}")]
     BadDType(TypeRefusal),
@@ -71,6 +87,32 @@ impl From<ProtoError> for ScalarWireError {
             ProtoError::BadMessage => ScalarWireError::BadMessage,
             ProtoError::TooDeep => ScalarWireError::TooDeep,
             ProtoError::OutOfRange => ScalarWireError::OutOfRange,
+        }
+    }
+}
+
+impl From<ScalarError> for ScalarWireError {
+    ghost use Rattle.vx_scalar_wire.specs.Writing.{refusal_of_scalar};
+
+    ghost from_gives = { λ s e. e ≡ refusal_of_scalar s };
+
+    fn from(error: ScalarError) -> ScalarWireError {
+        match error {
+            ScalarError::OutOfMemory => ScalarWireError::OutOfMemory,
+            ScalarError::BadScalar => ScalarWireError::BadScalar,
+        }
+    }
+}
+
+impl From<TypeError> for ScalarWireError {
+    ghost use Rattle.vx_scalar_wire.specs.Writing.{refusal_of_type};
+
+    ghost from_gives = { λ t e. e ≡ refusal_of_type t };
+
+    fn from(error: TypeError) -> ScalarWireError {
+        match error {
+            TypeError::OutOfMemory => ScalarWireError::OutOfMemory,
+            _ => ScalarWireError::BadScalar,
         }
     }
 }

@@ -6,6 +6,7 @@ mod kinds;
 mod messages;
 mod nans;
 pub mod pb;
+mod reading;
 mod writing;
 
 pub use error::{ScalarWireError, TypeRefusal};

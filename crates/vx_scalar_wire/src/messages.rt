@@ -6,7 +6,10 @@ ghost use Rattle.vx_proto.specs.Written.{written, nested};
 ghost use Rattle.vx_type_wire.specs.Known.{ExtMeaning, IsKnown};
 ghost use Rattle.vx_types.specs.Fits.{Fits};
 ghost use Rattle.vx_types.specs.Typ.{Typ};
+ghost use Rattle.vx_types.specs.Seen.{typ};
 ghost use Rattle.vx_types.specs.Well.{IsWell};
+ghost use Rattle.vx_type_wire.specs.Session.{ext_meaning};
+ghost use Rattle.vx_scalar_wire.specs.Answers.{GivesType};
 ghost use Rattle.vx_scalar_wire.specs.Reading.{ReadsValue, ReadsScalar, ShowsValue, IsKnownValue};
 ghost use Rattle.vx_scalars.specs.Seen.{seen};
 ghost use Rattle.vx_scalar_wire.specs.ScalarMessage.{scalar_lists, value_message, scalar_message};
@@ -15,10 +18,13 @@ ghost use Rattle.vx_scalar_wire.specs.Writing.{Writes, IsUnwritten, IsUnwrittenB
 
 use crate::error::ScalarWireError;
 use crate::pb;
+use crate::reading::{MOST_LEVELS, scalar_in, value_in};
 use crate::writing::{scalar_slots, value_slots};
 use std::alloc::Global;
 use vx_proto::{Blob, Message, PlainMessage};
 use vx_scalars::{Scalar, ScalarValue};
+use vx_type_wire::{DTypeExt, ExtSession, TypeWireError, pb as types};
+use vx_types::DType;
 
 /// A value into its message.
 pub trait ScalarValueExt: Sized {
@@ -27,6 +33,22 @@ pub trait ScalarValueExt: Sized {
 
     /// The bytes of that message.
     fn to_proto_bytes(alloc: Global, value: Option<&Self>) -> Result<Blob, ScalarWireError>;
+
+    /// The value, or the null, whose message this is at a type.
+    fn from_proto(
+        alloc: Global,
+        message: &pb::ScalarValue,
+        dtype: &DType,
+        readers: &ExtSession,
+    ) -> Result<Option<Self>, ScalarWireError>;
+
+    /// The value, or the null, whose message these bytes are at a type.
+    fn from_proto_bytes(
+        alloc: Global,
+        bytes: &[u8],
+        dtype: &DType,
+        readers: &ExtSession,
+    ) -> Result<Option<Self>, ScalarWireError>;
 }
 
 impl ScalarValueExt for ScalarValue {
@@ -64,12 +86,59 @@ impl ScalarValueExt for ScalarValue {
         let bytes = message.encode_to_vec(alloc)?;
         Ok(bytes)
     }
+
+    /// The value, or the null, whose message this is at a type.
+    fn from_proto(
+        alloc: Global,
+        message: &pb::ScalarValue,
+        dtype: &DType,
+        readers: &ExtSession,
+    ) -> Result<Option<ScalarValue>, ScalarWireError>
+        ensures read { IfOk result (λ x. ReadsValue (ext_meaning (λ b. accepted (b.vtable, b.value)) readers.now) (seen x) (typ dtype.now) message.now) }
+    {
+        message.hold();
+        let Some(slots) = message.slots() else {
+            return Err(ScalarWireError::MissingKind);
+        };
+        let read_type = |message: &types::DType| -> Result<DType, TypeWireError>
+            ensures { GivesType (ext_meaning (λ b. accepted (b.vtable, b.value)) readers.entry.now) message.now result }
+        { DType::from_proto(alloc, message, readers) };
+        value_in(alloc, slots, dtype, &read_type, MOST_LEVELS)
+    }
+
+    /// The value, or the null, whose message these bytes are at a type.
+    fn from_proto_bytes(
+        alloc: Global,
+        bytes: &[u8],
+        dtype: &DType,
+        readers: &ExtSession,
+    ) -> Result<Option<ScalarValue>, ScalarWireError>
+        ensures read { IfOk result (λ x. ShowsValue (ext_meaning (λ b. accepted (b.vtable, b.value)) readers.now) (seen x) (typ dtype.now) bytes.now) }
+    {
+        let message = pb::ScalarValue::decode(alloc, bytes)?;
+        ScalarValue::from_proto(alloc, &message, dtype, readers)
+    }
 }
 
 /// A scalar into its message.
 pub trait ScalarExt: Sized {
     /// The message of the scalar.
     fn to_proto(&self, alloc: Global) -> Result<pb::Scalar, ScalarWireError>;
+
+    /// The scalar whose message this is.
+    fn from_proto(
+        alloc: Global,
+        message: &pb::Scalar,
+        readers: &ExtSession,
+    ) -> Result<Self, ScalarWireError>;
+
+    /// The scalar of a type whose value's message this is.
+    fn from_proto_value(
+        alloc: Global,
+        message: &pb::ScalarValue,
+        dtype: &DType,
+        readers: &ExtSession,
+    ) -> Result<Self, ScalarWireError>;
 }
 
 impl ScalarExt for Scalar {
@@ -83,6 +152,39 @@ impl ScalarExt for Scalar {
         self.hold();
         let slots = scalar_slots(alloc, self)?;
         Ok(PlainMessage::new(slots))
+    }
+
+    /// The scalar whose message this is.
+    fn from_proto(
+        alloc: Global,
+        message: &pb::Scalar,
+        readers: &ExtSession,
+    ) -> Result<Scalar, ScalarWireError>
+        ensures read { IfOk result (λ x. ReadsScalar (ext_meaning (λ b. accepted (b.vtable, b.value)) readers.now) x message.now) }
+    {
+        message.hold();
+        let Some(slots) = message.slots() else {
+            return Err(ScalarWireError::MissingKind);
+        };
+        let read_type = |message: &types::DType| -> Result<DType, TypeWireError>
+            ensures { GivesType (ext_meaning (λ b. accepted (b.vtable, b.value)) readers.entry.now) message.now result }
+        { DType::from_proto(alloc, message, readers) };
+        scalar_in(alloc, slots, &read_type, MOST_LEVELS)
+    }
+
+    /// The scalar of a type whose value's message this is.
+    fn from_proto_value(
+        alloc: Global,
+        message: &pb::ScalarValue,
+        dtype: &DType,
+        readers: &ExtSession,
+    ) -> Result<Scalar, ScalarWireError>
+        ensures dtype { IfOk result (λ x. x.dtype ≡ typ dtype.now) }
+        ensures read { IfOk result (λ x. ReadsValue (ext_meaning (λ b. accepted (b.vtable, b.value)) readers.now) x.value (typ dtype.now) message.now) }
+        ensures fits { IfOk result (λ x. Fits x.value (typ dtype.now)) }
+    {
+        let value = ScalarValue::from_proto(alloc, message, dtype, readers)?;
+        Ok(Scalar::try_new(dtype.clone(alloc)?, value)?)
     }
 }
 

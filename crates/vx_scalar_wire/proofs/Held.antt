@@ -1,0 +1,154 @@
+-- What the form of a message says of the members that a reader takes out of it.
+use Rattle.std.proofs.Common.{◌≡◌, ◌∙◌, ◌<◌, ◌⊎◌, ℕ, List, [], ◌∷◌, length, get_or, Some, refl, sym, ap, subst, inl, inr, arith}
+use Rattle.std.specs.Global.{Vec}
+use Rattle.vx_proto.specs.declared.element.Element.{Element}
+use Rattle.vx_proto.specs.declared.element.Element.TheViews.{Message as as_a_message}
+use Rattle.vx_proto.specs.declared.schema.Kind.{Kind}
+use Rattle.vx_proto.specs.declared.schema.Kind.TheVariants.{Scalar, Message}
+use Rattle.vx_proto.specs.declared.schema.ScalarKind.TheVariants.{Uint32, Flag, Enum}
+use Rattle.vx_proto.specs.Form.{FormContent, FormEntries, FormSlots, HasForm}
+use Rattle.vx_proto.specs.Parts.{entries_in, number_in, message_in, message_of}
+use Rattle.vx_proto.specs.Repeated.{nested_member, seen}
+use Rattle.vx_proto.specs.Schema.{field, kind_in, nested, plain}
+use Rattle.vx_proto.specs.Value.{Content, Entry, Value, number, message, slots_of, view, entries_view, value_view}
+use Rattle.vx_proto.proofs.LawsOfForms.{HoldsMember, HoldsOne, at_most_one, slots_of_form, same_message, same_number, same_others, same_slot}
+use Rattle.vx_proto.proofs.LawsOfRepeated.{holds_message, shows_message}
+use Rattle.vx_proto.proofs.LawsOfSlots.{Has, nested_holds, plain_holds, two_of}
+use Rattle.vx_proto.proofs.LawsOfViews.{entry_form, message_is, some_value, no_value}
+use Rattle.vx_proto.proofs.Longer.{same_form}
+use Rattle.vx_type_wire.specs.TypeMessage.{type_lists, type_lists_lawful, one_number, one_message}
+use Rattle.vx_type_wire.specs.Known.{ExtMeaning}
+use Rattle.vx_types.specs.Typ.{Typ}
+use Rattle.vx_types.specs.Value as V
+use Rattle.vx_scalar_wire.specs.Answers.{lone_member}
+use Rattle.vx_scalar_wire.specs.Reading.{Holds, ReadsValue}
+use Rattle.vx_scalar_wire.specs.ScalarMessage.{value_members, scalar_list, value_list, list_list, union_list, scalar_lists}
+
+abbrev F : ℕ → Value → Type 0
+F = HasForm scalar_lists
+
+-- ---- the one member of a value's message
+
+none_left : (kept rest : List Entry) (g : ℕ) (c : Content) → (kept ≡ []) ⊎ HoldsOne F value_members kept → kept ≡ (g, c) ∷ rest → rest ≡ []
+none_left kept rest g c (inl h) e = absurd (cc)
+none_left kept rest g c (inr h) e = sym (same_others h.name g h.element c [] rest (sym h.is ∙ e))
+
+-- A message whose slot has a member has this one alone.
+pub lone : (m : Value) (g : ℕ) (c : Content) (rest : List Entry) → HasForm scalar_lists 15 m → entries_in m 0 ≡ (g, c) ∷ rest → m ≡ lone_member g c
+lone m g c rest f e =
+    let s : FormSlots F value_list m = slots_of_form scalar_lists 15 m f in
+    let k : s.0 ≡ (g, c) ∷ rest = sym (ap (λ (v : Value). entries_in v 0) s.2) ∙ e in
+    let none = none_left s.0 rest g c (at_most_one F value_members s.0 s.3 s.4) k in
+    s.2 ∙ ap (λ (es : List Entry). es ∷ s.1) k ∙ ap (λ (es : List Entry). ((g, c) ∷ es) ∷ s.1) none ∙ ap (λ (v : Value). ((g, c) ∷ []) ∷ v) s.5
+
+-- One whose slot has none is empty.
+pub vacant : (m : Value) → HasForm scalar_lists 15 m → entries_in m 0 ≡ [] → m ≡ [] ∷ []
+vacant m f e =
+    let s : FormSlots F value_list m = slots_of_form scalar_lists 15 m f in
+    let k : s.0 ≡ [] = sym (ap (λ (v : Value). entries_in v 0) s.2) ∙ e in
+    s.2 ∙ ap (λ (es : List Entry). es ∷ s.1) k ∙ ap (λ (v : Value). [] ∷ v) s.5
+
+one_kind : (k l : Kind) → Some k ≡ Some l → k ≡ l
+one_kind k l e = cc
+
+-- The member holds what its kind can.
+content_at : (g : ℕ) (c : Content) (k : Kind) → kind_in value_members g ≡ Some k → HasForm scalar_lists 15 (lone_member g c) → FormContent F k c
+content_at g c k e f =
+    let s : FormSlots F value_list (lone_member g c) = slots_of_form scalar_lists 15 (lone_member g c) f in
+    let same : (g, c) ∷ [] ≡ s.0 = same_slot ((g, c) ∷ []) s.0 [] s.1 s.2 in
+    let h : FormEntries F value_members ((g, c) ∷ []) = subst (λ (es : List Entry). FormEntries F value_members es) (sym same) s.4 in
+    subst (λ (l : Kind). FormContent F l c) (one_kind h.0.0 k (sym h.0.1 ∙ e)) h.0.2
+
+pub null_number : (n : ℕ) → HasForm scalar_lists 15 (lone_member 1 (number n)) → n ≡ 0
+null_number n f = let h : FormContent F (Scalar (Enum 1)) (number n) = content_at 1 (number n) (Scalar (Enum 1)) refl f in omega (arith, same_number n h.0 h.1, h.2)
+
+pub flag_below : (n : ℕ) → HasForm scalar_lists 15 (lone_member 2 (number n)) → n < 2
+flag_below n f = let h : FormContent F (Scalar Flag) (number n) = content_at 2 (number n) (Scalar Flag) refl f in omega (arith, same_number n h.0 h.1, h.2)
+
+pub null_held : (g n : ℕ) → g ≡ 1 → HasForm scalar_lists 15 (lone_member g (number n)) → Holds (lone_member g (number n)) 1 (number 0)
+null_held g n e f =
+    let none : n ≡ 0 = null_number n (subst (λ (k : ℕ). HasForm scalar_lists 15 (lone_member k (number n))) e f) in
+    ap (λ (k : ℕ). lone_member k (number n)) e ∙ ap (λ (x : ℕ). lone_member 1 (number x)) none
+
+-- A value is read of a member, whichever name its number has.
+pub held_under : (s : ExtMeaning) (v : V.Value) (d : Typ) (g k : ℕ) (c : Content) → g ≡ k → ReadsValue s v d (lone_member k c) → ReadsValue s v d (lone_member g c)
+held_under s v d g k c e r = subst (λ (j : ℕ). ReadsValue s v d (lone_member j c)) (sym e) r
+
+-- A member that is a message, as the code holds it.
+pub message_held : (m : Value) (x : ℕ × Element) (parts : Vec (Vec (ℕ × Element))) (items : List (Vec (ℕ × Element))) → m ≡ lone_member x.0 (view x.1) → x.1 ≡ as_a_message parts
+    → items ≡ parts.items → m ≡ lone_member x.0 (message (slots_of (value_view items)))
+message_held m x parts items e is same = e ∙ ap (λ (c : Content). lone_member x.0 c) (ap view is ∙ shows_message parts (value_view items) (ap value_view (sym same)))
+
+-- A message in it has its form.
+pub held_form : (g place : ℕ) (w : Value) → kind_in value_members g ≡ Some (Message place) → HasForm scalar_lists 15 (lone_member g (message (slots_of w))) → HasForm scalar_lists place w
+held_form g place w e f =
+    let h : FormContent F (Message place) (message (slots_of w)) = content_at g (message (slots_of w)) (Message place) e f in
+    subst (λ (v : Value). HasForm scalar_lists place v) (sym (same_message w h.0 h.1)) h.2
+
+-- What a slot shows: nothing, or a first member and others.
+pub none_view : (es : List (ℕ × Element)) → length es < 1 → entries_view es ≡ []
+none_view [] h = refl
+none_view (x ∷ es) h = absurd (omega arith)
+
+pub first_view : (es : List (ℕ × Element)) (x : ℕ × Element) → 0 < length es → x ≡ get_or es 0 x → (rest : List Entry) × (entries_view es ≡ (x.0, view x.1) ∷ rest)
+first_view [] x h e = absurd (omega arith)
+first_view (y ∷ es) x h e = (entries_view es, ap (λ (z : ℕ × Element). seen z ∷ entries_view es) (sym e))
+
+-- ---- the elements of a list's message
+
+pub list_is : (m : Value) → HasForm scalar_lists 16 m → m ≡ entries_in m 0 ∷ []
+list_is m f =
+    let s : FormSlots F list_list m = slots_of_form scalar_lists 16 m f in
+    let k : s.0 ≡ entries_in m 0 = sym (ap (λ (v : Value). entries_in v 0) s.2) in
+    s.2 ∙ ap (λ (es : List Entry). es ∷ s.1) k ∙ ap (λ (v : Value). entries_in m 0 ∷ v) s.5
+
+list_formed : (m : Value) → HasForm scalar_lists 16 m → FormEntries F (nested_member 1 15 ∷ []) (entries_in m 0)
+list_formed m f =
+    let s : FormSlots F list_list m = slots_of_form scalar_lists 16 m f in
+    subst (λ (es : List Entry). FormEntries F (nested_member 1 15 ∷ []) es) (sym (ap (λ (v : Value). entries_in v 0) s.2)) s.4
+
+pub element : (m w : Value) (es : List (ℕ × Element)) (i : ℕ) (x : ℕ × Element) → HasForm scalar_lists 16 m → entries_view es ≡ entries_in m 0 → i < length es → x ≡ get_or es i x
+    → Some w ≡ message_of (view (get_or es i x).1) → (seen x ≡ (1, message (slots_of w))) × HasForm scalar_lists 15 w
+element m w es i x f e lt is held =
+    let all : FormEntries F (nested_member 1 15 ∷ []) (entries_view es) = subst (λ (ys : List Entry). FormEntries F (nested_member 1 15 ∷ []) ys) (sym e) (list_formed m f) in
+    let h = holds_message F 1 15 (x.0, view x.1) (entry_form F (nested_member 1 15 ∷ []) es i x lt is all) in
+    let same : w ≡ h.value = some_value w h.value (held ∙ ap (λ (z : ℕ × Element). message_of (view z.1)) (sym is) ∙ message_is (view x.1) h.value (ap (λ (y : Entry). y.1) h.is)) in
+    (h.is ∙ ap (λ (v : Value). (1, message (slots_of v))) (sym same), subst (λ (v : Value). HasForm scalar_lists 15 v) (sym same) h.form)
+
+-- ---- the parts of a union's message and of a scalar's
+
+nothing_in : (w : Value) (es : List Entry) → es ≡ [] → Some w ≡ message_in es → ⊥
+nothing_in w es e held = no_value w (sym (held ∙ ap message_in e))
+
+nested_part : (n place : ℕ) (es : List Entry) (w : Value) → Has F (nested n place) es → Some w ≡ message_in es → (es ≡ one_message n w) × F place w
+nested_part n place es w h held = go (nested_holds F n place es h)
+  where
+    go : (es ≡ []) ⊎ HoldsMember F (field n (Message place)) es → (es ≡ one_message n w) × F place w
+    go (inl e) = absurd (nothing_in w es e held)
+    go (inr k) =
+        let same : w ≡ k.form.0 = some_value w k.form.0 (held ∙ ap message_in k.is ∙ message_is k.element k.form.0 k.form.1) in
+        (k.is ∙ ap (λ (c : Content). (n, c) ∷ []) k.form.1 ∙ ap (λ (v : Value). one_message n v) (sym same), subst (λ (v : Value). F place v) (sym same) k.form.2)
+
+some_number : (a b : ℕ) → Some a ≡ Some b → a ≡ b
+some_number a b e = cc
+
+pub union_parts : (m w : Value) (n : ℕ) → HasForm scalar_lists 17 m → Some n ≡ number_in (entries_in m 0) → Some w ≡ message_in (entries_in m 1)
+    → (m ≡ one_number 1 n ∷ one_message 2 w ∷ []) × HasForm scalar_lists 15 w
+union_parts m w n f a b =
+    let t = two_of F (plain 1 Uint32) (nested 2 15) m (slots_of_form scalar_lists 17 m f) in
+    let k = plain_holds F 1 Uint32 t.a t.has_a in
+    let number_is : n ≡ k.form.0 = some_number n k.form.0 (a ∙ ap (λ (v : Value). number_in (entries_in v 0)) t.is ∙ ap number_in (k.is ∙ ap (λ (c : Content). (1, c) ∷ []) k.form.1)) in
+    let p = nested_part 2 15 t.b w t.has_b (b ∙ ap (λ (v : Value). message_in (entries_in v 1)) t.is) in
+    let first : t.a ≡ one_number 1 n = k.is ∙ ap (λ (c : Content). (1, c) ∷ []) k.form.1 ∙ ap (λ (x : ℕ). one_number 1 x) (sym number_is) in
+    (t.is ∙ ap (λ (es : List Entry). es ∷ t.b ∷ []) first ∙ ap (λ (es : List Entry). one_number 1 n ∷ es ∷ []) p.0, p.1)
+
+pub scalar_parts : (m d w : Value) → HasForm scalar_lists 14 m → Some d ≡ message_in (entries_in m 0) → Some w ≡ message_in (entries_in m 1)
+    → (m ≡ one_message 1 d ∷ one_message 2 w ∷ []) × HasForm type_lists 0 d × HasForm scalar_lists 15 w
+scalar_parts m d w f a b =
+    let t = two_of F (nested 1 0) (nested 2 15) m (slots_of_form scalar_lists 14 m f) in
+    let p = nested_part 1 0 t.a d t.has_a (a ∙ ap (λ (v : Value). message_in (entries_in v 0)) t.is) in
+    let q = nested_part 2 15 t.b w t.has_b (b ∙ ap (λ (v : Value). message_in (entries_in v 1)) t.is) in (
+      t.is ∙ ap (λ (es : List Entry). es ∷ t.b ∷ []) p.0 ∙ ap (λ (es : List Entry). one_message 1 d ∷ es ∷ []) q.0,
+      (same_form type_lists (scalar_list ∷ value_list ∷ list_list ∷ union_list ∷ []) 0 d type_lists_lawful (omega arith)).1 p.1,
+      q.1,
+    )

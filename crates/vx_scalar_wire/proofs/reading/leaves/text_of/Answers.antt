@@ -1,0 +1,5 @@
+use Rattle.std.proofs.lemmas.Str.{is_utf8-from_IsUtf8}
+use Rattle.vx_scalar_wire.proofs.reading.leaves.text_of.Goals as goal
+
+pub returns-in_ok-new-in-Ok-clause-is_text : goal.returns-in_ok-new-in-Ok-clause-is_text
+returns-in_ok-new-in-Ok-clause-is_text c = is_utf8-from_IsUtf8 c.args.bytes.now c.in-Ok.ensures.cases.1

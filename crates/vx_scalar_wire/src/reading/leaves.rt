@@ -1,0 +1,90 @@
+//! What the octets of a member are read as.
+
+ghost use Rattle.std.specs.Prelude.{◌≡◌, ◌≤◌, ◌⊎◌, length, take, IfOk};
+ghost use Rattle.vx_proto.specs.Value.{octets as some_octets};
+ghost use Rattle.vx_type_wire.specs.Known.{ExtMeaning};
+ghost use Rattle.vx_types.specs.Content.{IsText};
+ghost use Rattle.vx_types.specs.Seen.{typ};
+ghost use Rattle.vx_types.specs.Value as V;
+ghost use Rattle.vx_types.specs.Well.{IsDecimalInRange};
+ghost use Rattle.vx_scalars.specs.Decimals.{decimal_of as decimal_view};
+ghost use Rattle.vx_scalars.specs.Seen.{value_of};
+ghost use Rattle.vx_scalar_wire.specs.Answers.{lone_member};
+ghost use Rattle.vx_scalar_wire.specs.Reading.{ReadsValue};
+ghost use Rattle.vx_scalar_wire.specs.ScalarMessage.{decimal_bytes};
+
+use crate::error::ScalarWireError;
+use std::alloc::Global;
+use vx_scalars::{DecimalValue, ScalarValue, bare_dtype};
+use vx_types::{Blob, DType, Name};
+
+/// What a string, or bytes, are read as at a type: a text where they are one, or
+/// bytes.
+pub fn text_value(
+    alloc: Global,
+    number: u32,
+    bytes: &[u8],
+    dtype: &DType,
+) -> Result<ScalarValue, ScalarWireError>
+    requires { (number ≡ 7) ⊎ (number ≡ 8) }
+    ensures read { (s : ExtMeaning) → IfOk result (λ x. ReadsValue s (value_of x) (typ dtype.now) (lone_member number (some_octets bytes.now))) }
+{
+    match bare_dtype(dtype) {
+        DType::Utf8(_) => text_of(alloc, bytes),
+        DType::Binary(_) => Ok(ScalarValue::Binary(Blob::copy_from(alloc, bytes)?)),
+        _ => Err(ScalarWireError::KindMismatch),
+    }
+}
+
+/// What bytes are read as at a type: bytes, a text where they are one, or a
+/// decimal's integer by how many they are.
+pub fn bytes_value(
+    alloc: Global,
+    bytes: &[u8],
+    dtype: &DType,
+) -> Result<ScalarValue, ScalarWireError>
+    ensures read { (s : ExtMeaning) → IfOk result (λ x. ReadsValue s (value_of x) (typ dtype.now) (lone_member 8 (some_octets bytes.now))) }
+{
+    match bare_dtype(dtype) {
+        DType::Decimal(_, _) => Ok(ScalarValue::Decimal(decimal_of(bytes)?)),
+        _ => text_value(alloc, 8, bytes, dtype),
+    }
+}
+
+// The text that bytes are.
+fn text_of(alloc: Global, bytes: &[u8]) -> Result<ScalarValue, ScalarWireError>
+    ensures same { IfOk result (λ x. value_of x ≡ V.lone (V.utf8 bytes.now)) }
+    ensures is_text { IfOk result (λ _. IsText bytes.now) }
+{
+    match std::str::from_utf8(bytes) {
+        Ok(text) => Ok(ScalarValue::Utf8(Name::new(alloc, text)?)),
+        Err(_) => Err(ScalarWireError::BadScalar),
+    }
+}
+
+// The decimal's integer that has these bytes, the lowest first.
+fn decimal_of(bytes: &[u8]) -> Result<DecimalValue, ScalarWireError>
+    ensures same { IfOk result (λ x. decimal_bytes (decimal_view x) ≡ bytes.now) }
+    ensures fits { IfOk result (λ x. IsDecimalInRange (decimal_view x)) }
+{
+    let decimal = match bytes.len() {
+        1 => DecimalValue::I8(bytes[0].cast_signed()),
+        2 => DecimalValue::I16(i16::from_le_bytes(first(bytes))),
+        4 => DecimalValue::I32(i32::from_le_bytes(first(bytes))),
+        8 => DecimalValue::I64(i64::from_le_bytes(first(bytes))),
+        16 => DecimalValue::I128(i128::from_le_bytes(first(bytes))),
+        32 => DecimalValue::I256(first(bytes)),
+        _ => return Err(ScalarWireError::OutOfRange),
+    };
+    Ok(decimal)
+}
+
+// So many bytes from the front.
+fn first<const N: usize>(bytes: &[u8]) -> [u8; N]
+    requires { N ≤ length bytes.now }
+    ensures { result ≡ take N bytes.now }
+{
+    let mut front = [0; N];
+    front.copy_from_slice(&bytes[..N]);
+    front
+}

@@ -1,0 +1,181 @@
+//! What the number of a member is read as.
+
+ghost use Rattle.std.specs.Prelude.{◌≡◌, ◌<◌, ℕ, IfOk, IfErr, Some};
+ghost use Rattle.vx_types.specs.Fits.{IsOf, bare};
+ghost use Rattle.vx_types.specs.Numbers.{kind_of};
+ghost use Rattle.vx_types.specs.Well.{IsInRange};
+ghost use Rattle.vx_types.specs.declared.ptype.PType.{PType};
+ghost use Rattle.vx_types.specs.declared.value.PValue.{PValue};
+ghost use Rattle.vx_types.specs.Value as V;
+ghost use Rattle.vx_proto.specs.Signed.{zigzag};
+ghost use Rattle.std.specs.Prelude.{pos};
+ghost use Rattle.vx_proto.specs.Value.{number as a_number};
+ghost use Rattle.vx_type_wire.specs.Known.{ExtMeaning};
+ghost use Rattle.vx_types.specs.Seen.{typ};
+ghost use Rattle.vx_scalars.specs.Seen.{value_of, seen};
+ghost use Rattle.vx_proto.specs.Form.{HasForm};
+ghost use Rattle.vx_scalar_wire.specs.Reading.{ReadsValue};
+ghost use Rattle.vx_scalar_wire.specs.ScalarMessage.{scalar_lists};
+ghost use Rattle.vx_scalar_wire.specs.Answers.{GivesValue, integer_of, lone_member};
+
+use crate::error::ScalarWireError;
+use vx_proto::unzigzag;
+use vx_scalars::{ScalarValue, bare_dtype};
+use vx_types::{DType, PType, PValue};
+
+/// What the number of a member is read as at a type: null, a flag, an integer or
+/// a float by its bits.
+pub fn number_value(
+    number: u32,
+    value: u64,
+    dtype: &DType,
+) -> Result<Option<ScalarValue>, ScalarWireError>
+    ensures read { (s : ExtMeaning) → HasForm scalar_lists 15 (lone_member number (a_number value))
+        → IfOk result (λ x. ReadsValue s (seen x) (typ dtype.now) (lone_member number (a_number value))) }
+{
+    match number {
+        1 => Ok(None),
+        2 => Ok(Some(flag_value(value, dtype)?)),
+        3 => Ok(Some(ScalarValue::Primitive(signed(unzigzag(value), dtype)?))),
+        4 => Ok(Some(ScalarValue::Primitive(unsigned(value, dtype)?))),
+        5 => Ok(Some(ScalarValue::Primitive(single(value, dtype)?))),
+        6 => Ok(Some(ScalarValue::Primitive(double(value, dtype)?))),
+        10 => Ok(Some(ScalarValue::Primitive(half(value, dtype)?))),
+        _ => Err(ScalarWireError::MissingKind),
+    }
+}
+
+// A flag.
+#[tactic(auto, using(crate::proofs::Leaves::flag_read, crate::proofs::Leaves::flag_unread))]
+fn flag_value(value: u64, dtype: &DType) -> Result<ScalarValue, ScalarWireError>
+    ensures { (s : ExtMeaning) (most : ℕ) → value < 2 → GivesValue value_of result s most (typ dtype.now) (lone_member 2 (a_number value)) }
+{
+    match bare_dtype(dtype) {
+        DType::Bool(_) => Ok(ScalarValue::Bool(value != 0)),
+        _ => Err(ScalarWireError::KindMismatch),
+    }
+}
+
+// The kind of the numbers of a type.
+#[tactic(auto, using(crate::proofs::Leaves::not_numbers))]
+fn kind_at(dtype: &DType) -> Result<PType, ScalarWireError>
+    ensures ok { IfOk result (λ p. IsOf p (bare (typ dtype.now))) }
+    ensures err { IfErr result (λ e. (e ≡ ScalarWireError.KindMismatch) × ((p : PType) → IsOf p (bare (typ dtype.now)) → ⊥)) }
+{
+    match bare_dtype(dtype) {
+        DType::Primitive(kind, _) => Ok(*kind),
+        _ => Err(ScalarWireError::KindMismatch),
+    }
+}
+
+// An integer that stands as one with sign.
+#[tactic(auto, using(crate::proofs::Leaves::signed_given, crate::proofs::Leaves::no_kind))]
+fn signed(value: i64, dtype: &DType) -> Result<PValue, ScalarWireError>
+    ensures { (s : ExtMeaning) (most : ℕ) → GivesValue (λ n. V.lone (V.number n)) result s most (typ dtype.now) (lone_member 3 (a_number (zigzag value))) }
+{
+    match kind_at(dtype) {
+        Ok(kind) => integer(i128::from(value), kind),
+        Err(error) => Err(error),
+    }
+}
+
+// An integer that stands as one without sign, or the bits of a float of 16.
+#[tactic(auto, using(crate::proofs::Leaves::no_kind))]
+fn unsigned(value: u64, dtype: &DType) -> Result<PValue, ScalarWireError>
+    ensures { (s : ExtMeaning) (most : ℕ) → GivesValue (λ n. V.lone (V.number n)) result s most (typ dtype.now) (lone_member 4 (a_number value)) }
+{
+    match kind_at(dtype) {
+        Ok(kind) => match kind {
+            PType::F16 => half_of(value),
+            _ => integer(i128::from(value), kind),
+        },
+        Err(error) => Err(error),
+    }
+}
+
+// A float of 16 bits.
+#[tactic(auto, using(crate::proofs::Leaves::no_kind))]
+fn half(value: u64, dtype: &DType) -> Result<PValue, ScalarWireError>
+    ensures { (s : ExtMeaning) (most : ℕ) → GivesValue (λ n. V.lone (V.number n)) result s most (typ dtype.now) (lone_member 10 (a_number value)) }
+{
+    match kind_at(dtype) {
+        Ok(kind) => match kind {
+            PType::F16 => half_of(value),
+            _ => Err(ScalarWireError::KindMismatch),
+        },
+        Err(error) => Err(error),
+    }
+}
+
+// The float of 16 bits that has these.
+fn half_of(value: u64) -> Result<PValue, ScalarWireError>
+    ensures same { IfOk result (λ n. n ≡ PValue.F16 value) }
+    ensures fits { IfOk result (λ n. IsInRange n) }
+    ensures none { IfErr result (λ e. IsInRange (PValue.F16 value) → ⊥) }
+{
+    if value > 0xffff {
+        return Err(ScalarWireError::OutOfRange);
+    }
+    Ok(PValue::F16(value as u16))
+}
+
+// A float of 32 bits.
+#[tactic(auto, using(crate::proofs::Leaves::no_kind))]
+fn single(value: u64, dtype: &DType) -> Result<PValue, ScalarWireError>
+    ensures { (s : ExtMeaning) (most : ℕ) → GivesValue (λ n. V.lone (V.number n)) result s most (typ dtype.now) (lone_member 5 (a_number value)) }
+{
+    match kind_at(dtype) {
+        Ok(kind) => match kind {
+            PType::F32 => single_of(value),
+            _ => Err(ScalarWireError::KindMismatch),
+        },
+        Err(error) => Err(error),
+    }
+}
+
+// The float of 32 bits that has these.
+fn single_of(value: u64) -> Result<PValue, ScalarWireError>
+    ensures same { IfOk result (λ n. n ≡ PValue.F32 value) }
+    ensures fits { IfOk result (λ n. IsInRange n) }
+    ensures none { IfErr result (λ e. IsInRange (PValue.F32 value) → ⊥) }
+{
+    if value > 0xffff_ffff {
+        return Err(ScalarWireError::OutOfRange);
+    }
+    Ok(PValue::F32(value as u32))
+}
+
+// A float of 64 bits.
+#[tactic(auto, using(crate::proofs::Leaves::no_kind))]
+fn double(value: u64, dtype: &DType) -> Result<PValue, ScalarWireError>
+    ensures { (s : ExtMeaning) (most : ℕ) → GivesValue (λ n. V.lone (V.number n)) result s most (typ dtype.now) (lone_member 6 (a_number value)) }
+{
+    match kind_at(dtype) {
+        Ok(kind) => match kind {
+            PType::F64 => Ok(PValue::F64(value)),
+            _ => Err(ScalarWireError::KindMismatch),
+        },
+        Err(error) => Err(error),
+    }
+}
+
+// An integer as a number of a kind.
+fn integer(value: i128, kind: PType) -> Result<PValue, ScalarWireError>
+    ensures kind { IfOk result (λ n. kind_of n ≡ kind) }
+    ensures same { IfOk result (λ n. integer_of n ≡ Some value) }
+    ensures fits { IfOk result (λ n. IsInRange n) }
+    ensures none { IfErr result (λ e. (n : PValue) → kind_of n ≡ kind → IsInRange n → integer_of n ≡ Some value → ⊥) }
+{
+    match kind {
+        PType::U8 if 0 <= value && value < 1 << 8 => Ok(PValue::U8(value as u8)),
+        PType::U16 if 0 <= value && value < 1 << 16 => Ok(PValue::U16(value as u16)),
+        PType::U32 if 0 <= value && value < 1 << 32 => Ok(PValue::U32(value as u32)),
+        PType::U64 if 0 <= value && value < 1 << 64 => Ok(PValue::U64(value as u64)),
+        PType::I8 if -(1 << 7) <= value && value < 1 << 7 => Ok(PValue::I8(value as i8)),
+        PType::I16 if -(1 << 15) <= value && value < 1 << 15 => Ok(PValue::I16(value as i16)),
+        PType::I32 if -(1 << 31) <= value && value < 1 << 31 => Ok(PValue::I32(value as i32)),
+        PType::I64 if -(1 << 63) <= value && value < 1 << 63 => Ok(PValue::I64(value as i64)),
+        PType::F16 | PType::F32 | PType::F64 => Err(ScalarWireError::KindMismatch),
+        _ => Err(ScalarWireError::OutOfRange),
+    }
+}
