@@ -10,7 +10,7 @@ use vx_proto::{Message, ProtoError};
 use vx_type_wire::ExtSession;
 use vx_types::{Blob, DType, Id, Nullability, PType};
 
-fn head_of(
+pub(crate) fn head_of(
     alloc: Global,
     dtype: DType,
     len: usize,
@@ -93,7 +93,7 @@ fn build_leaf(
 }
 
 // The metadata of a node without children, once it is built.
-fn built_metadata(
+pub(crate) fn built_metadata(
     alloc: Global,
     encoding: Encoding,
     head: ArrayHead,

@@ -8,6 +8,8 @@ mod bools;
 #[cfg(test)]
 mod buffers;
 #[cfg(test)]
+mod decimals;
+#[cfg(test)]
 mod encodings;
 #[cfg(test)]
 mod printed;

@@ -86,12 +86,13 @@ fn is_unread(alloc: Global, text: &str) -> Result<bool, TypeError> {
 }
 
 #[test]
-fn the_shipped_session_reads_and_writes_three_encodings(rt: HostRuntime) -> Result<(), Fail> {
+fn the_shipped_session_reads_and_writes_its_encodings(rt: HostRuntime) -> Result<(), Fail> {
     for (text, encoding) in [
         ("vortex.null", Some(Encoding::Null)),
         ("vortex.primitive", Some(Encoding::Primitive)),
         ("vortex.bool", Some(Encoding::Bool)),
-        ("vortex.decimal", None),
+        ("vortex.decimal", Some(Encoding::Decimal)),
+        ("vortex.list", None),
         ("", None),
     ] {
         assert!(rt; is_shipped_as(rt.alloc(), text, encoding)?, "{text}");

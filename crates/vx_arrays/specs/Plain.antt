@@ -5,8 +5,9 @@ use Rattle.vx_types.specs.Value.{Value, lone}
 use Rattle.vx_types.specs.Value as V
 use Rattle.vx_array_tree.specs.Body as B
 use Rattle.vx_array_tree.specs.Tree.{Head}
+use Rattle.vx_scalars.specs.Decimals.{decimal_of}
 use Rattle.vx_arrays.specs.declared.body.Body.{Body}
-use Rattle.vx_arrays.specs.declared.body.Body.TheVariants.{Null, Primitive, Bool}
+use Rattle.vx_arrays.specs.declared.body.Body.TheVariants.{Null, Primitive, Bool, Decimal}
 use Rattle.vx_arrays.specs.declared.row.RowValue.{RowValue}
 use Rattle.vx_arrays.specs.declared.row.RowValue.TheVariants as R
 
@@ -15,6 +16,7 @@ abbrev pub plain_body : Body → B.Body
 plain_body Null = B.null
 plain_body (Primitive x) = B.primitive x
 plain_body (Bool x) = B.bool x
+plain_body (Decimal x) = B.decimal x
 
 -- A node without its children, by its type, its rows and what its encoding holds.
 abbrev pub head_of : Typ → ℕ → Body → Head
@@ -26,3 +28,4 @@ plain_value R.Null = lone V.null
 plain_value R.Opaque = lone V.opaque
 plain_value (R.Bool b) = lone (V.bool b)
 plain_value (R.Primitive v) = lone (V.number v)
+plain_value (R.Decimal x) = lone (V.decimal (decimal_of x))

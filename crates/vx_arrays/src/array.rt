@@ -149,6 +149,7 @@ impl Array {
             Body::Null => Some(false),
             Body::Primitive(_) => validity_at(self.children.as_slice(), self.len, index),
             Body::Bool(_) => validity_at(self.children.as_slice(), self.len, index),
+            Body::Decimal(_) => validity_at(self.children.as_slice(), self.len, index),
         }
     }
 
@@ -162,6 +163,7 @@ impl Array {
             Body::Null => None,
             Body::Primitive(_) => None,
             Body::Bool(flags) => Some(flags.flag_at(index)),
+            Body::Decimal(_) => None,
         }
     }
 
@@ -188,6 +190,13 @@ impl Array {
                 budget,
             ),
             Body::Bool(flags) => flags.value_at(&self.dtype, self.len, children, index, budget),
+            Body::Decimal(decimals) => decimals.value_at(
+                &self.dtype,
+                self.len,
+                children,
+                index,
+                budget,
+            ),
         }
     }
 

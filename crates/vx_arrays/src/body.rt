@@ -4,6 +4,7 @@ ghost use Rattle.std.specs.Prelude.{◌≡◌, ◌<◌, length, slice_get, Some,
 ghost use Rattle.vx_array_tree.specs.Table.{id_of, encoding_of, buffers_of};
 
 use crate::bool::{BoolArray, BoolData};
+use crate::decimal::{DecimalArray, DecimalData};
 use crate::error::ArrayError;
 use crate::null::NullArray;
 use crate::primitive::{PrimitiveArray, PrimitiveData};
@@ -19,6 +20,8 @@ pub enum Body {
     Primitive(PrimitiveData),
     /// Flags.
     Bool(BoolData),
+    /// Decimals.
+    Decimal(DecimalData),
 }
 
 impl Body {
@@ -32,6 +35,7 @@ impl Body {
             Body::Null => NullArray::ID,
             Body::Primitive(_) => PrimitiveArray::ID,
             Body::Bool(_) => BoolArray::ID,
+            Body::Decimal(_) => DecimalArray::ID,
         }
     }
 
@@ -43,6 +47,7 @@ impl Body {
             Body::Null => 0,
             Body::Primitive(_) => 1,
             Body::Bool(_) => 1,
+            Body::Decimal(_) => 1,
         }
     }
 
@@ -55,6 +60,7 @@ impl Body {
             Body::Null => unreachable!(),
             Body::Primitive(numbers) => numbers.values(),
             Body::Bool(flags) => flags.bits(),
+            Body::Decimal(decimals) => decimals.values(),
         }
     }
 
@@ -67,6 +73,7 @@ impl Body {
             Body::Null => Ok(Body::Null),
             Body::Primitive(numbers) => Ok(Body::Primitive(numbers.clone(alloc)?)),
             Body::Bool(flags) => Ok(Body::Bool(flags.clone(alloc)?)),
+            Body::Decimal(decimals) => Ok(Body::Decimal(decimals.clone(alloc)?)),
         }
     }
 }

@@ -7,6 +7,7 @@
 mod array;
 mod body;
 mod bool;
+mod decimal;
 mod error;
 mod list;
 mod null;
@@ -18,6 +19,7 @@ mod validity;
 pub use array::Array;
 pub use body::Body;
 pub use bool::{BoolArray, BoolData};
+pub use decimal::{DecimalArray, DecimalData};
 pub use error::ArrayError;
 pub use list::Arrays;
 pub use null::NullArray;

@@ -1,11 +1,14 @@
 //! Numbers out of the bytes of a buffer.
 
 ghost use Rattle.std.specs.Prelude.{◌≡◌, ◌≤◌, length};
+ghost use Rattle.vx_types.specs.Decimals.{decimal_width_of};
 ghost use Rattle.vx_types.specs.Numbers.{width_of};
-ghost use Rattle.vx_array_tree.specs.Bytes.{number_at};
+ghost use Rattle.vx_array_tree.specs.Bytes.{number_at, decimal_value};
+ghost use Rattle.vx_scalars.specs.Decimals.{decimal_of};
 
 use bytes::Buf;
-use vx_types::{PType, PValue};
+use vx_scalars::DecimalValue;
+use vx_types::{DecimalType, PType, PValue};
 
 /// The number of this kind that the bytes begin with, its lowest byte first.
 pub(crate) fn number_at(kind: PType, bytes: &[u8]) -> PValue
@@ -25,5 +28,21 @@ pub(crate) fn number_at(kind: PType, bytes: &[u8]) -> PValue
         PType::F16 => PValue::F16(rest.get_u16_le()),
         PType::F32 => PValue::F32(rest.get_u32_le()),
         PType::F64 => PValue::F64(rest.get_u64_le()),
+    }
+}
+
+/// The decimal of this width that the bytes begin with, its lowest byte first.
+pub(crate) fn decimal_at(width: DecimalType, bytes: &[u8]) -> DecimalValue
+    requires { decimal_width_of width ≤ length bytes.now }
+    ensures { decimal_of result ≡ decimal_value width bytes.now }
+{
+    let mut rest = bytes;
+    match width {
+        DecimalType::I8 => DecimalValue::I8(rest.get_i8()),
+        DecimalType::I16 => DecimalValue::I16(rest.get_i16_le()),
+        DecimalType::I32 => DecimalValue::I32(rest.get_i32_le()),
+        DecimalType::I64 => DecimalValue::I64(rest.get_i64_le()),
+        DecimalType::I128 => DecimalValue::I128(rest.get_i128_le()),
+        DecimalType::I256 => DecimalValue::I256(*rest.first_chunk::<32>().unwrap()),
     }
 }

@@ -3,6 +3,7 @@
 ghost use Rattle.std.specs.Prelude.{◌≡◌, ◌≤◌, ◌<◌, IfOk, IfErr, OnOk, OnErr};
 
 use crate::error::ArrayError;
+use vx_scalars::DecimalValue;
 use vx_types::PValue;
 
 /// The value of a row.
@@ -16,6 +17,8 @@ pub enum RowValue {
     Bool(bool),
     /// A number, floats as their bits.
     Primitive(PValue),
+    /// A decimal, by its unscaled integer.
+    Decimal(DecimalValue),
 }
 
 // A value that takes one cell where it is printed, if there is one to spend.

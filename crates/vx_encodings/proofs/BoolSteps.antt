@@ -1,8 +1,7 @@
 -- The steps of nodes of flags.
-use Rattle.std.proofs.Common.{ℕ, ◌≡◌, ◌≤◌, ◌<◌, List, [], ◌∷◌, Option, Some, None, Result, Ok, Err, IfOk, refl, sym, ap, ◌∙◌, subst, inl, length, arith}
+use Rattle.std.proofs.Common.{ℕ, ◌≡◌, ◌≤◌, ◌<◌, List, [], ◌∷◌, Option, Some, None, Result, IfOk, refl, sym, ap, ◌∙◌, subst, length, arith}
 use Rattle.vx_buffer.specs.Buffer.{Buffer}
-use Rattle.vx_trees.specs.Rose.{node, end, count, roses_of}
-use Rattle.vx_trees.proofs.Lists.{count-roses_of}
+use Rattle.vx_trees.specs.Rose.{node, end, roses_of}
 use Rattle.vx_types.specs.Kind.{boolean}
 use Rattle.vx_types.specs.Known.{ExtMeaning}
 use Rattle.vx_types.specs.Seen.{typ}
@@ -16,15 +15,13 @@ use Rattle.vx_array_tree.specs.Encodings.Bools.{plan}
 use Rattle.vx_array_tree.specs.Metadata.{Metadata}
 use Rattle.vx_array_tree.specs.Metadata as M
 use Rattle.vx_array_tree.specs.Place.{Place, before_validity}
-use Rattle.vx_array_tree.specs.Table.{IsShaped, plan_of}
+use Rattle.vx_array_tree.specs.Table.{plan_of}
 use Rattle.vx_array_tree.specs.Tree.{Tree, Trees, places, option_trees}
 use Rattle.vx_arrays.specs.Bools.{bool_tree}
 use Rattle.vx_arrays.specs.Refused.{IsUnmade}
 use Rattle.vx_arrays.specs.declared.error.ArrayError.{ArrayError}
-use Rattle.vx_arrays.specs.declared.error.ArrayError.TheVariants as A
-use Rattle.vx_encodings.proofs.Fitting.{unfit}
 use Rattle.vx_encodings.proofs.Offsets.{bool_metadata, bool_offset, offset_is, ReadsOffset}
-use Rattle.vx_encodings.proofs.Validities.{validity_few}
+use Rattle.vx_encodings.proofs.Singles.{single_children, single_planned, single_unplanned, single_without, single_built, single_refused, single_buffers}
 use Rattle.vx_encodings.specs.BoolMessage.{bool_schema, bool_value}
 use Rattle.vx_encodings.specs.Steps.{IsPlanned, IsUnplanned, IsWithoutPlan, IsBuilt, IsUnbuilt, IsUnread, constructor_error}
 use Rattle.vx_encodings.specs.declared.encoding.Encoding.TheVariants.{Bool}
@@ -39,12 +36,8 @@ plan_is d n k m e = rw e refl
 -- So what is answered for a validity is the answer for the node.
 pub flags_planned : (x : ExtMeaning) (h : ArrayHead) (r : Result (List Place) EncodingError) (o : ℕ) (m : Nullability) → Reads bool_schema 0 h.metadata (bool_value o) → o < 8 → h.dtype ≡ D.Bool m
     → IfOk r (λ ps. before_validity [] h.len h.nchildren ≡ Some ps) → IfOk r (λ ps. IsPlanned x Bool h ps)
-flags_planned x h (Ok ps) o m r lt d e = record {
-  value = M.bool o;
-  metadata = bool_metadata x (typ h.dtype) h.metadata o r lt;
-  plan = plan_is (typ h.dtype) h.len h.nchildren m (ap (λ z. typ z) d) ∙ e;
-}
-flags_planned x h (Err error) o m r lt d e = tt
+flags_planned x h r o m shown lt d e =
+    single_planned x Bool h (M.bool o) (bool_metadata x (typ h.dtype) h.metadata o shown lt) r (plan_is (typ h.dtype) h.len h.nchildren m (ap (λ z. typ z) d)) e
 
 -- Bytes that are no message are no metadata.
 pub flags_unread : (x : ExtMeaning) (error : EncodingError) (h : ArrayHead) → IsUnread error bool_schema 0 h.metadata → IsUnplanned error x Bool h
@@ -64,14 +57,13 @@ flags_past x h o r ge v m =
 
 -- Where nothing is planned the shape does not fit.
 pub flags_unplanned : (x : ExtMeaning) (h : ArrayHead) (o : ℕ) → Reads bool_schema 0 h.metadata (bool_value o) → o < 8 → plan (typ h.dtype) h.len h.nchildren ≡ None → IsUnplanned BadShape x Bool h
-flags_unplanned x h o r lt e = record { value = M.bool o; metadata = bool_metadata x (typ h.dtype) h.metadata o r lt; none = e }
+flags_unplanned x h o r lt e = single_unplanned x Bool h (M.bool o) (bool_metadata x (typ h.dtype) h.metadata o r lt) e
 
 -- Nor does it where no validity is.
 pub flags_without : (error : EncodingError) (x : ExtMeaning) (h : ArrayHead) (o : ℕ) (m : Nullability) → Reads bool_schema 0 h.metadata (bool_value o) → o < 8 → h.dtype ≡ D.Bool m
     → IsWithoutPlan error (before_validity [] h.len h.nchildren) → IsUnplanned error x Bool h
-flags_without OutOfMemory x h o m r lt d e = tt
-flags_without BadMetadata x h o m r lt d e = absurd e
-flags_without BadShape x h o m r lt d e = flags_unplanned x h o r lt (plan_is (typ h.dtype) h.len h.nchildren m (ap (λ z. typ z) d) ∙ e)
+flags_without error x h o m r lt d e =
+    single_without x Bool h (M.bool o) (bool_metadata x (typ h.dtype) h.metadata o r lt) error (plan_is (typ h.dtype) h.len h.nchildren m (ap (λ z. typ z) d)) e
 
 -- What was planned: metadata of an offset, a type of flags, and at most one child, a validity.
 pub record FlagsPlan (h : ArrayHead) (us : Trees) : Type 0 where
@@ -93,16 +85,10 @@ flags_read x OutOfMemory h bs us planned u = tt
 flags_read x BadMetadata h bs us planned u = absurd (u _ (flags_plan planned.0 h us planned.1).read.reads)
 flags_read x BadShape h bs us planned u = absurd u
 
-few : (d : Typ) (n k : ℕ) (us : Trees) → plan d n k ≡ Some (places us) → (count us ≤ 1) × (k ≡ count us)
-few (node (boolean m) end) n k us e = validity_few n k us e
-few _ n k us e = absurd (cc)
-
 -- A planned node of flags has at most one child.
-pub few_children : (h : ArrayHead) (us : Trees) (ts : List Tree) → (y : ExtMeaning) × IsPlanned y Bool h (places us) → roses_of ts ≡ us → length ts ≤ 1
-few_children h us ts planned e =
-    let p = flags_plan planned.0 h us planned.1 in
-    let f = few (typ h.dtype) h.len h.nchildren us p.planned in
-    omega (arith, f.0, count-roses_of ts, ap (λ z. count z) e)
+pub few_children : (h : ArrayHead) (us : Trees) (ts : List Tree) (m : Nullability) → (y : ExtMeaning) × IsPlanned y Bool h (places us) → h.dtype ≡ D.Bool m → roses_of ts ≡ us → length ts ≤ 1
+few_children h us ts m planned d e =
+    single_children h.len h.nchildren us ts (sym (plan_is (typ h.dtype) h.len h.nchildren m (ap (λ z. typ z) d)) ∙ (flags_plan planned.0 h us planned.1).planned) e
 
 -- The offset that is read is the one that was planned with: it is below 8.
 read_below : (h : ArrayHead) (us : Trees) (o : ℕ) → FlagsPlan h us → Reads bool_schema 0 h.metadata (bool_value o) → o < 8
@@ -110,57 +96,32 @@ read_below h us o p r =
     let e = bool_at p.read.offset o (sym p.read.value_is ∙ offset_is h.metadata p.value o p.read r) in
     omega (arith, p.read.below)
 
+-- What the constructor makes, as the node of the head's type over the children.
+made : (h : ArrayHead) (us : Trees) (o : ℕ) (m : Nullability) (b : Buffer) (v : Option Tree) → h.dtype ≡ D.Bool m → option_trees v ≡ us
+    → bool_tree b o h.len m v ≡ node (record { dtype = typ h.dtype; len = h.len; body = B.bool (record { bits = b; offset = o }) }) us
+made h us o m b v d e = rw (ap (λ z. typ z) d, e) refl
+
 -- What is built has the parts.
 pub flags_built : (x : ExtMeaning) (h : ArrayHead) (bs : List Buffer) (us : Trees) (o : ℕ) (m : Nullability) (b : Buffer) (v : Option Tree) (t : Tree)
     → (y : ExtMeaning) × IsPlanned y Bool h (places us) → Reads bool_schema 0 h.metadata (bool_value o) → h.dtype ≡ D.Bool m → bs ≡ b ∷ [] → option_trees v ≡ us → t ≡ bool_tree b o h.len m v → IsBuilt x Bool h bs us t
-flags_built x h bs us o m b v t planned r d e c q =
-    let p = flags_plan planned.0 h us planned.1 in
-    record {
-      value = M.bool o;
-      metadata = bool_metadata x (typ h.dtype) h.metadata o r (read_below h us o p r);
-      body = B.bool (record { bits = b; offset = o });
-      body_is = rw e refl;
-      tree_is = rw (q, c, ap (λ z. typ z) d) refl;
-    }
-
-fitting : (d : Typ) (n k o : ℕ) (us : Trees) (m : Nullability) (b : Buffer) (v : Option Tree) → o < 8 → d ≡ node (boolean m) end → plan d n k ≡ Some (places us) → option_trees v ≡ us
-    → IsUnmade A.BadShape (bool_tree b o n m v) → IsShaped E.bool d n (M.bool o) (b ∷ []) (count us) → ⊥
-fitting d n k o us m b v lt e planned c refused s =
-    let counted : plan d n (count us) ≡ Some (places us) = subst (λ (z : ℕ). plan d n z ≡ Some (places us)) (few d n k us planned).1 planned in
-    let wrong = subst (λ (z : Typ). IsUnmade A.BadShape (node (record { dtype = z; len = n; body = B.bool (record { bits = b; offset = o }) }) us)) (sym e)
-    (subst (λ (z : Trees). IsUnmade A.BadShape (node (record { dtype = node (boolean m) end; len = n; body = B.bool (record { bits = b; offset = o }) }) z)) c refused) in
-    unfit E.bool d n (M.bool o) (b ∷ []) (B.bool (record { bits = b; offset = o })) us refl lt counted refl tt wrong s
+flags_built x h bs us o m b v t planned r d p e q =
+    let lt = read_below h us o (flags_plan planned.0 h us planned.1) r in
+    single_built x Bool h (M.bool o) (bool_metadata x (typ h.dtype) h.metadata o r lt) bs us (B.bool (record { bits = b; offset = o })) t (rw p refl) (q ∙ made h us o m b v d e)
 
 -- Parts that the constructor refuses do not fit the row of a planned node.
 pub flags_refused : (x : ExtMeaning) (error : ArrayError) (h : ArrayHead) (bs : List Buffer) (us : Trees) (o : ℕ) (m : Nullability) (b : Buffer) (v : Option Tree)
     → (y : ExtMeaning) × IsPlanned y Bool h (places us) → Reads bool_schema 0 h.metadata (bool_value o) → h.dtype ≡ D.Bool m → bs ≡ b ∷ [] → option_trees v ≡ us → IsUnmade error (bool_tree b o h.len m v)
     → IsUnbuilt (constructor_error error) x Bool h bs us
-flags_refused x A.OutOfMemory h bs us o m b v planned r d e c refused = tt
-flags_refused x A.BadShape h bs us o m b v planned r d e c refused =
-    let p = flags_plan planned.0 h us planned.1 in
-    let lt = read_below h us o p r in
-    record {
-      value = M.bool o;
-      metadata = bool_metadata x (typ h.dtype) h.metadata o r lt;
-      wrong = inl (subst (λ (z : List Buffer). IsShaped E.bool (typ h.dtype) h.len (M.bool o) z (count us) → ⊥) (sym e)
-          (fitting (typ h.dtype) h.len h.nchildren o us m b v lt (ap (λ z. typ z) d) p.planned c refused));
-    }
-flags_refused x A.ValueTooLarge h bs us o m b v planned r d e c refused = absurd refused
-
-misshaped : (d : Typ) (n o : ℕ) (bs : List Buffer) (k : ℕ) → (length bs ≡ 1 → ⊥) → IsShaped E.bool d n (M.bool o) bs k → ⊥
-misshaped d n o [] k none s = let f : None ≡ Some s.body = s.body_is in absurd (cc)
-misshaped d n o (b ∷ []) k none s = none refl
-misshaped d n o (b ∷ c ∷ bs) k none s = let f : None ≡ Some s.body = s.body_is in absurd (cc)
+flags_refused x error h bs us o m b v planned r d p e refused =
+    let q = flags_plan planned.0 h us planned.1 in
+    let lt = read_below h us o q r in
+    single_refused x Bool h (M.bool o) (bool_metadata x (typ h.dtype) h.metadata o r lt) error bs us b (B.bool (record { bits = b; offset = o })) (bool_tree b o h.len m v)
+    p refl lt (plan_is (typ h.dtype) h.len h.nchildren m (ap (λ z. typ z) d)) q.planned refl tt (made h us o m b v d e) refused
 
 -- Buffers of another number than one do not fit.
 pub flags_buffers : (x : ExtMeaning) (h : ArrayHead) (bs : List Buffer) (us : Trees) (o : ℕ) → (y : ExtMeaning) × IsPlanned y Bool h (places us) → Reads bool_schema 0 h.metadata (bool_value o) → (length bs ≡ 1 → ⊥) → IsUnbuilt BadShape x Bool h bs us
 flags_buffers x h bs us o planned r none =
-    let p = flags_plan planned.0 h us planned.1 in
-    record {
-      value = M.bool o;
-      metadata = bool_metadata x (typ h.dtype) h.metadata o r (read_below h us o p r);
-      wrong = inl (misshaped (typ h.dtype) h.len o bs (count us) none);
-    }
+    single_buffers x Bool h (M.bool o) (bool_metadata x (typ h.dtype) h.metadata o r (read_below h us o (flags_plan planned.0 h us planned.1) r)) bs us tt none
 
 -- What the steps of flags rest on.
 pub ruleset bool_steps = (flags_planned, flags_unread, flags_past, flags_unplanned, flags_without, flags_read, few_children, flags_built, flags_refused, flags_buffers)

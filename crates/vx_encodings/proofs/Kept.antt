@@ -3,6 +3,7 @@ use Rattle.std.proofs.Common.{ℕ, ◌≡◌, List, [], Result, Ok, Err, IfOk, s
 use Rattle.vx_trees.specs.Rose.{label, below}
 use Rattle.vx_array_tree.specs.Body as B
 use Rattle.vx_array_tree.specs.Encodings.Bools as Bools
+use Rattle.vx_array_tree.specs.Encodings.Decimals as Decimals
 use Rattle.vx_array_tree.specs.Encodings.Primitives as Primitives
 use Rattle.vx_array_tree.specs.Sound.{metadata_in}
 use Rattle.vx_array_tree.specs.Table.{metadata_of}
@@ -10,8 +11,9 @@ use Rattle.vx_array_tree.specs.Tree.{Tree, places}
 use Rattle.vx_wire_tree.specs.Fields.{told}
 use Rattle.vx_arrays.specs.Plain.{plain_body}
 use Rattle.vx_arrays.specs.declared.body.Body.{Body}
-use Rattle.vx_arrays.specs.declared.body.Body.TheVariants.{Null, Bool, Primitive}
+use Rattle.vx_arrays.specs.declared.body.Body.TheVariants.{Null, Bool, Primitive, Decimal}
 use Rattle.vx_encodings.specs.BoolMessage.{bool_bytes}
+use Rattle.vx_encodings.specs.DecimalMessage.{decimal_bytes}
 use Rattle.vx_encodings.specs.Messages.{message_bytes}
 use Rattle.vx_encodings.specs.declared.error.EncodingError.{EncodingError}
 
@@ -33,5 +35,10 @@ pub flags_kept : (t : Tree) (b : Body) (x : Bools.Data) (r : Result (List ℕ) E
 flags_kept t b x (Ok bytes) e p q = q ∙ root t b (Bool x) e p
 flags_kept t b x (Err error) e p q = tt
 
+pub decimals_kept : (t : Tree) (b : Body) (x : Decimals.Data) (r : Result (List ℕ) EncodingError) → b ≡ Decimal x → plain_body b ≡ (label t).body → IfOk r (λ bytes. bytes ≡ decimal_bytes x.values_type)
+    → IfOk r (λ bytes. bytes ≡ message_bytes (told (metadata_in (label t) (below t))))
+decimals_kept t b x (Ok bytes) e p q = q ∙ root t b (Decimal x) e p
+decimals_kept t b x (Err error) e p q = tt
+
 -- What the writing of metadata rests on.
-pub ruleset kept = (nulls_kept, numbers_kept, flags_kept)
+pub ruleset kept = (nulls_kept, numbers_kept, flags_kept, decimals_kept)

@@ -1,12 +1,13 @@
 -- What holds of the messages of metadata, encoding by encoding.
 use Rattle.std.proofs.Common.{ℕ, zero, suc, ◌≡◌, List, [], ◌∷◌, Some, length, refl, sym, ap, ◌∙◌}
 use Rattle.vx_trees.specs.Rose.{node, end}
-use Rattle.vx_types.specs.Kind.{null, boolean, primitive}
+use Rattle.vx_types.specs.Kind.{null, boolean, primitive, decimal}
 use Rattle.vx_types.specs.Typ.{Typ}
 use Rattle.vx_array_tree.specs.Encoding as E
 use Rattle.vx_array_tree.specs.Encodings.Nulls as Nulls
 use Rattle.vx_array_tree.specs.Encodings.Bools as Bools
 use Rattle.vx_array_tree.specs.Encodings.Primitives as Primitives
+use Rattle.vx_array_tree.specs.Encodings.Decimals as Decimals
 use Rattle.vx_array_tree.specs.Metadata.{Metadata}
 use Rattle.vx_array_tree.specs.Metadata as M
 use Rattle.vx_array_tree.specs.Place.{Place, exactly, before_validity, validity_place}
@@ -15,10 +16,11 @@ use Rattle.vx_array_tree.proofs.Options.{mapped}
 use Rattle.vx_wire_tree.specs.Codec.{IsLawfulAt}
 use Rattle.vx_wire_tree.specs.Fields.{Fields, FitsMessage, told}
 use Rattle.vx_encodings.proofs.Offsets.{one_offset, offset_again}
+use Rattle.vx_encodings.proofs.Widths.{one_width, width_again}
 use Rattle.vx_encodings.specs.Messages.{Shows, ShowsNothing, message_bytes, codec}
 use Rattle.vx_encodings.specs.Plain.{plain_encoding}
 use Rattle.vx_encodings.specs.declared.encoding.Encoding.{Encoding}
-use Rattle.vx_encodings.specs.declared.encoding.Encoding.TheVariants.{Null, Bool, Primitive}
+use Rattle.vx_encodings.specs.declared.encoding.Encoding.TheVariants.{Null, Bool, Primitive, Decimal}
 
 one_nothing : (bytes : List ℕ) (f g : Fields) → ShowsNothing bytes f → ShowsNothing bytes g → f ≡ g
 one_nothing bytes f g a b = a.fields_are ∙ sym b.fields_are
@@ -28,6 +30,7 @@ pub one_message : (e : E.Encoding) (bytes : List ℕ) (f g : Fields) → Shows e
 one_message E.null bytes f g a b = one_nothing bytes f g a b
 one_message E.bool bytes f g a b = one_offset bytes f g a b
 one_message E.primitive bytes f g a b = one_nothing bytes f g a b
+one_message E.decimal bytes f g a b = one_width bytes f g a b
 one_message E.varbinview bytes f g a b = one_nothing bytes f g a b
 one_message E.fixed_size_list bytes f g a b = one_nothing bytes f g a b
 one_message E.map bytes f g a b = one_nothing bytes f g a b
@@ -60,11 +63,20 @@ primitive_again _ fair fits = absurd fair
 pub primitive_lawful : IsLawfulAt codec E.primitive
 primitive_lawful = record { one_message = one_message E.primitive; message_again = primitive_again }
 
+decimal_again : (v : Metadata) → IsFair E.decimal v → FitsMessage v → Shows E.decimal (message_bytes (told v)) (told v)
+decimal_again (M.decimal w) fair fits = width_again w
+decimal_again _ fair fits = absurd fair
+
+-- So are those of decimals.
+pub decimal_lawful : IsLawfulAt codec E.decimal
+decimal_lawful = record { one_message = one_message E.decimal; message_again = decimal_again }
+
 -- So are those of each encoding that has code.
 pub lawful : (e : Encoding) → IsLawfulAt codec (plain_encoding e)
 lawful Null = null_lawful
 lawful Bool = bool_lawful
 lawful Primitive = primitive_lawful
+lawful Decimal = decimal_lawful
 
 -- What a node of an encoding that has code keeps fits its message.
 pub fair_message : (encoding : Encoding) (v : Metadata) → IsFair (plain_encoding encoding) v → FitsMessage v
@@ -74,6 +86,8 @@ fair_message Bool (M.bool o) fair = tt
 fair_message Bool _ fair = absurd fair
 fair_message Primitive M.empty fair = tt
 fair_message Primitive _ fair = absurd fair
+fair_message Decimal (M.decimal w) fair = tt
+fair_message Decimal _ fair = absurd fair
 
 -- ---- plans
 
@@ -102,6 +116,10 @@ primitive_count : (d : Typ) (n k : ℕ) (qs : List Place) → Primitives.plan d 
 primitive_count (node (primitive p m) end) n k qs e = validity_count n k qs e
 primitive_count _ n k qs e = absurd (cc)
 
+decimal_count : (d : Typ) (n k : ℕ) (qs : List Place) → Decimals.plan d n k ≡ Some qs → length qs ≡ k
+decimal_count (node (decimal p s m) end) n k qs e = validity_count n k qs e
+decimal_count _ n k qs e = absurd (cc)
+
 -- An encoding that has code plans a place for each child.
 pub plan_length : (encoding : Encoding) (d : Typ) (n : ℕ) (v : Metadata) (k : ℕ) (qs : List Place) → plan_of (plain_encoding encoding) d n v k ≡ Some qs → length qs ≡ k
 plan_length Null d n M.empty k qs e = null_count d n k qs e
@@ -110,3 +128,5 @@ plan_length Bool d n (M.bool o) k qs e = bool_count d n k qs e
 plan_length Bool d n _ k qs e = absurd (cc)
 plan_length Primitive d n M.empty k qs e = primitive_count d n k qs e
 plan_length Primitive d n _ k qs e = absurd (cc)
+plan_length Decimal d n (M.decimal w) k qs e = decimal_count d n k qs e
+plan_length Decimal d n _ k qs e = absurd (cc)

@@ -1,26 +1,20 @@
 -- The message of the metadata of flags.
-use Rattle.std.specs.Prelude.{ℕ, ◌≡◌, List, [], ◌∷◌}
+use Rattle.std.specs.Prelude.{ℕ, ◌≡◌, List}
 use Rattle.vx_proto.specs.declared.schema.ScalarKind.TheVariants.{Uint32}
-use Rattle.vx_proto.specs.Form.{HasForm}
 use Rattle.vx_proto.specs.Reads.{Reads}
-use Rattle.vx_proto.specs.Schema.{Schema, list_at, plain}
+use Rattle.vx_proto.specs.Schema.{Schema}
 use Rattle.vx_proto.specs.Value.{Value}
-use Rattle.vx_proto.specs.Written.{written}
-use Rattle.vx_proto.proofs.LawsOfParts.{Parts, Both, InRange, ◌and◌, nothing, numbers, plain_part}
 use Rattle.vx_wire_tree.specs.Fields.{Fields}
 use Rattle.vx_wire_tree.specs.Fields as F
+use Rattle.vx_encodings.specs.NumberMessage.{number_schema, number_value, number_bytes}
 
 -- It has one number, of 32 bits: the offset, how many bits stand before the first row's.
 abbrev pub bool_schema : Schema
-bool_schema = (plain 1 Uint32 ∷ []) ∷ []
-
--- How its slot is an offset.
-abbrev pub bool_parts : Parts (HasForm bool_schema) (list_at bool_schema 0) (ℕ × Unit {0}) (Both (InRange (numbers Uint32 tt)) (λ _. Unit {0}))
-bool_parts = plain_part 1 (numbers Uint32 tt) and nothing
+bool_schema = number_schema Uint32
 
 -- The plain value of the message of an offset.
 abbrev pub bool_value : ℕ → Value
-bool_value offset = bool_parts.value (offset, tt)
+bool_value = number_value
 
 -- Bytes show an offset where they are read as its message.
 pub record ShowsBool (bytes : List ℕ) (f : Fields) : Type 0 where
@@ -30,4 +24,4 @@ pub record ShowsBool (bytes : List ℕ) (f : Fields) : Type 0 where
 
 -- The bytes of the message of an offset: none at 0, which is the default.
 abbrev pub bool_bytes : ℕ → List ℕ
-bool_bytes offset = written bool_schema 0 (bool_value offset)
+bool_bytes = number_bytes Uint32

@@ -1,4 +1,6 @@
 pub mod Plain
+pub mod NumberMessage
 pub mod BoolMessage
+pub mod DecimalMessage
 pub mod Messages
 pub mod Steps

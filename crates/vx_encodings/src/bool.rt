@@ -6,7 +6,8 @@ ghost use Rattle.std.proofs.Common.{arith, ap};
 ghost use Rattle.vx_types.specs.Known.{ExtMeaning};
 ghost use Rattle.vx_array_tree.specs.Sound.{IsSound};
 ghost use Rattle.vx_array_tree.specs.Tree.{places};
-ghost use Rattle.vx_encodings.specs.BoolMessage.{bool_schema, bool_parts, bool_value, bool_bytes};
+ghost use Rattle.vx_encodings.specs.BoolMessage.{bool_schema, bool_value, bool_bytes};
+ghost use Rattle.vx_encodings.specs.NumberMessage.{same_value};
 ghost use Rattle.vx_encodings.specs.Steps.{IsPlanned, IsUnplanned, IsBuilt, IsUnbuilt};
 ghost use Rattle.vx_encodings.specs.declared.encoding.Encoding.TheVariants.{Bool};
 
@@ -66,7 +67,7 @@ impl Message for BoolMetadata {
 
     ghost placed = { Prim.omega arith };
 
-    ghost determined = { λ m n p q e. ap (λ x. record { offset = x.0 }) (bool_parts.same (m.offset, tt) (n.offset, tt) e) };
+    ghost determined = { λ m n p q e. ap (λ o. record { offset = o }) (same_value m.offset n.offset e) };
 }
 
 // What the children of a node of flags are to be: at most a validity.

@@ -3,7 +3,7 @@
 ghost use Rattle.std.specs.Prelude.{◌≡◌};
 ghost use Rattle.vx_array_tree.specs.Table.{id_of};
 
-use vx_arrays::{BoolArray, NullArray, PrimitiveArray};
+use vx_arrays::{BoolArray, DecimalArray, NullArray, PrimitiveArray};
 
 /// The shipped encodings.
 #[derive(Clone, Copy, Debug, PartialEq, Eq)]
@@ -14,6 +14,8 @@ pub enum Encoding {
     Bool,
     /// Numbers, one after the other.
     Primitive,
+    /// Decimals, by their unscaled integers, one after the other.
+    Decimal,
 }
 
 impl Encoding {
@@ -27,6 +29,7 @@ impl Encoding {
             Encoding::Null => NullArray::ID,
             Encoding::Bool => BoolArray::ID,
             Encoding::Primitive => PrimitiveArray::ID,
+            Encoding::Decimal => DecimalArray::ID,
         }
     }
 }

@@ -6,6 +6,7 @@
 
 mod bool;
 mod buffers;
+mod decimal;
 mod empty_metadata;
 mod encoding;
 mod error;
@@ -18,6 +19,7 @@ mod steps;
 mod validity;
 
 pub use bool::BoolMetadata;
+pub use decimal::DecimalMetadata;
 pub use encoding::Encoding;
 pub use error::EncodingError;
 pub use head::ArrayHead;

@@ -17,7 +17,7 @@ use crate::encoding::Encoding;
 use crate::error::EncodingError;
 use crate::head::ArrayHead;
 use crate::plans::ChildPlans;
-use crate::{bool, null, primitive};
+use crate::{bool, decimal, null, primitive};
 use std::alloc::Global;
 use vx_arrays::{Array, Arrays, Body};
 use vx_buffer::BufferHandles;
@@ -60,6 +60,7 @@ fn plan_by(
         Encoding::Null => null::plan(alloc, head),
         Encoding::Bool => bool::plan(alloc, head),
         Encoding::Primitive => primitive::plan(alloc, head),
+        Encoding::Decimal => decimal::plan(alloc, head),
     }
 }
 
@@ -108,6 +109,7 @@ fn build_by(
         Encoding::Null => null::build(alloc, head, buffers, children),
         Encoding::Bool => bool::build(alloc, head, buffers, children),
         Encoding::Primitive => primitive::build(alloc, head, buffers, children),
+        Encoding::Decimal => decimal::build(alloc, head, buffers, children),
     }
 }
 
@@ -121,5 +123,6 @@ pub fn metadata(alloc: Global, array: &Array) -> Result<Blob, EncodingError>
         Body::Null => Ok(write_empty(alloc)),
         Body::Bool(flags) => bool::metadata(alloc, flags),
         Body::Primitive(_) => Ok(write_empty(alloc)),
+        Body::Decimal(decimals) => decimal::metadata(alloc, decimals),
     }
 }

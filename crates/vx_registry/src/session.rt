@@ -60,7 +60,12 @@ impl ArraySession {
         ensures err { IsOkUnless result RegistryError.OutOfMemory }
     {
         let mut session = ArraySession::empty(alloc);
-        for encoding in [Encoding::Null, Encoding::Bool, Encoding::Primitive] {
+        for encoding in [
+            Encoding::Null,
+            Encoding::Bool,
+            Encoding::Primitive,
+            Encoding::Decimal,
+        ] {
             session.set(encoding)?;
         }
         Ok(session)

@@ -11,7 +11,7 @@ use vxcat_core::{MemSink, run};
 const FLAG_IDS: &str = "vortex.bool\n";
 
 // A blob is written again as it was, with its identifiers, and listed so.
-fn is_listed(
+pub(crate) fn is_listed(
     alloc: Global,
     rt: &impl std::process::Abort,
     dtype: &[u8],

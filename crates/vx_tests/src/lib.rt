@@ -4,6 +4,8 @@
 
 #[cfg(test)]
 mod blobs;
+#[cfg(test)]
+mod decimals;
 pub mod files;
 #[cfg(test)]
 mod flag_files;

@@ -3,14 +3,16 @@
 ghost use Rattle.std.specs.Prelude.{◌≡◌, IfOk, string_bytes};
 ghost use Rattle.vx_types.specs.Typ.{Typ};
 ghost use Rattle.vx_arrays.specs.Plain.{plain_value};
-ghost use Rattle.vxcat_core.specs.RowText.{hex_text, number_text, value_text};
+ghost use Rattle.vx_scalars.specs.Decimals.{decimal_of};
+ghost use Rattle.vxcat_core.specs.RowText.{decimal_text, hex_text, number_text, value_text};
 
 use std::alloc::{AllocError, Global};
 use vx_arrays::RowValue;
+use vx_scalars::DecimalValue;
 use vx_types::PValue;
 
-/// The text of a row's value: `null`, `true`, `false`, an integer in decimal, a float's bits as `0x` and hex digits, or `?` where
-/// nothing is known of the row. None of these looks at the row's type.
+/// The text of a row's value: `null`, `true`, `false`, an integer in decimal, a float's bits as `0x` and hex digits, a decimal's
+/// unscaled integer, or `?` where nothing is known of the row. None of these looks at the row's type.
 ///
 /// # Errors
 /// Want of memory.
@@ -23,6 +25,7 @@ pub fn row_text(alloc: Global, value: &RowValue) -> Result<String, AllocError>
         RowValue::Bool(true) => String::from_str(alloc, "true"),
         RowValue::Bool(false) => String::from_str(alloc, "false"),
         RowValue::Primitive(number) => number_text(alloc, number),
+        RowValue::Decimal(decimal) => decimal_text(alloc, decimal),
     }
 }
 
@@ -41,6 +44,24 @@ fn number_text(alloc: Global, number: &PValue) -> Result<String, AllocError>
         PValue::F16(bits) => hex_text(alloc, bits.to_be_bytes().as_slice()),
         PValue::F32(bits) => hex_text(alloc, bits.to_be_bytes().as_slice()),
         PValue::F64(bits) => hex_text(alloc, bits.to_be_bytes().as_slice()),
+    }
+}
+
+// The widest of them as its bytes, from the highest.
+fn decimal_text(alloc: Global, decimal: &DecimalValue) -> Result<String, AllocError>
+    ensures { IfOk result (λ text. string_bytes text ≡ decimal_text (decimal_of decimal.now)) }
+{
+    match *decimal {
+        DecimalValue::I8(n) => format!(in alloc; "{n}"),
+        DecimalValue::I16(n) => format!(in alloc; "{n}"),
+        DecimalValue::I32(n) => format!(in alloc; "{n}"),
+        DecimalValue::I64(n) => format!(in alloc; "{n}"),
+        DecimalValue::I128(n) => format!(in alloc; "{n}"),
+        DecimalValue::I256(bytes) => {
+            let mut highest_first = bytes;
+            highest_first.as_mut_slice().reverse();
+            hex_text(alloc, highest_first.as_slice())
+        }
     }
 }
 

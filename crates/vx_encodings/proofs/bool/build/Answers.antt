@@ -5,7 +5,7 @@ use Rattle.vx_encodings.specs.BoolMessage.{bool_schema, bool_value}
 use Rattle.vx_encodings.proofs.bool.build.Goals as goal
 
 pub only_validity-validity-requires : goal.only_validity-validity-requires
-only_validity-validity-requires c = few_children c.args.head c.args.children _ c.requires c.into_vec.ensures.items
+only_validity-validity-requires c = few_children c.args.head c.args.children _ c.in-Bool.nullability c.requires c.in-Bool.is c.into_vec.ensures.items
 
 pub returns-in-Ok-clause-parts : goal.returns-in-Ok-clause-parts
 returns-in-Ok-clause-parts c =

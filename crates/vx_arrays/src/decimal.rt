@@ -1,0 +1,160 @@
+//! Arrays of decimals.
+
+ghost use Rattle.std.specs.Prelude.{◌≡◌, ◌<◌, ◌≤◌, IfOk, IfErr, IsOkUnless};
+ghost use Rattle.vx_trees.specs.Rose.{roses_of};
+ghost use Rattle.vx_types.specs.Seen.{typ};
+ghost use Rattle.vx_array_tree.specs.Body as B;
+ghost use Rattle.vx_array_tree.specs.Encodings.Decimals.{rows as rows_of_decimals};
+ghost use Rattle.vx_array_tree.specs.Sound.{IsSound, IsSoundNode};
+ghost use Rattle.vx_array_tree.specs.Tree.{Head, rows_below};
+ghost use Rattle.vx_arrays.specs.Decimals.{decimal_tree};
+ghost use Rattle.vx_arrays.specs.Plain.{plain_value};
+ghost use Rattle.vx_arrays.specs.Refused.{IsUnmade, IsRowRefused, IsOkOrMemory};
+
+use crate::array::Array;
+use crate::body::Body;
+use crate::error::ArrayError;
+use crate::numbers::decimal_at;
+use crate::row::{RowValue, within_budget};
+use crate::validity::{is_validity, only_validity, validity_at};
+use std::alloc::Global;
+use std::marker::Model;
+use vx_buffer::BufferHandle;
+use vx_types::{DType, DecimalDType, DecimalType, Nullability};
+
+/// What a node of decimals holds: their unscaled integers, one after the other, each with its lowest byte first, and
+/// the width of each.
+#[derive(Drop)]
+pub struct DecimalData {
+    values: BufferHandle,
+    values_type: DecimalType,
+}
+
+impl Model for DecimalData {
+    ghost use Rattle.vx_array_tree.specs.Encodings.Decimals.{Data, data_code};
+
+    ghost Value = { Data };
+
+    ghost coded = { data_code };
+
+    ghost view = { λ x. record { values = x.values; values_type = x.values_type } };
+}
+
+impl DecimalData {
+    /// The buffer of the integers.
+    pub fn values(&self) -> &BufferHandle
+        ensures { result.now ≡ self.now.values }
+    {
+        &self.values
+    }
+
+    /// The width of each integer.
+    pub fn values_type(&self) -> DecimalType
+        ensures { result ≡ self.now.values_type }
+    {
+        self.values_type
+    }
+
+    // The same integers again. No byte is copied.
+    pub(crate) fn clone(&self, alloc: Global) -> Result<DecimalData, ArrayError>
+        ensures ok { IfOk result (λ decimals. decimals ≡ self.now) }
+        ensures err { IsOkUnless result ArrayError.OutOfMemory }
+    {
+        Ok(DecimalData {
+            values: self.values.clone(alloc)?,
+            values_type: self.values_type,
+        })
+    }
+
+    // A row's value in a node of this type, length and children, if there is a cell to spend for it.
+    pub(crate) fn value_at(
+        &self,
+        dtype: &DType,
+        len: usize,
+        children: &[Array],
+        index: usize,
+        budget: u64,
+    ) -> Result<RowValue, ArrayError>
+        requires sound { let head : Head = record { dtype = typ dtype.now; len = len; body = B.decimal self.now } in
+            IsSoundNode head (roses_of children.now) }
+        requires inside { index < len }
+        ensures row { let rows = rows_of_decimals len self.now (rows_below (roses_of children.now)) in
+            IfOk result (λ row. plain_value row ≡ rows.row index) }
+        ensures fits { let rows = rows_of_decimals len self.now (rows_below (roses_of children.now)) in
+            IfOk result (λ _. rows.cells index ≤ budget) }
+        ensures err { let rows = rows_of_decimals len self.now (rows_below (roses_of children.now)) in
+            IfErr result (λ e. IsRowRefused e rows index budget) }
+    {
+        match dtype {
+            DType::Decimal(_, _) => {}
+            _ => unreachable!(),
+        }
+        match validity_at(children, len, index) {
+            None => within_budget(RowValue::Opaque, budget),
+            Some(false) => within_budget(RowValue::Null, budget),
+            Some(true) => {
+                let width = self.values_type.byte_width();
+                let rest = &self.values.as_host().as_slice()[width * index..];
+                within_budget(
+                    RowValue::Decimal(decimal_at(self.values_type, rest)),
+                    budget,
+                )
+            }
+        }
+    }
+}
+
+/// Arrays of decimals, by their unscaled integers, one after the other in a buffer.
+pub struct DecimalArray {}
+
+impl DecimalArray {
+    /// The identifier of the encoding.
+    pub const ID: &'static str = "vortex.decimal";
+
+    /// The array of `len` decimals whose unscaled integers the buffer holds, each of the width `values_type` with its
+    /// lowest byte first, aligned to that width or, where it is wider, to 16 bytes. The width need not be the least
+    /// that the digits want, and no integer is held against them. Where some rows are null, `validity` holds for each
+    /// row whether it is there.
+    ///
+    /// `BadShape` where such an array is not sound.
+    pub fn try_new(
+        alloc: Global,
+        buffer: BufferHandle,
+        values_type: DecimalType,
+        decimal: DecimalDType,
+        nullability: Nullability,
+        len: usize,
+        validity: Option<Array>,
+    ) -> Result<Array, ArrayError>
+        ensures ok { IfOk result (λ a. a ≡ decimal_tree buffer values_type decimal nullability len validity) }
+        ensures sound { IfOk result IsSound }
+        ensures err { IfErr result (λ e. IsUnmade e (decimal_tree buffer values_type decimal nullability len validity)) }
+        ensures complete { IsSound (decimal_tree buffer values_type decimal nullability len validity) → IsOkOrMemory result }
+    {
+        let width = values_type.byte_width();
+        match len.checked_mul(width) {
+            Some(bytes) => {
+                if bytes != buffer.len() {
+                    return Err(ArrayError::BadShape);
+                }
+            }
+            None => return Err(ArrayError::BadShape),
+        }
+        if buffer.alignment().as_usize() < width.min(16) {
+            return Err(ArrayError::BadShape);
+        }
+        if !is_validity(nullability, len, &validity) {
+            return Err(ArrayError::BadShape);
+        }
+        let children = only_validity(alloc, validity)?;
+        Ok(Array::from_parts(
+            DType::Decimal(decimal, nullability),
+            len,
+            Body::Decimal(DecimalData {
+                values: buffer,
+                values_type,
+            }),
+            children,
+        ))
+    }
+}

@@ -1,0 +1,48 @@
+-- Messages of one number: bytes show one at most, and what is written of a small one is shown.
+use Rattle.std.proofs.Common.{ℕ, ◌≡◌, ◌^◌, ◌≤◌, ◌<◌, ◌==◌, ◌++◌, Bool, true, false, if◌then◌else◌, List, [], length, length-append, IsTrue, arith}
+use Rattle.vx_proto.specs.declared.schema.ScalarKind.{ScalarKind}
+use Rattle.vx_proto.specs.declared.schema.ScalarKind.TheVariants.{Uint32, Enum}
+use Rattle.vx_proto.specs.Form.{HasForm, FormScalar}
+use Rattle.vx_proto.specs.Lawful.{is_lawful}
+use Rattle.vx_proto.specs.Reads.{Reads}
+use Rattle.vx_proto.specs.Value.{number}
+use Rattle.vx_proto.specs.Written.{written, varint_bytes}
+use Rattle.vx_proto.proofs.LawsOfMessages.{reads_one, written_shown}
+use Rattle.vx_proto.proofs.LawsOfParts.{IsNumeric, whole_form}
+use Rattle.vx_proto.proofs.Spelled.{varint_spelled}
+use Rattle.vx_encodings.specs.NumberMessage.{number_schema, number_parts, number_value, number_bytes, same_value}
+
+-- Bytes show one number at most.
+pub one_number : (k : ScalarKind) (bytes : List ℕ) (a b : ℕ) → Reads (number_schema k) 0 bytes (number_value a) → Reads (number_schema k) 0 bytes (number_value b) → a ≡ b
+one_number k bytes a b r s = same_value a b (reads_one (number_schema k) 0 bytes (number_value a) (number_value b) r s)
+
+-- A number in the range of its kind has the form of a message.
+pub number_formed : (k : ScalarKind) (h : IsNumeric k) (n : ℕ) → FormScalar k (number n) → HasForm (number_schema k) 0 (number_value n)
+number_formed k h n f = whole_form (number_schema k) 0 (number_parts k h) (n, tt) (f, tt)
+
+-- The kinds whose numbers are written as varints as they are, and that metadata has.
+abbrev pub IsSpelled : ScalarKind → Type 0
+IsSpelled Uint32 = Unit {0}
+IsSpelled (Enum codes) = Unit {0}
+IsSpelled _ = ⊥
+
+-- A number is written as a key and a varint at most.
+left_out : (b : Bool) (s : List ℕ) → length ((if b then [] else s) ++ [] ++ []) ≤ length s
+left_out true s = omega arith
+left_out false s = omega (arith, length-append s [], length-append (s ++ []) [])
+
+short : (k : ScalarKind) (n : ℕ) → IsSpelled k → n < 256 → length (number_bytes k n) < 2 ^ 64
+unfolding written
+short Uint32 n h lt =
+    let s = varint_bytes 8 ++ varint_bytes n in
+    let few : length (number_bytes Uint32 n) ≤ length s = left_out (n == 0) s in
+    omega (arith, length-append (varint_bytes 8) (varint_bytes n), (varint_spelled 8 (omega arith)).short, (varint_spelled n (omega arith)).short)
+short (Enum codes) n h lt =
+    let s = varint_bytes 8 ++ varint_bytes n in
+    let few : length (number_bytes (Enum codes) n) ≤ length s = left_out (n == 0) s in
+    omega (arith, length-append (varint_bytes 8) (varint_bytes n), (varint_spelled 8 (omega arith)).short, (varint_spelled n (omega arith)).short)
+short _ n h lt = absurd h
+
+-- What is written of a number below 256 is read as it.
+pub number_again : (k : ScalarKind) (h : IsNumeric k) (n : ℕ) → IsSpelled k → IsTrue (is_lawful (number_schema k)) → FormScalar k (number n) → n < 256 → Reads (number_schema k) 0 (number_bytes k n) (number_value n)
+number_again k h n s lawful f lt = written_shown (number_schema k) 0 (number_value n) lawful (number_formed k h n f) (omega arith) (short k n s lt)

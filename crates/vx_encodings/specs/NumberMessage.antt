@@ -1,0 +1,30 @@
+-- Messages of one number.
+use Rattle.std.specs.Prelude.{ℕ, ◌≡◌, List, [], ◌∷◌}
+use Rattle.std.proofs.Common.{ap}
+use Rattle.vx_proto.specs.declared.schema.ScalarKind.{ScalarKind}
+use Rattle.vx_proto.specs.declared.schema.ScalarKind.TheVariants.{Uint64}
+use Rattle.vx_proto.specs.Form.{HasForm}
+use Rattle.vx_proto.specs.Schema.{Schema, list_at, plain}
+use Rattle.vx_proto.specs.Value.{Value, number}
+use Rattle.vx_proto.specs.Written.{written}
+use Rattle.vx_proto.proofs.LawsOfParts.{Parts, Both, InRange, IsNumeric, ◌and◌, nothing, numbers, plain_part}
+
+-- The first field is a number of a kind, and there is no other.
+abbrev pub number_schema : ScalarKind → Schema
+number_schema k = (plain 1 k ∷ []) ∷ []
+
+-- How its slot is a number.
+abbrev pub number_parts : (k : ScalarKind) (h : IsNumeric k) → Parts (HasForm (number_schema k)) (list_at (number_schema k) 0) (ℕ × Unit {0}) (Both (InRange (numbers k h)) (λ _. Unit {0}))
+number_parts k h = plain_part 1 (numbers k h) and nothing
+
+-- The plain value of the message of a number.
+abbrev pub number_value : ℕ → Value
+number_value n = ((1, number n) ∷ []) ∷ []
+
+-- The bytes of the message of a number: none at 0, which is the default.
+abbrev pub number_bytes : ScalarKind → ℕ → List ℕ
+number_bytes k n = written (number_schema k) 0 (number_value n)
+
+-- A plain value is of one number.
+pub same_value : (a b : ℕ) → number_value a ≡ number_value b → a ≡ b
+same_value a b e = ap (λ (x : ℕ × Unit {0}). x.0) ((number_parts Uint64 tt).same (a, tt) (b, tt) e)
