@@ -15,7 +15,8 @@ pub mod NumberedRead
 pub mod Carried
 pub mod CarriedOnce
 pub mod GrownPlaced
-pub mod TreesWired
+pub mod WiredNodes
+pub mod Gathered
 pub mod Openings
 pub mod OneArray
 pub mod GrownIds
@@ -24,3 +25,4 @@ pub mod Recodings
 pub mod NeverCaused
 pub mod PadsAlign
 pub mod AlignedBlob
+pub mod Serialized

@@ -16,7 +16,7 @@ use Rattle.vx_wire_tree.specs.Wire.{Wire}
 use Rattle.vx_wire_tree.proofs.Laws.{never_refused}
 use Rattle.vx_encodings.specs.Messages.{codec}
 use Rattle.vx_serde.specs.declared.error.WireError.{WireError}
-use Rattle.vx_serde.specs.declared.error.WireError.TheVariants.{OutOfMemory, TooShort, BadTable, TableLimit, BadAlignment, Compressed, OutOfBounds, UnknownIndex, UnknownEncoding, BadMetadata, BadShape, NotPermitted, WireLimit}
+use Rattle.vx_serde.specs.declared.error.WireError.TheVariants.{OutOfMemory, TooShort, BadTable, TableLimit, BadAlignment, Compressed, OutOfBounds, UnknownIndex, UnknownEncoding, BadMetadata, BadShape, NotPermitted, WireLimit, NotRegistered}
 use Rattle.vx_serde.specs.ArraySchema.{array_schema}
 use Rattle.vx_serde.specs.Message.{Descriptor, message_of}
 use Rattle.vx_serde.specs.Blob.{IsBlob, AreClean}
@@ -105,6 +105,7 @@ module _ (asked : Request) (ok : IsShipped asked.session) (law : IsLawful codec 
   never_caused light fits grows BadShape h = never_below BadShape h
   never_caused light fits grows NotPermitted h = absurd (not_this (λ u. grown codec asked.session asked.context u ≡ None) (λ e. is_grown (grown codec asked.session asked.context t) grows e) h)
   never_caused light fits grows WireLimit h = absurd (not_this (λ u. KeepsWriterLimits asked.session u asked.context asked.options → ⊥) (λ never. never fits) h)
+  never_caused light fits grows NotRegistered h = absurd h
 
 -- Where what is asked can be done, no refusal but want of memory has a cause.
 pub memory_alone : (asked : Request) → IsShipped asked.session → IsLawful codec asked.session → (e : WireError) → CanRecode asked → Refuses asked e → e ≡ OutOfMemory

@@ -1,42 +1,40 @@
 -- What recoding a blob gives, what it leaves, and why it does not.
-use Rattle.std.proofs.Common.{ℕ, ◌≡◌, List, [], Some, refl, sym, ap, ◌∙◌, subst, inl, inr, append-nil}
-use Rattle.std.specs.Prelude.{Contains}
+use Rattle.std.proofs.Common.{ℕ, ◌≡◌, List, [], ◌++◌, Option, None, Some, replicate, refl, sym, ap, ◌∙◌, subst, inl, inr, append-nil}
+use Rattle.std.specs.Prelude.{Contains, IsSome}
 use Rattle.std.proofs.lemmas.List.Elements.{All-nil}
 use Rattle.vx_array_tree.specs.Tree.{Tree}
 use Rattle.vx_flat.specs.Weight.{weight}
 use Rattle.vx_flat.specs.Limits.{IsLight}
 use Rattle.vx_wire_tree.specs.Codec.{IsLawful}
-use Rattle.vx_wire_tree.specs.Context.{Context, grown, grown_by}
-use Rattle.vx_wire_tree.specs.Limits.{HasMessages}
-use Rattle.vx_wire_tree.specs.Session.{SessionMeaning, IsShipped, IsPaired}
+use Rattle.vx_wire_tree.specs.Context.{Context, grown}
+use Rattle.vx_wire_tree.specs.Session.{IsShipped, IsPaired}
 use Rattle.vx_wire_tree.specs.Tells.{Tells}
-use Rattle.vx_wire_tree.specs.Wire.{Wire, ids_in}
+use Rattle.vx_wire_tree.specs.Wire.{Wire, ids_in, buffers_in}
 use Rattle.vx_wire_tree.specs.Written.{wire, canon}
-use Rattle.vx_wire_tree.proofs.Laws.{matched_whole}
+use Rattle.vx_wire_tree.proofs.Laws.{matched_whole, canon_own}
 use Rattle.vx_encodings.specs.Messages.{codec}
 use Rattle.vx_serde.specs.declared.options.SerializeOptions.{SerializeOptions}
 use Rattle.vx_serde.specs.declared.error.WireError.{WireError}
-use Rattle.vx_serde.specs.declared.error.WireError.TheVariants.{OutOfMemory, TooShort, BadTable, TableLimit, BadAlignment, Compressed, OutOfBounds, UnknownIndex, UnknownEncoding, BadMetadata, BadShape, NotPermitted, WireLimit}
-use Rattle.vx_serde.specs.Aligned.{IsAlignedBlob}
+use Rattle.vx_serde.specs.declared.error.WireError.TheVariants.{OutOfMemory, TooShort, BadTable, TableLimit, BadAlignment, Compressed, OutOfBounds, UnknownIndex, UnknownEncoding, BadMetadata, BadShape, NotPermitted, WireLimit, NotRegistered}
 use Rattle.vx_serde.specs.ArraySchema.{array_schema}
 use Rattle.vx_serde.specs.Blob.{Carries}
 use Rattle.vx_serde.specs.Limits.{message_limits}
 use Rattle.vx_serde.specs.Opening.{RefusesOpening}
 use Rattle.vx_serde.specs.ReadingSteps.{IsOpened}
-use Rattle.vx_serde.specs.Written.{IsWritable}
 use Rattle.vx_serde.specs.KeptContext.{KeepsContext}
-use Rattle.vx_serde.specs.WritingSteps.{RefusesWriting}
+use Rattle.vx_serde.specs.Spells.{Spells, KeepsReaderLimits, KeepsWriterLimits, blob_of, ids_after}
+use Rattle.vx_serde.specs.Placing.{data_from}
+use Rattle.vx_serde.specs.Written.{message_bytes, message_pad, blob_bytes, IsWritable}
 use Rattle.vx_buffer.specs.Joined.{joined}
-use Rattle.vx_serde.specs.WrittenBuffers.{written_buffers}
-use Rattle.vx_serde.specs.Spells.{Spells, KeepsReaderLimits, KeepsWriterLimits, blob_of, blob_buffers, ids_after}
-use Rattle.vx_serde.specs.Causes.{Refuses, RefusesWire}
+use Rattle.vx_serde.proofs.Carried.{is_blob}
+use Rattle.vx_serde.specs.Causes.{Refuses, RefusesWire, RefusesArray}
+use Rattle.vx_serde.specs.Serializing.{IsSerialized}
 use Rattle.vx_serde.specs.Request.{Request, IsSpelled}
-use Rattle.vx_serde.specs.Recoding.{Product, IsRecoded, IsFaithful, LeavesContext}
+use Rattle.vx_serde.specs.Recoding.{Product, IsRecoded, IsFaithful, IsTwiceAsOnce, LeavesContext}
 use Rattle.vx_serde.proofs.CarriedOnce.{one_blob}
-use Rattle.vx_serde.proofs.AlignedBlob.{aligned_blob}
 use Rattle.vx_serde.proofs.OneArray.{spelled_once}
-use Rattle.vx_serde.proofs.WholeBlob.{joined-written}
-use Rattle.vx_serde.proofs.WrittenAgain.{grown-ids, spelled_again}
+use Rattle.vx_serde.proofs.WrittenAgain.{spelled_again, read_written}
+use Rattle.vx_serde.proofs.Gathered.{all-written}
 
 -- An opened blob spells the array that its wire tree tells.
 pub spells : (asked : Request) → IsShipped asked.session → (w : Wire) (t : Tree) → IsOpened (message_limits asked.options) asked.blob asked.ids w → Tells codec asked.session w asked.dtype asked.len t → IsSpelled asked t
@@ -55,55 +53,63 @@ reader_limits options blob ids w opened = record {
       subst P (one_blob blob opened.carried.segment segment opened.carried.message message opened.carried.blob_is is).1 opened.light;
 }
 
-grown-wire : (s : SessionMeaning) (t : Tree) (w : Wire) (old : Context) → w ≡ wire codec s t → grown_by (ids_in w) old ≡ grown codec s old t
-grown-wire s t w old e = ap (λ z. grown_by (ids_in z) old) e
-
 -- ---- what is made
 
-module _ (asked : Request) (made : Product) (w : Wire) (own : w ≡ wire codec asked.session made.array) (grew : grown_by (ids_in w) asked.context ≡ Some made.context) where
-  grows : grown codec asked.session asked.context made.array ≡ Some made.context
-  grows = sym (grown-wire asked.session made.array w asked.context own) ∙ grew
+-- An array that was read is recoded where it is serialized.
+pub recoded : (asked : Request) (made : Product) (read : Wire) → IsOpened (message_limits asked.options) asked.blob asked.ids read
+    → IsSerialized asked.session made.array asked.options asked.context made.context made.buffers → IsRecoded asked made
+recoded asked made read opened serialized = record { reader_limits = reader_limits asked.options asked.blob asked.ids read opened; serialized = serialized }
 
-  ids : made.context.ids ≡ ids_after asked.session made.array asked.context
-  ids = grown-ids asked.session made.array asked.context made.context grows
+-- A blob that was written keeps the limits on reading.
+written_light : (ids : List (List ℕ)) (o : SerializeOptions) (w : Wire) → IsWritable ids o w → KeepsReaderLimits o (blob_bytes ids o w)
+written_light ids o w fit =
+    let bytes = data_from o o.offset (buffers_in w) in
+    let zeros : List ℕ = replicate (message_pad o w) 0 in
+    let own = is_blob bytes zeros (message_bytes ids o w) fit.short in
+    record {
+      light = λ segment message is.
+          let P : List ℕ → Type 0 = λ m. IsLight (message_limits o) (weight array_schema m) in
+          subst P (one_blob (blob_bytes ids o w) (bytes ++ zeros) segment (message_bytes ids o w) message own is).1 fit.light;
+    }
 
-  buffers : made.buffers ≡ written_buffers made.context.ids asked.options w → made.buffers ≡ blob_buffers asked.session made.array asked.context asked.options
-  buffers b =
-      b ∙ ap (λ z. written_buffers made.context.ids asked.options z) own ∙ ap (λ z. written_buffers z asked.options (wire codec asked.session made.array)) ids
+is_some : {A : Type 0} (o : Option A) (x : A) → o ≡ Some x → IsSome o
+is_some None x e = absurd (cc)
+is_some (Some y) x e = refl
 
-  writer_limits : HasMessages made.array → IsWritable made.context.ids asked.options w → KeepsWriterLimits asked.session made.array asked.context asked.options
-  writer_limits messages fit =
-      let P : Wire → Type 0 = λ z. IsWritable made.context.ids asked.options z in
-      let Q : List (List ℕ) → Type 0 = λ z. IsWritable z asked.options (wire codec asked.session made.array) in
-      record { messages = messages; writable = subst Q ids (subst P own fit) }
-
-  -- An array that was read is recoded where its wire tree is written.
-  pub recoded : (read : Wire) → IsOpened (message_limits asked.options) asked.blob asked.ids read → HasMessages made.array → made.buffers ≡ written_buffers made.context.ids asked.options w → IsWritable made.context.ids asked.options w
-      → IsRecoded asked made
-  recoded read opened messages b fit =
-      let own_buffers = buffers b in
-      let limits_kept = writer_limits messages fit in
-      let bytes : joined made.buffers ≡ blob_of asked.session made.array asked.context asked.options =
-      ap (λ bs. joined bs) own_buffers ∙ joined-written (ids_after asked.session made.array asked.context) asked.options (wire codec asked.session made.array) in
-      let P : List ℕ → Type 0 = λ z. IsAlignedBlob asked.options.offset z in
-      record {
-        written = bytes;
-        buffers = own_buffers;
-        reader_limits = reader_limits asked.options asked.blob asked.ids read opened;
-        writer_limits = limits_kept;
-        aligned = λ padded. subst P (sym bytes) (aligned_blob asked.session made.array asked.context made.context asked.options grows limits_kept padded);
-        grown = grows;
-      }
+-- What was recoded can be recoded again, and stays as it is.
+twice : (asked : Request) (made : Product) → IsSpelled asked made.array → IsRecoded asked made
+    → Spells (joined made.buffers) made.context.ids asked.dtype asked.len asked.session (canon asked.session made.array) → IsTwiceAsOnce asked made
+twice asked made spelled recoded again =
+    let s = asked.session in
+    let o = asked.options in
+    let t = made.array in
+    let own : canon s t ≡ t = canon_own codec s t spelled.told.sound spelled.told.normal in
+    let P : Tree → Type 0 = λ z. KeepsWriterLimits s z asked.context o in
+    let Q : List ℕ → Type 0 = λ z. KeepsReaderLimits o z in
+    let same = ap (λ z. grown codec s asked.context z) own ∙ recoded.serialized.grown_is in
+    record {
+      bytes = ap (λ z. blob_of s z asked.context o) own ∙ sym recoded.serialized.written;
+      context = same;
+      can = record {
+        array = canon s t;
+        spelled = again;
+        reader_limits = subst Q (sym recoded.serialized.written) (written_light (ids_after s t asked.context) o (wire codec s t) recoded.serialized.limits.writable);
+        writer_limits = subst P (sym own) recoded.serialized.limits;
+        grows = is_some (grown codec s asked.context (canon s t)) made.context same;
+      };
+    }
 
 -- What is recoded of a spelled array is faithful to it.
 pub faithful : (asked : Request) (made : Product) → IsShipped asked.session → IsLawful codec asked.session → IsPaired asked.session → IsSpelled asked made.array → IsRecoded asked made → IsFaithful asked made
 faithful asked made ok law paired spelled recoded =
     let P : List ℕ → Type 0 = λ z. Spells z made.context.ids asked.dtype asked.len asked.session (canon asked.session made.array) in
+    let again = subst P (sym recoded.serialized.written)
+    (spelled_again asked.session ok law paired asked.blob asked.ids asked.dtype asked.len made.array asked.context made.context asked.options spelled recoded.serialized.grown_is recoded.serialized.limits) in
     record {
       spelled = spelled;
       the_one = λ other x. spelled_once asked.blob asked.ids asked.dtype asked.len asked.session other made.array ok law x spelled;
-      again = subst P (sym recoded.written)
-          (spelled_again asked.session ok law paired asked.blob asked.ids asked.dtype asked.len made.array asked.context made.context asked.options spelled recoded.grown recoded.writer_limits);
+      again = again;
+      twice = twice asked made spelled recoded again;
     }
 
 -- ---- what is left
@@ -116,12 +122,12 @@ left-still asked = record {
 }
 
 -- A context that identifiers of the spelled array came to.
-pub left-written : (asked : Request) → IsShipped asked.session → IsLawful codec asked.session → (t : Tree) (w : Wire) (after : Context) → w ≡ wire codec asked.session t → IsSpelled asked t → KeepsContext (ids_in w) asked.context after → LeavesContext asked after
-left-written asked ok law t w after own spelled keeps = record {
+pub left-written : (asked : Request) → IsShipped asked.session → IsLawful codec asked.session → (t : Tree) (after : Context) → IsSpelled asked t → KeepsContext (ids_in (wire codec asked.session t)) asked.context after → LeavesContext asked after
+left-written asked ok law t after spelled keeps = record {
   kept = λ array other.
-      let P : List (List ℕ) → Type 0 = λ z. KeepsContext z asked.context after in
+      let P : Tree → Type 0 = λ z. KeepsContext (ids_in (wire codec asked.session z)) asked.context after in
       let same : array ≡ t = spelled_once asked.blob asked.ids asked.dtype asked.len asked.session array t ok law other spelled in
-      subst P (ap (λ z. ids_in z) own ∙ ap (λ z. ids_in (wire codec asked.session z)) (sym same)) keeps;
+      subst P (sym same) keeps;
   untouched = λ none. absurd (none t spelled);
 }
 
@@ -148,14 +154,10 @@ caused_by_tree asked BadMetadata w carried u = record { wire = w; carried = carr
 caused_by_tree asked BadShape w carried u = record { wire = w; carried = carried; cause = u }
 caused_by_tree asked _ w carried u = absurd u
 
-caused_by_limits : (asked : Request) (e : WireError) (t : Tree) → IsSpelled asked t → RefusesWriting asked.context asked.options (wire codec asked.session t) e → Refuses asked e
-caused_by_limits asked OutOfMemory t x u = tt
-caused_by_limits asked NotPermitted t x u = record { array = t; spelled = x; holds = u }
-caused_by_limits asked WireLimit t x u = record { array = t; spelled = x; holds = λ k. u k.writable }
-caused_by_limits asked _ t x u = absurd u
-
--- An array that is not written.
-pub caused_by_writing : (asked : Request) (e : WireError) (w : Wire) (t : Tree) → w ≡ wire codec asked.session t → IsSpelled asked t → RefusesWriting asked.context asked.options w e → Refuses asked e
-caused_by_writing asked e w t own x u =
-    let P : Wire → Type 0 = λ z. RefusesWriting asked.context asked.options z e in
-    caused_by_limits asked e t x (subst P own u)
+-- An array that is not written. What was read is also written.
+pub caused_by_writing : (asked : Request) (e : WireError) (t : Tree) → IsPaired asked.session → IsSpelled asked t → RefusesArray asked.session t asked.context asked.options e → Refuses asked e
+caused_by_writing asked OutOfMemory t paired x u = tt
+caused_by_writing asked NotPermitted t paired x u = record { array = t; spelled = x; holds = u }
+caused_by_writing asked WireLimit t paired x u = record { array = t; spelled = x; holds = u }
+caused_by_writing asked NotRegistered t paired x u = all-written asked.session t (read_written codec asked.session paired x.wire t x.told.matched) u
+caused_by_writing asked _ t paired x u = absurd u

@@ -1,6 +1,7 @@
 -- A blob whole: its message, its limits and its buffers.
-use Rattle.std.specs.Prelude.{ℕ, ◌≡◌, ◌<◌, ◌≤◌, ◌+◌, ◌*◌, ◌-◌, ◌^◌, List, [], ◌∷◌, ◌++◌, Some, length, replicate, refl}
+use Rattle.std.specs.Prelude.{ℕ, ◌≡◌, ◌<◌, ◌≤◌, ◌+◌, ◌*◌, ◌^◌, List, [], ◌∷◌, ◌++◌, Some, length, replicate, refl}
 use Rattle.std.specs.Int.{w32, to_le_bytes}
+use Rattle.std.specs.Prelude.{Result, Ok, Err, IfOk, IfErr}
 use Rattle.std.proofs.Common.{arith, sym, ◌∙◌, ap, subst, append-nil, length-append}
 use Rattle.std.proofs.lemmas.List.{length-replicate}
 use Rattle.vx_buffer.specs.Buffer.{Buffer}
@@ -10,18 +11,27 @@ use Rattle.vx_flat.specs.Limits.{limits, IsLight}
 use Rattle.vx_flat.specs.Schema.{struct_size}
 use Rattle.vx_flat.specs.Value.{Fields, table, elements, no_fields, field}
 use Rattle.vx_flat.specs.Weight.{weight}
+use Rattle.vx_trees.specs.Walks.{levels}
+use Rattle.vx_array_tree.specs.Tree.{Tree}
+use Rattle.vx_wire_tree.specs.Limits.{AreDescribable}
+use Rattle.vx_serde.proofs.WiredNodes.{wired-levels}
 use Rattle.vx_wire_tree.specs.Context.{Context, grown_by}
+use Rattle.vx_wire_tree.specs.Session.{SessionMeaning}
 use Rattle.vx_serde.specs.declared.error.WireError.{WireError}
-use Rattle.vx_serde.specs.declared.error.WireError.TheVariants.{OutOfMemory, TooShort, BadTable, TableLimit, BadAlignment, Compressed, OutOfBounds, UnknownIndex, UnknownEncoding, BadMetadata, BadShape, NotPermitted, WireLimit}
+use Rattle.vx_serde.specs.declared.error.WireError.TheVariants.{OutOfMemory, NotPermitted, WireLimit, NotRegistered}
 use Rattle.vx_serde.specs.declared.options.SerializeOptions.{SerializeOptions}
 use Rattle.vx_serde.specs.ArraySchema.{array_schema, node_fields}
 use Rattle.vx_serde.specs.Message.{Descriptor}
-use Rattle.vx_serde.specs.MessageValue.{node_value, message_value, descriptors_bytes}
+use Rattle.vx_serde.specs.MessageValue.{node_value, descriptors_bytes}
 use Rattle.vx_wire_tree.specs.Wire.{ids_in, buffers_in, Wire}
+use Rattle.vx_serde.proofs.GrownIds.{grown_by-ids}
+use Rattle.vx_wire_tree.specs.Written.{wire}
+use Rattle.vx_encodings.specs.Messages.{codec}
+use Rattle.vx_serde.specs.Causes.{RefusesArray}
+use Rattle.vx_serde.specs.Spells.{ids_after}
 use Rattle.vx_serde.specs.Numbered.{numbered}
 use Rattle.vx_serde.specs.Placing.{pad, descriptors_from, data_from, data_end}
-use Rattle.vx_serde.proofs.GrownIds.{grown_by-ids}
-use Rattle.vx_serde.specs.WritingSteps.{RefusesWriting, KeepsTreeLimits, IsLaidOut, RefusesLayout, RefusesMessage}
+use Rattle.vx_serde.specs.WritingSteps.{KeepsTreeLimits, IsLaidOut, RefusesIds, RefusesBytes, RefusesLayout, RefusesMessage, layout_of}
 use Rattle.vx_serde.specs.Written.{message_bytes, message_pad, blob_bytes, IsWritable}
 use Rattle.vx_buffer.specs.Joined.{joined}
 use Rattle.vx_serde.specs.WrittenBuffers.{unaligned, pad_buffers, data_buffers, greatest_exponent, written_buffers}
@@ -30,13 +40,38 @@ use Rattle.vx_serde.proofs.PlacedData.{joined-append, joined-pad, joined-data, l
 
 -- ---- the message
 
-pub message-is : (ids : List (List ℕ)) (o : SerializeOptions) (w : Wire) (root value : Fields) (ds : List ℕ) → value ≡ field (table root) (field (elements ds) no_fields)
-    → ((more : List (List ℕ)) → root ≡ node_value (numbered (ids ++ more) 0 w)) → ds ≡ descriptors_bytes (descriptors_from o o.offset (buffers_in w)) → written_layout array_schema value ≡ message_bytes ids o w
-message-is ids o w root value ds p q r =
-    let whole : value ≡ message_value (numbered ids 0 w) (descriptors_from o o.offset (buffers_in w)) =
-    p ∙ ap (λ v. field (table v) (field (elements ds) no_fields)) (q []) ∙ ap (λ z. field (table (node_value (numbered z 0 w))) (field (elements ds) no_fields)) (append-nil ids)
-    ∙ ap (λ bs. field (table (node_value (numbered ids 0 w))) (field (elements bs) no_fields)) r in
-    ap (λ v. written_layout array_schema v) whole
+-- The message of a tree and of the bytes of its descriptors is the tree's.
+pub message-is : (ids : List (List ℕ)) (o : SerializeOptions) (w : Wire) (ds : List ℕ) → ds ≡ descriptors_bytes (descriptors_from o o.offset (buffers_in w)) → layout_of ids w ds ≡ message_bytes ids o w
+message-is ids o w ds r = ap (λ bs. layout_of ids w bs) r
+
+-- So it is, where it was made of the value of its root.
+pub layout-is : (ids : List (List ℕ)) (w : Wire) (root value : Fields) (ds : List ℕ) → value ≡ field (table root) (field (elements ds) no_fields)
+    → ((more : List (List ℕ)) → root ≡ node_value (numbered (ids ++ more) 0 w)) → written_layout array_schema value ≡ layout_of ids w ds
+layout-is ids w root value ds p q =
+    let same : root ≡ node_value (numbered ids 0 w) = q [] ∙ ap (λ z. node_value (numbered z 0 w)) (append-nil ids) in
+    ap (λ v. written_layout array_schema v) (p ∙ ap (λ v. field (table v) (field (elements ds) no_fields)) same)
+
+-- What an answer shows of equal bytes.
+pub if_ok_same : {T E : Type 0} (r : Result T E) (f : T → List ℕ) (m n : List ℕ) → m ≡ n → IfOk r (λ x. f x ≡ m) → IfOk r (λ x. f x ≡ n)
+if_ok_same (Ok x) f m n e h = h ∙ e
+if_ok_same (Err x) f m n e h = tt
+
+-- Identifiers that are refused refuse a message.
+pub ids-refused : (c : Context) (w : Wire) (bytes : List ℕ) (e : WireError) → RefusesIds (ids_in w) c e → RefusesMessage c w bytes e
+ids-refused c w bytes OutOfMemory h = tt
+ids-refused c w bytes NotPermitted h = h
+ids-refused c w bytes _ h = absurd h
+
+-- And so do its bytes, with the identifiers of the grown context.
+pub bytes-refused : {T : Type 0} (c d : Context) (w : Wire) (bytes message : List ℕ) (r : Result T WireError) → grown_by (ids_in w) c ≡ Some d → message ≡ layout_of d.ids w bytes
+    → IfErr r (RefusesBytes message) → IfErr r (RefusesMessage c w bytes)
+bytes-refused c d w bytes message (Ok x) g p h = tt
+bytes-refused c d w bytes message (Err OutOfMemory) g p h = tt
+bytes-refused c d w bytes message (Err WireLimit) g p h =
+    let same = p ∙ ap (λ ids. layout_of ids w bytes) (grown_by-ids (ids_in w) c d g) in
+    let P : List ℕ → Type 0 = λ m. RefusesBytes m WireLimit in
+    subst P same h
+bytes-refused c d w bytes message (Err _) g p h = absurd h
 
 -- a descriptor's struct has eight bytes
 eight : struct_size array_schema 0 ≡ 8
@@ -87,55 +122,55 @@ writable-is ids o w last ds message p e short light ends =
       ends = omega (arith, ends, length-blob ids o w, p.last_is, ap (λ n. pad o 3 n) p.last_is, ap (λ m. length m) e);
     }
 
+-- An array is laid out where its tree keeps the limits and its buffers' descriptors are these.
+pub laid_out : (s : SessionMeaning) (t : Tree) (o : SerializeOptions) (bs : List Buffer) (descriptors : List ℕ) (last : ℕ) → bs ≡ buffers_in (wire codec s t) → levels t ≤ 62 → length bs ≤ 65535 → AreDescribable bs
+    → descriptors ≡ descriptors_bytes (descriptors_from o o.offset bs) → last ≡ data_end o o.offset bs → last < 2 ^ 64 → IsLaidOut o (wire codec s t) descriptors last
+laid_out s t o bs descriptors last same deep few all d e ends =
+    let P : List Buffer → Type 0 = λ z. AreDescribable z in
+    let Q : List Buffer → Type 0 = λ z. data_end o o.offset z < 2 ^ 64 in
+    let ends_there : data_end o o.offset bs < 2 ^ 64 = omega (arith, ends, e) in
+    record {
+      placeable = record {
+        tree = record { nested = omega (arith, deep, wired-levels s t); few = omega (arith, few, ap (λ z. length z) same); describable = subst P same all };
+        ends = subst Q same ends_there;
+      };
+      descriptors_are = d ∙ ap (λ z. descriptors_bytes (descriptors_from o o.offset z)) same;
+      last_is = e ∙ ap (λ z. data_end o o.offset z) same;
+    }
+
 -- ---- refusals
 
-pub unplaced-unwritten : (c : Context) (o : SerializeOptions) (w : Wire) (e : WireError) → RefusesLayout o w e → RefusesWriting c o w e
-unplaced-unwritten c o w OutOfMemory h = tt
-unplaced-unwritten c o w WireLimit h = λ k. h (writable-placeable _ o w k)
-unplaced-unwritten c o w NotPermitted h = absurd h
-unplaced-unwritten c o w TooShort h = h
-unplaced-unwritten c o w BadTable h = h
-unplaced-unwritten c o w TableLimit h = h
-unplaced-unwritten c o w BadAlignment h = h
-unplaced-unwritten c o w Compressed h = h
-unplaced-unwritten c o w OutOfBounds h = h
-unplaced-unwritten c o w UnknownIndex h = h
-unplaced-unwritten c o w UnknownEncoding h = h
-unplaced-unwritten c o w BadMetadata h = h
-unplaced-unwritten c o w BadShape h = h
+module _ (s : SessionMeaning) (t : Tree) (c : Context) (o : SerializeOptions) where
+  w : Wire
+  w = wire codec s t
 
--- A limit that fails with the context that the identifiers make.
-pub limit-unwritten : (c d : Context) (o : SerializeOptions) (w : Wire) → grown_by (ids_in w) c ≡ Some d → (IsWritable d.ids o w → ⊥) → RefusesWriting c o w WireLimit
-limit-unwritten c d o w g h =
-    let P : List (List ℕ) → Type 0 = λ ids. IsWritable ids o w → ⊥ in
-    subst P (grown_by-ids (ids_in w) c d g) h
+  -- An array that is not laid out.
+  pub unplaced : (e : WireError) → RefusesLayout s o t e → RefusesArray s t c o e
+  unfolding w
+  unplaced OutOfMemory h = tt
+  unplaced WireLimit h = λ k. h (writable-placeable (ids_after s t c) o w k.writable)
+  unplaced NotRegistered h = h
+  unplaced _ h = absurd h
 
-heavy : (m n : List ℕ) → m ≡ n → (length m < 2 ^ 31 → IsLight limits (weight array_schema m) → ⊥) → length n ≤ 2 ^ 31 - 1 → IsLight limits (weight array_schema n) → ⊥
-heavy m n e h short light =
-    let P : List ℕ → Type 0 = λ k. IsLight limits (weight array_schema k) in
-    h (omega (arith, short, ap (λ k. length k) e)) (subst P (sym e) light)
+  -- An array whose message is not written.
+  pub unwritten : (bytes : List ℕ) (e : WireError) → bytes ≡ descriptors_bytes (descriptors_from o o.offset (buffers_in (wire codec s t)))
+      → RefusesMessage c (wire codec s t) bytes e → RefusesArray s t c o e
+  unfolding w
+  unwritten bytes OutOfMemory p h = tt
+  unwritten bytes NotPermitted p h = h
+  unwritten bytes WireLimit p h = λ k.
+      let same = message-is (ids_after s t c) o w bytes p in
+      let P : List ℕ → Type 0 = λ m. IsLight limits (weight array_schema m) in
+      h (omega (arith, k.writable.short, ap (λ m. length m) same)) (subst P (sym same) k.writable.light)
+  unwritten bytes _ p h = absurd h
 
-pub heavy-unwritten : (c d : Context) (o : SerializeOptions) (w : Wire) (message : List ℕ) (e : WireError) → grown_by (ids_in w) c ≡ Some d → message ≡ message_bytes d.ids o w
-    → RefusesMessage message e → RefusesWriting c o w e
-heavy-unwritten c d o w message OutOfMemory g p h = tt
-heavy-unwritten c d o w message WireLimit g p h = limit-unwritten c d o w g (λ k. heavy message (message_bytes d.ids o w) p h k.short k.light)
-heavy-unwritten c d o w message NotPermitted g p h = absurd h
-heavy-unwritten c d o w message TooShort g p h = h
-heavy-unwritten c d o w message BadTable g p h = h
-heavy-unwritten c d o w message TableLimit g p h = h
-heavy-unwritten c d o w message BadAlignment g p h = h
-heavy-unwritten c d o w message Compressed g p h = h
-heavy-unwritten c d o w message OutOfBounds g p h = h
-heavy-unwritten c d o w message UnknownIndex g p h = h
-heavy-unwritten c d o w message UnknownEncoding g p h = h
-heavy-unwritten c d o w message BadMetadata g p h = h
-heavy-unwritten c d o w message BadShape g p h = h
-
--- A blob that would end past the positions of 64 bits.
-pub late-unwritten : (c d : Context) (o : SerializeOptions) (w : Wire) (last : ℕ) (ds message : List ℕ) → grown_by (ids_in w) c ≡ Some d → IsLaidOut o w ds last → message ≡ message_bytes d.ids o w
-    → 2 ^ 64 ≤ last + (pad o 3 last + length message + 4) → RefusesWriting c o w WireLimit
-late-unwritten c d o w last ds message g p e late =
-    limit-unwritten c d o w g (λ k. omega (arith, late, k.ends, length-blob d.ids o w, p.last_is, ap (λ n. pad o 3 n) p.last_is, ap (λ m. length m) e))
+  -- A blob that would end past the positions of 64 bits.
+  pub late : (last : ℕ) (bytes message : List ℕ) → IsLaidOut o (wire codec s t) bytes last → message ≡ layout_of (ids_after s t c) (wire codec s t) bytes
+      → 2 ^ 64 ≤ last + (pad o 3 last + length message + 4) → RefusesArray s t c o WireLimit
+  unfolding w
+  late last bytes message p e far = λ k.
+      let same = e ∙ message-is (ids_after s t c) o w bytes p.descriptors_are in
+      omega (arith, far, k.writable.ends, length-blob (ids_after s t c) o w, p.last_is, ap (λ n. pad o 3 n) p.last_is, ap (λ m. length m) same)
 
 -- ---- buffers
 

@@ -70,7 +70,7 @@ module _ (c : Codec) (s : SessionMeaning) where
 
   module _ (paired : IsPaired s) where
     mutual
-      read_written : (w : Wire) (t : Tree) → Matches c s w t → IsWritten s t
+      pub read_written : (w : Wire) (t : Tree) → Matches c s w t → IsWritten s t
       read_written (node w ws) (node h ts) m =
           let x = by_reader (s.reader m.0) w (node h ts) (λ us. AllMatch c s ws us) m.2 in
           let q = paired.read_is_written m.0 (shipped x.0) x.1 in

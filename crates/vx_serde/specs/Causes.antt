@@ -4,12 +4,13 @@ use Rattle.vx_types.specs.Typ.{Typ}
 use Rattle.vx_array_tree.specs.Tree.{Tree}
 use Rattle.vx_wire_tree.specs.Causes.{RefusesTree}
 use Rattle.vx_wire_tree.specs.Causes as trees
-use Rattle.vx_wire_tree.specs.Context.{grown}
+use Rattle.vx_wire_tree.specs.Context.{Context, grown}
 use Rattle.vx_wire_tree.specs.Session.{SessionMeaning}
 use Rattle.vx_wire_tree.specs.Wire.{Wire}
 use Rattle.vx_encodings.specs.Messages.{codec}
+use Rattle.vx_serde.specs.declared.options.SerializeOptions.{SerializeOptions}
 use Rattle.vx_serde.specs.declared.error.WireError.{WireError}
-use Rattle.vx_serde.specs.declared.error.WireError.TheVariants.{OutOfMemory, TooShort, BadTable, TableLimit, BadAlignment, Compressed, OutOfBounds, UnknownIndex, UnknownEncoding, BadMetadata, BadShape, NotPermitted, WireLimit}
+use Rattle.vx_serde.specs.declared.error.WireError.TheVariants.{OutOfMemory, TooShort, BadTable, TableLimit, BadAlignment, Compressed, OutOfBounds, UnknownIndex, UnknownEncoding, BadMetadata, BadShape, NotPermitted, WireLimit, NotRegistered}
 use Rattle.vx_serde.specs.Blob.{Carries}
 use Rattle.vx_serde.specs.Limits.{message_limits}
 use Rattle.vx_serde.specs.Opening.{RefusesOpening}
@@ -39,9 +40,20 @@ pub record SpellsOne (asked : Request) (P : Tree → Type 0) : Type 0 where
   pub spelled : IsSpelled asked array
   pub holds : P array
 
+-- Why an array is not written under a context: by the refusal. Want of memory has no cause but itself. The context does
+-- not take one of the array's identifiers, a limit on writing is passed, or nothing writes the arrays of a node's
+-- encoding.
+abbrev pub RefusesArray : SessionMeaning → Tree → Context → SerializeOptions → WireError → Type 0
+RefusesArray s t context options OutOfMemory = Unit {0}
+RefusesArray s t context options NotPermitted = grown codec s context t ≡ None
+RefusesArray s t context options WireLimit = KeepsWriterLimits s t context options → ⊥
+RefusesArray s t context options NotRegistered = trees.HasUnwritten s t
+RefusesArray s t context options _ = ⊥
+
 -- Why `recode` refuses: by the refusal. Want of memory has no cause but itself. The
 -- blob's own faults come first, then those of its nodes, then those of the array
--- that it spells: an identifier that the context does not take, or a limit on writing.
+-- that it spells: an identifier that the context does not take, or a limit on writing. What is read is also written, so
+-- no node of it is without a writer.
 abbrev pub Refuses : Request → WireError → Type 0
 Refuses asked OutOfMemory = Unit {0}
 Refuses asked TooShort = RefusesOpening (message_limits asked.options) TooShort asked.blob
@@ -54,5 +66,6 @@ Refuses asked UnknownIndex = RefusesCarried asked UnknownIndex
 Refuses asked UnknownEncoding = RefusesCarried asked UnknownEncoding
 Refuses asked BadMetadata = RefusesCarried asked BadMetadata
 Refuses asked BadShape = RefusesCarried asked BadShape
-Refuses asked NotPermitted = SpellsOne asked (λ t. grown codec asked.session asked.context t ≡ None)
-Refuses asked WireLimit = SpellsOne asked (λ t. KeepsWriterLimits asked.session t asked.context asked.options → ⊥)
+Refuses asked NotPermitted = SpellsOne asked (λ t. RefusesArray asked.session t asked.context asked.options NotPermitted)
+Refuses asked WireLimit = SpellsOne asked (λ t. RefusesArray asked.session t asked.context asked.options WireLimit)
+Refuses asked NotRegistered = ⊥

@@ -1,10 +1,10 @@
 -- The numbers of refusals.
 use Rattle.std.specs.Prelude.{ℕ}
 use Rattle.vx_serde.specs.declared.error.WireError.{WireError}
-use Rattle.vx_serde.specs.declared.error.WireError.TheVariants.{OutOfMemory, TooShort, BadTable, TableLimit, BadAlignment, Compressed, OutOfBounds, UnknownIndex, UnknownEncoding, BadMetadata, BadShape, NotPermitted, WireLimit}
+use Rattle.vx_serde.specs.declared.error.WireError.TheVariants.{OutOfMemory, TooShort, BadTable, TableLimit, BadAlignment, Compressed, OutOfBounds, UnknownIndex, UnknownEncoding, BadMetadata, BadShape, NotPermitted, WireLimit, NotRegistered}
 
 -- Want of memory is 1. The blob's own faults are 10 to 15, a node's 16 to 19, and
--- those of writing 23 and 24.
+-- those of writing 23 to 25.
 abbrev pub error_number : WireError → ℕ
 error_number OutOfMemory = 1
 error_number TooShort = 10
@@ -19,3 +19,4 @@ error_number BadMetadata = 18
 error_number BadShape = 19
 error_number NotPermitted = 23
 error_number WireLimit = 24
+error_number NotRegistered = 25

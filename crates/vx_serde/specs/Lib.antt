@@ -15,6 +15,7 @@ pub mod Spells
 pub mod Request
 pub mod Causes
 pub mod Aligned
+pub mod Serializing
 pub mod Recoding
 -- What the contracts of private functions alone cite.
 pub mod Decoding

@@ -1,5 +1,5 @@
 -- What `recode` makes, and what it leaves.
-use Rattle.std.specs.Prelude.{◌≡◌, List, Some, IsTrue}
+use Rattle.std.specs.Prelude.{◌≡◌, List, Some}
 use Rattle.vx_buffer.specs.Buffer.{Buffer}
 use Rattle.vx_array_tree.specs.Tree.{Tree}
 use Rattle.vx_wire_tree.specs.Context.{Context, grown}
@@ -7,10 +7,10 @@ use Rattle.vx_wire_tree.specs.Wire.{ids_in}
 use Rattle.vx_wire_tree.specs.Written.{wire, canon}
 use Rattle.vx_encodings.specs.Messages.{codec}
 use Rattle.vx_serde.specs.declared.recoding.Recoded.{Recoded}
-use Rattle.vx_serde.specs.Aligned.{IsAlignedBlob}
 use Rattle.vx_serde.specs.KeptContext.{KeepsContext}
-use Rattle.vx_serde.specs.Request.{Request, IsSpelled}
-use Rattle.vx_serde.specs.Spells.{Spells, KeepsReaderLimits, KeepsWriterLimits, blob_of, blob_buffers}
+use Rattle.vx_serde.specs.Request.{Request, IsSpelled, CanRecode}
+use Rattle.vx_serde.specs.Serializing.{IsSerialized}
+use Rattle.vx_serde.specs.Spells.{Spells, KeepsReaderLimits, blob_of}
 use Rattle.vx_buffer.specs.Joined.{joined}
 
 -- What is made: an array, the buffers of its blob in order, and the context after it.
@@ -23,23 +23,38 @@ pub record Product : Type 0 where
 abbrev pub product : Recoded → Context → Product
 product recoded context = record { array = recoded.array; buffers = recoded.buffers; context = context }
 
--- The buffers, one after the other, are the array's blob under the context that is grown by it. They come as an empty
--- one of the greatest alignment, then the pads, the data, the message and its length. The limits on reading and on
--- writing were kept, and where padding is asked, each data buffer that the new blob tells begins at a position of its
--- alignment.
+-- The limits on reading were kept, and the buffers are those that the array is written as.
 pub record IsRecoded (asked : Request) (made : Product) : Type 0 where
-  pub written : joined made.buffers ≡ blob_of asked.session made.array asked.context asked.options
-  pub buffers : made.buffers ≡ blob_buffers asked.session made.array asked.context asked.options
   pub reader_limits : KeepsReaderLimits asked.options asked.blob
-  pub writer_limits : KeepsWriterLimits asked.session made.array asked.context asked.options
-  pub aligned : IsTrue asked.options.include_padding → IsAlignedBlob asked.options.offset (joined made.buffers)
-  pub grown : grown codec asked.session asked.context made.array ≡ Some made.context
+  pub serialized : IsSerialized asked.session made.array asked.options asked.context made.context made.buffers
 
--- The blob spells the array, and no other one; and the new blob spells the same array, read with the grown context.
+-- What a second call is asked that reads the new blob with the grown context, and writes from the context with which
+-- the first call began.
+abbrev pub asked_again : Request → Product → Request
+asked_again asked made = record {
+  blob = joined made.buffers;
+  dtype = asked.dtype;
+  len = asked.len;
+  ids = made.context.ids;
+  context = asked.context;
+  options = asked.options;
+  session = asked.session;
+}
+
+-- Recoding twice is recoding once: what is read back of the array has the new bytes as its blob, and grows the context
+-- alike; and what a second call is asked can be done.
+pub record IsTwiceAsOnce (asked : Request) (made : Product) : Type 0 where
+  pub bytes : blob_of asked.session (canon asked.session made.array) asked.context asked.options ≡ joined made.buffers
+  pub context : grown codec asked.session asked.context (canon asked.session made.array) ≡ Some made.context
+  pub can : CanRecode (asked_again asked made)
+
+-- The blob spells the array, and no other one; the new blob spells the same array, read with the grown context; and
+-- recoding it again changes nothing.
 pub record IsFaithful (asked : Request) (made : Product) : Type 0 where
   pub spelled : IsSpelled asked made.array
   pub the_one : (other : Tree) → IsSpelled asked other → other ≡ made.array
   pub again : Spells (joined made.buffers) made.context.ids asked.dtype asked.len asked.session (canon asked.session made.array)
+  pub twice : IsTwiceAsOnce asked made
 
 -- What a call leaves of the context, whatever it answers: the context keeps what it had, and what comes to it at its
 -- end are identifiers of the array that the blob spells. Where the blob spells none, nothing comes.

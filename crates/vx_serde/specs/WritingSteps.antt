@@ -1,32 +1,35 @@
--- What the steps of writing a tree give, and why they refuse.
-use Rattle.std.specs.Prelude.{ℕ, ◌≡◌, ◌<◌, ◌^◌, List, None, length}
+-- What the steps of writing an array give, and why they refuse.
+use Rattle.std.specs.Prelude.{ℕ, ◌≡◌, ◌<◌, ◌^◌, List, Some, None, length}
+use Rattle.vx_flat.specs.Layout.{written_layout}
 use Rattle.vx_flat.specs.Limits.{limits, IsLight}
+use Rattle.vx_flat.specs.Value.{table, elements, field, no_fields}
 use Rattle.vx_flat.specs.Weight.{weight}
+use Rattle.vx_trees.specs.Walks.{levels}
+use Rattle.vx_array_tree.specs.Tree.{Tree}
+use Rattle.vx_wire_tree.specs.Causes.{HasUnwritten}
 use Rattle.vx_wire_tree.specs.Context.{Context, grown_by, with_ids}
+use Rattle.vx_wire_tree.specs.Session.{SessionMeaning, Reader}
+use Rattle.vx_registry.specs.Session.{Registry, found}
+use Rattle.vx_registry.specs.Serialization.{array_id}
 use Rattle.vx_serde.specs.declared.error.WireError.{WireError}
-use Rattle.vx_serde.specs.declared.error.WireError.TheVariants.{OutOfMemory, NotPermitted, WireLimit}
+use Rattle.vx_serde.specs.declared.error.WireError.TheVariants.{OutOfMemory, NotPermitted, WireLimit, NotRegistered}
 use Rattle.vx_serde.specs.declared.options.SerializeOptions.{SerializeOptions}
 use Rattle.vx_wire_tree.specs.Wire.{Wire, ids_in, buffers_in}
+use Rattle.vx_wire_tree.specs.Written.{wire}
+use Rattle.vx_encodings.specs.Messages.{codec}
 use Rattle.vx_serde.specs.ArraySchema.{array_schema}
 use Rattle.vx_serde.specs.Limits.{most_levels}
-use Rattle.vx_serde.specs.MessageValue.{descriptors_bytes}
+use Rattle.vx_serde.specs.Message.{Descriptor}
+use Rattle.vx_serde.specs.MessageValue.{descriptors_bytes, node_value}
+use Rattle.vx_serde.specs.Numbered.{numbered}
 use Rattle.vx_serde.specs.Placing.{descriptors_from, data_end}
 use Rattle.vx_wire_tree.specs.Limits.{IsWritableTree}
-use Rattle.vx_serde.specs.Written.{IsWritable}
 
 -- Identifiers are refused because the context takes one of them not, or for want of memory.
 abbrev pub RefusesIds : List (List ℕ) → Context → WireError → Type 0
 RefusesIds ids c OutOfMemory = Unit {0}
 RefusesIds ids c NotPermitted = grown_by ids c ≡ None
 RefusesIds ids c _ = ⊥
-
--- A tree is refused for want of memory, because the context does not take its
--- identifiers, or because it passes a limit with the identifiers that the context would have then.
-abbrev pub RefusesWriting : Context → SerializeOptions → Wire → WireError → Type 0
-RefusesWriting c options w OutOfMemory = Unit {0}
-RefusesWriting c options w NotPermitted = grown_by (ids_in w) c ≡ None
-RefusesWriting c options w WireLimit = IsWritable (with_ids c.ids (ids_in w)) options w → ⊥
-RefusesWriting c options w _ = ⊥
 
 -- The limits that a tree keeps before its message is known: those on the tree, and one
 -- on the position where the last of its buffers ends.
@@ -40,14 +43,53 @@ pub record IsLaidOut (options : SerializeOptions) (w : Wire) (descriptors : List
   pub descriptors_are : descriptors ≡ descriptors_bytes (descriptors_from options options.offset (buffers_in w))
   pub last_is : last ≡ data_end options options.offset (buffers_in w)
 
--- Buffers are not placed for want of memory, or because the tree passes one of these limits.
-abbrev pub RefusesLayout : SerializeOptions → Wire → WireError → Type 0
-RefusesLayout options w OutOfMemory = Unit {0}
-RefusesLayout options w WireLimit = KeepsTreeLimits options w → ⊥
-RefusesLayout options w _ = ⊥
+-- The bytes of a message are refused for want of memory, or because they are too many or too heavy.
+abbrev pub RefusesBytes : List ℕ → WireError → Type 0
+RefusesBytes message OutOfMemory = Unit {0}
+RefusesBytes message WireLimit = length message < 2 ^ 31 → IsLight limits (weight array_schema message) → ⊥
+RefusesBytes message _ = ⊥
 
--- A message is not written for want of memory, or because it is too long or too heavy.
-abbrev pub RefusesMessage : List ℕ → WireError → Type 0
-RefusesMessage message OutOfMemory = Unit {0}
-RefusesMessage message WireLimit = length message < 2 ^ 31 → IsLight limits (weight array_schema message) → ⊥
-RefusesMessage message _ = ⊥
+-- Bytes that are descriptors.
+abbrev pub AreDescriptors : List ℕ → Type 0
+AreDescriptors bytes = (ds : List Descriptor) × (bytes ≡ descriptors_bytes ds)
+
+-- The message of a wire tree and of descriptors' bytes, where these are the identifiers.
+abbrev pub layout_of : List (List ℕ) → Wire → List ℕ → List ℕ
+layout_of ids w bytes = written_layout array_schema (field (table (node_value (numbered ids 0 w))) (field (elements bytes) no_fields))
+
+-- A message is not written because the context does not take its identifiers, or its bytes are refused with the
+-- identifiers that the context would have then.
+abbrev pub RefusesMessage : Context → Wire → List ℕ → WireError → Type 0
+RefusesMessage c w bytes OutOfMemory = Unit {0}
+RefusesMessage c w bytes NotPermitted = grown_by (ids_in w) c ≡ None
+RefusesMessage c w bytes WireLimit = RefusesBytes (layout_of (with_ids c.ids (ids_in w)) w bytes) WireLimit
+RefusesMessage c w bytes _ = ⊥
+
+-- ---- nodes
+
+-- What writes the arrays of a root's encoding is registered.
+pub record HasEntry (r : Registry) (t : Tree) : Type 0 where
+  pub entry : Reader
+  pub found_is : found r.writers (array_id t) ≡ Some entry
+
+-- A root is not written for want of memory, or because nothing writes the arrays of its encoding.
+abbrev pub RefusesNode : Registry → Tree → WireError → Type 0
+RefusesNode r t OutOfMemory = Unit {0}
+RefusesNode r t NotRegistered = found r.writers (array_id t) ≡ None
+RefusesNode r t _ = ⊥
+
+-- The nodes of an array are not written for want of memory, because there are more levels than there is room for, or
+-- because nothing writes the arrays of one's encoding.
+abbrev pub RefusesNodes : SessionMeaning → Tree → ℕ → WireError → Type 0
+RefusesNodes s t room OutOfMemory = Unit {0}
+RefusesNodes s t room WireLimit = room < levels t
+RefusesNodes s t room NotRegistered = HasUnwritten s t
+RefusesNodes s t room _ = ⊥
+
+-- An array is not laid out because its nodes are not written, or it passes one of the limits that are known before its
+-- message.
+abbrev pub RefusesLayout : SessionMeaning → SerializeOptions → Tree → WireError → Type 0
+RefusesLayout s options t OutOfMemory = Unit {0}
+RefusesLayout s options t WireLimit = KeepsTreeLimits options (wire codec s t) → ⊥
+RefusesLayout s options t NotRegistered = HasUnwritten s t
+RefusesLayout s options t _ = ⊥

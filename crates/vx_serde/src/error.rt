@@ -50,6 +50,9 @@ pub enum WireError {
     /// The array passes a limit on writing.
     #[error("the array passes a limit on writing")]
     WireLimit,
+    /// Nothing writes the arrays of an encoding.
+    #[error("nothing writes the arrays of an encoding")]
+    NotRegistered,
 }
 
 impl WireError {
@@ -71,6 +74,7 @@ impl WireError {
             WireError::BadShape => 19,
             WireError::NotPermitted => 23,
             WireError::WireLimit => 24,
+            WireError::NotRegistered => 25,
         }
     }
 }

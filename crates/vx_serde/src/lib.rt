@@ -4,6 +4,7 @@
 mod array_kind;
 mod decoding;
 mod error;
+mod gathering;
 pub mod laws;
 mod limits;
 mod message;
@@ -12,8 +13,8 @@ mod opening;
 mod options;
 mod placing;
 mod recoding;
+mod serializing;
 mod tree;
-mod wiring;
 mod writing;
 
 pub use array_kind::ArrayKind;
@@ -21,3 +22,4 @@ pub use error::WireError;
 pub use message::Descriptor;
 pub use options::SerializeOptions;
 pub use recoding::{Recoded, recode};
+pub use serializing::ArrayExt;

@@ -1,10 +1,8 @@
 //! The limits on trees that are written, and on a buffer's alignment.
 
 ghost use Rattle.std.specs.Prelude.{◌≡◌, ◌≤◌, ◌<◌, ◌^◌, ◌-◌, ◌↔◌, IsTrue, All, length};
-ghost use Rattle.vx_trees.specs.Walks.{levels};
 ghost use Rattle.vx_wire_tree.specs.Limits.{IsDescribable, AreDescribable};
 
-use crate::tree::WireNode;
 use vx_buffer::BufferHandle;
 
 /// How many levels of nodes a written tree may have.
@@ -18,22 +16,6 @@ pub(crate) const MAX_BUFFER_LEN: usize = 4_294_967_295;
 
 /// The greatest exponent of the alignment of a buffer that is read or written.
 pub(crate) const MAX_EXPONENT: u8 = 16;
-
-/// Whether a tree has at most this many levels.
-#[tactic(auto, using(vx_trees::proofs::Counting::level_facts, vx_trees::proofs::Roses::roses))]
-pub(crate) fn has_levels_within(node: &WireNode, limit: usize) -> bool
-    ensures { IsTrue result ↔ (levels node.now ≤ limit) }
-{
-    if limit == 0 {
-        return false;
-    }
-    for child in node.children() {
-        if !has_levels_within(child, limit - 1) {
-            return false;
-        }
-    }
-    true
-}
 
 /// Whether a descriptor can tell a buffer.
 fn is_describable(buffer: &BufferHandle) -> bool

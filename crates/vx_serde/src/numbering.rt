@@ -1,56 +1,61 @@
-//! The nodes of a wire tree as tables: identifiers by their numbers in a context, buffers by their
+//! The nodes of an array as tables: identifiers by their numbers in a context, buffers by their
 //! numbers in preorder.
 
-ghost use Rattle.std.specs.Prelude.{◌≡◌, ◌+◌, ◌≤◌, ◌<◌, ◌^◌, ◌++◌, ℕ, List, Some, length, IfOk, IfErr, OnOk};
+ghost use Rattle.std.specs.Prelude.{◌≡◌, ◌+◌, ◌≤◌, ◌<◌, ◌^◌, ◌++◌, ◌∷◌, [], ℕ, List, Some, length, IfOk, IfErr, OnOk, IsOkUnless};
 ghost use Rattle.vx_flat.specs.IsOf.{AreOf, AreRowsOf};
 ghost use Rattle.vx_flat.specs.Value.{number, elements, table, tables, no_fields, field};
 ghost use Rattle.vx_flat.specs.View.{views};
-ghost use Rattle.vx_wire_tree.specs.Context.{grown_by};
-ghost use Rattle.vx_trees.specs.Rose.{label};
+ghost use Rattle.vx_trees.specs.Rose.{label, below};
+ghost use Rattle.vx_array_tree.specs.Sound.{metadata_in};
+ghost use Rattle.vx_wire_tree.specs.Context.{grown_by, index_of};
+ghost use Rattle.vx_wire_tree.specs.Fields.{told};
+ghost use Rattle.vx_wire_tree.specs.Session.{SessionMeaning};
+ghost use Rattle.vx_wire_tree.specs.Wire.{ids_in, buffers_in};
+ghost use Rattle.vx_wire_tree.specs.Written.{wire};
+ghost use Rattle.vx_encodings.specs.Messages.{codec, message_bytes};
+ghost use Rattle.vx_registry.specs.Serialization.{array_id};
 ghost use Rattle.vx_serde.specs.ArraySchema.{array_schema, node_fields, stats_fields};
 ghost use Rattle.vx_serde.specs.KeptContext.{KeepsContext};
 ghost use Rattle.vx_serde.specs.MessageValue.{index_bytes, no_stats, node_value};
-ghost use Rattle.vx_wire_tree.specs.Wire.{present, id_in, ids_in, buffers_in};
-ghost use Rattle.vx_serde.specs.Numbered.{encoding_index, numbers_from, numbered};
+ghost use Rattle.vx_serde.specs.Numbered.{numbers_from, numbered};
 ghost use Rattle.vx_serde.specs.TableViews.{tables_of};
 ghost use Rattle.vx_serde.specs.WritingSteps.{RefusesIds};
 
 use crate::error::WireError;
-use crate::tree::WireNode;
 use std::alloc::{AllocError, Global};
-use vx_buffer::BufferHandle;
+use vx_arrays::Array;
+use vx_encodings::metadata;
 use vx_flat::FieldValue;
 use vx_registry::ArrayContext;
+use vx_types::{Blob, Id};
 
-/// The number of a node's identifier, which the context takes where it is new; 0 where it is missing.
-fn encoding_number(node: &WireNode, ctx: &mut ArrayContext) -> Result<u16, WireError>
-    ensures grown { OnOk result (grown_by (id_in (label node.now)) ctx.old ≡ Some ctx.new) }
-    ensures number { IfOk result (λ n. (more : List (List ℕ)) → encoding_index (label node.now).id (ctx.new.ids ++ more) ≡ n) }
+/// The number of the identifier of a root's encoding, which the context takes where it is new.
+fn encoding_number(alloc: Global, array: &Array, ctx: &mut ArrayContext) -> Result<u16, WireError>
+    ensures grown { OnOk result (grown_by (array_id array.now ∷ []) ctx.old ≡ Some ctx.new) }
+    ensures number { IfOk result (λ n. (more : List (List ℕ)) → index_of (array_id array.now) (ctx.new.ids ++ more) ≡ n) }
     ensures fits { IfOk result (λ n. n < 2 ^ 16) }
-    ensures kept { KeepsContext (id_in (label node.now)) ctx.old ctx.new }
-    ensures refused { IfErr result (RefusesIds (id_in (label node.now)) ctx.old) }
+    ensures kept { KeepsContext (array_id array.now ∷ []) ctx.old ctx.new }
+    ensures refused { IfErr result (RefusesIds (array_id array.now ∷ []) ctx.old) }
 {
-    let Some(id) = node.id() else {
-        return Ok(0);
+    let Ok(id) = Id::new(alloc, array.encoding_id()) else {
+        return Err(WireError::OutOfMemory);
     };
-    match ctx.intern(id) {
+    match ctx.intern(&id) {
         Ok(Some(number)) => Ok(number),
         Ok(None) => Err(WireError::NotPermitted),
         Err(_) => Err(WireError::OutOfMemory),
     }
 }
 
-/// How many buffers are not missing.
-fn count_present(buffers: &[Option<BufferHandle>]) -> usize
-    ensures { result ≡ length (present buffers.now) }
+/// The bytes of a root's metadata.
+fn metadata_bytes(alloc: Global, array: &Array) -> Result<Blob, WireError>
+    ensures ok { IfOk result (λ bytes. bytes ≡ message_bytes (told (metadata_in (label array.now) (below array.now)))) }
+    ensures err { IsOkUnless result WireError.OutOfMemory }
 {
-    let mut count: usize = 0;
-    for buffer in buffers {
-        if buffer.is_some() {
-            count += 1;
-        }
+    match metadata(alloc, array) {
+        Ok(bytes) => Ok(bytes),
+        Err(_) => Err(WireError::OutOfMemory),
     }
-    count
 }
 
 /// This many numbers from the first on, in two bytes each.
@@ -113,36 +118,31 @@ fn node_table(
     )?)
 }
 
-/// A tree as a table. Its identifiers are taken into the context in preorder, and its buffers are
-/// numbered in preorder from `next` on, which goes to the number behind them.
+/// An array's nodes as a table. Its identifiers are taken into the context in preorder, and its buffers
+/// are numbered in preorder from `next` on, which goes to the number behind them.
 #[tactic(auto, using(vx_trees::proofs::Roses::roses))]
 pub(crate) fn tree_table(
     alloc: Global,
-    node: &WireNode,
+    array: &Array,
     ctx: &mut ArrayContext,
     next: &mut usize,
 ) -> Result<Vec<FieldValue>, WireError>
-    requires { next.old + length (buffers_in node.now) ≤ 65535 }
-    ensures grown { OnOk result (grown_by (ids_in node.now) ctx.old ≡ Some ctx.new) }
-    ensures value { IfOk result (λ v. (more : List (List ℕ)) → views v.items ≡ node_value (numbered (ctx.new.ids ++ more) next.old node.now)) }
+    requires { (s : SessionMeaning) → next.old + length (buffers_in (wire codec s array.now)) ≤ 65535 }
+    ensures grown { (s : SessionMeaning) → OnOk result (grown_by (ids_in (wire codec s array.now)) ctx.old ≡ Some ctx.new) }
+    ensures value { (s : SessionMeaning) → IfOk result (λ v. (more : List (List ℕ)) → views v.items ≡ node_value (numbered (ctx.new.ids ++ more) next.old (wire codec s array.now))) }
     ensures of_kind { IfOk result (λ v. AreOf array_schema node_fields (views v.items)) }
-    ensures next { OnOk result (next.new ≡ next.old + length (buffers_in node.now)) }
-    ensures kept { KeepsContext (ids_in node.now) ctx.old ctx.new }
-    ensures refused { IfErr result (RefusesIds (ids_in node.now) ctx.old) }
+    ensures next { (s : SessionMeaning) → OnOk result (next.new ≡ next.old + length (buffers_in (wire codec s array.now))) }
+    ensures kept { (s : SessionMeaning) → KeepsContext (ids_in (wire codec s array.now)) ctx.old ctx.new }
+    ensures refused { (s : SessionMeaning) → IfErr result (RefusesIds (ids_in (wire codec s array.now)) ctx.old) }
 {
-    let encoding = encoding_number(node, ctx)?;
-    let own = count_present(node.buffers());
+    let encoding = encoding_number(alloc, array, ctx)?;
+    let metadata = metadata_bytes(alloc, array)?;
+    let own = array.nbuffers();
     let buffers = number_bytes(alloc, *next, own)?;
     *next += own;
     let mut children = Vec::new(alloc);
-    for child in node.children() {
+    for child in array.children() {
         children.push(tree_table(alloc, child, ctx, next)?)?;
     }
-    Ok(node_table(
-        alloc,
-        encoding,
-        node.metadata().as_slice(),
-        children,
-        buffers,
-    )?)
+    Ok(node_table(alloc, encoding, metadata.as_slice(), children, buffers)?)
 }

@@ -3,13 +3,11 @@
 ghost use Rattle.std.specs.Prelude.{◌≡◌, ◌+◌, ◌≤◌, ◌<◌, ◌^◌, ◌++◌, length, replicate, IfOk, IfSome, IfNone, OnOk};
 ghost use Rattle.vx_wire_tree.specs.Limits.{IsDescribable, AreDescribable};
 ghost use Rattle.vx_serde.specs.MessageValue.{descriptor_bytes, descriptors_bytes};
-ghost use Rattle.vx_wire_tree.specs.Wire.{present, buffers_in};
 ghost use Rattle.vx_serde.specs.Placing.{pad, descriptors_from, data_end};
 ghost use Rattle.vx_serde.specs.WrittenBuffers.{pad_buffers, data_buffers, greatest_exponent};
 
 use crate::message::Descriptor;
 use crate::options::SerializeOptions;
-use crate::tree::WireNode;
 use std::alloc::{AllocError, Global};
 use vx_buffer::{Alignment, BufferError, BufferHandle, BufferHandles, ByteBuffer, ByteBuffers};
 
@@ -18,38 +16,6 @@ use vx_buffer::{Alignment, BufferError, BufferHandle, BufferHandles, ByteBuffer,
 pub(crate) struct LaidOut {
     pub(crate) descriptors: Vec<u8>,
     pub(crate) end: usize,
-}
-
-/// One more of each buffer that is not missing.
-fn push_present(
-    alloc: Global,
-    buffers: &[Option<BufferHandle>],
-    found: &mut BufferHandles,
-) -> Result<(), BufferError>
-    ensures { OnOk result (found.new ≡ found.old ++ present buffers.now) }
-{
-    for buffer in buffers {
-        if let Some(buffer) = buffer {
-            found.push(buffer.clone(alloc)?)?;
-        }
-    }
-    Ok(())
-}
-
-/// The buffers of a tree, in preorder.
-#[tactic(auto, using(vx_trees::proofs::Roses::roses))]
-pub(crate) fn push_buffers(
-    alloc: Global,
-    node: &WireNode,
-    found: &mut BufferHandles,
-) -> Result<(), BufferError>
-    ensures { OnOk result (found.new ≡ found.old ++ buffers_in node.now) }
-{
-    push_present(alloc, node.buffers(), found)?;
-    for child in node.children() {
-        push_buffers(alloc, child, found)?;
-    }
-    Ok(())
 }
 
 /// How many bytes are skipped at a position in front of what is aligned to two to this exponent.

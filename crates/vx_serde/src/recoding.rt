@@ -11,8 +11,7 @@ use crate::decoding::decode;
 use crate::error::WireError;
 use crate::opening::open;
 use crate::options::SerializeOptions;
-use crate::wiring::wire_node;
-use crate::writing::write_wire;
+use crate::serializing::ArrayExt;
 use std::alloc::Global;
 use vx_arrays::Array;
 use vx_buffer::{ByteBuffer, ByteBuffers};
@@ -74,11 +73,7 @@ pub fn recode(
         Ok(array) => array,
         Err(e) => return Err(e),
     };
-    let node = match wire_node(alloc, &array) {
-        Ok(node) => node,
-        Err(_) => return Err(WireError::OutOfMemory),
-    };
-    let buffers = match write_wire(alloc, &node, ctx, options) {
+    let buffers = match array.serialize(alloc, ctx, session, options) {
         Ok(buffers) => buffers,
         Err(e) => return Err(e),
     };

@@ -1,4 +1,4 @@
-//! Wire trees as blobs.
+//! Arrays as blobs.
 
 ghost use Rattle.std.specs.Prelude.{◌≡◌, ◌+◌, ◌≤◌, ◌<◌, ◌-◌, ◌^◌, ◌++◌, [], ◌∷◌, Some, false, IsTrue, IsFalse, length, IfOk, IfErr, OnOk};
 ghost use Rattle.std.specs.Int.{w32, to_le_bytes};
@@ -8,32 +8,37 @@ ghost use Rattle.vx_flat.specs.Value.{table, elements, no_fields, field};
 ghost use Rattle.vx_flat.specs.View.{views, value as value_of};
 ghost use Rattle.vx_flat.specs.Limits.{limits, IsLight};
 ghost use Rattle.vx_flat.specs.Weight as weigh;
+ghost use Rattle.vx_types.specs.Known.{ExtMeaning};
+ghost use Rattle.vx_array_tree.specs.Sound.{IsSound};
 ghost use Rattle.vx_wire_tree.specs.Context.{grown_by};
-ghost use Rattle.vx_trees.specs.Walks.{levels};
-ghost use Rattle.vx_serde.specs.ArraySchema.{array_schema};
-ghost use Rattle.vx_wire_tree.specs.Limits.{AreDescribable};
-ghost use Rattle.vx_serde.specs.KeptContext.{KeepsContext};
-ghost use Rattle.vx_serde.specs.MessageValue.{descriptors_bytes};
+ghost use Rattle.vx_wire_tree.specs.Limits.{AreDescribable, HasMessages};
+ghost use Rattle.vx_wire_tree.specs.ReadBack.{IsWritten};
+ghost use Rattle.vx_wire_tree.specs.Session.{SessionMeaning};
 ghost use Rattle.vx_wire_tree.specs.Wire.{ids_in, buffers_in};
-ghost use Rattle.vx_serde.specs.Placing.{descriptors_from, data_end};
-ghost use Rattle.vx_serde.specs.WritingSteps.{RefusesWriting, IsLaidOut, RefusesLayout, RefusesMessage};
-ghost use Rattle.vx_serde.specs.Written.{IsWritable, blob_bytes};
+ghost use Rattle.vx_wire_tree.specs.Written.{wire};
+ghost use Rattle.vx_encodings.specs.Messages.{codec};
+ghost use Rattle.vx_registry.specs.Session.{tables_meaning};
 ghost use Rattle.vx_buffer.specs.Joined.{joined};
-ghost use Rattle.vx_serde.specs.WrittenBuffers.{unaligned, pad_buffers, data_buffers, greatest_exponent, written_buffers};
+ghost use Rattle.vx_serde.specs.ArraySchema.{array_schema};
+ghost use Rattle.vx_serde.specs.Causes.{RefusesArray};
+ghost use Rattle.vx_serde.specs.KeptContext.{KeepsContext};
+ghost use Rattle.vx_serde.specs.Placing.{data_end};
+ghost use Rattle.vx_serde.specs.Serializing.{IsSerialized};
+ghost use Rattle.vx_serde.specs.WritingSteps.{IsLaidOut, RefusesLayout, RefusesMessage, RefusesBytes, AreDescriptors, layout_of};
+ghost use Rattle.vx_serde.specs.WrittenBuffers.{unaligned, pad_buffers, data_buffers, greatest_exponent};
 
 use crate::array_kind::ArrayKind;
 use crate::error::WireError;
-use crate::limits::{MAX_BUFFERS, MAX_LEVELS, are_describable, has_levels_within};
+use crate::gathering::gather;
+use crate::limits::{MAX_BUFFERS, MAX_LEVELS, are_describable};
 use crate::numbering::tree_table;
 use crate::options::SerializeOptions;
-use crate::placing::{
-    LaidOut, describe, greatest_alignment, pad_at, push_buffers, push_data, push_pad,
-};
-use crate::tree::WireNode;
+use crate::placing::{LaidOut, describe, greatest_alignment, pad_at, push_data, push_pad};
 use std::alloc::{AllocError, Global};
+use vx_arrays::Array;
 use vx_buffer::{BufferError, BufferHandle, BufferHandles, ByteBuffer, ByteBuffers};
-use vx_flat::{FieldValue, FlatError, TableValue, read_value, write_value};
-use vx_registry::ArrayContext;
+use vx_flat::{FieldValue, FlatError, TableValue, verify_uncounted, write_value};
+use vx_registry::{ArrayContext, ArraySession};
 
 /// The value of an array message: a root node and descriptors.
 fn message_table(
@@ -56,7 +61,7 @@ fn message_bytes(alloc: Global, value: &TableValue) -> Result<Vec<u8>, WireError
     ensures written { IfOk result (λ v. v.items ≡ written_layout array_schema (value_of value.now)) }
     ensures short { OnOk result (length (written_layout array_schema (value_of value.now)) < 2 ^ 31) }
     ensures light { OnOk result (IsLight limits (weigh.weight array_schema (written_layout array_schema (value_of value.now)))) }
-    ensures refused { IfErr result (RefusesMessage (written_layout array_schema (value_of value.now))) }
+    ensures refused { IfErr result (RefusesBytes (written_layout array_schema (value_of value.now))) }
 {
     let message = match write_value(alloc, &ArrayKind, value) {
         Ok(message) => message,
@@ -65,13 +70,14 @@ fn message_bytes(alloc: Global, value: &TableValue) -> Result<Vec<u8>, WireError
         Err(FlatError::BadTable) => unreachable!(),
         Err(FlatError::TableLimit) => unreachable!(),
     };
-    match read_value(alloc, message.as_slice(), &ArrayKind) {
-        Ok(_) => Ok(message.into_vec()),
-        Err(FlatError::OutOfMemory) => Err(WireError::OutOfMemory),
-        Err(FlatError::TableLimit) => Err(WireError::WireLimit),
+    match verify_uncounted(message.as_slice(), &ArrayKind) {
+        Ok(_) => {}
+        Err(FlatError::TableLimit) => return Err(WireError::WireLimit),
+        Err(FlatError::OutOfMemory) => unreachable!(),
         Err(FlatError::BadTable) => unreachable!(),
         Err(FlatError::MessageTooLong) => unreachable!(),
     }
+    Ok(message.into_vec())
 }
 
 /// The buffers of a blob: the first is empty and has the greatest alignment.
@@ -98,21 +104,22 @@ fn blob_buffers(
     Ok(out)
 }
 
-/// A tree's buffers in preorder, and where they go.
+/// An array's buffers in preorder, and where they go.
 fn place(
     alloc: Global,
-    node: &WireNode,
+    array: &Array,
+    arrays: &ArraySession,
     options: &SerializeOptions,
 ) -> Result<(BufferHandles, LaidOut), WireError>
-    ensures buffers { IfOk result (λ p. p.0 ≡ buffers_in node.now) }
-    ensures placed { IfOk result (λ p. IsLaidOut options.now node.now p.1.descriptors.items p.1.end) }
-    ensures refused { IfErr result (RefusesLayout options.now node.now) }
+    requires { IsSound array.now }
+    ensures buffers { (s : SessionMeaning) → IfOk result (λ p. p.0 ≡ buffers_in (wire codec s array.now)) }
+    ensures placed { (s : SessionMeaning) → IfOk result (λ p. IsLaidOut options.now (wire codec s array.now) p.1.descriptors.items p.1.end) }
+    ensures written { (x : ExtMeaning) → OnOk result (IsWritten (tables_meaning arrays.now x) array.now) }
+    ensures messages { OnOk result (HasMessages array.now) }
+    ensures refused { (x : ExtMeaning) → IfErr result (RefusesLayout (tables_meaning arrays.now x) options.now array.now) }
 {
-    if !has_levels_within(node, MAX_LEVELS) {
-        return Err(WireError::WireLimit);
-    }
     let mut buffers = BufferHandles::new(alloc);
-    push_buffers(alloc, node, &mut buffers)?;
+    gather(alloc, array, arrays, MAX_LEVELS, &mut buffers)?;
     if buffers.len() > MAX_BUFFERS || !are_describable(buffers.as_slice()) {
         return Err(WireError::WireLimit);
     }
@@ -120,6 +127,28 @@ fn place(
         return Err(WireError::WireLimit);
     };
     Ok((buffers, placed))
+}
+
+/// The message of an array and its descriptors. Its identifiers are taken into the context in preorder.
+fn write_message(
+    alloc: Global,
+    array: &Array,
+    ctx: &mut ArrayContext,
+    descriptors: Vec<u8>,
+) -> Result<Vec<u8>, WireError>
+    requires few { (s : SessionMeaning) → length (buffers_in (wire codec s array.now)) ≤ 65535 }
+    requires whole { AreDescriptors descriptors.items }
+    ensures grown { (s : SessionMeaning) → OnOk result (grown_by (ids_in (wire codec s array.now)) ctx.old ≡ Some ctx.new) }
+    ensures written { (s : SessionMeaning) → IfOk result (λ m. m.items ≡ layout_of ctx.new.ids (wire codec s array.now) descriptors.items) }
+    ensures short { IfOk result (λ m. length m.items < 2 ^ 31) }
+    ensures light { IfOk result (λ m. IsLight limits (weigh.weight array_schema m.items)) }
+    ensures kept { (s : SessionMeaning) → KeepsContext (ids_in (wire codec s array.now)) ctx.old ctx.new }
+    ensures refused { (s : SessionMeaning) → IfErr result (RefusesMessage ctx.old (wire codec s array.now) descriptors.items) }
+{
+    let mut next: usize = 0;
+    let root = tree_table(alloc, array, ctx, &mut next)?;
+    let value = message_table(alloc, root, descriptors)?;
+    message_bytes(alloc, &value)
 }
 
 /// Whether a blob ends within the positions of 64 bits: the position where its data ends, the
@@ -133,25 +162,21 @@ fn has_end(end: usize, padding: usize, message: usize) -> bool
     end.checked_add(padding + message + 4).is_some()
 }
 
-/// Writes a wire tree: the buffers, one after the other, are its blob.
-pub(crate) fn write_wire(
+/// Writes an array: the buffers, one after the other, are its blob.
+pub(crate) fn write_array(
     alloc: Global,
-    node: &WireNode,
+    array: &Array,
+    arrays: &ArraySession,
     ctx: &mut ArrayContext,
     options: &SerializeOptions,
 ) -> Result<ByteBuffers, WireError>
-    ensures grown { OnOk result (grown_by (ids_in node.now) ctx.old ≡ Some ctx.new) }
-    ensures buffers { IfOk result (λ bs. bs ≡ written_buffers ctx.new.ids options.now node.now) }
-    ensures written { IfOk result (λ bs. joined bs ≡ blob_bytes ctx.new.ids options.now node.now) }
-    ensures writable { OnOk result (IsWritable ctx.new.ids options.now node.now) }
-    ensures kept { KeepsContext (ids_in node.now) ctx.old ctx.new }
-    ensures refused { IfErr result (RefusesWriting ctx.old options.now node.now) }
+    requires { IsSound array.now }
+    ensures made { (x : ExtMeaning) → IfOk result (λ bs. IsSerialized (tables_meaning arrays.now x) array.now options.now ctx.old ctx.new bs) }
+    ensures kept { (s : SessionMeaning) → KeepsContext (ids_in (wire codec s array.now)) ctx.old ctx.new }
+    ensures cause { (x : ExtMeaning) → IfErr result (RefusesArray (tables_meaning arrays.now x) array.now ctx.old options.now) }
 {
-    let (buffers, placed) = place(alloc, node, options)?;
-    let mut next: usize = 0;
-    let root = tree_table(alloc, node, ctx, &mut next)?;
-    let value = message_table(alloc, root, placed.descriptors)?;
-    let message = message_bytes(alloc, &value)?;
+    let (buffers, placed) = place(alloc, array, arrays, options)?;
+    let message = write_message(alloc, array, ctx, placed.descriptors)?;
     let padding = pad_at(options, 3, placed.end);
     if !has_end(placed.end, padding, message.len()) {
         return Err(WireError::WireLimit);

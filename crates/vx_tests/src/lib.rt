@@ -14,3 +14,5 @@ mod flags;
 pub mod laws;
 #[cfg(test)]
 mod program;
+#[cfg(test)]
+mod writing;

@@ -139,6 +139,7 @@ refusal_not_two refusal.BadMetadata is = absurd (omega (arith, is))
 refusal_not_two refusal.BadShape is = absurd (omega (arith, is))
 refusal_not_two refusal.NotPermitted is = absurd (omega (arith, is))
 refusal_not_two refusal.WireLimit is = absurd (omega (arith, is))
+refusal_not_two refusal.NotRegistered is = absurd (omega (arith, is))
 
 recode_not_two : (status : Status) (line : Recode) (run : Run) → EndsRecode status line run → status_number status ≡ 2 → ⊥
 recode_not_two NoCommand line run ends is = ends

@@ -68,6 +68,7 @@ refused wire.BadMetadata asked cause = cause
 refused wire.BadShape asked cause = cause
 refused wire.NotPermitted asked cause = cause
 refused wire.WireLimit asked cause = cause
+refused wire.NotRegistered asked cause = cause
 
 not_memory : BadType ≡ OutOfMemory → ⊥
 not_memory e = absurd (cc)

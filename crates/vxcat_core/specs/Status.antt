@@ -22,6 +22,7 @@ wire_error refusal.BadMetadata = wire.BadMetadata
 wire_error refusal.BadShape = wire.BadShape
 wire_error refusal.NotPermitted = wire.NotPermitted
 wire_error refusal.WireLimit = wire.WireLimit
+wire_error refusal.NotRegistered = wire.NotRegistered
 
 -- The process ends with 0 where all went well, 1 for want of memory, 2 where the words match no command, 3, 4 or 5
 -- where a load, a save or a write failed, 6 or 7 for a bad type file or id file, and else with the blob's refusal.

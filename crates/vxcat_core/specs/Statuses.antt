@@ -60,3 +60,4 @@ blob_status wire.BadMetadata = Refused refusal.BadMetadata
 blob_status wire.BadShape = Refused refusal.BadShape
 blob_status wire.NotPermitted = Refused refusal.NotPermitted
 blob_status wire.WireLimit = Refused refusal.WireLimit
+blob_status wire.NotRegistered = Refused refusal.NotRegistered

@@ -25,6 +25,7 @@ pub enum BlobRefusal {
     BadShape,
     NotPermitted,
     WireLimit,
+    NotRegistered,
 }
 
 impl BlobRefusal {
@@ -45,6 +46,7 @@ impl BlobRefusal {
             BlobRefusal::BadShape => WireError::BadShape,
             BlobRefusal::NotPermitted => WireError::NotPermitted,
             BlobRefusal::WireLimit => WireError::WireLimit,
+            BlobRefusal::NotRegistered => WireError::NotRegistered,
         }
     }
 }
@@ -165,6 +167,7 @@ impl Status {
             WireError::BadShape => Status::Refused(BlobRefusal::BadShape),
             WireError::NotPermitted => Status::Refused(BlobRefusal::NotPermitted),
             WireError::WireLimit => Status::Refused(BlobRefusal::WireLimit),
+            WireError::NotRegistered => Status::Refused(BlobRefusal::NotRegistered),
         }
     }
 }

@@ -1,10 +1,12 @@
-use Rattle.std.proofs.Common.{◌≡◌, ℕ, ◌++◌, List, Option, subst}
-use Rattle.vx_serde.specs.Numbered.{encoding_index}
+use Rattle.std.proofs.Common.{◌≡◌, ℕ, ◌++◌, List, ◌∙◌, subst}
+use Rattle.vx_wire_tree.specs.Context.{index_of}
+use Rattle.vx_registry.specs.Serialization.{array_id}
 use Rattle.vx_serde.proofs.Growing.{taken-number}
 use Rattle.vx_serde.proofs.numbering.encoding_number.Goals as goal
 
 pub returns-in-Ok-Some-clause-number : goal.returns-in-Ok-Some-clause-number
 returns-in-Ok-Some-clause-number c = λ more.
-    let P : Option (List ℕ) → Type 0 = λ o. encoding_index o (c.intern.new.self.ids ++ more) ≡ c.in-Ok-Some.number in
-    subst P c.in-Some.ensures
-    (taken-number c.in-Some.id.now c.args.ctx.now c.intern.new.self c.in-Ok-Some.number more (rw c.in-Ok-Some.field-0-is at c.in-Ok-Some.ensures.interned) (rw c.in-Ok-Some.field-0-is at c.in-Ok-Some.ensures.place))
+    let same : c.in-Ok.id ≡ array_id c.args.array.now = c.in-Ok.ensures.ok ∙ c.encoding_id.ensures in
+    let P : List ℕ → Type 0 = λ z. index_of z (c.intern.new.self.ids ++ more) ≡ c.in-Ok-Some.number in
+    subst P same
+    (taken-number c.in-Ok.id c.args.ctx.now c.intern.new.self c.in-Ok-Some.number more (rw c.in-Ok-Some.field-0-is at c.in-Ok-Some.ensures.interned) (rw c.in-Ok-Some.field-0-is at c.in-Ok-Some.ensures.place))

@@ -1,12 +1,10 @@
 use Rattle.vx_type_wire.specs.Session.{ext_meaning}
-use Rattle.vx_encodings.specs.Messages.{codec}
 use Rattle.vx_registry.specs.Meaning.{session_meaning}
-use Rattle.vx_registry.proofs.LawsSessions.{registry_shipped, registry_lawful, registry_messages}
+use Rattle.vx_registry.proofs.LawsSessions.{registry_shipped, registry_lawful}
 use Rattle.vx_serde.specs.Request.{request}
 use Rattle.vx_serde.specs.Recoding.{product}
 use Rattle.vx_serde.proofs.NeverCaused.{memory_alone}
 use Rattle.vx_serde.proofs.Recodings.{spells, recoded, faithful, left-still, left-written, caused_by_blob, caused_by_tree, caused_by_writing}
-use Rattle.vx_serde.proofs.WrittenAgain.{read_messages}
 use Rattle.vx_serde.proofs.recoding.recode.Goals as goal
 
 -- ---- the blob is not opened
@@ -43,28 +41,25 @@ returns-in-Err-decode-clause-cause g c =
 
 -- ---- the array is not written
 
-pub returns-in-Err-wire_node-clause-left : goal.returns-in-Err-wire_node-clause-left
-returns-in-Err-wire_node-clause-left g c = left-still (request c.args.blob c.args.dtype.now c.args.len c.args.read_ids.now c.args.ctx.now (session_meaning (λ b. (goal.ExtPlugin-dyn g (b.vtable, b.value)).accepted b.value) c.args.session.now) c.args.options.now)
-
-pub returns-in-Err-write_wire-clause-cause : goal.returns-in-Err-write_wire-clause-cause
-returns-in-Err-write_wire-clause-cause g c =
+pub returns-in-Err-serialize-clause-cause : goal.returns-in-Err-serialize-clause-cause
+returns-in-Err-serialize-clause-cause g c =
     let x = ext_meaning (λ b. (goal.ExtPlugin-dyn g (b.vtable, b.value)).accepted b.value) c.args.session.now.ext in
     let asked = request c.args.blob c.args.dtype.now c.args.len c.args.read_ids.now c.args.ctx.now (session_meaning (λ b. (goal.ExtPlugin-dyn g (b.vtable, b.value)).accepted b.value) c.args.session.now) c.args.options.now in
     let spelled = spells asked (registry_shipped c.args.session.now.arrays x) c.in-Ok.node c.in-Ok-decode.array c.in-Ok.ensures.opened c.in-Ok-decode.ensures.told in
-    caused_by_writing asked c.in-Err-write_wire.e c.in-Ok-wire_node.node c.in-Ok-decode.array (c.in-Ok-wire_node.ensures.ok asked.session) spelled c.in-Err-write_wire.ensures.refused
+    caused_by_writing asked c.in-Err-serialize.e c.in-Ok-decode.array (c.in-Ok-decode.ensures.paired x) spelled c.in-Err-serialize.ensures.cause
 
-pub returns-in-Err-write_wire-clause-shipped : goal.returns-in-Err-write_wire-clause-shipped
-returns-in-Err-write_wire-clause-shipped g c = λ shipped.
+pub returns-in-Err-serialize-clause-shipped : goal.returns-in-Err-serialize-clause-shipped
+returns-in-Err-serialize-clause-shipped g c = λ shipped.
     let x = ext_meaning (λ b. (goal.ExtPlugin-dyn g (b.vtable, b.value)).accepted b.value) c.args.session.now.ext in
     let asked = request c.args.blob c.args.dtype.now c.args.len c.args.read_ids.now c.args.ctx.now (session_meaning (λ b. (goal.ExtPlugin-dyn g (b.vtable, b.value)).accepted b.value) c.args.session.now) c.args.options.now in
-    (tt, λ can. memory_alone asked (registry_shipped c.args.session.now.arrays x) (registry_lawful c.args.session.now.arrays x) c.in-Err-write_wire.e can (returns-in-Err-write_wire-clause-cause g c))
+    (tt, λ can. memory_alone asked (registry_shipped c.args.session.now.arrays x) (registry_lawful c.args.session.now.arrays x) c.in-Err-serialize.e can (returns-in-Err-serialize-clause-cause g c))
 
-pub returns-in-Err-write_wire-clause-left : goal.returns-in-Err-write_wire-clause-left
-returns-in-Err-write_wire-clause-left g c =
+pub returns-in-Err-serialize-clause-left : goal.returns-in-Err-serialize-clause-left
+returns-in-Err-serialize-clause-left g c =
     let x = ext_meaning (λ b. (goal.ExtPlugin-dyn g (b.vtable, b.value)).accepted b.value) c.args.session.now.ext in
     let asked = request c.args.blob c.args.dtype.now c.args.len c.args.read_ids.now c.args.ctx.now (session_meaning (λ b. (goal.ExtPlugin-dyn g (b.vtable, b.value)).accepted b.value) c.args.session.now) c.args.options.now in
     let spelled = spells asked (registry_shipped c.args.session.now.arrays x) c.in-Ok.node c.in-Ok-decode.array c.in-Ok.ensures.opened c.in-Ok-decode.ensures.told in
-    left-written asked (registry_shipped c.args.session.now.arrays x) (registry_lawful c.args.session.now.arrays x) c.in-Ok-decode.array c.in-Ok-wire_node.node c.write_wire.new.ctx (c.in-Ok-wire_node.ensures.ok asked.session) spelled c.write_wire.ensures.kept
+    left-written asked (registry_shipped c.args.session.now.arrays x) (registry_lawful c.args.session.now.arrays x) c.in-Ok-decode.array c.serialize.new.ctx spelled c.serialize.ensures.left
 
 -- ---- all is done
 
@@ -72,16 +67,14 @@ pub returns-clause-made : goal.returns-clause-made
 returns-clause-made g c =
     let x = ext_meaning (λ b. (goal.ExtPlugin-dyn g (b.vtable, b.value)).accepted b.value) c.args.session.now.ext in
     let asked = request c.args.blob c.args.dtype.now c.args.len c.args.read_ids.now c.args.ctx.now (session_meaning (λ b. (goal.ExtPlugin-dyn g (b.vtable, b.value)).accepted b.value) c.args.session.now) c.args.options.now in
-    let made = product (record { array = c.in-Ok-decode.array; buffers = c.in-Ok-write_wire.buffers }) c.write_wire.new.ctx in
-    recoded asked made c.in-Ok-wire_node.node (c.in-Ok-wire_node.ensures.ok asked.session) c.in-Ok-write_wire.ensures.grown c.in-Ok.node c.in-Ok.ensures.opened
-    (read_messages codec asked.session (registry_messages c.args.session.now.arrays x) c.in-Ok.node c.in-Ok-decode.array c.in-Ok-decode.ensures.told.matched)
-    c.in-Ok-write_wire.ensures.buffers c.in-Ok-write_wire.ensures.writable
+    let made = product (record { array = c.in-Ok-decode.array; buffers = c.in-Ok-serialize.buffers }) c.serialize.new.ctx in
+    recoded asked made c.in-Ok.node c.in-Ok.ensures.opened c.in-Ok-serialize.ensures.made
 
 pub returns-clause-shipped : goal.returns-clause-shipped
 returns-clause-shipped g c = λ shipped.
     let x = ext_meaning (λ b. (goal.ExtPlugin-dyn g (b.vtable, b.value)).accepted b.value) c.args.session.now.ext in
     let asked = request c.args.blob c.args.dtype.now c.args.len c.args.read_ids.now c.args.ctx.now (session_meaning (λ b. (goal.ExtPlugin-dyn g (b.vtable, b.value)).accepted b.value) c.args.session.now) c.args.options.now in
-    let made = product (record { array = c.in-Ok-decode.array; buffers = c.in-Ok-write_wire.buffers }) c.write_wire.new.ctx in
+    let made = product (record { array = c.in-Ok-decode.array; buffers = c.in-Ok-serialize.buffers }) c.serialize.new.ctx in
     let spelled = spells asked (registry_shipped c.args.session.now.arrays x) c.in-Ok.node c.in-Ok-decode.array c.in-Ok.ensures.opened c.in-Ok-decode.ensures.told in
     (faithful asked made (registry_shipped c.args.session.now.arrays x) (registry_lawful c.args.session.now.arrays x) (c.in-Ok-decode.ensures.paired x) spelled (returns-clause-made g c), λ can. tt)
 
@@ -90,4 +83,4 @@ returns-clause-left g c =
     let x = ext_meaning (λ b. (goal.ExtPlugin-dyn g (b.vtable, b.value)).accepted b.value) c.args.session.now.ext in
     let asked = request c.args.blob c.args.dtype.now c.args.len c.args.read_ids.now c.args.ctx.now (session_meaning (λ b. (goal.ExtPlugin-dyn g (b.vtable, b.value)).accepted b.value) c.args.session.now) c.args.options.now in
     let spelled = spells asked (registry_shipped c.args.session.now.arrays x) c.in-Ok.node c.in-Ok-decode.array c.in-Ok.ensures.opened c.in-Ok-decode.ensures.told in
-    left-written asked (registry_shipped c.args.session.now.arrays x) (registry_lawful c.args.session.now.arrays x) c.in-Ok-decode.array c.in-Ok-wire_node.node c.write_wire.new.ctx (c.in-Ok-wire_node.ensures.ok asked.session) spelled c.write_wire.ensures.kept
+    left-written asked (registry_shipped c.args.session.now.arrays x) (registry_lawful c.args.session.now.arrays x) c.in-Ok-decode.array c.serialize.new.ctx spelled c.serialize.ensures.left

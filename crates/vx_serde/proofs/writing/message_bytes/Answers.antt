@@ -6,11 +6,11 @@ use Rattle.vx_serde.specs.ArraySchema.{array_schema}
 use Rattle.vx_serde.proofs.Carried.{shows-layout}
 use Rattle.vx_serde.proofs.writing.message_bytes.Goals as goal
 
-pub unreachable-requires-in-Err-BadTable-read_value : goal.unreachable-requires-in-Err-BadTable-read_value
-unreachable-requires-in-Err-BadTable-read_value c =
+pub unreachable-requires-in-Err-BadTable-verify_uncounted : goal.unreachable-requires-in-Err-BadTable-verify_uncounted
+unreachable-requires-in-Err-BadTable-verify_uncounted c =
     let v = value_of c.args.value.now in
     let same : c.as_slice.result.now ≡ written_layout array_schema v = c.as_slice.ensures ∙ c.in-Ok.ensures.written in
     let P : List ℕ → Type 0 = λ m. Shows array_schema m v in
     let Q : List ℕ → Type 0 = λ m. length m < 2 ^ 31 in
-    c.in-Err-BadTable-read_value.ensures.bad (search rules) v
+    c.in-Err-BadTable-verify_uncounted.ensures.bad (search rules) v
     (subst P (sym same) (shows-layout v c.requires (subst Q c.in-Ok.ensures.written c.in-Ok.ensures.fits)))

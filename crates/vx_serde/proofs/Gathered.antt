@@ -1,0 +1,139 @@
+-- The nodes of an array that is to be written: each has a writer and a message, and why they are not written.
+use Rattle.std.proofs.Common.{ℕ, zero, suc, ◌≡◌, ◌+◌, ◌-◌, ◌<◌, ◌≤◌, List, [], ◌∷◌, Option, Some, None, length, take, get_or, refl, sym, ap, ◌∙◌, subst, arith, option_map}
+use Rattle.std.specs.Prelude.{slice_get}
+use Rattle.std.proofs.lemmas.List.{take_more, take_all}
+use Rattle.std.proofs.lemmas.Option.{same_Some}
+use Rattle.vx_trees.specs.Rose.{Rose, Roses, node, end, more, label, below, roses_of, roses_list}
+use Rattle.vx_trees.specs.Walks.{levels, levels_below}
+use Rattle.vx_trees.specs.Everywhere.{Everywhere, EverywhereBelow}
+use Rattle.vx_trees.proofs.Counting.{levels-is, levels-at}
+use Rattle.vx_trees.proofs.Holding.{everywhere-at, everywhere_below-snoc}
+use Rattle.vx_trees.proofs.Lists.{roses_list-roses_of}
+use Rattle.vx_types.specs.Known.{ExtMeaning}
+use Rattle.vx_array_tree.specs.Encoding as E
+use Rattle.vx_array_tree.specs.Sound.{IsSoundNode, metadata_in}
+use Rattle.vx_array_tree.specs.Table.{encoding_of, encoding_named, id_of, IsFair}
+use Rattle.vx_array_tree.specs.Tree.{Tree}
+use Rattle.vx_wire_tree.specs.Causes.{HasUnwritten, LacksWriter}
+use Rattle.vx_wire_tree.specs.Limits.{HasMessage}
+use Rattle.vx_wire_tree.specs.Placed.{HoldsUnder}
+use Rattle.vx_wire_tree.specs.ReadBack.{IsWritten, IsWrittenNode}
+use Rattle.vx_wire_tree.specs.Session.{SessionMeaning, Reader, shipped, IsPaired, IsReadAgainBy}
+use Rattle.vx_registry.specs.Serialization.{array_id}
+use Rattle.vx_encodings.specs.declared.encoding.Encoding.{Encoding}
+use Rattle.vx_registry.specs.Session.{Registry, entry, found, tables_meaning, ArePaired}
+use Rattle.vx_registry.proofs.LawsSessions.{registry_messages}
+use Rattle.vx_serde.specs.declared.error.WireError.{WireError}
+use Rattle.vx_serde.specs.declared.error.WireError.TheVariants.{OutOfMemory, WireLimit, NotRegistered}
+use Rattle.vx_serde.proofs.NodeTold.{get_at}
+use Rattle.vx_serde.specs.declared.options.SerializeOptions.{SerializeOptions}
+use Rattle.vx_serde.specs.WritingSteps.{HasEntry, RefusesNode, RefusesNodes, RefusesLayout}
+use Rattle.vx_serde.proofs.WiredNodes.{wired-levels}
+
+-- ---- facts at each node
+
+-- One tree more of a list.
+pub everywhere-next : {L : Type 0} (F : L → Roses L → Type 0) (ts : List (Rose L)) (i : ℕ) (t : Rose L) → i < length ts → t ≡ get_or ts i t
+    → EverywhereBelow F (roses_of (take i ts)) → Everywhere F t → EverywhereBelow F (roses_of (take (i + 1) ts))
+everywhere-next F ts i t h e b x =
+    let P : Rose _ → Type 0 = λ z. Everywhere F z in
+    everywhere_below-snoc F (take i ts) (take (i + 1) ts) (get_or ts i t) b (subst P e x) (take_more ts i t h)
+
+pub everywhere-all : {L : Type 0} (F : L → Roses L → Type 0) (t : Rose L) (ts : List (Rose L)) (i : ℕ) → length ts ≤ i → roses_of ts ≡ below t
+    → F (label t) (below t) → EverywhereBelow F (roses_of (take i ts)) → Everywhere F t
+everywhere-all F (node l us) ts i h e x b =
+    let P : Roses _ → Type 0 = λ z. EverywhereBelow F z in
+    (x, subst P (ap (λ z. roses_of z) (take_all i ts h) ∙ e) b)
+
+pub everywhere-child : {L : Type 0} (F : L → Roses L → Type 0) (t : Rose L) (ts : List (Rose L)) (i : ℕ) (u : Rose L) → i < length ts → u ≡ get_or ts i u → roses_of ts ≡ below t
+    → EverywhereBelow F (below t) → Everywhere F u
+everywhere-child F t ts i u h e p b =
+    let P : Roses _ → Type 0 = λ z. EverywhereBelow F z in
+    let Q : Rose _ → Type 0 = λ z. Everywhere F z in
+    subst Q (sym e) (everywhere-at F ts i u h (subst P (sym p) b))
+
+-- A tree of a list has as many levels as it has.
+pub levels_of : {L : Type 0} (ts : List (Rose L)) (i : ℕ) (u : Rose L) (n : ℕ) → u ≡ get_or ts i u → levels u ≤ n → levels (get_or ts i u) ≤ n
+levels_of ts i u n e h =
+    let P : Rose _ → Type 0 = λ z. levels z ≤ n in
+    subst P e h
+
+-- ---- a node's writer, and its message
+
+-- an encoding is named by its identifier, so no two have one
+named : (e : E.Encoding) → encoding_named (id_of e) ≡ Some e
+named E.null = refl
+named _ = refl
+
+one_encoding : (e f : E.Encoding) → id_of e ≡ id_of f → e ≡ f
+one_encoding e f q = same_Some e f (sym (named e) ∙ ap (λ id. encoding_named id) q ∙ named f)
+
+pub has_entry : (r : Registry) (t : Tree) (id : List ℕ) (o : Option Encoding) (e : Encoding) → id ≡ array_id t → option_map entry o ≡ found r.writers id → o ≡ Some e → HasEntry r t
+has_entry r t id o e p q is = record { entry = entry e; found_is = ap (λ z. found r.writers z) (sym p) ∙ (sym q ∙ ap (λ z. option_map entry z) is) }
+
+module _ (r : Registry) (t : Tree) (has : HasEntry r t) where
+  pub node-written : (x : ExtMeaning) → IsWrittenNode (tables_meaning r x) (label t) (below t)
+  node-written x = record { writer = has.entry; writer_is = has.found_is }
+
+  own_reader : (s : SessionMeaning) → IsPaired s → (e : E.Encoding) → s.writer (id_of e) ≡ Some has.entry → (f : E.Encoding) × (s.reader (id_of e) ≡ Some (shipped f)) × (id_of e ≡ id_of f)
+  own_reader s paired e w = at has.entry w where
+    read : (o : Option Reader) (f : E.Encoding) → IsReadAgainBy o f → o ≡ Some (shipped f)
+    read None f h = absurd h
+    read (Some (shipped g)) f h = ap (λ z. Some (shipped z)) h
+
+    at : (q : Reader) → s.writer (id_of e) ≡ Some q → (f : E.Encoding) × (s.reader (id_of e) ≡ Some (shipped f)) × (id_of e ≡ id_of f)
+    at (shipped f) w = (f, read (s.reader (id_of e)) f (paired.written_is_read (id_of e) f w), paired.own_identifier (id_of e) (shipped f) w)
+
+  -- What has a writer has a message, where it is sound.
+  pub node-message : ArePaired r → IsSoundNode (label t) (below t) → (x : ExtMeaning) → HasMessage (label t) (below t)
+  node-message paired sound x =
+      let e = encoding_of (label t).body in
+      let o = own_reader (tables_meaning r x) (paired x) e has.found_is in
+      let P : E.Encoding → Type 0 = λ z. IsFair z (metadata_in (label t) (below t)) in
+      registry_messages r x (id_of e) o.0 (metadata_in (label t) (below t)) o.1 (subst P (one_encoding e o.0 o.2) sound.fair)
+
+-- ---- why nodes are not written
+
+pub node-refused : (r : Registry) (x : ExtMeaning) (t : Tree) (room : ℕ) (e : WireError) → RefusesNode r t e → RefusesNodes (tables_meaning r x) t room e
+node-refused r x t room OutOfMemory h = tt
+node-refused r x t room NotRegistered h = ([], h)
+node-refused r x t room _ h = absurd h
+
+pub child-refused : (s : SessionMeaning) (t : Tree) (ts : List Tree) (i room : ℕ) (u : Tree) (e : WireError) → i < length ts → u ≡ get_or ts i u → roses_of ts ≡ below t
+    → RefusesNodes s u (room - 1) e → RefusesNodes s t room e
+child-refused s t ts i room u OutOfMemory h p q c = tt
+child-refused s t ts i room u WireLimit h p q c =
+    omega (arith, c, levels-at ts i u h, ap (λ z. levels z) p, ap (λ z. levels_below z) q, levels-is t)
+child-refused s t ts i room u NotRegistered h p q c =
+    let at : slice_get (roses_list (below t)) i ≡ Some u = ap (λ z. slice_get z i) (ap (λ z. roses_list z) (sym q) ∙ roses_list-roses_of ts) ∙ get_at ts i u h p in
+    (i ∷ c.0, (u, at, c.1))
+child-refused s t ts i room u _ h p q c = absurd c
+
+-- ---- what was written has no node without a writer
+
+child-there : {L : Type 0} (F : L → Roses L → Type 0) (ts : Roses L) (i : ℕ) (u : Rose L) → EverywhereBelow F ts → slice_get (roses_list ts) i ≡ Some u → Everywhere F u
+child-there F end i u b e = absurd (cc)
+child-there F (more t ts) zero u b e =
+    let P : Rose _ → Type 0 = λ z. Everywhere F z in
+    let same : t ≡ u = cc in
+    subst P same b.0
+child-there F (more t ts) (suc i) u b e = child-there F ts i u b.1 e
+
+not_both : (o : Option Reader) (q : Reader) → o ≡ Some q → o ≡ None → ⊥
+not_both None q a b = absurd (cc)
+not_both (Some p) q a b = absurd (cc)
+
+written_under : (s : SessionMeaning) (path : List ℕ) (t : Tree) → IsWritten s t → HoldsUnder (LacksWriter s) path t → ⊥
+written_under s [] (node h ts) w l = not_both (s.writer (id_of (encoding_of h.body))) w.0.writer w.0.writer_is l
+written_under s (i ∷ path) (node h ts) w l = written_under s path l.0 (child-there (IsWrittenNode s) ts i l.0 w.1 l.1) l.2
+
+pub all-written : (s : SessionMeaning) (t : Tree) → IsWritten s t → HasUnwritten s t → ⊥
+all-written s t w lacks = written_under s lacks.0 t w lacks.1
+
+-- ---- an array whose nodes are not written is not laid out
+
+pub unplaced_nodes : (s : SessionMeaning) (o : SerializeOptions) (t : Tree) (e : WireError) → RefusesNodes s t 62 e → RefusesLayout s o t e
+unplaced_nodes s o t OutOfMemory h = tt
+unplaced_nodes s o t WireLimit h = λ k. omega (arith, h, k.tree.nested, wired-levels s t)
+unplaced_nodes s o t NotRegistered h = h
+unplaced_nodes s o t _ h = absurd h

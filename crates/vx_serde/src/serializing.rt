@@ -1,0 +1,62 @@
+//! Writing an array as a blob.
+
+ghost use Rattle.std.specs.Prelude.{IfOk, IfErr};
+ghost use Rattle.vx_wire_tree.specs.Wire.{ids_in};
+ghost use Rattle.vx_wire_tree.specs.Written.{wire};
+ghost use Rattle.vx_encodings.specs.Messages.{codec};
+ghost use Rattle.vx_registry.specs.Meaning.{session_meaning};
+ghost use Rattle.vx_serde.specs.Causes.{RefusesArray};
+ghost use Rattle.vx_serde.specs.KeptContext.{KeepsContext};
+ghost use Rattle.vx_serde.specs.Serializing.{IsSerialized};
+
+use crate::error::WireError;
+use crate::options::SerializeOptions;
+use crate::writing::write_array;
+use std::alloc::Global;
+use vx_arrays::Array;
+use vx_buffer::ByteBuffers;
+use vx_registry::{ArrayContext, VortexSession};
+
+/// An array as a blob.
+pub trait ArrayExt {
+    /// Writes the array: the buffers, one after the other, are its blob.
+    fn serialize(
+        &self,
+        alloc: Global,
+        ctx: &mut ArrayContext,
+        session: &VortexSession,
+        options: &SerializeOptions,
+    ) -> Result<ByteBuffers, WireError>;
+}
+
+impl ArrayExt for Array {
+    /// Writes the array: the buffers, one after the other, are its blob. The first is empty and has
+    /// the greatest alignment of the array's buffers, at least 8 bytes; the others have none, and
+    /// are each pad that is not empty, each data buffer, the message and its length. The nodes are
+    /// named by `ctx`, which grows at its end by the array's own identifiers.
+    ///
+    /// # Errors
+    /// `NotPermitted` where the context does not take an identifier, `WireLimit` where the array
+    /// passes a limit on writing, and `NotRegistered` where nothing writes the arrays of a node's
+    /// encoding. After each of them the context keeps what it had, and may have taken identifiers
+    /// of the array.
+    fn serialize(
+        &self,
+        alloc: Global,
+        ctx: &mut ArrayContext,
+        session: &VortexSession,
+        options: &SerializeOptions,
+    ) -> Result<ByteBuffers, WireError>
+        ensures made { let s = session_meaning (λ b. accepted (b.vtable, b.value)) session.now in
+            IfOk result (λ buffers. IsSerialized s self.now options.now ctx.old ctx.new buffers) }
+        ensures left { let s = session_meaning (λ b. accepted (b.vtable, b.value)) session.now in
+            KeepsContext (ids_in (wire codec s self.now)) ctx.old ctx.new }
+        ensures cause { let s = session_meaning (λ b. accepted (b.vtable, b.value)) session.now in
+            IfErr result (RefusesArray s self.now ctx.old options.now) }
+    {
+        let Ok(()) = self.validate() else {
+            unreachable!();
+        };
+        write_array(alloc, self, &session.arrays, ctx, options)
+    }
+}
