@@ -5,9 +5,6 @@ pub mod PlacedData
 pub mod WalkedNodes
 pub mod GrownNodes
 pub mod WholeBlob
-pub mod Descriptions
-pub mod NodeParts
-pub mod Refusing
 pub mod NodeTold
 pub mod MessageRead
 pub mod PlacedRead
@@ -16,7 +13,6 @@ pub mod Carried
 pub mod CarriedOnce
 pub mod GrownPlaced
 pub mod TreesWired
-pub mod Openings
 pub mod OneArray
 pub mod GrownIds
 pub mod WrittenAgain
@@ -24,3 +20,7 @@ pub mod Recodings
 pub mod NeverCaused
 pub mod PadsAlign
 pub mod AlignedBlob
+pub mod SerializedNodes
+pub mod OverriddenBuffers
+pub mod StoredMessages
+pub mod DecodedNodes

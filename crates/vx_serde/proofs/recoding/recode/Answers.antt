@@ -4,8 +4,10 @@ use Rattle.vx_registry.specs.Meaning.{session_meaning}
 use Rattle.vx_registry.proofs.LawsSessions.{registry_shipped, registry_lawful, registry_messages}
 use Rattle.vx_serde.specs.Request.{request}
 use Rattle.vx_serde.specs.Recoding.{product}
+use Rattle.vx_serde.specs.Serialized.{wire_in}
 use Rattle.vx_serde.proofs.NeverCaused.{memory_alone}
 use Rattle.vx_serde.proofs.Recodings.{spells, recoded, faithful, left-still, left-written, caused_by_blob, caused_by_tree, caused_by_writing}
+use Rattle.vx_serde.proofs.StoredMessages.{opened}
 use Rattle.vx_serde.proofs.WrittenAgain.{read_messages}
 use Rattle.vx_serde.proofs.recoding.recode.Goals as goal
 
@@ -31,7 +33,7 @@ pub returns-in-Err-decode-clause-shipped : goal.returns-in-Err-decode-clause-shi
 returns-in-Err-decode-clause-shipped g c = λ shipped.
     let x = ext_meaning (λ b. (goal.ExtPlugin-dyn g (b.vtable, b.value)).accepted b.value) c.args.session.now.ext in
     let asked = request c.args.blob c.args.dtype.now c.args.len c.args.read_ids.now c.args.ctx.now (session_meaning (λ b. (goal.ExtPlugin-dyn g (b.vtable, b.value)).accepted b.value) c.args.session.now) c.args.options.now in
-    (tt, λ can. memory_alone asked (registry_shipped c.args.session.now.arrays x) (registry_lawful c.args.session.now.arrays x) c.in-Err-decode.e can (caused_by_tree asked c.in-Err-decode.e c.in-Ok.node c.in-Ok.ensures.opened.carried c.in-Err-decode.ensures.cause))
+    (tt, λ can. memory_alone asked (registry_shipped c.args.session.now.arrays x) (registry_lawful c.args.session.now.arrays x) c.in-Err-decode.e can (caused_by_tree asked c.in-Err-decode.e (wire_in c.args.read_ids.now c.in-Ok.serialized) (opened c.args.blob.bytes c.args.read_ids.now c.in-Ok.serialized c.in-Ok.ensures.opened).carried c.in-Err-decode.ensures.cause))
 
 pub returns-in-Err-decode-clause-left : goal.returns-in-Err-decode-clause-left
 returns-in-Err-decode-clause-left g c = left-still (request c.args.blob c.args.dtype.now c.args.len c.args.read_ids.now c.args.ctx.now (session_meaning (λ b. (goal.ExtPlugin-dyn g (b.vtable, b.value)).accepted b.value) c.args.session.now) c.args.options.now)
@@ -39,7 +41,7 @@ returns-in-Err-decode-clause-left g c = left-still (request c.args.blob c.args.d
 pub returns-in-Err-decode-clause-cause : goal.returns-in-Err-decode-clause-cause
 returns-in-Err-decode-clause-cause g c =
     let asked = request c.args.blob c.args.dtype.now c.args.len c.args.read_ids.now c.args.ctx.now (session_meaning (λ b. (goal.ExtPlugin-dyn g (b.vtable, b.value)).accepted b.value) c.args.session.now) c.args.options.now in
-    caused_by_tree asked c.in-Err-decode.e c.in-Ok.node c.in-Ok.ensures.opened.carried c.in-Err-decode.ensures.cause
+    caused_by_tree asked c.in-Err-decode.e (wire_in c.args.read_ids.now c.in-Ok.serialized) (opened c.args.blob.bytes c.args.read_ids.now c.in-Ok.serialized c.in-Ok.ensures.opened).carried c.in-Err-decode.ensures.cause
 
 -- ---- the array is not written
 
@@ -50,7 +52,7 @@ pub returns-in-Err-write_wire-clause-cause : goal.returns-in-Err-write_wire-clau
 returns-in-Err-write_wire-clause-cause g c =
     let x = ext_meaning (λ b. (goal.ExtPlugin-dyn g (b.vtable, b.value)).accepted b.value) c.args.session.now.ext in
     let asked = request c.args.blob c.args.dtype.now c.args.len c.args.read_ids.now c.args.ctx.now (session_meaning (λ b. (goal.ExtPlugin-dyn g (b.vtable, b.value)).accepted b.value) c.args.session.now) c.args.options.now in
-    let spelled = spells asked (registry_shipped c.args.session.now.arrays x) c.in-Ok.node c.in-Ok-decode.array c.in-Ok.ensures.opened c.in-Ok-decode.ensures.told in
+    let spelled = spells asked (registry_shipped c.args.session.now.arrays x) (wire_in c.args.read_ids.now c.in-Ok.serialized) c.in-Ok-decode.array (opened c.args.blob.bytes c.args.read_ids.now c.in-Ok.serialized c.in-Ok.ensures.opened) c.in-Ok-decode.ensures.told in
     caused_by_writing asked c.in-Err-write_wire.e c.in-Ok-wire_node.node c.in-Ok-decode.array (c.in-Ok-wire_node.ensures.ok asked.session) spelled c.in-Err-write_wire.ensures.refused
 
 pub returns-in-Err-write_wire-clause-shipped : goal.returns-in-Err-write_wire-clause-shipped
@@ -63,7 +65,7 @@ pub returns-in-Err-write_wire-clause-left : goal.returns-in-Err-write_wire-claus
 returns-in-Err-write_wire-clause-left g c =
     let x = ext_meaning (λ b. (goal.ExtPlugin-dyn g (b.vtable, b.value)).accepted b.value) c.args.session.now.ext in
     let asked = request c.args.blob c.args.dtype.now c.args.len c.args.read_ids.now c.args.ctx.now (session_meaning (λ b. (goal.ExtPlugin-dyn g (b.vtable, b.value)).accepted b.value) c.args.session.now) c.args.options.now in
-    let spelled = spells asked (registry_shipped c.args.session.now.arrays x) c.in-Ok.node c.in-Ok-decode.array c.in-Ok.ensures.opened c.in-Ok-decode.ensures.told in
+    let spelled = spells asked (registry_shipped c.args.session.now.arrays x) (wire_in c.args.read_ids.now c.in-Ok.serialized) c.in-Ok-decode.array (opened c.args.blob.bytes c.args.read_ids.now c.in-Ok.serialized c.in-Ok.ensures.opened) c.in-Ok-decode.ensures.told in
     left-written asked (registry_shipped c.args.session.now.arrays x) (registry_lawful c.args.session.now.arrays x) c.in-Ok-decode.array c.in-Ok-wire_node.node c.write_wire.new.ctx (c.in-Ok-wire_node.ensures.ok asked.session) spelled c.write_wire.ensures.kept
 
 -- ---- all is done
@@ -73,8 +75,8 @@ returns-clause-made g c =
     let x = ext_meaning (λ b. (goal.ExtPlugin-dyn g (b.vtable, b.value)).accepted b.value) c.args.session.now.ext in
     let asked = request c.args.blob c.args.dtype.now c.args.len c.args.read_ids.now c.args.ctx.now (session_meaning (λ b. (goal.ExtPlugin-dyn g (b.vtable, b.value)).accepted b.value) c.args.session.now) c.args.options.now in
     let made = product (record { array = c.in-Ok-decode.array; buffers = c.in-Ok-write_wire.buffers }) c.write_wire.new.ctx in
-    recoded asked made c.in-Ok-wire_node.node (c.in-Ok-wire_node.ensures.ok asked.session) c.in-Ok-write_wire.ensures.grown c.in-Ok.node c.in-Ok.ensures.opened
-    (read_messages codec asked.session (registry_messages c.args.session.now.arrays x) c.in-Ok.node c.in-Ok-decode.array c.in-Ok-decode.ensures.told.matched)
+    recoded asked made c.in-Ok-wire_node.node (c.in-Ok-wire_node.ensures.ok asked.session) c.in-Ok-write_wire.ensures.grown (wire_in c.args.read_ids.now c.in-Ok.serialized) (opened c.args.blob.bytes c.args.read_ids.now c.in-Ok.serialized c.in-Ok.ensures.opened)
+    (read_messages codec asked.session (registry_messages c.args.session.now.arrays x) (wire_in c.args.read_ids.now c.in-Ok.serialized) c.in-Ok-decode.array c.in-Ok-decode.ensures.told.matched)
     c.in-Ok-write_wire.ensures.buffers c.in-Ok-write_wire.ensures.writable
 
 pub returns-clause-shipped : goal.returns-clause-shipped
@@ -82,12 +84,12 @@ returns-clause-shipped g c = λ shipped.
     let x = ext_meaning (λ b. (goal.ExtPlugin-dyn g (b.vtable, b.value)).accepted b.value) c.args.session.now.ext in
     let asked = request c.args.blob c.args.dtype.now c.args.len c.args.read_ids.now c.args.ctx.now (session_meaning (λ b. (goal.ExtPlugin-dyn g (b.vtable, b.value)).accepted b.value) c.args.session.now) c.args.options.now in
     let made = product (record { array = c.in-Ok-decode.array; buffers = c.in-Ok-write_wire.buffers }) c.write_wire.new.ctx in
-    let spelled = spells asked (registry_shipped c.args.session.now.arrays x) c.in-Ok.node c.in-Ok-decode.array c.in-Ok.ensures.opened c.in-Ok-decode.ensures.told in
+    let spelled = spells asked (registry_shipped c.args.session.now.arrays x) (wire_in c.args.read_ids.now c.in-Ok.serialized) c.in-Ok-decode.array (opened c.args.blob.bytes c.args.read_ids.now c.in-Ok.serialized c.in-Ok.ensures.opened) c.in-Ok-decode.ensures.told in
     (faithful asked made (registry_shipped c.args.session.now.arrays x) (registry_lawful c.args.session.now.arrays x) (c.in-Ok-decode.ensures.paired x) spelled (returns-clause-made g c), λ can. tt)
 
 pub returns-clause-left : goal.returns-clause-left
 returns-clause-left g c =
     let x = ext_meaning (λ b. (goal.ExtPlugin-dyn g (b.vtable, b.value)).accepted b.value) c.args.session.now.ext in
     let asked = request c.args.blob c.args.dtype.now c.args.len c.args.read_ids.now c.args.ctx.now (session_meaning (λ b. (goal.ExtPlugin-dyn g (b.vtable, b.value)).accepted b.value) c.args.session.now) c.args.options.now in
-    let spelled = spells asked (registry_shipped c.args.session.now.arrays x) c.in-Ok.node c.in-Ok-decode.array c.in-Ok.ensures.opened c.in-Ok-decode.ensures.told in
+    let spelled = spells asked (registry_shipped c.args.session.now.arrays x) (wire_in c.args.read_ids.now c.in-Ok.serialized) c.in-Ok-decode.array (opened c.args.blob.bytes c.args.read_ids.now c.in-Ok.serialized c.in-Ok.ensures.opened) c.in-Ok-decode.ensures.told in
     left-written asked (registry_shipped c.args.session.now.arrays x) (registry_lawful c.args.session.now.arrays x) c.in-Ok-decode.array c.in-Ok-wire_node.node c.write_wire.new.ctx (c.in-Ok-wire_node.ensures.ok asked.session) spelled c.write_wire.ensures.kept
