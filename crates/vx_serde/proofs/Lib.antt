@@ -5,9 +5,6 @@ pub mod PlacedData
 pub mod WalkedNodes
 pub mod GrownNodes
 pub mod WholeBlob
-pub mod Descriptions
-pub mod NodeParts
-pub mod Refusing
 pub mod NodeTold
 pub mod MessageRead
 pub mod PlacedRead
@@ -17,7 +14,6 @@ pub mod CarriedOnce
 pub mod GrownPlaced
 pub mod WiredNodes
 pub mod Gathered
-pub mod Openings
 pub mod OneArray
 pub mod GrownIds
 pub mod WrittenAgain
@@ -26,3 +22,7 @@ pub mod NeverCaused
 pub mod PadsAlign
 pub mod AlignedBlob
 pub mod Serialized
+pub mod SerializedNodes
+pub mod OverriddenBuffers
+pub mod StoredMessages
+pub mod DecodedNodes

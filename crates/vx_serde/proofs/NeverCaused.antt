@@ -1,6 +1,6 @@
 -- Where a blob spells an array within the limits, no refusal but want of memory has a cause.
 use Rattle.std.proofs.Common.{ℕ, ◌≡◌, List, ◌++◌, Option, Some, None, length, refl, sym, ap, ◌∙◌, subst, arith, length-append, inl, inr}
-use Rattle.std.specs.Prelude.{IsSome}
+use Rattle.std.specs.Prelude.{IsSome, Result, Ok, Err, IfOk, IfErr}
 use Rattle.std.specs.Int.{w32, from_le_bytes}
 use Rattle.vx_types.specs.Typ.{Typ}
 use Rattle.vx_array_tree.specs.Tree.{Tree}
@@ -13,7 +13,7 @@ use Rattle.vx_wire_tree.specs.Context.{Context, grown}
 use Rattle.vx_wire_tree.specs.Session.{SessionMeaning, IsShipped}
 use Rattle.vx_wire_tree.specs.Tells.{Tells}
 use Rattle.vx_wire_tree.specs.Wire.{Wire}
-use Rattle.vx_wire_tree.proofs.Laws.{never_refused}
+use Rattle.vx_wire_tree.proofs.Laws.{never_refused, one_tree}
 use Rattle.vx_encodings.specs.Messages.{codec}
 use Rattle.vx_serde.specs.declared.error.WireError.{WireError}
 use Rattle.vx_serde.specs.declared.error.WireError.TheVariants.{OutOfMemory, TooShort, BadTable, TableLimit, BadAlignment, Compressed, OutOfBounds, UnknownIndex, UnknownEncoding, BadMetadata, BadShape, NotPermitted, WireLimit, NotRegistered}
@@ -28,7 +28,7 @@ use Rattle.vx_serde.proofs.OneArray.{spelled_once}
 use Rattle.vx_serde.proofs.CarriedOnce.{one_blob, carried_once, backs}
 
 -- No node of a wire tree that tells an array is refused.
-never_caused_in : (s : SessionMeaning) → IsShipped s → IsLawful codec s → (x : WireError) (w : Wire) (d : Typ) (n : ℕ) (t : Tree) → Tells codec s w d n t → RefusesWire s x w d n → x ≡ OutOfMemory
+pub never_caused_in : (s : SessionMeaning) → IsShipped s → IsLawful codec s → (x : WireError) (w : Wire) (d : Typ) (n : ℕ) (t : Tree) → Tells codec s w d n t → RefusesWire s x w d n → x ≡ OutOfMemory
 never_caused_in s ok law OutOfMemory w d n t told c = refl
 never_caused_in s ok law OutOfBounds w d n t told c = absurd (never_refused codec s ok law trees.out_of_bounds w d n t told c)
 never_caused_in s ok law UnknownIndex w d n t told c = absurd (never_refused codec s ok law trees.unknown_index w d n t told c)
@@ -36,6 +36,12 @@ never_caused_in s ok law UnknownEncoding w d n t told c = absurd (never_refused 
 never_caused_in s ok law BadMetadata w d n t told c = absurd (never_refused codec s ok law trees.bad_metadata w d n t told c)
 never_caused_in s ok law BadShape w d n t told c = absurd (never_refused codec s ok law trees.bad_shape w d n t told c)
 never_caused_in s ok law _ w d n t told c = absurd c
+
+-- What a wire tree tells is the one array that it tells, and where it tells one only want of memory is left to refuse.
+pub told_one : (s : SessionMeaning) → IsShipped s → IsLawful codec s → (w : Wire) (d : Typ) (n : ℕ) (r : Result Tree WireError) → IfOk r (λ u. Tells codec s w d n u) → IfErr r (λ e. RefusesWire s e w d n)
+    → (t : Tree) → Tells codec s w d n t → IfOk r (λ u. u ≡ t) × IfErr r (λ e. e ≡ OutOfMemory)
+told_one s ok law w d n (Ok u) told cause t x = (one_tree codec s ok law w d n u t told x, tt)
+told_one s ok law w d n (Err e) told cause t x = (tt, never_caused_in s ok law e w d n t x cause)
 
 -- ---- the blob
 

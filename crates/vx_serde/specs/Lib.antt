@@ -4,6 +4,7 @@ pub mod MessageValue
 pub mod WireCode
 pub mod Limits
 pub mod Blob
+pub mod Serialized
 pub mod Numbered
 pub mod Placing
 pub mod Written
@@ -11,6 +12,8 @@ pub mod KeptContext
 pub mod WrittenBuffers
 pub mod Errors
 pub mod Opening
+pub mod Overrides
+pub mod Stored
 pub mod Spells
 pub mod Request
 pub mod Causes

@@ -14,6 +14,7 @@ use Rattle.vx_serde.specs.declared.error.WireError.TheVariants.{OutOfMemory, Bad
 use Rattle.vx_serde.specs.ArraySchema.{array_schema}
 use Rattle.vx_serde.specs.Blob.{Carries, AreClean}
 use Rattle.vx_serde.specs.Message.{Descriptor, message_of, place_behind}
+use Rattle.vx_serde.specs.Overrides.{RefusesAt}
 
 -- What opening a blob gives: the wire tree that it carries, under clean
 -- descriptors, from a message within the limits on reading.
@@ -28,6 +29,11 @@ RefusesDescriptor BadAlignment d place segment = 16 < d.exponent
 RefusesDescriptor Compressed d place segment = 0 < d.compression
 RefusesDescriptor OutOfBounds d place segment = segment < place_behind place d
 RefusesDescriptor _ d place segment = ⊥
+
+-- Why the buffer of a descriptor is not taken: the descriptor is refused, or memory was wanted.
+abbrev pub RefusesBuffer : WireError → Option Buffer → ℕ → ℕ → Descriptor → Type 0
+RefusesBuffer OutOfMemory given n p d = Unit {0}
+RefusesBuffer e given n p d = RefusesAt e given n p d
 
 -- Why a node's buffers are not taken: one is missing, or memory was wanted.
 abbrev pub RefusesBuffers : WireError → List (Option Buffer) → Type 0

@@ -1,7 +1,10 @@
-//! From a wire tree to the array that it tells.
+//! From a serialized array to the array that it tells.
 
-ghost use Rattle.std.specs.Prelude.{◌≡◌, IfOk, IfErr, OnOk, IsOkUnless};
+ghost use Rattle.std.specs.Prelude.{◌≡◌, List, ℕ, IfOk, IfErr, OnOk, IsOkUnless};
+ghost use Rattle.vx_trees.specs.Rose.{label};
 ghost use Rattle.vx_types.specs.Seen.{typ};
+ghost use Rattle.vx_array_tree.specs.Tree.{Tree};
+ghost use Rattle.vx_wire_tree.specs.Session.{IsShipped};
 ghost use Rattle.vx_wire_tree.specs.Tells.{Tells};
 ghost use Rattle.vx_wire_tree.specs.Wire.{all_present};
 ghost use Rattle.vx_encodings.specs.Messages.{codec};
@@ -11,15 +14,17 @@ ghost use Rattle.vx_registry.specs.Session.{ArePaired};
 ghost use Rattle.vx_serde.specs.Causes.{RefusesWire};
 ghost use Rattle.vx_serde.specs.Decoding.{IsHeadOf, IsNodeOf};
 ghost use Rattle.vx_serde.specs.ReadingSteps.{RefusesBuffers};
+ghost use Rattle.vx_serde.specs.Serialized.{wire_in};
 
 use crate::error::WireError;
-use crate::tree::WireNode;
+use crate::serialized::SerializedArray;
+use crate::serialized::node::SerializedNode;
 use std::alloc::Global;
 use vx_arrays::{Array, Arrays};
-use vx_buffer::{BufferHandle, BufferHandles};
+use vx_buffer::BufferHandles;
 use vx_encodings::{ArrayHead, ChildPlans, Encoding, EncodingError, build, plan};
-use vx_registry::VortexSession;
-use vx_types::{DType, Id};
+use vx_registry::{ReadContext, VortexSession};
+use vx_types::{Blob, DType, Id};
 
 impl From<EncodingError> for WireError {
     ghost use Rattle.std.specs.Prelude.{◌≡◌};
@@ -39,18 +44,18 @@ impl From<EncodingError> for WireError {
 /// What an encoding is told of a node before its children.
 fn head_of(
     alloc: Global,
-    node: &WireNode,
+    node: &SerializedNode<'_>,
     id: &Id,
     dtype: &DType,
     len: usize,
 ) -> Result<ArrayHead, WireError>
-    ensures head { IfOk result (λ h. IsHeadOf h node.now (typ dtype.now) len) }
+    ensures head { (ids : List (List ℕ)) → IfOk result (λ h. IsHeadOf h (wire_in ids node.now) (typ dtype.now) len) }
     ensures err { IsOkUnless result WireError.OutOfMemory }
 {
     let Ok(serialized_id) = id.clone(alloc) else {
         return Err(WireError::OutOfMemory);
     };
-    let Ok(metadata) = node.metadata().clone(alloc) else {
+    let Ok(metadata) = Blob::copy_from(alloc, node.metadata()) else {
         return Err(WireError::OutOfMemory);
     };
     let Ok(dtype) = dtype.clone(alloc) else {
@@ -61,8 +66,8 @@ fn head_of(
         dtype,
         len,
         metadata,
-        nbuffers: node.buffers().len(),
-        nchildren: node.children().len(),
+        nbuffers: node.nbuffers(),
+        nchildren: node.nchildren(),
     })
 }
 
@@ -77,20 +82,21 @@ struct PlannedNode {
 /// What reads a node, and what it plans of the node's children.
 fn plan_node(
     alloc: Global,
-    node: &WireNode,
+    node: &SerializedNode<'_>,
     dtype: &DType,
     len: usize,
+    ids: &ReadContext,
     session: &VortexSession,
 ) -> Result<PlannedNode, WireError>
     ensures read { let s = session_meaning (λ b. accepted (b.vtable, b.value)) session.now in
-        IfOk result (λ p. IsNodeOf s node.now (typ dtype.now) len p.encoding p.head) }
+        IfOk result (λ p. IsNodeOf s (wire_in ids.now node.now) (typ dtype.now) len p.encoding p.head) }
     ensures planned { let s = session_meaning (λ b. accepted (b.vtable, b.value)) session.now in
         IfOk result (λ p. IsPlanned s.ext p.encoding p.head p.children) }
     ensures paired { OnOk result (ArePaired session.now.arrays) }
     ensures cause { let s = session_meaning (λ b. accepted (b.vtable, b.value)) session.now in
-        IfErr result (λ e. RefusesWire s e node.now (typ dtype.now) len) }
+        IfErr result (λ e. RefusesWire s e (wire_in ids.now node.now) (typ dtype.now) len) }
 {
-    let Some(id) = node.id() else {
+    let Some(id) = ids.resolve(node.encoding_id()) else {
         return Err(WireError::UnknownIndex);
     };
     let Some(encoding) = session.arrays.reader(id) else {
@@ -108,45 +114,46 @@ fn plan_node(
 }
 
 /// A node's buffers, where none is missing.
-fn own_buffers(alloc: Global, buffers: &[Option<BufferHandle>]) -> Result<BufferHandles, WireError>
-    ensures ok { IfOk result (λ bs. buffers.now ≡ all_present bs) }
-    ensures cause { IfErr result (λ e. RefusesBuffers e buffers.now) }
+fn own_buffers(alloc: Global, node: &SerializedNode<'_>) -> Result<BufferHandles, WireError>
+    ensures ok { (ids : List (List ℕ)) → IfOk result (λ bs. (label (wire_in ids node.now)).buffers ≡ all_present bs) }
+    ensures cause { (ids : List (List ℕ)) → IfErr result (λ e. RefusesBuffers e (label (wire_in ids node.now)).buffers) }
 {
     let mut own = BufferHandles::new(alloc);
-    for buffer in buffers {
-        match buffer {
-            Some(buffer) => own.push(buffer.clone(alloc)?)?,
-            None => return Err(WireError::OutOfBounds),
+    for i in 0..node.nbuffers() {
+        match node.buffer(i) {
+            Ok(buffer) => own.push(buffer.clone(alloc)?)?,
+            Err(_) => return Err(WireError::OutOfBounds),
         }
     }
     Ok(own)
 }
 
 /// The array that a node tells, with those below it, at a type and a length.
-pub(crate) fn decode(
+fn decode_node(
     alloc: Global,
-    node: &WireNode,
+    node: &SerializedNode<'_>,
     dtype: &DType,
     len: usize,
+    ids: &ReadContext,
     session: &VortexSession,
 ) -> Result<Array, WireError>
     ensures told { let s = session_meaning (λ b. accepted (b.vtable, b.value)) session.now in
-        IfOk result (λ t. Tells codec s node.now (typ dtype.now) len t) }
+        IfOk result (λ t. Tells codec s (wire_in ids.now node.now) (typ dtype.now) len t) }
     ensures paired { OnOk result (ArePaired session.now.arrays) }
     ensures cause { let s = session_meaning (λ b. accepted (b.vtable, b.value)) session.now in
-        IfErr result (λ e. RefusesWire s e node.now (typ dtype.now) len) }
+        IfErr result (λ e. RefusesWire s e (wire_in ids.now node.now) (typ dtype.now) len) }
 {
-    let planned = match plan_node(alloc, node, dtype, len, session) {
+    let planned = match plan_node(alloc, node, dtype, len, ids, session) {
         Ok(planned) => planned,
         Err(e) => return Err(e),
     };
-    let nodes = node.children();
     let mut children = Arrays::new(alloc);
-    for (i, below) in nodes.iter().enumerate() {
+    for i in 0..node.nchildren() {
         let Some(place) = planned.children.get(i) else {
             unreachable!();
         };
-        let child = match decode(alloc, below, &place.dtype, place.len, session) {
+        let below = node.child(i);
+        let child = match decode_node(alloc, &below, &place.dtype, place.len, ids, session) {
             Ok(child) => child,
             Err(e) => return Err(e),
         };
@@ -154,7 +161,7 @@ pub(crate) fn decode(
             return Err(WireError::OutOfMemory);
         };
     }
-    let buffers = match own_buffers(alloc, node.buffers()) {
+    let buffers = match own_buffers(alloc, node) {
         Ok(buffers) => buffers,
         Err(e) => return Err(e),
     };
@@ -168,5 +175,62 @@ pub(crate) fn decode(
     ) {
         Ok(array) => Ok(array),
         Err(e) => Err(WireError::from(e)),
+    }
+}
+
+impl<'a> SerializedNode<'a> {
+    /// The array of this type and length that the node tells, with those below it.
+    ///
+    /// # Errors
+    /// `UnknownIndex`, `UnknownEncoding`, `BadMetadata` and `BadShape` where a node has that fault at the type and length
+    /// that follow for it, `OutOfBounds` where one names a buffer that is not there. Where several have a cause, any of
+    /// them may be answered.
+    pub fn decode(
+        &self,
+        alloc: Global,
+        dtype: &DType,
+        len: usize,
+        ids: &ReadContext,
+        session: &VortexSession,
+    ) -> Result<Array, WireError>
+        // The array matches the node's wire tree, is sound and normal, and of this type and length.
+        ensures told { let s = session_meaning (λ b. accepted (b.vtable, b.value)) session.now in
+            IfOk result (λ t. Tells codec s (wire_in ids.now self.now) (typ dtype.now) len t) }
+        // With shipped encodings only it is the one that does; and where there is one, it is answered, or memory is wanted.
+        ensures one { let s = session_meaning (λ b. accepted (b.vtable, b.value)) session.now in
+            IsShipped s → (t : Tree) → Tells codec s (wire_in ids.now self.now) (typ dtype.now) len t
+            → IfOk result (λ u. u ≡ t) × IfErr result (λ e. e ≡ WireError.OutOfMemory) }
+        ensures paired { OnOk result (ArePaired session.now.arrays) }
+        // Each refusal has its cause.
+        ensures cause { let s = session_meaning (λ b. accepted (b.vtable, b.value)) session.now in
+            IfErr result (λ e. RefusesWire s e (wire_in ids.now self.now) (typ dtype.now) len) }
+    {
+        decode_node(alloc, self, dtype, len, ids, session)
+    }
+}
+
+impl SerializedArray {
+    /// The array of this type and length that the root tells, with the nodes below it.
+    ///
+    /// # Errors
+    /// As of [`SerializedNode::decode`].
+    pub fn decode(
+        &self,
+        alloc: Global,
+        dtype: &DType,
+        len: usize,
+        ids: &ReadContext,
+        session: &VortexSession,
+    ) -> Result<Array, WireError>
+        ensures told { let s = session_meaning (λ b. accepted (b.vtable, b.value)) session.now in
+            IfOk result (λ t. Tells codec s (wire_in ids.now self.now) (typ dtype.now) len t) }
+        ensures one { let s = session_meaning (λ b. accepted (b.vtable, b.value)) session.now in
+            IsShipped s → (t : Tree) → Tells codec s (wire_in ids.now self.now) (typ dtype.now) len t
+            → IfOk result (λ u. u ≡ t) × IfErr result (λ e. e ≡ WireError.OutOfMemory) }
+        ensures paired { OnOk result (ArePaired session.now.arrays) }
+        ensures cause { let s = session_meaning (λ b. accepted (b.vtable, b.value)) session.now in
+            IfErr result (λ e. RefusesWire s e (wire_in ids.now self.now) (typ dtype.now) len) }
+    {
+        self.root().decode(alloc, dtype, len, ids, session)
     }
 }

@@ -7,10 +7,9 @@ ghost use Rattle.vx_serde.specs.Request.{CanRecode, request};
 ghost use Rattle.vx_serde.specs.Recoding.{IsFaithful, IsRecoded, LeavesContext, product};
 ghost use Rattle.vx_serde.specs.Causes.{Refuses};
 
-use crate::decoding::decode;
 use crate::error::WireError;
-use crate::opening::open;
 use crate::options::SerializeOptions;
+use crate::serialized::SerializedArray;
 use crate::serializing::ArrayExt;
 use std::alloc::Global;
 use vx_arrays::Array;
@@ -65,11 +64,11 @@ pub fn recode(
         let asked = request blob dtype.now len read_ids.now ctx.old s options.now in
         IfErr result (Refuses asked) }
 {
-    let node = match open(alloc, &blob, read_ids) {
-        Ok(node) => node,
+    let serialized = match SerializedArray::try_from_buffer(alloc, blob) {
+        Ok(serialized) => serialized,
         Err(e) => return Err(e),
     };
-    let array = match decode(alloc, &node, dtype, len, session) {
+    let array = match serialized.decode(alloc, dtype, len, read_ids, session) {
         Ok(array) => array,
         Err(e) => return Err(e),
     };

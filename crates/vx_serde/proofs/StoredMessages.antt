@@ -1,0 +1,191 @@
+-- What is kept of a message that was verified, and why it is not.
+use Rattle.std.proofs.Common.{ℕ, ◌≡◌, ◌+◌, ◌-◌, List, ◌++◌, Option, Some, None, length, refl, sym, ap, ◌∙◌, subst, arith, append_assoc}
+use Rattle.std.specs.Prelude.{slice_range, Result, Ok, Err, IfOk, IfErr}
+use Rattle.std.proofs.Math.Seq.{take-append_seam, drop-append_seam}
+use Rattle.vx_buffer.specs.Buffer.{Buffer}
+use Rattle.vx_flat.specs.declared.error.FlatError.{FlatError}
+use Rattle.vx_flat.specs.declared.error.FlatError.TheVariants as tables
+use Rattle.vx_flat.specs.declared.viewing.View.{View}
+use Rattle.vx_flat.specs.declared.limits.Limits.{Limits}
+use Rattle.vx_flat.specs.Limits.{limits, IsLight}
+use Rattle.vx_flat.specs.Places.{u32_at}
+use Rattle.vx_flat.specs.Reading.{table_shown}
+use Rattle.vx_flat.specs.Seen.{seen, part_in, fields_or_none, IsViewAt, IsViewOf, IsRootView}
+use Rattle.vx_flat.specs.Shows.{Shows, ShowsAt}
+use Rattle.vx_flat.specs.Value.{Fields, absent, table}
+use Rattle.vx_flat.specs.Weight.{weight}
+use Rattle.vx_flat.specs.declared.weight.Weight.{Weight}
+use Rattle.vx_flat.proofs.LawsOfMessages.{shown-one}
+use Rattle.vx_flat.proofs.LawsOfViews.{seen-of}
+use Rattle.vx_trees.specs.Rose.{Rose}
+use Rattle.vx_serde.specs.declared.error.WireError.{WireError}
+use Rattle.vx_serde.specs.declared.error.WireError.TheVariants.{OutOfMemory, TooShort, BadTable, TableLimit, BadAlignment, Compressed, OutOfBounds, UnknownIndex, UnknownEncoding, BadMetadata, BadShape, NotPermitted, WireLimit}
+use Rattle.vx_serde.specs.ArraySchema.{array_schema}
+use Rattle.vx_serde.specs.Blob.{IsBlob, AreClean, buffers_at, wire_of}
+use Rattle.vx_serde.specs.Message.{Descriptor, NodeFields, message_of, node_of, root_in, descriptors_of, bytes_of_field}
+use Rattle.vx_serde.specs.Opening.{RefusesOpening}
+use Rattle.vx_serde.specs.Overrides.{Overrides, no_override, RefusesWith}
+use Rattle.vx_serde.specs.ReadingSteps.{IsOpened, message_refusal}
+use Rattle.vx_serde.specs.Serialized.{Serialized, wire_in}
+use Rattle.vx_serde.specs.Stored.{IsStored, IsMessageOf, IsBlobOf, RefusesMessage, RefusesSegment, HasRefused, array_at, root_or_leaf, stored}
+use Rattle.vx_serde.proofs.OverriddenBuffers.{never-refused, aligned-any, plain-any, past-end}
+
+-- ---- views of a message's array
+
+pub view_sees : (m : List ℕ) (t : ℕ) (w : Weight) (v : View) → IsViewAt array_schema m t w v → seen v ≡ array_at m t
+view_sees m t w v h = λ j. fields_or_none (table_shown (h.schema j) (h.message j) (h.place j) (h.table j))
+
+pub view_of : (m : List ℕ) (t : ℕ) (w : Weight) (v : View) → IsViewAt array_schema m t w v → IsViewOf array_schema 0 v
+view_of m t w v h = record { schema = h.schema; table = h.table }
+
+module _ (v : View) (h : IsViewOf array_schema 0 v) where
+  pub descriptors_seen : (message_of (seen v)).descriptors ≡ descriptors_of (bytes_of_field (part_in v 1))
+  descriptors_seen = ap (λ vs. (message_of vs).descriptors) (seen-of array_schema 0 v h)
+
+  pub root_seen : (message_of (seen v)).root ≡ root_in (part_in v 0)
+  root_seen = ap (λ vs. (message_of vs).root) (seen-of array_schema 0 v h)
+
+  pub root_there : (w : View) → part_in v 0 ≡ table (seen w) → (message_of (seen v)).root ≡ Some (node_of (seen w))
+  root_there w e = root_seen ∙ ap (λ f. root_in f) e
+
+  pub root_missing : part_in v 0 ≡ absent → (message_of (seen v)).root ≡ None
+  root_missing e = root_seen ∙ ap (λ f. root_in f) e
+
+-- ---- what is kept
+
+module _ (m : List ℕ) (t : ℕ) (w : Weight) (v : View) (h : IsViewAt array_schema m t w v) where
+  pub is_stored : (root : Rose NodeFields) → (message_of (seen v)).root ≡ Some root → IsStored m t
+  is_stored root e =
+      let sees = view_sees m t w v h in
+      let P : Fields → Type 0 = λ z. ShowsAt array_schema m t 0 z in
+      record { shows = subst P sees h.shows; root = root; root_is = ap (λ z. (message_of z).root) (sym sees) ∙ e }
+
+  pub is_shown : Shows array_schema m (seen v) → Shows array_schema m (array_at m t)
+  is_shown shows = let P : Fields → Type 0 = λ z. Shows array_schema m z in subst P (view_sees m t w v h) shows
+
+  pub is_told : (message_of (seen v)).descriptors ≡ (message_of (array_at m t)).descriptors
+  is_told = ap (λ z. (message_of z).descriptors) (view_sees m t w v h)
+
+-- A root that stands is the one that is kept.
+pub kept_root : (o : Option (Rose NodeFields)) (root : Rose NodeFields) → o ≡ Some root → o ≡ Some (root_or_leaf o)
+kept_root (Some t) root e = refl
+kept_root None root e = absurd (cc)
+
+pub message_of_stored : (m : List ℕ) (t : ℕ) (bs : List Buffer) → IsStored m t → Shows array_schema m (array_at m t) → IsLight limits (weight array_schema m) → IsMessageOf limits m (stored m t bs)
+message_of_stored m t bs s shows light = record {
+  value = array_at m t;
+  shows = shows;
+  light = light;
+  root = kept_root (message_of (array_at m t)).root s.root s.root_is;
+  descriptors = refl;
+}
+
+-- What is kept is what a view again sees.
+pub stored_seen : (m : List ℕ) (t : ℕ) (w : Weight) (v r : View) (bs : List Buffer) → IsViewAt array_schema m t w v → part_in v 0 ≡ table (seen r)
+    → stored m t bs ≡ record { root = node_of (seen r); descriptors = (message_of (seen v)).descriptors; buffers = bs }
+stored_seen m t w v r bs h e =
+    let sees = sym (view_sees m t w v h) in
+    let root : root_or_leaf (message_of (array_at m t)).root ≡ node_of (seen r) = ap (λ z. root_or_leaf (message_of z).root) sees ∙ ap (λ o. root_or_leaf o) (root_there v (view_of m t w v h) r e) in
+    let descriptors : (message_of (array_at m t)).descriptors ≡ (message_of (seen v)).descriptors = ap (λ z. (message_of z).descriptors) sees in
+    λ j. record { root = root j; descriptors = descriptors j; buffers = bs }
+
+-- A message that is kept has a root.
+pub never_missing : (m : List ℕ) (t : ℕ) (w : Weight) (v : View) → IsStored m t → IsViewAt array_schema m t w v → part_in v 0 ≡ absent → ⊥
+never_missing m t w v s h e =
+    let none : (message_of (array_at m t)).root ≡ None = ap (λ z. (message_of z).root) (sym (view_sees m t w v h)) ∙ root_missing v (view_of m t w v h) e in
+    let both = sym s.root_is ∙ none in
+    absurd (cc)
+
+-- ---- why a message is not kept
+
+pub unread : (m : List ℕ) (e : FlatError) → (e ≡ tables.BadTable → (v : Fields) → Shows array_schema m v → ⊥) → (e ≡ tables.TableLimit → IsLight limits (weight array_schema m) → ⊥) → (e ≡ tables.MessageTooLong → ⊥)
+    → RefusesMessage limits (message_refusal e) m
+unread m tables.OutOfMemory bad heavy long = tt
+unread m tables.BadTable bad heavy long = λ v r shows root. bad refl v shows
+unread m tables.TableLimit bad heavy long = heavy refl
+unread m tables.MessageTooLong bad heavy long = absurd (long refl)
+
+pub rootless : (m : List ℕ) (v : View) → IsRootView array_schema m v → part_in v 0 ≡ absent → RefusesMessage limits BadTable m
+rootless m v h e = λ value root shows root_is.
+    let same = shown-one array_schema m value (seen v) shows h.0 in
+    let none = root_missing v (view_of m (u32_at m 0) (weight array_schema m) v h.1) e in
+    let both = sym root_is ∙ ap (λ z. (message_of z).root) same ∙ none in
+    absurd (cc)
+
+pub refused_message : (most : Limits) (e : WireError) (given : Overrides) (segment m : List ℕ) → RefusesMessage most e m → RefusesSegment most e given segment m
+refused_message most OutOfMemory given segment m r = tt
+refused_message most BadTable given segment m r = r
+refused_message most TableLimit given segment m r = r
+refused_message most _ given segment m r = absurd r
+
+pub refused_descriptors : (most : Limits) (e : WireError) (given : Overrides) (segment m : List ℕ) (value : Fields) → Shows array_schema m value → RefusesWith e given segment (message_of value).descriptors → RefusesSegment most e given segment m
+refused_descriptors most OutOfMemory given segment m value shows r = tt
+refused_descriptors most BadAlignment given segment m value shows r = record { value = value; shows = shows; refused = r }
+refused_descriptors most Compressed given segment m value shows r = record { value = value; shows = shows; refused = r }
+refused_descriptors most OutOfBounds given segment m value shows r = record { value = value; shows = shows; refused = r }
+refused_descriptors most TooShort given segment m value shows r = absurd (never-refused TooShort given (λ g n p d x. x) (length segment) 0 0 (message_of value).descriptors r)
+refused_descriptors most BadTable given segment m value shows r = absurd (never-refused BadTable given (λ g n p d x. x) (length segment) 0 0 (message_of value).descriptors r)
+refused_descriptors most TableLimit given segment m value shows r = absurd (never-refused TableLimit given (λ g n p d x. x) (length segment) 0 0 (message_of value).descriptors r)
+refused_descriptors most UnknownIndex given segment m value shows r = absurd (never-refused UnknownIndex given (λ g n p d x. x) (length segment) 0 0 (message_of value).descriptors r)
+refused_descriptors most UnknownEncoding given segment m value shows r = absurd (never-refused UnknownEncoding given (λ g n p d x. x) (length segment) 0 0 (message_of value).descriptors r)
+refused_descriptors most BadMetadata given segment m value shows r = absurd (never-refused BadMetadata given (λ g n p d x. x) (length segment) 0 0 (message_of value).descriptors r)
+refused_descriptors most BadShape given segment m value shows r = absurd (never-refused BadShape given (λ g n p d x. x) (length segment) 0 0 (message_of value).descriptors r)
+refused_descriptors most NotPermitted given segment m value shows r = absurd (never-refused NotPermitted given (λ g n p d x. x) (length segment) 0 0 (message_of value).descriptors r)
+refused_descriptors most WireLimit given segment m value shows r = absurd (never-refused WireLimit given (λ g n p d x. x) (length segment) 0 0 (message_of value).descriptors r)
+
+-- ---- blobs
+
+-- The segment is the blob's front, and the message stands behind it.
+module _ (blob segment message : List ℕ) (is : IsBlob blob segment message) where
+  pub segment_is : slice_range blob 0 (length segment) ≡ segment
+  segment_is = ap (λ z. slice_range z 0 (length segment)) (is.parts ∙ append_assoc segment message is.word) ∙ front segment (message ++ is.word)
+    where
+      front : (xs ys : List ℕ) → slice_range (xs ++ ys) 0 (length xs) ≡ xs
+      front xs ys = let whole : length xs - 0 ≡ length xs = omega arith in rw whole (take-append_seam xs ys)
+
+  pub message_is : slice_range blob (length segment) (length segment + length message) ≡ message
+  message_is = ap (λ z. slice_range z (length segment) (length segment + length message)) (is.parts ∙ append_assoc segment message is.word) ∙ middle segment message is.word
+    where
+      middle : (xs ys zs : List ℕ) → slice_range (xs ++ (ys ++ zs)) (length xs) (length xs + length ys) ≡ ys
+      middle xs ys zs =
+          let whole : (length xs + length ys) - length xs ≡ length ys = omega arith in
+          rw (whole, drop-append_seam xs (ys ++ zs)) (take-append_seam ys zs)
+
+  pub blob_refused : (e : WireError) → RefusesSegment limits e no_override segment message → RefusesOpening limits e blob
+  blob_refused OutOfMemory r = tt
+  blob_refused BadTable r = record { segment = segment; message = message; blob_is = is; none = r }
+  blob_refused TableLimit r = record { segment = segment; message = message; blob_is = is; heavy = r }
+  blob_refused BadAlignment r = record { segment = segment; message = message; value = r.value; blob_is = is; shows = r.shows; refused = aligned-any (length segment) 0 0 (message_of r.value).descriptors r.refused }
+  blob_refused Compressed r = record { segment = segment; message = message; value = r.value; blob_is = is; shows = r.shows; refused = plain-any (length segment) 0 0 (message_of r.value).descriptors r.refused }
+  blob_refused OutOfBounds r = record { segment = segment; message = message; value = r.value; blob_is = is; shows = r.shows; refused = past-end (length segment) 0 0 (message_of r.value).descriptors r.refused }
+  blob_refused _ r = absurd r
+
+  pub is_blob_of : (r : Result Serialized WireError) → IfOk r (IsMessageOf limits message) → IfOk r (λ a. a.buffers ≡ buffers_at segment 0 a.descriptors) → IfOk r (λ a. AreClean segment a.descriptors)
+      → IfOk r (IsBlobOf limits blob)
+  is_blob_of (Ok a) told buffers clean = record { segment = segment; message = message; blob_is = is; message_is = told; buffers = buffers; clean = clean }
+  is_blob_of (Err e) told buffers clean = tt
+
+  pub blob_cause : (r : Result Serialized WireError) → IfErr r (λ e. RefusesSegment limits e no_override segment message) → IfErr r (λ e. RefusesOpening limits e blob)
+  blob_cause (Ok a) cause = tt
+  blob_cause (Err e) cause = blob_refused e cause
+
+-- A blob's array tells the wire tree that the blob carries.
+pub opened : (blob : List ℕ) (ids : List (List ℕ)) (a : Serialized) → IsBlobOf limits blob a → IsOpened limits blob ids (wire_in ids a)
+opened blob ids a h =
+    let told = h.message_is in
+    let own = h.buffers ∙ ap (λ ds. buffers_at h.segment 0 ds) told.descriptors in
+    let P : List Descriptor → Type 0 = λ ds. AreClean h.segment ds in
+    record {
+      carried = record {
+        segment = h.segment;
+        message = h.message;
+        value = told.value;
+        root = a.root;
+        blob_is = h.blob_is;
+        shows = told.shows;
+        root_is = told.root;
+        wire_is = ap (λ bs. wire_of ids bs a.root) own;
+      };
+      clean = subst P told.descriptors h.clean;
+      light = told.light;
+    }

@@ -1,0 +1,91 @@
+use Rattle.std.proofs.Common.{◌≤◌, List, Option, length, arith, ap, sym, refl, subst, ◌∙◌}
+use Rattle.std.proofs.lemmas.Option.{slice_get_within, get_or_from_slice_get}
+use Rattle.vx_buffer.specs.Buffer.{Buffer}
+use Rattle.vx_trees.specs.Rose.{below, roses_list}
+use Rattle.vx_trees.proofs.Lists.{roses_of-roses_list}
+use Rattle.vx_types.specs.Seen.{typ}
+use Rattle.vx_type_wire.specs.Session.{ext_meaning}
+use Rattle.vx_array_tree.specs.Place.{Place}
+use Rattle.vx_encodings.specs.Steps.{IsPlanned}
+use Rattle.vx_registry.specs.Meaning.{session_meaning}
+use Rattle.vx_registry.proofs.LawsSessions.{registry_lawful}
+use Rattle.vx_serde.specs.Serialized.{wire_in}
+use Rattle.vx_serde.specs.contracts.decoding.decode_node.{dyn-1-ghosts}
+use Rattle.vx_serde.proofs.DecodedNodes.{wire-child, wire-length, child-smaller}
+use Rattle.vx_serde.proofs.NodeTold.{told-snoc, all_told, enough, get_past, planned, caused_by_child, caused_by_buffers, caused_by_build, told_node}
+use Rattle.vx_serde.proofs.decoding.+decode_node.Goals as goal
+
+pub loop-i-init : goal.loop-i-init
+loop-i-init g t c = rw c.new-children.ensures (record { matched = refl; sound = tt; normal = tt; placed = refl })
+
+pub unreachable-requires : goal.unreachable-requires
+unreachable-requires g t c =
+    let w = wire_in c.args.ids.now c.args.node.now in
+    let nodes = roses_list (below w) in
+    let same = enough c.in-Ok.planned.encoding _ c.in-Ok.planned.head c.in-Ok.planned.children nodes w (typ c.args.dtype.now) c.args.len c.in-Ok.ensures.planned c.in-Ok.ensures.read.head (roses_of-roses_list (below w)) in
+    get_past c.in-Ok.planned.children c.loop-i.i (omega (arith, same, wire-length c.args.ids.now c.args.node.now, c.nchildren-i-end.ensures, c.loop-i-test.true)) (sym c.in_default.ensures)
+
+pub decode_node-requires : goal.decode_node-requires
+decode_node-requires g t c = (omega (arith, child-smaller c.args.node.now c.loop-i.i c.child-below.result c.child-below.ensures), tt)
+
+pub returns-in-Err-decode_node-clause-cause : goal.returns-in-Err-decode_node-clause-cause
+returns-in-Err-decode_node-clause-cause g t c =
+    let s = session_meaning (λ b. ((dyn-1-ghosts g.dyn-1).0.entry b.vtable).1.accepted b.value) c.args.session.now in
+    let w = wire_in c.args.ids.now c.args.node.now in
+    let node = c.in-Ok.planned in
+    let child = wire_in c.args.ids.now c.child-below.result in
+    let plan = planned s w (typ c.args.dtype.now) c.args.len node.encoding node.head node.children c.in-Ok.ensures.read c.in-Ok.ensures.planned in
+    caused_by_child s c.in-Err-decode_node.e w (typ c.args.dtype.now) c.args.len (roses_list (below w)) node.children c.loop-i.i child _ plan (roses_of-roses_list (below w))
+    (wire-child c.args.ids.now c.args.node.now c.loop-i.i c.child-below.result c.child-below.ensures) (sym c.in-Some.ensures) c.in-Err-decode_node.ensures.cause
+
+pub loop-i-preserved : goal.loop-i-preserved
+loop-i-preserved g t c =
+    let s = session_meaning (λ b. ((dyn-1-ghosts g.dyn-1).0.entry b.vtable).1.accepted b.value) c.args.session.now in
+    let nodes = roses_list (below (wire_in c.args.ids.now c.args.node.now)) in
+    let child = wire_in c.args.ids.now c.child-below.result in
+    let at = wire-child c.args.ids.now c.args.node.now c.loop-i.i c.child-below.result c.child-below.ensures in
+    told-snoc s nodes c.in-Ok.planned.children c.loop-i.i child _ c.loop-i.children c.push.new.self c.in-Ok-decode_node.child (slice_get_within nodes c.loop-i.i child at) c.loop-i.invariant
+    (sym (get_or_from_slice_get nodes c.loop-i.i child child at)) (sym c.in-Some.ensures) c.in-Ok-decode_node.ensures.told c.in-Ok-push.ensures.ok
+
+pub returns-in-Err-own_buffers-clause-cause : goal.returns-in-Err-own_buffers-clause-cause
+returns-in-Err-own_buffers-clause-cause g t c =
+    let s = session_meaning (λ b. ((dyn-1-ghosts g.dyn-1).0.entry b.vtable).1.accepted b.value) c.args.session.now in
+    caused_by_buffers s c.in-Err-own_buffers.e (wire_in c.args.ids.now c.args.node.now) (typ c.args.dtype.now) c.args.len (c.in-Err-own_buffers.ensures.cause c.args.ids.now)
+
+pub build-requires : goal.build-requires
+build-requires g t c =
+    let x = ext_meaning (λ b. ((dyn-1-ghosts g.dyn-1).0.entry b.vtable).1.accepted b.value) c.args.session.now.ext in
+    let s = session_meaning (λ b. ((dyn-1-ghosts g.dyn-1).0.entry b.vtable).1.accepted b.value) c.args.session.now in
+    let w = wire_in c.args.ids.now c.args.node.now in
+    let node = c.in-Ok.planned in
+    let nodes = roses_list (below w) in
+    let same = enough node.encoding x node.head node.children nodes w (typ c.args.dtype.now) c.args.len c.in-Ok.ensures.planned c.in-Ok.ensures.read.head (roses_of-roses_list (below w)) in
+    let told = all_told s nodes node.children c.loop-i.children c.loop-i.i (omega (arith, wire-length c.args.ids.now c.args.node.now, c.nchildren-i-end.ensures, c.loop-i-test.false)) same c.loop-i.invariant in
+    subst (λ (ps : List Place). IsPlanned x node.encoding node.head ps) (sym told.placed) c.in-Ok.ensures.planned
+
+pub returns-in-Ok-build-clause-told : goal.returns-in-Ok-build-clause-told
+returns-in-Ok-build-clause-told g t c =
+    let x = ext_meaning (λ b. ((dyn-1-ghosts g.dyn-1).0.entry b.vtable).1.accepted b.value) c.args.session.now.ext in
+    let s = session_meaning (λ b. ((dyn-1-ghosts g.dyn-1).0.entry b.vtable).1.accepted b.value) c.args.session.now in
+    let w = wire_in c.args.ids.now c.args.node.now in
+    let node = c.in-Ok.planned in
+    let nodes = roses_list (below w) in
+    let same = enough node.encoding x node.head node.children nodes w (typ c.args.dtype.now) c.args.len c.in-Ok.ensures.planned c.in-Ok.ensures.read.head (roses_of-roses_list (below w)) in
+    let past : length nodes ≤ c.loop-i.i = omega (arith, wire-length c.args.ids.now c.args.node.now, c.nchildren-i-end.ensures, c.loop-i-test.false) in
+    told_node s (registry_lawful c.args.session.now.arrays x) w (typ c.args.dtype.now) c.args.len node.encoding node.head node.children c.in-Ok-own_buffers.buffers nodes
+    c.loop-i.children c.in-Ok-build.array c.in-Ok.ensures.read c.in-Ok.ensures.planned (c.in-Ok-own_buffers.ensures.ok c.args.ids.now) (roses_of-roses_list (below w))
+    (all_told s nodes node.children c.loop-i.children c.loop-i.i past same c.loop-i.invariant) c.in-Ok-build.ensures.parts c.in-Ok-build.ensures.sound
+
+pub returns-clause-cause : goal.returns-clause-cause
+returns-clause-cause g t c =
+    let x = ext_meaning (λ b. ((dyn-1-ghosts g.dyn-1).0.entry b.vtable).1.accepted b.value) c.args.session.now.ext in
+    let s = session_meaning (λ b. ((dyn-1-ghosts g.dyn-1).0.entry b.vtable).1.accepted b.value) c.args.session.now in
+    let w = wire_in c.args.ids.now c.args.node.now in
+    let node = c.in-Ok.planned in
+    let nodes = roses_list (below w) in
+    let same = enough node.encoding x node.head node.children nodes w (typ c.args.dtype.now) c.args.len c.in-Ok.ensures.planned c.in-Ok.ensures.read.head (roses_of-roses_list (below w)) in
+    let past : length nodes ≤ c.loop-i.i = omega (arith, wire-length c.args.ids.now c.args.node.now, c.nchildren-i-end.ensures, c.loop-i-test.false) in
+    let told = all_told s nodes node.children c.loop-i.children c.loop-i.i past same c.loop-i.invariant in
+    rw c.from.ensures
+    (caused_by_build s c.in-Err-build.e w (typ c.args.dtype.now) c.args.len node.encoding node.head c.in-Ok-own_buffers.buffers nodes node.children c.loop-i.children c.in-Ok.ensures.read
+    (c.in-Ok-own_buffers.ensures.ok c.args.ids.now) (roses_of-roses_list (below w)) told c.in-Err-build.ensures.err)
