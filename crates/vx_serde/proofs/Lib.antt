@@ -21,7 +21,7 @@ pub mod Recodings
 pub mod NeverCaused
 pub mod PadsAlign
 pub mod AlignedBlob
-pub mod Serialized
+pub mod Serializations
 pub mod SerializedNodes
 pub mod OverriddenBuffers
 pub mod StoredMessages

@@ -8,7 +8,7 @@ use Rattle.vx_encodings.specs.Messages.{codec}
 use Rattle.vx_registry.specs.Session.{tables_meaning}
 use Rattle.vx_serde.specs.Placing.{descriptors_from, data_end}
 use Rattle.vx_serde.specs.WritingSteps.{layout_of}
-use Rattle.vx_serde.proofs.Serialized.{serialized}
+use Rattle.vx_serde.proofs.Serializations.{serialized}
 use Rattle.vx_serde.proofs.WholeBlob.{message-is, unplaced, unwritten, late, writable-is, buffers-are}
 use Rattle.vx_serde.proofs.WiredNodes.{no_session}
 use Rattle.vx_serde.proofs.WrittenAgain.{grown-ids}
