@@ -83,6 +83,7 @@ fn type_of(alloc: Global, which: usize) -> Result<DType, TypeError> {
         13 => map(alloc),
         14 => Ok(DType::Variant(NO)),
         15 => extension(alloc, extension(alloc, numbers(PType::I32))?),
+        17 => Ok(numbers(PType::U32)),
         _ => Ok(DType::FixedSizeList(TypeRef::new(alloc, numbers(PType::I32))?, 3, NO)),
     }
 }
@@ -136,7 +137,9 @@ fn values_are_read_at_types(rt: HostRuntime) -> Result<(), Fail> {
     assert!(rt; read(alloc, &[0x10, 0x01], 0)? == Answer::Bool(true));
     assert!(rt; read(alloc, &[0x18, 0x54], 1)? == Answer::Number(PValue::I32(42)));
     assert!(rt; read(alloc, &[0x20, 0x2a], 1)? == Answer::Number(PValue::I32(42)));
+    assert!(rt; read(alloc, &[0x20, 0x2a], 17)? == Answer::Number(PValue::U32(42)));
     assert!(rt; read(alloc, &[0x18, 0x54], 15)? == Answer::Number(PValue::I32(42)));
+    assert!(rt; read(alloc, &[0x08, 0x00], 11)? == Answer::Null);
     assert!(rt; read(alloc, &[0x18, 0xff, 0x01], 2)? == Answer::Number(PValue::I8(-128)));
     assert!(rt; read(alloc, &[0x18, 0x54], 3)? == Answer::Number(PValue::U64(42)));
     assert!(rt; read(alloc, &[0x50, 0xb8, 0x6d], 4)? == Answer::Number(PValue::F16(14008)));
@@ -197,7 +200,12 @@ fn what_a_type_does_not_take_is_refused(rt: HostRuntime) -> Result<(), Fail> {
     );
     assert!(rt; read(alloc, &[0x42, 0x03, 1, 2, 3], 9)? == range);
     assert!(rt; read(alloc, &[0x3a, 0x02, 0x68, 0x69], 9)? == mismatch);
+    assert!(rt; read(alloc, &[0x50, 0x01], 1)? == mismatch);
+    assert!(rt; read(alloc, &[0x31, 2, 0, 0, 0, 0, 0, 0, 0], 5)? == mismatch);
+    assert!(rt; read(alloc, &[0x42, 0x01, 0xff], 0)? == mismatch);
     assert!(rt; read(alloc, two, 12)? == mismatch);
+    assert!(rt; read(alloc, &[0x5a, 0x06, 0x08, 0x05, 0x12, 0x02, 0x18, 0x54], 1)? == mismatch);
+    assert!(rt; read(alloc, &[0x62, 0x00], 1)? == mismatch);
     assert!(rt; read(alloc, &[0x4a, 0x04, 0x0a, 0x02, 0x18, 0x54], 11)? == child);
     assert!(rt;
         read(
@@ -211,6 +219,15 @@ fn what_a_type_does_not_take_is_refused(rt: HostRuntime) -> Result<(), Fail> {
     assert!(rt; read(alloc, &[0x5a, 0x02, 0x08, 0x05], 12)? == missing);
     assert!(rt; read(alloc, &[0x62, 0x04, 0x12, 0x02, 0x18, 0x54], 14)? == missing);
     assert!(rt; read(alloc, &[0x62, 0x06, 0x0a, 0x04, 0x1a, 0x02, 0x08, 0x06], 14)? == missing);
+    assert!(rt;
+        read(
+            alloc,
+            &[
+                0x62, 0x0a, 0x0a, 0x04, 0x1a, 0x02, 0x08, 0x06, 0x12, 0x02, 0x08, 0x00
+            ],
+            14
+        )? == Answer::Refused(ScalarWireError::BadScalar)
+    );
     assert!(rt;
         read(alloc, &[0x62, 0x06, 0x0a, 0x00, 0x12, 0x02, 0x08, 0x00], 14)?
             == Answer::Refused(ScalarWireError::BadDType(TypeRefusal::BadType))
@@ -280,16 +297,17 @@ fn deep_type(alloc: Global, count: usize) -> Result<DType, TypeError> {
     Ok(dtype)
 }
 
-// One more message round others: its key, its length, and they.
+// One more message round another, of under 16,384 bytes: its key, its length, and it.
 fn around(alloc: Global, key: u8, inner: &[u8]) -> Result<Vec<u8>, ScalarWireError> {
     let mut bytes = Vec::new(alloc);
     bytes.push(key)?;
-    let mut length = inner.len();
-    while length >= 128 {
+    let length = inner.len();
+    if length < 128 {
+        bytes.push(length as u8)?;
+    } else {
         bytes.push((length % 128) as u8 + 128)?;
-        length = length / 128;
+        bytes.push((length / 128 % 128) as u8)?;
     }
-    bytes.push(length as u8)?;
     bytes.extend_from_slice(inner)?;
     Ok(bytes)
 }
