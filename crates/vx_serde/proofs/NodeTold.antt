@@ -93,11 +93,6 @@ pub enough : (e : Encoding) (x : ExtMeaning) (h : ArrayHead) (ps : List Place) (
 enough e x h ps ws w d n plan is own =
     plan_length e (typ h.dtype) h.len plan.value h.nchildren ps plan.plan ∙ is.children ∙ sym (ap (λ z. count z) own) ∙ count-roses_of ws
 
-pub get_at : {A : Type 0} (xs : List A) (i : ℕ) (x : A) → i < length xs → x ≡ get_or xs i x → slice_get xs i ≡ Some x
-get_at [] i x h e = absurd (omega (arith, h))
-get_at (y ∷ xs) zero x h e = ap (λ z. Some z) (sym e)
-get_at (y ∷ xs) (suc i) x h e = get_at xs i x (omega (arith, h)) e
-
 pub get_past : {A : Type 0} (xs : List A) (i : ℕ) → i < length xs → slice_get xs i ≡ None → ⊥
 get_past [] i h g = absurd (omega (arith, h))
 get_past (x ∷ xs) zero h g = absurd (cc)

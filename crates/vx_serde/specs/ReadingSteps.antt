@@ -1,5 +1,5 @@
 -- What the steps of reading a blob give, and why they refuse.
-use Rattle.std.specs.Prelude.{ℕ, ◌≡◌, ◌<◌, List, Option, Some, None, slice_get}
+use Rattle.std.specs.Prelude.{ℕ, ◌≡◌, List, Option, Some, None, slice_get}
 use Rattle.vx_buffer.specs.Buffer.{Buffer}
 use Rattle.vx_flat.specs.declared.error.FlatError.{FlatError}
 use Rattle.vx_flat.specs.declared.error.FlatError.TheVariants as tables
@@ -10,10 +10,10 @@ use Rattle.vx_wire_tree.specs.Wire.{Wire}
 use Rattle.vx_encodings.specs.declared.error.EncodingError.{EncodingError}
 use Rattle.vx_encodings.specs.declared.error.EncodingError.TheVariants as encodings
 use Rattle.vx_serde.specs.declared.error.WireError.{WireError}
-use Rattle.vx_serde.specs.declared.error.WireError.TheVariants.{OutOfMemory, BadTable, TableLimit, BadAlignment, Compressed, OutOfBounds, BadMetadata, BadShape, WireLimit}
+use Rattle.vx_serde.specs.declared.error.WireError.TheVariants.{OutOfMemory, BadTable, TableLimit, OutOfBounds, BadMetadata, BadShape, WireLimit}
 use Rattle.vx_serde.specs.ArraySchema.{array_schema}
 use Rattle.vx_serde.specs.Blob.{Carries, AreClean}
-use Rattle.vx_serde.specs.Message.{Descriptor, message_of, place_behind}
+use Rattle.vx_serde.specs.Message.{Descriptor, message_of}
 use Rattle.vx_serde.specs.Overrides.{RefusesAt}
 
 -- What opening a blob gives: the wire tree that it carries, under clean
@@ -22,13 +22,6 @@ pub record IsOpened (most : Limits) (blob : List ℕ) (ids : List (List ℕ)) (w
   pub carried : Carries blob ids w
   pub clean : AreClean carried.segment (message_of carried.value).descriptors
   pub light : IsLight most (weight array_schema carried.message)
-
--- Why a descriptor is refused that begins its padding at a place of a segment of so many bytes.
-abbrev pub RefusesDescriptor : WireError → Descriptor → ℕ → ℕ → Type 0
-RefusesDescriptor BadAlignment d place segment = 16 < d.exponent
-RefusesDescriptor Compressed d place segment = 0 < d.compression
-RefusesDescriptor OutOfBounds d place segment = segment < place_behind place d
-RefusesDescriptor _ d place segment = ⊥
 
 -- Why the buffer of a descriptor is not taken: the descriptor is refused, or memory was wanted.
 abbrev pub RefusesBuffer : WireError → Option Buffer → ℕ → ℕ → Descriptor → Type 0

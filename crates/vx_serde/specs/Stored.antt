@@ -1,6 +1,5 @@
 -- What is kept of a message, and why it is not.
-use Rattle.std.specs.Prelude.{ℕ, ◌≡◌, ◌<◌, List, [], Option, Some, None}
-use Rattle.std.proofs.Common.{get_or}
+use Rattle.std.specs.Prelude.{ℕ, ◌≡◌, ◌<◌, List, [], Option, Some, None, slice_index}
 use Rattle.vx_buffer.specs.Buffer.{Buffer}
 use Rattle.vx_flat.specs.Limits.{IsLight}
 use Rattle.vx_flat.specs.Reading.{table_shown}
@@ -85,4 +84,4 @@ pub record IsStored (message : List ℕ) (place : ℕ) : Type 0 where
 -- A view of a node's table, in a message of bytes.
 pub record IsNodeView (v : View) : Type 0 where
   pub of : IsViewOf array_schema 1 v
-  pub bytes : (p : ℕ) → get_or (message_seen v) p 0 < 256
+  pub bytes : (p : ℕ) → slice_index (message_seen v) p < 256
