@@ -25,10 +25,14 @@ use Rattle.vx_registry.specs.Session.{Registry, entry, found, tables_meaning, Ar
 use Rattle.vx_registry.proofs.LawsSessions.{registry_messages}
 use Rattle.vx_serde.specs.declared.error.WireError.{WireError}
 use Rattle.vx_serde.specs.declared.error.WireError.TheVariants.{OutOfMemory, WireLimit, NotRegistered}
-use Rattle.vx_serde.proofs.NodeTold.{get_at}
 use Rattle.vx_serde.specs.declared.options.SerializeOptions.{SerializeOptions}
 use Rattle.vx_serde.specs.WritingSteps.{HasEntry, RefusesNode, RefusesNodes, RefusesLayout}
 use Rattle.vx_serde.proofs.WiredNodes.{wired-levels}
+
+get_at : {A : Type 0} (xs : List A) (i : ℕ) (x : A) → i < length xs → x ≡ get_or xs i x → slice_get xs i ≡ Some x
+get_at [] i x h e = absurd (omega (arith, h))
+get_at (y ∷ xs) zero x h e = ap (λ z. Some z) (sym e)
+get_at (y ∷ xs) (suc i) x h e = get_at xs i x (omega (arith, h)) e
 
 -- ---- facts at each node
 
