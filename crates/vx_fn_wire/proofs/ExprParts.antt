@@ -1,7 +1,7 @@
 -- The parts of the message of an expression, and the children that are read of them.
-use Rattle.std.proofs.Common.{◌≡◌, ◌≢◌, ◌<◌, ◌≤◌, ◌+◌, ◌⊎◌, inl, inr, ℕ, zero, suc, Bool, true, false, List, [], ◌∷◌, ◌++◌, length, take, get_or, Option, Some, None, Result, Ok, Err, IfOk, IfErr, refl, ap, sym, subst, ◌∙◌, arith}
+use Rattle.std.proofs.Common.{◌≡◌, ◌<◌, ◌≤◌, ◌+◌, ℕ, zero, suc, Bool, List, [], ◌∷◌, ◌++◌, length, take, get_or, Option, Some, None, refl, ap, sym, subst, ◌∙◌, arith}
 use Rattle.std.proofs.lemmas.List.{take_more, take_all}
-use Rattle.vx_trees.specs.Rose.{Rose, Roses, node, end, more, count, roses_of}
+use Rattle.vx_trees.specs.Rose.{Roses, end, more, count, roses_of}
 use Rattle.vx_proto.specs.Schema.{plain, optional, repeated}
 use Rattle.vx_proto.specs.declared.element.Element.{Element}
 use Rattle.vx_proto.specs.declared.schema.Kind.TheVariants.{Message}
@@ -9,17 +9,16 @@ use Rattle.vx_proto.specs.declared.schema.ScalarKind.TheVariants.{String, Bytes}
 use Rattle.vx_proto.specs.Form.{HasForm, FormEntries}
 use Rattle.vx_proto.specs.Parts.{entries_in, text_in, octets_in, message_of}
 use Rattle.vx_proto.specs.Repeated.{messages, nested_member}
-use Rattle.vx_proto.specs.Value.{Content, Entry, Value, view, entries_view, entries_of, slots_of, message}
+use Rattle.vx_proto.specs.Value.{Entry, Value, view, entries_view, entries_of, slots_of, message}
 use Rattle.vx_proto.specs.Written.{content_depth, entries_depth, slots_depth}
-use Rattle.vx_proto.proofs.LawsOfForms.{slots_of_form, same_slot, same_rest, same_content, same_others, same_octets, same_message}
+use Rattle.vx_proto.proofs.LawsOfForms.{slots_of_form, same_content, same_others}
 use Rattle.vx_proto.proofs.LawsOfRepeated.{holds_message}
-use Rattle.vx_proto.proofs.LawsOfSlots.{Has, three_of}
+use Rattle.vx_proto.proofs.LawsOfSlots.{three_of}
 use Rattle.vx_proto.proofs.LawsOfViews.{message_is, some_value, no_value, held_depth, entry_depth_le, slot_depth_in, entry_form}
-use Rattle.vx_fn_wire.specs.Expr.{Head, root, call, Expr}
-use Rattle.vx_fn_wire.specs.Messages.{one_octets}
+use Rattle.vx_fn_wire.specs.Expr.{Head, Expr}
 use Rattle.vx_fn_wire.specs.ReadsExpr.{HoldsExpr, IsMessageOf, AreMessagesOf}
 use Rattle.vx_fn_wire.specs.Schema.{expr_lists}
-use Rattle.vx_fn_wire.specs.Session.{Registry, optional_octets}
+use Rattle.vx_fn_wire.specs.Session.{Registry}
 use Rattle.vx_fn_wire.specs.declared.scalar_fn.ScalarFn.{ScalarFn}
 use Rattle.vx_fn_wire.proofs.AggregateParts.{holds_text, holds_metadata, text_there, octets_there}
 

@@ -2,10 +2,10 @@
 -- that has levels, what is read without plugins can be written, and what is written is read back where the session gives
 -- the functions back.
 use Rattle.std.specs.Prelude.{IsSome}
-use Rattle.std.proofs.Common.{◌≡◌, ◌≢◌, ◌<◌, ◌⊎◌, inl, inr, ℕ, zero, suc, Bool, true, false, List, [], ◌∷◌, length, get_or, Option, Some, None, refl, ap, sym, subst, ◌∙◌, arith}
-use Rattle.vx_trees.specs.Rose.{Rose, Roses, node, end, more, count}
+use Rattle.std.proofs.Common.{◌≡◌, ◌<◌, ℕ, zero, suc, Bool, List, [], ◌∷◌, length, get_or, Option, Some, None, refl, ap, sym, subst, ◌∙◌, arith}
+use Rattle.vx_trees.specs.Rose.{Roses, node, end, more, count}
 use Rattle.vx_trees.specs.Walks.{levels, levels_below}
-use Rattle.vx_trees.specs.Everywhere.{Everywhere, EverywhereBelow}
+use Rattle.vx_trees.specs.Everywhere.{EverywhereBelow}
 use Rattle.vx_proto.specs.Parts.{entries_in, octets_in}
 use Rattle.vx_proto.specs.Repeated.{messages}
 use Rattle.vx_proto.specs.Value.{Value, octets, message, slots_of, entries_of}
@@ -15,10 +15,10 @@ use Rattle.vx_fn_wire.specs.Arity.{Admits}
 use Rattle.vx_fn_wire.specs.Expr.{Head, root, call, Expr, IsExprNode, IsExpr}
 use Rattle.vx_fn_wire.specs.Foreign.{foreign_fn}
 use Rattle.vx_fn_wire.specs.Messages.{one_octets, metadata_of, root_id, expr_message, expr_messages, IsSerializable, AreSerializable}
-use Rattle.vx_fn_wire.specs.ReadsExpr.{HoldsExpr, IsFunctionOf, IsHeadOf, IsMessageOf, AreMessagesOf, ReadsExpr, IsNoHead, IsNoNode, IsChild, StandsBelow, IsUnreadExpr, GivesBack, GivesEachBack}
+use Rattle.vx_fn_wire.specs.ReadsExpr.{HoldsExpr, IsHeadOf, IsMessageOf, AreMessagesOf, ReadsExpr, IsNoHead, IsNoNode, StandsBelow, IsUnreadExpr, GivesBack, GivesEachBack}
 use Rattle.vx_fn_wire.specs.Session.{Registry, IsGiven, optional_octets}
 use Rattle.vx_fn_wire.specs.declared.error.FnWireError.{FnWireError}
-use Rattle.vx_fn_wire.specs.declared.error.FnWireError.TheVariants.{OutOfMemory, RootWithChildren, UnknownId, ArityMismatch, PluginRefused}
+use Rattle.vx_fn_wire.specs.declared.error.FnWireError.TheVariants.{RootWithChildren, ArityMismatch}
 use Rattle.vx_fn_wire.specs.declared.scalar_fn.ScalarFn.{ScalarFn}
 use Rattle.vx_fn_wire.proofs.AggregateParts.{octets_there}
 use Rattle.vx_fn_wire.proofs.ExprParts.{same_number}

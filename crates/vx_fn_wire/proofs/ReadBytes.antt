@@ -1,5 +1,5 @@
 -- Expressions out of bytes: why none is read, and that each answer is the only one.
-use Rattle.std.proofs.Common.{◌≡◌, ◌≤◌, ◌⊎◌, inl, inr, ℕ, zero, suc, Bool, true, false, if◌then◌else◌, eqb, List, [], ◌∷◌, Option, Some, None, Result, Ok, Err, IfOk, IfErr, MatchResult, refl, ap, sym, subst, ◌∙◌, arith}
+use Rattle.std.proofs.Common.{◌≡◌, ◌≤◌, ◌⊎◌, inl, inr, ℕ, zero, suc, Bool, true, false, if◌then◌else◌, eqb, List, [], ◌∷◌, Some, None, Result, Ok, Err, IfOk, MatchResult, refl, ap, sym, subst, ◌∙◌, arith}
 use Rattle.std.specs.Prelude.{IsErr, is_some}
 use Rattle.vx_trees.specs.Walks.{levels}
 use Rattle.vx_proto.specs.declared.error.ProtoError.{ProtoError}
@@ -20,7 +20,7 @@ use Rattle.vx_fn_wire.specs.Schema.{expr_lists}
 use Rattle.vx_fn_wire.specs.Seen.{expr}
 use Rattle.vx_fn_wire.specs.Session.{Registry}
 use Rattle.vx_fn_wire.specs.declared.error.FnWireError.{FnWireError}
-use Rattle.vx_fn_wire.specs.declared.error.FnWireError.TheVariants.{OutOfMemory, BadMessage, TooDeep, RootWithChildren, UnknownId, ArityMismatch, IdMismatch, NotSerializable, PluginRefused}
+use Rattle.vx_fn_wire.specs.declared.error.FnWireError.TheVariants.{OutOfMemory, BadMessage, TooDeep}
 use Rattle.vx_fn_wire.specs.declared.expression.Expression.{Expression}
 use Rattle.vx_fn_wire.specs.declared.scalar_fn.ScalarFn.{ScalarFn}
 use Rattle.vx_fn_wire.proofs.LawsOfExpressions.{read_uncaused, read_depth}

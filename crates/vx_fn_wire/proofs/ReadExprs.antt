@@ -1,14 +1,14 @@
 -- The expression that is read of a message, from the parts of that message, or why none is.
 use Rattle.std.proofs.Common.{◌≡◌, ◌≤◌, ◌<◌, ◌⊎◌, inl, inr, ℕ, suc, Bool, List, [], length, get_or, Option, Some, None, Result, Ok, Err, IfOk, IfErr, refl, ap, sym, subst, ◌∙◌}
-use Rattle.vx_trees.specs.Rose.{Rose, Roses, node, end, count, roses_of}
+use Rattle.vx_trees.specs.Rose.{Roses, node, end, count, roses_of}
 use Rattle.vx_trees.proofs.Lists.{count-roses_of}
 use Rattle.vx_proto.specs.declared.element.Element.{Element}
 use Rattle.vx_proto.specs.Form.{HasForm}
 use Rattle.vx_proto.specs.Parts.{entries_in, text_in, octets_in, message_of}
 use Rattle.vx_proto.specs.Reads.{default_value}
 use Rattle.vx_proto.specs.Value.{Value, view, entries_view}
-use Rattle.vx_fn_wire.specs.Expr.{Head, root, call, Expr}
-use Rattle.vx_fn_wire.specs.Messages.{metadata_of, root_id}
+use Rattle.vx_fn_wire.specs.Expr.{Head, Expr}
+use Rattle.vx_fn_wire.specs.Messages.{metadata_of}
 use Rattle.vx_fn_wire.specs.ReadsExpr.{HoldsExpr, IsHeadOf, IsNodeOf, IsMessageOf, AreMessagesOf, IsNoHead, IsUnreadExpr}
 use Rattle.vx_fn_wire.specs.Schema.{expr_lists}
 use Rattle.vx_fn_wire.specs.Seen.{expr}

@@ -1,16 +1,16 @@
 -- What stands at the node of a message, or why nothing does.
-use Rattle.std.proofs.Common.{◌≡◌, ◌⊎◌, inl, inr, ℕ, Bool, true, false, List, length, Option, Result, Ok, Err, IfOk, IfErr, bytes_eq, refl, ap, sym, subst, ◌∙◌}
+use Rattle.std.proofs.Common.{◌≡◌, ◌⊎◌, inl, inr, ℕ, Bool, true, false, List, length, Result, Err, IfErr, bytes_eq, refl, ap, sym, subst, ◌∙◌}
 use Rattle.std.proofs.lemmas.Slice.Eq.{bytes_eq-Decides}
-use Rattle.vx_trees.specs.Rose.{Rose, Roses, node, roses_of, count}
+use Rattle.vx_trees.specs.Rose.{node, roses_of, count}
 use Rattle.vx_trees.proofs.Lists.{count-roses_of}
 use Rattle.vx_fn_wire.specs.Arity.{Admits}
-use Rattle.vx_fn_wire.specs.Expr.{Head, root, call, Expr}
+use Rattle.vx_fn_wire.specs.Expr.{call, Expr}
 use Rattle.vx_fn_wire.specs.Messages.{root_id}
 use Rattle.vx_fn_wire.specs.ReadsExpr.{IsFunctionOf, IsNodeOf, IsNoHead}
 use Rattle.vx_fn_wire.specs.Session.{Registry, IsNotGiven}
 use Rattle.vx_fn_wire.specs.declared.scalar_fn.ScalarFn.{ScalarFn}
 use Rattle.vx_fn_wire.specs.declared.error.FnWireError.{FnWireError}
-use Rattle.vx_fn_wire.specs.declared.error.FnWireError.TheVariants.{OutOfMemory, RootWithChildren, UnknownId, ArityMismatch, PluginRefused}
+use Rattle.vx_fn_wire.specs.declared.error.FnWireError.TheVariants.{OutOfMemory, UnknownId, ArityMismatch, PluginRefused}
 
 -- A refusal that is handed on has its cause.
 pub handed_on : {T : Type 0} (r : Result T FnWireError) (y e : FnWireError) (P : FnWireError → Type 0) → r ≡ Err y → y ≡ e → P e → IfErr r P
