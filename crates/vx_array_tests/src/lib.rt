@@ -17,3 +17,5 @@ mod printed;
 mod registry;
 #[cfg(test)]
 mod sessions;
+#[cfg(test)]
+mod slots;

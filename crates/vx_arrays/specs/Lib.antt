@@ -4,4 +4,5 @@ pub mod Primitives
 pub mod Bools
 pub mod Decimals
 pub mod Validity
+pub mod Slots
 pub mod Refused

@@ -14,6 +14,7 @@ mod null;
 mod numbers;
 mod primitive;
 mod row;
+mod slots;
 mod validity;
 
 pub use array::Array;

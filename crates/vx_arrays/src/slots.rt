@@ -1,0 +1,89 @@
+//! The names of a node's slots and of its buffers.
+
+ghost use Rattle.std.specs.Prelude.{◌≡◌, ◌<◌, length, slice_get, Some, option_map, IfOk, IsOkUnless};
+ghost use Rattle.vx_trees.specs.Rose.{label};
+ghost use Rattle.vx_types.specs.Typ.{Typ};
+ghost use Rattle.vx_arrays.specs.Plain.{plain_body};
+ghost use Rattle.vx_arrays.specs.Slots.{slot_names, buffer_names};
+
+use crate::array::Array;
+use crate::body::Body;
+use crate::error::ArrayError;
+use std::alloc::Global;
+use vx_types::Name;
+
+impl Array {
+    /// How many slots the root has: one for each child that a node of its encoding and type may have, also where the
+    /// child is absent.
+    pub fn nslots(&self) -> usize
+        ensures { result ≡ length (slot_names (label self.now).dtype (label self.now).body) }
+    {
+        slots_of(self.body())
+    }
+
+    /// The name of the root's slot of this number: that of the child which stands there, or may.
+    pub fn slot_name(&self, alloc: Global, index: usize) -> Result<Name, ArrayError>
+        requires { index < length (slot_names (label self.now).dtype (label self.now).body) }
+        ensures ok { IfOk result (λ name. slice_get (slot_names (label self.now).dtype (label self.now).body) index ≡ Some name) }
+        ensures err { IsOkUnless result ArrayError.OutOfMemory }
+    {
+        owned(alloc, slot_of(self.body(), index))
+    }
+
+    /// The name of the root's buffer of this number: `None` exactly past the last.
+    pub fn buffer_name(&self, alloc: Global, index: usize) -> Result<Option<Name>, ArrayError>
+        ensures ok { IfOk result (λ name. name ≡ slice_get (buffer_names (label self.now).body) index) }
+        ensures err { IsOkUnless result ArrayError.OutOfMemory }
+    {
+        match buffer_of(self.body(), index) {
+            Some(name) => Ok(Some(owned(alloc, name)?)),
+            None => Ok(None),
+        }
+    }
+}
+
+// How many slots a node has.
+fn slots_of(body: &Body) -> usize
+    ensures { (d : Typ) → result ≡ length (slot_names d (plain_body body.now)) }
+{
+    match body {
+        Body::Null => 0,
+        Body::Bool(_) | Body::Primitive(_) | Body::Decimal(_) => 1,
+    }
+}
+
+// The name of a node's slot.
+fn slot_of(body: &Body, _index: usize) -> &'static str
+    requires { (d : Typ) × (_index < length (slot_names d (plain_body body.now))) }
+    ensures { (d : Typ) → slice_get (slot_names d (plain_body body.now)) _index ≡ Some result.now }
+{
+    match body {
+        Body::Null => unreachable!(),
+        Body::Bool(_) | Body::Primitive(_) | Body::Decimal(_) => "validity",
+    }
+}
+
+// The name of a node's buffer, where there is one of this number.
+fn buffer_of(body: &Body, index: usize) -> Option<&'static str>
+    ensures { option_map (λ s. s.now) result ≡ slice_get (buffer_names (plain_body body.now)) index }
+{
+    if index > 0 {
+        return None;
+    }
+    match body {
+        Body::Null => None,
+        Body::Bool(_) => Some("bits"),
+        Body::Primitive(_) | Body::Decimal(_) => Some("values"),
+    }
+}
+
+// A name of its own.
+fn owned(alloc: Global, text: &str) -> Result<Name, ArrayError>
+    ensures ok { IfOk result (λ name. name ≡ text.now) }
+    ensures err { IsOkUnless result ArrayError.OutOfMemory }
+{
+    match Name::new(alloc, text) {
+        Ok(name) => Ok(name),
+        Err(_) => Err(ArrayError::OutOfMemory),
+    }
+}
