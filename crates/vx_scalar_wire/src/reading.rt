@@ -3,22 +3,21 @@
 pub mod leaves;
 pub mod numbers;
 
-ghost use Rattle.std.specs.Prelude.{◌≡◌, List, IfOk, Ok, Some, MatchOption, [], ◌∷◌};
+ghost use Rattle.std.specs.Prelude.{◌≡◌, ◌+◌, ◌*◌, ℕ, IfOk, IfErr, Ok, Some, None, MatchOption, [], ◌∷◌};
 ghost use Rattle.std.specs.Fn.{FnReturnsAt};
 ghost use Rattle.vx_trees.specs.Rose.{roses_of};
 ghost use Rattle.vx_proto.specs.Form.{HasForm};
-ghost use Rattle.vx_proto.specs.Value.{Value, view, value_view, message as a_message, slots_of, octets as some_octets};
+ghost use Rattle.vx_proto.specs.Value.{Value, view, value_view, message as a_message, slots_of};
 ghost use Rattle.vx_type_wire.specs.Known.{ExtMeaning};
-ghost use Rattle.vx_type_wire.specs.TypeMessage.{type_lists, all_messages};
+ghost use Rattle.vx_type_wire.specs.TypeMessage.{type_lists};
 ghost use Rattle.vx_types.specs.Fits.{member};
 ghost use Rattle.vx_types.specs.Seen.{typ};
 ghost use Rattle.vx_scalars.specs.Seen.{value_of, seen};
-ghost use Rattle.vx_scalar_wire.specs.Answers.{ReadsTypes, lone_member};
-ghost use Rattle.vx_scalar_wire.specs.Reading.{ReadsValue, ReadsParts, EachReads, ReadsBy, ReadsScalar};
+ghost use Rattle.vx_scalar_wire.specs.Answers.{GivesEach, GivesParts, GivesRow, GivesScalar, GivesValue, IsRefusedType, ReadsTypes, lone_member};
 ghost use Rattle.vx_scalar_wire.specs.ScalarMessage.{scalar_lists};
 
 use crate::error::{ScalarWireError, TypeRefusal};
-use crate::reading::leaves::{bytes_value, text_value};
+use crate::reading::leaves::octets_value;
 use crate::reading::numbers::number_value;
 use std::alloc::Global;
 use vx_proto::{
@@ -44,7 +43,7 @@ pub fn value_in<F: Fn(&pb::DType) -> Result<DType, TypeWireError>>(
     requires call { F.IsAlwaysCallable types.now }
     requires form { HasForm scalar_lists 15 (value_view slots.now) }
     ensures read { (s : ExtMeaning) → ReadsTypes (λ t r. FnReturnsAt F.Fn types.now t r) s
-        → IfOk result (λ x. ReadsValue s (seen x) (typ dtype.now) (value_view slots.now)) }
+        → GivesValue seen result s (2 * left) (typ dtype.now) (value_view slots.now) }
 {
     if left == 0 {
         return Err(ScalarWireError::TooDeep);
@@ -70,22 +69,6 @@ fn member_in(slots: &[Entries]) -> Option<&Entry>
     }
 }
 
-// What the octets of a member are read as: a string, or bytes.
-fn octets_value(
-    alloc: Global,
-    number: u32,
-    bytes: &[u8],
-    dtype: &DType,
-) -> Result<Option<ScalarValue>, ScalarWireError>
-    ensures read { (s : ExtMeaning) → IfOk result (λ x. ReadsValue s (seen x) (typ dtype.now) (lone_member number (some_octets bytes.now))) }
-{
-    match number {
-        7 => Ok(Some(text_value(alloc, number, bytes, dtype)?)),
-        8 => Ok(Some(bytes_value(alloc, bytes, dtype)?)),
-        _ => Err(ScalarWireError::MissingKind),
-    }
-}
-
 // What the message of a member is read as: a list, a union's value or a variant.
 #[cycle(reading)]
 fn message_value<F: Fn(&pb::DType) -> Result<DType, TypeWireError>>(
@@ -99,7 +82,7 @@ fn message_value<F: Fn(&pb::DType) -> Result<DType, TypeWireError>>(
     requires call { F.IsAlwaysCallable types.now }
     requires form { HasForm scalar_lists 15 (lone_member number (a_message (slots_of (value_view slots.now)))) }
     ensures read { (s : ExtMeaning) → ReadsTypes (λ t r. FnReturnsAt F.Fn types.now t r) s
-        → IfOk result (λ x. ReadsValue s (seen x) (typ dtype.now) (lone_member number (a_message (slots_of (value_view slots.now))))) }
+        → GivesValue seen result s (2 * left + 2) (typ dtype.now) (lone_member number (a_message (slots_of (value_view slots.now)))) }
 {
     match number {
         9 => Ok(Some(list_value(alloc, slots, dtype, types, left)?)),
@@ -121,7 +104,7 @@ fn list_value<F: Fn(&pb::DType) -> Result<DType, TypeWireError>>(
     requires call { F.IsAlwaysCallable types.now }
     requires form { HasForm scalar_lists 16 (value_view slots.now) }
     ensures read { (s : ExtMeaning) → ReadsTypes (λ t r. FnReturnsAt F.Fn types.now t r) s
-        → IfOk result (λ x. ReadsValue s (value_of x) (typ dtype.now) (lone_member 9 (a_message (slots_of (value_view slots.now))))) }
+        → GivesValue value_of result s (2 * left + 2) (typ dtype.now) (lone_member 9 (a_message (slots_of (value_view slots.now)))) }
 {
     let values = parts_of(alloc, slots, bare_dtype(dtype), types, left)?;
     Ok(ScalarValue::Tuple(values))
@@ -140,8 +123,7 @@ fn parts_of<F: Fn(&pb::DType) -> Result<DType, TypeWireError>>(
     requires call { F.IsAlwaysCallable types.now }
     requires form { HasForm scalar_lists 16 (value_view slots.now) }
     ensures read { (s : ExtMeaning) → ReadsTypes (λ t r. FnReturnsAt F.Fn types.now t r) s
-        → IfOk result (λ vs. (ws : List Value) × (value_view slots.now ≡ all_messages 1 ws ∷ [])
-        × ReadsParts (λ e. EachReads s (roses_of vs) e ws) (λ ts. ReadsBy s (roses_of vs) ts ws) (typ dtype.now)) }
+        → GivesParts result s (2 * left + 2) (typ dtype.now) (value_view slots.now) }
 {
     match dtype {
         DType::List(element, _) => each_value(alloc, slots, element.get(), types, left),
@@ -167,7 +149,7 @@ fn each_value<F: Fn(&pb::DType) -> Result<DType, TypeWireError>>(
     requires call { F.IsAlwaysCallable types.now }
     requires form { HasForm scalar_lists 16 (value_view slots.now) }
     ensures read { (s : ExtMeaning) → ReadsTypes (λ t r. FnReturnsAt F.Fn types.now t r) s
-        → IfOk result (λ vs. (ws : List Value) × (value_view slots.now ≡ all_messages 1 ws ∷ []) × EachReads s (roses_of vs) (typ dtype.now) ws) }
+        → GivesEach result s (2 * left + 2) (typ dtype.now) (value_view slots.now) }
 {
     let members = entries_at(slots, 0);
     let mut values = Values::new(alloc);
@@ -192,7 +174,7 @@ fn field_values<F: Fn(&pb::DType) -> Result<DType, TypeWireError>>(
     requires call { F.IsAlwaysCallable types.now }
     requires form { HasForm scalar_lists 16 (value_view slots.now) }
     ensures read { (s : ExtMeaning) → ReadsTypes (λ t r. FnReturnsAt F.Fn types.now t r) s
-        → IfOk result (λ vs. (ws : List Value) × (value_view slots.now ≡ all_messages 1 ws ∷ []) × ReadsBy s (roses_of vs) (roses_of fields.now.types) ws) }
+        → GivesRow result s (2 * left + 2) (roses_of fields.now.types) (value_view slots.now) }
 {
     let members = entries_at(slots, 0);
     let dtypes = fields.fields().as_slice();
@@ -221,7 +203,7 @@ fn union_value<F: Fn(&pb::DType) -> Result<DType, TypeWireError>>(
     requires call { F.IsAlwaysCallable types.now }
     requires form { HasForm scalar_lists 17 (value_view slots.now) }
     ensures read { (s : ExtMeaning) → ReadsTypes (λ t r. FnReturnsAt F.Fn types.now t r) s
-        → IfOk result (λ x. ReadsValue s (value_of x) (typ dtype.now) (lone_member 11 (a_message (slots_of (value_view slots.now))))) }
+        → GivesValue value_of result s (2 * left + 2) (typ dtype.now) (lone_member 11 (a_message (slots_of (value_view slots.now)))) }
 {
     let DType::Union(variants, _) = bare_dtype(dtype) else {
         return Err(ScalarWireError::KindMismatch);
@@ -246,7 +228,8 @@ fn union_value<F: Fn(&pb::DType) -> Result<DType, TypeWireError>>(
 
 // The type of the member that has a tag.
 fn member_type(variants: &UnionVariants, tag: u8) -> Result<&DType, ScalarWireError>
-    ensures { IfOk result (λ d. member tag variants.now.ids (roses_of variants.now.types) ≡ Some (typ d.now)) }
+    ensures found { IfOk result (λ d. member tag variants.now.ids (roses_of variants.now.types) ≡ Some (typ d.now)) }
+    ensures none { IfErr result (λ e. (e ≡ ScalarWireError.BadChild) × (member tag variants.now.ids (roses_of variants.now.types) ≡ None)) }
 {
     variants.hold();
     match variants.tag_to_child_index(tag) {
@@ -267,7 +250,7 @@ fn variant_value<F: Fn(&pb::DType) -> Result<DType, TypeWireError>>(
     requires call { F.IsAlwaysCallable types.now }
     requires form { HasForm scalar_lists 14 (value_view slots.now) }
     ensures read { (s : ExtMeaning) → ReadsTypes (λ t r. FnReturnsAt F.Fn types.now t r) s
-        → IfOk result (λ x. ReadsValue s (value_of x) (typ dtype.now) (lone_member 12 (a_message (slots_of (value_view slots.now))))) }
+        → GivesValue value_of result s (2 * left + 2) (typ dtype.now) (lone_member 12 (a_message (slots_of (value_view slots.now)))) }
 {
     let DType::Variant(_) = bare_dtype(dtype) else {
         return Err(ScalarWireError::KindMismatch);
@@ -288,7 +271,7 @@ pub fn scalar_in<F: Fn(&pb::DType) -> Result<DType, TypeWireError>>(
     requires call { F.IsAlwaysCallable types.now }
     requires form { HasForm scalar_lists 14 (value_view slots.now) }
     ensures read { (s : ExtMeaning) → ReadsTypes (λ t r. FnReturnsAt F.Fn types.now t r) s
-        → IfOk result (λ x. ReadsScalar s x (value_view slots.now)) }
+        → GivesScalar result s (2 * left) (value_view slots.now) }
 {
     let Some(type_slots) = message_at(slots, 0) else {
         return Err(ScalarWireError::MissingKind);
@@ -310,6 +293,7 @@ fn type_in<F: Fn(&pb::DType) -> Result<DType, TypeWireError>>(
     requires call { F.IsAlwaysCallable types.now }
     requires form { HasForm type_lists 0 (value_view slots.now) }
     ensures read { IfOk result (λ d. FnReturnsAt F.Fn types.now (value_view slots.now) (Ok d)) }
+    ensures cause { (s : ExtMeaning) → ReadsTypes (λ t r. FnReturnsAt F.Fn types.now t r) s → IfErr result (λ e. IsRefusedType e s (value_view slots.now)) }
 {
     let message = PlainMessage::new(copied_slots(alloc, slots)?);
     match types(&message) {
