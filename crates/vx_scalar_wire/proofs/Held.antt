@@ -1,8 +1,8 @@
 -- What the form of a message says of the members that a reader takes out of it.
-use Rattle.std.proofs.Common.{rules, ◌≡◌, ◌∙◌, ◌<◌, ◌⊎◌, ℕ, List, [], ◌∷◌, Bool, true, false, cond, eqb, length, get_or, Some, None, refl, sym, ap, subst, inl, inr, arith}
+use Rattle.std.proofs.Common.{◌≡◌, ◌∙◌, ◌<◌, ◌⊎◌, ℕ, List, [], ◌∷◌, Bool, true, false, cond, eqb, length, get_or, Some, None, refl, sym, ap, subst, inl, inr, arith}
 use Rattle.std.specs.Global.{Vec}
 use Rattle.vx_proto.specs.declared.element.Element.{Element}
-use Rattle.vx_proto.specs.declared.element.Element.TheViews.{Message as as_a_message, Number as as_a_number, Octets as as_octets}
+use Rattle.vx_proto.specs.declared.element.Element.TheViews.{Message as as_a_message}
 use Rattle.std.proofs.lemmas.Bool.{eqb-true}
 use Rattle.vx_proto.specs.declared.schema.Member.{Member}
 use Rattle.vx_proto.specs.declared.schema.Kind.{Kind}
@@ -159,13 +159,7 @@ pub message_held : (m : Value) (x : ℕ × Element) (parts : Vec (Vec (ℕ × El
     → items ≡ parts.items → m ≡ lone_member x.0 (message (slots_of (value_view items)))
 message_held m x parts items e is same = e ∙ ap (λ (c : Content). lone_member x.0 c) (ap view is ∙ shows_message parts (value_view items) (ap value_view (sym same)))
 
--- What the first member of a slot is, where the code holds a number or octets.
-pub number_held : (m : Value) (x : ℕ × Element) (n : ℕ) → m ≡ lone_member x.0 (view x.1) → x.1 ≡ as_a_number n → m ≡ lone_member x.0 (number n)
-number_held m x n e is = e ∙ ap (λ (c : Content). lone_member x.0 c) (ap view is ∙ search rules)
-
-pub octets_held : (m : Value) (x : ℕ × Element) (bytes : Vec ℕ) (items : List ℕ) → m ≡ lone_member x.0 (view x.1) → x.1 ≡ as_octets bytes → items ≡ bytes.items → m ≡ lone_member x.0 (octets items)
-octets_held m x bytes items e is same = e ∙ ap (λ (c : Content). lone_member x.0 c) (ap view is ∙ search rules ∙ ap octets (sym same))
-
+-- A member is refused, whichever name its number has.
 pub refused_under : (e : ScalarWireError) (s : ExtMeaning) (most : ℕ) (d : Typ) (g k : ℕ) (c : Content) → g ≡ k → IsRefused e s most d (lone_member k c) → IsRefused e s most d (lone_member g c)
 refused_under e s most d g k c is r = subst (λ (j : ℕ). IsRefused e s most d (lone_member j c)) (sym is) r
 
@@ -205,6 +199,13 @@ element m w es i x f e lt is held =
     let same : w ≡ h.value = some_value w h.value (held ∙ ap (λ (z : ℕ × Element). message_of (view z.1)) (sym is) ∙ message_is (view x.1) h.value (ap (λ (y : Entry). y.1) h.is)) in
     (h.is ∙ ap (λ (v : Value). (1, message (slots_of v))) (sym same), subst (λ (v : Value). HasForm scalar_lists 15 v) (sym same) h.form)
 
+pub no_message : (m : Value) (es : List (ℕ × Element)) (i : ℕ) (x : ℕ × Element) → HasForm scalar_lists 16 m → entries_view es ≡ entries_in m 0 → i < length es → x ≡ get_or es i x
+    → None ≡ message_of (view (get_or es i x).1) → ⊥
+no_message m es i x f e lt is held =
+    let all : FormEntries F (nested_member 1 15 ∷ []) (entries_view es) = subst (λ (ys : List Entry). FormEntries F (nested_member 1 15 ∷ []) ys) (sym e) (list_formed m f) in
+    let h = holds_message F 1 15 (x.0, view x.1) (entry_form F (nested_member 1 15 ∷ []) es i x lt is all) in
+    no_value h.value (held ∙ ap (λ (z : ℕ × Element). message_of (view z.1)) (sym is) ∙ message_is (view x.1) h.value (ap (λ (y : Entry). y.1) h.is))
+
 -- ---- the parts of a union's message and of a scalar's
 
 nothing_in : (w : Value) (es : List Entry) → es ≡ [] → Some w ≡ message_in es → ⊥
@@ -231,6 +232,16 @@ union_parts m w n f a b =
     let p = nested_part 2 15 t.b w t.has_b (b ∙ ap (λ (v : Value). message_in (entries_in v 1)) t.is) in
     let first : t.a ≡ one_number 1 n = k.is ∙ ap (λ (c : Content). (1, c) ∷ []) k.form.1 ∙ ap (λ (x : ℕ). one_number 1 x) (sym number_is) in
     (t.is ∙ ap (λ (es : List Entry). es ∷ t.b ∷ []) first ∙ ap (λ (es : List Entry). one_number 1 n ∷ es ∷ []) p.0, p.1)
+
+no_number : (n : ℕ) → None ≡ Some n → ⊥
+no_number n e = absurd (cc)
+
+-- A union's message has a tag.
+pub no_tag : (m : Value) → HasForm scalar_lists 17 m → None ≡ number_in (entries_in m 0) → ⊥
+no_tag m f a =
+    let t = two_of F (plain 1 Uint32) (nested 2 15) m (slots_of_form scalar_lists 17 m f) in
+    let k = plain_holds F 1 Uint32 t.a t.has_a in
+    no_number k.form.0 (a ∙ ap (λ (v : Value). number_in (entries_in v 0)) t.is ∙ ap number_in (k.is ∙ ap (λ (c : Content). (1, c) ∷ []) k.form.1))
 
 pub scalar_parts : (m d w : Value) → HasForm scalar_lists 14 m → Some d ≡ message_in (entries_in m 0) → Some w ≡ message_in (entries_in m 1)
     → (m ≡ one_message 1 d ∷ one_message 2 w ∷ []) × HasForm type_lists 0 d × HasForm scalar_lists 15 w

@@ -1,12 +1,13 @@
 -- Members without messages in them, at a type: what is read of them, and why they are refused.
 use Rattle.std.specs.Prelude.{IfOk, IfErr, Result, Ok, Err}
-use Rattle.std.proofs.Common.{◌≡◌, ◌∙◌, Bool, false, true, ℕ, ℤ, pos, List, [], ◌∷◌, Some, refl, sym, ap, subst, inl, inr}
+use Rattle.std.proofs.Common.{◌≡◌, ◌∙◌, ◌⊎◌, Bool, false, true, ℕ, ℤ, pos, List, [], ◌∷◌, Some, refl, sym, ap, subst, inl, inr}
 use Rattle.vx_proto.specs.Parts.{flag_number}
 use Rattle.vx_proto.specs.Signed.{zigzag}
-use Rattle.vx_proto.specs.Value.{Content, number}
+use Rattle.vx_proto.specs.Value.{Content, number, octets}
 use Rattle.vx_trees.specs.Rose.{node}
 use Rattle.vx_type_wire.specs.Known.{ExtMeaning}
-use Rattle.vx_types.specs.Fits.{IsBoolean, IsOf, bare}
+use Rattle.vx_types.specs.Fits.{IsBoolean, IsBinary, IsOf, IsUtf8, bare}
+use Rattle.vx_types.specs.Content.{IsText}
 use Rattle.vx_types.specs.Kind.{primitive}
 use Rattle.vx_types.specs.Numbers.{is_integer, kind_of}
 use Rattle.vx_types.specs.Seen.{typ}
@@ -14,14 +15,15 @@ use Rattle.vx_types.specs.Typ.{Typ}
 use Rattle.vx_types.specs.Value as V
 use Rattle.vx_types.specs.Well.{IsInRange}
 use Rattle.vx_types.specs.declared.dtype.DType.{DType}
-use Rattle.vx_types.specs.declared.dtype.DType.TheVariants.{Bool as BoolType, Primitive}
+use Rattle.vx_types.specs.declared.dtype.DType.TheVariants.{Bool as BoolType, Primitive, Decimal, Utf8, Binary}
+use Rattle.vx_types.specs.declared.decimal.DecimalDType.{DecimalDType}
 use Rattle.vx_types.specs.declared.nullability.Nullability.{Nullability}
 use Rattle.vx_types.specs.declared.ptype.PType.{PType}
 use Rattle.vx_types.specs.declared.ptype.PType.TheVariants as kind
 use Rattle.vx_types.specs.declared.value.PValue.{PValue}
 use Rattle.vx_types.specs.declared.value.PValue.TheVariants.{U8, U16, U32, U64, I8, I16, I32, I64, F16, F32, F64}
 use Rattle.vx_scalar_wire.specs.Answers.{lone_member, GivesValue}
-use Rattle.vx_scalar_wire.specs.Reading.{HoldsInteger, HoldsNumber, ReadsValue}
+use Rattle.vx_scalar_wire.specs.Reading.{HoldsInteger, HoldsNumber, HoldsOctets, ReadsValue}
 use Rattle.vx_scalar_wire.specs.Refusing.{is_one_of, numeral_members, members_at, integer_of, IsNoInteger, IsRefused}
 use Rattle.vx_scalar_wire.specs.declared.error.ScalarWireError.{ScalarWireError}
 use Rattle.vx_scalar_wire.specs.declared.error.ScalarWireError.TheVariants as error
@@ -202,3 +204,50 @@ pub half_given : (r : Result PValue ScalarWireError) (s : ExtMeaning) (most : �
     → IfOk r (λ n. n ≡ F16 k) → IfOk r (λ n. IsInRange n) → IfErr r (λ e. (e ≡ error.OutOfRange) × (IsInRange (F16 k) → ⊥))
     → GivesValue (λ n. V.lone (V.number n)) r s most d (lone_member 4 (number k))
 half_given r s most d k o e i z = float_given r s most d 4 (number k) (F16 k) o refl (inr refl) e i z
+
+-- ---- octets
+
+-- Octets are read at no type but those of texts, of bytes and of decimals.
+pub no_octets : (g : ℕ) (d : DType) → (g ≡ 7) ⊎ (g ≡ 8) → ((x : Nullability) → d ≡ Utf8 x → ⊥) → ((x : Nullability) → d ≡ Binary x → ⊥) → ((p : DecimalDType) (x : Nullability) → d ≡ Decimal p x → ⊥)
+    → is_one_of g (1 ∷ members_at (typ d)) ≡ false
+no_octets g d h a b c = elim h [ inl e ↦ subst (λ (k : ℕ). is_one_of k (1 ∷ members_at (typ d)) ≡ false) (sym e) (go d a b c).0 | inr e ↦ subst (λ (k : ℕ). is_one_of k (1 ∷ members_at (typ d)) ≡ false) (sym e) (go d a b c).1 ]
+  where
+    numbers : (p : PType) → (is_one_of 7 (1 ∷ numeral_members p) ≡ false) × (is_one_of 8 (1 ∷ numeral_members p) ≡ false)
+    numbers kind.F16 = (refl, refl)
+    numbers kind.F32 = (refl, refl)
+    numbers kind.F64 = (refl, refl)
+    numbers _ = (refl, refl)
+
+    go : (t : DType) → ((x : Nullability) → t ≡ Utf8 x → ⊥) → ((x : Nullability) → t ≡ Binary x → ⊥) → ((p : DecimalDType) (x : Nullability) → t ≡ Decimal p x → ⊥)
+        → (is_one_of 7 (1 ∷ members_at (typ t)) ≡ false) × (is_one_of 8 (1 ∷ members_at (typ t)) ≡ false)
+    go (Utf8 x) u v w = absurd (u x refl)
+    go (Binary x) u v w = absurd (v x refl)
+    go (Decimal p x) u v w = absurd (w p x refl)
+    go (Primitive p x) u v w = numbers p
+    go _ u v w = (refl, refl)
+
+holds_octets : (g : ℕ) (bs : List ℕ) → (g ≡ 7) ⊎ (g ≡ 8) → HoldsOctets (lone_member g (octets bs)) bs
+holds_octets g bs (inl e) = inl (ap (λ (k : ℕ). lone_member k (octets bs)) e)
+holds_octets g bs (inr e) = inr (ap (λ (k : ℕ). lone_member k (octets bs)) e)
+
+pub text_read : (s : ExtMeaning) (d t : Typ) (g : ℕ) (bs : List ℕ) (v : V.Value) → t ≡ bare d → IsUtf8 t → IsText bs → (g ≡ 7) ⊎ (g ≡ 8) → v ≡ V.lone (V.utf8 bs)
+    → ReadsValue s v d (lone_member g (octets bs))
+text_read s d t g bs v e u x h is =
+    subst (λ (w : V.Value). ReadsValue s w d (lone_member g (octets bs))) (sym is) (subst (λ (z : Typ). IsUtf8 z) e u, refl, x, holds_octets g bs h)
+
+pub text_refused : (e : ScalarWireError) (s : ExtMeaning) (most : ℕ) (d t : Typ) (g : ℕ) (bs : List ℕ) → t ≡ bare d → IsUtf8 t → (g ≡ 7) ⊎ (g ≡ 8)
+    → (e ≡ error.OutOfMemory) ⊎ ((e ≡ error.BadScalar) × (IsText bs → ⊥)) → IsRefused e s most d (lone_member g (octets bs))
+text_refused e s most d t g bs is u h (inl x) = subst (λ (y : ScalarWireError). IsRefused y s most d (lone_member g (octets bs))) (sym x) tt
+text_refused e s most d t g bs is u h (inr x) =
+    subst (λ (y : ScalarWireError). IsRefused y s most d (lone_member g (octets bs))) (sym x.0)
+    (0, d, lone_member g (octets bs), (refl, refl), inl (bs, subst (λ (z : Typ). IsUtf8 z) is u, holds_octets g bs h, x.1))
+
+pub binary_read : (s : ExtMeaning) (d t : Typ) (g : ℕ) (bs cs : List ℕ) → t ≡ bare d → IsBinary t → (g ≡ 7) ⊎ (g ≡ 8) → cs ≡ bs → ReadsValue s (V.lone (V.binary cs)) d (lone_member g (octets bs))
+binary_read s d t g bs cs e u h is =
+    subst (λ (w : List ℕ). ReadsValue s (V.lone (V.binary w)) d (lone_member g (octets bs))) (sym is) (subst (λ (z : Typ). IsBinary z) e u, refl, holds_octets g bs h)
+
+-- A string is read at no type of decimals.
+pub no_string : (g : ℕ) (d : DType) (p : DecimalDType) (x : Nullability) → d ≡ Decimal p x → (g ≡ 7) ⊎ (g ≡ 8) → (g ≡ 8 → ⊥) → is_one_of g (1 ∷ members_at (typ d)) ≡ false
+no_string g d p x is (inl e) h =
+    subst (λ (k : ℕ). is_one_of k (1 ∷ members_at (typ d)) ≡ false) (sym e) (subst (λ (t : DType). is_one_of 7 (1 ∷ members_at (typ t)) ≡ false) (sym is) refl)
+no_string g d p x is (inr e) h = absurd (h e)

@@ -1,9 +1,9 @@
 -- From the cause of a refusal in a message to that of the message round it.
 use Rattle.std.specs.Prelude.{IfErr, IfOk, Result, Ok, Err}
 use Rattle.std.proofs.Common.{◌≡◌, ◌∙◌, ◌+◌, ◌<◌, ◌≤◌, ◌⊎◌, ℕ, zero, suc, List, [], ◌∷◌, Some, None, get_or, length, refl, sym, ap, subst, inl, inr, arith}
-use Rattle.vx_trees.specs.Rose.{Roses, node, end, more, roses_of}
+use Rattle.vx_trees.specs.Rose.{Roses, node, end, more, count, roses_of}
 use Rattle.vx_proto.specs.declared.element.Element.{Element}
-use Rattle.vx_proto.specs.Parts.{entries_in, message_in}
+use Rattle.vx_proto.specs.Parts.{entries_in, message_in, number_in}
 use Rattle.vx_proto.specs.Repeated.{seen}
 use Rattle.vx_proto.specs.Value.{Content, Entry, Value, message, slots_of, entries_of, entries_view}
 use Rattle.vx_proto.specs.Written.{nested, content_depth, entries_depth, slots_depth}
@@ -14,11 +14,12 @@ use Rattle.vx_types.specs.Fits.{Fits, FitsMember, IsVariant, bare, member}
 use Rattle.vx_types.specs.Kind.{Kind, structure, union}
 use Rattle.vx_types.specs.Seen.{typ, typs}
 use Rattle.vx_types.specs.Typ.{Typ}
+use Rattle.vx_types.specs.Value as V
 use Rattle.vx_types.specs.declared.dtype.DType.{DType}
 use Rattle.vx_types.specs.declared.nullability.Nullability.{Nullability}
-use Rattle.vx_scalar_wire.specs.Answers.{lone_member}
-use Rattle.vx_scalar_wire.specs.Reading.{Holds}
-use Rattle.vx_scalar_wire.specs.Refusing.{IsAt, IsFieldAt, IsPartType, IsPart, IsCause, IsScalarCause, IsRefused, IsRefusedScalar}
+use Rattle.vx_scalar_wire.specs.Answers.{IsRefusedType, lone_member}
+use Rattle.vx_scalar_wire.specs.Reading.{ReadsValue}
+use Rattle.vx_scalar_wire.specs.Refusing.{IsOtherCount, OfUnion, IsAt, IsFieldAt, IsPartType, IsPart, IsCause, IsScalarCause, IsRefused, IsRefusedScalar}
 use Rattle.vx_scalar_wire.specs.declared.error.ScalarWireError.{ScalarWireError}
 use Rattle.vx_scalar_wire.specs.declared.error.ScalarWireError.TheVariants.{OutOfMemory, BadMessage, TooDeep, MissingKind, KindMismatch, OutOfRange, BadChild, BadScalar, BadDType}
 
@@ -95,3 +96,66 @@ pub field_at : (ds : List DType) (i : ℕ) (d : DType) → i < length ds → d �
 field_at [] i d lt is = absurd (omega arith)
 field_at (x ∷ ds) zero d lt is = ap typ (sym is)
 field_at (x ∷ ds) (suc i) d lt is = field_at ds i d (omega arith) is
+
+-- ---- unions
+
+pub large_tag : (s : ExtMeaning) (most : ℕ) (d : Typ) (l : Value) (n : ℕ) (ns : List (List ℕ)) (ids : List ℕ) (k : Nullability) (ts : Roses Kind) → bare d ≡ node (union ns ids k) ts
+    → Some n ≡ number_in (entries_in l 0) → 255 < n → IsRefused OutOfRange s most d (lone_member 11 (message (slots_of l)))
+large_tag s most d l n ns ids k ts is e h =
+    refused_here OutOfRange s most d (lone_member 11 (message (slots_of l)))
+    (inr (inr (inr (l, refl, subst (λ (z : Typ). OfUnion (λ us vs. (j : ℕ) × (number_in (entries_in l 0) ≡ Some j) × (255 < j)) z) (sym is) (n, sym e, h)))))
+
+pub unknown_tag : (e : ScalarWireError) (s : ExtMeaning) (most : ℕ) (d : Typ) (l : Value) (n : ℕ) (ns : List (List ℕ)) (ids : List ℕ) (k : Nullability) (ts : Roses Kind)
+    → bare d ≡ node (union ns ids k) ts → Some n ≡ number_in (entries_in l 0) → (e ≡ BadChild) × (member n ids ts ≡ None) → IsRefused e s most d (lone_member 11 (message (slots_of l)))
+unknown_tag e s most d l n ns ids k ts is p h =
+    subst (λ (y : ScalarWireError). IsRefused y s most d (lone_member 11 (message (slots_of l)))) (sym h.0)
+    (refused_here BadChild s most d (lone_member 11 (message (slots_of l)))
+    (inr (inl (l, refl, subst (λ (z : Typ). OfUnion (λ us vs. (j : ℕ) × (number_in (entries_in l 0) ≡ Some j) × (member j us vs ≡ None)) z) (sym is) (n, sym p, h.1)))))
+
+pub unfit_value : (s : ExtMeaning) (most : ℕ) (d : Typ) (l w : Value) (n : ℕ) (f : Typ) (v : V.Value) (ns : List (List ℕ)) (ids : List ℕ) (k : Nullability) (ts : Roses Kind)
+    → bare d ≡ node (union ns ids k) ts → l ≡ one_number 1 n ∷ one_message 2 w ∷ [] → member n ids ts ≡ Some f → ReadsValue s v f w → (Fits v f → ⊥)
+    → IsRefused BadChild s most d (lone_member 11 (message (slots_of l)))
+unfit_value s most d l w n f v ns ids k ts is p found r h =
+    refused_here BadChild s most d (lone_member 11 (message (slots_of l)))
+    (inr (inr (
+      l,
+      refl,
+      subst (λ (z : Typ). OfUnion (λ us vs. (j : ℕ) × (e : Typ) × (u : Value) × (x : V.Value) × (l ≡ one_number 1 j ∷ one_message 2 u ∷ []) × (member j us vs ≡ Some e) × ReadsValue s x e u × (Fits x e → ⊥)) z)
+          (sym is) (n, f, w, v, p, found, r, h),
+    )))
+
+-- ---- structures
+
+same_count : (ts : List Typ) → count (roses_of ts) ≡ length ts
+same_count [] = refl
+same_count (t ∷ ts) = omega (arith, same_count ts)
+
+viewed_length : (es : List (ℕ × Element)) → length (entries_view es) ≡ length es
+viewed_length [] = refl
+viewed_length (x ∷ es) = omega (arith, viewed_length es)
+
+typed_length : (ds : List DType) → length (typs ds) ≡ length ds
+typed_length [] = refl
+typed_length (d ∷ ds) = omega (arith, typed_length ds)
+
+pub other_count : (s : ExtMeaning) (most : ℕ) (l : Value) (es : List (ℕ × Element)) (ds : List DType) (ts : List Typ) → entries_view es ≡ entries_in l 0 → typs ds ≡ ts → (length es ≡ length ds → ⊥)
+    → (t : Typ) (ns : List (List ℕ)) (n : Nullability) → bare t ≡ node (structure ns n) (roses_of ts) → IsRefused BadChild s most t (lone_member 9 (message (slots_of l)))
+other_count s most l es ds ts e f h t ns n is =
+    refused_here BadChild s most t (lone_member 9 (message (slots_of l)))
+    (inl (
+      l,
+      refl,
+      subst (λ (z : Typ). IsOtherCount (length (entries_in l 0)) z) (sym is)
+          (λ c. h (sym (viewed_length es) ∙ ap (λ (x : List Entry). length x) e ∙ c ∙ same_count ts ∙ ap (λ (x : List Typ). length x) (sym f) ∙ typed_length ds)),
+    ))
+
+-- ---- scalars
+
+pub refused_type : (e : ScalarWireError) (s : ExtMeaning) (most : ℕ) (l t : Value) → Some t ≡ message_in (entries_in l 0) → IsRefusedType e s t → IsRefusedScalar e s most l
+refused_type OutOfMemory s most l t p h = tt
+refused_type (BadDType r) s most l t p h = inl (t, sym p, h)
+refused_type _ s most l t p h = absurd h
+
+pub unfit_scalar : (s : ExtMeaning) (most : ℕ) (l t w : Value) (f : Typ) (v : V.Value) → l ≡ one_message 1 t ∷ one_message 2 w ∷ [] → IsRead (IsMessageOf t) s f → ReadsValue s v f w → (Fits v f → ⊥)
+    → IsRefusedScalar BadScalar s most l
+unfit_scalar s most l t w f v is r q h = inl (t, w, f, v, is, r, q, h)

@@ -9,7 +9,7 @@ ghost use Rattle.vx_trees.specs.Rose.{roses_of};
 ghost use Rattle.vx_proto.specs.Form.{HasForm};
 ghost use Rattle.vx_proto.specs.Value.{Value, view, value_view, message as a_message, slots_of};
 ghost use Rattle.vx_type_wire.specs.Known.{ExtMeaning};
-ghost use Rattle.vx_type_wire.specs.TypeMessage.{type_lists};
+ghost use Rattle.vx_type_wire.specs.TypeMessage.{IsUnreadValue, type_lists};
 ghost use Rattle.vx_types.specs.Fits.{member};
 ghost use Rattle.vx_types.specs.Seen.{typ};
 ghost use Rattle.vx_scalars.specs.Seen.{value_of, seen};
@@ -281,7 +281,10 @@ pub fn scalar_in<F: Fn(&pb::DType) -> Result<DType, TypeWireError>>(
     };
     let dtype = type_in(alloc, type_slots, types)?;
     let value = value_in(alloc, value_slots, &dtype, types, left)?;
-    Ok(Scalar::try_new(dtype, value)?)
+    match Scalar::try_new(dtype, value) {
+        Ok(scalar) => Ok(scalar),
+        Err(_) => Err(ScalarWireError::BadScalar),
+    }
 }
 
 // The type whose message has this plain value.
@@ -298,13 +301,27 @@ fn type_in<F: Fn(&pb::DType) -> Result<DType, TypeWireError>>(
     let message = PlainMessage::new(copied_slots(alloc, slots)?);
     match types(&message) {
         Ok(dtype) => Ok(dtype),
-        Err(TypeWireError::OutOfMemory) => Err(ScalarWireError::OutOfMemory),
-        Err(TypeWireError::UnknownExtension) => {
-            Err(ScalarWireError::BadDType(TypeRefusal::UnknownExtension))
+        Err(error) => Err(type_refusal(error)),
+    }
+}
+
+// The refusal of a scalar whose type is refused so.
+fn type_refusal(error: TypeWireError) -> ScalarWireError
+    ensures { (s : ExtMeaning) (t : Value) → IsUnreadValue error s t → IsRefusedType result s t }
+{
+    match error {
+        TypeWireError::OutOfMemory => ScalarWireError::OutOfMemory,
+        TypeWireError::UnknownExtension => {
+            ScalarWireError::BadDType(TypeRefusal::UnknownExtension)
         }
-        Err(TypeWireError::ExtensionRefused) => {
-            Err(ScalarWireError::BadDType(TypeRefusal::ExtensionRefused))
+        TypeWireError::ExtensionRefused => {
+            ScalarWireError::BadDType(TypeRefusal::ExtensionRefused)
         }
-        Err(_) => Err(ScalarWireError::BadDType(TypeRefusal::BadType)),
+        TypeWireError::BadType
+        | TypeWireError::BadTable
+        | TypeWireError::TableLimit
+        | TypeWireError::BadMessage
+        | TypeWireError::TooDeep
+        | TypeWireError::WireLimit => ScalarWireError::BadDType(TypeRefusal::BadType),
     }
 }

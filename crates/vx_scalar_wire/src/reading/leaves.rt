@@ -31,9 +31,15 @@ pub fn octets_value(
     ensures read { (s : ExtMeaning) (most : ℕ) → GivesValue seen result s most (typ dtype.now) (lone_member number (some_octets bytes.now)) }
 {
     match bare_dtype(dtype) {
-        DType::Utf8(_) => Ok(Some(text_of(alloc, bytes)?)),
+        DType::Utf8(_) => match text_of(alloc, bytes) {
+            Ok(text) => Ok(Some(text)),
+            Err(error) => Err(error),
+        },
         DType::Binary(_) => Ok(Some(ScalarValue::Binary(Blob::copy_from(alloc, bytes)?))),
-        DType::Decimal(_, _) if number == 8 => Ok(Some(ScalarValue::Decimal(decimal_of(bytes)?))),
+        DType::Decimal(_, _) => match number {
+            8 => Ok(Some(ScalarValue::Decimal(decimal_of(bytes)?))),
+            _ => Err(ScalarWireError::KindMismatch),
+        },
         _ => Err(ScalarWireError::KindMismatch),
     }
 }
