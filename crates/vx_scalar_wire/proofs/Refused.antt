@@ -1,5 +1,5 @@
 -- From the cause of a refusal in a message to that of the message round it.
-use Rattle.std.specs.Prelude.{IfErr, IfOk, Result, Ok, Err}
+use Rattle.std.specs.Prelude.{IfErr, IfOk, Option, Result, Ok, Err}
 use Rattle.std.proofs.Common.{◌≡◌, ◌∙◌, ◌+◌, ◌<◌, ◌≤◌, ◌⊎◌, ℕ, zero, suc, List, [], ◌∷◌, Some, None, get_or, length, refl, sym, ap, subst, inl, inr, arith}
 use Rattle.vx_trees.specs.Rose.{Roses, node, end, more, count, roses_of}
 use Rattle.vx_proto.specs.declared.element.Element.{Element}
@@ -15,10 +15,13 @@ use Rattle.vx_types.specs.Kind.{Kind, structure, union}
 use Rattle.vx_types.specs.Seen.{typ, typs}
 use Rattle.vx_types.specs.Typ.{Typ}
 use Rattle.vx_types.specs.Value as V
+use Rattle.vx_scalars.specs.Seen.{seen as seen_value}
+use Rattle.vx_scalars.specs.Told.{Typed}
+use Rattle.vx_scalars.specs.declared.value.ScalarValue.{ScalarValue}
 use Rattle.vx_types.specs.declared.dtype.DType.{DType}
 use Rattle.vx_types.specs.declared.nullability.Nullability.{Nullability}
-use Rattle.vx_scalar_wire.specs.Answers.{IsRefusedType, lone_member}
-use Rattle.vx_scalar_wire.specs.Reading.{ReadsValue}
+use Rattle.vx_scalar_wire.specs.Answers.{GivesScalar, GivesValue, IsRefusedType, lone_member}
+use Rattle.vx_scalar_wire.specs.Reading.{ReadsScalar, ReadsValue}
 use Rattle.vx_scalar_wire.specs.Refusing.{IsOtherCount, OfUnion, IsAt, IsFieldAt, IsPartType, IsPart, IsCause, IsScalarCause, IsRefused, IsRefusedScalar}
 use Rattle.vx_scalar_wire.specs.declared.error.ScalarWireError.{ScalarWireError}
 use Rattle.vx_scalar_wire.specs.declared.error.ScalarWireError.TheVariants.{OutOfMemory, BadMessage, TooDeep, MissingKind, KindMismatch, OutOfRange, BadChild, BadScalar, BadDType}
@@ -159,3 +162,23 @@ refused_type _ s most l t p h = absurd h
 pub unfit_scalar : (s : ExtMeaning) (most : ℕ) (l t w : Value) (f : Typ) (v : V.Value) → l ≡ one_message 1 t ∷ one_message 2 w ∷ [] → IsRead (IsMessageOf t) s f → ReadsValue s v f w → (Fits v f → ⊥)
     → IsRefusedScalar BadScalar s most l
 unfit_scalar s most l t w f v is r q h = inl (t, w, f, v, is, r, q, h)
+
+-- ---- answers
+
+-- What is given is read,
+pub value_given : (r : Result (Option ScalarValue) ScalarWireError) (s : ExtMeaning) (most : ℕ) (d : Typ) (m : Value) → GivesValue (λ x. seen_value x) r s most d m → IfOk r (λ x. ReadsValue s (seen_value x) d m)
+value_given (Ok x) s most d m h = h
+value_given (Err e) s most d m h = tt
+
+-- and what is not is refused.
+pub value_refused : (r : Result (Option ScalarValue) ScalarWireError) (s : ExtMeaning) (most : ℕ) (d : Typ) (m : Value) → GivesValue (λ x. seen_value x) r s most d m → IfErr r (λ e. IsRefused e s most d m)
+value_refused (Ok x) s most d m h = tt
+value_refused (Err e) s most d m h = h
+
+pub scalar_given : (r : Result Typed ScalarWireError) (s : ExtMeaning) (most : ℕ) (l : Value) → GivesScalar r s most l → IfOk r (λ x. ReadsScalar s x l)
+scalar_given (Ok x) s most l h = h
+scalar_given (Err e) s most l h = tt
+
+pub scalar_refused : (r : Result Typed ScalarWireError) (s : ExtMeaning) (most : ℕ) (l : Value) → GivesScalar r s most l → IfErr r (λ e. IsRefusedScalar e s most l)
+scalar_refused (Ok x) s most l h = tt
+scalar_refused (Err e) s most l h = h

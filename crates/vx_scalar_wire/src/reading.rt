@@ -14,6 +14,8 @@ ghost use Rattle.vx_types.specs.Fits.{member};
 ghost use Rattle.vx_types.specs.Seen.{typ};
 ghost use Rattle.vx_scalars.specs.Seen.{value_of, seen};
 ghost use Rattle.vx_scalar_wire.specs.Answers.{GivesEach, GivesParts, GivesRow, GivesScalar, GivesValue, IsRefusedType, ReadsTypes, lone_member};
+ghost use Rattle.vx_scalar_wire.specs.Reading.{ReadsValue, ReadsScalar};
+ghost use Rattle.vx_scalar_wire.specs.Refusing.{IsRefused, IsRefusedScalar};
 ghost use Rattle.vx_scalar_wire.specs.ScalarMessage.{scalar_lists};
 
 use crate::error::{ScalarWireError, TypeRefusal};
@@ -27,13 +29,46 @@ use vx_scalars::{Scalar, ScalarValue, ValueRef, Values, VariantRef, bare_dtype};
 use vx_type_wire::{TypeWireError, pb};
 use vx_types::{DType, StructFields, UnionVariants};
 
-/// At most so many levels of values are read: each nests two messages.
-pub const MOST_LEVELS: u8 = 50;
+// At most so many levels of values are read: each nests two messages.
+const MOST_LEVELS: u8 = 50;
 
-/// The value whose message has this plain value, at a type, where it has at most
-/// so many levels; `None` is a null.
+/// The value whose message has this plain value, at a type; `None` is a null.
+pub fn read_value<F: Fn(&pb::DType) -> Result<DType, TypeWireError>>(
+    alloc: Global,
+    slots: &[Entries],
+    dtype: &DType,
+    types: &F,
+) -> Result<Option<ScalarValue>, ScalarWireError>
+    requires call { F.IsAlwaysCallable types.now }
+    requires form { HasForm scalar_lists 15 (value_view slots.now) }
+    ensures read { (s : ExtMeaning) → ReadsTypes (λ t r. FnReturnsAt F.Fn types.now t r) s
+        → IfOk result (λ x. ReadsValue s (seen x) (typ dtype.now) (value_view slots.now)) }
+    ensures cause { (s : ExtMeaning) → ReadsTypes (λ t r. FnReturnsAt F.Fn types.now t r) s
+        → IfErr result (λ e. IsRefused e s 100 (typ dtype.now) (value_view slots.now)) }
+{
+    value_in(alloc, slots, dtype, types, MOST_LEVELS)
+}
+
+/// The scalar whose message has this plain value.
+pub fn read_scalar<F: Fn(&pb::DType) -> Result<DType, TypeWireError>>(
+    alloc: Global,
+    slots: &[Entries],
+    types: &F,
+) -> Result<Scalar, ScalarWireError>
+    requires call { F.IsAlwaysCallable types.now }
+    requires form { HasForm scalar_lists 14 (value_view slots.now) }
+    ensures read { (s : ExtMeaning) → ReadsTypes (λ t r. FnReturnsAt F.Fn types.now t r) s
+        → IfOk result (λ x. ReadsScalar s x (value_view slots.now)) }
+    ensures cause { (s : ExtMeaning) → ReadsTypes (λ t r. FnReturnsAt F.Fn types.now t r) s
+        → IfErr result (λ e. IsRefusedScalar e s 100 (value_view slots.now)) }
+{
+    scalar_in(alloc, slots, types, MOST_LEVELS)
+}
+
+// The value whose message has this plain value, at a type, where it has at most
+// so many levels; `None` is a null.
 #[cycle(reading)]
-pub fn value_in<F: Fn(&pb::DType) -> Result<DType, TypeWireError>>(
+fn value_in<F: Fn(&pb::DType) -> Result<DType, TypeWireError>>(
     alloc: Global,
     slots: &[Entries],
     dtype: &DType,
@@ -259,10 +294,10 @@ fn variant_value<F: Fn(&pb::DType) -> Result<DType, TypeWireError>>(
     Ok(ScalarValue::Variant(VariantRef::new(alloc, scalar)?))
 }
 
-/// The scalar whose message has this plain value, where its value has at most so
-/// many levels.
+// The scalar whose message has this plain value, where its value has at most so
+// many levels.
 #[cycle(reading)]
-pub fn scalar_in<F: Fn(&pb::DType) -> Result<DType, TypeWireError>>(
+fn scalar_in<F: Fn(&pb::DType) -> Result<DType, TypeWireError>>(
     alloc: Global,
     slots: &[Entries],
     types: &F,

@@ -192,70 +192,70 @@ variant_value-returns g t c = record {
 pub each_value-returns-in_err-value_in : goal.each_value-returns-in_err-value_in
 each_value-returns-in_err-value_in g t c = record {
   read = λ s k.
-    let l : Value = value_view c.args.slots.now in
-    let w : Value = value_view c.in-Some.message.now in
-    let e = element l w c.entries_at-members.result.now c.loop-i.i c.index-members-i.result c.requires.form c.entries_at-members.ensures c.loop-i-test.true c.index-members-i.is c.in-Some.ensures in
-    let at : IsAt (entries_in l 0) c.loop-i.i (1, message (slots_of w)) =
-    subst (λ (es : List Entry). IsAt es c.loop-i.i (1, message (slots_of w))) c.entries_at-members.ensures
-    (element_at c.entries_at-members.result.now c.loop-i.i c.index-members-i.result (1, message (slots_of w)) c.loop-i-test.true c.index-members-i.is e.0) in
-    let h : GivesEach (Err c.in_err-value_in.field-0.0) s (2 * c.args.left + 2) (typ c.args.dtype.now) l =
-    (λ d parts. refused_element c.in_err-value_in.field-0.0 s (2 * c.args.left) d (typ c.args.dtype.now) l w c.loop-i.i at (parts c.loop-i.i) (c.in_err-value_in.ensures.read s k)) in
-    search rules;
+      let l : Value = value_view c.args.slots.now in
+      let w : Value = value_view c.in-Some.message.now in
+      let e = element l w c.entries_at-members.result.now c.loop-i.i c.index-members-i.result c.requires.form c.entries_at-members.ensures c.loop-i-test.true c.index-members-i.is c.in-Some.ensures in
+      let at : IsAt (entries_in l 0) c.loop-i.i (1, message (slots_of w)) =
+      subst (λ (es : List Entry). IsAt es c.loop-i.i (1, message (slots_of w))) c.entries_at-members.ensures
+      (element_at c.entries_at-members.result.now c.loop-i.i c.index-members-i.result (1, message (slots_of w)) c.loop-i-test.true c.index-members-i.is e.0) in
+      let h : GivesEach (Err c.in_err-value_in.field-0.0) s (2 * c.args.left + 2) (typ c.args.dtype.now) l =
+      (λ d parts. refused_element c.in_err-value_in.field-0.0 s (2 * c.args.left) d (typ c.args.dtype.now) l w c.loop-i.i at (parts c.loop-i.i) (c.in_err-value_in.ensures.read s k)) in
+      search rules;
 }
 
 pub variant_value-returns-in_err-scalar : goal.variant_value-returns-in_err-scalar
 variant_value-returns-in_err-scalar g t c = record {
   read = λ s k.
-    let v = subst (λ (d : Typ). IsVariant d) c.bare_dtype.ensures (subst (λ (d : DType). IsVariant (typ d)) (sym c.in-Variant.is) tt) in
-    let h : IsRefused c.in_err-scalar.field-0.0 s (2 * c.args.left + 2) (typ c.args.dtype.now) (lone_member 12 (message (slots_of (value_view c.args.slots.now)))) =
-    refused_variant c.in_err-scalar.field-0.0 s (2 * c.args.left) (typ c.args.dtype.now) (value_view c.args.slots.now) v (c.in_err-scalar.ensures.read s k) in
-    search rules;
+      let v = subst (λ (d : Typ). IsVariant d) c.bare_dtype.ensures (subst (λ (d : DType). IsVariant (typ d)) (sym c.in-Variant.is) tt) in
+      let h : IsRefused c.in_err-scalar.field-0.0 s (2 * c.args.left + 2) (typ c.args.dtype.now) (lone_member 12 (message (slots_of (value_view c.args.slots.now)))) =
+      refused_variant c.in_err-scalar.field-0.0 s (2 * c.args.left) (typ c.args.dtype.now) (value_view c.args.slots.now) v (c.in_err-scalar.ensures.read s k) in
+      search rules;
 }
 
 pub field_values-returns-then-members-dtypes : goal.field_values-returns-then-members-dtypes
 field_values-returns-then-members-dtypes g t c = record {
   read = λ s k.
-    other_count s (2 * c.args.left + 2) (value_view c.args.slots.now) c.entries_at-members.result.now c.as_slice-dtypes.result.now c.args.fields.now.types c.entries_at-members.ensures
-    (c.as_slice-dtypes.ensures ∙ c.fields.ensures) c.if-members-dtypes.true;
+      other_count s (2 * c.args.left + 2) (value_view c.args.slots.now) c.entries_at-members.result.now c.as_slice-dtypes.result.now c.args.fields.now.types c.entries_at-members.ensures
+      (c.as_slice-dtypes.ensures ∙ c.fields.ensures) c.if-members-dtypes.true;
 }
 
 pub field_values-returns-in_err-value_in : goal.field_values-returns-in_err-value_in
 field_values-returns-in_err-value_in g t c = record {
   read = λ s k.
-    let l : Value = value_view c.args.slots.now in
-    let w : Value = value_view c.in-Some.message.now in
-    let ts = c.args.fields.now.types in
-    let e = element l w c.entries_at-members.result.now c.loop-i.i c.index-members-i.result c.requires.form c.entries_at-members.ensures c.loop-i-test.true c.index-members-i.is c.in-Some.ensures in
-    let at : IsAt (entries_in l 0) c.loop-i.i (1, message (slots_of w)) =
-    subst (λ (es : List Entry). IsAt es c.loop-i.i (1, message (slots_of w))) c.entries_at-members.ensures
-    (element_at c.entries_at-members.result.now c.loop-i.i c.index-members-i.result (1, message (slots_of w)) c.loop-i-test.true c.index-members-i.is e.0) in
-    let field : IsFieldAt (roses_of ts) c.loop-i.i (typ c.index-dtypes-i.result) =
-    subst (λ (us : List Typ). IsFieldAt (roses_of us) c.loop-i.i (typ c.index-dtypes-i.result)) (c.as_slice-dtypes.ensures ∙ c.fields.ensures)
-    (field_at c.as_slice-dtypes.result.now c.loop-i.i c.index-dtypes-i.result (omega arith) c.index-dtypes-i.is) in
-    let h : GivesRow (Err c.in_err-value_in.field-0.0) s (2 * c.args.left + 2) (roses_of ts) l =
-    (λ d ns n is. refused_element c.in_err-value_in.field-0.0 s (2 * c.args.left) d (typ c.index-dtypes-i.result) l w c.loop-i.i at
-    (subst (λ (z : Typ). IsPartType z c.loop-i.i (typ c.index-dtypes-i.result)) (sym is) field) (c.in_err-value_in.ensures.read s k)) in
-    search rules;
+      let l : Value = value_view c.args.slots.now in
+      let w : Value = value_view c.in-Some.message.now in
+      let ts = c.args.fields.now.types in
+      let e = element l w c.entries_at-members.result.now c.loop-i.i c.index-members-i.result c.requires.form c.entries_at-members.ensures c.loop-i-test.true c.index-members-i.is c.in-Some.ensures in
+      let at : IsAt (entries_in l 0) c.loop-i.i (1, message (slots_of w)) =
+      subst (λ (es : List Entry). IsAt es c.loop-i.i (1, message (slots_of w))) c.entries_at-members.ensures
+      (element_at c.entries_at-members.result.now c.loop-i.i c.index-members-i.result (1, message (slots_of w)) c.loop-i-test.true c.index-members-i.is e.0) in
+      let field : IsFieldAt (roses_of ts) c.loop-i.i (typ c.index-dtypes-i.result) =
+      subst (λ (us : List Typ). IsFieldAt (roses_of us) c.loop-i.i (typ c.index-dtypes-i.result)) (c.as_slice-dtypes.ensures ∙ c.fields.ensures)
+      (field_at c.as_slice-dtypes.result.now c.loop-i.i c.index-dtypes-i.result (omega arith) c.index-dtypes-i.is) in
+      let h : GivesRow (Err c.in_err-value_in.field-0.0) s (2 * c.args.left + 2) (roses_of ts) l =
+      (λ d ns n is. refused_element c.in_err-value_in.field-0.0 s (2 * c.args.left) d (typ c.index-dtypes-i.result) l w c.loop-i.i at
+      (subst (λ (z : Typ). IsPartType z c.loop-i.i (typ c.index-dtypes-i.result)) (sym is) field) (c.in_err-value_in.ensures.read s k)) in
+      search rules;
 }
 
 pub each_value-returns-in_default : goal.each_value-returns-in_default
 each_value-returns-in_default g t c = record {
   read = λ s k.
-    absurd (no_message (value_view c.args.slots.now) c.entries_at-members.result.now c.loop-i.i c.index-members-i.result c.requires.form c.entries_at-members.ensures c.loop-i-test.true c.index-members-i.is
-    c.in_default.ensures);
+      absurd (no_message (value_view c.args.slots.now) c.entries_at-members.result.now c.loop-i.i c.index-members-i.result c.requires.form c.entries_at-members.ensures c.loop-i-test.true c.index-members-i.is
+      c.in_default.ensures);
 }
 
 pub field_values-returns-in_default : goal.field_values-returns-in_default
 field_values-returns-in_default g t c = record {
   read = λ s k.
-    absurd (no_message (value_view c.args.slots.now) c.entries_at-members.result.now c.loop-i.i c.index-members-i.result c.requires.form c.entries_at-members.ensures c.loop-i-test.true c.index-members-i.is
-    c.in_default.ensures);
+      absurd (no_message (value_view c.args.slots.now) c.entries_at-members.result.now c.loop-i.i c.index-members-i.result c.requires.form c.entries_at-members.ensures c.loop-i-test.true c.index-members-i.is
+      c.in_default.ensures);
 }
 
 pub message_value-returns-in_default : goal.message_value-returns-in_default
 message_value-returns-in_default g t c = record {
   read = λ s k.
-    absurd (message_name c.args.number (value_view c.args.slots.now) c.requires.form (λ e. absurd (omega (arith, e))) (λ e. absurd (omega (arith, e))) (λ e. absurd (omega (arith, e))));
+      absurd (message_name c.args.number (value_view c.args.slots.now) c.requires.form (λ e. absurd (omega (arith, e))) (λ e. absurd (omega (arith, e))) (λ e. absurd (omega (arith, e))));
 }
 
 pub union_value-returns-in_default-number_at : goal.union_value-returns-in_default-number_at
@@ -264,81 +264,81 @@ union_value-returns-in_default-number_at g t c = record { read = λ s k. absurd 
 pub union_value-returns-then-number-gt255 : goal.union_value-returns-then-number-gt255
 union_value-returns-then-number-gt255 g t c = record {
   read = λ s k.
-    let u = c.in-Union.variants in
-    let stored : bare (typ c.args.dtype.now) ≡ node (K.union u.names u.ids c.in-Union.field-1) (roses_of u.types) = sym c.bare_dtype.ensures ∙ ap typ c.in-Union.is in
-    large_tag s (2 * c.args.left + 2) (typ c.args.dtype.now) (value_view c.args.slots.now) c.in-Some.number u.names u.ids c.in-Union.field-1 (roses_of u.types) stored c.in-Some.ensures (omega arith);
+      let u = c.in-Union.variants in
+      let stored : bare (typ c.args.dtype.now) ≡ node (K.union u.names u.ids c.in-Union.field-1) (roses_of u.types) = sym c.bare_dtype.ensures ∙ ap typ c.in-Union.is in
+      large_tag s (2 * c.args.left + 2) (typ c.args.dtype.now) (value_view c.args.slots.now) c.in-Some.number u.names u.ids c.in-Union.field-1 (roses_of u.types) stored c.in-Some.ensures (omega arith);
 }
 
 pub union_value-returns-in_err-dtype : goal.union_value-returns-in_err-dtype
 union_value-returns-in_err-dtype g t c = record {
   read = λ s k.
-    let u = c.in-Union.variants in
-    let stored : bare (typ c.args.dtype.now) ≡ node (K.union u.names u.ids c.in-Union.field-1) (roses_of u.types) = sym c.bare_dtype.ensures ∙ ap typ c.in-Union.is in
-    let h : IsRefused c.in_err-dtype.field-0.0 s (2 * c.args.left + 2) (typ c.args.dtype.now) (lone_member 11 (message (slots_of (value_view c.args.slots.now)))) =
-    unknown_tag c.in_err-dtype.field-0.0 s (2 * c.args.left + 2) (typ c.args.dtype.now) (value_view c.args.slots.now) c.in-Some.number u.names u.ids c.in-Union.field-1 (roses_of u.types) stored
-    c.in-Some.ensures c.in_err-dtype.ensures.none in
-    search rules;
+      let u = c.in-Union.variants in
+      let stored : bare (typ c.args.dtype.now) ≡ node (K.union u.names u.ids c.in-Union.field-1) (roses_of u.types) = sym c.bare_dtype.ensures ∙ ap typ c.in-Union.is in
+      let h : IsRefused c.in_err-dtype.field-0.0 s (2 * c.args.left + 2) (typ c.args.dtype.now) (lone_member 11 (message (slots_of (value_view c.args.slots.now)))) =
+      unknown_tag c.in_err-dtype.field-0.0 s (2 * c.args.left + 2) (typ c.args.dtype.now) (value_view c.args.slots.now) c.in-Some.number u.names u.ids c.in-Union.field-1 (roses_of u.types) stored
+      c.in-Some.ensures c.in_err-dtype.ensures.none in
+      search rules;
 }
 
 pub union_value-returns-in_err-value : goal.union_value-returns-in_err-value
 union_value-returns-in_err-value g t c = record {
   read = λ s k.
-    let u = c.in-Union.variants in
-    let stored : bare (typ c.args.dtype.now) ≡ node (K.union u.names u.ids c.in-Union.field-1) (roses_of u.types) = sym c.bare_dtype.ensures ∙ ap typ c.in-Union.is in
-    let l : Value = value_view c.args.slots.now in
-    let w : Value = value_view c.in-Some-message_at.message.now in
-    let p = union_parts l w c.in-Some.number c.requires.form c.in-Some.ensures c.in-Some-message_at.ensures in
-    let h : IsRefused c.in_err-value.field-0.0 s (2 * c.args.left + 2) (typ c.args.dtype.now) (lone_member 11 (message (slots_of l))) =
-    refused_member c.in_err-value.field-0.0 s (2 * c.args.left) (typ c.args.dtype.now) (typ c.in_ok-dtype.dtype.now) l w c.in-Some.number u.names u.ids c.in-Union.field-1 (roses_of u.types) stored
-    c.in_ok-dtype.ensures.found p.0 (c.in_err-value.ensures.read s k) in
-    search rules;
+      let u = c.in-Union.variants in
+      let stored : bare (typ c.args.dtype.now) ≡ node (K.union u.names u.ids c.in-Union.field-1) (roses_of u.types) = sym c.bare_dtype.ensures ∙ ap typ c.in-Union.is in
+      let l : Value = value_view c.args.slots.now in
+      let w : Value = value_view c.in-Some-message_at.message.now in
+      let p = union_parts l w c.in-Some.number c.requires.form c.in-Some.ensures c.in-Some-message_at.ensures in
+      let h : IsRefused c.in_err-value.field-0.0 s (2 * c.args.left + 2) (typ c.args.dtype.now) (lone_member 11 (message (slots_of l))) =
+      refused_member c.in_err-value.field-0.0 s (2 * c.args.left) (typ c.args.dtype.now) (typ c.in_ok-dtype.dtype.now) l w c.in-Some.number u.names u.ids c.in-Union.field-1 (roses_of u.types) stored
+      c.in_ok-dtype.ensures.found p.0 (c.in_err-value.ensures.read s k) in
+      search rules;
 }
 
 pub union_value-returns-in-Err : goal.union_value-returns-in-Err
 union_value-returns-in-Err g t c = record {
   read = λ s k.
-    let u = c.in-Union.variants in
-    let stored : bare (typ c.args.dtype.now) ≡ node (K.union u.names u.ids c.in-Union.field-1) (roses_of u.types) = sym c.bare_dtype.ensures ∙ ap typ c.in-Union.is in
-    let l : Value = value_view c.args.slots.now in
-    let w : Value = value_view c.in-Some-message_at.message.now in
-    let p = union_parts l w c.in-Some.number c.requires.form c.in-Some.ensures c.in-Some-message_at.ensures in
-    let v = seen c.in_ok-value.value in
-    let f = typ c.in_ok-dtype.dtype.now in
-    let unfit : Fits v f → ⊥ = subst (λ (x : Option ScalarValue). Fits (seen x) f → ⊥) c.as_ref.ensures.value c.in-Err.ensures.err.1 in
-    unfit_value s (2 * c.args.left + 2) (typ c.args.dtype.now) l w c.in-Some.number f v u.names u.ids c.in-Union.field-1 (roses_of u.types) stored p.0 c.in_ok-dtype.ensures.found
-    (c.in_ok-value.ensures.read s k) unfit;
+      let u = c.in-Union.variants in
+      let stored : bare (typ c.args.dtype.now) ≡ node (K.union u.names u.ids c.in-Union.field-1) (roses_of u.types) = sym c.bare_dtype.ensures ∙ ap typ c.in-Union.is in
+      let l : Value = value_view c.args.slots.now in
+      let w : Value = value_view c.in-Some-message_at.message.now in
+      let p = union_parts l w c.in-Some.number c.requires.form c.in-Some.ensures c.in-Some-message_at.ensures in
+      let v = seen c.in_ok-value.value in
+      let f = typ c.in_ok-dtype.dtype.now in
+      let unfit : Fits v f → ⊥ = subst (λ (x : Option ScalarValue). Fits (seen x) f → ⊥) c.as_ref.ensures.value c.in-Err.ensures.err.1 in
+      unfit_value s (2 * c.args.left + 2) (typ c.args.dtype.now) l w c.in-Some.number f v u.names u.ids c.in-Union.field-1 (roses_of u.types) stored p.0 c.in_ok-dtype.ensures.found
+      (c.in_ok-value.ensures.read s k) unfit;
 }
 
 pub scalar_in-returns-in_err-dtype : goal.scalar_in-returns-in_err-dtype
 scalar_in-returns-in_err-dtype g t c = record {
   read = λ s k.
-    let l : Value = value_view c.args.slots.now in
-    let d : Value = value_view c.in-Some.type_slots.now in
-    let h : IsRefusedScalar c.in_err-dtype.field-0.0 s (2 * c.args.left) l = refused_type c.in_err-dtype.field-0.0 s (2 * c.args.left) l d c.in-Some.ensures (c.in_err-dtype.ensures.cause s k) in
-    search rules;
+      let l : Value = value_view c.args.slots.now in
+      let d : Value = value_view c.in-Some.type_slots.now in
+      let h : IsRefusedScalar c.in_err-dtype.field-0.0 s (2 * c.args.left) l = refused_type c.in_err-dtype.field-0.0 s (2 * c.args.left) l d c.in-Some.ensures (c.in_err-dtype.ensures.cause s k) in
+      search rules;
 }
 
 pub scalar_in-returns-in_err-value : goal.scalar_in-returns-in_err-value
 scalar_in-returns-in_err-value g t c = record {
   read = λ s k.
-    let l : Value = value_view c.args.slots.now in
-    let d : Value = value_view c.in-Some.type_slots.now in
-    let w : Value = value_view c.in-Some-message_at.value_slots.now in
-    let p = scalar_parts l d w c.requires.form c.in-Some.ensures c.in-Some-message_at.ensures in
-    let h : IsRefusedScalar c.in_err-value.field-0.0 s (2 * c.args.left) l =
-    refused_value c.in_err-value.field-0.0 s (2 * c.args.left) l d w (typ c.in_ok-dtype.dtype) p.0 (k d (Ok c.in_ok-dtype.dtype) c.in_ok-dtype.ensures.read) (c.in_err-value.ensures.read s k) in
-    search rules;
+      let l : Value = value_view c.args.slots.now in
+      let d : Value = value_view c.in-Some.type_slots.now in
+      let w : Value = value_view c.in-Some-message_at.value_slots.now in
+      let p = scalar_parts l d w c.requires.form c.in-Some.ensures c.in-Some-message_at.ensures in
+      let h : IsRefusedScalar c.in_err-value.field-0.0 s (2 * c.args.left) l =
+      refused_value c.in_err-value.field-0.0 s (2 * c.args.left) l d w (typ c.in_ok-dtype.dtype) p.0 (k d (Ok c.in_ok-dtype.dtype) c.in_ok-dtype.ensures.read) (c.in_err-value.ensures.read s k) in
+      search rules;
 }
 
 pub scalar_in-returns-in-Err : goal.scalar_in-returns-in-Err
 scalar_in-returns-in-Err g t c = record {
   read = λ s k.
-    let l : Value = value_view c.args.slots.now in
-    let d : Value = value_view c.in-Some.type_slots.now in
-    let w : Value = value_view c.in-Some-message_at.value_slots.now in
-    let p = scalar_parts l d w c.requires.form c.in-Some.ensures c.in-Some-message_at.ensures in
-    unfit_scalar s (2 * c.args.left) l d w (typ c.in_ok-dtype.dtype) (seen c.in_ok-value.value) p.0 (k d (Ok c.in_ok-dtype.dtype) c.in_ok-dtype.ensures.read) (c.in_ok-value.ensures.read s k)
-    c.in-Err.ensures.err.1;
+      let l : Value = value_view c.args.slots.now in
+      let d : Value = value_view c.in-Some.type_slots.now in
+      let w : Value = value_view c.in-Some-message_at.value_slots.now in
+      let p = scalar_parts l d w c.requires.form c.in-Some.ensures c.in-Some-message_at.ensures in
+      unfit_scalar s (2 * c.args.left) l d w (typ c.in_ok-dtype.dtype) (seen c.in_ok-value.value) p.0 (k d (Ok c.in_ok-dtype.dtype) c.in_ok-dtype.ensures.read) (c.in_ok-value.ensures.read s k)
+      c.in-Err.ensures.err.1;
 }
 
 pub scalar_in-returns-in-Ok : goal.scalar_in-returns-in-Ok
@@ -350,4 +350,3 @@ scalar_in-returns-in-Ok g t c = record {
       scalar_read s (value_view c.args.slots.now) d w c.in-Ok.scalar (typ c.in_ok-dtype.dtype) (seen c.in_ok-value.value) c.in-Ok.ensures.ok p.0
       (k d (Ok c.in_ok-dtype.dtype) c.in_ok-dtype.ensures.read) (c.in_ok-value.ensures.read s k) c.in-Ok.ensures.fits;
 }
-

@@ -56,6 +56,6 @@ flag_value-requires c = flag_below c.args.value (subst (λ (k : ℕ). HasForm sc
 pub returns-in_default : goal.returns-in_default
 returns-in_default c = record {
   read = λ s most.
-    absurd (number_name c.args.number c.args.value c.requires (λ e. absurd (omega (arith, e))) (λ e. absurd (omega (arith, e))) (λ e. absurd (omega (arith, e))) (λ e. absurd (omega (arith, e)))
-    (λ e. absurd (omega (arith, e))) (λ e. absurd (omega (arith, e))) (λ e. absurd (omega (arith, e))));
+      absurd (number_name c.args.number c.args.value c.requires (λ e. absurd (omega (arith, e))) (λ e. absurd (omega (arith, e))) (λ e. absurd (omega (arith, e))) (λ e. absurd (omega (arith, e)))
+      (λ e. absurd (omega (arith, e))) (λ e. absurd (omega (arith, e))) (λ e. absurd (omega (arith, e))));
 }
