@@ -16,7 +16,8 @@ use Rattle.vx_types.specs.Typ.{Typ}
 use Rattle.vx_types.specs.Value as V
 use Rattle.vx_types.specs.declared.dtype.DType.{DType}
 use Rattle.vx_scalars.specs.Told.{Typed}
-use Rattle.vx_scalar_wire.specs.Answers.{lone_member}
+use Rattle.vx_scalar_wire.specs.Answers.{GivesEach, GivesParts, GivesRow, lone_member}
+use Rattle.vx_scalar_wire.specs.Refusing.{IsPartType}
 use Rattle.vx_scalar_wire.specs.Reading.{ReadsValue, ReadsParts, EachReads, ReadsBy, ReadsScalar}
 use Rattle.vx_scalar_wire.specs.declared.error.ScalarWireError.{ScalarWireError}
 
@@ -68,23 +69,22 @@ types_all (x ∷ ds) (suc i) h = ap (λ (ts : List Typ). typ x ∷ ts) (types_al
 -- ---- the values that have parts
 
 -- What is read at each type is the parts of a list, of one of fixed size or of a map,
-pub tuple_parts : (s : ExtMeaning) (r : Result (List V.Value) ScalarWireError) (m : Value) (e x d b : Typ) → d ≡ b → e ≡ x
-    → ((Each : Typ → Type 0) (By : Roses Kind → Type 0) → Each x → ReadsParts Each By b) → IfOk r (λ vs. (ws : List Value) × (m ≡ all_messages 1 ws ∷ []) × EachReads s (roses_of vs) e ws)
-    → IfOk r (λ vs. (ws : List Value) × (m ≡ all_messages 1 ws ∷ []) × ReadsParts (λ y. EachReads s (roses_of vs) y ws) (λ ts. ReadsBy s (roses_of vs) ts ws) d)
-tuple_parts s (Ok vs) m e x d b is same f h = (
+pub tuple_parts : (s : ExtMeaning) (r : Result (List V.Value) ScalarWireError) (most : ℕ) (m : Value) (e x d b : Typ) → d ≡ b → e ≡ x
+    → ((Each : Typ → Type 0) (By : Roses Kind → Type 0) → Each x → ReadsParts Each By b) → ((i : ℕ) → IsPartType b i x) → GivesEach r s most e m → GivesParts r s most d m
+tuple_parts s (Ok vs) most m e x d b is same f g h = (
   h.0,
   h.1,
   subst (λ (y : Typ). ReadsParts (λ z. EachReads s (roses_of vs) z h.0) (λ ts. ReadsBy s (roses_of vs) ts h.0) y) (sym is)
       (f (λ z. EachReads s (roses_of vs) z h.0) (λ ts. ReadsBy s (roses_of vs) ts h.0) (subst (λ (z : Typ). EachReads s (roses_of vs) z h.0) same h.2)),
 )
-tuple_parts s (Err y) m e x d b is same f h = tt
+tuple_parts s (Err y) most m e x d b is same f g h =
+    λ t stored. h t (λ i. subst (λ (z : Typ). IsPartType z i e) (sym (stored ∙ is)) (subst (λ (z : Typ). IsPartType b i z) (sym same) (g i)))
 
 -- and of a structure what is read one by one.
-pub row_parts : (s : ExtMeaning) (r : Result (List V.Value) ScalarWireError) (m : Value) (ns : List (List ℕ)) (n : Nullability) (ts : Roses Kind) (d : Typ) → d ≡ node (structure ns n) ts
-    → IfOk r (λ vs. (ws : List Value) × (m ≡ all_messages 1 ws ∷ []) × ReadsBy s (roses_of vs) ts ws)
-    → IfOk r (λ vs. (ws : List Value) × (m ≡ all_messages 1 ws ∷ []) × ReadsParts (λ y. EachReads s (roses_of vs) y ws) (λ us. ReadsBy s (roses_of vs) us ws) d)
-row_parts s (Ok vs) m ns n ts d is h = (h.0, h.1, subst (λ (y : Typ). ReadsParts (λ z. EachReads s (roses_of vs) z h.0) (λ us. ReadsBy s (roses_of vs) us h.0) y) (sym is) h.2)
-row_parts s (Err y) m ns n ts d is h = tt
+pub row_parts : (s : ExtMeaning) (r : Result (List V.Value) ScalarWireError) (most : ℕ) (m : Value) (ns : List (List ℕ)) (n : Nullability) (ts : Roses Kind) (d : Typ) → d ≡ node (structure ns n) ts
+    → GivesRow r s most ts m → GivesParts r s most d m
+row_parts s (Ok vs) most m ns n ts d is h = (h.0, h.1, subst (λ (y : Typ). ReadsParts (λ z. EachReads s (roses_of vs) z h.0) (λ us. ReadsBy s (roses_of vs) us h.0) y) (sym is) h.2)
+row_parts s (Err y) most m ns n ts d is h = λ t stored. h t ns n (stored ∙ is)
 
 -- A scalar is read of its two messages.
 pub scalar_read : (s : ExtMeaning) (m d w : Value) (x : Typed) (e : Typ) (v : V.Value) → x ≡ record { dtype = e; value = v } → m ≡ one_message 1 d ∷ one_message 2 w ∷ [] → IsRead (IsMessageOf d) s e

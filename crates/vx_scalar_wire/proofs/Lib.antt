@@ -5,5 +5,6 @@ pub mod OneValue
 pub mod Inversions
 pub mod Leaves
 pub mod Held
+pub mod Refused
 pub mod Gathered
 pub mod LawsScalars

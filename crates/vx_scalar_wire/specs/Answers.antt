@@ -1,51 +1,51 @@
 -- What a reader of values answers.
-use Rattle.std.specs.Prelude.{ℤ, pos, Option, Some, None, ℕ, ◌<◌, [], ◌∷◌, Result, Ok, Err}
-use Rattle.vx_proto.specs.Value.{Content, Value}
-use Rattle.vx_proto.specs.Written.{nested}
+use Rattle.std.specs.Prelude.{ℕ, ◌≡◌, List, [], ◌∷◌, Result, Ok, Err}
+use Rattle.vx_trees.specs.Rose.{Roses, node, roses_of}
+use Rattle.vx_proto.specs.Value.{Content, Value, message, slots_of}
 use Rattle.vx_type_wire.specs.Known.{ExtMeaning, IsRead}
-use Rattle.vx_type_wire.specs.TypeMessage.{IsMessageOf, IsUnreadValue}
+use Rattle.vx_type_wire.specs.TypeMessage.{IsMessageOf, IsUnreadValue, all_messages}
 use Rattle.vx_type_wire.specs.declared.error.TypeWireError.{TypeWireError}
+use Rattle.vx_types.specs.Fits.{bare}
+use Rattle.vx_types.specs.Kind.{Kind, structure}
 use Rattle.vx_types.specs.Seen.{typ}
-use Rattle.vx_types.specs.declared.dtype.DType.{DType}
 use Rattle.vx_types.specs.Typ.{Typ}
 use Rattle.vx_types.specs.Value as V
-use Rattle.vx_types.specs.declared.value.PValue.{PValue}
-use Rattle.vx_types.specs.declared.value.PValue.TheVariants.{U8, U16, U32, U64, I8, I16, I32, I64, F16, F32, F64}
-use Rattle.vx_scalar_wire.specs.Reading.{ReadsValue}
+use Rattle.vx_types.specs.declared.dtype.DType.{DType}
+use Rattle.vx_types.specs.declared.nullability.Nullability.{Nullability}
+use Rattle.vx_scalars.specs.Told.{Typed}
+use Rattle.vx_scalar_wire.specs.Reading.{ReadsValue, ReadsParts, EachReads, ReadsBy, ReadsScalar}
+use Rattle.vx_scalar_wire.specs.Refusing.{IsPartType, IsRefused, IsRefusedScalar, IsUnreadType}
 use Rattle.vx_scalar_wire.specs.declared.error.ScalarWireError.{ScalarWireError}
-use Rattle.vx_scalar_wire.specs.declared.error.ScalarWireError.TheVariants.{OutOfMemory}
+use Rattle.vx_scalar_wire.specs.declared.error.ScalarWireError.TheVariants.{OutOfMemory, BadDType}
 
 -- A message that holds one member.
 abbrev pub lone_member : ℕ → Content → Value
 lone_member g c = ((g, c) ∷ []) ∷ []
 
--- Nothing is read at a type of a message in which at most so many messages nest.
-abbrev pub IsUnread : ExtMeaning → ℕ → Typ → Value → Type 0
-IsUnread s most d m = (v : V.Value) → ReadsValue s v d m → most < nested m
-
--- Why no value is given: nothing is read. Want of memory has no cause.
-abbrev pub FailsValue : ScalarWireError → ExtMeaning → ℕ → Typ → Value → Type 0
-FailsValue OutOfMemory s most d m = Unit {0}
-FailsValue error s most d m = IsUnread s most d m
-
--- A reader gives what is read at a type, as view sees it, or it fails.
+-- A reader gives what is read at a type, as view sees it, or refuses with a cause.
 abbrev pub GivesValue : {X : Type 0} → (X → V.Value) → Result X ScalarWireError → ExtMeaning → ℕ → Typ → Value → Type 0
 GivesValue view (Ok x) s most d m = ReadsValue s (view x) d m
-GivesValue view (Err e) s most d m = FailsValue e s most d m
+GivesValue view (Err e) s most d m = IsRefused e s most d m
 
--- A number as an integer; none where it is a float.
-abbrev pub integer_of : PValue → Option ℤ
-integer_of (U8 n) = Some (pos n)
-integer_of (U16 n) = Some (pos n)
-integer_of (U32 n) = Some (pos n)
-integer_of (U64 n) = Some (pos n)
-integer_of (I8 z) = Some z
-integer_of (I16 z) = Some z
-integer_of (I32 z) = Some z
-integer_of (I64 z) = Some z
-integer_of (F16 bits) = None
-integer_of (F32 bits) = None
-integer_of (F64 bits) = None
+-- The same of a scalar.
+abbrev pub GivesScalar : Result Typed ScalarWireError → ExtMeaning → ℕ → Value → Type 0
+GivesScalar (Ok x) s most l = ReadsScalar s x l
+GivesScalar (Err e) s most l = IsRefusedScalar e s most l
+
+-- A reader gives the parts of a tuple from its messages, at a type that is no extension, or refuses the tuple at each type that is stored so.
+abbrev pub GivesParts : Result (List V.Value) ScalarWireError → ExtMeaning → ℕ → Typ → Value → Type 0
+GivesParts (Ok vs) s most d l = (ws : List Value) × (l ≡ all_messages 1 ws ∷ []) × ReadsParts (λ e. EachReads s (roses_of vs) e ws) (λ ts. ReadsBy s (roses_of vs) ts ws) d
+GivesParts (Err e) s most d l = (t : Typ) → bare t ≡ d → IsRefused e s most t (lone_member 9 (message (slots_of l)))
+
+-- What each message is read as at one type, whatever tuple holds them.
+abbrev pub GivesEach : Result (List V.Value) ScalarWireError → ExtMeaning → ℕ → Typ → Value → Type 0
+GivesEach (Ok vs) s most f l = (ws : List Value) × (l ≡ all_messages 1 ws ∷ []) × EachReads s (roses_of vs) f ws
+GivesEach (Err e) s most f l = (t : Typ) → ((i : ℕ) → IsPartType (bare t) i f) → IsRefused e s most t (lone_member 9 (message (slots_of l)))
+
+-- The same, one by one, of a structure's fields.
+abbrev pub GivesRow : Result (List V.Value) ScalarWireError → ExtMeaning → ℕ → Roses Kind → Value → Type 0
+GivesRow (Ok vs) s most ts l = (ws : List Value) × (l ≡ all_messages 1 ws ∷ []) × ReadsBy s (roses_of vs) ts ws
+GivesRow (Err e) s most ts l = (t : Typ) (ns : List (List ℕ)) (n : Nullability) → bare t ≡ node (structure ns n) ts → IsRefused e s most t (lone_member 9 (message (slots_of l)))
 
 -- ---- types
 
@@ -57,3 +57,9 @@ GivesType s t (Err e) = IsUnreadValue e s t
 -- What is answered to messages of types is what they are read as under readers of extensions.
 abbrev pub ReadsTypes : (Value → Result DType TypeWireError → Type 0) → ExtMeaning → Type 0
 ReadsTypes Answers s = (t : Value) (r : Result DType TypeWireError) → Answers t r → GivesType s t r
+
+-- A scalar's type is not read.
+abbrev pub IsRefusedType : ScalarWireError → ExtMeaning → Value → Type 0
+IsRefusedType OutOfMemory s t = Unit {0}
+IsRefusedType (BadDType r) s t = IsUnreadType r s t
+IsRefusedType _ s t = ⊥

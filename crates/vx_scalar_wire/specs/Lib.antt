@@ -3,4 +3,5 @@ pub mod Shallow
 pub mod Reading
 pub mod Writing
 pub mod Nans
+pub mod Refusing
 pub mod Answers

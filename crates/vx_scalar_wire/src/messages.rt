@@ -18,7 +18,7 @@ ghost use Rattle.vx_scalar_wire.specs.Writing.{Writes, IsUnwritten, IsUnwrittenB
 
 use crate::error::ScalarWireError;
 use crate::pb;
-use crate::reading::{MOST_LEVELS, scalar_in, value_in};
+use crate::reading::{read_scalar, read_value};
 use crate::writing::{scalar_slots, value_slots};
 use std::alloc::Global;
 use vx_proto::{Blob, Message, PlainMessage};
@@ -103,7 +103,7 @@ impl ScalarValueExt for ScalarValue {
         let read_type = |message: &types::DType| -> Result<DType, TypeWireError>
             ensures { GivesType (ext_meaning (λ b. accepted (b.vtable, b.value)) readers.entry.now) message.now result }
         { DType::from_proto(alloc, message, readers) };
-        value_in(alloc, slots, dtype, &read_type, MOST_LEVELS)
+        read_value(alloc, slots, dtype, &read_type)
     }
 
     /// The value, or the null, whose message these bytes are at a type.
@@ -169,7 +169,7 @@ impl ScalarExt for Scalar {
         let read_type = |message: &types::DType| -> Result<DType, TypeWireError>
             ensures { GivesType (ext_meaning (λ b. accepted (b.vtable, b.value)) readers.entry.now) message.now result }
         { DType::from_proto(alloc, message, readers) };
-        scalar_in(alloc, slots, &read_type, MOST_LEVELS)
+        read_scalar(alloc, slots, &read_type)
     }
 
     /// The scalar of a type whose value's message this is.

@@ -3,22 +3,23 @@
 pub mod leaves;
 pub mod numbers;
 
-ghost use Rattle.std.specs.Prelude.{◌≡◌, List, IfOk, Ok, Some, MatchOption, [], ◌∷◌};
+ghost use Rattle.std.specs.Prelude.{◌≡◌, ◌+◌, ◌*◌, ℕ, IfOk, IfErr, Ok, Some, None, MatchOption, [], ◌∷◌};
 ghost use Rattle.std.specs.Fn.{FnReturnsAt};
 ghost use Rattle.vx_trees.specs.Rose.{roses_of};
 ghost use Rattle.vx_proto.specs.Form.{HasForm};
-ghost use Rattle.vx_proto.specs.Value.{Value, view, value_view, message as a_message, slots_of, octets as some_octets};
+ghost use Rattle.vx_proto.specs.Value.{Value, view, value_view, message as a_message, slots_of};
 ghost use Rattle.vx_type_wire.specs.Known.{ExtMeaning};
-ghost use Rattle.vx_type_wire.specs.TypeMessage.{type_lists, all_messages};
+ghost use Rattle.vx_type_wire.specs.TypeMessage.{IsUnreadValue, type_lists};
 ghost use Rattle.vx_types.specs.Fits.{member};
 ghost use Rattle.vx_types.specs.Seen.{typ};
 ghost use Rattle.vx_scalars.specs.Seen.{value_of, seen};
-ghost use Rattle.vx_scalar_wire.specs.Answers.{ReadsTypes, lone_member};
-ghost use Rattle.vx_scalar_wire.specs.Reading.{ReadsValue, ReadsParts, EachReads, ReadsBy, ReadsScalar};
+ghost use Rattle.vx_scalar_wire.specs.Answers.{GivesEach, GivesParts, GivesRow, GivesScalar, GivesValue, IsRefusedType, ReadsTypes, lone_member};
+ghost use Rattle.vx_scalar_wire.specs.Reading.{ReadsValue, ReadsScalar};
+ghost use Rattle.vx_scalar_wire.specs.Refusing.{IsRefused, IsRefusedScalar};
 ghost use Rattle.vx_scalar_wire.specs.ScalarMessage.{scalar_lists};
 
 use crate::error::{ScalarWireError, TypeRefusal};
-use crate::reading::leaves::{bytes_value, text_value};
+use crate::reading::leaves::octets_value;
 use crate::reading::numbers::number_value;
 use std::alloc::Global;
 use vx_proto::{
@@ -28,13 +29,46 @@ use vx_scalars::{Scalar, ScalarValue, ValueRef, Values, VariantRef, bare_dtype};
 use vx_type_wire::{TypeWireError, pb};
 use vx_types::{DType, StructFields, UnionVariants};
 
-/// At most so many levels of values are read: each nests two messages.
-pub const MOST_LEVELS: u8 = 50;
+// At most so many levels of values are read: each nests two messages.
+const MOST_LEVELS: u8 = 50;
 
-/// The value whose message has this plain value, at a type, where it has at most
-/// so many levels; `None` is a null.
+/// The value whose message has this plain value, at a type; `None` is a null.
+pub fn read_value<F: Fn(&pb::DType) -> Result<DType, TypeWireError>>(
+    alloc: Global,
+    slots: &[Entries],
+    dtype: &DType,
+    types: &F,
+) -> Result<Option<ScalarValue>, ScalarWireError>
+    requires call { F.IsAlwaysCallable types.now }
+    requires form { HasForm scalar_lists 15 (value_view slots.now) }
+    ensures read { (s : ExtMeaning) → ReadsTypes (λ t r. FnReturnsAt F.Fn types.now t r) s
+        → IfOk result (λ x. ReadsValue s (seen x) (typ dtype.now) (value_view slots.now)) }
+    ensures cause { (s : ExtMeaning) → ReadsTypes (λ t r. FnReturnsAt F.Fn types.now t r) s
+        → IfErr result (λ e. IsRefused e s 100 (typ dtype.now) (value_view slots.now)) }
+{
+    value_in(alloc, slots, dtype, types, MOST_LEVELS)
+}
+
+/// The scalar whose message has this plain value.
+pub fn read_scalar<F: Fn(&pb::DType) -> Result<DType, TypeWireError>>(
+    alloc: Global,
+    slots: &[Entries],
+    types: &F,
+) -> Result<Scalar, ScalarWireError>
+    requires call { F.IsAlwaysCallable types.now }
+    requires form { HasForm scalar_lists 14 (value_view slots.now) }
+    ensures read { (s : ExtMeaning) → ReadsTypes (λ t r. FnReturnsAt F.Fn types.now t r) s
+        → IfOk result (λ x. ReadsScalar s x (value_view slots.now)) }
+    ensures cause { (s : ExtMeaning) → ReadsTypes (λ t r. FnReturnsAt F.Fn types.now t r) s
+        → IfErr result (λ e. IsRefusedScalar e s 100 (value_view slots.now)) }
+{
+    scalar_in(alloc, slots, types, MOST_LEVELS)
+}
+
+// The value whose message has this plain value, at a type, where it has at most
+// so many levels; `None` is a null.
 #[cycle(reading)]
-pub fn value_in<F: Fn(&pb::DType) -> Result<DType, TypeWireError>>(
+fn value_in<F: Fn(&pb::DType) -> Result<DType, TypeWireError>>(
     alloc: Global,
     slots: &[Entries],
     dtype: &DType,
@@ -44,7 +78,7 @@ pub fn value_in<F: Fn(&pb::DType) -> Result<DType, TypeWireError>>(
     requires call { F.IsAlwaysCallable types.now }
     requires form { HasForm scalar_lists 15 (value_view slots.now) }
     ensures read { (s : ExtMeaning) → ReadsTypes (λ t r. FnReturnsAt F.Fn types.now t r) s
-        → IfOk result (λ x. ReadsValue s (seen x) (typ dtype.now) (value_view slots.now)) }
+        → GivesValue seen result s (2 * left) (typ dtype.now) (value_view slots.now) }
 {
     if left == 0 {
         return Err(ScalarWireError::TooDeep);
@@ -70,22 +104,6 @@ fn member_in(slots: &[Entries]) -> Option<&Entry>
     }
 }
 
-// What the octets of a member are read as: a string, or bytes.
-fn octets_value(
-    alloc: Global,
-    number: u32,
-    bytes: &[u8],
-    dtype: &DType,
-) -> Result<Option<ScalarValue>, ScalarWireError>
-    ensures read { (s : ExtMeaning) → IfOk result (λ x. ReadsValue s (seen x) (typ dtype.now) (lone_member number (some_octets bytes.now))) }
-{
-    match number {
-        7 => Ok(Some(text_value(alloc, number, bytes, dtype)?)),
-        8 => Ok(Some(bytes_value(alloc, bytes, dtype)?)),
-        _ => Err(ScalarWireError::MissingKind),
-    }
-}
-
 // What the message of a member is read as: a list, a union's value or a variant.
 #[cycle(reading)]
 fn message_value<F: Fn(&pb::DType) -> Result<DType, TypeWireError>>(
@@ -99,7 +117,7 @@ fn message_value<F: Fn(&pb::DType) -> Result<DType, TypeWireError>>(
     requires call { F.IsAlwaysCallable types.now }
     requires form { HasForm scalar_lists 15 (lone_member number (a_message (slots_of (value_view slots.now)))) }
     ensures read { (s : ExtMeaning) → ReadsTypes (λ t r. FnReturnsAt F.Fn types.now t r) s
-        → IfOk result (λ x. ReadsValue s (seen x) (typ dtype.now) (lone_member number (a_message (slots_of (value_view slots.now))))) }
+        → GivesValue seen result s (2 * left + 2) (typ dtype.now) (lone_member number (a_message (slots_of (value_view slots.now)))) }
 {
     match number {
         9 => Ok(Some(list_value(alloc, slots, dtype, types, left)?)),
@@ -121,7 +139,7 @@ fn list_value<F: Fn(&pb::DType) -> Result<DType, TypeWireError>>(
     requires call { F.IsAlwaysCallable types.now }
     requires form { HasForm scalar_lists 16 (value_view slots.now) }
     ensures read { (s : ExtMeaning) → ReadsTypes (λ t r. FnReturnsAt F.Fn types.now t r) s
-        → IfOk result (λ x. ReadsValue s (value_of x) (typ dtype.now) (lone_member 9 (a_message (slots_of (value_view slots.now))))) }
+        → GivesValue value_of result s (2 * left + 2) (typ dtype.now) (lone_member 9 (a_message (slots_of (value_view slots.now)))) }
 {
     let values = parts_of(alloc, slots, bare_dtype(dtype), types, left)?;
     Ok(ScalarValue::Tuple(values))
@@ -140,8 +158,7 @@ fn parts_of<F: Fn(&pb::DType) -> Result<DType, TypeWireError>>(
     requires call { F.IsAlwaysCallable types.now }
     requires form { HasForm scalar_lists 16 (value_view slots.now) }
     ensures read { (s : ExtMeaning) → ReadsTypes (λ t r. FnReturnsAt F.Fn types.now t r) s
-        → IfOk result (λ vs. (ws : List Value) × (value_view slots.now ≡ all_messages 1 ws ∷ [])
-        × ReadsParts (λ e. EachReads s (roses_of vs) e ws) (λ ts. ReadsBy s (roses_of vs) ts ws) (typ dtype.now)) }
+        → GivesParts result s (2 * left + 2) (typ dtype.now) (value_view slots.now) }
 {
     match dtype {
         DType::List(element, _) => each_value(alloc, slots, element.get(), types, left),
@@ -167,7 +184,7 @@ fn each_value<F: Fn(&pb::DType) -> Result<DType, TypeWireError>>(
     requires call { F.IsAlwaysCallable types.now }
     requires form { HasForm scalar_lists 16 (value_view slots.now) }
     ensures read { (s : ExtMeaning) → ReadsTypes (λ t r. FnReturnsAt F.Fn types.now t r) s
-        → IfOk result (λ vs. (ws : List Value) × (value_view slots.now ≡ all_messages 1 ws ∷ []) × EachReads s (roses_of vs) (typ dtype.now) ws) }
+        → GivesEach result s (2 * left + 2) (typ dtype.now) (value_view slots.now) }
 {
     let members = entries_at(slots, 0);
     let mut values = Values::new(alloc);
@@ -192,7 +209,7 @@ fn field_values<F: Fn(&pb::DType) -> Result<DType, TypeWireError>>(
     requires call { F.IsAlwaysCallable types.now }
     requires form { HasForm scalar_lists 16 (value_view slots.now) }
     ensures read { (s : ExtMeaning) → ReadsTypes (λ t r. FnReturnsAt F.Fn types.now t r) s
-        → IfOk result (λ vs. (ws : List Value) × (value_view slots.now ≡ all_messages 1 ws ∷ []) × ReadsBy s (roses_of vs) (roses_of fields.now.types) ws) }
+        → GivesRow result s (2 * left + 2) (roses_of fields.now.types) (value_view slots.now) }
 {
     let members = entries_at(slots, 0);
     let dtypes = fields.fields().as_slice();
@@ -221,7 +238,7 @@ fn union_value<F: Fn(&pb::DType) -> Result<DType, TypeWireError>>(
     requires call { F.IsAlwaysCallable types.now }
     requires form { HasForm scalar_lists 17 (value_view slots.now) }
     ensures read { (s : ExtMeaning) → ReadsTypes (λ t r. FnReturnsAt F.Fn types.now t r) s
-        → IfOk result (λ x. ReadsValue s (value_of x) (typ dtype.now) (lone_member 11 (a_message (slots_of (value_view slots.now))))) }
+        → GivesValue value_of result s (2 * left + 2) (typ dtype.now) (lone_member 11 (a_message (slots_of (value_view slots.now)))) }
 {
     let DType::Union(variants, _) = bare_dtype(dtype) else {
         return Err(ScalarWireError::KindMismatch);
@@ -246,7 +263,8 @@ fn union_value<F: Fn(&pb::DType) -> Result<DType, TypeWireError>>(
 
 // The type of the member that has a tag.
 fn member_type(variants: &UnionVariants, tag: u8) -> Result<&DType, ScalarWireError>
-    ensures { IfOk result (λ d. member tag variants.now.ids (roses_of variants.now.types) ≡ Some (typ d.now)) }
+    ensures found { IfOk result (λ d. member tag variants.now.ids (roses_of variants.now.types) ≡ Some (typ d.now)) }
+    ensures none { IfErr result (λ e. (e ≡ ScalarWireError.BadChild) × (member tag variants.now.ids (roses_of variants.now.types) ≡ None)) }
 {
     variants.hold();
     match variants.tag_to_child_index(tag) {
@@ -267,7 +285,7 @@ fn variant_value<F: Fn(&pb::DType) -> Result<DType, TypeWireError>>(
     requires call { F.IsAlwaysCallable types.now }
     requires form { HasForm scalar_lists 14 (value_view slots.now) }
     ensures read { (s : ExtMeaning) → ReadsTypes (λ t r. FnReturnsAt F.Fn types.now t r) s
-        → IfOk result (λ x. ReadsValue s (value_of x) (typ dtype.now) (lone_member 12 (a_message (slots_of (value_view slots.now))))) }
+        → GivesValue value_of result s (2 * left + 2) (typ dtype.now) (lone_member 12 (a_message (slots_of (value_view slots.now)))) }
 {
     let DType::Variant(_) = bare_dtype(dtype) else {
         return Err(ScalarWireError::KindMismatch);
@@ -276,10 +294,10 @@ fn variant_value<F: Fn(&pb::DType) -> Result<DType, TypeWireError>>(
     Ok(ScalarValue::Variant(VariantRef::new(alloc, scalar)?))
 }
 
-/// The scalar whose message has this plain value, where its value has at most so
-/// many levels.
+// The scalar whose message has this plain value, where its value has at most so
+// many levels.
 #[cycle(reading)]
-pub fn scalar_in<F: Fn(&pb::DType) -> Result<DType, TypeWireError>>(
+fn scalar_in<F: Fn(&pb::DType) -> Result<DType, TypeWireError>>(
     alloc: Global,
     slots: &[Entries],
     types: &F,
@@ -288,7 +306,7 @@ pub fn scalar_in<F: Fn(&pb::DType) -> Result<DType, TypeWireError>>(
     requires call { F.IsAlwaysCallable types.now }
     requires form { HasForm scalar_lists 14 (value_view slots.now) }
     ensures read { (s : ExtMeaning) → ReadsTypes (λ t r. FnReturnsAt F.Fn types.now t r) s
-        → IfOk result (λ x. ReadsScalar s x (value_view slots.now)) }
+        → GivesScalar result s (2 * left) (value_view slots.now) }
 {
     let Some(type_slots) = message_at(slots, 0) else {
         return Err(ScalarWireError::MissingKind);
@@ -298,7 +316,10 @@ pub fn scalar_in<F: Fn(&pb::DType) -> Result<DType, TypeWireError>>(
     };
     let dtype = type_in(alloc, type_slots, types)?;
     let value = value_in(alloc, value_slots, &dtype, types, left)?;
-    Ok(Scalar::try_new(dtype, value)?)
+    match Scalar::try_new(dtype, value) {
+        Ok(scalar) => Ok(scalar),
+        Err(_) => Err(ScalarWireError::BadScalar),
+    }
 }
 
 // The type whose message has this plain value.
@@ -310,17 +331,32 @@ fn type_in<F: Fn(&pb::DType) -> Result<DType, TypeWireError>>(
     requires call { F.IsAlwaysCallable types.now }
     requires form { HasForm type_lists 0 (value_view slots.now) }
     ensures read { IfOk result (λ d. FnReturnsAt F.Fn types.now (value_view slots.now) (Ok d)) }
+    ensures cause { (s : ExtMeaning) → ReadsTypes (λ t r. FnReturnsAt F.Fn types.now t r) s → IfErr result (λ e. IsRefusedType e s (value_view slots.now)) }
 {
     let message = PlainMessage::new(copied_slots(alloc, slots)?);
     match types(&message) {
         Ok(dtype) => Ok(dtype),
-        Err(TypeWireError::OutOfMemory) => Err(ScalarWireError::OutOfMemory),
-        Err(TypeWireError::UnknownExtension) => {
-            Err(ScalarWireError::BadDType(TypeRefusal::UnknownExtension))
+        Err(error) => Err(type_refusal(error)),
+    }
+}
+
+// The refusal of a scalar whose type is refused so.
+fn type_refusal(error: TypeWireError) -> ScalarWireError
+    ensures { (s : ExtMeaning) (t : Value) → IsUnreadValue error s t → IsRefusedType result s t }
+{
+    match error {
+        TypeWireError::OutOfMemory => ScalarWireError::OutOfMemory,
+        TypeWireError::UnknownExtension => {
+            ScalarWireError::BadDType(TypeRefusal::UnknownExtension)
         }
-        Err(TypeWireError::ExtensionRefused) => {
-            Err(ScalarWireError::BadDType(TypeRefusal::ExtensionRefused))
+        TypeWireError::ExtensionRefused => {
+            ScalarWireError::BadDType(TypeRefusal::ExtensionRefused)
         }
-        Err(_) => Err(ScalarWireError::BadDType(TypeRefusal::BadType)),
+        TypeWireError::BadType
+        | TypeWireError::BadTable
+        | TypeWireError::TableLimit
+        | TypeWireError::BadMessage
+        | TypeWireError::TooDeep
+        | TypeWireError::WireLimit => ScalarWireError::BadDType(TypeRefusal::BadType),
     }
 }

@@ -1,6 +1,6 @@
 //! What the octets of a member are read as.
 
-ghost use Rattle.std.specs.Prelude.{◌≡◌, ◌≤◌, ◌⊎◌, length, take, IfOk};
+ghost use Rattle.std.specs.Prelude.{◌≡◌, ◌≤◌, ◌⊎◌, ℕ, [], ◌∷◌, false, length, take, IfOk, IfErr};
 ghost use Rattle.vx_proto.specs.Value.{octets as some_octets};
 ghost use Rattle.vx_type_wire.specs.Known.{ExtMeaning};
 ghost use Rattle.vx_types.specs.Content.{IsText};
@@ -8,46 +8,39 @@ ghost use Rattle.vx_types.specs.Seen.{typ};
 ghost use Rattle.vx_types.specs.Value as V;
 ghost use Rattle.vx_types.specs.Well.{IsDecimalInRange};
 ghost use Rattle.vx_scalars.specs.Decimals.{decimal_of as decimal_view};
-ghost use Rattle.vx_scalars.specs.Seen.{value_of};
-ghost use Rattle.vx_scalar_wire.specs.Answers.{lone_member};
-ghost use Rattle.vx_scalar_wire.specs.Reading.{ReadsValue};
-ghost use Rattle.vx_scalar_wire.specs.ScalarMessage.{decimal_bytes};
+ghost use Rattle.vx_scalars.specs.Seen.{value_of, seen};
+ghost use Rattle.vx_proto.specs.Form.{HasForm};
+ghost use Rattle.vx_scalar_wire.specs.Answers.{GivesValue, lone_member};
+ghost use Rattle.vx_scalar_wire.specs.Refusing.{is_one_of};
+ghost use Rattle.vx_scalar_wire.specs.ScalarMessage.{decimal_bytes, scalar_lists};
 
 use crate::error::ScalarWireError;
 use std::alloc::Global;
 use vx_scalars::{DecimalValue, ScalarValue, bare_dtype};
 use vx_types::{Blob, DType, Name};
 
-/// What a string, or bytes, are read as at a type: a text where they are one, or
-/// bytes.
-pub fn text_value(
+/// What a string or bytes are read as at a type: a text where they are one, or
+/// bytes; bytes as a decimal's integer, too, by how many they are.
+pub fn octets_value(
     alloc: Global,
     number: u32,
     bytes: &[u8],
     dtype: &DType,
-) -> Result<ScalarValue, ScalarWireError>
-    requires { (number ≡ 7) ⊎ (number ≡ 8) }
-    ensures read { (s : ExtMeaning) → IfOk result (λ x. ReadsValue s (value_of x) (typ dtype.now) (lone_member number (some_octets bytes.now))) }
+) -> Result<Option<ScalarValue>, ScalarWireError>
+    requires { HasForm scalar_lists 15 (lone_member number (some_octets bytes.now)) }
+    ensures read { (s : ExtMeaning) (most : ℕ) → GivesValue seen result s most (typ dtype.now) (lone_member number (some_octets bytes.now)) }
 {
     match bare_dtype(dtype) {
-        DType::Utf8(_) => text_of(alloc, bytes),
-        DType::Binary(_) => Ok(ScalarValue::Binary(Blob::copy_from(alloc, bytes)?)),
+        DType::Utf8(_) => match text_of(alloc, bytes) {
+            Ok(text) => Ok(Some(text)),
+            Err(error) => Err(error),
+        },
+        DType::Binary(_) => Ok(Some(ScalarValue::Binary(Blob::copy_from(alloc, bytes)?))),
+        DType::Decimal(_, _) => match number {
+            8 => Ok(Some(ScalarValue::Decimal(decimal_of(bytes)?))),
+            _ => Err(ScalarWireError::KindMismatch),
+        },
         _ => Err(ScalarWireError::KindMismatch),
-    }
-}
-
-/// What bytes are read as at a type: bytes, a text where they are one, or a
-/// decimal's integer by how many they are.
-pub fn bytes_value(
-    alloc: Global,
-    bytes: &[u8],
-    dtype: &DType,
-) -> Result<ScalarValue, ScalarWireError>
-    ensures read { (s : ExtMeaning) → IfOk result (λ x. ReadsValue s (value_of x) (typ dtype.now) (lone_member 8 (some_octets bytes.now))) }
-{
-    match bare_dtype(dtype) {
-        DType::Decimal(_, _) => Ok(ScalarValue::Decimal(decimal_of(bytes)?)),
-        _ => text_value(alloc, 8, bytes, dtype),
     }
 }
 
@@ -55,6 +48,7 @@ pub fn bytes_value(
 fn text_of(alloc: Global, bytes: &[u8]) -> Result<ScalarValue, ScalarWireError>
     ensures same { IfOk result (λ x. value_of x ≡ V.lone (V.utf8 bytes.now)) }
     ensures is_text { IfOk result (λ _. IsText bytes.now) }
+    ensures cause { IfErr result (λ e. (e ≡ ScalarWireError.OutOfMemory) ⊎ ((e ≡ ScalarWireError.BadScalar) × (IsText bytes.now → ⊥))) }
 {
     match std::str::from_utf8(bytes) {
         Ok(text) => Ok(ScalarValue::Utf8(Name::new(alloc, text)?)),
@@ -66,6 +60,7 @@ fn text_of(alloc: Global, bytes: &[u8]) -> Result<ScalarValue, ScalarWireError>
 fn decimal_of(bytes: &[u8]) -> Result<DecimalValue, ScalarWireError>
     ensures same { IfOk result (λ x. decimal_bytes (decimal_view x) ≡ bytes.now) }
     ensures fits { IfOk result (λ x. IsDecimalInRange (decimal_view x)) }
+    ensures cause { IfErr result (λ e. (e ≡ ScalarWireError.OutOfRange) × (is_one_of (length bytes.now) (1 ∷ 2 ∷ 4 ∷ 8 ∷ 16 ∷ 32 ∷ []) ≡ false)) }
 {
     let decimal = match bytes.len() {
         1 => DecimalValue::I8(bytes[0].cast_signed()),

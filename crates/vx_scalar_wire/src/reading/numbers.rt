@@ -14,9 +14,9 @@ ghost use Rattle.vx_type_wire.specs.Known.{ExtMeaning};
 ghost use Rattle.vx_types.specs.Seen.{typ};
 ghost use Rattle.vx_scalars.specs.Seen.{value_of, seen};
 ghost use Rattle.vx_proto.specs.Form.{HasForm};
-ghost use Rattle.vx_scalar_wire.specs.Reading.{ReadsValue};
+ghost use Rattle.vx_scalar_wire.specs.Refusing.{IsNoInteger, integer_of};
 ghost use Rattle.vx_scalar_wire.specs.ScalarMessage.{scalar_lists};
-ghost use Rattle.vx_scalar_wire.specs.Answers.{GivesValue, integer_of, lone_member};
+ghost use Rattle.vx_scalar_wire.specs.Answers.{GivesValue, lone_member};
 
 use crate::error::ScalarWireError;
 use vx_proto::unzigzag;
@@ -30,8 +30,8 @@ pub fn number_value(
     value: u64,
     dtype: &DType,
 ) -> Result<Option<ScalarValue>, ScalarWireError>
-    ensures read { (s : ExtMeaning) → HasForm scalar_lists 15 (lone_member number (a_number value))
-        → IfOk result (λ x. ReadsValue s (seen x) (typ dtype.now) (lone_member number (a_number value))) }
+    requires { HasForm scalar_lists 15 (lone_member number (a_number value)) }
+    ensures read { (s : ExtMeaning) (most : ℕ) → GivesValue seen result s most (typ dtype.now) (lone_member number (a_number value)) }
 {
     match number {
         1 => Ok(None),
@@ -46,9 +46,10 @@ pub fn number_value(
 }
 
 // A flag.
-#[tactic(auto, using(crate::proofs::Leaves::flag_read, crate::proofs::Leaves::flag_unread))]
+#[tactic(auto, using(crate::proofs::Leaves::flag_read))]
 fn flag_value(value: u64, dtype: &DType) -> Result<ScalarValue, ScalarWireError>
-    ensures { (s : ExtMeaning) (most : ℕ) → value < 2 → GivesValue value_of result s most (typ dtype.now) (lone_member 2 (a_number value)) }
+    requires { value < 2 }
+    ensures { (s : ExtMeaning) (most : ℕ) → GivesValue value_of result s most (typ dtype.now) (lone_member 2 (a_number value)) }
 {
     match bare_dtype(dtype) {
         DType::Bool(_) => Ok(ScalarValue::Bool(value != 0)),
@@ -69,7 +70,6 @@ fn kind_at(dtype: &DType) -> Result<PType, ScalarWireError>
 }
 
 // An integer that stands as one with sign.
-#[tactic(auto, using(crate::proofs::Leaves::signed_given, crate::proofs::Leaves::no_kind))]
 fn signed(value: i64, dtype: &DType) -> Result<PValue, ScalarWireError>
     ensures { (s : ExtMeaning) (most : ℕ) → GivesValue (λ n. V.lone (V.number n)) result s most (typ dtype.now) (lone_member 3 (a_number (zigzag value))) }
 {
@@ -80,7 +80,6 @@ fn signed(value: i64, dtype: &DType) -> Result<PValue, ScalarWireError>
 }
 
 // An integer that stands as one without sign, or the bits of a float of 16.
-#[tactic(auto, using(crate::proofs::Leaves::no_kind))]
 fn unsigned(value: u64, dtype: &DType) -> Result<PValue, ScalarWireError>
     ensures { (s : ExtMeaning) (most : ℕ) → GivesValue (λ n. V.lone (V.number n)) result s most (typ dtype.now) (lone_member 4 (a_number value)) }
 {
@@ -94,7 +93,6 @@ fn unsigned(value: u64, dtype: &DType) -> Result<PValue, ScalarWireError>
 }
 
 // A float of 16 bits.
-#[tactic(auto, using(crate::proofs::Leaves::no_kind))]
 fn half(value: u64, dtype: &DType) -> Result<PValue, ScalarWireError>
     ensures { (s : ExtMeaning) (most : ℕ) → GivesValue (λ n. V.lone (V.number n)) result s most (typ dtype.now) (lone_member 10 (a_number value)) }
 {
@@ -111,7 +109,7 @@ fn half(value: u64, dtype: &DType) -> Result<PValue, ScalarWireError>
 fn half_of(value: u64) -> Result<PValue, ScalarWireError>
     ensures same { IfOk result (λ n. n ≡ PValue.F16 value) }
     ensures fits { IfOk result (λ n. IsInRange n) }
-    ensures none { IfErr result (λ e. IsInRange (PValue.F16 value) → ⊥) }
+    ensures none { IfErr result (λ e. (e ≡ ScalarWireError.OutOfRange) × (IsInRange (PValue.F16 value) → ⊥)) }
 {
     if value > 0xffff {
         return Err(ScalarWireError::OutOfRange);
@@ -120,7 +118,6 @@ fn half_of(value: u64) -> Result<PValue, ScalarWireError>
 }
 
 // A float of 32 bits.
-#[tactic(auto, using(crate::proofs::Leaves::no_kind))]
 fn single(value: u64, dtype: &DType) -> Result<PValue, ScalarWireError>
     ensures { (s : ExtMeaning) (most : ℕ) → GivesValue (λ n. V.lone (V.number n)) result s most (typ dtype.now) (lone_member 5 (a_number value)) }
 {
@@ -137,7 +134,7 @@ fn single(value: u64, dtype: &DType) -> Result<PValue, ScalarWireError>
 fn single_of(value: u64) -> Result<PValue, ScalarWireError>
     ensures same { IfOk result (λ n. n ≡ PValue.F32 value) }
     ensures fits { IfOk result (λ n. IsInRange n) }
-    ensures none { IfErr result (λ e. IsInRange (PValue.F32 value) → ⊥) }
+    ensures none { IfErr result (λ e. (e ≡ ScalarWireError.OutOfRange) × (IsInRange (PValue.F32 value) → ⊥)) }
 {
     if value > 0xffff_ffff {
         return Err(ScalarWireError::OutOfRange);
@@ -146,7 +143,6 @@ fn single_of(value: u64) -> Result<PValue, ScalarWireError>
 }
 
 // A float of 64 bits.
-#[tactic(auto, using(crate::proofs::Leaves::no_kind))]
 fn double(value: u64, dtype: &DType) -> Result<PValue, ScalarWireError>
     ensures { (s : ExtMeaning) (most : ℕ) → GivesValue (λ n. V.lone (V.number n)) result s most (typ dtype.now) (lone_member 6 (a_number value)) }
 {
@@ -160,11 +156,12 @@ fn double(value: u64, dtype: &DType) -> Result<PValue, ScalarWireError>
 }
 
 // An integer as a number of a kind.
+#[tactic(auto, using(crate::proofs::Leaves::integers))]
 fn integer(value: i128, kind: PType) -> Result<PValue, ScalarWireError>
     ensures kind { IfOk result (λ n. kind_of n ≡ kind) }
     ensures same { IfOk result (λ n. integer_of n ≡ Some value) }
     ensures fits { IfOk result (λ n. IsInRange n) }
-    ensures none { IfErr result (λ e. (n : PValue) → kind_of n ≡ kind → IsInRange n → integer_of n ≡ Some value → ⊥) }
+    ensures none { IfErr result (λ e. IsNoInteger e kind value) }
 {
     match kind {
         PType::U8 if 0 <= value && value < 1 << 8 => Ok(PValue::U8(value as u8)),
