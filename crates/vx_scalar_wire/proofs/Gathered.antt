@@ -1,13 +1,13 @@
 -- Values gathered one by one from the elements of a list's message.
 use Rattle.std.proofs.Common.{◌≡◌, ◌∙◌, ◌<◌, ◌≤◌, ◌+◌, ℕ, zero, suc, List, [], ◌∷◌, ◌++◌, length, get_or, take, drop, refl, sym, ap, subst, add-one, arith}
-use Rattle.std.specs.Prelude.{IfOk, Result, Ok, Err, Some}
+use Rattle.std.specs.Prelude.{Result, Ok, Err, Some}
 use Rattle.vx_trees.specs.Rose.{Roses, node, end, more, roses_of}
 use Rattle.vx_proto.specs.declared.element.Element.{Element}
 use Rattle.vx_proto.specs.Repeated.{messages, seen, as_message}
 use Rattle.vx_proto.specs.Value.{Value, message, slots_of, entries_view}
 use Rattle.vx_proto.proofs.LawsOfRepeated.{member_read, all_read}
 use Rattle.vx_type_wire.specs.Known.{ExtMeaning, IsRead}
-use Rattle.vx_type_wire.specs.TypeMessage.{IsMessageOf, all_messages, one_number, one_message}
+use Rattle.vx_type_wire.specs.TypeMessage.{IsMessageOf, one_number, one_message}
 use Rattle.vx_types.specs.Fits.{Fits, FitBy, FitsMember, IsVariant, bare, member}
 use Rattle.vx_types.specs.Kind.{Kind, structure, union}
 use Rattle.vx_types.specs.declared.nullability.Nullability.{Nullability}

@@ -1,6 +1,6 @@
 -- Members without messages in them, at a type: what is read of them, and why they are refused.
 use Rattle.std.specs.Prelude.{IfOk, IfErr, Result, Ok, Err}
-use Rattle.std.proofs.Common.{◌≡◌, ◌∙◌, ◌⊎◌, Bool, false, true, ℕ, ℤ, pos, List, [], ◌∷◌, Some, refl, sym, ap, subst, inl, inr}
+use Rattle.std.proofs.Common.{◌≡◌, ◌⊎◌, Bool, false, true, ℕ, ℤ, pos, List, ◌∷◌, Some, refl, sym, ap, subst, inl, inr}
 use Rattle.vx_proto.specs.Parts.{flag_number}
 use Rattle.vx_proto.specs.Signed.{zigzag}
 use Rattle.vx_proto.specs.Value.{Content, number, octets}

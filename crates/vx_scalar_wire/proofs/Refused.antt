@@ -1,11 +1,11 @@
 -- From the cause of a refusal in a message to that of the message round it.
 use Rattle.std.specs.Prelude.{IfErr, IfOk, Option, Result, Ok, Err}
-use Rattle.std.proofs.Common.{◌≡◌, ◌∙◌, ◌+◌, ◌<◌, ◌≤◌, ◌⊎◌, ℕ, zero, suc, List, [], ◌∷◌, Some, None, get_or, length, refl, sym, ap, subst, inl, inr, arith}
+use Rattle.std.proofs.Common.{◌≡◌, ◌∙◌, ◌+◌, ◌<◌, ◌≤◌, ℕ, zero, suc, List, [], ◌∷◌, Some, None, get_or, length, refl, sym, ap, subst, inl, inr, arith}
 use Rattle.vx_trees.specs.Rose.{Roses, node, end, more, count, roses_of}
 use Rattle.vx_proto.specs.declared.element.Element.{Element}
 use Rattle.vx_proto.specs.Parts.{entries_in, message_in, number_in}
 use Rattle.vx_proto.specs.Repeated.{seen}
-use Rattle.vx_proto.specs.Value.{Content, Entry, Value, message, slots_of, entries_of, entries_view}
+use Rattle.vx_proto.specs.Value.{Entry, Value, message, slots_of, entries_of, entries_view}
 use Rattle.vx_proto.specs.Written.{nested, content_depth, entries_depth, slots_depth}
 use Rattle.vx_proto.proofs.LawsOfViews.{slot_depth_in}
 use Rattle.vx_type_wire.specs.Known.{ExtMeaning, IsRead}
@@ -22,9 +22,9 @@ use Rattle.vx_types.specs.declared.dtype.DType.{DType}
 use Rattle.vx_types.specs.declared.nullability.Nullability.{Nullability}
 use Rattle.vx_scalar_wire.specs.Answers.{GivesScalar, GivesValue, IsRefusedType, lone_member}
 use Rattle.vx_scalar_wire.specs.Reading.{ReadsScalar, ReadsValue}
-use Rattle.vx_scalar_wire.specs.Refusing.{IsOtherCount, OfUnion, IsAt, IsFieldAt, IsPartType, IsPart, IsCause, IsScalarCause, IsRefused, IsRefusedScalar}
+use Rattle.vx_scalar_wire.specs.Refusing.{IsOtherCount, OfUnion, IsAt, IsFieldAt, IsPartType, IsPart, IsCause, IsRefused, IsRefusedScalar}
 use Rattle.vx_scalar_wire.specs.declared.error.ScalarWireError.{ScalarWireError}
-use Rattle.vx_scalar_wire.specs.declared.error.ScalarWireError.TheVariants.{OutOfMemory, BadMessage, TooDeep, MissingKind, KindMismatch, OutOfRange, BadChild, BadScalar, BadDType}
+use Rattle.vx_scalar_wire.specs.declared.error.ScalarWireError.TheVariants.{OutOfMemory, TooDeep, MissingKind, OutOfRange, BadChild, BadScalar, BadDType}
 
 at_depth : (es : List Entry) (i n : ℕ) (u : Value) → IsAt es i (n, message (slots_of u)) → suc (slots_depth (slots_of u)) ≤ entries_depth (entries_of es)
 at_depth [] i n u h = absurd h

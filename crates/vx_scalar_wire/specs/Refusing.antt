@@ -2,7 +2,7 @@
 use Rattle.std.specs.Prelude.{ℕ, zero, suc, ℤ, pos, ◌<◌, eqb, if◌then◌else◌, ◌≡◌, ◌⊎◌, Bool, true, false, List, [], ◌∷◌, length, Option, Some, None}
 use Rattle.vx_trees.specs.Rose.{Roses, node, end, more, count}
 use Rattle.vx_proto.specs.Parts.{entries_in, message_in, number_in}
-use Rattle.vx_proto.specs.Value.{Content, Entry, Value, number, octets, message, slots_of}
+use Rattle.vx_proto.specs.Value.{Content, Entry, Value, octets, message, slots_of}
 use Rattle.vx_proto.specs.Written.{nested}
 use Rattle.vx_type_wire.specs.Known.{ExtMeaning, IsRead}
 use Rattle.vx_type_wire.specs.TypeMessage.{IsMessageOf, IsUnreadValue, one_number, one_message}

@@ -11,6 +11,7 @@ ghost use Rattle.vx_types.specs.Well.{IsWell};
 ghost use Rattle.vx_type_wire.specs.Session.{ext_meaning};
 ghost use Rattle.vx_scalar_wire.specs.Answers.{GivesType};
 ghost use Rattle.vx_scalar_wire.specs.Reading.{ReadsValue, ReadsScalar, ShowsValue, IsKnownValue};
+ghost use Rattle.vx_scalar_wire.specs.Refusing.{IsRefused, IsRefusedScalar};
 ghost use Rattle.vx_scalars.specs.Seen.{seen};
 ghost use Rattle.vx_scalar_wire.specs.ScalarMessage.{scalar_lists, value_message, scalar_message};
 ghost use Rattle.vx_scalar_wire.specs.Shallow.{IsShallow, IsShallowScalar};
@@ -95,6 +96,7 @@ impl ScalarValueExt for ScalarValue {
         readers: &ExtSession,
     ) -> Result<Option<ScalarValue>, ScalarWireError>
         ensures read { IfOk result (λ x. ReadsValue (ext_meaning (λ b. accepted (b.vtable, b.value)) readers.now) (seen x) (typ dtype.now) message.now) }
+        ensures cause { IfErr result (λ e. IsRefused e (ext_meaning (λ b. accepted (b.vtable, b.value)) readers.now) 100 (typ dtype.now) message.now) }
     {
         message.hold();
         let Some(slots) = message.slots() else {
@@ -161,6 +163,7 @@ impl ScalarExt for Scalar {
         readers: &ExtSession,
     ) -> Result<Scalar, ScalarWireError>
         ensures read { IfOk result (λ x. ReadsScalar (ext_meaning (λ b. accepted (b.vtable, b.value)) readers.now) x message.now) }
+        ensures cause { IfErr result (λ e. IsRefusedScalar e (ext_meaning (λ b. accepted (b.vtable, b.value)) readers.now) 100 message.now) }
     {
         message.hold();
         let Some(slots) = message.slots() else {

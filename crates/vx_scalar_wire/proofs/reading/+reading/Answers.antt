@@ -1,4 +1,4 @@
-use Rattle.std.proofs.Common.{rules, inl, inr, length, ◌≡◌, ◌∙◌, ◌+◌, ◌-◌, ◌*◌, ◌<◌, ◌⊎◌, ℕ, List, [], ◌∷◌, ◌++◌, take, Option, Ok, Err, refl, sym, ap, subst, arith}
+use Rattle.std.proofs.Common.{rules, ◌≡◌, ◌∙◌, ◌+◌, ◌-◌, ◌*◌, ℕ, List, [], ◌∷◌, ◌++◌, take, Option, Ok, Err, refl, sym, ap, subst, arith}
 use Rattle.vx_trees.specs.Rose.{node, end, more, roses_of}
 use Rattle.vx_proto.specs.Form.{HasForm}
 use Rattle.vx_proto.specs.Parts.{entries_in}
@@ -12,13 +12,13 @@ use Rattle.vx_types.specs.Typ.{Typ}
 use Rattle.vx_types.specs.Value as V
 use Rattle.vx_scalars.specs.Seen.{seen}
 use Rattle.vx_scalars.specs.declared.value.ScalarValue.{ScalarValue}
-use Rattle.vx_scalar_wire.specs.Answers.{GivesEach, GivesRow, GivesValue, IsRefusedType, lone_member}
-use Rattle.vx_scalar_wire.specs.Reading.{ReadsValue, ReadsParts, EachReads, ReadsBy}
+use Rattle.vx_scalar_wire.specs.Answers.{GivesEach, GivesRow, GivesValue, lone_member}
+use Rattle.vx_scalar_wire.specs.Reading.{ReadsParts, EachReads, ReadsBy}
 use Rattle.vx_scalar_wire.specs.ScalarMessage.{scalar_lists}
 use Rattle.vx_scalar_wire.proofs.Gathered.{further, done, each_more, fields_more, types_all, tuple_parts, row_parts, scalar_read, variant_read, union_read}
 use Rattle.vx_scalar_wire.proofs.Held.{message_name, no_message, no_tag, element, held_form, list_is, message_held, scalar_parts, union_parts}
 use Rattle.vx_scalar_wire.specs.Refusing.{IsAt, IsFieldAt, IsRefused, IsRefusedScalar, IsPartType}
-use Rattle.vx_scalar_wire.proofs.Refused.{large_tag, other_count, refused_type, unfit_scalar, unfit_value, unknown_tag, element_at, field_at, refused_element, refused_here, refused_member, refused_value, refused_variant}
+use Rattle.vx_scalar_wire.proofs.Refused.{large_tag, other_count, refused_type, unfit_scalar, unfit_value, unknown_tag, element_at, field_at, refused_element, refused_member, refused_value, refused_variant}
 use Rattle.vx_scalar_wire.proofs.reading.+reading.Goals as goal
 
 pub each_value-value_in-requires : goal.each_value-value_in-requires

@@ -1,4 +1,4 @@
-use Rattle.std.proofs.Common.{◌≡◌, ◌∙◌, ℕ, subst, sym, inl, arith}
+use Rattle.std.proofs.Common.{subst, sym, arith}
 use Rattle.vx_proto.specs.Value.{octets}
 use Rattle.vx_types.specs.Fits.{IsBinary, IsUtf8}
 use Rattle.vx_types.specs.Seen.{typ}

@@ -2,7 +2,6 @@ use Rattle.std.proofs.Common.{subst, refl, arith}
 use Rattle.vx_proto.specs.Value.{number}
 use Rattle.vx_types.specs.Fits.{IsOf, bare}
 use Rattle.vx_types.specs.Seen.{typ}
-use Rattle.vx_scalar_wire.specs.declared.error.ScalarWireError.TheVariants.{KindMismatch}
 use Rattle.vx_scalar_wire.proofs.Leaves.{no_double, other_double}
 use Rattle.vx_scalar_wire.proofs.reading.numbers.double.Goals as goal
 

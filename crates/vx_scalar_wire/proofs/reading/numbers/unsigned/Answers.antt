@@ -4,10 +4,7 @@ use Rattle.std.proofs.Common.{rules, ◌≡◌, ◌∙◌, ℤ, pos, subst}
 use Rattle.std.proofs.lemmas.Int.{to_z-of_z}
 use Rattle.vx_proto.specs.Value.{number}
 use Rattle.vx_types.specs.Fits.{IsOf, bare}
-use Rattle.vx_types.specs.Numbers.{kind_of}
 use Rattle.vx_types.specs.Seen.{typ}
-use Rattle.vx_types.specs.Well.{IsInRange}
-use Rattle.vx_types.specs.declared.value.PValue.{PValue}
 use Rattle.vx_scalar_wire.specs.Refusing.{IsNoInteger, integer_of}
 use Rattle.vx_scalar_wire.proofs.Leaves.{half_given, no_unsigned, unsigned_given}
 use Rattle.vx_scalar_wire.proofs.reading.numbers.unsigned.Goals as goal
