@@ -15,4 +15,5 @@ pub mod laws;
 #[cfg(test)]
 mod program;
 #[cfg(test)]
+mod serialized;
 mod writing;
