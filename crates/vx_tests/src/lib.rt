@@ -16,4 +16,5 @@ pub mod laws;
 mod program;
 #[cfg(test)]
 mod serialized;
+#[cfg(test)]
 mod writing;

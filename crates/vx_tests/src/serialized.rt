@@ -104,8 +104,7 @@ fn given_buffers(rt: HostRuntime) -> Result<(), Fail> {
     let numbers = BufferHandle::new_host(ByteBuffer::copy_from(alloc, &BLOB[..16])?);
     let mut buffers = BufferHandles::new(alloc);
     buffers.push(numbers.clone(alloc)?)?;
-    let given =
-        SerializedArray::from_flatbuffer_with_buffers(alloc, message(alloc)?, buffers)?;
+    let given = SerializedArray::from_flatbuffer_with_buffers(alloc, message(alloc)?, buffers)?;
     assert_eq!(rt; given.buffer(0)?.alignment().exponent(), 0);
     assert!(rt; refusal(alloc, &given, 4) == Some(WireError::BadShape));
     let cut = SerializedArray::from_flatbuffer_and_segment(alloc, message(alloc)?, numbers)?;
