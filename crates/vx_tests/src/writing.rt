@@ -4,7 +4,7 @@ use crate::files::{BLOB, BLOB_OF_SECOND, IDS, PADDED_BLOB};
 use std::alloc::Global;
 use std::test::Fail;
 use vx_arrays::{Array, ArrayError, PrimitiveArray};
-use vx_buffer::{Alignment, BufferHandle, ByteBuffer};
+use vx_buffer::{Alignment, BufferHandle, ByteBuffer, ByteBuffers};
 use vx_registry::{ArrayContext, ArraySession, VortexSession};
 use vx_serde::{ArrayExt, SerializeOptions, WireError};
 use vx_type_wire::ExtSession;
@@ -62,6 +62,26 @@ fn padded(offset: usize) -> SerializeOptions {
     }
 }
 
+// The four numbers as the buffers of a blob, by the encodings that are shipped.
+fn written(
+    alloc: Global,
+    options: &SerializeOptions,
+    ctx: &mut ArrayContext,
+) -> Result<ByteBuffers, Fail> {
+    let array = four(alloc)?;
+    let session = VortexSession::new(ArraySession::default(alloc)?, ExtSession::new(alloc));
+    Ok(array.serialize(alloc, ctx, &session, options)?)
+}
+
+// Whether buffers are a blob: a first one that is empty and aligned to 8, and together these bytes.
+fn are_blob(alloc: Global, buffers: &ByteBuffers, blob: &[u8]) -> Result<bool, Fail> {
+    let Some(first) = buffers.get(0) else {
+        return Ok(false);
+    };
+    let aligned = first.is_empty() && first.alignment().exponent() == 3;
+    Ok(aligned && buffers.join(alloc)?.as_slice() == blob)
+}
+
 // Whether the four numbers are written as a blob, from these identifiers on, which go on to be those.
 fn are_written(
     alloc: Global,
@@ -70,19 +90,10 @@ fn are_written(
     blob: &[u8],
     after: &str,
 ) -> Result<bool, Fail> {
-    let array = four(alloc)?;
-    let session = VortexSession::new(ArraySession::default(alloc)?, ExtSession::new(alloc));
-    let mut ctx = ArrayContext::new(alloc, &ids_of(alloc, before)?)?;
-    let buffers = array.serialize(alloc, &mut ctx, &session, options)?;
-    let Some(first) = buffers.get(0) else {
-        return Ok(false);
-    };
-    Ok(
-        first.is_empty()
-            && first.alignment().exponent() == 3
-            && buffers.join(alloc)?.as_slice() == blob
-            && has_ids(alloc, &ctx, after)?,
-    )
+    let before = ids_of(alloc, before)?;
+    let mut ctx = ArrayContext::new(alloc, &before)?;
+    let buffers = written(alloc, options, &mut ctx)?;
+    Ok(are_blob(alloc, &buffers, blob)? && has_ids(alloc, &ctx, after)?)
 }
 
 #[test]
