@@ -12,8 +12,10 @@ mod error;
 mod list;
 mod null;
 mod numbers;
+mod offsets;
 mod primitive;
 mod row;
+mod texts;
 mod validity;
 
 pub use array::Array;
