@@ -15,6 +15,4 @@ pub mod laws;
 #[cfg(test)]
 mod program;
 #[cfg(test)]
-mod serialized;
-#[cfg(test)]
 mod writing;
