@@ -159,7 +159,7 @@ one_128 : (y z : ℤ) → FitsSigned w128 y → FitsSigned w128 z → to_le_byte
 one_128 y z h g e = one_cast w128 y z h g (one_number 16 (cast_unsigned w128 y) (cast_unsigned w128 z) (fits_128 y h) (fits_128 z g) e)
 
 -- How many bytes a decimal has.
-abbrev size : DecimalValue → ℕ
+abbrev pub size : DecimalValue → ℕ
 size (V.i8 z) = 1
 size (V.i16 z) = 2
 size (V.i32 z) = 4
@@ -167,7 +167,7 @@ size (V.i64 z) = 8
 size (V.i128 z) = 16
 size (V.i256 bytes) = 32
 
-sized : (x : DecimalValue) → IsDecimalInRange x → length (decimal_bytes x) ≡ size x
+pub sized : (x : DecimalValue) → IsDecimalInRange x → length (decimal_bytes x) ≡ size x
 sized (V.i8 z) h = refl
 sized (V.i16 z) h = refl
 sized (V.i32 z) h = refl

@@ -139,3 +139,13 @@ one_scalar s m x y r q =
     let value : x.value ≡ y.value =
     reads-one s x.value y.value x.dtype r.1 r.4 (subst (λ w. ReadsValue s y.value x.dtype w) (sym inner) (subst (λ d. ReadsValue s y.value d q.1) (sym dtype) q.4)) in
     λ i. record { dtype = dtype i; value = value i }
+
+-- ---- what was written
+
+-- What is read of a value's own message, at a type that it fits, is the value.
+pub value_again : (s : ExtMeaning) (v u : V.Value) (d : Typ) → Fits v d → IsWell v → IsKnownValue s v → ReadsValue s u d (value_message v) → u ≡ v
+value_again s v u d f w k r = reads-one s u v d (value_message v) r (written-reads s v d f w k)
+
+-- What is read of a scalar's own message is the scalar, where its types are known.
+pub scalar_again : (s : ExtMeaning) (x y : Typed) → IsTyped x → IsKnown s x.dtype → IsKnownValue s x.value → ReadsScalar s y (scalar_message x) → y ≡ x
+scalar_again s x y h k known r = one_scalar s (scalar_message x) y x r (written-scalar_reads s x h k known)

@@ -75,7 +75,7 @@ no_double e s most d c is h = refused_as e s most d 6 c is (others (bare d) h).3
 pub no_half : (e : ScalarWireError) (s : ExtMeaning) (most : ℕ) (d : Typ) (c : Content) → e ≡ error.KindMismatch → ((p : PType) → IsOf p (bare d) → ⊥) → IsRefused e s most d (lone_member 10 c)
 no_half e s most d c is h = refused_as e s most d 10 c is (others (bare d) h).4
 
-at_numbers : (b : Typ) (p : PType) → IsOf p b → members_at b ≡ numeral_members p
+pub at_numbers : (b : Typ) (p : PType) → IsOf p b → members_at b ≡ numeral_members p
 at_numbers (node (primitive q m) ts) p o = ap numeral_members (sym o)
 at_numbers _ p o = absurd o
 

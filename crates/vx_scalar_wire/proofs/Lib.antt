@@ -6,5 +6,7 @@ pub mod Inversions
 pub mod Leaves
 pub mod Held
 pub mod Refused
+pub mod Complete
+pub mod Calls
 pub mod Gathered
 pub mod LawsScalars

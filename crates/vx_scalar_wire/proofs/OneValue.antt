@@ -96,12 +96,12 @@ pub octets_ranked : (m : Value) (s : List ℕ) (d : Typ) → HoldsOctets m s →
 octets_ranked m s d (inl e) = ranked m 7 (octets s) d e
 octets_ranked m s d (inr e) = ranked m 8 (octets s) d e
 
-integer_ranked : (m : Value) (z : ℤ) (d : Typ) → HoldsInteger m z → 3 ≡ rank_in (tag_in m) d
+pub integer_ranked : (m : Value) (z : ℤ) (d : Typ) → HoldsInteger m z → 3 ≡ rank_in (tag_in m) d
 integer_ranked m z d (inl e) = ranked m 3 (number (zigzag z)) d e
 integer_ranked m (pos n) d (inr e) = ranked m 4 (number n) d e
 integer_ranked m (negsuc n) d (inr e) = absurd e
 
-number_ranked : (m : Value) (n : PValue) (d : Typ) → HoldsNumber m n → 3 ≡ rank_in (tag_in m) d
+pub number_ranked : (m : Value) (n : PValue) (d : Typ) → HoldsNumber m n → 3 ≡ rank_in (tag_in m) d
 number_ranked m (U8 n) d h = integer_ranked m (pos n) d h
 number_ranked m (U16 n) d h = integer_ranked m (pos n) d h
 number_ranked m (U32 n) d h = integer_ranked m (pos n) d h
@@ -188,7 +188,7 @@ one_list (v ∷ vs) (u ∷ us) e =
     let others : vs ≡ us = one_list vs us (same_others 1 1 _ _ _ _ e) in
     λ i. first i ∷ others i
 
-one_inside : (m : Value) (g : ℕ) (v w : Value) → Holds m g (message (slots_of v)) → Holds m g (message (slots_of w)) → v ≡ w
+pub one_inside : (m : Value) (g : ℕ) (v w : Value) → Holds m g (message (slots_of v)) → Holds m g (message (slots_of w)) → v ≡ w
 one_inside m g v w e f = same_message v w (same_held m g _ _ e f)
 
 pub one_part : (g : ℕ) (v w : Value) → one_message g v ≡ one_message g w → v ≡ w
@@ -207,7 +207,7 @@ both_parts Each Other By OtherBy R f g _ h k = absurd h
 some_is : (t u : Typ) → Some t ≡ Some u → t ≡ u
 some_is t u e = cc
 
-both_members : (a b : ℕ) (By OtherBy : Roses Kind → Type 0) (R : Type 0) → a ≡ b → ((e : Typ) → By (more e end) → OtherBy (more e end) → R)
+pub both_members : (a b : ℕ) (By OtherBy : Roses Kind → Type 0) (R : Type 0) → a ≡ b → ((e : Typ) → By (more e end) → OtherBy (more e end) → R)
     → (d : Typ) → FitsMember a By d → FitsMember b OtherBy d → R
 both_members a b By OtherBy R same g (node (K.union ns ids m) ts) h k =
     let one : h.0 ≡ k.0 = some_is h.0 k.0 (sym h.1 ∙ ap (λ t. member t ids ts) same ∙ k.1) in

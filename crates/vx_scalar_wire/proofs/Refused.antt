@@ -32,7 +32,7 @@ at_depth (y ∷ es) zero n u h = let e : content_depth y.1 ≡ suc (slots_depth 
 at_depth (y ∷ es) (suc i) n u h = omega (arith, at_depth es i n u h)
 
 -- A message in another nests two less deep.
-part_depth : (s : ExtMeaning) (d : Typ) (m : Value) (f : Typ) (u : Value) → IsPart s d m f u → nested u + 2 ≤ nested m
+pub part_depth : (s : ExtMeaning) (d : Typ) (m : Value) (f : Typ) (u : Value) → IsPart s d m f u → nested u + 2 ≤ nested m
 part_depth s d m f u (inl h) =
     let whole : nested m ≡ nested (lone_member 9 (message (slots_of h.0))) = ap nested h.2 in
     omega (arith, whole, slot_depth_in h.0 0, at_depth (entries_in h.0 0) h.1 1 u h.3)

@@ -4,4 +4,5 @@ pub mod Reading
 pub mod Writing
 pub mod Nans
 pub mod Refusing
+pub mod RefusingCalls
 pub mod Answers

@@ -1,18 +1,21 @@
 //! Values and scalars into tagged messages.
 
-ghost use Rattle.std.specs.Prelude.{◌≡◌, ◌≤◌, ◌<◌, IfOk, IfErr, OnOk, IsOk, option_copied};
+ghost use Rattle.std.specs.Prelude.{◌≡◌, ◌≤◌, ◌<◌, IfOk, IfErr, MatchResult, OnOk, IsOk, option_copied};
 ghost use Rattle.vx_proto.specs.Reads.{Reads};
 ghost use Rattle.vx_proto.specs.Written.{written, nested};
 ghost use Rattle.vx_type_wire.specs.Known.{ExtMeaning, IsKnown};
 ghost use Rattle.vx_types.specs.Fits.{Fits};
 ghost use Rattle.vx_types.specs.Typ.{Typ};
 ghost use Rattle.vx_types.specs.Seen.{typ};
+ghost use Rattle.vx_types.specs.Value as V;
 ghost use Rattle.vx_types.specs.Well.{IsWell};
 ghost use Rattle.vx_type_wire.specs.Session.{ext_meaning};
 ghost use Rattle.vx_scalar_wire.specs.Answers.{GivesType};
 ghost use Rattle.vx_scalar_wire.specs.Reading.{ReadsValue, ReadsScalar, ShowsValue, IsKnownValue};
 ghost use Rattle.vx_scalar_wire.specs.Refusing.{IsRefused, IsRefusedScalar};
+ghost use Rattle.vx_scalar_wire.specs.RefusingCalls.{IsRefusedAt, IsRefusedBytes};
 ghost use Rattle.vx_scalars.specs.Seen.{seen};
+ghost use Rattle.vx_scalars.specs.Told.{Typed};
 ghost use Rattle.vx_scalar_wire.specs.ScalarMessage.{scalar_lists, value_message, scalar_message};
 ghost use Rattle.vx_scalar_wire.specs.Shallow.{IsShallow, IsShallowScalar};
 ghost use Rattle.vx_scalar_wire.specs.Writing.{Writes, IsUnwritten, IsUnwrittenBytes};
@@ -89,6 +92,7 @@ impl ScalarValueExt for ScalarValue {
     }
 
     /// The value, or the null, whose message this is at a type.
+    #[tactic(auto, using(crate::proofs::Complete::complete))]
     fn from_proto(
         alloc: Global,
         message: &pb::ScalarValue,
@@ -97,8 +101,11 @@ impl ScalarValueExt for ScalarValue {
     ) -> Result<Option<ScalarValue>, ScalarWireError>
         ensures read { IfOk result (λ x. ReadsValue (ext_meaning (λ b. accepted (b.vtable, b.value)) readers.now) (seen x) (typ dtype.now) message.now) }
         ensures cause { IfErr result (λ e. IsRefused e (ext_meaning (λ b. accepted (b.vtable, b.value)) readers.now) 100 (typ dtype.now) message.now) }
+        ensures complete { (v : V.Value) → nested message.now ≤ 100 → ReadsValue (ext_meaning (λ b. accepted (b.vtable, b.value)) readers.now) v (typ dtype.now) message.now
+            → MatchResult result (λ x. seen x ≡ v) (λ e. e ≡ ScalarWireError.OutOfMemory) }
     {
         message.hold();
+        dtype.hold();
         let Some(slots) = message.slots() else {
             return Err(ScalarWireError::MissingKind);
         };
@@ -108,7 +115,9 @@ impl ScalarValueExt for ScalarValue {
         read_value(alloc, slots, dtype, &read_type)
     }
 
-    /// The value, or the null, whose message these bytes are at a type.
+    /// The value, or the null, whose message these bytes are at a type. `BadMessage`,
+    /// `TooDeep` and `OutOfRange` also where the bytes are no message of the schema.
+    #[tactic(auto, using(crate::proofs::Calls::bytes_read))]
     fn from_proto_bytes(
         alloc: Global,
         bytes: &[u8],
@@ -116,6 +125,9 @@ impl ScalarValueExt for ScalarValue {
         readers: &ExtSession,
     ) -> Result<Option<ScalarValue>, ScalarWireError>
         ensures read { IfOk result (λ x. ShowsValue (ext_meaning (λ b. accepted (b.vtable, b.value)) readers.now) (seen x) (typ dtype.now) bytes.now) }
+        ensures cause { IfErr result (λ e. IsRefusedBytes e (ext_meaning (λ b. accepted (b.vtable, b.value)) readers.now) (typ dtype.now) bytes.now) }
+        ensures complete { (v : V.Value) → ShowsValue (ext_meaning (λ b. accepted (b.vtable, b.value)) readers.now) v (typ dtype.now) bytes.now
+            → MatchResult result (λ x. seen x ≡ v) (λ e. e ≡ ScalarWireError.OutOfMemory) }
     {
         let message = pb::ScalarValue::decode(alloc, bytes)?;
         ScalarValue::from_proto(alloc, &message, dtype, readers)
@@ -157,6 +169,7 @@ impl ScalarExt for Scalar {
     }
 
     /// The scalar whose message this is.
+    #[tactic(auto, using(crate::proofs::Complete::complete))]
     fn from_proto(
         alloc: Global,
         message: &pb::Scalar,
@@ -164,6 +177,8 @@ impl ScalarExt for Scalar {
     ) -> Result<Scalar, ScalarWireError>
         ensures read { IfOk result (λ x. ReadsScalar (ext_meaning (λ b. accepted (b.vtable, b.value)) readers.now) x message.now) }
         ensures cause { IfErr result (λ e. IsRefusedScalar e (ext_meaning (λ b. accepted (b.vtable, b.value)) readers.now) 100 message.now) }
+        ensures complete { (x : Typed) → nested message.now ≤ 100 → ReadsScalar (ext_meaning (λ b. accepted (b.vtable, b.value)) readers.now) x message.now
+            → MatchResult result (λ y. y ≡ x) (λ e. e ≡ ScalarWireError.OutOfMemory) }
     {
         message.hold();
         let Some(slots) = message.slots() else {
@@ -175,7 +190,9 @@ impl ScalarExt for Scalar {
         read_scalar(alloc, slots, &read_type)
     }
 
-    /// The scalar of a type whose value's message this is.
+    /// The scalar of a type whose value's message this is. `BadScalar` also where the
+    /// value does not fit the type.
+    #[tactic(auto, using(crate::proofs::Calls::scalars_read))]
     fn from_proto_value(
         alloc: Global,
         message: &pb::ScalarValue,
@@ -185,6 +202,9 @@ impl ScalarExt for Scalar {
         ensures dtype { IfOk result (λ x. x.dtype ≡ typ dtype.now) }
         ensures read { IfOk result (λ x. ReadsValue (ext_meaning (λ b. accepted (b.vtable, b.value)) readers.now) x.value (typ dtype.now) message.now) }
         ensures fits { IfOk result (λ x. Fits x.value (typ dtype.now)) }
+        ensures cause { IfErr result (λ e. IsRefusedAt e (ext_meaning (λ b. accepted (b.vtable, b.value)) readers.now) (typ dtype.now) message.now) }
+        ensures complete { (v : V.Value) → nested message.now ≤ 100 → ReadsValue (ext_meaning (λ b. accepted (b.vtable, b.value)) readers.now) v (typ dtype.now) message.now → Fits v (typ dtype.now)
+            → MatchResult result (λ x. x.value ≡ v) (λ e. e ≡ ScalarWireError.OutOfMemory) }
     {
         let value = ScalarValue::from_proto(alloc, message, dtype, readers)?;
         Ok(Scalar::try_new(dtype.clone(alloc)?, value)?)

@@ -103,7 +103,7 @@ enum Answer {
     Refused(ScalarWireError),
 }
 
-fn answer_of(value: &Option<ScalarValue>) -> Answer {
+fn answer_of(value: Option<&ScalarValue>) -> Answer {
     match value {
         None => Answer::Null,
         Some(ScalarValue::Bool(truth)) => Answer::Bool(*truth),
@@ -120,7 +120,7 @@ fn answer_of(value: &Option<ScalarValue>) -> Answer {
 fn read_at(alloc: Global, bytes: &[u8], dtype: &DType) -> Answer {
     let readers = ExtSession::new(alloc);
     match ScalarValue::from_proto_bytes(alloc, bytes, dtype, &readers) {
-        Ok(value) => answer_of(&value),
+        Ok(value) => answer_of(value.as_ref()),
         Err(error) => Answer::Refused(error),
     }
 }
@@ -128,6 +128,43 @@ fn read_at(alloc: Global, bytes: &[u8], dtype: &DType) -> Answer {
 fn read(alloc: Global, bytes: &[u8], which: usize) -> Result<Answer, TypeError> {
     let dtype = type_of(alloc, which)?;
     Ok(read_at(alloc, bytes, &dtype))
+}
+
+// Whether a part of a tuple, or the value under a union's tag, is this.
+fn has_part(value: &Option<ScalarValue>, place: usize, part: Answer) -> bool {
+    match value {
+        Some(ScalarValue::Tuple(values)) => {
+            let parts = values.as_slice();
+            place < parts.len() && answer_of(parts[place].as_ref()) == part
+        }
+        Some(ScalarValue::Union(_, value)) => answer_of(value.get()) == part,
+        _ => false,
+    }
+}
+
+// Whether such a part is read from these bytes at a type.
+fn is_part(
+    alloc: Global,
+    bytes: &[u8],
+    which: usize,
+    place: usize,
+    part: Answer,
+) -> Result<bool, TypeError> {
+    let dtype = type_of(alloc, which)?;
+    let readers = ExtSession::new(alloc);
+    match ScalarValue::from_proto_bytes(alloc, bytes, &dtype, &readers) {
+        Ok(value) => Ok(has_part(&value, place, part)),
+        Err(_) => Ok(false),
+    }
+}
+
+// Whether this text is read from these bytes.
+fn is_text(alloc: Global, bytes: &[u8], text: &str) -> bool {
+    let readers = ExtSession::new(alloc);
+    match ScalarValue::from_proto_bytes(alloc, bytes, &DType::Utf8(NO), &readers) {
+        Ok(Some(ScalarValue::Utf8(name))) => name.as_str() == text,
+        _ => false,
+    }
 }
 
 #[test]
@@ -147,6 +184,7 @@ fn values_are_read_at_types(rt: HostRuntime) -> Result<(), Fail> {
     assert!(rt; read(alloc, &[0x2d, 1, 0, 0, 0], 5)? == Answer::Number(PValue::F32(1)));
     assert!(rt; read(alloc, &[0x31, 2, 0, 0, 0, 0, 0, 0, 0], 6)? == Answer::Number(PValue::F64(2)));
     assert!(rt; read(alloc, &[0x3a, 0x02, 0x68, 0x69], 7)? == Answer::Text);
+    assert!(rt; is_text(alloc, &[0x3a, 0x02, 0x68, 0x69], "hi"));
     assert!(rt; read(alloc, &[0x42, 0x02, 0x68, 0x69], 7)? == Answer::Text);
     assert!(rt; read(alloc, &[0x3a, 0x02, 0x68, 0x69], 8)? == Answer::Bytes);
     assert!(rt; read(alloc, &[0x42, 0x01, 0xff], 8)? == Answer::Bytes);
@@ -171,10 +209,14 @@ fn tuples_and_members_are_read(rt: HostRuntime) -> Result<(), Fail> {
         0x62, 0x0a, 0x0a, 0x04, 0x1a, 0x02, 0x08, 0x06, 0x12, 0x02, 0x18, 0x54,
     ];
     assert!(rt; read(alloc, two, 10)? == Answer::Tuple(2));
+    assert!(rt; is_part(alloc, two, 10, 0, Answer::Number(PValue::I32(42)))?);
+    assert!(rt; is_part(alloc, two, 10, 1, Answer::Number(PValue::I32(43)))?);
     assert!(rt; read(alloc, two, 16)? == Answer::Tuple(2));
     assert!(rt; read(alloc, row, 11)? == Answer::Tuple(2));
+    assert!(rt; is_part(alloc, row, 11, 1, Answer::Null)?);
     assert!(rt; read(alloc, entry, 13)? == Answer::Tuple(1));
     assert!(rt; read(alloc, tagged, 12)? == Answer::Union(5));
+    assert!(rt; is_part(alloc, tagged, 12, 0, Answer::Number(PValue::I32(42)))?);
     assert!(rt; read(alloc, variant, 14)? == Answer::Variant);
     Ok(())
 }
