@@ -1,7 +1,9 @@
 -- A message that is read as a value at a type has no cause of a refusal.
 use Rattle.std.specs.Prelude.{IfErr, IfOk, MatchResult, Option, Result, Ok, Err, if◌then◌else◌}
 use Rattle.std.proofs.Common.{◌≡◌, ◌∙◌, ◌==◌, ◌+◌, ◌*◌, ◌<◌, ◌≤◌, Bool, true, false, ℕ, zero, suc, ℤ, pos, negsuc, List, [], ◌∷◌, Some, None, length, refl, sym, ap, subst, inl, inr, arith}
+use lib.Utf8.{encode}
 use Rattle.std.specs.Cmp.{unsigned_Decides}
+use Rattle.std.proofs.lemmas.Str.{is_utf8-from_IsUtf8}
 use Rattle.vx_trees.specs.Everywhere.{EverywhereBelow}
 use Rattle.vx_trees.specs.Rose.{Roses, node, end, more, count}
 use Rattle.vx_trees.specs.Walks.{levels}
@@ -17,7 +19,7 @@ use Rattle.vx_type_wire.specs.declared.error.TypeWireError.TheVariants as type_e
 use Rattle.vx_type_wire.proofs.MessageForm.{type_depth}
 use Rattle.vx_type_wire.proofs.MessageFound.{message-injective}
 use Rattle.vx_type_wire.proofs.OneType.{known_or}
-use Rattle.vx_types.specs.Content.{AreBytes}
+use Rattle.vx_types.specs.Content.{AreBytes, IsText}
 use Rattle.vx_types.specs.Fits.{Fits, FitBy, FitsMember, IsBoolean, IsOf, IsDecimal, IsUtf8, IsBinary, IsVariant, bare, bare_first, member}
 use Rattle.vx_types.specs.Kind as K
 use Rattle.vx_types.specs.Kind.{Kind}
@@ -25,7 +27,7 @@ use Rattle.vx_types.specs.Numbers.{is_integer, kind_of}
 use Rattle.vx_types.specs.Typ.{Typ, IsType, IsTypeNode}
 use Rattle.vx_types.specs.Value as V
 use Rattle.vx_types.specs.Well.{IsInRange}
-use Rattle.vx_types.specs.Words.{entries}
+use Rattle.vx_types.specs.Words.{entries, key_name, value_name}
 use Rattle.vx_types.specs.declared.ptype.PType.{PType}
 use Rattle.vx_types.specs.declared.ptype.PType.TheVariants as kind
 use Rattle.vx_types.specs.declared.value.PValue.{PValue}
@@ -423,12 +425,20 @@ field_typed end i f h b = absurd b
 field_typed (more t ts) zero f h b = subst (λ (x : Typ). IsType x) b h.0
 field_typed (more t ts) (suc i) f h b = field_typed ts i f h.1 b
 
+key_text : IsText key_name
+unfolding encode
+key_text = is_utf8-from_IsUtf8 key_name (key_name, (refl, refl))
+
+value_text : IsText value_name
+unfolding encode
+value_text = is_utf8-from_IsUtf8 value_name (value_name, (refl, refl))
+
 part_typed : (t : Typ) (i : ℕ) (f : Typ) → IsType t → IsPartType t i f → IsType f
 part_typed (node (K.list m) (more e end)) i f h b = subst (λ (x : Typ). IsType x) b h.1.0
 part_typed (node (K.fixed_size_list z m) (more e end)) i f h b = subst (λ (x : Typ). IsType x) b h.1.0
 part_typed (node (K.structure ns m) ts) i f h b = field_typed ts i f h.1 b
 part_typed (node (K.map k m) (more x (more y end))) i f h b =
-    subst (λ (z : Typ). IsType z) b (record { types = refl; texts = (refl, (refl, tt)) }, h.1)
+    subst (λ (z : Typ). IsType z) b (record { types = refl; texts = (key_text, (value_text, tt)) }, h.1)
 part_typed _ i f h b = absurd b
 
 -- A message in one that is read is read, too, at its type.
