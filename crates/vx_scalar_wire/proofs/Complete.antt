@@ -269,8 +269,8 @@ not_unknown s v d m u h o r =
     let tag : number_in (entries_in u 0) ≡ Some q.tag = ap (λ (x : Value). number_in (entries_in x 0)) q.is in
     both_unions s d u q (λ ids ts. (n : ℕ) × (number_in (entries_in u 0) ≡ Some n) × (member n ids ts ≡ None))
     (λ ids ts e p found by.
-      let same : p.0 ≡ q.tag = some_is (number_in (entries_in u 0)) p.0 q.tag p.1 tag in
-      none_some (member q.tag ids ts) e found (subst (λ n. member n ids ts ≡ None) same p.2)) o
+    let same : p.0 ≡ q.tag = some_is (number_in (entries_in u 0)) p.0 q.tag p.1 tag in
+    none_some (member q.tag ids ts) e found (subst (λ n. member n ids ts ≡ None) same p.2)) o
 
 not_lacking : (s : ExtMeaning) (v : V.Value) (d : Typ) (m u : Value) → Holds m 11 (message (slots_of u)) → OfUnion (λ ids ts. message_in (entries_in u 1) ≡ None) (bare d) → ReadsValue s v d m → ⊥
 not_lacking s v d m u h o r =
@@ -285,13 +285,13 @@ not_unfit s v d m u h o r =
     let q = union_held s v d m u h r in
     both_unions s d u q (λ ids ts. (n : ℕ) × (f : Typ) × (w : Value) × (x : V.Value) × (u ≡ one_number 1 n ∷ one_message 2 w ∷ []) × (member n ids ts ≡ Some f) × ReadsValue s x f w × (Fits x f → ⊥))
     (λ ids ts e p found by.
-      let whole = sym p.4 ∙ q.is in
-      let tag : p.0 ≡ q.tag = same_number _ _ (same_content 1 1 _ _ [] [] (same_slot _ _ _ _ whole)) in
-      let inner : p.2 ≡ q.inner = one_part 2 p.2 q.inner (same_slot _ _ [] [] (same_rest _ _ _ _ whole)) in
-      let same : p.1 ≡ e = some_is (member q.tag ids ts) p.1 e (subst (λ n. member n ids ts ≡ Some p.1) tag p.5) found in
-      let x = lone_read s q.values e q.inner by.0 by.1 in
-      let one : x.0 ≡ p.3 = reads-one s x.0 p.3 e q.inner x.1 (subst (λ w. ReadsValue s p.3 e w) inner (subst (λ t. ReadsValue s p.3 t p.2) same p.6)) in
-      p.7 (subst (λ t. Fits p.3 t) (sym same) (subst (λ y. Fits y e) one x.2))) o
+    let whole = sym p.4 ∙ q.is in
+    let tag : p.0 ≡ q.tag = same_number _ _ (same_content 1 1 _ _ [] [] (same_slot _ _ _ _ whole)) in
+    let inner : p.2 ≡ q.inner = one_part 2 p.2 q.inner (same_slot _ _ [] [] (same_rest _ _ _ _ whole)) in
+    let same : p.1 ≡ e = some_is (member q.tag ids ts) p.1 e (subst (λ n. member n ids ts ≡ Some p.1) tag p.5) found in
+    let x = lone_read s q.values e q.inner by.0 by.1 in
+    let one : x.0 ≡ p.3 = reads-one s x.0 p.3 e q.inner x.1 (subst (λ w. ReadsValue s p.3 e w) inner (subst (λ t. ReadsValue s p.3 t p.2) same p.6)) in
+    p.7 (subst (λ t. Fits p.3 t) (sym same) (subst (λ y. Fits y e) one x.2))) o
 
 -- ---- scalars
 
@@ -455,8 +455,8 @@ part_read s v d m f u is r (inr (inl h)) =
       (let same : typed.1.0 ≡ f = first_same typed.1.0 f typed.1.2 in subst (λ (x : Typ). IsType x) same typed.1.1),
       both_members h.0 q.tag (λ ts. ts ≡ more f end) (λ ts. ReadsBy s q.values ts (q.inner ∷ []) × FitBy q.values ts) ((x : V.Value) × ReadsValue s x f u) tag
           (λ e is_f by.
-            let x = lone_read s q.values e q.inner by.0 by.1 in
-            (x.0, subst (λ w. ReadsValue s x.0 f w) (sym inner) (subst (λ t. ReadsValue s x.0 t q.inner) (first_same e f is_f) x.1))) (bare d) h.2 q.fits,
+          let x = lone_read s q.values e q.inner by.0 by.1 in
+          (x.0, subst (λ w. ReadsValue s x.0 f w) (sym inner) (subst (λ t. ReadsValue s x.0 t q.inner) (first_same e f is_f) x.1))) (bare d) h.2 q.fits,
     )
 part_read s v d m f u is r (inr (inr h)) =
     let q = variant_held s v d m (one_message 1 h.0 ∷ one_message 2 u ∷ []) h.2 r in

@@ -4,8 +4,8 @@ use std::alloc::Global;
 use std::test::Fail;
 use vx_proto::Message;
 use vx_scalar_wire::{ScalarExt, ScalarValueExt, ScalarWireError, TypeRefusal, canonical_nan_sum};
-use vx_scalars::{DecimalValue, Scalar, ScalarError, ScalarValue, ValueRef, Values};
-use vx_types::{DType, Name, Nullability, PType, PValue};
+use vx_scalars::{DecimalValue, Scalar, ScalarError, ScalarValue, ValueRef, Values, VariantRef};
+use vx_types::{Blob, DType, Name, Nullability, PType, PValue};
 
 fn number(value: i32) -> ScalarValue {
     ScalarValue::Primitive(PValue::I32(value))
@@ -75,6 +75,37 @@ fn values_have_their_bytes(rt: HostRuntime) -> Result<(), Fail> {
     Ok(())
 }
 
+// A float, bytes or a variant, by number.
+fn other_value(alloc: Global, which: usize) -> Result<Option<ScalarValue>, ScalarError> {
+    match which {
+        0 => Ok(Some(ScalarValue::Primitive(PValue::F32(1)))),
+        1 => Ok(Some(ScalarValue::Primitive(PValue::F64(2)))),
+        2 => Ok(Some(ScalarValue::Binary(Blob::copy_from(alloc, &[0xff])?))),
+        _ => variants(alloc, 1),
+    }
+}
+
+// Whether it is written as these bytes.
+fn is_other_row(alloc: Global, which: usize, bytes: &[u8]) -> Result<bool, ScalarWireError> {
+    match other_value(alloc, which) {
+        Ok(value) => is_written(alloc, &value, bytes),
+        Err(_) => Err(ScalarWireError::OutOfMemory),
+    }
+}
+
+#[test]
+fn floats_bytes_and_variants_have_their_bytes(rt: HostRuntime) -> Result<(), Fail> {
+    let alloc = rt.alloc();
+    let variant: &[u8] = &[
+        0x62, 0x0a, 0x0a, 0x04, 0x1a, 0x02, 0x08, 0x06, 0x12, 0x02, 0x18, 0x54,
+    ];
+    assert!(rt; is_other_row(alloc, 0, &[0x2d, 1, 0, 0, 0])?);
+    assert!(rt; is_other_row(alloc, 1, &[0x31, 2, 0, 0, 0, 0, 0, 0, 0])?);
+    assert!(rt; is_other_row(alloc, 2, &[0x42, 0x01, 0xff])?);
+    assert!(rt; is_other_row(alloc, 3, variant)?);
+    Ok(())
+}
+
 // A tuple round another value.
 fn wrapped(alloc: Global, inner: Option<ScalarValue>) -> Result<Option<ScalarValue>, ScalarError> {
     let mut values = Values::new(alloc);
@@ -82,13 +113,20 @@ fn wrapped(alloc: Global, inner: Option<ScalarValue>) -> Result<Option<ScalarVal
     Ok(Some(ScalarValue::Tuple(values)))
 }
 
-// So many tuples, each in the next, the innermost empty.
-fn nested(alloc: Global, count: usize) -> Result<Option<ScalarValue>, ScalarError> {
-    let mut value = Some(ScalarValue::Tuple(Values::new(alloc)));
+// So many tuples, each in the next, round an innermost one.
+fn nested(alloc: Global, count: usize, inner: Values) -> Result<Option<ScalarValue>, ScalarError> {
+    let mut value = Some(ScalarValue::Tuple(inner));
     for _ in 1..count {
         value = wrapped(alloc, value)?;
     }
     Ok(value)
+}
+
+// A tuple of a null.
+fn one_null(alloc: Global) -> Result<Values, ScalarError> {
+    let mut values = Values::new(alloc);
+    values.push(None)?;
+    Ok(values)
 }
 
 // Whether a value is refused for its depth.
@@ -100,8 +138,8 @@ fn is_too_deep(alloc: Global, value: &Option<ScalarValue>) -> bool {
 }
 
 // Whether so many tuples are refused for their depth.
-fn are_too_deep(alloc: Global, count: usize) -> Result<bool, ScalarError> {
-    match nested(alloc, count) {
+fn are_too_deep(alloc: Global, count: usize, inner: Values) -> Result<bool, ScalarError> {
+    match nested(alloc, count, inner) {
         Ok(value) => Ok(is_too_deep(alloc, &value)),
         Err(error) => Err(error),
     }
@@ -109,8 +147,30 @@ fn are_too_deep(alloc: Global, count: usize) -> Result<bool, ScalarError> {
 
 #[test]
 fn a_hundred_messages_nest(rt: HostRuntime) -> Result<(), Fail> {
-    assert!(rt; !are_too_deep(rt.alloc(), 50)?);
-    assert!(rt; are_too_deep(rt.alloc(), 51)?);
+    let alloc = rt.alloc();
+    assert!(rt; !are_too_deep(alloc, 50, Values::new(alloc))?);
+    assert!(rt; are_too_deep(alloc, 50, one_null(alloc)?)?);
+    assert!(rt; are_too_deep(alloc, 51, Values::new(alloc))?);
+    Ok(())
+}
+
+// So many variants, each in the next, over the number 42.
+fn variants(alloc: Global, count: usize) -> Result<Option<ScalarValue>, ScalarError> {
+    let mut value = Some(number(42));
+    let mut dtype = DType::Primitive(PType::I32, Nullability::NonNullable);
+    for _ in 0..count {
+        let scalar = Scalar::try_new(dtype, value)?;
+        value = Some(ScalarValue::Variant(VariantRef::new(alloc, scalar)?));
+        dtype = DType::Variant(Nullability::NonNullable);
+    }
+    Ok(value)
+}
+
+#[test]
+fn a_hundred_messages_nest_in_variants(rt: HostRuntime) -> Result<(), Fail> {
+    let alloc = rt.alloc();
+    assert!(rt; !is_too_deep(alloc, &variants(alloc, 49)?));
+    assert!(rt; is_too_deep(alloc, &variants(alloc, 50)?));
     Ok(())
 }
 

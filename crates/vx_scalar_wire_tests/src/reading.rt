@@ -170,13 +170,11 @@ fn is_text(alloc: Global, bytes: &[u8], text: &str) -> bool {
 #[test]
 fn values_are_read_at_types(rt: HostRuntime) -> Result<(), Fail> {
     let alloc = rt.alloc();
-    assert!(rt; read(alloc, &[0x08, 0x00], 0)? == Answer::Null);
     assert!(rt; read(alloc, &[0x10, 0x01], 0)? == Answer::Bool(true));
     assert!(rt; read(alloc, &[0x18, 0x54], 1)? == Answer::Number(PValue::I32(42)));
     assert!(rt; read(alloc, &[0x20, 0x2a], 1)? == Answer::Number(PValue::I32(42)));
     assert!(rt; read(alloc, &[0x20, 0x2a], 17)? == Answer::Number(PValue::U32(42)));
     assert!(rt; read(alloc, &[0x18, 0x54], 15)? == Answer::Number(PValue::I32(42)));
-    assert!(rt; read(alloc, &[0x08, 0x00], 11)? == Answer::Null);
     assert!(rt; read(alloc, &[0x18, 0xff, 0x01], 2)? == Answer::Number(PValue::I8(-128)));
     assert!(rt; read(alloc, &[0x18, 0x54], 3)? == Answer::Number(PValue::U64(42)));
     assert!(rt; read(alloc, &[0x50, 0xb8, 0x6d], 4)? == Answer::Number(PValue::F16(14008)));
@@ -188,11 +186,46 @@ fn values_are_read_at_types(rt: HostRuntime) -> Result<(), Fail> {
     assert!(rt; read(alloc, &[0x42, 0x02, 0x68, 0x69], 7)? == Answer::Text);
     assert!(rt; read(alloc, &[0x3a, 0x02, 0x68, 0x69], 8)? == Answer::Bytes);
     assert!(rt; read(alloc, &[0x42, 0x01, 0xff], 8)? == Answer::Bytes);
+    Ok(())
+}
+
+#[test]
+fn null_is_read_at_every_type(rt: HostRuntime) -> Result<(), Fail> {
+    for which in 0..18 {
+        assert!(rt; read(rt.alloc(), &[0x08, 0x00], which)? == Answer::Null);
+    }
+    Ok(())
+}
+
+#[test]
+fn decimals_are_read_by_each_width(rt: HostRuntime) -> Result<(), Fail> {
+    let alloc = rt.alloc();
+    let mut long = [0; 34];
+    long[0] = 0x42;
+    long[1] = 0x20;
+    long[2] = 0x07;
+    let mut seven = [0; 32];
+    seven[0] = 0x07;
+    assert!(rt; read(alloc, &[0x42, 0x01, 0xff], 9)? == Answer::Decimal(DecimalValue::I8(-1)));
+    assert!(rt;
+        read(alloc, &[0x42, 0x02, 0xfe, 0xff], 9)? == Answer::Decimal(DecimalValue::I16(-2))
+    );
     assert!(rt;
         read(alloc, &[0x42, 0x04, 0x40, 0xe2, 0x01, 0x00], 9)?
             == Answer::Decimal(DecimalValue::I32(123_456))
     );
-    assert!(rt; read(alloc, &[0x42, 0x01, 0xff], 9)? == Answer::Decimal(DecimalValue::I8(-1)));
+    assert!(rt;
+        read(alloc, &[0x42, 0x08, 5, 0, 0, 0, 0, 0, 0, 0], 9)?
+            == Answer::Decimal(DecimalValue::I64(5))
+    );
+    assert!(rt;
+        read(
+            alloc,
+            &[0x42, 0x10, 6, 0, 0, 0, 0, 0, 0, 0, 0, 0, 0, 0, 0, 0, 0, 0],
+            9
+        )? == Answer::Decimal(DecimalValue::I128(6))
+    );
+    assert!(rt; read(alloc, &long, 9)? == Answer::Decimal(DecimalValue::I256(seven)));
     Ok(())
 }
 
@@ -222,58 +255,75 @@ fn tuples_and_members_are_read(rt: HostRuntime) -> Result<(), Fail> {
 }
 
 #[test]
-fn what_a_type_does_not_take_is_refused(rt: HostRuntime) -> Result<(), Fail> {
+fn a_member_of_another_type_is_refused(rt: HostRuntime) -> Result<(), Fail> {
     let alloc = rt.alloc();
     let mismatch = Answer::Refused(ScalarWireError::KindMismatch);
-    let range = Answer::Refused(ScalarWireError::OutOfRange);
-    let child = Answer::Refused(ScalarWireError::BadChild);
-    let missing = Answer::Refused(ScalarWireError::MissingKind);
     let two: &[u8] = &[0x4a, 0x08, 0x0a, 0x02, 0x18, 0x54, 0x0a, 0x02, 0x18, 0x56];
-    assert!(rt; read(alloc, &[], 0)? == missing);
-    assert!(rt; read(alloc, &[0x18, 0x54], 0)? == mismatch);
     assert!(rt; read(alloc, &[0x10, 0x01], 1)? == mismatch);
-    assert!(rt; read(alloc, &[0x18, 0x01], 3)? == range);
-    assert!(rt; read(alloc, &[0x20, 0x80, 0x01], 2)? == range);
-    assert!(rt; read(alloc, &[0x50, 0x80, 0x80, 0x04], 4)? == range);
-    assert!(rt; read(alloc, &[0x20, 0x80, 0x80, 0x04], 4)? == range);
+    assert!(rt; read(alloc, &[0x18, 0x54], 0)? == mismatch);
+    assert!(rt; read(alloc, &[0x18, 0x54], 4)? == mismatch);
+    assert!(rt; read(alloc, &[0x20, 0x2a], 5)? == mismatch);
+    assert!(rt; read(alloc, &[0x20, 0x2a], 7)? == mismatch);
     assert!(rt; read(alloc, &[0x2d, 1, 0, 0, 0], 6)? == mismatch);
-    assert!(rt;
-        read(alloc, &[0x42, 0x01, 0xff], 7)? == Answer::Refused(ScalarWireError::BadScalar)
-    );
-    assert!(rt; read(alloc, &[0x42, 0x03, 1, 2, 3], 9)? == range);
-    assert!(rt; read(alloc, &[0x3a, 0x02, 0x68, 0x69], 9)? == mismatch);
-    assert!(rt; read(alloc, &[0x50, 0x01], 1)? == mismatch);
     assert!(rt; read(alloc, &[0x31, 2, 0, 0, 0, 0, 0, 0, 0], 5)? == mismatch);
+    assert!(rt; read(alloc, &[0x50, 0x01], 1)? == mismatch);
+    assert!(rt; read(alloc, &[0x50, 0x01], 5)? == mismatch);
+    assert!(rt; read(alloc, &[0x3a, 0x02, 0x68, 0x69], 9)? == mismatch);
     assert!(rt; read(alloc, &[0x42, 0x01, 0xff], 0)? == mismatch);
     assert!(rt; read(alloc, two, 12)? == mismatch);
     assert!(rt; read(alloc, &[0x5a, 0x06, 0x08, 0x05, 0x12, 0x02, 0x18, 0x54], 1)? == mismatch);
     assert!(rt; read(alloc, &[0x62, 0x00], 1)? == mismatch);
+    Ok(())
+}
+
+#[test]
+fn a_value_out_of_its_type_is_refused(rt: HostRuntime) -> Result<(), Fail> {
+    let alloc = rt.alloc();
+    let range = Answer::Refused(ScalarWireError::OutOfRange);
+    let unfit = Answer::Refused(ScalarWireError::BadScalar);
+    assert!(rt; read(alloc, &[], 0)? == Answer::Refused(ScalarWireError::MissingKind));
+    assert!(rt; read(alloc, &[0x08, 0x01], 0)? == range);
+    assert!(rt; read(alloc, &[0x18, 0x01], 3)? == range);
+    assert!(rt; read(alloc, &[0x18, 0x80, 0x02], 2)? == range);
+    assert!(rt; read(alloc, &[0x20, 0x80, 0x01], 2)? == range);
+    assert!(rt; read(alloc, &[0x50, 0x80, 0x80, 0x04], 4)? == range);
+    assert!(rt; read(alloc, &[0x20, 0x80, 0x80, 0x04], 4)? == range);
+    assert!(rt; read(alloc, &[0x42, 0x03, 1, 2, 3], 9)? == range);
+    assert!(rt; read(alloc, &[0x42, 0x01, 0xff], 7)? == unfit);
+    Ok(())
+}
+
+#[test]
+fn bad_tuples_and_members_are_refused(rt: HostRuntime) -> Result<(), Fail> {
+    let alloc = rt.alloc();
+    let child = Answer::Refused(ScalarWireError::BadChild);
+    let missing = Answer::Refused(ScalarWireError::MissingKind);
+    let mismatch = Answer::Refused(ScalarWireError::KindMismatch);
+    let large: &[u8] = &[0x5a, 0x07, 0x08, 0x80, 0x02, 0x12, 0x02, 0x18, 0x54];
+    let three: &[u8] = &[0x4a, 0x0c, 0x0a, 2, 8, 0, 0x0a, 2, 8, 0, 0x0a, 2, 8, 0];
+    assert!(rt; read(alloc, &[0x4a, 0x04, 0x0a, 0x02, 0x10, 0x01], 10)? == mismatch);
     assert!(rt; read(alloc, &[0x4a, 0x04, 0x0a, 0x02, 0x18, 0x54], 11)? == child);
-    assert!(rt;
-        read(
-            alloc,
-            &[0x5a, 0x07, 0x08, 0x80, 0x02, 0x12, 0x02, 0x18, 0x54],
-            12
-        )? == range
-    );
+    assert!(rt; read(alloc, three, 11)? == child);
+    assert!(rt; read(alloc, &[0x4a, 0x04, 0x0a, 0x02, 0x18, 0x54], 13)? == mismatch);
+    assert!(rt; read(alloc, large, 12)? == Answer::Refused(ScalarWireError::OutOfRange));
     assert!(rt; read(alloc, &[0x5a, 0x06, 0x08, 0x06, 0x12, 0x02, 0x18, 0x54], 12)? == child);
     assert!(rt; read(alloc, &[0x5a, 0x06, 0x08, 0x05, 0x12, 0x02, 0x08, 0x00], 12)? == child);
     assert!(rt; read(alloc, &[0x5a, 0x02, 0x08, 0x05], 12)? == missing);
+    Ok(())
+}
+
+#[test]
+fn bad_variants_are_refused(rt: HostRuntime) -> Result<(), Fail> {
+    let alloc = rt.alloc();
+    let missing = Answer::Refused(ScalarWireError::MissingKind);
+    let no_type = Answer::Refused(ScalarWireError::BadDType(TypeRefusal::BadType));
+    let null: &[u8] = &[
+        0x62, 0x0a, 0x0a, 0x04, 0x1a, 0x02, 0x08, 0x06, 0x12, 0x02, 0x08, 0x00,
+    ];
     assert!(rt; read(alloc, &[0x62, 0x04, 0x12, 0x02, 0x18, 0x54], 14)? == missing);
     assert!(rt; read(alloc, &[0x62, 0x06, 0x0a, 0x04, 0x1a, 0x02, 0x08, 0x06], 14)? == missing);
-    assert!(rt;
-        read(
-            alloc,
-            &[
-                0x62, 0x0a, 0x0a, 0x04, 0x1a, 0x02, 0x08, 0x06, 0x12, 0x02, 0x08, 0x00
-            ],
-            14
-        )? == Answer::Refused(ScalarWireError::BadScalar)
-    );
-    assert!(rt;
-        read(alloc, &[0x62, 0x06, 0x0a, 0x00, 0x12, 0x02, 0x08, 0x00], 14)?
-            == Answer::Refused(ScalarWireError::BadDType(TypeRefusal::BadType))
-    );
+    assert!(rt; read(alloc, null, 14)? == Answer::Refused(ScalarWireError::BadScalar));
+    assert!(rt; read(alloc, &[0x62, 0x06, 0x0a, 0x00, 0x12, 0x02, 0x08, 0x00], 14)? == no_type);
     Ok(())
 }
 
@@ -354,9 +404,9 @@ fn around(alloc: Global, key: u8, inner: &[u8]) -> Result<Vec<u8>, ScalarWireErr
     Ok(bytes)
 }
 
-// The bytes of so many lists in one another, the innermost empty.
-fn deep_lists(alloc: Global, count: usize) -> Result<Vec<u8>, ScalarWireError> {
-    let mut bytes = around(alloc, 0x4a, &[])?;
+// The bytes of so many lists in one another, round a list of these elements.
+fn deep_lists(alloc: Global, count: usize, inner: &[u8]) -> Result<Vec<u8>, ScalarWireError> {
+    let mut bytes = around(alloc, 0x4a, inner)?;
     for _ in 1..count {
         let value = around(alloc, 0x0a, &bytes)?;
         bytes = around(alloc, 0x4a, &value)?;
@@ -364,17 +414,17 @@ fn deep_lists(alloc: Global, count: usize) -> Result<Vec<u8>, ScalarWireError> {
     Ok(bytes)
 }
 
-fn read_lists(alloc: Global, count: usize) -> Result<Answer, ScalarWireError> {
-    let bytes = deep_lists(alloc, count)?;
+fn read_lists(alloc: Global, count: usize, inner: &[u8]) -> Result<Answer, ScalarWireError> {
+    let bytes = deep_lists(alloc, count, inner)?;
     match deep_type(alloc, count) {
         Ok(dtype) => Ok(read_at(alloc, &bytes, &dtype)),
         Err(_) => Err(ScalarWireError::OutOfMemory),
     }
 }
 
-// The bytes of so many variants in one another, over the number 42.
-fn deep_variants(alloc: Global, count: usize) -> Result<Vec<u8>, ScalarWireError> {
-    let mut bytes = Vec::from_slice(alloc, &[0x18, 0x54])?;
+// The bytes of so many variants in one another, the innermost an I32 of these bytes.
+fn deep_variants(alloc: Global, count: usize, inner: &[u8]) -> Result<Vec<u8>, ScalarWireError> {
+    let mut bytes = Vec::from_slice(alloc, inner)?;
     let mut dtype = Vec::from_slice(alloc, &[0x0a, 0x04, 0x1a, 0x02, 0x08, 0x06])?;
     for _ in 0..count {
         let value = around(alloc, 0x12, &bytes)?;
@@ -385,18 +435,29 @@ fn deep_variants(alloc: Global, count: usize) -> Result<Vec<u8>, ScalarWireError
     Ok(bytes)
 }
 
-fn read_variants(alloc: Global, count: usize) -> Result<Answer, ScalarWireError> {
-    let bytes = deep_variants(alloc, count)?;
+fn read_variants(alloc: Global, count: usize, inner: &[u8]) -> Result<Answer, ScalarWireError> {
+    let bytes = deep_variants(alloc, count, inner)?;
     Ok(read_at(alloc, &bytes, &DType::Variant(NO)))
 }
 
+// A list nests two messages, and a value in it one more.
 #[test]
-fn a_hundred_messages_are_read(rt: HostRuntime) -> Result<(), Fail> {
+fn a_hundred_messages_are_read_as_lists(rt: HostRuntime) -> Result<(), Fail> {
     let alloc = rt.alloc();
     let deep = Answer::Refused(ScalarWireError::TooDeep);
-    assert!(rt; read_lists(alloc, 50)? == Answer::Tuple(1));
-    assert!(rt; read_lists(alloc, 51)? == deep);
-    assert!(rt; read_variants(alloc, 49)? == Answer::Variant);
-    assert!(rt; read_variants(alloc, 50)? == deep);
+    assert!(rt; read_lists(alloc, 50, &[])? == Answer::Tuple(1));
+    assert!(rt; read_lists(alloc, 50, &[0x0a, 0x02, 0x08, 0x00])? == deep);
+    assert!(rt; read_lists(alloc, 51, &[])? == deep);
+    Ok(())
+}
+
+// The type in 49 variants is the hundredth message; a value in a list there is one more.
+#[test]
+fn a_hundred_messages_are_read_as_variants(rt: HostRuntime) -> Result<(), Fail> {
+    let alloc = rt.alloc();
+    let deep = Answer::Refused(ScalarWireError::TooDeep);
+    assert!(rt; read_variants(alloc, 49, &[0x18, 0x54])? == Answer::Variant);
+    assert!(rt; read_variants(alloc, 49, &[0x4a, 0x04, 0x0a, 0x02, 0x08, 0x00])? == deep);
+    assert!(rt; read_variants(alloc, 50, &[0x18, 0x54])? == deep);
     Ok(())
 }
