@@ -6,6 +6,8 @@
 mod blobs;
 #[cfg(test)]
 mod decimals;
+#[cfg(test)]
+mod expressions;
 pub mod files;
 #[cfg(test)]
 mod flag_files;

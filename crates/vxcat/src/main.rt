@@ -1,4 +1,4 @@
-//! Reads blobs of arrays from files and writes them again.
+//! Reads blobs of arrays and expressions from files and writes them again.
 #![tactic(auto)]
 
 use std::alloc::Global;
@@ -16,7 +16,7 @@ const NO_COMMAND: u8 = 2;
 // The status for a text that could not be printed.
 const WRITE_FAULT: u8 = 5;
 
-const HELP: &str = "vxcat reads the blob of an array from a file and writes it again.
+const HELP: &str = "vxcat reads the blob of an array, or an expression, from a file and writes it again.
 
 vxcat recode TYPE BLOB LEN IDS OUT OUTIDS [--pad OFFSET] [--rows N] [--allow FILE]
     TYPE      a file with the logical type, as a table message
@@ -28,6 +28,8 @@ vxcat recode TYPE BLOB LEN IDS OUT OUTIDS [--pad OFFSET] [--rows N] [--allow FIL
     --pad     write pads, as at this position
     --rows    list so many rows, at most 1000, in the place of 10
     --allow   write with the identifiers of this file alone, one a line
+vxcat expr FILE
+    FILE      a file with an expression, as a tagged message
 vxcat --help
 vxcat --version
 ";

@@ -1,11 +1,12 @@
 -- Where inputs can be recoded and no fault comes, a run ends well or for want of memory.
-use Rattle.std.proofs.Common.{◌≡◌, ◌⊎◌, inl, inr, ℕ, Option, Some, None, List, [], get_or, drop, refl, sym, ap, subst, ◌∙◌}
+use Rattle.std.proofs.Common.{◌≡◌, ◌⊎◌, inl, inr, ℕ, Option, Some, None, List, [], get_or, drop, length, refl, sym, ap, subst, ◌∙◌, arith}
 use Rattle.std.specs.Bool.{IsTrue}
 use Rattle.std.specs.List.{flat_map}
 use Rattle.std.proofs.lemmas.Fmt.{decimal_injective}
 use Rattle.vxcat_core.specs.declared.status.Status.{Status}
-use Rattle.vxcat_core.specs.declared.status.Status.TheVariants.{Done, OutOfMemory, NoCommand, LoadFault, SaveFault, WriteFault, BadType, BadIds, Refused}
-use Rattle.vxcat_core.specs.Commands.{CanEnd, Command, Ends, Invokes, recode}
+use Rattle.vxcat_core.specs.declared.status.Status.TheVariants.{Done, OutOfMemory, NoCommand, LoadFault, SaveFault, WriteFault, BadType, BadIds, BadExpression, Refused}
+use Rattle.vxcat_core.specs.Commands.{CanEnd, Command, Ends, Invokes, recode, expr}
+use Rattle.vxcat_core.specs.ExprCommand.{CanEndExpr, EndsExpr, EndsUnread, InvokesExpr, IsReadAs}
 use Rattle.vxcat_core.specs.Options.{Setting, setting_words, settings_of}
 use Rattle.vxcat_core.specs.Outcome.{CanRun}
 use Rattle.vxcat_core.specs.Recode.{AreInputs, CanEndRecode, CanRecodeInputs, EndsRecode, EndsRefused, InvokesRecode, Loaded, Recode, StandsIfNamed}
@@ -62,12 +63,33 @@ recode_complete : (status : Status) (line : Recode) (run : Run) → CanEndRecode
 recode_complete Done line run can none ends = inl refl
 recode_complete OutOfMemory line run can none ends = inr refl
 recode_complete NoCommand line run can none ends = absurd ends
+recode_complete BadExpression line run can none ends = absurd ends
 recode_complete LoadFault line run can none ends = absurd (none.loads ends.0)
 recode_complete SaveFault line run can none ends = absurd (none.saves ends.0)
 recode_complete WriteFault line run can none ends = absurd (none.writes ends.0)
 recode_complete BadType line run can none ends = absurd (never_refused BadType line run can ends)
 recode_complete BadIds line run can none ends = absurd (never_refused BadIds line run can ends)
 recode_complete (Refused refusal) line run can none ends = absurd (never_refused (Refused refusal) line run can ends)
+
+never_unread : (file : List ℕ) (run : Run) → CanEndExpr file run.before → EndsUnread file run → ⊥
+never_unread file run can ends =
+    let same = stands_same run.before file can.bytes ends.bytes can.tells can.stands ends.stands in
+    ends.none can.expr (subst (λ (b : List ℕ). IsReadAs b can.expr) same can.read)
+
+expr_complete : (status : Status) (file : List ℕ) (run : Run) → CanEndExpr file run.before → HasNoFault run → EndsExpr status file run → (status_number status ≡ 0) ⊎ (status_number status ≡ 1)
+expr_complete Done file run can none ends = inl refl
+expr_complete OutOfMemory file run can none ends = inr refl
+expr_complete LoadFault file run can none ends = absurd (none.loads ends.0)
+expr_complete WriteFault file run can none ends = absurd (none.writes ends.0)
+expr_complete BadExpression file run can none ends = absurd (never_unread file run can ends)
+expr_complete status file run can none ends = absurd ends
+
+-- Words invoke one file of `expr` at most, and no line of `recode` beside it.
+file_same : (words : List (List ℕ)) (a b : List ℕ) → InvokesExpr words a → InvokesExpr words b → a ≡ b
+file_same words a b first second = word _ _ 1 (sym first ∙ second)
+
+one_command : (words : List (List ℕ)) (line : Recode) (file : List ℕ) → InvokesRecode words line → InvokesExpr words file → ⊥
+one_command words line file first second = omega (arith, ap (λ (l : List (List ℕ)). length l) (sym first.words_are ∙ second))
 
 -- A command that can end well does so, or for want of memory.
 pub complete : (words : List (List ℕ)) (status : Status) (command : Command) (run : Run) → CanRun words run.before → HasNoFault run → Invokes words command → Ends status command run
@@ -76,3 +98,7 @@ complete words status command run can none invoked ends = by_commands can.comman
   by_commands : (a : Command) → Invokes words a → CanEnd a run.before → (b : Command) → Invokes words b → Ends status b run → (status_number status ≡ 0) ⊎ (status_number status ≡ 1)
   by_commands (recode a) first can_a (recode b) second ends_b =
       recode_complete status b run (subst (λ (l : Recode). CanEndRecode l run.before) (line_same words a b first second) can_a) none ends_b
+  by_commands (expr a) first can_a (expr b) second ends_b =
+      expr_complete status b run (subst (λ (f : List ℕ). CanEndExpr f run.before) (file_same words a b first second) can_a) none ends_b
+  by_commands (recode a) first can_a (expr b) second ends_b = absurd (one_command words a b first second)
+  by_commands (expr a) first can_a (recode b) second ends_b = absurd (one_command words b a second first)

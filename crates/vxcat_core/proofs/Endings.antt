@@ -11,8 +11,9 @@ use Rattle.vxcat_core.specs.declared.print.PrintError.TheVariants as print_error
 use Rattle.vxcat_core.specs.declared.status.BlobRefusal.{BlobRefusal}
 use Rattle.vxcat_core.specs.declared.status.BlobRefusal.TheVariants as refusal
 use Rattle.vxcat_core.specs.declared.status.Status.{Status}
-use Rattle.vxcat_core.specs.declared.status.Status.TheVariants.{Done, OutOfMemory, NoCommand, LoadFault, SaveFault, WriteFault, BadType, BadIds, Refused}
-use Rattle.vxcat_core.specs.Commands.{Command, Ends, Invokes, recode}
+use Rattle.vxcat_core.specs.declared.status.Status.TheVariants.{Done, OutOfMemory, NoCommand, LoadFault, SaveFault, WriteFault, BadType, BadIds, BadExpression, Refused}
+use Rattle.vxcat_core.specs.Commands.{Command, Ends, Invokes, recode, expr}
+use Rattle.vxcat_core.specs.ExprCommand.{EndsExpr, InvokesExpr}
 use Rattle.vxcat_core.specs.Listing.{listing}
 use Rattle.vxcat_core.specs.Outcome.{HasOutcome, Outcome}
 use Rattle.vxcat_core.specs.Recode.{AreInputs, AreSaved, CanRecodeInputs, EndsRecode, InvokesRecode, RefusesInputs, KeepsOthers, Loaded, Recode, SavesInOrder, Work, inputs}
@@ -53,7 +54,7 @@ saved_of line loaded outputs after are saved =
 abbrev pub work_of : (line : Recode) (before : StoreState) (loaded : Loaded) (outputs : Outputs) → AreInputs line before loaded → AreOutputs line loaded outputs → Work line before
 work_of line before loaded outputs are_inputs are = record { loaded = loaded; made = are.made; are_inputs = are_inputs; is_made = are.is_made }
 
-untouched : (before after : StoreState) (out : SinkState) → after.tells ≡ before.tells → after.file ≡ before.file → IsUntouched (run_of before after out out)
+pub untouched : (before after : StoreState) (out : SinkState) → after.tells ≡ before.tells → after.file ≡ before.file → IsUntouched (run_of before after out out)
 untouched before after out tells file = record { told = tells; files = file; unprinted = keeps_same out.written }
 
 -- A run that ends at a load.
@@ -63,6 +64,7 @@ load_ends OutOfMemory line before after out asked tells file cause = inl (untouc
 load_ends LoadFault line before after out asked tells file cause = (cause, asked, untouched before after out tells file)
 load_ends Done line before after out asked tells file cause = absurd cause
 load_ends NoCommand line before after out asked tells file cause = absurd cause
+load_ends BadExpression line before after out asked tells file cause = absurd cause
 load_ends SaveFault line before after out asked tells file cause = absurd cause
 load_ends WriteFault line before after out asked tells file cause = absurd cause
 load_ends BadType line before after out asked tells file cause = absurd cause
@@ -80,6 +82,7 @@ save_ends SaveFault line before mid after out work same others order cause = (
 )
 save_ends Done line before mid after out work same others order cause = absurd cause
 save_ends NoCommand line before mid after out work same others order cause = absurd cause
+save_ends BadExpression line before mid after out work same others order cause = absurd cause
 save_ends LoadFault line before mid after out work same others order cause = absurd cause
 save_ends WriteFault line before mid after out work same others order cause = absurd cause
 save_ends BadType line before mid after out work same others order cause = absurd cause
@@ -113,6 +116,7 @@ refused_ends (Refused r) line before after out loaded are cause complete tells f
 }
 refused_ends Done line before after out loaded are cause complete tells file = absurd cause
 refused_ends NoCommand line before after out loaded are cause complete tells file = absurd cause
+refused_ends BadExpression line before after out loaded are cause complete tells file = absurd cause
 refused_ends LoadFault line before after out loaded are cause complete tells file = absurd cause
 refused_ends SaveFault line before after out loaded are cause complete tells file = absurd cause
 refused_ends WriteFault line before after out loaded are cause complete tells file = absurd cause
@@ -143,6 +147,7 @@ refusal_not_two refusal.NotRegistered is = absurd (omega (arith, is))
 
 recode_not_two : (status : Status) (line : Recode) (run : Run) → EndsRecode status line run → status_number status ≡ 2 → ⊥
 recode_not_two NoCommand line run ends is = ends
+recode_not_two BadExpression line run ends is = absurd ends
 recode_not_two (Refused r) line run ends is = refusal_not_two r is
 recode_not_two Done line run ends is = absurd (omega (arith, is))
 recode_not_two OutOfMemory line run ends is = absurd (omega (arith, is))
@@ -152,12 +157,22 @@ recode_not_two WriteFault line run ends is = absurd (omega (arith, is))
 recode_not_two BadType line run ends is = absurd (omega (arith, is))
 recode_not_two BadIds line run ends is = absurd (omega (arith, is))
 
+expr_not_two : (status : Status) (file : List ℕ) (run : Run) → EndsExpr status file run → status_number status ≡ 2 → ⊥
+expr_not_two Done file run ends is = absurd (omega (arith, is))
+expr_not_two OutOfMemory file run ends is = absurd (omega (arith, is))
+expr_not_two LoadFault file run ends is = absurd (omega (arith, is))
+expr_not_two WriteFault file run ends is = absurd (omega (arith, is))
+expr_not_two BadExpression file run ends is = absurd (omega (arith, is))
+expr_not_two status file run ends is = absurd ends
+
 -- A command that was run does not end with the number of none.
 pub ends_not_two : (status : Status) (command : Command) (run : Run) → Ends status command run → status_number status ≡ 2 → ⊥
 ends_not_two status (recode line) run ends is = recode_not_two status line run ends is
+ends_not_two status (expr file) run ends is = expr_not_two status file run ends is
 
 recode_outcome : (status : Status) (words : List (List ℕ)) (line : Recode) (run : Run) → Invokes words (recode line) → EndsRecode status line run → Outcome status words run
 recode_outcome NoCommand words line run invoked ends = absurd ends
+recode_outcome BadExpression words line run invoked ends = absurd ends
 recode_outcome Done words line run invoked ends = (recode line, invoked, ends)
 recode_outcome OutOfMemory words line run invoked ends = (recode line, invoked, ends)
 recode_outcome LoadFault words line run invoked ends = (recode line, invoked, ends)
@@ -167,6 +182,14 @@ recode_outcome BadType words line run invoked ends = (recode line, invoked, ends
 recode_outcome BadIds words line run invoked ends = (recode line, invoked, ends)
 recode_outcome (Refused r) words line run invoked ends = (recode line, invoked, ends)
 
+expr_outcome : (status : Status) (words : List (List ℕ)) (file : List ℕ) (run : Run) → Invokes words (expr file) → EndsExpr status file run → Outcome status words run
+expr_outcome Done words file run invoked ends = (expr file, invoked, ends)
+expr_outcome OutOfMemory words file run invoked ends = (expr file, invoked, ends)
+expr_outcome LoadFault words file run invoked ends = (expr file, invoked, ends)
+expr_outcome WriteFault words file run invoked ends = (expr file, invoked, ends)
+expr_outcome BadExpression words file run invoked ends = (expr file, invoked, ends)
+expr_outcome status words file run invoked ends = absurd ends
+
 -- How a command ends is the run's outcome, told by the number of its status.
 pub has_outcome : (number : ℕ) (status : Status) (words : List (List ℕ)) (command : Command) (run : Run) → number ≡ status_number status → Invokes words command → Ends status command run → HasOutcome number words run
 has_outcome number status words (recode line) run is invoked ends = record {
@@ -174,7 +197,13 @@ has_outcome number status words (recode line) run is invoked ends = record {
   number_is = is;
   outcome = recode_outcome status words line run invoked ends;
 }
+has_outcome number status words (expr file) run is invoked ends = record {
+  status = status;
+  number_is = is;
+  outcome = expr_outcome status words file run invoked ends;
+}
 
 -- Words that invoke no line of any command invoke none.
-pub no_command : (words : List (List ℕ)) → ((line : Recode) → ¬ (InvokesRecode words line)) → (command : Command) → ¬ (Invokes words command)
-no_command words none (recode line) = none line
+pub no_command : (words : List (List ℕ)) → ((line : Recode) → ¬ (InvokesRecode words line)) → ((file : List ℕ) → ¬ (InvokesExpr words file)) → (command : Command) → ¬ (Invokes words command)
+no_command words none no_expr (recode line) = none line
+no_command words none no_expr (expr file) = no_expr file

@@ -2,6 +2,7 @@ mod AskedNames
 mod Completeness
 mod DecimalNumbers
 mod Endings
+mod Expressions
 mod IdLines
 mod KnownText
 mod Listings

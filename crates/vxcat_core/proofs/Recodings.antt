@@ -22,7 +22,7 @@ use Rattle.vxcat_core.specs.declared.id_file.IdFileError.{IdFileError}
 use Rattle.vxcat_core.specs.declared.id_file.IdFileError.TheVariants as id_error
 use Rattle.vxcat_core.specs.declared.recode.steps.Outputs.{Outputs}
 use Rattle.vxcat_core.specs.declared.status.Status.{Status}
-use Rattle.vxcat_core.specs.declared.status.Status.TheVariants.{Done, OutOfMemory, NoCommand, LoadFault, SaveFault, WriteFault, BadType, BadIds, Refused}
+use Rattle.vxcat_core.specs.declared.status.Status.TheVariants.{Done, OutOfMemory, NoCommand, LoadFault, SaveFault, WriteFault, BadType, BadIds, BadExpression, Refused}
 use Rattle.vxcat_core.specs.IdFile.{ReadsIds}
 use Rattle.vxcat_core.specs.Recode.{AreRead, CanRecodeInputs, ReadsAllowed, RefusesInputs, Loaded, Recode, Terms, asked_by, context_of, padded_at}
 use Rattle.vxcat_core.proofs.IdLines.{lines_unique}
@@ -80,6 +80,7 @@ type_cause OutOfMemory line loaded bytes e s complete = tt
 type_cause BadType line loaded bytes e s complete = λ t r. not_memory (complete t (subst (λ (m : List ℕ). IsRead (ShowsType m) no_readers t) (sym e) r))
 type_cause Done line loaded bytes e s complete = absurd s
 type_cause NoCommand line loaded bytes e s complete = absurd s
+type_cause BadExpression line loaded bytes e s complete = absurd s
 type_cause LoadFault line loaded bytes e s complete = absurd s
 type_cause SaveFault line loaded bytes e s complete = absurd s
 type_cause WriteFault line loaded bytes e s complete = absurd s
@@ -106,6 +107,7 @@ allowed_refused BadIds bytes h = never where
   never (Some ids) r = h ids r
 allowed_refused Done bytes h = absurd h
 allowed_refused NoCommand bytes h = absurd h
+allowed_refused BadExpression bytes h = absurd h
 allowed_refused LoadFault bytes h = absurd h
 allowed_refused SaveFault bytes h = absurd h
 allowed_refused WriteFault bytes h = absurd h
@@ -118,6 +120,7 @@ ids_cause OutOfMemory line loaded bytes e h = tt
 ids_cause BadIds line loaded bytes e h = inl (λ ids r. h ids (subst (λ (m : List ℕ). ReadsIds m ids) (sym e) r))
 ids_cause Done line loaded bytes e h = absurd h
 ids_cause NoCommand line loaded bytes e h = absurd h
+ids_cause BadExpression line loaded bytes e h = absurd h
 ids_cause LoadFault line loaded bytes e h = absurd h
 ids_cause SaveFault line loaded bytes e h = absurd h
 ids_cause WriteFault line loaded bytes e h = absurd h
@@ -129,6 +132,7 @@ allowed_cause OutOfMemory line loaded h = tt
 allowed_cause BadIds line loaded h = inr h
 allowed_cause Done line loaded h = absurd h
 allowed_cause NoCommand line loaded h = absurd h
+allowed_cause BadExpression line loaded h = absurd h
 allowed_cause LoadFault line loaded h = absurd h
 allowed_cause SaveFault line loaded h = absurd h
 allowed_cause WriteFault line loaded h = absurd h
@@ -141,6 +145,7 @@ ids_memory OutOfMemory Reads h ids r = refl
 ids_memory BadIds Reads h ids r = absurd (h ids r)
 ids_memory Done Reads h ids r = absurd h
 ids_memory NoCommand Reads h ids r = absurd h
+ids_memory BadExpression Reads h ids r = absurd h
 ids_memory LoadFault Reads h ids r = absurd h
 ids_memory SaveFault Reads h ids r = absurd h
 ids_memory WriteFault Reads h ids r = absurd h
@@ -169,6 +174,7 @@ blob_to_inputs line loaded terms read OutOfMemory cause = tt
 blob_to_inputs line loaded terms read (Refused r) cause = (terms, read, cause)
 blob_to_inputs line loaded terms read Done cause = absurd cause
 blob_to_inputs line loaded terms read NoCommand cause = absurd cause
+blob_to_inputs line loaded terms read BadExpression cause = absurd cause
 blob_to_inputs line loaded terms read LoadFault cause = absurd cause
 blob_to_inputs line loaded terms read SaveFault cause = absurd cause
 blob_to_inputs line loaded terms read WriteFault cause = absurd cause

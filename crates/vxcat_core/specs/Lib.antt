@@ -1,4 +1,5 @@
 pub mod Commands
+pub mod ExprCommand
 pub mod IdFile
 pub mod Listing
 pub mod Options

@@ -14,7 +14,7 @@ use Rattle.vx_serde.specs.Recoding.{IsFaithful, IsRecoded, Product}
 use Rattle.vx_serde.specs.Request.{CanRecode, Request}
 use Rattle.vx_buffer.specs.Joined.{joined}
 use Rattle.vxcat_core.specs.declared.status.Status.{Status}
-use Rattle.vxcat_core.specs.declared.status.Status.TheVariants.{Done, OutOfMemory, NoCommand, LoadFault, SaveFault, WriteFault, BadType, BadIds, Refused}
+use Rattle.vxcat_core.specs.declared.status.Status.TheVariants.{Done, OutOfMemory, NoCommand, LoadFault, SaveFault, WriteFault, BadType, BadIds, BadExpression, Refused}
 use Rattle.vxcat_core.specs.IdFile.{ReadsIds, id_text}
 use Rattle.vxcat_core.specs.Listing.{listing}
 use Rattle.vxcat_core.specs.Options.{AreOptions, Setting, Settings, setting_words, settings_of}
@@ -216,6 +216,7 @@ abbrev pub EndsRecode : Status → Recode → Run → Type 0
 EndsRecode Done line run = EndsPrinting line run Prints
 EndsRecode OutOfMemory line run = IsUntouched run ⊎ (EndsSaving line run ⊎ EndsPrinting line run PrintsPrefix)
 EndsRecode NoCommand line run = ⊥
+EndsRecode BadExpression line run = ⊥
 EndsRecode LoadFault line run =
     HasRisen run.before.load_faults run.after.load_faults × AskedOnly (inputs line) run.before.asked run.after.asked × IsUntouched run
 EndsRecode SaveFault line run = HasRisen run.before.save_faults run.after.save_faults × EndsSaving line run

@@ -6,7 +6,7 @@ use Rattle.vx_serde.specs.Errors.{error_number}
 use Rattle.vxcat_core.specs.declared.status.BlobRefusal.{BlobRefusal}
 use Rattle.vxcat_core.specs.declared.status.BlobRefusal.TheVariants as refusal
 use Rattle.vxcat_core.specs.declared.status.Status.{Status}
-use Rattle.vxcat_core.specs.declared.status.Status.TheVariants.{Done, OutOfMemory, NoCommand, LoadFault, SaveFault, WriteFault, BadType, BadIds, Refused}
+use Rattle.vxcat_core.specs.declared.status.Status.TheVariants.{Done, OutOfMemory, NoCommand, LoadFault, SaveFault, WriteFault, BadType, BadIds, BadExpression, Refused}
 
 -- A blob's refusal as `recode` answers it.
 abbrev pub wire_error : BlobRefusal → WireError
@@ -25,7 +25,7 @@ wire_error refusal.WireLimit = wire.WireLimit
 wire_error refusal.NotRegistered = wire.NotRegistered
 
 -- The process ends with 0 where all went well, 1 for want of memory, 2 where the words match no command, 3, 4 or 5
--- where a load, a save or a write failed, 6 or 7 for a bad type file or id file, and else with the blob's refusal.
+-- where a load, a save or a write failed, 6, 7 or 8 for a bad type file, id file or expression file, and else with the blob's refusal.
 abbrev pub status_number : Status → ℕ
 status_number Done = 0
 status_number OutOfMemory = 1
@@ -35,4 +35,5 @@ status_number SaveFault = 4
 status_number WriteFault = 5
 status_number BadType = 6
 status_number BadIds = 7
+status_number BadExpression = 8
 status_number (Refused cause) = error_number (wire_error cause)

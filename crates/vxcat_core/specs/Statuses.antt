@@ -1,6 +1,8 @@
 -- The statuses of steps that are refused.
 use Rattle.vx_serde.specs.declared.error.WireError.{WireError}
 use Rattle.vx_serde.specs.declared.error.WireError.TheVariants as wire
+use Rattle.vx_fn_wire.specs.declared.error.FnWireError.{FnWireError}
+use Rattle.vx_fn_wire.specs.declared.error.FnWireError.TheVariants as fn_error
 use Rattle.vx_type_wire.specs.declared.error.TypeWireError.{TypeWireError}
 use Rattle.vx_type_wire.specs.declared.error.TypeWireError.TheVariants as type_error
 use Rattle.vxcat_core.specs.declared.store.StoreError.{StoreError}
@@ -11,7 +13,7 @@ use Rattle.vxcat_core.specs.declared.id_file.IdFileError.{IdFileError}
 use Rattle.vxcat_core.specs.declared.id_file.IdFileError.TheVariants as id_error
 use Rattle.vxcat_core.specs.declared.status.BlobRefusal.TheVariants as refusal
 use Rattle.vxcat_core.specs.declared.status.Status.{Status}
-use Rattle.vxcat_core.specs.declared.status.Status.TheVariants.{OutOfMemory, LoadFault, SaveFault, WriteFault, BadType, BadIds, Refused}
+use Rattle.vxcat_core.specs.declared.status.Status.TheVariants.{OutOfMemory, LoadFault, SaveFault, WriteFault, BadType, BadIds, BadExpression, Refused}
 
 -- Want of memory is one status, wherever it was met; a load that failed is a fault of loading.
 abbrev pub load_status : StoreError → Status
@@ -44,6 +46,18 @@ type_status type_error.WireLimit = BadType
 abbrev pub id_status : IdFileError → Status
 id_status id_error.OutOfMemory = OutOfMemory
 id_status id_error.BadText = BadIds
+
+-- Each refusal of an expression file, but for want of memory, is one of a bad expression.
+abbrev pub expr_status : FnWireError → Status
+expr_status fn_error.OutOfMemory = OutOfMemory
+expr_status fn_error.BadMessage = BadExpression
+expr_status fn_error.TooDeep = BadExpression
+expr_status fn_error.RootWithChildren = BadExpression
+expr_status fn_error.UnknownId = BadExpression
+expr_status fn_error.ArityMismatch = BadExpression
+expr_status fn_error.IdMismatch = BadExpression
+expr_status fn_error.NotSerializable = BadExpression
+expr_status fn_error.PluginRefused = BadExpression
 
 -- A blob's refusal, but for want of memory, is the status itself.
 abbrev pub blob_status : WireError → Status

@@ -2,6 +2,7 @@
 #![tactic(auto)]
 
 mod dir_store;
+mod expr;
 mod id_file;
 mod listing;
 mod mem_sink;

@@ -5,6 +5,7 @@ ghost use Rattle.vxcat_core.specs.Commands.{Command, Invokes};
 ghost use Rattle.vxcat_core.specs.Outcome.{CanRun, HasOutcome};
 ghost use Rattle.vxcat_core.specs.RunState.{HasNoFault, run_of};
 
+use crate::expr::{parse_expr, run_expr};
 use crate::recode::{parse_recode, run_recode};
 use crate::sink::Sink;
 use crate::status::Status;
@@ -16,7 +17,8 @@ use vx_types::Name;
 ///
 /// The words stand without the program's name. `recode TYPE BLOB LEN IDS OUT OUTIDS`, with
 /// `--pad OFFSET`, `--rows N` and `--allow FILE` behind, loads TYPE, BLOB, IDS and FILE, saves OUT
-/// and OUTIDS, and prints the listing of the array.
+/// and OUTIDS, and prints the listing of the array. `expr FILE` loads FILE, reads an expression of
+/// it, and prints its text and the bytes by which it is written again, as hex digits, each on a line.
 pub fn run<S: Store, O: Sink>(alloc: Global, words: &[Name], store: &mut S, out: &mut O) -> u8
     ensures outcome { HasOutcome result words.now (run_of (S.state store.old) (S.state store.new) (O.state out.old) (O.state out.new)) }
     ensures no_command { (result ≡ 2) ↔ ((command : Command) → ¬ (Invokes words.now command)) }
@@ -26,6 +28,9 @@ pub fn run<S: Store, O: Sink>(alloc: Global, words: &[Name], store: &mut S, out:
 {
     match parse_recode(words) {
         Some(words) => run_recode(alloc, &words, store, out).number(),
-        None => Status::NoCommand.number(),
+        None => match parse_expr(words) {
+            Some(file) => run_expr(alloc, file, store, out).number(),
+            None => Status::NoCommand.number(),
+        },
     }
 }

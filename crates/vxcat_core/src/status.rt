@@ -2,11 +2,12 @@
 
 ghost use Rattle.std.specs.Prelude.{◌≡◌};
 ghost use Rattle.vxcat_core.specs.Status.{status_number, wire_error};
-ghost use Rattle.vxcat_core.specs.Statuses.{load_status, save_status, print_status, type_status, id_status, blob_status};
+ghost use Rattle.vxcat_core.specs.Statuses.{load_status, save_status, print_status, type_status, id_status, expr_status, blob_status};
 
 use crate::id_file::IdFileError;
 use crate::print::PrintError;
 use crate::store::StoreError;
+use vx_fn_wire::FnWireError;
 use vx_serde::WireError;
 use vx_type_wire::TypeWireError;
 
@@ -54,7 +55,7 @@ impl BlobRefusal {
 /// How a run of the program ends.
 #[derive(Clone, Copy, Debug, PartialEq, Eq)]
 pub enum Status {
-    /// The outputs are saved and the listing is printed.
+    /// The command's outputs are saved and its text is printed.
     Done,
     /// Memory was wanted and not to be had, at whatever step.
     OutOfMemory,
@@ -64,12 +65,14 @@ pub enum Status {
     LoadFault,
     /// An output could not be saved.
     SaveFault,
-    /// The listing could not be wholly printed; the outputs are saved.
+    /// The command's text could not be wholly printed; its outputs are saved.
     WriteFault,
     /// The type file shows no type within the limits, or one with an extension.
     BadType,
     /// The id file is no text of identifiers.
     BadIds,
+    /// The expression file is read as no expression.
+    BadExpression,
     /// The blob cannot be read or written again, for this cause.
     Refused(BlobRefusal),
 }
@@ -88,6 +91,7 @@ impl Status {
             Status::WriteFault => 5,
             Status::BadType => 6,
             Status::BadIds => 7,
+            Status::BadExpression => 8,
             Status::Refused(refusal) => refusal.wire_error().number(),
         }
     }
@@ -146,6 +150,23 @@ impl Status {
         match error {
             IdFileError::OutOfMemory => Status::OutOfMemory,
             IdFileError::BadText => Status::BadIds,
+        }
+    }
+
+    /// The status of an expression file that was refused.
+    pub fn of_expr(error: FnWireError) -> Status
+        ensures { result ≡ expr_status error }
+    {
+        match error {
+            FnWireError::OutOfMemory => Status::OutOfMemory,
+            FnWireError::BadMessage
+            | FnWireError::TooDeep
+            | FnWireError::RootWithChildren
+            | FnWireError::UnknownId
+            | FnWireError::ArityMismatch
+            | FnWireError::IdMismatch
+            | FnWireError::NotSerializable
+            | FnWireError::PluginRefused => Status::BadExpression,
         }
     }
 

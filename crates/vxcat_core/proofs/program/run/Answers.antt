@@ -1,5 +1,5 @@
 use Rattle.std.proofs.Common.{refl, sym, ◌∙◌}
-use Rattle.vxcat_core.specs.Commands.{recode}
+use Rattle.vxcat_core.specs.Commands.{recode, expr}
 use Rattle.vxcat_core.specs.RecodeViews.{line_of}
 use Rattle.vxcat_core.specs.RunState.{run_of}
 use Rattle.vxcat_core.specs.declared.status.Status.TheVariants.{NoCommand}
@@ -25,15 +25,36 @@ returns-in-Some-clause-complete g c = λ can quiet.
     let ends = complete c.args.words.now c.run_recode.result (recode (line_of c.in-Some.words)) run can quiet c.in-Some.ensures.invoked c.run_recode.ensures in
     rw c.number.ensures ends
 
-pub returns-in-None-clause-outcome : goal.returns-in-None-clause-outcome
-returns-in-None-clause-outcome g c = record {
+pub returns-in-Some-parse_expr-clause-no_command : goal.returns-in-Some-parse_expr-clause-no_command
+returns-in-Some-parse_expr-clause-no_command g c =
+    let file = c.in-Some-parse_expr.file.now in
+    let run = run_of (g.S.Store.state c.args.store.now) (g.S.Store.state c.run_expr.new.store) (g.O.Sink.state c.args.out.now) (g.O.Sink.state c.run_expr.new.out) in (
+      λ two. absurd (ends_not_two c.run_expr.result (expr file) run c.run_expr.ensures (sym c.number-in-Some-parse_expr.ensures ∙ two)),
+      λ none. absurd (none (expr file) c.in-Some-parse_expr.ensures.invoked),
+    )
+
+pub returns-in-Some-parse_expr-clause-outcome : goal.returns-in-Some-parse_expr-clause-outcome
+returns-in-Some-parse_expr-clause-outcome g c =
+    let file = c.in-Some-parse_expr.file.now in
+    let run = run_of (g.S.Store.state c.args.store.now) (g.S.Store.state c.run_expr.new.store) (g.O.Sink.state c.args.out.now) (g.O.Sink.state c.run_expr.new.out) in
+    has_outcome c.number-in-Some-parse_expr.result c.run_expr.result c.args.words.now (expr file) run c.number-in-Some-parse_expr.ensures c.in-Some-parse_expr.ensures.invoked c.run_expr.ensures
+
+pub returns-in-Some-parse_expr-clause-complete : goal.returns-in-Some-parse_expr-clause-complete
+returns-in-Some-parse_expr-clause-complete g c = λ can quiet.
+    let file = c.in-Some-parse_expr.file.now in
+    let run = run_of (g.S.Store.state c.args.store.now) (g.S.Store.state c.run_expr.new.store) (g.O.Sink.state c.args.out.now) (g.O.Sink.state c.run_expr.new.out) in
+    let ends = complete c.args.words.now c.run_expr.result (expr file) run can quiet c.in-Some-parse_expr.ensures.invoked c.run_expr.ensures in
+    rw c.number-in-Some-parse_expr.ensures ends
+
+pub returns-in-None-parse_expr-clause-outcome : goal.returns-in-None-parse_expr-clause-outcome
+returns-in-None-parse_expr-clause-outcome g c = record {
   status = NoCommand;
-  number_is = c.number-in-None.ensures;
-  outcome = (no_command c.args.words.now c.in-None.ensures.none, record { told = refl; files = refl; unprinted = keeps_same (g.O.Sink.state c.args.out.now).written });
+  number_is = c.number-in-None-parse_expr.ensures;
+  outcome = (no_command c.args.words.now c.in-None.ensures.none c.in-None-parse_expr.ensures.none, record { told = refl; files = refl; unprinted = keeps_same (g.O.Sink.state c.args.out.now).written });
 }
 
-pub returns-in-None-clause-complete : goal.returns-in-None-clause-complete
-returns-in-None-clause-complete g c = λ can quiet. absurd (no_command c.args.words.now c.in-None.ensures.none can.command can.invoked)
+pub returns-in-None-parse_expr-clause-complete : goal.returns-in-None-parse_expr-clause-complete
+returns-in-None-parse_expr-clause-complete g c = λ can quiet. absurd (no_command c.args.words.now c.in-None.ensures.none c.in-None-parse_expr.ensures.none can.command can.invoked)
 
-pub returns-in-None-clause-no_command : goal.returns-in-None-clause-no_command
-returns-in-None-clause-no_command g c = (λ two. no_command c.args.words.now c.in-None.ensures.none, λ none. c.number-in-None.ensures)
+pub returns-in-None-parse_expr-clause-no_command : goal.returns-in-None-parse_expr-clause-no_command
+returns-in-None-parse_expr-clause-no_command g c = (λ two. no_command c.args.words.now c.in-None.ensures.none c.in-None-parse_expr.ensures.none, λ none. c.number-in-None-parse_expr.ensures)
