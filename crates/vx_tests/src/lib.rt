@@ -1,12 +1,8 @@
-//! Worked rows, and tests that cross crates: the program over files in memory and over real ones, and blobs of every
-//! kind of number.
+//! Worked rows that cross crates: the program over files in memory and over real ones.
 #![tactic(auto)]
 
 #[cfg(test)]
-mod blobs;
-#[cfg(test)]
 mod decimals;
-pub mod files;
 #[cfg(test)]
 mod flag_files;
 #[cfg(test)]
@@ -14,5 +10,3 @@ mod flags;
 pub mod laws;
 #[cfg(test)]
 mod program;
-#[cfg(test)]
-mod writing;
