@@ -1,14 +1,10 @@
-//! Worked rows, and tests that cross crates: the program over files in memory and over real ones, and blobs of every
-//! kind of number.
+//! Worked rows that cross crates: the program over files in memory and over real ones.
 #![tactic(auto)]
 
-#[cfg(test)]
-mod blobs;
 #[cfg(test)]
 mod decimals;
 #[cfg(test)]
 mod expressions;
-pub mod files;
 #[cfg(test)]
 mod flag_files;
 #[cfg(test)]
@@ -16,5 +12,3 @@ mod flags;
 pub mod laws;
 #[cfg(test)]
 mod program;
-#[cfg(test)]
-mod writing;

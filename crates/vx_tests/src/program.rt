@@ -1,6 +1,6 @@
 //! The program, run on the worked files.
 
-use crate::files::{
+use vx_serde_tests::files::{
     BLOB, BLOB_OF_ANOTHER, BLOB_OF_SECOND, EXTENSION_TYPE, IDS, NULL_BLOB, NULL_IDS, NULL_TYPE,
     PADDED_BLOB, TYPE, UTF8_TYPE,
 };

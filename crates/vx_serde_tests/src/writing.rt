@@ -1,10 +1,10 @@
-//! Why arrays are not written as blobs.
+//! Arrays written as blobs, and why they are not.
 
-use crate::files::{BLOB, IDS};
+use crate::files::{BLOB, BLOB_OF_SECOND, IDS, PADDED_BLOB};
 use std::alloc::Global;
 use std::test::Fail;
 use vx_arrays::{Array, ArrayError, PrimitiveArray};
-use vx_buffer::{Alignment, BufferHandle, ByteBuffer};
+use vx_buffer::{Alignment, BufferHandle, ByteBuffer, ByteBuffers};
 use vx_registry::{ArrayContext, ArraySession, VortexSession};
 use vx_serde::{ArrayExt, SerializeOptions, WireError};
 use vx_type_wire::ExtSession;
@@ -60,6 +60,52 @@ fn padded(offset: usize) -> SerializeOptions {
         offset,
         include_padding: true,
     }
+}
+
+// The four numbers as the buffers of a blob, by the encodings that are shipped.
+fn written(
+    alloc: Global,
+    options: &SerializeOptions,
+    ctx: &mut ArrayContext,
+) -> Result<ByteBuffers, Fail> {
+    let array = four(alloc)?;
+    let session = VortexSession::new(ArraySession::default(alloc)?, ExtSession::new(alloc));
+    Ok(array.serialize(alloc, ctx, &session, options)?)
+}
+
+// Whether buffers are a blob: a first one that is empty and aligned to 8, and together these bytes.
+fn are_blob(alloc: Global, buffers: &ByteBuffers, blob: &[u8]) -> Result<bool, Fail> {
+    let Some(first) = buffers.get(0) else {
+        return Ok(false);
+    };
+    let aligned = first.is_empty() && first.alignment().exponent() == 3;
+    Ok(aligned && buffers.join(alloc)?.as_slice() == blob)
+}
+
+// Whether the four numbers are written as a blob, from these identifiers on, which go on to be those.
+fn are_written(
+    alloc: Global,
+    options: &SerializeOptions,
+    before: &str,
+    blob: &[u8],
+    after: &str,
+) -> Result<bool, Fail> {
+    let before = ids_of(alloc, before)?;
+    let mut ctx = ArrayContext::new(alloc, &before)?;
+    let buffers = written(alloc, options, &mut ctx)?;
+    Ok(are_blob(alloc, &buffers, blob)? && has_ids(alloc, &ctx, after)?)
+}
+
+#[test]
+fn an_array_is_written(rt: HostRuntime) -> Result<(), Fail> {
+    let alloc = rt.alloc();
+    let plain = SerializeOptions::default();
+    assert!(rt; are_written(alloc, &plain, "", &BLOB, IDS)?);
+    assert!(rt; are_written(alloc, &plain, IDS, &BLOB, IDS)?);
+    let second = "a\nvortex.primitive\n";
+    assert!(rt; are_written(alloc, &plain, "a\n", &BLOB_OF_SECOND, second)?);
+    assert!(rt; are_written(alloc, &padded(3), "", &PADDED_BLOB, IDS)?);
+    Ok(())
 }
 
 // Whether the four numbers are refused so, with nothing taken into a context that allows these identifiers.

@@ -34,13 +34,14 @@ fn blob_of(
 }
 
 // The worked identifiers.
-fn worked_ids(alloc: Global) -> Result<ReadContext, TypeError> {
+pub(crate) fn worked_ids(alloc: Global) -> Result<ReadContext, TypeError> {
     let mut ids = Ids::new(alloc);
     ids.push(Id::new(alloc, IDS.trim_end())?)?;
     Ok(ReadContext::new(ids))
 }
 
-fn recoded(
+// The blob recoded at a type and a length, by the worked identifiers.
+pub(crate) fn recoded(
     alloc: Global,
     blob: &[u8],
     dtype: &DType,

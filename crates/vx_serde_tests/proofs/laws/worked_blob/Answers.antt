@@ -3,8 +3,8 @@ use Rattle.std.proofs.Common.{ℕ, List, ◌++◌, length, ap}
 use Rattle.std.specs.Int.{w32, to_le_bytes}
 use Rattle.vx_flat.specs.Layout.{shares}
 use Rattle.vx_flat_tests.proofs.WorkedMessages.{array_laid_out}
-use Rattle.vx_tests.specs.Worked.{numbers}
-use Rattle.vx_tests.proofs.laws.worked_blob.Goals as goal
+use Rattle.vx_serde_tests.specs.Worked.{numbers}
+use Rattle.vx_serde_tests.proofs.laws.worked_blob.Goals as goal
 
 pub returns-clause-bytes : goal.returns-clause-bytes
 returns-clause-bytes c =

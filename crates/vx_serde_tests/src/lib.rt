@@ -1,0 +1,12 @@
+//! The tests of the crate `vx_serde`: worked blobs, and what the definitions say of them; blobs read, read node by node
+//! and written again; arrays written.
+#![tactic(auto)]
+
+#[cfg(test)]
+mod blobs;
+pub mod files;
+pub mod laws;
+#[cfg(test)]
+mod nodes;
+#[cfg(test)]
+mod writing;
