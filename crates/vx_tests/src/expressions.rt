@@ -30,6 +30,42 @@ fn store_of(alloc: Global, bytes: &[u8]) -> Result<MemStore, StoreError> {
     Ok(store)
 }
 
+// The call of `x` on the expression whose bytes these are.
+fn called(alloc: Global, bytes: &[u8]) -> Result<Vec<u8>, StoreError> {
+    let len = bytes.len();
+    if len >= 1 << 14 {
+        return Err(StoreError::Failed);
+    }
+    let mut call = Vec::from_slice(alloc, b"\x0a\x01x\x12")?;
+    call.push((len % 128) as u8 + 128)?;
+    call.push((len / 128) as u8)?;
+    call.extend_from_slice(bytes)?;
+    Ok(call)
+}
+
+// So many calls, one in the other, the innermost without children.
+fn nested(alloc: Global, calls: u32) -> Result<Vec<u8>, StoreError> {
+    let mut bytes = Vec::from_slice(alloc, b"\x0a\x01x")?;
+    for _ in 1..calls {
+        bytes = called(alloc, bytes.as_slice())?;
+    }
+    Ok(bytes)
+}
+
+#[test]
+fn a_hundred_calls_are_read(rt: HostRuntime) -> Result<(), Fail> {
+    let alloc = rt.alloc();
+    let words = names(alloc, &WORDS)?;
+    for (calls, status) in [(100, 0), (101, 8)] {
+        let bytes = nested(alloc, calls)?;
+        let mut store = store_of(alloc, bytes.as_slice())?;
+        let mut out = MemSink::new(alloc);
+        let got = run(alloc, &words, &mut store, &mut out);
+        assert_eq!(rt; got, status, "{calls}");
+    }
+    Ok(())
+}
+
 #[test]
 fn expressions_are_written_again(rt: HostRuntime) -> Result<(), Fail> {
     let alloc = rt.alloc();
