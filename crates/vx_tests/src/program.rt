@@ -1,11 +1,11 @@
 //! The program, run on the worked files.
 
+use std::alloc::Global;
+use std::test::Fail;
 use vx_serde_tests::files::{
     BLOB, BLOB_OF_ANOTHER, BLOB_OF_SECOND, EXTENSION_TYPE, IDS, NULL_BLOB, NULL_IDS, NULL_TYPE,
     PADDED_BLOB, TYPE, UTF8_TYPE,
 };
-use std::alloc::Global;
-use std::test::Fail;
 use vx_types::{Name, TypeError};
 use vxcat_core::{DirStore, MemSink, MemStore, Store, StoreError, run};
 

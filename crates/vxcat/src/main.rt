@@ -16,7 +16,8 @@ const NO_COMMAND: u8 = 2;
 // The status for a text that could not be printed.
 const WRITE_FAULT: u8 = 5;
 
-const HELP: &str = "vxcat reads the blob of an array, or an expression, from a file and writes it again.
+const HELP: &str =
+    "vxcat reads the blob of an array, or an expression, from a file and writes it again.
 
 vxcat recode TYPE BLOB LEN IDS OUT OUTIDS [--pad OFFSET] [--rows N] [--allow FILE]
     TYPE      a file with the logical type, as a table message

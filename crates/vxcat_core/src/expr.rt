@@ -29,12 +29,7 @@ pub fn parse_expr<'a>(words: &'a [Name]) -> Option<&'a Name>
 }
 
 /// Runs the command on this file.
-pub fn run_expr<S: Store, O: Sink>(
-    alloc: Global,
-    file: &Name,
-    store: &mut S,
-    out: &mut O,
-) -> Status
+pub fn run_expr<S: Store, O: Sink>(alloc: Global, file: &Name, store: &mut S, out: &mut O) -> Status
     ensures { EndsExpr result file.now (run_of (S.state store.old) (S.state store.new) (O.state out.old) (O.state out.new)) }
 {
     let bytes = match store.load(alloc, file) {
