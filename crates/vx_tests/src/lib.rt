@@ -15,4 +15,6 @@ pub mod laws;
 #[cfg(test)]
 mod program;
 #[cfg(test)]
+mod varbins;
+#[cfg(test)]
 mod writing;
