@@ -10,3 +10,10 @@ pub mod Complete
 pub mod Calls
 pub mod Gathered
 pub mod LawsScalars
+pub mod Chains
+pub mod StatsEntries
+pub mod StatsRead
+pub mod StatsValues
+pub mod StatsWritten
+pub mod StatsBack
+pub mod LawsStats

@@ -17,7 +17,7 @@ use Rattle.vx_scalar_wire.specs.ScalarMessage.{value_message, value_messages}
 use Rattle.vx_scalar_wire.specs.Shallow.{IsShallow, AreShallow}
 use Rattle.vx_scalar_wire.specs.Writing.{IsUnwritten}
 use Rattle.vx_scalar_wire.specs.declared.error.ScalarWireError.{ScalarWireError}
-use Rattle.vx_scalar_wire.specs.declared.error.ScalarWireError.TheVariants.{OutOfMemory, BadMessage, TooDeep, MissingKind, KindMismatch, OutOfRange, BadChild, BadScalar, BadDType}
+use Rattle.vx_scalar_wire.specs.declared.error.ScalarWireError.TheVariants.{OutOfMemory, BadMessage, TooDeep, MissingKind, KindMismatch, OutOfRange, BadChild, BadScalar, BadDType, BadPrecision, MessageTooLong}
 use Rattle.vx_scalar_wire.specs.declared.error.TypeRefusal.TheVariants.{BadType, UnknownExtension, ExtensionRefused, WireLimit}
 
 -- The members of a list of values.
@@ -75,6 +75,8 @@ unwritten-whole KindMismatch Part Whole f u = absurd u
 unwritten-whole BadChild Part Whole f u = absurd u
 unwritten-whole BadScalar Part Whole f u = absurd u
 unwritten-whole OutOfRange Part Whole f u = absurd u
+unwritten-whole BadPrecision Part Whole f u = absurd u
+unwritten-whole MessageTooLong Part Whole f u = absurd u
 unwritten-whole (BadDType BadType) Part Whole f u = absurd u
 unwritten-whole (BadDType UnknownExtension) Part Whole f u = absurd u
 unwritten-whole (BadDType ExtensionRefused) Part Whole f u = absurd u

@@ -6,3 +6,9 @@ pub mod Nans
 pub mod Refusing
 pub mod RefusingCalls
 pub mod Answers
+pub mod StatsSchema
+pub mod StatsShown
+pub mod StatsUnread
+pub mod StatsTable
+pub mod StatsUnwritten
+pub mod StatsBlocks

@@ -1,5 +1,7 @@
 -- What a writer of messages answers.
 use Rattle.std.specs.Prelude.{◌≡◌, ◌<◌, Result, Ok, Err}
+use Rattle.vx_flat.specs.declared.error.FlatError.{FlatError}
+use Rattle.vx_flat.specs.declared.error.FlatError.TheVariants as flat
 use Rattle.vx_proto.specs.Value.{Value}
 use Rattle.vx_proto.specs.Written.{nested}
 use Rattle.vx_proto.specs.declared.error.ProtoError.{ProtoError}
@@ -9,7 +11,7 @@ use Rattle.vx_scalars.specs.declared.error.ScalarError.{ScalarError}
 use Rattle.vx_scalars.specs.declared.error.ScalarError.TheVariants as scalar
 use Rattle.vx_types.specs.declared.error.TypeError.{TypeError}
 use Rattle.vx_types.specs.declared.error.TypeError.TheVariants as type_error
-use Rattle.vx_scalar_wire.specs.declared.error.ScalarWireError.TheVariants.{OutOfMemory, BadMessage, TooDeep, OutOfRange, BadScalar, BadDType}
+use Rattle.vx_scalar_wire.specs.declared.error.ScalarWireError.TheVariants.{OutOfMemory, BadMessage, TooDeep, OutOfRange, BadScalar, BadDType, MessageTooLong}
 use Rattle.vx_scalar_wire.specs.declared.error.TypeRefusal.TheVariants.{WireLimit}
 
 -- Why nothing is written: something is not shallow. Want of memory has no cause.
@@ -29,6 +31,11 @@ refusal_of_proto proto.OutOfMemory = OutOfMemory
 refusal_of_proto proto.BadMessage = BadMessage
 refusal_of_proto proto.TooDeep = TooDeep
 refusal_of_proto proto.OutOfRange = OutOfRange
+
+-- A refusal of a table is that of its statistics. A builder has no other refusal than these two.
+abbrev pub refusal_of_flat : FlatError → ScalarWireError
+refusal_of_flat flat.OutOfMemory = OutOfMemory
+refusal_of_flat error = MessageTooLong
 
 -- A refusal of a scalar is that of its message.
 abbrev pub refusal_of_scalar : ScalarError → ScalarWireError

@@ -5,6 +5,7 @@ ghost use Rattle.vx_scalar_wire.specs.declared.error.ScalarWireError.TheVariants
 
 use std::alloc::{AllocError, AllocFailed};
 use thiserror::Error;
+use vx_flat::FlatError;
 use vx_proto::ProtoError;
 use vx_scalars::ScalarError;
 use vx_types::TypeError;
@@ -55,9 +56,15 @@ pub enum ScalarWireError {
     /// A value does not fit its type, or bytes are no text: 7.
     #[error("the value does not fit its type")]
     BadScalar,
+    /// A statistic's precision is over 1: 8.
+    #[error("a statistic has an unknown precision")]
+    BadPrecision,
     /// The type of a scalar in it is refused: 9.
     #[error("a type is refused: {0}")]
     BadDType(TypeRefusal),
+    /// The written message would be too long: 10.
+    #[error("the written message would be too long")]
+    MessageTooLong,
 }
 
 impl From<AllocError> for ScalarWireError {
@@ -87,6 +94,19 @@ impl From<ProtoError> for ScalarWireError {
             ProtoError::BadMessage => ScalarWireError::BadMessage,
             ProtoError::TooDeep => ScalarWireError::TooDeep,
             ProtoError::OutOfRange => ScalarWireError::OutOfRange,
+        }
+    }
+}
+
+impl From<FlatError> for ScalarWireError {
+    ghost use Rattle.vx_scalar_wire.specs.Writing.{refusal_of_flat};
+
+    ghost from_gives = { λ f e. e ≡ refusal_of_flat f };
+
+    fn from(error: FlatError) -> ScalarWireError {
+        match error {
+            FlatError::OutOfMemory => ScalarWireError::OutOfMemory,
+            _ => ScalarWireError::MessageTooLong,
         }
     }
 }

@@ -1,4 +1,4 @@
-//! Scalars as tagged messages.
+//! Scalars as tagged messages, and statistics as tables.
 #![tactic(auto)]
 
 mod error;
@@ -7,9 +7,13 @@ mod messages;
 mod nans;
 pub mod pb;
 mod reading;
+mod stats;
+mod stats_kind;
 mod writing;
 
 pub use error::{ScalarWireError, TypeRefusal};
 pub use kinds::{ListValueMessage, ScalarMessage, ScalarValueMessage, UnionValueMessage};
 pub use messages::{ScalarExt, ScalarValueExt};
 pub use nans::canonical_nan_sum;
+pub use stats::StatsSetExt;
+pub use stats_kind::StatsKind;

@@ -5,3 +5,5 @@
 mod messages;
 #[cfg(test)]
 mod reading;
+#[cfg(test)]
+mod statistics;

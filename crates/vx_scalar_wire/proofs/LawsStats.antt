@@ -1,0 +1,45 @@
+-- A table shows one set of statistics at most, which fits, and that of a set shows what is written of it.
+use Rattle.std.proofs.Common.{◌≡◌, ◌∙◌, sym}
+use Rattle.vx_flat.specs.IsOf.{AreOf, IsOf}
+use Rattle.vx_flat.specs.Pieces.{table_pieces}
+use Rattle.vx_flat.specs.Schema.{Schema}
+use Rattle.vx_flat.specs.Value.{Field, absent, table, Fields}
+use Rattle.vx_types.specs.Typ.{Typ}
+use Rattle.vx_types.specs.Value as V
+use Rattle.vx_types.specs.Well.{IsWell}
+use Rattle.vx_scalars.specs.Stats.{Stats, FitStats}
+use Rattle.vx_scalar_wire.specs.StatsSchema.{stats_fields, stats_schema}
+use Rattle.vx_scalar_wire.specs.StatsShown.{ShowsStats, ShowsStatsIn}
+use Rattle.vx_scalar_wire.specs.StatsTable.{AreStorable, canonical_sum, stats_pieces, stats_table, written_stats}
+use Rattle.vx_scalar_wire.proofs.StatsBack.{stats_back, sum_well}
+use Rattle.vx_scalar_wire.proofs.StatsEntries.{of_any, pieces_any}
+use Rattle.vx_scalar_wire.proofs.StatsRead.{stats_one, stats_fit}
+
+-- At most one set is shown.
+pub one_set : (d : Typ) (vs : Fields) (t u : Stats) → ShowsStats d vs t → ShowsStats d vs u → t ≡ u
+one_set d vs t u h k = stats_one d vs t u h k
+
+-- The same where the table may be absent.
+pub one_set_in : (d : Typ) (f : Field) (t u : Stats) → ShowsStatsIn d f t → ShowsStatsIn d f u → t ≡ u
+one_set_in d absent t u h k = h ∙ sym k
+one_set_in d (table vs) t u h k = stats_one d vs t u h k
+one_set_in d _ t u h k = absurd h
+
+-- What is shown fits.
+pub shown_fit : (d : Typ) (vs : Fields) (t : Stats) → ShowsStats d vs t → FitStats d t
+shown_fit d vs t h = stats_fit d vs t h
+
+-- The table of a set that fits shows what is written of it.
+pub written_shown : (d : Typ) (t : Stats) → FitStats d t → AreStorable t → ShowsStats d (stats_table t) (written_stats t)
+written_shown d t f w = stats_back d t f w
+
+-- A sum in its written form is well.
+pub canonical_well : (v : V.Value) → IsWell v → IsWell (canonical_sum v)
+canonical_well v h = sum_well v h
+
+-- A table of statistics has the same blocks in every schema that has it, and is of its kind there.
+pub pieces_anywhere : (s : Schema) (t : Stats) → table_pieces s stats_fields (stats_table t) ≡ stats_pieces t
+pieces_anywhere s t = pieces_any s t
+
+pub of_kind_anywhere : (s : Schema) (t : Stats) → IsOf stats_schema (stats_table t) → AreOf s stats_fields (stats_table t)
+of_kind_anywhere s t h = of_any s t h

@@ -1,0 +1,116 @@
+-- What the bytes in a field of statistics are read as.
+use Rattle.std.specs.Prelude.{IfErr, IfOk, MatchOption, MatchResult, Option, Result, Ok, Err}
+use Rattle.std.proofs.Common.{◌≡◌, ◌∙◌, ◌⊎◌, false, ℕ, List, Some, None, refl, sym, ap, subst, inl, inr, true≢false}
+use Rattle.vx_flat.specs.Value.{Field, Fields, number, elements}
+use Rattle.vx_type_wire.specs.Known.{ExtMeaning, no_readers}
+use Rattle.vx_types.specs.Fits.{Fits}
+use Rattle.vx_types.specs.Typ.{Typ}
+use Rattle.vx_types.specs.Value as V
+use Rattle.vx_types.specs.Value.{lone, is_null}
+use Rattle.vx_scalars.specs.Seen.{seen, value_of}
+use Rattle.vx_scalars.specs.Stats.{Told}
+use Rattle.vx_scalars.specs.declared.error.ScalarError.{ScalarError}
+use Rattle.vx_scalars.specs.declared.error.ScalarError.TheVariants as scalar_error
+use Rattle.vx_scalars.specs.declared.precision.Precision.TheVariants.{Exact, Inexact, Absent}
+use Rattle.vx_scalars.specs.declared.stat.Stat.{Stat}
+use Rattle.vx_scalars.specs.declared.value.ScalarValue.{ScalarValue}
+use Rattle.vx_scalars.specs.declared.value.ScalarValue.TheVariants.{Bool, Primitive, Decimal, Utf8, Binary, Tuple, Union, Variant}
+use Rattle.vx_scalar_wire.specs.Reading.{ShowsValue}
+use Rattle.vx_scalar_wire.specs.RefusingCalls.{IsRefusedBytes}
+use Rattle.vx_scalar_wire.specs.StatsShown.{HoldsStat, TellsNothing, IsToldField, ShowsBound, ShowsSum}
+use Rattle.vx_scalar_wire.specs.StatsUnread.{IsRefusedStat, IsUnreadField, IsUnreadStat, IsUnreadStats}
+use Rattle.vx_scalar_wire.specs.Writing.{refusal_of_scalar}
+use Rattle.vx_scalar_wire.specs.declared.error.ScalarWireError.{ScalarWireError}
+use Rattle.vx_scalar_wire.specs.declared.error.ScalarWireError.TheVariants.{OutOfMemory, BadScalar}
+use Rattle.vx_scalar_wire.proofs.LawsScalars.{one_shown}
+use Rattle.vx_scalar_wire.proofs.StatsRead.{holds_one, not_both}
+
+-- A value in hand is not null.
+not_null : (v : ScalarValue) → is_null (value_of v) ≡ false
+not_null (Bool b) = refl
+not_null (Primitive n) = refl
+not_null (Decimal x) = refl
+not_null (Utf8 s) = refl
+not_null (Binary bs) = refl
+not_null (Tuple vs) = refl
+not_null (Union tag v) = refl
+not_null (Variant s) = refl
+
+-- ---- what is read
+
+pub null_told : (s : ExtMeaning) (d : Typ) (bytes : List ℕ) → s ≡ no_readers → ShowsValue s (lone V.null) d bytes → TellsNothing (Some d) (elements bytes)
+null_told s d bytes e h = subst (λ (r : ExtMeaning). ShowsValue r (lone V.null) d bytes) e h
+
+pub value_told : (s : ExtMeaning) (v : ScalarValue) (d : Typ) (bytes : List ℕ) → s ≡ no_readers → ShowsValue s (value_of v) d bytes → Fits (value_of v) d → HoldsStat (Some d) (elements bytes) (value_of v)
+value_told s v d bytes e h f = (subst (λ (r : ExtMeaning). ShowsValue r (value_of v) d bytes) e h, (f, not_null v))
+
+-- ---- what is refused
+
+pub bytes_refused : (s : ExtMeaning) (e : ScalarWireError) (d : Typ) (bytes : List ℕ) → s ≡ no_readers → IsRefusedBytes e s d bytes → IsRefusedStat e d bytes
+bytes_refused s BadScalar d bytes is h = inl (subst (λ (r : ExtMeaning). IsRefusedBytes BadScalar r d bytes) is h)
+bytes_refused s e d bytes is h = subst (λ (r : ExtMeaning). IsRefusedBytes e r d bytes) is h
+
+pub unfit_refused : (s : ExtMeaning) (v : ScalarValue) (x : ScalarError) (e : ScalarWireError) (d : Typ) (bytes : List ℕ) → s ≡ no_readers → ShowsValue s (value_of v) d bytes → e ≡ refusal_of_scalar x
+    → (x ≡ scalar_error.BadScalar) × (Fits (value_of v) d → ⊥) → IsRefusedStat e d bytes
+unfit_refused s v x e d bytes is h g f =
+    subst (λ (y : ScalarWireError). IsRefusedStat y d bytes) (sym (g ∙ ap (λ (z : ScalarError). refusal_of_scalar z) f.0))
+    (inr (value_of v, subst (λ (r : ExtMeaning). ShowsValue r (value_of v) d bytes) is h, not_null v, f.1))
+
+-- ---- what is told is not refused
+
+told_shown : (o : Option Typ) (d : Typ) (bytes : List ℕ) → o ≡ Some d → IsToldField o (elements bytes) → (v : V.Value) × ShowsValue no_readers v d bytes
+told_shown None d bytes e h = absurd (cc)
+told_shown (Some c) d bytes e (inl h) = let same : c ≡ d = cc in (lone V.null, subst (λ (t : Typ). ShowsValue no_readers (lone V.null) t bytes) same h)
+told_shown (Some c) d bytes e (inr h) = let same : c ≡ d = cc in (h.0, subst (λ (t : Typ). ShowsValue no_readers h.0 t bytes) same h.1.0)
+
+pub told_read : (s : ExtMeaning) (r : Result (Option ScalarValue) ScalarWireError) (d : Typ) (bytes : List ℕ) → s ≡ no_readers
+    → ((v : V.Value) → ShowsValue s v d bytes → MatchResult r (λ x. seen x ≡ v) (λ e. e ≡ OutOfMemory)) → IsToldField (Some d) (elements bytes) → IfErr r (λ e. e ≡ OutOfMemory)
+told_read s (Ok x) d bytes is c h = tt
+told_read s (Err e) d bytes is c h =
+    let q = told_shown (Some d) d bytes refl h in
+    c q.0 (subst (λ (r : ExtMeaning). ShowsValue r q.0 d bytes) (sym is) q.1)
+
+pub told_fits : (s : ExtMeaning) (v : ScalarValue) (d : Typ) (bytes : List ℕ) → s ≡ no_readers → ShowsValue s (value_of v) d bytes → (Fits (value_of v) d → ⊥) → IsToldField (Some d) (elements bytes) → ⊥
+told_fits s v d bytes is h f (inl k) =
+    let e : value_of v ≡ lone V.null = one_shown no_readers d bytes (value_of v) (lone V.null) (subst (λ (r : ExtMeaning). ShowsValue r (value_of v) d bytes) is h) k in
+    true≢false (sym (ap (λ (x : V.Value). is_null x) e) ∙ not_null v)
+told_fits s v d bytes is h f (inr k) =
+    let e : k.0 ≡ value_of v = one_shown no_readers d bytes k.0 (value_of v) k.1.0 (subst (λ (r : ExtMeaning). ShowsValue r (value_of v) d bytes) is h) in
+    f (subst (λ (x : V.Value). Fits x d) e k.1.1.0)
+
+-- ---- precisions
+
+pub bound_told : (o : Option Typ) (f p : Field) (x : Told) → ShowsBound o f p x → IsToldField o f
+bound_told o f p (Exact v) h = inr (v, h.0)
+bound_told o f p (Inexact v) h = inr (v, h.0)
+bound_told o f p Absent h = inl h
+
+pub sum_told : (o : Option Typ) (f : Field) (x : Told) → ShowsSum o f x → IsToldField o f
+sum_told o f (Exact v) h = inr (v, h)
+sum_told o f (Inexact v) h = absurd h
+sum_told o f Absent h = inl h
+
+-- A precision of a value that is told is 0 or 1.
+same_precision : (a b : ℕ) → number a ≡ number b → a ≡ b
+same_precision a b h = cc
+
+pub precision_told : (o : Option Typ) (f p : Field) (x : Told) (v : V.Value) (n : ℕ) → ShowsBound o f p x → HoldsStat o f v → p ≡ number n → (n ≡ 0) ⊎ (n ≡ 1)
+precision_told o f p (Exact u) v n h k e = inr (same_precision n 1 (sym e ∙ h.1))
+precision_told o f p (Inexact u) v n h k e = inl (same_precision n 0 (sym e ∙ h.1))
+precision_told o f p Absent v n h k e = absurd (not_both o f v k h)
+
+-- ---- want of memory
+
+pub memory_is : (x : ScalarError) (e : ScalarWireError) → e ≡ refusal_of_scalar x → x ≡ scalar_error.OutOfMemory → e ≡ OutOfMemory
+memory_is x e g h = g ∙ ap (λ (z : ScalarError). refusal_of_scalar z) h
+
+pub memory_field : (x : ScalarError) (e : ScalarWireError) (o : Option Typ) (f : Field) → e ≡ refusal_of_scalar x → x ≡ scalar_error.OutOfMemory → IsUnreadField e o f
+memory_field x e o f g h = subst (λ (y : ScalarWireError). IsUnreadField y o f) (sym (memory_is x e g h)) tt
+
+pub memory_stats : (x : ScalarError) (e : ScalarWireError) (d : Typ) (vs : Fields) → e ≡ refusal_of_scalar x → x ≡ scalar_error.OutOfMemory → IsUnreadStats e d vs
+memory_stats x e d vs g h = subst (λ (y : ScalarWireError). IsUnreadStats y d vs) (sym (memory_is x e g h)) tt
+
+-- A table is refused for one of its statistics.
+pub one_unread : (e : ScalarWireError) (s : Stat) (d : Typ) (vs : Fields) → IsUnreadStat e s d vs → IsUnreadStats e d vs
+one_unread OutOfMemory s d vs h = tt
+one_unread _ s d vs h = (s, h)

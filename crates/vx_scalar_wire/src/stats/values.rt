@@ -1,0 +1,54 @@
+//! The values of a set of statistics as bytes.
+
+ghost use Rattle.std.specs.Prelude.{◌≡◌, IfOk, IfErr, OnOk};
+ghost use Rattle.vx_scalars.specs.Places.{lent};
+ghost use Rattle.vx_scalars.specs.Stats.{told as told_of};
+ghost use Rattle.vx_scalar_wire.specs.StatsBlocks.{stored_field};
+ghost use Rattle.vx_scalar_wire.specs.StatsTable.{value_field, written_sum};
+ghost use Rattle.vx_scalar_wire.specs.StatsUnwritten.{IsWritableTold, IsUnwrittenTold};
+
+use crate::error::ScalarWireError;
+use crate::messages::ScalarValueExt;
+use crate::nans::canonical_nan_sum;
+use std::alloc::Global;
+use vx_proto::Blob;
+use vx_scalars::{Precision, ScalarValue};
+
+/// The bytes of a value that is told, exactly or not.
+pub fn value_bytes(
+    alloc: Global,
+    told: Precision<&ScalarValue>,
+) -> Result<Option<Blob>, ScalarWireError>
+    ensures written { IfOk result (λ b. stored_field b ≡ value_field (told_of (lent told.entry))) }
+    ensures writable { OnOk result (IsWritableTold (told_of (lent told.entry))) }
+    ensures cause { IfErr result (λ e. IsUnwrittenTold e (told_of (lent told.entry))) }
+{
+    match told {
+        Precision::Exact(value) | Precision::Inexact(value) => {
+            Ok(Some(ScalarValue::to_proto_bytes(alloc, Some(value))?))
+        }
+        Precision::Absent => Ok(None),
+    }
+}
+
+/// The bytes of a sum, where it is exact. One that is no number becomes the NaN of its
+/// width.
+pub fn sum_bytes(
+    alloc: Global,
+    told: Precision<&ScalarValue>,
+) -> Result<Option<Blob>, ScalarWireError>
+    ensures written { IfOk result (λ b. stored_field b ≡ value_field (written_sum (told_of (lent told.entry)))) }
+    ensures writable { OnOk result (IsWritableTold (written_sum (told_of (lent told.entry)))) }
+    ensures cause { IfErr result (λ e. IsUnwrittenTold e (written_sum (told_of (lent told.entry)))) }
+{
+    let Precision::Exact(value) = told else {
+        return Ok(None);
+    };
+    match value {
+        ScalarValue::Primitive(number) => {
+            let sum = ScalarValue::Primitive(canonical_nan_sum(*number));
+            value_bytes(alloc, Precision::Exact(&sum))
+        }
+        _ => value_bytes(alloc, Precision::Exact(value)),
+    }
+}
