@@ -1,5 +1,5 @@
 -- A builder that goes on from link to link of a block.
-use Rattle.std.specs.Prelude.{IfErr, Option}
+use Rattle.std.specs.Prelude.{IfErr, MatchResult, OnErr, Option}
 use Rattle.std.proofs.Common.{◌≡◌, ◌∙◌, ◌<◌, ◌^◌, false, ℕ, List, [], ◌∷◌, ◌++◌, length, Some, None, Result, Err, ap, sym, subst, refl, append-nil}
 use Rattle.vx_flat.specs.declared.error.FlatError.{FlatError}
 use Rattle.vx_flat.specs.declared.builder.piece.LinkKind.TheVariants as link
@@ -64,8 +64,15 @@ cut_short b p l ls ps rest now mid new q e h m r =
 pub refused : (b new : Built) (p q : Piece) (ps : List Piece) (e : FlatError) → q ≡ p → IsRefused b q e new → IsStopped b (p ∷ ps) e new
 refused b new p q ps e w r = stopped-first b new p ps e (subst (λ z. IsRefused b z e new) w r)
 
-pub at_error : {T : Type 0} (r : Result T FlatError) (y e : FlatError) (P : FlatError → Type 0) → r ≡ Err y → y ≡ e → P e → IfErr r P
+-- What holds of an error holds of it where it is handed on.
+pub at_error : {T E : Type 0} (r : Result T E) (y e : E) (P : E → Type 0) → r ≡ Err y → y ≡ e → P e → IfErr r P
 at_error r y e P p q h = subst (λ s. IfErr s P) (sym (p ∙ ap Err q)) h
+
+pub at_match : {T E : Type 0} (r : Result T E) (y e : E) (Q : T → Type 0) (P : E → Type 0) → r ≡ Err y → y ≡ e → P e → MatchResult r Q P
+at_match r y e Q P p q h = subst (λ s. MatchResult s Q P) (sym (p ∙ ap Err q)) h
+
+pub on_error : {T E : Type 0} (r : Result T E) (y : E) (P : Type 0) → r ≡ Err y → P → OnErr r P
+on_error r y P p h = subst (λ s. OnErr s P) (sym p) h
 
 -- ---- bytes that may stand
 

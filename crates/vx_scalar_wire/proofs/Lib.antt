@@ -12,6 +12,7 @@ pub mod Gathered
 pub mod LawsScalars
 pub mod Chains
 pub mod StatsEntries
+pub mod StatsWays
 pub mod StatsRead
 pub mod StatsValues
 pub mod StatsWritten

@@ -5,9 +5,9 @@ use Rattle.vx_flat.specs.Value.{elements, number}
 use Rattle.vx_proto.specs.Parts.{flag_number}
 use Rattle.vx_proto.specs.Written.{nested}
 use Rattle.vx_proto.proofs.LawsOfMessages.{written_shown}
-use Rattle.vx_trees.specs.Rose.{Roses, node, end}
+use Rattle.vx_trees.specs.Rose.{Roses, node, end, count}
 use Rattle.vx_type_wire.specs.Known.{no_readers}
-use Rattle.vx_types.specs.Fits.{Fits, FitParts, FitsMember, IsOf, IsVariant, bare}
+use Rattle.vx_types.specs.Fits.{Fits, EachFits, FitBy, FitParts, FitsMember, IsOf, IsVariant, bare}
 use Rattle.vx_types.specs.Kind as K
 use Rattle.vx_types.specs.Kind.{Kind}
 use Rattle.vx_types.specs.Numbers.{kind_of}
@@ -110,8 +110,8 @@ leaf_known (node (V.number n) vs) d l f = ((tt, none_known vs f.1), numeral_dept
 leaf_known (node (V.decimal x) vs) d l f = ((tt, none_known vs f.1), omega arith)
 leaf_known (node (V.utf8 bs) vs) d l f = ((tt, none_known vs f.1), omega arith)
 leaf_known (node (V.binary bs) vs) d l f = ((tt, none_known vs f.1), omega arith)
-leaf_known (node V.tuple vs) d l f = absurd (no_parts _ _ _ d l f)
-leaf_known (node (V.union tag) vs) d l f = absurd (no_member tag _ d l f)
+leaf_known (node V.tuple vs) d l f = absurd (no_parts (count vs) (λ e. EachFits vs e) (λ ts. FitBy vs ts) d l f)
+leaf_known (node (V.union tag) vs) d l f = absurd (no_member tag (λ ts. FitBy vs ts) d l f)
 leaf_known (node (V.variant e) vs) d l f = absurd (no_variant d l f.0)
 
 -- The bytes of a value that fits show it.

@@ -15,7 +15,7 @@ use Rattle.vx_scalars.specs.Stats.{Told, Stats}
 use Rattle.vx_scalars.specs.declared.precision.Precision.TheVariants.{Exact, Inexact, Absent}
 use Rattle.vx_scalar_wire.specs.StatsBlocks.{stored_field, IsStoredOf, vector_entry, number_entry, flag_entry, count_entry, table_entries, vector_pieces, vector_links}
 use Rattle.vx_scalar_wire.specs.StatsSchema.{stats_fields, stats_schema}
-use Rattle.vx_scalar_wire.specs.StatsTable.{value_field, precision_of, written_sum, exact_flag, exact_count, number_field, flag_field, count_field, stats_table, stats_pieces}
+use Rattle.vx_scalar_wire.specs.StatsTable.{value_bytes, value_field, precision_of, written_sum, exact_flag, exact_count, number_field, flag_field, count_field, stats_table, stats_pieces}
 use Rattle.vx_scalar_wire.specs.declared.stats.entries.Stored.{Stored}
 
 -- ---- entries
@@ -109,9 +109,12 @@ regrouped a b c = append_assoc a b c ∙ ap (λ (x : List Piece). a ++ (b ++ x))
 
 -- ---- of the schema
 
+bytes_kind : (bs : List ℕ) → IsOfKind stats_schema (Vector One) (elements bs)
+bytes_kind bs = (length bs, omega arith)
+
 vector_kind : (x : Told) → IsOfKind stats_schema (Vector One) (value_field x)
-vector_kind (Exact v) = (length _, omega arith)
-vector_kind (Inexact v) = (length _, omega arith)
+vector_kind (Exact v) = bytes_kind (value_bytes v)
+vector_kind (Inexact v) = bytes_kind (value_bytes v)
 vector_kind Absent = tt
 
 precision_kind : (x : Told) → IsOfKind stats_schema (Number One) (number (precision_of x))

@@ -1,6 +1,6 @@
 -- A table shows one set of statistics at most, of arrays of a type, and each that it shows fits.
 use Rattle.std.specs.Prelude.{Option}
-use Rattle.std.proofs.Common.{◌≡◌, ◌==◌, ◌∙◌, ◌+◌, ◌<◌, ◌≤◌, Bool, true, false, ℕ, suc, List, Some, None, get_or, refl, sym, ap, subst, true≢false, arith}
+use Rattle.std.proofs.Common.{◌≡◌, ◌==◌, ◌∙◌, ◌+◌, ◌<◌, ◌≤◌, Bool, true, false, ℕ, zero, suc, List, Some, None, get_or, refl, sym, ap, subst, true≢false, arith}
 use Rattle.std.specs.Cmp.{unsigned_Decides}
 use Rattle.vx_flat.specs.Value.{Field, absent, number, elements, Fields}
 use Rattle.vx_type_wire.specs.Known.{no_readers}
@@ -138,19 +138,19 @@ index_below UncompressedSizeInBytes = omega arith
 index_below NaNCount = omega arith
 
 -- The statistic at each place of the nine has that place.
-pub stat_at : ℕ → Stat
+abbrev pub stat_at : ℕ → Stat
 stat_at i = get_or all_stats i Min
 
 pub index_at : (i : ℕ) → i < 9 → stat_index (stat_at i) ≡ i
-index_at 0 h = refl
-index_at 1 h = refl
-index_at 2 h = refl
-index_at 3 h = refl
-index_at 4 h = refl
-index_at 5 h = refl
-index_at 6 h = refl
-index_at 7 h = refl
-index_at 8 h = refl
+index_at zero h = refl
+index_at (suc zero) h = refl
+index_at (suc (suc zero)) h = refl
+index_at (suc (suc (suc zero))) h = refl
+index_at (suc (suc (suc (suc zero)))) h = refl
+index_at (suc (suc (suc (suc (suc zero))))) h = refl
+index_at (suc (suc (suc (suc (suc (suc zero)))))) h = refl
+index_at (suc (suc (suc (suc (suc (suc (suc zero))))))) h = refl
+index_at (suc (suc (suc (suc (suc (suc (suc (suc zero)))))))) h = refl
 index_at (suc (suc (suc (suc (suc (suc (suc (suc (suc i))))))))) h = absurd (omega (arith, h))
 
 pub at_index : (s : Stat) → stat_at (stat_index s) ≡ s

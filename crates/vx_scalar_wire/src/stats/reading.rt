@@ -1,6 +1,6 @@
 //! Statistics out of a view of their table.
 
-ghost use Rattle.std.specs.Prelude.{◌≡◌, ◌+◌, IfOk, IfErr, MatchOption, Some};
+ghost use Rattle.std.specs.Prelude.{◌≡◌, IfOk, IfErr, MatchOption, Some};
 ghost use Rattle.vx_flat.specs.Parts.{IsBytes, IsNumber, IsOptional};
 ghost use Rattle.vx_flat.specs.Seen.{kind_in, kinds_in, part_in, seen};
 ghost use Rattle.vx_flat.specs.Value.{elements};
@@ -33,8 +33,8 @@ pub fn read_stat(
     ensures complete { (x : Told) → ShowsStat stat (typ dtype.now) (seen view.now) x → IfErr result (λ e. e ≡ ScalarWireError.OutOfMemory) }
 {
     match stat {
-        Stat::Min => read_bound(alloc, view, 0, stat, dtype),
-        Stat::Max => read_bound(alloc, view, 2, stat, dtype),
+        Stat::Min => read_bound(alloc, view, 0, 1, stat, dtype),
+        Stat::Max => read_bound(alloc, view, 2, 3, stat, dtype),
         Stat::Sum => read_sum(alloc, view, 4, dtype),
         Stat::IsSorted => Ok(flag_in(view, 5)),
         Stat::IsStrictSorted => Ok(flag_in(view, 6)),
@@ -45,24 +45,25 @@ pub fn read_stat(
     }
 }
 
-// A least or greatest value, with the precision in the field after it.
+// A least or greatest value, with its precision beside it.
 fn read_bound(
     alloc: Global,
     view: &View<'_>,
     field: usize,
+    precision: usize,
     stat: Stat,
     dtype: &DType,
 ) -> Result<Precision<ScalarValue>, ScalarWireError>
     requires bytes { IsBytes (kind_in view.now field) }
-    requires precision { IsNumber (kind_in view.now (field + 1)) }
-    ensures read { IfOk result (λ x. ShowsBound (stat_type stat (typ dtype.now)) (part_in view.now field) (part_in view.now (field + 1)) (told x)) }
-    ensures cause { IfErr result (λ e. IsUnreadBound e (stat_type stat (typ dtype.now)) (part_in view.now field) (part_in view.now (field + 1))) }
-    ensures complete { (x : Told) → ShowsBound (stat_type stat (typ dtype.now)) (part_in view.now field) (part_in view.now (field + 1)) x → IfErr result (λ e. e ≡ ScalarWireError.OutOfMemory) }
+    requires number { IsNumber (kind_in view.now precision) }
+    ensures read { IfOk result (λ x. ShowsBound (stat_type stat (typ dtype.now)) (part_in view.now field) (part_in view.now precision) (told x)) }
+    ensures cause { IfErr result (λ e. IsUnreadBound e (stat_type stat (typ dtype.now)) (part_in view.now field) (part_in view.now precision)) }
+    ensures complete { (x : Told) → ShowsBound (stat_type stat (typ dtype.now)) (part_in view.now field) (part_in view.now precision) x → IfErr result (λ e. e ≡ ScalarWireError.OutOfMemory) }
 {
     let Some(value) = value_in(alloc, view, field, stat, dtype)? else {
         return Ok(Precision::Absent);
     };
-    match view.number(field + 1) {
+    match view.number(precision) {
         0 => Ok(Precision::Inexact(value)),
         1 => Ok(Precision::Exact(value)),
         _ => Err(ScalarWireError::BadPrecision),
