@@ -1,23 +1,30 @@
 -- What the bytes in a field of statistics are read as.
-use Rattle.std.specs.Prelude.{IfErr, IfOk, MatchOption, MatchResult, Option, Result, Ok, Err}
-use Rattle.std.proofs.Common.{◌≡◌, ◌∙◌, ◌⊎◌, false, ℕ, List, Some, None, refl, sym, ap, subst, inl, inr, true≢false}
+use Rattle.std.specs.Prelude.{IfErr, MatchOption, MatchResult, Option, Result, Ok, Err, option_map}
+use Rattle.std.proofs.Common.{◌≡◌, ◌<◌, ◌∙◌, ◌⊎◌, false, ℕ, List, Some, None, refl, sym, ap, subst, inl, inr, true≢false, arith}
+use Rattle.vx_flat.specs.declared.schema.FieldKind.{FieldKind}
+use Rattle.vx_flat.specs.Entries.{part_at}
 use Rattle.vx_flat.specs.Value.{Field, Fields, number, elements}
 use Rattle.vx_type_wire.specs.Known.{ExtMeaning, no_readers}
 use Rattle.vx_types.specs.Fits.{Fits}
+use Rattle.vx_types.specs.Seen.{typ}
 use Rattle.vx_types.specs.Typ.{Typ}
 use Rattle.vx_types.specs.Value as V
 use Rattle.vx_types.specs.Value.{lone, is_null}
+use Rattle.vx_types.specs.declared.dtype.DType.{DType}
 use Rattle.vx_scalars.specs.Seen.{seen, value_of}
+use Rattle.vx_scalars.specs.StatTypes.{stat_type}
 use Rattle.vx_scalars.specs.Stats.{Told}
 use Rattle.vx_scalars.specs.declared.error.ScalarError.{ScalarError}
 use Rattle.vx_scalars.specs.declared.error.ScalarError.TheVariants as scalar_error
 use Rattle.vx_scalars.specs.declared.precision.Precision.TheVariants.{Exact, Inexact, Absent}
 use Rattle.vx_scalars.specs.declared.stat.Stat.{Stat}
+use Rattle.vx_scalars.specs.declared.stat.Stat.TheVariants.{Min, Max}
 use Rattle.vx_scalars.specs.declared.value.ScalarValue.{ScalarValue}
 use Rattle.vx_scalars.specs.declared.value.ScalarValue.TheVariants.{Bool, Primitive, Decimal, Utf8, Binary, Tuple, Union, Variant}
 use Rattle.vx_scalar_wire.specs.Reading.{ShowsValue}
 use Rattle.vx_scalar_wire.specs.RefusingCalls.{IsRefusedBytes}
-use Rattle.vx_scalar_wire.specs.StatsShown.{HoldsStat, TellsNothing, IsToldField, ShowsBound, ShowsSum}
+use Rattle.vx_scalar_wire.specs.StatsSchema.{stats_fields}
+use Rattle.vx_scalar_wire.specs.StatsShown.{HoldsStat, TellsNothing, IsToldField, ShowsBound, ShowsSum, ShowsStat}
 use Rattle.vx_scalar_wire.specs.StatsUnread.{IsRefusedStat, IsUnreadField, IsUnreadStat, IsUnreadStats}
 use Rattle.vx_scalar_wire.specs.Writing.{refusal_of_scalar}
 use Rattle.vx_scalar_wire.specs.declared.error.ScalarWireError.{ScalarWireError}
@@ -98,6 +105,39 @@ pub precision_told : (o : Option Typ) (f p : Field) (x : Told) (v : V.Value) (n 
 precision_told o f p (Exact u) v n h k e = inr (same_precision n 1 (sym e ∙ h.1))
 precision_told o f p (Inexact u) v n h k e = inl (same_precision n 0 (sym e ∙ h.1))
 precision_told o f p Absent v n h k e = absurd (not_both o f v k h)
+
+-- A number of two or more is none of a precision.
+pub never_bad : (o : Option Typ) (f p : Field) (x : Told) (v : V.Value) (n : ℕ) (e : ScalarWireError) → ShowsBound o f p x → HoldsStat o f v → p ≡ number n → 1 < n → e ≡ OutOfMemory
+never_bad o f p x v n e h k is lt = absurd (elim (precision_told o f p x v n h k is) [ inl z ↦ omega (arith, z, lt) | inr z ↦ omega (arith, z, lt) ])
+
+-- ---- what is known of a field
+
+-- A value was read,
+pub read_some : (s : ExtMeaning) (x : Option ScalarValue) (v : ScalarValue) (d : Typ) (bytes : List ℕ) → s ≡ no_readers → x ≡ Some v → ShowsValue s (seen x) d bytes → ShowsValue no_readers (value_of v) d bytes
+read_some s x v d bytes is e h =
+    subst (λ (y : Option ScalarValue). ShowsValue no_readers (seen y) d bytes) e (subst (λ (r : ExtMeaning). ShowsValue r (seen x) d bytes) is h)
+
+pub some_holds : (y : Option ScalarValue) (v : ScalarValue) (o : Option Typ) (f : Field) → y ≡ Some v → MatchOption y (TellsNothing o f) (λ u. HoldsStat o f (value_of u)) → HoldsStat o f (value_of v)
+some_holds y v o f e h = subst (λ (z : Option ScalarValue). MatchOption z (TellsNothing o f) (λ u. HoldsStat o f (value_of u))) e h
+
+-- at the type that arrays have for the statistic,
+pub typed_some : (x : Option DType) (own : DType) (o : Option Typ) → x ≡ Some own → option_map typ x ≡ o → Some (typ own) ≡ o
+typed_some x own o e h = sym (ap (λ (y : Option DType). option_map typ y) e) ∙ h
+
+-- from the bytes that the field has.
+pub told_bytes : (o : Option Typ) (d : Typ) (f : Field) (bytes : List ℕ) → Some d ≡ o → f ≡ elements bytes → IsToldField o f → IsToldField (Some d) (elements bytes)
+told_bytes o d f bytes e g h = subst (λ (x : Field). IsToldField (Some d) x) g (subst (λ (p : Option Typ). IsToldField p f) (sym e) h)
+
+-- The least and the greatest value by their fields.
+pub least_at : (s : Stat) (ks : List FieldKind) (d : Typ) (vs : Fields) (x : Told) → s ≡ Min → ks ≡ stats_fields → ShowsStat s d vs x → ShowsBound (stat_type s d) (part_at ks vs 0) (part_at ks vs 1) x
+least_at s ks d vs x e k h =
+    subst (λ (js : List FieldKind). ShowsBound (stat_type s d) (part_at js vs 0) (part_at js vs 1) x) (sym k)
+    (subst (λ (r : Stat). ShowsBound (stat_type r d) (part_at stats_fields vs 0) (part_at stats_fields vs 1) x) (sym e) (subst (λ (r : Stat). ShowsStat r d vs x) e h))
+
+pub greatest_at : (s : Stat) (ks : List FieldKind) (d : Typ) (vs : Fields) (x : Told) → s ≡ Max → ks ≡ stats_fields → ShowsStat s d vs x → ShowsBound (stat_type s d) (part_at ks vs 2) (part_at ks vs 3) x
+greatest_at s ks d vs x e k h =
+    subst (λ (js : List FieldKind). ShowsBound (stat_type s d) (part_at js vs 2) (part_at js vs 3) x) (sym k)
+    (subst (λ (r : Stat). ShowsBound (stat_type r d) (part_at stats_fields vs 2) (part_at stats_fields vs 3) x) (sym e) (subst (λ (r : Stat). ShowsStat r d vs x) e h))
 
 -- ---- want of memory
 

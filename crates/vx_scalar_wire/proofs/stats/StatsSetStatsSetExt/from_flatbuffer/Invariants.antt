@@ -7,6 +7,6 @@ use Rattle.vx_scalar_wire.proofs.stats.StatsSetStatsSetExt.from_flatbuffer.Given
 
 abbrev pub invariant-loop-stat : goal.invariant-loop-stat
 invariant-loop-stat l = record {
-  whole : l.stats ≡ all_stats;
+  whole : l.stat-items ≡ all_stats;
   so_far : ShowsFront l.stat-index (typ l.dtype) (seen l.view) l.set;
 }
