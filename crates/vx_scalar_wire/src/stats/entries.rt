@@ -86,10 +86,10 @@ fn count_entry_of(told: Precision<&ScalarValue>) -> BlockField
     ensures entry { result ≡ count_entry (told_of (lent told.entry)) }
     ensures small { IfSome (exact_count (told_of (lent told.entry))) (λ n. n < 2 ^ 64) }
 {
-    let Precision::Exact(value) = told else {
+    let Precision::Exact(counted) = told else {
         return BlockField::Absent;
     };
-    match value {
+    match counted {
         ScalarValue::Primitive(PValue::U64(count)) => BlockField::Number {
             width: 8,
             bits: *count,
