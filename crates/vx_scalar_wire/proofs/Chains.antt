@@ -4,7 +4,7 @@ use Rattle.std.proofs.Common.{◌≡◌, ◌∙◌, ◌<◌, ◌^◌, false, ℕ
 use Rattle.vx_flat.specs.declared.error.FlatError.{FlatError}
 use Rattle.vx_flat.specs.declared.builder.piece.LinkKind.TheVariants as link
 use Rattle.vx_flat.specs.Building.{Built, Link, AreLeft, with_piece, with_pieces, waiting, links_of, later_links, next_link}
-use Rattle.vx_flat.specs.Building.{IsNext, IsAwaited, Takes, IsRefused, IsStopped}
+use Rattle.vx_flat.specs.Building.{IsNext, IsAwaited, Takes, IsRefused, Keeps, IsStopped}
 use Rattle.vx_flat.specs.Pieces.{Piece, elements_piece}
 use Rattle.vx_flat.proofs.LawsOfBuilding.{with_pieces-runs, failed-with_pieces, waits-with_pieces, left-with_piece, stopped-first, stopped-later}
 use Rattle.vx_scalar_wire.specs.StatsBlocks.{IsPartWay, IsAtLink, vector_links, vector_pieces}
@@ -112,3 +112,9 @@ went_wrong block index (Some cs) bytes now mid new e is m r b p ls ps rest h =
     cut_short b p (record { block = block; index = index; kind = link.Vector }) ls ps rest now mid new (elements_piece 1 cs) e h m (subst (λ (x : List ℕ). IsRefused mid (elements_piece 1 x) e new) same r)
 
 pub ruleset vector_steps = (at_idle, at_next, at_takes, went_on, went_past, went_wrong)
+
+-- ---- nothing
+
+-- Where nothing was written, the builder keeps what it has.
+pub nothing_kept : (old : Built) (ps : List Piece) → Keeps old ps old
+nothing_kept old ps = record { more = []; rest = ps; front = refl; bytes = refl }

@@ -15,6 +15,5 @@ pub mod StatsEntries
 pub mod StatsWays
 pub mod StatsRead
 pub mod StatsValues
-pub mod StatsWritten
 pub mod StatsBack
 pub mod LawsStats

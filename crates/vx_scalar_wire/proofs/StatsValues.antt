@@ -14,8 +14,6 @@ use Rattle.vx_types.specs.declared.dtype.DType.{DType}
 use Rattle.vx_scalars.specs.Seen.{seen, value_of}
 use Rattle.vx_scalars.specs.StatTypes.{stat_type}
 use Rattle.vx_scalars.specs.Stats.{Told}
-use Rattle.vx_scalars.specs.declared.error.ScalarError.{ScalarError}
-use Rattle.vx_scalars.specs.declared.error.ScalarError.TheVariants as scalar_error
 use Rattle.vx_scalars.specs.declared.precision.Precision.TheVariants.{Exact, Inexact, Absent}
 use Rattle.vx_scalars.specs.declared.stat.Stat.{Stat}
 use Rattle.vx_scalars.specs.declared.stat.Stat.TheVariants.{Min, Max}
@@ -24,13 +22,12 @@ use Rattle.vx_scalars.specs.declared.value.ScalarValue.TheVariants.{Bool, Primit
 use Rattle.vx_scalar_wire.specs.Reading.{ShowsValue}
 use Rattle.vx_scalar_wire.specs.RefusingCalls.{IsRefusedBytes}
 use Rattle.vx_scalar_wire.specs.StatsSchema.{stats_fields}
-use Rattle.vx_scalar_wire.specs.StatsShown.{HoldsStat, TellsNothing, IsToldField, ShowsBound, ShowsSum, ShowsStat}
-use Rattle.vx_scalar_wire.specs.StatsUnread.{IsRefusedStat, IsUnreadField, IsUnreadStat, IsUnreadStats}
-use Rattle.vx_scalar_wire.specs.Writing.{refusal_of_scalar}
+use Rattle.vx_scalar_wire.specs.StatsShown.{HoldsStat, TellsNothing, IsToldField, ShowsBound, ShowsStat}
+use Rattle.vx_scalar_wire.specs.StatsUnread.{IsRefusedStat}
 use Rattle.vx_scalar_wire.specs.declared.error.ScalarWireError.{ScalarWireError}
 use Rattle.vx_scalar_wire.specs.declared.error.ScalarWireError.TheVariants.{OutOfMemory, BadScalar}
 use Rattle.vx_scalar_wire.proofs.LawsScalars.{one_shown}
-use Rattle.vx_scalar_wire.proofs.StatsRead.{holds_one, not_both}
+use Rattle.vx_scalar_wire.proofs.StatsRead.{not_both}
 
 -- A value in hand is not null.
 not_null : (v : ScalarValue) → is_null (value_of v) ≡ false
@@ -45,9 +42,6 @@ not_null (Variant s) = refl
 
 -- ---- what is read
 
-pub null_told : (s : ExtMeaning) (d : Typ) (bytes : List ℕ) → s ≡ no_readers → ShowsValue s (lone V.null) d bytes → TellsNothing (Some d) (elements bytes)
-null_told s d bytes e h = subst (λ (r : ExtMeaning). ShowsValue r (lone V.null) d bytes) e h
-
 pub value_told : (s : ExtMeaning) (v : ScalarValue) (d : Typ) (bytes : List ℕ) → s ≡ no_readers → ShowsValue s (value_of v) d bytes → Fits (value_of v) d → HoldsStat (Some d) (elements bytes) (value_of v)
 value_told s v d bytes e h f = (subst (λ (r : ExtMeaning). ShowsValue r (value_of v) d bytes) e h, (f, not_null v))
 
@@ -56,12 +50,6 @@ value_told s v d bytes e h f = (subst (λ (r : ExtMeaning). ShowsValue r (value_
 pub bytes_refused : (s : ExtMeaning) (e : ScalarWireError) (d : Typ) (bytes : List ℕ) → s ≡ no_readers → IsRefusedBytes e s d bytes → IsRefusedStat e d bytes
 bytes_refused s BadScalar d bytes is h = inl (subst (λ (r : ExtMeaning). IsRefusedBytes BadScalar r d bytes) is h)
 bytes_refused s e d bytes is h = subst (λ (r : ExtMeaning). IsRefusedBytes e r d bytes) is h
-
-pub unfit_refused : (s : ExtMeaning) (v : ScalarValue) (x : ScalarError) (e : ScalarWireError) (d : Typ) (bytes : List ℕ) → s ≡ no_readers → ShowsValue s (value_of v) d bytes → e ≡ refusal_of_scalar x
-    → (x ≡ scalar_error.BadScalar) × (Fits (value_of v) d → ⊥) → IsRefusedStat e d bytes
-unfit_refused s v x e d bytes is h g f =
-    subst (λ (y : ScalarWireError). IsRefusedStat y d bytes) (sym (g ∙ ap (λ (z : ScalarError). refusal_of_scalar z) f.0))
-    (inr (value_of v, subst (λ (r : ExtMeaning). ShowsValue r (value_of v) d bytes) is h, not_null v, f.1))
 
 -- ---- what is told is not refused
 
@@ -86,16 +74,6 @@ told_fits s v d bytes is h f (inr k) =
     f (subst (λ (x : V.Value). Fits x d) e k.1.1.0)
 
 -- ---- precisions
-
-pub bound_told : (o : Option Typ) (f p : Field) (x : Told) → ShowsBound o f p x → IsToldField o f
-bound_told o f p (Exact v) h = inr (v, h.0)
-bound_told o f p (Inexact v) h = inr (v, h.0)
-bound_told o f p Absent h = inl h
-
-pub sum_told : (o : Option Typ) (f : Field) (x : Told) → ShowsSum o f x → IsToldField o f
-sum_told o f (Exact v) h = inr (v, h)
-sum_told o f (Inexact v) h = absurd h
-sum_told o f Absent h = inl h
 
 -- A precision of a value that is told is 0 or 1.
 same_precision : (a b : ℕ) → number a ≡ number b → a ≡ b
@@ -140,17 +118,3 @@ greatest_at s ks d vs x e k h =
     (subst (λ (r : Stat). ShowsBound (stat_type r d) (part_at stats_fields vs 2) (part_at stats_fields vs 3) x) (sym e) (subst (λ (r : Stat). ShowsStat r d vs x) e h))
 
 -- ---- want of memory
-
-pub memory_is : (x : ScalarError) (e : ScalarWireError) → e ≡ refusal_of_scalar x → x ≡ scalar_error.OutOfMemory → e ≡ OutOfMemory
-memory_is x e g h = g ∙ ap (λ (z : ScalarError). refusal_of_scalar z) h
-
-pub memory_field : (x : ScalarError) (e : ScalarWireError) (o : Option Typ) (f : Field) → e ≡ refusal_of_scalar x → x ≡ scalar_error.OutOfMemory → IsUnreadField e o f
-memory_field x e o f g h = subst (λ (y : ScalarWireError). IsUnreadField y o f) (sym (memory_is x e g h)) tt
-
-pub memory_stats : (x : ScalarError) (e : ScalarWireError) (d : Typ) (vs : Fields) → e ≡ refusal_of_scalar x → x ≡ scalar_error.OutOfMemory → IsUnreadStats e d vs
-memory_stats x e d vs g h = subst (λ (y : ScalarWireError). IsUnreadStats y d vs) (sym (memory_is x e g h)) tt
-
--- A table is refused for one of its statistics.
-pub one_unread : (e : ScalarWireError) (s : Stat) (d : Typ) (vs : Fields) → IsUnreadStat e s d vs → IsUnreadStats e d vs
-one_unread OutOfMemory s d vs h = tt
-one_unread _ s d vs h = (s, h)

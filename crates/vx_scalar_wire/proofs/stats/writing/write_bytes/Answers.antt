@@ -23,6 +23,6 @@ returns-in_err-vector-clause-stopped c =
     let is = c.in-Some.is ∙ ap (λ (x : List ℕ). Some x) (sym c.as_slice.ensures) in
     at_error r q.0 e
     (λ z. (b : Built) (p : Piece) (ls : List Link) (ps rest : List Piece) → IsPartWay b p (vector_links c.args.table c.args.index o ++ ls) ps c.args.builder.now
-        → IsStopped b ((p ∷ ps) ++ (vector_pieces o ++ rest)) z c.vector.new.self)
+    → IsStopped b ((p ∷ ps) ++ (vector_pieces o ++ rest)) z c.vector.new.self)
     q.1 q.2
     (λ b p ls ps rest h. went_wrong c.args.table c.args.index o c.as_slice.result.now c.args.builder.now c.link.new.self c.vector.new.self e is c.link.ensures.waits c.in_err-vector.ensures.refused b p ls ps rest h)
