@@ -101,12 +101,18 @@ fn with_byte(place: usize, byte: u8) -> [u8; 70] {
 }
 
 #[test]
-fn a_table_shows_its_set(rt: HostRuntime) -> Result<(), Fail> {
+fn a_table_shows_what_stands(rt: HostRuntime) -> Result<(), Fail> {
     let alloc = rt.alloc();
     let one = Told::Exactly(PValue::I32(1));
     assert!(rt; told_in(alloc, &WORKED, Stat::Min, &I32)? == one);
-    assert!(rt; told_in(alloc, &WORKED, Stat::Max, &I32)? == Told::Nothing);
     assert!(rt; told_in(alloc, &WORKED, Stat::NullCount, &I32)? == Told::Exactly(PValue::U64(0)));
+    Ok(())
+}
+
+#[test]
+fn a_table_shows_nothing_else(rt: HostRuntime) -> Result<(), Fail> {
+    let alloc = rt.alloc();
+    assert!(rt; told_in(alloc, &WORKED, Stat::Max, &I32)? == Told::Nothing);
     assert!(rt; told_in(alloc, &WORKED, Stat::IsSorted, &I32)? == Told::Nothing);
     Ok(())
 }
@@ -161,16 +167,27 @@ fn float(bits: u64) -> ScalarValue {
     ScalarValue::Primitive(PValue::F64(bits))
 }
 
+fn exact(bits: u64) -> Precision<ScalarValue> {
+    Precision::Exact(float(bits))
+}
+
+const THREE: u64 = 0x4008_0000_0000_0000;
+
 #[test]
 fn sums_are_written_where_they_are_exact(rt: HostRuntime) -> Result<(), Fail> {
     let alloc = rt.alloc();
+    let three = Told::Exactly(PValue::F64(THREE));
+    assert!(rt; told_again(alloc, Stat::Sum, exact(THREE))? == three);
+    assert!(rt; told_again(alloc, Stat::Sum, Precision::Inexact(float(THREE)))? == Told::Nothing);
+    Ok(())
+}
+
+#[test]
+fn sums_that_are_no_number_become_one(rt: HostRuntime) -> Result<(), Fail> {
+    let alloc = rt.alloc();
     let nan = Told::Exactly(PValue::F64(0x7ff8_0000_0000_0000));
-    let three = 0x4008_0000_0000_0000;
-    let exact = |bits: u64| Precision::Exact(float(bits));
     assert!(rt; told_again(alloc, Stat::Sum, exact(0xfff8_0000_0000_0000))? == nan);
     assert!(rt; told_again(alloc, Stat::Sum, exact(0x7ff8_0000_dead_beef))? == nan);
-    assert!(rt; told_again(alloc, Stat::Sum, exact(three))? == Told::Exactly(PValue::F64(three)));
-    assert!(rt; told_again(alloc, Stat::Sum, Precision::Inexact(float(three)))? == Told::Nothing);
     Ok(())
 }
 
@@ -178,11 +195,17 @@ fn sums_are_written_where_they_are_exact(rt: HostRuntime) -> Result<(), Fail> {
 fn flags_and_counts_are_written_where_they_are_exact(rt: HostRuntime) -> Result<(), Fail> {
     let alloc = rt.alloc();
     let flag = Precision::Exact(ScalarValue::Bool(true));
-    let bound = Precision::Inexact(count(3));
-    let other = Precision::Exact(number(3));
     let three = Told::Exactly(PValue::U64(3));
     assert!(rt; told_again(alloc, Stat::IsConstant, flag)? == Told::Flag(true));
     assert!(rt; told_again(alloc, Stat::NaNCount, Precision::Exact(count(3)))? == three);
+    Ok(())
+}
+
+#[test]
+fn bounds_and_other_values_are_not_written(rt: HostRuntime) -> Result<(), Fail> {
+    let alloc = rt.alloc();
+    let bound = Precision::Inexact(count(3));
+    let other = Precision::Exact(number(3));
     assert!(rt; told_again(alloc, Stat::NaNCount, bound)? == Told::Nothing);
     assert!(rt; told_again(alloc, Stat::NullCount, other)? == Told::Nothing);
     Ok(())
