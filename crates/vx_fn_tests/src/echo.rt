@@ -1,10 +1,10 @@
-//! A plugin of aggregate functions, for tests.
+//! Plugins of aggregate functions, for tests.
 
-ghost use Rattle.std.specs.Prelude.{Some, option_map};
+ghost use Rattle.std.specs.Prelude.{None, Some, option_map};
 
 use std::alloc::Global;
-use vx_fn_wire::{AggregateFn, AggregateFnPlugin, PluginError};
-use vx_types::{Blob, DType, Id};
+use vx_fn_wire::{AggregateFn, AggregateFnPlugin, PlainAggregateFnPlugin, PluginError};
+use vx_types::{Blob, Id};
 
 /// Gives a function of an identifier, which may be another than its own, with the metadata as its
 /// options; it refuses all metadata where it has none to give.
@@ -14,10 +14,10 @@ pub struct Echo {
     pub gives: Option<Id>,
 }
 
-impl AggregateFnPlugin for Echo {
-    ghost aggregate_id = { λ p. p.id };
+impl PlainAggregateFnPlugin for Echo {
+    ghost plain_id = { λ p. p.id };
 
-    ghost aggregate_of = { λ p metadata. option_map (λ id. record { id = id; options = Some metadata }) p.gives };
+    ghost plain_of = { λ p metadata. option_map (λ id. record { id = id; options = Some metadata }) p.gives };
 
     fn id(&self) -> &Id {
         &self.id
@@ -38,12 +38,37 @@ impl AggregateFnPlugin for Echo {
             options: Some(metadata),
         })
     }
+}
+
+/// Tells zones of rows of each type apart by the function of its identifier, without options.
+#[derive(Drop)]
+pub struct Zoned {
+    pub id: Id,
+}
+
+impl AggregateFnPlugin for Zoned {
+    ghost aggregate_id = { λ p. p.id };
+
+    ghost aggregate_of = { λ p _. Some (record { id = p.id; options = None }) };
+
+    ghost zone_default = { λ p _. Some (Some (record { id = p.id; options = None })) };
+
+    fn id(&self) -> &Id {
+        &self.id
+    }
+
+    fn deserialize(&self, alloc: Global, _metadata: &[u8]) -> Result<AggregateFn, PluginError> {
+        let Ok(id) = self.id.clone(alloc) else {
+            return Err(PluginError::OutOfMemory);
+        };
+        Ok(AggregateFn { id, options: None })
+    }
 
     fn zone_stat_default(
         &self,
-        _alloc: Global,
+        alloc: Global,
         _dtype: &DType,
     ) -> Result<Option<AggregateFn>, PluginError> {
-        Ok(None)
+        Ok(Some(self.deserialize(alloc, &[])?))
     }
 }

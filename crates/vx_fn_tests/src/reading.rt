@@ -1,6 +1,6 @@
 //! Aggregate functions out of messages, under sessions.
 
-use crate::echo::Echo;
+use crate::echo::{Echo, Zoned};
 use std::alloc::Global;
 use std::test::Fail;
 use vx_fn_wire::{
@@ -92,5 +92,10 @@ fn zones(rt: HostRuntime) -> Result<(), Fail> {
         gives: None,
     };
     assert!(rt; matches!(plugin.zone_stat_default(alloc, &DType::Null), Ok(None)));
+    let zoned = Zoned {
+        id: Id::new(alloc, "x.g")?,
+    };
+    let given = zoned.zone_stat_default(alloc, &DType::Null);
+    assert!(rt; matches!(&given, Ok(Some(function)) if function.id == zoned.id));
     Ok(())
 }

@@ -45,7 +45,7 @@ pub use foreign_aggregate::{
     ForeignAggregateFnOptions, ForeignAggregateFnVTable, new_foreign_aggregate_fn,
 };
 pub use pb::{AggregateFnMessage, ExprMessage};
-pub use plugin::{AggregateFnPlugin, PluginError, ScalarFnPlugin};
+pub use plugin::{AggregateFnPlugin, PlainAggregateFnPlugin, PluginError, ScalarFnPlugin};
 pub use scalar_fn::{ScalarFn, ScalarFnRef};
 pub use session::{AggregateFnSession, FnSession, ScalarFnSession};
 pub use views::{ScalarFnOptions, ScalarFnSignature};

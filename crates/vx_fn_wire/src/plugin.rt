@@ -55,7 +55,8 @@ pub trait AggregateFnPlugin: Drop {
         ensures { IsAnswer (aggregate_of self.now metadata.now) result };
 
     /// The function by which zones of rows of a type are told apart, if there is one; None where the
-    /// plugin refuses the type. A plugin that does not say it has none for each type.
+    /// plugin refuses the type. A plugin that has none for each type is written as a
+    /// `PlainAggregateFnPlugin`.
     ghost zone_default: { Self → Typ → Option (Option Aggregate) } = { λ _ _. Some None };
 
     /// The function by which zones of rows of this type are told apart, if there is one. `Refused`
@@ -66,6 +67,47 @@ pub trait AggregateFnPlugin: Drop {
         dtype: &DType,
     ) -> Result<Option<AggregateFn>, PluginError>
         ensures { IsAnswer (zone_default self.now (typ dtype.now)) result };
+}
+
+/// What a caller knows of the aggregate functions of one identifier, where zones of rows are told
+/// apart by none of them. Each such plugin is an `AggregateFnPlugin`, whose `zone_stat_default` has
+/// none for each type.
+pub trait PlainAggregateFnPlugin: Drop {
+    /// The identifier that the plugin is for.
+    ghost plain_id: { Self → List ℕ };
+
+    /// The function of metadata; None where the plugin refuses them.
+    ghost plain_of: { Self → List ℕ → Option Aggregate };
+
+    /// The identifier of the functions.
+    fn id(&self) -> &Id
+        ensures { result.now ≡ plain_id self.now };
+
+    /// The function of this metadata. `Refused` exactly where the plugin's meaning refuses it.
+    fn deserialize(&self, alloc: Global, metadata: &[u8]) -> Result<AggregateFn, PluginError>
+        ensures { IsAnswer (plain_of self.now metadata.now) result };
+}
+
+impl<P: PlainAggregateFnPlugin> AggregateFnPlugin for P {
+    ghost aggregate_id = { λ plugin. P.plain_id plugin };
+
+    ghost aggregate_of = { λ plugin metadata. P.plain_of plugin metadata };
+
+    fn id(&self) -> &Id {
+        PlainAggregateFnPlugin::id(self)
+    }
+
+    fn deserialize(&self, alloc: Global, metadata: &[u8]) -> Result<AggregateFn, PluginError> {
+        PlainAggregateFnPlugin::deserialize(self, alloc, metadata)
+    }
+
+    fn zone_stat_default(
+        &self,
+        _alloc: Global,
+        _dtype: &DType,
+    ) -> Result<Option<AggregateFn>, PluginError> {
+        Ok(None)
+    }
 }
 
 /// `id` of a box.
