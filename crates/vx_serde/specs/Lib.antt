@@ -23,5 +23,5 @@ pub mod Recoding
 -- What the contracts of private functions alone cite.
 pub mod Decoding
 pub mod ReadingSteps
-pub mod TableViews
+pub mod Blocks
 pub mod WritingSteps

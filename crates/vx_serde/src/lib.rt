@@ -2,13 +2,14 @@
 #![tactic(auto)]
 
 mod array_kind;
+mod blocks;
 mod decoding;
 mod error;
 mod gathering;
 pub mod laws;
 mod limits;
 mod message;
-mod numbering;
+mod nodes;
 mod options;
 mod placing;
 mod recoding;
