@@ -30,7 +30,7 @@ use Rattle.vx_registry.proofs.LawsSessions.{registry_messages}
 use Rattle.vx_serde.specs.declared.error.WireError.{WireError}
 use Rattle.vx_serde.specs.declared.error.WireError.TheVariants.{OutOfMemory, NotPermitted, WireLimit, NotRegistered}
 use Rattle.vx_serde.specs.declared.options.SerializeOptions.{SerializeOptions}
-use Rattle.vx_serde.specs.WritingSteps.{HasEntry, RefusesNode, RefusesNodes, RefusesLayout}
+use Rattle.vx_serde.specs.WritingSteps.{HasEntry, RefusesNode, RefusesRoot, RefusesNodes, RefusesGathering, RefusesLayout}
 use Rattle.vx_serde.proofs.GrownNodes.{ungrown-own, ungrown-child}
 use Rattle.vx_serde.proofs.WiredNodes.{wired, wired-levels, wired-below, wired-at, wired-within, own-grown, own-ungrown, gathered_first}
 
@@ -103,28 +103,40 @@ module _ (r : Registry) (t : Tree) (has : HasEntry r t) where
 
 -- ---- why nodes are not written
 
-pub node-refused : (r : Registry) (x : ExtMeaning) (t : Tree) (room : ℕ) (c : Context) (e : WireError) → RefusesNode r t c e → RefusesNodes (tables_meaning r x) t room c e
-node-refused r x t room c OutOfMemory h = tt
-node-refused r x t room c NotRegistered h = ([], h)
-node-refused r x t room c NotPermitted h =
+pub node-refused : (r : Registry) (x : ExtMeaning) (t : Tree) (room : ℕ) (e : WireError) → RefusesNode r t e → RefusesNodes (tables_meaning r x) t room e
+node-refused r x t room OutOfMemory h = tt
+node-refused r x t room NotRegistered h = ([], h)
+node-refused r x t room _ h = absurd h
+
+pub root-refused : (r : Registry) (x : ExtMeaning) (t : Tree) (room : ℕ) (c : Context) (e : WireError) → RefusesRoot r t c e → RefusesGathering (tables_meaning r x) t room c e
+root-refused r x t room c OutOfMemory h = tt
+root-refused r x t room c NotRegistered h = ([], h)
+root-refused r x t room c NotPermitted h =
     let s = tables_meaning r x in
     ungrown-own (wire codec s t) c (own-ungrown s t c h)
-node-refused r x t room c _ h = absurd h
+root-refused r x t room c _ h = absurd h
 
--- A tree below is not written, which comes after the root and after the first trees.
+pub child-refused : (s : SessionMeaning) (t : Tree) (ts : List Tree) (i room : ℕ) (u : Tree) (e : WireError) → i < length ts → u ≡ get_or ts i u → roses_of ts ≡ below t
+    → RefusesNodes s u (room - 1) e → RefusesNodes s t room e
+child-refused s t ts i room u OutOfMemory h p q c = tt
+child-refused s t ts i room u WireLimit h p q c =
+    omega (arith, c, levels-at ts i u h, ap (λ z. levels z) p, ap (λ z. levels_below z) q, levels-is t)
+child-refused s t ts i room u NotRegistered h p q c =
+    let at : slice_get (roses_list (below t)) i ≡ Some u = ap (λ z. slice_get z i) (ap (λ z. roses_list z) (sym q) ∙ roses_list-roses_of ts) ∙ get_at ts i u h p in
+    (i ∷ c.0, (u, at, c.1))
+child-refused s t ts i room u _ h p q c = absurd c
+
+-- What a tree below brings along comes after the root's identifier and those of the first trees.
 module _ (s : SessionMeaning) (t : Tree) (ts : List Tree) (i room : ℕ) (u : Tree) (a b c : Context) where
-  pub child-refused : (e : WireError) → i < length ts → u ≡ get_or ts i u → roses_of ts ≡ below t
+  pub child-ungathered : (e : WireError) → i < length ts → u ≡ get_or ts i u → roses_of ts ≡ below t
       → grown_by (array_id t ∷ []) a ≡ Some b → grown_by (gathered_first s (λ h. id_in h) ts i) b ≡ Some c
-      → RefusesNodes s u (room - 1) c e → RefusesNodes s t room a e
-  child-refused OutOfMemory h p q g k r = tt
-  child-refused WireLimit h p q g k r =
-      omega (arith, r, levels-at ts i u h, ap (λ z. levels z) p, ap (λ z. levels_below z) q, levels-is t)
-  child-refused NotRegistered h p q g k r =
-      let at : slice_get (roses_list (below t)) i ≡ Some u = ap (λ z. slice_get z i) (ap (λ z. roses_list z) (sym q) ∙ roses_list-roses_of ts) ∙ get_at ts i u h p in
-      (i ∷ r.0, (u, at, r.1))
-  child-refused NotPermitted h p q g k r =
+      → RefusesGathering s u (room - 1) c e → RefusesGathering s t room a e
+  child-ungathered OutOfMemory h p q g k r = tt
+  child-ungathered WireLimit h p q g k r = child-refused s t ts i room u WireLimit h p q r
+  child-ungathered NotRegistered h p q g k r = child-refused s t ts i room u NotRegistered h p q r
+  child-ungathered NotPermitted h p q g k r =
       ungrown-child (wire codec s t) (wired s ts) i (wire codec s u) a b c (wired-below s t ts q) (wired-within s ts i h) (wired-at s ts i u h p) (own-grown s t a b g) k r
-  child-refused _ h p q g k r = absurd r
+  child-ungathered _ h p q g k r = absurd r
 
 -- ---- what was written has no node without a writer
 
@@ -149,7 +161,7 @@ all-written s t w lacks = written_under s lacks.0 t w lacks.1
 
 -- ---- an array whose nodes are not written is not laid out
 
-pub unplaced_nodes : (s : SessionMeaning) (o : SerializeOptions) (t : Tree) (c : Context) (e : WireError) → RefusesNodes s t 62 c e → RefusesLayout s o t c e
+pub unplaced_nodes : (s : SessionMeaning) (o : SerializeOptions) (t : Tree) (c : Context) (e : WireError) → RefusesGathering s t 62 c e → RefusesLayout s o t c e
 unplaced_nodes s o t c OutOfMemory h = tt
 unplaced_nodes s o t c WireLimit h = λ k. omega (arith, h, k.tree.nested, wired-levels s t)
 unplaced_nodes s o t c NotRegistered h = h

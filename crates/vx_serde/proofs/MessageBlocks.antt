@@ -72,7 +72,7 @@ module _ (es : List ℕ) (w : Wire) (bytes : List ℕ) (of : IsOf array_schema (
   blocks-refused flat.OutOfMemory b h = tt
   blocks-refused flat.MessageTooLong b h = λ short light. at h.2 short where
     at : IsTooLong nothing_built (pieces array_schema (message_by es w bytes)) → length (layout_by es w bytes) < 2 ^ 31 → ⊥
-    at (inl f) short = cc
+    at (inl f) short = absurd (cc)
     at (inr l) short = omega (arith, l, short, ap (λ z. length z) (bytes-with_pieces array_schema shares (message_by es w bytes) of))
   blocks-refused flat.BadTable b h = absurd h
   blocks-refused flat.TableLimit b h = absurd h

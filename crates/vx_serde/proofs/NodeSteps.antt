@@ -1,6 +1,7 @@
 -- The steps of writing the nodes of an array as blocks.
 use Rattle.std.proofs.Common.{ℕ, zero, suc, ◌≡◌, ◌+◌, ◌<◌, ◌≤◌, List, [], ◌∷◌, ◌++◌, length, take, drop, get_or, refl, sym, ap, ◌∙◌, subst, arith, append_assoc, length-append, drop-cons, add-zero}
 use Rattle.std.proofs.lemmas.List.{take-append-drop, take_all, take_more}
+use Rattle.vx_buffer.specs.Buffer.{Buffer}
 use Rattle.vx_flat.specs.declared.error.FlatError.{FlatError}
 use Rattle.vx_flat.specs.declared.error.FlatError.TheVariants as flat
 use Rattle.vx_flat.specs.declared.builder.piece.LinkKind.TheVariants as link
@@ -15,7 +16,7 @@ use Rattle.vx_array_tree.specs.Table.{buffers_of}
 use Rattle.vx_array_tree.specs.Tree.{Tree}
 use Rattle.vx_wire_tree.specs.Fields.{told}
 use Rattle.vx_wire_tree.specs.Session.{SessionMeaning}
-use Rattle.vx_wire_tree.specs.Wire.{buffers_in, buffers_at_node}
+use Rattle.vx_wire_tree.specs.Wire.{WireHead, buffers_in, buffers_at_node}
 use Rattle.vx_wire_tree.specs.Written.{wire, wires}
 use Rattle.vx_encodings.specs.Messages.{codec, message_bytes}
 use Rattle.vx_serde.specs.Blocks.{node_pieces, children_pieces, no_stats_piece}
@@ -103,7 +104,7 @@ module _ (s : SessionMeaning) (ts : List Tree) where
     buffers-parts =
         let ws = wired s ts in
         let w = wire codec s u in
-        let f = λ h. buffers_at_node h in
+        let f : WireHead → List Buffer = λ h. buffers_at_node h in
         let behind = gathered_below f (roses_of (drop (suc i) ws)) in
         ap (λ z. length (gathered_below f z)) (wires-list s ts)
         ∙ ap (λ z. length (gathered_below f (roses_of z))) (sym (take-append-drop i ws) ∙ ap (λ z. take i ws ++ z) (drop-cons ws i w (wired-within s ts i lt)))
@@ -116,7 +117,7 @@ module _ (s : SessionMeaning) (ts : List Tree) where
     buffers-up_to =
         let ws = wired s ts in
         let w = wire codec s u in
-        let f = λ h. buffers_at_node h in
+        let f : WireHead → List Buffer = λ h. buffers_at_node h in
         ap (λ z. length z) (gathered_below-take f ws i w (wired-within s ts i lt))
         ∙ length-append (gathered_below f (roses_of (take i ws))) (gathered f (get_or ws i w))
         ∙ (λ k. buffers_below (take i ws) + length (gathered f (sym (wired-at s ts i u lt is) k)))

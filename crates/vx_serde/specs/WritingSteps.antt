@@ -58,22 +58,29 @@ pub record HasEntry (r : Registry) (t : Tree) : Type 0 where
   pub entry : Reader
   pub found_is : found r.writers (array_id t) ≡ Some entry
 
--- A root is not written for want of memory, because nothing writes the arrays of its encoding, or because the context
--- does not take its identifier.
-abbrev pub RefusesNode : Registry → Tree → Context → WireError → Type 0
-RefusesNode r t c OutOfMemory = Unit {0}
-RefusesNode r t c NotRegistered = found r.writers (array_id t) ≡ None
-RefusesNode r t c NotPermitted = grown_by (array_id t ∷ []) c ≡ None
-RefusesNode r t c _ = ⊥
+-- A root is not written for want of memory, or because nothing writes the arrays of its encoding.
+abbrev pub RefusesNode : Registry → Tree → WireError → Type 0
+RefusesNode r t OutOfMemory = Unit {0}
+RefusesNode r t NotRegistered = found r.writers (array_id t) ≡ None
+RefusesNode r t _ = ⊥
 
--- The nodes of an array are not written for want of memory, because there are more levels than there is room for,
--- because nothing writes the arrays of one's encoding, or because the context does not take one's identifier.
-abbrev pub RefusesNodes : SessionMeaning → Tree → ℕ → Context → WireError → Type 0
-RefusesNodes s t room c OutOfMemory = Unit {0}
-RefusesNodes s t room c WireLimit = room < levels t
-RefusesNodes s t room c NotRegistered = HasUnwritten s t
-RefusesNodes s t room c NotPermitted = grown_by (ids_in (wire codec s t)) c ≡ None
-RefusesNodes s t room c _ = ⊥
+-- Or because the context does not take its identifier.
+abbrev pub RefusesRoot : Registry → Tree → Context → WireError → Type 0
+RefusesRoot r t c NotPermitted = grown_by (array_id t ∷ []) c ≡ None
+RefusesRoot r t c e = RefusesNode r t e
+
+-- The nodes of an array are not written for want of memory, because there are more levels than there is room for, or
+-- because nothing writes the arrays of one's encoding.
+abbrev pub RefusesNodes : SessionMeaning → Tree → ℕ → WireError → Type 0
+RefusesNodes s t room OutOfMemory = Unit {0}
+RefusesNodes s t room WireLimit = room < levels t
+RefusesNodes s t room NotRegistered = HasUnwritten s t
+RefusesNodes s t room _ = ⊥
+
+-- Or because the context does not take one's identifier.
+abbrev pub RefusesGathering : SessionMeaning → Tree → ℕ → Context → WireError → Type 0
+RefusesGathering s t room c NotPermitted = grown_by (ids_in (wire codec s t)) c ≡ None
+RefusesGathering s t room c e = RefusesNodes s t room e
 
 -- An array is not laid out because its nodes are not written, or it passes one of the limits that are known before its
 -- message.

@@ -17,7 +17,7 @@ ghost use Rattle.vx_registry.specs.Serialization.{array_id};
 ghost use Rattle.vx_registry.specs.Session.{tables_meaning, ArePaired};
 ghost use Rattle.vx_serde.specs.Blocks.{encodings_in};
 ghost use Rattle.vx_serde.specs.KeptContext.{KeepsContext};
-ghost use Rattle.vx_serde.specs.WritingSteps.{RefusesNode, RefusesNodes, HasEntry};
+ghost use Rattle.vx_serde.specs.WritingSteps.{RefusesNode, RefusesRoot, RefusesGathering, HasEntry};
 
 use crate::error::WireError;
 use std::alloc::Global;
@@ -33,8 +33,23 @@ pub(crate) struct Gathered {
     pub(crate) encodings: Vec<u16>,
 }
 
-/// The number of the identifier of a root's encoding, which the context takes where it is new. It is asked for what
-/// writes the arrays of the encoding first.
+/// The identifier of a root's encoding, where something writes the arrays of the encoding.
+fn written_id(alloc: Global, array: &Array, arrays: &ArraySession) -> Result<Id, WireError>
+    ensures id { IfOk result (λ id. id ≡ array_id array.now) }
+    ensures found { OnOk result (HasEntry arrays.now array.now) }
+    ensures paired { OnOk result (ArePaired arrays.now) }
+    ensures cause { IfErr result (RefusesNode arrays.now array.now) }
+{
+    let Ok(id) = Id::new(alloc, array.encoding_id()) else {
+        return Err(WireError::OutOfMemory);
+    };
+    match arrays.writer(&id) {
+        Some(_) => Ok(id),
+        None => Err(WireError::NotRegistered),
+    }
+}
+
+/// The number of the identifier of a root's encoding, which the context takes where it is new.
 fn encoding_number(
     alloc: Global,
     array: &Array,
@@ -46,14 +61,9 @@ fn encoding_number(
     ensures grown { OnOk result (grown_by (array_id array.now ∷ []) ctx.old ≡ Some ctx.new) }
     ensures number { IfOk result (λ n. (more : List (List ℕ)) → index_of (array_id array.now) (ctx.new.ids ++ more) ≡ n) }
     ensures kept { KeepsContext (array_id array.now ∷ []) ctx.old ctx.new }
-    ensures cause { IfErr result (RefusesNode arrays.now array.now ctx.old) }
+    ensures cause { IfErr result (RefusesRoot arrays.now array.now ctx.old) }
 {
-    let Ok(id) = Id::new(alloc, array.encoding_id()) else {
-        return Err(WireError::OutOfMemory);
-    };
-    let Some(_) = arrays.writer(&id) else {
-        return Err(WireError::NotRegistered);
-    };
+    let id = written_id(alloc, array, arrays)?;
     match ctx.intern(&id) {
         Ok(Some(number)) => Ok(number),
         Ok(None) => Err(WireError::NotPermitted),
@@ -85,7 +95,7 @@ fn push_root(
     ensures paired { OnOk result (ArePaired arrays.now) }
     ensures grown { OnOk result (grown_by (array_id array.now ∷ []) ctx.old ≡ Some ctx.new) }
     ensures kept { KeepsContext (array_id array.now ∷ []) ctx.old ctx.new }
-    ensures cause { IfErr result (RefusesNode arrays.now array.now ctx.old) }
+    ensures cause { IfErr result (RefusesRoot arrays.now array.now ctx.old) }
 {
     let encoding = encoding_number(alloc, array, arrays, ctx)?;
     found.encodings.push(encoding)?;
@@ -113,7 +123,7 @@ pub(crate) fn gather(
     ensures messages { OnOk result (HasMessages array.now) }
     ensures grown { (s : SessionMeaning) → OnOk result (grown_by (ids_in (wire codec s array.now)) ctx.old ≡ Some ctx.new) }
     ensures kept { (s : SessionMeaning) → KeepsContext (ids_in (wire codec s array.now)) ctx.old ctx.new }
-    ensures cause { (x : ExtMeaning) → IfErr result (RefusesNodes (tables_meaning arrays.now x) array.now room ctx.old) }
+    ensures cause { (x : ExtMeaning) → IfErr result (RefusesGathering (tables_meaning arrays.now x) array.now room ctx.old) }
 {
     if room == 0 {
         return Err(WireError::WireLimit);

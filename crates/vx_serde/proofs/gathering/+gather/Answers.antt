@@ -14,7 +14,7 @@ use Rattle.vx_encodings.specs.Messages.{codec}
 use Rattle.vx_registry.specs.Serialization.{array_id}
 use Rattle.vx_registry.specs.Session.{tables_meaning}
 use Rattle.vx_serde.specs.Numbered.{encoding_index}
-use Rattle.vx_serde.proofs.Gathered.{everywhere-next, everywhere-all, everywhere-child, node-message, node-refused, child-refused, levels_of, longer-ids}
+use Rattle.vx_serde.proofs.Gathered.{everywhere-next, everywhere-all, everywhere-child, node-message, root-refused, child-ungathered, levels_of, longer-ids}
 use Rattle.vx_serde.proofs.Growing.{kept-grown}
 use Rattle.vx_serde.proofs.GrownNodes.{kept-own, kept-child, kept-front, grown-child, grown-whole}
 use Rattle.vx_serde.proofs.WiredNodes.{wired, wired-below, wired-at, wired-within, wired-past, gathered_first, gathered-next, gathered-all, own-buffers, own-grown, own-kept, own-index}
@@ -33,7 +33,7 @@ pub returns-in_err-push_root-clause-cause : goal.returns-in_err-push_root-clause
 returns-in_err-push_root-clause-cause t c = λ x.
     let p = err_from_is_err_and c.from_residual.result c.from_residual.ensures.1 in
     rw (p.1, p.2)
-    (node-refused c.args.arrays.now x c.args.array.now c.args.room c.args.ctx.now c.in_err-push_root.field-0.0 c.in_err-push_root.ensures.cause)
+    (root-refused c.args.arrays.now x c.args.array.now c.args.room c.args.ctx.now c.in_err-push_root.field-0.0 c.in_err-push_root.ensures.cause)
 
 pub returns-in_err-gather-clause-kept : goal.returns-in_err-gather-clause-kept
 returns-in_err-gather-clause-kept t c = λ s.
@@ -51,7 +51,7 @@ returns-in_err-gather-clause-cause t c = λ x.
     let p = err_from_is_err_and c.from_residual-in_err-gather.result c.from_residual-in_err-gather.ensures.1 in
     let s = tables_meaning c.args.arrays.now x in
     rw (p.1, p.2)
-    (child-refused s c.args.array.now c.children-child-items.result.now c.loop-child.child-index c.args.room c.child-item.result c.args.ctx.now c.push_root.new.ctx c.loop-child.ctx c.in_err-gather.field-0.0
+    (child-ungathered s c.args.array.now c.children-child-items.result.now c.loop-child.child-index c.args.room c.child-item.result c.args.ctx.now c.push_root.new.ctx c.loop-child.ctx c.in_err-gather.field-0.0
     c.loop-child-test.true c.child-item.is c.children-child-items.ensures.children c.in_ok-push_root.ensures.grown (c.loop-child.invariant.grown s) (c.in_err-gather.ensures.cause x))
 
 pub loop-child-preserved : goal.loop-child-preserved

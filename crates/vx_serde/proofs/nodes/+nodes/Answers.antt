@@ -26,24 +26,24 @@ write_node-link-requires-clause-idle t c =
     let a = c.args.array.now in
     let old = c.args.builder.now in
     let v = c.in_ok-parts.parts.encoding in
-    let w0 = way0 old v c.table-node.new.self c.encoding_entry.result c.encoding_entry.ensures c.in_ok-node.ensures.written in
-    λ _. idle old (node_piece v) _ _ c.table-node.new.self w0
+    let w0 = way0 old v c.table.new.self c.encoding_entry.result c.encoding_entry.ensures c.in_ok-node.ensures.written in
+    λ _. idle old (node_piece v) _ _ c.table.new.self w0
 
 pub write_node-link-requires-clause-next : goal.write_node-link-requires-clause-next
 write_node-link-requires-clause-next t c =
     let a = c.args.array.now in
     let old = c.args.builder.now in
     let v = c.in_ok-parts.parts.encoding in
-    let w0 = way0 old v c.table-node.new.self c.encoding_entry.result c.encoding_entry.ensures c.in_ok-node.ensures.written in
-    λ _. subst (λ n. IsNext c.table-node.new.self.left n 1) (sym c.in_ok-node.ensures.number) (next_is old (node_piece v) _ _ _ c.table-node.new.self w0)
+    let w0 = way0 old v c.table.new.self c.encoding_entry.result c.encoding_entry.ensures c.in_ok-node.ensures.written in
+    λ _. subst (λ n. IsNext c.table.new.self.left n 1) (sym c.in_ok-node.ensures.number) (next_is old (node_piece v) _ _ _ c.table.new.self w0)
 
 pub write_node-write_elements-requires-clause-takes : goal.write_node-write_elements-requires-clause-takes
 write_node-write_elements-requires-clause-takes t c =
     let a = c.args.array.now in
     let old = c.args.builder.now in
     let v = c.in_ok-parts.parts.encoding in
-    let w0 = way0 old v c.table-node.new.self c.encoding_entry.result c.encoding_entry.ensures c.in_ok-node.ensures.written in
-    awaited old (node_piece v) _ _ _ c.table-node.new.self c.link.new.self w0 c.link.ensures.waits
+    let w0 = way0 old v c.table.new.self c.encoding_entry.result c.encoding_entry.ensures c.in_ok-node.ensures.written in
+    awaited old (node_piece v) _ _ _ c.table.new.self c.link.new.self w0 c.link.ensures.waits
 
 pub write_node-link-requires-2-clause-idle : goal.write_node-link-requires-2-clause-idle
 write_node-link-requires-2-clause-idle t c =
@@ -51,8 +51,8 @@ write_node-link-requires-2-clause-idle t c =
     let old = c.args.builder.now in
     let v = c.in_ok-parts.parts.encoding in
     let m = c.as_slice.result.now in
-    let w0 = way0 old v c.table-node.new.self c.encoding_entry.result c.encoding_entry.ensures c.in_ok-node.ensures.written in
-    let w1 = way1 old v c.table-node.new.self c.link.new.self c.write_elements.new.builder m w0 c.link.ensures.waits c.in_ok-write_elements.ensures.written in
+    let w0 = way0 old v c.table.new.self c.encoding_entry.result c.encoding_entry.ensures c.in_ok-node.ensures.written in
+    let w1 = way1 old v c.table.new.self c.link.new.self c.write_elements.new.builder m w0 c.link.ensures.waits c.in_ok-write_elements.ensures.written in
     λ _. idle old (node_piece v) _ _ c.write_elements.new.builder w1
 
 pub write_node-link-requires-2-clause-next : goal.write_node-link-requires-2-clause-next
@@ -61,8 +61,8 @@ write_node-link-requires-2-clause-next t c =
     let old = c.args.builder.now in
     let v = c.in_ok-parts.parts.encoding in
     let m = c.as_slice.result.now in
-    let w0 = way0 old v c.table-node.new.self c.encoding_entry.result c.encoding_entry.ensures c.in_ok-node.ensures.written in
-    let w1 = way1 old v c.table-node.new.self c.link.new.self c.write_elements.new.builder m w0 c.link.ensures.waits c.in_ok-write_elements.ensures.written in
+    let w0 = way0 old v c.table.new.self c.encoding_entry.result c.encoding_entry.ensures c.in_ok-node.ensures.written in
+    let w1 = way1 old v c.table.new.self c.link.new.self c.write_elements.new.builder m w0 c.link.ensures.waits c.in_ok-write_elements.ensures.written in
     λ _. subst (λ n. IsNext c.write_elements.new.builder.left n 2) (sym c.in_ok-node.ensures.number) (next_is old (node_piece v) _ _ _ c.write_elements.new.builder w1)
 
 pub write_node-write_nodes-requires : goal.write_node-write_nodes-requires
@@ -71,8 +71,8 @@ write_node-write_nodes-requires t c =
     let old = c.args.builder.now in
     let v = c.in_ok-parts.parts.encoding in
     let m = c.as_slice.result.now in
-    let w0 = way0 old v c.table-node.new.self c.encoding_entry.result c.encoding_entry.ensures c.in_ok-node.ensures.written in
-    let w1 = way1 old v c.table-node.new.self c.link.new.self c.write_elements.new.builder m w0 c.link.ensures.waits c.in_ok-write_elements.ensures.written in
+    let w0 = way0 old v c.table.new.self c.encoding_entry.result c.encoding_entry.ensures c.in_ok-node.ensures.written in
+    let w1 = way1 old v c.table.new.self c.link.new.self c.write_elements.new.builder m w0 c.link.ensures.waits c.in_ok-write_elements.ensures.written in
     let ts = c.children.result.now in
     let at = c.children.ensures.children in
     (
@@ -89,9 +89,9 @@ write_node-link-requires-3-clause-idle t c =
     let old = c.args.builder.now in
     let v = c.in_ok-parts.parts.encoding in
     let m = c.as_slice.result.now in
-    let w0 = way0 old v c.table-node.new.self c.encoding_entry.result c.encoding_entry.ensures c.in_ok-node.ensures.written in
-    let w1 = way1 old v c.table-node.new.self c.link.new.self c.write_elements.new.builder m w0 c.link.ensures.waits c.in_ok-write_elements.ensures.written in
-    let kids = children_pieces c.args.encodings.now c.node_parts-parts.new.passed.nodes c.node_parts-parts.new.passed.buffers (wires codec no_session (roses_of c.children.result.now)) in
+    let w0 = way0 old v c.table.new.self c.encoding_entry.result c.encoding_entry.ensures c.in_ok-node.ensures.written in
+    let w1 = way1 old v c.table.new.self c.link.new.self c.write_elements.new.builder m w0 c.link.ensures.waits c.in_ok-write_elements.ensures.written in
+    let kids = children_pieces c.args.encodings.now c.node_parts.new.passed.nodes c.node_parts.new.passed.buffers (wires codec no_session (roses_of c.children.result.now)) in
     let w2 = way2 old v c.write_elements.new.builder c.link-2.new.self c.write_nodes.new.builder m kids w1 c.link-2.ensures.waits (c.in_ok-write_nodes.ensures.written no_session) in
     λ _. idle old (node_piece v) _ _ c.write_nodes.new.builder w2
 
@@ -101,9 +101,9 @@ write_node-link-requires-3-clause-next t c =
     let old = c.args.builder.now in
     let v = c.in_ok-parts.parts.encoding in
     let m = c.as_slice.result.now in
-    let w0 = way0 old v c.table-node.new.self c.encoding_entry.result c.encoding_entry.ensures c.in_ok-node.ensures.written in
-    let w1 = way1 old v c.table-node.new.self c.link.new.self c.write_elements.new.builder m w0 c.link.ensures.waits c.in_ok-write_elements.ensures.written in
-    let kids = children_pieces c.args.encodings.now c.node_parts-parts.new.passed.nodes c.node_parts-parts.new.passed.buffers (wires codec no_session (roses_of c.children.result.now)) in
+    let w0 = way0 old v c.table.new.self c.encoding_entry.result c.encoding_entry.ensures c.in_ok-node.ensures.written in
+    let w1 = way1 old v c.table.new.self c.link.new.self c.write_elements.new.builder m w0 c.link.ensures.waits c.in_ok-write_elements.ensures.written in
+    let kids = children_pieces c.args.encodings.now c.node_parts.new.passed.nodes c.node_parts.new.passed.buffers (wires codec no_session (roses_of c.children.result.now)) in
     let w2 = way2 old v c.write_elements.new.builder c.link-2.new.self c.write_nodes.new.builder m kids w1 c.link-2.ensures.waits (c.in_ok-write_nodes.ensures.written no_session) in
     λ _. subst (λ n. IsNext c.write_nodes.new.builder.left n 3) (sym c.in_ok-node.ensures.number) (next_is old (node_piece v) _ _ _ c.write_nodes.new.builder w2)
 
@@ -113,9 +113,9 @@ write_node-write_elements-requires-2-clause-takes t c =
     let old = c.args.builder.now in
     let v = c.in_ok-parts.parts.encoding in
     let m = c.as_slice.result.now in
-    let w0 = way0 old v c.table-node.new.self c.encoding_entry.result c.encoding_entry.ensures c.in_ok-node.ensures.written in
-    let w1 = way1 old v c.table-node.new.self c.link.new.self c.write_elements.new.builder m w0 c.link.ensures.waits c.in_ok-write_elements.ensures.written in
-    let kids = children_pieces c.args.encodings.now c.node_parts-parts.new.passed.nodes c.node_parts-parts.new.passed.buffers (wires codec no_session (roses_of c.children.result.now)) in
+    let w0 = way0 old v c.table.new.self c.encoding_entry.result c.encoding_entry.ensures c.in_ok-node.ensures.written in
+    let w1 = way1 old v c.table.new.self c.link.new.self c.write_elements.new.builder m w0 c.link.ensures.waits c.in_ok-write_elements.ensures.written in
+    let kids = children_pieces c.args.encodings.now c.node_parts.new.passed.nodes c.node_parts.new.passed.buffers (wires codec no_session (roses_of c.children.result.now)) in
     let w2 = way2 old v c.write_elements.new.builder c.link-2.new.self c.write_nodes.new.builder m kids w1 c.link-2.ensures.waits (c.in_ok-write_nodes.ensures.written no_session) in
     awaited old (node_piece v) _ _ _ c.write_nodes.new.builder c.link-3.new.self w2 c.link-3.ensures.waits
 
@@ -125,9 +125,9 @@ write_node-link-requires-4-clause-idle t c =
     let old = c.args.builder.now in
     let v = c.in_ok-parts.parts.encoding in
     let m = c.as_slice.result.now in
-    let w0 = way0 old v c.table-node.new.self c.encoding_entry.result c.encoding_entry.ensures c.in_ok-node.ensures.written in
-    let w1 = way1 old v c.table-node.new.self c.link.new.self c.write_elements.new.builder m w0 c.link.ensures.waits c.in_ok-write_elements.ensures.written in
-    let kids = children_pieces c.args.encodings.now c.node_parts-parts.new.passed.nodes c.node_parts-parts.new.passed.buffers (wires codec no_session (roses_of c.children.result.now)) in
+    let w0 = way0 old v c.table.new.self c.encoding_entry.result c.encoding_entry.ensures c.in_ok-node.ensures.written in
+    let w1 = way1 old v c.table.new.self c.link.new.self c.write_elements.new.builder m w0 c.link.ensures.waits c.in_ok-write_elements.ensures.written in
+    let kids = children_pieces c.args.encodings.now c.node_parts.new.passed.nodes c.node_parts.new.passed.buffers (wires codec no_session (roses_of c.children.result.now)) in
     let w2 = way2 old v c.write_elements.new.builder c.link-2.new.self c.write_nodes.new.builder m kids w1 c.link-2.ensures.waits (c.in_ok-write_nodes.ensures.written no_session) in
     let bytes = c.deref.result.now in
     let w3 = way3 old v c.write_nodes.new.builder c.link-3.new.self c.write_elements-2.new.builder m bytes kids w2 c.link-3.ensures.waits c.in_ok-write_elements-2.ensures.written in
@@ -139,9 +139,9 @@ write_node-link-requires-4-clause-next t c =
     let old = c.args.builder.now in
     let v = c.in_ok-parts.parts.encoding in
     let m = c.as_slice.result.now in
-    let w0 = way0 old v c.table-node.new.self c.encoding_entry.result c.encoding_entry.ensures c.in_ok-node.ensures.written in
-    let w1 = way1 old v c.table-node.new.self c.link.new.self c.write_elements.new.builder m w0 c.link.ensures.waits c.in_ok-write_elements.ensures.written in
-    let kids = children_pieces c.args.encodings.now c.node_parts-parts.new.passed.nodes c.node_parts-parts.new.passed.buffers (wires codec no_session (roses_of c.children.result.now)) in
+    let w0 = way0 old v c.table.new.self c.encoding_entry.result c.encoding_entry.ensures c.in_ok-node.ensures.written in
+    let w1 = way1 old v c.table.new.self c.link.new.self c.write_elements.new.builder m w0 c.link.ensures.waits c.in_ok-write_elements.ensures.written in
+    let kids = children_pieces c.args.encodings.now c.node_parts.new.passed.nodes c.node_parts.new.passed.buffers (wires codec no_session (roses_of c.children.result.now)) in
     let w2 = way2 old v c.write_elements.new.builder c.link-2.new.self c.write_nodes.new.builder m kids w1 c.link-2.ensures.waits (c.in_ok-write_nodes.ensures.written no_session) in
     let bytes = c.deref.result.now in
     let w3 = way3 old v c.write_nodes.new.builder c.link-3.new.self c.write_elements-2.new.builder m bytes kids w2 c.link-3.ensures.waits c.in_ok-write_elements-2.ensures.written in
@@ -153,9 +153,9 @@ write_node-write_no_statistics-requires t c =
     let old = c.args.builder.now in
     let v = c.in_ok-parts.parts.encoding in
     let m = c.as_slice.result.now in
-    let w0 = way0 old v c.table-node.new.self c.encoding_entry.result c.encoding_entry.ensures c.in_ok-node.ensures.written in
-    let w1 = way1 old v c.table-node.new.self c.link.new.self c.write_elements.new.builder m w0 c.link.ensures.waits c.in_ok-write_elements.ensures.written in
-    let kids = children_pieces c.args.encodings.now c.node_parts-parts.new.passed.nodes c.node_parts-parts.new.passed.buffers (wires codec no_session (roses_of c.children.result.now)) in
+    let w0 = way0 old v c.table.new.self c.encoding_entry.result c.encoding_entry.ensures c.in_ok-node.ensures.written in
+    let w1 = way1 old v c.table.new.self c.link.new.self c.write_elements.new.builder m w0 c.link.ensures.waits c.in_ok-write_elements.ensures.written in
+    let kids = children_pieces c.args.encodings.now c.node_parts.new.passed.nodes c.node_parts.new.passed.buffers (wires codec no_session (roses_of c.children.result.now)) in
     let w2 = way2 old v c.write_elements.new.builder c.link-2.new.self c.write_nodes.new.builder m kids w1 c.link-2.ensures.waits (c.in_ok-write_nodes.ensures.written no_session) in
     let bytes = c.deref.result.now in
     let w3 = way3 old v c.write_nodes.new.builder c.link-3.new.self c.write_elements-2.new.builder m bytes kids w2 c.link-3.ensures.waits c.in_ok-write_elements-2.ensures.written in
@@ -185,11 +185,11 @@ write_node-returns-in_err-node-clause-stopped t c = λ s.
     let a = c.args.array.now in
     let old = c.args.builder.now in
     let v = c.in_ok-parts.parts.encoding in
-    let whole = node-is s a (roses_list (below a)) (roses_of-roses_list (below a)) c.args.encodings.now c.args.passed.now.nodes c.args.passed.now.buffers c.node_parts-parts.new.passed.nodes c.node_parts-parts.new.passed.buffers v c.in_ok-parts.parts.metadata c.in_ok-parts.parts.buffers.items
+    let whole = node-is s a (roses_list (below a)) (roses_of-roses_list (below a)) c.args.encodings.now c.args.passed.now.nodes c.args.passed.now.buffers c.node_parts.new.passed.nodes c.node_parts.new.passed.buffers v c.in_ok-parts.parts.metadata c.in_ok-parts.parts.buffers.items
     c.in_ok-parts.ensures.encoding c.in_ok-parts.ensures.metadata c.in_ok-parts.ensures.numbers c.in_ok-parts.ensures.nodes c.in_ok-parts.ensures.buffers in
     rw (p.1, p.2)
-    (subst (λ z. IsStopped old z c.in_err-node.field-0.0 c.table-node.new.self) whole
-    (refused old c.table-node.new.self (node_piece v) _ _ c.in_err-node.field-0.0 (entry_is c.encoding_entry.result v c.encoding_entry.ensures) c.in_err-node.ensures.refused))
+    (subst (λ z. IsStopped old z c.in_err-node.field-0.0 c.table.new.self) whole
+    (refused old c.table.new.self (node_piece v) _ _ c.in_err-node.field-0.0 (entry_is c.encoding_entry.result v c.encoding_entry.ensures) c.in_err-node.ensures.refused))
 
 pub write_node-returns-in_err-write_elements-clause-stopped : goal.write_node-returns-in_err-write_elements-clause-stopped
 write_node-returns-in_err-write_elements-clause-stopped t c = λ s.
@@ -198,12 +198,12 @@ write_node-returns-in_err-write_elements-clause-stopped t c = λ s.
     let old = c.args.builder.now in
     let v = c.in_ok-parts.parts.encoding in
     let m = c.as_slice.result.now in
-    let w0 = way0 old v c.table-node.new.self c.encoding_entry.result c.encoding_entry.ensures c.in_ok-node.ensures.written in
-    let kids = children_pieces c.args.encodings.now c.node_parts-parts.new.passed.nodes c.node_parts-parts.new.passed.buffers (wires codec s (roses_of (roses_list (below a)))) in
-    let whole = node-is s a (roses_list (below a)) (roses_of-roses_list (below a)) c.args.encodings.now c.args.passed.now.nodes c.args.passed.now.buffers c.node_parts-parts.new.passed.nodes c.node_parts-parts.new.passed.buffers v c.in_ok-parts.parts.metadata c.in_ok-parts.parts.buffers.items
+    let w0 = way0 old v c.table.new.self c.encoding_entry.result c.encoding_entry.ensures c.in_ok-node.ensures.written in
+    let kids = children_pieces c.args.encodings.now c.node_parts.new.passed.nodes c.node_parts.new.passed.buffers (wires codec s (roses_of (roses_list (below a)))) in
+    let whole = node-is s a (roses_list (below a)) (roses_of-roses_list (below a)) c.args.encodings.now c.args.passed.now.nodes c.args.passed.now.buffers c.node_parts.new.passed.nodes c.node_parts.new.passed.buffers v c.in_ok-parts.parts.metadata c.in_ok-parts.parts.buffers.items
     c.in_ok-parts.ensures.encoding c.in_ok-parts.ensures.metadata c.in_ok-parts.ensures.numbers c.in_ok-parts.ensures.nodes c.in_ok-parts.ensures.buffers in
     rw (p.1, p.2)
-    (cut_short old (node_piece v) _ [] c.table-node.new.self c.link.new.self c.write_elements.new.builder (elements_piece 1 m ∷ []) (kids ++ (elements_piece 2 c.in_ok-parts.parts.buffers.items ∷ no_stats_piece ∷ [])) (node_pieces c.args.encodings.now c.args.passed.now.nodes c.args.passed.now.buffers (wire codec s a)) c.in_err-write_elements.field-0.0
+    (cut_short old (node_piece v) _ [] c.table.new.self c.link.new.self c.write_elements.new.builder (elements_piece 1 m ∷ []) (kids ++ (elements_piece 2 c.in_ok-parts.parts.buffers.items ∷ no_stats_piece ∷ [])) (node_pieces c.args.encodings.now c.args.passed.now.nodes c.args.passed.now.buffers (wire codec s a)) c.in_err-write_elements.field-0.0
     w0 c.link.ensures.waits c.in_err-write_elements.ensures.stopped
     (ap (λ z. node_piece v ∷ (elements_piece 1 z ∷ (kids ++ (elements_piece 2 c.in_ok-parts.parts.buffers.items ∷ no_stats_piece ∷ [])))) c.as_slice.ensures ∙ whole))
 
@@ -214,10 +214,10 @@ write_node-returns-in_err-write_nodes-clause-stopped t c = λ s.
     let old = c.args.builder.now in
     let v = c.in_ok-parts.parts.encoding in
     let m = c.as_slice.result.now in
-    let w0 = way0 old v c.table-node.new.self c.encoding_entry.result c.encoding_entry.ensures c.in_ok-node.ensures.written in
-    let w1 = way1 old v c.table-node.new.self c.link.new.self c.write_elements.new.builder m w0 c.link.ensures.waits c.in_ok-write_elements.ensures.written in
-    let kids = children_pieces c.args.encodings.now c.node_parts-parts.new.passed.nodes c.node_parts-parts.new.passed.buffers (wires codec s (roses_of c.children.result.now)) in
-    let whole = node-is s a c.children.result.now c.children.ensures.children c.args.encodings.now c.args.passed.now.nodes c.args.passed.now.buffers c.node_parts-parts.new.passed.nodes c.node_parts-parts.new.passed.buffers v c.in_ok-parts.parts.metadata c.in_ok-parts.parts.buffers.items
+    let w0 = way0 old v c.table.new.self c.encoding_entry.result c.encoding_entry.ensures c.in_ok-node.ensures.written in
+    let w1 = way1 old v c.table.new.self c.link.new.self c.write_elements.new.builder m w0 c.link.ensures.waits c.in_ok-write_elements.ensures.written in
+    let kids = children_pieces c.args.encodings.now c.node_parts.new.passed.nodes c.node_parts.new.passed.buffers (wires codec s (roses_of c.children.result.now)) in
+    let whole = node-is s a c.children.result.now c.children.ensures.children c.args.encodings.now c.args.passed.now.nodes c.args.passed.now.buffers c.node_parts.new.passed.nodes c.node_parts.new.passed.buffers v c.in_ok-parts.parts.metadata c.in_ok-parts.parts.buffers.items
     c.in_ok-parts.ensures.encoding c.in_ok-parts.ensures.metadata c.in_ok-parts.ensures.numbers c.in_ok-parts.ensures.nodes c.in_ok-parts.ensures.buffers in
     rw (p.1, p.2)
     (cut_short old (node_piece v) _ (elements_piece 1 m ∷ []) c.write_elements.new.builder c.link-2.new.self c.write_nodes.new.builder kids (elements_piece 2 c.in_ok-parts.parts.buffers.items ∷ no_stats_piece ∷ []) (node_pieces c.args.encodings.now c.args.passed.now.nodes c.args.passed.now.buffers (wire codec s a)) c.in_err-write_nodes.field-0.0
@@ -231,12 +231,12 @@ write_node-returns-in_err-write_elements-2-clause-stopped t c = λ s.
     let old = c.args.builder.now in
     let v = c.in_ok-parts.parts.encoding in
     let m = c.as_slice.result.now in
-    let w0 = way0 old v c.table-node.new.self c.encoding_entry.result c.encoding_entry.ensures c.in_ok-node.ensures.written in
-    let w1 = way1 old v c.table-node.new.self c.link.new.self c.write_elements.new.builder m w0 c.link.ensures.waits c.in_ok-write_elements.ensures.written in
-    let kids = children_pieces c.args.encodings.now c.node_parts-parts.new.passed.nodes c.node_parts-parts.new.passed.buffers (wires codec s (roses_of c.children.result.now)) in
+    let w0 = way0 old v c.table.new.self c.encoding_entry.result c.encoding_entry.ensures c.in_ok-node.ensures.written in
+    let w1 = way1 old v c.table.new.self c.link.new.self c.write_elements.new.builder m w0 c.link.ensures.waits c.in_ok-write_elements.ensures.written in
+    let kids = children_pieces c.args.encodings.now c.node_parts.new.passed.nodes c.node_parts.new.passed.buffers (wires codec s (roses_of c.children.result.now)) in
     let w2 = way2 old v c.write_elements.new.builder c.link-2.new.self c.write_nodes.new.builder m kids w1 c.link-2.ensures.waits (c.in_ok-write_nodes.ensures.written s) in
     let bytes = c.deref.result.now in
-    let whole = node-is s a c.children.result.now c.children.ensures.children c.args.encodings.now c.args.passed.now.nodes c.args.passed.now.buffers c.node_parts-parts.new.passed.nodes c.node_parts-parts.new.passed.buffers v c.in_ok-parts.parts.metadata c.in_ok-parts.parts.buffers.items
+    let whole = node-is s a c.children.result.now c.children.ensures.children c.args.encodings.now c.args.passed.now.nodes c.args.passed.now.buffers c.node_parts.new.passed.nodes c.node_parts.new.passed.buffers v c.in_ok-parts.parts.metadata c.in_ok-parts.parts.buffers.items
     c.in_ok-parts.ensures.encoding c.in_ok-parts.ensures.metadata c.in_ok-parts.ensures.numbers c.in_ok-parts.ensures.nodes c.in_ok-parts.ensures.buffers in
     let same = (λ k. node_piece v ∷ (elements_piece 1 (c.as_slice.ensures k) ∷ (kids ++ (elements_piece 2 (c.deref.ensures.value k) ∷ no_stats_piece ∷ [])))) ∙ whole in
     rw (p.1, p.2)
@@ -250,13 +250,13 @@ write_node-returns-in_err-write_no_statistics-clause-stopped t c = λ s.
     let old = c.args.builder.now in
     let v = c.in_ok-parts.parts.encoding in
     let m = c.as_slice.result.now in
-    let w0 = way0 old v c.table-node.new.self c.encoding_entry.result c.encoding_entry.ensures c.in_ok-node.ensures.written in
-    let w1 = way1 old v c.table-node.new.self c.link.new.self c.write_elements.new.builder m w0 c.link.ensures.waits c.in_ok-write_elements.ensures.written in
-    let kids = children_pieces c.args.encodings.now c.node_parts-parts.new.passed.nodes c.node_parts-parts.new.passed.buffers (wires codec s (roses_of c.children.result.now)) in
+    let w0 = way0 old v c.table.new.self c.encoding_entry.result c.encoding_entry.ensures c.in_ok-node.ensures.written in
+    let w1 = way1 old v c.table.new.self c.link.new.self c.write_elements.new.builder m w0 c.link.ensures.waits c.in_ok-write_elements.ensures.written in
+    let kids = children_pieces c.args.encodings.now c.node_parts.new.passed.nodes c.node_parts.new.passed.buffers (wires codec s (roses_of c.children.result.now)) in
     let w2 = way2 old v c.write_elements.new.builder c.link-2.new.self c.write_nodes.new.builder m kids w1 c.link-2.ensures.waits (c.in_ok-write_nodes.ensures.written s) in
     let bytes = c.deref.result.now in
     let w3 = way3 old v c.write_nodes.new.builder c.link-3.new.self c.write_elements-2.new.builder m bytes kids w2 c.link-3.ensures.waits c.in_ok-write_elements-2.ensures.written in
-    let whole = node-is s a c.children.result.now c.children.ensures.children c.args.encodings.now c.args.passed.now.nodes c.args.passed.now.buffers c.node_parts-parts.new.passed.nodes c.node_parts-parts.new.passed.buffers v c.in_ok-parts.parts.metadata c.in_ok-parts.parts.buffers.items
+    let whole = node-is s a c.children.result.now c.children.ensures.children c.args.encodings.now c.args.passed.now.nodes c.args.passed.now.buffers c.node_parts.new.passed.nodes c.node_parts.new.passed.buffers v c.in_ok-parts.parts.metadata c.in_ok-parts.parts.buffers.items
     c.in_ok-parts.ensures.encoding c.in_ok-parts.ensures.metadata c.in_ok-parts.ensures.numbers c.in_ok-parts.ensures.nodes c.in_ok-parts.ensures.buffers in
     let same = (λ k. node_piece v ∷ (elements_piece 1 (c.as_slice.ensures k) ∷ (kids ++ (elements_piece 2 (c.deref.ensures.value k) ∷ no_stats_piece ∷ [])))) ∙ whole in
     rw (p.1, p.2)
@@ -270,13 +270,13 @@ write_node-returns-clause-written t c = λ s.
     let old = c.args.builder.now in
     let v = c.in_ok-parts.parts.encoding in
     let m = c.as_slice.result.now in
-    let w0 = way0 old v c.table-node.new.self c.encoding_entry.result c.encoding_entry.ensures c.in_ok-node.ensures.written in
-    let w1 = way1 old v c.table-node.new.self c.link.new.self c.write_elements.new.builder m w0 c.link.ensures.waits c.in_ok-write_elements.ensures.written in
-    let kids = children_pieces c.args.encodings.now c.node_parts-parts.new.passed.nodes c.node_parts-parts.new.passed.buffers (wires codec s (roses_of c.children.result.now)) in
+    let w0 = way0 old v c.table.new.self c.encoding_entry.result c.encoding_entry.ensures c.in_ok-node.ensures.written in
+    let w1 = way1 old v c.table.new.self c.link.new.self c.write_elements.new.builder m w0 c.link.ensures.waits c.in_ok-write_elements.ensures.written in
+    let kids = children_pieces c.args.encodings.now c.node_parts.new.passed.nodes c.node_parts.new.passed.buffers (wires codec s (roses_of c.children.result.now)) in
     let w2 = way2 old v c.write_elements.new.builder c.link-2.new.self c.write_nodes.new.builder m kids w1 c.link-2.ensures.waits (c.in_ok-write_nodes.ensures.written s) in
     let bytes = c.deref.result.now in
     let w3 = way3 old v c.write_nodes.new.builder c.link-3.new.self c.write_elements-2.new.builder m bytes kids w2 c.link-3.ensures.waits c.in_ok-write_elements-2.ensures.written in
-    let whole = node-is s a c.children.result.now c.children.ensures.children c.args.encodings.now c.args.passed.now.nodes c.args.passed.now.buffers c.node_parts-parts.new.passed.nodes c.node_parts-parts.new.passed.buffers v c.in_ok-parts.parts.metadata c.in_ok-parts.parts.buffers.items
+    let whole = node-is s a c.children.result.now c.children.ensures.children c.args.encodings.now c.args.passed.now.nodes c.args.passed.now.buffers c.node_parts.new.passed.nodes c.node_parts.new.passed.buffers v c.in_ok-parts.parts.metadata c.in_ok-parts.parts.buffers.items
     c.in_ok-parts.ensures.encoding c.in_ok-parts.ensures.metadata c.in_ok-parts.ensures.numbers c.in_ok-parts.ensures.nodes c.in_ok-parts.ensures.buffers in
     let same = (λ k. node_piece v ∷ (elements_piece 1 (c.as_slice.ensures k) ∷ (kids ++ (elements_piece 2 (c.deref.ensures.value k) ∷ no_stats_piece ∷ [])))) ∙ whole in
     subst (λ z. AreWritten old z c.write_no_statistics.new.builder) same
