@@ -58,9 +58,12 @@ mutual
       let there : drop (k + nodes w) es ≡ behind = ap (λ m. drop (k + m) es) (sym (encodings-count ids w)) ∙ past own behind es k here in
       λ i. more (by-encodings ids es behind k n w here i) (by-encodings_below ids es rest (k + nodes w) (n + length (gathered buffers_at_node w)) ws there i)
 
+pub root-numbered : (ids : List (List ℕ)) (w : Wire) (es : List ℕ) → es ≡ encodings_in ids w → numbered_by es 0 0 w ≡ numbered ids 0 w
+root-numbered ids w es known = by-encodings ids es [] 0 0 w (known ∙ sym (append-nil (encodings_in ids w)))
+
 module _ (ids : List (List ℕ)) (w : Wire) (es bytes : List ℕ) (known : es ≡ encodings_in ids w) where
   root-is : numbered_by es 0 0 w ≡ numbered ids 0 w
-  root-is = by-encodings ids es [] 0 0 w (known ∙ sym (append-nil (encodings_in ids w)))
+  root-is = root-numbered ids w es known
 
   -- The message is that of the identifiers.
   pub layout-numbered : layout_by es w bytes ≡ layout_of ids w bytes

@@ -102,7 +102,13 @@ pub(crate) fn write_node(
     ensures stopped { (s : SessionMeaning) → IfErr result (λ e. IsStopped builder.old (node_pieces encodings.now passed.old.nodes passed.old.buffers (wire codec s array.now)) e builder.new) }
 {
     let parts = node_parts(alloc, array, encodings, passed)?;
-    let node = builder.table(&[encoding_entry(parts.encoding), VECTOR, VECTOR, VECTOR, TABLE])?;
+    let node = builder.table(&[
+        encoding_entry(parts.encoding),
+        VECTOR,
+        VECTOR,
+        VECTOR,
+        TABLE,
+    ])?;
     builder.link(node, 1);
     write_elements(1, parts.metadata.as_slice(), builder)?;
     builder.link(node, 2);

@@ -74,8 +74,7 @@ write_node-write_nodes-requires t c =
     let w0 = way0 old v c.table.new.self c.encoding_entry.result c.encoding_entry.ensures c.in_ok-node.ensures.written in
     let w1 = way1 old v c.table.new.self c.link.new.self c.write_elements.new.builder m w0 c.link.ensures.waits c.in_ok-write_elements.ensures.written in
     let ts = c.children.result.now in
-    let at = c.children.ensures.children in
-    (
+    let at = c.children.ensures.children in (
       omega (arith, counted-below a ts at),
       awaited old (node_piece v) _ _ _ c.write_elements.new.builder c.link-2.new.self w1 c.link-2.ensures.waits,
       omega (arith, c.requires.known, counted-below a ts at, c.in_ok-parts.ensures.nodes),
@@ -353,8 +352,7 @@ write_nodes-write_node-requires t c =
     let u = c.index-arrays-i.result in
     let is = c.index-arrays-i.is in
     let way = next_left old link.Table (length ts) i (rows_of es k first (take i (wired no_session ts))) now lt (c.loop-i.invariant.so_far no_session) in
-    let split = nodes-split ts i u lt is in
-    (
+    let split = nodes-split ts i u lt is in (
       omega (arith, split),
       awaited old _ _ _ _ now c.link.new.self way c.link.ensures.waits,
       omega (arith, split, c.requires.known, c.loop-i.invariant.places),

@@ -13,7 +13,6 @@ use Rattle.vx_serde.proofs.MessageBlocks.{layout-written, message-shown, blocks-
 use Rattle.vx_serde.proofs.WiredNodes.{no_session, wired-nodes}
 use Rattle.vx_serde.proofs.writing.write_message.Goals as goal
 
-
 pub returns-then-len-gt-MAX_NODES-clause-refused : goal.returns-then-len-gt-MAX_NODES-clause-refused
 returns-then-len-gt-MAX_NODES-clause-refused c = λ s.
     let a = c.args.array.now in
