@@ -31,3 +31,4 @@ pub mod SerializedNodes
 pub mod OverriddenBuffers
 pub mod StoredMessages
 pub mod DecodedNodes
+pub mod ArrayNodes

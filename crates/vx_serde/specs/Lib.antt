@@ -19,6 +19,7 @@ pub mod Request
 pub mod Causes
 pub mod Aligned
 pub mod Serializing
+pub mod ArrayNode
 pub mod Recoding
 -- What the contracts of private functions alone cite.
 pub mod Decoding

@@ -17,7 +17,7 @@ ghost use Rattle.vx_registry.specs.Serialization.{array_id};
 ghost use Rattle.vx_registry.specs.Session.{tables_meaning, ArePaired};
 ghost use Rattle.vx_serde.specs.Blocks.{encodings_in};
 ghost use Rattle.vx_serde.specs.KeptContext.{KeepsContext};
-ghost use Rattle.vx_serde.specs.WritingSteps.{RefusesNode, RefusesRoot, RefusesGathering, HasEntry};
+ghost use Rattle.vx_serde.specs.WritingSteps.{RefusesNode, RefusesNodes, RefusesRoot, RefusesGathering, HasEntry};
 
 use crate::error::WireError;
 use std::alloc::Global;
@@ -47,6 +47,29 @@ fn written_id(alloc: Global, array: &Array, arrays: &ArraySession) -> Result<Id,
         Some(_) => Ok(id),
         None => Err(WireError::NotRegistered),
     }
+}
+
+/// Judges whether the nodes of an array can be written: `WireLimit` where there are more than `room` levels,
+/// `NotRegistered` where nothing writes the arrays of a node's encoding.
+#[tactic(auto, using(vx_trees::proofs::Roses::roses))]
+pub(crate) fn judge(
+    alloc: Global,
+    array: &Array,
+    arrays: &ArraySession,
+    room: usize,
+) -> Result<(), WireError>
+    ensures levels { OnOk result (levels array.now ≤ room) }
+    ensures written { (x : ExtMeaning) → OnOk result (IsWritten (tables_meaning arrays.now x) array.now) }
+    ensures cause { (x : ExtMeaning) → IfErr result (RefusesNodes (tables_meaning arrays.now x) array.now room) }
+{
+    if room == 0 {
+        return Err(WireError::WireLimit);
+    }
+    written_id(alloc, array, arrays)?;
+    for child in array.children() {
+        judge(alloc, child, arrays, room - 1)?;
+    }
+    Ok(())
 }
 
 /// The number of the identifier of a root's encoding, which the context takes where it is new.

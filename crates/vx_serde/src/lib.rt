@@ -2,6 +2,7 @@
 #![tactic(auto)]
 
 mod array_kind;
+mod array_node;
 mod blocks;
 mod decoding;
 mod error;
@@ -19,6 +20,7 @@ mod tree;
 mod writing;
 
 pub use array_kind::ArrayKind;
+pub use array_node::ArrayNodeFlatBuffer;
 pub use error::WireError;
 pub use message::Descriptor;
 pub use options::SerializeOptions;
