@@ -21,7 +21,6 @@ use crate::limits::{MAX_BUFFERS, MAX_LEVELS, MAX_NODES};
 use crate::nodes::{Passed, write_node};
 use std::alloc::Global;
 use vx_arrays::Array;
-use vx_buffer::BufferHandles;
 use vx_flat::{Builder, LinkKind};
 use vx_registry::{ArrayContext, ArraySession, VortexSession};
 
@@ -93,10 +92,7 @@ impl<'a> ArrayNodeFlatBuffer<'a> {
         let Ok(()) = self.array.validate() else {
             unreachable!();
         };
-        let mut found = Gathered {
-            buffers: BufferHandles::new(alloc),
-            encodings: Vec::new(alloc),
-        };
+        let mut found = Gathered::new(alloc);
         gather(
             alloc,
             self.array,

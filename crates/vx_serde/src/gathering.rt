@@ -33,6 +33,19 @@ pub(crate) struct Gathered {
     pub(crate) encodings: Vec<u16>,
 }
 
+impl Gathered {
+    /// Those of no node.
+    pub(crate) fn new(alloc: Global) -> Gathered
+        ensures buffers { result.buffers ≡ [] }
+        ensures encodings { result.encodings.items ≡ [] }
+    {
+        Gathered {
+            buffers: BufferHandles::new(alloc),
+            encodings: Vec::new(alloc),
+        }
+    }
+}
+
 /// The identifier of a root's encoding, where something writes the arrays of the encoding.
 fn written_id(alloc: Global, array: &Array, arrays: &ArraySession) -> Result<Id, WireError>
     ensures id { IfOk result (λ id. id ≡ array_id array.now) }

@@ -40,7 +40,7 @@ use crate::options::SerializeOptions;
 use crate::placing::{LaidOut, describe, greatest_alignment, pad_at, push_data, push_pad};
 use std::alloc::Global;
 use vx_arrays::Array;
-use vx_buffer::{BufferError, BufferHandle, BufferHandles, ByteBuffer, ByteBuffers};
+use vx_buffer::{BufferError, BufferHandle, ByteBuffer, ByteBuffers};
 use vx_flat::{Builder, FlatBuffer, FlatError, LinkKind, verify_uncounted};
 use vx_registry::{ArrayContext, ArraySession};
 
@@ -159,10 +159,7 @@ fn place(
     ensures kept { (s : SessionMeaning) → KeepsContext (ids_in (wire codec s array.now)) ctx.old ctx.new }
     ensures refused { (x : ExtMeaning) → IfErr result (RefusesLayout (tables_meaning arrays.now x) options.now array.now ctx.old) }
 {
-    let mut found = Gathered {
-        buffers: BufferHandles::new(alloc),
-        encodings: Vec::new(alloc),
-    };
+    let mut found = Gathered::new(alloc);
     gather(alloc, array, arrays, MAX_LEVELS, ctx, &mut found)?;
     if found.buffers.len() > MAX_BUFFERS || !are_describable(found.buffers.as_slice()) {
         return Err(WireError::WireLimit);

@@ -74,13 +74,8 @@ write_node-write_nodes-requires t c =
     let w0 = way0 old v c.table.new.self c.encoding_entry.result c.encoding_entry.ensures c.in_ok-node.ensures.written in
     let w1 = way1 old v c.table.new.self c.link.new.self c.write_elements.new.builder m w0 c.link.ensures.waits c.in_ok-write_elements.ensures.written in
     let ts = c.children.result.now in
-    let at = c.children.ensures.children in (
-      omega (arith, counted-below a ts at),
-      awaited old (node_piece v) _ _ _ c.write_elements.new.builder c.link-2.new.self w1 c.link-2.ensures.waits,
-      omega (arith, c.requires.known, counted-below a ts at, c.in_ok-parts.ensures.nodes),
-      λ s. omega (arith, c.requires.few s, buffers-split s a ts at, c.in_ok-parts.ensures.buffers),
-      omega (arith, c.requires.counted, counted-below a ts at),
-    )
+    let at = c.children.ensures.children in
+    (omega (arith, counted-below a ts at), (awaited old (node_piece v) _ _ _ c.write_elements.new.builder c.link-2.new.self w1 c.link-2.ensures.waits, (omega (arith, c.requires.known, counted-below a ts at, c.in_ok-parts.ensures.nodes), (λ s. omega (arith, c.requires.few s, buffers-split s a ts at, c.in_ok-parts.ensures.buffers), omega (arith, c.requires.counted, counted-below a ts at)))))
 
 pub write_node-link-requires-3-clause-idle : goal.write_node-link-requires-3-clause-idle
 write_node-link-requires-3-clause-idle t c =
@@ -354,10 +349,13 @@ write_nodes-write_node-requires t c =
     let way = next_left old link.Table (length ts) i (rows_of es k first (take i (wired no_session ts))) now lt (c.loop-i.invariant.so_far no_session) in
     let split = nodes-split ts i u lt is in (
       omega (arith, split),
-      awaited old _ _ _ _ now c.link.new.self way c.link.ensures.waits,
-      omega (arith, split, c.requires.known, c.loop-i.invariant.places),
-      λ s. omega (arith, c.requires.few s, c.loop-i.invariant.count s, buffers-parts s ts i u lt is),
-      omega (arith, split, c.requires.counted),
+      (
+        awaited old _ _ _ _ now c.link.new.self way c.link.ensures.waits,
+        (
+          omega (arith, split, c.requires.known, c.loop-i.invariant.places),
+          (λ s. omega (arith, c.requires.few s, c.loop-i.invariant.count s, buffers-parts s ts i u lt is), omega (arith, split, c.requires.counted)),
+        ),
+      ),
     )
 
 pub write_nodes-returns-in_err-vector-clause-stopped : goal.write_nodes-returns-in_err-vector-clause-stopped

@@ -1,4 +1,4 @@
-use Rattle.std.proofs.Common.{arith, ap, sym, subst, ◌∙◌, List, ◌++◌, length, append-nil}
+use Rattle.std.proofs.Common.{arith, ap, sym, subst, ◌∙◌, List, [], ◌++◌, length, append-nil}
 use Rattle.std.proofs.lemmas.Result.{err_from_is_err_and}
 use Rattle.vx_wire_tree.specs.Wire.{buffers_in}
 use Rattle.vx_wire_tree.specs.Written.{wire}
@@ -18,7 +18,10 @@ returns-in_err-gather-clause-refused c = λ x.
 
 pub returns-clause-encodings : goal.returns-clause-encodings
 returns-clause-encodings c = λ s.
-    c.in_ok-gather.ensures.encodings s [] ∙ ap (λ ids. encodings_in ids (wire codec s c.args.array.now)) (append-nil c.gather.new.ctx.ids)
+    let w = wire codec s c.args.array.now in
+    c.in_ok-gather.ensures.encodings s []
+    ∙ ap (λ z. z ++ encodings_in (c.gather.new.ctx.ids ++ []) w) c.new-found.ensures.encodings
+    ∙ ap (λ ids. encodings_in ids w) (append-nil c.gather.new.ctx.ids)
 
 pub returns-clause-placed : goal.returns-clause-placed
 returns-clause-placed c = λ s.
@@ -26,6 +29,6 @@ returns-clause-placed c = λ s.
     let same = c.as_slice.ensures ∙ sym c.as_slice-2.ensures in
     let P : List Buffer → Type 0 = λ z. AreDescribable z in
     laid_out s c.args.array.now c.args.options.now bs c.in-Some.placed.descriptors.items c.in-Some.placed.end
-    (c.as_slice-2.ensures ∙ (c.in_ok-gather.ensures.buffers s ∙ ap (λ z. z ++ buffers_in (wire codec s c.args.array.now)) c.new.ensures)) c.in_ok-gather.ensures.levels
+    (c.as_slice-2.ensures ∙ (c.in_ok-gather.ensures.buffers s ∙ ap (λ z. z ++ buffers_in (wire codec s c.args.array.now)) c.new-found.ensures.buffers)) c.in_ok-gather.ensures.levels
     (omega (arith, c.if-len-gt-MAX_BUFFERS.false, c.len.ensures, ap (λ z. length z) c.as_slice-2.ensures)) (subst P same (c.are_describable.ensures.0 c.if-not-are_describable.false))
     (rw c.in-Some.is at c.in_ok-placed.ensures.descriptors) (rw c.in-Some.is at c.in_ok-placed.ensures.end) (omega arith)
