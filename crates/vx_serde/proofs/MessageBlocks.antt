@@ -1,6 +1,6 @@
 -- The blocks of a message, and why they are not written.
 use Rattle.std.proofs.Common.{ℕ, ◌≡◌, ◌+◌, ◌*◌, ◌<◌, ◌≤◌, ◌^◌, List, [], ◌∷◌, ◌++◌, length, refl, sym, ap, ◌∙◌, subst, arith, inl, inr}
-use Rattle.std.specs.Prelude.{◌⊎◌, true, false, None, Result, Ok, Err, IfOk, IfErr}
+use Rattle.std.specs.Prelude.{◌⊎◌, true, false, None, Result, Ok, Err, IfOk, IfErr, OnOk}
 use Rattle.vx_flat.specs.declared.builder.piece.BlockField.TheVariants as entry
 use Rattle.vx_flat.specs.declared.builder.piece.LinkKind.TheVariants as link
 use Rattle.vx_flat.specs.declared.error.FlatError.{FlatError}
@@ -111,6 +111,11 @@ module _ (es : List ℕ) (w : Wire) (bytes : List ℕ) (of : IsOf array_schema (
 pub if_ok : {T E : Type 0} (r : Result T E) (P Q : T → Type 0) → ((x : T) → P x → Q x) → IfOk r P → IfOk r Q
 if_ok (Ok x) P Q f h = f x h
 if_ok (Err e) P Q f h = tt
+
+-- What holds of some bytes holds of those that an answer gives, where they are the same.
+pub if_ok-same : {T E : Type 0} (r : Result T E) (f : T → List ℕ) (m : List ℕ) (Q : List ℕ → Type 0) → IfOk r (λ x. f x ≡ m) → OnOk r (Q m) → IfOk r (λ x. Q (f x))
+if_ok-same (Ok x) f m Q h q = subst Q (sym h) q
+if_ok-same (Err e) f m Q h q = tt
 
 pub if_err : {T E : Type 0} (r : Result T E) (P Q : E → Type 0) → ((e : E) → P e → Q e) → IfErr r P → IfErr r Q
 if_err (Ok x) P Q f h = tt

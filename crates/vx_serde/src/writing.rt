@@ -134,8 +134,9 @@ fn write_message(
     }
     let mut builder = Builder::new(alloc);
     write_blocks(alloc, array, encodings, descriptors, &mut builder)?;
-    let Ok(message) = builder.finish(alloc) else {
-        unreachable!();
+    let message = match builder.finish(alloc) {
+        Ok(message) => message,
+        Err(_) => unreachable!(),
     };
     light_message(message)
 }

@@ -9,7 +9,7 @@ use Rattle.vx_wire_tree.specs.Written.{wire}
 use Rattle.vx_encodings.specs.Messages.{codec}
 use Rattle.vx_serde.specs.ArraySchema.{array_schema}
 use Rattle.vx_serde.specs.Blocks.{AreWritten, message_by, layout_by}
-use Rattle.vx_serde.proofs.MessageBlocks.{layout-written, message-shown, blocks-refused, too-many, heavy, some-written, works-written, idle-written, if_ok, if_err}
+use Rattle.vx_serde.proofs.MessageBlocks.{layout-written, message-shown, blocks-refused, too-many, heavy, some-written, works-written, idle-written, if_ok, if_ok-same, if_err}
 use Rattle.vx_serde.proofs.WiredNodes.{no_session, wired-nodes}
 use Rattle.vx_serde.proofs.writing.write_message.Goals as goal
 
@@ -83,7 +83,8 @@ unreachable-requires c =
     let of = c.requires.of_kind no_session in
     let b = c.write_blocks.new.builder in
     let wrote : AreWritten nothing_built (pieces array_schema (message_by es w ds)) b = subst (λ z. AreWritten z (pieces array_schema (message_by es w ds)) b) c.new-builder.ensures (c.in_ok-write_blocks.ensures.written no_session) in
-    search
+    let ok = c.in-Err.ensures.complete (works-written es w ds of b wrote) in
+    absurd cc
 
 pub light_message-requires : goal.light_message-requires
 light_message-requires c =
@@ -108,6 +109,14 @@ returns-clause-written c = λ s.
     let wrote : AreWritten nothing_built (pieces array_schema (message_by es w ds)) b = subst (λ z. AreWritten z (pieces array_schema (message_by es w ds)) b) c.new-builder.ensures (c.in_ok-write_blocks.ensures.written s) in
     let m = c.in-Ok.ensures.built ∙ layout-written es w ds of b wrote in
     if_ok c.light_message.result (λ x. x.items ≡ c.in-Ok.message) (λ x. x.items ≡ layout_by es w ds) (λ x h. h ∙ m) c.light_message.ensures.same
+
+pub returns-clause-short : goal.returns-clause-short
+returns-clause-short c =
+    if_ok c.light_message.result (λ x. x.items ≡ c.in-Ok.message) (λ x. length x.items < 2 ^ 31) (λ x h. subst (λ z. length z < 2 ^ 31) (sym h) c.in-Ok.ensures.fits) c.light_message.ensures.same
+
+pub returns-clause-light : goal.returns-clause-light
+returns-clause-light c =
+    if_ok-same c.light_message.result (λ x. x.items) c.in-Ok.message (λ z. IsLight limits (weigh.weight array_schema z)) c.light_message.ensures.same c.light_message.ensures.light
 
 pub returns-clause-refused : goal.returns-clause-refused
 returns-clause-refused c = λ s.
