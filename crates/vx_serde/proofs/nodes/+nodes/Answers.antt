@@ -232,7 +232,8 @@ write_node-returns-in_err-write_elements-2-clause-stopped t c = λ s.
     let bytes = c.deref.result.now in
     let whole = node-is s a c.children.result.now c.children.ensures.children c.args.encodings.now c.args.passed.now.nodes c.args.passed.now.buffers c.node_parts.new.passed.nodes c.node_parts.new.passed.buffers v c.in_ok-parts.parts.metadata c.in_ok-parts.parts.buffers.items
     c.in_ok-parts.ensures.encoding c.in_ok-parts.ensures.metadata c.in_ok-parts.ensures.numbers c.in_ok-parts.ensures.nodes c.in_ok-parts.ensures.buffers in
-    let same = (λ k. node_piece v ∷ (elements_piece 1 (c.as_slice.ensures k) ∷ (kids ++ (elements_piece 2 (c.deref.ensures.value k) ∷ no_stats_piece ∷ [])))) ∙ whole in
+    let same : node_piece v ∷ (elements_piece 1 m ∷ (kids ++ (elements_piece 2 bytes ∷ no_stats_piece ∷ []))) ≡ node_pieces c.args.encodings.now c.args.passed.now.nodes c.args.passed.now.buffers (wire codec s a) =
+    (λ k. node_piece v ∷ (elements_piece 1 (c.as_slice.ensures k) ∷ (kids ++ (elements_piece 2 (c.deref.ensures.value k) ∷ no_stats_piece ∷ [])))) ∙ whole in
     rw (p.1, p.2)
     (cut_short old (node_piece v) _ (elements_piece 1 m ∷ kids) c.write_nodes.new.builder c.link-3.new.self c.write_elements-2.new.builder (elements_piece 2 bytes ∷ []) (no_stats_piece ∷ []) (node_pieces c.args.encodings.now c.args.passed.now.nodes c.args.passed.now.buffers (wire codec s a)) c.in_err-write_elements-2.field-0.0
     w2 c.link-3.ensures.waits c.in_err-write_elements-2.ensures.stopped same)
@@ -252,7 +253,8 @@ write_node-returns-in_err-write_no_statistics-clause-stopped t c = λ s.
     let w3 = way3 old v c.write_nodes.new.builder c.link-3.new.self c.write_elements-2.new.builder m bytes kids w2 c.link-3.ensures.waits c.in_ok-write_elements-2.ensures.written in
     let whole = node-is s a c.children.result.now c.children.ensures.children c.args.encodings.now c.args.passed.now.nodes c.args.passed.now.buffers c.node_parts.new.passed.nodes c.node_parts.new.passed.buffers v c.in_ok-parts.parts.metadata c.in_ok-parts.parts.buffers.items
     c.in_ok-parts.ensures.encoding c.in_ok-parts.ensures.metadata c.in_ok-parts.ensures.numbers c.in_ok-parts.ensures.nodes c.in_ok-parts.ensures.buffers in
-    let same = (λ k. node_piece v ∷ (elements_piece 1 (c.as_slice.ensures k) ∷ (kids ++ (elements_piece 2 (c.deref.ensures.value k) ∷ no_stats_piece ∷ [])))) ∙ whole in
+    let same : node_piece v ∷ (elements_piece 1 m ∷ (kids ++ (elements_piece 2 bytes ∷ no_stats_piece ∷ []))) ≡ node_pieces c.args.encodings.now c.args.passed.now.nodes c.args.passed.now.buffers (wire codec s a) =
+    (λ k. node_piece v ∷ (elements_piece 1 (c.as_slice.ensures k) ∷ (kids ++ (elements_piece 2 (c.deref.ensures.value k) ∷ no_stats_piece ∷ [])))) ∙ whole in
     rw (p.1, p.2)
     (cut_short old (node_piece v) _ (elements_piece 1 m ∷ (kids ++ elements_piece 2 bytes ∷ [])) c.write_elements-2.new.builder c.link-4.new.self c.write_no_statistics.new.builder (no_stats_piece ∷ []) [] (node_pieces c.args.encodings.now c.args.passed.now.nodes c.args.passed.now.buffers (wire codec s a)) c.in_err-write_no_statistics.field-0.0
     w3 c.link-4.ensures.waits c.in_err-write_no_statistics.ensures.stopped
@@ -272,7 +274,8 @@ write_node-returns-clause-written t c = λ s.
     let w3 = way3 old v c.write_nodes.new.builder c.link-3.new.self c.write_elements-2.new.builder m bytes kids w2 c.link-3.ensures.waits c.in_ok-write_elements-2.ensures.written in
     let whole = node-is s a c.children.result.now c.children.ensures.children c.args.encodings.now c.args.passed.now.nodes c.args.passed.now.buffers c.node_parts.new.passed.nodes c.node_parts.new.passed.buffers v c.in_ok-parts.parts.metadata c.in_ok-parts.parts.buffers.items
     c.in_ok-parts.ensures.encoding c.in_ok-parts.ensures.metadata c.in_ok-parts.ensures.numbers c.in_ok-parts.ensures.nodes c.in_ok-parts.ensures.buffers in
-    let same = (λ k. node_piece v ∷ (elements_piece 1 (c.as_slice.ensures k) ∷ (kids ++ (elements_piece 2 (c.deref.ensures.value k) ∷ no_stats_piece ∷ [])))) ∙ whole in
+    let same : node_piece v ∷ (elements_piece 1 m ∷ (kids ++ (elements_piece 2 bytes ∷ no_stats_piece ∷ []))) ≡ node_pieces c.args.encodings.now c.args.passed.now.nodes c.args.passed.now.buffers (wire codec s a) =
+    (λ k. node_piece v ∷ (elements_piece 1 (c.as_slice.ensures k) ∷ (kids ++ (elements_piece 2 (c.deref.ensures.value k) ∷ no_stats_piece ∷ [])))) ∙ whole in
     subst (λ z. AreWritten old z c.write_no_statistics.new.builder) same
     (way4 old v c.write_elements-2.new.builder c.link-4.new.self c.write_no_statistics.new.builder m bytes kids w3 c.link-4.ensures.waits c.in_ok-write_no_statistics.ensures.written)
 
