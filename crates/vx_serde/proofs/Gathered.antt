@@ -171,5 +171,5 @@ unplaced_nodes s o t c _ h = absurd h
 -- ---- numbers of encodings
 
 -- Numbers in a list of identifiers stay, where more come to it.
-pub longer-ids : (ids added more all : List (List ℕ)) → all ≡ ids ++ added → all ++ more ≡ ids ++ (added ++ more)
-longer-ids ids added more all e = ap (λ z. z ++ more) e ∙ append_assoc ids added more
+pub longer-ids : (ids added others all : List (List ℕ)) → all ≡ ids ++ added → all ++ others ≡ ids ++ (added ++ others)
+longer-ids ids added others all e = ap (λ z. z ++ others) e ∙ append_assoc ids added others
