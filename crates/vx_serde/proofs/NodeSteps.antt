@@ -66,14 +66,14 @@ counted-list (t ∷ ts) = omega (arith, counted-list ts, nodes-is t)
 
 module _ {L : Type 0} where
   nodes_of-append : (ts us : List (Rose L)) → nodes_of (roses_of (ts ++ us)) ≡ nodes_of (roses_of ts) + nodes_of (roses_of us)
-  nodes_of-append [] us = refl
+  nodes_of-append [] us = omega arith
   nodes_of-append (t ∷ ts) us = omega (arith, nodes_of-append ts us)
 
   -- One of them among the others.
   pub nodes-split : (ts : List (Rose L)) (i : ℕ) (u : Rose L) → i < length ts → u ≡ get_or ts i u
       → nodes_of (roses_of ts) ≡ nodes_of (roses_of (take i ts)) + (nodes u + nodes_of (roses_of (drop (suc i) ts)))
   nodes-split [] i u h e = absurd (omega (arith, h))
-  nodes-split (t ∷ ts) zero u h e = ap (λ z. nodes z + nodes_of (roses_of ts)) (sym e)
+  nodes-split (t ∷ ts) zero u h e = omega (arith, ap (λ z. nodes z) e)
   nodes-split (t ∷ ts) (suc i) u h e = omega (arith, nodes-split ts i u (omega (arith, h)) e)
 
   -- One more of them.

@@ -153,7 +153,7 @@ write_node-write_no_statistics-requires t c =
     let w2 = way2 old v c.write_elements.new.builder c.link-2.new.self c.write_nodes.new.builder m kids w1 c.link-2.ensures.waits (c.in_ok-write_nodes.ensures.written no_session) in
     let bytes = c.deref.result.now in
     let w3 = way3 old v c.write_nodes.new.builder c.link-3.new.self c.write_elements-2.new.builder m bytes kids w2 c.link-3.ensures.waits c.in_ok-write_elements-2.ensures.written in
-    awaited old (node_piece v) _ _ _ c.write_elements-2.new.builder c.link-4.new.self w3 c.link-4.ensures.waits
+    record { takes = awaited old (node_piece v) _ _ _ c.write_elements-2.new.builder c.link-4.new.self w3 c.link-4.ensures.waits }
 
 pub write_node-node_parts-requires-clause-known : goal.write_node-node_parts-requires-clause-known
 write_node-node_parts-requires-clause-known t c =
@@ -363,20 +363,20 @@ write_nodes-write_node-requires t c =
 
 pub write_nodes-returns-in_err-vector-clause-stopped : goal.write_nodes-returns-in_err-vector-clause-stopped
 write_nodes-returns-in_err-vector-clause-stopped t c = λ s.
-    let p = err_from_is_err_and c.from_residual.result c.from_residual.ensures.1 in
+    let q = err_from_is_err_and c.from_residual.result c.from_residual.ensures.1 in
     let ts = c.args.arrays.now in
     let es = c.args.encodings.now in
     let old = c.args.builder.now in
     let k = c.args.passed.now.nodes in
     let first = c.args.passed.now.buffers in
     let p = links_piece link.Table (length ts) in
-    rw (p.1, p.2)
+    rw (q.1, q.2)
     (subst (λ z. IsStopped old z c.in_err-vector.field-0.0 c.vector.new.self) (children-whole s ts es k first)
     (refused old c.vector.new.self p p (rows_of es k first (wired s ts)) c.in_err-vector.field-0.0 refl c.in_err-vector.ensures.refused))
 
 pub write_nodes-returns-in_err-write_node-clause-stopped : goal.write_nodes-returns-in_err-write_node-clause-stopped
 write_nodes-returns-in_err-write_node-clause-stopped t c = λ s.
-    let p = err_from_is_err_and c.from_residual-in_err-write_node.result c.from_residual-in_err-write_node.ensures.1 in
+    let q = err_from_is_err_and c.from_residual-in_err-write_node.result c.from_residual-in_err-write_node.ensures.1 in
     let ts = c.args.arrays.now in
     let es = c.args.encodings.now in
     let old = c.args.builder.now in
@@ -390,7 +390,7 @@ write_nodes-returns-in_err-write_node-clause-stopped t c = λ s.
     let is = c.index-arrays-i.is in
     let way = next_left old link.Table (length ts) i (rows_of es k first (take i (wired s ts))) now lt (c.loop-i.invariant.so_far s) in
     let places = c.loop-i.invariant.places ∙ ap (λ n. k + n) (sym (wired-first s ts i)) in
-    rw (p.1, p.2)
+    rw (q.1, q.2)
     (cut_short old p _ (rows_of es k first (take i (wired s ts))) now c.link.new.self c.write_node.new.builder (node_pieces es c.loop-i.passed.nodes c.loop-i.passed.buffers (wire codec s u))
     (rows_of es (c.loop-i.passed.nodes + walk.nodes (wire codec s u)) (c.loop-i.passed.buffers + length (buffers_in (wire codec s u))) (drop (suc i) (wired s ts))) (children_pieces es k first (wires codec s (roses_of ts))) c.in_err-write_node.field-0.0
     way c.link.ensures.waits (c.in_err-write_node.ensures.stopped s)
