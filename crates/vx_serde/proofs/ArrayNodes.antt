@@ -4,7 +4,7 @@ use Rattle.std.specs.Prelude.{◌⊎◌}
 use Rattle.vx_buffer.specs.Buffer.{Buffer}
 use Rattle.vx_flat.specs.declared.error.FlatError.{FlatError}
 use Rattle.vx_flat.specs.declared.error.FlatError.TheVariants as flat
-use Rattle.vx_flat.specs.Building.{Built, IsStopped, Keeps}
+use Rattle.vx_flat.specs.Building.{Built, with_pieces, Written, IsStopped, Keeps}
 use Rattle.vx_flat.specs.Pieces.{Piece, table_pieces}
 use Rattle.vx_trees.specs.Walks.{nodes}
 use Rattle.vx_array_tree.specs.Tree.{Tree}
@@ -15,10 +15,10 @@ use Rattle.vx_wire_tree.specs.Written.{wire}
 use Rattle.vx_encodings.specs.Messages.{codec}
 use Rattle.vx_serde.specs.declared.error.WireError.{WireError}
 use Rattle.vx_serde.specs.declared.error.WireError.TheVariants.{OutOfMemory, NotPermitted, WireLimit, NotRegistered}
-use Rattle.vx_serde.specs.ArrayNode.{plain_options, array_pieces, RefusesBlocks}
+use Rattle.vx_serde.specs.ArrayNode.{plain_options, array_value, array_pieces, RefusesBlocks}
 use Rattle.vx_serde.specs.ArraySchema.{array_schema, node_fields}
+use Rattle.vx_serde.specs.Blocks.{encodings_in, node_pieces, layout_by, AreWritten}
 use Rattle.vx_serde.specs.Causes.{RefusesArray}
-use Rattle.vx_serde.specs.Blocks.{encodings_in, node_pieces, layout_by}
 use Rattle.vx_serde.specs.MessageValue.{node_value, descriptors_bytes}
 use Rattle.vx_serde.specs.Numbered.{numbered}
 use Rattle.vx_serde.specs.Placing.{descriptors_from}
@@ -33,6 +33,13 @@ use Rattle.vx_serde.proofs.WrittenAgain.{grown-ids, wire-whole}
 -- Nothing was written.
 pub keeps-all : (ps : List Piece) (old : Built) → Keeps old ps old
 keeps-all ps old = record { more = []; rest = ps; front = refl; bytes = refl }
+
+-- Where writing blocks stopped, those that were written so far are kept.
+pub stopped-keeps : (ps : List Piece) (old new : Built) (e : FlatError) → IsStopped old ps e new → Keeps old ps new
+stopped-keeps ps old new flat.OutOfMemory h = h
+stopped-keeps ps old new flat.MessageTooLong h = h.0
+stopped-keeps ps old new flat.BadTable h = absurd h
+stopped-keeps ps old new flat.TableLimit h = absurd h
 
 module _ (s : SessionMeaning) (t : Tree) (c : Context) where
   -- The blocks of the nodes whose encodings have the numbers of the grown context.
@@ -74,3 +81,7 @@ module _ (s : SessionMeaning) (t : Tree) (c : Context) where
   untaken b new flat.MessageTooLong h = inr h.2
   untaken b new flat.BadTable h = absurd h
   untaken b new flat.TableLimit h = absurd h
+
+  -- Its blocks are those of its value.
+  pub value-written : (b new : Built) (ps : List Piece) → ps ≡ array_pieces s t c → AreWritten b ps new → Written array_schema node_fields (array_value s t c) b new
+  value-written b new ps e h = record { blocks = h.blocks ∙ ap (λ z. with_pieces b z) e; linked = h.linked }

@@ -1,13 +1,13 @@
-use Rattle.std.proofs.Common.{arith, ap, sym, subst, ◌∙◌, List, [], ◌++◌, length, append-nil}
+use Rattle.std.proofs.Common.{arith, ap, sym, subst, ◌∙◌, List, [], ◌++◌, length}
 use Rattle.std.proofs.lemmas.Result.{err_from_is_err_and}
 use Rattle.vx_wire_tree.specs.Wire.{buffers_in}
 use Rattle.vx_wire_tree.specs.Written.{wire}
 use Rattle.vx_encodings.specs.Messages.{codec}
 use Rattle.vx_registry.specs.Session.{tables_meaning}
-use Rattle.vx_serde.specs.Blocks.{encodings_in}
 use Rattle.vx_serde.proofs.Gathered.{unplaced_nodes}
 use Rattle.vx_buffer.specs.Buffer.{Buffer}
 use Rattle.vx_wire_tree.specs.Limits.{AreDescribable}
+use Rattle.vx_serde.proofs.NumberedBy.{first-encodings}
 use Rattle.vx_serde.proofs.WholeBlob.{laid_out}
 use Rattle.vx_serde.proofs.writing.place.Goals as goal
 
@@ -18,10 +18,7 @@ returns-in_err-gather-clause-refused c = λ x.
 
 pub returns-clause-encodings : goal.returns-clause-encodings
 returns-clause-encodings c = λ s.
-    let w = wire codec s c.args.array.now in
-    c.in_ok-gather.ensures.encodings s []
-    ∙ ap (λ z. z ++ encodings_in (c.gather.new.ctx.ids ++ []) w) c.new-found.ensures.encodings
-    ∙ ap (λ ids. encodings_in ids w) (append-nil c.gather.new.ctx.ids)
+    first-encodings (wire codec s c.args.array.now) c.gather.new.ctx.ids c.new-found.result.encodings.items c.gather.new.found.encodings.items c.new-found.ensures.encodings (c.in_ok-gather.ensures.encodings s [])
 
 pub returns-clause-placed : goal.returns-clause-placed
 returns-clause-placed c = λ s.

@@ -19,7 +19,7 @@ returns-then-encodings-gt-MAX_NODES-clause-refused c = λ s.
     let es = c.args.encodings.now in
     let ds = c.args.descriptors.now in
     let w = wire codec s a in
-    too-many es w ds (c.requires.of_kind s) (omega (arith, c.if-encodings-gt-MAX_NODES.true, c.len.ensures, c.requires.known, wired-nodes s a))
+    too-many es w ds (c.requires.of_kind s) (omega (arith, c.if-encodings-gt-MAX_NODES.true, c.requires.known, wired-nodes s a))
 
 pub write_blocks-requires-clause-takes : goal.write_blocks-requires-clause-takes
 write_blocks-requires-clause-takes c =
@@ -27,7 +27,7 @@ write_blocks-requires-clause-takes c =
 
 pub write_blocks-requires-clause-counted : goal.write_blocks-requires-clause-counted
 write_blocks-requires-clause-counted c =
-    omega (arith, c.requires.known, c.if-encodings-gt-MAX_NODES.false, c.len.ensures)
+    omega (arith, c.requires.known, c.if-encodings-gt-MAX_NODES.false)
 
 pub returns-in_err-write_blocks-clause-refused : goal.returns-in_err-write_blocks-clause-refused
 returns-in_err-write_blocks-clause-refused c = λ s.
