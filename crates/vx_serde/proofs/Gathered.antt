@@ -1,5 +1,5 @@
 -- The nodes of an array that is to be written: each has a writer and a message, and why they are not written.
-use Rattle.std.proofs.Common.{ℕ, zero, suc, ◌≡◌, ◌+◌, ◌-◌, ◌<◌, ◌≤◌, List, [], ◌∷◌, Option, Some, None, length, take, get_or, refl, sym, ap, ◌∙◌, subst, arith, option_map}
+use Rattle.std.proofs.Common.{ℕ, zero, suc, ◌≡◌, ◌+◌, ◌-◌, ◌<◌, ◌≤◌, List, [], ◌∷◌, ◌++◌, Option, Some, None, length, take, get_or, refl, sym, ap, ◌∙◌, subst, arith, append_assoc, option_map}
 use Rattle.std.specs.Prelude.{slice_get}
 use Rattle.std.proofs.lemmas.List.{take_more, take_all}
 use Rattle.std.proofs.lemmas.Option.{same_Some}
@@ -15,19 +15,24 @@ use Rattle.vx_array_tree.specs.Sound.{IsSoundNode, metadata_in}
 use Rattle.vx_array_tree.specs.Table.{encoding_of, encoding_named, id_of, IsFair}
 use Rattle.vx_array_tree.specs.Tree.{Tree}
 use Rattle.vx_wire_tree.specs.Causes.{HasUnwritten, LacksWriter}
+use Rattle.vx_wire_tree.specs.Context.{Context, grown_by}
 use Rattle.vx_wire_tree.specs.Limits.{HasMessage}
 use Rattle.vx_wire_tree.specs.Placed.{HoldsUnder}
 use Rattle.vx_wire_tree.specs.ReadBack.{IsWritten, IsWrittenNode}
 use Rattle.vx_wire_tree.specs.Session.{SessionMeaning, Reader, shipped, IsPaired, IsReadAgainBy}
+use Rattle.vx_wire_tree.specs.Wire.{id_in}
+use Rattle.vx_wire_tree.specs.Written.{wire}
+use Rattle.vx_encodings.specs.Messages.{codec}
 use Rattle.vx_registry.specs.Serialization.{array_id}
 use Rattle.vx_encodings.specs.declared.encoding.Encoding.{Encoding}
 use Rattle.vx_registry.specs.Session.{Registry, entry, found, tables_meaning, ArePaired}
 use Rattle.vx_registry.proofs.LawsSessions.{registry_messages}
 use Rattle.vx_serde.specs.declared.error.WireError.{WireError}
-use Rattle.vx_serde.specs.declared.error.WireError.TheVariants.{OutOfMemory, WireLimit, NotRegistered}
+use Rattle.vx_serde.specs.declared.error.WireError.TheVariants.{OutOfMemory, NotPermitted, WireLimit, NotRegistered}
 use Rattle.vx_serde.specs.declared.options.SerializeOptions.{SerializeOptions}
-use Rattle.vx_serde.specs.WritingSteps.{HasEntry, RefusesNode, RefusesNodes, RefusesLayout}
-use Rattle.vx_serde.proofs.WiredNodes.{wired-levels}
+use Rattle.vx_serde.specs.WritingSteps.{HasEntry, RefusesNode, RefusesRoot, RefusesNodes, RefusesGathering, RefusesLayout}
+use Rattle.vx_serde.proofs.GrownNodes.{ungrown-own, ungrown-child}
+use Rattle.vx_serde.proofs.WiredNodes.{wired, wired-levels, wired-below, wired-at, wired-within, own-grown, own-ungrown, gathered_first}
 
 get_at : {A : Type 0} (xs : List A) (i : ℕ) (x : A) → i < length xs → x ≡ get_or xs i x → slice_get xs i ≡ Some x
 get_at [] i x h e = absurd (omega (arith, h))
@@ -103,6 +108,14 @@ node-refused r x t room OutOfMemory h = tt
 node-refused r x t room NotRegistered h = ([], h)
 node-refused r x t room _ h = absurd h
 
+pub root-refused : (r : Registry) (x : ExtMeaning) (t : Tree) (room : ℕ) (c : Context) (e : WireError) → RefusesRoot r t c e → RefusesGathering (tables_meaning r x) t room c e
+root-refused r x t room c OutOfMemory h = tt
+root-refused r x t room c NotRegistered h = ([], h)
+root-refused r x t room c NotPermitted h =
+    let s = tables_meaning r x in
+    ungrown-own (wire codec s t) c (own-ungrown s t c h)
+root-refused r x t room c _ h = absurd h
+
 pub child-refused : (s : SessionMeaning) (t : Tree) (ts : List Tree) (i room : ℕ) (u : Tree) (e : WireError) → i < length ts → u ≡ get_or ts i u → roses_of ts ≡ below t
     → RefusesNodes s u (room - 1) e → RefusesNodes s t room e
 child-refused s t ts i room u OutOfMemory h p q c = tt
@@ -112,6 +125,18 @@ child-refused s t ts i room u NotRegistered h p q c =
     let at : slice_get (roses_list (below t)) i ≡ Some u = ap (λ z. slice_get z i) (ap (λ z. roses_list z) (sym q) ∙ roses_list-roses_of ts) ∙ get_at ts i u h p in
     (i ∷ c.0, (u, at, c.1))
 child-refused s t ts i room u _ h p q c = absurd c
+
+-- What a tree below brings along comes after the root's identifier and those of the first trees.
+module _ (s : SessionMeaning) (t : Tree) (ts : List Tree) (i room : ℕ) (u : Tree) (a b c : Context) where
+  pub child-ungathered : (e : WireError) → i < length ts → u ≡ get_or ts i u → roses_of ts ≡ below t
+      → grown_by (array_id t ∷ []) a ≡ Some b → grown_by (gathered_first s (λ h. id_in h) ts i) b ≡ Some c
+      → RefusesGathering s u (room - 1) c e → RefusesGathering s t room a e
+  child-ungathered OutOfMemory h p q g k r = tt
+  child-ungathered WireLimit h p q g k r = child-refused s t ts i room u WireLimit h p q r
+  child-ungathered NotRegistered h p q g k r = child-refused s t ts i room u NotRegistered h p q r
+  child-ungathered NotPermitted h p q g k r =
+      ungrown-child (wire codec s t) (wired s ts) i (wire codec s u) a b c (wired-below s t ts q) (wired-within s ts i h) (wired-at s ts i u h p) (own-grown s t a b g) k r
+  child-ungathered _ h p q g k r = absurd r
 
 -- ---- what was written has no node without a writer
 
@@ -136,8 +161,15 @@ all-written s t w lacks = written_under s lacks.0 t w lacks.1
 
 -- ---- an array whose nodes are not written is not laid out
 
-pub unplaced_nodes : (s : SessionMeaning) (o : SerializeOptions) (t : Tree) (e : WireError) → RefusesNodes s t 62 e → RefusesLayout s o t e
-unplaced_nodes s o t OutOfMemory h = tt
-unplaced_nodes s o t WireLimit h = λ k. omega (arith, h, k.tree.nested, wired-levels s t)
-unplaced_nodes s o t NotRegistered h = h
-unplaced_nodes s o t _ h = absurd h
+pub unplaced_nodes : (s : SessionMeaning) (o : SerializeOptions) (t : Tree) (c : Context) (e : WireError) → RefusesGathering s t 62 c e → RefusesLayout s o t c e
+unplaced_nodes s o t c OutOfMemory h = tt
+unplaced_nodes s o t c WireLimit h = λ k. omega (arith, h, k.tree.nested, wired-levels s t)
+unplaced_nodes s o t c NotRegistered h = h
+unplaced_nodes s o t c NotPermitted h = h
+unplaced_nodes s o t c _ h = absurd h
+
+-- ---- numbers of encodings
+
+-- Numbers in a list of identifiers stay, where more come to it.
+pub longer-ids : (ids added others all : List (List ℕ)) → all ≡ ids ++ added → all ++ others ≡ ids ++ (added ++ others)
+longer-ids ids added others all e = ap (λ z. z ++ others) e ∙ append_assoc ids added others

@@ -1,51 +1,14 @@
 -- The identifiers of a node and of the trees below it, taken in preorder.
-use Rattle.std.specs.Prelude.{ℕ, suc, ◌+◌, ◌≡◌, ◌<◌, ◌≤◌, List, ◌++◌, Some, length, take, drop}
+use Rattle.std.specs.Prelude.{ℕ, suc, ◌+◌, ◌≡◌, ◌<◌, ◌≤◌, List, ◌++◌, Some, None, length, take, drop}
 use Rattle.std.proofs.Common.{sym, ◌∙◌, ap, subst, get_or}
 use Rattle.vx_wire_tree.specs.Context.{Context, grown_by}
 use Rattle.vx_trees.specs.Rose.{label, below, roses_of}
 use Rattle.vx_trees.specs.Walks.{gathered_below}
 use Rattle.vx_trees.proofs.Gathering.{gathered-is, gathered_below-take}
-use Rattle.vx_serde.specs.declared.error.WireError.{WireError}
-use Rattle.vx_serde.specs.declared.error.WireError.TheVariants.{OutOfMemory, TooShort, BadTable, TableLimit, BadAlignment, Compressed, OutOfBounds, UnknownIndex, UnknownEncoding, BadMetadata, BadShape, NotPermitted, WireLimit, NotRegistered}
 use Rattle.vx_serde.specs.KeptContext.{KeepsContext}
 use Rattle.vx_wire_tree.specs.Wire.{id_in, ids_in, Wire}
-use Rattle.vx_serde.specs.WritingSteps.{RefusesIds}
 use Rattle.vx_serde.proofs.Growing.{grown-both, refused-first, refused-second, kept-first, kept-both, kept-grown}
 use Rattle.vx_serde.proofs.WalkedNodes.{gathered-front, gathered-child, gathered-whole}
-
--- A refusal of the first identifiers refuses all.
-pub ungrown-first : (xs ys : List (List ℕ)) (a : Context) (e : WireError) → RefusesIds xs a e → RefusesIds (xs ++ ys) a e
-ungrown-first xs ys a OutOfMemory h = tt
-ungrown-first xs ys a NotPermitted h = refused-first xs ys a h
-ungrown-first xs ys a TooShort h = h
-ungrown-first xs ys a BadTable h = h
-ungrown-first xs ys a TableLimit h = h
-ungrown-first xs ys a BadAlignment h = h
-ungrown-first xs ys a Compressed h = h
-ungrown-first xs ys a OutOfBounds h = h
-ungrown-first xs ys a UnknownIndex h = h
-ungrown-first xs ys a UnknownEncoding h = h
-ungrown-first xs ys a BadMetadata h = h
-ungrown-first xs ys a BadShape h = h
-ungrown-first xs ys a WireLimit h = h
-ungrown-first xs ys a NotRegistered h = h
-
--- And so does a refusal of the second, once the first are taken.
-pub ungrown-second : (xs ys : List (List ℕ)) (a b : Context) (e : WireError) → grown_by xs a ≡ Some b → RefusesIds ys b e → RefusesIds (xs ++ ys) a e
-ungrown-second xs ys a b OutOfMemory g h = tt
-ungrown-second xs ys a b NotPermitted g h = refused-second xs ys a b g h
-ungrown-second xs ys a b TooShort g h = h
-ungrown-second xs ys a b BadTable g h = h
-ungrown-second xs ys a b TableLimit g h = h
-ungrown-second xs ys a b BadAlignment g h = h
-ungrown-second xs ys a b Compressed g h = h
-ungrown-second xs ys a b OutOfBounds g h = h
-ungrown-second xs ys a b UnknownIndex g h = h
-ungrown-second xs ys a b UnknownEncoding g h = h
-ungrown-second xs ys a b BadMetadata g h = h
-ungrown-second xs ys a b BadShape g h = h
-ungrown-second xs ys a b WireLimit g h = h
-ungrown-second xs ys a b NotRegistered g h = h
 
 -- ---- at the node itself
 
@@ -54,10 +17,9 @@ kept-own w a b k =
     let P : List (List ℕ) → Type 0 = λ ids. KeepsContext ids a b in
     subst P (sym (gathered-is (λ h. id_in h) w)) (kept-first (id_in (label w)) (gathered_below (λ h. id_in h) (below w)) a b k)
 
-pub ungrown-own : (w : Wire) (a : Context) (e : WireError) → RefusesIds (id_in (label w)) a e → RefusesIds (ids_in w) a e
-ungrown-own w a e h =
-    let P : List (List ℕ) → Type 0 = λ ids. RefusesIds ids a e in
-    subst P (sym (gathered-is (λ h. id_in h) w)) (ungrown-first (id_in (label w)) (gathered_below (λ h. id_in h) (below w)) a e h)
+pub ungrown-own : (w : Wire) (a : Context) → grown_by (id_in (label w)) a ≡ None → grown_by (ids_in w) a ≡ None
+ungrown-own w a h =
+    ap (λ ids. grown_by ids a) (gathered-is (λ h. id_in h) w) ∙ refused-first (id_in (label w)) (gathered_below (λ h. id_in h) (below w)) a h
 
 -- ---- at a tree below it
 
@@ -73,17 +35,16 @@ kept-child w ts i child a b c d e h at p q k =
     (kept-both before (ids_in (get_or ts i child)) a c d
     (kept-grown before a c (grown-both (id_in (label w)) (gathered_below (λ h. id_in h) (roses_of (take i ts))) a b c p q)) (subst Q at k)))
 
-pub ungrown-child : (w : Wire) (ts : List Wire) (i : ℕ) (child : Wire) (a b c : Context) (r : WireError) → roses_of ts ≡ below w → i < length ts → child ≡ get_or ts i child
-    → grown_by (id_in (label w)) a ≡ Some b → grown_by (gathered_below (λ h. id_in h) (roses_of (take i ts))) b ≡ Some c → RefusesIds (ids_in child) c r → RefusesIds (ids_in w) a r
-ungrown-child w ts i child a b c r e h at p q u =
+pub ungrown-child : (w : Wire) (ts : List Wire) (i : ℕ) (child : Wire) (a b c : Context) → roses_of ts ≡ below w → i < length ts → child ≡ get_or ts i child
+    → grown_by (id_in (label w)) a ≡ Some b → grown_by (gathered_below (λ h. id_in h) (roses_of (take i ts))) b ≡ Some c → grown_by (ids_in child) c ≡ None → grown_by (ids_in w) a ≡ None
+ungrown-child w ts i child a b c e h at p q u =
     let before = id_in (label w) ++ gathered_below (λ h. id_in h) (roses_of (take i ts)) in
+    let own = ids_in (get_or ts i child) in
     let rest = gathered_below (λ h. id_in h) (roses_of (drop (suc i) ts)) in
-    let P : List (List ℕ) → Type 0 = λ ids. RefusesIds ids a r in
-    let Q : Wire → Type 0 = λ t. RefusesIds (ids_in t) c r in
-    subst P (sym (gathered-child (λ h. id_in h) w ts i child e h))
-    (ungrown-first (before ++ ids_in (get_or ts i child)) rest a r
-    (ungrown-second before (ids_in (get_or ts i child)) a c r
-    (grown-both (id_in (label w)) (gathered_below (λ h. id_in h) (roses_of (take i ts))) a b c p q) (subst Q at u)))
+    ap (λ ids. grown_by ids a) (gathered-child (λ h. id_in h) w ts i child e h)
+    ∙ refused-first (before ++ own) rest a
+    (refused-second before own a c
+    (grown-both (id_in (label w)) (gathered_below (λ h. id_in h) (roses_of (take i ts))) a b c p q) (ap (λ t. grown_by (ids_in t) c) (sym at) ∙ u))
 
 pub grown-child : (ts : List Wire) (i : ℕ) (child : Wire) (b c d : Context) → i < length ts → child ≡ get_or ts i child
     → grown_by (gathered_below (λ h. id_in h) (roses_of (take i ts))) b ≡ Some c → grown_by (ids_in child) c ≡ Some d → grown_by (gathered_below (λ h. id_in h) (roses_of (take (i + 1) ts))) b ≡ Some d

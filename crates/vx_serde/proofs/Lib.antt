@@ -1,6 +1,5 @@
 pub mod Pieces
 pub mod Growing
-pub mod NumberedTables
 pub mod PlacedData
 pub mod WalkedNodes
 pub mod GrownNodes
@@ -13,6 +12,12 @@ pub mod Carried
 pub mod CarriedOnce
 pub mod GrownPlaced
 pub mod WiredNodes
+pub mod Chains
+pub mod NodePieces
+pub mod NodeWays
+pub mod NodeSteps
+pub mod NumberedBy
+pub mod MessageBlocks
 pub mod Gathered
 pub mod OneArray
 pub mod GrownIds
@@ -26,3 +31,4 @@ pub mod SerializedNodes
 pub mod OverriddenBuffers
 pub mod StoredMessages
 pub mod DecodedNodes
+pub mod ArrayNodes

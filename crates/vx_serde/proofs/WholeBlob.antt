@@ -1,41 +1,32 @@
 -- A blob whole: its message, its limits and its buffers.
-use Rattle.std.specs.Prelude.{ℕ, ◌≡◌, ◌<◌, ◌≤◌, ◌+◌, ◌*◌, ◌^◌, List, [], ◌∷◌, ◌++◌, Some, length, replicate, refl}
+use Rattle.std.specs.Prelude.{ℕ, ◌≡◌, ◌<◌, ◌≤◌, ◌+◌, ◌*◌, ◌^◌, List, [], ◌∷◌, ◌++◌, length, replicate, refl}
 use Rattle.std.specs.Int.{w32, to_le_bytes}
-use Rattle.std.specs.Prelude.{Result, Ok, Err, IfOk, IfErr}
 use Rattle.std.proofs.Common.{arith, sym, ◌∙◌, ap, subst, append-nil, length-append}
 use Rattle.std.proofs.lemmas.List.{length-replicate}
 use Rattle.vx_buffer.specs.Buffer.{Buffer}
-use Rattle.vx_flat.specs.IsOf.{AreOf, IsOf}
-use Rattle.vx_flat.specs.Layout.{written_layout}
 use Rattle.vx_flat.specs.Limits.{limits, IsLight}
-use Rattle.vx_flat.specs.Schema.{struct_size}
-use Rattle.vx_flat.specs.Value.{Fields, table, elements, no_fields, field}
 use Rattle.vx_flat.specs.Weight.{weight}
 use Rattle.vx_trees.specs.Walks.{levels}
 use Rattle.vx_array_tree.specs.Tree.{Tree}
 use Rattle.vx_wire_tree.specs.Limits.{AreDescribable}
 use Rattle.vx_serde.proofs.WiredNodes.{wired-levels}
-use Rattle.vx_wire_tree.specs.Context.{Context, grown_by}
+use Rattle.vx_wire_tree.specs.Context.{Context}
 use Rattle.vx_wire_tree.specs.Session.{SessionMeaning}
 use Rattle.vx_serde.specs.declared.error.WireError.{WireError}
 use Rattle.vx_serde.specs.declared.error.WireError.TheVariants.{OutOfMemory, NotPermitted, WireLimit, NotRegistered}
 use Rattle.vx_serde.specs.declared.options.SerializeOptions.{SerializeOptions}
-use Rattle.vx_serde.specs.ArraySchema.{array_schema, node_fields}
-use Rattle.vx_serde.specs.Message.{Descriptor}
-use Rattle.vx_serde.specs.MessageValue.{node_value, descriptors_bytes}
-use Rattle.vx_wire_tree.specs.Wire.{ids_in, buffers_in, Wire}
-use Rattle.vx_serde.proofs.GrownIds.{grown_by-ids}
+use Rattle.vx_serde.specs.ArraySchema.{array_schema}
+use Rattle.vx_serde.specs.MessageValue.{descriptors_bytes}
+use Rattle.vx_wire_tree.specs.Wire.{buffers_in, Wire}
 use Rattle.vx_wire_tree.specs.Written.{wire}
 use Rattle.vx_encodings.specs.Messages.{codec}
 use Rattle.vx_serde.specs.Causes.{RefusesArray}
 use Rattle.vx_serde.specs.Spells.{ids_after}
-use Rattle.vx_serde.specs.Numbered.{numbered}
 use Rattle.vx_serde.specs.Placing.{pad, descriptors_from, data_from, data_end}
-use Rattle.vx_serde.specs.WritingSteps.{KeepsTreeLimits, IsLaidOut, RefusesIds, RefusesBytes, RefusesLayout, RefusesMessage, layout_of}
+use Rattle.vx_serde.specs.WritingSteps.{KeepsTreeLimits, IsLaidOut, RefusesBytes, RefusesLayout, layout_of}
 use Rattle.vx_serde.specs.Written.{message_bytes, message_pad, blob_bytes, IsWritable}
 use Rattle.vx_buffer.specs.Joined.{joined}
 use Rattle.vx_serde.specs.WrittenBuffers.{unaligned, pad_buffers, data_buffers, greatest_exponent, written_buffers}
-use Rattle.vx_serde.proofs.MessageRead.{length-descriptors_bytes}
 use Rattle.vx_serde.proofs.PlacedData.{joined-append, joined-pad, joined-data, length-data}
 
 -- ---- the message
@@ -43,47 +34,6 @@ use Rattle.vx_serde.proofs.PlacedData.{joined-append, joined-pad, joined-data, l
 -- The message of a tree and of the bytes of its descriptors is the tree's.
 pub message-is : (ids : List (List ℕ)) (o : SerializeOptions) (w : Wire) (ds : List ℕ) → ds ≡ descriptors_bytes (descriptors_from o o.offset (buffers_in w)) → layout_of ids w ds ≡ message_bytes ids o w
 message-is ids o w ds r = ap (λ bs. layout_of ids w bs) r
-
--- So it is, where it was made of the value of its root.
-pub layout-is : (ids : List (List ℕ)) (w : Wire) (root value : Fields) (ds : List ℕ) → value ≡ field (table root) (field (elements ds) no_fields)
-    → ((more : List (List ℕ)) → root ≡ node_value (numbered (ids ++ more) 0 w)) → written_layout array_schema value ≡ layout_of ids w ds
-layout-is ids w root value ds p q =
-    let same : root ≡ node_value (numbered ids 0 w) = q [] ∙ ap (λ z. node_value (numbered z 0 w)) (append-nil ids) in
-    ap (λ v. written_layout array_schema v) (p ∙ ap (λ v. field (table v) (field (elements ds) no_fields)) same)
-
--- What an answer shows of equal bytes.
-pub if_ok_same : {T E : Type 0} (r : Result T E) (f : T → List ℕ) (m n : List ℕ) → m ≡ n → IfOk r (λ x. f x ≡ m) → IfOk r (λ x. f x ≡ n)
-if_ok_same (Ok x) f m n e h = h ∙ e
-if_ok_same (Err x) f m n e h = tt
-
--- Identifiers that are refused refuse a message.
-pub ids-refused : (c : Context) (w : Wire) (bytes : List ℕ) (e : WireError) → RefusesIds (ids_in w) c e → RefusesMessage c w bytes e
-ids-refused c w bytes OutOfMemory h = tt
-ids-refused c w bytes NotPermitted h = h
-ids-refused c w bytes _ h = absurd h
-
--- And so do its bytes, with the identifiers of the grown context.
-pub bytes-refused : {T : Type 0} (c d : Context) (w : Wire) (bytes message : List ℕ) (r : Result T WireError) → grown_by (ids_in w) c ≡ Some d → message ≡ layout_of d.ids w bytes
-    → IfErr r (RefusesBytes message) → IfErr r (RefusesMessage c w bytes)
-bytes-refused c d w bytes message (Ok x) g p h = tt
-bytes-refused c d w bytes message (Err OutOfMemory) g p h = tt
-bytes-refused c d w bytes message (Err WireLimit) g p h =
-    let same = p ∙ ap (λ ids. layout_of ids w bytes) (grown_by-ids (ids_in w) c d g) in
-    let P : List ℕ → Type 0 = λ m. RefusesBytes m WireLimit in
-    subst P same h
-bytes-refused c d w bytes message (Err _) g p h = absurd h
-
--- a descriptor's struct has eight bytes
-eight : struct_size array_schema 0 ≡ 8
-unfolding struct_size
-eight = refl
-
-pub message-of_kind : (root value : Fields) (ds : List ℕ) (items : List Descriptor) → value ≡ field (table root) (field (elements ds) no_fields) → AreOf array_schema node_fields root
-    → ds ≡ descriptors_bytes items → IsOf array_schema value
-message-of_kind root value ds items p q r =
-    let P : Fields → Type 0 = λ v. IsOf array_schema v in
-    let whole : length ds ≡ struct_size array_schema 0 * length items = rw eight (ap (λ bs. length bs) r ∙ length-descriptors_bytes items) in
-    subst P (sym p) (q, ((length items, whole), tt))
 
 -- ---- the blob's length
 
@@ -145,24 +95,24 @@ module _ (s : SessionMeaning) (t : Tree) (c : Context) (o : SerializeOptions) wh
   w = wire codec s t
 
   -- An array that is not laid out.
-  pub unplaced : (e : WireError) → RefusesLayout s o t e → RefusesArray s t c o e
+  pub unplaced : (e : WireError) → RefusesLayout s o t c e → RefusesArray s t c o e
   unfolding w
   unplaced OutOfMemory h = tt
   unplaced WireLimit h = λ k. h (writable-placeable (ids_after s t c) o w k.writable)
   unplaced NotRegistered h = h
+  unplaced NotPermitted h = h
   unplaced _ h = absurd h
 
   -- An array whose message is not written.
-  pub unwritten : (bytes : List ℕ) (e : WireError) → bytes ≡ descriptors_bytes (descriptors_from o o.offset (buffers_in (wire codec s t)))
-      → RefusesMessage c (wire codec s t) bytes e → RefusesArray s t c o e
+  pub unwritten : (bytes message : List ℕ) (e : WireError) → bytes ≡ descriptors_bytes (descriptors_from o o.offset (buffers_in (wire codec s t)))
+      → message ≡ layout_of (ids_after s t c) (wire codec s t) bytes → RefusesBytes message e → RefusesArray s t c o e
   unfolding w
-  unwritten bytes OutOfMemory p h = tt
-  unwritten bytes NotPermitted p h = h
-  unwritten bytes WireLimit p h = λ k.
-      let same = message-is (ids_after s t c) o w bytes p in
+  unwritten bytes message OutOfMemory p q h = tt
+  unwritten bytes message WireLimit p q h = λ k.
+      let same = q ∙ message-is (ids_after s t c) o w bytes p in
       let P : List ℕ → Type 0 = λ m. IsLight limits (weight array_schema m) in
       h (omega (arith, k.writable.short, ap (λ m. length m) same)) (subst P (sym same) k.writable.light)
-  unwritten bytes _ p h = absurd h
+  unwritten bytes message _ p q h = absurd h
 
   -- A blob that would end past the positions of 64 bits.
   pub late : (last : ℕ) (bytes message : List ℕ) → IsLaidOut o (wire codec s t) bytes last → message ≡ layout_of (ids_after s t c) (wire codec s t) bytes

@@ -16,10 +16,8 @@ use Rattle.vx_wire_tree.specs.Wire.{Wire, WireHead, present, all_present, id_in,
 use Rattle.vx_wire_tree.specs.Written.{wire, wires}
 use Rattle.vx_encodings.specs.Messages.{codec, message_bytes}
 use Rattle.vx_registry.specs.Serialization.{array_id}
-use Rattle.vx_serde.specs.declared.error.WireError.{WireError}
 use Rattle.vx_serde.specs.KeptContext.{KeepsContext}
 use Rattle.vx_serde.specs.Numbered.{encoding_index}
-use Rattle.vx_serde.specs.WritingSteps.{RefusesIds}
 
 pub present-all : {A : Type 0} (xs : List A) → present (all_present xs) ≡ xs
 present-all [] = refl
@@ -85,10 +83,8 @@ module _ (s : SessionMeaning) where
       let P : List (List ℕ) → Type 0 = λ z. KeepsContext z a b in
       subst P (sym (own-ids t)) k
 
-  pub own-refused : (t : Tree) (a : Context) (e : WireError) → RefusesIds (array_id t ∷ []) a e → RefusesIds (id_in (label (wire codec s t))) a e
-  own-refused t a e r =
-      let P : List (List ℕ) → Type 0 = λ z. RefusesIds z a e in
-      subst P (sym (own-ids t)) r
+  pub own-ungrown : (t : Tree) (a : Context) → grown_by (array_id t ∷ []) a ≡ None → grown_by (id_in (label (wire codec s t))) a ≡ None
+  own-ungrown t a r = ap (λ z. grown_by z a) (own-ids t) ∙ r
 
   -- ---- what stands below it
 

@@ -19,9 +19,10 @@ pub mod Request
 pub mod Causes
 pub mod Aligned
 pub mod Serializing
+pub mod ArrayNode
 pub mod Recoding
 -- What the contracts of private functions alone cite.
 pub mod Decoding
 pub mod ReadingSteps
-pub mod TableViews
+pub mod Blocks
 pub mod WritingSteps

@@ -1,5 +1,5 @@
 -- What the steps of writing an array give, and why they refuse.
-use Rattle.std.specs.Prelude.{ℕ, ◌≡◌, ◌<◌, ◌^◌, List, Some, None, length}
+use Rattle.std.specs.Prelude.{ℕ, ◌≡◌, ◌<◌, ◌^◌, List, [], ◌∷◌, Some, None, length}
 use Rattle.vx_flat.specs.Layout.{written_layout}
 use Rattle.vx_flat.specs.Limits.{limits, IsLight}
 use Rattle.vx_flat.specs.Value.{table, elements, field, no_fields}
@@ -7,7 +7,7 @@ use Rattle.vx_flat.specs.Weight.{weight}
 use Rattle.vx_trees.specs.Walks.{levels}
 use Rattle.vx_array_tree.specs.Tree.{Tree}
 use Rattle.vx_wire_tree.specs.Causes.{HasUnwritten}
-use Rattle.vx_wire_tree.specs.Context.{Context, grown_by, with_ids}
+use Rattle.vx_wire_tree.specs.Context.{Context, grown_by}
 use Rattle.vx_wire_tree.specs.Session.{SessionMeaning, Reader}
 use Rattle.vx_registry.specs.Session.{Registry, found}
 use Rattle.vx_registry.specs.Serialization.{array_id}
@@ -24,12 +24,6 @@ use Rattle.vx_serde.specs.MessageValue.{descriptors_bytes, node_value}
 use Rattle.vx_serde.specs.Numbered.{numbered}
 use Rattle.vx_serde.specs.Placing.{descriptors_from, data_end}
 use Rattle.vx_wire_tree.specs.Limits.{IsWritableTree}
-
--- Identifiers are refused because the context takes one of them not, or for want of memory.
-abbrev pub RefusesIds : List (List ℕ) → Context → WireError → Type 0
-RefusesIds ids c OutOfMemory = Unit {0}
-RefusesIds ids c NotPermitted = grown_by ids c ≡ None
-RefusesIds ids c _ = ⊥
 
 -- The limits that a tree keeps before its message is known: those on the tree, and one
 -- on the position where the last of its buffers ends.
@@ -57,14 +51,6 @@ AreDescriptors bytes = (ds : List Descriptor) × (bytes ≡ descriptors_bytes ds
 abbrev pub layout_of : List (List ℕ) → Wire → List ℕ → List ℕ
 layout_of ids w bytes = written_layout array_schema (field (table (node_value (numbered ids 0 w))) (field (elements bytes) no_fields))
 
--- A message is not written because the context does not take its identifiers, or its bytes are refused with the
--- identifiers that the context would have then.
-abbrev pub RefusesMessage : Context → Wire → List ℕ → WireError → Type 0
-RefusesMessage c w bytes OutOfMemory = Unit {0}
-RefusesMessage c w bytes NotPermitted = grown_by (ids_in w) c ≡ None
-RefusesMessage c w bytes WireLimit = RefusesBytes (layout_of (with_ids c.ids (ids_in w)) w bytes) WireLimit
-RefusesMessage c w bytes _ = ⊥
-
 -- ---- nodes
 
 -- What writes the arrays of a root's encoding is registered.
@@ -78,6 +64,11 @@ RefusesNode r t OutOfMemory = Unit {0}
 RefusesNode r t NotRegistered = found r.writers (array_id t) ≡ None
 RefusesNode r t _ = ⊥
 
+-- Or because the context does not take its identifier.
+abbrev pub RefusesRoot : Registry → Tree → Context → WireError → Type 0
+RefusesRoot r t c NotPermitted = grown_by (array_id t ∷ []) c ≡ None
+RefusesRoot r t c e = RefusesNode r t e
+
 -- The nodes of an array are not written for want of memory, because there are more levels than there is room for, or
 -- because nothing writes the arrays of one's encoding.
 abbrev pub RefusesNodes : SessionMeaning → Tree → ℕ → WireError → Type 0
@@ -86,10 +77,16 @@ RefusesNodes s t room WireLimit = room < levels t
 RefusesNodes s t room NotRegistered = HasUnwritten s t
 RefusesNodes s t room _ = ⊥
 
+-- Or because the context does not take one's identifier.
+abbrev pub RefusesGathering : SessionMeaning → Tree → ℕ → Context → WireError → Type 0
+RefusesGathering s t room c NotPermitted = grown_by (ids_in (wire codec s t)) c ≡ None
+RefusesGathering s t room c e = RefusesNodes s t room e
+
 -- An array is not laid out because its nodes are not written, or it passes one of the limits that are known before its
 -- message.
-abbrev pub RefusesLayout : SessionMeaning → SerializeOptions → Tree → WireError → Type 0
-RefusesLayout s options t OutOfMemory = Unit {0}
-RefusesLayout s options t WireLimit = KeepsTreeLimits options (wire codec s t) → ⊥
-RefusesLayout s options t NotRegistered = HasUnwritten s t
-RefusesLayout s options t _ = ⊥
+abbrev pub RefusesLayout : SessionMeaning → SerializeOptions → Tree → Context → WireError → Type 0
+RefusesLayout s options t c OutOfMemory = Unit {0}
+RefusesLayout s options t c WireLimit = KeepsTreeLimits options (wire codec s t) → ⊥
+RefusesLayout s options t c NotRegistered = HasUnwritten s t
+RefusesLayout s options t c NotPermitted = grown_by (ids_in (wire codec s t)) c ≡ None
+RefusesLayout s options t c _ = ⊥

@@ -1,29 +1,54 @@
-//! The buffers of an array that is to be written, and whether each of its nodes can be.
+//! What the nodes of an array bring along when it is written: their buffers, and the numbers of their encodings.
 
-ghost use Rattle.std.specs.Prelude.{◌≡◌, ◌≤◌, ◌++◌, OnOk, IfErr, IsOkUnless};
+ghost use Rattle.std.specs.Prelude.{◌≡◌, ◌≤◌, ◌++◌, ◌∷◌, [], ℕ, List, Some, OnOk, IfOk, IfErr, IsOkUnless};
 ghost use Rattle.vx_trees.specs.Rose.{label};
 ghost use Rattle.vx_trees.specs.Walks.{levels};
 ghost use Rattle.vx_types.specs.Known.{ExtMeaning};
 ghost use Rattle.vx_array_tree.specs.Sound.{IsSound};
 ghost use Rattle.vx_array_tree.specs.Table.{buffers_of};
+ghost use Rattle.vx_wire_tree.specs.Context.{grown_by, index_of};
 ghost use Rattle.vx_wire_tree.specs.Limits.{HasMessages};
 ghost use Rattle.vx_wire_tree.specs.ReadBack.{IsWritten};
 ghost use Rattle.vx_wire_tree.specs.Session.{SessionMeaning};
-ghost use Rattle.vx_wire_tree.specs.Wire.{buffers_in};
+ghost use Rattle.vx_wire_tree.specs.Wire.{ids_in, buffers_in};
 ghost use Rattle.vx_wire_tree.specs.Written.{wire};
 ghost use Rattle.vx_encodings.specs.Messages.{codec};
+ghost use Rattle.vx_registry.specs.Serialization.{array_id};
 ghost use Rattle.vx_registry.specs.Session.{tables_meaning, ArePaired};
-ghost use Rattle.vx_serde.specs.WritingSteps.{RefusesNode, RefusesNodes, HasEntry};
+ghost use Rattle.vx_serde.specs.Blocks.{encodings_in};
+ghost use Rattle.vx_serde.specs.KeptContext.{KeepsContext};
+ghost use Rattle.vx_serde.specs.WritingSteps.{RefusesNode, RefusesNodes, RefusesRoot, RefusesGathering, HasEntry};
 
 use crate::error::WireError;
 use std::alloc::Global;
 use vx_arrays::Array;
 use vx_buffer::{BufferError, BufferHandles};
-use vx_registry::ArraySession;
+use vx_registry::{ArrayContext, ArraySession};
 use vx_types::Id;
 
-/// Looks for what writes the arrays of a root's encoding.
-fn look_up(alloc: Global, array: &Array, arrays: &ArraySession) -> Result<(), WireError>
+/// The buffers of nodes, and the numbers of their encodings in a context, both in preorder.
+#[derive(Drop)]
+pub(crate) struct Gathered {
+    pub(crate) buffers: BufferHandles,
+    pub(crate) encodings: Vec<u16>,
+}
+
+impl Gathered {
+    /// Those of no node.
+    pub(crate) fn new(alloc: Global) -> Gathered
+        ensures buffers { result.buffers ≡ [] }
+        ensures encodings { result.encodings.items ≡ [] }
+    {
+        Gathered {
+            buffers: BufferHandles::new(alloc),
+            encodings: Vec::new(alloc),
+        }
+    }
+}
+
+/// The identifier of a root's encoding, where something writes the arrays of the encoding.
+fn written_id(alloc: Global, array: &Array, arrays: &ArraySession) -> Result<Id, WireError>
+    ensures id { IfOk result (λ id. id ≡ array_id array.now) }
     ensures found { OnOk result (HasEntry arrays.now array.now) }
     ensures paired { OnOk result (ArePaired arrays.now) }
     ensures cause { IfErr result (RefusesNode arrays.now array.now) }
@@ -32,8 +57,53 @@ fn look_up(alloc: Global, array: &Array, arrays: &ArraySession) -> Result<(), Wi
         return Err(WireError::OutOfMemory);
     };
     match arrays.writer(&id) {
-        Some(_) => Ok(()),
+        Some(_) => Ok(id),
         None => Err(WireError::NotRegistered),
+    }
+}
+
+/// Judges whether the nodes of an array can be written: `WireLimit` where there are more than `room` levels,
+/// `NotRegistered` where nothing writes the arrays of a node's encoding.
+#[tactic(auto, using(vx_trees::proofs::Roses::roses))]
+pub(crate) fn judge(
+    alloc: Global,
+    array: &Array,
+    arrays: &ArraySession,
+    room: usize,
+) -> Result<(), WireError>
+    ensures levels { OnOk result (levels array.now ≤ room) }
+    ensures written { (x : ExtMeaning) → OnOk result (IsWritten (tables_meaning arrays.now x) array.now) }
+    ensures cause { (x : ExtMeaning) → IfErr result (RefusesNodes (tables_meaning arrays.now x) array.now room) }
+{
+    if room == 0 {
+        return Err(WireError::WireLimit);
+    }
+    written_id(alloc, array, arrays)?;
+    for child in array.children() {
+        judge(alloc, child, arrays, room - 1)?;
+    }
+    Ok(())
+}
+
+/// The number of the identifier of a root's encoding, which the context takes where it is new.
+fn encoding_number(
+    alloc: Global,
+    array: &Array,
+    arrays: &ArraySession,
+    ctx: &mut ArrayContext,
+) -> Result<u16, WireError>
+    ensures found { OnOk result (HasEntry arrays.now array.now) }
+    ensures paired { OnOk result (ArePaired arrays.now) }
+    ensures grown { OnOk result (grown_by (array_id array.now ∷ []) ctx.old ≡ Some ctx.new) }
+    ensures number { IfOk result (λ n. (more : List (List ℕ)) → index_of (array_id array.now) (ctx.new.ids ++ more) ≡ n) }
+    ensures kept { KeepsContext (array_id array.now ∷ []) ctx.old ctx.new }
+    ensures cause { IfErr result (RefusesRoot arrays.now array.now ctx.old) }
+{
+    let id = written_id(alloc, array, arrays)?;
+    match ctx.intern(&id) {
+        Ok(Some(number)) => Ok(number),
+        Ok(None) => Err(WireError::NotPermitted),
+        Err(_) => Err(WireError::OutOfMemory),
     }
 }
 
@@ -47,30 +117,56 @@ fn push_own(alloc: Global, array: &Array, found: &mut BufferHandles) -> Result<(
     Ok(())
 }
 
-/// The buffers of an array in preorder, behind those that were found. `WireLimit` where it has more than `room`
-/// levels, `NotRegistered` where nothing writes the arrays of a node's encoding.
+/// What an array's root brings along, behind what was found.
+fn push_root(
+    alloc: Global,
+    array: &Array,
+    arrays: &ArraySession,
+    ctx: &mut ArrayContext,
+    found: &mut Gathered,
+) -> Result<(), WireError>
+    ensures buffers { OnOk result (found.new.buffers ≡ found.old.buffers ++ buffers_of (label array.now).body) }
+    ensures encodings { (more : List (List ℕ)) → OnOk result (found.new.encodings.items ≡ found.old.encodings.items ++ index_of (array_id array.now) (ctx.new.ids ++ more) ∷ []) }
+    ensures found { OnOk result (HasEntry arrays.now array.now) }
+    ensures paired { OnOk result (ArePaired arrays.now) }
+    ensures grown { OnOk result (grown_by (array_id array.now ∷ []) ctx.old ≡ Some ctx.new) }
+    ensures kept { KeepsContext (array_id array.now ∷ []) ctx.old ctx.new }
+    ensures cause { IfErr result (RefusesRoot arrays.now array.now ctx.old) }
+{
+    let encoding = encoding_number(alloc, array, arrays, ctx)?;
+    found.encodings.push(encoding)?;
+    push_own(alloc, array, &mut found.buffers)?;
+    Ok(())
+}
+
+/// What an array's nodes bring along in preorder, behind what was found. Their identifiers are taken into the context
+/// in preorder. `WireLimit` where there are more than `room` levels, `NotRegistered` where nothing writes the arrays
+/// of a node's encoding, `NotPermitted` where the context does not take an identifier.
 #[tactic(auto, using(vx_trees::proofs::Roses::roses))]
 pub(crate) fn gather(
     alloc: Global,
     array: &Array,
     arrays: &ArraySession,
     room: usize,
-    found: &mut BufferHandles,
+    ctx: &mut ArrayContext,
+    found: &mut Gathered,
 ) -> Result<(), WireError>
     requires { IsSound array.now }
-    ensures buffers { (s : SessionMeaning) → OnOk result (found.new ≡ found.old ++ buffers_in (wire codec s array.now)) }
+    ensures buffers { (s : SessionMeaning) → OnOk result (found.new.buffers ≡ found.old.buffers ++ buffers_in (wire codec s array.now)) }
+    ensures encodings { (s : SessionMeaning) (more : List (List ℕ)) → OnOk result (found.new.encodings.items ≡ found.old.encodings.items ++ encodings_in (ctx.new.ids ++ more) (wire codec s array.now)) }
     ensures levels { OnOk result (levels array.now ≤ room) }
     ensures written { (x : ExtMeaning) → OnOk result (IsWritten (tables_meaning arrays.now x) array.now) }
     ensures messages { OnOk result (HasMessages array.now) }
-    ensures cause { (x : ExtMeaning) → IfErr result (RefusesNodes (tables_meaning arrays.now x) array.now room) }
+    ensures grown { (s : SessionMeaning) → OnOk result (grown_by (ids_in (wire codec s array.now)) ctx.old ≡ Some ctx.new) }
+    ensures kept { (s : SessionMeaning) → KeepsContext (ids_in (wire codec s array.now)) ctx.old ctx.new }
+    ensures cause { (x : ExtMeaning) → IfErr result (RefusesGathering (tables_meaning arrays.now x) array.now room ctx.old) }
 {
     if room == 0 {
         return Err(WireError::WireLimit);
     }
-    look_up(alloc, array, arrays)?;
-    push_own(alloc, array, found)?;
+    push_root(alloc, array, arrays, ctx, found)?;
     for child in array.children() {
-        gather(alloc, child, arrays, room - 1, found)?;
+        gather(alloc, child, arrays, room - 1, ctx, found)?;
     }
     Ok(())
 }

@@ -2,13 +2,15 @@
 #![tactic(auto)]
 
 mod array_kind;
+mod array_node;
+mod blocks;
 mod decoding;
 mod error;
 mod gathering;
 pub mod laws;
 mod limits;
 mod message;
-mod numbering;
+mod nodes;
 mod options;
 mod placing;
 mod recoding;
@@ -18,6 +20,7 @@ mod tree;
 mod writing;
 
 pub use array_kind::ArrayKind;
+pub use array_node::ArrayNodeFlatBuffer;
 pub use error::WireError;
 pub use message::Descriptor;
 pub use options::SerializeOptions;

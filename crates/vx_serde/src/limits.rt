@@ -11,6 +11,10 @@ pub(crate) const MAX_LEVELS: usize = 62;
 /// How many buffers a written tree may have.
 pub(crate) const MAX_BUFFERS: usize = 65_535;
 
+/// How many nodes a written tree may have: a message is a table, each node another one, and its statistics too, and
+/// there are at most 1,000,000 tables in a message.
+pub(crate) const MAX_NODES: usize = 499_999;
+
 /// How many bytes a written buffer may have.
 pub(crate) const MAX_BUFFER_LEN: usize = 4_294_967_295;
 

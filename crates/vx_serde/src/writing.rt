@@ -2,12 +2,14 @@
 
 ghost use Rattle.std.specs.Prelude.{◌≡◌, ◌+◌, ◌≤◌, ◌<◌, ◌-◌, ◌^◌, ◌++◌, [], ◌∷◌, Some, false, IsTrue, IsFalse, length, IfOk, IfErr, OnOk};
 ghost use Rattle.std.specs.Int.{w32, to_le_bytes};
+ghost use Rattle.vx_flat.specs.Building.{Takes, IsStopped};
 ghost use Rattle.vx_flat.specs.IsOf.{IsOf};
-ghost use Rattle.vx_flat.specs.Layout.{written_layout};
-ghost use Rattle.vx_flat.specs.Value.{table, elements, no_fields, field};
-ghost use Rattle.vx_flat.specs.View.{views, value as value_of};
 ghost use Rattle.vx_flat.specs.Limits.{limits, IsLight};
+ghost use Rattle.vx_flat.specs.Pieces.{pieces};
+ghost use Rattle.vx_flat.specs.Shows.{Shows};
+ghost use Rattle.vx_flat.specs.Value.{Fields};
 ghost use Rattle.vx_flat.specs.Weight as weigh;
+ghost use Rattle.vx_trees.specs.Walks.{nodes};
 ghost use Rattle.vx_types.specs.Known.{ExtMeaning};
 ghost use Rattle.vx_array_tree.specs.Sound.{IsSound};
 ghost use Rattle.vx_wire_tree.specs.Context.{grown_by};
@@ -20,65 +22,27 @@ ghost use Rattle.vx_encodings.specs.Messages.{codec};
 ghost use Rattle.vx_registry.specs.Session.{tables_meaning};
 ghost use Rattle.vx_buffer.specs.Joined.{joined};
 ghost use Rattle.vx_serde.specs.ArraySchema.{array_schema};
+ghost use Rattle.vx_serde.specs.Blocks.{AreWritten, encodings_in, message_by, layout_by};
 ghost use Rattle.vx_serde.specs.Causes.{RefusesArray};
 ghost use Rattle.vx_serde.specs.KeptContext.{KeepsContext};
 ghost use Rattle.vx_serde.specs.Placing.{data_end};
 ghost use Rattle.vx_serde.specs.Serializing.{IsSerialized};
-ghost use Rattle.vx_serde.specs.WritingSteps.{IsLaidOut, RefusesLayout, RefusesMessage, RefusesBytes, AreDescriptors, layout_of};
+ghost use Rattle.vx_serde.specs.WritingSteps.{IsLaidOut, RefusesLayout, RefusesBytes, AreDescriptors};
 ghost use Rattle.vx_serde.specs.WrittenBuffers.{unaligned, pad_buffers, data_buffers, greatest_exponent};
 
 use crate::array_kind::ArrayKind;
+use crate::blocks::{TABLE, VECTOR, write_elements};
 use crate::error::WireError;
-use crate::gathering::gather;
-use crate::limits::{MAX_BUFFERS, MAX_LEVELS, are_describable};
-use crate::numbering::tree_table;
+use crate::gathering::{Gathered, gather};
+use crate::limits::{MAX_BUFFERS, MAX_LEVELS, MAX_NODES, are_describable};
+use crate::nodes::{Passed, write_node};
 use crate::options::SerializeOptions;
 use crate::placing::{LaidOut, describe, greatest_alignment, pad_at, push_data, push_pad};
-use std::alloc::{AllocError, Global};
+use std::alloc::Global;
 use vx_arrays::Array;
-use vx_buffer::{BufferError, BufferHandle, BufferHandles, ByteBuffer, ByteBuffers};
-use vx_flat::{FieldValue, FlatError, TableValue, verify_uncounted, write_value};
+use vx_buffer::{BufferError, BufferHandle, ByteBuffer, ByteBuffers};
+use vx_flat::{Builder, FlatBuffer, FlatError, LinkKind, verify_uncounted};
 use vx_registry::{ArrayContext, ArraySession};
-
-/// The value of an array message: a root node and descriptors.
-fn message_table(
-    alloc: Global,
-    root: Vec<FieldValue>,
-    descriptors: Vec<u8>,
-) -> Result<TableValue, AllocError>
-    ensures { IfOk result (λ v. value_of v ≡ field (table (views root.items)) (field (elements descriptors.items) no_fields)) }
-{
-    let fields = Vec::from_array(
-        alloc,
-        [FieldValue::Table(root), FieldValue::Elements(descriptors)],
-    )?;
-    Ok(TableValue { fields })
-}
-
-/// The bytes of an array message, where a reader's limits admit it.
-fn message_bytes(alloc: Global, value: &TableValue) -> Result<Vec<u8>, WireError>
-    requires { IsOf array_schema (value_of value.now) }
-    ensures written { IfOk result (λ v. v.items ≡ written_layout array_schema (value_of value.now)) }
-    ensures short { OnOk result (length (written_layout array_schema (value_of value.now)) < 2 ^ 31) }
-    ensures light { OnOk result (IsLight limits (weigh.weight array_schema (written_layout array_schema (value_of value.now)))) }
-    ensures refused { IfErr result (RefusesBytes (written_layout array_schema (value_of value.now))) }
-{
-    let message = match write_value(alloc, &ArrayKind, value) {
-        Ok(message) => message,
-        Err(FlatError::OutOfMemory) => return Err(WireError::OutOfMemory),
-        Err(FlatError::MessageTooLong) => return Err(WireError::WireLimit),
-        Err(FlatError::BadTable) => unreachable!(),
-        Err(FlatError::TableLimit) => unreachable!(),
-    };
-    match verify_uncounted(message.as_slice(), &ArrayKind) {
-        Ok(_) => {}
-        Err(FlatError::TableLimit) => return Err(WireError::WireLimit),
-        Err(FlatError::OutOfMemory) => unreachable!(),
-        Err(FlatError::BadTable) => unreachable!(),
-        Err(FlatError::MessageTooLong) => unreachable!(),
-    }
-    Ok(message.into_vec())
-}
 
 /// The buffers of a blob: the first is empty and has the greatest alignment.
 fn blob_buffers(
@@ -104,51 +68,107 @@ fn blob_buffers(
     Ok(out)
 }
 
-/// An array's buffers in preorder, and where they go.
+/// A message, where a reader's limits admit it.
+fn light_message(message: FlatBuffer) -> Result<Vec<u8>, WireError>
+    requires { (v : Fields) × Shows array_schema message v }
+    ensures same { IfOk result (λ m. m.items ≡ message) }
+    ensures light { OnOk result (IsLight limits (weigh.weight array_schema message)) }
+    ensures refused { IfErr result (λ e. (e ≡ WireError.WireLimit) × (IsLight limits (weigh.weight array_schema message) → ⊥)) }
+{
+    match verify_uncounted(message.as_slice(), &ArrayKind) {
+        Ok(_) => {}
+        Err(FlatError::TableLimit) => return Err(WireError::WireLimit),
+        Err(FlatError::OutOfMemory) => unreachable!(),
+        Err(FlatError::BadTable) => unreachable!(),
+        Err(FlatError::MessageTooLong) => unreachable!(),
+    }
+    Ok(message.into_vec())
+}
+
+/// Writes the blocks of a message: of its table, of an array's nodes, and of the bytes of descriptors.
+fn write_blocks(
+    alloc: Global,
+    array: &Array,
+    encodings: &[u16],
+    descriptors: &[u8],
+    builder: &mut Builder,
+) -> Result<(), FlatError>
+    requires takes { Takes LinkKind.Table builder.old }
+    requires known { nodes array.now ≤ length encodings.now }
+    requires few { (s : SessionMeaning) → length (buffers_in (wire codec s array.now)) ≤ 65535 }
+    requires counted { nodes array.now < 2 ^ 32 }
+    requires whole { AreDescriptors descriptors.now }
+    ensures written { (s : SessionMeaning) → OnOk result (AreWritten builder.old (pieces array_schema (message_by encodings.now (wire codec s array.now) descriptors.now)) builder.new) }
+    ensures stopped { (s : SessionMeaning) → IfErr result (λ e. IsStopped builder.old (pieces array_schema (message_by encodings.now (wire codec s array.now) descriptors.now)) e builder.new) }
+{
+    let root = builder.table(&[TABLE, VECTOR])?;
+    builder.link(root, 0);
+    let mut passed = Passed {
+        nodes: 0,
+        buffers: 0,
+    };
+    write_node(alloc, array, encodings, &mut passed, builder)?;
+    builder.link(root, 1);
+    write_elements(8, descriptors, builder)?;
+    Ok(())
+}
+
+/// The message of an array, whose encodings have these numbers in preorder, and of the bytes of its descriptors.
+fn write_message(
+    alloc: Global,
+    array: &Array,
+    encodings: &[u16],
+    descriptors: &[u8],
+) -> Result<Vec<u8>, WireError>
+    requires known { length encodings.now ≡ nodes array.now }
+    requires few { (s : SessionMeaning) → length (buffers_in (wire codec s array.now)) ≤ 65535 }
+    requires whole { AreDescriptors descriptors.now }
+    requires of_kind { (s : SessionMeaning) → IsOf array_schema (message_by encodings.now (wire codec s array.now) descriptors.now) }
+    ensures written { (s : SessionMeaning) → IfOk result (λ m. m.items ≡ layout_by encodings.now (wire codec s array.now) descriptors.now) }
+    ensures short { IfOk result (λ m. length m.items < 2 ^ 31) }
+    ensures light { IfOk result (λ m. IsLight limits (weigh.weight array_schema m.items)) }
+    ensures refused { (s : SessionMeaning) → IfErr result (RefusesBytes (layout_by encodings.now (wire codec s array.now) descriptors.now)) }
+{
+    if encodings.len() > MAX_NODES {
+        return Err(WireError::WireLimit);
+    }
+    let mut builder = Builder::new(alloc);
+    write_blocks(alloc, array, encodings, descriptors, &mut builder)?;
+    let message = match builder.finish(alloc) {
+        Ok(message) => message,
+        Err(_) => unreachable!(),
+    };
+    light_message(message)
+}
+
+/// What an array's nodes bring along in preorder, and where its buffers go. Its identifiers are taken into the context
+/// in preorder.
 fn place(
     alloc: Global,
     array: &Array,
     arrays: &ArraySession,
+    ctx: &mut ArrayContext,
     options: &SerializeOptions,
-) -> Result<(BufferHandles, LaidOut), WireError>
+) -> Result<(Gathered, LaidOut), WireError>
     requires { IsSound array.now }
-    ensures buffers { (s : SessionMeaning) → IfOk result (λ p. p.0 ≡ buffers_in (wire codec s array.now)) }
+    ensures buffers { (s : SessionMeaning) → IfOk result (λ p. p.0.buffers ≡ buffers_in (wire codec s array.now)) }
+    ensures encodings { (s : SessionMeaning) → IfOk result (λ p. p.0.encodings.items ≡ encodings_in ctx.new.ids (wire codec s array.now)) }
     ensures placed { (s : SessionMeaning) → IfOk result (λ p. IsLaidOut options.now (wire codec s array.now) p.1.descriptors.items p.1.end) }
     ensures written { (x : ExtMeaning) → OnOk result (IsWritten (tables_meaning arrays.now x) array.now) }
     ensures messages { OnOk result (HasMessages array.now) }
-    ensures refused { (x : ExtMeaning) → IfErr result (RefusesLayout (tables_meaning arrays.now x) options.now array.now) }
+    ensures grown { (s : SessionMeaning) → OnOk result (grown_by (ids_in (wire codec s array.now)) ctx.old ≡ Some ctx.new) }
+    ensures kept { (s : SessionMeaning) → KeepsContext (ids_in (wire codec s array.now)) ctx.old ctx.new }
+    ensures refused { (x : ExtMeaning) → IfErr result (RefusesLayout (tables_meaning arrays.now x) options.now array.now ctx.old) }
 {
-    let mut buffers = BufferHandles::new(alloc);
-    gather(alloc, array, arrays, MAX_LEVELS, &mut buffers)?;
-    if buffers.len() > MAX_BUFFERS || !are_describable(buffers.as_slice()) {
+    let mut found = Gathered::new(alloc);
+    gather(alloc, array, arrays, MAX_LEVELS, ctx, &mut found)?;
+    if found.buffers.len() > MAX_BUFFERS || !are_describable(found.buffers.as_slice()) {
         return Err(WireError::WireLimit);
     }
-    let Some(placed) = describe(alloc, options, buffers.as_slice())? else {
+    let Some(placed) = describe(alloc, options, found.buffers.as_slice())? else {
         return Err(WireError::WireLimit);
     };
-    Ok((buffers, placed))
-}
-
-/// The message of an array and its descriptors. Its identifiers are taken into the context in preorder.
-fn write_message(
-    alloc: Global,
-    array: &Array,
-    ctx: &mut ArrayContext,
-    descriptors: Vec<u8>,
-) -> Result<Vec<u8>, WireError>
-    requires few { (s : SessionMeaning) → length (buffers_in (wire codec s array.now)) ≤ 65535 }
-    requires whole { AreDescriptors descriptors.items }
-    ensures grown { (s : SessionMeaning) → OnOk result (grown_by (ids_in (wire codec s array.now)) ctx.old ≡ Some ctx.new) }
-    ensures written { (s : SessionMeaning) → IfOk result (λ m. m.items ≡ layout_of ctx.new.ids (wire codec s array.now) descriptors.items) }
-    ensures short { IfOk result (λ m. length m.items < 2 ^ 31) }
-    ensures light { IfOk result (λ m. IsLight limits (weigh.weight array_schema m.items)) }
-    ensures kept { (s : SessionMeaning) → KeepsContext (ids_in (wire codec s array.now)) ctx.old ctx.new }
-    ensures refused { (s : SessionMeaning) → IfErr result (RefusesMessage ctx.old (wire codec s array.now) descriptors.items) }
-{
-    let mut next: usize = 0;
-    let root = tree_table(alloc, array, ctx, &mut next)?;
-    let value = message_table(alloc, root, descriptors)?;
-    message_bytes(alloc, &value)
+    Ok((found, placed))
 }
 
 /// Whether a blob ends within the positions of 64 bits: the position where its data ends, the
@@ -175,11 +195,11 @@ pub(crate) fn write_array(
     ensures kept { (s : SessionMeaning) → KeepsContext (ids_in (wire codec s array.now)) ctx.old ctx.new }
     ensures cause { (x : ExtMeaning) → IfErr result (RefusesArray (tables_meaning arrays.now x) array.now ctx.old options.now) }
 {
-    let (buffers, placed) = place(alloc, array, arrays, options)?;
-    let message = write_message(alloc, array, ctx, placed.descriptors)?;
+    let (found, placed) = place(alloc, array, arrays, ctx, options)?;
+    let message = write_message(alloc, array, &found.encodings, &placed.descriptors)?;
     let padding = pad_at(options, 3, placed.end);
     if !has_end(placed.end, padding, message.len()) {
         return Err(WireError::WireLimit);
     }
-    Ok(blob_buffers(alloc, options, buffers.as_slice(), padding, message)?)
+    Ok(blob_buffers(alloc, options, found.buffers.as_slice(), padding, message)?)
 }

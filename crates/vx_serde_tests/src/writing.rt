@@ -108,11 +108,12 @@ fn an_array_is_written(rt: HostRuntime) -> Result<(), Fail> {
     Ok(())
 }
 
-// Whether the four numbers are refused so, with nothing taken into a context that allows these identifiers.
+// Whether the four numbers are refused so, and a context that allows some identifiers has taken these.
 fn are_refused(
     alloc: Global,
     arrays: ArraySession,
     allowed: &str,
+    taken: &str,
     options: &SerializeOptions,
     error: WireError,
 ) -> Result<bool, Fail> {
@@ -124,7 +125,7 @@ fn are_refused(
         Ok(_) => false,
         Err(e) => e == error,
     };
-    Ok(refused && has_ids(alloc, &ctx, "")?)
+    Ok(refused && has_ids(alloc, &ctx, taken)?)
 }
 
 #[test]
@@ -137,15 +138,16 @@ fn an_array_is_not_written(rt: HostRuntime) -> Result<(), Fail> {
             alloc,
             shipped,
             "vortex.bool\n",
+            "",
             &plain,
             WireError::NotPermitted
         )?
     );
     let shipped = ArraySession::default(alloc)?;
     let end = padded(usize::MAX);
-    assert!(rt; are_refused(alloc, shipped, IDS, &end, WireError::WireLimit)?);
+    assert!(rt; are_refused(alloc, shipped, IDS, IDS, &end, WireError::WireLimit)?);
     let nothing = ArraySession::empty(alloc);
-    assert!(rt; are_refused(alloc, nothing, IDS, &plain, WireError::NotRegistered)?);
+    assert!(rt; are_refused(alloc, nothing, IDS, "", &plain, WireError::NotRegistered)?);
     assert_eq!(rt; WireError::NotRegistered.number(), 25);
     Ok(())
 }

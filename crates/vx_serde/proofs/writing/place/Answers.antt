@@ -1,4 +1,4 @@
-use Rattle.std.proofs.Common.{arith, ap, sym, subst, ◌∙◌, List, ◌++◌, length}
+use Rattle.std.proofs.Common.{arith, ap, sym, subst, ◌∙◌, List, [], ◌++◌, length}
 use Rattle.std.proofs.lemmas.Result.{err_from_is_err_and}
 use Rattle.vx_wire_tree.specs.Wire.{buffers_in}
 use Rattle.vx_wire_tree.specs.Written.{wire}
@@ -7,13 +7,18 @@ use Rattle.vx_registry.specs.Session.{tables_meaning}
 use Rattle.vx_serde.proofs.Gathered.{unplaced_nodes}
 use Rattle.vx_buffer.specs.Buffer.{Buffer}
 use Rattle.vx_wire_tree.specs.Limits.{AreDescribable}
+use Rattle.vx_serde.proofs.NumberedBy.{first-encodings}
 use Rattle.vx_serde.proofs.WholeBlob.{laid_out}
 use Rattle.vx_serde.proofs.writing.place.Goals as goal
 
 pub returns-in_err-gather-clause-refused : goal.returns-in_err-gather-clause-refused
 returns-in_err-gather-clause-refused c = λ x.
     let p = err_from_is_err_and c.from_residual.result c.from_residual.ensures.1 in
-    rw (p.1, p.2) (unplaced_nodes (tables_meaning c.args.arrays.now x) c.args.options.now c.args.array.now c.in_err-gather.field-0.0 (c.in_err-gather.ensures.cause x))
+    rw (p.1, p.2) (unplaced_nodes (tables_meaning c.args.arrays.now x) c.args.options.now c.args.array.now c.args.ctx.now c.in_err-gather.field-0.0 (c.in_err-gather.ensures.cause x))
+
+pub returns-clause-encodings : goal.returns-clause-encodings
+returns-clause-encodings c = λ s.
+    first-encodings (wire codec s c.args.array.now) c.gather.new.ctx.ids c.new-found.result.encodings.items c.gather.new.found.encodings.items c.new-found.ensures.encodings (c.in_ok-gather.ensures.encodings s [])
 
 pub returns-clause-placed : goal.returns-clause-placed
 returns-clause-placed c = λ s.
@@ -21,6 +26,6 @@ returns-clause-placed c = λ s.
     let same = c.as_slice.ensures ∙ sym c.as_slice-2.ensures in
     let P : List Buffer → Type 0 = λ z. AreDescribable z in
     laid_out s c.args.array.now c.args.options.now bs c.in-Some.placed.descriptors.items c.in-Some.placed.end
-    (c.as_slice-2.ensures ∙ (c.in_ok-gather.ensures.buffers s ∙ ap (λ z. z ++ buffers_in (wire codec s c.args.array.now)) c.new-buffers.ensures)) c.in_ok-gather.ensures.levels
+    (c.as_slice-2.ensures ∙ (c.in_ok-gather.ensures.buffers s ∙ ap (λ z. z ++ buffers_in (wire codec s c.args.array.now)) c.new-found.ensures.buffers)) c.in_ok-gather.ensures.levels
     (omega (arith, c.if-len-gt-MAX_BUFFERS.false, c.len.ensures, ap (λ z. length z) c.as_slice-2.ensures)) (subst P same (c.are_describable.ensures.0 c.if-not-are_describable.false))
     (rw c.in-Some.is at c.in_ok-placed.ensures.descriptors) (rw c.in-Some.is at c.in_ok-placed.ensures.end) (omega arith)

@@ -1,28 +1,131 @@
+use Rattle.std.proofs.Common.{◌≡◌, ◌∙◌, ◌++◌, ◌<◌, ◌^◌, ℕ, List, length, ap, sym, subst, arith, Err}
 use Rattle.std.proofs.lemmas.Result.{err_from_is_err_and}
-use Rattle.vx_flat.specs.View.{views, value as value_of}
+use Rattle.vx_flat.specs.declared.builder.piece.LinkKind.TheVariants as link
+use Rattle.vx_flat.specs.Building.{Built, Takes, IsStopped, nothing_built}
+use Rattle.vx_flat.specs.Pieces.{pieces}
+use Rattle.vx_flat.specs.Limits.{limits, IsLight}
+use Rattle.vx_flat.specs.Weight as weigh
 use Rattle.vx_wire_tree.specs.Written.{wire}
 use Rattle.vx_encodings.specs.Messages.{codec}
-use Rattle.vx_serde.proofs.WholeBlob.{layout-is, message-of_kind, ids-refused, bytes-refused, if_ok_same}
+use Rattle.vx_serde.specs.ArraySchema.{array_schema}
+use Rattle.vx_serde.specs.Blocks.{AreWritten, message_by, layout_by}
+use Rattle.vx_serde.proofs.MessageBlocks.{layout-written, message-shown, blocks-refused, too-many, heavy, some-written, works-written, idle-written, if_ok, if_ok-same, if_err}
+use Rattle.vx_serde.proofs.WiredNodes.{no_session, wired-nodes}
 use Rattle.vx_serde.proofs.writing.write_message.Goals as goal
 
-pub returns-in_err-root-clause-refused : goal.returns-in_err-root-clause-refused
-returns-in_err-root-clause-refused c = λ s.
-    let p = err_from_is_err_and c.from_residual.result c.from_residual.ensures.1 in
-    rw (p.1, p.2) (ids-refused c.args.ctx.now (wire codec s c.args.array.now) c.args.descriptors.items c.in_err-root.field-0.0 (c.in_err-root.ensures.refused s))
+pub returns-then-encodings-gt-MAX_NODES-clause-refused : goal.returns-then-encodings-gt-MAX_NODES-clause-refused
+returns-then-encodings-gt-MAX_NODES-clause-refused c = λ s.
+    let a = c.args.array.now in
+    let es = c.args.encodings.now in
+    let ds = c.args.descriptors.now in
+    let w = wire codec s a in
+    too-many es w ds (c.requires.of_kind s) (omega (arith, c.if-encodings-gt-MAX_NODES.true, c.requires.known, wired-nodes s a))
 
-pub message_bytes-requires : goal.message_bytes-requires
-message_bytes-requires c =
-    message-of_kind (views c.in_ok-root.root.items) (value_of c.in_ok-value.value) c.args.descriptors.items (c.requires.whole).0
-    c.in_ok-value.ensures c.in_ok-root.ensures.of_kind (c.requires.whole).1
+pub write_blocks-requires-clause-takes : goal.write_blocks-requires-clause-takes
+write_blocks-requires-clause-takes c =
+    subst (λ z. Takes link.Table z) (sym c.new-builder.ensures) (λ _. tt)
+
+pub write_blocks-requires-clause-counted : goal.write_blocks-requires-clause-counted
+write_blocks-requires-clause-counted c =
+    omega (arith, c.requires.known, c.if-encodings-gt-MAX_NODES.false)
+
+pub returns-in_err-write_blocks-clause-refused : goal.returns-in_err-write_blocks-clause-refused
+returns-in_err-write_blocks-clause-refused c = λ s.
+    let p = err_from_is_err_and c.from_residual.result c.from_residual.ensures.1 in
+    let a = c.args.array.now in
+    let es = c.args.encodings.now in
+    let ds = c.args.descriptors.now in
+    let w = wire codec s a in
+    let e = c.in_err-write_blocks.field-0.0 in
+    rw (p.1, p.2)
+    (blocks-refused es w ds (c.requires.of_kind s) e c.write_blocks.new.builder
+    (subst (λ z. IsStopped z (pieces array_schema (message_by es w ds)) e c.write_blocks.new.builder) c.new-builder.ensures (c.in_err-write_blocks.ensures.stopped s)))
+
+pub finish-requires-clause-written : goal.finish-requires-clause-written
+finish-requires-clause-written c =
+    let a = c.args.array.now in
+    let es = c.args.encodings.now in
+    let ds = c.args.descriptors.now in
+    let w = wire codec no_session a in
+    let of = c.requires.of_kind no_session in
+    let b = c.write_blocks.new.builder in
+    let wrote : AreWritten nothing_built (pieces array_schema (message_by es w ds)) b = subst (λ z. AreWritten z (pieces array_schema (message_by es w ds)) b) c.new-builder.ensures (c.in_ok-write_blocks.ensures.written no_session) in
+    λ _. some-written es w ds of b wrote
+
+pub finish-requires-clause-linked : goal.finish-requires-clause-linked
+finish-requires-clause-linked c =
+    let a = c.args.array.now in
+    let es = c.args.encodings.now in
+    let ds = c.args.descriptors.now in
+    let w = wire codec no_session a in
+    let of = c.requires.of_kind no_session in
+    let b = c.write_blocks.new.builder in
+    let wrote : AreWritten nothing_built (pieces array_schema (message_by es w ds)) b = subst (λ z. AreWritten z (pieces array_schema (message_by es w ds)) b) c.new-builder.ensures (c.in_ok-write_blocks.ensures.written no_session) in
+    λ _. wrote.linked
+
+pub finish-requires-clause-idle : goal.finish-requires-clause-idle
+finish-requires-clause-idle c =
+    let a = c.args.array.now in
+    let es = c.args.encodings.now in
+    let ds = c.args.descriptors.now in
+    let w = wire codec no_session a in
+    let of = c.requires.of_kind no_session in
+    let b = c.write_blocks.new.builder in
+    let wrote : AreWritten nothing_built (pieces array_schema (message_by es w ds)) b = subst (λ z. AreWritten z (pieces array_schema (message_by es w ds)) b) c.new-builder.ensures (c.in_ok-write_blocks.ensures.written no_session) in
+    λ _. idle-written es w ds of b wrote
+
+pub unreachable-requires : goal.unreachable-requires
+unreachable-requires c =
+    let a = c.args.array.now in
+    let es = c.args.encodings.now in
+    let ds = c.args.descriptors.now in
+    let w = wire codec no_session a in
+    let of = c.requires.of_kind no_session in
+    let b = c.write_blocks.new.builder in
+    let wrote : AreWritten nothing_built (pieces array_schema (message_by es w ds)) b = subst (λ z. AreWritten z (pieces array_schema (message_by es w ds)) b) c.new-builder.ensures (c.in_ok-write_blocks.ensures.written no_session) in
+    let ok = c.in-Err.ensures.complete (works-written es w ds of b wrote) in
+    absurd cc
+
+pub light_message-requires : goal.light_message-requires
+light_message-requires c =
+    let a = c.args.array.now in
+    let es = c.args.encodings.now in
+    let ds = c.args.descriptors.now in
+    let w = wire codec no_session a in
+    let of = c.requires.of_kind no_session in
+    let b = c.write_blocks.new.builder in
+    let wrote : AreWritten nothing_built (pieces array_schema (message_by es w ds)) b = subst (λ z. AreWritten z (pieces array_schema (message_by es w ds)) b) c.new-builder.ensures (c.in_ok-write_blocks.ensures.written no_session) in
+    let m = c.in-Ok.ensures.built ∙ layout-written es w ds of b wrote in
+    message-shown es w ds of c.in-Ok.message m c.in-Ok.ensures.fits
 
 pub returns-clause-written : goal.returns-clause-written
 returns-clause-written c = λ s.
-    let same = layout-is c.tree_table.new.ctx.ids (wire codec s c.args.array.now) (views c.in_ok-root.root.items) (value_of c.in_ok-value.value) c.args.descriptors.items
-    c.in_ok-value.ensures (c.in_ok-root.ensures.value s) in
-    if_ok_same c.message_bytes.result (λ m. m.items) _ _ same c.message_bytes.ensures.written
+    let a = c.args.array.now in
+    let es = c.args.encodings.now in
+    let ds = c.args.descriptors.now in
+    let w = wire codec s a in
+    let of = c.requires.of_kind s in
+    let b = c.write_blocks.new.builder in
+    let wrote : AreWritten nothing_built (pieces array_schema (message_by es w ds)) b = subst (λ z. AreWritten z (pieces array_schema (message_by es w ds)) b) c.new-builder.ensures (c.in_ok-write_blocks.ensures.written s) in
+    let m = c.in-Ok.ensures.built ∙ layout-written es w ds of b wrote in
+    if_ok c.light_message.result (λ x. x.items ≡ c.in-Ok.message) (λ x. x.items ≡ layout_by es w ds) (λ x h. h ∙ m) c.light_message.ensures.same
+
+pub returns-clause-short : goal.returns-clause-short
+returns-clause-short c =
+    if_ok c.light_message.result (λ x. x.items ≡ c.in-Ok.message) (λ x. length x.items < 2 ^ 31) (λ x h. subst (λ z. length z < 2 ^ 31) (sym h) c.in-Ok.ensures.fits) c.light_message.ensures.same
+
+pub returns-clause-light : goal.returns-clause-light
+returns-clause-light c =
+    if_ok-same c.light_message.result (λ x. x.items) c.in-Ok.message (λ z. IsLight limits (weigh.weight array_schema z)) c.light_message.ensures.same c.light_message.ensures.light
 
 pub returns-clause-refused : goal.returns-clause-refused
 returns-clause-refused c = λ s.
-    let same = layout-is c.tree_table.new.ctx.ids (wire codec s c.args.array.now) (views c.in_ok-root.root.items) (value_of c.in_ok-value.value) c.args.descriptors.items
-    c.in_ok-value.ensures (c.in_ok-root.ensures.value s) in
-    bytes-refused c.args.ctx.now c.tree_table.new.ctx (wire codec s c.args.array.now) c.args.descriptors.items _ c.message_bytes.result (c.in_ok-root.ensures.grown s) same c.message_bytes.ensures.refused
+    let a = c.args.array.now in
+    let es = c.args.encodings.now in
+    let ds = c.args.descriptors.now in
+    let w = wire codec s a in
+    let of = c.requires.of_kind s in
+    let b = c.write_blocks.new.builder in
+    let wrote : AreWritten nothing_built (pieces array_schema (message_by es w ds)) b = subst (λ z. AreWritten z (pieces array_schema (message_by es w ds)) b) c.new-builder.ensures (c.in_ok-write_blocks.ensures.written s) in
+    let m = c.in-Ok.ensures.built ∙ layout-written es w ds of b wrote in
+    if_err c.light_message.result _ _ (λ e h. heavy es w ds of c.in-Ok.message e m h) c.light_message.ensures.refused

@@ -1,8 +1,8 @@
 use Rattle.std.proofs.Common.{◌+◌, ◌-◌, arith}
 use Rattle.vx_serde.specs.MessageValue.{index_bytes}
 use Rattle.vx_serde.specs.Numbered.{numbers_from}
-use Rattle.vx_serde.proofs.NumberedTables.{number_next}
-use Rattle.vx_serde.proofs.numbering.number_bytes.Goals as goal
+use Rattle.vx_serde.proofs.NodePieces.{number_next}
+use Rattle.vx_serde.proofs.nodes.number_bytes.Goals as goal
 
 pub loop-i-preserved : goal.loop-i-preserved
 loop-i-preserved c =

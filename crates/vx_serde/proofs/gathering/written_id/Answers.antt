@@ -1,6 +1,6 @@
 use Rattle.std.proofs.Common.{◌∙◌}
 use Rattle.vx_serde.proofs.Gathered.{has_entry}
-use Rattle.vx_serde.proofs.gathering.look_up.Goals as goal
+use Rattle.vx_serde.proofs.gathering.written_id.Goals as goal
 
 pub returns-in-Some-clause-found : goal.returns-in-Some-clause-found
 returns-in-Some-clause-found c =

@@ -1,0 +1,87 @@
+-- The blocks of an array's node, and why they are not written.
+use Rattle.std.proofs.Common.{ℕ, ◌≡◌, ◌<◌, List, [], Some, length, refl, sym, ap, ◌∙◌, arith, inl, inr}
+use Rattle.std.specs.Prelude.{◌⊎◌}
+use Rattle.vx_buffer.specs.Buffer.{Buffer}
+use Rattle.vx_flat.specs.declared.error.FlatError.{FlatError}
+use Rattle.vx_flat.specs.declared.error.FlatError.TheVariants as flat
+use Rattle.vx_flat.specs.Building.{Built, with_pieces, Written, IsStopped, Keeps}
+use Rattle.vx_flat.specs.Pieces.{Piece, table_pieces}
+use Rattle.vx_trees.specs.Walks.{nodes}
+use Rattle.vx_array_tree.specs.Tree.{Tree}
+use Rattle.vx_wire_tree.specs.Context.{Context, grown_by}
+use Rattle.vx_wire_tree.specs.Session.{SessionMeaning}
+use Rattle.vx_wire_tree.specs.Wire.{Wire, ids_in, buffers_in}
+use Rattle.vx_wire_tree.specs.Written.{wire}
+use Rattle.vx_encodings.specs.Messages.{codec}
+use Rattle.vx_serde.specs.declared.error.WireError.{WireError}
+use Rattle.vx_serde.specs.declared.error.WireError.TheVariants.{OutOfMemory, NotPermitted, WireLimit, NotRegistered}
+use Rattle.vx_serde.specs.ArrayNode.{plain_options, array_value, array_pieces, RefusesBlocks}
+use Rattle.vx_serde.specs.ArraySchema.{array_schema, node_fields}
+use Rattle.vx_serde.specs.Blocks.{encodings_in, node_pieces, layout_by, AreWritten}
+use Rattle.vx_serde.specs.Causes.{RefusesArray}
+use Rattle.vx_serde.specs.MessageValue.{node_value, descriptors_bytes}
+use Rattle.vx_serde.specs.Numbered.{numbered}
+use Rattle.vx_serde.specs.Placing.{descriptors_from}
+use Rattle.vx_serde.specs.ReadingSteps.{message_refusal}
+use Rattle.vx_serde.specs.WritingSteps.{RefusesNodes, RefusesGathering, layout_of}
+use Rattle.vx_serde.proofs.Gathered.{unplaced_nodes}
+use Rattle.vx_serde.proofs.MessageBlocks.{too-many}
+use Rattle.vx_serde.proofs.NumberedBy.{as-many, root-numbered, layout-numbered, message-of_kind}
+use Rattle.vx_serde.proofs.WholeBlob.{unplaced, unwritten}
+use Rattle.vx_serde.proofs.WrittenAgain.{grown-ids, wire-whole}
+
+-- Nothing was written.
+pub keeps-all : (ps : List Piece) (old : Built) → Keeps old ps old
+keeps-all ps old = record { more = []; rest = ps; front = refl; bytes = refl }
+
+-- Where writing blocks stopped, those that were written so far are kept.
+pub stopped-keeps : (ps : List Piece) (old new : Built) (e : FlatError) → IsStopped old ps e new → Keeps old ps new
+stopped-keeps ps old new flat.OutOfMemory h = h
+stopped-keeps ps old new flat.MessageTooLong h = h.0
+stopped-keeps ps old new flat.BadTable h = absurd h
+stopped-keeps ps old new flat.TableLimit h = absurd h
+
+module _ (s : SessionMeaning) (t : Tree) (c : Context) where
+  -- The blocks of the nodes whose encodings have the numbers of the grown context.
+  pub pieces-are : (d : Context) (es : List ℕ) → grown_by (ids_in (wire codec s t)) c ≡ Some d → es ≡ encodings_in d.ids (wire codec s t)
+      → node_pieces es 0 0 (wire codec s t) ≡ array_pieces s t c
+  pieces-are d es g e =
+      let w = wire codec s t in
+      ap (λ root. table_pieces array_schema node_fields (node_value root)) (root-numbered d.ids w es e ∙ ap (λ ids. numbered ids 0 w) (grown-ids s t c d g))
+
+  -- An array whose nodes cannot be written.
+  pub unjudged : (e : WireError) → RefusesNodes s t 62 e → RefusesArray s t c plain_options e
+  unjudged OutOfMemory h = tt
+  unjudged WireLimit h = unplaced s t c plain_options WireLimit (unplaced_nodes s plain_options t c WireLimit h)
+  unjudged NotRegistered h = h
+  unjudged _ h = absurd h
+
+  -- An array whose nodes are not gathered.
+  pub ungathered : (b : Built) (e : WireError) → RefusesGathering s t 62 c e → RefusesBlocks s t c b e
+  ungathered b OutOfMemory h = tt
+  ungathered b WireLimit h = inl (unplaced s t c plain_options WireLimit (unplaced_nodes s plain_options t c WireLimit h))
+  ungathered b NotRegistered h = h
+  ungathered b NotPermitted h = h
+  ungathered b _ h = absurd h
+
+  -- An array of too many buffers or nodes.
+  pub too-much : (b : Built) (d : Context) (es : List ℕ) (bs : List Buffer) → grown_by (ids_in (wire codec s t)) c ≡ Some d → es ≡ encodings_in d.ids (wire codec s t) → bs ≡ buffers_in (wire codec s t)
+      → (65535 < length bs) ⊎ (499999 < length es) → RefusesBlocks s t c b WireLimit
+  too-much b d es bs g e f (inl l) = inl (λ k. omega (arith, l, k.writable.tree.few, ap (λ z. length z) f))
+  too-much b d es bs g e f (inr l) = inl (λ k.
+      let w = wire codec s t in
+      let bytes = descriptors_bytes (descriptors_from plain_options 0 (buffers_in w)) in
+      let of = message-of_kind d.ids w es bytes e c d (descriptors_from plain_options 0 (buffers_in w)) refl g (wire-whole codec s t) k.writable.tree.few refl in
+      let many : 499999 < nodes w = omega (arith, l, as-many d.ids w es e) in
+      unwritten s t c plain_options bytes (layout_by es w bytes) WireLimit refl (layout-numbered d.ids w es bytes e ∙ ap (λ ids. layout_of ids w bytes) (grown-ids s t c d g)) (too-many es w bytes of many) k)
+
+  -- An array whose blocks a builder does not take.
+  pub untaken : (b new : Built) (e : FlatError) → IsStopped b (array_pieces s t c) e new → RefusesBlocks s t c b (message_refusal e)
+  untaken b new flat.OutOfMemory h = tt
+  untaken b new flat.MessageTooLong h = inr h.2
+  untaken b new flat.BadTable h = absurd h
+  untaken b new flat.TableLimit h = absurd h
+
+  -- Its blocks are those of its value.
+  pub value-written : (b new : Built) (ps : List Piece) → ps ≡ array_pieces s t c → AreWritten b ps new → Written array_schema node_fields (array_value s t c) b new
+  value-written b new ps e h = record { blocks = h.blocks ∙ ap (λ z. with_pieces b z) e; linked = h.linked }

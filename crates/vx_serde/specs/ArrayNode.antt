@@ -1,0 +1,37 @@
+-- What an array's node is written as in a message that a caller builds, and why it is not.
+use Rattle.std.specs.Prelude.{◌⊎◌, List, false}
+use Rattle.vx_flat.specs.Building.{Built, IsTooLong}
+use Rattle.vx_flat.specs.Pieces.{Piece, table_pieces}
+use Rattle.vx_flat.specs.Value.{Fields}
+use Rattle.vx_array_tree.specs.Tree.{Tree}
+use Rattle.vx_wire_tree.specs.Context.{Context}
+use Rattle.vx_wire_tree.specs.Session.{SessionMeaning}
+use Rattle.vx_wire_tree.specs.Written.{wire}
+use Rattle.vx_encodings.specs.Messages.{codec}
+use Rattle.vx_serde.specs.declared.error.WireError.{WireError}
+use Rattle.vx_serde.specs.declared.error.WireError.TheVariants.{WireLimit}
+use Rattle.vx_serde.specs.declared.options.SerializeOptions.{SerializeOptions}
+use Rattle.vx_serde.specs.ArraySchema.{array_schema, node_fields}
+use Rattle.vx_serde.specs.Causes.{RefusesArray}
+use Rattle.vx_serde.specs.MessageValue.{node_value}
+use Rattle.vx_serde.specs.Numbered.{numbered}
+use Rattle.vx_serde.specs.Spells.{KeepsWriterLimits, ids_after}
+
+-- The options under which limits are kept where a call takes none.
+abbrev pub plain_options : SerializeOptions
+plain_options = record { offset = 0; include_padding = false }
+
+-- The value of an array's node under a context: identifiers by their places after the array's are taken in, buffers
+-- numbered from 0 on.
+abbrev pub array_value : SessionMeaning → Tree → Context → Fields
+array_value s t c = node_value (numbered (ids_after s t c) 0 (wire codec s t))
+
+-- Its blocks.
+abbrev pub array_pieces : SessionMeaning → Tree → Context → List Piece
+array_pieces s t c = table_pieces array_schema node_fields (array_value s t c)
+
+-- Why an array's blocks are not written after those that a builder has: by the refusal. As an array is not, or because
+-- with its blocks the message is too long.
+abbrev pub RefusesBlocks : SessionMeaning → Tree → Context → Built → WireError → Type 0
+RefusesBlocks s t c b WireLimit = (KeepsWriterLimits s t c plain_options → ⊥) ⊎ IsTooLong b (array_pieces s t c)
+RefusesBlocks s t c b e = RefusesArray s t c plain_options e

@@ -1,0 +1,53 @@
+//! Blocks of a message that hang on a node.
+
+ghost use Rattle.std.specs.Prelude.{◌≡◌, ◌%◌, ◌<◌, ◌^◌, ◌∷◌, [], true, false, length, OnOk, IfErr};
+ghost use Rattle.vx_flat.specs.Building.{Takes, IsStopped};
+ghost use Rattle.vx_flat.specs.Pieces.{elements_piece, default_entry, is_width};
+ghost use Rattle.vx_serde.specs.Blocks.{AreWritten, no_stats_piece};
+
+use vx_flat::{BlockField, BlockVector, Builder, FlatError, LinkKind};
+
+/// The entry of a field that is a table.
+pub(crate) const TABLE: BlockField = BlockField::Link(LinkKind::Table);
+
+/// The entry of a field that is a vector.
+pub(crate) const VECTOR: BlockField = BlockField::Link(LinkKind::Vector);
+
+/// The entry of the number of a node's encoding, which is left out where it is 0.
+pub(crate) fn encoding_entry(number: u16) -> BlockField
+    ensures { result ≡ default_entry 2 number }
+{
+    if number == 0 {
+        return BlockField::Absent;
+    }
+    BlockField::Number {
+        width: 2,
+        bits: number as u64,
+    }
+}
+
+/// Writes a vector of numbers or structs of so many bytes each.
+pub(crate) fn write_elements(
+    width: u8,
+    bytes: &[u8],
+    builder: &mut Builder,
+) -> Result<(), FlatError>
+    requires width { is_width width ≡ true }
+    requires whole { length bytes.now % width ≡ 0 }
+    requires takes { Takes LinkKind.Vector builder.old }
+    ensures written { OnOk result (AreWritten builder.old (elements_piece width bytes.now ∷ []) builder.new) }
+    ensures stopped { IfErr result (λ e. IsStopped builder.old (elements_piece width bytes.now ∷ []) e builder.new) }
+{
+    builder.vector(BlockVector::Numbers { width, bytes })?;
+    Ok(())
+}
+
+/// Writes the table of statistics of which none stands.
+pub(crate) fn write_no_statistics(builder: &mut Builder) -> Result<(), FlatError>
+    requires takes { Takes LinkKind.Table builder.old }
+    ensures written { OnOk result (AreWritten builder.old (no_stats_piece ∷ []) builder.new) }
+    ensures stopped { IfErr result (λ e. IsStopped builder.old (no_stats_piece ∷ []) e builder.new) }
+{
+    builder.table(&[BlockField::Absent; 11])?;
+    Ok(())
+}
