@@ -1,5 +1,5 @@
 -- The blocks of an array's node, and why they are not written.
-use Rattle.std.proofs.Common.{ℕ, ◌≡◌, ◌<◌, List, [], Some, length, refl, sym, ap, ◌∙◌, arith, inl, inr}
+use Rattle.std.proofs.Common.{ℕ, ◌≡◌, ◌<◌, List, [], Some, length, refl, ap, ◌∙◌, arith, inl, inr}
 use Rattle.std.specs.Prelude.{◌⊎◌}
 use Rattle.vx_buffer.specs.Buffer.{Buffer}
 use Rattle.vx_flat.specs.declared.error.FlatError.{FlatError}
@@ -10,7 +10,7 @@ use Rattle.vx_trees.specs.Walks.{nodes}
 use Rattle.vx_array_tree.specs.Tree.{Tree}
 use Rattle.vx_wire_tree.specs.Context.{Context, grown_by}
 use Rattle.vx_wire_tree.specs.Session.{SessionMeaning}
-use Rattle.vx_wire_tree.specs.Wire.{Wire, ids_in, buffers_in}
+use Rattle.vx_wire_tree.specs.Wire.{ids_in, buffers_in}
 use Rattle.vx_wire_tree.specs.Written.{wire}
 use Rattle.vx_encodings.specs.Messages.{codec}
 use Rattle.vx_serde.specs.declared.error.WireError.{WireError}

@@ -1,5 +1,5 @@
 -- The wire tree of a serialized node, part by part, and of its children.
-use Rattle.std.proofs.Common.{ℕ, zero, suc, ◌≡◌, ◌+◌, ◌<◌, ◌≤◌, List, [], ◌∷◌, ◌++◌, Option, Some, None, length, take, map, get_or, refl, sym, ap, ◌∙◌, arith, subst}
+use Rattle.std.proofs.Common.{ℕ, zero, suc, ◌≡◌, ◌+◌, ◌<◌, ◌≤◌, List, [], ◌∷◌, ◌++◌, Option, Some, None, length, take, map, get_or, refl, sym, ap, ◌∙◌, arith}
 use Rattle.std.specs.Prelude.{slice_get, option_map, option_and_then}
 use Rattle.std.proofs.lemmas.List.{take_more, take_all, map-append, length-map}
 use Rattle.std.proofs.lemmas.Option.{slice_get-map, slice_get_within, slice_get-get_or, get_or_from_slice_get}
@@ -8,7 +8,7 @@ use Rattle.vx_trees.specs.Rose.{Rose, Roses, node, end, more, label, below, rose
 use Rattle.vx_trees.specs.Walks as walk
 use Rattle.vx_trees.proofs.Counting.{nodes-is, nodes-at}
 use Rattle.vx_trees.proofs.Lists.{length-roses_list, roses_of-roses_list}
-use Rattle.vx_wire_tree.specs.Wire.{Wire, all_present}
+use Rattle.vx_wire_tree.specs.Wire.{all_present}
 use Rattle.vx_serde.specs.Blob.{wire_of, wires_of}
 use Rattle.vx_serde.specs.Message.{NodeFields}
 use Rattle.vx_serde.specs.declared.error.WireError.TheVariants.{OutOfBounds}

@@ -1,6 +1,6 @@
 -- The blocks of a message, and why they are not written.
-use Rattle.std.proofs.Common.{ℕ, ◌≡◌, ◌+◌, ◌*◌, ◌<◌, ◌≤◌, ◌^◌, List, [], ◌∷◌, ◌++◌, length, refl, sym, ap, ◌∙◌, subst, arith, inl, inr}
-use Rattle.std.specs.Prelude.{◌⊎◌, true, false, None, Result, Ok, Err, IfOk, IfErr, OnOk}
+use Rattle.std.proofs.Common.{ℕ, ◌≡◌, ◌*◌, ◌<◌, ◌^◌, List, [], ◌∷◌, ◌++◌, length, refl, sym, ap, ◌∙◌, subst, arith, inl, inr}
+use Rattle.std.specs.Prelude.{false, None, Result, Ok, Err, IfOk, IfErr, OnOk}
 use Rattle.vx_flat.specs.declared.builder.piece.BlockField.TheVariants as entry
 use Rattle.vx_flat.specs.declared.builder.piece.LinkKind.TheVariants as link
 use Rattle.vx_flat.specs.declared.error.FlatError.{FlatError}
@@ -13,7 +13,6 @@ use Rattle.vx_flat.specs.Pieces.{Piece, table_piece, elements_piece, pieces}
 use Rattle.vx_flat.specs.Schema.{struct_size}
 use Rattle.vx_flat.specs.Shows.{Shows}
 use Rattle.vx_flat.specs.Value.{Fields}
-use Rattle.vx_flat.specs.ValueWeight.{weight_of}
 use Rattle.vx_flat.specs.Weight.{weight}
 use Rattle.vx_flat.proofs.LawsOfBuilding.{bytes-with_pieces, count-with_pieces, failed-with_pieces, waits-with_pieces}
 use Rattle.vx_flat.proofs.LawsOfMessages.{weight-shown}
@@ -23,8 +22,6 @@ use Rattle.vx_serde.specs.declared.error.WireError.{WireError}
 use Rattle.vx_serde.specs.declared.error.WireError.TheVariants.{WireLimit}
 use Rattle.vx_serde.specs.ArraySchema.{array_schema}
 use Rattle.vx_serde.specs.Blocks.{AreWritten, node_pieces, message_by, layout_by}
-use Rattle.vx_serde.specs.Message.{Descriptor}
-use Rattle.vx_serde.specs.MessageValue.{descriptors_bytes}
 use Rattle.vx_serde.specs.ReadingSteps.{message_refusal}
 use Rattle.vx_serde.specs.WritingSteps.{AreDescriptors, RefusesBytes}
 use Rattle.vx_serde.proofs.Carried.{shows-layout}

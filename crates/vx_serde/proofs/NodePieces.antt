@@ -1,5 +1,5 @@
 -- The blocks of a node and of the nodes below it, part by part.
-use Rattle.std.proofs.Common.{ℕ, zero, suc, ◌≡◌, ◌+◌, ◌<◌, ◌≤◌, ◌*◌, ◌%◌, List, [], ◌∷◌, ◌++◌, length, take, drop, get_or, refl, sym, ap, ◌∙◌, arith, append_assoc, append-nil, length-append, add-zero, drop-cons, subst}
+use Rattle.std.proofs.Common.{ℕ, zero, suc, ◌≡◌, ◌+◌, ◌<◌, ◌*◌, ◌%◌, List, [], ◌∷◌, ◌++◌, length, take, drop, get_or, refl, sym, ap, ◌∙◌, arith, append_assoc, append-nil, length-append, add-zero, drop-cons, subst}
 use Rattle.std.specs.Int.{w16, to_le_bytes}
 use Rattle.std.proofs.lemmas.List.{take_more, take-append-drop}
 use Rattle.vx_flat.specs.declared.builder.piece.BlockField.TheVariants as entry
@@ -7,7 +7,7 @@ use Rattle.vx_flat.specs.declared.builder.piece.LinkKind.TheVariants as link
 use Rattle.vx_flat.specs.Pieces.{Piece, table_piece, elements_piece, default_entry, rows_length, rows_pieces}
 use Rattle.vx_trees.specs.Rose.{node, label, below, roses_of}
 use Rattle.vx_trees.specs.Walks.{nodes, nodes_of, gathered, gathered_below}
-use Rattle.vx_wire_tree.specs.Wire.{Wire, Wires, present, buffers_at_node, buffers_in}
+use Rattle.vx_wire_tree.specs.Wire.{Wire, present, buffers_at_node, buffers_in}
 use Rattle.vx_serde.specs.ArraySchema.{array_schema}
 use Rattle.vx_serde.specs.Blocks.{numbered_below_by, node_pieces, children_pieces, no_stats_piece}
 use Rattle.vx_serde.specs.MessageValue.{index_bytes, rows_value}

@@ -1,11 +1,11 @@
 -- The steps of writing the nodes of an array as blocks.
-use Rattle.std.proofs.Common.{ℕ, zero, suc, ◌≡◌, ◌+◌, ◌<◌, ◌≤◌, List, [], ◌∷◌, ◌++◌, length, take, drop, get_or, refl, sym, ap, ◌∙◌, subst, arith, append_assoc, length-append, drop-cons, add-zero}
+use Rattle.std.proofs.Common.{ℕ, zero, suc, ◌≡◌, ◌+◌, ◌<◌, ◌≤◌, List, [], ◌∷◌, ◌++◌, length, take, drop, get_or, refl, sym, ap, ◌∙◌, subst, arith, length-append, drop-cons, add-zero}
 use Rattle.std.proofs.lemmas.List.{take-append-drop, take_all, take_more}
 use Rattle.vx_buffer.specs.Buffer.{Buffer}
 use Rattle.vx_flat.specs.declared.error.FlatError.{FlatError}
 use Rattle.vx_flat.specs.declared.error.FlatError.TheVariants as flat
 use Rattle.vx_flat.specs.declared.builder.piece.LinkKind.TheVariants as link
-use Rattle.vx_flat.specs.Building.{Built, IsStopped, Keeps}
+use Rattle.vx_flat.specs.Building.{Built, IsStopped}
 use Rattle.vx_flat.specs.Pieces.{Piece, elements_piece, links_piece}
 use Rattle.vx_trees.specs.Rose.{Rose, label, below, roses_of}
 use Rattle.vx_trees.specs.Walks.{nodes, nodes_of, gathered, gathered_below}

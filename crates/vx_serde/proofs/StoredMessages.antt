@@ -27,7 +27,7 @@ use Rattle.vx_serde.specs.Opening.{RefusesOpening}
 use Rattle.vx_serde.specs.Overrides.{Overrides, no_override, RefusesWith}
 use Rattle.vx_serde.specs.ReadingSteps.{IsOpened, message_refusal}
 use Rattle.vx_serde.specs.Serialized.{Serialized, wire_in}
-use Rattle.vx_serde.specs.Stored.{IsStored, IsMessageOf, IsBlobOf, RefusesMessage, RefusesSegment, HasRefused, array_at, root_or_leaf, stored}
+use Rattle.vx_serde.specs.Stored.{IsStored, IsMessageOf, IsBlobOf, RefusesMessage, RefusesSegment, array_at, root_or_leaf, stored}
 use Rattle.vx_serde.proofs.OverriddenBuffers.{never-refused, aligned-any, plain-any, past-end}
 
 -- ---- views of a message's array

@@ -1,5 +1,5 @@
 -- What a serialized array tells, or one of its nodes: a tree of nodes, and what their numbers stand for.
-use Rattle.std.specs.Prelude.{ℕ, ◌≡◌, List, [], ◌∷◌, Option, Some, map, option_and_then, slice_get, refl}
+use Rattle.std.specs.Prelude.{ℕ, ◌≡◌, List, [], Option, Some, map, option_and_then, slice_get, refl}
 use Rattle.std.specs.Coded.{Coded, code_by, coded×, coded_ℕ, coded_list}
 use Rattle.vx_buffer.specs.Buffer.{Buffer, coded_buffer}
 use Rattle.vx_trees.specs.Rose.{Rose, label, below, roses_list}

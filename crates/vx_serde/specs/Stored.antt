@@ -14,7 +14,7 @@ use Rattle.vx_serde.specs.declared.error.WireError.{WireError}
 use Rattle.vx_serde.specs.declared.error.WireError.TheVariants.{OutOfMemory, BadTable, TableLimit, BadAlignment, Compressed, OutOfBounds}
 use Rattle.vx_serde.specs.ArraySchema.{array_schema}
 use Rattle.vx_serde.specs.Blob.{IsBlob, AreClean, buffers_at}
-use Rattle.vx_serde.specs.Message.{Message, NodeFields, message_of}
+use Rattle.vx_serde.specs.Message.{NodeFields, message_of}
 use Rattle.vx_serde.specs.Overrides.{Overrides, RefusesWith}
 use Rattle.vx_serde.specs.Serialized.{Serialized}
 

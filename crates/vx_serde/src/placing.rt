@@ -117,20 +117,20 @@ pub(crate) fn push_pad(
 pub(crate) fn push_data(
     alloc: Global,
     options: &SerializeOptions,
-    buffers: &[BufferHandle],
+    buffers: BufferHandles,
     out: &mut ByteBuffers,
 ) -> Result<(), BufferError>
-    requires describable { AreDescribable buffers.now }
-    requires fits { data_end options.now options.now.offset buffers.now < 2 ^ 64 }
-    ensures { OnOk result (out.new ≡ out.old ++ data_buffers options.now options.now.offset buffers.now) }
+    requires describable { AreDescribable buffers }
+    requires fits { data_end options.now options.now.offset buffers < 2 ^ 64 }
+    ensures { OnOk result (out.new ≡ out.old ++ data_buffers options.now options.now.offset buffers) }
 {
     let mut position = options.offset;
-    for buffer in buffers {
+    for buffer in buffers.into_vec() {
         let padding = pad_at(options, buffer.alignment().exponent(), position);
         push_pad(alloc, padding, out)?;
-        let data = buffer.clone(alloc)?.into_host_sync();
-        out.push(data.aligned(Alignment::none()))?;
         position += padding + buffer.len();
+        let data = buffer.into_host_sync();
+        out.push(data.aligned(Alignment::none()))?;
     }
     Ok(())
 }

@@ -40,7 +40,7 @@ use crate::options::SerializeOptions;
 use crate::placing::{LaidOut, describe, greatest_alignment, pad_at, push_data, push_pad};
 use std::alloc::Global;
 use vx_arrays::Array;
-use vx_buffer::{BufferError, BufferHandle, ByteBuffer, ByteBuffers};
+use vx_buffer::{BufferError, BufferHandles, ByteBuffer, ByteBuffers};
 use vx_flat::{Builder, FlatBuffer, FlatError, LinkKind, verify_uncounted};
 use vx_registry::{ArrayContext, ArraySession};
 
@@ -48,19 +48,19 @@ use vx_registry::{ArrayContext, ArraySession};
 fn blob_buffers(
     alloc: Global,
     options: &SerializeOptions,
-    buffers: &[BufferHandle],
+    buffers: BufferHandles,
     padding: usize,
     message: Vec<u8>,
 ) -> Result<ByteBuffers, BufferError>
-    requires describable { AreDescribable buffers.now }
-    requires fits { data_end options.now options.now.offset buffers.now < 2 ^ 64 }
+    requires describable { AreDescribable buffers }
+    requires fits { data_end options.now options.now.offset buffers < 2 ^ 64 }
     requires short { length message.items < 2 ^ 31 }
-    ensures { IfOk result (λ bs. bs ≡ record { bytes = []; exponent = greatest_exponent 3 buffers.now } ∷ (data_buffers options.now options.now.offset buffers.now
+    ensures { IfOk result (λ bs. bs ≡ record { bytes = []; exponent = greatest_exponent 3 buffers } ∷ (data_buffers options.now options.now.offset buffers
         ++ (pad_buffers padding ++ (unaligned message.items ∷ unaligned (to_le_bytes w32 (length message.items)) ∷ [])))) }
 {
     let word = Vec::from_slice(alloc, &(message.len() as u32).to_le_bytes())?;
     let mut out = ByteBuffers::new(alloc);
-    out.push(ByteBuffer::empty().aligned(greatest_alignment(buffers)))?;
+    out.push(ByteBuffer::empty().aligned(greatest_alignment(buffers.as_slice())))?;
     push_data(alloc, options, buffers, &mut out)?;
     push_pad(alloc, padding, &mut out)?;
     out.push(ByteBuffer::from_vec(message)?)?;
@@ -201,5 +201,5 @@ pub(crate) fn write_array(
     if !has_end(placed.end, padding, message.len()) {
         return Err(WireError::WireLimit);
     }
-    Ok(blob_buffers(alloc, options, found.buffers.as_slice(), padding, message)?)
+    Ok(blob_buffers(alloc, options, found.buffers, padding, message)?)
 }

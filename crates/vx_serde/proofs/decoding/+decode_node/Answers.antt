@@ -1,6 +1,5 @@
-use Rattle.std.proofs.Common.{◌≤◌, List, Option, length, arith, ap, sym, refl, subst, ◌∙◌}
+use Rattle.std.proofs.Common.{◌≤◌, List, length, arith, sym, refl, subst}
 use Rattle.std.proofs.lemmas.Option.{slice_get_within, get_or_from_slice_get}
-use Rattle.vx_buffer.specs.Buffer.{Buffer}
 use Rattle.vx_trees.specs.Rose.{below, roses_list}
 use Rattle.vx_trees.proofs.Lists.{roses_of-roses_list}
 use Rattle.vx_types.specs.Seen.{typ}

@@ -1,9 +1,9 @@
-use Rattle.std.proofs.Common.{◌≡◌, ◌∙◌, ◌+◌, ◌-◌, ◌<◌, ◌≤◌, ℕ, List, [], ◌∷◌, ◌++◌, length, take, drop, suc, refl, ap, sym, subst, arith, append_assoc}
+use Rattle.std.proofs.Common.{◌≡◌, ◌∙◌, ◌+◌, ◌-◌, ◌≤◌, [], ◌∷◌, ◌++◌, length, take, drop, suc, refl, ap, sym, subst, arith, append_assoc}
 use Rattle.std.proofs.lemmas.List.{take_all}
 use Rattle.std.proofs.lemmas.Result.{err_from_is_err_and}
 use Rattle.vx_flat.specs.declared.builder.piece.LinkKind.TheVariants as link
 use Rattle.vx_flat.specs.Building.{IsNext, IsStopped, element_links}
-use Rattle.vx_flat.specs.Pieces.{Piece, elements_piece, links_piece}
+use Rattle.vx_flat.specs.Pieces.{elements_piece, links_piece}
 use Rattle.vx_trees.specs.Rose.{below, roses_of, roses_list}
 use Rattle.vx_trees.specs.Walks as walk
 use Rattle.vx_trees.proofs.Counting.{nodes-is}

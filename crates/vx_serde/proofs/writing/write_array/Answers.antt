@@ -93,17 +93,17 @@ returns-clause-made c = λ x.
     (writable-is now o w c.in_ok-found.placed.end c.in_ok-found.placed.descriptors.items c.in_ok-message.message.items placed m c.in_ok-message.ensures.short c.in_ok-message.ensures.light
     (omega (arith, c.has_end.ensures.within c.if-not-has_end.false, c.pad_at-padding.ensures.value, c.len.ensures)))
     (c.in_ok-blob_buffers.ensures
-    ∙ buffers-are now o w c.in_ok-found.placed.end c.in_ok-found.placed.descriptors.items c.in_ok-message.message.items c.as_slice.result.now c.pad_at-padding.result
-    placed m (c.as_slice.ensures ∙ c.in_ok-found.ensures.buffers s) c.pad_at-padding.ensures.value)
+    ∙ buffers-are now o w c.in_ok-found.placed.end c.in_ok-found.placed.descriptors.items c.in_ok-message.message.items c.in_ok-found.found.buffers c.pad_at-padding.result
+    placed m (c.in_ok-found.ensures.buffers s) c.pad_at-padding.ensures.value)
 
 pub blob_buffers-requires-clause-describable : goal.blob_buffers-requires-clause-describable
 blob_buffers-requires-clause-describable c =
-    let same = c.as_slice.ensures ∙ c.in_ok-found.ensures.buffers no_session in
+    let same = c.in_ok-found.ensures.buffers no_session in
     let P : List Buffer → Type 0 = λ z. AreDescribable z in
     subst P (sym same) (c.in_ok-found.ensures.placed no_session).placeable.tree.describable
 
 pub blob_buffers-requires-clause-fits : goal.blob_buffers-requires-clause-fits
 blob_buffers-requires-clause-fits c =
-    let same = c.as_slice.ensures ∙ c.in_ok-found.ensures.buffers no_session in
+    let same = c.in_ok-found.ensures.buffers no_session in
     let P : List Buffer → Type 0 = λ z. data_end c.args.options.now c.args.options.now.offset z < 2 ^ 64 in
     subst P (sym same) (c.in_ok-found.ensures.placed no_session).placeable.ends
