@@ -78,22 +78,6 @@ fn a_set_has_its_table(rt: HostRuntime) {
     }
 }
 
-// What is told of a statistic.
-#[derive(Clone, Copy, Debug, PartialEq, Eq)]
-enum Told {
-    Exactly(Answer),
-    AtBest(Answer),
-    Nothing,
-}
-
-fn told_by(told: Precision<&ScalarValue>) -> Told {
-    match told {
-        Precision::Exact(value) => Told::Exactly(answer_of(Some(value))),
-        Precision::Inexact(value) => Told::AtBest(answer_of(Some(value))),
-        Precision::Absent => Told::Nothing,
-    }
-}
-
 // The set that a message shows, of arrays of a type.
 fn set_of(alloc: Global, message: &[u8], dtype: &DType) -> Result<StatsSet, ScalarWireError> {
     match verify_uncounted(message, &StatsKind) {
@@ -102,64 +86,90 @@ fn set_of(alloc: Global, message: &[u8], dtype: &DType) -> Result<StatsSet, Scal
     }
 }
 
-// What it tells of a statistic.
-fn told_in(
+// Whether this is told exactly, or as a bound.
+fn is_value(told: Precision<&ScalarValue>, exact: bool, value: Answer) -> bool {
+    match told {
+        Precision::Exact(found) => exact && answer_of(Some(found)) == value,
+        Precision::Inexact(found) => !exact && answer_of(Some(found)) == value,
+        Precision::Absent => false,
+    }
+}
+
+// Whether a message tells this of a statistic, exactly or as a bound.
+fn is_told(
     alloc: Global,
     message: &[u8],
     stat: Stat,
     dtype: &DType,
-) -> Result<Told, ScalarWireError> {
+    exact: bool,
+    value: Answer,
+) -> Result<bool, ScalarWireError> {
     let set = set_of(alloc, message, dtype)?;
-    Ok(told_by(set.get(stat)))
+    Ok(is_value(set.get(stat), exact, value))
 }
 
-const ONE: Told = Told::Exactly(Answer::Number(PValue::I32(1)));
+// Whether a message tells nothing of a statistic.
+fn is_untold(
+    alloc: Global,
+    message: &[u8],
+    stat: Stat,
+    dtype: &DType,
+) -> Result<bool, ScalarWireError> {
+    let set = set_of(alloc, message, dtype)?;
+    Ok(matches!(set.get(stat), Precision::Absent))
+}
+
+const ONE: Answer = Answer::Number(PValue::I32(1));
 
 #[test]
-fn a_table_shows_what_stands_and_nothing_else(rt: HostRuntime) {
+fn a_table_shows_what_stands(rt: HostRuntime) {
     let alloc = rt.alloc();
-    let none = Told::Exactly(Answer::Number(PValue::U64(0)));
-    assert!(rt; told_in(alloc, worked(), Stat::Min, &I32) == Ok(ONE));
-    assert!(rt; told_in(alloc, worked(), Stat::NullCount, &I32) == Ok(none));
-    assert!(rt; told_in(alloc, worked(), Stat::Max, &I32) == Ok(Told::Nothing));
-    assert!(rt; told_in(alloc, worked(), Stat::IsSorted, &I32) == Ok(Told::Nothing));
+    let none = Answer::Number(PValue::U64(0));
+    assert!(rt; is_told(alloc, worked(), Stat::Min, &I32, true, ONE) == Ok(true));
+    assert!(rt; is_told(alloc, worked(), Stat::NullCount, &I32, true, none) == Ok(true));
 }
 
-// What the worked message with another byte at a place tells of the least value.
-fn told_with(
-    alloc: Global,
-    place: usize,
-    byte: u8,
-    dtype: &DType,
-) -> Result<Told, ScalarWireError> {
-    let message = with_byte(alloc, place, byte)?;
-    told_in(alloc, &message, Stat::Min, dtype)
+#[test]
+fn a_table_shows_nothing_else(rt: HostRuntime) {
+    let alloc = rt.alloc();
+    assert!(rt; is_untold(alloc, worked(), Stat::Max, &I32) == Ok(true));
+    assert!(rt; is_untold(alloc, worked(), Stat::IsSorted, &I32) == Ok(true));
 }
 
-// The precision is the byte at 48, and the value's message the last two.
+// Whether the worked message with another precision tells that the least value is 1 at best.
+fn is_bound(alloc: Global, precision: u8) -> Result<bool, ScalarWireError> {
+    let message = with_byte(alloc, 48, precision)?;
+    is_told(alloc, &message, Stat::Min, &I32, false, ONE)
+}
+
+// The precision is the byte at 48.
 #[test]
 fn a_value_is_told_by_its_precision(rt: HostRuntime) {
-    let alloc = rt.alloc();
-    let bound = Told::AtBest(Answer::Number(PValue::I32(1)));
-    assert!(rt; told_with(alloc, 48, 0, &I32) == Ok(bound));
-    assert!(rt; told_with(alloc, 48, 2, &I32) == Err(ScalarWireError::BadPrecision));
+    assert!(rt; is_bound(rt.alloc(), 0) == Ok(true));
+    assert!(rt; is_bound(rt.alloc(), 1) == Ok(false));
+    assert!(rt; is_bound(rt.alloc(), 2) == Err(ScalarWireError::BadPrecision));
+}
+
+// Whether nulls have no least value, so that its bytes, the last two, are not read.
+fn is_unread(alloc: Global) -> Result<bool, ScalarWireError> {
+    let message = with_byte(alloc, 68, 0xff)?;
+    is_untold(alloc, &message, Stat::Min, &DType::Null)
 }
 
 #[test]
 fn a_value_is_read_at_its_type(rt: HostRuntime) {
-    let alloc = rt.alloc();
     let flags = DType::Bool(Nullability::NonNullable);
-    // Nulls have no least value, so that its bytes are not read.
-    assert!(rt; told_with(alloc, 68, 0xff, &DType::Null) == Ok(Told::Nothing));
+    assert!(rt; is_unread(rt.alloc()) == Ok(true));
     let mismatch = Err(ScalarWireError::KindMismatch);
-    assert!(rt; told_in(alloc, worked(), Stat::Min, &flags) == mismatch);
+    assert!(rt; is_untold(rt.alloc(), worked(), Stat::Min, &flags) == mismatch);
 }
 
-// What the worked set with a bound on the sum in place of the nulls tells of the sum and of the least value.
-fn sum_in(alloc: Global, set: &StatsSet) -> Result<(Told, Told), ScalarWireError> {
+// Whether a set that is written and read again tells nothing of the sum, and of the least value 1.
+fn is_without_sum(alloc: Global, set: &StatsSet) -> Result<bool, ScalarWireError> {
     let message = message_of(alloc, set)?;
-    let sum = told_in(alloc, message.as_slice(), Stat::Sum, &I32)?;
-    Ok((sum, told_in(alloc, message.as_slice(), Stat::Min, &I32)?))
+    let untold = is_untold(alloc, message.as_slice(), Stat::Sum, &I32)?;
+    let least = is_told(alloc, message.as_slice(), Stat::Min, &I32, true, ONE)?;
+    Ok(untold && least)
 }
 
 #[test]
@@ -167,7 +177,7 @@ fn a_bound_on_a_sum_is_not_written(rt: HostRuntime) {
     let alloc = rt.alloc();
     let bound = Precision::Inexact(ScalarValue::Primitive(PValue::I64(3)));
     match with_least(alloc, Stat::Sum, bound) {
-        Ok(set) => assert!(rt; sum_in(alloc, &set) == Ok((Told::Nothing, ONE))),
+        Ok(set) => assert!(rt; is_without_sum(alloc, &set) == Ok(true)),
         Err(_) => assert!(rt; false),
     }
 }
@@ -183,75 +193,127 @@ fn value_of(alloc: Global, answer: Answer) -> Result<ScalarValue, ScalarError> {
     }
 }
 
-fn precision_of(alloc: Global, told: Told) -> Result<Precision<ScalarValue>, ScalarError> {
-    match told {
-        Told::Exactly(answer) => Ok(Precision::Exact(value_of(alloc, answer)?)),
-        Told::AtBest(answer) => Ok(Precision::Inexact(value_of(alloc, answer)?)),
-        Told::Nothing => Ok(Precision::Absent),
-    }
+// The same, exact or as a bound.
+fn precision_of(
+    alloc: Global,
+    exact: bool,
+    value: Answer,
+) -> Result<Precision<ScalarValue>, ScalarError> {
+    let value = value_of(alloc, value)?;
+    Ok(if exact {
+        Precision::Exact(value)
+    } else {
+        Precision::Inexact(value)
+    })
 }
 
 // A set of one statistic.
-fn set_with(alloc: Global, stat: Stat, told: Told) -> Result<StatsSet, ScalarError> {
-    let told = precision_of(alloc, told)?;
+fn set_with(
+    alloc: Global,
+    stat: Stat,
+    exact: bool,
+    value: Answer,
+) -> Result<StatsSet, ScalarError> {
+    let told = precision_of(alloc, exact, value)?;
     let mut set = StatsSet::new(alloc);
     set.set(stat, told)?;
     Ok(set)
 }
 
 // Its message.
-fn message_with(alloc: Global, stat: Stat, told: Told) -> Result<FlatBuffer, ScalarWireError> {
-    match set_with(alloc, stat, told) {
+fn message_with(
+    alloc: Global,
+    stat: Stat,
+    exact: bool,
+    value: Answer,
+) -> Result<FlatBuffer, ScalarWireError> {
+    match set_with(alloc, stat, exact, value) {
         Ok(set) => message_of(alloc, &set),
         Err(_) => Err(ScalarWireError::OutOfMemory),
     }
 }
 
-// What is told of a statistic once it was written and read again, of arrays of the type of this number.
-fn told_again(
+// Whether a message tells this of a statistic of arrays of the type of this number.
+fn is_told_at(
     alloc: Global,
+    message: &[u8],
     stat: Stat,
-    told: Told,
     which: usize,
-) -> Result<Told, ScalarWireError> {
-    let message = message_with(alloc, stat, told)?;
+    exact: bool,
+    value: Answer,
+) -> Result<bool, ScalarWireError> {
     match type_of(alloc, which) {
-        Ok(dtype) => told_in(alloc, message.as_slice(), stat, &dtype),
+        Ok(dtype) => is_told(alloc, message, stat, &dtype, exact, value),
         Err(_) => Err(ScalarWireError::OutOfMemory),
     }
 }
 
-// Each row's statistic is told again as it was told, of arrays of the type of its number.
-fn are_kept(rt: &impl Abort, alloc: Global, rows: &[(Stat, usize, Told)]) {
-    for (stat, which, told) in rows {
-        assert!(rt;
-            told_again(alloc, *stat, *told, *which) == Ok(*told),
-            "{stat:?} at {which}"
-        );
+// Whether a message tells nothing of a statistic of arrays of the type of this number.
+fn is_untold_at(
+    alloc: Global,
+    message: &[u8],
+    stat: Stat,
+    which: usize,
+) -> Result<bool, ScalarWireError> {
+    match type_of(alloc, which) {
+        Ok(dtype) => is_untold(alloc, message, stat, &dtype),
+        Err(_) => Err(ScalarWireError::OutOfMemory),
     }
 }
 
-const FLAG: Told = Told::Exactly(Answer::Bool(true));
+// Whether a statistic is told again as it was told.
+fn is_kept(
+    alloc: Global,
+    stat: Stat,
+    which: usize,
+    exact: bool,
+    value: Answer,
+) -> Result<bool, ScalarWireError> {
+    let message = message_with(alloc, stat, exact, value)?;
+    is_told_at(alloc, message.as_slice(), stat, which, exact, value)
+}
 
-const DECIMAL: Told = Told::Exactly(Answer::Decimal(DecimalValue::I32(123_456)));
+// Whether nothing is told again of a statistic.
+fn is_dropped(
+    alloc: Global,
+    stat: Stat,
+    which: usize,
+    exact: bool,
+    value: Answer,
+) -> Result<bool, ScalarWireError> {
+    let message = message_with(alloc, stat, exact, value)?;
+    is_untold_at(alloc, message.as_slice(), stat, which)
+}
 
-const THREE: Told = Told::Exactly(Answer::Number(PValue::U64(3)));
+// Each row's statistic is told again as it was told, of arrays of the type of its number.
+fn are_kept(rt: &impl Abort, alloc: Global, rows: &[(Stat, usize, bool, Answer)]) {
+    for (stat, which, exact, value) in rows {
+        let kept = is_kept(alloc, *stat, *which, *exact, *value);
+        assert!(rt; kept == Ok(true), "{stat:?} at {which}");
+    }
+}
 
-const MINUS_THREE: Told = Told::Exactly(Answer::Number(PValue::I64(-3)));
+const FLAG: Answer = Answer::Bool(true);
 
-const FLOAT: Told = Told::Exactly(Answer::Number(PValue::F64(0x4008_0000_0000_0000)));
+const DECIMAL: Answer = Answer::Decimal(DecimalValue::I32(123_456));
 
-const LEAST: [(Stat, usize, Told); 9] = [
-    (Stat::Min, 0, FLAG),
-    (Stat::Min, 1, ONE),
-    (Stat::Min, 3, THREE),
-    (Stat::Min, 6, FLOAT),
-    (Stat::Min, 7, Told::Exactly(Answer::Text)),
-    (Stat::Min, 8, Told::Exactly(Answer::Bytes)),
-    (Stat::Min, 9, DECIMAL),
+const THREE: Answer = Answer::Number(PValue::U64(3));
+
+const MINUS_THREE: Answer = Answer::Number(PValue::I64(-3));
+
+const FLOAT: Answer = Answer::Number(PValue::F64(0x4008_0000_0000_0000));
+
+const LEAST: [(Stat, usize, bool, Answer); 9] = [
+    (Stat::Min, 0, true, FLAG),
+    (Stat::Min, 1, true, ONE),
+    (Stat::Min, 3, true, THREE),
+    (Stat::Min, 6, true, FLOAT),
+    (Stat::Min, 7, true, Answer::Text),
+    (Stat::Min, 8, true, Answer::Bytes),
+    (Stat::Min, 9, true, DECIMAL),
     // An extension has what its storage has.
-    (Stat::Min, 15, ONE),
-    (Stat::Min, 7, Told::AtBest(Answer::Text)),
+    (Stat::Min, 15, true, ONE),
+    (Stat::Min, 7, false, Answer::Text),
 ];
 
 #[test]
@@ -259,16 +321,16 @@ fn least_values_are_kept(rt: HostRuntime) {
     are_kept(&rt, rt.alloc(), &LEAST);
 }
 
-const GREATEST: [(Stat, usize, Told); 9] = [
-    (Stat::Max, 0, FLAG),
-    (Stat::Max, 1, ONE),
-    (Stat::Max, 3, THREE),
-    (Stat::Max, 6, FLOAT),
-    (Stat::Max, 7, Told::Exactly(Answer::Text)),
-    (Stat::Max, 8, Told::Exactly(Answer::Bytes)),
-    (Stat::Max, 9, DECIMAL),
-    (Stat::Max, 15, ONE),
-    (Stat::Max, 8, Told::AtBest(Answer::Bytes)),
+const GREATEST: [(Stat, usize, bool, Answer); 9] = [
+    (Stat::Max, 0, true, FLAG),
+    (Stat::Max, 1, true, ONE),
+    (Stat::Max, 3, true, THREE),
+    (Stat::Max, 6, true, FLOAT),
+    (Stat::Max, 7, true, Answer::Text),
+    (Stat::Max, 8, true, Answer::Bytes),
+    (Stat::Max, 9, true, DECIMAL),
+    (Stat::Max, 15, true, ONE),
+    (Stat::Max, 8, false, Answer::Bytes),
 ];
 
 #[test]
@@ -276,16 +338,16 @@ fn greatest_values_are_kept(rt: HostRuntime) {
     are_kept(&rt, rt.alloc(), &GREATEST);
 }
 
-const SUMS: [(Stat, usize, Told); 8] = [
+const SUMS: [(Stat, usize, bool, Answer); 8] = [
     // Truths and unsigned integers have unsigned sums.
-    (Stat::Sum, 0, THREE),
-    (Stat::Sum, 3, THREE),
-    (Stat::Sum, 17, THREE),
-    (Stat::Sum, 1, MINUS_THREE),
-    (Stat::Sum, 2, MINUS_THREE),
-    (Stat::Sum, 4, FLOAT),
-    (Stat::Sum, 6, FLOAT),
-    (Stat::Sum, 9, DECIMAL),
+    (Stat::Sum, 0, true, THREE),
+    (Stat::Sum, 3, true, THREE),
+    (Stat::Sum, 17, true, THREE),
+    (Stat::Sum, 1, true, MINUS_THREE),
+    (Stat::Sum, 2, true, MINUS_THREE),
+    (Stat::Sum, 4, true, FLOAT),
+    (Stat::Sum, 6, true, FLOAT),
+    (Stat::Sum, 9, true, DECIMAL),
 ];
 
 #[test]
@@ -293,20 +355,20 @@ fn sums_are_kept(rt: HostRuntime) {
     are_kept(&rt, rt.alloc(), &SUMS);
 }
 
-const FLAGS_AND_COUNTS: [(Stat, usize, Told); 12] = [
-    (Stat::IsSorted, 1, FLAG),
-    (Stat::IsStrictSorted, 1, FLAG),
-    (Stat::IsConstant, 1, FLAG),
-    (Stat::NullCount, 6, THREE),
-    (Stat::UncompressedSizeInBytes, 6, THREE),
-    (Stat::NaNCount, 6, THREE),
+const FLAGS_AND_COUNTS: [(Stat, usize, bool, Answer); 12] = [
+    (Stat::IsSorted, 1, true, FLAG),
+    (Stat::IsStrictSorted, 1, true, FLAG),
+    (Stat::IsConstant, 1, true, FLAG),
+    (Stat::NullCount, 6, true, THREE),
+    (Stat::UncompressedSizeInBytes, 6, true, THREE),
+    (Stat::NaNCount, 6, true, THREE),
     // Lists and variants have them as well.
-    (Stat::IsSorted, 10, FLAG),
-    (Stat::IsStrictSorted, 14, FLAG),
-    (Stat::IsConstant, 10, FLAG),
-    (Stat::NullCount, 14, THREE),
-    (Stat::UncompressedSizeInBytes, 10, THREE),
-    (Stat::NaNCount, 14, THREE),
+    (Stat::IsSorted, 10, true, FLAG),
+    (Stat::IsStrictSorted, 14, true, FLAG),
+    (Stat::IsConstant, 10, true, FLAG),
+    (Stat::NullCount, 14, true, THREE),
+    (Stat::UncompressedSizeInBytes, 10, true, THREE),
+    (Stat::NaNCount, 14, true, THREE),
 ];
 
 #[test]
@@ -316,44 +378,44 @@ fn flags_and_counts_are_kept(rt: HostRuntime) {
 
 // What is told, and is not told again: lists and extensions without the statistic, bounds on what is written only
 // where it is exact, and flags and counts of other values.
-const UNWRITTEN: [(Stat, usize, Told); 11] = [
-    (Stat::Min, 10, ONE),
-    (Stat::Max, 14, ONE),
-    (Stat::Sum, 7, THREE),
-    (Stat::Sum, 15, MINUS_THREE),
-    (Stat::Sum, 6, Told::AtBest(Answer::Number(PValue::F64(0)))),
-    (Stat::IsSorted, 1, Told::AtBest(Answer::Bool(true))),
-    (
-        Stat::NaNCount,
-        6,
-        Told::AtBest(Answer::Number(PValue::U64(3))),
-    ),
-    (Stat::IsStrictSorted, 1, THREE),
-    (Stat::IsConstant, 1, ONE),
-    (Stat::NullCount, 1, ONE),
-    (Stat::UncompressedSizeInBytes, 1, FLAG),
+const UNWRITTEN: [(Stat, usize, bool, Answer); 11] = [
+    (Stat::Min, 10, true, ONE),
+    (Stat::Max, 14, true, ONE),
+    (Stat::Sum, 7, true, THREE),
+    (Stat::Sum, 15, true, MINUS_THREE),
+    (Stat::Sum, 6, false, Answer::Number(PValue::F64(0))),
+    (Stat::IsSorted, 1, false, Answer::Bool(true)),
+    (Stat::NaNCount, 6, false, Answer::Number(PValue::U64(3))),
+    (Stat::IsStrictSorted, 1, true, THREE),
+    (Stat::IsConstant, 1, true, ONE),
+    (Stat::NullCount, 1, true, ONE),
+    (Stat::UncompressedSizeInBytes, 1, true, FLAG),
 ];
 
 #[test]
 fn bounds_and_other_values_are_not_told_again(rt: HostRuntime) {
-    let alloc = rt.alloc();
-    for (stat, which, told) in &UNWRITTEN {
-        let again = told_again(alloc, *stat, *told, *which);
-        assert!(rt; again == Ok(Told::Nothing), "{stat:?} at {which}");
+    for (stat, which, exact, value) in &UNWRITTEN {
+        let dropped = is_dropped(rt.alloc(), *stat, *which, *exact, *value);
+        assert!(rt; dropped == Ok(true), "{stat:?} at {which}");
     }
 }
 
-// A sum of floats.
-fn sum_of(bits: u64) -> Told {
-    Told::Exactly(Answer::Number(PValue::F64(bits)))
+// The message of a sum of floats.
+fn sum_message(alloc: Global, bits: u64) -> Result<FlatBuffer, ScalarWireError> {
+    message_with(alloc, Stat::Sum, true, Answer::Number(PValue::F64(bits)))
+}
+
+// Whether a sum is told again as the one that is no number.
+fn becomes_one(alloc: Global, bits: u64) -> Result<bool, ScalarWireError> {
+    let message = sum_message(alloc, bits)?;
+    let nan = Answer::Number(PValue::F64(0x7ff8_0000_0000_0000));
+    is_told_at(alloc, message.as_slice(), Stat::Sum, 6, true, nan)
 }
 
 #[test]
 fn sums_that_are_no_number_become_one(rt: HostRuntime) {
-    let alloc = rt.alloc();
-    let nan = Ok(sum_of(0x7ff8_0000_0000_0000));
-    assert!(rt; told_again(alloc, Stat::Sum, sum_of(0xfff8_0000_0000_0000), 6) == nan);
-    assert!(rt; told_again(alloc, Stat::Sum, sum_of(0x7ff8_0000_dead_beef), 6) == nan);
+    assert!(rt; becomes_one(rt.alloc(), 0xfff8_0000_0000_0000) == Ok(true));
+    assert!(rt; becomes_one(rt.alloc(), 0x7ff8_0000_dead_beef) == Ok(true));
 }
 
 // The message of two precisions of 2 without values beside them.
@@ -367,13 +429,13 @@ fn lone_precisions(alloc: Global) -> Result<FlatBuffer, ScalarWireError> {
     Ok(builder.finish(alloc)?)
 }
 
-// What it tells of the least value.
-fn told_of_nothing(alloc: Global) -> Result<Told, ScalarWireError> {
+// Whether it tells nothing of the least value.
+fn is_nothing(alloc: Global) -> Result<bool, ScalarWireError> {
     let message = lone_precisions(alloc)?;
-    told_in(alloc, message.as_slice(), Stat::Min, &I32)
+    is_untold(alloc, message.as_slice(), Stat::Min, &I32)
 }
 
 #[test]
 fn a_precision_without_a_value_is_not_looked_at(rt: HostRuntime) {
-    assert!(rt; told_of_nothing(rt.alloc()) == Ok(Told::Nothing));
+    assert!(rt; is_nothing(rt.alloc()) == Ok(true));
 }
