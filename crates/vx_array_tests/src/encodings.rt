@@ -12,7 +12,9 @@ use vx_proto::{Message, ProtoError};
 use vx_type_wire::ExtSession;
 use vx_types::{Blob, DType, Id, Nullability, PType};
 
-const NUMBERS: DType = DType::Primitive(PType::I32, Nullability::NonNullable);
+fn numbers() -> DType {
+    DType::Primitive(PType::I32, Nullability::NonNullable)
+}
 
 // The head of a node of one buffer.
 fn head_with(dtype: DType, len: usize, id: Id, metadata: Blob, nchildren: usize) -> ArrayHead {
@@ -115,7 +117,7 @@ fn plans_of_numbers_are_refused(rt: HostRuntime) {
     let unfit = Ok(Some(EncodingError::BadShape));
     assert!(rt; refusal_of_numbers(alloc, DType::Null, &[]) == unfit);
     assert!(rt; refusal_of_numbers(alloc, DType::Bool(Nullability::Nullable), &[]) == unfit);
-    let with_metadata = refusal_of_numbers(alloc, NUMBERS, &[8]);
+    let with_metadata = refusal_of_numbers(alloc, numbers(), &[8]);
     assert!(rt; with_metadata == Ok(Some(EncodingError::BadMetadata)));
 }
 
@@ -183,7 +185,7 @@ fn are_numbers_built(
     alignment: Alignment,
 ) -> Result<bool, EncodingError> {
     let buffers = buffers_of(alloc, &[1, 0, 0, 0, 2, 0, 0, 0], alignment, 1)?;
-    let head = head_of(alloc, NUMBERS, len, &[], 0)?;
+    let head = head_of(alloc, numbers(), len, &[], 0)?;
     is_built(alloc, Encoding::Primitive, head, buffers, &[])
 }
 

@@ -6,9 +6,7 @@ use std::process::Abort;
 use vx_flat::{BlockField, Builder, FlatBuffer, verify_uncounted};
 use vx_scalar_wire::{ScalarWireError, StatsKind, StatsSetExt};
 use vx_scalars::{DecimalValue, Precision, ScalarError, ScalarValue, Stat, StatsSet};
-use vx_types::{Blob, DType, Name, Nullability, PType, PValue};
-
-const I32: DType = DType::Primitive(PType::I32, Nullability::NonNullable);
+use vx_types::{Blob, DType, Name, PValue};
 
 fn number(value: i32) -> ScalarValue {
     ScalarValue::Primitive(PValue::I32(value))
@@ -125,21 +123,21 @@ const ONE: Answer = Answer::Number(PValue::I32(1));
 fn a_table_shows_what_stands(rt: HostRuntime) {
     let alloc = rt.alloc();
     let none = Answer::Number(PValue::U64(0));
-    assert!(rt; is_told(alloc, worked(), Stat::Min, &I32, true, ONE) == Ok(true));
-    assert!(rt; is_told(alloc, worked(), Stat::NullCount, &I32, true, none) == Ok(true));
+    assert!(rt; is_told_at(alloc, worked(), Stat::Min, 1, true, ONE) == Ok(true));
+    assert!(rt; is_told_at(alloc, worked(), Stat::NullCount, 1, true, none) == Ok(true));
 }
 
 #[test]
 fn a_table_shows_nothing_else(rt: HostRuntime) {
     let alloc = rt.alloc();
-    assert!(rt; is_untold(alloc, worked(), Stat::Max, &I32) == Ok(true));
-    assert!(rt; is_untold(alloc, worked(), Stat::IsSorted, &I32) == Ok(true));
+    assert!(rt; is_untold_at(alloc, worked(), Stat::Max, 1) == Ok(true));
+    assert!(rt; is_untold_at(alloc, worked(), Stat::IsSorted, 1) == Ok(true));
 }
 
 // Whether the worked message with another precision tells that the least value is 1 at best.
 fn is_bound(alloc: Global, precision: u8) -> Result<bool, ScalarWireError> {
     let message = with_byte(alloc, 48, precision)?;
-    is_told(alloc, &message, Stat::Min, &I32, false, ONE)
+    is_told_at(alloc, &message, Stat::Min, 1, false, ONE)
 }
 
 // The precision is the byte at 48.
@@ -158,28 +156,41 @@ fn is_unread(alloc: Global) -> Result<bool, ScalarWireError> {
 
 #[test]
 fn a_value_is_read_at_its_type(rt: HostRuntime) {
-    let flags = DType::Bool(Nullability::NonNullable);
     assert!(rt; is_unread(rt.alloc()) == Ok(true));
     let mismatch = Err(ScalarWireError::KindMismatch);
-    assert!(rt; is_untold(rt.alloc(), worked(), Stat::Min, &flags) == mismatch);
+    assert!(rt; is_untold_at(rt.alloc(), worked(), Stat::Min, 0) == mismatch);
 }
 
-// Whether a set that is written and read again tells nothing of the sum, and of the least value 1.
-fn is_without_sum(alloc: Global, set: &StatsSet) -> Result<bool, ScalarWireError> {
-    let message = message_of(alloc, set)?;
-    let untold = is_untold(alloc, message.as_slice(), Stat::Sum, &I32)?;
-    let least = is_told(alloc, message.as_slice(), Stat::Min, &I32, true, ONE)?;
-    Ok(untold && least)
+// A least value of 1, and a bound on the sum.
+fn with_bound(alloc: Global) -> Result<StatsSet, ScalarError> {
+    let bound = ScalarValue::Primitive(PValue::I64(3));
+    with_least(alloc, Stat::Sum, Precision::Inexact(bound))
+}
+
+// Its message.
+fn bound_message(alloc: Global) -> Result<FlatBuffer, ScalarWireError> {
+    match with_bound(alloc) {
+        Ok(set) => message_of(alloc, &set),
+        Err(_) => Err(ScalarWireError::OutOfMemory),
+    }
+}
+
+// Whether it tells that the least value is 1.
+fn has_least(alloc: Global) -> Result<bool, ScalarWireError> {
+    let message = bound_message(alloc)?;
+    is_told_at(alloc, message.as_slice(), Stat::Min, 1, true, ONE)
+}
+
+// Whether it tells nothing of the sum.
+fn is_without_sum(alloc: Global) -> Result<bool, ScalarWireError> {
+    let message = bound_message(alloc)?;
+    is_untold_at(alloc, message.as_slice(), Stat::Sum, 1)
 }
 
 #[test]
 fn a_bound_on_a_sum_is_not_written(rt: HostRuntime) {
-    let alloc = rt.alloc();
-    let bound = Precision::Inexact(ScalarValue::Primitive(PValue::I64(3)));
-    match with_least(alloc, Stat::Sum, bound) {
-        Ok(set) => assert!(rt; is_without_sum(alloc, &set) == Ok(true)),
-        Err(_) => assert!(rt; false),
-    }
+    assert!(rt; has_least(rt.alloc()) == Ok(true));
+    assert!(rt; is_without_sum(rt.alloc()) == Ok(true));
 }
 
 // A value by how it is read; a text is `hi`, and bytes are one.
@@ -432,7 +443,7 @@ fn lone_precisions(alloc: Global) -> Result<FlatBuffer, ScalarWireError> {
 // Whether it tells nothing of the least value.
 fn is_nothing(alloc: Global) -> Result<bool, ScalarWireError> {
     let message = lone_precisions(alloc)?;
-    is_untold(alloc, message.as_slice(), Stat::Min, &I32)
+    is_untold_at(alloc, message.as_slice(), Stat::Min, 1)
 }
 
 #[test]

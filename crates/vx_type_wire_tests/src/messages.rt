@@ -13,7 +13,9 @@ const PLAIN: Nullability = Nullability::NonNullable;
 
 const NULLABLE: Nullability = Nullability::Nullable;
 
-const I32: DType = DType::Primitive(PType::I32, PLAIN);
+fn i32s() -> DType {
+    DType::Primitive(PType::I32, PLAIN)
+}
 
 // Whether the type is written as these bytes.
 fn is_written(alloc: Global, dtype: &DType, bytes: &[u8]) -> bool {
@@ -60,9 +62,9 @@ fn kinds_of_numbers(rt: HostRuntime) {
     let alloc = rt.alloc();
     let u8s = Ok(DType::Primitive(PType::U8, PLAIN));
     assert!(rt; is_worked(alloc, u8s, b"\x1a\x00"));
-    assert!(rt; is_worked(alloc, Ok(I32), b"\x1a\x02\x08\x06"));
-    let i32s = Ok(DType::Primitive(PType::I32, NULLABLE));
-    assert!(rt; is_worked(alloc, i32s, b"\x1a\x04\x08\x06\x10\x01"));
+    assert!(rt; is_worked(alloc, Ok(i32s()), b"\x1a\x02\x08\x06"));
+    let maybe = Ok(DType::Primitive(PType::I32, NULLABLE));
+    assert!(rt; is_worked(alloc, maybe, b"\x1a\x04\x08\x06\x10\x01"));
     let f64s = Ok(DType::Primitive(PType::F64, NULLABLE));
     assert!(rt; is_worked(alloc, f64s, b"\x1a\x04\x08\x0a\x10\x01"));
 }
@@ -100,11 +102,11 @@ fn list(alloc: Global, element: DType, n: Nullability) -> Result<DType, TypeErro
 }
 
 fn fixed_size_list(alloc: Global, n: Nullability) -> Result<DType, TypeError> {
-    Ok(DType::FixedSizeList(TypeRef::new(alloc, I32)?, 300, n))
+    Ok(DType::FixedSizeList(TypeRef::new(alloc, i32s())?, 300, n))
 }
 
 fn map(alloc: Global, n: Nullability) -> Result<DType, TypeError> {
-    let map = MapDType::new(alloc, DType::Utf8(PLAIN), I32, true)?;
+    let map = MapDType::new(alloc, DType::Utf8(PLAIN), i32s(), true)?;
     Ok(DType::Map(map, n))
 }
 
@@ -130,7 +132,7 @@ fn names(alloc: Global, texts: &[&str]) -> Result<Names, TypeError> {
 // I32 and this type.
 fn two_types(alloc: Global, second: DType) -> Result<DTypes, TypeError> {
     let mut types = DTypes::new(alloc);
-    types.push(I32)?;
+    types.push(i32s())?;
     types.push(second)?;
     Ok(types)
 }
@@ -169,7 +171,7 @@ fn lists(rt: HostRuntime) {
     let bytes = b"\x42\x08\x0a\x04\x1a\x02\x08\x01\x10\x01";
     assert!(rt; is_worked(alloc, list(alloc, short, NULLABLE), bytes));
     let bytes = b"\x42\x06\x0a\x04\x1a\x02\x08\x06";
-    assert!(rt; is_worked(alloc, list(alloc, I32, PLAIN), bytes));
+    assert!(rt; is_worked(alloc, list(alloc, i32s(), PLAIN), bytes));
     let bytes = b"\x52\x09\x0a\x04\x1a\x02\x08\x06\x10\xac\x02";
     assert!(rt; is_worked(alloc, fixed_size_list(alloc, PLAIN), bytes));
     let bytes = b"\x52\x0b\x0a\x04\x1a\x02\x08\x06\x10\xac\x02\x18\x01";
@@ -265,7 +267,10 @@ fn is_copied(alloc: Global, message: &pb::DType, bytes: &[u8]) -> Result<bool, T
 // Whether a message value is the type I32.
 fn is_i32(alloc: Global, message: &pb::DType) -> bool {
     match DType::from_proto(alloc, message, &ExtSession::new(alloc)) {
-        Ok(dtype) => dtype == I32,
+        Ok(dtype) => matches!(
+            dtype,
+            DType::Primitive(PType::I32, Nullability::NonNullable)
+        ),
         Err(_) => false,
     }
 }
@@ -284,7 +289,7 @@ fn messages_as_values(rt: HostRuntime) {
     // A longer spelling of the same number.
     let same = is_i32_message(alloc, b"\x1a\x05\x08\x86\x80\x80\x00", b"\x1a\x02\x08\x06");
     assert!(rt; same == Ok(true));
-    assert!(rt; I32.to_proto(alloc).is_ok());
+    assert!(rt; i32s().to_proto(alloc).is_ok());
 }
 
 // Why an empty message value is no type.
