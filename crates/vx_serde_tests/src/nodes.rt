@@ -24,12 +24,17 @@ fn blob_with(alloc: Global, place: usize, byte: u8) -> Result<ByteBuffer, WireEr
     Ok(ByteBuffer::from_vec(blob)?)
 }
 
-// Its buffer's bytes.
+// The bytes of the worked blob's buffer.
 fn numbers() -> &'static [u8] {
     &BLOB[..16]
 }
 
-// Its first 20 bytes.
+// The blob whose node names the second identifier.
+fn second() -> &'static [u8] {
+    &BLOB_OF_SECOND
+}
+
+// The first 20 bytes of the worked blob.
 fn twenty() -> &'static [u8] {
     &BLOB[..20]
 }
@@ -185,7 +190,7 @@ fn broken_numbers(rt: HostRuntime) {
         Ok(array) => assert!(rt; is_out_of_bounds(alloc, &array)),
         Err(_) => assert!(rt; false),
     }
-    match array_of(alloc, &BLOB_OF_SECOND) {
+    match array_of(alloc, second()) {
         Ok(array) => assert!(rt; is_second(alloc, &array)),
         Err(_) => assert!(rt; false),
     }
