@@ -1,54 +1,63 @@
 //! Tests of decimals: the rows of each width, which arrays are made, and their nodes on the wire.
 
-ghost use Rattle.std.specs.Prelude.{◌≤◌};
-
-use crate::arrays::{buffer_of, row};
-use crate::encodings::{built_metadata, head_of};
-use std::alloc::Global;
-use std::test::Fail;
+use crate::arrays::{aligned_to, buffer_of, is_row};
+use crate::encodings::{buffers_of, head_of, is_built, plan_refusal};
+use std::alloc::{AllocError, Global};
 use vx_arrays::{Array, ArrayError, DecimalArray, RowValue};
-use vx_buffer::{Alignment, BufferHandles};
-use vx_encodings::{DecimalMetadata, Encoding, EncodingError, plan};
-use vx_proto::Message;
+use vx_buffer::{Alignment, BufferHandle};
+use vx_encodings::{ArrayHead, DecimalMetadata, Encoding, EncodingError};
+use vx_proto::{Message, ProtoError};
 use vx_scalars::DecimalValue;
-use vx_type_wire::ExtSession;
-use vx_types::{Blob, DType, DecimalDType, DecimalType, Nullability};
+use vx_types::{DType, DecimalDType, DecimalType, Nullability};
+
+// An integer of a width whose highest byte is this, and whose other bytes are those.
+fn push_edge(bytes: &mut Vec<u8>, width: usize, low: u8, high: u8) -> Result<(), AllocError> {
+    for _ in 1..width {
+        bytes.push(low)?;
+    }
+    bytes.push(high)?;
+    Ok(())
+}
 
 // The least integer of a width, its greatest, and -1, each with its lowest byte first.
-fn edges(alloc: Global, width: usize) -> Result<Vec<u8>, ArrayError>
-    requires { 1 ≤ width }
-{
+fn edges(alloc: Global, width: usize) -> Result<Vec<u8>, AllocError> {
     let mut bytes = Vec::new(alloc);
-    for (low, high) in [(0, 0x80), (0xff, 0x7f), (0xff, 0xff)] {
-        for _ in 1..width {
-            bytes.push(low)?;
-        }
-        bytes.push(high)?;
-    }
+    push_edge(&mut bytes, width, 0, 0x80)?;
+    push_edge(&mut bytes, width, 0xff, 0x7f)?;
+    push_edge(&mut bytes, width, 0xff, 0xff)?;
     Ok(bytes)
 }
 
-// So many decimals of ten digits by integers of this width, where they are made.
+// So many decimals of ten digits by integers of this width.
+fn decimals_of(
+    alloc: Global,
+    values: BufferHandle,
+    width: DecimalType,
+    len: usize,
+) -> Result<Array, ArrayError> {
+    let never = Nullability::NonNullable;
+    match DecimalDType::try_new(10, 2) {
+        Ok(digits) => DecimalArray::try_new(alloc, values, width, digits, never, len, None),
+        Err(_) => Err(ArrayError::OutOfMemory),
+    }
+}
+
+// The same of bytes.
 fn decimals(
     alloc: Global,
     bytes: &[u8],
     width: DecimalType,
     alignment: Alignment,
     len: usize,
-) -> Result<Result<Array, ArrayError>, Fail> {
+) -> Result<Array, ArrayError> {
     let values = buffer_of(alloc, bytes, alignment)?;
-    let digits = DecimalDType::try_new(10, 2)?;
-    let never = Nullability::NonNullable;
-    Ok(DecimalArray::try_new(alloc, values, width, digits, never, len, None))
+    decimals_of(alloc, values, width, len)
 }
 
-// A row of the three integers at the edges of a width.
-fn edge_row(alloc: Global, width: DecimalType, index: usize) -> Result<RowValue, Fail> {
+// The three integers at the edges of a width.
+fn edge_array(alloc: Global, width: DecimalType) -> Result<Array, ArrayError> {
     let bytes = edges(alloc, width.byte_width())?;
-    let word = Alignment::from_exponent(4).ok_or("below 64")?;
-    let array = decimals(alloc, bytes.as_slice(), width, word, 3)??;
-    let (_, value) = row(alloc, &array, index)?;
-    Ok(value)
+    decimals(alloc, bytes.as_slice(), width, aligned_to(4), 3)
 }
 
 const LEAST: [u8; 32] = [
@@ -56,158 +65,182 @@ const LEAST: [u8; 32] = [
     0x80,
 ];
 
-#[test]
-fn rows_are_integers_of_each_width(rt: HostRuntime) -> Result<(), Fail> {
-    let mut greatest = [0xff; 32];
-    greatest[31] = 0x7f;
-    for (width, values) in [
-        (
-            DecimalType::I8,
-            [
-                DecimalValue::I8(i8::MIN),
-                DecimalValue::I8(i8::MAX),
-                DecimalValue::I8(-1),
-            ],
-        ),
-        (
-            DecimalType::I16,
-            [
-                DecimalValue::I16(i16::MIN),
-                DecimalValue::I16(i16::MAX),
-                DecimalValue::I16(-1),
-            ],
-        ),
-        (
-            DecimalType::I32,
-            [
-                DecimalValue::I32(i32::MIN),
-                DecimalValue::I32(i32::MAX),
-                DecimalValue::I32(-1),
-            ],
-        ),
-        (
-            DecimalType::I64,
-            [
-                DecimalValue::I64(i64::MIN),
-                DecimalValue::I64(i64::MAX),
-                DecimalValue::I64(-1),
-            ],
-        ),
-        (
-            DecimalType::I128,
-            [
-                DecimalValue::I128(i128::MIN),
-                DecimalValue::I128(i128::MAX),
-                DecimalValue::I128(-1),
-            ],
-        ),
-        (
-            DecimalType::I256,
-            [
-                DecimalValue::I256(LEAST),
-                DecimalValue::I256(greatest),
-                DecimalValue::I256([0xff; 32]),
-            ],
-        ),
-    ] {
-        for index in 0..3 {
-            let value = edge_row(rt.alloc(), width, index)?;
-            assert!(rt;
-                value == RowValue::Decimal(values[index]),
-                "{width:?} {index}"
-            );
-        }
+const GREATEST: [u8; 32] = [
+    255, 255, 255, 255, 255, 255, 255, 255, 255, 255, 255, 255, 255, 255, 255, 255, 255, 255, 255,
+    255, 255, 255, 255, 255, 255, 255, 255, 255, 255, 255, 255, 0x7f,
+];
+
+// The least decimal of a width.
+fn least(width: DecimalType) -> DecimalValue {
+    match width {
+        DecimalType::I8 => DecimalValue::I8(i8::MIN),
+        DecimalType::I16 => DecimalValue::I16(i16::MIN),
+        DecimalType::I32 => DecimalValue::I32(i32::MIN),
+        DecimalType::I64 => DecimalValue::I64(i64::MIN),
+        DecimalType::I128 => DecimalValue::I128(i128::MIN),
+        DecimalType::I256 => DecimalValue::I256(LEAST),
     }
-    Ok(())
 }
 
-#[test]
-fn integers_are_aligned_to_at_most_16_bytes(rt: HostRuntime) -> Result<(), Fail> {
-    let alloc = rt.alloc();
-    let bytes = [7; 64];
-    for (width, exponent, len, fits) in [
-        (DecimalType::I8, 0, 64, true),
-        (DecimalType::I16, 0, 32, false),
-        (DecimalType::I16, 1, 32, true),
-        (DecimalType::I64, 2, 8, false),
-        (DecimalType::I128, 3, 4, false),
-        (DecimalType::I128, 4, 4, true),
-        (DecimalType::I256, 3, 2, false),
-        (DecimalType::I256, 4, 2, true),
-        (DecimalType::I256, 4, 1, false),
-        (DecimalType::I256, 4, usize::MAX, false),
-    ] {
-        let alignment = Alignment::from_exponent(exponent).ok_or("below 64")?;
-        let made = decimals(alloc, &bytes, width, alignment, len)?.is_ok();
-        assert!(rt; made == fits, "{width:?} at 2^{exponent}");
+// The greatest decimal of a width.
+fn greatest(width: DecimalType) -> DecimalValue {
+    match width {
+        DecimalType::I8 => DecimalValue::I8(i8::MAX),
+        DecimalType::I16 => DecimalValue::I16(i16::MAX),
+        DecimalType::I32 => DecimalValue::I32(i32::MAX),
+        DecimalType::I64 => DecimalValue::I64(i64::MAX),
+        DecimalType::I128 => DecimalValue::I128(i128::MAX),
+        DecimalType::I256 => DecimalValue::I256(GREATEST),
     }
-    Ok(())
 }
 
-// The width that is read of what is written of a width, where that is these bytes.
-fn width_again(
-    alloc: Global,
-    width: DecimalType,
-    bytes: &[u8],
-) -> Result<Option<DecimalType>, Fail> {
-    let written = DecimalMetadata { values_type: width }.encode_to_vec(alloc)?;
-    if written.as_slice() != bytes {
-        return Ok(None);
+// The decimal -1 of a width.
+fn minus_one(width: DecimalType) -> DecimalValue {
+    match width {
+        DecimalType::I8 => DecimalValue::I8(-1),
+        DecimalType::I16 => DecimalValue::I16(-1),
+        DecimalType::I32 => DecimalValue::I32(-1),
+        DecimalType::I64 => DecimalValue::I64(-1),
+        DecimalType::I128 => DecimalValue::I128(-1),
+        DecimalType::I256 => DecimalValue::I256([0xff; 32]),
     }
-    Ok(Some(DecimalMetadata::decode(alloc, written.as_slice())?.values_type))
 }
 
+// Whether a row has this decimal.
+fn is_decimal(alloc: Global, array: &Array, index: usize, value: DecimalValue) -> bool {
+    is_row(alloc, array, index, true, RowValue::Decimal(value))
+}
+
+// Whether the integers at the edges of a width are its rows.
+fn are_edges(alloc: Global, width: DecimalType) -> Result<bool, ArrayError> {
+    let array = edge_array(alloc, width)?;
+    Ok(
+        is_decimal(alloc, &array, 0, least(width))
+            && is_decimal(alloc, &array, 1, greatest(width))
+            && is_decimal(alloc, &array, 2, minus_one(width)),
+    )
+}
+
+const WIDTHS: [DecimalType; 6] = [
+    DecimalType::I8,
+    DecimalType::I16,
+    DecimalType::I32,
+    DecimalType::I64,
+    DecimalType::I128,
+    DecimalType::I256,
+];
+
 #[test]
-fn a_width_is_one_code(rt: HostRuntime) -> Result<(), Fail> {
+fn rows_are_integers_of_each_width(rt: HostRuntime) {
+    for width in &WIDTHS {
+        assert!(rt; are_edges(rt.alloc(), *width) == Ok(true), "{width:?}");
+    }
+}
+
+// Whether so many decimals of a width are made of 64 bytes, aligned to two to this exponent.
+fn are_made(alloc: Global, width: DecimalType, exponent: u8, len: usize) -> bool {
+    decimals(alloc, &[7; 64], width, aligned_to(exponent), len).is_ok()
+}
+
+const ALIGNED: [(DecimalType, u8, usize, bool); 10] = [
+    (DecimalType::I8, 0, 64, true),
+    (DecimalType::I16, 0, 32, false),
+    (DecimalType::I16, 1, 32, true),
+    (DecimalType::I64, 2, 8, false),
+    (DecimalType::I128, 3, 4, false),
+    (DecimalType::I128, 4, 4, true),
+    (DecimalType::I256, 3, 2, false),
+    (DecimalType::I256, 4, 2, true),
+    (DecimalType::I256, 4, 1, false),
+    (DecimalType::I256, 4, usize::MAX, false),
+];
+
+#[test]
+fn integers_are_aligned_to_at_most_16_bytes(rt: HostRuntime) {
+    for (width, exponent, len, fits) in &ALIGNED {
+        let made = are_made(rt.alloc(), *width, *exponent, *len);
+        assert!(rt; made == *fits, "{width:?} at 2^{exponent}");
+    }
+}
+
+// The bytes of a width's metadata.
+fn width_bytes(alloc: Global, width: DecimalType) -> Result<vx_proto::Blob, ProtoError> {
+    DecimalMetadata { values_type: width }.encode_to_vec(alloc)
+}
+
+// The width that is read of bytes.
+fn width_of(alloc: Global, bytes: &[u8]) -> Result<DecimalType, ProtoError> {
+    let read = DecimalMetadata::decode(alloc, bytes)?;
+    Ok(read.values_type)
+}
+
+// Whether a width is written as these bytes, and read of them.
+fn is_width(alloc: Global, width: DecimalType, bytes: &[u8]) -> bool {
+    match width_bytes(alloc, width) {
+        Ok(written) => written.as_slice() == bytes && width_of(alloc, bytes) == Ok(width),
+        Err(_) => false,
+    }
+}
+
+const CODES: [(DecimalType, &[u8]); 6] = [
+    (DecimalType::I8, &[]),
+    (DecimalType::I16, &[8, 1]),
+    (DecimalType::I32, &[8, 2]),
+    (DecimalType::I64, &[8, 3]),
+    (DecimalType::I128, &[8, 4]),
+    (DecimalType::I256, &[8, 5]),
+];
+
+#[test]
+fn a_width_is_one_code(rt: HostRuntime) {
     let default = DecimalMetadata::default(rt.alloc());
     assert!(rt; default.values_type == DecimalType::I8);
-    for (width, bytes) in [
-        (DecimalType::I8, [].as_slice()),
-        (DecimalType::I16, &[8, 1]),
-        (DecimalType::I32, &[8, 2]),
-        (DecimalType::I64, &[8, 3]),
-        (DecimalType::I128, &[8, 4]),
-        (DecimalType::I256, &[8, 5]),
-    ] {
-        assert!(rt;
-            width_again(rt.alloc(), width, bytes)? == Some(width),
-            "{width:?}"
-        );
+    for (width, bytes) in &CODES {
+        assert!(rt; is_width(rt.alloc(), *width, bytes), "{width:?}");
     }
-    Ok(())
 }
 
-// The metadata of five decimals of 16 bytes each, once they are planned and built.
-fn written_metadata(
+// The head of a node of five decimals.
+fn decimal_head(
     alloc: Global,
     metadata: &[u8],
     nchildren: usize,
-) -> Result<Result<Blob, EncodingError>, Fail> {
-    let dtype = DType::Decimal(DecimalDType::try_new(10, 2)?, Nullability::Nullable);
-    let head = head_of(alloc, dtype, 5, metadata, nchildren)?;
-    if let Err(e) = plan(alloc, Encoding::Decimal, &head, &ExtSession::new(alloc)) {
-        return Ok(Err(e));
+) -> Result<ArrayHead, EncodingError> {
+    match DecimalDType::try_new(10, 2) {
+        Ok(digits) => {
+            let dtype = DType::Decimal(digits, Nullability::Nullable);
+            head_of(alloc, dtype, 5, metadata, nchildren)
+        }
+        Err(_) => Err(EncodingError::OutOfMemory),
     }
-    let word = Alignment::from_exponent(4).ok_or("below 64")?;
-    let mut buffers = BufferHandles::new(alloc);
-    buffers.push(buffer_of(alloc, &[100; 80], word)?)?;
-    Ok(built_metadata(alloc, Encoding::Decimal, head, buffers))
+}
+
+// Why five decimals are not planned, if they are not.
+fn refusal(
+    alloc: Global,
+    metadata: &[u8],
+    nchildren: usize,
+) -> Result<Option<EncodingError>, EncodingError> {
+    let head = decimal_head(alloc, metadata, nchildren)?;
+    Ok(plan_refusal(alloc, Encoding::Decimal, &head))
+}
+
+// Whether five decimals of 16 bytes each are planned and built, with their metadata kept.
+fn are_built(alloc: Global, metadata: &[u8]) -> Result<bool, EncodingError> {
+    let head = decimal_head(alloc, metadata, 0)?;
+    let buffers = buffers_of(alloc, &[100; 80], aligned_to(4), 1)?;
+    is_built(alloc, Encoding::Decimal, head, buffers, metadata)
 }
 
 #[test]
-fn nodes_of_decimals_keep_their_width(rt: HostRuntime) -> Result<(), Fail> {
-    for (metadata, nchildren, error) in [
-        ([8, 4].as_slice(), 0, None),
-        (&[8, 5], 0, Some(EncodingError::BadShape)),
-        (&[], 0, Some(EncodingError::BadShape)),
-        (&[8, 6], 0, Some(EncodingError::BadMetadata)),
-        (&[8], 0, Some(EncodingError::BadMetadata)),
-        (&[8, 4], 2, Some(EncodingError::BadShape)),
-    ] {
-        match written_metadata(rt.alloc(), metadata, nchildren)? {
-            Ok(bytes) => assert!(rt; error.is_none() && bytes.as_slice() == metadata),
-            Err(e) => assert!(rt; error == Some(e), "{metadata:?}"),
-        }
-    }
-    Ok(())
+fn nodes_of_decimals_keep_their_width(rt: HostRuntime) {
+    let alloc = rt.alloc();
+    let unfit = Err(EncodingError::BadShape);
+    let unread = Err(EncodingError::BadMetadata);
+    assert!(rt; are_built(alloc, &[8, 4]) == Ok(true));
+    assert!(rt; are_built(alloc, &[8, 5]) == unfit);
+    assert!(rt; are_built(alloc, &[]) == unfit);
+    assert!(rt; are_built(alloc, &[8, 6]) == unread);
+    assert!(rt; are_built(alloc, &[8]) == unread);
+    assert!(rt; refusal(alloc, &[8, 4], 2) == Ok(Some(EncodingError::BadShape)));
 }

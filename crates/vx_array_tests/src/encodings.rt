@@ -1,83 +1,128 @@
 //! Tests of one level: planned, built and written; and of the texts of errors.
 
+use crate::arrays::{aligned_to, buffer_of};
 use crate::printed::prints;
 use std::alloc::Global;
-use std::test::Fail;
 use vx_arrays::{Array, Arrays};
-use vx_buffer::{Alignment, BufferHandle, BufferHandles, ByteBuffer};
-use vx_encodings::{ArrayHead, BoolMetadata, Encoding, EncodingError, build, metadata, plan};
+use vx_buffer::{Alignment, BufferHandles};
+use vx_encodings::{
+    ArrayHead, BoolMetadata, ChildPlan, ChildPlans, Encoding, EncodingError, build, metadata, plan,
+};
 use vx_proto::{Message, ProtoError};
 use vx_type_wire::ExtSession;
 use vx_types::{Blob, DType, Id, Nullability, PType};
 
+fn numbers() -> DType {
+    DType::Primitive(PType::I32, Nullability::NonNullable)
+}
+
+// The head of a node of one buffer.
+fn head_with(dtype: DType, len: usize, id: Id, metadata: Blob, nchildren: usize) -> ArrayHead {
+    ArrayHead {
+        serialized_id: id,
+        dtype,
+        len,
+        metadata,
+        nbuffers: 1,
+        nchildren,
+    }
+}
+
+/// The head of a node of one buffer, by its parts.
 pub(crate) fn head_of(
     alloc: Global,
     dtype: DType,
     len: usize,
     metadata: &[u8],
     nchildren: usize,
-) -> Result<ArrayHead, Fail> {
-    Ok(ArrayHead {
-        serialized_id: Id::new(alloc, Encoding::Primitive.id())?,
-        dtype,
-        len,
-        metadata: Blob::copy_from(alloc, metadata)?,
-        nbuffers: 1,
-        nchildren,
-    })
-}
-
-// Whether the one child that is planned for four numbers is a validity.
-fn is_validity_planned(alloc: Global) -> Result<bool, Fail> {
-    let numbers = DType::Primitive(PType::I32, Nullability::Nullable);
-    let head = head_of(alloc, numbers, 4, &[], 1)?;
-    let plans = plan(alloc, Encoding::Primitive, &head, &ExtSession::new(alloc))?;
-    match plans.get(0) {
-        Some(child) => {
-            Ok(
-                plans.len() == 1
-                    && child.len == 4
-                    && child.dtype == DType::Bool(Nullability::NonNullable),
-            )
-        }
-        None => Ok(false),
+) -> Result<ArrayHead, EncodingError> {
+    let Ok(id) = Id::new(alloc, "vortex.primitive") else {
+        return Err(EncodingError::OutOfMemory);
+    };
+    match Blob::copy_from(alloc, metadata) {
+        Ok(metadata) => Ok(head_with(dtype, len, id, metadata, nchildren)),
+        Err(_) => Err(EncodingError::OutOfMemory),
     }
 }
 
-#[test]
-fn plans_have_at_most_a_validity(rt: HostRuntime) -> Result<(), Fail> {
-    assert!(rt; is_validity_planned(rt.alloc())?);
-    Ok(())
+// The children that are planned for a node, without readers of extensions.
+fn plans_of(
+    alloc: Global,
+    encoding: Encoding,
+    head: &ArrayHead,
+) -> Result<ChildPlans, EncodingError> {
+    let readers = ExtSession::new(alloc);
+    plan(alloc, encoding, head, &readers)
 }
 
-// Why numbers of this type and metadata are not planned, if they are not.
-fn plan_refusal(
+/// Why a node is not planned, if it is not.
+pub(crate) fn plan_refusal(
+    alloc: Global,
+    encoding: Encoding,
+    head: &ArrayHead,
+) -> Option<EncodingError> {
+    plans_of(alloc, encoding, head).err()
+}
+
+// Whether a child is planned as the validity of four rows.
+fn is_validity(child: &ChildPlan) -> bool {
+    child.len == 4 && matches!(child.dtype, DType::Bool(Nullability::NonNullable))
+}
+
+// Whether a validity of four rows is planned as the one child.
+fn is_planned(plans: &ChildPlans) -> bool {
+    match plans.get(0) {
+        Some(child) => plans.len() == 1 && is_validity(child),
+        None => false,
+    }
+}
+
+// Whether the one child that is planned for numbers is a validity.
+fn is_validity_planned(alloc: Global) -> Result<bool, EncodingError> {
+    let numbers = DType::Primitive(PType::I32, Nullability::Nullable);
+    let head = head_of(alloc, numbers, 4, &[], 1)?;
+    let plans = plans_of(alloc, Encoding::Primitive, &head)?;
+    Ok(is_planned(&plans))
+}
+
+#[test]
+fn plans_have_at_most_a_validity(rt: HostRuntime) {
+    assert!(rt; is_validity_planned(rt.alloc()) == Ok(true));
+}
+
+// Why a node of four rows, of this type, metadata and children, is not planned, if it is not.
+fn refusal(
+    alloc: Global,
+    encoding: Encoding,
+    dtype: DType,
+    metadata: &[u8],
+    nchildren: usize,
+) -> Result<Option<EncodingError>, EncodingError> {
+    let head = head_of(alloc, dtype, 4, metadata, nchildren)?;
+    Ok(plan_refusal(alloc, encoding, &head))
+}
+
+// The same of numbers.
+fn refusal_of_numbers(
     alloc: Global,
     dtype: DType,
     metadata: &[u8],
-) -> Result<Option<EncodingError>, Fail> {
-    let head = head_of(alloc, dtype, 4, metadata, 0)?;
-    match plan(alloc, Encoding::Primitive, &head, &ExtSession::new(alloc)) {
-        Ok(_) => Ok(None),
-        Err(e) => Ok(Some(e)),
-    }
+) -> Result<Option<EncodingError>, EncodingError> {
+    refusal(alloc, Encoding::Primitive, dtype, metadata, 0)
 }
 
 #[test]
-fn plans_of_numbers_are_refused(rt: HostRuntime) -> Result<(), Fail> {
+fn plans_of_numbers_are_refused(rt: HostRuntime) {
     let alloc = rt.alloc();
-    let nulls = plan_refusal(alloc, DType::Null, &[])?;
-    assert!(rt; nulls == Some(EncodingError::BadShape));
-    let truths = plan_refusal(alloc, DType::Bool(Nullability::Nullable), &[])?;
-    assert!(rt; truths == Some(EncodingError::BadShape));
-    let numbers = DType::Primitive(PType::I32, Nullability::NonNullable);
-    let with_metadata = plan_refusal(alloc, numbers, &[8])?;
-    assert!(rt; with_metadata == Some(EncodingError::BadMetadata));
-    Ok(())
+    let unfit = Ok(Some(EncodingError::BadShape));
+    assert!(rt; refusal_of_numbers(alloc, DType::Null, &[]) == unfit);
+    assert!(rt; refusal_of_numbers(alloc, DType::Bool(Nullability::Nullable), &[]) == unfit);
+    let with_metadata = refusal_of_numbers(alloc, numbers(), &[8]);
+    assert!(rt; with_metadata == Ok(Some(EncodingError::BadMetadata)));
 }
 
-// A node without children.
-fn build_leaf(
+// A node without children, which is planned without any.
+fn build_planned(
     alloc: Global,
     encoding: Encoding,
     head: ArrayHead,
@@ -88,63 +133,98 @@ fn build_leaf(
     if plans.len() != 0 {
         return Err(EncodingError::BadShape);
     }
-    let children = Arrays::new(alloc);
-    build(alloc, encoding, head, buffers, children, &readers)
+    build(alloc, encoding, head, buffers, Arrays::new(alloc), &readers)
 }
 
 // The metadata of a node without children, once it is built.
-pub(crate) fn built_metadata(
+fn built_metadata(
     alloc: Global,
     encoding: Encoding,
     head: ArrayHead,
     buffers: BufferHandles,
 ) -> Result<Blob, EncodingError> {
-    let array = build_leaf(alloc, encoding, head, buffers)?;
+    let array = build_planned(alloc, encoding, head, buffers)?;
     metadata(alloc, &array)
 }
 
+/// Whether a node without children is built, of this metadata.
+pub(crate) fn is_built(
+    alloc: Global,
+    encoding: Encoding,
+    head: ArrayHead,
+    buffers: BufferHandles,
+    metadata: &[u8],
+) -> Result<bool, EncodingError> {
+    let bytes = built_metadata(alloc, encoding, head, buffers)?;
+    Ok(bytes.as_slice() == metadata)
+}
+
+/// So many buffers of these bytes.
+pub(crate) fn buffers_of(
+    alloc: Global,
+    bytes: &[u8],
+    alignment: Alignment,
+    count: usize,
+) -> Result<BufferHandles, EncodingError> {
+    let mut buffers = BufferHandles::new(alloc);
+    for _ in 0..count {
+        let Ok(buffer) = buffer_of(alloc, bytes, alignment) else {
+            return Err(EncodingError::OutOfMemory);
+        };
+        let Ok(()) = buffers.push(buffer) else {
+            return Err(EncodingError::OutOfMemory);
+        };
+    }
+    Ok(buffers)
+}
+
+// Whether so many integers are built of eight bytes of this alignment.
+fn are_numbers_built(
+    alloc: Global,
+    len: usize,
+    alignment: Alignment,
+) -> Result<bool, EncodingError> {
+    let buffers = buffers_of(alloc, &[1, 0, 0, 0, 2, 0, 0, 0], alignment, 1)?;
+    let head = head_of(alloc, numbers(), len, &[], 0)?;
+    is_built(alloc, Encoding::Primitive, head, buffers, &[])
+}
+
 #[test]
-fn a_node_is_built_of_its_parts(rt: HostRuntime) -> Result<(), Fail> {
+fn a_node_is_built_of_its_parts(rt: HostRuntime) {
     let alloc = rt.alloc();
-    let word = Alignment::from_exponent(2).ok_or("below 64")?;
-    for (len, alignment, fits) in [
-        (2, word, true),
-        (3, word, false),
-        (2, Alignment::none(), false),
-    ] {
-        let mut buffers = BufferHandles::new(alloc);
-        let values = ByteBuffer::copy_from(alloc, &[1, 0, 0, 0, 2, 0, 0, 0])?;
-        buffers.push(BufferHandle::new_host(values.aligned(alignment)))?;
-        let dtype = DType::Primitive(PType::I32, Nullability::NonNullable);
-        let head = head_of(alloc, dtype, len, &[], 0)?;
-        match built_metadata(alloc, Encoding::Primitive, head, buffers) {
-            Ok(bytes) => assert!(rt; fits && bytes.is_empty(), "{len} numbers"),
-            Err(e) => assert!(rt; !fits && e == EncodingError::BadShape, "{len} numbers"),
-        }
-    }
-    Ok(())
+    let unfit = Err(EncodingError::BadShape);
+    assert!(rt; are_numbers_built(alloc, 2, aligned_to(2)) == Ok(true));
+    assert!(rt; are_numbers_built(alloc, 3, aligned_to(2)) == unfit);
+    assert!(rt; are_numbers_built(alloc, 2, Alignment::none()) == unfit);
 }
 
-// The offset that is read back of what is written of a copy of it.
-fn offset_again(alloc: Global, offset: u32, bytes: &[u8]) -> Result<Option<u32>, ProtoError> {
+// The bytes of a copy of an offset's metadata.
+fn offset_bytes(alloc: Global, offset: u32) -> Result<vx_proto::Blob, ProtoError> {
     let copy = BoolMetadata { offset }.clone(alloc)?;
-    let written = copy.encode_to_vec(alloc)?;
-    if written.as_slice() != bytes {
-        return Ok(None);
+    copy.encode_to_vec(alloc)
+}
+
+// The offset that is read of bytes.
+fn offset_of(alloc: Global, bytes: &[u8]) -> Result<u32, ProtoError> {
+    let read = BoolMetadata::decode(alloc, bytes)?;
+    Ok(read.offset)
+}
+
+// Whether a copy of an offset is written as these bytes, and read of them.
+fn is_offset(alloc: Global, offset: u32, bytes: &[u8]) -> bool {
+    match offset_bytes(alloc, offset) {
+        Ok(written) => written.as_slice() == bytes && offset_of(alloc, bytes) == Ok(offset),
+        Err(_) => false,
     }
-    Ok(Some(BoolMetadata::decode(alloc, written.as_slice())?.offset))
 }
 
 #[test]
-fn an_offset_is_one_number(rt: HostRuntime) -> Result<(), Fail> {
-    assert!(rt; BoolMetadata::default(rt.alloc()).offset == 0);
-    for (offset, bytes) in [(0, [].as_slice()), (5, &[8, 5]), (8, &[8, 8])] {
-        assert!(rt;
-            offset_again(rt.alloc(), offset, bytes)? == Some(offset),
-            "{offset}"
-        );
-    }
-    Ok(())
+fn an_offset_is_one_number(rt: HostRuntime) {
+    let alloc = rt.alloc();
+    assert!(rt; BoolMetadata::default(alloc).offset == 0);
+    assert!(rt; is_offset(alloc, 0, &[]));
+    assert!(rt; is_offset(alloc, 5, &[8, 5]));
+    assert!(rt; is_offset(alloc, 8, &[8, 8]));
 }
 
 // Why four flags of this metadata and so many children are not planned, if they are not.
@@ -152,105 +232,92 @@ fn flags_refusal(
     alloc: Global,
     metadata: &[u8],
     nchildren: usize,
-) -> Result<Option<EncodingError>, Fail> {
-    let dtype = DType::Bool(Nullability::Nullable);
-    let head = head_of(alloc, dtype, 4, metadata, nchildren)?;
-    Ok(plan(alloc, Encoding::Bool, &head, &ExtSession::new(alloc)).err())
+) -> Result<Option<EncodingError>, EncodingError> {
+    refusal(
+        alloc,
+        Encoding::Bool,
+        DType::Bool(Nullability::Nullable),
+        metadata,
+        nchildren,
+    )
+}
+
+const BAD: Option<EncodingError> = Some(EncodingError::BadMetadata);
+
+const FLAGS: [(&[u8], usize, Option<EncodingError>); 8] = [
+    (&[], 0, None),
+    (&[8, 7], 1, None),
+    (&[8, 9, 8, 7], 1, None),
+    (&[16, 9], 0, None),
+    (&[8, 8], 0, BAD),
+    (&[8], 0, BAD),
+    (&[10, 0], 0, BAD),
+    (&[], 2, Some(EncodingError::BadShape)),
+];
+
+#[test]
+fn plans_of_flags_are_refused(rt: HostRuntime) {
+    for (metadata, nchildren, error) in &FLAGS {
+        let refused = flags_refusal(rt.alloc(), metadata, *nchildren);
+        assert!(rt; refused == Ok(*error), "{metadata:?}");
+    }
+}
+
+// Whether so many flags of one byte are built, of this metadata.
+fn are_flags_built(alloc: Global, metadata: &[u8], len: usize) -> Result<bool, EncodingError> {
+    let buffers = buffers_of(alloc, &[0x2c], Alignment::none(), 1)?;
+    let head = head_of(
+        alloc,
+        DType::Bool(Nullability::NonNullable),
+        len,
+        metadata,
+        0,
+    )?;
+    is_built(alloc, Encoding::Bool, head, buffers, metadata)
 }
 
 #[test]
-fn plans_of_flags_are_refused(rt: HostRuntime) -> Result<(), Fail> {
-    let bad = Some(EncodingError::BadMetadata);
-    for (metadata, nchildren, error) in [
-        ([].as_slice(), 0, None),
-        (&[8, 7], 1, None),
-        (&[8, 9, 8, 7], 1, None),
-        (&[16, 9], 0, None),
-        (&[8, 8], 0, bad),
-        (&[8], 0, bad),
-        (&[10, 0], 0, bad),
-        (&[], 2, Some(EncodingError::BadShape)),
-    ] {
-        assert!(rt;
-            flags_refusal(rt.alloc(), metadata, nchildren)? == error,
-            "{metadata:?}"
-        );
-    }
-    Ok(())
+fn flags_are_built_of_an_offset_and_bits(rt: HostRuntime) {
+    let alloc = rt.alloc();
+    let unfit = Err(EncodingError::BadShape);
+    assert!(rt; are_flags_built(alloc, &[], 8) == Ok(true));
+    assert!(rt; are_flags_built(alloc, &[], 9) == unfit);
+    assert!(rt; are_flags_built(alloc, &[8, 5], 3) == Ok(true));
+    assert!(rt; are_flags_built(alloc, &[8, 5], 4) == unfit);
 }
 
-// The metadata of so many flags of one byte, once they are built.
-fn flags_metadata(
+// Whether nulls are built of this type, metadata, children and so many buffers, without metadata.
+fn are_nulls_built(
     alloc: Global,
-    bytes: &[u8],
-    len: usize,
-) -> Result<Result<Blob, EncodingError>, Fail> {
-    let mut buffers = BufferHandles::new(alloc);
-    buffers.push(BufferHandle::new_host(ByteBuffer::copy_from(alloc, &[0x2c])?))?;
-    let head = head_of(alloc, DType::Bool(Nullability::NonNullable), len, bytes, 0)?;
-    Ok(built_metadata(alloc, Encoding::Bool, head, buffers))
+    dtype: DType,
+    metadata: &[u8],
+    nchildren: usize,
+    buffers: usize,
+) -> Result<bool, EncodingError> {
+    let buffers = buffers_of(alloc, &[], Alignment::none(), buffers)?;
+    let head = head_of(alloc, dtype, usize::MAX, metadata, nchildren)?;
+    is_built(alloc, Encoding::Null, head, buffers, &[])
 }
 
 #[test]
-fn flags_are_built_of_an_offset_and_bits(rt: HostRuntime) -> Result<(), Fail> {
-    for (bytes, len, fits) in [
-        ([].as_slice(), 8, true),
-        (&[], 9, false),
-        (&[8, 5], 3, true),
-        (&[8, 5], 4, false),
-    ] {
-        match flags_metadata(rt.alloc(), bytes, len)? {
-            Ok(again) => assert!(rt; fits && again.as_slice() == bytes, "{len} flags"),
-            Err(e) => assert!(rt; !fits && e == EncodingError::BadShape, "{len} flags"),
-        }
-    }
-    Ok(())
-}
-
-#[test]
-fn nulls_are_built_of_nothing(rt: HostRuntime) -> Result<(), Fail> {
+fn nulls_are_built_of_nothing(rt: HostRuntime) {
     let alloc = rt.alloc();
-    for (bytes, nchildren, buffers, error) in [
-        ([].as_slice(), 0, 0, None),
-        ([0].as_slice(), 0, 0, Some(EncodingError::BadMetadata)),
-        ([].as_slice(), 1, 0, Some(EncodingError::BadShape)),
-        ([].as_slice(), 0, 1, Some(EncodingError::BadShape)),
-    ] {
-        let mut handles = BufferHandles::new(alloc);
-        for _ in 0..buffers {
-            handles.push(BufferHandle::new_host(ByteBuffer::copy_from(alloc, &[])?))?;
-        }
-        let head = head_of(alloc, DType::Null, usize::MAX, bytes, nchildren)?;
-        match built_metadata(alloc, Encoding::Null, head, handles) {
-            Ok(bytes) => assert!(rt; error.is_none() && bytes.is_empty()),
-            Err(e) => assert!(rt; error == Some(e)),
-        }
-    }
-    Ok(())
+    let unfit = Err(EncodingError::BadShape);
+    assert!(rt; are_nulls_built(alloc, DType::Null, &[], 0, 0) == Ok(true));
+    let with_metadata = are_nulls_built(alloc, DType::Null, &[0], 0, 0);
+    assert!(rt; with_metadata == Err(EncodingError::BadMetadata));
+    assert!(rt; are_nulls_built(alloc, DType::Null, &[], 1, 0) == unfit);
+    assert!(rt; are_nulls_built(alloc, DType::Null, &[], 0, 1) == unfit);
+    let truths = DType::Bool(Nullability::Nullable);
+    assert!(rt; are_nulls_built(alloc, truths, &[], 0, 0) == unfit);
 }
 
 #[test]
-fn nulls_have_the_type_of_nulls(rt: HostRuntime) -> Result<(), Fail> {
+fn errors_are_printed(rt: HostRuntime) {
     let alloc = rt.alloc();
-    let head = head_of(alloc, DType::Bool(Nullability::Nullable), 1, &[], 0)?;
-    match built_metadata(alloc, Encoding::Null, head, BufferHandles::new(alloc)) {
-        Ok(_) => assert!(rt; false, "truths are no nulls"),
-        Err(e) => assert!(rt; e == EncodingError::BadShape),
-    }
-    Ok(())
-}
-
-#[test]
-fn errors_are_printed(rt: HostRuntime) -> Result<(), Fail> {
-    for (error, text) in [
-        (EncodingError::OutOfMemory, "out of memory"),
-        (
-            EncodingError::BadMetadata,
-            "the metadata is none of the encoding's",
-        ),
-        (EncodingError::BadShape, "the parts do not fit the encoding"),
-    ] {
-        assert!(rt; prints(rt.alloc(), &error, text)?, "{text}");
-    }
-    Ok(())
+    assert!(rt; prints(alloc, &EncodingError::OutOfMemory, "out of memory"));
+    let unread = "the metadata is none of the encoding's";
+    assert!(rt; prints(alloc, &EncodingError::BadMetadata, unread));
+    let unfit = "the parts do not fit the encoding";
+    assert!(rt; prints(alloc, &EncodingError::BadShape, unfit));
 }

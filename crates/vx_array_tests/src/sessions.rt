@@ -1,17 +1,17 @@
 //! Tests of what sessions register, of an array's parts as they are written, and of contexts that begin with
 //! identifiers or limit them.
 
+use crate::arrays::numbers;
 use std::alloc::{AllocFailed, Global};
-use std::test::Fail;
-use vx_arrays::{Array, ArrayError, Arrays, PrimitiveArray};
-use vx_buffer::{Alignment, BufferHandle, BufferHandles, ByteBuffer};
+use vx_arrays::{Array, ArrayError, Arrays};
+use vx_buffer::BufferHandles;
 use vx_encodings::Encoding;
 use vx_registry::{
     ArrayContext, ArrayDeserialization, ArraySerialization, ArraySession, PluginEntry,
     RegistryError, VortexSession,
 };
 use vx_type_wire::ExtSession;
-use vx_types::{Blob, DType, Id, Ids, Nullability, PType, TypeError};
+use vx_types::{Blob, DType, Id, Ids, PType, TypeError};
 
 // A list of identifiers.
 fn list_of(alloc: Global, texts: &[&str]) -> Result<Ids, TypeError> {
@@ -36,36 +36,61 @@ fn are_ids(ids: &Ids, texts: &[&str]) -> bool {
 }
 
 // A context that begins with `a`, `a` and `b`.
-fn begun(alloc: Global) -> Result<ArrayContext, Fail> {
-    let ids = list_of(alloc, &["a", "a", "b"])?;
-    Ok(ArrayContext::new(alloc, &ids)?)
-}
-
-#[test]
-fn a_context_begins_with_each_identifier_once(rt: HostRuntime) -> Result<(), Fail> {
-    let context = begun(rt.alloc())?;
-    let ids = context.to_ids(rt.alloc())?;
-    assert!(rt; are_ids(&ids, &["a", "b"]));
-    Ok(())
-}
-
-// The number of an identifier in that context, where only `a` is allowed, and the identifiers after it.
-fn limited(alloc: Global, text: &str) -> Result<(Option<u16>, Ids), Fail> {
-    let allowed = list_of(alloc, &["a"])?;
-    let mut context = begun(alloc)?.with_allowed_ids(alloc, &allowed)?;
-    let id = Id::new(alloc, text)?;
-    let place = context.intern(&id)?;
-    Ok((place, context.to_ids(alloc)?))
-}
-
-#[test]
-fn only_allowed_identifiers_come(rt: HostRuntime) -> Result<(), Fail> {
-    for (text, place) in [("a", Some(0)), ("b", None), ("c", None)] {
-        let (found, ids) = limited(rt.alloc(), text)?;
-        assert!(rt; found == place, "{text}");
-        assert!(rt; are_ids(&ids, &["a", "b"]), "{text}");
+fn begun(alloc: Global) -> Result<ArrayContext, RegistryError> {
+    match list_of(alloc, &["a", "a", "b"]) {
+        Ok(ids) => ArrayContext::new(alloc, &ids),
+        Err(_) => Err(RegistryError::OutOfMemory),
     }
-    Ok(())
+}
+
+// Whether these are a context's identifiers, in this order.
+fn has_ids(alloc: Global, context: &ArrayContext, texts: &[&str]) -> bool {
+    match context.to_ids(alloc) {
+        Ok(ids) => are_ids(&ids, texts),
+        Err(_) => false,
+    }
+}
+
+#[test]
+fn a_context_begins_with_each_identifier_once(rt: HostRuntime) {
+    match begun(rt.alloc()) {
+        Ok(context) => assert!(rt; has_ids(rt.alloc(), &context, &["a", "b"])),
+        Err(_) => assert!(rt; false),
+    }
+}
+
+// That context, where only `a` is allowed.
+fn limited(alloc: Global) -> Result<ArrayContext, RegistryError> {
+    match list_of(alloc, &["a"]) {
+        Ok(allowed) => begun(alloc)?.with_allowed_ids(alloc, &allowed),
+        Err(_) => Err(RegistryError::OutOfMemory),
+    }
+}
+
+// The number of an identifier in a context.
+fn place_in(
+    alloc: Global,
+    context: &mut ArrayContext,
+    text: &str,
+) -> Result<Option<u16>, RegistryError> {
+    match Id::new(alloc, text) {
+        Ok(id) => context.intern(&id),
+        Err(_) => Err(RegistryError::OutOfMemory),
+    }
+}
+
+// Whether an identifier has this number in the limited context, and nothing comes into it.
+fn is_limited(alloc: Global, text: &str, place: Option<u16>) -> Result<bool, RegistryError> {
+    let mut context = limited(alloc)?;
+    let found = place_in(alloc, &mut context, text)?;
+    Ok(found == place && has_ids(alloc, &context, &["a", "b"]))
+}
+
+#[test]
+fn only_allowed_identifiers_come(rt: HostRuntime) {
+    assert!(rt; is_limited(rt.alloc(), "a", Some(0)) == Ok(true));
+    assert!(rt; is_limited(rt.alloc(), "b", None) == Ok(true));
+    assert!(rt; is_limited(rt.alloc(), "c", None) == Ok(true));
 }
 
 // A session that registers numbers alone, twice.
@@ -76,38 +101,39 @@ fn of_numbers(alloc: Global) -> Result<ArraySession, AllocFailed<PluginEntry>> {
     Ok(session)
 }
 
+// Whether a session reads and writes an identifier by this encoding, or by none.
+fn is_entry(alloc: Global, session: &ArraySession, text: &str, encoding: Option<Encoding>) -> bool {
+    match Id::new(alloc, text) {
+        Ok(id) => session.reader(&id) == encoding && session.writer(&id) == encoding,
+        Err(_) => false,
+    }
+}
+
+// Whether a session registers numbers alone.
+fn is_of_numbers(alloc: Global, session: &ArraySession) -> bool {
+    session.registry().len() == 1
+        && is_entry(
+            alloc,
+            session,
+            "vortex.primitive",
+            Some(Encoding::Primitive),
+        )
+        && is_entry(alloc, session, "vortex.null", None)
+}
+
 #[test]
-fn an_entry_takes_the_place_of_the_one_before(rt: HostRuntime) -> Result<(), Fail> {
-    let session = match of_numbers(rt.alloc()) {
-        Ok(session) => session,
-        Err(_) => return Err(Fail::from("memory")),
-    };
-    assert!(rt; session.registry().len() == 1);
-    let numbers = Id::new(rt.alloc(), "vortex.primitive")?;
-    assert!(rt; session.reader(&numbers) == Some(Encoding::Primitive));
-    assert!(rt; session.writer(&numbers) == Some(Encoding::Primitive));
-    let nulls = Id::new(rt.alloc(), "vortex.null")?;
-    assert!(rt; session.reader(&nulls).is_none());
-    Ok(())
+fn an_entry_takes_the_place_of_the_one_before(rt: HostRuntime) {
+    match of_numbers(rt.alloc()) {
+        Ok(session) => assert!(rt; is_of_numbers(rt.alloc(), &session)),
+        Err(_) => assert!(rt; false),
+    }
 }
 
 const BYTES: [u8; 16] = [1, 0, 0, 0, 2, 0, 0, 0, 3, 0, 0, 0, 4, 0, 0, 0];
 
 // The numbers 1, 2, 3 and 4.
 fn four(alloc: Global) -> Result<Array, ArrayError> {
-    let alignment = match Alignment::new(4) {
-        Some(alignment) => alignment,
-        None => Alignment::none(),
-    };
-    let buffer = ByteBuffer::copy_from(alloc, &BYTES)?.aligned(alignment);
-    PrimitiveArray::try_new(
-        alloc,
-        BufferHandle::new_host(buffer),
-        PType::I32,
-        Nullability::NonNullable,
-        4,
-        None,
-    )
+    numbers(alloc, &BYTES, PType::I32, 4)
 }
 
 // Whether parts are those of the four numbers.
@@ -122,62 +148,76 @@ fn are_fours(parts: &ArraySerialization) -> bool {
         && parts.children.len() == 0
 }
 
-#[test]
-fn parts_are_the_arrays(rt: HostRuntime) -> Result<(), Fail> {
-    let alloc = rt.alloc();
-    let array = four(alloc)?;
-    let parts = ArraySerialization::from_array(alloc, &array)?;
-    assert!(rt; are_fours(&parts));
+// Whether the parts of an array are those, and so is their copy.
+fn has_parts(alloc: Global, array: &Array) -> Result<bool, RegistryError> {
+    let parts = ArraySerialization::from_array(alloc, array)?;
     let again = parts.clone(alloc)?;
-    assert!(rt; are_fours(&again));
-    Ok(())
-}
-
-// The parts of the four numbers, as these encodings write them.
-fn written_by(
-    alloc: Global,
-    arrays: ArraySession,
-) -> Result<Option<ArraySerialization>, RegistryError> {
-    let array = match four(alloc) {
-        Ok(array) => array,
-        Err(_) => return Err(RegistryError::OutOfMemory),
-    };
-    VortexSession::new(arrays, ExtSession::new(alloc)).array_serialize(alloc, &array)
+    Ok(are_fours(&parts) && are_fours(&again))
 }
 
 #[test]
-fn what_is_registered_is_written(rt: HostRuntime) -> Result<(), Fail> {
+fn parts_are_the_arrays(rt: HostRuntime) {
+    match four(rt.alloc()) {
+        Ok(array) => assert!(rt; has_parts(rt.alloc(), &array) == Ok(true)),
+        Err(_) => assert!(rt; false),
+    }
+}
+
+// Whether the parts of an array are written by these encodings, as those of the four numbers.
+fn are_written(alloc: Global, arrays: ArraySession, array: &Array) -> Result<bool, RegistryError> {
+    let session = VortexSession::new(arrays, ExtSession::new(alloc));
+    match session.array_serialize(alloc, array)? {
+        Some(parts) => Ok(are_fours(&parts)),
+        None => Ok(false),
+    }
+}
+
+// The same of the four numbers.
+fn fours_are_written(alloc: Global, arrays: ArraySession) -> Result<bool, RegistryError> {
+    match four(alloc) {
+        Ok(array) => are_written(alloc, arrays, &array),
+        Err(_) => Err(RegistryError::OutOfMemory),
+    }
+}
+
+// The same by the encodings that are shipped.
+fn are_shipped(alloc: Global) -> Result<bool, RegistryError> {
+    let arrays = ArraySession::default(alloc)?;
+    fours_are_written(alloc, arrays)
+}
+
+#[test]
+fn what_is_registered_is_written(rt: HostRuntime) {
     let alloc = rt.alloc();
-    let shipped = ArraySession::default(alloc)?;
-    let parts = written_by(alloc, shipped)?.ok_or("the parts are given")?;
-    assert!(rt; are_fours(&parts));
-    let refused = written_by(alloc, ArraySession::empty(alloc));
-    assert!(rt; matches!(&refused, Err(RegistryError::NotRegistered)));
-    Ok(())
+    assert!(rt; are_shipped(alloc) == Ok(true));
+    let refused = fours_are_written(alloc, ArraySession::empty(alloc));
+    assert!(rt; refused == Err(RegistryError::NotRegistered));
+}
+
+// What three nulls are built of.
+fn parts_of_nulls(alloc: Global) -> Result<ArrayDeserialization, TypeError> {
+    let id = Id::new(alloc, "vortex.null")?;
+    let metadata = Blob::copy_from(alloc, &[])?;
+    let buffers = BufferHandles::new(alloc);
+    Ok(ArrayDeserialization::new(id, DType::Null, 3, metadata, buffers, Arrays::new(alloc)))
+}
+
+// Whether that is handed on.
+fn are_handed_on(alloc: Global) -> Result<bool, TypeError> {
+    let parts = parts_of_nulls(alloc)?;
+    Ok(parts.serialized_id.as_str() == "vortex.null" && parts.len == 3)
 }
 
 #[test]
-fn what_is_built_of_is_handed_on(rt: HostRuntime) -> Result<(), Fail> {
-    let alloc = rt.alloc();
-    let parts = ArrayDeserialization::new(
-        Id::new(alloc, "vortex.null")?,
-        DType::Null,
-        3,
-        Blob::copy_from(alloc, &[])?,
-        BufferHandles::new(alloc),
-        Arrays::new(alloc),
-    );
-    assert!(rt; parts.serialized_id.as_str() == "vortex.null");
-    assert!(rt; parts.len == 3);
-    Ok(())
+fn what_is_built_of_is_handed_on(rt: HostRuntime) {
+    assert!(rt; are_handed_on(rt.alloc()) == Ok(true));
 }
 
 #[test]
-fn nothing_unknown_is_allowed_at_first(rt: HostRuntime) -> Result<(), Fail> {
+fn nothing_unknown_is_allowed_at_first(rt: HostRuntime) {
     let alloc = rt.alloc();
     let mut session = VortexSession::new(ArraySession::empty(alloc), ExtSession::new(alloc));
     assert!(rt; !session.allows_unknown());
     session.ext.allow_unknown();
     assert!(rt; session.allows_unknown());
-    Ok(())
 }

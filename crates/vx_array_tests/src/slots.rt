@@ -2,44 +2,88 @@
 
 use crate::arrays::buffer_of;
 use std::alloc::Global;
-use std::test::Fail;
 use vx_arrays::{
     Array, ArrayError, BoolArray, DecimalArray, NullArray, PrimitiveArray, validity_all_invalid,
 };
-use vx_buffer::Alignment;
+use vx_buffer::{Alignment, BufferHandle};
 use vx_types::{DecimalDType, DecimalType, Nullability, PType};
 
-// Whether a node's one slot is that of a validity, and its one buffer has this name.
-fn is_named(alloc: Global, array: &Array, buffer: &str) -> Result<bool, ArrayError> {
+const MAYBE: Nullability = Nullability::Nullable;
+
+// Whether a node's one slot is that of a validity.
+fn has_slot(alloc: Global, array: &Array) -> bool {
     if array.nslots() != 1 {
-        return Ok(false);
+        return false;
     }
-    let slot = array.slot_name(alloc, 0)?;
-    let past = array.buffer_name(alloc, 1)?;
-    match array.buffer_name(alloc, 0)? {
-        Some(name) => {
-            Ok(slot.as_str() == "validity" && name.as_str() == buffer && past.is_none())
-        }
-        None => Ok(false),
+    match array.slot_name(alloc, 0) {
+        Ok(slot) => slot.as_str() == "validity",
+        Err(_) => false,
     }
 }
 
+// Whether a node's buffer has this name.
+fn is_buffer(alloc: Global, array: &Array, buffer: &str) -> bool {
+    match array.buffer_name(alloc, 0) {
+        Ok(Some(name)) => name.as_str() == buffer,
+        _ => false,
+    }
+}
+
+// Whether a node's buffer of this number has no name.
+fn is_none(alloc: Global, array: &Array, index: usize) -> bool {
+    matches!(array.buffer_name(alloc, index), Ok(None))
+}
+
+// Whether a node's one slot is that of a validity, and its one buffer has this name.
+fn is_named(alloc: Global, array: &Array, buffer: &str) -> bool {
+    has_slot(alloc, array) && is_buffer(alloc, array, buffer) && is_none(alloc, array, 1)
+}
+
+// A buffer of one byte.
+fn byte(alloc: Global) -> Result<BufferHandle, ArrayError> {
+    buffer_of(alloc, &[1], Alignment::none())
+}
+
+fn flags(alloc: Global) -> Result<Array, ArrayError> {
+    let bits = byte(alloc)?;
+    BoolArray::try_new(alloc, bits, 0, 1, MAYBE, None)
+}
+
+fn numbers(alloc: Global) -> Result<Array, ArrayError> {
+    let values = byte(alloc)?;
+    let there = validity_all_invalid(alloc, 1)?;
+    PrimitiveArray::try_new(alloc, values, PType::U8, MAYBE, 1, Some(there))
+}
+
+fn decimals(alloc: Global) -> Result<Array, ArrayError> {
+    let values = byte(alloc)?;
+    match DecimalDType::try_new(1, 0) {
+        Ok(digits) => {
+            DecimalArray::try_new(alloc, values, DecimalType::I8, digits, MAYBE, 1, None)
+        }
+        Err(_) => Err(ArrayError::BadShape),
+    }
+}
+
+// Whether an array that is made first is so named.
+fn is_made(alloc: Global, made: Result<Array, ArrayError>, buffer: &str) -> bool {
+    match made {
+        Ok(array) => is_named(alloc, &array, buffer),
+        Err(_) => false,
+    }
+}
+
+// Whether nulls have no slot and no buffer.
+fn is_bare(alloc: Global) -> Result<bool, ArrayError> {
+    let array = NullArray::new(alloc, 1)?;
+    Ok(array.nslots() == 0 && is_none(alloc, &array, 0))
+}
+
 #[test]
-fn slots_and_buffers_have_names(rt: HostRuntime) -> Result<(), Fail> {
+fn slots_and_buffers_have_names(rt: HostRuntime) {
     let alloc = rt.alloc();
-    let maybe = Nullability::Nullable;
-    let bits = buffer_of(alloc, &[1], Alignment::none())?;
-    let flags = BoolArray::try_new(alloc, bits, 0, 1, maybe, None)?;
-    assert!(rt; is_named(alloc, &flags, "bits")?);
-    let values = buffer_of(alloc, &[1], Alignment::none())?;
-    let there = Some(validity_all_invalid(alloc, 1)?);
-    let numbers = PrimitiveArray::try_new(alloc, values, PType::U8, maybe, 1, there)?;
-    assert!(rt; is_named(alloc, &numbers, "values")?);
-    let values = buffer_of(alloc, &[1], Alignment::none())?;
-    let digits = DecimalDType::try_new(1, 0)?;
-    let decimals = DecimalArray::try_new(alloc, values, DecimalType::I8, digits, maybe, 1, None)?;
-    assert!(rt; is_named(alloc, &decimals, "values")?);
-    let nulls = NullArray::new(alloc, 1)?;
-    assert!(rt; nulls.nslots() == 0 && nulls.buffer_name(alloc, 0)?.is_none());
-    Ok(())
+    assert!(rt; is_made(alloc, flags(alloc), "bits"));
+    assert!(rt; is_made(alloc, numbers(alloc), "values"));
+    assert!(rt; is_made(alloc, decimals(alloc), "values"));
+    assert!(rt; is_bare(alloc) == Ok(true));
 }

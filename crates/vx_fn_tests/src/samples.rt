@@ -1,29 +1,54 @@
-//! Functions and expressions that the tests share.
+//! Functions, expressions and checks that the tests share.
 
 use std::alloc::Global;
+use std::fmt::Display;
 use vx_fn_wire::{Arity, Expression, Expressions, FnWireError, ForeignScalarFnVTable, ScalarFn};
 use vx_types::{Blob, Id, Name, Names};
+
+/// Whether a value is printed as this text.
+pub fn prints<T: Display>(alloc: Global, value: &T, text: &str) -> bool {
+    match format!(in alloc; "{value}") {
+        Ok(printed) => printed.as_str() == text,
+        Err(_) => false,
+    }
+}
+
+/// The metadata of the foreign functions of the rows.
+pub fn metadata(alloc: Global) -> Result<Blob, FnWireError> {
+    Ok(Blob::copy_from(alloc, b"\x01\x02\x03\x04")?)
+}
 
 /// The foreign function of the rows, whose calls have one child.
 pub fn foreign(alloc: Global) -> Result<ScalarFn, FnWireError> {
     let id = Id::new(alloc, "vortex.test.foreign_scalar_fn")?;
-    let metadata = Blob::copy_from(alloc, b"\x01\x02\x03\x04")?;
-    ForeignScalarFnVTable::make_scalar_fn(alloc, id, metadata, 1)
+    ForeignScalarFnVTable::make_scalar_fn(alloc, id, metadata(alloc)?, 1)
 }
 
-/// A function of any number of children from one on, the first of them named, with these options.
-pub fn named(alloc: Global, id: &str, options: Option<Blob>) -> Result<ScalarFn, FnWireError> {
-    let mut child_names = Names::new(alloc);
-    child_names.push(Name::new(alloc, "left")?)?;
-    Ok(ScalarFn {
-        id: Id::new(alloc, id)?,
+// The name of a first child.
+fn left(alloc: Global) -> Result<Names, FnWireError> {
+    let mut names = Names::new(alloc);
+    names.push(Name::new(alloc, "left")?)?;
+    Ok(names)
+}
+
+// A function of any number of children from one on, the first of them named.
+fn named_as(id: Id, text: Name, child_names: Names, options: Option<Blob>) -> ScalarFn {
+    ScalarFn {
+        id,
         options,
-        text: Name::new(alloc, "of the rows")?,
+        text,
         arity: Arity::Variadic { min: 1, max: None },
         child_names,
         strict: true,
         infallible: true,
-    })
+    }
+}
+
+/// The function `x.f` of any number of children from one on, the first of them named, with these options.
+pub fn named(alloc: Global, options: Option<Blob>) -> Result<ScalarFn, FnWireError> {
+    let id = Id::new(alloc, "x.f")?;
+    let text = Name::new(alloc, "of the rows")?;
+    Ok(named_as(id, text, left(alloc)?, options))
 }
 
 /// The call of a function on these, where it may have so many.
@@ -34,22 +59,24 @@ pub fn call(function: ScalarFn, children: Expressions) -> Result<Expression, FnW
     Ok(Expression::call(function, children))
 }
 
-/// The call of a function on one child.
-pub fn over(
-    alloc: Global,
-    function: ScalarFn,
-    child: Expression,
-) -> Result<Expression, FnWireError> {
+// A list of one child.
+fn only(alloc: Global, child: Expression) -> Result<Expressions, FnWireError> {
     let mut children = Expressions::new(alloc);
     children.push(child)?;
-    call(function, children)
+    Ok(children)
+}
+
+/// The foreign call of one child.
+pub fn over(alloc: Global, child: Expression) -> Result<Expression, FnWireError> {
+    let children = only(alloc, child)?;
+    call(foreign(alloc)?, children)
 }
 
 /// A chain of foreign calls of so many levels, the root counted.
 pub fn deep(alloc: Global, levels: u32) -> Result<Expression, FnWireError> {
     let mut expression = Expression::Root;
     for _ in 1..levels {
-        expression = over(alloc, foreign(alloc)?, expression)?;
+        expression = over(alloc, expression)?;
     }
     Ok(expression)
 }

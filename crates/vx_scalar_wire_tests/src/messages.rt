@@ -1,7 +1,6 @@
 //! Values and the bytes of their messages.
 
 use std::alloc::Global;
-use std::test::Fail;
 use vx_proto::Message;
 use vx_scalar_wire::{ScalarExt, ScalarValueExt, ScalarWireError, TypeRefusal, canonical_nan_sum};
 use vx_scalars::{DecimalValue, Scalar, ScalarError, ScalarValue, ValueRef, Values, VariantRef};
@@ -36,43 +35,46 @@ fn value(alloc: Global, which: usize) -> Result<Option<ScalarValue>, ScalarError
 }
 
 // Whether a value is written as these bytes.
-fn is_written(
-    alloc: Global,
-    value: &Option<ScalarValue>,
-    bytes: &[u8],
-) -> Result<bool, ScalarWireError> {
-    let written = ScalarValue::to_proto_bytes(alloc, value.as_ref())?;
-    Ok(written.as_slice() == bytes)
-}
-
-// Whether the value of this number is written as these bytes.
-fn is_row(alloc: Global, which: usize, bytes: &[u8]) -> Result<bool, ScalarWireError> {
-    match value(alloc, which) {
-        Ok(value) => is_written(alloc, &value, bytes),
-        Err(_) => Err(ScalarWireError::OutOfMemory),
+fn is_written(alloc: Global, value: &Option<ScalarValue>, bytes: &[u8]) -> bool {
+    match ScalarValue::to_proto_bytes(alloc, value.as_ref()) {
+        Ok(written) => written.as_slice() == bytes,
+        Err(_) => false,
     }
 }
 
+// Whether a value that is made first is written as these bytes.
+fn is_made(alloc: Global, made: Result<Option<ScalarValue>, ScalarError>, bytes: &[u8]) -> bool {
+    match made {
+        Ok(value) => is_written(alloc, &value, bytes),
+        Err(_) => false,
+    }
+}
+
+const VALUES: [(usize, &[u8]); 10] = [
+    (0, &[0x08, 0x00]),
+    (1, &[0x10, 0x01]),
+    (2, &[0x18, 0x54]),
+    (3, &[0x18, 0xff, 0x01]),
+    (4, &[0x20, 0x2a]),
+    (5, &[0x50, 0xb8, 0x6d]),
+    (6, &[0x3a, 0x02, 0x68, 0x69]),
+    (7, &[0x42, 0x04, 0x40, 0xe2, 0x01, 0x00]),
+    (
+        8,
+        &[0x4a, 0x08, 0x0a, 0x02, 0x18, 0x54, 0x0a, 0x02, 0x18, 0x56],
+    ),
+    (9, &[0x5a, 0x06, 0x08, 0x05, 0x12, 0x02, 0x18, 0x54]),
+];
+
 #[test]
-fn values_have_their_bytes(rt: HostRuntime) -> Result<(), Fail> {
+fn values_have_their_bytes(rt: HostRuntime) {
     let alloc = rt.alloc();
-    assert!(rt; is_row(alloc, 0, &[0x08, 0x00])?);
-    assert!(rt; is_row(alloc, 1, &[0x10, 0x01])?);
-    assert!(rt; is_row(alloc, 2, &[0x18, 0x54])?);
-    assert!(rt; is_row(alloc, 3, &[0x18, 0xff, 0x01])?);
-    assert!(rt; is_row(alloc, 4, &[0x20, 0x2a])?);
-    assert!(rt; is_row(alloc, 5, &[0x50, 0xb8, 0x6d])?);
-    assert!(rt; is_row(alloc, 6, &[0x3a, 0x02, 0x68, 0x69])?);
-    assert!(rt; is_row(alloc, 7, &[0x42, 0x04, 0x40, 0xe2, 0x01, 0x00])?);
-    assert!(rt;
-        is_row(
-            alloc,
-            8,
-            &[0x4a, 0x08, 0x0a, 0x02, 0x18, 0x54, 0x0a, 0x02, 0x18, 0x56]
-        )?
-    );
-    assert!(rt; is_row(alloc, 9, &[0x5a, 0x06, 0x08, 0x05, 0x12, 0x02, 0x18, 0x54])?);
-    Ok(())
+    for (which, bytes) in &VALUES {
+        assert!(rt;
+            is_made(alloc, value(alloc, *which), bytes),
+            "value {which}"
+        );
+    }
 }
 
 // A float, bytes or a variant, by number.
@@ -85,25 +87,27 @@ fn other_value(alloc: Global, which: usize) -> Result<Option<ScalarValue>, Scala
     }
 }
 
-// Whether it is written as these bytes.
-fn is_other_row(alloc: Global, which: usize, bytes: &[u8]) -> Result<bool, ScalarWireError> {
-    match other_value(alloc, which) {
-        Ok(value) => is_written(alloc, &value, bytes),
-        Err(_) => Err(ScalarWireError::OutOfMemory),
-    }
-}
+const OTHERS: [(usize, &[u8]); 4] = [
+    (0, &[0x2d, 1, 0, 0, 0]),
+    (1, &[0x31, 2, 0, 0, 0, 0, 0, 0, 0]),
+    (2, &[0x42, 0x01, 0xff]),
+    (
+        3,
+        &[
+            0x62, 0x0a, 0x0a, 0x04, 0x1a, 0x02, 0x08, 0x06, 0x12, 0x02, 0x18, 0x54,
+        ],
+    ),
+];
 
 #[test]
-fn floats_bytes_and_variants_have_their_bytes(rt: HostRuntime) -> Result<(), Fail> {
+fn floats_bytes_and_variants_have_their_bytes(rt: HostRuntime) {
     let alloc = rt.alloc();
-    let variant: &[u8] = &[
-        0x62, 0x0a, 0x0a, 0x04, 0x1a, 0x02, 0x08, 0x06, 0x12, 0x02, 0x18, 0x54,
-    ];
-    assert!(rt; is_other_row(alloc, 0, &[0x2d, 1, 0, 0, 0])?);
-    assert!(rt; is_other_row(alloc, 1, &[0x31, 2, 0, 0, 0, 0, 0, 0, 0])?);
-    assert!(rt; is_other_row(alloc, 2, &[0x42, 0x01, 0xff])?);
-    assert!(rt; is_other_row(alloc, 3, variant)?);
-    Ok(())
+    for (which, bytes) in &OTHERS {
+        assert!(rt;
+            is_made(alloc, other_value(alloc, *which), bytes),
+            "value {which}"
+        );
+    }
 }
 
 // A tuple round another value.
@@ -139,86 +143,116 @@ fn is_too_deep(alloc: Global, value: &Option<ScalarValue>) -> bool {
 
 // Whether so many tuples are refused for their depth.
 fn are_too_deep(alloc: Global, count: usize, inner: Values) -> Result<bool, ScalarError> {
-    match nested(alloc, count, inner) {
-        Ok(value) => Ok(is_too_deep(alloc, &value)),
-        Err(error) => Err(error),
-    }
+    let value = nested(alloc, count, inner)?;
+    Ok(is_too_deep(alloc, &value))
+}
+
+// The same round a null.
+fn are_too_deep_round_null(alloc: Global, count: usize) -> Result<bool, ScalarError> {
+    let inner = one_null(alloc)?;
+    are_too_deep(alloc, count, inner)
 }
 
 #[test]
-fn a_hundred_messages_nest(rt: HostRuntime) -> Result<(), Fail> {
+fn a_hundred_messages_nest(rt: HostRuntime) {
     let alloc = rt.alloc();
-    assert!(rt; !are_too_deep(alloc, 50, Values::new(alloc))?);
-    assert!(rt; are_too_deep(alloc, 50, one_null(alloc)?)?);
-    assert!(rt; are_too_deep(alloc, 51, Values::new(alloc))?);
-    Ok(())
+    assert!(rt; are_too_deep(alloc, 50, Values::new(alloc)) == Ok(false));
+    assert!(rt; are_too_deep_round_null(alloc, 50) == Ok(true));
+    assert!(rt; are_too_deep(alloc, 51, Values::new(alloc)) == Ok(true));
+}
+
+// A variant of a type and a value.
+fn variant(
+    alloc: Global,
+    dtype: DType,
+    value: Option<ScalarValue>,
+) -> Result<Option<ScalarValue>, ScalarError> {
+    let scalar = Scalar::try_new(dtype, value)?;
+    Ok(Some(ScalarValue::Variant(VariantRef::new(alloc, scalar)?)))
 }
 
 // So many variants, each in the next, over the number 42.
 fn variants(alloc: Global, count: usize) -> Result<Option<ScalarValue>, ScalarError> {
-    let mut value = Some(number(42));
-    let mut dtype = DType::Primitive(PType::I32, Nullability::NonNullable);
-    for _ in 0..count {
-        let scalar = Scalar::try_new(dtype, value)?;
-        value = Some(ScalarValue::Variant(VariantRef::new(alloc, scalar)?));
-        dtype = DType::Variant(Nullability::NonNullable);
+    let numbers = DType::Primitive(PType::I32, Nullability::NonNullable);
+    let mut value = variant(alloc, numbers, Some(number(42)))?;
+    for _ in 1..count {
+        value = variant(alloc, DType::Variant(Nullability::NonNullable), value)?;
     }
     Ok(value)
 }
 
-#[test]
-fn a_hundred_messages_nest_in_variants(rt: HostRuntime) -> Result<(), Fail> {
-    let alloc = rt.alloc();
-    assert!(rt; !is_too_deep(alloc, &variants(alloc, 49)?));
-    assert!(rt; is_too_deep(alloc, &variants(alloc, 50)?));
-    Ok(())
+// Whether so many variants are refused for their depth.
+fn are_variants_too_deep(alloc: Global, count: usize) -> Result<bool, ScalarError> {
+    let value = variants(alloc, count)?;
+    Ok(is_too_deep(alloc, &value))
 }
 
-// Whether a scalar of the number 42 is written as these bytes.
-fn is_scalar(alloc: Global, bytes: &[u8]) -> Result<bool, ScalarWireError> {
+#[test]
+fn a_hundred_messages_nest_in_variants(rt: HostRuntime) {
+    assert!(rt; are_variants_too_deep(rt.alloc(), 49) == Ok(false));
+    assert!(rt; are_variants_too_deep(rt.alloc(), 50) == Ok(true));
+}
+
+// A scalar of the number 42.
+fn scalar() -> Result<Scalar, ScalarError> {
     let numbers = DType::Primitive(PType::I32, Nullability::NonNullable);
-    let Ok(scalar) = Scalar::try_new(numbers, Some(number(42))) else {
-        return Ok(false);
-    };
+    Scalar::try_new(numbers, Some(number(42)))
+}
+
+// Whether a scalar is written as these bytes.
+fn is_scalar(alloc: Global, scalar: &Scalar, bytes: &[u8]) -> Result<bool, ScalarWireError> {
     let message = scalar.to_proto(alloc)?;
-    Ok(message.encode_to_vec(alloc)?.as_slice() == bytes)
+    let written = message.encode_to_vec(alloc)?;
+    Ok(written.as_slice() == bytes)
 }
 
 #[test]
-fn a_scalar_has_its_type(rt: HostRuntime) -> Result<(), Fail> {
-    assert!(rt;
-        is_scalar(
-            rt.alloc(),
-            &[0x0a, 0x04, 0x1a, 0x02, 0x08, 0x06, 0x12, 0x02, 0x18, 0x54]
-        )?
-    );
-    Ok(())
+fn a_scalar_has_its_type(rt: HostRuntime) {
+    let bytes: &[u8] = &[0x0a, 0x04, 0x1a, 0x02, 0x08, 0x06, 0x12, 0x02, 0x18, 0x54];
+    match scalar() {
+        Ok(scalar) => assert!(rt; is_scalar(rt.alloc(), &scalar, bytes) == Ok(true)),
+        Err(_) => assert!(rt; false),
+    }
+}
+
+const SUMS: [(PValue, PValue); 6] = [
+    (PValue::F16(0xfc01), PValue::F16(0x7e00)),
+    (PValue::F16(0xfc00), PValue::F16(0xfc00)),
+    (PValue::F32(0x7f80_0001), PValue::F32(0x7fc0_0000)),
+    (
+        PValue::F64(0xffff_ffff_ffff_ffff),
+        PValue::F64(0x7ff8_0000_0000_0000),
+    ),
+    (
+        PValue::F64(0x7ff0_0000_0000_0000),
+        PValue::F64(0x7ff0_0000_0000_0000),
+    ),
+    (PValue::U64(u64::MAX), PValue::U64(u64::MAX)),
+];
+
+// Whether a sum's canonical form is this.
+fn is_canonical(sum: PValue, canonical: PValue) -> bool {
+    canonical_nan_sum(sum) == canonical
 }
 
 #[test]
 fn sums_that_are_no_number_become_one(rt: HostRuntime) {
-    for (sum, canonical) in [
-        (PValue::F16(0xfc01), PValue::F16(0x7e00)),
-        (PValue::F16(0xfc00), PValue::F16(0xfc00)),
-        (PValue::F32(0x7f80_0001), PValue::F32(0x7fc0_0000)),
-        (
-            PValue::F64(0xffff_ffff_ffff_ffff),
-            PValue::F64(0x7ff8_0000_0000_0000),
-        ),
-        (
-            PValue::F64(0x7ff0_0000_0000_0000),
-            PValue::F64(0x7ff0_0000_0000_0000),
-        ),
-        (PValue::U64(u64::MAX), PValue::U64(u64::MAX)),
-    ] {
-        assert!(rt; canonical_nan_sum(sum) == canonical);
+    for (sum, canonical) in &SUMS {
+        assert!(rt; is_canonical(*sum, *canonical), "{sum:?}");
+    }
+}
+
+// Whether a refusal has this text.
+fn is_text(alloc: Global, error: ScalarWireError, text: &str) -> bool {
+    match format!(in alloc; "{error}") {
+        Ok(shown) => shown.as_str() == text,
+        Err(_) => false,
     }
 }
 
 #[test]
-fn refusals_have_texts(rt: HostRuntime) -> Result<(), Fail> {
+fn refusals_have_texts(rt: HostRuntime) {
     let deep = ScalarWireError::BadDType(TypeRefusal::WireLimit);
-    let shown = format!(in rt.alloc(); "{deep}")?;
-    assert!(rt; shown.as_str() == "a type is refused: the type is too deep to be written");
-    Ok(())
+    let text = "a type is refused: the type is too deep to be written";
+    assert!(rt; is_text(rt.alloc(), deep, text));
 }

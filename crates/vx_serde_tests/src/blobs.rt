@@ -1,35 +1,43 @@
 //! Blobs of every kind of number, recoded.
 
 use crate::files::{BLOB, IDS};
-use std::alloc::Global;
-use std::test::Fail;
-use vx_buffer::ByteBuffer;
+use std::alloc::{AllocError, Global};
+use vx_arrays::Array;
+use vx_buffer::{ByteBuffer, ByteBuffers};
 use vx_registry::{ArrayContext, ArraySession, ReadContext, VortexSession};
 use vx_serde::{Recoded, SerializeOptions, WireError, recode};
 use vx_type_wire::ExtSession;
 use vx_types::{DType, Id, Ids, Nullability, PType, TypeError};
 
-// The blob of `len` numbers of `width` bytes, which is two to the exponent: the worked message with another exponent and
-// another length of its buffer, behind other bytes.
-fn blob_of(
-    alloc: Global,
-    exponent: u8,
-    width: u8,
-    len: u8,
-) -> Result<Vec<u8>, std::alloc::AllocError> {
-    let size = len.saturating_mul(width);
+/// The worked blob.
+pub(crate) fn worked_blob() -> &'static [u8] {
+    &BLOB
+}
+
+// The worked message and its length.
+fn worked_end() -> &'static [u8] {
+    &BLOB[16..]
+}
+
+// The same with another exponent and another length of its buffer.
+fn end_of(alloc: Global, exponent: u8, size: u8) -> Result<Vec<u8>, AllocError> {
+    let mut end = Vec::from_slice(alloc, worked_end())?;
+    if let Some(byte) = end.get_mut(142) {
+        *byte = exponent;
+    }
+    if let Some(byte) = end.get_mut(144) {
+        *byte = size;
+    }
+    Ok(end)
+}
+
+// The blob of a buffer of so many bytes, aligned to two to the exponent: that end behind other bytes.
+fn blob_of(alloc: Global, exponent: u8, size: u8) -> Result<Vec<u8>, AllocError> {
     let mut blob = Vec::new(alloc);
     for i in 0..size {
         blob.push(i)?;
     }
-    let mut rest = Vec::from_slice(alloc, &BLOB[16..])?;
-    if let Some(byte) = rest.get_mut(142) {
-        *byte = exponent;
-    }
-    if let Some(byte) = rest.get_mut(144) {
-        *byte = size;
-    }
-    blob.extend_from_slice(&rest)?;
+    blob.extend_from_slice(&end_of(alloc, exponent, size)?)?;
     Ok(blob)
 }
 
@@ -40,7 +48,45 @@ pub(crate) fn worked_ids(alloc: Global) -> Result<ReadContext, TypeError> {
     Ok(ReadContext::new(ids))
 }
 
-// The blob recoded at a type and a length, by the worked identifiers.
+/// The encodings that are shipped, without readers of extensions.
+pub(crate) fn shipped(alloc: Global) -> Result<VortexSession, WireError> {
+    match ArraySession::default(alloc) {
+        Ok(arrays) => Ok(VortexSession::new(arrays, ExtSession::new(alloc))),
+        Err(_) => Err(WireError::OutOfMemory),
+    }
+}
+
+// The blob recoded at a type and a length, by these identifiers and encodings.
+fn recoded_by(
+    alloc: Global,
+    blob: ByteBuffer,
+    dtype: &DType,
+    len: usize,
+    ids: &ReadContext,
+    ctx: &mut ArrayContext,
+    session: &VortexSession,
+) -> Result<Recoded, WireError> {
+    let options = SerializeOptions::default();
+    recode(alloc, blob, dtype, len, ids, ctx, session, &options)
+}
+
+// The same by the worked identifiers.
+fn recoded_under(
+    alloc: Global,
+    blob: &[u8],
+    dtype: &DType,
+    len: usize,
+    ctx: &mut ArrayContext,
+    session: &VortexSession,
+) -> Result<Recoded, WireError> {
+    let blob = ByteBuffer::copy_from(alloc, blob)?;
+    match worked_ids(alloc) {
+        Ok(ids) => recoded_by(alloc, blob, dtype, len, &ids, ctx, session),
+        Err(_) => Err(WireError::OutOfMemory),
+    }
+}
+
+// The blob recoded at a type and a length, by the worked identifiers and the encodings that are shipped.
 pub(crate) fn recoded(
     alloc: Global,
     blob: &[u8],
@@ -48,113 +94,137 @@ pub(crate) fn recoded(
     len: usize,
     ctx: &mut ArrayContext,
 ) -> Result<Recoded, WireError> {
-    let Ok(ids) = worked_ids(alloc) else {
-        return Err(WireError::OutOfMemory);
-    };
-    let Ok(arrays) = ArraySession::default(alloc) else {
-        return Err(WireError::OutOfMemory);
-    };
-    let session = VortexSession::new(arrays, ExtSession::new(alloc));
-    recode(
-        alloc,
-        ByteBuffer::copy_from(alloc, blob)?,
-        dtype,
-        len,
-        &ids,
-        ctx,
-        &session,
-        &SerializeOptions::default(),
-    )
+    let session = shipped(alloc)?;
+    recoded_under(alloc, blob, dtype, len, ctx, &session)
 }
 
-// Whether an array is of this type and length, and its blob is this one.
-fn is_array_of(
-    alloc: Global,
-    recoded: &Recoded,
-    blob: &[u8],
-    dtype: &DType,
-    len: usize,
-) -> Result<bool, Fail> {
-    let bytes = recoded.buffers.join(alloc)?;
-    Ok(*recoded.array.dtype() == *dtype && recoded.array.len() == len && bytes.as_slice() == blob)
+// Whether buffers are these bytes, one after the other.
+fn are_joined(alloc: Global, buffers: &ByteBuffers, bytes: &[u8]) -> bool {
+    match buffers.join(alloc) {
+        Ok(joined) => joined.as_slice() == bytes,
+        Err(_) => false,
+    }
 }
 
-// Whether a blob is read at a type and written as it was.
+// Whether an array is of this kind of numbers and length.
+fn is_array_of(array: &Array, kind: PType, nullability: Nullability, len: usize) -> bool {
+    match array.dtype() {
+        DType::Primitive(k, n) => *k == kind && *n == nullability && array.len() == len,
+        _ => false,
+    }
+}
+
+// Whether a blob is read as numbers of a kind and written as it was.
 fn is_written_again(
-    alloc: Global,
-    blob: &[u8],
-    dtype: &DType,
-    len: usize,
-    ctx: &mut ArrayContext,
-) -> Result<bool, Fail> {
-    let recoded = recoded(alloc, blob, dtype, len, ctx)?;
-    is_array_of(alloc, &recoded, blob, dtype, len)
-}
-
-// The same at a type of numbers.
-fn numbers_are_written_again(
     alloc: Global,
     blob: &[u8],
     kind: PType,
     nullability: Nullability,
     len: usize,
     ctx: &mut ArrayContext,
-) -> Result<bool, Fail> {
+) -> Result<bool, WireError> {
     let dtype = DType::Primitive(kind, nullability);
-    is_written_again(alloc, blob, &dtype, len, ctx)
+    let recoded = recoded(alloc, blob, &dtype, len, ctx)?;
+    Ok(
+        is_array_of(&recoded.array, kind, nullability, len)
+            && are_joined(alloc, &recoded.buffers, blob),
+    )
 }
 
-#[test]
-fn each_kind_of_number_is_written_again(rt: HostRuntime) -> Result<(), Fail> {
-    let alloc = rt.alloc();
-    for (kind, exponent, width) in [
-        (PType::U8, 0, 1),
-        (PType::I8, 0, 1),
-        (PType::U16, 1, 2),
-        (PType::I16, 1, 2),
-        (PType::F16, 1, 2),
-        (PType::U32, 2, 4),
-        (PType::I32, 2, 4),
-        (PType::F32, 2, 4),
-        (PType::U64, 3, 8),
-        (PType::I64, 3, 8),
-        (PType::F64, 3, 8),
-    ] {
-        for len in [0, 1, 5] {
-            for nullability in [Nullability::NonNullable, Nullability::Nullable] {
-                let blob = blob_of(alloc, exponent, width, len)?;
-                let mut ctx = ArrayContext::empty(alloc);
-                let len = usize::from(len);
-                assert!(rt;
-                    numbers_are_written_again(alloc, &blob, kind, nullability, len, &mut ctx)?
-                );
-                assert_eq!(rt; ctx.to_ids(alloc)?.len(), 1);
-            }
-        }
+/// How many identifiers came into a context.
+pub(crate) fn count_of(alloc: Global, ctx: &ArrayContext) -> Option<usize> {
+    match ctx.to_ids(alloc) {
+        Ok(ids) => Some(ids.len()),
+        Err(_) => None,
     }
-    Ok(())
+}
+
+// The same from an empty context, which one identifier comes into.
+fn comes_again(
+    alloc: Global,
+    blob: &[u8],
+    kind: PType,
+    nullability: Nullability,
+    len: usize,
+) -> bool {
+    let mut ctx = ArrayContext::empty(alloc);
+    is_written_again(alloc, blob, kind, nullability, len, &mut ctx) == Ok(true)
+        && count_of(alloc, &ctx) == Some(1)
+}
+
+// The same of so many numbers of a width of two to the exponent, never null and nullable.
+fn come_again(
+    alloc: Global,
+    kind: PType,
+    exponent: u8,
+    width: u8,
+    len: u8,
+) -> Result<bool, AllocError> {
+    let blob = blob_of(alloc, exponent, len.saturating_mul(width))?;
+    let len = usize::from(len);
+    Ok(
+        comes_again(alloc, &blob, kind, Nullability::NonNullable, len)
+            && comes_again(alloc, &blob, kind, Nullability::Nullable, len),
+    )
+}
+
+const KINDS: [(PType, u8, u8); 11] = [
+    (PType::U8, 0, 1),
+    (PType::I8, 0, 1),
+    (PType::U16, 1, 2),
+    (PType::I16, 1, 2),
+    (PType::F16, 1, 2),
+    (PType::U32, 2, 4),
+    (PType::I32, 2, 4),
+    (PType::F32, 2, 4),
+    (PType::U64, 3, 8),
+    (PType::I64, 3, 8),
+    (PType::F64, 3, 8),
+];
+
+#[test]
+fn each_kind_of_number_is_written_again(rt: HostRuntime) {
+    let alloc = rt.alloc();
+    for (kind, exponent, width) in &KINDS {
+        assert!(rt;
+            come_again(alloc, *kind, *exponent, *width, 0) == Ok(true),
+            "{kind:?}"
+        );
+        assert!(rt;
+            come_again(alloc, *kind, *exponent, *width, 1) == Ok(true),
+            "{kind:?}"
+        );
+        assert!(rt;
+            come_again(alloc, *kind, *exponent, *width, 5) == Ok(true),
+            "{kind:?}"
+        );
+    }
+}
+
+/// Why a blob is not recoded from a context, if it is.
+pub(crate) fn refusal(
+    alloc: Global,
+    blob: &[u8],
+    dtype: &DType,
+    len: usize,
+    ctx: &mut ArrayContext,
+) -> Option<WireError> {
+    recoded(alloc, blob, dtype, len, ctx).err()
 }
 
 // Whether the blob of 1, 2, 3, 4 is refused at a type for its shape, with nothing added to the context.
 fn is_no_type_of_integers(alloc: Global, dtype: DType) -> bool {
     let mut ctx = ArrayContext::empty(alloc);
-    let refused = match recoded(alloc, &BLOB, &dtype, 4, &mut ctx) {
-        Ok(_) => false,
-        Err(error) => error == WireError::BadShape,
-    };
-    match ctx.to_ids(alloc) {
-        Ok(ids) => refused && ids.is_empty(),
-        Err(_) => false,
-    }
+    refusal(alloc, worked_blob(), &dtype, 4, &mut ctx) == Some(WireError::BadShape)
+        && count_of(alloc, &ctx) == Some(0)
 }
 
 #[test]
-fn other_types_are_refused(rt: HostRuntime) -> Result<(), Fail> {
+fn other_types_are_refused(rt: HostRuntime) {
     let alloc = rt.alloc();
     let plain = Nullability::NonNullable;
     assert!(rt; is_no_type_of_integers(alloc, DType::Null));
     assert!(rt; is_no_type_of_integers(alloc, DType::Bool(plain)));
     assert!(rt; is_no_type_of_integers(alloc, DType::Utf8(plain)));
     assert!(rt; is_no_type_of_integers(alloc, DType::Primitive(PType::I64, plain)));
-    Ok(())
 }

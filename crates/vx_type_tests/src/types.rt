@@ -1,7 +1,6 @@
 //! Types of each kind, and the refusals of their parts.
 
 use std::alloc::Global;
-use std::test::Fail;
 use vx_types::{
     Blob, DType, DTypes, DecimalDType, DecimalType, ExtDType, Id, MapDType, Name, Names,
     Nullability, PType, StructFields, TypeError, TypeIds, TypeRef, UnionVariants,
@@ -75,11 +74,16 @@ fn is_sample(
     Ok(*dtype == wanted)
 }
 
-// Whether a copy of the type of this number is the same type.
+// Whether a copy of a type is the same type.
+fn is_copy(alloc: Global, dtype: &DType) -> Result<bool, TypeError> {
+    let copy = dtype.clone(alloc)?;
+    Ok(copy == *dtype)
+}
+
+// The same of the type of this number.
 fn is_copied(alloc: Global, which: usize) -> Result<bool, TypeError> {
     let plain = sample(alloc, which, Nullability::NonNullable)?;
-    let copy = plain.clone(alloc)?;
-    Ok(copy == plain)
+    is_copy(alloc, &plain)
 }
 
 // The type of this number made nullable.
@@ -101,23 +105,36 @@ fn nullability(alloc: Global, which: usize, n: Nullability) -> Result<Nullabilit
 }
 
 #[test]
-fn each_kind_is_copied_and_made_nullable(rt: HostRuntime) -> Result<(), Fail> {
-    let alloc = rt.alloc();
+fn each_kind_is_copied(rt: HostRuntime) {
     for which in 0..12 {
-        assert!(rt; is_copied(alloc, which)?, "at {which}");
-        assert!(rt;
-            is_made_nullable(alloc, which, Nullability::Nullable)?,
-            "at {which}"
-        );
-        assert!(rt;
-            !is_made_nullable(alloc, which, Nullability::NonNullable)?,
-            "at {which}"
-        );
-        for n in [Nullability::NonNullable, Nullability::Nullable] {
-            assert!(rt; nullability(alloc, which, n)? == n, "at {which}");
-        }
+        assert!(rt; is_copied(rt.alloc(), which) == Ok(true), "at {which}");
     }
-    Ok(())
+}
+
+#[test]
+fn each_kind_is_made_nullable(rt: HostRuntime) {
+    let alloc = rt.alloc();
+    let (never, maybe) = (Nullability::NonNullable, Nullability::Nullable);
+    for which in 0..12 {
+        assert!(rt;
+            is_made_nullable(alloc, which, maybe) == Ok(true),
+            "at {which}"
+        );
+        assert!(rt;
+            is_made_nullable(alloc, which, never) == Ok(false),
+            "at {which}"
+        );
+    }
+}
+
+#[test]
+fn each_kind_has_its_nullability(rt: HostRuntime) {
+    let alloc = rt.alloc();
+    let (never, maybe) = (Nullability::NonNullable, Nullability::Nullable);
+    for which in 0..12 {
+        assert!(rt; nullability(alloc, which, never) == Ok(never), "at {which}");
+        assert!(rt; nullability(alloc, which, maybe) == Ok(maybe), "at {which}");
+    }
 }
 
 // Whether a width of decimals has this code and so many bytes, and is found by its code.
@@ -128,17 +145,19 @@ fn is_numbered(kind: DecimalType, code: u8, width: usize) -> bool {
         && DecimalType::from_code(code) == Some(kind)
 }
 
+const WIDTHS: [(DecimalType, u8, usize); 6] = [
+    (DecimalType::I8, 0, 1),
+    (DecimalType::I16, 1, 2),
+    (DecimalType::I32, 2, 4),
+    (DecimalType::I64, 3, 8),
+    (DecimalType::I128, 4, 16),
+    (DecimalType::I256, 5, 32),
+];
+
 #[test]
 fn widths_of_decimals_have_codes(rt: HostRuntime) {
-    for (kind, code, width) in [
-        (DecimalType::I8, 0, 1),
-        (DecimalType::I16, 1, 2),
-        (DecimalType::I32, 2, 4),
-        (DecimalType::I64, 3, 8),
-        (DecimalType::I128, 4, 16),
-        (DecimalType::I256, 5, 32),
-    ] {
-        assert!(rt; is_numbered(kind, code, width), "code {code}");
+    for (kind, code, width) in &WIDTHS {
+        assert!(rt; is_numbered(*kind, *code, *width), "code {code}");
     }
     assert!(rt; DecimalType::from_code(6).is_none());
 }
@@ -151,14 +170,12 @@ fn decimal(precision: u8) -> Result<bool, TypeError> {
 
 #[test]
 fn decimals_have_1_to_76_digits(rt: HostRuntime) {
-    for (precision, is_fine) in [(0, false), (1, true), (76, true), (77, false), (255, false)] {
-        let wanted = if is_fine {
-            Ok(true)
-        } else {
-            Err(TypeError::BadDecimal)
-        };
-        assert!(rt; decimal(precision) == wanted, "at {precision}");
-    }
+    let refused = Err(TypeError::BadDecimal);
+    assert!(rt; decimal(0) == refused);
+    assert!(rt; decimal(1) == Ok(true));
+    assert!(rt; decimal(76) == Ok(true));
+    assert!(rt; decimal(77) == refused);
+    assert!(rt; decimal(255) == refused);
 }
 
 // Why two names, this many types and these tags are no union.
@@ -182,14 +199,14 @@ fn structure_refusal(alloc: Global, count: usize) -> Result<TypeError, TypeError
 }
 
 #[test]
-fn parts_that_do_not_fit_are_refused(rt: HostRuntime) -> Result<(), Fail> {
+fn parts_that_do_not_fit_are_refused(rt: HostRuntime) {
     let alloc = rt.alloc();
-    assert_eq!(rt; union_refusal(alloc, 2, &[5, 5])?, TypeError::DuplicateTag);
-    assert_eq!(rt; union_refusal(alloc, 2, &[5])?, TypeError::FieldCount);
-    assert_eq!(rt; union_refusal(alloc, 1, &[5, 6])?, TypeError::FieldCount);
-    assert_eq!(rt; structure_refusal(alloc, 1)?, TypeError::FieldCount);
-    assert_eq!(rt; structure_refusal(alloc, 3)?, TypeError::FieldCount);
-    Ok(())
+    let count = Ok(TypeError::FieldCount);
+    assert!(rt; union_refusal(alloc, 2, &[5, 5]) == Ok(TypeError::DuplicateTag));
+    assert!(rt; union_refusal(alloc, 2, &[5]) == count);
+    assert!(rt; union_refusal(alloc, 1, &[5, 6]) == count);
+    assert!(rt; structure_refusal(alloc, 1) == count);
+    assert!(rt; structure_refusal(alloc, 3) == count);
 }
 
 // The member of the sample union that has this tag.
@@ -198,12 +215,11 @@ fn member(alloc: Global, tag: u8) -> Result<Option<usize>, TypeError> {
 }
 
 #[test]
-fn tags_name_members(rt: HostRuntime) -> Result<(), Fail> {
+fn tags_name_members(rt: HostRuntime) {
     let alloc = rt.alloc();
-    assert!(rt; member(alloc, 7)? == Some(0));
-    assert!(rt; member(alloc, 255)? == Some(1));
-    assert!(rt; member(alloc, 5)?.is_none());
-    Ok(())
+    assert!(rt; member(alloc, 7) == Ok(Some(0)));
+    assert!(rt; member(alloc, 255) == Ok(Some(1)));
+    assert!(rt; member(alloc, 5) == Ok(None));
 }
 
 // The structure of an entry's fields by these two names.
@@ -223,34 +239,48 @@ fn entry_types(alloc: Global) -> Result<DTypes, TypeError> {
     Ok(types)
 }
 
-// Whether the type of a map's entries is the structure of these two names.
-fn are_entries(alloc: Global, key: &str, value: &str) -> Result<bool, TypeError> {
-    let entries = map(alloc)?.entries_dtype(alloc)?;
+// The type of a map's entries.
+fn entries(alloc: Global) -> Result<DType, TypeError> {
+    let map = map(alloc)?;
+    map.entries_dtype(alloc)
+}
+
+// Whether a type is the structure of these two names.
+fn is_entry(alloc: Global, dtype: &DType, key: &str, value: &str) -> Result<bool, TypeError> {
     let wanted = entry(alloc, key, value)?;
-    Ok(entries == wanted)
+    Ok(*dtype == wanted)
+}
+
+// Whether the type of a map's entries is.
+fn are_entries(alloc: Global, key: &str, value: &str) -> Result<bool, TypeError> {
+    let entries = entries(alloc)?;
+    is_entry(alloc, &entries, key, value)
 }
 
 #[test]
-fn entries_have_a_key_and_a_value(rt: HostRuntime) -> Result<(), Fail> {
+fn entries_have_a_key_and_a_value(rt: HostRuntime) {
     let alloc = rt.alloc();
-    assert!(rt; are_entries(alloc, "key", "value")?);
-    assert!(rt; !are_entries(alloc, "value", "key")?);
-    Ok(())
+    assert!(rt; are_entries(alloc, "key", "value") == Ok(true));
+    assert!(rt; are_entries(alloc, "value", "key") == Ok(false));
+}
+
+// Whether a type is the extension of one byte of metadata.
+fn is_extension(alloc: Global, dtype: &DType, metadata: u8) -> Result<bool, TypeError> {
+    let wanted = extension(alloc, metadata, Nullability::Nullable)?;
+    Ok(*dtype == wanted)
 }
 
 // Whether extensions of one byte of metadata each are equal.
 fn are_equal(alloc: Global, a: u8, b: u8) -> Result<bool, TypeError> {
     let one = extension(alloc, a, Nullability::Nullable)?;
-    let other = extension(alloc, b, Nullability::Nullable)?;
-    Ok(one == other)
+    is_extension(alloc, &one, b)
 }
 
 #[test]
-fn metadata_tell_extensions_apart(rt: HostRuntime) -> Result<(), Fail> {
+fn metadata_tell_extensions_apart(rt: HostRuntime) {
     let alloc = rt.alloc();
-    assert!(rt; are_equal(alloc, 1, 1)?);
-    assert!(rt; !are_equal(alloc, 1, 2)?);
-    Ok(())
+    assert!(rt; are_equal(alloc, 1, 1) == Ok(true));
+    assert!(rt; are_equal(alloc, 1, 2) == Ok(false));
 }
 
 // Whether a list of structures has at most this many levels.
@@ -261,16 +291,11 @@ fn is_within(alloc: Global, limit: u32) -> Result<bool, TypeError> {
 }
 
 #[test]
-fn levels_are_counted_to_a_limit(rt: HostRuntime) -> Result<(), Fail> {
+fn levels_are_counted_to_a_limit(rt: HostRuntime) {
     let alloc = rt.alloc();
-    for (limit, wanted) in [
-        (0, false),
-        (1, false),
-        (2, false),
-        (3, true),
-        (u32::MAX, true),
-    ] {
-        assert!(rt; is_within(alloc, limit)? == wanted, "at {limit}");
-    }
-    Ok(())
+    assert!(rt; is_within(alloc, 0) == Ok(false));
+    assert!(rt; is_within(alloc, 1) == Ok(false));
+    assert!(rt; is_within(alloc, 2) == Ok(false));
+    assert!(rt; is_within(alloc, 3) == Ok(true));
+    assert!(rt; is_within(alloc, u32::MAX) == Ok(true));
 }

@@ -2,7 +2,6 @@
 
 use std::alloc::Global;
 use std::collections::HashMap;
-use std::test::Fail;
 use vx_types::{Blob, DType, Id, Ids, Name, Nullability, PType, PValue, TypeError};
 
 // Whether a kind of numbers has this code and width, is an integer or not, and is found by its code.
@@ -13,34 +12,40 @@ fn is_numbered(kind: PType, code: u8, width: usize, is_int: bool) -> bool {
         && PType::from_code(code) == Some(kind)
 }
 
+const KINDS: [(PType, u8, usize, bool); 11] = [
+    (PType::U8, 0, 1, true),
+    (PType::U16, 1, 2, true),
+    (PType::U32, 2, 4, true),
+    (PType::U64, 3, 8, true),
+    (PType::I8, 4, 1, true),
+    (PType::I16, 5, 2, true),
+    (PType::I32, 6, 4, true),
+    (PType::I64, 7, 8, true),
+    (PType::F16, 8, 2, false),
+    (PType::F32, 9, 4, false),
+    (PType::F64, 10, 8, false),
+];
+
 #[test]
 fn numbers_have_widths_and_codes(rt: HostRuntime) {
-    for (kind, code, width, is_int) in [
-        (PType::U8, 0, 1, true),
-        (PType::U16, 1, 2, true),
-        (PType::U32, 2, 4, true),
-        (PType::U64, 3, 8, true),
-        (PType::I8, 4, 1, true),
-        (PType::I16, 5, 2, true),
-        (PType::I32, 6, 4, true),
-        (PType::I64, 7, 8, true),
-        (PType::F16, 8, 2, false),
-        (PType::F32, 9, 4, false),
-        (PType::F64, 10, 8, false),
-    ] {
-        assert!(rt; is_numbered(kind, code, width, is_int), "code {code}");
+    for (kind, code, width, is_int) in &KINDS {
+        assert!(rt; is_numbered(*kind, *code, *width, *is_int), "code {code}");
     }
     assert!(rt; PType::from_code(11).is_none());
     assert!(rt; PType::from_code(255).is_none());
-    assert_eq!(rt; PValue::F16(0x8000).ptype(), PType::F16);
+    assert!(rt; PValue::F16(0x8000).ptype() == PType::F16);
+}
+
+// The nullability of the type of nulls where it is to be never null.
+fn nulls_nullability(alloc: Global) -> Result<Nullability, TypeError> {
+    let null = DType::Null.with_nullability(alloc, Nullability::NonNullable)?;
+    null.hold();
+    Ok(null.nullability())
 }
 
 #[test]
-fn the_type_of_nulls_stays_nullable(rt: HostRuntime) -> Result<(), Fail> {
-    let null = DType::Null.with_nullability(rt.alloc(), Nullability::NonNullable)?;
-    assert_eq!(rt; null.nullability(), Nullability::Nullable);
-    null.hold();
-    Ok(())
+fn the_type_of_nulls_stays_nullable(rt: HostRuntime) {
+    assert!(rt; nulls_nullability(rt.alloc()) == Ok(Nullability::Nullable));
 }
 
 // Whether a copy of a name has its text.
@@ -57,14 +62,19 @@ fn bytes_are_copied(alloc: Global, bytes: &[u8]) -> Result<bool, TypeError> {
     Ok(copy == blob && copy.as_slice() == bytes && copy.len() == bytes.len())
 }
 
+// Whether bytes that are handed over are the same again.
+fn are_handed_over(alloc: Global) -> Result<bool, TypeError> {
+    let bytes = Blob::copy_from(alloc, &[7])?.into_vec();
+    let blob = Blob::new(bytes);
+    Ok(!blob.is_empty() && blob.as_slice() == [7].as_slice())
+}
+
 #[test]
-fn texts_and_bytes_are_kept(rt: HostRuntime) -> Result<(), Fail> {
+fn texts_and_bytes_are_kept(rt: HostRuntime) {
     let alloc = rt.alloc();
-    assert!(rt; name_is_copied(alloc, "naïve")?);
-    assert!(rt; bytes_are_copied(alloc, &[1, 0, 255])?);
-    let blob = Blob::new(Blob::copy_from(alloc, &[7])?.into_vec());
-    assert!(rt; !blob.is_empty());
-    Ok(())
+    assert!(rt; name_is_copied(alloc, "naïve") == Ok(true));
+    assert!(rt; bytes_are_copied(alloc, &[1, 0, 255]) == Ok(true));
+    assert!(rt; are_handed_over(alloc) == Ok(true));
 }
 
 // Two identifiers in their order.
@@ -75,18 +85,25 @@ fn two_ids(alloc: Global) -> Result<Ids, TypeError> {
     Ok(ids)
 }
 
-#[test]
-fn identifiers_stand_in_order(rt: HostRuntime) -> Result<(), Fail> {
-    let alloc = rt.alloc();
-    assert!(rt; Ids::new(alloc).is_empty());
+// Whether an identifier stands at a place, or none.
+fn is_at(ids: &Ids, place: usize, text: Option<&str>) -> bool {
+    match (ids.get(place), text) {
+        (Some(id), Some(text)) => id.as_str() == text,
+        (None, None) => true,
+        _ => false,
+    }
+}
+
+// Whether the two identifiers stand in their order.
+fn are_in_order(alloc: Global) -> Result<bool, TypeError> {
     let ids = two_ids(alloc)?;
-    assert_eq!(rt; ids.len(), 2);
-    assert!(rt;
-        ids.get(1)
-            .is_some_and(|id| id.as_str() == "vortex.primitive")
-    );
-    assert!(rt; ids.get(2).is_none());
-    Ok(())
+    Ok(ids.len() == 2 && is_at(&ids, 1, Some("vortex.primitive")) && is_at(&ids, 2, None))
+}
+
+#[test]
+fn identifiers_stand_in_order(rt: HostRuntime) {
+    assert!(rt; Ids::new(rt.alloc()).is_empty());
+    assert!(rt; are_in_order(rt.alloc()) == Ok(true));
 }
 
 // Each identifier's place, by the identifier.
@@ -98,16 +115,21 @@ fn places(alloc: Global, ids: &Ids) -> Result<HashMap<Id, usize>, TypeError> {
     Ok(places)
 }
 
-// The place of an identifier among these two.
+// The places of these two.
+fn two_places(alloc: Global) -> Result<HashMap<Id, usize>, TypeError> {
+    let ids = two_ids(alloc)?;
+    places(alloc, &ids)
+}
+
+// The place of an identifier among them.
 fn place(alloc: Global, text: &str) -> Result<Option<usize>, TypeError> {
-    let places = places(alloc, &two_ids(alloc)?)?;
-    Ok(places.get(&Id::new(alloc, text)?).copied())
+    let id = Id::new(alloc, text)?;
+    Ok(two_places(alloc)?.get(&id).copied())
 }
 
 #[test]
-fn identifiers_are_keys(rt: HostRuntime) -> Result<(), Fail> {
+fn identifiers_are_keys(rt: HostRuntime) {
     let alloc = rt.alloc();
-    assert!(rt; place(alloc, "vortex.primitive")? == Some(1));
-    assert!(rt; place(alloc, "vortex.bool")?.is_none());
-    Ok(())
+    assert!(rt; place(alloc, "vortex.primitive") == Ok(Some(1)));
+    assert!(rt; place(alloc, "vortex.bool") == Ok(None));
 }

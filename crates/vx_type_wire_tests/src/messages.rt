@@ -1,8 +1,7 @@
 //! Tagged messages of each kind of type, and the refusals.
 
-use crate::tables::reader_of;
+use crate::tables::readers_of;
 use std::alloc::Global;
-use std::test::Fail;
 use vx_proto::{Message, ProtoError};
 use vx_type_wire::{DTypeExt, ExtSession, TypeWireError, pb};
 use vx_types::{
@@ -14,26 +13,37 @@ const PLAIN: Nullability = Nullability::NonNullable;
 
 const NULLABLE: Nullability = Nullability::Nullable;
 
-const I32: DType = DType::Primitive(PType::I32, PLAIN);
+fn i32s() -> DType {
+    DType::Primitive(PType::I32, PLAIN)
+}
 
-// Whether the type is written as these bytes, and they are read as it, where extensions are allowed.
-fn is_same(alloc: Global, dtype: &DType, bytes: &[u8]) -> bool {
+// Whether the type is written as these bytes.
+fn is_written(alloc: Global, dtype: &DType, bytes: &[u8]) -> bool {
+    match dtype.to_proto_bytes(alloc) {
+        Ok(written) => written.as_slice() == bytes,
+        Err(_) => false,
+    }
+}
+
+// What bytes are read as, where extensions are allowed.
+fn read(alloc: Global, bytes: &[u8]) -> Result<DType, TypeWireError> {
     let mut readers = ExtSession::new(alloc);
     readers.allow_unknown();
-    match dtype.to_proto_bytes(alloc) {
-        Ok(written) if written.as_slice() == bytes => {}
-        _ => return false,
-    }
-    match DType::from_proto_bytes(alloc, bytes, &readers) {
+    DType::from_proto_bytes(alloc, bytes, &readers)
+}
+
+// Whether these bytes are then read as the type.
+fn is_read(alloc: Global, dtype: &DType, bytes: &[u8]) -> bool {
+    match read(alloc, bytes) {
         Ok(read) => read == *dtype,
         Err(_) => false,
     }
 }
 
-// The same of a type that is made first.
+// Whether a type that is made first is written as these bytes, and they are read as it.
 fn is_worked(alloc: Global, dtype: Result<DType, TypeError>, bytes: &[u8]) -> bool {
     match dtype {
-        Ok(dtype) => is_same(alloc, &dtype, bytes),
+        Ok(dtype) => is_written(alloc, &dtype, bytes) && is_read(alloc, &dtype, bytes),
         Err(_) => false,
     }
 }
@@ -52,11 +62,16 @@ fn kinds_of_numbers(rt: HostRuntime) {
     let alloc = rt.alloc();
     let u8s = Ok(DType::Primitive(PType::U8, PLAIN));
     assert!(rt; is_worked(alloc, u8s, b"\x1a\x00"));
-    assert!(rt; is_worked(alloc, Ok(I32), b"\x1a\x02\x08\x06"));
-    let i32s = Ok(DType::Primitive(PType::I32, NULLABLE));
-    assert!(rt; is_worked(alloc, i32s, b"\x1a\x04\x08\x06\x10\x01"));
+    assert!(rt; is_worked(alloc, Ok(i32s()), b"\x1a\x02\x08\x06"));
+    let maybe = Ok(DType::Primitive(PType::I32, NULLABLE));
+    assert!(rt; is_worked(alloc, maybe, b"\x1a\x04\x08\x06\x10\x01"));
     let f64s = Ok(DType::Primitive(PType::F64, NULLABLE));
     assert!(rt; is_worked(alloc, f64s, b"\x1a\x04\x08\x0a\x10\x01"));
+}
+
+#[test]
+fn decimals(rt: HostRuntime) {
+    let alloc = rt.alloc();
     let bytes = b"\x22\x0d\x08\x05\x10\xfe\xff\xff\xff\xff\xff\xff\xff\xff\x01";
     assert!(rt; is_worked(alloc, decimal(PLAIN), bytes));
     let bytes = b"\x22\x0f\x08\x05\x10\xfe\xff\xff\xff\xff\xff\xff\xff\xff\x01\x18\x01";
@@ -71,6 +86,11 @@ fn kinds_with_a_flag_alone(rt: HostRuntime) {
     assert!(rt; is_worked(alloc, Ok(DType::Bool(NULLABLE)), b"\x12\x02\x08\x01"));
     assert!(rt; is_worked(alloc, Ok(DType::Utf8(PLAIN)), b"\x2a\x00"));
     assert!(rt; is_worked(alloc, Ok(DType::Utf8(NULLABLE)), b"\x2a\x02\x08\x01"));
+}
+
+#[test]
+fn further_kinds_with_a_flag_alone(rt: HostRuntime) {
+    let alloc = rt.alloc();
     assert!(rt; is_worked(alloc, Ok(DType::Binary(PLAIN)), b"\x32\x00"));
     assert!(rt; is_worked(alloc, Ok(DType::Binary(NULLABLE)), b"\x32\x02\x08\x01"));
     assert!(rt; is_worked(alloc, Ok(DType::Variant(PLAIN)), b"\x5a\x00"));
@@ -82,18 +102,22 @@ fn list(alloc: Global, element: DType, n: Nullability) -> Result<DType, TypeErro
 }
 
 fn fixed_size_list(alloc: Global, n: Nullability) -> Result<DType, TypeError> {
-    Ok(DType::FixedSizeList(TypeRef::new(alloc, I32)?, 300, n))
+    Ok(DType::FixedSizeList(TypeRef::new(alloc, i32s())?, 300, n))
 }
 
 fn map(alloc: Global, n: Nullability) -> Result<DType, TypeError> {
-    let map = MapDType::new(alloc, DType::Utf8(PLAIN), I32, true)?;
+    let map = MapDType::new(alloc, DType::Utf8(PLAIN), i32s(), true)?;
     Ok(DType::Map(map, n))
+}
+
+fn extension_of(alloc: Global, id: Id, metadata: &[u8]) -> Result<ExtDType, TypeError> {
+    let metadata = Blob::copy_from(alloc, metadata)?;
+    ExtDType::new(alloc, id, metadata, DType::Null)
 }
 
 fn extension(alloc: Global, id: &str, metadata: &[u8]) -> Result<DType, TypeError> {
     let id = Id::new(alloc, id)?;
-    let metadata = Blob::copy_from(alloc, metadata)?;
-    Ok(DType::Extension(ExtDType::new(alloc, id, metadata, DType::Null)?))
+    Ok(DType::Extension(extension_of(alloc, id, metadata)?))
 }
 
 // The first of the names `a`, `b` and `c`.
@@ -105,36 +129,58 @@ fn names(alloc: Global, texts: &[&str]) -> Result<Names, TypeError> {
     Ok(names)
 }
 
-fn structure(alloc: Global, n: Nullability) -> Result<DType, TypeError> {
+// I32 and this type.
+fn two_types(alloc: Global, second: DType) -> Result<DTypes, TypeError> {
     let mut types = DTypes::new(alloc);
-    types.push(I32)?;
+    types.push(i32s())?;
+    types.push(second)?;
+    Ok(types)
+}
+
+fn fields(alloc: Global) -> Result<StructFields, TypeError> {
+    let names = names(alloc, &["a", "b"])?;
+    StructFields::try_new(names, two_types(alloc, DType::Bool(PLAIN))?)
+}
+
+fn structure(alloc: Global, n: Nullability) -> Result<DType, TypeError> {
+    Ok(DType::Struct(fields(alloc)?, n))
+}
+
+// I32, texts and truths.
+fn three_types(alloc: Global) -> Result<DTypes, TypeError> {
+    let mut types = two_types(alloc, DType::Utf8(PLAIN))?;
     types.push(DType::Bool(PLAIN))?;
-    let fields = StructFields::try_new(names(alloc, &["a", "b"])?, types)?;
-    Ok(DType::Struct(fields, n))
+    Ok(types)
+}
+
+// The tags 0, 5 and 255 over three types.
+fn variants_of(alloc: Global, names: Names) -> Result<UnionVariants, TypeError> {
+    let types = three_types(alloc)?;
+    UnionVariants::try_new(names, types, TypeIds::copy_from(alloc, &[0, 5, 255])?)
 }
 
 fn union(alloc: Global, n: Nullability) -> Result<DType, TypeError> {
-    let mut types = DTypes::new(alloc);
-    types.push(I32)?;
-    types.push(DType::Utf8(PLAIN))?;
-    types.push(DType::Bool(PLAIN))?;
-    let ids = TypeIds::copy_from(alloc, &[0, 5, 255])?;
-    let variants = UnionVariants::try_new(names(alloc, &["a", "b", "c"])?, types, ids)?;
-    Ok(DType::Union(variants, n))
+    let names = names(alloc, &["a", "b", "c"])?;
+    Ok(DType::Union(variants_of(alloc, names)?, n))
 }
 
 #[test]
-fn kinds_that_hold_types(rt: HostRuntime) {
+fn lists(rt: HostRuntime) {
     let alloc = rt.alloc();
     let short = DType::Primitive(PType::U16, PLAIN);
     let bytes = b"\x42\x08\x0a\x04\x1a\x02\x08\x01\x10\x01";
     assert!(rt; is_worked(alloc, list(alloc, short, NULLABLE), bytes));
     let bytes = b"\x42\x06\x0a\x04\x1a\x02\x08\x06";
-    assert!(rt; is_worked(alloc, list(alloc, I32, PLAIN), bytes));
+    assert!(rt; is_worked(alloc, list(alloc, i32s(), PLAIN), bytes));
     let bytes = b"\x52\x09\x0a\x04\x1a\x02\x08\x06\x10\xac\x02";
     assert!(rt; is_worked(alloc, fixed_size_list(alloc, PLAIN), bytes));
     let bytes = b"\x52\x0b\x0a\x04\x1a\x02\x08\x06\x10\xac\x02\x18\x01";
     assert!(rt; is_worked(alloc, fixed_size_list(alloc, NULLABLE), bytes));
+}
+
+#[test]
+fn maps_and_extensions(rt: HostRuntime) {
+    let alloc = rt.alloc();
     let bytes = b"\x6a\x0c\x0a\x02\x2a\x00\x12\x04\x1a\x02\x08\x06\x18\x01";
     assert!(rt; is_worked(alloc, map(alloc, PLAIN), bytes));
     let bytes = b"\x6a\x0e\x0a\x02\x2a\x00\x12\x04\x1a\x02\x08\x06\x18\x01\x20\x01";
@@ -160,50 +206,79 @@ fn kinds_with_names(rt: HostRuntime) {
     assert!(rt; is_worked(alloc, union(alloc, NULLABLE), bytes));
 }
 
+// Bytes that are a message and no type.
+const NO_TYPES: [&[u8]; 11] = [
+    // No member, and no element.
+    b"",
+    b"\x42\x00",
+    // No digit, 77 digits, a scale past a byte.
+    b"\x22\x00",
+    b"\x22\x02\x08\x4d",
+    b"\x22\x05\x08\x05\x10\x80\x01",
+    // A code and a size out of range.
+    b"\x1a\x02\x08\x0b",
+    b"\x52\x0a\x0a\x02\x0a\x00\x10\x80\x80\x80\x80\x10",
+    // A name without a type, and a type without a name.
+    b"\x3a\x03\x0a\x01a",
+    b"\x3a\x04\x12\x02\x0a\x00",
+    // A tag too few, and a tag twice.
+    b"\x62\x07\x0a\x01a\x12\x02\x0a\x00",
+    b"\x62\x12\x0a\x01a\x0a\x01b\x12\x02\x0a\x00\x12\x02\x0a\x00\x1a\x02\x05\x05",
+];
+
 #[test]
 fn bytes_that_are_no_types(rt: HostRuntime) {
-    let rows: [(&[u8], TypeWireError); 16] = [
-        // No member, and no element.
-        (b"", TypeWireError::BadType),
-        (b"\x42\x00", TypeWireError::BadType),
-        // No digit, 77 digits, a scale past a byte.
-        (b"\x22\x00", TypeWireError::BadType),
-        (b"\x22\x02\x08\x4d", TypeWireError::BadType),
-        (b"\x22\x05\x08\x05\x10\x80\x01", TypeWireError::BadType),
-        // A code and a size out of range.
-        (b"\x1a\x02\x08\x0b", TypeWireError::BadType),
-        (
-            b"\x52\x0a\x0a\x02\x0a\x00\x10\x80\x80\x80\x80\x10",
-            TypeWireError::BadType,
+    for bytes in &NO_TYPES {
+        assert!(rt;
+            refusal(rt.alloc(), bytes) == Some(TypeWireError::BadType),
+            "{bytes:?}"
+        );
+    }
+}
+
+// Bytes that are no message: a member twice, two members, a name that is no text, a number that the length cuts.
+const NO_MESSAGES: [&[u8]; 4] = [
+    b"\x0a\x00\x0a\x00",
+    b"\x0a\x00\x12\x00",
+    b"\x3a\x03\x0a\x01\xff",
+    b"\x1a\x02\x08\x86\x80\x80\x00",
+];
+
+#[test]
+fn bytes_that_are_no_messages(rt: HostRuntime) {
+    for bytes in &NO_MESSAGES {
+        assert!(rt;
+            refusal(rt.alloc(), bytes) == Some(TypeWireError::BadMessage),
+            "{bytes:?}"
+        );
+    }
+    // An extension that nothing reads.
+    let bytes = b"\x4a\x04\x12\x02\x0a\x00";
+    assert!(rt; refusal(rt.alloc(), bytes) == Some(TypeWireError::UnknownExtension));
+}
+
+// Whether the copy of a message value is written as these bytes.
+fn is_copied(alloc: Global, message: &pb::DType, bytes: &[u8]) -> Result<bool, TypeWireError> {
+    let copy = message.clone(alloc)?;
+    let written = copy.encode_to_vec(alloc)?;
+    Ok(written.as_slice() == bytes)
+}
+
+// Whether a message value is the type I32.
+fn is_i32(alloc: Global, message: &pb::DType) -> bool {
+    match DType::from_proto(alloc, message, &ExtSession::new(alloc)) {
+        Ok(dtype) => matches!(
+            dtype,
+            DType::Primitive(PType::I32, Nullability::NonNullable)
         ),
-        // A name without a type, and a type without a name.
-        (b"\x3a\x03\x0a\x01a", TypeWireError::BadType),
-        (b"\x3a\x04\x12\x02\x0a\x00", TypeWireError::BadType),
-        // A tag too few, and a tag twice.
-        (b"\x62\x07\x0a\x01a\x12\x02\x0a\x00", TypeWireError::BadType),
-        (
-            b"\x62\x12\x0a\x01a\x0a\x01b\x12\x02\x0a\x00\x12\x02\x0a\x00\x1a\x02\x05\x05",
-            TypeWireError::BadType,
-        ),
-        // A member twice, two members, a name that is no text, a number that the length cuts.
-        (b"\x0a\x00\x0a\x00", TypeWireError::BadMessage),
-        (b"\x0a\x00\x12\x00", TypeWireError::BadMessage),
-        (b"\x3a\x03\x0a\x01\xff", TypeWireError::BadMessage),
-        (b"\x1a\x02\x08\x86\x80\x80\x00", TypeWireError::BadMessage),
-        // An extension that nothing reads.
-        (b"\x4a\x04\x12\x02\x0a\x00", TypeWireError::UnknownExtension),
-    ];
-    for (bytes, error) in rows {
-        assert!(rt; refusal(rt.alloc(), bytes) == Some(error), "{bytes:?}");
+        Err(_) => false,
     }
 }
 
 // Whether a message value of these bytes is the type I32, and so is its copy, written as the others.
-fn is_i32(alloc: Global, bytes: &[u8], written: &[u8]) -> Result<bool, TypeWireError> {
+fn is_i32_message(alloc: Global, bytes: &[u8], written: &[u8]) -> Result<bool, TypeWireError> {
     let message = pb::DType::decode(alloc, bytes)?;
-    let copy = message.clone(alloc)?.encode_to_vec(alloc)?;
-    let dtype = DType::from_proto(alloc, &message, &ExtSession::new(alloc))?;
-    Ok(dtype == I32 && copy.as_slice() == written)
+    Ok(is_i32(alloc, &message) && is_copied(alloc, &message, written)?)
 }
 
 #[test]
@@ -212,24 +287,35 @@ fn messages_as_values(rt: HostRuntime) {
     let decoded = pb::DType::decode(alloc, b"\x1a\x02\x08\x0b");
     assert!(rt; matches!(decoded, Err(ProtoError::OutOfRange)));
     // A longer spelling of the same number.
-    let same = is_i32(alloc, b"\x1a\x05\x08\x86\x80\x80\x00", b"\x1a\x02\x08\x06");
-    assert!(rt; matches!(same, Ok(true)));
-    assert!(rt; I32.to_proto(alloc).is_ok());
-    let empty = DType::from_proto(alloc, &pb::DType::default(alloc), &ExtSession::new(alloc));
-    assert!(rt; matches!(empty, Err(TypeWireError::BadType)));
+    let same = is_i32_message(alloc, b"\x1a\x05\x08\x86\x80\x80\x00", b"\x1a\x02\x08\x06");
+    assert!(rt; same == Ok(true));
+    assert!(rt; i32s().to_proto(alloc).is_ok());
+}
+
+// Why an empty message value is no type.
+fn refusal_of_nothing(alloc: Global) -> Option<TypeWireError> {
+    DType::from_proto(alloc, &pb::DType::default(alloc), &ExtSession::new(alloc)).err()
 }
 
 #[test]
-fn extensions_by_their_readers(rt: HostRuntime) -> Result<(), Fail> {
+fn empty_messages(rt: HostRuntime) {
+    assert!(rt; refusal_of_nothing(rt.alloc()) == Some(TypeWireError::BadType));
+}
+
+const EXTENSION: &[u8] = b"\x4a\x0a\x0a\x01x\x12\x02\x0a\x00\x1a\x01\xaa";
+
+// Why the extension is refused under these readers, if it is.
+fn judgement(alloc: Global, rows: &[(&str, bool)]) -> Result<Option<TypeWireError>, TypeWireError> {
+    let readers = readers_of(alloc, rows)?;
+    Ok(DType::from_proto_bytes(alloc, EXTENSION, &readers).err())
+}
+
+#[test]
+fn extensions_by_their_readers(rt: HostRuntime) {
     let alloc = rt.alloc();
-    let bytes = b"\x4a\x0a\x0a\x01x\x12\x02\x0a\x00\x1a\x01\xaa";
-    let mut readers = ExtSession::new(alloc);
-    readers.register(Box::new(alloc, reader_of(alloc, "x", false)?)?)?;
-    let refused = DType::from_proto_bytes(alloc, bytes, &readers).err();
-    assert!(rt; refused == Some(TypeWireError::ExtensionRefused));
-    readers.register(Box::new(alloc, reader_of(alloc, "x", true)?)?)?;
-    assert!(rt; DType::from_proto_bytes(alloc, bytes, &readers).is_ok());
-    Ok(())
+    let refused = Ok(Some(TypeWireError::ExtensionRefused));
+    assert!(rt; judgement(alloc, &[("x", false)]) == refused);
+    assert!(rt; judgement(alloc, &[("x", false), ("x", true)]) == Ok(None));
 }
 
 // A list type of so many levels, or of memory that is wanted.
@@ -241,16 +327,20 @@ fn nested(alloc: Global, levels: u32) -> Result<DType, TypeError> {
     Ok(dtype)
 }
 
-// Whether a list type of so many levels is written, and read again as itself.
-fn comes_back(alloc: Global, levels: u32) -> Result<bool, TypeWireError> {
-    let dtype = nested(alloc, levels)?;
+// Whether a type is written, and read again as itself.
+fn comes_back(alloc: Global, dtype: &DType) -> Result<bool, TypeWireError> {
     let bytes = dtype.to_proto_bytes(alloc)?;
-    let read = DType::from_proto_bytes(alloc, bytes.as_slice(), &ExtSession::new(alloc))?;
-    Ok(read == dtype)
+    Ok(is_read(alloc, dtype, bytes.as_slice()))
+}
+
+// The same of a list type of so many levels.
+fn lists_come_back(alloc: Global, levels: u32) -> Result<bool, TypeWireError> {
+    let dtype = nested(alloc, levels)?;
+    comes_back(alloc, &dtype)
 }
 
 #[test]
 fn deepest_types(rt: HostRuntime) {
-    assert!(rt; matches!(comes_back(rt.alloc(), 50), Ok(true)));
-    assert!(rt; matches!(comes_back(rt.alloc(), 51), Err(TypeWireError::WireLimit)));
+    assert!(rt; lists_come_back(rt.alloc(), 50) == Ok(true));
+    assert!(rt; lists_come_back(rt.alloc(), 51) == Err(TypeWireError::WireLimit));
 }

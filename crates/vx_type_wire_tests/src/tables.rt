@@ -8,7 +8,6 @@ use messages::{
     THREE_WITHOUT_NAMES, UNION, UTF8, VARIANT,
 };
 use std::alloc::{AllocError, Global};
-use std::test::Fail;
 use vx_type_wire::{DTypeExt, ExtPlugin, ExtSession, TypeWireError};
 use vx_types::{
     Blob, DType, DTypes, DecimalDType, ExtDType, Id, MapDType, Name, Names, Nullability, PType,
@@ -26,11 +25,16 @@ fn changed(alloc: Global, message: &[u8], bytes: &[(usize, u8)]) -> Result<Vec<u
     Ok(message)
 }
 
-// Whether the message is read as this type, where extensions are allowed.
-fn is_read(alloc: Global, message: &[u8], expected: &DType) -> bool {
+// What a message is read as, where extensions are allowed.
+pub fn read(alloc: Global, message: &[u8]) -> Result<DType, TypeWireError> {
     let mut readers = ExtSession::new(alloc);
     readers.allow_unknown();
-    match DType::from_flatbuffer(alloc, message, &readers) {
+    DType::from_flatbuffer(alloc, message, &readers)
+}
+
+// Whether the message is read as this type.
+fn is_read(alloc: Global, message: &[u8], expected: &DType) -> bool {
+    match read(alloc, message) {
         Ok(dtype) => dtype == *expected,
         Err(_) => false,
     }
@@ -57,23 +61,34 @@ fn types(alloc: Global, first: DType) -> Result<DTypes, TypeError> {
     Ok(types)
 }
 
-fn structure(alloc: Global) -> Result<DType, TypeError> {
+fn fields(alloc: Global) -> Result<StructFields, TypeError> {
     let types = types(alloc, DType::Primitive(PType::U8, Nullability::Nullable))?;
-    let fields = StructFields::try_new(names(alloc)?, types)?;
-    Ok(DType::Struct(fields, Nullability::Nullable))
+    StructFields::try_new(names(alloc)?, types)
+}
+
+fn structure(alloc: Global) -> Result<DType, TypeError> {
+    Ok(DType::Struct(fields(alloc)?, Nullability::Nullable))
+}
+
+// The tags 5 and 200 over two types.
+fn variants_of(alloc: Global, names: Names) -> Result<UnionVariants, TypeError> {
+    let types = types(alloc, DType::Null)?;
+    UnionVariants::try_new(names, types, TypeIds::copy_from(alloc, &[5, 200])?)
 }
 
 fn union(alloc: Global) -> Result<DType, TypeError> {
-    let ids = TypeIds::copy_from(alloc, &[5, 200])?;
-    let variants = UnionVariants::try_new(names(alloc)?, types(alloc, DType::Null)?, ids)?;
-    Ok(DType::Union(variants, Nullability::Nullable))
+    let names = names(alloc)?;
+    Ok(DType::Union(variants_of(alloc, names)?, Nullability::Nullable))
+}
+
+fn extension_of(alloc: Global, id: Id) -> Result<ExtDType, TypeError> {
+    let storage = DType::Primitive(PType::I32, Nullability::Nullable);
+    ExtDType::new(alloc, id, Blob::copy_from(alloc, &[7])?, storage)
 }
 
 fn extension(alloc: Global) -> Result<DType, TypeError> {
-    let storage = DType::Primitive(PType::I32, Nullability::Nullable);
     let id = Id::new(alloc, "x.day")?;
-    let extension = ExtDType::new(alloc, id, Blob::copy_from(alloc, &[7])?, storage)?;
-    Ok(DType::Extension(extension))
+    Ok(DType::Extension(extension_of(alloc, id)?))
 }
 
 // Texts that are not null, as a list has them.
@@ -111,105 +126,133 @@ fn expected(alloc: Global, which: usize) -> Result<DType, TypeError> {
     }
 }
 
-// Whether the message is read as the type of this number.
-fn is_read_as(alloc: Global, message: &[u8], which: usize) -> Result<bool, TypeError> {
-    let dtype = expected(alloc, which)?;
-    Ok(is_read(alloc, message, &dtype))
-}
-
-#[test]
-fn each_kind_is_read(rt: HostRuntime) -> Result<(), Fail> {
-    let rows: [&[u8]; 13] = [
-        &NULL,
-        &BOOL,
-        &PRIMITIVE,
-        &DECIMAL,
-        &UTF8,
-        &BINARY,
-        &STRUCT,
-        &LIST,
-        &EXTENSION,
-        &FIXED_SIZE_LIST,
-        &UNION,
-        &MAP,
-        &VARIANT,
-    ];
-    for (which, message) in rows.iter().enumerate() {
-        assert!(rt; is_read_as(rt.alloc(), message, which)?, "kind {which}");
+// The message of the type of this number.
+fn message(which: usize) -> &'static [u8] {
+    match which {
+        0 => &NULL,
+        1 => &BOOL,
+        2 => &PRIMITIVE,
+        3 => &DECIMAL,
+        4 => &UTF8,
+        5 => &BINARY,
+        6 => &STRUCT,
+        7 => &LIST,
+        8 => &EXTENSION,
+        9 => &FIXED_SIZE_LIST,
+        10 => &UNION,
+        11 => &MAP,
+        _ => &VARIANT,
     }
-    Ok(())
+}
+
+// Whether the message of this number is read as its type.
+fn is_read_as(alloc: Global, which: usize) -> Result<bool, TypeError> {
+    let dtype = expected(alloc, which)?;
+    Ok(is_read(alloc, message(which), &dtype))
 }
 
 #[test]
-fn a_flag_of_0_is_not_nullable(rt: HostRuntime) -> Result<(), Fail> {
-    let rows: [(&[u8], usize); 11] = [
-        (&BOOL, 44),
-        (&PRIMITIVE, 45),
-        (&DECIMAL, 54),
-        (&UTF8, 44),
-        (&BINARY, 44),
-        (&STRUCT, 60),
-        (&LIST, 48),
-        (&FIXED_SIZE_LIST, 60),
-        (&VARIANT, 44),
-        (&UNION, 64),
-        (&MAP, 61),
-    ];
-    let readers = ExtSession::new(rt.alloc());
-    for (message, place) in rows {
-        let message = changed(rt.alloc(), message, &[(place, 0)])?;
-        let dtype = DType::from_flatbuffer(rt.alloc(), message.as_slice(), &readers)?;
+fn each_kind_is_read(rt: HostRuntime) {
+    for which in 0..13 {
+        assert!(rt; is_read_as(rt.alloc(), which) == Ok(true), "kind {which}");
+    }
+}
+
+// Whether the message of this number is read as a type that is not nullable, where a byte is 0.
+fn is_flag(alloc: Global, which: usize, place: usize) -> Result<bool, TypeWireError> {
+    let message = changed(alloc, message(which), &[(place, 0)])?;
+    let readers = ExtSession::new(alloc);
+    let dtype = DType::from_flatbuffer(alloc, message.as_slice(), &readers)?;
+    Ok(dtype.nullability() == Nullability::NonNullable)
+}
+
+#[test]
+fn a_flag_of_0_is_not_nullable(rt: HostRuntime) {
+    for (which, place) in [
+        (1, 44),
+        (2, 45),
+        (3, 54),
+        (4, 44),
+        (5, 44),
+        (6, 60),
+        (7, 48),
+        (9, 60),
+        (12, 44),
+        (10, 64),
+        (11, 61),
+    ] {
         assert!(rt;
-            dtype.nullability() == Nullability::NonNullable,
-            "at {place}"
+            is_flag(rt.alloc(), which, place) == Ok(true),
+            "kind {which}"
         );
     }
-    Ok(())
+}
+
+// Why a message with other bytes at some places is no type, where no extension is known.
+fn refusal_with(alloc: Global, message: &[u8], bytes: &[(usize, u8)]) -> Option<TypeWireError> {
+    match changed(alloc, message, bytes) {
+        Ok(message) => refusal(alloc, message.as_slice()),
+        Err(_) => None,
+    }
+}
+
+// Messages, by number, and the bytes with which they are no types.
+const NO_TYPES: [(usize, &[(usize, u8)]); 13] = [
+    // A member that is not known, a union without member, and a code that is no kind's.
+    (4, &[(20, 14)]),
+    (4, &[(12, 0), (14, 0)]),
+    (2, &[(44, 11)]),
+    // No digit, and 77 digits.
+    (3, &[(36, 0)]),
+    (3, &[(52, 77)]),
+    // No element, no names, and no types.
+    (7, &[(36, 0)]),
+    (6, &[(36, 0)]),
+    (6, &[(38, 0)]),
+    // A tag twice, two types and one tag, and no value.
+    (10, &[(205, 5)]),
+    (10, &[(200, 1)]),
+    (11, &[(38, 0)]),
+    // No identifier, and no metadata.
+    (8, &[(36, 0)]),
+    (8, &[(40, 0)]),
+];
+
+#[test]
+fn tables_that_are_no_types(rt: HostRuntime) {
+    for (which, bytes) in &NO_TYPES {
+        let refusal = refusal_with(rt.alloc(), message(*which), bytes);
+        assert!(rt;
+            refusal == Some(TypeWireError::BadType),
+            "kind {which}, {bytes:?}"
+        );
+    }
 }
 
 #[test]
-fn tables_that_are_no_types(rt: HostRuntime) -> Result<(), Fail> {
-    let rows: [(&str, &[u8], &[(usize, u8)]); 14] = [
-        ("a member that is not known", &UTF8, &[(20, 14)]),
-        ("a union without member", &UTF8, &[(12, 0), (14, 0)]),
-        ("a code that is no kind's", &PRIMITIVE, &[(44, 11)]),
-        ("no digit", &DECIMAL, &[(36, 0)]),
-        ("77 digits", &DECIMAL, &[(52, 77)]),
-        ("no element", &LIST, &[(36, 0)]),
-        ("no names", &STRUCT, &[(36, 0)]),
-        ("no types", &STRUCT, &[(38, 0)]),
-        ("three types and no name", &THREE_WITHOUT_NAMES, &[]),
-        ("a tag twice", &UNION, &[(205, 5)]),
-        ("two types and one tag", &UNION, &[(200, 1)]),
-        ("no value", &MAP, &[(38, 0)]),
-        ("no identifier", &EXTENSION, &[(36, 0)]),
-        ("no metadata", &EXTENSION, &[(40, 0)]),
-    ];
-    for (name, message, bytes) in rows {
-        let message = changed(rt.alloc(), message, bytes)?;
-        let refusal = refusal(rt.alloc(), message.as_slice());
-        assert!(rt; refusal == Some(TypeWireError::BadType), "{name}");
-    }
-    Ok(())
+fn three_types_without_names(rt: HostRuntime) {
+    assert!(rt; refusal(rt.alloc(), &THREE_WITHOUT_NAMES) == Some(TypeWireError::BadType));
 }
 
+// The bytes with which the message of texts shows no table.
+const NO_TABLES: [&[(usize, u8)]; 6] = [
+    // No root, a field table of odd length, and one past the end.
+    &[(0, 200)],
+    &[(8, 7)],
+    &[(8, 200)],
+    // An offset without a tag, a tag without an offset, and an offset past the end.
+    &[(20, 0)],
+    &[(14, 0)],
+    &[(24, 200)],
+];
+
 #[test]
-fn messages_that_show_no_table(rt: HostRuntime) -> Result<(), Fail> {
-    let rows: [(&str, &[(usize, u8)]); 6] = [
-        ("no root", &[(0, 200)]),
-        ("a field table of odd length", &[(8, 7)]),
-        ("a field table past the end", &[(8, 200)]),
-        ("an offset without a tag", &[(20, 0)]),
-        ("a tag without an offset", &[(14, 0)]),
-        ("an offset past the end", &[(24, 200)]),
-    ];
-    for (name, bytes) in rows {
-        let message = changed(rt.alloc(), &UTF8, bytes)?;
-        let refusal = refusal(rt.alloc(), message.as_slice());
-        assert!(rt; refusal == Some(TypeWireError::BadTable), "{name}");
+fn messages_that_show_no_table(rt: HostRuntime) {
+    for bytes in &NO_TABLES {
+        let refusal = refusal_with(rt.alloc(), message(4), bytes);
+        assert!(rt; refusal == Some(TypeWireError::BadTable), "{bytes:?}");
     }
-    assert!(rt; refusal(rt.alloc(), &UTF8[..3]) == Some(TypeWireError::BadTable));
-    Ok(())
+    assert!(rt; refusal(rt.alloc(), &[0x10, 0, 0]) == Some(TypeWireError::BadTable));
 }
 
 // Accepts all extensions of one identifier, or none.
@@ -234,108 +277,154 @@ impl ExtPlugin for Days {
 }
 
 // A reader of this identifier that accepts all extensions or none.
-pub fn reader_of(alloc: Global, id: &str, accepts: bool) -> Result<Days, TypeError> {
+fn reader_of(alloc: Global, id: &str, accepts: bool) -> Result<Box<Days>, TypeError> {
     let id = Id::new(alloc, id)?;
-    Ok(Days { id, accepts })
+    Ok(Box::new(alloc, Days { id, accepts })?)
+}
+
+// Readers of these identifiers that accept all extensions or none, one after the other.
+pub fn readers_of(alloc: Global, rows: &[(&str, bool)]) -> Result<ExtSession, TypeWireError> {
+    let mut readers = ExtSession::new(alloc);
+    for (id, accepts) in rows {
+        readers.register(reader_of(alloc, id, *accepts)?)?;
+    }
+    Ok(readers)
+}
+
+// Why the extension is refused under these readers, if it is.
+fn judgement(alloc: Global, rows: &[(&str, bool)]) -> Result<Option<TypeWireError>, TypeWireError> {
+    let readers = readers_of(alloc, rows)?;
+    Ok(DType::from_flatbuffer(alloc, message(8), &readers).err())
 }
 
 #[test]
-fn extensions_are_judged_by_their_readers(rt: HostRuntime) -> Result<(), Fail> {
+fn extensions_are_judged_by_their_readers(rt: HostRuntime) {
     let alloc = rt.alloc();
-    let mut readers = ExtSession::new(alloc);
-    readers.register(Box::new(alloc, reader_of(alloc, "x.night", true)?)?)?;
-    let unread = DType::from_flatbuffer(alloc, &EXTENSION, &readers).err();
-    assert!(rt; unread == Some(TypeWireError::UnknownExtension));
-    readers.register(Box::new(alloc, reader_of(alloc, "x.day", false)?)?)?;
-    let refused = DType::from_flatbuffer(alloc, &EXTENSION, &readers).err();
-    assert!(rt; refused == Some(TypeWireError::ExtensionRefused));
-    readers.register(Box::new(alloc, reader_of(alloc, "x.day", true)?)?)?;
-    assert!(rt; DType::from_flatbuffer(alloc, &EXTENSION, &readers).is_ok());
-    Ok(())
+    let unread = Ok(Some(TypeWireError::UnknownExtension));
+    let refused = Ok(Some(TypeWireError::ExtensionRefused));
+    assert!(rt; judgement(alloc, &[("x.night", true)]) == unread);
+    assert!(rt; judgement(alloc, &[("x.night", true), ("x.day", false)]) == refused);
+    let rows = [("x.night", true), ("x.day", false), ("x.day", true)];
+    assert!(rt; judgement(alloc, &rows) == Ok(None));
+}
+
+// The same where extensions without a reader are allowed.
+fn open_judgement(
+    alloc: Global,
+    rows: &[(&str, bool)],
+) -> Result<Option<TypeWireError>, TypeWireError> {
+    let mut readers = readers_of(alloc, rows)?;
+    readers.allow_unknown();
+    Ok(DType::from_flatbuffer(alloc, message(8), &readers).err())
 }
 
 #[test]
-fn extensions_without_a_reader_may_be_allowed(rt: HostRuntime) -> Result<(), Fail> {
+fn extensions_without_a_reader_may_be_allowed(rt: HostRuntime) {
     let alloc = rt.alloc();
-    let mut readers = ExtSession::new(alloc);
+    let refused = Ok(Some(TypeWireError::ExtensionRefused));
+    assert!(rt; open_judgement(alloc, &[]) == Ok(None));
+    assert!(rt; open_judgement(alloc, &[("x.day", false)]) == refused);
+}
+
+#[test]
+fn nothing_unknown_is_allowed_at_first(rt: HostRuntime) {
+    let mut readers = ExtSession::new(rt.alloc());
     assert!(rt; !readers.allows_unknown());
     readers.allow_unknown();
     assert!(rt; readers.allows_unknown());
-    assert!(rt; DType::from_flatbuffer(alloc, &EXTENSION, &readers).is_ok());
-    readers.register(Box::new(alloc, reader_of(alloc, "x.day", false)?)?)?;
-    let refused = DType::from_flatbuffer(alloc, &EXTENSION, &readers).err();
-    assert!(rt; refused == Some(TypeWireError::ExtensionRefused));
-    Ok(())
 }
 
-// Lists in lists, so many of them, round the type of nulls, or round a table that
-// has no member: each table stands in the one before it.
-fn nested(alloc: Global, lists: u16, has_member: bool) -> Result<Vec<u8>, AllocError> {
-    let mut message = Vec::from_slice(
-        alloc,
-        &[
-            32, 0, 0, 0, 0, 0, 0, 0, 8, 0, 12, 0, 4, 0, 8, 0, 6, 0, 8, 0, 4, 0, 0, 0, 4, 0, 4, 0,
-            0, 0, 0, 0,
-        ],
-    )?;
+const FRONT: [u8; 32] = [
+    32, 0, 0, 0, 0, 0, 0, 0, 8, 0, 12, 0, 4, 0, 8, 0, 6, 0, 8, 0, 4, 0, 0, 0, 4, 0, 4, 0, 0, 0, 0,
+    0,
+];
+
+// The type and the list of a level, the type at 32 + 24 * level, whose list stands 12 bytes on.
+fn level_of(level: u8) -> [u8; 24] {
+    let [a, b] = (24 + 24 * u16::from(level % 64)).to_le_bytes();
+    let [c, d] = (28 + 24 * u16::from(level % 64)).to_le_bytes();
+    [
+        a, b, 0, 0, 8, 0, 0, 0, 4, 0, 0, 0, c, d, 0, 0, 8, 0, 0, 0, 0, 0, 0, 0,
+    ]
+}
+
+// The type of nulls below so many lists, and its table without fields.
+fn nulls_below(lists: u8) -> [u8; 16] {
+    let [a, b] = (24 + 24 * u16::from(lists % 64)).to_le_bytes();
+    let [c, d] = (20 + 24 * u16::from(lists % 64)).to_le_bytes();
+    [a, b, 0, 0, 1, 0, 0, 0, 4, 0, 0, 0, c, d, 0, 0]
+}
+
+// A table that has no member, below so many lists.
+fn bare_below(lists: u8) -> [u8; 4] {
+    let [a, b] = (8 + 24 * u16::from(lists % 64)).to_le_bytes();
+    [a, b, 0, 0]
+}
+
+// Lists in lists, so many of them, round what these bytes show: each table stands in the one before it.
+fn nested(alloc: Global, lists: u8, below: &[u8]) -> Result<Vec<u8>, AllocError> {
+    let mut message = Vec::from_slice(alloc, &FRONT)?;
     for level in 0..lists {
-        // a type at 32 + 24 * level, whose list stands 12 bytes on
-        let back = (24 + 24 * (level % 64)).to_le_bytes();
-        message.extend_from_slice(&[back[0], back[1], 0, 0, 8, 0, 0, 0, 4, 0, 0, 0])?;
-        let back = (28 + 24 * (level % 64)).to_le_bytes();
-        message.extend_from_slice(&[back[0], back[1], 0, 0, 8, 0, 0, 0, 0, 0, 0, 0])?;
+        message.extend_from_slice(&level_of(level))?;
     }
-    let below = 24 * (lists % 64);
-    if has_member {
-        // the type of nulls, and its table without fields
-        let back = (24 + below).to_le_bytes();
-        message.extend_from_slice(&[back[0], back[1], 0, 0, 1, 0, 0, 0, 4, 0, 0, 0])?;
-        let back = (20 + below).to_le_bytes();
-        message.extend_from_slice(&[back[0], back[1], 0, 0])?;
-    } else {
-        let back = (8 + below).to_le_bytes();
-        message.extend_from_slice(&[back[0], back[1], 0, 0])?;
-    }
+    message.extend_from_slice(below)?;
     Ok(message)
 }
 
-#[test]
-fn types_nest_as_far_as_the_limit(rt: HostRuntime) -> Result<(), Fail> {
-    // 64 tables, and 65
-    let within = nested(rt.alloc(), 31, true)?;
-    assert!(rt; refusal(rt.alloc(), within.as_slice()).is_none());
-    let past = nested(rt.alloc(), 32, false)?;
-    assert!(rt; refusal(rt.alloc(), past.as_slice()) == Some(TypeWireError::TableLimit));
-    let bare = nested(rt.alloc(), 31, false)?;
-    assert!(rt; refusal(rt.alloc(), bare.as_slice()) == Some(TypeWireError::BadType));
-    Ok(())
+// Why so many lists round what these bytes show are no type, if they are none.
+fn nested_refusal(
+    alloc: Global,
+    lists: u8,
+    below: &[u8],
+) -> Result<Option<TypeWireError>, AllocError> {
+    let message = nested(alloc, lists, below)?;
+    Ok(refusal(alloc, message.as_slice()))
 }
 
 #[test]
-fn texts_of_refusals(rt: HostRuntime) -> Result<(), Fail> {
-    let texts = [
-        (TypeWireError::OutOfMemory, "out of memory"),
-        (TypeWireError::BadTable, "the message is no table of a type"),
-        (
-            TypeWireError::TableLimit,
-            "the message nests too deep or unfolds to too many tables or bytes",
-        ),
-        (TypeWireError::BadType, "the table is no type's"),
-        (
-            TypeWireError::UnknownExtension,
-            "an extension's identifier has no reader",
-        ),
-        (
-            TypeWireError::ExtensionRefused,
-            "an extension's reader does not accept it",
-        ),
-        (
-            TypeWireError::WireLimit,
-            "the type is too deep or too large to be written",
-        ),
-    ];
-    for (error, text) in texts {
-        assert_eq!(rt; format!(in rt.alloc(); "{error}")?.as_str(), text);
+fn types_nest_as_far_as_the_limit(rt: HostRuntime) {
+    let alloc = rt.alloc();
+    // 64 tables, and 65
+    assert!(rt; nested_refusal(alloc, 31, &nulls_below(31)) == Ok(None));
+    let past = nested_refusal(alloc, 32, &bare_below(32));
+    assert!(rt; past == Ok(Some(TypeWireError::TableLimit)));
+    let bare = nested_refusal(alloc, 31, &bare_below(31));
+    assert!(rt; bare == Ok(Some(TypeWireError::BadType)));
+}
+
+// Whether a refusal has this text.
+fn is_text(alloc: Global, error: TypeWireError, text: &str) -> bool {
+    match format!(in alloc; "{error}") {
+        Ok(printed) => printed.as_str() == text,
+        Err(_) => false,
     }
-    Ok(())
+}
+
+const TEXTS: [(TypeWireError, &str); 7] = [
+    (TypeWireError::OutOfMemory, "out of memory"),
+    (TypeWireError::BadTable, "the message is no table of a type"),
+    (
+        TypeWireError::TableLimit,
+        "the message nests too deep or unfolds to too many tables or bytes",
+    ),
+    (TypeWireError::BadType, "the table is no type's"),
+    (
+        TypeWireError::UnknownExtension,
+        "an extension's identifier has no reader",
+    ),
+    (
+        TypeWireError::ExtensionRefused,
+        "an extension's reader does not accept it",
+    ),
+    (
+        TypeWireError::WireLimit,
+        "the type is too deep or too large to be written",
+    ),
+];
+
+#[test]
+fn texts_of_refusals(rt: HostRuntime) {
+    for (error, text) in &TEXTS {
+        assert!(rt; is_text(rt.alloc(), *error, text), "{text}");
+    }
 }
