@@ -4,7 +4,7 @@ ghost use Rattle.std.specs.Prelude.{None, Some, option_map};
 
 use std::alloc::Global;
 use vx_fn_wire::{AggregateFn, AggregateFnPlugin, PlainAggregateFnPlugin, PluginError};
-use vx_types::{Blob, Id};
+use vx_types::{Blob, DType, Id};
 
 /// Gives a function of an identifier, which may be another than its own, with the metadata as its
 /// options; it refuses all metadata where it has none to give.
