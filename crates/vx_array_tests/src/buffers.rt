@@ -37,15 +37,9 @@ fn alignments_are_compared(rt: HostRuntime) {
     assert!(rt; !Alignment::none().is_aligned_to(word));
 }
 
-// Four bytes, aligned to 4.
-fn word(alloc: Global) -> Result<ByteBuffer, BufferError> {
-    let buffer = ByteBuffer::copy_from(alloc, &[1, 2, 3, 4])?;
-    Ok(buffer.aligned(aligned_to(2)))
-}
-
-// The last three of these.
+// The last three of four bytes, aligned to 4.
 fn part(alloc: Global) -> Result<ByteBuffer, BufferError> {
-    let buffer = word(alloc)?;
+    let buffer = ByteBuffer::copy_from(alloc, &[1, 2, 3, 4])?.aligned(aligned_to(2));
     buffer.slice(alloc, 1..4)
 }
 
@@ -127,14 +121,14 @@ fn handle(alloc: Global, bytes: &[u8]) -> Result<BufferHandle, BufferError> {
 
 // Whether a slice by bytes has those.
 fn is_sliced_by_bytes(alloc: Global) -> Result<bool, BufferError> {
-    let bytes = handle(alloc, &[1, 2, 3, 4])?;
+    let bytes = BufferHandle::new_host(ByteBuffer::copy_from(alloc, &[1, 2, 3, 4])?);
     let part = bytes.slice(alloc, 1..4)?;
     Ok(part.as_host().as_slice() == [2, 3, 4].as_slice())
 }
 
 // The last three words.
 fn three_words(alloc: Global) -> Result<BufferHandle, BufferError> {
-    let words = handle(alloc, &WORDS)?;
+    let words = BufferHandle::new_host(ByteBuffer::copy_from(alloc, &WORDS)?);
     words.slice_typed(alloc, 4, 1..4)
 }
 
