@@ -3,8 +3,6 @@
 #![tactic(auto)]
 
 #[cfg(test)]
-mod array_nodes;
-#[cfg(test)]
 mod blobs;
 pub mod files;
 pub mod laws;
