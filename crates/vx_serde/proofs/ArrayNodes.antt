@@ -4,7 +4,7 @@ use Rattle.std.specs.Prelude.{◌⊎◌}
 use Rattle.vx_buffer.specs.Buffer.{Buffer}
 use Rattle.vx_flat.specs.declared.error.FlatError.{FlatError}
 use Rattle.vx_flat.specs.declared.error.FlatError.TheVariants as flat
-use Rattle.vx_flat.specs.Building.{Built, with_pieces, Written, IsStopped, Keeps}
+use Rattle.vx_flat.specs.Building.{Built, with_pieces, Written, IsStopped}
 use Rattle.vx_flat.specs.Pieces.{Piece, table_pieces}
 use Rattle.vx_trees.specs.Walks.{nodes}
 use Rattle.vx_array_tree.specs.Tree.{Tree}
@@ -29,17 +29,6 @@ use Rattle.vx_serde.proofs.MessageBlocks.{too-many}
 use Rattle.vx_serde.proofs.NumberedBy.{as-many, root-numbered, layout-numbered, message-of_kind}
 use Rattle.vx_serde.proofs.WholeBlob.{unplaced, unwritten}
 use Rattle.vx_serde.proofs.WrittenAgain.{grown-ids, wire-whole}
-
--- Nothing was written.
-pub keeps-all : (ps : List Piece) (old : Built) → Keeps old ps old
-keeps-all ps old = record { more = []; rest = ps; front = refl; bytes = refl }
-
--- Where writing blocks stopped, those that were written so far are kept.
-pub stopped-keeps : (ps : List Piece) (old new : Built) (e : FlatError) → IsStopped old ps e new → Keeps old ps new
-stopped-keeps ps old new flat.OutOfMemory h = h
-stopped-keeps ps old new flat.MessageTooLong h = h.0
-stopped-keeps ps old new flat.BadTable h = absurd h
-stopped-keeps ps old new flat.TableLimit h = absurd h
 
 module _ (s : SessionMeaning) (t : Tree) (c : Context) where
   -- The blocks of the nodes whose encodings have the numbers of the grown context.

@@ -2,12 +2,13 @@ use Rattle.std.proofs.Common.{◌≡◌, ◌∙◌, ◌<◌, ◌++◌, [], lengt
 use Rattle.std.specs.Prelude.{◌⊎◌}
 use Rattle.std.proofs.lemmas.Result.{err_from_is_err_and}
 use Rattle.vx_flat.specs.Building.{IsStopped}
+use Rattle.vx_flat.proofs.LawsOfBuilding.{keeps-stopped}
 use Rattle.vx_wire_tree.specs.Wire.{buffers_in}
 use Rattle.vx_wire_tree.specs.Written.{wire}
 use Rattle.vx_encodings.specs.Messages.{codec}
 use Rattle.vx_registry.specs.Session.{tables_meaning}
 use Rattle.vx_serde.specs.ArrayNode.{array_pieces}
-use Rattle.vx_serde.proofs.ArrayNodes.{pieces-are, ungathered, too-much, untaken, stopped-keeps, value-written}
+use Rattle.vx_serde.proofs.ArrayNodes.{pieces-are, ungathered, too-much, untaken, value-written}
 use Rattle.vx_serde.proofs.NumberedBy.{as-many, first-encodings}
 use Rattle.vx_serde.proofs.WiredNodes.{no_session, wired-nodes}
 use Rattle.vx_serde.proofs.array_node.ArrayNodeFlatBuffer.try_write_flatbuffer.Goals.{then-len-gt-MAX_BUFFERS-via-then-len-gt-MAX_BUFFERS, then-len-gt-MAX_BUFFERS-via-else-len-gt-MAX_BUFFERS+then-len-gt-MAX_NODES}
@@ -58,7 +59,7 @@ returns-in_err-write_node-clause-kept c = λ x.
     let same = pieces-are s own.array.now own.ctx.now c.gather.new.ctx c.deref.result.now (c.in_ok-gather.ensures.grown s) (c.deref.ensures.value ∙ named) in
     let e = c.in_err-write_node.field-0.0 in
     rw p.1
-    (stopped-keeps (array_pieces s own.array.now own.ctx.now) c.args.builder.now c.write_node.new.builder e
+    (keeps-stopped c.args.builder.now c.write_node.new.builder (array_pieces s own.array.now own.ctx.now) e
     (subst (λ z. IsStopped c.args.builder.now z e c.write_node.new.builder) same (c.in_err-write_node.ensures.stopped s)))
 
 pub returns-in_err-write_node-clause-cause : goal.returns-in_err-write_node-clause-cause
