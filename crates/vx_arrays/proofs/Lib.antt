@@ -1,2 +1,4 @@
+mod Naturals
+mod Rising
 mod Flags
 mod AllInvalid

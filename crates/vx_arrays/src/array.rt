@@ -5,6 +5,7 @@ ghost use Rattle.vx_trees.specs.Everywhere.{EverywhereBelow};
 ghost use Rattle.vx_trees.specs.Rose.{label, below, node, end, roses_of};
 ghost use Rattle.vx_types.specs.Kind.{boolean};
 ghost use Rattle.vx_types.specs.Seen.{typ};
+ghost use Rattle.vx_types.specs.Value.{natural};
 ghost use Rattle.vx_types.specs.declared.nullability.Nullability.TheVariants.{NonNullable};
 ghost use Rattle.vx_array_tree.specs.Rows.{flag_in};
 ghost use Rattle.vx_array_tree.specs.Sound.{IsSound, IsSoundNode};
@@ -163,6 +164,21 @@ impl Array {
             Body::Null => None,
             Body::Primitive(_) => None,
             Body::Bool(flags) => Some(flags.flag_at(index)),
+            Body::Decimal(_) => None,
+        }
+    }
+
+    // The row as a natural number; None where it is none, or is not there, or nothing is known of it.
+    #[tactic(auto, using(crate::proofs::Naturals::naturals))]
+    pub(crate) fn natural_at(&self, index: usize) -> Option<u64>
+        requires { index < (label self.now).len }
+        ensures { result ≡ natural (row_at self.now index) }
+    {
+        let children = self.children.as_slice();
+        match &self.body {
+            Body::Null => None,
+            Body::Primitive(numbers) => numbers.natural_at(&self.dtype, self.len, children, index),
+            Body::Bool(_) => None,
             Body::Decimal(_) => None,
         }
     }

@@ -12,9 +12,11 @@ mod error;
 mod list;
 mod null;
 mod numbers;
+mod offsets;
 mod primitive;
 mod row;
 mod slots;
+mod texts;
 mod validity;
 
 pub use array::Array;
