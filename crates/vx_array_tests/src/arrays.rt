@@ -141,7 +141,7 @@ fn lends(array: &Array, bytes: &[u8]) -> bool {
     }
     let held = match array.body() {
         Body::Primitive(numbers) => numbers.values().len(),
-        Body::Null | Body::Bool(_) | Body::Decimal(_) => 0,
+        Body::Null | Body::Bool(_) | Body::Decimal(_) | Body::VarBin(_) => 0,
     };
     held == bytes.len() && array.buffer(0).as_host().as_slice() == bytes
 }

@@ -151,6 +151,9 @@ impl Array {
             Body::Primitive(_) => validity_at(self.children.as_slice(), self.len, index),
             Body::Bool(_) => validity_at(self.children.as_slice(), self.len, index),
             Body::Decimal(_) => validity_at(self.children.as_slice(), self.len, index),
+            Body::VarBin(parts) => {
+                parts.valid_at(&self.dtype, self.len, self.children.as_slice(), index)
+            }
         }
     }
 
@@ -165,6 +168,7 @@ impl Array {
             Body::Primitive(_) => None,
             Body::Bool(flags) => Some(flags.flag_at(index)),
             Body::Decimal(_) => None,
+            Body::VarBin(_) => None,
         }
     }
 
@@ -180,13 +184,14 @@ impl Array {
             Body::Primitive(numbers) => numbers.natural_at(&self.dtype, self.len, children, index),
             Body::Bool(_) => None,
             Body::Decimal(_) => None,
+            Body::VarBin(_) => None,
         }
     }
 
     /// The row's value, if it takes at most `budget` cells.
     pub fn value_at(
         &self,
-        _alloc: Global,
+        alloc: Global,
         index: usize,
         budget: u64,
     ) -> Result<RowValue, ArrayError>
@@ -207,6 +212,14 @@ impl Array {
             ),
             Body::Bool(flags) => flags.value_at(&self.dtype, self.len, children, index, budget),
             Body::Decimal(decimals) => decimals.value_at(
+                &self.dtype,
+                self.len,
+                children,
+                index,
+                budget,
+            ),
+            Body::VarBin(parts) => parts.value_at(
+                alloc,
                 &self.dtype,
                 self.len,
                 children,
