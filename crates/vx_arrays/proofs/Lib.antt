@@ -1,4 +1,5 @@
 mod Naturals
 mod Rising
+mod Parted
 mod Flags
 mod AllInvalid

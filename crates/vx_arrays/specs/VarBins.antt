@@ -1,9 +1,11 @@
 -- What is made where an array of texts or of bytes by offsets is asked for, and how its node is parted.
-use Rattle.std.specs.Prelude.{ℕ, suc, ◌≡◌, ◌-◌, [], Option, Some}
+use Rattle.std.specs.Prelude.{ℕ, suc, ◌≡◌, ◌-◌, [], Option, Some, IsTrue}
 use Rattle.vx_buffer.specs.Buffer.{Buffer}
 use Rattle.vx_trees.specs.Rose.{node, end, more, label, count}
-use Rattle.vx_types.specs.Kind.{utf8, binary}
+use Rattle.vx_types.specs.Kind.{primitive, utf8, binary}
+use Rattle.vx_types.specs.Numbers.{is_integer}
 use Rattle.vx_types.specs.Typ.{Typ}
+use Rattle.vx_types.specs.declared.nullability.Nullability.TheVariants.{NonNullable}
 use Rattle.vx_array_tree.specs.Body as B
 use Rattle.vx_array_tree.specs.Place.{before_validity}
 use Rattle.vx_array_tree.specs.Tree.{Head, Tree, Trees, option_trees, places}
@@ -22,6 +24,11 @@ abbrev pub IsOfBytes : Typ → Type 0
 IsOfBytes (node (utf8 m) end) = Unit {0}
 IsOfBytes (node (binary m) end) = Unit {0}
 IsOfBytes _ = ⊥
+
+-- The types of offsets: integers that are never null.
+abbrev pub IsOfOffsets : Typ → Type 0
+IsOfOffsets (node (primitive p NonNullable) end) = IsTrue (is_integer p)
+IsOfOffsets _ = ⊥
 
 -- The children of a node of n rows are offsets, one more than there are rows, and what stands behind them as its
 -- validity.

@@ -1,6 +1,6 @@
 //! Offsets: rows of an array that say where the parts of a whole begin and end.
 
-ghost use Rattle.std.specs.Prelude.{◌≡◌, ◌<◌, ◌≤◌, ◌↔◌, IfSome, IfNone, IsTrue};
+ghost use Rattle.std.specs.Prelude.{suc, ◌≡◌, ◌<◌, ◌≤◌, ◌↔◌, IfSome, IfNone, IsTrue};
 ghost use Rattle.vx_trees.specs.Rose.{label};
 ghost use Rattle.vx_array_tree.specs.Encodings.VarBins.{AreOffsets};
 ghost use Rattle.vx_array_tree.specs.Rows.{index_at, IsIndex, IsThere};
@@ -18,10 +18,10 @@ pub(crate) fn index_at(array: &Array, index: usize) -> Option<u64>
     match array.natural_at(index) {
         Some(n) => Some(n),
         None => {
-            if array.is_valid(index) == Some(true) {
-                None
-            } else {
-                Some(0)
+            match array.is_valid(index) {
+                Some(true) => None,
+                Some(false) => Some(0),
+                None => Some(0),
             }
         }
     }
@@ -29,12 +29,14 @@ pub(crate) fn index_at(array: &Array, index: usize) -> Option<u64>
 
 // Whether rows are offsets: natural numbers that never fall, up to the one behind the last part, which is at most a
 // total.
+#[tactic(auto, using(crate::proofs::Rising::rising))]
 pub(crate) fn are_offsets(offsets: &Array, parts: usize, total: usize) -> bool
-    requires inside { parts < (label offsets.now).len }
+    requires counted { (label offsets.now).len ≡ suc parts }
     ensures { IsTrue result ↔ AreOffsets (rows_of offsets.now) parts total }
 {
+    let count = offsets.len();
     let mut last = 0;
-    for i in 0..parts + 1 {
+    for i in 0..count {
         match index_at(offsets, i) {
             None => return false,
             Some(offset) => {

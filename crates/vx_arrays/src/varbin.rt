@@ -1,8 +1,8 @@
 //! Arrays of texts or of bytes by offsets.
 
-ghost use Rattle.std.specs.Prelude.{◌≡◌, ◌<◌, ◌≤◌, ◌↔◌, IfOk, IfErr, IsOkUnless, IsTrue};
+ghost use Rattle.std.specs.Prelude.{◌≡◌, ◌≢◌, ◌<◌, ◌≤◌, ◌↔◌, IfOk, IfErr, IsOkUnless, IsTrue};
 ghost use Rattle.vx_trees.specs.Everywhere.{EverywhereBelow};
-ghost use Rattle.vx_trees.specs.Rose.{label, below, more, roses_of};
+ghost use Rattle.vx_trees.specs.Rose.{label, below, end, more, roses_of};
 ghost use Rattle.vx_types.specs.Seen.{typ};
 ghost use Rattle.vx_array_tree.specs.Body as B;
 ghost use Rattle.vx_array_tree.specs.Encodings.VarBins.{Content, rows as rows_of_parts};
@@ -12,7 +12,7 @@ ghost use Rattle.vx_array_tree.specs.Sound.{IsSound, IsSoundNode};
 ghost use Rattle.vx_array_tree.specs.Tree.{Head, option_trees, rows_below};
 ghost use Rattle.vx_arrays.specs.Plain.{plain_value};
 ghost use Rattle.vx_arrays.specs.Refused.{IsUnmade, IsRowRefused, IsOkOrMemory};
-ghost use Rattle.vx_arrays.specs.VarBins.{IsParted, varbin_head, varbin_tree};
+ghost use Rattle.vx_arrays.specs.VarBins.{IsOfBytes, IsOfOffsets, varbin_head, varbin_tree};
 
 use crate::array::Array;
 use crate::body::Body;
@@ -182,19 +182,32 @@ fn is_shaped(
     if offsets.is_empty() {
         return false;
     }
-    let len = offsets.len() - 1;
-    match offsets.dtype() {
-        DType::Primitive(kind, Nullability::NonNullable) => {
-            if !kind.is_int() {
-                return false;
-            }
-        }
-        _ => return false,
+    if !is_of_offsets(offsets.dtype()) {
+        return false;
     }
+    if !is_of_bytes(dtype) {
+        return false;
+    }
+    is_validity(dtype.nullability(), offsets.len() - 1, validity)
+}
+
+// Whether a type is one of texts or of bytes.
+fn is_of_bytes(dtype: &DType) -> bool
+    ensures { IsTrue result ↔ IsOfBytes (typ dtype.now) }
+{
     match dtype {
-        DType::Utf8(nullability) | DType::Binary(nullability) => {
-            is_validity(*nullability, len, validity)
-        }
+        DType::Utf8(_) => true,
+        DType::Binary(_) => true,
+        _ => false,
+    }
+}
+
+// Whether a type is one of offsets.
+fn is_of_offsets(dtype: &DType) -> bool
+    ensures { IsTrue result ↔ IsOfOffsets (typ dtype.now) }
+{
+    match dtype {
+        DType::Primitive(kind, Nullability::NonNullable) => kind.is_int(),
         _ => false,
     }
 }

@@ -1,13 +1,15 @@
 //! Nodes of texts and of bytes by offsets: the kind of the offsets as metadata, the bytes in one buffer, and below the
 //! offsets and a validity that may stand.
 
-ghost use Rattle.std.specs.Prelude.{◌≡◌, IfOk, IfErr, IsOkUnless, refl};
+ghost use Rattle.std.specs.Prelude.{◌≡◌, ◌↔◌, IfOk, IfErr, IsOkUnless, IsTrue, refl};
 ghost use Rattle.std.proofs.Common.{arith, ap};
 ghost use Rattle.vx_trees.specs.Rose.{roses_of};
 ghost use Rattle.vx_types.specs.Known.{ExtMeaning};
+ghost use Rattle.vx_types.specs.Seen.{typ};
 ghost use Rattle.vx_array_tree.specs.Encodings.VarBins.{metadata_of};
 ghost use Rattle.vx_array_tree.specs.Sound.{IsSound};
 ghost use Rattle.vx_array_tree.specs.Tree.{places};
+ghost use Rattle.vx_arrays.specs.VarBins.{IsOfBytes};
 ghost use Rattle.vx_encodings.specs.Steps.{IsPlanned, IsUnplanned, IsBuilt, IsUnbuilt};
 ghost use Rattle.vx_encodings.specs.VarBinMessage.{varbin_schema, varbin_value, varbin_bytes, same_kind};
 ghost use Rattle.vx_encodings.specs.declared.encoding.Encoding.TheVariants.{VarBin};
@@ -87,19 +89,30 @@ pub(crate) fn plan(alloc: Global, head: &ArrayHead) -> Result<ChildPlans, Encodi
     if !metadata.offsets_ptype.is_int() {
         return Err(EncodingError::BadMetadata);
     }
-    match head.dtype {
-        DType::Utf8(_) | DType::Binary(_) => {}
-        _ => return Err(EncodingError::BadShape),
+    if !is_of_bytes(&head.dtype) {
+        return Err(EncodingError::BadShape);
     }
-    let count = match head.len.checked_add(1) {
-        Some(count) => count,
-        None => return Err(EncodingError::BadShape),
-    };
-    let offsets = ChildPlan {
-        dtype: DType::Primitive(metadata.offsets_ptype, Nullability::NonNullable),
-        len: count,
-    };
-    plan_behind(alloc, offsets, head.len, head.nchildren)
+    match head.len.checked_add(1) {
+        None => Err(EncodingError::BadShape),
+        Some(count) => {
+            let offsets = ChildPlan {
+                dtype: DType::Primitive(metadata.offsets_ptype, Nullability::NonNullable),
+                len: count,
+            };
+            plan_behind(alloc, offsets, head.len, head.nchildren)
+        }
+    }
+}
+
+// Whether a type is one of texts or of bytes.
+fn is_of_bytes(dtype: &DType) -> bool
+    ensures { IsTrue result ↔ IsOfBytes (typ dtype.now) }
+{
+    match dtype {
+        DType::Utf8(_) => true,
+        DType::Binary(_) => true,
+        _ => false,
+    }
 }
 
 // The node of texts or of bytes of these parts.
@@ -115,7 +128,6 @@ pub(crate) fn build(
     ensures sound { IfOk result IsSound }
     ensures err { (x : ExtMeaning) → IfErr result (λ e. IsUnbuilt e x VarBin head buffers children) }
 {
-    let _metadata: VarBinMetadata = read_message(alloc, head.metadata.as_slice())?;
     let bytes = match only_buffer(buffers) {
         Some(bytes) => bytes,
         None => return Err(EncodingError::BadShape),

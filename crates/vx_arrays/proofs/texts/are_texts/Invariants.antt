@@ -9,4 +9,4 @@ use Rattle.vx_arrays.proofs.texts.are_texts.Given as goal
 -- the parts so far are texts, where their rows are there
 abbrev pub invariant-loop-i : goal.invariant-loop-i
 invariant-loop-i l =
-    (k : ℕ) → k < l.i → IsThere (validity (rows_below (roses_of l.below.now))) k → IsText (bytes_at l.bytes.now (rows_of l.offsets.now) k)
+    (k : ℕ) → k < l.i → IsThere (validity (rows_below (roses_of l.below))) k → IsText (bytes_at l.bytes (rows_of l.offsets) k)
