@@ -1,6 +1,7 @@
 -- What holds of the messages of metadata, encoding by encoding.
 use Rattle.std.proofs.Common.{ℕ, zero, suc, ◌≡◌, List, [], ◌∷◌, Some, length, refl, sym, ap, ◌∙◌}
 use Rattle.vx_trees.specs.Rose.{node, end}
+use Rattle.vx_types.specs.Known.{ExtMeaning}
 use Rattle.vx_types.specs.Kind.{null, boolean, primitive, decimal, utf8, binary}
 use Rattle.vx_types.specs.Typ.{Typ}
 use Rattle.vx_types.specs.declared.ptype.PType.{PType}
@@ -16,7 +17,8 @@ use Rattle.vx_array_tree.specs.Place.{Place, exactly, before_validity, validity_
 use Rattle.vx_array_tree.specs.Table.{IsFair, plan_of}
 use Rattle.vx_array_tree.proofs.Options.{mapped, let_through}
 use Rattle.vx_wire_tree.specs.Codec.{IsLawfulAt}
-use Rattle.vx_wire_tree.specs.Fields.{Fields, FitsMessage, told}
+use Rattle.vx_wire_tree.specs.Fields.{Fields, FitsMessage, meant, told}
+use Rattle.vx_wire_tree.specs.Reads.{IsMetadata}
 use Rattle.vx_encodings.proofs.Kinds.{one_kind, kind_again}
 use Rattle.vx_encodings.proofs.Offsets.{one_offset, offset_again}
 use Rattle.vx_encodings.proofs.Widths.{one_width, width_again}
@@ -42,6 +44,10 @@ one_message E.struct bytes f g a b = one_nothing bytes f g a b
 one_message E.union bytes f g a b = one_nothing bytes f g a b
 one_message E.ext bytes f g a b = one_nothing bytes f g a b
 one_message _ bytes f g a b = absurd a
+
+-- Bytes are metadata of a node of a type in at most one way.
+pub one_value : (x : ExtMeaning) (e : E.Encoding) (d : Typ) (bytes : List ℕ) (v w : Metadata) → IsMetadata codec x e d bytes v → IsMetadata codec x e d bytes w → v ≡ w
+one_value x e d bytes v w m k = sym m.meaning ∙ ap (λ (f : Fields). meant d f) (one_message e bytes m.fields k.fields m.shown k.shown) ∙ k.meaning
 
 null_again : (v : Metadata) → IsFair E.null v → FitsMessage v → Shows E.null (message_bytes (told v)) (told v)
 null_again M.empty fair fits = record { bytes_are = refl; fields_are = refl }

@@ -15,10 +15,8 @@ use Rattle.vx_array_tree.specs.Table.{metadata_of, body_of, plan_of, Allows, Con
 use Rattle.vx_array_tree.specs.Tree.{Tree, Trees, Head, places, encodings, rows_below}
 use Rattle.vx_array_tree.proofs.NodeLaws.{body_encoding}
 use Rattle.vx_array_tree.proofs.Plans.{metadata_again}
-use Rattle.vx_wire_tree.specs.Fields.{Fields, meant}
-use Rattle.vx_wire_tree.specs.Reads.{IsMetadata}
 use Rattle.vx_wire_tree.specs.Steps.{PlansChildren, HasNoPlan, HasParts, HasWrongShape, HasWrongContent}
-use Rattle.vx_encodings.proofs.Laws.{one_message}
+use Rattle.vx_encodings.proofs.Laws.{one_value}
 use Rattle.vx_encodings.specs.Messages.{codec}
 use Rattle.vx_encodings.specs.Plain.{plain_encoding}
 use Rattle.vx_encodings.specs.Steps.{IsPlanned, IsUnplanned, IsBuilt, IsUnbuilt, IsMemory, IsOkOrMemory}
@@ -26,10 +24,6 @@ use Rattle.vx_encodings.specs.declared.encoding.Encoding as Declared
 use Rattle.vx_encodings.specs.declared.error.EncodingError.{EncodingError}
 use Rattle.vx_encodings.specs.declared.error.EncodingError.TheVariants.{OutOfMemory, BadMetadata, BadShape, BadContent}
 use Rattle.vx_encodings.specs.declared.head.ArrayHead.{ArrayHead}
-
--- Bytes are metadata of a node of a type in at most one way.
-pub one_value : (x : ExtMeaning) (e : Encoding) (d : Typ) (bytes : List ℕ) (v w : Metadata) → IsMetadata codec x e d bytes v → IsMetadata codec x e d bytes w → v ≡ w
-one_value x e d bytes v w m k = sym m.meaning ∙ ap (λ (f : Fields). meant d f) (one_message e bytes m.fields k.fields m.shown k.shown) ∙ k.meaning
 
 not_both : {A : Type 0} {x : A} (o : Option A) → o ≡ None → o ≡ Some x → ⊥
 not_both o p q = absurd (cc)

@@ -156,7 +156,7 @@ pub few_children : (h : ArrayHead) (us : Trees) (ts : List Tree) → (y : ExtMea
 few_children h us ts planned e =
     let p = varbin_plan planned.0 h us planned.1 in
     let f = behind_few (place (numbers p.kind) (suc h.len)) h.len h.nchildren us p.children in
-    omega (arith, f.1.0, count-roses_of ts, ap (λ z. count z) e)
+    omega (arith, f.1, count-roses_of ts, ap (λ z. count z) e)
 
 -- There is one offset more than rows.
 offsets_len : (p : Place) (n k : ℕ) (o : Tree) (vs : Trees) → before_validity (p ∷ []) n k ≡ Some (places (more o vs)) → (label o).len ≡ p.len
@@ -188,7 +188,7 @@ pub varbins_refused : (x : ExtMeaning) (error : ArrayError) (h : ArrayHead) (bs 
 varbins_refused x error h bs us o b v planned p e refused =
     let k = varbin_plan planned.0 h us planned.1 in
     let f = behind_few (place (numbers k.kind) (suc h.len)) h.len h.nchildren us k.children in
-    let counted : plan (typ h.dtype) h.len k.kind (count us) ≡ Some (places us) = subst (λ (j : ℕ). plan (typ h.dtype) h.len k.kind j ≡ Some (places us)) f.1.1 k.planned in
+    let counted : plan (typ h.dtype) h.len k.kind (count us) ≡ Some (places us) = subst (λ (j : ℕ). plan (typ h.dtype) h.len k.kind j ≡ Some (places us)) f.2 k.planned in
     constructor_refused x VarBin h (M.varbin k.kind) (varbin_metadata x (typ h.dtype) h.metadata k.kind k.reads k.integer) error bs us (B.varbin (record { bytes = b })) (varbin_tree (typ h.dtype) o b v)
     (rw p refl) k.integer counted refl tt (made h us o b v k e) refused
 

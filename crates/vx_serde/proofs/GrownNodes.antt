@@ -6,7 +6,7 @@ use Rattle.vx_trees.specs.Rose.{label, below, roses_of}
 use Rattle.vx_trees.specs.Walks.{gathered_below}
 use Rattle.vx_trees.proofs.Gathering.{gathered-is, gathered_below-take}
 use Rattle.vx_serde.specs.declared.error.WireError.{WireError}
-use Rattle.vx_serde.specs.declared.error.WireError.TheVariants.{OutOfMemory, TooShort, BadTable, TableLimit, BadAlignment, Compressed, OutOfBounds, UnknownIndex, UnknownEncoding, BadMetadata, BadShape, NotPermitted, WireLimit, NotRegistered}
+use Rattle.vx_serde.specs.declared.error.WireError.TheVariants.{OutOfMemory, TooShort, BadTable, TableLimit, BadAlignment, Compressed, OutOfBounds, UnknownIndex, UnknownEncoding, BadMetadata, BadShape, BadContent, NotPermitted, WireLimit, NotRegistered}
 use Rattle.vx_serde.specs.KeptContext.{KeepsContext}
 use Rattle.vx_wire_tree.specs.Wire.{id_in, ids_in, Wire}
 use Rattle.vx_serde.specs.WritingSteps.{RefusesIds}
@@ -27,6 +27,7 @@ ungrown-first xs ys a UnknownIndex h = h
 ungrown-first xs ys a UnknownEncoding h = h
 ungrown-first xs ys a BadMetadata h = h
 ungrown-first xs ys a BadShape h = h
+ungrown-first xs ys a BadContent h = h
 ungrown-first xs ys a WireLimit h = h
 ungrown-first xs ys a NotRegistered h = h
 
@@ -44,6 +45,7 @@ ungrown-second xs ys a b UnknownIndex g h = h
 ungrown-second xs ys a b UnknownEncoding g h = h
 ungrown-second xs ys a b BadMetadata g h = h
 ungrown-second xs ys a b BadShape g h = h
+ungrown-second xs ys a b BadContent g h = h
 ungrown-second xs ys a b WireLimit g h = h
 ungrown-second xs ys a b NotRegistered g h = h
 
