@@ -217,6 +217,7 @@ fn errors_are_printed(rt: HostRuntime) -> Result<(), Fail> {
     for (error, text) in [
         (ArrayError::OutOfMemory, "out of memory"),
         (ArrayError::BadShape, "the parts fit no sound array"),
+        (ArrayError::BadContent, "the content is broken"),
         (ArrayError::ValueTooLarge, "the row takes too many cells"),
     ] {
         assert!(rt; prints(rt.alloc(), &error, text)?, "{text}");

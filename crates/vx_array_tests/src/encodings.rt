@@ -249,6 +249,7 @@ fn errors_are_printed(rt: HostRuntime) -> Result<(), Fail> {
             "the metadata is none of the encoding's",
         ),
         (EncodingError::BadShape, "the parts do not fit the encoding"),
+        (EncodingError::BadContent, "the content is broken"),
     ] {
         assert!(rt; prints(rt.alloc(), &error, text)?, "{text}");
     }

@@ -1,10 +1,15 @@
-//! Tests of texts and bytes by offsets: their rows, which arrays are made, and the cells that a row takes.
+//! Tests of texts and bytes by offsets: their rows, which arrays are made, the cells that a row takes, and their nodes on
+//! the wire.
 
 use crate::arrays::buffer_of;
+use crate::encodings::head_of;
 use std::alloc::Global;
 use std::test::Fail;
 use vx_arrays::{Array, ArrayError, BoolArray, PrimitiveArray, RowValue, VarBinArray};
 use vx_buffer::Alignment;
+use vx_encodings::{Encoding, EncodingError, VarBinMetadata, metadata, plan};
+use vx_proto::Message;
+use vx_type_wire::ExtSession;
 use vx_types::{DType, Nullability, PType};
 
 // As many numbers of a kind, never null, as their bytes hold.
@@ -171,7 +176,104 @@ fn a_row_takes_a_cell_for_each_byte_and_one(rt: HostRuntime) -> Result<(), Fail>
         (10_000, 10_000, Some(ArrayError::ValueTooLarge)),
         (10_000, 10_001, None),
     ] {
-        assert!(rt; too_large(rt.alloc(), len, budget)? == error, "{len} {budget}");
+        assert!(rt;
+            too_large(rt.alloc(), len, budget)? == error,
+            "{len} {budget}"
+        );
     }
+    Ok(())
+}
+
+// The kind that is read of what is written of a kind, where that is these bytes.
+fn kind_again(alloc: Global, kind: PType, bytes: &[u8]) -> Result<Option<PType>, Fail> {
+    let written = VarBinMetadata {
+        offsets_ptype: kind,
+    }
+    .encode_to_vec(alloc)?;
+    if written.as_slice() != bytes {
+        return Ok(None);
+    }
+    Ok(Some(VarBinMetadata::decode(alloc, written.as_slice())?.offsets_ptype))
+}
+
+#[test]
+fn a_kind_of_offsets_is_one_code(rt: HostRuntime) -> Result<(), Fail> {
+    let default = VarBinMetadata::default(rt.alloc());
+    assert!(rt; default.offsets_ptype == PType::U8);
+    for (kind, bytes) in [
+        (PType::U8, [].as_slice()),
+        (PType::U16, &[8, 1]),
+        (PType::I32, &[8, 6]),
+        (PType::F64, &[8, 10]),
+    ] {
+        assert!(rt;
+            kind_again(rt.alloc(), kind, bytes)? == Some(kind),
+            "{kind:?}"
+        );
+    }
+    Ok(())
+}
+
+// Why two texts of this metadata and so many children are not planned, if they are not.
+fn plan_refusal(
+    alloc: Global,
+    bytes: &[u8],
+    nchildren: usize,
+) -> Result<Option<EncodingError>, Fail> {
+    let head = head_of(
+        alloc,
+        DType::Utf8(Nullability::NonNullable),
+        2,
+        bytes,
+        nchildren,
+    )?;
+    Ok(plan(alloc, Encoding::VarBin, &head, &ExtSession::new(alloc)).err())
+}
+
+#[test]
+fn plans_have_offsets_and_at_most_a_validity(rt: HostRuntime) -> Result<(), Fail> {
+    for (bytes, nchildren, error) in [
+        ([].as_slice(), 1, None),
+        (&[8, 7], 2, None),
+        (&[], 0, Some(EncodingError::BadShape)),
+        (&[], 3, Some(EncodingError::BadShape)),
+        (&[8, 9], 1, Some(EncodingError::BadMetadata)),
+        (&[8, 11], 1, Some(EncodingError::BadMetadata)),
+        (&[8], 1, Some(EncodingError::BadMetadata)),
+    ] {
+        assert!(rt;
+            plan_refusal(rt.alloc(), bytes, nchildren)? == error,
+            "{bytes:?} {nchildren}"
+        );
+    }
+    Ok(())
+}
+
+#[test]
+fn nodes_keep_the_kind_of_their_offsets(rt: HostRuntime) -> Result<(), Fail> {
+    let alloc = rt.alloc();
+    let texts = DType::Utf8(Nullability::NonNullable);
+    let array = made(alloc, texts, (PType::I16, &[0, 0, 1, 0]), b"a", None)?;
+    assert!(rt; metadata(alloc, &array)?.as_slice() == [8, 5].as_slice());
+    Ok(())
+}
+
+#[test]
+fn slots_have_names(rt: HostRuntime) -> Result<(), Fail> {
+    let alloc = rt.alloc();
+    let texts = made(
+        alloc,
+        DType::Utf8(Nullability::Nullable),
+        (PType::U8, &[0, 1]),
+        b"a",
+        None,
+    )?;
+    assert!(rt; texts.nslots() == 2);
+    if texts.nslots() == 2 {
+        assert!(rt; texts.slot_name(alloc, 0)?.as_str() == "offsets");
+        assert!(rt; texts.slot_name(alloc, 1)?.as_str() == "validity");
+    }
+    let name = texts.buffer_name(alloc, 0)?.ok_or("one buffer")?;
+    assert!(rt; name.as_str() == "bytes" && texts.buffer_name(alloc, 1)?.is_none());
     Ok(())
 }

@@ -1,6 +1,6 @@
 //! The values of rows.
 
-ghost use Rattle.std.specs.Prelude.{suc, ◌≡◌, ◌≤◌, ◌<◌, IfOk, IfErr, OnOk, OnErr, IsOkUnless, length};
+ghost use Rattle.std.specs.Prelude.{suc, ◌≡◌, ◌≤◌, ◌<◌, ◌↔◌, IfOk, IfErr, OnOk, OnErr, IsOkUnless, IsTrue, length};
 ghost use Rattle.vx_types.specs.Content.{IsText};
 ghost use Rattle.vx_types.specs.Value.{lone, utf8, binary};
 ghost use Rattle.vx_arrays.specs.Plain.{plain_value};
@@ -50,7 +50,7 @@ pub(crate) fn text_row(alloc: Global, bytes: &[u8], budget: u64) -> Result<RowVa
     ensures fits { OnOk result (suc (length bytes.now) ≤ budget) }
     ensures err { IfErr result (λ e. IsValueRefused e (suc (length bytes.now)) budget) }
 {
-    if budget <= bytes.len() as u64 {
+    if !has_cells(bytes, budget) {
         return Err(ArrayError::ValueTooLarge);
     }
     match simdutf8::basic::from_utf8(bytes) {
@@ -65,10 +65,17 @@ pub(crate) fn bytes_row(alloc: Global, bytes: &[u8], budget: u64) -> Result<RowV
     ensures fits { OnOk result (suc (length bytes.now) ≤ budget) }
     ensures err { IfErr result (λ e. IsValueRefused e (suc (length bytes.now)) budget) }
 {
-    if budget <= bytes.len() as u64 {
+    if !has_cells(bytes, budget) {
         return Err(ArrayError::ValueTooLarge);
     }
     Ok(RowValue::Binary(owned_bytes(alloc, bytes)?))
+}
+
+// Whether there are cells to spend for bytes.
+fn has_cells(bytes: &[u8], budget: u64) -> bool
+    ensures { IsTrue result ↔ (suc (length bytes.now) ≤ budget) }
+{
+    (bytes.len() as u64) < budget
 }
 
 // A text of its own.
