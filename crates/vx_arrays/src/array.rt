@@ -189,12 +189,7 @@ impl Array {
     }
 
     /// The row's value, if it takes at most `budget` cells.
-    pub fn value_at(
-        &self,
-        alloc: Global,
-        index: usize,
-        budget: u64,
-    ) -> Result<RowValue, ArrayError>
+    pub fn value_at(&self, alloc: Global, index: usize, budget: u64) -> Result<RowValue, ArrayError>
         requires { index < (label self.now).len }
         ensures row { IfOk result (λ row. plain_value row ≡ row_at self.now index) }
         ensures fits { IfOk result (λ _. cells self.now index ≤ budget) }

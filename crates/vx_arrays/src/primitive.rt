@@ -91,9 +91,7 @@ impl PrimitiveData {
             }
         }
     }
-}
 
-impl PrimitiveData {
     // A row as a natural number in a node of this type, length and children.
     pub(crate) fn natural_at(
         &self,

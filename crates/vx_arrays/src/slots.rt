@@ -62,13 +62,7 @@ fn slot_of(body: &Body, index: usize) -> &'static str
     match body {
         Body::Null => unreachable!(),
         Body::Bool(_) | Body::Primitive(_) | Body::Decimal(_) => "validity",
-        Body::VarBin(_) => {
-            if index == 0 {
-                "offsets"
-            } else {
-                "validity"
-            }
-        }
+        Body::VarBin(_) => { if index == 0 { "offsets" } else { "validity" } }
     }
 }
 

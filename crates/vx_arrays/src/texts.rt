@@ -15,12 +15,7 @@ use crate::validity::validity_at;
 
 // The bytes from an offset up to the next one.
 #[tactic(auto, using(crate::proofs::Rising::parts))]
-pub(crate) fn part_at<'a>(
-    bytes: &'a [u8],
-    offsets: &Array,
-    parts: usize,
-    index: usize,
-) -> &'a [u8]
+pub(crate) fn part_at<'a>(bytes: &'a [u8], offsets: &Array, parts: usize, index: usize) -> &'a [u8]
     requires counted { (label offsets.now).len ≡ suc parts }
     requires offsets { AreOffsets (rows_of offsets.now) parts (length bytes.now) }
     requires inside { index < parts }
@@ -51,13 +46,7 @@ pub(crate) fn are_texts(bytes: &[u8], offsets: &Array, below: &[Array], rows: us
 }
 
 // Whether a row's part is a text, where the row is there.
-fn is_text_at(
-    bytes: &[u8],
-    offsets: &Array,
-    below: &[Array],
-    rows: usize,
-    index: usize,
-) -> bool
+fn is_text_at(bytes: &[u8], offsets: &Array, below: &[Array], rows: usize, index: usize) -> bool
     requires counted { (label offsets.now).len ≡ suc rows }
     requires offsets { AreOffsets (rows_of offsets.now) rows (length bytes.now) }
     requires planned { before_validity [] rows (count (roses_of below.now)) ≡ Some (places (roses_of below.now)) }

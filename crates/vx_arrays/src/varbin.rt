@@ -1,17 +1,18 @@
 //! Arrays of texts or of bytes by offsets.
 
-ghost use Rattle.std.specs.Prelude.{◌≡◌, ◌≢◌, ◌<◌, ◌≤◌, ◌↔◌, IfOk, IfErr, IsOkUnless, IsTrue};
+ghost use Rattle.std.specs.Prelude.{◌≡◌, ◌<◌, ◌≤◌, ◌↔◌, ◌∷◌, IfOk, IfErr, OnOk, IsOkUnless, IsTrue};
 ghost use Rattle.vx_trees.specs.Everywhere.{EverywhereBelow};
-ghost use Rattle.vx_trees.specs.Rose.{label, below, end, more, roses_of};
+ghost use Rattle.vx_trees.specs.Rose.{label, below, more, roses_of};
 ghost use Rattle.vx_types.specs.Seen.{typ};
+ghost use Rattle.vx_types.specs.Value.{lone, value_cells};
 ghost use Rattle.vx_array_tree.specs.Body as B;
-ghost use Rattle.vx_array_tree.specs.Encodings.VarBins.{Content, rows as rows_of_parts};
+ghost use Rattle.vx_array_tree.specs.Encodings.VarBins.{Content, IsContent, mark_of, rows as rows_of_parts};
 ghost use Rattle.vx_array_tree.specs.Refused.{IsWellShaped};
 ghost use Rattle.vx_array_tree.specs.Rows.{rest, validity};
 ghost use Rattle.vx_array_tree.specs.Sound.{IsSound, IsSoundNode};
-ghost use Rattle.vx_array_tree.specs.Tree.{Head, option_trees, rows_below};
+ghost use Rattle.vx_array_tree.specs.Tree.{Head, option_trees, rows_below, rows_of};
 ghost use Rattle.vx_arrays.specs.Plain.{plain_value};
-ghost use Rattle.vx_arrays.specs.Refused.{IsUnmade, IsRowRefused, IsOkOrMemory};
+ghost use Rattle.vx_arrays.specs.Refused.{IsUnmade, IsRowRefused, IsValueRefused, IsOkOrMemory};
 ghost use Rattle.vx_arrays.specs.VarBins.{IsOfBytes, IsOfOffsets, varbin_head, varbin_tree};
 
 use crate::array::Array;
@@ -75,8 +76,10 @@ impl VarBinData {
     {
         let _bytes = &self.bytes;
         let _dtype = dtype;
-        let (_, behind) = parted(children);
-        validity_at(behind, len, index)
+        match children {
+            [_, behind @ ..] => validity_at(behind, len, index),
+            [] => unreachable!(),
+        }
     }
 
     // A row's value in a node of this type, length and children, if there are cells to spend for it.
@@ -99,18 +102,17 @@ impl VarBinData {
         ensures err { let rows = rows_of_parts (typ dtype.now) len self.now (rows_below (roses_of children.now)) in
             IfErr result (λ e. IsRowRefused e rows index budget) }
     {
-        let (offsets, behind) = parted(children);
-        match validity_at(behind, len, index) {
-            None => within_budget(RowValue::Opaque, budget),
-            Some(false) => within_budget(RowValue::Null, budget),
-            Some(true) => {
-                let part = part_at(self.bytes.as_host().as_slice(), offsets, len, index);
-                match dtype {
-                    DType::Utf8(_) => text_row(alloc, part, budget),
-                    DType::Binary(_) => bytes_row(alloc, part, budget),
-                    _ => unreachable!(),
+        match children {
+            [offsets, behind @ ..] => match validity_at(behind, len, index) {
+                None => within_budget(RowValue::Opaque, budget),
+                Some(false) => within_budget(RowValue::Null, budget),
+                Some(true) => {
+                    let bytes = self.bytes.as_host().as_slice();
+                    let part = part_at(bytes, offsets, len, index);
+                    part_row(alloc, dtype, part, budget)
                 }
-            }
+            },
+            [] => unreachable!(),
         }
     }
 }
@@ -148,23 +150,22 @@ impl VarBinArray {
         if !has_content(&dtype, len, &bytes, children.as_slice()) {
             return Err(ArrayError::BadContent);
         }
-        Ok(Array::from_parts(
-            dtype,
-            len,
-            Body::VarBin(VarBinData { bytes }),
-            children,
-        ))
+        Ok(Array::from_parts(dtype, len, Body::VarBin(VarBinData { bytes }), children))
     }
 }
 
-// The offsets of a node, and what stands behind them.
-fn parted(children: &[Array]) -> (&Array, &[Array])
-    requires { roses_of children.now ≢ end }
-    ensures { roses_of children.now ≡ more result.0.now (roses_of result.1.now) }
+// A row of a type of texts or of bytes, if there are cells to spend for it.
+fn part_row(alloc: Global, dtype: &DType, bytes: &[u8], budget: u64) -> Result<RowValue, ArrayError>
+    requires kind { IsOfBytes (typ dtype.now) }
+    requires text { IsContent (typ dtype.now) bytes.now }
+    ensures row { IfOk result (λ row. plain_value row ≡ lone (mark_of (typ dtype.now) bytes.now)) }
+    ensures fits { OnOk result (value_cells (lone (mark_of (typ dtype.now) bytes.now)) ≤ budget) }
+    ensures err { IfErr result (λ e. IsValueRefused e (value_cells (lone (mark_of (typ dtype.now) bytes.now))) budget) }
 {
-    match children {
-        [offsets, behind @ ..] => (offsets, behind),
-        [] => unreachable!(),
+    match dtype {
+        DType::Utf8(_) => text_row(alloc, bytes, budget),
+        DType::Binary(_) => bytes_row(alloc, bytes, budget),
+        _ => unreachable!(),
     }
 }
 
@@ -234,7 +235,23 @@ fn has_content(dtype: &DType, len: usize, bytes: &BufferHandle, children: &[Arra
     requires { IsWellShaped (varbin_head (typ dtype.now) len bytes.now) (roses_of children.now) }
     ensures { IsTrue result ↔ Content (typ dtype.now) len (record { bytes = bytes.now }) (rows_below (roses_of children.now)) }
 {
-    let (offsets, behind) = parted(children);
+    match children {
+        [offsets, behind @ ..] => are_content(dtype, len, bytes, offsets, behind),
+        [] => unreachable!(),
+    }
+}
+
+// The same of its offsets and what stands behind them.
+fn are_content(
+    dtype: &DType,
+    len: usize,
+    bytes: &BufferHandle,
+    offsets: &Array,
+    behind: &[Array],
+) -> bool
+    requires { IsWellShaped (varbin_head (typ dtype.now) len bytes.now) (more offsets.now (roses_of behind.now)) }
+    ensures { IsTrue result ↔ Content (typ dtype.now) len (record { bytes = bytes.now }) (rows_of offsets.now ∷ rows_below (roses_of behind.now)) }
+{
     let bytes = bytes.as_host().as_slice();
     if !are_offsets(offsets, len, bytes.len()) {
         return false;
