@@ -79,7 +79,7 @@ fn content_is_judged(rt: HostRuntime) -> Result<(), Fail> {
         ("an offset that falls", 11, 1, 20),
         ("an offset past the bytes", 15, 4, 20),
         ("a kind of floats", 96, 9, 18),
-        ("another kind", 96, 2, 19),
+        ("another kind", 96, 7, 19),
     ] {
         let given = status_with(rt.alloc(), &rt, &TYPE, place, byte)?;
         assert!(rt; given == status, "{part}");
