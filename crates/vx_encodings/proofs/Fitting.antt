@@ -47,15 +47,11 @@ module _ (e : Encoding) (d : Typ) (n : ℕ) (v : Metadata) (bs : List Buffer) (b
       refused (well_shaped (body_encoding e v bs b body_is) (metadata_again e d n v (count us) bs b (places us) body_is planned) fair
       (planned ∙ ap (λ (ps : List Place). Some ps) (sym level)) s.allows takes (subst (λ (c : Body). Holds d n c) (same_body s.body body_is s.body_is) s.holds))
 
-  -- And parts of a well-shaped node are of that shape.
-  pub fit : body_of e v bs ≡ Some b → plan_of e d n v (count us) ≡ Some (places us) → IsWellShaped (record { dtype = d; len = n; body = b }) us → IsShaped e d n v bs (count us)
-  fit body_is planned s = record {
-    body = b;
-    body_is = body_is;
-    holds = s.holds;
-    allows = subst (λ (w : Metadata). Allows e d w (count us)) (metadata_again e d n v (count us) bs b (places us) body_is planned)
-        (subst (λ (z : Encoding). Allows z d (metadata_of b (places us)) (count us)) (body_encoding e v bs b body_is) s.allows);
-  }
+  -- And so many children may stand below a well-shaped node.
+  allowed : body_of e v bs ≡ Some b → plan_of e d n v (count us) ≡ Some (places us) → IsWellShaped (record { dtype = d; len = n; body = b }) us → Allows e d v (count us)
+  allowed body_is planned s =
+      subst (λ (w : Metadata). Allows e d w (count us)) (metadata_again e d n v (count us) bs b (places us) body_is planned)
+      (subst (λ (z : Encoding). Allows z d (metadata_of b (places us)) (count us)) (body_encoding e v bs b body_is) s.allows)
 
 -- A planned node whose metadata is read.
 module _ (x : ExtMeaning) (e : Declared.Encoding) (h : ArrayHead) (v : Metadata) (m : IsMetadata codec x (plain_encoding e) (typ h.dtype) h.metadata v) where
@@ -69,5 +65,15 @@ module _ (x : ExtMeaning) (e : Declared.Encoding) (h : ArrayHead) (v : Metadata)
       record { value = v; metadata = m; wrong = inl (unfit (plain_encoding e) (typ h.dtype) h.len v bs body us body_is fair planned level takes wrong) }
   constructor_refused A.BadContent bs us body t body_is fair planned level takes q refused =
       let broken = subst (λ (z : Tree). HasBrokenContent (label z) (below z)) q refused in
-      record { value = v; metadata = m; shaped = fit (plain_encoding e) (typ h.dtype) h.len v bs body us body_is planned broken.shaped; wrong = broken.broken }
+      record {
+        value = v;
+        metadata = m;
+        shaped = record {
+          body = body;
+          body_is = body_is;
+          holds = broken.shaped.holds;
+          allows = allowed (plain_encoding e) (typ h.dtype) h.len v bs body us body_is planned broken.shaped;
+        };
+        wrong = broken.broken;
+      }
   constructor_refused A.ValueTooLarge bs us body t body_is fair planned level takes q refused = absurd refused
