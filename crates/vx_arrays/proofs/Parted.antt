@@ -1,5 +1,6 @@
 -- The children of a node of texts or of bytes: its offsets, and what stands behind them.
-use Rattle.std.proofs.Common.{ℕ, zero, suc, ◌≡◌, ◌≢◌, ◌<◌, ◌^◌, ltb, List, [], ◌∷◌, Option, Some, None, option_map, Bool, true, false, refl, sym, ap, ◌∙◌, subst, length, arith, rules, tests}
+use Rattle.std.proofs.Common.{ℕ, zero, suc, ◌≡◌, ◌≢◌, ◌<◌, ◌^◌, ltb, List, [], ◌∷◌, Option, Some, None, option_map, Bool, true, false, refl, sym, ap, ◌∙◌, subst, length, arith}
+use Rattle.std.proofs.lemmas.Bool.{lt-ltb}
 use Rattle.std.specs.Prelude.{◌↔◌, IsTrue, nat_lt}
 use Rattle.vx_buffer.specs.Buffer.{Buffer}
 use Rattle.vx_trees.specs.Rose.{node, end, more, label, count}
@@ -79,7 +80,7 @@ module _ (d : Typ) (n : ℕ) (b : Buffer) where
 -- ---- what is of that shape
 
 below_limit : (n : ℕ) → n < 2 ^ 64 → is_len n ≡ true
-below_limit n h = search (rules, tests)
+below_limit n h = lt-ltb n (2 ^ 64) h
 
 offsets_type : (d : Typ) → IsOfOffsets d → (d ≡ numbers (ptype_of d)) × IsTrue (is_integer (ptype_of d))
 offsets_type (node (K.primitive p NonNullable) end) h = (refl, h)

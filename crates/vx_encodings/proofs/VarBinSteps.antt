@@ -1,5 +1,6 @@
 -- The steps of nodes of texts and of bytes by offsets.
-use Rattle.std.proofs.Common.{ℕ, zero, suc, ◌≡◌, ◌≢◌, ◌≤◌, ◌<◌, ◌+◌, ◌-◌, ◌^◌, List, [], ◌∷◌, Option, Some, None, Bool, true, false, IsTrue, Result, Ok, Err, IfOk, refl, sym, ap, ◌∙◌, subst, length, arith, rules, tests, add-one}
+use Rattle.std.proofs.Common.{ℕ, zero, suc, ◌≡◌, ◌≢◌, ◌≤◌, ◌<◌, ◌+◌, ◌-◌, ◌^◌, List, [], ◌∷◌, Option, Some, None, Bool, true, false, IsTrue, Result, Ok, Err, IfOk, refl, sym, ap, ◌∙◌, subst, length, arith, add-one}
+use Rattle.std.proofs.lemmas.Bool.{lt-ltb, le-ltb}
 use Rattle.vx_buffer.specs.Buffer.{Buffer}
 use Rattle.vx_trees.specs.Rose.{node, end, more, roses_of, count, label}
 use Rattle.vx_trees.proofs.Lists.{count-roses_of}
@@ -50,10 +51,10 @@ pub varbins_of_floats : (x : ExtMeaning) (h : ArrayHead) (p : PType) → Reads v
 varbins_of_floats x h p r f v m = no_integer p f (kind_is_integer x (typ h.dtype) h.metadata v p m r)
 
 counted : (n : ℕ) → suc n < 2 ^ 64 → is_len (suc n) ≡ true
-counted n h = search (rules, tests)
+counted n h = lt-ltb (suc n) (2 ^ 64) h
 
 uncounted : (n : ℕ) → 2 ^ 64 ≤ suc n → is_len (suc n) ≡ false
-uncounted n h = search (rules, tests)
+uncounted n h = le-ltb (suc n) (2 ^ 64) h
 
 -- Under a type of texts or of bytes what is planned is one offset more than rows, and a validity or nothing behind them.
 plan_is : (d : Typ) (n : ℕ) (p : PType) (k : ℕ) → IsOfBytes d → suc n < 2 ^ 64 → plan d n p k ≡ before_validity (place (numbers p) (suc n) ∷ []) n k
