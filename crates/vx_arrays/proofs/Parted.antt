@@ -1,25 +1,30 @@
 -- The children of a node of texts or of bytes: its offsets, and what stands behind them.
 use Rattle.std.proofs.Common.{ℕ, zero, suc, ◌≡◌, ◌≢◌, ◌<◌, ◌^◌, ltb, List, [], ◌∷◌, Option, Some, None, option_map, Bool, true, false, refl, sym, ap, ◌∙◌, subst, length, arith}
-use Rattle.std.proofs.lemmas.Bool.{lt-ltb}
+use Rattle.std.proofs.lemmas.Bool.{false≢true, iff_false, lt-ltb}
 use Rattle.std.specs.Prelude.{◌↔◌, IsTrue, nat_lt}
 use Rattle.vx_buffer.specs.Buffer.{Buffer}
+use Rattle.vx_trees.specs.Everywhere.{EverywhereBelow}
 use Rattle.vx_trees.specs.Rose.{node, end, more, label, count}
 use Rattle.vx_types.specs.Content.{IsText}
 use Rattle.vx_types.specs.Kind as K
 use Rattle.vx_types.specs.Numbers.{is_integer}
+use Rattle.vx_types.specs.Seen.{typ}
 use Rattle.vx_types.specs.Typ.{Typ}
 use Rattle.vx_types.specs.Value.{value_cells, lone}
 use Rattle.vx_types.specs.Words.{nullability}
+use Rattle.vx_types.specs.declared.dtype.DType.{DType}
+use Rattle.vx_types.specs.declared.dtype.DType.TheVariants as D
 use Rattle.vx_types.specs.declared.nullability.Nullability.{Nullability}
 use Rattle.vx_types.specs.declared.nullability.Nullability.TheVariants.{NonNullable, Nullable}
 use Rattle.vx_types.specs.declared.ptype.PType.{PType}
 use Rattle.vx_array_tree.specs.Body as B
 use Rattle.vx_array_tree.specs.Encodings.VarBins.{Data, AreOffsets, Content, IsContent, bytes_at, mark_of, plan, planned, metadata_of}
 use Rattle.vx_array_tree.specs.Place.{Place, place, numbers, is_len, when, before_validity, ptype_of}
-use Rattle.vx_array_tree.specs.Refused.{IsWellShaped}
+use Rattle.vx_array_tree.specs.Refused.{IsWellShaped, HasBrokenContent}
 use Rattle.vx_array_tree.specs.Rows.{Rows, IsThere, validity, first, rest}
-use Rattle.vx_array_tree.specs.Sound.{IsSoundNode}
+use Rattle.vx_array_tree.specs.Sound.{IsSound, IsSoundNode}
 use Rattle.vx_array_tree.specs.Tree.{Head, Tree, Trees, places, rows_below, rows_of}
+use Rattle.vx_array_tree.proofs.Built.{shaped_sound, sound_well_shaped}
 use Rattle.vx_array_tree.proofs.Options.{mapped, let_through}
 use Rattle.vx_arrays.specs.Validity.{IsValidity}
 use Rattle.vx_arrays.specs.VarBins.{varbin_head, IsOfBytes, IsOfOffsets, IsParted}
@@ -133,20 +138,87 @@ module _ (d : Typ) (n : ℕ) (x : Data) where
       → IsContent d (bytes_at x.bytes.bytes (rows_of o) i)
   sound_text ts o vs i e s h there = let c : Content d n x (rows_of o ∷ rows_below vs) = subst (λ (z : Trees). Content d n x (rows_below z)) e s.content in c.texts i h there
 
--- ---- content
+-- ---- what tests say of parts
 
--- Under a type of bytes the offsets are all.
-pub bytes_content : (d : Typ) (n : ℕ) (x : Data) (ts : Trees) (o : Tree) (vs : Trees) → ts ≡ more o vs → ((bs : List ℕ) → IsContent d bs) → AreOffsets (rows_of o) n (length x.bytes.bytes) → Content d n x (rows_below ts)
-bytes_content d n x ts o vs e free a = subst (λ (z : Trees). Content d n x (rows_below z)) (sym e) (record { offsets = a; texts = λ i h t. free _ })
+absurd_test : {P : Type 0} → IsTrue false → P
+absurd_test t = absurd (false≢true t)
 
--- Under one of texts the rows that are there are to be texts.
-pub texts_content : (d : Typ) (n : ℕ) (x : Data) (ts : Trees) (o : Tree) (vs : Trees) → ts ≡ more o vs → AreOffsets (rows_of o) n (length x.bytes.bytes)
-    → ((i : ℕ) → i < n → IsThere (validity (rows_below vs)) i → IsContent d (bytes_at x.bytes.bytes (rows_of o) i)) → Content d n x (rows_below ts)
-texts_content d n x ts o vs e a t = subst (λ (z : Trees). Content d n x (rows_below z)) (sym e) (record { offsets = a; texts = t })
+module _ (d : Typ) (n : ℕ) (b : Buffer) (o : Tree) (vs : Trees) where
+  -- Under no type of offsets, and under a type that is none of texts or of bytes, nothing is of the shape.
+  pub unshaped_offsets : (t : Bool) (e : Typ) → (IsTrue t ↔ IsOfOffsets e) → e ≡ (label o).dtype → t ≡ false → IsTrue false ↔ IsWellShaped (varbin_head d n b) (more o vs)
+  unshaped_offsets t e f q h = (λ x. absurd_test x, λ s. absurd (iff_false f h (subst (λ (z : Typ). IsOfOffsets z) (sym q) (shaped_offsets d n b o vs s))))
 
-pub content_offsets : (d : Typ) (n : ℕ) (x : Data) (ts : Trees) (o : Tree) (vs : Trees) → ts ≡ more o vs → Content d n x (rows_below ts) → AreOffsets (rows_of o) n (length x.bytes.bytes)
-content_offsets d n x ts o vs e s = let c : Content d n x (rows_of o ∷ rows_below vs) = subst (λ (z : Trees). Content d n x (rows_below z)) e s in c.offsets
+  pub unshaped_bytes : (t : Bool) → (IsTrue t ↔ IsOfBytes d) → t ≡ false → IsTrue false ↔ IsWellShaped (varbin_head d n b) (more o vs)
+  unshaped_bytes t f h = (λ x. absurd_test x, λ s. absurd (iff_false f h (shaped_bytes d n b (more o vs) s)))
 
-pub content_texts : (d : Typ) (n : ℕ) (x : Data) (ts : Trees) (o : Tree) (vs : Trees) → ts ≡ more o vs → Content d n x (rows_below ts)
-    → (i : ℕ) → i < n → IsThere (validity (rows_below vs)) i → IsContent d (bytes_at x.bytes.bytes (rows_of o) i)
-content_texts d n x ts o vs e s = let c : Content d n x (rows_of o ∷ rows_below vs) = subst (λ (z : Trees). Content d n x (rows_below z)) e s in c.texts
+  -- Else it is the validity that decides.
+  pub validity_decides : (t u r : Bool) (e : Typ) (m : Nullability) → (IsTrue t ↔ IsOfOffsets e) → e ≡ (label o).dtype → t ≡ true → (IsTrue u ↔ IsOfBytes d) → u ≡ true → (label o).len ≡ suc n → suc n < 2 ^ 64
+      → m ≡ nullability d → (IsTrue r ↔ IsValidity m n vs) → IsTrue r ↔ IsWellShaped (varbin_head d n b) (more o vs)
+  validity_decides t u r e m f q h g k l lt w v =
+      let offsets = subst (λ (z : Typ). IsOfOffsets z) q (f.0 h) in (
+        λ x. shaped_of d n b o vs (g.0 k) offsets l lt (subst (λ (z : Nullability). IsValidity z n vs) w (v.0 x)),
+        λ s. v.1 (subst (λ (z : Nullability). IsValidity z n vs) (sym w) (shaped_validity d n b o vs s)),
+      )
+
+  pub shaped_counted : IsWellShaped (varbin_head d n b) (more o vs) → (label o).len ≡ suc n
+  shaped_counted s = (shaped_parted d n b o vs s).counted
+
+  pub shaped_planned : IsWellShaped (varbin_head d n b) (more o vs) → before_validity [] n (count vs) ≡ Some (places vs)
+  shaped_planned s = (shaped_parted d n b o vs s).planned
+
+  -- ---- what is made
+
+  pub is_now_shaped : (t : Bool) → ((b : Buffer) → IsTrue t ↔ IsWellShaped (varbin_head d n b) (more o vs)) → t ≡ true → IsWellShaped (varbin_head d n b) (more o vs)
+  is_now_shaped t f h = (f b).0 h
+
+  pub is_misshaped : (t : Bool) → ((b : Buffer) → IsTrue t ↔ IsWellShaped (varbin_head d n b) (more o vs)) → t ≡ false → IsWellShaped (varbin_head d n b) (more o vs) → ⊥
+  is_misshaped t f h s = iff_false (f b) h s
+
+  pub never_sound : (t : Bool) → ((b : Buffer) → IsTrue t ↔ IsWellShaped (varbin_head d n b) (more o vs)) → t ≡ false → IsSound (node (varbin_head d n b) (more o vs)) → ⊥
+  never_sound t f h s = iff_false (f b) h (sound_well_shaped (varbin_head d n b) (more o vs) s.0)
+
+  pub is_broken : (t u : Bool) → ((b : Buffer) → IsTrue t ↔ IsWellShaped (varbin_head d n b) (more o vs)) → t ≡ true → (IsTrue u ↔ Content d n (record { bytes = b }) (rows_of o ∷ rows_below vs)) → u ≡ false
+      → HasBrokenContent (varbin_head d n b) (more o vs)
+  is_broken t u f h g k = record { shaped = (f b).0 h; broken = iff_false g k }
+
+  pub never_broken : (u : Bool) → (IsTrue u ↔ Content d n (record { bytes = b }) (rows_of o ∷ rows_below vs)) → u ≡ false → IsSound (node (varbin_head d n b) (more o vs)) → ⊥
+  never_broken u g k s = iff_false g k s.0.content
+
+  pub is_sound_node : (t u : Bool) (ts : Trees) → ts ≡ more o vs → ((b : Buffer) → IsTrue t ↔ IsWellShaped (varbin_head d n b) (more o vs)) → t ≡ true
+      → (IsTrue u ↔ Content d n (record { bytes = b }) (rows_of o ∷ rows_below vs)) → u ≡ true → IsSoundNode (varbin_head d n b) ts
+  is_sound_node t u ts e f h g k = subst (λ (z : Trees). IsSoundNode (varbin_head d n b) z) (sym e) (shaped_sound (varbin_head d n b) (more o vs) ((f b).0 h) (g.0 k))
+
+  pub are_sound_below : (t : Bool) (ts : Trees) → ts ≡ more o vs → (IsTrue t → EverywhereBelow IsSoundNode (more o vs)) → t ≡ true → EverywhereBelow IsSoundNode ts
+  are_sound_below t ts e f h = subst (λ (z : Trees). EverywhereBelow IsSoundNode z) (sym e) (f h)
+
+-- ---- what tests say of content
+
+module _ (z : DType) (n : ℕ) (x : Data) (o : Tree) (vs : Trees) where
+  pub no_offsets : (t : Bool) (bs : List ℕ) → bs ≡ x.bytes.bytes → (IsTrue t ↔ AreOffsets (rows_of o) n (length bs)) → t ≡ false → IsTrue false ↔ Content (typ z) n x (rows_of o ∷ rows_below vs)
+  no_offsets t bs e f h = (λ w. absurd_test w, λ c. absurd (iff_false f h (subst (λ (y : List ℕ). AreOffsets (rows_of o) n (length y)) (sym e) c.offsets)))
+
+  -- Under a type of texts the rows that are there are to be texts.
+  pub texts_decide : (m : Nullability) (t r : Bool) (bs : List ℕ) → z ≡ D.Utf8 m → bs ≡ x.bytes.bytes → (IsTrue t ↔ AreOffsets (rows_of o) n (length bs)) → t ≡ true
+      → (IsTrue r ↔ ((i : ℕ) → i < n → IsThere (validity (rows_below vs)) i → IsText (bytes_at bs (rows_of o) i))) → IsTrue r ↔ Content (typ z) n x (rows_of o ∷ rows_below vs)
+  texts_decide m t r bs q e f h g =
+      let k : typ z ≡ node (K.utf8 m) end = ap (λ y. typ y) q in
+      let a = subst (λ (y : List ℕ). AreOffsets (rows_of o) n (length y)) e (f.0 h) in
+      let T : Typ → List ℕ → Type 0 = λ y ys. (i : ℕ) → i < n → IsThere (validity (rows_below vs)) i → IsContent y (bytes_at ys (rows_of o) i) in (
+        λ w. record { offsets = a; texts = subst (λ (y : Typ). T y x.bytes.bytes) (sym k) (subst (λ (ys : List ℕ). T (node (K.utf8 m) end) ys) e (g.0 w)) },
+        λ c. g.1 (subst (λ (ys : List ℕ). T (node (K.utf8 m) end) ys) (sym e) (subst (λ (y : Typ). T y x.bytes.bytes) k c.texts)),
+      )
+
+  -- Under one of bytes the offsets are all.
+  pub bytes_decide : (m : Nullability) (t : Bool) (bs : List ℕ) → z ≡ D.Binary m → bs ≡ x.bytes.bytes → (IsTrue t ↔ AreOffsets (rows_of o) n (length bs)) → t ≡ true → IsTrue true ↔ Content (typ z) n x (rows_of o ∷ rows_below vs)
+  bytes_decide m t bs q e f h =
+      let k : typ z ≡ node (K.binary m) end = ap (λ y. typ y) q in
+      let T : Typ → Type 0 = λ y. (i : ℕ) → i < n → IsThere (validity (rows_below vs)) i → IsContent y (bytes_at x.bytes.bytes (rows_of o) i) in
+      (λ w. record { offsets = subst (λ (y : List ℕ). AreOffsets (rows_of o) n (length y)) e (f.0 h); texts = subst T (sym k) (λ i l there. tt) }, λ c. refl)
+
+pub ruleset shaping = (unshaped_offsets, unshaped_bytes, validity_decides)
+
+pub ruleset making = (is_now_shaped, is_misshaped, never_sound, is_broken, never_broken, is_sound_node, are_sound_below)
+
+pub ruleset judging = (shaped_counted, shaped_planned, shaped_bytes, no_offsets, texts_decide, bytes_decide)
+
+pub ruleset parting = (sound_some, sound_bytes, sound_parted, sound_offsets, sound_text)

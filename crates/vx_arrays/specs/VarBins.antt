@@ -14,10 +14,13 @@ use Rattle.vx_array_tree.specs.Tree.{Head, Tree, Trees, option_trees, places}
 abbrev pub varbin_head : Typ → ℕ → Buffer → Head
 varbin_head d n bytes = record { dtype = d; len = n; body = B.varbin (record { bytes = bytes }) }
 
--- One row less than there are offsets, whose bytes stand in a buffer: a node over the offsets and the validity, where
--- one stands.
+-- It stands over the offsets and the validity, where one stands.
+abbrev pub varbin_node : Typ → ℕ → Tree → Buffer → Option Tree → Tree
+varbin_node d n offsets bytes validity = node (varbin_head d n bytes) (more offsets (option_trees validity))
+
+-- There is one row less than there are offsets.
 abbrev pub varbin_tree : Typ → Tree → Buffer → Option Tree → Tree
-varbin_tree d offsets bytes validity = node (varbin_head d ((label offsets).len - 1) bytes) (more offsets (option_trees validity))
+varbin_tree d offsets bytes validity = varbin_node d ((label offsets).len - 1) offsets bytes validity
 
 -- The types of texts and of bytes.
 abbrev pub IsOfBytes : Typ → Type 0

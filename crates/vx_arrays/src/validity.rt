@@ -29,6 +29,18 @@ pub(crate) fn validity_at(children: &[Array], len: usize, index: usize) -> Optio
     }
 }
 
+// The same by the validity that a node of `len` rows is to have.
+pub(crate) fn option_validity_at(validity: &Option<Array>, len: usize, index: usize) -> Option<bool>
+    requires planned { before_validity [] len (count (option_trees validity.now)) ≡ Some (places (option_trees validity.now)) }
+    requires inside { index < len }
+    ensures { result ≡ validity (rows_below (option_trees validity.now)) index }
+{
+    match validity {
+        None => Some(true),
+        Some(array) => array.flag_at(index),
+    }
+}
+
 // Whether an array may be the validity of a node of this nullability and length.
 pub(crate) fn is_validity(nullability: Nullability, len: usize, validity: &Option<Array>) -> bool
     ensures fits { IsTrue result ↔ IsValidity nullability len (option_trees validity.now) }

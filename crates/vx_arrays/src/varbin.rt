@@ -1,8 +1,9 @@
 //! Arrays of texts or of bytes by offsets.
 
-ghost use Rattle.std.specs.Prelude.{◌≡◌, ◌<◌, ◌≤◌, ◌↔◌, ◌∷◌, IfOk, IfErr, OnOk, IsOkUnless, IsTrue};
+ghost use Rattle.std.specs.Prelude.{suc, ◌^◌, ◌≡◌, ◌<◌, ◌≤◌, ◌↔◌, ◌∷◌, IfOk, IfErr, OnOk, IsOkUnless, IsTrue};
 ghost use Rattle.vx_trees.specs.Everywhere.{EverywhereBelow};
-ghost use Rattle.vx_trees.specs.Rose.{label, below, more, roses_of};
+ghost use Rattle.vx_trees.specs.Rose.{label, more, roses_of};
+ghost use Rattle.vx_buffer.specs.Buffer.{Buffer};
 ghost use Rattle.vx_types.specs.Seen.{typ};
 ghost use Rattle.vx_types.specs.Value.{lone, value_cells};
 ghost use Rattle.vx_array_tree.specs.Body as B;
@@ -13,7 +14,7 @@ ghost use Rattle.vx_array_tree.specs.Sound.{IsSound, IsSoundNode};
 ghost use Rattle.vx_array_tree.specs.Tree.{Head, option_trees, rows_below, rows_of};
 ghost use Rattle.vx_arrays.specs.Plain.{plain_value};
 ghost use Rattle.vx_arrays.specs.Refused.{IsUnmade, IsRowRefused, IsValueRefused, IsOkOrMemory};
-ghost use Rattle.vx_arrays.specs.VarBins.{IsOfBytes, IsOfOffsets, varbin_head, varbin_tree};
+ghost use Rattle.vx_arrays.specs.VarBins.{IsOfBytes, IsOfOffsets, varbin_head, varbin_node, varbin_tree};
 
 use crate::array::Array;
 use crate::body::Body;
@@ -142,16 +143,38 @@ impl VarBinArray {
         ensures err { IfErr result (λ e. IsUnmade e (varbin_tree (typ dtype) offsets bytes validity)) }
         ensures complete { IsSound (varbin_tree (typ dtype) offsets bytes validity) → IsOkOrMemory result }
     {
-        if !is_shaped(&dtype, &offsets, &bytes, &validity) {
-            return Err(ArrayError::BadShape);
+        match offsets.len().checked_sub(1) {
+            None => Err(ArrayError::BadShape),
+            Some(len) => of_parts(alloc, dtype, len, offsets, bytes, validity),
         }
-        let len = offsets.len() - 1;
-        let children = with_validity(alloc, offsets, validity)?;
-        if !has_content(&dtype, len, &bytes, children.as_slice()) {
-            return Err(ArrayError::BadContent);
-        }
-        Ok(Array::from_parts(dtype, len, Body::VarBin(VarBinData { bytes }), children))
     }
+}
+
+// The array of so many rows, whose bytes stand in the buffer.
+#[tactic(auto, using(crate::proofs::Parted::making))]
+fn of_parts(
+    alloc: Global,
+    dtype: DType,
+    len: usize,
+    offsets: Array,
+    bytes: BufferHandle,
+    validity: Option<Array>,
+) -> Result<Array, ArrayError>
+    requires counted { (label offsets).len ≡ suc len }
+    requires few { suc len < 2 ^ 64 }
+    ensures ok { IfOk result (λ a. a ≡ varbin_node (typ dtype) len offsets bytes validity) }
+    ensures sound { IfOk result IsSound }
+    ensures err { IfErr result (λ e. IsUnmade e (varbin_node (typ dtype) len offsets bytes validity)) }
+    ensures complete { IsSound (varbin_node (typ dtype) len offsets bytes validity) → IsOkOrMemory result }
+{
+    if !is_shaped(&dtype, len, &offsets, &validity) {
+        return Err(ArrayError::BadShape);
+    }
+    if !has_content(&dtype, len, &offsets, &bytes, &validity) {
+        return Err(ArrayError::BadContent);
+    }
+    let children = with_validity(alloc, offsets, validity)?;
+    Ok(Array::from_parts(dtype, len, Body::VarBin(VarBinData { bytes }), children))
 }
 
 // A row of a type of texts or of bytes, if there are cells to spend for it.
@@ -170,26 +193,20 @@ fn part_row(alloc: Global, dtype: &DType, bytes: &[u8], budget: u64) -> Result<R
 }
 
 // Whether parts are of the shape that the encoding asks for.
-fn is_shaped(
-    dtype: &DType,
-    offsets: &Array,
-    _bytes: &BufferHandle,
-    validity: &Option<Array>,
-) -> bool
-    ensures shaped { let tree = varbin_tree (typ dtype.now) offsets.now _bytes.now validity.now in
-        IsTrue result ↔ IsWellShaped (label tree) (below tree) }
-    ensures sound { EverywhereBelow IsSoundNode (below (varbin_tree (typ dtype.now) offsets.now _bytes.now validity.now)) }
+#[tactic(auto, using(crate::proofs::Parted::shaping))]
+fn is_shaped(dtype: &DType, len: usize, offsets: &Array, validity: &Option<Array>) -> bool
+    requires counted { (label offsets.now).len ≡ suc len }
+    requires few { suc len < 2 ^ 64 }
+    ensures shaped { (b : Buffer) → IsTrue result ↔ IsWellShaped (varbin_head (typ dtype.now) len b) (more offsets.now (option_trees validity.now)) }
+    ensures sound { IsTrue result → EverywhereBelow IsSoundNode (more offsets.now (option_trees validity.now)) }
 {
-    if offsets.is_empty() {
-        return false;
-    }
     if !is_of_offsets(offsets.dtype()) {
         return false;
     }
     if !is_of_bytes(dtype) {
         return false;
     }
-    is_validity(dtype.nullability(), offsets.len() - 1, validity)
+    is_validity(dtype.nullability(), len, validity)
 }
 
 // Whether a type is one of texts or of bytes.
@@ -230,34 +247,24 @@ fn with_validity(
     Ok(children)
 }
 
-// Whether the content of a node of the right shape is right: its offsets are, and so are its texts.
-fn has_content(dtype: &DType, len: usize, bytes: &BufferHandle, children: &[Array]) -> bool
-    requires { IsWellShaped (varbin_head (typ dtype.now) len bytes.now) (roses_of children.now) }
-    ensures { IsTrue result ↔ Content (typ dtype.now) len (record { bytes = bytes.now }) (rows_below (roses_of children.now)) }
-{
-    match children {
-        [offsets, behind @ ..] => are_content(dtype, len, bytes, offsets, behind),
-        [] => unreachable!(),
-    }
-}
-
-// The same of its offsets and what stands behind them.
-fn are_content(
+// Whether the content of parts of the right shape is right: the offsets are, and so are the texts.
+#[tactic(auto, using(crate::proofs::Parted::judging))]
+fn has_content(
     dtype: &DType,
     len: usize,
-    bytes: &BufferHandle,
     offsets: &Array,
-    behind: &[Array],
+    bytes: &BufferHandle,
+    validity: &Option<Array>,
 ) -> bool
-    requires { IsWellShaped (varbin_head (typ dtype.now) len bytes.now) (more offsets.now (roses_of behind.now)) }
-    ensures { IsTrue result ↔ Content (typ dtype.now) len (record { bytes = bytes.now }) (rows_of offsets.now ∷ rows_below (roses_of behind.now)) }
+    requires { IsWellShaped (varbin_head (typ dtype.now) len bytes.now) (more offsets.now (option_trees validity.now)) }
+    ensures { IsTrue result ↔ Content (typ dtype.now) len (record { bytes = bytes.now }) (rows_of offsets.now ∷ rows_below (option_trees validity.now)) }
 {
     let bytes = bytes.as_host().as_slice();
     if !are_offsets(offsets, len, bytes.len()) {
         return false;
     }
     match dtype {
-        DType::Utf8(_) => are_texts(bytes, offsets, behind, len),
+        DType::Utf8(_) => are_texts(bytes, offsets, validity, len),
         DType::Binary(_) => true,
         _ => unreachable!(),
     }
