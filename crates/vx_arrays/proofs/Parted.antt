@@ -1,5 +1,5 @@
 -- The children of a node of texts or of bytes: its offsets, and what stands behind them.
-use Rattle.std.proofs.Common.{ℕ, zero, suc, ◌≡◌, ◌≢◌, ◌<◌, ◌^◌, ltb, List, [], ◌∷◌, Option, Some, None, option_map, Bool, true, false, refl, sym, ap, ◌∙◌, subst, length, arith}
+use Rattle.std.proofs.Common.{ℕ, zero, suc, ◌≡◌, ◌≢◌, ◌<◌, ◌^◌, ltb, List, [], ◌∷◌, Option, Some, None, option_map, Result, IfOk, IfErr, Bool, true, false, refl, sym, ap, ◌∙◌, subst, length, arith}
 use Rattle.std.proofs.lemmas.Bool.{false≢true, iff_false, lt-ltb}
 use Rattle.std.specs.Prelude.{◌↔◌, IsTrue, nat_lt}
 use Rattle.vx_buffer.specs.Buffer.{Buffer}
@@ -27,7 +27,9 @@ use Rattle.vx_array_tree.specs.Tree.{Head, Tree, Trees, places, rows_below, rows
 use Rattle.vx_array_tree.proofs.Built.{shaped_sound, sound_well_shaped}
 use Rattle.vx_array_tree.proofs.Options.{mapped, let_through}
 use Rattle.vx_arrays.specs.Validity.{IsValidity}
-use Rattle.vx_arrays.specs.VarBins.{varbin_head, IsOfBytes, IsOfOffsets, IsParted}
+use Rattle.vx_arrays.specs.Refused.{IsUnmade, IsOkOrMemory}
+use Rattle.vx_arrays.specs.VarBins.{varbin_head, varbin_node, varbin_tree, IsOfBytes, IsOfOffsets, IsParted}
+use Rattle.vx_arrays.specs.declared.error.ArrayError.{ArrayError}
 
 -- ---- what a plan says
 
@@ -191,6 +193,25 @@ module _ (d : Typ) (n : ℕ) (b : Buffer) (o : Tree) (vs : Trees) where
   pub are_sound_below : (t : Bool) (ts : Trees) → ts ≡ more o vs → (IsTrue t → EverywhereBelow IsSoundNode (more o vs)) → t ≡ true → EverywhereBelow IsSoundNode ts
   are_sound_below t ts e f h = subst (λ (z : Trees). EverywhereBelow IsSoundNode z) (sym e) (f h)
 
+-- ---- by the number of offsets
+
+-- No node is made over no offsets.
+pub never_empty : (d : Typ) (b : Buffer) (o : Tree) (vs : Trees) → (label o).len ≡ 0 → IsWellShaped (varbin_head d ((label o).len - 1) b) (more o vs) → ⊥
+never_empty d b o vs e s = omega (arith, shaped_counted d ((label o).len - 1) b o vs s, e)
+
+pub never_sound_empty : (d : Typ) (b : Buffer) (o : Tree) (vs : Trees) → (label o).len ≡ 0 → IsSound (node (varbin_head d ((label o).len - 1) b) (more o vs)) → ⊥
+never_sound_empty d b o vs e s = never_empty d b o vs e (sound_well_shaped (varbin_head d ((label o).len - 1) b) (more o vs) s.0)
+
+module _ (r : Result Tree ArrayError) (d : Typ) (n : ℕ) (o : Tree) (b : Buffer) (v : Option Tree) (e : n ≡ (label o).len - 1) where
+  pub made_as : IfOk r (λ a. a ≡ varbin_node d n o b v) → IfOk r (λ a. a ≡ varbin_tree d o b v)
+  made_as h = subst (λ (k : ℕ). IfOk r (λ a. a ≡ varbin_node d k o b v)) e h
+
+  pub unmade_as : IfErr r (λ x. IsUnmade x (varbin_node d n o b v)) → IfErr r (λ x. IsUnmade x (varbin_tree d o b v))
+  unmade_as h = subst (λ (k : ℕ). IfErr r (λ x. IsUnmade x (varbin_node d k o b v))) e h
+
+  pub complete_as : (IsSound (varbin_node d n o b v) → IsOkOrMemory r) → IsSound (varbin_tree d o b v) → IsOkOrMemory r
+  complete_as h = subst (λ (k : ℕ). IsSound (varbin_node d k o b v) → IsOkOrMemory r) e h
+
 -- ---- what tests say of content
 
 module _ (z : DType) (n : ℕ) (x : Data) (o : Tree) (vs : Trees) where
@@ -218,6 +239,8 @@ module _ (z : DType) (n : ℕ) (x : Data) (o : Tree) (vs : Trees) where
 pub ruleset shaping = (unshaped_offsets, unshaped_bytes, validity_decides)
 
 pub ruleset making = (is_now_shaped, is_misshaped, never_sound, is_broken, never_broken, is_sound_node, are_sound_below)
+
+pub ruleset naming = (never_empty, never_sound_empty, made_as, unmade_as, complete_as)
 
 pub ruleset judging = (shaped_counted, shaped_planned, shaped_bytes, no_offsets, texts_decide, bytes_decide)
 

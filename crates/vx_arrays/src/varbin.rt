@@ -131,6 +131,7 @@ impl VarBinArray {
     /// `BadShape` where the type is another one, where there are no offsets or they are no integers that are never null,
     /// or where the validity may not stand. `BadContent` where an offset is below 0, below the one before or past the
     /// bytes, or where a row of a type of texts is there and no text.
+    #[tactic(auto, using(crate::proofs::Parted::naming))]
     pub fn try_new(
         alloc: Global,
         dtype: DType,

@@ -2,7 +2,7 @@
 
 ghost use Rattle.std.specs.Prelude.{◌≡◌, ◌≤◌, [], ◌∷◌, Some, IfOk, IfErr, length};
 ghost use Rattle.vx_trees.specs.Rose.{more, roses_of};
-ghost use Rattle.vx_array_tree.specs.Place.{before_validity};
+ghost use Rattle.vx_array_tree.specs.Place.{before_validity, validity_place};
 ghost use Rattle.vx_array_tree.specs.Tree.{option_trees};
 ghost use Rattle.vx_encodings.specs.Plain.{planned_place};
 ghost use Rattle.vx_encodings.specs.Steps.{IsWithoutPlan};
@@ -12,6 +12,16 @@ use crate::plans::{ChildPlan, ChildPlans};
 use std::alloc::Global;
 use vx_arrays::Array;
 use vx_types::{DType, Nullability};
+
+// What the validity of so many rows is to be.
+fn validity_of(len: usize) -> ChildPlan
+    ensures { planned_place result ≡ validity_place len }
+{
+    ChildPlan {
+        dtype: DType::Bool(Nullability::NonNullable),
+        len,
+    }
+}
 
 // A validity child, where one stands among so many children.
 pub(crate) fn plan_validity(
@@ -26,10 +36,7 @@ pub(crate) fn plan_validity(
     match count {
         0 => Ok(plans),
         1 => {
-            plans.push(ChildPlan {
-                dtype: DType::Bool(Nullability::NonNullable),
-                len,
-            })?;
+            plans.push(validity_of(len))?;
             Ok(plans)
         }
         _ => Err(EncodingError::BadShape),
@@ -60,10 +67,7 @@ pub(crate) fn plan_behind(
     match count {
         1 => Ok(plans),
         2 => {
-            plans.push(ChildPlan {
-                dtype: DType::Bool(Nullability::NonNullable),
-                len,
-            })?;
+            plans.push(validity_of(len))?;
             Ok(plans)
         }
         _ => Err(EncodingError::BadShape),
