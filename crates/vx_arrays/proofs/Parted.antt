@@ -124,21 +124,29 @@ module _ (d : Typ) (n : ℕ) (x : Data) where
   shape : (ts : Trees) → IsSoundNode (record { dtype = d; len = n; body = B.varbin x }) ts → IsWellShaped (varbin_head d n x.bytes) ts
   shape ts s = record { fair = s.fair; planned = s.planned; allows = s.allows; takes = s.takes; holds = s.holds }
 
-  pub sound_some : (ts : Trees) → IsSoundNode (record { dtype = d; len = n; body = B.varbin x }) ts → ts ≢ end
-  sound_some ts s = shaped_some d n x.bytes ts (shape ts s)
-
   pub sound_bytes : (ts : Trees) → IsSoundNode (record { dtype = d; len = n; body = B.varbin x }) ts → IsOfBytes d
   sound_bytes ts s = shaped_bytes d n x.bytes ts (shape ts s)
 
-  pub sound_parted : (ts : Trees) (o : Tree) (vs : Trees) → ts ≡ more o vs → IsSoundNode (record { dtype = d; len = n; body = B.varbin x }) ts → IsParted n o vs
-  sound_parted ts o vs e s = shaped_parted d n x.bytes o vs (subst (λ (z : Trees). IsWellShaped (varbin_head d n x.bytes) z) e (shape ts s))
+  module _ (ts : Trees) (o : Tree) (vs : Trees) (e : ts ≡ more o vs) (s : IsSoundNode (record { dtype = d; len = n; body = B.varbin x }) ts) where
+    front_shape : IsWellShaped (varbin_head d n x.bytes) (more o vs)
+    front_shape = subst (λ (z : Trees). IsWellShaped (varbin_head d n x.bytes) z) e (shape ts s)
 
-  pub sound_offsets : (ts : Trees) (o : Tree) (vs : Trees) → ts ≡ more o vs → IsSoundNode (record { dtype = d; len = n; body = B.varbin x }) ts → AreOffsets (rows_of o) n (length x.bytes.bytes)
-  sound_offsets ts o vs e s = let c : Content d n x (rows_of o ∷ rows_below vs) = subst (λ (z : Trees). Content d n x (rows_below z)) e s.content in c.offsets
+    content : Content d n x (rows_of o ∷ rows_below vs)
+    content = subst (λ (z : Trees). Content d n x (rows_below z)) e s.content
 
-  pub sound_text : (ts : Trees) (o : Tree) (vs : Trees) (i : ℕ) → ts ≡ more o vs → IsSoundNode (record { dtype = d; len = n; body = B.varbin x }) ts → i < n → IsThere (validity (rows_below vs)) i
-      → IsContent d (bytes_at x.bytes.bytes (rows_of o) i)
-  sound_text ts o vs i e s h there = let c : Content d n x (rows_of o ∷ rows_below vs) = subst (λ (z : Trees). Content d n x (rows_below z)) e s.content in c.texts i h there
+    pub sound_counted : (label o).len ≡ suc n
+    sound_counted = (shaped_parted d n x.bytes o vs front_shape).counted
+
+    pub sound_planned : before_validity [] n (count vs) ≡ Some (places vs)
+    sound_planned = (shaped_parted d n x.bytes o vs front_shape).planned
+
+    pub sound_offsets : (bs : List ℕ) → bs ≡ x.bytes.bytes → AreOffsets (rows_of o) n (length bs)
+    sound_offsets bs q = subst (λ (y : List ℕ). AreOffsets (rows_of o) n (length y)) (sym q) content.offsets
+
+    -- A row that is there is of the type's content.
+    pub sound_text : (bs part : List ℕ) (i : ℕ) → bs ≡ x.bytes.bytes → i < n → validity (rows_below vs) i ≡ Some true → part ≡ bytes_at bs (rows_of o) i → IsContent d part
+    sound_text bs part i q h there p =
+        subst (λ (y : List ℕ). IsContent d y) (sym p) (subst (λ (y : List ℕ). IsContent d (bytes_at y (rows_of o) i)) (sym q) (content.texts i h there))
 
 -- ---- what tests say of parts
 
@@ -244,4 +252,4 @@ pub ruleset naming = (never_empty, never_sound_empty, made_as, unmade_as, comple
 
 pub ruleset judging = (shaped_counted, shaped_planned, shaped_bytes, no_offsets, texts_decide, bytes_decide)
 
-pub ruleset parting = (sound_some, sound_bytes, sound_parted, sound_offsets, sound_text)
+pub ruleset parting = (sound_bytes, sound_counted, sound_planned, sound_offsets, sound_text)

@@ -84,6 +84,7 @@ impl VarBinData {
     }
 
     // A row's value in a node of this type, length and children, if there are cells to spend for it.
+    #[tactic(auto, using(crate::proofs::Parted::parting))]
     pub(crate) fn value_at(
         &self,
         alloc: Global,
