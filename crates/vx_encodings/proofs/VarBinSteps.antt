@@ -1,6 +1,6 @@
 -- The steps of nodes of texts and of bytes by offsets.
-use Rattle.std.proofs.Common.{ℕ, zero, suc, ◌≡◌, ◌≢◌, ◌≤◌, ◌<◌, ◌+◌, ◌-◌, ◌^◌, List, [], ◌∷◌, Option, Some, None, Bool, true, false, IsTrue, Result, Ok, Err, IfOk, refl, sym, ap, ◌∙◌, subst, length, arith, add-one}
-use Rattle.std.proofs.lemmas.Bool.{lt-ltb, le-ltb}
+use Rattle.std.proofs.Common.{ℕ, zero, suc, ◌≡◌, ◌≢◌, ◌≤◌, ◌<◌, ◌+◌, ◌-◌, ◌^◌, ◌↔◌, List, [], ◌∷◌, Option, Some, None, Bool, true, false, IsTrue, Result, Ok, Err, IfOk, refl, sym, ap, ◌∙◌, subst, length, arith, add-one}
+use Rattle.std.proofs.lemmas.Bool.{iff_false, lt-ltb, le-ltb}
 use Rattle.vx_buffer.specs.Buffer.{Buffer}
 use Rattle.vx_trees.specs.Rose.{node, end, more, roses_of, count, label}
 use Rattle.vx_trees.proofs.Lists.{count-roses_of}
@@ -47,8 +47,8 @@ no_integer : (p : PType) → is_integer p ≡ false → IsTrue (is_integer p) �
 no_integer p e t = absurd (cc)
 
 -- Nor are those of a kind of floats.
-pub varbins_of_floats : (x : ExtMeaning) (h : ArrayHead) (p : PType) → Reads varbin_schema 0 h.metadata (varbin_value p) → is_integer p ≡ false → IsUnplanned BadMetadata x VarBin h
-varbins_of_floats x h p r f v m = no_integer p f (kind_is_integer x (typ h.dtype) h.metadata v p m r)
+pub varbins_of_floats : (x : ExtMeaning) (h : ArrayHead) (p : PType) (t : Bool) → Reads varbin_schema 0 h.metadata (varbin_value p) → t ≡ is_integer p → t ≡ false → IsUnplanned BadMetadata x VarBin h
+varbins_of_floats x h p t r e f v m = no_integer p (sym e ∙ f) (kind_is_integer x (typ h.dtype) h.metadata v p m r)
 
 counted : (n : ℕ) → suc n < 2 ^ 64 → is_len (suc n) ≡ true
 counted n h = lt-ltb (suc n) (2 ^ 64) h
@@ -73,33 +73,34 @@ plan_past (node (binary m) end) n p k h = rw (uncounted n h) refl
 plan_past _ n p k h = refl
 
 -- Where the type is another one, or the offsets cannot be counted, the shape does not fit.
-pub varbins_of_others : (x : ExtMeaning) (h : ArrayHead) (p : PType) → Reads varbin_schema 0 h.metadata (varbin_value p) → IsTrue (is_integer p) → (IsOfBytes (typ h.dtype) → ⊥) → IsUnplanned BadShape x VarBin h
-varbins_of_others x h p r t o = single_unplanned x VarBin h (M.varbin p) (varbin_metadata x (typ h.dtype) h.metadata p r t) (plan_none (typ h.dtype) h.len p h.nchildren o)
+pub varbins_of_others : (x : ExtMeaning) (h : ArrayHead) (p : PType) (t u : Bool) → Reads varbin_schema 0 h.metadata (varbin_value p) → t ≡ is_integer p → t ≡ true → (IsTrue u ↔ IsOfBytes (typ h.dtype)) → u ≡ false → IsUnplanned BadShape x VarBin h
+varbins_of_others x h p t u r e f g k =
+    single_unplanned x VarBin h (M.varbin p) (varbin_metadata x (typ h.dtype) h.metadata p r (sym e ∙ f)) (plan_none (typ h.dtype) h.len p h.nchildren (iff_false g k))
 
-pub varbins_uncounted : (x : ExtMeaning) (h : ArrayHead) (p : PType) → Reads varbin_schema 0 h.metadata (varbin_value p) → IsTrue (is_integer p) → 2 ^ 64 ≤ h.len + 1 → IsUnplanned BadShape x VarBin h
-varbins_uncounted x h p r t past =
-    single_unplanned x VarBin h (M.varbin p) (varbin_metadata x (typ h.dtype) h.metadata p r t) (plan_past (typ h.dtype) h.len p h.nchildren (omega (arith, past)))
+pub varbins_uncounted : (x : ExtMeaning) (h : ArrayHead) (p : PType) (t : Bool) → Reads varbin_schema 0 h.metadata (varbin_value p) → t ≡ is_integer p → t ≡ true → 2 ^ 64 ≤ h.len + 1 → IsUnplanned BadShape x VarBin h
+varbins_uncounted x h p t r e f past =
+    single_unplanned x VarBin h (M.varbin p) (varbin_metadata x (typ h.dtype) h.metadata p r (sym e ∙ f)) (plan_past (typ h.dtype) h.len p h.nchildren (omega (arith, past)))
 
 -- What is answered for offsets and a validity behind them is the answer for the node.
-pub varbins_planned : (x : ExtMeaning) (h : ArrayHead) (r : Result (List Place) EncodingError) (p : PType) (k : ℕ) → Reads varbin_schema 0 h.metadata (varbin_value p) → IsTrue (is_integer p) → IsOfBytes (typ h.dtype) → k ≡ h.len + 1 → k < 2 ^ 64
+pub varbins_planned : (x : ExtMeaning) (h : ArrayHead) (r : Result (List Place) EncodingError) (p : PType) (t u : Bool) (k : ℕ) → Reads varbin_schema 0 h.metadata (varbin_value p) → t ≡ is_integer p → t ≡ true → (IsTrue u ↔ IsOfBytes (typ h.dtype)) → u ≡ true → k ≡ h.len + 1 → k < 2 ^ 64
     → IfOk r (λ ps. before_validity (place (numbers p) k ∷ []) h.len h.nchildren ≡ Some ps) → IfOk r (λ ps. IsPlanned x VarBin h ps)
-varbins_planned x h (Ok ps) p k shown t b e lt q =
+varbins_planned x h (Ok ps) p t u k shown i f g b e lt q =
     record {
       value = M.varbin p;
-      metadata = varbin_metadata x (typ h.dtype) h.metadata p shown t;
-      plan = plan_is (typ h.dtype) h.len p h.nchildren b (omega (arith, e, lt))
+      metadata = varbin_metadata x (typ h.dtype) h.metadata p shown (sym i ∙ f);
+      plan = plan_is (typ h.dtype) h.len p h.nchildren (g.0 b) (omega (arith, e, lt))
           ∙ ap (λ j. before_validity (place (numbers p) j ∷ []) h.len h.nchildren) (sym (e ∙ add-one h.len)) ∙ q;
     }
-varbins_planned x h (Err error) p k shown t b e lt q = tt
+varbins_planned x h (Err error) p t u k shown i f g b e lt q = tt
 
-pub varbins_without : (error : EncodingError) (x : ExtMeaning) (h : ArrayHead) (p : PType) (k : ℕ) → Reads varbin_schema 0 h.metadata (varbin_value p) → IsTrue (is_integer p) → IsOfBytes (typ h.dtype) → k ≡ h.len + 1 → k < 2 ^ 64
+pub varbins_without : (error : EncodingError) (x : ExtMeaning) (h : ArrayHead) (p : PType) (t u : Bool) (k : ℕ) → Reads varbin_schema 0 h.metadata (varbin_value p) → t ≡ is_integer p → t ≡ true → (IsTrue u ↔ IsOfBytes (typ h.dtype)) → u ≡ true → k ≡ h.len + 1 → k < 2 ^ 64
     → IsWithoutPlan error (before_validity (place (numbers p) k ∷ []) h.len h.nchildren) → IsUnplanned error x VarBin h
-varbins_without OutOfMemory x h p k shown t b e lt w = tt
-varbins_without BadMetadata x h p k shown t b e lt w = absurd w
-varbins_without BadShape x h p k shown t b e lt w =
-    single_unplanned x VarBin h (M.varbin p) (varbin_metadata x (typ h.dtype) h.metadata p shown t)
-    (plan_is (typ h.dtype) h.len p h.nchildren b (omega (arith, e, lt)) ∙ ap (λ j. before_validity (place (numbers p) j ∷ []) h.len h.nchildren) (sym (e ∙ add-one h.len)) ∙ w)
-varbins_without BadContent x h p k shown t b e lt w = absurd w
+varbins_without OutOfMemory x h p t u k shown i f g b e lt w = tt
+varbins_without BadMetadata x h p t u k shown i f g b e lt w = absurd w
+varbins_without BadShape x h p t u k shown i f g b e lt w =
+    single_unplanned x VarBin h (M.varbin p) (varbin_metadata x (typ h.dtype) h.metadata p shown (sym i ∙ f))
+    (plan_is (typ h.dtype) h.len p h.nchildren (g.0 b) (omega (arith, e, lt)) ∙ ap (λ j. before_validity (place (numbers p) j ∷ []) h.len h.nchildren) (sym (e ∙ add-one h.len)) ∙ w)
+varbins_without BadContent x h p t u k shown i f g b e lt w = absurd w
 
 -- ---- building
 
