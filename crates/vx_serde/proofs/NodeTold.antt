@@ -214,14 +214,13 @@ caused_by_build s refusals.BadShape w d n e h bs ws ps ts read plan own own_chil
         broken = elim wrong.wrong [ inl never ↦ inr (inl (shaped never)) | inr never ↦ inr (inr (encodings ts, are_of s (below w) ts matched, never)) ];
       },
     )
-
 caused_by_build s refusals.BadContent w d n e h bs ws ps ts read plan own own_children told c =
     let wrong = at_node (λ f m b k. HasWrongContent codec s.ext (plain_encoding e) f m b bs ts) h w d n read.head c in
-    let planned = at_node (λ f m b k. PlansChildren codec s.ext (plain_encoding e) f m b k ps) h w d n read.head plan in
+    let plans = at_node (λ f m b k. PlansChildren codec s.ext (plain_encoding e) f m b k ps) h w d n read.head plan in
     let A : Wires → Type 0 = λ z. AllMatch codec s z ts in
     let matched : AllMatch codec s (below w) ts = subst A own_children told.matched in
     let same : count ts ≡ count (below w) = matched_count codec s (below w) ts matched in
-    let value = one_value s.ext (plain_encoding e) d (label w).metadata planned.value wrong.value planned.metadata wrong.metadata in
+    let value = one_value s.ext (plain_encoding e) d (label w).metadata plans.value wrong.value plans.metadata wrong.metadata in
     let broken = content_broken (plain_encoding e) d n wrong.value bs (count ts) (count (below w)) ts same wrong.shaped wrong.wrong in (
       [],
       record {
@@ -230,7 +229,7 @@ caused_by_build s refusals.BadContent w d n e h bs ws ps ts read plan own own_ch
         value = wrong.value;
         metadata = wrong.metadata;
         places_are = ps;
-        plan = ap (λ z. plan_of (plain_encoding e) d n z (count (below w))) (sym value) ∙ planned.plan;
+        plan = ap (λ z. plan_of (plain_encoding e) d n z (count (below w))) (sym value) ∙ plans.plan;
         buffers = bs;
         buffers_are = own;
         shaped = broken.0;
