@@ -1,16 +1,17 @@
 -- The children of a node of texts or of bytes: its offsets, and what stands behind them.
-use Rattle.std.proofs.Common.{ℕ, zero, suc, ◌≡◌, ◌≢◌, ◌<◌, ◌≤◌, ◌+◌, ◌-◌, ◌^◌, add-zero, OnOk, ltb, List, [], ◌∷◌, Option, Some, None, option_map, Result, IfOk, IfErr, Bool, true, false, refl, sym, ap, ◌∙◌, subst, length, arith}
+use Rattle.std.proofs.Common.{take, drop, get_or, OnErr, ◌<◌, ℕ, zero, suc, ◌≡◌, ◌≢◌, ◌≤◌, ◌+◌, ◌-◌, ◌^◌, add-zero, OnOk, ltb, List, [], ◌∷◌, Option, Some, None, option_map, Result, Ok, Err, IfOk, IfErr, Bool, true, false, refl, sym, ap, ◌∙◌, subst, length, arith}
+use Rattle.std.proofs.lemmas.List.{take_all}
 use Rattle.std.proofs.lemmas.Bool.{false≢true, iff_false, lt-ltb}
 use Rattle.std.specs.Prelude.{◌↔◌, IsTrue, nat_lt}
 use Rattle.vx_buffer.specs.Buffer.{Buffer}
 use Rattle.vx_trees.specs.Everywhere.{EverywhereBelow}
-use Rattle.vx_trees.specs.Rose.{node, end, more, label, count}
+use Rattle.vx_trees.specs.Rose.{node, end, more, label, count, roses_of}
 use Rattle.vx_types.specs.Content.{IsText}
 use Rattle.vx_types.specs.Kind as K
 use Rattle.vx_types.specs.Numbers.{is_integer}
 use Rattle.vx_types.specs.Seen.{typ}
 use Rattle.vx_types.specs.Typ.{Typ}
-use Rattle.vx_types.specs.Value.{value_cells, lone, utf8, binary}
+use Rattle.vx_types.specs.Value.{Value, value_cells, lone, null, opaque, utf8, binary}
 use Rattle.vx_types.specs.Words.{nullability}
 use Rattle.vx_types.specs.declared.dtype.DType.{DType}
 use Rattle.vx_types.specs.declared.dtype.DType.TheVariants as D
@@ -19,9 +20,10 @@ use Rattle.vx_types.specs.declared.nullability.Nullability.TheVariants.{NonNulla
 use Rattle.vx_types.specs.declared.ptype.PType.{PType}
 use Rattle.vx_array_tree.specs.Body as B
 use Rattle.vx_array_tree.specs.Encodings.VarBins.{Data, AreOffsets, Content, IsContent, bytes_at, mark_of, plan, planned, metadata_of}
+use Rattle.vx_array_tree.specs.Encodings.VarBins.{rows as rows_of_parts}
 use Rattle.vx_array_tree.specs.Place.{Place, place, numbers, is_len, when, before_validity, ptype_of}
 use Rattle.vx_array_tree.specs.Refused.{IsWellShaped, HasBrokenContent}
-use Rattle.vx_array_tree.specs.Rows.{Rows, IsThere, validity, first, rest}
+use Rattle.vx_array_tree.specs.Rows.{Rows, IsThere, validity, first, rest, where_valid}
 use Rattle.vx_array_tree.specs.Sound.{IsSound, IsSoundNode}
 use Rattle.vx_array_tree.specs.Tree.{Head, Tree, Trees, places, rows_below, rows_of}
 use Rattle.vx_array_tree.proofs.Built.{shaped_sound, sound_well_shaped}
@@ -31,6 +33,7 @@ use Rattle.vx_arrays.specs.Plain.{plain_value}
 use Rattle.vx_arrays.specs.Refused.{IsUnmade, IsValueRefused, IsOkOrMemory}
 use Rattle.vx_arrays.specs.VarBins.{varbin_head, varbin_node, varbin_tree, IsOfBytes, IsOfOffsets, IsParted}
 use Rattle.vx_arrays.specs.declared.error.ArrayError.{ArrayError}
+use Rattle.vx_arrays.specs.declared.error.ArrayError.TheVariants.{ValueTooLarge}
 use Rattle.vx_arrays.specs.declared.row.RowValue.{RowValue}
 
 -- ---- what a plan says
@@ -150,6 +153,26 @@ module _ (d : Typ) (n : ℕ) (x : Data) where
     sound_text bs part i q h there p =
         subst (λ (y : List ℕ). IsContent d y) (sym p) (subst (λ (y : List ℕ). IsContent d (bytes_at y (rows_of o) i)) (sym q) (content.texts i h there))
 
+    -- ---- the rows of the node
+
+    -- A row that is there is its bytes.
+    pub row_there : (bs part : List ℕ) (i : ℕ) → bs ≡ x.bytes.bytes → validity (rows_below vs) i ≡ Some true → part ≡ bytes_at bs (rows_of o) i → lone (mark_of d part) ≡ (rows_of_parts d n x (rows_below ts)).row i
+    row_there bs part i q there p =
+        ap (λ (y : List ℕ). lone (mark_of d y)) (p ∙ ap (λ (y : List ℕ). bytes_at y (rows_of o) i) q)
+        ∙ sym (ap (λ (w : Option Bool). where_valid w (λ j. lone (mark_of d (bytes_at x.bytes.bytes (rows_of o) j))) i) there)
+        ∙ ap (λ (z : Trees). (rows_of_parts d n x (rows_below z)).row i) (sym e)
+
+    -- One that is not there is null, and one of which that is not known is opaque.
+    pub row_null : (i : ℕ) → validity (rows_below vs) i ≡ Some false → lone null ≡ (rows_of_parts d n x (rows_below ts)).row i
+    row_null i there =
+        sym (ap (λ (w : Option Bool). where_valid w (λ j. lone (mark_of d (bytes_at x.bytes.bytes (rows_of o) j))) i) there)
+        ∙ ap (λ (z : Trees). (rows_of_parts d n x (rows_below z)).row i) (sym e)
+
+    pub row_unknown : (i : ℕ) → validity (rows_below vs) i ≡ None → lone opaque ≡ (rows_of_parts d n x (rows_below ts)).row i
+    row_unknown i there =
+        sym (ap (λ (w : Option Bool). where_valid w (λ j. lone (mark_of d (bytes_at x.bytes.bytes (rows_of o) j))) i) there)
+        ∙ ap (λ (z : Trees). (rows_of_parts d n x (rows_below z)).row i) (sym e)
+
 -- ---- the value of a row
 
 -- A type of texts or of bytes is one of the two.
@@ -195,6 +218,36 @@ module _ (z : DType) (m : Nullability) (bs : List ℕ) where
 
       pub bytes_row_refused : z ≡ D.Binary m → IfErr r (λ e. IsValueRefused e (suc (length bs)) budget) → IfErr r (λ e. IsValueRefused e (value_cells (lone (mark_of (typ z) bs))) budget)
       bytes_row_refused e h = as_bytes (λ d. IfErr r (λ x. IsValueRefused x (value_cells (lone (mark_of d bs))) budget)) e (refused_at h)
+
+-- ---- a row and its cells
+
+-- The first of some children, and those behind it.
+pub first_and_behind : (ts : List Tree) (o : Tree) → 1 ≤ length ts → o ≡ get_or ts 0 o → roses_of ts ≡ more o (roses_of (take (length ts - 1) (drop 1 ts)))
+first_and_behind [] o h e = absurd (omega (arith, h))
+first_and_behind (t ∷ ts) o h e =
+    let a : take (suc (length ts) - 1) ts ≡ ts = take_all {A = Tree} (suc (length ts) - 1) ts (omega arith) in
+    ap (λ (u : Tree). more u (roses_of ts)) (sym e) ∙ ap (λ (us : List Tree). more o (roses_of us)) (sym a)
+
+module _ (r : Result RowValue ArrayError) (v w : Value) (e : v ≡ w) where
+  -- What is said of a row is said of the same one.
+  pub same_row : IfOk r (λ row. plain_value row ≡ v) → IfOk r (λ row. plain_value row ≡ w)
+  same_row h = subst (λ (z : Value). IfOk r (λ row. plain_value row ≡ z)) e h
+
+  module _ (budget : ℕ) where
+    pub same_fits : OnOk r (value_cells v ≤ budget) → IfOk r (λ row. value_cells w ≤ budget)
+    same_fits h = subst (λ (z : Value). IfOk r (λ row. value_cells z ≤ budget)) e h
+
+    pub same_refused : IfErr r (λ x. IsValueRefused x (value_cells v) budget) → IfErr r (λ x. IsValueRefused x (value_cells w) budget)
+    same_refused h = subst (λ (z : Value). IfErr r (λ x. IsValueRefused x (value_cells z) budget)) e h
+
+-- A row that takes one cell is refused where there is none.
+pub small_row : (r : Result RowValue ArrayError) (row : RowValue) → IfOk r (λ y. y ≡ row) → IfOk r (λ y. plain_value y ≡ plain_value row)
+small_row (Ok y) row h = ap (λ (z : RowValue). plain_value z) h
+small_row (Err x) row h = tt
+
+pub small_refused : (r : Result RowValue ArrayError) (budget : ℕ) → IfErr r (λ x. x ≡ ValueTooLarge) → OnErr r (budget < 1) → IfErr r (λ x. IsValueRefused x 1 budget)
+small_refused (Ok y) budget h l = tt
+small_refused (Err x) budget h l = subst (λ (z : ArrayError). IsValueRefused z 1 budget) (sym h) l
 
 -- ---- what tests say of parts
 
@@ -291,13 +344,3 @@ module _ (z : DType) (n : ℕ) (x : Data) (o : Tree) (vs : Trees) where
       let k : typ z ≡ node (K.binary m) end = ap (λ y. typ y) q in
       let T : Typ → Type 0 = λ y. (i : ℕ) → i < n → IsThere (validity (rows_below vs)) i → IsContent y (bytes_at x.bytes.bytes (rows_of o) i) in
       (λ w. record { offsets = subst (λ (y : List ℕ). AreOffsets (rows_of o) n (length y)) e (f.0 h); texts = subst T (sym k) (λ i l there. tt) }, λ c. refl)
-
-pub ruleset shaping = (unshaped_offsets, unshaped_bytes, validity_decides)
-
-pub ruleset making = (is_now_shaped, is_misshaped, never_sound, is_broken, never_broken, is_sound_node, are_sound_below)
-
-pub ruleset naming = (never_empty, never_sound_empty, made_as, unmade_as, complete_as)
-
-pub ruleset judging = (shaped_counted, shaped_planned, shaped_bytes, no_offsets, texts_decide, bytes_decide)
-
-pub ruleset parting = (sound_bytes, sound_counted, sound_planned, sound_offsets, sound_text)

@@ -1,5 +1,5 @@
 -- The steps of nodes of texts and of bytes by offsets.
-use Rattle.std.proofs.Common.{ℕ, zero, suc, ◌≡◌, ◌≢◌, ◌≤◌, ◌<◌, ◌+◌, ◌-◌, ◌^◌, ◌↔◌, List, [], ◌∷◌, Option, Some, None, Bool, true, false, IsTrue, Result, Ok, Err, IfOk, refl, sym, ap, ◌∙◌, subst, length, arith, add-one}
+use Rattle.std.proofs.Common.{ℕ, zero, suc, ◌≡◌, ◌≢◌, ◌≤◌, ◌<◌, ◌+◌, ◌-◌, ◌^◌, ◌↔◌, List, [], ◌∷◌, Option, Some, None, Bool, true, false, IsTrue, Result, Ok, Err, IfOk, IfErr, refl, sym, ap, ◌∙◌, subst, length, arith, add-one}
 use Rattle.std.proofs.lemmas.Bool.{iff_false, lt-ltb, le-ltb}
 use Rattle.vx_buffer.specs.Buffer.{Buffer}
 use Rattle.vx_trees.specs.Rose.{node, end, more, roses_of, count, label}
@@ -101,6 +101,11 @@ varbins_without BadShape x h p t u k shown i f g b e lt w =
     single_unplanned x VarBin h (M.varbin p) (varbin_metadata x (typ h.dtype) h.metadata p shown (sym i ∙ f))
     (plan_is (typ h.dtype) h.len p h.nchildren (g.0 b) (omega (arith, e, lt)) ∙ ap (λ j. before_validity (place (numbers p) j ∷ []) h.len h.nchildren) (sym (e ∙ add-one h.len)) ∙ w)
 varbins_without BadContent x h p t u k shown i f g b e lt w = absurd w
+
+pub varbins_refused_plan : (x : ExtMeaning) (h : ArrayHead) (r : Result (List Place) EncodingError) (p : PType) (t u : Bool) (k : ℕ) → Reads varbin_schema 0 h.metadata (varbin_value p) → t ≡ is_integer p → t ≡ true → (IsTrue u ↔ IsOfBytes (typ h.dtype)) → u ≡ true → k ≡ h.len + 1 → k < 2 ^ 64
+    → IfErr r (λ error. IsWithoutPlan error (before_validity (place (numbers p) k ∷ []) h.len h.nchildren)) → IfErr r (λ error. IsUnplanned error x VarBin h)
+varbins_refused_plan x h (Ok ps) p t u k shown i f g b e lt w = tt
+varbins_refused_plan x h (Err error) p t u k shown i f g b e lt w = varbins_without error x h p t u k shown i f g b e lt w
 
 -- ---- building
 

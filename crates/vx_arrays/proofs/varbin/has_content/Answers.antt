@@ -1,53 +1,39 @@
-use Rattle.std.proofs.Common.{rules, suc, ◌^◌, ◌≡◌, ◌<◌, ◌≤◌, ◌↔◌, ◌∷◌, IfOk, IfErr, OnOk, IsOkUnless, IsTrue, ℕ, ◌+◌, ◌-◌, ◌*◌, length, ◌/◌, ◌%◌, Bool, true, false, nat_eq, nat_lt, List, [], ◌++◌, slice_index_or, slice_set, bit_and, bit_or, Fits, w8, w32, w64, Bor, MutBor}
-use Rattle.vx_trees.specs.Everywhere.{EverywhereBelow}
-use Rattle.vx_trees.specs.Rose.{label, more, roses_of}
+-- The content of parts is right where their offsets are and, under a type of texts, their texts.
+use Rattle.std.proofs.Common.{◌≡◌, ◌∙◌, ap}
 use Rattle.vx_buffer.specs.Buffer.{Buffer}
+use Rattle.vx_trees.specs.Rose.{more}
 use Rattle.vx_types.specs.Seen.{typ}
-use Rattle.vx_types.specs.Value.{lone, value_cells}
-use Rattle.vx_array_tree.specs.Body as B
-use Rattle.vx_array_tree.specs.Encodings.VarBins.{Content, IsContent, mark_of}
-use Rattle.vx_array_tree.specs.Encodings.VarBins.{rows as rows_of_parts}
-use Rattle.vx_array_tree.specs.Refused.{IsWellShaped}
-use Rattle.vx_array_tree.specs.Rows.{rest, validity}
-use Rattle.vx_array_tree.specs.Sound.{IsSound, IsSoundNode}
-use Rattle.vx_array_tree.specs.Tree.{Head, option_trees, rows_below, rows_of}
-use Rattle.vx_arrays.specs.Plain.{plain_value}
-use Rattle.vx_arrays.specs.Refused.{IsUnmade, IsRowRefused, IsValueRefused, IsOkOrMemory}
-use Rattle.vx_arrays.specs.VarBins.{IsOfBytes, IsOfOffsets, varbin_head, varbin_node, varbin_tree}
+use Rattle.vx_array_tree.specs.Tree.{option_trees}
+use Rattle.vx_arrays.proofs.Parted.{shaped_counted, shaped_planned, shaped_bytes, of_bytes, no_offsets, texts_decide, bytes_decide}
 use Rattle.vx_arrays.proofs.varbin.has_content.Goals as goal
 
--- src/varbin.rt:266:9
 pub are_offsets-requires : goal.are_offsets-requires
-are_offsets-requires c = ?
+are_offsets-requires c = record { counted = shaped_counted (typ c.args.dtype.now) c.args.len c.args.bytes.now c.args.offsets.now (option_trees c.args.validity.now) c.requires }
 
--- src/varbin.rt:267:9
 pub returns-then-not-are_offsets : goal.returns-then-not-are_offsets
-returns-then-not-are_offsets c = ?
+returns-then-not-are_offsets c =
+    no_offsets c.args.dtype.now c.args.len (record { bytes = c.args.bytes.now }) c.args.offsets.now (option_trees c.args.validity.now) c.are_offsets.result c.as_slice-bytes.result.now
+    (c.as_slice-bytes.ensures ∙ ap (λ (b : Buffer). b.bytes) c.as_host.ensures) c.are_offsets.ensures c.if-not-are_offsets.true
 
--- src/varbin.rt:270:27
 pub are_texts-requires-clause-counted : goal.are_texts-requires-clause-counted
-are_texts-requires-clause-counted c = ?
+are_texts-requires-clause-counted c = shaped_counted (typ c.args.dtype.now) c.args.len c.args.bytes.now c.args.offsets.now (option_trees c.args.validity.now) c.requires
 
--- src/varbin.rt:270:27
 pub are_texts-requires-clause-offsets : goal.are_texts-requires-clause-offsets
-are_texts-requires-clause-offsets c = ?
+are_texts-requires-clause-offsets c = c.are_offsets.ensures.0 c.if-not-are_offsets.false
 
--- src/varbin.rt:270:27
 pub are_texts-requires-clause-planned : goal.are_texts-requires-clause-planned
-are_texts-requires-clause-planned c = ?
+are_texts-requires-clause-planned c = shaped_planned (typ c.args.dtype.now) c.args.len c.args.bytes.now c.args.offsets.now (option_trees c.args.validity.now) c.requires
 
--- src/varbin.rt:272:14
 pub unreachable-requires : goal.unreachable-requires
-unreachable-requires c = ?
+unreachable-requires c =
+    of_bytes c.args.dtype.now (shaped_bytes (typ c.args.dtype.now) c.args.len c.args.bytes.now (more c.args.offsets.now (option_trees c.args.validity.now)) c.requires) c.in_default.not-Utf8 c.in_default.not-Binary
 
--- src/varbin.rt:272:14
-pub unreachable-unreachable : goal.unreachable-unreachable
-unreachable-unreachable c = ?
-
--- src/varbin.rt:254:1
 pub returns-in-Utf8 : goal.returns-in-Utf8
-returns-in-Utf8 c = ?
+returns-in-Utf8 c =
+    texts_decide c.args.dtype.now c.args.len (record { bytes = c.args.bytes.now }) c.args.offsets.now (option_trees c.args.validity.now) c.in-Utf8.field-0 c.are_offsets.result c.are_texts.result
+    c.as_slice-bytes.result.now c.in-Utf8.is (c.as_slice-bytes.ensures ∙ ap (λ (b : Buffer). b.bytes) c.as_host.ensures) c.are_offsets.ensures c.if-not-are_offsets.false c.are_texts.ensures
 
--- src/varbin.rt:254:1
 pub returns-in-Binary : goal.returns-in-Binary
-returns-in-Binary c = ?
+returns-in-Binary c =
+    bytes_decide c.args.dtype.now c.args.len (record { bytes = c.args.bytes.now }) c.args.offsets.now (option_trees c.args.validity.now) c.in-Binary.field-0 c.are_offsets.result c.as_slice-bytes.result.now
+    c.in-Binary.is (c.as_slice-bytes.ensures ∙ ap (λ (b : Buffer). b.bytes) c.as_host.ensures) c.are_offsets.ensures c.if-not-are_offsets.false

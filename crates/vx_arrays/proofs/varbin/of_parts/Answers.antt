@@ -1,86 +1,59 @@
-use Rattle.std.proofs.Common.{rules, suc, ◌^◌, ◌≡◌, ◌<◌, ◌≤◌, ◌↔◌, ◌∷◌, IfOk, IfErr, OnOk, IsOkUnless, IsTrue, ℕ, ◌+◌, ◌-◌, ◌*◌, length, ◌/◌, ◌%◌, Bool, true, false, nat_eq, nat_lt, List, [], ◌++◌, slice_index_or, slice_set, bit_and, bit_or, Fits, w8, w32, w64, Bor, MutBor}
-use Rattle.vx_trees.specs.Everywhere.{EverywhereBelow}
-use Rattle.vx_trees.specs.Rose.{label, more, roses_of}
-use Rattle.vx_buffer.specs.Buffer.{Buffer}
+-- What is made of parts that are of the shape and of right content, and why others are refused.
+use Rattle.std.proofs.Common.{◌≡◌, ◌∙◌, ap, subst, sym, refl}
+use Rattle.vx_trees.specs.Rose.{node, more}
 use Rattle.vx_types.specs.Seen.{typ}
-use Rattle.vx_types.specs.Value.{lone, value_cells}
-use Rattle.vx_array_tree.specs.Body as B
-use Rattle.vx_array_tree.specs.Encodings.VarBins.{Content, IsContent, mark_of}
-use Rattle.vx_array_tree.specs.Encodings.VarBins.{rows as rows_of_parts}
-use Rattle.vx_array_tree.specs.Refused.{IsWellShaped}
-use Rattle.vx_array_tree.specs.Rows.{rest, validity}
-use Rattle.vx_array_tree.specs.Sound.{IsSound, IsSoundNode}
-use Rattle.vx_array_tree.specs.Tree.{Head, option_trees, rows_below, rows_of}
-use Rattle.vx_arrays.specs.Plain.{plain_value}
-use Rattle.vx_arrays.specs.Refused.{IsUnmade, IsRowRefused, IsValueRefused, IsOkOrMemory}
-use Rattle.vx_arrays.specs.VarBins.{IsOfBytes, IsOfOffsets, varbin_head, varbin_node, varbin_tree}
+use Rattle.vx_array_tree.specs.Tree.{Tree, Trees, option_trees}
+use Rattle.vx_array_tree.specs.Sound.{IsSound}
+use Rattle.vx_arrays.specs.VarBins.{varbin_head, varbin_node}
+use Rattle.vx_arrays.proofs.Parted.{is_now_shaped, is_misshaped, never_sound, is_broken, never_broken, is_sound_node, are_sound_below}
 use Rattle.vx_arrays.proofs.varbin.of_parts.Goals as goal
 
--- src/varbin.rt:172:9
 pub is_shaped-requires-clause-counted : goal.is_shaped-requires-clause-counted
-is_shaped-requires-clause-counted c = ?
+is_shaped-requires-clause-counted c = c.requires.counted
 
--- src/varbin.rt:172:9
 pub is_shaped-requires-clause-few : goal.is_shaped-requires-clause-few
-is_shaped-requires-clause-few c = ?
+is_shaped-requires-clause-few c = c.requires.few
 
--- src/varbin.rt:173:9
 pub returns-then-not-is_shaped-clause-err : goal.returns-then-not-is_shaped-clause-err
-returns-then-not-is_shaped-clause-err c = ?
+returns-then-not-is_shaped-clause-err c =
+    is_misshaped (typ c.args.dtype) c.args.len c.args.bytes c.args.offsets (option_trees c.args.validity) c.is_shaped.result c.is_shaped.ensures.shaped c.if-not-is_shaped.true
 
--- src/varbin.rt:173:9
 pub returns-then-not-is_shaped-clause-complete : goal.returns-then-not-is_shaped-clause-complete
-returns-then-not-is_shaped-clause-complete c = ?
+returns-then-not-is_shaped-clause-complete c =
+    never_sound (typ c.args.dtype) c.args.len c.args.bytes c.args.offsets (option_trees c.args.validity) c.is_shaped.result c.is_shaped.ensures.shaped c.if-not-is_shaped.true
 
--- src/varbin.rt:175:9
 pub has_content-requires : goal.has_content-requires
-has_content-requires c = ?
+has_content-requires c = is_now_shaped (typ c.args.dtype) c.args.len c.args.bytes c.args.offsets (option_trees c.args.validity) c.is_shaped.result c.is_shaped.ensures.shaped c.if-not-is_shaped.false
 
--- src/varbin.rt:176:9
 pub returns-then-not-has_content-clause-err : goal.returns-then-not-has_content-clause-err
-returns-then-not-has_content-clause-err c = ?
+returns-then-not-has_content-clause-err c =
+    is_broken (typ c.args.dtype) c.args.len c.args.bytes c.args.offsets (option_trees c.args.validity) c.is_shaped.result c.has_content.result c.is_shaped.ensures.shaped c.if-not-is_shaped.false
+    c.has_content.ensures c.if-not-has_content.true
 
--- src/varbin.rt:176:9
-pub returns-then-not-has_content-clause-complete :
-    goal.returns-then-not-has_content-clause-complete
-returns-then-not-has_content-clause-complete c = ?
+pub returns-then-not-has_content-clause-complete : goal.returns-then-not-has_content-clause-complete
+returns-then-not-has_content-clause-complete c =
+    never_broken (typ c.args.dtype) c.args.len c.args.bytes c.args.offsets (option_trees c.args.validity) c.has_content.result c.has_content.ensures c.if-not-has_content.true
 
--- src/varbin.rt:178:41
-pub same-offsets : goal.same-offsets
-same-offsets c = ?
-
--- src/varbin.rt:178:20
-pub returns-in_err-children-clause-ok : goal.returns-in_err-children-clause-ok
-returns-in_err-children-clause-ok c = ?
-
--- src/varbin.rt:178:20
-pub returns-in_err-children-clause-sound : goal.returns-in_err-children-clause-sound
-returns-in_err-children-clause-sound c = ?
-
--- src/varbin.rt:178:20
-pub returns-in_err-children-clause-err : goal.returns-in_err-children-clause-err
-returns-in_err-children-clause-err c = ?
-
--- src/varbin.rt:178:20
-pub returns-in_err-children-clause-complete : goal.returns-in_err-children-clause-complete
-returns-in_err-children-clause-complete c = ?
-
--- src/varbin.rt:179:64
-pub same-bytes : goal.same-bytes
-same-bytes c = ?
-
--- src/varbin.rt:179:8
 pub from_parts-requires-clause-node : goal.from_parts-requires-clause-node
-from_parts-requires-clause-node c = ?
+from_parts-requires-clause-node c =
+    is_sound_node (typ c.args.dtype) c.args.len c.args.bytes c.args.offsets (option_trees c.args.validity) c.is_shaped.result c.has_content.result _ c.in_ok-children.ensures.children
+    c.is_shaped.ensures.shaped c.if-not-is_shaped.false c.has_content.ensures c.if-not-has_content.false
 
--- src/varbin.rt:179:8
 pub from_parts-requires-clause-below : goal.from_parts-requires-clause-below
-from_parts-requires-clause-below c = ?
+from_parts-requires-clause-below c =
+    are_sound_below (typ c.args.dtype) c.args.len c.args.bytes c.args.offsets (option_trees c.args.validity) c.is_shaped.result _ c.in_ok-children.ensures.children c.is_shaped.ensures.sound
+    c.if-not-is_shaped.false
 
--- src/varbin.rt:156:1
 pub returns-clause-ok : goal.returns-clause-ok
-returns-clause-ok c = ?
+returns-clause-ok c = c.from_parts.ensures ∙ ap (λ (ts : Trees). node (varbin_head (typ c.args.dtype) c.args.len c.args.bytes) ts) c.in_ok-children.ensures.children
 
--- src/varbin.rt:156:1
 pub returns-clause-sound : goal.returns-clause-sound
-returns-clause-sound c = ?
+returns-clause-sound c =
+    let e : c.from_parts.result ≡ varbin_node (typ c.args.dtype) c.args.len c.args.offsets c.args.bytes c.args.validity =
+    c.from_parts.ensures ∙ ap (λ (ts : Trees). node (varbin_head (typ c.args.dtype) c.args.len c.args.bytes) ts) c.in_ok-children.ensures.children
+    in
+    subst (λ (t : Tree). IsSound t) (sym e) (
+      is_sound_node (typ c.args.dtype) c.args.len c.args.bytes c.args.offsets (option_trees c.args.validity) c.is_shaped.result c.has_content.result (more c.args.offsets (option_trees c.args.validity)) refl
+          c.is_shaped.ensures.shaped c.if-not-is_shaped.false c.has_content.ensures c.if-not-has_content.false,
+      c.is_shaped.ensures.sound c.if-not-is_shaped.false,
+    )

@@ -8,9 +8,6 @@ text_row-requires c = record { text = text_of_type c.args.dtype.now c.in-Utf8.fi
 pub unreachable-requires : goal.unreachable-requires
 unreachable-requires c = of_bytes c.args.dtype.now c.requires.kind c.in_default.not-Utf8 c.in_default.not-Binary
 
-pub unreachable-unreachable : goal.unreachable-unreachable
-unreachable-unreachable c = c.unreachable.result
-
 pub returns-in-Utf8-clause-row : goal.returns-in-Utf8-clause-row
 returns-in-Utf8-clause-row c = text_row_is c.args.dtype.now c.in-Utf8.field-0 c.args.bytes.now c.text_row.result c.in-Utf8.is c.text_row.ensures.row
 

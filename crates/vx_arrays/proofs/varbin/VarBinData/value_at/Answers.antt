@@ -1,105 +1,154 @@
-use Rattle.std.proofs.Common.{rules, suc, ◌^◌, ◌≡◌, ◌<◌, ◌≤◌, ◌↔◌, ◌∷◌, IfOk, IfErr, OnOk, IsOkUnless, IsTrue, ℕ, ◌+◌, ◌-◌, ◌*◌, length, ◌/◌, ◌%◌, Bool, true, false, nat_eq, nat_lt, List, [], ◌++◌, slice_index_or, slice_set, bit_and, bit_or, Fits, w8, w32, w64, Bor, MutBor}
-use Rattle.vx_trees.specs.Everywhere.{EverywhereBelow}
-use Rattle.vx_trees.specs.Rose.{label, more, roses_of}
+-- The children are offsets and what stands behind them; a row that is there is its bytes.
+use Rattle.std.proofs.Common.{◌≡◌, ◌∙◌, ◌-◌, ap, sym, Bool, Some, length, take, drop}
 use Rattle.vx_buffer.specs.Buffer.{Buffer}
+use Rattle.vx_trees.specs.Rose.{roses_of}
 use Rattle.vx_types.specs.Seen.{typ}
-use Rattle.vx_types.specs.Value.{lone, value_cells}
-use Rattle.vx_array_tree.specs.Body as B
-use Rattle.vx_array_tree.specs.Encodings.VarBins.{Content, IsContent, mark_of}
+use Rattle.vx_types.specs.Value.{lone, null, opaque}
+use Rattle.vx_array_tree.specs.Encodings.VarBins.{Data, mark_of}
 use Rattle.vx_array_tree.specs.Encodings.VarBins.{rows as rows_of_parts}
-use Rattle.vx_array_tree.specs.Refused.{IsWellShaped}
-use Rattle.vx_array_tree.specs.Rows.{rest, validity}
-use Rattle.vx_array_tree.specs.Sound.{IsSound, IsSoundNode}
-use Rattle.vx_array_tree.specs.Tree.{Head, option_trees, rows_below, rows_of}
-use Rattle.vx_arrays.specs.Plain.{plain_value}
-use Rattle.vx_arrays.specs.Refused.{IsUnmade, IsRowRefused, IsValueRefused, IsOkOrMemory}
-use Rattle.vx_arrays.specs.VarBins.{IsOfBytes, IsOfOffsets, varbin_head, varbin_node, varbin_tree}
+use Rattle.vx_array_tree.specs.Tree.{rows_below}
+use Rattle.vx_arrays.specs.declared.row.RowValue.TheVariants as R
+use Rattle.vx_arrays.proofs.Parted.{first_and_behind, sound_bytes, sound_counted, sound_planned, sound_offsets, sound_text, row_there, row_null, row_unknown, same_row, same_fits, same_refused, small_row, small_refused}
 use Rattle.vx_arrays.proofs.varbin.VarBinData.value_at.Goals as goal
 
--- src/varbin.rt:117:19
-pub unreachable-requires : goal.unreachable-requires
-unreachable-requires c = ?
-
--- src/varbin.rt:117:19
-pub unreachable-unreachable : goal.unreachable-unreachable
-unreachable-unreachable c = ?
-
--- src/varbin.rt:107:9
-pub slice_bounds-behind-count : goal.slice_bounds-behind-count
-slice_bounds-behind-count c = ?
-
--- src/varbin.rt:108:14
-pub bounds-children-0 : goal.bounds-children-0
-bounds-children-0 c = ?
-
--- src/varbin.rt:108:23
-pub slice_bounds-behind-start : goal.slice_bounds-behind-start
-slice_bounds-behind-start c = ?
-
--- src/varbin.rt:108:23
-pub slice_bounds-behind-end : goal.slice_bounds-behind-end
-slice_bounds-behind-end c = ?
-
--- src/varbin.rt:108:45
 pub validity_at-requires-clause-planned : goal.validity_at-requires-clause-planned
-validity_at-requires-clause-planned c = ?
+validity_at-requires-clause-planned c =
+    sound_planned (typ c.args.dtype.now) c.args.len c.args.self.now (roses_of c.args.children.now) c.offsets-item.result
+    (roses_of (take (length c.args.children.now - 1) (drop 1 c.args.children.now)))
+    (first_and_behind c.args.children.now c.offsets-item.result c.in-len1-up.len_at_least c.offsets-item.is) c.requires.sound
 
--- src/varbin.rt:108:45
 pub validity_at-requires-clause-inside : goal.validity_at-requires-clause-inside
-validity_at-requires-clause-inside c = ?
+validity_at-requires-clause-inside c =
+    c.requires.inside
 
--- src/varbin.rt:113:25
 pub part_at-part-requires-clause-counted : goal.part_at-part-requires-clause-counted
-part_at-part-requires-clause-counted c = ?
+part_at-part-requires-clause-counted c =
+    sound_counted (typ c.args.dtype.now) c.args.len c.args.self.now (roses_of c.args.children.now) c.offsets-item.result
+    (roses_of (take (length c.args.children.now - 1) (drop 1 c.args.children.now)))
+    (first_and_behind c.args.children.now c.offsets-item.result c.in-len1-up.len_at_least c.offsets-item.is) c.requires.sound
 
--- src/varbin.rt:113:25
 pub part_at-part-requires-clause-offsets : goal.part_at-part-requires-clause-offsets
-part_at-part-requires-clause-offsets c = ?
+part_at-part-requires-clause-offsets c =
+    sound_offsets (typ c.args.dtype.now) c.args.len c.args.self.now (roses_of c.args.children.now) c.offsets-item.result
+    (roses_of (take (length c.args.children.now - 1) (drop 1 c.args.children.now)))
+    (first_and_behind c.args.children.now c.offsets-item.result c.in-len1-up.len_at_least c.offsets-item.is) c.requires.sound
+    c.as_slice-bytes.result.now
+    (c.as_slice-bytes.ensures ∙ ap (λ (b : Buffer). b.bytes) c.as_host.ensures ∙ ap (λ (y : Data). y.bytes.bytes) c.self.view_is)
 
--- src/varbin.rt:113:25
 pub part_at-part-requires-clause-inside : goal.part_at-part-requires-clause-inside
-part_at-part-requires-clause-inside c = ?
+part_at-part-requires-clause-inside c =
+    c.requires.inside
 
--- src/varbin.rt:114:21
 pub part_row-requires-clause-kind : goal.part_row-requires-clause-kind
-part_row-requires-clause-kind c = ?
+part_row-requires-clause-kind c =
+    sound_bytes (typ c.args.dtype.now) c.args.len c.args.self.now (roses_of c.args.children.now) c.requires.sound
 
--- src/varbin.rt:114:21
 pub part_row-requires-clause-text : goal.part_row-requires-clause-text
-part_row-requires-clause-text c = ?
+part_row-requires-clause-text c =
+    sound_text (typ c.args.dtype.now) c.args.len c.args.self.now (roses_of c.args.children.now) c.offsets-item.result
+    (roses_of (take (length c.args.children.now - 1) (drop 1 c.args.children.now)))
+    (first_and_behind c.args.children.now c.offsets-item.result c.in-len1-up.len_at_least c.offsets-item.is) c.requires.sound
+    c.as_slice-bytes.result.now c.part_at-part.result.now c.args.index
+    (c.as_slice-bytes.ensures ∙ ap (λ (b : Buffer). b.bytes) c.as_host.ensures ∙ ap (λ (y : Data). y.bytes.bytes) c.self.view_is)
+    c.requires.inside
+    (sym c.validity_at.ensures ∙ c.in-Some-true.is ∙ ap (λ (b : Bool). Some b) c.in-Some-true.field-0-test)
+    c.part_at-part.ensures
 
--- src/varbin.rt:87:5
-pub returns-in-None-clause-row : goal.returns-in-None-clause-row
-returns-in-None-clause-row c = ?
-
--- src/varbin.rt:87:5
-pub returns-in-None-clause-fits : goal.returns-in-None-clause-fits
-returns-in-None-clause-fits c = ?
-
--- src/varbin.rt:87:5
-pub returns-in-None-clause-err : goal.returns-in-None-clause-err
-returns-in-None-clause-err c = ?
-
--- src/varbin.rt:87:5
 pub returns-in-Some-true-clause-row : goal.returns-in-Some-true-clause-row
-returns-in-Some-true-clause-row c = ?
+returns-in-Some-true-clause-row c =
+    same_row c.part_row.result (lone (mark_of (typ c.args.dtype.now) c.part_at-part.result.now))
+    ((rows_of_parts (typ c.args.dtype.now) c.args.len c.args.self.now (rows_below (roses_of c.args.children.now))).row c.args.index)
+    (row_there (typ c.args.dtype.now) c.args.len c.args.self.now (roses_of c.args.children.now) c.offsets-item.result
+    (roses_of (take (length c.args.children.now - 1) (drop 1 c.args.children.now)))
+    (first_and_behind c.args.children.now c.offsets-item.result c.in-len1-up.len_at_least c.offsets-item.is) c.requires.sound
+    c.as_slice-bytes.result.now c.part_at-part.result.now c.args.index
+    (c.as_slice-bytes.ensures ∙ ap (λ (b : Buffer). b.bytes) c.as_host.ensures ∙ ap (λ (y : Data). y.bytes.bytes) c.self.view_is)
+    (sym c.validity_at.ensures ∙ c.in-Some-true.is ∙ ap (λ (b : Bool). Some b) c.in-Some-true.field-0-test)
+    c.part_at-part.ensures)
+    c.part_row.ensures.row
 
--- src/varbin.rt:87:5
 pub returns-in-Some-true-clause-fits : goal.returns-in-Some-true-clause-fits
-returns-in-Some-true-clause-fits c = ?
+returns-in-Some-true-clause-fits c =
+    same_fits c.part_row.result (lone (mark_of (typ c.args.dtype.now) c.part_at-part.result.now))
+    ((rows_of_parts (typ c.args.dtype.now) c.args.len c.args.self.now (rows_below (roses_of c.args.children.now))).row c.args.index)
+    (row_there (typ c.args.dtype.now) c.args.len c.args.self.now (roses_of c.args.children.now) c.offsets-item.result
+    (roses_of (take (length c.args.children.now - 1) (drop 1 c.args.children.now)))
+    (first_and_behind c.args.children.now c.offsets-item.result c.in-len1-up.len_at_least c.offsets-item.is) c.requires.sound
+    c.as_slice-bytes.result.now c.part_at-part.result.now c.args.index
+    (c.as_slice-bytes.ensures ∙ ap (λ (b : Buffer). b.bytes) c.as_host.ensures ∙ ap (λ (y : Data). y.bytes.bytes) c.self.view_is)
+    (sym c.validity_at.ensures ∙ c.in-Some-true.is ∙ ap (λ (b : Bool). Some b) c.in-Some-true.field-0-test)
+    c.part_at-part.ensures)
+    c.args.budget c.part_row.ensures.fits
 
--- src/varbin.rt:87:5
 pub returns-in-Some-true-clause-err : goal.returns-in-Some-true-clause-err
-returns-in-Some-true-clause-err c = ?
+returns-in-Some-true-clause-err c =
+    same_refused c.part_row.result (lone (mark_of (typ c.args.dtype.now) c.part_at-part.result.now))
+    ((rows_of_parts (typ c.args.dtype.now) c.args.len c.args.self.now (rows_below (roses_of c.args.children.now))).row c.args.index)
+    (row_there (typ c.args.dtype.now) c.args.len c.args.self.now (roses_of c.args.children.now) c.offsets-item.result
+    (roses_of (take (length c.args.children.now - 1) (drop 1 c.args.children.now)))
+    (first_and_behind c.args.children.now c.offsets-item.result c.in-len1-up.len_at_least c.offsets-item.is) c.requires.sound
+    c.as_slice-bytes.result.now c.part_at-part.result.now c.args.index
+    (c.as_slice-bytes.ensures ∙ ap (λ (b : Buffer). b.bytes) c.as_host.ensures ∙ ap (λ (y : Data). y.bytes.bytes) c.self.view_is)
+    (sym c.validity_at.ensures ∙ c.in-Some-true.is ∙ ap (λ (b : Bool). Some b) c.in-Some-true.field-0-test)
+    c.part_at-part.ensures)
+    c.args.budget c.part_row.ensures.err
 
--- src/varbin.rt:87:5
+pub returns-in-None-clause-row : goal.returns-in-None-clause-row
+returns-in-None-clause-row c =
+    same_row c.within_budget.result (lone opaque)
+    ((rows_of_parts (typ c.args.dtype.now) c.args.len c.args.self.now (rows_below (roses_of c.args.children.now))).row c.args.index)
+    (row_unknown (typ c.args.dtype.now) c.args.len c.args.self.now (roses_of c.args.children.now) c.offsets-item.result
+    (roses_of (take (length c.args.children.now - 1) (drop 1 c.args.children.now)))
+    (first_and_behind c.args.children.now c.offsets-item.result c.in-len1-up.len_at_least c.offsets-item.is) c.requires.sound
+    c.args.index (sym c.validity_at.ensures ∙ c.in-None.is))
+    (small_row c.within_budget.result R.Opaque c.within_budget.ensures.row)
+
+pub returns-in-None-clause-fits : goal.returns-in-None-clause-fits
+returns-in-None-clause-fits c =
+    same_fits c.within_budget.result (lone opaque)
+    ((rows_of_parts (typ c.args.dtype.now) c.args.len c.args.self.now (rows_below (roses_of c.args.children.now))).row c.args.index)
+    (row_unknown (typ c.args.dtype.now) c.args.len c.args.self.now (roses_of c.args.children.now) c.offsets-item.result
+    (roses_of (take (length c.args.children.now - 1) (drop 1 c.args.children.now)))
+    (first_and_behind c.args.children.now c.offsets-item.result c.in-len1-up.len_at_least c.offsets-item.is) c.requires.sound
+    c.args.index (sym c.validity_at.ensures ∙ c.in-None.is))
+    c.args.budget c.within_budget.ensures.fits
+
+pub returns-in-None-clause-err : goal.returns-in-None-clause-err
+returns-in-None-clause-err c =
+    same_refused c.within_budget.result (lone opaque)
+    ((rows_of_parts (typ c.args.dtype.now) c.args.len c.args.self.now (rows_below (roses_of c.args.children.now))).row c.args.index)
+    (row_unknown (typ c.args.dtype.now) c.args.len c.args.self.now (roses_of c.args.children.now) c.offsets-item.result
+    (roses_of (take (length c.args.children.now - 1) (drop 1 c.args.children.now)))
+    (first_and_behind c.args.children.now c.offsets-item.result c.in-len1-up.len_at_least c.offsets-item.is) c.requires.sound
+    c.args.index (sym c.validity_at.ensures ∙ c.in-None.is))
+    c.args.budget (small_refused c.within_budget.result c.args.budget c.within_budget.ensures.err c.within_budget.ensures.large)
+
 pub returns-in-Some-false-clause-row : goal.returns-in-Some-false-clause-row
-returns-in-Some-false-clause-row c = ?
+returns-in-Some-false-clause-row c =
+    same_row c.within_budget-in-Some-false.result (lone null)
+    ((rows_of_parts (typ c.args.dtype.now) c.args.len c.args.self.now (rows_below (roses_of c.args.children.now))).row c.args.index)
+    (row_null (typ c.args.dtype.now) c.args.len c.args.self.now (roses_of c.args.children.now) c.offsets-item.result
+    (roses_of (take (length c.args.children.now - 1) (drop 1 c.args.children.now)))
+    (first_and_behind c.args.children.now c.offsets-item.result c.in-len1-up.len_at_least c.offsets-item.is) c.requires.sound
+    c.args.index (sym c.validity_at.ensures ∙ c.in-Some-false.is ∙ ap (λ (b : Bool). Some b) c.in-Some-false.field-0-test))
+    (small_row c.within_budget-in-Some-false.result R.Null c.within_budget-in-Some-false.ensures.row)
 
--- src/varbin.rt:87:5
 pub returns-in-Some-false-clause-fits : goal.returns-in-Some-false-clause-fits
-returns-in-Some-false-clause-fits c = ?
+returns-in-Some-false-clause-fits c =
+    same_fits c.within_budget-in-Some-false.result (lone null)
+    ((rows_of_parts (typ c.args.dtype.now) c.args.len c.args.self.now (rows_below (roses_of c.args.children.now))).row c.args.index)
+    (row_null (typ c.args.dtype.now) c.args.len c.args.self.now (roses_of c.args.children.now) c.offsets-item.result
+    (roses_of (take (length c.args.children.now - 1) (drop 1 c.args.children.now)))
+    (first_and_behind c.args.children.now c.offsets-item.result c.in-len1-up.len_at_least c.offsets-item.is) c.requires.sound
+    c.args.index (sym c.validity_at.ensures ∙ c.in-Some-false.is ∙ ap (λ (b : Bool). Some b) c.in-Some-false.field-0-test))
+    c.args.budget c.within_budget-in-Some-false.ensures.fits
 
--- src/varbin.rt:87:5
 pub returns-in-Some-false-clause-err : goal.returns-in-Some-false-clause-err
-returns-in-Some-false-clause-err c = ?
+returns-in-Some-false-clause-err c =
+    same_refused c.within_budget-in-Some-false.result (lone null)
+    ((rows_of_parts (typ c.args.dtype.now) c.args.len c.args.self.now (rows_below (roses_of c.args.children.now))).row c.args.index)
+    (row_null (typ c.args.dtype.now) c.args.len c.args.self.now (roses_of c.args.children.now) c.offsets-item.result
+    (roses_of (take (length c.args.children.now - 1) (drop 1 c.args.children.now)))
+    (first_and_behind c.args.children.now c.offsets-item.result c.in-len1-up.len_at_least c.offsets-item.is) c.requires.sound
+    c.args.index (sym c.validity_at.ensures ∙ c.in-Some-false.is ∙ ap (λ (b : Bool). Some b) c.in-Some-false.field-0-test))
+    c.args.budget (small_refused c.within_budget-in-Some-false.result c.args.budget c.within_budget-in-Some-false.ensures.err c.within_budget-in-Some-false.ensures.large)
