@@ -182,7 +182,7 @@ pub(crate) fn has_buffer(array: &Array, bytes: &[u8]) -> bool {
 fn lent(array: &Array) -> usize {
     match array.body() {
         Body::Primitive(numbers) => numbers.values().len(),
-        Body::Null | Body::Bool(_) | Body::Decimal(_) => 0,
+        Body::Null | Body::Bool(_) | Body::Decimal(_) | Body::VarBin(_) => 0,
     }
 }
 
@@ -268,6 +268,7 @@ fn errors_are_printed(rt: HostRuntime) {
     let alloc = rt.alloc();
     assert!(rt; prints(alloc, &ArrayError::OutOfMemory, "out of memory"));
     assert!(rt; prints(alloc, &ArrayError::BadShape, "the parts fit no sound array"));
+    assert!(rt; prints(alloc, &ArrayError::BadContent, "the content is broken"));
     assert!(rt;
         prints(
             alloc,

@@ -320,4 +320,5 @@ fn errors_are_printed(rt: HostRuntime) {
     assert!(rt; prints(alloc, &EncodingError::BadMetadata, unread));
     let unfit = "the parts do not fit the encoding";
     assert!(rt; prints(alloc, &EncodingError::BadShape, unfit));
+    assert!(rt; prints(alloc, &EncodingError::BadContent, "the content is broken"));
 }

@@ -19,3 +19,5 @@ mod registry;
 mod sessions;
 #[cfg(test)]
 mod slots;
+#[cfg(test)]
+mod varbins;

@@ -1,2 +1,5 @@
+mod Naturals
+mod Rising
+mod Parted
 mod Flags
 mod AllInvalid

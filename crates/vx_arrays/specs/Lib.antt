@@ -3,6 +3,7 @@ pub mod Nulls
 pub mod Primitives
 pub mod Bools
 pub mod Decimals
+pub mod VarBins
 pub mod Validity
 pub mod Slots
 pub mod Refused

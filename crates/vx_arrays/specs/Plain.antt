@@ -7,7 +7,7 @@ use Rattle.vx_array_tree.specs.Body as B
 use Rattle.vx_array_tree.specs.Tree.{Head}
 use Rattle.vx_scalars.specs.Decimals.{decimal_of}
 use Rattle.vx_arrays.specs.declared.body.Body.{Body}
-use Rattle.vx_arrays.specs.declared.body.Body.TheVariants.{Null, Primitive, Bool, Decimal}
+use Rattle.vx_arrays.specs.declared.body.Body.TheVariants.{Null, Primitive, Bool, Decimal, VarBin}
 use Rattle.vx_arrays.specs.declared.row.RowValue.{RowValue}
 use Rattle.vx_arrays.specs.declared.row.RowValue.TheVariants as R
 
@@ -17,6 +17,7 @@ plain_body Null = B.null
 plain_body (Primitive x) = B.primitive x
 plain_body (Bool x) = B.bool x
 plain_body (Decimal x) = B.decimal x
+plain_body (VarBin x) = B.varbin x
 
 -- A node without its children, by its type, its rows and what its encoding holds.
 abbrev pub head_of : Typ → ℕ → Body → Head
@@ -29,3 +30,5 @@ plain_value R.Opaque = lone V.opaque
 plain_value (R.Bool b) = lone (V.bool b)
 plain_value (R.Primitive v) = lone (V.number v)
 plain_value (R.Decimal x) = lone (V.decimal (decimal_of x))
+plain_value (R.Utf8 text) = lone (V.utf8 text)
+plain_value (R.Binary bytes) = lone (V.binary bytes)

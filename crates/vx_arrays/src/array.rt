@@ -5,6 +5,7 @@ ghost use Rattle.vx_trees.specs.Everywhere.{EverywhereBelow};
 ghost use Rattle.vx_trees.specs.Rose.{label, below, node, end, roses_of};
 ghost use Rattle.vx_types.specs.Kind.{boolean};
 ghost use Rattle.vx_types.specs.Seen.{typ};
+ghost use Rattle.vx_types.specs.Value.{natural};
 ghost use Rattle.vx_types.specs.declared.nullability.Nullability.TheVariants.{NonNullable};
 ghost use Rattle.vx_array_tree.specs.Rows.{flag_in};
 ghost use Rattle.vx_array_tree.specs.Sound.{IsSound, IsSoundNode};
@@ -150,6 +151,9 @@ impl Array {
             Body::Primitive(_) => validity_at(self.children.as_slice(), self.len, index),
             Body::Bool(_) => validity_at(self.children.as_slice(), self.len, index),
             Body::Decimal(_) => validity_at(self.children.as_slice(), self.len, index),
+            Body::VarBin(parts) => {
+                parts.valid_at(&self.dtype, self.len, self.children.as_slice(), index)
+            }
         }
     }
 
@@ -164,16 +168,28 @@ impl Array {
             Body::Primitive(_) => None,
             Body::Bool(flags) => Some(flags.flag_at(index)),
             Body::Decimal(_) => None,
+            Body::VarBin(_) => None,
+        }
+    }
+
+    // The row as a natural number; None where it is none, or is not there, or nothing is known of it.
+    #[tactic(auto, using(crate::proofs::Naturals::naturals))]
+    pub(crate) fn natural_at(&self, index: usize) -> Option<u64>
+        requires { index < (label self.now).len }
+        ensures { result ≡ natural (row_at self.now index) }
+    {
+        let children = self.children.as_slice();
+        match &self.body {
+            Body::Null => None,
+            Body::Primitive(numbers) => numbers.natural_at(&self.dtype, self.len, children, index),
+            Body::Bool(_) => None,
+            Body::Decimal(_) => None,
+            Body::VarBin(_) => None,
         }
     }
 
     /// The row's value, if it takes at most `budget` cells.
-    pub fn value_at(
-        &self,
-        _alloc: Global,
-        index: usize,
-        budget: u64,
-    ) -> Result<RowValue, ArrayError>
+    pub fn value_at(&self, alloc: Global, index: usize, budget: u64) -> Result<RowValue, ArrayError>
         requires { index < (label self.now).len }
         ensures row { IfOk result (λ row. plain_value row ≡ row_at self.now index) }
         ensures fits { IfOk result (λ _. cells self.now index ≤ budget) }
@@ -191,6 +207,14 @@ impl Array {
             ),
             Body::Bool(flags) => flags.value_at(&self.dtype, self.len, children, index, budget),
             Body::Decimal(decimals) => decimals.value_at(
+                &self.dtype,
+                self.len,
+                children,
+                index,
+                budget,
+            ),
+            Body::VarBin(parts) => parts.value_at(
+                alloc,
                 &self.dtype,
                 self.len,
                 children,

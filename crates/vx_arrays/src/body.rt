@@ -8,6 +8,7 @@ use crate::decimal::{DecimalArray, DecimalData};
 use crate::error::ArrayError;
 use crate::null::NullArray;
 use crate::primitive::{PrimitiveArray, PrimitiveData};
+use crate::varbin::{VarBinArray, VarBinData};
 use std::alloc::Global;
 use vx_buffer::BufferHandle;
 
@@ -22,6 +23,8 @@ pub enum Body {
     Bool(BoolData),
     /// Decimals.
     Decimal(DecimalData),
+    /// Texts or bytes by offsets.
+    VarBin(VarBinData),
 }
 
 impl Body {
@@ -36,6 +39,7 @@ impl Body {
             Body::Primitive(_) => PrimitiveArray::ID,
             Body::Bool(_) => BoolArray::ID,
             Body::Decimal(_) => DecimalArray::ID,
+            Body::VarBin(_) => VarBinArray::ID,
         }
     }
 
@@ -48,6 +52,7 @@ impl Body {
             Body::Primitive(_) => 1,
             Body::Bool(_) => 1,
             Body::Decimal(_) => 1,
+            Body::VarBin(_) => 1,
         }
     }
 
@@ -61,6 +66,7 @@ impl Body {
             Body::Primitive(numbers) => numbers.values(),
             Body::Bool(flags) => flags.bits(),
             Body::Decimal(decimals) => decimals.values(),
+            Body::VarBin(parts) => parts.bytes(),
         }
     }
 
@@ -74,6 +80,7 @@ impl Body {
             Body::Primitive(numbers) => Ok(Body::Primitive(numbers.clone(alloc)?)),
             Body::Bool(flags) => Ok(Body::Bool(flags.clone(alloc)?)),
             Body::Decimal(decimals) => Ok(Body::Decimal(decimals.clone(alloc)?)),
+            Body::VarBin(parts) => Ok(Body::VarBin(parts.clone(alloc)?)),
         }
     }
 }

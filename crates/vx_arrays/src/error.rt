@@ -16,6 +16,9 @@ pub enum ArrayError {
     /// The parts do not fit the type, the rows or one another.
     #[error("the parts fit no sound array")]
     BadShape,
+    /// A value in a buffer or a child names nothing that is there, or bytes are no text where one is to be.
+    #[error("the content is broken")]
+    BadContent,
     /// A row takes more cells than there are to spend.
     #[error("the row takes too many cells")]
     ValueTooLarge,

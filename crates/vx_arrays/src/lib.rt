@@ -12,10 +12,13 @@ mod error;
 mod list;
 mod null;
 mod numbers;
+mod offsets;
 mod primitive;
 mod row;
 mod slots;
+mod texts;
 mod validity;
+mod varbin;
 
 pub use array::Array;
 pub use body::Body;
@@ -27,3 +30,4 @@ pub use null::NullArray;
 pub use primitive::{PrimitiveArray, PrimitiveData};
 pub use row::RowValue;
 pub use validity::validity_all_invalid;
+pub use varbin::{VarBinArray, VarBinData};

@@ -3,6 +3,7 @@
 ghost use Rattle.std.specs.Prelude.{◌≡◌, ◌≤◌, length};
 ghost use Rattle.vx_types.specs.Decimals.{decimal_width_of};
 ghost use Rattle.vx_types.specs.Numbers.{width_of};
+ghost use Rattle.vx_types.specs.Value.{natural_int, natural_number};
 ghost use Rattle.vx_array_tree.specs.Bytes.{number_at, decimal_value};
 ghost use Rattle.vx_scalars.specs.Decimals.{decimal_of};
 
@@ -29,6 +30,29 @@ pub(crate) fn number_at(kind: PType, bytes: &[u8]) -> PValue
         PType::F32 => PValue::F32(rest.get_u32_le()),
         PType::F64 => PValue::F64(rest.get_u64_le()),
     }
+}
+
+/// A number as a natural one; None where it is below 0 or a float.
+pub(crate) fn natural(number: PValue) -> Option<u64>
+    ensures { result ≡ natural_number number }
+{
+    match number {
+        PValue::U8(n) => Some(n as u64),
+        PValue::U16(n) => Some(n as u64),
+        PValue::U32(n) => Some(n as u64),
+        PValue::U64(n) => Some(n),
+        PValue::I8(n) => natural_int(n as i64),
+        PValue::I16(n) => natural_int(n as i64),
+        PValue::I32(n) => natural_int(n as i64),
+        PValue::I64(n) => natural_int(n),
+        PValue::F16(_) | PValue::F32(_) | PValue::F64(_) => None,
+    }
+}
+
+fn natural_int(n: i64) -> Option<u64>
+    ensures { result ≡ natural_int n }
+{
+    if n < 0 { None } else { Some(n as u64) }
 }
 
 /// The decimal of this width that the bytes begin with, its lowest byte first.

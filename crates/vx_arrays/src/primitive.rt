@@ -3,6 +3,7 @@
 ghost use Rattle.std.specs.Prelude.{◌≡◌, ◌<◌, ◌≤◌, IfOk, IfErr, IsOkUnless};
 ghost use Rattle.vx_trees.specs.Rose.{roses_of};
 ghost use Rattle.vx_types.specs.Seen.{typ};
+ghost use Rattle.vx_types.specs.Value.{natural};
 ghost use Rattle.vx_array_tree.specs.Encodings.Primitives.{rows as rows_of_numbers};
 ghost use Rattle.vx_array_tree.specs.Body as B;
 ghost use Rattle.vx_array_tree.specs.Sound.{IsSound, IsSoundNode};
@@ -14,7 +15,7 @@ ghost use Rattle.vx_arrays.specs.Refused.{IsUnmade, IsRowRefused, IsOkOrMemory};
 use crate::array::Array;
 use crate::body::Body;
 use crate::error::ArrayError;
-use crate::numbers::number_at;
+use crate::numbers::{natural, number_at};
 use crate::row::{RowValue, within_budget};
 use crate::validity::{is_validity, only_validity, validity_at};
 use std::alloc::Global;
@@ -87,6 +88,35 @@ impl PrimitiveData {
                 let width = kind.byte_width();
                 let rest = &self.values.as_host().as_slice()[width * index..];
                 within_budget(RowValue::Primitive(number_at(kind, rest)), budget)
+            }
+        }
+    }
+
+    // A row as a natural number in a node of this type, length and children.
+    pub(crate) fn natural_at(
+        &self,
+        dtype: &DType,
+        len: usize,
+        children: &[Array],
+        index: usize,
+    ) -> Option<u64>
+        requires sound { let head : Head = record { dtype = typ dtype.now; len = len; body = B.primitive self.now } in
+            IsSoundNode head (roses_of children.now) }
+        requires inside { index < len }
+        ensures { let rows = rows_of_numbers (typ dtype.now) len self.now (rows_below (roses_of children.now)) in
+            result ≡ natural (rows.row index) }
+    {
+        let kind = match dtype {
+            DType::Primitive(kind, _) => *kind,
+            _ => unreachable!(),
+        };
+        match validity_at(children, len, index) {
+            None => None,
+            Some(false) => None,
+            Some(true) => {
+                let width = kind.byte_width();
+                let rest = &self.values.as_host().as_slice()[width * index..];
+                natural(number_at(kind, rest))
             }
         }
     }

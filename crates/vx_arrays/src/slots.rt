@@ -9,6 +9,7 @@ ghost use Rattle.vx_arrays.specs.Slots.{slot_names, buffer_names};
 use crate::array::Array;
 use crate::body::Body;
 use crate::error::ArrayError;
+use crate::row::owned_text;
 use std::alloc::Global;
 use vx_types::Name;
 
@@ -27,7 +28,7 @@ impl Array {
         ensures ok { IfOk result (λ name. slice_get (slot_names (label self.now).dtype (label self.now).body) index ≡ Some name) }
         ensures err { IsOkUnless result ArrayError.OutOfMemory }
     {
-        owned(alloc, slot_of(self.body(), index))
+        owned_text(alloc, slot_of(self.body(), index))
     }
 
     /// The name of the root's buffer of this number: `None` exactly past the last.
@@ -36,7 +37,7 @@ impl Array {
         ensures err { IsOkUnless result ArrayError.OutOfMemory }
     {
         match buffer_of(self.body(), index) {
-            Some(name) => Ok(Some(owned(alloc, name)?)),
+            Some(name) => Ok(Some(owned_text(alloc, name)?)),
             None => Ok(None),
         }
     }
@@ -49,17 +50,19 @@ fn slots_of(body: &Body) -> usize
     match body {
         Body::Null => 0,
         Body::Bool(_) | Body::Primitive(_) | Body::Decimal(_) => 1,
+        Body::VarBin(_) => 2,
     }
 }
 
 // The name of a node's slot.
-fn slot_of(body: &Body, _index: usize) -> &'static str
-    requires { (d : Typ) × (_index < length (slot_names d (plain_body body.now))) }
-    ensures { (d : Typ) → slice_get (slot_names d (plain_body body.now)) _index ≡ Some result.now }
+fn slot_of(body: &Body, index: usize) -> &'static str
+    requires { (d : Typ) × (index < length (slot_names d (plain_body body.now))) }
+    ensures { (d : Typ) → slice_get (slot_names d (plain_body body.now)) index ≡ Some result.now }
 {
     match body {
         Body::Null => unreachable!(),
         Body::Bool(_) | Body::Primitive(_) | Body::Decimal(_) => "validity",
+        Body::VarBin(_) => { if index == 0 { "offsets" } else { "validity" } }
     }
 }
 
@@ -74,16 +77,6 @@ fn buffer_of(body: &Body, index: usize) -> Option<&'static str>
         Body::Null => None,
         Body::Bool(_) => Some("bits"),
         Body::Primitive(_) | Body::Decimal(_) => Some("values"),
-    }
-}
-
-// A name of its own.
-fn owned(alloc: Global, text: &str) -> Result<Name, ArrayError>
-    ensures ok { IfOk result (λ name. name ≡ text.now) }
-    ensures err { IsOkUnless result ArrayError.OutOfMemory }
-{
-    match Name::new(alloc, text) {
-        Ok(name) => Ok(name),
-        Err(_) => Err(ArrayError::OutOfMemory),
+        Body::VarBin(_) => Some("bytes"),
     }
 }

@@ -1,17 +1,28 @@
--- Parts that a constructor refuses as misshaped are not of the shape that their encoding asks for.
-use Rattle.std.proofs.Common.{ℕ, ◌≡◌, List, Some, sym, ap, ◌∙◌, subst}
+-- Parts that a constructor refuses break the row of their encoding: they are of another shape, or their content is broken.
+use Rattle.std.proofs.Common.{ℕ, ◌≡◌, List, Some, sym, ap, ◌∙◌, subst, inl}
 use Rattle.vx_buffer.specs.Buffer.{Buffer}
-use Rattle.vx_trees.specs.Rose.{count}
+use Rattle.vx_trees.specs.Rose.{node, count, label, below}
+use Rattle.vx_types.specs.Known.{ExtMeaning}
+use Rattle.vx_types.specs.Seen.{typ}
 use Rattle.vx_types.specs.Typ.{Typ}
 use Rattle.vx_array_tree.specs.Body.{Body}
 use Rattle.vx_array_tree.specs.Encoding.{Encoding}
 use Rattle.vx_array_tree.specs.Metadata.{Metadata}
 use Rattle.vx_array_tree.specs.Place.{Place}
-use Rattle.vx_array_tree.specs.Refused.{IsMisshaped, IsWellShaped}
+use Rattle.vx_array_tree.specs.Refused.{IsMisshaped, IsWellShaped, HasBrokenContent}
 use Rattle.vx_array_tree.specs.Table.{IsFair, metadata_of, body_of, plan_of, lifted, Allows, Holds, Takes, IsShaped, encoding_of}
-use Rattle.vx_array_tree.specs.Tree.{Trees, places, encodings}
+use Rattle.vx_array_tree.specs.Tree.{Tree, Trees, places, encodings}
 use Rattle.vx_array_tree.proofs.NodeLaws.{body_encoding}
 use Rattle.vx_array_tree.proofs.Plans.{metadata_again}
+use Rattle.vx_wire_tree.specs.Reads.{IsMetadata}
+use Rattle.vx_arrays.specs.Refused.{IsUnmade}
+use Rattle.vx_arrays.specs.declared.error.ArrayError.{ArrayError}
+use Rattle.vx_arrays.specs.declared.error.ArrayError.TheVariants as A
+use Rattle.vx_encodings.specs.Messages.{codec}
+use Rattle.vx_encodings.specs.Plain.{plain_encoding}
+use Rattle.vx_encodings.specs.Steps.{IsUnbuilt, constructor_error}
+use Rattle.vx_encodings.specs.declared.encoding.Encoding as Declared
+use Rattle.vx_encodings.specs.declared.head.ArrayHead.{ArrayHead}
 
 module _ (e : Encoding) (d : Typ) (n : ℕ) (v : Metadata) (bs : List Buffer) (b : Body) (us : Trees) where
   same_body : (c : Body) → body_of e v bs ≡ Some b → body_of e v bs ≡ Some c → c ≡ b
@@ -35,3 +46,34 @@ module _ (e : Encoding) (d : Typ) (n : ℕ) (v : Metadata) (bs : List Buffer) (b
   unfit body_is fair planned level takes refused s =
       refused (well_shaped (body_encoding e v bs b body_is) (metadata_again e d n v (count us) bs b (places us) body_is planned) fair
       (planned ∙ ap (λ (ps : List Place). Some ps) (sym level)) s.allows takes (subst (λ (c : Body). Holds d n c) (same_body s.body body_is s.body_is) s.holds))
+
+  -- And so many children may stand below a well-shaped node.
+  allowed : body_of e v bs ≡ Some b → plan_of e d n v (count us) ≡ Some (places us) → IsWellShaped (record { dtype = d; len = n; body = b }) us → Allows e d v (count us)
+  allowed body_is planned s =
+      subst (λ (w : Metadata). Allows e d w (count us)) (metadata_again e d n v (count us) bs b (places us) body_is planned)
+      (subst (λ (z : Encoding). Allows z d (metadata_of b (places us)) (count us)) (body_encoding e v bs b body_is) s.allows)
+
+-- A planned node whose metadata is read.
+module _ (x : ExtMeaning) (e : Declared.Encoding) (h : ArrayHead) (v : Metadata) (m : IsMetadata codec x (plain_encoding e) (typ h.dtype) h.metadata v) where
+  -- Parts that the constructor refuses do not fit its row.
+  pub constructor_refused : (error : ArrayError) (bs : List Buffer) (us : Trees) (body : Body) (t : Tree) → body_of (plain_encoding e) v bs ≡ Some body → IsFair (plain_encoding e) v
+      → plan_of (plain_encoding e) (typ h.dtype) h.len v (count us) ≡ Some (places us) → lifted body (places us) ≡ places us → Takes (plain_encoding e) (encodings us)
+      → t ≡ node (record { dtype = typ h.dtype; len = h.len; body = body }) us → IsUnmade error t → IsUnbuilt (constructor_error error) x e h bs us
+  constructor_refused A.OutOfMemory bs us body t body_is fair planned level takes q refused = tt
+  constructor_refused A.BadShape bs us body t body_is fair planned level takes q refused =
+      let wrong = subst (λ (z : Tree). IsMisshaped (label z) (below z)) q refused in
+      record { value = v; metadata = m; wrong = inl (unfit (plain_encoding e) (typ h.dtype) h.len v bs body us body_is fair planned level takes wrong) }
+  constructor_refused A.BadContent bs us body t body_is fair planned level takes q refused =
+      let broken = subst (λ (z : Tree). HasBrokenContent (label z) (below z)) q refused in
+      record {
+        value = v;
+        metadata = m;
+        shaped = record {
+          body = body;
+          body_is = body_is;
+          holds = broken.shaped.holds;
+          allows = allowed (plain_encoding e) (typ h.dtype) h.len v bs body us body_is planned broken.shaped;
+        };
+        wrong = broken.broken;
+      }
+  constructor_refused A.ValueTooLarge bs us body t body_is fair planned level takes q refused = absurd refused

@@ -5,16 +5,18 @@ use Rattle.vx_array_tree.specs.Body as B
 use Rattle.vx_array_tree.specs.Encodings.Bools as Bools
 use Rattle.vx_array_tree.specs.Encodings.Decimals as Decimals
 use Rattle.vx_array_tree.specs.Encodings.Primitives as Primitives
+use Rattle.vx_array_tree.specs.Encodings.VarBins as VarBins
 use Rattle.vx_array_tree.specs.Sound.{metadata_in}
 use Rattle.vx_array_tree.specs.Table.{metadata_of}
-use Rattle.vx_array_tree.specs.Tree.{Tree, places}
+use Rattle.vx_array_tree.specs.Tree.{Tree, Trees, places}
 use Rattle.vx_wire_tree.specs.Fields.{told}
 use Rattle.vx_arrays.specs.Plain.{plain_body}
 use Rattle.vx_arrays.specs.declared.body.Body.{Body}
-use Rattle.vx_arrays.specs.declared.body.Body.TheVariants.{Null, Bool, Primitive, Decimal}
+use Rattle.vx_arrays.specs.declared.body.Body.TheVariants.{Null, Bool, Primitive, Decimal, VarBin}
 use Rattle.vx_encodings.specs.BoolMessage.{bool_bytes}
 use Rattle.vx_encodings.specs.DecimalMessage.{decimal_bytes}
 use Rattle.vx_encodings.specs.Messages.{message_bytes}
+use Rattle.vx_encodings.specs.VarBinMessage.{varbin_bytes}
 use Rattle.vx_encodings.specs.declared.error.EncodingError.{EncodingError}
 
 -- The bytes of a root that holds this.
@@ -40,5 +42,10 @@ pub decimals_kept : (t : Tree) (b : Body) (x : Decimals.Data) (r : Result (List 
 decimals_kept t b x (Ok bytes) e p q = q ∙ root t b (Decimal x) e p
 decimals_kept t b x (Err error) e p q = tt
 
+pub kinds_kept : (t : Tree) (b : Body) (x : VarBins.Data) (us : Trees) (r : Result (List ℕ) EncodingError) → b ≡ VarBin x → plain_body b ≡ (label t).body → us ≡ below t → IfOk r (λ bytes. bytes ≡ varbin_bytes (VarBins.metadata_of (places us)))
+    → IfOk r (λ bytes. bytes ≡ message_bytes (told (metadata_in (label t) (below t))))
+kinds_kept t b x us (Ok bytes) e p u q = q ∙ ap (λ (vs : Trees). varbin_bytes (VarBins.metadata_of (places vs))) u ∙ root t b (VarBin x) e p
+kinds_kept t b x us (Err error) e p u q = tt
+
 -- What the writing of metadata rests on.
-pub ruleset kept = (nulls_kept, numbers_kept, flags_kept, decimals_kept)
+pub ruleset kept = (nulls_kept, numbers_kept, flags_kept, decimals_kept, kinds_kept)

@@ -1,26 +1,31 @@
 -- What holds of the messages of metadata, encoding by encoding.
 use Rattle.std.proofs.Common.{ℕ, zero, suc, ◌≡◌, List, [], ◌∷◌, Some, length, refl, sym, ap, ◌∙◌}
 use Rattle.vx_trees.specs.Rose.{node, end}
-use Rattle.vx_types.specs.Kind.{null, boolean, primitive, decimal}
+use Rattle.vx_types.specs.Known.{ExtMeaning}
+use Rattle.vx_types.specs.Kind.{null, boolean, primitive, decimal, utf8, binary}
 use Rattle.vx_types.specs.Typ.{Typ}
+use Rattle.vx_types.specs.declared.ptype.PType.{PType}
 use Rattle.vx_array_tree.specs.Encoding as E
 use Rattle.vx_array_tree.specs.Encodings.Nulls as Nulls
 use Rattle.vx_array_tree.specs.Encodings.Bools as Bools
 use Rattle.vx_array_tree.specs.Encodings.Primitives as Primitives
 use Rattle.vx_array_tree.specs.Encodings.Decimals as Decimals
+use Rattle.vx_array_tree.specs.Encodings.VarBins as VarBins
 use Rattle.vx_array_tree.specs.Metadata.{Metadata}
 use Rattle.vx_array_tree.specs.Metadata as M
-use Rattle.vx_array_tree.specs.Place.{Place, exactly, before_validity, validity_place}
+use Rattle.vx_array_tree.specs.Place.{Place, exactly, before_validity, validity_place, is_len}
 use Rattle.vx_array_tree.specs.Table.{IsFair, plan_of}
-use Rattle.vx_array_tree.proofs.Options.{mapped}
+use Rattle.vx_array_tree.proofs.Options.{mapped, let_through}
 use Rattle.vx_wire_tree.specs.Codec.{IsLawfulAt}
-use Rattle.vx_wire_tree.specs.Fields.{Fields, FitsMessage, told}
+use Rattle.vx_wire_tree.specs.Fields.{Fields, FitsMessage, meant, told}
+use Rattle.vx_wire_tree.specs.Reads.{IsMetadata}
+use Rattle.vx_encodings.proofs.Kinds.{one_kind, kind_again}
 use Rattle.vx_encodings.proofs.Offsets.{one_offset, offset_again}
 use Rattle.vx_encodings.proofs.Widths.{one_width, width_again}
 use Rattle.vx_encodings.specs.Messages.{Shows, ShowsNothing, message_bytes, codec}
 use Rattle.vx_encodings.specs.Plain.{plain_encoding}
 use Rattle.vx_encodings.specs.declared.encoding.Encoding.{Encoding}
-use Rattle.vx_encodings.specs.declared.encoding.Encoding.TheVariants.{Null, Bool, Primitive, Decimal}
+use Rattle.vx_encodings.specs.declared.encoding.Encoding.TheVariants.{Null, Bool, Primitive, Decimal, VarBin}
 
 one_nothing : (bytes : List ℕ) (f g : Fields) → ShowsNothing bytes f → ShowsNothing bytes g → f ≡ g
 one_nothing bytes f g a b = a.fields_are ∙ sym b.fields_are
@@ -31,6 +36,7 @@ one_message E.null bytes f g a b = one_nothing bytes f g a b
 one_message E.bool bytes f g a b = one_offset bytes f g a b
 one_message E.primitive bytes f g a b = one_nothing bytes f g a b
 one_message E.decimal bytes f g a b = one_width bytes f g a b
+one_message E.varbin bytes f g a b = one_kind bytes f g a b
 one_message E.varbinview bytes f g a b = one_nothing bytes f g a b
 one_message E.fixed_size_list bytes f g a b = one_nothing bytes f g a b
 one_message E.map bytes f g a b = one_nothing bytes f g a b
@@ -38,6 +44,10 @@ one_message E.struct bytes f g a b = one_nothing bytes f g a b
 one_message E.union bytes f g a b = one_nothing bytes f g a b
 one_message E.ext bytes f g a b = one_nothing bytes f g a b
 one_message _ bytes f g a b = absurd a
+
+-- Bytes are metadata of a node of a type in at most one way.
+pub one_value : (x : ExtMeaning) (e : E.Encoding) (d : Typ) (bytes : List ℕ) (v w : Metadata) → IsMetadata codec x e d bytes v → IsMetadata codec x e d bytes w → v ≡ w
+one_value x e d bytes v w m k = sym m.meaning ∙ ap (λ (f : Fields). meant d f) (one_message e bytes m.fields k.fields m.shown k.shown) ∙ k.meaning
 
 null_again : (v : Metadata) → IsFair E.null v → FitsMessage v → Shows E.null (message_bytes (told v)) (told v)
 null_again M.empty fair fits = record { bytes_are = refl; fields_are = refl }
@@ -71,12 +81,21 @@ decimal_again _ fair fits = absurd fair
 pub decimal_lawful : IsLawfulAt codec E.decimal
 decimal_lawful = record { one_message = one_message E.decimal; message_again = decimal_again }
 
+varbin_again : (v : Metadata) → IsFair E.varbin v → FitsMessage v → Shows E.varbin (message_bytes (told v)) (told v)
+varbin_again (M.varbin p) fair fits = kind_again p
+varbin_again _ fair fits = absurd fair
+
+-- So are those of texts and of bytes by offsets.
+pub varbin_lawful : IsLawfulAt codec E.varbin
+varbin_lawful = record { one_message = one_message E.varbin; message_again = varbin_again }
+
 -- So are those of each encoding that has code.
 pub lawful : (e : Encoding) → IsLawfulAt codec (plain_encoding e)
 lawful Null = null_lawful
 lawful Bool = bool_lawful
 lawful Primitive = primitive_lawful
 lawful Decimal = decimal_lawful
+lawful VarBin = varbin_lawful
 
 -- What a node of an encoding that has code keeps fits its message.
 pub fair_message : (encoding : Encoding) (v : Metadata) → IsFair (plain_encoding encoding) v → FitsMessage v
@@ -88,6 +107,8 @@ fair_message Primitive M.empty fair = tt
 fair_message Primitive _ fair = absurd fair
 fair_message Decimal (M.decimal w) fair = tt
 fair_message Decimal _ fair = absurd fair
+fair_message VarBin (M.varbin p) fair = tt
+fair_message VarBin _ fair = absurd fair
 
 -- ---- plans
 
@@ -120,6 +141,18 @@ decimal_count : (d : Typ) (n k : ℕ) (qs : List Place) → Decimals.plan d n k 
 decimal_count (node (decimal p s m) end) n k qs e = validity_count n k qs e
 decimal_count _ n k qs e = absurd (cc)
 
+behind_count : (ps : List Place) (n k : ℕ) (qs : List Place) → before_validity ps n k ≡ Some qs → length qs ≡ k
+behind_count [] n k qs e = validity_count n k qs e
+behind_count (p ∷ ps) n zero qs e = absurd (cc)
+behind_count (p ∷ ps) n (suc k) qs e =
+    let m = mapped (λ (rs : List Place). p ∷ rs) (before_validity ps n k) qs e in
+    ap (λ (rs : List Place). length rs) m.1 ∙ ap (λ n. suc n) (behind_count ps n k m.0 m.2)
+
+varbin_count : (d : Typ) (n : ℕ) (p : PType) (k : ℕ) (qs : List Place) → VarBins.plan d n p k ≡ Some qs → length qs ≡ k
+varbin_count (node (utf8 m) end) n p k qs e = behind_count _ n k qs (let_through (is_len (suc n)) _ _ e)
+varbin_count (node (binary m) end) n p k qs e = behind_count _ n k qs (let_through (is_len (suc n)) _ _ e)
+varbin_count _ n p k qs e = absurd (cc)
+
 -- An encoding that has code plans a place for each child.
 pub plan_length : (encoding : Encoding) (d : Typ) (n : ℕ) (v : Metadata) (k : ℕ) (qs : List Place) → plan_of (plain_encoding encoding) d n v k ≡ Some qs → length qs ≡ k
 plan_length Null d n M.empty k qs e = null_count d n k qs e
@@ -130,3 +163,5 @@ plan_length Primitive d n M.empty k qs e = primitive_count d n k qs e
 plan_length Primitive d n _ k qs e = absurd (cc)
 plan_length Decimal d n (M.decimal w) k qs e = decimal_count d n k qs e
 plan_length Decimal d n _ k qs e = absurd (cc)
+plan_length VarBin d n (M.varbin p) k qs e = varbin_count d n p k qs e
+plan_length VarBin d n _ k qs e = absurd (cc)

@@ -5,6 +5,7 @@ mod Unread
 mod Numbers
 mod Offsets
 mod Widths
+mod Kinds
 mod Validities
 mod Fitting
 mod Singles
@@ -13,3 +14,4 @@ mod NullSteps
 mod BoolSteps
 mod PrimitiveSteps
 mod DecimalSteps
+mod VarBinSteps

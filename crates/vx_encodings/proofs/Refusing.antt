@@ -1,5 +1,6 @@
 -- What is refused has no plan and no array.
 use Rattle.std.proofs.Common.{ℕ, ◌≡◌, ◌⊎◌, List, Option, Some, None, sym, ap, ◌∙◌, subst, inl, inr, Result, Ok, Err, IfErr}
+use Rattle.std.proofs.lemmas.Option.{same_Some}
 use Rattle.vx_buffer.specs.Buffer.{Buffer}
 use Rattle.vx_trees.specs.Rose.{node, count}
 use Rattle.vx_types.specs.Known.{ExtMeaning}
@@ -10,25 +11,19 @@ use Rattle.vx_array_tree.specs.Encoding.{Encoding}
 use Rattle.vx_array_tree.specs.Metadata.{Metadata}
 use Rattle.vx_array_tree.specs.Place.{Place}
 use Rattle.vx_array_tree.specs.Sound.{IsSound, IsSoundNode}
-use Rattle.vx_array_tree.specs.Table.{metadata_of, body_of, plan_of, Allows, Takes, IsShaped}
-use Rattle.vx_array_tree.specs.Tree.{Tree, Trees, Head, places, encodings}
+use Rattle.vx_array_tree.specs.Table.{metadata_of, body_of, plan_of, Allows, Content, Takes, IsShaped}
+use Rattle.vx_array_tree.specs.Tree.{Tree, Trees, Head, places, encodings, rows_below}
 use Rattle.vx_array_tree.proofs.NodeLaws.{body_encoding}
 use Rattle.vx_array_tree.proofs.Plans.{metadata_again}
-use Rattle.vx_wire_tree.specs.Fields.{Fields, meant}
-use Rattle.vx_wire_tree.specs.Reads.{IsMetadata}
-use Rattle.vx_wire_tree.specs.Steps.{PlansChildren, HasNoPlan, HasParts, HasWrongShape}
-use Rattle.vx_encodings.proofs.Laws.{one_message}
+use Rattle.vx_wire_tree.specs.Steps.{PlansChildren, HasNoPlan, HasParts, HasWrongShape, HasWrongContent}
+use Rattle.vx_encodings.proofs.Laws.{one_value}
 use Rattle.vx_encodings.specs.Messages.{codec}
 use Rattle.vx_encodings.specs.Plain.{plain_encoding}
 use Rattle.vx_encodings.specs.Steps.{IsPlanned, IsUnplanned, IsBuilt, IsUnbuilt, IsMemory, IsOkOrMemory}
 use Rattle.vx_encodings.specs.declared.encoding.Encoding as Declared
 use Rattle.vx_encodings.specs.declared.error.EncodingError.{EncodingError}
-use Rattle.vx_encodings.specs.declared.error.EncodingError.TheVariants.{OutOfMemory, BadMetadata, BadShape}
+use Rattle.vx_encodings.specs.declared.error.EncodingError.TheVariants.{OutOfMemory, BadMetadata, BadShape, BadContent}
 use Rattle.vx_encodings.specs.declared.head.ArrayHead.{ArrayHead}
-
--- Bytes are metadata of a node of a type in at most one way.
-pub one_value : (x : ExtMeaning) (e : Encoding) (d : Typ) (bytes : List ℕ) (v w : Metadata) → IsMetadata codec x e d bytes v → IsMetadata codec x e d bytes w → v ≡ w
-one_value x e d bytes v w m k = sym m.meaning ∙ ap (λ (f : Fields). meant d f) (one_message e bytes m.fields k.fields m.shown k.shown) ∙ k.meaning
 
 not_both : {A : Type 0} {x : A} (o : Option A) → o ≡ None → o ≡ Some x → ⊥
 not_both o p q = absurd (cc)
@@ -43,6 +38,7 @@ pub planned_refusal : (x : ExtMeaning) (error : EncodingError) (e : Declared.Enc
 planned_refusal x OutOfMemory e h ps u p = tt
 planned_refusal x BadMetadata e h ps u p = absurd (u p.value p.metadata)
 planned_refusal x BadShape e h ps u p = absurd (no_plan x (plain_encoding e) (typ h.dtype) h.len h.metadata h.nchildren ps u p)
+planned_refusal x BadContent e h ps u p = absurd u
 
 -- Parts of a sound array, of which the children were planned, are as its encoding's row asks.
 module _ (x : ExtMeaning) (e : Encoding) (d : Typ) (n : ℕ) (bytes : List ℕ) (k : ℕ) (bs : List Buffer) (ts : Trees) where
@@ -78,6 +74,17 @@ module _ (x : ExtMeaning) (e : Encoding) (d : Typ) (n : ℕ) (bytes : List ℕ) 
       wrong_parts parts.value parts.body parts.body_is plan s
       (subst (λ (z : Metadata). (IsShaped e d n z bs (count ts) → ⊥) ⊎ (Takes e (encodings ts) → ⊥)) other w.wrong)
 
+  same_body : (v w : Metadata) (b c : Body) → v ≡ w → body_of e v bs ≡ Some b → body_of e w bs ≡ Some c → c ≡ b
+  same_body v w b c q p r = sym (same_Some b c (sym p ∙ ap (λ (z : Metadata). body_of e z bs) q ∙ r))
+
+  -- Nor is its content broken.
+  not_broken : (t : Tree) → HasParts codec x e d n bytes bs ts t → IsSound t → HasWrongContent codec x e d n bytes bs ts → ⊥
+  not_broken t parts sound w =
+      let other = one_value x e d bytes w.value parts.value w.metadata parts.metadata in
+      let s = root_is t (record { dtype = d; len = n; body = parts.body }) parts.tree_is sound in
+      let b = same_body w.value parts.value w.shaped.body parts.body other w.shaped.body_is parts.body_is in
+      w.wrong (subst (λ (c : Body). Content d n c (rows_below ts)) b s.content)
+
 -- Of what is a sound array's parts only memory is refused.
 pub built_refusal : (x : ExtMeaning) (error : EncodingError) (e : Declared.Encoding) (h : ArrayHead) (bs : List Buffer) (ts : Trees) (t : Tree)
     → IsPlanned x e h (places ts) → IsUnbuilt error x e h bs ts → IsBuilt x e h bs ts t → IsSound t → IsMemory error
@@ -85,6 +92,8 @@ built_refusal x OutOfMemory e h bs ts t planned u parts sound = tt
 built_refusal x BadMetadata e h bs ts t planned u parts sound = absurd u
 built_refusal x BadShape e h bs ts t planned u parts sound =
     absurd (not_wrong x (plain_encoding e) (typ h.dtype) h.len h.metadata h.nchildren bs ts t planned parts sound u)
+built_refusal x BadContent e h bs ts t planned u parts sound =
+    absurd (not_broken x (plain_encoding e) (typ h.dtype) h.len h.metadata h.nchildren bs ts t parts sound u)
 
 -- An answer whose refusals are those of a plan is Ok, or want of memory, where there is a plan.
 pub plan_complete : (x : ExtMeaning) (e : Declared.Encoding) (h : ArrayHead) (r : Result (List Place) EncodingError) → IfErr r (λ error. IsUnplanned error x e h)

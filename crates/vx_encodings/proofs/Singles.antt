@@ -1,7 +1,8 @@
--- The steps of encodings that have one buffer and, below, at most a validity: what is planned, what is built, and why not.
+-- The steps of encodings that have one buffer, and of those that have, below, at most a validity: what is planned, what is
+-- built, and why not.
 use Rattle.std.proofs.Common.{ℕ, ◌≡◌, ◌≤◌, List, [], ◌∷◌, Some, None, Result, Ok, Err, IfOk, refl, sym, ap, ◌∙◌, subst, inl, length, arith}
 use Rattle.vx_buffer.specs.Buffer.{Buffer}
-use Rattle.vx_trees.specs.Rose.{node, count, label, below, roses_of}
+use Rattle.vx_trees.specs.Rose.{node, count, roses_of}
 use Rattle.vx_trees.proofs.Lists.{count-roses_of}
 use Rattle.vx_types.specs.Known.{ExtMeaning}
 use Rattle.vx_types.specs.Seen.{typ}
@@ -12,21 +13,19 @@ use Rattle.vx_array_tree.specs.Encoding as E
 use Rattle.vx_array_tree.specs.Metadata.{Metadata}
 use Rattle.vx_array_tree.specs.Metadata as M
 use Rattle.vx_array_tree.specs.Place.{Place, before_validity}
-use Rattle.vx_array_tree.specs.Refused.{IsMisshaped}
 use Rattle.vx_array_tree.specs.Table.{IsFair, IsShaped, Takes, body_of, lifted, plan_of}
 use Rattle.vx_array_tree.specs.Tree.{Tree, Trees, places, encodings}
 use Rattle.vx_wire_tree.specs.Reads.{IsMetadata}
 use Rattle.vx_arrays.specs.Refused.{IsUnmade}
 use Rattle.vx_arrays.specs.declared.error.ArrayError.{ArrayError}
-use Rattle.vx_arrays.specs.declared.error.ArrayError.TheVariants as A
-use Rattle.vx_encodings.proofs.Fitting.{unfit}
+use Rattle.vx_encodings.proofs.Fitting.{constructor_refused}
 use Rattle.vx_encodings.proofs.Validities.{validity_few}
 use Rattle.vx_encodings.specs.Messages.{codec}
 use Rattle.vx_encodings.specs.Plain.{plain_encoding}
 use Rattle.vx_encodings.specs.Steps.{IsPlanned, IsUnplanned, IsWithoutPlan, IsBuilt, IsUnbuilt, constructor_error}
 use Rattle.vx_encodings.specs.declared.encoding.Encoding as Declared
 use Rattle.vx_encodings.specs.declared.error.EncodingError.{EncodingError}
-use Rattle.vx_encodings.specs.declared.error.EncodingError.TheVariants.{OutOfMemory, BadMetadata, BadShape}
+use Rattle.vx_encodings.specs.declared.error.EncodingError.TheVariants.{OutOfMemory, BadMetadata, BadShape, BadContent}
 use Rattle.vx_encodings.specs.declared.head.ArrayHead.{ArrayHead}
 
 -- The encodings of one buffer.
@@ -34,6 +33,7 @@ abbrev pub IsSingle : Encoding → Type 0
 IsSingle E.bool = Unit {0}
 IsSingle E.primitive = Unit {0}
 IsSingle E.decimal = Unit {0}
+IsSingle E.varbin = Unit {0}
 IsSingle _ = ⊥
 
 -- Another number of buffers gives no body.
@@ -50,6 +50,10 @@ bodiless E.decimal (M.decimal w) [] s none = refl
 bodiless E.decimal (M.decimal w) (b ∷ []) s none = absurd (none refl)
 bodiless E.decimal (M.decimal w) (b ∷ c ∷ bs) s none = refl
 bodiless E.decimal _ bs s none = refl
+bodiless E.varbin (M.varbin p) [] s none = refl
+bodiless E.varbin (M.varbin p) (b ∷ []) s none = absurd (none refl)
+bodiless E.varbin (M.varbin p) (b ∷ c ∷ bs) s none = refl
+bodiless E.varbin _ bs s none = refl
 bodiless _ v bs s none = absurd s
 
 misshaped : (e : Encoding) (d : Typ) (n : ℕ) (v : Metadata) (bs : List Buffer) (k : ℕ) → IsSingle e → (length bs ≡ 1 → ⊥) → IsShaped e d n v bs k → ⊥
@@ -58,13 +62,6 @@ misshaped e d n v bs k s none shaped = let f : None ≡ Some shaped.body = sym (
 -- Where a validity or nothing is planned there is at most one child.
 pub single_children : (n k : ℕ) (us : Trees) (ts : List Tree) → before_validity [] n k ≡ Some (places us) → roses_of ts ≡ us → length ts ≤ 1
 single_children n k us ts planned e = let f = validity_few n k us planned in omega (arith, f.0, count-roses_of ts, ap (λ z. count z) e)
-
-unfitting : (e : Encoding) (d : Typ) (n k : ℕ) (v : Metadata) (b : Buffer) (body : Body) (us : Trees) → body_of e v (b ∷ []) ≡ Some body → IsFair e v → plan_of e d n v k ≡ before_validity [] n k
-    → plan_of e d n v k ≡ Some (places us) → lifted body (places us) ≡ places us → Takes e (encodings us) → IsMisshaped (record { dtype = d; len = n; body = body }) us → IsShaped e d n v (b ∷ []) (count us) → ⊥
-unfitting e d n k v b body us body_is fair plan planned level takes wrong shaped =
-    let few = validity_few n k us (sym plan ∙ planned) in
-    let counted : plan_of e d n v (count us) ≡ Some (places us) = subst (λ (z : ℕ). plan_of e d n v z ≡ Some (places us)) few.1 planned in
-    unfit e d n v (b ∷ []) body us body_is fair counted level takes wrong shaped
 
 -- A node whose metadata is read.
 module _ (x : ExtMeaning) (e : Declared.Encoding) (h : ArrayHead) (v : Metadata) (m : IsMetadata codec x (plain_encoding e) (typ h.dtype) h.metadata v) where
@@ -84,6 +81,7 @@ module _ (x : ExtMeaning) (e : Declared.Encoding) (h : ArrayHead) (v : Metadata)
   single_without OutOfMemory p w = tt
   single_without BadMetadata p w = absurd w
   single_without BadShape p w = single_unplanned (p ∙ w)
+  single_without BadContent p w = absurd w
 
   -- What is built has the parts.
   pub single_built : (bs : List Buffer) (us : Trees) (body : Body) (t : Tree) → body_of (plain_encoding e) v bs ≡ Some body → t ≡ node (record { dtype = typ h.dtype; len = h.len; body = body }) us → IsBuilt x e h bs us t
@@ -94,16 +92,10 @@ module _ (x : ExtMeaning) (e : Declared.Encoding) (h : ArrayHead) (v : Metadata)
       → plan_of (plain_encoding e) (typ h.dtype) h.len v h.nchildren ≡ before_validity [] h.len h.nchildren → plan_of (plain_encoding e) (typ h.dtype) h.len v h.nchildren ≡ Some (places us)
       → lifted body (places us) ≡ places us → Takes (plain_encoding e) (encodings us) → t ≡ node (record { dtype = typ h.dtype; len = h.len; body = body }) us → IsUnmade error t
       → IsUnbuilt (constructor_error error) x e h bs us
-  single_refused A.OutOfMemory bs us b body t p body_is fair plan planned level takes q refused = tt
-  single_refused A.BadShape bs us b body t p body_is fair plan planned level takes q refused =
-      let wrong = subst (λ (z : Tree). IsMisshaped (label z) (below z)) q refused in
-      record {
-        value = v;
-        metadata = m;
-        wrong = inl (subst (λ (z : List Buffer). IsShaped (plain_encoding e) (typ h.dtype) h.len v z (count us) → ⊥) (sym p)
-            (unfitting (plain_encoding e) (typ h.dtype) h.len h.nchildren v b body us body_is fair plan planned level takes wrong));
-      }
-  single_refused A.ValueTooLarge bs us b body t p body_is fair plan planned level takes q refused = absurd refused
+  single_refused error bs us b body t p body_is fair plan planned level takes q refused =
+      let few = validity_few h.len h.nchildren us (sym plan ∙ planned) in
+      let counted : plan_of (plain_encoding e) (typ h.dtype) h.len v (count us) ≡ Some (places us) = subst (λ (z : ℕ). plan_of (plain_encoding e) (typ h.dtype) h.len v z ≡ Some (places us)) few.1 planned in
+      constructor_refused x e h v m error bs us body t (ap (λ (z : List Buffer). body_of (plain_encoding e) v z) p ∙ body_is) fair counted level takes q refused
 
   -- Buffers of another number than one do not fit.
   pub single_buffers : (bs : List Buffer) (us : Trees) → IsSingle (plain_encoding e) → (length bs ≡ 1 → ⊥) → IsUnbuilt BadShape x e h bs us

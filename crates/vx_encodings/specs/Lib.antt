@@ -2,5 +2,6 @@ pub mod Plain
 pub mod NumberMessage
 pub mod BoolMessage
 pub mod DecimalMessage
+pub mod VarBinMessage
 pub mod Messages
 pub mod Steps

@@ -7,19 +7,21 @@ use Rattle.vx_wire_tree.specs.Fields.{Fields}
 use Rattle.vx_wire_tree.specs.Fields as F
 use Rattle.vx_encodings.specs.BoolMessage.{ShowsBool, bool_bytes}
 use Rattle.vx_encodings.specs.DecimalMessage.{ShowsDecimal, decimal_bytes}
+use Rattle.vx_encodings.specs.VarBinMessage.{ShowsVarBin, varbin_bytes}
 
 -- An encoding that keeps nothing has no metadata: no byte stands there.
 pub record ShowsNothing (bytes : List ℕ) (f : Fields) : Type 0 where
   pub bytes_are : bytes ≡ []
   pub fields_are : f ≡ F.empty
 
--- Eight encodings keep nothing, flags an offset, and decimals a width. Messages of the other five are not read here yet:
--- no bytes show one.
+-- Eight encodings keep nothing, flags an offset, decimals a width, and texts by offsets a kind of numbers. Messages of the
+-- other four are not read here yet: no bytes show one.
 abbrev pub Shows : Encoding → List ℕ → Fields → Type 0
 Shows E.null = ShowsNothing
 Shows E.bool = ShowsBool
 Shows E.primitive = ShowsNothing
 Shows E.decimal = ShowsDecimal
+Shows E.varbin = ShowsVarBin
 Shows E.varbinview = ShowsNothing
 Shows E.fixed_size_list = ShowsNothing
 Shows E.map = ShowsNothing
@@ -28,10 +30,11 @@ Shows E.union = ShowsNothing
 Shows E.ext = ShowsNothing
 Shows _ = λ bytes f. ⊥
 
--- What keeps nothing is written as no byte, and an offset or a width as its message. Other messages are not written here yet.
+-- What keeps nothing is written as no byte, and an offset, a width or a kind as its message. Other messages are not written here yet.
 abbrev pub message_bytes : Fields → List ℕ
 message_bytes (F.bool offset) = bool_bytes offset
 message_bytes (F.decimal width) = decimal_bytes width
+message_bytes (F.varbin kind) = varbin_bytes kind
 message_bytes _ = []
 
 -- The messages that are read and written here.

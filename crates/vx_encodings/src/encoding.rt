@@ -3,7 +3,7 @@
 ghost use Rattle.std.specs.Prelude.{◌≡◌};
 ghost use Rattle.vx_array_tree.specs.Table.{id_of};
 
-use vx_arrays::{BoolArray, DecimalArray, NullArray, PrimitiveArray};
+use vx_arrays::{BoolArray, DecimalArray, NullArray, PrimitiveArray, VarBinArray};
 
 /// The shipped encodings.
 #[derive(Clone, Copy, Debug, PartialEq, Eq)]
@@ -16,6 +16,8 @@ pub enum Encoding {
     Primitive,
     /// Decimals, by their unscaled integers, one after the other.
     Decimal,
+    /// Texts or bytes, one after the other, by offsets.
+    VarBin,
 }
 
 impl Encoding {
@@ -30,6 +32,7 @@ impl Encoding {
             Encoding::Bool => BoolArray::ID,
             Encoding::Primitive => PrimitiveArray::ID,
             Encoding::Decimal => DecimalArray::ID,
+            Encoding::VarBin => VarBinArray::ID,
         }
     }
 }

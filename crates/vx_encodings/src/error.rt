@@ -21,6 +21,9 @@ pub enum EncodingError {
     /// Type, counts, or a buffer's length or alignment do not fit.
     #[error("the parts do not fit the encoding")]
     BadShape,
+    /// A value in a buffer or a child names nothing that is there, or bytes are no text where one is to be.
+    #[error("the content is broken")]
+    BadContent,
 }
 
 impl From<AllocError> for EncodingError {
@@ -48,6 +51,7 @@ pub(crate) fn of_constructor(error: ArrayError) -> EncodingError
     match error {
         ArrayError::OutOfMemory => EncodingError::OutOfMemory,
         ArrayError::BadShape => EncodingError::BadShape,
+        ArrayError::BadContent => EncodingError::BadContent,
         ArrayError::ValueTooLarge => unreachable!(),
     }
 }

@@ -17,6 +17,7 @@ mod plans;
 mod primitive;
 mod steps;
 mod validity;
+mod varbin;
 
 pub use bool::BoolMetadata;
 pub use decimal::DecimalMetadata;
@@ -25,3 +26,4 @@ pub use error::EncodingError;
 pub use head::ArrayHead;
 pub use plans::{ChildPlan, ChildPlans};
 pub use steps::{build, metadata, plan};
+pub use varbin::VarBinMetadata;

@@ -17,7 +17,7 @@ use crate::encoding::Encoding;
 use crate::error::EncodingError;
 use crate::head::ArrayHead;
 use crate::plans::ChildPlans;
-use crate::{bool, decimal, null, primitive};
+use crate::{bool, decimal, null, primitive, varbin};
 use std::alloc::Global;
 use vx_arrays::{Array, Arrays, Body};
 use vx_buffer::BufferHandles;
@@ -61,12 +61,13 @@ fn plan_by(
         Encoding::Bool => bool::plan(alloc, head),
         Encoding::Primitive => primitive::plan(alloc, head),
         Encoding::Decimal => decimal::plan(alloc, head),
+        Encoding::VarBin => varbin::plan(alloc, head),
     }
 }
 
 /// The array of these parts, of which the children have the planned places.
 ///
-/// `BadShape` where the parts are not as the encoding's row asks.
+/// `BadShape` where the parts are not as the encoding's row asks, else `BadContent` where their content is broken.
 pub fn build(
     alloc: Global,
     encoding: Encoding,
@@ -110,6 +111,7 @@ fn build_by(
         Encoding::Bool => bool::build(alloc, head, buffers, children),
         Encoding::Primitive => primitive::build(alloc, head, buffers, children),
         Encoding::Decimal => decimal::build(alloc, head, buffers, children),
+        Encoding::VarBin => varbin::build(alloc, head, buffers, children),
     }
 }
 
@@ -124,5 +126,6 @@ pub fn metadata(alloc: Global, array: &Array) -> Result<Blob, EncodingError>
         Body::Bool(flags) => bool::metadata(alloc, flags),
         Body::Primitive(_) => Ok(write_empty(alloc)),
         Body::Decimal(decimals) => decimal::metadata(alloc, decimals),
+        Body::VarBin(_) => varbin::metadata(alloc, array.children()),
     }
 }

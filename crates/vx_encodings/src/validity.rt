@@ -1,9 +1,10 @@
-//! The validity of a node whose only child it is.
+//! The validity of a node, whose only child it is or which stands behind another child.
 
-ghost use Rattle.std.specs.Prelude.{◌≡◌, ◌≤◌, [], Some, IfOk, IfErr, length};
-ghost use Rattle.vx_trees.specs.Rose.{roses_of};
-ghost use Rattle.vx_array_tree.specs.Place.{before_validity};
+ghost use Rattle.std.specs.Prelude.{◌≡◌, ◌≤◌, [], ◌∷◌, Some, IfOk, IfErr, length};
+ghost use Rattle.vx_trees.specs.Rose.{more, roses_of};
+ghost use Rattle.vx_array_tree.specs.Place.{before_validity, validity_place};
 ghost use Rattle.vx_array_tree.specs.Tree.{option_trees};
+ghost use Rattle.vx_encodings.specs.Plain.{planned_place};
 ghost use Rattle.vx_encodings.specs.Steps.{IsWithoutPlan};
 
 use crate::error::EncodingError;
@@ -11,6 +12,16 @@ use crate::plans::{ChildPlan, ChildPlans};
 use std::alloc::Global;
 use vx_arrays::Array;
 use vx_types::{DType, Nullability};
+
+// What the validity of so many rows is to be.
+fn validity_of(len: usize) -> ChildPlan
+    ensures { planned_place result ≡ validity_place len }
+{
+    ChildPlan {
+        dtype: DType::Bool(Nullability::NonNullable),
+        len,
+    }
+}
 
 // A validity child, where one stands among so many children.
 pub(crate) fn plan_validity(
@@ -25,10 +36,7 @@ pub(crate) fn plan_validity(
     match count {
         0 => Ok(plans),
         1 => {
-            plans.push(ChildPlan {
-                dtype: DType::Bool(Nullability::NonNullable),
-                len,
-            })?;
+            plans.push(validity_of(len))?;
             Ok(plans)
         }
         _ => Err(EncodingError::BadShape),
@@ -42,4 +50,37 @@ pub(crate) fn only_validity(children: Vec<Array>) -> Option<Array>
 {
     let mut items = children;
     items.pop()
+}
+
+// A child, and behind it a validity, where one stands among so many children.
+pub(crate) fn plan_behind(
+    alloc: Global,
+    first: ChildPlan,
+    len: usize,
+    count: usize,
+) -> Result<ChildPlans, EncodingError>
+    ensures plan { IfOk result (λ plans. before_validity (planned_place first ∷ []) len count ≡ Some plans) }
+    ensures err { IfErr result (λ e. IsWithoutPlan e (before_validity (planned_place first ∷ []) len count)) }
+{
+    let mut plans = ChildPlans::new(alloc);
+    plans.push(first)?;
+    match count {
+        1 => Ok(plans),
+        2 => {
+            plans.push(validity_of(len))?;
+            Ok(plans)
+        }
+        _ => Err(EncodingError::BadShape),
+    }
+}
+
+// The first of the children of a node, and the validity that may stand behind it.
+pub(crate) fn first_and_validity(children: Vec<Array>) -> (Array, Option<Array>)
+    requires some { 1 ≤ length children.items }
+    requires few { length children.items ≤ 2 }
+    ensures { more result.0 (option_trees result.1) ≡ roses_of children.items }
+{
+    let mut items = children;
+    let first = items.remove(0);
+    (first, items.pop())
 }

@@ -65,6 +65,7 @@ impl ArraySession {
             Encoding::Bool,
             Encoding::Primitive,
             Encoding::Decimal,
+            Encoding::VarBin,
         ] {
             session.set(encoding)?;
         }

@@ -10,30 +10,32 @@ use Rattle.vx_trees.proofs.Lists.{count-roses_of, roses_of-roses_list, roses_lis
 use Rattle.vx_types.specs.Known.{ExtMeaning}
 use Rattle.vx_types.specs.Typ.{Typ}
 use Rattle.vx_types.specs.Seen.{typ}
+use Rattle.vx_array_tree.specs.Metadata.{Metadata}
 use Rattle.vx_array_tree.specs.Normal.{IsNormalNode}
 use Rattle.vx_array_tree.specs.Place.{Place}
 use Rattle.vx_array_tree.specs.Sound.{IsSound, IsSoundNode}
-use Rattle.vx_array_tree.specs.Table.{encoding_of, IsShaped}
-use Rattle.vx_array_tree.specs.Tree.{Tree, Trees, places, encodings}
+use Rattle.vx_array_tree.specs.Encoding as Encodings
+use Rattle.vx_array_tree.specs.Table.{encoding_of, plan_of, Allows, Content, IsShaped}
+use Rattle.vx_array_tree.specs.Tree.{Tree, Trees, places, encodings, rows_below}
 use Rattle.vx_wire_tree.specs.Causes.{IsOf, AreOf, MayStandFor}
 use Rattle.vx_wire_tree.specs.Codec.{IsLawful}
 use Rattle.vx_wire_tree.specs.Matches.{Matches, AllMatch, IsNodeBy}
 use Rattle.vx_wire_tree.specs.Placed.{IsChild, HasPlan, IsPlannedBy}
 use Rattle.vx_wire_tree.specs.Session.{SessionMeaning, Reader, shipped}
-use Rattle.vx_wire_tree.specs.Steps.{PlansChildren, HasNoMetadata, HasNoPlan, HasParts, HasWrongShape}
+use Rattle.vx_wire_tree.specs.Steps.{PlansChildren, HasNoMetadata, HasNoPlan, HasParts, HasWrongShape, HasWrongContent}
 use Rattle.vx_wire_tree.specs.Tells.{Tells}
 use Rattle.vx_wire_tree.specs.Wire.{WireHead, Wire, Wires, all_present}
 use Rattle.vx_wire_tree.proofs.Laws.{node_tells, matched_count}
 use Rattle.vx_encodings.specs.Messages.{codec}
 use Rattle.vx_encodings.specs.Plain.{plain_encoding}
 use Rattle.vx_encodings.specs.Steps.{IsPlanned, IsUnplanned, IsBuilt, IsUnbuilt}
-use Rattle.vx_encodings.proofs.Laws.{plan_length}
+use Rattle.vx_encodings.proofs.Laws.{one_value, plan_length}
 use Rattle.vx_encodings.specs.declared.encoding.Encoding.{Encoding}
 use Rattle.vx_encodings.specs.declared.error.EncodingError.{EncodingError}
 use Rattle.vx_encodings.specs.declared.error.EncodingError.TheVariants as refusals
 use Rattle.vx_encodings.specs.declared.head.ArrayHead.{ArrayHead}
 use Rattle.vx_serde.specs.declared.error.WireError.{WireError}
-use Rattle.vx_serde.specs.declared.error.WireError.TheVariants.{OutOfMemory, OutOfBounds, UnknownIndex, UnknownEncoding, BadMetadata, BadShape}
+use Rattle.vx_serde.specs.declared.error.WireError.TheVariants.{OutOfMemory, OutOfBounds, UnknownIndex, UnknownEncoding, BadMetadata, BadShape, BadContent}
 use Rattle.vx_serde.specs.Causes.{RefusesWire}
 use Rattle.vx_serde.specs.ReadingSteps.{RefusesBuffers, encoding_refusal}
 use Rattle.vx_serde.specs.Decoding.{IsHeadOf, IsNodeOf, AllTell}
@@ -108,6 +110,7 @@ caused_above s UnknownIndex w d n i v p child c = (i ∷ c.0, (v, child.child, c
 caused_above s UnknownEncoding w d n i v p child c = (i ∷ c.0, (v, p, child, c.1))
 caused_above s BadMetadata w d n i v p child c = (i ∷ c.0, (v, p, child, c.1))
 caused_above s BadShape w d n i v p child c = (i ∷ c.0, (v, p, child, c.1))
+caused_above s BadContent w d n i v p child c = (i ∷ c.0, (v, p, child, c.1))
 caused_above s _ w d n i v p child c = absurd c
 
 -- and so is that of the child that stands at a place of a list
@@ -159,6 +162,7 @@ caused_by_plan s refusals.BadShape w d n e h read c =
       [],
       record { encoding = plain_encoding e; by = own_encoding s w d n e h read; value = none.value; metadata = none.metadata; broken = inl none.none },
     )
+caused_by_plan s refusals.BadContent w d n e h read c = absurd c
 
 -- no other buffers may stand for those that are there
 standing : (bs cs : List Buffer) → MayStandFor (all_present bs) cs → cs ≡ bs
@@ -179,11 +183,17 @@ are_of s end ts m = ap (λ us. encodings us) m
 are_of s (more w ws) end m = absurd m
 are_of s (more w ws) (more t ts) m = (is_of s w t m.0, are_of s ws ts m.1)
 
+-- parts of as many children are of the same shape
+content_broken : (e : Encodings.Encoding) (d : Typ) (n : ℕ) (v : Metadata) (bs : List Buffer) (j k : ℕ) (ts : Trees) → j ≡ k → (x : IsShaped e d n v bs j) → (Content d n x.body (rows_below ts) → ⊥)
+    → (y : IsShaped e d n v bs k) × (Content d n y.body (rows_below ts) → ⊥)
+content_broken e d n v bs j k ts same x wrong =
+    (record { body = x.body; body_is = x.body_is; holds = x.holds; allows = subst (λ (z : ℕ). Allows e d v z) same x.allows }, wrong)
+
 pub caused_by_build : (s : SessionMeaning) (x : EncodingError) (w : Wire) (d : Typ) (n : ℕ) (e : Encoding) (h : ArrayHead) (bs : List Buffer) (ws : List Wire) (ps : List Place) (ts : Trees) → IsNodeOf s w d n e h
-    → (label w).buffers ≡ all_present bs → roses_of ws ≡ below w → AllTell s (roses_of ws) ps ts → IsUnbuilt x s.ext e h bs ts → RefusesWire s (encoding_refusal x) w d n
-caused_by_build s refusals.OutOfMemory w d n e h bs ws ps ts read own own_children told c = tt
-caused_by_build s refusals.BadMetadata w d n e h bs ws ps ts read own own_children told c = absurd c
-caused_by_build s refusals.BadShape w d n e h bs ws ps ts read own own_children told c =
+    → IsPlanned s.ext e h ps → (label w).buffers ≡ all_present bs → roses_of ws ≡ below w → AllTell s (roses_of ws) ps ts → IsUnbuilt x s.ext e h bs ts → RefusesWire s (encoding_refusal x) w d n
+caused_by_build s refusals.OutOfMemory w d n e h bs ws ps ts read plan own own_children told c = tt
+caused_by_build s refusals.BadMetadata w d n e h bs ws ps ts read plan own own_children told c = absurd c
+caused_by_build s refusals.BadShape w d n e h bs ws ps ts read plan own own_children told c =
     let wrong = at_node (λ f m b k. HasWrongShape codec s.ext (plain_encoding e) f m b bs ts) h w d n read.head c in
     let A : Wires → Type 0 = λ z. AllMatch codec s z ts in
     let matched : AllMatch codec s (below w) ts = subst A own_children told.matched in
@@ -202,6 +212,30 @@ caused_by_build s refusals.BadShape w d n e h bs ws ps ts read own own_children 
         value = wrong.value;
         metadata = wrong.metadata;
         broken = elim wrong.wrong [ inl never ↦ inr (inl (shaped never)) | inr never ↦ inr (inr (encodings ts, are_of s (below w) ts matched, never)) ];
+      },
+    )
+caused_by_build s refusals.BadContent w d n e h bs ws ps ts read plan own own_children told c =
+    let wrong = at_node (λ f m b k. HasWrongContent codec s.ext (plain_encoding e) f m b bs ts) h w d n read.head c in
+    let plans = at_node (λ f m b k. PlansChildren codec s.ext (plain_encoding e) f m b k ps) h w d n read.head plan in
+    let A : Wires → Type 0 = λ z. AllMatch codec s z ts in
+    let matched : AllMatch codec s (below w) ts = subst A own_children told.matched in
+    let same : count ts ≡ count (below w) = matched_count codec s (below w) ts matched in
+    let value = one_value s.ext (plain_encoding e) d (label w).metadata plans.value wrong.value plans.metadata wrong.metadata in
+    let broken = content_broken (plain_encoding e) d n wrong.value bs (count ts) (count (below w)) ts same wrong.shaped wrong.wrong in (
+      [],
+      record {
+        encoding = plain_encoding e;
+        by = own_encoding s w d n e h read;
+        value = wrong.value;
+        metadata = wrong.metadata;
+        places_are = ps;
+        plan = ap (λ z. plan_of (plain_encoding e) d n z (count (below w))) (sym value) ∙ plans.plan;
+        buffers = bs;
+        buffers_are = own;
+        shaped = broken.0;
+        children = ts;
+        matched = record { matched = matched; sound = told.sound; normal = told.normal; placed = told.placed };
+        broken = broken.1;
       },
     )
 

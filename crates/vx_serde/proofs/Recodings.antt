@@ -15,7 +15,7 @@ use Rattle.vx_wire_tree.proofs.Laws.{matched_whole, canon_own}
 use Rattle.vx_encodings.specs.Messages.{codec}
 use Rattle.vx_serde.specs.declared.options.SerializeOptions.{SerializeOptions}
 use Rattle.vx_serde.specs.declared.error.WireError.{WireError}
-use Rattle.vx_serde.specs.declared.error.WireError.TheVariants.{OutOfMemory, TooShort, BadTable, TableLimit, BadAlignment, Compressed, OutOfBounds, UnknownIndex, UnknownEncoding, BadMetadata, BadShape, NotPermitted, WireLimit, NotRegistered}
+use Rattle.vx_serde.specs.declared.error.WireError.TheVariants.{OutOfMemory, TooShort, BadTable, TableLimit, BadAlignment, Compressed, OutOfBounds, UnknownIndex, UnknownEncoding, BadMetadata, BadShape, BadContent, NotPermitted, WireLimit, NotRegistered}
 use Rattle.vx_serde.specs.ArraySchema.{array_schema}
 use Rattle.vx_serde.specs.Blob.{Carries}
 use Rattle.vx_serde.specs.Limits.{message_limits}
@@ -152,6 +152,7 @@ caused_by_tree asked UnknownIndex w carried u = record { wire = w; carried = car
 caused_by_tree asked UnknownEncoding w carried u = record { wire = w; carried = carried; cause = u }
 caused_by_tree asked BadMetadata w carried u = record { wire = w; carried = carried; cause = u }
 caused_by_tree asked BadShape w carried u = record { wire = w; carried = carried; cause = u }
+caused_by_tree asked BadContent w carried u = record { wire = w; carried = carried; cause = u }
 caused_by_tree asked _ w carried u = absurd u
 
 -- An array that is not written. What was read is also written.

@@ -10,15 +10,14 @@ use Rattle.vx_wire_tree.specs.Wire.{Wire}
 use Rattle.vx_encodings.specs.Messages.{codec}
 use Rattle.vx_serde.specs.declared.options.SerializeOptions.{SerializeOptions}
 use Rattle.vx_serde.specs.declared.error.WireError.{WireError}
-use Rattle.vx_serde.specs.declared.error.WireError.TheVariants.{OutOfMemory, TooShort, BadTable, TableLimit, BadAlignment, Compressed, OutOfBounds, UnknownIndex, UnknownEncoding, BadMetadata, BadShape, NotPermitted, WireLimit, NotRegistered}
+use Rattle.vx_serde.specs.declared.error.WireError.TheVariants.{OutOfMemory, TooShort, BadTable, TableLimit, BadAlignment, Compressed, OutOfBounds, UnknownIndex, UnknownEncoding, BadMetadata, BadShape, BadContent, NotPermitted, WireLimit, NotRegistered}
 use Rattle.vx_serde.specs.Blob.{Carries}
 use Rattle.vx_serde.specs.Limits.{message_limits}
 use Rattle.vx_serde.specs.Opening.{RefusesOpening}
 use Rattle.vx_serde.specs.Spells.{KeepsWriterLimits}
 use Rattle.vx_serde.specs.Request.{Request, IsSpelled}
 
--- Why a wire tree tells no array at a type and a length: by the refusal. None stands for content that is broken:
--- the encodings that are read have no rules on their content.
+-- Why a wire tree tells no array at a type and a length: by the refusal.
 abbrev pub RefusesWire : SessionMeaning → WireError → Wire → Typ → ℕ → Type 0
 RefusesWire s OutOfMemory w d n = Unit {0}
 RefusesWire s OutOfBounds w d n = RefusesTree trees.out_of_bounds codec s w d n
@@ -26,6 +25,7 @@ RefusesWire s UnknownIndex w d n = RefusesTree trees.unknown_index codec s w d n
 RefusesWire s UnknownEncoding w d n = RefusesTree trees.unknown_encoding codec s w d n
 RefusesWire s BadMetadata w d n = RefusesTree trees.bad_metadata codec s w d n
 RefusesWire s BadShape w d n = RefusesTree trees.bad_shape codec s w d n
+RefusesWire s BadContent w d n = RefusesTree trees.bad_content codec s w d n
 RefusesWire s _ w d n = ⊥
 
 -- The blob carries a wire tree that tells no array.
@@ -66,6 +66,7 @@ Refuses asked UnknownIndex = RefusesCarried asked UnknownIndex
 Refuses asked UnknownEncoding = RefusesCarried asked UnknownEncoding
 Refuses asked BadMetadata = RefusesCarried asked BadMetadata
 Refuses asked BadShape = RefusesCarried asked BadShape
+Refuses asked BadContent = RefusesCarried asked BadContent
 Refuses asked NotPermitted = SpellsOne asked (λ t. RefusesArray asked.session t asked.context asked.options NotPermitted)
 Refuses asked WireLimit = SpellsOne asked (λ t. RefusesArray asked.session t asked.context asked.options WireLimit)
 Refuses asked NotRegistered = ⊥

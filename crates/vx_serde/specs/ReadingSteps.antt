@@ -10,7 +10,7 @@ use Rattle.vx_wire_tree.specs.Wire.{Wire}
 use Rattle.vx_encodings.specs.declared.error.EncodingError.{EncodingError}
 use Rattle.vx_encodings.specs.declared.error.EncodingError.TheVariants as encodings
 use Rattle.vx_serde.specs.declared.error.WireError.{WireError}
-use Rattle.vx_serde.specs.declared.error.WireError.TheVariants.{OutOfMemory, BadTable, TableLimit, OutOfBounds, BadMetadata, BadShape, WireLimit}
+use Rattle.vx_serde.specs.declared.error.WireError.TheVariants.{OutOfMemory, BadTable, TableLimit, OutOfBounds, BadMetadata, BadShape, BadContent, WireLimit}
 use Rattle.vx_serde.specs.ArraySchema.{array_schema}
 use Rattle.vx_serde.specs.Blob.{Carries, AreClean}
 use Rattle.vx_serde.specs.Message.{Descriptor, message_of}
@@ -46,3 +46,4 @@ abbrev pub encoding_refusal : EncodingError → WireError
 encoding_refusal encodings.OutOfMemory = OutOfMemory
 encoding_refusal encodings.BadMetadata = BadMetadata
 encoding_refusal encodings.BadShape = BadShape
+encoding_refusal encodings.BadContent = BadContent

@@ -37,6 +37,7 @@ impl From<EncodingError> for WireError {
             EncodingError::OutOfMemory => WireError::OutOfMemory,
             EncodingError::BadMetadata => WireError::BadMetadata,
             EncodingError::BadShape => WireError::BadShape,
+            EncodingError::BadContent => WireError::BadContent,
         }
     }
 }

@@ -44,6 +44,10 @@ pub enum WireError {
     /// A node's type, length, buffers or children do not fit its encoding.
     #[error("a node's parts do not fit its encoding")]
     BadShape,
+    /// A node's parts fit its encoding, and a value in a buffer or a child names nothing that is there, or bytes are no
+    /// text where one is to be.
+    #[error("a node's content is broken")]
+    BadContent,
     /// The write context takes no such identifier.
     #[error("an encoding's identifier is not permitted")]
     NotPermitted,
@@ -72,6 +76,7 @@ impl WireError {
             WireError::UnknownEncoding => 17,
             WireError::BadMetadata => 18,
             WireError::BadShape => 19,
+            WireError::BadContent => 20,
             WireError::NotPermitted => 23,
             WireError::WireLimit => 24,
             WireError::NotRegistered => 25,

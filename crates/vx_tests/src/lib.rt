@@ -12,3 +12,5 @@ mod flags;
 pub mod laws;
 #[cfg(test)]
 mod program;
+#[cfg(test)]
+mod varbins;

@@ -66,6 +66,7 @@ refused wire.UnknownIndex asked cause = cause
 refused wire.UnknownEncoding asked cause = cause
 refused wire.BadMetadata asked cause = cause
 refused wire.BadShape asked cause = cause
+refused wire.BadContent asked cause = cause
 refused wire.NotPermitted asked cause = cause
 refused wire.WireLimit asked cause = cause
 refused wire.NotRegistered asked cause = cause

@@ -4,7 +4,7 @@ ghost use Rattle.std.specs.Prelude.{◌≡◌, IfOk, string_bytes};
 ghost use Rattle.vx_types.specs.Typ.{Typ};
 ghost use Rattle.vx_arrays.specs.Plain.{plain_value};
 ghost use Rattle.vx_scalars.specs.Decimals.{decimal_of};
-ghost use Rattle.vxcat_core.specs.RowText.{decimal_text, hex_text, number_text, value_text};
+ghost use Rattle.vxcat_core.specs.RowText.{bytes_text, decimal_text, hex_text, number_text, value_text};
 
 use std::alloc::{AllocError, Global};
 use vx_arrays::RowValue;
@@ -12,7 +12,8 @@ use vx_scalars::DecimalValue;
 use vx_types::PValue;
 
 /// The text of a row's value: `null`, `true`, `false`, an integer in decimal, a float's bits as `0x` and hex digits, a decimal's
-/// unscaled integer, or `?` where nothing is known of the row. None of these looks at the row's type.
+/// unscaled integer, a text or bytes as hex digits behind an `x`, or `?` where nothing is known of the row. None of these
+/// looks at the row's type.
 ///
 /// # Errors
 /// Want of memory.
@@ -26,6 +27,8 @@ pub fn row_text(alloc: Global, value: &RowValue) -> Result<String, AllocError>
         RowValue::Bool(false) => String::from_str(alloc, "false"),
         RowValue::Primitive(number) => number_text(alloc, number),
         RowValue::Decimal(decimal) => decimal_text(alloc, decimal),
+        RowValue::Utf8(text) => bytes_text(alloc, text.as_str().as_bytes()),
+        RowValue::Binary(bytes) => bytes_text(alloc, bytes.as_slice()),
     }
 }
 
@@ -65,7 +68,15 @@ fn decimal_text(alloc: Global, decimal: &DecimalValue) -> Result<String, AllocEr
     }
 }
 
-// Bytes as hex digits.
+// A text's bytes, or bytes, as hex digits behind an `x`.
+fn bytes_text(alloc: Global, bytes: &[u8]) -> Result<String, AllocError>
+    ensures { IfOk result (λ text. string_bytes text ≡ bytes_text bytes.now) }
+{
+    let digits = hex::encode(alloc, bytes)?;
+    format!(in alloc; "x{digits}")
+}
+
+// Bytes as hex digits behind `0x`.
 fn hex_text(alloc: Global, bytes: &[u8]) -> Result<String, AllocError>
     ensures { IfOk result (λ text. string_bytes text ≡ hex_text bytes.now) }
 {

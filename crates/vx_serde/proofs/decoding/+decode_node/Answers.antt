@@ -87,4 +87,4 @@ returns-clause-cause g t c =
     let told = all_told s nodes node.children c.loop-i.children c.loop-i.i past same c.loop-i.invariant in
     rw c.from.ensures
     (caused_by_build s c.in-Err-build.e w (typ c.args.dtype.now) c.args.len node.encoding node.head c.in-Ok-own_buffers.buffers nodes node.children c.loop-i.children c.in-Ok.ensures.read
-    (c.in-Ok-own_buffers.ensures.ok c.args.ids.now) (roses_of-roses_list (below w)) told c.in-Err-build.ensures.err)
+    c.in-Ok.ensures.planned (c.in-Ok-own_buffers.ensures.ok c.args.ids.now) (roses_of-roses_list (below w)) told c.in-Err-build.ensures.err)

@@ -1,0 +1,79 @@
+//! The content of texts and bytes that are parted by offsets.
+
+ghost use Rattle.std.specs.Prelude.{ℕ, suc, ◌≡◌, ◌<◌, ◌≤◌, ◌↔◌, [], Some, IsTrue, length};
+ghost use Rattle.vx_trees.specs.Rose.{count, label};
+ghost use Rattle.vx_types.specs.Content.{IsText};
+ghost use Rattle.vx_array_tree.specs.Encodings.VarBins.{AreOffsets, bytes_at};
+ghost use Rattle.vx_array_tree.specs.Place.{before_validity};
+ghost use Rattle.vx_array_tree.specs.Rows.{IsThere, validity as valid_by};
+ghost use Rattle.vx_array_tree.specs.Tree.{option_trees, places, rows_below, rows_of};
+ghost use Rattle.std.specs.Str.{is_utf8};
+
+use crate::array::Array;
+use crate::offsets::index_at;
+use crate::validity::option_validity_at;
+
+// The bytes from an offset up to the next one.
+#[tactic(auto, using(crate::proofs::Rising::parts))]
+pub(crate) fn part_at<'a>(bytes: &'a [u8], offsets: &Array, parts: usize, index: usize) -> &'a [u8]
+    requires counted { (label offsets.now).len ≡ suc parts }
+    requires offsets { AreOffsets (rows_of offsets.now) parts (length bytes.now) }
+    requires inside { index < parts }
+    ensures { result.now ≡ bytes_at bytes.now (rows_of offsets.now) index }
+{
+    let Some(start) = index_at(offsets, index) else {
+        unreachable!()
+    };
+    let Some(end) = index_at(offsets, index + 1) else {
+        unreachable!()
+    };
+    &bytes[start as usize..end as usize]
+}
+
+// Whether the parts of the rows that are there are texts.
+pub(crate) fn are_texts(
+    bytes: &[u8],
+    offsets: &Array,
+    validity: &Option<Array>,
+    rows: usize,
+) -> bool
+    requires counted { (label offsets.now).len ≡ suc rows }
+    requires offsets { AreOffsets (rows_of offsets.now) rows (length bytes.now) }
+    requires planned { before_validity [] rows (count (option_trees validity.now)) ≡ Some (places (option_trees validity.now)) }
+    ensures { IsTrue result ↔ ((i : ℕ) → i < rows → IsThere (valid_by (rows_below (option_trees validity.now))) i → IsText (bytes_at bytes.now (rows_of offsets.now) i)) }
+{
+    for i in 0..rows {
+        if !is_text_at(bytes, offsets, validity, rows, i) {
+            return false;
+        }
+    }
+    true
+}
+
+// Whether a row's part is a text, where the row is there.
+fn is_text_at(
+    bytes: &[u8],
+    offsets: &Array,
+    validity: &Option<Array>,
+    rows: usize,
+    index: usize,
+) -> bool
+    requires counted { (label offsets.now).len ≡ suc rows }
+    requires offsets { AreOffsets (rows_of offsets.now) rows (length bytes.now) }
+    requires planned { before_validity [] rows (count (option_trees validity.now)) ≡ Some (places (option_trees validity.now)) }
+    requires inside { index < rows }
+    ensures { IsTrue result ↔ (IsThere (valid_by (rows_below (option_trees validity.now))) index → IsText (bytes_at bytes.now (rows_of offsets.now) index)) }
+{
+    match option_validity_at(validity, rows, index) {
+        Some(true) => is_text(part_at(bytes, offsets, rows, index)),
+        Some(false) => true,
+        None => true,
+    }
+}
+
+// Whether bytes are a text.
+fn is_text(bytes: &[u8]) -> bool
+    ensures { result ≡ is_utf8 bytes.now }
+{
+    simdutf8::basic::from_utf8(bytes).is_ok()
+}

@@ -1,0 +1,268 @@
+//! Arrays of texts or of bytes by offsets.
+
+ghost use Rattle.std.specs.Prelude.{suc, ◌^◌, ◌≡◌, ◌<◌, ◌≤◌, ◌↔◌, ◌∷◌, IfOk, IfErr, OnOk, IsOkUnless, IsTrue};
+ghost use Rattle.vx_trees.specs.Everywhere.{EverywhereBelow};
+ghost use Rattle.vx_trees.specs.Rose.{label, more, roses_of};
+ghost use Rattle.vx_buffer.specs.Buffer.{Buffer};
+ghost use Rattle.vx_types.specs.Seen.{typ};
+ghost use Rattle.vx_types.specs.Value.{lone, value_cells};
+ghost use Rattle.vx_array_tree.specs.Body as B;
+ghost use Rattle.vx_array_tree.specs.Encodings.VarBins.{Content, IsContent, mark_of, rows as rows_of_parts};
+ghost use Rattle.vx_array_tree.specs.Refused.{IsWellShaped};
+ghost use Rattle.vx_array_tree.specs.Rows.{rest, validity};
+ghost use Rattle.vx_array_tree.specs.Sound.{IsSound, IsSoundNode};
+ghost use Rattle.vx_array_tree.specs.Tree.{Head, option_trees, rows_below, rows_of};
+ghost use Rattle.vx_arrays.specs.Plain.{plain_value};
+ghost use Rattle.vx_arrays.specs.Refused.{IsUnmade, IsRowRefused, IsValueRefused, IsOkOrMemory};
+ghost use Rattle.vx_arrays.specs.VarBins.{IsOfBytes, IsOfOffsets, varbin_head, varbin_node, varbin_tree};
+
+use crate::array::Array;
+use crate::body::Body;
+use crate::error::ArrayError;
+use crate::offsets::are_offsets;
+use crate::row::{RowValue, bytes_row, text_row, within_budget};
+use crate::texts::{are_texts, part_at};
+use crate::validity::{is_validity, validity_at};
+use std::alloc::Global;
+use std::marker::Model;
+use vx_buffer::BufferHandle;
+use vx_types::{DType, Nullability};
+
+/// What a node of texts or of bytes holds: the bytes of all rows, one after the other.
+#[derive(Drop)]
+pub struct VarBinData {
+    bytes: BufferHandle,
+}
+
+impl Model for VarBinData {
+    ghost use Rattle.vx_array_tree.specs.Encodings.VarBins.{Data, data_code};
+
+    ghost Value = { Data };
+
+    ghost coded = { data_code };
+
+    ghost view = { λ x. record { bytes = x.bytes } };
+}
+
+impl VarBinData {
+    /// The buffer of the bytes.
+    pub fn bytes(&self) -> &BufferHandle
+        ensures { result.now ≡ self.now.bytes }
+    {
+        &self.bytes
+    }
+
+    // The same bytes again. No byte is copied.
+    pub(crate) fn clone(&self, alloc: Global) -> Result<VarBinData, ArrayError>
+        ensures ok { IfOk result (λ parts. parts ≡ self.now) }
+        ensures err { IsOkUnless result ArrayError.OutOfMemory }
+    {
+        Ok(VarBinData {
+            bytes: self.bytes.clone(alloc)?,
+        })
+    }
+
+    // Whether a row is there in a node of this type, length and children; None where that is not known.
+    pub(crate) fn valid_at(
+        &self,
+        dtype: &DType,
+        len: usize,
+        children: &[Array],
+        index: usize,
+    ) -> Option<bool>
+        requires sound { let head : Head = record { dtype = typ dtype.now; len = len; body = B.varbin self.now } in
+            IsSoundNode head (roses_of children.now) }
+        requires inside { index < len }
+        ensures { result ≡ validity (rest (rows_below (roses_of children.now))) index }
+    {
+        let _bytes = &self.bytes;
+        let _dtype = dtype;
+        match children {
+            [_, behind @ ..] => validity_at(behind, len, index),
+            [] => unreachable!(),
+        }
+    }
+
+    // A row's value in a node of this type, length and children, if there are cells to spend for it.
+    pub(crate) fn value_at(
+        &self,
+        alloc: Global,
+        dtype: &DType,
+        len: usize,
+        children: &[Array],
+        index: usize,
+        budget: u64,
+    ) -> Result<RowValue, ArrayError>
+        requires sound { let head : Head = record { dtype = typ dtype.now; len = len; body = B.varbin self.now } in
+            IsSoundNode head (roses_of children.now) }
+        requires inside { index < len }
+        ensures row { let rows = rows_of_parts (typ dtype.now) len self.now (rows_below (roses_of children.now)) in
+            IfOk result (λ row. plain_value row ≡ rows.row index) }
+        ensures fits { let rows = rows_of_parts (typ dtype.now) len self.now (rows_below (roses_of children.now)) in
+            IfOk result (λ _. rows.cells index ≤ budget) }
+        ensures err { let rows = rows_of_parts (typ dtype.now) len self.now (rows_below (roses_of children.now)) in
+            IfErr result (λ e. IsRowRefused e rows index budget) }
+    {
+        match children {
+            [offsets, behind @ ..] => match validity_at(behind, len, index) {
+                None => within_budget(RowValue::Opaque, budget),
+                Some(false) => within_budget(RowValue::Null, budget),
+                Some(true) => {
+                    let bytes = self.bytes.as_host().as_slice();
+                    let part = part_at(bytes, offsets, len, index);
+                    part_row(alloc, dtype, part, budget)
+                }
+            },
+            [] => unreachable!(),
+        }
+    }
+}
+
+/// Arrays of texts or of bytes, one after the other in a buffer, parted by offsets.
+pub struct VarBinArray {}
+
+impl VarBinArray {
+    /// The identifier of the encoding.
+    pub const ID: &'static str = "vortex.varbin";
+
+    /// The array of texts or of bytes, by its type, whose rows stand in the buffer from an offset up to the next one:
+    /// there is one row less than offsets. Where some rows are null, `validity` holds for each row whether it is there.
+    ///
+    /// `BadShape` where the type is another one, where there are no offsets or they are no integers that are never null,
+    /// or where the validity may not stand. `BadContent` where an offset is below 0, below the one before or past the
+    /// bytes, or where a row of a type of texts is there and no text.
+    pub fn try_new(
+        alloc: Global,
+        dtype: DType,
+        offsets: Array,
+        bytes: BufferHandle,
+        validity: Option<Array>,
+    ) -> Result<Array, ArrayError>
+        ensures ok { IfOk result (λ a. a ≡ varbin_tree (typ dtype) offsets bytes validity) }
+        ensures sound { IfOk result IsSound }
+        ensures err { IfErr result (λ e. IsUnmade e (varbin_tree (typ dtype) offsets bytes validity)) }
+        ensures complete { IsSound (varbin_tree (typ dtype) offsets bytes validity) → IsOkOrMemory result }
+    {
+        match offsets.len().checked_sub(1) {
+            None => Err(ArrayError::BadShape),
+            Some(len) => of_parts(alloc, dtype, len, offsets, bytes, validity),
+        }
+    }
+}
+
+// The array of so many rows, whose bytes stand in the buffer.
+fn of_parts(
+    alloc: Global,
+    dtype: DType,
+    len: usize,
+    offsets: Array,
+    bytes: BufferHandle,
+    validity: Option<Array>,
+) -> Result<Array, ArrayError>
+    requires counted { (label offsets).len ≡ suc len }
+    requires few { suc len < 2 ^ 64 }
+    ensures ok { IfOk result (λ a. a ≡ varbin_node (typ dtype) len offsets bytes validity) }
+    ensures sound { IfOk result IsSound }
+    ensures err { IfErr result (λ e. IsUnmade e (varbin_node (typ dtype) len offsets bytes validity)) }
+    ensures complete { IsSound (varbin_node (typ dtype) len offsets bytes validity) → IsOkOrMemory result }
+{
+    if !is_shaped(&dtype, len, &offsets, &validity) {
+        return Err(ArrayError::BadShape);
+    }
+    if !has_content(&dtype, len, &offsets, &bytes, &validity) {
+        return Err(ArrayError::BadContent);
+    }
+    let children = with_validity(alloc, offsets, validity)?;
+    Ok(Array::from_parts(dtype, len, Body::VarBin(VarBinData { bytes }), children))
+}
+
+// A row of a type of texts or of bytes, if there are cells to spend for it.
+fn part_row(alloc: Global, dtype: &DType, bytes: &[u8], budget: u64) -> Result<RowValue, ArrayError>
+    requires kind { IsOfBytes (typ dtype.now) }
+    requires text { IsContent (typ dtype.now) bytes.now }
+    ensures row { IfOk result (λ row. plain_value row ≡ lone (mark_of (typ dtype.now) bytes.now)) }
+    ensures fits { OnOk result (value_cells (lone (mark_of (typ dtype.now) bytes.now)) ≤ budget) }
+    ensures err { IfErr result (λ e. IsValueRefused e (value_cells (lone (mark_of (typ dtype.now) bytes.now))) budget) }
+{
+    match dtype {
+        DType::Utf8(_) => text_row(alloc, bytes, budget),
+        DType::Binary(_) => bytes_row(alloc, bytes, budget),
+        _ => unreachable!(),
+    }
+}
+
+// Whether parts are of the shape that the encoding asks for.
+fn is_shaped(dtype: &DType, len: usize, offsets: &Array, validity: &Option<Array>) -> bool
+    requires counted { (label offsets.now).len ≡ suc len }
+    requires few { suc len < 2 ^ 64 }
+    ensures shaped { (b : Buffer) → IsTrue result ↔ IsWellShaped (varbin_head (typ dtype.now) len b) (more offsets.now (option_trees validity.now)) }
+    ensures sound { IsTrue result → EverywhereBelow IsSoundNode (more offsets.now (option_trees validity.now)) }
+{
+    if !is_of_offsets(offsets.dtype()) {
+        return false;
+    }
+    if !is_of_bytes(dtype) {
+        return false;
+    }
+    is_validity(dtype.nullability(), len, validity)
+}
+
+// Whether a type is one of texts or of bytes.
+fn is_of_bytes(dtype: &DType) -> bool
+    ensures { IsTrue result ↔ IsOfBytes (typ dtype.now) }
+{
+    match dtype {
+        DType::Utf8(_) => true,
+        DType::Binary(_) => true,
+        _ => false,
+    }
+}
+
+// Whether a type is one of offsets.
+fn is_of_offsets(dtype: &DType) -> bool
+    ensures { IsTrue result ↔ IsOfOffsets (typ dtype.now) }
+{
+    match dtype {
+        DType::Primitive(kind, Nullability::NonNullable) => kind.is_int(),
+        _ => false,
+    }
+}
+
+// The children of a node that has offsets and a validity.
+fn with_validity(
+    alloc: Global,
+    offsets: Array,
+    validity: Option<Array>,
+) -> Result<Vec<Array>, ArrayError>
+    ensures children { IfOk result (λ children. roses_of children.items ≡ more offsets (option_trees validity)) }
+    ensures err { IsOkUnless result ArrayError.OutOfMemory }
+{
+    let mut children = Vec::new(alloc);
+    children.push(offsets)?;
+    if let Some(array) = validity {
+        children.push(array)?;
+    }
+    Ok(children)
+}
+
+// Whether the content of parts of the right shape is right: the offsets are, and so are the texts.
+fn has_content(
+    dtype: &DType,
+    len: usize,
+    offsets: &Array,
+    bytes: &BufferHandle,
+    validity: &Option<Array>,
+) -> bool
+    requires { IsWellShaped (varbin_head (typ dtype.now) len bytes.now) (more offsets.now (option_trees validity.now)) }
+    ensures { IsTrue result ↔ Content (typ dtype.now) len (record { bytes = bytes.now }) (rows_of offsets.now ∷ rows_below (option_trees validity.now)) }
+{
+    let bytes = bytes.as_host().as_slice();
+    if !are_offsets(offsets, len, bytes.len()) {
+        return false;
+    }
+    match dtype {
+        DType::Utf8(_) => are_texts(bytes, offsets, validity, len),
+        DType::Binary(_) => true,
+        _ => unreachable!(),
+    }
+}
