@@ -1,5 +1,5 @@
 -- The children of a node of texts or of bytes: its offsets, and what stands behind them.
-use Rattle.std.proofs.Common.{ℕ, zero, suc, ◌≡◌, ◌≢◌, ◌<◌, ◌^◌, ltb, List, [], ◌∷◌, Option, Some, None, option_map, Result, IfOk, IfErr, Bool, true, false, refl, sym, ap, ◌∙◌, subst, length, arith}
+use Rattle.std.proofs.Common.{ℕ, zero, suc, ◌≡◌, ◌≢◌, ◌<◌, ◌≤◌, ◌+◌, ◌-◌, ◌^◌, add-zero, OnOk, ltb, List, [], ◌∷◌, Option, Some, None, option_map, Result, IfOk, IfErr, Bool, true, false, refl, sym, ap, ◌∙◌, subst, length, arith}
 use Rattle.std.proofs.lemmas.Bool.{false≢true, iff_false, lt-ltb}
 use Rattle.std.specs.Prelude.{◌↔◌, IsTrue, nat_lt}
 use Rattle.vx_buffer.specs.Buffer.{Buffer}
@@ -10,7 +10,7 @@ use Rattle.vx_types.specs.Kind as K
 use Rattle.vx_types.specs.Numbers.{is_integer}
 use Rattle.vx_types.specs.Seen.{typ}
 use Rattle.vx_types.specs.Typ.{Typ}
-use Rattle.vx_types.specs.Value.{value_cells, lone}
+use Rattle.vx_types.specs.Value.{value_cells, lone, utf8, binary}
 use Rattle.vx_types.specs.Words.{nullability}
 use Rattle.vx_types.specs.declared.dtype.DType.{DType}
 use Rattle.vx_types.specs.declared.dtype.DType.TheVariants as D
@@ -27,9 +27,11 @@ use Rattle.vx_array_tree.specs.Tree.{Head, Tree, Trees, places, rows_below, rows
 use Rattle.vx_array_tree.proofs.Built.{shaped_sound, sound_well_shaped}
 use Rattle.vx_array_tree.proofs.Options.{mapped, let_through}
 use Rattle.vx_arrays.specs.Validity.{IsValidity}
-use Rattle.vx_arrays.specs.Refused.{IsUnmade, IsOkOrMemory}
+use Rattle.vx_arrays.specs.Plain.{plain_value}
+use Rattle.vx_arrays.specs.Refused.{IsUnmade, IsValueRefused, IsOkOrMemory}
 use Rattle.vx_arrays.specs.VarBins.{varbin_head, varbin_node, varbin_tree, IsOfBytes, IsOfOffsets, IsParted}
 use Rattle.vx_arrays.specs.declared.error.ArrayError.{ArrayError}
+use Rattle.vx_arrays.specs.declared.row.RowValue.{RowValue}
 
 -- ---- what a plan says
 
@@ -147,6 +149,52 @@ module _ (d : Typ) (n : ℕ) (x : Data) where
     pub sound_text : (bs part : List ℕ) (i : ℕ) → bs ≡ x.bytes.bytes → i < n → validity (rows_below vs) i ≡ Some true → part ≡ bytes_at bs (rows_of o) i → IsContent d part
     sound_text bs part i q h there p =
         subst (λ (y : List ℕ). IsContent d y) (sym p) (subst (λ (y : List ℕ). IsContent d (bytes_at y (rows_of o) i)) (sym q) (content.texts i h there))
+
+-- ---- the value of a row
+
+-- A type of texts or of bytes is one of the two.
+pub of_bytes : (z : DType) → IsOfBytes (typ z) → ((m : Nullability) → z ≡ D.Utf8 m → ⊥) → ((m : Nullability) → z ≡ D.Binary m → ⊥) → ⊥
+of_bytes (D.Utf8 m) h p q = p m refl
+of_bytes (D.Binary m) h p q = q m refl
+of_bytes _ h p q = absurd h
+
+module _ (z : DType) (m : Nullability) (bs : List ℕ) where
+  -- Under a type of texts, content is a text.
+  pub text_of_type : z ≡ D.Utf8 m → IsContent (typ z) bs → IsText bs
+  text_of_type e h = subst (λ (y : DType). IsContent (typ y) bs) e h
+
+  module _ (r : Result RowValue ArrayError) where
+    as_text : (P : Typ → Type 0) → z ≡ D.Utf8 m → P (node (K.utf8 m) end) → P (typ z)
+    as_text P e h = subst (λ (y : DType). P (typ y)) (sym e) h
+
+    as_bytes : (P : Typ → Type 0) → z ≡ D.Binary m → P (node (K.binary m) end) → P (typ z)
+    as_bytes P e h = subst (λ (y : DType). P (typ y)) (sym e) h
+
+    -- Its row is its text, and takes a cell for each byte and one more.
+    pub text_row_is : z ≡ D.Utf8 m → IfOk r (λ row. plain_value row ≡ lone (utf8 bs)) → IfOk r (λ row. plain_value row ≡ lone (mark_of (typ z) bs))
+    text_row_is e h = as_text (λ d. IfOk r (λ row. plain_value row ≡ lone (mark_of d bs))) e h
+
+    pub bytes_row_is : z ≡ D.Binary m → IfOk r (λ row. plain_value row ≡ lone (binary bs)) → IfOk r (λ row. plain_value row ≡ lone (mark_of (typ z) bs))
+    bytes_row_is e h = as_bytes (λ d. IfOk r (λ row. plain_value row ≡ lone (mark_of d bs))) e h
+
+    module _ (budget : ℕ) where
+      fits_at : OnOk r (suc (length bs) ≤ budget) → OnOk r (suc (length bs + 0) ≤ budget)
+      fits_at h = subst (λ (k : ℕ). OnOk r (suc k ≤ budget)) (sym (add-zero (length bs))) h
+
+      refused_at : IfErr r (λ e. IsValueRefused e (suc (length bs)) budget) → IfErr r (λ e. IsValueRefused e (suc (length bs + 0)) budget)
+      refused_at h = subst (λ (k : ℕ). IfErr r (λ e. IsValueRefused e (suc k) budget)) (sym (add-zero (length bs))) h
+
+      pub text_row_fits : z ≡ D.Utf8 m → OnOk r (suc (length bs) ≤ budget) → OnOk r (value_cells (lone (mark_of (typ z) bs)) ≤ budget)
+      text_row_fits e h = as_text (λ d. OnOk r (value_cells (lone (mark_of d bs)) ≤ budget)) e (fits_at h)
+
+      pub bytes_row_fits : z ≡ D.Binary m → OnOk r (suc (length bs) ≤ budget) → OnOk r (value_cells (lone (mark_of (typ z) bs)) ≤ budget)
+      bytes_row_fits e h = as_bytes (λ d. OnOk r (value_cells (lone (mark_of d bs)) ≤ budget)) e (fits_at h)
+
+      pub text_row_refused : z ≡ D.Utf8 m → IfErr r (λ e. IsValueRefused e (suc (length bs)) budget) → IfErr r (λ e. IsValueRefused e (value_cells (lone (mark_of (typ z) bs))) budget)
+      text_row_refused e h = as_text (λ d. IfErr r (λ x. IsValueRefused x (value_cells (lone (mark_of d bs))) budget)) e (refused_at h)
+
+      pub bytes_row_refused : z ≡ D.Binary m → IfErr r (λ e. IsValueRefused e (suc (length bs)) budget) → IfErr r (λ e. IsValueRefused e (value_cells (lone (mark_of (typ z) bs))) budget)
+      bytes_row_refused e h = as_bytes (λ d. IfErr r (λ x. IsValueRefused x (value_cells (lone (mark_of d bs))) budget)) e (refused_at h)
 
 -- ---- what tests say of parts
 

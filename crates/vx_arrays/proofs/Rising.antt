@@ -63,7 +63,7 @@ none_falls r n total (suc k) last offset a e h lt o = omega (arith, a.last_is k 
 
 -- Nor are rows of which one is there and no natural number.
 pub none_unnatural : (r : Rows) (n total i : ℕ) → ((IsThere r.valid i → IsIndex r i) → ⊥) → i < suc n → AreOffsets r n total → ⊥
-none_unnatural r n total i no h o = no (o.naturals i (omega (arith, h)))
+none_unnatural r n total i never h o = never (o.naturals i (omega (arith, h)))
 
 pub ruleset rising = (risen_none, risen_more, risen_all, last_within, none_falls, none_unnatural)
 
@@ -82,7 +82,7 @@ offset_within r n total i a h =
 
 -- Of a row that is one of the offsets it is not said that it is none.
 pub is_natural : (r : Rows) (n total i : ℕ) → AreOffsets r n total → i ≤ n → ((IsThere r.valid i → IsIndex r i) → ⊥) → ⊥
-is_natural r n total i a h no = no (a.naturals i h)
+is_natural r n total i a h never = never (a.naturals i h)
 
 -- A part begins where it ends, or before.
 pub part_in_order : (r : Rows) (n total i start end : ℕ) → AreOffsets r n total → i < n → start ≡ index_at r i → end ≡ index_at r (i + 1) → start ≤ end

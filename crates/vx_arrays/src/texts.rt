@@ -5,7 +5,7 @@ ghost use Rattle.vx_trees.specs.Rose.{count, label};
 ghost use Rattle.vx_types.specs.Content.{IsText};
 ghost use Rattle.vx_array_tree.specs.Encodings.VarBins.{AreOffsets, bytes_at};
 ghost use Rattle.vx_array_tree.specs.Place.{before_validity};
-ghost use Rattle.vx_array_tree.specs.Rows.{IsThere, validity};
+ghost use Rattle.vx_array_tree.specs.Rows.{IsThere, validity as valid_by};
 ghost use Rattle.vx_array_tree.specs.Tree.{option_trees, places, rows_below, rows_of};
 ghost use Rattle.std.specs.Str.{is_utf8};
 
@@ -40,7 +40,7 @@ pub(crate) fn are_texts(
     requires counted { (label offsets.now).len ≡ suc rows }
     requires offsets { AreOffsets (rows_of offsets.now) rows (length bytes.now) }
     requires planned { before_validity [] rows (count (option_trees validity.now)) ≡ Some (places (option_trees validity.now)) }
-    ensures { IsTrue result ↔ ((i : ℕ) → i < rows → IsThere (validity (rows_below (option_trees validity.now))) i → IsText (bytes_at bytes.now (rows_of offsets.now) i)) }
+    ensures { IsTrue result ↔ ((i : ℕ) → i < rows → IsThere (valid_by (rows_below (option_trees validity.now))) i → IsText (bytes_at bytes.now (rows_of offsets.now) i)) }
 {
     for i in 0..rows {
         if !is_text_at(bytes, offsets, validity, rows, i) {
@@ -62,7 +62,7 @@ fn is_text_at(
     requires offsets { AreOffsets (rows_of offsets.now) rows (length bytes.now) }
     requires planned { before_validity [] rows (count (option_trees validity.now)) ≡ Some (places (option_trees validity.now)) }
     requires inside { index < rows }
-    ensures { IsTrue result ↔ (IsThere (validity (rows_below (option_trees validity.now))) index → IsText (bytes_at bytes.now (rows_of offsets.now) index)) }
+    ensures { IsTrue result ↔ (IsThere (valid_by (rows_below (option_trees validity.now))) index → IsText (bytes_at bytes.now (rows_of offsets.now) index)) }
 {
     match option_validity_at(validity, rows, index) {
         Some(true) => is_text(part_at(bytes, offsets, rows, index)),

@@ -4,7 +4,7 @@ ghost use Rattle.std.specs.Prelude.{◌≡◌, ◌<◌, ◌↔◌, ℕ, [], Some
 ghost use Rattle.vx_trees.specs.Everywhere.{EverywhereBelow};
 ghost use Rattle.vx_trees.specs.Rose.{count, roses_of};
 ghost use Rattle.vx_array_tree.specs.Place.{before_validity};
-ghost use Rattle.vx_array_tree.specs.Rows.{flag_in, validity};
+ghost use Rattle.vx_array_tree.specs.Rows.{flag_in, validity as valid_by};
 ghost use Rattle.vx_array_tree.specs.Sound.{IsSound, IsSoundNode};
 ghost use Rattle.vx_array_tree.specs.Tree.{option_trees, places, row_at, rows_below};
 ghost use Rattle.vx_arrays.specs.Validity.{IsValidity, all_invalid};
@@ -21,7 +21,7 @@ use vx_types::{DType, Nullability};
 pub(crate) fn validity_at(children: &[Array], len: usize, index: usize) -> Option<bool>
     requires planned { before_validity [] len (count (roses_of children.now)) ≡ Some (places (roses_of children.now)) }
     requires inside { index < len }
-    ensures { result ≡ validity (rows_below (roses_of children.now)) index }
+    ensures { result ≡ valid_by (rows_below (roses_of children.now)) index }
 {
     match children {
         [] => Some(true),
@@ -33,7 +33,7 @@ pub(crate) fn validity_at(children: &[Array], len: usize, index: usize) -> Optio
 pub(crate) fn option_validity_at(validity: &Option<Array>, len: usize, index: usize) -> Option<bool>
     requires planned { before_validity [] len (count (option_trees validity.now)) ≡ Some (places (option_trees validity.now)) }
     requires inside { index < len }
-    ensures { result ≡ validity (rows_below (option_trees validity.now)) index }
+    ensures { result ≡ valid_by (rows_below (option_trees validity.now)) index }
 {
     match validity {
         None => Some(true),
