@@ -19,7 +19,7 @@ use Rattle.vx_array_tree.proofs.Options.{mapped, let_through}
 use Rattle.vx_wire_tree.specs.Codec.{IsLawfulAt}
 use Rattle.vx_wire_tree.specs.Fields.{Fields, FitsMessage, meant, told}
 use Rattle.vx_wire_tree.specs.Reads.{IsMetadata}
-use Rattle.vx_encodings.proofs.Kinds.{one_kind, kind_again}
+use Rattle.vx_encodings.proofs.OffsetKinds.{one_kind, kind_again}
 use Rattle.vx_encodings.proofs.Offsets.{one_offset, offset_again}
 use Rattle.vx_encodings.proofs.Widths.{one_width, width_again}
 use Rattle.vx_encodings.specs.Messages.{Shows, ShowsNothing, message_bytes, codec}

@@ -5,7 +5,7 @@ mod Unread
 mod Numbers
 mod Offsets
 mod Widths
-mod Kinds
+mod OffsetKinds
 mod Validities
 mod Fitting
 mod Singles

@@ -24,7 +24,7 @@ use Rattle.vx_arrays.specs.Refused.{IsUnmade}
 use Rattle.vx_arrays.specs.VarBins.{IsOfBytes, varbin_tree}
 use Rattle.vx_arrays.specs.declared.error.ArrayError.{ArrayError}
 use Rattle.vx_encodings.proofs.Fitting.{constructor_refused}
-use Rattle.vx_encodings.proofs.Kinds.{varbin_metadata, varbin_kind, kind_is_integer, ReadsKind}
+use Rattle.vx_encodings.proofs.OffsetKinds.{varbin_metadata, varbin_kind, kind_is_integer, ReadsKind}
 use Rattle.vx_encodings.proofs.Singles.{single_unplanned, single_built, single_buffers}
 use Rattle.vx_encodings.proofs.Validities.{validity_few}
 use Rattle.vx_encodings.specs.Steps.{IsPlanned, IsUnplanned, IsWithoutPlan, IsBuilt, IsUnbuilt, IsUnread, constructor_error}

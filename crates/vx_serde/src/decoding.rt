@@ -183,9 +183,9 @@ impl<'a> SerializedNode<'a> {
     /// The array of this type and length that the node tells, with those below it.
     ///
     /// # Errors
-    /// `UnknownIndex`, `UnknownEncoding`, `BadMetadata` and `BadShape` where a node has that fault at the type and length
-    /// that follow for it, `OutOfBounds` where one names a buffer that is not there. Where several have a cause, any of
-    /// them may be answered.
+    /// `UnknownIndex`, `UnknownEncoding`, `BadMetadata`, `BadShape` and `BadContent` where a node has that fault at the
+    /// type and length that follow for it, `OutOfBounds` where one names a buffer that is not there. Where several have a
+    /// cause, any of them may be answered.
     pub fn decode(
         &self,
         alloc: Global,

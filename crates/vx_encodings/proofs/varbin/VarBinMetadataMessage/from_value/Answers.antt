@@ -4,7 +4,7 @@ use Rattle.vx_proto.specs.Parts.{number_in, entries_in}
 use Rattle.vx_proto.specs.Value.{value_view}
 use Rattle.vx_proto.specs.declared.schema.ScalarKind.TheVariants.{Enum}
 use Rattle.vx_proto.proofs.LawsOfParts.{whole_read, enum_range}
-use Rattle.vx_encodings.proofs.Kinds.{kind_coded}
+use Rattle.vx_encodings.proofs.OffsetKinds.{kind_coded}
 use Rattle.vx_encodings.specs.NumberMessage.{number_parts, number_value}
 use Rattle.vx_encodings.specs.VarBinMessage.{varbin_schema}
 use Rattle.vx_encodings.proofs.varbin.VarBinMetadataMessage.from_value.Goals as goal

@@ -1,7 +1,7 @@
 use Rattle.std.proofs.Common.{refl}
 use Rattle.vx_types.specs.Numbers.{code_of}
 use Rattle.vx_proto.specs.declared.schema.ScalarKind.TheVariants.{Enum}
-use Rattle.vx_encodings.proofs.Kinds.{few_kinds}
+use Rattle.vx_encodings.proofs.OffsetKinds.{few_kinds}
 use Rattle.vx_encodings.proofs.Numbers.{number_formed}
 use Rattle.vx_encodings.proofs.varbin.VarBinMetadataMessage.to_value.Goals as goal
 
