@@ -3,6 +3,8 @@
 #![tactic(auto)]
 
 #[cfg(test)]
+mod array_nodes;
+#[cfg(test)]
 mod blobs;
 pub mod files;
 pub mod laws;
