@@ -1,5 +1,5 @@
 -- The steps of nodes of texts and of bytes by offsets.
-use Rattle.std.proofs.Common.{ℕ, zero, suc, ◌≡◌, ◌≢◌, ◌≤◌, ◌<◌, ◌+◌, ◌-◌, ◌^◌, ◌↔◌, List, [], ◌∷◌, Option, Some, None, Bool, true, false, IsTrue, Result, Ok, Err, IfOk, IfErr, refl, sym, ap, ◌∙◌, subst, length, arith, add-one}
+use Rattle.std.proofs.Common.{ℕ, zero, suc, ◌≡◌, ◌≤◌, ◌<◌, ◌+◌, ◌-◌, ◌^◌, ◌↔◌, List, [], ◌∷◌, Option, Some, None, Bool, true, false, IsTrue, Result, Ok, Err, IfOk, refl, sym, ap, ◌∙◌, subst, length, arith, add-one}
 use Rattle.std.proofs.lemmas.Bool.{iff_false, lt-ltb, le-ltb}
 use Rattle.vx_buffer.specs.Buffer.{Buffer}
 use Rattle.vx_trees.specs.Rose.{node, end, more, roses_of, count, label}
@@ -16,7 +16,7 @@ use Rattle.vx_array_tree.specs.Encoding as E
 use Rattle.vx_array_tree.specs.Encodings.VarBins.{plan, planned}
 use Rattle.vx_array_tree.specs.Metadata.{Metadata}
 use Rattle.vx_array_tree.specs.Metadata as M
-use Rattle.vx_array_tree.specs.Place.{Place, place, numbers, is_len, when, before_validity, validity_place}
+use Rattle.vx_array_tree.specs.Place.{Place, place, numbers, is_len, before_validity}
 use Rattle.vx_array_tree.specs.Table.{plan_of}
 use Rattle.vx_array_tree.specs.Tree.{Tree, Trees, places, option_trees}
 use Rattle.vx_array_tree.proofs.Options.{mapped, let_through}
@@ -24,7 +24,7 @@ use Rattle.vx_arrays.specs.Refused.{IsUnmade}
 use Rattle.vx_arrays.specs.VarBins.{IsOfBytes, varbin_tree}
 use Rattle.vx_arrays.specs.declared.error.ArrayError.{ArrayError}
 use Rattle.vx_encodings.proofs.Fitting.{constructor_refused}
-use Rattle.vx_encodings.proofs.OffsetKinds.{varbin_metadata, varbin_kind, kind_is_integer, ReadsKind}
+use Rattle.vx_encodings.proofs.OffsetKinds.{varbin_metadata, varbin_kind, kind_is_integer}
 use Rattle.vx_encodings.proofs.Singles.{single_unplanned, single_built, single_buffers}
 use Rattle.vx_encodings.proofs.Validities.{validity_few}
 use Rattle.vx_encodings.specs.Steps.{IsPlanned, IsUnplanned, IsWithoutPlan, IsBuilt, IsUnbuilt, IsUnread, constructor_error}
@@ -101,11 +101,6 @@ varbins_without BadShape x h p t u k shown i f g b e lt w =
     single_unplanned x VarBin h (M.varbin p) (varbin_metadata x (typ h.dtype) h.metadata p shown (sym i ∙ f))
     (plan_is (typ h.dtype) h.len p h.nchildren (g.0 b) (omega (arith, e, lt)) ∙ ap (λ j. before_validity (place (numbers p) j ∷ []) h.len h.nchildren) (sym (e ∙ add-one h.len)) ∙ w)
 varbins_without BadContent x h p t u k shown i f g b e lt w = absurd w
-
-pub varbins_refused_plan : (x : ExtMeaning) (h : ArrayHead) (r : Result (List Place) EncodingError) (p : PType) (t u : Bool) (k : ℕ) → Reads varbin_schema 0 h.metadata (varbin_value p) → t ≡ is_integer p → t ≡ true → (IsTrue u ↔ IsOfBytes (typ h.dtype)) → u ≡ true → k ≡ h.len + 1 → k < 2 ^ 64
-    → IfErr r (λ error. IsWithoutPlan error (before_validity (place (numbers p) k ∷ []) h.len h.nchildren)) → IfErr r (λ error. IsUnplanned error x VarBin h)
-varbins_refused_plan x h (Ok ps) p t u k shown i f g b e lt w = tt
-varbins_refused_plan x h (Err error) p t u k shown i f g b e lt w = varbins_without error x h p t u k shown i f g b e lt w
 
 -- ---- building
 
