@@ -13,7 +13,7 @@ use Rattle.vx_array_tree.specs.Encodings.Decimals as Decimals
 use Rattle.vx_array_tree.specs.Encodings.VarBins as VarBins
 use Rattle.vx_array_tree.specs.Metadata.{Metadata}
 use Rattle.vx_array_tree.specs.Metadata as M
-use Rattle.vx_array_tree.specs.Place.{Place, exactly, before_validity, validity_place, is_len}
+use Rattle.vx_array_tree.specs.Place.{Place, place, numbers, exactly, before_validity, validity_place, is_len}
 use Rattle.vx_array_tree.specs.Table.{IsFair, plan_of}
 use Rattle.vx_array_tree.proofs.Options.{mapped, let_through}
 use Rattle.vx_wire_tree.specs.Codec.{IsLawfulAt}
@@ -149,8 +149,8 @@ behind_count (p ∷ ps) n (suc k) qs e =
     ap (λ (rs : List Place). length rs) m.1 ∙ ap (λ n. suc n) (behind_count ps n k m.0 m.2)
 
 varbin_count : (d : Typ) (n : ℕ) (p : PType) (k : ℕ) (qs : List Place) → VarBins.plan d n p k ≡ Some qs → length qs ≡ k
-varbin_count (node (utf8 m) end) n p k qs e = behind_count _ n k qs (let_through (is_len (suc n)) _ _ e)
-varbin_count (node (binary m) end) n p k qs e = behind_count _ n k qs (let_through (is_len (suc n)) _ _ e)
+varbin_count (node (utf8 m) end) n p k qs e = behind_count (place (numbers p) (suc n) ∷ []) n k qs (let_through (is_len (suc n)) _ _ e)
+varbin_count (node (binary m) end) n p k qs e = behind_count (place (numbers p) (suc n) ∷ []) n k qs (let_through (is_len (suc n)) _ _ e)
 varbin_count _ n p k qs e = absurd (cc)
 
 -- An encoding that has code plans a place for each child.
