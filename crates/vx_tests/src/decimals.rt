@@ -1,8 +1,7 @@
 //! The program, run on decimals.
 
-use crate::flags::is_listed;
-use crate::program::refused;
-use std::test::Fail;
+use crate::program::{Files, WORDS, refuses, saves_the_same};
+use std::alloc::Global;
 
 /// The type of decimals of ten digits, two of them after the point, not nullable.
 const TYPE: [u8; 54] = [
@@ -35,33 +34,36 @@ const WIDE_BLOB: [u8; 184] = [
 
 const IDS: &str = "vortex.decimal\n";
 
-#[test]
-fn decimals_are_listed_by_their_integers(rt: HostRuntime) -> Result<(), Fail> {
-    let alloc = rt.alloc();
-    is_listed(
-        alloc,
-        &rt,
-        &TYPE,
-        &BLOB,
-        "5",
-        IDS,
-        "vortex.decimal len=5 buffers=[80]\n0: 100\n1: 200\n2: 300\n3: 400\n4: 500\n",
-    )?;
-    is_listed(
-        alloc,
-        &rt,
-        &TYPE,
-        &WIDE_BLOB,
-        "1",
-        IDS,
-        "vortex.decimal len=1 buffers=[32]\n0: 0xffffffffffffffffffffffffffffffffffffffffffffffffffffffffffffffff\n",
-    )
+const FIVE_ROWS: [&str; 7] = ["recode", "t", "b", "5", "i", "o", "j"];
+
+const ONE_ROW: [&str; 7] = ["recode", "t", "b", "1", "i", "o", "j"];
+
+const LISTING: &str = "vortex.decimal len=5 buffers=[80]\n0: 100\n1: 200\n2: 300\n3: 400\n4: 500\n";
+
+const WIDE_LISTING: &str =
+    "vortex.decimal len=1 buffers=[32]\n0: 0xffffffffffffffffffffffffffffffffffffffffffffffffffffffffffffffff\n";
+
+// A blob of decimals.
+fn files(blob: &[u8]) -> Files<'_> {
+    Files {
+        dtype: &TYPE,
+        blob,
+        ids: IDS,
+    }
+}
+
+// Whether the blob is written again by these words, and listed so.
+fn is_listed(alloc: Global, blob: &[u8], words: &[&str], text: &str) -> bool {
+    saves_the_same(alloc, words, &files(blob), text)
 }
 
 #[test]
-fn decimals_are_as_many_as_rows(rt: HostRuntime) -> Result<(), Fail> {
-    let words = ["recode", "t", "b", "4", "i", "o", "j"];
-    let status = refused(rt.alloc(), &rt, &words, &TYPE, &BLOB, IDS)?;
-    assert_eq!(rt; status, 19);
-    Ok(())
+fn decimals_are_listed_by_their_integers(rt: HostRuntime) {
+    assert!(rt; is_listed(rt.alloc(), &BLOB, &FIVE_ROWS, LISTING));
+    assert!(rt; is_listed(rt.alloc(), &WIDE_BLOB, &ONE_ROW, WIDE_LISTING));
+}
+
+#[test]
+fn decimals_are_as_many_as_rows(rt: HostRuntime) {
+    assert!(rt; refuses(rt.alloc(), &WORDS, &files(&BLOB), 19));
 }

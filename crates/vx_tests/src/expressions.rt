@@ -1,9 +1,8 @@
 //! The program, run on files of expressions.
 
-use crate::program::{holds, names};
-use std::alloc::Global;
-use std::test::Fail;
-use vxcat_core::{MemSink, MemStore, StoreError, run};
+use crate::program::{ends, holds, prints, store_of_one};
+use std::alloc::{AllocError, Global};
+use vxcat_core::{MemSink, MemStore, StoreError};
 
 // A call of a foreign function on the root, with the metadata 1, 2, 3, 4.
 const FOREIGN: &[u8] =
@@ -23,28 +22,17 @@ const LINES: &str = "vortex.test.foreign_scalar_fn(root)
 
 const WORDS: [&str; 2] = ["expr", "f"];
 
-// A store of one file.
-fn store_of(alloc: Global, bytes: &[u8]) -> Result<MemStore, StoreError> {
-    let mut store = MemStore::new(alloc);
-    store.insert(alloc, "f", bytes)?;
-    Ok(store)
-}
-
-// The call of `x` on the expression whose bytes these are.
-fn called(alloc: Global, bytes: &[u8]) -> Result<Vec<u8>, StoreError> {
-    let len = bytes.len();
-    if len >= 1 << 14 {
-        return Err(StoreError::Failed);
-    }
+// The call of `x` on the expression whose bytes these are, fewer than 16,384.
+fn called(alloc: Global, bytes: &[u8]) -> Result<Vec<u8>, AllocError> {
     let mut call = Vec::from_slice(alloc, b"\x0a\x01x\x12")?;
-    call.push((len % 128) as u8 + 128)?;
-    call.push((len / 128) as u8)?;
+    call.push((bytes.len() % 128) as u8 + 128)?;
+    call.push((bytes.len() / 128 % 128) as u8)?;
     call.extend_from_slice(bytes)?;
     Ok(call)
 }
 
 // So many calls, one in the other, the innermost without children.
-fn nested(alloc: Global, calls: u32) -> Result<Vec<u8>, StoreError> {
+fn nested(alloc: Global, calls: u32) -> Result<Vec<u8>, AllocError> {
     let mut bytes = Vec::from_slice(alloc, b"\x0a\x01x")?;
     for _ in 1..calls {
         bytes = called(alloc, bytes.as_slice())?;
@@ -52,70 +40,100 @@ fn nested(alloc: Global, calls: u32) -> Result<Vec<u8>, StoreError> {
     Ok(bytes)
 }
 
-#[test]
-fn a_hundred_calls_are_read(rt: HostRuntime) -> Result<(), Fail> {
-    let alloc = rt.alloc();
-    let words = names(alloc, &WORDS)?;
-    for (calls, status) in [(100, 0), (101, 8)] {
-        let bytes = nested(alloc, calls)?;
-        let mut store = store_of(alloc, bytes.as_slice())?;
-        let mut out = MemSink::new(alloc);
-        let got = run(alloc, &words, &mut store, &mut out);
-        assert_eq!(rt; got, status, "{calls}");
-    }
-    Ok(())
+// A store of so many calls.
+fn store_of_calls(alloc: Global, calls: u32) -> Result<MemStore, StoreError> {
+    let bytes = nested(alloc, calls)?;
+    store_of_one(alloc, bytes.as_slice())
 }
 
-#[test]
-fn expressions_are_written_again(rt: HostRuntime) -> Result<(), Fail> {
-    let alloc = rt.alloc();
-    let words = names(alloc, &WORDS)?;
-    for (part, bytes, status, lines) in [
-        ("foreign", FOREIGN, 0, LINES),
-        ("another writer", FOREIGN_OF_ANOTHER, 0, LINES),
-        (
-            "root",
-            b"\x0a\x0bvortex.root\x1a\x01\x07".as_slice(),
-            0,
-            "root\n0a0b766f727465782e726f6f741a00\n",
-        ),
-        ("root with a child", ROOT_WITH_CHILD, 8, ""),
-        ("cut", &FOREIGN[..20], 8, ""),
-    ] {
-        let mut store = store_of(alloc, bytes)?;
-        let mut out = MemSink::new(alloc);
-        let got = run(alloc, &words, &mut store, &mut out);
-        assert_eq!(rt; got, status, "{part}");
-        assert_eq!(rt; out.text(), lines.as_bytes());
-        assert!(rt; holds(&store, "f", bytes));
-    }
-    Ok(())
-}
-
-#[test]
-fn words_and_faults_of_expr_are_judged(rt: HostRuntime) -> Result<(), Fail> {
-    let alloc = rt.alloc();
-    for (words, status) in [
-        (["expr"].as_slice(), 2),
-        (["expr", "f", "f"].as_slice(), 2),
-        (["expr", "g"].as_slice(), 3),
-    ] {
-        let given = names(alloc, words)?;
-        let mut store = store_of(alloc, FOREIGN)?;
-        let mut out = MemSink::new(alloc);
-        let got = run(alloc, &given, &mut store, &mut out);
-        assert_eq!(rt; got, status, "{words:?}");
-        assert!(rt; out.text().is_empty());
-    }
-    let words = names(alloc, &WORDS)?;
-    let mut store = store_of(alloc, FOREIGN)?;
-    store.fail_call(1)?;
+// Whether the program ends so on an expression.
+fn ends_so(alloc: Global, store: &mut MemStore, status: u8) -> bool {
     let mut out = MemSink::new(alloc);
-    assert_eq!(rt; run(alloc, &words, &mut store, &mut out), 3);
-    // A write that fails in mid-stream leaves a prefix.
-    let mut store = store_of(alloc, FOREIGN)?;
+    ends(alloc, &WORDS, store, &mut out, status)
+}
+
+// The same on so many calls.
+fn calls_end(alloc: Global, calls: u32, status: u8) -> bool {
+    match store_of_calls(alloc, calls) {
+        Ok(mut store) => ends_so(alloc, &mut store, status),
+        Err(_) => false,
+    }
+}
+
+#[test]
+fn a_hundred_calls_are_read(rt: HostRuntime) {
+    assert!(rt; calls_end(rt.alloc(), 100, 0));
+    assert!(rt; calls_end(rt.alloc(), 101, 8));
+}
+
+const ROOT: &[u8] = b"\x0a\x0bvortex.root\x1a\x01\x07";
+
+// Expressions, the status, and what is printed.
+const ROWS: [(&str, &[u8], u8, &str); 5] = [
+    ("foreign", FOREIGN, 0, LINES),
+    ("another writer", FOREIGN_OF_ANOTHER, 0, LINES),
+    ("root", ROOT, 0, "root\n0a0b766f727465782e726f6f741a00\n"),
+    ("root with a child", ROOT_WITH_CHILD, 8, ""),
+    ("cut", b"\x0a\x1dvortex.test.foreig", 8, ""),
+];
+
+// Whether the program prints this for an expression, and leaves its file as it was.
+fn is_printed(alloc: Global, bytes: &[u8], status: u8, text: &str) -> bool {
+    match store_of_one(alloc, bytes) {
+        Ok(mut store) => {
+            prints(alloc, &WORDS, &mut store, status, text) && holds(&store, "f", bytes)
+        }
+        Err(_) => false,
+    }
+}
+
+#[test]
+fn expressions_are_written_again(rt: HostRuntime) {
+    for (part, bytes, status, text) in &ROWS {
+        assert!(rt; is_printed(rt.alloc(), bytes, *status, text), "{part}");
+    }
+}
+
+// Words, and the status.
+const JUDGED: [(&[&str], u8); 3] = [
+    (&["expr"], 2),
+    (&["expr", "f", "f"], 2),
+    (&["expr", "g"], 3),
+];
+
+// Whether the program prints nothing on these words.
+fn prints_nothing(alloc: Global, words: &[&str], status: u8) -> bool {
+    match store_of_one(alloc, FOREIGN) {
+        Ok(mut store) => prints(alloc, words, &mut store, status, ""),
+        Err(_) => false,
+    }
+}
+
+#[test]
+fn words_of_expr_are_judged(rt: HostRuntime) {
+    for (words, status) in &JUDGED {
+        assert!(rt; prints_nothing(rt.alloc(), words, *status), "{words:?}");
+    }
+}
+
+// Whether the program ends by the store, whose first call fails.
+fn fails_to_load(alloc: Global) -> Result<bool, StoreError> {
+    let mut store = store_of_one(alloc, FOREIGN)?;
+    store.fail_call(1)?;
+    Ok(prints(alloc, &WORDS, &mut store, 3, ""))
+}
+
+// Whether a write that fails in mid-stream leaves a prefix.
+fn is_cut(alloc: Global, store: &mut MemStore) -> bool {
     let mut out = MemSink::failing(alloc, 4).taking(7);
-    assert_eq!(rt; run(alloc, &words, &mut store, &mut out), 5);
-    assert_eq!(rt; out.text(), b"vortex.test.foreign_s".as_slice());
-    Ok(())
+    ends(alloc, &WORDS, store, &mut out, 5) && out.text() == b"vortex.test.foreign_s".as_slice()
+}
+
+#[test]
+fn faults_of_expr_have_their_status(rt: HostRuntime) {
+    assert!(rt; fails_to_load(rt.alloc()) == Ok(true));
+    match store_of_one(rt.alloc(), FOREIGN) {
+        Ok(mut store) => assert!(rt; is_cut(rt.alloc(), &mut store)),
+        Err(_) => assert!(rt; false),
+    }
 }

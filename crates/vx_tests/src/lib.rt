@@ -6,9 +6,13 @@ mod decimals;
 #[cfg(test)]
 mod expressions;
 #[cfg(test)]
+mod faults;
+#[cfg(test)]
 mod flag_files;
 #[cfg(test)]
 mod flags;
+#[cfg(test)]
+mod integers;
 pub mod laws;
 #[cfg(test)]
 mod program;

@@ -1,10 +1,8 @@
 //! The program, run on texts and bytes by offsets.
 
-use crate::flags::is_listed;
-use crate::program::{names, refused, store_of, with_byte};
+use crate::program::{Files, ends, refuses_changed, saves_the_same, store_of, with_bytes};
 use std::alloc::{AllocError, Global};
-use std::test::Fail;
-use vxcat_core::{MemSink, run};
+use vxcat_core::{MemSink, MemStore, StoreError};
 
 /// The type of texts, not nullable.
 const TYPE: [u8; 44] = [
@@ -45,76 +43,102 @@ const LARGE_MESSAGE: [u8; 232] = [
 
 const IDS: &str = "vortex.varbin\nvortex.primitive\n";
 
-#[test]
-fn texts_are_listed_by_their_bytes(rt: HostRuntime) -> Result<(), Fail> {
-    is_listed(
-        rt.alloc(),
-        &rt,
-        &TYPE,
-        &BLOB,
-        "3",
-        IDS,
-        "vortex.varbin len=3 buffers=[3]\n  vortex.primitive len=4 buffers=[16]\n0: x6162\n1: x\n2: x63\n",
-    )
-}
+const LISTING: &str =
+    "vortex.varbin len=3 buffers=[3]\n  vortex.primitive len=4 buffers=[16]\n0: x6162\n1: x\n2: x63\n";
 
-// The status of the program on the blob with another byte at a place.
-fn status_with(
-    alloc: Global,
-    rt: &impl std::process::Abort,
-    dtype: &[u8],
-    place: usize,
-    byte: u8,
-) -> Result<u8, Fail> {
-    let blob = with_byte(alloc, &BLOB, place, byte)?;
-    let words = ["recode", "t", "b", "3", "i", "o", "j"];
-    refused(alloc, rt, &words, dtype, blob.as_slice(), IDS)
-}
+const THREE_ROWS: [&str; 7] = ["recode", "t", "b", "3", "i", "o", "j"];
 
-#[test]
-fn content_is_judged(rt: HostRuntime) -> Result<(), Fail> {
-    for (part, place, byte, status) in [
-        ("a text", 1, 0xff, 20),
-        ("an offset below 0", 10, 0x80, 20),
-        ("an offset that falls", 11, 1, 20),
-        ("an offset past the bytes", 15, 4, 20),
-        ("a kind of floats", 96, 9, 18),
-        ("another kind", 96, 7, 19),
-    ] {
-        let given = status_with(rt.alloc(), &rt, &TYPE, place, byte)?;
-        assert!(rt; given == status, "{part}");
+const ONE_ROW: [&str; 7] = ["recode", "t", "b", "1", "i", "o", "j"];
+
+// The blob of three texts.
+fn texts() -> Files<'static> {
+    Files {
+        dtype: &TYPE,
+        blob: &BLOB,
+        ids: IDS,
     }
-    Ok(())
-}
-
-// The blob of one row of so many bytes, of at most 16 bits.
-fn large_blob(alloc: Global, len: u16) -> Result<Vec<u8>, AllocError> {
-    let mut blob = vec![in alloc; 0xab; len as usize]?;
-    blob.extend_from_slice(&[0, 0])?;
-    blob.extend_from_slice(len.to_le_bytes().as_slice())?;
-    let message = blob.len();
-    blob.extend_from_slice(&LARGE_MESSAGE)?;
-    let at = message + 216;
-    let low = with_byte(alloc, blob.as_slice(), at, (len % 256) as u8)?;
-    with_byte(alloc, low.as_slice(), at + 1, (len / 256) as u8)
-}
-
-// How many bytes are printed for one row of so many.
-fn printed(alloc: Global, rt: &impl std::process::Abort, len: u16) -> Result<(usize, bool), Fail> {
-    let words = names(alloc, &["recode", "t", "b", "1", "i", "o", "j"])?;
-    let blob = large_blob(alloc, len)?;
-    let mut store = store_of(alloc, &BYTES_TYPE, blob.as_slice(), IDS)?;
-    let mut out = MemSink::new(alloc);
-    assert_eq!(rt; run(alloc, &words, &mut store, &mut out), 0);
-    let text = out.text();
-    Ok((text.len(), text.ends_with(b"\n0: (large)\n")))
 }
 
 #[test]
-fn a_row_of_10000_bytes_is_large(rt: HostRuntime) -> Result<(), Fail> {
-    let alloc = rt.alloc();
+fn texts_are_listed_by_their_bytes(rt: HostRuntime) {
+    assert!(rt; saves_the_same(rt.alloc(), &THREE_ROWS, &texts(), LISTING));
+}
+
+// Parts of the blob, another byte there, and the status.
+const PARTS: [(&str, (usize, u8), u8); 6] = [
+    ("a text", (1, 0xff), 20),
+    ("an offset below 0", (10, 0x80), 20),
+    ("an offset that falls", (11, 1), 20),
+    ("an offset past the bytes", (15, 4), 20),
+    ("a kind of floats", (96, 9), 18),
+    ("another kind", (96, 7), 19),
+];
+
+#[test]
+fn content_is_judged(rt: HostRuntime) {
+    for (part, change, status) in &PARTS {
+        let changes = [*change];
+        assert!(rt;
+            refuses_changed(rt.alloc(), &THREE_ROWS, &texts(), &changes, *status),
+            "{part}"
+        );
+    }
+}
+
+// The row of so many bytes, of at most 16 bits, and its two offsets.
+fn large_row(alloc: Global, len: u16) -> Result<Vec<u8>, AllocError> {
+    let mut row = vec![in alloc; 0xab; len as usize]?;
+    row.extend_from_slice(&[0, 0])?;
+    row.extend_from_slice(len.to_le_bytes().as_slice())?;
+    Ok(row)
+}
+
+// The blob of one row of so many bytes.
+fn large_blob(alloc: Global, len: u16) -> Result<Vec<u8>, AllocError> {
+    let mut blob = large_row(alloc, len)?;
+    let message = large_message(alloc, len)?;
+    blob.extend_from_slice(message.as_slice())?;
+    Ok(blob)
+}
+
+// Its message.
+fn large_message(alloc: Global, len: u16) -> Result<Vec<u8>, AllocError> {
+    let low = (len % 256) as u8;
+    let high = (len / 256) as u8;
+    with_bytes(alloc, &LARGE_MESSAGE, &[(216, low), (217, high)])
+}
+
+// A store of the blob of one row of so many bytes.
+fn store_of_large(alloc: Global, len: u16) -> Result<MemStore, StoreError> {
+    let blob = large_blob(alloc, len)?;
+    let files = Files {
+        dtype: &BYTES_TYPE,
+        blob: blob.as_slice(),
+        ids: IDS,
+    };
+    store_of(alloc, &files)
+}
+
+// Whether so many bytes are printed over a store, the last of them for a row that is large.
+fn prints_so_many(alloc: Global, store: &mut MemStore, count: usize, large: bool) -> bool {
+    let mut out = MemSink::new(alloc);
+    ends(alloc, &ONE_ROW, store, &mut out, 0)
+        && out.text().len() == count
+        && out.text().ends_with(b"\n0: (large)\n") == large
+}
+
+// The same for one row of so many bytes.
+fn prints_row(alloc: Global, len: u16, count: usize, large: bool) -> bool {
+    match store_of_large(alloc, len) {
+        Ok(mut store) => prints_so_many(alloc, &mut store, count, large),
+        Err(_) => false,
+    }
+}
+
+#[test]
+fn a_row_of_10000_bytes_is_large(rt: HostRuntime) {
     let nodes = "vortex.varbin len=1 buffers=[9999]\n  vortex.primitive len=2 buffers=[4]\n".len();
-    assert!(rt; printed(alloc, &rt, 9_999)? == (nodes + "0: x\n".len() + 2 * 9_999, false));
-    assert!(rt; printed(alloc, &rt, 10_000)? == (nodes + 1 + "0: (large)\n".len(), true));
-    Ok(())
+    let row = "0: x\n".len() + 2 * 9_999;
+    assert!(rt; prints_row(rt.alloc(), 9_999, nodes + row, false));
+    assert!(rt; prints_row(rt.alloc(), 10_000, nodes + 1 + "0: (large)\n".len(), true));
 }
