@@ -3,8 +3,9 @@
 use crate::kinds::{ArrayKind, EveryKind, PairKind, TypeKind};
 use crate::messages::{ARRAY, EVERY, TYPE};
 use std::alloc::{AllocError, Global};
-use std::test::Fail;
-use vx_flat::{FlatError, read_value, write_value, write_value_plain};
+use vx_flat::{
+    FlatBuffer, FlatError, TableKind, TableValue, read_value, write_value, write_value_plain,
+};
 
 /// A message with some of its bytes set.
 fn with_bytes(alloc: Global, message: &[u8], set: &[(usize, u8)]) -> Result<Vec<u8>, AllocError> {
@@ -17,124 +18,167 @@ fn with_bytes(alloc: Global, message: &[u8], set: &[(usize, u8)]) -> Result<Vec<
     Ok(bytes)
 }
 
-#[test]
-fn worked_messages(rt: HostRuntime) -> Result<(), Fail> {
-    let array = read_value(rt.alloc(), &ARRAY, &ArrayKind)?;
-    assert_eq!(rt;
-        format!(in rt.alloc(); "{array:?}")?.as_str(),
-        "TableValue { fields: [Table([Number(0), Elements([]), Tables([]), Elements([0, 0]), Table([Absent, Number(0), Absent, Number(0), Absent, Absent, Absent, Absent, Absent, Absent, Absent])]), Elements([0, 0, 2, 0, 16, 0, 0, 0])] }"
-    );
-    let written = write_value(rt.alloc(), &ArrayKind, &array)?;
-    assert_eq!(rt; written.as_slice(), ARRAY.as_slice());
-    assert_eq!(rt; written.len(), 148);
-    assert!(rt; !written.is_empty());
-    assert_eq!(rt; written.into_vec().as_slice(), ARRAY.as_slice());
-    let dtype = read_value(rt.alloc(), &TYPE, &TypeKind)?;
-    assert_eq!(rt;
-        format!(in rt.alloc(); "{dtype:?}")?.as_str(),
-        "TableValue { fields: [Member(3, [Number(6), Number(0)])] }"
-    );
-    let written = write_value(rt.alloc(), &TypeKind, &dtype)?;
-    assert_eq!(rt; written.as_slice(), TYPE.as_slice());
-    Ok(())
-}
-
-#[test]
-fn every_kind_of_field(rt: HostRuntime) -> Result<(), Fail> {
-    let every = read_value(rt.alloc(), &EVERY, &EveryKind)?;
-    assert_eq!(rt;
-        format!(in rt.alloc(); "{every:?}")?.as_str(),
-        "TableValue { fields: [Number(0), Number(300), Number(70000), Number(1099511627781), Number(0), Absent, Number(1), Number(0), Number(0), Absent, Elements([1, 0, 2, 0]), Elements([1, 0, 2, 3, 0, 4]), Text(\"ab\"), Texts([\"\", \"é\"]), Table([Number(7)]), Tables([[Number(0)], [Number(8)]]), Member(2, [Text(\"c\")]), Unknown(9), Absent] }"
-    );
-    let written = write_value_plain(rt.alloc(), &EveryKind, &every)?;
-    assert_eq!(rt; written.as_slice(), EVERY.as_slice());
-    Ok(())
-}
-
-#[test]
-fn breaches_of_arrays(rt: HostRuntime) -> Result<(), Fail> {
-    let breaches: [(&str, &[(usize, u8)]); 16] = [
-        ("the root past the end", &[(0, 148)]),
-        ("a root of three bytes", &[(0, 145)]),
-        ("a field table before the message", &[(16, 17)]),
-        ("a field table past the end", &[(19, 0x80)]),
-        ("a field table of odd length", &[(8, 9)]),
-        ("a field table of length 0", &[(8, 0)]),
-        ("a field table of length 2", &[(8, 2)]),
-        ("a field table that ends past the end", &[(8, 254)]),
-        ("a field past the end", &[(12, 144)]),
-        ("an offset past the end", &[(20, 255)]),
-        (
-            "a largest offset",
-            &[(20, 255), (21, 255), (22, 255), (23, 255)],
-        ),
-        ("a table offset of 0, where no table is", &[(20, 0)]),
-        ("a vector that ends past the end", &[(136, 2)]),
-        (
-            "a largest count",
-            &[(136, 255), (137, 255), (138, 255), (139, 255)],
-        ),
-        ("a vector of offsets that ends past the end", &[(80, 17)]),
-        ("a vector's offset to no table", &[(80, 1)]),
-    ];
-    for (name, set) in breaches {
-        let message = with_bytes(rt.alloc(), &ARRAY, set)?;
-        let read = read_value(rt.alloc(), &message, &ArrayKind);
-        assert_eq!(rt; read.err(), Some(FlatError::BadTable), "{name}");
+/// What a value is printed as.
+fn is_printed_as(alloc: Global, value: &TableValue, text: &str) -> bool {
+    match format!(in alloc; "{value:?}") {
+        Ok(printed) => printed.as_str() == text,
+        Err(_) => false,
     }
-    Ok(())
+}
+
+/// Whether a message shows a value that is printed so, and is written as the message, with field tables
+/// shared or each written.
+fn is_worked<K: TableKind>(
+    alloc: Global,
+    kind: &K,
+    shared: bool,
+    message: &[u8],
+    text: &str,
+) -> Result<bool, FlatError> {
+    let value = read_value(alloc, message, kind)?;
+    let written = if shared {
+        write_value(alloc, kind, &value)?
+    } else {
+        write_value_plain(alloc, kind, &value)?
+    };
+    Ok(is_printed_as(alloc, &value, text) && is_message(&written, message))
+}
+
+/// Whether these are the bytes of a message.
+fn is_message(written: &FlatBuffer, message: &[u8]) -> bool {
+    written.as_slice() == message && written.len() == message.len() && !written.is_empty()
+}
+
+const ARRAY_TEXT: &str =
+    "TableValue { fields: [Table([Number(0), Elements([]), Tables([]), Elements([0, 0]), Table([Absent, Number(0), Absent, Number(0), Absent, Absent, Absent, Absent, Absent, Absent, Absent])]), Elements([0, 0, 2, 0, 16, 0, 0, 0])] }";
+
+const TYPE_TEXT: &str = "TableValue { fields: [Member(3, [Number(6), Number(0)])] }";
+
+const EVERY_TEXT: &str =
+    "TableValue { fields: [Number(0), Number(300), Number(70000), Number(1099511627781), Number(0), Absent, Number(1), Number(0), Number(0), Absent, Elements([1, 0, 2, 0]), Elements([1, 0, 2, 3, 0, 4]), Text(\"ab\"), Texts([\"\", \"é\"]), Table([Number(7)]), Tables([[Number(0)], [Number(8)]]), Member(2, [Text(\"c\")]), Unknown(9), Absent] }";
+
+#[test]
+fn worked_messages(rt: HostRuntime) {
+    assert!(rt; is_worked(rt.alloc(), &ArrayKind, true, &ARRAY, ARRAY_TEXT) == Ok(true));
+    assert!(rt; is_worked(rt.alloc(), &TypeKind, true, &TYPE, TYPE_TEXT) == Ok(true));
+    assert!(rt; is_worked(rt.alloc(), &EveryKind, false, &EVERY, EVERY_TEXT) == Ok(true));
+}
+
+/// Whether the vector of a message that is written is that message.
+fn is_a_vector(alloc: Global) -> Result<bool, FlatError> {
+    let value = read_value(alloc, &TYPE, &TypeKind)?;
+    let written = write_value(alloc, &TypeKind, &value)?;
+    Ok(written.into_vec().as_slice() == TYPE.as_slice())
 }
 
 #[test]
-fn breaches_of_texts_and_unions(rt: HostRuntime) -> Result<(), Fail> {
-    let breaches: [(&str, &[(usize, u8)]); 7] = [
-        ("a text that is no UTF-8", &[(156, 0xff)]),
-        ("a text without its zero byte", &[(158, 1)]),
-        ("a text that ends past the end", &[(152, 255)]),
-        ("a tag alone", &[(46, 0)]),
-        ("an offset alone", &[(44, 0)]),
-        ("a tag of 0 with an offset", &[(108, 0)]),
-        ("a tag that stands where there is no member", &[(52, 4)]),
-    ];
-    for (name, set) in breaches {
-        let message = with_bytes(rt.alloc(), &EVERY, set)?;
-        let read = read_value(rt.alloc(), &message, &EveryKind);
-        assert_eq!(rt; read.err(), Some(FlatError::BadTable), "{name}");
+fn a_message_is_a_vector(rt: HostRuntime) {
+    assert!(rt; is_a_vector(rt.alloc()) == Ok(true));
+}
+
+/// Why a message with some of its bytes set is refused, or nothing.
+fn refusal_with<K: TableKind>(
+    alloc: Global,
+    kind: &K,
+    message: &[u8],
+    set: &[(usize, u8)],
+) -> Option<FlatError> {
+    match with_bytes(alloc, message, set) {
+        Ok(bytes) => read_value(alloc, &bytes, kind).err(),
+        Err(_) => Some(FlatError::OutOfMemory),
     }
-    Ok(())
 }
 
+/// Breaches of the form in the worked array.
+const BREACHES: [(&str, &[(usize, u8)]); 16] = [
+    ("the root past the end", &[(0, 148)]),
+    ("a root of three bytes", &[(0, 145)]),
+    ("a field table before the message", &[(16, 17)]),
+    ("a field table past the end", &[(19, 0x80)]),
+    ("a field table of odd length", &[(8, 9)]),
+    ("a field table of length 0", &[(8, 0)]),
+    ("a field table of length 2", &[(8, 2)]),
+    ("a field table that ends past the end", &[(8, 254)]),
+    ("a field past the end", &[(12, 144)]),
+    ("an offset past the end", &[(20, 255)]),
+    (
+        "a largest offset",
+        &[(20, 255), (21, 255), (22, 255), (23, 255)],
+    ),
+    ("a table offset of 0, where no table is", &[(20, 0)]),
+    ("a vector that ends past the end", &[(136, 2)]),
+    (
+        "a largest count",
+        &[(136, 255), (137, 255), (138, 255), (139, 255)],
+    ),
+    ("a vector of offsets that ends past the end", &[(80, 17)]),
+    ("a vector's offset to no table", &[(80, 1)]),
+];
+
+/// Breaches in the message with a field of every kind.
+const OTHER_BREACHES: [(&str, &[(usize, u8)]); 7] = [
+    ("a text that is no UTF-8", &[(156, 0xff)]),
+    ("a text without its zero byte", &[(158, 1)]),
+    ("a text that ends past the end", &[(152, 255)]),
+    ("a tag alone", &[(46, 0)]),
+    ("an offset alone", &[(44, 0)]),
+    ("a tag of 0 with an offset", &[(108, 0)]),
+    ("a tag that stands where there is no member", &[(52, 4)]),
+];
+
 #[test]
-fn accepted_oddities(rt: HostRuntime) -> Result<(), Fail> {
-    let arrays: [(&str, &[(usize, u8)]); 4] = [
-        ("two vectors in one place", &[(52, 36)]),
-        ("a vector that lies across others", &[(52, 37)]),
-        ("a field table that reaches into its table", &[(8, 10)]),
-        ("a field past its field table", &[(32, 12)]),
-    ];
-    for (name, set) in arrays {
-        let message = with_bytes(rt.alloc(), &ARRAY, set)?;
-        assert!(rt;
-            read_value(rt.alloc(), &message, &ArrayKind).is_ok(),
+fn breaches_are_refused(rt: HostRuntime) {
+    let bad = Some(FlatError::BadTable);
+    for (name, set) in &BREACHES {
+        assert_eq!(rt;
+            refusal_with(rt.alloc(), &ArrayKind, &ARRAY, set),
+            bad,
             "{name}"
         );
     }
-    let others: [(&str, &[(usize, u8)]); 3] = [
-        ("a flag of 7", &[(82, 7)]),
-        (
-            "an unknown member whose offset leads nowhere",
-            &[(123, 255)],
-        ),
-        ("a text and texts by offsets of 0", &[(92, 0), (96, 0)]),
-    ];
-    for (name, set) in others {
-        let message = with_bytes(rt.alloc(), &EVERY, set)?;
-        assert!(rt;
-            read_value(rt.alloc(), &message, &EveryKind).is_ok(),
+    for (name, set) in &OTHER_BREACHES {
+        assert_eq!(rt;
+            refusal_with(rt.alloc(), &EveryKind, &EVERY, set),
+            bad,
             "{name}"
         );
     }
-    Ok(())
+}
+
+/// Oddities of the worked array that are accepted.
+const ODDITIES: [(&str, &[(usize, u8)]); 4] = [
+    ("two vectors in one place", &[(52, 36)]),
+    ("a vector that lies across others", &[(52, 37)]),
+    ("a field table that reaches into its table", &[(8, 10)]),
+    ("a field past its field table", &[(32, 12)]),
+];
+
+/// Oddities of the message with a field of every kind.
+const OTHER_ODDITIES: [(&str, &[(usize, u8)]); 3] = [
+    ("a flag of 7", &[(82, 7)]),
+    (
+        "an unknown member whose offset leads nowhere",
+        &[(123, 255)],
+    ),
+    ("a text and texts by offsets of 0", &[(92, 0), (96, 0)]),
+];
+
+#[test]
+fn oddities_are_accepted(rt: HostRuntime) {
+    for (name, set) in &ODDITIES {
+        assert_eq!(rt;
+            refusal_with(rt.alloc(), &ArrayKind, &ARRAY, set),
+            None,
+            "{name}"
+        );
+    }
+    for (name, set) in &OTHER_ODDITIES {
+        assert_eq!(rt;
+            refusal_with(rt.alloc(), &EveryKind, &EVERY, set),
+            None,
+            "{name}"
+        );
+    }
 }
 
 /// A message of tables, each in the one before, as its first field or as both.
@@ -149,38 +193,55 @@ pub fn nested(alloc: Global, levels: usize, both: bool) -> Result<Vec<u8>, Alloc
     Ok(message)
 }
 
-#[test]
-fn limits(rt: HostRuntime) -> Result<(), Fail> {
-    for (levels, refused) in [(63, None), (64, None), (65, Some(FlatError::TableLimit))] {
-        let message = nested(rt.alloc(), levels, false)?;
-        let read = read_value(rt.alloc(), &message, &PairKind);
-        assert_eq!(rt; read.err(), refused, "{levels} nested");
+/// Why so many tables, one in the other, are refused, or nothing.
+fn refusal_of(alloc: Global, levels: usize, both: bool) -> Option<FlatError> {
+    match nested(alloc, levels, both) {
+        Ok(message) => read_value(alloc, &message, &PairKind).err(),
+        Err(_) => Some(FlatError::OutOfMemory),
     }
-    let message = nested(rt.alloc(), 20, true)?;
-    let read = read_value(rt.alloc(), &message, &PairKind);
-    assert_eq!(rt; read.err(), Some(FlatError::TableLimit));
-    Ok(())
 }
 
 #[test]
-fn texts_of_refusals(rt: HostRuntime) -> Result<(), Fail> {
-    let texts = [
-        (FlatError::OutOfMemory, "out of memory"),
-        (
-            FlatError::BadTable,
-            "the message shows no value of its kind",
-        ),
-        (
-            FlatError::TableLimit,
-            "the message nests too deep, or unfolds to too many tables or bytes",
-        ),
-        (
-            FlatError::MessageTooLong,
-            "the written message would be too long",
-        ),
-    ];
-    for (error, text) in texts {
-        assert_eq!(rt; format!(in rt.alloc(); "{error}")?.as_str(), text);
+fn limits(rt: HostRuntime) {
+    assert_eq!(rt; refusal_of(rt.alloc(), 63, false), None);
+    assert_eq!(rt; refusal_of(rt.alloc(), 64, false), None);
+    assert_eq!(rt;
+        refusal_of(rt.alloc(), 65, false),
+        Some(FlatError::TableLimit)
+    );
+    assert_eq!(rt;
+        refusal_of(rt.alloc(), 20, true),
+        Some(FlatError::TableLimit)
+    );
+}
+
+const TEXTS: [(FlatError, &str); 4] = [
+    (FlatError::OutOfMemory, "out of memory"),
+    (
+        FlatError::BadTable,
+        "the message shows no value of its kind",
+    ),
+    (
+        FlatError::TableLimit,
+        "the message nests too deep, or unfolds to too many tables or bytes",
+    ),
+    (
+        FlatError::MessageTooLong,
+        "the written message would be too long",
+    ),
+];
+
+/// Whether a refusal is printed so.
+fn is_said(alloc: Global, error: FlatError, text: &str) -> bool {
+    match format!(in alloc; "{error}") {
+        Ok(printed) => printed.as_str() == text,
+        Err(_) => false,
     }
-    Ok(())
+}
+
+#[test]
+fn texts_of_refusals(rt: HostRuntime) {
+    for (error, text) in &TEXTS {
+        assert!(rt; is_said(rt.alloc(), *error, text), "{text}");
+    }
 }

@@ -160,35 +160,62 @@ fn place_of_table(view: &View<'_>) -> Option<usize>
     }
 }
 
+/// Whether the numbers, flags and tags of the message with a field of every kind are told.
+fn tells_scalars(every: &View<'_>) -> bool
+    requires { IsViewOf every_schema 0 every.now }
+{
+    numbers(every) == [0, 300, 70_000, 1_099_511_627_781]
+        && numbers_that_may_be_missing(every) == [Some(0), None, Some(0), None]
+        && flags(every) == [true, false]
+        && tags(every) == [Some((2, true)), Some((9, false)), None]
+}
+
+/// Whether its vectors, strings and its table are told.
+fn tells_parts(every: &View<'_>) -> bool
+    requires { IsViewOf every_schema 0 every.now }
+{
+    lengths(every) == [Some(4), Some(6), Some(2)]
+        && counts(every) == [Some(2), Some(2), Some(2), Some(2)]
+        && numbers_of_elements(every) == Some([1, 2, 2, 4])
+        && lengths_of_texts(every) == Some([0, 2])
+        && place_of_table(every) == Some(200)
+}
+
+/// Whether numbers, flags and tags of a table without a field are at their defaults.
+fn lacks_scalars(nothing: &View<'_>) -> bool
+    requires { IsViewOf every_schema 0 nothing.now }
+{
+    numbers(nothing) == [0, 0, 0, 0]
+        && numbers_that_may_be_missing(nothing) == [None, None, None, None]
+        && flags(nothing) == [false, false]
+        && tags(nothing) == [None, None, None]
+}
+
+/// Whether it has no vectors, strings and table.
+fn lacks_parts(nothing: &View<'_>) -> bool
+    requires { IsViewOf every_schema 0 nothing.now }
+{
+    lengths(nothing) == [None, None, None]
+        && counts(nothing) == [None, None, None, None]
+        && numbers_of_elements(nothing).is_none()
+        && lengths_of_texts(nothing).is_none()
+        && place_of_table(nothing).is_none()
+}
+
 #[test]
-fn accessors_of_fields(rt: HostRuntime) -> Result<(), Fail> {
-    let every = root_view(&EVERY, &EveryKind)?;
-    assert_eq!(rt; numbers(&every), [0, 300, 70_000, 1_099_511_627_781]);
-    assert_eq!(rt;
-        numbers_that_may_be_missing(&every),
-        [Some(0), None, Some(0), None]
-    );
-    assert_eq!(rt; flags(&every), [true, false]);
-    assert_eq!(rt; lengths(&every), [Some(4), Some(6), Some(2)]);
-    assert_eq!(rt; counts(&every), [Some(2), Some(2), Some(2), Some(2)]);
-    assert_eq!(rt; numbers_of_elements(&every), Some([1, 2, 2, 4]));
-    assert_eq!(rt; lengths_of_texts(&every), Some([0, 2]));
-    assert_eq!(rt; tags(&every), [Some((2, true)), Some((9, false)), None]);
-    assert_eq!(rt; place_of_table(&every), Some(200));
-    let nothing = root_view(&NOTHING, &EveryKind)?;
-    assert_eq!(rt; numbers(&nothing), [0, 0, 0, 0]);
-    assert_eq!(rt;
-        numbers_that_may_be_missing(&nothing),
-        [None, None, None, None]
-    );
-    assert_eq!(rt; flags(&nothing), [false, false]);
-    assert_eq!(rt; lengths(&nothing), [None, None, None]);
-    assert_eq!(rt; counts(&nothing), [None, None, None, None]);
-    assert_eq!(rt; numbers_of_elements(&nothing), None);
-    assert_eq!(rt; lengths_of_texts(&nothing), None);
-    assert_eq!(rt; tags(&nothing), [None, None, None]);
-    assert_eq!(rt; place_of_table(&nothing), None);
-    Ok(())
+fn fields_are_told(rt: HostRuntime) {
+    match root_view(&EVERY, &EveryKind) {
+        Ok(every) => assert!(rt; tells_scalars(&every) && tells_parts(&every)),
+        Err(_) => assert!(rt; false),
+    }
+}
+
+#[test]
+fn missing_fields_are_told(rt: HostRuntime) {
+    match root_view(&NOTHING, &EveryKind) {
+        Ok(nothing) => assert!(rt; lacks_scalars(&nothing) && lacks_parts(&nothing)),
+        Err(_) => assert!(rt; false),
+    }
 }
 
 /// Arrays of one another: so many levels of nodes, where each has two children in one place and the
@@ -249,18 +276,28 @@ fn levels_below(root: &View<'_>) -> usize
     64
 }
 
-#[test]
-fn tables_that_many_paths_reach(rt: HostRuntime) -> Result<(), Fail> {
-    let message = shared_children(rt.alloc(), 19)?;
-    let root = root_view(&message, &ArrayKind)?;
-    assert_eq!(rt; root.weight().tables, 524_288);
-    assert_eq!(rt; root.weight().nested, 20);
-    assert_eq!(rt; levels_below(&root), 18);
-    Ok(())
+/// Whether the message weighs what all paths through it do.
+fn weighs_all_paths(message: &[u8]) -> bool {
+    match root_view(message, &ArrayKind) {
+        Ok(root) => {
+            root.weight().tables == 524_288
+                && root.weight().nested == 20
+                && levels_below(&root) == 18
+        }
+        Err(_) => false,
+    }
 }
 
 #[test]
-fn worked_weight(rt: HostRuntime) -> Result<(), Fail> {
+fn tables_that_many_paths_reach(rt: HostRuntime) {
+    match shared_children(rt.alloc(), 19) {
+        Ok(message) => assert!(rt; weighs_all_paths(&message)),
+        Err(_) => assert!(rt; false),
+    }
+}
+
+#[test]
+fn worked_weight(rt: HostRuntime) -> Result<(), FlatError> {
     let weight = Weight {
         nested: 3,
         tables: 3,
@@ -304,18 +341,28 @@ fn steps_are_counted(rt: HostRuntime) -> Result<(), Fail> {
     Ok(())
 }
 
+/// How deep a message nests, or why it is refused.
+fn nested_in(message: &[u8]) -> Result<u64, FlatError> {
+    match verify_uncounted(message, &PairKind) {
+        Ok(root) => Ok(root.weight().nested),
+        Err(error) => Err(error),
+    }
+}
+
+/// The same of so many tables, one in the other.
+fn nested_of(alloc: Global, levels: usize, both: bool) -> Result<u64, FlatError> {
+    let message = nested(alloc, levels, both)?;
+    nested_in(&message)
+}
+
 #[test]
-fn nested_tables(rt: HostRuntime) -> Result<(), Fail> {
-    let message = nested(rt.alloc(), 64, false)?;
-    let root = verify_uncounted(&message, &PairKind)?;
-    assert_eq!(rt; root.weight().nested, 64);
-    let message = nested(rt.alloc(), 65, false)?;
-    let refused = verify_uncounted(&message, &PairKind);
-    assert_eq!(rt; refused.err(), Some(FlatError::TableLimit));
-    let message = nested(rt.alloc(), 20, true)?;
-    let refused = verify_uncounted(&message, &PairKind);
-    assert_eq!(rt; refused.err(), Some(FlatError::TableLimit));
-    Ok(())
+fn nested_tables(rt: HostRuntime) {
+    assert_eq!(rt; nested_of(rt.alloc(), 64, false), Ok(64));
+    assert_eq!(rt;
+        nested_of(rt.alloc(), 65, false),
+        Err(FlatError::TableLimit)
+    );
+    assert_eq!(rt; nested_of(rt.alloc(), 20, true), Err(FlatError::TableLimit));
 }
 
 #[test]
