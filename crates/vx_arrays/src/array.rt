@@ -186,7 +186,6 @@ impl Array {
     }
 
     /// Whether the row is there; None where that is not known.
-    #[tactic(auto, using(crate::proofs::Untold::untold_node))]
     pub fn is_valid(&self, index: usize) -> Option<bool>
         requires { index < (label self.now).len }
         ensures { result ≡ valid_at self.now index }
