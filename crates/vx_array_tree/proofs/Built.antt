@@ -2,9 +2,10 @@
 use Rattle.std.proofs.Common.{ℕ, ◌≡◌, ◌⊎◌, inl, inr, List, [], ◌∷◌, Some, refl, sym, ap, ◌∙◌, subst}
 use Rattle.std.proofs.lemmas.Option.{same_Some}
 use Rattle.vx_buffer.specs.Buffer.{Buffer}
-use Rattle.vx_trees.specs.Rose.{node, end, count}
+use Rattle.vx_trees.specs.Rose.{node, end, label, count}
 use Rattle.vx_types.specs.Kind as K
 use Rattle.vx_types.specs.Typ.{Typ}
+use Rattle.vx_scalars.specs.Stats.{Stats, FitStats}
 use Rattle.vx_array_tree.specs.Body.{Body}
 use Rattle.vx_array_tree.specs.Body as B
 use Rattle.vx_array_tree.specs.Encoding.{Encoding}
@@ -19,9 +20,10 @@ use Rattle.vx_array_tree.specs.Metadata.{Metadata}
 use Rattle.vx_array_tree.specs.Metadata as M
 use Rattle.vx_array_tree.specs.Place.{Place, place}
 use Rattle.vx_array_tree.specs.Refused.{IsWellShaped}
-use Rattle.vx_array_tree.specs.Sound.{IsSoundNode}
+use Rattle.vx_array_tree.specs.Normal.{IsNormal}
+use Rattle.vx_array_tree.specs.Sound.{IsSound, IsSoundNode}
 use Rattle.vx_array_tree.specs.Table.{encoding_of, metadata_of, IsFair, buffers_of, bufferless, body_of, plan_of, lifted, Allows, Holds, IsShaped, Takes, Content, IsNormalBody}
-use Rattle.vx_array_tree.specs.Tree.{Head, Trees, places, encodings, rows_below}
+use Rattle.vx_array_tree.specs.Tree.{Head, Tree, Trees, places, encodings, rows_below, untold, with_stats}
 use Rattle.vx_array_tree.proofs.NodeLaws.{body_encoding}
 use Rattle.vx_array_tree.proofs.Options.{mapped}
 use Rattle.vx_array_tree.proofs.Plans.{exactly_is, metadata_again}
@@ -129,7 +131,7 @@ own_metadata e d n v bs b ts x = metadata_again e d n v (count ts) bs b (places 
 
 -- It is of the right shape where its parts are, and its encoding takes the children.
 pub built_shaped : (e : Encoding) (d : Typ) (n : ℕ) (v : Metadata) (bs : List Buffer) (b : Body) (ts : Trees) → IsBuiltOver e d n v bs b ts
-    → IsShaped e d n v bs (count ts) → Takes e (encodings ts) → IsWellShaped (record { dtype = d; len = n; body = b }) ts
+    → IsShaped e d n v bs (count ts) → Takes e (encodings ts) → IsWellShaped (untold d n b) ts
 built_shaped e d n v bs b ts x s t =
     let g = body_encoding e v bs b x.body_is in
     let m = own_metadata e d n v bs b ts x in
@@ -147,7 +149,7 @@ built_shaped e d n v bs b ts x s t =
 
 -- And its parts are of the right shape where it is.
 pub shaped_built : (e : Encoding) (d : Typ) (n : ℕ) (v : Metadata) (bs : List Buffer) (b : Body) (ts : Trees) → IsBuiltOver e d n v bs b ts
-    → IsWellShaped (record { dtype = d; len = n; body = b }) ts → IsShaped e d n v bs (count ts) × Takes e (encodings ts)
+    → IsWellShaped (untold d n b) ts → IsShaped e d n v bs (count ts) × Takes e (encodings ts)
 shaped_built e d n v bs b ts x s =
     let g = body_encoding e v bs b x.body_is in
     let m = own_metadata e d n v bs b ts x in (
@@ -160,9 +162,19 @@ shaped_built e d n v bs b ts x s =
       subst (λ (f : Encoding). Takes f (encodings ts)) g s.takes,
     )
 
--- A node of the right shape and content is sound, and a sound one is of the right shape.
-pub shaped_sound : (h : Head) (ts : Trees) → IsWellShaped h ts → Content h.dtype h.len h.body (rows_below ts) → IsSoundNode h ts
-shaped_sound h ts s c = record { fair = s.fair; planned = s.planned; allows = s.allows; takes = s.takes; holds = s.holds; content = c }
+-- A node of the right shape and content whose statistics fit is sound, and a sound one is of the right shape.
+pub shaped_sound : (h : Head) (ts : Trees) → IsWellShaped h ts → Content h.dtype h.len h.body (rows_below ts) → FitStats h.dtype h.stats → IsSoundNode h ts
+shaped_sound h ts s c f = record { fair = s.fair; planned = s.planned; allows = s.allows; takes = s.takes; holds = s.holds; content = c; stats = f }
 
 pub sound_well_shaped : (h : Head) (ts : Trees) → IsSoundNode h ts → IsWellShaped h ts
 sound_well_shaped h ts s = record { fair = s.fair; planned = s.planned; allows = s.allows; takes = s.takes; holds = s.holds }
+
+-- A sound array with other statistics that fit is sound, and normal where it was.
+pub stats_sound : (x : Stats) (t : Tree) → IsSound t → FitStats (label t).dtype x → IsSound (with_stats x t)
+stats_sound x (node h ts) s f = (
+  record { fair = s.0.fair; planned = s.0.planned; allows = s.0.allows; takes = s.0.takes; holds = s.0.holds; content = s.0.content; stats = f },
+  s.1,
+)
+
+pub stats_normal : (x : Stats) (t : Tree) → IsNormal t → IsNormal (with_stats x t)
+stats_normal x (node h ts) n = n

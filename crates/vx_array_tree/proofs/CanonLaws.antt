@@ -3,12 +3,15 @@
 use Rattle.std.proofs.Common.{ℕ, ◌≡◌, List, [], ◌∷◌, Some, refl, sym, ap, ◌∙◌, subst}
 use Rattle.vx_trees.specs.Rose.{node, end, more, label, count}
 use Rattle.vx_trees.specs.Everywhere.{EverywhereBelow}
+use Rattle.vx_scalars.specs.Stats.{FitStats}
+use Rattle.vx_scalars.specs.WrittenStats.{written_stats}
+use Rattle.vx_scalars.proofs.LawsStats.{written_fit, written_twice, fit_under}
 use Rattle.vx_types.specs.Kind as K
 use Rattle.vx_types.specs.Typ.{Typ}
 use Rattle.vx_types.specs.Words.{with_nullability}
 use Rattle.vx_array_tree.specs.Body.{Body}
 use Rattle.vx_array_tree.specs.Body as B
-use Rattle.vx_array_tree.specs.Canon.{types_in, planned_types, child_types, canon_head, canon_at, canon_all, canon}
+use Rattle.vx_array_tree.specs.Canon.{types_in, planned_types, child_types, canon_head, canon_at, canon_all, canon, written_head, stats_written, each_stats_written, IsKeptNode, KeepsStats}
 use Rattle.vx_array_tree.specs.Encoding.{Encoding}
 use Rattle.vx_array_tree.specs.Encodings.Dicts as Dicts
 use Rattle.vx_array_tree.specs.Metadata.{Metadata}
@@ -105,6 +108,7 @@ node_sound d h ts x r p kids =
       holds = subst (λ (z : Typ). Holds z h.len (cleared h.body)) r.retyped (holds_retyped h.body r.nullability_is h.dtype h.len x.holds);
       content = subst (λ (z : Typ). Content z h.len (cleared h.body) (rows_below us)) r.retyped
           (content_retyped h.body r.nullability_is h.dtype h.len (rows_below us) (subst (λ (z : List Rows). Content h.dtype h.len h.body z) (sym rows) x.content));
+      stats = subst (λ (z : Typ). FitStats z (written_stats h.stats)) r.retyped (fit_under r.nullability_is h.dtype (written_stats h.stats) (written_fit h.dtype h.stats x.stats));
     }
 
 mutual
@@ -127,19 +131,59 @@ pub own_types : (h : Head) (ts : Trees) → IsSoundNode h ts → IsNormalNode h 
 own_types h ts x n = ap (λ o. planned_types o ts) (planned_places h ts x n)
 
 mutual
-  -- A sound normal array is read back as itself.
-  pub canon_own : (t : Tree) → IsSound t → IsNormal t → canon t ≡ t
-  canon_own (node h ts) x n =
+  -- A sound normal array is read back as itself but for statistics.
+  pub canon_written : (t : Tree) → IsSound t → IsNormal t → canon t ≡ stats_written t
+  canon_written (node h ts) x n =
       let b = normal_cleared h.body h.dtype (places ts) n.0 in
-      let k = ap (λ ds. canon_all ds ts) (own_types h ts x.0 n.0) ∙ canon_all_own ts x.1 n.1 in
-      λ i. node (record { dtype = h.dtype; len = h.len; body = b i }) (k i)
+      let k = ap (λ ds. canon_all ds ts) (own_types h ts x.0 n.0) ∙ canon_all_written ts x.1 n.1 in
+      λ i. node (record { dtype = h.dtype; len = h.len; stats = written_stats h.stats; body = b i }) (k i)
 
-  pub canon_all_own : (ts : Trees) → EverywhereBelow IsSoundNode ts → EverywhereBelow IsNormalNode ts → canon_all (types_in (places ts)) ts ≡ ts
-  canon_all_own end x n = refl
-  canon_all_own (more t ts) x n =
-      let a = canon_own t x.0 n.0 in
-      let b = canon_all_own ts x.1 n.1 in
+  pub canon_all_written : (ts : Trees) → EverywhereBelow IsSoundNode ts → EverywhereBelow IsNormalNode ts → canon_all (types_in (places ts)) ts ≡ each_stats_written ts
+  canon_all_written end x n = refl
+  canon_all_written (more t ts) x n =
+      let a = canon_written t x.0 n.0 in
+      let b = canon_all_written ts x.1 n.1 in
       λ i. more (a i) (b i)
+
+-- What is written of statistics changes no place.
+written_place : (t : Tree) → place (label (stats_written t)).dtype (label (stats_written t)).len ≡ place (label t).dtype (label t).len
+written_place (node h ts) = refl
+
+pub written_places : (ts : Trees) → places (each_stats_written ts) ≡ places ts
+written_places end = refl
+written_places (more t ts) =
+    let a = written_place t in
+    let b = written_places ts in
+    λ i. a i ∷ b i
+
+mutual
+  -- What is written of kept statistics are these.
+  pub kept_written : (t : Tree) → KeepsStats t → stats_written t ≡ t
+  kept_written (node h ts) k =
+      let a : written_head h ≡ h = (let x = k.0 in λ i. record { dtype = h.dtype; len = h.len; stats = x i; body = h.body }) in
+      let b = each_kept_written ts k.1 in
+      λ i. node (a i) (b i)
+
+  each_kept_written : (ts : Trees) → EverywhereBelow IsKeptNode ts → each_stats_written ts ≡ ts
+  each_kept_written end k = refl
+  each_kept_written (more t ts) k =
+      let a = kept_written t k.0 in
+      let b = each_kept_written ts k.1 in
+      λ i. more (a i) (b i)
+
+-- A sound normal array of which all statistics are kept is read back as itself.
+pub canon_own : (t : Tree) → IsSound t → IsNormal t → KeepsStats t → canon t ≡ t
+canon_own t x n k = canon_written t x n ∙ kept_written t k
+
+mutual
+  -- What is read back keeps its statistics.
+  pub canon_at_keeps : (d : Typ) (t : Tree) → KeepsStats (canon_at d t)
+  canon_at_keeps d (node h ts) = (written_twice h.stats, canon_all_keeps (child_types d h ts) ts)
+
+  canon_all_keeps : (ds : List Typ) (ts : Trees) → EverywhereBelow IsKeptNode (canon_all ds ts)
+  canon_all_keeps ds end = tt
+  canon_all_keeps [] (more t ts) = (canon_at_keeps (label t).dtype t, canon_all_keeps [] ts)
+  canon_all_keeps (d ∷ ds) (more t ts) = (canon_at_keeps d t, canon_all_keeps ds ts)
 
 -- ---- the laws of an array that is read back at its own type
 
@@ -157,4 +201,4 @@ canon_rows t x = canon_at_rows (label t).dtype t x (retyped_same (label t).dtype
 
 -- It is read back as itself.
 pub canon_twice : (t : Tree) → IsSound t → canon (canon t) ≡ canon t
-canon_twice t x = canon_own (canon t) (canon_sound t x) (canon_normal t x)
+canon_twice t x = canon_own (canon t) (canon_sound t x) (canon_normal t x) (canon_at_keeps (label t).dtype t)

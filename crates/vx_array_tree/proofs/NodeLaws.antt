@@ -4,6 +4,7 @@ use Rattle.std.proofs.lemmas.Option.{same_Some}
 use Rattle.vx_buffer.specs.Buffer.{Buffer}
 use Rattle.vx_trees.specs.Rose.{count}
 use Rattle.vx_types.specs.Typ.{Typ}
+use Rattle.vx_scalars.proofs.LawsStats.{none_fit}
 use Rattle.vx_array_tree.specs.Body.{Body}
 use Rattle.vx_array_tree.specs.Body as B
 use Rattle.vx_array_tree.specs.Encoding.{Encoding}
@@ -14,7 +15,7 @@ use Rattle.vx_array_tree.specs.Normal.{IsNormalNode}
 use Rattle.vx_array_tree.specs.Place.{Place}
 use Rattle.vx_array_tree.specs.Sound.{IsSoundNode, metadata_in}
 use Rattle.vx_array_tree.specs.Table.{encoding_of, metadata_of, buffers_of, body_of, plan_of, lifted, cleared, IsFair, IsShaped, Allows, Holds, Takes, Content}
-use Rattle.vx_array_tree.specs.Tree.{Head, Trees, places, encodings, rows_below}
+use Rattle.vx_array_tree.specs.Tree.{Head, Trees, places, encodings, rows_below, untold}
 use Rattle.vx_array_tree.proofs.Bodies.{body_again, normal_cleared}
 use Rattle.vx_array_tree.proofs.Options.{mapped}
 use Rattle.vx_array_tree.proofs.Plans.{metadata_again, bufferless_is}
@@ -53,9 +54,9 @@ pub built_metadata : (e : Encoding) (d : Typ) (n : ℕ) (v : Metadata) (bs : Lis
     → metadata_of b (places ts) ≡ v
 built_metadata e d n v bs b ts p q = sym (lifted_metadata b (places ts)) ∙ metadata_again e d n v (count ts) bs b (lifted b (places ts)) p q
 
--- It is sound, where its parts are as its encoding asks.
+-- Without statistics it is sound, where its parts are as its encoding asks.
 pub built_sound : (e : Encoding) (d : Typ) (n : ℕ) (v : Metadata) (bs : List Buffer) (ts : Trees) (x : IsShaped e d n v bs (count ts)) → IsFair e v
-    → plan_of e d n v (count ts) ≡ Some (lifted x.body (places ts)) → Takes e (encodings ts) → Content d n x.body (rows_below ts) → IsSoundNode (record { dtype = d; len = n; body = x.body }) ts
+    → plan_of e d n v (count ts) ≡ Some (lifted x.body (places ts)) → Takes e (encodings ts) → Content d n x.body (rows_below ts) → IsSoundNode (untold d n x.body) ts
 built_sound e d n v bs ts x f p k c =
     let g : e ≡ encoding_of x.body = sym (body_encoding e v bs x.body x.body_is) in
     let m : v ≡ metadata_of x.body (places ts) = sym (built_metadata e d n v bs x.body ts x.body_is p) in
@@ -66,6 +67,7 @@ built_sound e d n v bs ts x f p k c =
       takes = subst (λ (z : Encoding). Takes z (encodings ts)) g k;
       holds = x.holds;
       content = c;
+      stats = none_fit d;
     }
 
 cleared_holds : (d : Typ) (n : ℕ) (b : Body) → Holds d n b → Holds d n (cleared b)
@@ -86,14 +88,15 @@ planned_places h ts s n = s.planned ∙ ap (λ (ps : List Place). Some ps) (own_
 pub own_body : (h : Head) (ts : Trees) → IsNormalNode h ts → body_of (encoding_of h.body) (metadata_in h ts) (buffers_of h.body) ≡ Some h.body
 own_body h ts n = body_again h.body (places ts) ∙ ap (λ (b : Body). Some b) (normal_cleared h.body h.dtype (places ts) n)
 
--- Two sound normal nodes of one type, with as many rows, of one encoding, and with the same metadata, buffers
--- and number of children, are equal, and their children stand at the same places.
+-- Two sound normal nodes of one type, with as many rows, of one encoding, and with the same metadata, buffers,
+-- statistics and number of children, are equal, and their children stand at the same places.
 pub record IsSameNode (h g : Head) (ts us : Trees) : Type 0 where
   pub dtype : h.dtype ≡ g.dtype
   pub len : h.len ≡ g.len
   pub encoding : encoding_of h.body ≡ encoding_of g.body
   pub metadata : metadata_in h ts ≡ metadata_in g us
   pub buffers : buffers_of h.body ≡ buffers_of g.body
+  pub stats : h.stats ≡ g.stats
   pub children : count ts ≡ count us
 
 pub same_body : (h g : Head) (ts us : Trees) → IsSameNode h g ts us → IsNormalNode h ts → IsNormalNode g us → h.body ≡ g.body
@@ -105,7 +108,8 @@ same_head h g ts us q nh ng =
     let b = same_body h g ts us q nh ng in
     let d = q.dtype in
     let n = q.len in
-    λ i. record { dtype = d i; len = n i; body = b i }
+    let x = q.stats in
+    λ i. record { dtype = d i; len = n i; stats = x i; body = b i }
 
 pub same_places : (h g : Head) (ts us : Trees) → IsSameNode h g ts us → IsSoundNode h ts → IsSoundNode g us → IsNormalNode h ts → IsNormalNode g us → places ts ≡ places us
 same_places h g ts us q sh sg nh ng =

@@ -3,6 +3,7 @@ use Rattle.std.proofs.Common.{ℕ, ◌≡◌, List, [], ◌∷◌, Some, None, r
 use Rattle.vx_trees.specs.Rose.{node, end, more, label, count}
 use Rattle.vx_trees.specs.Everywhere.{EverywhereBelow}
 use Rattle.vx_types.specs.Typ.{Typ}
+use Rattle.vx_scalars.specs.Stats.{Stats}
 use Rattle.vx_array_tree.specs.Body.{Body}
 use Rattle.vx_array_tree.specs.Body as B
 use Rattle.vx_array_tree.specs.Encodings.VarBins as VarBins
@@ -41,28 +42,28 @@ second_rows end = refl
 second_rows (more t end) = refl
 second_rows (more t (more u ts)) = rows_len u
 
-body_fits : (d : Typ) (n : ℕ) (b : Body) (ts : Trees) → IsSoundNode (record { dtype = d; len = n; body = b }) ts → FitAll ts → FitRows d n (node_rows d n b (places ts) (rows_below ts))
-body_fits d n B.null ts s f = nulls_fit d n (count ts) (places ts) s.planned
-body_fits d n (B.bool x) ts s f = bools_fit d n x ts s.planned s.allows
-body_fits d n (B.primitive x) ts s f = primitives_fit d n x ts s.planned s.allows
-body_fits d n (B.decimal x) ts s f = decimals_fit d n x ts s.planned s.allows
-body_fits d n (B.varbin x) ts s f = varbins_fit d n (VarBins.metadata_of (places ts)) x ts s.planned s.allows
-body_fits d n (B.varbinview x) ts s f = varbinviews_fit d n x ts s.planned s.allows
-body_fits d n B.list ts s f =
+body_fits : (d : Typ) (n : ℕ) (z : Stats) (b : Body) (ts : Trees) → IsSoundNode (record { dtype = d; len = n; stats = z; body = b }) ts → FitAll ts → FitRows d n (node_rows d n b (places ts) (rows_below ts))
+body_fits d n z B.null ts s f = nulls_fit d n (count ts) (places ts) s.planned
+body_fits d n z (B.bool x) ts s f = bools_fit d n x ts s.planned s.allows
+body_fits d n z (B.primitive x) ts s f = primitives_fit d n x ts s.planned s.allows
+body_fits d n z (B.decimal x) ts s f = decimals_fit d n x ts s.planned s.allows
+body_fits d n z (B.varbin x) ts s f = varbins_fit d n (VarBins.metadata_of (places ts)) x ts s.planned s.allows
+body_fits d n z (B.varbinview x) ts s f = varbinviews_fit d n x ts s.planned s.allows
+body_fits d n z B.list ts s f =
     lists_fit d n (Lists.metadata_of (places ts)) ts s.planned s.allows (subst (λ (k : ℕ). VarBins.AreOffsets (second (rows_below ts)) n k) (first_len ts) s.content) f
-body_fits d n (B.listview x) ts s f =
+body_fits d n z (B.listview x) ts s f =
     listviews_fit d n (ListViews.metadata_of (places ts)) ts s.planned s.allows (λ i l v. let w = (s.content i l v).within in let k = first_len ts in omega arith) f
-body_fits d n B.fixed_size_list ts s f = fixed_fit d n ts s.planned s.allows f
-body_fits d n B.map ts s f = maps_fit d n ts s.planned f
-body_fits d n B.struct ts s f = structs_fit d n ts s.planned s.allows f
-body_fits d n B.union ts s f = unions_fit d n ts s.planned s.content f
-body_fits d n B.variant ts s f = variants_fit d n ts s.planned f
-body_fits d n B.ext ts s f = exts_fit d n ts s.planned f
-body_fits d n (B.dict x) ts s f = dicts_fit d n x ts s.planned s.allows (λ i l v. let w = (s.content i l v).within in let k = second_rows ts in omega arith) f
+body_fits d n z B.fixed_size_list ts s f = fixed_fit d n ts s.planned s.allows f
+body_fits d n z B.map ts s f = maps_fit d n ts s.planned f
+body_fits d n z B.struct ts s f = structs_fit d n ts s.planned s.allows f
+body_fits d n z B.union ts s f = unions_fit d n ts s.planned s.content f
+body_fits d n z B.variant ts s f = variants_fit d n ts s.planned f
+body_fits d n z B.ext ts s f = exts_fit d n ts s.planned f
+body_fits d n z (B.dict x) ts s f = dicts_fit d n x ts s.planned s.allows (λ i l v. let w = (s.content i l v).within in let k = second_rows ts in omega arith) f
 
 mutual
   pub rows_fit : (t : Tree) → IsSound t → FitRows (label t).dtype (label t).len (rows_of t)
-  rows_fit (node h ts) s = body_fits h.dtype h.len h.body ts s.0 (all_fit ts s.1)
+  rows_fit (node h ts) s = body_fits h.dtype h.len h.stats h.body ts s.0 (all_fit ts s.1)
 
   all_fit : (ts : Trees) → EverywhereBelow IsSoundNode ts → FitAll ts
   all_fit end s = tt

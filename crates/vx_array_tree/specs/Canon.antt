@@ -1,7 +1,9 @@
 -- The array that is read back where an array was written.
-use Rattle.std.specs.Prelude.{List, [], ◌∷◌, Option, Some, None}
+use Rattle.std.specs.Prelude.{◌≡◌, List, [], ◌∷◌, Option, Some, None}
+use Rattle.vx_trees.specs.Everywhere.{Everywhere}
 use Rattle.vx_trees.specs.Rose.{node, end, more, label, count}
 use Rattle.vx_types.specs.Typ.{Typ}
+use Rattle.vx_scalars.specs.WrittenStats.{written_stats}
 use Rattle.vx_array_tree.specs.Place.{Place}
 use Rattle.vx_array_tree.specs.Sound.{metadata_in}
 use Rattle.vx_array_tree.specs.Table.{encoding_of, plan_of, cleared}
@@ -26,7 +28,7 @@ child_types d h ts = planned_types (plan_of (encoding_of h.body) d h.len (metada
 
 -- A node as it is read back at a type: of that type, and holding what is not lost where it is written.
 abbrev pub canon_head : Typ → Head → Head
-canon_head d h = record { dtype = d; len = h.len; body = cleared h.body }
+canon_head d h = record { dtype = d; len = h.len; stats = written_stats h.stats; body = cleared h.body }
 
 abbrev mutual
   -- An array as it is read back at a type: each node so, over its children, each at its own type.
@@ -45,3 +47,28 @@ abbrev mutual
 -- An array as it is read back at its own type.
 abbrev pub canon : Tree → Tree
 canon t = canon_at (label t).dtype t
+
+-- ---- statistics alone
+
+-- A node with what is written of its statistics in their place.
+abbrev pub written_head : Head → Head
+written_head h = record { dtype = h.dtype; len = h.len; stats = written_stats h.stats; body = h.body }
+
+abbrev mutual
+  -- An array with what is written of each node's statistics in their place.
+  pub stats_written : Tree → Tree
+  stats_written (node h ts) = node (written_head h) (each_stats_written ts)
+
+  -- The same of each of a node's children.
+  pub each_stats_written : Trees → Trees
+  each_stats_written end = end
+  each_stats_written (more t ts) = more (stats_written t) (each_stats_written ts)
+
+-- A node's statistics are what is written of them: nothing is left out, and a sum that is no number is the NaN
+-- of its width.
+abbrev pub IsKeptNode : Head → Trees → Type 0
+IsKeptNode h ts = written_stats h.stats ≡ h.stats
+
+-- So are those of each node of an array.
+abbrev pub KeepsStats : Tree → Type 0
+KeepsStats = Everywhere IsKeptNode

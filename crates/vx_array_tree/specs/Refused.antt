@@ -6,7 +6,7 @@ use Rattle.vx_array_tree.specs.Table.{encoding_of, IsFair, plan_of, lifted, Allo
 use Rattle.vx_array_tree.specs.Tree.{Trees, Head, places, encodings, rows_below}
 
 -- A node over its children is of the shape that its encoding asks for: all that makes it sound but its
--- content.
+-- content and its statistics.
 pub record IsWellShaped (h : Head) (ts : Trees) : Type 0 where
   pub fair : IsFair (encoding_of h.body) (metadata_in h ts)
   pub planned : plan_of (encoding_of h.body) h.dtype h.len (metadata_in h ts) (count ts) ≡ Some (lifted h.body (places ts))

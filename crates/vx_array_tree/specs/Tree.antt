@@ -8,6 +8,7 @@ use Rattle.vx_trees.specs.Walks.{gathered}
 use Rattle.vx_types.specs.Kind.{null}
 use Rattle.vx_types.specs.Typ.{Typ, typ_code}
 use Rattle.vx_types.specs.Value.{Value}
+use Rattle.vx_scalars.specs.Stats.{Stats, no_stats, stats_code}
 use Rattle.vx_array_tree.specs.Body.{Body, body_code}
 use Rattle.vx_array_tree.specs.Body as B
 use Rattle.vx_array_tree.specs.Encoding.{Encoding}
@@ -15,11 +16,17 @@ use Rattle.vx_array_tree.specs.Place.{Place, place}
 use Rattle.vx_array_tree.specs.Rows.{Rows}
 use Rattle.vx_array_tree.specs.Table.{id_of, encoding_of, buffers_of, node_rows}
 
--- What a node is beside its children: its type, how many rows it has, and what its encoding holds.
+-- What a node is beside its children: its type, how many rows it has, what is told of them, and what its
+-- encoding holds.
 pub record Head : Type 0 where
   pub dtype : Typ
   pub len : ℕ
+  pub stats : Stats
   pub body : Body
+
+-- A node without statistics.
+abbrev pub untold : Typ → ℕ → Body → Head
+untold d n b = record { dtype = d; len = n; stats = no_stats; body = b }
 
 -- An array is a tree of such nodes. Its children stand in the order in which they are written.
 abbrev pub Tree : Type 0
@@ -28,6 +35,10 @@ Tree = Rose Head
 -- The children of a node: trees in their order.
 abbrev pub Trees : Type 0
 Trees = Roses Head
+
+-- An array with other statistics at its root.
+abbrev pub with_stats : Stats → Tree → Tree
+with_stats x (node h ts) = node (record { dtype = h.dtype; len = h.len; stats = x; body = h.body }) ts
 
 -- A child that may be absent, as the children of its node.
 abbrev pub option_trees : Option Tree → Trees
@@ -74,15 +85,15 @@ row_at t i = (rows_of t).row i
 abbrev pub cells : Tree → ℕ → ℕ
 cells t i = (rows_of t).cells i
 
--- The code by which nodes without their children are told apart: the type, the rows and what the encoding
--- holds, side by side.
+-- The code by which nodes without their children are told apart: the type, the rows, the statistics and what
+-- the encoding holds, side by side.
 abbrev pub head_code : Coded Head
-head_code = code_by (Typ × (ℕ × Body)) (coded× typ_code (coded× coded_ℕ body_code))
-    (λ h. (h.dtype, (h.len, h.body))) (λ p. record { dtype = p.0; len = p.1.0; body = p.1.1 }) (λ _. refl)
+head_code = code_by (Typ × (ℕ × (Stats × Body))) (coded× typ_code (coded× coded_ℕ (coded× stats_code body_code)))
+    (λ h. (h.dtype, (h.len, (h.stats, h.body)))) (λ p. record { dtype = p.0; len = p.1.0; stats = p.1.1.0; body = p.1.1.1 }) (λ _. refl)
 
 -- A node that stands for none where a code wants one; which it is does not matter.
 abbrev no_head : Head
-no_head = record { dtype = node null end; len = 0; body = B.null }
+no_head = untold (node null end) 0 B.null
 
 -- The code by which arrays are told apart.
 abbrev pub tree_code : Coded Tree

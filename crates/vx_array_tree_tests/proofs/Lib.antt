@@ -4,3 +4,4 @@ pub mod SampleParts
 pub mod SampleMerges
 pub mod SoundSamples
 pub mod BrokenSamples
+pub mod SampleStats

@@ -12,14 +12,16 @@ use Rattle.vx_types.specs.declared.ptype.PType.{PType}
 use Rattle.vx_types.specs.declared.ptype.PType.TheVariants as P
 use Rattle.vx_types.specs.declared.decimal.DecimalType.{DecimalType}
 use Rattle.vx_types.specs.declared.value.PValue.TheVariants as N
+use Rattle.vx_scalars.specs.Stats.{Stats, Told, no_stats}
+use Rattle.vx_scalars.specs.declared.precision.Precision.TheVariants.{Exact, Inexact}
 use Rattle.vx_array_tree.specs.Body.{Body}
 use Rattle.vx_array_tree.specs.Body as B
-use Rattle.vx_array_tree.specs.Tree.{Tree, row_at}
+use Rattle.vx_array_tree.specs.Tree.{Tree, row_at, untold, with_stats}
 
 -- ---- parts
 
 abbrev pub array : Typ → ℕ → Body → List Tree → Tree
-array d n b ts = node (record { dtype = d; len = n; body = b }) (roses_of ts)
+array d n b ts = node (untold d n b) (roses_of ts)
 
 abbrev pub buffer : List ℕ → ℕ → Buffer
 buffer bs e = record { bytes = bs; exponent = e }
@@ -211,3 +213,38 @@ abbrev pub lifted_values : Nullability → Tree
 lifted_values m =
     array (number_type P.U16 Nullable) 2 (B.dict (record { all_values_referenced = true }))
     (u8s Nullable (0 ∷ 1 ∷ []) (bits 2 1 ∷ []) ∷ array (number_type P.U16 m) 2 (B.primitive (record { values = buffer (two (3 ∷ 4 ∷ [])) 1 })) [] ∷ [])
+
+-- ---- statistics
+
+abbrev pub count : ℕ → Value
+count n = lone (V.number (N.U64 n))
+
+-- The number of these bits.
+abbrev pub float : ℕ → Value
+float bits = lone (V.number (N.F64 bits))
+
+-- Of the numbers one to four: a least value, one that is at most as great, the sum, and how many are null; that
+-- they are sorted is told as a bound.
+abbrev pub told_of_numbers : Stats
+told_of_numbers = record no_stats {
+  least = Exact (i32 1);
+  greatest = Inexact (i32 9);
+  total = Exact (lone (V.number (N.I64 (pos 10))));
+  is_sorted = Inexact (flag true);
+  is_constant = Exact (flag false);
+  null_count = Exact (count 2);
+}
+
+abbrev pub told_numbers : Tree
+told_numbers = with_stats told_of_numbers numbers
+
+-- One float, with this sum.
+abbrev pub summed : Told → Tree
+summed x = with_stats (record no_stats { total = x }) (array (number_type P.F64 NonNullable) 1 (B.primitive (record { values = buffer (0 ∷ 0 ∷ 0 ∷ 0 ∷ 0 ∷ 0 ∷ 0 ∷ 0 ∷ []) 3 })) [])
+
+-- A dictionary whose values tell their least one.
+abbrev pub told_values : Nullability → Tree
+told_values m =
+    array (number_type P.U16 Nullable) 2 (B.dict (record { all_values_referenced = true }))
+    (u8s Nullable (0 ∷ 1 ∷ []) (bits 2 1 ∷ [])
+    ∷ with_stats (record no_stats { least = Exact (u16 3) }) (array (number_type P.U16 m) 2 (B.primitive (record { values = buffer (two (3 ∷ 4 ∷ [])) 1 })) []) ∷ [])

@@ -3,3 +3,4 @@ mod Rising
 mod Parted
 mod Flags
 mod AllInvalid
+mod Untold

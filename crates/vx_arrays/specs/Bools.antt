@@ -5,9 +5,9 @@ use Rattle.vx_trees.specs.Rose.{node, end}
 use Rattle.vx_types.specs.Kind.{boolean}
 use Rattle.vx_types.specs.declared.nullability.Nullability.{Nullability}
 use Rattle.vx_array_tree.specs.Body as B
-use Rattle.vx_array_tree.specs.Tree.{Tree, option_trees}
+use Rattle.vx_array_tree.specs.Tree.{Tree, option_trees, untold}
 
 -- So many flags in a buffer of bits, from one of the bits on: a node over the validity, where one stands.
 abbrev pub bool_tree : Buffer → ℕ → ℕ → Nullability → Option Tree → Tree
 bool_tree bits offset n m validity =
-    node (record { dtype = node (boolean m) end; len = n; body = B.bool (record { bits = bits; offset = offset }) }) (option_trees validity)
+    node (untold (node (boolean m) end) n (B.bool (record { bits = bits; offset = offset }))) (option_trees validity)

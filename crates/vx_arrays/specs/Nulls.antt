@@ -3,8 +3,8 @@ use Rattle.std.specs.Prelude.{ℕ}
 use Rattle.vx_trees.specs.Rose.{node, end}
 use Rattle.vx_types.specs.Kind.{null}
 use Rattle.vx_array_tree.specs.Body as B
-use Rattle.vx_array_tree.specs.Tree.{Tree}
+use Rattle.vx_array_tree.specs.Tree.{Tree, untold}
 
 -- So many nulls: one node, of the type of nulls.
 abbrev pub null_tree : ℕ → Tree
-null_tree n = node (record { dtype = node null end; len = n; body = B.null }) end
+null_tree n = node (untold (node null end) n B.null) end

@@ -6,6 +6,7 @@ use Rattle.vx_types.specs.Value as V
 use Rattle.vx_array_tree.specs.Body as B
 use Rattle.vx_array_tree.specs.Tree.{Head}
 use Rattle.vx_scalars.specs.Decimals.{decimal_of}
+use Rattle.vx_scalars.specs.Stats.{Stats}
 use Rattle.vx_arrays.specs.declared.body.Body.{Body}
 use Rattle.vx_arrays.specs.declared.body.Body.TheVariants.{Null, Primitive, Bool, Decimal, VarBin}
 use Rattle.vx_arrays.specs.declared.row.RowValue.{RowValue}
@@ -19,9 +20,9 @@ plain_body (Bool x) = B.bool x
 plain_body (Decimal x) = B.decimal x
 plain_body (VarBin x) = B.varbin x
 
--- A node without its children, by its type, its rows and what its encoding holds.
-abbrev pub head_of : Typ → ℕ → Body → Head
-head_of d n b = record { dtype = d; len = n; body = plain_body b }
+-- A node without its children, by its type, its rows, what is told of them, and what its encoding holds.
+abbrev pub head_of : Typ → ℕ → Stats → Body → Head
+head_of d n x b = record { dtype = d; len = n; stats = x; body = plain_body b }
 
 -- The value of a row.
 abbrev pub plain_value : RowValue → Value

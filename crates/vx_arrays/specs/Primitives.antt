@@ -6,9 +6,9 @@ use Rattle.vx_types.specs.Kind.{primitive}
 use Rattle.vx_types.specs.declared.nullability.Nullability.{Nullability}
 use Rattle.vx_types.specs.declared.ptype.PType.{PType}
 use Rattle.vx_array_tree.specs.Body as B
-use Rattle.vx_array_tree.specs.Tree.{Tree, option_trees}
+use Rattle.vx_array_tree.specs.Tree.{Tree, option_trees, untold}
 
 -- So many numbers of a kind, in a buffer: a node over the validity, where one stands.
 abbrev pub primitive_tree : PType → Nullability → ℕ → Buffer → Option Tree → Tree
 primitive_tree p m n values validity =
-    node (record { dtype = node (primitive p m) end; len = n; body = B.primitive (record { values = values }) }) (option_trees validity)
+    node (untold (node (primitive p m) end) n (B.primitive (record { values = values }))) (option_trees validity)

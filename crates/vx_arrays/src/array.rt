@@ -1,16 +1,18 @@
 //! Arrays, each a tree of nodes, and what they tell of themselves.
 
-ghost use Rattle.std.specs.Prelude.{◌≡◌, ◌<◌, ◌≤◌, ◌==◌, length, IfOk, IfErr, IsOk, IsOkUnless, Some, slice_get};
+ghost use Rattle.std.specs.Prelude.{◌≡◌, ◌<◌, ◌≤◌, ◌==◌, length, IfOk, IfErr, OnOk, OnErr, IsOk, IsOkUnless, Some, slice_get};
 ghost use Rattle.vx_trees.specs.Everywhere.{EverywhereBelow};
 ghost use Rattle.vx_trees.specs.Rose.{label, below, node, end, roses_of};
 ghost use Rattle.vx_types.specs.Kind.{boolean};
 ghost use Rattle.vx_types.specs.Seen.{typ};
 ghost use Rattle.vx_types.specs.Value.{natural};
+ghost use Rattle.vx_scalars.specs.Stats.{FitStats};
 ghost use Rattle.vx_types.specs.declared.nullability.Nullability.TheVariants.{NonNullable};
+ghost use Rattle.vx_array_tree.specs.Refused.{IsWellShaped};
 ghost use Rattle.vx_array_tree.specs.Rows.{flag_in};
 ghost use Rattle.vx_array_tree.specs.Sound.{IsSound, IsSoundNode};
-ghost use Rattle.vx_array_tree.specs.Table.{id_of, encoding_of, buffers_of};
-ghost use Rattle.vx_array_tree.specs.Tree.{rows_of, row_at, valid_at, cells};
+ghost use Rattle.vx_array_tree.specs.Table.{id_of, encoding_of, buffers_of, Content};
+ghost use Rattle.vx_array_tree.specs.Tree.{rows_of, rows_below, row_at, valid_at, cells, untold, with_stats};
 ghost use Rattle.vx_arrays.specs.Plain.{plain_body, head_of, plain_value};
 ghost use Rattle.vx_arrays.specs.Refused.{IsRowRefused};
 
@@ -22,13 +24,15 @@ use crate::validity::validity_at;
 use std::alloc::Global;
 use std::marker::Model;
 use vx_buffer::BufferHandle;
+use vx_scalars::{ScalarError, StatsSet};
 use vx_types::DType;
 
-/// An array: a tree of nodes that is sound as a whole.
+/// An array: a tree of nodes that is sound as a whole, each with its statistics.
 #[derive(Drop)]
 pub struct Array {
     dtype: DType,
     len: usize,
+    stats: StatsSet,
     body: Body,
     children: Vec<Array>,
 }
@@ -48,9 +52,9 @@ impl Model for Array {
     ghost use Rattle.vx_array_tree.specs.Sound.{IsSound};
     ghost use Rattle.vx_arrays.specs.Plain.{head_of};
 
-    ghost view = { λ a. node (head_of (typ a.dtype) a.len a.body) (roses_of a.children.items) };
+    ghost view = { λ a. node (head_of (typ a.dtype) a.len a.stats a.body) (roses_of a.children.items) };
 
-    ghost invariant = { λ a. IsSound (node (head_of (typ a.dtype) a.len a.body) (roses_of a.children.items)) };
+    ghost invariant = { λ a. IsSound (node (head_of (typ a.dtype) a.len a.stats a.body) (roses_of a.children.items)) };
 
     ghost size = { nodes };
 
@@ -58,15 +62,35 @@ impl Model for Array {
 }
 
 impl Array {
-    // An array of parts that are sound together.
+    // An array of parts that fit together, without statistics.
+    #[tactic(auto, using(crate::proofs::Untold::untold_sound))]
     pub(crate) fn from_parts(dtype: DType, len: usize, body: Body, children: Vec<Array>) -> Array
-        requires node { IsSoundNode (head_of (typ dtype) len body) (roses_of children.items) }
+        requires shaped { IsWellShaped (untold (typ dtype) len (plain_body body)) (roses_of children.items) }
+        requires content { Content (typ dtype) len (plain_body body) (rows_below (roses_of children.items)) }
         requires below { EverywhereBelow IsSoundNode (roses_of children.items) }
-        ensures { result ≡ node (head_of (typ dtype) len body) (roses_of children.items) }
+        ensures array { result ≡ node (untold (typ dtype) len (plain_body body)) (roses_of children.items) }
+        ensures sound { IsSound result }
+    {
+        let stats = StatsSet::new(*children.allocator());
+        Array::with_parts(dtype, len, stats, body, children)
+    }
+
+    // An array of parts that are sound together.
+    fn with_parts(
+        dtype: DType,
+        len: usize,
+        stats: StatsSet,
+        body: Body,
+        children: Vec<Array>,
+    ) -> Array
+        requires node { IsSoundNode (head_of (typ dtype) len stats body) (roses_of children.items) }
+        requires below { EverywhereBelow IsSoundNode (roses_of children.items) }
+        ensures { result ≡ node (head_of (typ dtype) len stats body) (roses_of children.items) }
     {
         Array {
             dtype,
             len,
+            stats,
             body,
             children,
         }
@@ -93,6 +117,27 @@ impl Array {
         ensures { result ≡ ((label self.now).len == 0) }
     {
         self.len == 0
+    }
+
+    /// What is told of the rows. Arrays are made without statistics.
+    pub fn statistics(&self) -> &StatsSet
+        ensures stats { result.now ≡ (label self.now).stats }
+        ensures fits { FitStats (label self.now).dtype (label self.now).stats }
+    {
+        &self.stats
+    }
+
+    /// Other statistics in place of those that were told, at the root alone. `BadScalar` exactly
+    /// where one of them is no value of its type; the array then stays as it was.
+    pub fn set_all(&mut self, stats: StatsSet) -> Result<(), ScalarError>
+        ensures ok { OnOk result (self.new ≡ with_stats stats self.old) }
+        ensures fits { OnOk result (FitStats (label self.old).dtype stats) }
+        ensures unchanged { OnErr result (self.new ≡ self.old) }
+        ensures err { IfErr result (λ e. (e ≡ ScalarError.BadScalar) × (FitStats (label self.old).dtype stats → ⊥)) }
+    {
+        stats.validate(&self.dtype)?;
+        self.stats = stats;
+        Ok(())
     }
 
     /// What the root's encoding holds.
@@ -142,6 +187,7 @@ impl Array {
     }
 
     /// Whether the row is there; None where that is not known.
+    #[tactic(auto, using(crate::proofs::Untold::untold_node))]
     pub fn is_valid(&self, index: usize) -> Option<bool>
         requires { index < (label self.now).len }
         ensures { result ≡ valid_at self.now index }
@@ -173,7 +219,7 @@ impl Array {
     }
 
     // The row as a natural number; None where it is none, or is not there, or nothing is known of it.
-    #[tactic(auto, using(crate::proofs::Naturals::naturals))]
+    #[tactic(auto, using(crate::proofs::Naturals::naturals, crate::proofs::Untold::untold_node))]
     pub(crate) fn natural_at(&self, index: usize) -> Option<u64>
         requires { index < (label self.now).len }
         ensures { result ≡ natural (row_at self.now index) }
@@ -189,6 +235,7 @@ impl Array {
     }
 
     /// The row's value, if it takes at most `budget` cells.
+    #[tactic(auto, using(crate::proofs::Untold::untold_node))]
     pub fn value_at(&self, alloc: Global, index: usize, budget: u64) -> Result<RowValue, ArrayError>
         requires { index < (label self.now).len }
         ensures row { IfOk result (λ row. plain_value row ≡ row_at self.now index) }
@@ -238,7 +285,11 @@ impl Array {
             Ok(dtype) => dtype,
             Err(_) => return Err(ArrayError::OutOfMemory),
         };
+        let stats = match self.statistics().clone(alloc) {
+            Ok(stats) => stats,
+            Err(_) => return Err(ArrayError::OutOfMemory),
+        };
         let body = self.body().clone(alloc)?;
-        Ok(Array::from_parts(dtype, self.len(), body, children))
+        Ok(Array::with_parts(dtype, self.len(), stats, body, children))
     }
 }

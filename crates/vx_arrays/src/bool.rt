@@ -7,7 +7,7 @@ ghost use Rattle.vx_array_tree.specs.Body as B;
 ghost use Rattle.vx_array_tree.specs.Encodings.Bools.{bit_at, rows as rows_of_flags};
 ghost use Rattle.vx_array_tree.specs.Rows.{flag_in};
 ghost use Rattle.vx_array_tree.specs.Sound.{IsSound, IsSoundNode};
-ghost use Rattle.vx_array_tree.specs.Tree.{Head, rows_below};
+ghost use Rattle.vx_array_tree.specs.Tree.{rows_below, untold};
 ghost use Rattle.vx_arrays.specs.Bools.{bool_tree};
 ghost use Rattle.vx_arrays.specs.Plain.{plain_value};
 ghost use Rattle.vx_arrays.specs.Refused.{IsUnmade, IsRowRefused, IsOkOrMemory};
@@ -89,8 +89,7 @@ impl BoolData {
         index: usize,
         budget: u64,
     ) -> Result<RowValue, ArrayError>
-        requires sound { let head : Head = record { dtype = typ dtype.now; len = len; body = B.bool self.now } in
-            IsSoundNode head (roses_of children.now) }
+        requires sound { IsSoundNode (untold (typ dtype.now) len (B.bool self.now)) (roses_of children.now) }
         requires inside { index < len }
         ensures row { let rows = rows_of_flags len self.now (rows_below (roses_of children.now)) in
             IfOk result (λ row. plain_value row ≡ rows.row index) }

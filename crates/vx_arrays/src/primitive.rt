@@ -7,7 +7,7 @@ ghost use Rattle.vx_types.specs.Value.{natural};
 ghost use Rattle.vx_array_tree.specs.Encodings.Primitives.{rows as rows_of_numbers};
 ghost use Rattle.vx_array_tree.specs.Body as B;
 ghost use Rattle.vx_array_tree.specs.Sound.{IsSound, IsSoundNode};
-ghost use Rattle.vx_array_tree.specs.Tree.{Head, rows_below};
+ghost use Rattle.vx_array_tree.specs.Tree.{rows_below, untold};
 ghost use Rattle.vx_arrays.specs.Plain.{plain_value};
 ghost use Rattle.vx_arrays.specs.Primitives.{primitive_tree};
 ghost use Rattle.vx_arrays.specs.Refused.{IsUnmade, IsRowRefused, IsOkOrMemory};
@@ -67,8 +67,7 @@ impl PrimitiveData {
         index: usize,
         budget: u64,
     ) -> Result<RowValue, ArrayError>
-        requires sound { let head : Head = record { dtype = typ dtype.now; len = len; body = B.primitive self.now } in
-            IsSoundNode head (roses_of children.now) }
+        requires sound { IsSoundNode (untold (typ dtype.now) len (B.primitive self.now)) (roses_of children.now) }
         requires inside { index < len }
         ensures row { let rows = rows_of_numbers (typ dtype.now) len self.now (rows_below (roses_of children.now)) in
             IfOk result (λ row. plain_value row ≡ rows.row index) }
@@ -100,8 +99,7 @@ impl PrimitiveData {
         children: &[Array],
         index: usize,
     ) -> Option<u64>
-        requires sound { let head : Head = record { dtype = typ dtype.now; len = len; body = B.primitive self.now } in
-            IsSoundNode head (roses_of children.now) }
+        requires sound { IsSoundNode (untold (typ dtype.now) len (B.primitive self.now)) (roses_of children.now) }
         requires inside { index < len }
         ensures { let rows = rows_of_numbers (typ dtype.now) len self.now (rows_below (roses_of children.now)) in
             result ≡ natural (rows.row index) }

@@ -108,3 +108,16 @@ fn statistics_have_types(rt: HostRuntime) -> Result<(), Fail> {
     assert!(rt; variants_have(alloc, Stat::IsConstant)?);
     Ok(())
 }
+
+#[test]
+fn a_set_fits_a_type(rt: HostRuntime) -> Result<(), Fail> {
+    let set = sample(rt.alloc())?;
+    let numbers = DType::Primitive(PType::U64, Nullability::NonNullable);
+    let others = DType::Primitive(PType::U32, Nullability::NonNullable);
+    let variants = DType::Variant(Nullability::Nullable);
+    assert!(rt; set.validate(&numbers) == Ok(()));
+    assert!(rt; set.validate(&others) == Err(ScalarError::BadScalar));
+    assert!(rt; set.validate(&variants) == Err(ScalarError::BadScalar));
+    assert!(rt; StatsSet::new(rt.alloc()).validate(&variants) == Ok(()));
+    Ok(())
+}

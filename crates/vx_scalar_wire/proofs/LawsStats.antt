@@ -1,16 +1,21 @@
--- A table shows one set of statistics at most, which fits, and that of a set shows what is written of it.
-use Rattle.std.proofs.Common.{◌≡◌, ◌∙◌, sym}
+-- A table shows one set of statistics at most, which fits, and that of a set shows what is written of it, and is
+-- the table of what is written.
+use Rattle.std.specs.Prelude.{option_map}
+use Rattle.std.proofs.Common.{◌≡◌, ◌∙◌, sym, subst}
 use Rattle.vx_flat.specs.IsOf.{AreOf, IsOf}
 use Rattle.vx_flat.specs.Pieces.{table_pieces}
 use Rattle.vx_flat.specs.Schema.{Schema}
-use Rattle.vx_flat.specs.Value.{Field, absent, table, Fields}
+use Rattle.vx_flat.specs.Value.{Field, absent, number, table, Fields, no_fields, field}
+use Rattle.vx_proto.specs.Parts.{flag_number}
 use Rattle.vx_types.specs.Typ.{Typ}
 use Rattle.vx_types.specs.Value as V
 use Rattle.vx_types.specs.Well.{IsWell}
-use Rattle.vx_scalars.specs.Stats.{Stats, FitStats}
+use Rattle.vx_scalars.specs.Stats.{Told, Stats, FitStats}
+use Rattle.vx_scalars.proofs.LawsStats.{none_fit, written_sum_twice, written_flag_exact, written_count_exact}
 use Rattle.vx_scalar_wire.specs.StatsSchema.{stats_fields, stats_schema}
 use Rattle.vx_scalar_wire.specs.StatsShown.{ShowsStats, ShowsStatsIn}
-use Rattle.vx_scalar_wire.specs.StatsTable.{AreStorable, canonical_sum, stats_pieces, stats_table, written_stats}
+use Rattle.vx_scalars.specs.WrittenStats.{canonical_sum, written_stats}
+use Rattle.vx_scalar_wire.specs.StatsTable.{IsStorable, AreStorable, value_field, precision_of, number_field, stats_pieces, stats_table}
 use Rattle.vx_scalar_wire.proofs.StatsBack.{stats_back, sum_well}
 use Rattle.vx_scalar_wire.proofs.StatsEntries.{of_any, pieces_any}
 use Rattle.vx_scalar_wire.proofs.StatsRead.{stats_one, stats_fit}
@@ -29,9 +34,33 @@ one_set_in d _ t u h k = absurd h
 pub shown_fit : (d : Typ) (vs : Fields) (t : Stats) → ShowsStats d vs t → FitStats d t
 shown_fit d vs t h = stats_fit d vs t h
 
+pub shown_fit_in : (d : Typ) (f : Field) (t : Stats) → ShowsStatsIn d f t → FitStats d t
+shown_fit_in d absent t h = subst (λ (u : Stats). FitStats d u) (sym h) (none_fit d)
+shown_fit_in d (table vs) t h = stats_fit d vs t h
+shown_fit_in d _ t h = absurd h
+
 -- The table of a set that fits shows what is written of it.
 pub written_shown : (d : Typ) (t : Stats) → FitStats d t → AreStorable t → ShowsStats d (stats_table t) (written_stats t)
 written_shown d t f w = stats_back d t f w
+
+-- What is written of a set can be stored where the set can, and has the table of the set.
+pub written_storable : (t : Stats) → AreStorable t → AreStorable (written_stats t)
+written_storable t w = record { least = w.least; greatest = w.greatest; sum = subst (λ (x : Told). IsStorable x) (sym (written_sum_twice t.total)) w.sum }
+
+pub written_alike : (t : Stats) → stats_table (written_stats t) ≡ stats_table t
+written_alike t =
+    let total = written_sum_twice t.total in
+    let sorted = written_flag_exact t.is_sorted in
+    let strict = written_flag_exact t.is_strict_sorted in
+    let constant = written_flag_exact t.is_constant in
+    let nulls = written_count_exact t.null_count in
+    let size = written_count_exact t.uncompressed_size in
+    let nans = written_count_exact t.nan_count in
+    λ i. field (value_field t.least) (field (number (precision_of t.least))
+    (field (value_field t.greatest) (field (number (precision_of t.greatest))
+    (field (value_field (total i))
+    (field (number_field (option_map flag_number (sorted i))) (field (number_field (option_map flag_number (strict i))) (field (number_field (option_map flag_number (constant i)))
+    (field (number_field (nulls i)) (field (number_field (size i)) (field (number_field (nans i)) no_fields))))))))))
 
 -- A sum in its written form is well.
 pub canonical_well : (v : V.Value) → IsWell v → IsWell (canonical_sum v)

@@ -7,26 +7,25 @@ use Rattle.vx_proto.specs.Written.{nested}
 use Rattle.vx_proto.proofs.LawsOfMessages.{written_shown}
 use Rattle.vx_trees.specs.Rose.{Roses, node, end, count}
 use Rattle.vx_type_wire.specs.Known.{no_readers}
-use Rattle.vx_types.specs.Fits.{Fits, EachFits, FitBy, FitParts, FitsMember, IsOf, IsVariant, bare}
+use Rattle.vx_types.specs.Fits.{Fits, EachFits, FitBy, FitParts, FitsMember, IsVariant, bare}
 use Rattle.vx_types.specs.Kind as K
 use Rattle.vx_types.specs.Kind.{Kind}
-use Rattle.vx_types.specs.Numbers.{kind_of}
 use Rattle.vx_types.specs.Typ.{Typ}
 use Rattle.vx_types.specs.Value as V
-use Rattle.vx_types.specs.Value.{is_null}
 use Rattle.vx_types.specs.Well.{IsInRange, IsWell}
-use Rattle.vx_types.specs.declared.ptype.PType.{PType}
 use Rattle.vx_types.specs.declared.value.PValue.{PValue}
 use Rattle.vx_types.specs.declared.value.PValue.TheVariants.{U8, U16, U32, U64, I8, I16, I32, I64, F16, F32, F64}
 use Rattle.vx_scalars.specs.StatTypes.{ordered, sum_type, stat_type}
 use Rattle.vx_scalars.specs.Stats.{Told, Stats, told_at, FitsTold, FitStats}
+use Rattle.vx_scalars.proofs.LawsStats.{sum_fits, sum_null}
 use Rattle.vx_scalars.specs.declared.precision.Precision.TheVariants.{Exact, Inexact, Absent}
 use Rattle.vx_scalars.specs.declared.stat.Stat.TheVariants.{Min, Max, Sum, IsSorted, IsStrictSorted, IsConstant, NullCount, UncompressedSizeInBytes, NaNCount}
-use Rattle.vx_scalar_wire.specs.Nans.{quiet, nan_canonical}
+use Rattle.vx_scalars.specs.Nans.{quiet, nan_canonical}
 use Rattle.vx_scalar_wire.specs.Reading.{IsKnownValue, AreKnownValues, ShowsValue}
 use Rattle.vx_scalar_wire.specs.ScalarMessage.{scalar_lists, scalar_lists_lawful, value_message, number_member}
 use Rattle.vx_scalar_wire.specs.StatsShown.{ShowsBound, ShowsSum, ShowsFlag, ShowsCount, ShowsStats}
-use Rattle.vx_scalar_wire.specs.StatsTable.{IsStorable, AreStorable, canonical_sum, written_sum, exact_flag, exact_count, told_mark, written_flag, written_count, written_stats, value_bytes, value_field, precision_of, number_field, flag_field, count_field, stats_table}
+use Rattle.vx_scalars.specs.WrittenStats.{canonical_sum, written_sum, exact_flag, exact_count, told_mark, written_flag, written_count, written_stats}
+use Rattle.vx_scalar_wire.specs.StatsTable.{IsStorable, AreStorable, value_bytes, value_field, precision_of, number_field, flag_field, count_field, stats_table}
 use Rattle.vx_scalar_wire.proofs.Form.{value_form}
 use Rattle.vx_scalar_wire.proofs.LawsScalars.{written-reads}
 
@@ -129,12 +128,6 @@ one_below false x y most h k = h
 quiet_below : (sign infinity nan most bits : ℕ) → bits < most → nan < most → quiet sign infinity nan bits < most
 quiet_below sign infinity nan most bits h k = one_below (nat_lt infinity (bits % sign)) nan bits most h k
 
-same_kind : (n : PValue) → kind_of n ≡ kind_of (nan_canonical n)
-same_kind (F16 n) = refl
-same_kind (F32 n) = refl
-same_kind (F64 n) = refl
-same_kind _ = refl
-
 in_range : (n : PValue) → IsInRange n → IsInRange (nan_canonical n)
 in_range (F16 n) h = quiet_below (2 ^ 15) 31744 32256 (2 ^ 16) n h (omega arith)
 in_range (F32 n) h = quiet_below (2 ^ 31) 2139095040 2143289344 (2 ^ 32) n h (omega arith)
@@ -144,14 +137,6 @@ in_range _ h = h
 pub sum_well : (v : V.Value) → IsWell v → IsWell (canonical_sum v)
 sum_well (node (V.number n) vs) h = (in_range n h.0, h.1)
 sum_well _ h = h
-
-sum_fits : (v : V.Value) (d : Typ) → Fits v d → Fits (canonical_sum v) d
-sum_fits (node (V.number n) vs) d h = (subst (λ (p : PType). IsOf p (bare d)) (same_kind n) h.0, h.1)
-sum_fits _ d h = h
-
-sum_null : (v : V.Value) → is_null (canonical_sum v) ≡ is_null v
-sum_null (node (V.number n) vs) = refl
-sum_null _ = refl
 
 -- ---- each statistic
 

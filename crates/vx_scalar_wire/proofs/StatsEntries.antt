@@ -15,7 +15,8 @@ use Rattle.vx_scalars.specs.Stats.{Told, Stats}
 use Rattle.vx_scalars.specs.declared.precision.Precision.TheVariants.{Exact, Inexact, Absent}
 use Rattle.vx_scalar_wire.specs.StatsBlocks.{stored_field, IsStoredOf, vector_entry, number_entry, flag_entry, count_entry, table_entries, vector_pieces, vector_links}
 use Rattle.vx_scalar_wire.specs.StatsSchema.{stats_fields, stats_schema}
-use Rattle.vx_scalar_wire.specs.StatsTable.{value_bytes, value_field, precision_of, written_sum, exact_flag, exact_count, number_field, flag_field, count_field, stats_table, stats_pieces}
+use Rattle.vx_scalars.specs.WrittenStats.{written_sum, exact_flag, exact_count}
+use Rattle.vx_scalar_wire.specs.StatsTable.{value_bytes, value_field, precision_of, number_field, flag_field, count_field, stats_table, stats_pieces}
 use Rattle.vx_scalar_wire.specs.declared.stats.entries.Stored.{Stored}
 
 -- ---- entries

@@ -8,7 +8,8 @@ use Rattle.vx_flat.specs.Pieces.{Piece, elements_piece, default_entry}
 use Rattle.vx_flat.specs.Value.{Field, absent, elements}
 use Rattle.vx_proto.specs.Parts.{flag_number}
 use Rattle.vx_scalars.specs.Stats.{Told, Stats}
-use Rattle.vx_scalar_wire.specs.StatsTable.{value_field, precision_of, exact_flag, exact_count, written_sum}
+use Rattle.vx_scalars.specs.WrittenStats.{exact_flag, exact_count, written_sum}
+use Rattle.vx_scalar_wire.specs.StatsTable.{value_field, precision_of}
 use Rattle.vx_scalar_wire.specs.declared.stats.entries.Stored.{Stored}
 
 -- ---- entries

@@ -1,76 +1,18 @@
 -- The table in which a set of statistics is written.
-use Rattle.std.specs.Prelude.{ℕ, ◌<◌, ◌^◌, Bool, List, length, Option, Some, None, option_map}
+use Rattle.std.specs.Prelude.{ℕ, ◌<◌, ◌^◌, List, length, Option, Some, None, option_map}
 use Rattle.vx_flat.specs.Pieces.{Piece, pieces}
 use Rattle.vx_flat.specs.Value.{Field, absent, number, elements, Fields, no_fields, field}
-use Rattle.vx_trees.specs.Rose.{node}
 use Rattle.vx_proto.specs.Parts.{flag_number}
 use Rattle.vx_proto.specs.Written.{written}
 use Rattle.vx_types.specs.Value as V
-use Rattle.vx_types.specs.Value.{lone}
 use Rattle.vx_types.specs.Well.{IsWell}
-use Rattle.vx_types.specs.declared.value.PValue.TheVariants.{U64}
 use Rattle.vx_scalars.specs.Stats.{Told, Stats}
+use Rattle.vx_scalars.specs.WrittenStats.{written_sum, exact_flag, exact_count}
 use Rattle.vx_scalars.specs.declared.precision.Precision.TheVariants.{Exact, Inexact, Absent}
-use Rattle.vx_scalar_wire.specs.Nans.{nan_canonical}
 use Rattle.vx_scalar_wire.specs.ScalarMessage.{scalar_lists, value_message}
 use Rattle.vx_scalar_wire.specs.StatsSchema.{stats_schema}
 
--- ---- what is written of a set
-
--- A sum that is no number is written as the NaN of its width.
-abbrev pub canonical_sum : V.Value → V.Value
-canonical_sum (node (V.number n) vs) = node (V.number (nan_canonical n)) vs
-canonical_sum v = v
-
--- A sum is written where it is exact,
-abbrev pub written_sum : Told → Told
-written_sum (Exact v) = Exact (canonical_sum v)
-written_sum _ = Absent
-
--- a flag where it is exact and a flag,
-abbrev pub flag_in : V.Value → Option Bool
-flag_in (node (V.bool b) vs) = Some b
-flag_in _ = None
-
-abbrev pub exact_flag : Told → Option Bool
-exact_flag (Exact v) = flag_in v
-exact_flag _ = None
-
--- and a count where it is exact and a U64.
-abbrev pub count_in : V.Value → Option ℕ
-count_in (node (V.number (U64 n)) vs) = Some n
-count_in _ = None
-
-abbrev pub exact_count : Told → Option ℕ
-exact_count (Exact v) = count_in v
-exact_count _ = None
-
--- What is told by a mark that stands.
-abbrev pub told_mark : Option V.Mark → Told
-told_mark None = Absent
-told_mark (Some m) = Exact (lone m)
-
-abbrev pub written_flag : Told → Told
-written_flag x = told_mark (option_map (λ b. V.bool b) (exact_flag x))
-
-abbrev pub written_count : Told → Told
-written_count x = told_mark (option_map (λ n. V.number (U64 n)) (exact_count x))
-
--- The least and the greatest value are written exact or not.
-abbrev pub written_stats : Stats → Stats
-written_stats t = record {
-  least = t.least;
-  greatest = t.greatest;
-  total = written_sum t.total;
-  is_sorted = written_flag t.is_sorted;
-  is_strict_sorted = written_flag t.is_strict_sorted;
-  is_constant = written_flag t.is_constant;
-  null_count = written_count t.null_count;
-  uncompressed_size = written_count t.uncompressed_size;
-  nan_count = written_count t.nan_count;
-}
-
--- ---- its table
+-- ---- the table
 
 -- A value as the bytes of its message.
 abbrev pub value_bytes : V.Value → List ℕ

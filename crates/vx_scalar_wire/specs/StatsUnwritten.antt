@@ -7,7 +7,8 @@ use Rattle.vx_scalars.specs.Stats.{Told, Stats}
 use Rattle.vx_scalars.specs.declared.precision.Precision.TheVariants.{Exact, Inexact, Absent}
 use Rattle.vx_scalar_wire.specs.ScalarMessage.{value_message}
 use Rattle.vx_scalar_wire.specs.Shallow.{IsShallow}
-use Rattle.vx_scalar_wire.specs.StatsTable.{stats_pieces, written_sum}
+use Rattle.vx_scalars.specs.WrittenStats.{written_sum}
+use Rattle.vx_scalar_wire.specs.StatsTable.{stats_pieces}
 use Rattle.vx_scalar_wire.specs.Writing.{IsUnwrittenBytes}
 use Rattle.vx_scalar_wire.specs.declared.error.ScalarWireError.{ScalarWireError}
 use Rattle.vx_scalar_wire.specs.declared.error.ScalarWireError.TheVariants.{OutOfMemory, MessageTooLong}

@@ -1,7 +1,7 @@
 //! Sums that are no number.
 
 ghost use Rattle.std.specs.Prelude.{◌≡◌};
-ghost use Rattle.vx_scalar_wire.specs.Nans.{nan_canonical};
+ghost use Rattle.vx_scalars.specs.Nans.{nan_canonical};
 
 use vx_types::PValue;
 

@@ -7,3 +7,5 @@ pub mod Falling
 pub mod StatTypes
 pub mod Stats
 pub mod Places
+pub mod Nans
+pub mod WrittenStats

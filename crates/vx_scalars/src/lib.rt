@@ -8,6 +8,7 @@ pub mod fits;
 pub mod precision;
 pub mod scalar;
 pub mod stat;
+mod stats_fit;
 pub mod stats_set;
 pub mod value;
 pub mod value_ref;

@@ -105,7 +105,7 @@ fn ordered_dtype(alloc: Global, dtype: &DType) -> Result<Option<DType>, ScalarEr
 }
 
 // The type of the sum of rows of a type, where they have one.
-fn sum_dtype(dtype: &DType) -> Option<DType>
+pub(crate) fn sum_dtype(dtype: &DType) -> Option<DType>
     ensures { option_map typ result ≡ sum_type (typ dtype.now) }
 {
     match dtype {

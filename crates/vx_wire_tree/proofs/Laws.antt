@@ -3,6 +3,7 @@ use Rattle.std.proofs.Common.{ℕ, ◌≡◌, List, Some, sym, ap, ◌∙◌}
 use Rattle.vx_buffer.specs.Buffer.{Buffer}
 use Rattle.vx_trees.specs.Rose.{node, label, count}
 use Rattle.vx_types.specs.Typ.{Typ}
+use Rattle.vx_array_tree.specs.Canon.{stats_written, KeepsStats}
 use Rattle.vx_array_tree.specs.Encoding.{Encoding}
 use Rattle.vx_array_tree.specs.Normal.{IsNormal}
 use Rattle.vx_array_tree.specs.Place.{Place}
@@ -11,31 +12,36 @@ use Rattle.vx_array_tree.specs.Tree.{Tree, Trees, rows_of}
 use Rattle.vx_array_tree.proofs.CanonLaws as Canon
 use Rattle.vx_array_tree.proofs.CanonPlaces.{canon_dtype, canon_len}
 use Rattle.vx_wire_tree.specs.Causes.{HasChildren, Refusal, RefusesTree}
-use Rattle.vx_wire_tree.specs.Codec.{Codec, IsLawful}
-use Rattle.vx_wire_tree.specs.Context.{Context, grown}
+use Rattle.vx_wire_tree.specs.Codec.{Codec, HasLawfulStats, IsLawful}
+use Rattle.vx_wire_tree.specs.Context.{Context, grown_by, grown}
 use Rattle.vx_wire_tree.specs.Limits.{HasMessages}
 use Rattle.vx_wire_tree.specs.Matches.{Matches, AllMatch}
-use Rattle.vx_wire_tree.specs.ReadBack.{IsWritten, HasKnownTypes}
+use Rattle.vx_wire_tree.specs.ReadBack.{IsWritten, HasKnownTypes, HasStorableStats}
 use Rattle.vx_wire_tree.specs.Session.{SessionMeaning, IsShipped, IsPaired, shipped}
-use Rattle.vx_wire_tree.specs.Steps.{PlansChildren, HasParts}
+use Rattle.vx_wire_tree.specs.Steps.{PlansChildren, HasParts, IsToldBy}
 use Rattle.vx_wire_tree.specs.Tells.{Tells}
-use Rattle.vx_wire_tree.specs.Wire.{Wire, Wires, WireHead, IsWhole, all_present}
+use Rattle.vx_wire_tree.specs.Wire.{Wire, Wires, WireHead, IsWhole, ids_in, all_present}
 use Rattle.vx_wire_tree.specs.Written.{wire, canon}
 use Rattle.vx_wire_tree.proofs.Built as Built
 use Rattle.vx_wire_tree.proofs.NeverRefused as NeverRefused
 use Rattle.vx_wire_tree.proofs.ReadAgain as ReadAgain
 use Rattle.vx_wire_tree.proofs.Unique as Unique
+use Rattle.vx_wire_tree.proofs.WrittenAlike as WrittenAlike
 
 module _ (c : Codec) (s : SessionMeaning) where
-  -- A sound normal array is read back as itself, and written as what is read back.
-  pub canon_own : (t : Tree) → IsSound t → IsNormal t → canon s t ≡ t
-  canon_own t x n = Canon.canon_own t x n
+  -- A sound normal array is read back as itself, where its statistics are kept, and in any case but for
+  -- statistics; it is written as what is read back.
+  pub canon_own : (t : Tree) → IsSound t → IsNormal t → KeepsStats t → canon s t ≡ t
+  canon_own t x n k = Canon.canon_own t x n k
 
-  pub canon_wire : (t : Tree) → IsSound t → IsNormal t → wire c s (canon s t) ≡ wire c s t
-  canon_wire t x n = ap (λ u. wire c s u) (canon_own t x n)
+  pub canon_written : (t : Tree) → IsSound t → IsNormal t → canon s t ≡ stats_written t
+  canon_written t x n = Canon.canon_written t x n
 
-  pub canon_grown : (ctx : Context) (t : Tree) → IsSound t → IsNormal t → grown c s ctx (canon s t) ≡ grown c s ctx t
-  canon_grown ctx t x n = ap (λ u. grown c s ctx u) (canon_own t x n)
+  pub canon_wire : HasLawfulStats c → (t : Tree) → IsSound t → IsNormal t → wire c s (canon s t) ≡ wire c s t
+  canon_wire law t x n = ap (λ u. wire c s u) (canon_written t x n) ∙ WrittenAlike.wire_alike c law s t
+
+  pub canon_grown : HasLawfulStats c → (ctx : Context) (t : Tree) → IsSound t → IsNormal t → grown c s ctx (canon s t) ≡ grown c s ctx t
+  canon_grown law ctx t x n = ap (λ w. grown_by (ids_in w) ctx) (canon_wire law t x n)
 
   -- What is read back of a sound array is sound and normal, has its rows, and is read back as itself.
   pub canon_sound : (t : Tree) → IsSound t → IsSound (canon s t)
@@ -49,6 +55,13 @@ module _ (c : Codec) (s : SessionMeaning) where
 
   pub canon_twice : (t : Tree) → IsSound t → canon s (canon s t) ≡ canon s t
   canon_twice t x = Canon.canon_twice t x
+
+  -- Its statistics are kept, and can be stored where the array's could.
+  pub canon_keeps : (t : Tree) → KeepsStats (canon s t)
+  canon_keeps t = Canon.canon_at_keeps (label t).dtype t
+
+  pub canon_storable : HasLawfulStats c → (t : Tree) → HasStorableStats c t → HasStorableStats c (canon s t)
+  canon_storable law t k = WrittenAlike.storable_at c law (label t).dtype t k
 
   -- Wire trees that match arrays one by one are as many as these.
   pub matched_count : (ws : Wires) (ts : Trees) → AllMatch c s ws ts → count ts ≡ count ws
@@ -69,20 +82,21 @@ module _ (c : Codec) (s : SessionMeaning) where
       pub never_refused : (r : Refusal) (w : Wire) (d : Typ) (n : ℕ) (t : Tree) → Tells c s w d n t → RefusesTree r c s w d n → ⊥
       never_refused r w d n t x k = NeverRefused.never_refused c s ok law r w d n t x k
 
-      -- A sound array of which each node is written, its metadata fits its message, and the types in it are
-      -- known, is told by its wire tree: as it is read back.
-      pub told_again : IsPaired s → (t : Tree) → IsSound t → IsWritten s t → HasMessages t → HasKnownTypes s t
+      -- A sound array of which each node is written, its metadata fits its message, the types in it are known,
+      -- and its statistics can be stored, is told by its wire tree: as it is read back.
+      pub told_again : IsPaired s → (t : Tree) → IsSound t → IsWritten s t → HasMessages t → HasKnownTypes s t → HasStorableStats c t
           → Tells c s (wire c s t) (label t).dtype (label t).len (canon s t)
-      told_again p t x w m k = record {
-        matched = ReadAgain.written_matches c s law t x (ReadAgain.reads_back s ok p t w m k);
+      told_again p t x w m k b = record {
+        matched = ReadAgain.written_matches c s law t x (ReadAgain.reads_back c s ok p t w m k b);
         dtype = canon_dtype (label t).dtype t;
         len = canon_len (label t).dtype t;
         sound = Canon.canon_sound t x;
         normal = Canon.canon_normal t x;
       }
 
-  -- A node whose children tell arrays where they are planned tells the array that is built of its parts.
-  pub node_tells : IsLawful c s → (id : List ℕ) (e : Encoding) (w : WireHead) (ws : Wires) (d : Typ) (n : ℕ) (ps : List Place) (bs : List Buffer) (ts : Trees) (t : Tree)
+  -- A node whose children tell arrays where they are planned tells the array that is built of its parts, with
+  -- the statistics that its field shows.
+  pub node_tells : IsLawful c s → (id : List ℕ) (e : Encoding) (w : WireHead) (ws : Wires) (d : Typ) (n : ℕ) (ps : List Place) (bs : List Buffer) (ts : Trees) (t u : Tree)
       → w.id ≡ Some id → s.reader id ≡ Some (shipped e) → PlansChildren c s.ext e d n w.metadata (count ws) ps → w.buffers ≡ all_present bs
-      → HasChildren c s (node w ws) ps ts → HasParts c s.ext e d n w.metadata bs ts t → IsSound t → Tells c s (node w ws) d n t
-  node_tells law id e w ws d n ps bs ts t i r p b k x y = Built.node_tells c s law id e w ws d n ps bs ts t i r p b k x y
+      → HasChildren c s (node w ws) ps ts → HasParts c s.ext e d n w.metadata bs ts t → IsSound t → IsToldBy c d w.stats t u → Tells c s (node w ws) d n u
+  node_tells law id e w ws d n ps bs ts t u i r p b k x y z = Built.node_tells c s law id e w ws d n ps bs ts t u i r p b k x y z

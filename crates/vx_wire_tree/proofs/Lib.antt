@@ -1,4 +1,5 @@
 pub mod Unique
+pub mod WrittenAlike
 pub mod ReadAgain
 pub mod NeverRefused
 pub mod Built

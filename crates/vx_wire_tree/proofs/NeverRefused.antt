@@ -14,7 +14,7 @@ use Rattle.vx_array_tree.specs.Sound.{IsSound, IsSoundNode, metadata_in}
 use Rattle.vx_array_tree.specs.Table.{encoding_of, buffers_of, body_of, plan_of, Allows, IsShaped, Takes, Content}
 use Rattle.vx_array_tree.specs.Tree.{Head, Tree, Trees, places, encodings, rows_below}
 use Rattle.vx_array_tree.proofs.NodeLaws.{planned_places, own_body}
-use Rattle.vx_wire_tree.specs.Causes.{LacksId, LacksBuffer, IsOf, IsUnregistered, HasBadMetadata, MayStandFor, AreOf, IsBroken, HasBadShape, HasChildren, HasBadContent, Refusal, out_of_bounds, unknown_index, unknown_encoding, bad_metadata, bad_shape, bad_content, RefusesTree}
+use Rattle.vx_wire_tree.specs.Causes.{LacksId, LacksBuffer, IsOf, IsUnregistered, HasBadMetadata, MayStandFor, AreOf, IsBroken, HasBadShape, HasChildren, HasBadContent, HasBadStats, Refusal, out_of_bounds, unknown_index, unknown_encoding, bad_metadata, bad_shape, bad_content, bad_stats, RefusesTree}
 use Rattle.vx_wire_tree.specs.Codec.{Codec, IsLawful}
 use Rattle.vx_wire_tree.specs.Matches.{IsEncodedNode, IsNodeBy, Matches, AllMatch}
 use Rattle.vx_wire_tree.specs.Placed.{IsPlannedBy, HasPlan, IsChild, Claim, HoldsAt, HoldsUnder}
@@ -139,7 +139,7 @@ module _ (c : Codec) (s : SessionMeaning) where
       -- ---- what a told node is read as
 
       value_is : (e : Encoding) (w : Wire) (h : Head) (ts : Trees) (v : Metadata) → IsEncodedBy e w (node h ts) → IsMetadata c s.ext e h.dtype (label w).metadata v → v ≡ metadata_in h ts
-      value_is e w h ts v x m = one_metadata c s e (law x.by.id e x.by.reader_is) h.dtype h.dtype (label w).metadata v (metadata_in h ts) refl m x.told.metadata
+      value_is e w h ts v x m = one_metadata c s e (law.messages x.by.id e x.by.reader_is) h.dtype h.dtype (label w).metadata v (metadata_in h ts) refl m x.told.metadata
 
       plan_is : (e : Encoding) (w : Wire) (h : Head) (ts : Trees) (v : Metadata) → IsEncodedBy e w (node h ts) → IsSoundNode h ts → IsNormalNode h ts → IsMetadata c s.ext e h.dtype (label w).metadata v
           → plan_of e h.dtype h.len v (count (below w)) ≡ Some (places ts)
@@ -213,6 +213,11 @@ module _ (c : Codec) (s : SessionMeaning) where
           let z = encoded_told w t y.encoding x.matched y.by in
           y.none (metadata_in (label t) (below t)) (subst (λ k. IsMetadata c s.ext y.encoding k (label w).metadata (metadata_in (label t) (below t))) x.dtype z.told.metadata)
 
+      stats_told : (w : Wire) (d : Typ) (n : ℕ) (t : Tree) → Tells c s w d n t → HasBadStats c s w d n → ⊥
+      stats_told w d n t x y =
+          let z = encoded_told w t y.encoding x.matched y.by in
+          y.none (label t).stats (subst (λ (k : Typ). c.ShowsStats k (label w).stats (label t).stats) x.dtype z.told.stats)
+
       -- The parts of a told node are of its encoding's shape.
       shaped_told : (e : Encoding) (w : Wire) (h : Head) (ts : Trees) (v : Metadata) → IsEncodedBy e w (node h ts) → IsSoundNode h ts → IsNormalNode h ts → v ≡ metadata_in h ts
           → IsShaped e h.dtype h.len v (buffers_of h.body) (count (below w))
@@ -267,3 +272,4 @@ module _ (c : Codec) (s : SessionMeaning) where
       never_refused bad_metadata w d n t x k = never_somewhere (HasBadMetadata c s) metadata_told k.0 w d n t x k.1
       never_refused bad_shape w d n t x k = never_somewhere (HasBadShape c s) (at_own (HasBadShape c s) shape_at) k.0 w d n t x k.1
       never_refused bad_content w d n t x k = never_somewhere (HasBadContent c s) (at_own (HasBadContent c s) content_at) k.0 w d n t x k.1
+      never_refused bad_stats w d n t x k = never_somewhere (HasBadStats c s) stats_told k.0 w d n t x k.1

@@ -11,7 +11,7 @@ use Rattle.vx_array_tree.specs.Sound.{IsSound, IsSoundNode, metadata_in}
 use Rattle.vx_array_tree.specs.Table.{buffers_of}
 use Rattle.vx_array_tree.specs.Tree.{Head, Tree, Trees, places}
 use Rattle.vx_array_tree.proofs.NodeLaws.{IsSameNode, same_head, same_places}
-use Rattle.vx_wire_tree.specs.Codec.{Codec, IsLawful, IsLawfulAt}
+use Rattle.vx_wire_tree.specs.Codec.{Codec, HasLawfulStats, IsLawful, IsLawfulAt}
 use Rattle.vx_wire_tree.specs.Fields.{meant}
 use Rattle.vx_wire_tree.specs.Matches.{IsEncodedNode, IsNodeBy, Matches, AllMatch}
 use Rattle.vx_wire_tree.specs.Reads.{IsMetadata}
@@ -51,17 +51,18 @@ module _ (c : Codec) (s : SessionMeaning) where
 
   -- Two nodes of one encoding that match one wire node are equal, if their children are wherever they stand
   -- at equal places.
-  encoded_unique : (e : Encoding) → IsLawfulAt c e → (w : WireHead) (h g : Head) (ts us : Trees) (Below : Trees → Type 0)
+  encoded_unique : (e : Encoding) → IsLawfulAt c e → HasLawfulStats c → (w : WireHead) (h g : Head) (ts us : Trees) (Below : Trees → Type 0)
       → IsEncodedNode c s e w (node h ts) Below → IsEncodedNode c s e w (node g us) Below
       → IsSoundNode h ts → IsSoundNode g us → IsNormalNode h ts → IsNormalNode g us → h.dtype ≡ g.dtype → h.len ≡ g.len
       → count ts ≡ count us → (Below ts → Below us → places ts ≡ places us → ts ≡ us) → node h ts ≡ node g us
-  encoded_unique e law w h g ts us Below a b sh sg nh ng d n k kids =
+  encoded_unique e law stats w h g ts us Below a b sh sg nh ng d n k kids =
       let same : IsSameNode h g ts us = record {
         dtype = d;
         len = n;
         encoding = a.encoding ∙ sym b.encoding;
         metadata = one_metadata e law h.dtype g.dtype w.metadata (metadata_in h ts) (metadata_in g us) d a.metadata b.metadata;
         buffers = all_present_inj (buffers_of h.body) (buffers_of g.body) (sym a.buffers ∙ b.buffers);
+        stats = stats.one_set g.dtype w.stats h.stats g.stats (subst (λ (z : Typ). c.ShowsStats z w.stats h.stats) d a.stats) b.stats;
         children = k;
       } in
       let head = same_head h g ts us same nh ng in
@@ -75,7 +76,7 @@ module _ (c : Codec) (s : SessionMeaning) where
         → (AllMatch c s ws ts → AllMatch c s ws us → places ts ≡ places us → ts ≡ us) → node h ts ≡ node g us
     node_unique None ok id q w ws h g ts us a b sh sg nh ng d n kids = absurd a
     node_unique (Some (shipped e)) ok id q w ws h g ts us a b sh sg nh ng d n kids =
-        encoded_unique e (law id e q) w h g ts us (λ vs. AllMatch c s ws vs) a b sh sg nh ng d n (all_count ws ts a.children ∙ sym (all_count ws us b.children)) kids
+        encoded_unique e (law.messages id e q) law.stats w h g ts us (λ vs. AllMatch c s ws vs) a b sh sg nh ng d n (all_count ws ts a.children ∙ sym (all_count ws us b.children)) kids
 
     same_id : (o : Option (List ℕ)) (i j : List ℕ) → o ≡ Some i → o ≡ Some j → i ≡ j
     same_id o i j p q = cc

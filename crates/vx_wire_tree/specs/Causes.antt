@@ -16,7 +16,7 @@ use Rattle.vx_wire_tree.specs.Matches.{AllMatch}
 use Rattle.vx_wire_tree.specs.Placed.{Claim, HoldsSomewhere, Anywhere}
 use Rattle.vx_wire_tree.specs.Reads.{IsMetadata}
 use Rattle.vx_wire_tree.specs.Session.{SessionMeaning, Reader, shipped}
-use Rattle.vx_wire_tree.specs.Steps.{HasNoMetadata}
+use Rattle.vx_wire_tree.specs.Steps.{HasNoMetadata, HasNoStats}
 use Rattle.vx_wire_tree.specs.Wire.{Wire, Wires, all_present}
 
 -- ---- any node
@@ -104,6 +104,12 @@ pub record HasBadContent (c : Codec) (s : SessionMeaning) (w : Wire) (d : Typ) (
   pub matched : HasChildren c s w places_are children
   pub broken : Content d n shaped.body (rows_below children) → ⊥
 
+-- A node that an encoding reads has a field that shows no statistics of its type.
+pub record HasBadStats (c : Codec) (s : SessionMeaning) (w : Wire) (d : Typ) (n : ℕ) : Type 0 where
+  pub encoding : Encoding
+  pub by : IsOf s w encoding
+  pub none : HasNoStats c d (label w).stats
+
 -- ---- the whole tree
 
 -- The refusals of a wire tree, by name.
@@ -114,6 +120,7 @@ pub data Refusal : Type 0 where
   bad_metadata : Refusal
   bad_shape : Refusal
   bad_content : Refusal
+  bad_stats : Refusal
 
 -- Why a wire tree tells no array at a type and a length, by the refusal. An identifier or a buffer may be
 -- missing at any node, placed or not; all else is said of placed nodes.
@@ -124,6 +131,7 @@ RefusesTree unknown_encoding c s w d n = HoldsSomewhere c s (IsUnregistered s) w
 RefusesTree bad_metadata c s w d n = HoldsSomewhere c s (HasBadMetadata c s) w d n
 RefusesTree bad_shape c s w d n = HoldsSomewhere c s (HasBadShape c s) w d n
 RefusesTree bad_content c s w d n = HoldsSomewhere c s (HasBadContent c s) w d n
+RefusesTree bad_stats c s w d n = HoldsSomewhere c s (HasBadStats c s) w d n
 
 -- ---- writing
 

@@ -11,11 +11,12 @@ use Rattle.vx_wire_tree.specs.Session.{SessionMeaning, Reader, shipped}
 use Rattle.vx_wire_tree.specs.Wire.{WireHead, Wire, Wires, all_present}
 
 -- A node of an encoding: the array is of that encoding, the metadata is its own, the buffers are equal with
--- their exponents, and the children match.
+-- their exponents, the statistics are those that the field shows, and the children match.
 pub record IsEncodedNode (c : Codec) (s : SessionMeaning) (e : Encoding) (w : WireHead) (t : Tree) (Below : Trees → Type 0) : Type 0 where
   pub encoding : encoding_of (label t).body ≡ e
   pub metadata : IsMetadata c s.ext e (label t).dtype w.metadata (metadata_in (label t) (below t))
   pub buffers : w.buffers ≡ all_present (buffers_of (label t).body)
+  pub stats : c.ShowsStats (label t).dtype w.stats (label t).stats
   pub children : Below (below t)
 
 -- A node by what reads its identifier; one that nothing reads tells no array.

@@ -4,12 +4,14 @@ use Rattle.vx_buffer.specs.Buffer.{Buffer}
 use Rattle.vx_trees.specs.Rose.{node, count}
 use Rattle.vx_types.specs.Known.{ExtMeaning}
 use Rattle.vx_types.specs.Typ.{Typ}
+use Rattle.vx_flat.specs.Value.{Field}
+use Rattle.vx_scalars.specs.Stats.{Stats}
 use Rattle.vx_array_tree.specs.Body.{Body}
 use Rattle.vx_array_tree.specs.Encoding.{Encoding}
 use Rattle.vx_array_tree.specs.Metadata.{Metadata}
 use Rattle.vx_array_tree.specs.Place.{Place}
 use Rattle.vx_array_tree.specs.Table.{body_of, plan_of, Takes, Content, IsShaped}
-use Rattle.vx_array_tree.specs.Tree.{Tree, Trees, encodings, rows_below}
+use Rattle.vx_array_tree.specs.Tree.{Tree, Trees, encodings, rows_below, untold, with_stats}
 use Rattle.vx_wire_tree.specs.Codec.{Codec}
 use Rattle.vx_wire_tree.specs.Reads.{IsMetadata}
 
@@ -34,13 +36,13 @@ pub record HasNoPlan (c : Codec) (x : ExtMeaning) (e : Encoding) (d : Typ) (n : 
 
 -- ---- building, of what a plan has said: metadata that is read, and children that stand where they are planned
 
--- What is built: the node that metadata and buffers give, over these children.
+-- What is built: the node that metadata and buffers give, over these children and without statistics.
 pub record HasParts (c : Codec) (x : ExtMeaning) (e : Encoding) (d : Typ) (n : ℕ) (bytes : List ℕ) (bs : List Buffer) (ts : Trees) (t : Tree) : Type 0 where
   pub value : Metadata
   pub metadata : IsMetadata c x e d bytes value
   pub body : Body
   pub body_is : body_of e value bs ≡ Some body
-  pub tree_is : t ≡ node (record { dtype = d; len = n; body = body }) ts
+  pub tree_is : t ≡ node (untold d n body) ts
 
 -- Parts break their encoding's row: their shape is wrong, or the children are of encodings that may not stand
 -- below it.
@@ -55,3 +57,15 @@ pub record HasWrongContent (c : Codec) (x : ExtMeaning) (e : Encoding) (d : Typ)
   pub metadata : IsMetadata c x e d bytes value
   pub shaped : IsShaped e d n value bs (count ts)
   pub wrong : Content d n shaped.body (rows_below ts) → ⊥
+
+-- ---- statistics, of what was built
+
+-- No statistics are shown of arrays of a type.
+abbrev pub HasNoStats : Codec → Typ → Field → Type 0
+HasNoStats c d f = (x : Stats) → c.ShowsStats d f x → ⊥
+
+-- An array of a type with the statistics that a field shows at its root.
+pub record IsToldBy (c : Codec) (d : Typ) (f : Field) (t u : Tree) : Type 0 where
+  pub stats : Stats
+  pub shown : c.ShowsStats d f stats
+  pub tree_is : u ≡ with_stats stats t

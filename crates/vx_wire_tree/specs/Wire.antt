@@ -1,16 +1,18 @@
 -- Trees as the wire tells them, before any encoding is looked at.
 use Rattle.std.specs.Prelude.{ℕ, ◌≡◌, List, [], ◌∷◌, Option, Some, None, map}
 use Rattle.vx_buffer.specs.Buffer.{Buffer}
+use Rattle.vx_flat.specs.Value.{Field}
 use Rattle.vx_trees.specs.Rose.{Rose, Roses}
 use Rattle.vx_trees.specs.Everywhere.{Everywhere}
 use Rattle.vx_trees.specs.Walks.{gathered}
 
--- A node: its identifier, its metadata and its buffers. An identifier or a buffer is missing where the index
--- that names it has none.
+-- A node: its identifier, its metadata, its buffers, and the field that may hold a table of statistics. An
+-- identifier or a buffer is missing where the index that names it has none.
 pub record WireHead : Type 0 where
   pub id : Option (List ℕ)
   pub metadata : List ℕ
   pub buffers : List (Option Buffer)
+  pub stats : Field
 
 -- A wire tree: a node with the nodes below it.
 abbrev pub Wire : Type 0

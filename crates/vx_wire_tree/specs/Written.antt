@@ -10,12 +10,13 @@ use Rattle.vx_wire_tree.specs.Fields.{told}
 use Rattle.vx_wire_tree.specs.Session.{SessionMeaning}
 use Rattle.vx_wire_tree.specs.Wire.{WireHead, Wire, Wires, all_present}
 
--- A node on the wire: its encoding's identifier, its metadata's message, its buffers.
+-- A node on the wire: its encoding's identifier, its metadata's message, its buffers, its statistics' field.
 abbrev pub wire_head : Codec → SessionMeaning → Head → Trees → WireHead
 wire_head c s h ts = record {
   id = Some (id_of (encoding_of h.body));
   metadata = c.fields_bytes (told (metadata_in h ts));
   buffers = all_present (buffers_of h.body);
+  stats = c.stats_field h.stats;
 }
 
 abbrev mutual

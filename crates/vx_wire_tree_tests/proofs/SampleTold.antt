@@ -1,7 +1,10 @@
 -- A wire tree of numbers, the array that it tells, and the causes of trees that tell none.
-use Rattle.std.proofs.Common.{ℕ, ◌≡◌, List, [], ◌∷◌, Option, Some, None, refl, sym, ap, subst, inl, inr, codes, length, arith}
+use Rattle.std.proofs.Common.{ℕ, zero, suc, ◌≡◌, List, [], ◌∷◌, Option, Some, None, refl, sym, ap, subst, inl, inr, codes, length, arith}
 use Rattle.std.proofs.lemmas.Option.{same_Some}
 use Rattle.vx_buffer.specs.Buffer.{Buffer}
+use Rattle.vx_flat.specs.Value.{Field, absent, number, text}
+use Rattle.vx_scalars.specs.Stats.{Stats, no_stats}
+use Rattle.vx_scalars.specs.declared.precision.Precision.TheVariants.{Exact}
 use Rattle.vx_trees.specs.Rose.{node, end}
 use Rattle.vx_types.specs.Known.{no_readers}
 use Rattle.vx_types.specs.Typ.{Typ}
@@ -13,8 +16,9 @@ use Rattle.vx_array_tree.specs.Encoding as E
 use Rattle.vx_array_tree.specs.Encodings.Primitives.{IsFilled}
 use Rattle.vx_array_tree.specs.Metadata as M
 use Rattle.vx_array_tree.specs.Table.{IsShaped, Holds}
-use Rattle.vx_array_tree_tests.proofs.Samples.{number_type, buffer, four, i32s}
-use Rattle.vx_wire_tree.specs.Causes.{IsOf, MayStandFor, out_of_bounds, unknown_index, unknown_encoding, bad_shape, RefusesTree}
+use Rattle.vx_array_tree.specs.Tree.{with_stats}
+use Rattle.vx_array_tree_tests.proofs.Samples.{number_type, buffer, four, i32s, count}
+use Rattle.vx_wire_tree.specs.Causes.{IsOf, MayStandFor, out_of_bounds, unknown_index, unknown_encoding, bad_shape, bad_stats, RefusesTree}
 use Rattle.vx_wire_tree.specs.Codec.{Codec}
 use Rattle.vx_wire_tree.specs.Fields as F
 use Rattle.vx_wire_tree.specs.Fields.{Fields}
@@ -28,8 +32,18 @@ Shows E.null bytes F.empty = bytes ≡ []
 Shows E.primitive bytes F.empty = bytes ≡ []
 Shows _ bytes f = ⊥
 
+-- So many rows are null.
+abbrev nulls : ℕ → Stats
+nulls n = record no_stats { null_count = Exact (count n) }
+
+-- A number tells how many rows are null.
+abbrev ShowsStats : Typ → Field → Stats → Type 0
+ShowsStats d absent x = x ≡ no_stats
+ShowsStats d (number n) x = x ≡ nulls n
+ShowsStats d _ x = ⊥
+
 abbrev codec : Codec
-codec = record { Shows = Shows; fields_bytes = λ f. [] }
+codec = record { Shows = Shows; fields_bytes = λ f. []; ShowsStats = ShowsStats; stats_field = λ x. absent; IsStorable = λ x. Unit {0} }
 
 -- One identifier is read, and nothing is written.
 abbrev session : Option Reader → SessionMeaning
@@ -42,7 +56,7 @@ abbrev name : List ℕ
 name = codes "vortex.primitive"
 
 abbrev numbers_of : Option (List ℕ) → List (Option Buffer) → Wire
-numbers_of id bs = node (record { id = id; metadata = []; buffers = bs }) end
+numbers_of id bs = node (record { id = id; metadata = []; buffers = bs; stats = absent }) end
 
 abbrev values : Buffer
 values = buffer (four (1 ∷ 2 ∷ 3 ∷ 4 ∷ [])) 2
@@ -59,9 +73,36 @@ matched = (
     encoding = refl;
     metadata = record { fields = F.empty; shown = refl; meaning = refl; fair = tt; known = tt };
     buffers = refl;
+    stats = refl;
     children = refl;
   },
 )
+
+-- The same with statistics, at a type that they fit.
+abbrev told_numbers : Field → Wire
+told_numbers f = node (record { id = Some name; metadata = []; buffers = Some values ∷ []; stats = f }) end
+
+matched_stats : Matches codec numbers_session (told_numbers (number 2)) (with_stats (nulls 2) (i32s NonNullable (1 ∷ 2 ∷ 3 ∷ 4 ∷ []) []))
+matched_stats = (
+  name,
+  refl,
+  record {
+    encoding = refl;
+    metadata = record { fields = F.empty; shown = refl; meaning = refl; fair = tt; known = tt };
+    buffers = refl;
+    stats = refl;
+    children = refl;
+  },
+)
+
+-- Where a field shows none, the statistics are refused, at this node alone.
+no_stats_shown : RefusesTree bad_stats codec numbers_session (told_numbers (text [])) type 4
+no_stats_shown = ([], record { encoding = E.primitive; by = record { id = name; id_is = refl; reader_is = refl }; none = λ x h. h })
+
+stats_shown : RefusesTree bad_stats codec numbers_session (told_numbers (number 2)) type 4 → ⊥
+stats_shown ([], x) = x.none (nulls 2) refl
+stats_shown (zero ∷ path, x) = let e : None ≡ Some x.0 = x.2.child in absurd (cc)
+stats_shown (suc i ∷ path, x) = let e : None ≡ Some x.0 = x.2.child in absurd (cc)
 
 -- A buffer's index without a descriptor, an encoding's index without an identifier, an identifier that nothing
 -- reads.

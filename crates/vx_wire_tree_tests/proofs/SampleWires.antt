@@ -1,18 +1,19 @@
 -- Wire trees of arrays of each encoding, the messages of their metadata, and what those mean.
 use Rattle.std.specs.Prelude.{◌≡◌, [], ◌∷◌, ◌++◌, Some, None, false, true, codes, refl}
-use Rattle.vx_trees.specs.Rose.{label, below}
+use Rattle.vx_flat.specs.Value.{Field}
+use Rattle.vx_trees.specs.Rose.{node, label, below}
 use Rattle.vx_types.specs.declared.decimal.DecimalType.TheVariants as D
 use Rattle.vx_types.specs.declared.nullability.Nullability.TheVariants.{Nullable, NonNullable}
 use Rattle.vx_types.specs.declared.ptype.PType.TheVariants as P
 use Rattle.vx_array_tree.specs.Metadata as M
 use Rattle.vx_array_tree.specs.Sound.{metadata_in}
 use Rattle.vx_array_tree.specs.Tree.{Tree}
-use Rattle.vx_array_tree_tests.proofs.Samples.{text_type, buffer, four, flags_from, numbers, nulls, sixteen, decimals, varbins, dictionary, lists, views, maps, entries, structs, days}
+use Rattle.vx_array_tree_tests.proofs.Samples.{text_type, buffer, four, flags_from, numbers, nulls, sixteen, decimals, varbins, dictionary, lists, views, maps, entries, structs, days, told_of_numbers, told_numbers}
 use Rattle.vx_wire_tree.specs.Codec.{Codec}
 use Rattle.vx_wire_tree.specs.Fields as F
 use Rattle.vx_wire_tree.specs.Fields.{Fields, meant, told}
 use Rattle.vx_wire_tree.specs.Session.{SessionMeaning}
-use Rattle.vx_wire_tree.specs.Wire.{ids_in, buffers_in}
+use Rattle.vx_wire_tree.specs.Wire.{Wire, ids_in, buffers_in}
 use Rattle.vx_wire_tree.specs.Written.{wire}
 
 -- ---- messages
@@ -53,12 +54,20 @@ other_codes = refl
 
 -- ---- trees, whatever messages and session
 
+-- A wire tree with another field of statistics at its root.
+abbrev with_field : Field → Wire → Wire
+with_field f (node w ws) = node (record { id = w.id; metadata = w.metadata; buffers = w.buffers; stats = f }) ws
+
 module _ (c : Codec) (s : SessionMeaning) where
   numbers_ids : ids_in (wire c s numbers) ≡ codes "vortex.primitive" ∷ codes "vortex.bool" ∷ []
   numbers_ids = refl
 
   numbers_buffers : buffers_in (wire c s numbers) ≡ buffer (four (1 ∷ 2 ∷ 3 ∷ 4 ∷ [])) 2 ∷ buffer (5 ∷ []) 0 ∷ []
   numbers_buffers = refl
+
+  -- Statistics stand in their field, and change nothing else.
+  numbers_told : wire c s told_numbers ≡ with_field (c.stats_field told_of_numbers) (wire c s numbers)
+  numbers_told = refl
 
   nulls_buffers : buffers_in (wire c s nulls) ≡ []
   nulls_buffers = refl

@@ -7,7 +7,8 @@ ghost use Rattle.vx_scalars.specs.Places.{lent};
 ghost use Rattle.vx_scalars.specs.Stats.{told as told_of};
 ghost use Rattle.vx_scalar_wire.specs.StatsBlocks.{vector_entry, flag_entry, count_entry, table_entries, stored_field};
 ghost use Rattle.vx_scalar_wire.specs.StatsSchema.{stats_schema};
-ghost use Rattle.vx_scalar_wire.specs.StatsTable.{precision_of, exact_count, stats_table};
+ghost use Rattle.vx_scalars.specs.WrittenStats.{exact_count};
+ghost use Rattle.vx_scalar_wire.specs.StatsTable.{precision_of, stats_table};
 
 use vx_flat::{BlockField, LinkKind};
 use vx_proto::Blob;

@@ -4,7 +4,8 @@ ghost use Rattle.std.specs.Prelude.{◌≡◌, IfOk, IfErr, OnOk};
 ghost use Rattle.vx_scalars.specs.Places.{lent};
 ghost use Rattle.vx_scalars.specs.Stats.{told as told_of};
 ghost use Rattle.vx_scalar_wire.specs.StatsBlocks.{stored_field};
-ghost use Rattle.vx_scalar_wire.specs.StatsTable.{value_field, written_sum};
+ghost use Rattle.vx_scalars.specs.WrittenStats.{written_sum};
+ghost use Rattle.vx_scalar_wire.specs.StatsTable.{value_field};
 ghost use Rattle.vx_scalar_wire.specs.StatsUnwritten.{IsWritableTold, IsUnwrittenTold};
 
 use crate::error::ScalarWireError;

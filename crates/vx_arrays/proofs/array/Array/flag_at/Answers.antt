@@ -8,5 +8,5 @@ use Rattle.vx_arrays.proofs.array.Array.flag_at.Goals as goal
 pub returns-in-Bool : goal.returns-in-Bool
 returns-in-Bool c =
     ap (λ b. Some b) c.flag_at.ensures
-    ∙ flag_row _ _ c.args.index c.self.inside.body c.in-Bool.flags (roses_of c.self.inside.children.items) c.in-Bool.is (ap (λ (t : Tree). (label t).dtype) c.self.view_is ∙ c.requires.flags) c.self.invariant.0
+    ∙ flag_row _ _ c.args.index _ c.self.inside.body c.in-Bool.flags (roses_of c.self.inside.children.items) c.in-Bool.is (ap (λ (t : Tree). (label t).dtype) c.self.view_is ∙ c.requires.flags) c.self.invariant.0
     ∙ ap (λ (t : Tree). flag_in (row_at t c.args.index)) c.self.view_is

@@ -1,7 +1,7 @@
 use Rattle.std.specs.Prelude.{IfSome}
 use Rattle.std.proofs.Common.{◌<◌, ◌^◌, subst}
 use Rattle.vx_scalars.specs.Stats.{Told}
-use Rattle.vx_scalar_wire.specs.StatsTable.{exact_count}
+use Rattle.vx_scalars.specs.WrittenStats.{exact_count}
 use Rattle.vx_scalar_wire.proofs.StatsEntries.{table_of_kind}
 use Rattle.vx_scalar_wire.proofs.stats.entries.entries_of.Goals as goal
 
