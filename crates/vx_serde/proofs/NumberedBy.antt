@@ -6,6 +6,7 @@ use Rattle.vx_flat.specs.Layout.{written_layout}
 use Rattle.vx_flat.specs.Value.{Fields, table, elements, field, no_fields}
 use Rattle.vx_flat.specs.ValueWeight.{weight_of, weight_of_fields, weight_of_rows}
 use Rattle.vx_trees.specs.Rose.{Rose, Roses, node, end, more}
+use Rattle.vx_trees.specs.Everywhere.{Everywhere, EverywhereBelow}
 use Rattle.vx_trees.specs.Walks.{nodes, nodes_of, gathered}
 use Rattle.vx_wire_tree.specs.Context.{Context, grown_by}
 use Rattle.vx_wire_tree.specs.Wire.{Wire, Wires, IsWhole, buffers_at_node, buffers_in, ids_in, present}
@@ -17,7 +18,7 @@ use Rattle.vx_serde.specs.Numbered.{encoding_index, numbers_from, numbered, numb
 use Rattle.vx_serde.specs.WritingSteps.{layout_of}
 use Rattle.vx_serde.proofs.GrownPlaced.{grown_by-placed}
 use Rattle.vx_serde.proofs.MessageRead.{message_value_is_of}
-use Rattle.vx_serde.proofs.NumberedRead.{placed_from_ids, numbered_fits}
+use Rattle.vx_serde.proofs.NumberedRead.{IsTabledNode, placed_from_ids, numbered_fits}
 
 -- ---- each node has one number
 
@@ -52,7 +53,7 @@ mutual
       let own = length (present h.buffers) in
       let number = at-place (encoding_index h.id ids) (encodings_below ids ws ++ rest) es k e in
       let below = by-encodings_below ids es rest (k + 1) (n + own) ws (past (encoding_index h.id ids ∷ []) (encodings_below ids ws ++ rest) es k e) in
-      λ i. node (record { encoding = number i; metadata = h.metadata; buffers = numbers_from n own }) (below i)
+      λ i. node (record { encoding = number i; metadata = h.metadata; buffers = numbers_from n own; stats = h.stats }) (below i)
 
   by-encodings_below : (ids : List (List ℕ)) (es rest : List ℕ) (k n : ℕ) (ws : Wires) → drop k es ≡ encodings_below ids ws ++ rest → numbered_below_by es k n ws ≡ numbered_below ids n ws
   by-encodings_below ids es rest k n end e = refl
@@ -75,11 +76,11 @@ module _ (ids : List (List ℕ)) (w : Wire) (es bytes : List ℕ) (known : es �
   layout-numbered = ap (λ root. written_layout array_schema (field (table (node_value root)) (field (elements bytes) no_fields))) root-is
 
   -- Its value is one of array messages, where the identifiers have their places.
-  pub message-of_kind : (old new : Context) (ds : List Descriptor) → new.ids ≡ ids → grown_by (ids_in w) old ≡ Some new → IsWhole w → length (buffers_in w) ≤ 65535
+  pub message-of_kind : (old new : Context) (ds : List Descriptor) → new.ids ≡ ids → grown_by (ids_in w) old ≡ Some new → IsWhole w → Everywhere IsTabledNode w → length (buffers_in w) ≤ 65535
       → bytes ≡ descriptors_bytes ds → IsOf array_schema (message_by es w bytes)
-  message-of_kind old new ds same grew whole few d =
+  message-of_kind old new ds same grew whole tabled few d =
       let placed = placed_from_ids new.ids w whole (grown_by-placed (ids_in w) old new grew).placed in
-      let of = message_value_is_of (numbered new.ids 0 w) ds (numbered_fits new.ids 0 w (omega (arith, few)) placed) in
+      let of = message_value_is_of (numbered new.ids 0 w) ds (numbered_fits new.ids 0 w (omega (arith, few)) placed tabled) in
       let P : Fields → Type 0 = λ v. IsOf array_schema v in
       subst P (λ i. field (table (node_value ((ap (λ z. numbered z 0 w) same ∙ sym root-is) i))) (field (elements (sym d i)) no_fields)) of
 

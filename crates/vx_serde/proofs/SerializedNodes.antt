@@ -22,13 +22,13 @@ use Rattle.vx_serde.specs.ArraySchema.{array_schema, node_fields}
 use Rattle.vx_serde.specs.Message.{NodeFields, node_of, nodes_of, nodes_in, number_of_field, bytes_of_field, indices_of}
 use Rattle.vx_serde.specs.Stored.{IsNodeView}
 
--- A node is what its first four fields tell.
+-- A node is what its fields tell.
 pub node_seen : (v : View) → IsViewOf array_schema 1 v
-    → node_of (seen v) ≡ node (record { encoding = number_of_field (part_in v 0); metadata = bytes_of_field (part_in v 1); buffers = indices_of (bytes_of_field (part_in v 3)) }) (nodes_in (part_in v 2))
+    → node_of (seen v) ≡ node (record { encoding = number_of_field (part_in v 0); metadata = bytes_of_field (part_in v 1); buffers = indices_of (bytes_of_field (part_in v 3)); stats = part_in v 4 }) (nodes_in (part_in v 2))
 node_seen v h = ap (λ vs. node_of vs) (seen-of array_schema 1 v h)
 
 module _ (v : View) (h : IsViewOf array_schema 1 v) (t : Rose NodeFields) (own : node_of (seen v) ≡ t) where
-  told : t ≡ node (record { encoding = number_of_field (part_in v 0); metadata = bytes_of_field (part_in v 1); buffers = indices_of (bytes_of_field (part_in v 3)) }) (nodes_in (part_in v 2))
+  told : t ≡ node (record { encoding = number_of_field (part_in v 0); metadata = bytes_of_field (part_in v 1); buffers = indices_of (bytes_of_field (part_in v 3)); stats = part_in v 4 }) (nodes_in (part_in v 2))
   told = sym own ∙ node_seen v h
 
   pub encoding_told : (label t).encoding ≡ number_of_field (part_in v 0)
@@ -36,6 +36,9 @@ module _ (v : View) (h : IsViewOf array_schema 1 v) (t : Rose NodeFields) (own :
 
   pub metadata_told : (label t).metadata ≡ bytes_of_field (part_in v 1)
   metadata_told = ap (λ (z : Rose NodeFields). let f : NodeFields = label z in f.metadata) told
+
+  pub stats_told : (label t).stats ≡ part_in v 4
+  stats_told = ap (λ (z : Rose NodeFields). let f : NodeFields = label z in f.stats) told
 
   pub below_told : below t ≡ nodes_in (part_in v 2)
   below_told = ap (λ (z : Rose NodeFields). below z) told

@@ -11,7 +11,7 @@ use Rattle.vx_trees.proofs.Lists.{roses_of-roses_list}
 use Rattle.vx_wire_tree.specs.Wire.{buffers_in}
 use Rattle.vx_wire_tree.specs.Written.{wire, wires}
 use Rattle.vx_encodings.specs.Messages.{codec}
-use Rattle.vx_serde.specs.Blocks.{AreWritten, node_pieces, children_pieces, no_stats_piece}
+use Rattle.vx_serde.specs.Blocks.{AreWritten, node_pieces, children_pieces}
 use Rattle.vx_serde.proofs.Chains.{IsPartWay, begun, gone_on, cut_short, refused, next_is, idle, awaited, ended, next_left}
 use Rattle.vx_serde.proofs.NodePieces.{node_piece, rows_of, rows-next, rows-split, whole-bytes}
 use Rattle.vx_serde.proofs.NodeSteps.{nothing-written, buffers-split, node-is, counted-below, counted-list, nodes-split, nodes-up_to, nodes-all_of, wired-first, buffers-parts, buffers-up_to, buffers-all_of, children-whole}
@@ -141,8 +141,8 @@ write_node-link-requires-4-clause-next t c =
     let w3 = way3 old v c.write_nodes.new.builder c.link-3.new.self c.write_elements-2.new.builder m bytes kids w2 c.link-3.ensures.waits c.in_ok-write_elements-2.ensures.written in
     λ _. subst (λ n. IsNext c.write_elements-2.new.builder.left n 4) (sym c.in_ok-node.ensures.number) (next_is old (node_piece v) _ _ _ c.write_elements-2.new.builder w3)
 
-pub write_node-write_no_statistics-requires : goal.write_node-write_no_statistics-requires
-write_node-write_no_statistics-requires t c =
+pub write_node-write_statistics-requires : goal.write_node-write_statistics-requires
+write_node-write_statistics-requires t c =
     let a = c.args.array.now in
     let old = c.args.builder.now in
     let v = c.in_ok-parts.parts.encoding in
@@ -197,9 +197,9 @@ write_node-returns-in_err-write_elements-clause-stopped t c = λ s.
     let whole = node-is s a (roses_list (below a)) (roses_of-roses_list (below a)) c.args.encodings.now c.args.passed.now.nodes c.args.passed.now.buffers c.node_parts.new.passed.nodes c.node_parts.new.passed.buffers v c.in_ok-parts.parts.metadata c.in_ok-parts.parts.buffers.items
     c.in_ok-parts.ensures.encoding c.in_ok-parts.ensures.metadata c.in_ok-parts.ensures.numbers c.in_ok-parts.ensures.nodes c.in_ok-parts.ensures.buffers in
     rw (p.1, p.2)
-    (cut_short old (node_piece v) _ [] c.table.new.self c.link.new.self c.write_elements.new.builder (elements_piece 1 m ∷ []) (kids ++ (elements_piece 2 c.in_ok-parts.parts.buffers.items ∷ no_stats_piece ∷ [])) (node_pieces c.args.encodings.now c.args.passed.now.nodes c.args.passed.now.buffers (wire codec s a)) c.in_err-write_elements.field-0.0
+    (cut_short old (node_piece v) _ [] c.table.new.self c.link.new.self c.write_elements.new.builder (elements_piece 1 m ∷ []) (kids ++ (elements_piece 2 c.in_ok-parts.parts.buffers.items ∷ stats_pieces (label a).stats)) (node_pieces c.args.encodings.now c.args.passed.now.nodes c.args.passed.now.buffers (wire codec s a)) c.in_err-write_elements.field-0.0
     w0 c.link.ensures.waits c.in_err-write_elements.ensures.stopped
-    (ap (λ z. node_piece v ∷ (elements_piece 1 z ∷ (kids ++ (elements_piece 2 c.in_ok-parts.parts.buffers.items ∷ no_stats_piece ∷ [])))) c.as_slice.ensures ∙ whole))
+    (ap (λ z. node_piece v ∷ (elements_piece 1 z ∷ (kids ++ (elements_piece 2 c.in_ok-parts.parts.buffers.items ∷ stats_pieces (label a).stats)))) c.as_slice.ensures ∙ whole))
 
 pub write_node-returns-in_err-write_nodes-clause-stopped : goal.write_node-returns-in_err-write_nodes-clause-stopped
 write_node-returns-in_err-write_nodes-clause-stopped t c = λ s.
@@ -214,9 +214,9 @@ write_node-returns-in_err-write_nodes-clause-stopped t c = λ s.
     let whole = node-is s a c.children.result.now c.children.ensures.children c.args.encodings.now c.args.passed.now.nodes c.args.passed.now.buffers c.node_parts.new.passed.nodes c.node_parts.new.passed.buffers v c.in_ok-parts.parts.metadata c.in_ok-parts.parts.buffers.items
     c.in_ok-parts.ensures.encoding c.in_ok-parts.ensures.metadata c.in_ok-parts.ensures.numbers c.in_ok-parts.ensures.nodes c.in_ok-parts.ensures.buffers in
     rw (p.1, p.2)
-    (cut_short old (node_piece v) _ (elements_piece 1 m ∷ []) c.write_elements.new.builder c.link-2.new.self c.write_nodes.new.builder kids (elements_piece 2 c.in_ok-parts.parts.buffers.items ∷ no_stats_piece ∷ []) (node_pieces c.args.encodings.now c.args.passed.now.nodes c.args.passed.now.buffers (wire codec s a)) c.in_err-write_nodes.field-0.0
+    (cut_short old (node_piece v) _ (elements_piece 1 m ∷ []) c.write_elements.new.builder c.link-2.new.self c.write_nodes.new.builder kids (elements_piece 2 c.in_ok-parts.parts.buffers.items ∷ stats_pieces (label a).stats) (node_pieces c.args.encodings.now c.args.passed.now.nodes c.args.passed.now.buffers (wire codec s a)) c.in_err-write_nodes.field-0.0
     w1 c.link-2.ensures.waits (c.in_err-write_nodes.ensures.stopped s)
-    (ap (λ z. node_piece v ∷ (elements_piece 1 z ∷ (kids ++ (elements_piece 2 c.in_ok-parts.parts.buffers.items ∷ no_stats_piece ∷ [])))) c.as_slice.ensures ∙ whole))
+    (ap (λ z. node_piece v ∷ (elements_piece 1 z ∷ (kids ++ (elements_piece 2 c.in_ok-parts.parts.buffers.items ∷ stats_pieces (label a).stats)))) c.as_slice.ensures ∙ whole))
 
 pub write_node-returns-in_err-write_elements-2-clause-stopped : goal.write_node-returns-in_err-write_elements-2-clause-stopped
 write_node-returns-in_err-write_elements-2-clause-stopped t c = λ s.
@@ -232,15 +232,15 @@ write_node-returns-in_err-write_elements-2-clause-stopped t c = λ s.
     let bytes = c.deref.result.now in
     let whole = node-is s a c.children.result.now c.children.ensures.children c.args.encodings.now c.args.passed.now.nodes c.args.passed.now.buffers c.node_parts.new.passed.nodes c.node_parts.new.passed.buffers v c.in_ok-parts.parts.metadata c.in_ok-parts.parts.buffers.items
     c.in_ok-parts.ensures.encoding c.in_ok-parts.ensures.metadata c.in_ok-parts.ensures.numbers c.in_ok-parts.ensures.nodes c.in_ok-parts.ensures.buffers in
-    let same : node_piece v ∷ (elements_piece 1 m ∷ (kids ++ (elements_piece 2 bytes ∷ no_stats_piece ∷ []))) ≡ node_pieces c.args.encodings.now c.args.passed.now.nodes c.args.passed.now.buffers (wire codec s a) =
-    (λ k. node_piece v ∷ (elements_piece 1 (c.as_slice.ensures k) ∷ (kids ++ (elements_piece 2 (c.deref.ensures.value k) ∷ no_stats_piece ∷ [])))) ∙ whole in
+    let same : node_piece v ∷ (elements_piece 1 m ∷ (kids ++ (elements_piece 2 bytes ∷ stats_pieces (label a).stats))) ≡ node_pieces c.args.encodings.now c.args.passed.now.nodes c.args.passed.now.buffers (wire codec s a) =
+    (λ k. node_piece v ∷ (elements_piece 1 (c.as_slice.ensures k) ∷ (kids ++ (elements_piece 2 (c.deref.ensures.value k) ∷ stats_pieces (label a).stats)))) ∙ whole in
     rw (p.1, p.2)
-    (cut_short old (node_piece v) _ (elements_piece 1 m ∷ kids) c.write_nodes.new.builder c.link-3.new.self c.write_elements-2.new.builder (elements_piece 2 bytes ∷ []) (no_stats_piece ∷ []) (node_pieces c.args.encodings.now c.args.passed.now.nodes c.args.passed.now.buffers (wire codec s a)) c.in_err-write_elements-2.field-0.0
+    (cut_short old (node_piece v) _ (elements_piece 1 m ∷ kids) c.write_nodes.new.builder c.link-3.new.self c.write_elements-2.new.builder (elements_piece 2 bytes ∷ []) (stats_pieces (label a).stats) (node_pieces c.args.encodings.now c.args.passed.now.nodes c.args.passed.now.buffers (wire codec s a)) c.in_err-write_elements-2.field-0.0
     w2 c.link-3.ensures.waits c.in_err-write_elements-2.ensures.stopped same)
 
-pub write_node-returns-in_err-write_no_statistics-clause-stopped : goal.write_node-returns-in_err-write_no_statistics-clause-stopped
-write_node-returns-in_err-write_no_statistics-clause-stopped t c = λ s.
-    let p = err_from_is_err_and c.from_residual-in_err-write_no_statistics.result c.from_residual-in_err-write_no_statistics.ensures.1 in
+pub write_node-returns-in_err-write_statistics-clause-stopped : goal.write_node-returns-in_err-write_statistics-clause-stopped
+write_node-returns-in_err-write_statistics-clause-stopped t c = λ s.
+    let p = err_from_is_err_and c.from_residual-in_err-write_statistics.result c.from_residual-in_err-write_statistics.ensures.1 in
     let a = c.args.array.now in
     let old = c.args.builder.now in
     let v = c.in_ok-parts.parts.encoding in
@@ -253,12 +253,12 @@ write_node-returns-in_err-write_no_statistics-clause-stopped t c = λ s.
     let w3 = way3 old v c.write_nodes.new.builder c.link-3.new.self c.write_elements-2.new.builder m bytes kids w2 c.link-3.ensures.waits c.in_ok-write_elements-2.ensures.written in
     let whole = node-is s a c.children.result.now c.children.ensures.children c.args.encodings.now c.args.passed.now.nodes c.args.passed.now.buffers c.node_parts.new.passed.nodes c.node_parts.new.passed.buffers v c.in_ok-parts.parts.metadata c.in_ok-parts.parts.buffers.items
     c.in_ok-parts.ensures.encoding c.in_ok-parts.ensures.metadata c.in_ok-parts.ensures.numbers c.in_ok-parts.ensures.nodes c.in_ok-parts.ensures.buffers in
-    let same : node_piece v ∷ (elements_piece 1 m ∷ (kids ++ (elements_piece 2 bytes ∷ no_stats_piece ∷ []))) ≡ node_pieces c.args.encodings.now c.args.passed.now.nodes c.args.passed.now.buffers (wire codec s a) =
-    (λ k. node_piece v ∷ (elements_piece 1 (c.as_slice.ensures k) ∷ (kids ++ (elements_piece 2 (c.deref.ensures.value k) ∷ no_stats_piece ∷ [])))) ∙ whole in
+    let same : node_piece v ∷ (elements_piece 1 m ∷ (kids ++ (elements_piece 2 bytes ∷ stats_pieces (label a).stats))) ≡ node_pieces c.args.encodings.now c.args.passed.now.nodes c.args.passed.now.buffers (wire codec s a) =
+    (λ k. node_piece v ∷ (elements_piece 1 (c.as_slice.ensures k) ∷ (kids ++ (elements_piece 2 (c.deref.ensures.value k) ∷ stats_pieces (label a).stats)))) ∙ whole in
     rw (p.1, p.2)
-    (cut_short old (node_piece v) _ (elements_piece 1 m ∷ (kids ++ elements_piece 2 bytes ∷ [])) c.write_elements-2.new.builder c.link-4.new.self c.write_no_statistics.new.builder (no_stats_piece ∷ []) [] (node_pieces c.args.encodings.now c.args.passed.now.nodes c.args.passed.now.buffers (wire codec s a)) c.in_err-write_no_statistics.field-0.0
-    w3 c.link-4.ensures.waits c.in_err-write_no_statistics.ensures.stopped
-    (ap (λ z. node_piece v ∷ (elements_piece 1 m ∷ z)) (append_assoc kids (elements_piece 2 bytes ∷ []) (no_stats_piece ∷ [])) ∙ same))
+    (cut_short old (node_piece v) _ (elements_piece 1 m ∷ (kids ++ elements_piece 2 bytes ∷ [])) c.write_elements-2.new.builder c.link-4.new.self c.write_statistics.new.builder (stats_pieces (label a).stats) [] (node_pieces c.args.encodings.now c.args.passed.now.nodes c.args.passed.now.buffers (wire codec s a)) c.in_err-write_statistics.field-0.0
+    w3 c.link-4.ensures.waits c.in_err-write_statistics.ensures.stopped
+    (ap (λ z. node_piece v ∷ (elements_piece 1 m ∷ z)) (append_assoc kids (elements_piece 2 bytes ∷ []) (stats_pieces (label a).stats)) ∙ same))
 
 pub write_node-returns-clause-written : goal.write_node-returns-clause-written
 write_node-returns-clause-written t c = λ s.
@@ -274,10 +274,10 @@ write_node-returns-clause-written t c = λ s.
     let w3 = way3 old v c.write_nodes.new.builder c.link-3.new.self c.write_elements-2.new.builder m bytes kids w2 c.link-3.ensures.waits c.in_ok-write_elements-2.ensures.written in
     let whole = node-is s a c.children.result.now c.children.ensures.children c.args.encodings.now c.args.passed.now.nodes c.args.passed.now.buffers c.node_parts.new.passed.nodes c.node_parts.new.passed.buffers v c.in_ok-parts.parts.metadata c.in_ok-parts.parts.buffers.items
     c.in_ok-parts.ensures.encoding c.in_ok-parts.ensures.metadata c.in_ok-parts.ensures.numbers c.in_ok-parts.ensures.nodes c.in_ok-parts.ensures.buffers in
-    let same : node_piece v ∷ (elements_piece 1 m ∷ (kids ++ (elements_piece 2 bytes ∷ no_stats_piece ∷ []))) ≡ node_pieces c.args.encodings.now c.args.passed.now.nodes c.args.passed.now.buffers (wire codec s a) =
-    (λ k. node_piece v ∷ (elements_piece 1 (c.as_slice.ensures k) ∷ (kids ++ (elements_piece 2 (c.deref.ensures.value k) ∷ no_stats_piece ∷ [])))) ∙ whole in
-    subst (λ z. AreWritten old z c.write_no_statistics.new.builder) same
-    (way4 old v c.write_elements-2.new.builder c.link-4.new.self c.write_no_statistics.new.builder m bytes kids w3 c.link-4.ensures.waits c.in_ok-write_no_statistics.ensures.written)
+    let same : node_piece v ∷ (elements_piece 1 m ∷ (kids ++ (elements_piece 2 bytes ∷ stats_pieces (label a).stats))) ≡ node_pieces c.args.encodings.now c.args.passed.now.nodes c.args.passed.now.buffers (wire codec s a) =
+    (λ k. node_piece v ∷ (elements_piece 1 (c.as_slice.ensures k) ∷ (kids ++ (elements_piece 2 (c.deref.ensures.value k) ∷ stats_pieces (label a).stats)))) ∙ whole in
+    subst (λ z. AreWritten old z c.write_statistics.new.builder) same
+    (way4 old v c.write_elements-2.new.builder c.link-4.new.self c.write_statistics.new.builder m bytes kids (stats_pieces (label a).stats) w3 c.link-4.ensures.waits c.in_ok-write_statistics.ensures.written)
 
 pub write_node-returns-clause-nodes : goal.write_node-returns-clause-nodes
 write_node-returns-clause-nodes t c =
