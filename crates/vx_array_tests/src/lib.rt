@@ -20,4 +20,6 @@ mod sessions;
 #[cfg(test)]
 mod slots;
 #[cfg(test)]
+mod statistics;
+#[cfg(test)]
 mod varbins;

@@ -25,8 +25,8 @@ use Rattle.vx_array_tree.specs.Place.{Place, place, numbers, is_len, when, befor
 use Rattle.vx_array_tree.specs.Refused.{IsWellShaped, HasBrokenContent}
 use Rattle.vx_array_tree.specs.Rows.{Rows, IsThere, validity, first, rest, where_valid}
 use Rattle.vx_array_tree.specs.Sound.{IsSound, IsSoundNode}
-use Rattle.vx_array_tree.specs.Tree.{Head, Tree, Trees, places, rows_below, rows_of}
-use Rattle.vx_array_tree.proofs.Built.{shaped_sound, sound_well_shaped}
+use Rattle.vx_array_tree.specs.Tree.{Tree, Trees, places, rows_below, rows_of, untold}
+use Rattle.vx_array_tree.proofs.Built.{sound_well_shaped}
 use Rattle.vx_array_tree.proofs.Options.{mapped, let_through}
 use Rattle.vx_arrays.specs.Validity.{IsValidity}
 use Rattle.vx_arrays.specs.Plain.{plain_value}
@@ -126,13 +126,13 @@ shaped_of d n b o vs h t l lt v =
 -- ---- sound nodes
 
 module _ (d : Typ) (n : ℕ) (x : Data) where
-  shape : (ts : Trees) → IsSoundNode (record { dtype = d; len = n; body = B.varbin x }) ts → IsWellShaped (varbin_head d n x.bytes) ts
+  shape : (ts : Trees) → IsSoundNode (untold d n (B.varbin x)) ts → IsWellShaped (varbin_head d n x.bytes) ts
   shape ts s = record { fair = s.fair; planned = s.planned; allows = s.allows; takes = s.takes; holds = s.holds }
 
-  pub sound_bytes : (ts : Trees) → IsSoundNode (record { dtype = d; len = n; body = B.varbin x }) ts → IsOfBytes d
+  pub sound_bytes : (ts : Trees) → IsSoundNode (untold d n (B.varbin x)) ts → IsOfBytes d
   sound_bytes ts s = shaped_bytes d n x.bytes ts (shape ts s)
 
-  module _ (ts : Trees) (o : Tree) (vs : Trees) (e : ts ≡ more o vs) (s : IsSoundNode (record { dtype = d; len = n; body = B.varbin x }) ts) where
+  module _ (ts : Trees) (o : Tree) (vs : Trees) (e : ts ≡ more o vs) (s : IsSoundNode (untold d n (B.varbin x)) ts) where
     front_shape : IsWellShaped (varbin_head d n x.bytes) (more o vs)
     front_shape = subst (λ (z : Trees). IsWellShaped (varbin_head d n x.bytes) z) e (shape ts s)
 
@@ -295,9 +295,11 @@ module _ (d : Typ) (n : ℕ) (b : Buffer) (o : Tree) (vs : Trees) where
   pub never_broken : (u : Bool) → (IsTrue u ↔ Content d n (record { bytes = b }) (rows_of o ∷ rows_below vs)) → u ≡ false → IsSound (node (varbin_head d n b) (more o vs)) → ⊥
   never_broken u g k s = iff_false g k s.0.content
 
-  pub is_sound_node : (t u : Bool) (ts : Trees) → ts ≡ more o vs → ((b : Buffer) → IsTrue t ↔ IsWellShaped (varbin_head d n b) (more o vs)) → t ≡ true
-      → (IsTrue u ↔ Content d n (record { bytes = b }) (rows_of o ∷ rows_below vs)) → u ≡ true → IsSoundNode (varbin_head d n b) ts
-  is_sound_node t u ts e f h g k = subst (λ (z : Trees). IsSoundNode (varbin_head d n b) z) (sym e) (shaped_sound (varbin_head d n b) (more o vs) ((f b).0 h) (g.0 k))
+  pub are_shaped : (t : Bool) (ts : Trees) → ts ≡ more o vs → ((b : Buffer) → IsTrue t ↔ IsWellShaped (varbin_head d n b) (more o vs)) → t ≡ true → IsWellShaped (varbin_head d n b) ts
+  are_shaped t ts e f h = subst (λ (z : Trees). IsWellShaped (varbin_head d n b) z) (sym e) ((f b).0 h)
+
+  pub have_content : (u : Bool) (ts : Trees) → ts ≡ more o vs → (IsTrue u ↔ Content d n (record { bytes = b }) (rows_of o ∷ rows_below vs)) → u ≡ true → Content d n (record { bytes = b }) (rows_below ts)
+  have_content u ts e g k = subst (λ (z : Trees). Content d n (record { bytes = b }) (rows_below z)) (sym e) (g.0 k)
 
   pub are_sound_below : (t : Bool) (ts : Trees) → ts ≡ more o vs → (IsTrue t → EverywhereBelow IsSoundNode (more o vs)) → t ≡ true → EverywhereBelow IsSoundNode ts
   are_sound_below t ts e f h = subst (λ (z : Trees). EverywhereBelow IsSoundNode z) (sym e) (f h)

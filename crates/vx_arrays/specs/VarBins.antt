@@ -8,11 +8,11 @@ use Rattle.vx_types.specs.Typ.{Typ}
 use Rattle.vx_types.specs.declared.nullability.Nullability.TheVariants.{NonNullable}
 use Rattle.vx_array_tree.specs.Body as B
 use Rattle.vx_array_tree.specs.Place.{before_validity}
-use Rattle.vx_array_tree.specs.Tree.{Head, Tree, Trees, option_trees, places}
+use Rattle.vx_array_tree.specs.Tree.{Head, Tree, Trees, option_trees, places, untold}
 
 -- A node of rows whose bytes stand in a buffer.
 abbrev pub varbin_head : Typ → ℕ → Buffer → Head
-varbin_head d n bytes = record { dtype = d; len = n; body = B.varbin (record { bytes = bytes }) }
+varbin_head d n bytes = untold d n (B.varbin (record { bytes = bytes }))
 
 -- It stands over the offsets and the validity, where one stands.
 abbrev pub varbin_node : Typ → ℕ → Tree → Buffer → Option Tree → Tree

@@ -187,6 +187,7 @@ impl Array {
     }
 
     /// Whether the row is there; None where that is not known.
+    #[tactic(auto, using(crate::proofs::Untold::untold_node))]
     pub fn is_valid(&self, index: usize) -> Option<bool>
         requires { index < (label self.now).len }
         ensures { result ≡ valid_at self.now index }
@@ -218,7 +219,7 @@ impl Array {
     }
 
     // The row as a natural number; None where it is none, or is not there, or nothing is known of it.
-    #[tactic(auto, using(crate::proofs::Naturals::naturals))]
+    #[tactic(auto, using(crate::proofs::Naturals::naturals, crate::proofs::Untold::untold_node))]
     pub(crate) fn natural_at(&self, index: usize) -> Option<u64>
         requires { index < (label self.now).len }
         ensures { result ≡ natural (row_at self.now index) }

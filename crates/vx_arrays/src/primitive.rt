@@ -99,8 +99,7 @@ impl PrimitiveData {
         children: &[Array],
         index: usize,
     ) -> Option<u64>
-        requires sound { let head : Head = record { dtype = typ dtype.now; len = len; body = B.primitive self.now } in
-            IsSoundNode head (roses_of children.now) }
+        requires sound { IsSoundNode (untold (typ dtype.now) len (B.primitive self.now)) (roses_of children.now) }
         requires inside { index < len }
         ensures { let rows = rows_of_numbers (typ dtype.now) len self.now (rows_below (roses_of children.now)) in
             result ≡ natural (rows.row index) }

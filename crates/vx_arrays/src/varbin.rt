@@ -11,7 +11,7 @@ ghost use Rattle.vx_array_tree.specs.Encodings.VarBins.{Content, IsContent, mark
 ghost use Rattle.vx_array_tree.specs.Refused.{IsWellShaped};
 ghost use Rattle.vx_array_tree.specs.Rows.{rest, validity};
 ghost use Rattle.vx_array_tree.specs.Sound.{IsSound, IsSoundNode};
-ghost use Rattle.vx_array_tree.specs.Tree.{Head, option_trees, rows_below, rows_of};
+ghost use Rattle.vx_array_tree.specs.Tree.{option_trees, rows_below, rows_of, untold};
 ghost use Rattle.vx_arrays.specs.Plain.{plain_value};
 ghost use Rattle.vx_arrays.specs.Refused.{IsUnmade, IsRowRefused, IsValueRefused, IsOkOrMemory};
 ghost use Rattle.vx_arrays.specs.VarBins.{IsOfBytes, IsOfOffsets, varbin_head, varbin_node, varbin_tree};
@@ -70,8 +70,7 @@ impl VarBinData {
         children: &[Array],
         index: usize,
     ) -> Option<bool>
-        requires sound { let head : Head = record { dtype = typ dtype.now; len = len; body = B.varbin self.now } in
-            IsSoundNode head (roses_of children.now) }
+        requires sound { IsSoundNode (untold (typ dtype.now) len (B.varbin self.now)) (roses_of children.now) }
         requires inside { index < len }
         ensures { result ≡ validity (rest (rows_below (roses_of children.now))) index }
     {
@@ -93,8 +92,7 @@ impl VarBinData {
         index: usize,
         budget: u64,
     ) -> Result<RowValue, ArrayError>
-        requires sound { let head : Head = record { dtype = typ dtype.now; len = len; body = B.varbin self.now } in
-            IsSoundNode head (roses_of children.now) }
+        requires sound { IsSoundNode (untold (typ dtype.now) len (B.varbin self.now)) (roses_of children.now) }
         requires inside { index < len }
         ensures row { let rows = rows_of_parts (typ dtype.now) len self.now (rows_below (roses_of children.now)) in
             IfOk result (λ row. plain_value row ≡ rows.row index) }
