@@ -8,6 +8,7 @@ pub mod NodeTold
 pub mod MessageRead
 pub mod PlacedRead
 pub mod NumberedRead
+pub mod WiredStats
 pub mod Carried
 pub mod CarriedOnce
 pub mod GrownPlaced

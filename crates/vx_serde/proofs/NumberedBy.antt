@@ -1,10 +1,15 @@
 -- Nodes whose encodings are numbered by a list of numbers.
-use Rattle.std.proofs.Common.{ℕ, suc, ◌≡◌, ◌+◌, ◌*◌, ◌≤◌, List, [], ◌∷◌, ◌++◌, Some, length, drop, get_or, refl, sym, ap, ◌∙◌, subst, arith, append_assoc, append-nil, length-append, add-zero}
+use Rattle.std.proofs.Common.{ℕ, suc, ◌≡◌, ◌+◌, ◌*◌, ◌≤◌, List, [], ◌∷◌, ◌++◌, Option, Some, None, length, drop, get_or, refl, sym, ap, ◌∙◌, subst, arith, append_assoc, append-nil, length-append, add-zero}
 use Rattle.std.proofs.lemmas.List.{drop-drop, drop_at, get_or-drop}
 use Rattle.vx_flat.specs.IsOf.{IsOf}
 use Rattle.vx_flat.specs.Layout.{written_layout}
-use Rattle.vx_flat.specs.Value.{Fields, table, elements, field, no_fields}
-use Rattle.vx_flat.specs.ValueWeight.{weight_of, weight_of_fields, weight_of_rows}
+use Rattle.vx_flat.specs.Value.{Field, Fields, table, elements, field, no_fields}
+use Rattle.vx_flat.specs.ValueWeight.{weight_of, weight_of_field, weight_of_fields, weight_of_rows}
+use Rattle.vx_proto.specs.Parts.{flag_number}
+use Rattle.vx_scalars.specs.Stats.{Told, Stats}
+use Rattle.vx_scalars.specs.WrittenStats.{written_sum, exact_flag, exact_count}
+use Rattle.vx_scalars.specs.declared.precision.Precision.TheVariants.{Exact, Inexact, Absent}
+use Rattle.vx_scalar_wire.specs.StatsTable.{value_field, number_field, stats_table}
 use Rattle.vx_trees.specs.Rose.{Rose, Roses, node, end, more}
 use Rattle.vx_trees.specs.Everywhere.{Everywhere, EverywhereBelow}
 use Rattle.vx_trees.specs.Walks.{nodes, nodes_of, gathered}
@@ -19,6 +24,7 @@ use Rattle.vx_serde.specs.WritingSteps.{layout_of}
 use Rattle.vx_serde.proofs.GrownPlaced.{grown_by-placed}
 use Rattle.vx_serde.proofs.MessageRead.{message_value_is_of}
 use Rattle.vx_serde.proofs.NumberedRead.{IsTabledNode, placed_from_ids, numbered_fits}
+use Rattle.vx_serde.proofs.WiredStats.{IsToldNode}
 
 -- ---- each node has one number
 
@@ -86,23 +92,33 @@ module _ (ids : List (List ℕ)) (w : Wire) (es bytes : List ℕ) (known : es �
 
 -- ---- how many tables a message has
 
+-- A vector that may stand has no table, and neither has a number that may stand: so the table of a set is one table.
+value_tables : (x : Told) → (weight_of_field (value_field x)).tables ≡ 0
+value_tables (Exact v) = refl
+value_tables (Inexact v) = refl
+value_tables Absent = refl
+
+number_tables : (o : Option ℕ) → (weight_of_field (number_field o)).tables ≡ 0
+number_tables None = refl
+number_tables (Some n) = refl
+
+stats_tables : (x : Stats) → (weight_of_field (table (stats_table x))).tables ≡ 1
+stats_tables x =
+    omega (arith, value_tables x.least, value_tables x.greatest, value_tables (written_sum x.total), number_tables (option_map flag_number (exact_flag x.is_sorted)), number_tables (option_map flag_number (exact_flag x.is_strict_sorted)),
+    number_tables (option_map flag_number (exact_flag x.is_constant)), number_tables (exact_count x.null_count), number_tables (exact_count x.uncompressed_size), number_tables (exact_count x.nan_count))
+
 mutual
   -- Each node is two tables: its own, and that of its statistics.
-  node_tables : (t : Rose NodeFields) → (weight_of_fields (node_value t)).tables + 1 ≡ 2 * nodes t
-  node_tables (node f ts) = omega (arith, rows_tables ts)
+  node_tables : (es : List ℕ) (k n : ℕ) (w : Wire) → Everywhere IsToldNode w → (weight_of_fields (node_value (numbered_by es k n w))).tables + 1 ≡ 2 * nodes w
+  node_tables es k n (node h ws) told =
+      let one : (weight_of_field h.stats).tables ≡ 1 = ap (λ (f : Field). (weight_of_field f).tables) told.0.1 ∙ stats_tables told.0.0 in
+      omega (arith, one, rows_tables es (k + 1) (n + length (present h.buffers)) ws told.1)
 
-  rows_tables : (ts : Roses NodeFields) → (weight_of_rows (rows_value ts)).tables ≡ 2 * nodes_of ts
-  rows_tables end = refl
-  rows_tables (more t ts) = omega (arith, node_tables t, rows_tables ts)
-
-mutual
-  by-nodes : (es : List ℕ) (k n : ℕ) (w : Wire) → nodes (numbered_by es k n w) ≡ nodes w
-  by-nodes es k n (node h ws) = ap suc (by-nodes_below es (k + 1) (n + length (present h.buffers)) ws)
-
-  by-nodes_below : (es : List ℕ) (k n : ℕ) (ws : Wires) → nodes_of (numbered_below_by es k n ws) ≡ nodes_of ws
-  by-nodes_below es k n end = refl
-  by-nodes_below es k n (more w ws) = λ i. by-nodes es k n w i + by-nodes_below es (k + nodes w) (n + length (gathered buffers_at_node w)) ws i
+  rows_tables : (es : List ℕ) (k n : ℕ) (ws : Wires) → EverywhereBelow IsToldNode ws → (weight_of_rows (rows_value (numbered_below_by es k n ws))).tables ≡ 2 * nodes_of ws
+  rows_tables es k n end told = refl
+  rows_tables es k n (more w ws) told =
+      omega (arith, node_tables es k n w told.0, rows_tables es (k + nodes w) (n + length (gathered buffers_at_node w)) ws told.1)
 
 -- A message has one table more.
-pub message-tables : (es : List ℕ) (w : Wire) (bytes : List ℕ) → (weight_of (message_by es w bytes)).tables ≡ 2 * nodes w + 1
-message-tables es w bytes = omega (arith, node_tables (numbered_by es 0 0 w), by-nodes es 0 0 w)
+pub message-tables : (es : List ℕ) (w : Wire) (bytes : List ℕ) → Everywhere IsToldNode w → (weight_of (message_by es w bytes)).tables ≡ 2 * nodes w + 1
+message-tables es w bytes told = omega (arith, node_tables es 0 0 w told)
