@@ -17,6 +17,7 @@ pub mod Chains
 pub mod NodePieces
 pub mod NodeWays
 pub mod NodeSteps
+pub mod StatsBlocks
 pub mod NumberedBy
 pub mod MessageBlocks
 pub mod Gathered

@@ -131,7 +131,7 @@ fn push_root(
 ) -> Result<(), WireError>
     ensures buffers { OnOk result (found.new.buffers ≡ found.old.buffers ++ buffers_of (label array.now).body) }
     ensures encodings { (more : List (List ℕ)) → OnOk result (found.new.encodings.items ≡ found.old.encodings.items ++ index_of (array_id array.now) (ctx.new.ids ++ more) ∷ []) }
-    ensures tables { IsOf stats_schema (stats_table (label array.now).stats) }
+    ensures table { OnOk result (IsOf stats_schema (stats_table (label array.now).stats)) }
     ensures found { OnOk result (HasEntry arrays.now array.now) }
     ensures paired { OnOk result (ArePaired arrays.now) }
     ensures grown { OnOk result (grown_by (array_id array.now ∷ []) ctx.old ≡ Some ctx.new) }

@@ -4,7 +4,7 @@ use Rattle.std.proofs.lemmas.Result.{err_from_is_err_and}
 use Rattle.vx_flat.specs.declared.builder.piece.LinkKind.TheVariants as link
 use Rattle.vx_flat.specs.Building.{IsNext, IsStopped, element_links}
 use Rattle.vx_flat.specs.Pieces.{elements_piece, links_piece}
-use Rattle.vx_trees.specs.Rose.{below, roses_of, roses_list}
+use Rattle.vx_trees.specs.Rose.{label, below, roses_of, roses_list}
 use Rattle.vx_trees.specs.Walks as walk
 use Rattle.vx_trees.proofs.Counting.{nodes-is}
 use Rattle.vx_trees.proofs.Lists.{roses_of-roses_list}
@@ -12,9 +12,12 @@ use Rattle.vx_wire_tree.specs.Wire.{buffers_in}
 use Rattle.vx_wire_tree.specs.Written.{wire, wires}
 use Rattle.vx_encodings.specs.Messages.{codec}
 use Rattle.vx_serde.specs.Blocks.{AreWritten, node_pieces, children_pieces}
+use Rattle.vx_wire_tree.specs.ReadBack.{IsStorableNode}
+use Rattle.vx_scalar_wire.specs.StatsTable.{stats_pieces}
 use Rattle.vx_serde.proofs.Chains.{IsPartWay, begun, gone_on, cut_short, refused, next_is, idle, awaited, ended, next_left}
+use Rattle.vx_serde.proofs.Gathered.{everywhere-next}
 use Rattle.vx_serde.proofs.NodePieces.{node_piece, rows_of, rows-next, rows-split, whole-bytes}
-use Rattle.vx_serde.proofs.NodeSteps.{nothing-written, buffers-split, node-is, counted-below, counted-list, nodes-split, nodes-up_to, nodes-all_of, wired-first, buffers-parts, buffers-up_to, buffers-all_of, children-whole}
+use Rattle.vx_serde.proofs.NodeSteps.{nothing-written, buffers-split, node-is, counted-below, counted-list, nodes-split, nodes-up_to, nodes-all_of, wired-first, buffers-parts, buffers-up_to, buffers-all_of, children-whole, stored-node, stored-all}
 use Rattle.vx_serde.proofs.NodeWays.{entry_is, way0, way1, way2, way3, way4}
 use Rattle.vx_serde.proofs.WiredNodes.{no_session, wired, wired-length, wired-at, wired-within, own-room}
 use Rattle.vx_serde.proofs.nodes.+nodes.Goals as goal
@@ -287,6 +290,10 @@ pub write_node-returns-clause-buffers : goal.write_node-returns-clause-buffers
 write_node-returns-clause-buffers t c = λ s.
     omega (arith, buffers-split s c.args.array.now c.children.result.now c.children.ensures.children, c.in_ok-parts.ensures.buffers, c.in_ok-write_nodes.ensures.buffers s)
 
+pub write_node-returns-clause-storable : goal.write_node-returns-clause-storable
+write_node-returns-clause-storable t c =
+    stored-node c.args.array.now c.children.result.now c.children.ensures.children c.in_ok-write_statistics.ensures.storable c.in_ok-write_nodes.ensures.storable
+
 -- ---- the nodes below one
 
 pub write_nodes-overflow_cast-arrays : goal.write_nodes-overflow_cast-arrays
@@ -306,6 +313,7 @@ write_nodes-loop-i-init t c =
       places = omega arith;
       count = λ s. omega arith;
       so_far = λ s. begun old c.vector.new.self p p _ c.in_ok-vector.ensures.written refl (ap (λ m. element_links old.count 0 link.Table m) all);
+      stored = tt;
       fits = c.in_ok-vector.ensures.fits refl;
       numbered = c.in_ok-vector.ensures.number;
     }
@@ -419,6 +427,7 @@ write_nodes-loop-i-preserved t c =
           let more = gone_on old p _ _ (rows_of es k first (take i (wired s ts))) now c.link.new.self c.write_node.new.builder (node_pieces es c.loop-i.passed.nodes c.loop-i.passed.buffers (wire codec s u)) way c.link.ensures.waits (c.in_ok-write_node.ensures.written s) in
           subst (λ ps. IsPartWay old p (element_links old.count (i + 1) link.Table (length ts - (i + 1))) ps c.write_node.new.builder)
           (sym (rows-next es k first c.loop-i.passed.nodes c.loop-i.passed.buffers (wired s ts) i (wire codec s u) (wired-within s ts i lt) (wired-at s ts i u lt is) places (c.loop-i.invariant.count s))) more;
+      stored = everywhere-next (IsStorableNode codec) ts i u lt is c.loop-i.invariant.stored c.in_ok-write_node.ensures.storable;
       fits = (c.in_ok-write_node.ensures.written no_session).fits;
       numbered = c.loop-i.invariant.numbered;
     }
@@ -465,3 +474,8 @@ write_nodes-returns-clause-written t c = λ s.
     subst (λ us. IsPartWay old p [] (rows_of es k first us) now) (take_all i (wired s ts) (omega (arith, past, wired-length s ts)))
     (subst (λ m. IsPartWay old p (element_links old.count i link.Table m) (rows_of es k first (take i (wired s ts))) now) none (c.loop-i.invariant.so_far s)) in
     subst (λ z. AreWritten old z now) (children-whole s ts es k first) (ended old p (rows_of es k first (wired s ts)) now last c.loop-i.invariant.fits)
+
+pub write_nodes-returns-clause-storable : goal.write_nodes-returns-clause-storable
+write_nodes-returns-clause-storable t c =
+    let ts = c.args.arrays.now in
+    stored-all ts c.loop-i.i (omega (arith, c.loop-i-test.false)) c.loop-i.invariant.stored

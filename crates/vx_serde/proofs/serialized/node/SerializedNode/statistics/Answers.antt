@@ -1,0 +1,1 @@
+use Rattle.vx_serde.proofs.serialized.node.SerializedNode.statistics.Goals as goal
