@@ -30,6 +30,7 @@ pub mod PadsAlign
 pub mod AlignedBlob
 pub mod Serializations
 pub mod SerializedNodes
+pub mod StandingNames
 pub mod OverriddenBuffers
 pub mod StoredMessages
 pub mod DecodedNodes

@@ -21,9 +21,7 @@ pub(crate) fn names_of(alloc: Global, table: &View<'_>) -> Result<Names, WireErr
     let mut names = Names::new(alloc);
     let stats = Stat::all();
     for stat in &stats {
-        if stands(table, *stat) {
-            push_name(alloc, *stat, &mut names)?;
-        }
+        push_name(alloc, table, *stat, &mut names)?;
     }
     Ok(names)
 }
@@ -46,11 +44,20 @@ fn stands(table: &View<'_>, stat: Stat) -> bool
     }
 }
 
-/// One more name, that of a statistic.
-fn push_name(alloc: Global, stat: Stat, names: &mut Names) -> Result<(), WireError>
-    ensures ok { OnOk result (names.new ≡ names.old ++ stat_name stat ∷ []) }
+/// One more name, that of a statistic, where it stands in a table.
+fn push_name(
+    alloc: Global,
+    table: &View<'_>,
+    stat: Stat,
+    names: &mut Names,
+) -> Result<(), WireError>
+    requires { kinds_in table.now ≡ stats_fields }
+    ensures ok { OnOk result (names.new ≡ names.old ++ names_standing (seen table.now) (stat ∷ [])) }
     ensures err { IsOkUnless result WireError.OutOfMemory }
 {
+    if !stands(table, stat) {
+        return Ok(());
+    }
     let Ok(name) = Name::new(alloc, name_of(stat)) else {
         return Err(WireError::OutOfMemory);
     };
