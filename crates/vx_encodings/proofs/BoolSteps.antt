@@ -16,7 +16,7 @@ use Rattle.vx_array_tree.specs.Metadata.{Metadata}
 use Rattle.vx_array_tree.specs.Metadata as M
 use Rattle.vx_array_tree.specs.Place.{Place, before_validity}
 use Rattle.vx_array_tree.specs.Table.{plan_of}
-use Rattle.vx_array_tree.specs.Tree.{Tree, Trees, places, option_trees}
+use Rattle.vx_array_tree.specs.Tree.{Tree, Trees, places, option_trees, untold}
 use Rattle.vx_arrays.specs.Bools.{bool_tree}
 use Rattle.vx_arrays.specs.Refused.{IsUnmade}
 use Rattle.vx_arrays.specs.declared.error.ArrayError.{ArrayError}
@@ -100,7 +100,7 @@ read_below h us o p r =
 
 -- What the constructor makes, as the node of the head's type over the children.
 made : (h : ArrayHead) (us : Trees) (o : ℕ) (m : Nullability) (b : Buffer) (v : Option Tree) → h.dtype ≡ D.Bool m → option_trees v ≡ us
-    → bool_tree b o h.len m v ≡ node (record { dtype = typ h.dtype; len = h.len; body = B.bool (record { bits = b; offset = o }) }) us
+    → bool_tree b o h.len m v ≡ node (untold (typ h.dtype) h.len (B.bool (record { bits = b; offset = o }))) us
 made h us o m b v d e = rw (ap (λ z. typ z) d, e) refl
 
 -- What is built has the parts.

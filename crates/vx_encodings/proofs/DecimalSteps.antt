@@ -18,7 +18,7 @@ use Rattle.vx_array_tree.specs.Metadata.{Metadata}
 use Rattle.vx_array_tree.specs.Metadata as M
 use Rattle.vx_array_tree.specs.Place.{Place, before_validity}
 use Rattle.vx_array_tree.specs.Table.{plan_of}
-use Rattle.vx_array_tree.specs.Tree.{Tree, Trees, places, option_trees}
+use Rattle.vx_array_tree.specs.Tree.{Tree, Trees, places, option_trees, untold}
 use Rattle.vx_arrays.specs.Decimals.{decimal_tree}
 use Rattle.vx_arrays.specs.Refused.{IsUnmade}
 use Rattle.vx_arrays.specs.declared.error.ArrayError.{ArrayError}
@@ -83,7 +83,7 @@ few_children h us ts c m planned d e = single_children h.len h.nchildren us ts (
 
 -- What the constructor makes, as the node of the head's type over the children.
 made : (h : ArrayHead) (us : Trees) (w : DecimalType) (c : Digits) (m : Nullability) (b : Buffer) (v : Option Tree) → h.dtype ≡ D.Decimal c m → option_trees v ≡ us
-    → decimal_tree b w c m h.len v ≡ node (record { dtype = typ h.dtype; len = h.len; body = B.decimal (record { values = b; values_type = w }) }) us
+    → decimal_tree b w c m h.len v ≡ node (untold (typ h.dtype) h.len (B.decimal (record { values = b; values_type = w }))) us
 made h us w c m b v d e = rw (ap (λ z. typ z) d, e) refl
 
 -- What is built has the parts.

@@ -11,7 +11,7 @@ use Rattle.vx_array_tree.specs.Metadata.{Metadata}
 use Rattle.vx_array_tree.specs.Place.{Place}
 use Rattle.vx_array_tree.specs.Refused.{IsMisshaped, IsWellShaped, HasBrokenContent}
 use Rattle.vx_array_tree.specs.Table.{IsFair, metadata_of, body_of, plan_of, lifted, Allows, Holds, Takes, IsShaped, encoding_of}
-use Rattle.vx_array_tree.specs.Tree.{Tree, Trees, places, encodings}
+use Rattle.vx_array_tree.specs.Tree.{Tree, Trees, places, encodings, untold}
 use Rattle.vx_array_tree.proofs.NodeLaws.{body_encoding}
 use Rattle.vx_array_tree.proofs.Plans.{metadata_again}
 use Rattle.vx_wire_tree.specs.Reads.{IsMetadata}
@@ -29,7 +29,7 @@ module _ (e : Encoding) (d : Typ) (n : ℕ) (v : Metadata) (bs : List Buffer) (b
   same_body c p q = cc
 
   well_shaped : encoding_of b ≡ e → metadata_of b (places us) ≡ v → IsFair e v → plan_of e d n v (count us) ≡ Some (lifted b (places us)) → Allows e d v (count us) → Takes e (encodings us) → Holds d n b
-      → IsWellShaped (record { dtype = d; len = n; body = b }) us
+      → IsWellShaped (untold d n b) us
   well_shaped named again fair planned allows takes holds =
       let fair2 : IsFair (encoding_of b) (metadata_of b (places us)) = subst (λ (z : Encoding). IsFair z (metadata_of b (places us))) (sym named) (subst (λ (w : Metadata). IsFair e w) (sym again) fair) in
       record {
@@ -42,13 +42,13 @@ module _ (e : Encoding) (d : Typ) (n : ℕ) (v : Metadata) (bs : List Buffer) (b
 
   -- So it is where the children stand where they are planned, and may be of their encodings.
   pub unfit : body_of e v bs ≡ Some b → IsFair e v → plan_of e d n v (count us) ≡ Some (places us) → lifted b (places us) ≡ places us → Takes e (encodings us)
-      → IsMisshaped (record { dtype = d; len = n; body = b }) us → IsShaped e d n v bs (count us) → ⊥
+      → IsMisshaped (untold d n b) us → IsShaped e d n v bs (count us) → ⊥
   unfit body_is fair planned level takes refused s =
       refused (well_shaped (body_encoding e v bs b body_is) (metadata_again e d n v (count us) bs b (places us) body_is planned) fair
       (planned ∙ ap (λ (ps : List Place). Some ps) (sym level)) s.allows takes (subst (λ (c : Body). Holds d n c) (same_body s.body body_is s.body_is) s.holds))
 
   -- And so many children may stand below a well-shaped node.
-  allowed : body_of e v bs ≡ Some b → plan_of e d n v (count us) ≡ Some (places us) → IsWellShaped (record { dtype = d; len = n; body = b }) us → Allows e d v (count us)
+  allowed : body_of e v bs ≡ Some b → plan_of e d n v (count us) ≡ Some (places us) → IsWellShaped (untold d n b) us → Allows e d v (count us)
   allowed body_is planned s =
       subst (λ (w : Metadata). Allows e d w (count us)) (metadata_again e d n v (count us) bs b (places us) body_is planned)
       (subst (λ (z : Encoding). Allows z d (metadata_of b (places us)) (count us)) (body_encoding e v bs b body_is) s.allows)
@@ -58,7 +58,7 @@ module _ (x : ExtMeaning) (e : Declared.Encoding) (h : ArrayHead) (v : Metadata)
   -- Parts that the constructor refuses do not fit its row.
   pub constructor_refused : (error : ArrayError) (bs : List Buffer) (us : Trees) (body : Body) (t : Tree) → body_of (plain_encoding e) v bs ≡ Some body → IsFair (plain_encoding e) v
       → plan_of (plain_encoding e) (typ h.dtype) h.len v (count us) ≡ Some (places us) → lifted body (places us) ≡ places us → Takes (plain_encoding e) (encodings us)
-      → t ≡ node (record { dtype = typ h.dtype; len = h.len; body = body }) us → IsUnmade error t → IsUnbuilt (constructor_error error) x e h bs us
+      → t ≡ node (untold (typ h.dtype) h.len body) us → IsUnmade error t → IsUnbuilt (constructor_error error) x e h bs us
   constructor_refused A.OutOfMemory bs us body t body_is fair planned level takes q refused = tt
   constructor_refused A.BadShape bs us body t body_is fair planned level takes q refused =
       let wrong = subst (λ (z : Tree). IsMisshaped (label z) (below z)) q refused in

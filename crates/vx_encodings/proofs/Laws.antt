@@ -1,5 +1,6 @@
--- What holds of the messages of metadata, encoding by encoding.
+-- What holds of the messages of metadata, encoding by encoding, and of the tables of statistics.
 use Rattle.std.proofs.Common.{ℕ, zero, suc, ◌≡◌, List, [], ◌∷◌, Some, length, refl, sym, ap, ◌∙◌}
+use Rattle.vx_flat.specs.Value.{table}
 use Rattle.vx_trees.specs.Rose.{node, end}
 use Rattle.vx_types.specs.Known.{ExtMeaning}
 use Rattle.vx_types.specs.Kind.{null, boolean, primitive, decimal, utf8, binary}
@@ -16,7 +17,9 @@ use Rattle.vx_array_tree.specs.Metadata as M
 use Rattle.vx_array_tree.specs.Place.{Place, place, numbers, exactly, before_validity, validity_place, is_len}
 use Rattle.vx_array_tree.specs.Table.{IsFair, plan_of}
 use Rattle.vx_array_tree.proofs.Options.{mapped, let_through}
-use Rattle.vx_wire_tree.specs.Codec.{IsLawfulAt}
+use Rattle.vx_scalars.specs.Stats.{Stats}
+use Rattle.vx_scalar_wire.proofs.LawsStats.{one_set_in, shown_fit_in, written_shown, written_storable, written_alike}
+use Rattle.vx_wire_tree.specs.Codec.{IsLawfulAt, HasLawfulStats}
 use Rattle.vx_wire_tree.specs.Fields.{Fields, FitsMessage, meant, told}
 use Rattle.vx_wire_tree.specs.Reads.{IsMetadata}
 use Rattle.vx_encodings.proofs.OffsetKinds.{one_kind, kind_again}
@@ -96,6 +99,16 @@ lawful Bool = bool_lawful
 lawful Primitive = primitive_lawful
 lawful Decimal = decimal_lawful
 lawful VarBin = varbin_lawful
+
+-- And so are the tables of statistics.
+pub stats_lawful : HasLawfulStats codec
+stats_lawful = record {
+  one_set = one_set_in;
+  shown_fit = shown_fit_in;
+  stats_again = written_shown;
+  written_storable = written_storable;
+  written_alike = λ t. ap (λ vs. table vs) (written_alike t);
+}
 
 -- What a node of an encoding that has code keeps fits its message.
 pub fair_message : (encoding : Encoding) (v : Metadata) → IsFair (plain_encoding encoding) v → FitsMessage v

@@ -16,7 +16,7 @@ use Rattle.vx_array_tree.specs.Metadata.{Metadata}
 use Rattle.vx_array_tree.specs.Metadata as M
 use Rattle.vx_array_tree.specs.Place.{Place, before_validity}
 use Rattle.vx_array_tree.specs.Table.{plan_of}
-use Rattle.vx_array_tree.specs.Tree.{Tree, Trees, places, option_trees}
+use Rattle.vx_array_tree.specs.Tree.{Tree, Trees, places, option_trees, untold}
 use Rattle.vx_arrays.specs.Primitives.{primitive_tree}
 use Rattle.vx_arrays.specs.Refused.{IsUnmade}
 use Rattle.vx_arrays.specs.declared.error.ArrayError.{ArrayError}
@@ -70,7 +70,7 @@ few_children h us ts p m planned d e =
 
 -- What the constructor makes, as the node of the head's type over the children.
 made : (h : ArrayHead) (us : Trees) (p : PType) (m : Nullability) (b : Buffer) (o : Option Tree) → h.dtype ≡ D.Primitive p m → option_trees o ≡ us
-    → primitive_tree p m h.len b o ≡ node (record { dtype = typ h.dtype; len = h.len; body = B.primitive (record { values = b }) }) us
+    → primitive_tree p m h.len b o ≡ node (untold (typ h.dtype) h.len (B.primitive (record { values = b }))) us
 made h us p m b o d e = rw (ap (λ z. typ z) d, e) refl
 
 -- What is built has the parts.

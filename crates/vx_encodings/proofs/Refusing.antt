@@ -12,7 +12,7 @@ use Rattle.vx_array_tree.specs.Metadata.{Metadata}
 use Rattle.vx_array_tree.specs.Place.{Place}
 use Rattle.vx_array_tree.specs.Sound.{IsSound, IsSoundNode}
 use Rattle.vx_array_tree.specs.Table.{metadata_of, body_of, plan_of, Allows, Content, Takes, IsShaped}
-use Rattle.vx_array_tree.specs.Tree.{Tree, Trees, Head, places, encodings, rows_below}
+use Rattle.vx_array_tree.specs.Tree.{Tree, Trees, Head, places, encodings, rows_below, untold}
 use Rattle.vx_array_tree.proofs.NodeLaws.{body_encoding}
 use Rattle.vx_array_tree.proofs.Plans.{metadata_again}
 use Rattle.vx_wire_tree.specs.Steps.{PlansChildren, HasNoPlan, HasParts, HasWrongShape, HasWrongContent}
@@ -48,7 +48,7 @@ module _ (x : ExtMeaning) (e : Encoding) (d : Typ) (n : ℕ) (bytes : List ℕ) 
   metadata_is : (v : Metadata) (b : Body) → body_of e v bs ≡ Some b → plan_of e d n v k ≡ Some (places ts) → metadata_of b (places ts) ≡ v
   metadata_is v b p q = metadata_again e d n v k bs b (places ts) p q
 
-  shaped : (v : Metadata) (b : Body) → body_of e v bs ≡ Some b → plan_of e d n v k ≡ Some (places ts) → IsSoundNode (record { dtype = d; len = n; body = b }) ts → IsShaped e d n v bs (count ts)
+  shaped : (v : Metadata) (b : Body) → body_of e v bs ≡ Some b → plan_of e d n v k ≡ Some (places ts) → IsSoundNode (untold d n b) ts → IsShaped e d n v bs (count ts)
   shaped v b p q s = record {
     body = b;
     body_is = p;
@@ -57,10 +57,10 @@ module _ (x : ExtMeaning) (e : Encoding) (d : Typ) (n : ℕ) (bytes : List ℕ) 
         (subst (λ (z : Encoding). Allows z d (metadata_of b (places ts)) (count ts)) (body_encoding e v bs b p) s.allows);
   }
 
-  takes : (v : Metadata) (b : Body) → body_of e v bs ≡ Some b → IsSoundNode (record { dtype = d; len = n; body = b }) ts → Takes e (encodings ts)
+  takes : (v : Metadata) (b : Body) → body_of e v bs ≡ Some b → IsSoundNode (untold d n b) ts → Takes e (encodings ts)
   takes v b p s = subst (λ (z : Encoding). Takes z (encodings ts)) (body_encoding e v bs b p) s.takes
 
-  wrong_parts : (v : Metadata) (b : Body) → body_of e v bs ≡ Some b → plan_of e d n v k ≡ Some (places ts) → IsSoundNode (record { dtype = d; len = n; body = b }) ts
+  wrong_parts : (v : Metadata) (b : Body) → body_of e v bs ≡ Some b → plan_of e d n v k ≡ Some (places ts) → IsSoundNode (untold d n b) ts
       → (IsShaped e d n v bs (count ts) → ⊥) ⊎ (Takes e (encodings ts) → ⊥) → ⊥
   wrong_parts v b p q s (inl w) = w (shaped v b p q s)
   wrong_parts v b p q s (inr w) = w (takes v b p s)
@@ -70,7 +70,7 @@ module _ (x : ExtMeaning) (e : Encoding) (d : Typ) (n : ℕ) (bytes : List ℕ) 
       let same = one_value x e d bytes planned.value parts.value planned.metadata parts.metadata in
       let other = one_value x e d bytes w.value parts.value w.metadata parts.metadata in
       let plan : plan_of e d n parts.value k ≡ Some (places ts) = subst (λ (z : Metadata). plan_of e d n z k ≡ Some (places ts)) same planned.plan in
-      let s = root_is t (record { dtype = d; len = n; body = parts.body }) parts.tree_is sound in
+      let s = root_is t (untold d n parts.body) parts.tree_is sound in
       wrong_parts parts.value parts.body parts.body_is plan s
       (subst (λ (z : Metadata). (IsShaped e d n z bs (count ts) → ⊥) ⊎ (Takes e (encodings ts) → ⊥)) other w.wrong)
 
@@ -81,7 +81,7 @@ module _ (x : ExtMeaning) (e : Encoding) (d : Typ) (n : ℕ) (bytes : List ℕ) 
   not_broken : (t : Tree) → HasParts codec x e d n bytes bs ts t → IsSound t → HasWrongContent codec x e d n bytes bs ts → ⊥
   not_broken t parts sound w =
       let other = one_value x e d bytes w.value parts.value w.metadata parts.metadata in
-      let s = root_is t (record { dtype = d; len = n; body = parts.body }) parts.tree_is sound in
+      let s = root_is t (untold d n parts.body) parts.tree_is sound in
       let b = same_body w.value parts.value w.shaped.body parts.body other w.shaped.body_is parts.body_is in
       w.wrong (subst (λ (c : Body). Content d n c (rows_below ts)) b s.content)
 

@@ -14,7 +14,7 @@ use Rattle.vx_array_tree.specs.Metadata.{Metadata}
 use Rattle.vx_array_tree.specs.Metadata as M
 use Rattle.vx_array_tree.specs.Place.{Place, before_validity}
 use Rattle.vx_array_tree.specs.Table.{IsFair, IsShaped, Takes, body_of, lifted, plan_of}
-use Rattle.vx_array_tree.specs.Tree.{Tree, Trees, places, encodings}
+use Rattle.vx_array_tree.specs.Tree.{Tree, Trees, places, encodings, untold}
 use Rattle.vx_wire_tree.specs.Reads.{IsMetadata}
 use Rattle.vx_arrays.specs.Refused.{IsUnmade}
 use Rattle.vx_arrays.specs.declared.error.ArrayError.{ArrayError}
@@ -84,13 +84,13 @@ module _ (x : ExtMeaning) (e : Declared.Encoding) (h : ArrayHead) (v : Metadata)
   single_without BadContent p w = absurd w
 
   -- What is built has the parts.
-  pub single_built : (bs : List Buffer) (us : Trees) (body : Body) (t : Tree) → body_of (plain_encoding e) v bs ≡ Some body → t ≡ node (record { dtype = typ h.dtype; len = h.len; body = body }) us → IsBuilt x e h bs us t
+  pub single_built : (bs : List Buffer) (us : Trees) (body : Body) (t : Tree) → body_of (plain_encoding e) v bs ≡ Some body → t ≡ node (untold (typ h.dtype) h.len body) us → IsBuilt x e h bs us t
   single_built bs us body t p q = record { value = v; metadata = m; body = body; body_is = p; tree_is = q }
 
   -- Parts that the constructor refuses do not fit the row of a planned node.
   pub single_refused : (error : ArrayError) (bs : List Buffer) (us : Trees) (b : Buffer) (body : Body) (t : Tree) → bs ≡ b ∷ [] → body_of (plain_encoding e) v (b ∷ []) ≡ Some body → IsFair (plain_encoding e) v
       → plan_of (plain_encoding e) (typ h.dtype) h.len v h.nchildren ≡ before_validity [] h.len h.nchildren → plan_of (plain_encoding e) (typ h.dtype) h.len v h.nchildren ≡ Some (places us)
-      → lifted body (places us) ≡ places us → Takes (plain_encoding e) (encodings us) → t ≡ node (record { dtype = typ h.dtype; len = h.len; body = body }) us → IsUnmade error t
+      → lifted body (places us) ≡ places us → Takes (plain_encoding e) (encodings us) → t ≡ node (untold (typ h.dtype) h.len body) us → IsUnmade error t
       → IsUnbuilt (constructor_error error) x e h bs us
   single_refused error bs us b body t p body_is fair plan planned level takes q refused =
       let few = validity_few h.len h.nchildren us (sym plan ∙ planned) in

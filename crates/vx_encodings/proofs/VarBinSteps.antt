@@ -18,7 +18,7 @@ use Rattle.vx_array_tree.specs.Metadata.{Metadata}
 use Rattle.vx_array_tree.specs.Metadata as M
 use Rattle.vx_array_tree.specs.Place.{Place, place, numbers, is_len, before_validity}
 use Rattle.vx_array_tree.specs.Table.{plan_of}
-use Rattle.vx_array_tree.specs.Tree.{Tree, Trees, places, option_trees}
+use Rattle.vx_array_tree.specs.Tree.{Tree, Trees, places, option_trees, untold}
 use Rattle.vx_array_tree.proofs.Options.{mapped, let_through}
 use Rattle.vx_arrays.specs.Refused.{IsUnmade}
 use Rattle.vx_arrays.specs.VarBins.{IsOfBytes, varbin_tree}
@@ -170,7 +170,7 @@ offsets_len p n (suc k) o vs e = let m = mapped (λ (qs : List Place). p ∷ qs)
 
 -- What the constructor makes is the node of the head's type and length over the children.
 made : (h : ArrayHead) (us : Trees) (o : Tree) (b : Buffer) (v : Option Tree) → VarBinPlan h us → more o (option_trees v) ≡ us
-    → varbin_tree (typ h.dtype) o b v ≡ node (record { dtype = typ h.dtype; len = h.len; body = B.varbin (record { bytes = b }) }) us
+    → varbin_tree (typ h.dtype) o b v ≡ node (untold (typ h.dtype) h.len (B.varbin (record { bytes = b }))) us
 made h us o b v p e =
     let q = subst (λ (z : Trees). before_validity (place (numbers p.kind) (suc h.len) ∷ []) h.len h.nchildren ≡ Some (places z)) (sym e) p.children in
     let l = offsets_len (place (numbers p.kind) (suc h.len)) h.len h.nchildren o (option_trees v) q in

@@ -1,7 +1,11 @@
--- The messages of metadata: which bytes show one, and the bytes that are written.
+-- The messages of metadata, and the tables of statistics: which bytes or which field shows one, and what is written.
 use Rattle.std.specs.Prelude.{ℕ, ◌≡◌, List, []}
+use Rattle.vx_flat.specs.Value.{Field, table}
+use Rattle.vx_scalars.specs.Stats.{Stats}
 use Rattle.vx_array_tree.specs.Encoding.{Encoding}
 use Rattle.vx_array_tree.specs.Encoding as E
+use Rattle.vx_scalar_wire.specs.StatsShown.{ShowsStatsIn}
+use Rattle.vx_scalar_wire.specs.StatsTable.{AreStorable, stats_table}
 use Rattle.vx_wire_tree.specs.Codec.{Codec}
 use Rattle.vx_wire_tree.specs.Fields.{Fields}
 use Rattle.vx_wire_tree.specs.Fields as F
@@ -37,6 +41,16 @@ message_bytes (F.decimal width) = decimal_bytes width
 message_bytes (F.varbin kind) = varbin_bytes kind
 message_bytes _ = []
 
--- The messages that are read and written here.
+-- A set of statistics is written as its table, whatever it tells.
+abbrev pub stats_field : Stats → Field
+stats_field t = table (stats_table t)
+
+-- The messages that are read and written here, and the tables of statistics.
 abbrev pub codec : Codec
-codec = record { Shows = Shows; fields_bytes = message_bytes }
+codec = record {
+  Shows = Shows;
+  fields_bytes = message_bytes;
+  ShowsStats = ShowsStatsIn;
+  stats_field = stats_field;
+  IsStorable = AreStorable;
+}

@@ -12,7 +12,7 @@ use Rattle.vx_wire_tree.specs.Session.{shipped, IsShipped, IsShippedReader}
 use Rattle.vx_encodings.specs.Messages.{codec}
 use Rattle.vx_encodings.specs.Plain.{plain_encoding}
 use Rattle.vx_encodings.specs.declared.encoding.Encoding.{Encoding}
-use Rattle.vx_encodings.proofs.Laws.{lawful, fair_message}
+use Rattle.vx_encodings.proofs.Laws.{lawful, stats_lawful, fair_message}
 use Rattle.vx_registry.specs.Session.{Registry, entry, tables_meaning}
 
 entry_shipped : (o : Option Encoding) → IsShippedReader (option_map entry o)
@@ -31,12 +31,15 @@ pub entry_encoding : (o : Option Encoding) (e : E.Encoding) → option_map entry
 entry_encoding None e p = absurd (cc)
 entry_encoding (Some encoding) e p = (encoding, cc)
 
--- The encodings by which a session reads have lawful messages of metadata.
-pub registry_lawful : (r : Registry) (x : ExtMeaning) → IsLawful codec (tables_meaning r x)
-registry_lawful r x = λ id e p.
+read_lawful : (r : Registry) (id : List ℕ) (e : E.Encoding) → option_map entry (lookup (bytes_eq id) r.readers) ≡ Some (shipped e) → IsLawfulAt codec e
+read_lawful r id e p =
     let own = entry_encoding (lookup (bytes_eq id) r.readers) e p in
     let P : E.Encoding → Type 0 = λ z. IsLawfulAt codec z in
     subst P own.1 (lawful own.0)
+
+-- The encodings by which a session reads have lawful messages of metadata, and the tables of statistics are lawful.
+pub registry_lawful : (r : Registry) (x : ExtMeaning) → IsLawful codec (tables_meaning r x)
+registry_lawful r x = record { messages = read_lawful r; stats = stats_lawful }
 
 -- What a session reads of a node's metadata fits its message.
 pub registry_messages : (r : Registry) (x : ExtMeaning) (id : List ℕ) (e : E.Encoding) (v : Metadata) → (tables_meaning r x).reader id ≡ Some (shipped e) → IsFair e v → FitsMessage v

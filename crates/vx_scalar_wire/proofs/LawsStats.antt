@@ -43,10 +43,7 @@ shown_fit_in d _ t h = absurd h
 pub written_shown : (d : Typ) (t : Stats) → FitStats d t → AreStorable t → ShowsStats d (stats_table t) (written_stats t)
 written_shown d t f w = stats_back d t f w
 
--- What is written of a set can be stored where the set can, and has the table of the set.
-pub written_storable : (t : Stats) → AreStorable t → AreStorable (written_stats t)
-written_storable t w = record { least = w.least; greatest = w.greatest; sum = subst (λ (x : Told). IsStorable x) (sym (written_sum_twice t.total)) w.sum }
-
+-- What is written of a set has the table of the set.
 pub written_alike : (t : Stats) → stats_table (written_stats t) ≡ stats_table t
 written_alike t =
     let total = written_sum_twice t.total in
@@ -61,6 +58,15 @@ written_alike t =
     (field (value_field (total i))
     (field (number_field (option_map flag_number (sorted i))) (field (number_field (option_map flag_number (strict i))) (field (number_field (option_map flag_number (constant i)))
     (field (number_field (nulls i)) (field (number_field (size i)) (field (number_field (nans i)) no_fields))))))))))
+
+-- And it can be stored where the set can.
+pub written_storable : (t : Stats) → AreStorable t → AreStorable (written_stats t)
+written_storable t w = record {
+  least = w.least;
+  greatest = w.greatest;
+  sum = subst (λ (x : Told). IsStorable x) (sym (written_sum_twice t.total)) w.sum;
+  of_kind = subst (λ (vs : Fields). IsOf stats_schema vs) (sym (written_alike t)) w.of_kind;
+}
 
 -- A sum in its written form is well.
 pub canonical_well : (v : V.Value) → IsWell v → IsWell (canonical_sum v)

@@ -17,3 +17,4 @@ pub mod StatsRead
 pub mod StatsValues
 pub mod StatsBack
 pub mod LawsStats
+pub mod LawsWriting

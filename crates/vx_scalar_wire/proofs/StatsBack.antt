@@ -32,7 +32,7 @@ use Rattle.vx_scalar_wire.proofs.LawsScalars.{written-reads}
 -- ---- values of the types of statistics
 
 -- A type of flags, numbers, decimals, texts or bytes.
-abbrev IsLeaf : Typ → Type 0
+abbrev pub IsLeaf : Typ → Type 0
 IsLeaf (node (K.boolean m) ts) = Unit {0}
 IsLeaf (node (K.primitive p m) ts) = Unit {0}
 IsLeaf (node (K.decimal p s m) ts) = Unit {0}
@@ -46,7 +46,7 @@ given d e l h = let same : d ≡ e = cc in subst (λ (t : Typ). IsLeaf t) same l
 not_given : (e : Typ) → None ≡ Some e → IsLeaf e
 not_given e h = absurd (cc)
 
-ordered_leaf : (t e : Typ) → ordered t ≡ Some e → IsLeaf e
+pub ordered_leaf : (t e : Typ) → ordered t ≡ Some e → IsLeaf e
 ordered_leaf (node (K.boolean m) ts) e h = given (node (K.boolean m) ts) e tt h
 ordered_leaf (node (K.primitive p m) ts) e h = given (node (K.primitive p m) ts) e tt h
 ordered_leaf (node (K.decimal p s m) ts) e h = given (node (K.decimal p s m) ts) e tt h
@@ -54,13 +54,13 @@ ordered_leaf (node (K.utf8 m) ts) e h = given (node (K.utf8 m) ts) e tt h
 ordered_leaf (node (K.binary m) ts) e h = given (node (K.binary m) ts) e tt h
 ordered_leaf _ e h = not_given e h
 
-sum_leaf : (t e : Typ) → sum_type t ≡ Some e → IsLeaf e
+pub sum_leaf : (t e : Typ) → sum_type t ≡ Some e → IsLeaf e
 sum_leaf (node (K.boolean m) ts) e h = given _ e tt h
 sum_leaf (node (K.primitive p m) ts) e h = given _ e tt h
 sum_leaf (node (K.decimal p s m) ts) e h = given _ e tt h
 sum_leaf _ e h = not_given e h
 
-no_parts : (k : ℕ) (Each : Typ → Type 0) (By : Roses Kind → Type 0) (d : Typ) → IsLeaf d → FitParts k Each By (bare d) → ⊥
+pub no_parts : (k : ℕ) (Each : Typ → Type 0) (By : Roses Kind → Type 0) (d : Typ) → IsLeaf d → FitParts k Each By (bare d) → ⊥
 no_parts k Each By (node (K.boolean m) ts) l f = f
 no_parts k Each By (node (K.primitive p m) ts) l f = f
 no_parts k Each By (node (K.decimal p s m) ts) l f = f
@@ -68,7 +68,7 @@ no_parts k Each By (node (K.utf8 m) ts) l f = f
 no_parts k Each By (node (K.binary m) ts) l f = f
 no_parts k Each By _ l f = absurd l
 
-no_member : (tag : ℕ) (By : Roses Kind → Type 0) (d : Typ) → IsLeaf d → FitsMember tag By (bare d) → ⊥
+pub no_member : (tag : ℕ) (By : Roses Kind → Type 0) (d : Typ) → IsLeaf d → FitsMember tag By (bare d) → ⊥
 no_member tag By (node (K.boolean m) ts) l f = f
 no_member tag By (node (K.primitive p m) ts) l f = f
 no_member tag By (node (K.decimal p s m) ts) l f = f
@@ -76,7 +76,7 @@ no_member tag By (node (K.utf8 m) ts) l f = f
 no_member tag By (node (K.binary m) ts) l f = f
 no_member tag By _ l f = absurd l
 
-no_variant : (d : Typ) → IsLeaf d → IsVariant (bare d) → ⊥
+pub no_variant : (d : Typ) → IsLeaf d → IsVariant (bare d) → ⊥
 no_variant (node (K.boolean m) ts) l f = f
 no_variant (node (K.primitive p m) ts) l f = f
 no_variant (node (K.decimal p s m) ts) l f = f
@@ -101,7 +101,7 @@ numeral_depth (F64 n) = omega arith
 none_known : (vs : V.Values) → vs ≡ end → AreKnownValues no_readers vs
 none_known vs e = subst (λ (us : V.Values). AreKnownValues no_readers us) (sym e) tt
 
-leaf_known : (v : V.Value) (d : Typ) → IsLeaf d → Fits v d → IsKnownValue no_readers v × (nested (value_message v) ≤ 100)
+pub leaf_known : (v : V.Value) (d : Typ) → IsLeaf d → Fits v d → IsKnownValue no_readers v × (nested (value_message v) ≤ 100)
 leaf_known (node V.null vs) d l f = ((tt, none_known vs f.1), omega arith)
 leaf_known (node V.opaque vs) d l f = absurd f
 leaf_known (node (V.bool b) vs) d l f = ((tt, none_known vs f.1), omega arith)

@@ -1,5 +1,6 @@
 -- The table in which a set of statistics is written.
 use Rattle.std.specs.Prelude.{ℕ, ◌<◌, ◌^◌, List, length, Option, Some, None, option_map}
+use Rattle.vx_flat.specs.IsOf.{IsOf}
 use Rattle.vx_flat.specs.Pieces.{Piece, pieces}
 use Rattle.vx_flat.specs.Value.{Field, absent, number, elements, Fields, no_fields, field}
 use Rattle.vx_proto.specs.Parts.{flag_number}
@@ -59,8 +60,9 @@ IsStorable (Exact v) = IsWell v × (length (value_bytes v) < 2 ^ 64)
 IsStorable (Inexact v) = IsWell v × (length (value_bytes v) < 2 ^ 64)
 IsStorable Absent = Unit {0}
 
--- So are the values of a set that are written.
+-- So are the values of a set that are written, and its table is of its kind: counts have eight bytes.
 pub record AreStorable (t : Stats) : Type 0 where
   pub least : IsStorable t.least
   pub greatest : IsStorable t.greatest
   pub sum : IsStorable (written_sum t.total)
+  pub of_kind : IsOf stats_schema (stats_table t)

@@ -1,6 +1,6 @@
 //! Statistics out of tables, and into them.
 
-ghost use Rattle.std.specs.Prelude.{◌≡◌, ◌<◌, ◌^◌, false, length, IfOk, IfErr, IsOk, OnOk, OnErr, MatchResult};
+ghost use Rattle.std.specs.Prelude.{◌≡◌, ◌<◌, ◌^◌, true, false, length, IfOk, IfErr, IsOk, OnOk, OnErr, MatchResult};
 ghost use Rattle.vx_flat.specs.Building.{Takes, Written, Keeps, IsTooLong};
 ghost use Rattle.vx_flat.specs.IsOf.{IsOf};
 ghost use Rattle.vx_flat.specs.Seen.{kinds_in, seen};
@@ -8,7 +8,7 @@ ghost use Rattle.vx_scalars.specs.Stats.{Stats, FitStats};
 ghost use Rattle.vx_types.specs.Seen.{typ};
 ghost use Rattle.vx_scalar_wire.specs.StatsSchema.{stats_fields, stats_schema};
 ghost use Rattle.vx_scalar_wire.specs.StatsShown.{ShowsStats};
-ghost use Rattle.vx_scalar_wire.specs.StatsTable.{stats_table, stats_pieces};
+ghost use Rattle.vx_scalar_wire.specs.StatsTable.{AreStorable, stats_table, stats_pieces};
 ghost use Rattle.vx_scalar_wire.specs.StatsUnread.{IsUnreadStats};
 ghost use Rattle.vx_scalar_wire.specs.StatsUnwritten.{AreWritable, IsUnwrittenStats};
 
@@ -18,7 +18,7 @@ mod values;
 mod writing;
 
 use crate::error::ScalarWireError;
-use crate::stats::entries::Stored;
+use crate::stats::entries::{Stored, hold_count};
 use crate::stats::reading::read_stat;
 use crate::stats::values::{sum_bytes, value_bytes};
 use crate::stats::writing::write_table;
@@ -36,6 +36,9 @@ pub trait StatsSetExt: Sized {
         dtype: &DType,
     ) -> Result<Self, ScalarWireError>
         requires { kinds_in view.now ≡ stats_fields };
+
+    /// What is known of each set: its table is of its kind.
+    fn hold(&self);
 
     /// Writes the blocks of the table of the statistics.
     fn write_flatbuffer(&self, alloc: Global, builder: &mut Builder) -> Result<(), ScalarWireError>
@@ -68,6 +71,16 @@ impl StatsSetExt for StatsSet {
         Ok(set)
     }
 
+    /// What is known of each set: its table is of its kind. Nothing runs but look-ups; a
+    /// caller gets the fact.
+    fn hold(&self)
+        ensures { IsOf stats_schema (stats_table self.now) }
+    {
+        hold_count(self.get(Stat::NullCount));
+        hold_count(self.get(Stat::UncompressedSizeInBytes));
+        hold_count(self.get(Stat::NaNCount));
+    }
+
     /// Writes the blocks of the table of the statistics after those that the builder has:
     /// the least and the greatest value, exact or not, with their precisions, and what else
     /// is exact, of which a sum that is no number becomes one NaN, a flag is written where it
@@ -83,8 +96,10 @@ impl StatsSetExt for StatsSet {
         ensures fits { IsOk result → length builder.new.bytes < 2 ^ 31 }
         ensures works { IsOk result → builder.old.failed ≡ false }
         ensures writable { OnOk result (AreWritable self.now) }
+        ensures storable { OnOk result (AreStorable self.now) }
         ensures kept { OnErr result (Keeps builder.old (stats_pieces self.now) builder.new) }
         ensures cause { IfErr result (λ e. IsUnwrittenStats e self.now builder.old) }
+        ensures failed { IfErr result (λ e. e ≡ ScalarWireError.MessageTooLong → builder.new.failed ≡ true) }
         ensures limit { IsTooLong builder.old (stats_pieces self.now) → IsOk result → ⊥ }
     {
         let stored = Stored {

@@ -23,7 +23,7 @@ use Rattle.vx_serde.specs.Placing.{descriptors_from, data_from}
 use Rattle.vx_serde.specs.Written.{message_bytes, message_pad, blob_bytes, IsWritable}
 use Rattle.vx_serde.proofs.MessageRead.{message_of-message_value, message_value_is_of}
 use Rattle.vx_serde.proofs.PlacedRead.{buffers_at-descriptors_from, end_of-descriptors_from, aligned-descriptors_from, plain-descriptors_from, described-descriptors_from}
-use Rattle.vx_serde.proofs.NumberedRead.{IsPlacedNode, IsPlaced, placed_from_ids, numbered_fits, wire_of-numbered}
+use Rattle.vx_serde.proofs.NumberedRead.{IsPlacedNode, IsPlaced, IsTabledNode, placed_from_ids, numbered_fits, wire_of-numbered}
 
 -- The layout of a value of array messages shows it.
 pub shows-layout : (v : Fields) → IsOf array_schema v → length (written_layout array_schema v) < 2 ^ 31 → Shows array_schema (written_layout array_schema v) v
@@ -55,15 +55,15 @@ read_wire ids w bs e placed =
     sym (ap (λ bs. wire_of ids bs (numbered ids 0 w)) (e ∙ sym (append-nil (buffers_in w))) ∙ wire_of-numbered ids [] [] 0 w refl placed)
 
 -- What is written for a tree carries the tree, and its descriptors are in order.
-pub carried : (ids : List (List ℕ)) (options : SerializeOptions) (w : Wire) → IsWhole w → All (IsPlaced ids) (ids_in w)
+pub carried : (ids : List (List ℕ)) (options : SerializeOptions) (w : Wire) → IsWhole w → Everywhere IsTabledNode w → All (IsPlaced ids) (ids_in w)
     → IsWritable ids options w → (c : Carries (blob_bytes ids options w) ids w) × AreClean c.segment (message_of c.value).descriptors
-carried ids options w clean all fit =
+carried ids options w clean tabled all fit =
     let placed = placed_from_ids ids w clean all in
     let root = numbered ids 0 w in
     let bs = buffers_in w in
     let ds = descriptors_from options options.offset bs in
     let zeros : List ℕ = replicate (message_pad options w) 0 in
-    let numbered = numbered_fits ids 0 w (omega (arith, fit.tree.few)) placed in
+    let numbered = numbered_fits ids 0 w (omega (arith, fit.tree.few)) placed tabled in
     let told = message_of-message_value root ds numbered (described-descriptors_from options options.offset bs fit.tree.describable) in
     let same : (message_of (message_value root ds)).descriptors ≡ ds = ap (λ m. m.descriptors) told in
     let shows = shows-layout (message_value root ds) (message_value_is_of root ds numbered) (omega (arith, fit.short)) in (

@@ -1,5 +1,5 @@
 -- The wire tree of a serialized node, part by part, and of its children.
-use Rattle.std.proofs.Common.{ℕ, zero, suc, ◌≡◌, ◌+◌, ◌<◌, ◌≤◌, List, [], ◌∷◌, ◌++◌, Option, Some, None, length, take, map, get_or, refl, sym, ap, ◌∙◌, arith}
+use Rattle.std.proofs.Common.{ℕ, zero, suc, ◌≡◌, ◌+◌, ◌<◌, ◌≤◌, List, [], ◌∷◌, ◌++◌, Option, Some, None, length, take, map, get_or, refl, sym, ap, ◌∙◌, subst, arith}
 use Rattle.std.specs.Prelude.{slice_get, option_map, option_and_then}
 use Rattle.std.proofs.lemmas.List.{take_more, take_all, map-append, length-map}
 use Rattle.std.proofs.lemmas.Option.{slice_get-map, slice_get_within, slice_get-get_or, get_or_from_slice_get}
@@ -8,11 +8,17 @@ use Rattle.vx_trees.specs.Rose.{Rose, Roses, node, end, more, label, below, rose
 use Rattle.vx_trees.specs.Walks as walk
 use Rattle.vx_trees.proofs.Counting.{nodes-is, nodes-at}
 use Rattle.vx_trees.proofs.Lists.{length-roses_list, roses_of-roses_list}
+use Rattle.vx_flat.specs.Value.{Field}
+use Rattle.vx_types.specs.Typ.{Typ}
+use Rattle.vx_array_tree.specs.Tree.{Tree}
+use Rattle.vx_wire_tree.specs.Steps.{IsToldBy}
 use Rattle.vx_wire_tree.specs.Wire.{all_present}
+use Rattle.vx_encodings.specs.Messages.{codec}
 use Rattle.vx_serde.specs.Blob.{wire_of, wires_of}
 use Rattle.vx_serde.specs.Message.{NodeFields}
+use Rattle.vx_serde.specs.declared.error.WireError.{WireError}
 use Rattle.vx_serde.specs.declared.error.WireError.TheVariants.{OutOfBounds}
-use Rattle.vx_serde.specs.ReadingSteps.{RefusesBuffers}
+use Rattle.vx_serde.specs.ReadingSteps.{RefusesBuffers, RefusesStats}
 use Rattle.vx_serde.specs.Serialized.{Serialized, wire_in, named_buffer, IsChildOf}
 
 module _ (ids : List (List ℕ)) (bs : List Buffer) where
@@ -24,6 +30,9 @@ module _ (ids : List (List ℕ)) (bs : List Buffer) where
 
   wire_of-buffers : (t : Rose NodeFields) → (label (wire_of ids bs t)).buffers ≡ map (λ i. slice_get bs i) (label t).buffers
   wire_of-buffers (node f ts) = refl
+
+  wire_of-stats : (t : Rose NodeFields) → (label (wire_of ids bs t)).stats ≡ (label t).stats
+  wire_of-stats (node f ts) = refl
 
   wire_of-below : (t : Rose NodeFields) → below (wire_of ids bs t) ≡ wires_of ids bs (below t)
   wire_of-below (node f ts) = refl
@@ -46,6 +55,9 @@ module _ (ids : List (List ℕ)) (a : Serialized) where
 
   pub wire-buffers : (label (wire_in ids a)).buffers ≡ map (λ i. slice_get a.buffers i) (label a.root).buffers
   wire-buffers = wire_of-buffers ids a.buffers a.root
+
+  pub wire-stats : (label (wire_in ids a)).stats ≡ (label a.root).stats
+  wire-stats = wire_of-stats ids a.buffers a.root
 
   pub wire-count : count (below (wire_in ids a)) ≡ count (below a.root)
   wire-count = ap (λ z. count z) (wire_of-below ids a.buffers a.root) ∙ wires_of-count ids a.buffers (below a.root)
@@ -107,3 +119,12 @@ module _ (a : Serialized) (i : ℕ) where
   -- One of them is missing.
   pub lacks-buffer : (ids : List (List ℕ)) → i < length (label a.root).buffers → named_buffer a i ≡ None → RefusesBuffers OutOfBounds (label (wire_in ids a)).buffers
   lacks-buffer ids h e = (i, ap (λ z. slice_get z i) (wire-buffers ids a) ∙ buffer-missing h e)
+
+-- ---- statistics
+
+-- What a node's field shows, or why it shows nothing, is said of its wire tree.
+pub shown_at : (ids : List (List ℕ)) (a : Serialized) (d : Typ) (t u : Tree) → IsToldBy codec d (label a.root).stats t u → IsToldBy codec d (label (wire_in ids a)).stats t u
+shown_at ids a d t u h = subst (λ (f : Field). IsToldBy codec d f t u) (sym (wire-stats ids a)) h
+
+pub refused_at : (ids : List (List ℕ)) (a : Serialized) (d : Typ) (e : WireError) → RefusesStats e d (label a.root).stats → RefusesStats e d (label (wire_in ids a)).stats
+refused_at ids a d e h = subst (λ (f : Field). RefusesStats e d f) (sym (wire-stats ids a)) h

@@ -8,6 +8,7 @@ pub mod NodeTold
 pub mod MessageRead
 pub mod PlacedRead
 pub mod NumberedRead
+pub mod WiredStats
 pub mod Carried
 pub mod CarriedOnce
 pub mod GrownPlaced
@@ -16,6 +17,7 @@ pub mod Chains
 pub mod NodePieces
 pub mod NodeWays
 pub mod NodeSteps
+pub mod StatsBlocks
 pub mod NumberedBy
 pub mod MessageBlocks
 pub mod Gathered
@@ -28,6 +30,7 @@ pub mod PadsAlign
 pub mod AlignedBlob
 pub mod Serializations
 pub mod SerializedNodes
+pub mod StandingNames
 pub mod OverriddenBuffers
 pub mod StoredMessages
 pub mod DecodedNodes

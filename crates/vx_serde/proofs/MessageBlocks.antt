@@ -16,6 +16,7 @@ use Rattle.vx_flat.specs.Value.{Fields}
 use Rattle.vx_flat.specs.Weight.{weight}
 use Rattle.vx_flat.proofs.LawsOfBuilding.{bytes-with_pieces, count-with_pieces, failed-with_pieces, waits-with_pieces}
 use Rattle.vx_flat.proofs.LawsOfMessages.{weight-shown}
+use Rattle.vx_trees.specs.Everywhere.{Everywhere}
 use Rattle.vx_trees.specs.Walks.{nodes}
 use Rattle.vx_wire_tree.specs.Wire.{Wire}
 use Rattle.vx_serde.specs.declared.error.WireError.{WireError}
@@ -27,6 +28,7 @@ use Rattle.vx_serde.specs.WritingSteps.{AreDescriptors, RefusesBytes}
 use Rattle.vx_serde.proofs.Carried.{shows-layout}
 use Rattle.vx_serde.proofs.MessageRead.{length-descriptors_bytes}
 use Rattle.vx_serde.proofs.NumberedBy.{message-tables}
+use Rattle.vx_serde.proofs.WiredStats.{IsToldNode}
 
 -- ---- the blocks
 
@@ -75,10 +77,10 @@ module _ (es : List ℕ) (w : Wire) (bytes : List ℕ) (of : IsOf array_schema (
   blocks-refused flat.TableLimit b h = absurd h
 
   -- More nodes have too many tables.
-  pub too-many : 499999 < nodes w → RefusesBytes (layout_by es w bytes) WireLimit
-  too-many n = λ short light.
+  pub too-many : Everywhere IsToldNode w → 499999 < nodes w → RefusesBytes (layout_by es w bytes) WireLimit
+  too-many told n = λ short light.
       let shown = shows-layout (message_by es w bytes) of short in
-      omega (arith, n, light.1, ap (λ z. z.tables) (weight-shown array_schema (layout_by es w bytes) (message_by es w bytes) shown), message-tables es w bytes)
+      omega (arith, n, light.1, ap (λ z. z.tables) (weight-shown array_schema (layout_by es w bytes) (message_by es w bytes) shown), message-tables es w bytes told)
 
   pub heavy : (m : List ℕ) (e : WireError) → m ≡ layout_by es w bytes → (e ≡ WireLimit) × (IsLight limits (weight array_schema m) → ⊥) → RefusesBytes (layout_by es w bytes) e
   heavy m e is h =
@@ -117,3 +119,8 @@ if_ok-same (Err e) f m Q h q = tt
 pub if_err : {T E : Type 0} (r : Result T E) (P Q : E → Type 0) → ((e : E) → P e → Q e) → IfErr r P → IfErr r Q
 if_err (Ok x) P Q f h = tt
 if_err (Err e) P Q f h = f e h
+
+-- What holds in any case holds where an answer is given.
+pub ok_of : {T E : Type 0} (r : Result T E) (P : Type 0) → P → OnOk r P
+ok_of (Ok x) P h = h
+ok_of (Err e) P h = tt

@@ -1,5 +1,5 @@
 -- The table value of a message tells that message, and is a value of the schema.
-use Rattle.std.proofs.Common.{ℕ, ◌≡◌, ◌*◌, ◌<◌, ◌^◌, List, [], ◌∷◌, length, Some, refl, arith, lit<}
+use Rattle.std.proofs.Common.{ℕ, ◌≡◌, ◌*◌, ◌<◌, ◌^◌, List, [], ◌∷◌, length, Some, refl, arith}
 use Rattle.std.specs.Prelude.{All}
 use Rattle.std.proofs.lemmas.Nat.{from_le_bytes-to_le_bytes_2, from_le_bytes-to_le_bytes_4}
 use Rattle.std.proofs.lemmas.List.Elements.{All-head, All-tail}
@@ -7,9 +7,9 @@ use Rattle.vx_flat.specs.IsOf.{IsOf, AreOf, AreRowsOf}
 use Rattle.vx_flat.specs.Schema.{struct_size}
 use Rattle.vx_trees.specs.Rose.{Rose, Roses, node, end, more}
 use Rattle.vx_trees.specs.Everywhere.{EverywhereBelow}
-use Rattle.vx_serde.specs.ArraySchema.{array_schema, node_fields, stats_fields}
+use Rattle.vx_serde.specs.ArraySchema.{array_schema, node_fields}
 use Rattle.vx_serde.specs.Message.{Descriptor, NodeFields, indices_of, descriptors_of, node_of, nodes_of, message_of}
-use Rattle.vx_serde.specs.MessageValue.{index_bytes, descriptors_bytes, no_stats, node_value, rows_value, message_value, IsNumberedNode, IsDescribed, IsNumbered}
+use Rattle.vx_serde.specs.MessageValue.{index_bytes, descriptors_bytes, node_value, rows_value, message_value, IsNumberedNode, IsDescribed, IsNumbered}
 
 -- Indices are read as they were written, two bytes each.
 pub indices_of-index_bytes : (is : List ℕ) → All (λ i. i < 2 ^ 16) is → indices_of (index_bytes is) ≡ is
@@ -41,9 +41,9 @@ mutual
   -- The table of a node tells the node, with all nodes below it.
   pub node_of-node_value : (t : Rose NodeFields) → IsNumbered t → node_of (node_value t) ≡ t
   node_of-node_value (node f ts) fit =
-      let buffers = indices_of-index_bytes f.buffers fit.0.1 in
+      let buffers = indices_of-index_bytes f.buffers fit.0.buffers in
       let children = nodes_of-rows_value ts fit.1 in
-      λ k. node (record { encoding = f.encoding; metadata = f.metadata; buffers = buffers k }) (children k)
+      λ k. node (record { encoding = f.encoding; metadata = f.metadata; buffers = buffers k; stats = f.stats }) (children k)
 
   pub nodes_of-rows_value : (ts : Roses NodeFields) → EverywhereBelow IsNumberedNode ts → nodes_of (rows_value ts) ≡ ts
   nodes_of-rows_value end fit = refl
@@ -60,15 +60,11 @@ message_of-message_value root ds numbered described =
     let b = descriptors_of-descriptors_bytes ds described in
     λ k. record { root = Some (a k); descriptors = b k }
 
--- The table without statistics is of the schema.
-no_stats_is_of : AreOf array_schema stats_fields no_stats
-no_stats_is_of = (tt, (lit< tt, (tt, (lit< tt, (tt, (tt, (tt, (tt, (tt, (tt, (tt, tt)))))))))))
-
 mutual
   -- The table of a node is of the schema, and so are those of the nodes below it.
   pub node_value_is_of : (t : Rose NodeFields) → IsNumbered t → AreOf array_schema node_fields (node_value t)
   node_value_is_of (node f ts) fit =
-      (fit.0.0, ((length f.metadata, omega arith), (rows_value_are_of ts fit.1, ((length f.buffers, length-index_bytes f.buffers), (no_stats_is_of, tt)))))
+      (fit.0.encoding, ((length f.metadata, omega arith), (rows_value_are_of ts fit.1, ((length f.buffers, length-index_bytes f.buffers), (fit.0.stats, tt)))))
 
   pub rows_value_are_of : (ts : Roses NodeFields) → EverywhereBelow IsNumberedNode ts → AreRowsOf array_schema 1 (rows_value ts)
   rows_value_are_of end fit = tt

@@ -4,12 +4,16 @@ use Rattle.std.specs.Int.{w16, to_le_bytes}
 use Rattle.std.proofs.lemmas.List.{take_more, take-append-drop}
 use Rattle.vx_flat.specs.declared.builder.piece.BlockField.TheVariants as entry
 use Rattle.vx_flat.specs.declared.builder.piece.LinkKind.TheVariants as link
-use Rattle.vx_flat.specs.Pieces.{Piece, table_piece, elements_piece, default_entry, rows_length, rows_pieces}
+use Rattle.vx_flat.specs.Pieces.{Piece, table_piece, elements_piece, default_entry, rows_length, rows_pieces, table_pieces}
+use Rattle.vx_flat.specs.Value.{table}
+use Rattle.vx_scalars.specs.Stats.{Stats}
+use Rattle.vx_scalar_wire.specs.StatsTable.{stats_table, stats_pieces}
+use Rattle.vx_scalar_wire.proofs.LawsStats.{pieces_anywhere}
 use Rattle.vx_trees.specs.Rose.{node, label, below, roses_of}
 use Rattle.vx_trees.specs.Walks.{nodes, nodes_of, gathered, gathered_below}
 use Rattle.vx_wire_tree.specs.Wire.{Wire, present, buffers_at_node, buffers_in}
-use Rattle.vx_serde.specs.ArraySchema.{array_schema}
-use Rattle.vx_serde.specs.Blocks.{numbered_below_by, node_pieces, children_pieces, no_stats_piece}
+use Rattle.vx_serde.specs.ArraySchema.{array_schema, stats_fields}
+use Rattle.vx_serde.specs.Blocks.{numbered_below_by, node_pieces, children_pieces}
 use Rattle.vx_serde.specs.MessageValue.{index_bytes, rows_value}
 use Rattle.vx_serde.specs.Numbered.{numbers_from}
 
@@ -17,13 +21,20 @@ use Rattle.vx_serde.specs.Numbered.{numbers_from}
 abbrev pub node_piece : ℕ → Piece
 node_piece v = table_piece (default_entry 2 v ∷ entry.Link link.Vector ∷ entry.Link link.Vector ∷ entry.Link link.Vector ∷ entry.Link link.Table ∷ [])
 
+-- The blocks of a set of statistics, at the end of a node's.
+stats-blocks : (x : Stats) → table_pieces array_schema stats_fields (stats_table x) ++ [] ≡ stats_pieces x
+stats-blocks x = append-nil (table_pieces array_schema stats_fields (stats_table x)) ∙ pieces_anywhere array_schema x
+
 -- A node's blocks: its own, its metadata's, its children's, its buffers' and its statistics'.
-pub node-blocks : (es : List ℕ) (k n : ℕ) (w : Wire)
+pub node-blocks : (es : List ℕ) (k n : ℕ) (w : Wire) (x : Stats) → (label w).stats ≡ table (stats_table x)
     → node_pieces es k n w
     ≡ node_piece (get_or es k 0) ∷ (elements_piece 1 (label w).metadata
     ∷ (children_pieces es (k + 1) (n + length (present (label w).buffers)) (below w)
-    ++ (elements_piece 2 (index_bytes (numbers_from n (length (present (label w).buffers)))) ∷ no_stats_piece ∷ [])))
-node-blocks es k n (node h ws) = refl
+    ++ (elements_piece 2 (index_bytes (numbers_from n (length (present (label w).buffers)))) ∷ stats_pieces x)))
+node-blocks es k n (node h ws) x e =
+    (λ i. node_pieces es k n (node (record { id = h.id; metadata = h.metadata; buffers = h.buffers; stats = e i }) ws))
+    ∙ (λ i. node_piece (get_or es k 0) ∷ (elements_piece 1 h.metadata
+    ∷ (children_pieces es (k + 1) (n + length (present h.buffers)) ws ++ (elements_piece 2 (index_bytes (numbers_from n (length (present h.buffers)))) ∷ stats-blocks x i))))
 
 -- What was written, then the next number, then the rest.
 pub number_next : (out all : List ℕ) (n m k k' : ℕ) → k ≡ suc k' → m ≡ suc n → out ++ index_bytes (numbers_from n k) ≡ all → (out ++ to_le_bytes w16 n) ++ index_bytes (numbers_from m k') ≡ all

@@ -7,25 +7,28 @@ use Rattle.vx_flat.specs.declared.error.FlatError.TheVariants as flat
 use Rattle.vx_flat.specs.declared.builder.piece.LinkKind.TheVariants as link
 use Rattle.vx_flat.specs.Building.{Built, IsStopped}
 use Rattle.vx_flat.specs.Pieces.{Piece, elements_piece, links_piece}
-use Rattle.vx_trees.specs.Rose.{Rose, label, below, roses_of}
+use Rattle.vx_trees.specs.Everywhere.{EverywhereBelow}
+use Rattle.vx_trees.specs.Rose.{Rose, node, label, below, roses_of}
 use Rattle.vx_trees.specs.Walks.{nodes, nodes_of, gathered, gathered_below}
 use Rattle.vx_trees.proofs.Counting.{nodes-is}
 use Rattle.vx_trees.proofs.Gathering.{gathered-is, gathered_below-take}
 use Rattle.vx_array_tree.specs.Sound.{metadata_in}
 use Rattle.vx_array_tree.specs.Table.{buffers_of}
-use Rattle.vx_array_tree.specs.Tree.{Tree}
+use Rattle.vx_array_tree.specs.Tree.{Tree, Trees}
+use Rattle.vx_scalar_wire.specs.StatsTable.{AreStorable, stats_pieces}
 use Rattle.vx_wire_tree.specs.Fields.{told}
+use Rattle.vx_wire_tree.specs.ReadBack.{IsStorableNode, HasStorableStats}
 use Rattle.vx_wire_tree.specs.Session.{SessionMeaning}
 use Rattle.vx_wire_tree.specs.Wire.{WireHead, buffers_in, buffers_at_node}
 use Rattle.vx_wire_tree.specs.Written.{wire, wires}
 use Rattle.vx_encodings.specs.Messages.{codec, message_bytes}
-use Rattle.vx_serde.specs.Blocks.{node_pieces, children_pieces, no_stats_piece}
+use Rattle.vx_serde.specs.Blocks.{node_pieces, children_pieces}
 use Rattle.vx_serde.specs.MessageValue.{index_bytes}
 use Rattle.vx_serde.specs.Numbered.{numbers_from}
 use Rattle.vx_serde.proofs.NodePieces.{node_piece, rows_of, rows-count, buffers_below}
 use Rattle.vx_serde.proofs.NodeWays.{node-whole}
 use Rattle.vx_serde.proofs.WalkedNodes.{gathered_below-append}
-use Rattle.vx_serde.proofs.WiredNodes.{wired, wires-list, wired-length, wired-at, wired-below, wired-within, wired-nodes, own-buffers, own-length, own-metadata}
+use Rattle.vx_serde.proofs.WiredNodes.{wired, wires-list, wired-length, wired-at, wired-below, wired-within, wired-nodes, own-buffers, own-length, own-metadata, own-stats}
 
 -- Where memory is wanted before the first block, nothing was written.
 pub nothing-written : (ps : List Piece) (old : Built) (e : FlatError) → e ≡ flat.OutOfMemory → IsStopped old ps e old
@@ -48,11 +51,18 @@ module _ (s : SessionMeaning) (t : Tree) (ts : List Tree) (at : roses_of ts ≡ 
   -- A node's blocks, by its parts.
   pub node-is : (es : List ℕ) (k first place next v : ℕ) (m bytes : List ℕ) → v ≡ get_or es k 0 → m ≡ message_bytes (told (metadata_in (label t) (below t)))
       → bytes ≡ index_bytes (numbers_from first (length (buffers_of (label t).body))) → place ≡ k + 1 → next ≡ first + length (buffers_of (label t).body)
-      → node_piece v ∷ (elements_piece 1 m ∷ (children_pieces es place next (wires codec s (roses_of ts)) ++ (elements_piece 2 bytes ∷ no_stats_piece ∷ []))) ≡ node_pieces es k first (wire codec s t)
+      → node_piece v ∷ (elements_piece 1 m ∷ (children_pieces es place next (wires codec s (roses_of ts)) ++ (elements_piece 2 bytes ∷ stats_pieces (label t).stats))) ≡ node_pieces es k first (wire codec s t)
   node-is es k first place next v m bytes p q r a n =
       let own = length (buffers_of (label t).body) in
-      (λ i. node_piece v ∷ (elements_piece 1 m ∷ (children_pieces es (a i) (n i) (kids_same i) ++ (elements_piece 2 bytes ∷ no_stats_piece ∷ []))))
-      ∙ node-whole es k first own (wire codec s t) v m bytes p (q ∙ sym (own-metadata s t)) (own-length s t) r
+      (λ i. node_piece v ∷ (elements_piece 1 m ∷ (children_pieces es (a i) (n i) (kids_same i) ++ (elements_piece 2 bytes ∷ stats_pieces (label t).stats))))
+      ∙ node-whole es k first own (wire codec s t) v m bytes (label t).stats (own-stats s t) p (q ∙ sym (own-metadata s t)) (own-length s t) r
+
+-- A node and those below it have statistics that can be stored.
+pub stored-node : (t : Tree) (ts : List Tree) → roses_of ts ≡ below t → AreStorable (label t).stats → EverywhereBelow (IsStorableNode codec) (roses_of ts) → HasStorableStats codec t
+stored-node (node h us) ts e x b = (x, subst (λ (z : Trees). EverywhereBelow (IsStorableNode codec) z) e b)
+
+pub stored-all : (ts : List Tree) (i : ℕ) → length ts ≤ i → EverywhereBelow (IsStorableNode codec) (roses_of (take i ts)) → EverywhereBelow (IsStorableNode codec) (roses_of ts)
+stored-all ts i past b = subst (λ (us : List Tree). EverywhereBelow (IsStorableNode codec) (roses_of us)) (take_all i ts past) b
 
 -- A node is one, and those below it.
 pub counted-below : (t : Tree) (ts : List Tree) → roses_of ts ≡ below t → nodes t ≡ nodes_of (roses_of ts) + 1

@@ -22,7 +22,7 @@ use Rattle.vx_wire_tree.specs.Codec.{IsLawful}
 use Rattle.vx_wire_tree.specs.Matches.{Matches, AllMatch, IsNodeBy}
 use Rattle.vx_wire_tree.specs.Placed.{IsChild, HasPlan, IsPlannedBy}
 use Rattle.vx_wire_tree.specs.Session.{SessionMeaning, Reader, shipped}
-use Rattle.vx_wire_tree.specs.Steps.{PlansChildren, HasNoMetadata, HasNoPlan, HasParts, HasWrongShape, HasWrongContent}
+use Rattle.vx_wire_tree.specs.Steps.{PlansChildren, HasNoMetadata, HasNoPlan, HasParts, HasWrongShape, HasWrongContent, IsToldBy}
 use Rattle.vx_wire_tree.specs.Tells.{Tells}
 use Rattle.vx_wire_tree.specs.Wire.{WireHead, Wire, Wires, all_present}
 use Rattle.vx_wire_tree.proofs.Laws.{node_tells, matched_count}
@@ -35,9 +35,9 @@ use Rattle.vx_encodings.specs.declared.error.EncodingError.{EncodingError}
 use Rattle.vx_encodings.specs.declared.error.EncodingError.TheVariants as refusals
 use Rattle.vx_encodings.specs.declared.head.ArrayHead.{ArrayHead}
 use Rattle.vx_serde.specs.declared.error.WireError.{WireError}
-use Rattle.vx_serde.specs.declared.error.WireError.TheVariants.{OutOfMemory, OutOfBounds, UnknownIndex, UnknownEncoding, BadMetadata, BadShape, BadContent}
+use Rattle.vx_serde.specs.declared.error.WireError.TheVariants.{OutOfMemory, OutOfBounds, UnknownIndex, UnknownEncoding, BadMetadata, BadShape, BadContent, BadStats}
 use Rattle.vx_serde.specs.Causes.{RefusesWire}
-use Rattle.vx_serde.specs.ReadingSteps.{RefusesBuffers, encoding_refusal}
+use Rattle.vx_serde.specs.ReadingSteps.{RefusesBuffers, RefusesStats, encoding_refusal}
 use Rattle.vx_serde.specs.Decoding.{IsHeadOf, IsNodeOf, AllTell}
 
 -- ---- children, one by one
@@ -111,6 +111,7 @@ caused_above s UnknownEncoding w d n i v p child c = (i ∷ c.0, (v, p, child, c
 caused_above s BadMetadata w d n i v p child c = (i ∷ c.0, (v, p, child, c.1))
 caused_above s BadShape w d n i v p child c = (i ∷ c.0, (v, p, child, c.1))
 caused_above s BadContent w d n i v p child c = (i ∷ c.0, (v, p, child, c.1))
+caused_above s BadStats w d n i v p child c = (i ∷ c.0, (v, p, child, c.1))
 caused_above s _ w d n i v p child c = absurd c
 
 -- and so is that of the child that stands at a place of a list
@@ -239,12 +240,23 @@ caused_by_build s refusals.BadContent w d n e h bs ws ps ts read plan own own_ch
       },
     )
 
--- The node of parts that a plan has told, over children that tell arrays.
-pub told_node : (s : SessionMeaning) → IsLawful codec s → (w : Wire) (d : Typ) (n : ℕ) (e : Encoding) (h : ArrayHead) (ps : List Place) (bs : List Buffer) (ws : List Wire) (ts : Trees) (t : Tree) → IsNodeOf s w d n e h
-    → IsPlanned s.ext e h ps → (label w).buffers ≡ all_present bs → roses_of ws ≡ below w → AllTell s (roses_of ws) ps ts → IsBuilt s.ext e h bs ts t → IsSound t → Tells codec s w d n t
-told_node s law (node w below) d n e h ps bs ws ts t read plan own own_children told parts sound =
+-- What is built is of the type that is asked.
+pub built_dtype : (x : ExtMeaning) (e : Encoding) (h : ArrayHead) (bs : List Buffer) (ts : Trees) (w : Wire) (d : Typ) (n : ℕ) (t : Tree) → IsHeadOf h w d n → IsBuilt x e h bs ts t → (label t).dtype ≡ d
+built_dtype x e h bs ts w d n t is parts = ap (λ (z : Tree). (label z).dtype) parts.tree_is ∙ is.dtype
+
+-- Statistics that a node shows none of.
+pub caused_by_stats : (s : SessionMeaning) (x : WireError) (w : Wire) (d : Typ) (n : ℕ) (e : Encoding) (h : ArrayHead) → IsNodeOf s w d n e h → RefusesStats x d (label w).stats → RefusesWire s x w d n
+caused_by_stats s OutOfMemory w d n e h read c = tt
+caused_by_stats s BadStats w d n e h read c = ([], record { encoding = plain_encoding e; by = own_encoding s w d n e h read; none = c })
+caused_by_stats s _ w d n e h read c = absurd c
+
+-- The node of parts that a plan has told, over children that tell arrays, with the statistics that it shows.
+pub told_node : (s : SessionMeaning) → IsLawful codec s → (w : Wire) (d : Typ) (n : ℕ) (e : Encoding) (h : ArrayHead) (ps : List Place) (bs : List Buffer) (ws : List Wire) (ts : Trees) (t u : Tree) → IsNodeOf s w d n e h
+    → IsPlanned s.ext e h ps → (label w).buffers ≡ all_present bs → roses_of ws ≡ below w → AllTell s (roses_of ws) ps ts → IsBuilt s.ext e h bs ts t → IsSound t
+    → IsToldBy codec d (label w).stats t u → Tells codec s w d n u
+told_node s law (node w below) d n e h ps bs ws ts t u read plan own own_children told parts sound stats =
     let A : Wires → Type 0 = λ z. AllMatch codec s z ts in
-    node_tells codec s law read.id (plain_encoding e) w below d n ps bs ts t read.id_is read.reader_is
+    node_tells codec s law read.id (plain_encoding e) w below d n ps bs ts t u read.id_is read.reader_is
     (at_node (λ f m b k. PlansChildren codec s.ext (plain_encoding e) f m b k ps) h (node w below) d n read.head plan) own
     (record { matched = subst A own_children told.matched; sound = told.sound; normal = told.normal; placed = told.placed })
-    (at_node (λ f m b k. HasParts codec s.ext (plain_encoding e) f m b bs ts t) h (node w below) d n read.head parts) sound
+    (at_node (λ f m b k. HasParts codec s.ext (plain_encoding e) f m b bs ts t) h (node w below) d n read.head parts) sound stats

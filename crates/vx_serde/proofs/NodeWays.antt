@@ -6,9 +6,12 @@ use Rattle.vx_flat.specs.declared.builder.piece.BlockField.TheVariants as entry
 use Rattle.vx_flat.specs.declared.builder.piece.LinkKind.TheVariants as link
 use Rattle.vx_flat.specs.Building.{Built, Link, with_piece, waiting, links_of, entry_links}
 use Rattle.vx_flat.specs.Pieces.{Piece, table_piece, elements_piece, default_entry}
+use Rattle.vx_flat.specs.Value.{table}
+use Rattle.vx_scalars.specs.Stats.{Stats}
+use Rattle.vx_scalar_wire.specs.StatsTable.{stats_table, stats_pieces}
 use Rattle.vx_wire_tree.specs.Wire.{Wire, present}
 use Rattle.vx_trees.specs.Rose.{label, below}
-use Rattle.vx_serde.specs.Blocks.{AreWritten, node_pieces, children_pieces, no_stats_piece}
+use Rattle.vx_serde.specs.Blocks.{AreWritten, node_pieces, children_pieces}
 use Rattle.vx_serde.specs.MessageValue.{index_bytes}
 use Rattle.vx_serde.specs.Numbered.{numbers_from}
 use Rattle.vx_serde.proofs.Chains.{IsPartWay, begun, gone_on, ended}
@@ -68,20 +71,20 @@ module _ (old : Built) (v : ℕ) where
       → IsPartWay old (node_piece v) (stats_link old.count ∷ []) (elements_piece 1 m ∷ (kids ++ elements_piece 2 bytes ∷ [])) b4
   way3 b3 l3 b4 m bytes kids way go w = gone_on old (node_piece v) _ _ (elements_piece 1 m ∷ kids) b3 l3 b4 (elements_piece 2 bytes ∷ []) way go w
 
-  pub way4 : (b4 l4 b5 : Built) (m bytes : List ℕ) (kids : List Piece) → IsPartWay old (node_piece v) (stats_link old.count ∷ []) (elements_piece 1 m ∷ (kids ++ elements_piece 2 bytes ∷ [])) b4
-      → (b4.failed ≡ false → l4 ≡ waiting b4) → AreWritten l4 (no_stats_piece ∷ []) b5
-      → AreWritten old (node_piece v ∷ (elements_piece 1 m ∷ (kids ++ (elements_piece 2 bytes ∷ no_stats_piece ∷ [])))) b5
-  way4 b4 l4 b5 m bytes kids way go w =
-      let last = gone_on old (node_piece v) _ [] (elements_piece 1 m ∷ (kids ++ elements_piece 2 bytes ∷ [])) b4 l4 b5 (no_stats_piece ∷ []) way go w in
+  pub way4 : (b4 l4 b5 : Built) (m bytes : List ℕ) (kids stats : List Piece) → IsPartWay old (node_piece v) (stats_link old.count ∷ []) (elements_piece 1 m ∷ (kids ++ elements_piece 2 bytes ∷ [])) b4
+      → (b4.failed ≡ false → l4 ≡ waiting b4) → AreWritten l4 stats b5
+      → AreWritten old (node_piece v ∷ (elements_piece 1 m ∷ (kids ++ (elements_piece 2 bytes ∷ stats)))) b5
+  way4 b4 l4 b5 m bytes kids stats way go w =
+      let last = gone_on old (node_piece v) _ [] (elements_piece 1 m ∷ (kids ++ elements_piece 2 bytes ∷ [])) b4 l4 b5 stats way go w in
       let P : List Piece → Type 0 = λ z. AreWritten old (node_piece v ∷ (elements_piece 1 m ∷ z)) b5 in
-      subst P (append_assoc kids (elements_piece 2 bytes ∷ []) (no_stats_piece ∷ [])) (ended old (node_piece v) _ b5 last w.fits)
+      subst P (append_assoc kids (elements_piece 2 bytes ∷ []) stats) (ended old (node_piece v) _ b5 last w.fits)
 
 -- ---- the whole
 
 -- The blocks of a node are these, where its parts are.
-pub node-whole : (es : List ℕ) (k first own : ℕ) (w : Wire) (v : ℕ) (m bytes : List ℕ) → v ≡ get_or es k 0 → m ≡ (label w).metadata
+pub node-whole : (es : List ℕ) (k first own : ℕ) (w : Wire) (v : ℕ) (m bytes : List ℕ) (x : Stats) → (label w).stats ≡ table (stats_table x) → v ≡ get_or es k 0 → m ≡ (label w).metadata
     → own ≡ length (present (label w).buffers) → bytes ≡ index_bytes (numbers_from first own)
-    → node_piece v ∷ (elements_piece 1 m ∷ (children_pieces es (k + 1) (first + own) (below w) ++ (elements_piece 2 bytes ∷ no_stats_piece ∷ []))) ≡ node_pieces es k first w
-node-whole es k first own w v m bytes p q c r =
-    (λ i. node_piece (p i) ∷ (elements_piece 1 (q i) ∷ (children_pieces es (k + 1) (first + c i) (below w) ++ (elements_piece 2 ((r ∙ ap (λ z. index_bytes (numbers_from first z)) c) i) ∷ no_stats_piece ∷ []))))
-    ∙ sym (node-blocks es k first w)
+    → node_piece v ∷ (elements_piece 1 m ∷ (children_pieces es (k + 1) (first + own) (below w) ++ (elements_piece 2 bytes ∷ stats_pieces x))) ≡ node_pieces es k first w
+node-whole es k first own w v m bytes x e p q c r =
+    (λ i. node_piece (p i) ∷ (elements_piece 1 (q i) ∷ (children_pieces es (k + 1) (first + c i) (below w) ++ (elements_piece 2 ((r ∙ ap (λ z. index_bytes (numbers_from first z)) c) i) ∷ stats_pieces x))))
+    ∙ sym (node-blocks es k first w x e)

@@ -1,11 +1,17 @@
 -- Nodes whose encodings are numbered by a list of numbers.
-use Rattle.std.proofs.Common.{ℕ, suc, ◌≡◌, ◌+◌, ◌*◌, ◌≤◌, List, [], ◌∷◌, ◌++◌, Some, length, drop, get_or, refl, sym, ap, ◌∙◌, subst, arith, append_assoc, append-nil, length-append, add-zero}
+use Rattle.std.proofs.Common.{ℕ, suc, ◌≡◌, ◌+◌, ◌*◌, ◌≤◌, List, [], ◌∷◌, ◌++◌, Option, Some, None, length, drop, get_or, refl, sym, ap, ◌∙◌, subst, arith, append_assoc, append-nil, length-append, add-zero}
 use Rattle.std.proofs.lemmas.List.{drop-drop, drop_at, get_or-drop}
 use Rattle.vx_flat.specs.IsOf.{IsOf}
 use Rattle.vx_flat.specs.Layout.{written_layout}
-use Rattle.vx_flat.specs.Value.{Fields, table, elements, field, no_fields}
-use Rattle.vx_flat.specs.ValueWeight.{weight_of, weight_of_fields, weight_of_rows}
+use Rattle.vx_flat.specs.Value.{Field, Fields, table, elements, field, no_fields}
+use Rattle.vx_flat.specs.ValueWeight.{weight_of, weight_of_field, weight_of_fields, weight_of_rows}
+use Rattle.vx_proto.specs.Parts.{flag_number}
+use Rattle.vx_scalars.specs.Stats.{Told, Stats}
+use Rattle.vx_scalars.specs.WrittenStats.{written_sum, exact_flag, exact_count}
+use Rattle.vx_scalars.specs.declared.precision.Precision.TheVariants.{Exact, Inexact, Absent}
+use Rattle.vx_scalar_wire.specs.StatsTable.{value_field, number_field, stats_table}
 use Rattle.vx_trees.specs.Rose.{Rose, Roses, node, end, more}
+use Rattle.vx_trees.specs.Everywhere.{Everywhere, EverywhereBelow}
 use Rattle.vx_trees.specs.Walks.{nodes, nodes_of, gathered}
 use Rattle.vx_wire_tree.specs.Context.{Context, grown_by}
 use Rattle.vx_wire_tree.specs.Wire.{Wire, Wires, IsWhole, buffers_at_node, buffers_in, ids_in, present}
@@ -17,7 +23,8 @@ use Rattle.vx_serde.specs.Numbered.{encoding_index, numbers_from, numbered, numb
 use Rattle.vx_serde.specs.WritingSteps.{layout_of}
 use Rattle.vx_serde.proofs.GrownPlaced.{grown_by-placed}
 use Rattle.vx_serde.proofs.MessageRead.{message_value_is_of}
-use Rattle.vx_serde.proofs.NumberedRead.{placed_from_ids, numbered_fits}
+use Rattle.vx_serde.proofs.NumberedRead.{IsTabledNode, placed_from_ids, numbered_fits}
+use Rattle.vx_serde.proofs.WiredStats.{IsToldNode}
 
 -- ---- each node has one number
 
@@ -52,7 +59,7 @@ mutual
       let own = length (present h.buffers) in
       let number = at-place (encoding_index h.id ids) (encodings_below ids ws ++ rest) es k e in
       let below = by-encodings_below ids es rest (k + 1) (n + own) ws (past (encoding_index h.id ids ∷ []) (encodings_below ids ws ++ rest) es k e) in
-      λ i. node (record { encoding = number i; metadata = h.metadata; buffers = numbers_from n own }) (below i)
+      λ i. node (record { encoding = number i; metadata = h.metadata; buffers = numbers_from n own; stats = h.stats }) (below i)
 
   by-encodings_below : (ids : List (List ℕ)) (es rest : List ℕ) (k n : ℕ) (ws : Wires) → drop k es ≡ encodings_below ids ws ++ rest → numbered_below_by es k n ws ≡ numbered_below ids n ws
   by-encodings_below ids es rest k n end e = refl
@@ -75,33 +82,43 @@ module _ (ids : List (List ℕ)) (w : Wire) (es bytes : List ℕ) (known : es �
   layout-numbered = ap (λ root. written_layout array_schema (field (table (node_value root)) (field (elements bytes) no_fields))) root-is
 
   -- Its value is one of array messages, where the identifiers have their places.
-  pub message-of_kind : (old new : Context) (ds : List Descriptor) → new.ids ≡ ids → grown_by (ids_in w) old ≡ Some new → IsWhole w → length (buffers_in w) ≤ 65535
+  pub message-of_kind : (old new : Context) (ds : List Descriptor) → new.ids ≡ ids → grown_by (ids_in w) old ≡ Some new → IsWhole w → Everywhere IsTabledNode w → length (buffers_in w) ≤ 65535
       → bytes ≡ descriptors_bytes ds → IsOf array_schema (message_by es w bytes)
-  message-of_kind old new ds same grew whole few d =
+  message-of_kind old new ds same grew whole tabled few d =
       let placed = placed_from_ids new.ids w whole (grown_by-placed (ids_in w) old new grew).placed in
-      let of = message_value_is_of (numbered new.ids 0 w) ds (numbered_fits new.ids 0 w (omega (arith, few)) placed) in
+      let of = message_value_is_of (numbered new.ids 0 w) ds (numbered_fits new.ids 0 w (omega (arith, few)) placed tabled) in
       let P : Fields → Type 0 = λ v. IsOf array_schema v in
       subst P (λ i. field (table (node_value ((ap (λ z. numbered z 0 w) same ∙ sym root-is) i))) (field (elements (sym d i)) no_fields)) of
 
 -- ---- how many tables a message has
 
+-- A vector that may stand has no table, and neither has a number that may stand: so the table of a set is one table.
+value_tables : (x : Told) → (weight_of_field (value_field x)).tables ≡ 0
+value_tables (Exact v) = refl
+value_tables (Inexact v) = refl
+value_tables Absent = refl
+
+number_tables : (o : Option ℕ) → (weight_of_field (number_field o)).tables ≡ 0
+number_tables None = refl
+number_tables (Some n) = refl
+
+stats_tables : (x : Stats) → (weight_of_field (table (stats_table x))).tables ≡ 1
+stats_tables x =
+    omega (arith, value_tables x.least, value_tables x.greatest, value_tables (written_sum x.total), number_tables (option_map flag_number (exact_flag x.is_sorted)), number_tables (option_map flag_number (exact_flag x.is_strict_sorted)),
+    number_tables (option_map flag_number (exact_flag x.is_constant)), number_tables (exact_count x.null_count), number_tables (exact_count x.uncompressed_size), number_tables (exact_count x.nan_count))
+
 mutual
   -- Each node is two tables: its own, and that of its statistics.
-  node_tables : (t : Rose NodeFields) → (weight_of_fields (node_value t)).tables + 1 ≡ 2 * nodes t
-  node_tables (node f ts) = omega (arith, rows_tables ts)
+  node_tables : (es : List ℕ) (k n : ℕ) (w : Wire) → Everywhere IsToldNode w → (weight_of_fields (node_value (numbered_by es k n w))).tables + 1 ≡ 2 * nodes w
+  node_tables es k n (node h ws) told =
+      let one : (weight_of_field h.stats).tables ≡ 1 = ap (λ (f : Field). (weight_of_field f).tables) told.0.1 ∙ stats_tables told.0.0 in
+      omega (arith, one, rows_tables es (k + 1) (n + length (present h.buffers)) ws told.1)
 
-  rows_tables : (ts : Roses NodeFields) → (weight_of_rows (rows_value ts)).tables ≡ 2 * nodes_of ts
-  rows_tables end = refl
-  rows_tables (more t ts) = omega (arith, node_tables t, rows_tables ts)
-
-mutual
-  by-nodes : (es : List ℕ) (k n : ℕ) (w : Wire) → nodes (numbered_by es k n w) ≡ nodes w
-  by-nodes es k n (node h ws) = ap suc (by-nodes_below es (k + 1) (n + length (present h.buffers)) ws)
-
-  by-nodes_below : (es : List ℕ) (k n : ℕ) (ws : Wires) → nodes_of (numbered_below_by es k n ws) ≡ nodes_of ws
-  by-nodes_below es k n end = refl
-  by-nodes_below es k n (more w ws) = λ i. by-nodes es k n w i + by-nodes_below es (k + nodes w) (n + length (gathered buffers_at_node w)) ws i
+  rows_tables : (es : List ℕ) (k n : ℕ) (ws : Wires) → EverywhereBelow IsToldNode ws → (weight_of_rows (rows_value (numbered_below_by es k n ws))).tables ≡ 2 * nodes_of ws
+  rows_tables es k n end told = refl
+  rows_tables es k n (more w ws) told =
+      omega (arith, node_tables es k n w told.0, rows_tables es (k + nodes w) (n + length (gathered buffers_at_node w)) ws told.1)
 
 -- A message has one table more.
-pub message-tables : (es : List ℕ) (w : Wire) (bytes : List ℕ) → (weight_of (message_by es w bytes)).tables ≡ 2 * nodes w + 1
-message-tables es w bytes = omega (arith, node_tables (numbered_by es 0 0 w), by-nodes es 0 0 w)
+pub message-tables : (es : List ℕ) (w : Wire) (bytes : List ℕ) → Everywhere IsToldNode w → (weight_of (message_by es w bytes)).tables ≡ 2 * nodes w + 1
+message-tables es w bytes told = omega (arith, node_tables es 0 0 w told)

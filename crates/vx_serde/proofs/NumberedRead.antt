@@ -71,22 +71,30 @@ index_within ids o id e h =
     let P : Option (List ℕ) → Type 0 = λ o. encoding_index o ids < 2 ^ 16 in
     subst P (sym e) (omega (arith, h.fits))
 
+-- A node's statistics stand in no field or in a table of their kind.
+abbrev pub IsTabledNode : WireHead → Wires → Type 0
+IsTabledNode h ws = IsOfKind array_schema (Table 2) h.stats
+
 mutual
   -- The nodes' numbers fit two bytes each.
-  pub numbered_fits : (ids : List (List ℕ)) (n : ℕ) (w : Wire) → n + length (buffers_in w) ≤ 2 ^ 16 → Everywhere (IsPlacedNode ids) w
+  pub numbered_fits : (ids : List (List ℕ)) (n : ℕ) (w : Wire) → n + length (buffers_in w) ≤ 2 ^ 16 → Everywhere (IsPlacedNode ids) w → Everywhere IsTabledNode w
       → IsNumbered (numbered ids n w)
-  numbered_fits ids n (node h ws) fit placed =
+  numbered_fits ids n (node h ws) fit placed tabled =
       let sum = length-append (present h.buffers) (gathered_below buffers_at_node ws) in (
-        (index_within ids h.id placed.0.name placed.0.named placed.0.placed, number_within n (length (present h.buffers)) (omega (arith, fit, sum))),
-        numbered_below_fits ids (n + length (present h.buffers)) ws (omega (arith, fit, sum)) placed.1,
+        record {
+          encoding = index_within ids h.id placed.0.name placed.0.named placed.0.placed;
+          buffers = number_within n (length (present h.buffers)) (omega (arith, fit, sum));
+          stats = tabled.0;
+        },
+        numbered_below_fits ids (n + length (present h.buffers)) ws (omega (arith, fit, sum)) placed.1 tabled.1,
       )
 
-  numbered_below_fits : (ids : List (List ℕ)) (n : ℕ) (ws : Wires) → n + length (gathered_below buffers_at_node ws) ≤ 2 ^ 16 → EverywhereBelow (IsPlacedNode ids) ws
+  numbered_below_fits : (ids : List (List ℕ)) (n : ℕ) (ws : Wires) → n + length (gathered_below buffers_at_node ws) ≤ 2 ^ 16 → EverywhereBelow (IsPlacedNode ids) ws → EverywhereBelow IsTabledNode ws
       → EverywhereBelow IsNumberedNode (numbered_below ids n ws)
-  numbered_below_fits ids n end fit placed = tt
-  numbered_below_fits ids n (more w ws) fit placed =
+  numbered_below_fits ids n end fit placed tabled = tt
+  numbered_below_fits ids n (more w ws) fit placed tabled =
       let sum = length-append (buffers_in w) (gathered_below buffers_at_node ws) in
-      (numbered_fits ids n w (omega (arith, fit, sum)) placed.0, numbered_below_fits ids (n + length (buffers_in w)) ws (omega (arith, fit, sum)) placed.1)
+      (numbered_fits ids n w (omega (arith, fit, sum)) placed.0 tabled.0, numbered_below_fits ids (n + length (buffers_in w)) ws (omega (arith, fit, sum)) placed.1 tabled.1)
 
 -- ---- numbers lead back
 
@@ -130,7 +138,7 @@ mutual
       let buffers = ap (λ z. map (λ i. slice_get z i) (numbers_from n (length bs))) regroup ∙ by_number before bs (rest ++ after) n e ∙ present_all h.buffers placed.0.standing placed.0.stand in
       let l : length (before ++ bs) ≡ n + length bs = length-append before bs ∙ ap (λ k. k + length bs) e in
       let children = ap (λ z. wires_of ids z (numbered_below ids (n + length bs) ws)) (regroup ∙ passed) ∙ wires_of-numbered ids (before ++ bs) after (n + length bs) ws l placed.1 in
-      λ i. node (record { id = name i; metadata = h.metadata; buffers = buffers i }) (children i)
+      λ i. node (record { id = name i; metadata = h.metadata; buffers = buffers i; stats = h.stats }) (children i)
 
   wires_of-numbered : (ids : List (List ℕ)) (before after : List Buffer) (n : ℕ) (ws : Wires) → length before ≡ n → EverywhereBelow (IsPlacedNode ids) ws
       → wires_of ids (before ++ (gathered_below buffers_at_node ws ++ after)) (numbered_below ids n ws) ≡ ws

@@ -2,20 +2,28 @@
 use Rattle.std.proofs.Common.{ℕ, ◌≡◌, List, [], ◌++◌, Option, None, Some, replicate, refl, sym, ap, ◌∙◌, subst, inl, inr, append-nil}
 use Rattle.std.specs.Prelude.{Contains, IsSome}
 use Rattle.std.proofs.lemmas.List.Elements.{All-nil}
-use Rattle.vx_array_tree.specs.Tree.{Tree}
+use Rattle.vx_array_tree.specs.Tree.{Tree, Trees}
 use Rattle.vx_flat.specs.Weight.{weight}
 use Rattle.vx_flat.specs.Limits.{IsLight}
 use Rattle.vx_wire_tree.specs.Codec.{IsLawful}
-use Rattle.vx_wire_tree.specs.Context.{Context, grown}
+use Rattle.vx_trees.specs.Rose.{node, end, more}
+use Rattle.vx_trees.specs.Everywhere.{EverywhereBelow}
+use Rattle.vx_array_tree.specs.Canon.{stats_written, each_stats_written}
+use Rattle.vx_array_tree.specs.Place.{Place}
+use Rattle.vx_array_tree.specs.Table.{metadata_of}
+use Rattle.vx_array_tree.proofs.CanonLaws.{written_places}
+use Rattle.vx_wire_tree.specs.Context.{Context, with_ids, grown}
+use Rattle.vx_wire_tree.specs.Fields.{FitsMessage}
+use Rattle.vx_wire_tree.specs.Limits.{HasMessage, HasMessages}
 use Rattle.vx_wire_tree.specs.Session.{IsShipped, IsPaired}
 use Rattle.vx_wire_tree.specs.Tells.{Tells}
 use Rattle.vx_wire_tree.specs.Wire.{Wire, ids_in, buffers_in}
 use Rattle.vx_wire_tree.specs.Written.{wire, canon}
-use Rattle.vx_wire_tree.proofs.Laws.{matched_whole, canon_own}
+use Rattle.vx_wire_tree.proofs.Laws.{matched_whole, canon_wire, canon_written, canon_grown}
 use Rattle.vx_encodings.specs.Messages.{codec}
 use Rattle.vx_serde.specs.declared.options.SerializeOptions.{SerializeOptions}
 use Rattle.vx_serde.specs.declared.error.WireError.{WireError}
-use Rattle.vx_serde.specs.declared.error.WireError.TheVariants.{OutOfMemory, TooShort, BadTable, TableLimit, BadAlignment, Compressed, OutOfBounds, UnknownIndex, UnknownEncoding, BadMetadata, BadShape, BadContent, NotPermitted, WireLimit, NotRegistered}
+use Rattle.vx_serde.specs.declared.error.WireError.TheVariants.{OutOfMemory, TooShort, BadTable, TableLimit, BadAlignment, Compressed, OutOfBounds, UnknownIndex, UnknownEncoding, BadMetadata, BadShape, BadContent, BadStats, NotPermitted, WireLimit, NotRegistered}
 use Rattle.vx_serde.specs.ArraySchema.{array_schema}
 use Rattle.vx_serde.specs.Blob.{Carries}
 use Rattle.vx_serde.specs.Limits.{message_limits}
@@ -76,25 +84,42 @@ is_some : {A : Type 0} (o : Option A) (x : A) → o ≡ Some x → IsSome o
 is_some None x e = absurd (cc)
 is_some (Some y) x e = refl
 
--- What was recoded can be recoded again, and stays as it is.
-twice : (asked : Request) (made : Product) → IsSpelled asked made.array → IsRecoded asked made
+-- The metadata of what is written of statistics fits its message as before.
+mutual
+  written_messages : (t : Tree) → HasMessages t → HasMessages (stats_written t)
+  written_messages (node h ts) k =
+      let P : List Place → Type 0 = λ ps. FitsMessage (metadata_of h.body ps) in
+      (subst P (sym (written_places ts)) k.0, each_written_messages ts k.1)
+
+  each_written_messages : (ts : Trees) → EverywhereBelow HasMessage ts → EverywhereBelow HasMessage (each_stats_written ts)
+  each_written_messages end k = tt
+  each_written_messages (more t ts) k = (written_messages t k.0, each_written_messages ts k.1)
+
+-- What was recoded can be recoded again, and its bytes stay as they are.
+twice : (asked : Request) (made : Product) → IsLawful codec asked.session → IsSpelled asked made.array → IsRecoded asked made
     → Spells (joined made.buffers) made.context.ids asked.dtype asked.len asked.session (canon asked.session made.array) → IsTwiceAsOnce asked made
-twice asked made spelled recoded again =
+twice asked made law spelled recoded again =
     let s = asked.session in
     let o = asked.options in
     let t = made.array in
-    let own : canon s t ≡ t = canon_own codec s t spelled.told.sound spelled.told.normal in
-    let P : Tree → Type 0 = λ z. KeepsWriterLimits s z asked.context o in
+    let sound = spelled.told.sound in
+    let normal = spelled.told.normal in
+    let own : wire codec s (canon s t) ≡ wire codec s t = canon_wire codec s law.stats t sound normal in
+    let by : Wire → List ℕ = λ w. blob_bytes (with_ids asked.context.ids (ids_in w)) o w in
+    let P : Wire → Type 0 = λ w. IsWritable (with_ids asked.context.ids (ids_in w)) o w in
     let Q : List ℕ → Type 0 = λ z. KeepsReaderLimits o z in
-    let same = ap (λ z. grown codec s asked.context z) own ∙ recoded.serialized.grown_is in
+    let same = canon_grown codec s law.stats asked.context t sound normal ∙ recoded.serialized.grown_is in
     record {
-      bytes = ap (λ z. blob_of s z asked.context o) own ∙ sym recoded.serialized.written;
+      bytes = ap by own ∙ sym recoded.serialized.written;
       context = same;
       can = record {
         array = canon s t;
         spelled = again;
         reader_limits = subst Q (sym recoded.serialized.written) (written_light (ids_after s t asked.context) o (wire codec s t) recoded.serialized.limits.writable);
-        writer_limits = subst P (sym own) recoded.serialized.limits;
+        writer_limits = record {
+          messages = subst (λ (z : Tree). HasMessages z) (sym (canon_written codec s t sound normal)) (written_messages t recoded.serialized.limits.messages);
+          writable = subst P (sym own) recoded.serialized.limits.writable;
+        };
         grows = is_some (grown codec s asked.context (canon s t)) made.context same;
       };
     }
@@ -104,12 +129,12 @@ pub faithful : (asked : Request) (made : Product) → IsShipped asked.session �
 faithful asked made ok law paired spelled recoded =
     let P : List ℕ → Type 0 = λ z. Spells z made.context.ids asked.dtype asked.len asked.session (canon asked.session made.array) in
     let again = subst P (sym recoded.serialized.written)
-    (spelled_again asked.session ok law paired asked.blob asked.ids asked.dtype asked.len made.array asked.context made.context asked.options spelled recoded.serialized.grown_is recoded.serialized.limits) in
+    (spelled_again asked.session ok law paired asked.blob asked.ids asked.dtype asked.len made.array asked.context made.context asked.options spelled recoded.serialized.storable recoded.serialized.grown_is recoded.serialized.limits) in
     record {
       spelled = spelled;
       the_one = λ other x. spelled_once asked.blob asked.ids asked.dtype asked.len asked.session other made.array ok law x spelled;
       again = again;
-      twice = twice asked made spelled recoded again;
+      twice = twice asked made law spelled recoded again;
     }
 
 -- ---- what is left
@@ -153,6 +178,7 @@ caused_by_tree asked UnknownEncoding w carried u = record { wire = w; carried = 
 caused_by_tree asked BadMetadata w carried u = record { wire = w; carried = carried; cause = u }
 caused_by_tree asked BadShape w carried u = record { wire = w; carried = carried; cause = u }
 caused_by_tree asked BadContent w carried u = record { wire = w; carried = carried; cause = u }
+caused_by_tree asked BadStats w carried u = record { wire = w; carried = carried; cause = u }
 caused_by_tree asked _ w carried u = absurd u
 
 -- An array that is not written. What was read is also written.

@@ -5,7 +5,7 @@ use Rattle.vx_buffer.specs.Joined.{joined}
 use Rattle.vx_array_tree.specs.Tree.{Tree}
 use Rattle.vx_wire_tree.specs.Context.{Context, grown}
 use Rattle.vx_wire_tree.specs.Limits.{HasMessages}
-use Rattle.vx_wire_tree.specs.ReadBack.{IsWritten}
+use Rattle.vx_wire_tree.specs.ReadBack.{IsWritten, HasStorableStats}
 use Rattle.vx_wire_tree.specs.Session.{SessionMeaning}
 use Rattle.vx_wire_tree.specs.Written.{wire}
 use Rattle.vx_encodings.specs.Messages.{codec}
@@ -20,9 +20,9 @@ use Rattle.vx_serde.proofs.WholeBlob.{joined-written}
 use Rattle.vx_serde.proofs.WrittenAgain.{grown-ids}
 
 -- What was written with the identifiers of the grown context.
-pub serialized : (s : SessionMeaning) (t : Tree) (o : SerializeOptions) (before after : Context) (bs : List Buffer) → grown codec s before t ≡ Some after → IsWritten s t → HasMessages t
+pub serialized : (s : SessionMeaning) (t : Tree) (o : SerializeOptions) (before after : Context) (bs : List Buffer) → grown codec s before t ≡ Some after → IsWritten s t → HasStorableStats codec t → HasMessages t
     → IsWritable after.ids o (wire codec s t) → bs ≡ written_buffers after.ids o (wire codec s t) → IsSerialized s t o before after bs
-serialized s t o before after bs grew registered messages fit b =
+serialized s t o before after bs grew registered stored messages fit b =
     let ids : after.ids ≡ ids_after s t before = grown-ids s t before after grew in
     let P : List (List ℕ) → Type 0 = λ z. IsWritable z o (wire codec s t) in
     let Q : List ℕ → Type 0 = λ z. IsAlignedBlob o.offset z in
@@ -33,7 +33,8 @@ serialized s t o before after bs grew registered messages fit b =
       written = bytes;
       buffers_are = own;
       registered = registered;
+      storable = stored;
       limits = limits;
-      aligned = λ padded. subst Q (sym bytes) (aligned_blob s t before after o grew limits padded);
+      aligned = λ padded. subst Q (sym bytes) (aligned_blob s t before after o grew stored limits padded);
       grown_is = grew;
     }

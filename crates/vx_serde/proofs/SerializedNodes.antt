@@ -1,6 +1,6 @@
 -- What a node's view sees, part by part.
 use Rattle.std.proofs.Common.{ℕ, zero, suc, ◌≡◌, ◌+◌, ◌*◌, ◌-◌, ◌/◌, ◌<◌, List, [], ◌∷◌, length, get_or, Option, Some, None, refl, sym, ap, ◌∙◌, subst, arith}
-use Rattle.std.specs.Prelude.{slice_get, option_map, option_and_then}
+use Rattle.std.specs.Prelude.{IfSome, IfNone, MatchOption, slice_get, option_map, option_and_then}
 use Rattle.std.specs.Int.{w16, from_le_bytes}
 use Rattle.vx_flat.specs.declared.reading.places.FieldTable.{FieldTable}
 use Rattle.vx_flat.specs.declared.schema.FieldKind.TheVariants.{Number, Vector, Table, Tables}
@@ -12,23 +12,23 @@ use Rattle.vx_flat.specs.Parts.{HasElements, rows_count, row_at, table_in}
 use Rattle.vx_flat.specs.Places.{u16_at, place_of, table_at}
 use Rattle.vx_flat.specs.Reading.{table_shown, shown_within, found_shown, fields_shown, plain_shown}
 use Rattle.vx_flat.specs.Schema.{fields_of}
-use Rattle.vx_flat.specs.Seen.{seen, part_in, kind_in, fields_or_none, message_seen, table_seen, vector_seen, kind_seen, size_seen, IsViewOf, IsVectorOf, IsVectorBelow, IsElement}
-use Rattle.vx_flat.specs.Value.{Field, Fields, Rows, absent, number, tables, no_rows, row}
+use Rattle.vx_flat.specs.Seen.{seen, part_in, kind_in, kinds_in, IsBelow, fields_or_none, message_seen, table_seen, vector_seen, kind_seen, size_seen, IsViewOf, IsVectorOf, IsVectorBelow, IsElement}
+use Rattle.vx_flat.specs.Value.{Field, Fields, Rows, absent, number, table, tables, no_rows, row}
 use Rattle.vx_flat.specs.View.{fields_from, rows_from}
-use Rattle.vx_flat.proofs.LawsOfViews.{seen-of, kind-of, vector-of, element-of, tables-whole}
+use Rattle.vx_flat.proofs.LawsOfViews.{seen-of, kind-of, kinds-of, table-of, vector-of, element-of, tables-whole}
 use Rattle.vx_flat.proofs.ReadingViews.{tables_in}
 use Rattle.vx_trees.specs.Rose.{Rose, node, label, below, roses_list, count}
-use Rattle.vx_serde.specs.ArraySchema.{array_schema, node_fields}
+use Rattle.vx_serde.specs.ArraySchema.{array_schema, node_fields, stats_fields}
 use Rattle.vx_serde.specs.Message.{NodeFields, node_of, nodes_of, nodes_in, number_of_field, bytes_of_field, indices_of}
 use Rattle.vx_serde.specs.Stored.{IsNodeView}
 
--- A node is what its first four fields tell.
+-- A node is what its fields tell.
 pub node_seen : (v : View) → IsViewOf array_schema 1 v
-    → node_of (seen v) ≡ node (record { encoding = number_of_field (part_in v 0); metadata = bytes_of_field (part_in v 1); buffers = indices_of (bytes_of_field (part_in v 3)) }) (nodes_in (part_in v 2))
+    → node_of (seen v) ≡ node (record { encoding = number_of_field (part_in v 0); metadata = bytes_of_field (part_in v 1); buffers = indices_of (bytes_of_field (part_in v 3)); stats = part_in v 4 }) (nodes_in (part_in v 2))
 node_seen v h = ap (λ vs. node_of vs) (seen-of array_schema 1 v h)
 
 module _ (v : View) (h : IsViewOf array_schema 1 v) (t : Rose NodeFields) (own : node_of (seen v) ≡ t) where
-  told : t ≡ node (record { encoding = number_of_field (part_in v 0); metadata = bytes_of_field (part_in v 1); buffers = indices_of (bytes_of_field (part_in v 3)) }) (nodes_in (part_in v 2))
+  told : t ≡ node (record { encoding = number_of_field (part_in v 0); metadata = bytes_of_field (part_in v 1); buffers = indices_of (bytes_of_field (part_in v 3)); stats = part_in v 4 }) (nodes_in (part_in v 2))
   told = sym own ∙ node_seen v h
 
   pub encoding_told : (label t).encoding ≡ number_of_field (part_in v 0)
@@ -37,8 +37,24 @@ module _ (v : View) (h : IsViewOf array_schema 1 v) (t : Rose NodeFields) (own :
   pub metadata_told : (label t).metadata ≡ bytes_of_field (part_in v 1)
   metadata_told = ap (λ (z : Rose NodeFields). let f : NodeFields = label z in f.metadata) told
 
+  pub stats_told : (label t).stats ≡ part_in v 4
+  stats_told = ap (λ (z : Rose NodeFields). let f : NodeFields = label z in f.stats) told
+
   pub below_told : below t ≡ nodes_in (part_in v 2)
   below_told = ap (λ (z : Rose NodeFields). below z) told
+
+  -- The table of its statistics, where one stands.
+  pub table_fields : (r : Option View) → IfSome r (λ w. IsBelow v w) → IfSome r (λ w. kind_in v 4 ≡ Some (Table (table_seen w))) → IfSome r (λ w. kinds_in w ≡ stats_fields)
+  table_fields None b k = tt
+  table_fields (Some w) b k = kinds-of array_schema 2 w (table-of array_schema v w 4 2 h.schema (kind-of array_schema 1 v h 4) b k)
+
+  pub table_some : (r : Option View) → MatchOption r (part_in v 4 ≡ absent) (λ w. part_in v 4 ≡ table (seen w)) → IfSome r (λ w. (label t).stats ≡ table (seen w))
+  table_some None p = tt
+  table_some (Some w) p = stats_told ∙ p
+
+  pub table_none : (r : Option View) → MatchOption r (part_in v 4 ≡ absent) (λ w. part_in v 4 ≡ table (seen w)) → IfNone r ((label t).stats ≡ absent)
+  table_none None p = stats_told ∙ p
+  table_none (Some w) p = tt
 
 -- ---- indices, two bytes at a time
 

@@ -5,7 +5,9 @@ use Rattle.vx_buffer.specs.Buffer.{Buffer}
 use Rattle.vx_trees.specs.Rose.{node, end, more, label, below, roses_of}
 use Rattle.vx_trees.specs.Walks.{nodes, nodes_of, levels, levels_below, gathered, gathered_below}
 use Rattle.vx_trees.proofs.Gathering.{gathered-is, gathered-end, gathered_below-take}
+use Rattle.vx_flat.specs.Value.{table}
 use Rattle.vx_types.specs.Known.{no_readers}
+use Rattle.vx_scalar_wire.specs.StatsTable.{stats_table}
 use Rattle.vx_array_tree.specs.Sound.{metadata_in}
 use Rattle.vx_array_tree.specs.Table.{buffers_of}
 use Rattle.vx_array_tree.specs.Tree.{Tree, Trees}
@@ -74,6 +76,9 @@ module _ (s : SessionMeaning) where
 
   pub own-metadata : (t : Tree) → (label (wire codec s t)).metadata ≡ message_bytes (told (metadata_in (label t) (below t)))
   own-metadata (node h ts) = refl
+
+  pub own-stats : (t : Tree) → (label (wire codec s t)).stats ≡ table (stats_table (label t).stats)
+  own-stats (node h ts) = refl
 
   pub own-grown : (t : Tree) (a b : Context) → grown_by (array_id t ∷ []) a ≡ Some b → grown_by (id_in (label (wire codec s t))) a ≡ Some b
   own-grown t a b g = ap (λ z. grown_by z a) (own-ids t) ∙ g

@@ -13,7 +13,7 @@ use Rattle.vx_wire_tree.specs.Context.{Context, grown}
 use Rattle.vx_wire_tree.specs.Fields.{FitsMessage}
 use Rattle.vx_wire_tree.specs.Limits.{HasMessage, HasMessages}
 use Rattle.vx_wire_tree.specs.Matches.{Matches, AllMatch, IsNodeBy, IsEncodedNode}
-use Rattle.vx_wire_tree.specs.ReadBack.{IsWritten, IsWrittenNode, HasKnownTypes, IsKnownNode}
+use Rattle.vx_wire_tree.specs.ReadBack.{IsWritten, IsWrittenNode, HasKnownTypes, IsKnownNode, HasStorableStats}
 use Rattle.vx_wire_tree.specs.Session.{SessionMeaning, Reader, shipped, IsShipped, IsPaired}
 use Rattle.vx_wire_tree.specs.Tells.{Tells}
 use Rattle.vx_wire_tree.specs.Wire.{Wire, Wires, WireHead, IsWhole, IsWholeNode, ids_in}
@@ -25,6 +25,7 @@ use Rattle.vx_serde.specs.Written.{blob_bytes, IsWritable}
 use Rattle.vx_serde.specs.Spells.{Spells, blob_of, ids_after, KeepsWriterLimits}
 use Rattle.vx_serde.proofs.Carried.{carried}
 use Rattle.vx_serde.proofs.GrownPlaced.{grown_by-placed}
+use Rattle.vx_serde.proofs.WiredStats.{storable-tabled}
 use Rattle.vx_serde.proofs.GrownIds.{grown_by-ids}
 
 -- nothing is missing in an array's wire tree
@@ -87,16 +88,16 @@ grown-ids s t old new e = grown_by-ids (ids_in (wire codec s t)) old new e
 
 -- The blob that is written for an array that was read spells it with the identifiers of the grown context.
 pub spelled_again : (s : SessionMeaning) → IsShipped s → IsLawful codec s → IsPaired s → (blob : List ℕ) (read : List (List ℕ)) (d : Typ) (n : ℕ) (t : Tree)
-    (old new : Context) (options : SerializeOptions) → Spells blob read d n s t → grown codec s old t ≡ Some new → KeepsWriterLimits s t old options
+    (old new : Context) (options : SerializeOptions) → Spells blob read d n s t → HasStorableStats codec t → grown codec s old t ≡ Some new → KeepsWriterLimits s t old options
     → Spells (blob_of s t old options) new.ids d n s (canon s t)
-spelled_again s ok law paired blob read d n t old new options x grew fit =
+spelled_again s ok law paired blob read d n t old new options x stored grew fit =
     let w = wire codec s t in
     let same = grown-ids s t old new grew in
     let placed = grown_by-placed (ids_in w) old new grew in
     let W : List (List ℕ) → Type 0 = λ z. IsWritable z options w in
-    let c = carried new.ids options w (wire-whole codec s t) placed.placed (subst W (sym same) fit.writable) in
+    let c = carried new.ids options w (wire-whole codec s t) (storable-tabled s t stored) placed.placed (subst W (sym same) fit.writable) in
     let m = x.told.matched in
-    let again = told_again codec s ok law paired t x.told.sound (read_written codec s paired x.wire t m) fit.messages (read_types codec s x.wire t m) in
+    let again = told_again codec s ok law paired t x.told.sound (read_written codec s paired x.wire t m) fit.messages (read_types codec s x.wire t m) stored in
     let T : Typ → Type 0 = λ z. Tells codec s w z (label t).len (canon s t) in
     let L : ℕ → Type 0 = λ z. Tells codec s w d z (canon s t) in
     let spelled : Spells (blob_bytes new.ids options w) new.ids d n s (canon s t) = record {

@@ -1,10 +1,11 @@
 -- The tables of an array message, their fields in order.
 use Rattle.std.specs.Prelude.{List, [], ◌∷◌}
 use Rattle.vx_flat.specs.declared.schema.FieldKind.{FieldKind}
-use Rattle.vx_flat.specs.declared.schema.FieldKind.TheVariants.{Number, OptNumber, OptFlag, Vector, Structs, Table, Tables}
+use Rattle.vx_flat.specs.declared.schema.FieldKind.TheVariants.{Number, Vector, Structs, Table, Tables}
 use Rattle.vx_flat.specs.declared.schema.Width.{Width}
-use Rattle.vx_flat.specs.declared.schema.Width.TheVariants.{One, Two, Four, Eight}
+use Rattle.vx_flat.specs.declared.schema.Width.TheVariants.{One, Two, Four}
 use Rattle.vx_flat.specs.Schema.{Schema}
+pub use Rattle.vx_scalar_wire.specs.StatsSchema.{stats_fields}
 
 -- The message: its root node, and the descriptors of its buffers.
 abbrev pub array_fields : List FieldKind
@@ -13,11 +14,6 @@ array_fields = Table 1 ∷ Structs 0 ∷ []
 -- A node: the index of its encoding, metadata, children, the indices of its buffers, statistics.
 abbrev pub node_fields : List FieldKind
 node_fields = Number Two ∷ Vector One ∷ Tables 1 ∷ Vector Two ∷ Table 2 ∷ []
-
--- Statistics: the least and the greatest value, each with a precision, the sum,
--- three flags and three counts.
-abbrev pub stats_fields : List FieldKind
-stats_fields = Vector One ∷ Number One ∷ Vector One ∷ Number One ∷ Vector One ∷ OptFlag ∷ OptFlag ∷ OptFlag ∷ OptNumber Eight ∷ OptNumber Eight ∷ OptNumber Eight ∷ []
 
 -- A descriptor: padding, the exponent of the alignment, compression, length.
 abbrev pub descriptor_widths : List Width

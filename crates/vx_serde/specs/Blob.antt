@@ -32,7 +32,7 @@ abbrev mutual
   -- A message's node with its identifier and its buffers in the place of their indices.
   pub wire_of : List (List ℕ) → List Buffer → Rose NodeFields → Wire
   wire_of ids bs (node f ts) =
-      node (record { id = slice_get ids f.encoding; metadata = f.metadata; buffers = map (λ i. slice_get bs i) f.buffers }) (wires_of ids bs ts)
+      node (record { id = slice_get ids f.encoding; metadata = f.metadata; buffers = map (λ i. slice_get bs i) f.buffers; stats = f.stats }) (wires_of ids bs ts)
 
   -- Several nodes of a message, each with its identifier and its buffers.
   pub wires_of : List (List ℕ) → List Buffer → Roses NodeFields → Wires

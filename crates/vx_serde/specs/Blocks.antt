@@ -3,14 +3,14 @@ use Rattle.std.specs.Prelude.{ℕ, ◌≡◌, ◌+◌, ◌<◌, ◌^◌, List, [
 use Rattle.vx_flat.specs.declared.builder.piece.LinkKind.TheVariants as link
 use Rattle.vx_flat.specs.Building.{Built, with_pieces}
 use Rattle.vx_flat.specs.Layout.{written_layout}
-use Rattle.vx_flat.specs.Pieces.{Piece, table_piece, links_piece, entries, rows_length, rows_pieces, table_pieces}
+use Rattle.vx_flat.specs.Pieces.{Piece, links_piece, rows_length, rows_pieces, table_pieces}
 use Rattle.vx_flat.specs.Value.{Fields, table, elements, field, no_fields}
 use Rattle.vx_trees.specs.Rose.{Rose, Roses, node, end, more}
 use Rattle.vx_trees.specs.Walks.{nodes, gathered, gathered_below}
 use Rattle.vx_wire_tree.specs.Wire.{Wire, Wires, present, buffers_at_node}
-use Rattle.vx_serde.specs.ArraySchema.{array_schema, node_fields, stats_fields}
+use Rattle.vx_serde.specs.ArraySchema.{array_schema, node_fields}
 use Rattle.vx_serde.specs.Message.{NodeFields}
-use Rattle.vx_serde.specs.MessageValue.{node_value, rows_value, no_stats}
+use Rattle.vx_serde.specs.MessageValue.{node_value, rows_value}
 use Rattle.vx_serde.specs.Numbered.{encoding_index, numbers_from}
 
 -- ---- nodes whose encodings are numbered
@@ -28,7 +28,7 @@ abbrev mutual
   -- numbered in preorder from n on.
   pub numbered_by : List ℕ → ℕ → ℕ → Wire → Rose NodeFields
   numbered_by numbers k n (node h ws) =
-      node (record { encoding = get_or numbers k 0; metadata = h.metadata; buffers = numbers_from n (length (present h.buffers)) })
+      node (record { encoding = get_or numbers k 0; metadata = h.metadata; buffers = numbers_from n (length (present h.buffers)); stats = h.stats })
       (numbered_below_by numbers (k + 1) (n + length (present h.buffers)) ws)
 
   -- The trees below a node, each numbered on from where the one before it ends.
@@ -38,10 +38,6 @@ abbrev mutual
       more (numbered_by numbers k n w) (numbered_below_by numbers (k + nodes w) (n + length (gathered buffers_at_node w)) ws)
 
 -- ---- blocks
-
--- The block of statistics of which none stands.
-abbrev pub no_stats_piece : Piece
-no_stats_piece = table_piece (entries stats_fields no_stats)
 
 -- The blocks of a node with all nodes below it.
 abbrev pub node_pieces : List ℕ → ℕ → ℕ → Wire → List Piece

@@ -1,7 +1,8 @@
 pub mod ArraySchema
 pub mod Message
 pub mod MessageValue
-pub mod WireCode
+pub mod FieldCode
+pub mod StatNames
 pub mod Limits
 pub mod Blob
 pub mod Serialized

@@ -1,7 +1,7 @@
 -- An array message as plain data, and what a table value tells of it.
 use Rattle.std.specs.Prelude.{ℕ, ◌+◌, List, [], ◌∷◌, Option, Some, None}
 use Rattle.std.specs.Int.{w16, w32, from_le_bytes}
-use Rattle.vx_flat.specs.Value.{Field, number, elements, table, tables, Fields, field, Rows, no_rows, row}
+use Rattle.vx_flat.specs.Value.{Field, absent, number, elements, table, tables, Fields, field, Rows, no_rows, row}
 use Rattle.vx_trees.specs.Rose.{Rose, Roses, node, end, more}
 -- A buffer descriptor: how many bytes are skipped in front of the buffer, the
 -- exponent of its alignment, its compression (0 is none) and its length.
@@ -12,11 +12,16 @@ abbrev pub place_behind : ℕ → Descriptor → ℕ
 place_behind place d = place + d.padding + d.len
 
 -- A node names its encoding by its place in a list of identifiers that stands
--- beside the blob, and its buffers by the places of their descriptors.
+-- beside the blob, and its buffers by the places of their descriptors. A field of it may hold a table of statistics.
 pub record NodeFields : Type 0 where
   pub encoding : ℕ
   pub metadata : List ℕ
   pub buffers : List ℕ
+  pub stats : Field
+
+-- A node of which nothing stands.
+abbrev pub no_node : NodeFields
+no_node = record { encoding = 0; metadata = []; buffers = []; stats = absent }
 
 -- A message: the tree of its nodes, where it has a root, and its descriptors in order.
 pub record Message : Type 0 where
@@ -45,12 +50,12 @@ descriptors_of (a ∷ b ∷ exponent ∷ compression ∷ e ∷ f ∷ g ∷ h ∷
 descriptors_of _ = []
 
 abbrev mutual
-  -- The node that a table value tells, with all nodes below it. Its statistics
-  -- are a table of their own and tell nothing of the tree.
+  -- The node that a table value tells, with all nodes below it.
   pub node_of : Fields → Rose NodeFields
-  node_of (field encoding (field metadata (field children (field buffers stats)))) =
-      node (record { encoding = number_of_field encoding; metadata = bytes_of_field metadata; buffers = indices_of (bytes_of_field buffers) }) (nodes_in children)
-  node_of _ = node (record { encoding = 0; metadata = []; buffers = [] }) end
+  node_of (field encoding (field metadata (field children (field buffers (field stats vs))))) =
+      node (record { encoding = number_of_field encoding; metadata = bytes_of_field metadata; buffers = indices_of (bytes_of_field buffers); stats = stats })
+      (nodes_in children)
+  node_of _ = node no_node end
 
   -- The nodes of a vector of tables; absent children are none.
   pub nodes_in : Field → Roses NodeFields

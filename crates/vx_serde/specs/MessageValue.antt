@@ -1,9 +1,12 @@
 -- The table value that is written for an array message.
 use Rattle.std.specs.Prelude.{ℕ, ◌<◌, ◌^◌, List, [], ◌∷◌, ◌++◌, All}
 use Rattle.std.specs.Int.{w16, w32, to_le_bytes}
-use Rattle.vx_flat.specs.Value.{absent, number, elements, table, tables, Fields, no_fields, field, Rows, no_rows, row}
+use Rattle.vx_flat.specs.Value.{number, elements, table, tables, Fields, no_fields, field, Rows, no_rows, row}
+use Rattle.vx_flat.specs.declared.schema.FieldKind.TheVariants.{Table}
+use Rattle.vx_flat.specs.IsOf.{IsOfKind}
 use Rattle.vx_trees.specs.Rose.{Rose, Roses, node, end, more}
 use Rattle.vx_trees.specs.Everywhere.{Everywhere}
+use Rattle.vx_serde.specs.ArraySchema.{array_schema}
 use Rattle.vx_serde.specs.Message.{Descriptor, NodeFields}
 
 -- Indices as numbers of two bytes.
@@ -20,17 +23,12 @@ abbrev pub descriptors_bytes : List Descriptor → List ℕ
 descriptors_bytes [] = []
 descriptors_bytes (d ∷ ds) = descriptor_bytes d ++ descriptors_bytes ds
 
--- No statistics: a table of which no field stands.
-abbrev pub no_stats : Fields
-no_stats =
-    field absent (field (number 0) (field absent (field (number 0) (field absent
-    (field absent (field absent (field absent (field absent (field absent (field absent no_fields))))))))))
-
 abbrev mutual
-  -- A node as a table: metadata, children, buffers and statistics stand, empty or not.
+  -- A node as a table: metadata, children and buffers stand, empty or not, and statistics where the node has a table of
+  -- them.
   pub node_value : Rose NodeFields → Fields
   node_value (node f ts) =
-      field (number f.encoding) (field (elements f.metadata) (field (tables (rows_value ts)) (field (elements (index_bytes f.buffers)) (field (table no_stats) no_fields))))
+      field (number f.encoding) (field (elements f.metadata) (field (tables (rows_value ts)) (field (elements (index_bytes f.buffers)) (field f.stats no_fields))))
 
   -- Nodes as tables, in order.
   pub rows_value : Roses NodeFields → Rows
@@ -41,9 +39,11 @@ abbrev mutual
 abbrev pub message_value : Rose NodeFields → List Descriptor → Fields
 message_value root descriptors = field (table (node_value root)) (field (elements (descriptors_bytes descriptors)) no_fields)
 
--- A node whose indices fit two bytes each.
-abbrev pub IsNumberedNode : NodeFields → Roses NodeFields → Type 0
-IsNumberedNode f ts = (f.encoding < 2 ^ 16) × All (λ i. i < 2 ^ 16) f.buffers
+-- A node whose indices fit two bytes each, and whose statistics stand in no field or in a table of their kind.
+pub record IsNumberedNode (f : NodeFields) (ts : Roses NodeFields) : Type 0 where
+  pub encoding : f.encoding < 2 ^ 16
+  pub buffers : All (λ i. i < 2 ^ 16) f.buffers
+  pub stats : IsOfKind array_schema (Table 2) f.stats
 
 -- A descriptor whose parts fit their bytes.
 pub record IsDescribed (d : Descriptor) : Type 0 where

@@ -21,7 +21,7 @@ abbrev mutual
   -- preorder from n on: a node's own before those of its children.
   pub numbered : List (List ℕ) → ℕ → Wire → Rose NodeFields
   numbered ids n (node h ws) =
-      node (record { encoding = encoding_index h.id ids; metadata = h.metadata; buffers = numbers_from n (length (present h.buffers)) })
+      node (record { encoding = encoding_index h.id ids; metadata = h.metadata; buffers = numbers_from n (length (present h.buffers)); stats = h.stats })
       (numbered_below ids (n + length (present h.buffers)) ws)
 
   -- The trees below a node, each numbered on from where the one before it ends.

@@ -6,11 +6,15 @@ use Rattle.vx_flat.specs.declared.error.FlatError.TheVariants as tables
 use Rattle.vx_flat.specs.declared.limits.Limits.{Limits}
 use Rattle.vx_flat.specs.Limits.{IsLight}
 use Rattle.vx_flat.specs.Weight.{weight}
+use Rattle.vx_flat.specs.Value.{Field}
+use Rattle.vx_types.specs.Typ.{Typ}
+use Rattle.vx_wire_tree.specs.Steps.{HasNoStats}
 use Rattle.vx_wire_tree.specs.Wire.{Wire}
+use Rattle.vx_encodings.specs.Messages.{codec}
 use Rattle.vx_encodings.specs.declared.error.EncodingError.{EncodingError}
 use Rattle.vx_encodings.specs.declared.error.EncodingError.TheVariants as encodings
 use Rattle.vx_serde.specs.declared.error.WireError.{WireError}
-use Rattle.vx_serde.specs.declared.error.WireError.TheVariants.{OutOfMemory, BadTable, TableLimit, OutOfBounds, BadMetadata, BadShape, BadContent, WireLimit}
+use Rattle.vx_serde.specs.declared.error.WireError.TheVariants.{OutOfMemory, BadTable, TableLimit, OutOfBounds, BadMetadata, BadShape, BadContent, BadStats, WireLimit}
 use Rattle.vx_serde.specs.ArraySchema.{array_schema}
 use Rattle.vx_serde.specs.Blob.{Carries, AreClean}
 use Rattle.vx_serde.specs.Message.{Descriptor, message_of}
@@ -33,6 +37,12 @@ abbrev pub RefusesBuffers : WireError → List (Option Buffer) → Type 0
 RefusesBuffers OutOfMemory bs = Unit {0}
 RefusesBuffers OutOfBounds bs = (i : ℕ) × (slice_get bs i ≡ Some None)
 RefusesBuffers _ bs = ⊥
+
+-- Why a node's statistics are not taken: its field shows none of arrays of the type, or memory was wanted.
+abbrev pub RefusesStats : WireError → Typ → Field → Type 0
+RefusesStats OutOfMemory d f = Unit {0}
+RefusesStats BadStats d f = HasNoStats codec d f
+RefusesStats _ d f = ⊥
 
 -- Why a message is not read, as a refusal of a blob.
 abbrev pub message_refusal : FlatError → WireError

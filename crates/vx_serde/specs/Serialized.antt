@@ -1,12 +1,14 @@
 -- What a serialized array tells, or one of its nodes: a tree of nodes, and what their numbers stand for.
-use Rattle.std.specs.Prelude.{ℕ, ◌≡◌, List, [], Option, Some, map, option_and_then, slice_get, refl}
+use Rattle.std.specs.Prelude.{ℕ, ◌≡◌, List, Option, Some, map, option_and_then, slice_get, refl}
 use Rattle.std.specs.Coded.{Coded, code_by, coded×, coded_ℕ, coded_list}
+use Rattle.vx_flat.specs.Value.{Field}
 use Rattle.vx_buffer.specs.Buffer.{Buffer, coded_buffer}
 use Rattle.vx_trees.specs.Rose.{Rose, label, below, roses_list}
 use Rattle.vx_trees.specs.Codes.{coded_rose}
 use Rattle.vx_wire_tree.specs.Wire.{Wire}
 use Rattle.vx_serde.specs.Blob.{wire_of}
-use Rattle.vx_serde.specs.Message.{Descriptor, NodeFields}
+use Rattle.vx_serde.specs.Message.{Descriptor, NodeFields, no_node}
+use Rattle.vx_serde.specs.FieldCode.{field_code}
 
 -- A node with all nodes below it, the descriptors of its message, and the buffers that nodes name by number.
 pub record Serialized : Type 0 where
@@ -36,8 +38,8 @@ pub record IsChildOf (a : Serialized) (i : ℕ) (child : Serialized) : Type 0 wh
 
 abbrev node_code : Coded NodeFields
 node_code =
-    code_by (ℕ × (List ℕ × List ℕ)) (coded× coded_ℕ (coded× (coded_list coded_ℕ) (coded_list coded_ℕ)))
-    (λ f. (f.encoding, (f.metadata, f.buffers))) (λ p. record { encoding = p.0; metadata = p.1.0; buffers = p.1.1 }) (λ _. refl)
+    code_by (ℕ × (List ℕ × (List ℕ × Field))) (coded× coded_ℕ (coded× (coded_list coded_ℕ) (coded× (coded_list coded_ℕ) field_code)))
+    (λ f. (f.encoding, (f.metadata, (f.buffers, f.stats)))) (λ p. record { encoding = p.0; metadata = p.1.0; buffers = p.1.1.0; stats = p.1.1.1 }) (λ _. refl)
 
 abbrev descriptor_code : Coded Descriptor
 descriptor_code =
@@ -49,5 +51,5 @@ descriptor_code =
 abbrev pub serialized_code : Coded Serialized
 serialized_code =
     code_by (Rose NodeFields × (List Descriptor × List Buffer))
-    (coded× (coded_rose (record { encoding = 0; metadata = []; buffers = [] }) node_code) (coded× (coded_list descriptor_code) (coded_list coded_buffer)))
+    (coded× (coded_rose no_node node_code) (coded× (coded_list descriptor_code) (coded_list coded_buffer)))
     (λ a. (a.root, (a.descriptors, a.buffers))) (λ p. record { root = p.0; descriptors = p.1.0; buffers = p.1.1 }) (λ _. refl)

@@ -1,5 +1,5 @@
 -- What is kept of a message, and why it is not.
-use Rattle.std.specs.Prelude.{ℕ, ◌≡◌, ◌<◌, List, [], Option, Some, None, slice_index}
+use Rattle.std.specs.Prelude.{ℕ, ◌≡◌, ◌<◌, List, Option, Some, None, slice_index}
 use Rattle.vx_buffer.specs.Buffer.{Buffer}
 use Rattle.vx_flat.specs.Limits.{IsLight}
 use Rattle.vx_flat.specs.Reading.{table_shown}
@@ -14,7 +14,7 @@ use Rattle.vx_serde.specs.declared.error.WireError.{WireError}
 use Rattle.vx_serde.specs.declared.error.WireError.TheVariants.{OutOfMemory, BadTable, TableLimit, BadAlignment, Compressed, OutOfBounds}
 use Rattle.vx_serde.specs.ArraySchema.{array_schema}
 use Rattle.vx_serde.specs.Blob.{IsBlob, AreClean, buffers_at}
-use Rattle.vx_serde.specs.Message.{NodeFields, message_of}
+use Rattle.vx_serde.specs.Message.{NodeFields, no_node, message_of}
 use Rattle.vx_serde.specs.Overrides.{Overrides, RefusesWith}
 use Rattle.vx_serde.specs.Serialized.{Serialized}
 
@@ -65,7 +65,7 @@ array_at message place = fields_or_none (table_shown array_schema message place 
 -- A root, or a leaf of which nothing is known where there is none.
 abbrev pub root_or_leaf : Option (Rose NodeFields) → Rose NodeFields
 root_or_leaf (Some t) = t
-root_or_leaf None = node (record { encoding = 0; metadata = []; buffers = [] }) end
+root_or_leaf None = node no_node end
 
 -- What the message tells whose array value stands at a place, over these buffers.
 abbrev pub stored : List ℕ → ℕ → List Buffer → Serialized

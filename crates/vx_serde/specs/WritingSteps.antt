@@ -4,8 +4,12 @@ use Rattle.vx_flat.specs.Layout.{written_layout}
 use Rattle.vx_flat.specs.Limits.{limits, IsLight}
 use Rattle.vx_flat.specs.Value.{table, elements, field, no_fields}
 use Rattle.vx_flat.specs.Weight.{weight}
+use Rattle.vx_flat.specs.IsOf.{IsOf}
+use Rattle.vx_trees.specs.Everywhere.{Everywhere}
 use Rattle.vx_trees.specs.Walks.{levels}
-use Rattle.vx_array_tree.specs.Tree.{Tree}
+use Rattle.vx_scalar_wire.specs.StatsSchema.{stats_schema}
+use Rattle.vx_scalar_wire.specs.StatsTable.{stats_table}
+use Rattle.vx_array_tree.specs.Tree.{Tree, Trees, Head}
 use Rattle.vx_wire_tree.specs.Causes.{HasUnwritten}
 use Rattle.vx_wire_tree.specs.Context.{Context, grown_by}
 use Rattle.vx_wire_tree.specs.Session.{SessionMeaning, Reader}
@@ -52,6 +56,14 @@ abbrev pub layout_of : List (List ℕ) → Wire → List ℕ → List ℕ
 layout_of ids w bytes = written_layout array_schema (field (table (node_value (numbered ids 0 w))) (field (elements bytes) no_fields))
 
 -- ---- nodes
+
+-- A node's statistics have a table of its kind: those of each set in hand have.
+abbrev pub HasTable : Head → Trees → Type 0
+HasTable h ts = IsOf stats_schema (stats_table h.stats)
+
+-- So have those of each node of an array.
+abbrev pub HasTables : Tree → Type 0
+HasTables = Everywhere HasTable
 
 -- What writes the arrays of a root's encoding is registered.
 pub record HasEntry (r : Registry) (t : Tree) : Type 0 where

@@ -3,9 +3,14 @@
 ghost use Rattle.std.specs.Prelude.{◌≡◌, ◌%◌, ◌<◌, ◌^◌, ◌∷◌, [], true, false, length, OnOk, IfErr};
 ghost use Rattle.vx_flat.specs.Building.{Takes, IsStopped};
 ghost use Rattle.vx_flat.specs.Pieces.{elements_piece, default_entry, is_width};
-ghost use Rattle.vx_serde.specs.Blocks.{AreWritten, no_stats_piece};
+ghost use Rattle.vx_trees.specs.Rose.{label};
+ghost use Rattle.vx_scalar_wire.specs.StatsTable.{AreStorable, stats_pieces};
+ghost use Rattle.vx_serde.specs.Blocks.{AreWritten};
 
+use std::alloc::Global;
+use vx_arrays::Array;
 use vx_flat::{BlockField, BlockVector, Builder, FlatError, LinkKind};
+use vx_scalar_wire::{ScalarWireError, StatsSetExt};
 
 /// The entry of a field that is a table.
 pub(crate) const TABLE: BlockField = BlockField::Link(LinkKind::Table);
@@ -42,12 +47,21 @@ pub(crate) fn write_elements(
     Ok(())
 }
 
-/// Writes the table of statistics of which none stands.
-pub(crate) fn write_no_statistics(builder: &mut Builder) -> Result<(), FlatError>
+/// Writes the blocks of the table of an array's statistics.
+pub(crate) fn write_statistics(
+    alloc: Global,
+    array: &Array,
+    builder: &mut Builder,
+) -> Result<(), FlatError>
     requires takes { Takes LinkKind.Table builder.old }
-    ensures written { OnOk result (AreWritten builder.old (no_stats_piece ∷ []) builder.new) }
-    ensures stopped { IfErr result (λ e. IsStopped builder.old (no_stats_piece ∷ []) e builder.new) }
+    ensures written { OnOk result (AreWritten builder.old (stats_pieces (label array.now).stats) builder.new) }
+    ensures storable { OnOk result (AreStorable (label array.now).stats) }
+    ensures stopped { IfErr result (λ e. IsStopped builder.old (stats_pieces (label array.now).stats) e builder.new) }
 {
-    builder.table(&[BlockField::Absent; 11])?;
-    Ok(())
+    match array.statistics().write_flatbuffer(alloc, builder) {
+        Ok(()) => Ok(()),
+        Err(ScalarWireError::OutOfMemory) => Err(FlatError::OutOfMemory),
+        Err(ScalarWireError::MessageTooLong) => Err(FlatError::MessageTooLong),
+        Err(_) => unreachable!(),
+    }
 }

@@ -3,17 +3,20 @@
 ghost use Rattle.std.specs.Prelude.{◌≡◌, List, ℕ, IfOk, IfErr, OnOk, IsOkUnless};
 ghost use Rattle.vx_trees.specs.Rose.{label};
 ghost use Rattle.vx_types.specs.Seen.{typ};
+ghost use Rattle.vx_scalars.specs.Stats.{FitStats};
 ghost use Rattle.vx_array_tree.specs.Tree.{Tree};
 ghost use Rattle.vx_wire_tree.specs.Session.{IsShipped};
+ghost use Rattle.vx_wire_tree.specs.Steps.{IsToldBy};
 ghost use Rattle.vx_wire_tree.specs.Tells.{Tells};
 ghost use Rattle.vx_wire_tree.specs.Wire.{all_present};
+ghost use Rattle.vx_scalar_wire.specs.StatsShown.{ShowsStatsIn};
 ghost use Rattle.vx_encodings.specs.Messages.{codec};
 ghost use Rattle.vx_encodings.specs.Steps.{IsPlanned};
 ghost use Rattle.vx_registry.specs.Meaning.{session_meaning};
 ghost use Rattle.vx_registry.specs.Session.{ArePaired};
 ghost use Rattle.vx_serde.specs.Causes.{RefusesWire};
 ghost use Rattle.vx_serde.specs.Decoding.{IsHeadOf, IsNodeOf};
-ghost use Rattle.vx_serde.specs.ReadingSteps.{RefusesBuffers};
+ghost use Rattle.vx_serde.specs.ReadingSteps.{RefusesBuffers, RefusesStats};
 ghost use Rattle.vx_serde.specs.Serialized.{wire_in};
 
 use crate::error::WireError;
@@ -24,6 +27,8 @@ use vx_arrays::{Array, Arrays};
 use vx_buffer::BufferHandles;
 use vx_encodings::{ArrayHead, ChildPlans, Encoding, EncodingError, build, plan};
 use vx_registry::{ReadContext, VortexSession};
+use vx_scalar_wire::{ScalarWireError, StatsSetExt};
+use vx_scalars::StatsSet;
 use vx_types::{Blob, DType, Id};
 
 impl From<EncodingError> for WireError {
@@ -129,6 +134,47 @@ fn own_buffers(alloc: Global, node: &SerializedNode<'_>) -> Result<BufferHandles
     Ok(own)
 }
 
+/// The statistics that a node shows, of arrays of a type.
+fn statistics_in(
+    alloc: Global,
+    node: &SerializedNode<'_>,
+    dtype: &DType,
+) -> Result<StatsSet, WireError>
+    ensures shown { IfOk result (λ set. ShowsStatsIn (typ dtype.now) (label node.now.root).stats set) }
+    ensures fits { IfOk result (λ set. FitStats (typ dtype.now) set) }
+    ensures cause { IfErr result (λ e. RefusesStats e (typ dtype.now) (label node.now.root).stats) }
+{
+    let Some(table) = node.statistics() else {
+        return Ok(StatsSet::new(alloc));
+    };
+    match StatsSet::from_flatbuffer(alloc, &table, dtype) {
+        Ok(stats) => Ok(stats),
+        Err(ScalarWireError::OutOfMemory) => Err(WireError::OutOfMemory),
+        Err(_) => Err(WireError::BadStats),
+    }
+}
+
+/// The array of a node's parts, with the statistics that the node shows.
+fn tell(
+    alloc: Global,
+    node: &SerializedNode<'_>,
+    dtype: &DType,
+    mut array: Array,
+) -> Result<Array, WireError>
+    requires { (label array).dtype ≡ typ dtype.now }
+    ensures told { IfOk result (IsToldBy codec (typ dtype.now) (label node.now.root).stats array) }
+    ensures cause { IfErr result (λ e. RefusesStats e (typ dtype.now) (label node.now.root).stats) }
+{
+    let stats = match statistics_in(alloc, node, dtype) {
+        Ok(stats) => stats,
+        Err(e) => return Err(e),
+    };
+    match array.set_all(stats) {
+        Ok(()) => Ok(array),
+        Err(_) => unreachable!(),
+    }
+}
+
 /// The array that a node tells, with those below it, at a type and a length.
 fn decode_node(
     alloc: Global,
@@ -174,7 +220,7 @@ fn decode_node(
         children,
         &session.ext,
     ) {
-        Ok(array) => Ok(array),
+        Ok(array) => tell(alloc, node, dtype, array),
         Err(e) => Err(WireError::from(e)),
     }
 }
@@ -183,9 +229,9 @@ impl<'a> SerializedNode<'a> {
     /// The array of this type and length that the node tells, with those below it.
     ///
     /// # Errors
-    /// `UnknownIndex`, `UnknownEncoding`, `BadMetadata`, `BadShape` and `BadContent` where a node has that fault at the
-    /// type and length that follow for it, `OutOfBounds` where one names a buffer that is not there. Where several have a
-    /// cause, any of them may be answered.
+    /// `UnknownIndex`, `UnknownEncoding`, `BadMetadata`, `BadShape`, `BadContent` and `BadStats` where a node has that fault
+    /// at the type and length that follow for it, `OutOfBounds` where one names a buffer that is not there. Where several
+    /// have a cause, any of them may be answered.
     pub fn decode(
         &self,
         alloc: Global,

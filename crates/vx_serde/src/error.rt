@@ -48,6 +48,9 @@ pub enum WireError {
     /// text where one is to be.
     #[error("a node's content is broken")]
     BadContent,
+    /// A node's statistics are no values of their types, or have an unknown precision.
+    #[error("a node's statistics are ill-formed")]
+    BadStats,
     /// The write context takes no such identifier.
     #[error("an encoding's identifier is not permitted")]
     NotPermitted,
@@ -77,6 +80,7 @@ impl WireError {
             WireError::BadMetadata => 18,
             WireError::BadShape => 19,
             WireError::BadContent => 20,
+            WireError::BadStats => 22,
             WireError::NotPermitted => 23,
             WireError::WireLimit => 24,
             WireError::NotRegistered => 25,

@@ -10,6 +10,7 @@ ghost use Rattle.vx_wire_tree.specs.Wire.{Wire};
 ghost use Rattle.vx_encodings.specs.Messages.{codec};
 ghost use Rattle.vx_serde.specs.Blob.{Carries};
 ghost use Rattle.vx_serde.specs.Spells.{Spells, blob_of, KeepsWriterLimits};
+ghost use Rattle.vx_wire_tree.specs.ReadBack.{HasStorableStats};
 ghost use Rattle.vx_wire_tree.specs.Written.{canon};
 ghost use Rattle.vx_types.specs.Typ.{Typ};
 ghost use Rattle.vx_array_tree.specs.Tree.{Tree};
@@ -27,11 +28,11 @@ pub fn one_array()
         → IsShipped s → IsLawful codec s → Spells blob ids d n s t → Spells blob ids d n s u → t ≡ u }
 {}
 
-/// What is written for an array that was read, under limits that hold, spells the array again with the context's
-/// identifiers.
+/// What is written for an array that was read, whose statistics can be stored, under limits that hold, spells the array
+/// again with the context's identifiers, as it is read back.
 pub fn written_is_spelled()
     ensures { (s : SessionMeaning) (blob : List ℕ) (ids : List (List ℕ)) (d : Typ) (n : ℕ) (t : Tree) (old new : Context) (options : SerializeOptions)
-        → IsShipped s → IsLawful codec s → IsPaired s → Spells blob ids d n s t → grown codec s old t ≡ Some new → KeepsWriterLimits s t old options
+        → IsShipped s → IsLawful codec s → IsPaired s → Spells blob ids d n s t → HasStorableStats codec t → grown codec s old t ≡ Some new → KeepsWriterLimits s t old options
         → Spells (blob_of s t old options) new.ids d n s (canon s t) }
 {}
 

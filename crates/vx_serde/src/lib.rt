@@ -16,7 +16,6 @@ mod placing;
 mod recoding;
 mod serialized;
 mod serializing;
-mod tree;
 mod writing;
 
 pub use array_kind::ArrayKind;

@@ -2,12 +2,14 @@
 //! numbers in preorder.
 
 ghost use Rattle.std.specs.Prelude.{◌≡◌, ◌+◌, ◌≤◌, ◌<◌, ◌^◌, length, get_or, IfOk, IfErr, OnOk, IsOkUnless};
+ghost use Rattle.vx_trees.specs.Everywhere.{EverywhereBelow};
 ghost use Rattle.vx_trees.specs.Rose.{label, below, roses_of};
 ghost use Rattle.vx_trees.specs.Walks.{nodes, nodes_of, gathered_below};
 ghost use Rattle.vx_flat.specs.Building.{Takes, IsStopped};
 ghost use Rattle.vx_array_tree.specs.Sound.{metadata_in};
 ghost use Rattle.vx_array_tree.specs.Table.{buffers_of};
 ghost use Rattle.vx_wire_tree.specs.Fields.{told};
+ghost use Rattle.vx_wire_tree.specs.ReadBack.{IsStorableNode, HasStorableStats};
 ghost use Rattle.vx_wire_tree.specs.Session.{SessionMeaning};
 ghost use Rattle.vx_wire_tree.specs.Wire.{buffers_in, buffers_at_node};
 ghost use Rattle.vx_wire_tree.specs.Written.{wire, wires};
@@ -16,7 +18,7 @@ ghost use Rattle.vx_serde.specs.Blocks.{node_pieces, children_pieces, AreWritten
 ghost use Rattle.vx_serde.specs.MessageValue.{index_bytes};
 ghost use Rattle.vx_serde.specs.Numbered.{numbers_from};
 
-use crate::blocks::{TABLE, VECTOR, encoding_entry, write_elements, write_no_statistics};
+use crate::blocks::{TABLE, VECTOR, encoding_entry, write_elements, write_statistics};
 use std::alloc::{AllocError, Global};
 use vx_arrays::Array;
 use vx_encodings::metadata;
@@ -99,6 +101,7 @@ pub(crate) fn write_node(
     ensures nodes { OnOk result (passed.new.nodes ≡ passed.old.nodes + nodes array.now) }
     ensures buffers { (s : SessionMeaning) → OnOk result (passed.new.buffers ≡ passed.old.buffers + length (buffers_in (wire codec s array.now))) }
     ensures written { (s : SessionMeaning) → OnOk result (AreWritten builder.old (node_pieces encodings.now passed.old.nodes passed.old.buffers (wire codec s array.now)) builder.new) }
+    ensures storable { OnOk result (HasStorableStats codec array.now) }
     ensures stopped { (s : SessionMeaning) → IfErr result (λ e. IsStopped builder.old (node_pieces encodings.now passed.old.nodes passed.old.buffers (wire codec s array.now)) e builder.new) }
 {
     let parts = node_parts(alloc, array, encodings, passed)?;
@@ -116,7 +119,7 @@ pub(crate) fn write_node(
     builder.link(node, 3);
     write_elements(2, &parts.buffers, builder)?;
     builder.link(node, 4);
-    write_no_statistics(builder)?;
+    write_statistics(alloc, array, builder)?;
     Ok(())
 }
 
@@ -136,6 +139,7 @@ fn write_nodes(
     ensures nodes { OnOk result (passed.new.nodes ≡ passed.old.nodes + nodes_of (roses_of arrays.now)) }
     ensures buffers { (s : SessionMeaning) → OnOk result (passed.new.buffers ≡ passed.old.buffers + length (gathered_below (λ h. buffers_at_node h) (wires codec s (roses_of arrays.now)))) }
     ensures written { (s : SessionMeaning) → OnOk result (AreWritten builder.old (children_pieces encodings.now passed.old.nodes passed.old.buffers (wires codec s (roses_of arrays.now))) builder.new) }
+    ensures storable { OnOk result (EverywhereBelow (IsStorableNode codec) (roses_of arrays.now)) }
     ensures stopped { (s : SessionMeaning) → IfErr result (λ e. IsStopped builder.old (children_pieces encodings.now passed.old.nodes passed.old.buffers (wires codec s (roses_of arrays.now))) e builder.new) }
 {
     let vector = builder.vector(BlockVector::Links {

@@ -12,12 +12,14 @@ ghost use Rattle.vx_serde.specs.Message.{descriptors_of, message_of};
 ghost use Rattle.vx_serde.specs.Opening.{RefusesOpening};
 ghost use Rattle.vx_serde.specs.Overrides.{overrides_in, no_override, buffers_with, AreCleanWith};
 ghost use Rattle.vx_serde.specs.Serialized.{IsChildOf, named_buffer, lengths_of};
+ghost use Rattle.vx_serde.specs.StatNames.{names_in};
 ghost use Rattle.vx_serde.specs.Stored.{IsMessageOf, IsBlobOf, RefusesMessage, RefusesSegment, IsStored, array_at, stored};
 
 mod blob;
 mod buffers;
 pub(crate) mod lengths;
 pub(crate) mod node;
+pub(crate) mod stat_names;
 
 use crate::array_kind::ArrayKind;
 use crate::error::WireError;
@@ -30,6 +32,7 @@ use std::collections::BTreeMap;
 use std::marker::Model;
 use vx_buffer::{BufferHandle, BufferHandles, ByteBuffer};
 use vx_flat::{FlatError, View, Weight, verify_uncounted, view_at};
+use vx_types::Names;
 
 /// An array as a blob has it: its message, verified once, and the buffers that the message's nodes name. Contracts see what
 /// it tells: the tree of its nodes, the message's descriptors, and the buffers.
@@ -321,6 +324,17 @@ impl SerializedArray {
         ensures cause { OnErr result (named_buffer self.now i ≡ None) }
     {
         self.root().buffer(i)
+    }
+
+    /// The names of the root's statistics that stand, in the order in which a table has them.
+    ///
+    /// # Errors
+    /// Want of memory alone.
+    pub fn stat_names(&self, alloc: Global) -> Result<Names, WireError>
+        ensures ok { IfOk result (λ names. names ≡ names_in (label self.now.root).stats) }
+        ensures err { IsOkUnless result WireError.OutOfMemory }
+    {
+        self.root().stat_names(alloc)
     }
 
     /// The length of each buffer of the message, by its descriptor.

@@ -14,7 +14,7 @@ ghost use Rattle.vx_types.specs.Known.{ExtMeaning};
 ghost use Rattle.vx_array_tree.specs.Sound.{IsSound};
 ghost use Rattle.vx_wire_tree.specs.Context.{grown_by};
 ghost use Rattle.vx_wire_tree.specs.Limits.{AreDescribable, HasMessages};
-ghost use Rattle.vx_wire_tree.specs.ReadBack.{IsWritten};
+ghost use Rattle.vx_wire_tree.specs.ReadBack.{IsWritten, HasStorableStats};
 ghost use Rattle.vx_wire_tree.specs.Session.{SessionMeaning};
 ghost use Rattle.vx_wire_tree.specs.Wire.{ids_in, buffers_in};
 ghost use Rattle.vx_wire_tree.specs.Written.{wire};
@@ -27,7 +27,7 @@ ghost use Rattle.vx_serde.specs.Causes.{RefusesArray};
 ghost use Rattle.vx_serde.specs.KeptContext.{KeepsContext};
 ghost use Rattle.vx_serde.specs.Placing.{data_end};
 ghost use Rattle.vx_serde.specs.Serializing.{IsSerialized};
-ghost use Rattle.vx_serde.specs.WritingSteps.{IsLaidOut, RefusesLayout, RefusesBytes, AreDescriptors};
+ghost use Rattle.vx_serde.specs.WritingSteps.{IsLaidOut, RefusesLayout, RefusesBytes, AreDescriptors, HasTables};
 ghost use Rattle.vx_serde.specs.WrittenBuffers.{unaligned, pad_buffers, data_buffers, greatest_exponent};
 
 use crate::array_kind::ArrayKind;
@@ -99,6 +99,7 @@ fn write_blocks(
     requires counted { nodes array.now < 2 ^ 32 }
     requires whole { AreDescriptors descriptors.now }
     ensures written { (s : SessionMeaning) → OnOk result (AreWritten builder.old (pieces array_schema (message_by encodings.now (wire codec s array.now) descriptors.now)) builder.new) }
+    ensures storable { OnOk result (HasStorableStats codec array.now) }
     ensures stopped { (s : SessionMeaning) → IfErr result (λ e. IsStopped builder.old (pieces array_schema (message_by encodings.now (wire codec s array.now) descriptors.now)) e builder.new) }
 {
     let root = builder.table(&[TABLE, VECTOR])?;
@@ -125,6 +126,7 @@ fn write_message(
     requires whole { AreDescriptors descriptors.now }
     requires of_kind { (s : SessionMeaning) → IsOf array_schema (message_by encodings.now (wire codec s array.now) descriptors.now) }
     ensures written { (s : SessionMeaning) → IfOk result (λ m. m.items ≡ layout_by encodings.now (wire codec s array.now) descriptors.now) }
+    ensures storable { OnOk result (HasStorableStats codec array.now) }
     ensures short { IfOk result (λ m. length m.items < 2 ^ 31) }
     ensures light { IfOk result (λ m. IsLight limits (weigh.weight array_schema m.items)) }
     ensures refused { (s : SessionMeaning) → IfErr result (RefusesBytes (layout_by encodings.now (wire codec s array.now) descriptors.now)) }
@@ -156,6 +158,7 @@ fn place(
     ensures placed { (s : SessionMeaning) → IfOk result (λ p. IsLaidOut options.now (wire codec s array.now) p.1.descriptors.items p.1.end) }
     ensures written { (x : ExtMeaning) → OnOk result (IsWritten (tables_meaning arrays.now x) array.now) }
     ensures messages { OnOk result (HasMessages array.now) }
+    ensures tables { OnOk result (HasTables array.now) }
     ensures grown { (s : SessionMeaning) → OnOk result (grown_by (ids_in (wire codec s array.now)) ctx.old ≡ Some ctx.new) }
     ensures kept { (s : SessionMeaning) → KeepsContext (ids_in (wire codec s array.now)) ctx.old ctx.new }
     ensures refused { (x : ExtMeaning) → IfErr result (RefusesLayout (tables_meaning arrays.now x) options.now array.now ctx.old) }

@@ -11,4 +11,6 @@ pub mod laws;
 #[cfg(test)]
 mod nodes;
 #[cfg(test)]
+mod statistics;
+#[cfg(test)]
 mod writing;

@@ -67,6 +67,7 @@ refused wire.UnknownEncoding asked cause = cause
 refused wire.BadMetadata asked cause = cause
 refused wire.BadShape asked cause = cause
 refused wire.BadContent asked cause = cause
+refused wire.BadStats asked cause = cause
 refused wire.NotPermitted asked cause = cause
 refused wire.WireLimit asked cause = cause
 refused wire.NotRegistered asked cause = cause

@@ -82,6 +82,14 @@ fn flag_entry_of(told: Precision<&ScalarValue>) -> BlockField
     }
 }
 
+/// A count is a number of eight bytes, where what is told is one, and exact. Nothing runs; a
+/// caller gets the fact.
+pub fn hold_count(told: Precision<&ScalarValue>)
+    ensures { IfSome (exact_count (told_of (lent told.entry))) (λ n. n < 2 ^ 64) }
+{
+    let _entry = count_entry_of(told);
+}
+
 // The entry of a count, where what is told is one, and exact.
 fn count_entry_of(told: Precision<&ScalarValue>) -> BlockField
     ensures entry { result ≡ count_entry (told_of (lent told.entry)) }

@@ -5,7 +5,7 @@ ghost use Rattle.vx_scalars.specs.Places.{lent};
 ghost use Rattle.vx_scalars.specs.Stats.{told as told_of};
 ghost use Rattle.vx_scalar_wire.specs.StatsBlocks.{stored_field};
 ghost use Rattle.vx_scalars.specs.WrittenStats.{written_sum};
-ghost use Rattle.vx_scalar_wire.specs.StatsTable.{value_field};
+ghost use Rattle.vx_scalar_wire.specs.StatsTable.{IsStorable, value_field};
 ghost use Rattle.vx_scalar_wire.specs.StatsUnwritten.{IsWritableTold, IsUnwrittenTold};
 
 use crate::error::ScalarWireError;
@@ -22,11 +22,15 @@ pub fn value_bytes(
 ) -> Result<Option<Blob>, ScalarWireError>
     ensures written { IfOk result (λ b. stored_field b ≡ value_field (told_of (lent told.entry))) }
     ensures writable { OnOk result (IsWritableTold (told_of (lent told.entry))) }
+    ensures storable { OnOk result (IsStorable (told_of (lent told.entry))) }
     ensures cause { IfErr result (λ e. IsUnwrittenTold e (told_of (lent told.entry))) }
 {
     match told {
         Precision::Exact(value) | Precision::Inexact(value) => {
-            Ok(Some(ScalarValue::to_proto_bytes(alloc, Some(value))?))
+            value.hold();
+            let bytes = ScalarValue::to_proto_bytes(alloc, Some(value))?;
+            let _count = bytes.len();
+            Ok(Some(bytes))
         }
         Precision::Absent => Ok(None),
     }
@@ -40,6 +44,7 @@ pub fn sum_bytes(
 ) -> Result<Option<Blob>, ScalarWireError>
     ensures written { IfOk result (λ b. stored_field b ≡ value_field (written_sum (told_of (lent told.entry)))) }
     ensures writable { OnOk result (IsWritableTold (written_sum (told_of (lent told.entry)))) }
+    ensures storable { OnOk result (IsStorable (written_sum (told_of (lent told.entry)))) }
     ensures cause { IfErr result (λ e. IsUnwrittenTold e (written_sum (told_of (lent told.entry)))) }
 {
     let Precision::Exact(value) = told else {

@@ -1,8 +1,11 @@
 //! The nodes of a serialized array, lent.
 
-ghost use Rattle.std.specs.Prelude.{◌≡◌, ◌<◌, Some, None, length, slice_get, IfOk, OnErr, IsOkUnless};
+ghost use Rattle.std.specs.Prelude.{◌≡◌, ◌<◌, Some, None, length, slice_get, IfOk, IfSome, IfNone, OnErr, IsOkUnless};
 ghost use Rattle.vx_trees.specs.Rose.{label, below, count};
-ghost use Rattle.vx_flat.specs.Seen.{seen};
+ghost use Rattle.vx_flat.specs.Seen.{kinds_in, seen};
+ghost use Rattle.vx_flat.specs.Value as value;
+ghost use Rattle.vx_serde.specs.ArraySchema.{stats_fields};
+ghost use Rattle.vx_serde.specs.StatNames.{names_in};
 ghost use Rattle.vx_serde.specs.Message.{node_of, descriptors_of, indices_of};
 ghost use Rattle.vx_serde.specs.Serialized.{IsChildOf, named_buffer, lengths_of};
 ghost use Rattle.vx_serde.specs.Stored.{IsNodeView};
@@ -10,10 +13,12 @@ ghost use Rattle.vx_serde.specs.Stored.{IsNodeView};
 use crate::error::WireError;
 use crate::message::first_descriptor;
 use crate::serialized::lengths::BufferLengths;
+use crate::serialized::stat_names::names_of;
 use std::alloc::Global;
 use std::marker::Model;
 use vx_buffer::{BufferHandle, BufferHandles};
 use vx_flat::View;
+use vx_types::Names;
 
 /// A node of a serialized array, with the nodes below it: a place in the message, lent. Contracts see its tree.
 #[derive(Drop)]
@@ -137,6 +142,29 @@ impl<'a> SerializedNode<'a> {
         match self.buffers.get(self.buffer_index(i) as usize) {
             Some(buffer) => Ok(buffer),
             None => Err(WireError::OutOfBounds),
+        }
+    }
+
+    /// The table of the node's statistics, where it stands.
+    pub(crate) fn statistics(&self) -> Option<View<'a>>
+        ensures fields { IfSome result (λ table. kinds_in table ≡ stats_fields) }
+        ensures some { IfSome result (λ table. (label self.now.root).stats ≡ value.table (seen table)) }
+        ensures none { IfNone result ((label self.now.root).stats ≡ value.absent) }
+    {
+        self.view.table(4)
+    }
+
+    /// The names of the node's statistics that stand, in the order in which a table has them.
+    ///
+    /// # Errors
+    /// Want of memory alone.
+    pub fn stat_names(&self, alloc: Global) -> Result<Names, WireError>
+        ensures ok { IfOk result (λ names. names ≡ names_in (label self.now.root).stats) }
+        ensures err { IsOkUnless result WireError.OutOfMemory }
+    {
+        match self.statistics() {
+            Some(table) => names_of(alloc, &table),
+            None => Ok(Names::new(alloc)),
         }
     }
 

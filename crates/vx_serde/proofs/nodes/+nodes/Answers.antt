@@ -4,17 +4,20 @@ use Rattle.std.proofs.lemmas.Result.{err_from_is_err_and}
 use Rattle.vx_flat.specs.declared.builder.piece.LinkKind.TheVariants as link
 use Rattle.vx_flat.specs.Building.{IsNext, IsStopped, element_links}
 use Rattle.vx_flat.specs.Pieces.{elements_piece, links_piece}
-use Rattle.vx_trees.specs.Rose.{below, roses_of, roses_list}
+use Rattle.vx_trees.specs.Rose.{label, below, roses_of, roses_list}
 use Rattle.vx_trees.specs.Walks as walk
 use Rattle.vx_trees.proofs.Counting.{nodes-is}
 use Rattle.vx_trees.proofs.Lists.{roses_of-roses_list}
 use Rattle.vx_wire_tree.specs.Wire.{buffers_in}
 use Rattle.vx_wire_tree.specs.Written.{wire, wires}
 use Rattle.vx_encodings.specs.Messages.{codec}
-use Rattle.vx_serde.specs.Blocks.{AreWritten, node_pieces, children_pieces, no_stats_piece}
+use Rattle.vx_serde.specs.Blocks.{AreWritten, node_pieces, children_pieces}
+use Rattle.vx_wire_tree.specs.ReadBack.{IsStorableNode}
+use Rattle.vx_scalar_wire.specs.StatsTable.{stats_pieces}
 use Rattle.vx_serde.proofs.Chains.{IsPartWay, begun, gone_on, cut_short, refused, next_is, idle, awaited, ended, next_left}
+use Rattle.vx_serde.proofs.Gathered.{everywhere-next}
 use Rattle.vx_serde.proofs.NodePieces.{node_piece, rows_of, rows-next, rows-split, whole-bytes}
-use Rattle.vx_serde.proofs.NodeSteps.{nothing-written, buffers-split, node-is, counted-below, counted-list, nodes-split, nodes-up_to, nodes-all_of, wired-first, buffers-parts, buffers-up_to, buffers-all_of, children-whole}
+use Rattle.vx_serde.proofs.NodeSteps.{nothing-written, buffers-split, node-is, counted-below, counted-list, nodes-split, nodes-up_to, nodes-all_of, wired-first, buffers-parts, buffers-up_to, buffers-all_of, children-whole, stored-node, stored-all}
 use Rattle.vx_serde.proofs.NodeWays.{entry_is, way0, way1, way2, way3, way4}
 use Rattle.vx_serde.proofs.WiredNodes.{no_session, wired, wired-length, wired-at, wired-within, own-room}
 use Rattle.vx_serde.proofs.nodes.+nodes.Goals as goal
@@ -141,8 +144,8 @@ write_node-link-requires-4-clause-next t c =
     let w3 = way3 old v c.write_nodes.new.builder c.link-3.new.self c.write_elements-2.new.builder m bytes kids w2 c.link-3.ensures.waits c.in_ok-write_elements-2.ensures.written in
     λ _. subst (λ n. IsNext c.write_elements-2.new.builder.left n 4) (sym c.in_ok-node.ensures.number) (next_is old (node_piece v) _ _ _ c.write_elements-2.new.builder w3)
 
-pub write_node-write_no_statistics-requires : goal.write_node-write_no_statistics-requires
-write_node-write_no_statistics-requires t c =
+pub write_node-write_statistics-requires : goal.write_node-write_statistics-requires
+write_node-write_statistics-requires t c =
     let a = c.args.array.now in
     let old = c.args.builder.now in
     let v = c.in_ok-parts.parts.encoding in
@@ -197,9 +200,9 @@ write_node-returns-in_err-write_elements-clause-stopped t c = λ s.
     let whole = node-is s a (roses_list (below a)) (roses_of-roses_list (below a)) c.args.encodings.now c.args.passed.now.nodes c.args.passed.now.buffers c.node_parts.new.passed.nodes c.node_parts.new.passed.buffers v c.in_ok-parts.parts.metadata c.in_ok-parts.parts.buffers.items
     c.in_ok-parts.ensures.encoding c.in_ok-parts.ensures.metadata c.in_ok-parts.ensures.numbers c.in_ok-parts.ensures.nodes c.in_ok-parts.ensures.buffers in
     rw (p.1, p.2)
-    (cut_short old (node_piece v) _ [] c.table.new.self c.link.new.self c.write_elements.new.builder (elements_piece 1 m ∷ []) (kids ++ (elements_piece 2 c.in_ok-parts.parts.buffers.items ∷ no_stats_piece ∷ [])) (node_pieces c.args.encodings.now c.args.passed.now.nodes c.args.passed.now.buffers (wire codec s a)) c.in_err-write_elements.field-0.0
+    (cut_short old (node_piece v) _ [] c.table.new.self c.link.new.self c.write_elements.new.builder (elements_piece 1 m ∷ []) (kids ++ (elements_piece 2 c.in_ok-parts.parts.buffers.items ∷ stats_pieces (label a).stats)) (node_pieces c.args.encodings.now c.args.passed.now.nodes c.args.passed.now.buffers (wire codec s a)) c.in_err-write_elements.field-0.0
     w0 c.link.ensures.waits c.in_err-write_elements.ensures.stopped
-    (ap (λ z. node_piece v ∷ (elements_piece 1 z ∷ (kids ++ (elements_piece 2 c.in_ok-parts.parts.buffers.items ∷ no_stats_piece ∷ [])))) c.as_slice.ensures ∙ whole))
+    (ap (λ z. node_piece v ∷ (elements_piece 1 z ∷ (kids ++ (elements_piece 2 c.in_ok-parts.parts.buffers.items ∷ stats_pieces (label a).stats)))) c.as_slice.ensures ∙ whole))
 
 pub write_node-returns-in_err-write_nodes-clause-stopped : goal.write_node-returns-in_err-write_nodes-clause-stopped
 write_node-returns-in_err-write_nodes-clause-stopped t c = λ s.
@@ -214,9 +217,9 @@ write_node-returns-in_err-write_nodes-clause-stopped t c = λ s.
     let whole = node-is s a c.children.result.now c.children.ensures.children c.args.encodings.now c.args.passed.now.nodes c.args.passed.now.buffers c.node_parts.new.passed.nodes c.node_parts.new.passed.buffers v c.in_ok-parts.parts.metadata c.in_ok-parts.parts.buffers.items
     c.in_ok-parts.ensures.encoding c.in_ok-parts.ensures.metadata c.in_ok-parts.ensures.numbers c.in_ok-parts.ensures.nodes c.in_ok-parts.ensures.buffers in
     rw (p.1, p.2)
-    (cut_short old (node_piece v) _ (elements_piece 1 m ∷ []) c.write_elements.new.builder c.link-2.new.self c.write_nodes.new.builder kids (elements_piece 2 c.in_ok-parts.parts.buffers.items ∷ no_stats_piece ∷ []) (node_pieces c.args.encodings.now c.args.passed.now.nodes c.args.passed.now.buffers (wire codec s a)) c.in_err-write_nodes.field-0.0
+    (cut_short old (node_piece v) _ (elements_piece 1 m ∷ []) c.write_elements.new.builder c.link-2.new.self c.write_nodes.new.builder kids (elements_piece 2 c.in_ok-parts.parts.buffers.items ∷ stats_pieces (label a).stats) (node_pieces c.args.encodings.now c.args.passed.now.nodes c.args.passed.now.buffers (wire codec s a)) c.in_err-write_nodes.field-0.0
     w1 c.link-2.ensures.waits (c.in_err-write_nodes.ensures.stopped s)
-    (ap (λ z. node_piece v ∷ (elements_piece 1 z ∷ (kids ++ (elements_piece 2 c.in_ok-parts.parts.buffers.items ∷ no_stats_piece ∷ [])))) c.as_slice.ensures ∙ whole))
+    (ap (λ z. node_piece v ∷ (elements_piece 1 z ∷ (kids ++ (elements_piece 2 c.in_ok-parts.parts.buffers.items ∷ stats_pieces (label a).stats)))) c.as_slice.ensures ∙ whole))
 
 pub write_node-returns-in_err-write_elements-2-clause-stopped : goal.write_node-returns-in_err-write_elements-2-clause-stopped
 write_node-returns-in_err-write_elements-2-clause-stopped t c = λ s.
@@ -232,15 +235,15 @@ write_node-returns-in_err-write_elements-2-clause-stopped t c = λ s.
     let bytes = c.deref.result.now in
     let whole = node-is s a c.children.result.now c.children.ensures.children c.args.encodings.now c.args.passed.now.nodes c.args.passed.now.buffers c.node_parts.new.passed.nodes c.node_parts.new.passed.buffers v c.in_ok-parts.parts.metadata c.in_ok-parts.parts.buffers.items
     c.in_ok-parts.ensures.encoding c.in_ok-parts.ensures.metadata c.in_ok-parts.ensures.numbers c.in_ok-parts.ensures.nodes c.in_ok-parts.ensures.buffers in
-    let same : node_piece v ∷ (elements_piece 1 m ∷ (kids ++ (elements_piece 2 bytes ∷ no_stats_piece ∷ []))) ≡ node_pieces c.args.encodings.now c.args.passed.now.nodes c.args.passed.now.buffers (wire codec s a) =
-    (λ k. node_piece v ∷ (elements_piece 1 (c.as_slice.ensures k) ∷ (kids ++ (elements_piece 2 (c.deref.ensures.value k) ∷ no_stats_piece ∷ [])))) ∙ whole in
+    let same : node_piece v ∷ (elements_piece 1 m ∷ (kids ++ (elements_piece 2 bytes ∷ stats_pieces (label a).stats))) ≡ node_pieces c.args.encodings.now c.args.passed.now.nodes c.args.passed.now.buffers (wire codec s a) =
+    (λ k. node_piece v ∷ (elements_piece 1 (c.as_slice.ensures k) ∷ (kids ++ (elements_piece 2 (c.deref.ensures.value k) ∷ stats_pieces (label a).stats)))) ∙ whole in
     rw (p.1, p.2)
-    (cut_short old (node_piece v) _ (elements_piece 1 m ∷ kids) c.write_nodes.new.builder c.link-3.new.self c.write_elements-2.new.builder (elements_piece 2 bytes ∷ []) (no_stats_piece ∷ []) (node_pieces c.args.encodings.now c.args.passed.now.nodes c.args.passed.now.buffers (wire codec s a)) c.in_err-write_elements-2.field-0.0
+    (cut_short old (node_piece v) _ (elements_piece 1 m ∷ kids) c.write_nodes.new.builder c.link-3.new.self c.write_elements-2.new.builder (elements_piece 2 bytes ∷ []) (stats_pieces (label a).stats) (node_pieces c.args.encodings.now c.args.passed.now.nodes c.args.passed.now.buffers (wire codec s a)) c.in_err-write_elements-2.field-0.0
     w2 c.link-3.ensures.waits c.in_err-write_elements-2.ensures.stopped same)
 
-pub write_node-returns-in_err-write_no_statistics-clause-stopped : goal.write_node-returns-in_err-write_no_statistics-clause-stopped
-write_node-returns-in_err-write_no_statistics-clause-stopped t c = λ s.
-    let p = err_from_is_err_and c.from_residual-in_err-write_no_statistics.result c.from_residual-in_err-write_no_statistics.ensures.1 in
+pub write_node-returns-in_err-write_statistics-clause-stopped : goal.write_node-returns-in_err-write_statistics-clause-stopped
+write_node-returns-in_err-write_statistics-clause-stopped t c = λ s.
+    let p = err_from_is_err_and c.from_residual-in_err-write_statistics.result c.from_residual-in_err-write_statistics.ensures.1 in
     let a = c.args.array.now in
     let old = c.args.builder.now in
     let v = c.in_ok-parts.parts.encoding in
@@ -253,12 +256,12 @@ write_node-returns-in_err-write_no_statistics-clause-stopped t c = λ s.
     let w3 = way3 old v c.write_nodes.new.builder c.link-3.new.self c.write_elements-2.new.builder m bytes kids w2 c.link-3.ensures.waits c.in_ok-write_elements-2.ensures.written in
     let whole = node-is s a c.children.result.now c.children.ensures.children c.args.encodings.now c.args.passed.now.nodes c.args.passed.now.buffers c.node_parts.new.passed.nodes c.node_parts.new.passed.buffers v c.in_ok-parts.parts.metadata c.in_ok-parts.parts.buffers.items
     c.in_ok-parts.ensures.encoding c.in_ok-parts.ensures.metadata c.in_ok-parts.ensures.numbers c.in_ok-parts.ensures.nodes c.in_ok-parts.ensures.buffers in
-    let same : node_piece v ∷ (elements_piece 1 m ∷ (kids ++ (elements_piece 2 bytes ∷ no_stats_piece ∷ []))) ≡ node_pieces c.args.encodings.now c.args.passed.now.nodes c.args.passed.now.buffers (wire codec s a) =
-    (λ k. node_piece v ∷ (elements_piece 1 (c.as_slice.ensures k) ∷ (kids ++ (elements_piece 2 (c.deref.ensures.value k) ∷ no_stats_piece ∷ [])))) ∙ whole in
+    let same : node_piece v ∷ (elements_piece 1 m ∷ (kids ++ (elements_piece 2 bytes ∷ stats_pieces (label a).stats))) ≡ node_pieces c.args.encodings.now c.args.passed.now.nodes c.args.passed.now.buffers (wire codec s a) =
+    (λ k. node_piece v ∷ (elements_piece 1 (c.as_slice.ensures k) ∷ (kids ++ (elements_piece 2 (c.deref.ensures.value k) ∷ stats_pieces (label a).stats)))) ∙ whole in
     rw (p.1, p.2)
-    (cut_short old (node_piece v) _ (elements_piece 1 m ∷ (kids ++ elements_piece 2 bytes ∷ [])) c.write_elements-2.new.builder c.link-4.new.self c.write_no_statistics.new.builder (no_stats_piece ∷ []) [] (node_pieces c.args.encodings.now c.args.passed.now.nodes c.args.passed.now.buffers (wire codec s a)) c.in_err-write_no_statistics.field-0.0
-    w3 c.link-4.ensures.waits c.in_err-write_no_statistics.ensures.stopped
-    (ap (λ z. node_piece v ∷ (elements_piece 1 m ∷ z)) (append_assoc kids (elements_piece 2 bytes ∷ []) (no_stats_piece ∷ [])) ∙ same))
+    (cut_short old (node_piece v) _ (elements_piece 1 m ∷ (kids ++ elements_piece 2 bytes ∷ [])) c.write_elements-2.new.builder c.link-4.new.self c.write_statistics.new.builder (stats_pieces (label a).stats) [] (node_pieces c.args.encodings.now c.args.passed.now.nodes c.args.passed.now.buffers (wire codec s a)) c.in_err-write_statistics.field-0.0
+    w3 c.link-4.ensures.waits c.in_err-write_statistics.ensures.stopped
+    (ap (λ z. node_piece v ∷ (elements_piece 1 m ∷ z)) (append_assoc kids (elements_piece 2 bytes ∷ []) (stats_pieces (label a).stats)) ∙ same))
 
 pub write_node-returns-clause-written : goal.write_node-returns-clause-written
 write_node-returns-clause-written t c = λ s.
@@ -274,10 +277,10 @@ write_node-returns-clause-written t c = λ s.
     let w3 = way3 old v c.write_nodes.new.builder c.link-3.new.self c.write_elements-2.new.builder m bytes kids w2 c.link-3.ensures.waits c.in_ok-write_elements-2.ensures.written in
     let whole = node-is s a c.children.result.now c.children.ensures.children c.args.encodings.now c.args.passed.now.nodes c.args.passed.now.buffers c.node_parts.new.passed.nodes c.node_parts.new.passed.buffers v c.in_ok-parts.parts.metadata c.in_ok-parts.parts.buffers.items
     c.in_ok-parts.ensures.encoding c.in_ok-parts.ensures.metadata c.in_ok-parts.ensures.numbers c.in_ok-parts.ensures.nodes c.in_ok-parts.ensures.buffers in
-    let same : node_piece v ∷ (elements_piece 1 m ∷ (kids ++ (elements_piece 2 bytes ∷ no_stats_piece ∷ []))) ≡ node_pieces c.args.encodings.now c.args.passed.now.nodes c.args.passed.now.buffers (wire codec s a) =
-    (λ k. node_piece v ∷ (elements_piece 1 (c.as_slice.ensures k) ∷ (kids ++ (elements_piece 2 (c.deref.ensures.value k) ∷ no_stats_piece ∷ [])))) ∙ whole in
-    subst (λ z. AreWritten old z c.write_no_statistics.new.builder) same
-    (way4 old v c.write_elements-2.new.builder c.link-4.new.self c.write_no_statistics.new.builder m bytes kids w3 c.link-4.ensures.waits c.in_ok-write_no_statistics.ensures.written)
+    let same : node_piece v ∷ (elements_piece 1 m ∷ (kids ++ (elements_piece 2 bytes ∷ stats_pieces (label a).stats))) ≡ node_pieces c.args.encodings.now c.args.passed.now.nodes c.args.passed.now.buffers (wire codec s a) =
+    (λ k. node_piece v ∷ (elements_piece 1 (c.as_slice.ensures k) ∷ (kids ++ (elements_piece 2 (c.deref.ensures.value k) ∷ stats_pieces (label a).stats)))) ∙ whole in
+    subst (λ z. AreWritten old z c.write_statistics.new.builder) same
+    (way4 old v c.write_elements-2.new.builder c.link-4.new.self c.write_statistics.new.builder m bytes kids (stats_pieces (label a).stats) w3 c.link-4.ensures.waits c.in_ok-write_statistics.ensures.written)
 
 pub write_node-returns-clause-nodes : goal.write_node-returns-clause-nodes
 write_node-returns-clause-nodes t c =
@@ -286,6 +289,10 @@ write_node-returns-clause-nodes t c =
 pub write_node-returns-clause-buffers : goal.write_node-returns-clause-buffers
 write_node-returns-clause-buffers t c = λ s.
     omega (arith, buffers-split s c.args.array.now c.children.result.now c.children.ensures.children, c.in_ok-parts.ensures.buffers, c.in_ok-write_nodes.ensures.buffers s)
+
+pub write_node-returns-clause-storable : goal.write_node-returns-clause-storable
+write_node-returns-clause-storable t c =
+    stored-node c.args.array.now c.children.result.now c.children.ensures.children c.in_ok-write_statistics.ensures.storable c.in_ok-write_nodes.ensures.storable
 
 -- ---- the nodes below one
 
@@ -306,6 +313,7 @@ write_nodes-loop-i-init t c =
       places = omega arith;
       count = λ s. omega arith;
       so_far = λ s. begun old c.vector.new.self p p _ c.in_ok-vector.ensures.written refl (ap (λ m. element_links old.count 0 link.Table m) all);
+      stored = tt;
       fits = c.in_ok-vector.ensures.fits refl;
       numbered = c.in_ok-vector.ensures.number;
     }
@@ -419,6 +427,7 @@ write_nodes-loop-i-preserved t c =
           let more = gone_on old p _ _ (rows_of es k first (take i (wired s ts))) now c.link.new.self c.write_node.new.builder (node_pieces es c.loop-i.passed.nodes c.loop-i.passed.buffers (wire codec s u)) way c.link.ensures.waits (c.in_ok-write_node.ensures.written s) in
           subst (λ ps. IsPartWay old p (element_links old.count (i + 1) link.Table (length ts - (i + 1))) ps c.write_node.new.builder)
           (sym (rows-next es k first c.loop-i.passed.nodes c.loop-i.passed.buffers (wired s ts) i (wire codec s u) (wired-within s ts i lt) (wired-at s ts i u lt is) places (c.loop-i.invariant.count s))) more;
+      stored = everywhere-next (IsStorableNode codec) ts i u lt is c.loop-i.invariant.stored c.in_ok-write_node.ensures.storable;
       fits = (c.in_ok-write_node.ensures.written no_session).fits;
       numbered = c.loop-i.invariant.numbered;
     }
@@ -465,3 +474,8 @@ write_nodes-returns-clause-written t c = λ s.
     subst (λ us. IsPartWay old p [] (rows_of es k first us) now) (take_all i (wired s ts) (omega (arith, past, wired-length s ts)))
     (subst (λ m. IsPartWay old p (element_links old.count i link.Table m) (rows_of es k first (take i (wired s ts))) now) none (c.loop-i.invariant.so_far s)) in
     subst (λ z. AreWritten old z now) (children-whole s ts es k first) (ended old p (rows_of es k first (wired s ts)) now last c.loop-i.invariant.fits)
+
+pub write_nodes-returns-clause-storable : goal.write_nodes-returns-clause-storable
+write_nodes-returns-clause-storable t c =
+    let ts = c.args.arrays.now in
+    stored-all ts c.loop-i.i (omega (arith, c.loop-i-test.false)) c.loop-i.invariant.stored

@@ -2,9 +2,12 @@ use Rattle.std.proofs.Common.{◌≡◌, ◌+◌, ◌-◌, ◌*◌, ◌<◌, ◌
 use Rattle.vx_flat.specs.declared.builder.piece.LinkKind.TheVariants.{Table}
 use Rattle.vx_flat.specs.Building.{element_links}
 use Rattle.vx_flat.specs.Pieces.{links_piece}
+use Rattle.vx_trees.specs.Everywhere.{EverywhereBelow}
 use Rattle.vx_trees.specs.Rose.{roses_of}
 use Rattle.vx_trees.specs.Walks.{nodes, nodes_of}
+use Rattle.vx_wire_tree.specs.ReadBack.{IsStorableNode}
 use Rattle.vx_wire_tree.specs.Session.{SessionMeaning}
+use Rattle.vx_encodings.specs.Messages.{codec}
 use Rattle.vx_serde.proofs.Chains.{IsPartWay}
 use Rattle.vx_serde.proofs.NodePieces.{rows_of, buffers_below}
 use Rattle.vx_serde.proofs.WiredNodes.{wired}
@@ -22,6 +25,7 @@ invariant-write_nodes-loop-i l = record {
   count : (s : SessionMeaning) → l.passed.buffers ≡ l.fn.passed.buffers + buffers_below (take l.i (wired s l.arrays));
   so_far : (s : SessionMeaning) → IsPartWay l.fn.builder (links_piece Table (length l.arrays)) (element_links l.fn.builder.count l.i Table (length l.arrays - l.i))
       (rows_of l.encodings l.fn.passed.nodes l.fn.passed.buffers (take l.i (wired s l.arrays))) l.builder;
+  stored : EverywhereBelow (IsStorableNode codec) (roses_of (take l.i l.arrays));
   fits : length l.builder.bytes < 2 ^ 31;
   numbered : l.vector ≡ l.fn.builder.count;
 }

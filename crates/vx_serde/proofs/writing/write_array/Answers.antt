@@ -14,6 +14,7 @@ use Rattle.vx_serde.proofs.NumberedBy.{as-many, layout-numbered, message-of_kind
 use Rattle.vx_serde.proofs.Serializations.{serialized}
 use Rattle.vx_serde.proofs.WholeBlob.{message-is, unplaced, unwritten, late, writable-is, buffers-are}
 use Rattle.vx_serde.proofs.WiredNodes.{no_session, wired-nodes}
+use Rattle.vx_serde.proofs.WiredStats.{wire-tabled}
 use Rattle.vx_serde.proofs.WrittenAgain.{grown-ids, wire-whole}
 use Rattle.vx_serde.proofs.writing.write_array.Goals as goal
 
@@ -40,6 +41,7 @@ write_message-requires-clause-of_kind c = λ s.
     let placed = c.in_ok-found.ensures.placed s in
     message-of_kind c.place.new.ctx.ids w c.deref.result.now c.deref-2.result.now (c.deref.ensures.value ∙ c.in_ok-found.ensures.encodings s)
     c.args.ctx.now c.place.new.ctx (descriptors_from c.args.options.now c.args.options.now.offset (buffers_in w)) refl (c.in_ok-found.ensures.grown s) (wire-whole codec s c.args.array.now)
+    (wire-tabled s c.args.array.now c.in_ok-found.ensures.tables)
     placed.placeable.tree.few (c.deref-2.ensures.value ∙ placed.descriptors_are)
 
 pub returns-in_err-message-clause-cause : goal.returns-in_err-message-clause-cause
@@ -89,7 +91,7 @@ returns-clause-made c = λ x.
     let numbered = layout-numbered c.place.new.ctx.ids w es ds (c.deref.ensures.value ∙ c.in_ok-found.ensures.encodings s) in
     let now = c.place.new.ctx.ids in
     let m = c.in_ok-message.ensures.written s ∙ numbered ∙ message-is now o w ds described in
-    serialized s a o c.args.ctx.now c.place.new.ctx _ (c.in_ok-found.ensures.grown s) (c.in_ok-found.ensures.written x) c.in_ok-found.ensures.messages
+    serialized s a o c.args.ctx.now c.place.new.ctx _ (c.in_ok-found.ensures.grown s) (c.in_ok-found.ensures.written x) c.in_ok-message.ensures.storable c.in_ok-found.ensures.messages
     (writable-is now o w c.in_ok-found.placed.end c.in_ok-found.placed.descriptors.items c.in_ok-message.message.items placed m c.in_ok-message.ensures.short c.in_ok-message.ensures.light
     (omega (arith, c.has_end.ensures.within c.if-not-has_end.false, c.pad_at-padding.ensures.value, c.len.ensures)))
     (c.in_ok-blob_buffers.ensures

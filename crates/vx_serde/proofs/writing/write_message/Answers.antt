@@ -5,12 +5,14 @@ use Rattle.vx_flat.specs.Building.{Takes, IsStopped, nothing_built}
 use Rattle.vx_flat.specs.Pieces.{pieces}
 use Rattle.vx_flat.specs.Limits.{limits, IsLight}
 use Rattle.vx_flat.specs.Weight as weigh
+use Rattle.vx_wire_tree.specs.ReadBack.{HasStorableStats}
 use Rattle.vx_wire_tree.specs.Written.{wire}
 use Rattle.vx_encodings.specs.Messages.{codec}
 use Rattle.vx_serde.specs.ArraySchema.{array_schema}
 use Rattle.vx_serde.specs.Blocks.{AreWritten, message_by, layout_by}
-use Rattle.vx_serde.proofs.MessageBlocks.{layout-written, message-shown, blocks-refused, too-many, heavy, some-written, works-written, idle-written, if_ok, if_ok-same, if_err}
+use Rattle.vx_serde.proofs.MessageBlocks.{layout-written, message-shown, blocks-refused, too-many, heavy, some-written, works-written, idle-written, if_ok, if_ok-same, if_err, ok_of}
 use Rattle.vx_serde.proofs.WiredNodes.{no_session, wired-nodes}
+use Rattle.vx_serde.proofs.WiredStats.{wire-told}
 use Rattle.vx_serde.proofs.writing.write_message.Goals as goal
 
 pub returns-then-encodings-gt-MAX_NODES-clause-refused : goal.returns-then-encodings-gt-MAX_NODES-clause-refused
@@ -19,7 +21,7 @@ returns-then-encodings-gt-MAX_NODES-clause-refused c = λ s.
     let es = c.args.encodings.now in
     let ds = c.args.descriptors.now in
     let w = wire codec s a in
-    too-many es w ds (c.requires.of_kind s) (omega (arith, c.if-encodings-gt-MAX_NODES.true, c.requires.known, wired-nodes s a))
+    too-many es w ds (c.requires.of_kind s) (wire-told s a) (omega (arith, c.if-encodings-gt-MAX_NODES.true, c.requires.known, wired-nodes s a))
 
 pub write_blocks-requires-clause-takes : goal.write_blocks-requires-clause-takes
 write_blocks-requires-clause-takes c =
@@ -109,6 +111,9 @@ returns-clause-written c = λ s.
     let wrote : AreWritten nothing_built (pieces array_schema (message_by es w ds)) b = subst (λ z. AreWritten z (pieces array_schema (message_by es w ds)) b) c.new-builder.ensures (c.in_ok-write_blocks.ensures.written s) in
     let m = c.in-Ok.ensures.built ∙ layout-written es w ds of b wrote in
     if_ok c.light_message.result (λ x. x.items ≡ c.in-Ok.message) (λ x. x.items ≡ layout_by es w ds) (λ x h. h ∙ m) c.light_message.ensures.same
+
+pub returns-clause-storable : goal.returns-clause-storable
+returns-clause-storable c = ok_of c.light_message.result (HasStorableStats codec c.args.array.now) c.in_ok-write_blocks.ensures.storable
 
 pub returns-clause-short : goal.returns-clause-short
 returns-clause-short c =

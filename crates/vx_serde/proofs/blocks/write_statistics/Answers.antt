@@ -1,0 +1,1 @@
+use Rattle.vx_serde.proofs.blocks.write_statistics.Goals as goal
