@@ -21,3 +21,5 @@ mod sessions;
 mod slots;
 #[cfg(test)]
 mod varbins;
+#[cfg(test)]
+mod varbinviews;

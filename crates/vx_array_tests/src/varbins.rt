@@ -23,8 +23,8 @@ fn offsets_of(alloc: Global, kind: PType, bytes: &[u8]) -> Result<Array, ArrayEr
     PrimitiveArray::try_new(alloc, values, kind, Nullability::NonNullable, len, None)
 }
 
-// The validity of at most eight rows by their bits, where there are some.
-fn flags_of(alloc: Global, bits: Option<u8>, len: usize) -> Result<Option<Array>, ArrayError> {
+/// The validity of at most eight rows by their bits, where there are some.
+pub(crate) fn flags_of(alloc: Global, bits: Option<u8>, len: usize) -> Result<Option<Array>, ArrayError> {
     match bits {
         None => Ok(None),
         Some(bits) => {
@@ -50,8 +50,8 @@ fn made(
     VarBinArray::try_new(alloc, dtype, offsets, bytes, validity)
 }
 
-// A row's value as the text or the bytes that it is, where it is one of them.
-fn bytes_at(
+/// A row's value as the text or the bytes that it is, where it is one of them.
+pub(crate) fn bytes_at(
     alloc: Global,
     array: &Array,
     index: usize,

@@ -154,6 +154,7 @@ impl Array {
             Body::VarBin(parts) => {
                 parts.valid_at(&self.dtype, self.len, self.children.as_slice(), index)
             }
+            Body::VarBinView(_) => validity_at(self.children.as_slice(), self.len, index),
         }
     }
 
@@ -169,6 +170,7 @@ impl Array {
             Body::Bool(flags) => Some(flags.flag_at(index)),
             Body::Decimal(_) => None,
             Body::VarBin(_) => None,
+            Body::VarBinView(_) => None,
         }
     }
 
@@ -185,6 +187,7 @@ impl Array {
             Body::Bool(_) => None,
             Body::Decimal(_) => None,
             Body::VarBin(_) => None,
+            Body::VarBinView(_) => None,
         }
     }
 
@@ -214,6 +217,14 @@ impl Array {
                 budget,
             ),
             Body::VarBin(parts) => parts.value_at(
+                alloc,
+                &self.dtype,
+                self.len,
+                children,
+                index,
+                budget,
+            ),
+            Body::VarBinView(views) => views.value_at(
                 alloc,
                 &self.dtype,
                 self.len,
