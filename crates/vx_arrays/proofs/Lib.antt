@@ -1,5 +1,6 @@
 mod Naturals
 mod Rising
 mod Parted
+mod Viewed
 mod Flags
 mod AllInvalid

@@ -65,7 +65,7 @@ impl VarBinViewData {
     pub(crate) fn nbuffers(&self) -> usize
         ensures { result ≡ length (buffers_of self.now) }
     {
-        self.buffers.len() + 1
+        self.buffers.as_slice().len() + 1
     }
 
     // The buffer of this number: the views stand last.
@@ -88,7 +88,8 @@ impl VarBinViewData {
         ensures ok { IfOk result (λ name. name ≡ slice_get (numbered 0 self.now.buffers ++ codes "views" ∷ []) index) }
         ensures err { IsOkUnless result ArrayError.OutOfMemory }
     {
-        let count = self.buffers.len();
+        let buffers = self.buffers.as_slice();
+        let count = buffers.len();
         if index > count {
             return Ok(None);
         }
@@ -154,18 +155,14 @@ impl VarBinViewData {
     // Whether parts are of the shape that the encoding asks for.
     fn is_shaped(&self, dtype: &DType, len: usize, validity: &Option<Array>) -> bool
         ensures shaped { IsTrue result ↔ IsWellShaped (varbinview_head (typ dtype.now) len self.now) (option_trees validity.now) }
-        ensures sound { EverywhereBelow IsSoundNode (option_trees validity.now) }
+        ensures sound { IsTrue result → EverywhereBelow IsSoundNode (option_trees validity.now) }
     {
         if !is_of_bytes(dtype) {
             return false;
         }
-        match len.checked_mul(16) {
-            None => return false,
-            Some(bytes) => {
-                if bytes != self.views.len() {
-                    return false;
-                }
-            }
+        let bytes = self.views.len();
+        if bytes / 16 != len || bytes % 16 != 0 {
+            return false;
         }
         if self.views.alignment().as_usize() < 16 {
             return false;
