@@ -70,11 +70,7 @@ fn slot_of(body: &Body, index: usize) -> &'static str
 }
 
 // The name of the buffer of this number in a node that has one alone.
-fn only_name(
-    alloc: Global,
-    name: &'static str,
-    index: usize,
-) -> Result<Option<Name>, ArrayError>
+fn only_name(alloc: Global, name: &'static str, index: usize) -> Result<Option<Name>, ArrayError>
     ensures ok { IfOk result (λ told. told ≡ slice_get (name.now ∷ []) index) }
     ensures err { IsOkUnless result ArrayError.OutOfMemory }
 {

@@ -109,7 +109,12 @@ pub(crate) fn is_of_bytes(dtype: &DType) -> bool
 }
 
 // A row of a type of texts or of bytes, if there are cells to spend for it.
-pub(crate) fn part_row(alloc: Global, dtype: &DType, bytes: &[u8], budget: u64) -> Result<RowValue, ArrayError>
+pub(crate) fn part_row(
+    alloc: Global,
+    dtype: &DType,
+    bytes: &[u8],
+    budget: u64,
+) -> Result<RowValue, ArrayError>
     requires kind { IsOfBytes (typ dtype.now) }
     requires text { IsContent (typ dtype.now) bytes.now }
     ensures row { IfOk result (λ row. plain_value row ≡ lone (mark_of (typ dtype.now) bytes.now)) }

@@ -46,7 +46,11 @@ fn found<'a>(size: usize, prefix: &[u8], offset: usize, bytes: &'a [u8]) -> Opti
         return None;
     }
     let part = &bytes[offset..end];
-    if &part[..4] == prefix { Some(part) } else { None }
+    if &part[..4] == prefix {
+        Some(part)
+    } else {
+        None
+    }
 }
 
 // The number of four bytes at a place of a view.
