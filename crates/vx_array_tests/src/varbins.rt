@@ -24,7 +24,11 @@ fn offsets_of(alloc: Global, kind: PType, bytes: &[u8]) -> Result<Array, ArrayEr
 }
 
 /// The validity of at most eight rows by their bits, where there are some.
-pub(crate) fn flags_of(alloc: Global, bits: Option<u8>, len: usize) -> Result<Option<Array>, ArrayError> {
+pub(crate) fn flags_of(
+    alloc: Global,
+    bits: Option<u8>,
+    len: usize,
+) -> Result<Option<Array>, ArrayError> {
     match bits {
         None => Ok(None),
         Some(bits) => {

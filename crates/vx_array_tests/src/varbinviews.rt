@@ -13,6 +13,7 @@ use vx_type_wire::ExtSession;
 use vx_types::{DType, Nullability};
 
 const NEVER: Nullability = Nullability::NonNullable;
+
 const MAYBE: Nullability = Nullability::Nullable;
 
 // Rows by these views into buffers of these bytes, where they are made.
@@ -59,10 +60,7 @@ const VIEWS: [(&[u8; 16], bool); 11] = [
     (b"\x0d\0\0\0abcd\x01\0\0\0\x02\0\0\0", false),
     (b"\x0d\0\0\0abcd\x02\0\0\0\x02\0\0\0", false),
     (b"\xff\xff\xff\xffabcd\0\0\0\0\x02\0\0\0", false),
-    (
-        b"\xff\xff\xff\xffabcd\0\0\0\0\xff\xff\xff\xff",
-        false,
-    ),
+    (b"\xff\xff\xff\xffabcd\0\0\0\0\xff\xff\xff\xff", false),
 ];
 
 #[test]
@@ -70,7 +68,11 @@ fn views_are_judged_where_rows_are_there(rt: HostRuntime) -> Result<(), Fail> {
     let alloc = rt.alloc();
     let data = b"..abcdefghijklm";
     for (view, right) in VIEWS {
-        let error = if right { None } else { Some(ArrayError::BadContent) };
+        let error = if right {
+            None
+        } else {
+            Some(ArrayError::BadContent)
+        };
         let bytes = refusal(alloc, DType::Binary(NEVER), data, view, None);
         assert!(rt; bytes == error, "{view:?}");
         let there = refusal(alloc, DType::Utf8(MAYBE), data, view, Some(1));
@@ -190,7 +192,14 @@ fn worked_views(alloc: Global, null: u8, last: u8) -> Result<Vec<u8>, ArrayError
 // The texts of these views.
 fn worked(alloc: Global, null: u8, last: u8) -> Result<Array, ArrayError> {
     let views = worked_views(alloc, null, last)?;
-    made(alloc, DType::Utf8(MAYBE), 5, &[LONG], views.as_slice(), Some(0b10101))
+    made(
+        alloc,
+        DType::Utf8(MAYBE),
+        5,
+        &[LONG],
+        views.as_slice(),
+        Some(0b10101),
+    )
 }
 
 // Whether a row of the worked texts is these bytes, where it is any.
@@ -313,7 +322,12 @@ fn plans_have_at_most_a_validity(rt: HostRuntime) -> Result<(), Fail> {
         (DType::Utf8(MAYBE), [].as_slice(), 0, None),
         (DType::Binary(MAYBE), &[], 1, None),
         (DType::Utf8(MAYBE), &[], 2, Some(EncodingError::BadShape)),
-        (DType::Utf8(MAYBE), &[8], 0, Some(EncodingError::BadMetadata)),
+        (
+            DType::Utf8(MAYBE),
+            &[8],
+            0,
+            Some(EncodingError::BadMetadata),
+        ),
         (DType::Null, &[], 0, Some(EncodingError::BadShape)),
     ] {
         let found = plan_refusal(rt.alloc(), dtype, bytes, nchildren)?;

@@ -3,9 +3,7 @@
 ghost use Rattle.std.specs.Prelude.{◌≡◌};
 ghost use Rattle.vx_array_tree.specs.Table.{id_of};
 
-use vx_arrays::{
-    BoolArray, DecimalArray, NullArray, PrimitiveArray, VarBinArray, VarBinViewArray,
-};
+use vx_arrays::{BoolArray, DecimalArray, NullArray, PrimitiveArray, VarBinArray, VarBinViewArray};
 
 /// The shipped encodings.
 #[derive(Clone, Copy, Debug, PartialEq, Eq)]
