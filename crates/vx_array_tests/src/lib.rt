@@ -23,3 +23,5 @@ mod slots;
 mod statistics;
 #[cfg(test)]
 mod varbins;
+#[cfg(test)]
+mod varbinviews;

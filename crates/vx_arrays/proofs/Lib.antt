@@ -1,6 +1,7 @@
 mod Naturals
 mod Rising
 mod Parted
+mod Viewed
 mod Flags
 mod AllInvalid
 mod Untold

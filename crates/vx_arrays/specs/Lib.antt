@@ -4,6 +4,7 @@ pub mod Primitives
 pub mod Bools
 pub mod Decimals
 pub mod VarBins
+pub mod VarBinViews
 pub mod Validity
 pub mod Slots
 pub mod Refused

@@ -8,7 +8,7 @@ use Rattle.vx_array_tree.specs.Tree.{Head}
 use Rattle.vx_scalars.specs.Decimals.{decimal_of}
 use Rattle.vx_scalars.specs.Stats.{Stats}
 use Rattle.vx_arrays.specs.declared.body.Body.{Body}
-use Rattle.vx_arrays.specs.declared.body.Body.TheVariants.{Null, Primitive, Bool, Decimal, VarBin}
+use Rattle.vx_arrays.specs.declared.body.Body.TheVariants.{Null, Primitive, Bool, Decimal, VarBin, VarBinView}
 use Rattle.vx_arrays.specs.declared.row.RowValue.{RowValue}
 use Rattle.vx_arrays.specs.declared.row.RowValue.TheVariants as R
 
@@ -19,6 +19,7 @@ plain_body (Primitive x) = B.primitive x
 plain_body (Bool x) = B.bool x
 plain_body (Decimal x) = B.decimal x
 plain_body (VarBin x) = B.varbin x
+plain_body (VarBinView x) = B.varbinview x
 
 -- A node without its children, by its type, its rows, what is told of them, and what its encoding holds.
 abbrev pub head_of : Typ → ℕ → Stats → Body → Head

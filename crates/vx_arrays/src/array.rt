@@ -200,6 +200,7 @@ impl Array {
             Body::VarBin(parts) => {
                 parts.valid_at(&self.dtype, self.len, self.children.as_slice(), index)
             }
+            Body::VarBinView(_) => validity_at(self.children.as_slice(), self.len, index),
         }
     }
 
@@ -215,6 +216,7 @@ impl Array {
             Body::Bool(flags) => Some(flags.flag_at(index)),
             Body::Decimal(_) => None,
             Body::VarBin(_) => None,
+            Body::VarBinView(_) => None,
         }
     }
 
@@ -231,6 +233,7 @@ impl Array {
             Body::Bool(_) => None,
             Body::Decimal(_) => None,
             Body::VarBin(_) => None,
+            Body::VarBinView(_) => None,
         }
     }
 
@@ -261,6 +264,14 @@ impl Array {
                 budget,
             ),
             Body::VarBin(parts) => parts.value_at(
+                alloc,
+                &self.dtype,
+                self.len,
+                children,
+                index,
+                budget,
+            ),
+            Body::VarBinView(views) => views.value_at(
                 alloc,
                 &self.dtype,
                 self.len,

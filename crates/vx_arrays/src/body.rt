@@ -9,6 +9,7 @@ use crate::error::ArrayError;
 use crate::null::NullArray;
 use crate::primitive::{PrimitiveArray, PrimitiveData};
 use crate::varbin::{VarBinArray, VarBinData};
+use crate::varbinview::{VarBinViewArray, VarBinViewData};
 use std::alloc::Global;
 use vx_buffer::BufferHandle;
 
@@ -25,6 +26,8 @@ pub enum Body {
     Decimal(DecimalData),
     /// Texts or bytes by offsets.
     VarBin(VarBinData),
+    /// Texts or bytes by views.
+    VarBinView(VarBinViewData),
 }
 
 impl Body {
@@ -40,6 +43,7 @@ impl Body {
             Body::Bool(_) => BoolArray::ID,
             Body::Decimal(_) => DecimalArray::ID,
             Body::VarBin(_) => VarBinArray::ID,
+            Body::VarBinView(_) => VarBinViewArray::ID,
         }
     }
 
@@ -53,6 +57,7 @@ impl Body {
             Body::Bool(_) => 1,
             Body::Decimal(_) => 1,
             Body::VarBin(_) => 1,
+            Body::VarBinView(views) => views.nbuffers(),
         }
     }
 
@@ -67,6 +72,7 @@ impl Body {
             Body::Bool(flags) => flags.bits(),
             Body::Decimal(decimals) => decimals.values(),
             Body::VarBin(parts) => parts.bytes(),
+            Body::VarBinView(views) => views.buffer(index),
         }
     }
 
@@ -81,6 +87,7 @@ impl Body {
             Body::Bool(flags) => Ok(Body::Bool(flags.clone(alloc)?)),
             Body::Decimal(decimals) => Ok(Body::Decimal(decimals.clone(alloc)?)),
             Body::VarBin(parts) => Ok(Body::VarBin(parts.clone(alloc)?)),
+            Body::VarBinView(views) => Ok(Body::VarBinView(views.clone(alloc)?)),
         }
     }
 }

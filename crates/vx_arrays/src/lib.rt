@@ -19,6 +19,8 @@ mod slots;
 mod texts;
 mod validity;
 mod varbin;
+mod varbinview;
+mod views;
 
 pub use array::Array;
 pub use body::Body;
@@ -31,3 +33,4 @@ pub use primitive::{PrimitiveArray, PrimitiveData};
 pub use row::RowValue;
 pub use validity::validity_all_invalid;
 pub use varbin::{VarBinArray, VarBinData};
+pub use varbinview::{VarBinViewArray, VarBinViewData};

@@ -1,6 +1,6 @@
 //! The names of a node's slots and of its buffers.
 
-ghost use Rattle.std.specs.Prelude.{◌≡◌, ◌<◌, length, slice_get, Some, option_map, IfOk, IsOkUnless};
+ghost use Rattle.std.specs.Prelude.{◌≡◌, ◌<◌, length, slice_get, Some, ◌∷◌, [], IfOk, IsOkUnless};
 ghost use Rattle.vx_trees.specs.Rose.{label};
 ghost use Rattle.vx_types.specs.Typ.{Typ};
 ghost use Rattle.vx_arrays.specs.Plain.{plain_body};
@@ -36,9 +36,12 @@ impl Array {
         ensures ok { IfOk result (λ name. name ≡ slice_get (buffer_names (label self.now).body) index) }
         ensures err { IsOkUnless result ArrayError.OutOfMemory }
     {
-        match buffer_of(self.body(), index) {
-            Some(name) => Ok(Some(owned_text(alloc, name)?)),
-            None => Ok(None),
+        match self.body() {
+            Body::Null => Ok(None),
+            Body::Bool(_) => only_name(alloc, "bits", index),
+            Body::Primitive(_) | Body::Decimal(_) => only_name(alloc, "values", index),
+            Body::VarBin(_) => only_name(alloc, "bytes", index),
+            Body::VarBinView(views) => views.buffer_name(alloc, index),
         }
     }
 }
@@ -49,7 +52,7 @@ fn slots_of(body: &Body) -> usize
 {
     match body {
         Body::Null => 0,
-        Body::Bool(_) | Body::Primitive(_) | Body::Decimal(_) => 1,
+        Body::Bool(_) | Body::Primitive(_) | Body::Decimal(_) | Body::VarBinView(_) => 1,
         Body::VarBin(_) => 2,
     }
 }
@@ -61,22 +64,18 @@ fn slot_of(body: &Body, index: usize) -> &'static str
 {
     match body {
         Body::Null => unreachable!(),
-        Body::Bool(_) | Body::Primitive(_) | Body::Decimal(_) => "validity",
+        Body::Bool(_) | Body::Primitive(_) | Body::Decimal(_) | Body::VarBinView(_) => "validity",
         Body::VarBin(_) => { if index == 0 { "offsets" } else { "validity" } }
     }
 }
 
-// The name of a node's buffer, where there is one of this number.
-fn buffer_of(body: &Body, index: usize) -> Option<&'static str>
-    ensures { option_map (λ s. s.now) result ≡ slice_get (buffer_names (plain_body body.now)) index }
+// The name of the buffer of this number in a node that has one alone.
+fn only_name(alloc: Global, name: &'static str, index: usize) -> Result<Option<Name>, ArrayError>
+    ensures ok { IfOk result (λ told. told ≡ slice_get (name.now ∷ []) index) }
+    ensures err { IsOkUnless result ArrayError.OutOfMemory }
 {
     if index > 0 {
-        return None;
+        return Ok(None);
     }
-    match body {
-        Body::Null => None,
-        Body::Bool(_) => Some("bits"),
-        Body::Primitive(_) | Body::Decimal(_) => Some("values"),
-        Body::VarBin(_) => Some("bytes"),
-    }
+    Ok(Some(owned_text(alloc, name)?))
 }

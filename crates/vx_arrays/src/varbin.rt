@@ -20,8 +20,8 @@ use crate::array::Array;
 use crate::body::Body;
 use crate::error::ArrayError;
 use crate::offsets::are_offsets;
-use crate::row::{RowValue, bytes_row, text_row, within_budget};
-use crate::texts::{are_texts, part_at};
+use crate::row::{RowValue, within_budget};
+use crate::texts::{are_texts, is_of_bytes, part_at, part_row};
 use crate::validity::{is_validity, validity_at};
 use std::alloc::Global;
 use std::marker::Model;
@@ -174,21 +174,6 @@ fn of_parts(
     Ok(Array::from_parts(dtype, len, Body::VarBin(VarBinData { bytes }), children))
 }
 
-// A row of a type of texts or of bytes, if there are cells to spend for it.
-fn part_row(alloc: Global, dtype: &DType, bytes: &[u8], budget: u64) -> Result<RowValue, ArrayError>
-    requires kind { IsOfBytes (typ dtype.now) }
-    requires text { IsContent (typ dtype.now) bytes.now }
-    ensures row { IfOk result (λ row. plain_value row ≡ lone (mark_of (typ dtype.now) bytes.now)) }
-    ensures fits { OnOk result (value_cells (lone (mark_of (typ dtype.now) bytes.now)) ≤ budget) }
-    ensures err { IfErr result (λ e. IsValueRefused e (value_cells (lone (mark_of (typ dtype.now) bytes.now))) budget) }
-{
-    match dtype {
-        DType::Utf8(_) => text_row(alloc, bytes, budget),
-        DType::Binary(_) => bytes_row(alloc, bytes, budget),
-        _ => unreachable!(),
-    }
-}
-
 // Whether parts are of the shape that the encoding asks for.
 fn is_shaped(dtype: &DType, len: usize, offsets: &Array, validity: &Option<Array>) -> bool
     requires counted { (label offsets.now).len ≡ suc len }
@@ -203,17 +188,6 @@ fn is_shaped(dtype: &DType, len: usize, offsets: &Array, validity: &Option<Array
         return false;
     }
     is_validity(dtype.nullability(), len, validity)
-}
-
-// Whether a type is one of texts or of bytes.
-fn is_of_bytes(dtype: &DType) -> bool
-    ensures { IsTrue result ↔ IsOfBytes (typ dtype.now) }
-{
-    match dtype {
-        DType::Utf8(_) => true,
-        DType::Binary(_) => true,
-        _ => false,
-    }
 }
 
 // Whether a type is one of offsets.

@@ -21,6 +21,9 @@ null_metadata x d bytes e = record { fields = F.empty; shown = nothing_shown byt
 pub primitive_metadata : (x : ExtMeaning) (d : Typ) (bytes : List ℕ) → bytes ≡ [] → IsMetadata codec x E.primitive d bytes M.empty
 primitive_metadata x d bytes e = record { fields = F.empty; shown = nothing_shown bytes e; meaning = refl; fair = tt; known = tt }
 
+pub varbinview_metadata : (x : ExtMeaning) (d : Typ) (bytes : List ℕ) → bytes ≡ [] → IsMetadata codec x E.varbinview d bytes M.empty
+varbinview_metadata x d bytes e = record { fields = F.empty; shown = nothing_shown bytes e; meaning = refl; fair = tt; known = tt }
+
 fair_null : (v : Metadata) → IsFair E.null v → v ≡ M.empty
 fair_null M.empty f = refl
 fair_null _ f = absurd f
@@ -29,9 +32,16 @@ fair_primitive : (v : Metadata) → IsFair E.primitive v → v ≡ M.empty
 fair_primitive M.empty f = refl
 fair_primitive _ f = absurd f
 
+fair_varbinview : (v : Metadata) → IsFair E.varbinview v → v ≡ M.empty
+fair_varbinview M.empty f = refl
+fair_varbinview _ f = absurd f
+
 -- What is read is that nothing is kept, of no byte.
 pub null_nothing : (x : ExtMeaning) (d : Typ) (bytes : List ℕ) (v : Metadata) → IsMetadata codec x E.null d bytes v → (bytes ≡ []) × (v ≡ M.empty)
 null_nothing x d bytes v m = (m.shown.bytes_are, fair_null v m.fair)
 
 pub primitive_nothing : (x : ExtMeaning) (d : Typ) (bytes : List ℕ) (v : Metadata) → IsMetadata codec x E.primitive d bytes v → (bytes ≡ []) × (v ≡ M.empty)
 primitive_nothing x d bytes v m = (m.shown.bytes_are, fair_primitive v m.fair)
+
+pub varbinview_nothing : (x : ExtMeaning) (d : Typ) (bytes : List ℕ) (v : Metadata) → IsMetadata codec x E.varbinview d bytes v → (bytes ≡ []) × (v ≡ M.empty)
+varbinview_nothing x d bytes v m = (m.shown.bytes_are, fair_varbinview v m.fair)

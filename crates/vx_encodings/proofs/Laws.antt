@@ -12,6 +12,7 @@ use Rattle.vx_array_tree.specs.Encodings.Bools as Bools
 use Rattle.vx_array_tree.specs.Encodings.Primitives as Primitives
 use Rattle.vx_array_tree.specs.Encodings.Decimals as Decimals
 use Rattle.vx_array_tree.specs.Encodings.VarBins as VarBins
+use Rattle.vx_array_tree.specs.Encodings.VarBinViews as VarBinViews
 use Rattle.vx_array_tree.specs.Metadata.{Metadata}
 use Rattle.vx_array_tree.specs.Metadata as M
 use Rattle.vx_array_tree.specs.Place.{Place, place, numbers, exactly, before_validity, validity_place, is_len}
@@ -28,7 +29,7 @@ use Rattle.vx_encodings.proofs.Widths.{one_width, width_again}
 use Rattle.vx_encodings.specs.Messages.{Shows, ShowsNothing, message_bytes, codec}
 use Rattle.vx_encodings.specs.Plain.{plain_encoding}
 use Rattle.vx_encodings.specs.declared.encoding.Encoding.{Encoding}
-use Rattle.vx_encodings.specs.declared.encoding.Encoding.TheVariants.{Null, Bool, Primitive, Decimal, VarBin}
+use Rattle.vx_encodings.specs.declared.encoding.Encoding.TheVariants.{Null, Bool, Primitive, Decimal, VarBin, VarBinView}
 
 one_nothing : (bytes : List ℕ) (f g : Fields) → ShowsNothing bytes f → ShowsNothing bytes g → f ≡ g
 one_nothing bytes f g a b = a.fields_are ∙ sym b.fields_are
@@ -92,6 +93,14 @@ varbin_again _ fair fits = absurd fair
 pub varbin_lawful : IsLawfulAt codec E.varbin
 varbin_lawful = record { one_message = one_message E.varbin; message_again = varbin_again }
 
+varbinview_again : (v : Metadata) → IsFair E.varbinview v → FitsMessage v → Shows E.varbinview (message_bytes (told v)) (told v)
+varbinview_again M.empty fair fits = record { bytes_are = refl; fields_are = refl }
+varbinview_again _ fair fits = absurd fair
+
+-- So are those of texts and of bytes by views.
+pub varbinview_lawful : IsLawfulAt codec E.varbinview
+varbinview_lawful = record { one_message = one_message E.varbinview; message_again = varbinview_again }
+
 -- So are those of each encoding that has code.
 pub lawful : (e : Encoding) → IsLawfulAt codec (plain_encoding e)
 lawful Null = null_lawful
@@ -99,6 +108,7 @@ lawful Bool = bool_lawful
 lawful Primitive = primitive_lawful
 lawful Decimal = decimal_lawful
 lawful VarBin = varbin_lawful
+lawful VarBinView = varbinview_lawful
 
 -- And so are the tables of statistics.
 pub stats_lawful : HasLawfulStats codec
@@ -122,6 +132,8 @@ fair_message Decimal (M.decimal w) fair = tt
 fair_message Decimal _ fair = absurd fair
 fair_message VarBin (M.varbin p) fair = tt
 fair_message VarBin _ fair = absurd fair
+fair_message VarBinView M.empty fair = tt
+fair_message VarBinView _ fair = absurd fair
 
 -- ---- plans
 
@@ -166,6 +178,11 @@ varbin_count (node (utf8 m) end) n p k qs e = behind_count (place (numbers p) (s
 varbin_count (node (binary m) end) n p k qs e = behind_count (place (numbers p) (suc n) ∷ []) n k qs (let_through (is_len (suc n)) _ _ e)
 varbin_count _ n p k qs e = absurd (cc)
 
+varbinview_count : (d : Typ) (n k : ℕ) (qs : List Place) → VarBinViews.plan d n k ≡ Some qs → length qs ≡ k
+varbinview_count (node (utf8 m) end) n k qs e = validity_count n k qs e
+varbinview_count (node (binary m) end) n k qs e = validity_count n k qs e
+varbinview_count _ n k qs e = absurd (cc)
+
 -- An encoding that has code plans a place for each child.
 pub plan_length : (encoding : Encoding) (d : Typ) (n : ℕ) (v : Metadata) (k : ℕ) (qs : List Place) → plan_of (plain_encoding encoding) d n v k ≡ Some qs → length qs ≡ k
 plan_length Null d n M.empty k qs e = null_count d n k qs e
@@ -178,3 +195,5 @@ plan_length Decimal d n (M.decimal w) k qs e = decimal_count d n k qs e
 plan_length Decimal d n _ k qs e = absurd (cc)
 plan_length VarBin d n (M.varbin p) k qs e = varbin_count d n p k qs e
 plan_length VarBin d n _ k qs e = absurd (cc)
+plan_length VarBinView d n M.empty k qs e = varbinview_count d n k qs e
+plan_length VarBinView d n _ k qs e = absurd (cc)

@@ -15,3 +15,4 @@ mod BoolSteps
 mod PrimitiveSteps
 mod DecimalSteps
 mod VarBinSteps
+mod VarBinViewSteps

@@ -3,7 +3,7 @@ use Rattle.vx_types.specs.Seen.{typ}
 use Rattle.vx_array_tree.specs.Encoding as E
 use Rattle.vx_array_tree.specs.Place.{Place, place}
 use Rattle.vx_encodings.specs.declared.encoding.Encoding.{Encoding}
-use Rattle.vx_encodings.specs.declared.encoding.Encoding.TheVariants.{Null, Bool, Primitive, Decimal, VarBin}
+use Rattle.vx_encodings.specs.declared.encoding.Encoding.TheVariants.{Null, Bool, Primitive, Decimal, VarBin, VarBinView}
 use Rattle.vx_encodings.specs.declared.plans.ChildPlan.{ChildPlan}
 
 -- An encoding, of those that definitions know.
@@ -13,6 +13,7 @@ plain_encoding Bool = E.bool
 plain_encoding Primitive = E.primitive
 plain_encoding Decimal = E.decimal
 plain_encoding VarBin = E.varbin
+plain_encoding VarBinView = E.varbinview
 
 -- The place that a planned child is to have.
 abbrev pub planned_place : ChildPlan → Place

@@ -3,7 +3,7 @@
 ghost use Rattle.std.specs.Prelude.{◌≡◌};
 ghost use Rattle.vx_array_tree.specs.Table.{id_of};
 
-use vx_arrays::{BoolArray, DecimalArray, NullArray, PrimitiveArray, VarBinArray};
+use vx_arrays::{BoolArray, DecimalArray, NullArray, PrimitiveArray, VarBinArray, VarBinViewArray};
 
 /// The shipped encodings.
 #[derive(Clone, Copy, Debug, PartialEq, Eq)]
@@ -18,6 +18,8 @@ pub enum Encoding {
     Decimal,
     /// Texts or bytes, one after the other, by offsets.
     VarBin,
+    /// Texts or bytes, by views into buffers.
+    VarBinView,
 }
 
 impl Encoding {
@@ -33,6 +35,7 @@ impl Encoding {
             Encoding::Primitive => PrimitiveArray::ID,
             Encoding::Decimal => DecimalArray::ID,
             Encoding::VarBin => VarBinArray::ID,
+            Encoding::VarBinView => VarBinViewArray::ID,
         }
     }
 }

@@ -18,6 +18,7 @@ mod primitive;
 mod steps;
 mod validity;
 mod varbin;
+mod varbinview;
 
 pub use bool::BoolMetadata;
 pub use decimal::DecimalMetadata;

@@ -17,7 +17,7 @@ use crate::encoding::Encoding;
 use crate::error::EncodingError;
 use crate::head::ArrayHead;
 use crate::plans::ChildPlans;
-use crate::{bool, decimal, null, primitive, varbin};
+use crate::{bool, decimal, null, primitive, varbin, varbinview};
 use std::alloc::Global;
 use vx_arrays::{Array, Arrays, Body};
 use vx_buffer::BufferHandles;
@@ -62,6 +62,7 @@ fn plan_by(
         Encoding::Primitive => primitive::plan(alloc, head),
         Encoding::Decimal => decimal::plan(alloc, head),
         Encoding::VarBin => varbin::plan(alloc, head),
+        Encoding::VarBinView => varbinview::plan(alloc, head),
     }
 }
 
@@ -112,6 +113,7 @@ fn build_by(
         Encoding::Primitive => primitive::build(alloc, head, buffers, children),
         Encoding::Decimal => decimal::build(alloc, head, buffers, children),
         Encoding::VarBin => varbin::build(alloc, head, buffers, children),
+        Encoding::VarBinView => varbinview::build(alloc, head, buffers, children),
     }
 }
 
@@ -127,5 +129,6 @@ pub fn metadata(alloc: Global, array: &Array) -> Result<Blob, EncodingError>
         Body::Primitive(_) => Ok(write_empty(alloc)),
         Body::Decimal(decimals) => decimal::metadata(alloc, decimals),
         Body::VarBin(_) => varbin::metadata(alloc, array.children()),
+        Body::VarBinView(_) => Ok(write_empty(alloc)),
     }
 }

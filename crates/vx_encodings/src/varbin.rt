@@ -105,7 +105,7 @@ pub(crate) fn plan(alloc: Global, head: &ArrayHead) -> Result<ChildPlans, Encodi
 }
 
 // Whether a type is one of texts or of bytes.
-fn is_of_bytes(dtype: &DType) -> bool
+pub(crate) fn is_of_bytes(dtype: &DType) -> bool
     ensures { IsTrue result ↔ IsOfBytes (typ dtype.now) }
 {
     match dtype {

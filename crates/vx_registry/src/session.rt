@@ -66,6 +66,7 @@ impl ArraySession {
             Encoding::Primitive,
             Encoding::Decimal,
             Encoding::VarBin,
+            Encoding::VarBinView,
         ] {
             session.set(encoding)?;
         }

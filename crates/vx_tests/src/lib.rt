@@ -18,3 +18,5 @@ pub mod laws;
 mod program;
 #[cfg(test)]
 mod varbins;
+#[cfg(test)]
+mod varbinviews;

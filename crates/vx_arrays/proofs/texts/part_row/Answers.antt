@@ -1,6 +1,6 @@
 -- A row's value is that of its type.
 use Rattle.vx_arrays.proofs.Parted.{text_of_type, text_row_is, text_row_fits, text_row_refused, bytes_row_is, bytes_row_fits, bytes_row_refused, of_bytes}
-use Rattle.vx_arrays.proofs.varbin.part_row.Goals as goal
+use Rattle.vx_arrays.proofs.texts.part_row.Goals as goal
 
 pub text_row-requires : goal.text_row-requires
 text_row-requires c = record { text = text_of_type c.args.dtype.now c.in-Utf8.field-0 c.args.bytes.now c.in-Utf8.is c.requires.text }
