@@ -1,5 +1,5 @@
 -- Lists of types and of their trees, element by element.
-use Rattle.std.specs.Prelude.{ℕ, zero, suc, ◌+◌, ◌≤◌, ◌<◌, ◌≡◌, List, [], ◌∷◌, ◌++◌, length, take, refl, max}
+use Rattle.std.specs.Prelude.{ℕ, zero, suc, ◌+◌, ◌<◌, ◌≡◌, List, [], ◌∷◌, ◌++◌, length, take, refl, max}
 use Rattle.std.proofs.Common.{arith, get_or, sym, ap, ◌∙◌, subst, add-one}
 use Rattle.vx_trees.specs.Rose.{roses_of, roses_list}
 use Rattle.vx_trees.specs.Walks.{levels, levels_below}
