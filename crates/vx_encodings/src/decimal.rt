@@ -93,7 +93,6 @@ pub(crate) fn plan(alloc: Global, head: &ArrayHead) -> Result<ChildPlans, Encodi
 fn same_digits(digits: &DecimalDType) -> DecimalDType
     ensures { result ≡ digits.now }
 {
-    digits.hold();
     match DecimalDType::try_new(digits.precision(), digits.scale()) {
         Ok(same) => same,
         Err(_) => unreachable!(),

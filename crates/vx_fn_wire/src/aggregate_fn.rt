@@ -59,7 +59,6 @@ impl AggregateFn {
         let Some(metadata) = &self.options else {
             return Err(FnWireError::NotSerializable);
         };
-        self.id.hold();
         let id = octets_slot(alloc, 1, self.id.as_str().as_bytes())?;
         let metadata = octets_slot(alloc, 2, metadata.as_slice())?;
         let slots = vec![in alloc; id, metadata]?;

@@ -66,7 +66,7 @@ impl Call {
         ensures id { IsText self.now.function.id }
         ensures children { AreExprs self.now.children }
     {
-        self.function.id.hold();
+        let _id = self.function.id.as_str();
         self.children.hold();
     }
 }

@@ -105,7 +105,7 @@ impl ScalarValueExt for ScalarValue {
             → MatchResult result (λ x. seen x ≡ v) (λ e. e ≡ ScalarWireError.OutOfMemory) }
     {
         message.hold();
-        dtype.hold();
+        let _ = dtype.is_within(1);
         let Some(slots) = message.slots() else {
             return Err(ScalarWireError::MissingKind);
         };

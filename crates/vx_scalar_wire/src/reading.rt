@@ -266,7 +266,6 @@ fn member_type(variants: &UnionVariants, tag: u8) -> Result<&DType, ScalarWireEr
     ensures found { IfOk result (λ d. member tag variants.now.ids (roses_of variants.now.types) ≡ Some (typ d.now)) }
     ensures none { IfErr result (λ e. (e ≡ ScalarWireError.BadChild) × (member tag variants.now.ids (roses_of variants.now.types) ≡ None)) }
 {
-    variants.hold();
     match variants.tag_to_child_index(tag) {
         Some(index) => Ok(&variants.variants().as_slice()[index]),
         None => Err(ScalarWireError::BadChild),

@@ -137,13 +137,10 @@ fn fits_member(tag: u8, value: &ValueRef, dtype: &DType) -> bool
     ensures { IsTrue result ↔ FitsMember tag (λ ts. FitBy (more value.now end) ts) (typ dtype.now) }
 {
     match dtype {
-        DType::Union(variants, _) => {
-            variants.hold();
-            match variants.tag_to_child_index(tag) {
-                Some(index) => fits(value.get(), &variants.variants().as_slice()[index]),
-                None => false,
-            }
-        }
+        DType::Union(variants, _) => match variants.tag_to_child_index(tag) {
+            Some(index) => fits(value.get(), &variants.variants().as_slice()[index]),
+            None => false,
+        },
         _ => false,
     }
 }

@@ -58,7 +58,7 @@ impl Scalar {
         ensures err { IfErr result (λ e. (e ≡ ScalarError.BadScalar) × (Fits (seen value) (typ dtype) → ⊥)) }
     {
         Scalar::validate(&dtype, value.as_ref())?;
-        dtype.hold();
+        let _ = dtype.is_within(1);
         hold_seen(&value);
         Ok(Scalar { dtype, value })
     }

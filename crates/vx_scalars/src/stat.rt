@@ -114,7 +114,6 @@ pub(crate) fn sum_dtype(dtype: &DType) -> Option<DType>
             Some(DType::Primitive(kind_of_sum(*kind), Nullability::Nullable))
         }
         DType::Decimal(digits, _) => {
-            digits.hold();
             match DecimalDType::try_new(wider(digits.precision()), digits.scale()) {
                 Ok(sum) => Some(DType::Decimal(sum, Nullability::Nullable)),
                 Err(_) => unreachable!(),

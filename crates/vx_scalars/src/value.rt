@@ -64,8 +64,12 @@ impl ScalarValue {
             ScalarValue::Bool(_) => {}
             ScalarValue::Primitive(number) => hold_number(number),
             ScalarValue::Decimal(decimal) => decimal.hold(),
-            ScalarValue::Utf8(text) => text.hold(),
-            ScalarValue::Binary(bytes) => bytes.hold(),
+            ScalarValue::Utf8(text) => {
+                let _text = text.as_str();
+            }
+            ScalarValue::Binary(bytes) => {
+                let _len = bytes.len();
+            }
             ScalarValue::Tuple(values) => values.hold(),
             ScalarValue::Union(tag, value) => {
                 let _tag = *tag;

@@ -39,7 +39,6 @@ fn numbers_have_widths_and_codes(rt: HostRuntime) {
 // The nullability of the type of nulls where it is to be never null.
 fn nulls_nullability(alloc: Global) -> Result<Nullability, TypeError> {
     let null = DType::Null.with_nullability(alloc, Nullability::NonNullable)?;
-    null.hold();
     Ok(null.nullability())
 }
 

@@ -1,11 +1,15 @@
 -- Bytes and texts in lists.
-use Rattle.std.specs.Prelude.{ℕ, zero, suc, ◌<◌, List, [], ◌∷◌, ◌++◌}
+use Rattle.std.specs.Prelude.{ℕ, zero, suc, ◌<◌, List, [], ◌∷◌, ◌++◌, length}
 use Rattle.std.proofs.Common.{arith, get_or}
 use Rattle.vx_types.specs.Content.{IsText, AreTexts, AreBytes}
 
-pub bytes-from_index : (bs : List ℕ) → ((i : ℕ) → get_or bs i 0 < 256) → AreBytes bs
-bytes-from_index [] h = tt
-bytes-from_index (b ∷ bs) h = (omega (arith, h zero), bytes-from_index bs (λ i. h (suc i)))
+pub bytes_from_index : (bs : List ℕ) → ((i : ℕ) → get_or bs i 0 < 256) → AreBytes bs
+bytes_from_index [] h = tt
+bytes_from_index (b ∷ bs) h = (omega (arith, h zero), bytes_from_index bs (λ i. h (suc i)))
+
+pub bytes_within : (bs : List ℕ) → ((i : ℕ) → i < length bs → get_or bs i 0 < 256) → AreBytes bs
+bytes_within [] h = tt
+bytes_within (b ∷ bs) h = (omega (arith, h zero (omega arith)), bytes_within bs (λ i l. h (suc i) (omega (arith, l))))
 
 -- One text more at the end.
 pub texts-push : (ss : List (List ℕ)) (s : List ℕ) → AreTexts ss → IsText s → AreTexts (ss ++ s ∷ [])

@@ -1,5 +1,5 @@
 -- Lists of types and of their trees, element by element.
-use Rattle.std.specs.Prelude.{ℕ, zero, suc, ◌+◌, ◌≤◌, ◌<◌, ◌≡◌, List, [], ◌∷◌, ◌++◌, length, take, refl, max}
+use Rattle.std.specs.Prelude.{ℕ, zero, suc, ◌+◌, ◌<◌, ◌≡◌, List, [], ◌∷◌, ◌++◌, length, take, refl, max}
 use Rattle.std.proofs.Common.{arith, get_or, sym, ap, ◌∙◌, subst, add-one}
 use Rattle.vx_trees.specs.Rose.{roses_of, roses_list}
 use Rattle.vx_trees.specs.Walks.{levels, levels_below}
@@ -66,21 +66,13 @@ same-at (x ∷ ds) (y ∷ es) (suc i) d e h k p =
     let f : i < length es = omega (arith, k) in
     same-at ds es i d e g f (tails _ _ _ _ p)
 
-pub typs-levels_at : (ds : List DType) (i : ℕ) (d : DType) → i < length ds → levels (typ (get_or ds i d)) ≤ levels_below (roses_of (typs ds))
-typs-levels_at [] i d h = absurd (omega (arith, h))
-typs-levels_at (x ∷ ds) zero d h = omega arith
-typs-levels_at (x ∷ ds) (suc i) d h = let g : i < length ds = omega (arith, h) in omega (arith, typs-levels_at ds i d g)
+typs-levels_more : (ds : List DType) (d : DType) → levels_below (roses_of (typs (ds ++ d ∷ []))) ≡ max (levels_below (roses_of (typs ds))) (levels (typ d))
+typs-levels_more [] d = omega arith
+typs-levels_more (x ∷ ds) d = omega (arith, typs-levels_more ds d)
 
-typs-levels_step : (ds : List DType) (i : ℕ) (d : DType) → i < length ds
-    → levels_below (roses_of (typs (take (suc i) ds))) ≤ max (levels_below (roses_of (typs (take i ds)))) (levels (typ (get_or ds i d)))
-typs-levels_step [] i d h = absurd (omega (arith, h))
-typs-levels_step (x ∷ ds) zero d h = omega arith
-typs-levels_step (x ∷ ds) (suc i) d h = let g : i < length ds = omega (arith, h) in omega (arith, typs-levels_step ds i d g)
-
--- One type more that has at most n levels.
-pub typs-levels_more : (ds : List DType) (i n : ℕ) (d : DType) → i < length ds → levels_below (roses_of (typs (take i ds))) ≤ n
-    → levels (typ (get_or ds i d)) ≤ n → levels_below (roses_of (typs (take (i + 1) ds))) ≤ n
-typs-levels_more ds i n d h p q = rw (add-one i) (omega (arith, typs-levels_step ds i d h))
+-- One type more at the end may be the deepest.
+pub typs-levels_push : (ds es : List DType) (d : DType) → es ≡ ds ++ d ∷ [] → levels_below (roses_of (typs es)) ≡ max (levels_below (roses_of (typs ds))) (levels (typ d))
+typs-levels_push ds es d e = ap (λ (xs : List DType). levels_below (roses_of (typs xs))) e ∙ typs-levels_more ds d
 
 -- For loops over types.
-pub ruleset falling = (size-at, roses_of-injective, typs-length, typs-at, same-more, same-at, typs-levels_at)
+pub ruleset falling = (size-at, roses_of-injective, typs-length, typs-at, same-more, same-at)

@@ -5,7 +5,6 @@ ghost use Rattle.vx_types.specs.Content.{AreBytes};
 ghost use Rattle.std.specs.Cmp.{partial_equiv_from_equiv};
 ghost use Rattle.std.specs.Cmp.Lexicographic.{nat_list_eq_equiv};
 
-use crate::bytes::are_bytes;
 use crate::error::TypeError;
 use std::alloc::Global;
 use std::marker::Model;
@@ -14,15 +13,18 @@ use std::marker::Model;
 /// their list.
 #[derive(Debug, Drop)]
 pub struct Blob {
-    bytes: Vec<u8>,
+    pub(crate) bytes: Vec<u8>,
 }
 
 impl Model for Blob {
     ghost use Rattle.std.specs.Prelude.{List, ℕ};
+    ghost use Rattle.vx_types.specs.Content.{AreBytes};
 
     ghost Value = { List ℕ };
 
     ghost view = { λ a. a.bytes.items };
+
+    ghost invariant = { λ a. AreBytes a.bytes.items };
 }
 
 impl Blob {
@@ -34,12 +36,13 @@ impl Blob {
     }
 
     /// A copy of these bytes.
+    #[tactic(auto, using(crate::proofs::Contents::bytes_from_index))]
     pub fn copy_from(alloc: Global, bytes: &[u8]) -> Result<Blob, TypeError>
         ensures ok { IfOk result (λ blob. blob ≡ bytes.now) }
         ensures err { IsOkUnless result TypeError.OutOfMemory }
     {
-        let bytes = Vec::from_slice(alloc, bytes)?;
-        Ok(Blob { bytes })
+        let copy = Vec::from_slice(alloc, bytes)?;
+        Ok(Blob { bytes: copy })
     }
 
     /// The bytes.
@@ -51,7 +54,8 @@ impl Blob {
 
     /// How many bytes there are.
     pub fn len(&self) -> usize
-        ensures { result ≡ length self.now }
+        ensures len { result ≡ length self.now }
+        ensures bytes { AreBytes self.now }
     {
         self.bytes.len()
     }
@@ -76,14 +80,6 @@ impl Blob {
         ensures err { IsOkUnless result TypeError.OutOfMemory }
     {
         Blob::copy_from(alloc, self.as_slice())
-    }
-
-    /// What is known of what it holds: bytes. Nothing runs; a caller gets the
-    /// fact.
-    pub fn hold(&self)
-        ensures { AreBytes self.now }
-    {
-        are_bytes(self.as_slice());
     }
 }
 

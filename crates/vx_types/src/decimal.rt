@@ -88,8 +88,8 @@ impl DecimalType {
 /// them stand after the point. A scale below 0 stands for zeros before the point.
 #[derive(Clone, Copy, Debug, PartialEq, Eq)]
 pub struct DecimalDType {
-    precision: u8,
-    scale: i8,
+    pub(crate) precision: u8,
+    pub(crate) scale: i8,
 }
 
 impl Model for DecimalDType {
@@ -124,8 +124,10 @@ impl DecimalDType {
 
     /// How many digits there are, 1 to 76.
     pub fn precision(&self) -> u8
-        ensures { result ≡ self.now.precision }
+        ensures same { result ≡ self.now.precision }
+        ensures decimal { IsDecimal self.now.precision self.now.scale }
     {
+        let _scale = self.scale;
         self.precision
     }
 
@@ -134,14 +136,5 @@ impl DecimalDType {
         ensures { result ≡ self.now.scale }
     {
         self.scale
-    }
-
-    /// What is known of each decimal: its precision and scale are as they may be.
-    /// Nothing runs; a caller gets the fact.
-    pub fn hold(&self)
-        ensures { IsDecimal self.now.precision self.now.scale }
-    {
-        let _precision = self.precision;
-        let _scale = self.scale;
     }
 }

@@ -1,6 +1,6 @@
 //! Logical types.
 
-ghost use Rattle.std.specs.Prelude.{◌≡◌, ◌↔◌, ◌≤◌, IfOk, IsOkUnless, IsTrue};
+ghost use Rattle.std.specs.Prelude.{◌≡◌, ◌↔◌, ◌≤◌, ◌-◌, ◌^◌, IfOk, IsOkUnless, IsTrue, min};
 ghost use Rattle.vx_trees.specs.Walks.{levels};
 ghost use Rattle.vx_types.specs.Seen.{typ};
 ghost use Rattle.vx_types.specs.Typ.{IsType};
@@ -9,7 +9,6 @@ ghost use Rattle.vx_types.specs.Words.{nullability, with_nullability};
 use crate::decimal::DecimalDType;
 use crate::error::TypeError;
 use crate::ext::ExtDType;
-use crate::levels::are_within;
 use crate::map::MapDType;
 use crate::nullability::Nullability;
 use crate::ptype::PType;
@@ -133,33 +132,18 @@ impl DType {
 
     /// Whether the type has at most this many levels: a type that holds no other
     /// has one, and each other type one more than the deepest that it holds.
-    #[cycle(within)]
-    #[tactic(auto, using(vx_trees::proofs::Counting::level_facts))]
     pub fn is_within(&self, limit: u32) -> bool
-        ensures { IsTrue result ↔ (levels (typ self.now) ≤ limit) }
+        ensures within { IsTrue result ↔ (levels (typ self.now) ≤ limit) }
+        ensures is_type { IsType (typ self.now) }
     {
-        if limit == 0 {
-            return false;
-        }
-        match self {
-            DType::List(part, _) | DType::FixedSizeList(part, _, _) => {
-                part.get().is_within(limit - 1)
-            }
-            DType::Struct(fields, _) => are_within(fields.fields().as_slice(), limit - 1),
-            DType::Union(members, _) => are_within(members.variants().as_slice(), limit - 1),
-            DType::Map(map, _) => {
-                map.key_dtype().is_within(limit - 1) && map.value_dtype().is_within(limit - 1)
-            }
-            DType::Extension(ext) => ext.storage_dtype().is_within(limit - 1),
-            _ => true,
-        }
+        self.levels() <= limit as u64
     }
 
-    /// What is known of each type: each kind of its tree stands over as many types
-    /// as it asks for, and its own parts are as they may be. Nothing runs; a
-    /// caller gets the fact.
-    pub fn hold(&self)
-        ensures { IsType (typ self.now) }
+    // How many levels the type has, up to the largest number. Each part that holds
+    // types keeps how many they have.
+    pub(crate) fn levels(&self) -> u64
+        ensures levels { result ≡ min (levels (typ self.now)) (2 ^ 64 - 1) }
+        ensures is_type { IsType (typ self.now) }
     {
         match self {
             DType::Null
@@ -167,17 +151,20 @@ impl DType {
             | DType::Primitive(_, _)
             | DType::Utf8(_)
             | DType::Binary(_)
-            | DType::Variant(_) => {}
-            DType::Decimal(digits, _) => digits.hold(),
-            DType::List(part, _) => part.hold(),
+            | DType::Variant(_) => 1,
+            DType::Decimal(digits, _) => {
+                let _scale = digits.scale;
+                1
+            }
+            DType::List(part, _) => part.levels().saturating_add(1),
             DType::FixedSizeList(part, size, _) => {
                 let _size = *size;
-                part.hold();
+                part.levels().saturating_add(1)
             }
-            DType::Struct(fields, _) => fields.hold(),
-            DType::Union(members, _) => members.hold(),
-            DType::Map(map, _) => map.hold(),
-            DType::Extension(ext) => ext.hold(),
+            DType::Struct(fields, _) => fields.levels().saturating_add(1),
+            DType::Union(members, _) => members.levels().saturating_add(1),
+            DType::Map(map, _) => map.levels().saturating_add(1),
+            DType::Extension(ext) => ext.levels().saturating_add(1),
         }
     }
 }

@@ -1,27 +1,33 @@
 //! Lists of types.
 
-ghost use Rattle.std.specs.Prelude.{◌≡◌, ◌==◌, [], ◌∷◌, ◌++◌, OnOk, OnErr, IfOk, IsOkUnless, length, slice_get, option_map, option_copied};
+ghost use Rattle.std.specs.Prelude.{◌≡◌, ◌==◌, ◌-◌, ◌^◌, [], ◌∷◌, ◌++◌, OnOk, OnErr, IfOk, IsOkUnless, length, min, slice_get, option_map, option_copied};
+ghost use Rattle.vx_trees.specs.Rose.{roses_of};
+ghost use Rattle.vx_trees.specs.Walks.{levels_below};
 ghost use Rattle.vx_types.specs.Seen.{typ, typs};
 ghost use Rattle.vx_types.specs.Typ.{AreTypes};
 
 use crate::copy::copy_all;
 use crate::dtype::DType;
 use crate::error::TypeError;
+use crate::levels::deeper;
 use std::alloc::Global;
 use std::marker::Model;
 
-/// A list of types, in order, as of a structure's fields. Contracts see the list
-/// of their trees.
+/// A list of types, in order, as of a structure's fields, and how many levels the
+/// deepest has, up to the largest number. Contracts see the list of their trees.
 #[cycle(dtype)]
 #[derive(Debug, Drop)]
 pub struct DTypes {
     items: Vec<DType>,
+    depth: u64,
 }
 
 impl Model for DTypes {
-    ghost use Rattle.std.specs.Prelude.{List};
+    ghost use Rattle.std.specs.Prelude.{◌≡◌, ◌-◌, ◌^◌, List, min};
     ghost use Rattle.std.specs.Coded.{coded_list};
     ghost use Rattle.std.proofs.Common.{arith};
+    ghost use Rattle.vx_trees.specs.Rose.{roses_of};
+    ghost use Rattle.vx_trees.specs.Walks.{levels_below};
     ghost use Rattle.vx_types.specs.Typ.{Typ, typ_code, AreTypes};
     ghost use Rattle.vx_types.specs.Parts.{types_size};
 
@@ -33,7 +39,7 @@ impl Model for DTypes {
 
     ghost view = { λ a. typs a.items.items };
 
-    ghost invariant = { λ a. AreTypes (typs a.items.items) };
+    ghost invariant = { λ a. AreTypes (typs a.items.items) × (a.depth ≡ min (levels_below (roses_of (typs a.items.items))) (2 ^ 64 - 1)) };
 
     ghost size = { types_size };
 
@@ -49,12 +55,14 @@ impl DTypes {
     {
         DTypes {
             items: Vec::new(alloc),
+            depth: 0,
         }
     }
 
     /// How many types there are.
     pub fn len(&self) -> usize
-        ensures { result ≡ length self.now }
+        ensures len { result ≡ length self.now }
+        ensures types { AreTypes self.now }
     {
         self.items.len()
     }
@@ -87,8 +95,9 @@ impl DTypes {
         ensures unchanged { OnErr result (self.new ≡ self.old) }
         ensures err { IsOkUnless result TypeError.OutOfMemory }
     {
-        dtype.hold();
+        let depth = deeper(self.depth, dtype.levels());
         self.items.push(dtype)?;
+        self.depth = depth;
         Ok(())
     }
 
@@ -98,16 +107,16 @@ impl DTypes {
         ensures ok { IfOk result (λ types. types ≡ self.now) }
         ensures err { IsOkUnless result TypeError.OutOfMemory }
     {
-        self.hold();
-        let items = copy_all(self.as_slice(), alloc)?;
-        Ok(DTypes { items })
+        let items = copy_all(self.items.as_slice(), alloc)?;
+        let depth = self.depth;
+        Ok(DTypes { items, depth })
     }
 
-    /// What is known of each list of types: each of them is one. Nothing runs; a
-    /// caller gets the fact.
-    pub fn hold(&self)
-        ensures { AreTypes self.now }
+    // How many levels the deepest has, up to the largest number.
+    pub(crate) fn levels(&self) -> u64
+        ensures levels { result ≡ min (levels_below (roses_of self.now)) (2 ^ 64 - 1) }
+        ensures types { AreTypes self.now }
     {
-        let _ = &self.items;
+        self.depth
     }
 }

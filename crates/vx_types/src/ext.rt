@@ -1,6 +1,7 @@
 //! Extensions.
 
-ghost use Rattle.std.specs.Prelude.{◌≡◌, IfOk, IsOkUnless};
+ghost use Rattle.std.specs.Prelude.{◌≡◌, ◌-◌, ◌^◌, IfOk, IsOkUnless, min};
+ghost use Rattle.vx_trees.specs.Walks.{levels};
 ghost use Rattle.vx_types.specs.Content.{IsText, AreBytes};
 ghost use Rattle.vx_types.specs.Seen.{typ};
 ghost use Rattle.vx_types.specs.Typ.{IsType};
@@ -27,6 +28,7 @@ pub struct ExtDType {
 
 impl Model for ExtDType {
     ghost use Rattle.std.proofs.Common.{arith};
+    ghost use Rattle.vx_types.specs.Content.{IsText, AreBytes};
     ghost use Rattle.vx_types.specs.Parts.{Ext, ext_code, ext_size};
 
     ghost Value = { Ext };
@@ -34,6 +36,8 @@ impl Model for ExtDType {
     ghost coded = { ext_code };
 
     ghost view = { λ a. record { id = a.id; metadata = a.metadata; storage = a.storage } };
+
+    ghost invariant = { λ a. IsText a.id × AreBytes a.metadata };
 
     ghost size = { ext_size };
 
@@ -46,6 +50,9 @@ impl ExtDType {
         ensures ok { IfOk result (λ ext. ext ≡ record { id = id; metadata = metadata; storage = typ storage }) }
         ensures err { IsOkUnless result TypeError.OutOfMemory }
     {
+        // A look at the fields of both: the one is a text, the other bytes.
+        let _ = &id.text;
+        let _ = &metadata.bytes;
         let storage = TypeRef::new(alloc, storage)?;
         Ok(ExtDType {
             id,
@@ -107,16 +114,13 @@ impl ExtDType {
         ExtDType::new(alloc, id, metadata, storage)
     }
 
-    /// What is known of each extension: its identifier is a text, its metadata
-    /// are bytes, and its storage is of a type. Nothing runs; a caller gets the
-    /// fact.
-    pub fn hold(&self)
+    // How many levels the storage has, up to the largest number.
+    pub(crate) fn levels(&self) -> u64
+        ensures levels { result ≡ min (levels self.now.storage) (2 ^ 64 - 1) }
         ensures id { IsText self.now.id }
         ensures metadata { AreBytes self.now.metadata }
         ensures storage { IsType self.now.storage }
     {
-        self.id.hold();
-        self.metadata.hold();
-        self.storage.hold();
+        self.storage.levels()
     }
 }

@@ -16,7 +16,7 @@ use std::marker::Model;
 /// An identifier, as of an encoding: a text. Contracts see its UTF-8 bytes.
 #[derive(Debug, Drop)]
 pub struct Id {
-    text: String,
+    pub(crate) text: String,
 }
 
 impl Model for Id {
@@ -39,7 +39,8 @@ impl Id {
 
     /// The text.
     pub fn as_str(&self) -> &str
-        ensures { result.now ≡ self.now }
+        ensures same { result.now ≡ self.now }
+        ensures text { IsText self.now }
     {
         self.text.as_str()
     }
@@ -50,14 +51,6 @@ impl Id {
         ensures err { IsOkUnless result TypeError.OutOfMemory }
     {
         Id::new(alloc, self.as_str())
-    }
-
-    /// What is known of each identifier: it is a text. Nothing runs; a caller gets
-    /// the fact.
-    pub fn hold(&self)
-        ensures { IsText self.now }
-    {
-        let _text = self.as_str();
     }
 }
 

@@ -6,7 +6,6 @@
 #![tactic(auto)]
 
 pub mod blob;
-mod bytes;
 mod copy;
 pub mod decimal;
 pub mod dtype;

@@ -1,6 +1,7 @@
 //! The types of a map.
 
-ghost use Rattle.std.specs.Prelude.{◌≡◌, IfOk, IsOkUnless};
+ghost use Rattle.std.specs.Prelude.{◌≡◌, ◌-◌, ◌^◌, IfOk, IsOkUnless, max, min};
+ghost use Rattle.vx_trees.specs.Walks.{levels};
 ghost use Rattle.vx_types.specs.Seen.{typ};
 ghost use Rattle.vx_types.specs.Typ.{IsType};
 ghost use Rattle.vx_types.specs.Words.{entries};
@@ -8,6 +9,7 @@ ghost use Rattle.vx_types.specs.Words.{entries};
 use crate::dtype::DType;
 use crate::dtypes::DTypes;
 use crate::error::TypeError;
+use crate::levels::deeper;
 use crate::name::Name;
 use crate::names::Names;
 use crate::nullability::Nullability;
@@ -113,13 +115,12 @@ impl MapDType {
         Ok(DType::Struct(fields, Nullability::NonNullable))
     }
 
-    /// What is known of each map: its keys and its values are of types. Nothing
-    /// runs; a caller gets the fact.
-    pub fn hold(&self)
+    // How many levels the deeper of the two types has, up to the largest number.
+    pub(crate) fn levels(&self) -> u64
+        ensures levels { result ≡ min (max (levels self.now.key) (levels self.now.value)) (2 ^ 64 - 1) }
         ensures key { IsType self.now.key }
         ensures value { IsType self.now.value }
     {
-        self.key.hold();
-        self.value.hold();
+        deeper(self.key.levels(), self.value.levels())
     }
 }

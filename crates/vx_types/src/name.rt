@@ -12,7 +12,7 @@ use std::marker::Model;
 /// A text: of a field, a file or a word. Contracts see its UTF-8 bytes.
 #[derive(Debug, Drop)]
 pub struct Name {
-    text: String,
+    pub(crate) text: String,
 }
 
 impl Model for Name {
@@ -35,7 +35,8 @@ impl Name {
 
     /// The text.
     pub fn as_str(&self) -> &str
-        ensures { result.now ≡ self.now }
+        ensures same { result.now ≡ self.now }
+        ensures text { IsText self.now }
     {
         self.text.as_str()
     }
@@ -46,14 +47,6 @@ impl Name {
         ensures err { IsOkUnless result TypeError.OutOfMemory }
     {
         Name::new(alloc, self.as_str())
-    }
-
-    /// What is known of each name: it is a text. Nothing runs; a caller gets the
-    /// fact.
-    pub fn hold(&self)
-        ensures { IsText self.now }
-    {
-        let _text = self.as_str();
     }
 }
 

@@ -38,7 +38,8 @@ impl Names {
 
     /// How many names there are.
     pub fn len(&self) -> usize
-        ensures { result ≡ length self.now }
+        ensures len { result ≡ length self.now }
+        ensures texts { AreTexts self.now }
     {
         self.items.len()
     }
@@ -71,7 +72,8 @@ impl Names {
         ensures unchanged { OnErr result (self.new ≡ self.old) }
         ensures err { IsOkUnless result TypeError.OutOfMemory }
     {
-        name.hold();
+        // A look at the name's field: it is a text.
+        let _ = &name.text;
         self.items.push(name)?;
         Ok(())
     }
@@ -81,17 +83,8 @@ impl Names {
         ensures ok { IfOk result (λ names. names ≡ self.now) }
         ensures err { IsOkUnless result TypeError.OutOfMemory }
     {
-        let items = copy_all(self.as_slice(), alloc)?;
-        self.hold();
+        let items = copy_all(self.items.as_slice(), alloc)?;
         Ok(Names { items })
-    }
-
-    /// What is known of each list of names: they are texts. Nothing runs; a
-    /// caller gets the fact.
-    pub fn hold(&self)
-        ensures { AreTexts self.now }
-    {
-        let _ = &self.items;
     }
 }
 

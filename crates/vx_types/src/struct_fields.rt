@@ -1,6 +1,8 @@
 //! The fields of a structure.
 
-ghost use Rattle.std.specs.Prelude.{◌≡◌, ◌≢◌, IfOk, IfErr, IsOkUnless, length};
+ghost use Rattle.std.specs.Prelude.{◌≡◌, ◌≢◌, ◌-◌, ◌^◌, IfOk, IfErr, IsOkUnless, length, min};
+ghost use Rattle.vx_trees.specs.Rose.{roses_of};
+ghost use Rattle.vx_trees.specs.Walks.{levels_below};
 ghost use Rattle.vx_types.specs.Typ.{AreTypes, IsStructure};
 
 use crate::dtypes::DTypes;
@@ -18,9 +20,10 @@ pub struct StructFields {
 }
 
 impl Model for StructFields {
-    ghost use Rattle.std.specs.Prelude.{◌≡◌, length};
+    ghost use Rattle.std.specs.Prelude.{length};
     ghost use Rattle.std.proofs.Common.{arith};
     ghost use Rattle.vx_types.specs.Parts.{Fields, fields_code, fields_size};
+    ghost use Rattle.vx_types.specs.Typ.{IsStructure};
 
     ghost Value = { Fields };
 
@@ -28,7 +31,7 @@ impl Model for StructFields {
 
     ghost view = { λ a. record { names = a.names; types = a.types } };
 
-    ghost invariant = { λ a. length a.types ≡ length a.names };
+    ghost invariant = { λ a. IsStructure a.names (length a.types) };
 
     ghost size = { fields_size };
 
@@ -74,14 +77,12 @@ impl StructFields {
         Ok(StructFields { names, types })
     }
 
-    /// What is known of the fields of each structure: there are as many types as
-    /// names, the names are texts, and the types are types. Nothing runs; a caller
-    /// gets the fact.
-    pub fn hold(&self)
+    // How many levels the deepest of the types has, up to the largest number.
+    pub(crate) fn levels(&self) -> u64
+        ensures levels { result ≡ min (levels_below (roses_of self.now.types)) (2 ^ 64 - 1) }
         ensures structure { IsStructure self.now.names (length self.now.types) }
         ensures types { AreTypes self.now.types }
     {
-        self.names.hold();
-        self.types.hold();
+        self.types.levels()
     }
 }

@@ -3,7 +3,6 @@
 ghost use Rattle.std.specs.Prelude.{◌≡◌, ◌==◌, IfOk, IsOkUnless, length};
 ghost use Rattle.vx_types.specs.Content.{AreBytes};
 
-use crate::bytes::are_bytes;
 use crate::error::TypeError;
 use std::alloc::Global;
 use std::marker::Model;
@@ -17,10 +16,13 @@ pub struct TypeIds {
 
 impl Model for TypeIds {
     ghost use Rattle.std.specs.Prelude.{List, ℕ};
+    ghost use Rattle.vx_types.specs.Content.{AreBytes};
 
     ghost Value = { List ℕ };
 
     ghost view = { λ a. a.ids.items };
+
+    ghost invariant = { λ a. AreBytes a.ids.items };
 }
 
 impl TypeIds {
@@ -32,12 +34,13 @@ impl TypeIds {
     }
 
     /// A copy of these tags.
+    #[tactic(auto, using(crate::proofs::Contents::bytes_from_index))]
     pub fn copy_from(alloc: Global, ids: &[u8]) -> Result<TypeIds, TypeError>
         ensures ok { IfOk result (λ copy. copy ≡ ids.now) }
         ensures err { IsOkUnless result TypeError.OutOfMemory }
     {
-        let ids = Vec::from_slice(alloc, ids)?;
-        Ok(TypeIds { ids })
+        let copy = Vec::from_slice(alloc, ids)?;
+        Ok(TypeIds { ids: copy })
     }
 
     /// The tags.
@@ -49,7 +52,8 @@ impl TypeIds {
 
     /// How many tags there are.
     pub fn len(&self) -> usize
-        ensures { result ≡ length self.now }
+        ensures len { result ≡ length self.now }
+        ensures bytes { AreBytes self.now }
     {
         self.ids.len()
     }
@@ -67,13 +71,5 @@ impl TypeIds {
         ensures err { IsOkUnless result TypeError.OutOfMemory }
     {
         TypeIds::copy_from(alloc, self.as_slice())
-    }
-
-    /// What is known of each list of tags: they are bytes. Nothing runs; a caller
-    /// gets the fact.
-    pub fn hold(&self)
-        ensures { AreBytes self.now }
-    {
-        are_bytes(self.as_slice());
     }
 }

@@ -1,6 +1,7 @@
 //! A type within a type.
 
-ghost use Rattle.std.specs.Prelude.{◌≡◌, IfOk, IsOkUnless};
+ghost use Rattle.std.specs.Prelude.{◌≡◌, ◌-◌, ◌^◌, min, IfOk, IsOkUnless};
+ghost use Rattle.vx_trees.specs.Walks.{levels};
 ghost use Rattle.vx_types.specs.Seen.{typ};
 ghost use Rattle.vx_types.specs.Typ.{IsType};
 
@@ -10,15 +11,19 @@ use std::alloc::Global;
 use std::marker::Model;
 use std::ops::Deref;
 
-/// A type within another, as of a list's elements. Contracts see its tree.
+/// A type within another, as of a list's elements, and how many levels it has, up
+/// to the largest number. Contracts see its tree.
 #[cycle(dtype)]
 #[derive(Debug, Drop)]
 pub struct TypeRef {
     dtype: Box<DType>,
+    depth: u64,
 }
 
 impl Model for TypeRef {
+    ghost use Rattle.std.specs.Prelude.{◌≡◌, ◌-◌, ◌^◌, min};
     ghost use Rattle.std.proofs.Common.{arith};
+    ghost use Rattle.vx_trees.specs.Walks.{levels};
     ghost use Rattle.vx_types.specs.Typ.{Typ, typ_code, IsType};
     ghost use Rattle.vx_types.specs.Parts.{ref_size};
 
@@ -30,7 +35,7 @@ impl Model for TypeRef {
 
     ghost view = { λ a. typ a.dtype.value };
 
-    ghost invariant = { λ a. IsType (typ a.dtype.value) };
+    ghost invariant = { λ a. IsType (typ a.dtype.value) × (a.depth ≡ min (levels (typ a.dtype.value)) (2 ^ 64 - 1)) };
 
     ghost size = { ref_size };
 
@@ -45,16 +50,25 @@ impl TypeRef {
         ensures ok { IfOk result (λ part. part ≡ typ dtype) }
         ensures err { IsOkUnless result TypeError.OutOfMemory }
     {
-        dtype.hold();
+        let depth = dtype.levels();
         let dtype = Box::new(alloc, dtype)?;
-        Ok(TypeRef { dtype })
+        Ok(TypeRef { dtype, depth })
     }
 
     /// The type.
     pub fn get(&self) -> &DType
-        ensures { typ result.now ≡ self.now }
+        ensures same { typ result.now ≡ self.now }
+        ensures is_type { IsType self.now }
     {
         &self.dtype
+    }
+
+    // How many levels the type has, up to the largest number.
+    pub(crate) fn levels(&self) -> u64
+        ensures levels { result ≡ min (levels self.now) (2 ^ 64 - 1) }
+        ensures is_type { IsType self.now }
+    {
+        self.depth
     }
 
     /// An equal type.
@@ -64,14 +78,6 @@ impl TypeRef {
         ensures err { IsOkUnless result TypeError.OutOfMemory }
     {
         TypeRef::new(alloc, self.get().clone(alloc)?)
-    }
-
-    /// What is known of each type within another: it is a type. Nothing runs; a
-    /// caller gets the fact.
-    pub fn hold(&self)
-        ensures { IsType self.now }
-    {
-        let _ = &self.dtype;
     }
 }
 

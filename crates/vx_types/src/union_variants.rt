@@ -1,6 +1,8 @@
 //! The members of a union.
 
-ghost use Rattle.std.specs.Prelude.{◌≡◌, ◌≢◌, ◌==◌, ◌⊎◌, IfOk, IfErr, IsOkUnless, MatchBool, length, position};
+ghost use Rattle.std.specs.Prelude.{◌≡◌, ◌≢◌, ◌==◌, ◌⊎◌, ◌-◌, ◌^◌, IfOk, IfErr, IsOkUnless, MatchBool, length, min, position};
+ghost use Rattle.vx_trees.specs.Rose.{roses_of};
+ghost use Rattle.vx_trees.specs.Walks.{levels_below};
 ghost use Rattle.vx_types.specs.Content.{AreDistinct};
 ghost use Rattle.vx_types.specs.Typ.{AreTypes, IsUnion};
 ghost use Rattle.vx_types.specs.Refused.{IsRefusedUnion};
@@ -23,10 +25,10 @@ pub struct UnionVariants {
 }
 
 impl Model for UnionVariants {
-    ghost use Rattle.std.specs.Prelude.{◌≡◌, length};
+    ghost use Rattle.std.specs.Prelude.{length};
     ghost use Rattle.std.proofs.Common.{arith};
-    ghost use Rattle.vx_types.specs.Content.{AreDistinct};
     ghost use Rattle.vx_types.specs.Parts.{Members, members_code, members_size};
+    ghost use Rattle.vx_types.specs.Typ.{IsUnion};
 
     ghost Value = { Members };
 
@@ -34,7 +36,7 @@ impl Model for UnionVariants {
 
     ghost view = { λ a. record { names = a.names; types = a.types; ids = a.ids } };
 
-    ghost invariant = { λ a. (length a.types ≡ length a.names) × (length a.ids ≡ length a.names) × AreDistinct a.ids };
+    ghost invariant = { λ a. IsUnion a.names a.ids (length a.types) };
 
     ghost size = { members_size };
 
@@ -87,7 +89,8 @@ impl UnionVariants {
 
     /// Which member has this tag, counted from 0; None if none has.
     pub fn tag_to_child_index(&self, tag: u8) -> Option<usize>
-        ensures { result ≡ position (λ id. id == tag) self.now.ids }
+        ensures index { result ≡ position (λ id. id == tag) self.now.ids }
+        ensures union { IsUnion self.now.names self.now.ids (length self.now.types) }
     {
         self.ids.as_slice().iter().position(|id| *id == tag)
     }
@@ -104,16 +107,13 @@ impl UnionVariants {
         Ok(UnionVariants { names, types, ids })
     }
 
-    /// What is known of the members of each union: there are as many types and
-    /// tags as names, the names are texts, the tags are bytes and distinct, and
-    /// the types are types. Nothing runs; a caller gets the fact.
-    pub fn hold(&self)
+    // How many levels the deepest of the types has, up to the largest number.
+    pub(crate) fn levels(&self) -> u64
+        ensures levels { result ≡ min (levels_below (roses_of self.now.types)) (2 ^ 64 - 1) }
         ensures union { IsUnion self.now.names self.now.ids (length self.now.types) }
         ensures types { AreTypes self.now.types }
     {
-        self.names.hold();
-        self.types.hold();
-        self.ids.hold();
+        self.types.levels()
     }
 }
 

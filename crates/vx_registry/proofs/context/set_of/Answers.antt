@@ -10,7 +10,7 @@ loop-id-preserved c =
     let x : List ℕ = c.id-item.result in
     let at : List ℕ = get_or items c.loop-id.id-index x in
     c.in_ok-insert.ensures.keys ∙ insert_key-with_id c.in_ok-named.field-0 c.loop-id.set.keys
-    ∙ ap (λ id. with_id id c.loop-id.set.keys) (c.in_ok-named.ensures.ok ∙ (c.as_str.ensures ∙ c.id-item.is))
+    ∙ ap (λ id. with_id id c.loop-id.set.keys) (c.in_ok-named.ensures.ok ∙ (c.as_str.ensures.same ∙ c.id-item.is))
     ∙ ap (λ ids. with_id at ids) c.loop-id.invariant
     ∙ sym (with_ids-snoc [] (take c.loop-id.id-index items) at)
     ∙ sym (ap (λ ids. with_ids [] ids) (take_more items c.loop-id.id-index x c.loop-id-test.true))

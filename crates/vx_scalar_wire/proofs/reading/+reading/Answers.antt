@@ -114,14 +114,14 @@ pub parts_of-returns-in-List : goal.parts_of-returns-in-List
 parts_of-returns-in-List g t c = record {
   read = λ s k.
       tuple_parts s c.each_value.result (2 * c.args.left + 2) (value_view c.args.slots.now) (typ c.get.result.now) c.in-List.element (typ c.args.dtype.now) (node (K.list c.in-List.field-1) (more c.in-List.element end))
-      (ap typ c.in-List.is) c.get.ensures (λ Each By q. q) (λ i. refl) (c.each_value.ensures.read s k);
+      (ap typ c.in-List.is) c.get.ensures.same (λ Each By q. q) (λ i. refl) (c.each_value.ensures.read s k);
 }
 
 pub parts_of-returns-in-FixedSizeList : goal.parts_of-returns-in-FixedSizeList
 parts_of-returns-in-FixedSizeList g t c = record {
   read = λ s k.
       tuple_parts s c.each_value-in-FixedSizeList.result (2 * c.args.left + 2) (value_view c.args.slots.now) (typ c.get-in-FixedSizeList.result.now) c.in-FixedSizeList.element (typ c.args.dtype.now)
-      (node (K.fixed_size_list c.in-FixedSizeList.field-1 c.in-FixedSizeList.field-2) (more c.in-FixedSizeList.element end)) (ap typ c.in-FixedSizeList.is) c.get-in-FixedSizeList.ensures (λ Each By q. q) (λ i. refl)
+      (node (K.fixed_size_list c.in-FixedSizeList.field-1 c.in-FixedSizeList.field-2) (more c.in-FixedSizeList.element end)) (ap typ c.in-FixedSizeList.is) c.get-in-FixedSizeList.ensures.same (λ Each By q. q) (λ i. refl)
       (c.each_value-in-FixedSizeList.ensures.read s k);
 }
 

@@ -29,7 +29,7 @@ returns-after-as_slice-lt1-clause-writes g t c =
     λ p ok.
     let id = c.in_ok-write_str-in-Call.ensures.writes p refl in
     let bracket = c.in_ok-write_str-in-Call-2.ensures.writes id.plain refl in
-    let same = c.as_str.ensures ∙ ap (λ f. f.id) c.function.ensures in
+    let same = c.as_str.ensures.same ∙ ap (λ f. f.id) c.function.ensures in
     let seen = c.as_slice.ensures ∙ c.children.ensures in
     elim c.if-as_slice-lt1.branch [
       | in_default w ↦

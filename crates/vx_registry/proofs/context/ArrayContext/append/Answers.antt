@@ -14,7 +14,7 @@ returns-in-None-clause-refused c =
 grown_ids : (c : In_ok-insert) → c.insert.new.self.keys ≡ with_id c.args.id.now c.args.self.now.ids
 grown_ids c =
     c.in_ok-insert.ensures.keys ∙ insert_key-with_id c.in_ok-id.id c.self.inside.ids.keys
-    ∙ ap (λ id. with_id id c.self.inside.ids.keys) (c.in_ok-id.ensures.ok ∙ c.as_str.ensures) ∙ ap (λ z. with_id c.args.id.now z.ids) c.self.view_is
+    ∙ ap (λ id. with_id id c.self.inside.ids.keys) (c.in_ok-id.ensures.ok ∙ c.as_str.ensures.same) ∙ ap (λ z. with_id c.args.id.now z.ids) c.self.view_is
 
 pub returns-clause-interned : goal.returns-clause-interned
 returns-clause-interned c =

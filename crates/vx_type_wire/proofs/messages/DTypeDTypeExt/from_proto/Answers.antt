@@ -40,7 +40,7 @@ returns-in_err-judge-clause-cause g c =
     let m = c.args.message.now in
     let t = typ c.in_ok-found.found in
     at_error (λ x. IsUnreadValue x s m) c.from_residual-in_err-judge.result p.0 e p.1 p.2
-    (unknown_value e s m t (shows_message m (value_view c.in-Some.slots.now) t c.hold.ensures c.in-Some.ensures c.in_ok-found.ensures c.hold-2.ensures) c.in_err-judge.ensures.cause)
+    (unknown_value e s m t (shows_message m (value_view c.in-Some.slots.now) t c.hold.ensures c.in-Some.ensures c.in_ok-found.ensures c.in_err-judge.ensures.is_type) c.in_err-judge.ensures.cause)
 
 pub returns-in_err-judge-clause-complete : goal.returns-in_err-judge-clause-complete
 returns-in_err-judge-clause-complete g c = λ t le r.
@@ -53,7 +53,7 @@ pub returns-clause-read : goal.returns-clause-read
 returns-clause-read g c =
     let d = typ c.in_ok-found.found in
     record {
-      shows = shows_message c.args.message.now (value_view c.in-Some.slots.now) d c.hold.ensures c.in-Some.ensures c.in_ok-found.ensures c.hold-2.ensures;
+      shows = shows_message c.args.message.now (value_view c.in-Some.slots.now) d c.hold.ensures c.in-Some.ensures c.in_ok-found.ensures c.in_ok-judge.ensures.is_type;
       known = c.in_ok-judge.ensures.known;
     }
 

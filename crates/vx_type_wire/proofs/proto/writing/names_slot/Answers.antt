@@ -9,7 +9,7 @@ loop-name-preserved c =
     let names = c.as_slice-name-items.result.now in
     ap (λ z. entries_view z ++ members octets c.args.number (drop (c.loop-name.name-index + 1) names)) c.in_ok-push.ensures.items
     ∙ member_written octets c.args.number c.loop-name.entries.items c.in_ok-copied.field-0 names c.loop-name.name-index c.name-item.result c.loop-name-test.true c.name-item.is
-    (c.in_ok-copied.ensures.same ∙ ap octets (c.as_bytes.ensures.value ∙ c.as_str-text.ensures)) c.loop-name.invariant
+    (c.in_ok-copied.ensures.same ∙ ap octets (c.as_bytes.ensures.value ∙ c.as_str-text.ensures.same)) c.loop-name.invariant
 
 pub returns-clause-same : goal.returns-clause-same
 returns-clause-same c =
