@@ -49,8 +49,8 @@ fn is_there(array: &Array, index: usize) -> Option<bool> {
     array.is_valid(index)
 }
 
-// The value of a row, for so many cells.
-fn value_at(
+/// The value of a row, for so many cells.
+pub(crate) fn value_at(
     alloc: Global,
     array: &Array,
     index: usize,

@@ -8,8 +8,13 @@ use vx_arrays::{
 use vx_buffer::Alignment;
 use vx_types::{Nullability, PType, PValue};
 
-// Flags that are never null.
-fn flags(alloc: Global, bytes: &[u8], offset: usize, len: usize) -> Result<Array, ArrayError> {
+/// Flags that are never null.
+pub(crate) fn flags(
+    alloc: Global,
+    bytes: &[u8],
+    offset: usize,
+    len: usize,
+) -> Result<Array, ArrayError> {
     let bits = buffer_of(alloc, bytes, Alignment::none())?;
     BoolArray::try_new(alloc, bits, offset, len, Nullability::NonNullable, None)
 }

@@ -1,6 +1,7 @@
 //! Tests of the names of slots and of buffers.
 
 use crate::arrays::buffer_of;
+use crate::varbins::one_text;
 use std::alloc::Global;
 use vx_arrays::{
     Array, ArrayError, BoolArray, DecimalArray, NullArray, PrimitiveArray, validity_all_invalid,
@@ -10,15 +11,20 @@ use vx_types::{DecimalDType, DecimalType, Nullability, PType};
 
 const MAYBE: Nullability = Nullability::Nullable;
 
-// Whether a node's one slot is that of a validity.
-fn has_slot(alloc: Global, array: &Array) -> bool {
-    if array.nslots() != 1 {
+// Whether a node's slot of this number has this name.
+fn is_slot(alloc: Global, array: &Array, index: usize, slot: &str) -> bool {
+    if index >= array.nslots() {
         return false;
     }
-    match array.slot_name(alloc, 0) {
-        Ok(slot) => slot.as_str() == "validity",
+    match array.slot_name(alloc, index) {
+        Ok(name) => name.as_str() == slot,
         Err(_) => false,
     }
+}
+
+// Whether a node's one slot is that of a validity.
+fn has_slot(alloc: Global, array: &Array) -> bool {
+    array.nslots() == 1 && is_slot(alloc, array, 0, "validity")
 }
 
 // Whether a node's buffer has this name.
@@ -73,6 +79,19 @@ fn is_made(alloc: Global, made: Result<Array, ArrayError>, buffer: &str) -> bool
     }
 }
 
+// Whether an array's slots are those of offsets and of a validity.
+fn has_offsets(alloc: Global, array: &Array) -> bool {
+    array.nslots() == 2
+        && is_slot(alloc, array, 0, "offsets")
+        && is_slot(alloc, array, 1, "validity")
+}
+
+// Whether texts by offsets have those slots, and a buffer of bytes.
+fn are_texts_named(alloc: Global) -> Result<bool, ArrayError> {
+    let array = one_text(alloc)?;
+    Ok(has_offsets(alloc, &array) && is_buffer(alloc, &array, "bytes") && is_none(alloc, &array, 1))
+}
+
 // Whether nulls have no slot and no buffer.
 fn is_bare(alloc: Global) -> Result<bool, ArrayError> {
     let array = NullArray::new(alloc, 1)?;
@@ -85,5 +104,6 @@ fn slots_and_buffers_have_names(rt: HostRuntime) {
     assert!(rt; is_made(alloc, flags(alloc), "bits"));
     assert!(rt; is_made(alloc, numbers(alloc), "values"));
     assert!(rt; is_made(alloc, decimals(alloc), "values"));
+    assert!(rt; are_texts_named(alloc) == Ok(true));
     assert!(rt; is_bare(alloc) == Ok(true));
 }

@@ -1,279 +1,316 @@
 //! Tests of texts and bytes by offsets: their rows, which arrays are made, the cells that a row takes, and their nodes on
 //! the wire.
 
-use crate::arrays::buffer_of;
-use crate::encodings::head_of;
+use crate::arrays::{buffer_of, numbers, value_at};
+use crate::bools::flags;
+use crate::encodings::{head_of, plan_refusal};
 use std::alloc::Global;
-use std::test::Fail;
-use vx_arrays::{Array, ArrayError, BoolArray, PrimitiveArray, RowValue, VarBinArray};
+use vx_arrays::{Array, ArrayError, RowValue, VarBinArray};
 use vx_buffer::Alignment;
-use vx_encodings::{Encoding, EncodingError, VarBinMetadata, metadata, plan};
-use vx_proto::Message;
-use vx_type_wire::ExtSession;
+use vx_encodings::{Encoding, EncodingError, VarBinMetadata, metadata};
+use vx_proto::{Message, ProtoError};
 use vx_types::{DType, Nullability, PType};
 
-// As many numbers of a kind, never null, as their bytes hold.
-fn offsets_of(alloc: Global, kind: PType, bytes: &[u8]) -> Result<Array, ArrayError> {
-    let word = match Alignment::from_exponent(3) {
-        Some(word) => word,
-        None => Alignment::none(),
-    };
-    let values = buffer_of(alloc, bytes, word)?;
-    let len = bytes.len() / kind.byte_width();
-    PrimitiveArray::try_new(alloc, values, kind, Nullability::NonNullable, len, None)
+// What the rows are.
+#[derive(Clone, Copy, Debug)]
+enum Rows {
+    Texts,
+    TextsOrNull,
+    Bytes,
+    BytesOrNull,
+    Nulls,
 }
 
-// The validity of at most eight rows by their bits, where there are some.
-fn flags_of(alloc: Global, bits: Option<u8>, len: usize) -> Result<Option<Array>, ArrayError> {
-    match bits {
-        None => Ok(None),
-        Some(bits) => {
-            let bits = buffer_of(alloc, &[bits], Alignment::none())?;
-            let never = Nullability::NonNullable;
-            Ok(Some(BoolArray::try_new(alloc, bits, 0, len, never, None)?))
-        }
+fn dtype_of(rows: Rows) -> DType {
+    match rows {
+        Rows::Texts => DType::Utf8(Nullability::NonNullable),
+        Rows::TextsOrNull => DType::Utf8(Nullability::Nullable),
+        Rows::Bytes => DType::Binary(Nullability::NonNullable),
+        Rows::BytesOrNull => DType::Binary(Nullability::Nullable),
+        Rows::Nulls => DType::Null,
     }
 }
 
-// Rows of three offsets more than there are bits of a validity, where they are made.
+// Rows of these offsets, bytes and validity.
+fn made_with(
+    alloc: Global,
+    rows: Rows,
+    offsets: Array,
+    bytes: &[u8],
+    validity: Option<Array>,
+) -> Result<Array, ArrayError> {
+    let bytes = buffer_of(alloc, bytes, Alignment::none())?;
+    VarBinArray::try_new(alloc, dtype_of(rows), offsets, bytes, validity)
+}
+
+// Rows of as many offsets of a kind as their bytes hold.
 fn made(
     alloc: Global,
-    dtype: DType,
-    offsets: (PType, &[u8]),
+    rows: Rows,
+    kind: PType,
+    offsets: &[u8],
+    bytes: &[u8],
+) -> Result<Array, ArrayError> {
+    let offsets = numbers(alloc, offsets, kind, offsets.len() / kind.byte_width())?;
+    made_with(alloc, rows, offsets, bytes, None)
+}
+
+// Whether a value is a text or bytes, of these bytes.
+fn is_of(value: &RowValue, bytes: &[u8]) -> bool {
+    match value {
+        RowValue::Utf8(text) => text.as_str().as_bytes() == bytes,
+        RowValue::Binary(row) => row.as_slice() == bytes,
+        _ => false,
+    }
+}
+
+// Whether a row has these bytes.
+fn is_row(alloc: Global, array: &Array, index: usize, bytes: &[u8]) -> bool {
+    match value_at(alloc, array, index, 10) {
+        Ok(value) => is_of(&value, bytes),
+        Err(_) => false,
+    }
+}
+
+// Whether the rows are two letters, nothing and one letter.
+fn are_parted(alloc: Global, array: &Array) -> bool {
+    array.len() == 3
+        && is_row(alloc, array, 0, b"ab")
+        && is_row(alloc, array, 1, b"")
+        && is_row(alloc, array, 2, b"c")
+}
+
+const ENDS: [u8; 16] = [0, 0, 0, 0, 2, 0, 0, 0, 2, 0, 0, 0, 3, 0, 0, 0];
+
+// Whether three letters are parted into such rows.
+fn are_rows(alloc: Global, rows: Rows) -> Result<bool, ArrayError> {
+    let array = made(alloc, rows, PType::I32, &ENDS, b"abc")?;
+    Ok(are_parted(alloc, &array))
+}
+
+#[test]
+fn rows_are_parted_by_offsets(rt: HostRuntime) {
+    assert!(rt; are_rows(rt.alloc(), Rows::Texts) == Ok(true));
+    assert!(rt; are_rows(rt.alloc(), Rows::Bytes) == Ok(true));
+}
+
+// Why three bytes are not parted by offsets of a kind, if they are not.
+fn refusal(alloc: Global, kind: PType, offsets: &[u8]) -> Option<ArrayError> {
+    made(alloc, Rows::Bytes, kind, offsets, b"abc").err()
+}
+
+const BROKEN: Option<ArrayError> = Some(ArrayError::BadContent);
+
+const UNFIT: Option<ArrayError> = Some(ArrayError::BadShape);
+
+const OFFSETS: [(PType, &[u8], Option<ArrayError>); 15] = [
+    (PType::U8, &[0, 2, 3], None),
+    (PType::I8, &[0, 2, 3], None),
+    (PType::U16, &[0, 0, 2, 0, 3, 0], None),
+    (PType::I16, &[1, 0, 2, 0, 2, 0], None),
+    (PType::U32, &[0, 0, 0, 0, 3, 0, 0, 0], None),
+    (PType::U64, &[3, 0, 0, 0, 0, 0, 0, 0], None),
+    (PType::I64, &[0, 0, 0, 0, 0, 0, 0, 0], None),
+    (PType::U8, &[0, 2, 4], BROKEN),
+    (PType::U8, &[2, 1, 3], BROKEN),
+    (PType::U8, &[0, 3, 2], BROKEN),
+    (PType::I8, &[0xff, 2, 3], BROKEN),
+    (PType::I16, &[0, 0, 0, 0x80], BROKEN),
+    (
+        PType::U64,
+        &[255, 255, 255, 255, 255, 255, 255, 255],
+        BROKEN,
+    ),
+    (PType::U8, &[], UNFIT),
+    (PType::F16, &[0, 0, 0, 0], UNFIT),
+];
+
+#[test]
+fn offsets_never_fall_and_end_within_the_bytes(rt: HostRuntime) {
+    for (kind, offsets, error) in &OFFSETS {
+        assert!(rt;
+            refusal(rt.alloc(), *kind, offsets) == *error,
+            "{kind:?} {offsets:?}"
+        );
+    }
+}
+
+// Two rows whose validity has these bits.
+fn with_bits(
+    alloc: Global,
+    rows: Rows,
+    offsets: Array,
+    bytes: &[u8],
+    bits: u8,
+) -> Result<Array, ArrayError> {
+    let validity = flags(alloc, &[bits], 0, 2)?;
+    made_with(alloc, rows, offsets, bytes, Some(validity))
+}
+
+// Two rows of a byte each, with a validity where there are bits of it.
+fn two_rows(
+    alloc: Global,
+    rows: Rows,
     bytes: &[u8],
     bits: Option<u8>,
 ) -> Result<Array, ArrayError> {
-    let offsets = offsets_of(alloc, offsets.0, offsets.1)?;
-    let rows = offsets.len().saturating_sub(1);
-    let validity = flags_of(alloc, bits, rows)?;
-    let bytes = buffer_of(alloc, bytes, Alignment::none())?;
-    VarBinArray::try_new(alloc, dtype, offsets, bytes, validity)
+    let offsets = numbers(alloc, &[0, 1, 2], PType::U8, 3)?;
+    match bits {
+        None => made_with(alloc, rows, offsets, bytes, None),
+        Some(bits) => with_bits(alloc, rows, offsets, bytes, bits),
+    }
 }
 
-// A row's value as the text or the bytes that it is, where it is one of them.
-fn bytes_at(
+// Why they are not made, if they are not.
+fn content_refusal(
     alloc: Global,
-    array: &Array,
-    index: usize,
-    budget: u64,
-) -> Result<Option<Vec<u8>>, ArrayError> {
-    if index >= array.len() {
-        return Ok(None);
-    }
-    match array.value_at(alloc, index, budget)? {
-        RowValue::Utf8(text) => Ok(Some(Vec::from_slice(alloc, text.as_str().as_bytes())?)),
-        RowValue::Binary(bytes) => Ok(Some(bytes.into_vec())),
-        _ => Ok(None),
-    }
-}
-
-// Whether a row of the worked texts is this.
-fn is_row(alloc: Global, dtype: DType, index: usize, row: &[u8]) -> Result<bool, ArrayError> {
-    let offsets = [0, 0, 0, 0, 2, 0, 0, 0, 2, 0, 0, 0, 3, 0, 0, 0];
-    let array = made(alloc, dtype, (PType::I32, &offsets), b"abc", None)?;
-    match bytes_at(alloc, &array, index, 10)? {
-        Some(bytes) => Ok(array.len() == 3 && bytes.as_slice() == row),
-        None => Ok(false),
-    }
-}
-
-#[test]
-fn rows_are_parted_by_offsets(rt: HostRuntime) -> Result<(), Fail> {
-    let alloc = rt.alloc();
-    let never = Nullability::NonNullable;
-    for (index, row) in [(0, b"ab".as_slice()), (1, b""), (2, b"c")] {
-        assert!(rt; is_row(alloc, DType::Utf8(never), index, row)?, "{index}");
-        assert!(rt; is_row(alloc, DType::Binary(never), index, row)?, "{index}");
-    }
-    Ok(())
-}
-
-// Why rows of these parts are not made, if they are not.
-fn refusal(
-    alloc: Global,
-    dtype: DType,
-    offsets: (PType, &[u8]),
+    rows: Rows,
     bytes: &[u8],
     bits: Option<u8>,
 ) -> Option<ArrayError> {
-    match made(alloc, dtype, offsets, bytes, bits) {
-        Ok(_) => None,
-        Err(e) => Some(e),
-    }
+    two_rows(alloc, rows, bytes, bits).err()
 }
+
+const CONTENT: [(Rows, &[u8], Option<u8>, Option<ArrayError>); 8] = [
+    (Rows::TextsOrNull, b"a\xff", None, BROKEN),
+    (Rows::TextsOrNull, b"a\xff", Some(1), None),
+    (Rows::TextsOrNull, b"a\xff", Some(2), BROKEN),
+    (Rows::TextsOrNull, b"\xc3\xa4", Some(3), BROKEN),
+    (Rows::TextsOrNull, b"\xc3\xa4", Some(0), None),
+    (Rows::BytesOrNull, b"a\xff", Some(3), None),
+    (Rows::Texts, b"ab", Some(3), UNFIT),
+    (Rows::Nulls, b"ab", None, UNFIT),
+];
 
 #[test]
-fn offsets_never_fall_and_end_within_the_bytes(rt: HostRuntime) -> Result<(), Fail> {
-    let alloc = rt.alloc();
-    for (kind, offsets, error) in [
-        (PType::U8, [0, 2, 3].as_slice(), None),
-        (PType::I8, &[0, 2, 3], None),
-        (PType::U16, &[0, 0, 2, 0, 3, 0], None),
-        (PType::I16, &[1, 0, 2, 0, 2, 0], None),
-        (PType::U32, &[0, 0, 0, 0, 3, 0, 0, 0], None),
-        (PType::U64, &[3, 0, 0, 0, 0, 0, 0, 0], None),
-        (PType::I64, &[0, 0, 0, 0, 0, 0, 0, 0], None),
-        (PType::U8, &[0, 2, 4], Some(ArrayError::BadContent)),
-        (PType::U8, &[2, 1, 3], Some(ArrayError::BadContent)),
-        (PType::U8, &[0, 3, 2], Some(ArrayError::BadContent)),
-        (PType::I8, &[0xff, 2, 3], Some(ArrayError::BadContent)),
-        (PType::I16, &[0, 0, 0, 0x80], Some(ArrayError::BadContent)),
-        (PType::U64, &[0xff; 8], Some(ArrayError::BadContent)),
-        (PType::U8, &[], Some(ArrayError::BadShape)),
-        (PType::F16, &[0, 0, 0, 0], Some(ArrayError::BadShape)),
-    ] {
-        let bytes = DType::Binary(Nullability::NonNullable);
-        let made = refusal(alloc, bytes, (kind, offsets), b"abc", None);
-        assert!(rt; made == error, "{kind:?} {offsets:?}");
+fn texts_are_judged_where_rows_are_there(rt: HostRuntime) {
+    for (rows, bytes, bits, error) in &CONTENT {
+        assert!(rt;
+            content_refusal(rt.alloc(), *rows, bytes, *bits) == *error,
+            "{rows:?} {bits:?}"
+        );
     }
-    Ok(())
 }
 
-#[test]
-fn texts_are_judged_where_rows_are_there(rt: HostRuntime) -> Result<(), Fail> {
-    let alloc = rt.alloc();
-    let maybe = Nullability::Nullable;
-    let broken = Some(ArrayError::BadContent);
-    for (dtype, bytes, bits, error) in [
-        (DType::Utf8(maybe), b"a\xff".as_slice(), None, broken),
-        (DType::Utf8(maybe), b"a\xff", Some(1), None),
-        (DType::Utf8(maybe), b"a\xff", Some(2), broken),
-        (DType::Utf8(maybe), b"\xc3\xa4", Some(3), broken),
-        (DType::Utf8(maybe), b"\xc3\xa4", Some(0), None),
-        (DType::Binary(maybe), b"a\xff", Some(3), None),
-        (
-            DType::Utf8(Nullability::NonNullable),
-            b"ab",
-            Some(3),
-            Some(ArrayError::BadShape),
-        ),
-        (DType::Null, b"ab", None, Some(ArrayError::BadShape)),
-    ] {
-        let made = refusal(alloc, dtype, (PType::U8, &[0, 1, 2]), bytes, bits);
-        assert!(rt; made == error, "{bytes:?} {bits:?}");
-    }
-    Ok(())
-}
-
-// Why a row of so many bytes is not given for so many cells, if it is not.
-fn too_large(alloc: Global, len: u16, budget: u64) -> Result<Option<ArrayError>, Fail> {
+// One row of so many bytes.
+fn one_row(alloc: Global, len: u16) -> Result<Array, ArrayError> {
     let bytes = vec![in alloc; 7; len as usize]?;
     let ends = [0, 0, (len % 256) as u8, (len / 256) as u8];
-    let dtype = DType::Binary(Nullability::NonNullable);
-    let array = made(alloc, dtype, (PType::U16, &ends), bytes.as_slice(), None)?;
-    match bytes_at(alloc, &array, 0, budget) {
-        Ok(_) => Ok(None),
-        Err(e) => Ok(Some(e)),
-    }
+    made(alloc, Rows::Bytes, PType::U16, &ends, bytes.as_slice())
 }
+
+// Why it is not given for so many cells, if it is not.
+fn row_refusal(alloc: Global, len: u16, budget: u64) -> Result<Option<ArrayError>, ArrayError> {
+    let array = one_row(alloc, len)?;
+    Ok(value_at(alloc, &array, 0, budget).err())
+}
+
+const TOO_LARGE: Option<ArrayError> = Some(ArrayError::ValueTooLarge);
+
+const CELLS: [(u16, u64, Option<ArrayError>); 5] = [
+    (0, 0, TOO_LARGE),
+    (0, 1, None),
+    (9_999, 10_000, None),
+    (10_000, 10_000, TOO_LARGE),
+    (10_000, 10_001, None),
+];
 
 #[test]
-fn a_row_takes_a_cell_for_each_byte_and_one(rt: HostRuntime) -> Result<(), Fail> {
-    for (len, budget, error) in [
-        (0, 0, Some(ArrayError::ValueTooLarge)),
-        (0, 1, None),
-        (9_999, 10_000, None),
-        (10_000, 10_000, Some(ArrayError::ValueTooLarge)),
-        (10_000, 10_001, None),
-    ] {
-        assert!(rt;
-            too_large(rt.alloc(), len, budget)? == error,
-            "{len} {budget}"
-        );
+fn a_row_takes_a_cell_for_each_byte_and_one(rt: HostRuntime) {
+    for (len, budget, error) in &CELLS {
+        let refused = row_refusal(rt.alloc(), *len, *budget);
+        assert!(rt; refused == Ok(*error), "{len} {budget}");
     }
-    Ok(())
 }
 
-// The kind that is read of what is written of a kind, where that is these bytes.
-fn kind_again(alloc: Global, kind: PType, bytes: &[u8]) -> Result<Option<PType>, Fail> {
-    let written = VarBinMetadata {
+// The bytes of the metadata of a kind of offsets.
+fn kind_bytes(alloc: Global, kind: PType) -> Result<vx_proto::Blob, ProtoError> {
+    VarBinMetadata {
         offsets_ptype: kind,
     }
-    .encode_to_vec(alloc)?;
-    if written.as_slice() != bytes {
-        return Ok(None);
-    }
-    Ok(Some(VarBinMetadata::decode(alloc, written.as_slice())?.offsets_ptype))
+    .encode_to_vec(alloc)
 }
 
+// The kind that is read of bytes.
+fn kind_of(alloc: Global, bytes: &[u8]) -> Result<PType, ProtoError> {
+    let read = VarBinMetadata::decode(alloc, bytes)?;
+    Ok(read.offsets_ptype)
+}
+
+// Whether a kind is written as these bytes, and read of them.
+fn is_kind(alloc: Global, kind: PType, bytes: &[u8]) -> bool {
+    match kind_bytes(alloc, kind) {
+        Ok(written) => written.as_slice() == bytes && kind_of(alloc, bytes) == Ok(kind),
+        Err(_) => false,
+    }
+}
+
+const KINDS: [(PType, &[u8]); 4] = [
+    (PType::U8, &[]),
+    (PType::U16, &[8, 1]),
+    (PType::I32, &[8, 6]),
+    (PType::F64, &[8, 10]),
+];
+
 #[test]
-fn a_kind_of_offsets_is_one_code(rt: HostRuntime) -> Result<(), Fail> {
+fn a_kind_of_offsets_is_one_code(rt: HostRuntime) {
     let default = VarBinMetadata::default(rt.alloc());
     assert!(rt; default.offsets_ptype == PType::U8);
-    for (kind, bytes) in [
-        (PType::U8, [].as_slice()),
-        (PType::U16, &[8, 1]),
-        (PType::I32, &[8, 6]),
-        (PType::F64, &[8, 10]),
-    ] {
-        assert!(rt;
-            kind_again(rt.alloc(), kind, bytes)? == Some(kind),
-            "{kind:?}"
-        );
+    for (kind, bytes) in &KINDS {
+        assert!(rt; is_kind(rt.alloc(), *kind, bytes), "{kind:?}");
     }
-    Ok(())
 }
 
 // Why two texts of this metadata and so many children are not planned, if they are not.
-fn plan_refusal(
+fn texts_refusal(
     alloc: Global,
-    bytes: &[u8],
+    metadata: &[u8],
     nchildren: usize,
-) -> Result<Option<EncodingError>, Fail> {
-    let head = head_of(
-        alloc,
-        DType::Utf8(Nullability::NonNullable),
-        2,
-        bytes,
-        nchildren,
-    )?;
-    Ok(plan(alloc, Encoding::VarBin, &head, &ExtSession::new(alloc)).err())
+) -> Result<Option<EncodingError>, EncodingError> {
+    let head = head_of(alloc, dtype_of(Rows::Texts), 2, metadata, nchildren)?;
+    Ok(plan_refusal(alloc, Encoding::VarBin, &head))
 }
 
+const UNREAD: Option<EncodingError> = Some(EncodingError::BadMetadata);
+
+const PLANS: [(&[u8], usize, Option<EncodingError>); 7] = [
+    (&[], 1, None),
+    (&[8, 7], 2, None),
+    (&[], 0, Some(EncodingError::BadShape)),
+    (&[], 3, Some(EncodingError::BadShape)),
+    (&[8, 9], 1, UNREAD),
+    (&[8, 11], 1, UNREAD),
+    (&[8], 1, UNREAD),
+];
+
 #[test]
-fn plans_have_offsets_and_at_most_a_validity(rt: HostRuntime) -> Result<(), Fail> {
-    for (bytes, nchildren, error) in [
-        ([].as_slice(), 1, None),
-        (&[8, 7], 2, None),
-        (&[], 0, Some(EncodingError::BadShape)),
-        (&[], 3, Some(EncodingError::BadShape)),
-        (&[8, 9], 1, Some(EncodingError::BadMetadata)),
-        (&[8, 11], 1, Some(EncodingError::BadMetadata)),
-        (&[8], 1, Some(EncodingError::BadMetadata)),
-    ] {
-        assert!(rt;
-            plan_refusal(rt.alloc(), bytes, nchildren)? == error,
-            "{bytes:?} {nchildren}"
-        );
+fn plans_have_offsets_and_at_most_a_validity(rt: HostRuntime) {
+    for (metadata, nchildren, error) in &PLANS {
+        let refused = texts_refusal(rt.alloc(), metadata, *nchildren);
+        assert!(rt; refused == Ok(*error), "{metadata:?} {nchildren}");
     }
-    Ok(())
 }
 
-#[test]
-fn nodes_keep_the_kind_of_their_offsets(rt: HostRuntime) -> Result<(), Fail> {
-    let alloc = rt.alloc();
-    let texts = DType::Utf8(Nullability::NonNullable);
-    let array = made(alloc, texts, (PType::I16, &[0, 0, 1, 0]), b"a", None)?;
-    assert!(rt; metadata(alloc, &array)?.as_slice() == [8, 5].as_slice());
-    Ok(())
+/// One text that may be null, by offsets of 16 bits.
+pub(crate) fn one_text(alloc: Global) -> Result<Array, ArrayError> {
+    made(alloc, Rows::TextsOrNull, PType::I16, &[0, 0, 1, 0], b"a")
 }
 
-#[test]
-fn slots_have_names(rt: HostRuntime) -> Result<(), Fail> {
-    let alloc = rt.alloc();
-    let texts = made(
-        alloc,
-        DType::Utf8(Nullability::Nullable),
-        (PType::U8, &[0, 1]),
-        b"a",
-        None,
-    )?;
-    assert!(rt; texts.nslots() == 2);
-    if texts.nslots() == 2 {
-        assert!(rt; texts.slot_name(alloc, 0)?.as_str() == "offsets");
-        assert!(rt; texts.slot_name(alloc, 1)?.as_str() == "validity");
+// Whether an array's metadata has these bytes.
+fn has_metadata(alloc: Global, array: &Array, bytes: &[u8]) -> bool {
+    match metadata(alloc, array) {
+        Ok(written) => written.as_slice() == bytes,
+        Err(_) => false,
     }
-    let name = texts.buffer_name(alloc, 0)?.ok_or("one buffer")?;
-    assert!(rt; name.as_str() == "bytes" && texts.buffer_name(alloc, 1)?.is_none());
-    Ok(())
+}
+
+// Whether the metadata of one text has these bytes.
+fn is_kept(alloc: Global, bytes: &[u8]) -> Result<bool, ArrayError> {
+    let array = one_text(alloc)?;
+    Ok(has_metadata(alloc, &array, bytes))
+}
+
+#[test]
+fn nodes_keep_the_kind_of_their_offsets(rt: HostRuntime) {
+    assert!(rt; is_kept(rt.alloc(), &[8, 5]) == Ok(true));
 }

@@ -1,13 +1,25 @@
 -- The root of an array's message, and which of its links are left.
-use Rattle.std.proofs.Common.{ℕ, ◌≡◌, List, [], ◌∷◌, refl, sym, ap, ◌∙◌, subst}
+use Rattle.std.proofs.Common.{ℕ, ◌≡◌, false, List, [], ◌∷◌, None, refl, sym, ap, ◌∙◌, subst}
 use Rattle.vx_flat.specs.declared.builder.piece.BlockField.TheVariants as entry
 use Rattle.vx_flat.specs.declared.builder.piece.LinkKind.TheVariants as link
-use Rattle.vx_flat.specs.Building.{Built, nothing_built, waiting, with_piece, later_links, next_link, IsNext, IsAwaited}
-use Rattle.vx_flat.specs.Pieces.{Piece, table_piece, elements_piece}
+use Rattle.vx_flat.specs.declared.schema.FieldKind.{FieldKind}
+use Rattle.vx_flat.specs.Building.{Built, Written, nothing_built, waiting, with_piece, later_links, next_link, IsNext, IsAwaited}
+use Rattle.vx_flat.specs.Pieces.{Piece, table_piece, elements_piece, entries, fields_pieces}
+use Rattle.vx_flat.specs.Schema.{Schema}
+use Rattle.vx_flat.specs.Value.{Fields}
+use Rattle.vx_flat.proofs.LawsOfBuilding.{failed-with_pieces, waits-with_pieces}
 
 -- The root links a table and a vector.
 abbrev root_piece : Piece
 root_piece = table_piece (entry.Link link.Table ∷ entry.Link link.Vector ∷ [])
+
+-- After the blocks of a table no link waits, and the builder has not failed.
+module _ (s : Schema) (ks : List FieldKind) (vs : Fields) (old new : Built) (h : Written s ks vs old new) where
+  pub then_idle : new.waits ≡ None
+  then_idle = ap (λ (b : Built). b.waits) h.blocks ∙ waits-with_pieces old (table_piece (entries ks vs)) (fields_pieces s ks vs)
+
+  pub then_works : new.failed ≡ false
+  then_works = ap (λ (b : Built). b.failed) h.blocks ∙ failed-with_pieces old (table_piece (entries ks vs)) (fields_pieces s ks vs)
 
 -- A root was written first, and the blocks of its table after it.
 module _ (old root mid now : Built) (e : old ≡ nothing_built) (w : root ≡ with_piece old root_piece) (m : mid ≡ waiting root) (l : now.left ≡ mid.left) where

@@ -1,13 +1,12 @@
-use Rattle.std.proofs.Common.{◌∙◌, ap}
+use Rattle.std.proofs.Common.{[], ap}
 use Rattle.vx_flat.specs.Building.{Built}
-use Rattle.vx_flat.proofs.LawsOfBuilding.{failed-with_pieces, waits-with_pieces}
 use Rattle.vx_types.specs.Known.{no_readers}
-use Rattle.vx_serde_tests.proofs.Roots.{vector_next, vector_awaited, none_left}
+use Rattle.vx_serde_tests.proofs.Roots.{then_idle, then_works, vector_next, vector_awaited, none_left}
 use Rattle.vx_serde_tests.proofs.array_nodes.built.Goals as goal
 
 pub link-requires-2-clause-idle : goal.link-requires-2-clause-idle
 link-requires-2-clause-idle g c = λ _.
-    ap (λ (b : Built). b.waits) (c.in_ok-try_write_flatbuffer.ensures.written no_readers).blocks ∙ waits-with_pieces c.link.new.self _ _
+    then_idle _ _ _ c.link.new.self c.try_write_flatbuffer.new.builder (c.in_ok-try_write_flatbuffer.ensures.written no_readers)
 
 pub link-requires-2-clause-next : goal.link-requires-2-clause-next
 link-requires-2-clause-next g c = λ _.
@@ -19,7 +18,7 @@ pub vector-requires-clause-takes : goal.vector-requires-clause-takes
 vector-requires-clause-takes g c = λ _.
     let waits = c.link.ensures.waits (ap (λ (b : Built). b.failed) c.in_ok-root.ensures.written) in
     let wrote = c.in_ok-try_write_flatbuffer.ensures.written no_readers in
-    let works = ap (λ (b : Built). b.failed) wrote.blocks ∙ failed-with_pieces c.link.new.self _ _ in
+    let works = then_works _ _ _ c.link.new.self c.try_write_flatbuffer.new.builder wrote in
     vector_awaited c.new-builder.result c.table.new.self c.link.new.self c.try_write_flatbuffer.new.builder c.new-builder.ensures c.in_ok-root.ensures.written waits wrote.linked
     c.link-2.new.self (c.link-2.ensures.waits works)
 
@@ -27,6 +26,6 @@ pub finish-requires-clause-linked : goal.finish-requires-clause-linked
 finish-requires-clause-linked g c = λ _.
     let waits = c.link.ensures.waits (ap (λ (b : Built). b.failed) c.in_ok-root.ensures.written) in
     let wrote = c.in_ok-try_write_flatbuffer.ensures.written no_readers in
-    let works = ap (λ (b : Built). b.failed) wrote.blocks ∙ failed-with_pieces c.link.new.self _ _ in
+    let works = then_works _ _ _ c.link.new.self c.try_write_flatbuffer.new.builder wrote in
     none_left c.new-builder.result c.table.new.self c.link.new.self c.try_write_flatbuffer.new.builder c.new-builder.ensures c.in_ok-root.ensures.written waits wrote.linked
-    c.link-2.new.self c.vector.new.self _ _ (c.link-2.ensures.waits works) c.in_ok-vector.ensures.written
+    c.link-2.new.self c.vector.new.self 8 [] (c.link-2.ensures.waits works) c.in_ok-vector.ensures.written
