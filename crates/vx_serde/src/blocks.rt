@@ -61,13 +61,13 @@ pub(crate) fn write_statistics(
 {
     match array.statistics().write_flatbuffer(alloc, builder) {
         Ok(()) => Ok(()),
-        Err(e) => Err(builder_refusal(e)),
+        Err(e) => Err(as_flat_error(e)),
     }
 }
 
 /// The refusal of a set of statistics that fit, as its builder's: besides want of memory there is no other than that
 /// the message would be too long.
-fn builder_refusal(error: ScalarWireError) -> FlatError
+fn as_flat_error(error: ScalarWireError) -> FlatError
     ensures { result ≡ builder_refusal error }
 {
     match error {

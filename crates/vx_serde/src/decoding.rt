@@ -149,12 +149,12 @@ fn statistics_in(
     };
     match StatsSet::from_flatbuffer(alloc, &table, dtype) {
         Ok(stats) => Ok(stats),
-        Err(e) => Err(stats_refusal(e)),
+        Err(e) => Err(as_wire_error(e)),
     }
 }
 
 /// Why a table of statistics is not read, as a refusal of a blob.
-fn stats_refusal(error: ScalarWireError) -> WireError
+fn as_wire_error(error: ScalarWireError) -> WireError
     ensures { result ≡ stats_refusal error }
 {
     match error {

@@ -14,6 +14,6 @@ returns-in-Ok-clause-storable c = subst (λ (x : Stats). AreStorable x) c.statis
 
 pub returns-in-Err-clause-stopped : goal.returns-in-Err-clause-stopped
 returns-in-Err-clause-stopped c =
-    rw c.builder_refusal.ensures
+    rw c.as_flat_error.ensures
     (stopped_for (label c.args.array.now).dtype c.statistics.result.now (label c.args.array.now).stats c.statistics.ensures.stats c.statistics.ensures.fits c.args.builder.now c.write_flatbuffer.new.builder c.in-Err.e
     c.in-Err.ensures.kept c.in-Err.ensures.cause c.in-Err.ensures.failed)

@@ -12,7 +12,7 @@ returns-in-Ok-clause-shown c = shown_stats (typ c.args.dtype.now) (label c.args.
 
 pub returns-in-Err-clause-cause : goal.returns-in-Err-clause-cause
 returns-in-Err-clause-cause c =
-    rw c.stats_refusal.ensures
+    rw c.as_wire_error.ensures
     (refused_stats c.in-Err.e (typ c.args.dtype.now) (label c.args.node.now.root).stats (seen c.in-Some.table) c.in-Some.ensures.some c.in-Err.ensures.complete)
 
 pub returns-in_default-clause-shown : goal.returns-in_default-clause-shown
