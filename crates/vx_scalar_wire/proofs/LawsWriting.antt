@@ -1,5 +1,5 @@
 -- A set of statistics that fit is written but for want of memory, or where the message would be too long.
-use Rattle.std.proofs.Common.{◌≡◌, ◌∙◌, ◌<◌, ◌≤◌, ◌⊎◌, ℕ, Option, Some, None, refl, subst, inl, inr, arith}
+use Rattle.std.proofs.Common.{◌≡◌, ◌∙◌, ◌≤◌, ◌⊎◌, Option, Some, None, refl, subst, inl, inr, arith}
 use Rattle.vx_flat.specs.Building.{Built}
 use Rattle.vx_proto.specs.Written.{nested}
 use Rattle.vx_trees.specs.Rose.{node, end, count}
@@ -8,17 +8,16 @@ use Rattle.vx_types.specs.Typ.{Typ}
 use Rattle.vx_types.specs.Value as V
 use Rattle.vx_scalars.specs.StatTypes.{stat_type}
 use Rattle.vx_scalars.specs.Stats.{Told, Stats, FitsTold, FitStats}
-use Rattle.vx_scalars.specs.WrittenStats.{canonical_sum, written_sum}
+use Rattle.vx_scalars.specs.WrittenStats.{written_sum}
 use Rattle.vx_scalars.proofs.LawsStats.{sum_fits, sum_null}
 use Rattle.vx_scalars.specs.declared.precision.Precision.TheVariants.{Exact, Inexact, Absent}
 use Rattle.vx_scalars.specs.declared.stat.Stat.TheVariants.{Min, Max, Sum}
 use Rattle.vx_scalar_wire.specs.ScalarMessage.{value_message}
 use Rattle.vx_scalar_wire.specs.Shallow.{IsShallow, AreShallow}
 use Rattle.vx_scalar_wire.specs.StatsUnwritten.{IsUnwrittenTold, IsUnwrittenStats}
-use Rattle.vx_scalar_wire.specs.Writing.{IsUnwritten, IsUnwrittenBytes}
+use Rattle.vx_scalar_wire.specs.Writing.{IsUnwrittenBytes}
 use Rattle.vx_scalar_wire.specs.declared.error.ScalarWireError.{ScalarWireError}
 use Rattle.vx_scalar_wire.specs.declared.error.ScalarWireError.TheVariants.{OutOfMemory, BadMessage, TooDeep, MissingKind, KindMismatch, OutOfRange, BadChild, BadScalar, BadPrecision, BadDType, MessageTooLong}
-use Rattle.vx_scalar_wire.specs.declared.error.TypeRefusal.{TypeRefusal}
 use Rattle.vx_scalar_wire.specs.declared.error.TypeRefusal.TheVariants.{WireLimit}
 use Rattle.vx_scalar_wire.proofs.StatsBack.{IsLeaf, ordered_leaf, sum_leaf, leaf_known, no_parts, no_member, no_variant}
 
@@ -49,16 +48,19 @@ value_written _ v s n u = absurd u
 told_written : (e : ScalarWireError) (o : Option Typ) (x : Told) → ((d : Typ) → o ≡ Some d → IsLeaf d) → FitsTold o x → IsUnwrittenTold e x → e ≡ OutOfMemory
 told_written e (Some d) (Exact v) l f u = value_written e v (leaf_shallow v d (l d refl) f.0) (leaf_known v d (l d refl) f.0).1 u
 told_written e (Some d) (Inexact v) l f u = value_written e v (leaf_shallow v d (l d refl) f.0) (leaf_known v d (l d refl) f.0).1 u
-told_written e o Absent l f u = absurd u
+told_written e (Some d) Absent l f u = absurd u
+told_written e None Absent l f u = absurd u
 told_written e None (Exact v) l f u = absurd f
 told_written e None (Inexact v) l f u = absurd f
 
 -- The written form of a sum fits where the sum does.
 sum_told : (o : Option Typ) (x : Told) → FitsTold o x → FitsTold o (written_sum x)
 sum_told (Some d) (Exact v) f = (sum_fits v d f.0, sum_null v ∙ f.1)
-sum_told o (Inexact v) f = tt
-sum_told o Absent f = tt
+sum_told (Some d) (Inexact v) f = tt
+sum_told (Some d) Absent f = tt
 sum_told None (Exact v) f = absurd f
+sum_told None (Inexact v) f = absurd f
+sum_told None Absent f = tt
 
 one_of_three : (e : ScalarWireError) (d : Typ) (t : Stats) → FitStats d t → IsUnwrittenTold e t.least ⊎ (IsUnwrittenTold e t.greatest ⊎ IsUnwrittenTold e (written_sum t.total)) → e ≡ OutOfMemory
 one_of_three e d t f (inl u) = told_written e (stat_type Min d) t.least (λ k h. ordered_leaf (bare d) k h) (f Min) u

@@ -104,8 +104,18 @@ number_tables (Some n) = refl
 
 stats_tables : (x : Stats) → (weight_of_field (table (stats_table x))).tables ≡ 1
 stats_tables x =
-    omega (arith, value_tables x.least, value_tables x.greatest, value_tables (written_sum x.total), number_tables (option_map flag_number (exact_flag x.is_sorted)), number_tables (option_map flag_number (exact_flag x.is_strict_sorted)),
-    number_tables (option_map flag_number (exact_flag x.is_constant)), number_tables (exact_count x.null_count), number_tables (exact_count x.uncompressed_size), number_tables (exact_count x.nan_count))
+    omega (
+      arith,
+      value_tables x.least,
+      value_tables x.greatest,
+      value_tables (written_sum x.total),
+      number_tables (option_map flag_number (exact_flag x.is_sorted)),
+      number_tables (option_map flag_number (exact_flag x.is_strict_sorted)),
+      number_tables (option_map flag_number (exact_flag x.is_constant)),
+      number_tables (exact_count x.null_count),
+      number_tables (exact_count x.uncompressed_size),
+      number_tables (exact_count x.nan_count),
+    )
 
 mutual
   -- Each node is two tables: its own, and that of its statistics.

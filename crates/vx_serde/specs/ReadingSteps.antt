@@ -13,6 +13,8 @@ use Rattle.vx_wire_tree.specs.Wire.{Wire}
 use Rattle.vx_encodings.specs.Messages.{codec}
 use Rattle.vx_encodings.specs.declared.error.EncodingError.{EncodingError}
 use Rattle.vx_encodings.specs.declared.error.EncodingError.TheVariants as encodings
+use Rattle.vx_scalar_wire.specs.declared.error.ScalarWireError.{ScalarWireError}
+use Rattle.vx_scalar_wire.specs.declared.error.ScalarWireError.TheVariants as scalars
 use Rattle.vx_serde.specs.declared.error.WireError.{WireError}
 use Rattle.vx_serde.specs.declared.error.WireError.TheVariants.{OutOfMemory, BadTable, TableLimit, OutOfBounds, BadMetadata, BadShape, BadContent, BadStats, WireLimit}
 use Rattle.vx_serde.specs.ArraySchema.{array_schema}
@@ -43,6 +45,11 @@ abbrev pub RefusesStats : WireError → Typ → Field → Type 0
 RefusesStats OutOfMemory d f = Unit {0}
 RefusesStats BadStats d f = HasNoStats codec d f
 RefusesStats _ d f = ⊥
+
+-- Why a table of statistics is not read, as a refusal of a blob: whatever is wrong with a value, it is `BadStats`.
+abbrev pub stats_refusal : ScalarWireError → WireError
+stats_refusal scalars.OutOfMemory = OutOfMemory
+stats_refusal _ = BadStats
 
 -- Why a message is not read, as a refusal of a blob.
 abbrev pub message_refusal : FlatError → WireError

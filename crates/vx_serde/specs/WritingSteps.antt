@@ -5,6 +5,10 @@ use Rattle.vx_flat.specs.Limits.{limits, IsLight}
 use Rattle.vx_flat.specs.Value.{table, elements, field, no_fields}
 use Rattle.vx_flat.specs.Weight.{weight}
 use Rattle.vx_flat.specs.IsOf.{IsOf}
+use Rattle.vx_flat.specs.declared.error.FlatError.{FlatError}
+use Rattle.vx_flat.specs.declared.error.FlatError.TheVariants as tables
+use Rattle.vx_scalar_wire.specs.declared.error.ScalarWireError.{ScalarWireError}
+use Rattle.vx_scalar_wire.specs.declared.error.ScalarWireError.TheVariants as scalars
 use Rattle.vx_trees.specs.Everywhere.{Everywhere}
 use Rattle.vx_trees.specs.Walks.{levels}
 use Rattle.vx_scalar_wire.specs.StatsSchema.{stats_schema}
@@ -54,6 +58,11 @@ AreDescriptors bytes = (ds : List Descriptor) × (bytes ≡ descriptors_bytes ds
 -- The message of a wire tree and of descriptors' bytes, where these are the identifiers.
 abbrev pub layout_of : List (List ℕ) → Wire → List ℕ → List ℕ
 layout_of ids w bytes = written_layout array_schema (field (table (node_value (numbered ids 0 w))) (field (elements bytes) no_fields))
+
+-- The refusal of a set of statistics that fit, as a builder's.
+abbrev pub builder_refusal : ScalarWireError → FlatError
+builder_refusal scalars.OutOfMemory = tables.OutOfMemory
+builder_refusal _ = tables.MessageTooLong
 
 -- ---- nodes
 

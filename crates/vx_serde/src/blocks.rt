@@ -6,6 +6,7 @@ ghost use Rattle.vx_flat.specs.Pieces.{elements_piece, default_entry, is_width};
 ghost use Rattle.vx_trees.specs.Rose.{label};
 ghost use Rattle.vx_scalar_wire.specs.StatsTable.{AreStorable, stats_pieces};
 ghost use Rattle.vx_serde.specs.Blocks.{AreWritten};
+ghost use Rattle.vx_serde.specs.WritingSteps.{builder_refusal};
 
 use std::alloc::Global;
 use vx_arrays::Array;
@@ -60,8 +61,17 @@ pub(crate) fn write_statistics(
 {
     match array.statistics().write_flatbuffer(alloc, builder) {
         Ok(()) => Ok(()),
-        Err(ScalarWireError::OutOfMemory) => Err(FlatError::OutOfMemory),
-        Err(ScalarWireError::MessageTooLong) => Err(FlatError::MessageTooLong),
-        Err(_) => unreachable!(),
+        Err(e) => Err(as_flat_error(e)),
+    }
+}
+
+/// The refusal of a set of statistics that fit, as its builder's: besides want of memory there is no other than that
+/// the message would be too long.
+fn as_flat_error(error: ScalarWireError) -> FlatError
+    ensures { result ≡ builder_refusal error }
+{
+    match error {
+        ScalarWireError::OutOfMemory => FlatError::OutOfMemory,
+        _ => FlatError::MessageTooLong,
     }
 }

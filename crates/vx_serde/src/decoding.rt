@@ -16,7 +16,7 @@ ghost use Rattle.vx_registry.specs.Meaning.{session_meaning};
 ghost use Rattle.vx_registry.specs.Session.{ArePaired};
 ghost use Rattle.vx_serde.specs.Causes.{RefusesWire};
 ghost use Rattle.vx_serde.specs.Decoding.{IsHeadOf, IsNodeOf};
-ghost use Rattle.vx_serde.specs.ReadingSteps.{RefusesBuffers, RefusesStats};
+ghost use Rattle.vx_serde.specs.ReadingSteps.{RefusesBuffers, RefusesStats, stats_refusal};
 ghost use Rattle.vx_serde.specs.Serialized.{wire_in};
 
 use crate::error::WireError;
@@ -149,8 +149,17 @@ fn statistics_in(
     };
     match StatsSet::from_flatbuffer(alloc, &table, dtype) {
         Ok(stats) => Ok(stats),
-        Err(ScalarWireError::OutOfMemory) => Err(WireError::OutOfMemory),
-        Err(_) => Err(WireError::BadStats),
+        Err(e) => Err(as_wire_error(e)),
+    }
+}
+
+/// Why a table of statistics is not read, as a refusal of a blob.
+fn as_wire_error(error: ScalarWireError) -> WireError
+    ensures { result ≡ stats_refusal error }
+{
+    match error {
+        ScalarWireError::OutOfMemory => WireError::OutOfMemory,
+        _ => WireError::BadStats,
     }
 }
 

@@ -12,7 +12,7 @@ use Rattle.vx_serde.specs.Serialized.{wire_in}
 use Rattle.vx_serde.specs.contracts.decoding.decode_node.{dyn-1-ghosts}
 use Rattle.vx_serde.proofs.DecodedNodes.{wire-child, wire-length, child-smaller, shown_at, refused_at}
 use Rattle.vx_serde.proofs.NodeTold.{told-snoc, all_told, enough, get_past, planned, caused_by_child, caused_by_buffers, caused_by_build, caused_by_stats, built_dtype, told_node}
-use Rattle.vx_serde.proofs.MessageBlocks.{if_ok as ok_from, if_err as err_from}
+use Rattle.vx_serde.proofs.MessageBlocks.{if_ok, if_err}
 use Rattle.vx_serde.proofs.decoding.+decode_node.Goals as goal
 
 pub loop-i-init : goal.loop-i-init
@@ -81,7 +81,7 @@ returns-in-Ok-build-clause-told g t c =
     let same = enough node.encoding x node.head node.children nodes w (typ c.args.dtype.now) c.args.len c.in-Ok.ensures.planned c.in-Ok.ensures.read.head (roses_of-roses_list (below w)) in
     let past : length nodes ≤ c.loop-i.i = omega (arith, wire-length c.args.ids.now c.args.node.now, c.nchildren-i-end.ensures, c.loop-i-test.false) in
     let told = all_told s nodes node.children c.loop-i.children c.loop-i.i past same c.loop-i.invariant in
-    ok_from c.tell.result _ _
+    if_ok c.tell.result _ _
     (λ u y. told_node s (registry_lawful c.args.session.now.arrays x) w (typ c.args.dtype.now) c.args.len node.encoding node.head node.children c.in-Ok-own_buffers.buffers nodes
     c.loop-i.children c.in-Ok-build.array u c.in-Ok.ensures.read c.in-Ok.ensures.planned (c.in-Ok-own_buffers.ensures.ok c.args.ids.now) (roses_of-roses_list (below w))
     told c.in-Ok-build.ensures.parts c.in-Ok-build.ensures.sound (shown_at c.args.ids.now c.args.node.now (typ c.args.dtype.now) c.in-Ok-build.array u y)) c.tell.ensures.told
@@ -91,7 +91,7 @@ returns-in-Ok-build-clause-cause g t c =
     let s = session_meaning (λ b. ((dyn-1-ghosts g.dyn-1).0.entry b.vtable).1.accepted b.value) c.args.session.now in
     let w = wire_in c.args.ids.now c.args.node.now in
     let node = c.in-Ok.planned in
-    err_from c.tell.result _ _
+    if_err c.tell.result _ _
     (λ e y. caused_by_stats s e w (typ c.args.dtype.now) c.args.len node.encoding node.head c.in-Ok.ensures.read (refused_at c.args.ids.now c.args.node.now (typ c.args.dtype.now) e y)) c.tell.ensures.cause
 
 pub returns-clause-cause : goal.returns-clause-cause
