@@ -37,7 +37,6 @@ impl<'a> AggregateParts<'a> {
 pub fn parts_of(message: &pb::AggregateFn) -> AggregateParts<'_>
     ensures { HoldsAggregate message.now result.id.now (option_map (λ s. s.now) result.metadata) }
 {
-    message.hold();
     let Some(slots) = message.slots() else {
         return AggregateParts {
             id: "",

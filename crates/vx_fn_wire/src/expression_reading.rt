@@ -134,7 +134,6 @@ pub fn expression_of(
     ensures read { IfOk result (λ e. IsMessageOf (scalars_meaning scalar_of session.now) unknown (expr e) message.now) }
     ensures cause { IfErr result (λ e. (e ≡ FnWireError.OutOfMemory) ⊎ IsUnreadExpr (scalars_meaning scalar_of session.now) unknown e message.now) }
 {
-    message.hold();
     match message.slots() {
         Some(slots) => expression_in(alloc, slots, session, unknown),
         None => node_of(alloc, "", &[], Expressions::new(alloc), session, unknown),

@@ -77,22 +77,15 @@ impl<K: MessageKind> PlainMessage<K> {
         }
     }
 
-    /// The plain value; None where each slot is at its default.
+    /// The plain value, which has the form of the kind; None where each slot is at its default.
     pub fn slots(&self) -> Option<&[Entries]>
-        ensures { MatchOption result (self.now ≡ default_value K.schema K.place) (λ v. value_view v.now ≡ self.now) }
+        ensures form { HasForm K.schema K.place self.now }
+        ensures value { MatchOption result (self.now ≡ default_value K.schema K.place) (λ v. value_view v.now ≡ self.now) }
     {
         match &self.slots {
             Some(slots) => Some(slots.as_slice()),
             None => None,
         }
-    }
-
-    /// What is known of each message of the kind: it has the form. Nothing runs; a caller gets the
-    /// fact.
-    pub fn hold(&self)
-        ensures { HasForm K.schema K.place self.now }
-    {
-        let _ = &self.slots;
     }
 }
 
@@ -132,7 +125,6 @@ impl<K: MessageKind> Message for PlainMessage<K> {
     }
 
     fn to_value(&self, alloc: Global) -> Result<Vec<Entries>, ProtoError> {
-        self.hold();
         match self.slots() {
             Some(slots) => copied_slots(alloc, slots),
             None => default_slots(alloc, K::lists(), K::place_of()),
@@ -141,7 +133,6 @@ impl<K: MessageKind> Message for PlainMessage<K> {
 
     // The slots are at hand, so they are not copied first.
     fn encode_value(&self, alloc: Global) -> Result<Blob, ProtoError> {
-        self.hold();
         match self.slots() {
             Some(slots) => encoded(alloc, K::lists(), K::place_of(), slots),
             None => {

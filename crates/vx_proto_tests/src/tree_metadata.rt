@@ -60,7 +60,6 @@ impl Message for TreeMetadata {
     fn to_value(&self, alloc: Global) -> Result<Vec<Entries>, ProtoError> {
         match &self.tree {
             Some(tree) => {
-                tree.hold();
                 let inner = tree.to_value(alloc)?;
                 let entries = one(alloc, 1, Element::Message(inner))?;
                 Ok(vec![in alloc; entries]?)

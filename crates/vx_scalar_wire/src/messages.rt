@@ -104,7 +104,6 @@ impl ScalarValueExt for ScalarValue {
         ensures complete { (v : V.Value) → nested message.now ≤ 100 → ReadsValue (ext_meaning (λ b. accepted (b.vtable, b.value)) readers.now) v (typ dtype.now) message.now
             → MatchResult result (λ x. seen x ≡ v) (λ e. e ≡ ScalarWireError.OutOfMemory) }
     {
-        message.hold();
         let _ = dtype.is_within(1);
         let Some(slots) = message.slots() else {
             return Err(ScalarWireError::MissingKind);
@@ -180,7 +179,6 @@ impl ScalarExt for Scalar {
         ensures complete { (x : Typed) → nested message.now ≤ 100 → ReadsScalar (ext_meaning (λ b. accepted (b.vtable, b.value)) readers.now) x message.now
             → MatchResult result (λ y. y ≡ x) (λ e. e ≡ ScalarWireError.OutOfMemory) }
     {
-        message.hold();
         let Some(slots) = message.slots() else {
             return Err(ScalarWireError::MissingKind);
         };

@@ -23,14 +23,14 @@ returns-in_err-found-clause-cause g c =
     let s = ext_meaning (λ b. (goal.ExtPlugin-dyn g (b.vtable, b.value)).accepted b.value) c.args.readers.now in
     let e = c.in_err-found.field-0.0 in
     at_error (λ x. IsUnreadValue x s c.args.message.now) c.from_residual.result p.0 e p.1 p.2
-    (unread_value e s c.args.message.now (value_view c.in-Some.slots.now) c.in-Some.ensures c.in_err-found.ensures)
+    (unread_value e s c.args.message.now (value_view c.in-Some.slots.now) c.in-Some.ensures.value c.in_err-found.ensures)
 
 pub returns-in_err-found-clause-complete : goal.returns-in_err-found-clause-complete
 returns-in_err-found-clause-complete g c = λ t le r.
     let p = err_from_is_err_and c.from_residual.result c.from_residual.ensures.1 in
     let e = c.in_err-found.field-0.0 in
     no_memory (λ (d : DType). typ d ≡ t) c.from_residual.result p.0 e p.1 p.2
-    (only_memory e (type_in 50 (value_view c.in-Some.slots.now)) t (ap (type_in 50) c.in-Some.ensures ∙ reads_message c.args.message.now t le r.shows) c.in_err-found.ensures)
+    (only_memory e (type_in 50 (value_view c.in-Some.slots.now)) t (ap (type_in 50) c.in-Some.ensures.value ∙ reads_message c.args.message.now t le r.shows) c.in_err-found.ensures)
 
 pub returns-in_err-judge-clause-cause : goal.returns-in_err-judge-clause-cause
 returns-in_err-judge-clause-cause g c =
@@ -40,22 +40,22 @@ returns-in_err-judge-clause-cause g c =
     let m = c.args.message.now in
     let t = typ c.in_ok-found.found in
     at_error (λ x. IsUnreadValue x s m) c.from_residual-in_err-judge.result p.0 e p.1 p.2
-    (unknown_value e s m t (shows_message m (value_view c.in-Some.slots.now) t c.hold.ensures c.in-Some.ensures c.in_ok-found.ensures c.in_err-judge.ensures.is_type) c.in_err-judge.ensures.cause)
+    (unknown_value e s m t (shows_message m (value_view c.in-Some.slots.now) t c.in-Some.ensures.form c.in-Some.ensures.value c.in_ok-found.ensures c.in_err-judge.ensures.is_type) c.in_err-judge.ensures.cause)
 
 pub returns-in_err-judge-clause-complete : goal.returns-in_err-judge-clause-complete
 returns-in_err-judge-clause-complete g c = λ t le r.
     let s = ext_meaning (λ b. (goal.ExtPlugin-dyn g (b.vtable, b.value)).accepted b.value) c.args.readers.now in
     let d = typ c.in_ok-found.found in
-    let same = the_type c.args.message.now (value_view c.in-Some.slots.now) d t c.in-Some.ensures c.in_ok-found.ensures le r.shows in
+    let same = the_type c.args.message.now (value_view c.in-Some.slots.now) d t c.in-Some.ensures.value c.in_ok-found.ensures le r.shows in
     absurd (known_or c.in_err-judge.field-0.0 s d c.in_err-judge.ensures.cause (subst (λ x. IsKnown s x) (sym same) r.known))
 
 pub returns-clause-read : goal.returns-clause-read
 returns-clause-read g c =
     let d = typ c.in_ok-found.found in
     record {
-      shows = shows_message c.args.message.now (value_view c.in-Some.slots.now) d c.hold.ensures c.in-Some.ensures c.in_ok-found.ensures c.in_ok-judge.ensures.is_type;
+      shows = shows_message c.args.message.now (value_view c.in-Some.slots.now) d c.in-Some.ensures.form c.in-Some.ensures.value c.in_ok-found.ensures c.in_ok-judge.ensures.is_type;
       known = c.in_ok-judge.ensures.known;
     }
 
 pub returns-clause-complete : goal.returns-clause-complete
-returns-clause-complete g c = λ t le r. the_type c.args.message.now (value_view c.in-Some.slots.now) (typ c.in_ok-found.found) t c.in-Some.ensures c.in_ok-found.ensures le r.shows
+returns-clause-complete g c = λ t le r. the_type c.args.message.now (value_view c.in-Some.slots.now) (typ c.in_ok-found.found) t c.in-Some.ensures.value c.in_ok-found.ensures le r.shows
