@@ -1,13 +1,15 @@
 //! Arrays of flags.
 
-ghost use Rattle.std.specs.Prelude.{◌≡◌, ◌<◌, ◌≤◌, IfOk, IfErr, IsOkUnless, ◌+◌, ◌*◌, length};
-ghost use Rattle.vx_trees.specs.Rose.{roses_of};
+ghost use Rattle.std.specs.Prelude.{◌≡◌, ◌<◌, ◌≤◌, ◌↔◌, IfOk, IfErr, IsOkUnless, IsTrue, ◌+◌, ◌*◌, length};
+ghost use Rattle.vx_trees.specs.Everywhere.{EverywhereBelow};
+ghost use Rattle.vx_trees.specs.Rose.{label, roses_of};
 ghost use Rattle.vx_types.specs.Seen.{typ};
 ghost use Rattle.vx_array_tree.specs.Body as B;
 ghost use Rattle.vx_array_tree.specs.Encodings.Bools.{bit_at, rows as rows_of_flags};
 ghost use Rattle.vx_array_tree.specs.Rows.{flag_in};
 ghost use Rattle.vx_array_tree.specs.Sound.{IsSound, IsSoundNode};
-ghost use Rattle.vx_array_tree.specs.Tree.{rows_below, untold};
+ghost use Rattle.vx_array_tree.specs.Tree.{option_trees, rows_below, untold};
+ghost use Rattle.vx_array_tree.specs.Refused.{IsWellShaped};
 ghost use Rattle.vx_arrays.specs.Bools.{bool_tree};
 ghost use Rattle.vx_arrays.specs.Plain.{plain_value};
 ghost use Rattle.vx_arrays.specs.Refused.{IsUnmade, IsRowRefused, IsOkOrMemory};
@@ -16,7 +18,7 @@ use crate::array::Array;
 use crate::body::Body;
 use crate::error::ArrayError;
 use crate::row::{RowValue, within_budget};
-use crate::validity::{is_validity, only_validity, validity_at};
+use crate::validity::{is_validity, over_validity, validity_at};
 use std::alloc::Global;
 use std::marker::Model;
 use vx_buffer::BufferHandle;
@@ -139,18 +141,25 @@ impl BoolArray {
         if offset >= 8 {
             return Err(ArrayError::BadShape);
         }
-        if offset as u128 + len as u128 > 8 * (bits.len() as u128) {
-            return Err(ArrayError::BadShape);
-        }
-        if !is_validity(nullability, len, &validity) {
-            return Err(ArrayError::BadShape);
-        }
-        let children = only_validity(alloc, validity)?;
-        Ok(Array::from_parts(
-            DType::Bool(nullability),
-            len,
-            Body::Bool(BoolData { bits, offset }),
-            children,
-        ))
+        let shaped = is_shaped(&bits, offset, len, nullability, &validity);
+        let dtype = DType::Bool(nullability);
+        let body = Body::Bool(BoolData { bits, offset });
+        over_validity(alloc, dtype, len, body, validity, shaped)
     }
+}
+
+// Whether parts of an offset within a byte are of the shape that the encoding asks for.
+fn is_shaped(
+    bits: &BufferHandle,
+    offset: usize,
+    len: usize,
+    nullability: Nullability,
+    validity: &Option<Array>,
+) -> bool
+    requires fair { offset < 8 }
+    ensures shaped { IsTrue result ↔ IsWellShaped (label (bool_tree bits.now offset len nullability validity.now)) (option_trees validity.now) }
+    ensures sound { IsTrue result → EverywhereBelow IsSoundNode (option_trees validity.now) }
+{
+    offset as u128 + len as u128 <= 8 * (bits.len() as u128)
+        && is_validity(nullability, len, validity)
 }

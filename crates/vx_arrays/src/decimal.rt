@@ -1,12 +1,14 @@
 //! Arrays of decimals.
 
-ghost use Rattle.std.specs.Prelude.{◌≡◌, ◌<◌, ◌≤◌, IfOk, IfErr, IsOkUnless};
-ghost use Rattle.vx_trees.specs.Rose.{roses_of};
+ghost use Rattle.std.specs.Prelude.{◌≡◌, ◌<◌, ◌≤◌, ◌↔◌, IfOk, IfErr, IsOkUnless, IsTrue};
+ghost use Rattle.vx_trees.specs.Everywhere.{EverywhereBelow};
+ghost use Rattle.vx_trees.specs.Rose.{label, roses_of};
 ghost use Rattle.vx_types.specs.Seen.{typ};
 ghost use Rattle.vx_array_tree.specs.Body as B;
 ghost use Rattle.vx_array_tree.specs.Encodings.Decimals.{rows as rows_of_decimals};
+ghost use Rattle.vx_array_tree.specs.Refused.{IsWellShaped};
 ghost use Rattle.vx_array_tree.specs.Sound.{IsSound, IsSoundNode};
-ghost use Rattle.vx_array_tree.specs.Tree.{rows_below, untold};
+ghost use Rattle.vx_array_tree.specs.Tree.{option_trees, rows_below, untold};
 ghost use Rattle.vx_arrays.specs.Decimals.{decimal_tree};
 ghost use Rattle.vx_arrays.specs.Plain.{plain_value};
 ghost use Rattle.vx_arrays.specs.Refused.{IsUnmade, IsRowRefused, IsOkOrMemory};
@@ -14,9 +16,9 @@ ghost use Rattle.vx_arrays.specs.Refused.{IsUnmade, IsRowRefused, IsOkOrMemory};
 use crate::array::Array;
 use crate::body::Body;
 use crate::error::ArrayError;
-use crate::numbers::decimal_at;
+use crate::numbers::{decimal_at, is_filled};
 use crate::row::{RowValue, within_budget};
-use crate::validity::{is_validity, only_validity, validity_at};
+use crate::validity::{is_validity, over_validity, validity_at};
 use std::alloc::Global;
 use std::marker::Model;
 use vx_buffer::BufferHandle;
@@ -130,30 +132,28 @@ impl DecimalArray {
         ensures err { IfErr result (λ e. IsUnmade e (decimal_tree buffer values_type decimal nullability len validity)) }
         ensures complete { IsSound (decimal_tree buffer values_type decimal nullability len validity) → IsOkOrMemory result }
     {
-        let width = values_type.byte_width();
-        match len.checked_mul(width) {
-            Some(bytes) => {
-                if bytes != buffer.len() {
-                    return Err(ArrayError::BadShape);
-                }
-            }
-            None => return Err(ArrayError::BadShape),
-        }
-        if buffer.alignment().as_usize() < width.min(16) {
-            return Err(ArrayError::BadShape);
-        }
-        if !is_validity(nullability, len, &validity) {
-            return Err(ArrayError::BadShape);
-        }
-        let children = only_validity(alloc, validity)?;
-        Ok(Array::from_parts(
-            DType::Decimal(decimal, nullability),
-            len,
-            Body::Decimal(DecimalData {
-                values: buffer,
-                values_type,
-            }),
-            children,
-        ))
+        let shaped = is_shaped(&buffer, values_type, decimal, nullability, len, &validity);
+        let dtype = DType::Decimal(decimal, nullability);
+        let body = Body::Decimal(DecimalData {
+            values: buffer,
+            values_type,
+        });
+        over_validity(alloc, dtype, len, body, validity, shaped)
     }
+}
+
+// Whether parts are of the shape that the encoding asks for.
+fn is_shaped(
+    buffer: &BufferHandle,
+    values_type: DecimalType,
+    decimal: DecimalDType,
+    nullability: Nullability,
+    len: usize,
+    validity: &Option<Array>,
+) -> bool
+    ensures shaped { IsTrue result ↔ IsWellShaped (label (decimal_tree buffer.now values_type decimal nullability len validity.now)) (option_trees validity.now) }
+    ensures sound { IsTrue result → EverywhereBelow IsSoundNode (option_trees validity.now) }
+{
+    let width = values_type.byte_width();
+    is_filled(buffer, len, width, width.min(16)) && is_validity(nullability, len, validity)
 }

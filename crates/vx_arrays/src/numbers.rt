@@ -1,6 +1,6 @@
 //! Numbers out of the bytes of a buffer.
 
-ghost use Rattle.std.specs.Prelude.{◌≡◌, ◌≤◌, length};
+ghost use Rattle.std.specs.Prelude.{◌≡◌, ◌≤◌, ◌↔◌, ◌*◌, ◌^◌, IsTrue, length};
 ghost use Rattle.vx_types.specs.Decimals.{decimal_width_of};
 ghost use Rattle.vx_types.specs.Numbers.{width_of};
 ghost use Rattle.vx_types.specs.Value.{natural_int, natural_number};
@@ -8,8 +8,20 @@ ghost use Rattle.vx_array_tree.specs.Bytes.{number_at, decimal_value};
 ghost use Rattle.vx_scalars.specs.Decimals.{decimal_of};
 
 use bytes::Buf;
+use vx_buffer::BufferHandle;
 use vx_scalars::DecimalValue;
 use vx_types::{DecimalType, PType, PValue};
+
+/// Whether as many elements of a width, and nothing else, fill a buffer that is aligned so.
+pub(crate) fn is_filled(buffer: &BufferHandle, len: usize, width: usize, alignment: usize) -> bool
+    ensures { IsTrue result ↔ ((length buffer.now.bytes ≡ width * len) × (alignment ≤ 2 ^ buffer.now.exponent)) }
+{
+    let held = buffer.len();
+    match len.checked_mul(width) {
+        Some(bytes) => bytes == held && alignment <= buffer.alignment().as_usize(),
+        None => false,
+    }
+}
 
 /// The number of this kind that the bytes begin with, its lowest byte first.
 pub(crate) fn number_at(kind: PType, bytes: &[u8]) -> PValue

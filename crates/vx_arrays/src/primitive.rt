@@ -1,13 +1,15 @@
 //! Arrays of numbers.
 
-ghost use Rattle.std.specs.Prelude.{◌≡◌, ◌<◌, ◌≤◌, IfOk, IfErr, IsOkUnless};
-ghost use Rattle.vx_trees.specs.Rose.{roses_of};
+ghost use Rattle.std.specs.Prelude.{◌≡◌, ◌<◌, ◌≤◌, ◌↔◌, IfOk, IfErr, IsOkUnless, IsTrue};
+ghost use Rattle.vx_trees.specs.Everywhere.{EverywhereBelow};
+ghost use Rattle.vx_trees.specs.Rose.{label, roses_of};
 ghost use Rattle.vx_types.specs.Seen.{typ};
 ghost use Rattle.vx_types.specs.Value.{natural};
 ghost use Rattle.vx_array_tree.specs.Encodings.Primitives.{rows as rows_of_numbers};
 ghost use Rattle.vx_array_tree.specs.Body as B;
+ghost use Rattle.vx_array_tree.specs.Refused.{IsWellShaped};
 ghost use Rattle.vx_array_tree.specs.Sound.{IsSound, IsSoundNode};
-ghost use Rattle.vx_array_tree.specs.Tree.{rows_below, untold};
+ghost use Rattle.vx_array_tree.specs.Tree.{option_trees, rows_below, untold};
 ghost use Rattle.vx_arrays.specs.Plain.{plain_value};
 ghost use Rattle.vx_arrays.specs.Primitives.{primitive_tree};
 ghost use Rattle.vx_arrays.specs.Refused.{IsUnmade, IsRowRefused, IsOkOrMemory};
@@ -15,9 +17,9 @@ ghost use Rattle.vx_arrays.specs.Refused.{IsUnmade, IsRowRefused, IsOkOrMemory};
 use crate::array::Array;
 use crate::body::Body;
 use crate::error::ArrayError;
-use crate::numbers::{natural, number_at};
+use crate::numbers::{is_filled, natural, number_at};
 use crate::row::{RowValue, within_budget};
-use crate::validity::{is_validity, only_validity, validity_at};
+use crate::validity::{is_validity, over_validity, validity_at};
 use std::alloc::Global;
 use std::marker::Model;
 use vx_buffer::BufferHandle;
@@ -144,27 +146,24 @@ impl PrimitiveArray {
         ensures err { IfErr result (λ e. IsUnmade e (primitive_tree ptype nullability len buffer validity)) }
         ensures complete { IsSound (primitive_tree ptype nullability len buffer validity) → IsOkOrMemory result }
     {
-        let width = ptype.byte_width();
-        match len.checked_mul(width) {
-            Some(bytes) => {
-                if bytes != buffer.len() {
-                    return Err(ArrayError::BadShape);
-                }
-            }
-            None => return Err(ArrayError::BadShape),
-        }
-        if buffer.alignment().as_usize() < width {
-            return Err(ArrayError::BadShape);
-        }
-        if !is_validity(nullability, len, &validity) {
-            return Err(ArrayError::BadShape);
-        }
-        let children = only_validity(alloc, validity)?;
-        Ok(Array::from_parts(
-            DType::Primitive(ptype, nullability),
-            len,
-            Body::Primitive(PrimitiveData { values: buffer }),
-            children,
-        ))
+        let shaped = is_shaped(&buffer, ptype, nullability, len, &validity);
+        let dtype = DType::Primitive(ptype, nullability);
+        let body = Body::Primitive(PrimitiveData { values: buffer });
+        over_validity(alloc, dtype, len, body, validity, shaped)
     }
+}
+
+// Whether parts are of the shape that the encoding asks for.
+fn is_shaped(
+    buffer: &BufferHandle,
+    ptype: PType,
+    nullability: Nullability,
+    len: usize,
+    validity: &Option<Array>,
+) -> bool
+    ensures shaped { IsTrue result ↔ IsWellShaped (label (primitive_tree ptype nullability len buffer.now validity.now)) (option_trees validity.now) }
+    ensures sound { IsTrue result → EverywhereBelow IsSoundNode (option_trees validity.now) }
+{
+    let width = ptype.byte_width();
+    is_filled(buffer, len, width, width) && is_validity(nullability, len, validity)
 }

@@ -1,15 +1,21 @@
 //! The validity of a node: the child that says which rows are there.
 
-ghost use Rattle.std.specs.Prelude.{◌≡◌, ◌<◌, ◌↔◌, ℕ, [], Some, false, IfOk, IsTrue, IsOkUnless};
+ghost use Rattle.std.specs.Prelude.{◌≡◌, ◌<◌, ◌↔◌, ℕ, [], Some, false, IfErr, IfOk, IsTrue, IsOkUnless};
 ghost use Rattle.vx_trees.specs.Everywhere.{EverywhereBelow};
-ghost use Rattle.vx_trees.specs.Rose.{count, roses_of};
+ghost use Rattle.vx_trees.specs.Rose.{count, node, roses_of};
+ghost use Rattle.vx_types.specs.Seen.{typ};
 ghost use Rattle.vx_array_tree.specs.Place.{before_validity};
+ghost use Rattle.vx_array_tree.specs.Refused.{IsWellShaped};
 ghost use Rattle.vx_array_tree.specs.Rows.{flag_in, validity as valid_by};
 ghost use Rattle.vx_array_tree.specs.Sound.{IsSound, IsSoundNode};
-ghost use Rattle.vx_array_tree.specs.Tree.{option_trees, places, row_at, rows_below};
+ghost use Rattle.vx_array_tree.specs.Table.{Content};
+ghost use Rattle.vx_array_tree.specs.Tree.{option_trees, places, row_at, rows_below, untold};
+ghost use Rattle.vx_arrays.specs.Plain.{plain_body};
+ghost use Rattle.vx_arrays.specs.Refused.{IsUnmade, IsOkOrMemory};
 ghost use Rattle.vx_arrays.specs.Validity.{IsValidity, all_invalid};
 
 use crate::array::Array;
+use crate::body::Body;
 use crate::bool::BoolArray;
 use crate::error::ArrayError;
 use std::alloc::Global;
@@ -75,6 +81,31 @@ pub(crate) fn only_validity(
         children.push(array)?;
     }
     Ok(children)
+}
+
+// The array of a node that has at most a validity below and no rules on its content, which is of its encoding's shape
+// where `shaped` says so.
+pub(crate) fn over_validity(
+    alloc: Global,
+    dtype: DType,
+    len: usize,
+    body: Body,
+    validity: Option<Array>,
+    shaped: bool,
+) -> Result<Array, ArrayError>
+    requires shaped { IsTrue shaped ↔ IsWellShaped (untold (typ dtype) len (plain_body body)) (option_trees validity) }
+    requires content { Content (typ dtype) len (plain_body body) (rows_below (option_trees validity)) }
+    requires below { IsTrue shaped → EverywhereBelow IsSoundNode (option_trees validity) }
+    ensures ok { IfOk result (λ a. a ≡ node (untold (typ dtype) len (plain_body body)) (option_trees validity)) }
+    ensures sound { IfOk result IsSound }
+    ensures err { IfErr result (λ e. IsUnmade e (node (untold (typ dtype) len (plain_body body)) (option_trees validity))) }
+    ensures complete { IsSound (node (untold (typ dtype) len (plain_body body)) (option_trees validity)) → IsOkOrMemory result }
+{
+    if !shaped {
+        return Err(ArrayError::BadShape);
+    }
+    let children = only_validity(alloc, validity)?;
+    Ok(Array::from_parts(dtype, len, body, children))
 }
 
 /// The validity of `len` rows of which none is there: a bit of 0 for each, in the fewest bytes.
