@@ -1,6 +1,6 @@
 -- A builder that goes on from link to link of a block.
 use Rattle.std.specs.Prelude.{IfErr, MatchResult, OnErr, Option}
-use Rattle.std.proofs.Common.{◌≡◌, ◌∙◌, ◌<◌, ◌^◌, false, ℕ, List, [], ◌∷◌, ◌++◌, length, Some, None, Result, Err, ap, sym, subst, refl, append-nil}
+use Rattle.std.proofs.Common.{◌≡◌, ◌∙◌, false, ℕ, List, [], ◌∷◌, ◌++◌, Some, None, Result, Err, ap, sym, subst, refl, append-nil}
 use Rattle.vx_flat.specs.declared.error.FlatError.{FlatError}
 use Rattle.vx_flat.specs.declared.builder.piece.LinkKind.TheVariants as link
 use Rattle.vx_flat.specs.Building.{Built, Link, AreLeft, with_piece, with_pieces, waiting, links_of, later_links, next_link}

@@ -1,5 +1,5 @@
 -- A set of statistics that fit is written but for want of memory, or where the message would be too long.
-use Rattle.std.proofs.Common.{◌≡◌, ◌∙◌, ◌≤◌, ◌⊎◌, Option, Some, None, refl, subst, inl, inr, arith}
+use Rattle.std.proofs.Common.{◌≡◌, ◌∙◌, ◌≤◌, ◌⊎◌, Option, Some, None, refl, sym, subst, inl, inr, arith}
 use Rattle.vx_flat.specs.Building.{Built}
 use Rattle.vx_proto.specs.Written.{nested}
 use Rattle.vx_trees.specs.Rose.{node, end, count}

@@ -1,7 +1,7 @@
 -- The table of a set shows what is written of it.
 use Rattle.std.specs.Prelude.{option_map, nat_lt, if◌then◌else◌}
-use Rattle.std.proofs.Common.{◌≡◌, ◌∙◌, ◌<◌, ◌≤◌, ◌%◌, ◌^◌, Bool, true, false, ℕ, List, [], ◌∷◌, length, Option, Some, None, refl, sym, ap, subst, arith}
-use Rattle.vx_flat.specs.Value.{elements, number}
+use Rattle.std.proofs.Common.{◌≡◌, ◌∙◌, ◌<◌, ◌≤◌, ◌%◌, ◌^◌, Bool, true, false, ℕ, [], ◌∷◌, length, Option, Some, None, refl, sym, subst, arith}
+use Rattle.vx_flat.specs.Value.{number}
 use Rattle.vx_proto.specs.Parts.{flag_number}
 use Rattle.vx_proto.specs.Written.{nested}
 use Rattle.vx_proto.proofs.LawsOfMessages.{written_shown}
@@ -16,7 +16,7 @@ use Rattle.vx_types.specs.Well.{IsInRange, IsWell}
 use Rattle.vx_types.specs.declared.value.PValue.{PValue}
 use Rattle.vx_types.specs.declared.value.PValue.TheVariants.{U8, U16, U32, U64, I8, I16, I32, I64, F16, F32, F64}
 use Rattle.vx_scalars.specs.StatTypes.{ordered, sum_type, stat_type}
-use Rattle.vx_scalars.specs.Stats.{Told, Stats, told_at, FitsTold, FitStats}
+use Rattle.vx_scalars.specs.Stats.{Told, Stats, FitsTold, FitStats}
 use Rattle.vx_scalars.proofs.LawsStats.{sum_fits, sum_null}
 use Rattle.vx_scalars.specs.declared.precision.Precision.TheVariants.{Exact, Inexact, Absent}
 use Rattle.vx_scalars.specs.declared.stat.Stat.TheVariants.{Min, Max, Sum, IsSorted, IsStrictSorted, IsConstant, NullCount, UncompressedSizeInBytes, NaNCount}
@@ -24,8 +24,8 @@ use Rattle.vx_scalars.specs.Nans.{quiet, nan_canonical}
 use Rattle.vx_scalar_wire.specs.Reading.{IsKnownValue, AreKnownValues, ShowsValue}
 use Rattle.vx_scalar_wire.specs.ScalarMessage.{scalar_lists, scalar_lists_lawful, value_message, number_member}
 use Rattle.vx_scalar_wire.specs.StatsShown.{ShowsBound, ShowsSum, ShowsFlag, ShowsCount, ShowsStats}
-use Rattle.vx_scalars.specs.WrittenStats.{canonical_sum, written_sum, exact_flag, exact_count, told_mark, written_flag, written_count, written_stats}
-use Rattle.vx_scalar_wire.specs.StatsTable.{IsStorable, AreStorable, value_bytes, value_field, precision_of, number_field, flag_field, count_field, stats_table}
+use Rattle.vx_scalars.specs.WrittenStats.{canonical_sum, written_sum, exact_flag, exact_count, told_mark, written_stats}
+use Rattle.vx_scalar_wire.specs.StatsTable.{IsStorable, AreStorable, value_bytes, value_field, precision_of, number_field, stats_table}
 use Rattle.vx_scalar_wire.proofs.Form.{value_form}
 use Rattle.vx_scalar_wire.proofs.LawsScalars.{written-reads}
 

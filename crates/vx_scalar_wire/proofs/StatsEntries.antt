@@ -1,13 +1,12 @@
 -- The entries, the links and the blocks of a table of statistics.
 use Rattle.std.specs.Prelude.{IfSome, option_map}
-use Rattle.std.proofs.Common.{◌≡◌, ◌∙◌, ◌+◌, ◌*◌, ◌<◌, ◌^◌, ◌++◌, Bool, true, false, ℕ, List, [], ◌∷◌, length, Option, Some, None, refl, sym, ap, subst, arith, append_assoc, append-nil}
+use Rattle.std.proofs.Common.{◌≡◌, ◌∙◌, ◌+◌, ◌<◌, ◌^◌, ◌++◌, Bool, true, false, ℕ, List, [], ◌∷◌, length, Option, Some, None, refl, sym, ap, arith, append_assoc, append-nil}
 use Rattle.vx_flat.specs.declared.builder.piece.BlockField.{BlockField}
-use Rattle.vx_flat.specs.declared.builder.piece.BlockField.TheVariants as entry
 use Rattle.vx_flat.specs.declared.schema.FieldKind.TheVariants.{Number, OptNumber, OptFlag, Vector}
 use Rattle.vx_flat.specs.declared.schema.Width.TheVariants.{One, Eight}
-use Rattle.vx_flat.specs.Building.{Link, entry_links, links_of}
+use Rattle.vx_flat.specs.Building.{entry_links, links_of}
 use Rattle.vx_flat.specs.IsOf.{AreOf, IsOf, IsOfKind}
-use Rattle.vx_flat.specs.Pieces.{Piece, default_entry, field_entries, entries, field_pieces, fields_pieces, table_piece, table_pieces}
+use Rattle.vx_flat.specs.Pieces.{Piece, default_entry, field_entries, entries, field_pieces, table_piece, table_pieces}
 use Rattle.vx_flat.specs.Schema.{Schema}
 use Rattle.vx_flat.specs.Value.{Field, absent, number, elements, text, texts, table, tables, member, unknown}
 use Rattle.vx_proto.specs.Parts.{flag_number}

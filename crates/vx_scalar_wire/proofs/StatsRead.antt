@@ -1,15 +1,12 @@
 -- A table shows one set of statistics at most, of arrays of a type, and each that it shows fits.
 use Rattle.std.specs.Prelude.{Option}
-use Rattle.std.proofs.Common.{◌≡◌, ◌==◌, ◌∙◌, ◌+◌, ◌<◌, ◌≤◌, Bool, true, false, ℕ, zero, suc, List, Some, None, get_or, refl, sym, ap, subst, true≢false, arith}
+use Rattle.std.proofs.Common.{◌≡◌, ◌==◌, ◌∙◌, ◌+◌, ◌<◌, ◌≤◌, Bool, true, false, ℕ, zero, suc, Some, get_or, refl, sym, ap, subst, true≢false, arith}
 use Rattle.std.specs.Cmp.{unsigned_Decides}
 use Rattle.vx_flat.specs.Value.{Field, absent, number, elements, Fields}
 use Rattle.vx_type_wire.specs.Known.{no_readers}
-use Rattle.vx_trees.specs.Rose.{node, end}
-use Rattle.vx_types.specs.Fits.{Fits}
 use Rattle.vx_types.specs.Typ.{Typ}
 use Rattle.vx_types.specs.Value as V
 use Rattle.vx_types.specs.Value.{lone, is_null}
-use Rattle.vx_scalars.specs.Seen.{seen, value_of}
 use Rattle.vx_scalars.specs.StatTypes.{all_stats, stat_index, stat_type, flag_type, count_type}
 use Rattle.vx_scalars.specs.Stats.{Told, Stats, stats_of, told_at, with_told, FitsTold, FitStats, IsOfType}
 use Rattle.vx_scalars.specs.declared.precision.Precision.TheVariants.{Exact, Inexact, Absent}

@@ -1,5 +1,5 @@
 -- Which statistics a table shows, of arrays of a type.
-use Rattle.std.specs.Prelude.{ℕ, ◌==◌, not, ◌≡◌, ◌⊎◌, List, Option, Some, None}
+use Rattle.std.specs.Prelude.{ℕ, ◌==◌, not, ◌≡◌, ◌⊎◌, Option, Some, None}
 use Rattle.vx_flat.specs.Entries.{part_at}
 use Rattle.vx_flat.specs.Value.{Field, absent, number, elements, table, Fields}
 use Rattle.vx_type_wire.specs.Known.{no_readers}

@@ -1,5 +1,5 @@
 -- Why a table of statistics is refused, of arrays of a type.
-use Rattle.std.specs.Prelude.{ℕ, ◌<◌, ◌≡◌, ◌⊎◌, false, List, Option, Some, None}
+use Rattle.std.specs.Prelude.{ℕ, ◌<◌, ◌≡◌, ◌⊎◌, false, List, Option, Some}
 use Rattle.vx_flat.specs.Value.{Field, number, elements, Fields}
 use Rattle.vx_type_wire.specs.Known.{no_readers}
 use Rattle.vx_types.specs.Fits.{Fits}

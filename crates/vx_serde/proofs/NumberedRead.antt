@@ -5,9 +5,12 @@ use Rattle.std.proofs.lemmas.List.{append_assoc}
 use Rattle.std.proofs.lemmas.List.Elements.{All-nil, All-cons, recursion_from_All}
 use Rattle.std.specs.List.{AllByRecursion}
 use Rattle.vx_buffer.specs.Buffer.{Buffer}
+use Rattle.vx_flat.specs.IsOf.{IsOfKind}
+use Rattle.vx_flat.specs.declared.schema.FieldKind.TheVariants.{Table}
 use Rattle.vx_trees.specs.Rose.{node, end, more}
 use Rattle.vx_trees.specs.Walks.{gathered_below}
 use Rattle.vx_trees.specs.Everywhere.{Everywhere, EverywhereBelow}
+use Rattle.vx_serde.specs.ArraySchema.{array_schema}
 use Rattle.vx_serde.specs.MessageValue.{IsNumberedNode, IsNumbered}
 use Rattle.vx_wire_tree.specs.Wire.{WireHead, Wire, Wires, IsWholeNode, IsWhole, present, id_in, buffers_at_node, ids_in, buffers_in}
 use Rattle.vx_serde.specs.Blob.{wire_of, wires_of}

@@ -37,6 +37,9 @@ module _ (v : View) (h : IsViewOf array_schema 1 v) (t : Rose NodeFields) (own :
   pub metadata_told : (label t).metadata ≡ bytes_of_field (part_in v 1)
   metadata_told = ap (λ (z : Rose NodeFields). let f : NodeFields = label z in f.metadata) told
 
+  pub buffers_told : (label t).buffers ≡ indices_of (bytes_of_field (part_in v 3))
+  buffers_told = ap (λ (z : Rose NodeFields). let f : NodeFields = label z in f.buffers) told
+
   pub stats_told : (label t).stats ≡ part_in v 4
   stats_told = ap (λ (z : Rose NodeFields). let f : NodeFields = label z in f.stats) told
 

@@ -53,8 +53,9 @@ abbrev mutual
   trees_rows end = no_rows
   trees_rows (more (node m vs) ts) = row (trees_fields vs) (trees_rows ts)
 
+-- A field is read again from its tree.
 mutual
-  field_again : (v : Field) → tree_field (field_tree v) ≡ v
+  pub field_again : (v : Field) → tree_field (field_tree v) ≡ v
   field_again absent = refl
   field_again (number n) = refl
   field_again (elements bs) = refl

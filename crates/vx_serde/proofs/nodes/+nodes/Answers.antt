@@ -1,4 +1,4 @@
-use Rattle.std.proofs.Common.{◌≡◌, ◌∙◌, ◌+◌, ◌-◌, ◌≤◌, [], ◌∷◌, ◌++◌, length, take, drop, suc, refl, ap, sym, subst, arith, append_assoc}
+use Rattle.std.proofs.Common.{◌≡◌, ◌∙◌, ◌+◌, ◌-◌, ◌≤◌, [], ◌∷◌, ◌++◌, length, take, drop, suc, refl, ap, sym, subst, arith, append_assoc, append-nil}
 use Rattle.std.proofs.lemmas.List.{take_all}
 use Rattle.std.proofs.lemmas.Result.{err_from_is_err_and}
 use Rattle.vx_flat.specs.declared.builder.piece.LinkKind.TheVariants as link
@@ -261,7 +261,8 @@ write_node-returns-in_err-write_statistics-clause-stopped t c = λ s.
     rw (p.1, p.2)
     (cut_short old (node_piece v) _ (elements_piece 1 m ∷ (kids ++ elements_piece 2 bytes ∷ [])) c.write_elements-2.new.builder c.link-4.new.self c.write_statistics.new.builder (stats_pieces (label a).stats) [] (node_pieces c.args.encodings.now c.args.passed.now.nodes c.args.passed.now.buffers (wire codec s a)) c.in_err-write_statistics.field-0.0
     w3 c.link-4.ensures.waits c.in_err-write_statistics.ensures.stopped
-    (ap (λ z. node_piece v ∷ (elements_piece 1 m ∷ z)) (append_assoc kids (elements_piece 2 bytes ∷ []) (stats_pieces (label a).stats)) ∙ same))
+    (ap (λ z. node_piece v ∷ (elements_piece 1 m ∷ ((kids ++ elements_piece 2 bytes ∷ []) ++ z))) (append-nil (stats_pieces (label a).stats))
+    ∙ ap (λ z. node_piece v ∷ (elements_piece 1 m ∷ z)) (append_assoc kids (elements_piece 2 bytes ∷ []) (stats_pieces (label a).stats)) ∙ same))
 
 pub write_node-returns-clause-written : goal.write_node-returns-clause-written
 write_node-returns-clause-written t c = λ s.
