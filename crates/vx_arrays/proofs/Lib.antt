@@ -5,3 +5,5 @@ mod Viewed
 mod Flags
 mod AllInvalid
 mod Untold
+mod SameRows
+mod Counted

@@ -18,6 +18,7 @@ mod parts;
 mod primitive;
 mod row;
 mod row_values;
+mod same;
 mod slots;
 mod structs;
 mod texts;

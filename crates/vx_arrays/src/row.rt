@@ -4,6 +4,7 @@ ghost use Rattle.std.specs.Prelude.{◌≡◌, IfOk, IsOkUnless};
 
 use crate::error::ArrayError;
 use crate::row_values::RowValues;
+use crate::same::is_same;
 use std::alloc::Global;
 use vx_scalars::DecimalValue;
 use vx_types::{Blob, Name, PValue};
@@ -28,6 +29,32 @@ pub enum RowValue {
     Binary(Blob),
     /// A row of lists or of structures: the rows of its elements, or of its fields.
     Tuple(RowValues),
+}
+
+impl PartialEq for RowValue {
+    ghost use Rattle.vx_trees.specs.Same.{same};
+    ghost use Rattle.vx_trees.proofs.Sameness.{same-partial_equivalence};
+    ghost use Rattle.std.specs.Cmp.{on_per};
+    ghost use Rattle.vx_types.specs.Value.{value_code};
+    ghost use Rattle.vx_arrays.specs.Plain.{plain_value};
+
+    ghost eq = { λ a b. same value_code (plain_value a) (plain_value b) };
+
+    ghost laws = { on_per plain_value (same-partial_equivalence value_code) };
+
+    #[tactic(auto, using(vx_trees::proofs::Sameness::sameness))]
+    fn eq(&self, other: &RowValue) -> bool {
+        is_same(self, other)
+    }
+}
+
+impl Eq for RowValue {
+    ghost use Rattle.vx_trees.proofs.Sameness.{same-equivalence};
+    ghost use Rattle.std.specs.Cmp.{on_equiv};
+    ghost use Rattle.vx_types.specs.Value.{value_code};
+    ghost use Rattle.vx_arrays.specs.Plain.{plain_value};
+
+    ghost laws = { on_equiv plain_value (same-equivalence value_code) };
 }
 
 // A text of its own.
