@@ -49,7 +49,7 @@ fn structures(
     for column in columns {
         arrays.push(bytes(alloc, column)?)?;
     }
-    StructArray::try_new(alloc, fields, nullability, arrays, len, validity)
+    StructArray::try_new(fields, nullability, arrays, len, validity)
 }
 
 // Whether a row, for so many cells, is that of these numbers.
@@ -120,7 +120,7 @@ fn column_refusal(alloc: Global, first: Array, second: Option<Array>) -> Option<
         }
     }
     match number_fields(alloc, 2) {
-        Ok(fields) => StructArray::try_new(alloc, fields, NEVER, arrays, 1, None).err(),
+        Ok(fields) => StructArray::try_new(fields, NEVER, arrays, 1, None).err(),
         Err(_) => Some(ArrayError::OutOfMemory),
     }
 }
@@ -169,7 +169,7 @@ fn of_text(alloc: Global, text: Array) -> Result<Array, ArrayError> {
     let mut arrays = Arrays::new(alloc);
     arrays.push(text)?;
     match (pushed, fields_of(alloc, types)) {
-        (Ok(()), Ok(fields)) => StructArray::try_new(alloc, fields, MAYBE, arrays, 1, None),
+        (Ok(()), Ok(fields)) => StructArray::try_new(fields, MAYBE, arrays, 1, None),
         _ => Err(ArrayError::OutOfMemory),
     }
 }

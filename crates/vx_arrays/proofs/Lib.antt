@@ -7,3 +7,5 @@ mod AllInvalid
 mod Untold
 mod SameRows
 mod Counted
+mod Sized
+mod Fielded

@@ -44,7 +44,7 @@ plan_of_bytes (node (K.utf8 m) end) n v k ps e = (tt, e)
 plan_of_bytes (node (K.binary m) end) n v k ps e = (tt, e)
 plan_of_bytes _ n v k ps e = absurd (cc)
 
-front_is : (p : Place) (n : ℕ) (o : Tree) (vs : Trees) → before_validity (p ∷ []) n (suc (count vs)) ≡ Some (places (more o vs))
+pub front_is : (p : Place) (n : ℕ) (o : Tree) (vs : Trees) → before_validity (p ∷ []) n (suc (count vs)) ≡ Some (places (more o vs))
     → (place (label o).dtype (label o).len ≡ p) × (before_validity [] n (count vs) ≡ Some (places vs))
 front_is p n o vs e =
     let m = mapped (λ (qs : List Place). p ∷ qs) (before_validity [] n (count vs)) (places (more o vs)) e in
@@ -91,7 +91,7 @@ module _ (d : Typ) (n : ℕ) (b : Buffer) where
 
 -- ---- what is of that shape
 
-below_limit : (n : ℕ) → n < 2 ^ 64 → is_len n ≡ true
+pub below_limit : (n : ℕ) → n < 2 ^ 64 → is_len n ≡ true
 below_limit n h = lt-ltb n (2 ^ 64) h
 
 offsets_type : (d : Typ) → IsOfOffsets d → (d ≡ numbers (ptype_of d)) × IsTrue (is_integer (ptype_of d))
@@ -107,7 +107,7 @@ plan_at (node (K.utf8 m) end) n v k ps h e = e
 plan_at (node (K.binary m) end) n v k ps h e = e
 plan_at _ n v k ps h e = absurd h
 
-same_suc : (j k : ℕ) → suc j ≡ suc k → j ≡ k
+pub same_suc : (j k : ℕ) → suc j ≡ suc k → j ≡ k
 same_suc j k e = omega (arith, e)
 
 -- Offsets, one more than there are rows, and a validity or nothing, under a type of texts or of bytes.
@@ -251,7 +251,7 @@ small_refused (Err x) budget h l = subst (λ (z : ArrayError). IsValueRefused z 
 
 -- ---- what tests say of parts
 
-absurd_test : {P : Type 0} → IsTrue false → P
+pub absurd_test : {P : Type 0} → IsTrue false → P
 absurd_test t = absurd (false≢true t)
 
 module _ (d : Typ) (n : ℕ) (b : Buffer) (o : Tree) (vs : Trees) where

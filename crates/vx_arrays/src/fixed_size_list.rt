@@ -1,16 +1,18 @@
 //! Arrays of lists of one size.
 
-ghost use Rattle.std.specs.Prelude.{◌≡◌, ◌<◌, ◌≤◌, IfOk, IfErr, IsOkUnless};
+ghost use Rattle.std.specs.Prelude.{◌≡◌, ◌<◌, ◌≤◌, ◌*◌, ◌↔◌, IfOk, IfErr, IsOkUnless, IsTrue};
+ghost use Rattle.vx_trees.specs.Everywhere.{EverywhereBelow};
 ghost use Rattle.vx_trees.specs.Rose.{end, label, more, node, roses_of};
 ghost use Rattle.vx_trees.specs.Walks.{nodes_of};
 ghost use Rattle.vx_types.specs.Kind.{fixed_size_list};
 ghost use Rattle.vx_types.specs.Seen.{typ};
 ghost use Rattle.vx_array_tree.specs.Body as B;
 ghost use Rattle.vx_array_tree.specs.Encodings.FixedSizeLists.{rows as rows_of_lists, size_of};
+ghost use Rattle.vx_array_tree.specs.Refused.{IsWellShaped};
 ghost use Rattle.vx_array_tree.specs.Rows.{rest, validity};
 ghost use Rattle.vx_array_tree.specs.Sound.{IsSound, IsSoundNode};
-ghost use Rattle.vx_array_tree.specs.Tree.{rows_below, untold};
-ghost use Rattle.vx_arrays.specs.FixedSizeLists.{IsOfSize, fixed_size_list_tree};
+ghost use Rattle.vx_array_tree.specs.Tree.{option_trees, rows_below, untold};
+ghost use Rattle.vx_arrays.specs.FixedSizeLists.{IsOfSize, fixed_size_list_head, fixed_size_list_tree};
 ghost use Rattle.vx_arrays.specs.Parts.{AreThere, parts_cells, parts_nodes, parts_value};
 ghost use Rattle.vx_arrays.specs.Refused.{IsUnmade, IsOkOrMemory};
 
@@ -91,20 +93,39 @@ impl FixedSizeListArray {
         ensures err { IfErr result (λ e. IsUnmade e (fixed_size_list_tree elements size nullability len validity)) }
         ensures complete { IsSound (fixed_size_list_tree elements size nullability len validity) → IsOkOrMemory result }
     {
-        match len.checked_mul(size as usize) {
-            Some(count) => {
-                if count != elements.len() {
-                    return Err(ArrayError::BadShape);
-                }
-            }
-            None => return Err(ArrayError::BadShape),
-        }
-        if !is_validity(nullability, len, &validity) {
+        if !is_shaped(&elements, size, nullability, len, &validity) {
             return Err(ArrayError::BadShape);
         }
         let dtype = list_type(alloc, elements.dtype(), size, nullability)?;
         let children = with_validity(alloc, elements, validity)?;
         Ok(Array::from_parts(dtype, len, Body::FixedSizeList, children))
+    }
+}
+
+// Whether parts are of the shape that the encoding asks for.
+fn is_shaped(
+    elements: &Array,
+    size: u32,
+    nullability: Nullability,
+    len: usize,
+    validity: &Option<Array>,
+) -> bool
+    ensures shaped { IsTrue result ↔ IsWellShaped (fixed_size_list_head (label elements.now).dtype size nullability len) (more elements.now (option_trees validity.now)) }
+    ensures sound { IsTrue result → EverywhereBelow IsSoundNode (more elements.now (option_trees validity.now)) }
+{
+    if !is_product(len, size as usize, elements.len()) {
+        return false;
+    }
+    is_validity(nullability, len, validity)
+}
+
+// Whether a number that can be counted is a product.
+fn is_product(len: usize, size: usize, count: usize) -> bool
+    ensures { IsTrue result ↔ (count ≡ len * size) }
+{
+    match len.checked_mul(size) {
+        Some(product) => product == count,
+        None => false,
     }
 }
 

@@ -1,25 +1,25 @@
 //! Arrays of structures.
 
-ghost use Rattle.std.specs.Prelude.{suc, ◌≡◌, ◌<◌, ◌≤◌, ◌↔◌, IfOk, IfErr, IsOkUnless, IsTrue};
-ghost use Rattle.vx_trees.specs.Rose.{count, roses_of};
+ghost use Rattle.std.specs.Prelude.{◌≡◌, ◌<◌, ◌≤◌, ◌↔◌, IfOk, IfErr, IsOkUnless, IsTrue, length};
+ghost use Rattle.vx_trees.specs.Everywhere.{EverywhereBelow};
+ghost use Rattle.vx_trees.specs.Rose.{roses_of};
 ghost use Rattle.vx_trees.specs.Walks.{nodes_of};
 ghost use Rattle.vx_types.specs.Seen.{typ, typs};
 ghost use Rattle.vx_array_tree.specs.Body as B;
 ghost use Rattle.vx_array_tree.specs.Encodings.Structs.{has_validity, rows as rows_of_structures, structure_valid, width_of};
 ghost use Rattle.vx_array_tree.specs.Place.{place, places_at};
+ghost use Rattle.vx_array_tree.specs.Refused.{IsWellShaped};
 ghost use Rattle.vx_array_tree.specs.Sound.{IsSound, IsSoundNode};
 ghost use Rattle.vx_array_tree.specs.Tree.{places, rows_below, untold};
 ghost use Rattle.vx_arrays.specs.Parts.{AreThere, parts_cells, parts_nodes, parts_value};
 ghost use Rattle.vx_arrays.specs.Refused.{IsUnmade, IsOkOrMemory};
-ghost use Rattle.vx_arrays.specs.Structs.{IsOfFields, behind_validity, field_trees, place_of, struct_tree};
+ghost use Rattle.vx_arrays.specs.Structs.{IsOfFields, behind_validity, field_trees, place_of, struct_head, struct_tree};
 
 use crate::array::Array;
 use crate::body::Body;
 use crate::error::ArrayError;
 use crate::list::Arrays;
 use crate::parts::{RowParts, where_there};
-use crate::validity::is_validity;
-use std::alloc::Global;
 use vx_types::{DType, Nullability, StructFields};
 
 /// Arrays of structures, with an array for each field.
@@ -38,7 +38,8 @@ impl StructArray {
     ) -> Option<bool>
         requires sound { IsSoundNode (untold (typ dtype.now) len B.struct) (roses_of children.now) }
         requires inside { index < len }
-        ensures { structure_valid (has_validity (typ dtype.now) (count (roses_of children.now))) (rows_below (roses_of children.now)) index ≡ result }
+        ensures { let rows = rows_below (roses_of children.now) in
+            result ≡ structure_valid (has_validity (typ dtype.now) (length rows)) rows index }
     {
         let _len = len;
         match children {
@@ -79,7 +80,6 @@ impl StructArray {
     ///
     /// `BadShape` where such an array is not sound.
     pub fn try_new(
-        alloc: Global,
         fields: StructFields,
         nullability: Nullability,
         columns: Arrays,
@@ -91,13 +91,10 @@ impl StructArray {
         ensures err { IfErr result (λ e. IsUnmade e (struct_tree fields nullability columns len validity)) }
         ensures complete { IsSound (struct_tree fields nullability columns len validity) → IsOkOrMemory result }
     {
-        if !are_columns(fields.fields().as_slice(), columns.as_slice(), len) {
+        let children = behind_validity(validity, columns)?;
+        if !are_shaped(&fields, nullability, len, children.as_slice()) {
             return Err(ArrayError::BadShape);
         }
-        if !is_validity(nullability, len, &validity) {
-            return Err(ArrayError::BadShape);
-        }
-        let children = behind_validity(alloc, validity, columns)?;
         let dtype = DType::Struct(fields, nullability);
         Ok(Array::from_parts(dtype, len, Body::Struct, children))
     }
@@ -131,6 +128,30 @@ fn columns_of<'a>(dtype: &DType, children: &'a [Array]) -> &'a [Array]
     }
 }
 
+// Whether arrays are the children of a node of structures: the columns of the fields, behind a validity only where rows may
+// be null.
+fn are_shaped(
+    fields: &StructFields,
+    nullability: Nullability,
+    len: usize,
+    children: &[Array],
+) -> bool
+    ensures { IsTrue result ↔ IsWellShaped (struct_head fields.now nullability len) (roses_of children.now) }
+{
+    let types = fields.fields().as_slice();
+    if children.len() == types.len() {
+        return are_columns(types, children, len);
+    }
+    match children {
+        [validity, columns @ ..] => {
+            nullability == Nullability::Nullable
+                && is_column(&DType::Bool(Nullability::NonNullable), validity, len)
+                && are_columns(types, columns, len)
+        }
+        [] => false,
+    }
+}
+
 // Whether arrays are the columns of fields of these types, each of so many rows.
 fn are_columns(types: &[DType], columns: &[Array], len: usize) -> bool
     ensures { IsTrue result ↔ (places (roses_of columns.now) ≡ places_at (roses_of (typs types.now)) len) }
@@ -154,18 +175,16 @@ fn is_column(dtype: &DType, column: &Array, len: usize) -> bool
 }
 
 // The children of a node of structures: a validity, where one stands, and then the columns.
-fn behind_validity(
-    alloc: Global,
-    validity: Option<Array>,
-    columns: Arrays,
-) -> Result<Vec<Array>, ArrayError>
+fn behind_validity(validity: Option<Array>, columns: Arrays) -> Result<Vec<Array>, ArrayError>
     ensures children { IfOk result (λ children. roses_of children.items ≡ behind_validity validity columns) }
+    ensures sound { IfOk result (λ children. EverywhereBelow IsSoundNode (roses_of children.items)) }
     ensures err { IsOkUnless result ArrayError.OutOfMemory }
 {
     let mut children = columns.into_vec();
     match validity {
         None => Ok(children),
         Some(array) => {
+            array.validate()?;
             children.insert(0, array)?;
             Ok(children)
         }
