@@ -1,9 +1,7 @@
 -- The children of a node of structures: a validity that may stand in front, and its columns; and its rows.
-use Rattle.std.proofs.Common.{ℕ, zero, suc, ◌≡◌, ◌≤◌, ◌<◌, ◌+◌, ◌==◌, List, [], ◌∷◌, ◌++◌, Option, Some, None, option_map, Bool, true, false, true≢false, refl, sym, ap, ◌∙◌, subst, inl, inr, length, take, drop, get_or, arith}
-use Rattle.std.proofs.lemmas.Bool.{iff_false, false≢true}
-use Rattle.std.proofs.lemmas.List.{take_all}
+use Rattle.std.proofs.Common.{ℕ, zero, suc, ◌≡◌, ◌≤◌, ◌<◌, ◌+◌, ◌==◌, List, [], ◌∷◌, ◌++◌, Option, Some, None, option_map, Bool, true, false, refl, sym, ap, ◌∙◌, subst, inl, inr, length, arith}
+use Rattle.std.proofs.lemmas.Bool.{eq-eqb, ne_eqb}
 use Rattle.std.proofs.lemmas.Option.{same_Some}
-use Rattle.std.specs.Cmp.{unsigned_Decides}
 use Rattle.std.specs.Prelude.{◌↔◌, ◌⊎◌, IsTrue, if◌then◌else◌}
 use Rattle.vx_trees.specs.Rose.{Roses, node, end, more, label, below, count, roses_of}
 use Rattle.vx_trees.specs.Walks.{nodes, nodes_of}
@@ -85,14 +83,10 @@ rows_count (more t ts) = ap (λ k. suc k) (rows_count ts)
 -- ---- whether a validity stands in front
 
 equal : (a b : ℕ) → a ≡ b → (a == b) ≡ true
-equal a b e = (unsigned_Decides a b).1 e
-
-not_true : (v : Bool) → (v ≡ true → ⊥) → v ≡ false
-not_true true f = absurd (f refl)
-not_true false f = refl
+equal a b e = eq-eqb a b e
 
 unequal : (a b : ℕ) → (a ≡ b → ⊥) → (a == b) ≡ false
-unequal a b f = not_true (a == b) (λ e. f ((unsigned_Decides a b).0 e))
+unequal a b f = ne_eqb a b f
 
 -- ---- sound nodes
 

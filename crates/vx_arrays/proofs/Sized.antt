@@ -1,6 +1,6 @@
 -- The children of a node of lists of one size: its elements, and what stands behind them; and its rows.
 use Rattle.std.proofs.Common.{ℕ, zero, suc, ◌≡◌, ◌≤◌, ◌<◌, ◌+◌, ◌*◌, ◌^◌, List, [], ◌∷◌, Option, Some, None, Bool, true, false, Result, Ok, Err, IfOk, IfErr, refl, sym, ap, ◌∙◌, subst, length, arith}
-use Rattle.std.proofs.lemmas.Bool.{iff_false, false≢true}
+use Rattle.std.proofs.lemmas.Bool.{iff_false, false≢true, ltb-true}
 use Rattle.std.specs.Prelude.{◌↔◌, IsTrue}
 use Rattle.vx_trees.specs.Rose.{node, end, more, label, count, roses_of}
 use Rattle.vx_trees.specs.Walks.{nodes, nodes_of}
@@ -39,7 +39,7 @@ passed true o ps e = refl
 passed false o ps e = absurd (cc)
 
 counted : (n : ℕ) → is_len n ≡ true → n < 2 ^ 64
-counted n h = grind arith
+counted n h = ltb-true n (2 ^ 64) h
 
 none_some : {A : Type 0} (x : A) → None ≡ Some x → ⊥
 none_some x e = absurd (cc)

@@ -1,10 +1,12 @@
 //! Nodes of lists of one size: no metadata, no buffers, and below the elements and a validity that may stand.
 
-ghost use Rattle.std.specs.Prelude.{IfOk, IfErr};
+ghost use Rattle.std.specs.Prelude.{◌≡◌, ◌*◌, ◌∷◌, [], Some, IfOk, IfErr};
 ghost use Rattle.vx_types.specs.Known.{ExtMeaning};
+ghost use Rattle.vx_types.specs.Seen.{typ};
+ghost use Rattle.vx_array_tree.specs.Place.{before_validity, is_len, place, when};
 ghost use Rattle.vx_array_tree.specs.Sound.{IsSound};
 ghost use Rattle.vx_array_tree.specs.Tree.{places};
-ghost use Rattle.vx_encodings.specs.Steps.{IsPlanned, IsUnplanned, IsBuilt, IsUnbuilt};
+ghost use Rattle.vx_encodings.specs.Steps.{IsPlanned, IsUnplanned, IsBuilt, IsUnbuilt, IsWithoutPlan};
 ghost use Rattle.vx_encodings.specs.declared.encoding.Encoding.TheVariants.{FixedSizeList};
 
 use crate::empty_metadata::read_empty;
@@ -24,15 +26,30 @@ pub(crate) fn plan(alloc: Global, head: &ArrayHead) -> Result<ChildPlans, Encodi
     ensures err { (x : ExtMeaning) → IfErr result (λ e. IsUnplanned e x FixedSizeList head.now) }
 {
     read_empty(head.metadata.as_slice())?;
-    let (element, size) = match &head.dtype {
-        DType::FixedSizeList(element, size, _) => (element.get(), *size as usize),
-        _ => return Err(EncodingError::BadShape),
-    };
-    match head.len.checked_mul(size) {
+    match &head.dtype {
+        DType::FixedSizeList(element, size, _) => {
+            plan_elements(alloc, element.get(), *size, head.len, head.nchildren)
+        }
+        _ => Err(EncodingError::BadShape),
+    }
+}
+
+// So many elements of a type for each row, and behind them a validity, where one stands among so many children.
+fn plan_elements(
+    alloc: Global,
+    element: &DType,
+    size: u32,
+    len: usize,
+    count: usize,
+) -> Result<ChildPlans, EncodingError>
+    ensures plan { IfOk result (λ plans. when (is_len (len * size)) (before_validity (place (typ element.now) (len * size) ∷ []) len count) ≡ Some plans) }
+    ensures err { IfErr result (λ e. IsWithoutPlan e (when (is_len (len * size)) (before_validity (place (typ element.now) (len * size) ∷ []) len count))) }
+{
+    match len.checked_mul(size as usize) {
         None => Err(EncodingError::BadShape),
-        Some(count) => {
-            let elements = plan_of(alloc, element, count)?;
-            plan_behind(alloc, elements, head.len, head.nchildren)
+        Some(elements) => {
+            let first = plan_of(alloc, element, elements)?;
+            plan_behind(alloc, first, len, count)
         }
     }
 }
