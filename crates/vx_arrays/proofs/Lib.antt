@@ -6,6 +6,7 @@ mod Flags
 mod AllInvalid
 mod Untold
 mod SameRows
+mod Firsts
 mod Counted
 mod Sized
 mod Fielded

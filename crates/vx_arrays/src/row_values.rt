@@ -48,6 +48,7 @@ impl RowValues {
     }
 
     /// How many values there are.
+    #[tactic(auto, using(crate::proofs::SameRows::same_rows))]
     pub fn len(&self) -> usize
         ensures { result ≡ length self.now }
     {
@@ -55,6 +56,7 @@ impl RowValues {
     }
 
     /// Whether there is no value.
+    #[tactic(auto, using(crate::proofs::SameRows::same_rows))]
     pub fn is_empty(&self) -> bool
         ensures { result ≡ (length self.now == 0) }
     {
