@@ -1,5 +1,5 @@
 -- Rows that are built of other rows: one value more, its cells, and what is left to spend.
-use Rattle.std.proofs.Common.{ℕ, zero, suc, ◌≡◌, ◌≤◌, ◌<◌, ◌+◌, List, [], ◌∷◌, ◌++◌, Result, Ok, Err, IfOk, IfErr, OnErr, refl, sym, ap, ◌∙◌, subst, length, take, get_or, arith, add-one, add-zero}
+use Rattle.std.proofs.Common.{ℕ, zero, suc, ◌≡◌, ◌≤◌, ◌<◌, ◌+◌, List, [], ◌∷◌, ◌++◌, Result, Ok, Err, IfOk, IfErr, OnOk, refl, sym, ap, ◌∙◌, subst, length, take, get_or, arith, add-one, add-zero}
 use Rattle.std.proofs.lemmas.List.{take_all}
 use Rattle.vx_trees.specs.Rose.{Roses, node, end, more, label, roses_of}
 use Rattle.vx_trees.specs.Walks.{nodes, nodes_of}
@@ -8,8 +8,10 @@ use Rattle.vx_types.specs.Value.{Value, Values, Mark}
 use Rattle.vx_array_tree.specs.Rows.{Rows, values_from, cells_from, values_at, cells_at}
 use Rattle.vx_array_tree.specs.Tree.{Tree, Trees, rows_of, rows_below}
 use Rattle.vx_arrays.specs.Parts.{HaveRow}
+use Rattle.vx_arrays.specs.Plain.{plain_value}
 use Rattle.vx_arrays.specs.Refused.{IsValueRefused}
 use Rattle.vx_arrays.specs.declared.error.ArrayError.{ArrayError}
+use Rattle.vx_arrays.specs.declared.row.RowValue.{RowValue}
 use Rattle.vx_arrays.specs.declared.error.ArrayError.TheVariants.{OutOfMemory, BadShape, BadContent, ValueTooLarge}
 
 -- ---- refusals
@@ -27,6 +29,21 @@ refused_after OutOfMemory spent cells left budget total q h r = tt
 refused_after BadShape spent cells left budget total q h r = absurd r
 refused_after BadContent spent cells left budget total q h r = absurd r
 refused_after ValueTooLarge spent cells left budget total q h r = omega (arith, q, h, r)
+
+-- What is said of a row, or of a number of cells, is said of the same one.
+pub same_row : (r : Result RowValue ArrayError) (v w : Value) → v ≡ w → IfOk r (λ row. plain_value row ≡ v) → IfOk r (λ row. plain_value row ≡ w)
+same_row r v w e h = subst (λ (z : Value). IfOk r (λ row. plain_value row ≡ z)) e h
+
+pub same_spent : (r : Result RowValue ArrayError) (a b old new : ℕ) → a ≡ b → OnOk r (old ≡ a + new) → OnOk r (old ≡ b + new)
+same_spent r a b old new e h = subst (λ (n : ℕ). OnOk r (old ≡ n + new)) e h
+
+pub same_refused : (r : Result RowValue ArrayError) (a b budget : ℕ) → a ≡ b → IfErr r (λ e. IsValueRefused e a budget) → IfErr r (λ e. IsValueRefused e b budget)
+same_refused r a b budget e h = subst (λ (n : ℕ). IfErr r (λ x. IsValueRefused x n budget)) e h
+
+-- Of a row that was built so many cells were there.
+pub cells_fit : (r : Result RowValue ArrayError) (cells old new : ℕ) → OnOk r (old ≡ cells + new) → IfOk r (λ _. cells ≤ old)
+cells_fit (Ok row) cells old new h = omega (arith, h)
+cells_fit (Err e) cells old new h = tt
 
 -- ---- one value more
 
@@ -131,4 +148,4 @@ pub smaller_at : (ts : List Tree) (k : ℕ) (t : Tree) → k < length ts → t �
 smaller_at ts k t h q = subst (λ (w : Tree). nodes w ≤ nodes_of (roses_of ts)) (sym q) (nodes-at ts k t h)
 
 -- What loops over rows rest on.
-pub ruleset counted = (refused_more, refused_after, values_more, cells_more, cells_within, across_more, across_cells, across_within, across_all, across_all_cells, row_inside, smaller_at)
+pub ruleset counted = (same_row, same_spent, same_refused, cells_fit, refused_more, refused_after, values_more, cells_more, cells_within, across_more, across_cells, across_within, across_all, across_all_cells, row_inside, smaller_at)

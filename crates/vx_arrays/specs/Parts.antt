@@ -1,5 +1,5 @@
 -- Of what a row is made, before it is built.
-use Rattle.std.specs.Prelude.{ℕ, suc, ◌+◌, ◌<◌, ◌≤◌}
+use Rattle.std.specs.Prelude.{ℕ, suc, ◌+◌, ◌^◌, ◌<◌, ◌≤◌}
 use Rattle.vx_trees.specs.Rose.{node, end, more, label, roses_of}
 use Rattle.vx_trees.specs.Walks.{nodes, nodes_of}
 use Rattle.vx_types.specs.Value.{Value, Mark, lone, tuple, value_cells}
@@ -39,10 +39,10 @@ abbrev pub HaveRow : ℕ → Trees → Type 0
 HaveRow i end = Unit {0}
 HaveRow i (more t ts) = (i < (label t).len) × HaveRow i ts
 
--- The rows of which a row is made are there.
+-- The rows of which a row is made are there, and can be counted.
 abbrev pub AreThere : RowParts → Type 0
 AreThere (Lone row) = Unit {0}
-AreThere (Run array start count) = start + count ≤ (label array.now).len
+AreThere (Run array start count) = (start + count ≤ (label array.now).len) × (start + count < 2 ^ 64)
 AreThere (Across arrays index) = HaveRow index (roses_of arrays.now)
 
 -- How many nodes the arrays have of whose rows a row is made.

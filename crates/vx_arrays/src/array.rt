@@ -292,6 +292,7 @@ impl Array {
     }
 
     /// The row's value, if it takes at most `budget` cells.
+    #[tactic(auto, using(crate::proofs::Counted::counted))]
     pub fn value_at(&self, alloc: Global, index: usize, budget: u64) -> Result<RowValue, ArrayError>
         requires { index < (label self.now).len }
         ensures row { IfOk result (λ row. plain_value row ≡ row_at self.now index) }

@@ -3,7 +3,7 @@
 //! An encoding's file says of what a row of its nodes is made, without memory. The one recursion over the arrays below a
 //! node stands here: it builds rows of their parts, and spends cells before it takes memory for them.
 
-ghost use Rattle.std.specs.Prelude.{suc, ℕ, ◌≡◌, ◌+◌, ◌≤◌, IfOk, IfErr, OnOk, IsOkUnless};
+ghost use Rattle.std.specs.Prelude.{suc, ℕ, ◌≡◌, ◌+◌, ◌^◌, ◌<◌, ◌≤◌, IfOk, IfErr, OnOk, IsOkUnless};
 ghost use Rattle.vx_trees.specs.Rose.{label, roses_of};
 ghost use Rattle.vx_types.specs.Value.{Value, lone, mark_cells, value_cells};
 ghost use Rattle.vx_array_tree.specs.Rows.{cells_at, cells_from, cells_where, values_at, values_from, where_valid};
@@ -167,6 +167,7 @@ fn run_values(
     budget: &mut u64,
 ) -> Result<RowValues, ArrayError>
     requires inside { start + count ≤ (label array.now).len }
+    requires counted { start + count < 2 ^ 64 }
     ensures values { IfOk result (λ values. roses_of values ≡ values_from (rows_of array.now) start count) }
     ensures spent { OnOk result (budget.old ≡ cells_from (rows_of array.now) start count + budget.new) }
     ensures err { IfErr result (λ e. IsValueRefused e (cells_from (rows_of array.now) start count) budget.old) }
