@@ -261,7 +261,9 @@ impl Array {
         ensures there { AreThere result }
         ensures smaller { parts_nodes result < nodes self.now }
     {
-        let (dtype, len, children) = (&self.dtype, self.len, self.children.as_slice());
+        let dtype = &self.dtype;
+        let len = self.len;
+        let children = self.children.as_slice();
         match &self.body {
             Body::Null => RowParts::Lone(LoneRow::Null),
             Body::Primitive(numbers) => RowParts::Lone(numbers.row_at(dtype, len, children, index)),

@@ -1,6 +1,6 @@
 //! The text of a row's value.
 
-ghost use Rattle.std.specs.Prelude.{◌≡◌, ◌++◌, IfOk, codes, string_bytes};
+ghost use Rattle.std.specs.Prelude.{◌≡◌, ◌++◌, IfOk, OnOk, codes, string_bytes, if◌then◌else◌};
 ghost use Rattle.vx_trees.specs.Rose.{node, roses_of};
 ghost use Rattle.vx_types.specs.Seen.{typ, typs};
 ghost use Rattle.vx_types.specs.Value.{tuple};
@@ -59,15 +59,14 @@ fn tuple_text(alloc: Global, values: &[RowValue], dtype: &DType) -> Result<Strin
 }
 
 // One text more, parted from those before it.
-fn with_text(texts: String, text: &str, first: bool) -> Result<String, AllocError>
-    ensures { IfOk result (λ more. string_bytes more ≡ string_bytes texts ++ (if first then text.now else further_text text.now)) }
+fn add_text(texts: &mut String, text: &str, first: bool) -> Result<(), AllocError>
+    ensures { OnOk result (string_bytes texts.new ≡ string_bytes texts.old ++ (if first then text.now else further_text text.now)) }
 {
-    let mut texts = texts;
-    if !first {
-        texts.push_str(", ")?;
+    if first {
+        return texts.push_str(text);
     }
-    texts.push_str(text)?;
-    Ok(texts)
+    texts.push_str(", ")?;
+    texts.push_str(text)
 }
 
 // The texts of values of one type, parted by commas.
@@ -78,7 +77,7 @@ fn texts_of_one(alloc: Global, values: &[RowValue], dtype: &DType) -> Result<Str
     let mut texts = String::new(alloc);
     for i in 0..values.len() {
         let text = row_text(alloc, &values[i], dtype)?;
-        texts = with_text(texts, text.as_str(), i == 0)?;
+        add_text(&mut texts, text.as_str(), i == 0)?;
     }
     Ok(texts)
 }
@@ -91,7 +90,7 @@ fn texts_by(alloc: Global, values: &[RowValue], dtypes: &[DType]) -> Result<Stri
     let mut texts = String::new(alloc);
     for i in 0..values.len().min(dtypes.len()) {
         let text = row_text(alloc, &values[i], &dtypes[i])?;
-        texts = with_text(texts, text.as_str(), i == 0)?;
+        add_text(&mut texts, text.as_str(), i == 0)?;
     }
     Ok(texts)
 }
@@ -104,7 +103,7 @@ fn entry_texts(alloc: Global, values: &[RowValue], map: &MapDType) -> Result<Str
     let mut texts = String::new(alloc);
     for i in 0..values.len() {
         let text = entry_text(alloc, &values[i], map)?;
-        texts = with_text(texts, text.as_str(), i == 0)?;
+        add_text(&mut texts, text.as_str(), i == 0)?;
     }
     Ok(texts)
 }
