@@ -1,6 +1,6 @@
 //! The names of a node's slots and of its buffers.
 
-ghost use Rattle.std.specs.Prelude.{◌≡◌, ◌<◌, length, slice_get, Some, ◌∷◌, [], IfOk, IsOkUnless};
+ghost use Rattle.std.specs.Prelude.{◌≡◌, ◌<◌, length, slice_get, Some, ◌∷◌, [], IfOk, IfSome, IfNone, IsOkUnless};
 ghost use Rattle.vx_trees.specs.Rose.{label};
 ghost use Rattle.vx_types.specs.Seen.{typ};
 ghost use Rattle.vx_arrays.specs.Plain.{plain_body};
@@ -11,7 +11,7 @@ use crate::body::Body;
 use crate::error::ArrayError;
 use crate::row::owned_text;
 use std::alloc::Global;
-use vx_types::{DType, Name};
+use vx_types::{DType, Name, Names};
 
 impl Array {
     /// How many slots the root has: one for each child that a node of its encoding and type may have, also where the
@@ -54,18 +54,22 @@ fn slots_of(dtype: &DType, body: &Body) -> usize
         Body::Null => 0,
         Body::Bool(_) | Body::Primitive(_) | Body::Decimal(_) | Body::VarBinView(_) => 1,
         Body::VarBin(_) | Body::FixedSizeList => 2,
-        Body::Struct => members_of(dtype).len() + 1,
+        Body::Struct => match members_of(dtype) {
+            Some(names) => names.as_slice().len() + 1,
+            None => 1,
+        },
     }
 }
 
 // The names of the fields of a type of structures, and of the members of one of unions.
-fn members_of(dtype: &DType) -> &[Name]
-    ensures { result.now ≡ member_names (typ dtype.now) }
+fn members_of(dtype: &DType) -> Option<&Names>
+    ensures some { IfSome result (λ names. names.now ≡ member_names (typ dtype.now)) }
+    ensures none { IfNone result (member_names (typ dtype.now) ≡ []) }
 {
     match dtype {
-        DType::Struct(fields, _) => fields.names().as_slice(),
-        DType::Union(members, _) => members.names().as_slice(),
-        _ => &[],
+        DType::Struct(fields, _) => Some(fields.names()),
+        DType::Union(members, _) => Some(members.names()),
+        _ => None,
     }
 }
 
@@ -81,9 +85,11 @@ fn slot_of<'a>(dtype: &'a DType, body: &Body, index: usize) -> &'a str
         Body::FixedSizeList => { if index == 0 { "elements" } else { "validity" } }
         Body::Struct => {
             if index == 0 {
-                "validity"
-            } else {
-                members_of(dtype)[index - 1].as_str()
+                return "validity";
+            }
+            match members_of(dtype) {
+                Some(names) => names.as_slice()[index - 1].as_str(),
+                None => unreachable!(),
             }
         }
     }
