@@ -1,6 +1,7 @@
 -- The children of a node of structures: a validity that may stand in front, and its columns; and its rows.
-use Rattle.std.proofs.Common.{ℕ, zero, suc, ◌≡◌, ◌≤◌, ◌<◌, ◌+◌, ◌==◌, List, [], ◌∷◌, ◌++◌, Option, Some, None, option_map, Bool, true, false, refl, sym, ap, ◌∙◌, subst, inl, inr, length, arith}
+use Rattle.std.proofs.Common.{ℕ, zero, suc, ◌≡◌, ◌≤◌, ◌<◌, ◌+◌, ◌-◌, ◌==◌, List, [], ◌∷◌, ◌++◌, Option, Some, None, option_map, Bool, true, false, refl, sym, ap, ◌∙◌, subst, inl, inr, length, take, drop, arith}
 use Rattle.std.proofs.lemmas.Bool.{eq-eqb, ne_eqb}
+use Rattle.std.proofs.lemmas.List.{take_all}
 use Rattle.std.proofs.lemmas.Option.{same_Some}
 use Rattle.std.specs.Prelude.{◌↔◌, ◌⊎◌, IsTrue, if◌then◌else◌}
 use Rattle.vx_trees.specs.Rose.{Roses, node, end, more, label, below, count, roses_of}
@@ -217,6 +218,25 @@ module _ (d : Typ) (n : ℕ) (ts us : Trees) (e : us ≡ field_trees d ts) where
       fewer true (more v vs) = omega arith
       fewer false vs = omega arith
 
+-- Behind the first of some children stand the others.
+pub behind_length : (ts : List Tree) → 1 ≤ length ts → length (take (length ts - 1) (drop 1 ts)) ≡ length ts - 1
+behind_length [] h = absurd (omega (arith, h))
+behind_length (t ∷ ts) h = ap (λ (us : List Tree). length us) (take_all {A = Tree} (suc (length ts) - 1) ts (omega arith)) ∙ one_less (length ts)
+  where
+    one_less : (n : ℕ) → n ≡ suc n - 1
+    one_less n = omega arith
+
+-- They are the columns where there are as many as fields, and else all children are.
+pub columns_front : (d : Typ) (v : Tree) (us ts : Trees) → ts ≡ more v us → count us ≡ width_of d → us ≡ field_trees d ts
+columns_front d v us ts e k =
+    let h : has_validity d (count (more v us)) ≡ true = equal (count (more v us)) (suc (width_of d)) (ap (λ j. suc j) k) in
+    sym (ap (λ b. if b then us else more v us) h) ∙ ap (λ (zs : Trees). field_trees d zs) (sym e)
+
+pub columns_whole : (d : Typ) (v : Tree) (us ts : Trees) → ts ≡ more v us → (count us ≡ width_of d → ⊥) → ts ≡ field_trees d ts
+columns_whole d v us ts e k =
+    let h : has_validity d (count (more v us)) ≡ false = unequal (count (more v us)) (suc (width_of d)) (λ q. k (omega (arith, q))) in
+    e ∙ sym (ap (λ b. if b then us else more v us) h) ∙ ap (λ (zs : Trees). field_trees d zs) (sym e)
+
 -- ---- what is of that shape
 
 module _ (f : Fields) (m : Nullability) (n : ℕ) (ts : Trees) where
@@ -295,3 +315,6 @@ pub no_children : (f : Fields) (m : Nullability) (n : ℕ) → (0 ≡ length f.t
 no_children f m n other h =
     let b = shaped_behind f m n end h in
     elim (b.ways) [ inl x ↦ absurd (other (x.0 ∙ width f m n end)) | inr x ↦ absurd (no_places _ _ x.1) ]
+
+-- What rows of structures rest on.
+pub ruleset fielded = (sound_fields, structure_value, structure_cells, columns_there, columns_smaller)

@@ -199,6 +199,15 @@ first_and_behind (t ∷ ts) o h e =
     let a : take (suc (length ts) - 1) ts ≡ ts = take_all {A = Tree} (suc (length ts) - 1) ts (omega arith) in
     ap (λ (u : Tree). more u (roses_of ts)) (sym e) ∙ ap (λ (us : List Tree). more o (roses_of us)) (sym a)
 
+-- The first of them.
+abbrev pub first_of : (ts : List Tree) → 1 ≤ length ts → Tree
+first_of [] h = absurd (omega (arith, h))
+first_of (t ∷ ts) h = t
+
+pub first_is : (ts : List Tree) (h : 1 ≤ length ts) → first_of ts h ≡ get_or ts 0 (first_of ts h)
+first_is [] h = absurd (omega (arith, h))
+first_is (t ∷ ts) h = refl
+
 -- ---- what tests say of parts
 
 pub absurd_test : {P : Type 0} → IsTrue false → P

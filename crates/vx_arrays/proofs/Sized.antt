@@ -139,3 +139,6 @@ module _ (s : ℕ) (m : Nullability) (n : ℕ) (o : Tree) (vs : Trees) where
       λ x. shaped_of (f.0 q) lt (v.0 x),
       λ h. v.1 (record { planned = (shaped_front h).1; allowed = λ j. h.allows (ap (λ k. suc k) j) }),
     )
+
+-- What rows of lists of one size rest on.
+pub ruleset sized_lists = (sound_size, sound_some, sound_few, sound_elements, sound_planned, row_within, list_value, list_cells, elements_smaller)

@@ -278,6 +278,7 @@ impl Array {
 
     // The row's value, if there are cells to spend for it.
     #[cycle(rows)]
+    #[tactic(auto, using(crate::proofs::Counted::counted))]
     pub(crate) fn row_within(
         &self,
         alloc: Global,

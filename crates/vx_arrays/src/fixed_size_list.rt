@@ -48,6 +48,7 @@ impl FixedSizeListArray {
     }
 
     // Of what a row is made in a node of this type, length and children.
+    #[tactic(auto, using(crate::proofs::Sized::sized_lists))]
     pub(crate) fn parts_at<'a>(
         dtype: &DType,
         len: usize,

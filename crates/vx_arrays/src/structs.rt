@@ -55,6 +55,7 @@ impl StructArray {
     }
 
     // Of what a row is made in a node of this type, length and children.
+    #[tactic(auto, using(crate::proofs::Fielded::fielded))]
     pub(crate) fn parts_at<'a>(
         dtype: &DType,
         len: usize,
