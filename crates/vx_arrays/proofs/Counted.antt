@@ -1,5 +1,5 @@
 -- Rows that are built of other rows: one value more, its cells, and what is left to spend.
-use Rattle.std.proofs.Common.{ℕ, zero, suc, ◌≡◌, ◌≤◌, ◌<◌, ◌+◌, List, [], ◌∷◌, ◌++◌, Result, Ok, Err, IfOk, IfErr, OnOk, refl, sym, ap, ◌∙◌, subst, length, take, get_or, arith, add-one, add-zero}
+use Rattle.std.proofs.Common.{ℕ, zero, suc, ◌≡◌, ◌≤◌, ◌<◌, ◌+◌, ◌-◌, List, [], ◌∷◌, ◌++◌, Result, Ok, Err, IfOk, IfErr, OnOk, refl, sym, ap, ◌∙◌, subst, length, take, get_or, arith, add-one, add-zero}
 use Rattle.std.proofs.lemmas.List.{take_all}
 use Rattle.vx_trees.specs.Rose.{Roses, node, end, more, label, roses_of}
 use Rattle.vx_trees.specs.Walks.{nodes, nodes_of}
@@ -89,7 +89,10 @@ cells_more r start k = rw (add-one k) (cells_next r start k)
 -- So many rows take no fewer cells than the first of them.
 cells_grow : (r : Rows) (start k more_rows : ℕ) → cells_from r start k ≤ cells_from r start (k + more_rows)
 cells_grow r start zero m = omega arith
-cells_grow r start (suc k) m = omega (arith, cells_grow r (suc start) k m)
+cells_grow r start (suc k) m =
+    let e : suc k + m ≡ suc (k + m) = omega arith in
+    let f : cells_from r start (suc k + m) ≡ r.cells start + cells_from r (suc start) (k + m) = ap (λ j. cells_from r start j) e in
+    omega (arith, f, cells_grow r (suc start) k m)
 
 pub cells_within : (r : Rows) (start k count : ℕ) → k < count → cells_from r start k + r.cells (start + k) ≤ cells_from r start count
 cells_within r start k count h =

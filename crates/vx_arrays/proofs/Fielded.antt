@@ -45,10 +45,10 @@ exactly_past [] = refl
 exactly_past (p ∷ ps) = ap (λ (o : Option (List Place)). option_map (λ qs. p ∷ qs) o) (exactly_past ps)
 
 behind_some : (ps : List Place) (n k : ℕ) (qs : List Place) → exactly ps k ≡ Some qs → behind_validity ps n k ≡ Some qs
-behind_some ps n k qs e = rw e refl
+behind_some ps n k qs e = rw (e, behind_validity) refl
 
 behind_none : (ps : List Place) (n k : ℕ) → exactly ps k ≡ None → behind_validity ps n k ≡ exactly (validity_place n ∷ ps) k
-behind_none ps n k e = rw e refl
+behind_none ps n k e = rw (e, behind_validity) refl
 
 -- These places, or behind that of a validity.
 pub record IsBehind (ps : List Place) (n k : ℕ) (qs : List Place) : Type 0 where
@@ -240,7 +240,7 @@ columns_whole d v us ts e k =
 -- ---- what is of that shape
 
 module _ (f : Fields) (m : Nullability) (n : ℕ) (ts : Trees) where
-  ps : List Place
+  abbrev pub ps : List Place
   ps = places_at (roses_of f.types) n
 
   shaped_behind : IsWellShaped (struct_head f m n) ts → IsBehind ps n (count ts) (places ts)

@@ -57,10 +57,10 @@ pub(crate) enum RowParts<'a> {
 // The parts of a row, where it is there; a row that is not there is null, and one of which that is not known is opaque.
 pub(crate) fn where_there<'a>(valid: Option<bool>, parts: RowParts<'a>) -> RowParts<'a>
     requires { AreThere parts }
-    ensures value { (f : ℕ → Value) (i : ℕ) → parts_value parts ≡ f i → parts_value result ≡ where_valid valid f i }
-    ensures cells { (f : ℕ → ℕ) (i : ℕ) → parts_cells parts ≡ f i → parts_cells result ≡ cells_where valid f i }
+    ensures value { (f : ℕ → Value) (i : ℕ) → parts_value parts.entry ≡ f i → parts_value result ≡ where_valid valid f i }
+    ensures cells { (f : ℕ → ℕ) (i : ℕ) → parts_cells parts.entry ≡ f i → parts_cells result ≡ cells_where valid f i }
     ensures there { AreThere result }
-    ensures smaller { parts_nodes result ≤ parts_nodes parts }
+    ensures smaller { parts_nodes result ≤ parts_nodes parts.entry }
 {
     match valid {
         None => RowParts::Lone(LoneRow::Opaque),
@@ -135,9 +135,9 @@ pub(crate) fn built(
     budget: &mut u64,
 ) -> Result<RowValue, ArrayError>
     requires there { AreThere parts }
-    ensures row { IfOk result (λ value. plain_value value ≡ parts_value parts) }
-    ensures spent { OnOk result (budget.old ≡ parts_cells parts + budget.new) }
-    ensures err { IfErr result (λ e. IsValueRefused e (parts_cells parts) budget.old) }
+    ensures row { IfOk result (λ value. plain_value value ≡ parts_value parts.entry) }
+    ensures spent { OnOk result (budget.old ≡ parts_cells parts.entry + budget.new) }
+    ensures err { IfErr result (λ e. IsValueRefused e (parts_cells parts.entry) budget.old) }
 {
     match parts {
         RowParts::Lone(row) => lone_value(alloc, row, budget),

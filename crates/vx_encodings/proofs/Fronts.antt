@@ -7,10 +7,10 @@ use Rattle.vx_array_tree.proofs.Options.{mapped}
 use Rattle.vx_array_tree.proofs.Plans.{exactly_is}
 
 pub behind_some : (ps : List Place) (n k : ℕ) (qs : List Place) → exactly ps k ≡ Some qs → behind_validity ps n k ≡ Some qs
-behind_some ps n k qs e = rw e refl
+behind_some ps n k qs e = rw (e, behind_validity) refl
 
 pub behind_none : (ps : List Place) (n k : ℕ) → exactly ps k ≡ None → behind_validity ps n k ≡ exactly (validity_place n ∷ ps) k
-behind_none ps n k e = rw e refl
+behind_none ps n k e = rw (e, behind_validity) refl
 
 exactly_count : (ps : List Place) (k : ℕ) (qs : List Place) → exactly ps k ≡ Some qs → k ≡ length ps
 exactly_count [] zero qs e = refl

@@ -36,7 +36,7 @@ parts::across_values-row_within-requires t c =
     let ts = c.args.arrays.now in
     let u = c.index-arrays-i.result in (
       omega (arith, smaller_at ts c.loop-i.i u c.loop-i-test.true c.index-arrays-i.is),
-      row_inside ts c.args.index c.loop-i.i u c.loop-i-test.true c.index-arrays-i.is c.requires,
+      row_inside ts c.args.index c.loop-i.i u c.loop-i-test.true c.index-arrays-i.is c.requires.inside,
     )
 
 pub parts::across_values-returns-in_err-value-clause-err : goal.parts::across_values-returns-in_err-value-clause-err
