@@ -12,10 +12,10 @@ use Rattle.vx_type_wire.proofs.MessageFound.{no_default, reads_message, shows_me
 use Rattle.vx_type_wire.proofs.messages.DTypeDTypeExt.from_proto.Goals as goal
 
 pub returns-in_default-clause-cause : goal.returns-in_default-clause-cause
-returns-in_default-clause-cause g c = no_default c.args.message.now c.in_default.ensures
+returns-in_default-clause-cause g c = no_default c.args.message.now c.in_default.ensures.value
 
 pub returns-in_default-clause-complete : goal.returns-in_default-clause-complete
-returns-in_default-clause-complete g c = λ t le r. absurd (no_default c.args.message.now c.in_default.ensures t le r.shows)
+returns-in_default-clause-complete g c = λ t le r. absurd (no_default c.args.message.now c.in_default.ensures.value t le r.shows)
 
 pub returns-in_err-found-clause-cause : goal.returns-in_err-found-clause-cause
 returns-in_err-found-clause-cause g c =
