@@ -1,7 +1,7 @@
 -- The registry of the shipped encodings.
-use Rattle.std.proofs.Common.{ℕ, ◌≡◌, List, [], ◌∷◌, ◌++◌, map, refl, ap, ◌∙◌, take, length, ◌≤◌}
+use Rattle.std.proofs.Common.{ℕ, ◌≡◌, List, [], ◌∷◌, ◌++◌, map, refl, sym, ap, ◌∙◌, take, length, ◌+◌, ◌<◌, ◌≤◌, slice_index_or}
 use Rattle.std.specs.Prelude.{bytes_eq}
-use Rattle.std.proofs.lemmas.List.{take_all}
+use Rattle.std.proofs.lemmas.List.{take_all, take_more}
 use Rattle.indexmap.specs.IndexMap.{insert_entry}
 use Rattle.vx_encodings.specs.declared.encoding.Encoding.{Encoding}
 use Rattle.vx_registry.specs.Session.{Registry, own_id, registered, shipped_encodings, shipped_registry}
@@ -29,6 +29,11 @@ tables_of es = record { readers = put_in [] es; writers = put_in [] es }
 -- one encoding more
 pub tables_of-snoc : (es : List Encoding) (e : Encoding) → tables_of (es ++ e ∷ []) ≡ registered e (tables_of es)
 tables_of-snoc es e = ap (λ m. record { readers = m; writers = m }) (put_in-snoc [] es e)
+
+-- and the next of a list, behind those before it
+pub next_tables : (es : List Encoding) (i : ℕ) (d : Encoding) (r : Registry) → i < length es → r ≡ tables_of (take i es) → registered (slice_index_or es i d) r ≡ tables_of (take (i + 1) es)
+next_tables es i d r here e =
+    ap (λ z. registered (slice_index_or es i d) z) e ∙ sym (tables_of-snoc (take i es) (slice_index_or es i d)) ∙ ap (λ z. tables_of z) (sym (take_more es i d here))
 
 -- and all of them
 pub all_tables : (n : ℕ) → length shipped_encodings ≤ n → tables_of (take n shipped_encodings) ≡ shipped_registry
