@@ -5,8 +5,3 @@ mod Viewed
 mod Flags
 mod AllInvalid
 mod Untold
-mod SameRows
-mod Firsts
-mod Counted
-mod Sized
-mod Fielded

@@ -1,7 +1,6 @@
 pub mod Laws
 mod Refusing
 mod Bare
-mod Fronts
 mod Unread
 mod Numbers
 mod Offsets
@@ -17,5 +16,3 @@ mod PrimitiveSteps
 mod DecimalSteps
 mod VarBinSteps
 mod VarBinViewSteps
-mod FixedSizeListSteps
-mod StructSteps

@@ -67,8 +67,6 @@ impl ArraySession {
             Encoding::Decimal,
             Encoding::VarBin,
             Encoding::VarBinView,
-            Encoding::FixedSizeList,
-            Encoding::Struct,
         ] {
             session.set(encoding)?;
         }
