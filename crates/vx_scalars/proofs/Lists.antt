@@ -12,7 +12,6 @@ use Rattle.vx_types.specs.Kind.{union as union_kind}
 use Rattle.vx_types.specs.Seen.{typ, typs}
 use Rattle.vx_types.specs.Typ.{Typ}
 use Rattle.vx_types.specs.Value.{Value}
-use Rattle.vx_types.specs.Well.{IsWell, AreWell}
 use Rattle.vx_types.specs.declared.dtype.DType.{DType}
 use Rattle.vx_types.specs.declared.nullability.Nullability.{Nullability}
 use Rattle.vx_types.proofs.Lists.{typs-at}
@@ -184,11 +183,5 @@ two-parts (a ∷ b ∷ c ∷ vs) v k x f = absurd (f.1.1)
 -- A tuple of another number of parts is no entry.
 pub no-entry : (ws : List Value) (vs : List (Option ScalarValue)) (k x : Typ) → all_seen vs ≡ ws → (length vs ≡ 2 → ⊥) → FitBy (roses_of ws) (more k (more x end)) → ⊥
 no-entry ws vs k x e h f = h (two-parts vs None k x (subst (λ us. FitBy (roses_of us) (more k (more x end))) (sym e) f)).0
-
--- ---- one more
-
-pub well-push : (vs : List (Option ScalarValue)) (v : Option ScalarValue) → AreWell (roses_of (all_seen vs)) → IsWell (seen v) → AreWell (roses_of (all_seen (vs ++ v ∷ [])))
-well-push [] v f g = (g, tt)
-well-push (x ∷ vs) v f g = (f.0, well-push vs v f.1 g)
 
 pub ruleset falling = (size-at, seen-length, seen-at, count-roses_of, each-at, each-more, by-length, by-at, by-more, two-fit, two-parts, member-at, member-nowhere, no-entry)

@@ -7,7 +7,6 @@ use base.Stored.{coded_unit}
 use Rattle.vx_types.specs.Fits.{Fits}
 use Rattle.vx_types.specs.Typ.{Typ}
 use Rattle.vx_types.specs.Value.{Value, value_code, is_null}
-use Rattle.vx_types.specs.Well.{IsWell}
 use Rattle.vx_scalars.specs.Seen.{value_of}
 use Rattle.vx_scalars.specs.StatTypes.{stat_index, stat_type}
 use Rattle.vx_scalars.specs.declared.precision.Precision.{Precision}
@@ -96,10 +95,10 @@ abbrev pub IsNowhere : Stat → List Entry → Type 0
 IsNowhere s [] = Unit {0}
 IsNowhere s (x ∷ xs) = ((stat_index s == stat_index x.0) ≡ false) × IsNowhere s xs
 
--- Something is told, of a value whose plain parts are such as they may be.
+-- Something is told.
 abbrev pub IsTold : Told → Type 0
-IsTold (Exact v) = IsWell v
-IsTold (Inexact v) = IsWell v
+IsTold (Exact v) = Unit {0}
+IsTold (Inexact v) = Unit {0}
 IsTold Absent = ⊥
 
 -- Each entry tells something, and none is of a statistic of which another is.

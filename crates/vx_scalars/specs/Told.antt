@@ -1,10 +1,8 @@
 -- What contracts see of a scalar.
 use Rattle.std.specs.Prelude.{refl}
 use Rattle.std.specs.Coded.{Coded, code_by, coded×}
-use Rattle.vx_types.specs.Fits.{Fits}
-use Rattle.vx_types.specs.Typ.{Typ, typ_code, IsType}
+use Rattle.vx_types.specs.Typ.{Typ, typ_code}
 use Rattle.vx_types.specs.Value.{Value, value_code}
-use Rattle.vx_types.specs.Well.{IsWell}
 
 -- A value with the type that it is of.
 pub record Typed : Type 0 where
@@ -14,9 +12,3 @@ pub record Typed : Type 0 where
 -- A scalar is stored as its two parts.
 abbrev pub typed_code : Coded Typed
 typed_code = code_by (Typ × Value) (coded× typ_code value_code) (λ s. (s.dtype, s.value)) (λ p. record { dtype = p.0; value = p.1 }) (λ _. refl)
-
--- The value fits the type, and the parts of both are such as they may be.
-pub record IsTyped (s : Typed) : Type 0 where
-  pub is_type : IsType s.dtype
-  pub well : IsWell s.value
-  pub fits : Fits s.value s.dtype

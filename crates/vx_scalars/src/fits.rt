@@ -43,10 +43,7 @@ pub(crate) fn fits(value: Option<&ScalarValue>, dtype: &DType) -> bool
         ScalarValue::Binary(_) => matches!(dtype, DType::Binary(_)),
         ScalarValue::Tuple(values) => fit_parts(values, dtype),
         ScalarValue::Union(tag, value) => fits_member(*tag, value, dtype),
-        ScalarValue::Variant(scalar) => {
-            scalar.hold();
-            matches!(dtype, DType::Variant(_))
-        }
+        ScalarValue::Variant(scalar) => scalar.get().fits_variant(dtype),
     }
 }
 

@@ -1,16 +1,16 @@
 //! Scalars.
 
-ghost use Rattle.std.specs.Prelude.{◌≡◌, ◌==◌, IfOk, IfErr, IsOkUnless, option_copied};
-ghost use Rattle.vx_types.specs.Fits.{Fits};
+ghost use Rattle.std.specs.Prelude.{◌≡◌, ◌==◌, ◌↔◌, IsTrue, IfOk, IfErr, IsOkUnless, option_copied};
+ghost use Rattle.vx_trees.specs.Rose.{end, more};
+ghost use Rattle.vx_types.specs.Fits.{Fits, FitBy, IsVariant};
 ghost use Rattle.vx_types.specs.Seen.{typ};
 ghost use Rattle.vx_types.specs.Value.{is_null};
 ghost use Rattle.vx_scalars.specs.Seen.{seen};
-ghost use Rattle.vx_scalars.specs.Told.{IsTyped};
 
 use crate::copy::copied;
 use crate::error::ScalarError;
 use crate::fits::fits;
-use crate::value::{ScalarValue, hold_seen};
+use crate::value::ScalarValue;
 use std::alloc::Global;
 use std::marker::Model;
 use vx_types::DType;
@@ -38,9 +38,9 @@ impl Model for Scalar {
 
     ghost view = { λ a. record { dtype = typ a.dtype; value = seen a.value } };
 
-    ghost use Rattle.vx_scalars.specs.Told.{IsTyped};
+    ghost use Rattle.vx_types.specs.Fits.{Fits};
 
-    ghost invariant = { λ a. IsTyped (record { dtype = typ a.dtype; value = seen a.value }) };
+    ghost invariant = { λ a. Fits (seen a.value) (typ a.dtype) };
 
     ghost size = { typed_size };
 
@@ -58,8 +58,6 @@ impl Scalar {
         ensures err { IfErr result (λ e. (e ≡ ScalarError.BadScalar) × (Fits (seen value) (typ dtype) → ⊥)) }
     {
         Scalar::validate(&dtype, value.as_ref())?;
-        let _ = dtype.is_within(1);
-        hold_seen(&value);
         Ok(Scalar { dtype, value })
     }
 
@@ -114,17 +112,16 @@ impl Scalar {
         ensures ok { IfOk result (λ scalar. scalar ≡ self.now) }
         ensures err { IsOkUnless result ScalarError.OutOfMemory }
     {
-        self.hold();
         let dtype = self.dtype.clone(alloc)?;
-        let value = copied(self.value.as_ref(), alloc)?;
+        let value = copied(self.value(), alloc)?;
         Ok(Scalar { dtype, value })
     }
 
-    /// What is known of each scalar: its value fits its type, and the parts of
-    /// both are such as they may be. Nothing runs; a caller gets the fact.
-    pub fn hold(&self)
-        ensures { IsTyped self.now }
+    // Whether the scalar, as what a variant holds, fits a type that is no extension:
+    // where that is of variants, since the scalar fits its own.
+    pub(crate) fn fits_variant(&self, dtype: &DType) -> bool
+        ensures { IsTrue result ↔ (IsVariant (typ dtype.now) × FitBy (more self.now.value end) (more self.now.dtype end)) }
     {
-        let _ = &self.value;
+        matches!((&self.value, dtype), (_, DType::Variant(_)))
     }
 }

@@ -110,17 +110,13 @@ fn borrowed(value: &Precision<ScalarValue>) -> Precision<&ScalarValue>
     }
 }
 
-// Whether nothing is told; of a value that is told, that its plain parts are such
-// as they may be.
+// Whether nothing is told.
 fn is_absent(value: &Precision<ScalarValue>) -> bool
     ensures absent { result ≡ absence value.now }
-    ensures well { result ≡ false → IsTold (told value.now) }
+    ensures told { result ≡ false → IsTold (told value.now) }
 {
     match value {
-        Precision::Exact(value) | Precision::Inexact(value) => {
-            value.hold();
-            false
-        }
+        Precision::Exact(_) | Precision::Inexact(_) => false,
         Precision::Absent => true,
     }
 }

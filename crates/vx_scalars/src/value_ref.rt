@@ -1,11 +1,10 @@
 //! A value within a value.
 
 ghost use Rattle.std.specs.Prelude.{◌≡◌, IfOk, IsOkUnless, option_copied};
-ghost use Rattle.vx_types.specs.Well.{IsWell};
 ghost use Rattle.vx_scalars.specs.Seen.{seen};
 
 use crate::error::ScalarError;
-use crate::value::{ScalarValue, hold_seen};
+use crate::value::ScalarValue;
 use std::alloc::Global;
 use std::marker::Model;
 
@@ -29,10 +28,6 @@ impl Model for ValueRef {
 
     ghost view = { λ a. place_of a.value };
 
-    ghost use Rattle.vx_types.specs.Well.{IsWell};
-
-    ghost invariant = { λ a. IsWell (place_of a.value) };
-
     ghost size = { place_size };
 
     ghost use Rattle.vx_scalars.specs.Falling.{place_le-size};
@@ -49,7 +44,6 @@ impl ValueRef {
         match value {
             None => Ok(ValueRef { value: None }),
             Some(value) => {
-                value.hold();
                 let value = Box::new(alloc, value)?;
                 Ok(ValueRef { value: Some(value) })
             }
@@ -76,13 +70,5 @@ impl ValueRef {
             None => Ok(ValueRef { value: None }),
             Some(value) => ValueRef::new(alloc, Some(value.clone(alloc)?)),
         }
-    }
-
-    /// What is known of each value within another: its numbers are in their
-    /// ranges, its texts are texts. Nothing runs; a caller gets the fact.
-    pub fn hold(&self)
-        ensures { IsWell self.now }
-    {
-        let _ = &self.value;
     }
 }

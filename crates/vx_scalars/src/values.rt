@@ -1,13 +1,11 @@
 //! Lists of values.
 
 ghost use Rattle.std.specs.Prelude.{◌≡◌, ◌==◌, [], ◌∷◌, ◌++◌, OnOk, OnErr, IfOk, IsOkUnless, length, slice_get, option_map, option_copied};
-ghost use Rattle.vx_trees.specs.Rose.{roses_of};
-ghost use Rattle.vx_types.specs.Well.{AreWell};
 ghost use Rattle.vx_scalars.specs.Seen.{seen, all_seen};
 
 use crate::copy::copy_all;
 use crate::error::ScalarError;
-use crate::value::{ScalarValue, hold_seen};
+use crate::value::ScalarValue;
 use std::alloc::Global;
 use std::marker::Model;
 
@@ -33,11 +31,6 @@ impl Model for Values {
     ghost use Rattle.vx_scalars.specs.Seen.{all_seen};
 
     ghost view = { λ a. all_seen a.items.items };
-
-    ghost use Rattle.vx_trees.specs.Rose.{roses_of};
-    ghost use Rattle.vx_types.specs.Well.{AreWell};
-
-    ghost invariant = { λ a. AreWell (roses_of (all_seen a.items.items)) };
 
     ghost size = { values_size };
 
@@ -84,7 +77,6 @@ impl Values {
         ensures unchanged { OnErr result (self.new ≡ self.old) }
         ensures err { IsOkUnless result ScalarError.OutOfMemory }
     {
-        hold_seen(&value);
         self.items.push(value)?;
         Ok(())
     }
@@ -95,16 +87,7 @@ impl Values {
         ensures ok { IfOk result (λ values. values ≡ self.now) }
         ensures err { IsOkUnless result ScalarError.OutOfMemory }
     {
-        self.hold();
         let items = copy_all(self.as_slice(), alloc)?;
         Ok(Values { items })
-    }
-
-    /// What is known of each list of values: its numbers are in their ranges, its
-    /// texts are texts. Nothing runs; a caller gets the fact.
-    pub fn hold(&self)
-        ensures { AreWell (roses_of self.now) }
-    {
-        let _ = &self.items;
     }
 }

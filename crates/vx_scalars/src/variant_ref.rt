@@ -1,7 +1,6 @@
 //! A scalar within a value.
 
 ghost use Rattle.std.specs.Prelude.{◌≡◌, IfOk, IsOkUnless};
-ghost use Rattle.vx_scalars.specs.Told.{IsTyped};
 
 use crate::error::ScalarError;
 use crate::scalar::Scalar;
@@ -55,13 +54,5 @@ impl VariantRef {
         ensures err { IsOkUnless result ScalarError.OutOfMemory }
     {
         VariantRef::new(alloc, self.get().clone(alloc)?)
-    }
-
-    /// What is known of each scalar: its value fits its type. Nothing runs; a
-    /// caller gets the fact.
-    pub fn hold(&self)
-        ensures { IsTyped self.now }
-    {
-        self.get().hold();
     }
 }
