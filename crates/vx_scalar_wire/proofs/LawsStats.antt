@@ -1,8 +1,8 @@
 -- A table shows one set of statistics at most, which fits, and that of a set shows what is written of it, and is
 -- the table of what is written.
-use Rattle.std.specs.Prelude.{option_map}
-use Rattle.std.proofs.Common.{◌≡◌, ◌∙◌, sym, subst}
-use Rattle.vx_flat.specs.IsOf.{AreOf, IsOf}
+use Rattle.std.specs.Prelude.{IfSome, option_map}
+use Rattle.std.proofs.Common.{◌≡◌, ◌∙◌, ◌<◌, ◌^◌, ℕ, Option, sym, subst}
+use Rattle.vx_flat.specs.IsOf.{AreOf}
 use Rattle.vx_flat.specs.Pieces.{table_pieces}
 use Rattle.vx_flat.specs.Schema.{Schema}
 use Rattle.vx_flat.specs.Value.{Field, absent, number, table, Fields, no_fields, field}
@@ -12,10 +12,10 @@ use Rattle.vx_types.specs.Value as V
 use Rattle.vx_types.specs.Well.{IsWell}
 use Rattle.vx_scalars.specs.Stats.{Told, Stats, FitStats}
 use Rattle.vx_scalars.proofs.LawsStats.{none_fit, written_sum_twice, written_flag_exact, written_count_exact}
-use Rattle.vx_scalar_wire.specs.StatsSchema.{stats_fields, stats_schema}
+use Rattle.vx_scalar_wire.specs.StatsSchema.{stats_fields}
 use Rattle.vx_scalar_wire.specs.StatsShown.{ShowsStats, ShowsStatsIn}
-use Rattle.vx_scalars.specs.WrittenStats.{canonical_sum, written_stats}
-use Rattle.vx_scalar_wire.specs.StatsTable.{IsStorable, AreStorable, value_field, precision_of, number_field, stats_pieces, stats_table}
+use Rattle.vx_scalars.specs.WrittenStats.{canonical_sum, exact_count, written_count, written_stats}
+use Rattle.vx_scalar_wire.specs.StatsTable.{IsStorable, IsStorableCount, AreStorable, count_bits, value_field, precision_of, number_field, stats_pieces, stats_table}
 use Rattle.vx_scalar_wire.proofs.StatsBack.{stats_back, sum_well}
 use Rattle.vx_scalar_wire.proofs.StatsEntries.{of_any, pieces_any}
 use Rattle.vx_scalar_wire.proofs.StatsRead.{stats_one, stats_fit}
@@ -57,7 +57,10 @@ written_alike t =
     (field (value_field t.greatest) (field (number (precision_of t.greatest))
     (field (value_field (total i))
     (field (number_field (option_map flag_number (sorted i))) (field (number_field (option_map flag_number (strict i))) (field (number_field (option_map flag_number (constant i)))
-    (field (number_field (nulls i)) (field (number_field (size i)) (field (number_field (nans i)) no_fields))))))))))
+    (field (number_field (option_map count_bits (nulls i))) (field (number_field (option_map count_bits (size i))) (field (number_field (option_map count_bits (nans i))) no_fields))))))))))
+
+small : (x : Told) → IsStorableCount x → IsStorableCount (written_count x)
+small x h = subst (λ (o : Option ℕ). IfSome o (λ n. n < 2 ^ 64)) (sym (written_count_exact x)) h
 
 -- And it can be stored where the set can.
 pub written_storable : (t : Stats) → AreStorable t → AreStorable (written_stats t)
@@ -65,7 +68,9 @@ written_storable t w = record {
   least = w.least;
   greatest = w.greatest;
   sum = subst (λ (x : Told). IsStorable x) (sym (written_sum_twice t.total)) w.sum;
-  of_kind = subst (λ (vs : Fields). IsOf stats_schema vs) (sym (written_alike t)) w.of_kind;
+  null_count = small t.null_count w.null_count;
+  uncompressed_size = small t.uncompressed_size w.uncompressed_size;
+  nan_count = small t.nan_count w.nan_count;
 }
 
 -- A sum in its written form is well.
@@ -76,5 +81,5 @@ canonical_well v h = sum_well v h
 pub pieces_anywhere : (s : Schema) (t : Stats) → table_pieces s stats_fields (stats_table t) ≡ stats_pieces t
 pieces_anywhere s t = pieces_any s t
 
-pub of_kind_anywhere : (s : Schema) (t : Stats) → IsOf stats_schema (stats_table t) → AreOf s stats_fields (stats_table t)
-of_kind_anywhere s t h = of_any s t h
+pub of_kind_anywhere : (s : Schema) (t : Stats) → AreOf s stats_fields (stats_table t)
+of_kind_anywhere s t = of_any s t

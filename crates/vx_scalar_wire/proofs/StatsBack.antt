@@ -1,6 +1,7 @@
 -- The table of a set shows what is written of it.
-use Rattle.std.specs.Prelude.{option_map, nat_lt, if◌then◌else◌}
-use Rattle.std.proofs.Common.{◌≡◌, ◌∙◌, ◌<◌, ◌≤◌, ◌%◌, ◌^◌, Bool, true, false, ℕ, [], ◌∷◌, length, Option, Some, None, refl, sym, subst, arith}
+use Rattle.std.specs.Prelude.{IfSome, option_map, nat_lt, if◌then◌else◌}
+use Rattle.std.proofs.Common.{◌≡◌, ◌∙◌, ◌<◌, ◌≤◌, ◌%◌, ◌^◌, ap, Bool, true, false, ℕ, [], ◌∷◌, length, Option, Some, None, refl, sym, subst, arith}
+use Rattle.std.proofs.Math.Nat.{mod-eq_of_lt}
 use Rattle.vx_flat.specs.Value.{number}
 use Rattle.vx_proto.specs.Parts.{flag_number}
 use Rattle.vx_proto.specs.Written.{nested}
@@ -12,6 +13,7 @@ use Rattle.vx_types.specs.Kind as K
 use Rattle.vx_types.specs.Kind.{Kind}
 use Rattle.vx_types.specs.Typ.{Typ}
 use Rattle.vx_types.specs.Value as V
+use Rattle.vx_types.specs.Value.{lone}
 use Rattle.vx_types.specs.Well.{IsInRange, IsWell}
 use Rattle.vx_types.specs.declared.value.PValue.{PValue}
 use Rattle.vx_types.specs.declared.value.PValue.TheVariants.{U8, U16, U32, U64, I8, I16, I32, I64, F16, F32, F64}
@@ -25,7 +27,7 @@ use Rattle.vx_scalar_wire.specs.Reading.{IsKnownValue, AreKnownValues, ShowsValu
 use Rattle.vx_scalar_wire.specs.ScalarMessage.{scalar_lists, scalar_lists_lawful, value_message, number_member}
 use Rattle.vx_scalar_wire.specs.StatsShown.{ShowsBound, ShowsSum, ShowsFlag, ShowsCount, ShowsStats}
 use Rattle.vx_scalars.specs.WrittenStats.{canonical_sum, written_sum, exact_flag, exact_count, told_mark, written_stats}
-use Rattle.vx_scalar_wire.specs.StatsTable.{IsStorable, AreStorable, value_bytes, value_field, precision_of, number_field, stats_table}
+use Rattle.vx_scalar_wire.specs.StatsTable.{IsStorable, AreStorable, value_bytes, value_field, precision_of, number_field, count_bits, stats_table}
 use Rattle.vx_scalar_wire.proofs.Form.{value_form}
 use Rattle.vx_scalar_wire.proofs.LawsScalars.{written-reads}
 
@@ -163,9 +165,9 @@ flag_back None = refl
 flag_back (Some true) = refl
 flag_back (Some false) = refl
 
-count_back : (o : Option ℕ) → ShowsCount (number_field o) (told_mark (option_map (λ n. V.number (U64 n)) o))
-count_back None = refl
-count_back (Some n) = refl
+count_back : (o : Option ℕ) → IfSome o (λ n. n < 2 ^ 64) → ShowsCount (number_field (option_map count_bits o)) (told_mark (option_map (λ n. V.number (U64 n)) o))
+count_back None h = refl
+count_back (Some n) h = ap (λ (k : ℕ). Exact (lone (V.number (U64 k)))) (sym (mod-eq_of_lt h))
 
 -- The table of a set of statistics that fit shows what is written of it.
 pub stats_back : (d : Typ) (t : Stats) → FitStats d t → AreStorable t → ShowsStats d (stats_table t) (written_stats t)
@@ -175,6 +177,6 @@ stats_back d t f w Sum = sum_back (stat_type Sum d) t.total (λ e h. sum_leaf d 
 stats_back d t f w IsSorted = flag_back (exact_flag t.is_sorted)
 stats_back d t f w IsStrictSorted = flag_back (exact_flag t.is_strict_sorted)
 stats_back d t f w IsConstant = flag_back (exact_flag t.is_constant)
-stats_back d t f w NullCount = count_back (exact_count t.null_count)
-stats_back d t f w UncompressedSizeInBytes = count_back (exact_count t.uncompressed_size)
-stats_back d t f w NaNCount = count_back (exact_count t.nan_count)
+stats_back d t f w NullCount = count_back (exact_count t.null_count) w.null_count
+stats_back d t f w UncompressedSizeInBytes = count_back (exact_count t.uncompressed_size) w.uncompressed_size
+stats_back d t f w NaNCount = count_back (exact_count t.nan_count) w.nan_count

@@ -1,6 +1,7 @@
 -- The entries, the links and the blocks of a table of statistics.
-use Rattle.std.specs.Prelude.{IfSome, option_map}
+use Rattle.std.specs.Prelude.{option_map}
 use Rattle.std.proofs.Common.{◌≡◌, ◌∙◌, ◌+◌, ◌<◌, ◌^◌, ◌++◌, Bool, true, false, ℕ, List, [], ◌∷◌, length, Option, Some, None, refl, sym, ap, arith, append_assoc, append-nil}
+use Rattle.std.proofs.lemmas.Nat.{mod_below}
 use Rattle.vx_flat.specs.declared.builder.piece.BlockField.{BlockField}
 use Rattle.vx_flat.specs.declared.schema.FieldKind.TheVariants.{Number, OptNumber, OptFlag, Vector}
 use Rattle.vx_flat.specs.declared.schema.Width.TheVariants.{One, Eight}
@@ -15,7 +16,7 @@ use Rattle.vx_scalars.specs.declared.precision.Precision.TheVariants.{Exact, Ine
 use Rattle.vx_scalar_wire.specs.StatsBlocks.{stored_field, IsStoredOf, vector_entry, number_entry, flag_entry, count_entry, table_entries, vector_pieces, vector_links}
 use Rattle.vx_scalar_wire.specs.StatsSchema.{stats_fields, stats_schema}
 use Rattle.vx_scalars.specs.WrittenStats.{written_sum, exact_flag, exact_count}
-use Rattle.vx_scalar_wire.specs.StatsTable.{value_bytes, value_field, precision_of, number_field, flag_field, count_field, stats_table, stats_pieces}
+use Rattle.vx_scalar_wire.specs.StatsTable.{value_bytes, value_field, precision_of, number_field, flag_field, count_bits, count_field, stats_table, stats_pieces}
 use Rattle.vx_scalar_wire.specs.declared.stats.entries.Stored.{Stored}
 
 -- ---- entries
@@ -46,7 +47,7 @@ flag_as : (x : Told) → flag_entry x ∷ [] ≡ field_entries OptFlag (flag_fie
 flag_as x = sym (flag_of (option_map flag_number (exact_flag x)))
 
 count_as : (x : Told) → count_entry x ∷ [] ≡ field_entries (OptNumber Eight) (count_field x)
-count_as x = sym (count_of (exact_count x))
+count_as x = sym (count_of (option_map count_bits (exact_count x)))
 
 -- The entries are those of the table.
 pub same_entries : (t : Stats) (x : Stored) → IsStoredOf t x → table_entries t x ≡ entries stats_fields (stats_table t)
@@ -76,8 +77,8 @@ later_links : (n : ℕ) (t : Stats)
     → entry_links n 5 (flag_entry t.is_sorted ∷ flag_entry t.is_strict_sorted ∷ flag_entry t.is_constant ∷ count_entry t.null_count ∷ count_entry t.uncompressed_size ∷ count_entry t.nan_count ∷ []) ≡ []
 later_links n t =
     number_link n 5 1 (option_map flag_number (exact_flag t.is_sorted)) _ ∙ (number_link n 6 1 (option_map flag_number (exact_flag t.is_strict_sorted)) _
-    ∙ (number_link n 7 1 (option_map flag_number (exact_flag t.is_constant)) _ ∙ (number_link n 8 8 (exact_count t.null_count) _
-    ∙ (number_link n 9 8 (exact_count t.uncompressed_size) _ ∙ number_link n 10 8 (exact_count t.nan_count) []))))
+    ∙ (number_link n 7 1 (option_map flag_number (exact_flag t.is_constant)) _ ∙ (number_link n 8 8 (option_map count_bits (exact_count t.null_count)) _
+    ∙ (number_link n 9 8 (option_map count_bits (exact_count t.uncompressed_size)) _ ∙ number_link n 10 8 (option_map count_bits (exact_count t.nan_count)) []))))
 
 -- The links are those to the three vectors.
 pub same_links : (n : ℕ) (t : Stats) (x : Stored)
@@ -127,14 +128,13 @@ flag_kind None = tt
 flag_kind (Some true) = omega arith
 flag_kind (Some false) = omega arith
 
-count_kind : (o : Option ℕ) → IfSome o (λ n. n < 2 ^ 64) → IsOfKind stats_schema (OptNumber Eight) (number_field o)
-count_kind None h = tt
-count_kind (Some n) h = h
+count_kind : (o : Option ℕ) → IsOfKind stats_schema (OptNumber Eight) (number_field (option_map count_bits o))
+count_kind None = tt
+count_kind (Some n) = mod_below n (2 ^ 64) (omega arith)
 
--- The table is one of the schema's where its counts are numbers of eight bytes.
-pub table_of_kind : (t : Stats) → IfSome (exact_count t.null_count) (λ n. n < 2 ^ 64) → IfSome (exact_count t.uncompressed_size) (λ n. n < 2 ^ 64) → IfSome (exact_count t.nan_count) (λ n. n < 2 ^ 64)
-    → IsOf stats_schema (stats_table t)
-table_of_kind t a b c = (
+-- The table is one of the schema's.
+pub table_of_kind : (t : Stats) → IsOf stats_schema (stats_table t)
+table_of_kind t = (
   vector_kind t.least,
   (
     precision_kind t.least,
@@ -148,7 +148,7 @@ table_of_kind t a b c = (
             flag_kind (exact_flag t.is_sorted),
             (
               flag_kind (exact_flag t.is_strict_sorted),
-              (flag_kind (exact_flag t.is_constant), (count_kind (exact_count t.null_count) a, (count_kind (exact_count t.uncompressed_size) b, (count_kind (exact_count t.nan_count) c, tt)))),
+              (flag_kind (exact_flag t.is_constant), (count_kind (exact_count t.null_count), (count_kind (exact_count t.uncompressed_size), (count_kind (exact_count t.nan_count), tt)))),
             ),
           ),
         ),
@@ -190,9 +190,11 @@ count_kind_any s None h = tt
 count_kind_any s (Some n) h = h
 
 -- and is of its kind there.
-pub of_any : (s : Schema) (t : Stats) → IsOf stats_schema (stats_table t) → AreOf s stats_fields (stats_table t)
-of_any s t h =
-    let flag : Told → Option ℕ = λ x. option_map flag_number (exact_flag x) in (
+pub of_any : (s : Schema) (t : Stats) → AreOf s stats_fields (stats_table t)
+of_any s t =
+    let h : IsOf stats_schema (stats_table t) = table_of_kind t in
+    let flag : Told → Option ℕ = λ x. option_map flag_number (exact_flag x) in
+    let count : Told → Option ℕ = λ x. option_map count_bits (exact_count x) in (
       vector_kind_any s (value_field t.least) h.0,
       (
         h.1.0,
@@ -209,10 +211,10 @@ of_any s t h =
                   (
                     flag_kind_any s (flag t.is_constant) h.1.1.1.1.1.1.1.0,
                     (
-                      count_kind_any s (exact_count t.null_count) h.1.1.1.1.1.1.1.1.0,
+                      count_kind_any s (count t.null_count) h.1.1.1.1.1.1.1.1.0,
                       (
-                        count_kind_any s (exact_count t.uncompressed_size) h.1.1.1.1.1.1.1.1.1.0,
-                        (count_kind_any s (exact_count t.nan_count) h.1.1.1.1.1.1.1.1.1.1.0, tt),
+                        count_kind_any s (count t.uncompressed_size) h.1.1.1.1.1.1.1.1.1.0,
+                        (count_kind_any s (count t.nan_count) h.1.1.1.1.1.1.1.1.1.1.0, tt),
                       ),
                     ),
                   ),

@@ -4,7 +4,6 @@ use Rattle.vx_flat.specs.declared.builder.piece.BlockField.{BlockField}
 use Rattle.vx_flat.specs.declared.error.FlatError.{FlatError}
 use Rattle.vx_flat.specs.Building.{Built, Link, Written, with_piece, with_pieces, IsRefused, IsStopped}
 use Rattle.vx_flat.specs.Pieces.{Piece, AreEntries, entries, fields_pieces, table_piece}
-use Rattle.vx_flat.specs.IsOf.{IsOf}
 use Rattle.vx_flat.proofs.LawsOfBuilding.{entries-taken}
 use Rattle.vx_scalars.specs.Stats.{Stats}
 use Rattle.vx_scalar_wire.specs.StatsBlocks.{IsStoredOf, IsPartWay, table_entries, vector_pieces, vector_links}
@@ -12,7 +11,7 @@ use Rattle.vx_scalar_wire.specs.StatsSchema.{stats_fields, stats_schema}
 use Rattle.vx_scalar_wire.specs.StatsTable.{stats_table, stats_pieces}
 use Rattle.vx_scalar_wire.specs.declared.stats.entries.Stored.{Stored}
 use Rattle.vx_scalar_wire.proofs.Chains.{begun, refused}
-use Rattle.vx_scalar_wire.proofs.StatsEntries.{same_entries, same_links, same_pieces, regrouped}
+use Rattle.vx_scalar_wire.proofs.StatsEntries.{table_of_kind, same_entries, same_links, same_pieces, regrouped}
 
 -- The table's own block.
 abbrev pub head : Stats → Stored → Piece
@@ -29,9 +28,9 @@ abbrev pub all_links : ℕ → Stored → List Link
 all_links n x = vector_links n 0 x.least ++ later_links n x
 
 -- A builder takes the entries.
-pub taken : (t : Stats) (x : Stored) (es : List BlockField) → IsStoredOf t x → es ≡ table_entries t x → IsOf stats_schema (stats_table t) → AreEntries false es
-taken t x es h e of =
-    subst (λ (z : List BlockField). AreEntries false z) (sym (e ∙ same_entries t x h)) (entries-taken stats_schema stats_fields (stats_table t) of)
+pub taken : (t : Stats) (x : Stored) (es : List BlockField) → IsStoredOf t x → es ≡ table_entries t x → AreEntries false es
+taken t x es h e =
+    subst (λ (z : List BlockField). AreEntries false z) (sym (e ∙ same_entries t x h)) (entries-taken stats_schema stats_fields (stats_table t) (table_of_kind t))
 
 -- It was refused,
 pub refused_first : (t : Stats) (x : Stored) (es : List BlockField) (old new : Built) (e : FlatError) → IsStoredOf t x → es ≡ table_entries t x → IsRefused old (table_piece es) e new

@@ -1,4 +1,5 @@
 pub mod ScalarMessage
+pub mod Typed
 pub mod Shallow
 pub mod Reading
 pub mod Writing

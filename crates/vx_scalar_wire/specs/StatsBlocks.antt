@@ -9,7 +9,7 @@ use Rattle.vx_flat.specs.Value.{Field, absent, elements}
 use Rattle.vx_proto.specs.Parts.{flag_number}
 use Rattle.vx_scalars.specs.Stats.{Told, Stats}
 use Rattle.vx_scalars.specs.WrittenStats.{exact_flag, exact_count, written_sum}
-use Rattle.vx_scalar_wire.specs.StatsTable.{value_field, precision_of}
+use Rattle.vx_scalar_wire.specs.StatsTable.{value_field, precision_of, count_bits}
 use Rattle.vx_scalar_wire.specs.declared.stats.entries.Stored.{Stored}
 
 -- ---- entries
@@ -38,7 +38,7 @@ abbrev pub flag_entry : Told → BlockField
 flag_entry x = number_entry 1 (option_map flag_number (exact_flag x))
 
 abbrev pub count_entry : Told → BlockField
-count_entry x = number_entry 8 (exact_count x)
+count_entry x = number_entry 8 (option_map count_bits (exact_count x))
 
 -- The entries of the table of a set, whose values are stored so.
 abbrev pub table_entries : Stats → Stored → List BlockField

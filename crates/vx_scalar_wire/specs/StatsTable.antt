@@ -1,6 +1,5 @@
 -- The table in which a set of statistics is written.
-use Rattle.std.specs.Prelude.{ℕ, ◌<◌, ◌^◌, List, length, Option, Some, None, option_map}
-use Rattle.vx_flat.specs.IsOf.{IsOf}
+use Rattle.std.specs.Prelude.{ℕ, ◌<◌, ◌^◌, ◌%◌, List, length, Option, Some, None, IfSome, option_map}
 use Rattle.vx_flat.specs.Pieces.{Piece, pieces}
 use Rattle.vx_flat.specs.Value.{Field, absent, number, elements, Fields, no_fields, field}
 use Rattle.vx_proto.specs.Parts.{flag_number}
@@ -38,8 +37,12 @@ number_field (Some n) = number n
 abbrev pub flag_field : Told → Field
 flag_field x = number_field (option_map flag_number (exact_flag x))
 
+-- A count stands as its eight bytes.
+abbrev pub count_bits : ℕ → ℕ
+count_bits n = n % 2 ^ 64
+
 abbrev pub count_field : Told → Field
-count_field x = number_field (exact_count x)
+count_field x = number_field (option_map count_bits (exact_count x))
 
 -- The table of a set.
 abbrev pub stats_table : Stats → Fields
@@ -60,9 +63,15 @@ IsStorable (Exact v) = IsWell v × (length (value_bytes v) < 2 ^ 64)
 IsStorable (Inexact v) = IsWell v × (length (value_bytes v) < 2 ^ 64)
 IsStorable Absent = Unit {0}
 
--- So are the values of a set that are written, and its table is of its kind: counts have eight bytes.
+-- A count that is written has eight bytes.
+abbrev pub IsStorableCount : Told → Type 0
+IsStorableCount x = IfSome (exact_count x) (λ n. n < 2 ^ 64)
+
+-- So are the values and the counts of a set that are written.
 pub record AreStorable (t : Stats) : Type 0 where
   pub least : IsStorable t.least
   pub greatest : IsStorable t.greatest
   pub sum : IsStorable (written_sum t.total)
-  pub of_kind : IsOf stats_schema (stats_table t)
+  pub null_count : IsStorableCount t.null_count
+  pub uncompressed_size : IsStorableCount t.uncompressed_size
+  pub nan_count : IsStorableCount t.nan_count

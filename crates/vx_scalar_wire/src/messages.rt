@@ -67,10 +67,10 @@ impl ScalarValueExt for ScalarValue {
         value: Option<&ScalarValue>,
     ) -> Result<pb::ScalarValue, ScalarWireError>
         ensures written { Writes (λ m. m) result (IsShallow (seen (option_copied value.entry))) (value_message (seen (option_copied value.entry))) }
+        ensures well { OnOk result (IsWell (seen (option_copied value.entry))) }
         ensures read_back { IfOk result (λ m. (s : ExtMeaning) (d : Typ) → Fits (seen (option_copied value.entry)) d → IsKnownValue s (seen (option_copied value.entry))
             → ReadsValue s (seen (option_copied value.entry)) d m) }
     {
-        hold(value);
         let slots = value_slots(alloc, value)?;
         Ok(PlainMessage::new(slots))
     }
@@ -83,6 +83,7 @@ impl ScalarValueExt for ScalarValue {
         ensures read_back { IfOk result (λ bytes. (s : ExtMeaning) (d : Typ) → Fits (seen (option_copied value.entry)) d → IsKnownValue s (seen (option_copied value.entry))
             → ShowsValue s (seen (option_copied value.entry)) d bytes) }
         ensures shallow { OnOk result (IsShallow (seen (option_copied value.entry))) }
+        ensures well { OnOk result (IsWell (seen (option_copied value.entry))) }
         ensures nests { IsOk result → nested (value_message (seen (option_copied value.entry))) ≤ 100 }
         ensures cause { IfErr result (λ e. IsUnwrittenBytes e (IsShallow (seen (option_copied value.entry))) (value_message (seen (option_copied value.entry)))) }
     {
@@ -162,7 +163,6 @@ impl ScalarExt for Scalar {
         ensures written { Writes (λ m. m) result (IsShallowScalar self.now) (scalar_message self.now) }
         ensures read_back { IfOk result (λ m. (s : ExtMeaning) → IsKnown s self.now.dtype → IsKnownValue s self.now.value → ReadsScalar s self.now m) }
     {
-        self.hold();
         let slots = scalar_slots(alloc, self)?;
         Ok(PlainMessage::new(slots))
     }
@@ -206,14 +206,5 @@ impl ScalarExt for Scalar {
     {
         let value = ScalarValue::from_proto(alloc, message, dtype, readers)?;
         Ok(Scalar::try_new(dtype.clone(alloc)?, value)?)
-    }
-}
-
-// What is known of a value that may be null.
-fn hold(value: Option<&ScalarValue>)
-    ensures { IsWell (seen (option_copied value.entry)) }
-{
-    if let Some(value) = value {
-        value.hold();
     }
 }

@@ -2,7 +2,6 @@
 
 ghost use Rattle.std.specs.Prelude.{◌≡◌, ◌<◌, ◌^◌, true, false, length, IfOk, IfErr, IsOk, OnOk, OnErr, MatchResult};
 ghost use Rattle.vx_flat.specs.Building.{Takes, Written, Keeps, IsTooLong};
-ghost use Rattle.vx_flat.specs.IsOf.{IsOf};
 ghost use Rattle.vx_flat.specs.Seen.{kinds_in, seen};
 ghost use Rattle.vx_scalars.specs.Stats.{Stats, FitStats};
 ghost use Rattle.vx_types.specs.Seen.{typ};
@@ -18,7 +17,7 @@ mod values;
 mod writing;
 
 use crate::error::ScalarWireError;
-use crate::stats::entries::{Stored, hold_count};
+use crate::stats::entries::Stored;
 use crate::stats::reading::read_stat;
 use crate::stats::values::{sum_bytes, value_bytes};
 use crate::stats::writing::write_table;
@@ -36,9 +35,6 @@ pub trait StatsSetExt: Sized {
         dtype: &DType,
     ) -> Result<Self, ScalarWireError>
         requires { kinds_in view.now ≡ stats_fields };
-
-    /// What is known of each set: its table is of its kind.
-    fn hold(&self);
 
     /// Writes the blocks of the table of the statistics.
     fn write_flatbuffer(&self, alloc: Global, builder: &mut Builder) -> Result<(), ScalarWireError>
@@ -71,16 +67,6 @@ impl StatsSetExt for StatsSet {
         Ok(set)
     }
 
-    /// What is known of each set: its table is of its kind. Nothing runs but look-ups; a
-    /// caller gets the fact.
-    fn hold(&self)
-        ensures { IsOf stats_schema (stats_table self.now) }
-    {
-        hold_count(self.get(Stat::NullCount));
-        hold_count(self.get(Stat::UncompressedSizeInBytes));
-        hold_count(self.get(Stat::NaNCount));
-    }
-
     /// Writes the blocks of the table of the statistics after those that the builder has:
     /// the least and the greatest value, exact or not, with their precisions, and what else
     /// is exact, of which a sum that is no number becomes one NaN, a flag is written where it
@@ -91,7 +77,6 @@ impl StatsSetExt for StatsSet {
     /// written so far.
     fn write_flatbuffer(&self, alloc: Global, builder: &mut Builder) -> Result<(), ScalarWireError>
         requires { Takes LinkKind.Table builder.old }
-        ensures of_kind { IsOk result → IsOf stats_schema (stats_table self.now) }
         ensures written { OnOk result (Written stats_schema stats_fields (stats_table self.now) builder.old builder.new) }
         ensures fits { IsOk result → length builder.new.bytes < 2 ^ 31 }
         ensures works { IsOk result → builder.old.failed ≡ false }

@@ -1,16 +1,20 @@
 //! Plain values of scalars.
 
-ghost use Rattle.std.specs.Prelude.{◌≡◌, ◌≤◌, IfOk, IsOkUnless, option_copied};
+ghost use Rattle.std.specs.Prelude.{◌≡◌, ◌≤◌, ◌<◌, ◌^◌, IfOk, OnOk, IsOkUnless, option_copied};
 ghost use Rattle.vx_trees.specs.Rose.{roses_of};
 ghost use Rattle.vx_trees.specs.Walks.{levels};
 ghost use Rattle.vx_proto.specs.Parts.{flag_number};
 ghost use Rattle.vx_proto.specs.Value.{value_view, entries_view};
 ghost use Rattle.vx_type_wire.specs.TypeMessage.{type_message, one_number, one_octets, one_message, all_messages, most_levels};
+ghost use Rattle.vx_types.specs.Content.{AreBytes};
 ghost use Rattle.vx_types.specs.Seen.{typ};
+ghost use Rattle.vx_types.specs.Typ.{IsType};
+ghost use Rattle.vx_types.specs.Well.{IsInRange, IsDecimalInRange, IsWell, AreWell};
 ghost use Rattle.vx_scalars.specs.Decimals.{decimal_of};
 ghost use Rattle.vx_scalars.specs.Seen.{value_of, seen, all_seen};
 ghost use Rattle.vx_scalar_wire.specs.ScalarMessage as message;
 ghost use Rattle.vx_scalar_wire.specs.Shallow.{IsShallow, AreShallow, IsShallowScalar};
+ghost use Rattle.vx_scalar_wire.specs.Typed.{IsTyped};
 ghost use Rattle.vx_scalar_wire.specs.Writing.{Writes};
 
 use crate::error::{ScalarWireError, TypeRefusal};
@@ -31,6 +35,7 @@ fn number_slot(alloc: Global, number: u32, value: u64) -> Result<Entries, ProtoE
 // The slot of a text or of bytes.
 fn octets_slot(alloc: Global, number: u32, bytes: &[u8]) -> Result<Entries, ProtoError>
     ensures same { IfOk result (λ es. entries_view es.items ≡ one_octets number bytes.now) }
+    ensures bytes { AreBytes bytes.now }
     ensures err { IsOkUnless result ProtoError.OutOfMemory }
 {
     let element = copied(alloc, bytes)?;
@@ -40,6 +45,7 @@ fn octets_slot(alloc: Global, number: u32, bytes: &[u8]) -> Result<Entries, Prot
 // The member of a number.
 fn numeral_slot(alloc: Global, numeral: PValue) -> Result<Entries, ProtoError>
     ensures same { IfOk result (λ es. entries_view es.items ≡ message.number_member numeral) }
+    ensures range { OnOk result (IsInRange numeral) }
     ensures err { IsOkUnless result ProtoError.OutOfMemory }
 {
     match numeral {
@@ -60,6 +66,7 @@ fn numeral_slot(alloc: Global, numeral: PValue) -> Result<Entries, ProtoError>
 // The member of a decimal.
 fn decimal_slot(alloc: Global, decimal: &DecimalValue) -> Result<Entries, ProtoError>
     ensures same { IfOk result (λ es. entries_view es.items ≡ one_octets 8 (message.decimal_bytes (decimal_of decimal.now))) }
+    ensures range { OnOk result (IsDecimalInRange (decimal_of decimal.now)) }
     ensures err { IsOkUnless result ProtoError.OutOfMemory }
 {
     match decimal {
@@ -74,7 +81,8 @@ fn decimal_slot(alloc: Global, decimal: &DecimalValue) -> Result<Entries, ProtoE
 
 // The plain value of a type's message.
 fn type_slots(alloc: Global, dtype: &DType) -> Result<Vec<Entries>, ScalarWireError>
-    ensures { Writes (λ v. value_view v.items) result (levels (typ dtype.now) ≤ most_levels) (type_message (typ dtype.now)) }
+    ensures writes { Writes (λ v. value_view v.items) result (levels (typ dtype.now) ≤ most_levels) (type_message (typ dtype.now)) }
+    ensures is_type { IsType (typ dtype.now) }
 {
     match dtype.to_proto(alloc) {
         Ok(message) => Ok(message.to_value(alloc)?),
@@ -89,7 +97,8 @@ pub fn value_slots(
     alloc: Global,
     value: Option<&ScalarValue>,
 ) -> Result<Vec<Entries>, ScalarWireError>
-    ensures { Writes (λ v. value_view v.items) result (IsShallow (seen (option_copied value.entry))) (message.value_message (seen (option_copied value.entry))) }
+    ensures writes { Writes (λ v. value_view v.items) result (IsShallow (seen (option_copied value.entry))) (message.value_message (seen (option_copied value.entry))) }
+    ensures well { OnOk result (IsWell (seen (option_copied value.entry))) }
 {
     let member = member_slot(alloc, value)?;
     Ok(vec![in alloc; member]?)
@@ -98,7 +107,8 @@ pub fn value_slots(
 // The member of a value in the oneof.
 #[cycle(writing)]
 fn member_slot(alloc: Global, value: Option<&ScalarValue>) -> Result<Entries, ScalarWireError>
-    ensures { Writes (λ es. entries_view es.items) result (IsShallow (seen (option_copied value.entry))) (message.member_below (seen (option_copied value.entry))) }
+    ensures writes { Writes (λ es. entries_view es.items) result (IsShallow (seen (option_copied value.entry))) (message.member_below (seen (option_copied value.entry))) }
+    ensures well { OnOk result (IsWell (seen (option_copied value.entry))) }
 {
     let Some(value) = value else {
         return Ok(number_slot(alloc, 1, 0)?);
@@ -138,7 +148,8 @@ fn list_slots(
     alloc: Global,
     values: &[Option<ScalarValue>],
 ) -> Result<Vec<Entries>, ScalarWireError>
-    ensures { Writes (λ v. value_view v.items) result (AreShallow (roses_of (all_seen values.now))) (message.list_message (roses_of (all_seen values.now))) }
+    ensures writes { Writes (λ v. value_view v.items) result (AreShallow (roses_of (all_seen values.now))) (message.list_message (roses_of (all_seen values.now))) }
+    ensures well { OnOk result (AreWell (roses_of (all_seen values.now))) }
 {
     let mut entries = Vec::new(alloc);
     for value in values {
@@ -158,7 +169,8 @@ fn union_slots(
     tag: u8,
     value: Option<&ScalarValue>,
 ) -> Result<Vec<Entries>, ScalarWireError>
-    ensures { Writes (λ v. value_view v.items) result (IsShallow (seen (option_copied value.entry))) (message.union_message tag (seen (option_copied value.entry))) }
+    ensures writes { Writes (λ v. value_view v.items) result (IsShallow (seen (option_copied value.entry))) (message.union_message tag (seen (option_copied value.entry))) }
+    ensures well { OnOk result ((tag < 2 ^ 8) × IsWell (seen (option_copied value.entry))) }
 {
     let tag = number_slot(alloc, 1, tag as u64)?;
     let slots = value_slots(alloc, value)?;
@@ -169,7 +181,8 @@ fn union_slots(
 /// The plain value of a scalar's message.
 #[cycle(writing)]
 pub fn scalar_slots(alloc: Global, scalar: &Scalar) -> Result<Vec<Entries>, ScalarWireError>
-    ensures { Writes (λ v. value_view v.items) result (IsShallowScalar scalar.now) (message.scalar_message scalar.now) }
+    ensures writes { Writes (λ v. value_view v.items) result (IsShallowScalar scalar.now) (message.scalar_message scalar.now) }
+    ensures well { OnOk result (IsTyped scalar.now) }
 {
     let slots = type_slots(alloc, scalar.dtype())?;
     let dtype = message_slot(alloc, 1, slots)?;

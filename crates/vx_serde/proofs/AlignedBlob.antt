@@ -4,7 +4,6 @@ use Rattle.std.specs.Prelude.{All}
 use Rattle.vx_array_tree.specs.Tree.{Tree}
 use Rattle.vx_wire_tree.specs.Context.{Context, grown}
 use Rattle.vx_trees.specs.Everywhere.{Everywhere}
-use Rattle.vx_wire_tree.specs.ReadBack.{HasStorableStats}
 use Rattle.vx_wire_tree.specs.Session.{SessionMeaning}
 use Rattle.vx_encodings.specs.Messages.{codec}
 use Rattle.vx_serde.specs.declared.options.SerializeOptions.{SerializeOptions}
@@ -23,7 +22,7 @@ use Rattle.vx_serde.proofs.MessageRead.{message_of-message_value, message_value_
 use Rattle.vx_serde.proofs.NumberedRead.{IsPlaced, IsTabledNode, placed_from_ids, numbered_fits}
 use Rattle.vx_serde.proofs.PadsAlign.{descriptors-align}
 use Rattle.vx_serde.proofs.PlacedRead.{described-descriptors_from}
-use Rattle.vx_serde.proofs.WiredStats.{storable-tabled}
+use Rattle.vx_serde.proofs.WiredStats.{wire-tabled}
 use Rattle.vx_serde.proofs.WrittenAgain.{wire-whole, grown-ids}
 
 -- What is written for a wire tree, where its identifiers have their places.
@@ -49,11 +48,11 @@ aligned_bytes ids options w clean tabled all fit asked =
 
 -- What is written for an array under a context that takes its identifiers.
 pub aligned_blob : (s : SessionMeaning) (t : Tree) (old new : Context) (options : SerializeOptions) → grown codec s old t ≡ Some new
-    → HasStorableStats codec t → KeepsWriterLimits s t old options → options.include_padding ≡ true → IsAlignedBlob options.offset (blob_of s t old options)
-aligned_blob s t old new options grew stored fit asked =
+    → KeepsWriterLimits s t old options → options.include_padding ≡ true → IsAlignedBlob options.offset (blob_of s t old options)
+aligned_blob s t old new options grew fit asked =
     let w = wire codec s t in
     let same = grown-ids s t old new grew in
     let placed = grown_by-placed (ids_in w) old new grew in
     let W : List (List ℕ) → Type 0 = λ z. IsWritable z options w in
     let P : List (List ℕ) → Type 0 = λ z. IsAlignedBlob options.offset (blob_bytes z options w) in
-    subst P same (aligned_bytes new.ids options w (wire-whole codec s t) (storable-tabled s t stored) placed.placed (subst W (sym same) fit.writable) asked)
+    subst P same (aligned_bytes new.ids options w (wire-whole codec s t) (wire-tabled s t) placed.placed (subst W (sym same) fit.writable) asked)

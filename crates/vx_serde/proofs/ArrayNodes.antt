@@ -23,7 +23,7 @@ use Rattle.vx_serde.specs.MessageValue.{node_value, descriptors_bytes}
 use Rattle.vx_serde.specs.Numbered.{numbered}
 use Rattle.vx_serde.specs.Placing.{descriptors_from}
 use Rattle.vx_serde.specs.ReadingSteps.{message_refusal}
-use Rattle.vx_serde.specs.WritingSteps.{RefusesNodes, RefusesGathering, HasTables, layout_of}
+use Rattle.vx_serde.specs.WritingSteps.{RefusesNodes, RefusesGathering, layout_of}
 use Rattle.vx_serde.proofs.Gathered.{unplaced_nodes}
 use Rattle.vx_serde.proofs.MessageBlocks.{too-many}
 use Rattle.vx_serde.proofs.NumberedBy.{as-many, root-numbered, layout-numbered, message-of_kind}
@@ -55,13 +55,13 @@ module _ (s : SessionMeaning) (t : Tree) (c : Context) where
   ungathered b _ h = absurd h
 
   -- An array of too many buffers or nodes.
-  pub too-much : (b : Built) (d : Context) (es : List ℕ) (bs : List Buffer) → grown_by (ids_in (wire codec s t)) c ≡ Some d → es ≡ encodings_in d.ids (wire codec s t) → bs ≡ buffers_in (wire codec s t) → HasTables t
+  pub too-much : (b : Built) (d : Context) (es : List ℕ) (bs : List Buffer) → grown_by (ids_in (wire codec s t)) c ≡ Some d → es ≡ encodings_in d.ids (wire codec s t) → bs ≡ buffers_in (wire codec s t)
       → (65535 < length bs) ⊎ (499999 < length es) → RefusesBlocks s t c b WireLimit
-  too-much b d es bs g e f tables (inl l) = inl (λ k. omega (arith, l, k.writable.tree.few, ap (λ z. length z) f))
-  too-much b d es bs g e f tables (inr l) = inl (λ k.
+  too-much b d es bs g e f (inl l) = inl (λ k. omega (arith, l, k.writable.tree.few, ap (λ z. length z) f))
+  too-much b d es bs g e f (inr l) = inl (λ k.
       let w = wire codec s t in
       let bytes = descriptors_bytes (descriptors_from plain_options 0 (buffers_in w)) in
-      let of = message-of_kind d.ids w es bytes e c d (descriptors_from plain_options 0 (buffers_in w)) refl g (wire-whole codec s t) (wire-tabled s t tables) k.writable.tree.few refl in
+      let of = message-of_kind d.ids w es bytes e c d (descriptors_from plain_options 0 (buffers_in w)) refl g (wire-whole codec s t) (wire-tabled s t) k.writable.tree.few refl in
       let many : 499999 < nodes w = omega (arith, l, as-many d.ids w es e) in
       unwritten s t c plain_options bytes (layout_by es w bytes) WireLimit refl (layout-numbered d.ids w es bytes e ∙ ap (λ ids. layout_of ids w bytes) (grown-ids s t c d g)) (too-many es w bytes of (wire-told s t) many) k)
 

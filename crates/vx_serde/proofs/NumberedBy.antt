@@ -9,7 +9,7 @@ use Rattle.vx_proto.specs.Parts.{flag_number}
 use Rattle.vx_scalars.specs.Stats.{Told, Stats}
 use Rattle.vx_scalars.specs.WrittenStats.{written_sum, exact_flag, exact_count}
 use Rattle.vx_scalars.specs.declared.precision.Precision.TheVariants.{Exact, Inexact, Absent}
-use Rattle.vx_scalar_wire.specs.StatsTable.{value_field, number_field, stats_table}
+use Rattle.vx_scalar_wire.specs.StatsTable.{value_field, number_field, count_bits, stats_table}
 use Rattle.vx_trees.specs.Rose.{Rose, Roses, node, end, more}
 use Rattle.vx_trees.specs.Everywhere.{Everywhere, EverywhereBelow}
 use Rattle.vx_trees.specs.Walks.{nodes, nodes_of, gathered}
@@ -112,9 +112,9 @@ stats_tables x =
       number_tables (option_map flag_number (exact_flag x.is_sorted)),
       number_tables (option_map flag_number (exact_flag x.is_strict_sorted)),
       number_tables (option_map flag_number (exact_flag x.is_constant)),
-      number_tables (exact_count x.null_count),
-      number_tables (exact_count x.uncompressed_size),
-      number_tables (exact_count x.nan_count),
+      number_tables (option_map count_bits (exact_count x.null_count)),
+      number_tables (option_map count_bits (exact_count x.uncompressed_size)),
+      number_tables (option_map count_bits (exact_count x.nan_count)),
     )
 
 mutual

@@ -35,6 +35,6 @@ serialized s t o before after bs grew registered stored messages fit b =
       registered = registered;
       storable = stored;
       limits = limits;
-      aligned = λ padded. subst Q (sym bytes) (aligned_blob s t before after o grew stored limits padded);
+      aligned = λ padded. subst Q (sym bytes) (aligned_blob s t before after o grew limits padded);
       grown_is = grew;
     }

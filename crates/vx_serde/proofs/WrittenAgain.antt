@@ -25,7 +25,7 @@ use Rattle.vx_serde.specs.Written.{blob_bytes, IsWritable}
 use Rattle.vx_serde.specs.Spells.{Spells, blob_of, ids_after, KeepsWriterLimits}
 use Rattle.vx_serde.proofs.Carried.{carried}
 use Rattle.vx_serde.proofs.GrownPlaced.{grown_by-placed}
-use Rattle.vx_serde.proofs.WiredStats.{storable-tabled}
+use Rattle.vx_serde.proofs.WiredStats.{wire-tabled}
 use Rattle.vx_serde.proofs.GrownIds.{grown_by-ids}
 
 -- nothing is missing in an array's wire tree
@@ -95,7 +95,7 @@ spelled_again s ok law paired blob read d n t old new options x stored grew fit 
     let same = grown-ids s t old new grew in
     let placed = grown_by-placed (ids_in w) old new grew in
     let W : List (List ℕ) → Type 0 = λ z. IsWritable z options w in
-    let c = carried new.ids options w (wire-whole codec s t) (storable-tabled s t stored) placed.placed (subst W (sym same) fit.writable) in
+    let c = carried new.ids options w (wire-whole codec s t) (wire-tabled s t) placed.placed (subst W (sym same) fit.writable) in
     let m = x.told.matched in
     let again = told_again codec s ok law paired t x.told.sound (read_written codec s paired x.wire t m) fit.messages (read_types codec s x.wire t m) stored in
     let T : Typ → Type 0 = λ z. Tells codec s w z (label t).len (canon s t) in

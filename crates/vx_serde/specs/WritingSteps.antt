@@ -4,16 +4,12 @@ use Rattle.vx_flat.specs.Layout.{written_layout}
 use Rattle.vx_flat.specs.Limits.{limits, IsLight}
 use Rattle.vx_flat.specs.Value.{table, elements, field, no_fields}
 use Rattle.vx_flat.specs.Weight.{weight}
-use Rattle.vx_flat.specs.IsOf.{IsOf}
 use Rattle.vx_flat.specs.declared.error.FlatError.{FlatError}
 use Rattle.vx_flat.specs.declared.error.FlatError.TheVariants as tables
 use Rattle.vx_scalar_wire.specs.declared.error.ScalarWireError.{ScalarWireError}
 use Rattle.vx_scalar_wire.specs.declared.error.ScalarWireError.TheVariants as scalars
-use Rattle.vx_trees.specs.Everywhere.{Everywhere}
 use Rattle.vx_trees.specs.Walks.{levels}
-use Rattle.vx_scalar_wire.specs.StatsSchema.{stats_schema}
-use Rattle.vx_scalar_wire.specs.StatsTable.{stats_table}
-use Rattle.vx_array_tree.specs.Tree.{Tree, Trees, Head}
+use Rattle.vx_array_tree.specs.Tree.{Tree}
 use Rattle.vx_wire_tree.specs.Causes.{HasUnwritten}
 use Rattle.vx_wire_tree.specs.Context.{Context, grown_by}
 use Rattle.vx_wire_tree.specs.Session.{SessionMeaning, Reader}
@@ -65,14 +61,6 @@ builder_refusal scalars.OutOfMemory = tables.OutOfMemory
 builder_refusal _ = tables.MessageTooLong
 
 -- ---- nodes
-
--- A node's statistics have a table of its kind: those of each set in hand have.
-abbrev pub HasTable : Head → Trees → Type 0
-HasTable h ts = IsOf stats_schema (stats_table h.stats)
-
--- So have those of each node of an array.
-abbrev pub HasTables : Tree → Type 0
-HasTables = Everywhere HasTable
 
 -- What writes the arrays of a root's encoding is registered.
 pub record HasEntry (r : Registry) (t : Tree) : Type 0 where

@@ -4,9 +4,6 @@ ghost use Rattle.std.specs.Prelude.{◌≡◌, ◌≤◌, ◌++◌, ◌∷◌, [
 ghost use Rattle.vx_trees.specs.Rose.{label};
 ghost use Rattle.vx_trees.specs.Walks.{levels};
 ghost use Rattle.vx_types.specs.Known.{ExtMeaning};
-ghost use Rattle.vx_flat.specs.IsOf.{IsOf};
-ghost use Rattle.vx_scalar_wire.specs.StatsSchema.{stats_schema};
-ghost use Rattle.vx_scalar_wire.specs.StatsTable.{stats_table};
 ghost use Rattle.vx_array_tree.specs.Sound.{IsSound};
 ghost use Rattle.vx_array_tree.specs.Table.{buffers_of};
 ghost use Rattle.vx_wire_tree.specs.Context.{grown_by, index_of};
@@ -20,14 +17,13 @@ ghost use Rattle.vx_registry.specs.Serialization.{array_id};
 ghost use Rattle.vx_registry.specs.Session.{tables_meaning, ArePaired};
 ghost use Rattle.vx_serde.specs.Blocks.{encodings_in};
 ghost use Rattle.vx_serde.specs.KeptContext.{KeepsContext};
-ghost use Rattle.vx_serde.specs.WritingSteps.{RefusesNode, RefusesNodes, RefusesRoot, RefusesGathering, HasEntry, HasTables};
+ghost use Rattle.vx_serde.specs.WritingSteps.{RefusesNode, RefusesNodes, RefusesRoot, RefusesGathering, HasEntry};
 
 use crate::error::WireError;
 use std::alloc::Global;
 use vx_arrays::Array;
 use vx_buffer::{BufferError, BufferHandles};
 use vx_registry::{ArrayContext, ArraySession};
-use vx_scalar_wire::StatsSetExt;
 use vx_types::Id;
 
 /// The buffers of nodes, and the numbers of their encodings in a context, both in preorder.
@@ -131,14 +127,12 @@ fn push_root(
 ) -> Result<(), WireError>
     ensures buffers { OnOk result (found.new.buffers ≡ found.old.buffers ++ buffers_of (label array.now).body) }
     ensures encodings { (more : List (List ℕ)) → OnOk result (found.new.encodings.items ≡ found.old.encodings.items ++ index_of (array_id array.now) (ctx.new.ids ++ more) ∷ []) }
-    ensures table { OnOk result (IsOf stats_schema (stats_table (label array.now).stats)) }
     ensures found { OnOk result (HasEntry arrays.now array.now) }
     ensures paired { OnOk result (ArePaired arrays.now) }
     ensures grown { OnOk result (grown_by (array_id array.now ∷ []) ctx.old ≡ Some ctx.new) }
     ensures kept { KeepsContext (array_id array.now ∷ []) ctx.old ctx.new }
     ensures cause { IfErr result (RefusesRoot arrays.now array.now ctx.old) }
 {
-    array.statistics().hold();
     let encoding = encoding_number(alloc, array, arrays, ctx)?;
     found.encodings.push(encoding)?;
     push_own(alloc, array, &mut found.buffers)?;
@@ -163,7 +157,6 @@ pub(crate) fn gather(
     ensures levels { OnOk result (levels array.now ≤ room) }
     ensures written { (x : ExtMeaning) → OnOk result (IsWritten (tables_meaning arrays.now x) array.now) }
     ensures messages { OnOk result (HasMessages array.now) }
-    ensures tables { OnOk result (HasTables array.now) }
     ensures grown { (s : SessionMeaning) → OnOk result (grown_by (ids_in (wire codec s array.now)) ctx.old ≡ Some ctx.new) }
     ensures kept { (s : SessionMeaning) → KeepsContext (ids_in (wire codec s array.now)) ctx.old ctx.new }
     ensures cause { (x : ExtMeaning) → IfErr result (RefusesGathering (tables_meaning arrays.now x) array.now room ctx.old) }

@@ -27,7 +27,7 @@ ghost use Rattle.vx_serde.specs.Causes.{RefusesArray};
 ghost use Rattle.vx_serde.specs.KeptContext.{KeepsContext};
 ghost use Rattle.vx_serde.specs.Placing.{data_end};
 ghost use Rattle.vx_serde.specs.Serializing.{IsSerialized};
-ghost use Rattle.vx_serde.specs.WritingSteps.{IsLaidOut, RefusesLayout, RefusesBytes, AreDescriptors, HasTables};
+ghost use Rattle.vx_serde.specs.WritingSteps.{IsLaidOut, RefusesLayout, RefusesBytes, AreDescriptors};
 ghost use Rattle.vx_serde.specs.WrittenBuffers.{unaligned, pad_buffers, data_buffers, greatest_exponent};
 
 use crate::array_kind::ArrayKind;
@@ -158,7 +158,6 @@ fn place(
     ensures placed { (s : SessionMeaning) → IfOk result (λ p. IsLaidOut options.now (wire codec s array.now) p.1.descriptors.items p.1.end) }
     ensures written { (x : ExtMeaning) → OnOk result (IsWritten (tables_meaning arrays.now x) array.now) }
     ensures messages { OnOk result (HasMessages array.now) }
-    ensures tables { OnOk result (HasTables array.now) }
     ensures grown { (s : SessionMeaning) → OnOk result (grown_by (ids_in (wire codec s array.now)) ctx.old ≡ Some ctx.new) }
     ensures kept { (s : SessionMeaning) → KeepsContext (ids_in (wire codec s array.now)) ctx.old ctx.new }
     ensures refused { (x : ExtMeaning) → IfErr result (RefusesLayout (tables_meaning arrays.now x) options.now array.now ctx.old) }

@@ -1,14 +1,11 @@
 //! The entries of a table of statistics.
 
-ghost use Rattle.std.specs.Prelude.{◌≡◌, ◌<◌, ◌^◌, IfSome};
-ghost use Rattle.vx_flat.specs.IsOf.{IsOf};
+ghost use Rattle.std.specs.Prelude.{◌≡◌};
 ghost use Rattle.vx_flat.specs.Pieces.{default_entry};
 ghost use Rattle.vx_scalars.specs.Places.{lent};
 ghost use Rattle.vx_scalars.specs.Stats.{told as told_of};
 ghost use Rattle.vx_scalar_wire.specs.StatsBlocks.{vector_entry, flag_entry, count_entry, table_entries, stored_field};
-ghost use Rattle.vx_scalar_wire.specs.StatsSchema.{stats_schema};
-ghost use Rattle.vx_scalars.specs.WrittenStats.{exact_count};
-ghost use Rattle.vx_scalar_wire.specs.StatsTable.{precision_of, stats_table};
+ghost use Rattle.vx_scalar_wire.specs.StatsTable.{precision_of, IsStorableCount};
 
 use vx_flat::{BlockField, LinkKind};
 use vx_proto::Blob;
@@ -29,7 +26,9 @@ pub struct Stored {
 /// The entries of the table of a set, whose values are stored so.
 pub fn entries_of(stats: &StatsSet, stored: &Stored) -> [BlockField; 11]
     ensures entries { result ≡ table_entries stats.now stored.now }
-    ensures of_kind { IsOf stats_schema (stats_table stats.now) }
+    ensures null_count { IsStorableCount stats.now.null_count }
+    ensures uncompressed_size { IsStorableCount stats.now.uncompressed_size }
+    ensures nan_count { IsStorableCount stats.now.nan_count }
 {
     [
         vector_entry_of(&stored.least),
@@ -82,18 +81,10 @@ fn flag_entry_of(told: Precision<&ScalarValue>) -> BlockField
     }
 }
 
-/// A count is a number of eight bytes, where what is told is one, and exact. Nothing runs; a
-/// caller gets the fact.
-pub fn hold_count(told: Precision<&ScalarValue>)
-    ensures { IfSome (exact_count (told_of (lent told.entry))) (λ n. n < 2 ^ 64) }
-{
-    let _entry = count_entry_of(told);
-}
-
 // The entry of a count, where what is told is one, and exact.
 fn count_entry_of(told: Precision<&ScalarValue>) -> BlockField
     ensures entry { result ≡ count_entry (told_of (lent told.entry)) }
-    ensures small { IfSome (exact_count (told_of (lent told.entry))) (λ n. n < 2 ^ 64) }
+    ensures storable { IsStorableCount (told_of (lent told.entry)) }
 {
     let Precision::Exact(counted) = told else {
         return BlockField::Absent;

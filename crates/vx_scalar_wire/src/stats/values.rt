@@ -27,7 +27,6 @@ pub fn value_bytes(
 {
     match told {
         Precision::Exact(value) | Precision::Inexact(value) => {
-            value.hold();
             let bytes = ScalarValue::to_proto_bytes(alloc, Some(value))?;
             let _count = bytes.len();
             Ok(Some(bytes))

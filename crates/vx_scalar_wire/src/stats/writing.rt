@@ -2,11 +2,10 @@
 
 ghost use Rattle.std.specs.Prelude.{◌≡◌, ◌<◌, ◌^◌, ◌++◌, ◌∷◌, false, List, length, OnOk, IfErr, IsOk};
 ghost use Rattle.vx_flat.specs.Building.{Built, Link, Takes, Written, IsStopped};
-ghost use Rattle.vx_flat.specs.IsOf.{IsOf};
 ghost use Rattle.vx_flat.specs.Pieces.{Piece};
 ghost use Rattle.vx_scalar_wire.specs.StatsBlocks.{IsStoredOf, IsAtLink, IsPartWay, vector_pieces, vector_links};
 ghost use Rattle.vx_scalar_wire.specs.StatsSchema.{stats_fields, stats_schema};
-ghost use Rattle.vx_scalar_wire.specs.StatsTable.{stats_table, stats_pieces};
+ghost use Rattle.vx_scalar_wire.specs.StatsTable.{IsStorableCount, stats_table, stats_pieces};
 
 use crate::stats::entries::{Stored, entries_of};
 use vx_flat::{BlockVector, Builder, FlatError, LinkKind};
@@ -21,7 +20,9 @@ pub fn write_table(
 ) -> Result<(), FlatError>
     requires takes { Takes LinkKind.Table builder.old }
     requires stored { IsStoredOf stats.now stored.now }
-    ensures of_kind { IsOf stats_schema (stats_table stats.now) }
+    ensures null_count { IsStorableCount stats.now.null_count }
+    ensures uncompressed_size { IsStorableCount stats.now.uncompressed_size }
+    ensures nan_count { IsStorableCount stats.now.nan_count }
     ensures written { OnOk result (Written stats_schema stats_fields (stats_table stats.now) builder.old builder.new) }
     ensures fits { IsOk result → length builder.new.bytes < 2 ^ 31 }
     ensures works { IsOk result → builder.old.failed ≡ false }

@@ -14,7 +14,6 @@ use Rattle.vx_encodings.specs.Messages.{codec}
 use Rattle.vx_registry.specs.Serialization.{array_id}
 use Rattle.vx_registry.specs.Session.{tables_meaning}
 use Rattle.vx_serde.specs.Numbered.{encoding_index}
-use Rattle.vx_serde.specs.WritingSteps.{HasTable}
 use Rattle.vx_serde.proofs.Gathered.{everywhere-next, everywhere-all, everywhere-child, node-message, root-refused, child-ungathered, levels_of, longer-ids}
 use Rattle.vx_serde.proofs.Growing.{kept-grown}
 use Rattle.vx_serde.proofs.GrownNodes.{kept-own, kept-child, kept-front, grown-child, grown-whole}
@@ -74,7 +73,6 @@ loop-child-preserved t c =
       levels = levels-more ts i (c.args.room - 1) u lt c.loop-child.invariant.levels (levels_of ts i u (c.args.room - 1) is c.in_ok-gather.ensures.levels);
       written = λ x. everywhere-next (IsWrittenNode (tables_meaning c.args.arrays.now x)) ts i u lt is (c.loop-child.invariant.written x) (c.in_ok-gather.ensures.written x);
       messages = everywhere-next HasMessage ts i u lt is c.loop-child.invariant.messages c.in_ok-gather.ensures.messages;
-      tables = everywhere-next HasTable ts i u lt is c.loop-child.invariant.tables c.in_ok-gather.ensures.tables;
       grown = λ s. grown-child (wired s ts) i (wire codec s u) c.push_root.new.ctx c.loop-child.ctx c.gather.new.ctx (wired-within s ts i lt) (wired-at s ts i u lt is) (c.loop-child.invariant.grown s) (c.in_ok-gather.ensures.grown s);
     }
 
@@ -103,11 +101,6 @@ returns-clause-messages t c =
     let sound = (everywhere-parts IsSoundNode a c.requires).0 in
     everywhere-all HasMessage a c.children-child-items.result.now c.loop-child.child-index (omega (arith, c.loop-child-test.false)) c.children-child-items.ensures.children
     (node-message c.args.arrays.now a c.in_ok-push_root.ensures.found c.in_ok-push_root.ensures.paired sound no_readers) c.loop-child.invariant.messages
-
-pub returns-clause-tables : goal.returns-clause-tables
-returns-clause-tables t c =
-    everywhere-all HasTable c.args.array.now c.children-child-items.result.now c.loop-child.child-index (omega (arith, c.loop-child-test.false)) c.children-child-items.ensures.children
-    c.in_ok-push_root.ensures.table c.loop-child.invariant.tables
 
 pub returns-clause-grown : goal.returns-clause-grown
 returns-clause-grown t c = λ s.

@@ -9,7 +9,6 @@ use Rattle.vx_wire_tree.specs.ReadBack.{IsWrittenNode}
 use Rattle.vx_wire_tree.specs.Session.{SessionMeaning}
 use Rattle.vx_wire_tree.specs.Wire.{id_in, buffers_at_node}
 use Rattle.vx_registry.specs.Session.{tables_meaning}
-use Rattle.vx_serde.specs.WritingSteps.{HasTable}
 use Rattle.vx_serde.specs.Numbered.{encoding_index}
 use Rattle.vx_serde.proofs.WiredNodes.{gathered_first}
 use Rattle.vx_serde.proofs.gathering.+gather.Given as goal
@@ -25,6 +24,5 @@ invariant-loop-child l = record {
   levels : levels_below (roses_of (take l.child-index l.child-items)) ≤ l.room - 1;
   written : (x : ExtMeaning) → EverywhereBelow (IsWrittenNode (tables_meaning l.arrays x)) (roses_of (take l.child-index l.child-items));
   messages : EverywhereBelow HasMessage (roses_of (take l.child-index l.child-items));
-  tables : EverywhereBelow HasTable (roses_of (take l.child-index l.child-items));
   grown : (s : SessionMeaning) → grown_by (gathered_first s (λ h. id_in h) l.child-items l.child-index) l.initial.ctx ≡ Some l.ctx;
 }

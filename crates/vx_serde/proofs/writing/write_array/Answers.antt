@@ -41,7 +41,7 @@ write_message-requires-clause-of_kind c = λ s.
     let placed = c.in_ok-found.ensures.placed s in
     message-of_kind c.place.new.ctx.ids w c.deref.result.now c.deref-2.result.now (c.deref.ensures.value ∙ c.in_ok-found.ensures.encodings s)
     c.args.ctx.now c.place.new.ctx (descriptors_from c.args.options.now c.args.options.now.offset (buffers_in w)) refl (c.in_ok-found.ensures.grown s) (wire-whole codec s c.args.array.now)
-    (wire-tabled s c.args.array.now c.in_ok-found.ensures.tables)
+    (wire-tabled s c.args.array.now)
     placed.placeable.tree.few (c.deref-2.ensures.value ∙ placed.descriptors_are)
 
 pub returns-in_err-message-clause-cause : goal.returns-in_err-message-clause-cause

@@ -8,7 +8,7 @@ use Rattle.vx_scalar_wire.proofs.StatsWays.{head, last_links, later_links, taken
 use Rattle.vx_scalar_wire.proofs.stats.writing.write_table.Goals as goal
 
 pub table-requires-clause-entries : goal.table-requires-clause-entries
-table-requires-clause-entries c = taken c.args.stats.now c.args.stored.now c.entries_of.result c.requires.stored c.entries_of.ensures.entries c.entries_of.ensures.of_kind
+table-requires-clause-entries c = taken c.args.stats.now c.args.stored.now c.entries_of.result c.requires.stored c.entries_of.ensures.entries
 
 pub returns-in_err-table-clause-stopped : goal.returns-in_err-table-clause-stopped
 returns-in_err-table-clause-stopped c =

@@ -34,7 +34,7 @@ returns-then-len-gt-MAX_BUFFERS-clause-cause c = λ x.
       | then-len-gt-MAX_BUFFERS-via-then-len-gt-MAX_BUFFERS b ↦ inl (omega (arith, b.if-len-gt-MAX_BUFFERS.true, c.len.ensures))
       | then-len-gt-MAX_BUFFERS-via-else-len-gt-MAX_BUFFERS+then-len-gt-MAX_NODES b ↦ inr (omega (arith, b.if-len-gt-MAX_NODES.true, b.len-else-len-gt-MAX_BUFFERS.ensures, found.encodings.ok))
     ] in
-    too-much s own.array.now own.ctx.now c.args.builder.now c.gather.new.ctx es found.buffers (c.in_ok-gather.ensures.grown s) named same c.in_ok-gather.ensures.tables many
+    too-much s own.array.now own.ctx.now c.args.builder.now c.gather.new.ctx es found.buffers (c.in_ok-gather.ensures.grown s) named same many
 
 pub write_node-requires-clause-known : goal.write_node-requires-clause-known
 write_node-requires-clause-known c =
