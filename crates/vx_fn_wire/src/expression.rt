@@ -113,8 +113,8 @@ impl Expression {
         Ok(Blob::new(bytes.into_vec()))
     }
 
-    // The message of the expression, whose calls have as many children as their functions' arities
-    // admit.
+    // The message of the expression, which is one: each call in it has as many children as its
+    // function's arity admits.
     #[tactic(auto, using(crate::proofs::Forms::expr_form))]
     fn message(&self, alloc: Global) -> Result<pb::Expr, FnWireError>
         ensures same { IfOk result (λ m. m ≡ expr_message (expr self.now)) }

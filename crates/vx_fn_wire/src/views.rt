@@ -63,7 +63,7 @@ impl fmt::Display for ScalarFnOptions<'_> {
     }
 }
 
-/// How the calls of a function look, borrowed from it.
+/// How the calls of a function look, borrowed from it, its identifier among it.
 #[derive(Clone, Copy, Debug)]
 pub struct ScalarFnSignature<'a> {
     id: &'a str,
