@@ -2,17 +2,22 @@
 use Rattle.std.specs.Prelude.{ℕ, zero, suc, ◌+◌, ◌*◌, ◌<◌, ◌≡◌, List, [], ◌∷◌, ◌++◌, length, take, refl}
 use Rattle.std.proofs.Common.{arith, get_or, sym, ap, ◌∙◌, subst}
 use Rattle.std.proofs.lemmas.List.{take_more}
-use Rattle.vx_trees.specs.Rose.{roses_of}
+use Rattle.vx_trees.specs.Rose.{Roses, node, roses_of}
+use Rattle.vx_trees.specs.Everywhere.{Everywhere, EverywhereBelow}
 use Rattle.vx_trees.specs.Walks.{nodes, nodes_of}
 use Rattle.vx_trees.proofs.Counting.{nodes-at}
+use Rattle.vx_trees.proofs.Lists.{count-roses_of}
 use Rattle.vx_trees.proofs.Holding.{everywhere_below-snoc, everywhere-at}
 use Rattle.vx_proto.specs.Repeated.{members, as_message, messages}
 use Rattle.vx_proto.specs.Value.{Entry, message, slots_of}
-use Rattle.vx_fn_wire.specs.Expr.{IsExprNode, IsExpr, AreExprs}
+use Rattle.vx_types.specs.Content.{IsText}
+use Rattle.vx_fn_wire.specs.Arity.{Admits}
+use Rattle.vx_fn_wire.specs.Expr.{Head, call, Expr, IsExpr, AreExprs}
 use Rattle.vx_fn_wire.specs.Messages.{CanWrite, IsSerializable, AreSerializable, expr_message, expr_messages}
 use Rattle.vx_fn_wire.specs.Parts.{expr_size, slice_size}
 use Rattle.vx_fn_wire.specs.Seen.{expr, exprs}
 use Rattle.vx_fn_wire.specs.declared.expression.Expression.{Expression}
+use Rattle.vx_fn_wire.specs.declared.scalar_fn.ScalarFn.{ScalarFn}
 
 pub exprs-length : (es : List Expression) → length (exprs es) ≡ length es
 exprs-length [] = refl
@@ -34,12 +39,22 @@ size-at es i e h =
     let f : expr_size (get_or (exprs es) i (expr e)) < slice_size (exprs es) = omega (arith, nodes-at (exprs es) i (expr e) g) in
     subst (λ t. expr_size t < slice_size (exprs es)) (exprs-at es i e) f
 
--- One expression more at the end.
-pub exprs_pushed : (es fs : List Expression) (e : Expression) → AreExprs (exprs es) → IsExpr (expr e) → fs ≡ es ++ e ∷ [] → AreExprs (exprs fs)
-exprs_pushed es fs e h k is = everywhere_below-snoc IsExprNode (exprs es) (exprs fs) (expr e) h k (ap exprs is ∙ exprs-push es e)
-
 pub nodes_at : (es : List Expression) (i : ℕ) (e : Expression) → i < length es → e ≡ get_or es i e → 4 * nodes (expr e) < 4 * nodes_of (roses_of (exprs es)) + 1
 nodes_at es i e h is = subst (λ x. expr_size (expr x) < slice_size (exprs es)) (sym is) (size-at es i e h)
+
+-- ---- facts at each node
+
+-- A fact that holds in each of the first ones, and in one more.
+pub every_more : (F : Head → Roses Head → Type 0) (es : List Expression) (i : ℕ) (e : Expression) → i < length es → e ≡ get_or es i e → EverywhereBelow F (roses_of (exprs (take i es))) → Everywhere F (expr e)
+    → EverywhereBelow F (roses_of (exprs (take (i + 1) es)))
+every_more F es i e h is some this =
+    everywhere_below-snoc F (exprs (take i es)) (exprs (take (i + 1) es)) (expr e) some this
+    (ap exprs (take_more es i e h ∙ ap (λ x. take i es ++ x ∷ []) (sym is)) ∙ exprs-push (take i es) e)
+
+-- A call is an expression over expressions, if its function's arity admits their number and its identifier is a text.
+pub call_formed : (t : Expr) (f : ScalarFn) (children : List Expr) → t ≡ node (call f) (roses_of children) → Admits f.arity (length children) → IsText f.id → AreExprs children → IsExpr t
+call_formed t f children is admitted text below =
+    subst IsExpr (sym is) ((subst (λ (n : ℕ). Admits f.arity n) (sym (count-roses_of children)) admitted, text), below)
 
 -- ---- options that can be written
 
@@ -48,13 +63,6 @@ pub serializable_at : (es : List Expression) (i : ℕ) (e : Expression) → i < 
 serializable_at es i e h is all =
     let g : i < length (exprs es) = omega (arith, h, exprs-length es) in
     subst IsSerializable (exprs-at es i e ∙ ap expr (sym is)) (everywhere-at CanWrite (exprs es) i (expr e) g all)
-
--- One more of a list.
-pub serializable_more : (es : List Expression) (i : ℕ) (e : Expression) → i < length es → e ≡ get_or es i e → AreSerializable (roses_of (exprs (take i es))) → IsSerializable (expr e)
-    → AreSerializable (roses_of (exprs (take (i + 1) es)))
-serializable_more es i e h is some this =
-    everywhere_below-snoc CanWrite (exprs (take i es)) (exprs (take (i + 1) es)) (expr e) some this
-    (ap exprs (take_more es i e h ∙ ap (λ x. take i es ++ x ∷ []) (sym is)) ∙ exprs-push (take i es) e)
 
 -- ---- messages
 

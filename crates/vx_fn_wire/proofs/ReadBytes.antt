@@ -1,5 +1,5 @@
 -- Expressions out of bytes: why none is read, and that each answer is the only one.
-use Rattle.std.proofs.Common.{◌≡◌, ◌≤◌, ◌⊎◌, inl, inr, ℕ, zero, suc, Bool, true, false, if◌then◌else◌, eqb, List, [], ◌∷◌, Some, None, Result, Ok, Err, IfOk, MatchResult, refl, ap, sym, subst, ◌∙◌, arith}
+use Rattle.std.proofs.Common.{◌≡◌, ◌≤◌, ◌⊎◌, inl, inr, ℕ, zero, suc, Bool, true, false, if◌then◌else◌, eqb, List, [], ◌∷◌, Some, None, Result, Ok, Err, IfOk, IfErr, MatchResult, refl, subst, arith}
 use Rattle.std.specs.Prelude.{IsErr, is_some}
 use Rattle.vx_trees.specs.Walks.{levels}
 use Rattle.vx_proto.specs.declared.error.ProtoError.{ProtoError}
@@ -23,7 +23,7 @@ use Rattle.vx_fn_wire.specs.declared.error.FnWireError.{FnWireError}
 use Rattle.vx_fn_wire.specs.declared.error.FnWireError.TheVariants.{OutOfMemory, BadMessage, TooDeep}
 use Rattle.vx_fn_wire.specs.declared.expression.Expression.{Expression}
 use Rattle.vx_fn_wire.specs.declared.scalar_fn.ScalarFn.{ScalarFn}
-use Rattle.vx_fn_wire.proofs.LawsOfExpressions.{read_uncaused, read_depth}
+use Rattle.vx_fn_wire.proofs.LawsOfExpressions.{one_expr, read_uncaused, read_depth}
 
 -- ---- no number of the message is out of its range, since it has none
 
@@ -69,14 +69,17 @@ no_range (suc left) bytes (inr (inr h)) = absurd (let e : proto.OutOfRange ≡ p
 -- ---- answers
 
 module _ (registry : Registry ScalarFn) (unknown : Bool) where
-  -- Where a message is that of an expression, it is refused for want of memory alone.
-  pub only_memory : (v : Value) (r : Result Expression FnWireError) (y e : FnWireError) → r ≡ Err y → y ≡ e → (e ≡ OutOfMemory) ⊎ IsUnreadExpr registry unknown e v → (t : Expr) → ReadsExpr registry unknown v t
+  -- One expression is read of a message, and where one is, memory alone can run out.
+  pub one_read : (v : Value) (r : Result Expression FnWireError) → IfOk r (λ x. ReadsExpr registry unknown v (expr x)) → IfErr r (λ e. (e ≡ OutOfMemory) ⊎ IsUnreadExpr registry unknown e v) → (t : Expr) → ReadsExpr registry unknown v t
       → MatchResult r (λ x. expr x ≡ t) (λ e. e ≡ OutOfMemory)
-  only_memory v r y e p q cause t h = subst (λ (s : Result Expression FnWireError). MatchResult s (λ x. expr x ≡ t) (λ e. e ≡ OutOfMemory)) (sym (p ∙ ap Err q)) (go cause)
-    where
-      go : (e ≡ OutOfMemory) ⊎ IsUnreadExpr registry unknown e v → e ≡ OutOfMemory
-      go (inl m) = m
-      go (inr c) = absurd (read_uncaused registry unknown e v t h c)
+  one_read v (Ok x) read cause t h = one_expr registry unknown v (expr x) t read h
+  one_read v (Err e) read (inl m) t h = m
+  one_read v (Err e) read (inr c) t h = absurd (read_uncaused registry unknown e v t h c)
+
+  -- A message is refused where a cause stands.
+  pub none_read : (v : Value) (r : Result Expression FnWireError) → IfOk r (λ x. ReadsExpr registry unknown v (expr x)) → (e : FnWireError) → IsUnreadExpr registry unknown e v → IsErr r
+  none_read v (Ok x) read e c = absurd (read_uncaused registry unknown e v (expr x) read c)
+  none_read v (Err y) read e c = refl
 
   -- Why bytes are no message is why they are read as no expression.
   pub bytes_unread : (bytes : List ℕ) (p : ProtoError) → (p ≡ proto.OutOfMemory) ⊎ Cause expr_lists 100 p 0 bytes → (refusal_of_proto p ≡ OutOfMemory) ⊎ IsUnreadExprBytes registry unknown (refusal_of_proto p) bytes

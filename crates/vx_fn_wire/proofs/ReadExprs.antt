@@ -7,9 +7,9 @@ use Rattle.vx_proto.specs.Form.{HasForm}
 use Rattle.vx_proto.specs.Parts.{entries_in, text_in, octets_in, message_of}
 use Rattle.vx_proto.specs.Reads.{default_value}
 use Rattle.vx_proto.specs.Value.{Value, view, entries_view}
-use Rattle.vx_fn_wire.specs.Expr.{Head, Expr}
+use Rattle.vx_fn_wire.specs.Expr.{Head, Expr, IsExpr}
 use Rattle.vx_fn_wire.specs.Messages.{metadata_of}
-use Rattle.vx_fn_wire.specs.ReadsExpr.{HoldsExpr, IsHeadOf, IsNodeOf, IsMessageOf, AreMessagesOf, IsNoHead, IsUnreadExpr}
+use Rattle.vx_fn_wire.specs.ReadsExpr.{HoldsExpr, IsHeadOf, IsNodeOf, IsMessageOf, AreMessagesOf, ReadsExpr, IsNoHead, IsUnreadExpr}
 use Rattle.vx_fn_wire.specs.Schema.{expr_lists}
 use Rattle.vx_fn_wire.specs.Seen.{expr}
 use Rattle.vx_fn_wire.specs.Session.{Registry}
@@ -52,12 +52,14 @@ module _ (registry : Registry ScalarFn) (unknown : Bool) where
 
   -- All children are read, and so is their node.
   pub whole_read : (v : Value) (es : List (ℕ × Element)) (i : ℕ) (ts : List Expr) (id metadata : List ℕ) (r : Result Expression FnWireError) → HasForm expr_lists 0 v → entries_view es ≡ entries_in v 1 → length es ≤ i → AreReadTo registry unknown ts es i
-      → Some id ≡ text_in (entries_in v 0) → metadata ≡ metadata_of (octets_in (entries_in v 2)) → IfOk r (λ e. IsNodeOf registry unknown id metadata (roses_of ts) (expr e)) → IfOk r (λ e. IsMessageOf registry unknown (expr e) v)
-  whole_read v es i ts id metadata (Err e) h same le so_far found md given = tt
-  whole_read v es i ts id metadata (Ok e) h same le so_far found md given =
+      → Some id ≡ text_in (entries_in v 0) → metadata ≡ metadata_of (octets_in (entries_in v 2)) → IfOk r (λ e. IsNodeOf registry unknown id metadata (roses_of ts) (expr e))
+      → IfOk r (λ e. IsExpr (expr e)) → IfOk r (λ e. ReadsExpr registry unknown v (expr e))
+  whole_read v es i ts id metadata (Err e) h same le so_far found md given formed = tt
+  whole_read v es i ts id metadata (Ok e) h same le so_far found md given formed =
       let p = read_parts v es i ts id metadata h same le so_far found md in
-      node_message v p.parts.id p.parts.children p.parts.metadata (roses_of ts) (expr e) p.parts.holds p.children
-      (subst (λ (z : List ℕ). IsNodeOf registry unknown p.parts.id z (roses_of ts) (expr e)) p.metadata_is (subst (λ (z : List ℕ). IsNodeOf registry unknown z metadata (roses_of ts) (expr e)) p.id_is given))
+      let is = node_message v p.parts.id p.parts.children p.parts.metadata (roses_of ts) (expr e) p.parts.holds p.children
+      (subst (λ (z : List ℕ). IsNodeOf registry unknown p.parts.id z (roses_of ts) (expr e)) p.metadata_is (subst (λ (z : List ℕ). IsNodeOf registry unknown z metadata (roses_of ts) (expr e)) p.id_is given)) in
+      record { is_expr = formed; message = is }
 
   pub whole_unread : (v : Value) (es : List (ℕ × Element)) (i : ℕ) (ts : List Expr) (id metadata : List ℕ) (r : Result Expression FnWireError) → HasForm expr_lists 0 v → entries_view es ≡ entries_in v 1 → length es ≤ i → AreReadTo registry unknown ts es i
       → Some id ≡ text_in (entries_in v 0) → metadata ≡ metadata_of (octets_in (entries_in v 2)) → IfErr r (λ e. (e ≡ OutOfMemory) ⊎ IsNoHead registry unknown e id metadata (length ts)) → IfErr r (λ e. (e ≡ OutOfMemory) ⊎ IsUnreadExpr registry unknown e v)
@@ -80,9 +82,9 @@ module _ (registry : Registry ScalarFn) (unknown : Bool) where
       inr (record { depth = suc u.depth; at = u.at; stands = (w, (p.id, p.children, p.metadata, p.holds, (i, (at.within, at.at))), u.stands); cause = u.cause })
 
   -- A message without fields, whose identifier is empty.
-  pub default_read : (v : Value) (r : Result Expression FnWireError) → v ≡ default_value expr_lists 0 → IfOk r (λ e. IsNodeOf registry unknown [] [] end (expr e)) → IfOk r (λ e. IsMessageOf registry unknown (expr e) v)
-  default_read v (Err e) is given = tt
-  default_read v (Ok e) is given = node_message v [] [] None end (expr e) is refl given
+  pub default_read : (v : Value) (r : Result Expression FnWireError) → v ≡ default_value expr_lists 0 → IfOk r (λ e. IsNodeOf registry unknown [] [] end (expr e)) → IfOk r (λ e. IsExpr (expr e)) → IfOk r (λ e. ReadsExpr registry unknown v (expr e))
+  default_read v (Err e) is given formed = tt
+  default_read v (Ok e) is given formed = record { is_expr = formed; message = node_message v [] [] None end (expr e) is refl given }
 
   pub default_unread : (v : Value) (r : Result Expression FnWireError) → v ≡ default_value expr_lists 0 → IfErr r (λ e. (e ≡ OutOfMemory) ⊎ IsNoHead registry unknown e [] [] 0) → IfErr r (λ e. (e ≡ OutOfMemory) ⊎ IsUnreadExpr registry unknown e v)
   default_unread v (Ok e) is cause = tt

@@ -1,9 +1,7 @@
 //! Calls of functions.
 
 ghost use Rattle.std.specs.Prelude.{◌≡◌, length};
-ghost use Rattle.vx_types.specs.Content.{IsText};
 ghost use Rattle.vx_fn_wire.specs.Arity.{Admits};
-ghost use Rattle.vx_fn_wire.specs.Expr.{AreExprs};
 
 use crate::expressions::Expressions;
 use crate::scalar_fn::ScalarFn;
@@ -52,21 +50,11 @@ impl Call {
         &self.function
     }
 
-    /// What it is called on.
+    /// What it is called on: as many as the function's arity admits.
     pub fn children(&self) -> &Expressions
-        ensures { result.now ≡ self.now.children }
+        ensures same { result.now ≡ self.now.children }
+        ensures arity { Admits self.now.function.arity (length self.now.children) }
     {
         &self.children
-    }
-
-    /// What is known of each call: the function's arity admits the number of its children, these are
-    /// expressions, and the identifier is a text. Nothing runs; a caller gets the fact.
-    pub fn hold(&self)
-        ensures arity { Admits self.now.function.arity (length self.now.children) }
-        ensures id { IsText self.now.function.id }
-        ensures children { AreExprs self.now.children }
-    {
-        let _id = self.function.id.as_str();
-        self.children.hold();
     }
 }

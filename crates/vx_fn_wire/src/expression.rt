@@ -51,17 +51,6 @@ impl Expression {
         Expression::Call(Call::new(function, children))
     }
 
-    /// What is known of each expression: each call in it has as many children as its function's arity
-    /// admits. Nothing runs; a caller gets the fact.
-    pub fn hold(&self)
-        ensures { IsExpr (expr self.now) }
-    {
-        match self {
-            Expression::Root => {}
-            Expression::Call(call) => call.hold(),
-        }
-    }
-
     /// The expression whose message this is. Each identifier is that of the root, which is looked at
     /// first, or has its plugin's function, or the foreign one where no plugin stands and unknown ones
     /// are allowed. Absent metadata is read as empty, and a root's is ignored. `RootWithChildren` where a
@@ -79,9 +68,7 @@ impl Expression {
             → MatchResult result (λ d. expr d ≡ e) (λ e. e ≡ FnWireError.OutOfMemory) }
         ensures refused { (e : Refusal) → IsUnreadExpr (scalars_meaning scalar_of session.now.scalars) session.now.unknown e message.now → IsErr result }
     {
-        let expression = expression_of(alloc, message, &session.scalars, session.unknown)?;
-        expression.hold();
-        Ok(expression)
+        expression_of(alloc, message, &session.scalars, session.unknown)
     }
 
     /// The expression whose message these bytes are. `BadMessage` where they are no fields of the
@@ -121,10 +108,25 @@ impl Expression {
         ensures shallow { IsOk result → levels (expr self.now) ≤ 100 }
         ensures cause { IfErr result (λ e. IsUnwrittenBytes e (expr self.now)) }
     {
-        self.hold();
-        let message = self.serialize_proto(alloc)?;
+        let message = self.message(alloc)?;
         let bytes = message.encode_to_vec(alloc)?;
         Ok(Blob::new(bytes.into_vec()))
+    }
+
+    // The message of the expression, which is one: each call in it has as many children as its
+    // function's arity admits.
+    #[tactic(auto, using(crate::proofs::Forms::expr_form))]
+    fn message(&self, alloc: Global) -> Result<pb::Expr, FnWireError>
+        ensures same { IfOk result (λ m. m ≡ expr_message (expr self.now)) }
+        ensures formed { IfOk result (λ _. IsExpr (expr self.now)) }
+        ensures whole { IsOk result → IsSerializable (expr self.now) }
+        ensures cause { IfErr result (λ e. IsUnwritten e (expr self.now)) }
+    {
+        if !self.is_serializable() {
+            return Err(FnWireError::NotSerializable);
+        }
+        let slots = slots_of(alloc, self)?;
+        Ok(PlainMessage::new(slots))
     }
 }
 
@@ -159,14 +161,8 @@ pub trait ExprSerializeProtoExt {
 impl ExprSerializeProtoExt for Expression {
     ghost tree = { expr };
 
-    #[tactic(auto, using(crate::proofs::Forms::expr_form))]
     fn serialize_proto(&self, alloc: Global) -> Result<pb::Expr, FnWireError> {
-        if !self.is_serializable() {
-            return Err(FnWireError::NotSerializable);
-        }
-        self.hold();
-        let slots = slots_of(alloc, self)?;
-        Ok(PlainMessage::new(slots))
+        self.message(alloc)
     }
 }
 

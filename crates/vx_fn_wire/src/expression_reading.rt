@@ -5,8 +5,9 @@ ghost use Rattle.vx_trees.specs.Rose.{roses_of};
 ghost use Rattle.vx_proto.specs.Form.{HasForm};
 ghost use Rattle.vx_proto.specs.Parts.{entries_in, octets_in};
 ghost use Rattle.vx_proto.specs.Value.{value_view};
+ghost use Rattle.vx_fn_wire.specs.Expr.{IsExpr, AreExprs};
 ghost use Rattle.vx_fn_wire.specs.Messages.{metadata_of};
-ghost use Rattle.vx_fn_wire.specs.ReadsExpr.{IsFunctionOf, IsNodeOf, IsNoHead, IsMessageOf, IsUnreadExpr};
+ghost use Rattle.vx_fn_wire.specs.ReadsExpr.{IsFunctionOf, IsNodeOf, IsNoHead, ReadsExpr, IsUnreadExpr};
 ghost use Rattle.vx_fn_wire.specs.Schema.{expr_lists};
 ghost use Rattle.vx_fn_wire.specs.Seen.{expr};
 ghost use Rattle.vx_fn_wire.specs.Session.{scalars_meaning, IsNotGiven};
@@ -74,6 +75,7 @@ fn node_of(
     unknown: bool,
 ) -> Result<Expression, FnWireError>
     ensures given { IfOk result (λ e. IsNodeOf (scalars_meaning scalar_of session.now) unknown id.now metadata.now (roses_of children) (expr e)) }
+    ensures formed { AreExprs children → IfOk result (λ e. IsExpr (expr e)) }
     ensures cause { IfErr result (λ e. (e ≡ FnWireError.OutOfMemory) ⊎ IsNoHead (scalars_meaning scalar_of session.now) unknown e id.now metadata.now (length children)) }
 {
     if id == ROOT_ID {
@@ -84,7 +86,7 @@ fn node_of(
     }
     let id = Id::new(alloc, id)?;
     let function = function_of(alloc, id, metadata, children.len(), session, unknown)?;
-    if !function.arity.admits(children.len()) {
+    if !function.signature().arity().admits(children.len()) {
         return Err(FnWireError::ArityMismatch);
     }
     Ok(Expression::call(function, children))
@@ -108,7 +110,7 @@ fn expression_in(
     unknown: bool,
 ) -> Result<Expression, FnWireError>
     requires { HasForm expr_lists 0 (value_view slots.now) }
-    ensures read { IfOk result (λ e. IsMessageOf (scalars_meaning scalar_of session.now) unknown (expr e) (value_view slots.now)) }
+    ensures read { IfOk result (λ e. ReadsExpr (scalars_meaning scalar_of session.now) unknown (value_view slots.now) (expr e)) }
     ensures cause { IfErr result (λ e. (e ≡ FnWireError.OutOfMemory) ⊎ IsUnreadExpr (scalars_meaning scalar_of session.now) unknown e (value_view slots.now)) }
 {
     let mut children = Expressions::new(alloc);
@@ -131,7 +133,7 @@ pub fn expression_of(
     session: &ScalarFnSession,
     unknown: bool,
 ) -> Result<Expression, FnWireError>
-    ensures read { IfOk result (λ e. IsMessageOf (scalars_meaning scalar_of session.now) unknown (expr e) message.now) }
+    ensures read { IfOk result (λ e. ReadsExpr (scalars_meaning scalar_of session.now) unknown message.now (expr e)) }
     ensures cause { IfErr result (λ e. (e ≡ FnWireError.OutOfMemory) ⊎ IsUnreadExpr (scalars_meaning scalar_of session.now) unknown e message.now) }
 {
     match message.slots() {

@@ -1,7 +1,6 @@
 //! Lists of expressions.
 
 ghost use Rattle.std.specs.Prelude.{◌≡◌, ◌==◌, [], ◌∷◌, ◌++◌, OnOk, OnErr, IsOkUnless, length, slice_get, option_map, option_copied};
-ghost use Rattle.vx_fn_wire.specs.Expr.{AreExprs};
 ghost use Rattle.vx_fn_wire.specs.Seen.{expr, exprs};
 
 use crate::error::FnWireError;
@@ -20,7 +19,7 @@ impl Model for Expressions {
     ghost use Rattle.std.specs.Prelude.{List};
     ghost use Rattle.std.specs.Coded.{coded_list};
     ghost use Rattle.std.proofs.Common.{arith};
-    ghost use Rattle.vx_fn_wire.specs.Expr.{Expr, expr_code, AreExprs};
+    ghost use Rattle.vx_fn_wire.specs.Expr.{Expr, expr_code};
     ghost use Rattle.vx_fn_wire.specs.Parts.{exprs_size};
 
     ghost Value = { List Expr };
@@ -30,8 +29,6 @@ impl Model for Expressions {
     ghost use Rattle.vx_fn_wire.specs.Seen.{exprs};
 
     ghost view = { λ a. exprs a.items.items };
-
-    ghost invariant = { λ a. AreExprs (exprs a.items.items) };
 
     ghost size = { exprs_size };
 
@@ -85,16 +82,7 @@ impl Expressions {
         ensures unchanged { OnErr result (self.new ≡ self.old) }
         ensures err { IsOkUnless result FnWireError.OutOfMemory }
     {
-        expression.hold();
         self.items.push(expression)?;
         Ok(())
-    }
-
-    /// What is known of each list of expressions: each of them is one. Nothing runs; a caller gets the
-    /// fact.
-    pub fn hold(&self)
-        ensures { AreExprs self.now }
-    {
-        let _ = &self.items;
     }
 }

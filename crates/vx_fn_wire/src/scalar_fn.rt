@@ -1,6 +1,7 @@
 //! Functions of rows.
 
 ghost use Rattle.std.specs.Prelude.{◌≡◌, option_map};
+ghost use Rattle.vx_types.specs.Content.{IsText};
 
 use crate::arity::Arity;
 use crate::views::{ScalarFnOptions, ScalarFnSignature};
@@ -39,9 +40,11 @@ impl ScalarFn {
         ScalarFnOptions::of(self)
     }
 
-    /// How its calls look.
+    /// How its calls look. The identifier in it is a text.
     pub fn signature(&self) -> ScalarFnSignature<'_>
-        ensures { result.function.now ≡ self.now }
+        ensures function { result.function.now ≡ self.now }
+        ensures id { result.id.now ≡ self.now.id }
+        ensures text { IsText self.now.id }
     {
         ScalarFnSignature::of(self)
     }

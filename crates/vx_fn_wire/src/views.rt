@@ -1,6 +1,7 @@
 //! What is seen of a function: its options, and how its calls look.
 
 ghost use Rattle.std.specs.Prelude.{◌≡◌, ◌&&◌, Some, None, option_map, unwrap_or, slice_get, IfOk, IsOkUnless};
+ghost use Rattle.vx_types.specs.Content.{IsText};
 ghost use Rattle.vx_fn_wire.specs.Texts.{child_name_of};
 
 use crate::arity::Arity;
@@ -62,17 +63,30 @@ impl fmt::Display for ScalarFnOptions<'_> {
     }
 }
 
-/// How the calls of a function look, borrowed from it.
+/// How the calls of a function look, borrowed from it, its identifier among it.
 #[derive(Clone, Copy, Debug)]
 pub struct ScalarFnSignature<'a> {
+    id: &'a str,
     function: &'a ScalarFn,
 }
 
 impl<'a> ScalarFnSignature<'a> {
     pub(crate) fn of(function: &'a ScalarFn) -> ScalarFnSignature<'a>
-        ensures { result.function.now ≡ function.now }
+        ensures function { result.function.now ≡ function.now }
+        ensures id { result.id.now ≡ function.now.id }
+        ensures text { IsText function.now.id }
     {
-        ScalarFnSignature { function }
+        ScalarFnSignature {
+            id: function.id.as_str(),
+            function,
+        }
+    }
+
+    /// The identifier of the function.
+    pub fn id(&self) -> &'a str
+        ensures { result.now ≡ self.now.id.now }
+    {
+        self.id
     }
 
     /// How many children a call may have.

@@ -4,6 +4,7 @@ ghost use Rattle.std.specs.Prelude.{◌≡◌, ◌↔◌, IfOk, IsOkUnless, IsTr
 ghost use Rattle.vx_trees.specs.Rose.{roses_of};
 ghost use Rattle.vx_proto.specs.Value.{value_view, entries_view};
 ghost use Rattle.vx_proto.specs.Repeated.{messages};
+ghost use Rattle.vx_fn_wire.specs.Expr.{IsExpr, AreExprs};
 ghost use Rattle.vx_fn_wire.specs.Messages as message;
 ghost use Rattle.vx_fn_wire.specs.Messages.{expr_message, expr_messages, IsSerializable, AreSerializable};
 ghost use Rattle.vx_fn_wire.specs.Seen.{expr, exprs};
@@ -47,10 +48,12 @@ fn are_serializable(expressions: &[Expression]) -> bool
     true
 }
 
-/// The plain value of an expression's message. Options that cannot be written stand there as none.
+/// The plain value of an expression's message. Options that cannot be written stand there as none. The
+/// walk looks at each call, so it tells that the expression is one.
 #[cycle(values)]
 pub fn slots_of(alloc: Global, expression: &Expression) -> Result<Vec<Entries>, ProtoError>
     ensures same { IfOk result (λ v. value_view v.items ≡ expr_message (expr expression.now)) }
+    ensures formed { IfOk result (λ _. IsExpr (expr expression.now)) }
     ensures err { IsOkUnless result ProtoError.OutOfMemory }
 {
     match expression {
@@ -82,6 +85,7 @@ fn metadata_of(call: &Call) -> &[u8]
 #[cycle(values)]
 fn children_slot(alloc: Global, children: &[Expression]) -> Result<Entries, ProtoError>
     ensures same { IfOk result (λ es. entries_view es.items ≡ messages (λ v. v) 2 (expr_messages (roses_of (exprs children.now)))) }
+    ensures formed { IfOk result (λ _. AreExprs (exprs children.now)) }
     ensures err { IsOkUnless result ProtoError.OutOfMemory }
 {
     let mut entries = Vec::new(alloc);

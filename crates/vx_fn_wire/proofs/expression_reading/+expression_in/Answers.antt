@@ -1,6 +1,8 @@
 use Rattle.std.proofs.Common.{◌≡◌, ◌⊎◌, arith}
 use Rattle.std.proofs.lemmas.Result.{err_from_is_err_and}
 use Rattle.vx_proto.specs.Value.{value_view}
+use Rattle.vx_trees.proofs.Holding.{everywhere_below-snoc}
+use Rattle.vx_fn_wire.specs.Expr.{IsExprNode}
 use Rattle.vx_fn_wire.specs.ReadsExpr.{IsUnreadExpr}
 use Rattle.vx_fn_wire.specs.Seen.{expr}
 use Rattle.vx_fn_wire.specs.Session.{scalars_meaning}
@@ -40,8 +42,11 @@ returns-in_err-expression_in-clause-cause g t c =
 pub loop-element-preserved : goal.loop-element-preserved
 loop-element-preserved g t c =
     let registry = scalars_meaning (λ b. ((dyn-1-ghosts g.dyn-1).0.entry b.vtable).1.scalar_of b.value) c.args.session.now in
-    one_more registry c.args.unknown c.loop-element.children c.push.new.self (expr c.in_ok-expression_in.field-0) c.entries_at-element-items.result.now c.loop-element.element-index c.loop-element-item.result (value_view c.in-Some.child.now)
-    c.loop-element-test.true c.loop-element-item.is c.in-Some.ensures c.in_ok-push.ensures.ok c.loop-element.invariant c.in_ok-expression_in.ensures.read
+    let child = c.in_ok-expression_in.ensures.read in (
+      one_more registry c.args.unknown c.loop-element.children c.push.new.self (expr c.in_ok-expression_in.field-0) c.entries_at-element-items.result.now c.loop-element.element-index c.loop-element-item.result (value_view c.in-Some.child.now)
+          c.loop-element-test.true c.loop-element-item.is c.in-Some.ensures c.in_ok-push.ensures.ok c.loop-element.invariant.0 child.message,
+      everywhere_below-snoc IsExprNode c.loop-element.children c.push.new.self (expr c.in_ok-expression_in.field-0) c.loop-element.invariant.1 child.is_expr c.in_ok-push.ensures.ok,
+    )
 
 pub unreachable-requires-in_default-text_at : goal.unreachable-requires-in_default-text_at
 unreachable-requires-in_default-text_at g t c = id_found (value_view c.args.slots.now) c.requires c.in_default-text_at.ensures
@@ -50,10 +55,11 @@ pub returns-clause-read : goal.returns-clause-read
 returns-clause-read g t c =
     let registry = scalars_meaning (λ b. ((dyn-1-ghosts g.dyn-1).0.entry b.vtable).1.scalar_of b.value) c.args.session.now in
     whole_read registry c.args.unknown (value_view c.args.slots.now) c.entries_at-element-items.result.now c.loop-element.element-index c.loop-element.children c.in-Some-text_at.id.now c.metadata_at.result.now c.node_of.result
-    c.requires c.entries_at-element-items.ensures c.loop-element-test.false c.loop-element.invariant c.in-Some-text_at.ensures c.metadata_at.ensures c.node_of.ensures.given
+    c.requires c.entries_at-element-items.ensures c.loop-element-test.false c.loop-element.invariant.0 c.in-Some-text_at.ensures c.metadata_at.ensures c.node_of.ensures.given
+    (c.node_of.ensures.formed c.loop-element.invariant.1)
 
 pub returns-clause-cause : goal.returns-clause-cause
 returns-clause-cause g t c =
     let registry = scalars_meaning (λ b. ((dyn-1-ghosts g.dyn-1).0.entry b.vtable).1.scalar_of b.value) c.args.session.now in
     whole_unread registry c.args.unknown (value_view c.args.slots.now) c.entries_at-element-items.result.now c.loop-element.element-index c.loop-element.children c.in-Some-text_at.id.now c.metadata_at.result.now c.node_of.result
-    c.requires c.entries_at-element-items.ensures c.loop-element-test.false c.loop-element.invariant c.in-Some-text_at.ensures c.metadata_at.ensures c.node_of.ensures.cause
+    c.requires c.entries_at-element-items.ensures c.loop-element-test.false c.loop-element.invariant.0 c.in-Some-text_at.ensures c.metadata_at.ensures c.node_of.ensures.cause

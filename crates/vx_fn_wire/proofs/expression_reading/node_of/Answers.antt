@@ -1,11 +1,14 @@
-use Rattle.std.proofs.Common.{◌⊎◌, inr, ◌≡◌, true, false, length, sym, subst}
+use Rattle.std.proofs.Common.{◌⊎◌, inr, ◌≡◌, true, false, length, refl, ap, sym, subst, ◌∙◌}
 use Rattle.std.proofs.lemmas.Result.{err_from_is_err_and}
 use Rattle.vx_fn_wire.specs.Arity.{Admits}
 use Rattle.vx_fn_wire.specs.Seen.{expr}
 use Rattle.vx_fn_wire.specs.ReadsExpr.{IsNoHead}
 use Rattle.vx_fn_wire.specs.Session.{scalars_meaning}
 use Rattle.vx_fn_wire.specs.contracts.expression_reading.node_of.{dyn-1-ghosts}
+use Rattle.vx_fn_wire.specs.declared.arity.Arity.{Arity}
 use Rattle.vx_fn_wire.specs.declared.error.FnWireError.TheVariants.{OutOfMemory}
+use Rattle.vx_fn_wire.specs.declared.scalar_fn.ScalarFn.{ScalarFn}
+use Rattle.vx_fn_wire.proofs.Lists.{call_formed}
 use Rattle.vx_fn_wire.proofs.ReadNodes.{handed_on, no_function, not_admitted, call_node}
 use Rattle.vx_fn_wire.proofs.expression_reading.node_of.Goals as goal
 
@@ -19,11 +22,19 @@ returns-in_err-function-clause-cause g c =
 
 pub returns-then-not-admits-clause-cause : goal.returns-then-not-admits-clause-cause
 returns-then-not-admits-clause-cause g c =
+    let same : c.arity.result ≡ c.in_ok-function.function.arity = c.arity.ensures ∙ ap (λ (f : ScalarFn). f.arity) c.signature.ensures.function in
     let registry = scalars_meaning (λ b. ((dyn-1-ghosts g.dyn-1).0.entry b.vtable).1.scalar_of b.value) c.args.session.now in
     inr (not_admitted registry c.args.unknown c.args.id.now c.in_ok-id.id c.args.metadata.now (length c.args.children) c.len.result c.in_ok-function.function c.in_ok-id.ensures.ok c.if-eq.ensures c.len.ensures c.in_ok-function.ensures.given
-    (λ a. absurd (let e : false ≡ true = c.if-not-admits.ensures.1 (subst (λ n. Admits c.in_ok-function.function.arity n) (sym c.len-2.ensures) a) in cc)))
+    (λ a. absurd (let e : false ≡ true = c.if-not-admits.ensures.1 (subst (Admits c.arity.result) (sym c.len-2.ensures) (subst (λ (r : Arity). Admits r (length c.args.children)) (sym same) a)) in cc)))
 
 pub returns-clause-given : goal.returns-clause-given
 returns-clause-given g c =
     let registry = scalars_meaning (λ b. ((dyn-1-ghosts g.dyn-1).0.entry b.vtable).1.scalar_of b.value) c.args.session.now in
     call_node registry c.args.unknown c.args.id.now c.in_ok-id.id c.args.metadata.now c.args.children c.len.result c.in_ok-function.function (expr c.call.result) c.in_ok-id.ensures.ok c.if-eq.ensures c.len.ensures c.in_ok-function.ensures.given c.call.ensures
+
+pub returns-clause-formed : goal.returns-clause-formed
+returns-clause-formed g c = λ below.
+    let f = c.in_ok-function.function in
+    let same : c.arity.result ≡ f.arity = c.arity.ensures ∙ ap (λ (k : ScalarFn). k.arity) c.signature.ensures.function in
+    call_formed (expr c.call.result) f c.args.children c.call.ensures
+    (subst (λ (r : Arity). Admits r (length c.args.children)) same (subst (Admits c.arity.result) c.len-2.ensures (c.if-not-admits.ensures.0 refl))) c.signature.ensures.text below

@@ -1,5 +1,6 @@
 use Rattle.std.proofs.Common.{refl}
-use Rattle.vx_fn_wire.proofs.Lists.{serializable_at, serializable_more}
+use Rattle.vx_fn_wire.specs.Messages.{CanWrite}
+use Rattle.vx_fn_wire.proofs.Lists.{serializable_at, every_more}
 use Rattle.vx_fn_wire.proofs.writing.+serializable.Goals as goal
 
 pub are_serializable-returns-then-not-is_serializable : goal.are_serializable-returns-then-not-is_serializable
@@ -8,4 +9,4 @@ are_serializable-returns-then-not-is_serializable t c =
 
 pub are_serializable-loop-expression-preserved : goal.are_serializable-loop-expression-preserved
 are_serializable-loop-expression-preserved t c =
-    serializable_more _ _ _ c.loop-expression-test.true c.expression-item.is c.loop-expression.invariant (c.if-not-is_serializable.ensures.0 refl)
+    every_more CanWrite _ _ _ c.loop-expression-test.true c.expression-item.is c.loop-expression.invariant (c.if-not-is_serializable.ensures.0 refl)

@@ -10,4 +10,4 @@ pub returns-clause-read_back : goal.returns-clause-read_back
 returns-clause-read_back c = λ registry unknown gives.
     let e = expr c.args.self.now in
     let shown : Reads expr_lists 0 c.new.result (expr_message e) = search rules in
-    record { value = expr_message e; shown = shown; read = written_read registry unknown e c.hold.ensures gives }
+    record { value = expr_message e; shown = shown; read = written_read registry unknown e c.in_ok-message.ensures.formed gives }

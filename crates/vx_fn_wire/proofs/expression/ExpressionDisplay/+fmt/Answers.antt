@@ -12,7 +12,7 @@ loop-child-init g t c = λ p. record { wrote = record { parts = []; calls = refl
 pub fmt-requires-in-loop-child : goal.fmt-requires-in-loop-child
 fmt-requires-in-loop-child g t c =
     let smaller = smaller_child c.args.self.now c.in-Call.call.function c.in-Call.call.children c.as_slice.result.now c.loop-child.child-index c.child-item.result
-    (ap expr c.in-Call.is) (c.as_slice.ensures ∙ c.children.ensures) (omega (arith, c.loop-child-test.true)) c.child-item.is in
+    (ap expr c.in-Call.is) (c.as_slice.ensures ∙ c.children.ensures.same) (omega (arith, c.loop-child-test.true)) c.child-item.is in
     λ κs le. (omega (arith, smaller, c.decreases), le)
 
 pub loop-child-preserved : goal.loop-child-preserved
@@ -30,7 +30,7 @@ returns-after-as_slice-lt1-clause-writes g t c =
     let id = c.in_ok-write_str-in-Call.ensures.writes p refl in
     let bracket = c.in_ok-write_str-in-Call-2.ensures.writes id.plain refl in
     let same = c.as_str.ensures.same ∙ ap (λ f. f.id) c.function.ensures in
-    let seen = c.as_slice.ensures ∙ c.children.ensures in
+    let seen = c.as_slice.ensures ∙ c.children.ensures.same in
     elim c.if-as_slice-lt1.branch [
       | in_default w ↦
           let close = c.write_str-in-Call-3.ensures.writes (subst IsPlainFormatter (sym w.f-is) bracket.plain) ok in
