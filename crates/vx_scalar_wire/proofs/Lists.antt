@@ -10,6 +10,7 @@ use Rattle.vx_proto.specs.declared.element.Element.{Element}
 use Rattle.vx_proto.specs.declared.element.Element.TheViews.{Message}
 use Rattle.vx_proto.specs.Value.{Content, Entry, message, slots_of, entries_view, value_view}
 use Rattle.vx_type_wire.specs.TypeMessage.{all_messages}
+use Rattle.vx_types.specs.Well.{IsWell, AreWell}
 use Rattle.vx_scalars.proofs.Lists.{size-at}
 use Rattle.vx_scalars.specs.Seen.{seen, all_seen}
 use Rattle.vx_scalars.specs.declared.value.ScalarValue.{ScalarValue}
@@ -48,6 +49,16 @@ shallow-more_suc (x ∷ vs) (suc i) v h f g = (f.0, shallow-more_suc vs i v (ome
 pub shallow-more : (vs : List (Option ScalarValue)) (i : ℕ) (v : Option ScalarValue) → i < length vs → v ≡ get_or vs i v → AreShallow (roses_of (all_seen (take i vs))) → IsShallow (seen v)
     → AreShallow (roses_of (all_seen (take (i + 1) vs)))
 shallow-more vs i v h e f g = rw (add-one i) (shallow-more_suc vs i v h f (subst (λ w. IsShallow (seen w)) e g))
+
+well-more_suc : (vs : List (Option ScalarValue)) (i : ℕ) (v : Option ScalarValue) → i < length vs → AreWell (roses_of (all_seen (take i vs))) → IsWell (seen (get_or vs i v))
+    → AreWell (roses_of (all_seen (take (suc i) vs)))
+well-more_suc [] i v h f g = absurd (omega (arith, h))
+well-more_suc (x ∷ vs) zero v h f g = (g, tt)
+well-more_suc (x ∷ vs) (suc i) v h f g = (f.0, well-more_suc vs i v (omega (arith, h)) f.1 g)
+
+pub well-more : (vs : List (Option ScalarValue)) (i : ℕ) (v : Option ScalarValue) → i < length vs → v ≡ get_or vs i v → AreWell (roses_of (all_seen (take i vs))) → IsWell (seen v)
+    → AreWell (roses_of (all_seen (take (i + 1) vs)))
+well-more vs i v h e f g = rw (add-one i) (well-more_suc vs i v h f (subst (λ w. IsWell (seen w)) e g))
 
 shallow_at : (vs : List (Option ScalarValue)) (i : ℕ) (v : Option ScalarValue) → i < length vs → AreShallow (roses_of (all_seen vs)) → IsShallow (seen (get_or vs i v))
 shallow_at [] i v h f = absurd (omega (arith, h))

@@ -2,6 +2,7 @@ use Rattle.std.proofs.Common.{◌≡◌, ◌+◌, ◌*◌, take, option_copied}
 use Rattle.vx_trees.specs.Rose.{roses_of}
 use Rattle.vx_trees.specs.Walks.{nodes, nodes_of}
 use Rattle.vx_proto.specs.Value.{entries_view}
+use Rattle.vx_types.specs.Well.{AreWell}
 use Rattle.vx_type_wire.specs.TypeMessage.{all_messages}
 use Rattle.vx_scalars.specs.Seen.{seen, all_seen}
 use Rattle.vx_scalar_wire.specs.ScalarMessage.{value_messages}
@@ -27,3 +28,4 @@ abbrev pub invariant-list_slots-loop-value : goal.invariant-list_slots-loop-valu
 invariant-list_slots-loop-value l =
     (entries_view l.entries.items ≡ all_messages 1 (value_messages (roses_of (all_seen (take l.value-index l.values)))))
     × AreShallow (roses_of (all_seen (take l.value-index l.values)))
+    × AreWell (roses_of (all_seen (take l.value-index l.values)))
