@@ -8,7 +8,7 @@ use Rattle.vx_scalar_wire.proofs.messages.ScalarValueScalarValueExt.from_proto.G
 pub returns-in_default-clause-complete : goal.returns-in_default-clause-complete
 returns-in_default-clause-complete g c = λ v n r.
     only_memory MissingKind _ v (typ c.args.dtype.now) c.args.message.now c.is_within.ensures.is_type n r
-    (refused_here MissingKind _ 100 (typ c.args.dtype.now) c.args.message.now (inl c.in_default.ensures))
+    (refused_here MissingKind _ 100 (typ c.args.dtype.now) c.args.message.now (inl c.in_default.ensures.value))
 
 pub returns-clause-complete : goal.returns-clause-complete
 returns-clause-complete g c = λ v n r.
