@@ -15,7 +15,7 @@ returns-in_ok-vec-in-Some-clause-same c =
 
 pub returns-in_ok-vec-in-Some-clause-form : goal.returns-in_ok-vec-in-Some-clause-form
 returns-in_ok-vec-in-Some-clause-form c =
-    whole_form tree_metadata_lists 1 tree_metadata_parts (c.args.self.now.tree, tt) (subst (IfStands (HasForm trees 0)) (sym c.in-Some.is) c.hold.ensures, tt)
+    whole_form tree_metadata_lists 1 tree_metadata_parts (c.args.self.now.tree, tt) (subst (IfStands (HasForm trees 0)) (sym c.in-Some.is) c.in_ok-inner-in-Some.ensures.form, tt)
 
 pub returns-in_ok-vec-in-None-clause-form : goal.returns-in_ok-vec-in-None-clause-form
 returns-in_ok-vec-in-None-clause-form c =
