@@ -86,6 +86,9 @@ const PARTS: [(&str, (usize, u8), u8); 7] = [
 fn views_are_judged(rt: HostRuntime) {
     for (part, change, status) in &PARTS {
         let changes = [*change];
-        assert!(rt; refuses_changed(rt.alloc(), &FIVE_ROWS, &texts(&BLOB), &changes, *status), "{part}");
+        assert!(rt;
+            refuses_changed(rt.alloc(), &FIVE_ROWS, &texts(&BLOB), &changes, *status),
+            "{part}"
+        );
     }
 }
