@@ -4,7 +4,7 @@ use Rattle.vx_trees.specs.Rose.{node, end}
 use Rattle.vx_types.specs.Kind.{primitive}
 use Rattle.vx_types.specs.declared.nullability.Nullability.TheVariants.{NonNullable}
 use Rattle.vx_types.specs.declared.ptype.PType.TheVariants.{I32}
-use Rattle.vx_array_tree.specs.Tree.{Tree}
+use Rattle.vx_array_tree.specs.Tree.{Tree, untold}
 use Rattle.vx_array_tree.specs.Body as B
 use Rattle.vx_flat_tests.specs.Worked.{array_message}
 use Rattle.vx_wire_tree.specs.Context.{Context}
@@ -16,7 +16,7 @@ numbers = 1 ∷ 0 ∷ 0 ∷ 0 ∷ 2 ∷ 0 ∷ 0 ∷ 0 ∷ 3 ∷ 0 ∷ 0 ∷ 0 �
 
 -- Their array: four rows of 32-bit signed integers that are not nullable, in one buffer that is aligned to 4.
 abbrev pub integers : Tree
-integers = node (record { dtype = node (primitive I32 NonNullable) end; len = 4; body = B.primitive (record { values = record { bytes = numbers; exponent = 2 } }) }) end
+integers = node (untold (node (primitive I32 NonNullable) end) 4 (B.primitive (record { values = record { bytes = numbers; exponent = 2 } }))) end
 
 -- A context without identifiers that allows all.
 abbrev pub no_ids : Context
