@@ -233,7 +233,7 @@ fn is_row(alloc: Global, index: usize, row: Option<&[u8]>) -> Result<bool, Array
     let found = bytes_at(alloc, &array, index, 37)?;
     match (found, row) {
         (Some(bytes), Some(row)) => Ok(bytes.as_slice() == row),
-        (None, None) => Ok(array.len() == 5 && array.is_valid(index) == Some(false)),
+        (None, None) => Ok(index < array.len() && array.is_valid(index) == Some(false)),
         _ => Ok(false),
     }
 }

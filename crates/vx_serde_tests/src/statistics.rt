@@ -104,9 +104,19 @@ fn is_kept(alloc: Global, blob: &ByteBuffer, kind: PType) -> Result<bool, WireEr
     Ok(same && twice.as_slice() == blob.as_slice())
 }
 
+// The place in bytes of others.
+fn place_of(bytes: &[u8], part: &[u8]) -> Option<usize> {
+    for i in 0..bytes.len() {
+        if bytes[i..].starts_with(part) {
+            return Some(i);
+        }
+    }
+    None
+}
+
 // Whether bytes have others within.
 fn has_within(bytes: &[u8], part: &[u8]) -> bool {
-    bytes.windows(part.len()).any(|w| w == part)
+    place_of(bytes, part).is_some()
 }
 
 // A sum of these bits, exact.
@@ -217,11 +227,6 @@ fn statistics_that_stand_are_named(rt: HostRuntime) {
     let alloc = rt.alloc();
     assert!(rt; is_named(alloc, Precision::Exact(least()), 1, "min") == Ok(true));
     assert!(rt; is_named(alloc, Precision::Absent, 0, "") == Ok(true));
-}
-
-// The place in a blob of a byte pattern.
-fn place_of(bytes: &[u8], part: &[u8]) -> Option<usize> {
-    bytes.windows(part.len()).position(|w| w == part)
 }
 
 // The blob of an exact least value of 5 with another byte this far from its message.
