@@ -10,7 +10,6 @@ pub mod files;
 pub mod laws;
 #[cfg(test)]
 mod nodes;
-#[cfg(test)]
-mod statistics;
+pub mod sessions;
 #[cfg(test)]
 mod writing;

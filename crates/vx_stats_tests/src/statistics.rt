@@ -1,12 +1,12 @@
 //! Statistics of arrays in blobs: written, read, named and refused.
 
-use crate::blobs::shipped;
 use std::alloc::Global;
 use vx_arrays::{Array, ArrayError, PrimitiveArray};
 use vx_buffer::{Alignment, BufferHandle, ByteBuffer, ByteBuffers};
 use vx_registry::{ArrayContext, ReadContext};
 use vx_scalars::{Precision, ScalarError, ScalarValue, Stat, StatsSet};
 use vx_serde::{ArrayExt, Recoded, SerializeOptions, SerializedArray, WireError, recode};
+use vx_serde_tests::sessions::shipped;
 use vx_types::{DType, Id, Ids, Nullability, PType, PValue, TypeError};
 
 // The bits of one number.
