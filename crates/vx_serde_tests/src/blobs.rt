@@ -1,12 +1,12 @@
 //! Blobs of every kind of number, recoded.
 
 use crate::files::{BLOB, IDS};
-use crate::sessions::shipped;
 use std::alloc::{AllocError, Global};
 use vx_arrays::Array;
 use vx_buffer::{ByteBuffer, ByteBuffers};
-use vx_registry::{ArrayContext, ReadContext, VortexSession};
+use vx_registry::{ArrayContext, ArraySession, ReadContext, VortexSession};
 use vx_serde::{Recoded, SerializeOptions, WireError, recode};
+use vx_type_wire::ExtSession;
 use vx_types::{DType, Id, Ids, Nullability, PType, TypeError};
 
 /// The worked blob.
@@ -46,6 +46,14 @@ pub(crate) fn worked_ids(alloc: Global) -> Result<ReadContext, TypeError> {
     let mut ids = Ids::new(alloc);
     ids.push(Id::new(alloc, IDS.trim_end())?)?;
     Ok(ReadContext::new(ids))
+}
+
+/// The encodings that are shipped, without readers of extensions.
+pub(crate) fn shipped(alloc: Global) -> Result<VortexSession, WireError> {
+    match ArraySession::default(alloc) {
+        Ok(arrays) => Ok(VortexSession::new(arrays, ExtSession::new(alloc))),
+        Err(_) => Err(WireError::OutOfMemory),
+    }
 }
 
 // The blob recoded at a type and a length, by these identifiers and encodings.

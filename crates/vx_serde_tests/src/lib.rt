@@ -10,6 +10,5 @@ pub mod files;
 pub mod laws;
 #[cfg(test)]
 mod nodes;
-pub mod sessions;
 #[cfg(test)]
 mod writing;

@@ -1,8 +1,7 @@
 //! Blobs read node by node, and over buffers that are given.
 
-use crate::blobs::{count_of, refusal, worked_blob, worked_ids};
+use crate::blobs::{count_of, refusal, shipped, worked_blob, worked_ids};
 use crate::files::{BLOB, BLOB_OF_SECOND};
-use crate::sessions::shipped;
 use std::alloc::{AllocError, Global};
 use std::collections::BTreeMap;
 use vx_arrays::Array;

@@ -3,11 +3,19 @@
 use std::alloc::Global;
 use vx_arrays::{Array, ArrayError, PrimitiveArray};
 use vx_buffer::{Alignment, BufferHandle, ByteBuffer, ByteBuffers};
-use vx_registry::{ArrayContext, ReadContext};
+use vx_registry::{ArrayContext, ArraySession, ReadContext, VortexSession};
 use vx_scalars::{Precision, ScalarError, ScalarValue, Stat, StatsSet};
 use vx_serde::{ArrayExt, Recoded, SerializeOptions, SerializedArray, WireError, recode};
-use vx_serde_tests::sessions::shipped;
+use vx_type_wire::ExtSession;
 use vx_types::{DType, Id, Ids, Nullability, PType, PValue, TypeError};
+
+// The encodings that are shipped, without readers of extensions.
+fn shipped(alloc: Global) -> Result<VortexSession, WireError> {
+    match ArraySession::default(alloc) {
+        Ok(arrays) => Ok(VortexSession::new(arrays, ExtSession::new(alloc))),
+        Err(_) => Err(WireError::OutOfMemory),
+    }
+}
 
 // The bits of one number.
 const NUMBERS: [u8; 8] = [0; 8];
