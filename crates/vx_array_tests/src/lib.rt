@@ -23,5 +23,3 @@ mod slots;
 mod statistics;
 #[cfg(test)]
 mod varbins;
-#[cfg(test)]
-mod varbinviews;
