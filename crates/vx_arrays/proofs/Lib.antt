@@ -5,3 +5,4 @@ mod Viewed
 mod Flags
 mod AllInvalid
 mod Untold
+mod Comparing
