@@ -147,6 +147,9 @@ module _ {A C : Type 0} (f : A → C) where
   same_length (x ∷ xs) [] p = absurd (cc)
   same_length (x ∷ xs) (y ∷ ys) p = ap (λ n. suc n) (same_length xs ys (tails p))
 
+-- For loops over two lists of buffers.
+pub ruleset alike = (more_same, same_at, same_length, bare-same, same-bare)
+
 -- ---- nodes without their children
 
 module _ (h g : Head) where

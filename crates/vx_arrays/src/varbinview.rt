@@ -10,7 +10,7 @@ ghost use Rattle.vx_array_tree.specs.Place.{before_validity};
 ghost use Rattle.vx_array_tree.specs.Refused.{IsWellShaped};
 ghost use Rattle.vx_array_tree.specs.Rows.{IsThere, validity as valid_by};
 ghost use Rattle.vx_array_tree.specs.Sound.{IsSound, IsSoundNode};
-ghost use Rattle.vx_array_tree.specs.Tree.{Head, option_trees, places, rows_below, Tree, untold};
+ghost use Rattle.vx_array_tree.specs.Tree.{Tree, option_trees, places, rows_below, untold};
 ghost use Rattle.vx_arrays.specs.Plain.{plain_value};
 ghost use Rattle.vx_arrays.specs.Refused.{IsUnmade, IsRowRefused, IsOkOrMemory};
 ghost use Rattle.vx_arrays.specs.Slots.{numbered};
@@ -192,8 +192,7 @@ impl VarBinViewData {
         index: usize,
         budget: u64,
     ) -> Result<RowValue, ArrayError>
-        requires sound { let head : Head = record { dtype = typ dtype.now; len = len; body = B.varbinview self.now } in
-            IsSoundNode head (roses_of children.now) }
+        requires sound { IsSoundNode (untold (typ dtype.now) len (B.varbinview self.now)) (roses_of children.now) }
         requires inside { index < len }
         ensures row { let rows = rows_of_views (typ dtype.now) len self.now (rows_below (roses_of children.now)) in
             IfOk result (λ row. plain_value row ≡ rows.row index) }
@@ -243,7 +242,7 @@ impl VarBinViewData {
 }
 
 // Whether the buffers are as many and have the same bytes.
-#[tactic(auto, using(crate::proofs::Comparing::lists))]
+#[tactic(auto, using(crate::proofs::Comparing::alike))]
 fn are_same(buffers: &[BufferHandle], others: &[BufferHandle]) -> bool
     ensures { IsTrue result ↔ (map bare buffers.now ≡ map bare others.now) }
 {
