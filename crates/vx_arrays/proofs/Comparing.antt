@@ -1,5 +1,5 @@
 -- Arrays as they are compared, part by part.
-use Rattle.std.proofs.Common.{ℕ, zero, suc, ◌≡◌, ◌<◌, ◌+◌, List, [], ◌∷◌, length, take, get_or, map, Bool, true, false, refl, sym, ap, ◌∙◌, add-one, arith}
+use Rattle.std.proofs.Common.{ℕ, zero, suc, ◌≡◌, ◌<◌, ◌≤◌, ◌+◌, List, [], ◌∷◌, length, take, get_or, map, Bool, true, false, refl, sym, ap, ◌∙◌, add-one, arith}
 use Rattle.std.proofs.lemmas.Bool.{false≢true}
 use Rattle.std.proofs.lemmas.List.{take_all}
 use Rattle.std.specs.Prelude.{◌↔◌, IsTrue}
@@ -16,11 +16,17 @@ use Rattle.vx_array_tree.specs.Encodings.Decimals as Decimals
 use Rattle.vx_array_tree.specs.Encodings.VarBins as VarBins
 use Rattle.vx_array_tree.specs.Encodings.VarBinViews as VarBinViews
 use Rattle.vx_array_tree.specs.Tree.{Tree, Trees, Head, untold}
+use Rattle.vx_arrays.specs.Plain.{plain_body}
+use Rattle.vx_arrays.specs.declared.body.Body.{Body as DeclaredBody}
 use Rattle.vx_arrays.specs.Compared.{bare, compared_body, compared_head, compared, each_compared, IsSame}
 
 -- A test that says no decides what does not hold.
 pub decides_no : {P : Type 0} → (P → ⊥) → IsTrue false ↔ P
 decides_no h = (λ e. absurd (false≢true e), λ p. absurd (h p))
+
+-- One that says yes decides what holds.
+pub decides_yes : {P : Type 0} → P → IsTrue true ↔ P
+decides_yes p = (λ _. p, λ _. refl)
 
 -- ---- buffers
 
@@ -165,6 +171,7 @@ module _ (h g : Head) where
   pub same-bodies : compared_head h ≡ compared_head g → compared_body h.body ≡ compared_body g.body
   same-bodies e = ap (λ (k : Head). k.body) e
 
+-- For the roots of two arrays.
 pub ruleset roots = (heads-same, same-types, same-lens, same-bodies, count-roses_of)
 
 -- ---- arrays
@@ -180,6 +187,14 @@ count-each (more t ts) = ap (λ n. suc n) (count-each ts)
 -- Equal arrays have equal roots and as many children.
 pub root_of_same : (t u : Tree) → IsSame t u → (compared_head (label t) ≡ compared_head (label u)) × (count (below t) ≡ count (below u))
 root_of_same (node h ts) (node g us) e = (ap label e, sym (count-each ts) ∙ ap (λ v. count (below v)) e ∙ count-each us)
+
+-- Roots of equal types and lengths over as many children are equal exactly where their bodies are.
+pub root_decided : (t u : Tree) (ts us : List Tree) (x y : DeclaredBody) (b : Bool) → (label t).dtype ≡ (label u).dtype → (label t).len ≡ (label u).len → roses_of ts ≡ below t → roses_of us ≡ below u
+    → length ts ≡ length us → plain_body x ≡ (label t).body → plain_body y ≡ (label u).body → (IsTrue b ↔ (compared_body (plain_body x) ≡ compared_body (plain_body y)))
+    → IsTrue b ↔ ((compared_head (label t) ≡ compared_head (label u)) × (count (below t) ≡ count (below u)))
+root_decided t u ts us x y b d n p q l e f h =
+    (λ s. (heads-same (label t) (label u) d n (ap compared_body (sym e) ∙ h.0 s ∙ ap compared_body f), sym (ap count p) ∙ count-roses_of ts ∙ l ∙ sym (count-roses_of us) ∙ ap count q),
+    λ s. h.1 (ap compared_body e ∙ same-bodies (label t) (label u) (s.0) ∙ ap compared_body (sym f)))
 
 module _ (t u : Tree) (ts us : List Tree) (p : roses_of ts ≡ below t) (q : roses_of us ≡ below u) where
   -- Roots over as many children have lists of them that are as long.
@@ -210,6 +225,6 @@ module _ (t u : Tree) (ts us : List Tree) (p : roses_of ts ≡ below t) (q : ros
   differ_at i d e h k r s n z = n (ap compared r ∙ same_at compared ts us i d e h k (children_of_same z) ∙ ap compared (sym s))
 
   -- All children being equal, the arrays are.
-  pub same_of_all : (i : ℕ) → length ts ≡ length us → length ts ≡ i → compared_head (label t) ≡ compared_head (label u) → map compared (take i ts) ≡ map compared (take i us) → IsSame t u
+  pub same_of_all : (i : ℕ) → length ts ≡ length us → length ts ≤ i → compared_head (label t) ≡ compared_head (label u) → map compared (take i ts) ≡ map compared (take i us) → IsSame t u
   same_of_all i l k e f =
       same_of_parts e (ap (λ z. map compared z) (sym (take_all i ts (omega (arith, k)))) ∙ f ∙ ap (λ z. map compared z) (take_all i us (omega (arith, l, k))))

@@ -6,3 +6,4 @@ mod Flags
 mod AllInvalid
 mod Untold
 mod Comparing
+mod Feeding

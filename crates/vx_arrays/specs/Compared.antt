@@ -42,9 +42,13 @@ abbrev mutual
 abbrev pub IsSame : Tree → Tree → Type 0
 IsSame t u = compared t ≡ compared u
 
--- What a hash is fed of a node: the identifier of its encoding, its length and its buffers.
+-- What a hash is fed of a buffer: its bytes.
+abbrev pub fed_buffer : Buffer → fed.HashWrites
+fed_buffer b = fed.slice fed.u8 b.bytes
+
+-- What it is fed of a node: the identifier of its encoding, its length and its buffers.
 abbrev pub fed_head : Head → fed.HashWrites
-fed_head h = fed.str (id_of (encoding_of h.body)) ++ (fed.usize h.len ++ fed.slice (λ (b : Buffer). fed.slice fed.u8 b.bytes) (buffers_of h.body))
+fed_head h = fed.str (id_of (encoding_of h.body)) ++ (fed.usize h.len ++ fed.slice fed_buffer (buffers_of h.body))
 
 -- What it is fed of an array: that of each node, in preorder.
 abbrev pub fed_array : Tree → fed.HashWrites
