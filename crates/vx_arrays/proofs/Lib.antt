@@ -7,3 +7,4 @@ mod AllInvalid
 mod Untold
 mod Comparing
 mod Feeding
+mod Rebuffered

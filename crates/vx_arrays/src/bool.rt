@@ -148,7 +148,7 @@ impl BoolData {
         };
         match dtype {
             DType::Bool(nullability) => {
-                let validity = copied_validity(alloc, children)?;
+                let validity = copied_validity(alloc, children, len)?;
                 BoolArray::try_new(alloc, bits, self.offset, len, *nullability, validity)
             }
             _ => unreachable!(),

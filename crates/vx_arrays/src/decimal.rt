@@ -139,7 +139,7 @@ impl DecimalData {
         let width = self.values_type;
         match dtype {
             DType::Decimal(digits, nullability) => {
-                let validity = copied_validity(alloc, children)?;
+                let validity = copied_validity(alloc, children, len)?;
                 DecimalArray::try_new(alloc, values, width, *digits, *nullability, len, validity)
             }
             _ => unreachable!(),

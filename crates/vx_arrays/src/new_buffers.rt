@@ -1,9 +1,10 @@
 //! Arrays with other buffers.
 
-ghost use Rattle.std.specs.Prelude.{◌≡◌, ◌≤◌, ◌∷◌, [], Some, IfOk, IfErr, IfSome, IfNone, IsOkUnless, length};
-ghost use Rattle.vx_trees.specs.Rose.{roses_of};
+ghost use Rattle.std.specs.Prelude.{◌≡◌, ◌∷◌, [], Some, IfOk, IfErr, IfSome, IfNone, IsOkUnless, length};
+ghost use Rattle.vx_trees.specs.Rose.{count, roses_of};
+ghost use Rattle.vx_array_tree.specs.Place.{before_validity};
 ghost use Rattle.vx_array_tree.specs.Sound.{IsSound};
-ghost use Rattle.vx_array_tree.specs.Tree.{Tree, option_trees};
+ghost use Rattle.vx_array_tree.specs.Tree.{Tree, option_trees, places};
 ghost use Rattle.vx_arrays.specs.NewBuffers.{RefusesBuffers, with_buffers};
 ghost use Rattle.vx_arrays.specs.Refused.{IsOkOrMemory};
 
@@ -46,9 +47,13 @@ pub(crate) fn only_buffer(buffers: BufferHandles) -> Option<BufferHandle>
     items.pop()
 }
 
-// The validity of a node that has at most this child, once more.
-pub(crate) fn copied_validity(alloc: Global, children: &[Array]) -> Result<Option<Array>, ArrayError>
-    requires { length children.now ≤ 1 }
+// The validity that a node of `len` rows has as its only child, where it has one, once more.
+pub(crate) fn copied_validity(
+    alloc: Global,
+    children: &[Array],
+    len: usize,
+) -> Result<Option<Array>, ArrayError>
+    requires { before_validity [] len (count (roses_of children.now)) ≡ Some (places (roses_of children.now)) }
     ensures ok { IfOk result (λ validity. option_trees validity ≡ roses_of children.now) }
     ensures err { IsOkUnless result ArrayError.OutOfMemory }
 {

@@ -155,7 +155,7 @@ impl PrimitiveData {
         };
         match dtype {
             DType::Primitive(kind, nullability) => {
-                let validity = copied_validity(alloc, children)?;
+                let validity = copied_validity(alloc, children, len)?;
                 PrimitiveArray::try_new(alloc, values, *kind, *nullability, len, validity)
             }
             _ => unreachable!(),

@@ -149,9 +149,9 @@ impl VarBinData {
         };
         match children {
             [offsets, behind @ ..] => {
-                let offsets = offsets.clone(alloc)?;
-                let validity = copied_validity(alloc, behind)?;
                 let dtype = copied_type(alloc, dtype)?;
+                let offsets = offsets.clone(alloc)?;
+                let validity = copied_validity(alloc, behind, len)?;
                 VarBinArray::try_new(alloc, dtype, offsets, bytes, validity)
             }
             [] => unreachable!(),

@@ -235,8 +235,8 @@ impl VarBinViewData {
         let Some(views) = front.pop() else {
             return Err(ArrayError::BadShape);
         };
-        let validity = copied_validity(alloc, children)?;
         let dtype = copied_type(alloc, dtype)?;
+        let validity = copied_validity(alloc, children, len)?;
         VarBinViewArray::try_new(alloc, dtype, len, front, views, validity)
     }
 }

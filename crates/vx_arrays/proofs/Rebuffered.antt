@@ -1,0 +1,84 @@
+-- Arrays with other buffers, as their encodings make them.
+use Rattle.std.proofs.Common.{ℕ, zero, suc, ◌≡◌, ◌≤◌, List, [], ◌∷◌, ◌++◌, Option, Some, None, Result, Ok, Err, IfOk, IfErr, length, get_or, option_map, refl, sym, ap, ◌∙◌, subst, arith}
+use Rattle.std.proofs.lemmas.Option.{same_Some}
+use Rattle.std.specs.Prelude.{IfSome, IsSomeAnd}
+use Rattle.vx_buffer.specs.Buffer.{Buffer}
+use Rattle.vx_trees.specs.Rose.{node, end, more, label, below, count, roses_of}
+use Rattle.vx_types.specs.Kind as K
+use Rattle.vx_types.specs.Typ.{Typ}
+use Rattle.vx_array_tree.specs.Body.{Body}
+use Rattle.vx_array_tree.specs.Body as B
+use Rattle.vx_array_tree.specs.Encodings.Nulls as Nulls
+use Rattle.vx_array_tree.specs.Encodings.VarBinViews as VarBinViews
+use Rattle.vx_array_tree.specs.Place.{Place, before_validity}
+use Rattle.vx_array_tree.specs.Refused.{IsMisshaped, HasBrokenContent}
+use Rattle.vx_array_tree.specs.Sound.{IsSound, IsSoundNode}
+use Rattle.vx_array_tree.specs.Tree.{Tree, Trees, option_trees, places, untold}
+use Rattle.vx_arrays.specs.NewBuffers.{rebuffered, with_buffers, RefusesBuffers}
+use Rattle.vx_arrays.specs.Nulls.{null_tree}
+use Rattle.vx_arrays.specs.Refused.{IsUnmade, IsOkOrMemory}
+use Rattle.vx_arrays.specs.VarBinViews.{varbinview_tree}
+use Rattle.vx_arrays.specs.declared.error.ArrayError.{ArrayError}
+use Rattle.vx_arrays.specs.declared.error.ArrayError.TheVariants.{OutOfMemory, BadShape, BadContent, ValueTooLarge}
+
+-- The only child of a node whose only child may be a validity.
+pub only_child : (n : ℕ) (ts : List Tree) (t u : Tree) → before_validity [] n (count (roses_of ts)) ≡ Some (places (roses_of ts)) → 1 ≤ length ts → u ≡ get_or ts 0 u → t ≡ u → more t end ≡ roses_of ts
+only_child n [] t u p l e q = absurd (omega (arith, l))
+only_child n (x ∷ []) t u p l e q = ap (λ z. more z end) (q ∙ e)
+only_child n (x ∷ y ∷ ts) t u p l e q = absurd (cc)
+
+-- ---- what is answered is what a constructor answers
+
+module _ (t u : Tree) (bs : List Buffer) (made : with_buffers t bs ≡ Some u) (r : Result Tree ArrayError) where
+  pub answer_ok : IfOk r (λ a. a ≡ u) → IfOk r (λ a. with_buffers t bs ≡ Some a)
+  answer_ok h = ok r h
+    where
+      ok : (r : Result Tree ArrayError) → IfOk r (λ a. a ≡ u) → IfOk r (λ a. with_buffers t bs ≡ Some a)
+      ok (Ok a) h = made ∙ ap (λ z. Some z) (sym h)
+      ok (Err e) h = tt
+
+  refused : (e : ArrayError) → IsUnmade e u → RefusesBuffers e t bs
+  refused OutOfMemory h = tt
+  refused BadShape h = subst (λ (o : Option Tree). IfSome o (λ v. IsMisshaped (label v) (below v))) (sym made) h
+  refused BadContent h = subst (λ (o : Option Tree). IsSomeAnd o (λ v. HasBrokenContent (label v) (below v))) (sym made) h
+  refused ValueTooLarge h = h
+
+  pub answer_err : IfErr r (λ e. IsUnmade e u) → IfErr r (λ e. RefusesBuffers e t bs)
+  answer_err h = err r h
+    where
+      err : (r : Result Tree ArrayError) → IfErr r (λ e. IsUnmade e u) → IfErr r (λ e. RefusesBuffers e t bs)
+      err (Ok a) h = tt
+      err (Err e) h = refused e h
+
+  pub answer_complete : (IsSound u → IsOkOrMemory r) → (v : Tree) → with_buffers t bs ≡ Some v → IsSound v → IsOkOrMemory r
+  answer_complete h v e s = h (subst (λ (z : Tree). IsSound z) (sym (same_Some u v (sym made ∙ e))) s)
+
+-- ---- nulls
+
+nulls_alone : (d : Typ) (n : ℕ) (ts : Trees) → Nulls.plan d n (count ts) ≡ Some (places ts) → (d ≡ node K.null end) × (ts ≡ end)
+nulls_alone (node K.null end) n end e = (refl, refl)
+nulls_alone (node K.null end) n (more t ts) e = absurd (cc)
+nulls_alone _ n ts e = absurd (cc)
+
+-- Without buffers a node of nulls is what it was.
+pub nulls_made : (d : Typ) (n : ℕ) (ts : Trees) (bs : List Buffer) → IsSoundNode (untold d n B.null) ts → bs ≡ [] → with_buffers (node (untold d n B.null) ts) bs ≡ Some (null_tree n)
+nulls_made d n ts bs s e =
+    let p = nulls_alone d n ts s.planned in
+    ap (λ (cs : List Buffer). with_buffers (node (untold d n B.null) ts) cs) e ∙ (λ i. Some (node (untold (p.0 i) n B.null) (p.1 i)))
+
+-- ---- texts and bytes by views
+
+-- The last of the buffers are the views.
+views_last : (front : List Buffer) (views : Buffer) → VarBinViews.body_of (front ++ views ∷ []) ≡ Some (record { buffers = front; views = views })
+views_last [] v = refl
+views_last (b ∷ bs) v = last (bs ++ v ∷ []) (views_last bs v)
+  where
+    last : (cs : List Buffer) → VarBinViews.body_of cs ≡ Some (record { buffers = bs; views = v }) → VarBinViews.body_of (b ∷ cs) ≡ Some (record { buffers = b ∷ bs; views = v })
+    last [] e = absurd (cc)
+    last (c ∷ cs) e = ap (λ (x : VarBinViews.Data). let y : VarBinViews.Data = record { buffers = b ∷ x.buffers; views = x.views } in Some y) (same_Some (VarBinViews.data_of c cs) (record { buffers = bs; views = v }) e)
+
+pub views_made : (d c : Typ) (n : ℕ) (x : VarBinViews.Data) (ts : Trees) (bs front : List Buffer) (views : Buffer) (v : Option Tree) → c ≡ d → option_trees v ≡ ts → bs ≡ front ++ views ∷ []
+    → with_buffers (node (untold d n (B.varbinview x)) ts) bs ≡ Some (varbinview_tree c n front views v)
+views_made d c n x ts bs front views v p q e =
+    ap (λ (o : Option VarBinViews.Data). option_map (λ (b : Body). node (untold d n b) ts) (option_map B.varbinview o)) (ap VarBinViews.body_of e ∙ views_last front views)
+    ∙ (λ i. Some (node (untold (sym p i) n (B.varbinview (record { buffers = front; views = views }))) (sym q i)))
