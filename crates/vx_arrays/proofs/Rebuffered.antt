@@ -1,23 +1,27 @@
 -- Arrays with other buffers, as their encodings make them.
-use Rattle.std.proofs.Common.{ℕ, zero, suc, ◌≡◌, ◌≤◌, List, [], ◌∷◌, ◌++◌, Option, Some, None, Result, Ok, Err, IfOk, IfErr, length, get_or, option_map, refl, sym, ap, ◌∙◌, subst, arith}
+use Rattle.std.proofs.Common.{ℕ, zero, suc, ◌≡◌, ◌≤◌, ◌-◌, take, drop, List, [], ◌∷◌, ◌++◌, Option, Some, None, Result, Ok, Err, IfOk, IfErr, length, get_or, option_map, refl, sym, ap, ◌∙◌, subst, arith}
 use Rattle.std.proofs.lemmas.Option.{same_Some}
 use Rattle.std.specs.Prelude.{IfSome, IsSomeAnd}
 use Rattle.vx_buffer.specs.Buffer.{Buffer}
 use Rattle.vx_trees.specs.Rose.{node, end, more, label, below, count, roses_of}
 use Rattle.vx_types.specs.Kind as K
 use Rattle.vx_types.specs.Typ.{Typ}
+use Rattle.vx_scalars.specs.Stats.{Stats}
 use Rattle.vx_array_tree.specs.Body.{Body}
 use Rattle.vx_array_tree.specs.Body as B
 use Rattle.vx_array_tree.specs.Encodings.Nulls as Nulls
+use Rattle.vx_array_tree.specs.Encodings.VarBins as VarBins
 use Rattle.vx_array_tree.specs.Encodings.VarBinViews as VarBinViews
 use Rattle.vx_array_tree.specs.Place.{Place, before_validity}
-use Rattle.vx_array_tree.specs.Refused.{IsMisshaped, HasBrokenContent}
+use Rattle.vx_array_tree.specs.Refused.{IsWellShaped, IsMisshaped, HasBrokenContent}
 use Rattle.vx_array_tree.specs.Sound.{IsSound, IsSoundNode}
-use Rattle.vx_array_tree.specs.Tree.{Tree, Trees, option_trees, places, untold}
+use Rattle.vx_array_tree.specs.Tree.{Tree, Trees, Head, option_trees, places, untold, with_stats}
 use Rattle.vx_arrays.specs.NewBuffers.{rebuffered, with_buffers, RefusesBuffers}
 use Rattle.vx_arrays.specs.Nulls.{null_tree}
 use Rattle.vx_arrays.specs.Refused.{IsUnmade, IsOkOrMemory}
+use Rattle.vx_arrays.specs.VarBins.{varbin_tree}
 use Rattle.vx_arrays.specs.VarBinViews.{varbinview_tree}
+use Rattle.vx_arrays.proofs.Parted.{first_and_behind, sound_counted}
 use Rattle.vx_arrays.specs.declared.error.ArrayError.{ArrayError}
 use Rattle.vx_arrays.specs.declared.error.ArrayError.TheVariants.{OutOfMemory, BadShape, BadContent, ValueTooLarge}
 
@@ -82,3 +86,40 @@ pub views_made : (d c : Typ) (n : ℕ) (x : VarBinViews.Data) (ts : Trees) (bs f
 views_made d c n x ts bs front views v p q e =
     ap (λ (o : Option VarBinViews.Data). option_map (λ (b : Body). node (untold d n b) ts) (option_map B.varbinview o)) (ap VarBinViews.body_of e ∙ views_last front views)
     ∙ (λ i. Some (node (untold (sym p i) n (B.varbinview (record { buffers = front; views = views }))) (sym q i)))
+
+-- ---- texts and bytes by offsets
+
+pub parts_made : (d c : Typ) (n : ℕ) (x : VarBins.Data) (ts : List Tree) (item o : Tree) (bs : List Buffer) (b : Buffer) (v : Option Tree) → IsSoundNode (untold d n (B.varbin x)) (roses_of ts)
+    → 1 ≤ length ts → item ≡ get_or ts 0 item → o ≡ item → c ≡ d → option_trees v ≡ roses_of (take (length ts - 1) (drop 1 ts)) → bs ≡ b ∷ []
+    → with_buffers (node (untold d n (B.varbin x)) (roses_of ts)) bs ≡ Some (varbin_tree c o b v)
+parts_made d c n x ts item o bs b v s l is q p w e =
+    let first : roses_of ts ≡ more item (roses_of (take (length ts - 1) (drop 1 ts))) = first_and_behind ts item l is in
+    let counted : (label o).len ≡ suc n = ap (λ (z : Tree). (label z).len) q ∙ sound_counted d n x (roses_of ts) item (roses_of (take (length ts - 1) (drop 1 ts))) first s in
+    let len : n ≡ (label o).len - 1 = omega (arith, counted) in
+    let children : roses_of ts ≡ more o (option_trees v) = first ∙ (λ i. more (sym q i) (sym w i)) in
+    ap (λ (cs : List Buffer). with_buffers (node (untold d n (B.varbin x)) (roses_of ts)) cs) e ∙ (λ i. Some (node (untold (sym p i) (len i) (B.varbin (record { bytes = b }))) (children i)))
+
+-- ---- statistics
+
+abbrev told_head : Head → Stats → Body → Head
+told_head h x b = record { dtype = h.dtype; len = h.len; stats = x; body = b }
+
+other_stats : (h : Head) (x y : Stats) (b : Body) (ts : Trees) → IsWellShaped (told_head h x b) ts → IsWellShaped (told_head h y b) ts
+other_stats h x y b ts s = record { fair = s.fair; planned = s.planned; allows = s.allows; takes = s.takes; holds = s.holds }
+
+-- Whether buffers are refused does not depend on statistics.
+pub told_refused : (e : ArrayError) (x : Stats) (t : Tree) (bs : List Buffer) → RefusesBuffers e (with_stats x t) bs → RefusesBuffers e t bs
+told_refused OutOfMemory x t bs r = tt
+told_refused BadShape x (node h ts) bs r = misshaped (rebuffered h.body bs) r
+  where
+    misshaped : (o : Option Body) → IfSome (option_map (λ (b : Body). node (told_head h x b) ts) o) (λ u. IsMisshaped (label u) (below u))
+        → IfSome (option_map (λ (b : Body). node (told_head h h.stats b) ts) o) (λ u. IsMisshaped (label u) (below u))
+    misshaped None r = tt
+    misshaped (Some b) r = λ s. r (other_stats h h.stats x b ts s)
+told_refused BadContent x (node h ts) bs r = broken (rebuffered h.body bs) r
+  where
+    broken : (o : Option Body) → IsSomeAnd (option_map (λ (b : Body). node (told_head h x b) ts) o) (λ u. HasBrokenContent (label u) (below u))
+        → IsSomeAnd (option_map (λ (b : Body). node (told_head h h.stats b) ts) o) (λ u. HasBrokenContent (label u) (below u))
+    broken None r = r
+    broken (Some b) r = record { shaped = other_stats h x h.stats b ts r.shaped; broken = r.broken }
+told_refused ValueTooLarge x t bs r = r
