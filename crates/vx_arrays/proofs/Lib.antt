@@ -8,3 +8,4 @@ mod Untold
 mod Comparing
 mod Feeding
 mod Rebuffered
+pub mod LawsSame

@@ -73,7 +73,7 @@ nulls_made d n ts bs s e =
 -- ---- texts and bytes by views
 
 -- The last of the buffers are the views.
-views_last : (front : List Buffer) (views : Buffer) → VarBinViews.body_of (front ++ views ∷ []) ≡ Some (record { buffers = front; views = views })
+pub views_last : (front : List Buffer) (views : Buffer) → VarBinViews.body_of (front ++ views ∷ []) ≡ Some (record { buffers = front; views = views })
 views_last [] v = refl
 views_last (b ∷ bs) v = last (bs ++ v ∷ []) (views_last bs v)
   where
