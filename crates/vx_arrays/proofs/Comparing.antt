@@ -6,8 +6,6 @@ use Rattle.std.specs.Prelude.{◌↔◌, IsTrue}
 use Rattle.vx_buffer.specs.Buffer.{Buffer}
 use Rattle.vx_trees.specs.Rose.{node, end, more, label, below, count, roses_of, roses_list}
 use Rattle.vx_trees.proofs.Lists.{roses_list-roses_of, count-roses_of}
-use Rattle.vx_types.specs.declared.decimal.DecimalType.{DecimalType}
-use Rattle.vx_types.specs.Typ.{Typ}
 use Rattle.vx_array_tree.specs.Body.{Body}
 use Rattle.vx_array_tree.specs.Body as B
 use Rattle.vx_array_tree.specs.Encodings.Bools as Bools
@@ -192,9 +190,10 @@ root_of_same (node h ts) (node g us) e = (ap label e, sym (count-each ts) ∙ ap
 pub root_decided : (t u : Tree) (ts us : List Tree) (x y : DeclaredBody) (b : Bool) → (label t).dtype ≡ (label u).dtype → (label t).len ≡ (label u).len → roses_of ts ≡ below t → roses_of us ≡ below u
     → length ts ≡ length us → plain_body x ≡ (label t).body → plain_body y ≡ (label u).body → (IsTrue b ↔ (compared_body (plain_body x) ≡ compared_body (plain_body y)))
     → IsTrue b ↔ ((compared_head (label t) ≡ compared_head (label u)) × (count (below t) ≡ count (below u)))
-root_decided t u ts us x y b d n p q l e f h =
-    (λ s. (heads-same (label t) (label u) d n (ap compared_body (sym e) ∙ h.0 s ∙ ap compared_body f), sym (ap count p) ∙ count-roses_of ts ∙ l ∙ sym (count-roses_of us) ∙ ap count q),
-    λ s. h.1 (ap compared_body e ∙ same-bodies (label t) (label u) (s.0) ∙ ap compared_body (sym f)))
+root_decided t u ts us x y b d n p q l e f h = (
+  λ s. (heads-same (label t) (label u) d n (ap compared_body (sym e) ∙ h.0 s ∙ ap compared_body f), sym (ap count p) ∙ count-roses_of ts ∙ l ∙ sym (count-roses_of us) ∙ ap count q),
+  λ s. h.1 (ap compared_body e ∙ same-bodies (label t) (label u) (s.0) ∙ ap compared_body (sym f)),
+)
 
 module _ (t u : Tree) (ts us : List Tree) (p : roses_of ts ≡ below t) (q : roses_of us ≡ below u) where
   -- Roots over as many children have lists of them that are as long.

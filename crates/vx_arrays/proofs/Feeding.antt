@@ -8,7 +8,7 @@ use Rattle.std.specs.List.{flat_map, fold}
 use Rattle.std.specs.Prelude.{slice_get}
 use Rattle.vx_buffer.specs.Buffer.{Buffer}
 use Rattle.vx_trees.specs.Rose.{node, end, more, label, below, roses_of}
-use Rattle.vx_trees.specs.Walks.{gathered, gathered_below}
+use Rattle.vx_trees.specs.Walks.{gathered_below}
 use Rattle.vx_trees.proofs.Gathering.{gathered-is, gathered_below-take}
 use Rattle.vx_array_tree.specs.Body.{Body}
 use Rattle.vx_array_tree.specs.Body as B
@@ -92,18 +92,6 @@ module _ {S : Type 0} (write : S → List ℕ → S) where
   pub buffer_fed : (s t u : S) (bs : List Buffer) (i : ℕ) (b : Buffer) → slice_get bs i ≡ Some b → t ≡ fold write s (flat_map fed_buffer (take i bs)) → u ≡ fold write t (fed_buffer b)
       → u ≡ fold write s (flat_map fed_buffer (take (i + 1) bs))
   buffer_fed s t u bs i b e p q = fed_along write s u (sym (fed_more bs i b e)) (fed_then write s t u (flat_map fed_buffer (take i bs)) (fed_buffer b) p q)
-
-  -- A root is fed by its identifier, its length, how many buffers it has, and these.
-  pub root_fed : (s a b d e : S) (h : Head) (id : List ℕ) (n k i : ℕ) → id ≡ id_of (encoding_of h.body) → n ≡ h.len → k ≡ length (buffers_of h.body) → k ≤ i
-      → a ≡ fold write s (fed.str id) → b ≡ fold write a (fed.usize n) → d ≡ fold write b (fed.usize k) → e ≡ fold write d (flat_map fed_buffer (take i (buffers_of h.body))) → e ≡ fold write s (fed_head h)
-  root_fed s a b d e h id n k i p q r l w x y z =
-      let bs = buffers_of h.body in
-      let whole : take i bs ≡ bs = take_all i bs (omega (arith, r, l)) in
-      fed_along write s e
-      (λ j. fed.str (p j) ++ (fed.usize (q j) ++ (fed.usize (r j) ++ flat_map fed_buffer (whole j))))
-      (fed_then write s a e (fed.str id) (fed.usize n ++ (fed.usize k ++ flat_map fed_buffer (take i bs))) w
-      (fed_then write a b e (fed.usize n) (fed.usize k ++ flat_map fed_buffer (take i bs)) x
-      (fed_then write b d e (fed.usize k) (flat_map fed_buffer (take i bs)) y z)))
 
   -- One child more.
   pub child_fed : (s t u : S) (ts : List Tree) (i : ℕ) (d : Tree) → i < length ts → d ≡ get_or ts i d → t ≡ fold write s (gathered_below fed_head (roses_of (take i ts))) → u ≡ fold write t (fed_array (compared d))

@@ -1,5 +1,5 @@
 -- Laws of equality, of hashes and of other buffers, for the crates above.
-use Rattle.std.proofs.Common.{◌≡◌, List, [], ◌∷◌, ◌++◌, Option, Some, None, option_map, refl, sym, ap, ◌∙◌}
+use Rattle.std.proofs.Common.{◌≡◌, List, [], ◌∷◌, Option, Some, option_map, refl, sym, ap, ◌∙◌}
 use Rattle.std.proofs.lemmas.Option.{same_Some}
 use Rattle.vx_buffer.specs.Buffer.{Buffer}
 use Rattle.vx_trees.specs.Rose.{node, label}
@@ -9,7 +9,7 @@ use Rattle.vx_array_tree.specs.Body as B
 use Rattle.vx_array_tree.specs.Metadata as M
 use Rattle.vx_array_tree.specs.Encoding as E
 use Rattle.vx_array_tree.specs.Table.{buffers_of}
-use Rattle.vx_array_tree.specs.Tree.{Tree, Trees, Head, with_stats}
+use Rattle.vx_array_tree.specs.Tree.{Tree, Head, with_stats}
 use Rattle.vx_array_tree.proofs.Built.{body_buffers}
 use Rattle.vx_array_tree.proofs.Options.{mapped}
 use Rattle.vx_arrays.specs.Compared.{IsSame, compared, fed_array}

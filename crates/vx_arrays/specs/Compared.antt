@@ -1,5 +1,5 @@
 -- What is compared of arrays, and what a hash is fed of them.
-use Rattle.std.specs.Prelude.{ℕ, ◌≡◌, List, ◌++◌, false, map}
+use Rattle.std.specs.Prelude.{◌≡◌, ◌++◌, false, map}
 use Rattle.std.specs.Hash as fed
 use Rattle.vx_buffer.specs.Buffer.{Buffer}
 use Rattle.vx_trees.specs.Rose.{node, end, more}

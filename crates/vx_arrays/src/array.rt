@@ -13,8 +13,8 @@ ghost use Rattle.vx_array_tree.specs.Rows.{flag_in};
 ghost use Rattle.vx_array_tree.specs.Sound.{IsSound, IsSoundNode};
 ghost use Rattle.vx_array_tree.specs.Table.{id_of, encoding_of, buffers_of, Content};
 ghost use Rattle.vx_array_tree.specs.Tree.{Tree, rows_of, rows_below, row_at, valid_at, cells, untold, with_stats};
-ghost use Rattle.vx_arrays.specs.Plain.{plain_body, head_of, plain_value};
 ghost use Rattle.vx_arrays.specs.NewBuffers.{RefusesBuffers, with_buffers};
+ghost use Rattle.vx_arrays.specs.Plain.{plain_body, head_of, plain_value};
 ghost use Rattle.vx_arrays.specs.Refused.{IsRowRefused, IsOkOrMemory};
 
 use crate::body::Body;

@@ -1,16 +1,16 @@
 //! Arrays of nulls.
 
 ghost use Rattle.std.specs.Prelude.{◌≡◌, ◌≤◌, IfOk, IfErr, IsOkUnless, Some};
+ghost use Rattle.vx_trees.specs.Rose.{node, roses_of};
+ghost use Rattle.vx_types.specs.Seen.{typ};
+ghost use Rattle.vx_array_tree.specs.Body as B;
 ghost use Rattle.vx_array_tree.specs.Encodings.Nulls.{rows as rows_of_nulls};
 ghost use Rattle.vx_array_tree.specs.Sound.{IsSound, IsSoundNode};
+ghost use Rattle.vx_array_tree.specs.Tree.{Tree, untold};
+ghost use Rattle.vx_arrays.specs.NewBuffers.{RefusesBuffers, with_buffers};
 ghost use Rattle.vx_arrays.specs.Nulls.{null_tree};
 ghost use Rattle.vx_arrays.specs.Plain.{plain_value};
 ghost use Rattle.vx_arrays.specs.Refused.{IsRowRefused, IsOkOrMemory};
-ghost use Rattle.vx_arrays.specs.NewBuffers.{RefusesBuffers, with_buffers};
-ghost use Rattle.vx_trees.specs.Rose.{node, roses_of};
-ghost use Rattle.vx_types.specs.Seen.{typ};
-ghost use Rattle.vx_array_tree.specs.Tree.{Tree, untold};
-ghost use Rattle.vx_array_tree.specs.Body as B;
 
 use crate::array::Array;
 use crate::body::Body;

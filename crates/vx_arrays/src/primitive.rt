@@ -2,25 +2,25 @@
 
 ghost use Rattle.std.specs.Prelude.{◌≡◌, ◌<◌, ◌≤◌, ◌↔◌, IfOk, IfErr, IsOkUnless, IsTrue, Some};
 ghost use Rattle.vx_trees.specs.Everywhere.{EverywhereBelow};
-ghost use Rattle.vx_trees.specs.Rose.{label, roses_of, node};
+ghost use Rattle.vx_trees.specs.Rose.{label, node, roses_of};
 ghost use Rattle.vx_types.specs.Seen.{typ};
 ghost use Rattle.vx_types.specs.Value.{natural};
 ghost use Rattle.vx_array_tree.specs.Encodings.Primitives.{rows as rows_of_numbers};
 ghost use Rattle.vx_array_tree.specs.Body as B;
 ghost use Rattle.vx_array_tree.specs.Refused.{IsWellShaped};
 ghost use Rattle.vx_array_tree.specs.Sound.{IsSound, IsSoundNode};
-ghost use Rattle.vx_array_tree.specs.Tree.{option_trees, rows_below, untold, Tree};
+ghost use Rattle.vx_array_tree.specs.Tree.{Tree, option_trees, rows_below, untold};
+ghost use Rattle.vx_arrays.specs.Compared.{compared_body};
+ghost use Rattle.vx_arrays.specs.NewBuffers.{RefusesBuffers, with_buffers};
 ghost use Rattle.vx_arrays.specs.Plain.{plain_value};
 ghost use Rattle.vx_arrays.specs.Primitives.{primitive_tree};
 ghost use Rattle.vx_arrays.specs.Refused.{IsUnmade, IsRowRefused, IsOkOrMemory};
-ghost use Rattle.vx_arrays.specs.NewBuffers.{RefusesBuffers, with_buffers};
-ghost use Rattle.vx_arrays.specs.Compared.{compared_body};
 
 use crate::array::Array;
 use crate::body::Body;
 use crate::error::ArrayError;
-use crate::numbers::{is_filled, natural, number_at};
 use crate::new_buffers::{copied_validity, only_buffer};
+use crate::numbers::{is_filled, natural, number_at};
 use crate::row::{RowValue, within_budget};
 use crate::validity::{is_validity, over_validity, validity_at};
 use std::alloc::Global;

@@ -2,7 +2,7 @@
 
 ghost use Rattle.std.specs.Prelude.{suc, ◌^◌, ◌≡◌, ◌<◌, ◌≤◌, ◌↔◌, ◌∷◌, IfOk, IfErr, OnOk, IsOkUnless, IsTrue, Some};
 ghost use Rattle.vx_trees.specs.Everywhere.{EverywhereBelow};
-ghost use Rattle.vx_trees.specs.Rose.{label, more, roses_of, node};
+ghost use Rattle.vx_trees.specs.Rose.{label, more, node, roses_of};
 ghost use Rattle.vx_buffer.specs.Buffer.{Buffer};
 ghost use Rattle.vx_types.specs.Seen.{typ};
 ghost use Rattle.vx_types.specs.Value.{lone, value_cells};
@@ -11,18 +11,18 @@ ghost use Rattle.vx_array_tree.specs.Encodings.VarBins.{Content, IsContent, mark
 ghost use Rattle.vx_array_tree.specs.Refused.{IsWellShaped};
 ghost use Rattle.vx_array_tree.specs.Rows.{rest, validity};
 ghost use Rattle.vx_array_tree.specs.Sound.{IsSound, IsSoundNode};
-ghost use Rattle.vx_array_tree.specs.Tree.{option_trees, rows_below, rows_of, untold, Tree};
+ghost use Rattle.vx_array_tree.specs.Tree.{Tree, option_trees, rows_below, rows_of, untold};
+ghost use Rattle.vx_arrays.specs.Compared.{compared_body};
+ghost use Rattle.vx_arrays.specs.NewBuffers.{RefusesBuffers, with_buffers};
 ghost use Rattle.vx_arrays.specs.Plain.{plain_value};
 ghost use Rattle.vx_arrays.specs.Refused.{IsUnmade, IsRowRefused, IsValueRefused, IsOkOrMemory};
 ghost use Rattle.vx_arrays.specs.VarBins.{IsOfBytes, IsOfOffsets, varbin_head, varbin_node, varbin_tree};
-ghost use Rattle.vx_arrays.specs.NewBuffers.{RefusesBuffers, with_buffers};
-ghost use Rattle.vx_arrays.specs.Compared.{compared_body};
 
 use crate::array::Array;
 use crate::body::Body;
 use crate::error::ArrayError;
-use crate::offsets::are_offsets;
 use crate::new_buffers::{copied_type, copied_validity, only_buffer};
+use crate::offsets::are_offsets;
 use crate::row::{RowValue, within_budget};
 use crate::texts::{are_texts, is_of_bytes, part_at, part_row};
 use crate::validity::{is_validity, validity_at};

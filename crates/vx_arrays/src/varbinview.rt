@@ -2,7 +2,7 @@
 
 ghost use Rattle.std.specs.Prelude.{◌≡◌, ◌<◌, ◌≤◌, ◌↔◌, ◌++◌, ◌∷◌, ◌*◌, ◌+◌, [], codes, slice_get, Some, IfOk, IfErr, IsOkUnless, IsTrue, length, option_map, map};
 ghost use Rattle.vx_trees.specs.Everywhere.{EverywhereBelow};
-ghost use Rattle.vx_trees.specs.Rose.{count, roses_of, node};
+ghost use Rattle.vx_trees.specs.Rose.{count, node, roses_of};
 ghost use Rattle.vx_types.specs.Seen.{typ};
 ghost use Rattle.vx_array_tree.specs.Body as B;
 ghost use Rattle.vx_array_tree.specs.Encodings.VarBinViews.{Content, bytes_at, buffers_of, rows as rows_of_views};
@@ -11,12 +11,12 @@ ghost use Rattle.vx_array_tree.specs.Refused.{IsWellShaped};
 ghost use Rattle.vx_array_tree.specs.Rows.{IsThere, validity as valid_by};
 ghost use Rattle.vx_array_tree.specs.Sound.{IsSound, IsSoundNode};
 ghost use Rattle.vx_array_tree.specs.Tree.{Tree, option_trees, places, rows_below, untold};
+ghost use Rattle.vx_arrays.specs.Compared.{bare, compared_body};
+ghost use Rattle.vx_arrays.specs.NewBuffers.{RefusesBuffers, with_buffers};
 ghost use Rattle.vx_arrays.specs.Plain.{plain_value};
 ghost use Rattle.vx_arrays.specs.Refused.{IsUnmade, IsRowRefused, IsOkOrMemory};
 ghost use Rattle.vx_arrays.specs.Slots.{numbered};
 ghost use Rattle.vx_arrays.specs.VarBinViews.{IsRight, varbinview_head, varbinview_tree};
-ghost use Rattle.vx_arrays.specs.NewBuffers.{RefusesBuffers, with_buffers};
-ghost use Rattle.vx_arrays.specs.Compared.{bare, compared_body};
 
 use crate::array::Array;
 use crate::body::Body;

@@ -1,5 +1,5 @@
 -- One child more is fed, and in the end the whole array.
-use Rattle.std.proofs.Common.{◌≤◌, length, arith}
+use Rattle.std.proofs.Common.{arith}
 use Rattle.vx_arrays.proofs.Feeding.{child_fed, array_fed}
 use Rattle.vx_arrays.proofs.array.Array.+array_hash.Goals as goal
 

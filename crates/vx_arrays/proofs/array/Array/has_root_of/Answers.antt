@@ -1,12 +1,9 @@
 -- The roots are equal where their types, lengths and bodies are.
-use Rattle.std.proofs.Common.{◌≡◌, sym, ap, ◌∙◌}
+use Rattle.std.proofs.Common.{sym, ◌∙◌}
 use Rattle.std.proofs.lemmas.Bool.{not-false}
-use Rattle.vx_trees.specs.Rose.{Roses, label, below, count}
-use Rattle.vx_trees.proofs.Lists.{count-roses_of}
 use Rattle.vx_trees.proofs.Sameness.{same-is}
 use Rattle.vx_types.specs.Seen.{typ}
 use Rattle.vx_types.specs.Typ.{typ_code}
-use Rattle.vx_array_tree.specs.Tree.{Head}
 use Rattle.vx_arrays.proofs.Comparing.{root_decided}
 use Rattle.vx_arrays.proofs.array.Array.has_root_of.Goals as goal
 

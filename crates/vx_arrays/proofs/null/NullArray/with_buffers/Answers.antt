@@ -1,5 +1,4 @@
 -- Nulls without buffers are the nulls that they were.
-use Rattle.std.proofs.Common.{sym}
 use Rattle.vx_trees.specs.Rose.{node, roses_of}
 use Rattle.vx_types.specs.Seen.{typ}
 use Rattle.vx_array_tree.specs.Body as B

@@ -14,9 +14,9 @@ returns-clause-ok c =
     let t : Tree = node (untold (typ c.args.dtype.now) c.args.len (B.varbin c.args.self.now)) (roses_of c.args.children.now) in
     let u : Tree = varbin_tree (typ c.in_ok-dtype-in-len1-up.dtype) c.in_ok-offsets-in-len1-up.offsets c.in-Some.bytes c.in_ok-validity-in-len1-up.validity in
     let made : with_buffers t c.args.buffers ≡ Some u =
-        parts_made (typ c.args.dtype.now) (typ c.in_ok-dtype-in-len1-up.dtype) c.args.len c.args.self.now c.args.children.now c.offsets-item.result c.in_ok-offsets-in-len1-up.offsets c.args.buffers c.in-Some.bytes
-        c.in_ok-validity-in-len1-up.validity c.requires c.in-len1-up.len_at_least c.offsets-item.is c.in_ok-offsets-in-len1-up.ensures.ok (ap typ c.in_ok-dtype-in-len1-up.ensures.ok) c.in_ok-validity-in-len1-up.ensures.ok
-        c.in-Some.ensures.one in
+    parts_made (typ c.args.dtype.now) (typ c.in_ok-dtype-in-len1-up.dtype) c.args.len c.args.self.now c.args.children.now c.offsets-item.result c.in_ok-offsets-in-len1-up.offsets c.args.buffers c.in-Some.bytes
+    c.in_ok-validity-in-len1-up.validity c.requires c.in-len1-up.len_at_least c.offsets-item.is c.in_ok-offsets-in-len1-up.ensures.ok (ap typ c.in_ok-dtype-in-len1-up.ensures.ok) c.in_ok-validity-in-len1-up.ensures.ok
+    c.in-Some.ensures.one in
     answer_ok t u c.args.buffers made c.try_new.result c.try_new.ensures.ok
 
 pub returns-clause-err : goal.returns-clause-err
@@ -24,9 +24,9 @@ returns-clause-err c =
     let t : Tree = node (untold (typ c.args.dtype.now) c.args.len (B.varbin c.args.self.now)) (roses_of c.args.children.now) in
     let u : Tree = varbin_tree (typ c.in_ok-dtype-in-len1-up.dtype) c.in_ok-offsets-in-len1-up.offsets c.in-Some.bytes c.in_ok-validity-in-len1-up.validity in
     let made : with_buffers t c.args.buffers ≡ Some u =
-        parts_made (typ c.args.dtype.now) (typ c.in_ok-dtype-in-len1-up.dtype) c.args.len c.args.self.now c.args.children.now c.offsets-item.result c.in_ok-offsets-in-len1-up.offsets c.args.buffers c.in-Some.bytes
-        c.in_ok-validity-in-len1-up.validity c.requires c.in-len1-up.len_at_least c.offsets-item.is c.in_ok-offsets-in-len1-up.ensures.ok (ap typ c.in_ok-dtype-in-len1-up.ensures.ok) c.in_ok-validity-in-len1-up.ensures.ok
-        c.in-Some.ensures.one in
+    parts_made (typ c.args.dtype.now) (typ c.in_ok-dtype-in-len1-up.dtype) c.args.len c.args.self.now c.args.children.now c.offsets-item.result c.in_ok-offsets-in-len1-up.offsets c.args.buffers c.in-Some.bytes
+    c.in_ok-validity-in-len1-up.validity c.requires c.in-len1-up.len_at_least c.offsets-item.is c.in_ok-offsets-in-len1-up.ensures.ok (ap typ c.in_ok-dtype-in-len1-up.ensures.ok) c.in_ok-validity-in-len1-up.ensures.ok
+    c.in-Some.ensures.one in
     answer_err t u c.args.buffers made c.try_new.result c.try_new.ensures.err
 
 pub returns-clause-complete : goal.returns-clause-complete
@@ -34,7 +34,7 @@ returns-clause-complete c =
     let t : Tree = node (untold (typ c.args.dtype.now) c.args.len (B.varbin c.args.self.now)) (roses_of c.args.children.now) in
     let u : Tree = varbin_tree (typ c.in_ok-dtype-in-len1-up.dtype) c.in_ok-offsets-in-len1-up.offsets c.in-Some.bytes c.in_ok-validity-in-len1-up.validity in
     let made : with_buffers t c.args.buffers ≡ Some u =
-        parts_made (typ c.args.dtype.now) (typ c.in_ok-dtype-in-len1-up.dtype) c.args.len c.args.self.now c.args.children.now c.offsets-item.result c.in_ok-offsets-in-len1-up.offsets c.args.buffers c.in-Some.bytes
-        c.in_ok-validity-in-len1-up.validity c.requires c.in-len1-up.len_at_least c.offsets-item.is c.in_ok-offsets-in-len1-up.ensures.ok (ap typ c.in_ok-dtype-in-len1-up.ensures.ok) c.in_ok-validity-in-len1-up.ensures.ok
-        c.in-Some.ensures.one in
+    parts_made (typ c.args.dtype.now) (typ c.in_ok-dtype-in-len1-up.dtype) c.args.len c.args.self.now c.args.children.now c.offsets-item.result c.in_ok-offsets-in-len1-up.offsets c.args.buffers c.in-Some.bytes
+    c.in_ok-validity-in-len1-up.validity c.requires c.in-len1-up.len_at_least c.offsets-item.is c.in_ok-offsets-in-len1-up.ensures.ok (ap typ c.in_ok-dtype-in-len1-up.ensures.ok) c.in_ok-validity-in-len1-up.ensures.ok
+    c.in-Some.ensures.one in
     answer_complete t u c.args.buffers made c.try_new.result c.try_new.ensures.complete

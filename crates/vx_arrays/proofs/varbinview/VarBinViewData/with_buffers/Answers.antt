@@ -14,8 +14,8 @@ returns-clause-ok c =
     let t : Tree = node (untold (typ c.args.dtype.now) c.args.len (B.varbinview c.args.self.now)) (roses_of c.args.children.now) in
     let u : Tree = varbinview_tree (typ c.in_ok-dtype.dtype) c.args.len c.pop.new.self.items c.in-Some.views c.in_ok-validity.validity in
     let made : with_buffers t c.args.buffers ≡ Some u =
-        views_made (typ c.args.dtype.now) (typ c.in_ok-dtype.dtype) c.args.len c.args.self.now (roses_of c.args.children.now) c.args.buffers c.pop.new.self.items c.in-Some.views c.in_ok-validity.validity
-        (ap typ c.in_ok-dtype.ensures.ok) c.in_ok-validity.ensures.ok (sym c.into_vec-front.ensures ∙ c.in-Some.ensures.items) in
+    views_made (typ c.args.dtype.now) (typ c.in_ok-dtype.dtype) c.args.len c.args.self.now (roses_of c.args.children.now) c.args.buffers c.pop.new.self.items c.in-Some.views c.in_ok-validity.validity
+    (ap typ c.in_ok-dtype.ensures.ok) c.in_ok-validity.ensures.ok (sym c.into_vec-front.ensures ∙ c.in-Some.ensures.items) in
     answer_ok t u c.args.buffers made c.try_new.result c.try_new.ensures.ok
 
 pub returns-clause-err : goal.returns-clause-err
@@ -23,8 +23,8 @@ returns-clause-err c =
     let t : Tree = node (untold (typ c.args.dtype.now) c.args.len (B.varbinview c.args.self.now)) (roses_of c.args.children.now) in
     let u : Tree = varbinview_tree (typ c.in_ok-dtype.dtype) c.args.len c.pop.new.self.items c.in-Some.views c.in_ok-validity.validity in
     let made : with_buffers t c.args.buffers ≡ Some u =
-        views_made (typ c.args.dtype.now) (typ c.in_ok-dtype.dtype) c.args.len c.args.self.now (roses_of c.args.children.now) c.args.buffers c.pop.new.self.items c.in-Some.views c.in_ok-validity.validity
-        (ap typ c.in_ok-dtype.ensures.ok) c.in_ok-validity.ensures.ok (sym c.into_vec-front.ensures ∙ c.in-Some.ensures.items) in
+    views_made (typ c.args.dtype.now) (typ c.in_ok-dtype.dtype) c.args.len c.args.self.now (roses_of c.args.children.now) c.args.buffers c.pop.new.self.items c.in-Some.views c.in_ok-validity.validity
+    (ap typ c.in_ok-dtype.ensures.ok) c.in_ok-validity.ensures.ok (sym c.into_vec-front.ensures ∙ c.in-Some.ensures.items) in
     answer_err t u c.args.buffers made c.try_new.result c.try_new.ensures.err
 
 pub returns-clause-complete : goal.returns-clause-complete
@@ -32,6 +32,6 @@ returns-clause-complete c =
     let t : Tree = node (untold (typ c.args.dtype.now) c.args.len (B.varbinview c.args.self.now)) (roses_of c.args.children.now) in
     let u : Tree = varbinview_tree (typ c.in_ok-dtype.dtype) c.args.len c.pop.new.self.items c.in-Some.views c.in_ok-validity.validity in
     let made : with_buffers t c.args.buffers ≡ Some u =
-        views_made (typ c.args.dtype.now) (typ c.in_ok-dtype.dtype) c.args.len c.args.self.now (roses_of c.args.children.now) c.args.buffers c.pop.new.self.items c.in-Some.views c.in_ok-validity.validity
-        (ap typ c.in_ok-dtype.ensures.ok) c.in_ok-validity.ensures.ok (sym c.into_vec-front.ensures ∙ c.in-Some.ensures.items) in
+    views_made (typ c.args.dtype.now) (typ c.in_ok-dtype.dtype) c.args.len c.args.self.now (roses_of c.args.children.now) c.args.buffers c.pop.new.self.items c.in-Some.views c.in_ok-validity.validity
+    (ap typ c.in_ok-dtype.ensures.ok) c.in_ok-validity.ensures.ok (sym c.into_vec-front.ensures ∙ c.in-Some.ensures.items) in
     answer_complete t u c.args.buffers made c.try_new.result c.try_new.ensures.complete
