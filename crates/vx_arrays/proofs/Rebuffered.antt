@@ -5,19 +5,29 @@ use Rattle.std.specs.Prelude.{IfSome, IsSomeAnd}
 use Rattle.vx_buffer.specs.Buffer.{Buffer}
 use Rattle.vx_trees.specs.Rose.{node, end, more, label, below, count, roses_of}
 use Rattle.vx_types.specs.Kind as K
+use Rattle.vx_types.specs.Digits.{Digits}
 use Rattle.vx_types.specs.Typ.{Typ}
+use Rattle.vx_types.specs.declared.decimal.DecimalType.{DecimalType}
+use Rattle.vx_types.specs.declared.nullability.Nullability.{Nullability}
+use Rattle.vx_types.specs.declared.ptype.PType.{PType}
 use Rattle.vx_scalars.specs.Stats.{Stats}
 use Rattle.vx_array_tree.specs.Body.{Body}
 use Rattle.vx_array_tree.specs.Body as B
 use Rattle.vx_array_tree.specs.Encodings.Nulls as Nulls
+use Rattle.vx_array_tree.specs.Encodings.Bools as Bools
+use Rattle.vx_array_tree.specs.Encodings.Primitives as Primitives
+use Rattle.vx_array_tree.specs.Encodings.Decimals as Decimals
 use Rattle.vx_array_tree.specs.Encodings.VarBins as VarBins
 use Rattle.vx_array_tree.specs.Encodings.VarBinViews as VarBinViews
 use Rattle.vx_array_tree.specs.Place.{before_validity}
 use Rattle.vx_array_tree.specs.Refused.{IsWellShaped, IsMisshaped, HasBrokenContent}
 use Rattle.vx_array_tree.specs.Sound.{IsSound, IsSoundNode}
 use Rattle.vx_array_tree.specs.Tree.{Tree, Trees, Head, option_trees, places, untold, with_stats}
+use Rattle.vx_arrays.specs.Bools.{bool_tree}
+use Rattle.vx_arrays.specs.Decimals.{decimal_tree}
 use Rattle.vx_arrays.specs.NewBuffers.{rebuffered, with_buffers, RefusesBuffers}
 use Rattle.vx_arrays.specs.Nulls.{null_tree}
+use Rattle.vx_arrays.specs.Primitives.{primitive_tree}
 use Rattle.vx_arrays.specs.Refused.{IsUnmade, IsOkOrMemory}
 use Rattle.vx_arrays.specs.VarBins.{varbin_tree}
 use Rattle.vx_arrays.specs.VarBinViews.{varbinview_tree}
@@ -69,6 +79,24 @@ pub nulls_made : (d : Typ) (n : ℕ) (ts : Trees) (bs : List Buffer) → IsSound
 nulls_made d n ts bs s e =
     let p = nulls_alone d n ts s.planned in
     ap (λ (cs : List Buffer). with_buffers (node (untold d n B.null) ts) cs) e ∙ (λ i. Some (node (untold (p.0 i) n B.null) (p.1 i)))
+
+-- ---- flags, numbers and decimals
+
+pub bools_made : (d : Typ) (n : ℕ) (x : Bools.Data) (ts : Trees) (bs : List Buffer) (b : Buffer) (k : ℕ) (m : Nullability) (v : Option Tree) → d ≡ node (K.boolean m) end → k ≡ x.offset
+    → option_trees v ≡ ts → bs ≡ b ∷ [] → with_buffers (node (untold d n (B.bool x)) ts) bs ≡ Some (bool_tree b k n m v)
+bools_made d n x ts bs b k m v p q w e =
+    ap (λ (cs : List Buffer). with_buffers (node (untold d n (B.bool x)) ts) cs) e ∙ (λ i. Some (node (untold (p i) n (B.bool (record { bits = b; offset = sym q i }))) (sym w i)))
+
+pub primitives_made : (d : Typ) (n : ℕ) (x : Primitives.Data) (ts : Trees) (bs : List Buffer) (b : Buffer) (k : PType) (m : Nullability) (v : Option Tree) → d ≡ node (K.primitive k m) end
+    → option_trees v ≡ ts → bs ≡ b ∷ [] → with_buffers (node (untold d n (B.primitive x)) ts) bs ≡ Some (primitive_tree k m n b v)
+primitives_made d n x ts bs b k m v p w e =
+    ap (λ (cs : List Buffer). with_buffers (node (untold d n (B.primitive x)) ts) cs) e ∙ (λ i. Some (node (untold (p i) n (B.primitive (record { values = b }))) (sym w i)))
+
+pub decimals_made : (d : Typ) (n : ℕ) (x : Decimals.Data) (ts : Trees) (bs : List Buffer) (b : Buffer) (k : DecimalType) (digits : Digits) (m : Nullability) (v : Option Tree)
+    → d ≡ node (K.decimal digits.precision digits.scale m) end → k ≡ x.values_type → option_trees v ≡ ts → bs ≡ b ∷ []
+    → with_buffers (node (untold d n (B.decimal x)) ts) bs ≡ Some (decimal_tree b k digits m n v)
+decimals_made d n x ts bs b k digits m v p q w e =
+    ap (λ (cs : List Buffer). with_buffers (node (untold d n (B.decimal x)) ts) cs) e ∙ (λ i. Some (node (untold (p i) n (B.decimal (record { values = b; values_type = sym q i }))) (sym w i)))
 
 -- ---- texts and bytes by views
 
