@@ -26,7 +26,7 @@ fed_bare : (bs : List Buffer) → fed.slice fed_buffer (map bare bs) ≡ fed.sli
 fed_bare bs = ap (λ n. fed.usize n ++ flat_map fed_buffer (map bare bs)) (length-map bs bare) ∙ ap (λ z. fed.usize (length bs) ++ z) (flat_bare bs)
 
 -- The buffers of what is compared are those of the body, without their alignments.
-bare_buffers : (b : Body) → buffers_of (compared_body b) ≡ map bare (buffers_of b)
+pub bare_buffers : (b : Body) → buffers_of (compared_body b) ≡ map bare (buffers_of b)
 bare_buffers (B.bool x) = refl
 bare_buffers (B.primitive x) = refl
 bare_buffers (B.decimal x) = refl
