@@ -12,6 +12,8 @@ mod decimals;
 #[cfg(test)]
 mod encodings;
 #[cfg(test)]
+mod lists_of_one_size;
+#[cfg(test)]
 mod printed;
 #[cfg(test)]
 mod registry;
@@ -21,6 +23,8 @@ mod sessions;
 mod slots;
 #[cfg(test)]
 mod statistics;
+#[cfg(test)]
+mod structs;
 #[cfg(test)]
 mod varbins;
 #[cfg(test)]

@@ -5,3 +5,8 @@ mod Viewed
 mod Flags
 mod AllInvalid
 mod Untold
+mod SameRows
+mod Firsts
+mod Counted
+mod Sized
+mod Fielded

@@ -6,11 +6,11 @@ use Rattle.vx_types.specs.Typ.{Typ}
 use Rattle.vx_array_tree.specs.Body as B
 use Rattle.vx_array_tree.specs.Encodings.VarBins.{IsContent}
 use Rattle.vx_array_tree.specs.Encodings.VarBinViews.{Data, bytes_at}
-use Rattle.vx_array_tree.specs.Tree.{Head, Tree, option_trees}
+use Rattle.vx_array_tree.specs.Tree.{Head, Tree, option_trees, untold}
 
 -- A node of rows by views.
 abbrev pub varbinview_head : Typ → ℕ → Data → Head
-varbinview_head d n x = record { dtype = d; len = n; body = B.varbinview x }
+varbinview_head d n x = untold d n (B.varbinview x)
 
 -- So many rows by views, and the buffers that views name: a node over the validity, where one stands.
 abbrev pub varbinview_tree : Typ → ℕ → List Buffer → Buffer → Option Tree → Tree

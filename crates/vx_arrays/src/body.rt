@@ -6,8 +6,10 @@ ghost use Rattle.vx_array_tree.specs.Table.{id_of, encoding_of, buffers_of};
 use crate::bool::{BoolArray, BoolData};
 use crate::decimal::{DecimalArray, DecimalData};
 use crate::error::ArrayError;
+use crate::fixed_size_list::FixedSizeListArray;
 use crate::null::NullArray;
 use crate::primitive::{PrimitiveArray, PrimitiveData};
+use crate::structs::StructArray;
 use crate::varbin::{VarBinArray, VarBinData};
 use crate::varbinview::{VarBinViewArray, VarBinViewData};
 use std::alloc::Global;
@@ -28,6 +30,10 @@ pub enum Body {
     VarBin(VarBinData),
     /// Texts or bytes by views.
     VarBinView(VarBinViewData),
+    /// Nothing: lists of one size.
+    FixedSizeList,
+    /// Nothing: structures.
+    Struct,
 }
 
 impl Body {
@@ -44,6 +50,8 @@ impl Body {
             Body::Decimal(_) => DecimalArray::ID,
             Body::VarBin(_) => VarBinArray::ID,
             Body::VarBinView(_) => VarBinViewArray::ID,
+            Body::FixedSizeList => FixedSizeListArray::ID,
+            Body::Struct => StructArray::ID,
         }
     }
 
@@ -58,6 +66,7 @@ impl Body {
             Body::Decimal(_) => 1,
             Body::VarBin(_) => 1,
             Body::VarBinView(views) => views.nbuffers(),
+            Body::FixedSizeList | Body::Struct => 0,
         }
     }
 
@@ -67,7 +76,7 @@ impl Body {
         ensures { slice_get (buffers_of (plain_body self.now)) index ≡ Some result.now }
     {
         match self {
-            Body::Null => unreachable!(),
+            Body::Null | Body::FixedSizeList | Body::Struct => unreachable!(),
             Body::Primitive(numbers) => numbers.values(),
             Body::Bool(flags) => flags.bits(),
             Body::Decimal(decimals) => decimals.values(),
@@ -88,6 +97,8 @@ impl Body {
             Body::Decimal(decimals) => Ok(Body::Decimal(decimals.clone(alloc)?)),
             Body::VarBin(parts) => Ok(Body::VarBin(parts.clone(alloc)?)),
             Body::VarBinView(views) => Ok(Body::VarBinView(views.clone(alloc)?)),
+            Body::FixedSizeList => Ok(Body::FixedSizeList),
+            Body::Struct => Ok(Body::Struct),
         }
     }
 }

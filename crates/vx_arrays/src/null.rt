@@ -1,16 +1,12 @@
 //! Arrays of nulls.
 
-ghost use Rattle.std.specs.Prelude.{◌≡◌, ◌≤◌, IfOk, IfErr, IsOkUnless};
-ghost use Rattle.vx_array_tree.specs.Encodings.Nulls.{rows as rows_of_nulls};
+ghost use Rattle.std.specs.Prelude.{◌≡◌, IfOk, IsOkUnless};
 ghost use Rattle.vx_array_tree.specs.Sound.{IsSound};
 ghost use Rattle.vx_arrays.specs.Nulls.{null_tree};
-ghost use Rattle.vx_arrays.specs.Plain.{plain_value};
-ghost use Rattle.vx_arrays.specs.Refused.{IsRowRefused};
 
 use crate::array::Array;
 use crate::body::Body;
 use crate::error::ArrayError;
-use crate::row::{RowValue, within_budget};
 use std::alloc::Global;
 use vx_types::DType;
 
@@ -28,14 +24,5 @@ impl NullArray {
         ensures err { IsOkUnless result ArrayError.OutOfMemory }
     {
         Ok(Array::from_parts(DType::Null, len, Body::Null, Vec::new(alloc)))
-    }
-
-    // A row's value, if there is a cell to spend for it.
-    pub(crate) fn value_at(len: usize, index: usize, budget: u64) -> Result<RowValue, ArrayError>
-        ensures row { IfOk result (λ row. plain_value row ≡ (rows_of_nulls len).row index) }
-        ensures fits { IfOk result (λ _. (rows_of_nulls len).cells index ≤ budget) }
-        ensures err { IfErr result (λ e. IsRowRefused e (rows_of_nulls len) index budget) }
-    {
-        within_budget(RowValue::Null, budget)
     }
 }
