@@ -253,3 +253,31 @@ fn broken_statistics(rt: HostRuntime) {
     assert!(rt; read_with(alloc, 0, 0x1b) == Err(WireError::BadStats));
     assert!(rt; read_with(alloc, 12, 0) == Ok(None));
 }
+
+// The begin of the field table of a set that tells a least value alone: its own length and that of the table, then the
+// entries of the value and of its precision.
+const ENTRIES: [u8; 8] = [26, 0, 9, 0, 4, 0, 8, 0];
+
+// The same blob with a precision of 2, and without the entry of the least value.
+fn blob_of_lone_precision(alloc: Global) -> Result<ByteBuffer, WireError> {
+    let blob = blob_with(alloc, 12, 2)?;
+    let mut bytes = Vec::from_slice(alloc, blob.as_slice())?;
+    let Some(place) = place_of(blob.as_slice(), &ENTRIES) else {
+        return Err(WireError::BadTable);
+    };
+    if let Some(entry) = bytes.get_mut(place.saturating_add(4)) {
+        *entry = 0;
+    }
+    Ok(ByteBuffer::from_vec(bytes)?)
+}
+
+// What is read of it.
+fn lone_precision_read(alloc: Global) -> Result<Option<i64>, WireError> {
+    let blob = blob_of_lone_precision(alloc)?;
+    least_read(alloc, blob)
+}
+
+#[test]
+fn a_precision_without_a_value_is_not_looked_at(rt: HostRuntime) {
+    assert!(rt; lone_precision_read(rt.alloc()) == Ok(None));
+}
