@@ -10,3 +10,4 @@ mod Firsts
 mod Counted
 mod Sized
 mod Fielded
+mod Columns
