@@ -1,17 +1,22 @@
 -- Columns of structures, one by one.
 use Rattle.std.proofs.Common.{ℕ, zero, suc, ◌≡◌, ◌≤◌, ◌<◌, ◌+◌, List, [], ◌∷◌, Bool, true, false, refl, sym, ap, ◌∙◌, subst, length, take, get_or, add-one, arith}
 use Rattle.std.specs.Prelude.{◌↔◌, IsTrue}
-use Rattle.vx_trees.specs.Rose.{label, roses_of}
+use Rattle.vx_trees.specs.Rose.{label, more, count, roses_of}
 use Rattle.vx_trees.specs.Same.{same}
 use Rattle.vx_trees.proofs.Lists.{count-roses_of}
 use Rattle.vx_trees.proofs.Sameness.{same-decides}
 use Rattle.vx_types.specs.Seen.{typ, typs}
+use Rattle.vx_types.specs.Parts.{Fields}
 use Rattle.vx_types.specs.Typ.{Typ, typ_code}
 use Rattle.vx_types.specs.declared.dtype.DType.{DType}
-use Rattle.vx_array_tree.specs.Place.{Place, place, places_at}
-use Rattle.vx_array_tree.specs.Tree.{Tree, places}
-use Rattle.vx_arrays.specs.Structs.{place_of}
-use Rattle.vx_arrays.proofs.Fielded.{places_count, places_length}
+use Rattle.vx_types.specs.declared.nullability.Nullability.{Nullability}
+use Rattle.vx_types.specs.declared.nullability.Nullability.TheVariants.{Nullable}
+use Rattle.std.proofs.lemmas.Bool.{false≢true, iff_false}
+use Rattle.vx_array_tree.specs.Place.{Place, place, places_at, validity_place}
+use Rattle.vx_array_tree.specs.Refused.{IsWellShaped}
+use Rattle.vx_array_tree.specs.Tree.{Tree, Trees, places}
+use Rattle.vx_arrays.specs.Structs.{place_of, struct_head}
+use Rattle.vx_arrays.proofs.Fielded.{places_count, places_length, no_children, front_decides, front_right}
 
 -- A place is its type and its length.
 both_parts : (d e : Typ) (m n : ℕ) → d ≡ e → m ≡ n → place d m ≡ place e n
@@ -59,7 +64,7 @@ columns-at (x ∷ ds) (y ∷ us) n (suc i) d u h k p =
     let f : i < length us = omega (arith, k) in
     columns-at ds us n i d u g f (tails _ _ _ _ p)
 
-typs-length : (ds : List DType) → length (typs ds) ≡ length ds
+pub typs-length : (ds : List DType) → length (typs ds) ≡ length ds
 typs-length [] = refl
 typs-length (d ∷ ds) = ap (λ k. suc k) (typs-length ds)
 
@@ -68,3 +73,28 @@ pub columns-length : (ds : List DType) (us : List Tree) (n : ℕ) → places (ro
 columns-length ds us n e =
     sym (typs-length ds) ∙ sym (count-roses_of (typs ds)) ∙ sym (places_length (roses_of (typs ds)) n)
     ∙ ap (λ (ps : List Place). length ps) (sym e) ∙ places_count (roses_of us) ∙ count-roses_of us
+
+-- ---- the shape of a node of structures
+
+module _ (f : Fields) (m : Nullability) (n : ℕ) where
+  -- No children are columns of some fields.
+  pub none_right : (ts : List Tree) → length ts < 1 → (length ts ≡ length f.types → ⊥) → IsTrue false ↔ IsWellShaped (struct_head f m n) (roses_of ts)
+  none_right [] h k = (λ x. absurd (false≢true x), λ w. absurd (no_children f m n k w))
+  none_right (t ∷ ts) h k = absurd (omega (arith, h))
+
+  -- Behind a validity it is the columns that decide, and without one none do.
+  pub front_and_columns : (ts : Trees) (v : Tree) (us : Trees) (r : Bool) → ts ≡ more v us → (count (more v us) ≡ length f.types → ⊥) → (m ≡ Nullable) × (place_of v ≡ validity_place n)
+      → (IsTrue r ↔ (places us ≡ places_at (roses_of f.types) n)) → IsTrue r ↔ IsWellShaped (struct_head f m n) ts
+  front_and_columns ts v us r e k p g = (
+      λ x. subst (λ (zs : Trees). IsWellShaped (struct_head f m n) zs) (sym e) (front_right f m n v us p.0 p.1 (g.0 x)),
+      λ w. g.1 (front_decides f m n v us k (subst (λ (zs : Trees). IsWellShaped (struct_head f m n) zs) e w)).2,
+  )
+
+  pub without_front : (ts : Trees) (v : Tree) (us : Trees) (b : Bool) → ts ≡ more v us → (count (more v us) ≡ length f.types → ⊥) → (IsTrue b ↔ ((m ≡ Nullable) × (place_of v ≡ validity_place n)))
+      → b ≡ false → IsTrue b ↔ IsWellShaped (struct_head f m n) ts
+  without_front ts v us b e k g q = (
+      λ x. absurd (false≢true (sym q ∙ x)),
+      λ w.
+        let d = front_decides f m n v us k (subst (λ (zs : Trees). IsWellShaped (struct_head f m n) zs) e w) in
+        absurd (iff_false g q (d.0, d.1)),
+  )

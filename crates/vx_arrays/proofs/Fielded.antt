@@ -289,7 +289,7 @@ module _ (f : Fields) (m : Nullability) (n : ℕ) (ts : Trees) where
           one_more a w p z = omega (arith, p, z)
 
 module _ (f : Fields) (m : Nullability) (n : ℕ) (v : Tree) (us : Trees) where
-  front_decides : (count (more v us) ≡ length f.types → ⊥) → IsWellShaped (struct_head f m n) (more v us) → (m ≡ Nullable) × (place_of v ≡ validity_place n) × (places us ≡ places_at (roses_of f.types) n)
+  pub front_decides : (count (more v us) ≡ length f.types → ⊥) → IsWellShaped (struct_head f m n) (more v us) → (m ≡ Nullable) × (place_of v ≡ validity_place n) × (places us ≡ places_at (roses_of f.types) n)
   front_decides other h =
       let b = shaped_behind f m n (more v us) h in
       elim (b.ways) [

@@ -11,3 +11,4 @@ mod Counted
 mod Sized
 mod Fielded
 mod Columns
+mod Made

@@ -97,10 +97,28 @@ impl FixedSizeListArray {
         if !is_shaped(&elements, size, nullability, len, &validity) {
             return Err(ArrayError::BadShape);
         }
-        let dtype = list_type(alloc, elements.dtype(), size, nullability)?;
-        let children = with_validity(alloc, elements, validity)?;
-        Ok(Array::from_parts(dtype, len, Body::FixedSizeList, children))
+        of_parts(alloc, elements, size, nullability, len, validity)
     }
+}
+
+// The array of parts that are of the shape.
+fn of_parts(
+    alloc: Global,
+    elements: Array,
+    size: u32,
+    nullability: Nullability,
+    len: usize,
+    validity: Option<Array>,
+) -> Result<Array, ArrayError>
+    requires shaped { IsWellShaped (fixed_size_list_head (label elements).dtype size nullability len) (more elements (option_trees validity)) }
+    requires below { EverywhereBelow IsSoundNode (more elements (option_trees validity)) }
+    ensures ok { IfOk result (λ a. a ≡ fixed_size_list_tree elements size nullability len validity) }
+    ensures sound { IfOk result IsSound }
+    ensures err { IsOkUnless result ArrayError.OutOfMemory }
+{
+    let dtype = list_type(alloc, elements.dtype(), size, nullability)?;
+    let children = with_validity(alloc, elements, validity)?;
+    Ok(Array::from_parts(dtype, len, Body::FixedSizeList, children))
 }
 
 // Whether parts are of the shape that the encoding asks for.

@@ -2,12 +2,13 @@
 
 ghost use Rattle.std.specs.Prelude.{◌≡◌, ◌<◌, ◌≤◌, ◌↔◌, IfOk, IfErr, IsOkUnless, IsTrue, length};
 ghost use Rattle.vx_trees.specs.Everywhere.{EverywhereBelow};
-ghost use Rattle.vx_trees.specs.Rose.{roses_of};
+ghost use Rattle.vx_trees.specs.Rose.{node, roses_of};
 ghost use Rattle.vx_trees.specs.Walks.{nodes_of};
 ghost use Rattle.vx_types.specs.Seen.{typ, typs};
 ghost use Rattle.vx_array_tree.specs.Body as B;
 ghost use Rattle.vx_array_tree.specs.Encodings.Structs.{has_validity, rows as rows_of_structures, structure_valid, width_of};
-ghost use Rattle.vx_array_tree.specs.Place.{place, places_at};
+ghost use Rattle.vx_array_tree.specs.Place.{place, places_at, validity_place};
+ghost use Rattle.vx_types.specs.declared.nullability.Nullability.TheVariants.{Nullable};
 ghost use Rattle.vx_array_tree.specs.Refused.{IsWellShaped};
 ghost use Rattle.vx_array_tree.specs.Sound.{IsSound, IsSoundNode};
 ghost use Rattle.vx_array_tree.specs.Tree.{places, rows_below, untold};
@@ -93,12 +94,28 @@ impl StructArray {
         ensures complete { IsSound (struct_tree fields nullability columns len validity) → IsOkOrMemory result }
     {
         let children = behind_validity(validity, columns)?;
-        if !are_shaped(&fields, nullability, len, children.as_slice()) {
-            return Err(ArrayError::BadShape);
-        }
-        let dtype = DType::Struct(fields, nullability);
-        Ok(Array::from_parts(dtype, len, Body::Struct, children))
+        over_columns(fields, nullability, len, children)
     }
+}
+
+// The array of so many structures over these children.
+fn over_columns(
+    fields: StructFields,
+    nullability: Nullability,
+    len: usize,
+    children: Vec<Array>,
+) -> Result<Array, ArrayError>
+    requires below { EverywhereBelow IsSoundNode (roses_of children.items) }
+    ensures ok { IfOk result (λ a. a ≡ node (struct_head fields nullability len) (roses_of children.items)) }
+    ensures sound { IfOk result IsSound }
+    ensures err { IfErr result (λ e. IsUnmade e (node (struct_head fields nullability len) (roses_of children.items))) }
+    ensures complete { IsSound (node (struct_head fields nullability len) (roses_of children.items)) → IsOkOrMemory result }
+{
+    if !are_shaped(&fields, nullability, len, children.as_slice()) {
+        return Err(ArrayError::BadShape);
+    }
+    let dtype = DType::Struct(fields, nullability);
+    Ok(Array::from_parts(dtype, len, Body::Struct, children))
 }
 
 // How many fields a type of structures has.
@@ -145,11 +162,19 @@ fn are_shaped(
     }
     match children {
         [validity, columns @ ..] => {
-            nullability == Nullability::Nullable
-                && is_column(&DType::Bool(Nullability::NonNullable), validity, len)
-                && are_columns(types, columns, len)
+            is_front(nullability, validity, len) && are_columns(types, columns, len)
         }
         [] => false,
+    }
+}
+
+// Whether an array may stand in front of the columns, as the validity of so many rows.
+fn is_front(nullability: Nullability, validity: &Array, len: usize) -> bool
+    ensures { IsTrue result ↔ ((nullability ≡ Nullable) × (place_of validity.now ≡ validity_place len)) }
+{
+    match nullability {
+        Nullability::NonNullable => false,
+        Nullability::Nullable => is_column(&DType::Bool(Nullability::NonNullable), validity, len),
     }
 }
 
