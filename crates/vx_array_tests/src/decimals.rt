@@ -43,7 +43,7 @@ fn decimals_of(
 }
 
 // The same of bytes.
-fn decimals(
+pub(crate) fn decimals(
     alloc: Global,
     bytes: &[u8],
     width: DecimalType,

@@ -16,6 +16,8 @@ mod printed;
 #[cfg(test)]
 mod registry;
 #[cfg(test)]
+mod same;
+#[cfg(test)]
 mod sessions;
 #[cfg(test)]
 mod slots;

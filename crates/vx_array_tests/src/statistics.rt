@@ -14,13 +14,18 @@ fn set_of(alloc: Global, stat: Stat, number: PValue) -> Result<StatsSet, ScalarE
 }
 
 // Gives an array that set.
-fn tell(alloc: Global, array: &mut Array, stat: Stat, number: PValue) -> Result<(), ScalarError> {
+pub(crate) fn tell(
+    alloc: Global,
+    array: &mut Array,
+    stat: Stat,
+    number: PValue,
+) -> Result<(), ScalarError> {
     let set = set_of(alloc, stat, number)?;
     array.set_all(set)
 }
 
 // The number that is told of a statistic, exactly.
-fn told(array: &Array, stat: Stat) -> Option<PValue> {
+pub(crate) fn told(array: &Array, stat: Stat) -> Option<PValue> {
     match array.statistics().get(stat) {
         Precision::Exact(ScalarValue::Primitive(number)) => Some(*number),
         _ => None,

@@ -5,3 +5,7 @@ mod Viewed
 mod Flags
 mod AllInvalid
 mod Untold
+mod Comparing
+mod Feeding
+mod Rebuffered
+pub mod LawsSame

@@ -8,3 +8,5 @@ pub mod VarBinViews
 pub mod Validity
 pub mod Slots
 pub mod Refused
+pub mod Compared
+pub mod NewBuffers

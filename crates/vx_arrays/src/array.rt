@@ -6,15 +6,16 @@ ghost use Rattle.vx_trees.specs.Rose.{label, below, node, end, roses_of};
 ghost use Rattle.vx_types.specs.Kind.{boolean};
 ghost use Rattle.vx_types.specs.Seen.{typ};
 ghost use Rattle.vx_types.specs.Value.{natural};
-ghost use Rattle.vx_scalars.specs.Stats.{FitStats};
+ghost use Rattle.vx_scalars.specs.Stats.{FitStats, no_stats};
 ghost use Rattle.vx_types.specs.declared.nullability.Nullability.TheVariants.{NonNullable};
 ghost use Rattle.vx_array_tree.specs.Refused.{IsWellShaped};
 ghost use Rattle.vx_array_tree.specs.Rows.{flag_in};
 ghost use Rattle.vx_array_tree.specs.Sound.{IsSound, IsSoundNode};
 ghost use Rattle.vx_array_tree.specs.Table.{id_of, encoding_of, buffers_of, Content};
-ghost use Rattle.vx_array_tree.specs.Tree.{rows_of, rows_below, row_at, valid_at, cells, untold, with_stats};
+ghost use Rattle.vx_array_tree.specs.Tree.{Tree, rows_of, rows_below, row_at, valid_at, cells, untold, with_stats};
+ghost use Rattle.vx_arrays.specs.NewBuffers.{RefusesBuffers, with_buffers};
 ghost use Rattle.vx_arrays.specs.Plain.{plain_body, head_of, plain_value};
-ghost use Rattle.vx_arrays.specs.Refused.{IsRowRefused};
+ghost use Rattle.vx_arrays.specs.Refused.{IsRowRefused, IsOkOrMemory};
 
 use crate::body::Body;
 use crate::error::ArrayError;
@@ -23,7 +24,7 @@ use crate::row::RowValue;
 use crate::validity::validity_at;
 use std::alloc::Global;
 use std::marker::Model;
-use vx_buffer::BufferHandle;
+use vx_buffer::{BufferHandle, BufferHandles};
 use vx_scalars::{ScalarError, StatsSet};
 use vx_types::DType;
 
@@ -138,6 +139,17 @@ impl Array {
         stats.validate(&self.dtype)?;
         self.stats = stats;
         Ok(())
+    }
+
+    // The same array with these statistics, which fit its type.
+    pub(crate) fn told(self, stats: StatsSet) -> Array
+        requires { FitStats (label self).dtype stats }
+        ensures array { result ≡ with_stats stats self }
+        ensures sound { IsSound result }
+    {
+        let mut array = self;
+        array.stats = stats;
+        array
     }
 
     /// What the root's encoding holds.
@@ -279,6 +291,30 @@ impl Array {
                 index,
                 budget,
             ),
+        }
+    }
+
+    // The same array without statistics and with these buffers at its root, as the root's encoding makes it.
+    #[tactic(auto, using(crate::proofs::Untold::untold_node))]
+    pub(crate) fn untold_with(
+        &self,
+        alloc: Global,
+        buffers: BufferHandles,
+    ) -> Result<Array, ArrayError>
+        ensures ok { IfOk result (λ a. with_buffers (with_stats no_stats self.now) buffers ≡ Some a) }
+        ensures sound { IfOk result IsSound }
+        ensures err { IfErr result (λ e. RefusesBuffers e (with_stats no_stats self.now) buffers) }
+        ensures complete { (t : Tree) → with_buffers (with_stats no_stats self.now) buffers ≡ Some t → IsSound t → IsOkOrMemory result }
+    {
+        let (dtype, len) = (&self.dtype, self.len);
+        let children = self.children.as_slice();
+        match &self.body {
+            Body::Null => NullArray::with_buffers(alloc, dtype, len, children, buffers),
+            Body::Primitive(numbers) => numbers.with_buffers(alloc, dtype, len, children, buffers),
+            Body::Bool(flags) => flags.with_buffers(alloc, dtype, len, children, buffers),
+            Body::Decimal(decimals) => decimals.with_buffers(alloc, dtype, len, children, buffers),
+            Body::VarBin(parts) => parts.with_buffers(alloc, dtype, len, children, buffers),
+            Body::VarBinView(views) => views.with_buffers(alloc, dtype, len, children, buffers),
         }
     }
 

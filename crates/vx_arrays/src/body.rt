@@ -1,7 +1,8 @@
 //! What a node's encoding holds beside its type, its rows and its children: a line for each encoding.
 
-ghost use Rattle.std.specs.Prelude.{◌≡◌, ◌<◌, length, slice_get, Some, IfOk, IsOkUnless};
+ghost use Rattle.std.specs.Prelude.{◌≡◌, ◌<◌, ◌↔◌, length, slice_get, Some, IfOk, IsOkUnless, IsTrue};
 ghost use Rattle.vx_array_tree.specs.Table.{id_of, encoding_of, buffers_of};
+ghost use Rattle.vx_arrays.specs.Compared.{compared_body};
 
 use crate::bool::{BoolArray, BoolData};
 use crate::decimal::{DecimalArray, DecimalData};
@@ -73,6 +74,21 @@ impl Body {
             Body::Decimal(decimals) => decimals.values(),
             Body::VarBin(parts) => parts.bytes(),
             Body::VarBinView(views) => views.buffer(index),
+        }
+    }
+
+    // Whether the encodings and what they hold are equal, whatever the alignments of the buffers.
+    pub(crate) fn array_eq(&self, other: &Body) -> bool
+        ensures { IsTrue result ↔ (compared_body (plain_body self.now) ≡ compared_body (plain_body other.now)) }
+    {
+        match (self, other) {
+            (Body::Null, Body::Null) => true,
+            (Body::Primitive(x), Body::Primitive(y)) => x.array_eq(y),
+            (Body::Bool(x), Body::Bool(y)) => x.array_eq(y),
+            (Body::Decimal(x), Body::Decimal(y)) => x.array_eq(y),
+            (Body::VarBin(x), Body::VarBin(y)) => x.array_eq(y),
+            (Body::VarBinView(x), Body::VarBinView(y)) => x.array_eq(y),
+            _ => false,
         }
     }
 

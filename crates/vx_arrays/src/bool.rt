@@ -1,27 +1,30 @@
 //! Arrays of flags.
 
-ghost use Rattle.std.specs.Prelude.{◌≡◌, ◌<◌, ◌≤◌, ◌↔◌, IfOk, IfErr, IsOkUnless, IsTrue, ◌+◌, ◌*◌, length};
+ghost use Rattle.std.specs.Prelude.{◌≡◌, ◌<◌, ◌≤◌, ◌↔◌, IfOk, IfErr, IsOkUnless, IsTrue, ◌+◌, ◌*◌, length, Some};
 ghost use Rattle.vx_trees.specs.Everywhere.{EverywhereBelow};
-ghost use Rattle.vx_trees.specs.Rose.{label, roses_of};
+ghost use Rattle.vx_trees.specs.Rose.{label, node, roses_of};
 ghost use Rattle.vx_types.specs.Seen.{typ};
 ghost use Rattle.vx_array_tree.specs.Body as B;
 ghost use Rattle.vx_array_tree.specs.Encodings.Bools.{bit_at, rows as rows_of_flags};
 ghost use Rattle.vx_array_tree.specs.Rows.{flag_in};
 ghost use Rattle.vx_array_tree.specs.Sound.{IsSound, IsSoundNode};
-ghost use Rattle.vx_array_tree.specs.Tree.{option_trees, rows_below, untold};
+ghost use Rattle.vx_array_tree.specs.Tree.{Tree, option_trees, rows_below, untold};
 ghost use Rattle.vx_array_tree.specs.Refused.{IsWellShaped};
 ghost use Rattle.vx_arrays.specs.Bools.{bool_tree};
+ghost use Rattle.vx_arrays.specs.Compared.{compared_body};
+ghost use Rattle.vx_arrays.specs.NewBuffers.{RefusesBuffers, with_buffers};
 ghost use Rattle.vx_arrays.specs.Plain.{plain_value};
 ghost use Rattle.vx_arrays.specs.Refused.{IsUnmade, IsRowRefused, IsOkOrMemory};
 
 use crate::array::Array;
 use crate::body::Body;
 use crate::error::ArrayError;
+use crate::new_buffers::{copied_validity, only_buffer};
 use crate::row::{RowValue, within_budget};
 use crate::validity::{is_validity, over_validity, validity_at};
 use std::alloc::Global;
 use std::marker::Model;
-use vx_buffer::BufferHandle;
+use vx_buffer::{BufferHandle, BufferHandles};
 use vx_types::{DType, Nullability};
 
 /// What a node of flags holds: bits, and how many of them stand before the first row's.
@@ -59,6 +62,14 @@ impl BoolData {
         ensures below { result < 8 }
     {
         self.offset
+    }
+
+    // Whether the bits and the offsets are equal, whatever the alignments.
+    #[tactic(auto, using(crate::proofs::Comparing::bodies))]
+    pub(crate) fn array_eq(&self, other: &BoolData) -> bool
+        ensures { IsTrue result ↔ (compared_body (B.bool self.now) ≡ compared_body (B.bool other.now)) }
+    {
+        self.offset == other.offset && self.bits.array_eq(&other.bits)
     }
 
     // The same bits again. No byte is copied.
@@ -111,6 +122,36 @@ impl BoolData {
                 let flag = self.flag_at(index);
                 within_budget(RowValue::Bool(flag), budget)
             }
+        }
+    }
+
+    // The array of a node of this type, length and children that holds these buffers in the place of its own.
+    pub(crate) fn with_buffers(
+        &self,
+        alloc: Global,
+        dtype: &DType,
+        len: usize,
+        children: &[Array],
+        buffers: BufferHandles,
+    ) -> Result<Array, ArrayError>
+        requires { IsSoundNode (untold (typ dtype.now) len (B.bool self.now)) (roses_of children.now) }
+        ensures ok { let t : Tree = node (untold (typ dtype.now) len (B.bool self.now)) (roses_of children.now) in
+            IfOk result (λ a. with_buffers t buffers ≡ Some a) }
+        ensures sound { IfOk result IsSound }
+        ensures err { let t : Tree = node (untold (typ dtype.now) len (B.bool self.now)) (roses_of children.now) in
+            IfErr result (λ e. RefusesBuffers e t buffers) }
+        ensures complete { let t : Tree = node (untold (typ dtype.now) len (B.bool self.now)) (roses_of children.now) in
+            (u : Tree) → with_buffers t buffers ≡ Some u → IsSound u → IsOkOrMemory result }
+    {
+        let Some(bits) = only_buffer(buffers) else {
+            return Err(ArrayError::BadShape);
+        };
+        match dtype {
+            DType::Bool(nullability) => {
+                let validity = copied_validity(alloc, children, len)?;
+                BoolArray::try_new(alloc, bits, self.offset, len, *nullability, validity)
+            }
+            _ => unreachable!(),
         }
     }
 }

@@ -1,17 +1,23 @@
 //! Arrays of nulls.
 
-ghost use Rattle.std.specs.Prelude.{◌≡◌, ◌≤◌, IfOk, IfErr, IsOkUnless};
+ghost use Rattle.std.specs.Prelude.{◌≡◌, ◌≤◌, IfOk, IfErr, IsOkUnless, Some};
+ghost use Rattle.vx_trees.specs.Rose.{node, roses_of};
+ghost use Rattle.vx_types.specs.Seen.{typ};
+ghost use Rattle.vx_array_tree.specs.Body as B;
 ghost use Rattle.vx_array_tree.specs.Encodings.Nulls.{rows as rows_of_nulls};
-ghost use Rattle.vx_array_tree.specs.Sound.{IsSound};
+ghost use Rattle.vx_array_tree.specs.Sound.{IsSound, IsSoundNode};
+ghost use Rattle.vx_array_tree.specs.Tree.{Tree, untold};
+ghost use Rattle.vx_arrays.specs.NewBuffers.{RefusesBuffers, with_buffers};
 ghost use Rattle.vx_arrays.specs.Nulls.{null_tree};
 ghost use Rattle.vx_arrays.specs.Plain.{plain_value};
-ghost use Rattle.vx_arrays.specs.Refused.{IsRowRefused};
+ghost use Rattle.vx_arrays.specs.Refused.{IsRowRefused, IsOkOrMemory};
 
 use crate::array::Array;
 use crate::body::Body;
 use crate::error::ArrayError;
 use crate::row::{RowValue, within_budget};
 use std::alloc::Global;
+use vx_buffer::BufferHandles;
 use vx_types::DType;
 
 /// Arrays of which each row is null.
@@ -37,5 +43,28 @@ impl NullArray {
         ensures err { IfErr result (λ e. IsRowRefused e (rows_of_nulls len) index budget) }
     {
         within_budget(RowValue::Null, budget)
+    }
+
+    // The array of a node of this type, length and children that holds these buffers in the place of its own.
+    pub(crate) fn with_buffers(
+        alloc: Global,
+        dtype: &DType,
+        len: usize,
+        children: &[Array],
+        buffers: BufferHandles,
+    ) -> Result<Array, ArrayError>
+        requires { IsSoundNode (untold (typ dtype.now) len B.null) (roses_of children.now) }
+        ensures ok { let t : Tree = node (untold (typ dtype.now) len B.null) (roses_of children.now) in
+            IfOk result (λ a. with_buffers t buffers ≡ Some a) }
+        ensures sound { IfOk result IsSound }
+        ensures err { let t : Tree = node (untold (typ dtype.now) len B.null) (roses_of children.now) in
+            IfErr result (λ e. RefusesBuffers e t buffers) }
+        ensures complete { let t : Tree = node (untold (typ dtype.now) len B.null) (roses_of children.now) in
+            (u : Tree) → with_buffers t buffers ≡ Some u → IsSound u → IsOkOrMemory result }
+    {
+        if !buffers.is_empty() {
+            return Err(ArrayError::BadShape);
+        }
+        NullArray::new(alloc, len)
     }
 }

@@ -1,15 +1,17 @@
 //! Arrays of numbers.
 
-ghost use Rattle.std.specs.Prelude.{◌≡◌, ◌<◌, ◌≤◌, ◌↔◌, IfOk, IfErr, IsOkUnless, IsTrue};
+ghost use Rattle.std.specs.Prelude.{◌≡◌, ◌<◌, ◌≤◌, ◌↔◌, IfOk, IfErr, IsOkUnless, IsTrue, Some};
 ghost use Rattle.vx_trees.specs.Everywhere.{EverywhereBelow};
-ghost use Rattle.vx_trees.specs.Rose.{label, roses_of};
+ghost use Rattle.vx_trees.specs.Rose.{label, node, roses_of};
 ghost use Rattle.vx_types.specs.Seen.{typ};
 ghost use Rattle.vx_types.specs.Value.{natural};
 ghost use Rattle.vx_array_tree.specs.Encodings.Primitives.{rows as rows_of_numbers};
 ghost use Rattle.vx_array_tree.specs.Body as B;
 ghost use Rattle.vx_array_tree.specs.Refused.{IsWellShaped};
 ghost use Rattle.vx_array_tree.specs.Sound.{IsSound, IsSoundNode};
-ghost use Rattle.vx_array_tree.specs.Tree.{option_trees, rows_below, untold};
+ghost use Rattle.vx_array_tree.specs.Tree.{Tree, option_trees, rows_below, untold};
+ghost use Rattle.vx_arrays.specs.Compared.{compared_body};
+ghost use Rattle.vx_arrays.specs.NewBuffers.{RefusesBuffers, with_buffers};
 ghost use Rattle.vx_arrays.specs.Plain.{plain_value};
 ghost use Rattle.vx_arrays.specs.Primitives.{primitive_tree};
 ghost use Rattle.vx_arrays.specs.Refused.{IsUnmade, IsRowRefused, IsOkOrMemory};
@@ -17,12 +19,13 @@ ghost use Rattle.vx_arrays.specs.Refused.{IsUnmade, IsRowRefused, IsOkOrMemory};
 use crate::array::Array;
 use crate::body::Body;
 use crate::error::ArrayError;
+use crate::new_buffers::{copied_validity, only_buffer};
 use crate::numbers::{is_filled, natural, number_at};
 use crate::row::{RowValue, within_budget};
 use crate::validity::{is_validity, over_validity, validity_at};
 use std::alloc::Global;
 use std::marker::Model;
-use vx_buffer::BufferHandle;
+use vx_buffer::{BufferHandle, BufferHandles};
 use vx_types::{DType, Nullability, PType};
 
 /// What a node of numbers holds: the numbers, one after the other, each with its lowest byte first. Their kind
@@ -48,6 +51,14 @@ impl PrimitiveData {
         ensures { result.now ≡ self.now.values }
     {
         &self.values
+    }
+
+    // Whether the numbers are equal, whatever the alignments.
+    #[tactic(auto, using(crate::proofs::Comparing::bodies))]
+    pub(crate) fn array_eq(&self, other: &PrimitiveData) -> bool
+        ensures { IsTrue result ↔ (compared_body (B.primitive self.now) ≡ compared_body (B.primitive other.now)) }
+    {
+        self.values.array_eq(&other.values)
     }
 
     // The same numbers again. No byte is copied.
@@ -118,6 +129,36 @@ impl PrimitiveData {
                 let rest = &self.values.as_host().as_slice()[width * index..];
                 natural(number_at(kind, rest))
             }
+        }
+    }
+
+    // The array of a node of this type, length and children that holds these buffers in the place of its own.
+    pub(crate) fn with_buffers(
+        &self,
+        alloc: Global,
+        dtype: &DType,
+        len: usize,
+        children: &[Array],
+        buffers: BufferHandles,
+    ) -> Result<Array, ArrayError>
+        requires { IsSoundNode (untold (typ dtype.now) len (B.primitive self.now)) (roses_of children.now) }
+        ensures ok { let t : Tree = node (untold (typ dtype.now) len (B.primitive self.now)) (roses_of children.now) in
+            IfOk result (λ a. with_buffers t buffers ≡ Some a) }
+        ensures sound { IfOk result IsSound }
+        ensures err { let t : Tree = node (untold (typ dtype.now) len (B.primitive self.now)) (roses_of children.now) in
+            IfErr result (λ e. RefusesBuffers e t buffers) }
+        ensures complete { let t : Tree = node (untold (typ dtype.now) len (B.primitive self.now)) (roses_of children.now) in
+            (u : Tree) → with_buffers t buffers ≡ Some u → IsSound u → IsOkOrMemory result }
+    {
+        let Some(values) = only_buffer(buffers) else {
+            return Err(ArrayError::BadShape);
+        };
+        match dtype {
+            DType::Primitive(kind, nullability) => {
+                let validity = copied_validity(alloc, children, len)?;
+                PrimitiveArray::try_new(alloc, values, *kind, *nullability, len, validity)
+            }
+            _ => unreachable!(),
         }
     }
 }

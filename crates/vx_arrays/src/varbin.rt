@@ -1,8 +1,8 @@
 //! Arrays of texts or of bytes by offsets.
 
-ghost use Rattle.std.specs.Prelude.{suc, ◌^◌, ◌≡◌, ◌<◌, ◌≤◌, ◌↔◌, ◌∷◌, IfOk, IfErr, OnOk, IsOkUnless, IsTrue};
+ghost use Rattle.std.specs.Prelude.{suc, ◌^◌, ◌≡◌, ◌<◌, ◌≤◌, ◌↔◌, ◌∷◌, IfOk, IfErr, OnOk, IsOkUnless, IsTrue, Some};
 ghost use Rattle.vx_trees.specs.Everywhere.{EverywhereBelow};
-ghost use Rattle.vx_trees.specs.Rose.{label, more, roses_of};
+ghost use Rattle.vx_trees.specs.Rose.{label, more, node, roses_of};
 ghost use Rattle.vx_buffer.specs.Buffer.{Buffer};
 ghost use Rattle.vx_types.specs.Seen.{typ};
 ghost use Rattle.vx_types.specs.Value.{lone, value_cells};
@@ -11,7 +11,9 @@ ghost use Rattle.vx_array_tree.specs.Encodings.VarBins.{Content, IsContent, mark
 ghost use Rattle.vx_array_tree.specs.Refused.{IsWellShaped};
 ghost use Rattle.vx_array_tree.specs.Rows.{rest, validity};
 ghost use Rattle.vx_array_tree.specs.Sound.{IsSound, IsSoundNode};
-ghost use Rattle.vx_array_tree.specs.Tree.{option_trees, rows_below, rows_of, untold};
+ghost use Rattle.vx_array_tree.specs.Tree.{Tree, option_trees, rows_below, rows_of, untold};
+ghost use Rattle.vx_arrays.specs.Compared.{compared_body};
+ghost use Rattle.vx_arrays.specs.NewBuffers.{RefusesBuffers, with_buffers};
 ghost use Rattle.vx_arrays.specs.Plain.{plain_value};
 ghost use Rattle.vx_arrays.specs.Refused.{IsUnmade, IsRowRefused, IsValueRefused, IsOkOrMemory};
 ghost use Rattle.vx_arrays.specs.VarBins.{IsOfBytes, IsOfOffsets, varbin_head, varbin_node, varbin_tree};
@@ -19,13 +21,14 @@ ghost use Rattle.vx_arrays.specs.VarBins.{IsOfBytes, IsOfOffsets, varbin_head, v
 use crate::array::Array;
 use crate::body::Body;
 use crate::error::ArrayError;
+use crate::new_buffers::{copied_type, copied_validity, only_buffer};
 use crate::offsets::are_offsets;
 use crate::row::{RowValue, within_budget};
 use crate::texts::{are_texts, is_of_bytes, part_at, part_row};
 use crate::validity::{is_validity, validity_at};
 use std::alloc::Global;
 use std::marker::Model;
-use vx_buffer::BufferHandle;
+use vx_buffer::{BufferHandle, BufferHandles};
 use vx_types::{DType, Nullability};
 
 /// What a node of texts or of bytes holds: the bytes of all rows, one after the other.
@@ -50,6 +53,14 @@ impl VarBinData {
         ensures { result.now ≡ self.now.bytes }
     {
         &self.bytes
+    }
+
+    // Whether the bytes are equal, whatever the alignments.
+    #[tactic(auto, using(crate::proofs::Comparing::bodies))]
+    pub(crate) fn array_eq(&self, other: &VarBinData) -> bool
+        ensures { IsTrue result ↔ (compared_body (B.varbin self.now) ≡ compared_body (B.varbin other.now)) }
+    {
+        self.bytes.array_eq(&other.bytes)
     }
 
     // The same bytes again. No byte is copied.
@@ -111,6 +122,38 @@ impl VarBinData {
                     part_row(alloc, dtype, part, budget)
                 }
             },
+            [] => unreachable!(),
+        }
+    }
+
+    // The array of a node of this type, length and children that holds these buffers in the place of its own.
+    pub(crate) fn with_buffers(
+        &self,
+        alloc: Global,
+        dtype: &DType,
+        len: usize,
+        children: &[Array],
+        buffers: BufferHandles,
+    ) -> Result<Array, ArrayError>
+        requires { IsSoundNode (untold (typ dtype.now) len (B.varbin self.now)) (roses_of children.now) }
+        ensures ok { let t : Tree = node (untold (typ dtype.now) len (B.varbin self.now)) (roses_of children.now) in
+            IfOk result (λ a. with_buffers t buffers ≡ Some a) }
+        ensures sound { IfOk result IsSound }
+        ensures err { let t : Tree = node (untold (typ dtype.now) len (B.varbin self.now)) (roses_of children.now) in
+            IfErr result (λ e. RefusesBuffers e t buffers) }
+        ensures complete { let t : Tree = node (untold (typ dtype.now) len (B.varbin self.now)) (roses_of children.now) in
+            (u : Tree) → with_buffers t buffers ≡ Some u → IsSound u → IsOkOrMemory result }
+    {
+        let Some(bytes) = only_buffer(buffers) else {
+            return Err(ArrayError::BadShape);
+        };
+        match children {
+            [offsets, behind @ ..] => {
+                let dtype = copied_type(alloc, dtype)?;
+                let offsets = offsets.clone(alloc)?;
+                let validity = copied_validity(alloc, behind, len)?;
+                VarBinArray::try_new(alloc, dtype, offsets, bytes, validity)
+            }
             [] => unreachable!(),
         }
     }

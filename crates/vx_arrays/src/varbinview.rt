@@ -1,8 +1,8 @@
 //! Arrays of texts or of bytes by views.
 
-ghost use Rattle.std.specs.Prelude.{◌≡◌, ◌<◌, ◌≤◌, ◌↔◌, ◌++◌, ◌∷◌, ◌*◌, ◌+◌, [], codes, slice_get, Some, IfOk, IfErr, IsOkUnless, IsTrue, length, option_map};
+ghost use Rattle.std.specs.Prelude.{◌≡◌, ◌<◌, ◌≤◌, ◌↔◌, ◌++◌, ◌∷◌, ◌*◌, ◌+◌, [], codes, slice_get, Some, IfOk, IfErr, IsOkUnless, IsTrue, length, option_map, map};
 ghost use Rattle.vx_trees.specs.Everywhere.{EverywhereBelow};
-ghost use Rattle.vx_trees.specs.Rose.{count, roses_of};
+ghost use Rattle.vx_trees.specs.Rose.{count, node, roses_of};
 ghost use Rattle.vx_types.specs.Seen.{typ};
 ghost use Rattle.vx_array_tree.specs.Body as B;
 ghost use Rattle.vx_array_tree.specs.Encodings.VarBinViews.{Content, bytes_at, buffers_of, rows as rows_of_views};
@@ -10,7 +10,9 @@ ghost use Rattle.vx_array_tree.specs.Place.{before_validity};
 ghost use Rattle.vx_array_tree.specs.Refused.{IsWellShaped};
 ghost use Rattle.vx_array_tree.specs.Rows.{IsThere, validity as valid_by};
 ghost use Rattle.vx_array_tree.specs.Sound.{IsSound, IsSoundNode};
-ghost use Rattle.vx_array_tree.specs.Tree.{option_trees, places, rows_below, untold};
+ghost use Rattle.vx_array_tree.specs.Tree.{Tree, option_trees, places, rows_below, untold};
+ghost use Rattle.vx_arrays.specs.Compared.{bare, compared_body};
+ghost use Rattle.vx_arrays.specs.NewBuffers.{RefusesBuffers, with_buffers};
 ghost use Rattle.vx_arrays.specs.Plain.{plain_value};
 ghost use Rattle.vx_arrays.specs.Refused.{IsUnmade, IsRowRefused, IsOkOrMemory};
 ghost use Rattle.vx_arrays.specs.Slots.{numbered};
@@ -19,13 +21,14 @@ ghost use Rattle.vx_arrays.specs.VarBinViews.{IsRight, varbinview_head, varbinvi
 use crate::array::Array;
 use crate::body::Body;
 use crate::error::ArrayError;
+use crate::new_buffers::{copied_type, copied_validity};
 use crate::row::{RowValue, owned_text, within_budget};
 use crate::texts::{is_content, is_of_bytes, part_row};
 use crate::validity::{is_validity, only_validity, option_validity_at, validity_at};
 use crate::views::viewed;
 use std::alloc::Global;
 use std::marker::Model;
-use vx_buffer::BufferHandle;
+use vx_buffer::{BufferHandle, BufferHandles};
 use vx_types::{DType, Name};
 
 /// What a node of texts or of bytes by views holds: the buffers that views name by their numbers, and a view for each
@@ -98,6 +101,15 @@ impl VarBinViewData {
         }
         let text = format!(in alloc; "buffer_{index}")?;
         Ok(Some(owned_text(alloc, text.as_str())?))
+    }
+
+    // Whether the views and the buffers that they name are equal, whatever the alignments.
+    #[tactic(auto, using(crate::proofs::Comparing::bodies))]
+    pub(crate) fn array_eq(&self, other: &VarBinViewData) -> bool
+        ensures { IsTrue result ↔ (compared_body (B.varbinview self.now) ≡ compared_body (B.varbinview other.now)) }
+    {
+        self.views.array_eq(&other.views)
+            && are_same(self.buffers.as_slice(), other.buffers.as_slice())
     }
 
     // The same buffers again. No byte is copied.
@@ -200,6 +212,49 @@ impl VarBinViewData {
             }
         }
     }
+
+    // The array of a node of this type, length and children that holds these buffers in the place of its own.
+    pub(crate) fn with_buffers(
+        &self,
+        alloc: Global,
+        dtype: &DType,
+        len: usize,
+        children: &[Array],
+        buffers: BufferHandles,
+    ) -> Result<Array, ArrayError>
+        requires { IsSoundNode (untold (typ dtype.now) len (B.varbinview self.now)) (roses_of children.now) }
+        ensures ok { let t : Tree = node (untold (typ dtype.now) len (B.varbinview self.now)) (roses_of children.now) in
+            IfOk result (λ a. with_buffers t buffers ≡ Some a) }
+        ensures sound { IfOk result IsSound }
+        ensures err { let t : Tree = node (untold (typ dtype.now) len (B.varbinview self.now)) (roses_of children.now) in
+            IfErr result (λ e. RefusesBuffers e t buffers) }
+        ensures complete { let t : Tree = node (untold (typ dtype.now) len (B.varbinview self.now)) (roses_of children.now) in
+            (u : Tree) → with_buffers t buffers ≡ Some u → IsSound u → IsOkOrMemory result }
+    {
+        let mut front = buffers.into_vec();
+        let Some(views) = front.pop() else {
+            return Err(ArrayError::BadShape);
+        };
+        let dtype = copied_type(alloc, dtype)?;
+        let validity = copied_validity(alloc, children, len)?;
+        VarBinViewArray::try_new(alloc, dtype, len, front, views, validity)
+    }
+}
+
+// Whether the buffers are as many and have the same bytes.
+#[tactic(auto, using(crate::proofs::Comparing::alike))]
+fn are_same(buffers: &[BufferHandle], others: &[BufferHandle]) -> bool
+    ensures { IsTrue result ↔ (map bare buffers.now ≡ map bare others.now) }
+{
+    if buffers.len() != others.len() {
+        return false;
+    }
+    for i in 0..buffers.len() {
+        if !buffers[i].array_eq(&others[i]) {
+            return false;
+        }
+    }
+    true
 }
 
 // The same buffers again, in their order. No byte is copied.

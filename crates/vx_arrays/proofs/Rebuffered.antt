@@ -1,0 +1,153 @@
+-- Arrays with other buffers, as their encodings make them.
+use Rattle.std.proofs.Common.{ℕ, suc, ◌≡◌, ◌≤◌, ◌-◌, take, drop, List, [], ◌∷◌, ◌++◌, Option, Some, None, Result, Ok, Err, IfOk, IfErr, length, get_or, option_map, refl, sym, ap, ◌∙◌, subst, arith}
+use Rattle.std.proofs.lemmas.Option.{same_Some}
+use Rattle.std.specs.Prelude.{IfSome, IsSomeAnd}
+use Rattle.vx_buffer.specs.Buffer.{Buffer}
+use Rattle.vx_trees.specs.Rose.{node, end, more, label, below, count, roses_of}
+use Rattle.vx_types.specs.Kind as K
+use Rattle.vx_types.specs.Digits.{Digits}
+use Rattle.vx_types.specs.Typ.{Typ}
+use Rattle.vx_types.specs.declared.decimal.DecimalType.{DecimalType}
+use Rattle.vx_types.specs.declared.nullability.Nullability.{Nullability}
+use Rattle.vx_types.specs.declared.ptype.PType.{PType}
+use Rattle.vx_scalars.specs.Stats.{Stats}
+use Rattle.vx_array_tree.specs.Body.{Body}
+use Rattle.vx_array_tree.specs.Body as B
+use Rattle.vx_array_tree.specs.Encodings.Nulls as Nulls
+use Rattle.vx_array_tree.specs.Encodings.Bools as Bools
+use Rattle.vx_array_tree.specs.Encodings.Primitives as Primitives
+use Rattle.vx_array_tree.specs.Encodings.Decimals as Decimals
+use Rattle.vx_array_tree.specs.Encodings.VarBins as VarBins
+use Rattle.vx_array_tree.specs.Encodings.VarBinViews as VarBinViews
+use Rattle.vx_array_tree.specs.Place.{before_validity}
+use Rattle.vx_array_tree.specs.Refused.{IsWellShaped, IsMisshaped, HasBrokenContent}
+use Rattle.vx_array_tree.specs.Sound.{IsSound, IsSoundNode}
+use Rattle.vx_array_tree.specs.Tree.{Tree, Trees, Head, option_trees, places, untold, with_stats}
+use Rattle.vx_arrays.specs.Bools.{bool_tree}
+use Rattle.vx_arrays.specs.Decimals.{decimal_tree}
+use Rattle.vx_arrays.specs.NewBuffers.{rebuffered, with_buffers, RefusesBuffers}
+use Rattle.vx_arrays.specs.Nulls.{null_tree}
+use Rattle.vx_arrays.specs.Primitives.{primitive_tree}
+use Rattle.vx_arrays.specs.Refused.{IsUnmade, IsOkOrMemory}
+use Rattle.vx_arrays.specs.VarBins.{varbin_tree}
+use Rattle.vx_arrays.specs.VarBinViews.{varbinview_tree}
+use Rattle.vx_arrays.proofs.Parted.{first_and_behind, sound_counted}
+use Rattle.vx_arrays.specs.declared.error.ArrayError.{ArrayError}
+use Rattle.vx_arrays.specs.declared.error.ArrayError.TheVariants.{OutOfMemory, BadShape, BadContent, ValueTooLarge}
+
+-- The only child of a node whose only child may be a validity.
+pub only_child : (n : ℕ) (ts : List Tree) (t u : Tree) → before_validity [] n (count (roses_of ts)) ≡ Some (places (roses_of ts)) → 1 ≤ length ts → u ≡ get_or ts 0 u → t ≡ u → more t end ≡ roses_of ts
+only_child n [] t u p l e q = absurd (omega (arith, l))
+only_child n (x ∷ []) t u p l e q = ap (λ z. more z end) (q ∙ e)
+only_child n (x ∷ y ∷ ts) t u p l e q = absurd (cc)
+
+-- ---- what is answered is what a constructor answers
+
+module _ (t u : Tree) (bs : List Buffer) (made : with_buffers t bs ≡ Some u) (r : Result Tree ArrayError) where
+  pub answer_ok : IfOk r (λ a. a ≡ u) → IfOk r (λ a. with_buffers t bs ≡ Some a)
+  answer_ok h = ok r h
+    where
+      ok : (r : Result Tree ArrayError) → IfOk r (λ a. a ≡ u) → IfOk r (λ a. with_buffers t bs ≡ Some a)
+      ok (Ok a) h = made ∙ ap (λ z. Some z) (sym h)
+      ok (Err e) h = tt
+
+  refused : (e : ArrayError) → IsUnmade e u → RefusesBuffers e t bs
+  refused OutOfMemory h = tt
+  refused BadShape h = subst (λ (o : Option Tree). IfSome o (λ v. IsMisshaped (label v) (below v))) (sym made) h
+  refused BadContent h = subst (λ (o : Option Tree). IsSomeAnd o (λ v. HasBrokenContent (label v) (below v))) (sym made) h
+  refused ValueTooLarge h = h
+
+  pub answer_err : IfErr r (λ e. IsUnmade e u) → IfErr r (λ e. RefusesBuffers e t bs)
+  answer_err h = err r h
+    where
+      err : (r : Result Tree ArrayError) → IfErr r (λ e. IsUnmade e u) → IfErr r (λ e. RefusesBuffers e t bs)
+      err (Ok a) h = tt
+      err (Err e) h = refused e h
+
+  pub answer_complete : (IsSound u → IsOkOrMemory r) → (v : Tree) → with_buffers t bs ≡ Some v → IsSound v → IsOkOrMemory r
+  answer_complete h v e s = h (subst (λ (z : Tree). IsSound z) (sym (same_Some u v (sym made ∙ e))) s)
+
+-- ---- nulls
+
+nulls_alone : (d : Typ) (n : ℕ) (ts : Trees) → Nulls.plan d n (count ts) ≡ Some (places ts) → (d ≡ node K.null end) × (ts ≡ end)
+nulls_alone (node K.null end) n end e = (refl, refl)
+nulls_alone (node K.null end) n (more t ts) e = absurd (cc)
+nulls_alone _ n ts e = absurd (cc)
+
+-- Without buffers a node of nulls is what it was.
+pub nulls_made : (d : Typ) (n : ℕ) (ts : Trees) (bs : List Buffer) → IsSoundNode (untold d n B.null) ts → bs ≡ [] → with_buffers (node (untold d n B.null) ts) bs ≡ Some (null_tree n)
+nulls_made d n ts bs s e =
+    let p = nulls_alone d n ts s.planned in
+    ap (λ (cs : List Buffer). with_buffers (node (untold d n B.null) ts) cs) e ∙ (λ i. Some (node (untold (p.0 i) n B.null) (p.1 i)))
+
+-- ---- flags, numbers and decimals
+
+pub bools_made : (d : Typ) (n : ℕ) (x : Bools.Data) (ts : Trees) (bs : List Buffer) (b : Buffer) (k : ℕ) (m : Nullability) (v : Option Tree) → d ≡ node (K.boolean m) end → k ≡ x.offset
+    → option_trees v ≡ ts → bs ≡ b ∷ [] → with_buffers (node (untold d n (B.bool x)) ts) bs ≡ Some (bool_tree b k n m v)
+bools_made d n x ts bs b k m v p q w e =
+    ap (λ (cs : List Buffer). with_buffers (node (untold d n (B.bool x)) ts) cs) e ∙ (λ i. Some (node (untold (p i) n (B.bool (record { bits = b; offset = sym q i }))) (sym w i)))
+
+pub primitives_made : (d : Typ) (n : ℕ) (x : Primitives.Data) (ts : Trees) (bs : List Buffer) (b : Buffer) (k : PType) (m : Nullability) (v : Option Tree) → d ≡ node (K.primitive k m) end
+    → option_trees v ≡ ts → bs ≡ b ∷ [] → with_buffers (node (untold d n (B.primitive x)) ts) bs ≡ Some (primitive_tree k m n b v)
+primitives_made d n x ts bs b k m v p w e =
+    ap (λ (cs : List Buffer). with_buffers (node (untold d n (B.primitive x)) ts) cs) e ∙ (λ i. Some (node (untold (p i) n (B.primitive (record { values = b }))) (sym w i)))
+
+pub decimals_made : (d : Typ) (n : ℕ) (x : Decimals.Data) (ts : Trees) (bs : List Buffer) (b : Buffer) (k : DecimalType) (digits : Digits) (m : Nullability) (v : Option Tree)
+    → d ≡ node (K.decimal digits.precision digits.scale m) end → k ≡ x.values_type → option_trees v ≡ ts → bs ≡ b ∷ []
+    → with_buffers (node (untold d n (B.decimal x)) ts) bs ≡ Some (decimal_tree b k digits m n v)
+decimals_made d n x ts bs b k digits m v p q w e =
+    ap (λ (cs : List Buffer). with_buffers (node (untold d n (B.decimal x)) ts) cs) e ∙ (λ i. Some (node (untold (p i) n (B.decimal (record { values = b; values_type = sym q i }))) (sym w i)))
+
+-- ---- texts and bytes by views
+
+-- The last of the buffers are the views.
+pub views_last : (front : List Buffer) (views : Buffer) → VarBinViews.body_of (front ++ views ∷ []) ≡ Some (record { buffers = front; views = views })
+views_last [] v = refl
+views_last (b ∷ bs) v = last (bs ++ v ∷ []) (views_last bs v)
+  where
+    last : (cs : List Buffer) → VarBinViews.body_of cs ≡ Some (record { buffers = bs; views = v }) → VarBinViews.body_of (b ∷ cs) ≡ Some (record { buffers = b ∷ bs; views = v })
+    last [] e = absurd (cc)
+    last (c ∷ cs) e = ap (λ (x : VarBinViews.Data). let y : VarBinViews.Data = record { buffers = b ∷ x.buffers; views = x.views } in Some y) (same_Some (VarBinViews.data_of c cs) (record { buffers = bs; views = v }) e)
+
+pub views_made : (d c : Typ) (n : ℕ) (x : VarBinViews.Data) (ts : Trees) (bs front : List Buffer) (views : Buffer) (v : Option Tree) → c ≡ d → option_trees v ≡ ts → bs ≡ front ++ views ∷ []
+    → with_buffers (node (untold d n (B.varbinview x)) ts) bs ≡ Some (varbinview_tree c n front views v)
+views_made d c n x ts bs front views v p q e =
+    ap (λ (o : Option VarBinViews.Data). option_map (λ (b : Body). node (untold d n b) ts) (option_map B.varbinview o)) (ap VarBinViews.body_of e ∙ views_last front views)
+    ∙ (λ i. Some (node (untold (sym p i) n (B.varbinview (record { buffers = front; views = views }))) (sym q i)))
+
+-- ---- texts and bytes by offsets
+
+pub parts_made : (d c : Typ) (n : ℕ) (x : VarBins.Data) (ts : List Tree) (item o : Tree) (bs : List Buffer) (b : Buffer) (v : Option Tree) → IsSoundNode (untold d n (B.varbin x)) (roses_of ts)
+    → 1 ≤ length ts → item ≡ get_or ts 0 item → o ≡ item → c ≡ d → option_trees v ≡ roses_of (take (length ts - 1) (drop 1 ts)) → bs ≡ b ∷ []
+    → with_buffers (node (untold d n (B.varbin x)) (roses_of ts)) bs ≡ Some (varbin_tree c o b v)
+parts_made d c n x ts item o bs b v s l is q p w e =
+    let first : roses_of ts ≡ more item (roses_of (take (length ts - 1) (drop 1 ts))) = first_and_behind ts item l is in
+    let counted : (label o).len ≡ suc n = ap (λ (z : Tree). (label z).len) q ∙ sound_counted d n x (roses_of ts) item (roses_of (take (length ts - 1) (drop 1 ts))) first s in
+    let len : n ≡ (label o).len - 1 = omega (arith, counted) in
+    let children : roses_of ts ≡ more o (option_trees v) = first ∙ (λ i. more (sym q i) (sym w i)) in
+    ap (λ (cs : List Buffer). with_buffers (node (untold d n (B.varbin x)) (roses_of ts)) cs) e ∙ (λ i. Some (node (untold (sym p i) (len i) (B.varbin (record { bytes = b }))) (children i)))
+
+-- ---- statistics
+
+abbrev told_head : Head → Stats → Body → Head
+told_head h x b = record { dtype = h.dtype; len = h.len; stats = x; body = b }
+
+other_stats : (h : Head) (x y : Stats) (b : Body) (ts : Trees) → IsWellShaped (told_head h x b) ts → IsWellShaped (told_head h y b) ts
+other_stats h x y b ts s = record { fair = s.fair; planned = s.planned; allows = s.allows; takes = s.takes; holds = s.holds }
+
+-- Whether buffers are refused does not depend on statistics.
+pub told_refused : (e : ArrayError) (x : Stats) (t : Tree) (bs : List Buffer) → RefusesBuffers e (with_stats x t) bs → RefusesBuffers e t bs
+told_refused OutOfMemory x t bs r = tt
+told_refused BadShape x (node h ts) bs r = misshaped (rebuffered h.body bs) r
+  where
+    misshaped : (o : Option Body) → IfSome (option_map (λ (b : Body). node (told_head h x b) ts) o) (λ u. IsMisshaped (label u) (below u))
+        → IfSome (option_map (λ (b : Body). node (told_head h h.stats b) ts) o) (λ u. IsMisshaped (label u) (below u))
+    misshaped None r = tt
+    misshaped (Some b) r = λ s. r (other_stats h h.stats x b ts s)
+told_refused BadContent x (node h ts) bs r = broken (rebuffered h.body bs) r
+  where
+    broken : (o : Option Body) → IsSomeAnd (option_map (λ (b : Body). node (told_head h x b) ts) o) (λ u. HasBrokenContent (label u) (below u))
+        → IsSomeAnd (option_map (λ (b : Body). node (told_head h h.stats b) ts) o) (λ u. HasBrokenContent (label u) (below u))
+    broken None r = r
+    broken (Some b) r = record { shaped = other_stats h x h.stats b ts r.shaped; broken = r.broken }
+told_refused ValueTooLarge x t bs r = r

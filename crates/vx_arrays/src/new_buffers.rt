@@ -1,0 +1,75 @@
+//! Arrays with other buffers.
+
+ghost use Rattle.std.specs.Prelude.{◌≡◌, ◌∷◌, [], Some, IfOk, IfErr, IfSome, IfNone, IsOkUnless, length};
+ghost use Rattle.vx_trees.specs.Rose.{count, roses_of};
+ghost use Rattle.vx_array_tree.specs.Place.{before_validity};
+ghost use Rattle.vx_array_tree.specs.Sound.{IsSound};
+ghost use Rattle.vx_array_tree.specs.Tree.{Tree, option_trees, places};
+ghost use Rattle.vx_arrays.specs.NewBuffers.{RefusesBuffers, with_buffers};
+ghost use Rattle.vx_arrays.specs.Refused.{IsOkOrMemory};
+
+use crate::array::Array;
+use crate::error::ArrayError;
+use std::alloc::Global;
+use vx_buffer::{BufferHandle, BufferHandles};
+use vx_types::DType;
+
+impl Array {
+    /// The array that has these buffers at its root in the place of its own, in their order: of the same type, length,
+    /// children and statistics.
+    ///
+    /// `BadShape` where the encoding has another number of buffers, or where these do not hold the rows; `BadContent`
+    /// where their content is broken.
+    pub fn with_buffers(&self, alloc: Global, buffers: BufferHandles) -> Result<Array, ArrayError>
+        ensures ok { IfOk result (λ a. with_buffers self.now buffers ≡ Some a) }
+        ensures sound { IfOk result IsSound }
+        ensures err { IfErr result (λ e. RefusesBuffers e self.now buffers) }
+        ensures complete { (t : Tree) → with_buffers self.now buffers ≡ Some t → IsSound t → IsOkOrMemory result }
+    {
+        let stats = match self.statistics().clone(alloc) {
+            Ok(stats) => stats,
+            Err(_) => return Err(ArrayError::OutOfMemory),
+        };
+        let array = self.untold_with(alloc, buffers)?;
+        Ok(array.told(stats))
+    }
+}
+
+// The one buffer, where there is one alone.
+pub(crate) fn only_buffer(buffers: BufferHandles) -> Option<BufferHandle>
+    ensures one { IfSome result (λ b. buffers ≡ b ∷ []) }
+    ensures none { IfNone result (length buffers ≡ 1 → ⊥) }
+{
+    let mut items = buffers.into_vec();
+    if items.len() != 1 {
+        return None;
+    }
+    items.pop()
+}
+
+// The validity that a node of `len` rows has as its only child, where it has one, once more.
+pub(crate) fn copied_validity(
+    alloc: Global,
+    children: &[Array],
+    len: usize,
+) -> Result<Option<Array>, ArrayError>
+    requires { before_validity [] len (count (roses_of children.now)) ≡ Some (places (roses_of children.now)) }
+    ensures ok { IfOk result (λ validity. option_trees validity ≡ roses_of children.now) }
+    ensures err { IsOkUnless result ArrayError.OutOfMemory }
+{
+    match children {
+        [] => Ok(None),
+        [array, ..] => Ok(Some(array.clone(alloc)?)),
+    }
+}
+
+// A type once more.
+pub(crate) fn copied_type(alloc: Global, dtype: &DType) -> Result<DType, ArrayError>
+    ensures ok { IfOk result (λ copy. copy ≡ dtype.now) }
+    ensures err { IsOkUnless result ArrayError.OutOfMemory }
+{
+    match dtype.clone(alloc) {
+        Ok(copy) => Ok(copy),
+        Err(_) => Err(ArrayError::OutOfMemory),
+    }
+}

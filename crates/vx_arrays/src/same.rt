@@ -1,0 +1,72 @@
+//! Equality of arrays, and their hashes: of all but their statistics and the alignments of their buffers.
+
+ghost use Rattle.std.specs.Prelude.{◌≡◌, ◌↔◌, fold, IsTrue};
+ghost use Rattle.vx_trees.specs.Rose.{label, below, count};
+ghost use Rattle.vx_arrays.specs.Compared.{IsSame, compared, compared_head, fed_array, fed_head};
+
+use crate::array::Array;
+use std::hash::{Hash, Hasher};
+
+impl Array {
+    /// Whether the arrays are equal: of the same encoding, type and length, with the same bytes in their buffers, equal
+    /// children, and the same of what an encoding keeps beside these, as a bit offset or the width of decimals. Neither
+    /// statistics nor the alignments of buffers are compared.
+    #[tactic(auto, using(vx_trees::proofs::Roses::roses))]
+    pub fn array_eq(&self, other: &Array) -> bool
+        ensures { IsTrue result ↔ IsSame self.now other.now }
+    {
+        if !self.has_root_of(other) {
+            return false;
+        }
+        let children = self.children();
+        let others = other.children();
+        for i in 0..children.len() {
+            if !children[i].array_eq(&others[i]) {
+                return false;
+            }
+        }
+        true
+    }
+
+    // Whether the roots are equal but for their children, and have as many.
+    #[tactic(auto, using(vx_trees::proofs::Sameness::sameness, crate::proofs::Comparing::roots))]
+    fn has_root_of(&self, other: &Array) -> bool
+        ensures { IsTrue result ↔ (compared_head (label self.now) ≡ compared_head (label other.now)) × (count (below self.now) ≡ count (below other.now)) }
+    {
+        if self.len() != other.len() {
+            return false;
+        }
+        if self.children().len() != other.children().len() {
+            return false;
+        }
+        if *self.dtype() != *other.dtype() {
+            return false;
+        }
+        self.body().array_eq(other.body())
+    }
+
+    /// Feeds the array to a hash: of each node, in preorder, the identifier of its encoding, its length and the bytes of
+    /// its buffers. Equal arrays are fed alike, and so are some that differ, as by their types alone.
+    #[tactic(auto, using(vx_trees::proofs::Roses::roses))]
+    pub fn array_hash<H: Hasher>(&self, state: &mut H)
+        ensures { state.new ≡ fold H.write state.old (fed_array (compared self.now)) }
+    {
+        self.hash_root(state);
+        for child in self.children() {
+            child.array_hash(state);
+        }
+    }
+
+    // Feeds the root without its children to a hash.
+    fn hash_root<H: Hasher>(&self, state: &mut H)
+        ensures { state.new ≡ fold H.write state.old (fed_head (label self.now)) }
+    {
+        self.encoding_id().hash(state);
+        self.len().hash(state);
+        let count = self.nbuffers();
+        count.hash(state);
+        for i in 0..count {
+            self.buffer(i).array_hash(state);
+        }
+    }
+}
