@@ -41,10 +41,15 @@ fn blob_of(alloc: Global, exponent: u8, size: u8) -> Result<Vec<u8>, AllocError>
     Ok(blob)
 }
 
+/// The worked identifier.
+pub(crate) fn worked_id() -> &'static str {
+    IDS.trim_end()
+}
+
 // The worked identifiers.
 pub(crate) fn worked_ids(alloc: Global) -> Result<ReadContext, TypeError> {
     let mut ids = Ids::new(alloc);
-    ids.push(Id::new(alloc, IDS.trim_end())?)?;
+    ids.push(Id::new(alloc, worked_id())?)?;
     Ok(ReadContext::new(ids))
 }
 
@@ -98,8 +103,8 @@ pub(crate) fn recoded(
     recoded_under(alloc, blob, dtype, len, ctx, &session)
 }
 
-// Whether buffers are these bytes, one after the other.
-fn are_joined(alloc: Global, buffers: &ByteBuffers, bytes: &[u8]) -> bool {
+/// Whether buffers are these bytes, one after the other.
+pub(crate) fn are_joined(alloc: Global, buffers: &ByteBuffers, bytes: &[u8]) -> bool {
     match buffers.join(alloc) {
         Ok(joined) => joined.as_slice() == bytes,
         Err(_) => false,

@@ -24,13 +24,13 @@ fn blob_with(alloc: Global, place: usize, byte: u8) -> Result<ByteBuffer, WireEr
     Ok(ByteBuffer::from_vec(blob)?)
 }
 
-// The bytes of the worked blob's buffer.
-fn numbers() -> &'static [u8] {
+/// The bytes of the worked blob's buffer.
+pub(crate) fn numbers() -> &'static [u8] {
     &BLOB[..16]
 }
 
-// The blob whose node names the second identifier.
-fn second() -> &'static [u8] {
+/// The blob whose node names the second identifier.
+pub(crate) fn second() -> &'static [u8] {
     &BLOB_OF_SECOND
 }
 

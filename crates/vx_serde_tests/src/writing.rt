@@ -1,57 +1,59 @@
 //! Arrays written as blobs, and why they are not.
 
-use crate::files::{BLOB, BLOB_OF_SECOND, IDS, PADDED_BLOB};
+use crate::blobs::{are_joined, shipped, worked_blob, worked_id};
+use crate::files::PADDED_BLOB;
+use crate::nodes::{numbers, second};
 use std::alloc::Global;
-use std::test::Fail;
 use vx_arrays::{Array, ArrayError, PrimitiveArray};
 use vx_buffer::{Alignment, BufferHandle, ByteBuffer, ByteBuffers};
-use vx_registry::{ArrayContext, ArraySession, VortexSession};
+use vx_registry::{ArrayContext, ArraySession, RegistryError, VortexSession};
 use vx_serde::{ArrayExt, SerializeOptions, WireError};
 use vx_type_wire::ExtSession;
 use vx_types::{Id, Ids, Nullability, PType, TypeError};
 
-// The numbers 1, 2, 3 and 4.
-fn four(alloc: Global) -> Result<Array, ArrayError> {
-    let alignment = match Alignment::new(4) {
+// The alignment of the numbers.
+fn alignment() -> Alignment {
+    match Alignment::new(4) {
         Some(alignment) => alignment,
         None => Alignment::none(),
-    };
-    let buffer = ByteBuffer::copy_from(alloc, &BLOB[..16])?.aligned(alignment);
-    PrimitiveArray::try_new(
-        alloc,
-        BufferHandle::new_host(buffer),
-        PType::I32,
-        Nullability::NonNullable,
-        4,
-        None,
-    )
+    }
 }
 
-// Identifiers, one a line.
-fn ids_of(alloc: Global, lines: &str) -> Result<Ids, TypeError> {
+// The numbers 1, 2, 3 and 4.
+fn four(alloc: Global) -> Result<Array, ArrayError> {
+    let buffer = ByteBuffer::copy_from(alloc, numbers())?.aligned(alignment());
+    let values = BufferHandle::new_host(buffer);
+    PrimitiveArray::try_new(alloc, values, PType::I32, Nullability::NonNullable, 4, None)
+}
+
+// A list of identifiers.
+fn ids_of(alloc: Global, texts: &[&str]) -> Result<Ids, TypeError> {
     let mut ids = Ids::new(alloc);
-    for line in lines.lines() {
-        ids.push(Id::new(alloc, line)?)?;
+    for text in texts {
+        ids.push(Id::new(alloc, text)?)?;
     }
     Ok(ids)
 }
 
-// Whether a context has these identifiers, one a line, and no other.
-fn has_ids(alloc: Global, ctx: &ArrayContext, lines: &str) -> Result<bool, Fail> {
-    let ids = ctx.to_ids(alloc)?;
-    let mut count: usize = 0;
-    for line in lines.lines() {
-        match ids.get(count) {
-            Some(id) => {
-                if id.as_str() != line {
-                    return Ok(false);
-                }
-            }
-            None => return Ok(false),
-        }
-        count += 1;
+// Whether these are the identifiers, in this order.
+fn are_ids(ids: &Ids, texts: &[&str]) -> bool {
+    if ids.len() != texts.len() {
+        return false;
     }
-    Ok(ids.len() == count)
+    for (id, text) in ids.as_slice().iter().zip(texts) {
+        if id.as_str() != *text {
+            return false;
+        }
+    }
+    true
+}
+
+// Whether a context has these identifiers, in this order, and no other.
+fn has_ids(alloc: Global, ctx: &ArrayContext, texts: &[&str]) -> bool {
+    match ctx.to_ids(alloc) {
+        Ok(ids) => are_ids(&ids, texts),
+        Err(_) => false,
+    }
 }
 
 // The options of a blob that is to stand, padded, at this position.
@@ -62,92 +64,142 @@ fn padded(offset: usize) -> SerializeOptions {
     }
 }
 
-// The four numbers as the buffers of a blob, by the encodings that are shipped.
+// The worked blob, padded for position 3.
+fn padded_blob() -> &'static [u8] {
+    &PADDED_BLOB
+}
+
+// The four numbers as the buffers of a blob.
+fn written_by(
+    alloc: Global,
+    options: &SerializeOptions,
+    ctx: &mut ArrayContext,
+    session: &VortexSession,
+) -> Result<ByteBuffers, WireError> {
+    match four(alloc) {
+        Ok(array) => array.serialize(alloc, ctx, session, options),
+        Err(_) => Err(WireError::OutOfMemory),
+    }
+}
+
+// The same by the encodings that are shipped.
 fn written(
     alloc: Global,
     options: &SerializeOptions,
     ctx: &mut ArrayContext,
-) -> Result<ByteBuffers, Fail> {
-    let array = four(alloc)?;
-    let session = VortexSession::new(ArraySession::default(alloc)?, ExtSession::new(alloc));
-    Ok(array.serialize(alloc, ctx, &session, options)?)
+) -> Result<ByteBuffers, WireError> {
+    let session = shipped(alloc)?;
+    written_by(alloc, options, ctx, &session)
+}
+
+// Whether a buffer is empty and aligned to 8.
+fn is_first(buffer: &ByteBuffer) -> bool {
+    buffer.is_empty() && buffer.alignment().exponent() == 3
 }
 
 // Whether buffers are a blob: a first one that is empty and aligned to 8, and together these bytes.
-fn are_blob(alloc: Global, buffers: &ByteBuffers, blob: &[u8]) -> Result<bool, Fail> {
-    let Some(first) = buffers.get(0) else {
-        return Ok(false);
-    };
-    let aligned = first.is_empty() && first.alignment().exponent() == 3;
-    Ok(aligned && buffers.join(alloc)?.as_slice() == blob)
+fn are_blob(alloc: Global, buffers: &ByteBuffers, blob: &[u8]) -> bool {
+    match buffers.get(0) {
+        Some(first) => is_first(first) && are_joined(alloc, buffers, blob),
+        None => false,
+    }
+}
+
+// Whether the four numbers are written as a blob.
+fn is_written(
+    alloc: Global,
+    options: &SerializeOptions,
+    ctx: &mut ArrayContext,
+    blob: &[u8],
+) -> bool {
+    match written(alloc, options, ctx) {
+        Ok(buffers) => are_blob(alloc, &buffers, blob),
+        Err(_) => false,
+    }
+}
+
+// A context that begins with these identifiers.
+fn begun(alloc: Global, texts: &[&str]) -> Result<ArrayContext, RegistryError> {
+    match ids_of(alloc, texts) {
+        Ok(ids) => ArrayContext::new(alloc, &ids),
+        Err(_) => Err(RegistryError::OutOfMemory),
+    }
 }
 
 // Whether the four numbers are written as a blob, from these identifiers on, which go on to be those.
 fn are_written(
     alloc: Global,
     options: &SerializeOptions,
-    before: &str,
+    before: &[&str],
     blob: &[u8],
-    after: &str,
-) -> Result<bool, Fail> {
-    let before = ids_of(alloc, before)?;
-    let mut ctx = ArrayContext::new(alloc, &before)?;
-    let buffers = written(alloc, options, &mut ctx)?;
-    Ok(are_blob(alloc, &buffers, blob)? && has_ids(alloc, &ctx, after)?)
+    after: &[&str],
+) -> Result<bool, RegistryError> {
+    let mut ctx = begun(alloc, before)?;
+    let same = is_written(alloc, options, &mut ctx, blob);
+    Ok(same && has_ids(alloc, &ctx, after))
+}
+
+// The same without padding.
+fn are_plainly_written(alloc: Global, before: &[&str], blob: &[u8], after: &[&str]) -> bool {
+    are_written(alloc, &SerializeOptions::default(), before, blob, after) == Ok(true)
 }
 
 #[test]
-fn an_array_is_written(rt: HostRuntime) -> Result<(), Fail> {
+fn an_array_is_written(rt: HostRuntime) {
     let alloc = rt.alloc();
-    let plain = SerializeOptions::default();
-    assert!(rt; are_written(alloc, &plain, "", &BLOB, IDS)?);
-    assert!(rt; are_written(alloc, &plain, IDS, &BLOB, IDS)?);
-    let second = "a\nvortex.primitive\n";
-    assert!(rt; are_written(alloc, &plain, "a\n", &BLOB_OF_SECOND, second)?);
-    assert!(rt; are_written(alloc, &padded(3), "", &PADDED_BLOB, IDS)?);
-    Ok(())
+    let id = worked_id();
+    assert!(rt; are_plainly_written(alloc, &[], worked_blob(), &[id]));
+    assert!(rt; are_plainly_written(alloc, &[id], worked_blob(), &[id]));
+    assert!(rt; are_plainly_written(alloc, &["a"], second(), &["a", id]));
+    assert!(rt; are_written(alloc, &padded(3), &[], padded_blob(), &[id]) == Ok(true));
+}
+
+// A context that allows these identifiers.
+fn limited(alloc: Global, texts: &[&str]) -> Result<ArrayContext, RegistryError> {
+    match ids_of(alloc, texts) {
+        Ok(ids) => ArrayContext::empty(alloc).with_allowed_ids(alloc, &ids),
+        Err(_) => Err(RegistryError::OutOfMemory),
+    }
 }
 
 // Whether the four numbers are refused so, and a context that allows some identifiers has taken these.
 fn are_refused(
     alloc: Global,
-    arrays: ArraySession,
-    allowed: &str,
-    taken: &str,
+    session: &VortexSession,
+    allowed: &[&str],
+    taken: &[&str],
     options: &SerializeOptions,
     error: WireError,
-) -> Result<bool, Fail> {
-    let array = four(alloc)?;
-    let session = VortexSession::new(arrays, ExtSession::new(alloc));
-    let allowed = ids_of(alloc, allowed)?;
-    let mut ctx = ArrayContext::empty(alloc).with_allowed_ids(alloc, &allowed)?;
-    let refused = match array.serialize(alloc, &mut ctx, &session, options) {
-        Ok(_) => false,
-        Err(e) => e == error,
-    };
-    Ok(refused && has_ids(alloc, &ctx, taken)?)
+) -> Result<bool, RegistryError> {
+    let mut ctx = limited(alloc, allowed)?;
+    let refused = written_by(alloc, options, &mut ctx, session).err();
+    Ok(refused == Some(error) && has_ids(alloc, &ctx, taken))
+}
+
+// Whether the shipped encodings do not write what the context does not allow, nor for a place past any end.
+fn is_limited(alloc: Global, session: &VortexSession) -> bool {
+    let plain = SerializeOptions::default();
+    let end = padded(usize::MAX);
+    let barred = WireError::NotPermitted;
+    let id = worked_id();
+    are_refused(alloc, session, &["vortex.bool"], &[], &plain, barred) == Ok(true)
+        && are_refused(alloc, session, &[id], &[id], &end, WireError::WireLimit) == Ok(true)
+}
+
+// Whether the empty session does not write what the context allows.
+fn is_unwritten(alloc: Global) -> bool {
+    let session = VortexSession::new(ArraySession::empty(alloc), ExtSession::new(alloc));
+    let plain = SerializeOptions::default();
+    let missing = WireError::NotRegistered;
+    are_refused(alloc, &session, &[worked_id()], &[], &plain, missing) == Ok(true)
 }
 
 #[test]
-fn an_array_is_not_written(rt: HostRuntime) -> Result<(), Fail> {
-    let alloc = rt.alloc();
-    let plain = SerializeOptions::default();
-    let shipped = ArraySession::default(alloc)?;
-    assert!(rt;
-        are_refused(
-            alloc,
-            shipped,
-            "vortex.bool\n",
-            "",
-            &plain,
-            WireError::NotPermitted
-        )?
-    );
-    let shipped = ArraySession::default(alloc)?;
-    let end = padded(usize::MAX);
-    assert!(rt; are_refused(alloc, shipped, IDS, IDS, &end, WireError::WireLimit)?);
-    let nothing = ArraySession::empty(alloc);
-    assert!(rt; are_refused(alloc, nothing, IDS, "", &plain, WireError::NotRegistered)?);
+fn an_array_is_not_written(rt: HostRuntime) {
+    match shipped(rt.alloc()) {
+        Ok(session) => assert!(rt; is_limited(rt.alloc(), &session)),
+        Err(_) => assert!(rt; false),
+    }
+    assert!(rt; is_unwritten(rt.alloc()));
     assert_eq!(rt; WireError::NotRegistered.number(), 25);
-    Ok(())
 }
