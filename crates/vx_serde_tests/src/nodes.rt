@@ -387,3 +387,27 @@ fn twenty_levels_weigh_too_much(rt: HostRuntime) {
         Err(_) => assert!(rt; false),
     }
 }
+
+// The same, whose last node has metadata of two bytes, of which the message holds one.
+fn ill_formed_leaf(alloc: Global) -> Result<Vec<u8>, AllocError> {
+    let mut blob = twenty_levels(alloc)?;
+    if let Some(byte) = blob.get_mut(656) {
+        *byte = 2;
+    }
+    Ok(blob)
+}
+
+// Whether it is no table, and nothing is added to the context.
+fn is_no_table(alloc: Global, blob: &[u8]) -> bool {
+    let mut ctx = ArrayContext::empty(alloc);
+    refusal(alloc, blob, &DType::Null, 0, &mut ctx) == Some(WireError::BadTable)
+        && count_of(alloc, &ctx) == Some(0)
+}
+
+#[test]
+fn twenty_levels_over_an_ill_formed_leaf(rt: HostRuntime) {
+    match ill_formed_leaf(rt.alloc()) {
+        Ok(blob) => assert!(rt; is_no_table(rt.alloc(), &blob)),
+        Err(_) => assert!(rt; false),
+    }
+}
