@@ -1,77 +1,10 @@
 //! Tests of arrays of numbers and of nulls: their rows, their parts and their refusals, with the texts.
 
-use crate::printed::prints;
+use crate::parts::{aligned_to, buffer_of, is_row, numbers, prints, value_at};
 use std::alloc::Global;
 use vx_arrays::{Array, ArrayError, Arrays, Body, NullArray, PrimitiveArray, RowValue};
-use vx_buffer::{Alignment, BufferHandle, ByteBuffer};
+use vx_buffer::{Alignment, BufferHandle};
 use vx_types::{DType, Nullability, PType, PValue};
-
-/// The alignment of two to this exponent, or none.
-pub(crate) fn aligned_to(exponent: u8) -> Alignment {
-    match Alignment::from_exponent(exponent) {
-        Some(alignment) => alignment,
-        None => Alignment::none(),
-    }
-}
-
-pub(crate) fn buffer_of(
-    alloc: Global,
-    bytes: &[u8],
-    alignment: Alignment,
-) -> Result<BufferHandle, ArrayError> {
-    let buffer = ByteBuffer::copy_from(alloc, bytes)?;
-    Ok(BufferHandle::new_host(buffer.aligned(alignment)))
-}
-
-// The alignment of the numbers of a kind.
-fn alignment_of(kind: PType) -> Alignment {
-    match Alignment::new(kind.byte_width()) {
-        Some(alignment) => alignment,
-        None => Alignment::none(),
-    }
-}
-
-pub(crate) fn numbers(
-    alloc: Global,
-    bytes: &[u8],
-    kind: PType,
-    len: usize,
-) -> Result<Array, ArrayError> {
-    let values = buffer_of(alloc, bytes, alignment_of(kind))?;
-    PrimitiveArray::try_new(alloc, values, kind, Nullability::NonNullable, len, None)
-}
-
-// Whether a row is there, if that is known and there is such a row.
-fn is_there(array: &Array, index: usize) -> Option<bool> {
-    if index >= array.len() {
-        return None;
-    }
-    array.is_valid(index)
-}
-
-/// The value of a row, for so many cells.
-pub(crate) fn value_at(
-    alloc: Global,
-    array: &Array,
-    index: usize,
-    budget: u64,
-) -> Result<RowValue, ArrayError> {
-    if index >= array.len() {
-        return Err(ArrayError::BadShape);
-    }
-    array.value_at(alloc, index, budget)
-}
-
-/// Whether a row is there or not, and has this value.
-pub(crate) fn is_row(
-    alloc: Global,
-    array: &Array,
-    index: usize,
-    there: bool,
-    value: RowValue,
-) -> bool {
-    is_there(array, index) == Some(there) && value_at(alloc, array, index, 1) == Ok(value)
-}
 
 /// The value of the last row, where there is a row.
 pub(crate) fn last_value(alloc: Global, array: &Array) -> Result<Option<RowValue>, ArrayError> {

@@ -1,23 +1,13 @@
 //! Tests of flags, and of validities: which are made, what their rows are, and what is refused.
 
-use crate::arrays::{aligned_to, buffer_of, has_buffer, is_row, last_value};
+use crate::arrays::{has_buffer, last_value};
+use crate::parts::{aligned_to, buffer_of, flags, is_row};
 use std::alloc::Global;
 use vx_arrays::{
     Array, ArrayError, BoolArray, NullArray, PrimitiveArray, RowValue, validity_all_invalid,
 };
 use vx_buffer::Alignment;
 use vx_types::{Nullability, PType, PValue};
-
-/// Flags that are never null.
-pub(crate) fn flags(
-    alloc: Global,
-    bytes: &[u8],
-    offset: usize,
-    len: usize,
-) -> Result<Array, ArrayError> {
-    let bits = buffer_of(alloc, bytes, Alignment::none())?;
-    BoolArray::try_new(alloc, bits, offset, len, Nullability::NonNullable, None)
-}
 
 // Flags that may be null, with a validity.
 fn flags_with(

@@ -1,7 +1,6 @@
 //! Tests of slices, alignments and lists of buffers, and of the texts of errors.
 
-use crate::arrays::aligned_to;
-use crate::printed::prints;
+use crate::parts::{aligned_to, prints};
 use std::alloc::Global;
 use std::hash::{FoldHasher, Hasher};
 use vx_buffer::{Alignment, BufferError, BufferHandle, BufferHandles, ByteBuffer, ByteBuffers};

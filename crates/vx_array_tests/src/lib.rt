@@ -1,4 +1,5 @@
-//! Tests of buffers, arrays, encodings and sessions, each module over its crate's public calls.
+//! Tests of buffers, of arrays of numbers, flags and nulls, and of sessions, each module over its crate's public calls;
+//! and the parts that other tests of arrays are made of too.
 #![tactic(auto)]
 
 #[cfg(test)]
@@ -7,21 +8,8 @@ mod arrays;
 mod bools;
 #[cfg(test)]
 mod buffers;
-#[cfg(test)]
-mod decimals;
-#[cfg(test)]
-mod encodings;
-#[cfg(test)]
-mod printed;
+pub mod parts;
 #[cfg(test)]
 mod registry;
 #[cfg(test)]
-mod same;
-#[cfg(test)]
 mod sessions;
-#[cfg(test)]
-mod slots;
-#[cfg(test)]
-mod statistics;
-#[cfg(test)]
-mod varbins;

@@ -1,7 +1,7 @@
 //! Tests of what sessions register, of an array's parts as they are written, and of contexts that begin with
 //! identifiers or limit them.
 
-use crate::arrays::numbers;
+use crate::parts::numbers;
 use std::alloc::{AllocFailed, Global};
 use vx_arrays::{Array, ArrayError, Arrays};
 use vx_buffer::BufferHandles;

@@ -1,7 +1,8 @@
 //! Nodes of rows by views: which are planned, and built.
 
-use crate::parts::{Rows, aligned_to, buffer_of, dtype_of};
+use crate::parts::{Rows, dtype_of};
 use std::alloc::Global;
+use vx_array_tests::parts::{aligned_to, buffer_of};
 use vx_arrays::{Array, Arrays};
 use vx_buffer::BufferHandles;
 use vx_encodings::{ArrayHead, Encoding, EncodingError, build, metadata, plan};

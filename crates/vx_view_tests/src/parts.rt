@@ -1,8 +1,9 @@
 //! Arrays of rows by views, made of their parts.
 
 use std::alloc::Global;
-use vx_arrays::{Array, ArrayError, BoolArray, VarBinViewArray};
-use vx_buffer::{Alignment, BufferHandle, ByteBuffer};
+use vx_array_tests::parts::{aligned_to, buffer_of, flags};
+use vx_arrays::{Array, ArrayError, VarBinViewArray};
+use vx_buffer::{Alignment, BufferHandle};
 use vx_types::{DType, Nullability};
 
 // What the rows are.
@@ -25,29 +26,6 @@ pub(crate) fn dtype_of(rows: Rows) -> DType {
     }
 }
 
-/// The alignment of two to this exponent, or none.
-pub(crate) fn aligned_to(exponent: u8) -> Alignment {
-    match Alignment::from_exponent(exponent) {
-        Some(alignment) => alignment,
-        None => Alignment::none(),
-    }
-}
-
-pub(crate) fn buffer_of(
-    alloc: Global,
-    bytes: &[u8],
-    alignment: Alignment,
-) -> Result<BufferHandle, ArrayError> {
-    let buffer = ByteBuffer::copy_from(alloc, bytes)?;
-    Ok(BufferHandle::new_host(buffer.aligned(alignment)))
-}
-
-// The validity of at most eight rows by their bits.
-fn flags(alloc: Global, bits: u8, len: usize) -> Result<Array, ArrayError> {
-    let bits = buffer_of(alloc, &[bits], Alignment::none())?;
-    BoolArray::try_new(alloc, bits, 0, len, Nullability::NonNullable, None)
-}
-
 // Rows by views, with the bits of a validity of so many rows, where there are some.
 fn made_by(
     alloc: Global,
@@ -61,7 +39,7 @@ fn made_by(
     match bits {
         None => VarBinViewArray::try_new(alloc, dtype_of(rows), len, data, views, None),
         Some(bits) => {
-            let validity = flags(alloc, bits, count)?;
+            let validity = flags(alloc, &[bits], 0, count)?;
             VarBinViewArray::try_new(alloc, dtype_of(rows), len, data, views, Some(validity))
         }
     }

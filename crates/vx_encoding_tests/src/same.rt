@@ -1,12 +1,11 @@
 //! Tests of which arrays are equal, of their hashes, and of arrays with other buffers.
 
-use crate::arrays::{aligned_to, buffer_of, numbers};
-use crate::bools::flags;
 use crate::decimals::decimals;
 use crate::statistics::{tell, told};
 use crate::varbins::one_text;
 use std::alloc::Global;
 use std::hash::{FoldHasher, Hasher};
+use vx_array_tests::parts::{aligned_to, buffer_of, flags, numbers};
 use vx_arrays::{Array, ArrayError, NullArray, PrimitiveArray, VarBinViewArray};
 use vx_buffer::BufferHandles;
 use vx_scalars::Stat;

@@ -1,10 +1,9 @@
 //! Tests of texts and bytes by offsets: their rows, which arrays are made, the cells that a row takes, and their nodes on
 //! the wire.
 
-use crate::arrays::{buffer_of, numbers, value_at};
-use crate::bools::flags;
 use crate::encodings::{head_of, plan_refusal};
 use std::alloc::Global;
+use vx_array_tests::parts::{buffer_of, flags, numbers, value_at};
 use vx_arrays::{Array, ArrayError, RowValue, VarBinArray};
 use vx_buffer::Alignment;
 use vx_encodings::{Encoding, EncodingError, VarBinMetadata, metadata};

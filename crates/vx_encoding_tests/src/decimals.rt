@@ -1,8 +1,8 @@
 //! Tests of decimals: the rows of each width, which arrays are made, and their nodes on the wire.
 
-use crate::arrays::{aligned_to, buffer_of, is_row};
 use crate::encodings::{buffers_of, head_of, is_built, plan_refusal};
 use std::alloc::{AllocError, Global};
+use vx_array_tests::parts::{aligned_to, buffer_of, is_row};
 use vx_arrays::{Array, ArrayError, DecimalArray, RowValue};
 use vx_buffer::{Alignment, BufferHandle};
 use vx_encodings::{ArrayHead, DecimalMetadata, Encoding, EncodingError};

@@ -1,8 +1,7 @@
 //! Tests of one level: planned, built and written; and of the texts of errors.
 
-use crate::arrays::{aligned_to, buffer_of};
-use crate::printed::prints;
 use std::alloc::Global;
+use vx_array_tests::parts::{aligned_to, buffer_of, prints};
 use vx_arrays::{Array, Arrays};
 use vx_buffer::{Alignment, BufferHandles};
 use vx_encodings::{

@@ -1,8 +1,8 @@
 //! Tests of the names of slots and of buffers.
 
-use crate::arrays::buffer_of;
 use crate::varbins::one_text;
 use std::alloc::Global;
+use vx_array_tests::parts::buffer_of;
 use vx_arrays::{
     Array, ArrayError, BoolArray, DecimalArray, NullArray, PrimitiveArray, validity_all_invalid,
 };

@@ -1,7 +1,7 @@
 //! Tests of the statistics of arrays.
 
-use crate::arrays::numbers;
 use std::alloc::Global;
+use vx_array_tests::parts::numbers;
 use vx_arrays::{Array, ArrayError};
 use vx_scalars::{Precision, ScalarError, ScalarValue, Stat, StatsSet};
 use vx_types::{PType, PValue};

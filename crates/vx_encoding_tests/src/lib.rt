@@ -1,0 +1,16 @@
+//! Tests of encodings: decimals, texts and bytes by offsets, nodes, and what arrays of each encoding tell: the names of
+//! their parts, statistics, and which arrays are equal.
+#![tactic(auto)]
+
+#[cfg(test)]
+mod decimals;
+#[cfg(test)]
+mod encodings;
+#[cfg(test)]
+mod same;
+#[cfg(test)]
+mod slots;
+#[cfg(test)]
+mod statistics;
+#[cfg(test)]
+mod varbins;
