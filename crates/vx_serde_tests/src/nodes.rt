@@ -69,11 +69,21 @@ fn decoded_by(
     }
 }
 
-// How many rows a node tells then, by the encodings that are shipped, or its refusal.
+// How many rows a node tells then, or its refusal.
+fn rows_by(
+    alloc: Global,
+    node: &SerializedNode<'_>,
+    len: usize,
+    session: &VortexSession,
+) -> Result<usize, WireError> {
+    let array = decoded_by(alloc, node, len, session)?;
+    Ok(array.len())
+}
+
+// The same by the encodings that are shipped.
 fn rows(alloc: Global, node: &SerializedNode<'_>, len: usize) -> Result<usize, WireError> {
     let session = shipped(alloc)?;
-    let array = decoded_by(alloc, node, len, &session)?;
-    Ok(array.len())
+    rows_by(alloc, node, len, &session)
 }
 
 // Whether so many rows are decoded, or so refused.

@@ -5,17 +5,17 @@ use Rattle.vx_serde_tests.proofs.Roots.{then_idle, then_works, vector_next, vect
 use Rattle.vx_serde_tests.proofs.array_nodes.built.Goals as goal
 
 pub link-requires-2-clause-idle : goal.link-requires-2-clause-idle
-link-requires-2-clause-idle g c = λ _.
+link-requires-2-clause-idle c = λ _.
     then_idle _ _ _ c.link.new.self c.try_write_flatbuffer.new.builder (c.in_ok-try_write_flatbuffer.ensures.written no_readers)
 
 pub link-requires-2-clause-next : goal.link-requires-2-clause-next
-link-requires-2-clause-next g c = λ _.
+link-requires-2-clause-next c = λ _.
     let waits = c.link.ensures.waits (ap (λ (b : Built). b.failed) c.in_ok-root.ensures.written) in
     vector_next c.new-builder.result c.table.new.self c.link.new.self c.try_write_flatbuffer.new.builder c.new-builder.ensures c.in_ok-root.ensures.written waits
     (c.in_ok-try_write_flatbuffer.ensures.written no_readers).linked _ c.in_ok-root.ensures.number
 
 pub vector-requires-clause-takes : goal.vector-requires-clause-takes
-vector-requires-clause-takes g c = λ _.
+vector-requires-clause-takes c = λ _.
     let waits = c.link.ensures.waits (ap (λ (b : Built). b.failed) c.in_ok-root.ensures.written) in
     let wrote = c.in_ok-try_write_flatbuffer.ensures.written no_readers in
     let works = then_works _ _ _ c.link.new.self c.try_write_flatbuffer.new.builder wrote in
@@ -23,7 +23,7 @@ vector-requires-clause-takes g c = λ _.
     c.link-2.new.self (c.link-2.ensures.waits works)
 
 pub finish-requires-clause-linked : goal.finish-requires-clause-linked
-finish-requires-clause-linked g c = λ _.
+finish-requires-clause-linked c = λ _.
     let waits = c.link.ensures.waits (ap (λ (b : Built). b.failed) c.in_ok-root.ensures.written) in
     let wrote = c.in_ok-try_write_flatbuffer.ensures.written no_readers in
     let works = then_works _ _ _ c.link.new.self c.try_write_flatbuffer.new.builder wrote in
