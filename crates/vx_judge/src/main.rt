@@ -24,9 +24,12 @@ fn ids_of(alloc: Global, word: &str) -> Result<ReadContext> {
 fn main(rt: HostRuntime) -> Result<()> {
     let alloc = rt.alloc();
     let mut words = env::args(&rt)?.skip(1);
-    let (Some(of), Some(from), Some(len), Some(ids)) =
-        (words.next(), words.next(), words.next(), words.next())
-    else {
+    let (Some(of), Some(from), Some(len), Some(ids)) = (
+        words.next(),
+        words.next(),
+        words.next(),
+        words.next(),
+    ) else {
         bail!("usage: vx_judge TYPE BLOB LEN ID,.. [ROUNDS]");
     };
     let message = fs::read(&rt, of.as_str()).context(format_args!("reading {of}"))?;
