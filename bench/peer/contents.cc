@@ -48,6 +48,6 @@ int main(int count, char **words) {
   auto judge = std::strcmp(words[1], "views") == 0 ? are_views : are_offsets;
   auto told = read_file(words[2]), buffer = read_file(words[3]);
   if (!judge(told, buffer)) return std::fputs("broken\n", stderr), 1;
-  std::printf("%s, right\n", words[1]);
+  std::printf("the %s are right\n", words[1]);
   print_least("judge", std::atoi(words[4]), [&] { return judge(told, buffer); });
 }
