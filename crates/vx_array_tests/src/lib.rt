@@ -12,6 +12,8 @@ mod decimals;
 #[cfg(test)]
 mod encodings;
 #[cfg(test)]
+mod lists_of_one_size;
+#[cfg(test)]
 mod printed;
 #[cfg(test)]
 mod registry;
@@ -23,5 +25,7 @@ mod sessions;
 mod slots;
 #[cfg(test)]
 mod statistics;
+#[cfg(test)]
+mod structs;
 #[cfg(test)]
 mod varbins;

@@ -9,3 +9,10 @@ mod Comparing
 mod Feeding
 mod Rebuffered
 pub mod LawsSame
+mod SameRows
+mod Firsts
+mod Counted
+mod Sized
+mod Fielded
+mod Columns
+mod Made
