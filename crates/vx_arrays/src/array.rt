@@ -22,6 +22,8 @@ ghost use Rattle.vx_arrays.specs.Refused.{IsRowRefused, IsOkOrMemory};
 use crate::body::Body;
 use crate::error::ArrayError;
 use crate::fixed_size_list::FixedSizeListArray;
+use crate::new_buffers::without_buffers;
+use crate::null::NullArray;
 use crate::parts::{LoneRow, RowParts, built};
 use crate::row::RowValue;
 use crate::structs::StructArray;
@@ -81,7 +83,7 @@ impl Array {
     }
 
     // An array of parts that are sound together.
-    fn with_parts(
+    pub(crate) fn with_parts(
         dtype: DType,
         len: usize,
         stats: StatsSet,
@@ -339,6 +341,10 @@ impl Array {
             Body::Decimal(decimals) => decimals.with_buffers(alloc, dtype, len, children, buffers),
             Body::VarBin(parts) => parts.with_buffers(alloc, dtype, len, children, buffers),
             Body::VarBinView(views) => views.with_buffers(alloc, dtype, len, children, buffers),
+            Body::FixedSizeList => {
+                without_buffers(alloc, dtype, len, Body::FixedSizeList, children, buffers)
+            }
+            Body::Struct => without_buffers(alloc, dtype, len, Body::Struct, children, buffers),
         }
     }
 
