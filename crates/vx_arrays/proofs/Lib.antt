@@ -1,4 +1,5 @@
 mod Naturals
+pub mod Cloned
 mod Rising
 mod Parted
 mod Viewed
