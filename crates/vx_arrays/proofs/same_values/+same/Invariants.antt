@@ -1,7 +1,7 @@
 use Rattle.std.proofs.Common.{◌≡◌, take}
 use Rattle.vx_arrays.specs.Falls.{value_size, slice_size}
 use Rattle.vx_arrays.specs.Plain.{plain_value, plain_values}
-use Rattle.vx_arrays.proofs.same.+same.Given as goal
+use Rattle.vx_arrays.proofs.same_values.+same.Given as goal
 
 abbrev pub decreases-is_same : goal.decreases-is_same
 decreases-is_same l = value_size (plain_value l.a.now)
