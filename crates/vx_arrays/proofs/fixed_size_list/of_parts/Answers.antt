@@ -13,7 +13,7 @@ use Rattle.vx_arrays.proofs.fixed_size_list.of_parts.Goals as goal
 pub from_parts-requires-clause-shaped : goal.from_parts-requires-clause-shaped
 from_parts-requires-clause-shaped c =
     let e = c.in_ok-dtype.ensures.ok ∙ ap (λ (x : Typ). node (fixed_size_list c.args.size c.args.nullability) (more x end)) c.dtype.ensures.dtype in
-    made_shaped (typ c.in_ok-dtype.value) c.args.size c.args.nullability c.args.len c.args.elements (option_trees c.args.validity) (roses_of c.in_ok-children.value.items) e c.in_ok-children.ensures.children
+    made_shaped (typ c.in_ok-dtype.dtype) c.args.size c.args.nullability c.args.len c.args.elements (option_trees c.args.validity) (roses_of c.in_ok-children.children.items) e c.in_ok-children.ensures.children
     c.requires.shaped
 
 pub from_parts-requires-clause-content : goal.from_parts-requires-clause-content
@@ -26,7 +26,7 @@ from_parts-requires-clause-below c =
 pub returns-clause-ok : goal.returns-clause-ok
 returns-clause-ok c =
     let e = c.in_ok-dtype.ensures.ok ∙ ap (λ (x : Typ). node (fixed_size_list c.args.size c.args.nullability) (more x end)) c.dtype.ensures.dtype in
-    made_tree (typ c.in_ok-dtype.value) c.args.size c.args.nullability c.args.len c.args.elements (option_trees c.args.validity) (roses_of c.in_ok-children.value.items) e c.in_ok-children.ensures.children
+    made_tree (typ c.in_ok-dtype.dtype) c.args.size c.args.nullability c.args.len c.args.elements (option_trees c.args.validity) (roses_of c.in_ok-children.children.items) e c.in_ok-children.ensures.children
     c.from_parts.result c.from_parts.ensures.array
 
 pub returns-clause-sound : goal.returns-clause-sound
