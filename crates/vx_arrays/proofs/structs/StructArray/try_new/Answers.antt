@@ -7,8 +7,8 @@ use Rattle.vx_arrays.specs.Refused.{IsUnmade, IsOkOrMemory}
 use Rattle.vx_arrays.specs.Structs.{struct_head}
 use Rattle.vx_arrays.proofs.structs.StructArray.try_new.Goals as goal
 
-pub over_columns-requires-clause-below : goal.over_columns-requires-clause-below
-over_columns-requires-clause-below c = c.in_ok-children.ensures.sound
+pub over_columns-requires : goal.over_columns-requires
+over_columns-requires c = record { below = c.in_ok-children.ensures.sound }
 
 pub returns-clause-ok : goal.returns-clause-ok
 returns-clause-ok c =
