@@ -24,8 +24,8 @@ both_parts d e m n p q = λ i. place (p i) (q i)
 
 pub column_decides : (t : Tree) (d : Typ) (n : ℕ) (b : Bool) (e : Typ) (k : ℕ) → k ≡ (label t).len → k ≡ n → e ≡ (label t).dtype → b ≡ same typ_code e d → IsTrue b ↔ (place_of t ≡ place d n)
 column_decides t d n b e k l m q h = (
-    λ x. both_parts (label t).dtype d (label t).len n (sym q ∙ (same-decides typ_code e d).0 (sym h ∙ x)) (sym l ∙ m),
-    λ x. h ∙ (same-decides typ_code e d).1 (q ∙ ap (λ (p : Place). p.dtype) x),
+  λ x. both_parts (label t).dtype d (label t).len n (sym q ∙ (same-decides typ_code e d).0 (sym h ∙ x)) (sym l ∙ m),
+  λ x. h ∙ (same-decides typ_code e d).1 (q ∙ ap (λ (p : Place). p.dtype) x),
 )
 
 -- ---- lists of them
@@ -86,15 +86,15 @@ module _ (f : Fields) (m : Nullability) (n : ℕ) where
   pub front_and_columns : (ts : Trees) (v : Tree) (us : Trees) (r : Bool) → ts ≡ more v us → (count (more v us) ≡ length f.types → ⊥) → (m ≡ Nullable) × (place_of v ≡ validity_place n)
       → (IsTrue r ↔ (places us ≡ places_at (roses_of f.types) n)) → IsTrue r ↔ IsWellShaped (struct_head f m n) ts
   front_and_columns ts v us r e k p g = (
-      λ x. subst (λ (zs : Trees). IsWellShaped (struct_head f m n) zs) (sym e) (front_right f m n v us p.0 p.1 (g.0 x)),
-      λ w. g.1 (front_decides f m n v us k (subst (λ (zs : Trees). IsWellShaped (struct_head f m n) zs) e w)).2,
+    λ x. subst (λ (zs : Trees). IsWellShaped (struct_head f m n) zs) (sym e) (front_right f m n v us p.0 p.1 (g.0 x)),
+    λ w. g.1 (front_decides f m n v us k (subst (λ (zs : Trees). IsWellShaped (struct_head f m n) zs) e w)).2,
   )
 
   pub without_front : (ts : Trees) (v : Tree) (us : Trees) (b : Bool) → ts ≡ more v us → (count (more v us) ≡ length f.types → ⊥) → (IsTrue b ↔ ((m ≡ Nullable) × (place_of v ≡ validity_place n)))
       → b ≡ false → IsTrue b ↔ IsWellShaped (struct_head f m n) ts
   without_front ts v us b e k g q = (
-      λ x. absurd (false≢true (sym q ∙ x)),
-      λ w.
+    λ x. absurd (false≢true (sym q ∙ x)),
+    λ w.
         let d = front_decides f m n v us k (subst (λ (zs : Trees). IsWellShaped (struct_head f m n) zs) e w) in
         absurd (iff_false g q (d.0, d.1)),
   )

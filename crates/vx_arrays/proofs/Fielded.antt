@@ -157,8 +157,8 @@ pub front_flags : (d : Typ) (n : ℕ) (v : Tree) (us : Trees) → IsSoundNode (u
 front_flags d n v us s k =
     let b = sound_behind d n (more v us) s in
     elim (b.ways) [
-      inl x ↦ absurd (too_many (count us) (width_of d) (x.0 ∙ places_length (below d) n ∙ sym (width_is d)) k) |
-      inr x ↦ (one_behind v us (validity_place n) (places_at (below d) n) x.1).0
+      | inl x ↦ absurd (too_many (count us) (width_of d) (x.0 ∙ places_length (below d) n ∙ sym (width_is d)) k)
+      | inr x ↦ (one_behind v us (validity_place n) (places_at (below d) n) x.1).0
     ]
   where
     too_many : (a w : ℕ) → suc a ≡ w → a ≡ w → ⊥
@@ -293,8 +293,8 @@ module _ (f : Fields) (m : Nullability) (n : ℕ) (v : Tree) (us : Trees) where
   front_decides other h =
       let b = shaped_behind f m n (more v us) h in
       elim (b.ways) [
-        inl x ↦ absurd (other (x.0 ∙ width f m n (more v us))) |
-        inr x ↦ (
+        | inl x ↦ absurd (other (x.0 ∙ width f m n (more v us)))
+        | inr x ↦ (
           h.allows (x.0 ∙ ap (λ j. suc j) (places_length (roses_of f.types) n)),
           (one_behind v us (validity_place n) (places_at (roses_of f.types) n) x.1).0,
           (one_behind v us (validity_place n) (places_at (roses_of f.types) n) x.1).1,

@@ -16,3 +16,4 @@ mod Sized
 mod Fielded
 mod Columns
 mod Made
+mod Judged

@@ -136,9 +136,9 @@ module _ (s : ℕ) (m : Nullability) (n : ℕ) (o : Tree) (vs : Trees) where
   -- Else it is the validity that decides.
   pub validity_decides : (b r : Bool) → (IsTrue b ↔ ((label o).len ≡ n * s)) → b ≡ true → (label o).len < 2 ^ 64 → (IsTrue r ↔ IsValidity m n vs) → IsTrue r ↔ IsWellShaped (fixed_size_list_head (label o).dtype s m n) (more o vs)
   validity_decides b r f q lt v = (
-      λ x. shaped_of (f.0 q) lt (v.0 x),
-      λ h. v.1 (record { planned = (shaped_front h).1; allowed = λ j. h.allows (ap (λ k. suc k) j) }),
-    )
+    λ x. shaped_of (f.0 q) lt (v.0 x),
+    λ h. v.1 (record { planned = (shaped_front h).1; allowed = λ j. h.allows (ap (λ k. suc k) j) }),
+  )
 
 -- ---- what is made of parts of that shape
 

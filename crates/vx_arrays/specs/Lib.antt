@@ -6,6 +6,9 @@ pub mod Decimals
 pub mod VarBins
 pub mod VarBinViews
 pub mod FixedSizeLists
+pub mod Extensions
+pub mod Lists
+pub mod Spots
 pub mod Structs
 pub mod Validity
 pub mod Slots

@@ -22,12 +22,13 @@ ghost use Rattle.vx_arrays.specs.Refused.{IsRowRefused, IsOkOrMemory};
 use crate::body::Body;
 use crate::error::ArrayError;
 use crate::fixed_size_list::FixedSizeListArray;
+use crate::lists::ListArray;
 use crate::new_buffers::without_buffers;
 use crate::null::NullArray;
 use crate::parts::{LoneRow, RowParts, built};
 use crate::row::RowValue;
 use crate::structs::StructArray;
-use crate::validity::validity_at;
+use crate::validity::{parted, validity_at};
 use std::alloc::Global;
 use std::marker::Model;
 use vx_buffer::{BufferHandle, BufferHandles};
@@ -228,6 +229,13 @@ impl Array {
             Body::Struct => {
                 StructArray::valid_at(&self.dtype, self.len, self.children.as_slice(), index)
             }
+            Body::List => {
+                ListArray::valid_at(&self.dtype, self.len, self.children.as_slice(), index)
+            }
+            Body::Ext => {
+                let (storage, _) = parted(self.children.as_slice());
+                storage.is_valid(index)
+            }
         }
     }
 
@@ -244,7 +252,7 @@ impl Array {
             Body::Decimal(_) => None,
             Body::VarBin(_) => None,
             Body::VarBinView(_) => None,
-            Body::FixedSizeList | Body::Struct => None,
+            Body::FixedSizeList | Body::Struct | Body::Ext | Body::List => None,
         }
     }
 
@@ -262,7 +270,7 @@ impl Array {
             Body::Decimal(_) => None,
             Body::VarBin(_) => None,
             Body::VarBinView(_) => None,
-            Body::FixedSizeList | Body::Struct => None,
+            Body::FixedSizeList | Body::Struct | Body::Ext | Body::List => None,
         }
     }
 
@@ -287,6 +295,11 @@ impl Array {
             Body::VarBinView(views) => RowParts::Lone(views.row_at(dtype, len, children, index)),
             Body::FixedSizeList => FixedSizeListArray::parts_at(dtype, len, children, index),
             Body::Struct => StructArray::parts_at(dtype, len, children, index),
+            Body::List => ListArray::parts_at(dtype, len, children, index),
+            Body::Ext => {
+                let (array, _) = parted(children);
+                RowParts::At { array, index }
+            }
         }
     }
 
@@ -345,6 +358,8 @@ impl Array {
                 without_buffers(alloc, dtype, len, Body::FixedSizeList, children, buffers)
             }
             Body::Struct => without_buffers(alloc, dtype, len, Body::Struct, children, buffers),
+            Body::List => without_buffers(alloc, dtype, len, Body::List, children, buffers),
+            Body::Ext => without_buffers(alloc, dtype, len, Body::Ext, children, buffers),
         }
     }
 

@@ -49,3 +49,18 @@ pub(crate) fn are_offsets(offsets: &Array, parts: usize, total: usize) -> bool
     }
     last <= total as u64
 }
+
+// An offset among right ones: 0 where it is not known.
+#[tactic(auto, using(crate::proofs::Rising::parts))]
+pub(crate) fn offset_at(offsets: &Array, parts: usize, total: usize, index: usize) -> usize
+    requires counted { (label offsets.now).len ≡ suc parts }
+    requires offsets { AreOffsets (rows_of offsets.now) parts total }
+    requires inside { index ≤ parts }
+    ensures value { result ≡ index_at (rows_of offsets.now) index }
+    ensures within { result ≤ total }
+{
+    match index_at(offsets, index) {
+        Some(offset) => offset as usize,
+        None => unreachable!(),
+    }
+}

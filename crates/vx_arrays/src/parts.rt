@@ -44,6 +44,11 @@ pub(crate) enum LoneRow<'a> {
 pub(crate) enum RowParts<'a> {
     // Of no other rows.
     Lone(LoneRow<'a>),
+    // A row of another array.
+    At {
+        array: &'a Array,
+        index: usize,
+    },
     // A tuple of so many rows of an array, from one on.
     Run {
         array: &'a Array,
@@ -51,7 +56,10 @@ pub(crate) enum RowParts<'a> {
         count: usize,
     },
     // A tuple of each array's row of this number.
-    Across { arrays: &'a [Array], index: usize },
+    Across {
+        arrays: &'a [Array],
+        index: usize,
+    },
 }
 
 // The parts of a row, where it is there; a row that is not there is null, and one of which that is not known is opaque.
@@ -113,11 +121,7 @@ fn owned(alloc: Global, row: LoneRow<'_>) -> Result<RowValue, ArrayError>
 }
 
 // The value of a row without rows below it, if there are cells to spend for it.
-fn lone_value(
-    alloc: Global,
-    row: LoneRow<'_>,
-    budget: &mut u64,
-) -> Result<RowValue, ArrayError>
+fn lone_value(alloc: Global, row: LoneRow<'_>, budget: &mut u64) -> Result<RowValue, ArrayError>
     ensures row { IfOk result (λ value. plain_value value ≡ lone (lone_mark row.entry)) }
     ensures spent { OnOk result (budget.old ≡ value_cells (lone (lone_mark row.entry)) + budget.new) }
     ensures err { IfErr result (λ e. IsValueRefused e (value_cells (lone (lone_mark row.entry))) budget.old) }
@@ -141,6 +145,7 @@ pub(crate) fn built(
 {
     match parts {
         RowParts::Lone(row) => lone_value(alloc, row, budget),
+        RowParts::At { array, index } => array.row_within(alloc, index, budget),
         RowParts::Run {
             array,
             start,

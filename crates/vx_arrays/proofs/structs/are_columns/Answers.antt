@@ -11,8 +11,8 @@ use Rattle.vx_arrays.proofs.structs.are_columns.Goals as goal
 
 pub returns-then-types-columns : goal.returns-then-types-columns
 returns-then-types-columns c = (
-    λ x. absurd (false≢true x),
-    λ h. absurd (c.if-types-columns.true (columns-length c.args.types.now c.args.columns.now c.args.len h)),
+  λ x. absurd (false≢true x),
+  λ h. absurd (c.if-types-columns.true (columns-length c.args.types.now c.args.columns.now c.args.len h)),
 )
 
 pub returns-then-not-is_column : goal.returns-then-not-is_column
@@ -23,7 +23,7 @@ returns-then-not-is_column c =
     let k : c.loop-i.i < length c.args.columns.now = omega (arith, l, c.if-types-columns.false) in (
       λ x. absurd (false≢true x),
       λ h. absurd (iff_false c.is_column.ensures c.if-not-is_column.true
-      (ap (λ (t : Tree). place_of t) c.index-columns-i.is ∙ columns-at c.args.types.now c.args.columns.now c.args.len c.loop-i.i d u l k h ∙ ap (λ (e : DType). place (typ e) c.args.len) (sym c.index-types-i.is))),
+          (ap (λ (t : Tree). place_of t) c.index-columns-i.is ∙ columns-at c.args.types.now c.args.columns.now c.args.len c.loop-i.i d u l k h ∙ ap (λ (e : DType). place (typ e) c.args.len) (sym c.index-types-i.is))),
     )
 
 pub loop-i-preserved : goal.loop-i-preserved

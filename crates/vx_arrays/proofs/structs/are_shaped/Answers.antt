@@ -18,7 +18,7 @@ returns-then-children-types c =
     let ts = c.args.children.now in
     let e : typs c.as_slice-types.result.now ≡ f.types = c.as_slice-types.ensures ∙ c.fields.ensures in
     let k : count (roses_of ts) ≡ length f.types =
-      count-roses_of ts ∙ c.if-children-types.true ∙ sym (typs-length c.as_slice-types.result.now) ∙ ap (λ (ds : List Typ). length ds) e in
+    count-roses_of ts ∙ c.if-children-types.true ∙ sym (typs-length c.as_slice-types.result.now) ∙ ap (λ (ds : List Typ). length ds) e in
     columns_decide f c.args.nullability c.args.len (roses_of ts) c.are_columns.result (length f.types) refl k
     (subst (λ (ds : List Typ). IsTrue c.are_columns.result ↔ (places (roses_of ts) ≡ places_at (roses_of ds) c.args.len)) e c.are_columns.ensures)
 
