@@ -1,4 +1,5 @@
 mod Naturals
+pub mod Cloned
 mod Rising
 mod Parted
 mod Viewed
@@ -9,3 +10,10 @@ mod Comparing
 mod Feeding
 mod Rebuffered
 pub mod LawsSame
+mod SameRows
+mod Firsts
+mod Counted
+mod Sized
+mod Fielded
+mod Columns
+mod Made

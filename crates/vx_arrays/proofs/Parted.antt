@@ -11,7 +11,7 @@ use Rattle.vx_types.specs.Kind as K
 use Rattle.vx_types.specs.Numbers.{is_integer}
 use Rattle.vx_types.specs.Seen.{typ}
 use Rattle.vx_types.specs.Typ.{Typ}
-use Rattle.vx_types.specs.Value.{Value, value_cells, lone, null, opaque, utf8, binary}
+use Rattle.vx_types.specs.Value.{lone, null, opaque, utf8, binary}
 use Rattle.vx_types.specs.Words.{nullability}
 use Rattle.vx_types.specs.declared.dtype.DType.{DType}
 use Rattle.vx_types.specs.declared.dtype.DType.TheVariants as D
@@ -29,12 +29,9 @@ use Rattle.vx_array_tree.specs.Tree.{Tree, Trees, places, rows_below, rows_of, u
 use Rattle.vx_array_tree.proofs.Built.{sound_well_shaped}
 use Rattle.vx_array_tree.proofs.Options.{mapped, let_through}
 use Rattle.vx_arrays.specs.Validity.{IsValidity}
-use Rattle.vx_arrays.specs.Plain.{plain_value}
-use Rattle.vx_arrays.specs.Refused.{IsUnmade, IsValueRefused, IsOkOrMemory}
+use Rattle.vx_arrays.specs.Refused.{IsUnmade, IsOkOrMemory}
 use Rattle.vx_arrays.specs.VarBins.{varbin_head, varbin_node, varbin_tree, IsOfBytes, IsOfOffsets, IsParted}
 use Rattle.vx_arrays.specs.declared.error.ArrayError.{ArrayError}
-use Rattle.vx_arrays.specs.declared.error.ArrayError.TheVariants.{ValueTooLarge}
-use Rattle.vx_arrays.specs.declared.row.RowValue.{RowValue}
 
 -- ---- what a plan says
 
@@ -44,7 +41,7 @@ plan_of_bytes (node (K.utf8 m) end) n v k ps e = (tt, e)
 plan_of_bytes (node (K.binary m) end) n v k ps e = (tt, e)
 plan_of_bytes _ n v k ps e = absurd (cc)
 
-front_is : (p : Place) (n : ℕ) (o : Tree) (vs : Trees) → before_validity (p ∷ []) n (suc (count vs)) ≡ Some (places (more o vs))
+pub front_is : (p : Place) (n : ℕ) (o : Tree) (vs : Trees) → before_validity (p ∷ []) n (suc (count vs)) ≡ Some (places (more o vs))
     → (place (label o).dtype (label o).len ≡ p) × (before_validity [] n (count vs) ≡ Some (places vs))
 front_is p n o vs e =
     let m = mapped (λ (qs : List Place). p ∷ qs) (before_validity [] n (count vs)) (places (more o vs)) e in
@@ -91,7 +88,7 @@ module _ (d : Typ) (n : ℕ) (b : Buffer) where
 
 -- ---- what is of that shape
 
-below_limit : (n : ℕ) → n < 2 ^ 64 → is_len n ≡ true
+pub below_limit : (n : ℕ) → n < 2 ^ 64 → is_len n ≡ true
 below_limit n h = lt-ltb n (2 ^ 64) h
 
 offsets_type : (d : Typ) → IsOfOffsets d → (d ≡ numbers (ptype_of d)) × IsTrue (is_integer (ptype_of d))
@@ -107,7 +104,7 @@ plan_at (node (K.utf8 m) end) n v k ps h e = e
 plan_at (node (K.binary m) end) n v k ps h e = e
 plan_at _ n v k ps h e = absurd h
 
-same_suc : (j k : ℕ) → suc j ≡ suc k → j ≡ k
+pub same_suc : (j k : ℕ) → suc j ≡ suc k → j ≡ k
 same_suc j k e = omega (arith, e)
 
 -- Offsets, one more than there are rows, and a validity or nothing, under a type of texts or of bytes.
@@ -186,40 +183,14 @@ module _ (z : DType) (m : Nullability) (bs : List ℕ) where
   pub text_of_type : z ≡ D.Utf8 m → IsContent (typ z) bs → IsText bs
   text_of_type e h = subst (λ (y : DType). IsContent (typ y) bs) e h
 
-  module _ (r : Result RowValue ArrayError) where
-    as_text : (P : Typ → Type 0) → z ≡ D.Utf8 m → P (node (K.utf8 m) end) → P (typ z)
-    as_text P e h = subst (λ (y : DType). P (typ y)) (sym e) h
+  -- A row of that type is its text, and one of a type of bytes its bytes.
+  pub text_mark : (b : List ℕ) → z ≡ D.Utf8 m → b ≡ bs → utf8 b ≡ mark_of (typ z) bs
+  text_mark b e q = ap (λ (y : List ℕ). utf8 y) q ∙ ap (λ (y : DType). mark_of (typ y) bs) (sym e)
 
-    as_bytes : (P : Typ → Type 0) → z ≡ D.Binary m → P (node (K.binary m) end) → P (typ z)
-    as_bytes P e h = subst (λ (y : DType). P (typ y)) (sym e) h
+  pub bytes_mark : z ≡ D.Binary m → binary bs ≡ mark_of (typ z) bs
+  bytes_mark e = ap (λ (y : DType). mark_of (typ y) bs) (sym e)
 
-    -- Its row is its text, and takes a cell for each byte and one more.
-    pub text_row_is : z ≡ D.Utf8 m → IfOk r (λ row. plain_value row ≡ lone (utf8 bs)) → IfOk r (λ row. plain_value row ≡ lone (mark_of (typ z) bs))
-    text_row_is e h = as_text (λ d. IfOk r (λ row. plain_value row ≡ lone (mark_of d bs))) e h
-
-    pub bytes_row_is : z ≡ D.Binary m → IfOk r (λ row. plain_value row ≡ lone (binary bs)) → IfOk r (λ row. plain_value row ≡ lone (mark_of (typ z) bs))
-    bytes_row_is e h = as_bytes (λ d. IfOk r (λ row. plain_value row ≡ lone (mark_of d bs))) e h
-
-    module _ (budget : ℕ) where
-      fits_at : OnOk r (suc (length bs) ≤ budget) → OnOk r (suc (length bs + 0) ≤ budget)
-      fits_at h = subst (λ (k : ℕ). OnOk r (suc k ≤ budget)) (sym (add-zero (length bs))) h
-
-      refused_at : IfErr r (λ e. IsValueRefused e (suc (length bs)) budget) → IfErr r (λ e. IsValueRefused e (suc (length bs + 0)) budget)
-      refused_at h = subst (λ (k : ℕ). IfErr r (λ e. IsValueRefused e (suc k) budget)) (sym (add-zero (length bs))) h
-
-      pub text_row_fits : z ≡ D.Utf8 m → OnOk r (suc (length bs) ≤ budget) → OnOk r (value_cells (lone (mark_of (typ z) bs)) ≤ budget)
-      text_row_fits e h = as_text (λ d. OnOk r (value_cells (lone (mark_of d bs)) ≤ budget)) e (fits_at h)
-
-      pub bytes_row_fits : z ≡ D.Binary m → OnOk r (suc (length bs) ≤ budget) → OnOk r (value_cells (lone (mark_of (typ z) bs)) ≤ budget)
-      bytes_row_fits e h = as_bytes (λ d. OnOk r (value_cells (lone (mark_of d bs)) ≤ budget)) e (fits_at h)
-
-      pub text_row_refused : z ≡ D.Utf8 m → IfErr r (λ e. IsValueRefused e (suc (length bs)) budget) → IfErr r (λ e. IsValueRefused e (value_cells (lone (mark_of (typ z) bs))) budget)
-      text_row_refused e h = as_text (λ d. IfErr r (λ x. IsValueRefused x (value_cells (lone (mark_of d bs))) budget)) e (refused_at h)
-
-      pub bytes_row_refused : z ≡ D.Binary m → IfErr r (λ e. IsValueRefused e (suc (length bs)) budget) → IfErr r (λ e. IsValueRefused e (value_cells (lone (mark_of (typ z) bs))) budget)
-      bytes_row_refused e h = as_bytes (λ d. IfErr r (λ x. IsValueRefused x (value_cells (lone (mark_of d bs))) budget)) e (refused_at h)
-
--- ---- a row and its cells
+-- ---- the first of some children
 
 -- The first of some children, and those behind it.
 pub first_and_behind : (ts : List Tree) (o : Tree) → 1 ≤ length ts → o ≡ get_or ts 0 o → roses_of ts ≡ more o (roses_of (take (length ts - 1) (drop 1 ts)))
@@ -228,30 +199,18 @@ first_and_behind (t ∷ ts) o h e =
     let a : take (suc (length ts) - 1) ts ≡ ts = take_all {A = Tree} (suc (length ts) - 1) ts (omega arith) in
     ap (λ (u : Tree). more u (roses_of ts)) (sym e) ∙ ap (λ (us : List Tree). more o (roses_of us)) (sym a)
 
-module _ (r : Result RowValue ArrayError) (v w : Value) (e : v ≡ w) where
-  -- What is said of a row is said of the same one.
-  pub same_row : IfOk r (λ row. plain_value row ≡ v) → IfOk r (λ row. plain_value row ≡ w)
-  same_row h = subst (λ (z : Value). IfOk r (λ row. plain_value row ≡ z)) e h
+-- The first of them.
+abbrev pub first_of : (ts : List Tree) → 1 ≤ length ts → Tree
+first_of [] h = absurd (omega (arith, h))
+first_of (t ∷ ts) h = t
 
-  module _ (budget : ℕ) where
-    pub same_fits : OnOk r (value_cells v ≤ budget) → IfOk r (λ row. value_cells w ≤ budget)
-    same_fits h = subst (λ (z : Value). IfOk r (λ row. value_cells z ≤ budget)) e h
-
-    pub same_refused : IfErr r (λ x. IsValueRefused x (value_cells v) budget) → IfErr r (λ x. IsValueRefused x (value_cells w) budget)
-    same_refused h = subst (λ (z : Value). IfErr r (λ x. IsValueRefused x (value_cells z) budget)) e h
-
--- A row that takes one cell is refused where there is none.
-pub small_row : (r : Result RowValue ArrayError) (row : RowValue) → IfOk r (λ y. y ≡ row) → IfOk r (λ y. plain_value y ≡ plain_value row)
-small_row (Ok y) row h = ap (λ (z : RowValue). plain_value z) h
-small_row (Err x) row h = tt
-
-pub small_refused : (r : Result RowValue ArrayError) (budget : ℕ) → IfErr r (λ x. x ≡ ValueTooLarge) → OnErr r (budget < 1) → IfErr r (λ x. IsValueRefused x 1 budget)
-small_refused (Ok y) budget h l = tt
-small_refused (Err x) budget h l = subst (λ (z : ArrayError). IsValueRefused z 1 budget) (sym h) l
+pub first_is : (ts : List Tree) (h : 1 ≤ length ts) → first_of ts h ≡ get_or ts 0 (first_of ts h)
+first_is [] h = absurd (omega (arith, h))
+first_is (t ∷ ts) h = refl
 
 -- ---- what tests say of parts
 
-absurd_test : {P : Type 0} → IsTrue false → P
+pub absurd_test : {P : Type 0} → IsTrue false → P
 absurd_test t = absurd (false≢true t)
 
 module _ (d : Typ) (n : ℕ) (b : Buffer) (o : Tree) (vs : Trees) where

@@ -22,6 +22,7 @@ use Rattle.vx_array_tree.specs.Encodings.VarBinViews as VarBinViews
 use Rattle.vx_array_tree.specs.Place.{before_validity}
 use Rattle.vx_array_tree.specs.Refused.{IsWellShaped, IsMisshaped, HasBrokenContent}
 use Rattle.vx_array_tree.specs.Sound.{IsSound, IsSoundNode}
+use Rattle.vx_array_tree.specs.Table.{bufferless}
 use Rattle.vx_array_tree.specs.Tree.{Tree, Trees, Head, option_trees, places, untold, with_stats}
 use Rattle.vx_arrays.specs.Bools.{bool_tree}
 use Rattle.vx_arrays.specs.Decimals.{decimal_tree}
@@ -126,6 +127,34 @@ parts_made d c n x ts item o bs b v s l is q p w e =
     let len : n ≡ (label o).len - 1 = omega (arith, counted) in
     let children : roses_of ts ≡ more o (option_trees v) = first ∙ (λ i. more (sym q i) (sym w i)) in
     ap (λ (cs : List Buffer). with_buffers (node (untold d n (B.varbin x)) (roses_of ts)) cs) e ∙ (λ i. Some (node (untold (sym p i) (len i) (B.varbin (record { bytes = b }))) (children i)))
+
+-- ---- nodes without buffers
+
+module _ (h : Head) (ts : Trees) (bs : List Buffer) (e : rebuffered h.body bs ≡ bufferless h.body bs) where
+  remade : with_buffers (node h ts) bs ≡ option_map (λ (b : Body). node (record { dtype = h.dtype; len = h.len; stats = h.stats; body = b }) ts) (bufferless h.body bs)
+  remade = ap (λ (o : Option Body). option_map (λ (b : Body). node (record { dtype = h.dtype; len = h.len; stats = h.stats; body = b }) ts) o) e
+
+  none_made : (cs : List Buffer) → (cs ≡ [] → ⊥) → bufferless h.body cs ≡ None
+  none_made [] n = absurd (n refl)
+  none_made (c ∷ cs) n = refl
+
+  module _ (n : bs ≡ [] → ⊥) where
+    not_made : with_buffers (node h ts) bs ≡ None
+    not_made = remade ∙ ap (λ (o : Option Body). option_map (λ (b : Body). node (record { dtype = h.dtype; len = h.len; stats = h.stats; body = b }) ts) o) (none_made bs n)
+
+    -- Buffers make no node that has none.
+    pub bare_refused : RefusesBuffers BadShape (node h ts) bs
+    bare_refused = subst (λ (o : Option Tree). IfSome o (λ v. IsMisshaped (label v) (below v))) (sym not_made) tt
+
+    pub bare_unmade : (u : Tree) → with_buffers (node h ts) bs ≡ Some u → ⊥
+    bare_unmade u q = none_some u (sym not_made ∙ q)
+      where
+        none_some : (u : Tree) → None ≡ Some u → ⊥
+        none_some u q = absurd (cc)
+
+  -- Without buffers such a node is what it was.
+  pub bare_made : bs ≡ [] → with_buffers (node h ts) bs ≡ Some (node h ts)
+  bare_made q = remade ∙ ap (λ (cs : List Buffer). option_map (λ (b : Body). node (record { dtype = h.dtype; len = h.len; stats = h.stats; body = b }) ts) (bufferless h.body cs)) q
 
 -- ---- statistics
 

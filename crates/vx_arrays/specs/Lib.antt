@@ -5,8 +5,13 @@ pub mod Bools
 pub mod Decimals
 pub mod VarBins
 pub mod VarBinViews
+pub mod FixedSizeLists
+pub mod Structs
 pub mod Validity
 pub mod Slots
 pub mod Refused
 pub mod Compared
 pub mod NewBuffers
+pub mod Parts
+pub mod Falls
+pub mod Falling

@@ -1,5 +1,6 @@
 -- Arrays and rows as the plain trees and values that contracts see.
-use Rattle.std.specs.Prelude.{ℕ}
+use Rattle.std.specs.Prelude.{ℕ, List, map as each}
+use Rattle.vx_trees.specs.Rose.{node, roses_of}
 use Rattle.vx_types.specs.Typ.{Typ}
 use Rattle.vx_types.specs.Value.{Value, lone}
 use Rattle.vx_types.specs.Value as V
@@ -8,7 +9,7 @@ use Rattle.vx_array_tree.specs.Tree.{Head}
 use Rattle.vx_scalars.specs.Decimals.{decimal_of}
 use Rattle.vx_scalars.specs.Stats.{Stats}
 use Rattle.vx_arrays.specs.declared.body.Body.{Body}
-use Rattle.vx_arrays.specs.declared.body.Body.TheVariants.{Null, Primitive, Bool, Decimal, VarBin, VarBinView}
+use Rattle.vx_arrays.specs.declared.body.Body.TheVariants.{Null, Primitive, Bool, Decimal, VarBin, VarBinView, FixedSizeList, Struct}
 use Rattle.vx_arrays.specs.declared.row.RowValue.{RowValue}
 use Rattle.vx_arrays.specs.declared.row.RowValue.TheVariants as R
 
@@ -20,6 +21,8 @@ plain_body (Bool x) = B.bool x
 plain_body (Decimal x) = B.decimal x
 plain_body (VarBin x) = B.varbin x
 plain_body (VarBinView x) = B.varbinview x
+plain_body FixedSizeList = B.fixed_size_list
+plain_body Struct = B.struct
 
 -- A node without its children, by its type, its rows, what is told of them, and what its encoding holds.
 abbrev pub head_of : Typ → ℕ → Stats → Body → Head
@@ -34,3 +37,8 @@ plain_value (R.Primitive v) = lone (V.number v)
 plain_value (R.Decimal x) = lone (V.decimal (decimal_of x))
 plain_value (R.Utf8 text) = lone (V.utf8 text)
 plain_value (R.Binary bytes) = lone (V.binary bytes)
+plain_value (R.Tuple values) = node V.tuple (roses_of values)
+
+-- The values of rows, in their order.
+abbrev pub plain_values : List RowValue → List Value
+plain_values values = each plain_value values

@@ -1,6 +1,6 @@
 //! Arrays, each a tree of nodes, and what they tell of themselves.
 
-ghost use Rattle.std.specs.Prelude.{◌≡◌, ◌<◌, ◌≤◌, ◌==◌, length, IfOk, IfErr, OnOk, OnErr, IsOk, IsOkUnless, Some, slice_get};
+ghost use Rattle.std.specs.Prelude.{◌≡◌, ◌<◌, ◌≤◌, ◌==◌, ◌+◌, length, IfOk, IfErr, OnOk, OnErr, IsOk, IsOkUnless, Some, slice_get};
 ghost use Rattle.vx_trees.specs.Everywhere.{EverywhereBelow};
 ghost use Rattle.vx_trees.specs.Rose.{label, below, node, end, roses_of};
 ghost use Rattle.vx_types.specs.Kind.{boolean};
@@ -13,14 +13,20 @@ ghost use Rattle.vx_array_tree.specs.Rows.{flag_in};
 ghost use Rattle.vx_array_tree.specs.Sound.{IsSound, IsSoundNode};
 ghost use Rattle.vx_array_tree.specs.Table.{id_of, encoding_of, buffers_of, Content};
 ghost use Rattle.vx_array_tree.specs.Tree.{Tree, rows_of, rows_below, row_at, valid_at, cells, untold, with_stats};
+ghost use Rattle.vx_trees.specs.Walks.{nodes};
 ghost use Rattle.vx_arrays.specs.NewBuffers.{RefusesBuffers, with_buffers};
+ghost use Rattle.vx_arrays.specs.Parts.{AreThere, parts_cells, parts_nodes, parts_value};
 ghost use Rattle.vx_arrays.specs.Plain.{plain_body, head_of, plain_value};
 ghost use Rattle.vx_arrays.specs.Refused.{IsRowRefused, IsOkOrMemory};
 
 use crate::body::Body;
 use crate::error::ArrayError;
+use crate::fixed_size_list::FixedSizeListArray;
+use crate::new_buffers::without_buffers;
 use crate::null::NullArray;
+use crate::parts::{LoneRow, RowParts, built};
 use crate::row::RowValue;
+use crate::structs::StructArray;
 use crate::validity::validity_at;
 use std::alloc::Global;
 use std::marker::Model;
@@ -77,7 +83,7 @@ impl Array {
     }
 
     // An array of parts that are sound together.
-    fn with_parts(
+    pub(crate) fn with_parts(
         dtype: DType,
         len: usize,
         stats: StatsSet,
@@ -213,6 +219,15 @@ impl Array {
                 parts.valid_at(&self.dtype, self.len, self.children.as_slice(), index)
             }
             Body::VarBinView(_) => validity_at(self.children.as_slice(), self.len, index),
+            Body::FixedSizeList => FixedSizeListArray::valid_at(
+                &self.dtype,
+                self.len,
+                self.children.as_slice(),
+                index,
+            ),
+            Body::Struct => {
+                StructArray::valid_at(&self.dtype, self.len, self.children.as_slice(), index)
+            }
         }
     }
 
@@ -229,6 +244,7 @@ impl Array {
             Body::Decimal(_) => None,
             Body::VarBin(_) => None,
             Body::VarBinView(_) => None,
+            Body::FixedSizeList | Body::Struct => None,
         }
     }
 
@@ -246,52 +262,62 @@ impl Array {
             Body::Decimal(_) => None,
             Body::VarBin(_) => None,
             Body::VarBinView(_) => None,
+            Body::FixedSizeList | Body::Struct => None,
         }
     }
 
-    /// The row's value, if it takes at most `budget` cells.
+    // Of what a row is made.
     #[tactic(auto, using(crate::proofs::Untold::untold_node))]
+    fn parts_at(&self, index: usize) -> RowParts<'_>
+        requires { index < (label self.now).len }
+        ensures value { parts_value result ≡ row_at self.now index }
+        ensures cells { parts_cells result ≡ cells self.now index }
+        ensures there { AreThere result }
+        ensures smaller { parts_nodes result < nodes self.now }
+    {
+        let dtype = &self.dtype;
+        let len = self.len;
+        let children = self.children.as_slice();
+        match &self.body {
+            Body::Null => RowParts::Lone(LoneRow::Null),
+            Body::Primitive(numbers) => RowParts::Lone(numbers.row_at(dtype, len, children, index)),
+            Body::Bool(flags) => RowParts::Lone(flags.row_at(dtype, len, children, index)),
+            Body::Decimal(decimals) => RowParts::Lone(decimals.row_at(dtype, len, children, index)),
+            Body::VarBin(parts) => RowParts::Lone(parts.row_at(dtype, len, children, index)),
+            Body::VarBinView(views) => RowParts::Lone(views.row_at(dtype, len, children, index)),
+            Body::FixedSizeList => FixedSizeListArray::parts_at(dtype, len, children, index),
+            Body::Struct => StructArray::parts_at(dtype, len, children, index),
+        }
+    }
+
+    // The row's value, if there are cells to spend for it.
+    #[cycle(rows)]
+    #[tactic(auto, using(crate::proofs::Counted::counted))]
+    pub(crate) fn row_within(
+        &self,
+        alloc: Global,
+        index: usize,
+        budget: &mut u64,
+    ) -> Result<RowValue, ArrayError>
+        requires { index < (label self.now).len }
+        ensures row { IfOk result (λ row. plain_value row ≡ row_at self.now index) }
+        ensures spent { OnOk result (budget.old ≡ cells self.now index + budget.new) }
+        ensures err { IfErr result (λ e. IsRowRefused e (rows_of self.now) index budget.old) }
+    {
+        let parts = self.parts_at(index);
+        built(alloc, parts, budget)
+    }
+
+    /// The row's value, if it takes at most `budget` cells.
+    #[tactic(auto, using(crate::proofs::Counted::counted))]
     pub fn value_at(&self, alloc: Global, index: usize, budget: u64) -> Result<RowValue, ArrayError>
         requires { index < (label self.now).len }
         ensures row { IfOk result (λ row. plain_value row ≡ row_at self.now index) }
         ensures fits { IfOk result (λ _. cells self.now index ≤ budget) }
         ensures err { IfErr result (λ e. IsRowRefused e (rows_of self.now) index budget) }
     {
-        let children = self.children.as_slice();
-        match &self.body {
-            Body::Null => NullArray::value_at(self.len, index, budget),
-            Body::Primitive(numbers) => numbers.value_at(
-                &self.dtype,
-                self.len,
-                children,
-                index,
-                budget,
-            ),
-            Body::Bool(flags) => flags.value_at(&self.dtype, self.len, children, index, budget),
-            Body::Decimal(decimals) => decimals.value_at(
-                &self.dtype,
-                self.len,
-                children,
-                index,
-                budget,
-            ),
-            Body::VarBin(parts) => parts.value_at(
-                alloc,
-                &self.dtype,
-                self.len,
-                children,
-                index,
-                budget,
-            ),
-            Body::VarBinView(views) => views.value_at(
-                alloc,
-                &self.dtype,
-                self.len,
-                children,
-                index,
-                budget,
-            ),
-        }
+        let mut left = budget;
+        self.row_within(alloc, index, &mut left)
     }
 
     // The same array without statistics and with these buffers at its root, as the root's encoding makes it.
@@ -315,6 +341,10 @@ impl Array {
             Body::Decimal(decimals) => decimals.with_buffers(alloc, dtype, len, children, buffers),
             Body::VarBin(parts) => parts.with_buffers(alloc, dtype, len, children, buffers),
             Body::VarBinView(views) => views.with_buffers(alloc, dtype, len, children, buffers),
+            Body::FixedSizeList => {
+                without_buffers(alloc, dtype, len, Body::FixedSizeList, children, buffers)
+            }
+            Body::Struct => without_buffers(alloc, dtype, len, Body::Struct, children, buffers),
         }
     }
 

@@ -7,8 +7,10 @@ ghost use Rattle.vx_arrays.specs.Compared.{compared_body};
 use crate::bool::{BoolArray, BoolData};
 use crate::decimal::{DecimalArray, DecimalData};
 use crate::error::ArrayError;
+use crate::fixed_size_list::FixedSizeListArray;
 use crate::null::NullArray;
 use crate::primitive::{PrimitiveArray, PrimitiveData};
+use crate::structs::StructArray;
 use crate::varbin::{VarBinArray, VarBinData};
 use crate::varbinview::{VarBinViewArray, VarBinViewData};
 use std::alloc::Global;
@@ -29,6 +31,10 @@ pub enum Body {
     VarBin(VarBinData),
     /// Texts or bytes by views.
     VarBinView(VarBinViewData),
+    /// Nothing: lists of one size.
+    FixedSizeList,
+    /// Nothing: structures.
+    Struct,
 }
 
 impl Body {
@@ -45,6 +51,8 @@ impl Body {
             Body::Decimal(_) => DecimalArray::ID,
             Body::VarBin(_) => VarBinArray::ID,
             Body::VarBinView(_) => VarBinViewArray::ID,
+            Body::FixedSizeList => FixedSizeListArray::ID,
+            Body::Struct => StructArray::ID,
         }
     }
 
@@ -59,6 +67,7 @@ impl Body {
             Body::Decimal(_) => 1,
             Body::VarBin(_) => 1,
             Body::VarBinView(views) => views.nbuffers(),
+            Body::FixedSizeList | Body::Struct => 0,
         }
     }
 
@@ -68,7 +77,7 @@ impl Body {
         ensures { slice_get (buffers_of (plain_body self.now)) index ≡ Some result.now }
     {
         match self {
-            Body::Null => unreachable!(),
+            Body::Null | Body::FixedSizeList | Body::Struct => unreachable!(),
             Body::Primitive(numbers) => numbers.values(),
             Body::Bool(flags) => flags.bits(),
             Body::Decimal(decimals) => decimals.values(),
@@ -88,6 +97,8 @@ impl Body {
             (Body::Decimal(x), Body::Decimal(y)) => x.array_eq(y),
             (Body::VarBin(x), Body::VarBin(y)) => x.array_eq(y),
             (Body::VarBinView(x), Body::VarBinView(y)) => x.array_eq(y),
+            (Body::FixedSizeList, Body::FixedSizeList) => true,
+            (Body::Struct, Body::Struct) => true,
             _ => false,
         }
     }
@@ -104,6 +115,8 @@ impl Body {
             Body::Decimal(decimals) => Ok(Body::Decimal(decimals.clone(alloc)?)),
             Body::VarBin(parts) => Ok(Body::VarBin(parts.clone(alloc)?)),
             Body::VarBinView(views) => Ok(Body::VarBinView(views.clone(alloc)?)),
+            Body::FixedSizeList => Ok(Body::FixedSizeList),
+            Body::Struct => Ok(Body::Struct),
         }
     }
 }

@@ -1,8 +1,8 @@
 //! Lists of arrays, as the children of a node.
 
-ghost use Rattle.std.specs.Prelude.{◌≡◌, OnOk, OnErr, IsOkUnless};
+ghost use Rattle.std.specs.Prelude.{◌≡◌, ◌≤◌, OnOk, OnErr, IsOkUnless};
 ghost use Rattle.vx_trees.specs.Everywhere.{EverywhereBelow};
-ghost use Rattle.vx_trees.specs.Rose.{count, end, roses_list, roses_of};
+ghost use Rattle.vx_trees.specs.Rose.{count, end, more, roses_list, roses_of};
 ghost use Rattle.std.specs.Prelude.{◌++◌, ◌∷◌, []};
 ghost use Rattle.vx_array_tree.specs.Sound.{IsSoundNode};
 
@@ -53,6 +53,14 @@ impl Arrays {
         array.validate()?;
         self.items.push(array)?;
         Ok(())
+    }
+
+    /// Takes the first array out of the list.
+    pub fn remove_first(&mut self) -> Array
+        requires { 1 ≤ count self.old }
+        ensures { more result self.new ≡ self.old }
+    {
+        self.items.remove(0)
     }
 
     /// How many arrays there are.

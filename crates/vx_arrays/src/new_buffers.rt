@@ -1,17 +1,24 @@
 //! Arrays with other buffers.
 
-ghost use Rattle.std.specs.Prelude.{◌≡◌, ◌∷◌, [], Some, IfOk, IfErr, IfSome, IfNone, IsOkUnless, length};
-ghost use Rattle.vx_trees.specs.Rose.{count, roses_of};
+ghost use Rattle.std.specs.Prelude.{◌≡◌, ◌∷◌, [], Some, IfOk, IfErr, IfSome, IfNone, IsOkUnless, List, length};
+ghost use Rattle.vx_buffer.specs.Buffer.{Buffer};
+ghost use Rattle.vx_trees.specs.Everywhere.{EverywhereBelow};
+ghost use Rattle.vx_trees.specs.Rose.{count, node, roses_of};
+ghost use Rattle.vx_types.specs.Seen.{typ};
 ghost use Rattle.vx_array_tree.specs.Place.{before_validity};
-ghost use Rattle.vx_array_tree.specs.Sound.{IsSound};
-ghost use Rattle.vx_array_tree.specs.Tree.{Tree, option_trees, places};
-ghost use Rattle.vx_arrays.specs.NewBuffers.{RefusesBuffers, with_buffers};
+ghost use Rattle.vx_array_tree.specs.Sound.{IsSound, IsSoundNode};
+ghost use Rattle.vx_array_tree.specs.Table.{bufferless};
+ghost use Rattle.vx_array_tree.specs.Tree.{Tree, option_trees, places, untold};
+ghost use Rattle.vx_arrays.specs.NewBuffers.{RefusesBuffers, rebuffered, with_buffers};
+ghost use Rattle.vx_arrays.specs.Plain.{plain_body};
 ghost use Rattle.vx_arrays.specs.Refused.{IsOkOrMemory};
 
 use crate::array::Array;
+use crate::body::Body;
 use crate::error::ArrayError;
 use std::alloc::Global;
 use vx_buffer::{BufferHandle, BufferHandles};
+use vx_scalars::StatsSet;
 use vx_types::DType;
 
 impl Array {
@@ -61,6 +68,47 @@ pub(crate) fn copied_validity(
         [] => Ok(None),
         [array, ..] => Ok(Some(array.clone(alloc)?)),
     }
+}
+
+// The array of a node that holds no buffers, once more without statistics, where none are to stand in their place.
+pub(crate) fn without_buffers(
+    alloc: Global,
+    dtype: &DType,
+    len: usize,
+    body: Body,
+    children: &[Array],
+    buffers: BufferHandles,
+) -> Result<Array, ArrayError>
+    requires sound { IsSoundNode (untold (typ dtype.now) len (plain_body body)) (roses_of children.now) }
+    requires below { EverywhereBelow IsSoundNode (roses_of children.now) }
+    requires bufferless { (bs : List Buffer) → rebuffered (plain_body body) bs ≡ bufferless (plain_body body) bs }
+    ensures ok { let t : Tree = node (untold (typ dtype.now) len (plain_body body)) (roses_of children.now) in
+        IfOk result (λ a. with_buffers t buffers ≡ Some a) }
+    ensures sound { IfOk result IsSound }
+    ensures err { let t : Tree = node (untold (typ dtype.now) len (plain_body body)) (roses_of children.now) in
+        IfErr result (λ e. RefusesBuffers e t buffers) }
+    ensures complete { let t : Tree = node (untold (typ dtype.now) len (plain_body body)) (roses_of children.now) in
+        (u : Tree) → with_buffers t buffers ≡ Some u → IsSound u → IsOkOrMemory result }
+{
+    if !buffers.is_empty() {
+        return Err(ArrayError::BadShape);
+    }
+    let dtype = copied_type(alloc, dtype)?;
+    let children = copied_children(alloc, children)?;
+    let stats = StatsSet::new(alloc);
+    Ok(Array::with_parts(dtype, len, stats, body, children))
+}
+
+// The children of a node once more.
+fn copied_children(alloc: Global, children: &[Array]) -> Result<Vec<Array>, ArrayError>
+    ensures ok { IfOk result (λ copies. copies.items ≡ children.now) }
+    ensures err { IsOkUnless result ArrayError.OutOfMemory }
+{
+    let mut copies = Vec::new(alloc);
+    for child in children {
+        copies.push(child.clone(alloc)?)?;
+    }
+    Ok(copies)
 }
 
 // A type once more.

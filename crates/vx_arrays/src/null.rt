@@ -1,21 +1,18 @@
 //! Arrays of nulls.
 
-ghost use Rattle.std.specs.Prelude.{◌≡◌, ◌≤◌, IfOk, IfErr, IsOkUnless, Some};
+ghost use Rattle.std.specs.Prelude.{◌≡◌, IfOk, IfErr, IsOkUnless, Some};
 ghost use Rattle.vx_trees.specs.Rose.{node, roses_of};
 ghost use Rattle.vx_types.specs.Seen.{typ};
 ghost use Rattle.vx_array_tree.specs.Body as B;
-ghost use Rattle.vx_array_tree.specs.Encodings.Nulls.{rows as rows_of_nulls};
 ghost use Rattle.vx_array_tree.specs.Sound.{IsSound, IsSoundNode};
 ghost use Rattle.vx_array_tree.specs.Tree.{Tree, untold};
 ghost use Rattle.vx_arrays.specs.NewBuffers.{RefusesBuffers, with_buffers};
 ghost use Rattle.vx_arrays.specs.Nulls.{null_tree};
-ghost use Rattle.vx_arrays.specs.Plain.{plain_value};
-ghost use Rattle.vx_arrays.specs.Refused.{IsRowRefused, IsOkOrMemory};
+ghost use Rattle.vx_arrays.specs.Refused.{IsOkOrMemory};
 
 use crate::array::Array;
 use crate::body::Body;
 use crate::error::ArrayError;
-use crate::row::{RowValue, within_budget};
 use std::alloc::Global;
 use vx_buffer::BufferHandles;
 use vx_types::DType;
@@ -34,15 +31,6 @@ impl NullArray {
         ensures err { IsOkUnless result ArrayError.OutOfMemory }
     {
         Ok(Array::from_parts(DType::Null, len, Body::Null, Vec::new(alloc)))
-    }
-
-    // A row's value, if there is a cell to spend for it.
-    pub(crate) fn value_at(len: usize, index: usize, budget: u64) -> Result<RowValue, ArrayError>
-        ensures row { IfOk result (λ row. plain_value row ≡ (rows_of_nulls len).row index) }
-        ensures fits { IfOk result (λ _. (rows_of_nulls len).cells index ≤ budget) }
-        ensures err { IfErr result (λ e. IsRowRefused e (rows_of_nulls len) index budget) }
-    {
-        within_budget(RowValue::Null, budget)
     }
 
     // The array of a node of this type, length and children that holds these buffers in the place of its own.

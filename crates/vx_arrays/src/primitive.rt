@@ -4,7 +4,7 @@ ghost use Rattle.std.specs.Prelude.{◌≡◌, ◌<◌, ◌≤◌, ◌↔◌, If
 ghost use Rattle.vx_trees.specs.Everywhere.{EverywhereBelow};
 ghost use Rattle.vx_trees.specs.Rose.{label, node, roses_of};
 ghost use Rattle.vx_types.specs.Seen.{typ};
-ghost use Rattle.vx_types.specs.Value.{natural};
+ghost use Rattle.vx_types.specs.Value.{lone, natural};
 ghost use Rattle.vx_array_tree.specs.Encodings.Primitives.{rows as rows_of_numbers};
 ghost use Rattle.vx_array_tree.specs.Body as B;
 ghost use Rattle.vx_array_tree.specs.Refused.{IsWellShaped};
@@ -12,16 +12,16 @@ ghost use Rattle.vx_array_tree.specs.Sound.{IsSound, IsSoundNode};
 ghost use Rattle.vx_array_tree.specs.Tree.{Tree, option_trees, rows_below, untold};
 ghost use Rattle.vx_arrays.specs.Compared.{compared_body};
 ghost use Rattle.vx_arrays.specs.NewBuffers.{RefusesBuffers, with_buffers};
-ghost use Rattle.vx_arrays.specs.Plain.{plain_value};
+ghost use Rattle.vx_arrays.specs.Parts.{lone_mark};
 ghost use Rattle.vx_arrays.specs.Primitives.{primitive_tree};
-ghost use Rattle.vx_arrays.specs.Refused.{IsUnmade, IsRowRefused, IsOkOrMemory};
+ghost use Rattle.vx_arrays.specs.Refused.{IsUnmade, IsOkOrMemory};
 
 use crate::array::Array;
 use crate::body::Body;
 use crate::error::ArrayError;
 use crate::new_buffers::{copied_validity, only_buffer};
 use crate::numbers::{is_filled, natural, number_at};
-use crate::row::{RowValue, within_budget};
+use crate::parts::LoneRow;
 use crate::validity::{is_validity, over_validity, validity_at};
 use std::alloc::Global;
 use std::marker::Model;
@@ -71,35 +71,30 @@ impl PrimitiveData {
         })
     }
 
-    // A row's value in a node of this type, length and children, if there is a cell to spend for it.
-    pub(crate) fn value_at(
+    // A row in a node of this type, length and children.
+    pub(crate) fn row_at(
         &self,
         dtype: &DType,
         len: usize,
         children: &[Array],
         index: usize,
-        budget: u64,
-    ) -> Result<RowValue, ArrayError>
+    ) -> LoneRow<'static>
         requires sound { IsSoundNode (untold (typ dtype.now) len (B.primitive self.now)) (roses_of children.now) }
         requires inside { index < len }
-        ensures row { let rows = rows_of_numbers (typ dtype.now) len self.now (rows_below (roses_of children.now)) in
-            IfOk result (λ row. plain_value row ≡ rows.row index) }
-        ensures fits { let rows = rows_of_numbers (typ dtype.now) len self.now (rows_below (roses_of children.now)) in
-            IfOk result (λ _. rows.cells index ≤ budget) }
-        ensures err { let rows = rows_of_numbers (typ dtype.now) len self.now (rows_below (roses_of children.now)) in
-            IfErr result (λ e. IsRowRefused e rows index budget) }
+        ensures { let rows = rows_of_numbers (typ dtype.now) len self.now (rows_below (roses_of children.now)) in
+            lone (lone_mark result) ≡ rows.row index }
     {
         let kind = match dtype {
             DType::Primitive(kind, _) => *kind,
             _ => unreachable!(),
         };
         match validity_at(children, len, index) {
-            None => within_budget(RowValue::Opaque, budget),
-            Some(false) => within_budget(RowValue::Null, budget),
+            None => LoneRow::Opaque,
+            Some(false) => LoneRow::Null,
             Some(true) => {
                 let width = kind.byte_width();
                 let rest = &self.values.as_host().as_slice()[width * index..];
-                within_budget(RowValue::Primitive(number_at(kind, rest)), budget)
+                LoneRow::Primitive(number_at(kind, rest))
             }
         }
     }

@@ -1,18 +1,17 @@
 //! The values of rows.
 
-ghost use Rattle.std.specs.Prelude.{suc, ◌≡◌, ◌≤◌, ◌<◌, ◌↔◌, IfOk, IfErr, OnOk, OnErr, IsOkUnless, IsTrue, length};
-ghost use Rattle.vx_types.specs.Content.{IsText};
-ghost use Rattle.vx_types.specs.Value.{lone, utf8, binary};
-ghost use Rattle.vx_arrays.specs.Plain.{plain_value};
-ghost use Rattle.vx_arrays.specs.Refused.{IsValueRefused};
+ghost use Rattle.std.specs.Prelude.{◌≡◌, IfOk, IsOkUnless};
 
 use crate::error::ArrayError;
+use crate::row_values::RowValues;
+use crate::same_values::is_same;
 use std::alloc::Global;
 use vx_scalars::DecimalValue;
 use vx_types::{Blob, Name, PValue};
 
 /// The value of a row.
-#[derive(Debug, Drop, PartialEq, Eq)]
+#[cycle(row)]
+#[derive(Debug, Drop)]
 pub enum RowValue {
     /// The row is not there.
     Null,
@@ -28,54 +27,34 @@ pub enum RowValue {
     Utf8(Name),
     /// Bytes.
     Binary(Blob),
+    /// A row of lists or of structures: the rows of its elements, or of its fields.
+    Tuple(RowValues),
 }
 
-// A value that takes one cell where it is printed, if there is one to spend.
-pub(crate) fn within_budget(row: RowValue, budget: u64) -> Result<RowValue, ArrayError>
-    ensures row { IfOk result (λ r. r ≡ row) }
-    ensures fits { OnOk result (1 ≤ budget) }
-    ensures err { IfErr result (λ e. e ≡ ArrayError.ValueTooLarge) }
-    ensures large { OnErr result (budget < 1) }
-{
-    if budget < 1 {
-        return Err(ArrayError::ValueTooLarge);
-    }
-    Ok(row)
-}
+impl PartialEq for RowValue {
+    ghost use Rattle.vx_trees.specs.Same.{same};
+    ghost use Rattle.vx_trees.proofs.Sameness.{same-partial_equivalence};
+    ghost use Rattle.std.specs.Cmp.{on_per};
+    ghost use Rattle.vx_types.specs.Value.{value_code};
+    ghost use Rattle.vx_arrays.specs.Plain.{plain_value};
 
-// A row that is a text, if there are cells to spend for it: one, and one for each byte. No text is built that takes more.
-pub(crate) fn text_row(alloc: Global, bytes: &[u8], budget: u64) -> Result<RowValue, ArrayError>
-    requires text { IsText bytes.now }
-    ensures row { IfOk result (λ row. plain_value row ≡ lone (utf8 bytes.now)) }
-    ensures fits { OnOk result (suc (length bytes.now) ≤ budget) }
-    ensures err { IfErr result (λ e. IsValueRefused e (suc (length bytes.now)) budget) }
-{
-    if !has_cells(bytes, budget) {
-        return Err(ArrayError::ValueTooLarge);
-    }
-    match simdutf8::basic::from_utf8(bytes) {
-        Ok(text) => Ok(RowValue::Utf8(owned_text(alloc, text)?)),
-        Err(_) => unreachable!(),
+    ghost eq = { λ a b. same value_code (plain_value a) (plain_value b) };
+
+    ghost laws = { on_per plain_value (same-partial_equivalence value_code) };
+
+    #[tactic(auto, using(vx_trees::proofs::Sameness::sameness))]
+    fn eq(&self, other: &RowValue) -> bool {
+        is_same(self, other)
     }
 }
 
-// A row that is bytes, if there are cells to spend for them, as for a text.
-pub(crate) fn bytes_row(alloc: Global, bytes: &[u8], budget: u64) -> Result<RowValue, ArrayError>
-    ensures row { IfOk result (λ row. plain_value row ≡ lone (binary bytes.now)) }
-    ensures fits { OnOk result (suc (length bytes.now) ≤ budget) }
-    ensures err { IfErr result (λ e. IsValueRefused e (suc (length bytes.now)) budget) }
-{
-    if !has_cells(bytes, budget) {
-        return Err(ArrayError::ValueTooLarge);
-    }
-    Ok(RowValue::Binary(owned_bytes(alloc, bytes)?))
-}
+impl Eq for RowValue {
+    ghost use Rattle.vx_trees.proofs.Sameness.{same-equivalence};
+    ghost use Rattle.std.specs.Cmp.{on_equiv};
+    ghost use Rattle.vx_types.specs.Value.{value_code};
+    ghost use Rattle.vx_arrays.specs.Plain.{plain_value};
 
-// Whether there are cells to spend for bytes.
-fn has_cells(bytes: &[u8], budget: u64) -> bool
-    ensures { IsTrue result ↔ (suc (length bytes.now) ≤ budget) }
-{
-    (bytes.len() as u64) < budget
+    ghost laws = { on_equiv plain_value (same-equivalence value_code) };
 }
 
 // A text of its own.
@@ -90,7 +69,7 @@ pub(crate) fn owned_text(alloc: Global, text: &str) -> Result<Name, ArrayError>
 }
 
 // Bytes of their own.
-fn owned_bytes(alloc: Global, bytes: &[u8]) -> Result<Blob, ArrayError>
+pub(crate) fn owned_bytes(alloc: Global, bytes: &[u8]) -> Result<Blob, ArrayError>
     ensures ok { IfOk result (λ blob. blob ≡ bytes.now) }
     ensures err { IsOkUnless result ArrayError.OutOfMemory }
 {

@@ -1,17 +1,17 @@
 //! The names of a node's slots and of its buffers.
 
-ghost use Rattle.std.specs.Prelude.{◌≡◌, ◌<◌, length, slice_get, Some, ◌∷◌, [], IfOk, IsOkUnless};
+ghost use Rattle.std.specs.Prelude.{◌≡◌, ◌<◌, length, slice_get, Some, ◌∷◌, [], IfOk, IfSome, IfNone, IsOkUnless};
 ghost use Rattle.vx_trees.specs.Rose.{label};
-ghost use Rattle.vx_types.specs.Typ.{Typ};
+ghost use Rattle.vx_types.specs.Seen.{typ};
 ghost use Rattle.vx_arrays.specs.Plain.{plain_body};
-ghost use Rattle.vx_arrays.specs.Slots.{slot_names, buffer_names};
+ghost use Rattle.vx_arrays.specs.Slots.{slot_names, buffer_names, member_names};
 
 use crate::array::Array;
 use crate::body::Body;
 use crate::error::ArrayError;
 use crate::row::owned_text;
 use std::alloc::Global;
-use vx_types::Name;
+use vx_types::{DType, Name, Names};
 
 impl Array {
     /// How many slots the root has: one for each child that a node of its encoding and type may have, also where the
@@ -19,7 +19,7 @@ impl Array {
     pub fn nslots(&self) -> usize
         ensures { result ≡ length (slot_names (label self.now).dtype (label self.now).body) }
     {
-        slots_of(self.body())
+        slots_of(self.dtype(), self.body())
     }
 
     /// The name of the root's slot of this number: that of the child which stands there, or may.
@@ -28,7 +28,7 @@ impl Array {
         ensures ok { IfOk result (λ name. slice_get (slot_names (label self.now).dtype (label self.now).body) index ≡ Some name) }
         ensures err { IsOkUnless result ArrayError.OutOfMemory }
     {
-        owned_text(alloc, slot_of(self.body(), index))
+        owned_text(alloc, slot_of(self.dtype(), self.body(), index))
     }
 
     /// The name of the root's buffer of this number: `None` exactly past the last.
@@ -37,7 +37,7 @@ impl Array {
         ensures err { IsOkUnless result ArrayError.OutOfMemory }
     {
         match self.body() {
-            Body::Null => Ok(None),
+            Body::Null | Body::FixedSizeList | Body::Struct => Ok(None),
             Body::Bool(_) => only_name(alloc, "bits", index),
             Body::Primitive(_) | Body::Decimal(_) => only_name(alloc, "values", index),
             Body::VarBin(_) => only_name(alloc, "bytes", index),
@@ -46,26 +46,52 @@ impl Array {
     }
 }
 
-// How many slots a node has.
-fn slots_of(body: &Body) -> usize
-    ensures { (d : Typ) → result ≡ length (slot_names d (plain_body body.now)) }
+// How many slots a node of this type has.
+fn slots_of(dtype: &DType, body: &Body) -> usize
+    ensures { result ≡ length (slot_names (typ dtype.now) (plain_body body.now)) }
 {
     match body {
         Body::Null => 0,
         Body::Bool(_) | Body::Primitive(_) | Body::Decimal(_) | Body::VarBinView(_) => 1,
-        Body::VarBin(_) => 2,
+        Body::VarBin(_) | Body::FixedSizeList => 2,
+        Body::Struct => match members_of(dtype) {
+            Some(names) => names.as_slice().len() + 1,
+            None => 1,
+        },
     }
 }
 
-// The name of a node's slot.
-fn slot_of(body: &Body, index: usize) -> &'static str
-    requires { (d : Typ) × (index < length (slot_names d (plain_body body.now))) }
-    ensures { (d : Typ) → slice_get (slot_names d (plain_body body.now)) index ≡ Some result.now }
+// The names of the fields of a type of structures, and of the members of one of unions.
+fn members_of(dtype: &DType) -> Option<&Names>
+    ensures some { IfSome result (λ names. names.now ≡ member_names (typ dtype.now)) }
+    ensures none { IfNone result (member_names (typ dtype.now) ≡ []) }
+{
+    match dtype {
+        DType::Struct(fields, _) => Some(fields.names()),
+        DType::Union(members, _) => Some(members.names()),
+        _ => None,
+    }
+}
+
+// The name of the slot of a node of this type.
+fn slot_of<'a>(dtype: &'a DType, body: &Body, index: usize) -> &'a str
+    requires { index < length (slot_names (typ dtype.now) (plain_body body.now)) }
+    ensures { slice_get (slot_names (typ dtype.now) (plain_body body.now)) index ≡ Some result.now }
 {
     match body {
         Body::Null => unreachable!(),
         Body::Bool(_) | Body::Primitive(_) | Body::Decimal(_) | Body::VarBinView(_) => "validity",
         Body::VarBin(_) => { if index == 0 { "offsets" } else { "validity" } }
+        Body::FixedSizeList => { if index == 0 { "elements" } else { "validity" } }
+        Body::Struct => {
+            if index == 0 {
+                return "validity";
+            }
+            match members_of(dtype) {
+                Some(names) => names.as_slice()[index - 1].as_str(),
+                None => unreachable!(),
+            }
+        }
     }
 }
 

@@ -1,25 +1,21 @@
 //! Texts and bytes: which bytes are texts, parts of bytes by offsets, and rows of bytes.
 
-ghost use Rattle.std.specs.Prelude.{ℕ, suc, ◌≡◌, ◌<◌, ◌≤◌, ◌↔◌, [], Some, IfOk, IfErr, OnOk, IsTrue, length};
+ghost use Rattle.std.specs.Prelude.{ℕ, suc, ◌≡◌, ◌<◌, ◌≤◌, ◌↔◌, [], Some, IsTrue, length};
 ghost use Rattle.vx_trees.specs.Rose.{count, label};
 ghost use Rattle.vx_types.specs.Content.{IsText};
 ghost use Rattle.vx_types.specs.Seen.{typ};
-ghost use Rattle.vx_types.specs.Value.{lone, value_cells};
 ghost use Rattle.vx_array_tree.specs.Encodings.VarBins.{AreOffsets, IsContent, bytes_at, mark_of};
 ghost use Rattle.vx_array_tree.specs.Place.{before_validity};
 ghost use Rattle.vx_array_tree.specs.Rows.{IsThere, validity as valid_by};
 ghost use Rattle.vx_array_tree.specs.Tree.{option_trees, places, rows_below, rows_of};
-ghost use Rattle.vx_arrays.specs.Plain.{plain_value};
-ghost use Rattle.vx_arrays.specs.Refused.{IsValueRefused};
+ghost use Rattle.vx_arrays.specs.Parts.{lone_mark};
 ghost use Rattle.vx_arrays.specs.VarBins.{IsOfBytes};
 ghost use Rattle.std.specs.Str.{is_utf8};
 
 use crate::array::Array;
-use crate::error::ArrayError;
 use crate::offsets::index_at;
-use crate::row::{RowValue, bytes_row, text_row};
+use crate::parts::LoneRow;
 use crate::validity::option_validity_at;
-use std::alloc::Global;
 use vx_types::DType;
 
 // The bytes from an offset up to the next one.
@@ -108,22 +104,26 @@ pub(crate) fn is_of_bytes(dtype: &DType) -> bool
     }
 }
 
-// A row of a type of texts or of bytes, if there are cells to spend for it.
-pub(crate) fn part_row(
-    alloc: Global,
-    dtype: &DType,
-    bytes: &[u8],
-    budget: u64,
-) -> Result<RowValue, ArrayError>
+// A text by its bytes.
+fn text_of(bytes: &[u8]) -> &str
+    requires { IsText bytes.now }
+    ensures { result.now ≡ bytes.now }
+{
+    match simdutf8::basic::from_utf8(bytes) {
+        Ok(text) => text,
+        Err(_) => unreachable!(),
+    }
+}
+
+// A row of a type of texts or of bytes, by its bytes.
+pub(crate) fn lone_part<'a>(dtype: &DType, bytes: &'a [u8]) -> LoneRow<'a>
     requires kind { IsOfBytes (typ dtype.now) }
     requires text { IsContent (typ dtype.now) bytes.now }
-    ensures row { IfOk result (λ row. plain_value row ≡ lone (mark_of (typ dtype.now) bytes.now)) }
-    ensures fits { OnOk result (value_cells (lone (mark_of (typ dtype.now) bytes.now)) ≤ budget) }
-    ensures err { IfErr result (λ e. IsValueRefused e (value_cells (lone (mark_of (typ dtype.now) bytes.now))) budget) }
+    ensures { lone_mark result ≡ mark_of (typ dtype.now) bytes.now }
 {
     match dtype {
-        DType::Utf8(_) => text_row(alloc, bytes, budget),
-        DType::Binary(_) => bytes_row(alloc, bytes, budget),
+        DType::Utf8(_) => LoneRow::Utf8(text_of(bytes)),
+        DType::Binary(_) => LoneRow::Binary(bytes),
         _ => unreachable!(),
     }
 }

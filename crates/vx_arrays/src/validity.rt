@@ -1,8 +1,8 @@
 //! The validity of a node: the child that says which rows are there.
 
-ghost use Rattle.std.specs.Prelude.{◌≡◌, ◌<◌, ◌↔◌, ℕ, [], Some, false, IfErr, IfOk, IsTrue, IsOkUnless};
+ghost use Rattle.std.specs.Prelude.{◌≡◌, ◌<◌, ◌≤◌, ◌↔◌, ℕ, [], Some, false, IfErr, IfOk, IsTrue, IsOkUnless, length};
 ghost use Rattle.vx_trees.specs.Everywhere.{EverywhereBelow};
-ghost use Rattle.vx_trees.specs.Rose.{count, node, roses_of};
+ghost use Rattle.vx_trees.specs.Rose.{count, more, node, roses_of};
 ghost use Rattle.vx_types.specs.Seen.{typ};
 ghost use Rattle.vx_array_tree.specs.Place.{before_validity};
 ghost use Rattle.vx_array_tree.specs.Refused.{IsWellShaped};
@@ -106,6 +106,34 @@ pub(crate) fn over_validity(
     }
     let children = only_validity(alloc, validity)?;
     Ok(Array::from_parts(dtype, len, body, children))
+}
+
+// The first of a node's children, and those behind it.
+pub(crate) fn parted(children: &[Array]) -> (&Array, &[Array])
+    requires { 1 ≤ length children.now }
+    ensures { more result.0.now (roses_of result.1.now) ≡ roses_of children.now }
+{
+    match children {
+        [first, behind @ ..] => (first, behind),
+        [] => unreachable!(),
+    }
+}
+
+// The children of a node that has one, and behind it at most a validity.
+pub(crate) fn with_validity(
+    alloc: Global,
+    first: Array,
+    validity: Option<Array>,
+) -> Result<Vec<Array>, ArrayError>
+    ensures children { IfOk result (λ children. roses_of children.items ≡ more first (option_trees validity)) }
+    ensures err { IsOkUnless result ArrayError.OutOfMemory }
+{
+    let mut children = Vec::new(alloc);
+    children.push(first)?;
+    if let Some(array) = validity {
+        children.push(array)?;
+    }
+    Ok(children)
 }
 
 /// The validity of `len` rows of which none is there: a bit of 0 for each, in the fewest bytes.

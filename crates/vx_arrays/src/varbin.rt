@@ -5,7 +5,7 @@ ghost use Rattle.vx_trees.specs.Everywhere.{EverywhereBelow};
 ghost use Rattle.vx_trees.specs.Rose.{label, more, node, roses_of};
 ghost use Rattle.vx_buffer.specs.Buffer.{Buffer};
 ghost use Rattle.vx_types.specs.Seen.{typ};
-ghost use Rattle.vx_types.specs.Value.{lone, value_cells};
+ghost use Rattle.vx_types.specs.Value.{lone};
 ghost use Rattle.vx_array_tree.specs.Body as B;
 ghost use Rattle.vx_array_tree.specs.Encodings.VarBins.{Content, IsContent, mark_of, rows as rows_of_parts};
 ghost use Rattle.vx_array_tree.specs.Refused.{IsWellShaped};
@@ -14,8 +14,8 @@ ghost use Rattle.vx_array_tree.specs.Sound.{IsSound, IsSoundNode};
 ghost use Rattle.vx_array_tree.specs.Tree.{Tree, option_trees, rows_below, rows_of, untold};
 ghost use Rattle.vx_arrays.specs.Compared.{compared_body};
 ghost use Rattle.vx_arrays.specs.NewBuffers.{RefusesBuffers, with_buffers};
-ghost use Rattle.vx_arrays.specs.Plain.{plain_value};
-ghost use Rattle.vx_arrays.specs.Refused.{IsUnmade, IsRowRefused, IsValueRefused, IsOkOrMemory};
+ghost use Rattle.vx_arrays.specs.Parts.{lone_mark};
+ghost use Rattle.vx_arrays.specs.Refused.{IsUnmade, IsOkOrMemory};
 ghost use Rattle.vx_arrays.specs.VarBins.{IsOfBytes, IsOfOffsets, varbin_head, varbin_node, varbin_tree};
 
 use crate::array::Array;
@@ -23,9 +23,9 @@ use crate::body::Body;
 use crate::error::ArrayError;
 use crate::new_buffers::{copied_type, copied_validity, only_buffer};
 use crate::offsets::are_offsets;
-use crate::row::{RowValue, within_budget};
-use crate::texts::{are_texts, is_of_bytes, part_at, part_row};
-use crate::validity::{is_validity, validity_at};
+use crate::parts::LoneRow;
+use crate::texts::{are_texts, is_of_bytes, lone_part, part_at};
+use crate::validity::{is_validity, validity_at, with_validity};
 use std::alloc::Global;
 use std::marker::Model;
 use vx_buffer::{BufferHandle, BufferHandles};
@@ -93,33 +93,27 @@ impl VarBinData {
         }
     }
 
-    // A row's value in a node of this type, length and children, if there are cells to spend for it.
-    pub(crate) fn value_at(
-        &self,
-        alloc: Global,
+    // A row in a node of this type, length and children.
+    pub(crate) fn row_at<'a>(
+        &'a self,
         dtype: &DType,
         len: usize,
         children: &[Array],
         index: usize,
-        budget: u64,
-    ) -> Result<RowValue, ArrayError>
+    ) -> LoneRow<'a>
         requires sound { IsSoundNode (untold (typ dtype.now) len (B.varbin self.now)) (roses_of children.now) }
         requires inside { index < len }
-        ensures row { let rows = rows_of_parts (typ dtype.now) len self.now (rows_below (roses_of children.now)) in
-            IfOk result (λ row. plain_value row ≡ rows.row index) }
-        ensures fits { let rows = rows_of_parts (typ dtype.now) len self.now (rows_below (roses_of children.now)) in
-            IfOk result (λ _. rows.cells index ≤ budget) }
-        ensures err { let rows = rows_of_parts (typ dtype.now) len self.now (rows_below (roses_of children.now)) in
-            IfErr result (λ e. IsRowRefused e rows index budget) }
+        ensures { let rows = rows_of_parts (typ dtype.now) len self.now (rows_below (roses_of children.now)) in
+            lone (lone_mark result) ≡ rows.row index }
     {
         match children {
             [offsets, behind @ ..] => match validity_at(behind, len, index) {
-                None => within_budget(RowValue::Opaque, budget),
-                Some(false) => within_budget(RowValue::Null, budget),
+                None => LoneRow::Opaque,
+                Some(false) => LoneRow::Null,
                 Some(true) => {
                     let bytes = self.bytes.as_host().as_slice();
                     let part = part_at(bytes, offsets, len, index);
-                    part_row(alloc, dtype, part, budget)
+                    lone_part(dtype, part)
                 }
             },
             [] => unreachable!(),
@@ -241,23 +235,6 @@ fn is_of_offsets(dtype: &DType) -> bool
         DType::Primitive(kind, Nullability::NonNullable) => kind.is_int(),
         _ => false,
     }
-}
-
-// The children of a node that has offsets and a validity.
-fn with_validity(
-    alloc: Global,
-    offsets: Array,
-    validity: Option<Array>,
-) -> Result<Vec<Array>, ArrayError>
-    ensures children { IfOk result (λ children. roses_of children.items ≡ more offsets (option_trees validity)) }
-    ensures err { IsOkUnless result ArrayError.OutOfMemory }
-{
-    let mut children = Vec::new(alloc);
-    children.push(offsets)?;
-    if let Some(array) = validity {
-        children.push(array)?;
-    }
-    Ok(children)
 }
 
 // Whether the content of parts of the right shape is right: the offsets are, and so are the texts.

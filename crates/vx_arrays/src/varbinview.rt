@@ -4,6 +4,7 @@ ghost use Rattle.std.specs.Prelude.{◌≡◌, ◌<◌, ◌≤◌, ◌↔◌, �
 ghost use Rattle.vx_trees.specs.Everywhere.{EverywhereBelow};
 ghost use Rattle.vx_trees.specs.Rose.{count, node, roses_of};
 ghost use Rattle.vx_types.specs.Seen.{typ};
+ghost use Rattle.vx_types.specs.Value.{lone};
 ghost use Rattle.vx_array_tree.specs.Body as B;
 ghost use Rattle.vx_array_tree.specs.Encodings.VarBinViews.{Content, bytes_at, buffers_of, rows as rows_of_views};
 ghost use Rattle.vx_array_tree.specs.Place.{before_validity};
@@ -13,8 +14,8 @@ ghost use Rattle.vx_array_tree.specs.Sound.{IsSound, IsSoundNode};
 ghost use Rattle.vx_array_tree.specs.Tree.{Tree, option_trees, places, rows_below, untold};
 ghost use Rattle.vx_arrays.specs.Compared.{bare, compared_body};
 ghost use Rattle.vx_arrays.specs.NewBuffers.{RefusesBuffers, with_buffers};
-ghost use Rattle.vx_arrays.specs.Plain.{plain_value};
-ghost use Rattle.vx_arrays.specs.Refused.{IsUnmade, IsRowRefused, IsOkOrMemory};
+ghost use Rattle.vx_arrays.specs.Parts.{lone_mark};
+ghost use Rattle.vx_arrays.specs.Refused.{IsUnmade, IsOkOrMemory};
 ghost use Rattle.vx_arrays.specs.Slots.{numbered};
 ghost use Rattle.vx_arrays.specs.VarBinViews.{IsRight, varbinview_head, varbinview_tree};
 
@@ -22,8 +23,9 @@ use crate::array::Array;
 use crate::body::Body;
 use crate::error::ArrayError;
 use crate::new_buffers::{copied_type, copied_validity};
-use crate::row::{RowValue, owned_text, within_budget};
-use crate::texts::{is_content, is_of_bytes, part_row};
+use crate::parts::LoneRow;
+use crate::row::owned_text;
+use crate::texts::{is_content, is_of_bytes, lone_part};
 use crate::validity::{is_validity, only_validity, option_validity_at, validity_at};
 use crate::views::viewed;
 use std::alloc::Global;
@@ -182,31 +184,25 @@ impl VarBinViewData {
         is_validity(dtype.nullability(), len, validity)
     }
 
-    // A row's value in a node of this type, length and children, if there are cells to spend for it.
-    pub(crate) fn value_at(
-        &self,
-        alloc: Global,
+    // A row in a node of this type, length and children.
+    pub(crate) fn row_at<'a>(
+        &'a self,
         dtype: &DType,
         len: usize,
         children: &[Array],
         index: usize,
-        budget: u64,
-    ) -> Result<RowValue, ArrayError>
+    ) -> LoneRow<'a>
         requires sound { IsSoundNode (untold (typ dtype.now) len (B.varbinview self.now)) (roses_of children.now) }
         requires inside { index < len }
-        ensures row { let rows = rows_of_views (typ dtype.now) len self.now (rows_below (roses_of children.now)) in
-            IfOk result (λ row. plain_value row ≡ rows.row index) }
-        ensures fits { let rows = rows_of_views (typ dtype.now) len self.now (rows_below (roses_of children.now)) in
-            IfOk result (λ _. rows.cells index ≤ budget) }
-        ensures err { let rows = rows_of_views (typ dtype.now) len self.now (rows_below (roses_of children.now)) in
-            IfErr result (λ e. IsRowRefused e rows index budget) }
+        ensures { let rows = rows_of_views (typ dtype.now) len self.now (rows_below (roses_of children.now)) in
+            lone (lone_mark result) ≡ rows.row index }
     {
         match validity_at(children, len, index) {
-            None => within_budget(RowValue::Opaque, budget),
-            Some(false) => within_budget(RowValue::Null, budget),
+            None => LoneRow::Opaque,
+            Some(false) => LoneRow::Null,
             Some(true) => {
                 match self.bytes_at(index) {
-                    Some(bytes) => part_row(alloc, dtype, bytes, budget),
+                    Some(bytes) => lone_part(dtype, bytes),
                     None => unreachable!(),
                 }
             }

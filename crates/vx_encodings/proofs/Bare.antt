@@ -24,6 +24,12 @@ primitive_metadata x d bytes e = record { fields = F.empty; shown = nothing_show
 pub varbinview_metadata : (x : ExtMeaning) (d : Typ) (bytes : List ℕ) → bytes ≡ [] → IsMetadata codec x E.varbinview d bytes M.empty
 varbinview_metadata x d bytes e = record { fields = F.empty; shown = nothing_shown bytes e; meaning = refl; fair = tt; known = tt }
 
+pub fixed_size_list_metadata : (x : ExtMeaning) (d : Typ) (bytes : List ℕ) → bytes ≡ [] → IsMetadata codec x E.fixed_size_list d bytes M.empty
+fixed_size_list_metadata x d bytes e = record { fields = F.empty; shown = nothing_shown bytes e; meaning = refl; fair = tt; known = tt }
+
+pub struct_metadata : (x : ExtMeaning) (d : Typ) (bytes : List ℕ) → bytes ≡ [] → IsMetadata codec x E.struct d bytes M.empty
+struct_metadata x d bytes e = record { fields = F.empty; shown = nothing_shown bytes e; meaning = refl; fair = tt; known = tt }
+
 fair_null : (v : Metadata) → IsFair E.null v → v ≡ M.empty
 fair_null M.empty f = refl
 fair_null _ f = absurd f
@@ -36,6 +42,14 @@ fair_varbinview : (v : Metadata) → IsFair E.varbinview v → v ≡ M.empty
 fair_varbinview M.empty f = refl
 fair_varbinview _ f = absurd f
 
+fair_fixed_size_list : (v : Metadata) → IsFair E.fixed_size_list v → v ≡ M.empty
+fair_fixed_size_list M.empty f = refl
+fair_fixed_size_list _ f = absurd f
+
+fair_struct : (v : Metadata) → IsFair E.struct v → v ≡ M.empty
+fair_struct M.empty f = refl
+fair_struct _ f = absurd f
+
 -- What is read is that nothing is kept, of no byte.
 pub null_nothing : (x : ExtMeaning) (d : Typ) (bytes : List ℕ) (v : Metadata) → IsMetadata codec x E.null d bytes v → (bytes ≡ []) × (v ≡ M.empty)
 null_nothing x d bytes v m = (m.shown.bytes_are, fair_null v m.fair)
@@ -45,3 +59,9 @@ primitive_nothing x d bytes v m = (m.shown.bytes_are, fair_primitive v m.fair)
 
 pub varbinview_nothing : (x : ExtMeaning) (d : Typ) (bytes : List ℕ) (v : Metadata) → IsMetadata codec x E.varbinview d bytes v → (bytes ≡ []) × (v ≡ M.empty)
 varbinview_nothing x d bytes v m = (m.shown.bytes_are, fair_varbinview v m.fair)
+
+pub fixed_size_list_nothing : (x : ExtMeaning) (d : Typ) (bytes : List ℕ) (v : Metadata) → IsMetadata codec x E.fixed_size_list d bytes v → (bytes ≡ []) × (v ≡ M.empty)
+fixed_size_list_nothing x d bytes v m = (m.shown.bytes_are, fair_fixed_size_list v m.fair)
+
+pub struct_nothing : (x : ExtMeaning) (d : Typ) (bytes : List ℕ) (v : Metadata) → IsMetadata codec x E.struct d bytes v → (bytes ≡ []) × (v ≡ M.empty)
+struct_nothing x d bytes v m = (m.shown.bytes_are, fair_struct v m.fair)

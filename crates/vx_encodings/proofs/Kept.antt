@@ -13,7 +13,7 @@ use Rattle.vx_array_tree.specs.Tree.{Tree, Trees, places}
 use Rattle.vx_wire_tree.specs.Fields.{told}
 use Rattle.vx_arrays.specs.Plain.{plain_body}
 use Rattle.vx_arrays.specs.declared.body.Body.{Body}
-use Rattle.vx_arrays.specs.declared.body.Body.TheVariants.{Null, Bool, Primitive, Decimal, VarBin, VarBinView}
+use Rattle.vx_arrays.specs.declared.body.Body.TheVariants.{Null, Bool, Primitive, Decimal, VarBin, VarBinView, FixedSizeList, Struct}
 use Rattle.vx_encodings.specs.BoolMessage.{bool_bytes}
 use Rattle.vx_encodings.specs.DecimalMessage.{decimal_bytes}
 use Rattle.vx_encodings.specs.Messages.{message_bytes}
@@ -51,5 +51,11 @@ kinds_kept t b x us (Err error) e p u q = tt
 pub views_kept : (t : Tree) (b : Body) (x : VarBinViews.Data) (bytes : List ℕ) → b ≡ VarBinView x → plain_body b ≡ (label t).body → bytes ≡ [] → bytes ≡ message_bytes (told (metadata_in (label t) (below t)))
 views_kept t b x bytes e p q = q ∙ root t b (VarBinView x) e p
 
+pub lists_kept : (t : Tree) (b : Body) (bytes : List ℕ) → b ≡ FixedSizeList → plain_body b ≡ (label t).body → bytes ≡ [] → bytes ≡ message_bytes (told (metadata_in (label t) (below t)))
+lists_kept t b bytes e p q = q ∙ root t b FixedSizeList e p
+
+pub structures_kept : (t : Tree) (b : Body) (bytes : List ℕ) → b ≡ Struct → plain_body b ≡ (label t).body → bytes ≡ [] → bytes ≡ message_bytes (told (metadata_in (label t) (below t)))
+structures_kept t b bytes e p q = q ∙ root t b Struct e p
+
 -- What the writing of metadata rests on.
-pub ruleset kept = (nulls_kept, numbers_kept, flags_kept, decimals_kept, kinds_kept, views_kept)
+pub ruleset kept = (nulls_kept, numbers_kept, flags_kept, decimals_kept, kinds_kept, views_kept, lists_kept, structures_kept)

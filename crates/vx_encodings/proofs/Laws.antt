@@ -1,9 +1,9 @@
 -- What holds of the messages of metadata, encoding by encoding, and of the tables of statistics.
-use Rattle.std.proofs.Common.{ℕ, zero, suc, ◌≡◌, List, [], ◌∷◌, Some, length, refl, sym, ap, ◌∙◌}
+use Rattle.std.proofs.Common.{ℕ, zero, suc, ◌≡◌, ◌*◌, List, [], ◌∷◌, Option, Some, None, length, refl, sym, ap, ◌∙◌}
 use Rattle.vx_flat.specs.Value.{table}
-use Rattle.vx_trees.specs.Rose.{node, end}
+use Rattle.vx_trees.specs.Rose.{node, end, more}
 use Rattle.vx_types.specs.Known.{ExtMeaning}
-use Rattle.vx_types.specs.Kind.{null, boolean, primitive, decimal, utf8, binary}
+use Rattle.vx_types.specs.Kind.{null, boolean, primitive, decimal, utf8, binary, fixed_size_list, structure}
 use Rattle.vx_types.specs.Typ.{Typ}
 use Rattle.vx_types.specs.declared.ptype.PType.{PType}
 use Rattle.vx_array_tree.specs.Encoding as E
@@ -13,9 +13,11 @@ use Rattle.vx_array_tree.specs.Encodings.Primitives as Primitives
 use Rattle.vx_array_tree.specs.Encodings.Decimals as Decimals
 use Rattle.vx_array_tree.specs.Encodings.VarBins as VarBins
 use Rattle.vx_array_tree.specs.Encodings.VarBinViews as VarBinViews
+use Rattle.vx_array_tree.specs.Encodings.FixedSizeLists as FixedSizeLists
+use Rattle.vx_array_tree.specs.Encodings.Structs as Structs
 use Rattle.vx_array_tree.specs.Metadata.{Metadata}
 use Rattle.vx_array_tree.specs.Metadata as M
-use Rattle.vx_array_tree.specs.Place.{Place, place, numbers, exactly, before_validity, validity_place, is_len}
+use Rattle.vx_array_tree.specs.Place.{Place, place, numbers, exactly, before_validity, behind_validity, validity_place, places_at, is_len}
 use Rattle.vx_array_tree.specs.Table.{IsFair, plan_of}
 use Rattle.vx_array_tree.proofs.Options.{mapped, let_through}
 use Rattle.vx_scalars.specs.Stats.{Stats}
@@ -23,13 +25,14 @@ use Rattle.vx_scalar_wire.proofs.LawsStats.{one_set_in, shown_fit_in, written_sh
 use Rattle.vx_wire_tree.specs.Codec.{IsLawfulAt, HasLawfulStats}
 use Rattle.vx_wire_tree.specs.Fields.{Fields, FitsMessage, meant, told}
 use Rattle.vx_wire_tree.specs.Reads.{IsMetadata}
+use Rattle.vx_encodings.proofs.Fronts.{behind_some, behind_none}
 use Rattle.vx_encodings.proofs.OffsetKinds.{one_kind, kind_again}
 use Rattle.vx_encodings.proofs.Offsets.{one_offset, offset_again}
 use Rattle.vx_encodings.proofs.Widths.{one_width, width_again}
 use Rattle.vx_encodings.specs.Messages.{Shows, ShowsNothing, message_bytes, codec}
 use Rattle.vx_encodings.specs.Plain.{plain_encoding}
 use Rattle.vx_encodings.specs.declared.encoding.Encoding.{Encoding}
-use Rattle.vx_encodings.specs.declared.encoding.Encoding.TheVariants.{Null, Bool, Primitive, Decimal, VarBin, VarBinView}
+use Rattle.vx_encodings.specs.declared.encoding.Encoding.TheVariants.{Null, Bool, Primitive, Decimal, VarBin, VarBinView, FixedSizeList, Struct}
 
 one_nothing : (bytes : List ℕ) (f g : Fields) → ShowsNothing bytes f → ShowsNothing bytes g → f ≡ g
 one_nothing bytes f g a b = a.fields_are ∙ sym b.fields_are
@@ -101,6 +104,22 @@ varbinview_again _ fair fits = absurd fair
 pub varbinview_lawful : IsLawfulAt codec E.varbinview
 varbinview_lawful = record { one_message = one_message E.varbinview; message_again = varbinview_again }
 
+fixed_size_list_again : (v : Metadata) → IsFair E.fixed_size_list v → FitsMessage v → Shows E.fixed_size_list (message_bytes (told v)) (told v)
+fixed_size_list_again M.empty fair fits = record { bytes_are = refl; fields_are = refl }
+fixed_size_list_again _ fair fits = absurd fair
+
+-- So are those of lists of one size.
+pub fixed_size_list_lawful : IsLawfulAt codec E.fixed_size_list
+fixed_size_list_lawful = record { one_message = one_message E.fixed_size_list; message_again = fixed_size_list_again }
+
+struct_again : (v : Metadata) → IsFair E.struct v → FitsMessage v → Shows E.struct (message_bytes (told v)) (told v)
+struct_again M.empty fair fits = record { bytes_are = refl; fields_are = refl }
+struct_again _ fair fits = absurd fair
+
+-- So are those of structures.
+pub struct_lawful : IsLawfulAt codec E.struct
+struct_lawful = record { one_message = one_message E.struct; message_again = struct_again }
+
 -- So are those of each encoding that has code.
 pub lawful : (e : Encoding) → IsLawfulAt codec (plain_encoding e)
 lawful Null = null_lawful
@@ -109,6 +128,8 @@ lawful Primitive = primitive_lawful
 lawful Decimal = decimal_lawful
 lawful VarBin = varbin_lawful
 lawful VarBinView = varbinview_lawful
+lawful FixedSizeList = fixed_size_list_lawful
+lawful Struct = struct_lawful
 
 -- And so are the tables of statistics.
 pub stats_lawful : HasLawfulStats codec
@@ -134,6 +155,10 @@ fair_message VarBin (M.varbin p) fair = tt
 fair_message VarBin _ fair = absurd fair
 fair_message VarBinView M.empty fair = tt
 fair_message VarBinView _ fair = absurd fair
+fair_message FixedSizeList M.empty fair = tt
+fair_message FixedSizeList _ fair = absurd fair
+fair_message Struct M.empty fair = tt
+fair_message Struct _ fair = absurd fair
 
 -- ---- plans
 
@@ -183,6 +208,18 @@ varbinview_count (node (utf8 m) end) n k qs e = validity_count n k qs e
 varbinview_count (node (binary m) end) n k qs e = validity_count n k qs e
 varbinview_count _ n k qs e = absurd (cc)
 
+fixed_size_list_count : (d : Typ) (n k : ℕ) (qs : List Place) → FixedSizeLists.plan d n k ≡ Some qs → length qs ≡ k
+fixed_size_list_count (node (fixed_size_list s m) (more x end)) n k qs e = behind_count (place x (n * s) ∷ []) n k qs (let_through (is_len (n * s)) _ _ e)
+fixed_size_list_count _ n k qs e = absurd (cc)
+
+front_by : (ps : List Place) (n k : ℕ) (qs : List Place) (o : Option (List Place)) → exactly ps k ≡ o → behind_validity ps n k ≡ Some qs → length qs ≡ k
+front_by ps n k qs (Some rs) e h = exactly_count ps k qs (e ∙ (sym (behind_some ps n k rs e) ∙ h))
+front_by ps n k qs None e h = exactly_count (validity_place n ∷ ps) k qs (sym (behind_none ps n k e) ∙ h)
+
+struct_count : (d : Typ) (n k : ℕ) (qs : List Place) → Structs.plan d n k ≡ Some qs → length qs ≡ k
+struct_count (node (structure ns m) ts) n k qs e = front_by (places_at ts n) n k qs (exactly (places_at ts n) k) refl e
+struct_count _ n k qs e = absurd (cc)
+
 -- An encoding that has code plans a place for each child.
 pub plan_length : (encoding : Encoding) (d : Typ) (n : ℕ) (v : Metadata) (k : ℕ) (qs : List Place) → plan_of (plain_encoding encoding) d n v k ≡ Some qs → length qs ≡ k
 plan_length Null d n M.empty k qs e = null_count d n k qs e
@@ -197,3 +234,7 @@ plan_length VarBin d n (M.varbin p) k qs e = varbin_count d n p k qs e
 plan_length VarBin d n _ k qs e = absurd (cc)
 plan_length VarBinView d n M.empty k qs e = varbinview_count d n k qs e
 plan_length VarBinView d n _ k qs e = absurd (cc)
+plan_length FixedSizeList d n M.empty k qs e = fixed_size_list_count d n k qs e
+plan_length FixedSizeList d n _ k qs e = absurd (cc)
+plan_length Struct d n M.empty k qs e = struct_count d n k qs e
+plan_length Struct d n _ k qs e = absurd (cc)

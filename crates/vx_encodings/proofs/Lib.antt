@@ -1,6 +1,7 @@
 pub mod Laws
 mod Refusing
 mod Bare
+mod Fronts
 mod Unread
 mod Numbers
 mod Offsets
@@ -16,3 +17,5 @@ mod PrimitiveSteps
 mod DecimalSteps
 mod VarBinSteps
 mod VarBinViewSteps
+mod FixedSizeListSteps
+mod StructSteps

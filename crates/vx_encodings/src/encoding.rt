@@ -3,7 +3,10 @@
 ghost use Rattle.std.specs.Prelude.{◌≡◌};
 ghost use Rattle.vx_array_tree.specs.Table.{id_of};
 
-use vx_arrays::{BoolArray, DecimalArray, NullArray, PrimitiveArray, VarBinArray, VarBinViewArray};
+use vx_arrays::{
+    BoolArray, DecimalArray, FixedSizeListArray, NullArray, PrimitiveArray, StructArray, VarBinArray,
+    VarBinViewArray,
+};
 
 /// The shipped encodings.
 #[derive(Clone, Copy, Debug, PartialEq, Eq)]
@@ -20,6 +23,10 @@ pub enum Encoding {
     VarBin,
     /// Texts or bytes, by views into buffers.
     VarBinView,
+    /// Lists of one size, whose elements stand one row's after the other's.
+    FixedSizeList,
+    /// Structures, by their fields.
+    Struct,
 }
 
 impl Encoding {
@@ -36,6 +43,8 @@ impl Encoding {
             Encoding::Decimal => DecimalArray::ID,
             Encoding::VarBin => VarBinArray::ID,
             Encoding::VarBinView => VarBinViewArray::ID,
+            Encoding::FixedSizeList => FixedSizeListArray::ID,
+            Encoding::Struct => StructArray::ID,
         }
     }
 }

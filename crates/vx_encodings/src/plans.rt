@@ -1,6 +1,9 @@
 //! Lists of the places of children.
 
-ghost use Rattle.std.specs.Prelude.{◌≡◌, ◌∷◌, ◌++◌, [], length, slice_get, option_map, OnOk, OnErr, IsOkUnless};
+ghost use Rattle.std.specs.Prelude.{◌≡◌, ◌∷◌, ◌++◌, [], length, slice_get, option_map, IfOk, OnOk, OnErr, IsOkUnless};
+ghost use Rattle.vx_types.specs.Seen.{typ};
+ghost use Rattle.vx_array_tree.specs.Place.{place};
+ghost use Rattle.vx_encodings.specs.Plain.{planned_place};
 
 use crate::error::EncodingError;
 use std::alloc::Global;
@@ -14,6 +17,17 @@ pub struct ChildPlan {
     pub dtype: DType,
     /// How many rows it has.
     pub len: usize,
+}
+
+// A child that is to be of this type and length.
+pub(crate) fn plan_of(alloc: Global, dtype: &DType, len: usize) -> Result<ChildPlan, EncodingError>
+    ensures ok { IfOk result (λ plan. planned_place plan ≡ place (typ dtype.now) len) }
+    ensures err { IsOkUnless result EncodingError.OutOfMemory }
+{
+    match dtype.clone(alloc) {
+        Ok(dtype) => Ok(ChildPlan { dtype, len }),
+        Err(_) => Err(EncodingError::OutOfMemory),
+    }
 }
 
 /// What the children of a node are to be, in their order. Contracts see their places.

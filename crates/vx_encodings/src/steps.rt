@@ -17,7 +17,7 @@ use crate::encoding::Encoding;
 use crate::error::EncodingError;
 use crate::head::ArrayHead;
 use crate::plans::ChildPlans;
-use crate::{bool, decimal, null, primitive, varbin, varbinview};
+use crate::{bool, decimal, fixed_size_list, null, primitive, structs, varbin, varbinview};
 use std::alloc::Global;
 use vx_arrays::{Array, Arrays, Body};
 use vx_buffer::BufferHandles;
@@ -63,6 +63,8 @@ fn plan_by(
         Encoding::Decimal => decimal::plan(alloc, head),
         Encoding::VarBin => varbin::plan(alloc, head),
         Encoding::VarBinView => varbinview::plan(alloc, head),
+        Encoding::FixedSizeList => fixed_size_list::plan(alloc, head),
+        Encoding::Struct => structs::plan(alloc, head),
     }
 }
 
@@ -114,6 +116,8 @@ fn build_by(
         Encoding::Decimal => decimal::build(alloc, head, buffers, children),
         Encoding::VarBin => varbin::build(alloc, head, buffers, children),
         Encoding::VarBinView => varbinview::build(alloc, head, buffers, children),
+        Encoding::FixedSizeList => fixed_size_list::build(alloc, head, buffers, children),
+        Encoding::Struct => structs::build(alloc, head, buffers, children),
     }
 }
 
@@ -130,5 +134,7 @@ pub fn metadata(alloc: Global, array: &Array) -> Result<Blob, EncodingError>
         Body::Decimal(decimals) => decimal::metadata(alloc, decimals),
         Body::VarBin(_) => varbin::metadata(alloc, array.children()),
         Body::VarBinView(_) => Ok(write_empty(alloc)),
+        Body::FixedSizeList => Ok(write_empty(alloc)),
+        Body::Struct => Ok(write_empty(alloc)),
     }
 }

@@ -14,7 +14,7 @@ use vx_arrays::Array;
 use vx_types::{DType, Nullability};
 
 // What the validity of so many rows is to be.
-fn validity_of(len: usize) -> ChildPlan
+pub(crate) fn validity_of(len: usize) -> ChildPlan
     ensures { planned_place result ≡ validity_place len }
 {
     ChildPlan {

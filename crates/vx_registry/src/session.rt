@@ -67,6 +67,8 @@ impl ArraySession {
             Encoding::Decimal,
             Encoding::VarBin,
             Encoding::VarBinView,
+            Encoding::FixedSizeList,
+            Encoding::Struct,
         ] {
             session.set(encoding)?;
         }

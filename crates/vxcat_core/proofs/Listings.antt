@@ -74,11 +74,11 @@ row_lines-next tree i shown within =
 small : (n : ℕ) → n ≤ 10000 → nat_lt 10000 n ≡ false
 small n h = grind arith
 
--- A row of few cells is shown by its value's text, which was made at every type.
-pub row_shown : {E : Type 0} (tree : Tree) (i : ℕ) (value : Value) (result : Result (String Global) E) → value ≡ row_at tree i → cells tree i ≤ 10000
-    → ((d : Typ) → IfOk result (λ text. string_bytes text ≡ value_text value d)) → IfOk result (λ text. string_bytes text ≡ shown_row tree i)
-row_shown tree i value (Err e) row few texts = tt
-row_shown tree i value (Ok text) row few texts =
-    let d = (label tree).dtype in
-    let shown : Bool → List ℕ = λ large. if large then codes "(large)" else value_text (row_at tree i) d in
-    texts d ∙ ap (λ v. value_text v d) row ∙ sym (ap shown (small (cells tree i) few))
+-- A row of few cells is shown by its value's text at the array's type.
+pub row_shown : {E : Type 0} (tree : Tree) (i : ℕ) (value : Value) (d : Typ) (result : Result (String Global) E) → value ≡ row_at tree i → d ≡ (label tree).dtype → cells tree i ≤ 10000
+    → IfOk result (λ text. string_bytes text ≡ value_text value d) → IfOk result (λ text. string_bytes text ≡ shown_row tree i)
+row_shown tree i value d (Err e) row typed few text_is = tt
+row_shown tree i value d (Ok text) row typed few text_is =
+    let e = (label tree).dtype in
+    let shown : Bool → List ℕ = λ large. if large then codes "(large)" else value_text (row_at tree i) e in
+    text_is ∙ ap (λ v. value_text v d) row ∙ ap (λ z. value_text (row_at tree i) z) typed ∙ sym (ap shown (small (cells tree i) few))

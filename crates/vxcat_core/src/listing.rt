@@ -122,7 +122,7 @@ fn shown_row(alloc: Global, array: &Array, i: usize) -> Result<String, AllocErro
     ensures { IfOk result (λ text. string_bytes text ≡ shown_row array.now i) }
 {
     match array.value_at(alloc, i, MAX_CELLS) {
-        Ok(value) => row_text(alloc, &value),
+        Ok(value) => row_text(alloc, &value, array.dtype()),
         Err(ArrayError::ValueTooLarge) => String::from_str(alloc, "(large)"),
         Err(_) => Err(AllocError),
     }

@@ -1,24 +1,27 @@
 //! The text of a row's value.
 
-ghost use Rattle.std.specs.Prelude.{◌≡◌, IfOk, string_bytes};
-ghost use Rattle.vx_types.specs.Typ.{Typ};
-ghost use Rattle.vx_arrays.specs.Plain.{plain_value};
+ghost use Rattle.std.specs.Prelude.{◌≡◌, ◌++◌, IfOk, OnOk, codes, string_bytes, if◌then◌else◌};
+ghost use Rattle.vx_trees.specs.Rose.{node, roses_of};
+ghost use Rattle.vx_types.specs.Seen.{typ, typs};
+ghost use Rattle.vx_types.specs.Value.{tuple};
+ghost use Rattle.vx_arrays.specs.Plain.{plain_value, plain_values};
 ghost use Rattle.vx_scalars.specs.Decimals.{decimal_of};
-ghost use Rattle.vxcat_core.specs.RowText.{bytes_text, decimal_text, hex_text, number_text, value_text};
+ghost use Rattle.vxcat_core.specs.RowText.{bytes_text, decimal_text, each_text, entry_text, entry_texts, further_text, hex_text, number_text, parted, texts_by, value_text};
 
 use std::alloc::{AllocError, Global};
 use vx_arrays::RowValue;
-use vx_scalars::DecimalValue;
-use vx_types::PValue;
+use vx_scalars::{DecimalValue, bare_dtype};
+use vx_types::{DType, MapDType, PValue};
 
-/// The text of a row's value: `null`, `true`, `false`, an integer in decimal, a float's bits as `0x` and hex digits, a decimal's
-/// unscaled integer, a text or bytes as hex digits behind an `x`, or `?` where nothing is known of the row. None of these
-/// looks at the row's type.
+/// The text of a row's value, of a row of this type: `null`, `true`, `false`, an integer in decimal, a float's bits as `0x`
+/// and hex digits, a decimal's unscaled integer, a text or bytes as hex digits behind an `x`, or `?` where nothing is known
+/// of the row; and of values with values in them `[a, b]` for lists, `{a, b}` for structures and `{k=>v, k=>v}` for maps.
 ///
 /// # Errors
 /// Want of memory.
-pub fn row_text(alloc: Global, value: &RowValue) -> Result<String, AllocError>
-    ensures { (d : Typ) → IfOk result (λ text. string_bytes text ≡ value_text (plain_value value.now) d) }
+#[cycle(text)]
+pub fn row_text(alloc: Global, value: &RowValue, dtype: &DType) -> Result<String, AllocError>
+    ensures { IfOk result (λ text. string_bytes text ≡ value_text (plain_value value.now) (typ dtype.now)) }
 {
     match value {
         RowValue::Null => String::from_str(alloc, "null"),
@@ -29,6 +32,98 @@ pub fn row_text(alloc: Global, value: &RowValue) -> Result<String, AllocError>
         RowValue::Decimal(decimal) => decimal_text(alloc, decimal),
         RowValue::Utf8(text) => bytes_text(alloc, text.as_str().as_bytes()),
         RowValue::Binary(bytes) => bytes_text(alloc, bytes.as_slice()),
+        RowValue::Tuple(values) => tuple_text(alloc, values.as_slice(), dtype),
+    }
+}
+
+// The text of a tuple, by its type.
+#[cycle(text)]
+fn tuple_text(alloc: Global, values: &[RowValue], dtype: &DType) -> Result<String, AllocError>
+    ensures { IfOk result (λ text. string_bytes text ≡ value_text (node tuple (roses_of (plain_values values.now))) (typ dtype.now)) }
+{
+    match bare_dtype(dtype) {
+        DType::List(element, _) | DType::FixedSizeList(element, _, _) => {
+            let texts = texts_of_one(alloc, values, element.get())?;
+            format!(in alloc; "[{texts}]")
+        }
+        DType::Struct(fields, _) => {
+            let texts = texts_by(alloc, values, fields.fields().as_slice())?;
+            format!(in alloc; "{{{texts}}}")
+        }
+        DType::Map(map, _) => {
+            let texts = entry_texts(alloc, values, map)?;
+            format!(in alloc; "{{{texts}}}")
+        }
+        _ => String::from_str(alloc, "?"),
+    }
+}
+
+// One text more, parted from those before it.
+fn add_text(texts: &mut String, text: &str, first: bool) -> Result<(), AllocError>
+    ensures { OnOk result (string_bytes texts.new ≡ string_bytes texts.old ++ (if first then text.now else further_text text.now)) }
+{
+    if first {
+        return texts.push_str(text);
+    }
+    texts.push_str(", ")?;
+    texts.push_str(text)
+}
+
+// The texts of values of one type, parted by commas.
+#[cycle(text)]
+fn texts_of_one(alloc: Global, values: &[RowValue], dtype: &DType) -> Result<String, AllocError>
+    ensures { IfOk result (λ texts. string_bytes texts ≡ parted (each_text (roses_of (plain_values values.now)) (typ dtype.now))) }
+{
+    let mut texts = String::new(alloc);
+    for i in 0..values.len() {
+        let text = row_text(alloc, &values[i], dtype)?;
+        add_text(&mut texts, text.as_str(), i == 0)?;
+    }
+    Ok(texts)
+}
+
+// The texts of values, each by its type, parted by commas.
+#[cycle(text)]
+fn texts_by(alloc: Global, values: &[RowValue], dtypes: &[DType]) -> Result<String, AllocError>
+    ensures { IfOk result (λ texts. string_bytes texts ≡ parted (texts_by (roses_of (plain_values values.now)) (roses_of (typs dtypes.now)))) }
+{
+    let mut texts = String::new(alloc);
+    for i in 0..values.len().min(dtypes.len()) {
+        let text = row_text(alloc, &values[i], &dtypes[i])?;
+        add_text(&mut texts, text.as_str(), i == 0)?;
+    }
+    Ok(texts)
+}
+
+// The texts of a map's entries, parted by commas.
+#[cycle(text)]
+fn entry_texts(alloc: Global, values: &[RowValue], map: &MapDType) -> Result<String, AllocError>
+    ensures { IfOk result (λ texts. string_bytes texts ≡ parted (entry_texts (roses_of (plain_values values.now)) map.now.key map.now.value)) }
+{
+    let mut texts = String::new(alloc);
+    for i in 0..values.len() {
+        let text = entry_text(alloc, &values[i], map)?;
+        add_text(&mut texts, text.as_str(), i == 0)?;
+    }
+    Ok(texts)
+}
+
+// The text of an entry: its key's and its value's. An entry of which nothing is known is `?`.
+#[cycle(text)]
+fn entry_text(alloc: Global, value: &RowValue, map: &MapDType) -> Result<String, AllocError>
+    ensures { IfOk result (λ text. string_bytes text ≡ entry_text (plain_value value.now) map.now.key map.now.value) }
+{
+    match value {
+        RowValue::Tuple(parts) => {
+            let parts = parts.as_slice();
+            if parts.len() != 2 {
+                return String::from_str(alloc, "?");
+            }
+            let key = row_text(alloc, &parts[0], map.key_dtype())?;
+            let value = row_text(alloc, &parts[1], map.value_dtype())?;
+            format!(in alloc; "{key}=>{value}")
+        }
+        _ => String::from_str(alloc, "?"),
     }
 }
 

@@ -1,0 +1,320 @@
+-- The children of a node of structures: a validity that may stand in front, and its columns; and its rows.
+use Rattle.std.proofs.Common.{ℕ, zero, suc, ◌≡◌, ◌≤◌, ◌<◌, ◌+◌, ◌-◌, ◌==◌, List, [], ◌∷◌, ◌++◌, Option, Some, None, option_map, Bool, true, false, refl, sym, ap, ◌∙◌, subst, inl, inr, length, take, drop, arith}
+use Rattle.std.proofs.lemmas.Bool.{eq-eqb, ne_eqb}
+use Rattle.std.proofs.lemmas.List.{take_all}
+use Rattle.std.proofs.lemmas.Option.{same_Some}
+use Rattle.std.specs.Prelude.{◌↔◌, ◌⊎◌, IsTrue, if◌then◌else◌}
+use Rattle.vx_trees.specs.Rose.{Roses, node, end, more, label, below, count, roses_of}
+use Rattle.vx_trees.specs.Walks.{nodes, nodes_of}
+use Rattle.vx_trees.proofs.Lists.{count-roses_of}
+use Rattle.vx_types.specs.Kind.{Kind, boolean, structure}
+use Rattle.vx_types.specs.Parts.{Fields}
+use Rattle.vx_types.specs.Seen.{typ, typs}
+use Rattle.vx_types.specs.Typ.{Typ}
+use Rattle.vx_types.specs.Value.{Value, tuple}
+use Rattle.vx_types.specs.declared.nullability.Nullability.{Nullability}
+use Rattle.vx_types.specs.declared.nullability.Nullability.TheVariants.{NonNullable, Nullable}
+use Rattle.vx_array_tree.specs.Body as B
+use Rattle.vx_array_tree.specs.Encodings.Structs.{plan, rows, fields, width_of, has_validity, structure_valid}
+use Rattle.vx_array_tree.specs.Place.{Place, place, exactly, behind_validity, validity_place, places_at}
+use Rattle.vx_array_tree.specs.Refused.{IsWellShaped}
+use Rattle.vx_array_tree.specs.Rows.{Rows, rest, validity, flag_in, where_valid, cells_where, values_at, cells_at}
+use Rattle.vx_array_tree.specs.Sound.{IsSoundNode}
+use Rattle.vx_array_tree.specs.Tree.{Tree, Trees, places, row_at, rows_below, rows_of, untold}
+use Rattle.vx_array_tree.proofs.Options.{mapped}
+use Rattle.vx_array_tree.proofs.Plans.{exactly_is}
+use Rattle.vx_arrays.specs.Parts.{HaveRow}
+use Rattle.vx_arrays.specs.Structs.{IsOfFields, behind_first, field_trees, place_of, struct_head}
+
+-- ---- numbers of places
+
+exactly_count : (ps : List Place) (k : ℕ) (qs : List Place) → exactly ps k ≡ Some qs → k ≡ length ps
+exactly_count [] zero qs e = refl
+exactly_count [] (suc k) qs e = absurd (cc)
+exactly_count (p ∷ ps) zero qs e = absurd (cc)
+exactly_count (p ∷ ps) (suc k) qs e =
+    let m = mapped (λ (rs : List Place). p ∷ rs) (exactly ps k) qs e in
+    ap (λ n. suc n) (exactly_count ps k m.0 m.2)
+
+exactly_self : (ps : List Place) → exactly ps (length ps) ≡ Some ps
+exactly_self [] = refl
+exactly_self (p ∷ ps) = ap (λ (o : Option (List Place)). option_map (λ qs. p ∷ qs) o) (exactly_self ps)
+
+exactly_past : (ps : List Place) → exactly ps (suc (length ps)) ≡ None
+exactly_past [] = refl
+exactly_past (p ∷ ps) = ap (λ (o : Option (List Place)). option_map (λ qs. p ∷ qs) o) (exactly_past ps)
+
+behind_some : (ps : List Place) (n k : ℕ) (qs : List Place) → exactly ps k ≡ Some qs → behind_validity ps n k ≡ Some qs
+behind_some ps n k qs e = rw (e, behind_validity) refl
+
+behind_none : (ps : List Place) (n k : ℕ) → exactly ps k ≡ None → behind_validity ps n k ≡ exactly (validity_place n ∷ ps) k
+behind_none ps n k e = rw (e, behind_validity) refl
+
+-- These places, or behind that of a validity.
+pub record IsBehind (ps : List Place) (n k : ℕ) (qs : List Place) : Type 0 where
+  pub ways : ((k ≡ length ps) × (qs ≡ ps)) ⊎ ((k ≡ suc (length ps)) × (qs ≡ validity_place n ∷ ps))
+
+behind_by : (ps : List Place) (n k : ℕ) (qs : List Place) (o : Option (List Place)) → exactly ps k ≡ o → behind_validity ps n k ≡ Some qs → IsBehind ps n k qs
+behind_by ps n k qs (Some rs) e h = record { ways = inl (exactly_count ps k rs e, sym (same_Some rs qs (sym (behind_some ps n k rs e) ∙ h)) ∙ exactly_is ps k rs e) }
+behind_by ps n k qs None e h =
+    let f = sym (behind_none ps n k e) ∙ h in
+    record { ways = inr (exactly_count (validity_place n ∷ ps) k qs f, exactly_is (validity_place n ∷ ps) k qs f) }
+
+pub behind_is : (ps : List Place) (n k : ℕ) (qs : List Place) → behind_validity ps n k ≡ Some qs → IsBehind ps n k qs
+behind_is ps n k qs h = behind_by ps n k qs (exactly ps k) refl h
+
+pub behind_self : (ps : List Place) (n : ℕ) → behind_validity ps n (length ps) ≡ Some ps
+behind_self ps n = behind_some ps n (length ps) ps (exactly_self ps)
+
+pub behind_one : (ps : List Place) (n : ℕ) → behind_validity ps n (suc (length ps)) ≡ Some (validity_place n ∷ ps)
+behind_one ps n = behind_none ps n (suc (length ps)) (exactly_past ps) ∙ exactly_self (validity_place n ∷ ps)
+
+pub places_length : (ds : Roses Kind) (n : ℕ) → length (places_at ds n) ≡ count ds
+places_length end n = refl
+places_length (more d ds) n = ap (λ k. suc k) (places_length ds n)
+
+pub places_count : (ts : Trees) → length (places ts) ≡ count ts
+places_count end = refl
+places_count (more t ts) = ap (λ k. suc k) (places_count ts)
+
+rows_count : (ts : Trees) → length (rows_below ts) ≡ count ts
+rows_count end = refl
+rows_count (more t ts) = ap (λ k. suc k) (rows_count ts)
+
+-- ---- whether a validity stands in front
+
+equal : (a b : ℕ) → a ≡ b → (a == b) ≡ true
+equal a b e = eq-eqb a b e
+
+unequal : (a b : ℕ) → (a ≡ b → ⊥) → (a == b) ≡ false
+unequal a b f = ne_eqb a b f
+
+-- ---- sound nodes
+
+pub of_fields : (d : Typ) (n k : ℕ) (ps : List Place) → plan d n k ≡ Some ps → IsOfFields d × (behind_validity (places_at (below d) n) n k ≡ Some ps)
+of_fields (node (structure names m) ds) n k ps h = (tt, h)
+of_fields _ n k ps h = absurd (cc)
+
+width_is : (d : Typ) → width_of d ≡ count (below d)
+width_is (node k ds) = refl
+
+module _ (d : Typ) (n : ℕ) (ts : Trees) (s : IsSoundNode (untold d n B.struct) ts) where
+  pub sound_fields : IsOfFields d
+  sound_fields = (of_fields d n (count ts) (places ts) s.planned).0
+
+  sound_behind : IsBehind (places_at (below d) n) n (count ts) (places ts)
+  sound_behind = behind_is (places_at (below d) n) n (count ts) (places ts) (of_fields d n (count ts) (places ts) s.planned).1
+
+-- Columns, by whether a validity stands in front of them.
+pub record HasColumns (d : Typ) (n : ℕ) (ts : Trees) : Type 0 where
+  pub columns : places (field_trees d ts) ≡ places_at (below d) n
+
+one_behind : (t : Tree) (us : Trees) (p : Place) (ps : List Place) → places (more t us) ≡ p ∷ ps → (place_of t ≡ p) × (places us ≡ ps)
+one_behind t us p ps e = (first_of e, others_of e)
+  where
+    first_of : {x y : Place} {xs ys : List Place} → x ∷ xs ≡ y ∷ ys → x ≡ y
+    first_of z = cc
+
+    others_of : {x y : Place} {xs ys : List Place} → x ∷ xs ≡ y ∷ ys → xs ≡ ys
+    others_of z = cc
+
+no_places : (p : Place) (ps : List Place) → [] ≡ p ∷ ps → ⊥
+no_places p ps e = absurd (cc)
+
+-- Where a validity stands in front, the columns are the others.
+with_front : (d : Typ) (n : ℕ) (ts : Trees) → count ts ≡ suc (length (places_at (below d) n)) → places ts ≡ validity_place n ∷ places_at (below d) n → HasColumns d n ts
+with_front d n end k e = absurd (no_places _ _ e)
+with_front d n (more t us) k e =
+    let h : has_validity d (count (more t us)) ≡ true = equal (count (more t us)) (suc (width_of d)) (k ∙ ap (λ j. suc j) (places_length (below d) n ∙ sym (width_is d))) in
+    record { columns = ap (λ b. places (if b then us else more t us)) h ∙ (one_behind t us (validity_place n) (places_at (below d) n) e).1 }
+
+without_front : (d : Typ) (n : ℕ) (ts : Trees) → count ts ≡ length (places_at (below d) n) → places ts ≡ places_at (below d) n → HasColumns d n ts
+without_front d n ts k e =
+    let w : count ts ≡ width_of d = k ∙ places_length (below d) n ∙ sym (width_is d) in
+    let h : has_validity d (count ts) ≡ false = unequal (count ts) (suc (width_of d)) (λ q. omega (arith, q, w)) in
+    record { columns = ap (λ b. places (if b then behind_first ts else ts)) h ∙ e }
+
+columns_by : (d : Typ) (n : ℕ) (ts : Trees) → IsBehind (places_at (below d) n) n (count ts) (places ts) → HasColumns d n ts
+columns_by d n ts b = elim (b.ways) [ inl x ↦ without_front d n ts x.0 x.1 | inr x ↦ with_front d n ts x.0 x.1 ]
+
+pub sound_columns : (d : Typ) (n : ℕ) (ts : Trees) → IsSoundNode (untold d n B.struct) ts → places (field_trees d ts) ≡ places_at (below d) n
+sound_columns d n ts s = (columns_by d n ts (sound_behind d n ts s)).columns
+
+-- Each column has each row.
+pub have_row : (us : Trees) (ds : Roses Kind) (n i : ℕ) → places us ≡ places_at ds n → i < n → HaveRow i us
+have_row end ds n i e h = tt
+have_row (more t us) end n i e h = tt_of (no_places _ _ (sym e))
+  where
+    tt_of : {P : Type 0} → ⊥ → P
+    tt_of x = absurd x
+have_row (more t us) (more d ds) n i e h =
+    let q = one_behind t us (place d n) (places_at ds n) e in
+    let l : (label t).len ≡ n = ap (λ (p : Place). p.len) q.0 in
+    (omega (arith, l, h), have_row us ds n i q.1 h)
+
+-- The validity that stands in front of the columns has a flag for each row.
+pub front_flags : (d : Typ) (n : ℕ) (v : Tree) (us : Trees) → IsSoundNode (untold d n B.struct) (more v us) → count us ≡ width_of d → place_of v ≡ validity_place n
+front_flags d n v us s k =
+    let b = sound_behind d n (more v us) s in
+    elim (b.ways) [
+      | inl x ↦ absurd (too_many (count us) (width_of d) (x.0 ∙ places_length (below d) n ∙ sym (width_is d)) k)
+      | inr x ↦ (one_behind v us (validity_place n) (places_at (below d) n) x.1).0
+    ]
+  where
+    too_many : (a w : ℕ) → suc a ≡ w → a ≡ w → ⊥
+    too_many a w p q = omega (arith, p, q)
+
+-- ---- the rows of the node
+
+-- Whether a row is there, where a validity stands in front of the columns, and where none does.
+pub valid_front : (d : Typ) (v : Tree) (us : Trees) (i : ℕ) (w : Option Bool) → count us ≡ width_of d → w ≡ flag_in (row_at v i)
+    → w ≡ structure_valid (has_validity d (length (rows_below (more v us)))) (rows_below (more v us)) i
+valid_front d v us i w k q =
+    let h : has_validity d (length (rows_below (more v us))) ≡ true = equal (length (rows_below (more v us))) (suc (width_of d)) (ap (λ j. suc j) (rows_count us ∙ k)) in
+    q ∙ sym (ap (λ b. structure_valid b (rows_below (more v us)) i) h)
+
+pub valid_behind : (d : Typ) (v : Tree) (us : Trees) (i : ℕ) → (count us ≡ width_of d → ⊥) → Some true ≡ structure_valid (has_validity d (length (rows_below (more v us)))) (rows_below (more v us)) i
+valid_behind d v us i k =
+    let h : has_validity d (length (rows_below (more v us))) ≡ false = unequal (length (rows_below (more v us))) (suc (width_of d)) (λ q. k (omega (arith, q, rows_count us))) in
+    sym (ap (λ b. structure_valid b (rows_below (more v us)) i) h)
+
+pub valid_none : (d : Typ) (i : ℕ) → Some true ≡ structure_valid (has_validity d 0) [] i
+valid_none d i =
+    let h : has_validity d 0 ≡ false = unequal 0 (suc (width_of d)) (λ q. omega (arith, q)) in
+    sym (ap (λ b. structure_valid b [] i) h)
+
+split_rows : (b : Bool) (ts : Trees) → rows_below (if b then behind_first ts else ts) ≡ (if b then rest (rows_below ts) else rows_below ts)
+split_rows true end = refl
+split_rows true (more t ts) = refl
+split_rows false ts = refl
+
+-- The columns' rows are those of the fields.
+columns_rows : (d : Typ) (ts us : Trees) → us ≡ field_trees d ts → rows_below us ≡ fields d (rows_below ts)
+columns_rows d ts us e =
+    ap (λ (vs : Trees). rows_below vs) e ∙ split_rows (has_validity d (count ts)) ts
+    ∙ ap (λ k. if has_validity d k then rest (rows_below ts) else rows_below ts) (sym (rows_count ts))
+
+module _ (d : Typ) (n : ℕ) (ts us : Trees) (e : us ≡ field_trees d ts) where
+  pub structure_value : (i : ℕ) (v : Option Bool) (x : Value) → v ≡ structure_valid (has_validity d (length (rows_below ts))) (rows_below ts) i
+      → ((f : ℕ → Value) (j : ℕ) → node tuple (values_at (rows_below us) i) ≡ f j → x ≡ where_valid v f j) → x ≡ (rows d n (rows_below ts)).row i
+  structure_value i v x w h =
+      h (λ j. node tuple (values_at (fields d (rows_below ts)) j)) i (ap (λ rs. node tuple (values_at rs i)) (columns_rows d ts us e))
+      ∙ ap (λ (b : Option Bool). where_valid b (λ j. node tuple (values_at (fields d (rows_below ts)) j)) i) w
+
+  pub structure_cells : (i : ℕ) (v : Option Bool) (x : ℕ) → v ≡ structure_valid (has_validity d (length (rows_below ts))) (rows_below ts) i
+      → ((f : ℕ → ℕ) (j : ℕ) → suc (cells_at (rows_below us) i) ≡ f j → x ≡ cells_where v f j) → x ≡ (rows d n (rows_below ts)).cells i
+  structure_cells i v x w h =
+      h (λ j. suc (cells_at (fields d (rows_below ts)) j)) i (ap (λ rs. suc (cells_at rs i)) (columns_rows d ts us e))
+      ∙ ap (λ (b : Option Bool). cells_where b (λ j. suc (cells_at (fields d (rows_below ts)) j)) i) w
+
+  pub columns_there : (i : ℕ) → IsSoundNode (untold d n B.struct) ts → i < n → HaveRow i us
+  columns_there i s h = subst (λ (vs : Trees). HaveRow i vs) (sym e) (have_row (field_trees d ts) (below d) n i (sound_columns d n ts s) h)
+
+  pub columns_smaller : (k : ℕ) → k ≤ nodes_of us → k ≤ nodes_of ts
+  columns_smaller k h = omega (arith, h, ap (λ (vs : Trees). nodes_of vs) e, fewer (has_validity d (count ts)) ts)
+    where
+      fewer : (b : Bool) (vs : Trees) → nodes_of (if b then behind_first vs else vs) ≤ nodes_of vs
+      fewer true end = omega arith
+      fewer true (more v vs) = omega arith
+      fewer false vs = omega arith
+
+-- Behind the first of some children stand the others.
+pub behind_length : (ts : List Tree) → 1 ≤ length ts → length (take (length ts - 1) (drop 1 ts)) ≡ length ts - 1
+behind_length [] h = absurd (omega (arith, h))
+behind_length (t ∷ ts) h = ap (λ (us : List Tree). length us) (take_all {A = Tree} (suc (length ts) - 1) ts (omega arith)) ∙ one_less (length ts)
+  where
+    one_less : (n : ℕ) → n ≡ suc n - 1
+    one_less n = omega arith
+
+-- They are the columns where there are as many as fields, and else all children are.
+pub columns_front : (d : Typ) (v : Tree) (us ts : Trees) → ts ≡ more v us → count us ≡ width_of d → us ≡ field_trees d ts
+columns_front d v us ts e k =
+    let h : has_validity d (count (more v us)) ≡ true = equal (count (more v us)) (suc (width_of d)) (ap (λ j. suc j) k) in
+    sym (ap (λ b. if b then us else more v us) h) ∙ ap (λ (zs : Trees). field_trees d zs) (sym e)
+
+pub columns_whole : (d : Typ) (v : Tree) (us ts : Trees) → ts ≡ more v us → (count us ≡ width_of d → ⊥) → ts ≡ field_trees d ts
+columns_whole d v us ts e k =
+    let h : has_validity d (count (more v us)) ≡ false = unequal (count (more v us)) (suc (width_of d)) (λ q. k (omega (arith, q))) in
+    e ∙ sym (ap (λ b. if b then us else more v us) h) ∙ ap (λ (zs : Trees). field_trees d zs) (sym e)
+
+-- ---- what is of that shape
+
+module _ (f : Fields) (m : Nullability) (n : ℕ) (ts : Trees) where
+  abbrev pub ps : List Place
+  ps = places_at (roses_of f.types) n
+
+  shaped_behind : IsWellShaped (struct_head f m n) ts → IsBehind ps n (count ts) (places ts)
+  shaped_behind h = behind_is ps n (count ts) (places ts) h.planned
+
+  width : length ps ≡ length f.types
+  width = places_length (roses_of f.types) n ∙ count-roses_of f.types
+
+  planned_at : (k : ℕ) (qs : List Place) → count ts ≡ k → places ts ≡ qs → behind_validity ps n k ≡ Some qs → behind_validity ps n (count ts) ≡ Some (places ts)
+  planned_at k qs e q h = ap (λ j. behind_validity ps n j) e ∙ h ∙ ap (λ (rs : List Place). Some rs) (sym q)
+
+  -- As many children as fields are the columns.
+  shaped_without : places ts ≡ ps → IsWellShaped (struct_head f m n) ts
+  shaped_without e =
+      let k : count ts ≡ length ps = sym (places_count ts) ∙ ap (λ (rs : List Place). length rs) e in
+      record {
+        fair = tt;
+        planned = planned_at (length ps) ps k e (behind_self ps n);
+        allows = λ q. absurd (one_more (count ts) (count (roses_of f.types)) q (k ∙ places_length (roses_of f.types) n));
+        takes = tt;
+        holds = tt;
+      }
+    where
+      one_more : (a w : ℕ) → a ≡ suc w → a ≡ w → ⊥
+      one_more a w p q = omega (arith, p, q)
+
+  -- One more is the validity in front.
+  shaped_with : m ≡ Nullable → places ts ≡ validity_place n ∷ ps → IsWellShaped (struct_head f m n) ts
+  shaped_with nullable e =
+      let k : count ts ≡ suc (length ps) = sym (places_count ts) ∙ ap (λ (rs : List Place). length rs) e in
+      record {
+        fair = tt;
+        planned = planned_at (suc (length ps)) (validity_place n ∷ ps) k e (behind_one ps n);
+        allows = λ q. nullable;
+        takes = tt;
+        holds = tt;
+      }
+
+  pub columns_decide : (r : Bool) (c : ℕ) → c ≡ length f.types → count ts ≡ c → (IsTrue r ↔ (places ts ≡ ps)) → IsTrue r ↔ IsWellShaped (struct_head f m n) ts
+  columns_decide r c q k g = (λ x. shaped_without (g.0 x), λ h. g.1 (only (shaped_behind h)))
+    where
+      only : IsBehind ps n (count ts) (places ts) → places ts ≡ ps
+      only b = elim (b.ways) [ inl x ↦ x.1 | inr x ↦ absurd (one_more (count ts) (length ps) x.0 (k ∙ q ∙ sym width)) ]
+        where
+          one_more : (a w : ℕ) → a ≡ suc w → a ≡ w → ⊥
+          one_more a w p z = omega (arith, p, z)
+
+module _ (f : Fields) (m : Nullability) (n : ℕ) (v : Tree) (us : Trees) where
+  pub front_decides : (count (more v us) ≡ length f.types → ⊥) → IsWellShaped (struct_head f m n) (more v us) → (m ≡ Nullable) × (place_of v ≡ validity_place n) × (places us ≡ places_at (roses_of f.types) n)
+  front_decides other h =
+      let b = shaped_behind f m n (more v us) h in
+      elim (b.ways) [
+        | inl x ↦ absurd (other (x.0 ∙ width f m n (more v us)))
+        | inr x ↦ (
+          h.allows (x.0 ∙ ap (λ j. suc j) (places_length (roses_of f.types) n)),
+          (one_behind v us (validity_place n) (places_at (roses_of f.types) n) x.1).0,
+          (one_behind v us (validity_place n) (places_at (roses_of f.types) n) x.1).1,
+        )
+      ]
+
+  both_places : place_of v ≡ validity_place n → places us ≡ places_at (roses_of f.types) n → places (more v us) ≡ validity_place n ∷ places_at (roses_of f.types) n
+  both_places p q = λ i. p i ∷ q i
+
+  -- Where nullability, validity and columns are right, so is the shape, and where one is not, it is not.
+  pub front_right : m ≡ Nullable → place_of v ≡ validity_place n → places us ≡ places_at (roses_of f.types) n → IsWellShaped (struct_head f m n) (more v us)
+  front_right nullable p q = shaped_with f m n (more v us) nullable (both_places p q)
+
+  pub front_wrong : (count (more v us) ≡ length f.types → ⊥) → ((m ≡ Nullable) × (place_of v ≡ validity_place n) × (places us ≡ places_at (roses_of f.types) n) → ⊥) → IsWellShaped (struct_head f m n) (more v us) → ⊥
+  front_wrong other w h = w (front_decides other h)
+
+pub no_children : (f : Fields) (m : Nullability) (n : ℕ) → (0 ≡ length f.types → ⊥) → IsWellShaped (struct_head f m n) end → ⊥
+no_children f m n other h =
+    let b = shaped_behind f m n end h in
+    elim (b.ways) [ inl x ↦ absurd (other (x.0 ∙ width f m n end)) | inr x ↦ absurd (no_places _ _ x.1) ]
+
+-- What rows of structures rest on.
+pub ruleset fielded = (sound_fields, structure_value, structure_cells, columns_there, columns_smaller)

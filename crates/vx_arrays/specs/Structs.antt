@@ -1,0 +1,42 @@
+-- What is made where an array of structures is asked for, and how its node is parted.
+use Rattle.std.specs.Prelude.{ℕ, Option, None, Some, if◌then◌else◌}
+use Rattle.vx_trees.specs.Rose.{node, end, more, label, count, roses_of}
+use Rattle.vx_types.specs.Kind.{structure}
+use Rattle.vx_types.specs.Parts.{Fields}
+use Rattle.vx_types.specs.Typ.{Typ}
+use Rattle.vx_types.specs.declared.nullability.Nullability.{Nullability}
+use Rattle.vx_array_tree.specs.Body as B
+use Rattle.vx_array_tree.specs.Encodings.Structs.{has_validity}
+use Rattle.vx_array_tree.specs.Place.{Place, place}
+use Rattle.vx_array_tree.specs.Tree.{Head, Tree, Trees, untold}
+
+-- A node of structures of these fields.
+abbrev pub struct_head : Fields → Nullability → ℕ → Head
+struct_head fields m n = untold (node (structure fields.names m) (roses_of fields.types)) n B.struct
+
+-- Children behind a validity, where one stands.
+abbrev pub behind_validity : Option Tree → Trees → Trees
+behind_validity None ts = ts
+behind_validity (Some t) ts = more t ts
+
+-- So many structures of the columns: a node over the validity, where one stands, and then the columns.
+abbrev pub struct_tree : Fields → Nullability → Trees → ℕ → Option Tree → Tree
+struct_tree fields m columns n validity = node (struct_head fields m n) (behind_validity validity columns)
+
+-- The types of structures.
+abbrev pub IsOfFields : Typ → Type 0
+IsOfFields (node (structure names m) ts) = Unit {0}
+IsOfFields _ = ⊥
+
+-- The children behind the first.
+abbrev pub behind_first : Trees → Trees
+behind_first end = end
+behind_first (more t ts) = ts
+
+-- The children of a node of structures that are its columns: all, but for a validity in front.
+abbrev pub field_trees : Typ → Trees → Trees
+field_trees d ts = if has_validity d (count ts) then behind_first ts else ts
+
+-- The place at which an array stands.
+abbrev pub place_of : Tree → Place
+place_of t = place (label t).dtype (label t).len

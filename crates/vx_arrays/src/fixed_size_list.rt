@@ -1,0 +1,179 @@
+//! Arrays of lists of one size.
+
+ghost use Rattle.std.specs.Prelude.{◌≡◌, ◌<◌, ◌≤◌, ◌*◌, ◌↔◌, IfOk, IfErr, IsOkUnless, IsTrue};
+ghost use Rattle.vx_trees.specs.Everywhere.{EverywhereBelow};
+ghost use Rattle.vx_trees.specs.Rose.{end, label, more, node, roses_of};
+ghost use Rattle.vx_trees.specs.Walks.{nodes_of};
+ghost use Rattle.vx_types.specs.Kind.{fixed_size_list};
+ghost use Rattle.vx_types.specs.Seen.{typ};
+ghost use Rattle.vx_array_tree.specs.Body as B;
+ghost use Rattle.vx_array_tree.specs.Encodings.FixedSizeLists.{rows as rows_of_lists, size_of};
+ghost use Rattle.vx_array_tree.specs.Refused.{IsWellShaped};
+ghost use Rattle.vx_array_tree.specs.Rows.{rest, validity};
+ghost use Rattle.vx_array_tree.specs.Sound.{IsSound, IsSoundNode};
+ghost use Rattle.vx_array_tree.specs.Tree.{option_trees, rows_below, untold};
+ghost use Rattle.vx_arrays.specs.FixedSizeLists.{IsOfSize, fixed_size_list_head, fixed_size_list_tree};
+ghost use Rattle.vx_arrays.specs.Parts.{AreThere, parts_cells, parts_nodes, parts_value};
+ghost use Rattle.vx_arrays.specs.Refused.{IsUnmade, IsOkOrMemory};
+
+use crate::array::Array;
+use crate::body::Body;
+use crate::error::ArrayError;
+use crate::parts::{RowParts, where_there};
+use crate::validity::{is_validity, parted, validity_at, with_validity};
+use std::alloc::Global;
+use vx_types::{DType, Nullability, TypeRef};
+
+/// Arrays of lists of one size, whose elements stand one row's after the other's.
+pub struct FixedSizeListArray {}
+
+impl FixedSizeListArray {
+    /// The identifier of the encoding.
+    pub const ID: &'static str = "vortex.fixed_size_list";
+
+    // Whether a row is there in a node of this type, length and children; None where that is not known.
+    pub(crate) fn valid_at(
+        dtype: &DType,
+        len: usize,
+        children: &[Array],
+        index: usize,
+    ) -> Option<bool>
+        requires sound { IsSoundNode (untold (typ dtype.now) len B.fixed_size_list) (roses_of children.now) }
+        requires inside { index < len }
+        ensures { result ≡ validity (rest (rows_below (roses_of children.now))) index }
+    {
+        let _dtype = dtype;
+        let (_, behind) = parted(children);
+        validity_at(behind, len, index)
+    }
+
+    // Of what a row is made in a node of this type, length and children.
+    #[tactic(auto, using(crate::proofs::Sized::sized_lists))]
+    pub(crate) fn parts_at<'a>(
+        dtype: &DType,
+        len: usize,
+        children: &'a [Array],
+        index: usize,
+    ) -> RowParts<'a>
+        requires sound { IsSoundNode (untold (typ dtype.now) len B.fixed_size_list) (roses_of children.now) }
+        requires inside { index < len }
+        ensures value { let rows = rows_of_lists (typ dtype.now) len (rows_below (roses_of children.now)) in
+            parts_value result ≡ rows.row index }
+        ensures cells { let rows = rows_of_lists (typ dtype.now) len (rows_below (roses_of children.now)) in
+            parts_cells result ≡ rows.cells index }
+        ensures there { AreThere result }
+        ensures smaller { parts_nodes result ≤ nodes_of (roses_of children.now) }
+    {
+        let size = size_of(dtype);
+        let (elements, behind) = parted(children);
+        let valid = validity_at(behind, len, index);
+        where_there(
+            valid,
+            RowParts::Run {
+                array: elements,
+                start: index * size,
+                count: size,
+            },
+        )
+    }
+
+    /// The array of `len` lists of `size` elements each: there are as many elements as all lists have together, also for
+    /// those that are null. Where some rows are null, `validity` holds for each row whether it is there.
+    ///
+    /// `BadShape` where such an array is not sound.
+    pub fn try_new(
+        alloc: Global,
+        elements: Array,
+        size: u32,
+        nullability: Nullability,
+        len: usize,
+        validity: Option<Array>,
+    ) -> Result<Array, ArrayError>
+        ensures ok { IfOk result (λ a. a ≡ fixed_size_list_tree elements size nullability len validity) }
+        ensures sound { IfOk result IsSound }
+        ensures err { IfErr result (λ e. IsUnmade e (fixed_size_list_tree elements size nullability len validity)) }
+        ensures complete { IsSound (fixed_size_list_tree elements size nullability len validity) → IsOkOrMemory result }
+    {
+        if !is_shaped(&elements, size, nullability, len, &validity) {
+            return Err(ArrayError::BadShape);
+        }
+        of_parts(alloc, elements, size, nullability, len, validity)
+    }
+}
+
+// The array of parts that are of the shape.
+fn of_parts(
+    alloc: Global,
+    elements: Array,
+    size: u32,
+    nullability: Nullability,
+    len: usize,
+    validity: Option<Array>,
+) -> Result<Array, ArrayError>
+    requires shaped { IsWellShaped (fixed_size_list_head (label elements).dtype size nullability len) (more elements (option_trees validity)) }
+    requires below { EverywhereBelow IsSoundNode (more elements (option_trees validity)) }
+    ensures ok { IfOk result (λ a. a ≡ fixed_size_list_tree elements size nullability len validity) }
+    ensures sound { IfOk result IsSound }
+    ensures err { IsOkUnless result ArrayError.OutOfMemory }
+{
+    let dtype = list_type(alloc, elements.dtype(), size, nullability)?;
+    let children = with_validity(alloc, elements, validity)?;
+    Ok(Array::from_parts(dtype, len, Body::FixedSizeList, children))
+}
+
+// Whether parts are of the shape that the encoding asks for.
+fn is_shaped(
+    elements: &Array,
+    size: u32,
+    nullability: Nullability,
+    len: usize,
+    validity: &Option<Array>,
+) -> bool
+    ensures shaped { IsTrue result ↔ IsWellShaped (fixed_size_list_head (label elements.now).dtype size nullability len) (more elements.now (option_trees validity.now)) }
+    ensures sound { IsTrue result → EverywhereBelow IsSoundNode (more elements.now (option_trees validity.now)) }
+{
+    if !is_product(len, size as usize, elements.len()) {
+        return false;
+    }
+    is_validity(nullability, len, validity)
+}
+
+// Whether a number that can be counted is a product.
+fn is_product(len: usize, size: usize, count: usize) -> bool
+    ensures { IsTrue result ↔ (count ≡ len * size) }
+{
+    match len.checked_mul(size) {
+        Some(product) => product == count,
+        None => false,
+    }
+}
+
+// How many elements each row of a type has.
+fn size_of(dtype: &DType) -> usize
+    requires { IsOfSize (typ dtype.now) }
+    ensures size { result ≡ size_of (typ dtype.now) }
+{
+    match dtype {
+        DType::FixedSizeList(_, size, _) => *size as usize,
+        _ => unreachable!(),
+    }
+}
+
+// The type of lists of so many elements of a type.
+fn list_type(
+    alloc: Global,
+    element: &DType,
+    size: u32,
+    nullability: Nullability,
+) -> Result<DType, ArrayError>
+    ensures ok { IfOk result (λ d. typ d ≡ node (fixed_size_list size nullability) (more (typ element.now) end)) }
+    ensures err { IsOkUnless result ArrayError.OutOfMemory }
+{
+    let Ok(element) = element.clone(alloc) else {
+        return Err(ArrayError::OutOfMemory);
+    };
+    match TypeRef::new(alloc, element) {
+        Ok(part) => Ok(DType::FixedSizeList(part, size, nullability)),
+        Err(_) => Err(ArrayError::OutOfMemory),
+    }
+}

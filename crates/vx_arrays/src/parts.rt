@@ -1,0 +1,202 @@
+//! Of what a row is made, before it is built, and how it is built of that.
+//!
+//! An encoding's file says of what a row of its nodes is made, without memory. The one recursion over the arrays below a
+//! node stands here: it builds rows of their parts, and spends cells before it takes memory for them.
+
+ghost use Rattle.std.specs.Prelude.{suc, ℕ, ◌≡◌, ◌+◌, ◌^◌, ◌<◌, ◌≤◌, IfOk, IfErr, OnOk, IsOkUnless};
+ghost use Rattle.vx_trees.specs.Rose.{label, roses_of};
+ghost use Rattle.vx_types.specs.Value.{Value, lone, mark_cells, value_cells};
+ghost use Rattle.vx_array_tree.specs.Rows.{cells_at, cells_from, cells_where, values_at, values_from, where_valid};
+ghost use Rattle.vx_array_tree.specs.Tree.{rows_below, rows_of};
+ghost use Rattle.vx_arrays.specs.Parts.{AreThere, HaveRow, lone_mark, parts_cells, parts_nodes, parts_value};
+ghost use Rattle.vx_arrays.specs.Plain.{plain_value};
+ghost use Rattle.vx_arrays.specs.Refused.{IsValueRefused};
+
+use crate::array::Array;
+use crate::error::ArrayError;
+use crate::row::{RowValue, owned_bytes, owned_text};
+use crate::row_values::RowValues;
+use std::alloc::Global;
+use vx_scalars::DecimalValue;
+use vx_types::PValue;
+
+// A row without rows below it. Texts and bytes are lent.
+#[derive(Clone, Copy)]
+pub(crate) enum LoneRow<'a> {
+    // The row is not there.
+    Null,
+    // Nothing is known of the row.
+    Opaque,
+    // A flag.
+    Bool(bool),
+    // A number, floats as their bits.
+    Primitive(PValue),
+    // A decimal, by its unscaled integer.
+    Decimal(DecimalValue),
+    // A text.
+    Utf8(&'a str),
+    // Bytes.
+    Binary(&'a [u8]),
+}
+
+// Of what a row is made.
+#[derive(Clone, Copy)]
+pub(crate) enum RowParts<'a> {
+    // Of no other rows.
+    Lone(LoneRow<'a>),
+    // A tuple of so many rows of an array, from one on.
+    Run {
+        array: &'a Array,
+        start: usize,
+        count: usize,
+    },
+    // A tuple of each array's row of this number.
+    Across {
+        arrays: &'a [Array],
+        index: usize,
+    },
+}
+
+// The parts of a row, where it is there; a row that is not there is null, and one of which that is not known is opaque.
+pub(crate) fn where_there<'a>(valid: Option<bool>, parts: RowParts<'a>) -> RowParts<'a>
+    requires { AreThere parts }
+    ensures value { (f : ℕ → Value) (i : ℕ) → parts_value parts.entry ≡ f i → parts_value result ≡ where_valid valid f i }
+    ensures cells { (f : ℕ → ℕ) (i : ℕ) → parts_cells parts.entry ≡ f i → parts_cells result ≡ cells_where valid f i }
+    ensures there { AreThere result }
+    ensures smaller { parts_nodes result ≤ parts_nodes parts.entry }
+{
+    match valid {
+        None => RowParts::Lone(LoneRow::Opaque),
+        Some(false) => RowParts::Lone(LoneRow::Null),
+        Some(true) => parts,
+    }
+}
+
+// Spends the cells of a value with so many bytes in it: one, and one for each byte.
+fn spend(bytes: usize, budget: &mut u64) -> Result<(), ArrayError>
+    ensures spent { OnOk result (budget.old ≡ suc bytes + budget.new) }
+    ensures err { IfErr result (λ e. IsValueRefused e (suc bytes) budget.old) }
+{
+    if bytes as u64 >= *budget {
+        return Err(ArrayError::ValueTooLarge);
+    }
+    *budget -= bytes as u64 + 1;
+    Ok(())
+}
+
+// How many bytes stand in a row.
+fn bytes_in(row: &LoneRow<'_>) -> usize
+    ensures { result ≡ mark_cells (lone_mark row.now) }
+{
+    match row {
+        LoneRow::Null => 0,
+        LoneRow::Opaque => 0,
+        LoneRow::Bool(_) => 0,
+        LoneRow::Primitive(_) => 0,
+        LoneRow::Decimal(_) => 0,
+        LoneRow::Utf8(text) => text.len(),
+        LoneRow::Binary(bytes) => bytes.len(),
+    }
+}
+
+// A row of its own.
+fn owned(alloc: Global, row: LoneRow<'_>) -> Result<RowValue, ArrayError>
+    ensures ok { IfOk result (λ value. plain_value value ≡ lone (lone_mark row.entry)) }
+    ensures err { IsOkUnless result ArrayError.OutOfMemory }
+{
+    match row {
+        LoneRow::Null => Ok(RowValue::Null),
+        LoneRow::Opaque => Ok(RowValue::Opaque),
+        LoneRow::Bool(flag) => Ok(RowValue::Bool(flag)),
+        LoneRow::Primitive(number) => Ok(RowValue::Primitive(number)),
+        LoneRow::Decimal(decimal) => Ok(RowValue::Decimal(decimal)),
+        LoneRow::Utf8(text) => Ok(RowValue::Utf8(owned_text(alloc, text)?)),
+        LoneRow::Binary(bytes) => Ok(RowValue::Binary(owned_bytes(alloc, bytes)?)),
+    }
+}
+
+// The value of a row without rows below it, if there are cells to spend for it.
+fn lone_value(alloc: Global, row: LoneRow<'_>, budget: &mut u64) -> Result<RowValue, ArrayError>
+    ensures row { IfOk result (λ value. plain_value value ≡ lone (lone_mark row.entry)) }
+    ensures spent { OnOk result (budget.old ≡ value_cells (lone (lone_mark row.entry)) + budget.new) }
+    ensures err { IfErr result (λ e. IsValueRefused e (value_cells (lone (lone_mark row.entry))) budget.old) }
+{
+    spend(bytes_in(&row), budget)?;
+    owned(alloc, row)
+}
+
+// The value of a row of these parts, if there are cells to spend for it.
+#[cycle(rows)]
+#[tactic(auto, using(crate::proofs::Counted::counted))]
+pub(crate) fn built(
+    alloc: Global,
+    parts: RowParts<'_>,
+    budget: &mut u64,
+) -> Result<RowValue, ArrayError>
+    requires there { AreThere parts }
+    ensures row { IfOk result (λ value. plain_value value ≡ parts_value parts.entry) }
+    ensures spent { OnOk result (budget.old ≡ parts_cells parts.entry + budget.new) }
+    ensures err { IfErr result (λ e. IsValueRefused e (parts_cells parts.entry) budget.old) }
+{
+    match parts {
+        RowParts::Lone(row) => lone_value(alloc, row, budget),
+        RowParts::Run {
+            array,
+            start,
+            count,
+        } => {
+            spend(0, budget)?;
+            let values = run_values(alloc, array, start, count, budget)?;
+            Ok(RowValue::Tuple(values))
+        }
+        RowParts::Across { arrays, index } => {
+            spend(0, budget)?;
+            let values = across_values(alloc, arrays, index, budget)?;
+            Ok(RowValue::Tuple(values))
+        }
+    }
+}
+
+// The values of so many rows of an array, from one on, if there are cells to spend for all of them.
+#[cycle(rows)]
+fn run_values(
+    alloc: Global,
+    array: &Array,
+    start: usize,
+    count: usize,
+    budget: &mut u64,
+) -> Result<RowValues, ArrayError>
+    requires inside { start + count ≤ (label array.now).len }
+    requires counted { start + count < 2 ^ 64 }
+    ensures values { IfOk result (λ values. roses_of values ≡ values_from (rows_of array.now) start count) }
+    ensures spent { OnOk result (budget.old ≡ cells_from (rows_of array.now) start count + budget.new) }
+    ensures err { IfErr result (λ e. IsValueRefused e (cells_from (rows_of array.now) start count) budget.old) }
+{
+    let mut values = RowValues::new(alloc);
+    for i in 0..count {
+        let value = array.row_within(alloc, start + i, budget)?;
+        values.push(value)?;
+    }
+    Ok(values)
+}
+
+// The values of each array's row of this number, if there are cells to spend for all of them.
+#[cycle(rows)]
+fn across_values(
+    alloc: Global,
+    arrays: &[Array],
+    index: usize,
+    budget: &mut u64,
+) -> Result<RowValues, ArrayError>
+    requires inside { HaveRow index (roses_of arrays.now) }
+    ensures values { IfOk result (λ values. roses_of values ≡ values_at (rows_below (roses_of arrays.now)) index) }
+    ensures spent { OnOk result (budget.old ≡ cells_at (rows_below (roses_of arrays.now)) index + budget.new) }
+    ensures err { IfErr result (λ e. IsValueRefused e (cells_at (rows_below (roses_of arrays.now)) index) budget.old) }
+{
+    let mut values = RowValues::new(alloc);
+    for i in 0..arrays.len() {
+        let value = arrays[i].row_within(alloc, index, budget)?;
+        values.push(value)?;
+    }
+    Ok(values)
+}

@@ -1,0 +1,218 @@
+//! Arrays of structures.
+
+ghost use Rattle.std.specs.Prelude.{◌≡◌, ◌<◌, ◌≤◌, ◌↔◌, IfOk, IfErr, IsOkUnless, IsTrue, length};
+ghost use Rattle.vx_trees.specs.Everywhere.{EverywhereBelow};
+ghost use Rattle.vx_trees.specs.Rose.{node, roses_of};
+ghost use Rattle.vx_trees.specs.Walks.{nodes_of};
+ghost use Rattle.vx_types.specs.Seen.{typ, typs};
+ghost use Rattle.vx_array_tree.specs.Body as B;
+ghost use Rattle.vx_array_tree.specs.Encodings.Structs.{has_validity, rows as rows_of_structures, structure_valid, width_of};
+ghost use Rattle.vx_array_tree.specs.Place.{place, places_at, validity_place};
+ghost use Rattle.vx_types.specs.declared.nullability.Nullability.TheVariants.{Nullable};
+ghost use Rattle.vx_array_tree.specs.Refused.{IsWellShaped};
+ghost use Rattle.vx_array_tree.specs.Sound.{IsSound, IsSoundNode};
+ghost use Rattle.vx_array_tree.specs.Tree.{places, rows_below, untold};
+ghost use Rattle.vx_arrays.specs.Parts.{AreThere, parts_cells, parts_nodes, parts_value};
+ghost use Rattle.vx_arrays.specs.Refused.{IsUnmade, IsOkOrMemory};
+ghost use Rattle.vx_arrays.specs.Structs.{IsOfFields, behind_validity, field_trees, place_of, struct_head, struct_tree};
+
+use crate::array::Array;
+use crate::body::Body;
+use crate::error::ArrayError;
+use crate::list::Arrays;
+use crate::parts::{RowParts, where_there};
+use vx_types::{DType, Nullability, StructFields};
+
+/// Arrays of structures, with an array for each field.
+pub struct StructArray {}
+
+impl StructArray {
+    /// The identifier of the encoding.
+    pub const ID: &'static str = "vortex.struct";
+
+    // Whether a row is there in a node of this type, length and children; None where that is not known.
+    pub(crate) fn valid_at(
+        dtype: &DType,
+        len: usize,
+        children: &[Array],
+        index: usize,
+    ) -> Option<bool>
+        requires sound { IsSoundNode (untold (typ dtype.now) len B.struct) (roses_of children.now) }
+        requires inside { index < len }
+        ensures { let rows = rows_below (roses_of children.now) in
+            result ≡ structure_valid (has_validity (typ dtype.now) (length rows)) rows index }
+    {
+        let _len = len;
+        match children {
+            [] => Some(true),
+            [validity, fields @ ..] => {
+                if fields.len() == width_of(dtype) {
+                    validity.flag_at(index)
+                } else {
+                    Some(true)
+                }
+            }
+        }
+    }
+
+    // Of what a row is made in a node of this type, length and children.
+    #[tactic(auto, using(crate::proofs::Fielded::fielded))]
+    pub(crate) fn parts_at<'a>(
+        dtype: &DType,
+        len: usize,
+        children: &'a [Array],
+        index: usize,
+    ) -> RowParts<'a>
+        requires sound { IsSoundNode (untold (typ dtype.now) len B.struct) (roses_of children.now) }
+        requires inside { index < len }
+        ensures value { let rows = rows_of_structures (typ dtype.now) len (rows_below (roses_of children.now)) in
+            parts_value result ≡ rows.row index }
+        ensures cells { let rows = rows_of_structures (typ dtype.now) len (rows_below (roses_of children.now)) in
+            parts_cells result ≡ rows.cells index }
+        ensures there { AreThere result }
+        ensures smaller { parts_nodes result ≤ nodes_of (roses_of children.now) }
+    {
+        let valid = StructArray::valid_at(dtype, len, children, index);
+        let arrays = columns_of(dtype, children);
+        where_there(valid, RowParts::Across { arrays, index })
+    }
+
+    /// The array of `len` structures of these fields, whose columns have as many rows each: of every column a row is the
+    /// field of a structure. Where some rows are null, `validity` holds for each row whether it is there.
+    ///
+    /// `BadShape` where such an array is not sound.
+    pub fn try_new(
+        fields: StructFields,
+        nullability: Nullability,
+        columns: Arrays,
+        len: usize,
+        validity: Option<Array>,
+    ) -> Result<Array, ArrayError>
+        ensures ok { IfOk result (λ a. a ≡ struct_tree fields nullability columns len validity) }
+        ensures sound { IfOk result IsSound }
+        ensures err { IfErr result (λ e. IsUnmade e (struct_tree fields nullability columns len validity)) }
+        ensures complete { IsSound (struct_tree fields nullability columns len validity) → IsOkOrMemory result }
+    {
+        let children = behind_validity(validity, columns)?;
+        over_columns(fields, nullability, len, children)
+    }
+}
+
+// The array of so many structures over these children.
+fn over_columns(
+    fields: StructFields,
+    nullability: Nullability,
+    len: usize,
+    children: Vec<Array>,
+) -> Result<Array, ArrayError>
+    requires below { EverywhereBelow IsSoundNode (roses_of children.items) }
+    ensures ok { IfOk result (λ a. a ≡ node (struct_head fields nullability len) (roses_of children.items)) }
+    ensures sound { IfOk result IsSound }
+    ensures err { IfErr result (λ e. IsUnmade e (node (struct_head fields nullability len) (roses_of children.items))) }
+    ensures complete { IsSound (node (struct_head fields nullability len) (roses_of children.items)) → IsOkOrMemory result }
+{
+    if !are_shaped(&fields, nullability, len, children.as_slice()) {
+        return Err(ArrayError::BadShape);
+    }
+    let dtype = DType::Struct(fields, nullability);
+    Ok(Array::from_parts(dtype, len, Body::Struct, children))
+}
+
+// How many fields a type of structures has.
+fn width_of(dtype: &DType) -> usize
+    requires { IsOfFields (typ dtype.now) }
+    ensures { result ≡ width_of (typ dtype.now) }
+{
+    match dtype {
+        DType::Struct(fields, _) => fields.fields().len(),
+        _ => unreachable!(),
+    }
+}
+
+// The arrays of the fields among the children of a node of structures: all, but for a validity in front.
+fn columns_of<'a>(dtype: &DType, children: &'a [Array]) -> &'a [Array]
+    requires { IsOfFields (typ dtype.now) }
+    ensures { roses_of result.now ≡ field_trees (typ dtype.now) (roses_of children.now) }
+{
+    match children {
+        [] => children,
+        [_, fields @ ..] => {
+            if fields.len() == width_of(dtype) {
+                fields
+            } else {
+                children
+            }
+        }
+    }
+}
+
+// Whether arrays are the children of a node of structures: the columns of the fields, behind a validity only where rows may
+// be null.
+fn are_shaped(
+    fields: &StructFields,
+    nullability: Nullability,
+    len: usize,
+    children: &[Array],
+) -> bool
+    ensures { IsTrue result ↔ IsWellShaped (struct_head fields.now nullability len) (roses_of children.now) }
+{
+    let types = fields.fields().as_slice();
+    if children.len() == types.len() {
+        return are_columns(types, children, len);
+    }
+    match children {
+        [validity, columns @ ..] => {
+            is_front(nullability, validity, len) && are_columns(types, columns, len)
+        }
+        [] => false,
+    }
+}
+
+// Whether an array may stand in front of the columns, as the validity of so many rows.
+fn is_front(nullability: Nullability, validity: &Array, len: usize) -> bool
+    ensures { IsTrue result ↔ ((nullability ≡ Nullable) × (place_of validity.now ≡ validity_place len)) }
+{
+    match nullability {
+        Nullability::NonNullable => false,
+        Nullability::Nullable => is_column(&DType::Bool(Nullability::NonNullable), validity, len),
+    }
+}
+
+// Whether arrays are the columns of fields of these types, each of so many rows.
+fn are_columns(types: &[DType], columns: &[Array], len: usize) -> bool
+    ensures { IsTrue result ↔ (places (roses_of columns.now) ≡ places_at (roses_of (typs types.now)) len) }
+{
+    if types.len() != columns.len() {
+        return false;
+    }
+    for i in 0..types.len() {
+        if !is_column(&types[i], &columns[i], len) {
+            return false;
+        }
+    }
+    true
+}
+
+// Whether an array is a column of a field of this type, of so many rows.
+fn is_column(dtype: &DType, column: &Array, len: usize) -> bool
+    ensures { IsTrue result ↔ (place_of column.now ≡ place (typ dtype.now) len) }
+{
+    column.len() == len && *column.dtype() == *dtype
+}
+
+// The children of a node of structures: a validity, where one stands, and then the columns.
+fn behind_validity(validity: Option<Array>, columns: Arrays) -> Result<Vec<Array>, ArrayError>
+    ensures children { IfOk result (λ children. roses_of children.items ≡ behind_validity validity columns) }
+    ensures sound { IfOk result (λ children. EverywhereBelow IsSoundNode (roses_of children.items)) }
+    ensures err { IsOkUnless result ArrayError.OutOfMemory }
+{
+    let mut children = columns.into_vec();
+    match validity {
+        None => Ok(children),
+        Some(array) => {
+            array.validate()?;
+            children.insert(0, array)?;
+            Ok(children)
+        }
+    }
+}

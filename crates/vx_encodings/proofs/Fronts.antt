@@ -1,0 +1,59 @@
+-- Places behind that of a validity.
+use Rattle.std.proofs.Common.{ℕ, zero, suc, ◌≡◌, List, [], ◌∷◌, Option, Some, None, option_map, refl, sym, ap, ◌∙◌, inl, inr, length}
+use Rattle.std.proofs.lemmas.Option.{same_Some}
+use Rattle.std.specs.Prelude.{◌⊎◌}
+use Rattle.vx_array_tree.specs.Place.{Place, exactly, behind_validity, validity_place}
+use Rattle.vx_array_tree.proofs.Options.{mapped}
+use Rattle.vx_array_tree.proofs.Plans.{exactly_is}
+
+pub behind_some : (ps : List Place) (n k : ℕ) (qs : List Place) → exactly ps k ≡ Some qs → behind_validity ps n k ≡ Some qs
+behind_some ps n k qs e = rw (e, behind_validity) refl
+
+pub behind_none : (ps : List Place) (n k : ℕ) → exactly ps k ≡ None → behind_validity ps n k ≡ exactly (validity_place n ∷ ps) k
+behind_none ps n k e = rw (e, behind_validity) refl
+
+exactly_count : (ps : List Place) (k : ℕ) (qs : List Place) → exactly ps k ≡ Some qs → k ≡ length ps
+exactly_count [] zero qs e = refl
+exactly_count [] (suc k) qs e = absurd (cc)
+exactly_count (p ∷ ps) zero qs e = absurd (cc)
+exactly_count (p ∷ ps) (suc k) qs e =
+    let m = mapped (λ (rs : List Place). p ∷ rs) (exactly ps k) qs e in
+    ap (λ n. suc n) (exactly_count ps k m.0 m.2)
+
+pub exactly_self : (ps : List Place) → exactly ps (length ps) ≡ Some ps
+exactly_self [] = refl
+exactly_self (p ∷ ps) = ap (λ (o : Option (List Place)). option_map (λ qs. p ∷ qs) o) (exactly_self ps)
+
+exactly_past : (ps : List Place) → exactly ps (suc (length ps)) ≡ None
+exactly_past [] = refl
+exactly_past (p ∷ ps) = ap (λ (o : Option (List Place)). option_map (λ qs. p ∷ qs) o) (exactly_past ps)
+
+-- Another number of places is not exact.
+exactly_none : (ps : List Place) (k : ℕ) → (k ≡ length ps → ⊥) → exactly ps k ≡ None
+exactly_none [] zero h = absurd (h refl)
+exactly_none [] (suc k) h = refl
+exactly_none (p ∷ ps) zero h = refl
+exactly_none (p ∷ ps) (suc k) h = ap (λ (o : Option (List Place)). option_map (λ qs. p ∷ qs) o) (exactly_none ps k (λ e. h (ap (λ n. suc n) e)))
+
+-- As many as there are stand as they are, and one more behind a validity; there is no other way.
+pub behind_self : (ps : List Place) (n k : ℕ) → k ≡ length ps → behind_validity ps n k ≡ Some ps
+behind_self ps n k e = ap (λ j. behind_validity ps n j) e ∙ behind_some ps n (length ps) ps (exactly_self ps)
+
+pub behind_one : (ps : List Place) (n k : ℕ) → k ≡ suc (length ps) → behind_validity ps n k ≡ Some (validity_place n ∷ ps)
+behind_one ps n k e = ap (λ j. behind_validity ps n j) e ∙ behind_none ps n (suc (length ps)) (exactly_past ps) ∙ exactly_self (validity_place n ∷ ps)
+
+pub behind_other : (ps : List Place) (n k : ℕ) → (k ≡ length ps → ⊥) → (k ≡ suc (length ps) → ⊥) → behind_validity ps n k ≡ None
+behind_other ps n k h g = behind_none ps n k (exactly_none ps k h) ∙ exactly_none (validity_place n ∷ ps) k g
+
+-- Places that stand so are as many as are asked for, and of these at most one more than there are.
+pub record IsBehind (ps : List Place) (n k : ℕ) (qs : List Place) : Type 0 where
+  pub ways : ((k ≡ length ps) × (qs ≡ ps)) ⊎ ((k ≡ suc (length ps)) × (qs ≡ validity_place n ∷ ps))
+
+behind_by : (ps : List Place) (n k : ℕ) (qs : List Place) (o : Option (List Place)) → exactly ps k ≡ o → behind_validity ps n k ≡ Some qs → IsBehind ps n k qs
+behind_by ps n k qs (Some rs) e h = record { ways = inl (exactly_count ps k rs e, sym (same_Some rs qs (sym (behind_some ps n k rs e) ∙ h)) ∙ exactly_is ps k rs e) }
+behind_by ps n k qs None e h =
+    let f = sym (behind_none ps n k e) ∙ h in
+    record { ways = inr (exactly_count (validity_place n ∷ ps) k qs f, exactly_is (validity_place n ∷ ps) k qs f) }
+
+pub behind_is : (ps : List Place) (n k : ℕ) (qs : List Place) → behind_validity ps n k ≡ Some qs → IsBehind ps n k qs
+behind_is ps n k qs h = behind_by ps n k qs (exactly ps k) refl h

@@ -1,0 +1,82 @@
+//! Nodes of lists of one size: no metadata, no buffers, and below the elements and a validity that may stand.
+
+ghost use Rattle.std.specs.Prelude.{◌≡◌, ◌*◌, ◌∷◌, [], Some, IfOk, IfErr};
+ghost use Rattle.vx_types.specs.Known.{ExtMeaning};
+ghost use Rattle.vx_types.specs.Seen.{typ};
+ghost use Rattle.vx_array_tree.specs.Place.{before_validity, is_len, place, when};
+ghost use Rattle.vx_array_tree.specs.Sound.{IsSound};
+ghost use Rattle.vx_array_tree.specs.Tree.{places};
+ghost use Rattle.vx_encodings.specs.Steps.{IsPlanned, IsUnplanned, IsBuilt, IsUnbuilt, IsWithoutPlan};
+ghost use Rattle.vx_encodings.specs.declared.encoding.Encoding.TheVariants.{FixedSizeList};
+
+use crate::empty_metadata::read_empty;
+use crate::error::{EncodingError, of_constructor};
+use crate::head::ArrayHead;
+use crate::plans::{ChildPlans, plan_of};
+use crate::validity::{first_and_validity, plan_behind};
+use std::alloc::Global;
+use vx_arrays::{Array, Arrays, FixedSizeListArray};
+use vx_buffer::BufferHandles;
+use vx_types::DType;
+
+// What the children of a node of lists of one size are to be: so many elements for each row, and at most a validity.
+#[tactic(auto, using(crate::proofs::FixedSizeListSteps::fixed_size_list_steps))]
+pub(crate) fn plan(alloc: Global, head: &ArrayHead) -> Result<ChildPlans, EncodingError>
+    ensures plan { (x : ExtMeaning) → IfOk result (λ plans. IsPlanned x FixedSizeList head.now plans) }
+    ensures err { (x : ExtMeaning) → IfErr result (λ e. IsUnplanned e x FixedSizeList head.now) }
+{
+    read_empty(head.metadata.as_slice())?;
+    match &head.dtype {
+        DType::FixedSizeList(element, size, _) => {
+            plan_elements(alloc, element.get(), *size, head.len, head.nchildren)
+        }
+        _ => Err(EncodingError::BadShape),
+    }
+}
+
+// So many elements of a type for each row, and behind them a validity, where one stands among so many children.
+fn plan_elements(
+    alloc: Global,
+    element: &DType,
+    size: u32,
+    len: usize,
+    count: usize,
+) -> Result<ChildPlans, EncodingError>
+    ensures plan { IfOk result (λ plans. when (is_len (len * size)) (before_validity (place (typ element.now) (len * size) ∷ []) len count) ≡ Some plans) }
+    ensures err { IfErr result (λ e. IsWithoutPlan e (when (is_len (len * size)) (before_validity (place (typ element.now) (len * size) ∷ []) len count))) }
+{
+    match len.checked_mul(size as usize) {
+        None => Err(EncodingError::BadShape),
+        Some(elements) => {
+            let first = plan_of(alloc, element, elements)?;
+            plan_behind(alloc, first, len, count)
+        }
+    }
+}
+
+// The node of lists of one size of these parts.
+#[tactic(auto, using(crate::proofs::FixedSizeListSteps::fixed_size_list_steps))]
+pub(crate) fn build(
+    alloc: Global,
+    head: ArrayHead,
+    buffers: BufferHandles,
+    children: Arrays,
+) -> Result<Array, EncodingError>
+    requires { (x : ExtMeaning) × IsPlanned x FixedSizeList head (places children) }
+    ensures parts { (x : ExtMeaning) → IfOk result (λ t. IsBuilt x FixedSizeList head buffers children t) }
+    ensures sound { IfOk result IsSound }
+    ensures err { (x : ExtMeaning) → IfErr result (λ e. IsUnbuilt e x FixedSizeList head buffers children) }
+{
+    if !buffers.is_empty() {
+        return Err(EncodingError::BadShape);
+    }
+    let (size, nullability) = match head.dtype {
+        DType::FixedSizeList(_, size, nullability) => (size, nullability),
+        _ => unreachable!(),
+    };
+    let (elements, validity) = first_and_validity(children.into_vec());
+    match FixedSizeListArray::try_new(alloc, elements, size, nullability, head.len, validity) {
+        Ok(array) => Ok(array),
+        Err(e) => Err(of_constructor(e)),
+    }
+}

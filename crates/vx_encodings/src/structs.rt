@@ -1,0 +1,115 @@
+//! Nodes of structures: no metadata, no buffers, and below a validity that may stand, and then each field.
+
+ghost use Rattle.std.specs.Prelude.{suc, ◌≡◌, ◌≤◌, ◌++◌, Some, IfOk, IfErr, OnOk, IsOkUnless};
+ghost use Rattle.vx_trees.specs.Rose.{count, roses_of};
+ghost use Rattle.vx_types.specs.Known.{ExtMeaning};
+ghost use Rattle.vx_types.specs.Seen.{typs};
+ghost use Rattle.vx_array_tree.specs.Place.{behind_validity as behind, places_at};
+ghost use Rattle.vx_array_tree.specs.Sound.{IsSound};
+ghost use Rattle.vx_array_tree.specs.Tree.{places};
+ghost use Rattle.vx_arrays.specs.Structs.{behind_validity};
+ghost use Rattle.vx_encodings.specs.Steps.{IsPlanned, IsUnplanned, IsBuilt, IsUnbuilt, IsWithoutPlan};
+ghost use Rattle.vx_encodings.specs.declared.encoding.Encoding.TheVariants.{Struct};
+
+use crate::empty_metadata::read_empty;
+use crate::error::{EncodingError, of_constructor};
+use crate::head::ArrayHead;
+use crate::plans::{ChildPlans, plan_of};
+use crate::validity::validity_of;
+use std::alloc::Global;
+use vx_arrays::{Array, Arrays, StructArray};
+use vx_buffer::BufferHandles;
+use vx_types::DType;
+
+// What the children of a node of structures are to be: at most a validity, and then a child for each field.
+#[tactic(auto, using(crate::proofs::StructSteps::struct_steps))]
+pub(crate) fn plan(alloc: Global, head: &ArrayHead) -> Result<ChildPlans, EncodingError>
+    ensures plan { (x : ExtMeaning) → IfOk result (λ plans. IsPlanned x Struct head.now plans) }
+    ensures err { (x : ExtMeaning) → IfErr result (λ e. IsUnplanned e x Struct head.now) }
+{
+    read_empty(head.metadata.as_slice())?;
+    match &head.dtype {
+        DType::Struct(fields, _) => {
+            plan_fields(alloc, fields.fields().as_slice(), head.len, head.nchildren)
+        }
+        _ => Err(EncodingError::BadShape),
+    }
+}
+
+// A child for each of the types, behind a validity, where one stands among so many children.
+#[tactic(auto, using(crate::proofs::StructSteps::struct_steps))]
+fn plan_fields(
+    alloc: Global,
+    types: &[DType],
+    len: usize,
+    count: usize,
+) -> Result<ChildPlans, EncodingError>
+    ensures plan { IfOk result (λ plans. behind (places_at (roses_of (typs types.now)) len) len count ≡ Some plans) }
+    ensures err { IfErr result (λ e. IsWithoutPlan e (behind (places_at (roses_of (typs types.now)) len) len count)) }
+{
+    let mut plans = ChildPlans::new(alloc);
+    match count.checked_sub(types.len()) {
+        Some(0) => with_fields(alloc, plans, types, len),
+        Some(1) => {
+            plans.push(validity_of(len))?;
+            with_fields(alloc, plans, types, len)
+        }
+        _ => Err(EncodingError::BadShape),
+    }
+}
+
+// These children, and then one for each of the types.
+fn with_fields(
+    alloc: Global,
+    front: ChildPlans,
+    types: &[DType],
+    len: usize,
+) -> Result<ChildPlans, EncodingError>
+    ensures plans { IfOk result (λ plans. plans ≡ front ++ places_at (roses_of (typs types.now)) len) }
+    ensures err { IsOkUnless result EncodingError.OutOfMemory }
+{
+    let mut plans = front;
+    for dtype in types {
+        plans.push(plan_of(alloc, dtype, len)?)?;
+    }
+    Ok(plans)
+}
+
+// The node of structures of these parts.
+#[tactic(auto, using(crate::proofs::StructSteps::struct_steps))]
+pub(crate) fn build(
+    alloc: Global,
+    head: ArrayHead,
+    buffers: BufferHandles,
+    children: Arrays,
+) -> Result<Array, EncodingError>
+    requires { (x : ExtMeaning) × IsPlanned x Struct head (places children) }
+    ensures parts { (x : ExtMeaning) → IfOk result (λ t. IsBuilt x Struct head buffers children t) }
+    ensures sound { IfOk result IsSound }
+    ensures err { (x : ExtMeaning) → IfErr result (λ e. IsUnbuilt e x Struct head buffers children) }
+{
+    if !buffers.is_empty() {
+        return Err(EncodingError::BadShape);
+    }
+    let (fields, nullability) = match head.dtype {
+        DType::Struct(fields, nullability) => (fields, nullability),
+        _ => unreachable!(),
+    };
+    let (validity, columns) = front_and_fields(children, fields.fields().len());
+    match StructArray::try_new(fields, nullability, columns, head.len, validity) {
+        Ok(array) => Ok(array),
+        Err(e) => Err(of_constructor(e)),
+    }
+}
+
+// The validity that may stand in front of so many children, and these.
+fn front_and_fields(children: Arrays, width: usize) -> (Option<Array>, Arrays)
+    ensures { behind_validity result.0 result.1 ≡ children }
+{
+    let mut columns = children;
+    if columns.len() <= width {
+        return (None, columns);
+    }
+    let validity = columns.remove_first();
+    (Some(validity), columns)
+}
