@@ -1,5 +1,5 @@
 -- Arrays that are the same again.
-use Rattle.std.proofs.Common.{ℕ, ◌≡◌, ◌≤◌, List, length, take, refl, sym, ap, ◌∙◌, subst}
+use Rattle.std.proofs.Common.{ℕ, ◌≡◌, ◌≤◌, List, length, take, sym, ap, ◌∙◌, subst}
 use Rattle.std.proofs.lemmas.List.{take_all}
 use Rattle.vx_trees.specs.Rose.{node, label, below, roses_of}
 use Rattle.vx_types.specs.Typ.{Typ}

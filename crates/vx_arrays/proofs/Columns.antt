@@ -1,5 +1,5 @@
 -- Columns of structures, one by one.
-use Rattle.std.proofs.Common.{ℕ, zero, suc, ◌≡◌, ◌≤◌, ◌<◌, ◌+◌, List, [], ◌∷◌, Bool, true, false, refl, sym, ap, ◌∙◌, subst, length, take, get_or, add-one, arith}
+use Rattle.std.proofs.Common.{ℕ, zero, suc, ◌≡◌, ◌<◌, ◌+◌, List, [], ◌∷◌, Bool, false, refl, sym, ap, ◌∙◌, subst, length, take, get_or, add-one, arith}
 use Rattle.std.specs.Prelude.{◌↔◌, IsTrue}
 use Rattle.vx_trees.specs.Rose.{label, more, count, roses_of}
 use Rattle.vx_trees.specs.Same.{same}

@@ -1,12 +1,12 @@
 -- Rows that are built of other rows: one value more, its cells, and what is left to spend.
 use Rattle.std.proofs.Common.{ℕ, zero, suc, ◌≡◌, ◌≤◌, ◌<◌, ◌+◌, ◌-◌, List, [], ◌∷◌, ◌++◌, Result, Ok, Err, IfOk, IfErr, OnOk, refl, sym, ap, ◌∙◌, subst, length, take, get_or, arith, add-one, add-zero}
 use Rattle.std.proofs.lemmas.List.{take_all}
-use Rattle.vx_trees.specs.Rose.{Roses, node, end, more, label, roses_of}
+use Rattle.vx_trees.specs.Rose.{end, more, label, roses_of}
 use Rattle.vx_trees.specs.Walks.{nodes, nodes_of}
 use Rattle.vx_trees.proofs.Counting.{nodes-at}
-use Rattle.vx_types.specs.Value.{Value, Values, Mark}
+use Rattle.vx_types.specs.Value.{Value, Values}
 use Rattle.vx_array_tree.specs.Rows.{Rows, values_from, cells_from, values_at, cells_at}
-use Rattle.vx_array_tree.specs.Tree.{Tree, Trees, rows_of, rows_below}
+use Rattle.vx_array_tree.specs.Tree.{Tree, rows_of, rows_below}
 use Rattle.vx_arrays.specs.Parts.{HaveRow}
 use Rattle.vx_arrays.specs.Plain.{plain_value}
 use Rattle.vx_arrays.specs.Refused.{IsValueRefused}

@@ -1,26 +1,25 @@
 -- The children of a node of structures: a validity that may stand in front, and its columns; and its rows.
-use Rattle.std.proofs.Common.{ℕ, zero, suc, ◌≡◌, ◌≤◌, ◌<◌, ◌+◌, ◌-◌, ◌==◌, List, [], ◌∷◌, ◌++◌, Option, Some, None, option_map, Bool, true, false, refl, sym, ap, ◌∙◌, subst, inl, inr, length, take, drop, arith}
+use Rattle.std.proofs.Common.{ℕ, zero, suc, ◌≡◌, ◌≤◌, ◌<◌, ◌-◌, ◌==◌, List, [], ◌∷◌, Option, Some, None, option_map, Bool, true, false, refl, sym, ap, ◌∙◌, subst, inl, inr, length, take, drop, arith}
 use Rattle.std.proofs.lemmas.Bool.{eq-eqb, ne_eqb}
 use Rattle.std.proofs.lemmas.List.{take_all}
 use Rattle.std.proofs.lemmas.Option.{same_Some}
 use Rattle.std.specs.Prelude.{◌↔◌, ◌⊎◌, IsTrue, if◌then◌else◌}
 use Rattle.vx_trees.specs.Rose.{Roses, node, end, more, label, below, count, roses_of}
-use Rattle.vx_trees.specs.Walks.{nodes, nodes_of}
+use Rattle.vx_trees.specs.Walks.{nodes_of}
 use Rattle.vx_trees.proofs.Lists.{count-roses_of}
-use Rattle.vx_types.specs.Kind.{Kind, boolean, structure}
+use Rattle.vx_types.specs.Kind.{Kind, structure}
 use Rattle.vx_types.specs.Parts.{Fields}
-use Rattle.vx_types.specs.Seen.{typ, typs}
 use Rattle.vx_types.specs.Typ.{Typ}
 use Rattle.vx_types.specs.Value.{Value, tuple}
 use Rattle.vx_types.specs.declared.nullability.Nullability.{Nullability}
-use Rattle.vx_types.specs.declared.nullability.Nullability.TheVariants.{NonNullable, Nullable}
+use Rattle.vx_types.specs.declared.nullability.Nullability.TheVariants.{Nullable}
 use Rattle.vx_array_tree.specs.Body as B
 use Rattle.vx_array_tree.specs.Encodings.Structs.{plan, rows, fields, width_of, has_validity, structure_valid}
 use Rattle.vx_array_tree.specs.Place.{Place, place, exactly, behind_validity, validity_place, places_at}
 use Rattle.vx_array_tree.specs.Refused.{IsWellShaped}
-use Rattle.vx_array_tree.specs.Rows.{Rows, rest, validity, flag_in, where_valid, cells_where, values_at, cells_at}
+use Rattle.vx_array_tree.specs.Rows.{rest, flag_in, where_valid, cells_where, values_at, cells_at}
 use Rattle.vx_array_tree.specs.Sound.{IsSoundNode}
-use Rattle.vx_array_tree.specs.Tree.{Tree, Trees, places, row_at, rows_below, rows_of, untold}
+use Rattle.vx_array_tree.specs.Tree.{Tree, Trees, places, row_at, rows_below, untold}
 use Rattle.vx_array_tree.proofs.Options.{mapped}
 use Rattle.vx_array_tree.proofs.Plans.{exactly_is}
 use Rattle.vx_arrays.specs.Parts.{HaveRow}

@@ -1,10 +1,10 @@
 -- Lists of arrays with one taken out in front, or put there.
-use Rattle.std.proofs.Common.{ℕ, ◌≡◌, ◌≤◌, ◌<◌, List, [], ◌∷◌, get_or, refl, sym, ap, ◌∙◌, subst, length, arith}
+use Rattle.std.proofs.Common.{◌≡◌, ◌≤◌, List, [], ◌∷◌, get_or, sym, ap, ◌∙◌, subst, length, arith}
 use Rattle.std.specs.List.{insert, remove}
-use Rattle.vx_trees.specs.Everywhere.{Everywhere, EverywhereBelow}
+use Rattle.vx_trees.specs.Everywhere.{EverywhereBelow}
 use Rattle.vx_trees.specs.Rose.{more, roses_of}
 use Rattle.vx_array_tree.specs.Sound.{IsSound, IsSoundNode}
-use Rattle.vx_array_tree.specs.Tree.{Tree, Trees}
+use Rattle.vx_array_tree.specs.Tree.{Tree}
 
 -- The first and the others are the list.
 pub first_out : (ts us : List Tree) (t : Tree) → t ≡ get_or ts 0 t → us ≡ remove ts 0 → 1 ≤ length ts → more t (roses_of us) ≡ roses_of ts

@@ -1,5 +1,5 @@
 -- A want of memory is among the refusals of a constructor, and also of a call that has no other.
-use Rattle.std.proofs.Common.{◌≡◌, Result, Ok, Err, IfErr, sym, subst}
+use Rattle.std.proofs.Common.{Result, Ok, Err, IfErr, sym, subst}
 use Rattle.std.specs.Prelude.{IsOkUnless}
 use Rattle.vx_array_tree.specs.Tree.{Tree}
 use Rattle.vx_arrays.specs.Refused.{IsUnmade, IsMemory, IsOkOrMemory}

@@ -1,8 +1,8 @@
 -- The children of a node of texts or of bytes: its offsets, and what stands behind them.
-use Rattle.std.proofs.Common.{take, drop, get_or, OnErr, ◌<◌, ℕ, zero, suc, ◌≡◌, ◌≢◌, ◌≤◌, ◌+◌, ◌-◌, ◌^◌, add-zero, OnOk, ltb, List, [], ◌∷◌, Option, Some, None, option_map, Result, Ok, Err, IfOk, IfErr, Bool, true, false, refl, sym, ap, ◌∙◌, subst, length, arith}
+use Rattle.std.proofs.Common.{take, drop, get_or, ◌<◌, ℕ, suc, ◌≡◌, ◌≢◌, ◌≤◌, ◌-◌, ◌^◌, List, [], ◌∷◌, Option, Some, None, Result, IfOk, IfErr, Bool, true, false, refl, sym, ap, ◌∙◌, subst, length, arith}
 use Rattle.std.proofs.lemmas.List.{take_all}
 use Rattle.std.proofs.lemmas.Bool.{false≢true, iff_false, lt-ltb}
-use Rattle.std.specs.Prelude.{◌↔◌, IsTrue, nat_lt}
+use Rattle.std.specs.Prelude.{◌↔◌, IsTrue}
 use Rattle.vx_buffer.specs.Buffer.{Buffer}
 use Rattle.vx_trees.specs.Everywhere.{EverywhereBelow}
 use Rattle.vx_trees.specs.Rose.{node, end, more, label, count, roses_of}
@@ -16,14 +16,14 @@ use Rattle.vx_types.specs.Words.{nullability}
 use Rattle.vx_types.specs.declared.dtype.DType.{DType}
 use Rattle.vx_types.specs.declared.dtype.DType.TheVariants as D
 use Rattle.vx_types.specs.declared.nullability.Nullability.{Nullability}
-use Rattle.vx_types.specs.declared.nullability.Nullability.TheVariants.{NonNullable, Nullable}
+use Rattle.vx_types.specs.declared.nullability.Nullability.TheVariants.{NonNullable}
 use Rattle.vx_types.specs.declared.ptype.PType.{PType}
 use Rattle.vx_array_tree.specs.Body as B
 use Rattle.vx_array_tree.specs.Encodings.VarBins.{Data, AreOffsets, Content, IsContent, bytes_at, mark_of, plan, planned, metadata_of}
 use Rattle.vx_array_tree.specs.Encodings.VarBins.{rows as rows_of_parts}
-use Rattle.vx_array_tree.specs.Place.{Place, place, numbers, is_len, when, before_validity, ptype_of}
+use Rattle.vx_array_tree.specs.Place.{Place, place, numbers, is_len, before_validity, ptype_of}
 use Rattle.vx_array_tree.specs.Refused.{IsWellShaped, HasBrokenContent}
-use Rattle.vx_array_tree.specs.Rows.{Rows, IsThere, validity, first, rest, where_valid}
+use Rattle.vx_array_tree.specs.Rows.{IsThere, validity, where_valid}
 use Rattle.vx_array_tree.specs.Sound.{IsSound, IsSoundNode}
 use Rattle.vx_array_tree.specs.Tree.{Tree, Trees, places, rows_below, rows_of, untold}
 use Rattle.vx_array_tree.proofs.Built.{sound_well_shaped}

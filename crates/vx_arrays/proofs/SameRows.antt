@@ -1,7 +1,7 @@
 -- Lists of rows' values and of their trees, element by element.
-use Rattle.std.specs.Prelude.{ℕ, zero, suc, ◌+◌, ◌≤◌, ◌<◌, ◌≡◌, List, [], ◌∷◌, ◌++◌, length, take, refl}
+use Rattle.std.specs.Prelude.{ℕ, zero, suc, ◌+◌, ◌<◌, ◌≡◌, List, [], ◌∷◌, ◌++◌, length, take, refl}
 use Rattle.std.proofs.Common.{arith, get_or, sym, ap, ◌∙◌, subst, add-one}
-use Rattle.vx_trees.specs.Rose.{node, end, more, roses_of, roses_list}
+use Rattle.vx_trees.specs.Rose.{roses_of, roses_list}
 use Rattle.vx_trees.proofs.Counting.{nodes-at}
 use Rattle.vx_trees.proofs.Lists.{roses_list-roses_of}
 use Rattle.vx_types.specs.Value.{Value}

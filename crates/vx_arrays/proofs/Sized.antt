@@ -1,5 +1,5 @@
 -- The children of a node of lists of one size: its elements, and what stands behind them; and its rows.
-use Rattle.std.proofs.Common.{ℕ, zero, suc, ◌≡◌, ◌≤◌, ◌<◌, ◌+◌, ◌*◌, ◌^◌, List, [], ◌∷◌, Option, Some, None, Bool, true, false, Result, Ok, Err, IfOk, IfErr, refl, sym, ap, ◌∙◌, subst, length, arith}
+use Rattle.std.proofs.Common.{ℕ, suc, ◌≡◌, ◌≤◌, ◌<◌, ◌+◌, ◌*◌, ◌^◌, List, [], ◌∷◌, Option, Some, None, Bool, true, false, refl, sym, ap, ◌∙◌, subst, length, arith}
 use Rattle.std.proofs.lemmas.Bool.{iff_false, false≢true, ltb-true}
 use Rattle.std.specs.Prelude.{◌↔◌, IsTrue}
 use Rattle.vx_trees.specs.Rose.{node, end, more, label, count, roses_of}
@@ -13,10 +13,9 @@ use Rattle.vx_array_tree.specs.Body as B
 use Rattle.vx_array_tree.specs.Encodings.FixedSizeLists.{plan, rows, size_of}
 use Rattle.vx_array_tree.specs.Place.{Place, place, is_len, when, before_validity}
 use Rattle.vx_array_tree.specs.Refused.{IsWellShaped}
-use Rattle.vx_array_tree.specs.Rows.{Rows, validity, first, rest, where_valid, cells_where, values_from, cells_from}
-use Rattle.vx_array_tree.specs.Sound.{IsSound, IsSoundNode}
+use Rattle.vx_array_tree.specs.Rows.{validity, first, rest, where_valid, cells_where, values_from, cells_from}
+use Rattle.vx_array_tree.specs.Sound.{IsSoundNode}
 use Rattle.vx_array_tree.specs.Tree.{Tree, Trees, places, rows_below, rows_of, untold}
-use Rattle.vx_array_tree.proofs.Built.{sound_well_shaped}
 use Rattle.vx_array_tree.proofs.Options.{let_through}
 use Rattle.vx_arrays.specs.FixedSizeLists.{IsOfSize, fixed_size_list_head}
 use Rattle.vx_arrays.specs.Validity.{IsValidity}

@@ -20,7 +20,6 @@ use Rattle.vx_array_tree.specs.Metadata as M
 use Rattle.vx_array_tree.specs.Place.{Place, place, numbers, exactly, before_validity, behind_validity, validity_place, places_at, is_len}
 use Rattle.vx_array_tree.specs.Table.{IsFair, plan_of}
 use Rattle.vx_array_tree.proofs.Options.{mapped, let_through}
-use Rattle.vx_scalars.specs.Stats.{Stats}
 use Rattle.vx_scalar_wire.proofs.LawsStats.{one_set_in, shown_fit_in, written_shown, written_storable, written_alike}
 use Rattle.vx_wire_tree.specs.Codec.{IsLawfulAt, HasLawfulStats}
 use Rattle.vx_wire_tree.specs.Fields.{Fields, FitsMessage, meant, told}

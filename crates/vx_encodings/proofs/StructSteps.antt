@@ -1,9 +1,8 @@
 -- The steps of nodes of structures.
-use Rattle.std.proofs.Common.{ℕ, zero, suc, ◌≡◌, ◌≢◌, ◌≤◌, ◌+◌, List, [], ◌∷◌, ◌++◌, Option, Some, None, Result, Ok, Err, IfOk, refl, sym, ap, ◌∙◌, subst, inl, length, arith}
+use Rattle.std.proofs.Common.{ℕ, suc, ◌≡◌, ◌≢◌, List, [], ◌∷◌, Option, Some, None, Result, Ok, Err, IfOk, refl, sym, ap, ◌∙◌, subst, inl, length}
 use Rattle.vx_buffer.specs.Buffer.{Buffer}
-use Rattle.vx_trees.specs.Rose.{Roses, node, end, more, roses_of, count}
-use Rattle.vx_trees.proofs.Lists.{count-roses_of}
-use Rattle.vx_types.specs.Kind.{Kind, structure}
+use Rattle.vx_trees.specs.Rose.{node, end, more, roses_of, count}
+use Rattle.vx_types.specs.Kind.{structure}
 use Rattle.vx_types.specs.Known.{ExtMeaning}
 use Rattle.vx_types.specs.Parts.{Fields}
 use Rattle.vx_types.specs.Seen.{typ, typs}
@@ -16,7 +15,7 @@ use Rattle.vx_array_tree.specs.Encoding as E
 use Rattle.vx_array_tree.specs.Encodings.Structs.{plan}
 use Rattle.vx_array_tree.specs.Metadata.{Metadata}
 use Rattle.vx_array_tree.specs.Metadata as M
-use Rattle.vx_array_tree.specs.Place.{Place, place, places_at, validity_place}
+use Rattle.vx_array_tree.specs.Place.{Place, places_at, validity_place}
 use Rattle.vx_array_tree.specs.Place.{behind_validity as behind}
 use Rattle.vx_array_tree.specs.Table.{IsShaped, body_of, plan_of}
 use Rattle.vx_array_tree.specs.Tree.{Tree, Trees, places, untold}

@@ -1,30 +1,15 @@
 //! Tests of lists of one size: their rows, which arrays are made, the cells that a row takes, and their nodes on the wire.
 
-use crate::arrays::{numbers, value_at};
-use crate::bools::flags;
-use crate::encodings::{head_of, plan_refusal};
+use crate::parts::{bytes, plan_refusal, row_of};
 use std::alloc::Global;
-use vx_arrays::{Array, ArrayError, FixedSizeListArray, RowValue, RowValues};
+use vx_array_tests::parts::{flags, value_at};
+use vx_arrays::{Array, ArrayError, FixedSizeListArray, RowValue};
 use vx_encodings::{Encoding, EncodingError};
-use vx_types::{DType, Nullability, PType, PValue, TypeRef};
+use vx_types::{DType, Nullability, PType, TypeRef};
 
 const NEVER: Nullability = Nullability::NonNullable;
 
 const MAYBE: Nullability = Nullability::Nullable;
-
-/// So many bytes as an array of numbers.
-pub(crate) fn bytes(alloc: Global, values: &[u8]) -> Result<Array, ArrayError> {
-    numbers(alloc, values, PType::U8, values.len())
-}
-
-/// The row of these numbers.
-pub(crate) fn row_of(alloc: Global, values: &[u8]) -> Result<RowValue, ArrayError> {
-    let mut row = RowValues::new(alloc);
-    for value in values {
-        row.push(RowValue::Primitive(PValue::U8(*value)))?;
-    }
-    Ok(RowValue::Tuple(row))
-}
 
 // So many lists of a size, of these bytes, that are never null.
 fn lists(alloc: Global, values: &[u8], size: u32, len: usize) -> Result<Array, ArrayError> {
@@ -142,23 +127,27 @@ fn a_row_takes_its_elements_cells_and_one(rt: HostRuntime) {
     }
 }
 
-// The type of lists of three numbers.
-fn dtype(alloc: Global) -> Result<DType, EncodingError> {
-    match TypeRef::new(alloc, DType::Primitive(PType::U8, NEVER)) {
-        Ok(element) => Ok(DType::FixedSizeList(element, 3, MAYBE)),
-        Err(_) => Err(EncodingError::OutOfMemory),
-    }
-}
-
-// Why so many of them, of this metadata and so many children, are not planned, if they are not.
+// Why so many lists of three numbers, of this metadata and so many children, are not planned, if they are not.
 fn unplanned(
     alloc: Global,
     len: usize,
     metadata: &[u8],
     nchildren: usize,
-) -> Result<Option<EncodingError>, EncodingError> {
-    let head = head_of(alloc, dtype(alloc)?, len, metadata, nchildren)?;
-    Ok(plan_refusal(alloc, Encoding::FixedSizeList, &head))
+) -> Option<EncodingError> {
+    match TypeRef::new(alloc, DType::Primitive(PType::U8, NEVER)) {
+        Ok(element) => {
+            let dtype = DType::FixedSizeList(element, 3, MAYBE);
+            plan_refusal(
+                alloc,
+                Encoding::FixedSizeList,
+                dtype,
+                len,
+                metadata,
+                nchildren,
+            )
+        }
+        Err(_) => Some(EncodingError::OutOfMemory),
+    }
 }
 
 const PLANS: [(usize, &[u8], usize, Option<EncodingError>); 6] = [
@@ -174,6 +163,6 @@ const PLANS: [(usize, &[u8], usize, Option<EncodingError>); 6] = [
 fn plans_have_elements_and_at_most_a_validity(rt: HostRuntime) {
     for (len, metadata, nchildren, error) in &PLANS {
         let refused = unplanned(rt.alloc(), *len, metadata, *nchildren);
-        assert!(rt; refused == Ok(*error), "{len} {nchildren}");
+        assert!(rt; refused == *error, "{len} {nchildren}");
     }
 }

@@ -1,11 +1,8 @@
 //! Tests of structures: their rows, which arrays are made, the cells that a row takes, and their nodes on the wire.
 
-use crate::arrays::value_at;
-use crate::bools::flags;
-use crate::encodings::{head_of, plan_refusal};
-use crate::lists_of_one_size::{bytes, row_of};
-use crate::varbins::one_text;
+use crate::parts::{bytes, one_text, plan_refusal, row_of};
 use std::alloc::Global;
+use vx_array_tests::parts::{flags, value_at};
 use vx_arrays::{Array, ArrayError, Arrays, RowValue, StructArray};
 use vx_encodings::{Encoding, EncodingError};
 use vx_types::{DType, DTypes, Name, Names, Nullability, PType, StructFields, TypeError};
@@ -149,11 +146,13 @@ fn with_bits(alloc: Global, nullability: Nullability, bits: u8) -> Result<Array,
 // Whether the first of two structures is null, and the second one is there.
 fn is_second_there(alloc: Global) -> Result<bool, ArrayError> {
     let array = with_bits(alloc, MAYBE, 2)?;
-    Ok(value_at(alloc, &array, 0, 1)? == RowValue::Null
-        && is_row(alloc, &array, 1, 3, &[2, 4])?
-        && array.is_valid(0) == Some(false)
-        && array.is_valid(1) == Some(true)
-        && array.children().len() == 3)
+    Ok(
+        value_at(alloc, &array, 0, 1)? == RowValue::Null
+            && is_row(alloc, &array, 1, 3, &[2, 4])?
+            && array.is_valid(0) == Some(false)
+            && array.is_valid(1) == Some(true)
+            && array.children().len() == 3,
+    )
 }
 
 #[test]
@@ -206,16 +205,14 @@ fn slots_have_the_fields_names(rt: HostRuntime) {
 }
 
 // Why structures of so many fields and children are not planned, if they are not.
-fn unplanned(
-    alloc: Global,
-    fields: usize,
-    nchildren: usize,
-) -> Result<Option<EncodingError>, EncodingError> {
-    let Ok(fields) = number_fields(alloc, fields) else {
-        return Err(EncodingError::OutOfMemory);
-    };
-    let head = head_of(alloc, DType::Struct(fields, MAYBE), 7, &[], nchildren)?;
-    Ok(plan_refusal(alloc, Encoding::Struct, &head))
+fn unplanned(alloc: Global, fields: usize, nchildren: usize) -> Option<EncodingError> {
+    match number_fields(alloc, fields) {
+        Ok(fields) => {
+            let dtype = DType::Struct(fields, MAYBE);
+            plan_refusal(alloc, Encoding::Struct, dtype, 7, &[], nchildren)
+        }
+        Err(_) => Some(EncodingError::OutOfMemory),
+    }
 }
 
 const PLANS: [(usize, usize, Option<EncodingError>); 7] = [
@@ -232,6 +229,6 @@ const PLANS: [(usize, usize, Option<EncodingError>); 7] = [
 fn plans_have_the_fields_behind_at_most_a_validity(rt: HostRuntime) {
     for (fields, nchildren, error) in &PLANS {
         let refused = unplanned(rt.alloc(), *fields, *nchildren);
-        assert!(rt; refused == Ok(*error), "{fields} {nchildren}");
+        assert!(rt; refused == *error, "{fields} {nchildren}");
     }
 }

@@ -1,5 +1,5 @@
 -- Rows are built of other rows one by one, and cells are spent for them.
-use Rattle.std.proofs.Common.{ℕ, ◌≡◌, ◌+◌, List, sym, subst, arith}
+use Rattle.std.proofs.Common.{◌≡◌, ◌+◌, List, sym, subst, arith}
 use Rattle.std.proofs.lemmas.Result.{err_from_is_err_and}
 use Rattle.vx_trees.specs.Rose.{roses_of}
 use Rattle.vx_types.specs.Value.{Value}

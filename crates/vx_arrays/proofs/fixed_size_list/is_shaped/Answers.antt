@@ -2,7 +2,6 @@
 use Rattle.std.proofs.lemmas.Bool.{false≢true}
 use Rattle.std.proofs.Common.{◌≡◌, ◌*◌, subst, IsTrue, arith}
 use Rattle.std.specs.Prelude.{◌↔◌}
-use Rattle.vx_trees.specs.Rose.{label}
 use Rattle.vx_array_tree.specs.Tree.{option_trees}
 use Rattle.vx_arrays.proofs.Sized.{unshaped, validity_decides}
 use Rattle.vx_arrays.proofs.fixed_size_list.is_shaped.Goals as goal

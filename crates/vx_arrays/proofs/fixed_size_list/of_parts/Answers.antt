@@ -1,5 +1,5 @@
 -- Parts of the shape make a sound array.
-use Rattle.std.proofs.Common.{◌≡◌, ◌∙◌, subst, sym, ap}
+use Rattle.std.proofs.Common.{◌∙◌, subst, sym, ap}
 use Rattle.vx_trees.specs.Everywhere.{EverywhereBelow}
 use Rattle.vx_trees.specs.Rose.{node, end, more, roses_of}
 use Rattle.vx_types.specs.Kind.{fixed_size_list}

@@ -1,14 +1,10 @@
 -- A node without buffers is what it was where none are given, and nothing else is made of it.
-use Rattle.std.proofs.Common.{◌≡◌, ◌∙◌, Some, List, sym, ap, subst}
 use Rattle.std.proofs.lemmas.Bool.{iff_false}
-use Rattle.vx_trees.specs.Everywhere.{EverywhereBelow}
-use Rattle.vx_trees.specs.Rose.{node, roses_of}
+use Rattle.vx_trees.specs.Rose.{roses_of}
 use Rattle.vx_types.specs.Seen.{typ}
-use Rattle.vx_array_tree.specs.Sound.{IsSoundNode}
-use Rattle.vx_array_tree.specs.Tree.{Tree, untold}
-use Rattle.vx_arrays.specs.NewBuffers.{with_buffers}
+use Rattle.vx_array_tree.specs.Tree.{untold}
 use Rattle.vx_arrays.specs.Plain.{plain_body}
-use Rattle.vx_arrays.proofs.Rebuffered.{bare_refused, bare_unmade, bare_made}
+use Rattle.vx_arrays.proofs.Rebuffered.{bare_refused, bare_unmade}
 use Rattle.vx_arrays.proofs.new_buffers.without_buffers.Goals as goal
 
 pub returns-then-not-is_empty-clause-err : goal.returns-then-not-is_empty-clause-err

@@ -1,14 +1,14 @@
 -- Arrays are the children of structures where they are the columns, or where those stand behind a validity.
-use Rattle.std.proofs.Common.{◌≡◌, ◌-◌, ◌∙◌, List, IsTrue, refl, sym, ap, subst, length, take, drop, arith}
+use Rattle.std.proofs.Common.{◌≡◌, ◌-◌, ◌∙◌, List, IsTrue, refl, sym, ap, subst, length, take, drop}
 use Rattle.std.specs.Prelude.{◌↔◌}
-use Rattle.vx_trees.specs.Rose.{count, more, roses_of}
+use Rattle.vx_trees.specs.Rose.{count, roses_of}
 use Rattle.vx_trees.proofs.Lists.{count-roses_of}
 use Rattle.vx_types.specs.Seen.{typs}
 use Rattle.vx_types.specs.Typ.{Typ}
 use Rattle.vx_array_tree.specs.Place.{places_at}
 use Rattle.vx_array_tree.specs.Tree.{places}
 use Rattle.vx_arrays.proofs.Columns.{typs-length, none_right, front_and_columns, without_front}
-use Rattle.vx_arrays.proofs.Fielded.{columns_decide, behind_length}
+use Rattle.vx_arrays.proofs.Fielded.{columns_decide}
 use Rattle.vx_arrays.proofs.Parted.{first_and_behind}
 use Rattle.vx_arrays.proofs.structs.are_shaped.Goals as goal
 

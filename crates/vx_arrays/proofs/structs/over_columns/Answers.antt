@@ -1,5 +1,5 @@
 -- Children of the shape make a sound array, and others are refused.
-use Rattle.std.proofs.Common.{◌≡◌, List, IsTrue, subst}
+use Rattle.std.proofs.Common.{List, IsTrue, subst}
 use Rattle.std.specs.Prelude.{◌↔◌}
 use Rattle.std.proofs.lemmas.Bool.{iff_false}
 use Rattle.vx_trees.specs.Rose.{roses_of}

@@ -1,5 +1,5 @@
 -- A part begins where it ends, or before, and ends within the bytes.
-use Rattle.std.proofs.Common.{ℕ, ◌≤◌, arith, length}
+use Rattle.std.proofs.Common.{length}
 use Rattle.vx_array_tree.specs.Tree.{rows_of}
 use Rattle.vx_arrays.proofs.Rising.{part_in_order, part_within}
 use Rattle.vx_arrays.proofs.texts.part_at.Goals as goal

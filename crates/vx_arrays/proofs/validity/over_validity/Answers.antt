@@ -1,8 +1,8 @@
 -- A node of the shape over its validity is sound, and one of another shape is refused.
-use Rattle.std.proofs.Common.{◌≡◌, ◌∙◌, subst, sym, ap}
+use Rattle.std.proofs.Common.{◌∙◌, subst, sym, ap}
 use Rattle.std.proofs.lemmas.Bool.{iff_false}
 use Rattle.vx_trees.specs.Everywhere.{EverywhereBelow}
-use Rattle.vx_trees.specs.Rose.{node, roses_of}
+use Rattle.vx_trees.specs.Rose.{node}
 use Rattle.vx_types.specs.Seen.{typ}
 use Rattle.vx_array_tree.specs.Refused.{IsWellShaped}
 use Rattle.vx_array_tree.specs.Sound.{IsSoundNode}

@@ -1,5 +1,5 @@
 -- The content of parts is right where their offsets are and, under a type of texts, their texts.
-use Rattle.std.proofs.Common.{◌≡◌, ◌∙◌, ap}
+use Rattle.std.proofs.Common.{◌∙◌, ap}
 use Rattle.vx_buffer.specs.Buffer.{Buffer}
 use Rattle.vx_trees.specs.Rose.{more}
 use Rattle.vx_types.specs.Seen.{typ}

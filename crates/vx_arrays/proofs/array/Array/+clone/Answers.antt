@@ -1,5 +1,5 @@
 -- The parts of the array are those of the one that it is made of.
-use Rattle.std.proofs.Common.{◌≡◌, ◌∙◌, ap}
+use Rattle.std.proofs.Common.{◌∙◌, ap}
 use Rattle.vx_trees.specs.Rose.{below, roses_of}
 use Rattle.vx_types.specs.Seen.{typ}
 use Rattle.vx_types.specs.declared.dtype.DType.{DType}

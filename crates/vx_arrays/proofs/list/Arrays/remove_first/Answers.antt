@@ -1,7 +1,6 @@
-use Rattle.std.proofs.Common.{◌≡◌, ◌∙◌, sym, ap, arith, length}
-use Rattle.vx_trees.specs.Rose.{count, roses_of}
+use Rattle.std.proofs.Common.{◌∙◌, ap, arith}
+use Rattle.vx_trees.specs.Rose.{count}
 use Rattle.vx_trees.proofs.Lists.{count-roses_of}
-use Rattle.vx_array_tree.specs.Sound.{IsSoundNode}
 use Rattle.vx_arrays.proofs.Firsts.{first_out, sound_without_first}
 use Rattle.vx_arrays.proofs.list.Arrays.remove_first.Goals as goal
 

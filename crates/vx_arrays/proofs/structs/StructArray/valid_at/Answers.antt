@@ -1,6 +1,6 @@
 -- A validity stands in front of the columns, where there is one child more than fields.
-use Rattle.std.proofs.Common.{◌≡◌, ◌<◌, ◌-◌, ℕ, Option, Some, true, Bool, sym, ap, subst, length, take, drop, arith}
-use Rattle.vx_trees.specs.Rose.{count, label, more, roses_of}
+use Rattle.std.proofs.Common.{◌≡◌, ◌-◌, Option, Some, true, Bool, sym, ap, subst, length, take, drop, arith}
+use Rattle.vx_trees.specs.Rose.{count, label, roses_of}
 use Rattle.vx_trees.proofs.Lists.{count-roses_of}
 use Rattle.vx_types.specs.Seen.{typ}
 use Rattle.vx_array_tree.specs.Body as B

@@ -1,5 +1,5 @@
 -- The buffers that views name are named by their numbers, and the views stand last.
-use Rattle.std.proofs.Common.{List, ◌<◌, Some, ◌∙◌, ap, length, codes, arith}
+use Rattle.std.proofs.Common.{List, Some, ◌∙◌, ap, length, codes, arith}
 use Rattle.vx_buffer.specs.Buffer.{Buffer}
 use Rattle.vx_array_tree.specs.Encodings.VarBinViews.{Data}
 use Rattle.vx_arrays.proofs.Viewed.{name_of_buffer, name_of_views, name_of_none}
