@@ -15,7 +15,8 @@ use Rattle.std.proofs.lemmas.Bool.{false≢true, iff_false}
 use Rattle.vx_array_tree.specs.Place.{Place, place, places_at, validity_place}
 use Rattle.vx_array_tree.specs.Refused.{IsWellShaped}
 use Rattle.vx_array_tree.specs.Tree.{Tree, Trees, places}
-use Rattle.vx_arrays.specs.Structs.{place_of, struct_head}
+use Rattle.vx_arrays.specs.Places.{place_of}
+use Rattle.vx_arrays.specs.Structs.{struct_head}
 use Rattle.vx_arrays.proofs.Fielded.{places_count, places_length, no_children, front_decides, front_right}
 
 -- A place is its type and its length.

@@ -23,7 +23,8 @@ use Rattle.vx_array_tree.specs.Tree.{Tree, Trees, places, row_at, rows_below, un
 use Rattle.vx_array_tree.proofs.Options.{mapped}
 use Rattle.vx_array_tree.proofs.Plans.{exactly_is}
 use Rattle.vx_arrays.specs.Parts.{HaveRow}
-use Rattle.vx_arrays.specs.Structs.{IsOfFields, behind_first, field_trees, place_of, struct_head}
+use Rattle.vx_arrays.specs.Places.{place_of}
+use Rattle.vx_arrays.specs.Structs.{IsOfFields, behind_first, field_trees, struct_head}
 
 -- ---- numbers of places
 

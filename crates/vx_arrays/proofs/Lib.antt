@@ -17,3 +17,5 @@ mod Sized
 mod Fielded
 mod Columns
 mod Made
+mod Judged
+mod Stored

@@ -6,7 +6,9 @@ pub mod Decimals
 pub mod VarBins
 pub mod VarBinViews
 pub mod FixedSizeLists
+pub mod Extensions
 pub mod Structs
+pub mod Places
 pub mod Validity
 pub mod Slots
 pub mod Refused

@@ -6,11 +6,11 @@ use Rattle.vx_types.specs.Value.{Value, Mark, lone, tuple, value_cells}
 use Rattle.vx_types.specs.Value as V
 use Rattle.vx_scalars.specs.Decimals.{decimal_of}
 use Rattle.vx_array_tree.specs.Rows.{values_from, cells_from, values_at, cells_at}
-use Rattle.vx_array_tree.specs.Tree.{Trees, rows_of, rows_below}
+use Rattle.vx_array_tree.specs.Tree.{Trees, cells, row_at, rows_of, rows_below}
 use Rattle.vx_arrays.specs.declared.parts.LoneRow.{LoneRow}
 use Rattle.vx_arrays.specs.declared.parts.LoneRow.TheVariants as L
 use Rattle.vx_arrays.specs.declared.parts.RowParts.{RowParts}
-use Rattle.vx_arrays.specs.declared.parts.RowParts.TheVariants.{Lone, Run, Across}
+use Rattle.vx_arrays.specs.declared.parts.RowParts.TheVariants.{Lone, At, Run, Across}
 
 -- A row without rows below it, as the mark of its value.
 abbrev pub lone_mark : LoneRow → Mark
@@ -25,12 +25,14 @@ lone_mark (L.Binary bytes) = V.binary bytes.now
 -- The value of a row of these parts.
 abbrev pub parts_value : RowParts → Value
 parts_value (Lone row) = lone (lone_mark row)
+parts_value (At array index) = row_at array.now index
 parts_value (Run array start count) = node tuple (values_from (rows_of array.now) start count)
 parts_value (Across arrays index) = node tuple (values_at (rows_below (roses_of arrays.now)) index)
 
 -- How many cells it takes.
 abbrev pub parts_cells : RowParts → ℕ
 parts_cells (Lone row) = value_cells (lone (lone_mark row))
+parts_cells (At array index) = cells array.now index
 parts_cells (Run array start count) = suc (cells_from (rows_of array.now) start count)
 parts_cells (Across arrays index) = suc (cells_at (rows_below (roses_of arrays.now)) index)
 
@@ -42,11 +44,13 @@ HaveRow i (more t ts) = (i < (label t).len) × HaveRow i ts
 -- The rows of which a row is made are there, and can be counted.
 abbrev pub AreThere : RowParts → Type 0
 AreThere (Lone row) = Unit {0}
+AreThere (At array index) = index < (label array.now).len
 AreThere (Run array start count) = (start + count ≤ (label array.now).len) × (start + count < 2 ^ 64)
 AreThere (Across arrays index) = HaveRow index (roses_of arrays.now)
 
 -- How many nodes the arrays have of whose rows a row is made.
 abbrev pub parts_nodes : RowParts → ℕ
 parts_nodes (Lone row) = 0
+parts_nodes (At array index) = nodes array.now
 parts_nodes (Run array start count) = nodes array.now
 parts_nodes (Across arrays index) = nodes_of (roses_of arrays.now)

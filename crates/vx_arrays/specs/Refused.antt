@@ -1,5 +1,5 @@
 -- When a call on arrays is refused.
-use Rattle.std.specs.Prelude.{ℕ, ◌<◌, Result, Ok, Err}
+use Rattle.std.specs.Prelude.{ℕ, ◌≡◌, ◌<◌, Bool, true, false, Result, Ok, Err}
 use Rattle.vx_trees.specs.Rose.{label, below}
 use Rattle.vx_array_tree.specs.Refused.{IsMisshaped, HasBrokenContent}
 use Rattle.vx_array_tree.specs.Rows.{Rows}
@@ -14,6 +14,13 @@ IsUnmade OutOfMemory t = Unit {0}
 IsUnmade BadShape t = IsMisshaped (label t) (below t)
 IsUnmade BadContent t = HasBrokenContent (label t) (below t)
 IsUnmade ValueTooLarge t = ⊥
+
+-- Parts are refused for their shape where this is wrong, and for their content where that alone is.
+abbrev pub IsJudged : ArrayError → Bool → Bool → Type 0
+IsJudged OutOfMemory shaped right = ⊥
+IsJudged BadShape shaped right = shaped ≡ false
+IsJudged BadContent shaped right = (shaped ≡ true) × (right ≡ false)
+IsJudged ValueTooLarge shaped right = ⊥
 
 -- A value of so many cells is refused for want of memory, or where they are more than there are to spend.
 abbrev pub IsValueRefused : ArrayError → ℕ → ℕ → Type 0

@@ -7,7 +7,6 @@ use Rattle.vx_types.specs.Typ.{Typ}
 use Rattle.vx_types.specs.declared.nullability.Nullability.{Nullability}
 use Rattle.vx_array_tree.specs.Body as B
 use Rattle.vx_array_tree.specs.Encodings.Structs.{has_validity}
-use Rattle.vx_array_tree.specs.Place.{Place, place}
 use Rattle.vx_array_tree.specs.Tree.{Head, Tree, Trees, untold}
 
 -- A node of structures of these fields.
@@ -36,7 +35,3 @@ behind_first (more t ts) = ts
 -- The children of a node of structures that are its columns: all, but for a validity in front.
 abbrev pub field_trees : Typ → Trees → Trees
 field_trees d ts = if has_validity d (count ts) then behind_first ts else ts
-
--- The place at which an array stands.
-abbrev pub place_of : Tree → Place
-place_of t = place (label t).dtype (label t).len

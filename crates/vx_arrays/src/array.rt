@@ -21,6 +21,7 @@ ghost use Rattle.vx_arrays.specs.Refused.{IsRowRefused, IsOkOrMemory};
 
 use crate::body::Body;
 use crate::error::ArrayError;
+use crate::extension::storage_in;
 use crate::fixed_size_list::FixedSizeListArray;
 use crate::new_buffers::without_buffers;
 use crate::null::NullArray;
@@ -228,6 +229,10 @@ impl Array {
             Body::Struct => {
                 StructArray::valid_at(&self.dtype, self.len, self.children.as_slice(), index)
             }
+            Body::Ext => {
+                let storage = storage_in(&self.dtype, self.len, self.children.as_slice());
+                storage.is_valid(index)
+            }
         }
     }
 
@@ -244,7 +249,7 @@ impl Array {
             Body::Decimal(_) => None,
             Body::VarBin(_) => None,
             Body::VarBinView(_) => None,
-            Body::FixedSizeList | Body::Struct => None,
+            Body::FixedSizeList | Body::Struct | Body::Ext => None,
         }
     }
 
@@ -262,7 +267,7 @@ impl Array {
             Body::Decimal(_) => None,
             Body::VarBin(_) => None,
             Body::VarBinView(_) => None,
-            Body::FixedSizeList | Body::Struct => None,
+            Body::FixedSizeList | Body::Struct | Body::Ext => None,
         }
     }
 
@@ -287,6 +292,10 @@ impl Array {
             Body::VarBinView(views) => RowParts::Lone(views.row_at(dtype, len, children, index)),
             Body::FixedSizeList => FixedSizeListArray::parts_at(dtype, len, children, index),
             Body::Struct => StructArray::parts_at(dtype, len, children, index),
+            Body::Ext => {
+                let array = storage_in(dtype, len, children);
+                RowParts::At { array, index }
+            }
         }
     }
 
@@ -345,6 +354,7 @@ impl Array {
                 without_buffers(alloc, dtype, len, Body::FixedSizeList, children, buffers)
             }
             Body::Struct => without_buffers(alloc, dtype, len, Body::Struct, children, buffers),
+            Body::Ext => without_buffers(alloc, dtype, len, Body::Ext, children, buffers),
         }
     }
 

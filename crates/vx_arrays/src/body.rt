@@ -7,6 +7,7 @@ ghost use Rattle.vx_arrays.specs.Compared.{compared_body};
 use crate::bool::{BoolArray, BoolData};
 use crate::decimal::{DecimalArray, DecimalData};
 use crate::error::ArrayError;
+use crate::extension::ExtensionArray;
 use crate::fixed_size_list::FixedSizeListArray;
 use crate::null::NullArray;
 use crate::primitive::{PrimitiveArray, PrimitiveData};
@@ -35,6 +36,8 @@ pub enum Body {
     FixedSizeList,
     /// Nothing: structures.
     Struct,
+    /// Nothing: extensions.
+    Ext,
 }
 
 impl Body {
@@ -53,6 +56,7 @@ impl Body {
             Body::VarBinView(_) => VarBinViewArray::ID,
             Body::FixedSizeList => FixedSizeListArray::ID,
             Body::Struct => StructArray::ID,
+            Body::Ext => ExtensionArray::ID,
         }
     }
 
@@ -67,7 +71,7 @@ impl Body {
             Body::Decimal(_) => 1,
             Body::VarBin(_) => 1,
             Body::VarBinView(views) => views.nbuffers(),
-            Body::FixedSizeList | Body::Struct => 0,
+            Body::FixedSizeList | Body::Struct | Body::Ext => 0,
         }
     }
 
@@ -77,7 +81,7 @@ impl Body {
         ensures { slice_get (buffers_of (plain_body self.now)) index ≡ Some result.now }
     {
         match self {
-            Body::Null | Body::FixedSizeList | Body::Struct => unreachable!(),
+            Body::Null | Body::FixedSizeList | Body::Struct | Body::Ext => unreachable!(),
             Body::Primitive(numbers) => numbers.values(),
             Body::Bool(flags) => flags.bits(),
             Body::Decimal(decimals) => decimals.values(),
@@ -99,6 +103,7 @@ impl Body {
             (Body::VarBinView(x), Body::VarBinView(y)) => x.array_eq(y),
             (Body::FixedSizeList, Body::FixedSizeList) => true,
             (Body::Struct, Body::Struct) => true,
+            (Body::Ext, Body::Ext) => true,
             _ => false,
         }
     }
@@ -117,6 +122,7 @@ impl Body {
             Body::VarBinView(views) => Ok(Body::VarBinView(views.clone(alloc)?)),
             Body::FixedSizeList => Ok(Body::FixedSizeList),
             Body::Struct => Ok(Body::Struct),
+            Body::Ext => Ok(Body::Ext),
         }
     }
 }

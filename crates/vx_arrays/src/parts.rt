@@ -44,6 +44,11 @@ pub(crate) enum LoneRow<'a> {
 pub(crate) enum RowParts<'a> {
     // Of no other rows.
     Lone(LoneRow<'a>),
+    // A row of another array.
+    At {
+        array: &'a Array,
+        index: usize,
+    },
     // A tuple of so many rows of an array, from one on.
     Run {
         array: &'a Array,
@@ -140,6 +145,7 @@ pub(crate) fn built(
 {
     match parts {
         RowParts::Lone(row) => lone_value(alloc, row, budget),
+        RowParts::At { array, index } => array.row_within(alloc, index, budget),
         RowParts::Run {
             array,
             start,

@@ -37,7 +37,7 @@ impl Array {
         ensures err { IsOkUnless result ArrayError.OutOfMemory }
     {
         match self.body() {
-            Body::Null | Body::FixedSizeList | Body::Struct => Ok(None),
+            Body::Null | Body::FixedSizeList | Body::Struct | Body::Ext => Ok(None),
             Body::Bool(_) => only_name(alloc, "bits", index),
             Body::Primitive(_) | Body::Decimal(_) => only_name(alloc, "values", index),
             Body::VarBin(_) => only_name(alloc, "bytes", index),
@@ -53,6 +53,7 @@ fn slots_of(dtype: &DType, body: &Body) -> usize
     match body {
         Body::Null => 0,
         Body::Bool(_) | Body::Primitive(_) | Body::Decimal(_) | Body::VarBinView(_) => 1,
+        Body::Ext => 1,
         Body::VarBin(_) | Body::FixedSizeList => 2,
         Body::Struct => match members_of(dtype) {
             Some(names) => names.as_slice().len() + 1,
@@ -81,6 +82,7 @@ fn slot_of<'a>(dtype: &'a DType, body: &Body, index: usize) -> &'a str
     match body {
         Body::Null => unreachable!(),
         Body::Bool(_) | Body::Primitive(_) | Body::Decimal(_) | Body::VarBinView(_) => "validity",
+        Body::Ext => "storage",
         Body::VarBin(_) => { if index == 0 { "offsets" } else { "validity" } }
         Body::FixedSizeList => { if index == 0 { "elements" } else { "validity" } }
         Body::Struct => {

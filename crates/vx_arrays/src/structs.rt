@@ -13,14 +13,16 @@ ghost use Rattle.vx_array_tree.specs.Refused.{IsWellShaped};
 ghost use Rattle.vx_array_tree.specs.Sound.{IsSound, IsSoundNode};
 ghost use Rattle.vx_array_tree.specs.Tree.{places, rows_below, untold};
 ghost use Rattle.vx_arrays.specs.Parts.{AreThere, parts_cells, parts_nodes, parts_value};
+ghost use Rattle.vx_arrays.specs.Places.{place_of};
 ghost use Rattle.vx_arrays.specs.Refused.{IsUnmade, IsOkOrMemory};
-ghost use Rattle.vx_arrays.specs.Structs.{IsOfFields, behind_validity, field_trees, place_of, struct_head, struct_tree};
+ghost use Rattle.vx_arrays.specs.Structs.{IsOfFields, behind_validity, field_trees, struct_head, struct_tree};
 
 use crate::array::Array;
 use crate::body::Body;
 use crate::error::ArrayError;
 use crate::list::Arrays;
 use crate::parts::{RowParts, where_there};
+use crate::place::stands_at;
 use vx_types::{DType, Nullability, StructFields};
 
 /// Arrays of structures, with an array for each field.
@@ -174,7 +176,7 @@ fn is_front(nullability: Nullability, validity: &Array, len: usize) -> bool
 {
     match nullability {
         Nullability::NonNullable => false,
-        Nullability::Nullable => is_column(&DType::Bool(Nullability::NonNullable), validity, len),
+        Nullability::Nullable => stands_at(validity, &DType::Bool(Nullability::NonNullable), len),
     }
 }
 
@@ -186,18 +188,11 @@ fn are_columns(types: &[DType], columns: &[Array], len: usize) -> bool
         return false;
     }
     for i in 0..types.len() {
-        if !is_column(&types[i], &columns[i], len) {
+        if !stands_at(&columns[i], &types[i], len) {
             return false;
         }
     }
     true
-}
-
-// Whether an array is a column of a field of this type, of so many rows.
-fn is_column(dtype: &DType, column: &Array, len: usize) -> bool
-    ensures { IsTrue result ↔ (place_of column.now ≡ place (typ dtype.now) len) }
-{
-    column.len() == len && *column.dtype() == *dtype
 }
 
 // The children of a node of structures: a validity, where one stands, and then the columns.

@@ -1,0 +1,100 @@
+-- The storage of a node of an extension, and its rows.
+use Rattle.std.proofs.Common.{ℕ, ◌≡◌, ◌<◌, List, [], ◌∷◌, Option, Some, None, refl, sym, ap, ◌∙◌, arith}
+use Rattle.vx_trees.specs.Rose.{node, end, more, label, count}
+use Rattle.vx_trees.specs.Walks.{nodes}
+use Rattle.vx_types.specs.Kind.{extension}
+use Rattle.vx_types.specs.Typ.{Typ}
+use Rattle.vx_scalars.specs.Stats.{Stats}
+use Rattle.vx_array_tree.specs.Body as B
+use Rattle.vx_array_tree.specs.Encodings.Exts.{plan}
+use Rattle.vx_array_tree.specs.Place.{Place, place}
+use Rattle.vx_array_tree.specs.Refused.{IsWellShaped}
+use Rattle.vx_array_tree.specs.Sound.{IsSoundNode}
+use Rattle.vx_array_tree.specs.Tree.{Head, Tree, Trees, cells, places, row_at, untold, valid_at}
+use Rattle.vx_arrays.specs.Extensions.{storage_of}
+
+-- ---- what a plan says
+
+some_is : {A : Type 0} (x y : A) → Some x ≡ Some y → x ≡ y
+some_is x y e = cc
+
+first_is : (p q : Place) (ps qs : List Place) → p ∷ ps ≡ q ∷ qs → p ≡ q
+first_is p q ps qs e = cc
+
+-- A node's only child, which stands at a place of its type's storage and of its length.
+pub record IsStored (d : Typ) (n : ℕ) (ts : Trees) : Type 0 where
+  pub storage : Tree
+  pub alone : ts ≡ more storage end
+  pub stands : storage_of d ≡ Some (label storage).dtype
+  pub len_is : (label storage).len ≡ n
+
+pub stored : (d : Typ) (n : ℕ) (ts : Trees) → plan d n (count ts) ≡ Some (places ts) → IsStored d n ts
+stored (node (extension x bs) (more e end)) n end h = absurd (cc)
+stored (node (extension x bs) (more e end)) n (more t end) h =
+    let p = first_is (place e n) (place (label t).dtype (label t).len) [] [] (some_is _ _ h) in
+    record { storage = t; alone = refl; stands = ap (λ (q : Place). Some q.dtype) p; len_is = sym (ap (λ (q : Place). q.len) p) }
+stored (node (extension x bs) (more e end)) n (more t (more u us)) h = absurd (cc)
+stored _ n ts h = absurd (cc)
+
+pub planned : (d : Typ) (n : ℕ) (ts : Trees) → IsStored d n ts → plan d n (count ts) ≡ Some (places ts)
+planned (node (extension x bs) (more e end)) n ts s =
+    let typed : e ≡ (label s.storage).dtype = some_is _ _ s.stands in
+    rw s.alone (λ i. Some (place (typed i) (sym s.len_is i) ∷ []))
+planned _ n ts s = absurd (cc)
+
+-- A node is of the shape exactly where its only child is its storage.
+pub shaped_stored : (d : Typ) (n : ℕ) (ts : Trees) → IsWellShaped (untold d n B.ext) ts → IsStored d n ts
+shaped_stored d n ts s = stored d n ts s.planned
+
+pub stored_shaped : (d : Typ) (n : ℕ) (ts : Trees) → IsStored d n ts → IsWellShaped (untold d n B.ext) ts
+stored_shaped d n ts s = record { fair = tt; planned = planned d n ts s; allows = tt; takes = tt; holds = tt }
+
+pub sound_stored : (d : Typ) (n : ℕ) (ts : Trees) → IsSoundNode (untold d n B.ext) ts → IsStored d n ts
+sound_stored d n ts s = stored d n ts s.planned
+
+no_end : (t : Tree) → end ≡ more t end → ⊥
+no_end t e = absurd (cc)
+
+first_tree : (t u : Tree) (ts us : Trees) → more t ts ≡ more u us → t ≡ u
+first_tree t u ts us e = cc
+
+rest_is : (t u : Tree) (ts us : Trees) → more t ts ≡ more u us → ts ≡ us
+rest_is t u ts us e = cc
+
+rest_none : (t : Tree) (ts : Trees) (u : Tree) → more t ts ≡ more u end → more t ts ≡ more t end
+rest_none t ts u e = ap (λ (us : Trees). more t us) (rest_is t u ts end e)
+
+nothing_stored : (d : Typ) (n : ℕ) → IsStored d n end → ⊥
+nothing_stored d n s = no_end s.storage s.alone
+
+-- ---- its rows
+
+module _ (d : Typ) (n : ℕ) (x : Stats) (ts : Trees) (t : Tree) (i : ℕ) (e : ts ≡ more t end) where
+  pub stored_valid : valid_at (node (record { dtype = d; len = n; stats = x; body = B.ext }) ts) i ≡ valid_at t i
+  stored_valid = rw e refl
+
+  pub stored_row : row_at (node (record { dtype = d; len = n; stats = x; body = B.ext }) ts) i ≡ row_at t i
+  stored_row = rw e refl
+
+  pub stored_cells : cells (node (record { dtype = d; len = n; stats = x; body = B.ext }) ts) i ≡ cells t i
+  stored_cells = rw e refl
+
+  pub stored_smaller : nodes t < nodes (node (record { dtype = d; len = n; stats = x; body = B.ext }) ts)
+  stored_smaller = rw e (omega arith)
+
+-- ---- in the words of a slice
+
+pub not_empty : (d : Typ) (n : ℕ) → IsSoundNode (untold d n B.ext) end → ⊥
+not_empty d n s = nothing_stored d n (sound_stored d n end s)
+
+pub alone_in : (d : Typ) (n : ℕ) (t : Tree) (ts : Trees) → IsSoundNode (untold d n B.ext) (more t ts) → more t ts ≡ more t end
+alone_in d n t ts s = rest_none t ts _ (sound_stored d n (more t ts) s).alone
+
+pub rows_in : (d : Typ) (n : ℕ) (t : Tree) (ts : Trees) → IsSoundNode (untold d n B.ext) (more t ts) → (label t).len ≡ n
+rows_in d n t ts s =
+    let x = sound_stored d n (more t ts) s in
+    ap (λ (u : Tree). (label u).len) (first_tree t _ ts end x.alone) ∙ x.len_is
+
+pub ruleset storages = (not_empty, alone_in, rows_in)
+
+pub ruleset stored_rows = (stored_valid, stored_row, stored_cells, stored_smaller)

@@ -1,8 +1,0 @@
--- A column stands where its type and its length do.
-use Rattle.vx_types.specs.Seen.{typ}
-use Rattle.vx_arrays.proofs.Columns.{column_decides}
-use Rattle.vx_arrays.proofs.structs.is_column.Goals as goal
-
-pub returns-then-len : goal.returns-then-len
-returns-then-len c =
-    column_decides c.args.column.now (typ c.args.dtype.now) c.args.len c.eq.result (typ c.dtype.result.now) c.len.result c.len.ensures.len c.if-len.true c.dtype.ensures.dtype c.eq.ensures

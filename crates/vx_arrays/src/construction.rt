@@ -1,0 +1,56 @@
+//! Arrays over their children: the one place where a node that has children is made, once it is known of what shape and
+//! content they are.
+
+ghost use Rattle.std.specs.Prelude.{◌≡◌, ◌↔◌, IfOk, IfErr, OnOk, IsTrue};
+ghost use Rattle.vx_trees.specs.Rose.{node};
+ghost use Rattle.vx_types.specs.Seen.{typ};
+ghost use Rattle.vx_array_tree.specs.Refused.{IsWellShaped};
+ghost use Rattle.vx_array_tree.specs.Sound.{IsSound};
+ghost use Rattle.vx_array_tree.specs.Table.{Content};
+ghost use Rattle.vx_array_tree.specs.Tree.{rows_below, untold};
+ghost use Rattle.vx_arrays.specs.Plain.{plain_body};
+ghost use Rattle.vx_arrays.specs.Refused.{IsJudged, IsUnmade, IsOkOrMemory};
+
+use crate::array::Array;
+use crate::body::Body;
+use crate::error::ArrayError;
+use crate::list::Arrays;
+use vx_types::DType;
+
+// Why parts are refused that are of the shape of their encoding where `shaped` says so, and then of right content where
+// `right` does.
+fn judge(shaped: bool, right: bool) -> Result<(), ArrayError>
+    ensures ok { OnOk result (IsTrue shaped × IsTrue right) }
+    ensures err { IfErr result (λ e. IsJudged e shaped right) }
+{
+    if !shaped {
+        return Err(ArrayError::BadShape);
+    }
+    if !right {
+        return Err(ArrayError::BadContent);
+    }
+    Ok(())
+}
+
+// The array of a node over these children, which are of the shape that its encoding asks for exactly where `shaped` says
+// so, and then of right content exactly where `right` does.
+pub(crate) fn over_children(
+    dtype: DType,
+    len: usize,
+    body: Body,
+    children: Arrays,
+    shaped: bool,
+    right: bool,
+) -> Result<Array, ArrayError>
+    requires shaped { IsTrue shaped ↔ IsWellShaped (untold (typ dtype) len (plain_body body)) children }
+    requires content { IsTrue shaped → IsTrue right ↔ Content (typ dtype) len (plain_body body) (rows_below children) }
+    ensures ok { IfOk result (λ a. a ≡ node (untold (typ dtype) len (plain_body body)) children) }
+    ensures sound { IfOk result IsSound }
+    ensures err { IfErr result (λ e. IsUnmade e (node (untold (typ dtype) len (plain_body body)) children)) }
+    ensures complete { IsSound (node (untold (typ dtype) len (plain_body body)) children) → IsOkOrMemory result }
+{
+    match judge(shaped, right) {
+        Ok(()) => Ok(Array::from_parts(dtype, len, body, children.into_vec())),
+        Err(error) => Err(error),
+    }
+}
