@@ -8,4 +8,4 @@ use Rattle.vx_arrays.proofs.structs.width_of.Goals as goal
 
 pub returns : goal.returns
 returns c =
-    c.len.ensures ∙ ap (λ (ds : List Typ). length ds) c.fields.ensures ∙ sym (count-roses_of c.in-Struct.fields.types) ∙ ap (λ (d : DType). width_of (typ d)) (sym c.in-Struct.is)
+    c.len.ensures.len ∙ ap (λ (ds : List Typ). length ds) c.fields.ensures ∙ sym (count-roses_of c.in-Struct.fields.types) ∙ ap (λ (d : DType). width_of (typ d)) (sym c.in-Struct.is)

@@ -7,8 +7,8 @@ use Rattle.vx_arrays.proofs.list.Arrays.remove_first.Goals as goal
 pub remove-requires : goal.remove-requires
 remove-requires c = omega (arith, c.requires, count-roses_of c.self.inside.items.items, ap (λ ts. count ts) c.self.view_is)
 
-pub invariant_of-self-2 : goal.invariant_of-self-2
-invariant_of-self-2 c = sound_without_first c.self.inside.items.items c.remove.new.self.items c.self.invariant c.remove.ensures.items
+pub invariant_of-self : goal.invariant_of-self
+invariant_of-self c = sound_without_first c.self.inside.items.items c.remove.new.self.items c.self.invariant c.remove.ensures.items
 
 pub returns : goal.returns
 returns c = first_out c.self.inside.items.items c.remove.new.self.items c.remove.result c.remove.ensures.value c.remove.ensures.items (omega (arith, c.requires, count-roses_of c.self.inside.items.items, ap (λ ts. count ts) c.self.view_is)) ∙ c.self.view_is
