@@ -7,7 +7,7 @@ use Rattle.std.specs.Int.{Width, w8, w16, w32, w64, cast_signed}
 use mir.Val.{bits, hbits, sel}
 use Rattle.vx_types.specs.Value.{natural, natural_int, natural_number}
 use Rattle.vx_types.specs.declared.ptype.PType.{PType}
-use Rattle.vx_types.specs.declared.ptype.PType.TheVariants.{U8, U16, U32, U64, I8, I16, I32, I64, F16, F32, F64}
+use Rattle.vx_types.specs.declared.ptype.PType.TheVariants.{U8, U16, U32, U64, I8, I16, I32, I64}
 use Rattle.vx_array_tree.specs.Bytes.{primitive_at}
 use Rattle.vx_array_tree.specs.Encodings.VarBins.{AreOffsets}
 use Rattle.vx_array_tree.specs.Rows.{Rows, index_at, IsIndex, IsThere}
@@ -37,7 +37,7 @@ pub ruleset plain = (risen_none, risen_all, last_within, plain_risen)
 -- ---- numbers with a sign, read without it
 
 -- Rows of the same bits: below a half both are the same natural numbers, and from there on those with a sign are none.
-pub record IsSigned (r s : Rows) (half : ℕ) : Type 0 where
+record IsSigned (r s : Rows) (half : ℕ) : Type 0 where
   pub there : (i : ℕ) → IsThere s.valid i
   pub naturals : (i : ℕ) → IsIndex r i
   pub small : (i : ℕ) → index_at r i < half → natural (s.row i) ≡ Some (index_at r i)
@@ -77,7 +77,7 @@ module _ (r s : Rows) (top : ℕ) (g : IsSigned r s (suc top)) where
   }
 
   -- So they are offsets up to a total where those without a sign are, up to the total or the greatest number.
-  pub signed_decide : (n total least : ℕ) (result : Bool) → least ≡ min total top → (IsTrue result ↔ AreOffsets r n least) → (IsTrue result ↔ AreOffsets s n total)
+  signed_decide : (n total least : ℕ) (result : Bool) → least ≡ min total top → (IsTrue result ↔ AreOffsets r n least) → (IsTrue result ↔ AreOffsets s n total)
   signed_decide n total least result e f = (λ t. with_sign n total least e (f.0 t), λ o. f.1 (without_sign n total least e o))
 
 -- ---- the bits of a number
@@ -88,19 +88,23 @@ natural_small w n h = ap natural_int (to_z_pos w n h)
 natural_large : (w : Width) (n : ℕ) → 2 ^ hbits w ≤ n → natural_int (cast_signed w n) ≡ None
 natural_large w n h = ap (λ b. natural_int (sel b (pos n) (negsuc (2 ^ bits w - suc n)))) (le-ltb n (2 ^ hbits w) h)
 
-module _ (n : ℕ) (bytes : List ℕ) where
-  pub signed_8 : IsSigned (plain_rows U8 n bytes) (plain_rows I8 n bytes) 128
-  signed_8 = record { there = λ i. refl; naturals = λ i. refl; small = λ i h. natural_small w8 _ h; large = λ i h. natural_large w8 _ h }
+module _ (p : PType) (n : ℕ) (bytes : List ℕ) (parts total least : ℕ) (result : Bool) where
+  pub decide_8 : p ≡ I8 → least ≡ min total 127 → (IsTrue result ↔ AreOffsets (plain_rows U8 n bytes) parts least) → (IsTrue result ↔ AreOffsets (plain_rows p n bytes) parts total)
+  decide_8 q e f =
+      let signed : IsSigned (plain_rows U8 n bytes) (plain_rows I8 n bytes) 128 = record { there = λ i. refl; naturals = λ i. refl; small = λ i h. natural_small w8 _ h; large = λ i h. natural_large w8 _ h } in
+      rw q (signed_decide (plain_rows U8 n bytes) (plain_rows I8 n bytes) 127 signed parts total least result e f)
 
-  pub signed_16 : IsSigned (plain_rows U16 n bytes) (plain_rows I16 n bytes) 32768
-  signed_16 = record { there = λ i. refl; naturals = λ i. refl; small = λ i h. natural_small w16 _ h; large = λ i h. natural_large w16 _ h }
+  pub decide_16 : p ≡ I16 → least ≡ min total 32767 → (IsTrue result ↔ AreOffsets (plain_rows U16 n bytes) parts least) → (IsTrue result ↔ AreOffsets (plain_rows p n bytes) parts total)
+  decide_16 q e f =
+      let signed : IsSigned (plain_rows U16 n bytes) (plain_rows I16 n bytes) 32768 = record { there = λ i. refl; naturals = λ i. refl; small = λ i h. natural_small w16 _ h; large = λ i h. natural_large w16 _ h } in
+      rw q (signed_decide (plain_rows U16 n bytes) (plain_rows I16 n bytes) 32767 signed parts total least result e f)
 
-  pub signed_32 : IsSigned (plain_rows U32 n bytes) (plain_rows I32 n bytes) 2147483648
-  signed_32 = record { there = λ i. refl; naturals = λ i. refl; small = λ i h. natural_small w32 _ h; large = λ i h. natural_large w32 _ h }
+  pub decide_32 : p ≡ I32 → least ≡ min total 2147483647 → (IsTrue result ↔ AreOffsets (plain_rows U32 n bytes) parts least) → (IsTrue result ↔ AreOffsets (plain_rows p n bytes) parts total)
+  decide_32 q e f =
+      let signed : IsSigned (plain_rows U32 n bytes) (plain_rows I32 n bytes) 2147483648 = record { there = λ i. refl; naturals = λ i. refl; small = λ i h. natural_small w32 _ h; large = λ i h. natural_large w32 _ h } in
+      rw q (signed_decide (plain_rows U32 n bytes) (plain_rows I32 n bytes) 2147483647 signed parts total least result e f)
 
-  pub signed_64 : IsSigned (plain_rows U64 n bytes) (plain_rows I64 n bytes) 9223372036854775808
-  signed_64 = record { there = λ i. refl; naturals = λ i. refl; small = λ i h. natural_small w64 _ h; large = λ i h. natural_large w64 _ h }
-
--- Floats are no offsets.
-pub no_floats : (p : PType) (n : ℕ) (bytes : List ℕ) (parts total : ℕ) → ((i : ℕ) → natural_number (primitive_at p bytes i) ≡ None) → AreOffsets (plain_rows p n bytes) parts total → ⊥
-no_floats p n bytes parts total none o = false≢true (sym (ap is_some (none 0)) ∙ o.naturals 0 (omega arith) refl)
+  pub decide_64 : p ≡ I64 → least ≡ min total 9223372036854775807 → (IsTrue result ↔ AreOffsets (plain_rows U64 n bytes) parts least) → (IsTrue result ↔ AreOffsets (plain_rows p n bytes) parts total)
+  decide_64 q e f =
+      let signed : IsSigned (plain_rows U64 n bytes) (plain_rows I64 n bytes) 9223372036854775808 = record { there = λ i. refl; naturals = λ i. refl; small = λ i h. natural_small w64 _ h; large = λ i h. natural_large w64 _ h } in
+      rw q (signed_decide (plain_rows U64 n bytes) (plain_rows I64 n bytes) 9223372036854775807 signed parts total least result e f)
