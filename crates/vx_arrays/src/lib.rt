@@ -16,6 +16,7 @@ mod null;
 mod numbers;
 mod offsets;
 mod parts;
+mod plain_offsets;
 mod primitive;
 mod row;
 mod row_values;
