@@ -1,6 +1,7 @@
 mod Naturals
 pub mod Cloned
 mod Rising
+mod PlainOffsets
 mod Parted
 mod Viewed
 mod Flags

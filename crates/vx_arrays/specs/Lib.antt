@@ -5,6 +5,7 @@ pub mod Bools
 pub mod Decimals
 pub mod VarBins
 pub mod VarBinViews
+pub mod Offsets
 pub mod FixedSizeLists
 pub mod Extensions
 pub mod Structs

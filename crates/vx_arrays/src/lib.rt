@@ -19,6 +19,7 @@ mod numbers;
 mod offsets;
 mod parts;
 mod place;
+mod plain_offsets;
 mod primitive;
 mod row;
 mod row_values;

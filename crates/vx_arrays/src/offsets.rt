@@ -7,6 +7,7 @@ ghost use Rattle.vx_array_tree.specs.Rows.{index_at, IsIndex, IsThere};
 ghost use Rattle.vx_array_tree.specs.Tree.{rows_of};
 
 use crate::array::Array;
+use crate::plain_offsets::{are_plain_offsets, plain_numbers};
 
 // A row as a natural number: 0 where the row is not known; None where it is there and no natural number.
 pub(crate) fn index_at(array: &Array, index: usize) -> Option<u64>
@@ -29,8 +30,19 @@ pub(crate) fn index_at(array: &Array, index: usize) -> Option<u64>
 
 // Whether rows are offsets: natural numbers that never fall, up to the one behind the last part, which is at most a
 // total.
-#[tactic(auto, using(crate::proofs::Rising::rising))]
 pub(crate) fn are_offsets(offsets: &Array, parts: usize, total: usize) -> bool
+    requires counted { (label offsets.now).len ≡ suc parts }
+    ensures { IsTrue result ↔ AreOffsets (rows_of offsets.now) parts total }
+{
+    match plain_numbers(offsets) {
+        Some((kind, bytes)) => are_plain_offsets(kind, bytes, parts, total),
+        None => are_offsets_by_rows(offsets, parts, total),
+    }
+}
+
+// The same of any array, asked row by row.
+#[tactic(auto, using(crate::proofs::Rising::rising))]
+fn are_offsets_by_rows(offsets: &Array, parts: usize, total: usize) -> bool
     requires counted { (label offsets.now).len ≡ suc parts }
     ensures { IsTrue result ↔ AreOffsets (rows_of offsets.now) parts total }
 {

@@ -3,7 +3,7 @@ use Rattle.std.proofs.Common.{arith}
 use Rattle.std.proofs.lemmas.Bool.{false≢true}
 use Rattle.vx_array_tree.specs.Tree.{rows_of}
 use Rattle.vx_arrays.proofs.Rising.{none_unnatural, none_falls}
-use Rattle.vx_arrays.proofs.offsets.are_offsets.Goals as goal
+use Rattle.vx_arrays.proofs.offsets.are_offsets_by_rows.Goals as goal
 
 pub returns-in-None : goal.returns-in-None
 returns-in-None c = (

@@ -1,6 +1,6 @@
 use Rattle.vx_array_tree.specs.Tree.{rows_of}
 use Rattle.vx_arrays.proofs.Rising.{AreRisen}
-use Rattle.vx_arrays.proofs.offsets.are_offsets.Given as goal
+use Rattle.vx_arrays.proofs.offsets.are_offsets_by_rows.Given as goal
 
 -- the rows so far have risen, and the last of them is kept
 abbrev pub invariant-loop-i : goal.invariant-loop-i
