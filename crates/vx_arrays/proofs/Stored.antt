@@ -1,8 +1,10 @@
 -- The storage of a node of an extension, and its rows.
-use Rattle.std.proofs.Common.{ℕ, ◌≡◌, ◌<◌, List, [], ◌∷◌, Option, Some, None, refl, sym, ap, ◌∙◌, arith}
-use Rattle.vx_trees.specs.Rose.{node, end, more, label, count}
+use Rattle.std.proofs.Common.{ℕ, ◌≡◌, ◌<◌, ◌≤◌, List, [], ◌∷◌, ◌++◌, Option, Some, None, refl, sym, ap, ◌∙◌, length, get_or, arith}
+use Rattle.vx_trees.specs.Rose.{node, end, more, label, count, roses_of, roses_list}
+use Rattle.vx_trees.proofs.Lists.{count-roses_of, roses_of-roses_list}
 use Rattle.vx_trees.specs.Walks.{nodes}
 use Rattle.vx_types.specs.Kind.{extension}
+use Rattle.vx_types.specs.Parts.{Ext}
 use Rattle.vx_types.specs.Typ.{Typ}
 use Rattle.vx_scalars.specs.Stats.{Stats}
 use Rattle.vx_array_tree.specs.Body as B
@@ -11,7 +13,7 @@ use Rattle.vx_array_tree.specs.Place.{Place, place}
 use Rattle.vx_array_tree.specs.Refused.{IsWellShaped}
 use Rattle.vx_array_tree.specs.Sound.{IsSoundNode}
 use Rattle.vx_array_tree.specs.Tree.{Head, Tree, Trees, cells, places, row_at, untold, valid_at}
-use Rattle.vx_arrays.specs.Extensions.{storage_of}
+use Rattle.vx_arrays.specs.Extensions.{extension_tree, storage_of}
 
 -- ---- what a plan says
 
@@ -94,6 +96,23 @@ pub rows_in : (d : Typ) (n : ℕ) (t : Tree) (ts : Trees) → IsSoundNode (untol
 rows_in d n t ts s =
     let x = sound_stored d n (more t ts) s in
     ap (λ (u : Tree). (label u).len) (first_tree t _ ts end x.alone) ∙ x.len_is
+
+-- A node of an extension has no child but the first.
+pub alone_item : (us : List Tree) (u : Tree) (d : Typ) (n : ℕ) → 1 ≤ length us → u ≡ get_or us 0 u → IsSoundNode (untold d n B.ext) (roses_of us) → roses_of us ≡ more u end
+alone_item [] u d n l e s = absurd (omega (arith, l))
+alone_item (x ∷ us) u d n l e s = alone_in d n x (roses_of us) s ∙ ap (λ (t : Tree). more t end) (sym e)
+
+-- Of two or more arrays there is none.
+pub never_two : (us : List Tree) (d : Typ) (n : ℕ) → 2 ≤ length us → IsWellShaped (untold d n B.ext) (roses_of us) → ⊥
+never_two us d n l s = omega (arith, l, count-roses_of us, ap (λ (ts : Trees). count ts) (shaped_stored d n (roses_of us) s).alone)
+
+-- ---- one child put into an empty list
+
+pub only_pushed : (none ts : Trees) (t : Tree) → none ≡ end → roses_list ts ≡ roses_list none ++ t ∷ [] → ts ≡ more t end
+only_pushed none ts t e q = sym (roses_of-roses_list ts) ∙ ap (λ (us : List Tree). roses_of us) (q ∙ ap (λ (us : Trees). roses_list us ++ t ∷ []) e)
+
+pub tree_is : (x : Ext) (t : Tree) (n : ℕ) (ts : Trees) → n ≡ (label t).len → ts ≡ more t end → node (untold (node (extension x.id x.metadata) (more x.storage end)) n B.ext) ts ≡ extension_tree x t
+tree_is x t n ts l e = rw (l, e) refl
 
 pub ruleset storages = (not_empty, alone_in, rows_in)
 

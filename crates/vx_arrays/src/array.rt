@@ -206,7 +206,7 @@ impl Array {
     }
 
     /// Whether the row is there; None where that is not known.
-    #[tactic(auto, using(crate::proofs::Untold::untold_node))]
+    #[tactic(auto, using(crate::proofs::Untold::untold_node, crate::proofs::Stored::stored_rows))]
     pub fn is_valid(&self, index: usize) -> Option<bool>
         requires { index < (label self.now).len }
         ensures { result ≡ valid_at self.now index }
@@ -254,7 +254,7 @@ impl Array {
     }
 
     // The row as a natural number; None where it is none, or is not there, or nothing is known of it.
-    #[tactic(auto, using(crate::proofs::Naturals::naturals, crate::proofs::Untold::untold_node))]
+    #[tactic(auto, using(crate::proofs::Naturals::naturals, crate::proofs::Untold::untold_node, crate::proofs::Stored::stored_rows))]
     pub(crate) fn natural_at(&self, index: usize) -> Option<u64>
         requires { index < (label self.now).len }
         ensures { result ≡ natural (row_at self.now index) }
@@ -267,12 +267,16 @@ impl Array {
             Body::Decimal(_) => None,
             Body::VarBin(_) => None,
             Body::VarBinView(_) => None,
-            Body::FixedSizeList | Body::Struct | Body::Ext => None,
+            Body::FixedSizeList | Body::Struct => None,
+            Body::Ext => {
+                let storage = storage_in(&self.dtype, self.len, children);
+                storage.natural_at(index)
+            }
         }
     }
 
     // Of what a row is made.
-    #[tactic(auto, using(crate::proofs::Untold::untold_node))]
+    #[tactic(auto, using(crate::proofs::Untold::untold_node, crate::proofs::Stored::stored_rows))]
     fn parts_at(&self, index: usize) -> RowParts<'_>
         requires { index < (label self.now).len }
         ensures value { parts_value result ≡ row_at self.now index }
