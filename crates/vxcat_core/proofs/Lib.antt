@@ -9,4 +9,5 @@ mod Listings
 mod OptionFronts
 mod OptionSettings
 mod Recodings
+mod RowTexts
 mod SevenWords
