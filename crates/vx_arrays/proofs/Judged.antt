@@ -1,14 +1,12 @@
 -- What is made over children, and why it is refused, by what was judged of their shape and content.
-use Rattle.std.proofs.Common.{◌≡◌, Bool, true, false, Result, Ok, Err, IsTrue}
-use Rattle.std.proofs.lemmas.Bool.{iff_false, false≢true}
+use Rattle.std.proofs.Common.{Bool, IsTrue}
+use Rattle.std.proofs.lemmas.Bool.{iff_false}
 use Rattle.std.specs.Prelude.{◌↔◌}
 use Rattle.vx_trees.specs.Rose.{node}
 use Rattle.vx_array_tree.specs.Refused.{IsWellShaped}
-use Rattle.vx_array_tree.specs.Sound.{IsSound}
 use Rattle.vx_array_tree.specs.Table.{Content}
 use Rattle.vx_array_tree.specs.Tree.{Head, Trees, rows_below}
-use Rattle.vx_array_tree.proofs.Built.{sound_well_shaped}
-use Rattle.vx_arrays.specs.Refused.{IsJudged, IsUnmade, IsMemory}
+use Rattle.vx_arrays.specs.Refused.{IsJudged, IsUnmade}
 use Rattle.vx_arrays.specs.declared.error.ArrayError.{ArrayError}
 use Rattle.vx_arrays.specs.declared.error.ArrayError.TheVariants.{OutOfMemory, BadShape, BadContent, ValueTooLarge}
 
@@ -18,10 +16,3 @@ module _ (h : Head) (ts : Trees) (shaped right : Bool) (p : IsTrue shaped ↔ Is
   judged_unmade BadShape j = iff_false p j
   judged_unmade BadContent j = record { shaped = p.0 j.0; broken = iff_false (q j.0) j.1 }
   judged_unmade ValueTooLarge j = j
-
-  -- What is refused so is never sound.
-  pub judged_complete : (e : ArrayError) → IsJudged e shaped right → IsSound (node h ts) → IsMemory e
-  judged_complete OutOfMemory j s = tt
-  judged_complete BadShape j s = absurd (iff_false p j (sound_well_shaped h ts s.0))
-  judged_complete BadContent j s = absurd (iff_false (q j.0) j.1 s.0.content)
-  judged_complete ValueTooLarge j s = absurd j

@@ -4,7 +4,6 @@ use Rattle.std.proofs.lemmas.List.{take_all}
 use Rattle.std.proofs.lemmas.Bool.{false≢true, iff_false, lt-ltb}
 use Rattle.std.specs.Prelude.{◌↔◌, IsTrue}
 use Rattle.vx_buffer.specs.Buffer.{Buffer}
-use Rattle.vx_trees.specs.Everywhere.{EverywhereBelow}
 use Rattle.vx_trees.specs.Rose.{node, end, more, label, count, roses_of}
 use Rattle.vx_types.specs.Content.{IsText}
 use Rattle.vx_types.specs.Kind as K
@@ -22,7 +21,7 @@ use Rattle.vx_array_tree.specs.Body as B
 use Rattle.vx_array_tree.specs.Encodings.VarBins.{Data, AreOffsets, Content, IsContent, bytes_at, mark_of, plan, planned, metadata_of}
 use Rattle.vx_array_tree.specs.Encodings.VarBins.{rows as rows_of_parts}
 use Rattle.vx_array_tree.specs.Place.{Place, place, numbers, is_len, before_validity, ptype_of}
-use Rattle.vx_array_tree.specs.Refused.{IsWellShaped, HasBrokenContent}
+use Rattle.vx_array_tree.specs.Refused.{IsWellShaped}
 use Rattle.vx_array_tree.specs.Rows.{IsThere, validity, where_valid}
 use Rattle.vx_array_tree.specs.Sound.{IsSound, IsSoundNode}
 use Rattle.vx_array_tree.specs.Tree.{Tree, Trees, places, rows_below, rows_of, untold}
@@ -235,33 +234,6 @@ module _ (d : Typ) (n : ℕ) (b : Buffer) (o : Tree) (vs : Trees) where
 
   pub shaped_planned : IsWellShaped (varbin_head d n b) (more o vs) → before_validity [] n (count vs) ≡ Some (places vs)
   shaped_planned s = (shaped_parted d n b o vs s).planned
-
-  -- ---- what is made
-
-  pub is_now_shaped : (t : Bool) → ((b : Buffer) → IsTrue t ↔ IsWellShaped (varbin_head d n b) (more o vs)) → t ≡ true → IsWellShaped (varbin_head d n b) (more o vs)
-  is_now_shaped t f h = (f b).0 h
-
-  pub is_misshaped : (t : Bool) → ((b : Buffer) → IsTrue t ↔ IsWellShaped (varbin_head d n b) (more o vs)) → t ≡ false → IsWellShaped (varbin_head d n b) (more o vs) → ⊥
-  is_misshaped t f h s = iff_false (f b) h s
-
-  pub never_sound : (t : Bool) → ((b : Buffer) → IsTrue t ↔ IsWellShaped (varbin_head d n b) (more o vs)) → t ≡ false → IsSound (node (varbin_head d n b) (more o vs)) → ⊥
-  never_sound t f h s = iff_false (f b) h (sound_well_shaped (varbin_head d n b) (more o vs) s.0)
-
-  pub is_broken : (t u : Bool) → ((b : Buffer) → IsTrue t ↔ IsWellShaped (varbin_head d n b) (more o vs)) → t ≡ true → (IsTrue u ↔ Content d n (record { bytes = b }) (rows_of o ∷ rows_below vs)) → u ≡ false
-      → HasBrokenContent (varbin_head d n b) (more o vs)
-  is_broken t u f h g k = record { shaped = (f b).0 h; broken = iff_false g k }
-
-  pub never_broken : (u : Bool) → (IsTrue u ↔ Content d n (record { bytes = b }) (rows_of o ∷ rows_below vs)) → u ≡ false → IsSound (node (varbin_head d n b) (more o vs)) → ⊥
-  never_broken u g k s = iff_false g k s.0.content
-
-  pub are_shaped : (t : Bool) (ts : Trees) → ts ≡ more o vs → ((b : Buffer) → IsTrue t ↔ IsWellShaped (varbin_head d n b) (more o vs)) → t ≡ true → IsWellShaped (varbin_head d n b) ts
-  are_shaped t ts e f h = subst (λ (z : Trees). IsWellShaped (varbin_head d n b) z) (sym e) ((f b).0 h)
-
-  pub have_content : (u : Bool) (ts : Trees) → ts ≡ more o vs → (IsTrue u ↔ Content d n (record { bytes = b }) (rows_of o ∷ rows_below vs)) → u ≡ true → Content d n (record { bytes = b }) (rows_below ts)
-  have_content u ts e g k = subst (λ (z : Trees). Content d n (record { bytes = b }) (rows_below z)) (sym e) (g.0 k)
-
-  pub are_sound_below : (t : Bool) (ts : Trees) → ts ≡ more o vs → (IsTrue t → EverywhereBelow IsSoundNode (more o vs)) → t ≡ true → EverywhereBelow IsSoundNode ts
-  are_sound_below t ts e f h = subst (λ (z : Trees). EverywhereBelow IsSoundNode z) (sym e) (f h)
 
 -- ---- by the number of offsets
 

@@ -1,5 +1,5 @@
 -- The storage of a node of an extension, and its rows.
-use Rattle.std.proofs.Common.{ℕ, ◌≡◌, ◌<◌, ◌≤◌, List, [], ◌∷◌, ◌++◌, Option, Some, None, refl, sym, ap, ◌∙◌, length, get_or, arith}
+use Rattle.std.proofs.Common.{ℕ, ◌≡◌, ◌<◌, ◌≤◌, List, [], ◌∷◌, ◌++◌, Some, refl, sym, ap, ◌∙◌, length, get_or, arith}
 use Rattle.vx_trees.specs.Rose.{node, end, more, label, count, roses_of, roses_list}
 use Rattle.vx_trees.proofs.Lists.{count-roses_of, roses_of-roses_list}
 use Rattle.vx_trees.specs.Walks.{nodes}
@@ -12,7 +12,7 @@ use Rattle.vx_array_tree.specs.Encodings.Exts.{plan}
 use Rattle.vx_array_tree.specs.Place.{Place, place}
 use Rattle.vx_array_tree.specs.Refused.{IsWellShaped}
 use Rattle.vx_array_tree.specs.Sound.{IsSoundNode}
-use Rattle.vx_array_tree.specs.Tree.{Head, Tree, Trees, cells, places, row_at, untold, valid_at}
+use Rattle.vx_array_tree.specs.Tree.{Tree, Trees, cells, places, row_at, untold, valid_at}
 use Rattle.vx_arrays.specs.Extensions.{extension_tree, storage_of}
 
 -- ---- what a plan says

@@ -2,10 +2,11 @@
 //! content they are.
 
 ghost use Rattle.std.specs.Prelude.{◌≡◌, ◌↔◌, IfOk, IfErr, OnOk, IsTrue};
-ghost use Rattle.vx_trees.specs.Rose.{node};
+ghost use Rattle.vx_trees.specs.Everywhere.{EverywhereBelow};
+ghost use Rattle.vx_trees.specs.Rose.{node, roses_of};
 ghost use Rattle.vx_types.specs.Seen.{typ};
 ghost use Rattle.vx_array_tree.specs.Refused.{IsWellShaped};
-ghost use Rattle.vx_array_tree.specs.Sound.{IsSound};
+ghost use Rattle.vx_array_tree.specs.Sound.{IsSound, IsSoundNode};
 ghost use Rattle.vx_array_tree.specs.Table.{Content};
 ghost use Rattle.vx_array_tree.specs.Tree.{rows_below, untold};
 ghost use Rattle.vx_arrays.specs.Plain.{plain_body};
@@ -14,7 +15,6 @@ ghost use Rattle.vx_arrays.specs.Refused.{IsJudged, IsUnmade, IsOkOrMemory};
 use crate::array::Array;
 use crate::body::Body;
 use crate::error::ArrayError;
-use crate::list::Arrays;
 use vx_types::DType;
 
 // Why parts are refused that are of the shape of their encoding where `shaped` says so, and then of right content where
@@ -38,19 +38,20 @@ pub(crate) fn over_children(
     dtype: DType,
     len: usize,
     body: Body,
-    children: Arrays,
+    children: Vec<Array>,
     shaped: bool,
     right: bool,
 ) -> Result<Array, ArrayError>
-    requires shaped { IsTrue shaped ↔ IsWellShaped (untold (typ dtype) len (plain_body body)) children }
-    requires content { IsTrue shaped → IsTrue right ↔ Content (typ dtype) len (plain_body body) (rows_below children) }
-    ensures ok { IfOk result (λ a. a ≡ node (untold (typ dtype) len (plain_body body)) children) }
+    requires shaped { IsTrue shaped ↔ IsWellShaped (untold (typ dtype) len (plain_body body)) (roses_of children.items) }
+    requires content { IsTrue shaped → IsTrue right ↔ Content (typ dtype) len (plain_body body) (rows_below (roses_of children.items)) }
+    requires below { IsTrue shaped → EverywhereBelow IsSoundNode (roses_of children.items) }
+    ensures ok { IfOk result (λ a. a ≡ node (untold (typ dtype) len (plain_body body)) (roses_of children.items)) }
     ensures sound { IfOk result IsSound }
-    ensures err { IfErr result (λ e. IsUnmade e (node (untold (typ dtype) len (plain_body body)) children)) }
-    ensures complete { IsSound (node (untold (typ dtype) len (plain_body body)) children) → IsOkOrMemory result }
+    ensures err { IfErr result (λ e. IsUnmade e (node (untold (typ dtype) len (plain_body body)) (roses_of children.items))) }
+    ensures complete { IsSound (node (untold (typ dtype) len (plain_body body)) (roses_of children.items)) → IsOkOrMemory result }
 {
     match judge(shaped, right) {
-        Ok(()) => Ok(Array::from_parts(dtype, len, body, children.into_vec())),
+        Ok(()) => Ok(Array::from_parts(dtype, len, body, children)),
         Err(error) => Err(error),
     }
 }

@@ -51,7 +51,7 @@ impl ExtensionArray {
         ensures complete { IsSound (node (untold (typ dtype) len B.ext) children) → IsOkOrMemory result }
     {
         let shaped = is_shaped(&dtype, len, children.as_slice());
-        over_children(dtype, len, Body::Ext, children, shaped, true)
+        over_children(dtype, len, Body::Ext, children.into_vec(), shaped, true)
     }
 }
 

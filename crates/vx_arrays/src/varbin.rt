@@ -20,6 +20,7 @@ ghost use Rattle.vx_arrays.specs.VarBins.{IsOfBytes, IsOfOffsets, varbin_head, v
 
 use crate::array::Array;
 use crate::body::Body;
+use crate::construction::over_children;
 use crate::error::ArrayError;
 use crate::new_buffers::{copied_type, copied_validity, only_buffer};
 use crate::offsets::are_offsets;
@@ -201,14 +202,11 @@ fn of_parts(
     ensures err { IfErr result (λ e. IsUnmade e (varbin_node (typ dtype) len offsets bytes validity)) }
     ensures complete { IsSound (varbin_node (typ dtype) len offsets bytes validity) → IsOkOrMemory result }
 {
-    if !is_shaped(&dtype, len, &offsets, &validity) {
-        return Err(ArrayError::BadShape);
-    }
-    if !has_content(&dtype, len, &offsets, &bytes, &validity) {
-        return Err(ArrayError::BadContent);
-    }
+    let shaped = is_shaped(&dtype, len, &offsets, &validity);
+    let right = shaped && has_content(&dtype, len, &offsets, &bytes, &validity);
     let children = with_validity(alloc, offsets, validity)?;
-    Ok(Array::from_parts(dtype, len, Body::VarBin(VarBinData { bytes }), children))
+    let body = Body::VarBin(VarBinData { bytes });
+    over_children(dtype, len, body, children, shaped, right)
 }
 
 // Whether parts are of the shape that the encoding asks for.

@@ -1,6 +1,5 @@
 -- The storage is the only child.
-use Rattle.std.proofs.Common.{◌≡◌, ◌∙◌, List, [], ◌∷◌, ◌++◌, Result, IfOk, IfErr, sym, ap, subst}
-use Rattle.vx_types.specs.Seen.{typ}
+use Rattle.std.proofs.Common.{◌≡◌, IfOk, IfErr, subst}
 use Rattle.vx_array_tree.specs.Sound.{IsSound}
 use Rattle.vx_array_tree.specs.Tree.{Tree}
 use Rattle.vx_arrays.specs.Refused.{IsUnmade, IsOkOrMemory}
