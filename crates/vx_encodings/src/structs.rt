@@ -91,7 +91,8 @@ pub(crate) fn build(
     if !buffers.is_empty() {
         return Err(EncodingError::BadShape);
     }
-    let (fields, nullability) = match head.dtype {
+    let dtype = head.dtype;
+    let (fields, nullability) = match dtype {
         DType::Struct(fields, nullability) => (fields, nullability),
         _ => unreachable!(),
     };
