@@ -141,8 +141,8 @@ behind_count ps n k us p = by (behind_is ps n k (places us) p)
   where
     by : IsBehind ps n k (places us) → k ≡ count us
     by b = elim (b.ways) [
-      inl x ↦ x.0 ∙ ap (λ (qs : List Place). length qs) (sym x.1) ∙ places_count us |
-      inr x ↦ x.0 ∙ ap (λ (qs : List Place). length qs) (sym x.1) ∙ places_count us
+      | inl x ↦ x.0 ∙ ap (λ (qs : List Place). length qs) (sym x.1) ∙ places_count us
+      | inr x ↦ x.0 ∙ ap (λ (qs : List Place). length qs) (sym x.1) ∙ places_count us
     ]
 
 count_of : (d : Typ) (n k : ℕ) (us : Trees) → plan d n k ≡ Some (places us) → k ≡ count us
