@@ -1,5 +1,5 @@
 -- The steps of nodes of lists of one size.
-use Rattle.std.proofs.Common.{ℕ, zero, suc, ◌≡◌, ◌≢◌, ◌≤◌, ◌*◌, List, [], ◌∷◌, Option, Some, None, Result, Ok, Err, IfOk, refl, sym, ap, ◌∙◌, subst, inl, length, arith}
+use Rattle.std.proofs.Common.{ℕ, ◌≡◌, ◌≢◌, ◌≤◌, ◌*◌, List, [], ◌∷◌, Option, Some, None, Result, Ok, Err, IfOk, refl, sym, ap, ◌∙◌, subst, inl, length, arith}
 use Rattle.vx_buffer.specs.Buffer.{Buffer}
 use Rattle.vx_trees.specs.Rose.{node, end, more, roses_of, count, label}
 use Rattle.vx_trees.proofs.Lists.{count-roses_of}
@@ -18,14 +18,14 @@ use Rattle.vx_array_tree.specs.Metadata as M
 use Rattle.vx_array_tree.specs.Place.{Place, place, is_len, when, before_validity}
 use Rattle.vx_array_tree.specs.Table.{IsShaped, body_of, plan_of}
 use Rattle.vx_array_tree.specs.Tree.{Tree, Trees, places, option_trees, untold}
-use Rattle.vx_array_tree.proofs.Options.{mapped, let_through}
+use Rattle.vx_array_tree.proofs.Options.{let_through}
 use Rattle.vx_arrays.specs.FixedSizeLists.{IsOfSize, fixed_size_list_tree}
 use Rattle.vx_arrays.specs.Refused.{IsUnmade}
 use Rattle.vx_arrays.specs.declared.error.ArrayError.{ArrayError}
 use Rattle.vx_encodings.proofs.Bare.{fixed_size_list_metadata, fixed_size_list_nothing}
 use Rattle.vx_encodings.proofs.Fitting.{constructor_refused}
 use Rattle.vx_encodings.proofs.Singles.{single_unplanned, single_built}
-use Rattle.vx_encodings.proofs.Validities.{validity_few}
+use Rattle.vx_encodings.proofs.Validities.{behind_few, behind_place}
 use Rattle.vx_encodings.specs.Steps.{IsPlanned, IsUnplanned, IsWithoutPlan, IsBuilt, IsUnbuilt, constructor_error}
 use Rattle.vx_encodings.specs.declared.encoding.Encoding.TheVariants.{FixedSizeList}
 use Rattle.vx_encodings.specs.declared.error.EncodingError.{EncodingError}
@@ -87,21 +87,7 @@ lists_plan x h us p =
 pub lists_sized : (h : ArrayHead) (us : Trees) → (y : ExtMeaning) × IsPlanned y FixedSizeList h (places us) → IsOfSize (typ h.dtype)
 lists_sized h us planned = (lists_plan planned.0 h us planned.1).sized
 
--- Elements stand first, and at most a validity behind them; a plan has a place for each.
-behind_few : (p : Place) (n k : ℕ) (us : Trees) → before_validity (p ∷ []) n k ≡ Some (places us) → (1 ≤ count us) × (count us ≤ 2) × (k ≡ count us)
-behind_few p n zero us e = absurd (cc)
-behind_few p n (suc k) end e = let m = mapped (λ (qs : List Place). p ∷ qs) (before_validity [] n k) [] e in absurd (no_places p m.0 m.1)
-  where
-    no_places : (p : Place) (ps : List Place) → [] ≡ p ∷ ps → ⊥
-    no_places p ps e = absurd (cc)
-behind_few p n (suc k) (more u us) e =
-    let m = mapped (λ (qs : List Place). p ∷ qs) (before_validity [] n k) (places (more u us)) e in
-    let few = validity_few n k us (m.2 ∙ ap (λ (z : List Place). Some z) (sym (rest_is (m.1)))) in
-    (omega arith, omega (arith, few.0), ap (λ j. suc j) few.1)
-  where
-    rest_is : {x y : Place} {xs ys : List Place} → x ∷ xs ≡ y ∷ ys → xs ≡ ys
-    rest_is z = cc
-
+-- Elements stand first, and at most a validity behind them.
 few_of : (d : Typ) (n k : ℕ) (us : Trees) → plan d n k ≡ Some (places us) → (1 ≤ count us) × (count us ≤ 2) × (k ≡ count us)
 few_of (node (fixed_size_list s m) (more e end)) n k us p = behind_few (place e (n * s)) n k us (let_through (is_len (n * s)) _ _ p)
 few_of _ n k us p = absurd (cc)
@@ -116,23 +102,14 @@ few_children h us ts planned e =
     let f = few_of (typ h.dtype) h.len h.nchildren us (lists_plan planned.0 h us planned.1).planned in
     omega (arith, f.1, count-roses_of ts, ap (λ z. count z) e)
 
--- The elements are of the type's elements.
-element_is : (e : Typ) (s : ℕ) (n k : ℕ) (o : Tree) (vs : Trees) → before_validity (place e (n * s) ∷ []) n k ≡ Some (places (more o vs)) → (label o).dtype ≡ e
-element_is e s n zero o vs p = absurd (cc)
-element_is e s n (suc k) o vs p =
-    let m = mapped (λ (qs : List Place). place e (n * s) ∷ qs) (before_validity [] n k) (places (more o vs)) p in
-    ap (λ (z : Place). z.dtype) (first_is (m.1))
-  where
-    first_is : {x y : Place} {xs ys : List Place} → x ∷ xs ≡ y ∷ ys → x ≡ y
-    first_is z = cc
-
 -- What the constructor makes is the node of the head's type and length over the children.
 made : (h : ArrayHead) (us : Trees) (o : Tree) (v : Option Tree) (e : Typ) (s : ℕ) (m : Nullability) → ListsPlan h us → h.dtype ≡ D.FixedSizeList e s m → more o (option_trees v) ≡ us
     → fixed_size_list_tree o s m h.len v ≡ node (untold (typ h.dtype) h.len B.fixed_size_list) us
 made h us o v e s m p q r =
     let planned = subst (λ (z : Trees). plan (typ h.dtype) h.len h.nchildren ≡ Some (places z)) (sym r) p.planned in
     let before = let_through (is_len (h.len * s)) _ _ (sym (plan_at h.dtype e s m h.len h.nchildren q) ∙ planned) in
-    ap (λ (z : Typ). node (untold (node (fixed_size_list s m) (more z end)) h.len B.fixed_size_list) (more o (option_trees v))) (element_is e s h.len h.nchildren o (option_trees v) before)
+    let element : (label o).dtype ≡ e = ap (λ (z : Place). z.dtype) (behind_place (place e (h.len * s)) h.len h.nchildren o (option_trees v) before) in
+    ap (λ (z : Typ). node (untold (node (fixed_size_list s m) (more z end)) h.len B.fixed_size_list) (more o (option_trees v))) element
     ∙ ap (λ (z : Trees). node (untold (node (fixed_size_list s m) (more e end)) h.len B.fixed_size_list) z) r
     ∙ ap (λ (z : DType). node (untold (typ z) h.len B.fixed_size_list) us) (sym q)
 

@@ -1,5 +1,6 @@
 -- The steps of nodes of structures.
-use Rattle.std.proofs.Common.{ℕ, suc, ◌≡◌, ◌≢◌, List, [], ◌∷◌, Option, Some, None, Result, Ok, Err, IfOk, refl, sym, ap, ◌∙◌, subst, inl, length}
+use Rattle.std.proofs.Common.{ℕ, suc, ◌≡◌, ◌≢◌, ◌<◌, ◌≤◌, ◌+◌, List, [], ◌∷◌, ◌++◌, Option, Some, None, Result, Ok, Err, IfOk, refl, sym, ap, ◌∙◌, subst, inl, inr, length, drop, get_or, append_assoc}
+use Rattle.std.proofs.lemmas.List.{append-nil, drop_more, drop_all}
 use Rattle.vx_buffer.specs.Buffer.{Buffer}
 use Rattle.vx_trees.specs.Rose.{node, end, more, roses_of, count}
 use Rattle.vx_types.specs.Kind.{structure}
@@ -15,7 +16,7 @@ use Rattle.vx_array_tree.specs.Encoding as E
 use Rattle.vx_array_tree.specs.Encodings.Structs.{plan}
 use Rattle.vx_array_tree.specs.Metadata.{Metadata}
 use Rattle.vx_array_tree.specs.Metadata as M
-use Rattle.vx_array_tree.specs.Place.{Place, places_at, validity_place}
+use Rattle.vx_array_tree.specs.Place.{Place, place, places_at, validity_place}
 use Rattle.vx_array_tree.specs.Place.{behind_validity as behind}
 use Rattle.vx_array_tree.specs.Table.{IsShaped, body_of, plan_of}
 use Rattle.vx_array_tree.specs.Tree.{Tree, Trees, places, untold}
@@ -69,15 +70,42 @@ pub fields_length : (ds : List DType) (n : ℕ) → length (places_at (roses_of 
 fields_length [] n = refl
 fields_length (d ∷ ds) n = ap (λ k. suc k) (fields_length ds n)
 
-pub without_front : (ds : List DType) (n k : ℕ) → k ≡ length ds → behind (places_at (roses_of (typs ds)) n) n k ≡ Some (places_at (roses_of (typs ds)) n)
+without_front : (ds : List DType) (n k : ℕ) → k ≡ length ds → behind (places_at (roses_of (typs ds)) n) n k ≡ Some (places_at (roses_of (typs ds)) n)
 without_front ds n k e = behind_self (places_at (roses_of (typs ds)) n) n k (e ∙ sym (fields_length ds n))
 
-pub with_front : (ds : List DType) (n k : ℕ) → k ≡ suc (length ds) → behind (places_at (roses_of (typs ds)) n) n k ≡ Some (validity_place n ∷ places_at (roses_of (typs ds)) n)
+with_front : (ds : List DType) (n k : ℕ) → k ≡ suc (length ds) → behind (places_at (roses_of (typs ds)) n) n k ≡ Some (validity_place n ∷ places_at (roses_of (typs ds)) n)
 with_front ds n k e = behind_one (places_at (roses_of (typs ds)) n) n k (e ∙ ap (λ j. suc j) (sym (fields_length ds n)))
 
 pub in_no_way : (ds : List DType) (n k : ℕ) → (k ≡ length ds → ⊥) → (k ≡ suc (length ds) → ⊥) → behind (places_at (roses_of (typs ds)) n) n k ≡ None
 in_no_way ds n k h g =
     behind_other (places_at (roses_of (typs ds)) n) n k (λ e. h (e ∙ fields_length ds n)) (λ e. g (e ∙ ap (λ j. suc j) (fields_length ds n)))
+
+-- What is answered for the fields behind these places is the answer for a validity that may stand in front of them.
+pub without_front_planned : (r : Result (List Place) EncodingError) (front : List Place) (ds : List DType) (n k : ℕ) → front ≡ [] → k ≡ length ds
+    → IfOk r (λ ps. ps ≡ front ++ places_at (roses_of (typs ds)) n) → IfOk r (λ ps. behind (places_at (roses_of (typs ds)) n) n k ≡ Some ps)
+without_front_planned (Ok ps) front ds n k f e p =
+    without_front ds n k e ∙ ap (λ (qs : List Place). Some qs) (sym (p ∙ ap (λ (qs : List Place). qs ++ places_at (roses_of (typs ds)) n) f))
+without_front_planned (Err error) front ds n k f e p = tt
+
+pub with_front_planned : (r : Result (List Place) EncodingError) (front none : List Place) (v : Place) (ds : List DType) (n k : ℕ) → none ≡ [] → v ≡ validity_place n → front ≡ none ++ v ∷ [] → k ≡ suc (length ds)
+    → IfOk r (λ ps. ps ≡ front ++ places_at (roses_of (typs ds)) n) → IfOk r (λ ps. behind (places_at (roses_of (typs ds)) n) n k ≡ Some ps)
+with_front_planned (Ok ps) front none v ds n k o w f e p =
+    let q = f ∙ ap (λ (qs : List Place). qs ++ v ∷ []) o ∙ ap (λ (z : Place). z ∷ []) w in
+    with_front ds n k e ∙ ap (λ (qs : List Place). Some qs) (sym (p ∙ ap (λ (qs : List Place). qs ++ places_at (roses_of (typs ds)) n) q))
+with_front_planned (Err error) front none v ds n k o w f e p = tt
+
+-- The places so far are followed by those of the fields that are left: so it is with one place more, and at the end there
+-- are all.
+pub fields_more : (so_far all : List Place) (p : Place) (ds : List DType) (n i : ℕ) (d : DType) → i < length ds → d ≡ get_or ds i d → p ≡ place (typ d) n
+    → so_far ++ places_at (roses_of (typs (drop i ds))) n ≡ all → (so_far ++ p ∷ []) ++ places_at (roses_of (typs (drop (i + 1) ds))) n ≡ all
+fields_more so_far all p ds n i d lt is planned kept =
+    append_assoc so_far (p ∷ []) (places_at (roses_of (typs (drop (i + 1) ds))) n)
+    ∙ ap (λ (q : Place). so_far ++ q ∷ places_at (roses_of (typs (drop (i + 1) ds))) n) planned
+    ∙ ap (λ (es : List DType). so_far ++ places_at (roses_of (typs es)) n) (sym (drop_more ds i d lt ∙ ap (λ (e : DType). e ∷ drop (i + 1) ds) (sym is)))
+    ∙ kept
+
+pub fields_done : (so_far all : List Place) (ds : List DType) (n i : ℕ) → length ds ≤ i → so_far ++ places_at (roses_of (typs (drop i ds))) n ≡ all → so_far ≡ all
+fields_done so_far all ds n i le kept = sym (append-nil so_far) ∙ ap (λ (es : List DType). so_far ++ places_at (roses_of (typs es)) n) (sym (drop_all i ds le)) ∙ kept
 
 -- ---- building
 
@@ -113,8 +141,8 @@ behind_count ps n k us p = by (behind_is ps n k (places us) p)
   where
     by : IsBehind ps n k (places us) → k ≡ count us
     by b = elim (b.ways) [
-      inl x ↦ x.0 ∙ ap (λ (qs : List Place). length qs) (sym x.1) ∙ places_count us |
-      inr x ↦ x.0 ∙ ap (λ (qs : List Place). length qs) (sym x.1) ∙ places_count us
+      | inl x ↦ x.0 ∙ ap (λ (qs : List Place). length qs) (sym x.1) ∙ places_count us
+      | inr x ↦ x.0 ∙ ap (λ (qs : List Place). length qs) (sym x.1) ∙ places_count us
     ]
 
 count_of : (d : Typ) (n k : ℕ) (us : Trees) → plan d n k ≡ Some (places us) → k ≡ count us
@@ -161,4 +189,4 @@ structures_buffers x h bs us planned none =
     }
 
 -- What the steps of structures rest on.
-pub ruleset struct_steps = (structures_unread, structures_unplanned, structures_planned, structures_without, without_front, with_front, in_no_way, structures_fielded, structures_built, structures_refused, structures_buffers)
+pub ruleset struct_steps = (structures_unread, structures_unplanned, structures_without, in_no_way, structures_fielded, structures_built, structures_refused, structures_buffers)

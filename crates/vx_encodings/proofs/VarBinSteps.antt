@@ -1,5 +1,5 @@
 -- The steps of nodes of texts and of bytes by offsets.
-use Rattle.std.proofs.Common.{ℕ, zero, suc, ◌≡◌, ◌≤◌, ◌<◌, ◌+◌, ◌-◌, ◌^◌, ◌↔◌, List, [], ◌∷◌, Option, Some, None, Bool, true, false, IsTrue, Result, Ok, Err, IfOk, refl, sym, ap, ◌∙◌, subst, length, arith, add-one}
+use Rattle.std.proofs.Common.{ℕ, suc, ◌≡◌, ◌≤◌, ◌<◌, ◌+◌, ◌-◌, ◌^◌, ◌↔◌, List, [], ◌∷◌, Option, Some, None, Bool, true, false, IsTrue, Result, Ok, Err, IfOk, refl, sym, ap, ◌∙◌, subst, length, arith, add-one}
 use Rattle.std.proofs.lemmas.Bool.{iff_false, lt-ltb, le-ltb}
 use Rattle.vx_buffer.specs.Buffer.{Buffer}
 use Rattle.vx_trees.specs.Rose.{node, end, more, roses_of, count, label}
@@ -19,14 +19,14 @@ use Rattle.vx_array_tree.specs.Metadata as M
 use Rattle.vx_array_tree.specs.Place.{Place, place, numbers, is_len, before_validity}
 use Rattle.vx_array_tree.specs.Table.{plan_of}
 use Rattle.vx_array_tree.specs.Tree.{Tree, Trees, places, option_trees, untold}
-use Rattle.vx_array_tree.proofs.Options.{mapped, let_through}
+use Rattle.vx_array_tree.proofs.Options.{let_through}
 use Rattle.vx_arrays.specs.Refused.{IsUnmade}
 use Rattle.vx_arrays.specs.VarBins.{IsOfBytes, varbin_tree}
 use Rattle.vx_arrays.specs.declared.error.ArrayError.{ArrayError}
 use Rattle.vx_encodings.proofs.Fitting.{constructor_refused}
 use Rattle.vx_encodings.proofs.OffsetKinds.{varbin_metadata, varbin_kind, kind_is_integer}
 use Rattle.vx_encodings.proofs.Singles.{single_unplanned, single_built, single_buffers}
-use Rattle.vx_encodings.proofs.Validities.{validity_few}
+use Rattle.vx_encodings.proofs.Validities.{behind_few, behind_place}
 use Rattle.vx_encodings.specs.Steps.{IsPlanned, IsUnplanned, IsWithoutPlan, IsBuilt, IsUnbuilt, IsUnread, constructor_error}
 use Rattle.vx_encodings.specs.VarBinMessage.{varbin_schema, varbin_value}
 use Rattle.vx_encodings.specs.declared.encoding.Encoding.TheVariants.{VarBin}
@@ -104,21 +104,6 @@ varbins_without BadContent x h p t u k shown i f g b e lt w = absurd w
 
 -- ---- building
 
--- Offsets stand first, and at most a validity behind them; a plan has a place for each.
-behind_few : (p : Place) (n k : ℕ) (us : Trees) → before_validity (p ∷ []) n k ≡ Some (places us) → (1 ≤ count us) × (count us ≤ 2) × (k ≡ count us)
-behind_few p n zero us e = absurd (cc)
-behind_few p n (suc k) end e = let m = mapped (λ (qs : List Place). p ∷ qs) (before_validity [] n k) [] e in absurd (no_places p m.0 m.1)
-  where
-    no_places : (p : Place) (ps : List Place) → [] ≡ p ∷ ps → ⊥
-    no_places p ps e = absurd (cc)
-behind_few p n (suc k) (more u us) e =
-    let m = mapped (λ (qs : List Place). p ∷ qs) (before_validity [] n k) (places (more u us)) e in
-    let few = validity_few n k us (m.2 ∙ ap (λ (z : List Place). Some z) (sym (rest_is (m.1)))) in
-    (omega arith, omega (arith, few.0), ap (λ j. suc j) few.1)
-  where
-    rest_is : {x y : Place} {xs ys : List Place} → x ∷ xs ≡ y ∷ ys → xs ≡ ys
-    rest_is z = cc
-
 -- What was planned: metadata of a kind of integers, a type of texts or of bytes, and the places of the children.
 pub record VarBinPlan (h : ArrayHead) (us : Trees) : Type 0 where
   pub kind : PType
@@ -160,20 +145,12 @@ few_children h us ts planned e =
     let f = behind_few (place (numbers p.kind) (suc h.len)) h.len h.nchildren us p.children in
     omega (arith, f.1, count-roses_of ts, ap (λ z. count z) e)
 
--- There is one offset more than rows.
-offsets_len : (p : Place) (n k : ℕ) (o : Tree) (vs : Trees) → before_validity (p ∷ []) n k ≡ Some (places (more o vs)) → (label o).len ≡ p.len
-offsets_len p n zero o vs e = absurd (cc)
-offsets_len p n (suc k) o vs e = let m = mapped (λ (qs : List Place). p ∷ qs) (before_validity [] n k) (places (more o vs)) e in ap (λ (z : Place). z.len) (first_is (m.1))
-  where
-    first_is : {x y : Place} {xs ys : List Place} → x ∷ xs ≡ y ∷ ys → x ≡ y
-    first_is z = cc
-
 -- What the constructor makes is the node of the head's type and length over the children.
 made : (h : ArrayHead) (us : Trees) (o : Tree) (b : Buffer) (v : Option Tree) → VarBinPlan h us → more o (option_trees v) ≡ us
     → varbin_tree (typ h.dtype) o b v ≡ node (untold (typ h.dtype) h.len (B.varbin (record { bytes = b }))) us
 made h us o b v p e =
     let q = subst (λ (z : Trees). before_validity (place (numbers p.kind) (suc h.len) ∷ []) h.len h.nchildren ≡ Some (places z)) (sym e) p.children in
-    let l = offsets_len (place (numbers p.kind) (suc h.len)) h.len h.nchildren o (option_trees v) q in
+    let l : (label o).len ≡ suc h.len = ap (λ (z : Place). z.len) (behind_place (place (numbers p.kind) (suc h.len)) h.len h.nchildren o (option_trees v) q) in
     let n : (label o).len - 1 ≡ h.len = omega (arith, l) in
     rw (n, e) refl
 

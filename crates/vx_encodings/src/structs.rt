@@ -1,7 +1,7 @@
 //! Nodes of structures: no metadata, no buffers, and below a validity that may stand, and then each field.
 
-ghost use Rattle.std.specs.Prelude.{suc, ◌≡◌, ◌≤◌, ◌++◌, Some, IfOk, IfErr, OnOk, IsOkUnless};
-ghost use Rattle.vx_trees.specs.Rose.{count, roses_of};
+ghost use Rattle.std.specs.Prelude.{◌≡◌, ◌++◌, Some, IfOk, IfErr, IsOkUnless};
+ghost use Rattle.vx_trees.specs.Rose.{roses_of};
 ghost use Rattle.vx_types.specs.Known.{ExtMeaning};
 ghost use Rattle.vx_types.specs.Seen.{typs};
 ghost use Rattle.vx_array_tree.specs.Place.{behind_validity as behind, places_at};
@@ -91,7 +91,8 @@ pub(crate) fn build(
     if !buffers.is_empty() {
         return Err(EncodingError::BadShape);
     }
-    let (fields, nullability) = match head.dtype {
+    let dtype = head.dtype;
+    let (fields, nullability) = match dtype {
         DType::Struct(fields, nullability) => (fields, nullability),
         _ => unreachable!(),
     };
