@@ -29,6 +29,9 @@ fixed_size_list_metadata x d bytes e = record { fields = F.empty; shown = nothin
 pub struct_metadata : (x : ExtMeaning) (d : Typ) (bytes : List ℕ) → bytes ≡ [] → IsMetadata codec x E.struct d bytes M.empty
 struct_metadata x d bytes e = record { fields = F.empty; shown = nothing_shown bytes e; meaning = refl; fair = tt; known = tt }
 
+pub ext_metadata : (x : ExtMeaning) (d : Typ) (bytes : List ℕ) → bytes ≡ [] → IsMetadata codec x E.ext d bytes M.empty
+ext_metadata x d bytes e = record { fields = F.empty; shown = nothing_shown bytes e; meaning = refl; fair = tt; known = tt }
+
 fair_null : (v : Metadata) → IsFair E.null v → v ≡ M.empty
 fair_null M.empty f = refl
 fair_null _ f = absurd f
@@ -49,6 +52,10 @@ fair_struct : (v : Metadata) → IsFair E.struct v → v ≡ M.empty
 fair_struct M.empty f = refl
 fair_struct _ f = absurd f
 
+fair_ext : (v : Metadata) → IsFair E.ext v → v ≡ M.empty
+fair_ext M.empty f = refl
+fair_ext _ f = absurd f
+
 -- What is read is that nothing is kept, of no byte.
 pub null_nothing : (x : ExtMeaning) (d : Typ) (bytes : List ℕ) (v : Metadata) → IsMetadata codec x E.null d bytes v → (bytes ≡ []) × (v ≡ M.empty)
 null_nothing x d bytes v m = (m.shown.bytes_are, fair_null v m.fair)
@@ -64,3 +71,6 @@ fixed_size_list_nothing x d bytes v m = (m.shown.bytes_are, fair_fixed_size_list
 
 pub struct_nothing : (x : ExtMeaning) (d : Typ) (bytes : List ℕ) (v : Metadata) → IsMetadata codec x E.struct d bytes v → (bytes ≡ []) × (v ≡ M.empty)
 struct_nothing x d bytes v m = (m.shown.bytes_are, fair_struct v m.fair)
+
+pub ext_nothing : (x : ExtMeaning) (d : Typ) (bytes : List ℕ) (v : Metadata) → IsMetadata codec x E.ext d bytes v → (bytes ≡ []) × (v ≡ M.empty)
+ext_nothing x d bytes v m = (m.shown.bytes_are, fair_ext v m.fair)

@@ -13,7 +13,7 @@ use Rattle.vx_array_tree.specs.Tree.{Tree, Trees, places}
 use Rattle.vx_wire_tree.specs.Fields.{told}
 use Rattle.vx_arrays.specs.Plain.{plain_body}
 use Rattle.vx_arrays.specs.declared.body.Body.{Body}
-use Rattle.vx_arrays.specs.declared.body.Body.TheVariants.{Null, Bool, Primitive, Decimal, VarBin, VarBinView, FixedSizeList, Struct}
+use Rattle.vx_arrays.specs.declared.body.Body.TheVariants.{Null, Bool, Primitive, Decimal, VarBin, VarBinView, FixedSizeList, Struct, Ext}
 use Rattle.vx_encodings.specs.BoolMessage.{bool_bytes}
 use Rattle.vx_encodings.specs.DecimalMessage.{decimal_bytes}
 use Rattle.vx_encodings.specs.Messages.{message_bytes}
@@ -57,5 +57,8 @@ lists_kept t b bytes e p q = q ∙ root t b FixedSizeList e p
 pub structures_kept : (t : Tree) (b : Body) (bytes : List ℕ) → b ≡ Struct → plain_body b ≡ (label t).body → bytes ≡ [] → bytes ≡ message_bytes (told (metadata_in (label t) (below t)))
 structures_kept t b bytes e p q = q ∙ root t b Struct e p
 
+pub extensions_kept : (t : Tree) (b : Body) (bytes : List ℕ) → b ≡ Ext → plain_body b ≡ (label t).body → bytes ≡ [] → bytes ≡ message_bytes (told (metadata_in (label t) (below t)))
+extensions_kept t b bytes e p q = q ∙ root t b Ext e p
+
 -- What the writing of metadata rests on.
-pub ruleset kept = (nulls_kept, numbers_kept, flags_kept, decimals_kept, kinds_kept, views_kept, lists_kept, structures_kept)
+pub ruleset kept = (nulls_kept, numbers_kept, flags_kept, decimals_kept, kinds_kept, views_kept, lists_kept, structures_kept, extensions_kept)

@@ -3,7 +3,7 @@ use Rattle.std.proofs.Common.{ℕ, zero, suc, ◌≡◌, ◌*◌, List, [], ◌�
 use Rattle.vx_flat.specs.Value.{table}
 use Rattle.vx_trees.specs.Rose.{node, end, more}
 use Rattle.vx_types.specs.Known.{ExtMeaning}
-use Rattle.vx_types.specs.Kind.{null, boolean, primitive, decimal, utf8, binary, fixed_size_list, structure}
+use Rattle.vx_types.specs.Kind.{null, boolean, primitive, decimal, utf8, binary, fixed_size_list, structure, extension}
 use Rattle.vx_types.specs.Typ.{Typ}
 use Rattle.vx_types.specs.declared.ptype.PType.{PType}
 use Rattle.vx_array_tree.specs.Encoding as E
@@ -15,6 +15,7 @@ use Rattle.vx_array_tree.specs.Encodings.VarBins as VarBins
 use Rattle.vx_array_tree.specs.Encodings.VarBinViews as VarBinViews
 use Rattle.vx_array_tree.specs.Encodings.FixedSizeLists as FixedSizeLists
 use Rattle.vx_array_tree.specs.Encodings.Structs as Structs
+use Rattle.vx_array_tree.specs.Encodings.Exts as Exts
 use Rattle.vx_array_tree.specs.Metadata.{Metadata}
 use Rattle.vx_array_tree.specs.Metadata as M
 use Rattle.vx_array_tree.specs.Place.{Place, place, numbers, exactly, before_validity, behind_validity, validity_place, places_at, is_len}
@@ -31,7 +32,7 @@ use Rattle.vx_encodings.proofs.Widths.{one_width, width_again}
 use Rattle.vx_encodings.specs.Messages.{Shows, ShowsNothing, message_bytes, codec}
 use Rattle.vx_encodings.specs.Plain.{plain_encoding}
 use Rattle.vx_encodings.specs.declared.encoding.Encoding.{Encoding}
-use Rattle.vx_encodings.specs.declared.encoding.Encoding.TheVariants.{Null, Bool, Primitive, Decimal, VarBin, VarBinView, FixedSizeList, Struct}
+use Rattle.vx_encodings.specs.declared.encoding.Encoding.TheVariants.{Null, Bool, Primitive, Decimal, VarBin, VarBinView, FixedSizeList, Struct, Ext}
 
 one_nothing : (bytes : List ℕ) (f g : Fields) → ShowsNothing bytes f → ShowsNothing bytes g → f ≡ g
 one_nothing bytes f g a b = a.fields_are ∙ sym b.fields_are
@@ -119,6 +120,14 @@ struct_again _ fair fits = absurd fair
 pub struct_lawful : IsLawfulAt codec E.struct
 struct_lawful = record { one_message = one_message E.struct; message_again = struct_again }
 
+ext_again : (v : Metadata) → IsFair E.ext v → FitsMessage v → Shows E.ext (message_bytes (told v)) (told v)
+ext_again M.empty fair fits = record { bytes_are = refl; fields_are = refl }
+ext_again _ fair fits = absurd fair
+
+-- So are those of extensions.
+pub ext_lawful : IsLawfulAt codec E.ext
+ext_lawful = record { one_message = one_message E.ext; message_again = ext_again }
+
 -- So are those of each encoding that has code.
 pub lawful : (e : Encoding) → IsLawfulAt codec (plain_encoding e)
 lawful Null = null_lawful
@@ -129,6 +138,7 @@ lawful VarBin = varbin_lawful
 lawful VarBinView = varbinview_lawful
 lawful FixedSizeList = fixed_size_list_lawful
 lawful Struct = struct_lawful
+lawful Ext = ext_lawful
 
 -- And so are the tables of statistics.
 pub stats_lawful : HasLawfulStats codec
@@ -158,6 +168,8 @@ fair_message FixedSizeList M.empty fair = tt
 fair_message FixedSizeList _ fair = absurd fair
 fair_message Struct M.empty fair = tt
 fair_message Struct _ fair = absurd fair
+fair_message Ext M.empty fair = tt
+fair_message Ext _ fair = absurd fair
 
 -- ---- plans
 
@@ -219,6 +231,10 @@ struct_count : (d : Typ) (n k : ℕ) (qs : List Place) → Structs.plan d n k �
 struct_count (node (structure ns m) ts) n k qs e = front_by (places_at ts n) n k qs (exactly (places_at ts n) k) refl e
 struct_count _ n k qs e = absurd (cc)
 
+ext_count : (d : Typ) (n k : ℕ) (qs : List Place) → Exts.plan d n k ≡ Some qs → length qs ≡ k
+ext_count (node (extension x bs) (more e end)) n k qs h = exactly_count (place e n ∷ []) k qs h
+ext_count _ n k qs h = absurd (cc)
+
 -- An encoding that has code plans a place for each child.
 pub plan_length : (encoding : Encoding) (d : Typ) (n : ℕ) (v : Metadata) (k : ℕ) (qs : List Place) → plan_of (plain_encoding encoding) d n v k ≡ Some qs → length qs ≡ k
 plan_length Null d n M.empty k qs e = null_count d n k qs e
@@ -237,3 +253,5 @@ plan_length FixedSizeList d n M.empty k qs e = fixed_size_list_count d n k qs e
 plan_length FixedSizeList d n _ k qs e = absurd (cc)
 plan_length Struct d n M.empty k qs e = struct_count d n k qs e
 plan_length Struct d n _ k qs e = absurd (cc)
+plan_length Ext d n M.empty k qs e = ext_count d n k qs e
+plan_length Ext d n _ k qs e = absurd (cc)

@@ -19,3 +19,4 @@ mod VarBinSteps
 mod VarBinViewSteps
 mod FixedSizeListSteps
 mod StructSteps
+mod ExtensionSteps

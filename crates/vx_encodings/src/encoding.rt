@@ -4,8 +4,8 @@ ghost use Rattle.std.specs.Prelude.{◌≡◌};
 ghost use Rattle.vx_array_tree.specs.Table.{id_of};
 
 use vx_arrays::{
-    BoolArray, DecimalArray, FixedSizeListArray, NullArray, PrimitiveArray, StructArray,
-    VarBinArray, VarBinViewArray,
+    BoolArray, DecimalArray, ExtensionArray, FixedSizeListArray, NullArray, PrimitiveArray,
+    StructArray, VarBinArray, VarBinViewArray,
 };
 
 /// The shipped encodings.
@@ -27,6 +27,8 @@ pub enum Encoding {
     FixedSizeList,
     /// Structures, by their fields.
     Struct,
+    /// Extensions, by their storage.
+    Ext,
 }
 
 impl Encoding {
@@ -45,6 +47,7 @@ impl Encoding {
             Encoding::VarBinView => VarBinViewArray::ID,
             Encoding::FixedSizeList => FixedSizeListArray::ID,
             Encoding::Struct => StructArray::ID,
+            Encoding::Ext => ExtensionArray::ID,
         }
     }
 }

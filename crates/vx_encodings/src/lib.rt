@@ -10,6 +10,7 @@ mod decimal;
 mod empty_metadata;
 mod encoding;
 mod error;
+mod extension;
 mod fixed_size_list;
 mod head;
 mod messages;

@@ -17,7 +17,9 @@ use crate::encoding::Encoding;
 use crate::error::EncodingError;
 use crate::head::ArrayHead;
 use crate::plans::ChildPlans;
-use crate::{bool, decimal, fixed_size_list, null, primitive, structs, varbin, varbinview};
+use crate::{
+    bool, decimal, extension, fixed_size_list, null, primitive, structs, varbin, varbinview,
+};
 use std::alloc::Global;
 use vx_arrays::{Array, Arrays, Body};
 use vx_buffer::BufferHandles;
@@ -65,6 +67,7 @@ fn plan_by(
         Encoding::VarBinView => varbinview::plan(alloc, head),
         Encoding::FixedSizeList => fixed_size_list::plan(alloc, head),
         Encoding::Struct => structs::plan(alloc, head),
+        Encoding::Ext => extension::plan(alloc, head),
     }
 }
 
@@ -118,6 +121,7 @@ fn build_by(
         Encoding::VarBinView => varbinview::build(alloc, head, buffers, children),
         Encoding::FixedSizeList => fixed_size_list::build(alloc, head, buffers, children),
         Encoding::Struct => structs::build(alloc, head, buffers, children),
+        Encoding::Ext => extension::build(head, buffers, children),
     }
 }
 
@@ -136,5 +140,6 @@ pub fn metadata(alloc: Global, array: &Array) -> Result<Blob, EncodingError>
         Body::VarBinView(_) => Ok(write_empty(alloc)),
         Body::FixedSizeList => Ok(write_empty(alloc)),
         Body::Struct => Ok(write_empty(alloc)),
+        Body::Ext => Ok(write_empty(alloc)),
     }
 }

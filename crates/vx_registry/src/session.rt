@@ -69,6 +69,7 @@ impl ArraySession {
             Encoding::VarBinView,
             Encoding::FixedSizeList,
             Encoding::Struct,
+            Encoding::Ext,
         ] {
             session.set(encoding)?;
         }

@@ -1,0 +1,74 @@
+//! Nodes of extensions: no metadata, no buffers, and below the storage alone.
+
+ghost use Rattle.std.specs.Prelude.{◌≡◌, ◌∷◌, [], Some, IfOk, IfErr};
+ghost use Rattle.vx_types.specs.Known.{ExtMeaning};
+ghost use Rattle.vx_types.specs.Seen.{typ};
+ghost use Rattle.vx_array_tree.specs.Place.{exactly, place};
+ghost use Rattle.vx_array_tree.specs.Sound.{IsSound};
+ghost use Rattle.vx_array_tree.specs.Tree.{places};
+ghost use Rattle.vx_encodings.specs.Steps.{IsPlanned, IsUnplanned, IsBuilt, IsUnbuilt, IsWithoutPlan};
+ghost use Rattle.vx_encodings.specs.declared.encoding.Encoding.TheVariants.{Ext};
+
+use crate::empty_metadata::read_empty;
+use crate::error::{EncodingError, of_constructor};
+use crate::head::ArrayHead;
+use crate::plans::{ChildPlans, plan_of};
+use std::alloc::Global;
+use vx_arrays::{Array, Arrays, ExtensionArray};
+use vx_buffer::BufferHandles;
+use vx_types::DType;
+
+// What the children of a node of an extension are to be: its storage.
+#[tactic(auto, using(crate::proofs::ExtensionSteps::extension_steps))]
+pub(crate) fn plan(alloc: Global, head: &ArrayHead) -> Result<ChildPlans, EncodingError>
+    ensures plan { (x : ExtMeaning) → IfOk result (λ plans. IsPlanned x Ext head.now plans) }
+    ensures err { (x : ExtMeaning) → IfErr result (λ e. IsUnplanned e x Ext head.now) }
+{
+    read_empty(head.metadata.as_slice())?;
+    match &head.dtype {
+        DType::Extension(ext) => {
+            plan_storage(alloc, ext.storage_dtype(), head.len, head.nchildren)
+        }
+        _ => Err(EncodingError::BadShape),
+    }
+}
+
+// So many rows of a type, where they are the only child.
+#[tactic(auto, using(crate::proofs::ExtensionSteps::storage_steps))]
+fn plan_storage(
+    alloc: Global,
+    storage: &DType,
+    len: usize,
+    count: usize,
+) -> Result<ChildPlans, EncodingError>
+    ensures plan { IfOk result (λ plans. exactly (place (typ storage.now) len ∷ []) count ≡ Some plans) }
+    ensures err { IfErr result (λ e. IsWithoutPlan e (exactly (place (typ storage.now) len ∷ []) count)) }
+{
+    if count != 1 {
+        return Err(EncodingError::BadShape);
+    }
+    let mut plans = ChildPlans::new(alloc);
+    plans.push(plan_of(alloc, storage, len)?)?;
+    Ok(plans)
+}
+
+// The node of an extension of these parts.
+#[tactic(auto, using(crate::proofs::ExtensionSteps::extension_steps))]
+pub(crate) fn build(
+    head: ArrayHead,
+    buffers: BufferHandles,
+    children: Arrays,
+) -> Result<Array, EncodingError>
+    requires { (x : ExtMeaning) × IsPlanned x Ext head (places children) }
+    ensures parts { (x : ExtMeaning) → IfOk result (λ t. IsBuilt x Ext head buffers children t) }
+    ensures sound { IfOk result IsSound }
+    ensures err { (x : ExtMeaning) → IfErr result (λ e. IsUnbuilt e x Ext head buffers children) }
+{
+    if !buffers.is_empty() {
+        return Err(EncodingError::BadShape);
+    }
+    match ExtensionArray::of_children(head.dtype, head.len, children) {
+        Ok(array) => Ok(array),
+        Err(e) => Err(of_constructor(e)),
+    }
+}
