@@ -1,6 +1,8 @@
-//! Tests of arrays whose rows are made of other arrays' rows: lists of one size, and structures.
+//! Tests of arrays whose rows are those of other arrays: lists of one size, structures and extensions.
 #![tactic(auto)]
 
+#[cfg(test)]
+mod extensions;
 #[cfg(test)]
 mod lists_of_one_size;
 #[cfg(test)]
