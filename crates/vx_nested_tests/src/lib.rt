@@ -2,6 +2,8 @@
 #![tactic(auto)]
 
 #[cfg(test)]
+mod blobs;
+#[cfg(test)]
 mod extensions;
 #[cfg(test)]
 mod lists_of_one_size;
