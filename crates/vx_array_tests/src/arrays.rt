@@ -115,13 +115,7 @@ pub(crate) fn has_buffer(array: &Array, bytes: &[u8]) -> bool {
 fn lent(array: &Array) -> usize {
     match array.body() {
         Body::Primitive(numbers) => numbers.values().len(),
-        Body::Null
-        | Body::Bool(_)
-        | Body::Decimal(_)
-        | Body::VarBin(_)
-        | Body::VarBinView(_)
-        | Body::FixedSizeList
-        | Body::Struct => 0,
+        _ => 0,
     }
 }
 
