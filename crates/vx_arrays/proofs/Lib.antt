@@ -20,3 +20,4 @@ mod Columns
 mod Made
 mod Judged
 mod Stored
+mod Listed

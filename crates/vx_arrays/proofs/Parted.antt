@@ -90,7 +90,7 @@ module _ (d : Typ) (n : ℕ) (b : Buffer) where
 pub below_limit : (n : ℕ) → n < 2 ^ 64 → is_len n ≡ true
 below_limit n h = lt-ltb n (2 ^ 64) h
 
-offsets_type : (d : Typ) → IsOfOffsets d → (d ≡ numbers (ptype_of d)) × IsTrue (is_integer (ptype_of d))
+pub offsets_type : (d : Typ) → IsOfOffsets d → (d ≡ numbers (ptype_of d)) × IsTrue (is_integer (ptype_of d))
 offsets_type (node (K.primitive p NonNullable) end) h = (refl, h)
 offsets_type _ h = absurd h
 

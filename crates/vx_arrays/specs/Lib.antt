@@ -8,6 +8,7 @@ pub mod VarBinViews
 pub mod Offsets
 pub mod FixedSizeLists
 pub mod Extensions
+pub mod Lists
 pub mod Structs
 pub mod Places
 pub mod Validity

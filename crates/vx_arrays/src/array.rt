@@ -23,6 +23,7 @@ use crate::body::Body;
 use crate::error::ArrayError;
 use crate::extension::storage_in;
 use crate::fixed_size_list::FixedSizeListArray;
+use crate::lists::ListArray;
 use crate::new_buffers::without_buffers;
 use crate::null::NullArray;
 use crate::parts::{LoneRow, RowParts, built};
@@ -229,6 +230,9 @@ impl Array {
             Body::Struct => {
                 StructArray::valid_at(&self.dtype, self.len, self.children.as_slice(), index)
             }
+            Body::List => {
+                ListArray::valid_at(&self.dtype, self.len, self.children.as_slice(), index)
+            }
             Body::Ext => {
                 let storage = storage_in(&self.dtype, self.len, self.children.as_slice());
                 storage.is_valid(index)
@@ -249,7 +253,7 @@ impl Array {
             Body::Decimal(_) => None,
             Body::VarBin(_) => None,
             Body::VarBinView(_) => None,
-            Body::FixedSizeList | Body::Struct | Body::Ext => None,
+            Body::FixedSizeList | Body::Struct | Body::Ext | Body::List => None,
         }
     }
 
@@ -267,7 +271,7 @@ impl Array {
             Body::Decimal(_) => None,
             Body::VarBin(_) => None,
             Body::VarBinView(_) => None,
-            Body::FixedSizeList | Body::Struct => None,
+            Body::FixedSizeList | Body::Struct | Body::List => None,
             Body::Ext => {
                 let storage = storage_in(&self.dtype, self.len, children);
                 storage.natural_at(index)
@@ -296,6 +300,7 @@ impl Array {
             Body::VarBinView(views) => RowParts::Lone(views.row_at(dtype, len, children, index)),
             Body::FixedSizeList => FixedSizeListArray::parts_at(dtype, len, children, index),
             Body::Struct => StructArray::parts_at(dtype, len, children, index),
+            Body::List => ListArray::parts_at(dtype, len, children, index),
             Body::Ext => {
                 let array = storage_in(dtype, len, children);
                 RowParts::At { array, index }
@@ -359,6 +364,7 @@ impl Array {
             }
             Body::Struct => without_buffers(alloc, dtype, len, Body::Struct, children, buffers),
             Body::Ext => without_buffers(alloc, dtype, len, Body::Ext, children, buffers),
+            Body::List => without_buffers(alloc, dtype, len, Body::List, children, buffers),
         }
     }
 

@@ -9,6 +9,7 @@ use crate::decimal::{DecimalArray, DecimalData};
 use crate::error::ArrayError;
 use crate::extension::ExtensionArray;
 use crate::fixed_size_list::FixedSizeListArray;
+use crate::lists::ListArray;
 use crate::null::NullArray;
 use crate::primitive::{PrimitiveArray, PrimitiveData};
 use crate::structs::StructArray;
@@ -38,6 +39,8 @@ pub enum Body {
     Struct,
     /// Nothing: extensions.
     Ext,
+    /// Nothing: lists, parted by offsets.
+    List,
 }
 
 impl Body {
@@ -57,6 +60,7 @@ impl Body {
             Body::FixedSizeList => FixedSizeListArray::ID,
             Body::Struct => StructArray::ID,
             Body::Ext => ExtensionArray::ID,
+            Body::List => ListArray::ID,
         }
     }
 
@@ -71,7 +75,7 @@ impl Body {
             Body::Decimal(_) => 1,
             Body::VarBin(_) => 1,
             Body::VarBinView(views) => views.nbuffers(),
-            Body::FixedSizeList | Body::Struct | Body::Ext => 0,
+            Body::FixedSizeList | Body::Struct | Body::Ext | Body::List => 0,
         }
     }
 
@@ -81,7 +85,9 @@ impl Body {
         ensures { slice_get (buffers_of (plain_body self.now)) index ≡ Some result.now }
     {
         match self {
-            Body::Null | Body::FixedSizeList | Body::Struct | Body::Ext => unreachable!(),
+            Body::Null | Body::FixedSizeList | Body::Struct | Body::Ext | Body::List => {
+                unreachable!()
+            }
             Body::Primitive(numbers) => numbers.values(),
             Body::Bool(flags) => flags.bits(),
             Body::Decimal(decimals) => decimals.values(),
@@ -104,6 +110,7 @@ impl Body {
             (Body::FixedSizeList, Body::FixedSizeList) => true,
             (Body::Struct, Body::Struct) => true,
             (Body::Ext, Body::Ext) => true,
+            (Body::List, Body::List) => true,
             _ => false,
         }
     }
@@ -123,6 +130,7 @@ impl Body {
             Body::FixedSizeList => Ok(Body::FixedSizeList),
             Body::Struct => Ok(Body::Struct),
             Body::Ext => Ok(Body::Ext),
+            Body::List => Ok(Body::List),
         }
     }
 }

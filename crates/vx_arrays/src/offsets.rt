@@ -1,13 +1,16 @@
 //! Offsets: rows of an array that say where the parts of a whole begin and end.
 
-ghost use Rattle.std.specs.Prelude.{suc, ◌≡◌, ◌<◌, ◌≤◌, ◌↔◌, IfSome, IfNone, IsTrue};
+ghost use Rattle.std.specs.Prelude.{suc, ◌^◌, ◌≡◌, ◌<◌, ◌≤◌, ◌↔◌, IfSome, IfNone, IsTrue};
 ghost use Rattle.vx_trees.specs.Rose.{label};
 ghost use Rattle.vx_array_tree.specs.Encodings.VarBins.{AreOffsets};
 ghost use Rattle.vx_array_tree.specs.Rows.{index_at, IsIndex, IsThere};
+ghost use Rattle.vx_types.specs.Seen.{typ};
 ghost use Rattle.vx_array_tree.specs.Tree.{rows_of};
+ghost use Rattle.vx_arrays.specs.VarBins.{IsOfOffsets};
 
 use crate::array::Array;
 use crate::plain_offsets::{are_plain_offsets, plain_numbers};
+use vx_types::{DType, Nullability};
 
 // A row as a natural number: 0 where the row is not known; None where it is there and no natural number.
 pub(crate) fn index_at(array: &Array, index: usize) -> Option<u64>
@@ -60,4 +63,42 @@ fn are_offsets_by_rows(offsets: &Array, parts: usize, total: usize) -> bool
         }
     }
     last <= total as u64
+}
+
+// Whether a type is one of offsets.
+pub(crate) fn is_of_offsets(dtype: &DType) -> bool
+    ensures { IsTrue result ↔ IsOfOffsets (typ dtype.now) }
+{
+    match dtype {
+        DType::Primitive(kind, Nullability::NonNullable) => kind.is_int(),
+        _ => false,
+    }
+}
+
+// Whether an array may be the offsets of so many parts: there is one more of them, and they are of a type of offsets.
+pub(crate) fn are_counted(offsets: &Array, parts: usize) -> bool
+    ensures kind { IsTrue result → IsOfOffsets (label offsets.now).dtype }
+    ensures counted { IsTrue result → (label offsets.now).len ≡ suc parts }
+    ensures few { IsTrue result → suc parts < 2 ^ 64 }
+    ensures all { IsOfOffsets (label offsets.now).dtype → (label offsets.now).len ≡ suc parts → IsTrue result }
+{
+    match parts.checked_add(1) {
+        Some(count) => offsets.len() == count && is_of_offsets(offsets.dtype()),
+        None => false,
+    }
+}
+
+// An offset among right ones: 0 where it is not known.
+#[tactic(auto, using(crate::proofs::Rising::parts))]
+pub(crate) fn offset_at(offsets: &Array, parts: usize, total: usize, index: usize) -> usize
+    requires counted { (label offsets.now).len ≡ suc parts }
+    requires offsets { AreOffsets (rows_of offsets.now) parts total }
+    requires inside { index ≤ parts }
+    ensures value { result ≡ index_at (rows_of offsets.now) index }
+    ensures within { result ≤ total }
+{
+    match index_at(offsets, index) {
+        Some(offset) => offset as usize,
+        None => unreachable!(),
+    }
 }

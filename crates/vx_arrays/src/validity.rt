@@ -18,6 +18,8 @@ use crate::array::Array;
 use crate::body::Body;
 use crate::bool::BoolArray;
 use crate::error::ArrayError;
+use crate::list::Arrays;
+use crate::place::stands_at;
 use std::alloc::Global;
 use vx_buffer::{BufferHandle, ByteBuffer};
 use vx_types::{DType, Nullability};
@@ -106,6 +108,41 @@ pub(crate) fn over_validity(
     }
     let children = only_validity(alloc, validity)?;
     Ok(Array::from_parts(dtype, len, body, children))
+}
+
+// Whether arrays are the validity of so many rows, or none: what stands behind a node's other children.
+pub(crate) fn stands_behind(nullability: Nullability, behind: &[Array], len: usize) -> bool
+    ensures { IsTrue result ↔ IsValidity nullability len (roses_of behind.now) }
+{
+    match behind {
+        [] => true,
+        [validity] => match nullability {
+            Nullability::Nullable => {
+                stands_at(validity, &DType::Bool(Nullability::NonNullable), len)
+            }
+            Nullability::NonNullable => false,
+        },
+        _ => false,
+    }
+}
+
+// The children of a node that has two, and behind them at most a validity.
+pub(crate) fn listed(
+    alloc: Global,
+    first: Array,
+    second: Array,
+    validity: Option<Array>,
+) -> Result<Arrays, ArrayError>
+    ensures children { IfOk result (λ children. children ≡ more first (more second (option_trees validity))) }
+    ensures err { IsOkUnless result ArrayError.OutOfMemory }
+{
+    let mut children = Arrays::new(alloc);
+    children.push(first)?;
+    children.push(second)?;
+    if let Some(array) = validity {
+        children.push(array)?;
+    }
+    Ok(children)
 }
 
 // The first of a node's children, and those behind it.

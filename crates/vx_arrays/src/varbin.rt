@@ -16,14 +16,14 @@ ghost use Rattle.vx_arrays.specs.Compared.{compared_body};
 ghost use Rattle.vx_arrays.specs.NewBuffers.{RefusesBuffers, with_buffers};
 ghost use Rattle.vx_arrays.specs.Parts.{lone_mark};
 ghost use Rattle.vx_arrays.specs.Refused.{IsUnmade, IsOkOrMemory};
-ghost use Rattle.vx_arrays.specs.VarBins.{IsOfBytes, IsOfOffsets, varbin_head, varbin_node, varbin_tree};
+ghost use Rattle.vx_arrays.specs.VarBins.{IsOfBytes, varbin_head, varbin_node, varbin_tree};
 
 use crate::array::Array;
 use crate::body::Body;
 use crate::construction::over_children;
 use crate::error::ArrayError;
 use crate::new_buffers::{copied_type, copied_validity, only_buffer};
-use crate::offsets::are_offsets;
+use crate::offsets::{are_offsets, is_of_offsets};
 use crate::parts::LoneRow;
 use crate::texts::{are_texts, is_of_bytes, lone_part, part_at};
 use crate::validity::{is_validity, validity_at, with_validity};
@@ -223,16 +223,6 @@ fn is_shaped(dtype: &DType, len: usize, offsets: &Array, validity: &Option<Array
         return false;
     }
     is_validity(dtype.nullability(), len, validity)
-}
-
-// Whether a type is one of offsets.
-fn is_of_offsets(dtype: &DType) -> bool
-    ensures { IsTrue result ↔ IsOfOffsets (typ dtype.now) }
-{
-    match dtype {
-        DType::Primitive(kind, Nullability::NonNullable) => kind.is_int(),
-        _ => false,
-    }
 }
 
 // Whether the content of parts of the right shape is right: the offsets are, and so are the texts.

@@ -6,6 +6,7 @@ use Rattle.vx_array_tree.specs.Encodings.Bools as Bools
 use Rattle.vx_array_tree.specs.Encodings.Decimals as Decimals
 use Rattle.vx_array_tree.specs.Encodings.Primitives as Primitives
 use Rattle.vx_array_tree.specs.Encodings.VarBins as VarBins
+use Rattle.vx_array_tree.specs.Encodings.Lists as Lists
 use Rattle.vx_array_tree.specs.Encodings.VarBinViews as VarBinViews
 use Rattle.vx_array_tree.specs.Sound.{metadata_in}
 use Rattle.vx_array_tree.specs.Table.{metadata_of}
@@ -13,11 +14,12 @@ use Rattle.vx_array_tree.specs.Tree.{Tree, Trees, places}
 use Rattle.vx_wire_tree.specs.Fields.{told}
 use Rattle.vx_arrays.specs.Plain.{plain_body}
 use Rattle.vx_arrays.specs.declared.body.Body.{Body}
-use Rattle.vx_arrays.specs.declared.body.Body.TheVariants.{Null, Bool, Primitive, Decimal, VarBin, VarBinView, FixedSizeList, Struct, Ext}
+use Rattle.vx_arrays.specs.declared.body.Body.TheVariants.{Null, Bool, Primitive, Decimal, VarBin, VarBinView, FixedSizeList, Struct, Ext, List as ListOf}
 use Rattle.vx_encodings.specs.BoolMessage.{bool_bytes}
 use Rattle.vx_encodings.specs.DecimalMessage.{decimal_bytes}
 use Rattle.vx_encodings.specs.Messages.{message_bytes}
 use Rattle.vx_encodings.specs.VarBinMessage.{varbin_bytes}
+use Rattle.vx_encodings.specs.ListMessage.{list_bytes}
 use Rattle.vx_encodings.specs.declared.error.EncodingError.{EncodingError}
 
 -- The bytes of a root that holds this.
@@ -60,5 +62,10 @@ structures_kept t b bytes e p q = q ∙ root t b Struct e p
 pub extensions_kept : (t : Tree) (b : Body) (bytes : List ℕ) → b ≡ Ext → plain_body b ≡ (label t).body → bytes ≡ [] → bytes ≡ message_bytes (told (metadata_in (label t) (below t)))
 extensions_kept t b bytes e p q = q ∙ root t b Ext e p
 
+pub counts_kept : (t : Tree) (b : Body) (us : Trees) (r : Result (List ℕ) EncodingError) → b ≡ ListOf → plain_body b ≡ (label t).body → us ≡ below t → IfOk r (λ bytes. bytes ≡ list_bytes (Lists.metadata_of (places us)).elements_len (Lists.metadata_of (places us)).offset_ptype)
+    → IfOk r (λ bytes. bytes ≡ message_bytes (told (metadata_in (label t) (below t))))
+counts_kept t b us (Ok bytes) e p u q = q ∙ ap (λ (vs : Trees). list_bytes (Lists.metadata_of (places vs)).elements_len (Lists.metadata_of (places vs)).offset_ptype) u ∙ root t b ListOf e p
+counts_kept t b us (Err error) e p u q = tt
+
 -- What the writing of metadata rests on.
-pub ruleset kept = (nulls_kept, numbers_kept, flags_kept, decimals_kept, kinds_kept, views_kept, lists_kept, structures_kept, extensions_kept)
+pub ruleset kept = (nulls_kept, numbers_kept, flags_kept, decimals_kept, kinds_kept, views_kept, lists_kept, structures_kept, extensions_kept, counts_kept)

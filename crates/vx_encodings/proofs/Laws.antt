@@ -3,7 +3,7 @@ use Rattle.std.proofs.Common.{ℕ, zero, suc, ◌≡◌, ◌*◌, List, [], ◌�
 use Rattle.vx_flat.specs.Value.{table}
 use Rattle.vx_trees.specs.Rose.{node, end, more}
 use Rattle.vx_types.specs.Known.{ExtMeaning}
-use Rattle.vx_types.specs.Kind.{null, boolean, primitive, decimal, utf8, binary, fixed_size_list, structure, extension}
+use Rattle.vx_types.specs.Kind.{null, boolean, primitive, decimal, utf8, binary, list, fixed_size_list, structure, extension}
 use Rattle.vx_types.specs.Typ.{Typ}
 use Rattle.vx_types.specs.declared.ptype.PType.{PType}
 use Rattle.vx_array_tree.specs.Encoding as E
@@ -16,6 +16,7 @@ use Rattle.vx_array_tree.specs.Encodings.VarBinViews as VarBinViews
 use Rattle.vx_array_tree.specs.Encodings.FixedSizeLists as FixedSizeLists
 use Rattle.vx_array_tree.specs.Encodings.Structs as Structs
 use Rattle.vx_array_tree.specs.Encodings.Exts as Exts
+use Rattle.vx_array_tree.specs.Encodings.Lists as Lists
 use Rattle.vx_array_tree.specs.Metadata.{Metadata}
 use Rattle.vx_array_tree.specs.Metadata as M
 use Rattle.vx_array_tree.specs.Place.{Place, place, numbers, exactly, before_validity, behind_validity, validity_place, places_at, is_len}
@@ -25,6 +26,7 @@ use Rattle.vx_scalar_wire.proofs.LawsStats.{one_set_in, shown_fit_in, written_sh
 use Rattle.vx_wire_tree.specs.Codec.{IsLawfulAt, HasLawfulStats}
 use Rattle.vx_wire_tree.specs.Fields.{Fields, FitsMessage, meant, told}
 use Rattle.vx_wire_tree.specs.Reads.{IsMetadata}
+use Rattle.vx_encodings.proofs.ElementCounts.{one_count_and_kind, list_again}
 use Rattle.vx_encodings.proofs.Fronts.{behind_some, behind_none}
 use Rattle.vx_encodings.proofs.OffsetKinds.{one_kind, kind_again}
 use Rattle.vx_encodings.proofs.Offsets.{one_offset, offset_again}
@@ -32,7 +34,7 @@ use Rattle.vx_encodings.proofs.Widths.{one_width, width_again}
 use Rattle.vx_encodings.specs.Messages.{Shows, ShowsNothing, message_bytes, codec}
 use Rattle.vx_encodings.specs.Plain.{plain_encoding}
 use Rattle.vx_encodings.specs.declared.encoding.Encoding.{Encoding}
-use Rattle.vx_encodings.specs.declared.encoding.Encoding.TheVariants.{Null, Bool, Primitive, Decimal, VarBin, VarBinView, FixedSizeList, Struct, Ext}
+use Rattle.vx_encodings.specs.declared.encoding.Encoding.TheVariants.{Null, Bool, Primitive, Decimal, VarBin, VarBinView, FixedSizeList, Struct, Ext, List as ListOf}
 
 one_nothing : (bytes : List ℕ) (f g : Fields) → ShowsNothing bytes f → ShowsNothing bytes g → f ≡ g
 one_nothing bytes f g a b = a.fields_are ∙ sym b.fields_are
@@ -45,6 +47,7 @@ one_message E.primitive bytes f g a b = one_nothing bytes f g a b
 one_message E.decimal bytes f g a b = one_width bytes f g a b
 one_message E.varbin bytes f g a b = one_kind bytes f g a b
 one_message E.varbinview bytes f g a b = one_nothing bytes f g a b
+one_message E.list bytes f g a b = one_count_and_kind bytes f g a b
 one_message E.fixed_size_list bytes f g a b = one_nothing bytes f g a b
 one_message E.map bytes f g a b = one_nothing bytes f g a b
 one_message E.struct bytes f g a b = one_nothing bytes f g a b
@@ -128,6 +131,14 @@ ext_again _ fair fits = absurd fair
 pub ext_lawful : IsLawfulAt codec E.ext
 ext_lawful = record { one_message = one_message E.ext; message_again = ext_again }
 
+list_fits_again : (v : Metadata) → IsFair E.list v → FitsMessage v → Shows E.list (message_bytes (told v)) (told v)
+list_fits_again (M.list v) fair fits = list_again v.elements_len v.offset_ptype fits
+list_fits_again _ fair fits = absurd fair
+
+-- So are those of lists.
+pub list_lawful : IsLawfulAt codec E.list
+list_lawful = record { one_message = one_message E.list; message_again = list_fits_again }
+
 -- So are those of each encoding that has code.
 pub lawful : (e : Encoding) → IsLawfulAt codec (plain_encoding e)
 lawful Null = null_lawful
@@ -139,6 +150,7 @@ lawful VarBinView = varbinview_lawful
 lawful FixedSizeList = fixed_size_list_lawful
 lawful Struct = struct_lawful
 lawful Ext = ext_lawful
+lawful ListOf = list_lawful
 
 -- And so are the tables of statistics.
 pub stats_lawful : HasLawfulStats codec
@@ -235,6 +247,10 @@ ext_count : (d : Typ) (n k : ℕ) (qs : List Place) → Exts.plan d n k ≡ Some
 ext_count (node (extension x bs) (more e end)) n k qs h = exactly_count (place e n ∷ []) k qs h
 ext_count _ n k qs h = absurd (cc)
 
+pub list_count : (d : Typ) (n : ℕ) (v : Lists.Metadata) (k : ℕ) (qs : List Place) → Lists.plan d n v k ≡ Some qs → length qs ≡ k
+list_count (node (list m) (more e end)) n v k qs h = behind_count (place e v.elements_len ∷ place (numbers v.offset_ptype) (suc n) ∷ []) n k qs (let_through (is_len (suc n)) _ _ h)
+list_count _ n v k qs h = absurd (cc)
+
 -- An encoding that has code plans a place for each child.
 pub plan_length : (encoding : Encoding) (d : Typ) (n : ℕ) (v : Metadata) (k : ℕ) (qs : List Place) → plan_of (plain_encoding encoding) d n v k ≡ Some qs → length qs ≡ k
 plan_length Null d n M.empty k qs e = null_count d n k qs e
@@ -255,3 +271,5 @@ plan_length Struct d n M.empty k qs e = struct_count d n k qs e
 plan_length Struct d n _ k qs e = absurd (cc)
 plan_length Ext d n M.empty k qs e = ext_count d n k qs e
 plan_length Ext d n _ k qs e = absurd (cc)
+plan_length ListOf d n (M.list v) k qs e = list_count d n v k qs e
+plan_length ListOf d n _ k qs e = absurd (cc)

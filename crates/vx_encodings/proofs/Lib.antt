@@ -20,3 +20,5 @@ mod VarBinViewSteps
 mod FixedSizeListSteps
 mod StructSteps
 mod ExtensionSteps
+mod ElementCounts
+mod ListSteps

@@ -3,5 +3,6 @@ pub mod NumberMessage
 pub mod BoolMessage
 pub mod DecimalMessage
 pub mod VarBinMessage
+pub mod ListMessage
 pub mod Messages
 pub mod Steps

@@ -4,7 +4,7 @@ ghost use Rattle.std.specs.Prelude.{◌≡◌};
 ghost use Rattle.vx_array_tree.specs.Table.{id_of};
 
 use vx_arrays::{
-    BoolArray, DecimalArray, ExtensionArray, FixedSizeListArray, NullArray, PrimitiveArray,
+    BoolArray, DecimalArray, ExtensionArray, FixedSizeListArray, ListArray, NullArray, PrimitiveArray,
     StructArray, VarBinArray, VarBinViewArray,
 };
 
@@ -29,6 +29,8 @@ pub enum Encoding {
     Struct,
     /// Extensions, by their storage.
     Ext,
+    /// Lists, whose elements are parted by offsets.
+    List,
 }
 
 impl Encoding {
@@ -48,6 +50,7 @@ impl Encoding {
             Encoding::FixedSizeList => FixedSizeListArray::ID,
             Encoding::Struct => StructArray::ID,
             Encoding::Ext => ExtensionArray::ID,
+            Encoding::List => ListArray::ID,
         }
     }
 }

@@ -13,6 +13,7 @@ mod error;
 mod extension;
 mod fixed_size_list;
 mod head;
+mod lists;
 mod messages;
 mod null;
 mod plans;

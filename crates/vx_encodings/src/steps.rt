@@ -18,7 +18,7 @@ use crate::error::EncodingError;
 use crate::head::ArrayHead;
 use crate::plans::ChildPlans;
 use crate::{
-    bool, decimal, extension, fixed_size_list, null, primitive, structs, varbin, varbinview,
+    bool, decimal, extension, fixed_size_list, lists, null, primitive, structs, varbin, varbinview,
 };
 use std::alloc::Global;
 use vx_arrays::{Array, Arrays, Body};
@@ -68,6 +68,7 @@ fn plan_by(
         Encoding::FixedSizeList => fixed_size_list::plan(alloc, head),
         Encoding::Struct => structs::plan(alloc, head),
         Encoding::Ext => extension::plan(alloc, head),
+        Encoding::List => lists::plan(alloc, head),
     }
 }
 
@@ -122,6 +123,7 @@ fn build_by(
         Encoding::FixedSizeList => fixed_size_list::build(alloc, head, buffers, children),
         Encoding::Struct => structs::build(alloc, head, buffers, children),
         Encoding::Ext => extension::build(head, buffers, children),
+        Encoding::List => lists::build(head, buffers, children),
     }
 }
 
@@ -141,5 +143,6 @@ pub fn metadata(alloc: Global, array: &Array) -> Result<Blob, EncodingError>
         Body::FixedSizeList => Ok(write_empty(alloc)),
         Body::Struct => Ok(write_empty(alloc)),
         Body::Ext => Ok(write_empty(alloc)),
+        Body::List => lists::metadata(alloc, array.children()),
     }
 }

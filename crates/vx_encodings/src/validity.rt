@@ -74,6 +74,27 @@ pub(crate) fn plan_behind(
     }
 }
 
+// Children, and behind them a validity, where one stands among so many.
+#[tactic(auto, using(crate::proofs::Validities::behind_all))]
+pub(crate) fn plan_behind_all(
+    front: ChildPlans,
+    len: usize,
+    count: usize,
+) -> Result<ChildPlans, EncodingError>
+    ensures plan { IfOk result (λ plans. before_validity front len count ≡ Some plans) }
+    ensures err { IfErr result (λ e. IsWithoutPlan e (before_validity front len count)) }
+{
+    let mut plans = front;
+    match count.checked_sub(plans.len()) {
+        Some(0) => Ok(plans),
+        Some(1) => {
+            plans.push(validity_of(len))?;
+            Ok(plans)
+        }
+        _ => Err(EncodingError::BadShape),
+    }
+}
+
 // The first of the children of a node, and the validity that may stand behind it.
 pub(crate) fn first_and_validity(children: Vec<Array>) -> (Array, Option<Array>)
     requires some { 1 ≤ length children.items }

@@ -1,0 +1,193 @@
+//! Arrays of lists, whose elements are parted by offsets.
+
+ghost use Rattle.std.specs.Prelude.{◌≡◌, ◌<◌, ◌≤◌, ◌↔◌, IfOk, IfErr, IsOkUnless, IsTrue, option_map};
+ghost use Rattle.vx_trees.specs.Rose.{end, more, node, roses_of};
+ghost use Rattle.vx_trees.specs.Walks.{nodes_of};
+ghost use Rattle.vx_types.specs.Kind.{list};
+ghost use Rattle.vx_types.specs.Seen.{typ};
+ghost use Rattle.vx_array_tree.specs.Body as B;
+ghost use Rattle.vx_array_tree.specs.Encodings.Lists.{Content, rows as rows_of_lists};
+ghost use Rattle.vx_array_tree.specs.Refused.{IsWellShaped};
+ghost use Rattle.vx_array_tree.specs.Rows.{rest, validity};
+ghost use Rattle.vx_array_tree.specs.Sound.{IsSound, IsSoundNode};
+ghost use Rattle.vx_array_tree.specs.Tree.{rows_below, untold};
+ghost use Rattle.vx_arrays.specs.Lists.{element_of, list_tree};
+ghost use Rattle.vx_arrays.specs.Parts.{AreThere, parts_cells, parts_nodes, parts_value};
+ghost use Rattle.vx_arrays.specs.Refused.{IsUnmade, IsOkOrMemory};
+
+use crate::array::Array;
+use crate::body::Body;
+use crate::construction::over_children;
+use crate::error::ArrayError;
+use crate::list::Arrays;
+use crate::offsets::{are_counted, are_offsets, offset_at};
+use crate::parts::{RowParts, where_there};
+use crate::validity::{listed, parted, stands_behind, validity_at};
+use std::alloc::Global;
+use vx_types::{DType, Nullability, TypeRef};
+
+/// Arrays of lists, whose elements stand one row's after the other's, parted by offsets.
+pub struct ListArray {}
+
+impl ListArray {
+    /// The identifier of the encoding.
+    pub const ID: &'static str = "vortex.list";
+
+    // Whether a row is there in a node of this type, length and children; None where that is not known.
+    #[tactic(auto, using(crate::proofs::Listed::lists))]
+    pub(crate) fn valid_at(
+        dtype: &DType,
+        len: usize,
+        children: &[Array],
+        index: usize,
+    ) -> Option<bool>
+        requires sound { IsSoundNode (untold (typ dtype.now) len B.list) (roses_of children.now) }
+        requires inside { index < len }
+        ensures { result ≡ validity (rest (rest (rows_below (roses_of children.now)))) index }
+    {
+        let _dtype = dtype;
+        let (_, others) = parted(children);
+        let (_, behind) = parted(others);
+        validity_at(behind, len, index)
+    }
+
+    // Of what a row is made in a node of this type, length and children.
+    #[tactic(auto, using(crate::proofs::Listed::lists))]
+    pub(crate) fn parts_at<'a>(
+        dtype: &DType,
+        len: usize,
+        children: &'a [Array],
+        index: usize,
+    ) -> RowParts<'a>
+        requires sound { IsSoundNode (untold (typ dtype.now) len B.list) (roses_of children.now) }
+        requires inside { index < len }
+        ensures value { let rows = rows_of_lists len (rows_below (roses_of children.now)) in
+            parts_value result ≡ rows.row index }
+        ensures cells { let rows = rows_of_lists len (rows_below (roses_of children.now)) in
+            parts_cells result ≡ rows.cells index }
+        ensures there { AreThere result }
+        ensures smaller { parts_nodes result ≤ nodes_of (roses_of children.now) }
+    {
+        let valid = ListArray::valid_at(dtype, len, children, index);
+        let (array, others) = parted(children);
+        let (offsets, _) = parted(others);
+        let total = array.len();
+        let start = offset_at(offsets, len, total, index);
+        let count = offset_at(offsets, len, total, index + 1) - start;
+        where_there(
+            valid,
+            RowParts::Run {
+                array,
+                start,
+                count,
+            },
+        )
+    }
+
+    /// The array of lists whose elements stand from an offset up to the next one: there is one row less than offsets.
+    /// Where some rows are null, `validity` holds for each row whether it is there.
+    ///
+    /// `BadShape` where there are no offsets or they are no integers that are never null, or where the validity may not
+    /// stand. `BadContent` where an offset is below 0, below the one before or past the elements.
+    pub fn try_new(
+        alloc: Global,
+        elements: Array,
+        offsets: Array,
+        nullability: Nullability,
+        validity: Option<Array>,
+    ) -> Result<Array, ArrayError>
+        ensures ok { IfOk result (λ a. a ≡ list_tree elements offsets nullability validity) }
+        ensures sound { IfOk result IsSound }
+        ensures err { IfErr result (λ e. IsUnmade e (list_tree elements offsets nullability validity)) }
+        ensures complete { IsSound (list_tree elements offsets nullability validity) → IsOkOrMemory result }
+    {
+        let len = offsets.len().saturating_sub(1);
+        let dtype = list_type(alloc, elements.dtype(), nullability)?;
+        let children = listed(alloc, elements, offsets, validity)?;
+        ListArray::of_children(dtype, len, children)
+    }
+
+    /// The array of a node of this type and length over these children.
+    ///
+    /// Refused as by [`ListArray::try_new`], and as `BadShape` where the elements are of another type or there are not
+    /// as many offsets as rows and one.
+    pub fn of_children(dtype: DType, len: usize, children: Arrays) -> Result<Array, ArrayError>
+        ensures ok { IfOk result (λ a. a ≡ node (untold (typ dtype) len B.list) children) }
+        ensures sound { IfOk result IsSound }
+        ensures err { IfErr result (λ e. IsUnmade e (node (untold (typ dtype) len B.list) children)) }
+        ensures complete { IsSound (node (untold (typ dtype) len B.list) children) → IsOkOrMemory result }
+    {
+        let shaped = is_shaped(&dtype, len, children.as_slice());
+        let right = shaped && has_content(&dtype, len, children.as_slice());
+        over_children(dtype, len, Body::List, children.into_vec(), shaped, right)
+    }
+}
+
+// The type of the elements, where a type is one of lists.
+fn element_type(dtype: &DType) -> Option<&DType>
+    ensures { option_map (λ d. typ d.now) result ≡ element_of (typ dtype.now) }
+{
+    match dtype {
+        DType::List(element, _) => Some(element.get()),
+        _ => None,
+    }
+}
+
+// Whether arrays are the children of a node of lists: elements, an offset more than rows, and at most a validity.
+#[tactic(auto, using(crate::proofs::Listed::shapes))]
+fn is_shaped(dtype: &DType, len: usize, children: &[Array]) -> bool
+    ensures { IsTrue result ↔ IsWellShaped (untold (typ dtype.now) len B.list) (roses_of children.now) }
+{
+    if children.len() < 2 {
+        return false;
+    }
+    let (elements, others) = parted(children);
+    let (offsets, behind) = parted(others);
+    are_parts(dtype, len, elements, offsets, behind)
+}
+
+// The same of the elements, the offsets and what stands behind them.
+fn are_parts(
+    dtype: &DType,
+    len: usize,
+    elements: &Array,
+    offsets: &Array,
+    behind: &[Array],
+) -> bool
+    ensures { IsTrue result ↔ IsWellShaped (untold (typ dtype.now) len B.list) (more elements.now (more offsets.now (roses_of behind.now))) }
+{
+    match element_type(dtype) {
+        Some(kind) => {
+            *elements.dtype() == *kind
+                && are_counted(offsets, len)
+                && stands_behind(dtype.nullability(), behind, len)
+        }
+        None => false,
+    }
+}
+
+// Whether the content of such children is right: the offsets are.
+#[tactic(auto, using(crate::proofs::Listed::lists))]
+fn has_content(dtype: &DType, len: usize, children: &[Array]) -> bool
+    requires { IsWellShaped (untold (typ dtype.now) len B.list) (roses_of children.now) }
+    ensures { IsTrue result ↔ Content len (rows_below (roses_of children.now)) }
+{
+    let _dtype = dtype;
+    let (elements, others) = parted(children);
+    let (offsets, _) = parted(others);
+    are_offsets(offsets, len, elements.len())
+}
+
+// The type of lists of elements of a type.
+fn list_type(alloc: Global, element: &DType, nullability: Nullability) -> Result<DType, ArrayError>
+    ensures ok { IfOk result (λ d. typ d ≡ node (list nullability) (more (typ element.now) end)) }
+    ensures err { IsOkUnless result ArrayError.OutOfMemory }
+{
+    let Ok(element) = element.clone(alloc) else {
+        return Err(ArrayError::OutOfMemory);
+    };
+    match TypeRef::new(alloc, element) {
+        Ok(part) => Ok(DType::List(part, nullability)),
+        Err(_) => Err(ArrayError::OutOfMemory),
+    }
+}
