@@ -29,6 +29,10 @@ column_decides t d n b e k l m q h = (
   λ x. h ∙ (same-decides typ_code e d).1 (q ∙ ap (λ (p : Place). p.dtype) x),
 )
 
+-- The same of its type alone.
+pub type_decides : (t : Tree) (d : Typ) (b : Bool) (e : Typ) → e ≡ (label t).dtype → b ≡ same typ_code e d → IsTrue b ↔ ((label t).dtype ≡ d)
+type_decides t d b e q h = (λ x. sym q ∙ (same-decides typ_code e d).0 (sym h ∙ x), λ x. h ∙ (same-decides typ_code e d).1 (q ∙ x))
+
 -- ---- lists of them
 
 heads : (p q : Place) (ps qs : List Place) → p ∷ ps ≡ q ∷ qs → p ≡ q

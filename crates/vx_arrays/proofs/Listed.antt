@@ -1,6 +1,7 @@
 -- The children of a node of lists: its elements, its offsets, and what stands behind them; and its rows.
 use Rattle.std.proofs.Common.{ℕ, suc, ◌≡◌, ◌≤◌, ◌<◌, ◌+◌, ◌-◌, ◌^◌, List, [], ◌∷◌, Option, Some, None, Bool, true, false, refl, sym, ap, ◌∙◌, subst, length, arith, add-one}
 use Rattle.std.proofs.lemmas.Bool.{ltb-true}
+use Rattle.std.specs.Prelude.{◌↔◌, IsTrue}
 use Rattle.vx_trees.specs.Rose.{node, end, more, label, count, roses_of}
 use Rattle.vx_trees.specs.Walks.{nodes, nodes_of}
 use Rattle.vx_trees.proofs.Lists.{count-roses_of}
@@ -8,6 +9,7 @@ use Rattle.vx_types.specs.Kind.{list}
 use Rattle.vx_types.specs.Typ.{Typ}
 use Rattle.vx_types.specs.Value.{Value, tuple}
 use Rattle.vx_types.specs.Words.{nullability}
+use Rattle.vx_types.specs.declared.nullability.Nullability.{Nullability}
 use Rattle.vx_types.specs.declared.ptype.PType.{PType}
 use Rattle.vx_array_tree.specs.Body as B
 use Rattle.vx_array_tree.specs.Encodings.Lists.{Metadata, Content, metadata_of, plan, rows, size_at}
@@ -26,7 +28,7 @@ use Rattle.vx_arrays.proofs.Parted.{below_limit, offsets_type, same_suc}
 
 -- ---- what a plan says
 
-some_is : {A : Type 0} (x y : A) → Some x ≡ Some y → x ≡ y
+pub some_is : {A : Type 0} (x y : A) → Some x ≡ Some y → x ≡ y
 some_is x y e = cc
 
 none_some : {A : Type 0} (x : A) → None ≡ Some x → ⊥
@@ -103,6 +105,24 @@ listed_shaped d n a o vs l =
       takes = tt;
       holds = tt;
     }
+
+-- Behind other children there is a validity or nothing: not two arrays.
+pub many_behind : (m : Nullability) (n : ℕ) (ts : Trees) → 2 ≤ count ts → IsValidity m n ts → ⊥
+many_behind m n end h v = absurd (omega (arith, h))
+many_behind m n (more a end) h v = absurd (omega (arith, h))
+many_behind m n (more a (more b ts)) h v = none_some _ v.planned
+
+-- What is told of the type's nullability is told of the type.
+pub behind_type : (m : Nullability) (n : ℕ) (b : Bool) (d : Typ) (vs : Trees) → m ≡ nullability d → (IsTrue b ↔ IsValidity m n vs) → IsTrue b ↔ IsValidity (nullability d) n vs
+behind_type m n b d vs e h = subst (λ (z : Nullability). IsTrue b ↔ IsValidity z n vs) e h
+
+-- So parts are of it where each is, and of no other.
+pub listed_decide : (d : Typ) (n : ℕ) (b : Bool) (a o : Tree) (vs : Trees) → element_of d ≡ Some (label a).dtype → IsOfOffsets (label o).dtype → (label o).len ≡ suc n → suc n < 2 ^ 64 → (IsTrue b ↔ IsValidity (nullability d) n vs)
+    → IsTrue b ↔ IsWellShaped (untold d n B.list) (more a (more o vs))
+listed_decide d n b a o vs e k l lt h = (
+    λ t. listed_shaped d n a o vs (record { element = e; offsets = k; counted = l; few = lt; behind = h.0 t }),
+    λ s. h.1 (shaped_listed d n a o vs s).behind,
+  )
 
 -- There are two children or more.
 pub two_children : (d : Typ) (n : ℕ) (ts : Trees) → IsWellShaped (untold d n B.list) ts → 2 ≤ count ts

@@ -22,6 +22,7 @@ use crate::error::ArrayError;
 use crate::list::Arrays;
 use crate::offsets::{are_counted, are_offsets, offset_at};
 use crate::parts::{RowParts, where_there};
+use crate::place::is_of_type;
 use crate::validity::{listed, parted, stands_behind, validity_at};
 use std::alloc::Global;
 use vx_types::{DType, Nullability, TypeRef};
@@ -156,14 +157,16 @@ fn are_parts(
 ) -> bool
     ensures { IsTrue result ↔ IsWellShaped (untold (typ dtype.now) len B.list) (more elements.now (more offsets.now (roses_of behind.now))) }
 {
-    match element_type(dtype) {
-        Some(kind) => {
-            *elements.dtype() == *kind
-                && are_counted(offsets, len)
-                && stands_behind(dtype.nullability(), behind, len)
-        }
-        None => false,
+    let Some(kind) = element_type(dtype) else {
+        return false;
+    };
+    if !is_of_type(elements, kind) {
+        return false;
     }
+    if !are_counted(offsets, len) {
+        return false;
+    }
+    stands_behind(dtype.nullability(), behind, len)
 }
 
 // Whether the content of such children is right: the offsets are.

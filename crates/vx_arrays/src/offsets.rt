@@ -82,8 +82,8 @@ pub(crate) fn are_counted(offsets: &Array, parts: usize) -> bool
     ensures few { IsTrue result → suc parts < 2 ^ 64 }
     ensures all { IsOfOffsets (label offsets.now).dtype → (label offsets.now).len ≡ suc parts → IsTrue result }
 {
-    match parts.checked_add(1) {
-        Some(count) => offsets.len() == count && is_of_offsets(offsets.dtype()),
+    match offsets.len().checked_sub(1) {
+        Some(count) => count == parts && is_of_offsets(offsets.dtype()),
         None => false,
     }
 }
