@@ -103,8 +103,12 @@ impl ListArray {
         ensures complete { IsSound (list_tree elements offsets nullability validity) → IsOkOrMemory result }
     {
         let len = offsets.len().saturating_sub(1);
-        let dtype = list_type(alloc, elements.dtype(), nullability)?;
-        let children = listed(alloc, elements, offsets, validity)?;
+        let Ok(dtype) = list_type(alloc, elements.dtype(), nullability) else {
+            return Err(ArrayError::OutOfMemory);
+        };
+        let Ok(children) = listed(alloc, elements, offsets, validity) else {
+            return Err(ArrayError::OutOfMemory);
+        };
         ListArray::of_children(dtype, len, children)
     }
 

@@ -139,10 +139,13 @@ pub(crate) fn listed(
     let mut children = Arrays::new(alloc);
     children.push(first)?;
     children.push(second)?;
-    if let Some(array) = validity {
-        children.push(array)?;
+    match validity {
+        None => Ok(children),
+        Some(array) => {
+            children.push(array)?;
+            Ok(children)
+        }
     }
-    Ok(children)
 }
 
 // The first of a node's children, and those behind it.
