@@ -1,6 +1,6 @@
 //! Offsets that stand as numbers in a buffer, with no validity over them.
 
-ghost use Rattle.std.specs.Prelude.{suc, Some, ◌≡◌, ◌<◌, ◌≤◌, ◌↔◌, ◌+◌, ◌*◌, ◌^◌, IfSome, IsTrue, length};
+ghost use Rattle.std.specs.Prelude.{suc, ℕ, Some, ◌≡◌, ◌<◌, ◌≤◌, ◌↔◌, ◌+◌, ◌*◌, ◌^◌, IfSome, IsTrue, length};
 ghost use Rattle.vx_trees.specs.Rose.{label};
 ghost use Rattle.vx_types.specs.Numbers.{width_of};
 ghost use Rattle.vx_types.specs.Value.{natural_number};
@@ -19,6 +19,10 @@ use vx_types::{DType, PType};
 trait Unsigned {
     ghost kind: { Kind };
 
+    // How many numbers stand in bytes that hold numbers alone.
+    fn count_in(bytes: &[u8]) -> usize
+        ensures { (n : ℕ) → length bytes.now ≡ width_of kind * n → result ≡ n };
+
     // The number at an index, where they stand one after the other.
     fn number_at(bytes: &[u8], index: usize) -> u64
         requires { width_of kind * index + width_of kind ≤ length bytes.now }
@@ -28,6 +32,10 @@ trait Unsigned {
 impl Unsigned for u8 {
     ghost kind = { U8 };
 
+    fn count_in(bytes: &[u8]) -> usize {
+        bytes.len()
+    }
+
     fn number_at(bytes: &[u8], index: usize) -> u64 {
         bytes[index] as u64
     }
@@ -35,6 +43,10 @@ impl Unsigned for u8 {
 
 impl Unsigned for u16 {
     ghost kind = { U16 };
+
+    fn count_in(bytes: &[u8]) -> usize {
+        bytes.len() / 2
+    }
 
     fn number_at(bytes: &[u8], index: usize) -> u64 {
         let rest = &bytes[2 * index..];
@@ -45,6 +57,10 @@ impl Unsigned for u16 {
 impl Unsigned for u32 {
     ghost kind = { U32 };
 
+    fn count_in(bytes: &[u8]) -> usize {
+        bytes.len() / 4
+    }
+
     fn number_at(bytes: &[u8], index: usize) -> u64 {
         let rest = &bytes[4 * index..];
         u32::from_le_bytes(*rest.first_chunk::<4>().unwrap()) as u64
@@ -53,6 +69,10 @@ impl Unsigned for u32 {
 
 impl Unsigned for u64 {
     ghost kind = { U64 };
+
+    fn count_in(bytes: &[u8]) -> usize {
+        bytes.len() / 8
+    }
 
     fn number_at(bytes: &[u8], index: usize) -> u64 {
         let rest = &bytes[8 * index..];
@@ -101,8 +121,10 @@ fn are_rising<T: Unsigned>(bytes: &[u8], parts: usize, total: usize) -> bool
     requires few { suc parts < 2 ^ 64 }
     ensures { IsTrue result ↔ AreOffsets (plain_rows T.kind (suc parts) bytes.now) parts total }
 {
+    let _parts = parts;
+    let count = T::count_in(bytes);
     let mut last = 0;
-    for i in 0..parts + 1 {
+    for i in 0..count {
         let offset = T::number_at(bytes, i);
         if offset < last {
             return false;
