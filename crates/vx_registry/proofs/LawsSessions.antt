@@ -1,5 +1,5 @@
 -- What holds of each session, for the proofs of other crates.
-use Rattle.std.proofs.Common.{ℕ, ◌≡◌, List, Option, Some, None, option_map, sym, subst}
+use Rattle.std.proofs.Common.{ℕ, ◌≡◌, List, Option, Some, None, option_map, subst}
 use Rattle.std.specs.Prelude.{bytes_eq}
 use Rattle.std.specs.Map.{lookup}
 use Rattle.vx_types.specs.Known.{ExtMeaning}
