@@ -5,7 +5,8 @@ use vx_array_tests::parts::{aligned_to, buffer_of, prints};
 use vx_arrays::{Array, Arrays};
 use vx_buffer::{Alignment, BufferHandles};
 use vx_encodings::{
-    ArrayHead, BoolMetadata, ChildPlan, ChildPlans, Encoding, EncodingError, build, metadata, plan,
+    ArrayHead, BoolMetadata, ChildPlan, ChildPlans, Encoding, EncodingError, build, has_message,
+    metadata, plan,
 };
 use vx_proto::{Message, ProtoError};
 use vx_type_wire::ExtSession;
@@ -135,7 +136,7 @@ fn build_planned(
     build(alloc, encoding, head, buffers, Arrays::new(alloc), &readers)
 }
 
-// The metadata of a node without children, once it is built.
+// The metadata of a node without children, once it is built. It has to fit its message.
 fn built_metadata(
     alloc: Global,
     encoding: Encoding,
@@ -143,6 +144,9 @@ fn built_metadata(
     buffers: BufferHandles,
 ) -> Result<Blob, EncodingError> {
     let array = build_planned(alloc, encoding, head, buffers)?;
+    if !has_message(&array) {
+        return Err(EncodingError::BadMetadata);
+    }
     metadata(alloc, &array)
 }
 

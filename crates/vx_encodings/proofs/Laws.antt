@@ -162,27 +162,6 @@ stats_lawful = record {
   written_alike = λ t. ap (λ vs. table vs) (written_alike t);
 }
 
--- What a node of an encoding that has code keeps fits its message.
-pub fair_message : (encoding : Encoding) (v : Metadata) → IsFair (plain_encoding encoding) v → FitsMessage v
-fair_message Null M.empty fair = tt
-fair_message Null _ fair = absurd fair
-fair_message Bool (M.bool o) fair = tt
-fair_message Bool _ fair = absurd fair
-fair_message Primitive M.empty fair = tt
-fair_message Primitive _ fair = absurd fair
-fair_message Decimal (M.decimal w) fair = tt
-fair_message Decimal _ fair = absurd fair
-fair_message VarBin (M.varbin p) fair = tt
-fair_message VarBin _ fair = absurd fair
-fair_message VarBinView M.empty fair = tt
-fair_message VarBinView _ fair = absurd fair
-fair_message FixedSizeList M.empty fair = tt
-fair_message FixedSizeList _ fair = absurd fair
-fair_message Struct M.empty fair = tt
-fair_message Struct _ fair = absurd fair
-fair_message Ext M.empty fair = tt
-fair_message Ext _ fair = absurd fair
-
 -- ---- plans
 
 exactly_count : (ps : List Place) (k : ℕ) (qs : List Place) → exactly ps k ≡ Some qs → length qs ≡ k

@@ -11,6 +11,7 @@ mod Validities
 mod Fitting
 mod Singles
 mod Kept
+mod Fit
 mod NullSteps
 mod BoolSteps
 mod PrimitiveSteps

@@ -30,5 +30,5 @@ pub use encoding::Encoding;
 pub use error::EncodingError;
 pub use head::ArrayHead;
 pub use plans::{ChildPlan, ChildPlans};
-pub use steps::{build, metadata, plan};
+pub use steps::{build, has_message, metadata, plan};
 pub use varbin::VarBinMetadata;

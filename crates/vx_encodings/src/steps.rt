@@ -1,7 +1,7 @@
 //! The steps of one node: what its children are to be, the node out of its parts, and its metadata; a line for
 //! each encoding.
 
-ghost use Rattle.std.specs.Prelude.{◌≡◌, ℕ, List, IfOk, IfErr, IsOkUnless};
+ghost use Rattle.std.specs.Prelude.{◌≡◌, ℕ, List, IfOk, IfErr, IsOkUnless, IsTrue, IsFalse};
 ghost use Rattle.vx_trees.specs.Rose.{label, below};
 ghost use Rattle.vx_types.specs.Known.{ExtMeaning};
 ghost use Rattle.vx_type_wire.specs.Session.{ext_meaning};
@@ -9,6 +9,7 @@ ghost use Rattle.vx_array_tree.specs.Place.{Place};
 ghost use Rattle.vx_array_tree.specs.Sound.{IsSound, metadata_in};
 ghost use Rattle.vx_array_tree.specs.Tree.{Tree, places};
 ghost use Rattle.vx_wire_tree.specs.Fields.{told};
+ghost use Rattle.vx_wire_tree.specs.Limits.{HasMessage};
 ghost use Rattle.vx_encodings.specs.Messages.{message_bytes};
 ghost use Rattle.vx_encodings.specs.Steps.{IsPlanned, IsUnplanned, IsBuilt, IsUnbuilt, IsOkOrMemory};
 
@@ -144,5 +145,24 @@ pub fn metadata(alloc: Global, array: &Array) -> Result<Blob, EncodingError>
         Body::Struct => Ok(write_empty(alloc)),
         Body::Ext => Ok(write_empty(alloc)),
         Body::List => lists::metadata(alloc, array.children()),
+    }
+}
+
+/// Whether the root's metadata fits its message: a node of which it does not is not written.
+#[tactic(auto, using(crate::proofs::Fit::fit))]
+pub fn has_message(array: &Array) -> bool
+    ensures fits { IsTrue result → HasMessage (label array.now) (below array.now) }
+    ensures over { IsFalse result → HasMessage (label array.now) (below array.now) → ⊥ }
+{
+    match array.body() {
+        Body::Null => true,
+        Body::Bool(_) => true,
+        Body::Primitive(_) => true,
+        Body::Decimal(_) => true,
+        Body::VarBin(_) => true,
+        Body::VarBinView(_) => true,
+        Body::FixedSizeList => true,
+        Body::Struct => true,
+        Body::Ext => true,
     }
 }

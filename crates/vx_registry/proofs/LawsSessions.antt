@@ -1,18 +1,15 @@
 -- What holds of each session, for the proofs of other crates.
-use Rattle.std.proofs.Common.{ℕ, ◌≡◌, List, Option, Some, None, option_map, sym, subst}
+use Rattle.std.proofs.Common.{ℕ, ◌≡◌, List, Option, Some, None, option_map, subst}
 use Rattle.std.specs.Prelude.{bytes_eq}
 use Rattle.std.specs.Map.{lookup}
 use Rattle.vx_types.specs.Known.{ExtMeaning}
 use Rattle.vx_array_tree.specs.Encoding as E
-use Rattle.vx_array_tree.specs.Metadata.{Metadata}
-use Rattle.vx_array_tree.specs.Table.{IsFair}
 use Rattle.vx_wire_tree.specs.Codec.{IsLawful, IsLawfulAt}
-use Rattle.vx_wire_tree.specs.Fields.{FitsMessage}
 use Rattle.vx_wire_tree.specs.Session.{shipped, IsShipped, IsShippedReader}
 use Rattle.vx_encodings.specs.Messages.{codec}
 use Rattle.vx_encodings.specs.Plain.{plain_encoding}
 use Rattle.vx_encodings.specs.declared.encoding.Encoding.{Encoding}
-use Rattle.vx_encodings.proofs.Laws.{lawful, stats_lawful, fair_message}
+use Rattle.vx_encodings.proofs.Laws.{lawful, stats_lawful}
 use Rattle.vx_registry.specs.Session.{Registry, entry, tables_meaning}
 
 entry_shipped : (o : Option Encoding) → IsShippedReader (option_map entry o)
@@ -40,10 +37,3 @@ read_lawful r id e p =
 -- The encodings by which a session reads have lawful messages of metadata, and the tables of statistics are lawful.
 pub registry_lawful : (r : Registry) (x : ExtMeaning) → IsLawful codec (tables_meaning r x)
 registry_lawful r x = record { messages = read_lawful r; stats = stats_lawful }
-
--- What a session reads of a node's metadata fits its message.
-pub registry_messages : (r : Registry) (x : ExtMeaning) (id : List ℕ) (e : E.Encoding) (v : Metadata) → (tables_meaning r x).reader id ≡ Some (shipped e) → IsFair e v → FitsMessage v
-registry_messages r x id e v p fair =
-    let own = entry_encoding (lookup (bytes_eq id) r.readers) e p in
-    let P : E.Encoding → Type 0 = λ z. IsFair z v in
-    fair_message own.0 v (subst P (sym own.1) fair)

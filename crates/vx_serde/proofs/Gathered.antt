@@ -1,32 +1,28 @@
--- The nodes of an array that is to be written: each has a writer and a message, and why they are not written.
-use Rattle.std.proofs.Common.{ℕ, zero, suc, ◌≡◌, ◌+◌, ◌-◌, ◌<◌, ◌≤◌, List, [], ◌∷◌, ◌++◌, Option, Some, None, length, take, get_or, refl, sym, ap, ◌∙◌, subst, arith, append_assoc, option_map}
+-- The nodes of an array that is to be written: each has a writer, and why they are not written.
+use Rattle.std.proofs.Common.{ℕ, zero, suc, ◌≡◌, ◌+◌, ◌-◌, ◌<◌, ◌≤◌, List, [], ◌∷◌, ◌++◌, Option, Some, None, length, take, get_or, sym, ap, ◌∙◌, subst, arith, append_assoc, option_map, inl, inr}
 use Rattle.std.specs.Prelude.{slice_get}
 use Rattle.std.proofs.lemmas.List.{take_more, take_all}
-use Rattle.std.proofs.lemmas.Option.{same_Some}
 use Rattle.vx_trees.specs.Rose.{Rose, Roses, node, end, more, label, below, roses_of, roses_list}
 use Rattle.vx_trees.specs.Walks.{levels, levels_below}
 use Rattle.vx_trees.specs.Everywhere.{Everywhere, EverywhereBelow}
 use Rattle.vx_trees.proofs.Counting.{levels-is, levels-at}
-use Rattle.vx_trees.proofs.Holding.{everywhere-at, everywhere_below-snoc}
+use Rattle.vx_trees.proofs.Holding.{everywhere-at, everywhere-parts, everywhere_below-snoc}
 use Rattle.vx_trees.proofs.Lists.{roses_list-roses_of}
 use Rattle.vx_types.specs.Known.{ExtMeaning}
-use Rattle.vx_array_tree.specs.Encoding as E
-use Rattle.vx_array_tree.specs.Sound.{IsSoundNode, metadata_in}
-use Rattle.vx_array_tree.specs.Table.{encoding_of, encoding_named, id_of, IsFair}
+use Rattle.vx_array_tree.specs.Table.{encoding_of, id_of}
 use Rattle.vx_array_tree.specs.Tree.{Tree}
 use Rattle.vx_wire_tree.specs.Causes.{HasUnwritten, LacksWriter}
 use Rattle.vx_wire_tree.specs.Context.{Context, grown_by}
 use Rattle.vx_wire_tree.specs.Limits.{HasMessage}
 use Rattle.vx_wire_tree.specs.Placed.{HoldsUnder}
 use Rattle.vx_wire_tree.specs.ReadBack.{IsWritten, IsWrittenNode}
-use Rattle.vx_wire_tree.specs.Session.{SessionMeaning, Reader, shipped, IsPaired, IsReadAgainBy}
+use Rattle.vx_wire_tree.specs.Session.{SessionMeaning, Reader}
 use Rattle.vx_wire_tree.specs.Wire.{id_in}
 use Rattle.vx_wire_tree.specs.Written.{wire}
 use Rattle.vx_encodings.specs.Messages.{codec}
 use Rattle.vx_registry.specs.Serialization.{array_id}
 use Rattle.vx_encodings.specs.declared.encoding.Encoding.{Encoding}
-use Rattle.vx_registry.specs.Session.{Registry, entry, found, tables_meaning, ArePaired}
-use Rattle.vx_registry.proofs.LawsSessions.{registry_messages}
+use Rattle.vx_registry.specs.Session.{Registry, entry, found, tables_meaning}
 use Rattle.vx_serde.specs.declared.error.WireError.{WireError}
 use Rattle.vx_serde.specs.declared.error.WireError.TheVariants.{OutOfMemory, NotPermitted, WireLimit, NotRegistered}
 use Rattle.vx_serde.specs.declared.options.SerializeOptions.{SerializeOptions}
@@ -67,15 +63,7 @@ levels_of ts i u n e h =
     let P : Rose _ → Type 0 = λ z. levels z ≤ n in
     subst P e h
 
--- ---- a node's writer, and its message
-
--- an encoding is named by its identifier, so no two have one
-named : (e : E.Encoding) → encoding_named (id_of e) ≡ Some e
-named E.null = refl
-named _ = refl
-
-one_encoding : (e f : E.Encoding) → id_of e ≡ id_of f → e ≡ f
-one_encoding e f q = same_Some e f (sym (named e) ∙ ap (λ id. encoding_named id) q ∙ named f)
+-- ---- a node's writer
 
 pub has_entry : (r : Registry) (t : Tree) (id : List ℕ) (o : Option Encoding) (e : Encoding) → id ≡ array_id t → option_map entry o ≡ found r.writers id → o ≡ Some e → HasEntry r t
 has_entry r t id o e p q is = record { entry = entry e; found_is = ap (λ z. found r.writers z) (sym p) ∙ (sym q ∙ ap (λ z. option_map entry z) is) }
@@ -84,32 +72,17 @@ module _ (r : Registry) (t : Tree) (has : HasEntry r t) where
   pub node-written : (x : ExtMeaning) → IsWrittenNode (tables_meaning r x) (label t) (below t)
   node-written x = record { writer = has.entry; writer_is = has.found_is }
 
-  own_reader : (s : SessionMeaning) → IsPaired s → (e : E.Encoding) → s.writer (id_of e) ≡ Some has.entry → (f : E.Encoding) × (s.reader (id_of e) ≡ Some (shipped f)) × (id_of e ≡ id_of f)
-  own_reader s paired e w = at has.entry w where
-    read : (o : Option Reader) (f : E.Encoding) → IsReadAgainBy o f → o ≡ Some (shipped f)
-    read None f h = absurd h
-    read (Some (shipped g)) f h = ap (λ z. Some (shipped z)) h
-
-    at : (q : Reader) → s.writer (id_of e) ≡ Some q → (f : E.Encoding) × (s.reader (id_of e) ≡ Some (shipped f)) × (id_of e ≡ id_of f)
-    at (shipped f) w = (f, read (s.reader (id_of e)) f (paired.written_is_read (id_of e) f w), paired.own_identifier (id_of e) (shipped f) w)
-
-  -- What has a writer has a message, where it is sound.
-  pub node-message : ArePaired r → IsSoundNode (label t) (below t) → (x : ExtMeaning) → HasMessage (label t) (below t)
-  node-message paired sound x =
-      let e = encoding_of (label t).body in
-      let o = own_reader (tables_meaning r x) (paired x) e has.found_is in
-      let P : E.Encoding → Type 0 = λ z. IsFair z (metadata_in (label t) (below t)) in
-      registry_messages r x (id_of e) o.0 (metadata_in (label t) (below t)) o.1 (subst P (one_encoding e o.0 o.2) sound.fair)
-
 -- ---- why nodes are not written
 
 pub node-refused : (r : Registry) (x : ExtMeaning) (t : Tree) (room : ℕ) (e : WireError) → RefusesNode r t e → RefusesNodes (tables_meaning r x) t room e
 node-refused r x t room OutOfMemory h = tt
+node-refused r x t room WireLimit h = inr (λ k. h (everywhere-parts HasMessage t k).0)
 node-refused r x t room NotRegistered h = ([], h)
 node-refused r x t room _ h = absurd h
 
 pub root-refused : (r : Registry) (x : ExtMeaning) (t : Tree) (room : ℕ) (c : Context) (e : WireError) → RefusesRoot r t c e → RefusesGathering (tables_meaning r x) t room c e
 root-refused r x t room c OutOfMemory h = tt
+root-refused r x t room c WireLimit h = node-refused r x t room WireLimit h
 root-refused r x t room c NotRegistered h = ([], h)
 root-refused r x t room c NotPermitted h =
     let s = tables_meaning r x in
@@ -119,8 +92,9 @@ root-refused r x t room c _ h = absurd h
 pub child-refused : (s : SessionMeaning) (t : Tree) (ts : List Tree) (i room : ℕ) (u : Tree) (e : WireError) → i < length ts → u ≡ get_or ts i u → roses_of ts ≡ below t
     → RefusesNodes s u (room - 1) e → RefusesNodes s t room e
 child-refused s t ts i room u OutOfMemory h p q c = tt
-child-refused s t ts i room u WireLimit h p q c =
-    omega (arith, c, levels-at ts i u h, ap (λ z. levels z) p, ap (λ z. levels_below z) q, levels-is t)
+child-refused s t ts i room u WireLimit h p q (inl c) =
+    inl (omega (arith, c, levels-at ts i u h, ap (λ z. levels z) p, ap (λ z. levels_below z) q, levels-is t))
+child-refused s t ts i room u WireLimit h p q (inr c) = inr (λ k. c (everywhere-child HasMessage t ts i u h p q (everywhere-parts HasMessage t k).1))
 child-refused s t ts i room u NotRegistered h p q c =
     let at : slice_get (roses_list (below t)) i ≡ Some u = ap (λ z. slice_get z i) (ap (λ z. roses_list z) (sym q) ∙ roses_list-roses_of ts) ∙ get_at ts i u h p in
     (i ∷ c.0, (u, at, c.1))
@@ -163,7 +137,8 @@ all-written s t w lacks = written_under s lacks.0 t w lacks.1
 
 pub unplaced_nodes : (s : SessionMeaning) (o : SerializeOptions) (t : Tree) (c : Context) (e : WireError) → RefusesGathering s t 62 c e → RefusesLayout s o t c e
 unplaced_nodes s o t c OutOfMemory h = tt
-unplaced_nodes s o t c WireLimit h = λ k. omega (arith, h, k.tree.nested, wired-levels s t)
+unplaced_nodes s o t c WireLimit (inl h) = λ messages k. omega (arith, h, k.tree.nested, wired-levels s t)
+unplaced_nodes s o t c WireLimit (inr h) = λ messages k. h messages
 unplaced_nodes s o t c NotRegistered h = h
 unplaced_nodes s o t c NotPermitted h = h
 unplaced_nodes s o t c _ h = absurd h

@@ -98,7 +98,7 @@ module _ (s : SessionMeaning) (t : Tree) (c : Context) (o : SerializeOptions) wh
   pub unplaced : (e : WireError) → RefusesLayout s o t c e → RefusesArray s t c o e
   unfolding w
   unplaced OutOfMemory h = tt
-  unplaced WireLimit h = λ k. h (writable-placeable (ids_after s t c) o w k.writable)
+  unplaced WireLimit h = λ k. h k.messages (writable-placeable (ids_after s t c) o w k.writable)
   unplaced NotRegistered h = h
   unplaced NotPermitted h = h
   unplaced _ h = absurd h

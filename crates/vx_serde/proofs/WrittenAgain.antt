@@ -4,14 +4,10 @@ use Rattle.vx_trees.specs.Rose.{node, end, more, label}
 use Rattle.vx_trees.specs.Everywhere.{EverywhereBelow}
 use Rattle.vx_types.specs.Typ.{Typ}
 use Rattle.vx_array_tree.specs.Encoding.{Encoding}
-use Rattle.vx_array_tree.specs.Metadata.{Metadata}
-use Rattle.vx_array_tree.specs.Sound.{metadata_in}
-use Rattle.vx_array_tree.specs.Table.{encoding_of, buffers_of, id_of, IsFair}
+use Rattle.vx_array_tree.specs.Table.{encoding_of, buffers_of, id_of}
 use Rattle.vx_array_tree.specs.Tree.{Tree, Trees}
 use Rattle.vx_wire_tree.specs.Codec.{Codec, IsLawful}
 use Rattle.vx_wire_tree.specs.Context.{Context, grown}
-use Rattle.vx_wire_tree.specs.Fields.{FitsMessage}
-use Rattle.vx_wire_tree.specs.Limits.{HasMessage, HasMessages}
 use Rattle.vx_wire_tree.specs.Matches.{Matches, AllMatch, IsNodeBy, IsEncodedNode}
 use Rattle.vx_wire_tree.specs.ReadBack.{IsWritten, IsWrittenNode, HasKnownTypes, IsKnownNode, HasStorableStats}
 use Rattle.vx_wire_tree.specs.Session.{SessionMeaning, Reader, shipped, IsShipped, IsPaired}
@@ -55,19 +51,6 @@ module _ (c : Codec) (s : SessionMeaning) where
     all_read_types end ts m = let P : Trees → Type 0 = λ z. EverywhereBelow (IsKnownNode s) z in subst P (sym m) tt
     all_read_types (more w ws) end m = absurd m
     all_read_types (more w ws) (more t ts) m = (read_types w t m.0, all_read_types ws ts m.1)
-
-  -- What is read of each node fits its message, where that holds of what each encoding admits.
-  module _ (fits : (id : List ℕ) (e : Encoding) (v : Metadata) → s.reader id ≡ Some (shipped e) → IsFair e v → FitsMessage v) where
-    mutual
-      pub read_messages : (w : Wire) (t : Tree) → Matches c s w t → HasMessages t
-      read_messages (node w ws) (node h ts) m =
-          let x = by_reader (s.reader m.0) w (node h ts) (λ us. AllMatch c s ws us) m.2 in
-          (fits m.0 x.0 (metadata_in h ts) x.1 x.2.metadata.fair, all_read_messages ws ts x.2.children)
-
-      all_read_messages : (ws : Wires) (ts : Trees) → AllMatch c s ws ts → EverywhereBelow HasMessage ts
-      all_read_messages end ts m = let P : Trees → Type 0 = λ z. EverywhereBelow HasMessage z in subst P (sym m) tt
-      all_read_messages (more w ws) end m = absurd m
-      all_read_messages (more w ws) (more t ts) m = (read_messages w t m.0, all_read_messages ws ts m.1)
 
   module _ (paired : IsPaired s) where
     mutual

@@ -1,5 +1,5 @@
 -- What the steps of writing an array give, and why they refuse.
-use Rattle.std.specs.Prelude.{ℕ, ◌≡◌, ◌<◌, ◌^◌, List, [], ◌∷◌, Some, None, length}
+use Rattle.std.specs.Prelude.{ℕ, ◌≡◌, ◌<◌, ◌^◌, ◌⊎◌, List, [], ◌∷◌, Some, None, length}
 use Rattle.vx_flat.specs.Layout.{written_layout}
 use Rattle.vx_flat.specs.Limits.{limits, IsLight}
 use Rattle.vx_flat.specs.Value.{table, elements, field, no_fields}
@@ -8,6 +8,7 @@ use Rattle.vx_flat.specs.declared.error.FlatError.{FlatError}
 use Rattle.vx_flat.specs.declared.error.FlatError.TheVariants as tables
 use Rattle.vx_scalar_wire.specs.declared.error.ScalarWireError.{ScalarWireError}
 use Rattle.vx_scalar_wire.specs.declared.error.ScalarWireError.TheVariants as scalars
+use Rattle.vx_trees.specs.Rose.{label, below}
 use Rattle.vx_trees.specs.Walks.{levels}
 use Rattle.vx_array_tree.specs.Tree.{Tree}
 use Rattle.vx_wire_tree.specs.Causes.{HasUnwritten}
@@ -27,7 +28,7 @@ use Rattle.vx_serde.specs.Message.{Descriptor}
 use Rattle.vx_serde.specs.MessageValue.{descriptors_bytes, node_value}
 use Rattle.vx_serde.specs.Numbered.{numbered}
 use Rattle.vx_serde.specs.Placing.{descriptors_from, data_end}
-use Rattle.vx_wire_tree.specs.Limits.{IsWritableTree}
+use Rattle.vx_wire_tree.specs.Limits.{IsWritableTree, HasMessage, HasMessages}
 
 -- The limits that a tree keeps before its message is known: those on the tree, and one
 -- on the position where the last of its buffers ends.
@@ -67,9 +68,11 @@ pub record HasEntry (r : Registry) (t : Tree) : Type 0 where
   pub entry : Reader
   pub found_is : found r.writers (array_id t) ≡ Some entry
 
--- A root is not written for want of memory, or because nothing writes the arrays of its encoding.
+-- A root is not written for want of memory, because its metadata does not fit its message, or because nothing writes the
+-- arrays of its encoding.
 abbrev pub RefusesNode : Registry → Tree → WireError → Type 0
 RefusesNode r t OutOfMemory = Unit {0}
+RefusesNode r t WireLimit = HasMessage (label t) (below t) → ⊥
 RefusesNode r t NotRegistered = found r.writers (array_id t) ≡ None
 RefusesNode r t _ = ⊥
 
@@ -78,11 +81,11 @@ abbrev pub RefusesRoot : Registry → Tree → Context → WireError → Type 0
 RefusesRoot r t c NotPermitted = grown_by (array_id t ∷ []) c ≡ None
 RefusesRoot r t c e = RefusesNode r t e
 
--- The nodes of an array are not written for want of memory, because there are more levels than there is room for, or
--- because nothing writes the arrays of one's encoding.
+-- The nodes of an array are not written for want of memory, because there are more levels than there is room for or the
+-- metadata of one does not fit its message, or because nothing writes the arrays of one's encoding.
 abbrev pub RefusesNodes : SessionMeaning → Tree → ℕ → WireError → Type 0
 RefusesNodes s t room OutOfMemory = Unit {0}
-RefusesNodes s t room WireLimit = room < levels t
+RefusesNodes s t room WireLimit = (room < levels t) ⊎ (HasMessages t → ⊥)
 RefusesNodes s t room NotRegistered = HasUnwritten s t
 RefusesNodes s t room _ = ⊥
 
@@ -95,7 +98,7 @@ RefusesGathering s t room c e = RefusesNodes s t room e
 -- message.
 abbrev pub RefusesLayout : SessionMeaning → SerializeOptions → Tree → Context → WireError → Type 0
 RefusesLayout s options t c OutOfMemory = Unit {0}
-RefusesLayout s options t c WireLimit = KeepsTreeLimits options (wire codec s t) → ⊥
+RefusesLayout s options t c WireLimit = HasMessages t → KeepsTreeLimits options (wire codec s t) → ⊥
 RefusesLayout s options t c NotRegistered = HasUnwritten s t
 RefusesLayout s options t c NotPermitted = grown_by (ids_in (wire codec s t)) c ≡ None
 RefusesLayout s options t c _ = ⊥

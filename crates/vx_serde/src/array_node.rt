@@ -36,8 +36,8 @@ impl<'a> ArrayNodeFlatBuffer<'a> {
     /// The array, where each of its nodes can be written. Nothing is taken into the context yet.
     ///
     /// # Errors
-    /// `WireLimit` where the array has over 62 levels, and `NotRegistered` where nothing writes the arrays of a
-    /// node's encoding.
+    /// `WireLimit` where the array has over 62 levels or a node's metadata does not fit its message, and
+    /// `NotRegistered` where nothing writes the arrays of a node's encoding.
     pub fn try_new(
         alloc: Global,
         ctx: &'a mut ArrayContext,
@@ -89,9 +89,6 @@ impl<'a> ArrayNodeFlatBuffer<'a> {
         ensures cause { (x : ExtMeaning) → let s = tables_meaning self.old.arrays.now x in
             IfErr result (RefusesBlocks s self.old.array.now self.old.ctx.now builder.old) }
     {
-        let Ok(()) = self.array.validate() else {
-            unreachable!();
-        };
         let mut found = Gathered::new(alloc);
         gather(
             alloc,

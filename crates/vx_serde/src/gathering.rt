@@ -1,20 +1,19 @@
 //! What the nodes of an array bring along when it is written: their buffers, and the numbers of their encodings.
 
 ghost use Rattle.std.specs.Prelude.{◌≡◌, ◌≤◌, ◌++◌, ◌∷◌, [], ℕ, List, Some, OnOk, IfOk, IfErr, IsOkUnless};
-ghost use Rattle.vx_trees.specs.Rose.{label};
+ghost use Rattle.vx_trees.specs.Rose.{label, below};
 ghost use Rattle.vx_trees.specs.Walks.{levels};
 ghost use Rattle.vx_types.specs.Known.{ExtMeaning};
-ghost use Rattle.vx_array_tree.specs.Sound.{IsSound};
 ghost use Rattle.vx_array_tree.specs.Table.{buffers_of};
 ghost use Rattle.vx_wire_tree.specs.Context.{grown_by, index_of};
-ghost use Rattle.vx_wire_tree.specs.Limits.{HasMessages};
+ghost use Rattle.vx_wire_tree.specs.Limits.{HasMessage, HasMessages};
 ghost use Rattle.vx_wire_tree.specs.ReadBack.{IsWritten};
 ghost use Rattle.vx_wire_tree.specs.Session.{SessionMeaning};
 ghost use Rattle.vx_wire_tree.specs.Wire.{ids_in, buffers_in};
 ghost use Rattle.vx_wire_tree.specs.Written.{wire};
 ghost use Rattle.vx_encodings.specs.Messages.{codec};
 ghost use Rattle.vx_registry.specs.Serialization.{array_id};
-ghost use Rattle.vx_registry.specs.Session.{tables_meaning, ArePaired};
+ghost use Rattle.vx_registry.specs.Session.{tables_meaning};
 ghost use Rattle.vx_serde.specs.Blocks.{encodings_in};
 ghost use Rattle.vx_serde.specs.KeptContext.{KeepsContext};
 ghost use Rattle.vx_serde.specs.WritingSteps.{RefusesNode, RefusesNodes, RefusesRoot, RefusesGathering, HasEntry};
@@ -23,6 +22,7 @@ use crate::error::WireError;
 use std::alloc::Global;
 use vx_arrays::Array;
 use vx_buffer::{BufferError, BufferHandles};
+use vx_encodings::has_message;
 use vx_registry::{ArrayContext, ArraySession};
 use vx_types::Id;
 
@@ -46,13 +46,17 @@ impl Gathered {
     }
 }
 
-/// The identifier of a root's encoding, where something writes the arrays of the encoding.
+/// The identifier of a root's encoding, where the root's metadata fits its message and something writes the arrays of the
+/// encoding.
 fn written_id(alloc: Global, array: &Array, arrays: &ArraySession) -> Result<Id, WireError>
     ensures id { IfOk result (λ id. id ≡ array_id array.now) }
     ensures found { OnOk result (HasEntry arrays.now array.now) }
-    ensures paired { OnOk result (ArePaired arrays.now) }
+    ensures message { OnOk result (HasMessage (label array.now) (below array.now)) }
     ensures cause { IfErr result (RefusesNode arrays.now array.now) }
 {
+    if !has_message(array) {
+        return Err(WireError::WireLimit);
+    }
     let Ok(id) = Id::new(alloc, array.encoding_id()) else {
         return Err(WireError::OutOfMemory);
     };
@@ -62,8 +66,8 @@ fn written_id(alloc: Global, array: &Array, arrays: &ArraySession) -> Result<Id,
     }
 }
 
-/// Judges whether the nodes of an array can be written: `WireLimit` where there are more than `room` levels,
-/// `NotRegistered` where nothing writes the arrays of a node's encoding.
+/// Judges whether the nodes of an array can be written: `WireLimit` where there are more than `room` levels or a node's
+/// metadata does not fit its message, `NotRegistered` where nothing writes the arrays of a node's encoding.
 #[tactic(auto, using(vx_trees::proofs::Roses::roses))]
 pub(crate) fn judge(
     alloc: Global,
@@ -93,7 +97,7 @@ fn encoding_number(
     ctx: &mut ArrayContext,
 ) -> Result<u16, WireError>
     ensures found { OnOk result (HasEntry arrays.now array.now) }
-    ensures paired { OnOk result (ArePaired arrays.now) }
+    ensures message { OnOk result (HasMessage (label array.now) (below array.now)) }
     ensures grown { OnOk result (grown_by (array_id array.now ∷ []) ctx.old ≡ Some ctx.new) }
     ensures number { IfOk result (λ n. (more : List (List ℕ)) → index_of (array_id array.now) (ctx.new.ids ++ more) ≡ n) }
     ensures kept { KeepsContext (array_id array.now ∷ []) ctx.old ctx.new }
@@ -128,7 +132,7 @@ fn push_root(
     ensures buffers { OnOk result (found.new.buffers ≡ found.old.buffers ++ buffers_of (label array.now).body) }
     ensures encodings { (more : List (List ℕ)) → OnOk result (found.new.encodings.items ≡ found.old.encodings.items ++ index_of (array_id array.now) (ctx.new.ids ++ more) ∷ []) }
     ensures found { OnOk result (HasEntry arrays.now array.now) }
-    ensures paired { OnOk result (ArePaired arrays.now) }
+    ensures message { OnOk result (HasMessage (label array.now) (below array.now)) }
     ensures grown { OnOk result (grown_by (array_id array.now ∷ []) ctx.old ≡ Some ctx.new) }
     ensures kept { KeepsContext (array_id array.now ∷ []) ctx.old ctx.new }
     ensures cause { IfErr result (RefusesRoot arrays.now array.now ctx.old) }
@@ -140,8 +144,9 @@ fn push_root(
 }
 
 /// What an array's nodes bring along in preorder, behind what was found. Their identifiers are taken into the context
-/// in preorder. `WireLimit` where there are more than `room` levels, `NotRegistered` where nothing writes the arrays
-/// of a node's encoding, `NotPermitted` where the context does not take an identifier.
+/// in preorder. `WireLimit` where there are more than `room` levels or a node's metadata does not fit its message,
+/// `NotRegistered` where nothing writes the arrays of a node's encoding, `NotPermitted` where the context does not take
+/// an identifier.
 #[tactic(auto, using(vx_trees::proofs::Roses::roses))]
 pub(crate) fn gather(
     alloc: Global,
@@ -151,7 +156,6 @@ pub(crate) fn gather(
     ctx: &mut ArrayContext,
     found: &mut Gathered,
 ) -> Result<(), WireError>
-    requires { IsSound array.now }
     ensures buffers { (s : SessionMeaning) → OnOk result (found.new.buffers ≡ found.old.buffers ++ buffers_in (wire codec s array.now)) }
     ensures encodings { (s : SessionMeaning) (more : List (List ℕ)) → OnOk result (found.new.encodings.items ≡ found.old.encodings.items ++ encodings_in (ctx.new.ids ++ more) (wire codec s array.now)) }
     ensures levels { OnOk result (levels array.now ≤ room) }

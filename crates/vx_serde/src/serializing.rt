@@ -54,9 +54,6 @@ impl ArrayExt for Array {
         ensures cause { let s = session_meaning (λ b. accepted (b.vtable, b.value)) session.now in
             IfErr result (RefusesArray s self.now ctx.old options.now) }
     {
-        let Ok(()) = self.validate() else {
-            unreachable!();
-        };
         write_array(alloc, self, &session.arrays, ctx, options)
     }
 }

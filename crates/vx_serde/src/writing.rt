@@ -11,7 +11,6 @@ ghost use Rattle.vx_flat.specs.Value.{Fields};
 ghost use Rattle.vx_flat.specs.Weight as weigh;
 ghost use Rattle.vx_trees.specs.Walks.{nodes};
 ghost use Rattle.vx_types.specs.Known.{ExtMeaning};
-ghost use Rattle.vx_array_tree.specs.Sound.{IsSound};
 ghost use Rattle.vx_wire_tree.specs.Context.{grown_by};
 ghost use Rattle.vx_wire_tree.specs.Limits.{AreDescribable, HasMessages};
 ghost use Rattle.vx_wire_tree.specs.ReadBack.{IsWritten, HasStorableStats};
@@ -152,7 +151,6 @@ fn place(
     ctx: &mut ArrayContext,
     options: &SerializeOptions,
 ) -> Result<(Gathered, LaidOut), WireError>
-    requires { IsSound array.now }
     ensures buffers { (s : SessionMeaning) → IfOk result (λ p. p.0.buffers ≡ buffers_in (wire codec s array.now)) }
     ensures encodings { (s : SessionMeaning) → IfOk result (λ p. p.0.encodings.items ≡ encodings_in ctx.new.ids (wire codec s array.now)) }
     ensures placed { (s : SessionMeaning) → IfOk result (λ p. IsLaidOut options.now (wire codec s array.now) p.1.descriptors.items p.1.end) }
@@ -192,7 +190,6 @@ pub(crate) fn write_array(
     ctx: &mut ArrayContext,
     options: &SerializeOptions,
 ) -> Result<ByteBuffers, WireError>
-    requires { IsSound array.now }
     ensures made { (x : ExtMeaning) → IfOk result (λ bs. IsSerialized (tables_meaning arrays.now x) array.now options.now ctx.old ctx.new bs) }
     ensures kept { (s : SessionMeaning) → KeepsContext (ids_in (wire codec s array.now)) ctx.old ctx.new }
     ensures cause { (x : ExtMeaning) → IfErr result (RefusesArray (tables_meaning arrays.now x) array.now ctx.old options.now) }

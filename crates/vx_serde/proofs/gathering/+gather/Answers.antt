@@ -1,10 +1,6 @@
-use Rattle.std.proofs.Common.{◌-◌, ◌++◌, ◌∷◌, [], arith, ap, sym, ◌∙◌, rules}
+use Rattle.std.proofs.Common.{◌-◌, ◌++◌, ◌∷◌, [], arith, ap, sym, ◌∙◌}
 use Rattle.std.proofs.lemmas.Result.{err_from_is_err_and}
 use Rattle.vx_trees.proofs.Counting.{levels-more}
-use Rattle.vx_trees.proofs.Holding.{everywhere-parts}
-use Rattle.vx_trees.proofs.Roses.{roses}
-use Rattle.vx_types.specs.Known.{no_readers}
-use Rattle.vx_array_tree.specs.Sound.{IsSoundNode}
 use Rattle.vx_wire_tree.specs.Context.{index_of}
 use Rattle.vx_wire_tree.specs.Limits.{HasMessage}
 use Rattle.vx_wire_tree.specs.ReadBack.{IsWrittenNode}
@@ -14,15 +10,11 @@ use Rattle.vx_encodings.specs.Messages.{codec}
 use Rattle.vx_registry.specs.Serialization.{array_id}
 use Rattle.vx_registry.specs.Session.{tables_meaning}
 use Rattle.vx_serde.specs.Numbered.{encoding_index}
-use Rattle.vx_serde.proofs.Gathered.{everywhere-next, everywhere-all, everywhere-child, node-message, root-refused, child-ungathered, levels_of, longer-ids}
+use Rattle.vx_serde.proofs.Gathered.{everywhere-next, everywhere-all, root-refused, child-ungathered, levels_of, longer-ids}
 use Rattle.vx_serde.proofs.Growing.{kept-grown}
 use Rattle.vx_serde.proofs.GrownNodes.{kept-own, kept-child, kept-front, grown-child, grown-whole}
 use Rattle.vx_serde.proofs.WiredNodes.{wired, wired-below, wired-at, wired-within, wired-past, gathered_first, gathered-next, gathered-all, own-buffers, own-grown, own-kept, own-index}
 use Rattle.vx_serde.proofs.gathering.+gather.Goals as goal
-
-pub gather-requires : goal.gather-requires
-gather-requires t c =
-    (search (rules, roses), everywhere-child IsSoundNode c.args.array.now c.children-child-items.result.now c.loop-child.child-index c.child-item.result c.loop-child-test.true c.child-item.is c.children-child-items.ensures.children c.children-child-items.ensures.sound)
 
 pub returns-in_err-push_root-clause-kept : goal.returns-in_err-push_root-clause-kept
 returns-in_err-push_root-clause-kept t c = λ s.
@@ -98,9 +90,8 @@ returns-clause-encodings t c = λ s more.
 pub returns-clause-messages : goal.returns-clause-messages
 returns-clause-messages t c =
     let a = c.args.array.now in
-    let sound = (everywhere-parts IsSoundNode a c.requires).0 in
     everywhere-all HasMessage a c.children-child-items.result.now c.loop-child.child-index (omega (arith, c.loop-child-test.false)) c.children-child-items.ensures.children
-    (node-message c.args.arrays.now a c.in_ok-push_root.ensures.found c.in_ok-push_root.ensures.paired sound no_readers) c.loop-child.invariant.messages
+    c.in_ok-push_root.ensures.message c.loop-child.invariant.messages
 
 pub returns-clause-grown : goal.returns-clause-grown
 returns-clause-grown t c = λ s.

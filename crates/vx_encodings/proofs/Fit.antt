@@ -1,0 +1,55 @@
+-- That a root's metadata fits its message, by what the root holds.
+use Rattle.std.proofs.Common.{◌≡◌, sym, ap, ◌∙◌, subst}
+use Rattle.vx_trees.specs.Rose.{label, below}
+use Rattle.vx_array_tree.specs.Body as B
+use Rattle.vx_array_tree.specs.Encodings.Bools as Bools
+use Rattle.vx_array_tree.specs.Encodings.Decimals as Decimals
+use Rattle.vx_array_tree.specs.Encodings.Primitives as Primitives
+use Rattle.vx_array_tree.specs.Encodings.VarBins as VarBins
+use Rattle.vx_array_tree.specs.Encodings.VarBinViews as VarBinViews
+use Rattle.vx_array_tree.specs.Table.{metadata_of}
+use Rattle.vx_array_tree.specs.Tree.{Tree, places}
+use Rattle.vx_wire_tree.specs.Fields.{FitsMessage}
+use Rattle.vx_wire_tree.specs.Limits.{HasMessage}
+use Rattle.vx_arrays.specs.Plain.{plain_body}
+use Rattle.vx_arrays.specs.declared.body.Body.{Body}
+use Rattle.vx_arrays.specs.declared.body.Body.TheVariants.{Null, Bool, Primitive, Decimal, VarBin, VarBinView, FixedSizeList, Struct, Ext}
+
+-- The metadata of a root that holds this fits its message.
+abbrev pub KeepsFit : Tree → B.Body → Type 0
+KeepsFit t b = FitsMessage (metadata_of b (places (below t)))
+
+root : (t : Tree) (b c : Body) → b ≡ c → plain_body b ≡ (label t).body → KeepsFit t (plain_body c) → HasMessage (label t) (below t)
+root t b c e p h =
+    let P : B.Body → Type 0 = λ x. KeepsFit t x in
+    subst P (ap (λ (x : Body). plain_body x) (sym e) ∙ p) h
+
+pub nulls_fit : (t : Tree) (b : Body) → b ≡ Null → plain_body b ≡ (label t).body → HasMessage (label t) (below t)
+nulls_fit t b e p = root t b Null e p tt
+
+pub flags_fit : (t : Tree) (b : Body) (x : Bools.Data) → b ≡ Bool x → plain_body b ≡ (label t).body → HasMessage (label t) (below t)
+flags_fit t b x e p = root t b (Bool x) e p tt
+
+pub numbers_fit : (t : Tree) (b : Body) (x : Primitives.Data) → b ≡ Primitive x → plain_body b ≡ (label t).body → HasMessage (label t) (below t)
+numbers_fit t b x e p = root t b (Primitive x) e p tt
+
+pub decimals_fit : (t : Tree) (b : Body) (x : Decimals.Data) → b ≡ Decimal x → plain_body b ≡ (label t).body → HasMessage (label t) (below t)
+decimals_fit t b x e p = root t b (Decimal x) e p tt
+
+pub kinds_fit : (t : Tree) (b : Body) (x : VarBins.Data) → b ≡ VarBin x → plain_body b ≡ (label t).body → HasMessage (label t) (below t)
+kinds_fit t b x e p = root t b (VarBin x) e p tt
+
+pub views_fit : (t : Tree) (b : Body) (x : VarBinViews.Data) → b ≡ VarBinView x → plain_body b ≡ (label t).body → HasMessage (label t) (below t)
+views_fit t b x e p = root t b (VarBinView x) e p tt
+
+pub lists_fit : (t : Tree) (b : Body) → b ≡ FixedSizeList → plain_body b ≡ (label t).body → HasMessage (label t) (below t)
+lists_fit t b e p = root t b FixedSizeList e p tt
+
+pub structures_fit : (t : Tree) (b : Body) → b ≡ Struct → plain_body b ≡ (label t).body → HasMessage (label t) (below t)
+structures_fit t b e p = root t b Struct e p tt
+
+pub extensions_fit : (t : Tree) (b : Body) → b ≡ Ext → plain_body b ≡ (label t).body → HasMessage (label t) (below t)
+extensions_fit t b e p = root t b Ext e p tt
+
+-- What the test of a root's metadata rests on.
+pub ruleset fit = (nulls_fit, flags_fit, numbers_fit, decimals_fit, kinds_fit, views_fit, lists_fit, structures_fit, extensions_fit)
