@@ -1,6 +1,6 @@
 -- The metadata of lists: bytes that show how many elements there are and a kind of integers, whatever the type and the
 -- readers.
-use Rattle.std.proofs.Common.{ℕ, ◌≡◌, ◌^◌, ◌≤◌, ◌<◌, ◌==◌, ◌++◌, Bool, true, false, if◌then◌else◌, List, [], length, length-append, IsTrue, refl, sym, ap, ◌∙◌, subst, arith}
+use Rattle.std.proofs.Common.{ℕ, ◌≡◌, ◌^◌, ◌≤◌, ◌<◌, ◌==◌, ◌+◌, ◌++◌, Bool, true, false, if◌then◌else◌, List, [], length, length-append, IsTrue, refl, sym, ap, ◌∙◌, subst, arith}
 use Rattle.vx_types.specs.Known.{ExtMeaning}
 use Rattle.vx_types.specs.Numbers.{code_of, is_integer}
 use Rattle.vx_types.specs.Typ.{Typ}
@@ -37,7 +37,7 @@ one_count_and_kind bytes f g a b =
 
 -- A number of elements below 2^64 and a kind have the form of the message.
 pub list_formed : (n : ℕ) (p : PType) → n < 2 ^ 64 → HasForm list_schema 0 (list_value n p)
-list_formed n p lt = whole_form list_schema 0 list_parts (n, code_of p, tt) ((n, refl, lt), (code_of p, refl, few_kinds p), tt)
+list_formed n p lt = whole_form list_schema 0 list_parts (n, (code_of p, tt)) ((n, refl, lt), ((code_of p, refl, few_kinds p), tt))
 
 -- Each of its two fields is a key and a varint at most.
 left_out : (b c : Bool) (s t : List ℕ) → length ((if b then [] else s) ++ (if c then [] else t) ++ []) ≤ length s + length t

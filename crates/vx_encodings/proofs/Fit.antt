@@ -1,19 +1,21 @@
 -- That a root's metadata fits its message, by what the root holds.
-use Rattle.std.proofs.Common.{◌≡◌, sym, ap, ◌∙◌, subst}
+use Rattle.std.proofs.Common.{ℕ, ◌≡◌, ◌<◌, ◌^◌, Bool, sym, ap, ◌∙◌, subst}
+use Rattle.std.specs.Prelude.{IsTrue, IsFalse}
 use Rattle.vx_trees.specs.Rose.{label, below}
 use Rattle.vx_array_tree.specs.Body as B
 use Rattle.vx_array_tree.specs.Encodings.Bools as Bools
 use Rattle.vx_array_tree.specs.Encodings.Decimals as Decimals
+use Rattle.vx_array_tree.specs.Encodings.Lists as Lists
 use Rattle.vx_array_tree.specs.Encodings.Primitives as Primitives
 use Rattle.vx_array_tree.specs.Encodings.VarBins as VarBins
 use Rattle.vx_array_tree.specs.Encodings.VarBinViews as VarBinViews
 use Rattle.vx_array_tree.specs.Table.{metadata_of}
-use Rattle.vx_array_tree.specs.Tree.{Tree, places}
+use Rattle.vx_array_tree.specs.Tree.{Tree, Trees, places}
 use Rattle.vx_wire_tree.specs.Fields.{FitsMessage}
 use Rattle.vx_wire_tree.specs.Limits.{HasMessage}
 use Rattle.vx_arrays.specs.Plain.{plain_body}
 use Rattle.vx_arrays.specs.declared.body.Body.{Body}
-use Rattle.vx_arrays.specs.declared.body.Body.TheVariants.{Null, Bool, Primitive, Decimal, VarBin, VarBinView, FixedSizeList, Struct, Ext}
+use Rattle.vx_arrays.specs.declared.body.Body.TheVariants.{Null, Bool, Primitive, Decimal, VarBin, VarBinView, FixedSizeList, Struct, Ext, List as ListOf}
 
 -- The metadata of a root that holds this fits its message.
 abbrev pub KeepsFit : Tree → B.Body → Type 0
@@ -51,5 +53,14 @@ structures_fit t b e p = root t b Struct e p tt
 pub extensions_fit : (t : Tree) (b : Body) → b ≡ Ext → plain_body b ≡ (label t).body → HasMessage (label t) (below t)
 extensions_fit t b e p = root t b Ext e p tt
 
+module _ (t : Tree) (b : Body) (us : Trees) (r : Bool) (e : b ≡ ListOf) (p : plain_body b ≡ (label t).body) (u : us ≡ below t) where
+  pub counts_fit : (IsTrue r → (Lists.metadata_of (places us)).elements_len < 2 ^ 64) → IsTrue r → HasMessage (label t) (below t)
+  counts_fit h x = root t b ListOf e p (subst (λ (ts : Trees). (Lists.metadata_of (places ts)).elements_len < 2 ^ 64) u (h x))
+
+  pub counts_over : (IsFalse r → (Lists.metadata_of (places us)).elements_len < 2 ^ 64 → ⊥) → IsFalse r → HasMessage (label t) (below t) → ⊥
+  counts_over h x m =
+      let P : B.Body → Type 0 = λ z. KeepsFit t z in
+      h x (subst (λ (ts : Trees). (Lists.metadata_of (places ts)).elements_len < 2 ^ 64) (sym u) (subst P (sym (ap (λ (z : Body). plain_body z) (sym e) ∙ p)) m))
+
 -- What the test of a root's metadata rests on.
-pub ruleset fit = (nulls_fit, flags_fit, numbers_fit, decimals_fit, kinds_fit, views_fit, lists_fit, structures_fit, extensions_fit)
+pub ruleset fit = (nulls_fit, flags_fit, numbers_fit, decimals_fit, kinds_fit, views_fit, lists_fit, structures_fit, extensions_fit, counts_fit, counts_over)

@@ -19,7 +19,7 @@ abbrev pub list_schema : Schema
 list_schema = (plain 1 Uint64 ∷ plain 2 (Enum 11) ∷ []) ∷ []
 
 -- How its slots are numbers.
-abbrev pub list_parts : Parts (HasForm list_schema) (list_at list_schema 0) (ℕ × ℕ × Unit {0}) (Both (InRange (numbers Uint64 tt)) (Both (InRange (numbers (Enum 11) tt)) (λ _. Unit {0})))
+abbrev pub list_parts : Parts (HasForm list_schema) (list_at list_schema 0) (ℕ × (ℕ × Unit {0})) (Both (InRange (numbers Uint64 tt)) (Both (InRange (numbers (Enum 11) tt)) (λ _. Unit {0})))
 list_parts = plain_part 1 (numbers Uint64 tt) and plain_part 2 (numbers (Enum 11) tt) and nothing
 
 -- The plain value of the message of a number of elements and a kind.
@@ -39,7 +39,7 @@ list_bytes n p = written list_schema 0 (list_value n p)
 
 -- A plain value is of one number of elements and one kind.
 pub same_count : (n m : ℕ) (p q : PType) → list_value n p ≡ list_value m q → n ≡ m
-same_count n m p q e = ap (λ (x : ℕ × ℕ × Unit {0}). x.0) (list_parts.same (n, code_of p, tt) (m, code_of q, tt) e)
+same_count n m p q e = ap (λ (x : ℕ × (ℕ × Unit {0})). x.0) (list_parts.same (n, (code_of p, tt)) (m, (code_of q, tt)) e)
 
 pub same_kinds : (n m : ℕ) (p q : PType) → list_value n p ≡ list_value m q → p ≡ q
-same_kinds n m p q e = one_kind_of_code p q (ap (λ (x : ℕ × ℕ × Unit {0}). x.1) (list_parts.same (n, code_of p, tt) (m, code_of q, tt) e))
+same_kinds n m p q e = one_kind_of_code p q (ap (λ (x : ℕ × (ℕ × Unit {0})). x.1.0) (list_parts.same (n, (code_of p, tt)) (m, (code_of q, tt)) e))

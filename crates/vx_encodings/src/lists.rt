@@ -1,7 +1,7 @@
 //! Nodes of lists: how many elements there are and the kind of the offsets as metadata, no buffers, and below the elements,
 //! the offsets and a validity that may stand.
 
-ghost use Rattle.std.specs.Prelude.{suc, ◌≡◌, ◌∷◌, [], ◌<◌, ◌^◌, Some, IfOk, IfErr, IsOkUnless, refl};
+ghost use Rattle.std.specs.Prelude.{suc, ◌≡◌, ◌∷◌, [], ◌<◌, ◌^◌, Some, IfOk, IfErr, IsOkUnless, IsTrue, IsFalse, refl};
 ghost use Rattle.std.proofs.Common.{arith};
 ghost use Rattle.vx_trees.specs.Rose.{roses_of};
 ghost use Rattle.vx_types.specs.Known.{ExtMeaning};
@@ -10,7 +10,7 @@ ghost use Rattle.vx_array_tree.specs.Encodings.Lists.{metadata_of};
 ghost use Rattle.vx_array_tree.specs.Place.{before_validity, is_len, numbers, place, when};
 ghost use Rattle.vx_array_tree.specs.Sound.{IsSound};
 ghost use Rattle.vx_array_tree.specs.Tree.{places};
-ghost use Rattle.vx_encodings.specs.ListMessage.{list_schema, list_value, list_bytes};
+ghost use Rattle.vx_encodings.specs.ListMessage.{list_schema, list_value, list_bytes, same_count, same_kinds};
 ghost use Rattle.vx_encodings.specs.Steps.{IsPlanned, IsUnplanned, IsBuilt, IsUnbuilt, IsWithoutPlan};
 ghost use Rattle.vx_encodings.specs.declared.encoding.Encoding.TheVariants.{List};
 
@@ -81,6 +81,12 @@ impl Message for ListMetadata {
         let kind = one(alloc, 2, Element::Number(self.offset_ptype.code() as u64))?;
         Ok(vec![in alloc; count, kind]?)
     }
+
+    ghost lawful = { refl };
+
+    ghost placed = { Prim.omega arith };
+
+    ghost determined = { λ m n p q e. λ i. record { elements_len = same_count m.elements_len n.elements_len m.offset_ptype n.offset_ptype e i; offset_ptype = same_kinds m.elements_len n.elements_len m.offset_ptype n.offset_ptype e i } };
 }
 
 // What the children of a node of lists are to be: elements, one offset more than rows, and at most a validity.
@@ -160,6 +166,15 @@ pub(crate) fn metadata(alloc: Global, children: &[Array]) -> Result<Blob, Encodi
             offset_ptype,
         },
     )
+}
+
+// Whether how many elements there are fits the message: it does, since arrays are counted in 64 bits.
+pub(crate) fn has_message(children: &[Array]) -> bool
+    ensures fits { IsTrue result → (metadata_of (places (roses_of children.now))).elements_len < 2 ^ 64 }
+    ensures over { IsFalse result → (metadata_of (places (roses_of children.now))).elements_len < 2 ^ 64 → ⊥ }
+{
+    let _count = count_of(children);
+    true
 }
 
 // How many elements there are.

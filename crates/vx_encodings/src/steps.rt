@@ -164,5 +164,6 @@ pub fn has_message(array: &Array) -> bool
         Body::FixedSizeList => true,
         Body::Struct => true,
         Body::Ext => true,
+        Body::List => lists::has_message(array.children()),
     }
 }
