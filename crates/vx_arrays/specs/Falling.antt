@@ -8,7 +8,7 @@ use Rattle.vx_arrays.specs.Falls.{value_size}
 use Rattle.vx_arrays.specs.Plain.{plain_value, plain_values}
 use Rattle.vx_arrays.specs.declared.row.RowValue.{RowValue}
 use Rattle.vx_arrays.specs.declared.row.RowValue.TheVariants.{Null, Opaque, Bool, Primitive, Decimal, Utf8, Binary, Tuple, Union}
-use Rattle.vx_arrays.specs.declared.row_values.RowValues.TheDeep.{deep-RowValue}
+use Rattle.vx_arrays.specs.declared.row_ref.RowRef.TheDeep.{deep-RowValue}
 
 pub deep_le-size : (v : RowValue) → max (deep-RowValue v) 0 ≤ value_size (plain_value v)
 deep_le-size Null = omega arith
