@@ -22,3 +22,4 @@ mod StructSteps
 mod ExtensionSteps
 mod ElementCounts
 mod ListSteps
+mod UnionSteps
