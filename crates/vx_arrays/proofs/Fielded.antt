@@ -36,7 +36,7 @@ exactly_count (p ∷ ps) (suc k) qs e =
     let m = mapped (λ (rs : List Place). p ∷ rs) (exactly ps k) qs e in
     ap (λ n. suc n) (exactly_count ps k m.0 m.2)
 
-exactly_self : (ps : List Place) → exactly ps (length ps) ≡ Some ps
+pub exactly_self : (ps : List Place) → exactly ps (length ps) ≡ Some ps
 exactly_self [] = refl
 exactly_self (p ∷ ps) = ap (λ (o : Option (List Place)). option_map (λ qs. p ∷ qs) o) (exactly_self ps)
 

@@ -8,6 +8,9 @@ use Rattle.vx_types.specs.Value.{Value}
 abbrev pub value_size : Value → ℕ
 value_size v = 4 * nodes v
 
+abbrev pub ref_size : Value → ℕ
+ref_size v = 4 * nodes v + 1
+
 abbrev pub values_size : List Value → ℕ
 values_size vs = 4 * nodes_of (roses_of vs) + 3
 

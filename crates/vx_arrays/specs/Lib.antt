@@ -10,6 +10,7 @@ pub mod FixedSizeLists
 pub mod Extensions
 pub mod Lists
 pub mod Structs
+pub mod Unions
 pub mod Places
 pub mod Validity
 pub mod Slots

@@ -1,6 +1,6 @@
 -- Arrays and rows as the plain trees and values that contracts see.
 use Rattle.std.specs.Prelude.{ℕ, List, map as each}
-use Rattle.vx_trees.specs.Rose.{node, roses_of}
+use Rattle.vx_trees.specs.Rose.{node, end, more, roses_of}
 use Rattle.vx_types.specs.Typ.{Typ}
 use Rattle.vx_types.specs.Value.{Value, lone}
 use Rattle.vx_types.specs.Value as V
@@ -9,7 +9,7 @@ use Rattle.vx_array_tree.specs.Tree.{Head}
 use Rattle.vx_scalars.specs.Decimals.{decimal_of}
 use Rattle.vx_scalars.specs.Stats.{Stats}
 use Rattle.vx_arrays.specs.declared.body.Body.{Body}
-use Rattle.vx_arrays.specs.declared.body.Body.TheVariants.{Null, Primitive, Bool, Decimal, VarBin, VarBinView, FixedSizeList, Struct, Ext, List as ListOf}
+use Rattle.vx_arrays.specs.declared.body.Body.TheVariants.{Null, Primitive, Bool, Decimal, VarBin, VarBinView, FixedSizeList, Struct, Ext, List as ListOf, Union}
 use Rattle.vx_arrays.specs.declared.row.RowValue.{RowValue}
 use Rattle.vx_arrays.specs.declared.row.RowValue.TheVariants as R
 
@@ -25,6 +25,7 @@ plain_body FixedSizeList = B.fixed_size_list
 plain_body Struct = B.struct
 plain_body Ext = B.ext
 plain_body ListOf = B.list
+plain_body Union = B.union
 
 -- A node without its children, by its type, its rows, what is told of them, and what its encoding holds.
 abbrev pub head_of : Typ → ℕ → Stats → Body → Head
@@ -40,6 +41,7 @@ plain_value (R.Decimal x) = lone (V.decimal (decimal_of x))
 plain_value (R.Utf8 text) = lone (V.utf8 text)
 plain_value (R.Binary bytes) = lone (V.binary bytes)
 plain_value (R.Tuple values) = node V.tuple (roses_of values)
+plain_value (R.Union tag row) = node (V.union tag) (more row end)
 
 -- The values of rows, in their order.
 abbrev pub plain_values : List RowValue → List Value

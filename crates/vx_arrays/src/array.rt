@@ -29,6 +29,7 @@ use crate::null::NullArray;
 use crate::parts::{LoneRow, RowParts, built};
 use crate::row::RowValue;
 use crate::structs::StructArray;
+use crate::union::{UnionArray, tags_in};
 use crate::validity::validity_at;
 use std::alloc::Global;
 use std::marker::Model;
@@ -237,6 +238,10 @@ impl Array {
                 let storage = storage_in(&self.dtype, self.len, self.children.as_slice());
                 storage.is_valid(index)
             }
+            Body::Union => {
+                let tags = tags_in(&self.dtype, self.len, self.children.as_slice());
+                tags.is_valid(index)
+            }
         }
     }
 
@@ -253,7 +258,7 @@ impl Array {
             Body::Decimal(_) => None,
             Body::VarBin(_) => None,
             Body::VarBinView(_) => None,
-            Body::FixedSizeList | Body::Struct | Body::Ext | Body::List => None,
+            Body::FixedSizeList | Body::Struct | Body::Ext | Body::List | Body::Union => None,
         }
     }
 
@@ -271,7 +276,7 @@ impl Array {
             Body::Decimal(_) => None,
             Body::VarBin(_) => None,
             Body::VarBinView(_) => None,
-            Body::FixedSizeList | Body::Struct | Body::List => None,
+            Body::FixedSizeList | Body::Struct | Body::List | Body::Union => None,
             Body::Ext => {
                 let storage = storage_in(&self.dtype, self.len, children);
                 storage.natural_at(index)
@@ -301,6 +306,7 @@ impl Array {
             Body::FixedSizeList => FixedSizeListArray::parts_at(dtype, len, children, index),
             Body::Struct => StructArray::parts_at(dtype, len, children, index),
             Body::List => ListArray::parts_at(dtype, len, children, index),
+            Body::Union => UnionArray::parts_at(dtype, len, children, index),
             Body::Ext => {
                 let array = storage_in(dtype, len, children);
                 RowParts::At { array, index }
@@ -365,6 +371,7 @@ impl Array {
             Body::Struct => without_buffers(alloc, dtype, len, Body::Struct, children, buffers),
             Body::Ext => without_buffers(alloc, dtype, len, Body::Ext, children, buffers),
             Body::List => without_buffers(alloc, dtype, len, Body::List, children, buffers),
+            Body::Union => without_buffers(alloc, dtype, len, Body::Union, children, buffers),
         }
     }
 

@@ -13,6 +13,7 @@ use crate::lists::ListArray;
 use crate::null::NullArray;
 use crate::primitive::{PrimitiveArray, PrimitiveData};
 use crate::structs::StructArray;
+use crate::union::UnionArray;
 use crate::varbin::{VarBinArray, VarBinData};
 use crate::varbinview::{VarBinViewArray, VarBinViewData};
 use std::alloc::Global;
@@ -41,6 +42,8 @@ pub enum Body {
     Ext,
     /// Nothing: lists, parted by offsets.
     List,
+    /// Nothing: unions.
+    Union,
 }
 
 impl Body {
@@ -61,6 +64,7 @@ impl Body {
             Body::Struct => StructArray::ID,
             Body::Ext => ExtensionArray::ID,
             Body::List => ListArray::ID,
+            Body::Union => UnionArray::ID,
         }
     }
 
@@ -75,7 +79,7 @@ impl Body {
             Body::Decimal(_) => 1,
             Body::VarBin(_) => 1,
             Body::VarBinView(views) => views.nbuffers(),
-            Body::FixedSizeList | Body::Struct | Body::Ext | Body::List => 0,
+            Body::FixedSizeList | Body::Struct | Body::Ext | Body::List | Body::Union => 0,
         }
     }
 
@@ -85,9 +89,12 @@ impl Body {
         ensures { slice_get (buffers_of (plain_body self.now)) index ≡ Some result.now }
     {
         match self {
-            Body::Null | Body::FixedSizeList | Body::Struct | Body::Ext | Body::List => {
-                unreachable!()
-            }
+            Body::Null
+            | Body::FixedSizeList
+            | Body::Struct
+            | Body::Ext
+            | Body::List
+            | Body::Union => { unreachable!() }
             Body::Primitive(numbers) => numbers.values(),
             Body::Bool(flags) => flags.bits(),
             Body::Decimal(decimals) => decimals.values(),
@@ -111,6 +118,7 @@ impl Body {
             (Body::Struct, Body::Struct) => true,
             (Body::Ext, Body::Ext) => true,
             (Body::List, Body::List) => true,
+            (Body::Union, Body::Union) => true,
             _ => false,
         }
     }
@@ -131,6 +139,7 @@ impl Body {
             Body::Struct => Ok(Body::Struct),
             Body::Ext => Ok(Body::Ext),
             Body::List => Ok(Body::List),
+            Body::Union => Ok(Body::Union),
         }
     }
 }

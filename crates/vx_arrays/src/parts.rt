@@ -15,6 +15,7 @@ ghost use Rattle.vx_arrays.specs.Refused.{IsValueRefused};
 use crate::array::Array;
 use crate::error::ArrayError;
 use crate::row::{RowValue, owned_bytes, owned_text};
+use crate::row_ref::RowRef;
 use crate::row_values::RowValues;
 use std::alloc::Global;
 use vx_scalars::DecimalValue;
@@ -58,6 +59,12 @@ pub(crate) enum RowParts<'a> {
     // A tuple of each array's row of this number.
     Across {
         arrays: &'a [Array],
+        index: usize,
+    },
+    // A union of this tag and the row of another array.
+    Tagged {
+        tag: u8,
+        array: &'a Array,
         index: usize,
     },
 }
@@ -159,6 +166,11 @@ pub(crate) fn built(
             spend(0, budget)?;
             let values = across_values(alloc, arrays, index, budget)?;
             Ok(RowValue::Tuple(values))
+        }
+        RowParts::Tagged { tag, array, index } => {
+            spend(0, budget)?;
+            let value = array.row_within(alloc, index, budget)?;
+            Ok(RowValue::Union(tag, RowRef::new(alloc, value)?))
         }
     }
 }

@@ -3,6 +3,7 @@
 ghost use Rattle.std.specs.Prelude.{◌≡◌, IfOk, IsOkUnless};
 
 use crate::error::ArrayError;
+use crate::row_ref::RowRef;
 use crate::row_values::RowValues;
 use crate::same_values::is_same;
 use std::alloc::Global;
@@ -29,6 +30,8 @@ pub enum RowValue {
     Binary(Blob),
     /// A row of lists or of structures: the rows of its elements, or of its fields.
     Tuple(RowValues),
+    /// A row of unions: its tag, and the row of the member that this names.
+    Union(u8, RowRef),
 }
 
 impl PartialEq for RowValue {

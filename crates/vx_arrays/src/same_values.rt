@@ -20,6 +20,7 @@ pub(crate) fn is_same(a: &RowValue, b: &RowValue) -> bool
         (RowValue::Utf8(x), RowValue::Utf8(y)) => *x == *y,
         (RowValue::Binary(x), RowValue::Binary(y)) => *x == *y,
         (RowValue::Tuple(x), RowValue::Tuple(y)) => are_same(x.as_slice(), y.as_slice()),
+        (RowValue::Union(m, x), RowValue::Union(n, y)) => *m == *n && is_same(x.get(), y.get()),
         _ => false,
     }
 }

@@ -37,7 +37,12 @@ impl Array {
         ensures err { IsOkUnless result ArrayError.OutOfMemory }
     {
         match self.body() {
-            Body::Null | Body::FixedSizeList | Body::Struct | Body::Ext | Body::List => Ok(None),
+            Body::Null
+            | Body::FixedSizeList
+            | Body::Struct
+            | Body::Ext
+            | Body::List
+            | Body::Union => Ok(None),
             Body::Bool(_) => only_name(alloc, "bits", index),
             Body::Primitive(_) | Body::Decimal(_) => only_name(alloc, "values", index),
             Body::VarBin(_) => only_name(alloc, "bytes", index),
@@ -56,7 +61,7 @@ fn slots_of(dtype: &DType, body: &Body) -> usize
         Body::Ext => 1,
         Body::List => 3,
         Body::VarBin(_) | Body::FixedSizeList => 2,
-        Body::Struct => match members_of(dtype) {
+        Body::Struct | Body::Union => match members_of(dtype) {
             Some(names) => names.as_slice().len() + 1,
             None => 1,
         },
@@ -93,13 +98,29 @@ fn slot_of<'a>(dtype: &'a DType, body: &Body, index: usize) -> &'a str
         Body::FixedSizeList => { if index == 0 { "elements" } else { "validity" } }
         Body::Struct => {
             if index == 0 {
-                return "validity";
-            }
-            match members_of(dtype) {
-                Some(names) => names.as_slice()[index - 1].as_str(),
-                None => unreachable!(),
+                "validity"
+            } else {
+                member_of(dtype, index - 1)
             }
         }
+        Body::Union => {
+            if index == 0 {
+                "type_ids"
+            } else {
+                member_of(dtype, index - 1)
+            }
+        }
+    }
+}
+
+// The name of the field, or of the member, of this number.
+fn member_of(dtype: &DType, index: usize) -> &str
+    requires { index < length (member_names (typ dtype.now)) }
+    ensures { slice_get (member_names (typ dtype.now)) index ≡ Some result.now }
+{
+    match members_of(dtype) {
+        Some(names) => names.as_slice()[index].as_str(),
+        None => unreachable!(),
     }
 }
 

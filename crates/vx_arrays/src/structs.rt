@@ -181,7 +181,7 @@ fn is_front(nullability: Nullability, validity: &Array, len: usize) -> bool
 }
 
 // Whether arrays are the columns of fields of these types, each of so many rows.
-fn are_columns(types: &[DType], columns: &[Array], len: usize) -> bool
+pub(crate) fn are_columns(types: &[DType], columns: &[Array], len: usize) -> bool
     ensures { IsTrue result ↔ (places (roses_of columns.now) ≡ places_at (roses_of (typs types.now)) len) }
 {
     if types.len() != columns.len() {

@@ -32,6 +32,9 @@ struct_metadata x d bytes e = record { fields = F.empty; shown = nothing_shown b
 pub ext_metadata : (x : ExtMeaning) (d : Typ) (bytes : List ℕ) → bytes ≡ [] → IsMetadata codec x E.ext d bytes M.empty
 ext_metadata x d bytes e = record { fields = F.empty; shown = nothing_shown bytes e; meaning = refl; fair = tt; known = tt }
 
+pub union_metadata : (x : ExtMeaning) (d : Typ) (bytes : List ℕ) → bytes ≡ [] → IsMetadata codec x E.union d bytes M.empty
+union_metadata x d bytes e = record { fields = F.empty; shown = nothing_shown bytes e; meaning = refl; fair = tt; known = tt }
+
 fair_null : (v : Metadata) → IsFair E.null v → v ≡ M.empty
 fair_null M.empty f = refl
 fair_null _ f = absurd f
@@ -56,6 +59,10 @@ fair_ext : (v : Metadata) → IsFair E.ext v → v ≡ M.empty
 fair_ext M.empty f = refl
 fair_ext _ f = absurd f
 
+fair_union : (v : Metadata) → IsFair E.union v → v ≡ M.empty
+fair_union M.empty f = refl
+fair_union _ f = absurd f
+
 -- What is read is that nothing is kept, of no byte.
 pub null_nothing : (x : ExtMeaning) (d : Typ) (bytes : List ℕ) (v : Metadata) → IsMetadata codec x E.null d bytes v → (bytes ≡ []) × (v ≡ M.empty)
 null_nothing x d bytes v m = (m.shown.bytes_are, fair_null v m.fair)
@@ -74,3 +81,6 @@ struct_nothing x d bytes v m = (m.shown.bytes_are, fair_struct v m.fair)
 
 pub ext_nothing : (x : ExtMeaning) (d : Typ) (bytes : List ℕ) (v : Metadata) → IsMetadata codec x E.ext d bytes v → (bytes ≡ []) × (v ≡ M.empty)
 ext_nothing x d bytes v m = (m.shown.bytes_are, fair_ext v m.fair)
+
+pub union_nothing : (x : ExtMeaning) (d : Typ) (bytes : List ℕ) (v : Metadata) → IsMetadata codec x E.union d bytes v → (bytes ≡ []) × (v ≡ M.empty)
+union_nothing x d bytes v m = (m.shown.bytes_are, fair_union v m.fair)

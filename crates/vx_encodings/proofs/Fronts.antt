@@ -12,7 +12,7 @@ behind_some ps n k qs e = rw (e, behind_validity) refl
 pub behind_none : (ps : List Place) (n k : ℕ) → exactly ps k ≡ None → behind_validity ps n k ≡ exactly (validity_place n ∷ ps) k
 behind_none ps n k e = rw (e, behind_validity) refl
 
-exactly_count : (ps : List Place) (k : ℕ) (qs : List Place) → exactly ps k ≡ Some qs → k ≡ length ps
+pub exactly_count : (ps : List Place) (k : ℕ) (qs : List Place) → exactly ps k ≡ Some qs → k ≡ length ps
 exactly_count [] zero qs e = refl
 exactly_count [] (suc k) qs e = absurd (cc)
 exactly_count (p ∷ ps) zero qs e = absurd (cc)
@@ -29,7 +29,7 @@ exactly_past [] = refl
 exactly_past (p ∷ ps) = ap (λ (o : Option (List Place)). option_map (λ qs. p ∷ qs) o) (exactly_past ps)
 
 -- Another number of places is not exact.
-exactly_none : (ps : List Place) (k : ℕ) → (k ≡ length ps → ⊥) → exactly ps k ≡ None
+pub exactly_none : (ps : List Place) (k : ℕ) → (k ≡ length ps → ⊥) → exactly ps k ≡ None
 exactly_none [] zero h = absurd (h refl)
 exactly_none [] (suc k) h = refl
 exactly_none (p ∷ ps) zero h = refl

@@ -14,7 +14,7 @@ use Rattle.vx_array_tree.specs.Tree.{Tree, Trees, places}
 use Rattle.vx_wire_tree.specs.Fields.{told}
 use Rattle.vx_arrays.specs.Plain.{plain_body}
 use Rattle.vx_arrays.specs.declared.body.Body.{Body}
-use Rattle.vx_arrays.specs.declared.body.Body.TheVariants.{Null, Bool, Primitive, Decimal, VarBin, VarBinView, FixedSizeList, Struct, Ext, List as ListOf}
+use Rattle.vx_arrays.specs.declared.body.Body.TheVariants.{Null, Bool, Primitive, Decimal, VarBin, VarBinView, FixedSizeList, Struct, Ext, List as ListOf, Union}
 use Rattle.vx_encodings.specs.BoolMessage.{bool_bytes}
 use Rattle.vx_encodings.specs.DecimalMessage.{decimal_bytes}
 use Rattle.vx_encodings.specs.Messages.{message_bytes}
@@ -67,5 +67,8 @@ pub counts_kept : (t : Tree) (b : Body) (us : Trees) (r : Result (List ℕ) Enco
 counts_kept t b us (Ok bytes) e p u q = q ∙ ap (λ (vs : Trees). list_bytes (Lists.metadata_of (places vs)).elements_len (Lists.metadata_of (places vs)).offset_ptype) u ∙ root t b ListOf e p
 counts_kept t b us (Err error) e p u q = tt
 
+pub unions_kept : (t : Tree) (b : Body) (bytes : List ℕ) → b ≡ Union → plain_body b ≡ (label t).body → bytes ≡ [] → bytes ≡ message_bytes (told (metadata_in (label t) (below t)))
+unions_kept t b bytes e p q = q ∙ root t b Union e p
+
 -- What the writing of metadata rests on.
-pub ruleset kept = (nulls_kept, numbers_kept, flags_kept, decimals_kept, kinds_kept, views_kept, lists_kept, structures_kept, extensions_kept, counts_kept)
+pub ruleset kept = (nulls_kept, numbers_kept, flags_kept, decimals_kept, kinds_kept, views_kept, lists_kept, structures_kept, extensions_kept, counts_kept, unions_kept)

@@ -3,9 +3,10 @@ use Rattle.std.proofs.Common.{ℕ, zero, suc, ◌≡◌, ◌*◌, List, [], ◌�
 use Rattle.vx_flat.specs.Value.{table}
 use Rattle.vx_trees.specs.Rose.{node, end, more}
 use Rattle.vx_types.specs.Known.{ExtMeaning}
-use Rattle.vx_types.specs.Kind.{null, boolean, primitive, decimal, utf8, binary, list, fixed_size_list, structure, extension}
+use Rattle.vx_types.specs.Kind.{null, boolean, primitive, decimal, utf8, binary, list, fixed_size_list, structure, union, extension}
 use Rattle.vx_types.specs.Typ.{Typ}
 use Rattle.vx_types.specs.declared.ptype.PType.{PType}
+use Rattle.vx_types.specs.declared.ptype.PType.TheVariants.{U8}
 use Rattle.vx_array_tree.specs.Encoding as E
 use Rattle.vx_array_tree.specs.Encodings.Nulls as Nulls
 use Rattle.vx_array_tree.specs.Encodings.Bools as Bools
@@ -17,6 +18,7 @@ use Rattle.vx_array_tree.specs.Encodings.FixedSizeLists as FixedSizeLists
 use Rattle.vx_array_tree.specs.Encodings.Structs as Structs
 use Rattle.vx_array_tree.specs.Encodings.Exts as Exts
 use Rattle.vx_array_tree.specs.Encodings.Lists as Lists
+use Rattle.vx_array_tree.specs.Encodings.Unions as Unions
 use Rattle.vx_array_tree.specs.Metadata.{Metadata}
 use Rattle.vx_array_tree.specs.Metadata as M
 use Rattle.vx_array_tree.specs.Place.{Place, place, numbers, exactly, before_validity, behind_validity, validity_place, places_at, is_len}
@@ -34,7 +36,7 @@ use Rattle.vx_encodings.proofs.Widths.{one_width, width_again}
 use Rattle.vx_encodings.specs.Messages.{Shows, ShowsNothing, message_bytes, codec}
 use Rattle.vx_encodings.specs.Plain.{plain_encoding}
 use Rattle.vx_encodings.specs.declared.encoding.Encoding.{Encoding}
-use Rattle.vx_encodings.specs.declared.encoding.Encoding.TheVariants.{Null, Bool, Primitive, Decimal, VarBin, VarBinView, FixedSizeList, Struct, Ext, List as ListOf}
+use Rattle.vx_encodings.specs.declared.encoding.Encoding.TheVariants.{Null, Bool, Primitive, Decimal, VarBin, VarBinView, FixedSizeList, Struct, Ext, List as ListOf, Union}
 
 one_nothing : (bytes : List ℕ) (f g : Fields) → ShowsNothing bytes f → ShowsNothing bytes g → f ≡ g
 one_nothing bytes f g a b = a.fields_are ∙ sym b.fields_are
@@ -139,6 +141,14 @@ list_fits_again _ fair fits = absurd fair
 pub list_lawful : IsLawfulAt codec E.list
 list_lawful = record { one_message = one_message E.list; message_again = list_fits_again }
 
+union_again : (v : Metadata) → IsFair E.union v → FitsMessage v → Shows E.union (message_bytes (told v)) (told v)
+union_again M.empty fair fits = record { bytes_are = refl; fields_are = refl }
+union_again _ fair fits = absurd fair
+
+-- So are those of unions.
+pub union_lawful : IsLawfulAt codec E.union
+union_lawful = record { one_message = one_message E.union; message_again = union_again }
+
 -- So are those of each encoding that has code.
 pub lawful : (e : Encoding) → IsLawfulAt codec (plain_encoding e)
 lawful Null = null_lawful
@@ -151,6 +161,7 @@ lawful FixedSizeList = fixed_size_list_lawful
 lawful Struct = struct_lawful
 lawful Ext = ext_lawful
 lawful ListOf = list_lawful
+lawful Union = union_lawful
 
 -- And so are the tables of statistics.
 pub stats_lawful : HasLawfulStats codec
@@ -161,6 +172,29 @@ stats_lawful = record {
   written_storable = written_storable;
   written_alike = λ t. ap (λ vs. table vs) (written_alike t);
 }
+
+-- What a node of an encoding that has code keeps fits its message.
+pub fair_message : (encoding : Encoding) (v : Metadata) → IsFair (plain_encoding encoding) v → FitsMessage v
+fair_message Null M.empty fair = tt
+fair_message Null _ fair = absurd fair
+fair_message Bool (M.bool o) fair = tt
+fair_message Bool _ fair = absurd fair
+fair_message Primitive M.empty fair = tt
+fair_message Primitive _ fair = absurd fair
+fair_message Decimal (M.decimal w) fair = tt
+fair_message Decimal _ fair = absurd fair
+fair_message VarBin (M.varbin p) fair = tt
+fair_message VarBin _ fair = absurd fair
+fair_message VarBinView M.empty fair = tt
+fair_message VarBinView _ fair = absurd fair
+fair_message FixedSizeList M.empty fair = tt
+fair_message FixedSizeList _ fair = absurd fair
+fair_message Struct M.empty fair = tt
+fair_message Struct _ fair = absurd fair
+fair_message Ext M.empty fair = tt
+fair_message Ext _ fair = absurd fair
+fair_message Union M.empty fair = tt
+fair_message Union _ fair = absurd fair
 
 -- ---- plans
 
@@ -230,6 +264,10 @@ pub list_count : (d : Typ) (n : ℕ) (v : Lists.Metadata) (k : ℕ) (qs : List P
 list_count (node (list m) (more e end)) n v k qs h = behind_count (place e v.elements_len ∷ place (numbers v.offset_ptype) (suc n) ∷ []) n k qs (let_through (is_len (suc n)) _ _ h)
 list_count _ n v k qs h = absurd (cc)
 
+union_count : (d : Typ) (n k : ℕ) (qs : List Place) → Unions.plan d n k ≡ Some qs → length qs ≡ k
+union_count (node (union ns ids m) ts) n k qs h = exactly_count (place (node (primitive U8 m) end) n ∷ places_at ts n) k qs h
+union_count _ n k qs h = absurd (cc)
+
 -- An encoding that has code plans a place for each child.
 pub plan_length : (encoding : Encoding) (d : Typ) (n : ℕ) (v : Metadata) (k : ℕ) (qs : List Place) → plan_of (plain_encoding encoding) d n v k ≡ Some qs → length qs ≡ k
 plan_length Null d n M.empty k qs e = null_count d n k qs e
@@ -252,3 +290,5 @@ plan_length Ext d n M.empty k qs e = ext_count d n k qs e
 plan_length Ext d n _ k qs e = absurd (cc)
 plan_length ListOf d n (M.list v) k qs e = list_count d n v k qs e
 plan_length ListOf d n _ k qs e = absurd (cc)
+plan_length Union d n M.empty k qs e = union_count d n k qs e
+plan_length Union d n _ k qs e = absurd (cc)

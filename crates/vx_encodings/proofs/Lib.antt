@@ -23,3 +23,4 @@ mod StructSteps
 mod ExtensionSteps
 mod ElementCounts
 mod ListSteps
+mod UnionSteps

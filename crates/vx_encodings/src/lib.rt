@@ -20,6 +20,7 @@ mod plans;
 mod primitive;
 mod steps;
 mod structs;
+mod union;
 mod validity;
 mod varbin;
 mod varbinview;

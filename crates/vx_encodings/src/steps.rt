@@ -19,7 +19,8 @@ use crate::error::EncodingError;
 use crate::head::ArrayHead;
 use crate::plans::ChildPlans;
 use crate::{
-    bool, decimal, extension, fixed_size_list, lists, null, primitive, structs, varbin, varbinview,
+    bool, decimal, extension, fixed_size_list, lists, null, primitive, structs, union, varbin,
+    varbinview,
 };
 use std::alloc::Global;
 use vx_arrays::{Array, Arrays, Body};
@@ -70,6 +71,7 @@ fn plan_by(
         Encoding::Struct => structs::plan(alloc, head),
         Encoding::Ext => extension::plan(alloc, head),
         Encoding::List => lists::plan(alloc, head),
+        Encoding::Union => union::plan(alloc, head),
     }
 }
 
@@ -125,6 +127,7 @@ fn build_by(
         Encoding::Struct => structs::build(alloc, head, buffers, children),
         Encoding::Ext => extension::build(head, buffers, children),
         Encoding::List => lists::build(head, buffers, children),
+        Encoding::Union => union::build(head, buffers, children),
     }
 }
 
@@ -145,6 +148,7 @@ pub fn metadata(alloc: Global, array: &Array) -> Result<Blob, EncodingError>
         Body::Struct => Ok(write_empty(alloc)),
         Body::Ext => Ok(write_empty(alloc)),
         Body::List => lists::metadata(alloc, array.children()),
+        Body::Union => Ok(write_empty(alloc)),
     }
 }
 

@@ -59,7 +59,7 @@ fn plan_fields(
 }
 
 // These children, and then one for each of the types.
-fn with_fields(
+pub(crate) fn with_fields(
     alloc: Global,
     front: ChildPlans,
     types: &[DType],

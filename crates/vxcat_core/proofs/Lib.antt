@@ -10,4 +10,5 @@ mod OptionFronts
 mod OptionSettings
 mod Recodings
 mod RowTexts
+mod UnionTexts
 mod SevenWords

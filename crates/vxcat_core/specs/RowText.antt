@@ -1,5 +1,5 @@
 -- How a row's value is printed.
-use Rattle.std.specs.Prelude.{ℕ, Some, None, true, false, List, [], ◌∷◌, ◌++◌, codes, reverse}
+use Rattle.std.specs.Prelude.{ℕ, Option, Some, None, true, false, List, [], ◌∷◌, ◌++◌, codes, reverse}
 use Rattle.std.specs.Fmt.{decimal, signed_decimal}
 use Rattle.std.specs.Int.{w16, w32, w64, to_be_bytes}
 use Rattle.std.specs.List.{flat_map}
@@ -66,10 +66,14 @@ tuple_text Each By Entries (node (structure names m) ts) = codes "{" ++ (parted 
 tuple_text Each By Entries (node (map sorted m) (more k (more v end))) = codes "{" ++ (parted (Entries k v) ++ codes "}")
 tuple_text Each By Entries _ = codes "?"
 
+-- The type of the member under a tag, of a union's type.
+abbrev pub member_under : ℕ → Typ → Option Typ
+member_under tag (node (union_kind names tags m) ts) = member tag tags ts
+member_under tag _ = None
+
 -- The types below a union's type that are of the member under a tag: one, where there is such a member.
 abbrev pub member_types : ℕ → Typ → Roses Kind
-member_types tag (node (union_kind names tags m) ts) = elim (member tag tags ts) [ Some d ↦ more d end | None ↦ end ]
-member_types tag _ = end
+member_types tag t = elim (member_under tag t) [ Some d ↦ more d end | None ↦ end ]
 
 abbrev mutual
   -- The text of a value, by its type: a union as `#5(a)`, a variant as `v(a)`, and what nothing is known of as `?`.

@@ -1,12 +1,13 @@
 //! The text of a row's value.
 
-ghost use Rattle.std.specs.Prelude.{◌≡◌, ◌++◌, IfOk, OnOk, codes, string_bytes, if◌then◌else◌};
-ghost use Rattle.vx_trees.specs.Rose.{node, roses_of};
+ghost use Rattle.std.specs.Prelude.{◌≡◌, ◌++◌, IfOk, OnOk, codes, option_map, string_bytes, if◌then◌else◌};
+ghost use Rattle.vx_trees.specs.Rose.{end, more, node, roses_of};
+ghost use Rattle.vx_types.specs.Fits.{bare, member};
 ghost use Rattle.vx_types.specs.Seen.{typ, typs};
-ghost use Rattle.vx_types.specs.Value.{tuple};
+ghost use Rattle.vx_types.specs.Value.{tuple, union};
 ghost use Rattle.vx_arrays.specs.Plain.{plain_value, plain_values};
 ghost use Rattle.vx_scalars.specs.Decimals.{decimal_of};
-ghost use Rattle.vxcat_core.specs.RowText.{bytes_text, decimal_text, each_text, entry_text, entry_texts, further_text, hex_text, number_text, parted, texts_by, value_text};
+ghost use Rattle.vxcat_core.specs.RowText.{bytes_text, decimal_text, each_text, entry_text, entry_texts, further_text, hex_text, member_under, number_text, parted, texts_by, value_text};
 
 use std::alloc::{AllocError, Global};
 use vx_arrays::RowValue;
@@ -15,7 +16,8 @@ use vx_types::{DType, MapDType, PValue};
 
 /// The text of a row's value, of a row of this type: `null`, `true`, `false`, an integer in decimal, a float's bits as `0x`
 /// and hex digits, a decimal's unscaled integer, a text or bytes as hex digits behind an `x`, or `?` where nothing is known
-/// of the row; and of values with values in them `[a, b]` for lists, `{a, b}` for structures and `{k=>v, k=>v}` for maps.
+/// of the row; and of values with values in them `[a, b]` for lists, `{a, b}` for structures, `{k=>v, k=>v}` for maps and
+/// `#5(a)` for unions.
 ///
 /// # Errors
 /// Want of memory.
@@ -33,6 +35,7 @@ pub fn row_text(alloc: Global, value: &RowValue, dtype: &DType) -> Result<String
         RowValue::Utf8(text) => bytes_text(alloc, text.as_str().as_bytes()),
         RowValue::Binary(bytes) => bytes_text(alloc, bytes.as_slice()),
         RowValue::Tuple(values) => tuple_text(alloc, values.as_slice(), dtype),
+        RowValue::Union(tag, row) => union_text(alloc, *tag, row.get(), dtype),
     }
 }
 
@@ -56,6 +59,49 @@ fn tuple_text(alloc: Global, values: &[RowValue], dtype: &DType) -> Result<Strin
         }
         _ => String::from_str(alloc, "?"),
     }
+}
+
+// The text of a union, by its type: its tag, and the text of the row of the member that this names.
+#[cycle(text)]
+fn union_text(alloc: Global, tag: u8, row: &RowValue, dtype: &DType) -> Result<String, AllocError>
+    ensures { IfOk result (λ text. string_bytes text ≡ value_text (node (union tag) (more (plain_value row.now) end)) (typ dtype.now)) }
+{
+    match member_type(tag, dtype) {
+        Some(member) => {
+            let text = row_text(alloc, row, member)?;
+            format!(in alloc; "#{tag}({text})")
+        }
+        None => format!(in alloc; "#{tag}()"),
+    }
+}
+
+// The type of the member that a tag names, of a type that is stored as unions.
+fn member_type(tag: u8, dtype: &DType) -> Option<&DType>
+    ensures { option_map (λ d. typ d.now) result ≡ member_under tag (bare (typ dtype.now)) }
+{
+    match bare_dtype(dtype) {
+        DType::Union(members, _) => {
+            named(
+                tag,
+                members.type_ids().as_slice(),
+                members.variants().as_slice(),
+            )
+        }
+        _ => None,
+    }
+}
+
+// Of types that stand beside tags the one of a tag.
+#[tactic(auto, using(crate::proofs::UnionTexts::naming))]
+fn named<'a>(tag: u8, ids: &[u8], dtypes: &'a [DType]) -> Option<&'a DType>
+    ensures { option_map (λ d. typ d.now) result ≡ member tag ids.now (roses_of (typs dtypes.now)) }
+{
+    for i in 0..ids.len().min(dtypes.len()) {
+        if ids[i] == tag {
+            return Some(&dtypes[i]);
+        }
+    }
+    None
 }
 
 // One text more, parted from those before it.

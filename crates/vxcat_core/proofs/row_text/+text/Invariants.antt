@@ -13,6 +13,9 @@ decreases-row_text l = 4 * nodes (plain_value l.value.now)
 abbrev pub decreases-tuple_text : goal.decreases-tuple_text
 decreases-tuple_text l = 4 * nodes_of (roses_of (plain_values l.values.now)) + 3
 
+abbrev pub decreases-union_text : goal.decreases-union_text
+decreases-union_text l = 4 * nodes (plain_value l.row.now) + 1
+
 abbrev pub decreases-texts_of_one : goal.decreases-texts_of_one
 decreases-texts_of_one l = 4 * nodes_of (roses_of (plain_values l.values.now)) + 2
 
