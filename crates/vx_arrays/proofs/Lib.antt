@@ -21,3 +21,4 @@ mod Made
 mod Judged
 mod Stored
 mod Listed
+mod Dictionaries

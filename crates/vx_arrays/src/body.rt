@@ -6,6 +6,7 @@ ghost use Rattle.vx_arrays.specs.Compared.{compared_body};
 
 use crate::bool::{BoolArray, BoolData};
 use crate::decimal::{DecimalArray, DecimalData};
+use crate::dict::{DictArray, DictData};
 use crate::error::ArrayError;
 use crate::extension::ExtensionArray;
 use crate::fixed_size_list::FixedSizeListArray;
@@ -41,6 +42,8 @@ pub enum Body {
     Ext,
     /// Nothing: lists, parted by offsets.
     List,
+    /// Dictionaries: a flag.
+    Dict(DictData),
 }
 
 impl Body {
@@ -61,6 +64,7 @@ impl Body {
             Body::Struct => StructArray::ID,
             Body::Ext => ExtensionArray::ID,
             Body::List => ListArray::ID,
+            Body::Dict(_) => DictArray::ID,
         }
     }
 
@@ -75,7 +79,7 @@ impl Body {
             Body::Decimal(_) => 1,
             Body::VarBin(_) => 1,
             Body::VarBinView(views) => views.nbuffers(),
-            Body::FixedSizeList | Body::Struct | Body::Ext | Body::List => 0,
+            Body::FixedSizeList | Body::Struct | Body::Ext | Body::List | Body::Dict(_) => 0,
         }
     }
 
@@ -85,9 +89,12 @@ impl Body {
         ensures { slice_get (buffers_of (plain_body self.now)) index ≡ Some result.now }
     {
         match self {
-            Body::Null | Body::FixedSizeList | Body::Struct | Body::Ext | Body::List => {
-                unreachable!()
-            }
+            Body::Null
+            | Body::FixedSizeList
+            | Body::Struct
+            | Body::Ext
+            | Body::List
+            | Body::Dict(_) => { unreachable!() }
             Body::Primitive(numbers) => numbers.values(),
             Body::Bool(flags) => flags.bits(),
             Body::Decimal(decimals) => decimals.values(),
@@ -111,6 +118,7 @@ impl Body {
             (Body::Struct, Body::Struct) => true,
             (Body::Ext, Body::Ext) => true,
             (Body::List, Body::List) => true,
+            (Body::Dict(x), Body::Dict(y)) => x.array_eq(y),
             _ => false,
         }
     }
@@ -131,6 +139,7 @@ impl Body {
             Body::Struct => Ok(Body::Struct),
             Body::Ext => Ok(Body::Ext),
             Body::List => Ok(Body::List),
+            Body::Dict(flag) => Ok(Body::Dict(flag.clone())),
         }
     }
 }

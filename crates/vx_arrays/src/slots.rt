@@ -37,7 +37,12 @@ impl Array {
         ensures err { IsOkUnless result ArrayError.OutOfMemory }
     {
         match self.body() {
-            Body::Null | Body::FixedSizeList | Body::Struct | Body::Ext | Body::List => Ok(None),
+            Body::Null
+            | Body::FixedSizeList
+            | Body::Struct
+            | Body::Ext
+            | Body::List
+            | Body::Dict(_) => Ok(None),
             Body::Bool(_) => only_name(alloc, "bits", index),
             Body::Primitive(_) | Body::Decimal(_) => only_name(alloc, "values", index),
             Body::VarBin(_) => only_name(alloc, "bytes", index),
@@ -55,7 +60,7 @@ fn slots_of(dtype: &DType, body: &Body) -> usize
         Body::Bool(_) | Body::Primitive(_) | Body::Decimal(_) | Body::VarBinView(_) => 1,
         Body::Ext => 1,
         Body::List => 3,
-        Body::VarBin(_) | Body::FixedSizeList => 2,
+        Body::VarBin(_) | Body::FixedSizeList | Body::Dict(_) => 2,
         Body::Struct => match members_of(dtype) {
             Some(names) => names.as_slice().len() + 1,
             None => 1,
@@ -89,6 +94,7 @@ fn slot_of<'a>(dtype: &'a DType, body: &Body, index: usize) -> &'a str
             1 => "offsets",
             _ => "validity",
         },
+        Body::Dict(_) => { if index == 0 { "codes" } else { "values" } }
         Body::VarBin(_) => { if index == 0 { "offsets" } else { "validity" } }
         Body::FixedSizeList => { if index == 0 { "elements" } else { "validity" } }
         Body::Struct => {
