@@ -21,4 +21,7 @@ mod FixedSizeListSteps
 mod StructSteps
 mod ExtensionSteps
 mod ElementCounts
+mod DictFields
+mod DictWritten
 mod ListSteps
+mod DictSteps

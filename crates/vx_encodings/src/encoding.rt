@@ -4,8 +4,8 @@ ghost use Rattle.std.specs.Prelude.{◌≡◌};
 ghost use Rattle.vx_array_tree.specs.Table.{id_of};
 
 use vx_arrays::{
-    BoolArray, DecimalArray, ExtensionArray, FixedSizeListArray, ListArray, NullArray, PrimitiveArray,
-    StructArray, VarBinArray, VarBinViewArray,
+    BoolArray, DecimalArray, DictArray, ExtensionArray, FixedSizeListArray, ListArray, NullArray,
+    PrimitiveArray, StructArray, VarBinArray, VarBinViewArray,
 };
 
 /// The shipped encodings.
@@ -31,6 +31,8 @@ pub enum Encoding {
     Ext,
     /// Lists, whose elements are parted by offsets.
     List,
+    /// Dictionaries, whose rows are named by codes among values.
+    Dict,
 }
 
 impl Encoding {
@@ -51,6 +53,7 @@ impl Encoding {
             Encoding::Struct => StructArray::ID,
             Encoding::Ext => ExtensionArray::ID,
             Encoding::List => ListArray::ID,
+            Encoding::Dict => DictArray::ID,
         }
     }
 }

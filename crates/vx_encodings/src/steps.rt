@@ -18,7 +18,7 @@ use crate::error::EncodingError;
 use crate::head::ArrayHead;
 use crate::plans::ChildPlans;
 use crate::{
-    bool, decimal, extension, fixed_size_list, lists, null, primitive, structs, varbin, varbinview,
+    bool, decimal, dict, extension, fixed_size_list, lists, null, primitive, structs, varbin, varbinview,
 };
 use std::alloc::Global;
 use vx_arrays::{Array, Arrays, Body};
@@ -69,6 +69,7 @@ fn plan_by(
         Encoding::Struct => structs::plan(alloc, head),
         Encoding::Ext => extension::plan(alloc, head),
         Encoding::List => lists::plan(alloc, head),
+        Encoding::Dict => dict::plan(alloc, head),
     }
 }
 
@@ -124,6 +125,7 @@ fn build_by(
         Encoding::Struct => structs::build(alloc, head, buffers, children),
         Encoding::Ext => extension::build(head, buffers, children),
         Encoding::List => lists::build(head, buffers, children),
+        Encoding::Dict => dict::build(alloc, head, buffers, children),
     }
 }
 
@@ -144,5 +146,6 @@ pub fn metadata(alloc: Global, array: &Array) -> Result<Blob, EncodingError>
         Body::Struct => Ok(write_empty(alloc)),
         Body::Ext => Ok(write_empty(alloc)),
         Body::List => lists::metadata(alloc, array.children()),
+        Body::Dict(data) => dict::metadata(alloc, data, array.children()),
     }
 }
