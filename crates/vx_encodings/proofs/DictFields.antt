@@ -45,8 +45,14 @@ flag_stands (Some false) = (0, refl, omega arith)
 -- Fields have the form of the message where the values can be counted in it.
 pub dict_formed : (f : DictFields) → f.values_len < 2 ^ 32 → HasForm dict_schema 0 (dict_value f)
 dict_formed f lt =
-    whole_form dict_schema 0 dict_parts (f.values_len, code_of f.codes_ptype, f.is_nullable_codes, f.all_values_referenced, tt)
-    ((f.values_len, refl, lt), (code_of f.codes_ptype, refl, few_kinds f.codes_ptype), flag_stands f.is_nullable_codes, flag_stands f.all_values_referenced, tt)
+    whole_form dict_schema 0 dict_parts (f.values_len, (code_of f.codes_ptype, (f.is_nullable_codes, (f.all_values_referenced, tt))))
+    ((f.values_len, refl, lt), ((code_of f.codes_ptype, refl, few_kinds f.codes_ptype), (flag_stands f.is_nullable_codes, (flag_stands f.all_values_referenced, tt))))
+
+-- Equal parts make equal values.
+pub fields_value : (n m : ℕ) (p : PType) (k : ℕ) (a b c d : Option Bool) → n ≡ m → code_of p ≡ k → a ≡ b → c ≡ d
+    → dict_value (record { values_len = n; codes_ptype = p; is_nullable_codes = a; all_values_referenced = c }) ≡ dict_parts.value (m, (k, (b, (d, tt))))
+fields_value n m p k a b c d e f g h =
+    λ i. ((1, number (e i)) ∷ []) ∷ ((2, number (f i)) ∷ []) ∷ slot_with flag_content 3 (g i) ∷ slot_with flag_content 4 (h i) ∷ []
 
 -- What a slot of a flag holds is the flag.
 pub flag_held : (i : ℕ) (a : Option Bool) → option_map flag_of (number_in (slot_with flag_content i a)) ≡ a

@@ -40,7 +40,7 @@ abbrev pub flags : Held Flag Bool
 flags = seen_as (numbers Flag tt) flag_number flag_of flag_back flag_again
 
 -- How its slots are numbers and flags.
-abbrev pub dict_parts : Parts (HasForm dict_schema) (list_at dict_schema 0) (ℕ × ℕ × Option Bool × Option Bool × Unit {0})
+abbrev pub dict_parts : Parts (HasForm dict_schema) (list_at dict_schema 0) (ℕ × (ℕ × (Option Bool × (Option Bool × Unit {0}))))
     (Both (InRange (numbers Uint32 tt)) (Both (InRange (numbers (Enum 11) tt)) (Both (IfStands (InRange flags)) (Both (IfStands (InRange flags)) (λ _. Unit {0})))))
 dict_parts = plain_part 1 (numbers Uint32 tt) and plain_part 2 (numbers (Enum 11) tt) and optional_part 3 flags and optional_part 4 flags and nothing
 
@@ -74,9 +74,9 @@ kept_of d f = record {
 -- A plain value is of one set of fields.
 pub same_dict : (f g : DictFields) → dict_value f ≡ dict_value g → f ≡ g
 same_dict f g e =
-    let s = dict_parts.same (f.values_len, code_of f.codes_ptype, f.is_nullable_codes, f.all_values_referenced, tt) (g.values_len, code_of g.codes_ptype, g.is_nullable_codes, g.all_values_referenced, tt) e in
-    let n : f.values_len ≡ g.values_len = ap (λ (x : ℕ × ℕ × Option Bool × Option Bool × Unit {0}). x.0) s in
-    let p : f.codes_ptype ≡ g.codes_ptype = one_kind_of_code f.codes_ptype g.codes_ptype (ap (λ (x : ℕ × ℕ × Option Bool × Option Bool × Unit {0}). x.1) s) in
-    let a : f.is_nullable_codes ≡ g.is_nullable_codes = ap (λ (x : ℕ × ℕ × Option Bool × Option Bool × Unit {0}). x.2) s in
-    let b : f.all_values_referenced ≡ g.all_values_referenced = ap (λ (x : ℕ × ℕ × Option Bool × Option Bool × Unit {0}). x.3) s in
+    let s = dict_parts.same (f.values_len, (code_of f.codes_ptype, (f.is_nullable_codes, (f.all_values_referenced, tt)))) (g.values_len, (code_of g.codes_ptype, (g.is_nullable_codes, (g.all_values_referenced, tt)))) e in
+    let n : f.values_len ≡ g.values_len = ap (λ (x : ℕ × (ℕ × (Option Bool × (Option Bool × Unit {0})))). x.0) s in
+    let p : f.codes_ptype ≡ g.codes_ptype = one_kind_of_code f.codes_ptype g.codes_ptype (ap (λ (x : ℕ × (ℕ × (Option Bool × (Option Bool × Unit {0})))). x.1.0) s) in
+    let a : f.is_nullable_codes ≡ g.is_nullable_codes = ap (λ (x : ℕ × (ℕ × (Option Bool × (Option Bool × Unit {0})))). x.1.1.0) s in
+    let b : f.all_values_referenced ≡ g.all_values_referenced = ap (λ (x : ℕ × (ℕ × (Option Bool × (Option Bool × Unit {0})))). x.1.1.1.0) s in
     λ i. record { values_len = n i; codes_ptype = p i; is_nullable_codes = a i; all_values_referenced = b i }
