@@ -22,3 +22,4 @@ mod Judged
 mod Stored
 mod Listed
 mod Tagged
+mod Dictionaries

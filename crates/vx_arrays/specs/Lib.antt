@@ -9,6 +9,7 @@ pub mod Offsets
 pub mod FixedSizeLists
 pub mod Extensions
 pub mod Lists
+pub mod Dicts
 pub mod Structs
 pub mod Unions
 pub mod Places

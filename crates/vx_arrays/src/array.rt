@@ -241,11 +241,20 @@ impl Array {
             Body::Union => {
                 let tags = tags_in(&self.dtype, self.len, self.children.as_slice());
                 tags.is_valid(index)
+            Body::Dict(flag) => {
+                let children = self.children.as_slice();
+                let (codes, values) = flag.pair_in(&self.dtype, self.len, children);
+                match codes.natural_at(index) {
+                    Some(code) => values.is_valid(code as usize),
+                    None => codes.is_valid(index),
+                }
             }
         }
     }
 
     // The row's flag, where this array has the type of a validity; None where the row is no flag.
+    #[cycle(naturals)]
+    #[tactic(auto, using(crate::proofs::Untold::untold_node))]
     pub(crate) fn flag_at(&self, index: usize) -> Option<bool>
         requires inside { index < (label self.now).len }
         requires flags { (label self.now).dtype ≡ node (boolean NonNullable) end }
@@ -259,10 +268,20 @@ impl Array {
             Body::VarBin(_) => None,
             Body::VarBinView(_) => None,
             Body::FixedSizeList | Body::Struct | Body::Ext | Body::List | Body::Union => None,
+            Body::FixedSizeList | Body::Struct | Body::Ext | Body::List => None,
+            Body::Dict(flag) => {
+                let children = self.children.as_slice();
+                let (codes, values) = flag.pair_in(&self.dtype, self.len, children);
+                match codes.natural_at(index) {
+                    Some(code) => values.flag_at(code as usize),
+                    None => None,
+                }
+            }
         }
     }
 
     // The row as a natural number; None where it is none, or is not there, or nothing is known of it.
+    #[cycle(naturals)]
     #[tactic(auto, using(crate::proofs::Naturals::naturals, crate::proofs::Untold::untold_node, crate::proofs::Stored::stored_rows))]
     pub(crate) fn natural_at(&self, index: usize) -> Option<u64>
         requires { index < (label self.now).len }
@@ -280,6 +299,13 @@ impl Array {
             Body::Ext => {
                 let storage = storage_in(&self.dtype, self.len, children);
                 storage.natural_at(index)
+            }
+            Body::Dict(flag) => {
+                let (codes, values) = flag.pair_in(&self.dtype, self.len, children);
+                match codes.natural_at(index) {
+                    Some(code) => values.natural_at(code as usize),
+                    None => None,
+                }
             }
         }
     }
@@ -307,6 +333,7 @@ impl Array {
             Body::Struct => StructArray::parts_at(dtype, len, children, index),
             Body::List => ListArray::parts_at(dtype, len, children, index),
             Body::Union => UnionArray::parts_at(dtype, len, children, index),
+            Body::Dict(flag) => flag.parts_at(dtype, len, children, index),
             Body::Ext => {
                 let array = storage_in(dtype, len, children);
                 RowParts::At { array, index }
@@ -372,6 +399,10 @@ impl Array {
             Body::Ext => without_buffers(alloc, dtype, len, Body::Ext, children, buffers),
             Body::List => without_buffers(alloc, dtype, len, Body::List, children, buffers),
             Body::Union => without_buffers(alloc, dtype, len, Body::Union, children, buffers),
+            Body::Dict(flag) => {
+                let body = Body::Dict(flag.clone());
+                without_buffers(alloc, dtype, len, body, children, buffers)
+            }
         }
     }
 

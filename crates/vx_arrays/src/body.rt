@@ -6,6 +6,7 @@ ghost use Rattle.vx_arrays.specs.Compared.{compared_body};
 
 use crate::bool::{BoolArray, BoolData};
 use crate::decimal::{DecimalArray, DecimalData};
+use crate::dict::{DictArray, DictData};
 use crate::error::ArrayError;
 use crate::extension::ExtensionArray;
 use crate::fixed_size_list::FixedSizeListArray;
@@ -44,6 +45,8 @@ pub enum Body {
     List,
     /// Nothing: unions.
     Union,
+    /// Dictionaries: a flag.
+    Dict(DictData),
 }
 
 impl Body {
@@ -65,6 +68,7 @@ impl Body {
             Body::Ext => ExtensionArray::ID,
             Body::List => ListArray::ID,
             Body::Union => UnionArray::ID,
+            Body::Dict(_) => DictArray::ID,
         }
     }
 
@@ -80,6 +84,7 @@ impl Body {
             Body::VarBin(_) => 1,
             Body::VarBinView(views) => views.nbuffers(),
             Body::FixedSizeList | Body::Struct | Body::Ext | Body::List | Body::Union => 0,
+            Body::FixedSizeList | Body::Struct | Body::Ext | Body::List | Body::Dict(_) => 0,
         }
     }
 
@@ -95,6 +100,7 @@ impl Body {
             | Body::Ext
             | Body::List
             | Body::Union => { unreachable!() }
+            | Body::Dict(_) => { unreachable!() }
             Body::Primitive(numbers) => numbers.values(),
             Body::Bool(flags) => flags.bits(),
             Body::Decimal(decimals) => decimals.values(),
@@ -119,6 +125,7 @@ impl Body {
             (Body::Ext, Body::Ext) => true,
             (Body::List, Body::List) => true,
             (Body::Union, Body::Union) => true,
+            (Body::Dict(x), Body::Dict(y)) => x.array_eq(y),
             _ => false,
         }
     }
@@ -140,6 +147,7 @@ impl Body {
             Body::Ext => Ok(Body::Ext),
             Body::List => Ok(Body::List),
             Body::Union => Ok(Body::Union),
+            Body::Dict(flag) => Ok(Body::Dict(flag.clone())),
         }
     }
 }

@@ -100,6 +100,7 @@ impl PrimitiveData {
     }
 
     // A row as a natural number in a node of this type, length and children.
+    #[cycle(naturals)]
     pub(crate) fn natural_at(
         &self,
         dtype: &DType,

@@ -43,6 +43,7 @@ impl Array {
             | Body::Ext
             | Body::List
             | Body::Union => Ok(None),
+            | Body::Dict(_) => Ok(None),
             Body::Bool(_) => only_name(alloc, "bits", index),
             Body::Primitive(_) | Body::Decimal(_) => only_name(alloc, "values", index),
             Body::VarBin(_) => only_name(alloc, "bytes", index),
@@ -62,6 +63,8 @@ fn slots_of(dtype: &DType, body: &Body) -> usize
         Body::List => 3,
         Body::VarBin(_) | Body::FixedSizeList => 2,
         Body::Struct | Body::Union => match members_of(dtype) {
+        Body::VarBin(_) | Body::FixedSizeList | Body::Dict(_) => 2,
+        Body::Struct => match members_of(dtype) {
             Some(names) => names.as_slice().len() + 1,
             None => 1,
         },
@@ -94,6 +97,7 @@ fn slot_of<'a>(dtype: &'a DType, body: &Body, index: usize) -> &'a str
             1 => "offsets",
             _ => "validity",
         },
+        Body::Dict(_) => { if index == 0 { "codes" } else { "values" } }
         Body::VarBin(_) => { if index == 0 { "offsets" } else { "validity" } }
         Body::FixedSizeList => { if index == 0 { "elements" } else { "validity" } }
         Body::Struct => {

@@ -26,6 +26,7 @@ use vx_types::{DType, Nullability};
 
 // Whether a row is there, by the validity that a node of `len` rows may have as its only child; None where that
 // is not known. Where no validity stands, each row is there.
+#[cycle(naturals)]
 pub(crate) fn validity_at(children: &[Array], len: usize, index: usize) -> Option<bool>
     requires planned { before_validity [] len (count (roses_of children.now)) ≡ Some (places (roses_of children.now)) }
     requires inside { index < len }

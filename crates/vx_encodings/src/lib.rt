@@ -7,6 +7,7 @@
 mod bool;
 mod buffers;
 mod decimal;
+mod dict;
 mod empty_metadata;
 mod encoding;
 mod error;
@@ -27,6 +28,7 @@ mod varbinview;
 
 pub use bool::BoolMetadata;
 pub use decimal::DecimalMetadata;
+pub use dict::DictMetadata;
 pub use encoding::Encoding;
 pub use error::EncodingError;
 pub use head::ArrayHead;

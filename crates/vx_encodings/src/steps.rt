@@ -21,6 +21,7 @@ use crate::plans::ChildPlans;
 use crate::{
     bool, decimal, extension, fixed_size_list, lists, null, primitive, structs, union, varbin,
     varbinview,
+    bool, decimal, dict, extension, fixed_size_list, lists, null, primitive, structs, varbin, varbinview,
 };
 use std::alloc::Global;
 use vx_arrays::{Array, Arrays, Body};
@@ -72,6 +73,7 @@ fn plan_by(
         Encoding::Ext => extension::plan(alloc, head),
         Encoding::List => lists::plan(alloc, head),
         Encoding::Union => union::plan(alloc, head),
+        Encoding::Dict => dict::plan(alloc, head),
     }
 }
 
@@ -128,6 +130,7 @@ fn build_by(
         Encoding::Ext => extension::build(head, buffers, children),
         Encoding::List => lists::build(head, buffers, children),
         Encoding::Union => union::build(head, buffers, children),
+        Encoding::Dict => dict::build(alloc, head, buffers, children),
     }
 }
 
@@ -169,5 +172,6 @@ pub fn has_message(array: &Array) -> bool
         Body::Struct => true,
         Body::Ext => true,
         Body::List => lists::has_message(array.children()),
+        Body::Dict(data) => dict::metadata(alloc, data, array.children()),
     }
 }
