@@ -21,3 +21,6 @@ mod Made
 mod Judged
 mod Stored
 mod Listed
+mod Behind
+mod ListViewed
+mod Mapped

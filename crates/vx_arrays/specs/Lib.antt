@@ -9,6 +9,8 @@ pub mod Offsets
 pub mod FixedSizeLists
 pub mod Extensions
 pub mod Lists
+pub mod ListViews
+pub mod Maps
 pub mod Structs
 pub mod Places
 pub mod Validity

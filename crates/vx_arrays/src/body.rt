@@ -9,7 +9,9 @@ use crate::decimal::{DecimalArray, DecimalData};
 use crate::error::ArrayError;
 use crate::extension::ExtensionArray;
 use crate::fixed_size_list::FixedSizeListArray;
+use crate::list_view::{ListViewArray, ListViewData};
 use crate::lists::ListArray;
+use crate::map::MapArray;
 use crate::null::NullArray;
 use crate::primitive::{PrimitiveArray, PrimitiveData};
 use crate::structs::StructArray;
@@ -41,6 +43,10 @@ pub enum Body {
     Ext,
     /// Nothing: lists, parted by offsets.
     List,
+    /// A flag: lists, each with an offset and a size of its own.
+    ListView(ListViewData),
+    /// Nothing: maps, by their entries.
+    Map,
 }
 
 impl Body {
@@ -61,6 +67,8 @@ impl Body {
             Body::Struct => StructArray::ID,
             Body::Ext => ExtensionArray::ID,
             Body::List => ListArray::ID,
+            Body::ListView(_) => ListViewArray::ID,
+            Body::Map => MapArray::ID,
         }
     }
 
@@ -76,6 +84,7 @@ impl Body {
             Body::VarBin(_) => 1,
             Body::VarBinView(views) => views.nbuffers(),
             Body::FixedSizeList | Body::Struct | Body::Ext | Body::List => 0,
+            Body::ListView(_) | Body::Map => 0,
         }
     }
 
@@ -88,6 +97,7 @@ impl Body {
             Body::Null | Body::FixedSizeList | Body::Struct | Body::Ext | Body::List => {
                 unreachable!()
             }
+            Body::ListView(_) | Body::Map => unreachable!(),
             Body::Primitive(numbers) => numbers.values(),
             Body::Bool(flags) => flags.bits(),
             Body::Decimal(decimals) => decimals.values(),
@@ -111,6 +121,8 @@ impl Body {
             (Body::Struct, Body::Struct) => true,
             (Body::Ext, Body::Ext) => true,
             (Body::List, Body::List) => true,
+            (Body::ListView(x), Body::ListView(y)) => x.array_eq(y),
+            (Body::Map, Body::Map) => true,
             _ => false,
         }
     }
@@ -131,6 +143,8 @@ impl Body {
             Body::Struct => Ok(Body::Struct),
             Body::Ext => Ok(Body::Ext),
             Body::List => Ok(Body::List),
+            Body::ListView(views) => Ok(Body::ListView(views.again())),
+            Body::Map => Ok(Body::Map),
         }
     }
 }

@@ -145,6 +145,27 @@ pub(crate) fn listed(
     Ok(children)
 }
 
+// The children of a node that has three, and behind them at most a validity.
+pub(crate) fn listed_by_three(
+    alloc: Global,
+    first: Array,
+    second: Array,
+    third: Array,
+    validity: Option<Array>,
+) -> Result<Arrays, ArrayError>
+    ensures children { IfOk result (λ children. children ≡ more first (more second (more third (option_trees validity)))) }
+    ensures err { IsOkUnless result ArrayError.OutOfMemory }
+{
+    let mut children = Arrays::new(alloc);
+    children.push(first)?;
+    children.push(second)?;
+    children.push(third)?;
+    if let Some(array) = validity {
+        children.push(array)?;
+    }
+    Ok(children)
+}
+
 // The first of a node's children, and those behind it.
 pub(crate) fn parted(children: &[Array]) -> (&Array, &[Array])
     requires { 1 ≤ length children.now }
