@@ -23,4 +23,5 @@ mod Stored
 mod Listed
 mod Behind
 mod ListViewed
+mod Entries
 mod Mapped

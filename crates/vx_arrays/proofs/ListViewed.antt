@@ -5,10 +5,12 @@ use Rattle.std.proofs.lemmas.Bool.{false≢true}
 use Rattle.std.specs.Prelude.{◌↔◌, IsTrue}
 use Rattle.vx_trees.specs.Rose.{node, end, more, label, count, roses_of}
 use Rattle.vx_trees.specs.Walks.{nodes, nodes_of}
+use Rattle.vx_trees.specs.Same.{same}
 use Rattle.vx_trees.proofs.Lists.{count-roses_of}
+use Rattle.vx_trees.proofs.Sameness.{same-decides}
 use Rattle.vx_types.specs.Kind.{list}
 use Rattle.vx_types.specs.Numbers.{is_integer}
-use Rattle.vx_types.specs.Typ.{Typ}
+use Rattle.vx_types.specs.Typ.{Typ, typ_code}
 use Rattle.vx_types.specs.Value.{Value, tuple}
 use Rattle.vx_types.specs.Words.{nullability}
 use Rattle.vx_types.specs.declared.ptype.PType.{PType}
@@ -80,8 +82,11 @@ parts_shaped d n x a o z vs l =
     }
 
 -- An array is of the type of the elements exactly where its type equals that.
-pub element_decides : (b : Bool) (k e : Typ) (a : Tree) (o : Option Typ) → Some k ≡ o → e ≡ (label a).dtype → (IsTrue b ↔ (e ≡ k)) → IsTrue b ↔ (o ≡ Some (label a).dtype)
-element_decides b k e a o s q d = (λ t. sym s ∙ ap (λ (y : Typ). Some y) (sym (d.0 t) ∙ q), λ h. d.1 (q ∙ sym (some_is _ _ (s ∙ h))))
+pub element_decides : (b : Bool) (k e : Typ) (a : Tree) (o : Option Typ) → Some k ≡ o → e ≡ (label a).dtype → b ≡ same typ_code e k → IsTrue b ↔ (o ≡ Some (label a).dtype)
+element_decides b k e a o s q d = (
+  λ t. sym s ∙ ap (λ (y : Typ). Some y) (sym ((same-decides typ_code e k).0 (sym d ∙ t)) ∙ q),
+  λ h. d ∙ (same-decides typ_code e k).1 (q ∙ sym (some_is _ _ (s ∙ h))),
+)
 
 -- There are three children or more.
 pub three_children : (d : Typ) (n : ℕ) (x : Data) (ts : Trees) → IsWellShaped (untold d n (B.listview x)) ts → 3 ≤ count ts

@@ -1,5 +1,6 @@
 -- The children of a node of lists: its elements, its offsets, and what stands behind them; and its rows.
 use Rattle.std.proofs.Common.{ℕ, suc, ◌≡◌, ◌≤◌, ◌<◌, ◌+◌, ◌-◌, ◌^◌, List, [], ◌∷◌, Option, Some, None, Bool, true, false, refl, sym, ap, ◌∙◌, subst, length, arith, add-one}
+use Rattle.std.specs.Prelude.{◌↔◌, IsTrue}
 use Rattle.std.proofs.lemmas.Bool.{ltb-true}
 use Rattle.vx_trees.specs.Rose.{node, end, more, label, count, roses_of}
 use Rattle.vx_trees.specs.Walks.{nodes, nodes_of}

@@ -121,9 +121,12 @@ fn is_entry(map: &MapDType, dtype: &DType) -> bool
     ensures { IsTrue result ↔ (typ dtype.now ≡ entries map.now) }
 {
     match dtype {
-        DType::Struct(fields, Nullability::NonNullable) => {
-            are_names(fields.names().as_slice()) && are_types(map, fields.fields().as_slice())
-        }
+        DType::Struct(fields, nullability) => match nullability {
+            Nullability::NonNullable => {
+                are_names(fields.names().as_slice()) && are_types(map, fields.fields().as_slice())
+            }
+            Nullability::Nullable => false,
+        },
         _ => false,
     }
 }
@@ -133,7 +136,7 @@ fn are_names(names: &[Name]) -> bool
     ensures { IsTrue result ↔ (names.now ≡ key_name ∷ value_name ∷ []) }
 {
     match names {
-        [key, value] => key.as_str() == "key" && value.as_str() == "value",
+        [key, value] => is_text(key, "key") && is_text(value, "value"),
         _ => false,
     }
 }
@@ -143,7 +146,22 @@ fn are_types(map: &MapDType, types: &[DType]) -> bool
     ensures { IsTrue result ↔ (typs types.now ≡ map.now.key ∷ map.now.value ∷ []) }
 {
     match types {
-        [key, value] => *key == *map.key_dtype() && *value == *map.value_dtype(),
+        [key, value] => is_type(key, map.key_dtype()) && is_type(value, map.value_dtype()),
         _ => false,
     }
+}
+
+// Whether a name is a text.
+fn is_text(name: &Name, text: &str) -> bool
+    ensures { IsTrue result ↔ (name.now ≡ text.now) }
+{
+    name.as_str() == text
+}
+
+// Whether a type is another.
+#[tactic(auto, using(vx_trees::proofs::Sameness::sameness))]
+fn is_type(dtype: &DType, other: &DType) -> bool
+    ensures { IsTrue result ↔ (typ dtype.now ≡ typ other.now) }
+{
+    *dtype == *other
 }
