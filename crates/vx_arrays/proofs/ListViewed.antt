@@ -242,7 +242,11 @@ module _ (a : Tree) (offsets sizes : Rows) (valid : ℕ → Option Bool) where
   at_last n i h v (inl q) = rw q v
   at_last n i h v (inr l) = h i l
 
-  pub up_to_more : (n : ℕ) → AreUpTo a offsets sizes valid n → (IsThere valid n → IsView (rows_of a) offsets sizes n) → AreUpTo a offsets sizes valid (suc n)
-  up_to_more n h v i l = at_last n i h v (eq-or-lt_of_le (omega (arith, l)))
+  pub up_to_more : (n : ℕ) (w : Option Bool) → w ≡ valid n → AreUpTo a offsets sizes valid n → (w ≡ Some true → IsView (rows_of a) offsets sizes n) → AreUpTo a offsets sizes valid (n + 1)
+  up_to_more n w e h v i l = at_last n i h (λ t. v (e ∙ t)) (eq-or-lt_of_le (omega (arith, l)))
 
-pub ruleset loops = (up_to_none, up_to_more)
+  -- Where all are right, each of them is.
+  pub right_at : (n i : ℕ) (w : Option Bool) → w ≡ valid i → i < n → AreUpTo a offsets sizes valid n → w ≡ Some true → IsView (rows_of a) offsets sizes i
+  right_at n i w e l h t = h i l (sym e ∙ t)
+
+pub ruleset loops = (up_to_none, up_to_more, right_at)

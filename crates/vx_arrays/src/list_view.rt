@@ -260,12 +260,30 @@ fn are_views(
     ensures { IsTrue result ↔ ((i : ℕ) → i < len → IsThere (validity (rows_below (roses_of behind.now))) i → IsView (rows_of elements.now) (rows_of offsets.now) (rows_of sizes.now) i) }
 {
     for i in 0..len {
-        let there = validity_at(behind, len, i) == Some(true);
-        if there && !is_view(elements, offsets, sizes, i) {
+        let valid = validity_at(behind, len, i);
+        if !is_right(valid, elements, offsets, sizes, i) {
             return false;
         }
     }
     true
+}
+
+// Whether a row has its elements, where it is there.
+fn is_right(
+    valid: Option<bool>,
+    elements: &Array,
+    offsets: &Array,
+    sizes: &Array,
+    index: usize,
+) -> bool
+    requires offsets { index < (label offsets.now).len }
+    requires sizes { index < (label sizes.now).len }
+    ensures { IsTrue result ↔ (valid ≡ Some true → IsView (rows_of elements.now) (rows_of offsets.now) (rows_of sizes.now) index) }
+{
+    match valid {
+        Some(true) => is_view(elements, offsets, sizes, index),
+        _ => true,
+    }
 }
 
 // Whether a row's offset and size are natural numbers, and its elements are there.
