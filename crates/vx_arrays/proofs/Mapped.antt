@@ -6,7 +6,8 @@ use Rattle.vx_trees.specs.Walks.{nodes}
 use Rattle.vx_types.specs.Kind.{list, map}
 use Rattle.vx_types.specs.Parts.{Entries}
 use Rattle.vx_types.specs.Typ.{Typ}
-use Rattle.vx_types.specs.Words.{entries}
+use Rattle.vx_types.specs.Words.{entries, nullability}
+use Rattle.vx_types.specs.declared.nullability.Nullability.{Nullability}
 use Rattle.vx_scalars.specs.Stats.{Stats}
 use Rattle.vx_array_tree.specs.Body as B
 use Rattle.vx_array_tree.specs.Encoding.{Encoding}
@@ -137,3 +138,6 @@ pub ruleset shapes = (entries_shaped, shaped_entries, never_two, never_none)
 
 pub only_pushed : (none ts : Trees) (t : Tree) → none ≡ end → roses_list ts ≡ roses_list none ++ t ∷ [] → ts ≡ more t end
 only_pushed none ts t e q = sym (roses_of-roses_list ts) ∙ ap (λ (us : List Tree). roses_of us) (q ∙ ap (λ (us : Trees). roses_list us ++ t ∷ []) e)
+
+pub tree_is : (m : Entries) (t : Tree) (k : Nullability) (n : ℕ) (ts : Trees) → k ≡ nullability (label t).dtype → n ≡ (label t).len → ts ≡ more t end → node (untold (node (map m.keys_sorted k) (more m.key (more m.value end))) n B.map) ts ≡ map_tree m t
+tree_is m t k n ts e l q = rw (e, l, q) refl

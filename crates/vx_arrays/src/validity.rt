@@ -1,8 +1,8 @@
 //! The validity of a node: the child that says which rows are there.
 
-ghost use Rattle.std.specs.Prelude.{◌≡◌, ◌<◌, ◌≤◌, ◌↔◌, ℕ, [], Some, false, IfErr, IfOk, IsTrue, IsOkUnless, length};
+ghost use Rattle.std.specs.Prelude.{◌≡◌, ◌<◌, ◌≤◌, ◌↔◌, ◌++◌, ℕ, [], Some, false, IfErr, IfOk, IsTrue, IsOkUnless, length};
 ghost use Rattle.vx_trees.specs.Everywhere.{EverywhereBelow};
-ghost use Rattle.vx_trees.specs.Rose.{count, more, node, roses_of};
+ghost use Rattle.vx_trees.specs.Rose.{count, more, node, roses_list, roses_of};
 ghost use Rattle.vx_types.specs.Seen.{typ};
 ghost use Rattle.vx_array_tree.specs.Place.{before_validity};
 ghost use Rattle.vx_array_tree.specs.Refused.{IsWellShaped};
@@ -160,10 +160,22 @@ pub(crate) fn listed_by_three(
     children.push(first)?;
     children.push(second)?;
     children.push(third)?;
-    if let Some(array) = validity {
-        children.push(array)?;
+    with_last(children, validity)
+}
+
+// A list of children with one more behind them, where it stands.
+fn with_last(children: Arrays, last: Option<Array>) -> Result<Arrays, ArrayError>
+    ensures children { IfOk result (λ all. roses_list all ≡ roses_list children ++ roses_list (option_trees last)) }
+    ensures err { IsOkUnless result ArrayError.OutOfMemory }
+{
+    let mut all = children;
+    match last {
+        None => Ok(all),
+        Some(array) => {
+            all.push(array)?;
+            Ok(all)
+        }
     }
-    Ok(children)
 }
 
 // The first of a node's children, and those behind it.
