@@ -12,13 +12,15 @@ never_two n [] l e = omega (arith, l)
 never_two n (u ∷ []) l e = omega (arith, l)
 never_two n (u ∷ v ∷ us) l e = absurd (cc)
 
--- Three arrays put one by one into an empty list, and what is put behind them.
-pub three_and_last : (r : Result Trees ArrayError) (none xs ys zs vs : Trees) (a o z : Tree) → none ≡ end → roses_list xs ≡ roses_list none ++ a ∷ [] → roses_list ys ≡ roses_list xs ++ o ∷ [] → roses_list zs ≡ roses_list ys ++ z ∷ []
-    → IfOk r (λ t. roses_list t ≡ roses_list zs ++ roses_list vs) → IfOk r (λ t. t ≡ more a (more o (more z vs)))
-three_and_last (Ok t) none xs ys zs vs a o z e p q s h =
-    let x : roses_list xs ≡ a ∷ [] = p ∙ ap (λ (ts : Trees). roses_list ts ++ a ∷ []) e in
-    let y : roses_list ys ≡ a ∷ o ∷ [] = q ∙ ap (λ (us : List Tree). us ++ o ∷ []) x in
-    let w : roses_list zs ≡ a ∷ o ∷ z ∷ [] = s ∙ ap (λ (us : List Tree). us ++ z ∷ []) y in
-    let l : roses_list t ≡ roses_list (more a (more o (more z vs))) = h ∙ ap (λ (us : List Tree). us ++ roses_list vs) w in
+-- What is put behind an array that is put behind others.
+pub one_and_more : (r : Result Trees ArrayError) (ts us : Trees) (a : Tree) (vs : List Tree) → roses_list us ≡ roses_list ts ++ a ∷ [] → IfOk r (λ t. roses_list t ≡ roses_list us ++ vs) → IfOk r (λ t. roses_list t ≡ roses_list ts ++ a ∷ vs)
+one_and_more (Ok t) ts us a vs e h = h ∙ ap (λ (xs : List Tree). xs ++ vs) e ∙ append-assoc (roses_list ts) (a ∷ []) vs
+one_and_more (Err x) ts us a vs e h = tt
+
+-- What is put behind one array alone.
+pub one_and_list : (r : Result Trees ArrayError) (none ts vs : Trees) (a o z : Tree) → none ≡ end → roses_list ts ≡ roses_list none ++ a ∷ [] → IfOk r (λ t. roses_list t ≡ roses_list ts ++ o ∷ z ∷ roses_list vs) → IfOk r (λ t. t ≡ more a (more o (more z vs)))
+one_and_list (Ok t) none ts vs a o z q e h =
+    let x : roses_list ts ≡ a ∷ [] = e ∙ ap (λ (us : Trees). roses_list us ++ a ∷ []) q in
+    let l : roses_list t ≡ roses_list (more a (more o (more z vs))) = h ∙ ap (λ (us : List Tree). us ++ o ∷ z ∷ roses_list vs) x in
     sym (roses_of-roses_list t) ∙ ap (λ (us : List Tree). roses_of us) l ∙ roses_of-roses_list (more a (more o (more z vs)))
-three_and_last (Err x) none xs ys zs vs a o z e p q s h = tt
+one_and_list (Err x) none ts vs a o z q e h = tt
