@@ -13,6 +13,7 @@ use Rattle.vx_array_tree.specs.Encodings.Primitives as Primitives
 use Rattle.vx_array_tree.specs.Encodings.Decimals as Decimals
 use Rattle.vx_array_tree.specs.Encodings.VarBins as VarBins
 use Rattle.vx_array_tree.specs.Encodings.VarBinViews as VarBinViews
+use Rattle.vx_array_tree.specs.Encodings.ListViews as ListViews
 use Rattle.vx_array_tree.specs.Tree.{Tree, Trees, Head, untold}
 use Rattle.vx_arrays.specs.Plain.{plain_body}
 use Rattle.vx_arrays.specs.declared.body.Body.{Body as DeclaredBody}
@@ -108,7 +109,19 @@ module _ (x y : VarBinViews.Data) where
   unfolding views_in
   same-views_buffers e = ap (λ b. (views_in b).buffers) e
 
-pub ruleset bodies = (bools-same, same-bools_bytes, same-bools_offset, primitives-same, same-primitives, decimals-same, same-decimals_bytes, same-decimals_type, varbins-same, same-varbins, views-same, same-views_bytes, same-views_buffers)
+module _ (x y : ListViews.Data) where
+  pub list_views-same : x.zero_copy ≡ y.zero_copy → compared_body (B.listview x) ≡ compared_body (B.listview y)
+  list_views-same p = λ i. B.listview (record { zero_copy = p i })
+
+  list_views_in : Body → ListViews.Data
+  list_views_in (B.listview z) = z
+  list_views_in _ = x
+
+  pub same-list_views : compared_body (B.listview x) ≡ compared_body (B.listview y) → x.zero_copy ≡ y.zero_copy
+  unfolding list_views_in
+  same-list_views e = ap (λ b. (list_views_in b).zero_copy) e
+
+pub ruleset bodies = (bools-same, same-bools_bytes, same-bools_offset, primitives-same, same-primitives, decimals-same, same-decimals_bytes, same-decimals_type, varbins-same, same-varbins, views-same, same-views_bytes, same-views_buffers, list_views-same, same-list_views)
 
 -- ---- lists, element by element
 

@@ -23,3 +23,7 @@ mod Stored
 mod Listed
 mod Tagged
 mod Dictionaries
+mod Behind
+mod ListViewed
+mod Entries
+mod Mapped

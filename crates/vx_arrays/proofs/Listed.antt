@@ -1,5 +1,6 @@
 -- The children of a node of lists: its elements, its offsets, and what stands behind them; and its rows.
 use Rattle.std.proofs.Common.{ℕ, suc, ◌≡◌, ◌≤◌, ◌<◌, ◌+◌, ◌-◌, ◌^◌, List, [], ◌∷◌, Option, Some, None, Bool, true, false, refl, sym, ap, ◌∙◌, subst, length, arith, add-one}
+use Rattle.std.specs.Prelude.{◌↔◌, IsTrue}
 use Rattle.std.proofs.lemmas.Bool.{ltb-true}
 use Rattle.std.specs.Prelude.{◌↔◌, IsTrue}
 use Rattle.vx_trees.specs.Rose.{node, end, more, label, count, roses_of}
@@ -31,7 +32,7 @@ use Rattle.vx_arrays.proofs.Parted.{below_limit, offsets_type, same_suc}
 pub some_is : {A : Type 0} (x y : A) → Some x ≡ Some y → x ≡ y
 some_is x y e = cc
 
-none_some : {A : Type 0} (x : A) → None ≡ Some x → ⊥
+pub none_some : {A : Type 0} (x : A) → None ≡ Some x → ⊥
 none_some x e = absurd (cc)
 
 passed : (b : Bool) (o : Option (List Place)) (ps : List Place) → when b o ≡ Some ps → b ≡ true
@@ -39,7 +40,7 @@ passed true o ps e = refl
 passed false o ps e = absurd (cc)
 
 -- The first child stands at the first place, and the others at the others.
-first_stands : (p : Place) (ps : List Place) (n : ℕ) (o : Tree) (vs : Trees) → before_validity (p ∷ ps) n (suc (count vs)) ≡ Some (places (more o vs))
+pub first_stands : (p : Place) (ps : List Place) (n : ℕ) (o : Tree) (vs : Trees) → before_validity (p ∷ ps) n (suc (count vs)) ≡ Some (places (more o vs))
     → (place (label o).dtype (label o).len ≡ p) × (before_validity ps n (count vs) ≡ Some (places vs))
 first_stands p ps n o vs e =
     let m = mapped (λ (qs : List Place). p ∷ qs) (before_validity ps n (count vs)) (places (more o vs)) e in

@@ -10,6 +10,8 @@ pub mod FixedSizeLists
 pub mod Extensions
 pub mod Lists
 pub mod Dicts
+pub mod ListViews
+pub mod Maps
 pub mod Structs
 pub mod Unions
 pub mod Places

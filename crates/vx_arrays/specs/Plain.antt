@@ -11,6 +11,7 @@ use Rattle.vx_scalars.specs.Stats.{Stats}
 use Rattle.vx_arrays.specs.declared.body.Body.{Body}
 use Rattle.vx_arrays.specs.declared.body.Body.TheVariants.{Null, Primitive, Bool, Decimal, VarBin, VarBinView, FixedSizeList, Struct, Ext, List as ListOf, Union}
 use Rattle.vx_arrays.specs.declared.body.Body.TheVariants.{Null, Primitive, Bool, Decimal, VarBin, VarBinView, FixedSizeList, Struct, Ext, List as ListOf, Dict}
+use Rattle.vx_arrays.specs.declared.body.Body.TheVariants.{Null, Primitive, Bool, Decimal, VarBin, VarBinView, FixedSizeList, Struct, Ext, List as ListOf, ListView, Map}
 use Rattle.vx_arrays.specs.declared.row.RowValue.{RowValue}
 use Rattle.vx_arrays.specs.declared.row.RowValue.TheVariants as R
 
@@ -28,6 +29,8 @@ plain_body Ext = B.ext
 plain_body ListOf = B.list
 plain_body Union = B.union
 plain_body (Dict x) = B.dict x
+plain_body (ListView x) = B.listview x
+plain_body Map = B.map
 
 -- A node without its children, by its type, its rows, what is told of them, and what its encoding holds.
 abbrev pub head_of : Typ → ℕ → Stats → Body → Head

@@ -24,6 +24,7 @@ use crate::error::ArrayError;
 use crate::extension::storage_in;
 use crate::fixed_size_list::FixedSizeListArray;
 use crate::lists::ListArray;
+use crate::map::entries_in;
 use crate::new_buffers::without_buffers;
 use crate::null::NullArray;
 use crate::parts::{LoneRow, RowParts, built};
@@ -208,7 +209,7 @@ impl Array {
     }
 
     /// Whether the row is there; None where that is not known.
-    #[tactic(auto, using(crate::proofs::Untold::untold_node, crate::proofs::Stored::stored_rows))]
+    #[tactic(auto, using(crate::proofs::Untold::untold_node, crate::proofs::Stored::stored_rows, crate::proofs::Mapped::mapped_rows))]
     pub fn is_valid(&self, index: usize) -> Option<bool>
         requires { index < (label self.now).len }
         ensures { result ≡ valid_at self.now index }
@@ -233,6 +234,13 @@ impl Array {
             }
             Body::List => {
                 ListArray::valid_at(&self.dtype, self.len, self.children.as_slice(), index)
+            }
+            Body::ListView(views) => {
+                views.valid_at(&self.dtype, self.len, self.children.as_slice(), index)
+            }
+            Body::Map => {
+                let entries = entries_in(&self.dtype, self.len, self.children.as_slice());
+                entries.is_valid(index)
             }
             Body::Ext => {
                 let storage = storage_in(&self.dtype, self.len, self.children.as_slice());
@@ -277,12 +285,14 @@ impl Array {
                     None => None,
                 }
             }
+            Body::ListView(_) | Body::Map => None,
         }
     }
 
     // The row as a natural number; None where it is none, or is not there, or nothing is known of it.
     #[cycle(naturals)]
     #[tactic(auto, using(crate::proofs::Naturals::naturals, crate::proofs::Untold::untold_node, crate::proofs::Stored::stored_rows))]
+    #[tactic(auto, using(crate::proofs::Naturals::naturals, crate::proofs::Untold::untold_node, crate::proofs::Stored::stored_rows, crate::proofs::Mapped::mapped_rows))]
     pub(crate) fn natural_at(&self, index: usize) -> Option<u64>
         requires { index < (label self.now).len }
         ensures { result ≡ natural (row_at self.now index) }
@@ -296,6 +306,12 @@ impl Array {
             Body::VarBin(_) => None,
             Body::VarBinView(_) => None,
             Body::FixedSizeList | Body::Struct | Body::List | Body::Union => None,
+            Body::FixedSizeList | Body::Struct | Body::List => None,
+            Body::ListView(_) => None,
+            Body::Map => {
+                let entries = entries_in(&self.dtype, self.len, children);
+                entries.natural_at(index)
+            }
             Body::Ext => {
                 let storage = storage_in(&self.dtype, self.len, children);
                 storage.natural_at(index)
@@ -311,7 +327,7 @@ impl Array {
     }
 
     // Of what a row is made.
-    #[tactic(auto, using(crate::proofs::Untold::untold_node, crate::proofs::Stored::stored_rows))]
+    #[tactic(auto, using(crate::proofs::Untold::untold_node, crate::proofs::Stored::stored_rows, crate::proofs::Mapped::mapped_rows))]
     fn parts_at(&self, index: usize) -> RowParts<'_>
         requires { index < (label self.now).len }
         ensures value { parts_value result ≡ row_at self.now index }
@@ -334,6 +350,11 @@ impl Array {
             Body::List => ListArray::parts_at(dtype, len, children, index),
             Body::Union => UnionArray::parts_at(dtype, len, children, index),
             Body::Dict(flag) => flag.parts_at(dtype, len, children, index),
+            Body::ListView(views) => views.parts_at(dtype, len, children, index),
+            Body::Map => {
+                let array = entries_in(dtype, len, children);
+                RowParts::At { array, index }
+            }
             Body::Ext => {
                 let array = storage_in(dtype, len, children);
                 RowParts::At { array, index }
@@ -403,6 +424,11 @@ impl Array {
                 let body = Body::Dict(flag.clone());
                 without_buffers(alloc, dtype, len, body, children, buffers)
             }
+            Body::ListView(views) => {
+                let body = Body::ListView(views.again());
+                without_buffers(alloc, dtype, len, body, children, buffers)
+            }
+            Body::Map => without_buffers(alloc, dtype, len, Body::Map, children, buffers),
         }
     }
 

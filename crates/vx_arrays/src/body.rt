@@ -10,7 +10,9 @@ use crate::dict::{DictArray, DictData};
 use crate::error::ArrayError;
 use crate::extension::ExtensionArray;
 use crate::fixed_size_list::FixedSizeListArray;
+use crate::list_view::{ListViewArray, ListViewData};
 use crate::lists::ListArray;
+use crate::map::MapArray;
 use crate::null::NullArray;
 use crate::primitive::{PrimitiveArray, PrimitiveData};
 use crate::structs::StructArray;
@@ -47,6 +49,10 @@ pub enum Body {
     Union,
     /// Dictionaries: a flag.
     Dict(DictData),
+    /// A flag: lists, each with an offset and a size of its own.
+    ListView(ListViewData),
+    /// Nothing: maps, by their entries.
+    Map,
 }
 
 impl Body {
@@ -69,6 +75,8 @@ impl Body {
             Body::List => ListArray::ID,
             Body::Union => UnionArray::ID,
             Body::Dict(_) => DictArray::ID,
+            Body::ListView(_) => ListViewArray::ID,
+            Body::Map => MapArray::ID,
         }
     }
 
@@ -85,6 +93,8 @@ impl Body {
             Body::VarBinView(views) => views.nbuffers(),
             Body::FixedSizeList | Body::Struct | Body::Ext | Body::List | Body::Union => 0,
             Body::FixedSizeList | Body::Struct | Body::Ext | Body::List | Body::Dict(_) => 0,
+            Body::FixedSizeList | Body::Struct | Body::Ext | Body::List => 0,
+            Body::ListView(_) | Body::Map => 0,
         }
     }
 
@@ -101,6 +111,10 @@ impl Body {
             | Body::List
             | Body::Union => { unreachable!() }
             | Body::Dict(_) => { unreachable!() }
+            Body::Null | Body::FixedSizeList | Body::Struct | Body::Ext | Body::List => {
+                unreachable!()
+            }
+            Body::ListView(_) | Body::Map => unreachable!(),
             Body::Primitive(numbers) => numbers.values(),
             Body::Bool(flags) => flags.bits(),
             Body::Decimal(decimals) => decimals.values(),
@@ -126,6 +140,8 @@ impl Body {
             (Body::List, Body::List) => true,
             (Body::Union, Body::Union) => true,
             (Body::Dict(x), Body::Dict(y)) => x.array_eq(y),
+            (Body::ListView(x), Body::ListView(y)) => x.array_eq(y),
+            (Body::Map, Body::Map) => true,
             _ => false,
         }
     }
@@ -148,6 +164,8 @@ impl Body {
             Body::List => Ok(Body::List),
             Body::Union => Ok(Body::Union),
             Body::Dict(flag) => Ok(Body::Dict(flag.clone())),
+            Body::ListView(views) => Ok(Body::ListView(views.again())),
+            Body::Map => Ok(Body::Map),
         }
     }
 }

@@ -129,7 +129,7 @@ impl ListArray {
 }
 
 // The type of the elements, where a type is one of lists.
-fn element_type(dtype: &DType) -> Option<&DType>
+pub(crate) fn element_type(dtype: &DType) -> Option<&DType>
     ensures { option_map (λ d. typ d.now) result ≡ element_of (typ dtype.now) }
 {
     match dtype {
@@ -186,7 +186,7 @@ fn has_content(dtype: &DType, len: usize, children: &[Array]) -> bool
 }
 
 // The type of lists of elements of a type.
-fn list_type(alloc: Global, element: &DType, nullability: Nullability) -> Result<DType, ArrayError>
+pub(crate) fn list_type(alloc: Global, element: &DType, nullability: Nullability) -> Result<DType, ArrayError>
     ensures ok { IfOk result (λ d. typ d ≡ node (list nullability) (more (typ element.now) end)) }
     ensures err { IsOkUnless result ArrayError.OutOfMemory }
 {

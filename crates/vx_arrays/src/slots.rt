@@ -44,6 +44,8 @@ impl Array {
             | Body::List
             | Body::Union => Ok(None),
             | Body::Dict(_) => Ok(None),
+            Body::Null | Body::FixedSizeList | Body::Struct | Body::Ext | Body::List => Ok(None),
+            Body::ListView(_) | Body::Map => Ok(None),
             Body::Bool(_) => only_name(alloc, "bits", index),
             Body::Primitive(_) | Body::Decimal(_) => only_name(alloc, "values", index),
             Body::VarBin(_) => only_name(alloc, "bytes", index),
@@ -61,6 +63,8 @@ fn slots_of(dtype: &DType, body: &Body) -> usize
         Body::Bool(_) | Body::Primitive(_) | Body::Decimal(_) | Body::VarBinView(_) => 1,
         Body::Ext => 1,
         Body::List => 3,
+        Body::ListView(_) => 4,
+        Body::Map => 1,
         Body::VarBin(_) | Body::FixedSizeList => 2,
         Body::Struct | Body::Union => match members_of(dtype) {
         Body::VarBin(_) | Body::FixedSizeList | Body::Dict(_) => 2,
@@ -98,6 +102,13 @@ fn slot_of<'a>(dtype: &'a DType, body: &Body, index: usize) -> &'a str
             _ => "validity",
         },
         Body::Dict(_) => { if index == 0 { "codes" } else { "values" } }
+        Body::ListView(_) => match index {
+            0 => "elements",
+            1 => "offsets",
+            2 => "sizes",
+            _ => "validity",
+        },
+        Body::Map => "entries",
         Body::VarBin(_) => { if index == 0 { "offsets" } else { "validity" } }
         Body::FixedSizeList => { if index == 0 { "elements" } else { "validity" } }
         Body::Struct => {
