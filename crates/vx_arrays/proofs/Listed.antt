@@ -107,12 +107,6 @@ listed_shaped d n a o vs l =
       holds = tt;
     }
 
--- Behind other children there is a validity or nothing: not two arrays.
-pub many_behind : (m : Nullability) (n : ℕ) (ts : Trees) → 2 ≤ count ts → IsValidity m n ts → ⊥
-many_behind m n end h v = absurd (omega (arith, h))
-many_behind m n (more a end) h v = absurd (omega (arith, h))
-many_behind m n (more a (more b ts)) h v = none_some _ v.planned
-
 -- What is told of the type's nullability is told of the type.
 pub behind_type : (m : Nullability) (n : ℕ) (b : Bool) (d : Typ) (vs : Trees) → m ≡ nullability d → (IsTrue b ↔ IsValidity m n vs) → IsTrue b ↔ IsValidity (nullability d) n vs
 behind_type m n b d vs e h = subst (λ (z : Nullability). IsTrue b ↔ IsValidity z n vs) e h
@@ -121,9 +115,9 @@ behind_type m n b d vs e h = subst (λ (z : Nullability). IsTrue b ↔ IsValidit
 pub listed_decide : (d : Typ) (n : ℕ) (b : Bool) (a o : Tree) (vs : Trees) → element_of d ≡ Some (label a).dtype → IsOfOffsets (label o).dtype → (label o).len ≡ suc n → suc n < 2 ^ 64 → (IsTrue b ↔ IsValidity (nullability d) n vs)
     → IsTrue b ↔ IsWellShaped (untold d n B.list) (more a (more o vs))
 listed_decide d n b a o vs e k l lt h = (
-    λ t. listed_shaped d n a o vs (record { element = e; offsets = k; counted = l; few = lt; behind = h.0 t }),
-    λ s. h.1 (shaped_listed d n a o vs s).behind,
-  )
+  λ t. listed_shaped d n a o vs (record { element = e; offsets = k; counted = l; few = lt; behind = h.0 t }),
+  λ s. h.1 (shaped_listed d n a o vs s).behind,
+)
 
 -- There are two children or more.
 pub two_children : (d : Typ) (n : ℕ) (ts : Trees) → IsWellShaped (untold d n B.list) ts → 2 ≤ count ts

@@ -121,7 +121,6 @@ three_pushed none xs ys zs a b c e f g h =
     sym (roses_of-roses_list zs) ∙ ap (λ (us : List Tree). roses_of us)
     (h ∙ ap (λ (us : List Tree). us ++ c ∷ []) (g ∙ ap (λ (us : List Tree). us ++ b ∷ []) (f ∙ ap (λ (us : Trees). roses_list us ++ a ∷ []) e)))
 
-
 pub tree_is : (x : Ext) (t : Tree) (n : ℕ) (ts : Trees) → n ≡ (label t).len → ts ≡ more t end → node (untold (node (extension x.id x.metadata) (more x.storage end)) n B.ext) ts ≡ extension_tree x t
 tree_is x t n ts l e = rw (l, e) refl
 

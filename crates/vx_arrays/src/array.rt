@@ -249,6 +249,7 @@ impl Array {
             Body::Union => {
                 let tags = tags_in(&self.dtype, self.len, self.children.as_slice());
                 tags.is_valid(index)
+            }
             Body::Dict(flag) => {
                 let children = self.children.as_slice();
                 let (codes, values) = flag.pair_in(&self.dtype, self.len, children);
@@ -275,7 +276,6 @@ impl Array {
             Body::Decimal(_) => None,
             Body::VarBin(_) => None,
             Body::VarBinView(_) => None,
-            Body::FixedSizeList | Body::Struct | Body::Ext | Body::List | Body::Union => None,
             Body::FixedSizeList | Body::Struct | Body::Ext | Body::List => None,
             Body::Dict(flag) => {
                 let children = self.children.as_slice();
@@ -285,13 +285,12 @@ impl Array {
                     None => None,
                 }
             }
-            Body::ListView(_) | Body::Map => None,
+            Body::ListView(_) | Body::Map | Body::Union => None,
         }
     }
 
     // The row as a natural number; None where it is none, or is not there, or nothing is known of it.
     #[cycle(naturals)]
-    #[tactic(auto, using(crate::proofs::Naturals::naturals, crate::proofs::Untold::untold_node, crate::proofs::Stored::stored_rows))]
     #[tactic(auto, using(crate::proofs::Naturals::naturals, crate::proofs::Untold::untold_node, crate::proofs::Stored::stored_rows, crate::proofs::Mapped::mapped_rows))]
     pub(crate) fn natural_at(&self, index: usize) -> Option<u64>
         requires { index < (label self.now).len }
@@ -305,9 +304,8 @@ impl Array {
             Body::Decimal(_) => None,
             Body::VarBin(_) => None,
             Body::VarBinView(_) => None,
-            Body::FixedSizeList | Body::Struct | Body::List | Body::Union => None,
             Body::FixedSizeList | Body::Struct | Body::List => None,
-            Body::ListView(_) => None,
+            Body::ListView(_) | Body::Union => None,
             Body::Map => {
                 let entries = entries_in(&self.dtype, self.len, children);
                 entries.natural_at(index)

@@ -91,10 +91,8 @@ impl Body {
             Body::Decimal(_) => 1,
             Body::VarBin(_) => 1,
             Body::VarBinView(views) => views.nbuffers(),
-            Body::FixedSizeList | Body::Struct | Body::Ext | Body::List | Body::Union => 0,
-            Body::FixedSizeList | Body::Struct | Body::Ext | Body::List | Body::Dict(_) => 0,
             Body::FixedSizeList | Body::Struct | Body::Ext | Body::List => 0,
-            Body::ListView(_) | Body::Map => 0,
+            Body::ListView(_) | Body::Map | Body::Union | Body::Dict(_) => 0,
         }
     }
 
@@ -104,17 +102,10 @@ impl Body {
         ensures { slice_get (buffers_of (plain_body self.now)) index ≡ Some result.now }
     {
         match self {
-            Body::Null
-            | Body::FixedSizeList
-            | Body::Struct
-            | Body::Ext
-            | Body::List
-            | Body::Union => { unreachable!() }
-            | Body::Dict(_) => { unreachable!() }
             Body::Null | Body::FixedSizeList | Body::Struct | Body::Ext | Body::List => {
                 unreachable!()
             }
-            Body::ListView(_) | Body::Map => unreachable!(),
+            Body::ListView(_) | Body::Map | Body::Union | Body::Dict(_) => unreachable!(),
             Body::Primitive(numbers) => numbers.values(),
             Body::Bool(flags) => flags.bits(),
             Body::Decimal(decimals) => decimals.values(),

@@ -37,15 +37,8 @@ impl Array {
         ensures err { IsOkUnless result ArrayError.OutOfMemory }
     {
         match self.body() {
-            Body::Null
-            | Body::FixedSizeList
-            | Body::Struct
-            | Body::Ext
-            | Body::List
-            | Body::Union => Ok(None),
-            | Body::Dict(_) => Ok(None),
             Body::Null | Body::FixedSizeList | Body::Struct | Body::Ext | Body::List => Ok(None),
-            Body::ListView(_) | Body::Map => Ok(None),
+            Body::ListView(_) | Body::Map | Body::Union | Body::Dict(_) => Ok(None),
             Body::Bool(_) => only_name(alloc, "bits", index),
             Body::Primitive(_) | Body::Decimal(_) => only_name(alloc, "values", index),
             Body::VarBin(_) => only_name(alloc, "bytes", index),
@@ -66,9 +59,8 @@ fn slots_of(dtype: &DType, body: &Body) -> usize
         Body::ListView(_) => 4,
         Body::Map => 1,
         Body::VarBin(_) | Body::FixedSizeList => 2,
+        Body::Dict(_) => 2,
         Body::Struct | Body::Union => match members_of(dtype) {
-        Body::VarBin(_) | Body::FixedSizeList | Body::Dict(_) => 2,
-        Body::Struct => match members_of(dtype) {
             Some(names) => names.as_slice().len() + 1,
             None => 1,
         },

@@ -11,7 +11,7 @@ pub returns-then-not-is_of_type : goal.returns-then-not-is_of_type
 returns-then-not-is_of_type c = (
   λ x. absurd (false≢true x),
   λ s. absurd (iff_false c.is_of_type.ensures c.if-not-is_of_type.true
-    (sym (some_is (typ c.in-Some.kind.now) (label c.args.elements.now).dtype
+      (sym (some_is (typ c.in-Some.kind.now) (label c.args.elements.now).dtype
       (ap (λ o. option_map (λ d. typ d.now) o) (sym c.in-Some.is) ∙ c.element_type.ensures ∙ (shaped_listed (typ c.args.dtype.now) c.args.len _ _ _ s).element)))),
 )
 
@@ -23,7 +23,7 @@ returns-then-not-are_counted c = (
 
 pub returns : goal.returns
 returns c =
-  let k = c.if-not-are_counted.ensures in
-  listed_decide (typ c.args.dtype.now) c.args.len c.stands_behind.result c.args.elements.now c.args.offsets.now (roses_of c.args.behind.now)
+    let k = c.if-not-are_counted.ensures in
+    listed_decide (typ c.args.dtype.now) c.args.len c.stands_behind.result c.args.elements.now c.args.offsets.now (roses_of c.args.behind.now)
     (sym c.element_type.ensures ∙ ap (λ o. option_map (λ d. typ d.now) o) c.in-Some.is ∙ ap (λ z. Some z) (sym (c.if-not-is_of_type.ensures.0 refl)))
     (k.kind refl) (k.counted refl) (k.few refl) (behind_type _ c.args.len c.stands_behind.result (typ c.args.dtype.now) (roses_of c.args.behind.now) c.nullability.ensures c.stands_behind.ensures)
