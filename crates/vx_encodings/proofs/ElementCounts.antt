@@ -39,12 +39,16 @@ one_count_and_kind bytes f g a b =
 pub list_formed : (n : ℕ) (p : PType) → n < 2 ^ 64 → HasForm list_schema 0 (list_value n p)
 list_formed n p lt = whole_form list_schema 0 list_parts (n, (code_of p, tt)) ((n, refl, lt), ((code_of p, refl, few_kinds p), tt))
 
+-- Two slots that hold a number of elements and the code of a kind are the plain value of both.
+pub both_numbers : (n m : ℕ) (p : PType) (k : ℕ) → n ≡ m → code_of p ≡ k → list_value n p ≡ list_parts.value (m, (k, tt))
+both_numbers n m p k e f = λ i. list_parts.value (e i, (f i, tt))
+
 -- Each of its two fields is a key and a varint at most.
-left_out : (b c : Bool) (s t : List ℕ) → length ((if b then [] else s) ++ (if c then [] else t) ++ []) ≤ length s + length t
+left_out : (b c : Bool) (s t : List ℕ) → length (((if b then [] else s) ++ []) ++ (((if c then [] else t) ++ []) ++ [])) ≤ length s + length t
 left_out true true s t = omega arith
-left_out true false s t = omega (arith, length-append t [])
-left_out false true s t = omega (arith, length-append s [])
-left_out false false s t = omega (arith, length-append s (t ++ []), length-append t [])
+left_out true false s t = omega (arith, length-append t [], length-append (t ++ []) [])
+left_out false true s t = omega (arith, length-append s [], length-append (s ++ []) [])
+left_out false false s t = omega (arith, length-append (s ++ []) ((t ++ []) ++ []), length-append s [], length-append t [], length-append (t ++ []) [])
 
 short : (n : ℕ) (p : PType) → n < 2 ^ 64 → length (list_bytes n p) < 2 ^ 64
 unfolding written
@@ -53,8 +57,15 @@ short n p lt =
     let t = varint_bytes 16 ++ varint_bytes (code_of p) in
     let few : length (list_bytes n p) ≤ length s + length t = left_out (n == 0) (code_of p == 0) s t in
     let lk = few_kinds p in
-    omega (arith, length-append (varint_bytes 8) (varint_bytes n), (varint_spelled 8 (omega arith)).short, (varint_spelled n lt).short,
-    length-append (varint_bytes 16) (varint_bytes (code_of p)), (varint_spelled 16 (omega arith)).short, (varint_spelled (code_of p) (omega (arith, lk))).short)
+    omega (
+      arith,
+      length-append (varint_bytes 8) (varint_bytes n),
+      (varint_spelled 8 (omega arith)).short,
+      (varint_spelled n lt).short,
+      length-append (varint_bytes 16) (varint_bytes (code_of p)),
+      (varint_spelled 16 (omega arith)).short,
+      (varint_spelled (code_of p) (omega (arith, lk))).short,
+    )
 
 -- What is written of them is read as them.
 pub list_again : (n : ℕ) (p : PType) → n < 2 ^ 64 → ShowsList (list_bytes n p) (F.list n p)

@@ -1,21 +1,23 @@
 -- That a root's metadata fits its message, by what the root holds.
-use Rattle.std.proofs.Common.{ℕ, ◌≡◌, ◌<◌, ◌^◌, Bool, sym, ap, ◌∙◌, subst}
+use Rattle.std.proofs.Common.{ℕ, ◌≡◌, ◌<◌, ◌≤◌, ◌-◌, ◌^◌, Bool, sym, ap, ◌∙◌, subst}
 use Rattle.std.specs.Prelude.{IsTrue, IsFalse}
 use Rattle.vx_trees.specs.Rose.{label, below}
 use Rattle.vx_array_tree.specs.Body as B
 use Rattle.vx_array_tree.specs.Encodings.Bools as Bools
 use Rattle.vx_array_tree.specs.Encodings.Decimals as Decimals
-use Rattle.vx_array_tree.specs.Encodings.Lists as Lists
+use Rattle.vx_array_tree.specs.Encodings.Dicts as Dicts
+use Rattle.vx_array_tree.specs.Encodings.ListViews as ListViews
 use Rattle.vx_array_tree.specs.Encodings.Primitives as Primitives
 use Rattle.vx_array_tree.specs.Encodings.VarBins as VarBins
 use Rattle.vx_array_tree.specs.Encodings.VarBinViews as VarBinViews
+use Rattle.vx_array_tree.specs.Place.{first_place, second_place}
 use Rattle.vx_array_tree.specs.Table.{metadata_of}
 use Rattle.vx_array_tree.specs.Tree.{Tree, Trees, places}
 use Rattle.vx_wire_tree.specs.Fields.{FitsMessage}
 use Rattle.vx_wire_tree.specs.Limits.{HasMessage}
 use Rattle.vx_arrays.specs.Plain.{plain_body}
 use Rattle.vx_arrays.specs.declared.body.Body.{Body}
-use Rattle.vx_arrays.specs.declared.body.Body.TheVariants.{Null, Bool, Primitive, Decimal, VarBin, VarBinView, FixedSizeList, Struct, Ext, List as ListOf}
+use Rattle.vx_arrays.specs.declared.body.Body.TheVariants.{Null, Bool, Primitive, Decimal, VarBin, VarBinView, FixedSizeList, Struct, Ext, List as ListOf, ListView, Map, Union, Dict}
 
 -- The metadata of a root that holds this fits its message.
 abbrev pub KeepsFit : Tree → B.Body → Type 0
@@ -53,14 +55,39 @@ structures_fit t b e p = root t b Struct e p tt
 pub extensions_fit : (t : Tree) (b : Body) → b ≡ Ext → plain_body b ≡ (label t).body → HasMessage (label t) (below t)
 extensions_fit t b e p = root t b Ext e p tt
 
+pub unions_fit : (t : Tree) (b : Body) → b ≡ Union → plain_body b ≡ (label t).body → HasMessage (label t) (below t)
+unions_fit t b e p = root t b Union e p tt
+
+pub maps_fit : (t : Tree) (b : Body) → b ≡ Map → plain_body b ≡ (label t).body → HasMessage (label t) (below t)
+maps_fit t b e p = root t b Map e p tt
+
+-- Of these the test of a count says it: of how many elements there are, or values.
 module _ (t : Tree) (b : Body) (us : Trees) (r : Bool) (e : b ≡ ListOf) (p : plain_body b ≡ (label t).body) (u : us ≡ below t) where
-  pub counts_fit : (IsTrue r → (Lists.metadata_of (places us)).elements_len < 2 ^ 64) → IsTrue r → HasMessage (label t) (below t)
-  counts_fit h x = root t b ListOf e p (subst (λ (ts : Trees). (Lists.metadata_of (places ts)).elements_len < 2 ^ 64) u (h x))
+  pub elements_fit : (IsTrue r → (first_place (places us)).len < 2 ^ 64) → IsTrue r → HasMessage (label t) (below t)
+  elements_fit h x = root t b (ListOf) e p (subst (λ (ts : Trees). (first_place (places ts)).len < 2 ^ 64) u (h x))
 
-  pub counts_over : (IsFalse r → (Lists.metadata_of (places us)).elements_len < 2 ^ 64 → ⊥) → IsFalse r → HasMessage (label t) (below t) → ⊥
-  counts_over h x m =
+  pub elements_over : (IsFalse r → (first_place (places us)).len < 2 ^ 64 → ⊥) → IsFalse r → HasMessage (label t) (below t) → ⊥
+  elements_over h x m =
       let P : B.Body → Type 0 = λ z. KeepsFit t z in
-      h x (subst (λ (ts : Trees). (Lists.metadata_of (places ts)).elements_len < 2 ^ 64) (sym u) (subst P (sym (ap (λ (z : Body). plain_body z) (sym e) ∙ p)) m))
+      h x (subst (λ (ts : Trees). (first_place (places ts)).len < 2 ^ 64) (sym u) (subst P (sym (ap (λ (z : Body). plain_body z) (sym e) ∙ p)) m))
 
--- What the test of a root's metadata rests on.
-pub ruleset fit = (nulls_fit, flags_fit, numbers_fit, decimals_fit, kinds_fit, views_fit, lists_fit, structures_fit, extensions_fit, counts_fit, counts_over)
+module _ (t : Tree) (b : Body) (y : ListViews.Data) (us : Trees) (r : Bool) (e : b ≡ ListView y) (p : plain_body b ≡ (label t).body) (u : us ≡ below t) where
+  pub viewed_fit : (IsTrue r → (first_place (places us)).len < 2 ^ 64) → IsTrue r → HasMessage (label t) (below t)
+  viewed_fit h x = root t b (ListView y) e p (subst (λ (ts : Trees). (first_place (places ts)).len < 2 ^ 64) u (h x))
+
+  pub viewed_over : (IsFalse r → (first_place (places us)).len < 2 ^ 64 → ⊥) → IsFalse r → HasMessage (label t) (below t) → ⊥
+  viewed_over h x m =
+      let P : B.Body → Type 0 = λ z. KeepsFit t z in
+      h x (subst (λ (ts : Trees). (first_place (places ts)).len < 2 ^ 64) (sym u) (subst P (sym (ap (λ (z : Body). plain_body z) (sym e) ∙ p)) m))
+
+module _ (t : Tree) (b : Body) (y : Dicts.Data) (us : Trees) (r : Bool) (e : b ≡ Dict y) (p : plain_body b ≡ (label t).body) (u : us ≡ below t) where
+  pub values_fit : (IsTrue r → (second_place (places us)).len ≤ 2 ^ 32 - 1) → IsTrue r → HasMessage (label t) (below t)
+  values_fit h x = root t b (Dict y) e p (subst (λ (ts : Trees). (second_place (places ts)).len ≤ 2 ^ 32 - 1) u (h x))
+
+  pub values_over : (IsFalse r → (second_place (places us)).len ≤ 2 ^ 32 - 1 → ⊥) → IsFalse r → HasMessage (label t) (below t) → ⊥
+  values_over h x m =
+      let P : B.Body → Type 0 = λ z. KeepsFit t z in
+      h x (subst (λ (ts : Trees). (second_place (places ts)).len ≤ 2 ^ 32 - 1) (sym u) (subst P (sym (ap (λ (z : Body). plain_body z) (sym e) ∙ p)) m))
+
+-- What the test of-- What the test of a root's metadata rests on.
+pub ruleset fit = (nulls_fit, flags_fit, numbers_fit, decimals_fit, kinds_fit, views_fit, lists_fit, structures_fit, extensions_fit, unions_fit, maps_fit, elements_fit, elements_over, viewed_fit, viewed_over, values_fit, values_over)

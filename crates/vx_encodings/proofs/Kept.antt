@@ -4,11 +4,11 @@ use Rattle.vx_trees.specs.Rose.{label, below}
 use Rattle.vx_array_tree.specs.Body as B
 use Rattle.vx_array_tree.specs.Encodings.Bools as Bools
 use Rattle.vx_array_tree.specs.Encodings.Decimals as Decimals
+use Rattle.vx_array_tree.specs.Encodings.Dicts as Dicts
+use Rattle.vx_array_tree.specs.Encodings.ListViews as ListViews
 use Rattle.vx_array_tree.specs.Encodings.Primitives as Primitives
 use Rattle.vx_array_tree.specs.Encodings.VarBins as VarBins
 use Rattle.vx_array_tree.specs.Encodings.Lists as Lists
-use Rattle.vx_array_tree.specs.Encodings.Dicts as Dicts
-use Rattle.vx_array_tree.specs.Metadata as M
 use Rattle.vx_array_tree.specs.Encodings.VarBinViews as VarBinViews
 use Rattle.vx_array_tree.specs.Sound.{metadata_in}
 use Rattle.vx_array_tree.specs.Table.{metadata_of}
@@ -16,8 +16,7 @@ use Rattle.vx_array_tree.specs.Tree.{Tree, Trees, places}
 use Rattle.vx_wire_tree.specs.Fields.{told}
 use Rattle.vx_arrays.specs.Plain.{plain_body}
 use Rattle.vx_arrays.specs.declared.body.Body.{Body}
-use Rattle.vx_arrays.specs.declared.body.Body.TheVariants.{Null, Bool, Primitive, Decimal, VarBin, VarBinView, FixedSizeList, Struct, Ext, List as ListOf, Union}
-use Rattle.vx_arrays.specs.declared.body.Body.TheVariants.{Null, Bool, Primitive, Decimal, VarBin, VarBinView, FixedSizeList, Struct, Ext, List as ListOf, Dict}
+use Rattle.vx_arrays.specs.declared.body.Body.TheVariants.{Null, Bool, Primitive, Decimal, VarBin, VarBinView, FixedSizeList, Struct, Ext, List as ListOf, Union, ListView, Map, Dict}
 use Rattle.vx_encodings.specs.BoolMessage.{bool_bytes}
 use Rattle.vx_encodings.specs.DecimalMessage.{decimal_bytes}
 use Rattle.vx_encodings.specs.Messages.{message_bytes}
@@ -73,12 +72,15 @@ counts_kept t b us (Err error) e p u q = tt
 pub unions_kept : (t : Tree) (b : Body) (bytes : List ℕ) → b ≡ Union → plain_body b ≡ (label t).body → bytes ≡ [] → bytes ≡ message_bytes (told (metadata_in (label t) (below t)))
 unions_kept t b bytes e p q = q ∙ root t b Union e p
 
--- What the writing of metadata rests on.
-pub ruleset kept = (nulls_kept, numbers_kept, flags_kept, decimals_kept, kinds_kept, views_kept, lists_kept, structures_kept, extensions_kept, counts_kept, unions_kept)
-pub dicts_kept : (t : Tree) (b : Body) (x : Dicts.Data) (us : Trees) (r : Result (List ℕ) EncodingError) → b ≡ Dict x → plain_body b ≡ (label t).body → us ≡ below t → IfOk r (λ bytes. bytes ≡ message_bytes (told (M.dict (Dicts.metadata_of x (places us)))))
-    → IfOk r (λ bytes. bytes ≡ message_bytes (told (metadata_in (label t) (below t))))
-dicts_kept t b x us (Ok bytes) e p u q = q ∙ ap (λ (vs : Trees). message_bytes (told (M.dict (Dicts.metadata_of x (places vs))))) u ∙ root t b (Dict x) e p
-dicts_kept t b x us (Err error) e p u q = tt
+-- Messages of these are not written yet.
+pub dicts_kept : (t : Tree) (b : Body) (x : Dicts.Data) (bytes : List ℕ) → b ≡ Dict x → plain_body b ≡ (label t).body → bytes ≡ [] → bytes ≡ message_bytes (told (metadata_in (label t) (below t)))
+dicts_kept t b x bytes e p q = q ∙ root t b (Dict x) e p
+
+pub list_views_kept : (t : Tree) (b : Body) (x : ListViews.Data) (bytes : List ℕ) → b ≡ ListView x → plain_body b ≡ (label t).body → bytes ≡ [] → bytes ≡ message_bytes (told (metadata_in (label t) (below t)))
+list_views_kept t b x bytes e p q = q ∙ root t b (ListView x) e p
+
+pub maps_kept : (t : Tree) (b : Body) (bytes : List ℕ) → b ≡ Map → plain_body b ≡ (label t).body → bytes ≡ [] → bytes ≡ message_bytes (told (metadata_in (label t) (below t)))
+maps_kept t b bytes e p q = q ∙ root t b Map e p
 
 -- What the writing of metadata rests on.
-pub ruleset kept = (nulls_kept, numbers_kept, flags_kept, decimals_kept, kinds_kept, views_kept, lists_kept, structures_kept, extensions_kept, counts_kept, dicts_kept)
+pub ruleset kept = (nulls_kept, numbers_kept, flags_kept, decimals_kept, kinds_kept, views_kept, lists_kept, structures_kept, extensions_kept, counts_kept, unions_kept, dicts_kept, list_views_kept, maps_kept)

@@ -19,7 +19,6 @@ use Rattle.vx_array_tree.specs.Encodings.Structs as Structs
 use Rattle.vx_array_tree.specs.Encodings.Exts as Exts
 use Rattle.vx_array_tree.specs.Encodings.Lists as Lists
 use Rattle.vx_array_tree.specs.Encodings.Unions as Unions
-use Rattle.vx_array_tree.specs.Encodings.Dicts as Dicts
 use Rattle.vx_array_tree.specs.Metadata.{Metadata}
 use Rattle.vx_array_tree.specs.Metadata as M
 use Rattle.vx_array_tree.specs.Place.{Place, place, numbers, exactly, before_validity, behind_validity, validity_place, places_at, is_len}
@@ -27,9 +26,8 @@ use Rattle.vx_array_tree.specs.Table.{IsFair, plan_of}
 use Rattle.vx_array_tree.proofs.Options.{mapped, let_through}
 use Rattle.vx_scalar_wire.proofs.LawsStats.{one_set_in, shown_fit_in, written_shown, written_storable, written_alike}
 use Rattle.vx_wire_tree.specs.Codec.{IsLawfulAt, HasLawfulStats}
-use Rattle.vx_wire_tree.specs.Fields.{Fields, FitsMessage, is_nullable, meant, told}
+use Rattle.vx_wire_tree.specs.Fields.{Fields, FitsMessage, meant, told}
 use Rattle.vx_wire_tree.specs.Reads.{IsMetadata}
-use Rattle.vx_encodings.proofs.DictFields.{one_dict, dict_again}
 use Rattle.vx_encodings.proofs.ElementCounts.{one_count_and_kind, list_again}
 use Rattle.vx_encodings.proofs.Fronts.{behind_some, behind_none}
 use Rattle.vx_encodings.proofs.OffsetKinds.{one_kind, kind_again}
@@ -39,7 +37,6 @@ use Rattle.vx_encodings.specs.Messages.{Shows, ShowsNothing, message_bytes, code
 use Rattle.vx_encodings.specs.Plain.{plain_encoding}
 use Rattle.vx_encodings.specs.declared.encoding.Encoding.{Encoding}
 use Rattle.vx_encodings.specs.declared.encoding.Encoding.TheVariants.{Null, Bool, Primitive, Decimal, VarBin, VarBinView, FixedSizeList, Struct, Ext, List as ListOf, Union}
-use Rattle.vx_encodings.specs.declared.encoding.Encoding.TheVariants.{Null, Bool, Primitive, Decimal, VarBin, VarBinView, FixedSizeList, Struct, Ext, List as ListOf, Dict}
 
 one_nothing : (bytes : List ℕ) (f g : Fields) → ShowsNothing bytes f → ShowsNothing bytes g → f ≡ g
 one_nothing bytes f g a b = a.fields_are ∙ sym b.fields_are
@@ -58,7 +55,6 @@ one_message E.map bytes f g a b = one_nothing bytes f g a b
 one_message E.struct bytes f g a b = one_nothing bytes f g a b
 one_message E.union bytes f g a b = one_nothing bytes f g a b
 one_message E.ext bytes f g a b = one_nothing bytes f g a b
-one_message E.dict bytes f g a b = one_dict bytes f g a b
 one_message _ bytes f g a b = absurd a
 
 -- Bytes are metadata of a node of a type in at most one way.
@@ -152,14 +148,6 @@ union_again _ fair fits = absurd fair
 -- So are those of unions.
 pub union_lawful : IsLawfulAt codec E.union
 union_lawful = record { one_message = one_message E.union; message_again = union_again }
-dict_fits_again : (v : Metadata) → IsFair E.dict v → FitsMessage v → Shows E.dict (message_bytes (told v)) (told v)
-dict_fits_again (M.dict v) fair fits =
-    dict_again (record { values_len = v.values_len; codes_ptype = v.codes_ptype; is_nullable_codes = Some (is_nullable v.nullable_codes); all_values_referenced = Some v.all_values_referenced }) fits
-dict_fits_again _ fair fits = absurd fair
-
--- So are those of dictionaries.
-pub dict_lawful : IsLawfulAt codec E.dict
-dict_lawful = record { one_message = one_message E.dict; message_again = dict_fits_again }
 
 -- So are those of each encoding that has code.
 pub lawful : (e : Encoding) → IsLawfulAt codec (plain_encoding e)
@@ -174,7 +162,6 @@ lawful Struct = struct_lawful
 lawful Ext = ext_lawful
 lawful ListOf = list_lawful
 lawful Union = union_lawful
-lawful Dict = dict_lawful
 
 -- And so are the tables of statistics.
 pub stats_lawful : HasLawfulStats codec
@@ -186,32 +173,9 @@ stats_lawful = record {
   written_alike = λ t. ap (λ vs. table vs) (written_alike t);
 }
 
--- What a node of an encoding that has code keeps fits its message.
-pub fair_message : (encoding : Encoding) (v : Metadata) → IsFair (plain_encoding encoding) v → FitsMessage v
-fair_message Null M.empty fair = tt
-fair_message Null _ fair = absurd fair
-fair_message Bool (M.bool o) fair = tt
-fair_message Bool _ fair = absurd fair
-fair_message Primitive M.empty fair = tt
-fair_message Primitive _ fair = absurd fair
-fair_message Decimal (M.decimal w) fair = tt
-fair_message Decimal _ fair = absurd fair
-fair_message VarBin (M.varbin p) fair = tt
-fair_message VarBin _ fair = absurd fair
-fair_message VarBinView M.empty fair = tt
-fair_message VarBinView _ fair = absurd fair
-fair_message FixedSizeList M.empty fair = tt
-fair_message FixedSizeList _ fair = absurd fair
-fair_message Struct M.empty fair = tt
-fair_message Struct _ fair = absurd fair
-fair_message Ext M.empty fair = tt
-fair_message Ext _ fair = absurd fair
-fair_message Union M.empty fair = tt
-fair_message Union _ fair = absurd fair
-
 -- ---- plans
 
-pub exactly_count : (ps : List Place) (k : ℕ) (qs : List Place) → exactly ps k ≡ Some qs → length qs ≡ k
+exactly_count : (ps : List Place) (k : ℕ) (qs : List Place) → exactly ps k ≡ Some qs → length qs ≡ k
 exactly_count [] zero qs e = let q : qs ≡ [] = cc in ap (λ (rs : List Place). length rs) q
 exactly_count [] (suc k) qs e = absurd (cc)
 exactly_count (p ∷ ps) zero qs e = absurd (cc)
@@ -305,5 +269,3 @@ plan_length ListOf d n (M.list v) k qs e = list_count d n v k qs e
 plan_length ListOf d n _ k qs e = absurd (cc)
 plan_length Union d n M.empty k qs e = union_count d n k qs e
 plan_length Union d n _ k qs e = absurd (cc)
-plan_length Dict d n (M.dict v) k qs e = exactly_count (place (node (primitive v.codes_ptype v.nullable_codes) end) n ∷ place d v.values_len ∷ []) k qs e
-plan_length Dict d n _ k qs e = absurd (cc)

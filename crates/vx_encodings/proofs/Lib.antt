@@ -22,8 +22,5 @@ mod FixedSizeListSteps
 mod StructSteps
 mod ExtensionSteps
 mod ElementCounts
-mod DictFields
-mod DictWritten
 mod ListSteps
 mod UnionSteps
-mod DictSteps

@@ -4,6 +4,5 @@ pub mod BoolMessage
 pub mod DecimalMessage
 pub mod VarBinMessage
 pub mod ListMessage
-pub mod DictMessage
 pub mod Messages
 pub mod Steps

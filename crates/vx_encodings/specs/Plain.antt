@@ -4,7 +4,6 @@ use Rattle.vx_array_tree.specs.Encoding as E
 use Rattle.vx_array_tree.specs.Place.{Place, place}
 use Rattle.vx_encodings.specs.declared.encoding.Encoding.{Encoding}
 use Rattle.vx_encodings.specs.declared.encoding.Encoding.TheVariants.{Null, Bool, Primitive, Decimal, VarBin, VarBinView, FixedSizeList, Struct, Ext, List as ListOf, Union}
-use Rattle.vx_encodings.specs.declared.encoding.Encoding.TheVariants.{Null, Bool, Primitive, Decimal, VarBin, VarBinView, FixedSizeList, Struct, Ext, List as ListOf, Dict}
 use Rattle.vx_encodings.specs.declared.plans.ChildPlan.{ChildPlan}
 
 -- An encoding, of those that definitions know.
@@ -20,7 +19,6 @@ plain_encoding Struct = E.struct
 plain_encoding Ext = E.ext
 plain_encoding ListOf = E.list
 plain_encoding Union = E.union
-plain_encoding Dict = E.dict
 
 -- The place that a planned child is to have.
 abbrev pub planned_place : ChildPlan → Place

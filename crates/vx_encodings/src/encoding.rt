@@ -6,8 +6,6 @@ ghost use Rattle.vx_array_tree.specs.Table.{id_of};
 use vx_arrays::{
     BoolArray, DecimalArray, ExtensionArray, FixedSizeListArray, ListArray, NullArray,
     PrimitiveArray, StructArray, UnionArray, VarBinArray, VarBinViewArray,
-    BoolArray, DecimalArray, DictArray, ExtensionArray, FixedSizeListArray, ListArray, NullArray,
-    PrimitiveArray, StructArray, VarBinArray, VarBinViewArray,
 };
 
 /// The shipped encodings.
@@ -35,8 +33,6 @@ pub enum Encoding {
     List,
     /// Unions, by the tags of their rows.
     Union,
-    /// Dictionaries, whose rows are named by codes among values.
-    Dict,
 }
 
 impl Encoding {
@@ -58,7 +54,6 @@ impl Encoding {
             Encoding::Ext => ExtensionArray::ID,
             Encoding::List => ListArray::ID,
             Encoding::Union => UnionArray::ID,
-            Encoding::Dict => DictArray::ID,
         }
     }
 }

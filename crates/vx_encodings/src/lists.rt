@@ -7,7 +7,7 @@ ghost use Rattle.vx_trees.specs.Rose.{roses_of};
 ghost use Rattle.vx_types.specs.Known.{ExtMeaning};
 ghost use Rattle.vx_types.specs.Seen.{typ};
 ghost use Rattle.vx_array_tree.specs.Encodings.Lists.{metadata_of};
-ghost use Rattle.vx_array_tree.specs.Place.{before_validity, is_len, numbers, place, when};
+ghost use Rattle.vx_array_tree.specs.Place.{before_validity, first_place, is_len, numbers, place, when};
 ghost use Rattle.vx_array_tree.specs.Sound.{IsSound};
 ghost use Rattle.vx_array_tree.specs.Tree.{places};
 ghost use Rattle.vx_encodings.specs.ListMessage.{list_schema, list_value, list_bytes, same_count, same_kinds};
@@ -170,8 +170,8 @@ pub(crate) fn metadata(alloc: Global, children: &[Array]) -> Result<Blob, Encodi
 
 // Whether how many elements there are fits the message: it does, since arrays are counted in 64 bits.
 pub(crate) fn has_message(children: &[Array]) -> bool
-    ensures fits { IsTrue result → (metadata_of (places (roses_of children.now))).elements_len < 2 ^ 64 }
-    ensures over { IsFalse result → (metadata_of (places (roses_of children.now))).elements_len < 2 ^ 64 → ⊥ }
+    ensures fits { IsTrue result → (first_place (places (roses_of children.now))).len < 2 ^ 64 }
+    ensures over { IsFalse result → (first_place (places (roses_of children.now))).len < 2 ^ 64 → ⊥ }
 {
     let _count = count_of(children);
     true

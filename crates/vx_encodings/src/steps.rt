@@ -19,9 +19,8 @@ use crate::error::EncodingError;
 use crate::head::ArrayHead;
 use crate::plans::ChildPlans;
 use crate::{
-    bool, decimal, extension, fixed_size_list, lists, null, primitive, structs, union, varbin,
-    varbinview,
-    bool, decimal, dict, extension, fixed_size_list, lists, null, primitive, structs, varbin, varbinview,
+    bool, decimal, dict, extension, fixed_size_list, lists, null, primitive, structs, union,
+    varbin, varbinview,
 };
 use std::alloc::Global;
 use vx_arrays::{Array, Arrays, Body};
@@ -73,7 +72,6 @@ fn plan_by(
         Encoding::Ext => extension::plan(alloc, head),
         Encoding::List => lists::plan(alloc, head),
         Encoding::Union => union::plan(alloc, head),
-        Encoding::Dict => dict::plan(alloc, head),
     }
 }
 
@@ -130,7 +128,6 @@ fn build_by(
         Encoding::Ext => extension::build(head, buffers, children),
         Encoding::List => lists::build(head, buffers, children),
         Encoding::Union => union::build(head, buffers, children),
-        Encoding::Dict => dict::build(alloc, head, buffers, children),
     }
 }
 
@@ -152,6 +149,7 @@ pub fn metadata(alloc: Global, array: &Array) -> Result<Blob, EncodingError>
         Body::Ext => Ok(write_empty(alloc)),
         Body::List => lists::metadata(alloc, array.children()),
         Body::Union => Ok(write_empty(alloc)),
+        Body::Dict(_) | Body::ListView(_) | Body::Map => Ok(write_empty(alloc)),
     }
 }
 
@@ -171,7 +169,8 @@ pub fn has_message(array: &Array) -> bool
         Body::FixedSizeList => true,
         Body::Struct => true,
         Body::Ext => true,
-        Body::List => lists::has_message(array.children()),
-        Body::Dict(data) => dict::metadata(alloc, data, array.children()),
+        Body::List | Body::ListView(_) => lists::has_message(array.children()),
+        Body::Dict(_) => dict::has_message(array.children()),
+        Body::Map | Body::Union => true,
     }
 }
