@@ -247,13 +247,7 @@ fn has_content(zero_copy: bool, dtype: &DType, len: usize, children: &[Array]) -
 
 // Whether each of so many rows that is there has its elements.
 #[tactic(auto, using(crate::proofs::ListViewed::loops))]
-fn are_views(
-    elements: &Array,
-    offsets: &Array,
-    sizes: &Array,
-    behind: &[Array],
-    len: usize,
-) -> bool
+fn are_views(elements: &Array, offsets: &Array, sizes: &Array, behind: &[Array], len: usize) -> bool
     requires offsets { (label offsets.now).len ≡ len }
     requires sizes { (label sizes.now).len ≡ len }
     requires planned { before_validity [] len (count (roses_of behind.now)) ≡ Some (places (roses_of behind.now)) }

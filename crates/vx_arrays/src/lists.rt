@@ -147,13 +147,7 @@ fn is_shaped(dtype: &DType, len: usize, children: &[Array]) -> bool
 }
 
 // The same of the elements, the offsets and what stands behind them.
-fn are_parts(
-    dtype: &DType,
-    len: usize,
-    elements: &Array,
-    offsets: &Array,
-    behind: &[Array],
-) -> bool
+fn are_parts(dtype: &DType, len: usize, elements: &Array, offsets: &Array, behind: &[Array]) -> bool
     ensures { IsTrue result ↔ IsWellShaped (untold (typ dtype.now) len B.list) (more elements.now (more offsets.now (roses_of behind.now))) }
 {
     match element_type(dtype) {
@@ -179,7 +173,11 @@ fn has_content(dtype: &DType, len: usize, children: &[Array]) -> bool
 }
 
 // The type of lists of elements of a type.
-pub(crate) fn list_type(alloc: Global, element: &DType, nullability: Nullability) -> Result<DType, ArrayError>
+pub(crate) fn list_type(
+    alloc: Global,
+    element: &DType,
+    nullability: Nullability,
+) -> Result<DType, ArrayError>
     ensures ok { IfOk result (λ d. typ d ≡ node (list nullability) (more (typ element.now) end)) }
     ensures err { IsOkUnless result ArrayError.OutOfMemory }
 {
