@@ -1,5 +1,5 @@
 -- What stands behind a node's other children.
-use Rattle.std.proofs.Common.{ℕ, ◌≡◌, ◌≤◌, List, [], ◌∷◌, ◌++◌, Some, Result, Ok, Err, IfOk, refl, sym, ap, ◌∙◌, length, arith}
+use Rattle.std.proofs.Common.{ℕ, ◌≡◌, ◌≤◌, List, [], ◌∷◌, ◌++◌, append_assoc, Some, Result, Ok, Err, IfOk, refl, sym, ap, ◌∙◌, length, arith}
 use Rattle.vx_trees.specs.Rose.{end, more, count, roses_list, roses_of}
 use Rattle.vx_trees.proofs.Lists.{roses_of-roses_list}
 use Rattle.vx_array_tree.specs.Place.{before_validity}
@@ -14,7 +14,7 @@ never_two n (u ∷ v ∷ us) l e = absurd (cc)
 
 -- What is put behind an array that is put behind others.
 pub one_and_more : (r : Result Trees ArrayError) (ts us : Trees) (a : Tree) (vs : List Tree) → roses_list us ≡ roses_list ts ++ a ∷ [] → IfOk r (λ t. roses_list t ≡ roses_list us ++ vs) → IfOk r (λ t. roses_list t ≡ roses_list ts ++ a ∷ vs)
-one_and_more (Ok t) ts us a vs e h = h ∙ ap (λ (xs : List Tree). xs ++ vs) e ∙ append-assoc (roses_list ts) (a ∷ []) vs
+one_and_more (Ok t) ts us a vs e h = h ∙ ap (λ (xs : List Tree). xs ++ vs) e ∙ append_assoc (roses_list ts) (a ∷ []) vs
 one_and_more (Err x) ts us a vs e h = tt
 
 -- What is put behind one array alone.

@@ -5,4 +5,4 @@ use Rattle.vx_arrays.proofs.validity.listed_by_three.Goals as goal
 
 pub returns-clause-children : goal.returns-clause-children
 returns-clause-children c =
-    one_and_list c.with_three.result c.new.result c.in_ok-with_last-front.field-0 (option_trees c.args.validity) c.args.first c.args.second c.args.third c.new.ensures c.in_ok-with_last-front.ensures.children c.with_three.ensures.children
+    one_and_list c.with_three.result c.new.result c.in_ok-front.field-0 (option_trees c.args.validity) c.args.first c.args.second c.args.third c.new.ensures c.in_ok-front.ensures.children c.with_three.ensures.children

@@ -7,4 +7,4 @@ use Rattle.vx_arrays.proofs.validity.with_three.Goals as goal
 
 pub returns-clause-children : goal.returns-clause-children
 returns-clause-children c =
-    one_and_more c.with_two.result c.args.children c.in_ok-with_last-front.field-0 c.args.second (c.args.third ∷ roses_list (option_trees c.args.last)) c.in_ok-with_last-front.ensures.children c.with_two.ensures.children
+    one_and_more c.with_two.result c.args.children c.in_ok-front.field-0 c.args.second (c.args.third ∷ roses_list (option_trees c.args.last)) c.in_ok-front.ensures.children c.with_two.ensures.children

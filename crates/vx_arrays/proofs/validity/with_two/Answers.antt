@@ -6,4 +6,4 @@ use Rattle.vx_arrays.proofs.validity.with_two.Goals as goal
 
 pub returns-clause-children : goal.returns-clause-children
 returns-clause-children c =
-    one_and_more c.with_last.result c.args.children c.in_ok-with_last-front.field-0 c.args.third (roses_list (option_trees c.args.last)) c.in_ok-with_last-front.ensures.children c.with_last.ensures.children
+    one_and_more c.with_last-2.result c.args.children c.in_ok-front.field-0 c.args.third (roses_list (option_trees c.args.last)) c.in_ok-front.ensures.children c.with_last-2.ensures.children
