@@ -156,8 +156,12 @@ impl ListViewArray {
         ensures complete { IsSound (list_view_tree elements offsets sizes nullability validity zero_copy) → IsOkOrMemory result }
     {
         let len = offsets.len();
-        let dtype = list_type(alloc, elements.dtype(), nullability)?;
-        let children = listed_by_three(alloc, elements, offsets, sizes, validity)?;
+        let Ok(dtype) = list_type(alloc, elements.dtype(), nullability) else {
+            return Err(ArrayError::OutOfMemory);
+        };
+        let Ok(children) = listed_by_three(alloc, elements, offsets, sizes, validity) else {
+            return Err(ArrayError::OutOfMemory);
+        };
         ListViewArray::of_children(dtype, len, zero_copy, children)
     }
 

@@ -160,31 +160,10 @@ pub(crate) fn listed_by_three(
     ensures children { IfOk result (λ children. children ≡ more first (more second (more third (option_trees validity)))) }
     ensures err { IsOkUnless result ArrayError.OutOfMemory }
 {
-    let front = with_last(Arrays::new(alloc), Some(first))?;
-    with_three(front, second, third, validity)
-}
-
-// A list of children with two more behind them, and one where it stands.
-fn with_three(
-    children: Arrays,
-    second: Array,
-    third: Array,
-    last: Option<Array>,
-) -> Result<Arrays, ArrayError>
-    ensures children { IfOk result (λ all. roses_list all ≡ roses_list children ++ second ∷ third ∷ roses_list (option_trees last)) }
-    ensures err { IsOkUnless result ArrayError.OutOfMemory }
-{
-    let front = with_last(children, Some(second))?;
-    with_two(front, third, last)
-}
-
-// A list of children with one more behind them, and one where it stands.
-fn with_two(children: Arrays, third: Array, last: Option<Array>) -> Result<Arrays, ArrayError>
-    ensures children { IfOk result (λ all. roses_list all ≡ roses_list children ++ third ∷ roses_list (option_trees last)) }
-    ensures err { IsOkUnless result ArrayError.OutOfMemory }
-{
-    let front = with_last(children, Some(third))?;
-    with_last(front, last)
+    let Ok(front) = listed(alloc, first, second, Some(third)) else {
+        return Err(ArrayError::OutOfMemory);
+    };
+    with_last(front, validity)
 }
 
 // A list of children with one more behind them, where it stands.
