@@ -101,14 +101,16 @@ fn is_unread(alloc: Global, text: &str) -> bool {
     is_entry(alloc, &arrays, text, None) == Ok(true)
 }
 
-const ENTRIES: [(&str, Option<Encoding>); 8] = [
+const ENTRIES: [(&str, Option<Encoding>); 10] = [
     ("vortex.null", Some(Encoding::Null)),
     ("vortex.primitive", Some(Encoding::Primitive)),
     ("vortex.bool", Some(Encoding::Bool)),
     ("vortex.decimal", Some(Encoding::Decimal)),
     ("vortex.struct", Some(Encoding::Struct)),
     ("vortex.ext", Some(Encoding::Ext)),
-    ("vortex.list", None),
+    ("vortex.list", Some(Encoding::List)),
+    ("vortex.union", Some(Encoding::Union)),
+    ("vortex.dict", None),
     ("", None),
 ];
 
@@ -126,7 +128,7 @@ fn entries(alloc: Global, arrays: &ArraySession) -> u8 {
 #[test]
 fn the_shipped_session_reads_and_writes_its_encodings(rt: HostRuntime) {
     match shipped(rt.alloc()) {
-        Ok(session) => assert!(rt; entries(rt.alloc(), &session.arrays) == 8),
+        Ok(session) => assert!(rt; entries(rt.alloc(), &session.arrays) == 10),
         Err(_) => assert!(rt; false),
     }
 }

@@ -77,8 +77,10 @@ impl Message for ListMetadata {
     }
 
     fn to_value(&self, alloc: Global) -> Result<Vec<Entries>, ProtoError> {
-        let count = one(alloc, 1, Element::Number(self.elements_len))?;
-        let kind = one(alloc, 2, Element::Number(self.offset_ptype.code() as u64))?;
+        let elements_len = self.elements_len;
+        let code = self.offset_ptype.code();
+        let count = one(alloc, 1, Element::Number(elements_len))?;
+        let kind = one(alloc, 2, Element::Number(code as u64))?;
         Ok(vec![in alloc; count, kind]?)
     }
 
@@ -192,10 +194,13 @@ fn kind_of(children: &[Array]) -> PType
     ensures { result ≡ (metadata_of (places (roses_of children.now))).offset_ptype }
 {
     match children {
-        [_, offsets, ..] => match offsets.dtype() {
-            DType::Primitive(kind, _) => *kind,
-            _ => PType::U8,
-        },
-        _ => PType::U8,
+        [] => PType::U8,
+        [_] => PType::U8,
+        [_, offsets, ..] => {
+            match offsets.dtype() {
+                DType::Primitive(kind, _) => *kind,
+                _ => PType::U8,
+            }
+        }
     }
 }

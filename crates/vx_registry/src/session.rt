@@ -70,6 +70,8 @@ impl ArraySession {
             Encoding::FixedSizeList,
             Encoding::Struct,
             Encoding::Ext,
+            Encoding::List,
+            Encoding::Union,
         ] {
             session.set(encoding)?;
         }
