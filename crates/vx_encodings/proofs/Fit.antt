@@ -1,5 +1,5 @@
 -- That a root's metadata fits its message, by what the root holds.
-use Rattle.std.proofs.Common.{ℕ, ◌≡◌, ◌<◌, ◌≤◌, ◌-◌, ◌^◌, Bool, sym, ap, ◌∙◌, subst}
+use Rattle.std.proofs.Common.{ℕ, ◌≡◌, ◌<◌, ◌≤◌, ◌-◌, ◌^◌, Bool as Truth, sym, ap, ◌∙◌, subst}
 use Rattle.std.specs.Prelude.{IsTrue, IsFalse}
 use Rattle.vx_trees.specs.Rose.{label, below}
 use Rattle.vx_array_tree.specs.Body as B
@@ -62,32 +62,32 @@ pub maps_fit : (t : Tree) (b : Body) → b ≡ Map → plain_body b ≡ (label t
 maps_fit t b e p = root t b Map e p tt
 
 -- Of these the test of a count says it: of how many elements there are, or values.
-module _ (t : Tree) (b : Body) (us : Trees) (r : Bool) (e : b ≡ ListOf) (p : plain_body b ≡ (label t).body) (u : us ≡ below t) where
-  pub elements_fit : (IsTrue r → (first_place (places us)).len < 2 ^ 64) → IsTrue r → HasMessage (label t) (below t)
-  elements_fit h x = root t b (ListOf) e p (subst (λ (ts : Trees). (first_place (places ts)).len < 2 ^ 64) u (h x))
+pub elements_fit : (t : Tree) (b : Body) (us : Trees) (r : Truth) → b ≡ ListOf → plain_body b ≡ (label t).body → us ≡ below t → (IsTrue r → (first_place (places us)).len < 2 ^ 64) → IsTrue r → HasMessage (label t) (below t)
+elements_fit t b us r e p u h x = root t b (ListOf) e p (subst (λ (ts : Trees). (first_place (places ts)).len < 2 ^ 64) u (h x))
 
-  pub elements_over : (IsFalse r → (first_place (places us)).len < 2 ^ 64 → ⊥) → IsFalse r → HasMessage (label t) (below t) → ⊥
-  elements_over h x m =
-      let P : B.Body → Type 0 = λ z. KeepsFit t z in
-      h x (subst (λ (ts : Trees). (first_place (places ts)).len < 2 ^ 64) (sym u) (subst P (sym (ap (λ (z : Body). plain_body z) (sym e) ∙ p)) m))
+pub elements_over : (t : Tree) (b : Body) (us : Trees) (r : Truth) → b ≡ ListOf → plain_body b ≡ (label t).body → us ≡ below t → (IsFalse r → (first_place (places us)).len < 2 ^ 64 → ⊥) → IsFalse r → HasMessage (label t) (below t) → ⊥
+elements_over t b us r e p u h x m =
+    let P : B.Body → Type 0 = λ z. KeepsFit t z in
+    let q : plain_body (ListOf) ≡ (label t).body = ap (λ (z : Body). plain_body z) (sym e) ∙ p in
+    h x (subst (λ (ts : Trees). (first_place (places ts)).len < 2 ^ 64) (sym u) (subst P (sym q) m))
 
-module _ (t : Tree) (b : Body) (y : ListViews.Data) (us : Trees) (r : Bool) (e : b ≡ ListView y) (p : plain_body b ≡ (label t).body) (u : us ≡ below t) where
-  pub viewed_fit : (IsTrue r → (first_place (places us)).len < 2 ^ 64) → IsTrue r → HasMessage (label t) (below t)
-  viewed_fit h x = root t b (ListView y) e p (subst (λ (ts : Trees). (first_place (places ts)).len < 2 ^ 64) u (h x))
+pub viewed_fit : (t : Tree) (b : Body) (y : ListViews.Data) (us : Trees) (r : Truth) → b ≡ ListView y → plain_body b ≡ (label t).body → us ≡ below t → (IsTrue r → (first_place (places us)).len < 2 ^ 64) → IsTrue r → HasMessage (label t) (below t)
+viewed_fit t b y us r e p u h x = root t b (ListView y) e p (subst (λ (ts : Trees). (first_place (places ts)).len < 2 ^ 64) u (h x))
 
-  pub viewed_over : (IsFalse r → (first_place (places us)).len < 2 ^ 64 → ⊥) → IsFalse r → HasMessage (label t) (below t) → ⊥
-  viewed_over h x m =
-      let P : B.Body → Type 0 = λ z. KeepsFit t z in
-      h x (subst (λ (ts : Trees). (first_place (places ts)).len < 2 ^ 64) (sym u) (subst P (sym (ap (λ (z : Body). plain_body z) (sym e) ∙ p)) m))
+pub viewed_over : (t : Tree) (b : Body) (y : ListViews.Data) (us : Trees) (r : Truth) → b ≡ ListView y → plain_body b ≡ (label t).body → us ≡ below t → (IsFalse r → (first_place (places us)).len < 2 ^ 64 → ⊥) → IsFalse r → HasMessage (label t) (below t) → ⊥
+viewed_over t b y us r e p u h x m =
+    let P : B.Body → Type 0 = λ z. KeepsFit t z in
+    let q : plain_body (ListView y) ≡ (label t).body = ap (λ (z : Body). plain_body z) (sym e) ∙ p in
+    h x (subst (λ (ts : Trees). (first_place (places ts)).len < 2 ^ 64) (sym u) (subst P (sym q) m))
 
-module _ (t : Tree) (b : Body) (y : Dicts.Data) (us : Trees) (r : Bool) (e : b ≡ Dict y) (p : plain_body b ≡ (label t).body) (u : us ≡ below t) where
-  pub values_fit : (IsTrue r → (second_place (places us)).len ≤ 2 ^ 32 - 1) → IsTrue r → HasMessage (label t) (below t)
-  values_fit h x = root t b (Dict y) e p (subst (λ (ts : Trees). (second_place (places ts)).len ≤ 2 ^ 32 - 1) u (h x))
+pub values_fit : (t : Tree) (b : Body) (y : Dicts.Data) (us : Trees) (r : Truth) → b ≡ Dict y → plain_body b ≡ (label t).body → us ≡ below t → (IsTrue r → (second_place (places us)).len ≤ 2 ^ 32 - 1) → IsTrue r → HasMessage (label t) (below t)
+values_fit t b y us r e p u h x = root t b (Dict y) e p (subst (λ (ts : Trees). (second_place (places ts)).len ≤ 2 ^ 32 - 1) u (h x))
 
-  pub values_over : (IsFalse r → (second_place (places us)).len ≤ 2 ^ 32 - 1 → ⊥) → IsFalse r → HasMessage (label t) (below t) → ⊥
-  values_over h x m =
-      let P : B.Body → Type 0 = λ z. KeepsFit t z in
-      h x (subst (λ (ts : Trees). (second_place (places ts)).len ≤ 2 ^ 32 - 1) (sym u) (subst P (sym (ap (λ (z : Body). plain_body z) (sym e) ∙ p)) m))
+pub values_over : (t : Tree) (b : Body) (y : Dicts.Data) (us : Trees) (r : Truth) → b ≡ Dict y → plain_body b ≡ (label t).body → us ≡ below t → (IsFalse r → (second_place (places us)).len ≤ 2 ^ 32 - 1 → ⊥) → IsFalse r → HasMessage (label t) (below t) → ⊥
+values_over t b y us r e p u h x m =
+    let P : B.Body → Type 0 = λ z. KeepsFit t z in
+    let q : plain_body (Dict y) ≡ (label t).body = ap (λ (z : Body). plain_body z) (sym e) ∙ p in
+    h x (subst (λ (ts : Trees). (second_place (places ts)).len ≤ 2 ^ 32 - 1) (sym u) (subst P (sym q) m))
 
 -- What the test of-- What the test of a root's metadata rests on.
 pub ruleset fit = (nulls_fit, flags_fit, numbers_fit, decimals_fit, kinds_fit, views_fit, lists_fit, structures_fit, extensions_fit, unions_fit, maps_fit, elements_fit, elements_over, viewed_fit, viewed_over, values_fit, values_over)

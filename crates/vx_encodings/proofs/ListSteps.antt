@@ -1,7 +1,7 @@
 -- The steps of nodes of lists.
-use Rattle.std.proofs.Common.{ℕ, suc, ◌≡◌, ◌≢◌, ◌≤◌, List, [], ◌∷◌, Option, Some, None, Bool, true, false, Result, Ok, Err, IfOk, IsTrue, refl, sym, ap, ◌∙◌, subst, inl, length}
+use Rattle.std.proofs.Common.{ℕ, suc, ◌≡◌, ◌≢◌, ◌≤◌, ◌<◌, List, [], ◌∷◌, Option, Some, None, Bool, true, false, Result, Ok, Err, IfOk, IsTrue, refl, sym, ap, ◌∙◌, subst, inl, length, arith}
 use Rattle.vx_buffer.specs.Buffer.{Buffer}
-use Rattle.vx_trees.specs.Rose.{node, end, more, count}
+use Rattle.vx_trees.specs.Rose.{node, end, more, count, roses_of}
 use Rattle.vx_types.specs.Kind.{list}
 use Rattle.vx_types.specs.Known.{ExtMeaning}
 use Rattle.vx_types.specs.Numbers.{is_integer}
@@ -11,6 +11,7 @@ use Rattle.vx_types.specs.declared.dtype.DType.{DType}
 use Rattle.vx_types.specs.declared.dtype.DType.TheVariants as D
 use Rattle.vx_types.specs.declared.nullability.Nullability.{Nullability}
 use Rattle.vx_types.specs.declared.ptype.PType.{PType}
+use Rattle.vx_types.specs.declared.ptype.PType.TheVariants.{U8}
 use Rattle.vx_proto.specs.Reads.{Reads}
 use Rattle.vx_array_tree.specs.Body as B
 use Rattle.vx_array_tree.specs.Encoding as E
@@ -18,7 +19,7 @@ use Rattle.vx_array_tree.specs.Encodings.Lists as Lists
 use Rattle.vx_array_tree.specs.Encodings.Lists.{plan}
 use Rattle.vx_array_tree.specs.Metadata.{Metadata}
 use Rattle.vx_array_tree.specs.Metadata as M
-use Rattle.vx_array_tree.specs.Place.{Place, place, numbers, is_len, when, before_validity}
+use Rattle.vx_array_tree.specs.Place.{Place, place, numbers, is_len, when, before_validity, ptype_of, second_place}
 use Rattle.vx_array_tree.specs.Table.{IsShaped, body_of, plan_of}
 use Rattle.vx_array_tree.specs.Tree.{Tree, Trees, places, untold}
 use Rattle.vx_arrays.specs.Refused.{IsUnmade}
@@ -148,6 +149,12 @@ lists_buffers x h bs us planned none =
       metadata = list_metadata x (typ h.dtype) h.metadata k.elements_len k.kind k.reads k.integer;
       wrong = inl (bufferless (typ h.dtype) h.len (kept k.elements_len k.kind) bs (count us) none);
     }
+
+-- Fewer than two children have no kind of offsets, so the first kind is taken.
+pub lone_kind : (ts : List Tree) → length ts < 2 → U8 ≡ ptype_of (second_place (places (roses_of ts))).dtype
+lone_kind [] h = refl
+lone_kind (t ∷ []) h = refl
+lone_kind (t ∷ u ∷ ts) h = absurd (omega (arith, h))
 
 -- What the steps of lists rest on.
 pub ruleset list_steps = (lists_unread, lists_of_floats, lists_of_others, lists_planned, lists_without, lists_built, lists_refused, lists_buffers)
