@@ -13,7 +13,8 @@ pub(crate) fn has_message(children: &[Array]) -> bool
     ensures over { IsFalse result → (second_place (places (roses_of children.now))).len ≤ 2 ^ 32 - 1 → ⊥ }
 {
     match children {
+        [] => true,
+        [_] => true,
         [_, values, ..] => values.len() <= u32::MAX as usize,
-        _ => true,
     }
 }
