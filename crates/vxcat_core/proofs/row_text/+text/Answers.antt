@@ -1,11 +1,14 @@
 use Rattle.std.proofs.Common.{List, ℕ, ◌++◌, string_bytes, codes, sym, ap, ◌∙◌, arith}
 use Rattle.std.proofs.lemmas.Result.{IfOk-weaker}
+use Rattle.std.specs.Fmt.{decimal}
+use Rattle.std.specs.Prelude.{option_map}
 use Rattle.vx_types.specs.Seen.{typ}
 use Rattle.vx_types.specs.Typ.{Typ}
 use Rattle.vx_types.specs.Value.{Value}
 use Rattle.vx_arrays.specs.Plain.{plain_value}
 use Rattle.vxcat_core.specs.RowText.{entry_text, parted, value_text}
 use Rattle.vxcat_core.proofs.RowTexts.{smaller_value, each_next, by_next, by_all, entries_next, tuple_is, no_pair, pair_text}
+use Rattle.vxcat_core.proofs.UnionTexts.{union_some, union_none}
 use Rattle.vxcat_core.proofs.row_text.+text.Goals as goal
 
 -- ---- texts of one type
@@ -65,3 +68,19 @@ entry_text-returns-in_ok-value-in-Tuple t c =
     ∙ ap (λ (v : List ℕ). value_text (plain_value a) x ++ (codes "=>" ++ v)) value
     ∙ sym (is ∙ pair_text parts a b x y c.if-parts-ne2.false c.index-parts-0.is c.index-parts-1.is))
     c.format.ensures.ok
+
+-- ---- unions
+
+pub union_text-returns-in_ok-text-in-Some : goal.union_text-returns-in_ok-text-in-Some
+union_text-returns-in_ok-text-in-Some t c =
+    let e = ap (λ o. option_map (λ d. typ d.now) o) (sym c.in-Some.is) ∙ c.member_type.ensures in
+    let row = plain_value c.args.row.now in
+    IfOk-weaker c.format.result _ _
+    (λ text h. h ∙ ap (λ (r : List ℕ). codes "#" ++ (decimal c.args.tag ++ (codes "(" ++ (r ++ codes ")")))) c.in_ok-text-in-Some.ensures
+    ∙ sym (union_some c.args.tag row (typ c.args.dtype.now) (typ c.in-Some.member.now) e))
+    c.format.ensures.ok
+
+pub union_text-returns-in-None : goal.union_text-returns-in-None
+union_text-returns-in-None t c =
+    let e = ap (λ o. option_map (λ d. typ d.now) o) (sym c.in-None.is) ∙ c.member_type.ensures in
+    IfOk-weaker c.format-in-None.result _ _ (λ text h. h ∙ sym (union_none c.args.tag (plain_value c.args.row.now) (typ c.args.dtype.now) e)) c.format-in-None.ensures.ok
