@@ -13,7 +13,6 @@ use Rattle.vx_types.specs.Numbers.{is_integer}
 use Rattle.vx_types.specs.Typ.{Typ, typ_code}
 use Rattle.vx_types.specs.Value.{Value, tuple}
 use Rattle.vx_types.specs.Words.{nullability}
-use Rattle.vx_types.specs.declared.nullability.Nullability.{Nullability}
 use Rattle.vx_types.specs.declared.ptype.PType.{PType}
 use Rattle.vx_array_tree.specs.Body as B
 use Rattle.vx_array_tree.specs.Encodings.ListViews.{Data, Metadata, Content, IsView, metadata_of, plan, rows}
@@ -21,10 +20,10 @@ use Rattle.vx_array_tree.specs.Place.{Place, place, numbers, before_validity, pt
 use Rattle.vx_array_tree.specs.Refused.{IsWellShaped}
 use Rattle.vx_array_tree.specs.Rows.{Rows, IsIndex, IsThere, validity, first, second, third, rest, index_at, where_valid, cells_where, values_from, cells_from}
 use Rattle.vx_array_tree.specs.Sound.{IsSoundNode}
-use Rattle.vx_array_tree.specs.Tree.{Tree, Trees, option_trees, places, rows_below, rows_of, untold}
+use Rattle.vx_array_tree.specs.Tree.{Tree, Trees, places, rows_below, rows_of, untold}
 use Rattle.vx_array_tree.proofs.RowsOfSound.{rows_len}
 use Rattle.vx_arrays.specs.Lists.{element_of}
-use Rattle.vx_arrays.specs.ListViews.{AreCounts, AreViewParts, list_view_tree, views_of}
+use Rattle.vx_arrays.specs.ListViews.{AreCounts, AreViewParts, views_of}
 use Rattle.vx_arrays.specs.Validity.{IsValidity}
 use Rattle.vx_arrays.specs.VarBins.{IsOfOffsets}
 use Rattle.vx_arrays.proofs.Listed.{first_stands, none_some, some_is}
@@ -202,12 +201,6 @@ module _ (d : Typ) (n : ℕ) (x : Data) (ts us ws : Trees) (a o z : Tree) (vs : 
   elements_smaller k h = subst (λ (ys : Trees). k ≤ nodes_of ys) whole (omega (arith, h))
 
 pub ruleset list_views = (one_less, shaped_some, sound_some, shaped_offsets, shaped_sizes, shaped_planned, content_is, valid_is, sound_offsets, sound_sizes, sound_planned, sound_view, view_value, view_cells, elements_smaller)
-
--- ---- made of its parts
-
-pub tree_is : (a o z : Tree) (m : Nullability) (v : Option Tree) (flag : Bool) (d : Typ) (n : ℕ) (ts : Trees) → d ≡ node (list m) (more (label a).dtype end) → n ≡ (label o).len → ts ≡ more a (more o (more z (option_trees v)))
-    → node (untold d n (views_of flag)) ts ≡ list_view_tree a o z m v flag
-tree_is a o z m v flag d n ts e l q = rw (e, l, q) refl
 
 -- ---- one row
 

@@ -12,7 +12,7 @@ ghost use Rattle.vx_array_tree.specs.Rows.{index_at, rest, validity, IsThere};
 ghost use Rattle.vx_array_tree.specs.Sound.{IsSound, IsSoundNode};
 ghost use Rattle.vx_array_tree.specs.Tree.{places, rows_below, rows_of, untold};
 ghost use Rattle.vx_arrays.specs.Compared.{compared_body};
-ghost use Rattle.vx_arrays.specs.ListViews.{views_of, AreCounts, AreViewParts};
+ghost use Rattle.vx_arrays.specs.ListViews.{list_view_tree, views_of, AreCounts, AreViewParts};
 ghost use Rattle.vx_arrays.specs.Lists.{element_of};
 ghost use Rattle.vx_arrays.specs.Parts.{AreThere, parts_cells, parts_nodes, parts_value};
 ghost use Rattle.vx_arrays.specs.Refused.{IsUnmade, IsOkOrMemory};
@@ -22,12 +22,13 @@ use crate::body::Body;
 use crate::construction::over_children;
 use crate::error::ArrayError;
 use crate::list::Arrays;
-use crate::lists::element_type;
+use crate::lists::{element_type, list_type};
 use crate::offsets::{index_at, is_of_offsets};
 use crate::parts::{RowParts, where_there};
-use crate::validity::{parted, stands_behind, validity_at};
+use crate::validity::{listed_by_three, parted, stands_behind, validity_at};
+use std::alloc::Global;
 use std::marker::Model;
-use vx_types::DType;
+use vx_types::{DType, Nullability};
 
 /// What a node of list views holds: whether its rows stand one after the other. That is kept as it is told, and never
 /// written.
@@ -133,15 +134,42 @@ impl ListViewArray {
     /// The identifier of the encoding.
     pub const ID: &'static str = "vortex.listview";
 
+    /// The array of lists, each of as many elements from its offset on as its size says: there are as many rows as
+    /// offsets. Where some rows are null, `validity` holds for each row whether it is there. Whether the rows stand one
+    /// after the other is kept as it is told.
+    ///
+    /// `BadShape` where the offsets or the sizes are no integers that are never null, where there are not as many of
+    /// both, or where the validity may not stand. `BadContent` where in a row that is there the offset or the size is
+    /// below 0, or the elements end past the last.
+    pub fn try_new(
+        alloc: Global,
+        elements: Array,
+        offsets: Array,
+        sizes: Array,
+        nullability: Nullability,
+        validity: Option<Array>,
+        zero_copy: bool,
+    ) -> Result<Array, ArrayError>
+        ensures ok { IfOk result (λ a. a ≡ list_view_tree elements offsets sizes nullability validity zero_copy) }
+        ensures sound { IfOk result IsSound }
+        ensures err { IfErr result (λ e. IsUnmade e (list_view_tree elements offsets sizes nullability validity zero_copy)) }
+        ensures complete { IsSound (list_view_tree elements offsets sizes nullability validity zero_copy) → IsOkOrMemory result }
+    {
+        let len = offsets.len();
+        let dtype = list_type(alloc, elements.dtype(), nullability);
+        let children = listed_by_three(alloc, elements, offsets, sizes, validity);
+        match (dtype, children) {
+            (Ok(dtype), Ok(children)) => {
+                ListViewArray::of_children(dtype, len, zero_copy, children)
+            }
+            _ => Err(ArrayError::OutOfMemory),
+        }
+    }
+
     /// The array of a node of this type and length over these children, with this flag.
     ///
-    /// They are elements, an offset and a size for each row, and at most a validity, which holds for each row whether it is
-    /// there: a row that is there is as many elements from its offset on as its size says. Whether the rows stand one after
-    /// the other is kept as it is told.
-    ///
-    /// `BadShape` where the elements are of another type, the offsets or the sizes are no integers that are never null,
-    /// where there are not as many of both as rows, or where the validity may not stand. `BadContent` where in a row that is
-    /// there the offset or the size is below 0, or the elements end past the last.
+    /// Refused as by [`ListViewArray::try_new`], and as `BadShape` where the elements are of another type or there are not
+    /// as many offsets as rows.
     pub fn of_children(
         dtype: DType,
         len: usize,

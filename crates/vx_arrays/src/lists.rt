@@ -180,7 +180,11 @@ fn has_content(dtype: &DType, len: usize, children: &[Array]) -> bool
 }
 
 // The type of lists of elements of a type.
-fn list_type(alloc: Global, element: &DType, nullability: Nullability) -> Result<DType, ArrayError>
+pub(crate) fn list_type(
+    alloc: Global,
+    element: &DType,
+    nullability: Nullability,
+) -> Result<DType, ArrayError>
     ensures ok { IfOk result (λ d. typ d ≡ node (list nullability) (more (typ element.now) end)) }
     ensures err { IsOkUnless result ArrayError.OutOfMemory }
 {

@@ -1,8 +1,8 @@
 //! The validity of a node: the child that says which rows are there.
 
-ghost use Rattle.std.specs.Prelude.{◌≡◌, ◌<◌, ◌≤◌, ◌↔◌, ℕ, [], Some, false, IfErr, IfOk, IsTrue, IsOkUnless, length};
+ghost use Rattle.std.specs.Prelude.{◌≡◌, ◌<◌, ◌≤◌, ◌↔◌, ◌++◌, ◌∷◌, ℕ, [], Some, false, IfErr, IfOk, IsTrue, IsOkUnless, length};
 ghost use Rattle.vx_trees.specs.Everywhere.{EverywhereBelow};
-ghost use Rattle.vx_trees.specs.Rose.{count, more, node, roses_of};
+ghost use Rattle.vx_trees.specs.Rose.{count, more, node, roses_list, roses_of};
 ghost use Rattle.vx_types.specs.Seen.{typ};
 ghost use Rattle.vx_array_tree.specs.Place.{before_validity};
 ghost use Rattle.vx_array_tree.specs.Refused.{IsWellShaped};
@@ -145,6 +145,38 @@ pub(crate) fn listed(
         Some(array) => {
             children.push(array)?;
             Ok(children)
+        }
+    }
+}
+
+// The children of a node that has three, and behind them at most a validity.
+pub(crate) fn listed_by_three(
+    alloc: Global,
+    first: Array,
+    second: Array,
+    third: Array,
+    validity: Option<Array>,
+) -> Result<Arrays, ArrayError>
+    ensures children { IfOk result (λ children. children ≡ more first (more second (more third (option_trees validity)))) }
+    ensures err { IsOkUnless result ArrayError.OutOfMemory }
+{
+    let Ok(front) = listed(alloc, first, second, Some(third)) else {
+        return Err(ArrayError::OutOfMemory);
+    };
+    with_last(front, validity)
+}
+
+// A list of children with one more behind them, where it stands.
+fn with_last(children: Arrays, last: Option<Array>) -> Result<Arrays, ArrayError>
+    ensures children { IfOk result (λ all. roses_list all ≡ roses_list children ++ roses_list (option_trees last)) }
+    ensures err { IsOkUnless result ArrayError.OutOfMemory }
+{
+    let mut all = children;
+    match last {
+        None => Ok(all),
+        Some(array) => {
+            all.push(array)?;
+            Ok(all)
         }
     }
 }
