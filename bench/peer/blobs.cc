@@ -1,10 +1,12 @@
-// Reads the blob of an array of numbers from a file, verifies its message through FlatBuffers' own library, checks it
-// against its type and its number of rows, packs the message again, and writes the new blob to another file.
+// Reads the blob of an array of numbers, structures, lists or texts from a file, verifies its message through
+// FlatBuffers' own library, checks it against its type and its number of rows (shapes, offsets, texts), packs the message
+// again, and writes the new blob to another file.
 //
-// Usage: blobs TYPE BLOB ROWS TO
+// Usage: blobs TYPE BLOB ROWS IDS TO
 #include <cstdlib>
 #include <cstring>
 #include <fstream>
+#include <sstream>
 #include <vector>
 
 #include "timing.h"
@@ -36,18 +38,155 @@ bool place(const vortex::Array &array, const char *segment, size_t size, std::ve
   return true;
 }
 
-const Piece *buffer_of(const vortex::ArrayNode &node, const std::vector<Piece> &pieces) {
+// What a node is checked against beside its type: the buffers, and the identifiers by the node's encoding.
+struct Blob {
+  std::vector<Piece> pieces;
+  std::vector<std::string> ids;
+};
+
+struct Offsets {
+  const char *bytes;
+  size_t width, count;
+
+  size_t at(size_t i) const {
+    uint64_t value = 0;
+    std::memcpy(&value, bytes + width * i, width);
+    return value;
+  }
+};
+
+size_t children_of(const vortex::ArrayNode &node) { return node.children() ? node.children()->size() : 0; }
+
+const Piece *buffer_of(const vortex::ArrayNode &node, const Blob &blob) {
   if (!node.buffers() || node.buffers()->size() != 1) return nullptr;
   auto index = node.buffers()->Get(0);
-  return index < pieces.size() ? &pieces[index] : nullptr;
+  return index < blob.pieces.size() ? &blob.pieces[index] : nullptr;
 }
 
-// Whether a node has so many numbers of a width, each at a place of its alignment, and no validity.
-bool fits(const vortex::ArrayNode &node, size_t width, size_t rows, const std::vector<Piece> &pieces) {
-  auto numbers = buffer_of(node, pieces);
-  return node.encoding() == 0 && (!node.metadata() || node.metadata()->size() == 0) &&
-         (!node.children() || node.children()->size() == 0) && numbers && numbers->size / width == rows &&
+bool has_no_buffers(const vortex::ArrayNode &node) { return !node.buffers() || node.buffers()->size() == 0; }
+
+bool is_of(const vortex::ArrayNode &node, const Blob &blob, const char *id) {
+  return node.encoding() < blob.ids.size() && blob.ids[node.encoding()] == id;
+}
+
+// The numbers of a message of metadata by their fields' numbers, of which there are at most two.
+bool metadata_of(const vortex::ArrayNode &node, uint64_t (&numbers)[3]) {
+  auto metadata = node.metadata();
+  for (size_t i = 0; metadata && i < metadata->size();) {
+    uint8_t tag = metadata->Get(i++);
+    if ((tag & 7) != 0 || tag >> 3 < 1 || tag >> 3 > 2) return false;
+    uint64_t number = 0;
+    for (unsigned shift = 0;; shift += 7) {
+      if (i == metadata->size() || shift > 63) return false;
+      uint8_t byte = metadata->Get(i++);
+      number |= uint64_t{byte & 127u} << shift;
+      if (byte < 128) break;
+    }
+    numbers[tag >> 3] = number;
+  }
+  return true;
+}
+
+bool is_empty(const vortex::ArrayNode &node) { return !node.metadata() || node.metadata()->size() == 0; }
+
+// Whether a node has so many numbers of a width, each at a place of its alignment.
+bool has_numbers(const vortex::ArrayNode &node, size_t width, size_t rows, const Blob &blob) {
+  auto numbers = buffer_of(node, blob);
+  return is_of(node, blob, "vortex.primitive") && is_empty(node) && numbers && numbers->size / width == rows &&
          numbers->size % width == 0 && (size_t{1} << numbers->exponent) % width == 0;
+}
+
+// Whether what stands behind so many children is a validity of so many rows, where there may be one, or nothing.
+bool has_validity(const vortex::ArrayNode &node, size_t front, bool nullable, size_t rows, const Blob &blob) {
+  size_t count = children_of(node);
+  if (count == front) return true;
+  if (!nullable || count != front + 1) return false;
+  auto &validity = *node.children()->Get(front);
+  auto bits = buffer_of(validity, blob);
+  return is_of(validity, blob, "vortex.bool") && is_empty(validity) && children_of(validity) == 0 && bits &&
+         bits->size == (rows + 7) / 8;
+}
+
+// Whether a child is offsets of a kind, one more than parts, that never fall and end within a total.
+bool has_offsets(const vortex::ArrayNode &node, uint64_t kind, size_t parts, size_t total, const Blob &blob, Offsets &offsets) {
+  if (kind > 7 || children_of(node) != 0 || !has_numbers(node, widths[kind], parts + 1, blob)) return false;
+  offsets = {buffer_of(node, blob)->bytes, widths[kind], parts + 1};
+  size_t last = 0;
+  for (size_t i = 0; i < offsets.count; i++) {
+    size_t next = offsets.at(i);
+    if (next < last) return false;
+    last = next;
+  }
+  return last <= total;
+}
+
+// Whether bytes are a text of UTF-8.
+bool is_text(const char *bytes, size_t size) {
+  for (size_t i = 0; i < size;) {
+    auto byte = [&](size_t at) { return static_cast<uint8_t>(bytes[at]); };
+    uint8_t lead = byte(i);
+    if (lead < 0x80) {
+      i++;
+      continue;
+    }
+    size_t length = lead < 0xc2 ? 0 : lead < 0xe0 ? 2 : lead < 0xf0 ? 3 : lead < 0xf5 ? 4 : 0;
+    if (length == 0 || length > size - i) return false;
+    for (size_t k = 1; k < length; k++)
+      if (byte(i + k) >> 6 != 2) return false;
+    uint8_t second = byte(i + 1);
+    if ((lead == 0xe0 && second < 0xa0) || (lead == 0xed && second > 0x9f) || (lead == 0xf0 && second < 0x90) ||
+        (lead == 0xf4 && second > 0x8f))
+      return false;
+    i += length;
+  }
+  return true;
+}
+
+// Whether a node is an array of texts.
+bool has_texts(const vortex::ArrayNode &node, bool nullable, size_t rows, const Blob &blob) {
+  uint64_t told[3] = {};
+  auto bytes = buffer_of(node, blob);
+  Offsets offsets;
+  if (!is_of(node, blob, "vortex.varbin") || !metadata_of(node, told) || !bytes || children_of(node) == 0 ||
+      !has_offsets(*node.children()->Get(0), told[1], rows, bytes->size, blob, offsets) ||
+      !has_validity(node, 1, nullable, rows, blob))
+    return false;
+  for (size_t i = 0; i < rows; i++)
+    if (!is_text(bytes->bytes + offsets.at(i), offsets.at(i + 1) - offsets.at(i))) return false;
+  return true;
+}
+
+bool fits(const vortex::ArrayNode &node, const vortex::DType &type, size_t rows, const Blob &blob);
+
+// Whether a node is lists of the elements of a type.
+bool has_lists(const vortex::ArrayNode &node, const vortex::List &list, size_t rows, const Blob &blob) {
+  uint64_t told[3] = {};
+  Offsets offsets;
+  return is_of(node, blob, "vortex.list") && has_no_buffers(node) && metadata_of(node, told) && list.element_type() &&
+         children_of(node) >= 2 && fits(*node.children()->Get(0), *list.element_type(), told[1], blob) &&
+         has_offsets(*node.children()->Get(1), told[2], rows, told[1], blob, offsets) &&
+         has_validity(node, 2, list.nullable(), rows, blob);
+}
+
+// Whether a node is structures of the fields of a type.
+bool has_fields(const vortex::ArrayNode &node, const vortex::Struct &fields, size_t rows, const Blob &blob) {
+  size_t width = fields.dtypes() ? fields.dtypes()->size() : 0;
+  if (!is_of(node, blob, "vortex.struct") || !is_empty(node) || !has_no_buffers(node) || children_of(node) < width ||
+      !has_validity(node, width, fields.nullable(), rows, blob))
+    return false;
+  for (size_t i = 0; i < width; i++)
+    if (!fits(*node.children()->Get(i), *fields.dtypes()->Get(i), rows, blob)) return false;
+  return true;
+}
+
+bool fits(const vortex::ArrayNode &node, const vortex::DType &type, size_t rows, const Blob &blob) {
+  if (auto kind = type.type_as_Primitive())
+    return kind->ptype() < std::size(widths) && has_numbers(node, widths[kind->ptype()], rows, blob) &&
+           has_validity(node, 0, kind->nullable(), rows, blob);
+  if (auto texts = type.type_as_Utf8()) return has_texts(node, texts->nullable(), rows, blob);
+  if (auto list = type.type_as_List()) return has_lists(node, *list, rows, blob);
+  if (auto fields = type.type_as_Struct()) return has_fields(node, *fields, rows, blob);
+  return false;
 }
 
 flatbuffers::DetachedBuffer pack(const vortex::Array &array) {
@@ -63,13 +202,15 @@ flatbuffers::DetachedBuffer pack(const vortex::Array &array) {
 }  // namespace
 
 int main(int count, char **words) {
-  if (count != 5) return std::fputs("usage: blobs TYPE BLOB ROWS TO\n", stderr), 2;
+  if (count != 6) return std::fputs("usage: blobs TYPE BLOB ROWS IDS TO\n", stderr), 2;
   auto type_bytes = read_file(words[1]);
   auto type_message = reinterpret_cast<const uint8_t *>(type_bytes.data());
-  flatbuffers::Verifier type_verifier(type_message, type_bytes.size());
+  flatbuffers::Verifier type_verifier(type_message, type_bytes.size(), 64, 1000000);
   if (!type_verifier.VerifyBuffer<vortex::DType>(nullptr)) return refuse("no type");
-  auto kind = flatbuffers::GetRoot<vortex::DType>(type_message)->type_as_Primitive();
-  if (!kind || kind->ptype() >= std::size(widths)) return refuse("no type of numbers");
+  auto &type = *flatbuffers::GetRoot<vortex::DType>(type_message);
+  Blob known;
+  std::istringstream lines(read_file(words[4]));
+  for (std::string line; std::getline(lines, line);) known.ids.push_back(line);
 
   auto blob = read_file(words[2]);
   uint32_t length;
@@ -81,18 +222,17 @@ int main(int count, char **words) {
   std::vector<uint64_t> aligned((length + 7) / 8);
   std::memcpy(aligned.data(), blob.data() + segment, length);
   auto message = reinterpret_cast<const uint8_t *>(aligned.data());
-  flatbuffers::Verifier verifier(message, length);
+  flatbuffers::Verifier verifier(message, length, 64, 1000000);
   if (!vortex::VerifyArrayBuffer(verifier)) return refuse("no array message");
 
   auto &array = *vortex::GetArray(message);
-  std::vector<Piece> pieces;
-  if (!place(array, blob.data(), segment, pieces)) return refuse("a buffer past the segment");
+  if (!place(array, blob.data(), segment, known.pieces)) return refuse("a buffer past the segment");
   size_t rows = std::strtoull(words[3], nullptr, 10);
-  if (!array.root() || !fits(*array.root(), widths[kind->ptype()], rows, pieces)) return refuse("another array");
+  if (!array.root() || !fits(*array.root(), type, rows, known)) return refuse("another array");
 
   auto packed = pack(array);
-  std::ofstream out(words[4], std::ios::binary);
-  for (auto &piece : pieces) out.write(piece.bytes, piece.size);
+  std::ofstream out(words[5], std::ios::binary);
+  for (auto &piece : known.pieces) out.write(piece.bytes, piece.size);
   uint32_t size = packed.size();
   out.write(reinterpret_cast<const char *>(packed.data()), size);
   out.write(reinterpret_cast<const char *>(&size), sizeof size);
