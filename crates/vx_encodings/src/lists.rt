@@ -180,7 +180,7 @@ pub(crate) fn has_message(children: &[Array]) -> bool
 }
 
 // How many elements there are.
-fn count_of(children: &[Array]) -> u64
+pub(crate) fn count_of(children: &[Array]) -> u64
     ensures { result ≡ (metadata_of (places (roses_of children.now))).elements_len }
 {
     match children {
@@ -190,7 +190,7 @@ fn count_of(children: &[Array]) -> u64
 }
 
 // The kind of the offsets.
-fn kind_of(children: &[Array]) -> PType
+pub(crate) fn kind_of(children: &[Array]) -> PType
     ensures { result ≡ (metadata_of (places (roses_of children.now))).offset_ptype }
 {
     match children {
