@@ -43,14 +43,14 @@ views_unread x BadMetadata h u = λ w m. u _ (views_read x (typ h.dtype) h.metad
 views_unread x BadShape h u = absurd u
 views_unread x BadContent h u = absurd u
 
-not_told : (t : Bool) (P : Type 0) → IsTrue t ↔ P → t ≡ false → P → ⊥
+not_told : (t : Bool) (P : Type 0) → (IsTrue t ↔ P) → t ≡ false → P → ⊥
 not_told t P i f p = let g = i.1 p in absurd (cc)
 
-told : (t : Bool) (P : Type 0) → IsTrue t ↔ P → t ≡ true → P
-told t P i f = i.0 (subst (λ (z : Bool). IsTrue z) (sym f) tt)
+told : (t : Bool) (P : Type 0) → (IsTrue t ↔ P) → t ≡ true → P
+told t P i f = i.0 f
 
 -- Nor are those of a kind of floats.
-pub views_of_floats : (x : ExtMeaning) (h : ArrayHead) (v : ListViews.Metadata) (t : Bool) → Reads view_schema 0 h.metadata (view_value v) → IsTrue t ↔ ListViews.IsFair v → t ≡ false → IsUnplanned BadMetadata x ListView h
+pub views_of_floats : (x : ExtMeaning) (h : ArrayHead) (v : ListViews.Metadata) (t : Bool) → Reads view_schema 0 h.metadata (view_value v) → (IsTrue t ↔ ListViews.IsFair v) → t ≡ false → IsUnplanned BadMetadata x ListView h
 views_of_floats x h v t r i f w m = not_told t (ListViews.IsFair v) i f (views_fair x (typ h.dtype) h.metadata w v m r)
 
 -- What is planned of elements, offsets, sizes and a validity behind them.
@@ -61,11 +61,11 @@ plan_at : (d : DType) (e : Typ) (s : Nullability) (v : ListViews.Metadata) (n k 
 plan_at d e s v n k q = ap (λ (z : DType). plan (typ z) n v k) q
 
 -- Where the type is another one the shape does not fit.
-pub views_of_others : (x : ExtMeaning) (h : ArrayHead) (v : ListViews.Metadata) (t : Bool) → Reads view_schema 0 h.metadata (view_value v) → IsTrue t ↔ ListViews.IsFair v → t ≡ true → plan (typ h.dtype) h.len v h.nchildren ≡ None → IsUnplanned BadShape x ListView h
+pub views_of_others : (x : ExtMeaning) (h : ArrayHead) (v : ListViews.Metadata) (t : Bool) → Reads view_schema 0 h.metadata (view_value v) → (IsTrue t ↔ ListViews.IsFair v) → t ≡ true → plan (typ h.dtype) h.len v h.nchildren ≡ None → IsUnplanned BadShape x ListView h
 views_of_others x h v t r i f none = single_unplanned x ListView h (M.listview v) (views_metadata x (typ h.dtype) h.metadata v r (told t (ListViews.IsFair v) i f)) none
 
 -- What is answered for the parts is the answer for the node.
-pub views_planned : (x : ExtMeaning) (h : ArrayHead) (r : Result (List Place) EncodingError) (v : ListViews.Metadata) (t : Bool) (e f : Typ) (s : Nullability) → Reads view_schema 0 h.metadata (view_value v) → IsTrue t ↔ ListViews.IsFair v → t ≡ true → h.dtype ≡ D.List e s → f ≡ e
+pub views_planned : (x : ExtMeaning) (h : ArrayHead) (r : Result (List Place) EncodingError) (v : ListViews.Metadata) (t : Bool) (e f : Typ) (s : Nullability) → Reads view_schema 0 h.metadata (view_value v) → (IsTrue t ↔ ListViews.IsFair v) → t ≡ true → h.dtype ≡ D.List e s → f ≡ e
     → IfOk r (λ ps. parts_plan f v h.len h.nchildren ≡ Some ps) → IfOk r (λ ps. IsPlanned x ListView h ps)
 views_planned x h (Ok ps) v t e f s shown i j q g a =
     record {
@@ -75,7 +75,7 @@ views_planned x h (Ok ps) v t e f s shown i j q g a =
     }
 views_planned x h (Err error) v t e f s shown i j q g a = tt
 
-pub views_without : (error : EncodingError) (x : ExtMeaning) (h : ArrayHead) (v : ListViews.Metadata) (t : Bool) (e f : Typ) (s : Nullability) → Reads view_schema 0 h.metadata (view_value v) → IsTrue t ↔ ListViews.IsFair v → t ≡ true → h.dtype ≡ D.List e s → f ≡ e
+pub views_without : (error : EncodingError) (x : ExtMeaning) (h : ArrayHead) (v : ListViews.Metadata) (t : Bool) (e f : Typ) (s : Nullability) → Reads view_schema 0 h.metadata (view_value v) → (IsTrue t ↔ ListViews.IsFair v) → t ≡ true → h.dtype ≡ D.List e s → f ≡ e
     → IsWithoutPlan error (parts_plan f v h.len h.nchildren) → IsUnplanned error x ListView h
 views_without OutOfMemory x h v t e f s shown i j q g w = tt
 views_without BadMetadata x h v t e f s shown i j q g w = absurd w

@@ -112,4 +112,4 @@ maps_buffers x h bs us planned none =
     }
 
 -- What the steps of maps rest on.
-pub ruleset map_steps = (maps_unread, maps_unplanned, maps_planned, maps_without, maps_built, maps_refused, maps_buffers)
+pub ruleset map_steps = (maps_unread, maps_unplanned, maps_without, maps_built, maps_refused, maps_buffers)

@@ -35,6 +35,10 @@ views_formed v lt =
     whole_form view_schema 0 view_parts (v.elements_len, (code_of v.offset_ptype, (code_of v.size_ptype, tt)))
     ((v.elements_len, refl, lt), ((code_of v.offset_ptype, refl, few_kinds v.offset_ptype), ((code_of v.size_ptype, refl, few_kinds v.size_ptype), tt)))
 
+-- Three slots that hold a number of elements and the codes of two kinds are the plain value of these.
+pub three_numbers : (v : ListViews.Metadata) (m k l : ℕ) → v.elements_len ≡ m → code_of v.offset_ptype ≡ k → code_of v.size_ptype ≡ l → view_value v ≡ view_parts.value (m, (k, (l, tt)))
+three_numbers v m k l e f g = λ i. view_parts.value (e i, (f i, (g i, tt)))
+
 short : (v : ListViews.Metadata) → v.elements_len < 2 ^ 64 → length (view_bytes v) < 2 ^ 64
 unfolding written
 short v lt =

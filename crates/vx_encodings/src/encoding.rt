@@ -4,8 +4,8 @@ ghost use Rattle.std.specs.Prelude.{◌≡◌};
 ghost use Rattle.vx_array_tree.specs.Table.{id_of};
 
 use vx_arrays::{
-    BoolArray, DecimalArray, ExtensionArray, FixedSizeListArray, ListArray, ListViewArray, MapArray,
-    NullArray, PrimitiveArray, StructArray, UnionArray, VarBinArray, VarBinViewArray,
+    BoolArray, DecimalArray, ExtensionArray, FixedSizeListArray, ListArray, ListViewArray,
+    MapArray, NullArray, PrimitiveArray, StructArray, UnionArray, VarBinArray, VarBinViewArray,
 };
 
 /// The shipped encodings.
