@@ -1,5 +1,5 @@
 -- The steps of nodes of list views.
-use Rattle.std.proofs.Common.{ℕ, suc, ◌≡◌, ◌≢◌, ◌↔◌, List, [], ◌∷◌, Option, Some, None, Bool, true, false, Result, Ok, Err, IfOk, IsTrue, refl, sym, ap, ◌∙◌, subst, inl, length}
+use Rattle.std.proofs.Common.{ℕ, suc, ◌≡◌, ◌≢◌, ◌↔◌, List, [], ◌∷◌, Option, Some, None, Bool, true, false, Result, Ok, Err, IfOk, IfErr, IsTrue, refl, sym, ap, ◌∙◌, subst, inl, length}
 use Rattle.vx_buffer.specs.Buffer.{Buffer}
 use Rattle.vx_trees.specs.Rose.{node, end, more, count}
 use Rattle.vx_types.specs.Kind.{list}
@@ -83,6 +83,11 @@ views_without BadShape x h v t e f s shown i j q g w =
     views_of_others x h v t shown i j (plan_at h.dtype e s v h.len h.nchildren q ∙ ap (λ (z : Typ). parts_plan z v h.len h.nchildren) (sym g) ∙ w)
 views_without BadContent x h v t e f s shown i j q g w = absurd w
 
+pub views_unplanned : (x : ExtMeaning) (h : ArrayHead) (r : Result (List Place) EncodingError) (v : ListViews.Metadata) (t : Bool) (e f : Typ) (s : Nullability) → Reads view_schema 0 h.metadata (view_value v) → (IsTrue t ↔ ListViews.IsFair v) → t ≡ true → h.dtype ≡ D.List e s → f ≡ e
+    → IfErr r (λ error. IsWithoutPlan error (parts_plan f v h.len h.nchildren)) → IfErr r (λ error. IsUnplanned error x ListView h)
+views_unplanned x h (Ok ps) v t e f s shown i j q g w = tt
+views_unplanned x h (Err error) v t e f s shown i j q g w = views_without error x h v t e f s shown i j q g w
+
 -- ---- building
 
 -- What was planned: metadata of a number of elements and two kinds of integers, and the places of the children, as many as
@@ -140,4 +145,4 @@ views_buffers x h bs us planned none =
     }
 
 -- What the steps of list views rest on.
-pub ruleset list_view_steps = (views_unread, views_of_floats, views_of_others, views_planned, views_without, views_built, views_refused, views_buffers)
+pub ruleset list_view_steps = (views_unread, views_built, views_refused, views_buffers)

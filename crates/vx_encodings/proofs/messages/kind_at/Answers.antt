@@ -12,8 +12,8 @@ unreachable-requires c =
     let none = c.in-None.is in
     cc
 
-pub returns-in-Some : goal.returns-in-Some
-returns-in-Some c =
+pub returns : goal.returns
+returns c =
     let p = c.requires in
     let code : c.u8_at.result ≡ code_of p.0 = c.u8_at.ensures.same (code_of p.0) p.1 (omega (arith, few_kinds p.0)) in
     let coded : code_of c.in-Some.kind ≡ c.u8_at.result = c.in-Some.ensures.coded in
