@@ -35,6 +35,9 @@ ext_metadata x d bytes e = record { fields = F.empty; shown = nothing_shown byte
 pub union_metadata : (x : ExtMeaning) (d : Typ) (bytes : List ℕ) → bytes ≡ [] → IsMetadata codec x E.union d bytes M.empty
 union_metadata x d bytes e = record { fields = F.empty; shown = nothing_shown bytes e; meaning = refl; fair = tt; known = tt }
 
+pub map_metadata : (x : ExtMeaning) (d : Typ) (bytes : List ℕ) → bytes ≡ [] → IsMetadata codec x E.map d bytes M.empty
+map_metadata x d bytes e = record { fields = F.empty; shown = nothing_shown bytes e; meaning = refl; fair = tt; known = tt }
+
 fair_null : (v : Metadata) → IsFair E.null v → v ≡ M.empty
 fair_null M.empty f = refl
 fair_null _ f = absurd f
@@ -63,6 +66,10 @@ fair_union : (v : Metadata) → IsFair E.union v → v ≡ M.empty
 fair_union M.empty f = refl
 fair_union _ f = absurd f
 
+fair_map : (v : Metadata) → IsFair E.map v → v ≡ M.empty
+fair_map M.empty f = refl
+fair_map _ f = absurd f
+
 -- What is read is that nothing is kept, of no byte.
 pub null_nothing : (x : ExtMeaning) (d : Typ) (bytes : List ℕ) (v : Metadata) → IsMetadata codec x E.null d bytes v → (bytes ≡ []) × (v ≡ M.empty)
 null_nothing x d bytes v m = (m.shown.bytes_are, fair_null v m.fair)
@@ -84,3 +91,6 @@ ext_nothing x d bytes v m = (m.shown.bytes_are, fair_ext v m.fair)
 
 pub union_nothing : (x : ExtMeaning) (d : Typ) (bytes : List ℕ) (v : Metadata) → IsMetadata codec x E.union d bytes v → (bytes ≡ []) × (v ≡ M.empty)
 union_nothing x d bytes v m = (m.shown.bytes_are, fair_union v m.fair)
+
+pub map_nothing : (x : ExtMeaning) (d : Typ) (bytes : List ℕ) (v : Metadata) → IsMetadata codec x E.map d bytes v → (bytes ≡ []) × (v ≡ M.empty)
+map_nothing x d bytes v m = (m.shown.bytes_are, fair_map v m.fair)

@@ -43,29 +43,27 @@ list_formed n p lt = whole_form list_schema 0 list_parts (n, (code_of p, tt)) ((
 pub both_numbers : (n m : ℕ) (p : PType) (k : ℕ) → n ≡ m → code_of p ≡ k → list_value n p ≡ list_parts.value (m, (k, tt))
 both_numbers n m p k e f = λ i. list_parts.value (e i, (f i, tt))
 
--- Each of its two fields is a key and a varint at most.
-left_out : (b c : Bool) (s t : List ℕ) → length (((if b then [] else s) ++ []) ++ (((if c then [] else t) ++ []) ++ [])) ≤ length s + length t
-left_out true true s t = omega arith
-left_out true false s t = omega (arith, length-append t [], length-append (t ++ []) [])
-left_out false true s t = omega (arith, length-append s [], length-append (s ++ []) [])
-left_out false false s t = omega (arith, length-append (s ++ []) ((t ++ []) ++ []), length-append s [], length-append t [], length-append (t ++ []) [])
+-- A field is a key and a varint at most, and behind it stands the rest.
+pub field_short : (b : Bool) (key n : ℕ) (rest : List ℕ) (m : ℕ) → key < 2 ^ 64 → n < 2 ^ 64 → length rest ≤ m → length (((if b then [] else varint_bytes key ++ varint_bytes n) ++ []) ++ rest) ≤ 20 + m
+field_short true key n rest m k l h = omega (arith, h)
+field_short false key n rest m k l h =
+    omega (
+      arith,
+      h,
+      length-append ((varint_bytes key ++ varint_bytes n) ++ []) rest,
+      length-append (varint_bytes key ++ varint_bytes n) [],
+      length-append (varint_bytes key) (varint_bytes n),
+      (varint_spelled key k).short,
+      (varint_spelled n l).short,
+    )
 
 short : (n : ℕ) (p : PType) → n < 2 ^ 64 → length (list_bytes n p) < 2 ^ 64
 unfolding written
 short n p lt =
-    let s = varint_bytes 8 ++ varint_bytes n in
-    let t = varint_bytes 16 ++ varint_bytes (code_of p) in
-    let few : length (list_bytes n p) ≤ length s + length t = left_out (n == 0) (code_of p == 0) s t in
     let lk = few_kinds p in
-    omega (
-      arith,
-      length-append (varint_bytes 8) (varint_bytes n),
-      (varint_spelled 8 (omega arith)).short,
-      (varint_spelled n lt).short,
-      length-append (varint_bytes 16) (varint_bytes (code_of p)),
-      (varint_spelled 16 (omega arith)).short,
-      (varint_spelled (code_of p) (omega (arith, lk))).short,
-    )
+    let y = field_short (code_of p == 0) 16 (code_of p) [] 0 (omega arith) (omega (arith, lk)) (omega arith) in
+    let few : length (list_bytes n p) ≤ 40 = field_short (n == 0) 8 n _ 20 (omega arith) lt y in
+    omega (arith, few)
 
 -- What is written of them is read as them.
 pub list_again : (n : ℕ) (p : PType) → n < 2 ^ 64 → ShowsList (list_bytes n p) (F.list n p)

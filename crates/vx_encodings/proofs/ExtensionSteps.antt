@@ -1,5 +1,5 @@
 -- The steps of nodes of extensions.
-use Rattle.std.proofs.Common.{ℕ, zero, suc, ◌≡◌, ◌≢◌, List, [], ◌∷◌, ◌++◌, Some, None, Result, Ok, Err, IfOk, refl, sym, ap, ◌∙◌, subst, inl}
+use Rattle.std.proofs.Common.{ℕ, zero, suc, ◌≡◌, ◌≢◌, List, [], ◌∷◌, Some, None, Result, Ok, Err, IfOk, refl, sym, ap, ◌∙◌, subst, inl}
 use Rattle.vx_buffer.specs.Buffer.{Buffer}
 use Rattle.vx_trees.specs.Rose.{node, end, more, count}
 use Rattle.vx_types.specs.Kind.{extension}
@@ -29,17 +29,6 @@ use Rattle.vx_encodings.specs.declared.error.EncodingError.TheVariants.{OutOfMem
 use Rattle.vx_encodings.specs.declared.head.ArrayHead.{ArrayHead}
 
 -- ---- a plan
-
--- One child is planned, and no other number of children.
-pub one_planned : (ps none : List Place) (p q : Place) (k : ℕ) → k ≡ 1 → none ≡ [] → ps ≡ none ++ p ∷ [] → p ≡ q → exactly (q ∷ []) k ≡ Some ps
-one_planned ps none p q k c e a b = rw (c, a, e, b) refl
-
-pub others_unplanned : (p : Place) (k : ℕ) → k ≢ 1 → exactly (p ∷ []) k ≡ None
-others_unplanned p zero c = refl
-others_unplanned p (suc zero) c = absurd (c refl)
-others_unplanned p (suc (suc k)) c = refl
-
-pub ruleset storage_steps = (one_planned, others_unplanned)
 
 -- Where a byte stands there is no metadata.
 pub extensions_unread : (x : ExtMeaning) (h : ArrayHead) → h.metadata ≢ [] → IsUnplanned BadMetadata x Ext h

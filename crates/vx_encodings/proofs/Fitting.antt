@@ -1,5 +1,6 @@
 -- Parts that a constructor refuses break the row of their encoding: they are of another shape, or their content is broken.
-use Rattle.std.proofs.Common.{ℕ, ◌≡◌, List, Some, sym, ap, ◌∙◌, subst, inl}
+use Rattle.std.proofs.Common.{ℕ, ◌≡◌, List, Some, sym, ap, ◌∙◌, subst, inl, inr}
+use Rattle.std.specs.Prelude.{◌⊎◌}
 use Rattle.vx_buffer.specs.Buffer.{Buffer}
 use Rattle.vx_trees.specs.Rose.{node, count, label, below}
 use Rattle.vx_types.specs.Known.{ExtMeaning}
@@ -12,6 +13,7 @@ use Rattle.vx_array_tree.specs.Place.{Place}
 use Rattle.vx_array_tree.specs.Refused.{IsMisshaped, IsWellShaped, HasBrokenContent}
 use Rattle.vx_array_tree.specs.Table.{IsFair, metadata_of, body_of, plan_of, lifted, Allows, Holds, Takes, IsShaped, encoding_of}
 use Rattle.vx_array_tree.specs.Tree.{Tree, Trees, places, encodings, untold}
+use Rattle.vx_array_tree.proofs.Built.{takes_decided}
 use Rattle.vx_array_tree.proofs.NodeLaws.{body_encoding}
 use Rattle.vx_array_tree.proofs.Plans.{metadata_again}
 use Rattle.vx_wire_tree.specs.Reads.{IsMetadata}
@@ -77,3 +79,20 @@ module _ (x : ExtMeaning) (e : Declared.Encoding) (h : ArrayHead) (v : Metadata)
         wrong = broken.broken;
       }
   constructor_refused A.ValueTooLarge bs us body t body_is fair planned level takes q refused = absurd refused
+
+  -- Nor do they where children of their encodings may not stand below it.
+  either_refused : (error : ArrayError) (bs : List Buffer) (us : Trees) (body : Body) (t : Tree) → Takes (plain_encoding e) (encodings us) ⊎ (Takes (plain_encoding e) (encodings us) → ⊥) → body_of (plain_encoding e) v bs ≡ Some body → IsFair (plain_encoding e) v
+      → plan_of (plain_encoding e) (typ h.dtype) h.len v (count us) ≡ Some (places us) → lifted body (places us) ≡ places us
+      → t ≡ node (untold (typ h.dtype) h.len body) us → IsUnmade error t → IsUnbuilt (constructor_error error) x e h bs us
+  either_refused error bs us body t (inl takes) body_is fair planned level q refused = constructor_refused error bs us body t body_is fair planned level takes q refused
+  either_refused A.OutOfMemory bs us body t (inr none) body_is fair planned level q refused = tt
+  either_refused A.BadShape bs us body t (inr none) body_is fair planned level q refused = record { value = v; metadata = m; wrong = inr none }
+  either_refused A.BadContent bs us body t (inr none) body_is fair planned level q refused =
+      let broken = subst (λ (z : Tree). HasBrokenContent (label z) (below z)) q refused in
+      absurd (none (subst (λ (z : Encoding). Takes z (encodings us)) (body_encoding (plain_encoding e) v bs body body_is) broken.shaped.takes))
+  either_refused A.ValueTooLarge bs us body t (inr none) body_is fair planned level q refused = absurd refused
+
+  pub children_refused : (error : ArrayError) (bs : List Buffer) (us : Trees) (body : Body) (t : Tree) → body_of (plain_encoding e) v bs ≡ Some body → IsFair (plain_encoding e) v
+      → plan_of (plain_encoding e) (typ h.dtype) h.len v (count us) ≡ Some (places us) → lifted body (places us) ≡ places us
+      → t ≡ node (untold (typ h.dtype) h.len body) us → IsUnmade error t → IsUnbuilt (constructor_error error) x e h bs us
+  children_refused error bs us body t body_is fair planned level q refused = either_refused error bs us body t (takes_decided (plain_encoding e) (encodings us)) body_is fair planned level q refused

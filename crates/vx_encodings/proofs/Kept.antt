@@ -22,6 +22,7 @@ use Rattle.vx_encodings.specs.DecimalMessage.{decimal_bytes}
 use Rattle.vx_encodings.specs.Messages.{message_bytes}
 use Rattle.vx_encodings.specs.VarBinMessage.{varbin_bytes}
 use Rattle.vx_encodings.specs.ListMessage.{list_bytes}
+use Rattle.vx_encodings.specs.ListViewMessage.{view_bytes}
 use Rattle.vx_encodings.specs.declared.error.EncodingError.{EncodingError}
 
 -- The bytes of a root that holds this.
@@ -69,6 +70,14 @@ pub counts_kept : (t : Tree) (b : Body) (us : Trees) (r : Result (List ℕ) Enco
 counts_kept t b us (Ok bytes) e p u q = q ∙ ap (λ (vs : Trees). list_bytes (Lists.metadata_of (places vs)).elements_len (Lists.metadata_of (places vs)).offset_ptype) u ∙ root t b ListOf e p
 counts_kept t b us (Err error) e p u q = tt
 
+pub list_views_kept : (t : Tree) (b : Body) (x : ListViews.Data) (us : Trees) (r : Result (List ℕ) EncodingError) → b ≡ ListView x → plain_body b ≡ (label t).body → us ≡ below t → IfOk r (λ bytes. bytes ≡ view_bytes (ListViews.metadata_of (places us)))
+    → IfOk r (λ bytes. bytes ≡ message_bytes (told (metadata_in (label t) (below t))))
+list_views_kept t b x us (Ok bytes) e p u q = q ∙ ap (λ (vs : Trees). view_bytes (ListViews.metadata_of (places vs))) u ∙ root t b (ListView x) e p
+list_views_kept t b x us (Err error) e p u q = tt
+
+pub maps_kept : (t : Tree) (b : Body) (bytes : List ℕ) → b ≡ Map → plain_body b ≡ (label t).body → bytes ≡ [] → bytes ≡ message_bytes (told (metadata_in (label t) (below t)))
+maps_kept t b bytes e p q = q ∙ root t b Map e p
+
 pub unions_kept : (t : Tree) (b : Body) (bytes : List ℕ) → b ≡ Union → plain_body b ≡ (label t).body → bytes ≡ [] → bytes ≡ message_bytes (told (metadata_in (label t) (below t)))
 unions_kept t b bytes e p q = q ∙ root t b Union e p
 
@@ -76,11 +85,5 @@ unions_kept t b bytes e p q = q ∙ root t b Union e p
 pub dicts_kept : (t : Tree) (b : Body) (x : Dicts.Data) (bytes : List ℕ) → b ≡ Dict x → plain_body b ≡ (label t).body → bytes ≡ [] → bytes ≡ message_bytes (told (metadata_in (label t) (below t)))
 dicts_kept t b x bytes e p q = q ∙ root t b (Dict x) e p
 
-pub list_views_kept : (t : Tree) (b : Body) (x : ListViews.Data) (bytes : List ℕ) → b ≡ ListView x → plain_body b ≡ (label t).body → bytes ≡ [] → bytes ≡ message_bytes (told (metadata_in (label t) (below t)))
-list_views_kept t b x bytes e p q = q ∙ root t b (ListView x) e p
-
-pub maps_kept : (t : Tree) (b : Body) (bytes : List ℕ) → b ≡ Map → plain_body b ≡ (label t).body → bytes ≡ [] → bytes ≡ message_bytes (told (metadata_in (label t) (below t)))
-maps_kept t b bytes e p q = q ∙ root t b Map e p
-
 -- What the writing of metadata rests on.
-pub ruleset kept = (nulls_kept, numbers_kept, flags_kept, decimals_kept, kinds_kept, views_kept, lists_kept, structures_kept, extensions_kept, counts_kept, unions_kept, dicts_kept, list_views_kept, maps_kept)
+pub ruleset kept = (nulls_kept, numbers_kept, flags_kept, decimals_kept, kinds_kept, views_kept, lists_kept, structures_kept, extensions_kept, counts_kept, list_views_kept, maps_kept, unions_kept, dicts_kept)

@@ -3,8 +3,9 @@ use Rattle.std.proofs.Common.{ℕ, zero, suc, ◌≡◌, ◌*◌, List, [], ◌�
 use Rattle.vx_flat.specs.Value.{table}
 use Rattle.vx_trees.specs.Rose.{node, end, more}
 use Rattle.vx_types.specs.Known.{ExtMeaning}
-use Rattle.vx_types.specs.Kind.{null, boolean, primitive, decimal, utf8, binary, list, fixed_size_list, structure, union, extension}
+use Rattle.vx_types.specs.Kind.{null, boolean, primitive, decimal, utf8, binary, list, fixed_size_list, map, structure, union, extension}
 use Rattle.vx_types.specs.Typ.{Typ}
+use Rattle.vx_types.specs.Words.{entries}
 use Rattle.vx_types.specs.declared.ptype.PType.{PType}
 use Rattle.vx_types.specs.declared.ptype.PType.TheVariants.{U8}
 use Rattle.vx_array_tree.specs.Encoding as E
@@ -18,6 +19,8 @@ use Rattle.vx_array_tree.specs.Encodings.FixedSizeLists as FixedSizeLists
 use Rattle.vx_array_tree.specs.Encodings.Structs as Structs
 use Rattle.vx_array_tree.specs.Encodings.Exts as Exts
 use Rattle.vx_array_tree.specs.Encodings.Lists as Lists
+use Rattle.vx_array_tree.specs.Encodings.ListViews as ListViews
+use Rattle.vx_array_tree.specs.Encodings.Maps as Maps
 use Rattle.vx_array_tree.specs.Encodings.Unions as Unions
 use Rattle.vx_array_tree.specs.Metadata.{Metadata}
 use Rattle.vx_array_tree.specs.Metadata as M
@@ -31,12 +34,13 @@ use Rattle.vx_wire_tree.specs.Reads.{IsMetadata}
 use Rattle.vx_encodings.proofs.ElementCounts.{one_count_and_kind, list_again}
 use Rattle.vx_encodings.proofs.Fronts.{behind_some, behind_none}
 use Rattle.vx_encodings.proofs.OffsetKinds.{one_kind, kind_again}
+use Rattle.vx_encodings.proofs.ViewCounts.{one_count_and_kinds, views_again}
 use Rattle.vx_encodings.proofs.Offsets.{one_offset, offset_again}
 use Rattle.vx_encodings.proofs.Widths.{one_width, width_again}
 use Rattle.vx_encodings.specs.Messages.{Shows, ShowsNothing, message_bytes, codec}
 use Rattle.vx_encodings.specs.Plain.{plain_encoding}
 use Rattle.vx_encodings.specs.declared.encoding.Encoding.{Encoding}
-use Rattle.vx_encodings.specs.declared.encoding.Encoding.TheVariants.{Null, Bool, Primitive, Decimal, VarBin, VarBinView, FixedSizeList, Struct, Ext, List as ListOf, Union}
+use Rattle.vx_encodings.specs.declared.encoding.Encoding.TheVariants.{Null, Bool, Primitive, Decimal, VarBin, VarBinView, FixedSizeList, Struct, Ext, List as ListOf, ListView, Map, Union}
 
 one_nothing : (bytes : List ℕ) (f g : Fields) → ShowsNothing bytes f → ShowsNothing bytes g → f ≡ g
 one_nothing bytes f g a b = a.fields_are ∙ sym b.fields_are
@@ -50,6 +54,7 @@ one_message E.decimal bytes f g a b = one_width bytes f g a b
 one_message E.varbin bytes f g a b = one_kind bytes f g a b
 one_message E.varbinview bytes f g a b = one_nothing bytes f g a b
 one_message E.list bytes f g a b = one_count_and_kind bytes f g a b
+one_message E.listview bytes f g a b = one_count_and_kinds bytes f g a b
 one_message E.fixed_size_list bytes f g a b = one_nothing bytes f g a b
 one_message E.map bytes f g a b = one_nothing bytes f g a b
 one_message E.struct bytes f g a b = one_nothing bytes f g a b
@@ -141,6 +146,22 @@ list_fits_again _ fair fits = absurd fair
 pub list_lawful : IsLawfulAt codec E.list
 list_lawful = record { one_message = one_message E.list; message_again = list_fits_again }
 
+list_view_fits_again : (v : Metadata) → IsFair E.listview v → FitsMessage v → Shows E.listview (message_bytes (told v)) (told v)
+list_view_fits_again (M.listview v) fair fits = views_again v fits
+list_view_fits_again _ fair fits = absurd fair
+
+-- So are those of list views.
+pub list_view_lawful : IsLawfulAt codec E.listview
+list_view_lawful = record { one_message = one_message E.listview; message_again = list_view_fits_again }
+
+map_again : (v : Metadata) → IsFair E.map v → FitsMessage v → Shows E.map (message_bytes (told v)) (told v)
+map_again M.empty fair fits = record { bytes_are = refl; fields_are = refl }
+map_again _ fair fits = absurd fair
+
+-- So are those of maps.
+pub map_lawful : IsLawfulAt codec E.map
+map_lawful = record { one_message = one_message E.map; message_again = map_again }
+
 union_again : (v : Metadata) → IsFair E.union v → FitsMessage v → Shows E.union (message_bytes (told v)) (told v)
 union_again M.empty fair fits = record { bytes_are = refl; fields_are = refl }
 union_again _ fair fits = absurd fair
@@ -161,6 +182,8 @@ lawful FixedSizeList = fixed_size_list_lawful
 lawful Struct = struct_lawful
 lawful Ext = ext_lawful
 lawful ListOf = list_lawful
+lawful ListView = list_view_lawful
+lawful Map = map_lawful
 lawful Union = union_lawful
 
 -- And so are the tables of statistics.
@@ -241,6 +264,14 @@ pub list_count : (d : Typ) (n : ℕ) (v : Lists.Metadata) (k : ℕ) (qs : List P
 list_count (node (list m) (more e end)) n v k qs h = behind_count (place e v.elements_len ∷ place (numbers v.offset_ptype) (suc n) ∷ []) n k qs (let_through (is_len (suc n)) _ _ h)
 list_count _ n v k qs h = absurd (cc)
 
+pub list_view_count : (d : Typ) (n : ℕ) (v : ListViews.Metadata) (k : ℕ) (qs : List Place) → ListViews.plan d n v k ≡ Some qs → length qs ≡ k
+list_view_count (node (list m) (more e end)) n v k qs h = behind_count (place e v.elements_len ∷ place (numbers v.offset_ptype) n ∷ place (numbers v.size_ptype) n ∷ []) n k qs h
+list_view_count _ n v k qs h = absurd (cc)
+
+map_count : (d : Typ) (n k : ℕ) (qs : List Place) → Maps.plan d n k ≡ Some qs → length qs ≡ k
+map_count (node (map b m) (more x (more y end))) n k qs h = exactly_count (place (node (list m) (more (entries (record { key = x; value = y; keys_sorted = b })) end)) n ∷ []) k qs h
+map_count _ n k qs h = absurd (cc)
+
 union_count : (d : Typ) (n k : ℕ) (qs : List Place) → Unions.plan d n k ≡ Some qs → length qs ≡ k
 union_count (node (union ns ids m) ts) n k qs h = exactly_count (place (node (primitive U8 m) end) n ∷ places_at ts n) k qs h
 union_count _ n k qs h = absurd (cc)
@@ -267,5 +298,9 @@ plan_length Ext d n M.empty k qs e = ext_count d n k qs e
 plan_length Ext d n _ k qs e = absurd (cc)
 plan_length ListOf d n (M.list v) k qs e = list_count d n v k qs e
 plan_length ListOf d n _ k qs e = absurd (cc)
+plan_length ListView d n (M.listview v) k qs e = list_view_count d n v k qs e
+plan_length ListView d n _ k qs e = absurd (cc)
+plan_length Map d n M.empty k qs e = map_count d n k qs e
+plan_length Map d n _ k qs e = absurd (cc)
 plan_length Union d n M.empty k qs e = union_count d n k qs e
 plan_length Union d n _ k qs e = absurd (cc)

@@ -21,6 +21,10 @@ mod VarBinViewSteps
 mod FixedSizeListSteps
 mod StructSteps
 mod ExtensionSteps
+mod Alone
 mod ElementCounts
+mod ViewCounts
 mod ListSteps
+mod ListViewSteps
+mod MapSteps
 mod UnionSteps

@@ -102,7 +102,7 @@ pub record ListPlan (h : ArrayHead) (us : Trees) : Type 0 where
 plan_some : (v : Metadata) (m : ℕ) (p : PType) (d : Typ) (n k : ℕ) (ps : List Place) → v ≡ M.list (kept m p) → plan_of E.list d n v k ≡ Some ps → plan d n (kept m p) k ≡ Some ps
 plan_some v m p d n k ps e q = subst (λ (z : Metadata). plan_of E.list d n z k ≡ Some ps) e q
 
-count_places : (us : Trees) → length (places us) ≡ count us
+pub count_places : (us : Trees) → length (places us) ≡ count us
 count_places end = refl
 count_places (more u us) = ap (λ n. suc n) (count_places us)
 

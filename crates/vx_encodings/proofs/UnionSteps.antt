@@ -94,7 +94,7 @@ places_count : (ts : Trees) → length (places ts) ≡ count ts
 places_count end = refl
 places_count (more t ts) = ap (λ k. suc k) (places_count ts)
 
-exactly_many : (ps : List Place) (k : ℕ) (us : Trees) → exactly ps k ≡ Some (places us) → k ≡ count us
+pub exactly_many : (ps : List Place) (k : ℕ) (us : Trees) → exactly ps k ≡ Some (places us) → k ≡ count us
 exactly_many ps k us p = exactly_count ps k (places us) p ∙ ap (λ (qs : List Place). length qs) (sym (exactly_is ps k (places us) p)) ∙ places_count us
 
 count_of : (d : Typ) (n k : ℕ) (us : Trees) → plan d n k ≡ Some (places us) → k ≡ count us

@@ -4,5 +4,6 @@ pub mod BoolMessage
 pub mod DecimalMessage
 pub mod VarBinMessage
 pub mod ListMessage
+pub mod ListViewMessage
 pub mod Messages
 pub mod Steps

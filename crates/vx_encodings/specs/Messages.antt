@@ -13,14 +13,15 @@ use Rattle.vx_encodings.specs.BoolMessage.{ShowsBool, bool_bytes}
 use Rattle.vx_encodings.specs.DecimalMessage.{ShowsDecimal, decimal_bytes}
 use Rattle.vx_encodings.specs.VarBinMessage.{ShowsVarBin, varbin_bytes}
 use Rattle.vx_encodings.specs.ListMessage.{ShowsList, list_bytes}
+use Rattle.vx_encodings.specs.ListViewMessage.{ShowsListView, kept_views, view_bytes}
 
 -- An encoding that keeps nothing has no metadata: no byte stands there.
 pub record ShowsNothing (bytes : List ℕ) (f : Fields) : Type 0 where
   pub bytes_are : bytes ≡ []
   pub fields_are : f ≡ F.empty
 
--- Eight encodings keep nothing, flags an offset, decimals a width, texts by offsets a kind of numbers, and lists a number of
--- elements and a kind. Messages of the other three are not read here yet: no bytes show one.
+-- Eight encodings keep nothing, flags an offset, decimals a width, texts by offsets a kind of numbers, lists a number of
+-- elements and a kind, and list views another kind too. Messages of the other two are not read here yet: no bytes show one.
 abbrev pub Shows : Encoding → List ℕ → Fields → Type 0
 Shows E.null = ShowsNothing
 Shows E.bool = ShowsBool
@@ -29,6 +30,7 @@ Shows E.decimal = ShowsDecimal
 Shows E.varbin = ShowsVarBin
 Shows E.varbinview = ShowsNothing
 Shows E.list = ShowsList
+Shows E.listview = ShowsListView
 Shows E.fixed_size_list = ShowsNothing
 Shows E.map = ShowsNothing
 Shows E.struct = ShowsNothing
@@ -42,6 +44,7 @@ message_bytes (F.bool offset) = bool_bytes offset
 message_bytes (F.decimal width) = decimal_bytes width
 message_bytes (F.varbin kind) = varbin_bytes kind
 message_bytes (F.list count kind) = list_bytes count kind
+message_bytes (F.listview count kind other) = view_bytes (kept_views count kind other)
 message_bytes _ = []
 
 -- A set of statistics is written as its table, whatever it tells.

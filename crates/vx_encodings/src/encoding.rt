@@ -4,8 +4,8 @@ ghost use Rattle.std.specs.Prelude.{◌≡◌};
 ghost use Rattle.vx_array_tree.specs.Table.{id_of};
 
 use vx_arrays::{
-    BoolArray, DecimalArray, ExtensionArray, FixedSizeListArray, ListArray, NullArray,
-    PrimitiveArray, StructArray, UnionArray, VarBinArray, VarBinViewArray,
+    BoolArray, DecimalArray, ExtensionArray, FixedSizeListArray, ListArray, ListViewArray,
+    MapArray, NullArray, PrimitiveArray, StructArray, UnionArray, VarBinArray, VarBinViewArray,
 };
 
 /// The shipped encodings.
@@ -31,6 +31,10 @@ pub enum Encoding {
     Ext,
     /// Lists, whose elements are parted by offsets.
     List,
+    /// Lists, each with an offset and a size of its own.
+    ListView,
+    /// Maps, by their entries.
+    Map,
     /// Unions, by the tags of their rows.
     Union,
 }
@@ -53,6 +57,8 @@ impl Encoding {
             Encoding::Struct => StructArray::ID,
             Encoding::Ext => ExtensionArray::ID,
             Encoding::List => ListArray::ID,
+            Encoding::ListView => ListViewArray::ID,
+            Encoding::Map => MapArray::ID,
             Encoding::Union => UnionArray::ID,
         }
     }

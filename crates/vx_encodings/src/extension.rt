@@ -12,7 +12,7 @@ ghost use Rattle.vx_encodings.specs.declared.encoding.Encoding.TheVariants.{Ext}
 use crate::empty_metadata::read_empty;
 use crate::error::{EncodingError, of_constructor};
 use crate::head::ArrayHead;
-use crate::plans::{ChildPlans, plan_of};
+use crate::plans::{ChildPlans, plan_of, plan_only};
 use std::alloc::Global;
 use vx_arrays::{Array, Arrays, ExtensionArray};
 use vx_buffer::BufferHandles;
@@ -34,7 +34,6 @@ pub(crate) fn plan(alloc: Global, head: &ArrayHead) -> Result<ChildPlans, Encodi
 }
 
 // So many rows of a type, where they are the only child.
-#[tactic(auto, using(crate::proofs::ExtensionSteps::storage_steps))]
 fn plan_storage(
     alloc: Global,
     storage: &DType,
@@ -44,12 +43,8 @@ fn plan_storage(
     ensures plan { IfOk result (λ plans. exactly (place (typ storage.now) len ∷ []) count ≡ Some plans) }
     ensures err { IfErr result (λ e. IsWithoutPlan e (exactly (place (typ storage.now) len ∷ []) count)) }
 {
-    if count != 1 {
-        return Err(EncodingError::BadShape);
-    }
-    let mut plans = ChildPlans::new(alloc);
-    plans.push(plan_of(alloc, storage, len)?)?;
-    Ok(plans)
+    let plan = plan_of(alloc, storage, len)?;
+    plan_only(alloc, plan, count)
 }
 
 // The node of an extension of these parts.

@@ -16,15 +16,13 @@ ghost use Rattle.vx_encodings.specs.declared.encoding.Encoding.TheVariants.{List
 
 use crate::error::{EncodingError, of_constructor};
 use crate::head::ArrayHead;
-use crate::messages::{read_message, write_message};
+use crate::messages::{kind_at, read_message, write_message};
 use crate::plans::{ChildPlan, ChildPlans, plan_of};
 use crate::validity::plan_behind_all;
 use std::alloc::Global;
 use vx_arrays::{Array, Arrays, ListArray};
 use vx_buffer::BufferHandles;
-use vx_proto::{
-    Element, Entries, Message, ProtoError, ScalarKind, Schema, Slot, one, u8_at, u64_at,
-};
+use vx_proto::{Element, Entries, Message, ProtoError, ScalarKind, Schema, Slot, one, u64_at};
 use vx_types::{Blob, DType, Nullability, PType};
 
 /// The metadata of lists.
@@ -67,13 +65,11 @@ impl Message for ListMetadata {
 
     fn from_value(_alloc: Global, slots: Vec<Entries>) -> Result<ListMetadata, ProtoError> {
         let elements_len = u64_at(&slots, 0);
-        match PType::from_code(u8_at(&slots, 1)) {
-            Some(offset_ptype) => Ok(ListMetadata {
-                elements_len,
-                offset_ptype,
-            }),
-            None => unreachable!(),
-        }
+        let offset_ptype = kind_at(&slots, 1);
+        Ok(ListMetadata {
+            elements_len,
+            offset_ptype,
+        })
     }
 
     fn to_value(&self, alloc: Global) -> Result<Vec<Entries>, ProtoError> {
@@ -180,7 +176,7 @@ pub(crate) fn has_message(children: &[Array]) -> bool
 }
 
 // How many elements there are.
-fn count_of(children: &[Array]) -> u64
+pub(crate) fn count_of(children: &[Array]) -> u64
     ensures { result ≡ (metadata_of (places (roses_of children.now))).elements_len }
 {
     match children {
@@ -190,7 +186,7 @@ fn count_of(children: &[Array]) -> u64
 }
 
 // The kind of the offsets.
-fn kind_of(children: &[Array]) -> PType
+pub(crate) fn kind_of(children: &[Array]) -> PType
     ensures { result ≡ (metadata_of (places (roses_of children.now))).offset_ptype }
 {
     match children {

@@ -1,14 +1,18 @@
 //! Metadata that is a message.
 
-ghost use Rattle.std.specs.Prelude.{◌≡◌, ◌≤◌, IfOk, IfErr, IsOkUnless};
+ghost use Rattle.std.specs.Prelude.{◌≡◌, ◌≤◌, Some, IfOk, IfErr, IsOkUnless};
+ghost use Rattle.vx_types.specs.Numbers.{code_of};
+ghost use Rattle.vx_types.specs.declared.ptype.PType.{PType};
+ghost use Rattle.vx_proto.specs.Parts.{number_in, entries_in};
 ghost use Rattle.vx_proto.specs.Reads.{Reads};
+ghost use Rattle.vx_proto.specs.Value.{value_view};
 ghost use Rattle.vx_proto.specs.Written.{written, nested};
 ghost use Rattle.vx_encodings.specs.Steps.{IsUnread};
 
 use crate::error::{EncodingError, of_message};
 use std::alloc::Global;
-use vx_proto::{DeserializeMetadata, Message, ProstMetadata, SerializeMetadata};
-use vx_types::Blob;
+use vx_proto::{DeserializeMetadata, Entries, Message, ProstMetadata, SerializeMetadata, u8_at};
+use vx_types::{Blob, PType};
 
 // Reads metadata as a message: as the one that the bytes show.
 #[tactic(auto, using(crate::proofs::Unread::unread))]
@@ -31,5 +35,16 @@ pub(crate) fn write_message<M: Message>(alloc: Global, message: M) -> Result<Blo
     match ProstMetadata(message).serialize(alloc) {
         Ok(bytes) => Ok(Blob::new(bytes.into_vec())),
         Err(_) => Err(EncodingError::OutOfMemory),
+    }
+}
+
+// The kind of numbers of which a slot holds the code.
+pub(crate) fn kind_at(slots: &[Entries], slot: usize) -> PType
+    requires { (p : PType) × (number_in (entries_in (value_view slots.now) slot) ≡ Some (code_of p)) }
+    ensures { number_in (entries_in (value_view slots.now) slot) ≡ Some (code_of result) }
+{
+    match PType::from_code(u8_at(slots, slot)) {
+        Some(kind) => kind,
+        None => unreachable!(),
     }
 }

@@ -1,9 +1,10 @@
 //! Lists of the places of children.
 
-ghost use Rattle.std.specs.Prelude.{◌≡◌, ◌∷◌, ◌++◌, [], length, slice_get, option_map, IfOk, OnOk, OnErr, IsOkUnless};
+ghost use Rattle.std.specs.Prelude.{◌≡◌, ◌∷◌, ◌++◌, [], length, slice_get, option_map, Some, IfOk, IfErr, OnOk, OnErr, IsOkUnless};
 ghost use Rattle.vx_types.specs.Seen.{typ};
-ghost use Rattle.vx_array_tree.specs.Place.{place};
+ghost use Rattle.vx_array_tree.specs.Place.{exactly, place};
 ghost use Rattle.vx_encodings.specs.Plain.{planned_place};
+ghost use Rattle.vx_encodings.specs.Steps.{IsWithoutPlan};
 
 use crate::error::EncodingError;
 use std::alloc::Global;
@@ -83,4 +84,22 @@ impl ChildPlans {
     {
         self.items.as_slice().get(index)
     }
+}
+
+// A child, where it is the only one.
+#[tactic(auto, using(crate::proofs::Alone::alone))]
+pub(crate) fn plan_only(
+    alloc: Global,
+    plan: ChildPlan,
+    count: usize,
+) -> Result<ChildPlans, EncodingError>
+    ensures plan { IfOk result (λ plans. exactly (planned_place plan ∷ []) count ≡ Some plans) }
+    ensures err { IfErr result (λ e. IsWithoutPlan e (exactly (planned_place plan ∷ []) count)) }
+{
+    if count != 1 {
+        return Err(EncodingError::BadShape);
+    }
+    let mut plans = ChildPlans::new(alloc);
+    plans.push(plan)?;
+    Ok(plans)
 }

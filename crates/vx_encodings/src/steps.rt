@@ -19,8 +19,8 @@ use crate::error::EncodingError;
 use crate::head::ArrayHead;
 use crate::plans::ChildPlans;
 use crate::{
-    bool, decimal, dict, extension, fixed_size_list, lists, null, primitive, structs, union,
-    varbin, varbinview,
+    bool, decimal, dict, extension, fixed_size_list, list_view, lists, map, null, primitive,
+    structs, union, varbin, varbinview,
 };
 use std::alloc::Global;
 use vx_arrays::{Array, Arrays, Body};
@@ -71,6 +71,8 @@ fn plan_by(
         Encoding::Struct => structs::plan(alloc, head),
         Encoding::Ext => extension::plan(alloc, head),
         Encoding::List => lists::plan(alloc, head),
+        Encoding::ListView => list_view::plan(alloc, head),
+        Encoding::Map => map::plan(alloc, head),
         Encoding::Union => union::plan(alloc, head),
     }
 }
@@ -127,6 +129,8 @@ fn build_by(
         Encoding::Struct => structs::build(alloc, head, buffers, children),
         Encoding::Ext => extension::build(head, buffers, children),
         Encoding::List => lists::build(head, buffers, children),
+        Encoding::ListView => list_view::build(head, buffers, children),
+        Encoding::Map => map::build(head, buffers, children),
         Encoding::Union => union::build(head, buffers, children),
     }
 }
@@ -148,8 +152,10 @@ pub fn metadata(alloc: Global, array: &Array) -> Result<Blob, EncodingError>
         Body::Struct => Ok(write_empty(alloc)),
         Body::Ext => Ok(write_empty(alloc)),
         Body::List => lists::metadata(alloc, array.children()),
+        Body::ListView(_) => list_view::metadata(alloc, array.children()),
+        Body::Map => Ok(write_empty(alloc)),
         Body::Union => Ok(write_empty(alloc)),
-        Body::Dict(_) | Body::ListView(_) | Body::Map => Ok(write_empty(alloc)),
+        Body::Dict(_) => Ok(write_empty(alloc)),
     }
 }
 

@@ -71,6 +71,8 @@ impl ArraySession {
             Encoding::Struct,
             Encoding::Ext,
             Encoding::List,
+            Encoding::ListView,
+            Encoding::Map,
             Encoding::Union,
         ] {
             session.set(encoding)?;

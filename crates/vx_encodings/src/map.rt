@@ -1,0 +1,91 @@
+//! Nodes of maps: no metadata, no buffers, and below their entries alone.
+
+ghost use Rattle.std.specs.Prelude.{◌≡◌, ◌∷◌, [], Some, IfOk, IfErr, IsOkUnless};
+ghost use Rattle.vx_trees.specs.Rose.{end, more, node};
+ghost use Rattle.vx_types.specs.Kind.{list};
+ghost use Rattle.vx_types.specs.Known.{ExtMeaning};
+ghost use Rattle.vx_types.specs.Seen.{typ};
+ghost use Rattle.vx_types.specs.Words.{entries};
+ghost use Rattle.vx_array_tree.specs.Place.{exactly, place};
+ghost use Rattle.vx_array_tree.specs.Sound.{IsSound};
+ghost use Rattle.vx_array_tree.specs.Tree.{places};
+ghost use Rattle.vx_encodings.specs.Steps.{IsPlanned, IsUnplanned, IsBuilt, IsUnbuilt, IsWithoutPlan};
+ghost use Rattle.vx_encodings.specs.declared.encoding.Encoding.TheVariants.{Map};
+
+use crate::empty_metadata::read_empty;
+use crate::error::{EncodingError, of_constructor};
+use crate::head::ArrayHead;
+use crate::plans::{ChildPlan, ChildPlans, plan_only};
+use std::alloc::Global;
+use vx_arrays::{Array, Arrays, MapArray};
+use vx_buffer::BufferHandles;
+use vx_types::{DType, MapDType, Nullability, TypeRef};
+
+// What the children of a node of maps are to be: lists of entries, which are null where the maps are.
+#[tactic(auto, using(crate::proofs::MapSteps::map_steps))]
+pub(crate) fn plan(alloc: Global, head: &ArrayHead) -> Result<ChildPlans, EncodingError>
+    ensures plan { (x : ExtMeaning) → IfOk result (λ plans. IsPlanned x Map head.now plans) }
+    ensures err { (x : ExtMeaning) → IfErr result (λ e. IsUnplanned e x Map head.now) }
+{
+    read_empty(head.metadata.as_slice())?;
+    match &head.dtype {
+        DType::Map(map, nullability) => {
+            plan_entries(alloc, map, *nullability, head.len, head.nchildren)
+        }
+        _ => Err(EncodingError::BadShape),
+    }
+}
+
+// The entries of so many maps, where they are the only child.
+fn plan_entries(
+    alloc: Global,
+    map: &MapDType,
+    nullability: Nullability,
+    len: usize,
+    count: usize,
+) -> Result<ChildPlans, EncodingError>
+    ensures plan { IfOk result (λ plans. exactly (place (node (list nullability) (more (entries map.now) end)) len ∷ []) count ≡ Some plans) }
+    ensures err { IfErr result (λ e. IsWithoutPlan e (exactly (place (node (list nullability) (more (entries map.now) end)) len ∷ []) count)) }
+{
+    let dtype = lists_of_entries(alloc, map, nullability)?;
+    plan_only(alloc, ChildPlan { dtype, len }, count)
+}
+
+// The type of lists of a map's entries.
+fn lists_of_entries(
+    alloc: Global,
+    map: &MapDType,
+    nullability: Nullability,
+) -> Result<DType, EncodingError>
+    ensures ok { IfOk result (λ d. typ d ≡ node (list nullability) (more (entries map.now) end)) }
+    ensures err { IsOkUnless result EncodingError.OutOfMemory }
+{
+    let Ok(entry) = map.entries_dtype(alloc) else {
+        return Err(EncodingError::OutOfMemory);
+    };
+    match TypeRef::new(alloc, entry) {
+        Ok(element) => Ok(DType::List(element, nullability)),
+        Err(_) => Err(EncodingError::OutOfMemory),
+    }
+}
+
+// The node of maps of these parts.
+#[tactic(auto, using(crate::proofs::MapSteps::map_steps))]
+pub(crate) fn build(
+    head: ArrayHead,
+    buffers: BufferHandles,
+    children: Arrays,
+) -> Result<Array, EncodingError>
+    requires { (x : ExtMeaning) × IsPlanned x Map head (places children) }
+    ensures parts { (x : ExtMeaning) → IfOk result (λ t. IsBuilt x Map head buffers children t) }
+    ensures sound { IfOk result IsSound }
+    ensures err { (x : ExtMeaning) → IfErr result (λ e. IsUnbuilt e x Map head buffers children) }
+{
+    if !buffers.is_empty() {
+        return Err(EncodingError::BadShape);
+    }
+    match MapArray::of_children(head.dtype, head.len, children) {
+        Ok(array) => Ok(array),
+        Err(e) => Err(of_constructor(e)),
+    }
+}
