@@ -1,0 +1,26 @@
+-- What is written of dictionaries.
+use Rattle.std.proofs.Common.{ℕ, ◌≡◌, Bool, Some, List, Result, Ok, Err, IfOk, refl, sym, ap, ◌∙◌}
+use Rattle.vx_proto.specs.Written.{written}
+use Rattle.vx_array_tree.specs.Encodings.Dicts as Dicts
+use Rattle.vx_array_tree.specs.Metadata as M
+use Rattle.vx_wire_tree.specs.Fields.{DictFields, is_nullable, told}
+use Rattle.vx_encodings.proofs.DictFields.{flags_nest}
+use Rattle.vx_encodings.specs.DictMessage.{dict_bytes, dict_schema, dict_value}
+use Rattle.vx_encodings.specs.Messages.{message_bytes}
+use Rattle.vx_encodings.specs.declared.error.EncodingError.{EncodingError}
+
+-- The fields that are written of metadata.
+abbrev pub told_fields : Dicts.Metadata → DictFields
+told_fields v = record {
+  values_len = v.values_len;
+  codes_ptype = v.codes_ptype;
+  is_nullable_codes = Some (is_nullable v.nullable_codes);
+  all_values_referenced = Some v.all_values_referenced;
+}
+
+-- The message is written.
+pub fields_written : (v : Dicts.Metadata) (f : DictFields) (r : Result (List ℕ) EncodingError) → f ≡ told_fields v → IfOk r (λ bytes. bytes ≡ written dict_schema 0 (dict_value f)) → IfOk r (λ bytes. bytes ≡ message_bytes (told (M.dict v)))
+fields_written v f (Ok bytes) e q = q ∙ ap (λ (g : DictFields). dict_bytes g) e
+fields_written v f (Err x) e q = tt
+
+pub ruleset dict_written = (flags_nest)
