@@ -101,7 +101,7 @@ fn is_unread(alloc: Global, text: &str) -> bool {
     is_entry(alloc, &arrays, text, None) == Ok(true)
 }
 
-const ENTRIES: [(&str, Option<Encoding>); 10] = [
+const ENTRIES: [(&str, Option<Encoding>); 11] = [
     ("vortex.null", Some(Encoding::Null)),
     ("vortex.primitive", Some(Encoding::Primitive)),
     ("vortex.bool", Some(Encoding::Bool)),
@@ -110,7 +110,8 @@ const ENTRIES: [(&str, Option<Encoding>); 10] = [
     ("vortex.ext", Some(Encoding::Ext)),
     ("vortex.list", Some(Encoding::List)),
     ("vortex.union", Some(Encoding::Union)),
-    ("vortex.dict", None),
+    ("vortex.dict", Some(Encoding::Dict)),
+    ("vortex.variant", None),
     ("", None),
 ];
 
@@ -128,7 +129,7 @@ fn entries(alloc: Global, arrays: &ArraySession) -> u8 {
 #[test]
 fn the_shipped_session_reads_and_writes_its_encodings(rt: HostRuntime) {
     match shipped(rt.alloc()) {
-        Ok(session) => assert!(rt; entries(rt.alloc(), &session.arrays) == 10),
+        Ok(session) => assert!(rt; entries(rt.alloc(), &session.arrays) == 11),
         Err(_) => assert!(rt; false),
     }
 }

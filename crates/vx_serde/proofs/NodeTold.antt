@@ -163,7 +163,7 @@ caused_by_plan s refusals.BadShape w d n e h read c =
       [],
       record { encoding = plain_encoding e; by = own_encoding s w d n e h read; value = none.value; metadata = none.metadata; broken = inl none.none },
     )
-caused_by_plan s refusals.BadContent w d n e h read c = absurd c
+caused_by_plan s _ w d n e h read c = absurd c
 
 -- no other buffers may stand for those that are there
 standing : (bs cs : List Buffer) → MayStandFor (all_present bs) cs → cs ≡ bs
