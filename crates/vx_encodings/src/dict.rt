@@ -253,8 +253,9 @@ fn count_of(children: &[Array]) -> usize
     ensures { result ≡ (second_place (places (roses_of children.now))).len }
 {
     match children {
+        [] => 0,
+        [_] => 0,
         [_, values, ..] => values.len(),
-        _ => 0,
     }
 }
 
