@@ -101,7 +101,7 @@ fn is_unread(alloc: Global, text: &str) -> bool {
     is_entry(alloc, &arrays, text, None) == Ok(true)
 }
 
-const ENTRIES: [(&str, Option<Encoding>); 12] = [
+const ENTRIES: [(&str, Option<Encoding>); 13] = [
     ("vortex.null", Some(Encoding::Null)),
     ("vortex.primitive", Some(Encoding::Primitive)),
     ("vortex.bool", Some(Encoding::Bool)),
@@ -112,7 +112,8 @@ const ENTRIES: [(&str, Option<Encoding>); 12] = [
     ("vortex.listview", Some(Encoding::ListView)),
     ("vortex.map", Some(Encoding::Map)),
     ("vortex.union", Some(Encoding::Union)),
-    ("vortex.dict", None),
+    ("vortex.dict", Some(Encoding::Dict)),
+    ("vortex.variant", None),
     ("", None),
 ];
 
@@ -130,7 +131,7 @@ fn entries(alloc: Global, arrays: &ArraySession) -> u8 {
 #[test]
 fn the_shipped_session_reads_and_writes_its_encodings(rt: HostRuntime) {
     match shipped(rt.alloc()) {
-        Ok(session) => assert!(rt; entries(rt.alloc(), &session.arrays) == 12),
+        Ok(session) => assert!(rt; entries(rt.alloc(), &session.arrays) == 13),
         Err(_) => assert!(rt; false),
     }
 }

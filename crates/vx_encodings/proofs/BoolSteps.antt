@@ -26,7 +26,7 @@ use Rattle.vx_encodings.specs.BoolMessage.{bool_schema, bool_value}
 use Rattle.vx_encodings.specs.Steps.{IsPlanned, IsUnplanned, IsWithoutPlan, IsBuilt, IsUnbuilt, IsUnread, constructor_error}
 use Rattle.vx_encodings.specs.declared.encoding.Encoding.TheVariants.{Bool}
 use Rattle.vx_encodings.specs.declared.error.EncodingError.{EncodingError}
-use Rattle.vx_encodings.specs.declared.error.EncodingError.TheVariants.{OutOfMemory, BadMetadata, BadShape, BadContent}
+use Rattle.vx_encodings.specs.declared.error.EncodingError.TheVariants.{OutOfMemory, BadMetadata, BadShape}
 use Rattle.vx_encodings.specs.declared.head.ArrayHead.{ArrayHead}
 
 -- Under a type of flags what is planned is a validity or nothing.
@@ -44,7 +44,7 @@ pub flags_unread : (x : ExtMeaning) (error : EncodingError) (h : ArrayHead) → 
 flags_unread x OutOfMemory h u = tt
 flags_unread x BadMetadata h u = λ v m. u _ (bool_offset x (typ h.dtype) h.metadata v m).reads
 flags_unread x BadShape h u = absurd u
-flags_unread x BadContent h u = absurd u
+flags_unread x _ h u = absurd u
 
 bool_at : (a b : ℕ) → M.bool a ≡ M.bool b → a ≡ b
 bool_at a b e = cc
@@ -85,7 +85,7 @@ pub flags_read : (x : ExtMeaning) (error : EncodingError) (h : ArrayHead) (bs : 
 flags_read x OutOfMemory h bs us planned u = tt
 flags_read x BadMetadata h bs us planned u = absurd (u _ (flags_plan planned.0 h us planned.1).read.reads)
 flags_read x BadShape h bs us planned u = absurd u
-flags_read x BadContent h bs us planned u = absurd u
+flags_read x _ h bs us planned u = absurd u
 
 -- A planned node of flags has at most one child.
 pub few_children : (h : ArrayHead) (us : Trees) (ts : List Tree) (m : Nullability) → (y : ExtMeaning) × IsPlanned y Bool h (places us) → h.dtype ≡ D.Bool m → roses_of ts ≡ us → length ts ≤ 1

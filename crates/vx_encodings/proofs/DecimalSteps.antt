@@ -28,7 +28,7 @@ use Rattle.vx_encodings.specs.DecimalMessage.{decimal_schema, decimal_value}
 use Rattle.vx_encodings.specs.Steps.{IsPlanned, IsUnplanned, IsWithoutPlan, IsBuilt, IsUnbuilt, IsUnread, constructor_error}
 use Rattle.vx_encodings.specs.declared.encoding.Encoding.TheVariants.{Decimal}
 use Rattle.vx_encodings.specs.declared.error.EncodingError.{EncodingError}
-use Rattle.vx_encodings.specs.declared.error.EncodingError.TheVariants.{OutOfMemory, BadMetadata, BadShape, BadContent}
+use Rattle.vx_encodings.specs.declared.error.EncodingError.TheVariants.{OutOfMemory, BadMetadata, BadShape}
 use Rattle.vx_encodings.specs.declared.head.ArrayHead.{ArrayHead}
 
 -- Under a type of decimals what is planned is a validity or nothing.
@@ -45,7 +45,7 @@ pub decimals_unread : (x : ExtMeaning) (error : EncodingError) (h : ArrayHead) �
 decimals_unread x OutOfMemory h u = tt
 decimals_unread x BadMetadata h u = λ v m. u _ (decimal_width x (typ h.dtype) h.metadata v m).reads
 decimals_unread x BadShape h u = absurd u
-decimals_unread x BadContent h u = absurd u
+decimals_unread x _ h u = absurd u
 
 -- Where nothing is planned the shape does not fit.
 pub decimals_unplanned : (x : ExtMeaning) (h : ArrayHead) (w : DecimalType) → Reads decimal_schema 0 h.metadata (decimal_value w) → plan (typ h.dtype) h.len h.nchildren ≡ None → IsUnplanned BadShape x Decimal h
@@ -75,7 +75,7 @@ pub decimals_read : (x : ExtMeaning) (error : EncodingError) (h : ArrayHead) (bs
 decimals_read x OutOfMemory h bs us planned u = tt
 decimals_read x BadMetadata h bs us planned u = absurd (u _ (decimals_plan planned.0 h us planned.1).read.reads)
 decimals_read x BadShape h bs us planned u = absurd u
-decimals_read x BadContent h bs us planned u = absurd u
+decimals_read x _ h bs us planned u = absurd u
 
 -- A planned node of decimals has at most one child.
 pub few_children : (h : ArrayHead) (us : Trees) (ts : List Tree) (c : Digits) (m : Nullability) → (y : ExtMeaning) × IsPlanned y Decimal h (places us) → h.dtype ≡ D.Decimal c m → roses_of ts ≡ us → length ts ≤ 1

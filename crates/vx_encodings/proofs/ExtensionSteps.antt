@@ -25,7 +25,7 @@ use Rattle.vx_encodings.proofs.Singles.{single_unplanned, single_built}
 use Rattle.vx_encodings.specs.Steps.{IsPlanned, IsUnplanned, IsWithoutPlan, IsBuilt, IsUnbuilt, constructor_error}
 use Rattle.vx_encodings.specs.declared.encoding.Encoding.TheVariants.{Ext}
 use Rattle.vx_encodings.specs.declared.error.EncodingError.{EncodingError}
-use Rattle.vx_encodings.specs.declared.error.EncodingError.TheVariants.{OutOfMemory, BadMetadata, BadShape, BadContent}
+use Rattle.vx_encodings.specs.declared.error.EncodingError.TheVariants.{OutOfMemory, BadMetadata, BadShape}
 use Rattle.vx_encodings.specs.declared.head.ArrayHead.{ArrayHead}
 
 -- ---- a plan
@@ -53,7 +53,7 @@ pub extensions_without : (error : EncodingError) (x : ExtMeaning) (h : ArrayHead
 extensions_without OutOfMemory x h e f b q g w = tt
 extensions_without BadMetadata x h e f b q g w = absurd w
 extensions_without BadShape x h e f b q g w = extensions_unplanned x h b (plan_at h.dtype e h.len h.nchildren q ∙ ap (λ (z : Typ). exactly (place z h.len ∷ []) h.nchildren) (sym g) ∙ w)
-extensions_without BadContent x h e f b q g w = absurd w
+extensions_without _ x h e f b q g w = absurd w
 
 -- ---- building
 

@@ -1,7 +1,7 @@
 -- That a root's metadata fits its message, by what the root holds.
-use Rattle.std.proofs.Common.{ℕ, ◌≡◌, ◌<◌, ◌≤◌, ◌-◌, ◌^◌, Bool as Truth, List, [], ◌∷◌, length, arith, sym, ap, ◌∙◌, subst}
+use Rattle.std.proofs.Common.{ℕ, ◌≡◌, ◌<◌, ◌≤◌, ◌-◌, ◌^◌, Bool as Truth, sym, ap, ◌∙◌, subst}
 use Rattle.std.specs.Prelude.{IsTrue, IsFalse}
-use Rattle.vx_trees.specs.Rose.{label, below, roses_of}
+use Rattle.vx_trees.specs.Rose.{label, below}
 use Rattle.vx_array_tree.specs.Body as B
 use Rattle.vx_array_tree.specs.Encodings.Bools as Bools
 use Rattle.vx_array_tree.specs.Encodings.Decimals as Decimals
@@ -89,11 +89,5 @@ values_over t b y us r e p u h x m =
     let q : plain_body (Dict y) ≡ (label t).body = ap (λ (z : Body). plain_body z) (sym e) ∙ p in
     h x (subst (λ (ts : Trees). (second_place (places ts)).len ≤ 2 ^ 32 - 1) (sym u) (subst P (sym q) m))
 
--- Where there is no second child, no row of it is counted.
-pub none_counted : (ts : List Tree) → length ts < 2 → (second_place (places (roses_of ts))).len ≤ 2 ^ 32 - 1
-none_counted [] h = omega arith
-none_counted (t ∷ []) h = omega arith
-none_counted (t ∷ u ∷ ts) h = absurd (omega (arith, h))
-
--- What the test of-- What the test of a root's metadata rests on.
+-- What the test of a root's metadata rests on.
 pub ruleset fit = (nulls_fit, flags_fit, numbers_fit, decimals_fit, kinds_fit, views_fit, lists_fit, structures_fit, extensions_fit, unions_fit, maps_fit, elements_fit, elements_over, viewed_fit, viewed_over, values_fit, values_over)

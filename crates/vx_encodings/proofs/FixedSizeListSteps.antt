@@ -29,7 +29,7 @@ use Rattle.vx_encodings.proofs.Validities.{behind_few, behind_place}
 use Rattle.vx_encodings.specs.Steps.{IsPlanned, IsUnplanned, IsWithoutPlan, IsBuilt, IsUnbuilt, constructor_error}
 use Rattle.vx_encodings.specs.declared.encoding.Encoding.TheVariants.{FixedSizeList}
 use Rattle.vx_encodings.specs.declared.error.EncodingError.{EncodingError}
-use Rattle.vx_encodings.specs.declared.error.EncodingError.TheVariants.{OutOfMemory, BadMetadata, BadShape, BadContent}
+use Rattle.vx_encodings.specs.declared.error.EncodingError.TheVariants.{OutOfMemory, BadMetadata, BadShape}
 use Rattle.vx_encodings.specs.declared.head.ArrayHead.{ArrayHead}
 
 -- ---- a plan
@@ -61,7 +61,7 @@ pub lists_without : (error : EncodingError) (x : ExtMeaning) (h : ArrayHead) (e 
 lists_without OutOfMemory x h e f s m b q g w = tt
 lists_without BadMetadata x h e f s m b q g w = absurd w
 lists_without BadShape x h e f s m b q g w = lists_unplanned x h b (plan_at h.dtype e s m h.len h.nchildren q ∙ ap (λ (z : Typ). elements_plan z s h.len h.nchildren) (sym g) ∙ w)
-lists_without BadContent x h e f s m b q g w = absurd w
+lists_without _ x h e f s m b q g w = absurd w
 
 -- ---- building
 

@@ -1,5 +1,5 @@
 -- The bytes that are written of a root's metadata, by what the root holds.
-use Rattle.std.proofs.Common.{ℕ, ◌≡◌, List, [], Result, Ok, Err, IfOk, sym, ap, ◌∙◌}
+use Rattle.std.proofs.Common.{ℕ, ◌≡◌, ◌≤◌, ◌-◌, ◌^◌, List, [], Result, Ok, Err, IfOk, sym, ap, ◌∙◌, subst}
 use Rattle.vx_trees.specs.Rose.{label, below}
 use Rattle.vx_array_tree.specs.Body as B
 use Rattle.vx_array_tree.specs.Encodings.Bools as Bools
@@ -10,10 +10,13 @@ use Rattle.vx_array_tree.specs.Encodings.Primitives as Primitives
 use Rattle.vx_array_tree.specs.Encodings.VarBins as VarBins
 use Rattle.vx_array_tree.specs.Encodings.Lists as Lists
 use Rattle.vx_array_tree.specs.Encodings.VarBinViews as VarBinViews
+use Rattle.vx_array_tree.specs.Metadata as M
+use Rattle.vx_array_tree.specs.Place.{second_place}
 use Rattle.vx_array_tree.specs.Sound.{metadata_in}
 use Rattle.vx_array_tree.specs.Table.{metadata_of}
 use Rattle.vx_array_tree.specs.Tree.{Tree, Trees, places}
-use Rattle.vx_wire_tree.specs.Fields.{told}
+use Rattle.vx_wire_tree.specs.Fields.{FitsMessage, told}
+use Rattle.vx_wire_tree.specs.Limits.{HasMessage}
 use Rattle.vx_arrays.specs.Plain.{plain_body}
 use Rattle.vx_arrays.specs.declared.body.Body.{Body}
 use Rattle.vx_arrays.specs.declared.body.Body.TheVariants.{Null, Bool, Primitive, Decimal, VarBin, VarBinView, FixedSizeList, Struct, Ext, List as ListOf, Union, ListView, Map, Dict}
@@ -56,6 +59,18 @@ kinds_kept t b x us (Err error) e p u q = tt
 pub views_kept : (t : Tree) (b : Body) (x : VarBinViews.Data) (bytes : List ℕ) → b ≡ VarBinView x → plain_body b ≡ (label t).body → bytes ≡ [] → bytes ≡ message_bytes (told (metadata_in (label t) (below t)))
 views_kept t b x bytes e p q = q ∙ root t b (VarBinView x) e p
 
+pub dicts_kept : (t : Tree) (b : Body) (x : Dicts.Data) (us : Trees) (r : Result (List ℕ) EncodingError) → b ≡ Dict x → plain_body b ≡ (label t).body → us ≡ below t → IfOk r (λ bytes. bytes ≡ message_bytes (told (M.dict (Dicts.metadata_of x (places us)))))
+    → IfOk r (λ bytes. bytes ≡ message_bytes (told (metadata_in (label t) (below t))))
+dicts_kept t b x us (Ok bytes) e p u q = q ∙ ap (λ (vs : Trees). message_bytes (told (M.dict (Dicts.metadata_of x (places vs))))) u ∙ root t b (Dict x) e p
+dicts_kept t b x us (Err error) e p u q = tt
+
+-- What fits the message is counted in 32 bits.
+pub values_counted : (t : Tree) (b : Body) (x : Dicts.Data) (us : Trees) → b ≡ Dict x → plain_body b ≡ (label t).body → us ≡ below t → HasMessage (label t) (below t) → (second_place (places us)).len ≤ 2 ^ 32 - 1
+values_counted t b x us e p u h =
+    let P : B.Body → Type 0 = λ z. FitsMessage (metadata_of z (places (below t))) in
+    let q : plain_body (Dict x) ≡ (label t).body = ap (λ (z : Body). plain_body z) (sym e) ∙ p in
+    subst (λ (ts : Trees). (second_place (places ts)).len ≤ 2 ^ 32 - 1) (sym u) (subst P (sym q) h)
+
 pub lists_kept : (t : Tree) (b : Body) (bytes : List ℕ) → b ≡ FixedSizeList → plain_body b ≡ (label t).body → bytes ≡ [] → bytes ≡ message_bytes (told (metadata_in (label t) (below t)))
 lists_kept t b bytes e p q = q ∙ root t b FixedSizeList e p
 
@@ -81,9 +96,5 @@ maps_kept t b bytes e p q = q ∙ root t b Map e p
 pub unions_kept : (t : Tree) (b : Body) (bytes : List ℕ) → b ≡ Union → plain_body b ≡ (label t).body → bytes ≡ [] → bytes ≡ message_bytes (told (metadata_in (label t) (below t)))
 unions_kept t b bytes e p q = q ∙ root t b Union e p
 
--- Messages of these are not written yet.
-pub dicts_kept : (t : Tree) (b : Body) (x : Dicts.Data) (bytes : List ℕ) → b ≡ Dict x → plain_body b ≡ (label t).body → bytes ≡ [] → bytes ≡ message_bytes (told (metadata_in (label t) (below t)))
-dicts_kept t b x bytes e p q = q ∙ root t b (Dict x) e p
-
 -- What the writing of metadata rests on.
-pub ruleset kept = (nulls_kept, numbers_kept, flags_kept, decimals_kept, kinds_kept, views_kept, lists_kept, structures_kept, extensions_kept, counts_kept, list_views_kept, maps_kept, unions_kept, dicts_kept)
+pub ruleset kept = (nulls_kept, numbers_kept, flags_kept, decimals_kept, kinds_kept, views_kept, dicts_kept, values_counted, lists_kept, structures_kept, extensions_kept, counts_kept, list_views_kept, maps_kept, unions_kept)

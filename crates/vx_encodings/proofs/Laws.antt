@@ -29,8 +29,9 @@ use Rattle.vx_array_tree.specs.Table.{IsFair, plan_of}
 use Rattle.vx_array_tree.proofs.Options.{mapped, let_through}
 use Rattle.vx_scalar_wire.proofs.LawsStats.{one_set_in, shown_fit_in, written_shown, written_storable, written_alike}
 use Rattle.vx_wire_tree.specs.Codec.{IsLawfulAt, HasLawfulStats}
-use Rattle.vx_wire_tree.specs.Fields.{Fields, FitsMessage, meant, told}
+use Rattle.vx_wire_tree.specs.Fields.{Fields, FitsMessage, is_nullable, meant, told}
 use Rattle.vx_wire_tree.specs.Reads.{IsMetadata}
+use Rattle.vx_encodings.proofs.DictFields.{one_dict, dict_again}
 use Rattle.vx_encodings.proofs.ElementCounts.{one_count_and_kind, list_again}
 use Rattle.vx_encodings.proofs.Fronts.{behind_some, behind_none}
 use Rattle.vx_encodings.proofs.OffsetKinds.{one_kind, kind_again}
@@ -40,7 +41,7 @@ use Rattle.vx_encodings.proofs.Widths.{one_width, width_again}
 use Rattle.vx_encodings.specs.Messages.{Shows, ShowsNothing, message_bytes, codec}
 use Rattle.vx_encodings.specs.Plain.{plain_encoding}
 use Rattle.vx_encodings.specs.declared.encoding.Encoding.{Encoding}
-use Rattle.vx_encodings.specs.declared.encoding.Encoding.TheVariants.{Null, Bool, Primitive, Decimal, VarBin, VarBinView, FixedSizeList, Struct, Ext, List as ListOf, ListView, Map, Union}
+use Rattle.vx_encodings.specs.declared.encoding.Encoding.TheVariants.{Null, Bool, Primitive, Decimal, VarBin, VarBinView, Dict, FixedSizeList, Struct, Ext, List as ListOf, ListView, Map, Union}
 
 one_nothing : (bytes : List ℕ) (f g : Fields) → ShowsNothing bytes f → ShowsNothing bytes g → f ≡ g
 one_nothing bytes f g a b = a.fields_are ∙ sym b.fields_are
@@ -53,6 +54,7 @@ one_message E.primitive bytes f g a b = one_nothing bytes f g a b
 one_message E.decimal bytes f g a b = one_width bytes f g a b
 one_message E.varbin bytes f g a b = one_kind bytes f g a b
 one_message E.varbinview bytes f g a b = one_nothing bytes f g a b
+one_message E.dict bytes f g a b = one_dict bytes f g a b
 one_message E.list bytes f g a b = one_count_and_kind bytes f g a b
 one_message E.listview bytes f g a b = one_count_and_kinds bytes f g a b
 one_message E.fixed_size_list bytes f g a b = one_nothing bytes f g a b
@@ -113,6 +115,15 @@ varbinview_again _ fair fits = absurd fair
 -- So are those of texts and of bytes by views.
 pub varbinview_lawful : IsLawfulAt codec E.varbinview
 varbinview_lawful = record { one_message = one_message E.varbinview; message_again = varbinview_again }
+
+dict_fits_again : (v : Metadata) → IsFair E.dict v → FitsMessage v → Shows E.dict (message_bytes (told v)) (told v)
+dict_fits_again (M.dict v) fair fits =
+    dict_again (record { values_len = v.values_len; codes_ptype = v.codes_ptype; is_nullable_codes = Some (is_nullable v.nullable_codes); all_values_referenced = Some v.all_values_referenced }) fits
+dict_fits_again _ fair fits = absurd fair
+
+-- So are those of dictionaries.
+pub dict_lawful : IsLawfulAt codec E.dict
+dict_lawful = record { one_message = one_message E.dict; message_again = dict_fits_again }
 
 fixed_size_list_again : (v : Metadata) → IsFair E.fixed_size_list v → FitsMessage v → Shows E.fixed_size_list (message_bytes (told v)) (told v)
 fixed_size_list_again M.empty fair fits = record { bytes_are = refl; fields_are = refl }
@@ -178,6 +189,7 @@ lawful Primitive = primitive_lawful
 lawful Decimal = decimal_lawful
 lawful VarBin = varbin_lawful
 lawful VarBinView = varbinview_lawful
+lawful Dict = dict_lawful
 lawful FixedSizeList = fixed_size_list_lawful
 lawful Struct = struct_lawful
 lawful Ext = ext_lawful
@@ -198,7 +210,7 @@ stats_lawful = record {
 
 -- ---- plans
 
-exactly_count : (ps : List Place) (k : ℕ) (qs : List Place) → exactly ps k ≡ Some qs → length qs ≡ k
+pub exactly_count : (ps : List Place) (k : ℕ) (qs : List Place) → exactly ps k ≡ Some qs → length qs ≡ k
 exactly_count [] zero qs e = let q : qs ≡ [] = cc in ap (λ (rs : List Place). length rs) q
 exactly_count [] (suc k) qs e = absurd (cc)
 exactly_count (p ∷ ps) zero qs e = absurd (cc)
@@ -290,6 +302,8 @@ plan_length VarBin d n (M.varbin p) k qs e = varbin_count d n p k qs e
 plan_length VarBin d n _ k qs e = absurd (cc)
 plan_length VarBinView d n M.empty k qs e = varbinview_count d n k qs e
 plan_length VarBinView d n _ k qs e = absurd (cc)
+plan_length Dict d n (M.dict v) k qs e = exactly_count (place (node (primitive v.codes_ptype v.nullable_codes) end) n ∷ place d v.values_len ∷ []) k qs e
+plan_length Dict d n _ k qs e = absurd (cc)
 plan_length FixedSizeList d n M.empty k qs e = fixed_size_list_count d n k qs e
 plan_length FixedSizeList d n _ k qs e = absurd (cc)
 plan_length Struct d n M.empty k qs e = struct_count d n k qs e

@@ -7,6 +7,8 @@ mod Numbers
 mod Offsets
 mod Widths
 mod OffsetKinds
+mod DictFields
+mod DictWritten
 mod Validities
 mod Fitting
 mod Singles
@@ -18,6 +20,7 @@ mod PrimitiveSteps
 mod DecimalSteps
 mod VarBinSteps
 mod VarBinViewSteps
+mod DictSteps
 mod FixedSizeListSteps
 mod StructSteps
 mod ExtensionSteps

@@ -32,7 +32,7 @@ use Rattle.vx_encodings.specs.ListMessage.{list_schema, list_value}
 use Rattle.vx_encodings.specs.Steps.{IsPlanned, IsUnplanned, IsUnread, IsWithoutPlan, IsBuilt, IsUnbuilt, constructor_error}
 use Rattle.vx_encodings.specs.declared.encoding.Encoding.TheVariants as C
 use Rattle.vx_encodings.specs.declared.error.EncodingError.{EncodingError}
-use Rattle.vx_encodings.specs.declared.error.EncodingError.TheVariants.{OutOfMemory, BadMetadata, BadShape, BadContent}
+use Rattle.vx_encodings.specs.declared.error.EncodingError.TheVariants.{OutOfMemory, BadMetadata, BadShape}
 use Rattle.vx_encodings.specs.declared.head.ArrayHead.{ArrayHead}
 
 -- ---- a plan
@@ -42,7 +42,7 @@ pub lists_unread : (x : ExtMeaning) (error : EncodingError) (h : ArrayHead) → 
 lists_unread x OutOfMemory h u = tt
 lists_unread x BadMetadata h u = λ v m. u _ (list_read x (typ h.dtype) h.metadata v m).reads
 lists_unread x BadShape h u = absurd u
-lists_unread x BadContent h u = absurd u
+lists_unread x _ h u = absurd u
 
 no_integer : (p : PType) → is_integer p ≡ false → IsTrue (is_integer p) → ⊥
 no_integer p e t = absurd (cc)
@@ -86,7 +86,7 @@ lists_without OutOfMemory x h m p t e f s shown i j q g w = tt
 lists_without BadMetadata x h m p t e f s shown i j q g w = absurd w
 lists_without BadShape x h m p t e f s shown i j q g w =
     lists_of_others x h m p t shown i j (plan_at h.dtype e s m p h.len h.nchildren q ∙ ap (λ (z : Typ). parts_plan z m p h.len h.nchildren) (sym g) ∙ w)
-lists_without BadContent x h m p t e f s shown i j q g w = absurd w
+lists_without _ x h m p t e f s shown i j q g w = absurd w
 
 -- ---- building
 

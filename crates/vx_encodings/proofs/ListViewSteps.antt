@@ -41,7 +41,7 @@ pub views_unread : (x : ExtMeaning) (error : EncodingError) (h : ArrayHead) → 
 views_unread x OutOfMemory h u = tt
 views_unread x BadMetadata h u = λ w m. u _ (views_read x (typ h.dtype) h.metadata w m).reads
 views_unread x BadShape h u = absurd u
-views_unread x BadContent h u = absurd u
+views_unread x _ h u = absurd u
 
 not_told : (t : Bool) (P : Type 0) → (IsTrue t ↔ P) → t ≡ false → P → ⊥
 not_told t P i f p = let g = i.1 p in absurd (cc)
@@ -81,7 +81,7 @@ views_without OutOfMemory x h v t e f s shown i j q g w = tt
 views_without BadMetadata x h v t e f s shown i j q g w = absurd w
 views_without BadShape x h v t e f s shown i j q g w =
     views_of_others x h v t shown i j (plan_at h.dtype e s v h.len h.nchildren q ∙ ap (λ (z : Typ). parts_plan z v h.len h.nchildren) (sym g) ∙ w)
-views_without BadContent x h v t e f s shown i j q g w = absurd w
+views_without _ x h v t e f s shown i j q g w = absurd w
 
 pub views_unplanned : (x : ExtMeaning) (h : ArrayHead) (r : Result (List Place) EncodingError) (v : ListViews.Metadata) (t : Bool) (e f : Typ) (s : Nullability) → Reads view_schema 0 h.metadata (view_value v) → (IsTrue t ↔ ListViews.IsFair v) → t ≡ true → h.dtype ≡ D.List e s → f ≡ e
     → IfErr r (λ error. IsWithoutPlan error (parts_plan f v h.len h.nchildren)) → IfErr r (λ error. IsUnplanned error x ListView h)

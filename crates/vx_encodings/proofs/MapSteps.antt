@@ -59,7 +59,7 @@ pub maps_without : (error : EncodingError) (x : ExtMeaning) (h : ArrayHead) (v :
 maps_without OutOfMemory x h v s b q w = tt
 maps_without BadMetadata x h v s b q w = absurd w
 maps_without BadShape x h v s b q w = maps_unplanned x h b (plan_at h.dtype v s h.len h.nchildren q ∙ w)
-maps_without BadContent x h v s b q w = absurd w
+maps_without _ x h v s b q w = absurd w
 
 -- ---- building
 

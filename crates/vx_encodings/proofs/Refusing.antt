@@ -2,7 +2,7 @@
 use Rattle.std.proofs.Common.{ℕ, ◌≡◌, ◌⊎◌, List, Option, Some, None, sym, ap, ◌∙◌, subst, inl, inr, Result, Ok, Err, IfErr}
 use Rattle.std.proofs.lemmas.Option.{same_Some}
 use Rattle.vx_buffer.specs.Buffer.{Buffer}
-use Rattle.vx_trees.specs.Rose.{node, count}
+use Rattle.vx_trees.specs.Rose.{node, count, label, below}
 use Rattle.vx_types.specs.Known.{ExtMeaning}
 use Rattle.vx_types.specs.Seen.{typ}
 use Rattle.vx_types.specs.Typ.{Typ}
@@ -15,14 +15,15 @@ use Rattle.vx_array_tree.specs.Table.{metadata_of, body_of, plan_of, Allows, Con
 use Rattle.vx_array_tree.specs.Tree.{Tree, Trees, Head, places, encodings, rows_below, untold}
 use Rattle.vx_array_tree.proofs.NodeLaws.{body_encoding}
 use Rattle.vx_array_tree.proofs.Plans.{metadata_again}
+use Rattle.vx_wire_tree.specs.Limits.{HasMessage}
 use Rattle.vx_wire_tree.specs.Steps.{PlansChildren, HasNoPlan, HasParts, HasWrongShape, HasWrongContent}
 use Rattle.vx_encodings.proofs.Laws.{one_value}
 use Rattle.vx_encodings.specs.Messages.{codec}
 use Rattle.vx_encodings.specs.Plain.{plain_encoding}
-use Rattle.vx_encodings.specs.Steps.{IsPlanned, IsUnplanned, IsBuilt, IsUnbuilt, IsMemory, IsOkOrMemory}
+use Rattle.vx_encodings.specs.Steps.{IsPlanned, IsUnplanned, IsBuilt, IsUnbuilt, IsUnwritten, IsMemory, IsOkOrMemory}
 use Rattle.vx_encodings.specs.declared.encoding.Encoding as Declared
 use Rattle.vx_encodings.specs.declared.error.EncodingError.{EncodingError}
-use Rattle.vx_encodings.specs.declared.error.EncodingError.TheVariants.{OutOfMemory, BadMetadata, BadShape, BadContent}
+use Rattle.vx_encodings.specs.declared.error.EncodingError.TheVariants.{OutOfMemory, BadMetadata, BadShape, BadContent, WireLimit}
 use Rattle.vx_encodings.specs.declared.head.ArrayHead.{ArrayHead}
 
 not_both : {A : Type 0} {x : A} (o : Option A) → o ≡ None → o ≡ Some x → ⊥
@@ -38,7 +39,7 @@ pub planned_refusal : (x : ExtMeaning) (error : EncodingError) (e : Declared.Enc
 planned_refusal x OutOfMemory e h ps u p = tt
 planned_refusal x BadMetadata e h ps u p = absurd (u p.value p.metadata)
 planned_refusal x BadShape e h ps u p = absurd (no_plan x (plain_encoding e) (typ h.dtype) h.len h.metadata h.nchildren ps u p)
-planned_refusal x BadContent e h ps u p = absurd u
+planned_refusal x _ e h ps u p = absurd u
 
 -- Parts of a sound array, of which the children were planned, are as its encoding's row asks.
 module _ (x : ExtMeaning) (e : Encoding) (d : Typ) (n : ℕ) (bytes : List ℕ) (k : ℕ) (bs : List Buffer) (ts : Trees) where
@@ -94,6 +95,7 @@ built_refusal x BadShape e h bs ts t planned u parts sound =
     absurd (not_wrong x (plain_encoding e) (typ h.dtype) h.len h.metadata h.nchildren bs ts t planned parts sound u)
 built_refusal x BadContent e h bs ts t planned u parts sound =
     absurd (not_broken x (plain_encoding e) (typ h.dtype) h.len h.metadata h.nchildren bs ts t parts sound u)
+built_refusal x WireLimit e h bs ts t planned u parts sound = absurd u
 
 -- An answer whose refusals are those of a plan is Ok, or want of memory, where there is a plan.
 pub plan_complete : (x : ExtMeaning) (e : Declared.Encoding) (h : ArrayHead) (r : Result (List Place) EncodingError) → IfErr r (λ error. IsUnplanned error x e h)
@@ -106,3 +108,15 @@ pub build_complete : (x : ExtMeaning) (e : Declared.Encoding) (h : ArrayHead) (b
     → IfErr r (λ error. IsUnbuilt error x e h bs ts) → (t : Tree) → IsBuilt x e h bs ts t → IsSound t → IsOkOrMemory r
 build_complete x e h bs ts (Ok u) planned refused t parts sound = tt
 build_complete x e h bs ts (Err error) planned refused t parts sound = built_refusal x error e h bs ts t planned refused parts sound
+
+-- Of metadata that fits its message only memory is refused.
+written_refusal : (error : EncodingError) (t : Tree) → IsUnwritten error t → HasMessage (label t) (below t) → IsMemory error
+written_refusal OutOfMemory t u h = tt
+written_refusal BadMetadata t u h = absurd u
+written_refusal BadShape t u h = absurd u
+written_refusal BadContent t u h = absurd u
+written_refusal WireLimit t u h = absurd (u h)
+
+pub metadata_complete : (t : Tree) (r : Result (List ℕ) EncodingError) → IfErr r (λ error. IsUnwritten error t) → HasMessage (label t) (below t) → IsOkOrMemory r
+metadata_complete t (Ok bytes) u h = tt
+metadata_complete t (Err error) u h = written_refusal error t u h

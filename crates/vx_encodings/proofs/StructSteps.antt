@@ -30,7 +30,7 @@ use Rattle.vx_encodings.proofs.Singles.{single_unplanned, single_built}
 use Rattle.vx_encodings.specs.Steps.{IsPlanned, IsUnplanned, IsWithoutPlan, IsBuilt, IsUnbuilt, constructor_error}
 use Rattle.vx_encodings.specs.declared.encoding.Encoding.TheVariants.{Struct}
 use Rattle.vx_encodings.specs.declared.error.EncodingError.{EncodingError}
-use Rattle.vx_encodings.specs.declared.error.EncodingError.TheVariants.{OutOfMemory, BadMetadata, BadShape, BadContent}
+use Rattle.vx_encodings.specs.declared.error.EncodingError.TheVariants.{OutOfMemory, BadMetadata, BadShape}
 use Rattle.vx_encodings.specs.declared.head.ArrayHead.{ArrayHead}
 
 -- ---- a plan
@@ -63,7 +63,7 @@ structures_without OutOfMemory x h f ds m b q g w = tt
 structures_without BadMetadata x h f ds m b q g w = absurd w
 structures_without BadShape x h f ds m b q g w =
     structures_unplanned x h b (plan_at h.dtype f m h.len h.nchildren q ∙ ap (λ (zs : List Typ). behind (places_at (roses_of zs) h.len) h.len h.nchildren) (sym g) ∙ w)
-structures_without BadContent x h f ds m b q g w = absurd w
+structures_without _ x h f ds m b q g w = absurd w
 
 -- A place for each field.
 pub fields_length : (ds : List DType) (n : ℕ) → length (places_at (roses_of (typs ds)) n) ≡ length ds

@@ -30,7 +30,7 @@ use Rattle.vx_encodings.proofs.StructSteps.{fields_length}
 use Rattle.vx_encodings.specs.Steps.{IsPlanned, IsUnplanned, IsWithoutPlan, IsBuilt, IsUnbuilt, constructor_error}
 use Rattle.vx_encodings.specs.declared.encoding.Encoding.TheVariants.{Union}
 use Rattle.vx_encodings.specs.declared.error.EncodingError.{EncodingError}
-use Rattle.vx_encodings.specs.declared.error.EncodingError.TheVariants.{OutOfMemory, BadMetadata, BadShape, BadContent}
+use Rattle.vx_encodings.specs.declared.error.EncodingError.TheVariants.{OutOfMemory, BadMetadata, BadShape}
 use Rattle.vx_encodings.specs.declared.head.ArrayHead.{ArrayHead}
 
 -- ---- a plan
@@ -83,7 +83,7 @@ unions_without OutOfMemory x h v ds m b q g w = tt
 unions_without BadMetadata x h v ds m b q g w = absurd w
 unions_without BadShape x h v ds m b q g w =
     unions_unplanned x h b (plan_at h.dtype v m h.len h.nchildren q ∙ ap (λ (zs : List Typ). exactly (member_places zs m h.len) h.nchildren) (sym g) ∙ w)
-unions_without BadContent x h v ds m b q g w = absurd w
+unions_without _ x h v ds m b q g w = absurd w
 
 -- ---- building
 

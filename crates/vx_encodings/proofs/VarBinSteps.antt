@@ -31,7 +31,7 @@ use Rattle.vx_encodings.specs.Steps.{IsPlanned, IsUnplanned, IsWithoutPlan, IsBu
 use Rattle.vx_encodings.specs.VarBinMessage.{varbin_schema, varbin_value}
 use Rattle.vx_encodings.specs.declared.encoding.Encoding.TheVariants.{VarBin}
 use Rattle.vx_encodings.specs.declared.error.EncodingError.{EncodingError}
-use Rattle.vx_encodings.specs.declared.error.EncodingError.TheVariants.{OutOfMemory, BadMetadata, BadShape, BadContent}
+use Rattle.vx_encodings.specs.declared.error.EncodingError.TheVariants.{OutOfMemory, BadMetadata, BadShape}
 use Rattle.vx_encodings.specs.declared.head.ArrayHead.{ArrayHead}
 
 -- ---- a plan
@@ -41,7 +41,7 @@ pub varbins_unread : (x : ExtMeaning) (error : EncodingError) (h : ArrayHead) �
 varbins_unread x OutOfMemory h u = tt
 varbins_unread x BadMetadata h u = λ v m. u _ (varbin_kind x (typ h.dtype) h.metadata v m).reads
 varbins_unread x BadShape h u = absurd u
-varbins_unread x BadContent h u = absurd u
+varbins_unread x _ h u = absurd u
 
 no_integer : (p : PType) → is_integer p ≡ false → IsTrue (is_integer p) → ⊥
 no_integer p e t = absurd (cc)
@@ -100,7 +100,7 @@ varbins_without BadMetadata x h p t u k shown i f g b e lt w = absurd w
 varbins_without BadShape x h p t u k shown i f g b e lt w =
     single_unplanned x VarBin h (M.varbin p) (varbin_metadata x (typ h.dtype) h.metadata p shown (sym i ∙ f))
     (plan_is (typ h.dtype) h.len p h.nchildren (g.0 b) (omega (arith, e, lt)) ∙ ap (λ j. before_validity (place (numbers p) j ∷ []) h.len h.nchildren) (sym (e ∙ add-one h.len)) ∙ w)
-varbins_without BadContent x h p t u k shown i f g b e lt w = absurd w
+varbins_without _ x h p t u k shown i f g b e lt w = absurd w
 
 -- ---- building
 

@@ -3,6 +3,7 @@ pub mod NumberMessage
 pub mod BoolMessage
 pub mod DecimalMessage
 pub mod VarBinMessage
+pub mod DictMessage
 pub mod ListMessage
 pub mod ListViewMessage
 pub mod Messages

@@ -12,6 +12,7 @@ use Rattle.vx_wire_tree.specs.Fields as F
 use Rattle.vx_encodings.specs.BoolMessage.{ShowsBool, bool_bytes}
 use Rattle.vx_encodings.specs.DecimalMessage.{ShowsDecimal, decimal_bytes}
 use Rattle.vx_encodings.specs.VarBinMessage.{ShowsVarBin, varbin_bytes}
+use Rattle.vx_encodings.specs.DictMessage.{ShowsDict, dict_bytes}
 use Rattle.vx_encodings.specs.ListMessage.{ShowsList, list_bytes}
 use Rattle.vx_encodings.specs.ListViewMessage.{ShowsListView, kept_views, view_bytes}
 
@@ -20,8 +21,9 @@ pub record ShowsNothing (bytes : List ℕ) (f : Fields) : Type 0 where
   pub bytes_are : bytes ≡ []
   pub fields_are : f ≡ F.empty
 
--- Eight encodings keep nothing, flags an offset, decimals a width, texts by offsets a kind of numbers, lists a number of
--- elements and a kind, and list views another kind too. Messages of the other two are not read here yet: no bytes show one.
+-- Eight encodings keep nothing, flags an offset, decimals a width, texts by offsets a kind of numbers, dictionaries a number of
+-- values, a kind and two flags, lists a number of elements and a kind, and list views another kind too. Messages of the other
+-- one are not read here yet: no bytes show one.
 abbrev pub Shows : Encoding → List ℕ → Fields → Type 0
 Shows E.null = ShowsNothing
 Shows E.bool = ShowsBool
@@ -29,6 +31,7 @@ Shows E.primitive = ShowsNothing
 Shows E.decimal = ShowsDecimal
 Shows E.varbin = ShowsVarBin
 Shows E.varbinview = ShowsNothing
+Shows E.dict = ShowsDict
 Shows E.list = ShowsList
 Shows E.listview = ShowsListView
 Shows E.fixed_size_list = ShowsNothing
@@ -38,11 +41,12 @@ Shows E.union = ShowsNothing
 Shows E.ext = ShowsNothing
 Shows _ = λ bytes f. ⊥
 
--- What keeps nothing is written as no byte, and an offset, a width or a kind as its message. Other messages are not written here yet.
+-- What keeps nothing is written as no byte, and what is kept as its message. Other messages are not written here yet.
 abbrev pub message_bytes : Fields → List ℕ
 message_bytes (F.bool offset) = bool_bytes offset
 message_bytes (F.decimal width) = decimal_bytes width
 message_bytes (F.varbin kind) = varbin_bytes kind
+message_bytes (F.dict f) = dict_bytes f
 message_bytes (F.list count kind) = list_bytes count kind
 message_bytes (F.listview count kind other) = view_bytes (kept_views count kind other)
 message_bytes _ = []

@@ -3,7 +3,7 @@ use Rattle.vx_types.specs.Seen.{typ}
 use Rattle.vx_array_tree.specs.Encoding as E
 use Rattle.vx_array_tree.specs.Place.{Place, place}
 use Rattle.vx_encodings.specs.declared.encoding.Encoding.{Encoding}
-use Rattle.vx_encodings.specs.declared.encoding.Encoding.TheVariants.{Null, Bool, Primitive, Decimal, VarBin, VarBinView, FixedSizeList, Struct, Ext, List as ListOf, ListView, Map, Union}
+use Rattle.vx_encodings.specs.declared.encoding.Encoding.TheVariants.{Null, Bool, Primitive, Decimal, VarBin, VarBinView, Dict, FixedSizeList, Struct, Ext, List as ListOf, ListView, Map, Union}
 use Rattle.vx_encodings.specs.declared.plans.ChildPlan.{ChildPlan}
 
 -- An encoding, of those that definitions know.
@@ -14,6 +14,7 @@ plain_encoding Primitive = E.primitive
 plain_encoding Decimal = E.decimal
 plain_encoding VarBin = E.varbin
 plain_encoding VarBinView = E.varbinview
+plain_encoding Dict = E.dict
 plain_encoding FixedSizeList = E.fixed_size_list
 plain_encoding Struct = E.struct
 plain_encoding Ext = E.ext

@@ -1,6 +1,7 @@
 -- The steps of one node, as the calls of this crate take them, and when each is refused.
 use Rattle.std.specs.Prelude.{ℕ, ◌≡◌, List, Option, None, Result, Ok, Err}
 use Rattle.vx_buffer.specs.Buffer.{Buffer}
+use Rattle.vx_trees.specs.Rose.{label, below}
 use Rattle.vx_types.specs.Known.{ExtMeaning}
 use Rattle.vx_types.specs.Seen.{typ}
 use Rattle.vx_array_tree.specs.Place.{Place}
@@ -10,6 +11,7 @@ use Rattle.vx_proto.specs.Schema.{Schema}
 use Rattle.vx_proto.specs.Value.{Value}
 use Rattle.vx_proto.specs.declared.error.ProtoError.{ProtoError}
 use Rattle.vx_proto.specs.declared.error.ProtoError.TheVariants as P
+use Rattle.vx_wire_tree.specs.Limits.{HasMessage}
 use Rattle.vx_wire_tree.specs.Steps.{HasNoMetadata, PlansChildren, HasNoPlan, HasParts, HasWrongShape, HasWrongContent}
 use Rattle.vx_arrays.specs.declared.error.ArrayError.{ArrayError}
 use Rattle.vx_arrays.specs.declared.error.ArrayError.TheVariants as A
@@ -17,7 +19,7 @@ use Rattle.vx_encodings.specs.Messages.{codec}
 use Rattle.vx_encodings.specs.Plain.{plain_encoding}
 use Rattle.vx_encodings.specs.declared.encoding.Encoding.{Encoding}
 use Rattle.vx_encodings.specs.declared.error.EncodingError.{EncodingError}
-use Rattle.vx_encodings.specs.declared.error.EncodingError.TheVariants.{OutOfMemory, BadMetadata, BadShape, BadContent}
+use Rattle.vx_encodings.specs.declared.error.EncodingError.TheVariants.{OutOfMemory, BadMetadata, BadShape, BadContent, WireLimit}
 use Rattle.vx_encodings.specs.declared.head.ArrayHead.{ArrayHead}
 
 -- The children of a node of this encoding and head are to stand at these places.
@@ -31,6 +33,7 @@ IsUnplanned OutOfMemory x e h = Unit {0}
 IsUnplanned BadMetadata x e h = HasNoMetadata codec x (plain_encoding e) (typ h.dtype) h.metadata
 IsUnplanned BadShape x e h = HasNoPlan codec x (plain_encoding e) (typ h.dtype) h.len h.metadata h.nchildren
 IsUnplanned BadContent x e h = ⊥
+IsUnplanned WireLimit x e h = ⊥
 
 -- An array is the node of this encoding, head, buffers and children.
 abbrev pub IsBuilt : ExtMeaning → Encoding → ArrayHead → List Buffer → Trees → Tree → Type 0
@@ -43,6 +46,7 @@ IsUnbuilt OutOfMemory x e h bs ts = Unit {0}
 IsUnbuilt BadMetadata x e h bs ts = ⊥
 IsUnbuilt BadShape x e h bs ts = HasWrongShape codec x (plain_encoding e) (typ h.dtype) h.len h.metadata bs ts
 IsUnbuilt BadContent x e h bs ts = HasWrongContent codec x (plain_encoding e) (typ h.dtype) h.len h.metadata bs ts
+IsUnbuilt WireLimit x e h bs ts = ⊥
 
 -- There is no such plan, or memory was wanted.
 abbrev pub IsWithoutPlan : EncodingError → Option (List Place) → Type 0
@@ -50,6 +54,15 @@ IsWithoutPlan OutOfMemory plan = Unit {0}
 IsWithoutPlan BadMetadata plan = ⊥
 IsWithoutPlan BadShape plan = plan ≡ None
 IsWithoutPlan BadContent plan = ⊥
+IsWithoutPlan WireLimit plan = ⊥
+
+-- No metadata is written of a root: for want of memory, or as it does not fit its message.
+abbrev pub IsUnwritten : EncodingError → Tree → Type 0
+IsUnwritten OutOfMemory t = Unit {0}
+IsUnwritten BadMetadata t = ⊥
+IsUnwritten BadShape t = ⊥
+IsUnwritten BadContent t = ⊥
+IsUnwritten WireLimit t = HasMessage (label t) (below t) → ⊥
 
 -- Of the refusals this one is want of memory.
 abbrev pub IsMemory : EncodingError → Type 0
@@ -57,6 +70,7 @@ IsMemory OutOfMemory = Unit {0}
 IsMemory BadMetadata = ⊥
 IsMemory BadShape = ⊥
 IsMemory BadContent = ⊥
+IsMemory WireLimit = ⊥
 
 -- The answer is Ok, or want of memory.
 abbrev pub IsOkOrMemory : {A : Type 0} → Result A EncodingError → Type 0
@@ -83,6 +97,7 @@ IsUnread OutOfMemory schema place bytes = Unit {0}
 IsUnread BadMetadata schema place bytes = (v : Value) → Reads schema place bytes v → ⊥
 IsUnread BadShape schema place bytes = ⊥
 IsUnread BadContent schema place bytes = ⊥
+IsUnread WireLimit schema place bytes = ⊥
 
 -- A message's refusal as one of its encoding.
 abbrev pub message_error : ProtoError → EncodingError

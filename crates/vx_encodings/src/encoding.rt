@@ -4,8 +4,9 @@ ghost use Rattle.std.specs.Prelude.{◌≡◌};
 ghost use Rattle.vx_array_tree.specs.Table.{id_of};
 
 use vx_arrays::{
-    BoolArray, DecimalArray, ExtensionArray, FixedSizeListArray, ListArray, ListViewArray,
-    MapArray, NullArray, PrimitiveArray, StructArray, UnionArray, VarBinArray, VarBinViewArray,
+    BoolArray, DecimalArray, DictArray, ExtensionArray, FixedSizeListArray, ListArray,
+    ListViewArray, MapArray, NullArray, PrimitiveArray, StructArray, UnionArray, VarBinArray,
+    VarBinViewArray,
 };
 
 /// The shipped encodings.
@@ -23,6 +24,8 @@ pub enum Encoding {
     VarBin,
     /// Texts or bytes, by views into buffers.
     VarBinView,
+    /// Dictionaries, whose rows are named by codes among values.
+    Dict,
     /// Lists of one size, whose elements stand one row's after the other's.
     FixedSizeList,
     /// Structures, by their fields.
@@ -53,6 +56,7 @@ impl Encoding {
             Encoding::Decimal => DecimalArray::ID,
             Encoding::VarBin => VarBinArray::ID,
             Encoding::VarBinView => VarBinViewArray::ID,
+            Encoding::Dict => DictArray::ID,
             Encoding::FixedSizeList => FixedSizeListArray::ID,
             Encoding::Struct => StructArray::ID,
             Encoding::Ext => ExtensionArray::ID,

@@ -9,7 +9,7 @@ use thiserror::Error;
 use vx_arrays::ArrayError;
 use vx_proto::ProtoError;
 
-/// Why a node was not planned or built.
+/// Why a node was not planned or built, or its metadata not written.
 #[derive(Clone, Copy, Debug, PartialEq, Eq, Error)]
 pub enum EncodingError {
     /// Memory was wanted and not to be had.
@@ -24,6 +24,9 @@ pub enum EncodingError {
     /// A value in a buffer or a child names nothing that is there, or bytes are no text where one is to be.
     #[error("the content is broken")]
     BadContent,
+    /// The metadata does not fit its message.
+    #[error("the metadata does not fit its message")]
+    WireLimit,
 }
 
 impl From<AllocError> for EncodingError {

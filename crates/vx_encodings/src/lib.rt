@@ -30,6 +30,7 @@ mod varbinview;
 
 pub use bool::BoolMetadata;
 pub use decimal::DecimalMetadata;
+pub use dict::DictMetadata;
 pub use encoding::Encoding;
 pub use error::EncodingError;
 pub use head::ArrayHead;

@@ -1,7 +1,7 @@
 //! The steps of one node: what its children are to be, the node out of its parts, and its metadata; a line for
 //! each encoding.
 
-ghost use Rattle.std.specs.Prelude.{◌≡◌, ℕ, List, IfOk, IfErr, IsOkUnless, IsTrue, IsFalse};
+ghost use Rattle.std.specs.Prelude.{◌≡◌, ℕ, List, IfOk, IfErr, OnOk, IsOkUnless, IsTrue, IsFalse};
 ghost use Rattle.vx_trees.specs.Rose.{label, below};
 ghost use Rattle.vx_types.specs.Known.{ExtMeaning};
 ghost use Rattle.vx_type_wire.specs.Session.{ext_meaning};
@@ -11,7 +11,7 @@ ghost use Rattle.vx_array_tree.specs.Tree.{Tree, places};
 ghost use Rattle.vx_wire_tree.specs.Fields.{told};
 ghost use Rattle.vx_wire_tree.specs.Limits.{HasMessage};
 ghost use Rattle.vx_encodings.specs.Messages.{message_bytes};
-ghost use Rattle.vx_encodings.specs.Steps.{IsPlanned, IsUnplanned, IsBuilt, IsUnbuilt, IsOkOrMemory};
+ghost use Rattle.vx_encodings.specs.Steps.{IsPlanned, IsUnplanned, IsBuilt, IsUnbuilt, IsUnwritten, IsOkOrMemory};
 
 use crate::empty_metadata::write_empty;
 use crate::encoding::Encoding;
@@ -67,6 +67,7 @@ fn plan_by(
         Encoding::Decimal => decimal::plan(alloc, head),
         Encoding::VarBin => varbin::plan(alloc, head),
         Encoding::VarBinView => varbinview::plan(alloc, head),
+        Encoding::Dict => dict::plan(alloc, head),
         Encoding::FixedSizeList => fixed_size_list::plan(alloc, head),
         Encoding::Struct => structs::plan(alloc, head),
         Encoding::Ext => extension::plan(alloc, head),
@@ -125,6 +126,7 @@ fn build_by(
         Encoding::Decimal => decimal::build(alloc, head, buffers, children),
         Encoding::VarBin => varbin::build(alloc, head, buffers, children),
         Encoding::VarBinView => varbinview::build(alloc, head, buffers, children),
+        Encoding::Dict => dict::build(alloc, head, buffers, children),
         Encoding::FixedSizeList => fixed_size_list::build(alloc, head, buffers, children),
         Encoding::Struct => structs::build(alloc, head, buffers, children),
         Encoding::Ext => extension::build(head, buffers, children),
@@ -135,9 +137,23 @@ fn build_by(
     }
 }
 
-/// The bytes of the root's metadata, as they are written.
-#[tactic(auto, using(crate::proofs::Kept::kept))]
+/// The bytes of the root's metadata, as they are written: `WireLimit` exactly where it does not fit its message.
 pub fn metadata(alloc: Global, array: &Array) -> Result<Blob, EncodingError>
+    ensures ok { IfOk result (λ bytes. bytes ≡ message_bytes (told (metadata_in (label array.now) (below array.now)))) }
+    ensures fits { OnOk result (HasMessage (label array.now) (below array.now)) }
+    ensures err { IfErr result (λ e. IsUnwritten e array.now) }
+    ensures complete { HasMessage (label array.now) (below array.now) → IsOkOrMemory result }
+{
+    if !has_message(array) {
+        return Err(EncodingError::WireLimit);
+    }
+    metadata_by(alloc, array)
+}
+
+// The bytes of metadata that fits its message.
+#[tactic(auto, using(crate::proofs::Kept::kept))]
+fn metadata_by(alloc: Global, array: &Array) -> Result<Blob, EncodingError>
+    requires { HasMessage (label array.now) (below array.now) }
     ensures ok { IfOk result (λ bytes. bytes ≡ message_bytes (told (metadata_in (label array.now) (below array.now)))) }
     ensures err { IsOkUnless result EncodingError.OutOfMemory }
 {
@@ -148,6 +164,7 @@ pub fn metadata(alloc: Global, array: &Array) -> Result<Blob, EncodingError>
         Body::Decimal(decimals) => decimal::metadata(alloc, decimals),
         Body::VarBin(_) => varbin::metadata(alloc, array.children()),
         Body::VarBinView(_) => Ok(write_empty(alloc)),
+        Body::Dict(data) => dict::metadata(alloc, data, array.children()),
         Body::FixedSizeList => Ok(write_empty(alloc)),
         Body::Struct => Ok(write_empty(alloc)),
         Body::Ext => Ok(write_empty(alloc)),
@@ -155,7 +172,6 @@ pub fn metadata(alloc: Global, array: &Array) -> Result<Blob, EncodingError>
         Body::ListView(_) => list_view::metadata(alloc, array.children()),
         Body::Map => Ok(write_empty(alloc)),
         Body::Union => Ok(write_empty(alloc)),
-        Body::Dict(_) => Ok(write_empty(alloc)),
     }
 }
 

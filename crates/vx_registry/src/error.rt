@@ -13,6 +13,9 @@ pub enum RegistryError {
     /// Nothing writes the arrays of this encoding.
     #[error("nothing writes the arrays of this encoding")]
     NotRegistered,
+    /// The metadata does not fit its message.
+    #[error("the metadata does not fit its message")]
+    WireLimit,
 }
 
 impl From<AllocError> for RegistryError {

@@ -1,17 +1,18 @@
 //! The parts of an array's root, as they are written and as they are read.
 
-ghost use Rattle.std.specs.Prelude.{◌≡◌, IfOk, IsOkUnless};
+ghost use Rattle.std.specs.Prelude.{◌≡◌, IfOk, IfErr, OnOk, IsOkUnless};
 ghost use Rattle.vx_trees.specs.Rose.{label, below, roses_of};
 ghost use Rattle.vx_types.specs.Seen.{typ};
 ghost use Rattle.vx_array_tree.specs.Table.{buffers_of};
-ghost use Rattle.vx_registry.specs.Serialization.{HasPartsOf};
+ghost use Rattle.vx_wire_tree.specs.Limits.{HasMessage};
+ghost use Rattle.vx_registry.specs.Serialization.{HasPartsOf, IsWithoutParts};
 
 use crate::error::RegistryError;
 use crate::named::named;
 use std::alloc::Global;
 use vx_arrays::{Array, Arrays};
 use vx_buffer::BufferHandles;
-use vx_encodings::metadata;
+use vx_encodings::{EncodingError, metadata};
 use vx_types::{Blob, DType, Id};
 
 /// An array's root as it is written: the identifier of its node, the bytes of its metadata, its buffers and the
@@ -49,14 +50,17 @@ impl ArraySerialization {
         }
     }
 
-    /// The parts of an array, under the identifier of its encoding. No buffer's bytes are copied.
+    /// The parts of an array, under the identifier of its encoding. No buffer's bytes are copied. `WireLimit` exactly
+    /// where the root's metadata does not fit its message.
     pub fn from_array(alloc: Global, array: &Array) -> Result<ArraySerialization, RegistryError>
         ensures parts { IfOk result (HasPartsOf array.now) }
-        ensures err { IsOkUnless result RegistryError.OutOfMemory }
+        ensures fits { OnOk result (HasMessage (label array.now) (below array.now)) }
+        ensures err { IfErr result (λ e. IsWithoutParts e array.now) }
     {
         let serialized_id = named(alloc, array.encoding_id())?;
         let metadata = match metadata(alloc, array) {
             Ok(metadata) => metadata,
+            Err(EncodingError::WireLimit) => return Err(RegistryError::WireLimit),
             Err(_) => return Err(RegistryError::OutOfMemory),
         };
         let buffers = own_buffers(alloc, array)?;

@@ -1,7 +1,9 @@
 //! Sessions: what reads and writes arrays, and what reads extension types.
 
 ghost use Rattle.std.specs.Prelude.{◌≡◌, ℕ, List, [], Some, IfOk, IfErr, OnOk, OnErr, IsOkUnless, IfSome, IsSome, None, option_map};
+ghost use Rattle.vx_trees.specs.Rose.{label, below};
 ghost use Rattle.vx_type_wire.specs.Session.{ext_meaning};
+ghost use Rattle.vx_wire_tree.specs.Limits.{HasMessage};
 ghost use Rattle.vx_registry.specs.Serialization.{HasPartsOf, array_id};
 ghost use Rattle.vx_registry.specs.Session.{encoding_in, entry, found, found_with, registered, shipped_registry, ArePaired};
 
@@ -67,6 +69,7 @@ impl ArraySession {
             Encoding::Decimal,
             Encoding::VarBin,
             Encoding::VarBinView,
+            Encoding::Dict,
             Encoding::FixedSizeList,
             Encoding::Struct,
             Encoding::Ext,
@@ -168,7 +171,8 @@ impl VortexSession {
     }
 
     /// An array's root as it is written: its parts, under the identifier that what writes its encoding's arrays
-    /// gives them. `NotRegistered` exactly where nothing writes them.
+    /// gives them. `NotRegistered` exactly where nothing writes them, else `WireLimit` exactly where its metadata does
+    /// not fit its message.
     pub fn array_serialize(
         &self,
         alloc: Global,
@@ -177,11 +181,16 @@ impl VortexSession {
         ensures parts { IfOk result (λ s. IfSome s (HasPartsOf array.now)) }
         ensures given { IfOk result IsSome }
         ensures registered { OnOk result (IsSome (found self.now.arrays.writers (array_id array.now))) }
+        ensures fits { OnOk result (HasMessage (label array.now) (below array.now)) }
         ensures cause { IfErr result (λ e. e ≡ RegistryError.NotRegistered → found self.now.arrays.writers (array_id array.now) ≡ None) }
+        ensures limit { IfErr result (λ e. e ≡ RegistryError.WireLimit → HasMessage (label array.now) (below array.now) → ⊥) }
     {
         let id = named(alloc, array.encoding_id())?;
         match self.arrays.writer(&id) {
-            Some(_) => Ok(Some(ArraySerialization::from_array(alloc, array)?)),
+            Some(_) => match ArraySerialization::from_array(alloc, array) {
+                Ok(parts) => Ok(Some(parts)),
+                Err(e) => Err(e),
+            },
             None => Err(RegistryError::NotRegistered),
         }
     }

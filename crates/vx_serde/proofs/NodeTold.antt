@@ -163,7 +163,7 @@ caused_by_plan s refusals.BadShape w d n e h read c =
       [],
       record { encoding = plain_encoding e; by = own_encoding s w d n e h read; value = none.value; metadata = none.metadata; broken = inl none.none },
     )
-caused_by_plan s refusals.BadContent w d n e h read c = absurd c
+caused_by_plan s _ w d n e h read c = absurd c
 
 -- no other buffers may stand for those that are there
 standing : (bs cs : List Buffer) → MayStandFor (all_present bs) cs → cs ≡ bs
@@ -194,6 +194,7 @@ pub caused_by_build : (s : SessionMeaning) (x : EncodingError) (w : Wire) (d : T
     → IsPlanned s.ext e h ps → (label w).buffers ≡ all_present bs → roses_of ws ≡ below w → AllTell s (roses_of ws) ps ts → IsUnbuilt x s.ext e h bs ts → RefusesWire s (encoding_refusal x) w d n
 caused_by_build s refusals.OutOfMemory w d n e h bs ws ps ts read plan own own_children told c = tt
 caused_by_build s refusals.BadMetadata w d n e h bs ws ps ts read plan own own_children told c = absurd c
+caused_by_build s refusals.WireLimit w d n e h bs ws ps ts read plan own own_children told c = absurd c
 caused_by_build s refusals.BadShape w d n e h bs ws ps ts read plan own own_children told c =
     let wrong = at_node (λ f m b k. HasWrongShape codec s.ext (plain_encoding e) f m b bs ts) h w d n read.head c in
     let A : Wires → Type 0 = λ z. AllMatch codec s z ts in

@@ -64,3 +64,4 @@ encoding_refusal encodings.OutOfMemory = OutOfMemory
 encoding_refusal encodings.BadMetadata = BadMetadata
 encoding_refusal encodings.BadShape = BadShape
 encoding_refusal encodings.BadContent = BadContent
+encoding_refusal encodings.WireLimit = WireLimit

@@ -43,6 +43,7 @@ impl From<EncodingError> for WireError {
             EncodingError::BadMetadata => WireError::BadMetadata,
             EncodingError::BadShape => WireError::BadShape,
             EncodingError::BadContent => WireError::BadContent,
+            EncodingError::WireLimit => WireError::WireLimit,
         }
     }
 }

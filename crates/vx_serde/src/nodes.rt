@@ -52,7 +52,8 @@ fn number_bytes(alloc: Global, first: usize, count: usize) -> Result<Vec<u8>, Al
     Ok(bytes)
 }
 
-/// The parts of a root, which is passed by.
+/// The parts of a root, which is passed by. That its metadata fits its message was judged where the nodes were gathered,
+/// so want of memory is what is left.
 fn node_parts(
     alloc: Global,
     array: &Array,
