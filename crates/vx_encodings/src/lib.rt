@@ -35,6 +35,7 @@ pub use encoding::Encoding;
 pub use error::EncodingError;
 pub use head::ArrayHead;
 pub use list_view::ListViewMetadata;
+pub use lists::ListMetadata;
 pub use plans::{ChildPlan, ChildPlans};
 pub use steps::{build, has_message, metadata, plan};
 pub use varbin::VarBinMetadata;
