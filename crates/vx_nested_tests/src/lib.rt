@@ -1,0 +1,24 @@
+//! Tests of arrays whose rows are made of other arrays' rows, each encoding in a module of its own: which arrays are made,
+//! their rows, and the cells that these take; and the shapes by which tests write such arrays as tables.
+#![tactic(auto)]
+
+#[cfg(test)]
+mod dictionaries;
+#[cfg(test)]
+mod extensions;
+#[cfg(test)]
+mod list_views;
+#[cfg(test)]
+mod lists;
+#[cfg(test)]
+mod lists_of_one_size;
+#[cfg(test)]
+mod maps;
+pub mod rows;
+#[cfg(test)]
+mod same;
+pub mod shapes;
+#[cfg(test)]
+mod structs;
+#[cfg(test)]
+mod unions;

@@ -1,0 +1,162 @@
+//! What tests ask of arrays: the texts of their rows, the cells that these take, and why an array is not made.
+
+use crate::shapes::{Made, Shape, made};
+use std::alloc::{AllocError, Global};
+use vx_arrays::{Array, ArrayError, RowValue};
+use vx_types::PValue;
+
+// The text of a value: that of a text is its own, of lists, structures and maps `[a, b]`, and of a union `#5(a)`.
+#[cycle(text)]
+fn text_of(alloc: Global, value: &RowValue) -> Result<String, AllocError> {
+    match value {
+        RowValue::Null => String::from_str(alloc, "null"),
+        RowValue::Opaque => String::from_str(alloc, "?"),
+        RowValue::Bool(flag) => format!(in alloc; "{flag}"),
+        RowValue::Primitive(number) => number_text(alloc, number),
+        RowValue::Decimal(_) => String::from_str(alloc, "decimal"),
+        RowValue::Utf8(text) => String::from_str(alloc, text.as_str()),
+        RowValue::Binary(_) => String::from_str(alloc, "bytes"),
+        RowValue::Tuple(values) => {
+            let texts = texts_of(alloc, values.as_slice())?;
+            format!(in alloc; "[{texts}]")
+        }
+        RowValue::Union(tag, row) => {
+            let text = text_of(alloc, row.get())?;
+            format!(in alloc; "#{tag}({text})")
+        }
+    }
+}
+
+// The texts of values, parted by commas.
+#[cycle(text)]
+fn texts_of(alloc: Global, values: &[RowValue]) -> Result<String, AllocError> {
+    let mut texts = String::new(alloc);
+    for i in 0..values.len() {
+        let text = text_of(alloc, &values[i])?;
+        texts.push_str(if i == 0 { "" } else { ", " })?;
+        texts.push_str(text.as_str())?;
+    }
+    Ok(texts)
+}
+
+// The text of a number: a float's is that of its bits.
+fn number_text(alloc: Global, number: &PValue) -> Result<String, AllocError> {
+    match *number {
+        PValue::U8(n) => format!(in alloc; "{n}"),
+        PValue::U16(n) | PValue::F16(n) => format!(in alloc; "{n}"),
+        PValue::U32(n) | PValue::F32(n) => format!(in alloc; "{n}"),
+        PValue::U64(n) | PValue::F64(n) => format!(in alloc; "{n}"),
+        PValue::I8(n) => format!(in alloc; "{n}"),
+        PValue::I16(n) => format!(in alloc; "{n}"),
+        PValue::I32(n) => format!(in alloc; "{n}"),
+        PValue::I64(n) => format!(in alloc; "{n}"),
+    }
+}
+
+// The value of a row, for so many cells.
+fn value_at(
+    alloc: Global,
+    array: &Array,
+    index: usize,
+    budget: u64,
+) -> Result<RowValue, ArrayError> {
+    if index >= array.len() {
+        return Err(ArrayError::BadShape);
+    }
+    array.value_at(alloc, index, budget)
+}
+
+// Whether a value has this text.
+fn has_text(alloc: Global, value: &RowValue, text: &str) -> bool {
+    match text_of(alloc, value) {
+        Ok(found) => found.as_str() == text,
+        Err(_) => false,
+    }
+}
+
+// Whether a row is there or not.
+fn is_there(array: &Array, index: usize, there: bool) -> bool {
+    if index >= array.len() {
+        return false;
+    }
+    array.is_valid(index) == Some(there)
+}
+
+// Whether a row has this text, and is there unless that is null.
+fn is_row(alloc: Global, array: &Array, index: usize, text: &str) -> bool {
+    match value_at(alloc, array, index, 1_000) {
+        Ok(value) => has_text(alloc, &value, text) && is_there(array, index, text != "null"),
+        Err(_) => false,
+    }
+}
+
+/// Whether the first rows of an array have these texts.
+pub fn begins_with(alloc: Global, array: &Array, texts: &[&str]) -> bool {
+    for i in 0..texts.len() {
+        if !is_row(alloc, array, i, texts[i]) {
+            return false;
+        }
+    }
+    true
+}
+
+/// Whether the rows of a shape's array have these texts.
+pub fn has_rows(alloc: Global, shape: &Shape<'_>, texts: &[&str]) -> bool {
+    match made(alloc, shape) {
+        Ok(array) => array.len() == texts.len() && begins_with(alloc, &array, texts),
+        Err(_) => false,
+    }
+}
+
+/// Why a shape's array is not made, if it is not.
+pub fn refusal(alloc: Global, shape: &Shape<'_>) -> Option<ArrayError> {
+    made(alloc, shape).err()
+}
+
+// Why the first row of an array is not given for so many cells, if it is not.
+fn row_refusal_of(alloc: Global, array: Made, budget: u64) -> Option<ArrayError> {
+    match array {
+        Ok(array) => value_at(alloc, &array, 0, budget).err(),
+        Err(e) => Some(e),
+    }
+}
+
+/// Why the first row of a shape's array is not given for so many cells, if it is not.
+pub fn row_refusal(alloc: Global, shape: &Shape<'_>, budget: u64) -> Option<ArrayError> {
+    row_refusal_of(alloc, made(alloc, shape), budget)
+}
+
+/// Whether the first row of a shape's array takes so many cells.
+pub fn takes(alloc: Global, shape: &Shape<'_>, cells: u64) -> bool {
+    row_refusal(alloc, shape, cells) == None
+        && row_refusal(alloc, shape, cells.saturating_sub(1)) == Some(ArrayError::ValueTooLarge)
+}
+
+// Whether a node's slot of this number has this name.
+fn is_slot(alloc: Global, array: &Array, index: usize, name: &str) -> bool {
+    if index >= array.nslots() {
+        return false;
+    }
+    match array.slot_name(alloc, index) {
+        Ok(found) => found.as_str() == name,
+        Err(_) => false,
+    }
+}
+
+// Whether a node's slots have these names.
+fn are_slots(alloc: Global, array: &Array, names: &[&str]) -> bool {
+    for i in 0..names.len() {
+        if !is_slot(alloc, array, i, names[i]) {
+            return false;
+        }
+    }
+    array.nslots() == names.len()
+}
+
+/// Whether the slots of a shape's array have these names.
+pub fn has_slots(alloc: Global, shape: &Shape<'_>, names: &[&str]) -> bool {
+    match made(alloc, shape) {
+        Ok(array) => are_slots(alloc, &array, names),
+        Err(_) => false,
+    }
+}
