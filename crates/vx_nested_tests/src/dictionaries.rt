@@ -1,91 +1,105 @@
 //! Tests of dictionaries.
 
-use crate::rows::{has_rows, has_slots, refusal, takes};
-use crate::shapes::{Shape, There};
+use crate::parts::{Made, There, bytes, dicts, extensions, fixed, flags, nulls, numbers, texts};
+use crate::rows::{has_rows, has_slots, takes};
+use std::alloc::Global;
 use vx_arrays::ArrayError;
 use vx_types::PType;
 
-const VALUES: Shape<'static> = Shape::Letters(b"abc", There::Always);
+// Three texts that are never null.
+fn values(alloc: Global) -> Made {
+    texts(alloc, b"abc", There::Always)
+}
 
-const SOME_VALUES: Shape<'static> = Shape::Letters(b"abc", There::Bits(0b011));
+// The same, of which the last is null.
+fn some_values(alloc: Global) -> Made {
+    texts(alloc, b"abc", There::Bits(0b011))
+}
 
 // The codes 0, 2, null and 1.
-const CODES: Shape<'static> = Shape::Numbers(PType::U8, &[0, 2, 0, 1], There::Bits(0b1011));
+fn codes(alloc: Global) -> Made {
+    numbers(alloc, PType::U8, &[0, 2, 0, 1], There::Bits(0b1011))
+}
 
-const LETTERS: Shape<'static> = Shape::Dicts(&CODES, &VALUES);
+// The texts that those codes name.
+fn letters(alloc: Global) -> Made {
+    dicts(alloc, codes(alloc), values(alloc))
+}
 
-const EXTENDED: Shape<'static> = Shape::Extensions(&VALUES, &VALUES);
-
-const BACKWARDS: Shape<'static> = Shape::Bytes(&[3, 2, 1, 0]);
-
-const PAIRS: Shape<'static> = Shape::Fixed(&BACKWARDS, 2, 2, There::Always);
-
-const ROWS: [(Shape<'static>, &[&str]); 10] = [
-    (LETTERS, &["a", "c", "null", "b"]),
-    (
-        Shape::Dicts(&CODES, &SOME_VALUES),
-        &["a", "null", "null", "b"],
-    ),
-    (
-        Shape::Dicts(&Shape::Bytes(&[2, 1]), &SOME_VALUES),
-        &["null", "b"],
-    ),
-    (Shape::Dicts(&Shape::Bytes(&[]), &VALUES), &[]),
-    (Shape::Dicts(&Shape::Bytes(&[]), &Shape::Bytes(&[])), &[]),
-    (Shape::Dicts(&BACKWARDS, &LETTERS), &["b", "null", "c", "a"]),
-    (
-        Shape::Dicts(&Shape::Dicts(&BACKWARDS, &CODES), &VALUES),
-        &["b", "null", "c", "a"],
-    ),
-    (Shape::Dicts(&CODES, &EXTENDED), &["a", "c", "null", "b"]),
-    (
-        Shape::Dicts(&Shape::Bytes(&[1, 0]), &PAIRS),
-        &["[1, 0]", "[3, 2]"],
-    ),
-    (
-        Shape::Dicts(
-            &Shape::Numbers(
-                PType::U64,
-                b"\xfe\xff\xff\xff\xff\xff\xff\xff",
-                There::Always,
-            ),
-            &Shape::Nulls(usize::MAX),
-        ),
-        &["null"],
-    ),
-];
+// The texts that codes of a kind name.
+fn named(alloc: Global, kind: PType, codes: &[u8], there: There) -> Made {
+    dicts(alloc, numbers(alloc, kind, codes, there), values(alloc))
+}
 
 #[test]
 fn codes_name_values(rt: HostRuntime) {
-    for (shape, texts) in &ROWS {
-        assert!(rt; has_rows(rt.alloc(), shape, texts), "{texts:?}");
-    }
+    let alloc = rt.alloc();
+    assert!(rt; has_rows(alloc, letters(alloc), &["a", "c", "null", "b"]));
+    let none = dicts(alloc, bytes(alloc, &[]), values(alloc));
+    assert!(rt; has_rows(alloc, none, &[]));
+}
+
+#[test]
+fn values_may_be_null(rt: HostRuntime) {
+    let alloc = rt.alloc();
+    let some = dicts(alloc, codes(alloc), some_values(alloc));
+    assert!(rt; has_rows(alloc, some, &["a", "null", "null", "b"]));
+    let last = dicts(alloc, bytes(alloc, &[2, 1]), some_values(alloc));
+    assert!(rt; has_rows(alloc, last, &["null", "b"]));
+}
+
+#[test]
+fn dictionaries_stand_in_one_another(rt: HostRuntime) {
+    let alloc = rt.alloc();
+    let over = dicts(alloc, bytes(alloc, &[3, 2, 1, 0]), letters(alloc));
+    assert!(rt; has_rows(alloc, over, &["b", "null", "c", "a"]));
+    let under = dicts(alloc, bytes(alloc, &[3, 2, 1, 0]), codes(alloc));
+    let twice = dicts(alloc, under, values(alloc));
+    assert!(rt; has_rows(alloc, twice, &["b", "null", "c", "a"]));
+}
+
+// Two lists of two numbers.
+fn pairs(alloc: Global) -> Made {
+    fixed(alloc, bytes(alloc, &[3, 2, 1, 0]), 2, 2, There::Always)
+}
+
+#[test]
+fn values_are_of_any_type(rt: HostRuntime) {
+    let alloc = rt.alloc();
+    let lists = dicts(alloc, bytes(alloc, &[1, 0]), pairs(alloc));
+    assert!(rt; has_rows(alloc, lists, &["[1, 0]", "[3, 2]"]));
+    let stored = extensions(alloc, values(alloc), values(alloc));
+    let extended = dicts(alloc, codes(alloc), stored);
+    assert!(rt; has_rows(alloc, extended, &["a", "c", "null", "b"]));
+}
+
+#[test]
+fn a_code_may_be_as_large_as_there_are_values(rt: HostRuntime) {
+    let alloc = rt.alloc();
+    let last = b"\xfe\xff\xff\xff\xff\xff\xff\xff";
+    let code = numbers(alloc, PType::U64, last, There::Always);
+    let null = dicts(alloc, code, nulls(alloc, usize::MAX));
+    assert!(rt; has_rows(alloc, null, &["null"]));
 }
 
 // The codes 2 and 0 of each kind of integers.
 const KINDS: [(PType, &[u8]); 8] = [
-    (PType::U8, &[2, 0]),
-    (PType::I8, &[2, 0]),
-    (PType::U16, &[2, 0, 0, 0]),
-    (PType::I16, &[2, 0, 0, 0]),
-    (PType::U32, &[2, 0, 0, 0, 0, 0, 0, 0]),
-    (PType::I32, &[2, 0, 0, 0, 0, 0, 0, 0]),
-    (
-        PType::U64,
-        &[2, 0, 0, 0, 0, 0, 0, 0, 0, 0, 0, 0, 0, 0, 0, 0],
-    ),
-    (
-        PType::I64,
-        &[2, 0, 0, 0, 0, 0, 0, 0, 0, 0, 0, 0, 0, 0, 0, 0],
-    ),
+    (PType::U8, b"\x02\0"),
+    (PType::I8, b"\x02\0"),
+    (PType::U16, b"\x02\0\0\0"),
+    (PType::I16, b"\x02\0\0\0"),
+    (PType::U32, b"\x02\0\0\0\0\0\0\0"),
+    (PType::I32, b"\x02\0\0\0\0\0\0\0"),
+    (PType::U64, b"\x02\0\0\0\0\0\0\0\0\0\0\0\0\0\0\0"),
+    (PType::I64, b"\x02\0\0\0\0\0\0\0\0\0\0\0\0\0\0\0"),
 ];
 
 #[test]
 fn codes_are_of_each_kind_of_integers(rt: HostRuntime) {
+    let alloc = rt.alloc();
     for (kind, bytes) in &KINDS {
-        let codes = Shape::Numbers(*kind, bytes, There::Always);
-        let letters = Shape::Dicts(&codes, &VALUES);
-        assert!(rt; has_rows(rt.alloc(), &letters, &["c", "a"]), "{kind:?}");
+        let letters = named(alloc, *kind, bytes, There::Always);
+        assert!(rt; has_rows(alloc, letters, &["c", "a"]), "{kind:?}");
     }
 }
 
@@ -93,53 +107,54 @@ const BROKEN: Option<ArrayError> = Some(ArrayError::BadContent);
 
 // Codes that name none of three values.
 const BAD_CODES: [(PType, &[u8]); 8] = [
-    (PType::U8, &[3]),
-    (PType::U8, &[255]),
-    (PType::I8, &[255]),
-    (PType::I16, &[0, 128]),
-    (PType::I32, &[255, 255, 255, 255]),
-    (PType::I64, &[0, 0, 0, 0, 0, 0, 0, 128]),
-    (PType::U32, &[0, 0, 0, 1]),
-    (PType::U64, &[0, 0, 0, 0, 1, 0, 0, 0]),
+    (PType::U8, b"\x03"),
+    (PType::U8, b"\xff"),
+    (PType::I8, b"\xff"),
+    (PType::I16, b"\0\x80"),
+    (PType::I32, b"\xff\xff\xff\xff"),
+    (PType::I64, b"\0\0\0\0\0\0\0\x80"),
+    (PType::U32, b"\0\0\0\x01"),
+    (PType::U64, b"\0\0\0\0\x01\0\0\0"),
 ];
 
 #[test]
 fn codes_are_judged_where_they_are_there(rt: HostRuntime) {
+    let alloc = rt.alloc();
     for (kind, bytes) in &BAD_CODES {
-        for there in [There::Always, There::All, There::Bits(1)] {
-            let codes = Shape::Numbers(*kind, bytes, there);
-            let letters = Shape::Dicts(&codes, &VALUES);
-            assert!(rt; refusal(rt.alloc(), &letters) == BROKEN, "{bytes:?}");
-        }
-        let codes = Shape::Numbers(*kind, bytes, There::Bits(0));
-        let letters = Shape::Dicts(&codes, &VALUES);
-        assert!(rt; has_rows(rt.alloc(), &letters, &["null"]), "{bytes:?}");
+        let always = named(alloc, *kind, bytes, There::Always).err();
+        assert!(rt; always == BROKEN, "{bytes:?}");
+        let there = named(alloc, *kind, bytes, There::Bits(1)).err();
+        assert!(rt; there == BROKEN, "{bytes:?}");
+        let null = named(alloc, *kind, bytes, There::Bits(0));
+        assert!(rt; has_rows(alloc, null, &["null"]), "{bytes:?}");
     }
 }
 
-// Codes that are no integers.
-const OTHER_CODES: [Shape<'static>; 6] = [
-    Shape::Numbers(PType::F16, &[0, 0], There::Always),
-    Shape::Numbers(PType::F32, &[0, 0, 0, 0], There::Always),
-    Shape::Numbers(PType::F64, &[0; 8], There::Always),
-    Shape::Nulls(1),
-    Shape::Flags(0, 1),
-    VALUES,
+const UNFIT: Option<ArrayError> = Some(ArrayError::BadShape);
+
+// Kinds of numbers that are no integers, and the bytes of one.
+const FLOATS: [(PType, &[u8]); 3] = [
+    (PType::F16, b"\0\0"),
+    (PType::F32, b"\0\0\0\0"),
+    (PType::F64, b"\0\0\0\0\0\0\0\0"),
 ];
 
 #[test]
 fn codes_are_integers(rt: HostRuntime) {
-    for codes in &OTHER_CODES {
-        let letters = Shape::Dicts(codes, &VALUES);
-        assert!(rt; refusal(rt.alloc(), &letters) == Some(ArrayError::BadShape));
+    let alloc = rt.alloc();
+    for (kind, bytes) in &FLOATS {
+        let named = named(alloc, *kind, bytes, There::Always).err();
+        assert!(rt; named == UNFIT, "{kind:?}");
     }
+    assert!(rt; dicts(alloc, flags(alloc, 0, 1), values(alloc)).err() == UNFIT);
+    assert!(rt; dicts(alloc, values(alloc), values(alloc)).err() == UNFIT);
 }
-
-const PICKED: Shape<'static> = Shape::Dicts(&Shape::Bytes(&[1]), &PAIRS);
 
 #[test]
 fn a_row_takes_its_values_cells(rt: HostRuntime) {
-    assert!(rt; takes(rt.alloc(), &LETTERS, 2));
-    assert!(rt; takes(rt.alloc(), &PICKED, 3));
-    assert!(rt; has_slots(rt.alloc(), &LETTERS, &["codes", "values"]));
+    let alloc = rt.alloc();
+    assert!(rt; takes(alloc, letters(alloc), 2));
+    let picked = dicts(alloc, bytes(alloc, &[1]), pairs(alloc));
+    assert!(rt; takes(alloc, picked, 3));
+    assert!(rt; has_slots(alloc, letters(alloc), &["codes", "values"]));
 }

@@ -1,48 +1,49 @@
 //! Tests of extensions.
 
-use crate::rows::{has_rows, has_slots, refusal, takes};
-use crate::shapes::{Shape, There};
+use crate::parts::{Made, There, bytes, extensions, fixed, texts};
+use crate::rows::{has_rows, has_slots, takes};
+use std::alloc::Global;
 use vx_arrays::ArrayError;
 
-const NUMBERS: Shape<'static> = Shape::Bytes(&[7, 8]);
+// Two numbers.
+fn numbers(alloc: Global) -> Made {
+    bytes(alloc, &[7, 8])
+}
 
-const LETTERS: Shape<'static> = Shape::Letters(b"ab", There::Bits(0b01));
+// Two texts, of which the second is null.
+fn letters(alloc: Global) -> Made {
+    texts(alloc, b"ab", There::Bits(0b01))
+}
 
-const PAIR: Shape<'static> = Shape::Fixed(&NUMBERS, 2, 1, There::Always);
-
-const STORED: Shape<'static> = Shape::Extensions(&NUMBERS, &NUMBERS);
-
-const TWO: [Shape<'static>; 2] = [STORED, LETTERS];
-
-const ROWS: [(Shape<'static>, &[&str]); 6] = [
-    (STORED, &["7", "8"]),
-    (Shape::Extensions(&LETTERS, &LETTERS), &["a", "null"]),
-    (Shape::Extensions(&PAIR, &PAIR), &["[7, 8]"]),
-    (Shape::Extensions(&STORED, &STORED), &["7", "8"]),
-    (Shape::Fixed(&STORED, 2, 1, There::Always), &["[7, 8]"]),
-    (
-        Shape::Structs(&["a", "b"], &TWO, &TWO, 2, There::Always),
-        &["[7, a]", "[8, null]"],
-    ),
-];
-
-#[test]
-fn rows_are_the_storages(rt: HostRuntime) {
-    for (shape, texts) in &ROWS {
-        assert!(rt; has_rows(rt.alloc(), shape, texts), "{texts:?}");
-    }
+// Extensions that are stored as numbers.
+fn stored(alloc: Global) -> Made {
+    extensions(alloc, numbers(alloc), numbers(alloc))
 }
 
 #[test]
+fn rows_are_the_storages(rt: HostRuntime) {
+    let alloc = rt.alloc();
+    assert!(rt; has_rows(alloc, stored(alloc), &["7", "8"]));
+    let some = extensions(alloc, letters(alloc), letters(alloc));
+    assert!(rt; has_rows(alloc, some, &["a", "null"]));
+    let twice = extensions(alloc, stored(alloc), stored(alloc));
+    assert!(rt; has_rows(alloc, twice, &["7", "8"]));
+    let listed = fixed(alloc, stored(alloc), 2, 1, There::Always);
+    assert!(rt; has_rows(alloc, listed, &["[7, 8]"]));
+}
+
+const UNFIT: Option<ArrayError> = Some(ArrayError::BadShape);
+
+#[test]
 fn the_storage_is_of_its_type(rt: HostRuntime) {
-    for storage in [LETTERS, STORED, PAIR] {
-        let stored = Shape::Extensions(&NUMBERS, &storage);
-        assert!(rt; refusal(rt.alloc(), &stored) == Some(ArrayError::BadShape));
-    }
+    let alloc = rt.alloc();
+    assert!(rt; extensions(alloc, numbers(alloc), letters(alloc)).err() == UNFIT);
+    assert!(rt; extensions(alloc, numbers(alloc), stored(alloc)).err() == UNFIT);
 }
 
 #[test]
 fn a_row_takes_its_storages_cells(rt: HostRuntime) {
-    assert!(rt; takes(rt.alloc(), &STORED, 1));
-    assert!(rt; has_slots(rt.alloc(), &STORED, &["storage"]));
+    let alloc = rt.alloc();
+    assert!(rt; takes(alloc, stored(alloc), 1));
+    assert!(rt; has_slots(alloc, stored(alloc), &["storage"]));
 }

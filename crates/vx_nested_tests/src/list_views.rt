@@ -1,180 +1,181 @@
 //! Tests of lists with an offset and a size of their own.
 
-use crate::rows::{begins_with, has_rows, has_slots, refusal, row_refusal, takes};
-use crate::shapes::{Made, Shape, There, all_made, made};
+use crate::parts::{AllMade, Made, There, and, bytes, nulls, numbers, two, views};
+use crate::rows::{begins_with, has_rows, has_slots, row_refusal, takes};
 use std::alloc::Global;
-use vx_arrays::{ArrayError, Arrays, ListViewArray};
+use vx_arrays::{ArrayError, ListViewArray};
 use vx_types::{DType, Nullability, PType, TypeRef};
 
-const ELEMENTS: Shape<'static> = Shape::Numbers(
-    PType::I32,
-    &[1, 0, 0, 0, 2, 0, 0, 0, 3, 0, 0, 0],
-    There::Always,
-);
+// Three numbers.
+fn elements(alloc: Global) -> Made {
+    bytes(alloc, &[1, 2, 3])
+}
 
-const OFFSETS: Shape<'static> = Shape::Bytes(&[1, 0]);
+// Views of those, with offsets and sizes of a byte.
+fn viewed(alloc: Global, offsets: &[u8], sizes: &[u8], there: There) -> Made {
+    let offsets = bytes(alloc, offsets);
+    views(alloc, elements(alloc), offsets, bytes(alloc, sizes), there)
+}
 
-const SIZES: Shape<'static> = Shape::Bytes(&[2, 1]);
-
-const VIEWS: Shape<'static> = Shape::Views(&ELEMENTS, &OFFSETS, &SIZES, There::Always);
-
-const ROWS: [(Shape<'static>, &[&str]); 7] = [
-    (VIEWS, &["[2, 3]", "[1]"]),
+// Offsets and sizes, which rows are there, and the lists.
+const ROWS: [(&[u8], &[u8], There, &[&str]); 5] = [
+    (&[1, 0], &[2, 1], There::Always, &["[2, 3]", "[1]"]),
+    (&[1, 0], &[2, 1], There::All, &["[2, 3]", "[1]"]),
+    (&[1, 0], &[2, 1], There::Bits(0b10), &["null", "[1]"]),
     (
-        Shape::Views(&ELEMENTS, &OFFSETS, &SIZES, There::All),
-        &["[2, 3]", "[1]"],
-    ),
-    (
-        Shape::Views(&ELEMENTS, &OFFSETS, &SIZES, There::Bits(0b10)),
-        &["null", "[1]"],
-    ),
-    (
-        Shape::Views(
-            &ELEMENTS,
-            &Shape::Bytes(&[0, 1, 3]),
-            &Shape::Bytes(&[3, 2, 0]),
-            There::Always,
-        ),
+        &[0, 1, 3],
+        &[3, 2, 0],
+        There::Always,
         &["[1, 2, 3]", "[2, 3]", "[]"],
     ),
-    (
-        Shape::Views(
-            &ELEMENTS,
-            &Shape::Bytes(&[]),
-            &Shape::Bytes(&[]),
-            There::Always,
-        ),
-        &[],
-    ),
-    (
-        Shape::Views(
-            &VIEWS,
-            &Shape::Bytes(&[1]),
-            &Shape::Bytes(&[1]),
-            There::Always,
-        ),
-        &["[[1]]"],
-    ),
-    (
-        Shape::Views(
-            &Shape::Nulls(usize::MAX),
-            &Shape::Numbers(PType::U64, &[255; 8], There::Always),
-            &Shape::Bytes(&[0]),
-            There::Always,
-        ),
-        &["[]"],
-    ),
+    (&[], &[], There::Always, &[]),
 ];
 
 #[test]
 fn elements_stand_from_an_offset_on(rt: HostRuntime) {
-    for (shape, texts) in &ROWS {
-        assert!(rt; has_rows(rt.alloc(), shape, texts), "{texts:?}");
+    let alloc = rt.alloc();
+    for (offsets, sizes, there, texts) in &ROWS {
+        let views = viewed(alloc, offsets, sizes, *there);
+        assert!(rt; has_rows(alloc, views, texts), "{offsets:?} {sizes:?}");
     }
+}
+
+// Views of the numbers above: the second and the third, and the first.
+fn pair(alloc: Global) -> Made {
+    viewed(alloc, &[1, 0], &[2, 1], There::Always)
+}
+
+// The greatest number of eight bytes.
+fn greatest(alloc: Global) -> Made {
+    let last = b"\xff\xff\xff\xff\xff\xff\xff\xff";
+    numbers(alloc, PType::U64, last, There::Always)
+}
+
+#[test]
+fn elements_are_of_any_type(rt: HostRuntime) {
+    let alloc = rt.alloc();
+    let one = bytes(alloc, &[1]);
+    let outer = views(alloc, pair(alloc), one, bytes(alloc, &[1]), There::Always);
+    assert!(rt; has_rows(alloc, outer, &["[[1]]"]));
+    let many = nulls(alloc, usize::MAX);
+    let last = views(
+        alloc,
+        many,
+        greatest(alloc),
+        bytes(alloc, &[0]),
+        There::Always,
+    );
+    assert!(rt; has_rows(alloc, last, &["[]"]));
 }
 
 const BROKEN: Option<ArrayError> = Some(ArrayError::BadContent);
 
 const UNFIT: Option<ArrayError> = Some(ArrayError::BadShape);
 
+// A view with an offset and a size of these kinds, which is there where the bit is set.
+fn one_view(alloc: Global, offset: (PType, &[u8]), size: (PType, &[u8]), bits: u8) -> Made {
+    let offsets = numbers(alloc, offset.0, offset.1, There::Always);
+    let sizes = numbers(alloc, size.0, size.1, There::Always);
+    views(alloc, elements(alloc), offsets, sizes, There::Bits(bits))
+}
+
+const LAST: &[u8] = b"\xff\xff\xff\xff\xff\xff\xff\xff";
+
 // The offset and the size of a view that is refused where its row is there.
-const VIEWS_REFUSED: [(PType, &[u8], PType, &[u8]); 6] = [
-    (PType::U8, &[3], PType::U8, &[1]),
-    (PType::U8, &[4], PType::U8, &[0]),
-    (PType::I8, &[255], PType::U8, &[1]),
-    (PType::U8, &[1], PType::I8, &[255]),
-    (PType::U64, &[255; 8], PType::U8, &[1]),
-    (PType::U64, &[255; 8], PType::U64, &[255; 8]),
+const BAD_VIEWS: [((PType, &[u8]), (PType, &[u8])); 6] = [
+    ((PType::U8, &[3]), (PType::U8, &[1])),
+    ((PType::U8, &[4]), (PType::U8, &[0])),
+    ((PType::I8, &[255]), (PType::U8, &[1])),
+    ((PType::U8, &[1]), (PType::I8, &[255])),
+    ((PType::U64, LAST), (PType::U8, &[1])),
+    ((PType::U64, LAST), (PType::U64, LAST)),
 ];
 
 #[test]
 fn views_are_judged_where_rows_are_there(rt: HostRuntime) {
-    for (kind, offset, other, size) in &VIEWS_REFUSED {
-        let offsets = Shape::Numbers(*kind, offset, There::Always);
-        let sizes = Shape::Numbers(*other, size, There::Always);
-        let there = Shape::Views(&ELEMENTS, &offsets, &sizes, There::Bits(1));
-        assert!(rt;
-            refusal(rt.alloc(), &there) == BROKEN,
-            "{offset:?} {size:?}"
-        );
-        let null = Shape::Views(&ELEMENTS, &offsets, &sizes, There::Bits(0));
-        assert!(rt;
-            has_rows(rt.alloc(), &null, &["null"]),
-            "{offset:?} {size:?}"
-        );
+    let alloc = rt.alloc();
+    for (offset, size) in &BAD_VIEWS {
+        let there = one_view(alloc, *offset, *size, 1).err();
+        assert!(rt; there == BROKEN, "{offset:?} {size:?}");
+        let null = one_view(alloc, *offset, *size, 0);
+        assert!(rt; has_rows(alloc, null, &["null"]), "{offset:?} {size:?}");
     }
 }
 
-const SHAPES_REFUSED: [Shape<'static>; 5] = [
-    Shape::Views(&ELEMENTS, &OFFSETS, &Shape::Bytes(&[1]), There::Always),
-    Shape::Views(&ELEMENTS, &Shape::Bytes(&[1]), &SIZES, There::Always),
-    Shape::Views(
-        &ELEMENTS,
-        &OFFSETS,
-        &Shape::Numbers(PType::F32, &[0; 8], There::Always),
-        There::Always,
-    ),
-    Shape::Views(
-        &ELEMENTS,
-        &Shape::Numbers(PType::U8, &[0, 0], There::All),
-        &SIZES,
-        There::Always,
-    ),
-    Shape::Views(&ELEMENTS, &OFFSETS, &SIZES, There::Unasked(3)),
+// Offsets and sizes of which no views are made.
+const MISFITS: [(&[u8], &[u8], There); 3] = [
+    (&[1, 0], &[1], There::Always),
+    (&[1], &[2, 1], There::Always),
+    (&[1, 0], &[2, 1], There::Unasked(3)),
 ];
 
 #[test]
-fn there_is_an_integer_of_both_for_each_row(rt: HostRuntime) {
-    for shape in &SHAPES_REFUSED {
-        assert!(rt; refusal(rt.alloc(), shape) == UNFIT);
+fn there_is_an_offset_and_a_size_for_each_row(rt: HostRuntime) {
+    let alloc = rt.alloc();
+    for (offsets, sizes, there) in &MISFITS {
+        let refused = viewed(alloc, offsets, sizes, *there).err();
+        assert!(rt; refused == UNFIT, "{offsets:?} {sizes:?}");
     }
+}
+
+#[test]
+fn both_are_integers_that_are_never_null(rt: HostRuntime) {
+    let alloc = rt.alloc();
+    let floats = numbers(alloc, PType::F16, &[0, 0], There::Always);
+    let floating = views(
+        alloc,
+        elements(alloc),
+        bytes(alloc, &[0]),
+        floats,
+        There::Always,
+    );
+    assert!(rt; floating.err() == UNFIT);
+    let some = numbers(alloc, PType::U8, &[0], There::All);
+    let nullable = views(
+        alloc,
+        elements(alloc),
+        some,
+        bytes(alloc, &[0]),
+        There::Always,
+    );
+    assert!(rt; nullable.err() == UNFIT);
 }
 
 #[test]
 fn a_row_takes_its_elements_cells_and_one(rt: HostRuntime) {
-    assert!(rt; takes(rt.alloc(), &VIEWS, 3));
+    let alloc = rt.alloc();
+    assert!(rt; takes(alloc, pair(alloc), 3));
     let slots = ["elements", "offsets", "sizes", "validity"];
-    assert!(rt; has_slots(rt.alloc(), &VIEWS, &slots));
+    assert!(rt; has_slots(alloc, pair(alloc), &slots));
 }
 
-const FROM_THE_FIRST: Shape<'static> = Shape::Bytes(&[0; 64]);
-
-const ALL: Shape<'static> = Shape::Bytes(&[64; 64]);
-
-const LEVEL_1: Shape<'static> = Shape::Views(&ALL, &FROM_THE_FIRST, &ALL, There::Always);
-
-const LEVEL_2: Shape<'static> = Shape::Views(&LEVEL_1, &FROM_THE_FIRST, &ALL, There::Always);
-
-const LEVEL_3: Shape<'static> = Shape::Views(&LEVEL_2, &FROM_THE_FIRST, &ALL, There::Always);
-
-const LEVEL_4: Shape<'static> = Shape::Views(&LEVEL_3, &FROM_THE_FIRST, &ALL, There::Always);
-
-const LEVEL_5: Shape<'static> = Shape::Views(&LEVEL_4, &FROM_THE_FIRST, &ALL, There::Always);
-
-const LEVEL_6: Shape<'static> = Shape::Views(&LEVEL_5, &FROM_THE_FIRST, &ALL, There::Always);
-
-const LEVEL_7: Shape<'static> = Shape::Views(&LEVEL_6, &FROM_THE_FIRST, &ALL, There::Always);
-
-const LEVEL_8: Shape<'static> = Shape::Views(&LEVEL_7, &FROM_THE_FIRST, &ALL, There::Always);
-
-const LEVEL_9: Shape<'static> = Shape::Views(&LEVEL_8, &FROM_THE_FIRST, &ALL, There::Always);
-
-const LEVEL_10: Shape<'static> = Shape::Views(&LEVEL_9, &FROM_THE_FIRST, &ALL, There::Always);
-
-const LEVEL_11: Shape<'static> = Shape::Views(&LEVEL_10, &FROM_THE_FIRST, &ALL, There::Always);
-
-const LEVEL_12: Shape<'static> = Shape::Views(&LEVEL_11, &FROM_THE_FIRST, &ALL, There::Always);
+// So many levels of 64 lists, each of all those of the level below.
+fn levels(alloc: Global, count: usize) -> Made {
+    let mut level = bytes(alloc, &[64; 64]);
+    for _ in 0..count {
+        let offsets = bytes(alloc, &[0; 64]);
+        level = views(
+            alloc,
+            level,
+            offsets,
+            bytes(alloc, &[64; 64]),
+            There::Always,
+        );
+    }
+    level
+}
 
 #[test]
 fn a_row_of_too_many_cells_is_refused_at_once(rt: HostRuntime) {
-    assert!(rt; takes(rt.alloc(), &LEVEL_2, 1 + 64 * 65));
-    let refused = row_refusal(rt.alloc(), &LEVEL_12, 10_000);
+    let alloc = rt.alloc();
+    assert!(rt; takes(alloc, levels(alloc, 2), 1 + 64 * 65));
+    let refused = row_refusal(alloc, levels(alloc, 12), 10_000);
     assert!(rt; refused == Some(ArrayError::ValueTooLarge));
 }
 
-// The type of lists of integers.
+// The type of lists of bytes.
 fn list_type(alloc: Global) -> Option<DType> {
-    let element = DType::Primitive(PType::I32, Nullability::NonNullable);
+    let element = DType::Primitive(PType::U8, Nullability::NonNullable);
     match TypeRef::new(alloc, element) {
         Ok(element) => Some(DType::List(element, Nullability::NonNullable)),
         Err(_) => None,
@@ -182,16 +183,21 @@ fn list_type(alloc: Global) -> Option<DType> {
 }
 
 // A node of so many views over these children, with this flag.
-fn node_over(alloc: Global, len: usize, flag: bool, children: Result<Arrays, ArrayError>) -> Made {
+fn node_over(alloc: Global, len: usize, flag: bool, children: AllMade) -> Made {
     match (list_type(alloc), children) {
         (Some(dtype), Ok(children)) => ListViewArray::of_children(dtype, len, flag, children),
         _ => Err(ArrayError::OutOfMemory),
     }
 }
 
+// The elements and the offsets of the views above.
+fn halves(alloc: Global) -> AllMade {
+    two(alloc, elements(alloc), bytes(alloc, &[1, 0]))
+}
+
 // A node of the views above, with this flag.
 fn flagged(alloc: Global, flag: bool) -> Made {
-    let children = all_made(alloc, &[ELEMENTS, OFFSETS, SIZES]);
+    let children = and(halves(alloc), bytes(alloc, &[2, 1]));
     node_over(alloc, 2, flag, children)
 }
 
@@ -213,16 +219,21 @@ fn the_flag_is_kept_as_it_is_told(rt: HostRuntime) {
     assert!(rt; told == Some((true, false)));
 }
 
-// The array of the views above of its parts, with this flag.
-fn of_parts(alloc: Global, flag: bool) -> Made {
-    let elements = made(alloc, &ELEMENTS);
-    match (elements, made(alloc, &OFFSETS), made(alloc, &SIZES)) {
+// The array of these parts that are made first, with this flag.
+fn over_parts(alloc: Global, elements: Made, offsets: Made, sizes: Made, flag: bool) -> Made {
+    match (elements, offsets, sizes) {
         (Ok(elements), Ok(offsets), Ok(sizes)) => {
             let never = Nullability::NonNullable;
             ListViewArray::try_new(alloc, elements, offsets, sizes, never, None, flag)
         }
         _ => Err(ArrayError::OutOfMemory),
     }
+}
+
+// The array of the views above of its parts, with this flag.
+fn of_parts(alloc: Global, flag: bool) -> Made {
+    let sizes = bytes(alloc, &[2, 1]);
+    over_parts(alloc, elements(alloc), bytes(alloc, &[1, 0]), sizes, flag)
 }
 
 #[test]
@@ -234,14 +245,13 @@ fn parts_make_the_node_over_them(rt: HostRuntime) {
     }
 }
 
-// Why a node of so many views over these elements and offsets alone is not made, if it is not.
-fn node_refusal(alloc: Global, len: usize) -> Option<ArrayError> {
-    let children = all_made(alloc, &[ELEMENTS, OFFSETS]);
-    node_over(alloc, len, false, children).err()
-}
-
 #[test]
 fn there_are_as_many_as_rows(rt: HostRuntime) {
-    assert!(rt; node_refusal(rt.alloc(), 2) == UNFIT);
-    assert!(rt; node_refusal(rt.alloc(), usize::MAX) == UNFIT);
+    let alloc = rt.alloc();
+    for len in [1, 2, usize::MAX] {
+        assert!(rt;
+            node_over(alloc, len, false, halves(alloc)).err() == UNFIT,
+            "{len}"
+        );
+    }
 }

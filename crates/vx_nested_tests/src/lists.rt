@@ -1,64 +1,62 @@
 //! Tests of lists whose elements are parted by offsets.
 
-use crate::rows::{has_rows, has_slots, refusal, takes};
-use crate::shapes::{Shape, There, all_made};
+use crate::parts::{Made, There, bytes, lists, numbers, texts, two};
+use crate::rows::{has_rows, has_slots, takes};
 use std::alloc::Global;
 use vx_arrays::{ArrayError, ListArray};
 use vx_types::{DType, Nullability, PType, TypeRef};
 
-const ELEMENTS: Shape<'static> = Shape::Bytes(&[1, 2, 3]);
+// Three numbers.
+fn elements(alloc: Global) -> Made {
+    bytes(alloc, &[1, 2, 3])
+}
 
-const OFFSETS: Shape<'static> = Shape::Bytes(&[0, 2, 2, 3]);
+// Lists of those, parted by offsets of a byte.
+fn parted(alloc: Global, offsets: &[u8], there: There) -> Made {
+    lists(alloc, elements(alloc), bytes(alloc, offsets), there)
+}
 
-const LISTS: Shape<'static> = Shape::Lists(&ELEMENTS, &OFFSETS, There::Always);
-
-const ROWS: [(Shape<'static>, &[&str]); 7] = [
-    (LISTS, &["[1, 2]", "[]", "[3]"]),
+// Offsets of lists, which of these are there, and the lists.
+const ROWS: [(&[u8], There, &[&str]); 5] = [
+    (&[0, 2, 2, 3], There::Always, &["[1, 2]", "[]", "[3]"]),
+    (&[0, 2, 2, 3], There::All, &["[1, 2]", "[]", "[3]"]),
     (
-        Shape::Lists(&ELEMENTS, &OFFSETS, There::All),
-        &["[1, 2]", "[]", "[3]"],
-    ),
-    (
-        Shape::Lists(&ELEMENTS, &OFFSETS, There::Bits(0b101)),
+        &[0, 2, 2, 3],
+        There::Bits(0b101),
         &["[1, 2]", "null", "[3]"],
     ),
-    (
-        Shape::Lists(&ELEMENTS, &Shape::Bytes(&[1, 2]), There::Always),
-        &["[2]"],
-    ),
-    (
-        Shape::Lists(&ELEMENTS, &Shape::Bytes(&[0]), There::Always),
-        &[],
-    ),
-    (
-        Shape::Lists(&LISTS, &Shape::Bytes(&[0, 1, 3]), There::Always),
-        &["[[1, 2]]", "[[], [3]]"],
-    ),
-    (
-        Shape::Lists(
-            &Shape::Letters(b"abc", There::Bits(0b011)),
-            &OFFSETS,
-            There::Always,
-        ),
-        &["[a, b]", "[]", "[null]"],
-    ),
+    (&[1, 2], There::Always, &["[2]"]),
+    (&[0], There::Always, &[]),
 ];
 
 #[test]
 fn elements_stand_from_an_offset_up_to_the_next(rt: HostRuntime) {
-    for (shape, texts) in &ROWS {
-        assert!(rt; has_rows(rt.alloc(), shape, texts), "{texts:?}");
+    let alloc = rt.alloc();
+    for (offsets, there, texts) in &ROWS {
+        let lists = parted(alloc, offsets, *there);
+        assert!(rt; has_rows(alloc, lists, texts), "{offsets:?}");
     }
+}
+
+#[test]
+fn elements_are_of_any_type(rt: HostRuntime) {
+    let alloc = rt.alloc();
+    let inner = parted(alloc, &[0, 2, 2, 3], There::Always);
+    let outer = lists(alloc, inner, bytes(alloc, &[0, 1, 3]), There::Always);
+    assert!(rt; has_rows(alloc, outer, &["[[1, 2]]", "[[], [3]]"]));
+    let letters = texts(alloc, b"abc", There::Bits(0b011));
+    let parted = lists(alloc, letters, bytes(alloc, &[0, 2, 2, 3]), There::Always);
+    assert!(rt; has_rows(alloc, parted, &["[a, b]", "[]", "[null]"]));
 }
 
 // The offsets 0, 2 and 3 of each kind of integers.
 const KINDS: [(PType, &[u8]); 8] = [
-    (PType::U8, &[0, 2, 3]),
-    (PType::I8, &[0, 2, 3]),
-    (PType::U16, &[0, 0, 2, 0, 3, 0]),
-    (PType::I16, &[0, 0, 2, 0, 3, 0]),
-    (PType::U32, &[0, 0, 0, 0, 2, 0, 0, 0, 3, 0, 0, 0]),
-    (PType::I32, &[0, 0, 0, 0, 2, 0, 0, 0, 3, 0, 0, 0]),
+    (PType::U8, b"\0\x02\x03"),
+    (PType::I8, b"\0\x02\x03"),
+    (PType::U16, b"\0\0\x02\0\x03\0"),
+    (PType::I16, b"\0\0\x02\0\x03\0"),
+    (PType::U32, b"\0\0\0\0\x02\0\0\0\x03\0\0\0"),
+    (PType::I32, b"\0\0\0\0\x02\0\0\0\x03\0\0\0"),
     (
         PType::U64,
         b"\0\0\0\0\0\0\0\0\x02\0\0\0\0\0\0\0\x03\0\0\0\0\0\0\0",
@@ -69,15 +67,18 @@ const KINDS: [(PType, &[u8]); 8] = [
     ),
 ];
 
+// Lists of three numbers, parted by offsets of a kind.
+fn parted_by(alloc: Global, kind: PType, offsets: &[u8], there: There) -> Made {
+    let offsets = numbers(alloc, kind, offsets, there);
+    lists(alloc, elements(alloc), offsets, There::Always)
+}
+
 #[test]
 fn offsets_are_of_each_kind_of_integers(rt: HostRuntime) {
+    let alloc = rt.alloc();
     for (kind, bytes) in &KINDS {
-        let offsets = Shape::Numbers(*kind, bytes, There::Always);
-        let lists = Shape::Lists(&ELEMENTS, &offsets, There::Always);
-        assert!(rt;
-            has_rows(rt.alloc(), &lists, &["[1, 2]", "[3]"]),
-            "{kind:?}"
-        );
+        let lists = parted_by(alloc, *kind, bytes, There::Always);
+        assert!(rt; has_rows(alloc, lists, &["[1, 2]", "[3]"]), "{kind:?}");
     }
 }
 
@@ -86,48 +87,53 @@ const BROKEN: Option<ArrayError> = Some(ArrayError::BadContent);
 const UNFIT: Option<ArrayError> = Some(ArrayError::BadShape);
 
 // Offsets, which rows are there, and why lists of three elements are not made of them.
-const REFUSED: [(Shape<'static>, There, Option<ArrayError>); 11] = [
-    (Shape::Bytes(&[0, 2, 1, 3]), There::Always, BROKEN),
-    (Shape::Bytes(&[0, 2, 1, 3]), There::Bits(0), BROKEN),
-    (Shape::Bytes(&[0, 4]), There::Always, BROKEN),
-    (Shape::Bytes(&[0, 4]), There::Bits(0), BROKEN),
-    (
-        Shape::Numbers(PType::I8, &[255, 1], There::Always),
-        There::Always,
-        BROKEN,
-    ),
-    (
-        Shape::Numbers(PType::U64, &[255; 8], There::Always),
-        There::Always,
-        BROKEN,
-    ),
-    (Shape::Bytes(&[]), There::Always, UNFIT),
-    (
-        Shape::Numbers(PType::U8, &[0, 3], There::All),
-        There::Always,
-        UNFIT,
-    ),
-    (
-        Shape::Numbers(PType::F32, &[0; 8], There::Always),
-        There::Always,
-        UNFIT,
-    ),
-    (Shape::Letters(b"ab", There::Always), There::Always, UNFIT),
-    (Shape::Bytes(&[0, 3]), There::Unasked(1), UNFIT),
+const REFUSED: [(&[u8], There, Option<ArrayError>); 6] = [
+    (&[0, 2, 1, 3], There::Always, BROKEN),
+    (&[0, 2, 1, 3], There::Bits(0), BROKEN),
+    (&[0, 4], There::Always, BROKEN),
+    (&[0, 4], There::Bits(0), BROKEN),
+    (&[], There::Always, UNFIT),
+    (&[0, 3], There::Unasked(1), UNFIT),
 ];
 
 #[test]
 fn offsets_never_fall_nor_pass_the_elements(rt: HostRuntime) {
+    let alloc = rt.alloc();
     for (offsets, there, error) in &REFUSED {
-        let lists = Shape::Lists(&ELEMENTS, offsets, *there);
-        assert!(rt; refusal(rt.alloc(), &lists) == *error, "{there:?}");
+        let refused = parted(alloc, offsets, *there).err();
+        assert!(rt; refused == *error, "{offsets:?} {there:?}");
+    }
+}
+
+// Offsets of a kind, whether they may be null, and why lists of three elements are not made of them.
+const MISFITS: [(PType, &[u8], There, Option<ArrayError>); 4] = [
+    (PType::I8, b"\xff\x01", There::Always, BROKEN),
+    (
+        PType::U64,
+        b"\xff\xff\xff\xff\xff\xff\xff\xff",
+        There::Always,
+        BROKEN,
+    ),
+    (PType::U8, b"\0\x03", There::All, UNFIT),
+    (PType::F32, b"\0\0\0\0\0\0\0\0", There::Always, UNFIT),
+];
+
+#[test]
+fn offsets_are_integers_that_are_never_null(rt: HostRuntime) {
+    let alloc = rt.alloc();
+    for (kind, bytes, there, error) in &MISFITS {
+        let refused = parted_by(alloc, *kind, bytes, *there).err();
+        assert!(rt; refused == *error, "{kind:?}");
     }
 }
 
 #[test]
 fn a_row_takes_its_elements_cells_and_one(rt: HostRuntime) {
-    assert!(rt; takes(rt.alloc(), &LISTS, 3));
-    assert!(rt; has_slots(rt.alloc(), &LISTS, &["elements", "offsets", "validity"]));
+    let alloc = rt.alloc();
+    let row = parted(alloc, &[0, 2, 2, 3], There::Always);
+    assert!(rt; takes(alloc, row, 3));
+    let slots = parted(alloc, &[0, 3], There::Always);
+    assert!(rt; has_slots(alloc, slots, &["elements", "offsets", "validity"]));
 }
 
 // The type of lists of bytes.
@@ -139,9 +145,10 @@ fn list_type(alloc: Global) -> Option<DType> {
     }
 }
 
-// Why a node of so many lists over these elements and offsets is not made, if it is not.
+// Why a node of so many lists over three elements and four offsets is not made, if it is not.
 fn node_refusal(alloc: Global, len: usize) -> Option<ArrayError> {
-    match (list_type(alloc), all_made(alloc, &[ELEMENTS, OFFSETS])) {
+    let children = two(alloc, elements(alloc), bytes(alloc, &[0, 2, 2, 3]));
+    match (list_type(alloc), children) {
         (Some(dtype), Ok(children)) => ListArray::of_children(dtype, len, children).err(),
         _ => Some(ArrayError::OutOfMemory),
     }

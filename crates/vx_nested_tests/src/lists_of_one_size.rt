@@ -1,39 +1,45 @@
 //! Tests of lists of one size.
 
-use crate::rows::{has_rows, has_slots, refusal, row_refusal, takes};
-use crate::shapes::{Shape, There};
+use crate::parts::{Made, There, bytes, fixed, nulls};
+use crate::rows::{has_rows, has_slots, row_refusal, takes};
+use std::alloc::Global;
 use vx_arrays::ArrayError;
 
-const SIX: Shape<'static> = Shape::Bytes(&[1, 2, 3, 4, 5, 6]);
+// So many lists of so many of these numbers.
+fn sized(alloc: Global, numbers: &[u8], size: u32, len: usize, there: There) -> Made {
+    fixed(alloc, bytes(alloc, numbers), size, len, there)
+}
 
-const PAIRS: Shape<'static> = Shape::Fixed(&SIX, 2, 3, There::Always);
+// Three lists of two numbers.
+fn pairs(alloc: Global) -> Made {
+    sized(alloc, &[1, 2, 3, 4, 5, 6], 2, 3, There::Always)
+}
 
-const ROWS: [(Shape<'static>, &[&str]); 6] = [
-    (PAIRS, &["[1, 2]", "[3, 4]", "[5, 6]"]),
-    (
-        Shape::Fixed(&SIX, 3, 2, There::All),
-        &["[1, 2, 3]", "[4, 5, 6]"],
-    ),
-    (
-        Shape::Fixed(&SIX, 3, 2, There::Bits(0b10)),
-        &["null", "[4, 5, 6]"],
-    ),
-    (
-        Shape::Fixed(&Shape::Bytes(&[]), 0, 5, There::Always),
-        &["[]", "[]", "[]", "[]", "[]"],
-    ),
-    (Shape::Fixed(&Shape::Bytes(&[]), 3, 0, There::Always), &[]),
-    (
-        Shape::Fixed(&PAIRS, 3, 1, There::Always),
-        &["[[1, 2], [3, 4], [5, 6]]"],
-    ),
+// How many of six numbers a list has, how many lists there are, which are there, and the lists.
+const ROWS: [(u32, usize, There, &[&str]); 3] = [
+    (2, 3, There::Always, &["[1, 2]", "[3, 4]", "[5, 6]"]),
+    (3, 2, There::All, &["[1, 2, 3]", "[4, 5, 6]"]),
+    (3, 2, There::Bits(0b10), &["null", "[4, 5, 6]"]),
 ];
 
 #[test]
 fn elements_stand_one_row_after_the_other(rt: HostRuntime) {
-    for (shape, texts) in &ROWS {
-        assert!(rt; has_rows(rt.alloc(), shape, texts), "{texts:?}");
+    let alloc = rt.alloc();
+    for (size, len, there, texts) in &ROWS {
+        let lists = sized(alloc, &[1, 2, 3, 4, 5, 6], *size, *len, *there);
+        assert!(rt; has_rows(alloc, lists, texts), "{texts:?}");
     }
+}
+
+#[test]
+fn there_may_be_no_elements(rt: HostRuntime) {
+    let alloc = rt.alloc();
+    let empty = sized(alloc, &[], 0, 5, There::Always);
+    assert!(rt; has_rows(alloc, empty, &["[]", "[]", "[]", "[]", "[]"]));
+    let none = sized(alloc, &[], 3, 0, There::Always);
+    assert!(rt; has_rows(alloc, none, &[]));
+    let all = fixed(alloc, pairs(alloc), 3, 1, There::Always);
+    assert!(rt; has_rows(alloc, all, &["[[1, 2], [3, 4], [5, 6]]"]));
 }
 
 const UNFIT: Option<ArrayError> = Some(ArrayError::BadShape);
@@ -54,26 +60,29 @@ const SIZES: [(usize, u32, usize, Option<ArrayError>); 9] = [
 
 #[test]
 fn there_are_as_many_elements_as_all_lists_have(rt: HostRuntime) {
+    let alloc = rt.alloc();
     for (elements, size, len, error) in &SIZES {
-        let elements = Shape::Nulls(*elements);
-        let lists = Shape::Fixed(&elements, *size, *len, There::Always);
-        assert!(rt; refusal(rt.alloc(), &lists) == *error, "{size} {len}");
+        let lists = fixed(alloc, nulls(alloc, *elements), *size, *len, There::Always);
+        assert!(rt; lists.err() == *error, "{size} {len}");
     }
 }
 
 #[test]
 fn a_validity_stands_where_rows_may_be_null(rt: HostRuntime) {
-    let unasked = Shape::Fixed(&SIX, 3, 2, There::Unasked(3));
-    assert!(rt; refusal(rt.alloc(), &unasked) == UNFIT);
-    assert!(rt; has_slots(rt.alloc(), &PAIRS, &["elements", "validity"]));
+    let alloc = rt.alloc();
+    let unasked = sized(alloc, &[1, 2, 3, 4], 2, 2, There::Unasked(3));
+    assert!(rt; unasked.err() == UNFIT);
+    assert!(rt; has_slots(alloc, pairs(alloc), &["elements", "validity"]));
 }
 
 #[test]
 fn a_row_takes_its_elements_cells_and_one(rt: HostRuntime) {
-    let pairs = Shape::Fixed(&PAIRS, 3, 1, There::Always);
-    assert!(rt; takes(rt.alloc(), &PAIRS, 3));
-    assert!(rt; takes(rt.alloc(), &pairs, 10));
-    let many = Shape::Nulls(usize::MAX);
-    let large = Shape::Fixed(&many, u32::MAX, (1 << 32) + 1, There::Always);
-    assert!(rt; row_refusal(rt.alloc(), &large, 10_000) == Some(ArrayError::ValueTooLarge));
+    let alloc = rt.alloc();
+    assert!(rt; takes(alloc, pairs(alloc), 3));
+    let all = fixed(alloc, pairs(alloc), 3, 1, There::Always);
+    assert!(rt; takes(alloc, all, 10));
+    let many = nulls(alloc, usize::MAX);
+    let large = fixed(alloc, many, u32::MAX, (1 << 32) + 1, There::Always);
+    let refused = row_refusal(alloc, large, 10_000);
+    assert!(rt; refused == Some(ArrayError::ValueTooLarge));
 }

@@ -1,6 +1,6 @@
 //! What tests ask of arrays: the texts of their rows, the cells that these take, and why an array is not made.
 
-use crate::shapes::{Made, Shape, made};
+use crate::parts::Made;
 use std::alloc::{AllocError, Global};
 use vx_arrays::{Array, ArrayError, RowValue};
 use vx_types::PValue;
@@ -100,36 +100,39 @@ pub fn begins_with(alloc: Global, array: &Array, texts: &[&str]) -> bool {
     true
 }
 
-/// Whether the rows of a shape's array have these texts.
-pub fn has_rows(alloc: Global, shape: &Shape<'_>, texts: &[&str]) -> bool {
-    match made(alloc, shape) {
+/// Whether the rows of an array that is made first have these texts.
+pub fn has_rows(alloc: Global, array: Made, texts: &[&str]) -> bool {
+    match array {
         Ok(array) => array.len() == texts.len() && begins_with(alloc, &array, texts),
         Err(_) => false,
     }
 }
 
-/// Why a shape's array is not made, if it is not.
-pub fn refusal(alloc: Global, shape: &Shape<'_>) -> Option<ArrayError> {
-    made(alloc, shape).err()
+// Why the first row of an array is not given for so many cells, if it is not.
+fn refusal_at(alloc: Global, array: &Array, budget: u64) -> Option<ArrayError> {
+    value_at(alloc, array, 0, budget).err()
 }
 
-// Why the first row of an array is not given for so many cells, if it is not.
-fn row_refusal_of(alloc: Global, array: Made, budget: u64) -> Option<ArrayError> {
+/// Why the first row of an array is not given for so many cells, if it is not.
+pub fn row_refusal(alloc: Global, array: Made, budget: u64) -> Option<ArrayError> {
     match array {
-        Ok(array) => value_at(alloc, &array, 0, budget).err(),
+        Ok(array) => refusal_at(alloc, &array, budget),
         Err(e) => Some(e),
     }
 }
 
-/// Why the first row of a shape's array is not given for so many cells, if it is not.
-pub fn row_refusal(alloc: Global, shape: &Shape<'_>, budget: u64) -> Option<ArrayError> {
-    row_refusal_of(alloc, made(alloc, shape), budget)
+// Whether the first row of an array takes so many cells.
+fn first_takes(alloc: Global, array: &Array, cells: u64) -> bool {
+    refusal_at(alloc, array, cells) == None
+        && refusal_at(alloc, array, cells.saturating_sub(1)) == Some(ArrayError::ValueTooLarge)
 }
 
-/// Whether the first row of a shape's array takes so many cells.
-pub fn takes(alloc: Global, shape: &Shape<'_>, cells: u64) -> bool {
-    row_refusal(alloc, shape, cells) == None
-        && row_refusal(alloc, shape, cells.saturating_sub(1)) == Some(ArrayError::ValueTooLarge)
+/// Whether the first row of an array that is made first takes so many cells.
+pub fn takes(alloc: Global, array: Made, cells: u64) -> bool {
+    match array {
+        Ok(array) => first_takes(alloc, &array, cells),
+        Err(_) => false,
+    }
 }
 
 // Whether a node's slot of this number has this name.
@@ -153,9 +156,9 @@ fn are_slots(alloc: Global, array: &Array, names: &[&str]) -> bool {
     array.nslots() == names.len()
 }
 
-/// Whether the slots of a shape's array have these names.
-pub fn has_slots(alloc: Global, shape: &Shape<'_>, names: &[&str]) -> bool {
-    match made(alloc, shape) {
+/// Whether the slots of an array that is made first have these names.
+pub fn has_slots(alloc: Global, array: Made, names: &[&str]) -> bool {
+    match array {
         Ok(array) => are_slots(alloc, &array, names),
         Err(_) => false,
     }

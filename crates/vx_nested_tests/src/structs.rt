@@ -1,86 +1,135 @@
 //! Tests of structures.
 
-use crate::rows::{has_rows, has_slots, refusal, takes};
-use crate::shapes::{Shape, There};
+use crate::parts::{AllMade, Made, There, and, bytes, none, nulls, one, structs, texts, two};
+use crate::rows::{has_rows, has_slots, takes};
+use std::alloc::Global;
 use vx_arrays::ArrayError;
 
-const NUMBERS: Shape<'static> = Shape::Bytes(&[1, 2, 3]);
+// Three numbers.
+fn numbers(alloc: Global) -> Made {
+    bytes(alloc, &[1, 2, 3])
+}
 
-const LETTERS: Shape<'static> = Shape::Letters(b"abc", There::Bits(0b011));
+// Three texts, of which the last is null.
+fn letters(alloc: Global) -> Made {
+    texts(alloc, b"abc", There::Bits(0b011))
+}
 
-const COLUMNS: [Shape<'static>; 2] = [NUMBERS, LETTERS];
+// The numbers and the texts.
+fn columns(alloc: Global) -> AllMade {
+    two(alloc, numbers(alloc), letters(alloc))
+}
 
-const NAMES: [&str; 2] = ["a", "b"];
+// So many structures of a number and a text, by these columns.
+fn pairs_of(alloc: Global, columns: AllMade, len: usize, there: There) -> Made {
+    let types = two(alloc, numbers(alloc), letters(alloc));
+    structs(alloc, &["a", "b"], types, columns, len, there)
+}
 
-const PAIRS: Shape<'static> = Shape::Structs(&NAMES, &COLUMNS, &COLUMNS, 3, There::Always);
+// Three structures of a number and a text.
+fn pairs(alloc: Global, there: There) -> Made {
+    pairs_of(alloc, columns(alloc), 3, there)
+}
 
-const ROWS: [(Shape<'static>, &[&str]); 6] = [
-    (PAIRS, &["[1, a]", "[2, b]", "[3, null]"]),
-    (
-        Shape::Structs(&NAMES, &COLUMNS, &COLUMNS, 3, There::All),
-        &["[1, a]", "[2, b]", "[3, null]"],
-    ),
-    (
-        Shape::Structs(&NAMES, &COLUMNS, &COLUMNS, 3, There::Bits(0b101)),
-        &["[1, a]", "null", "[3, null]"],
-    ),
-    (
-        Shape::Structs(&[], &[], &[], 7, There::Always),
-        &["[]", "[]", "[]", "[]", "[]", "[]", "[]"],
-    ),
-    (
-        Shape::Structs(&[], &[], &[], 3, There::Bits(0b010)),
-        &["null", "[]", "null"],
-    ),
-    (
-        Shape::Structs(&["c"], &[PAIRS], &[PAIRS], 3, There::Always),
-        &["[[1, a]]", "[[2, b]]", "[[3, null]]"],
-    ),
-];
+// So many structures without fields.
+fn empty(alloc: Global, len: usize, there: There) -> Made {
+    structs(alloc, &[], none(alloc), none(alloc), len, there)
+}
+
+// Structures of one field.
+fn boxed(alloc: Global, kind: Made, column: Made, len: usize) -> Made {
+    structs(
+        alloc,
+        &["c"],
+        one(alloc, kind),
+        one(alloc, column),
+        len,
+        There::Always,
+    )
+}
 
 #[test]
 fn a_row_has_a_row_of_each_column(rt: HostRuntime) {
-    for (shape, texts) in &ROWS {
-        assert!(rt; has_rows(rt.alloc(), shape, texts), "{texts:?}");
-    }
+    let alloc = rt.alloc();
+    let always = pairs(alloc, There::Always);
+    assert!(rt; has_rows(alloc, always, &["[1, a]", "[2, b]", "[3, null]"]));
+    let all = pairs(alloc, There::All);
+    assert!(rt; has_rows(alloc, all, &["[1, a]", "[2, b]", "[3, null]"]));
+    let some = pairs(alloc, There::Bits(0b101));
+    assert!(rt; has_rows(alloc, some, &["[1, a]", "null", "[3, null]"]));
+}
+
+#[test]
+fn there_may_be_no_columns(rt: HostRuntime) {
+    let alloc = rt.alloc();
+    let always = empty(alloc, 3, There::Always);
+    assert!(rt; has_rows(alloc, always, &["[]", "[]", "[]"]));
+    let some = empty(alloc, 3, There::Bits(0b010));
+    assert!(rt; has_rows(alloc, some, &["null", "[]", "null"]));
+}
+
+#[test]
+fn structures_stand_in_one_another(rt: HostRuntime) {
+    let alloc = rt.alloc();
+    let column = pairs(alloc, There::Always);
+    let boxed = boxed(alloc, pairs(alloc, There::Always), column, 3);
+    assert!(rt; has_rows(alloc, boxed, &["[[1, a]]", "[[2, b]]", "[[3, null]]"]));
 }
 
 const UNFIT: Option<ArrayError> = Some(ArrayError::BadShape);
 
-// Columns, how many structures of a number and a text there are, and why they are not made of these, if they are not.
-const REFUSED: [(&[Shape<'static>], usize, There, Option<ArrayError>); 10] = [
-    (&[NUMBERS, LETTERS], 3, There::Always, None),
-    (&[NUMBERS, LETTERS], 2, There::Always, UNFIT),
-    (&[NUMBERS, LETTERS], usize::MAX, There::Always, UNFIT),
-    (&[NUMBERS], 3, There::Always, UNFIT),
-    (&[NUMBERS], 3, There::Bits(7), UNFIT),
-    (&[NUMBERS, LETTERS, LETTERS], 3, There::Always, UNFIT),
-    (&[NUMBERS, LETTERS, LETTERS], 3, There::Bits(7), UNFIT),
-    (&[LETTERS, NUMBERS], 3, There::Always, UNFIT),
-    (&[Shape::Bytes(&[1, 2]), LETTERS], 3, There::Always, UNFIT),
-    (&[NUMBERS, LETTERS], 3, There::Unasked(7), UNFIT),
+// How many structures of three rows of columns there are, which are there, and why they are not made, if they are not.
+const COUNTS: [(usize, There, Option<ArrayError>); 5] = [
+    (3, There::Always, None),
+    (2, There::Always, UNFIT),
+    (4, There::Always, UNFIT),
+    (usize::MAX, There::Always, UNFIT),
+    (3, There::Unasked(7), UNFIT),
 ];
 
 #[test]
-fn columns_are_those_of_the_fields(rt: HostRuntime) {
-    for (columns, len, there, error) in &REFUSED {
-        let pairs = Shape::Structs(&NAMES, &COLUMNS, columns, *len, *there);
-        assert!(rt; refusal(rt.alloc(), &pairs) == *error, "{len} {there:?}");
+fn there_are_as_many_as_rows_of_columns(rt: HostRuntime) {
+    let alloc = rt.alloc();
+    for (len, there, error) in &COUNTS {
+        let pairs = pairs_of(alloc, columns(alloc), *len, *there);
+        assert!(rt; pairs.err() == *error, "{len} {there:?}");
     }
 }
 
 #[test]
+fn there_is_a_column_for_each_field(rt: HostRuntime) {
+    let alloc = rt.alloc();
+    for there in [There::Always, There::Bits(7)] {
+        let few = pairs_of(alloc, one(alloc, numbers(alloc)), 3, there);
+        assert!(rt; few.err() == UNFIT, "{there:?}");
+        let three = and(columns(alloc), letters(alloc));
+        let many = pairs_of(alloc, three, 3, there);
+        assert!(rt; many.err() == UNFIT, "{there:?}");
+    }
+}
+
+#[test]
+fn columns_are_those_of_the_fields(rt: HostRuntime) {
+    let alloc = rt.alloc();
+    let crossed = two(alloc, letters(alloc), numbers(alloc));
+    assert!(rt; pairs_of(alloc, crossed, 3, There::Always).err() == UNFIT);
+    let short = two(alloc, bytes(alloc, &[1, 2]), letters(alloc));
+    assert!(rt; pairs_of(alloc, short, 3, There::Always).err() == UNFIT);
+}
+
+#[test]
 fn there_may_be_as_many_as_can_be_counted(rt: HostRuntime) {
-    let empty = Shape::Structs(&[], &[], &[], usize::MAX, There::Always);
-    let nulls = [Shape::Nulls(usize::MAX)];
-    let full = Shape::Structs(&["a"], &nulls, &nulls, usize::MAX, There::Always);
-    assert!(rt; refusal(rt.alloc(), &empty) == None);
-    assert!(rt; refusal(rt.alloc(), &full) == None);
-    assert!(rt; takes(rt.alloc(), &full, 2));
+    let alloc = rt.alloc();
+    assert!(rt; empty(alloc, usize::MAX, There::Always).err() == None);
+    let many = nulls(alloc, usize::MAX);
+    let full = boxed(alloc, nulls(alloc, 0), many, usize::MAX);
+    assert!(rt; takes(alloc, full, 2));
 }
 
 #[test]
 fn a_row_takes_its_fields_cells_and_one(rt: HostRuntime) {
-    assert!(rt; takes(rt.alloc(), &PAIRS, 4));
-    assert!(rt; has_slots(rt.alloc(), &PAIRS, &["validity", "a", "b"]));
+    let alloc = rt.alloc();
+    assert!(rt; takes(alloc, pairs(alloc, There::Always), 4));
+    let slots = pairs(alloc, There::Always);
+    assert!(rt; has_slots(alloc, slots, &["validity", "a", "b"]));
 }

@@ -1,4 +1,4 @@
-//! Shapes of arrays, by which tests write arrays as tables.
+//! The parts of which tests make nested arrays.
 
 use std::alloc::Global;
 use vx_arrays::{
@@ -24,97 +24,11 @@ pub enum There {
     Unasked(u8),
 }
 
-/// Of what an array is made. A type is written as the shape of an array of it.
-#[derive(Clone, Copy)]
-pub enum Shape<'a> {
-    /// So many nulls.
-    Nulls(usize),
-    /// So many flags that are never null, by their bits.
-    Flags(u8, usize),
-    /// Numbers of a byte without a sign, never null.
-    Bytes(&'a [u8]),
-    /// Numbers of a kind, by their bytes.
-    Numbers(PType, &'a [u8], There),
-    /// A text for each letter.
-    Letters(&'a [u8], There),
-    /// Lists: the elements, and the offsets.
-    Lists(&'a Shape<'a>, &'a Shape<'a>, There),
-    /// Lists with sizes of their own: the elements, the offsets, and the sizes.
-    Views(&'a Shape<'a>, &'a Shape<'a>, &'a Shape<'a>, There),
-    /// Lists of one size: the elements, the size, and how many there are.
-    Fixed(&'a Shape<'a>, u32, usize, There),
-    /// Structures: the fields' names and types, the columns, and how many there are.
-    Structs(&'a [&'a str], &'a [Shape<'a>], &'a [Shape<'a>], usize, There),
-    /// Maps: the types of keys and of values, and the entries.
-    Maps(&'a Shape<'a>, &'a Shape<'a>, &'a Shape<'a>),
-    /// Unions: the members' tags and types, the tags of the rows, and the members.
-    Unions(&'a [u8], &'a [Shape<'a>], &'a Shape<'a>, &'a [Shape<'a>]),
-    /// Extensions: the type of the storage, and the storage.
-    Extensions(&'a Shape<'a>, &'a Shape<'a>),
-    /// Dictionaries: the codes, and the values.
-    Dicts(&'a Shape<'a>, &'a Shape<'a>),
-}
-
 /// An array, or why it is not made.
 pub type Made = Result<Array, ArrayError>;
 
-/// The array of a shape.
-#[cycle(shapes)]
-pub fn made(alloc: Global, shape: &Shape<'_>) -> Made {
-    match shape {
-        Shape::Nulls(len) => NullArray::new(alloc, *len),
-        Shape::Flags(bits, len) => flags(alloc, *bits, *len),
-        Shape::Bytes(bytes) => numbers(alloc, PType::U8, bytes, There::Always),
-        Shape::Numbers(kind, bytes, there) => numbers(alloc, *kind, bytes, *there),
-        Shape::Letters(letters, there) => texts(alloc, letters, *there),
-        Shape::Lists(elements, offsets, there) => {
-            lists(alloc, made(alloc, elements), made(alloc, offsets), *there)
-        }
-        Shape::Views(elements, offsets, sizes, there) => views(
-            alloc,
-            made(alloc, elements),
-            made(alloc, offsets),
-            made(alloc, sizes),
-            *there,
-        ),
-        Shape::Fixed(elements, size, len, there) => {
-            fixed(alloc, made(alloc, elements), *size, *len, *there)
-        }
-        Shape::Structs(names, types, columns, len, there) => structs(
-            fields(alloc, names, all_made(alloc, types)),
-            all_made(alloc, columns),
-            *len,
-            *there,
-            validity(alloc, *there, *len),
-        ),
-        Shape::Maps(keys, values, entries) => maps(
-            alloc,
-            map_type(alloc, made(alloc, keys), made(alloc, values)),
-            made(alloc, entries),
-        ),
-        Shape::Unions(ids, types, tags, members) => unions(
-            variants(alloc, ids, all_made(alloc, types)),
-            made(alloc, tags),
-            all_made(alloc, members),
-        ),
-        Shape::Extensions(kind, storage) => extensions(
-            alloc,
-            stored_as(alloc, made(alloc, kind)),
-            made(alloc, storage),
-        ),
-        Shape::Dicts(codes, values) => dicts(alloc, made(alloc, codes), made(alloc, values)),
-    }
-}
-
-/// The arrays of shapes.
-#[cycle(shapes)]
-pub fn all_made(alloc: Global, shapes: &[Shape<'_>]) -> Result<Arrays, ArrayError> {
-    let mut arrays = Arrays::new(alloc);
-    for shape in shapes {
-        arrays.push(made(alloc, shape)?)?;
-    }
-    Ok(arrays)
-}
+/// Arrays, or why one of them is not made.
+pub type AllMade = Result<Arrays, ArrayError>;
 
 // What is made of types, or that memory was wanted: tests write no types that are refused.
 fn typed<T: Drop>(made: Result<T, TypeError>) -> Result<T, ArrayError> {
@@ -140,14 +54,39 @@ fn validity(alloc: Global, there: There, len: usize) -> Result<Option<Array>, Ar
     }
 }
 
+/// So many nulls.
+pub fn nulls(alloc: Global, len: usize) -> Made {
+    NullArray::new(alloc, len)
+}
+
+/// Numbers of a byte without a sign, never null.
+pub fn bytes(alloc: Global, bytes: &[u8]) -> Made {
+    numbers(alloc, PType::U8, bytes, There::Always)
+}
+
+/// No array.
+pub fn none(alloc: Global) -> AllMade {
+    Ok(Arrays::new(alloc))
+}
+
+/// One array.
+pub fn one(alloc: Global, array: Made) -> AllMade {
+    and(none(alloc), array)
+}
+
+/// Two arrays.
+pub fn two(alloc: Global, first: Made, second: Made) -> AllMade {
+    and(one(alloc, first), second)
+}
+
 // A buffer of these bytes.
 fn buffer(alloc: Global, bytes: &[u8], alignment: Alignment) -> Result<BufferHandle, ArrayError> {
     let buffer = ByteBuffer::copy_from(alloc, bytes)?;
     Ok(BufferHandle::new_host(buffer.aligned(alignment)))
 }
 
-// So many flags that are never null.
-fn flags(alloc: Global, bits: u8, len: usize) -> Made {
+/// So many flags that are never null, by their bits.
+pub fn flags(alloc: Global, bits: u8, len: usize) -> Made {
     let bits = buffer(alloc, &[bits], Alignment::none())?;
     BoolArray::try_new(alloc, bits, 0, len, Nullability::NonNullable, None)
 }
@@ -168,8 +107,8 @@ fn count_of(kind: PType, bytes: usize) -> usize {
     }
 }
 
-// Numbers of a kind.
-fn numbers(alloc: Global, kind: PType, bytes: &[u8], there: There) -> Made {
+/// Numbers of a kind, by their bytes.
+pub fn numbers(alloc: Global, kind: PType, bytes: &[u8], there: There) -> Made {
     let len = count_of(kind, bytes.len());
     let values = buffer(alloc, bytes, alignment_of(kind));
     match (values, validity(alloc, there, len)) {
@@ -190,8 +129,8 @@ fn counting(alloc: Global, last: usize) -> Made {
     numbers(alloc, PType::U8, bytes.as_slice(), There::Always)
 }
 
-// A text for each letter.
-fn texts(alloc: Global, letters: &[u8], there: There) -> Made {
+/// A text for each letter.
+pub fn texts(alloc: Global, letters: &[u8], there: There) -> Made {
     let offsets = counting(alloc, letters.len());
     let bytes = buffer(alloc, letters, Alignment::none());
     match (offsets, bytes, validity(alloc, there, letters.len())) {
@@ -205,8 +144,8 @@ fn texts(alloc: Global, letters: &[u8], there: There) -> Made {
     }
 }
 
-// Lists of elements, parted by offsets.
-fn lists(alloc: Global, elements: Made, offsets: Made, there: There) -> Made {
+/// Lists of elements, parted by offsets.
+pub fn lists(alloc: Global, elements: Made, offsets: Made, there: There) -> Made {
     let len = len_of(&offsets).saturating_sub(1);
     match (elements, offsets, validity(alloc, there, len)) {
         (Ok(elements), Ok(offsets), Ok(validity)) => {
@@ -248,8 +187,8 @@ fn len_of(array: &Made) -> usize {
     }
 }
 
-// One array more behind others.
-fn and(arrays: Result<Arrays, ArrayError>, array: Made) -> Result<Arrays, ArrayError> {
+/// One array more behind others.
+pub fn and(arrays: AllMade, array: Made) -> AllMade {
     match (arrays, array) {
         (Ok(mut arrays), Ok(array)) => match arrays.push(array) {
             Ok(()) => Ok(arrays),
@@ -261,10 +200,7 @@ fn and(arrays: Result<Arrays, ArrayError>, array: Made) -> Result<Arrays, ArrayE
 }
 
 // The same of an array that need not stand.
-fn and_maybe(
-    arrays: Result<Arrays, ArrayError>,
-    array: Result<Option<Array>, ArrayError>,
-) -> Result<Arrays, ArrayError> {
+fn and_maybe(arrays: AllMade, array: Result<Option<Array>, ArrayError>) -> AllMade {
     match array {
         Ok(None) => arrays,
         Ok(Some(array)) => and(arrays, Ok(array)),
@@ -272,12 +208,11 @@ fn and_maybe(
     }
 }
 
-// Lists of elements with offsets and sizes of their own.
-fn views(alloc: Global, elements: Made, offsets: Made, sizes: Made, there: There) -> Made {
+/// Lists of elements with offsets and sizes of their own.
+pub fn views(alloc: Global, elements: Made, offsets: Made, sizes: Made, there: There) -> Made {
     let len = len_of(&offsets);
     let dtype = list_type_of(alloc, &elements, nullability(there));
-    let parts = and(Ok(Arrays::new(alloc)), elements);
-    let parts = and(and(parts, offsets), sizes);
+    let parts = and(two(alloc, elements, offsets), sizes);
     match (dtype, and_maybe(parts, validity(alloc, there, len))) {
         (Ok(dtype), Ok(children)) => ListViewArray::of_children(dtype, len, false, children),
         (Err(e), _) => Err(e),
@@ -285,8 +220,8 @@ fn views(alloc: Global, elements: Made, offsets: Made, sizes: Made, there: There
     }
 }
 
-// So many lists of one size.
-fn fixed(alloc: Global, elements: Made, size: u32, len: usize, there: There) -> Made {
+/// So many lists of one size.
+pub fn fixed(alloc: Global, elements: Made, size: u32, len: usize, there: There) -> Made {
     match (elements, validity(alloc, there, len)) {
         (Ok(elements), Ok(validity)) => {
             FixedSizeListArray::try_new(alloc, elements, size, nullability(there), len, validity)
@@ -321,21 +256,17 @@ fn fields_of(alloc: Global, names: &[&str], arrays: &[Array]) -> Result<StructFi
 }
 
 // The same, once the arrays are made.
-fn fields(
-    alloc: Global,
-    names: &[&str],
-    arrays: Result<Arrays, ArrayError>,
-) -> Result<StructFields, ArrayError> {
+fn fields(alloc: Global, names: &[&str], arrays: AllMade) -> Result<StructFields, ArrayError> {
     match arrays {
         Ok(arrays) => typed(fields_of(alloc, names, arrays.as_slice())),
         Err(e) => Err(e),
     }
 }
 
-// So many structures of these columns.
-fn structs(
+// So many structures of these columns, of which some may be null.
+fn structs_of(
     fields: Result<StructFields, ArrayError>,
-    columns: Result<Arrays, ArrayError>,
+    columns: AllMade,
     len: usize,
     there: There,
     validity: Result<Option<Array>, ArrayError>,
@@ -348,6 +279,19 @@ fn structs(
         (_, Err(e), _) => Err(e),
         (_, _, Err(e)) => Err(e),
     }
+}
+
+/// So many structures: the fields' names, arrays of their types, and the columns.
+pub fn structs(
+    alloc: Global,
+    names: &[&str],
+    types: AllMade,
+    columns: AllMade,
+    len: usize,
+    there: There,
+) -> Made {
+    let fields = fields(alloc, names, types);
+    structs_of(fields, columns, len, there, validity(alloc, there, len))
 }
 
 // The type of maps from keys to values of the types of these arrays.
@@ -366,12 +310,18 @@ fn map_type(alloc: Global, keys: Made, values: Made) -> Result<MapDType, ArrayEr
 }
 
 // Maps of a type, by their entries.
-fn maps(alloc: Global, map: Result<MapDType, ArrayError>, entries: Made) -> Made {
+fn maps_of(alloc: Global, map: Result<MapDType, ArrayError>, entries: Made) -> Made {
     match (map, entries) {
         (Ok(map), Ok(entries)) => MapArray::try_new(alloc, map, entries),
         (Err(e), _) => Err(e),
         (_, Err(e)) => Err(e),
     }
+}
+
+/// Maps: arrays of the types of keys and of values, and the entries.
+pub fn maps(alloc: Global, keys: Made, values: Made, entries: Made) -> Made {
+    let map = map_type(alloc, keys, values);
+    maps_of(alloc, map, entries)
 }
 
 // Members of these tags and of the types of these arrays, named by letters.
@@ -383,11 +333,7 @@ fn variants_of(alloc: Global, ids: &[u8], arrays: &[Array]) -> Result<UnionVaria
 }
 
 // The same, once the arrays are made.
-fn variants(
-    alloc: Global,
-    ids: &[u8],
-    arrays: Result<Arrays, ArrayError>,
-) -> Result<UnionVariants, ArrayError> {
+fn variants(alloc: Global, ids: &[u8], arrays: AllMade) -> Result<UnionVariants, ArrayError> {
     match arrays {
         Ok(arrays) => typed(variants_of(alloc, ids, arrays.as_slice())),
         Err(e) => Err(e),
@@ -395,17 +341,19 @@ fn variants(
 }
 
 // Unions of these members, by their tags.
-fn unions(
-    variants: Result<UnionVariants, ArrayError>,
-    tags: Made,
-    members: Result<Arrays, ArrayError>,
-) -> Made {
+fn unions_of(variants: Result<UnionVariants, ArrayError>, tags: Made, members: AllMade) -> Made {
     match (variants, tags, members) {
         (Ok(variants), Ok(tags), Ok(members)) => UnionArray::try_new(variants, tags, members),
         (Err(e), _, _) => Err(e),
         (_, Err(e), _) => Err(e),
         (_, _, Err(e)) => Err(e),
     }
+}
+
+/// Unions: the members' tags, arrays of their types, the tags of the rows, and the members.
+pub fn unions(alloc: Global, ids: &[u8], types: AllMade, tags: Made, members: AllMade) -> Made {
+    let variants = variants(alloc, ids, types);
+    unions_of(variants, tags, members)
 }
 
 // The extension that is stored as arrays of this one's type are.
@@ -423,8 +371,8 @@ fn stored_as(alloc: Global, kind: Made) -> Result<ExtDType, ArrayError> {
     }
 }
 
-// Extensions by their storage.
-fn extensions(alloc: Global, ext: Result<ExtDType, ArrayError>, storage: Made) -> Made {
+// Extensions of a type, by their storage.
+fn extensions_of(alloc: Global, ext: Result<ExtDType, ArrayError>, storage: Made) -> Made {
     match (ext, storage) {
         (Ok(ext), Ok(storage)) => ExtensionArray::try_new(alloc, ext, storage),
         (Err(e), _) => Err(e),
@@ -432,8 +380,14 @@ fn extensions(alloc: Global, ext: Result<ExtDType, ArrayError>, storage: Made) -
     }
 }
 
-// Dictionaries by their codes and values.
-fn dicts(alloc: Global, codes: Made, values: Made) -> Made {
+/// Extensions: an array of the type of the storage, and the storage.
+pub fn extensions(alloc: Global, kind: Made, storage: Made) -> Made {
+    let ext = stored_as(alloc, kind);
+    extensions_of(alloc, ext, storage)
+}
+
+/// Dictionaries by their codes and values.
+pub fn dicts(alloc: Global, codes: Made, values: Made) -> Made {
     match (codes, values) {
         (Ok(codes), Ok(values)) => DictArray::try_new(alloc, codes, values, false),
         (Err(e), _) => Err(e),
