@@ -1,104 +1,193 @@
 //! List views and maps in blobs, and their nodes.
 
 use crate::steps::{has_metadata, unplanned};
-use crate::wire::{Change, is_read_as, made_comes_as, refusal};
+use crate::wire::{Change, is_read_as, refusal};
 use std::alloc::Global;
-use vx_arrays::{Array, ArrayError, ListViewArray};
+use vx_arrays::ListViewArray;
 use vx_encodings::{Encoding, EncodingError};
-use vx_nested_tests::shapes::{Made, Shape, There, all_made, made};
+use vx_nested_tests::parts::{
+    AllMade, Made, There, both, bytes, extensions, fixed, lists, maps, numbers, structs, texts,
+    two, views,
+};
 use vx_serde::WireError;
-use vx_types::{DType, PType};
+use vx_types::{Nullability, PType};
 
-const ELEMENTS: Shape<'static> = Shape::Numbers(
-    PType::I32,
-    &[1, 0, 0, 0, 2, 0, 0, 0, 3, 0, 0, 0],
-    There::Always,
-);
+// Arrays of two rows.
+#[derive(Clone, Copy)]
+enum Views {
+    // Lists of numbers.
+    All,
+    // The same, of which the first is null.
+    Some,
+    // The same with offsets and sizes of two bytes.
+    Wide,
+    // Lists of entries, of which the first is null.
+    Entries,
+    // Maps, of which the first is null.
+    Maps,
+    // Lists of maps.
+    MapViews,
+    // Extensions that are stored as those entries.
+    Stored,
+    // Extensions that are stored as lists of entries that are parted by offsets.
+    StoredLists,
+}
 
-const OFFSETS: Shape<'static> = Shape::Bytes(&[1, 0]);
+// Three numbers of four bytes.
+fn elements(alloc: Global) -> Made {
+    let bytes = b"\x01\0\0\0\x02\0\0\0\x03\0\0\0";
+    numbers(alloc, PType::I32, bytes, There::Always)
+}
 
-const SIZES: Shape<'static> = Shape::Bytes(&[2, 1]);
+// Two lists: the second and the third of these rows, and the first.
+fn viewed(alloc: Global, elements: Made, there: There) -> Made {
+    views(
+        alloc,
+        elements,
+        bytes(alloc, &[1, 0]),
+        bytes(alloc, &[2, 1]),
+        there,
+    )
+}
 
-const VIEWS: Shape<'static> = Shape::Views(&ELEMENTS, &OFFSETS, &SIZES, There::Always);
+// The same of numbers, with offsets and sizes of two bytes.
+fn wide(alloc: Global) -> Made {
+    let offsets = numbers(alloc, PType::I16, &[1, 0, 0, 0], There::Always);
+    let sizes = numbers(alloc, PType::U16, &[2, 0, 1, 0], There::Always);
+    views(alloc, elements(alloc), offsets, sizes, There::Always)
+}
 
-const SOME_VIEWS: Shape<'static> = Shape::Views(&ELEMENTS, &OFFSETS, &SIZES, There::Bits(0b10));
+// Three keys.
+fn keys(alloc: Global) -> Made {
+    bytes(alloc, &[1, 2, 3])
+}
 
-const KEYS: Shape<'static> = Shape::Bytes(&[1, 2, 3]);
+// Three values, of which the second is null.
+fn values(alloc: Global) -> Made {
+    texts(alloc, b"abc", There::Bits(0b101))
+}
 
-const VALUES: Shape<'static> = Shape::Letters(b"abc", There::Bits(0b101));
+// The keys and the values.
+fn columns(alloc: Global) -> AllMade {
+    two(alloc, keys(alloc), values(alloc))
+}
 
-const COLUMNS: [Shape<'static>; 2] = [KEYS, VALUES];
+// Three entries.
+fn entries(alloc: Global) -> Made {
+    structs(
+        alloc,
+        &["key", "value"],
+        columns(alloc),
+        columns(alloc),
+        3,
+        There::Always,
+    )
+}
 
-const ENTRIES: Shape<'static> = Shape::Structs(
-    &["key", "value"],
-    &COLUMNS,
-    &COLUMNS,
-    3,
-    There::Always,
-);
+// Two lists of entries, of which the first is null.
+fn entry_views(alloc: Global) -> Made {
+    viewed(alloc, entries(alloc), There::Bits(0b10))
+}
 
-const ENTRY_VIEWS: Shape<'static> = Shape::Views(&ENTRIES, &OFFSETS, &SIZES, There::Bits(0b10));
+// The same, parted by offsets.
+fn entry_lists(alloc: Global) -> Made {
+    lists(
+        alloc,
+        entries(alloc),
+        bytes(alloc, &[0, 1, 3]),
+        There::Bits(0b10),
+    )
+}
 
-const MAPS: Shape<'static> = Shape::Maps(&KEYS, &VALUES, &ENTRY_VIEWS);
+// Two maps, of which the first is null.
+fn mapped(alloc: Global) -> Made {
+    maps(alloc, keys(alloc), values(alloc), entry_views(alloc))
+}
 
-const ENTRY_LISTS: Shape<'static> = Shape::Lists(
-    &ENTRIES,
-    &Shape::Bytes(&[0, 1, 3]),
-    There::Bits(0b10),
-);
+// Two lists of maps.
+fn map_views(alloc: Global) -> Made {
+    let offsets = bytes(alloc, &[1, 0]);
+    views(
+        alloc,
+        mapped(alloc),
+        offsets,
+        bytes(alloc, &[1, 2]),
+        There::All,
+    )
+}
 
-const KEPT: [Shape<'static>; 6] = [
-    VIEWS,
-    SOME_VIEWS,
-    ENTRY_VIEWS,
-    MAPS,
-    Shape::Views(&MAPS, &OFFSETS, &Shape::Bytes(&[1, 2]), There::All),
-    Shape::Fixed(&VIEWS, 2, 1, There::Always),
+// An array.
+fn made(alloc: Global, which: Views) -> Made {
+    match which {
+        Views::All => viewed(alloc, elements(alloc), There::Always),
+        Views::Some => viewed(alloc, elements(alloc), There::Bits(0b10)),
+        Views::Wide => wide(alloc),
+        Views::Entries => entry_views(alloc),
+        Views::Maps => mapped(alloc),
+        Views::MapViews => map_views(alloc),
+        Views::Stored => extensions(alloc, entry_views(alloc), entry_views(alloc)),
+        Views::StoredLists => extensions(alloc, entry_lists(alloc), entry_lists(alloc)),
+    }
+}
+
+const KEPT: [Views; 6] = [
+    Views::All,
+    Views::Some,
+    Views::Wide,
+    Views::Entries,
+    Views::Maps,
+    Views::MapViews,
 ];
 
 #[test]
 fn list_views_and_maps_are_read_again(rt: HostRuntime) {
-    for (i, shape) in KEPT.iter().enumerate() {
-        assert!(rt; is_read_as(rt.alloc(), shape, shape), "{i}");
+    let alloc = rt.alloc();
+    for (i, which) in KEPT.iter().enumerate() {
+        let same = is_read_as(alloc, made(alloc, *which), made(alloc, *which));
+        assert!(rt; same, "{i}");
     }
 }
 
-// The type of an array of two rows, and its children with a flag that they stand one after the other.
-fn flagged_at(alloc: Global, dtype: DType) -> Made {
-    match all_made(alloc, &[ELEMENTS, OFFSETS, SIZES]) {
-        Ok(children) => ListViewArray::of_children(dtype, 2, true, children),
-        Err(e) => Err(e),
-    }
+// A map from 1 to a, written as a list of one entry.
+fn one_map(alloc: Global) -> Made {
+    let types = two(alloc, bytes(alloc, &[1]), texts(alloc, b"a", There::Always));
+    let columns = two(alloc, bytes(alloc, &[1]), texts(alloc, b"a", There::Always));
+    let entry = structs(alloc, &["key", "value"], types, columns, 1, There::Always);
+    let entries = views(
+        alloc,
+        entry,
+        bytes(alloc, &[0]),
+        bytes(alloc, &[1]),
+        There::Always,
+    );
+    maps(
+        alloc,
+        bytes(alloc, &[1]),
+        texts(alloc, b"a", There::Always),
+        entries,
+    )
 }
 
-// The views above, with the flag.
-fn flagged(alloc: Global, views: &Array) -> Made {
-    match views.dtype().clone(alloc) {
-        Ok(dtype) => flagged_at(alloc, dtype),
-        Err(_) => Err(ArrayError::OutOfMemory),
-    }
+#[test]
+fn a_map_is_read_again(rt: HostRuntime) {
+    let alloc = rt.alloc();
+    assert!(rt; is_read_as(alloc, one_map(alloc), one_map(alloc)));
 }
 
-// The same, once they are made without it.
-fn flagged_again(alloc: Global, views: Made) -> Made {
-    match views {
-        Ok(views) => flagged(alloc, &views),
-        Err(e) => Err(e),
-    }
+// The views of numbers, with this flag that they stand one after the other.
+fn flagged(alloc: Global, flag: bool) -> Made {
+    let parts = both(elements(alloc), bytes(alloc, &[1, 0]));
+    let ((elements, offsets), sizes) = both(parts, bytes(alloc, &[2, 1]))?;
+    let never = Nullability::NonNullable;
+    ListViewArray::try_new(alloc, elements, offsets, sizes, never, None, flag)
 }
 
 #[test]
 fn the_flag_is_not_written(rt: HostRuntime) {
-    let views = flagged_again(rt.alloc(), made(rt.alloc(), &VIEWS));
-    assert!(rt; made_comes_as(rt.alloc(), views, made(rt.alloc(), &VIEWS)));
+    let alloc = rt.alloc();
+    assert!(rt; is_read_as(alloc, flagged(alloc, true), flagged(alloc, false)));
+    assert!(rt; !is_read_as(alloc, flagged(alloc, true), flagged(alloc, true)));
 }
-
-const WIDE: Shape<'static> = Shape::Views(
-    &ELEMENTS,
-    &Shape::Numbers(PType::I16, &[1, 0, 0, 0], There::Always),
-    &Shape::Numbers(PType::U16, &[2, 0, 1, 0], There::Always),
-    There::Always,
-);
 
 const BROKEN: Option<WireError> = Some(WireError::BadContent);
 
@@ -106,121 +195,120 @@ const UNFIT: Option<WireError> = Some(WireError::BadShape);
 
 const NO_MESSAGE: Option<WireError> = Some(WireError::BadMetadata);
 
-// An array of two rows, bytes of its blob, others in their place, and why it is not read then, if it is not.
-const CHANGES: [(Shape<'static>, &[u8], &[u8], Option<WireError>); 12] = [
-    (VIEWS, &[1, 0, 2, 1], &[3, 0, 1, 1], BROKEN),
-    (VIEWS, &[1, 0, 2, 1], &[1, 2, 2, 1], None),
-    (SOME_VIEWS, &[1, 0, 2, 1], &[3, 0, 1, 1], None),
-    (SOME_VIEWS, &[1, 0, 2, 1], &[1, 3, 2, 1], BROKEN),
+const WIDE: &[u8] = &[8, 3, 16, 5, 24, 1];
+
+// An array, bytes of its blob, others in their place, and why it is not read then, if it is not.
+const CHANGES: [(Views, &[u8], &[u8], Option<WireError>); 12] = [
+    (Views::All, &[1, 0, 2, 1], &[3, 0, 1, 1], BROKEN),
+    (Views::All, &[1, 0, 2, 1], &[1, 2, 2, 1], None),
+    (Views::Some, &[1, 0, 2, 1], &[3, 0, 1, 1], None),
+    (Views::Some, &[1, 0, 2, 1], &[1, 3, 2, 1], BROKEN),
     (
-        WIDE,
+        Views::Wide,
         &[1, 0, 0, 0, 2, 0, 1, 0],
         &[1, 0, 0, 128, 2, 0, 1, 0],
         BROKEN,
     ),
-    (WIDE, &[8, 3, 16, 5, 24, 1], &[8, 3, 16, 1, 24, 5], None),
-    (WIDE, &[8, 3, 16, 5, 24, 1], &[8, 3, 16, 5, 24, 6], UNFIT),
-    (WIDE, &[8, 3, 16, 5, 24, 1], &[8, 4, 16, 5, 24, 1], UNFIT),
-    (
-        WIDE,
-        &[8, 3, 16, 5, 24, 1],
-        &[8, 3, 16, 5, 24, 9],
-        NO_MESSAGE,
-    ),
-    (
-        WIDE,
-        &[8, 3, 16, 5, 24, 1],
-        &[8, 3, 16, 8, 24, 1],
-        NO_MESSAGE,
-    ),
-    (
-        WIDE,
-        &[8, 3, 16, 5, 24, 1],
-        &[8, 3, 16, 5, 26, 1],
-        NO_MESSAGE,
-    ),
-    (MAPS, b"abc", b"a\xffc", None),
+    (Views::Wide, WIDE, &[8, 3, 16, 1, 24, 5], None),
+    (Views::Wide, WIDE, &[8, 3, 16, 5, 24, 6], UNFIT),
+    (Views::Wide, WIDE, &[8, 4, 16, 5, 24, 1], UNFIT),
+    (Views::Wide, WIDE, &[8, 3, 16, 5, 24, 9], NO_MESSAGE),
+    (Views::Wide, WIDE, &[8, 3, 16, 8, 24, 1], NO_MESSAGE),
+    (Views::Wide, WIDE, &[8, 3, 16, 5, 26, 1], NO_MESSAGE),
+    (Views::Maps, b"abc", b"a\xffc", None),
 ];
 
 #[test]
 fn views_and_their_metadata_are_judged(rt: HostRuntime) {
-    for (i, (shape, old, new, error)) in CHANGES.iter().enumerate() {
-        let refused = refusal(rt.alloc(), shape, shape, 2, Change::Bytes(old, new));
-        assert!(rt; refused == *error, "{i}");
+    let alloc = rt.alloc();
+    for (which, old, new, error) in &CHANGES {
+        let array = made(alloc, *which);
+        let change = Change::Bytes(old, new);
+        let refused = refusal(alloc, array, made(alloc, *which), 2, change);
+        assert!(rt; refused == *error, "{new:?}");
     }
 }
 
-// Entries in an extension, and why they are not read as those of maps, if they are not.
-const STORED: [(Shape<'static>, Option<WireError>); 2] = [
-    (Shape::Extensions(&ENTRY_VIEWS, &ENTRY_VIEWS), None),
-    (Shape::Extensions(&ENTRY_LISTS, &ENTRY_LISTS), UNFIT),
-];
+// Why entries in an extension are not read as those of maps, if they are not.
+fn unmapped(alloc: Global, which: Views) -> Option<WireError> {
+    let change = Change::Id("vortex.ext", "vortex.map");
+    refusal(alloc, made(alloc, which), mapped(alloc), 2, change)
+}
 
 #[test]
 fn entries_are_list_views(rt: HostRuntime) {
-    for (stored, error) in &STORED {
-        let change = Change::Id("vortex.ext", "vortex.map");
-        assert!(rt; refusal(rt.alloc(), stored, &MAPS, 2, change) == *error);
-    }
+    assert!(rt; unmapped(rt.alloc(), Views::Stored) == None);
+    assert!(rt; unmapped(rt.alloc(), Views::StoredLists) == UNFIT);
 }
 
-const METADATA: [(Shape<'static>, &[u8]); 4] = [
-    (VIEWS, &[8, 3]),
-    (WIDE, &[8, 3, 16, 5, 24, 1]),
-    (
-        Shape::Views(
-            &Shape::Bytes(&[]),
-            &Shape::Bytes(&[]),
-            &Shape::Bytes(&[]),
-            There::All,
-        ),
-        &[],
-    ),
-    (MAPS, &[]),
-];
+// Two lists of two lists of numbers.
+fn twos(alloc: Global) -> Made {
+    fixed(alloc, made(alloc, Views::All), 2, 1, There::Always)
+}
+
+// No lists.
+fn empty(alloc: Global) -> Made {
+    let offsets = bytes(alloc, &[]);
+    views(
+        alloc,
+        bytes(alloc, &[]),
+        offsets,
+        bytes(alloc, &[]),
+        There::All,
+    )
+}
 
 #[test]
 fn metadata_is_what_the_encoding_keeps(rt: HostRuntime) {
-    for (i, (shape, bytes)) in METADATA.iter().enumerate() {
-        assert!(rt; has_metadata(rt.alloc(), shape, bytes), "{i}");
-    }
+    let alloc = rt.alloc();
+    assert!(rt; has_metadata(alloc, made(alloc, Views::All), &[8, 3]));
+    assert!(rt; has_metadata(alloc, made(alloc, Views::Wide), WIDE));
+    assert!(rt; has_metadata(alloc, made(alloc, Views::Maps), &[]));
+    assert!(rt; has_metadata(alloc, empty(alloc), &[]));
+    assert!(rt; is_read_as(alloc, twos(alloc), twos(alloc)));
 }
 
 const NO_SHAPE: Option<EncodingError> = Some(EncodingError::BadShape);
 
 const NO_BYTES: Option<EncodingError> = Some(EncodingError::BadMetadata);
 
-const MOST: usize = usize::MAX;
-
-// Encodings, types, lengths, metadata, how many children there are, and why such nodes are not planned, if they are not.
-const PLANS: [(
-    Encoding,
-    Shape<'static>,
-    usize,
-    &[u8],
-    usize,
-    Option<EncodingError>,
-); 14] = [
-    (Encoding::ListView, SOME_VIEWS, 2, &[8, 3], 3, None),
-    (Encoding::ListView, SOME_VIEWS, 2, &[8, 3], 4, None),
-    (Encoding::ListView, SOME_VIEWS, MOST, &[], 3, None),
-    (Encoding::ListView, SOME_VIEWS, 2, &[8, 3], 2, NO_SHAPE),
-    (Encoding::ListView, SOME_VIEWS, 2, &[8, 3], 5, NO_SHAPE),
-    (Encoding::ListView, MAPS, 2, &[8, 3], 3, NO_SHAPE),
-    (Encoding::ListView, SOME_VIEWS, 2, &[16, 9], 3, NO_BYTES),
-    (Encoding::ListView, SOME_VIEWS, 2, &[24, 10], 3, NO_BYTES),
-    (Encoding::ListView, SOME_VIEWS, 2, &[24], 9, NO_BYTES),
-    (Encoding::Map, MAPS, 2, &[], 1, None),
-    (Encoding::Map, MAPS, MOST, &[], 1, None),
-    (Encoding::Map, MAPS, 2, &[], 0, NO_SHAPE),
-    (Encoding::Map, MAPS, 2, &[], 2, NO_SHAPE),
-    (Encoding::Map, MAPS, 2, &[0], 1, NO_BYTES),
+// Types, metadata, how many children there are, and why such nodes of two list views are not planned, if they are not.
+const VIEWED: [(Views, &[u8], usize, Option<EncodingError>); 8] = [
+    (Views::Some, &[8, 3], 3, None),
+    (Views::Some, &[8, 3], 4, None),
+    (Views::Some, &[8, 3], 2, NO_SHAPE),
+    (Views::Some, &[8, 3], 5, NO_SHAPE),
+    (Views::Maps, &[8, 3], 3, NO_SHAPE),
+    (Views::Some, &[16, 9], 3, NO_BYTES),
+    (Views::Some, &[24, 10], 3, NO_BYTES),
+    (Views::Some, &[24], 9, NO_BYTES),
 ];
 
 #[test]
-fn plans_have_the_children_of_the_encoding(rt: HostRuntime) {
-    for (i, (encoding, shape, len, metadata, nchildren, error)) in PLANS.iter().enumerate() {
-        let refused = unplanned(rt.alloc(), *encoding, shape, *len, metadata, *nchildren);
+fn list_views_are_planned_by_their_metadata(rt: HostRuntime) {
+    let alloc = rt.alloc();
+    for (i, (kind, metadata, nchildren, error)) in VIEWED.iter().enumerate() {
+        let kind = made(alloc, *kind);
+        let refused = unplanned(alloc, Encoding::ListView, kind, 2, metadata, *nchildren);
+        assert!(rt; refused == *error, "{i}");
+    }
+}
+
+// How many maps there are, metadata, how many children there are, and why such nodes are not planned, if they are not.
+const MAPPED: [(usize, &[u8], usize, Option<EncodingError>); 5] = [
+    (2, &[], 1, None),
+    (usize::MAX, &[], 1, None),
+    (2, &[], 0, NO_SHAPE),
+    (2, &[], 2, NO_SHAPE),
+    (2, &[0], 1, NO_BYTES),
+];
+
+#[test]
+fn maps_are_planned_without_metadata(rt: HostRuntime) {
+    let alloc = rt.alloc();
+    for (i, (len, metadata, nchildren, error)) in MAPPED.iter().enumerate() {
+        let kind = mapped(alloc);
+        let refused = unplanned(alloc, Encoding::Map, kind, *len, metadata, *nchildren);
         assert!(rt; refused == *error, "{i}");
     }
 }

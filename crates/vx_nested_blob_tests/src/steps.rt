@@ -2,7 +2,7 @@
 
 use std::alloc::Global;
 use vx_encodings::{ArrayHead, Encoding, EncodingError, metadata, plan};
-use vx_nested_tests::shapes::{Made, Shape, made};
+use vx_nested_tests::parts::Made;
 use vx_type_wire::ExtSession;
 use vx_types::{Blob, DType, Id, TypeError};
 
@@ -14,9 +14,9 @@ fn written(alloc: Global, array: Made) -> Result<Blob, EncodingError> {
     }
 }
 
-/// Whether a shape's array has this metadata.
-pub(crate) fn has_metadata(alloc: Global, shape: &Shape<'_>, bytes: &[u8]) -> bool {
-    match written(alloc, made(alloc, shape)) {
+/// Whether an array that is made first has this metadata.
+pub(crate) fn has_metadata(alloc: Global, array: Made, bytes: &[u8]) -> bool {
+    match written(alloc, array) {
         Ok(blob) => blob.as_slice() == bytes,
         Err(_) => false,
     }
@@ -55,16 +55,16 @@ fn head_refusal(
     }
 }
 
-/// Why a node of the type of a shape's array is not planned, if it is not.
+/// Why a node of the type of an array is not planned, if it is not.
 pub(crate) fn unplanned(
     alloc: Global,
     encoding: Encoding,
-    shape: &Shape<'_>,
+    kind: Made,
     len: usize,
     metadata: &[u8],
     nchildren: usize,
 ) -> Option<EncodingError> {
-    match made(alloc, shape) {
+    match kind {
         Ok(array) => {
             let head = head_of(alloc, array.dtype(), len, metadata, nchildren);
             head_refusal(alloc, encoding, head)

@@ -3,7 +3,7 @@
 use std::alloc::{AllocError, Global};
 use vx_arrays::{Array, ArrayError};
 use vx_buffer::ByteBuffer;
-use vx_nested_tests::shapes::{Made, Shape, made};
+use vx_nested_tests::parts::{Made, both};
 use vx_registry::{ArrayContext, ArraySession, ReadContext, VortexSession};
 use vx_serde::{ArrayExt, SerializeOptions, SerializedArray, WireError};
 use vx_type_wire::ExtSession;
@@ -161,39 +161,23 @@ fn comes_as(alloc: Global, array: &Array, other: &Array) -> bool {
 }
 
 /// Whether an array is read again as another one, once both are made.
-pub(crate) fn made_comes_as(alloc: Global, array: Made, other: Made) -> bool {
-    match (array, other) {
-        (Ok(array), Ok(other)) => comes_as(alloc, &array, &other),
-        _ => false,
+pub(crate) fn is_read_as(alloc: Global, array: Made, other: Made) -> bool {
+    match both(array, other) {
+        Ok((array, other)) => comes_as(alloc, &array, &other),
+        Err(_) => false,
     }
 }
 
-/// Whether a shape's array is read again as another shape's.
-pub(crate) fn is_read_as(alloc: Global, shape: &Shape<'_>, other: &Shape<'_>) -> bool {
-    made_comes_as(alloc, made(alloc, shape), made(alloc, other))
-}
-
-// Why an array is not read at another's type and a length once it is changed, if it is not.
-fn made_refusal(
+/// Why an array is not read at the type of another and a length once it is changed, if it is not.
+pub(crate) fn refusal(
     alloc: Global,
     array: Made,
     kind: Made,
     len: usize,
     change: Change<'_>,
 ) -> Option<WireError> {
-    match (array, kind) {
-        (Ok(array), Ok(kind)) => read(alloc, &array, kind.dtype(), len, change).err(),
-        _ => Some(WireError::OutOfMemory),
+    match both(array, kind) {
+        Ok((array, kind)) => read(alloc, &array, kind.dtype(), len, change).err(),
+        Err(_) => Some(WireError::OutOfMemory),
     }
-}
-
-/// Why a shape's array is not read at the type of another and a length once it is changed, if it is not.
-pub(crate) fn refusal(
-    alloc: Global,
-    shape: &Shape<'_>,
-    kind: &Shape<'_>,
-    len: usize,
-    change: Change<'_>,
-) -> Option<WireError> {
-    made_refusal(alloc, made(alloc, shape), made(alloc, kind), len, change)
 }

@@ -1,9 +1,9 @@
 //! Tests of lists with an offset and a size of their own.
 
-use crate::parts::{AllMade, Made, There, and, bytes, nulls, numbers, two, views};
+use crate::parts::{AllMade, Made, There, and, both, bytes, nulls, numbers, two, views};
 use crate::rows::{begins_with, has_rows, has_slots, row_refusal, takes};
 use std::alloc::Global;
-use vx_arrays::{ArrayError, ListViewArray};
+use vx_arrays::{Array, ArrayError, ListViewArray};
 use vx_types::{DType, Nullability, PType, TypeRef};
 
 // Three numbers.
@@ -174,20 +174,18 @@ fn a_row_of_too_many_cells_is_refused_at_once(rt: HostRuntime) {
 }
 
 // The type of lists of bytes.
-fn list_type(alloc: Global) -> Option<DType> {
+fn list_type(alloc: Global) -> Result<DType, ArrayError> {
     let element = DType::Primitive(PType::U8, Nullability::NonNullable);
     match TypeRef::new(alloc, element) {
-        Ok(element) => Some(DType::List(element, Nullability::NonNullable)),
-        Err(_) => None,
+        Ok(element) => Ok(DType::List(element, Nullability::NonNullable)),
+        Err(_) => Err(ArrayError::OutOfMemory),
     }
 }
 
 // A node of so many views over these children, with this flag.
 fn node_over(alloc: Global, len: usize, flag: bool, children: AllMade) -> Made {
-    match (list_type(alloc), children) {
-        (Some(dtype), Ok(children)) => ListViewArray::of_children(dtype, len, flag, children),
-        _ => Err(ArrayError::OutOfMemory),
-    }
+    let (dtype, children) = both(list_type(alloc), children)?;
+    ListViewArray::of_children(dtype, len, flag, children)
 }
 
 // The elements and the offsets of the views above.
@@ -201,14 +199,17 @@ fn flagged(alloc: Global, flag: bool) -> Made {
     node_over(alloc, 2, flag, children)
 }
 
-// Whether the first of two arrays that are made first has the rows of the views above, and whether the two are equal.
+// Whether the first of two arrays has the rows of the views above, and whether the two are equal.
+fn are_views_of(alloc: Global, first: &Array, second: &Array) -> (bool, bool) {
+    let rows = begins_with(alloc, first, &["[2, 3]", "[1]"]);
+    (rows, first.array_eq(second))
+}
+
+// The same, once both are made.
 fn are_views(alloc: Global, first: Made, second: Made) -> Option<(bool, bool)> {
-    match (first, second) {
-        (Ok(first), Ok(second)) => Some((
-            begins_with(alloc, &first, &["[2, 3]", "[1]"]),
-            first.array_eq(&second),
-        )),
-        _ => None,
+    match both(first, second) {
+        Ok((first, second)) => Some(are_views_of(alloc, &first, &second)),
+        Err(_) => None,
     }
 }
 
@@ -219,21 +220,12 @@ fn the_flag_is_kept_as_it_is_told(rt: HostRuntime) {
     assert!(rt; told == Some((true, false)));
 }
 
-// The array of these parts that are made first, with this flag.
-fn over_parts(alloc: Global, elements: Made, offsets: Made, sizes: Made, flag: bool) -> Made {
-    match (elements, offsets, sizes) {
-        (Ok(elements), Ok(offsets), Ok(sizes)) => {
-            let never = Nullability::NonNullable;
-            ListViewArray::try_new(alloc, elements, offsets, sizes, never, None, flag)
-        }
-        _ => Err(ArrayError::OutOfMemory),
-    }
-}
-
 // The array of the views above of its parts, with this flag.
 fn of_parts(alloc: Global, flag: bool) -> Made {
-    let sizes = bytes(alloc, &[2, 1]);
-    over_parts(alloc, elements(alloc), bytes(alloc, &[1, 0]), sizes, flag)
+    let parts = both(elements(alloc), bytes(alloc, &[1, 0]));
+    let ((elements, offsets), sizes) = both(parts, bytes(alloc, &[2, 1]))?;
+    let never = Nullability::NonNullable;
+    ListViewArray::try_new(alloc, elements, offsets, sizes, never, None, flag)
 }
 
 #[test]

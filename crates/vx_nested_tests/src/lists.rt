@@ -1,6 +1,6 @@
 //! Tests of lists whose elements are parted by offsets.
 
-use crate::parts::{Made, There, bytes, lists, numbers, texts, two};
+use crate::parts::{Made, There, both, bytes, lists, numbers, texts, two};
 use crate::rows::{has_rows, has_slots, takes};
 use std::alloc::Global;
 use vx_arrays::{ArrayError, ListArray};
@@ -137,26 +137,24 @@ fn a_row_takes_its_elements_cells_and_one(rt: HostRuntime) {
 }
 
 // The type of lists of bytes.
-fn list_type(alloc: Global) -> Option<DType> {
+fn list_type(alloc: Global) -> Result<DType, ArrayError> {
     let element = DType::Primitive(PType::U8, Nullability::NonNullable);
     match TypeRef::new(alloc, element) {
-        Ok(element) => Some(DType::List(element, Nullability::NonNullable)),
-        Err(_) => None,
+        Ok(element) => Ok(DType::List(element, Nullability::NonNullable)),
+        Err(_) => Err(ArrayError::OutOfMemory),
     }
 }
 
-// Why a node of so many lists over three elements and four offsets is not made, if it is not.
-fn node_refusal(alloc: Global, len: usize) -> Option<ArrayError> {
+// A node of so many lists over three elements and four offsets.
+fn node_of(alloc: Global, len: usize) -> Made {
     let children = two(alloc, elements(alloc), bytes(alloc, &[0, 2, 2, 3]));
-    match (list_type(alloc), children) {
-        (Some(dtype), Ok(children)) => ListArray::of_children(dtype, len, children).err(),
-        _ => Some(ArrayError::OutOfMemory),
-    }
+    let (dtype, children) = both(list_type(alloc), children)?;
+    ListArray::of_children(dtype, len, children)
 }
 
 #[test]
 fn there_is_an_offset_more_than_lists(rt: HostRuntime) {
     for (len, error) in [(2, UNFIT), (3, None), (4, UNFIT), (usize::MAX, UNFIT)] {
-        assert!(rt; node_refusal(rt.alloc(), len) == error, "{len}");
+        assert!(rt; node_of(rt.alloc(), len).err() == error, "{len}");
     }
 }

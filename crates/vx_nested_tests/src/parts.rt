@@ -8,7 +8,7 @@ use vx_arrays::{
 use vx_buffer::{Alignment, BufferHandle, ByteBuffer};
 use vx_types::{
     Blob, DType, DTypes, ExtDType, Id, MapDType, Name, Names, Nullability, PType, StructFields,
-    TypeError, TypeIds, TypeRef, UnionVariants,
+    TypeError, TypeIds, UnionVariants,
 };
 
 /// Which of at most eight rows are there.
@@ -36,6 +36,16 @@ fn typed<T: Drop>(made: Result<T, TypeError>) -> Result<T, ArrayError> {
         Ok(value) => Ok(value),
         Err(_) => Err(ArrayError::OutOfMemory),
     }
+}
+
+/// Two values, or why one of them is not made.
+pub fn both<A: Drop, B: Drop>(
+    first: Result<A, ArrayError>,
+    second: Result<B, ArrayError>,
+) -> Result<(A, B), ArrayError> {
+    let first = first?;
+    let second = second?;
+    Ok((first, second))
 }
 
 /// Whether a type lets rows be null.
@@ -111,13 +121,8 @@ fn count_of(kind: PType, bytes: usize) -> usize {
 pub fn numbers(alloc: Global, kind: PType, bytes: &[u8], there: There) -> Made {
     let len = count_of(kind, bytes.len());
     let values = buffer(alloc, bytes, alignment_of(kind));
-    match (values, validity(alloc, there, len)) {
-        (Ok(values), Ok(validity)) => {
-            PrimitiveArray::try_new(alloc, values, kind, nullability(there), len, validity)
-        }
-        (Err(e), _) => Err(e),
-        (_, Err(e)) => Err(e),
-    }
+    let (values, validity) = both(values, validity(alloc, there, len))?;
+    PrimitiveArray::try_new(alloc, values, kind, nullability(there), len, validity)
 }
 
 // The numbers from 0 up to this one.
@@ -133,50 +138,23 @@ fn counting(alloc: Global, last: usize) -> Made {
 pub fn texts(alloc: Global, letters: &[u8], there: There) -> Made {
     let offsets = counting(alloc, letters.len());
     let bytes = buffer(alloc, letters, Alignment::none());
-    match (offsets, bytes, validity(alloc, there, letters.len())) {
-        (Ok(offsets), Ok(bytes), Ok(validity)) => {
-            let dtype = DType::Utf8(nullability(there));
-            VarBinArray::try_new(alloc, dtype, offsets, bytes, validity)
-        }
-        (Err(e), _, _) => Err(e),
-        (_, Err(e), _) => Err(e),
-        (_, _, Err(e)) => Err(e),
-    }
+    let parts = both(offsets, bytes);
+    let ((offsets, bytes), validity) = both(parts, validity(alloc, there, letters.len()))?;
+    VarBinArray::try_new(
+        alloc,
+        DType::Utf8(nullability(there)),
+        offsets,
+        bytes,
+        validity,
+    )
 }
 
 /// Lists of elements, parted by offsets.
 pub fn lists(alloc: Global, elements: Made, offsets: Made, there: There) -> Made {
     let len = len_of(&offsets).saturating_sub(1);
-    match (elements, offsets, validity(alloc, there, len)) {
-        (Ok(elements), Ok(offsets), Ok(validity)) => {
-            ListArray::try_new(alloc, elements, offsets, nullability(there), validity)
-        }
-        (Err(e), _, _) => Err(e),
-        (_, Err(e), _) => Err(e),
-        (_, _, Err(e)) => Err(e),
-    }
-}
-
-// The type of lists of the elements of an array.
-fn list_type(
-    alloc: Global,
-    elements: &Array,
-    nullability: Nullability,
-) -> Result<DType, TypeError> {
-    let element = TypeRef::new(alloc, elements.dtype().clone(alloc)?)?;
-    Ok(DType::List(element, nullability))
-}
-
-// The same, once the array is made.
-fn list_type_of(
-    alloc: Global,
-    elements: &Made,
-    nullability: Nullability,
-) -> Result<DType, ArrayError> {
-    match elements {
-        Ok(elements) => typed(list_type(alloc, elements, nullability)),
-        Err(e) => Err(*e),
-    }
+    let parts = both(elements, offsets);
+    let ((elements, offsets), validity) = both(parts, validity(alloc, there, len))?;
+    ListArray::try_new(alloc, elements, offsets, nullability(there), validity)
 }
 
 // How many rows an array has, once it is made.
@@ -189,46 +167,34 @@ fn len_of(array: &Made) -> usize {
 
 /// One array more behind others.
 pub fn and(arrays: AllMade, array: Made) -> AllMade {
-    match (arrays, array) {
-        (Ok(mut arrays), Ok(array)) => match arrays.push(array) {
-            Ok(()) => Ok(arrays),
-            Err(e) => Err(e),
-        },
-        (Err(e), _) => Err(e),
-        (_, Err(e)) => Err(e),
-    }
-}
-
-// The same of an array that need not stand.
-fn and_maybe(arrays: AllMade, array: Result<Option<Array>, ArrayError>) -> AllMade {
-    match array {
-        Ok(None) => arrays,
-        Ok(Some(array)) => and(arrays, Ok(array)),
+    let (mut arrays, array) = both(arrays, array)?;
+    match arrays.push(array) {
+        Ok(()) => Ok(arrays),
         Err(e) => Err(e),
     }
 }
 
 /// Lists of elements with offsets and sizes of their own.
 pub fn views(alloc: Global, elements: Made, offsets: Made, sizes: Made, there: There) -> Made {
-    let len = len_of(&offsets);
-    let dtype = list_type_of(alloc, &elements, nullability(there));
-    let parts = and(two(alloc, elements, offsets), sizes);
-    match (dtype, and_maybe(parts, validity(alloc, there, len))) {
-        (Ok(dtype), Ok(children)) => ListViewArray::of_children(dtype, len, false, children),
-        (Err(e), _) => Err(e),
-        (_, Err(e)) => Err(e),
-    }
+    let validity = validity(alloc, there, len_of(&offsets));
+    let parts = both(both(elements, offsets), both(sizes, validity));
+    let ((elements, offsets), (sizes, validity)) = parts?;
+    let nullability = nullability(there);
+    ListViewArray::try_new(
+        alloc,
+        elements,
+        offsets,
+        sizes,
+        nullability,
+        validity,
+        false,
+    )
 }
 
 /// So many lists of one size.
 pub fn fixed(alloc: Global, elements: Made, size: u32, len: usize, there: There) -> Made {
-    match (elements, validity(alloc, there, len)) {
-        (Ok(elements), Ok(validity)) => {
-            FixedSizeListArray::try_new(alloc, elements, size, nullability(there), len, validity)
-        }
-        (Err(e), _) => Err(e),
-        (_, Err(e)) => Err(e),
-    }
+    let (elements, validity) = both(elements, validity(alloc, there, len))?;
+    FixedSizeListArray::try_new(alloc, elements, size, nullability(there), len, validity)
 }
 
 // The types of arrays.
@@ -271,14 +237,8 @@ fn structs_of(
     there: There,
     validity: Result<Option<Array>, ArrayError>,
 ) -> Made {
-    match (fields, columns, validity) {
-        (Ok(fields), Ok(columns), Ok(validity)) => {
-            StructArray::try_new(fields, nullability(there), columns, len, validity)
-        }
-        (Err(e), _, _) => Err(e),
-        (_, Err(e), _) => Err(e),
-        (_, _, Err(e)) => Err(e),
-    }
+    let ((fields, columns), validity) = both(both(fields, columns), validity)?;
+    StructArray::try_new(fields, nullability(there), columns, len, validity)
 }
 
 /// So many structures: the fields' names, arrays of their types, and the columns.
@@ -302,20 +262,14 @@ fn map_type_of(alloc: Global, keys: &Array, values: &Array) -> Result<MapDType, 
 
 // The same, once the arrays are made.
 fn map_type(alloc: Global, keys: Made, values: Made) -> Result<MapDType, ArrayError> {
-    match (keys, values) {
-        (Ok(keys), Ok(values)) => typed(map_type_of(alloc, &keys, &values)),
-        (Err(e), _) => Err(e),
-        (_, Err(e)) => Err(e),
-    }
+    let (keys, values) = both(keys, values)?;
+    typed(map_type_of(alloc, &keys, &values))
 }
 
 // Maps of a type, by their entries.
 fn maps_of(alloc: Global, map: Result<MapDType, ArrayError>, entries: Made) -> Made {
-    match (map, entries) {
-        (Ok(map), Ok(entries)) => MapArray::try_new(alloc, map, entries),
-        (Err(e), _) => Err(e),
-        (_, Err(e)) => Err(e),
-    }
+    let (map, entries) = both(map, entries)?;
+    MapArray::try_new(alloc, map, entries)
 }
 
 /// Maps: arrays of the types of keys and of values, and the entries.
@@ -342,12 +296,8 @@ fn variants(alloc: Global, ids: &[u8], arrays: AllMade) -> Result<UnionVariants,
 
 // Unions of these members, by their tags.
 fn unions_of(variants: Result<UnionVariants, ArrayError>, tags: Made, members: AllMade) -> Made {
-    match (variants, tags, members) {
-        (Ok(variants), Ok(tags), Ok(members)) => UnionArray::try_new(variants, tags, members),
-        (Err(e), _, _) => Err(e),
-        (_, Err(e), _) => Err(e),
-        (_, _, Err(e)) => Err(e),
-    }
+    let ((variants, tags), members) = both(both(variants, tags), members)?;
+    UnionArray::try_new(variants, tags, members)
 }
 
 /// Unions: the members' tags, arrays of their types, the tags of the rows, and the members.
@@ -373,11 +323,8 @@ fn stored_as(alloc: Global, kind: Made) -> Result<ExtDType, ArrayError> {
 
 // Extensions of a type, by their storage.
 fn extensions_of(alloc: Global, ext: Result<ExtDType, ArrayError>, storage: Made) -> Made {
-    match (ext, storage) {
-        (Ok(ext), Ok(storage)) => ExtensionArray::try_new(alloc, ext, storage),
-        (Err(e), _) => Err(e),
-        (_, Err(e)) => Err(e),
-    }
+    let (ext, storage) = both(ext, storage)?;
+    ExtensionArray::try_new(alloc, ext, storage)
 }
 
 /// Extensions: an array of the type of the storage, and the storage.
@@ -388,9 +335,6 @@ pub fn extensions(alloc: Global, kind: Made, storage: Made) -> Made {
 
 /// Dictionaries by their codes and values.
 pub fn dicts(alloc: Global, codes: Made, values: Made) -> Made {
-    match (codes, values) {
-        (Ok(codes), Ok(values)) => DictArray::try_new(alloc, codes, values, false),
-        (Err(e), _) => Err(e),
-        (_, Err(e)) => Err(e),
-    }
+    let (codes, values) = both(codes, values)?;
+    DictArray::try_new(alloc, codes, values, false)
 }
