@@ -205,10 +205,7 @@ pub(crate) fn build(
     if !buffers.is_empty() {
         return Err(EncodingError::BadShape);
     }
-    let flag = match metadata.all_values_referenced {
-        Some(flag) => flag,
-        None => false,
-    };
+    let flag = metadata.all_values_referenced.unwrap_or(false);
     match DictArray::of_children(alloc, head.dtype, head.len, children, flag) {
         Ok(array) => Ok(array),
         Err(e) => Err(of_constructor(e)),
