@@ -217,11 +217,11 @@ pub(crate) fn build(
 #[tactic(auto, using(crate::proofs::DictWritten::dict_written))]
 pub(crate) fn metadata(
     alloc: Global,
-    data: &DictData,
+    dictionary: &DictData,
     children: &[Array],
 ) -> Result<Blob, EncodingError>
     requires { (second_place (places (roses_of children.now))).len ≤ 2 ^ 32 - 1 }
-    ensures ok { IfOk result (λ bytes. bytes ≡ message_bytes (told (M.dict (metadata_of data.now (places (roses_of children.now)))))) }
+    ensures ok { IfOk result (λ bytes. bytes ≡ message_bytes (told (M.dict (metadata_of dictionary.now (places (roses_of children.now)))))) }
     ensures err { IsOkUnless result EncodingError.OutOfMemory }
 {
     let values_len = count_of(children);
@@ -232,7 +232,7 @@ pub(crate) fn metadata(
             values_len: values_len as u32,
             codes_ptype,
             is_nullable_codes: Some(nullability == Nullability::Nullable),
-            all_values_referenced: Some(data.all_values_referenced()),
+            all_values_referenced: Some(dictionary.all_values_referenced()),
         },
     )
 }
