@@ -51,7 +51,7 @@ impl Arrays {
         ensures unchanged { OnErr result (self.new ≡ self.old) }
         ensures err { IsOkUnless result ArrayError.OutOfMemory }
     {
-        array.validate()?;
+        let _rows = array.len();
         self.items.push(array)?;
         Ok(())
     }
@@ -72,7 +72,7 @@ impl Arrays {
         ensures ok { OnOk result (self.new ≡ more array self.old) }
         ensures err { IsOkUnless result ArrayError.OutOfMemory }
     {
-        array.validate()?;
+        let _rows = array.len();
         self.items.insert(0, array)?;
         Ok(())
     }
