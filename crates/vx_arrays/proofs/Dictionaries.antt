@@ -1,5 +1,5 @@
 -- The codes and the values of a dictionary, and its rows.
-use Rattle.std.proofs.Common.{ℕ, suc, ◌≡◌, ◌≤◌, ◌<◌, ◌+◌, ◌⊎◌, inl, inr, List, [], ◌∷◌, Option, Some, None, Result, Ok, Err, IfOk, Bool, true, false, refl, sym, ap, ◌∙◌, subst, length, get_or, arith}
+use Rattle.std.proofs.Common.{ℕ, ◌≡◌, ◌≤◌, ◌<◌, ◌+◌, ◌⊎◌, inl, inr, List, [], ◌∷◌, Option, Some, None, Result, Ok, Err, IfOk, Bool, true, false, refl, sym, ap, ◌∙◌, subst, length, get_or, arith}
 use Rattle.std.specs.Prelude.{◌↔◌, IsTrue, is_some, unwrap_or}
 use Rattle.std.proofs.lemmas.Bool.{false≢true}
 use Rattle.std.proofs.Math.Nat.{eq-or-lt_of_le}
@@ -19,10 +19,10 @@ use Rattle.vx_types.specs.declared.nullability.Nullability.TheVariants.{Nullable
 use Rattle.vx_types.specs.declared.ptype.PType.{PType}
 use Rattle.vx_scalars.specs.Stats.{Stats}
 use Rattle.vx_array_tree.specs.Body as B
-use Rattle.vx_array_tree.specs.Encodings.Dicts.{Data, Content, IsCode, lifted, metadata_of, plan, raised, rows, valid_by}
-use Rattle.vx_array_tree.specs.Place.{Place, place, exactly, ptype_of}
+use Rattle.vx_array_tree.specs.Encodings.Dicts.{Data, Content, IsCode, lifted, raised, rows, valid_by}
+use Rattle.vx_array_tree.specs.Place.{Place, place, ptype_of}
 use Rattle.vx_array_tree.specs.Refused.{IsWellShaped}
-use Rattle.vx_array_tree.specs.Rows.{Rows, IsThere, IsIndex, flag_in, index_at, where_valid, cells_where}
+use Rattle.vx_array_tree.specs.Rows.{IsThere, flag_in, index_at, where_valid, cells_where}
 use Rattle.vx_array_tree.specs.Sound.{IsSoundNode}
 use Rattle.vx_array_tree.specs.Tree.{Tree, Trees, cells, places, row_at, rows_below, rows_of, untold, valid_at}
 use Rattle.vx_array_tree.proofs.Plans.{exactly_is}

@@ -1,5 +1,5 @@
 -- The type of a map's entries, part by part.
-use Rattle.std.proofs.Common.{ℕ, ◌≡◌, List, [], ◌∷◌, Bool, refl, sym, ap, ◌∙◌, subst, length, get_or, map, arith}
+use Rattle.std.proofs.Common.{ℕ, ◌≡◌, List, [], ◌∷◌, Bool, sym, ap, ◌∙◌, subst, length, get_or, map, arith}
 use Rattle.std.specs.Prelude.{◌↔◌, IsTrue}
 use Rattle.vx_trees.specs.Rose.{node, below, roses_of, roses_list}
 use Rattle.vx_trees.proofs.Lists.{roses_list-roses_of}

@@ -17,8 +17,8 @@ mod Counted
 mod Sized
 mod Fielded
 mod Columns
-mod Made
 mod Judged
+mod Over
 mod Stored
 mod Listed
 mod Tagged

@@ -1,7 +1,6 @@
 -- The children of a node of list views: its elements, its offsets, its sizes, and what stands behind them; and its rows.
-use Rattle.std.proofs.Common.{ℕ, suc, ◌≡◌, ◌≤◌, ◌<◌, ◌+◌, ◌^◌, ◌⊎◌, inl, inr, List, [], ◌∷◌, Option, Some, None, Bool, true, false, refl, sym, ap, ◌∙◌, subst, length, arith, add-one}
+use Rattle.std.proofs.Common.{ℕ, suc, ◌≡◌, ◌≤◌, ◌<◌, ◌+◌, ◌⊎◌, inl, inr, List, [], ◌∷◌, Option, Some, None, Bool, true, false, refl, sym, ap, ◌∙◌, subst, length, arith}
 use Rattle.std.proofs.Math.Nat.{eq-or-lt_of_le}
-use Rattle.std.proofs.lemmas.Bool.{false≢true}
 use Rattle.std.specs.Prelude.{◌↔◌, IsTrue}
 use Rattle.vx_trees.specs.Rose.{node, end, more, label, count, roses_of}
 use Rattle.vx_trees.specs.Walks.{nodes, nodes_of}
@@ -12,19 +11,17 @@ use Rattle.vx_types.specs.Kind.{list}
 use Rattle.vx_types.specs.Numbers.{is_integer}
 use Rattle.vx_types.specs.Typ.{Typ, typ_code}
 use Rattle.vx_types.specs.Value.{Value, tuple}
-use Rattle.vx_types.specs.Words.{nullability}
 use Rattle.vx_types.specs.declared.ptype.PType.{PType}
 use Rattle.vx_array_tree.specs.Body as B
 use Rattle.vx_array_tree.specs.Encodings.ListViews.{Data, Metadata, Content, IsView, metadata_of, plan, rows}
 use Rattle.vx_array_tree.specs.Place.{Place, place, numbers, before_validity, ptype_of}
 use Rattle.vx_array_tree.specs.Refused.{IsWellShaped}
-use Rattle.vx_array_tree.specs.Rows.{Rows, IsIndex, IsThere, validity, first, second, third, rest, index_at, where_valid, cells_where, values_from, cells_from}
+use Rattle.vx_array_tree.specs.Rows.{Rows, IsIndex, IsThere, validity, rest, index_at, where_valid, cells_where, values_from, cells_from}
 use Rattle.vx_array_tree.specs.Sound.{IsSoundNode}
 use Rattle.vx_array_tree.specs.Tree.{Tree, Trees, places, rows_below, rows_of, untold}
 use Rattle.vx_array_tree.proofs.RowsOfSound.{rows_len}
 use Rattle.vx_arrays.specs.Lists.{element_of}
 use Rattle.vx_arrays.specs.ListViews.{AreCounts, AreViewParts, views_of}
-use Rattle.vx_arrays.specs.Validity.{IsValidity}
 use Rattle.vx_arrays.specs.VarBins.{IsOfOffsets}
 use Rattle.vx_arrays.proofs.Listed.{first_stands, none_some, some_is}
 use Rattle.vx_arrays.proofs.Parted.{offsets_type, same_suc}

@@ -17,7 +17,7 @@ use Rattle.vx_array_tree.specs.Encodings.Lists.{Metadata, Content, metadata_of, 
 use Rattle.vx_array_tree.specs.Encodings.VarBins.{AreOffsets}
 use Rattle.vx_array_tree.specs.Place.{Place, place, numbers, is_len, when, before_validity, ptype_of}
 use Rattle.vx_array_tree.specs.Refused.{IsWellShaped}
-use Rattle.vx_array_tree.specs.Rows.{validity, first, second, rest, index_at, where_valid, cells_where, values_from, cells_from}
+use Rattle.vx_array_tree.specs.Rows.{validity, rest, index_at, where_valid, cells_where, values_from, cells_from}
 use Rattle.vx_array_tree.specs.Sound.{IsSoundNode}
 use Rattle.vx_array_tree.specs.Tree.{Tree, Trees, places, rows_below, rows_of, untold}
 use Rattle.vx_array_tree.proofs.Options.{mapped, let_through}

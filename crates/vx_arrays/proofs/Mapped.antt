@@ -18,7 +18,7 @@ use Rattle.vx_array_tree.specs.Refused.{IsWellShaped}
 use Rattle.vx_array_tree.specs.Sound.{IsSoundNode}
 use Rattle.vx_array_tree.specs.Table.{encoding_of}
 use Rattle.vx_array_tree.specs.Tree.{Tree, Trees, cells, encodings, places, row_at, untold, valid_at}
-use Rattle.vx_arrays.specs.Maps.{AreEntries, entries_of, map_tree}
+use Rattle.vx_arrays.specs.Maps.{AreEntries, map_tree}
 
 -- ---- what a plan says
 

@@ -1,5 +1,5 @@
 -- The children of a node of texts or of bytes: its offsets, and what stands behind them.
-use Rattle.std.proofs.Common.{take, drop, get_or, ◌<◌, ℕ, suc, ◌≡◌, ◌≢◌, ◌≤◌, ◌-◌, ◌^◌, List, [], ◌∷◌, Option, Some, None, Result, IfOk, IfErr, Bool, true, false, refl, sym, ap, ◌∙◌, subst, length, arith}
+use Rattle.std.proofs.Common.{take, drop, get_or, ◌<◌, ℕ, suc, ◌≡◌, ◌≢◌, ◌≤◌, ◌-◌, ◌^◌, List, [], ◌∷◌, Option, Some, None, Bool, true, false, refl, sym, ap, ◌∙◌, subst, length, arith}
 use Rattle.std.proofs.lemmas.List.{take_all}
 use Rattle.std.proofs.lemmas.Bool.{false≢true, iff_false, lt-ltb}
 use Rattle.std.specs.Prelude.{◌↔◌, IsTrue}
@@ -23,14 +23,11 @@ use Rattle.vx_array_tree.specs.Encodings.VarBins.{rows as rows_of_parts}
 use Rattle.vx_array_tree.specs.Place.{Place, place, numbers, is_len, before_validity, ptype_of}
 use Rattle.vx_array_tree.specs.Refused.{IsWellShaped}
 use Rattle.vx_array_tree.specs.Rows.{IsThere, validity, where_valid}
-use Rattle.vx_array_tree.specs.Sound.{IsSound, IsSoundNode}
+use Rattle.vx_array_tree.specs.Sound.{IsSoundNode}
 use Rattle.vx_array_tree.specs.Tree.{Tree, Trees, places, rows_below, rows_of, untold}
-use Rattle.vx_array_tree.proofs.Built.{sound_well_shaped}
 use Rattle.vx_array_tree.proofs.Options.{mapped, let_through}
 use Rattle.vx_arrays.specs.Validity.{IsValidity}
-use Rattle.vx_arrays.specs.Refused.{IsUnmade, IsOkOrMemory}
-use Rattle.vx_arrays.specs.VarBins.{varbin_head, varbin_node, varbin_tree, IsOfBytes, IsOfOffsets, IsParted}
-use Rattle.vx_arrays.specs.declared.error.ArrayError.{ArrayError}
+use Rattle.vx_arrays.specs.VarBins.{varbin_head, IsOfBytes, IsOfOffsets, IsParted}
 
 -- ---- what a plan says
 
@@ -234,25 +231,6 @@ module _ (d : Typ) (n : ℕ) (b : Buffer) (o : Tree) (vs : Trees) where
 
   pub shaped_planned : IsWellShaped (varbin_head d n b) (more o vs) → before_validity [] n (count vs) ≡ Some (places vs)
   shaped_planned s = (shaped_parted d n b o vs s).planned
-
--- ---- by the number of offsets
-
--- No node is made over no offsets.
-pub never_empty : (d : Typ) (b : Buffer) (o : Tree) (vs : Trees) → (label o).len ≡ 0 → IsWellShaped (varbin_head d ((label o).len - 1) b) (more o vs) → ⊥
-never_empty d b o vs e s = omega (arith, shaped_counted d ((label o).len - 1) b o vs s, e)
-
-pub never_sound_empty : (d : Typ) (b : Buffer) (o : Tree) (vs : Trees) → (label o).len ≡ 0 → IsSound (node (varbin_head d ((label o).len - 1) b) (more o vs)) → ⊥
-never_sound_empty d b o vs e s = never_empty d b o vs e (sound_well_shaped (varbin_head d ((label o).len - 1) b) (more o vs) s.0)
-
-module _ (r : Result Tree ArrayError) (d : Typ) (n : ℕ) (o : Tree) (b : Buffer) (v : Option Tree) (e : n ≡ (label o).len - 1) where
-  pub made_as : IfOk r (λ a. a ≡ varbin_node d n o b v) → IfOk r (λ a. a ≡ varbin_tree d o b v)
-  made_as h = subst (λ (k : ℕ). IfOk r (λ a. a ≡ varbin_node d k o b v)) e h
-
-  pub unmade_as : IfErr r (λ x. IsUnmade x (varbin_node d n o b v)) → IfErr r (λ x. IsUnmade x (varbin_tree d o b v))
-  unmade_as h = subst (λ (k : ℕ). IfErr r (λ x. IsUnmade x (varbin_node d k o b v))) e h
-
-  pub complete_as : (IsSound (varbin_node d n o b v) → IsOkOrMemory r) → IsSound (varbin_tree d o b v) → IsOkOrMemory r
-  complete_as h = subst (λ (k : ℕ). IsSound (varbin_node d k o b v) → IsOkOrMemory r) e h
 
 -- ---- what tests say of content
 

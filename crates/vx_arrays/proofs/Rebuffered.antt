@@ -1,7 +1,7 @@
 -- Arrays with other buffers, as their encodings make them.
 use Rattle.std.proofs.Common.{ℕ, suc, ◌≡◌, ◌≤◌, ◌-◌, take, drop, List, [], ◌∷◌, ◌++◌, Option, Some, None, Result, Ok, Err, IfOk, IfErr, length, get_or, option_map, refl, sym, ap, ◌∙◌, subst, arith}
 use Rattle.std.proofs.lemmas.Option.{same_Some}
-use Rattle.std.specs.Prelude.{IfSome, IsSomeAnd}
+use Rattle.std.specs.Prelude.{IfSome, IsOkUnless, IsSomeAnd}
 use Rattle.vx_buffer.specs.Buffer.{Buffer}
 use Rattle.vx_trees.specs.Rose.{node, end, more, label, below, count, roses_of}
 use Rattle.vx_types.specs.Kind as K
@@ -29,7 +29,7 @@ use Rattle.vx_arrays.specs.Decimals.{decimal_tree}
 use Rattle.vx_arrays.specs.NewBuffers.{rebuffered, with_buffers, RefusesBuffers}
 use Rattle.vx_arrays.specs.Nulls.{null_tree}
 use Rattle.vx_arrays.specs.Primitives.{primitive_tree}
-use Rattle.vx_arrays.specs.Refused.{IsUnmade, IsOkOrMemory}
+use Rattle.vx_arrays.specs.Refused.{IsMemory, IsUnmade, IsOkOrMemory}
 use Rattle.vx_arrays.specs.VarBins.{varbin_tree}
 use Rattle.vx_arrays.specs.VarBinViews.{varbinview_tree}
 use Rattle.vx_arrays.proofs.Parted.{first_and_behind, sound_counted}
@@ -155,6 +155,15 @@ module _ (h : Head) (ts : Trees) (bs : List Buffer) (e : rebuffered h.body bs �
   -- Without buffers such a node is what it was.
   pub bare_made : bs ≡ [] → with_buffers (node h ts) bs ≡ Some (node h ts)
   bare_made q = remade ∙ ap (λ (cs : List Buffer). option_map (λ (b : Body). node (record { dtype = h.dtype; len = h.len; stats = h.stats; body = b }) ts) (bufferless h.body cs)) q
+
+-- A want of memory is among the refusals, and is no other.
+pub memory_refused : (r : Result Tree ArrayError) (t : Tree) (bs : List Buffer) → IsOkUnless r OutOfMemory → IfErr r (λ x. RefusesBuffers x t bs)
+memory_refused (Ok a) t bs h = tt
+memory_refused (Err x) t bs h = subst (λ (y : ArrayError). RefusesBuffers y t bs) (sym h) tt
+
+pub memory_alone : (r : Result Tree ArrayError) → IsOkUnless r OutOfMemory → IsOkOrMemory r
+memory_alone (Ok a) h = tt
+memory_alone (Err x) h = subst (λ (y : ArrayError). IsMemory y) (sym h) tt
 
 -- ---- statistics
 

@@ -139,18 +139,5 @@ module _ (s : ℕ) (m : Nullability) (n : ℕ) (o : Tree) (vs : Trees) where
     λ h. v.1 (record { planned = (shaped_front h).1; allowed = λ j. h.allows (ap (λ k. suc k) j) }),
   )
 
--- ---- what is made of parts of that shape
-
-module _ (d : Typ) (s : ℕ) (m : Nullability) (n : ℕ) (o : Tree) (vs ts : Trees) (e : d ≡ node (fixed_size_list s m) (more (label o).dtype end)) (q : ts ≡ more o vs) where
-  pub made_shaped : IsWellShaped (fixed_size_list_head (label o).dtype s m n) (more o vs) → IsWellShaped (untold d n B.fixed_size_list) ts
-  made_shaped h =
-      subst (λ (x : Typ). IsWellShaped (untold x n B.fixed_size_list) ts) (sym e)
-      (subst (λ (us : Trees). IsWellShaped (fixed_size_list_head (label o).dtype s m n) us) (sym q) h)
-
-  pub made_tree : (t : Tree) → t ≡ node (untold d n B.fixed_size_list) ts → t ≡ node (fixed_size_list_head (label o).dtype s m n) (more o vs)
-  made_tree t h =
-      h ∙ ap (λ (x : Typ). node (untold x n B.fixed_size_list) ts) e
-      ∙ ap (λ (us : Trees). node (fixed_size_list_head (label o).dtype s m n) us) q
-
 -- What rows of lists of one size rest on.
 pub ruleset sized_lists = (sound_size, sound_some, sound_few, sound_elements, sound_planned, row_within, list_value, list_cells, elements_smaller)

@@ -111,16 +111,6 @@ never_two us d n l s = omega (arith, l, count-roses_of us, ap (λ (ts : Trees). 
 pub only_pushed : (none ts : Trees) (t : Tree) → none ≡ end → roses_list ts ≡ roses_list none ++ t ∷ [] → ts ≡ more t end
 only_pushed none ts t e q = sym (roses_of-roses_list ts) ∙ ap (λ (us : List Tree). roses_of us) (q ∙ ap (λ (us : Trees). roses_list us ++ t ∷ []) e)
 
--- The same of two, and of three.
-pub two_pushed : (none xs ys : Trees) (a b : Tree) → none ≡ end → roses_list xs ≡ roses_list none ++ a ∷ [] → roses_list ys ≡ roses_list xs ++ b ∷ [] → ys ≡ more a (more b end)
-two_pushed none xs ys a b e f g =
-    sym (roses_of-roses_list ys) ∙ ap (λ (us : List Tree). roses_of us) (g ∙ ap (λ (us : List Tree). us ++ b ∷ []) (f ∙ ap (λ (us : Trees). roses_list us ++ a ∷ []) e))
-
-pub three_pushed : (none xs ys zs : Trees) (a b c : Tree) → none ≡ end → roses_list xs ≡ roses_list none ++ a ∷ [] → roses_list ys ≡ roses_list xs ++ b ∷ [] → roses_list zs ≡ roses_list ys ++ c ∷ [] → zs ≡ more a (more b (more c end))
-three_pushed none xs ys zs a b c e f g h =
-    sym (roses_of-roses_list zs) ∙ ap (λ (us : List Tree). roses_of us)
-    (h ∙ ap (λ (us : List Tree). us ++ c ∷ []) (g ∙ ap (λ (us : List Tree). us ++ b ∷ []) (f ∙ ap (λ (us : Trees). roses_list us ++ a ∷ []) e)))
-
 pub tree_is : (x : Ext) (t : Tree) (n : ℕ) (ts : Trees) → n ≡ (label t).len → ts ≡ more t end → node (untold (node (extension x.id x.metadata) (more x.storage end)) n B.ext) ts ≡ extension_tree x t
 tree_is x t n ts l e = rw (l, e) refl
 

@@ -6,22 +6,21 @@ use Rattle.std.specs.Prelude.{◌↔◌, ◌⊎◌, IsTrue, is_some, if◌then�
 use Rattle.std.proofs.Common.{inl, inr}
 use Rattle.vx_trees.specs.Rose.{node, end, more, label, count, roses_of}
 use Rattle.vx_trees.specs.Walks.{nodes, nodes_of}
-use Rattle.vx_trees.proofs.Lists.{count-roses_of}
 use Rattle.vx_types.specs.Fits.{member}
 use Rattle.vx_types.specs.Kind.{Kind, primitive, union as union_kind}
 use Rattle.vx_trees.specs.Rose.{Roses}
 use Rattle.vx_types.specs.Parts.{Members}
 use Rattle.vx_types.specs.Typ.{Typ}
-use Rattle.vx_types.specs.Value.{Value, lone, null, opaque, union, natural}
+use Rattle.vx_types.specs.Value.{lone, null, opaque, union, natural}
 use Rattle.vx_types.specs.declared.nullability.Nullability.{Nullability}
 use Rattle.vx_types.specs.declared.ptype.PType.TheVariants.{U8}
 use Rattle.vx_array_tree.specs.Body as B
 use Rattle.vx_array_tree.specs.Encodings.Unions.{Content, HasMember, member_at, member_rows, plan, rows, rows_or_none, tags_of}
 use Rattle.vx_array_tree.specs.Place.{Place, place, exactly, places_at}
 use Rattle.vx_array_tree.specs.Refused.{IsWellShaped}
-use Rattle.vx_array_tree.specs.Rows.{Rows, first, rest, index_at, IsIndex, IsThere, where_valid, cells_where}
+use Rattle.vx_array_tree.specs.Rows.{Rows, first, index_at, IsIndex, IsThere, where_valid, cells_where}
 use Rattle.vx_array_tree.specs.Sound.{IsSoundNode}
-use Rattle.vx_array_tree.specs.Tree.{Head, Tree, Trees, cells, places, row_at, rows_below, rows_of, untold, valid_at}
+use Rattle.vx_array_tree.specs.Tree.{Head, Tree, Trees, cells, places, row_at, rows_below, rows_of, untold}
 use Rattle.vx_array_tree.proofs.Plans.{exactly_is}
 use Rattle.vx_arrays.specs.Places.{place_of}
 use Rattle.vx_arrays.specs.Unions.{IsTagged, union_head}

@@ -1,6 +1,6 @@
 -- What is made where an array of structures is asked for, and how its node is parted.
 use Rattle.std.specs.Prelude.{ℕ, Option, None, Some, if◌then◌else◌}
-use Rattle.vx_trees.specs.Rose.{node, end, more, label, count, roses_of}
+use Rattle.vx_trees.specs.Rose.{node, end, more, count, roses_of}
 use Rattle.vx_types.specs.Kind.{structure}
 use Rattle.vx_types.specs.Parts.{Fields}
 use Rattle.vx_types.specs.Typ.{Typ}

@@ -1,6 +1,6 @@
 -- What is made where an array of unions is asked for, and when its tags are right.
 use Rattle.std.specs.Prelude.{ℕ, List, is_some, IsTrue}
-use Rattle.vx_trees.specs.Rose.{node, end, more, label, roses_of}
+use Rattle.vx_trees.specs.Rose.{node, more, label, roses_of}
 use Rattle.vx_types.specs.Fits.{member}
 use Rattle.vx_types.specs.Kind.{union}
 use Rattle.vx_types.specs.Parts.{Members}

@@ -144,9 +144,14 @@ impl DictArray {
         ensures complete { IsSound (dict_tree codes values all_values_referenced) → IsOkOrMemory result }
     {
         let len = codes.len();
-        let dtype = raised_type(alloc, codes.dtype().nullability(), values.dtype())?;
-        let children = listed(alloc, codes, values, None)?;
-        DictArray::of_children(alloc, dtype, len, children, all_values_referenced)
+        let dtype = raised_type(alloc, codes.dtype().nullability(), values.dtype());
+        let children = listed(alloc, codes, values, None);
+        match (dtype, children) {
+            (Ok(dtype), Ok(children)) => {
+                DictArray::of_children(alloc, dtype, len, children, all_values_referenced)
+            }
+            _ => Err(ArrayError::OutOfMemory),
+        }
     }
 
     /// The array of a node of this type and length over these children, which holds this flag.
@@ -165,18 +170,17 @@ impl DictArray {
         ensures err { IfErr result (λ e. IsUnmade e (node (dict_head (typ dtype) len all_values_referenced) children)) }
         ensures complete { IsSound (node (dict_head (typ dtype) len all_values_referenced) children) → IsOkOrMemory result }
     {
-        let shaped = is_shaped(
-            alloc,
-            &dtype,
-            len,
-            all_values_referenced,
-            children.as_slice(),
-        )?;
-        let right = shaped && has_content(&dtype, len, all_values_referenced, children.as_slice());
-        let body = Body::Dict(DictData {
-            all_values_referenced,
-        });
-        over_children(dtype, len, body, children.into_vec(), shaped, right)
+        let flag = all_values_referenced;
+        match is_shaped(alloc, &dtype, len, flag, children.as_slice()) {
+            Ok(shaped) => {
+                let right = shaped && has_content(&dtype, len, flag, children.as_slice());
+                let body = Body::Dict(DictData {
+                    all_values_referenced,
+                });
+                over_children(dtype, len, body, children.into_vec(), shaped, right)
+            }
+            Err(error) => Err(error),
+        }
     }
 }
 

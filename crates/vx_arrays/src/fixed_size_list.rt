@@ -18,6 +18,7 @@ ghost use Rattle.vx_arrays.specs.Refused.{IsUnmade, IsOkOrMemory};
 
 use crate::array::Array;
 use crate::body::Body;
+use crate::construction::over_children;
 use crate::error::ArrayError;
 use crate::parts::{RowParts, where_there};
 use crate::validity::{is_validity, parted, validity_at, with_validity};
@@ -94,31 +95,16 @@ impl FixedSizeListArray {
         ensures err { IfErr result (λ e. IsUnmade e (fixed_size_list_tree elements size nullability len validity)) }
         ensures complete { IsSound (fixed_size_list_tree elements size nullability len validity) → IsOkOrMemory result }
     {
-        if !is_shaped(&elements, size, nullability, len, &validity) {
-            return Err(ArrayError::BadShape);
+        let shaped = is_shaped(&elements, size, nullability, len, &validity);
+        let dtype = list_type(alloc, elements.dtype(), size, nullability);
+        let children = with_validity(alloc, elements, validity);
+        match (dtype, children) {
+            (Ok(dtype), Ok(children)) => {
+                over_children(dtype, len, Body::FixedSizeList, children, shaped, true)
+            }
+            _ => Err(ArrayError::OutOfMemory),
         }
-        of_parts(alloc, elements, size, nullability, len, validity)
     }
-}
-
-// The array of parts that are of the shape.
-fn of_parts(
-    alloc: Global,
-    elements: Array,
-    size: u32,
-    nullability: Nullability,
-    len: usize,
-    validity: Option<Array>,
-) -> Result<Array, ArrayError>
-    requires shaped { IsWellShaped (fixed_size_list_head (label elements).dtype size nullability len) (more elements (option_trees validity)) }
-    requires below { EverywhereBelow IsSoundNode (more elements (option_trees validity)) }
-    ensures ok { IfOk result (λ a. a ≡ fixed_size_list_tree elements size nullability len validity) }
-    ensures sound { IfOk result IsSound }
-    ensures err { IsOkUnless result ArrayError.OutOfMemory }
-{
-    let dtype = list_type(alloc, elements.dtype(), size, nullability)?;
-    let children = with_validity(alloc, elements, validity)?;
-    Ok(Array::from_parts(dtype, len, Body::FixedSizeList, children))
 }
 
 // Whether parts are of the shape that the encoding asks for.

@@ -5,6 +5,7 @@ ghost use Rattle.vx_trees.specs.Everywhere.{EverywhereBelow};
 ghost use Rattle.vx_trees.specs.Rose.{count, end, more, roses_list, roses_of};
 ghost use Rattle.std.specs.Prelude.{◌++◌, ◌∷◌, []};
 ghost use Rattle.vx_array_tree.specs.Sound.{IsSoundNode};
+ghost use Rattle.vx_array_tree.specs.Tree.{option_trees};
 
 use crate::array::Array;
 use crate::error::ArrayError;
@@ -50,8 +51,29 @@ impl Arrays {
         ensures unchanged { OnErr result (self.new ≡ self.old) }
         ensures err { IsOkUnless result ArrayError.OutOfMemory }
     {
-        array.validate()?;
+        let _rows = array.len();
         self.items.push(array)?;
+        Ok(())
+    }
+
+    // One more array at the end, where it stands.
+    pub(crate) fn push_some(&mut self, array: Option<Array>) -> Result<(), ArrayError>
+        ensures ok { OnOk result (roses_list self.new ≡ roses_list self.old ++ roses_list (option_trees array)) }
+        ensures err { IsOkUnless result ArrayError.OutOfMemory }
+    {
+        match array {
+            None => Ok(()),
+            Some(array) => self.push(array),
+        }
+    }
+
+    // One more array in front.
+    pub(crate) fn put_first(&mut self, array: Array) -> Result<(), ArrayError>
+        ensures ok { OnOk result (self.new ≡ more array self.old) }
+        ensures err { IsOkUnless result ArrayError.OutOfMemory }
+    {
+        let _rows = array.len();
+        self.items.insert(0, array)?;
         Ok(())
     }
 

@@ -103,13 +103,12 @@ impl ListArray {
         ensures complete { IsSound (list_tree elements offsets nullability validity) → IsOkOrMemory result }
     {
         let len = offsets.len().saturating_sub(1);
-        let Ok(dtype) = list_type(alloc, elements.dtype(), nullability) else {
-            return Err(ArrayError::OutOfMemory);
-        };
-        let Ok(children) = listed(alloc, elements, offsets, validity) else {
-            return Err(ArrayError::OutOfMemory);
-        };
-        ListArray::of_children(dtype, len, children)
+        let dtype = list_type(alloc, elements.dtype(), nullability);
+        let children = listed(alloc, elements, offsets, validity);
+        match (dtype, children) {
+            (Ok(dtype), Ok(children)) => ListArray::of_children(dtype, len, children),
+            _ => Err(ArrayError::OutOfMemory),
+        }
     }
 
     /// The array of a node of this type and length over these children.

@@ -93,10 +93,32 @@ pub(crate) fn without_buffers(
     if !buffers.is_empty() {
         return Err(ArrayError::BadShape);
     }
-    let dtype = copied_type(alloc, dtype)?;
-    let children = copied_children(alloc, children)?;
-    let stats = StatsSet::new(alloc);
-    Ok(Array::with_parts(dtype, len, stats, body, children))
+    once_more(alloc, dtype, len, body, children)
+}
+
+// The array of a node once more, without statistics.
+fn once_more(
+    alloc: Global,
+    dtype: &DType,
+    len: usize,
+    body: Body,
+    children: &[Array],
+) -> Result<Array, ArrayError>
+    requires sound { IsSoundNode (untold (typ dtype.now) len (plain_body body)) (roses_of children.now) }
+    requires below { EverywhereBelow IsSoundNode (roses_of children.now) }
+    ensures ok { IfOk result (λ a. a ≡ node (untold (typ dtype.now) len (plain_body body)) (roses_of children.now)) }
+    ensures sound { IfOk result IsSound }
+    ensures err { IsOkUnless result ArrayError.OutOfMemory }
+{
+    let dtype = copied_type(alloc, dtype);
+    let children = copied_children(alloc, children);
+    match (dtype, children) {
+        (Ok(dtype), Ok(children)) => {
+            let stats = StatsSet::new(alloc);
+            Ok(Array::with_parts(dtype, len, stats, body, children))
+        }
+        _ => Err(ArrayError::OutOfMemory),
+    }
 }
 
 // The children of a node once more.

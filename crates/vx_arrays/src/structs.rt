@@ -19,6 +19,7 @@ ghost use Rattle.vx_arrays.specs.Structs.{IsOfFields, behind_validity, field_tre
 
 use crate::array::Array;
 use crate::body::Body;
+use crate::construction::over_children;
 use crate::error::ArrayError;
 use crate::list::Arrays;
 use crate::parts::{RowParts, where_there};
@@ -95,8 +96,10 @@ impl StructArray {
         ensures err { IfErr result (λ e. IsUnmade e (struct_tree fields nullability columns len validity)) }
         ensures complete { IsSound (struct_tree fields nullability columns len validity) → IsOkOrMemory result }
     {
-        let children = behind_validity(validity, columns)?;
-        over_columns(fields, nullability, len, children)
+        match behind_validity(validity, columns) {
+            Ok(children) => over_columns(fields, nullability, len, children),
+            Err(error) => Err(error),
+        }
     }
 }
 
@@ -113,11 +116,9 @@ fn over_columns(
     ensures err { IfErr result (λ e. IsUnmade e (node (struct_head fields nullability len) (roses_of children.items))) }
     ensures complete { IsSound (node (struct_head fields nullability len) (roses_of children.items)) → IsOkOrMemory result }
 {
-    if !are_shaped(&fields, nullability, len, children.as_slice()) {
-        return Err(ArrayError::BadShape);
-    }
+    let shaped = are_shaped(&fields, nullability, len, children.as_slice());
     let dtype = DType::Struct(fields, nullability);
-    Ok(Array::from_parts(dtype, len, Body::Struct, children))
+    over_children(dtype, len, Body::Struct, children, shaped, true)
 }
 
 // How many fields a type of structures has.
@@ -201,13 +202,13 @@ fn behind_validity(validity: Option<Array>, columns: Arrays) -> Result<Vec<Array
     ensures sound { IfOk result (λ children. EverywhereBelow IsSoundNode (roses_of children.items)) }
     ensures err { IsOkUnless result ArrayError.OutOfMemory }
 {
-    let mut children = columns.into_vec();
-    match validity {
-        None => Ok(children),
-        Some(array) => {
-            array.validate()?;
-            children.insert(0, array)?;
-            Ok(children)
-        }
+    let mut children = columns;
+    let put = match validity {
+        None => Ok(()),
+        Some(array) => children.put_first(array),
+    };
+    match put {
+        Ok(()) => Ok(children.into_vec()),
+        Err(error) => Err(error),
     }
 }

@@ -79,8 +79,10 @@ impl UnionArray {
     {
         let len = type_ids.len();
         let dtype = DType::Union(variants, type_ids.dtype().nullability());
-        let children = behind_tags(type_ids, children)?;
-        over_tags(dtype, len, children)
+        match behind_tags(type_ids, children) {
+            Ok(children) => over_tags(dtype, len, children),
+            Err(error) => Err(error),
+        }
     }
 
     /// The array of a node of this type and length over these children.
@@ -115,10 +117,11 @@ fn behind_tags(type_ids: Array, members: Arrays) -> Result<Vec<Array>, ArrayErro
     ensures sound { IfOk result (λ children. EverywhereBelow IsSoundNode (roses_of children.items)) }
     ensures err { IsOkUnless result ArrayError.OutOfMemory }
 {
-    let mut children = members.into_vec();
-    type_ids.validate()?;
-    children.insert(0, type_ids)?;
-    Ok(children)
+    let mut children = members;
+    match children.put_first(type_ids) {
+        Ok(()) => Ok(children.into_vec()),
+        Err(error) => Err(error),
+    }
 }
 
 // The tags among the children of a node of this type and length.

@@ -17,6 +17,7 @@ ghost use Rattle.vx_arrays.specs.Validity.{IsValidity, all_invalid};
 use crate::array::Array;
 use crate::body::Body;
 use crate::bool::BoolArray;
+use crate::construction::over_children;
 use crate::error::ArrayError;
 use crate::list::Arrays;
 use crate::place::stands_at;
@@ -79,11 +80,11 @@ pub(crate) fn only_validity(
     ensures children { IfOk result (λ children. roses_of children.items ≡ option_trees validity) }
     ensures err { IsOkUnless result ArrayError.OutOfMemory }
 {
-    let mut children = Vec::new(alloc);
-    if let Some(array) = validity {
-        children.push(array)?;
+    let mut children = Arrays::new(alloc);
+    match children.push_some(validity) {
+        Ok(()) => Ok(children.into_vec()),
+        Err(error) => Err(error),
     }
-    Ok(children)
 }
 
 // The array of a node that has at most a validity below and no rules on its content, which is of its encoding's shape
@@ -104,11 +105,10 @@ pub(crate) fn over_validity(
     ensures err { IfErr result (λ e. IsUnmade e (node (untold (typ dtype) len (plain_body body)) (option_trees validity))) }
     ensures complete { IsSound (node (untold (typ dtype) len (plain_body body)) (option_trees validity)) → IsOkOrMemory result }
 {
-    if !shaped {
-        return Err(ArrayError::BadShape);
+    match only_validity(alloc, validity) {
+        Ok(children) => over_children(dtype, len, body, children, shaped, true),
+        Err(error) => Err(error),
     }
-    let children = only_validity(alloc, validity)?;
-    Ok(Array::from_parts(dtype, len, body, children))
 }
 
 // Whether arrays are the validity of so many rows, or none: what stands behind a node's other children.
@@ -138,14 +138,12 @@ pub(crate) fn listed(
     ensures err { IsOkUnless result ArrayError.OutOfMemory }
 {
     let mut children = Arrays::new(alloc);
-    children.push(first)?;
-    children.push(second)?;
-    match validity {
-        None => Ok(children),
-        Some(array) => {
-            children.push(array)?;
-            Ok(children)
-        }
+    let one = children.push(first);
+    let two = children.push(second);
+    let last = children.push_some(validity);
+    match (one, two, last) {
+        (Ok(()), Ok(()), Ok(())) => Ok(children),
+        _ => Err(ArrayError::OutOfMemory),
     }
 }
 
@@ -160,24 +158,14 @@ pub(crate) fn listed_by_three(
     ensures children { IfOk result (λ children. children ≡ more first (more second (more third (option_trees validity)))) }
     ensures err { IsOkUnless result ArrayError.OutOfMemory }
 {
-    let Ok(front) = listed(alloc, first, second, Some(third)) else {
-        return Err(ArrayError::OutOfMemory);
-    };
-    with_last(front, validity)
-}
-
-// A list of children with one more behind them, where it stands.
-fn with_last(children: Arrays, last: Option<Array>) -> Result<Arrays, ArrayError>
-    ensures children { IfOk result (λ all. roses_list all ≡ roses_list children ++ roses_list (option_trees last)) }
-    ensures err { IsOkUnless result ArrayError.OutOfMemory }
-{
-    let mut all = children;
-    match last {
-        None => Ok(all),
-        Some(array) => {
-            all.push(array)?;
-            Ok(all)
-        }
+    let mut children = Arrays::new(alloc);
+    let one = children.push(first);
+    let two = children.push(second);
+    let three = children.push(third);
+    let last = children.push_some(validity);
+    match (one, two, three, last) {
+        (Ok(()), Ok(()), Ok(()), Ok(())) => Ok(children),
+        _ => Err(ArrayError::OutOfMemory),
     }
 }
 
@@ -201,12 +189,13 @@ pub(crate) fn with_validity(
     ensures children { IfOk result (λ children. roses_of children.items ≡ more first (option_trees validity)) }
     ensures err { IsOkUnless result ArrayError.OutOfMemory }
 {
-    let mut children = Vec::new(alloc);
-    children.push(first)?;
-    if let Some(array) = validity {
-        children.push(array)?;
+    let mut children = Arrays::new(alloc);
+    let one = children.push(first);
+    let last = children.push_some(validity);
+    match (one, last) {
+        (Ok(()), Ok(())) => Ok(children.into_vec()),
+        _ => Err(ArrayError::OutOfMemory),
     }
-    Ok(children)
 }
 
 /// The validity of `len` rows of which none is there: a bit of 0 for each, in the fewest bytes.

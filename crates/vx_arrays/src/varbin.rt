@@ -1,6 +1,6 @@
 //! Arrays of texts or of bytes by offsets.
 
-ghost use Rattle.std.specs.Prelude.{suc, ◌^◌, ◌≡◌, ◌<◌, ◌≤◌, ◌↔◌, ◌∷◌, IfOk, IfErr, OnOk, IsOkUnless, IsTrue, Some};
+ghost use Rattle.std.specs.Prelude.{suc, ◌^◌, ◌-◌, ◌≡◌, ◌<◌, ◌≤◌, ◌↔◌, ◌∷◌, IfOk, IfErr, OnOk, IsOkUnless, IsTrue, Some};
 ghost use Rattle.vx_trees.specs.Everywhere.{EverywhereBelow};
 ghost use Rattle.vx_trees.specs.Rose.{label, more, node, roses_of};
 ghost use Rattle.vx_buffer.specs.Buffer.{Buffer};
@@ -16,7 +16,7 @@ ghost use Rattle.vx_arrays.specs.Compared.{compared_body};
 ghost use Rattle.vx_arrays.specs.NewBuffers.{RefusesBuffers, with_buffers};
 ghost use Rattle.vx_arrays.specs.Parts.{lone_mark};
 ghost use Rattle.vx_arrays.specs.Refused.{IsUnmade, IsOkOrMemory};
-ghost use Rattle.vx_arrays.specs.VarBins.{IsOfBytes, varbin_head, varbin_node, varbin_tree};
+ghost use Rattle.vx_arrays.specs.VarBins.{IsOfBytes, varbin_head, varbin_tree};
 
 use crate::array::Array;
 use crate::body::Body;
@@ -179,34 +179,28 @@ impl VarBinArray {
         ensures err { IfErr result (λ e. IsUnmade e (varbin_tree (typ dtype) offsets bytes validity)) }
         ensures complete { IsSound (varbin_tree (typ dtype) offsets bytes validity) → IsOkOrMemory result }
     {
-        match offsets.len().checked_sub(1) {
-            None => Err(ArrayError::BadShape),
-            Some(len) => of_parts(alloc, dtype, len, offsets, bytes, validity),
+        let len = offsets.len().saturating_sub(1);
+        let shaped = are_parts(&dtype, len, &offsets, &validity);
+        let right = shaped && has_content(&dtype, len, &offsets, &bytes, &validity);
+        let body = Body::VarBin(VarBinData { bytes });
+        match with_validity(alloc, offsets, validity) {
+            Ok(children) => over_children(dtype, len, body, children, shaped, right),
+            Err(error) => Err(error),
         }
     }
 }
 
-// The array of so many rows, whose bytes stand in the buffer.
-fn of_parts(
-    alloc: Global,
-    dtype: DType,
-    len: usize,
-    offsets: Array,
-    bytes: BufferHandle,
-    validity: Option<Array>,
-) -> Result<Array, ArrayError>
-    requires counted { (label offsets).len ≡ suc len }
-    requires few { suc len < 2 ^ 64 }
-    ensures ok { IfOk result (λ a. a ≡ varbin_node (typ dtype) len offsets bytes validity) }
-    ensures sound { IfOk result IsSound }
-    ensures err { IfErr result (λ e. IsUnmade e (varbin_node (typ dtype) len offsets bytes validity)) }
-    ensures complete { IsSound (varbin_node (typ dtype) len offsets bytes validity) → IsOkOrMemory result }
+// Whether parts are of the shape that the encoding asks for, where there is one row less than offsets: over no offsets
+// there is none.
+fn are_parts(dtype: &DType, len: usize, offsets: &Array, validity: &Option<Array>) -> bool
+    requires { len ≡ (label offsets.now).len - 1 }
+    ensures shaped { (b : Buffer) → IsTrue result ↔ IsWellShaped (varbin_head (typ dtype.now) len b) (more offsets.now (option_trees validity.now)) }
+    ensures sound { IsTrue result → EverywhereBelow IsSoundNode (more offsets.now (option_trees validity.now)) }
 {
-    let shaped = is_shaped(&dtype, len, &offsets, &validity);
-    let right = shaped && has_content(&dtype, len, &offsets, &bytes, &validity);
-    let children = with_validity(alloc, offsets, validity)?;
-    let body = Body::VarBin(VarBinData { bytes });
-    over_children(dtype, len, body, children, shaped, right)
+    if offsets.len() == 0 {
+        return false;
+    }
+    is_shaped(dtype, len, offsets, validity)
 }
 
 // Whether parts are of the shape that the encoding asks for.

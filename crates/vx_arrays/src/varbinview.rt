@@ -21,6 +21,7 @@ ghost use Rattle.vx_arrays.specs.VarBinViews.{IsRight, varbinview_head, varbinvi
 
 use crate::array::Array;
 use crate::body::Body;
+use crate::construction::over_children;
 use crate::error::ArrayError;
 use crate::new_buffers::{copied_type, copied_validity};
 use crate::parts::LoneRow;
@@ -295,13 +296,13 @@ impl VarBinViewArray {
         ensures complete { IsSound (varbinview_tree (typ dtype) len buffers.items views validity) → IsOkOrMemory result }
     {
         let body = VarBinViewData { buffers, views };
-        if !body.is_shaped(&dtype, len, &validity) {
-            return Err(ArrayError::BadShape);
+        let shaped = body.is_shaped(&dtype, len, &validity);
+        let right = shaped && body.has_content(&dtype, len, &validity);
+        match only_validity(alloc, validity) {
+            Ok(children) => {
+                over_children(dtype, len, Body::VarBinView(body), children, shaped, right)
+            }
+            Err(error) => Err(error),
         }
-        if !body.has_content(&dtype, len, &validity) {
-            return Err(ArrayError::BadContent);
-        }
-        let children = only_validity(alloc, validity)?;
-        Ok(Array::from_parts(dtype, len, Body::VarBinView(body), children))
     }
 }

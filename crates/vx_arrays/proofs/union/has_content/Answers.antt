@@ -4,7 +4,6 @@ use Rattle.std.proofs.lemmas.Bool.{false≢true, iff_false}
 use Rattle.std.specs.Prelude.{refl}
 use Rattle.vx_trees.specs.Rose.{roses_of}
 use Rattle.vx_types.specs.Seen.{typ}
-use Rattle.vx_array_tree.specs.Encodings.Unions.{tags_of}
 use Rattle.vx_array_tree.specs.Tree.{rows_of}
 use Rattle.vx_arrays.specs.Unions.{IsTagged}
 use Rattle.vx_arrays.proofs.Tagged.{all_tagged, one_more, one_untagged}

@@ -1,11 +1,8 @@
 -- The row is the one of the member that the tag names, under the tag.
-use Rattle.std.proofs.Common.{◌≡◌, Option, Some, None, option_map, sym, ap, ◌∙◌}
+use Rattle.std.proofs.Common.{option_map, sym, ap, ◌∙◌}
 use Rattle.vx_trees.specs.Rose.{roses_of}
 use Rattle.vx_types.specs.Seen.{typ}
 use Rattle.vx_types.specs.Fits.{member}
-use Rattle.vx_types.specs.Value.{natural}
-use Rattle.vx_array_tree.specs.Encodings.Unions.{tags_of}
-use Rattle.vx_array_tree.specs.Tree.{Tree, row_at}
 use Rattle.vx_arrays.proofs.Tagged.{no_member, tagged_value, tagged_cells, tagged_there, tagged_smaller}
 use Rattle.vx_arrays.proofs.union.tagged_at.Goals as goal
 

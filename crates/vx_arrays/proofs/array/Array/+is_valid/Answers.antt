@@ -1,5 +1,5 @@
 -- A row of a dictionary is there where its code and the value that this names are.
-use Rattle.std.proofs.Common.{arith, ap, sym, ◌∙◌, List, Some}
+use Rattle.std.proofs.Common.{arith, ap, sym, ◌∙◌, List}
 use Rattle.vx_trees.specs.Rose.{roses_of}
 use Rattle.vx_types.specs.Seen.{typ}
 use Rattle.vx_array_tree.specs.Tree.{Tree}

@@ -7,7 +7,7 @@ use Rattle.vx_arrays.proofs.list.Arrays.push.Goals as goal
 
 pub invariant_of-self-2 : goal.invariant_of-self-2
 invariant_of-self-2 c =
-    everywhere_below-snoc IsSoundNode c.self.inside.items.items c.push.new.self.items c.args.array c.self.invariant c.validate.ensures.sound c.in_ok-push.ensures.items
+    everywhere_below-snoc IsSoundNode c.self.inside.items.items c.push.new.self.items c.args.array c.self.invariant c.len-rows.ensures.sound c.in_ok-push.ensures.items
 
 pub returns-clause-ok : goal.returns-clause-ok
 returns-clause-ok c =

@@ -1,5 +1,4 @@
 -- A row's elements begin where they end, or before.
-use Rattle.std.proofs.Common.{◌≤◌}
 use Rattle.vx_trees.specs.Rose.{roses_of}
 use Rattle.vx_types.specs.Seen.{typ}
 use Rattle.vx_arrays.specs.Parts.{parts_cells, parts_value}

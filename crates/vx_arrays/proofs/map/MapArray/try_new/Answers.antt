@@ -1,11 +1,9 @@
 -- The entries are the only child.
 use Rattle.std.proofs.Common.{◌≡◌, ◌∙◌, IfOk, IfErr, ap, subst}
-use Rattle.vx_trees.specs.Rose.{label}
 use Rattle.vx_types.specs.Typ.{Typ}
 use Rattle.vx_types.specs.Words.{nullability}
 use Rattle.vx_array_tree.specs.Sound.{IsSound}
 use Rattle.vx_array_tree.specs.Tree.{Tree}
-use Rattle.vx_arrays.specs.Maps.{map_tree}
 use Rattle.vx_arrays.specs.Refused.{IsUnmade, IsOkOrMemory}
 use Rattle.vx_arrays.proofs.Mapped.{tree_is, only_pushed}
 use Rattle.vx_arrays.proofs.map.MapArray.try_new.Goals as goal
