@@ -2,7 +2,7 @@
 
 ghost use Rattle.std.specs.Prelude.{◌≡◌, ◌<◌, ◌≤◌, ◌↔◌, ◌++◌, ◌∷◌, ℕ, [], Some, false, IfErr, IfOk, IsTrue, IsOkUnless, length};
 ghost use Rattle.vx_trees.specs.Everywhere.{EverywhereBelow};
-ghost use Rattle.vx_trees.specs.Rose.{count, more, node, roses_list, roses_of};
+ghost use Rattle.vx_trees.specs.Rose.{count, end, more, node, roses_list, roses_of};
 ghost use Rattle.vx_types.specs.Seen.{typ};
 ghost use Rattle.vx_array_tree.specs.Place.{before_validity};
 ghost use Rattle.vx_array_tree.specs.Refused.{IsWellShaped};
@@ -80,10 +80,21 @@ pub(crate) fn only_validity(
     ensures children { IfOk result (λ children. roses_of children.items ≡ option_trees validity) }
     ensures err { IsOkUnless result ArrayError.OutOfMemory }
 {
-    let mut children = Arrays::new(alloc);
-    match children.push_some(validity) {
-        Ok(()) => Ok(children.into_vec()),
-        Err(error) => Err(error),
+    // Most nodes of wide tables have a validity alone, so the list has room for no more.
+    match validity {
+        None => Ok(Vec::new(alloc)),
+        Some(array) => only_child(alloc, array),
+    }
+}
+
+// A list of one array, with room for no more.
+fn only_child(alloc: Global, array: Array) -> Result<Vec<Array>, ArrayError>
+    ensures children { IfOk result (λ children. roses_of children.items ≡ more array end) }
+    ensures err { IsOkUnless result ArrayError.OutOfMemory }
+{
+    match Vec::from_array(alloc, [array]) {
+        Ok(children) => Ok(children),
+        Err(_) => Err(ArrayError::OutOfMemory),
     }
 }
 
