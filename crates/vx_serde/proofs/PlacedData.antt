@@ -15,39 +15,12 @@ pub data_end-least : (o : SerializeOptions) (p : ℕ) (bs : List Buffer) → p �
 data_end-least o p [] = omega arith
 data_end-least o p (b ∷ bs) = omega (arith, data_end-least o (p + pad o b.exponent p + length b.bytes) bs)
 
--- nor does the first of those that are left end later than all of them
+-- and the first of those that are left ends no later than all of them
 pub data_end-next : (o : SerializeOptions) (p : ℕ) (bs : List Buffer) (i : ℕ) (b : Buffer) → i < length bs → b ≡ get_or bs i b → p + pad o b.exponent p + length b.bytes ≤ data_end o p (drop i bs)
 data_end-next o p bs i b h e =
     rw (drop-cons bs i b)
     (let P : Buffer → Type 0 = λ d. p + pad o b.exponent p + length b.bytes ≤ data_end o p (d ∷ drop (suc i) bs) in
     subst P e (data_end-least o (p + pad o b.exponent p + length b.bytes) (drop (suc i) bs)))
-
--- the first of those that are left ends no later than all of them
-pub data_end-first : (o : SerializeOptions) (p : ℕ) (bs left : List Buffer) (b : Buffer) → bs ≡ b ∷ left → p + pad o b.exponent p + length b.bytes ≤ data_end o p bs
-data_end-first o p bs left b e =
-    let P : List Buffer → Type 0 = λ z. p + pad o b.exponent p + length b.bytes ≤ data_end o p z in
-    subst P (sym e) (data_end-least o (p + pad o b.exponent p + length b.bytes) left)
-
--- ---- buffers behind their pads
-
--- One buffer more, behind its pad.
-module _ (o : SerializeOptions) (p next count : ℕ) (bs left : List Buffer) (b : Buffer) (e : bs ≡ b ∷ left)
-    (padding : count ≡ pad o b.exponent p) (behind : next ≡ p + (count + length b.bytes)) where
-  place_is : next ≡ p + pad o b.exponent p + length b.bytes
-  place_is = omega (arith, padding, behind)
-
-  pub end-next : data_end o next left ≡ data_end o p bs
-  end-next = ap (λ n. data_end o n left) place_is ∙ ap (λ z. data_end o p z) (sym e)
-
-  pub data-next : (out padded all : List Buffer) (u : Buffer) → padded ≡ out ++ pad_buffers count → u ≡ unaligned b.bytes → all ≡ padded ++ u ∷ []
-      → all ++ data_buffers o next left ≡ out ++ data_buffers o p bs
-  data-next out padded all u f d g =
-      ap (λ z. z ++ data_buffers o next left) g
-      ∙ append_assoc padded (u ∷ []) (data_buffers o next left)
-      ∙ ap (λ z. z ++ (u ∷ data_buffers o next left)) f
-      ∙ append_assoc out (pad_buffers count) (u ∷ data_buffers o next left)
-      ∙ (λ i. out ++ (pad_buffers (padding i) ++ (d i ∷ data_buffers o (place_is i) left)))
-      ∙ ap (λ z. out ++ data_buffers o p z) (sym e)
 
 -- ---- bytes
 

@@ -19,28 +19,29 @@ ghost use Rattle.vx_serde.specs.KeptContext.{KeepsContext};
 ghost use Rattle.vx_serde.specs.WritingSteps.{RefusesNode, RefusesNodes, RefusesRoot, RefusesGathering, HasEntry};
 
 use crate::error::WireError;
+use crate::lent_buffers::LentBuffers;
 use std::alloc::Global;
 use vx_arrays::Array;
-use vx_buffer::{BufferError, BufferHandles};
+use vx_buffer::BufferError;
 use vx_encodings::has_message;
 use vx_registry::{ArrayContext, ArraySession};
 use vx_types::Id;
 
-/// The buffers of nodes, and the numbers of their encodings in a context, both in preorder.
+/// The buffers of nodes, lent, and the numbers of their encodings in a context, both in preorder.
 #[derive(Drop)]
-pub(crate) struct Gathered {
-    pub(crate) buffers: BufferHandles,
+pub(crate) struct Gathered<'a> {
+    pub(crate) buffers: LentBuffers<'a>,
     pub(crate) encodings: Vec<u16>,
 }
 
-impl Gathered {
+impl<'a> Gathered<'a> {
     /// Those of no node.
-    pub(crate) fn new(alloc: Global) -> Gathered
+    pub(crate) fn new(alloc: Global) -> Gathered<'a>
         ensures buffers { result.buffers ≡ [] }
         ensures encodings { result.encodings.items ≡ [] }
     {
         Gathered {
-            buffers: BufferHandles::new(alloc),
+            buffers: LentBuffers::new(alloc),
             encodings: Vec::new(alloc),
         }
     }
@@ -112,22 +113,22 @@ fn encoding_number(
 }
 
 /// The buffers of an array's root, behind those that were found.
-fn push_own(alloc: Global, array: &Array, found: &mut BufferHandles) -> Result<(), BufferError>
+fn push_own<'a>(array: &'a Array, found: &mut LentBuffers<'a>) -> Result<(), BufferError>
     ensures { OnOk result (found.new ≡ found.old ++ buffers_of (label array.now).body) }
 {
     for i in 0..array.nbuffers() {
-        found.push(array.buffer(i).clone(alloc)?)?;
+        found.push(array.buffer(i))?;
     }
     Ok(())
 }
 
 /// What an array's root brings along, behind what was found.
-fn push_root(
+fn push_root<'a>(
     alloc: Global,
-    array: &Array,
+    array: &'a Array,
     arrays: &ArraySession,
     ctx: &mut ArrayContext,
-    found: &mut Gathered,
+    found: &mut Gathered<'a>,
 ) -> Result<(), WireError>
     ensures buffers { OnOk result (found.new.buffers ≡ found.old.buffers ++ buffers_of (label array.now).body) }
     ensures encodings { (more : List (List ℕ)) → OnOk result (found.new.encodings.items ≡ found.old.encodings.items ++ index_of (array_id array.now) (ctx.new.ids ++ more) ∷ []) }
@@ -139,7 +140,7 @@ fn push_root(
 {
     let encoding = encoding_number(alloc, array, arrays, ctx)?;
     found.encodings.push(encoding)?;
-    push_own(alloc, array, &mut found.buffers)?;
+    push_own(array, &mut found.buffers)?;
     Ok(())
 }
 
@@ -148,13 +149,13 @@ fn push_root(
 /// `NotRegistered` where nothing writes the arrays of a node's encoding, `NotPermitted` where the context does not take
 /// an identifier.
 #[tactic(auto, using(vx_trees::proofs::Roses::roses))]
-pub(crate) fn gather(
+pub(crate) fn gather<'a>(
     alloc: Global,
-    array: &Array,
+    array: &'a Array,
     arrays: &ArraySession,
     room: usize,
     ctx: &mut ArrayContext,
-    found: &mut Gathered,
+    found: &mut Gathered<'a>,
 ) -> Result<(), WireError>
     ensures buffers { (s : SessionMeaning) → OnOk result (found.new.buffers ≡ found.old.buffers ++ buffers_in (wire codec s array.now)) }
     ensures encodings { (s : SessionMeaning) (more : List (List ℕ)) → OnOk result (found.new.encodings.items ≡ found.old.encodings.items ++ encodings_in (ctx.new.ids ++ more) (wire codec s array.now)) }

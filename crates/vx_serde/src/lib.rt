@@ -8,6 +8,7 @@ mod decoding;
 mod error;
 mod gathering;
 pub mod laws;
+mod lent_buffers;
 mod limits;
 mod message;
 mod nodes;

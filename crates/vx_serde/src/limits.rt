@@ -3,6 +3,7 @@
 ghost use Rattle.std.specs.Prelude.{◌≡◌, ◌≤◌, ◌<◌, ◌^◌, ◌-◌, ◌↔◌, IsTrue, All, length};
 ghost use Rattle.vx_wire_tree.specs.Limits.{IsDescribable, AreDescribable};
 
+use crate::lent_buffers::LentBuffers;
 use vx_buffer::BufferHandle;
 
 /// How many levels of nodes a written tree may have.
@@ -32,11 +33,11 @@ fn is_describable(buffer: &BufferHandle) -> bool
 }
 
 /// Whether a descriptor can tell each of these buffers: its exponent and its length.
-pub(crate) fn are_describable(buffers: &[BufferHandle]) -> bool
+pub(crate) fn are_describable(buffers: &LentBuffers<'_>) -> bool
     ensures { IsTrue result ↔ AreDescribable buffers.now }
 {
-    for buffer in buffers {
-        if !is_describable(buffer) {
+    for i in 0..buffers.len() {
+        if !is_describable(buffers.get(i)) {
             return false;
         }
     }

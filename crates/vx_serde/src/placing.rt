@@ -6,10 +6,11 @@ ghost use Rattle.vx_serde.specs.MessageValue.{descriptor_bytes, descriptors_byte
 ghost use Rattle.vx_serde.specs.Placing.{pad, descriptors_from, data_end};
 ghost use Rattle.vx_serde.specs.WrittenBuffers.{pad_buffers, data_buffers, greatest_exponent};
 
+use crate::lent_buffers::LentBuffers;
 use crate::message::Descriptor;
 use crate::options::SerializeOptions;
 use std::alloc::{AllocError, Global};
-use vx_buffer::{Alignment, BufferError, BufferHandle, BufferHandles, ByteBuffer, ByteBuffers};
+use vx_buffer::{Alignment, BufferError, BufferHandle, ByteBuffer, ByteBuffers};
 
 /// Descriptors as bytes, and the position where the last buffer ends.
 #[derive(Drop)]
@@ -64,7 +65,7 @@ fn push_descriptor(descriptor: Descriptor, out: &mut Vec<u8>) -> Result<(), Allo
 pub(crate) fn describe(
     alloc: Global,
     options: &SerializeOptions,
-    buffers: &[BufferHandle],
+    buffers: &LentBuffers<'_>,
 ) -> Result<Option<LaidOut>, AllocError>
     requires { AreDescribable buffers.now }
     ensures descriptors { IfOk result (λ o. IfSome o (λ p. p.descriptors.items ≡ descriptors_bytes (descriptors_from options.now options.now.offset buffers.now))) }
@@ -73,7 +74,8 @@ pub(crate) fn describe(
 {
     let mut descriptors = Vec::new(alloc);
     let mut position = options.offset;
-    for buffer in buffers {
+    for i in 0..buffers.len() {
+        let buffer = buffers.get(i);
         let descriptor = descriptor_at(options, position, buffer);
         let size = descriptor.padding as usize + descriptor.len as usize;
         let Some(end) = position.checked_add(size) else {
@@ -117,32 +119,34 @@ pub(crate) fn push_pad(
 pub(crate) fn push_data(
     alloc: Global,
     options: &SerializeOptions,
-    buffers: BufferHandles,
+    buffers: &LentBuffers<'_>,
     out: &mut ByteBuffers,
 ) -> Result<(), BufferError>
-    requires describable { AreDescribable buffers }
-    requires fits { data_end options.now options.now.offset buffers < 2 ^ 64 }
-    ensures { OnOk result (out.new ≡ out.old ++ data_buffers options.now options.now.offset buffers) }
+    requires describable { AreDescribable buffers.now }
+    requires fits { data_end options.now options.now.offset buffers.now < 2 ^ 64 }
+    ensures { OnOk result (out.new ≡ out.old ++ data_buffers options.now options.now.offset buffers.now) }
 {
     let mut position = options.offset;
-    for buffer in buffers.into_vec() {
+    for i in 0..buffers.len() {
+        let buffer = buffers.get(i);
         let padding = pad_at(options, buffer.alignment().exponent(), position);
         push_pad(alloc, padding, out)?;
         position += padding + buffer.len();
-        let data = buffer.into_host_sync();
+        let data = buffer.to_host_sync(alloc)?;
         out.push(data.aligned(Alignment::none()))?;
     }
     Ok(())
 }
 
 /// The greatest alignment of these buffers, at least 8.
-pub(crate) fn greatest_alignment(buffers: &[BufferHandle]) -> Alignment
+pub(crate) fn greatest_alignment(buffers: &LentBuffers<'_>) -> Alignment
     ensures { result ≡ greatest_exponent 3 buffers.now }
 {
     let mut greatest = eight();
-    for buffer in buffers {
-        if !greatest.is_aligned_to(buffer.alignment()) {
-            greatest = buffer.alignment();
+    for i in 0..buffers.len() {
+        let alignment = buffers.get(i).alignment();
+        if !greatest.is_aligned_to(alignment) {
+            greatest = alignment;
         }
     }
     greatest

@@ -72,6 +72,8 @@ pub fn recode(
         Ok(array) => array,
         Err(e) => return Err(e),
     };
+    // The list of what was read is not needed any more, and the new blob takes its room.
+    drop(serialized);
     let buffers = match array.serialize(alloc, ctx, session, options) {
         Ok(buffers) => buffers,
         Err(e) => return Err(e),

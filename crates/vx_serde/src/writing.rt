@@ -33,13 +33,14 @@ use crate::array_kind::ArrayKind;
 use crate::blocks::{TABLE, VECTOR, write_elements};
 use crate::error::WireError;
 use crate::gathering::{Gathered, gather};
+use crate::lent_buffers::LentBuffers;
 use crate::limits::{MAX_BUFFERS, MAX_LEVELS, MAX_NODES, are_describable};
 use crate::nodes::{Passed, write_node};
 use crate::options::SerializeOptions;
 use crate::placing::{LaidOut, describe, greatest_alignment, pad_at, push_data, push_pad};
 use std::alloc::Global;
 use vx_arrays::Array;
-use vx_buffer::{BufferError, BufferHandles, ByteBuffer, ByteBuffers};
+use vx_buffer::{BufferError, ByteBuffer, ByteBuffers};
 use vx_flat::{Builder, FlatBuffer, FlatError, LinkKind, verify_uncounted};
 use vx_registry::{ArrayContext, ArraySession};
 
@@ -47,19 +48,19 @@ use vx_registry::{ArrayContext, ArraySession};
 fn blob_buffers(
     alloc: Global,
     options: &SerializeOptions,
-    buffers: BufferHandles,
+    buffers: &LentBuffers<'_>,
     padding: usize,
     message: Vec<u8>,
 ) -> Result<ByteBuffers, BufferError>
-    requires describable { AreDescribable buffers }
-    requires fits { data_end options.now options.now.offset buffers < 2 ^ 64 }
+    requires describable { AreDescribable buffers.now }
+    requires fits { data_end options.now options.now.offset buffers.now < 2 ^ 64 }
     requires short { length message.items < 2 ^ 31 }
-    ensures { IfOk result (λ bs. bs ≡ record { bytes = []; exponent = greatest_exponent 3 buffers } ∷ (data_buffers options.now options.now.offset buffers
+    ensures { IfOk result (λ bs. bs ≡ record { bytes = []; exponent = greatest_exponent 3 buffers.now } ∷ (data_buffers options.now options.now.offset buffers.now
         ++ (pad_buffers padding ++ (unaligned message.items ∷ unaligned (to_le_bytes w32 (length message.items)) ∷ [])))) }
 {
     let word = Vec::from_slice(alloc, &(message.len() as u32).to_le_bytes())?;
     let mut out = ByteBuffers::new(alloc);
-    out.push(ByteBuffer::empty().aligned(greatest_alignment(buffers.as_slice())))?;
+    out.push(ByteBuffer::empty().aligned(greatest_alignment(buffers)))?;
     push_data(alloc, options, buffers, &mut out)?;
     push_pad(alloc, padding, &mut out)?;
     out.push(ByteBuffer::from_vec(message)?)?;
@@ -144,13 +145,13 @@ fn write_message(
 
 /// What an array's nodes bring along in preorder, and where its buffers go. Its identifiers are taken into the context
 /// in preorder.
-fn place(
+fn place<'a>(
     alloc: Global,
-    array: &Array,
+    array: &'a Array,
     arrays: &ArraySession,
     ctx: &mut ArrayContext,
     options: &SerializeOptions,
-) -> Result<(Gathered, LaidOut), WireError>
+) -> Result<(Gathered<'a>, LaidOut), WireError>
     ensures buffers { (s : SessionMeaning) → IfOk result (λ p. p.0.buffers ≡ buffers_in (wire codec s array.now)) }
     ensures encodings { (s : SessionMeaning) → IfOk result (λ p. p.0.encodings.items ≡ encodings_in ctx.new.ids (wire codec s array.now)) }
     ensures placed { (s : SessionMeaning) → IfOk result (λ p. IsLaidOut options.now (wire codec s array.now) p.1.descriptors.items p.1.end) }
@@ -162,10 +163,10 @@ fn place(
 {
     let mut found = Gathered::new(alloc);
     gather(alloc, array, arrays, MAX_LEVELS, ctx, &mut found)?;
-    if found.buffers.len() > MAX_BUFFERS || !are_describable(found.buffers.as_slice()) {
+    if found.buffers.len() > MAX_BUFFERS || !are_describable(&found.buffers) {
         return Err(WireError::WireLimit);
     }
-    let Some(placed) = describe(alloc, options, found.buffers.as_slice())? else {
+    let Some(placed) = describe(alloc, options, &found.buffers)? else {
         return Err(WireError::WireLimit);
     };
     Ok((found, placed))
@@ -200,5 +201,5 @@ pub(crate) fn write_array(
     if !has_end(placed.end, padding, message.len()) {
         return Err(WireError::WireLimit);
     }
-    Ok(blob_buffers(alloc, options, found.buffers, padding, message)?)
+    Ok(blob_buffers(alloc, options, &found.buffers, padding, message)?)
 }

@@ -16,7 +16,6 @@ next xs i b e = rw (add-one i) (next_suc xs i b e)
 
 pub loop-i-preserved : goal.loop-i-preserved
 loop-i-preserved c =
-    let b = c.in_ok-clone.field-0 in
+    let b = c.buffer.result.now in
     let xs = buffers_of (label c.args.array.now).body in
-    let here = c.buffer.ensures ∙ ap (λ z. Some z) (sym c.in_ok-clone.ensures) in
-    c.in_ok-push.ensures.ok ∙ ap (λ z. z ++ b ∷ []) c.loop-i.invariant ∙ append_assoc c.args.found.now (take c.loop-i.i xs) (b ∷ []) ∙ ap (λ z. c.args.found.now ++ z) (sym (next xs c.loop-i.i b here))
+    c.in_ok-push.ensures ∙ ap (λ z. z ++ b ∷ []) c.loop-i.invariant ∙ append_assoc c.args.found.now (take c.loop-i.i xs) (b ∷ []) ∙ ap (λ z. c.args.found.now ++ z) (sym (next xs c.loop-i.i b c.buffer.ensures))

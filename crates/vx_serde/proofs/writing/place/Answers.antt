@@ -1,12 +1,10 @@
-use Rattle.std.proofs.Common.{arith, ap, sym, subst, ◌∙◌, List, [], ◌++◌, length}
+use Rattle.std.proofs.Common.{arith, ap, ◌∙◌, [], ◌++◌}
 use Rattle.std.proofs.lemmas.Result.{err_from_is_err_and}
 use Rattle.vx_wire_tree.specs.Wire.{buffers_in}
 use Rattle.vx_wire_tree.specs.Written.{wire}
 use Rattle.vx_encodings.specs.Messages.{codec}
 use Rattle.vx_registry.specs.Session.{tables_meaning}
 use Rattle.vx_serde.proofs.Gathered.{unplaced_nodes}
-use Rattle.vx_buffer.specs.Buffer.{Buffer}
-use Rattle.vx_wire_tree.specs.Limits.{AreDescribable}
 use Rattle.vx_serde.proofs.NumberedBy.{first-encodings}
 use Rattle.vx_serde.proofs.WholeBlob.{laid_out}
 use Rattle.vx_serde.proofs.writing.place.Goals as goal
@@ -22,10 +20,8 @@ returns-clause-encodings c = λ s.
 
 pub returns-clause-placed : goal.returns-clause-placed
 returns-clause-placed c = λ s.
-    let bs = c.as_slice-2.result.now in
-    let same = c.as_slice.ensures ∙ sym c.as_slice-2.ensures in
-    let P : List Buffer → Type 0 = λ z. AreDescribable z in
+    let bs = c.gather.new.found.buffers in
     laid_out s c.args.array.now c.args.options.now bs c.in-Some.placed.descriptors.items c.in-Some.placed.end
-    (c.as_slice-2.ensures ∙ (c.in_ok-gather.ensures.buffers s ∙ ap (λ z. z ++ buffers_in (wire codec s c.args.array.now)) c.new-found.ensures.buffers)) c.in_ok-gather.ensures.levels
-    (omega (arith, c.if-len-gt-MAX_BUFFERS.false, c.len.ensures, ap (λ z. length z) c.as_slice-2.ensures)) (subst P same (c.are_describable.ensures.0 c.if-not-are_describable.false))
+    (c.in_ok-gather.ensures.buffers s ∙ ap (λ z. z ++ buffers_in (wire codec s c.args.array.now)) c.new-found.ensures.buffers) c.in_ok-gather.ensures.levels
+    (omega (arith, c.if-len-gt-MAX_BUFFERS.false, c.len.ensures)) (c.are_describable.ensures.0 c.if-not-are_describable.false)
     (rw c.in-Some.is at c.in_ok-placed.ensures.descriptors) (rw c.in-Some.is at c.in_ok-placed.ensures.end) (omega arith)

@@ -1,0 +1,56 @@
+//! Buffers that arrays hold, lent.
+
+ghost use Rattle.std.specs.Prelude.{◌≡◌, ◌<◌, ◌∷◌, ◌++◌, [], length, get_or, OnOk};
+
+use std::alloc::Global;
+use std::marker::Model;
+use vx_buffer::{BufferError, BufferHandle};
+
+/// Buffers that arrays hold, in order, lent. Contracts see the list of the buffers.
+#[derive(Drop)]
+pub(crate) struct LentBuffers<'a> {
+    items: Vec<&'a BufferHandle>,
+}
+
+impl<'a> Model for LentBuffers<'a> {
+    ghost use Rattle.std.specs.Prelude.{List, map};
+    ghost use Rattle.vx_buffer.specs.Buffer.{Buffer};
+
+    ghost Value = { List Buffer };
+
+    ghost view = { λ b. map (λ h. h.now) b.items.items };
+}
+
+impl<'a> LentBuffers<'a> {
+    /// No buffer.
+    pub(crate) fn new(alloc: Global) -> LentBuffers<'a>
+        ensures { result ≡ [] }
+    {
+        LentBuffers {
+            items: Vec::new(alloc),
+        }
+    }
+
+    /// One more buffer at the end.
+    pub(crate) fn push(&mut self, buffer: &'a BufferHandle) -> Result<(), BufferError>
+        ensures { OnOk result (self.new ≡ self.old ++ buffer.now ∷ []) }
+    {
+        self.items.push(buffer)?;
+        Ok(())
+    }
+
+    /// How many buffers there are.
+    pub(crate) fn len(&self) -> usize
+        ensures { result ≡ length self.now }
+    {
+        self.items.len()
+    }
+
+    /// The buffer at this place.
+    pub(crate) fn get(&self, index: usize) -> &'a BufferHandle
+        requires { index < length self.now }
+        ensures { result.now ≡ get_or self.now index result.now }
+    {
+        self.items[index]
+    }
+}
