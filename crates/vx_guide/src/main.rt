@@ -93,16 +93,44 @@ fn refuse_bytes(rt: &impl Print, alloc: Global, blob: &ByteBuffer) -> Result<()>
     Ok(())
 }
 
+/// Prints what a blob tells: its nodes, its rows, and why it has not one row more.
+fn show(
+    rt: &impl Print,
+    alloc: Global,
+    serialized: &SerializedArray,
+    dtype: &DType,
+    ids: &ReadContext,
+    session: &VortexSession,
+) -> Result<()> {
+    look(rt, serialized, ids)?;
+    read(rt, alloc, serialized, dtype, ids, session)?;
+    refuse_rows(rt, alloc, serialized, dtype, ids, session)
+}
+
+/// Opens a blob of a type, and prints what it tells.
+fn open(
+    rt: &impl Print,
+    alloc: Global,
+    written: Written,
+    dtype: &DType,
+    session: &VortexSession,
+) -> Result<()> {
+    let Written { blob, ids } = written;
+    let serialized = SerializedArray::try_from_buffer(alloc, blob)?;
+    show(rt, alloc, &serialized, dtype, &ids, session)
+}
+
+/// Writes the table, prints how long its blob is and why a shorter one is none, and opens it.
+fn tell(rt: &impl Print, alloc: Global, table: &Array, session: &VortexSession) -> Result<()> {
+    let written = write(alloc, table, session)?;
+    rt.println(format_args!("{} bytes", written.blob.len()))?;
+    refuse_bytes(rt, alloc, &written.blob)?;
+    open(rt, alloc, written, table.dtype(), session)
+}
+
 fn main(rt: HostRuntime) -> Result<()> {
     let alloc = rt.alloc();
     let session = VortexSession::new(ArraySession::default(alloc)?, ExtSession::new(alloc));
     let table = cities(alloc)?;
-    let written = write(alloc, &table, &session)?;
-    rt.println(format_args!("{} bytes", written.blob.len()))?;
-    refuse_bytes(&rt, alloc, &written.blob)?;
-    let ids = &written.ids;
-    let serialized = SerializedArray::try_from_buffer(alloc, written.blob)?;
-    look(&rt, &serialized, ids)?;
-    read(&rt, alloc, &serialized, table.dtype(), ids, &session)?;
-    refuse_rows(&rt, alloc, &serialized, table.dtype(), ids, &session)
+    tell(&rt, alloc, &table, &session)
 }

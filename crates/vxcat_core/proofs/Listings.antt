@@ -65,6 +65,10 @@ pub child_lines : (indent deeper : List ℕ) (trees : List Tree) (i : ℕ) (d ch
     → node_lines_below (indent ++ codes "  ") (roses_of (drop i trees)) ≡ node_lines deeper child ++ node_lines_below (indent ++ codes "  ") (roses_of (drop (i + 1) trees))
 child_lines indent deeper trees i d child made within is = rw (made, is) (node_lines_below-drop (indent ++ codes "  ") trees i d within)
 
+-- What was written and what is left of a text make the whole, also once the next line was written.
+pub line_next : (old new left line rest all : List ℕ) → new ≡ old ++ line → left ≡ line ++ rest → old ++ left ≡ all → new ++ rest ≡ all
+line_next old new left line rest all added is so = ap (λ z. z ++ rest) added ∙ append_assoc old line rest ∙ ap (λ z. old ++ z) (sym is) ∙ so
+
 -- From a row on, its own line comes first.
 pub row_lines-next : (tree : Tree) (i shown : ℕ) → i < shown → row_lines tree i (shown - i) ≡ row_line tree i ++ row_lines tree (i + 1) (shown - (i + 1))
 row_lines-next tree i shown within =

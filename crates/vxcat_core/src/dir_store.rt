@@ -11,8 +11,8 @@ use std::rt::Files;
 use vx_buffer::{ByteBuffer, ByteBuffers};
 use vx_types::{Blob, Name};
 
-// How many bytes one read asks for at least.
-const PIECE: usize = 1 << 20;
+// How many bytes one read asks for, and how many bytes of small buffers are gathered before they are written.
+const PIECE: usize = 1 << 16;
 
 // After as many reads, each of which gave at least one byte, a file counts as one without end.
 const MAX_READS: u64 = 1 << 32;
@@ -121,14 +121,32 @@ fn save_file<R: Files>(files: &R, name: &Name, bytes: &[u8]) -> Result<(), Store
     flush(&mut file)
 }
 
-// Writes the buffers, one after the other, as the whole of a file.
-fn save_pieces<R: Files>(files: &R, name: &Name, buffers: &[ByteBuffer]) -> Result<(), StoreError> {
+// Gathers a small piece behind others, or writes them and the piece where it has no room among them.
+fn gather<F: Write>(file: &mut F, gathered: &mut Vec<u8>, piece: &[u8]) -> Result<(), StoreError> {
+    let room = PIECE.saturating_sub(gathered.len());
+    if piece.len() <= room && gathered.extend_from_slice(piece).is_ok() {
+        return Ok(());
+    }
+    write_all(file, gathered.as_slice())?;
+    gathered.clear();
+    write_all(file, piece)
+}
+
+// Writes the buffers, one after the other, as the whole of a file; small ones go out together.
+fn save_pieces<R: Files>(
+    alloc: Global,
+    files: &R,
+    name: &Name,
+    buffers: &[ByteBuffer],
+) -> Result<(), StoreError> {
     let Ok(mut file) = fs::create(files, name.as_str()) else {
         return Err(StoreError::Failed);
     };
+    let mut gathered = Vec::new(alloc);
     for buffer in buffers {
-        write_all(&mut file, buffer.as_slice())?;
+        gather(&mut file, &mut gathered, buffer.as_slice())?;
     }
+    write_all(&mut file, gathered.as_slice())?;
     flush(&mut file)
 }
 
@@ -163,11 +181,11 @@ impl<R: Files> Store for DirStore<'_, R> {
 
     fn save_buffers(
         &mut self,
-        _alloc: Global,
+        alloc: Global,
         name: &Name,
         buffers: &ByteBuffers,
     ) -> Result<(), StoreError> {
-        let saved = save_pieces(self.files, name, buffers.as_slice());
+        let saved = save_pieces(alloc, self.files, name, buffers.as_slice());
         self.count_save(saved)
     }
 }

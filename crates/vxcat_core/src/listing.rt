@@ -33,38 +33,43 @@ pub fn print_listing<O: Sink>(
     ensures never_falls { (O.state out.old).faults ≤ (O.state out.new).faults }
     ensures fault { IsErrOf result print_error.Failed → HasRisen (O.state out.old).faults (O.state out.new).faults }
 {
-    print_nodes(alloc, array, "", out)?;
+    let mut nodes = String::new(alloc);
+    push_nodes(alloc, array, "", &mut nodes)?;
+    write_text(out, nodes.as_str().as_bytes())?;
     print_rows(alloc, array, rows, out)
 }
 
+// Appends the lines of an array's nodes: they are printed at once, since there may be many of them.
 #[tactic(auto, using(vx_trees::proofs::Roses::roses))]
-fn print_nodes<O: Sink>(
+fn push_nodes(
     alloc: Global,
     array: &Array,
     indent: &str,
-    out: &mut O,
-) -> Result<(), PrintError>
-    ensures ok { OnOk result (Appends (O.state out.old).written (O.state out.new).written (node_lines indent.now array.now)) }
-    ensures prefix { AppendsPrefix (O.state out.old).written (O.state out.new).written (node_lines indent.now array.now) }
-    ensures never_falls { (O.state out.old).faults ≤ (O.state out.new).faults }
-    ensures fault { IsErrOf result print_error.Failed → HasRisen (O.state out.old).faults (O.state out.new).faults }
+    text: &mut String,
+) -> Result<(), AllocError>
+    ensures { OnOk result (string_bytes text.new ≡ string_bytes text.old ++ node_lines indent.now array.now) }
 {
-    let line = node_line(alloc, array, indent)?;
+    push_node(alloc, array, indent, text)?;
     let deeper = format!(in alloc; "{indent}  ")?;
-    write_text(out, line.as_str().as_bytes())?;
     for child in array.children() {
-        print_nodes(alloc, child, deeper.as_str(), out)?;
+        push_nodes(alloc, child, deeper.as_str(), text)?;
     }
     Ok(())
 }
 
-fn node_line(alloc: Global, array: &Array, indent: &str) -> Result<String, AllocError>
-    ensures { IfOk result (λ line. string_bytes line ≡ node_line indent.now (label array.now)) }
+// Appends the line of a node.
+fn push_node(
+    alloc: Global,
+    array: &Array,
+    indent: &str,
+    text: &mut String,
+) -> Result<(), AllocError>
+    ensures { OnOk result (string_bytes text.new ≡ string_bytes text.old ++ node_line indent.now (label array.now)) }
 {
     let id = array.encoding_id();
     let len = array.len();
     let lengths = lengths_text(alloc, array)?;
-    format!(in alloc; "{indent}{id} len={len} buffers=[{lengths}]\n")
+    write!(text, "{indent}{id} len={len} buffers=[{lengths}]\n")
 }
 
 fn lengths_text(alloc: Global, array: &Array) -> Result<String, AllocError>
