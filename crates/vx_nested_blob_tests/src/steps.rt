@@ -1,0 +1,79 @@
+//! The steps of one node: what is planned, and the metadata that is written.
+
+use std::alloc::Global;
+use vx_encodings::{ArrayHead, Encoding, EncodingError, metadata, plan};
+use vx_nested_tests::parts::Made;
+use vx_type_wire::ExtSession;
+use vx_types::{Blob, DType, Id, TypeError};
+
+// The bytes of metadata that an array's node has, once it is made.
+fn written(alloc: Global, array: Made) -> Result<Blob, EncodingError> {
+    match array {
+        Ok(array) => metadata(alloc, &array),
+        Err(_) => Err(EncodingError::OutOfMemory),
+    }
+}
+
+/// Whether an array that is made first has this metadata.
+pub(crate) fn has_metadata(alloc: Global, array: Made, bytes: &[u8]) -> bool {
+    match written(alloc, array) {
+        Ok(blob) => blob.as_slice() == bytes,
+        Err(_) => false,
+    }
+}
+
+/// Why the metadata of an array that is made first is not written, if it is not.
+pub(crate) fn unwritten(alloc: Global, array: Made) -> Option<EncodingError> {
+    written(alloc, array).err()
+}
+
+// The head of a node without buffers.
+fn head_of(
+    alloc: Global,
+    dtype: &DType,
+    len: usize,
+    metadata: &[u8],
+    nchildren: usize,
+) -> Result<ArrayHead, TypeError> {
+    let metadata = Blob::copy_from(alloc, metadata)?;
+    let serialized_id = Id::new(alloc, "test")?;
+    let dtype = dtype.clone(alloc)?;
+    Ok(ArrayHead {
+        serialized_id,
+        dtype,
+        len,
+        metadata,
+        nbuffers: 0,
+        nchildren,
+    })
+}
+
+// Why a node of this head is not planned, if it is not.
+fn head_refusal(
+    alloc: Global,
+    encoding: Encoding,
+    head: Result<ArrayHead, TypeError>,
+) -> Option<EncodingError> {
+    match head {
+        Ok(head) => plan(alloc, encoding, &head, &ExtSession::new(alloc)).err(),
+        Err(_) => Some(EncodingError::OutOfMemory),
+    }
+}
+
+/// Why a node of the type of an array is not planned, if it is not.
+pub(crate) fn unplanned(
+    alloc: Global,
+    encoding: Encoding,
+    kind: Made,
+    len: usize,
+    metadata: &[u8],
+    nchildren: usize,
+) -> Option<EncodingError> {
+    match kind {
+        Ok(array) => {
+            let head = head_of(alloc, array.dtype(), len, metadata, nchildren);
+            head_refusal(alloc, encoding, head)
+        }
+        Err(_) => Some(EncodingError::OutOfMemory),
+    }
+}
