@@ -18,6 +18,8 @@ pub(crate) enum Nested {
     Empty,
     /// Structures of a number.
     OneField,
+    /// The same, of a type that lets rows be null.
+    OneFieldOrNull,
     /// Lists of texts.
     Lists,
     /// The same, of a type that lets rows be null.
@@ -64,7 +66,8 @@ pub(crate) fn made(alloc: Global, which: Nested) -> Made {
         Nested::Pairs => pairs(alloc, There::Always),
         Nested::SomePairs => pairs(alloc, There::Bits(0b101)),
         Nested::Empty => structs(alloc, &[], none(alloc), none(alloc), 7, There::Always),
-        Nested::OneField => one_field(alloc),
+        Nested::OneField => one_field(alloc, There::Always),
+        Nested::OneFieldOrNull => one_field(alloc, There::All),
         Nested::Lists => listed(alloc, There::Always),
         Nested::ListsOrNull => listed(alloc, There::All),
         Nested::SomeLists => listed(alloc, There::Bits(0b101)),
@@ -107,17 +110,14 @@ fn pairs(alloc: Global, there: There) -> Made {
     structs(alloc, &["a", "b"], columns(alloc), columns(alloc), 3, there)
 }
 
+// The numbers alone.
+fn column(alloc: Global) -> AllMade {
+    one(alloc, counts(alloc))
+}
+
 // Three structures of a number.
-fn one_field(alloc: Global) -> Made {
-    let types = one(alloc, counts(alloc));
-    structs(
-        alloc,
-        &["a"],
-        types,
-        one(alloc, counts(alloc)),
-        3,
-        There::Always,
-    )
+fn one_field(alloc: Global, there: There) -> Made {
+    structs(alloc, &["a"], column(alloc), column(alloc), 3, there)
 }
 
 // The offsets 0, 2, 2 and 3, each of four bytes.

@@ -44,7 +44,7 @@ fn refused(alloc: Global, which: Nested, kind: Nested, len: usize) -> Option<Wir
 }
 
 // Arrays, the type that they are read at, and as how many rows, for which they are of no shape.
-const UNFIT: [(Nested, Nested, usize); 28] = [
+const UNFIT: [(Nested, Nested, usize); 30] = [
     (Nested::Lists, Nested::Lists, 2),
     (Nested::Lists, Nested::Lists, 4),
     (Nested::Lists, Nested::Lists, usize::MAX),
@@ -63,6 +63,8 @@ const UNFIT: [(Nested, Nested, usize); 28] = [
     (Nested::Pairs, Nested::OneField, 3),
     (Nested::OneField, Nested::Pairs, 3),
     (Nested::Empty, Nested::OneField, 3),
+    (Nested::SomePairs, Nested::OneFieldOrNull, 3),
+    (Nested::OneFieldOrNull, Nested::SomePairs, 3),
     (Nested::SomePairs, Nested::Pairs, 3),
     (Nested::Pairs, Nested::Unions, 3),
     (Nested::Extended, Nested::Threes, 2),

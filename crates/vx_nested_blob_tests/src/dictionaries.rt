@@ -29,6 +29,10 @@ enum Letters {
     Twice,
     // The same over the second.
     TwiceOrNull,
+    // By codes that are a dictionary: those of the first, the last first.
+    Turned,
+    // The same over values of a type that lets them be null.
+    TurnedOrNull,
 }
 
 // The codes 0, 2, null and 1.
@@ -62,6 +66,12 @@ fn extended(alloc: Global, there: There) -> Made {
     dicts(alloc, some_codes(alloc), values)
 }
 
+// The texts of the codes of which one is null, the last first.
+fn turned(alloc: Global, there: There) -> Made {
+    let codes = dicts(alloc, bytes(alloc, &[3, 2, 1, 0]), some_codes(alloc));
+    dicts(alloc, codes, values(alloc, there))
+}
+
 // A dictionary.
 fn made(alloc: Global, which: Letters) -> Made {
     match which {
@@ -74,11 +84,13 @@ fn made(alloc: Global, which: Letters) -> Made {
         Letters::ExtendedOrNull => extended(alloc, There::All),
         Letters::Twice => dicts(alloc, codes(alloc), some(alloc, There::Always)),
         Letters::TwiceOrNull => dicts(alloc, codes(alloc), some(alloc, There::All)),
+        Letters::Turned => turned(alloc, There::Always),
+        Letters::TurnedOrNull => turned(alloc, There::All),
     }
 }
 
 // Dictionaries, and as which they are read again.
-const READ: [(Letters, Letters); 8] = [
+const READ: [(Letters, Letters); 9] = [
     (Letters::Some, Letters::SomeOrNull),
     (Letters::SomeOrNull, Letters::SomeOrNull),
     (Letters::SomeOfSome, Letters::SomeOfSome),
@@ -87,6 +99,7 @@ const READ: [(Letters, Letters); 8] = [
     (Letters::Extended, Letters::ExtendedOrNull),
     (Letters::Twice, Letters::TwiceOrNull),
     (Letters::TwiceOrNull, Letters::TwiceOrNull),
+    (Letters::Turned, Letters::TurnedOrNull),
 ];
 
 #[test]

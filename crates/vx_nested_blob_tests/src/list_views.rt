@@ -245,6 +245,19 @@ fn views_and_their_metadata_are_judged(rt: HostRuntime) {
     }
 }
 
+// The last offset and no elements, and the same offset and one element.
+const LAST: &[u8] = b"\xff\xff\xff\xff\xff\xff\xff\xff\0";
+
+const PAST: &[u8] = b"\xff\xff\xff\xff\xff\xff\xff\xff\x01";
+
+#[test]
+fn a_view_that_passes_all_numbers_is_refused(rt: HostRuntime) {
+    let alloc = rt.alloc();
+    let change = Change::Bytes(LAST, PAST);
+    let refused = refusal(alloc, null_views(alloc), null_views(alloc), 1, change);
+    assert!(rt; refused == BROKEN);
+}
+
 // Why entries in an extension are not read as those of maps, if they are not.
 fn unmapped(alloc: Global, which: Views) -> Option<WireError> {
     let change = Change::Id("vortex.ext", "vortex.map");
