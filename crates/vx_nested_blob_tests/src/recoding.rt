@@ -51,15 +51,21 @@ fn is_recoded(alloc: Global, array: &Array, rows: &[&str], ids: &[&str]) -> bool
     has_rows(alloc, array, &mut ctx, rows) && has_ids(alloc, &ctx, ids)
 }
 
+// The same of an array, once it is made.
+fn are_recoded(alloc: Global, array: Made, rows: &[&str], ids: &[&str]) -> bool {
+    match array {
+        Ok(array) => is_recoded(alloc, &array, rows, ids),
+        Err(_) => false,
+    }
+}
+
+const ROWS: [&str; 4] = ["1", "2", "3", "4"];
+
+const IDS: [&str; 2] = ["vortex.ext", "vortex.primitive"];
+
 #[test]
 fn the_type_in_hand_is_not_judged_by_readers(rt: HostRuntime) {
     let alloc = rt.alloc();
-    let ids = ["vortex.ext", "vortex.primitive"];
-    match extensions(alloc, four(alloc), four(alloc)) {
-        Ok(array) => {
-            let same = is_recoded(alloc, &array, &["1", "2", "3", "4"], &ids);
-            assert!(rt; same);
-        }
-        Err(_) => assert!(rt; false),
-    }
+    let stored = extensions(alloc, four(alloc), four(alloc));
+    assert!(rt; are_recoded(alloc, stored, &ROWS, &IDS));
 }

@@ -152,6 +152,20 @@ fn read(
     read_under(alloc, array, dtype, len, change, &session)
 }
 
+// A blob recoded at the type and length of an array, by these identifiers and encodings.
+fn recoded_by(
+    alloc: Global,
+    blob: ByteBuffer,
+    array: &Array,
+    ids: &ReadContext,
+    ctx: &mut ArrayContext,
+    session: &VortexSession,
+) -> Result<Recoded, WireError> {
+    let options = SerializeOptions::default();
+    let (dtype, len) = (array.dtype(), array.len());
+    recode(alloc, blob, dtype, len, ids, ctx, session, &options)
+}
+
 // An array written, and what was written recoded at its type and length, under these encodings.
 fn recoded_under(
     alloc: Global,
@@ -162,17 +176,7 @@ fn recoded_under(
     let mut written = ArrayContext::empty(alloc);
     let blob = blob_under(alloc, array, session, &mut written)?;
     let ids = read_ids(alloc, &written, Change::Nothing)?;
-    let options = SerializeOptions::default();
-    recode(
-        alloc,
-        blob,
-        array.dtype(),
-        array.len(),
-        &ids,
-        ctx,
-        session,
-        &options,
-    )
+    recoded_by(alloc, blob, array, &ids, ctx, session)
 }
 
 /// An array written, and what was written recoded under the encodings that are shipped; a context takes the identifiers.
@@ -185,10 +189,20 @@ pub(crate) fn recoded(
     recoded_under(alloc, array, ctx, &session)
 }
 
+// Whether two arrays are equal.
+fn are_equal(array: &Array, other: &Array) -> bool {
+    array.array_eq(other)
+}
+
+// An array written, and read at the type and length of another one.
+fn read_as(alloc: Global, array: &Array, other: &Array) -> Result<Array, WireError> {
+    read(alloc, array, other.dtype(), other.len(), Change::Nothing)
+}
+
 // Whether an array is read again as another one.
 fn comes_as(alloc: Global, array: &Array, other: &Array) -> bool {
-    match read(alloc, array, other.dtype(), other.len(), Change::Nothing) {
-        Ok(read) => read.array_eq(other),
+    match read_as(alloc, array, other) {
+        Ok(read) => are_equal(&read, other),
         Err(_) => false,
     }
 }
