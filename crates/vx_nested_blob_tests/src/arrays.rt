@@ -1,7 +1,7 @@
 //! The arrays that are written.
 
 use std::alloc::Global;
-use vx_nested_tests::parts::{
+use vx_nested_parts::parts::{
     AllMade, Made, There, and, bytes, extensions, fixed, lists, none, nulls, numbers, one, structs,
     texts, two, unions,
 };

@@ -3,7 +3,7 @@
 use crate::arrays::{Nested, made};
 use crate::wire::{Change, refusal};
 use std::alloc::Global;
-use vx_nested_tests::parts::{
+use vx_nested_parts::parts::{
     AllMade, Made, There, and, flags, lists, numbers, texts, two, unions,
 };
 use vx_serde::WireError;

@@ -5,7 +5,7 @@ use crate::wire::{Change, is_read_as, refusal};
 use std::alloc::Global;
 use vx_arrays::ListViewArray;
 use vx_encodings::{Encoding, EncodingError};
-use vx_nested_tests::parts::{
+use vx_nested_parts::parts::{
     AllMade, Made, There, both, bytes, extensions, fixed, lists, maps, nulls, numbers, structs,
     texts, two, views,
 };

@@ -3,8 +3,8 @@
 use crate::wire::recoded;
 use std::alloc::Global;
 use vx_arrays::Array;
-use vx_nested_tests::parts::{Made, There, extensions, numbers};
-use vx_nested_tests::rows::begins_with;
+use vx_nested_parts::parts::{Made, There, extensions, numbers};
+use vx_nested_parts::rows::begins_with;
 use vx_registry::ArrayContext;
 use vx_types::{Ids, PType};
 

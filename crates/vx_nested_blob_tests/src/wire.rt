@@ -3,7 +3,7 @@
 use std::alloc::{AllocError, Global};
 use vx_arrays::{Array, ArrayError};
 use vx_buffer::ByteBuffer;
-use vx_nested_tests::parts::{Made, both};
+use vx_nested_parts::parts::{Made, both};
 use vx_registry::{ArrayContext, ArraySession, ReadContext, VortexSession};
 use vx_serde::{ArrayExt, Recoded, SerializeOptions, SerializedArray, WireError, recode};
 use vx_type_wire::ExtSession;

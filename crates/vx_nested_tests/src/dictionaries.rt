@@ -1,9 +1,11 @@
 //! Tests of dictionaries.
 
-use crate::parts::{Made, There, bytes, dicts, extensions, fixed, flags, nulls, numbers, texts};
-use crate::rows::{has_rows, has_slots, takes};
 use std::alloc::Global;
 use vx_arrays::ArrayError;
+use vx_nested_parts::parts::{
+    Made, There, bytes, dicts, extensions, fixed, flags, nulls, numbers, texts,
+};
+use vx_nested_parts::rows::{has_rows, has_slots, takes};
 use vx_types::PType;
 
 // Three texts that are never null.

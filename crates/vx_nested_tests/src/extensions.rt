@@ -1,9 +1,9 @@
 //! Tests of extensions.
 
-use crate::parts::{Made, There, bytes, extensions, fixed, texts};
-use crate::rows::{has_rows, has_slots, takes};
 use std::alloc::Global;
 use vx_arrays::ArrayError;
+use vx_nested_parts::parts::{Made, There, bytes, extensions, fixed, texts};
+use vx_nested_parts::rows::{has_rows, has_slots, takes};
 
 // Two numbers.
 fn numbers(alloc: Global) -> Made {

@@ -1,5 +1,5 @@
 //! Tests of arrays whose rows are made of other arrays' rows, each encoding in a module of its own: which arrays are made,
-//! their rows, and the cells that these take; and the parts of which tests make them.
+//! their rows, and the cells that these take.
 #![tactic(auto)]
 
 #[cfg(test)]
@@ -14,8 +14,6 @@ mod lists;
 mod lists_of_one_size;
 #[cfg(test)]
 mod maps;
-pub mod parts;
-pub mod rows;
 #[cfg(test)]
 mod structs;
 #[cfg(test)]

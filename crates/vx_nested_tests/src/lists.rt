@@ -1,9 +1,9 @@
 //! Tests of lists whose elements are parted by offsets.
 
-use crate::parts::{Made, There, both, bytes, lists, numbers, texts, two};
-use crate::rows::{has_rows, has_slots, takes};
 use std::alloc::Global;
 use vx_arrays::{ArrayError, ListArray};
+use vx_nested_parts::parts::{Made, There, both, bytes, lists, numbers, texts, two};
+use vx_nested_parts::rows::{has_rows, has_slots, takes};
 use vx_types::{DType, Nullability, PType, TypeRef};
 
 // Three numbers.

@@ -1,9 +1,9 @@
 //! Tests of lists of one size.
 
-use crate::parts::{Made, There, bytes, fixed, nulls};
-use crate::rows::{has_rows, has_slots, row_refusal, takes};
 use std::alloc::Global;
 use vx_arrays::ArrayError;
+use vx_nested_parts::parts::{Made, There, bytes, fixed, nulls};
+use vx_nested_parts::rows::{has_rows, has_slots, row_refusal, takes};
 
 // So many lists of so many of these numbers.
 fn sized(alloc: Global, numbers: &[u8], size: u32, len: usize, there: There) -> Made {

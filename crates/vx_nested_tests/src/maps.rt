@@ -1,11 +1,11 @@
 //! Tests of maps.
 
-use crate::parts::{
-    Made, There, bytes, dicts, fixed, lists, maps, one, structs, texts, two, views,
-};
-use crate::rows::{has_rows, has_slots, takes};
 use std::alloc::Global;
 use vx_arrays::ArrayError;
+use vx_nested_parts::parts::{
+    Made, There, bytes, dicts, fixed, lists, maps, one, structs, texts, two, views,
+};
+use vx_nested_parts::rows::{has_rows, has_slots, takes};
 
 // Two keys.
 fn keys(alloc: Global) -> Made {

@@ -1,9 +1,11 @@
 //! Tests of structures.
 
-use crate::parts::{AllMade, Made, There, and, bytes, none, nulls, one, structs, texts, two};
-use crate::rows::{has_rows, has_slots, takes};
 use std::alloc::Global;
 use vx_arrays::ArrayError;
+use vx_nested_parts::parts::{
+    AllMade, Made, There, and, bytes, none, nulls, one, structs, texts, two,
+};
+use vx_nested_parts::rows::{has_rows, has_slots, takes};
 
 // Three numbers.
 fn numbers(alloc: Global) -> Made {

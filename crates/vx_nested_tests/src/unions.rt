@@ -1,9 +1,11 @@
 //! Tests of unions.
 
-use crate::parts::{AllMade, Made, There, and, bytes, flags, numbers, texts, two, unions};
-use crate::rows::{has_rows, has_slots, takes};
 use std::alloc::Global;
 use vx_arrays::ArrayError;
+use vx_nested_parts::parts::{
+    AllMade, Made, There, and, bytes, flags, numbers, texts, two, unions,
+};
+use vx_nested_parts::rows::{has_rows, has_slots, takes};
 use vx_types::PType;
 
 // Four numbers.

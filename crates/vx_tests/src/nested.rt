@@ -4,7 +4,7 @@ use crate::program::{Files, saves_the_same};
 use std::alloc::{AllocError, Global};
 use vx_arrays::Array;
 use vx_buffer::ByteBuffer;
-use vx_nested_tests::parts::{
+use vx_nested_parts::parts::{
     AllMade, Made, There, and, bytes, dicts, fixed, flags, lists, maps, none, nulls, numbers,
     structs, texts, two, unions, views,
 };

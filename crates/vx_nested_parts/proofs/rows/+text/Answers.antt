@@ -1,6 +1,6 @@
 use Rattle.std.proofs.Common.{arith}
-use Rattle.vx_nested_tests.proofs.RowSizes.{smaller_value}
-use Rattle.vx_nested_tests.proofs.rows.+text.Goals as goal
+use Rattle.vx_nested_parts.proofs.RowSizes.{smaller_value}
+use Rattle.vx_nested_parts.proofs.rows.+text.Goals as goal
 
 pub texts_of-text_of-requires : goal.texts_of-text_of-requires
 texts_of-text_of-requires t c = (omega (arith, smaller_value c.args.values.now c.loop-i.i c.index-values-i.result c.loop-i-test.true c.index-values-i.is), tt)

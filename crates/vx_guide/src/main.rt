@@ -1,0 +1,108 @@
+//! A guide to the library that runs: a table of cities is made, written as a blob, looked at without being decoded, decoded
+//! and printed; then two blobs are refused. docs/LIBRARY.md walks through it.
+#![tactic(auto)]
+
+mod cities;
+mod columns;
+mod rows;
+
+use crate::cities::cities;
+use crate::rows::print_rows;
+use anyhow::{Result, bail};
+use std::alloc::Global;
+use vx_arrays::Array;
+use vx_buffer::ByteBuffer;
+use vx_registry::{ArrayContext, ArraySession, ReadContext, VortexSession};
+use vx_serde::{ArrayExt, SerializeOptions, SerializedArray, SerializedNode};
+use vx_type_wire::ExtSession;
+use vx_types::DType;
+
+/// The bytes of a blob, and the identifiers that its numbers count in.
+#[derive(Drop)]
+struct Written {
+    blob: ByteBuffer,
+    ids: ReadContext,
+}
+
+/// Writes an array: the identifiers are those that an empty context takes.
+fn write(alloc: Global, array: &Array, session: &VortexSession) -> Result<Written> {
+    let mut ctx = ArrayContext::empty(alloc);
+    let options = SerializeOptions::default();
+    let buffers = array.serialize(alloc, &mut ctx, session, &options)?;
+    let blob = buffers.join(alloc)?;
+    let ids = ReadContext::new(ctx.to_ids(alloc)?);
+    Ok(Written { blob, ids })
+}
+
+/// Prints what a node tells of itself: its encoding, by the number that the identifiers give a name, and its parts.
+fn print_node(rt: &impl Print, node: &SerializedNode<'_>, ids: &ReadContext) -> Result<()> {
+    let Some(id) = ids.resolve(node.encoding_id()) else {
+        bail!("no identifier has this number");
+    };
+    let (id, children, buffers) = (id.as_str(), node.nchildren(), node.nbuffers());
+    rt.println(format_args!("{id}: {children} children, {buffers} buffers"))?;
+    Ok(())
+}
+
+/// Prints the root of a blob and the nodes right below it. Nothing is decoded, and no memory is taken for it.
+fn look(rt: &impl Print, serialized: &SerializedArray, ids: &ReadContext) -> Result<()> {
+    let root = serialized.root();
+    print_node(rt, &root, ids)?;
+    for i in 0..root.nchildren() {
+        print_node(rt, &root.child(i), ids)?;
+    }
+    Ok(())
+}
+
+/// Decodes the array of a blob at a type and a length, and prints its rows.
+fn read(
+    rt: &impl Print,
+    alloc: Global,
+    serialized: &SerializedArray,
+    dtype: &DType,
+    ids: &ReadContext,
+    session: &VortexSession,
+) -> Result<()> {
+    let array = serialized.decode(alloc, dtype, 3, ids, session)?;
+    print_rows(rt, alloc, &array)
+}
+
+/// Asks for four rows of a blob of three, and prints why there are none.
+fn refuse_rows(
+    rt: &impl Print,
+    alloc: Global,
+    serialized: &SerializedArray,
+    dtype: &DType,
+    ids: &ReadContext,
+    session: &VortexSession,
+) -> Result<()> {
+    match serialized.decode(alloc, dtype, 4, ids, session) {
+        Ok(_) => bail!("four rows were read of three"),
+        Err(why) => rt.println(format_args!("four rows: {why}"))?,
+    }
+    Ok(())
+}
+
+/// Opens a blob without its last byte, and prints why it is none.
+fn refuse_bytes(rt: &impl Print, alloc: Global, blob: &ByteBuffer) -> Result<()> {
+    let cut = blob.slice(alloc, 0..blob.len().saturating_sub(1))?;
+    match SerializedArray::try_from_buffer(alloc, cut) {
+        Ok(_) => bail!("a blob was opened without its last byte"),
+        Err(why) => rt.println(format_args!("a byte less: {why}"))?,
+    }
+    Ok(())
+}
+
+fn main(rt: HostRuntime) -> Result<()> {
+    let alloc = rt.alloc();
+    let session = VortexSession::new(ArraySession::default(alloc)?, ExtSession::new(alloc));
+    let table = cities(alloc)?;
+    let written = write(alloc, &table, &session)?;
+    rt.println(format_args!("{} bytes", written.blob.len()))?;
+    refuse_bytes(&rt, alloc, &written.blob)?;
+    let ids = &written.ids;
+    let serialized = SerializedArray::try_from_buffer(alloc, written.blob)?;
+    look(&rt, &serialized, ids)?;
+    read(&rt, alloc, &serialized, table.dtype(), ids, &session)?;
+    refuse_rows(&rt, alloc, &serialized, table.dtype(), ids, &session)
+}
