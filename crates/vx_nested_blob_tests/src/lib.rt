@@ -1,0 +1,21 @@
+//! Tests of nested arrays in blobs, and of their nodes: which are planned, and the metadata that is written.
+#![tactic(auto)]
+
+#[cfg(test)]
+mod arrays;
+#[cfg(test)]
+mod blobs;
+#[cfg(test)]
+mod broken;
+#[cfg(test)]
+mod dictionaries;
+#[cfg(test)]
+mod list_views;
+#[cfg(test)]
+mod nodes;
+#[cfg(test)]
+mod recoding;
+#[cfg(test)]
+mod steps;
+#[cfg(test)]
+mod wire;

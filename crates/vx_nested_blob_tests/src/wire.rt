@@ -1,0 +1,230 @@
+//! Arrays written, and read again at a type and a length.
+
+use std::alloc::{AllocError, Global};
+use vx_arrays::{Array, ArrayError};
+use vx_buffer::ByteBuffer;
+use vx_nested_parts::parts::{Made, both};
+use vx_registry::{ArrayContext, ArraySession, ReadContext, VortexSession};
+use vx_serde::{ArrayExt, Recoded, SerializeOptions, SerializedArray, WireError, recode};
+use vx_type_wire::ExtSession;
+use vx_types::{DType, Id, Ids, TypeError};
+
+/// What is changed of what was written, before it is read.
+#[derive(Clone, Copy)]
+pub(crate) enum Change<'a> {
+    /// Nothing.
+    Nothing,
+    /// Bytes of the blob that stand there first, by as many others.
+    Bytes(&'a [u8], &'a [u8]),
+    /// An identifier, by another one.
+    Id(&'a str, &'a str),
+}
+
+// The encodings that are shipped, without readers of extensions.
+fn shipped(alloc: Global) -> Result<VortexSession, WireError> {
+    match ArraySession::default(alloc) {
+        Ok(arrays) => Ok(VortexSession::new(arrays, ExtSession::new(alloc))),
+        Err(_) => Err(WireError::OutOfMemory),
+    }
+}
+
+// The bytes of an array's blob.
+fn blob_under(
+    alloc: Global,
+    array: &Array,
+    session: &VortexSession,
+    ctx: &mut ArrayContext,
+) -> Result<ByteBuffer, WireError> {
+    let options = SerializeOptions::default();
+    let buffers = array.serialize(alloc, ctx, session, &options)?;
+    Ok(buffers.join(alloc)?)
+}
+
+// Where bytes begin that stand in others.
+fn place_of(bytes: &[u8], part: &[u8]) -> Option<usize> {
+    for i in 0..bytes.len() {
+        if bytes[i..].starts_with(part) {
+            return Some(i);
+        }
+    }
+    None
+}
+
+// Bytes with others from a place on.
+fn put(bytes: &mut Vec<u8>, place: usize, new: &[u8]) {
+    for i in 0..new.len() {
+        if let Some(byte) = bytes.get_mut(place.saturating_add(i)) {
+            *byte = new[i];
+        }
+    }
+}
+
+// Bytes with others in the place of some that stand there first.
+fn replaced(alloc: Global, bytes: &[u8], old: &[u8], new: &[u8]) -> Result<Vec<u8>, AllocError> {
+    let mut changed = Vec::from_slice(alloc, bytes)?;
+    if let Some(place) = place_of(bytes, old) {
+        put(&mut changed, place, new);
+    }
+    Ok(changed)
+}
+
+// A blob once it is changed.
+fn changed(alloc: Global, blob: ByteBuffer, change: Change<'_>) -> Result<ByteBuffer, WireError> {
+    match change {
+        Change::Bytes(old, new) => {
+            let bytes = replaced(alloc, blob.as_slice(), old, new)?;
+            Ok(ByteBuffer::from_vec(bytes)?)
+        }
+        _ => Ok(blob),
+    }
+}
+
+// A text, or another one in the place of this one.
+fn name_of<'a>(text: &'a str, change: Change<'a>) -> &'a str {
+    match change {
+        Change::Id(old, new) => { if text == old { new } else { text } }
+        _ => text,
+    }
+}
+
+// Identifiers once they are changed.
+fn renamed(alloc: Global, ids: &Ids, change: Change<'_>) -> Result<Ids, TypeError> {
+    let mut named = Ids::new(alloc);
+    for id in ids.as_slice() {
+        named.push(Id::new(alloc, name_of(id.as_str(), change))?)?;
+    }
+    Ok(named)
+}
+
+// The identifiers by which what was written is read.
+fn read_ids(
+    alloc: Global,
+    ctx: &ArrayContext,
+    change: Change<'_>,
+) -> Result<ReadContext, WireError> {
+    let Ok(ids) = ctx.to_ids(alloc) else {
+        return Err(WireError::OutOfMemory);
+    };
+    match renamed(alloc, &ids, change) {
+        Ok(ids) => Ok(ReadContext::new(ids)),
+        Err(_) => Err(WireError::OutOfMemory),
+    }
+}
+
+// The array that a blob holds at a type and length.
+fn decoded(
+    alloc: Global,
+    blob: ByteBuffer,
+    dtype: &DType,
+    len: usize,
+    ids: &ReadContext,
+    session: &VortexSession,
+) -> Result<Array, WireError> {
+    let serialized = SerializedArray::try_from_buffer(alloc, blob)?;
+    serialized.decode(alloc, dtype, len, ids, session)
+}
+
+// An array written, and read at a type and length once it is changed, under these encodings.
+fn read_under(
+    alloc: Global,
+    array: &Array,
+    dtype: &DType,
+    len: usize,
+    change: Change<'_>,
+    session: &VortexSession,
+) -> Result<Array, WireError> {
+    let mut ctx = ArrayContext::empty(alloc);
+    let blob = blob_under(alloc, array, session, &mut ctx)?;
+    let blob = changed(alloc, blob, change)?;
+    let ids = read_ids(alloc, &ctx, change)?;
+    decoded(alloc, blob, dtype, len, &ids, session)
+}
+
+// The same under the encodings that are shipped.
+fn read(
+    alloc: Global,
+    array: &Array,
+    dtype: &DType,
+    len: usize,
+    change: Change<'_>,
+) -> Result<Array, WireError> {
+    let session = shipped(alloc)?;
+    read_under(alloc, array, dtype, len, change, &session)
+}
+
+// A blob recoded at the type and length of an array, by these identifiers and encodings.
+fn recoded_by(
+    alloc: Global,
+    blob: ByteBuffer,
+    array: &Array,
+    ids: &ReadContext,
+    ctx: &mut ArrayContext,
+    session: &VortexSession,
+) -> Result<Recoded, WireError> {
+    let options = SerializeOptions::default();
+    let (dtype, len) = (array.dtype(), array.len());
+    recode(alloc, blob, dtype, len, ids, ctx, session, &options)
+}
+
+// An array written, and what was written recoded at its type and length, under these encodings.
+fn recoded_under(
+    alloc: Global,
+    array: &Array,
+    ctx: &mut ArrayContext,
+    session: &VortexSession,
+) -> Result<Recoded, WireError> {
+    let mut written = ArrayContext::empty(alloc);
+    let blob = blob_under(alloc, array, session, &mut written)?;
+    let ids = read_ids(alloc, &written, Change::Nothing)?;
+    recoded_by(alloc, blob, array, &ids, ctx, session)
+}
+
+/// An array written, and what was written recoded under the encodings that are shipped; a context takes the identifiers.
+pub(crate) fn recoded(
+    alloc: Global,
+    array: &Array,
+    ctx: &mut ArrayContext,
+) -> Result<Recoded, WireError> {
+    let session = shipped(alloc)?;
+    recoded_under(alloc, array, ctx, &session)
+}
+
+// Whether two arrays are equal.
+fn are_equal(array: &Array, other: &Array) -> bool {
+    array.array_eq(other)
+}
+
+// An array written, and read at the type and length of another one.
+fn read_as(alloc: Global, array: &Array, other: &Array) -> Result<Array, WireError> {
+    read(alloc, array, other.dtype(), other.len(), Change::Nothing)
+}
+
+// Whether an array is read again as another one.
+fn comes_as(alloc: Global, array: &Array, other: &Array) -> bool {
+    match read_as(alloc, array, other) {
+        Ok(read) => are_equal(&read, other),
+        Err(_) => false,
+    }
+}
+
+/// Whether an array is read again as another one, once both are made.
+pub(crate) fn is_read_as(alloc: Global, array: Made, other: Made) -> bool {
+    match both(array, other) {
+        Ok((array, other)) => comes_as(alloc, &array, &other),
+        Err(_) => false,
+    }
+}
+
+/// Why an array is not read at the type of another and a length once it is changed, if it is not.
+pub(crate) fn refusal(
+    alloc: Global,
+    array: Made,
+    kind: Made,
+    len: usize,
+    change: Change<'_>,
+) -> Option<WireError> {
+    match both(array, kind) {
+        Ok((array, kind)) => read(alloc, &array, kind.dtype(), len, change).err(),
+        Err(_) => Some(WireError::OutOfMemory),
+    }
+}
