@@ -1,3 +1,4 @@
 pub mod Grown
 pub mod Sound
+pub mod Fitting
 mod Worked
