@@ -66,13 +66,13 @@ offset_is seed rows zero zero m h = refl
 offset_is seed rows zero (suc i) m h = absurd (omega arith)
 offset_is seed rows (suc n) i m h =
     ⊎_elim
-        (λ l. offset_kept (columns seed rows n).offsets _ i (omega (arith, offsets_len seed rows n)) ∙ offset_is seed rows n i (omega arith) (omega arith))
-        (λ l.
-            let e : suc n ≡ i = omega arith in
-            ap (λ k. offset_at (columns seed rows (suc n)).offsets k) (sym e)
-            ∙ offset_new (columns seed rows n).offsets (suc n) (columns seed rows (suc n)).count (offsets_len seed rows n) (omega (arith, few seed rows (suc n)))
-            ∙ ap (λ k. (columns seed rows k).count) e)
-        (cases_lt i (suc n))
+    (λ l. offset_kept (columns seed rows n).offsets _ i (omega (arith, offsets_len seed rows n)) ∙ offset_is seed rows n i (omega arith) (omega arith))
+    (λ l.
+    let e : suc n ≡ i = omega arith in
+    ap (λ k. offset_at (columns seed rows (suc n)).offsets k) (sym e)
+    ∙ offset_new (columns seed rows n).offsets (suc n) (columns seed rows (suc n)).count (offsets_len seed rows n) (omega (arith, few seed rows (suc n)))
+    ∙ ap (λ k. (columns seed rows k).count) e)
+    (cases_lt i (suc n))
 
 -- The columns of so many rows fit these.
 pub fit : (seed rows : ℕ) → rows ≤ 1000000 → Fit (columns seed rows rows) rows
@@ -87,3 +87,17 @@ fit seed rows h = record {
   rising = λ i l. rw (offset_is seed rows rows i h (omega arith), offset_is seed rows rows (suc i) h l) (omega arith);
   within = rw (offset_is seed rows rows rows h (omega arith)) (omega arith);
 }
+
+-- They are few enough to be counted.
+pub small : (seed rows : ℕ) → rows ≤ 1000000
+    → length (columns seed rows rows).numbers + length (columns seed rows rows).validity + length (columns seed rows rows).codes + length (columns seed rows rows).elements + length (columns seed rows rows).offsets < 2 ^ 32
+small seed rows h =
+    omega (
+      arith,
+      numbers_len seed rows rows,
+      validity_len seed rows rows,
+      codes_len seed rows rows,
+      elements_len seed rows rows,
+      offsets_len seed rows rows,
+      few seed rows rows,
+    )

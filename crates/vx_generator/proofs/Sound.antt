@@ -30,13 +30,13 @@ pub record Fit (c : Columns) (n : ℕ) : Type 0 where
   pub rising : (i : ℕ) → i < n → offset_at c.offsets i ≤ offset_at c.offsets (suc i)
   pub within : offset_at c.offsets n ≤ c.count
 
-pub flags_sound : (c : Columns) (n : ℕ) → Fit c n → IsSound (flags_tree c n)
+pub flags_sound : (c : Columns) (n : ℕ) → Fit c n → IsSound (flags_tree c.validity n)
 flags_sound c n f = (record { fair = omega arith; planned = refl; allows = λ e. absurd (omega arith); takes = tt; holds = omega arith; content = tt; stats = none_fit _ }, tt)
 
-pub numbers_sound : (c : Columns) (n : ℕ) → Fit c n → IsSound (numbers_tree c n)
+pub numbers_sound : (c : Columns) (n : ℕ) → Fit c n → IsSound (numbers_tree c.numbers c.validity n)
 numbers_sound c n f = (record { fair = tt; planned = refl; allows = λ e. refl; takes = tt; holds = record { length_is = f.numbers; aligned = omega arith }; content = tt; stats = none_fit _ }, (flags_sound c n f, tt))
 
-pub codes_sound : (c : Columns) (n : ℕ) → Fit c n → IsSound (codes_tree c n)
+pub codes_sound : (c : Columns) (n : ℕ) → Fit c n → IsSound (codes_tree c.codes n)
 codes_sound c n f = (record { fair = tt; planned = refl; allows = λ e. absurd (omega arith); takes = tt; holds = record { length_is = omega arith; aligned = omega arith }; content = tt; stats = none_fit _ }, tt)
 
 texts_are : Content (label texts_tree).dtype 5 (label texts_tree).body (rows_below (below texts_tree))
@@ -52,7 +52,7 @@ pub texts_sound : IsSound texts_tree
 unfolding views long_text
 texts_sound = (record { fair = tt; planned = refl; allows = λ e. absurd (omega arith); takes = tt; holds = record { length_is = refl; aligned = omega arith }; content = texts_are; stats = none_fit _ }, tt)
 
-pub names_sound : (c : Columns) (n : ℕ) → Fit c n → IsSound (names_tree c n)
+pub names_sound : (c : Columns) (n : ℕ) → Fit c n → IsSound (names_tree c.codes n)
 names_sound c n f = (
   record {
     fair = refl;
@@ -66,16 +66,15 @@ names_sound c n f = (
   (codes_sound c n f, (texts_sound, tt)),
 )
 
-pub elements_sound : (c : Columns) (n : ℕ) → Fit c n → IsSound (elements_tree c)
+pub elements_sound : (c : Columns) (n : ℕ) → Fit c n → IsSound (elements_tree c.elements c.count)
 elements_sound c n f = (record { fair = tt; planned = refl; allows = λ e. absurd (omega arith); takes = tt; holds = record { length_is = f.elements; aligned = omega arith }; content = tt; stats = none_fit _ }, tt)
 
-pub offsets_sound : (c : Columns) (n : ℕ) → Fit c n → IsSound (offsets_tree c n)
+pub offsets_sound : (c : Columns) (n : ℕ) → Fit c n → IsSound (offsets_tree c.offsets n)
 offsets_sound c n f = (record { fair = tt; planned = refl; allows = λ e. absurd (omega arith); takes = tt; holds = record { length_is = f.offsets; aligned = omega arith }; content = tt; stats = none_fit _ }, tt)
 
-pub lists_sound : (c : Columns) (n : ℕ) → Fit c n → IsSound (lists_tree c n)
+pub lists_sound : (c : Columns) (n : ℕ) → Fit c n → IsSound (lists_tree c.elements c.count c.offsets n)
 lists_sound c n f =
-    let e : is_len (suc n) ≡ true = search (tests, rules) in
-    (
+    let e : is_len (suc n) ≡ true = search (tests, rules) in (
       record {
         fair = refl;
         planned = rw e refl;

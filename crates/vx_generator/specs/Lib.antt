@@ -1,3 +1,4 @@
 pub mod Draws
 pub mod Columns
 pub mod Made
+pub mod Summary

@@ -2,8 +2,9 @@
 use Rattle.std.specs.Prelude.{ℕ, suc, ◌-◌, List, [], ◌∷◌, ◌++◌, false, codes, length, replicate, sum_by, take}
 use Rattle.std.specs.Int.{w32, to_le_bytes}
 use Rattle.vx_buffer.specs.Buffer.{Buffer}
-use Rattle.vx_trees.specs.Rose.{node, end, more}
+use Rattle.vx_trees.specs.Rose.{node, end, more, roses_of}
 use Rattle.vx_types.specs.Kind.{boolean, list, primitive, structure, utf8}
+use Rattle.vx_types.specs.Parts.{Fields}
 use Rattle.vx_types.specs.Typ.{Typ}
 use Rattle.vx_types.specs.declared.nullability.Nullability.TheVariants.{Nullable, NonNullable}
 use Rattle.vx_types.specs.declared.ptype.PType.TheVariants.{I64, U8, U16, U32}
@@ -17,15 +18,15 @@ abbrev pub buffer : List ℕ → ℕ → Buffer
 buffer bytes exponent = record { bytes = bytes; exponent = exponent }
 
 -- A bit for each row: whether its number is there.
-abbrev pub flags_tree : Columns → ℕ → Tree
-flags_tree c n = node (untold (node (boolean NonNullable) end) n (B.bool (record { bits = buffer c.validity 0; offset = 0 }))) end
+abbrev pub flags_tree : List ℕ → ℕ → Tree
+flags_tree bits n = node (untold (node (boolean NonNullable) end) n (B.bool (record { bits = buffer bits 0; offset = 0 }))) end
 
 -- The field "a": numbers with a sign, of 8 bytes, and which of them are there.
 abbrev pub numbers_type : Typ
 numbers_type = node (primitive I64 Nullable) end
 
-abbrev pub numbers_tree : Columns → ℕ → Tree
-numbers_tree c n = node (untold numbers_type n (B.primitive (record { values = buffer c.numbers 3 }))) (more (flags_tree c n) end)
+abbrev pub numbers_tree : List ℕ → List ℕ → ℕ → Tree
+numbers_tree bytes bits n = node (untold numbers_type n (B.primitive (record { values = buffer bytes 3 }))) (more (flags_tree bits n) end)
 
 -- A text of at most 12 bytes by a view: how many bytes it has, in four, the text, and 0 up to the view's end.
 abbrev short_view : List ℕ → List ℕ
@@ -51,32 +52,41 @@ texts_type = node (utf8 NonNullable) end
 abbrev pub texts_tree : Tree
 texts_tree = node (untold texts_type 5 (B.varbinview (record { buffers = buffer long_text 0 ∷ []; views = buffer views 4 }))) end
 
-abbrev pub codes_tree : Columns → ℕ → Tree
-codes_tree c n = node (untold (numbers U8) n (B.primitive (record { values = buffer c.codes 0 }))) end
+abbrev pub codes_tree : List ℕ → ℕ → Tree
+codes_tree bytes n = node (untold (numbers U8) n (B.primitive (record { values = buffer bytes 0 }))) end
 
-abbrev pub names_tree : Columns → ℕ → Tree
-names_tree c n = node (untold texts_type n (B.dict (record { all_values_referenced = false }))) (more (codes_tree c n) (more texts_tree end))
+abbrev pub names_tree : List ℕ → ℕ → Tree
+names_tree bytes n = node (untold texts_type n (B.dict (record { all_values_referenced = false }))) (more (codes_tree bytes n) (more texts_tree end))
 
 -- The field "c": lists of numbers without a sign, of two bytes, parted by offsets of four.
 abbrev pub lists_type : Typ
 lists_type = node (list NonNullable) (more (numbers U16) end)
 
-abbrev pub elements_tree : Columns → Tree
-elements_tree c = node (untold (numbers U16) c.count (B.primitive (record { values = buffer c.elements 1 }))) end
+abbrev pub elements_tree : List ℕ → ℕ → Tree
+elements_tree bytes count = node (untold (numbers U16) count (B.primitive (record { values = buffer bytes 1 }))) end
 
-abbrev pub offsets_tree : Columns → ℕ → Tree
-offsets_tree c n = node (untold (numbers U32) (suc n) (B.primitive (record { values = buffer c.offsets 2 }))) end
+abbrev pub offsets_tree : List ℕ → ℕ → Tree
+offsets_tree bytes n = node (untold (numbers U32) (suc n) (B.primitive (record { values = buffer bytes 2 }))) end
 
-abbrev pub lists_tree : Columns → ℕ → Tree
-lists_tree c n = node (untold lists_type n B.list) (more (elements_tree c) (more (offsets_tree c n) end))
+abbrev pub lists_tree : List ℕ → ℕ → List ℕ → ℕ → Tree
+lists_tree elements count offsets n = node (untold lists_type n B.list) (more (elements_tree elements count) (more (offsets_tree offsets n) end))
+
+-- The fields' names and types.
+abbrev pub made_fields : Fields
+made_fields = record {
+  names = codes "a" ∷ codes "b" ∷ codes "c" ∷ [];
+  types = numbers_type ∷ texts_type ∷ lists_type ∷ [];
+}
 
 -- The table's type: structures of the three fields, none of them null.
 abbrev pub made_type : Typ
-made_type = node (structure (codes "a" ∷ codes "b" ∷ codes "c" ∷ []) NonNullable) (more numbers_type (more texts_type (more lists_type end)))
+made_type = node (structure made_fields.names NonNullable) (roses_of made_fields.types)
 
 -- The table of these columns, of so many rows.
 abbrev pub table_tree : Columns → ℕ → Tree
-table_tree c n = node (untold made_type n B.struct) (more (numbers_tree c n) (more (names_tree c n) (more (lists_tree c n) end)))
+table_tree c n =
+    node (untold made_type n B.struct)
+    (more (numbers_tree c.numbers c.validity n) (more (names_tree c.codes n) (more (lists_tree c.elements c.count c.offsets n) end)))
 
 -- The table that a seed and a number of rows tell.
 unfoldable pub made : ℕ → ℕ → Tree

@@ -1,13 +1,17 @@
 //! The bytes of a table's columns, which grow row by row.
 
-ghost use Rattle.std.specs.Prelude.{◌≡◌, ◌+◌, ◌++◌, ◌<◌, ◌≤◌, ◌/◌, ◌%◌, ◌*◌, ◌^◌, length, IfOk, OnOk};
+ghost use Rattle.std.specs.Prelude.{◌≡◌, ℕ, ◌+◌, ◌++◌, ◌<◌, ◌≤◌, ◌/◌, ◌%◌, ◌*◌, ◌^◌, length, IfOk, OnOk};
 ghost use Rattle.vx_generator.specs.Columns.{after_row, columns, element_bytes, no_rows, stored, with_bit, with_list, with_number, with_row};
 ghost use Rattle.vx_generator.specs.Draws.{after};
+ghost use Rattle.vx_generator.specs.Made.{data_len, table_tree};
 
 use crate::draws::Draws;
 use crate::error::GeneratorError;
 use std::alloc::Global;
 use std::marker::Model;
+
+// How many bytes the texts and their views have.
+const TEXTS_LEN: usize = 101;
 
 /// The bytes of the columns so far, and how many elements the lists have.
 #[derive(Drop)]
@@ -26,12 +30,12 @@ impl Model for Columns {
     ghost Value = { Columns };
 
     ghost view = { λ c. record {
-        numbers = c.numbers.items;
-        validity = c.validity.items;
-        codes = c.codes.items;
-        elements = c.elements.items;
-        offsets = c.offsets.items;
-        count = c.count;
+      numbers = c.numbers.items;
+      validity = c.validity.items;
+      codes = c.codes.items;
+      elements = c.elements.items;
+      offsets = c.offsets.items;
+      count = c.count;
     } };
 }
 
@@ -68,14 +72,23 @@ impl Columns {
         self.push_list(draws, count)
     }
 
+    /// How many bytes the buffers of the table have that these columns make.
+    pub(crate) fn data_len(&self) -> u64
+        requires { length self.now.numbers + length self.now.validity + length self.now.codes + length self.now.elements + length self.now.offsets < 2 ^ 32 }
+        ensures { (n : ℕ) → result ≡ data_len (table_tree self.now n) }
+    {
+        let fixed = self.numbers.len() + self.validity.len() + self.codes.len();
+        let lists = self.elements.len() + self.offsets.len();
+        (fixed + TEXTS_LEN + lists) as u64
+    }
+
     // One number more, of this draw, and the bit of its row.
     fn push_number(&mut self, draw: u32, row: usize) -> Result<(), GeneratorError>
         requires inside { row / 8 < length self.old.validity }
         requires small { draw < 2 ^ 31 }
         ensures { OnOk result (self.new ≡ with_number self.old draw row) }
     {
-        self.numbers
-            .extend_from_slice(&stored(draw).to_le_bytes())?;
+        self.numbers.extend_from_slice(&stored(draw).to_le_bytes())?;
         if draw % 8 != 0 {
             set_bit(&mut self.validity, row);
         }
@@ -133,11 +146,7 @@ fn push_elements(
 
 /// The columns of so many rows that are drawn from a seed.
 #[tactic(auto, using(crate::proofs::Grown::validity_len, crate::proofs::Grown::few))]
-pub(crate) fn columns_of(
-    alloc: Global,
-    seed: u64,
-    rows: usize,
-) -> Result<Columns, GeneratorError>
+pub(crate) fn columns_of(alloc: Global, seed: u64, rows: usize) -> Result<Columns, GeneratorError>
     requires { rows ≤ 1000000 }
     ensures { IfOk result (λ c. c ≡ columns seed rows rows) }
 {

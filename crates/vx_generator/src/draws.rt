@@ -7,6 +7,7 @@ use std::marker::Model;
 
 // What a state is multiplied by, and what is added to it.
 const FACTOR: u64 = 6364136223846793005;
+
 const STEP: u64 = 1442695040888963407;
 
 /// A source of numbers, as its state of 64 bits. Each draw changes it.
