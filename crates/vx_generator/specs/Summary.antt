@@ -9,7 +9,8 @@ use Rattle.vx_generator.specs.Made.{data_len}
 -- How many rows, nodes and buffers there are, and how many bytes in these, in decimal.
 abbrev pub line_of : ℕ → ℕ → ℕ → ℕ → List ℕ
 line_of rows nodes buffers bytes =
-    codes "rows=" ++ decimal rows ++ codes " nodes=" ++ decimal nodes ++ codes " buffers=" ++ decimal buffers ++ codes " data=" ++ decimal bytes ++ codes "\n"
+    codes "rows="
+    ++ (decimal rows ++ (codes " nodes=" ++ (decimal nodes ++ (codes " buffers=" ++ (decimal buffers ++ (codes " data=" ++ (decimal bytes ++ codes "\n")))))))
 
 -- The line of an array, as it is counted.
 abbrev pub summary : Tree → List ℕ

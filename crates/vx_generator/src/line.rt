@@ -7,6 +7,7 @@ use std::alloc::{AllocError, Global};
 
 // How many arrays a table is made of, itself among them, and how many buffers these have.
 const NODES: u32 = 9;
+
 const BUFFERS: u32 = 7;
 
 /// The line that is told of a table of so many rows, whose buffers have so many bytes.
