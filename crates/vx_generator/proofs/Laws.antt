@@ -1,6 +1,5 @@
 -- What those above need of the table that a number tells.
 use Rattle.std.proofs.Common.{ℕ, ◌≡◌, ◌≤◌, refl}
-use Rattle.vx_trees.specs.Everywhere.{Everywhere}
 use Rattle.vx_trees.specs.Rose.{label}
 use Rattle.vx_trees.specs.Walks.{levels}
 use Rattle.vx_array_tree.specs.Canon.{KeepsStats}
