@@ -1,0 +1,5 @@
+pub mod Draws
+pub mod Columns
+pub mod Made
+pub mod Summary
+pub mod Rows
