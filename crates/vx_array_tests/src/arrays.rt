@@ -1,33 +1,24 @@
 //! Tests of arrays of numbers and of nulls: their rows, their parts and their refusals, with the texts.
 
-use crate::parts::{aligned_to, buffer_of, is_row, numbers, prints, value_at};
+use crate::parts::{Made, aligned_to, buffer_of, copy_of, has_row, numbers, prints, row_of};
 use std::alloc::Global;
 use vx_arrays::{Array, ArrayError, Arrays, Body, NullArray, PrimitiveArray, RowValue};
 use vx_buffer::{Alignment, BufferHandle};
 use vx_types::{DType, Nullability, PType, PValue};
 
-/// The value of the last row, where there is a row.
-pub(crate) fn last_value(alloc: Global, array: &Array) -> Result<Option<RowValue>, ArrayError> {
-    match array.len() {
-        0 => Ok(None),
-        len => Ok(Some(value_at(alloc, array, len - 1, 1)?)),
-    }
-}
-
 const NUMBERS: [u8; 16] = [
     254, 255, 255, 255, 255, 255, 255, 255, 1, 2, 3, 4, 5, 6, 7, 8,
 ];
 
+// Those bytes, handed out here so that no other proof reads them.
+fn number_bytes() -> &'static [u8] {
+    &NUMBERS
+}
+
 // Whether a row of so many numbers of a kind has this value.
-fn is_number(
-    alloc: Global,
-    kind: PType,
-    len: usize,
-    index: usize,
-    value: PValue,
-) -> Result<bool, ArrayError> {
-    let array = numbers(alloc, &NUMBERS, kind, len)?;
-    Ok(is_row(alloc, &array, index, true, RowValue::Primitive(value)))
+fn is_number(alloc: Global, kind: PType, len: usize, index: usize, value: PValue) -> bool {
+    let made = numbers(alloc, number_bytes(), kind, len);
+    has_row(alloc, made, index, true, RowValue::Primitive(value))
 }
 
 const NUMBER_ROWS: [(PType, usize, usize, PValue); 12] = [
@@ -49,14 +40,14 @@ const NUMBER_ROWS: [(PType, usize, usize, PValue); 12] = [
 fn rows_are_numbers_lowest_byte_first(rt: HostRuntime) {
     for (kind, len, index, value) in &NUMBER_ROWS {
         let holds = is_number(rt.alloc(), *kind, *len, *index, *value);
-        assert!(rt; holds == Ok(true), "{len} numbers");
+        assert!(rt; holds, "{len} numbers");
     }
 }
 
 // The first of two numbers, for so many cells.
 fn first_for(alloc: Global, budget: u64) -> Result<RowValue, ArrayError> {
-    let array = numbers(alloc, &[1, 2], PType::U8, 2)?;
-    value_at(alloc, &array, 0, budget)
+    let (_, value) = row_of(alloc, numbers(alloc, &[1, 2], PType::U8, 2), 0, budget);
+    value
 }
 
 #[test]
@@ -106,9 +97,46 @@ fn parts_that_do_not_fit_are_refused(rt: HostRuntime) {
     assert!(rt; refusal_of_numbers(alloc) == unfit);
 }
 
-/// Whether an array has one buffer, of these bytes.
-pub(crate) fn has_buffer(array: &Array, bytes: &[u8]) -> bool {
-    array.nbuffers() == 1 && array.buffer(0).as_host().as_slice() == bytes
+// Whether an array's encoding has this identifier.
+fn has_id(array: &Array, id: &str) -> bool {
+    array.encoding_id() == id
+}
+
+// How many children an array has.
+fn children_of(array: &Array) -> usize {
+    array.children().len()
+}
+
+// Whether an array has one buffer, of these bytes, or none.
+fn has_buffer(array: &Array, bytes: Option<&[u8]>) -> bool {
+    match bytes {
+        Some(bytes) => array.nbuffers() == 1 && array.buffer(0).as_host().as_slice() == bytes,
+        None => array.nbuffers() == 0,
+    }
+}
+
+// Whether an array is a node of this encoding, of so many rows and children.
+fn has_parts(array: &Array, id: &str, len: usize, children: usize) -> bool {
+    has_id(array, id) && array.len() == len && children_of(array) == children
+}
+
+/// Whether an array that is made first is a node of this encoding, of so many rows and children, and of one buffer of
+/// these bytes, or of none.
+pub(crate) fn is_node(
+    made: Made,
+    id: &str,
+    len: usize,
+    children: usize,
+    bytes: Option<&[u8]>,
+) -> bool {
+    match made {
+        Ok(array) => {
+            let holds = has_parts(&array, id, len, children) && has_buffer(&array, bytes);
+            drop(array);
+            holds
+        }
+        Err(_) => false,
+    }
 }
 
 // How many bytes an array of numbers lends.
@@ -119,30 +147,40 @@ fn lent(array: &Array) -> usize {
     }
 }
 
-// Whether an array is a sound one of integers that are never null, without children.
-fn is_of_integers(array: &Array) -> bool {
+// Whether an array is a sound one of integers that are never null.
+fn are_integers(array: &Array) -> bool {
     matches!(
         array.dtype(),
         DType::Primitive(PType::I32, Nullability::NonNullable)
-    ) && array.encoding_id() == "vortex.primitive"
-        && array.children().len() == 0
-        && array.validate().is_ok()
+    ) && array.validate().is_ok()
 }
 
-// Whether a copy of an array is one of integers of these bytes.
-fn is_copied(alloc: Global, array: &Array, bytes: &[u8]) -> bool {
-    match array.clone(alloc) {
-        Ok(copy) => {
-            is_of_integers(&copy) && lent(&copy) == bytes.len() && has_buffer(&copy, bytes)
+// Whether an array that is made first is a sound one of integers that are never null, and lends so many bytes.
+fn is_of_integers(made: Made, bytes: usize) -> bool {
+    match made {
+        Ok(array) => {
+            let holds = are_integers(&array) && lent(&array) == bytes;
+            drop(array);
+            holds
         }
         Err(_) => false,
     }
 }
 
+// A copy of so many integers.
+fn copied(alloc: Global, bytes: &[u8], len: usize) -> Made {
+    copy_of(alloc, numbers(alloc, bytes, PType::I32, len))
+}
+
 // Whether a copy of integers has their parts.
-fn are_copied(alloc: Global, bytes: &[u8], len: usize) -> Result<bool, ArrayError> {
-    let array = numbers(alloc, bytes, PType::I32, len)?;
-    Ok(is_copied(alloc, &array, bytes))
+fn are_copied(alloc: Global, bytes: &[u8], len: usize) -> bool {
+    is_node(
+        copied(alloc, bytes, len),
+        "vortex.primitive",
+        len,
+        0,
+        Some(bytes),
+    ) && is_of_integers(copied(alloc, bytes, len), bytes.len())
 }
 
 // A list of one array.
@@ -161,39 +199,36 @@ fn listed(alloc: Global) -> Result<(usize, usize), ArrayError> {
 
 #[test]
 fn parts_are_lent_and_cloned(rt: HostRuntime) {
-    assert!(rt; are_copied(rt.alloc(), &INTEGERS, 2) == Ok(true));
+    assert!(rt; are_copied(rt.alloc(), &INTEGERS, 2));
     assert!(rt; listed(rt.alloc()) == Ok((1, 1)));
 }
 
-// Whether an array is a node of so many nulls.
-fn is_of_nulls(array: &Array, len: usize) -> bool {
-    array.encoding_id() == "vortex.null"
-        && array.len() == len
-        && array.nbuffers() == 0
-        && array.children().len() == 0
+// The most nulls.
+fn nulls(alloc: Global) -> Made {
+    NullArray::new(alloc, usize::MAX)
 }
 
-// Whether a copy of so many nulls is a node of as many.
-fn are_nulls_copied(alloc: Global, array: &Array, len: usize) -> Result<bool, ArrayError> {
-    let copy = array.clone(alloc)?;
-    Ok(is_of_nulls(&copy, len))
+// Whether a row of the most nulls is null.
+fn is_null(alloc: Global, index: usize) -> bool {
+    has_row(alloc, nulls(alloc), index, false, RowValue::Null)
 }
 
-// Whether two rows of so many nulls are null.
-fn are_null(alloc: Global, array: &Array) -> bool {
-    is_row(alloc, array, 0, false, RowValue::Null)
-        && is_row(alloc, array, usize::MAX - 1, false, RowValue::Null)
-}
-
-// Whether the most nulls are copied, and are null.
-fn are_nulls(alloc: Global) -> Result<bool, ArrayError> {
-    let array = NullArray::new(alloc, usize::MAX)?;
-    Ok(are_null(alloc, &array) && are_nulls_copied(alloc, &array, usize::MAX) == Ok(true))
+// Whether a copy of the most nulls is a node of as many.
+fn are_nulls_copied(alloc: Global) -> bool {
+    is_node(
+        copy_of(alloc, nulls(alloc)),
+        "vortex.null",
+        usize::MAX,
+        0,
+        None,
+    )
 }
 
 #[test]
 fn each_row_of_nulls_is_null(rt: HostRuntime) {
-    assert!(rt; are_nulls(rt.alloc()) == Ok(true));
+    assert!(rt; is_null(rt.alloc(), 0));
+    assert!(rt; is_null(rt.alloc(), usize::MAX - 1));
+    assert!(rt; are_nulls_copied(rt.alloc()));
 }
 
 #[test]

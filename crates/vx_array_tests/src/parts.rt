@@ -6,6 +6,31 @@ use vx_arrays::{Array, ArrayError, BoolArray, PrimitiveArray, RowValue};
 use vx_buffer::{Alignment, BufferHandle, ByteBuffer};
 use vx_types::{Nullability, PType};
 
+/// An array, or why it is not made.
+pub type Made = Result<Array, ArrayError>;
+
+/// Two values, or why one of them is not made.
+pub fn both<A: Drop, B: Drop, E: Drop>(
+    first: Result<A, E>,
+    second: Result<B, E>,
+) -> Result<(A, B), E> {
+    match first {
+        Ok(first) => match second {
+            Ok(second) => Ok((first, second)),
+            Err(e) => Err(e),
+        },
+        Err(e) => Err(e),
+    }
+}
+
+/// A validity, where it is made.
+pub fn some(made: Made) -> Result<Option<Array>, ArrayError> {
+    match made {
+        Ok(array) => Ok(Some(array)),
+        Err(e) => Err(e),
+    }
+}
+
 /// The alignment of two to this exponent, or none.
 pub fn aligned_to(exponent: u8) -> Alignment {
     match Alignment::from_exponent(exponent) {
@@ -65,9 +90,36 @@ pub fn value_at(
     array.value_at(alloc, index, budget)
 }
 
-/// Whether a row is there or not, and has this value.
-pub fn is_row(alloc: Global, array: &Array, index: usize, there: bool, value: RowValue) -> bool {
-    is_there(array, index) == Some(there) && value_at(alloc, array, index, 1) == Ok(value)
+/// Whether a row of an array that is made first is there, if that is known, and its value, for so many cells.
+pub fn row_of(
+    alloc: Global,
+    made: Made,
+    index: usize,
+    budget: u64,
+) -> (Option<bool>, Result<RowValue, ArrayError>) {
+    match made {
+        Ok(array) => {
+            let there = is_there(&array, index);
+            let value = value_at(alloc, &array, index, budget);
+            drop(array);
+            (there, value)
+        }
+        Err(e) => (None, Err(e)),
+    }
+}
+
+/// Whether a row of an array that is made first is there or not, and has this value.
+pub fn has_row(alloc: Global, made: Made, index: usize, there: bool, value: RowValue) -> bool {
+    let (is_there, found) = row_of(alloc, made, index, 1);
+    is_there == Some(there) && found == Ok(value)
+}
+
+/// A copy of an array that is made first.
+pub fn copy_of(alloc: Global, made: Made) -> Made {
+    let array = made?;
+    let copy = array.clone(alloc);
+    drop(array);
+    copy
 }
 
 /// Whether a value is printed as this text.

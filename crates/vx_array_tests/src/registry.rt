@@ -17,15 +17,26 @@ fn interned(alloc: Global, ctx: &mut ArrayContext, text: &str) -> Option<u16> {
     }
 }
 
+// Whether identifiers that come into a context get these numbers.
+fn are_numbered(alloc: Global, ctx: &mut ArrayContext, rows: &[(&str, u16)]) -> bool {
+    for (text, place) in rows {
+        if interned(alloc, ctx, text) != Some(*place) {
+            return false;
+        }
+    }
+    true
+}
+
 // The identifiers of a context that these came into, where each is numbered by its place.
 fn numbered(alloc: Global, rows: &[(&str, u16)]) -> Result<Ids, RegistryError> {
     let mut ctx = ArrayContext::empty(alloc);
-    for (text, place) in rows {
-        if interned(alloc, &mut ctx, text) != Some(*place) {
-            return Err(RegistryError::NotRegistered);
-        }
-    }
-    ctx.to_ids(alloc)
+    let ids = if are_numbered(alloc, &mut ctx, rows) {
+        ctx.to_ids(alloc)
+    } else {
+        Err(RegistryError::NotRegistered)
+    };
+    drop(ctx);
+    ids
 }
 
 // Whether an identifier has this number.
@@ -46,16 +57,20 @@ fn read_context(alloc: Global) -> Result<ReadContext, RegistryError> {
     Ok(ReadContext::new(ids))
 }
 
+// Whether an identifier has this number there.
+fn is_numbered(alloc: Global, index: u16, text: Option<&str>) -> Result<bool, RegistryError> {
+    let read = read_context(alloc)?;
+    let resolved = is_resolved(&read, index, text);
+    drop(read);
+    Ok(resolved)
+}
+
 #[test]
 fn identifiers_are_numbered_once(rt: HostRuntime) {
-    match read_context(rt.alloc()) {
-        Ok(read) => {
-            assert!(rt; is_resolved(&read, 0, Some("vortex.primitive")));
-            assert!(rt; is_resolved(&read, 2, Some("x.y")));
-            assert!(rt; is_resolved(&read, 3, None));
-        }
-        Err(_) => assert!(rt; false, "each has its place"),
-    }
+    let alloc = rt.alloc();
+    assert!(rt; is_numbered(alloc, 0, Some("vortex.primitive")) == Ok(true));
+    assert!(rt; is_numbered(alloc, 2, Some("x.y")) == Ok(true));
+    assert!(rt; is_numbered(alloc, 3, None) == Ok(true));
 }
 
 // An identifier that stands twice.
@@ -70,7 +85,9 @@ fn twice(alloc: Global, text: &str) -> Result<Ids, TypeError> {
 // Whether the second of two equal identifiers is found.
 fn is_kept(alloc: Global, text: &str) -> Result<bool, TypeError> {
     let read = ReadContext::new(twice(alloc, text)?);
-    Ok(is_resolved(&read, 1, Some(text)))
+    let kept = is_resolved(&read, 1, Some(text));
+    drop(read);
+    Ok(kept)
 }
 
 #[test]
@@ -98,7 +115,9 @@ fn shipped(alloc: Global) -> Result<VortexSession, RegistryError> {
 // Whether the empty session neither reads nor writes an identifier.
 fn is_unread(alloc: Global, text: &str) -> bool {
     let arrays = ArraySession::empty(alloc);
-    is_entry(alloc, &arrays, text, None) == Ok(true)
+    let entry = is_entry(alloc, &arrays, text, None);
+    drop(arrays);
+    entry == Ok(true)
 }
 
 const ENTRIES: [(&str, Option<Encoding>); 13] = [
@@ -128,12 +147,17 @@ fn entries(alloc: Global, arrays: &ArraySession) -> u8 {
     count
 }
 
+// How many of the rows the shipped session reads and writes so.
+fn shipped_entries(alloc: Global) -> Result<u8, RegistryError> {
+    let session = shipped(alloc)?;
+    let count = entries(alloc, &session.arrays);
+    drop(session);
+    Ok(count)
+}
+
 #[test]
 fn the_shipped_session_reads_and_writes_its_encodings(rt: HostRuntime) {
-    match shipped(rt.alloc()) {
-        Ok(session) => assert!(rt; entries(rt.alloc(), &session.arrays) == 13),
-        Err(_) => assert!(rt; false),
-    }
+    assert!(rt; shipped_entries(rt.alloc()) == Ok(13));
 }
 
 #[test]

@@ -51,12 +51,17 @@ fn has_ids(alloc: Global, context: &ArrayContext, texts: &[&str]) -> bool {
     }
 }
 
+// Whether these are its identifiers, in this order.
+fn is_begun(alloc: Global, texts: &[&str]) -> Result<bool, RegistryError> {
+    let context = begun(alloc)?;
+    let begun = has_ids(alloc, &context, texts);
+    drop(context);
+    Ok(begun)
+}
+
 #[test]
 fn a_context_begins_with_each_identifier_once(rt: HostRuntime) {
-    match begun(rt.alloc()) {
-        Ok(context) => assert!(rt; has_ids(rt.alloc(), &context, &["a", "b"])),
-        Err(_) => assert!(rt; false),
-    }
+    assert!(rt; is_begun(rt.alloc(), &["a", "b"]) == Ok(true));
 }
 
 // That context, where only `a` is allowed.
@@ -82,8 +87,10 @@ fn place_in(
 // Whether an identifier has this number in the limited context, and nothing comes into it.
 fn is_limited(alloc: Global, text: &str, place: Option<u16>) -> Result<bool, RegistryError> {
     let mut context = limited(alloc)?;
-    let found = place_in(alloc, &mut context, text)?;
-    Ok(found == place && has_ids(alloc, &context, &["a", "b"]))
+    let found = place_in(alloc, &mut context, text);
+    let kept = has_ids(alloc, &context, &["a", "b"]);
+    drop(context);
+    Ok(kept && found == Ok(place))
 }
 
 #[test]
@@ -93,12 +100,10 @@ fn only_allowed_identifiers_come(rt: HostRuntime) {
     assert!(rt; is_limited(rt.alloc(), "c", None) == Ok(true));
 }
 
-// A session that registers numbers alone, twice.
-fn of_numbers(alloc: Global) -> Result<ArraySession, AllocFailed<PluginEntry>> {
-    let mut session = ArraySession::empty(alloc);
+// Registers numbers, twice.
+fn register_numbers(session: &mut ArraySession) -> Result<(), AllocFailed<PluginEntry>> {
     session.register(PluginEntry::Shipped(Encoding::Primitive))?;
-    session.register(PluginEntry::Shipped(Encoding::Primitive))?;
-    Ok(session)
+    session.register(PluginEntry::Shipped(Encoding::Primitive))
 }
 
 // Whether a session reads and writes an identifier by this encoding, or by none.
@@ -121,12 +126,18 @@ fn is_of_numbers(alloc: Global, session: &ArraySession) -> bool {
         && is_entry(alloc, session, "vortex.null", None)
 }
 
+// Whether a session that numbers are registered in twice registers numbers alone.
+fn are_registered_once(alloc: Global) -> bool {
+    let mut session = ArraySession::empty(alloc);
+    let registered = register_numbers(&mut session).is_ok();
+    let alone = is_of_numbers(alloc, &session);
+    drop(session);
+    registered && alone
+}
+
 #[test]
 fn an_entry_takes_the_place_of_the_one_before(rt: HostRuntime) {
-    match of_numbers(rt.alloc()) {
-        Ok(session) => assert!(rt; is_of_numbers(rt.alloc(), &session)),
-        Err(_) => assert!(rt; false),
-    }
+    assert!(rt; are_registered_once(rt.alloc()));
 }
 
 const BYTES: [u8; 16] = [1, 0, 0, 0, 2, 0, 0, 0, 3, 0, 0, 0, 4, 0, 0, 0];
@@ -148,35 +159,79 @@ fn are_fours(parts: &ArraySerialization) -> bool {
         && parts.children.len() == 0
 }
 
-// Whether the parts of an array are those, and so is their copy.
-fn has_parts(alloc: Global, array: &Array) -> Result<bool, RegistryError> {
-    let parts = ArraySerialization::from_array(alloc, array)?;
-    let again = parts.clone(alloc)?;
-    Ok(are_fours(&parts) && are_fours(&again))
+// The parts of an array, or why they are not made.
+type Parts = Result<ArraySerialization, RegistryError>;
+
+// The parts of the four numbers.
+fn parts_of_fours(alloc: Global) -> Parts {
+    match four(alloc) {
+        Ok(array) => {
+            let parts = ArraySerialization::from_array(alloc, &array);
+            drop(array);
+            parts
+        }
+        Err(_) => Err(RegistryError::OutOfMemory),
+    }
+}
+
+// A copy of parts that are made first.
+fn copied_parts(alloc: Global, parts: Parts) -> Parts {
+    let parts = parts?;
+    let copy = parts.clone(alloc);
+    drop(parts);
+    copy
+}
+
+// Whether parts that are made first are those of the four numbers.
+fn have_fours(parts: Parts) -> Result<bool, RegistryError> {
+    let parts = parts?;
+    let fours = are_fours(&parts);
+    drop(parts);
+    Ok(fours)
 }
 
 #[test]
 fn parts_are_the_arrays(rt: HostRuntime) {
-    match four(rt.alloc()) {
-        Ok(array) => assert!(rt; has_parts(rt.alloc(), &array) == Ok(true)),
-        Err(_) => assert!(rt; false),
-    }
+    let alloc = rt.alloc();
+    assert!(rt; have_fours(parts_of_fours(alloc)) == Ok(true));
+    assert!(rt; have_fours(copied_parts(alloc, parts_of_fours(alloc))) == Ok(true));
 }
 
-// Whether the parts of an array are written by these encodings, as those of the four numbers.
-fn are_written(alloc: Global, arrays: ArraySession, array: &Array) -> Result<bool, RegistryError> {
+// The parts of an array as these encodings write it.
+fn written(
+    alloc: Global,
+    arrays: ArraySession,
+    array: &Array,
+) -> Result<Option<ArraySerialization>, RegistryError> {
     let session = VortexSession::new(arrays, ExtSession::new(alloc));
-    match session.array_serialize(alloc, array)? {
-        Some(parts) => Ok(are_fours(&parts)),
-        None => Ok(false),
-    }
+    let parts = session.array_serialize(alloc, array);
+    drop(session);
+    parts
 }
 
 // The same of the four numbers.
-fn fours_are_written(alloc: Global, arrays: ArraySession) -> Result<bool, RegistryError> {
+fn written_fours(
+    alloc: Global,
+    arrays: ArraySession,
+) -> Result<Option<ArraySerialization>, RegistryError> {
     match four(alloc) {
-        Ok(array) => are_written(alloc, arrays, &array),
-        Err(_) => Err(RegistryError::OutOfMemory),
+        Ok(array) => {
+            let parts = written(alloc, arrays, &array);
+            drop(array);
+            parts
+        }
+        Err(_) => {
+            drop(arrays);
+            Err(RegistryError::OutOfMemory)
+        }
+    }
+}
+
+// Whether the four numbers are written by these encodings, as their parts.
+fn fours_are_written(alloc: Global, arrays: ArraySession) -> Result<bool, RegistryError> {
+    match written_fours(alloc, arrays)? {
+        Some(parts) => have_fours(Ok(parts)),
+        None => Ok(false),
     }
 }
 
@@ -205,7 +260,9 @@ fn parts_of_nulls(alloc: Global) -> Result<ArrayDeserialization, TypeError> {
 // Whether that is handed on.
 fn are_handed_on(alloc: Global) -> Result<bool, TypeError> {
     let parts = parts_of_nulls(alloc)?;
-    Ok(parts.serialized_id.as_str() == "vortex.null" && parts.len == 3)
+    let handed_on = parts.serialized_id.as_str() == "vortex.null" && parts.len == 3;
+    drop(parts);
+    Ok(handed_on)
 }
 
 #[test]
@@ -213,11 +270,17 @@ fn what_is_built_of_is_handed_on(rt: HostRuntime) {
     assert!(rt; are_handed_on(rt.alloc()) == Ok(true));
 }
 
+// Whether a session allows what is unknown, at first and once it is told so.
+fn allows_unknown(alloc: Global) -> (bool, bool) {
+    let mut session = VortexSession::new(ArraySession::empty(alloc), ExtSession::new(alloc));
+    let first = session.allows_unknown();
+    session.ext.allow_unknown();
+    let then = session.allows_unknown();
+    drop(session);
+    (first, then)
+}
+
 #[test]
 fn nothing_unknown_is_allowed_at_first(rt: HostRuntime) {
-    let alloc = rt.alloc();
-    let mut session = VortexSession::new(ArraySession::empty(alloc), ExtSession::new(alloc));
-    assert!(rt; !session.allows_unknown());
-    session.ext.allow_unknown();
-    assert!(rt; session.allows_unknown());
+    assert!(rt; allows_unknown(rt.alloc()) == (false, true));
 }

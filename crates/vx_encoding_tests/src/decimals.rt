@@ -2,8 +2,8 @@
 
 use crate::encodings::{buffers_of, head_of, is_built, plan_refusal};
 use std::alloc::{AllocError, Global};
-use vx_array_tests::parts::{aligned_to, buffer_of, is_row};
-use vx_arrays::{Array, ArrayError, DecimalArray, RowValue};
+use vx_array_tests::parts::{Made, aligned_to, buffer_of, has_row};
+use vx_arrays::{ArrayError, DecimalArray, RowValue};
 use vx_buffer::{Alignment, BufferHandle};
 use vx_encodings::{ArrayHead, DecimalMetadata, Encoding, EncodingError};
 use vx_proto::{Message, ProtoError};
@@ -28,34 +28,37 @@ fn edges(alloc: Global, width: usize) -> Result<Vec<u8>, AllocError> {
     Ok(bytes)
 }
 
-// So many decimals of ten digits by integers of this width.
-fn decimals_of(
-    alloc: Global,
-    values: BufferHandle,
-    width: DecimalType,
-    len: usize,
-) -> Result<Array, ArrayError> {
-    let never = Nullability::NonNullable;
+// Decimals of ten digits.
+fn ten_digits() -> Result<DecimalDType, ArrayError> {
     match DecimalDType::try_new(10, 2) {
-        Ok(digits) => DecimalArray::try_new(alloc, values, width, digits, never, len, None),
+        Ok(digits) => Ok(digits),
         Err(_) => Err(ArrayError::OutOfMemory),
     }
 }
 
-// The same of bytes.
+/// So many decimals of ten digits by integers of this width.
 pub(crate) fn decimals(
     alloc: Global,
     bytes: &[u8],
     width: DecimalType,
     alignment: Alignment,
     len: usize,
-) -> Result<Array, ArrayError> {
+) -> Made {
+    let digits = ten_digits()?;
     let values = buffer_of(alloc, bytes, alignment)?;
-    decimals_of(alloc, values, width, len)
+    DecimalArray::try_new(
+        alloc,
+        values,
+        width,
+        digits,
+        Nullability::NonNullable,
+        len,
+        None,
+    )
 }
 
 // The three integers at the edges of a width.
-fn edge_array(alloc: Global, width: DecimalType) -> Result<Array, ArrayError> {
+fn edge_array(alloc: Global, width: DecimalType) -> Made {
     let bytes = edges(alloc, width.byte_width())?;
     decimals(alloc, bytes.as_slice(), width, aligned_to(4), 3)
 }
@@ -106,19 +109,22 @@ fn minus_one(width: DecimalType) -> DecimalValue {
     }
 }
 
-// Whether a row has this decimal.
-fn is_decimal(alloc: Global, array: &Array, index: usize, value: DecimalValue) -> bool {
-    is_row(alloc, array, index, true, RowValue::Decimal(value))
+// Whether a row of the integers at the edges of a width is this decimal.
+fn is_edge(alloc: Global, width: DecimalType, index: usize, value: DecimalValue) -> bool {
+    has_row(
+        alloc,
+        edge_array(alloc, width),
+        index,
+        true,
+        RowValue::Decimal(value),
+    )
 }
 
 // Whether the integers at the edges of a width are its rows.
-fn are_edges(alloc: Global, width: DecimalType) -> Result<bool, ArrayError> {
-    let array = edge_array(alloc, width)?;
-    Ok(
-        is_decimal(alloc, &array, 0, least(width))
-            && is_decimal(alloc, &array, 1, greatest(width))
-            && is_decimal(alloc, &array, 2, minus_one(width)),
-    )
+fn are_edges(alloc: Global, width: DecimalType) -> bool {
+    is_edge(alloc, width, 0, least(width))
+        && is_edge(alloc, width, 1, greatest(width))
+        && is_edge(alloc, width, 2, minus_one(width))
 }
 
 const WIDTHS: [DecimalType; 6] = [
@@ -133,33 +139,42 @@ const WIDTHS: [DecimalType; 6] = [
 #[test]
 fn rows_are_integers_of_each_width(rt: HostRuntime) {
     for width in &WIDTHS {
-        assert!(rt; are_edges(rt.alloc(), *width) == Ok(true), "{width:?}");
+        assert!(rt; are_edges(rt.alloc(), *width), "{width:?}");
     }
 }
 
-// Whether so many decimals of a width are made of 64 bytes, aligned to two to this exponent.
-fn are_made(alloc: Global, width: DecimalType, exponent: u8, len: usize) -> bool {
-    decimals(alloc, &[7; 64], width, aligned_to(exponent), len).is_ok()
+const SEVENS: [u8; 64] = [7; 64];
+
+// Those bytes, handed out here so that no other proof reads them.
+fn sevens() -> &'static [u8] {
+    &SEVENS
 }
 
-const ALIGNED: [(DecimalType, u8, usize, bool); 10] = [
-    (DecimalType::I8, 0, 64, true),
-    (DecimalType::I16, 0, 32, false),
-    (DecimalType::I16, 1, 32, true),
-    (DecimalType::I64, 2, 8, false),
-    (DecimalType::I128, 3, 4, false),
-    (DecimalType::I128, 4, 4, true),
-    (DecimalType::I256, 3, 2, false),
-    (DecimalType::I256, 4, 2, true),
-    (DecimalType::I256, 4, 1, false),
-    (DecimalType::I256, 4, usize::MAX, false),
+// Why so many decimals of a width are not made of 64 bytes, aligned to two to this exponent, if they are not.
+fn made_refusal(alloc: Global, width: DecimalType, exponent: u8, len: usize) -> Option<ArrayError> {
+    decimals(alloc, sevens(), width, aligned_to(exponent), len).err()
+}
+
+const UNFIT: Option<ArrayError> = Some(ArrayError::BadShape);
+
+const ALIGNED: [(DecimalType, u8, usize, Option<ArrayError>); 10] = [
+    (DecimalType::I8, 0, 64, None),
+    (DecimalType::I16, 0, 32, UNFIT),
+    (DecimalType::I16, 1, 32, None),
+    (DecimalType::I64, 2, 8, UNFIT),
+    (DecimalType::I128, 3, 4, UNFIT),
+    (DecimalType::I128, 4, 4, None),
+    (DecimalType::I256, 3, 2, UNFIT),
+    (DecimalType::I256, 4, 2, None),
+    (DecimalType::I256, 4, 1, UNFIT),
+    (DecimalType::I256, 4, usize::MAX, UNFIT),
 ];
 
 #[test]
 fn integers_are_aligned_to_at_most_16_bytes(rt: HostRuntime) {
-    for (width, exponent, len, fits) in &ALIGNED {
-        let made = are_made(rt.alloc(), *width, *exponent, *len);
-        assert!(rt; made == *fits, "{width:?} at 2^{exponent}");
+    for (width, exponent, len, error) in &ALIGNED {
+        let refused = made_refusal(rt.alloc(), *width, *exponent, *len);
+        assert!(rt; refused == *error, "{width:?} at 2^{exponent}");
     }
 }
 
@@ -216,19 +231,25 @@ fn decimal_head(
 }
 
 // Why five decimals are not planned, if they are not.
-fn refusal(
-    alloc: Global,
-    metadata: &[u8],
-    nchildren: usize,
-) -> Result<Option<EncodingError>, EncodingError> {
-    let head = decimal_head(alloc, metadata, nchildren)?;
-    Ok(plan_refusal(alloc, Encoding::Decimal, &head))
+fn refusal(alloc: Global, metadata: &[u8], nchildren: usize) -> Option<EncodingError> {
+    plan_refusal(
+        alloc,
+        Encoding::Decimal,
+        decimal_head(alloc, metadata, nchildren),
+    )
+}
+
+const HUNDREDS: [u8; 80] = [100; 80];
+
+// Those bytes, handed out here so that no other proof reads them.
+fn hundreds() -> &'static [u8] {
+    &HUNDREDS
 }
 
 // Whether five decimals of 16 bytes each are planned and built, with their metadata kept.
 fn are_built(alloc: Global, metadata: &[u8]) -> Result<bool, EncodingError> {
-    let head = decimal_head(alloc, metadata, 0)?;
-    let buffers = buffers_of(alloc, &[100; 80], aligned_to(4), 1)?;
+    let head = decimal_head(alloc, metadata, 0);
+    let buffers = buffers_of(alloc, hundreds(), aligned_to(4), 1);
     is_built(alloc, Encoding::Decimal, head, buffers, metadata)
 }
 
@@ -242,5 +263,5 @@ fn nodes_of_decimals_keep_their_width(rt: HostRuntime) {
     assert!(rt; are_built(alloc, &[]) == unfit);
     assert!(rt; are_built(alloc, &[8, 6]) == unread);
     assert!(rt; are_built(alloc, &[8]) == unread);
-    assert!(rt; refusal(alloc, &[8, 4], 2) == Ok(Some(EncodingError::BadShape)));
+    assert!(rt; refusal(alloc, &[8, 4], 2) == Some(EncodingError::BadShape));
 }

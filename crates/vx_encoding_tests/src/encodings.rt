@@ -1,7 +1,7 @@
 //! Tests of one level: planned, built and written; and of the texts of errors.
 
 use std::alloc::Global;
-use vx_array_tests::parts::{aligned_to, buffer_of, prints};
+use vx_array_tests::parts::{aligned_to, both, buffer_of, prints};
 use vx_arrays::{Array, Arrays};
 use vx_buffer::{Alignment, BufferHandles};
 use vx_encodings::{
@@ -10,7 +10,7 @@ use vx_encodings::{
 };
 use vx_proto::{Message, ProtoError};
 use vx_type_wire::ExtSession;
-use vx_types::{Blob, DType, Id, Nullability, PType};
+use vx_types::{Blob, DType, Id, Nullability, PType, TypeError};
 
 fn numbers() -> DType {
     DType::Primitive(PType::I32, Nullability::NonNullable)
@@ -28,6 +28,16 @@ fn head_with(dtype: DType, len: usize, id: Id, metadata: Blob, nchildren: usize)
     }
 }
 
+// An identifier, and metadata of these bytes.
+fn label_of(alloc: Global, metadata: &[u8]) -> Result<(Id, Blob), TypeError> {
+    let id = Id::new(alloc, "vortex.primitive")?;
+    let metadata = Blob::copy_from(alloc, metadata)?;
+    Ok((id, metadata))
+}
+
+/// The head of a node, or why it is not made.
+pub(crate) type Head = Result<ArrayHead, EncodingError>;
+
 /// The head of a node of one buffer, by its parts.
 pub(crate) fn head_of(
     alloc: Global,
@@ -35,32 +45,28 @@ pub(crate) fn head_of(
     len: usize,
     metadata: &[u8],
     nchildren: usize,
-) -> Result<ArrayHead, EncodingError> {
-    let Ok(id) = Id::new(alloc, "vortex.primitive") else {
-        return Err(EncodingError::OutOfMemory);
-    };
-    match Blob::copy_from(alloc, metadata) {
-        Ok(metadata) => Ok(head_with(dtype, len, id, metadata, nchildren)),
-        Err(_) => Err(EncodingError::OutOfMemory),
+) -> Head {
+    match label_of(alloc, metadata) {
+        Ok((id, metadata)) => Ok(head_with(dtype, len, id, metadata, nchildren)),
+        Err(_) => {
+            drop(dtype);
+            Err(EncodingError::OutOfMemory)
+        }
     }
 }
 
 // The children that are planned for a node, without readers of extensions.
-fn plans_of(
-    alloc: Global,
-    encoding: Encoding,
-    head: &ArrayHead,
-) -> Result<ChildPlans, EncodingError> {
+fn plans_of(alloc: Global, encoding: Encoding, head: Head) -> Result<ChildPlans, EncodingError> {
+    let head = head?;
     let readers = ExtSession::new(alloc);
-    plan(alloc, encoding, head, &readers)
+    let plans = plan(alloc, encoding, &head, &readers);
+    drop(readers);
+    drop(head);
+    plans
 }
 
 /// Why a node is not planned, if it is not.
-pub(crate) fn plan_refusal(
-    alloc: Global,
-    encoding: Encoding,
-    head: &ArrayHead,
-) -> Option<EncodingError> {
+pub(crate) fn plan_refusal(alloc: Global, encoding: Encoding, head: Head) -> Option<EncodingError> {
     plans_of(alloc, encoding, head).err()
 }
 
@@ -80,9 +86,11 @@ fn is_planned(plans: &ChildPlans) -> bool {
 // Whether the one child that is planned for numbers is a validity.
 fn is_validity_planned(alloc: Global) -> Result<bool, EncodingError> {
     let numbers = DType::Primitive(PType::I32, Nullability::Nullable);
-    let head = head_of(alloc, numbers, 4, &[], 1)?;
-    let plans = plans_of(alloc, Encoding::Primitive, &head)?;
-    Ok(is_planned(&plans))
+    let head = head_of(alloc, numbers, 4, &[], 1);
+    let plans = plans_of(alloc, Encoding::Primitive, head)?;
+    let planned = is_planned(&plans);
+    drop(plans);
+    Ok(planned)
 }
 
 #[test]
@@ -97,68 +105,93 @@ fn refusal(
     dtype: DType,
     metadata: &[u8],
     nchildren: usize,
-) -> Result<Option<EncodingError>, EncodingError> {
-    let head = head_of(alloc, dtype, 4, metadata, nchildren)?;
-    Ok(plan_refusal(alloc, encoding, &head))
+) -> Option<EncodingError> {
+    plan_refusal(
+        alloc,
+        encoding,
+        head_of(alloc, dtype, 4, metadata, nchildren),
+    )
 }
 
 // The same of numbers.
-fn refusal_of_numbers(
-    alloc: Global,
-    dtype: DType,
-    metadata: &[u8],
-) -> Result<Option<EncodingError>, EncodingError> {
+fn refusal_of_numbers(alloc: Global, dtype: DType, metadata: &[u8]) -> Option<EncodingError> {
     refusal(alloc, Encoding::Primitive, dtype, metadata, 0)
 }
 
 #[test]
 fn plans_of_numbers_are_refused(rt: HostRuntime) {
     let alloc = rt.alloc();
-    let unfit = Ok(Some(EncodingError::BadShape));
+    let unfit = Some(EncodingError::BadShape);
     assert!(rt; refusal_of_numbers(alloc, DType::Null, &[]) == unfit);
     assert!(rt; refusal_of_numbers(alloc, DType::Bool(Nullability::Nullable), &[]) == unfit);
     let with_metadata = refusal_of_numbers(alloc, numbers(), &[8]);
-    assert!(rt; with_metadata == Ok(Some(EncodingError::BadMetadata)));
+    assert!(rt; with_metadata == Some(EncodingError::BadMetadata));
 }
 
-// A node without children, which is planned without any.
+// A node without children, once it is planned without any.
 fn build_planned(
     alloc: Global,
     encoding: Encoding,
     head: ArrayHead,
     buffers: BufferHandles,
+    readers: &ExtSession,
 ) -> Result<Array, EncodingError> {
-    let readers = ExtSession::new(alloc);
-    let plans = plan(alloc, encoding, &head, &readers)?;
-    if plans.len() != 0 {
-        return Err(EncodingError::BadShape);
-    }
-    build(alloc, encoding, head, buffers, Arrays::new(alloc), &readers)
+    let refused = match plan(alloc, encoding, &head, readers) {
+        Ok(plans) => {
+            let count = plans.len();
+            drop(plans);
+            if count == 0 {
+                return build(alloc, encoding, head, buffers, Arrays::new(alloc), readers);
+            }
+            EncodingError::BadShape
+        }
+        Err(e) => e,
+    };
+    drop(head);
+    drop(buffers);
+    Err(refused)
 }
 
-// The metadata of a node without children, once it is built. It has to fit its message.
-fn built_metadata(
+// The same, without readers of extensions, once its parts are made.
+fn built(
     alloc: Global,
     encoding: Encoding,
-    head: ArrayHead,
-    buffers: BufferHandles,
-) -> Result<Blob, EncodingError> {
-    let array = build_planned(alloc, encoding, head, buffers)?;
-    if !has_message(&array) {
-        return Err(EncodingError::BadMetadata);
+    head: Head,
+    buffers: Result<BufferHandles, EncodingError>,
+) -> Result<Array, EncodingError> {
+    let (head, buffers) = both(head, buffers)?;
+    let readers = ExtSession::new(alloc);
+    let array = build_planned(alloc, encoding, head, buffers, &readers);
+    drop(readers);
+    array
+}
+
+// An array's metadata, which has to fit its message.
+fn fitting_metadata(alloc: Global, array: &Array) -> Result<Blob, EncodingError> {
+    if has_message(array) {
+        metadata(alloc, array)
+    } else {
+        Err(EncodingError::BadMetadata)
     }
-    metadata(alloc, &array)
+}
+
+// The same of an array that is built first.
+fn metadata_of(alloc: Global, built: Result<Array, EncodingError>) -> Result<Blob, EncodingError> {
+    let array = built?;
+    let bytes = fitting_metadata(alloc, &array);
+    drop(array);
+    bytes
 }
 
 /// Whether a node without children is built, of this metadata.
 pub(crate) fn is_built(
     alloc: Global,
     encoding: Encoding,
-    head: ArrayHead,
-    buffers: BufferHandles,
+    head: Head,
+    buffers: Result<BufferHandles, EncodingError>,
     metadata: &[u8],
 ) -> Result<bool, EncodingError> {
-    let bytes = built_metadata(alloc, encoding, head, buffers)?;
+    let bytes = metadata_of(alloc, built(alloc, encoding, head, buffers))?;
     Ok(bytes.as_slice() == metadata)
 }
 
@@ -187,8 +220,8 @@ fn are_numbers_built(
     len: usize,
     alignment: Alignment,
 ) -> Result<bool, EncodingError> {
-    let buffers = buffers_of(alloc, &[1, 0, 0, 0, 2, 0, 0, 0], alignment, 1)?;
-    let head = head_of(alloc, numbers(), len, &[], 0)?;
+    let buffers = buffers_of(alloc, &[1, 0, 0, 0, 2, 0, 0, 0], alignment, 1);
+    let head = head_of(alloc, numbers(), len, &[], 0);
     is_built(alloc, Encoding::Primitive, head, buffers, &[])
 }
 
@@ -231,18 +264,9 @@ fn an_offset_is_one_number(rt: HostRuntime) {
 }
 
 // Why four flags of this metadata and so many children are not planned, if they are not.
-fn flags_refusal(
-    alloc: Global,
-    metadata: &[u8],
-    nchildren: usize,
-) -> Result<Option<EncodingError>, EncodingError> {
-    refusal(
-        alloc,
-        Encoding::Bool,
-        DType::Bool(Nullability::Nullable),
-        metadata,
-        nchildren,
-    )
+fn flags_refusal(alloc: Global, metadata: &[u8], nchildren: usize) -> Option<EncodingError> {
+    let flags = DType::Bool(Nullability::Nullable);
+    refusal(alloc, Encoding::Bool, flags, metadata, nchildren)
 }
 
 const BAD: Option<EncodingError> = Some(EncodingError::BadMetadata);
@@ -262,20 +286,15 @@ const FLAGS: [(&[u8], usize, Option<EncodingError>); 8] = [
 fn plans_of_flags_are_refused(rt: HostRuntime) {
     for (metadata, nchildren, error) in &FLAGS {
         let refused = flags_refusal(rt.alloc(), metadata, *nchildren);
-        assert!(rt; refused == Ok(*error), "{metadata:?}");
+        assert!(rt; refused == *error, "{metadata:?}");
     }
 }
 
 // Whether so many flags of one byte are built, of this metadata.
 fn are_flags_built(alloc: Global, metadata: &[u8], len: usize) -> Result<bool, EncodingError> {
-    let buffers = buffers_of(alloc, &[0x2c], Alignment::none(), 1)?;
-    let head = head_of(
-        alloc,
-        DType::Bool(Nullability::NonNullable),
-        len,
-        metadata,
-        0,
-    )?;
+    let buffers = buffers_of(alloc, &[0x2c], Alignment::none(), 1);
+    let flags = DType::Bool(Nullability::NonNullable);
+    let head = head_of(alloc, flags, len, metadata, 0);
     is_built(alloc, Encoding::Bool, head, buffers, metadata)
 }
 
@@ -297,8 +316,8 @@ fn are_nulls_built(
     nchildren: usize,
     buffers: usize,
 ) -> Result<bool, EncodingError> {
-    let buffers = buffers_of(alloc, &[], Alignment::none(), buffers)?;
-    let head = head_of(alloc, dtype, usize::MAX, metadata, nchildren)?;
+    let buffers = buffers_of(alloc, &[], Alignment::none(), buffers);
+    let head = head_of(alloc, dtype, usize::MAX, metadata, nchildren);
     is_built(alloc, Encoding::Null, head, buffers, &[])
 }
 

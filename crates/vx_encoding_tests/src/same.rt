@@ -1,13 +1,13 @@
 //! Tests of which arrays are equal, of their hashes, and of arrays with other buffers.
 
 use crate::decimals::decimals;
-use crate::statistics::{tell, told};
+use crate::statistics::{answered, told_of};
 use crate::varbins::one_text;
 use std::alloc::Global;
 use std::hash::{FoldHasher, Hasher};
-use vx_array_tests::parts::{aligned_to, buffer_of, flags, numbers};
+use vx_array_tests::parts::{Made, aligned_to, both, buffer_of, flags, numbers, some};
 use vx_arrays::{Array, ArrayError, NullArray, PrimitiveArray, VarBinViewArray};
-use vx_buffer::BufferHandles;
+use vx_buffer::{BufferHandle, BufferHandles};
 use vx_scalars::Stat;
 use vx_types::{DType, DecimalType, Nullability, PType, PValue};
 
@@ -40,58 +40,60 @@ enum Sample {
 }
 
 // Four words that may be null, with the validity of these bits.
-fn nullable_words(alloc: Global, bits: u8) -> Result<Array, ArrayError> {
-    let values = buffer_of(alloc, &WORDS, aligned_to(2))?;
-    let validity = flags(alloc, &[bits], 0, 4)?;
+fn nullable_words(alloc: Global, bits: u8) -> Made {
+    let values = buffer_of(alloc, &WORDS, aligned_to(2));
+    let (values, validity) = both(values, some(flags(alloc, &[bits], 0, 4)))?;
     PrimitiveArray::try_new(
         alloc,
         values,
         PType::I32,
         Nullability::Nullable,
         4,
-        Some(validity),
+        validity,
     )
 }
 
 // Four words in a buffer of a greater alignment than they want.
-fn aligned_words(alloc: Global) -> Result<Array, ArrayError> {
+fn aligned_words(alloc: Global) -> Made {
     let values = buffer_of(alloc, &WORDS, aligned_to(4))?;
     PrimitiveArray::try_new(alloc, values, PType::I32, Nullability::NonNullable, 4, None)
 }
 
-// Four words of which the least is told.
-fn told_words(alloc: Global) -> Result<Array, ArrayError> {
-    let mut array = numbers(alloc, &WORDS, PType::I32, 4)?;
-    match tell(alloc, &mut array, Stat::Min, PValue::I32(1)) {
-        Ok(()) => Ok(array),
-        Err(_) => Err(ArrayError::OutOfMemory),
-    }
+// Four words.
+fn words(alloc: Global, bytes: &[u8], kind: PType) -> Made {
+    numbers(alloc, bytes, kind, 4)
 }
 
-// A text by a view, over so many empty buffers that it does not name.
-fn views(alloc: Global, count: usize) -> Result<Array, ArrayError> {
+// Four words of which the least is told.
+fn told_words(alloc: Global) -> Made {
+    let made = words(alloc, &WORDS, PType::I32);
+    answered(alloc, made, Stat::Min, PValue::I32(1), Ok(()))
+}
+
+// So many empty buffers.
+fn empty_buffers(alloc: Global, count: usize) -> Result<Vec<BufferHandle>, ArrayError> {
     let mut buffers = Vec::new(alloc);
     for _ in 0..count {
         buffers.push(buffer_of(alloc, &[], aligned_to(0))?)?;
     }
-    let views = buffer_of(alloc, &LETTER, aligned_to(4))?;
-    VarBinViewArray::try_new(
-        alloc,
-        DType::Utf8(Nullability::Nullable),
-        1,
-        buffers,
-        views,
-        None,
-    )
+    Ok(buffers)
 }
 
-fn made(alloc: Global, sample: Sample) -> Result<Array, ArrayError> {
+// A text by a view, over so many empty buffers that it does not name.
+fn views(alloc: Global, count: usize) -> Made {
+    let views = buffer_of(alloc, &LETTER, aligned_to(4));
+    let (buffers, views) = both(empty_buffers(alloc, count), views)?;
+    let dtype = DType::Utf8(Nullability::Nullable);
+    VarBinViewArray::try_new(alloc, dtype, 1, buffers, views, None)
+}
+
+fn made(alloc: Global, sample: Sample) -> Made {
     match sample {
-        Sample::Words => numbers(alloc, &WORDS, PType::I32, 4),
+        Sample::Words => words(alloc, &WORDS, PType::I32),
         Sample::AlignedWords => aligned_words(alloc),
         Sample::ToldWords => told_words(alloc),
-        Sample::UnsignedWords => numbers(alloc, &WORDS, PType::U32, 4),
-        Sample::OtherWords => numbers(alloc, &OTHERS, PType::I32, 4),
+        Sample::UnsignedWords => words(alloc, &WORDS, PType::U32),
+        Sample::OtherWords => words(alloc, &OTHERS, PType::I32),
         Sample::NullableWords(bits) => nullable_words(alloc, bits),
         Sample::Nulls(len) => NullArray::new(alloc, len),
         Sample::Flags(offset) => flags(alloc, &[0], offset, 4),
@@ -107,16 +109,26 @@ fn hash_of(array: &Array) -> u64 {
     state.finish()
 }
 
-// Whether an array equals another one, both ways, and whether their hashes are equal.
-fn compared_with(alloc: Global, one: &Array, sample: Sample) -> Result<(bool, bool), ArrayError> {
-    let other = made(alloc, sample)?;
-    let equal = one.array_eq(&other) && other.array_eq(one);
-    Ok((equal, hash_of(one) == hash_of(&other)))
+// Whether two arrays are equal, both ways, and whether their hashes are.
+fn are_alike(one: &Array, other: &Array) -> (bool, bool) {
+    let equal = one.array_eq(other) && other.array_eq(one);
+    (equal, hash_of(one) == hash_of(other))
 }
 
-fn compared(alloc: Global, one: Sample, other: Sample) -> Result<(bool, bool), ArrayError> {
-    let array = made(alloc, one)?;
-    compared_with(alloc, &array, other)
+// The same of an array and another one that is made first.
+fn alike(one: &Array, other: Made) -> Result<(bool, bool), ArrayError> {
+    let other = other?;
+    let alike = are_alike(one, &other);
+    drop(other);
+    Ok(alike)
+}
+
+// The same of two arrays that are made first.
+fn compared(alloc: Global, one: Made, other: Sample) -> Result<(bool, bool), ArrayError> {
+    let one = one?;
+    let alike = alike(&one, made(alloc, other));
+    drop(one);
+    alike
 }
 
 // Arrays, and whether they are equal: each of the others differs in one part.
@@ -151,7 +163,7 @@ const PAIRS: [(Sample, Sample, bool); 17] = [
 #[test]
 fn arrays_are_equal_by_what_is_compared(rt: HostRuntime) {
     for (one, other, equal) in &PAIRS {
-        let alike = compared(rt.alloc(), *one, *other);
+        let alike = compared(rt.alloc(), made(rt.alloc(), *one), *other);
         let (same, hashed) = alike.unwrap_or((!*equal, false));
         assert!(rt; same == *equal && (hashed || !*equal), "{one:?} {other:?}");
     }
@@ -167,14 +179,12 @@ fn buffers_of(alloc: Global, bytes: &[u8], count: usize) -> Result<BufferHandles
 }
 
 // The array with so many buffers of these bytes in the place of its own.
-fn replaced(
-    alloc: Global,
-    sample: Sample,
-    bytes: &[u8],
-    count: usize,
-) -> Result<Array, ArrayError> {
-    let array = made(alloc, sample)?;
-    array.with_buffers(alloc, buffers_of(alloc, bytes, count)?)
+fn replaced(alloc: Global, sample: Sample, bytes: &[u8], count: usize) -> Made {
+    let buffers = buffers_of(alloc, bytes, count);
+    let (array, buffers) = both(made(alloc, sample), buffers)?;
+    let other = array.with_buffers(alloc, buffers);
+    drop(array);
+    other
 }
 
 // Whether the array is equal to another one afterwards, or why it was refused.
@@ -185,8 +195,7 @@ fn answer(
     count: usize,
     other: Sample,
 ) -> Result<bool, ArrayError> {
-    let array = replaced(alloc, sample, bytes, count)?;
-    let (equal, _) = compared_with(alloc, &array, other)?;
+    let (equal, _) = compared(alloc, replaced(alloc, sample, bytes, count), other)?;
     Ok(equal)
 }
 
@@ -282,13 +291,8 @@ fn other_buffers_are_judged_as_by_a_constructor(rt: HostRuntime) {
     }
 }
 
-// Whether the least value is told as it was, after the array got other buffers.
-fn is_told(alloc: Global) -> Result<bool, ArrayError> {
-    let array = replaced(alloc, Sample::ToldWords, &OTHERS, 1)?;
-    Ok(told(&array, Stat::Min) == Some(PValue::I32(1)))
-}
-
 #[test]
 fn statistics_stay_with_other_buffers(rt: HostRuntime) {
-    assert!(rt; is_told(rt.alloc()) == Ok(true));
+    let replaced = replaced(rt.alloc(), Sample::ToldWords, &OTHERS, 1);
+    assert!(rt; told_of(replaced, Stat::Min) == Ok(Some(PValue::I32(1))));
 }

@@ -2,7 +2,7 @@
 
 use crate::varbins::one_text;
 use std::alloc::Global;
-use vx_array_tests::parts::buffer_of;
+use vx_array_tests::parts::{Made, both, buffer_of, some};
 use vx_arrays::{
     Array, ArrayError, BoolArray, DecimalArray, NullArray, PrimitiveArray, validity_all_invalid,
 };
@@ -50,52 +50,71 @@ fn byte(alloc: Global) -> Result<BufferHandle, ArrayError> {
     buffer_of(alloc, &[1], Alignment::none())
 }
 
-fn flags(alloc: Global) -> Result<Array, ArrayError> {
+fn flags(alloc: Global) -> Made {
     let bits = byte(alloc)?;
     BoolArray::try_new(alloc, bits, 0, 1, MAYBE, None)
 }
 
-fn numbers(alloc: Global) -> Result<Array, ArrayError> {
-    let values = byte(alloc)?;
-    let there = validity_all_invalid(alloc, 1)?;
-    PrimitiveArray::try_new(alloc, values, PType::U8, MAYBE, 1, Some(there))
+fn numbers(alloc: Global) -> Made {
+    let there = some(validity_all_invalid(alloc, 1));
+    let (values, there) = both(byte(alloc), there)?;
+    PrimitiveArray::try_new(alloc, values, PType::U8, MAYBE, 1, there)
 }
 
-fn decimals(alloc: Global) -> Result<Array, ArrayError> {
-    let values = byte(alloc)?;
+// Decimals of one digit.
+fn one_digit() -> Result<DecimalDType, ArrayError> {
     match DecimalDType::try_new(1, 0) {
-        Ok(digits) => {
-            DecimalArray::try_new(alloc, values, DecimalType::I8, digits, MAYBE, 1, None)
-        }
+        Ok(digits) => Ok(digits),
         Err(_) => Err(ArrayError::BadShape),
     }
 }
 
+fn decimals(alloc: Global) -> Made {
+    let digits = one_digit()?;
+    let values = byte(alloc)?;
+    DecimalArray::try_new(alloc, values, DecimalType::I8, digits, MAYBE, 1, None)
+}
+
 // Whether an array that is made first is so named.
-fn is_made(alloc: Global, made: Result<Array, ArrayError>, buffer: &str) -> bool {
+fn is_made(alloc: Global, made: Made, buffer: &str) -> bool {
     match made {
-        Ok(array) => is_named(alloc, &array, buffer),
+        Ok(array) => {
+            let named = is_named(alloc, &array, buffer);
+            drop(array);
+            named
+        }
         Err(_) => false,
     }
 }
 
-// Whether an array's slots are those of offsets and of a validity.
+// Whether an array's slots are those of offsets and of a validity, and its one buffer is of bytes.
 fn has_offsets(alloc: Global, array: &Array) -> bool {
     array.nslots() == 2
         && is_slot(alloc, array, 0, "offsets")
         && is_slot(alloc, array, 1, "validity")
+        && is_buffer(alloc, array, "bytes")
+        && is_none(alloc, array, 1)
 }
 
-// Whether texts by offsets have those slots, and a buffer of bytes.
+// Whether texts by offsets have those.
 fn are_texts_named(alloc: Global) -> Result<bool, ArrayError> {
     let array = one_text(alloc)?;
-    Ok(has_offsets(alloc, &array) && is_buffer(alloc, &array, "bytes") && is_none(alloc, &array, 1))
+    let named = has_offsets(alloc, &array);
+    drop(array);
+    Ok(named)
+}
+
+// Whether an array has no slot and no buffer.
+fn has_nothing(alloc: Global, array: &Array) -> bool {
+    array.nslots() == 0 && is_none(alloc, array, 0)
 }
 
 // Whether nulls have no slot and no buffer.
 fn is_bare(alloc: Global) -> Result<bool, ArrayError> {
     let array = NullArray::new(alloc, 1)?;
-    Ok(array.nslots() == 0 && is_none(alloc, &array, 0))
+    let bare = has_nothing(alloc, &array);
+    drop(array);
+    Ok(bare)
 }
 
 #[test]

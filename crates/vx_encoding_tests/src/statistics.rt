@@ -1,7 +1,7 @@
 //! Tests of the statistics of arrays.
 
 use std::alloc::Global;
-use vx_array_tests::parts::numbers;
+use vx_array_tests::parts::{Made, copy_of, numbers};
 use vx_arrays::{Array, ArrayError};
 use vx_scalars::{Precision, ScalarError, ScalarValue, Stat, StatsSet};
 use vx_types::{PType, PValue};
@@ -14,37 +14,56 @@ fn set_of(alloc: Global, stat: Stat, number: PValue) -> Result<StatsSet, ScalarE
 }
 
 // Gives an array that set.
-pub(crate) fn tell(
-    alloc: Global,
-    array: &mut Array,
-    stat: Stat,
-    number: PValue,
-) -> Result<(), ScalarError> {
+fn tell(alloc: Global, array: &mut Array, stat: Stat, number: PValue) -> Result<(), ScalarError> {
     let set = set_of(alloc, stat, number)?;
     array.set_all(set)
 }
 
 // The number that is told of a statistic, exactly.
-pub(crate) fn told(array: &Array, stat: Stat) -> Option<PValue> {
+fn told(array: &Array, stat: Stat) -> Option<PValue> {
     match array.statistics().get(stat) {
         Precision::Exact(ScalarValue::Primitive(number)) => Some(*number),
         _ => None,
     }
 }
 
+/// An array that is made first, once it was given a number of one of its statistics with this answer.
+pub(crate) fn answered(
+    alloc: Global,
+    made: Made,
+    stat: Stat,
+    number: PValue,
+    answer: Result<(), ScalarError>,
+) -> Made {
+    let mut array = made?;
+    if tell(alloc, &mut array, stat, number) == answer {
+        return Ok(array);
+    }
+    drop(array);
+    Err(ArrayError::BadContent)
+}
+
+/// The number that is told of a statistic of an array that is made first, exactly.
+pub(crate) fn told_of(made: Made, stat: Stat) -> Result<Option<PValue>, ArrayError> {
+    let array = made?;
+    let number = told(&array, stat);
+    drop(array);
+    Ok(number)
+}
+
 // Two numbers of a byte each.
-fn pair(alloc: Global) -> Result<Array, ArrayError> {
+fn pair(alloc: Global) -> Made {
     numbers(alloc, &[1, 2], PType::U8, 2)
 }
 
-// What is told of a statistic of the two where a number was, and none where it was refused.
-fn told_after(alloc: Global, stat: Stat, number: PValue) -> Result<Option<PValue>, ArrayError> {
-    let mut array = pair(alloc)?;
-    match tell(alloc, &mut array, stat, number) {
-        Ok(()) => Ok(told(&array, stat)),
-        Err(ScalarError::BadScalar) => Ok(None),
-        Err(_) => Err(ArrayError::OutOfMemory),
-    }
+// What is told of a statistic of the two, once they were given a number of it with this answer.
+fn told_after(
+    alloc: Global,
+    stat: Stat,
+    number: PValue,
+    answer: Result<(), ScalarError>,
+) -> Result<Option<PValue>, ArrayError> {
+    told_of(answered(alloc, pair(alloc), stat, number, answer), stat)
 }
 
 // Statistics, each with a number of its type, and one of another.
@@ -62,43 +81,50 @@ const NUMBERS: [(Stat, PValue, PValue); 5] = [
 
 #[test]
 fn a_statistic_is_of_its_type(rt: HostRuntime) {
+    let alloc = rt.alloc();
     for (stat, number, other) in &NUMBERS {
-        assert!(rt; told_after(rt.alloc(), *stat, *number) == Ok(Some(*number)));
-        assert!(rt; told_after(rt.alloc(), *stat, *other) == Ok(None));
+        let told = told_after(alloc, *stat, *number, Ok(()));
+        assert!(rt; told == Ok(Some(*number)));
+        let refused = told_after(alloc, *stat, *other, Err(ScalarError::BadScalar));
+        assert!(rt; refused == Ok(None));
     }
 }
 
 // Two numbers of which the least is told, after another least value was refused.
-fn least_told(alloc: Global) -> Result<Array, ArrayError> {
-    let mut array = pair(alloc)?;
-    let first = tell(alloc, &mut array, Stat::Min, PValue::U8(1));
-    let second = tell(alloc, &mut array, Stat::Min, PValue::U16(0));
-    if first == Ok(()) && second == Err(ScalarError::BadScalar) {
-        return Ok(array);
+fn least_told(alloc: Global) -> Made {
+    let told = answered(alloc, pair(alloc), Stat::Min, PValue::U8(1), Ok(()));
+    let refused = Err(ScalarError::BadScalar);
+    answered(alloc, told, Stat::Min, PValue::U16(0), refused)
+}
+
+// The same, once another set was given.
+fn least_replaced(alloc: Global) -> Made {
+    answered(alloc, least_told(alloc), Stat::Max, PValue::U8(2), Ok(()))
+}
+
+// How many statistics are told of an array.
+fn told_count(array: &Array) -> usize {
+    array.statistics().iter().count()
+}
+
+// Whether nothing is told of an array that is made first.
+fn is_untold(made: Made) -> bool {
+    match made {
+        Ok(array) => {
+            let count = told_count(&array);
+            drop(array);
+            count == 0
+        }
+        Err(_) => false,
     }
-    Err(ArrayError::BadContent)
-}
-
-// What is told of the least value after the other one was refused, and in a copy.
-fn least_kept(alloc: Global) -> Result<bool, ArrayError> {
-    let array = least_told(alloc)?;
-    let copy = array.clone(alloc)?;
-    Ok(
-        told(&array, Stat::Min) == Some(PValue::U8(1))
-            && told(&copy, Stat::Min) == Some(PValue::U8(1)),
-    )
-}
-
-// Whether nothing is told of a new array, nor of the least value after another set was given.
-fn least_replaced(alloc: Global) -> Result<bool, ArrayError> {
-    let bare = pair(alloc)?.statistics().iter().count() == 0;
-    let mut array = least_told(alloc)?;
-    let answer = tell(alloc, &mut array, Stat::Max, PValue::U8(2));
-    Ok(bare && answer == Ok(()) && told(&array, Stat::Min).is_none())
 }
 
 #[test]
 fn statistics_are_kept_and_replaced(rt: HostRuntime) {
-    assert!(rt; least_kept(rt.alloc()) == Ok(true));
-    assert!(rt; least_replaced(rt.alloc()) == Ok(true));
+    let alloc = rt.alloc();
+    let least = Ok(Some(PValue::U8(1)));
+    assert!(rt; told_of(least_told(alloc), Stat::Min) == least);
+    assert!(rt; told_of(copy_of(alloc, least_told(alloc)), Stat::Min) == least);
+    assert!(rt; is_untold(pair(alloc)));
+    assert!(rt; told_of(least_replaced(alloc), Stat::Min) == Ok(None));
 }

@@ -3,7 +3,7 @@
 
 use crate::encodings::{head_of, plan_refusal};
 use std::alloc::Global;
-use vx_array_tests::parts::{buffer_of, flags, numbers, value_at};
+use vx_array_tests::parts::{Made, both, buffer_of, flags, numbers, row_of, some, value_at};
 use vx_arrays::{Array, ArrayError, RowValue, VarBinArray};
 use vx_buffer::Alignment;
 use vx_encodings::{Encoding, EncodingError, VarBinMetadata, metadata};
@@ -34,24 +34,19 @@ fn dtype_of(rows: Rows) -> DType {
 fn made_with(
     alloc: Global,
     rows: Rows,
-    offsets: Array,
+    offsets: Made,
     bytes: &[u8],
-    validity: Option<Array>,
-) -> Result<Array, ArrayError> {
-    let bytes = buffer_of(alloc, bytes, Alignment::none())?;
+    validity: Result<Option<Array>, ArrayError>,
+) -> Made {
+    let bytes = buffer_of(alloc, bytes, Alignment::none());
+    let ((offsets, bytes), validity) = both(both(offsets, bytes), validity)?;
     VarBinArray::try_new(alloc, dtype_of(rows), offsets, bytes, validity)
 }
 
 // Rows of as many offsets of a kind as their bytes hold.
-fn made(
-    alloc: Global,
-    rows: Rows,
-    kind: PType,
-    offsets: &[u8],
-    bytes: &[u8],
-) -> Result<Array, ArrayError> {
-    let offsets = numbers(alloc, offsets, kind, offsets.len() / kind.byte_width())?;
-    made_with(alloc, rows, offsets, bytes, None)
+fn made(alloc: Global, rows: Rows, kind: PType, offsets: &[u8], bytes: &[u8]) -> Made {
+    let offsets = numbers(alloc, offsets, kind, offsets.len() / kind.byte_width());
+    made_with(alloc, rows, offsets, bytes, Ok(None))
 }
 
 // Whether a value is a text or bytes, of these bytes.
@@ -84,7 +79,9 @@ const ENDS: [u8; 16] = [0, 0, 0, 0, 2, 0, 0, 0, 2, 0, 0, 0, 3, 0, 0, 0];
 // Whether three letters are parted into such rows.
 fn are_rows(alloc: Global, rows: Rows) -> Result<bool, ArrayError> {
     let array = made(alloc, rows, PType::I32, &ENDS, b"abc")?;
-    Ok(are_parted(alloc, &array))
+    let parted = are_parted(alloc, &array);
+    drop(array);
+    Ok(parted)
 }
 
 #[test]
@@ -134,30 +131,18 @@ fn offsets_never_fall_and_end_within_the_bytes(rt: HostRuntime) {
     }
 }
 
-// Two rows whose validity has these bits.
-fn with_bits(
-    alloc: Global,
-    rows: Rows,
-    offsets: Array,
-    bytes: &[u8],
-    bits: u8,
-) -> Result<Array, ArrayError> {
-    let validity = flags(alloc, &[bits], 0, 2)?;
-    made_with(alloc, rows, offsets, bytes, Some(validity))
+// The validity of two rows with these bits, where there are any.
+fn validity(alloc: Global, bits: Option<u8>) -> Result<Option<Array>, ArrayError> {
+    match bits {
+        None => Ok(None),
+        Some(bits) => some(flags(alloc, &[bits], 0, 2)),
+    }
 }
 
 // Two rows of a byte each, with a validity where there are bits of it.
-fn two_rows(
-    alloc: Global,
-    rows: Rows,
-    bytes: &[u8],
-    bits: Option<u8>,
-) -> Result<Array, ArrayError> {
-    let offsets = numbers(alloc, &[0, 1, 2], PType::U8, 3)?;
-    match bits {
-        None => made_with(alloc, rows, offsets, bytes, None),
-        Some(bits) => with_bits(alloc, rows, offsets, bytes, bits),
-    }
+fn two_rows(alloc: Global, rows: Rows, bytes: &[u8], bits: Option<u8>) -> Made {
+    let offsets = numbers(alloc, &[0, 1, 2], PType::U8, 3);
+    made_with(alloc, rows, offsets, bytes, validity(alloc, bits))
 }
 
 // Why they are not made, if they are not.
@@ -199,9 +184,9 @@ fn one_row(alloc: Global, len: u16) -> Result<Array, ArrayError> {
 }
 
 // Why it is not given for so many cells, if it is not.
-fn row_refusal(alloc: Global, len: u16, budget: u64) -> Result<Option<ArrayError>, ArrayError> {
-    let array = one_row(alloc, len)?;
-    Ok(value_at(alloc, &array, 0, budget).err())
+fn row_refusal(alloc: Global, len: u16, budget: u64) -> Option<ArrayError> {
+    let (_, value) = row_of(alloc, one_row(alloc, len), 0, budget);
+    value.err()
 }
 
 const TOO_LARGE: Option<ArrayError> = Some(ArrayError::ValueTooLarge);
@@ -218,7 +203,7 @@ const CELLS: [(u16, u64, Option<ArrayError>); 5] = [
 fn a_row_takes_a_cell_for_each_byte_and_one(rt: HostRuntime) {
     for (len, budget, error) in &CELLS {
         let refused = row_refusal(rt.alloc(), *len, *budget);
-        assert!(rt; refused == Ok(*error), "{len} {budget}");
+        assert!(rt; refused == *error, "{len} {budget}");
     }
 }
 
@@ -261,13 +246,9 @@ fn a_kind_of_offsets_is_one_code(rt: HostRuntime) {
 }
 
 // Why two texts of this metadata and so many children are not planned, if they are not.
-fn texts_refusal(
-    alloc: Global,
-    metadata: &[u8],
-    nchildren: usize,
-) -> Result<Option<EncodingError>, EncodingError> {
-    let head = head_of(alloc, dtype_of(Rows::Texts), 2, metadata, nchildren)?;
-    Ok(plan_refusal(alloc, Encoding::VarBin, &head))
+fn texts_refusal(alloc: Global, metadata: &[u8], nchildren: usize) -> Option<EncodingError> {
+    let head = head_of(alloc, dtype_of(Rows::Texts), 2, metadata, nchildren);
+    plan_refusal(alloc, Encoding::VarBin, head)
 }
 
 const UNREAD: Option<EncodingError> = Some(EncodingError::BadMetadata);
@@ -286,7 +267,7 @@ const PLANS: [(&[u8], usize, Option<EncodingError>); 7] = [
 fn plans_have_offsets_and_at_most_a_validity(rt: HostRuntime) {
     for (metadata, nchildren, error) in &PLANS {
         let refused = texts_refusal(rt.alloc(), metadata, *nchildren);
-        assert!(rt; refused == Ok(*error), "{metadata:?} {nchildren}");
+        assert!(rt; refused == *error, "{metadata:?} {nchildren}");
     }
 }
 
@@ -306,7 +287,9 @@ fn has_metadata(alloc: Global, array: &Array, bytes: &[u8]) -> bool {
 // Whether the metadata of one text has these bytes.
 fn is_kept(alloc: Global, bytes: &[u8]) -> Result<bool, ArrayError> {
     let array = one_text(alloc)?;
-    Ok(has_metadata(alloc, &array, bytes))
+    let kept = has_metadata(alloc, &array, bytes);
+    drop(array);
+    Ok(kept)
 }
 
 #[test]
