@@ -1,0 +1,47 @@
+-- What those above need of the table that a number tells.
+use Rattle.std.proofs.Common.{ℕ, ◌≡◌, ◌≤◌, refl}
+use Rattle.vx_trees.specs.Everywhere.{Everywhere}
+use Rattle.vx_trees.specs.Rose.{label}
+use Rattle.vx_trees.specs.Walks.{levels}
+use Rattle.vx_array_tree.specs.Canon.{KeepsStats}
+use Rattle.vx_array_tree.specs.Normal.{IsNormal}
+use Rattle.vx_array_tree.specs.Sound.{IsSound}
+use Rattle.vx_generator.specs.Columns.{columns}
+use Rattle.vx_generator.specs.Made.{data_len, made, made_type}
+use Rattle.vx_generator.specs.Summary.{line_of, summary}
+use Rattle.vx_generator.proofs.Fitting.{fit}
+use Rattle.vx_generator.proofs.Sound.{table_sound}
+
+-- It is sound.
+pub made_sound : (seed rows : ℕ) → rows ≤ 1000000 → IsSound (made seed rows)
+unfolding made
+made_sound seed rows h = table_sound (columns seed rows rows) rows (fit seed rows h)
+
+-- It has the type of tables, and as many rows as are asked for.
+pub made_dtype : (seed rows : ℕ) → (label (made seed rows)).dtype ≡ made_type
+unfolding made
+made_dtype seed rows = refl
+
+pub made_len : (seed rows : ℕ) → (label (made seed rows)).len ≡ rows
+unfolding made
+made_len seed rows = refl
+
+-- It has the one form in which it is read.
+pub made_normal : (seed rows : ℕ) → IsNormal (made seed rows)
+unfolding made
+made_normal seed rows = (tt, ((tt, ((tt, tt), tt)), ((refl, ((tt, tt), ((tt, tt), tt))), ((tt, ((tt, tt), ((tt, tt), tt))), tt))))
+
+-- It has no statistics, and what is written of these are none.
+pub made_stats : (seed rows : ℕ) → KeepsStats (made seed rows)
+unfolding made
+made_stats seed rows = (refl, ((refl, ((refl, tt), tt)), ((refl, ((refl, tt), ((refl, tt), tt))), ((refl, ((refl, tt), ((refl, tt), tt))), tt))))
+
+-- It has three levels.
+pub made_levels : (seed rows : ℕ) → levels (made seed rows) ≡ 3
+unfolding made
+made_levels seed rows = refl
+
+-- It has nine nodes and seven buffers.
+pub made_summary : (seed rows : ℕ) → summary (made seed rows) ≡ line_of rows 9 7 (data_len (made seed rows))
+unfolding made
+made_summary seed rows = refl

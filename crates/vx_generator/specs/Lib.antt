@@ -1,0 +1,4 @@
+pub mod Draws
+pub mod Columns
+pub mod Made
+pub mod Summary
