@@ -12,3 +12,5 @@ mod Recodings
 mod RowTexts
 mod UnionTexts
 mod SevenWords
+mod SixWords
+mod Tables

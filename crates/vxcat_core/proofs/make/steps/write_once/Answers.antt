@@ -1,0 +1,1 @@
+use Rattle.vxcat_core.proofs.Tables.{layout_short}
