@@ -1,30 +1,30 @@
 -- Columns that are drawn fit their rows.
-use Rattle.std.proofs.Common.{ℕ, zero, suc, ◌≡◌, ◌+◌, ◌*◌, ◌/◌, ◌%◌, ◌^◌, ◌<◌, ◌≤◌, List, [], ◌∷◌, ◌++◌, length, take, drop, get_or, slice_index, refl, sym, ap, ◌∙◌, ⊎_elim, arith}
+use Rattle.std.proofs.Common.{ℕ, zero, suc, ◌≡◌, ◌+◌, ◌*◌, ◌%◌, ◌^◌, ◌<◌, ◌≤◌, List, [], ◌∷◌, ◌++◌, length, take, drop, get_or, refl, sym, ap, ◌∙◌, ⊎_elim, arith}
 use Rattle.std.proofs.Math.Seq.{drop-append_seam}
 use Rattle.std.proofs.lemmas.Bool.{cases_lt}
 use Rattle.std.proofs.lemmas.List.{drop-append-le, get_or-drop, length-append, length-drop, take-append-le}
 use Rattle.std.proofs.lemmas.Nat.{from_le_bytes-to_le_bytes_4}
-use Rattle.std.specs.Int.{w16, w32, w64, from_le_bytes, to_le_bytes}
-use Rattle.vx_generator.specs.Columns.{Columns, after_row, before, columns, count_of, element_bytes}
+use Rattle.std.specs.Int.{w32, from_le_bytes, to_le_bytes}
+use Rattle.vx_generator.specs.Columns.{before, columns, count_of, element_bytes}
 use Rattle.vx_generator.specs.Draws.{after, drawn}
 use Rattle.vx_generator.proofs.Grown.{few, validity_len}
 use Rattle.vx_generator.proofs.Sound.{Fit, offset_at}
 
 -- ---- as much of each column as rows ask for
 
-numbers_len : (seed rows n : ℕ) → length (columns seed rows n).numbers ≡ 8 * n
+pub numbers_len : (seed rows n : ℕ) → length (columns seed rows n).numbers ≡ 8 * n
 numbers_len seed rows zero = refl
 numbers_len seed rows (suc n) = simp length-append (omega (arith, numbers_len seed rows n))
 
-codes_len : (seed rows n : ℕ) → length (columns seed rows n).codes ≡ n
+pub codes_len : (seed rows n : ℕ) → length (columns seed rows n).codes ≡ n
 codes_len seed rows zero = refl
 codes_len seed rows (suc n) = simp length-append (omega (arith, codes_len seed rows n))
 
-element_len : (x n : ℕ) → length (element_bytes x n) ≡ 2 * n
+pub element_len : (x n : ℕ) → length (element_bytes x n) ≡ 2 * n
 element_len x zero = refl
 element_len x (suc n) = simp length-append (omega (arith, element_len x n))
 
-elements_len : (seed rows n : ℕ) → length (columns seed rows n).elements ≡ 2 * (columns seed rows n).count
+pub elements_len : (seed rows n : ℕ) → length (columns seed rows n).elements ≡ 2 * (columns seed rows n).count
 elements_len seed rows zero = refl
 elements_len seed rows (suc n) =
     simp length-append (omega (arith, elements_len seed rows n, element_len (after (before seed n) 3) (count_of (before seed n))))
@@ -61,7 +61,7 @@ offset_new bytes i n h l =
     ap (λ xs. from_le_bytes w32 (take 4 xs)) e ∙ from_le_bytes-to_le_bytes_4 n l
 
 -- The offset at a place is how many elements the rows before have.
-offset_is : (seed rows n i : ℕ) → n ≤ 1000000 → i ≤ n → offset_at (columns seed rows n).offsets i ≡ (columns seed rows i).count
+pub offset_is : (seed rows n i : ℕ) → n ≤ 1000000 → i ≤ n → offset_at (columns seed rows n).offsets i ≡ (columns seed rows i).count
 offset_is seed rows zero zero m h = refl
 offset_is seed rows zero (suc i) m h = absurd (omega arith)
 offset_is seed rows (suc n) i m h =

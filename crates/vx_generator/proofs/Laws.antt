@@ -1,16 +1,24 @@
 -- What those above need of the table that a number tells.
-use Rattle.std.proofs.Common.{ℕ, ◌≡◌, ◌≤◌, refl}
-use Rattle.vx_trees.specs.Everywhere.{Everywhere}
+use Rattle.std.proofs.Common.{ℕ, ◌≡◌, ◌≤◌, refl, [], ◌∷◌, arith}
 use Rattle.vx_trees.specs.Rose.{label}
 use Rattle.vx_trees.specs.Walks.{levels}
 use Rattle.vx_array_tree.specs.Canon.{KeepsStats}
 use Rattle.vx_array_tree.specs.Normal.{IsNormal}
 use Rattle.vx_array_tree.specs.Sound.{IsSound}
+use Rattle.vx_array_tree.specs.Encodings.Bools as Bools
+use Rattle.vx_array_tree.specs.Encodings.Dicts as Dicts
+use Rattle.vx_array_tree.specs.Encodings.Lists as Lists
+use Rattle.vx_array_tree.specs.Encodings.Primitives as Primitives
+use Rattle.vx_array_tree.specs.Encodings.Structs as Structs
+use Rattle.vx_array_tree.specs.Encodings.VarBinViews as VarBinViews
+use Rattle.vx_array_tree.specs.Tree.{encoding_ids}
 use Rattle.vx_generator.specs.Columns.{columns}
 use Rattle.vx_generator.specs.Made.{data_len, made, made_type}
 use Rattle.vx_generator.specs.Summary.{line_of, summary}
 use Rattle.vx_generator.proofs.Fitting.{fit}
+use Rattle.vx_generator.proofs.Grown.{few, validity_len}
 use Rattle.vx_generator.proofs.Sound.{table_sound}
+use Rattle.vx_generator.proofs.Tabled.{long_len, views_len}
 
 -- It is sound.
 pub made_sound : (seed rows : ℕ) → rows ≤ 1000000 → IsSound (made seed rows)
@@ -45,3 +53,16 @@ made_levels seed rows = refl
 pub made_summary : (seed rows : ℕ) → summary (made seed rows) ≡ line_of rows 9 7 (data_len (made seed rows))
 unfolding made
 made_summary seed rows = refl
+
+-- Its buffers are small, so that it can be written.
+pub made_small : (seed rows : ℕ) → rows ≤ 1000000 → data_len (made seed rows) ≤ 19125105
+unfolding made
+made_small seed rows h =
+    let f = fit seed rows h in
+    omega (arith, f.numbers, f.codes, f.elements, f.offsets, validity_len seed rows rows, few seed rows rows, long_len, views_len)
+
+-- The identifiers of its nodes, in their order.
+pub made_ids : (seed rows : ℕ) → encoding_ids (made seed rows)
+    ≡ Structs.id ∷ Primitives.id ∷ Bools.id ∷ Dicts.id ∷ Primitives.id ∷ VarBinViews.id ∷ Lists.id ∷ Primitives.id ∷ Primitives.id ∷ []
+unfolding made
+made_ids seed rows = refl

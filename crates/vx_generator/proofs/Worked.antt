@@ -1,5 +1,5 @@
 -- The first row that the seed 0 tells.
-use Rattle.std.proofs.Common.{◌≡◌, List, [], ◌∷◌, codes, negsuc, refl}
+use Rattle.std.proofs.Common.{◌≡◌, [], ◌∷◌, codes, negsuc, refl}
 use Rattle.vx_trees.specs.Rose.{node, end, more}
 use Rattle.vx_types.specs.Value as V
 use Rattle.vx_types.specs.Value.{Value, lone}

@@ -2,3 +2,4 @@ pub mod Draws
 pub mod Columns
 pub mod Made
 pub mod Summary
+pub mod Rows

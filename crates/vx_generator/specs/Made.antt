@@ -21,10 +21,11 @@ buffer bytes exponent = record { bytes = bytes; exponent = exponent }
 abbrev pub flags_tree : List ℕ → ℕ → Tree
 flags_tree bits n = node (untold (node (boolean NonNullable) end) n (B.bool (record { bits = buffer bits 0; offset = 0 }))) end
 
--- The field "a": numbers with a sign, of 8 bytes, and which of them are there.
+-- The type of the field "a": numbers with a sign, of 8 bytes, which may be null.
 abbrev pub numbers_type : Typ
 numbers_type = node (primitive I64 Nullable) end
 
+-- Its column: the numbers, over the flags that say which of them are there.
 abbrev pub numbers_tree : List ℕ → List ℕ → ℕ → Tree
 numbers_tree bytes bits n = node (untold numbers_type n (B.primitive (record { values = buffer bytes 3 }))) (more (flags_tree bits n) end)
 
@@ -45,29 +46,35 @@ long_text = codes "a long name of a tree"
 unfoldable pub views : List ℕ
 views = short_view (codes "ash") ++ short_view (codes "birch") ++ short_view (codes "cedar") ++ short_view (codes "oak") ++ long_view long_text
 
--- The field "b": texts, each a code among the five.
+-- The type of the field "b": texts, none of them null.
 abbrev pub texts_type : Typ
 texts_type = node (utf8 NonNullable) end
 
+-- The five texts, of which the last stands in a buffer of its own.
 abbrev pub texts_tree : Tree
 texts_tree = node (untold texts_type 5 (B.varbinview (record { buffers = buffer long_text 0 ∷ []; views = buffer views 4 }))) end
 
+-- A code for each row, of a byte.
 abbrev pub codes_tree : List ℕ → ℕ → Tree
 codes_tree bytes n = node (untold (numbers U8) n (B.primitive (record { values = buffer bytes 0 }))) end
 
+-- The column of texts: a dictionary of the codes over the five.
 abbrev pub names_tree : List ℕ → ℕ → Tree
 names_tree bytes n = node (untold texts_type n (B.dict (record { all_values_referenced = false }))) (more (codes_tree bytes n) (more texts_tree end))
 
--- The field "c": lists of numbers without a sign, of two bytes, parted by offsets of four.
+-- The type of the field "c": lists of numbers without a sign, of two bytes, none of them null.
 abbrev pub lists_type : Typ
 lists_type = node (list NonNullable) (more (numbers U16) end)
 
+-- The elements of all lists, one row's after the other's.
 abbrev pub elements_tree : List ℕ → ℕ → Tree
 elements_tree bytes count = node (untold (numbers U16) count (B.primitive (record { values = buffer bytes 1 }))) end
 
+-- The offsets that part them, of four bytes, one more than rows.
 abbrev pub offsets_tree : List ℕ → ℕ → Tree
 offsets_tree bytes n = node (untold (numbers U32) (suc n) (B.primitive (record { values = buffer bytes 2 }))) end
 
+-- The column of lists, by their elements and offsets.
 abbrev pub lists_tree : List ℕ → ℕ → List ℕ → ℕ → Tree
 lists_tree elements count offsets n = node (untold lists_type n B.list) (more (elements_tree elements count) (more (offsets_tree offsets n) end))
 

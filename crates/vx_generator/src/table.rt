@@ -1,7 +1,10 @@
 //! A table that a number tells.
 
-ghost use Rattle.std.specs.Prelude.{◌≡◌, ◌≤◌, IfOk, IsOkUnless};
+ghost use Rattle.std.specs.Prelude.{◌≡◌, ◌<◌, ◌≤◌, ℕ, IfOk, IsOkUnless};
+ghost use Rattle.vx_array_tree.specs.Tree.{row_at};
+ghost use Rattle.vx_generator.specs.Columns.{before};
 ghost use Rattle.vx_generator.specs.Made.{data_len, made};
+ghost use Rattle.vx_generator.specs.Rows.{row_value};
 
 use crate::arrays::table_of;
 use crate::columns::columns_of;
@@ -23,6 +26,7 @@ pub struct Table {
 pub fn generate(alloc: Global, seed: u64, rows: usize) -> Result<Table, GeneratorError>
     requires { rows ≤ 1000000 }
     ensures array { IfOk result (λ t. t.array ≡ made seed rows) }
+    ensures rows { IfOk result (λ t. (i : ℕ) → i < rows → row_at t.array i ≡ row_value (before seed i)) }
     ensures data { IfOk result (λ t. t.data_len ≡ data_len (made seed rows)) }
     ensures err { IsOkUnless result GeneratorError.OutOfMemory }
 {

@@ -1,8 +1,6 @@
-use Rattle.std.proofs.Common.{◌≡◌, IfOk, [], ◌∷◌, List, None, ap, ◌∙◌, subst, sym}
-use Rattle.vx_buffer.specs.Buffer.{Buffer}
+use Rattle.std.proofs.Common.{◌≡◌, IfOk, [], ◌∷◌, ap, ◌∙◌, subst, sym}
 use Rattle.vx_array_tree.specs.Sound.{IsSound}
-use Rattle.vx_arrays.specs.VarBinViews.{varbinview_tree}
-use Rattle.vx_generator.specs.Made.{buffer, long_text, texts_type, views}
+use Rattle.vx_generator.specs.Made.{buffer, long_text, views}
 use Rattle.vx_generator.proofs.Sound.{texts_sound}
 use Rattle.vx_generator.proofs.Tabled.{texts_made}
 use Rattle.vx_generator.proofs.arrays.texts_of.Goals as goal
