@@ -1,5 +1,5 @@
 -- That the table which a number tells keeps the limits on writing, and that its blob spells it.
-use Rattle.std.proofs.Common.{ℕ, zero, suc, ◌≡◌, ◌+◌, ◌*◌, ◌/◌, ◌<◌, ◌≤◌, ◌^◌, ◌-◌, ◌%◌, Bool, true, false, List, [], ◌∷◌, ◌++◌, Option, None, Some, length, replicate, is_some, refl, sym, ap, ◌∙◌, subst, arith}
+use Rattle.std.proofs.Common.{ℕ, zero, suc, ◌≡◌, ◌+◌, ◌*◌, ◌/◌, ◌<◌, ◌≤◌, ◌^◌, ◌-◌, ◌%◌, Bool, true, false, List, [], ◌∷◌, ◌++◌, Option, None, Some, inl, inr, length, replicate, is_some, refl, sym, ap, ◌∙◌, subst, arith}
 use Rattle.std.specs.Prelude.{nat_lt, ◌==◌, if◌then◌else◌}
 use Rattle.std.proofs.lemmas.List.{length-append}
 use Rattle.std.proofs.lemmas.List.Elements.{All-from_recursion}
@@ -7,7 +7,12 @@ use Rattle.vx_buffer.specs.Buffer.{Buffer}
 use Rattle.vx_buffer.specs.Joined.{joined}
 use Rattle.vx_trees.specs.Rose.{Rose, node, end, more, label}
 use Rattle.vx_trees.specs.Walks.{levels}
-use Rattle.vx_types.specs.Known.{no_readers}
+use Rattle.vx_types.specs.Known.{IsKnown, no_readers}
+use Rattle.vx_type_wire.specs.Schema.{type_schema}
+use Rattle.vx_type_wire.specs.TypeTable.{type_table}
+use Rattle.vx_type_wire.specs.Written as T
+use Rattle.vx_type_wire.specs.declared.error.TypeWireError.{TypeWireError}
+use Rattle.vx_type_wire.specs.declared.error.TypeWireError.TheVariants as type_error
 use Rattle.vx_types.specs.declared.ptype.PType.TheVariants.{U8, U32}
 use Rattle.vx_array_tree.specs.Encoding as E
 use Rattle.vx_array_tree.specs.Encoding.{Encoding}
@@ -17,9 +22,11 @@ use Rattle.vx_scalars.specs.Stats.{no_stats}
 use Rattle.vx_flat.specs.Blocks.{Block, table_block, elements_block, links_block, text_block, blocks}
 use Rattle.vx_flat.specs.declared.writing.block.Cell.{Cell}
 use Rattle.vx_flat.specs.declared.writing.block.Spot.{Spot}
+use Rattle.vx_flat.specs.Building.{nothing_built, with_pieces}
 use Rattle.vx_flat.specs.FieldTables.{align, inline_end, field_table_bytes}
 use Rattle.vx_flat.specs.Layout.{bytes_of, length_of, written_layout, shares}
 use Rattle.vx_flat.specs.Limits.{limits, IsLight}
+use Rattle.vx_flat.specs.Pieces.{pieces}
 use Rattle.vx_flat.specs.Schema.{Schema}
 use Rattle.vx_flat.specs.Spots.{Known, known_at, table_spot, spot, intern, spots, last_end}
 use Rattle.vx_flat.specs.Value.{Fields, table, elements, field, no_fields}
@@ -53,12 +60,16 @@ use Rattle.vx_serde.specs.Message.{NodeFields}
 use Rattle.vx_serde.specs.MessageValue.{node_value, message_value, descriptors_bytes}
 use Rattle.vx_serde.specs.Numbered.{numbered}
 use Rattle.vx_serde.specs.Placing.{descriptors_from, data_from, data_end}
+use Rattle.vx_serde.specs.Causes.{RefusesArray}
+use Rattle.vx_serde.specs.declared.error.WireError.{WireError}
+use Rattle.vx_serde.specs.declared.error.WireError.TheVariants as wire_error
 use Rattle.vx_serde.specs.Request.{CanRecode}
 use Rattle.vx_serde.specs.Serializing.{IsSerialized}
 use Rattle.vx_serde.specs.Spells.{Spells, KeepsReaderLimits, KeepsWriterLimits, blob_of, ids_after}
 use Rattle.vx_serde.specs.Written.{message_bytes, message_pad, blob_bytes, IsWritable}
 use Rattle.vx_serde.proofs.Carried.{carried, is_blob, shows-layout}
 use Rattle.vx_serde.proofs.CarriedOnce.{one_blob}
+use Rattle.vx_serde.proofs.Gathered.{all-written}
 use Rattle.vx_serde.proofs.GrownPlaced.{grown_by-placed}
 use Rattle.vx_serde.proofs.MessageRead.{message_value_is_of}
 use Rattle.vx_serde.proofs.NumberedRead.{placed_from_ids, numbered_fits}
@@ -66,7 +77,7 @@ use Rattle.vx_serde.proofs.WholeBlob.{length-blob}
 use Rattle.vx_serde.proofs.WiredStats.{wire-tabled}
 use Rattle.vx_serde.proofs.WrittenAgain.{grown-ids, wire-whole}
 use Rattle.vx_generator.specs.Columns.{columns}
-use Rattle.vx_generator.specs.Made.{buffer, long_text, views, made}
+use Rattle.vx_generator.specs.Made.{buffer, long_text, views, made, made_type}
 use Rattle.vx_generator.proofs.Fitting.{small}
 use Rattle.vx_generator.proofs.Grown.{few}
 use Rattle.vx_generator.proofs.Laws.{made_sound, made_normal, made_stats}
@@ -343,14 +354,17 @@ module _ (seed rows : ℕ) (h : rows ≤ 1000000) where
 
   -- ---- what is written is read back
 
+  -- It is read back as itself.
+  pub table_own : canon session t ≡ t
+  table_own = canon_own codec session t (made_sound seed rows h) (made_normal seed rows) (made_stats seed rows)
+
   table_told : Tells codec session w (label t).dtype (label t).len t
   table_told =
       let sound = made_sound seed rows h in
       let normal = made_normal seed rows in
       let law = registry_lawful shipped_registry no_readers in
-      let own : canon session t ≡ t = canon_own codec session t sound normal (made_stats seed rows) in
       record {
-        matched = subst (λ z. Matches codec session w z) own (written_matches codec session law t sound (table_read_back seed rows h));
+        matched = subst (λ z. Matches codec session w z) table_own (written_matches codec session law t sound (table_read_back seed rows h));
         dtype = refl;
         len = refl;
         sound = sound;
@@ -396,3 +410,54 @@ module _ (seed rows : ℕ) (h : rows ≤ 1000000) where
       writer_limits = x.limits;
       grows = ap is_some x.grown_is;
     }
+
+-- ---- the bytes of its type
+
+type_writable : T.IsWritable made_type
+type_writable = record { shallow = omega arith; light = (omega arith, omega arith, omega arith) }
+
+type_fits : length (with_pieces nothing_built (pieces type_schema (type_table made_type))).bytes ≤ 1000
+type_fits = omega arith
+
+not_failed : nothing_built.failed ≡ true → ⊥
+not_failed e = absurd (cc)
+
+-- Only memory can be wanting where the type is written.
+pub type_memory : (e : TypeWireError) → T.IsUnwritten made_type nothing_built e → e ≡ type_error.OutOfMemory
+type_memory type_error.OutOfMemory h = refl
+type_memory type_error.WireLimit (inl h) = absurd (h type_writable)
+type_memory type_error.WireLimit (inr (inl h)) = absurd (not_failed h)
+type_memory type_error.WireLimit (inr (inr h)) = absurd (omega (arith, h, type_fits))
+type_memory type_error.BadTable h = absurd h
+type_memory type_error.TableLimit h = absurd h
+type_memory type_error.BadMessage h = absurd h
+type_memory type_error.TooDeep h = absurd h
+type_memory type_error.BadType h = absurd h
+type_memory type_error.UnknownExtension h = absurd h
+type_memory type_error.ExtensionRefused h = absurd h
+
+-- No extension stands in it.
+pub type_known : IsKnown no_readers made_type
+type_known = (tt, ((tt, tt), ((tt, tt), ((tt, ((tt, tt), tt)), tt))))
+
+-- ---- only memory can be wanting where the table is written
+
+pub table_memory : (seed rows : ℕ) → rows ≤ 1000000 → (e : WireError) → RefusesArray session (made seed rows) nothing plain e → e ≡ wire_error.OutOfMemory
+table_memory seed rows h wire_error.OutOfMemory r = refl
+table_memory seed rows h wire_error.NotPermitted r = absurd (none_or_some (sym (table_grows seed rows) ∙ r)) where
+  none_or_some : {A : Type 0} {x : A} → Some x ≡ None → ⊥
+  none_or_some e = absurd (cc)
+table_memory seed rows h wire_error.WireLimit r = absurd (r (table_limits seed rows h))
+table_memory seed rows h wire_error.NotRegistered r = absurd (all-written session (made seed rows) (table_written seed rows) r)
+table_memory seed rows h wire_error.TooShort r = absurd r
+table_memory seed rows h wire_error.BadTable r = absurd r
+table_memory seed rows h wire_error.TableLimit r = absurd r
+table_memory seed rows h wire_error.BadAlignment r = absurd r
+table_memory seed rows h wire_error.Compressed r = absurd r
+table_memory seed rows h wire_error.OutOfBounds r = absurd r
+table_memory seed rows h wire_error.UnknownIndex r = absurd r
+table_memory seed rows h wire_error.UnknownEncoding r = absurd r
+table_memory seed rows h wire_error.BadMetadata r = absurd r
+table_memory seed rows h wire_error.BadShape r = absurd r
+table_memory seed rows h wire_error.BadContent r = absurd r
+table_memory seed rows h wire_error.BadStats r = absurd r

@@ -31,7 +31,7 @@ pub fn run_make<S: Store, O: Sink>(
 {
     let made = match make_outputs(alloc, words.seed, words.rows as usize) {
         Ok(made) => made,
-        Err(_) => return Status::OutOfMemory,
+        Err(status) => return status,
     };
     if let Err(status) = save_made(alloc, words, &made, store) {
         return status;
