@@ -1,5 +1,5 @@
 -- From what the steps of the command `make` ensure to how it ends.
-use Rattle.std.proofs.Common.{◌≡◌, ◌⊎◌, inl, inr, ℕ, List, refl, sym, subst, arith}
+use Rattle.std.proofs.Common.{◌≡◌, ◌⊎◌, inl, inr, refl, sym, subst, arith}
 use Rattle.vxcat_core.specs.declared.status.Status.{Status}
 use Rattle.vxcat_core.specs.declared.status.Status.TheVariants.{Done, OutOfMemory, NoCommand, LoadFault, SaveFault, WriteFault, BadType, BadIds, BadExpression, Refused}
 use Rattle.vxcat_core.specs.MakeCommand.{AreFilesOf, EndsMake, KeepsAllOthers, Make, MadeFiles, table_of}

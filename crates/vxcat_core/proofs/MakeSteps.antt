@@ -1,15 +1,12 @@
 -- From what the steps of the command `make` ensure to what it makes.
-use Rattle.std.proofs.Common.{◌≡◌, ℕ, List, [], Option, None, Some, Result, Ok, Err, IfOk, IfErr, sym, ap, subst, ◌∙◌}
+use Rattle.std.proofs.Common.{◌≡◌, ℕ, List, None, Some, Result, Ok, Err, IfOk, sym, ap, subst, ◌∙◌}
 use Rattle.vx_buffer.specs.Buffer.{Buffer}
 use Rattle.vx_buffer.specs.Joined.{joined}
 use Rattle.vx_flat.specs.Building.{nothing_built}
-use Rattle.vx_flat.specs.Layout.{written_layout}
 use Rattle.vx_trees.specs.Rose.{label}
 use Rattle.vx_types.specs.Typ.{Typ}
 use Rattle.vx_type_wire.specs.Known.{ExtMeaning, IsKnown, IsRead, no_readers}
-use Rattle.vx_type_wire.specs.Schema.{type_schema}
 use Rattle.vx_type_wire.specs.Shown.{ShowsType}
-use Rattle.vx_type_wire.specs.TypeTable.{type_table}
 use Rattle.vx_type_wire.specs.Written.{IsUnwritten}
 use Rattle.vx_type_wire.specs.declared.error.TypeWireError.{TypeWireError}
 use Rattle.vx_array_tree.specs.Tree.{Tree}
@@ -19,21 +16,19 @@ use Rattle.vx_wire_tree.specs.Written.{canon}
 use Rattle.vx_encodings.specs.Messages.{codec}
 use Rattle.vx_serde.specs.declared.options.SerializeOptions.{SerializeOptions}
 use Rattle.vx_serde.specs.declared.error.WireError.{WireError}
-use Rattle.vx_serde.specs.declared.error.WireError.TheVariants as wire
 use Rattle.vx_serde.specs.Causes.{RefusesArray}
 use Rattle.vx_serde.specs.Request.{CanRecode, Request}
 use Rattle.vx_serde.specs.Serializing.{IsSerialized}
-use Rattle.vx_serde.specs.Spells.{Spells, blob_of}
+use Rattle.vx_serde.specs.Spells.{Spells}
 use Rattle.vx_generator.specs.Made.{data_len, made, made_type}
 use Rattle.vx_generator.specs.Summary.{line_of, summary}
 use Rattle.vx_generator.proofs.Laws.{made_dtype, made_len, made_summary}
-use Rattle.vxcat_core.specs.declared.make.steps.MadeOutputs.{MadeOutputs}
 use Rattle.vxcat_core.specs.declared.make.steps.WrittenTable.{WrittenTable}
 use Rattle.vxcat_core.specs.declared.recode.steps.Outputs.{Outputs}
 use Rattle.vxcat_core.specs.declared.status.Status.{Status}
 use Rattle.vxcat_core.specs.declared.status.Status.TheVariants.{OutOfMemory}
 use Rattle.vxcat_core.specs.MakeCommand.{make_session, no_ids}
-use Rattle.vxcat_core.specs.MakeViews.{AreOutputsOf, IsTable, IsTableWritten, IsWrittenAgain}
+use Rattle.vxcat_core.specs.MakeViews.{IsTable, IsTableWritten, IsWrittenAgain}
 use Rattle.vxcat_core.specs.Recode.{padded_at}
 use Rattle.vxcat_core.specs.RecodeViews.{AreMade, request_for}
 use Rattle.vxcat_core.specs.Statuses.{blob_status, type_status}

@@ -1,5 +1,5 @@
 -- That the table which a number tells keeps the limits on writing, and that its blob spells it.
-use Rattle.std.proofs.Common.{ℕ, zero, suc, ◌≡◌, ◌+◌, ◌*◌, ◌/◌, ◌<◌, ◌≤◌, ◌^◌, ◌-◌, ◌%◌, Bool, true, false, List, [], ◌∷◌, ◌++◌, Option, None, Some, inl, inr, length, replicate, is_some, refl, sym, ap, ◌∙◌, subst, arith}
+use Rattle.std.proofs.Common.{ℕ, zero, suc, ◌≡◌, ◌+◌, ◌*◌, ◌/◌, ◌<◌, ◌≤◌, ◌^◌, ◌%◌, Bool, true, false, List, [], ◌∷◌, ◌++◌, Option, None, Some, inl, inr, length, replicate, is_some, refl, sym, ap, ◌∙◌, subst, arith}
 use Rattle.std.specs.Prelude.{nat_lt, ◌==◌, if◌then◌else◌}
 use Rattle.std.proofs.lemmas.List.{length-append}
 use Rattle.std.proofs.lemmas.List.Elements.{All-from_recursion}
@@ -24,7 +24,7 @@ use Rattle.vx_flat.specs.declared.writing.block.Cell.{Cell}
 use Rattle.vx_flat.specs.declared.writing.block.Spot.{Spot}
 use Rattle.vx_flat.specs.Building.{nothing_built, with_pieces}
 use Rattle.vx_flat.specs.FieldTables.{align, inline_end, field_table_bytes}
-use Rattle.vx_flat.specs.Layout.{bytes_of, length_of, written_layout, shares}
+use Rattle.vx_flat.specs.Layout.{length_of, written_layout, shares}
 use Rattle.vx_flat.specs.Limits.{limits, IsLight}
 use Rattle.vx_flat.specs.Pieces.{pieces}
 use Rattle.vx_flat.specs.Schema.{Schema}
@@ -38,7 +38,7 @@ use Rattle.vx_proto.specs.Written.{varint_within, varint_bytes, written}
 use Rattle.vx_wire_tree.specs.Context.{Context, grown}
 use Rattle.vx_wire_tree.specs.Fields.{DictFields}
 use Rattle.vx_wire_tree.specs.Limits.{HasMessages, IsDescribable, AreDescribable}
-use Rattle.vx_wire_tree.specs.ReadBack.{IsWritten, IsReadBack, ReadsBack, HasStorableStats}
+use Rattle.vx_wire_tree.specs.ReadBack.{IsWritten, ReadsBack}
 use Rattle.vx_wire_tree.specs.Session.{SessionMeaning, shipped}
 use Rattle.vx_wire_tree.specs.Wire.{Wire, buffers_in, ids_in}
 use Rattle.vx_wire_tree.specs.Tells.{Tells}
@@ -239,12 +239,19 @@ table_read_back seed rows h = (
 
 table_messages : (seed rows : ℕ) → rows ≤ 1000000 → HasMessages (made seed rows)
 unfolding made
-table_messages seed rows h =
-    (tt,
-    ((tt, ((tt, tt), tt)),
-    ((omega arith, ((tt, tt), ((tt, tt), tt))),
-    ((omega (arith, h, few seed rows rows), ((tt, tt), ((tt, tt), tt))),
-    tt))))
+table_messages seed rows h = (
+  tt,
+  (
+    (tt, ((tt, tt), tt)),
+    (
+      (omega arith, ((tt, tt), ((tt, tt), tt))),
+      (
+        (omega (arith, h, few seed rows rows), ((tt, tt), ((tt, tt), tt))),
+        tt,
+      ),
+    ),
+  ),
+)
 
 describable : (bytes : List ℕ) (exponent : ℕ) → exponent ≤ 16 → length bytes < 2 ^ 32 → IsDescribable (buffer bytes exponent)
 describable bytes exponent e l = record { exponent = e; len = omega (arith, l) }
@@ -262,15 +269,28 @@ unfolding made
 table_describable seed rows h =
     let c = columns seed rows rows in
     let fits = small seed rows h in
-    All-from_recursion (λ b. IsDescribable b) (buffers_in (wire codec session (made seed rows)))
-    (describable c.numbers 3 (omega arith) (omega (arith, fits)),
-    (describable c.validity 0 (omega arith) (omega (arith, fits)),
-    (describable c.codes 0 (omega arith) (omega (arith, fits)),
-    (describable long_text 0 (omega arith) (omega (arith, long_len)),
-    (describable views 4 (omega arith) (omega (arith, views_len)),
-    (describable c.elements 1 (omega arith) (omega (arith, fits)),
-    (describable c.offsets 2 (omega arith) (omega (arith, fits)),
-    tt)))))))
+    All-from_recursion (λ b. IsDescribable b) (buffers_in (wire codec session (made seed rows))) (
+      describable c.numbers 3 (omega arith) (omega (arith, fits)),
+      (
+        describable c.validity 0 (omega arith) (omega (arith, fits)),
+        (
+          describable c.codes 0 (omega arith) (omega (arith, fits)),
+          (
+            describable long_text 0 (omega arith) (omega (arith, long_len)),
+            (
+              describable views 4 (omega arith) (omega (arith, views_len)),
+              (
+                describable c.elements 1 (omega arith) (omega (arith, fits)),
+                (
+                  describable c.offsets 2 (omega arith) (omega (arith, fits)),
+                  tt,
+                ),
+              ),
+            ),
+          ),
+        ),
+      ),
+    )
 
 -- The table's nodes as its message numbers them.
 table_numbered : (seed rows : ℕ)

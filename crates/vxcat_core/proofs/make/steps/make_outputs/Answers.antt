@@ -6,5 +6,5 @@ use Rattle.vxcat_core.proofs.make.steps.make_outputs.Goals as goal
 pub outputs_of-requires-clause-table : goal.outputs_of-requires-clause-table
 outputs_of-requires-clause-table c = record { seed = c.args.seed; rows = c.args.rows; few = c.requires; array_is = c.in-Ok.ensures.array }
 
-pub returns-clause-made : goal.returns-clause-made
-returns-clause-made c = subst (λ (t : Tree). IfOk c.outputs_of.result (AreOutputsOf t)) c.in-Ok.ensures.array c.outputs_of.ensures.made
+pub returns-in-Ok-clause-made : goal.returns-in-Ok-clause-made
+returns-in-Ok-clause-made c = subst (λ (t : Tree). IfOk c.outputs_of.result (AreOutputsOf t)) c.in-Ok.ensures.array c.outputs_of.ensures.made

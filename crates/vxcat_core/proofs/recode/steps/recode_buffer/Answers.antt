@@ -1,4 +1,4 @@
-use Rattle.std.proofs.Common.{refl, subst, sym, ◌∙◌}
+use Rattle.std.proofs.Common.{refl, subst, sym}
 use Rattle.vx_types.specs.Seen.{typ}
 use Rattle.vx_registry.proofs.LawsSessions.{registry_shipped}
 use Rattle.vx_serde.specs.Causes.{Refuses}
