@@ -15,6 +15,8 @@ mod flags;
 mod integers;
 pub mod laws;
 #[cfg(test)]
+mod made;
+#[cfg(test)]
 mod nested;
 #[cfg(test)]
 mod program;

@@ -1,4 +1,4 @@
-//! Reads blobs of arrays and expressions from files and writes them again.
+//! Reads blobs of arrays and expressions from files and writes them again, and makes tables.
 #![tactic(auto)]
 
 use std::alloc::Global;
@@ -17,7 +17,7 @@ const NO_COMMAND: u8 = 2;
 const WRITE_FAULT: u8 = 5;
 
 const HELP: &str =
-    "vxcat reads the blob of an array, or an expression, from a file and writes it again.
+    "vxcat reads the blob of an array, or an expression, from a file and writes it again, or makes a table.
 
 vxcat recode TYPE BLOB LEN IDS OUT OUTIDS [--pad OFFSET] [--rows N] [--allow FILE]
     TYPE      a file with the logical type, as a table message
@@ -31,6 +31,12 @@ vxcat recode TYPE BLOB LEN IDS OUT OUTIDS [--pad OFFSET] [--rows N] [--allow FIL
     --allow   write with the identifiers of this file alone, one a line
 vxcat expr FILE
     FILE      a file with an expression, as a tagged message
+vxcat make SEED ROWS TYPE OUT IDS
+    SEED      the number that the table is drawn from, below 2^64
+    ROWS      the number of rows, at most 1000000
+    TYPE      the file for the table's type, as a table message
+    OUT       the file for its blob
+    IDS       the file for the identifiers of the blob's encodings, one a line
 vxcat --help
 vxcat --version
 ";

@@ -5,14 +5,16 @@ use Rattle.std.specs.List.{flat_map}
 use Rattle.std.proofs.lemmas.Fmt.{decimal_injective}
 use Rattle.vxcat_core.specs.declared.status.Status.{Status}
 use Rattle.vxcat_core.specs.declared.status.Status.TheVariants.{Done, OutOfMemory, NoCommand, LoadFault, SaveFault, WriteFault, BadType, BadIds, BadExpression, Refused}
-use Rattle.vxcat_core.specs.Commands.{CanEnd, Command, Ends, Invokes, recode, expr}
+use Rattle.vxcat_core.specs.Commands.{CanEnd, Command, Ends, Invokes, recode, expr, make}
 use Rattle.vxcat_core.specs.ExprCommand.{CanEndExpr, EndsExpr, EndsUnread, InvokesExpr, IsReadAs}
+use Rattle.vxcat_core.specs.MakeCommand.{InvokesMake, Make}
 use Rattle.vxcat_core.specs.Options.{Setting, setting_words, settings_of}
 use Rattle.vxcat_core.specs.Outcome.{CanRun}
 use Rattle.vxcat_core.specs.Recode.{AreInputs, CanEndRecode, CanRecodeInputs, EndsRecode, EndsRefused, InvokesRecode, Loaded, Recode, StandsIfNamed}
 use Rattle.vxcat_core.specs.RunState.{HasNoFault, Run}
 use Rattle.vxcat_core.specs.Status.{status_number}
 use Rattle.vxcat_core.specs.StoreState.{Stands, StoreState}
+use Rattle.vxcat_core.proofs.MakeEndings.{make_complete}
 use Rattle.vxcat_core.proofs.OptionFronts.{settings_same}
 
 word : (a b : List (List ℕ)) (k : ℕ) → a ≡ b → get_or a k [] ≡ get_or b k []
@@ -91,6 +93,13 @@ file_same words a b first second = word _ _ 1 (sym first ∙ second)
 one_command : (words : List (List ℕ)) (line : Recode) (file : List ℕ) → InvokesRecode words line → InvokesExpr words file → ⊥
 one_command words line file first second = omega (arith, ap (λ (l : List (List ℕ)). length l) (sym first.words_are ∙ second))
 
+-- Words that invoke a line of `make` invoke none of the others.
+not_recode : (words : List (List ℕ)) (line : Recode) (made : Make) → InvokesRecode words line → InvokesMake words made → ⊥
+not_recode words line made first second = omega (arith, ap (λ (l : List (List ℕ)). length l) (sym first.words_are ∙ second.words_are))
+
+not_expr : (words : List (List ℕ)) (file : List ℕ) (made : Make) → InvokesExpr words file → InvokesMake words made → ⊥
+not_expr words file made first second = omega (arith, ap (λ (l : List (List ℕ)). length l) (sym first ∙ second.words_are))
+
 -- A command that can end well does so, or for want of memory.
 pub complete : (words : List (List ℕ)) (status : Status) (command : Command) (run : Run) → CanRun words run.before → HasNoFault run → Invokes words command → Ends status command run
     → (status_number status ≡ 0) ⊎ (status_number status ≡ 1)
@@ -102,3 +111,6 @@ complete words status command run can none invoked ends = by_commands can.comman
       expr_complete status b run (subst (λ (f : List ℕ). CanEndExpr f run.before) (file_same words a b first second) can_a) none ends_b
   by_commands (recode a) first can_a (expr b) second ends_b = absurd (one_command words a b first second)
   by_commands (expr a) first can_a (recode b) second ends_b = absurd (one_command words b a second first)
+  by_commands a first can_a (make b) second ends_b = make_complete status b run none ends_b
+  by_commands (make a) first can_a (recode b) second ends_b = absurd (not_recode words b a second first)
+  by_commands (make a) first can_a (expr b) second ends_b = absurd (not_expr words b a second first)

@@ -12,11 +12,9 @@ use Rattle.vxcat_core.specs.declared.status.BlobRefusal.{BlobRefusal}
 use Rattle.vxcat_core.specs.declared.status.BlobRefusal.TheVariants as refusal
 use Rattle.vxcat_core.specs.declared.status.Status.{Status}
 use Rattle.vxcat_core.specs.declared.status.Status.TheVariants.{Done, OutOfMemory, NoCommand, LoadFault, SaveFault, WriteFault, BadType, BadIds, BadExpression, Refused}
-use Rattle.vxcat_core.specs.Commands.{Command, Ends, Invokes, recode, expr}
-use Rattle.vxcat_core.specs.ExprCommand.{EndsExpr, InvokesExpr}
+use Rattle.vxcat_core.specs.ExprCommand.{EndsExpr}
 use Rattle.vxcat_core.specs.Listing.{listing}
-use Rattle.vxcat_core.specs.Outcome.{HasOutcome, Outcome}
-use Rattle.vxcat_core.specs.Recode.{AreInputs, AreSaved, CanRecodeInputs, EndsRecode, InvokesRecode, RefusesInputs, KeepsOthers, Loaded, Recode, SavesInOrder, Work, inputs}
+use Rattle.vxcat_core.specs.Recode.{AreInputs, AreSaved, CanRecodeInputs, EndsRecode, RefusesInputs, KeepsOthers, Loaded, Recode, SavesInOrder, Work, inputs}
 use Rattle.vxcat_core.specs.RunState.{IsUntouched, Run, run_of}
 use Rattle.vxcat_core.specs.SinkState.{SinkState}
 use Rattle.vxcat_core.specs.Status.{status_number, wire_error}
@@ -147,7 +145,7 @@ refusal_not_two refusal.NotPermitted is = absurd (omega (arith, is))
 refusal_not_two refusal.WireLimit is = absurd (omega (arith, is))
 refusal_not_two refusal.NotRegistered is = absurd (omega (arith, is))
 
-recode_not_two : (status : Status) (line : Recode) (run : Run) → EndsRecode status line run → status_number status ≡ 2 → ⊥
+pub recode_not_two : (status : Status) (line : Recode) (run : Run) → EndsRecode status line run → status_number status ≡ 2 → ⊥
 recode_not_two NoCommand line run ends is = ends
 recode_not_two BadExpression line run ends is = absurd ends
 recode_not_two (Refused r) line run ends is = refusal_not_two r is
@@ -159,53 +157,10 @@ recode_not_two WriteFault line run ends is = absurd (omega (arith, is))
 recode_not_two BadType line run ends is = absurd (omega (arith, is))
 recode_not_two BadIds line run ends is = absurd (omega (arith, is))
 
-expr_not_two : (status : Status) (file : List ℕ) (run : Run) → EndsExpr status file run → status_number status ≡ 2 → ⊥
+pub expr_not_two : (status : Status) (file : List ℕ) (run : Run) → EndsExpr status file run → status_number status ≡ 2 → ⊥
 expr_not_two Done file run ends is = absurd (omega (arith, is))
 expr_not_two OutOfMemory file run ends is = absurd (omega (arith, is))
 expr_not_two LoadFault file run ends is = absurd (omega (arith, is))
 expr_not_two WriteFault file run ends is = absurd (omega (arith, is))
 expr_not_two BadExpression file run ends is = absurd (omega (arith, is))
 expr_not_two status file run ends is = absurd ends
-
--- A command that was run does not end with the number of none.
-pub ends_not_two : (status : Status) (command : Command) (run : Run) → Ends status command run → status_number status ≡ 2 → ⊥
-ends_not_two status (recode line) run ends is = recode_not_two status line run ends is
-ends_not_two status (expr file) run ends is = expr_not_two status file run ends is
-
-recode_outcome : (status : Status) (words : List (List ℕ)) (line : Recode) (run : Run) → Invokes words (recode line) → EndsRecode status line run → Outcome status words run
-recode_outcome NoCommand words line run invoked ends = absurd ends
-recode_outcome BadExpression words line run invoked ends = absurd ends
-recode_outcome Done words line run invoked ends = (recode line, invoked, ends)
-recode_outcome OutOfMemory words line run invoked ends = (recode line, invoked, ends)
-recode_outcome LoadFault words line run invoked ends = (recode line, invoked, ends)
-recode_outcome SaveFault words line run invoked ends = (recode line, invoked, ends)
-recode_outcome WriteFault words line run invoked ends = (recode line, invoked, ends)
-recode_outcome BadType words line run invoked ends = (recode line, invoked, ends)
-recode_outcome BadIds words line run invoked ends = (recode line, invoked, ends)
-recode_outcome (Refused r) words line run invoked ends = (recode line, invoked, ends)
-
-expr_outcome : (status : Status) (words : List (List ℕ)) (file : List ℕ) (run : Run) → Invokes words (expr file) → EndsExpr status file run → Outcome status words run
-expr_outcome Done words file run invoked ends = (expr file, invoked, ends)
-expr_outcome OutOfMemory words file run invoked ends = (expr file, invoked, ends)
-expr_outcome LoadFault words file run invoked ends = (expr file, invoked, ends)
-expr_outcome WriteFault words file run invoked ends = (expr file, invoked, ends)
-expr_outcome BadExpression words file run invoked ends = (expr file, invoked, ends)
-expr_outcome status words file run invoked ends = absurd ends
-
--- How a command ends is the run's outcome, told by the number of its status.
-pub has_outcome : (number : ℕ) (status : Status) (words : List (List ℕ)) (command : Command) (run : Run) → number ≡ status_number status → Invokes words command → Ends status command run → HasOutcome number words run
-has_outcome number status words (recode line) run is invoked ends = record {
-  status = status;
-  number_is = is;
-  outcome = recode_outcome status words line run invoked ends;
-}
-has_outcome number status words (expr file) run is invoked ends = record {
-  status = status;
-  number_is = is;
-  outcome = expr_outcome status words file run invoked ends;
-}
-
--- Words that invoke no line of any command invoke none.
-pub no_command : (words : List (List ℕ)) → ((line : Recode) → ¬ (InvokesRecode words line)) → ((file : List ℕ) → ¬ (InvokesExpr words file)) → (command : Command) → ¬ (Invokes words command)
-no_command words none no_expr (recode line) = none line
-no_command words none no_expr (expr file) = no_expr file

@@ -6,9 +6,14 @@ mod Expressions
 mod IdLines
 mod KnownText
 mod Listings
+mod MakeEndings
+mod MakeSteps
 mod OptionFronts
 mod OptionSettings
+mod Outcomes
 mod Recodings
 mod RowTexts
-mod UnionTexts
 mod SevenWords
+mod SixWords
+mod Tables
+mod UnionTexts

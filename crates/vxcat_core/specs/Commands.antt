@@ -2,6 +2,7 @@
 use Rattle.std.specs.Prelude.{ℕ, List}
 use Rattle.vxcat_core.specs.declared.status.Status.{Status}
 use Rattle.vxcat_core.specs.ExprCommand.{CanEndExpr, EndsExpr, InvokesExpr}
+use Rattle.vxcat_core.specs.MakeCommand.{CanEndMake, EndsMake, InvokesMake, Make}
 use Rattle.vxcat_core.specs.Recode.{CanEndRecode, EndsRecode, InvokesRecode, Recode}
 use Rattle.vxcat_core.specs.RunState.{Run}
 use Rattle.vxcat_core.specs.StoreState.{StoreState}
@@ -10,18 +11,22 @@ use Rattle.vxcat_core.specs.StoreState.{StoreState}
 pub data Command : Type 0 where
   recode : Recode → Command
   expr : List ℕ → Command
+  make : Make → Command
 
 -- The words invoke the command.
 abbrev pub Invokes : List (List ℕ) → Command → Type 0
 Invokes words (recode line) = InvokesRecode words line
 Invokes words (expr file) = InvokesExpr words file
+Invokes words (make line) = InvokesMake words line
 
 -- How a run of the command ends, by its status.
 abbrev pub Ends : Status → Command → Run → Type 0
 Ends status (recode line) run = EndsRecode status line run
 Ends status (expr file) run = EndsExpr status file run
+Ends status (make line) run = EndsMake status line run
 
 -- A run of the command can end well.
 abbrev pub CanEnd : Command → StoreState → Type 0
 CanEnd (recode line) before = CanEndRecode line before
 CanEnd (expr file) before = CanEndExpr file before
+CanEnd (make line) before = CanEndMake line before

@@ -2,6 +2,7 @@ pub mod Commands
 pub mod ExprCommand
 pub mod IdFile
 pub mod Listing
+pub mod MakeCommand
 pub mod Options
 pub mod Outcome
 pub mod Recode
@@ -13,5 +14,6 @@ pub mod StoreState
 pub mod Written
 -- What the contracts of private functions alone cite.
 pub mod GivenOptions
+pub mod MakeViews
 pub mod RecodeViews
 pub mod Statuses

@@ -5,6 +5,7 @@ mod dir_store;
 mod expr;
 mod id_file;
 mod listing;
+mod make;
 mod mem_sink;
 mod mem_store;
 mod numbers;

@@ -6,6 +6,7 @@ ghost use Rattle.vxcat_core.specs.Outcome.{CanRun, HasOutcome};
 ghost use Rattle.vxcat_core.specs.RunState.{HasNoFault, run_of};
 
 use crate::expr::{parse_expr, run_expr};
+use crate::make::{parse_make, run_make};
 use crate::recode::{parse_recode, run_recode};
 use crate::sink::Sink;
 use crate::status::Status;
@@ -19,6 +20,8 @@ use vx_types::Name;
 /// `--pad OFFSET`, `--rows N` and `--allow FILE` behind, loads TYPE, BLOB, IDS and FILE, saves OUT
 /// and OUTIDS, and prints the listing of the array. `expr FILE` loads FILE, reads an expression of
 /// it, and prints its text and the bytes by which it is written again, as hex digits, each on a line.
+/// `make SEED ROWS TYPE OUT IDS` generates a table, saves its type, its blob and the blob's
+/// identifiers, and prints a line.
 pub fn run<S: Store, O: Sink>(alloc: Global, words: &[Name], store: &mut S, out: &mut O) -> u8
     ensures outcome { HasOutcome result words.now (run_of (S.state store.old) (S.state store.new) (O.state out.old) (O.state out.new)) }
     ensures no_command { (result ≡ 2) ↔ ((command : Command) → ¬ (Invokes words.now command)) }
@@ -30,7 +33,10 @@ pub fn run<S: Store, O: Sink>(alloc: Global, words: &[Name], store: &mut S, out:
         Some(words) => run_recode(alloc, &words, store, out).number(),
         None => match parse_expr(words) {
             Some(file) => run_expr(alloc, file, store, out).number(),
-            None => Status::NoCommand.number(),
+            None => match parse_make(words) {
+                Some(words) => run_make(alloc, &words, store, out).number(),
+                None => Status::NoCommand.number(),
+            },
         },
     }
 }

@@ -16,6 +16,7 @@ use crate::status::Status;
 use crate::store::Store;
 use std::alloc::Global;
 use steps::{load_inputs, recode_inputs, save_outputs};
+pub use steps::{Outputs, recode_buffer, serialize_options};
 pub use words::{RecodeWords, parse_recode};
 
 // How many rows a listing has without `--rows`.

@@ -175,8 +175,8 @@ fn read_context(alloc: Global, allow_bytes: &Option<Blob>) -> Result<ArrayContex
     }
 }
 
-// How the new blob is written: with pads where their position is given.
-fn serialize_options(pad: Option<u64>) -> SerializeOptions
+/// How the new blob is written: with pads where their position is given.
+pub fn serialize_options(pad: Option<u64>) -> SerializeOptions
     ensures { result ≡ padded_at pad }
 {
     match pad {
@@ -202,9 +202,26 @@ fn recode_blob(
     ensures cause { IfErr result (λ status. RefusesBlob status (request_for blob (typ dtype.now) len read.now context options.now)) }
     ensures complete { CanRecode (request_for blob (typ dtype.now) len read.now context options.now) → IfErr result (λ status. status ≡ OutOfMemory) }
 {
-    let Ok(buffer) = ByteBuffer::from_vec(blob.into_vec()) else {
-        return Err(Status::OutOfMemory);
-    };
+    match ByteBuffer::from_vec(blob.into_vec()) {
+        Ok(buffer) => recode_buffer(alloc, buffer, dtype, len, read, context, options),
+        Err(_) => Err(Status::OutOfMemory),
+    }
+}
+
+/// Recodes a blob that stands in a buffer, with the encodings that are shipped, under this context.
+pub fn recode_buffer(
+    alloc: Global,
+    buffer: ByteBuffer,
+    dtype: &DType,
+    len: u64,
+    read: &ReadContext,
+    context: ArrayContext,
+    options: &SerializeOptions,
+) -> Result<Outputs, Status>
+    ensures made { IfOk result (AreMade (request_for buffer.bytes (typ dtype.now) len read.now context options.now)) }
+    ensures cause { IfErr result (λ status. RefusesBlob status (request_for buffer.bytes (typ dtype.now) len read.now context options.now)) }
+    ensures complete { CanRecode (request_for buffer.bytes (typ dtype.now) len read.now context options.now) → IfErr result (λ status. status ≡ OutOfMemory) }
+{
     let Ok(arrays) = ArraySession::default(alloc) else {
         return Err(Status::OutOfMemory);
     };

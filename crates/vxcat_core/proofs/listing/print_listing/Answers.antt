@@ -1,4 +1,4 @@
-use Rattle.std.proofs.Common.{◌++◌, List, ℕ, [], min, refl, sym, ap, ◌∙◌}
+use Rattle.std.proofs.Common.{◌++◌, List, ℕ, [], min, sym, ap, ◌∙◌}
 use Rattle.std.proofs.lemmas.List.{append-nil}
 use Rattle.vx_trees.specs.Rose.{label}
 use Rattle.vxcat_core.specs.Listing.{node_lines, row_lines, listing}

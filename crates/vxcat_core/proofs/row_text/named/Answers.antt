@@ -1,6 +1,6 @@
 -- A member whose tag is another one is not named.
 use Rattle.std.proofs.Common.{◌<◌, length, min, arith}
-use Rattle.vxcat_core.proofs.UnionTexts.{named_here, named_next, named_none}
+use Rattle.vxcat_core.proofs.UnionTexts.{named_next}
 use Rattle.vxcat_core.proofs.row_text.named.Goals as goal
 
 pub loop-i-preserved : goal.loop-i-preserved
