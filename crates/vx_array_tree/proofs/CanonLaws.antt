@@ -184,7 +184,7 @@ module _ (sp : Spelling) where
   canon_child (d ∷ ds) (more t ts) zero u e = record { array = t; dtype = d; child = refl; is = same_Some (canon_at sp d t) u e }
   canon_child (d ∷ ds) (more t ts) (suc i) u e = let k = canon_child ds ts i u e in record { array = k.array; dtype = k.dtype; child = k.child; is = k.is }
 
-  entries_native : (b : Body) (ds : List Typ) (ts : Trees) → HasNativeEntries b ts → HasNativeEntries (cleared b) (canon_all sp ds ts)
+  entries_native : (b : Body) (ds : List Typ) (ts : Trees) → HasNativeEntries (encoding_of b) ts → HasNativeEntries (encoding_of (cleared b)) (canon_all sp ds ts)
   entries_native B.map ds end f = tt
   entries_native B.map [] (more t ts) f = native_root (label t).dtype t f
   entries_native B.map (d ∷ ds) (more t ts) f = native_root d t f

@@ -3,8 +3,9 @@ use Rattle.std.specs.Prelude.{ℕ, ◌≡◌, Some, IsTrue, slice_get}
 use Rattle.vx_trees.specs.Rose.{more, label, count, roses_list}
 use Rattle.vx_trees.specs.Everywhere.{Everywhere}
 use Rattle.vx_scalars.specs.Stats.{FitStats}
-use Rattle.vx_array_tree.specs.Body.{Body}
-use Rattle.vx_array_tree.specs.Body as B
+use Rattle.vx_types.specs.Typ.{Typ}
+use Rattle.vx_array_tree.specs.Encoding.{Encoding}
+use Rattle.vx_array_tree.specs.Encoding as E
 use Rattle.vx_array_tree.specs.Metadata.{Metadata}
 use Rattle.vx_array_tree.specs.Table.{encoding_of, metadata_of, IsNative, IsFair, plan_of, lifted, Allows, Holds, Takes, is_control, Content}
 use Rattle.vx_array_tree.specs.Tree.{Tree, Trees, Head, places, encodings, rows_below}
@@ -21,20 +22,23 @@ IsNativeNode h ts = IsNative h.body
 abbrev pub HasNoForeign : Tree → Type 0
 HasNoForeign = Everywhere IsNativeNode
 
--- No child that says where a node's rows are holds a foreign node.
-abbrev pub HasNativeControls : Head → Trees → Type 0
-HasNativeControls h ts =
-    (i : ℕ) (t : Tree) → slice_get (roses_list ts) i ≡ Some t → IsTrue (is_control (encoding_of h.body) h.dtype (count ts) i) → HasNoForeign t
+-- No child that says where the rows are of a node of this encoding and type holds a foreign node.
+abbrev pub HasNativeControls : Encoding → Typ → Trees → Type 0
+HasNativeControls e d ts = (i : ℕ) (t : Tree) → slice_get (roses_list ts) i ≡ Some t → IsTrue (is_control e d (count ts) i) → HasNoForeign t
 
 -- The entries of a map are not foreign.
-abbrev pub HasNativeEntries : Body → Trees → Type 0
-HasNativeEntries B.map (more t ts) = IsNative (label t).body
+abbrev pub HasNativeEntries : Encoding → Trees → Type 0
+HasNativeEntries E.map (more t ts) = IsNative (label t).body
 HasNativeEntries _ ts = Unit {0}
 
--- What says where a node's rows are is known.
-pub record IsControlled (h : Head) (ts : Trees) : Type 0 where
-  pub controls : HasNativeControls h ts
-  pub entries : HasNativeEntries h.body ts
+-- It is known where the rows are of a node of this encoding and type over its children.
+pub record IsControlledBy (e : Encoding) (d : Typ) (ts : Trees) : Type 0 where
+  pub controls : HasNativeControls e d ts
+  pub entries : HasNativeEntries e ts
+
+-- It is known where a node's rows are.
+abbrev pub IsControlled : Head → Trees → Type 0
+IsControlled h ts = IsControlledBy (encoding_of h.body) h.dtype ts
 
 -- A node is sound over its children: its metadata is admitted; the children stand where they are planned, and
 -- may stand; they are of encodings that may stand there; the buffers are right; what says where rows are is

@@ -79,10 +79,14 @@ abbrev pub own_id : Body → List ℕ
 own_id (B.foreign x) = x.id
 own_id b = id_of (encoding_of b)
 
+-- An encoding is known: it is not that of foreign nodes.
+abbrev pub IsNativeEncoding : Encoding → Type 0
+IsNativeEncoding E.foreign = ⊥
+IsNativeEncoding _ = Unit {0}
+
 -- A node is of an encoding that is known.
 abbrev pub IsNative : Body → Type 0
-IsNative (B.foreign x) = ⊥
-IsNative _ = Unit {0}
+IsNative b = IsNativeEncoding (encoding_of b)
 
 -- The metadata of a node whose children have these places.
 abbrev pub metadata_of : Body → List Place → Metadata
