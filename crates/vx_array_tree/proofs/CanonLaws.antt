@@ -260,7 +260,7 @@ foreign_is : (b : Body) → encoding_of b ≡ E.foreign → (x : Foreigns.Data) 
 foreign_is (B.foreign x) e = (x, refl)
 foreign_is _ e = absurd (cc)
 
-normal_foreign : (b : Body) (h : Head) (ts : Trees) (x : Foreigns.Data) → b ≡ B.foreign x → IsNormalBy b h ts → IsNormalForeign h ts
+pub normal_foreign : (b : Body) (h : Head) (ts : Trees) (x : Foreigns.Data) → b ≡ B.foreign x → IsNormalBy b h ts → IsNormalForeign h ts
 normal_foreign b h ts x e n = subst (λ c. IsNormalBy c h ts) e n
 
 module _ (sp : Spelling) (law : SpellsOwn sp) where

@@ -8,20 +8,22 @@ use Rattle.vx_array_tree.specs.Encoding.{Encoding}
 use Rattle.vx_array_tree.specs.Normal.{IsNormal}
 use Rattle.vx_array_tree.specs.Place.{Place}
 use Rattle.vx_array_tree.specs.Sound.{IsSound}
-use Rattle.vx_array_tree.specs.Tree.{Tree, Trees, rows_of}
+use Rattle.vx_array_tree.specs.Table.{own_id, buffers_of, metadata_of}
+use Rattle.vx_array_tree.specs.Tree.{Tree, Trees, places, rows_of}
 use Rattle.vx_array_tree.proofs.CanonLaws as Canon
 use Rattle.vx_array_tree.proofs.CanonPlaces.{canon_dtype, canon_len}
 use Rattle.vx_wire_tree.specs.Causes.{HasChildren, Refusal, RefusesTree}
-use Rattle.vx_wire_tree.specs.Codec.{Codec, HasLawfulStats, IsLawful}
+use Rattle.vx_wire_tree.specs.Codec.{Codec, HasLawfulStats, IsLawful, metadata_bytes}
+use Rattle.vx_wire_tree.specs.Fields.{told}
 use Rattle.vx_wire_tree.specs.Context.{Context, grown_by, grown}
 use Rattle.vx_wire_tree.specs.Limits.{HasMessages}
 use Rattle.vx_wire_tree.specs.Matches.{Matches, AllMatch}
-use Rattle.vx_wire_tree.specs.ReadBack.{IsWritten, HasKnownTypes, HasStorableStats}
+use Rattle.vx_wire_tree.specs.ReadBack.{IsUnread, IsWritten, HasKnownTypes, HasStorableStats}
 use Rattle.vx_wire_tree.specs.Session.{SessionMeaning, IsShipped, IsPaired, shipped}
 use Rattle.vx_wire_tree.specs.Steps.{PlansChildren, HasParts, IsToldBy}
 use Rattle.vx_wire_tree.specs.Tells.{Tells}
 use Rattle.vx_wire_tree.specs.Wire.{Wire, Wires, WireHead, IsWhole, ids_in, all_present}
-use Rattle.vx_wire_tree.specs.Written.{wire, canon}
+use Rattle.vx_wire_tree.specs.Written.{spelled, wire, canon}
 use Rattle.vx_wire_tree.proofs.Built as Built
 use Rattle.vx_wire_tree.proofs.NeverRefused as NeverRefused
 use Rattle.vx_wire_tree.proofs.ReadAgain as ReadAgain
@@ -29,39 +31,43 @@ use Rattle.vx_wire_tree.proofs.Unique as Unique
 use Rattle.vx_wire_tree.proofs.WrittenAlike as WrittenAlike
 
 module _ (c : Codec) (s : SessionMeaning) where
+  -- A foreign node is spelled as what it keeps.
+  pub own_spelling : Canon.SpellsOwn (spelled c s)
+  own_spelling h ts x e = ap (λ b. record { id = own_id b; metadata = metadata_bytes c (told (metadata_of b (places ts))); buffers = buffers_of b }) e
+
   -- A sound normal array is read back as itself, where its statistics are kept, and in any case but for
   -- statistics; it is written as what is read back.
-  pub canon_own : (t : Tree) → IsSound t → IsNormal t → KeepsStats t → canon s t ≡ t
-  canon_own t x n k = Canon.canon_own t x n k
+  pub canon_own : (t : Tree) → IsSound t → IsNormal t → KeepsStats t → canon c s t ≡ t
+  canon_own t x n k = Canon.canon_own (spelled c s) own_spelling t x n k
 
-  pub canon_written : (t : Tree) → IsSound t → IsNormal t → canon s t ≡ stats_written t
-  canon_written t x n = Canon.canon_written t x n
+  pub canon_written : (t : Tree) → IsSound t → IsNormal t → canon c s t ≡ stats_written t
+  canon_written t x n = Canon.canon_written (spelled c s) own_spelling t x n
 
-  pub canon_wire : HasLawfulStats c → (t : Tree) → IsSound t → IsNormal t → wire c s (canon s t) ≡ wire c s t
+  pub canon_wire : HasLawfulStats c → (t : Tree) → IsSound t → IsNormal t → wire c s (canon c s t) ≡ wire c s t
   canon_wire law t x n = ap (λ u. wire c s u) (canon_written t x n) ∙ WrittenAlike.wire_alike c law s t
 
-  pub canon_grown : HasLawfulStats c → (ctx : Context) (t : Tree) → IsSound t → IsNormal t → grown c s ctx (canon s t) ≡ grown c s ctx t
+  pub canon_grown : HasLawfulStats c → (ctx : Context) (t : Tree) → IsSound t → IsNormal t → grown c s ctx (canon c s t) ≡ grown c s ctx t
   canon_grown law ctx t x n = ap (λ w. grown_by (ids_in w) ctx) (canon_wire law t x n)
 
   -- What is read back of a sound array is sound and normal, has its rows, and is read back as itself.
-  pub canon_sound : (t : Tree) → IsSound t → IsSound (canon s t)
-  canon_sound t x = Canon.canon_sound t x
+  pub canon_sound : (t : Tree) → IsSound t → IsSound (canon c s t)
+  canon_sound t x = Canon.canon_sound (spelled c s) t x
 
-  pub canon_normal : (t : Tree) → IsSound t → IsNormal (canon s t)
-  canon_normal t x = Canon.canon_normal t x
+  pub canon_normal : (t : Tree) → IsSound t → IsNormal (canon c s t)
+  canon_normal t x = Canon.canon_normal (spelled c s) t x
 
-  pub canon_rows : (t : Tree) → IsSound t → rows_of (canon s t) ≡ rows_of t
-  canon_rows t x = Canon.canon_rows t x
+  pub canon_rows : (t : Tree) → IsSound t → rows_of (canon c s t) ≡ rows_of t
+  canon_rows t x = Canon.canon_rows (spelled c s) t x
 
-  pub canon_twice : (t : Tree) → IsSound t → canon s (canon s t) ≡ canon s t
-  canon_twice t x = Canon.canon_twice t x
+  pub canon_twice : (t : Tree) → IsSound t → canon c s (canon c s t) ≡ canon c s t
+  canon_twice t x = Canon.canon_twice (spelled c s) own_spelling t x
 
   -- Its statistics are kept, and can be stored where the array's could.
-  pub canon_keeps : (t : Tree) → KeepsStats (canon s t)
-  canon_keeps t = Canon.canon_at_keeps (label t).dtype t
+  pub canon_keeps : (t : Tree) → KeepsStats (canon c s t)
+  canon_keeps t = Canon.canon_at_keeps (spelled c s) (label t).dtype t
 
-  pub canon_storable : HasLawfulStats c → (t : Tree) → HasStorableStats c t → HasStorableStats c (canon s t)
-  canon_storable law t k = WrittenAlike.storable_at c law (label t).dtype t k
+  pub canon_storable : HasLawfulStats c → (t : Tree) → HasStorableStats c t → HasStorableStats c (canon c s t)
+  canon_storable law t k = WrittenAlike.storable_at c law (spelled c s) (label t).dtype t k
 
   -- Wire trees that match arrays one by one are as many as these.
   pub matched_count : (ws : Wires) (ts : Trees) → AllMatch c s ws ts → count ts ≡ count ws
@@ -83,15 +89,16 @@ module _ (c : Codec) (s : SessionMeaning) where
       never_refused r w d n t x k = NeverRefused.never_refused c s ok law r w d n t x k
 
       -- A sound array of which each node is written, its metadata fits its message, the types in it are known,
-      -- and its statistics can be stored, is told by its wire tree: as it is read back.
-      pub told_again : IsPaired s → (t : Tree) → IsSound t → IsWritten s t → HasMessages t → HasKnownTypes s t → HasStorableStats c t
-          → Tells c s (wire c s t) (label t).dtype (label t).len (canon s t)
-      told_again p t x w m k b = record {
-        matched = ReadAgain.written_matches c s law t x (ReadAgain.reads_back c s ok p t w m k b);
-        dtype = canon_dtype (label t).dtype t;
-        len = canon_len (label t).dtype t;
-        sound = Canon.canon_sound t x;
-        normal = Canon.canon_normal t x;
+      -- and its statistics can be stored, and whose topmost foreign nodes nothing reads, is told by its wire tree:
+      -- as it is read back.
+      pub told_again : IsPaired s → (t : Tree) → IsSound t → IsUnread s t → IsWritten s t → HasMessages t → HasKnownTypes s t → HasStorableStats c t
+          → Tells c s (wire c s t) (label t).dtype (label t).len (canon c s t)
+      told_again p t x u w m k b = record {
+        matched = ReadAgain.written_matches c s law t x (ReadAgain.reads_back c s ok p t u w m k b);
+        dtype = canon_dtype (spelled c s) (label t).dtype t;
+        len = canon_len (spelled c s) (label t).dtype t;
+        sound = Canon.canon_sound (spelled c s) t x;
+        normal = Canon.canon_normal (spelled c s) t x;
       }
 
   -- A node whose children tell arrays where they are planned tells the array that is built of its parts, with
