@@ -19,7 +19,7 @@ use Rattle.vx_array_tree.specs.Place.{Place}
 use Rattle.vx_array_tree.specs.Sound.{IsSound, IsSoundNode, metadata_in}
 use Rattle.vx_array_tree.specs.Table.{encoding_of, id_of, own_id, IsNative, IsNativeEncoding, IsFair}
 use Rattle.vx_array_tree.specs.Tree.{Head, Tree, Trees, places}
-use Rattle.vx_array_tree.proofs.Bodies.{cleared_encoding, cleared_buffers}
+use Rattle.vx_array_tree.proofs.Bodies.{native_id, cleared_encoding, cleared_buffers}
 use Rattle.vx_array_tree.proofs.CanonLaws.{by_node}
 use Rattle.vx_array_tree.proofs.CanonPlaces.{known_node, foreign_node, Planned, planned_at, types_at, kids_metadata}
 use Rattle.vx_array_tree.proofs.Identifiers.{distinct_ids}
@@ -71,10 +71,6 @@ module _ (c : Codec) (s : SessionMeaning) where
 
   read_back_foreign : (b : Body) (h : Head) (ts : Trees) (Below : Type 0) (x : Foreigns.Data) → b ≡ B.foreign x → ReadsBackBy c s b h ts Below → IsKept s x
   read_back_foreign b h ts Below x e r = subst (λ z. ReadsBackBy c s z h ts Below) e r
-
-  native_id : (b : Body) → IsNative b → own_id b ≡ id_of (encoding_of b)
-  native_id (B.foreign x) k = absurd k
-  native_id _ k = refl
 
   module _ (law : IsLawful c s) where
     -- A node as it is read back at a type matches what was written of it, if its children do.
