@@ -35,7 +35,7 @@ use Rattle.vx_encodings.specs.declared.error.EncodingError.{EncodingError}
 use Rattle.vx_encodings.specs.declared.error.EncodingError.TheVariants as refusals
 use Rattle.vx_encodings.specs.declared.head.ArrayHead.{ArrayHead}
 use Rattle.vx_serde.specs.declared.error.WireError.{WireError}
-use Rattle.vx_serde.specs.declared.error.WireError.TheVariants.{OutOfMemory, OutOfBounds, UnknownIndex, UnknownEncoding, BadMetadata, BadShape, BadContent, BadStats}
+use Rattle.vx_serde.specs.declared.error.WireError.TheVariants.{OutOfMemory, OutOfBounds, UnknownIndex, UnknownEncoding, BadMetadata, BadShape, BadContent, ForeignControl, BadStats}
 use Rattle.vx_serde.specs.Causes.{RefusesWire}
 use Rattle.vx_serde.specs.ReadingSteps.{RefusesBuffers, RefusesStats, encoding_refusal}
 use Rattle.vx_serde.specs.Decoding.{IsHeadOf, IsNodeOf, AllTell}

@@ -72,7 +72,7 @@ grown-ids s t old new e = grown_by-ids (ids_in (wire codec s t)) old new e
 -- The blob that is written for an array that was read spells it with the identifiers of the grown context.
 pub spelled_again : (s : SessionMeaning) → IsShipped s → IsLawful codec s → IsPaired s → (blob : List ℕ) (read : List (List ℕ)) (d : Typ) (n : ℕ) (t : Tree)
     (old new : Context) (options : SerializeOptions) → Spells blob read d n s t → HasStorableStats codec t → grown codec s old t ≡ Some new → KeepsWriterLimits s t old options
-    → Spells (blob_of s t old options) new.ids d n s (canon s t)
+    → Spells (blob_of s t old options) new.ids d n s (canon codec s t)
 spelled_again s ok law paired blob read d n t old new options x stored grew fit =
     let w = wire codec s t in
     let same = grown-ids s t old new grew in
@@ -81,14 +81,14 @@ spelled_again s ok law paired blob read d n t old new options x stored grew fit 
     let c = carried new.ids options w (wire-whole codec s t) (wire-tabled s t) placed.placed (subst W (sym same) fit.writable) in
     let m = x.told.matched in
     let again = told_again codec s ok law paired t x.told.sound (read_written codec s paired x.wire t m) fit.messages (read_types codec s x.wire t m) stored in
-    let T : Typ → Type 0 = λ z. Tells codec s w z (label t).len (canon s t) in
-    let L : ℕ → Type 0 = λ z. Tells codec s w d z (canon s t) in
-    let spelled : Spells (blob_bytes new.ids options w) new.ids d n s (canon s t) = record {
+    let T : Typ → Type 0 = λ z. Tells codec s w z (label t).len (canon codec s t) in
+    let L : ℕ → Type 0 = λ z. Tells codec s w d z (canon codec s t) in
+    let spelled : Spells (blob_bytes new.ids options w) new.ids d n s (canon codec s t) = record {
       wire = w;
       carried = c.0;
       clean = c.1;
       whole = wire-whole codec s t;
       told = subst L x.told.len (subst T x.told.dtype again);
     } in
-    let P : List (List ℕ) → Type 0 = λ z. Spells (blob_bytes z options w) new.ids d n s (canon s t) in
+    let P : List (List ℕ) → Type 0 = λ z. Spells (blob_bytes z options w) new.ids d n s (canon codec s t) in
     subst P same spelled

@@ -16,7 +16,7 @@ use Rattle.vx_encodings.specs.declared.error.EncodingError.TheVariants as encodi
 use Rattle.vx_scalar_wire.specs.declared.error.ScalarWireError.{ScalarWireError}
 use Rattle.vx_scalar_wire.specs.declared.error.ScalarWireError.TheVariants as scalars
 use Rattle.vx_serde.specs.declared.error.WireError.{WireError}
-use Rattle.vx_serde.specs.declared.error.WireError.TheVariants.{OutOfMemory, BadTable, TableLimit, OutOfBounds, BadMetadata, BadShape, BadContent, BadStats, WireLimit}
+use Rattle.vx_serde.specs.declared.error.WireError.TheVariants.{OutOfMemory, BadTable, TableLimit, OutOfBounds, BadMetadata, BadShape, BadContent, ForeignControl, BadStats, WireLimit}
 use Rattle.vx_serde.specs.ArraySchema.{array_schema}
 use Rattle.vx_serde.specs.Blob.{Carries, AreClean}
 use Rattle.vx_serde.specs.Message.{Descriptor, message_of}
@@ -64,4 +64,5 @@ encoding_refusal encodings.OutOfMemory = OutOfMemory
 encoding_refusal encodings.BadMetadata = BadMetadata
 encoding_refusal encodings.BadShape = BadShape
 encoding_refusal encodings.BadContent = BadContent
+encoding_refusal encodings.ForeignControl = ForeignControl
 encoding_refusal encodings.WireLimit = WireLimit
