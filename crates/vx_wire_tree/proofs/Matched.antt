@@ -1,14 +1,19 @@
 -- What holds of an array that matches a wire tree, by what reads its nodes.
-use Rattle.std.proofs.Common.{ℕ, ◌≡◌, ◌⊎◌, inl, inr, List, [], ◌∷◌, Some, None, IsTrue, refl, sym, ap, ◌∙◌, subst}
+use Rattle.std.proofs.Common.{ℕ, suc, ◌≡◌, ◌⊎◌, inl, inr, List, [], ◌∷◌, Some, None, IsTrue, refl, sym, ap, ◌∙◌, subst}
 use Rattle.std.proofs.lemmas.Option.{same_Some}
-use Rattle.vx_trees.specs.Rose.{node, end, more, label, below}
+use Rattle.vx_trees.specs.Rose.{node, end, more, label, below, count}
 use Rattle.vx_trees.specs.Everywhere.{EverywhereBelow}
+use Rattle.vx_types.specs.Kind as K
+use Rattle.vx_types.specs.Typ.{Typ}
 use Rattle.vx_array_tree.specs.Body.{Body}
 use Rattle.vx_array_tree.specs.Body as B
 use Rattle.vx_array_tree.specs.Encoding.{Encoding}
 use Rattle.vx_array_tree.specs.Encoding as E
 use Rattle.vx_array_tree.specs.Encodings.Foreigns as Foreigns
-use Rattle.vx_array_tree.specs.Table.{encoding_of, metadata_of, id_of, IsNative, IsNativeEncoding, Takes}
+use Rattle.vx_array_tree.specs.Metadata.{Metadata}
+use Rattle.vx_array_tree.specs.Metadata as M
+use Rattle.vx_array_tree.specs.Place.{Place}
+use Rattle.vx_array_tree.specs.Table.{encoding_of, metadata_of, id_of, plan_of, IsNative, IsNativeEncoding, Takes}
 use Rattle.vx_array_tree.specs.Tree.{Head, Tree, Trees, encodings, places}
 use Rattle.vx_wire_tree.specs.Causes.{IsOf, AreOf}
 use Rattle.vx_wire_tree.specs.Codec.{Codec, IsLawful}
@@ -128,3 +133,17 @@ module _ (c : Codec) (s : SessionMeaning) (ok : IsShipped s) where
     first_native E.map E.foreign fs never = never tt
     first_native _ E.foreign fs never = never tt
     first_native e _ fs never = tt
+
+    -- A map is planned for one child.
+    two_entries : (d : Typ) (n : ℕ) (v : Metadata) (k : ℕ) (ps : List Place) → plan_of E.map d n v (suc (suc k)) ≡ Some ps → ⊥
+    two_entries (node (K.map b m) (more x (more y end))) n M.empty k ps e = cc
+    two_entries _ n M.empty k ps e = cc
+    two_entries d n _ k ps e = cc
+
+    -- Where children are planned and may not stand, each is read by its encoding.
+    pub untaken_of : (e : Encoding) (d : Typ) (n : ℕ) (v : Metadata) (ps : List Place) (ws : Wires) (ts : Trees) → plan_of e d n v (count ws) ≡ Some ps → AllMatch c s ws ts → (Takes e (encodings ts) → ⊥) → AreOf s ws (encodings ts)
+    untaken_of E.map d n v ps end ts p m never = ap (λ us. encodings us) m
+    untaken_of E.map d n v ps (more w ws) end p m never = absurd m
+    untaken_of E.map d n v ps (more w end) (more t ts) p m never = (of_native w t m.0 (first_native E.map (encoding_of (label t).body) (encodings ts) never), ap (λ us. encodings us) m.1)
+    untaken_of E.map d n v ps (more w (more x ws)) (more t ts) p m never = absurd (two_entries d n v (count ws) ps p)
+    untaken_of _ d n v ps ws ts p m never = absurd (never tt)
