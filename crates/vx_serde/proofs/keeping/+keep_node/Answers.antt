@@ -6,7 +6,7 @@ use Rattle.vx_trees.proofs.Lists.{roses_of-roses_list}
 use Rattle.vx_types.specs.Seen.{typ}
 use Rattle.vx_wire_tree.proofs.Laws.{kept-snoc, all_kept}
 use Rattle.vx_serde.specs.Serialized.{wire_in}
-use Rattle.vx_serde.proofs.DecodedNodes.{wire-id, wire-child, wire-length, child-smaller}
+use Rattle.vx_serde.proofs.DecodedNodes.{wire-id, wire-named, wire-child, wire-length, child-smaller}
 use Rattle.vx_serde.proofs.KeptNodes.{kept_above, unkept_by_id, unkept_by_buffers, unkept_by_memory, kept_of}
 use Rattle.vx_serde.proofs.keeping.+keep_node.Goals as goal
 
@@ -48,6 +48,6 @@ returns-in-Ok-new_foreign_array-clause-kept t c =
     let nodes = roses_list (below w) in
     let past : length nodes ≤ c.loop-i.i = omega (arith, wire-length c.args.ids.now c.args.node.now, c.nchildren-i-end.ensures, c.loop-i-test.false) in
     kept_of c.in-Some.id.now w (typ c.args.dtype.now) c.args.len c.in-Ok-head_of.head c.in-Ok-own_buffers.buffers nodes c.loop-i.children c.in-Ok-new_foreign_array.array
-    (wire-id c.args.ids.now c.args.node.now ∙ ap (λ k. slice_get c.args.ids.now k) (sym c.encoding_id.ensures) ∙ sym c.in-Some.ensures) c.in-Ok-head_of.ensures.id (c.in-Ok-head_of.ensures.head c.args.ids.now)
+    (wire-named c.args.ids.now c.args.node.now _ _ c.encoding_id.ensures c.in-Some.ensures) c.in-Ok-head_of.ensures.id (c.in-Ok-head_of.ensures.head c.args.ids.now)
     (c.in-Ok-own_buffers.ensures.ok c.args.ids.now) (roses_of-roses_list (below w)) (all_kept nodes (typ c.args.dtype.now) c.args.len c.loop-i.i c.loop-i.children past c.loop-i.invariant)
     c.in-Ok-new_foreign_array.ensures.ok c.in-Ok-new_foreign_array.ensures.sound
