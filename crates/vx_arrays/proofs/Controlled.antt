@@ -26,7 +26,7 @@ nothing_there : (i : ℕ) (t : Tree) → slice_get [] i ≡ Some t → ⊥
 nothing_there i t e = absurd (cc)
 
 -- Of a node without children it is known where its rows are.
-pub bare_controlled : (h : Head) → HasNativeEntries h.body end → IsControlled h end
+pub bare_controlled : (h : Head) → HasNativeEntries (encoding_of h.body) end → IsControlled h end
 bare_controlled h e = record { controls = λ i t q k. absurd (nothing_there i t q); entries = e }
 
 -- ---- foreign nodes
@@ -70,13 +70,13 @@ pub known_past : (f : ℕ → Bool) (us : List Tree) (i : ℕ) → AreKnown f us
 known_past f us i a n = below_more (IsKnownAt f us) i a (λ t e k. absurd (n k))
 
 module _ (d : Typ) (n : ℕ) (b : Body) (us : List Tree) where
-  known_controls : (i : ℕ) → length us ≤ i → AreKnown (λ j. is_control (encoding_of b) d (length us) j) us i → HasNativeControls (untold d n b) (roses_of us)
+  known_controls : (i : ℕ) → length us ≤ i → AreKnown (λ j. is_control (encoding_of b) d (length us) j) us i → HasNativeControls (encoding_of b) d (roses_of us)
   known_controls i l a j t e k =
       let x : slice_get us j ≡ Some t = ap (λ (ts : List Tree). slice_get ts j) (sym (roses_list-roses_of us)) ∙ e in
       a j (omega (arith, l, slice_get_inside us j t x)) t x (subst (λ (m : ℕ). IsTrue (is_control (encoding_of b) d m j)) (count-roses_of us) k)
 
   -- All of them being looked at, what says where rows are is known.
-  pub all_known : (i : ℕ) → length us ≤ i → HasNativeEntries b (roses_of us) → AreKnown (λ j. is_control (encoding_of b) d (length us) j) us i → IsControlled (untold d n b) (roses_of us)
+  pub all_known : (i : ℕ) → length us ≤ i → HasNativeEntries (encoding_of b) (roses_of us) → AreKnown (λ j. is_control (encoding_of b) d (length us) j) us i → IsControlled (untold d n b) (roses_of us)
   all_known i l e a = record { controls = known_controls i l a; entries = e }
 
   -- One that holds a foreign node says that it is not.

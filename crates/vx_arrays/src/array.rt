@@ -1,6 +1,6 @@
 //! Arrays, each a tree of nodes, and what they tell of themselves.
 
-ghost use Rattle.std.specs.Prelude.{◌≡◌, ◌<◌, ◌≤◌, ◌==◌, ◌+◌, length, IfOk, IfErr, OnOk, OnErr, IsOk, IsOkUnless, Some, slice_get};
+ghost use Rattle.std.specs.Prelude.{◌≡◌, ◌<◌, ◌≤◌, ◌==◌, ◌+◌, length, IfOk, IfErr, OnOk, OnErr, IsOk, IsOkUnless, IsTrue, IsFalse, Some, slice_get};
 ghost use Rattle.vx_trees.specs.Everywhere.{EverywhereBelow};
 ghost use Rattle.vx_trees.specs.Rose.{label, below, node, end, roses_of};
 ghost use Rattle.vx_types.specs.Kind.{boolean};
@@ -11,7 +11,8 @@ ghost use Rattle.vx_types.specs.declared.nullability.Nullability.TheVariants.{No
 ghost use Rattle.vx_array_tree.specs.Refused.{IsWellShaped};
 ghost use Rattle.vx_array_tree.specs.Rows.{flag_in};
 ghost use Rattle.vx_array_tree.specs.Sound.{IsControlled, IsSound, IsSoundNode};
-ghost use Rattle.vx_array_tree.specs.Table.{own_id, buffers_of, Content};
+ghost use Rattle.vx_array_tree.specs.Encoding as E;
+ghost use Rattle.vx_array_tree.specs.Table.{encoding_of, own_id, buffers_of, Content, IsNative};
 ghost use Rattle.vx_array_tree.specs.Tree.{Tree, rows_of, rows_below, row_at, valid_at, cells, untold, with_stats};
 ghost use Rattle.vx_trees.specs.Walks.{nodes};
 ghost use Rattle.vx_arrays.specs.NewBuffers.{RefusesBuffers, with_buffers};
@@ -175,6 +176,14 @@ impl Array {
         ensures { result.now ≡ own_id (label self.now).body }
     {
         self.body.encoding_id()
+    }
+
+    /// Whether the root is foreign: nothing is known of its encoding.
+    pub fn is_foreign(&self) -> bool
+        ensures foreign { IsTrue result → encoding_of (label self.now).body ≡ E.foreign }
+        ensures native { IsFalse result → IsNative (label self.now).body }
+    {
+        matches!(self.body(), Body::Foreign(_))
     }
 
     /// The arrays below the root, in the order in which they are written.

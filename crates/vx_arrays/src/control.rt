@@ -55,7 +55,7 @@ pub(crate) fn is_controlled(dtype: &DType, len: usize, body: &Body, children: &[
 
 // Whether the entries of a node of maps are not foreign.
 fn has_native_entries(body: &Body, children: &[Array]) -> bool
-    ensures { IsTrue result ↔ HasNativeEntries (plain_body body.now) (roses_of children.now) }
+    ensures { IsTrue result ↔ HasNativeEntries (encoding_of (plain_body body.now)) (roses_of children.now) }
 {
     match (body, children) {
         (Body::Map, [entries, ..]) => entries.body().is_native(),
