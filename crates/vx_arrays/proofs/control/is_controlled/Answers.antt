@@ -1,5 +1,5 @@
 -- That is known exactly where each child that says where rows are is, and the entries of maps are.
-use Rattle.std.proofs.Common.{ℕ, ◌≡◌, ◌∙◌, arith, length, sym, true}
+use Rattle.std.proofs.Common.{ℕ, ◌≡◌, ◌∙◌, length, sym, true}
 use Rattle.std.proofs.lemmas.Bool.{false≢true, iff_false}
 use Rattle.vx_types.specs.Seen.{typ}
 use Rattle.vx_array_tree.specs.Table.{encoding_of, is_control}
