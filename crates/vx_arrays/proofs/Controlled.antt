@@ -1,5 +1,5 @@
 -- What says where a node's rows are, and whether it is known.
-use Rattle.std.proofs.Common.{ℕ, zero,  suc, ◌≡◌, ◌<◌, ◌≤◌, ◌+◌, List, [], ◌∷◌, Bool, IsTrue, Some, slice_get, length, take, get_or, refl, sym, ap, ◌∙◌, subst, arith, add-one, replicate}
+use Rattle.std.proofs.Common.{ℕ, zero, suc, ◌≡◌, ◌<◌, ◌≤◌, ◌+◌, List, [], ◌∷◌, Bool, IsTrue, Some, slice_get, length, take, get_or, refl, sym, ap, ◌∙◌, subst, arith, add-one, replicate}
 use Rattle.std.proofs.lemmas.Bool.{false≢true}
 use borrow.Author.Count.{below_more}
 use Rattle.std.proofs.lemmas.List.{take_all}
