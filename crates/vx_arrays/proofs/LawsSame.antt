@@ -51,7 +51,6 @@ body_has (B.varbin x) c bs e = with_metadata bs e
     with_metadata (b ∷ []) e = ap (λ z. buffers_of z) (sym (same_Some (B.varbin (record { bytes = b })) c e))
     with_metadata (b ∷ d ∷ bs) e = absurd (cc)
 body_has (B.varbinview x) c bs e = body_buffers E.varbinview M.empty bs c e
-body_has (B.foreign x) c bs e = ap (λ z. buffers_of z) (sym (same_Some (B.foreign (record { id = x.id; metadata = x.metadata; buffers = bs })) c e))
 body_has B.null c [] e = ap (λ z. buffers_of z) (sym (same_Some B.null c e))
 body_has B.list c [] e = ap (λ z. buffers_of z) (sym (same_Some B.list c e))
 body_has (B.listview x) c [] e = ap (λ z. buffers_of z) (sym (same_Some (B.listview x) c e))
