@@ -2,7 +2,7 @@
 use Rattle.std.proofs.Common.{ℕ, suc, ◌≡◌, ◌+◌, ◌<◌, ◌≤◌, arith, add-one, List, [], ◌∷◌, ◌++◌, Some, None, IsTrue, refl, sym, ap, ◌∙◌, subst, take, length, get_or, zero}
 use Rattle.std.proofs.lemmas.List.{take_all}
 use Rattle.vx_buffer.specs.Buffer.{Buffer}
-use Rattle.vx_trees.specs.Rose.{node, label, below, roses_of, roses_list}
+use Rattle.vx_trees.specs.Rose.{node, label, roses_of, roses_list}
 use Rattle.vx_trees.specs.Everywhere.{EverywhereBelow}
 use Rattle.vx_trees.proofs.Holding.{everywhere_below-snoc}
 use Rattle.vx_trees.proofs.Lists.{roses_of-roses_list}

@@ -1,5 +1,5 @@
 -- What holds of an array that matches a wire tree, by what reads its nodes.
-use Rattle.std.proofs.Common.{ℕ, suc, ◌≡◌, ◌⊎◌, inl, inr, List, [], ◌∷◌, Some, None, IsTrue, refl, sym, ap, ◌∙◌, subst}
+use Rattle.std.proofs.Common.{ℕ, suc, ◌≡◌, ◌⊎◌, inl, inr, List, ◌∷◌, Some, IsTrue, sym, ap, ◌∙◌, subst}
 use Rattle.std.proofs.lemmas.Option.{same_Some}
 use Rattle.vx_trees.specs.Rose.{node, end, more, label, below, count}
 use Rattle.vx_trees.specs.Everywhere.{EverywhereBelow}
@@ -9,15 +9,14 @@ use Rattle.vx_array_tree.specs.Body.{Body}
 use Rattle.vx_array_tree.specs.Body as B
 use Rattle.vx_array_tree.specs.Encoding.{Encoding}
 use Rattle.vx_array_tree.specs.Encoding as E
-use Rattle.vx_array_tree.specs.Encodings.Foreigns as Foreigns
 use Rattle.vx_array_tree.specs.Metadata.{Metadata}
 use Rattle.vx_array_tree.specs.Metadata as M
 use Rattle.vx_array_tree.specs.Place.{Place}
 use Rattle.vx_array_tree.specs.Table.{encoding_of, metadata_of, id_of, plan_of, IsNative, IsNativeEncoding, Takes}
-use Rattle.vx_array_tree.specs.Tree.{Head, Tree, Trees, encodings, places}
+use Rattle.vx_array_tree.specs.Tree.{Tree, Trees, encodings, places}
 use Rattle.vx_wire_tree.specs.Causes.{IsOf, AreOf}
 use Rattle.vx_wire_tree.specs.Codec.{Codec, IsLawful}
-use Rattle.vx_wire_tree.specs.Matches.{IsRaw, AreRaw, IsRawNode, Matches, AllMatch}
+use Rattle.vx_wire_tree.specs.Matches.{IsRaw, AreRaw, Matches, AllMatch}
 use Rattle.vx_wire_tree.specs.ReadBack.{HasWriter, IsWritten, IsWrittenBy, IsWrittenNode, IsKnownNode, HasKnownTypes, IsUnreadBy, IsUnread, AreUnread}
 use Rattle.vx_wire_tree.specs.Reads.{IsKnownIn}
 use Rattle.vx_wire_tree.specs.Session.{SessionMeaning, IsShipped, IsPaired, shipped}
