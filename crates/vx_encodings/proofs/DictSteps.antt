@@ -8,9 +8,6 @@ use Rattle.vx_types.specs.Known.{ExtMeaning}
 use Rattle.vx_types.specs.Numbers.{is_integer}
 use Rattle.vx_types.specs.Seen.{typ}
 use Rattle.vx_types.specs.Typ.{Typ}
-use Rattle.vx_types.specs.Words.{nullability}
-use Rattle.vx_types.specs.declared.nullability.Nullability.{Nullability}
-use Rattle.vx_types.specs.declared.nullability.Nullability.TheVariants.{Nullable}
 use Rattle.vx_types.specs.declared.ptype.PType.{PType}
 use Rattle.vx_proto.specs.Reads.{Reads}
 use Rattle.vx_array_tree.specs.Body.{Body}
@@ -21,9 +18,8 @@ use Rattle.vx_array_tree.specs.Encodings.Dicts.{Allows, lifted, plan}
 use Rattle.vx_array_tree.specs.Metadata.{Metadata}
 use Rattle.vx_array_tree.specs.Metadata as M
 use Rattle.vx_array_tree.specs.Place.{Place, place, exactly}
-use Rattle.vx_array_tree.specs.Refused.{IsWellShaped, HasBrokenContent}
 use Rattle.vx_array_tree.specs.Table.{IsShaped, body_of, plan_of}
-use Rattle.vx_array_tree.specs.Tree.{Tree, Trees, places, untold}
+use Rattle.vx_array_tree.specs.Tree.{Tree, Trees, places}
 use Rattle.vx_array_tree.proofs.Plans.{exactly_is}
 use Rattle.vx_array_tree.proofs.Retyped.{own_places}
 use Rattle.vx_arrays.specs.Dicts.{dict_head}

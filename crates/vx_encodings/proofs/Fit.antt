@@ -1,5 +1,5 @@
 -- That a root's metadata fits its message, by what the root holds.
-use Rattle.std.proofs.Common.{ℕ, ◌≡◌, ◌<◌, ◌≤◌, ◌-◌, ◌^◌, Bool as Truth, sym, ap, ◌∙◌, subst}
+use Rattle.std.proofs.Common.{◌≡◌, ◌<◌, ◌≤◌, ◌-◌, ◌^◌, Bool as Truth, sym, ap, ◌∙◌, subst}
 use Rattle.std.specs.Prelude.{IsTrue, IsFalse}
 use Rattle.vx_trees.specs.Rose.{label, below}
 use Rattle.vx_array_tree.specs.Body as B

@@ -1,6 +1,6 @@
 -- Whether an array's root is written, by what its encoding's identifier finds among the writers, or, of a foreign node,
 -- by whether such nodes are allowed.
-use Rattle.std.proofs.Common.{ℕ, ◌≡◌, List, Option, Some, None, Bool, true, false, option_map, refl, sym, ap, ◌∙◌, subst, is_some, IsTrue, IsFalse}
+use Rattle.std.proofs.Common.{ℕ, ◌≡◌, List, Option, Some, None, Bool, option_map, refl, sym, ap, ◌∙◌, subst, is_some, IsTrue, IsFalse}
 use Rattle.vx_types.specs.Known.{ExtMeaning}
 use Rattle.vx_array_tree.specs.Body.{Body}
 use Rattle.vx_array_tree.specs.Body as B

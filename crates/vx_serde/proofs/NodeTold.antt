@@ -3,7 +3,7 @@ use Rattle.std.proofs.Common.{false, ℕ, zero, suc, ◌≡◌, ◌+◌, ◌<◌
 use Rattle.std.specs.Prelude.{slice_get}
 use Rattle.std.proofs.lemmas.List.{take_all}
 use Rattle.vx_buffer.specs.Buffer.{Buffer}
-use Rattle.vx_trees.specs.Rose.{node, end, more, label, below, roses_of, roses_list, count}
+use Rattle.vx_trees.specs.Rose.{node, label, below, roses_of, roses_list, count}
 use Rattle.vx_trees.specs.Everywhere.{EverywhereBelow}
 use Rattle.vx_trees.proofs.Holding.{everywhere_below-snoc}
 use Rattle.vx_trees.proofs.Lists.{count-roses_of, roses_of-roses_list, roses_list-roses_of}
