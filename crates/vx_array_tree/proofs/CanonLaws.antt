@@ -14,7 +14,6 @@ use Rattle.vx_array_tree.specs.Body.{Body}
 use Rattle.vx_array_tree.specs.Body as B
 use Rattle.vx_array_tree.specs.Canon.{types_in, planned_types, child_types, Spelling, as_foreign, all_foreign, canon_head, canon_at, canon_all, canon, written_head, stats_written, each_stats_written, IsKeptNode, KeepsStats}
 use Rattle.vx_array_tree.specs.Encoding.{Encoding}
-use Rattle.vx_array_tree.specs.Encoding as E
 use Rattle.vx_array_tree.specs.Encodings.Dicts as Dicts
 use Rattle.vx_array_tree.specs.Encodings.Foreigns as Foreigns
 use Rattle.vx_array_tree.specs.Metadata.{Metadata}
