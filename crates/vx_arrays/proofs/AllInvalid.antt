@@ -13,8 +13,9 @@ use Rattle.vx_array_tree.specs.Tree.{Tree, row_at}
 use Rattle.vx_arrays.specs.Bools.{bool_tree}
 use Rattle.vx_arrays.specs.Refused.{IsOkOrMemory}
 use Rattle.vx_arrays.specs.Validity.{all_invalid}
+use Rattle.vx_arrays.proofs.Controlled.{bare_controlled}
 use Rattle.vx_arrays.specs.declared.error.ArrayError.{ArrayError}
-use Rattle.vx_arrays.specs.declared.error.ArrayError.TheVariants.{OutOfMemory, BadShape, BadContent, ValueTooLarge}
+use Rattle.vx_arrays.specs.declared.error.ArrayError.TheVariants.{OutOfMemory, BadShape, BadContent, ForeignControl, ValueTooLarge}
 
 no_bit : (k i : ℕ) → i / 8 < k → bit_at (replicate k 0) i ≡ false
 no_bit k i h = rw (get_or-replicate {A = ℕ} k (i / 8) 0 0 h, zero-div (2 ^ (i % 8))) refl
@@ -34,6 +35,7 @@ all_invalid_sound n = (
     allows = λ e. absurd (omega (arith, e));
     takes = tt;
     holds = let l : length (replicate {A = ℕ} ((n + 7) / 8) 0) ≡ (n + 7) / 8 = length-replicate {A = ℕ} ((n + 7) / 8) 0 in omega arith;
+    controlled = bare_controlled _ tt;
     content = tt;
     stats = none_fit _;
   },
@@ -62,6 +64,7 @@ only_memory (Ok t) h = tt
 only_memory (Err OutOfMemory) h = refl
 only_memory (Err BadShape) h = absurd h
 only_memory (Err BadContent) h = absurd h
+only_memory (Err ForeignControl) h = absurd h
 only_memory (Err ValueTooLarge) h = absurd h
 
 pub wants_memory : (b : Buffer) (n : ℕ) (r : Result Tree ArrayError) → b.bytes ≡ replicate ((n + 7) / 8) 0 → b.exponent ≡ 0 → (IsSound (bool_tree b 0 n NonNullable None) → IsOkOrMemory r) → IsOkUnless r OutOfMemory

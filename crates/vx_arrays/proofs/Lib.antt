@@ -27,3 +27,4 @@ mod Behind
 mod ListViewed
 mod Entries
 mod Mapped
+mod Controlled

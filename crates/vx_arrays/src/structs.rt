@@ -122,7 +122,7 @@ fn over_columns(
 }
 
 // How many fields a type of structures has.
-fn width_of(dtype: &DType) -> usize
+pub(crate) fn width_of(dtype: &DType) -> usize
     requires { IsOfFields (typ dtype.now) }
     ensures { result ≡ width_of (typ dtype.now) }
 {

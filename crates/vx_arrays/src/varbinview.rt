@@ -240,7 +240,7 @@ impl VarBinViewData {
 
 // Whether the buffers are as many and have the same bytes.
 #[tactic(auto, using(crate::proofs::Comparing::alike))]
-fn are_same(buffers: &[BufferHandle], others: &[BufferHandle]) -> bool
+pub(crate) fn are_same(buffers: &[BufferHandle], others: &[BufferHandle]) -> bool
     ensures { IsTrue result ↔ (map bare buffers.now ≡ map bare others.now) }
 {
     if buffers.len() != others.len() {

@@ -19,7 +19,7 @@ use Rattle.vx_wire_tree.specs.Session.{IsShipped, IsPaired}
 use Rattle.vx_wire_tree.specs.Tells.{Tells}
 use Rattle.vx_wire_tree.specs.Wire.{Wire, ids_in, buffers_in}
 use Rattle.vx_wire_tree.specs.Written.{wire, canon}
-use Rattle.vx_wire_tree.proofs.Laws.{matched_whole, canon_wire, canon_written, canon_grown}
+use Rattle.vx_wire_tree.proofs.Laws.{matched_whole, matched_written, canon_wire, canon_written, canon_grown}
 use Rattle.vx_encodings.specs.Messages.{codec}
 use Rattle.vx_serde.specs.declared.options.SerializeOptions.{SerializeOptions}
 use Rattle.vx_serde.specs.declared.error.WireError.{WireError}
@@ -41,7 +41,7 @@ use Rattle.vx_serde.specs.Request.{Request, IsSpelled}
 use Rattle.vx_serde.specs.Recoding.{Product, IsRecoded, IsFaithful, IsTwiceAsOnce, LeavesContext}
 use Rattle.vx_serde.proofs.CarriedOnce.{one_blob}
 use Rattle.vx_serde.proofs.OneArray.{spelled_once}
-use Rattle.vx_serde.proofs.WrittenAgain.{spelled_again, read_written}
+use Rattle.vx_serde.proofs.WrittenAgain.{spelled_again}
 use Rattle.vx_serde.proofs.Gathered.{all-written}
 
 -- An opened blob spells the array that its wire tree tells.
@@ -183,9 +183,9 @@ caused_by_tree asked BadStats w carried u = record { wire = w; carried = carried
 caused_by_tree asked _ w carried u = absurd u
 
 -- An array that is not written. What was read is also written.
-pub caused_by_writing : (asked : Request) (e : WireError) (t : Tree) → IsPaired asked.session → IsSpelled asked t → RefusesArray asked.session t asked.context asked.options e → Refuses asked e
-caused_by_writing asked OutOfMemory t paired x u = tt
-caused_by_writing asked NotPermitted t paired x u = record { array = t; spelled = x; holds = u }
-caused_by_writing asked WireLimit t paired x u = record { array = t; spelled = x; holds = u }
-caused_by_writing asked NotRegistered t paired x u = all-written asked.session t (read_written codec asked.session paired x.wire t x.told.matched) u
-caused_by_writing asked _ t paired x u = absurd u
+pub caused_by_writing : (asked : Request) → IsShipped asked.session → IsLawful codec asked.session → (e : WireError) (t : Tree) → IsPaired asked.session → IsSpelled asked t → RefusesArray asked.session t asked.context asked.options e → Refuses asked e
+caused_by_writing asked ok law OutOfMemory t paired x u = tt
+caused_by_writing asked ok law NotPermitted t paired x u = record { array = t; spelled = x; holds = u }
+caused_by_writing asked ok law WireLimit t paired x u = record { array = t; spelled = x; holds = u }
+caused_by_writing asked ok law NotRegistered t paired x u = all-written asked.session t (matched_written codec asked.session ok law paired x.wire t x.told.matched) u
+caused_by_writing asked ok law _ t paired x u = absurd u
