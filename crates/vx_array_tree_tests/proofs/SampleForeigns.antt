@@ -212,8 +212,8 @@ stays = refl
 -- statistics are.
 below_foreign : canon spelled (with_stats (record no_stats { null_count = Exact (count 0) }) (foreign (text_type Nullable) 9 (told_numbers ∷ [])))
     ≡ foreign (text_type Nullable) 9
-        (kept (text_type Nullable) 9 (codes "vortex.primitive") (buffer (four (1 ∷ 2 ∷ 3 ∷ 4 ∷ [])) 2 ∷ [])
-        (kept (text_type Nullable) 9 (codes "vortex.bool") (buffer (5 ∷ []) 0 ∷ []) [] ∷ []) ∷ [])
+    (kept (text_type Nullable) 9 (codes "vortex.primitive") (buffer (four (1 ∷ 2 ∷ 3 ∷ 4 ∷ [])) 2 ∷ [])
+    (kept (text_type Nullable) 9 (codes "vortex.bool") (buffer (5 ∷ []) 0 ∷ []) [] ∷ []) ∷ [])
 below_foreign = refl
 
 -- Values that are foreign take their dictionary's type, and all below them do.
