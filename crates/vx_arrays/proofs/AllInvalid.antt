@@ -6,6 +6,7 @@ use Rattle.std.proofs.lemmas.List.{get_or-replicate, length-replicate}
 use Rattle.vx_buffer.specs.Buffer.{Buffer}
 use Rattle.vx_types.specs.declared.nullability.Nullability.TheVariants.{NonNullable}
 use Rattle.vx_scalars.proofs.LawsStats.{none_fit}
+use Rattle.vx_array_tree.specs.Encoding as E
 use Rattle.vx_array_tree.specs.Encodings.Bools.{bit_at}
 use Rattle.vx_array_tree.specs.Rows.{flag_in}
 use Rattle.vx_array_tree.specs.Sound.{IsSound}
@@ -35,7 +36,7 @@ all_invalid_sound n = (
     allows = λ e. absurd (omega (arith, e));
     takes = tt;
     holds = let l : length (replicate {A = ℕ} ((n + 7) / 8) 0) ≡ (n + 7) / 8 = length-replicate {A = ℕ} ((n + 7) / 8) 0 in omega arith;
-    controlled = bare_controlled _ tt;
+    controlled = bare_controlled E.bool _ tt;
     content = tt;
     stats = none_fit _;
   },

@@ -11,10 +11,11 @@ use Rattle.vx_trees.proofs.Lists.{count-roses_of, roses_list-roses_of}
 use Rattle.vx_trees.proofs.Holding.{everywhere-at, everywhere-node, everywhere-parts}
 use Rattle.vx_array_tree.specs.Body.{Body}
 use Rattle.vx_array_tree.specs.Body as B
+use Rattle.vx_array_tree.specs.Encoding.{Encoding}
 use Rattle.vx_array_tree.specs.Encodings.Foreigns as Foreigns
 use Rattle.vx_array_tree.specs.Place.{Place, place}
 use Rattle.vx_array_tree.specs.Refused.{IsWellShaped}
-use Rattle.vx_array_tree.specs.Sound.{HasNativeControls, HasNativeEntries, HasNoForeign, IsControlled, IsNativeNode, IsSoundNode}
+use Rattle.vx_array_tree.specs.Sound.{HasNativeControls, HasNativeEntries, HasNoForeign, IsControlled, IsControlledBy, IsNativeNode, IsSoundNode}
 use Rattle.vx_array_tree.specs.Table.{encoding_of, is_control, IsNative}
 use Rattle.vx_array_tree.specs.Tree.{Head, Tree, Trees, untold}
 use Rattle.vx_array_tree.proofs.Retyped.{places_count}
@@ -26,8 +27,8 @@ nothing_there : (i : ℕ) (t : Tree) → slice_get [] i ≡ Some t → ⊥
 nothing_there i t e = absurd (cc)
 
 -- Of a node without children it is known where its rows are.
-pub bare_controlled : (h : Head) → HasNativeEntries (encoding_of h.body) end → IsControlled h end
-bare_controlled h e = record { controls = λ i t q k. absurd (nothing_there i t q); entries = e }
+pub bare_controlled : (f : Encoding) (d : Typ) → HasNativeEntries f end → IsControlledBy f d end
+bare_controlled f d e = record { controls = λ i t q k. absurd (nothing_there i t q); entries = e }
 
 -- ---- foreign nodes
 

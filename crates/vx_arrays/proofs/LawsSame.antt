@@ -50,6 +50,7 @@ body_has (B.varbin x) c bs e = with_metadata bs e
     with_metadata (b ∷ []) e = ap (λ z. buffers_of z) (sym (same_Some (B.varbin (record { bytes = b })) c e))
     with_metadata (b ∷ d ∷ bs) e = absurd (cc)
 body_has (B.varbinview x) c bs e = body_buffers E.varbinview M.empty bs c e
+body_has (B.foreign x) c bs e = ap (λ z. buffers_of z) (sym (same_Some (B.foreign (record { id = x.id; metadata = x.metadata; buffers = bs })) c e))
 body_has B.null c [] e = ap (λ z. buffers_of z) (sym (same_Some B.null c e))
 body_has B.list c [] e = ap (λ z. buffers_of z) (sym (same_Some B.list c e))
 body_has (B.listview x) c [] e = ap (λ z. buffers_of z) (sym (same_Some (B.listview x) c e))
@@ -85,6 +86,7 @@ own_body B.union = refl
 own_body B.variant = refl
 own_body B.ext = refl
 own_body (B.dict x) = refl
+own_body (B.foreign x) = refl
 
 pub own_buffers : (t : Tree) → with_buffers t (buffers_of (label t).body) ≡ Some t
 own_buffers (node h ts) = ap (λ (o : Option Body). option_map (λ (b : Body). node (let g : Head = record { dtype = h.dtype; len = h.len; stats = h.stats; body = b } in g) ts) o) (own_body h.body)
@@ -134,6 +136,7 @@ rebuffered_bare B.ext [] = refl
 rebuffered_bare B.ext (d ∷ bs) = refl
 rebuffered_bare (B.dict x) [] = refl
 rebuffered_bare (B.dict x) (d ∷ bs) = refl
+rebuffered_bare (B.foreign x) bs = refl
 
 -- With buffers that have the bytes of its own an array is equal to what it was.
 pub same_bytes : (t u : Tree) (bs : List Buffer) → with_buffers t bs ≡ Some u → map bare bs ≡ map bare (buffers_of (label t).body) → IsSame u t

@@ -28,3 +28,4 @@ mod ListViewed
 mod Entries
 mod Mapped
 mod Controlled
+mod Bracketed

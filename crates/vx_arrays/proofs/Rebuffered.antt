@@ -19,6 +19,7 @@ use Rattle.vx_array_tree.specs.Encodings.Primitives as Primitives
 use Rattle.vx_array_tree.specs.Encodings.Decimals as Decimals
 use Rattle.vx_array_tree.specs.Encodings.VarBins as VarBins
 use Rattle.vx_array_tree.specs.Encodings.VarBinViews as VarBinViews
+use Rattle.vx_array_tree.specs.Encodings.Foreigns as Foreigns
 use Rattle.vx_array_tree.specs.Place.{before_validity}
 use Rattle.vx_array_tree.specs.Refused.{IsWellShaped, IsMisshaped, HasForeignControl, HasBrokenContent}
 use Rattle.vx_array_tree.specs.Sound.{IsControlled, IsSound, IsSoundNode}
@@ -156,6 +157,13 @@ module _ (h : Head) (ts : Trees) (bs : List Buffer) (e : rebuffered h.body bs �
   -- Without buffers such a node is what it was.
   pub bare_made : bs ≡ [] → with_buffers (node h ts) bs ≡ Some (node h ts)
   bare_made q = remade ∙ ap (λ (cs : List Buffer). option_map (λ (b : Body). node (record { dtype = h.dtype; len = h.len; stats = h.stats; body = b }) ts) (bufferless h.body cs)) q
+
+-- ---- foreign nodes
+
+-- A foreign node takes any buffers in the place of its own.
+pub foreigns_made : (d : Typ) (n : ℕ) (x y : Foreigns.Data) (ts : Trees) (bs : List Buffer) → y ≡ Foreigns.body_of (Foreigns.metadata_of x) bs
+    → with_buffers (node (untold d n (B.foreign x)) ts) bs ≡ Some (node (untold d n (B.foreign y)) ts)
+foreigns_made d n x y ts bs q = λ i. Some (node (untold d n (B.foreign (sym q i))) ts)
 
 -- A want of memory is among the refusals, and is no other.
 pub memory_refused : (r : Result Tree ArrayError) (t : Tree) (bs : List Buffer) → IsOkUnless r OutOfMemory → IfErr r (λ x. RefusesBuffers x t bs)

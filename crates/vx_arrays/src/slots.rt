@@ -19,10 +19,7 @@ impl Array {
     pub fn nslots(&self) -> usize
         ensures { result ≡ length (slot_names (label self.now).dtype (label self.now).body (count (below self.now))) }
     {
-        match self.body() {
-            Body::Foreign(_) => self.children().len(),
-            _ => slots_of(self.dtype(), self.body()),
-        }
+        slots_of(self.dtype(), self.body(), self.children().len())
     }
 
     /// The name of the root's slot of this number: that of the child which stands there, or may.
@@ -69,12 +66,13 @@ fn numbered(alloc: Global, word: &str, index: usize) -> Result<Name, ArrayError>
     owned_text(alloc, text.as_str())
 }
 
-// How many slots a node of this type has, where its encoding is known.
-fn slots_of(dtype: &DType, body: &Body) -> usize
-    ensures { result ≡ length (native_slots (typ dtype.now) (plain_body body.now)) }
+// How many slots a node of this type has that has so many children.
+fn slots_of(dtype: &DType, body: &Body, count: usize) -> usize
+    ensures { result ≡ length (slot_names (typ dtype.now) (plain_body body.now) count) }
 {
     match body {
-        Body::Null | Body::Foreign(_) => 0,
+        Body::Foreign(_) => count,
+        Body::Null => 0,
         Body::Bool(_) | Body::Primitive(_) | Body::Decimal(_) | Body::VarBinView(_) => 1,
         Body::Ext => 1,
         Body::List => 3,
