@@ -23,3 +23,11 @@ native_entries _ ts f = tt
 -- It is known where the rows are of a node over children without foreign nodes.
 pub native_controlled : (e : Encoding) (d : Typ) (ts : Trees) → EverywhereBelow IsNativeNode ts → IsControlledBy e d ts
 native_controlled e d ts f = record { controls = λ i t q k. native_child ts i t f q; entries = native_entries e ts f }
+
+-- What shows that an array of a known encoding and without children has no foreign node, and that one such child has
+-- none.
+abbrev pub leaf : Unit {0} × Unit {0}
+leaf = (tt, tt)
+
+abbrev pub one_leaf : (Unit {0} × Unit {0}) × Unit {0}
+one_leaf = (leaf, tt)

@@ -27,7 +27,7 @@ use Rattle.vx_array_tree.specs.Sound.{IsSound, IsControlled, HasNoForeign}
 use Rattle.vx_array_tree.specs.Table.{own_id, buffers_of, plan_of, is_control}
 use Rattle.vx_array_tree.specs.Tree.{Tree, encoding_ids, valid_at, cells, buffers, with_stats}
 use Rattle.vx_array_tree.proofs.CanonLaws.{canon_normal}
-use Rattle.vx_array_tree.proofs.LawsControls.{native_controlled}
+use Rattle.vx_array_tree.proofs.LawsControls.{native_controlled, one_leaf}
 use Rattle.vx_array_tree_tests.proofs.Samples.{array, buffer, bits, number_type, flag_type, text_type, list_of, fixed_type, map_type, entry_type, union_type, first_rows, null, tuple, u16, u8s, u16s, i32s, numbers, words, maps, four, count, told_numbers}
 use Rattle.vx_array_tree_tests.proofs.SoundSamples.{bits_sound, u16s_sound, numbers_sound}
 
@@ -145,7 +145,7 @@ unknown_sound = (record { fair = tt; planned = refl; allows = tt; takes = tt; ho
 -- In memory children of another type and length may stand below a foreign node.
 over_numbers_sound : IsSound (foreign (text_type Nullable) 9 (numbers ∷ []))
 over_numbers_sound = (
-  record { fair = tt; planned = refl; allows = tt; takes = tt; holds = tt; controlled = native_controlled _ _ _ ((tt, ((tt, tt), tt)), tt); content = tt; stats = none_fit _ },
+  record { fair = tt; planned = refl; allows = tt; takes = tt; holds = tt; controlled = native_controlled _ _ _ ((tt, one_leaf), tt); content = tt; stats = none_fit _ },
   (numbers_sound, tt),
 )
 

@@ -15,7 +15,7 @@ use Rattle.vx_array_tree.specs.Rows.{Rows, IsIndex, IsThere, index_at, validity}
 use Rattle.vx_array_tree.specs.Sound.{IsSound}
 use Rattle.vx_array_tree.specs.Table.{Content}
 use Rattle.vx_array_tree.specs.Tree.{rows_of, rows_below}
-use Rattle.vx_array_tree.proofs.LawsControls.{native_controlled}
+use Rattle.vx_array_tree.proofs.LawsControls.{native_controlled, leaf, one_leaf}
 use Rattle.vx_trees.specs.Rose.{label, below}
 use Rattle.vx_array_tree_tests.proofs.Samples.{bits, four, two, i32s, u16s, u8s, long_text, nulls, flags, flags_from, numbers, sixteen, decimals, texts, words, dictionary, lists, views, fixed, entry, entries, maps, empty_structs, structs, unions, days, lifted_values}
 
@@ -40,13 +40,6 @@ below_four P a b c d (suc (suc (suc (suc i)))) l = absurd (omega arith)
 
 pub not_there : Some false ≡ Some true → ⊥
 not_there e = let q : false ≡ true = cc in absurd (cc)
-
--- An array without children, of a known encoding, and one such child: they hold no foreign node.
-abbrev leaf : Unit {0} × Unit {0}
-leaf = (tt, tt)
-
-abbrev one_leaf : (Unit {0} × Unit {0}) × Unit {0}
-one_leaf = (leaf, tt)
 
 -- ---- flags and numbers
 

@@ -9,7 +9,7 @@ use Rattle.vx_array_tree.specs.Place.{is_len}
 use Rattle.vx_array_tree.specs.Sound.{IsSound}
 use Rattle.vx_array_tree.specs.Table.{Content}
 use Rattle.vx_array_tree.specs.Tree.{rows_below}
-use Rattle.vx_array_tree.proofs.LawsControls.{native_controlled}
+use Rattle.vx_array_tree.proofs.LawsControls.{native_controlled, leaf, one_leaf}
 use Rattle.vx_trees.specs.Rose.{label, below}
 use Rattle.vx_generator.specs.Columns.{Columns}
 use Rattle.vx_generator.specs.Made.{flags_tree, numbers_tree, codes_tree, texts_tree, names_tree, elements_tree, offsets_tree, lists_tree, table_tree, long_text, views}
@@ -30,13 +30,6 @@ pub record Fit (c : Columns) (n : ℕ) : Type 0 where
   pub offsets : length c.offsets ≡ 4 * suc n
   pub rising : (i : ℕ) → i < n → offset_at c.offsets i ≤ offset_at c.offsets (suc i)
   pub within : offset_at c.offsets n ≤ c.count
-
--- An array without children, of a known encoding, and one such child: they hold no foreign node.
-abbrev leaf : Unit {0} × Unit {0}
-leaf = (tt, tt)
-
-abbrev one_leaf : (Unit {0} × Unit {0}) × Unit {0}
-one_leaf = (leaf, tt)
 
 pub flags_sound : (c : Columns) (n : ℕ) → Fit c n → IsSound (flags_tree c.validity n)
 flags_sound c n f = (record { fair = omega arith; planned = refl; allows = λ e. absurd (omega arith); takes = tt; holds = omega arith; controlled = native_controlled _ _ _ tt; content = tt; stats = none_fit _ }, tt)

@@ -10,6 +10,8 @@ mod broken;
 #[cfg(test)]
 mod dictionaries;
 #[cfg(test)]
+mod foreign;
+#[cfg(test)]
 mod list_views;
 #[cfg(test)]
 mod nodes;
