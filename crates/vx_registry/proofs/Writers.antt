@@ -23,11 +23,7 @@ module _ (r : Registry) (x : ExtMeaning) (b : Body) where
   pub foreign_lacking : (u : Bool) → encoding_of b ≡ E.foreign → x.unknown ≡ u → IsFalse u → LacksWriterBy (tables_meaning r x) b
   foreign_lacking u e q t =
       let k = foreign_is b e in
-      subst (λ z. LacksWriterBy (tables_meaning r x) z) (sym k.1) (q ∙ closed u t)
-    where
-      closed : (v : Bool) → IsFalse v → v ≡ false
-      closed false f = refl
-      closed true f = absurd f
+      subst (λ z. LacksWriterBy (tables_meaning r x) z) (sym k.1) (q ∙ t)
 
   written_native : (c : Body) → IsNative c → HasWriter (tables_meaning r x) (encoding_of c) → IsWrittenBy (tables_meaning r x) c
   written_native (B.foreign z) k w = absurd k
@@ -39,10 +35,10 @@ module _ (r : Registry) (x : ExtMeaning) (b : Body) where
 
   there : (o : Option Encoding) → IsTrue (is_some o) → (q : Reader) × (option_map entry o ≡ Some q)
   there (Some e) t = (entry e, refl)
-  there None t = absurd t
+  there None t = absurd (cc)
 
   none_there : (o : Option Encoding) → IsFalse (is_some o) → option_map entry o ≡ None
-  none_there (Some e) t = absurd t
+  none_there (Some e) t = absurd (cc)
   none_there None t = refl
 
   -- Nodes of encodings that are known.
