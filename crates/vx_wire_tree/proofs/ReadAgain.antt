@@ -118,8 +118,8 @@ module _ (c : Codec) (s : SessionMeaning) where
       canon_matches d (node h ts) x b r =
           by_node (spelled c s) (λ u. Matches c s (wire c s (node h ts)) u) d h ts
           (λ native.
-              let y = read_back_native h.body h ts (AllReadBack c s ts) native b in
-              node_again d h ts native y.0 (encoded_again d h ts native x.0 y.0 r (λ p. canon_all_match ts p.at x.1 y.1 p.retyped)))
+          let y = read_back_native h.body h ts (AllReadBack c s ts) native b in
+          node_again d h ts native y.0 (encoded_again d h ts native x.0 y.0 r (λ p. canon_all_match ts p.at x.1 y.1 p.retyped)))
           (λ z e. foreign_again d h ts z e (read_back_foreign h.body h ts (AllReadBack c s ts) z e b))
 
       canon_all_match : (ts : Trees) (qs : List Place) → EverywhereBelow IsSoundNode ts → AllReadBack c s ts → AreRetyped (places ts) qs → AllMatch c s (wires c s ts) (canon_all (spelled c s) (types_in qs) ts)
