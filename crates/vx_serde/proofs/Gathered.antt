@@ -69,6 +69,12 @@ node-refused s t room WireLimit h = inr (λ k. h (everywhere-parts HasMessage t 
 node-refused s t room NotRegistered h = ([], h)
 node-refused s t room _ h = absurd h
 
+pub unrooted : (s : SessionMeaning) (t : Tree) (c : Context) (e : WireError) → RefusesNode s t e → RefusesRoot s t c e
+unrooted s t c OutOfMemory h = tt
+unrooted s t c WireLimit h = h
+unrooted s t c NotRegistered h = h
+unrooted s t c _ h = absurd h
+
 pub root-refused : (s : SessionMeaning) (t : Tree) (room : ℕ) (c : Context) (e : WireError) → RefusesRoot s t c e → RefusesGathering s t room c e
 root-refused s t room c OutOfMemory h = tt
 root-refused s t room c WireLimit h = node-refused s t room WireLimit h

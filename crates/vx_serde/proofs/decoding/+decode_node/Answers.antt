@@ -23,7 +23,7 @@ unreachable-requires g t c =
     let w = wire_in c.args.ids.now c.args.node.now in
     let nodes = roses_list (below w) in
     let same = enough c.in-Some-reader.encoding _ c.in-Ok.planned.head c.in-Ok.planned.children nodes w (typ c.args.dtype.now) c.args.len c.in-Ok.ensures.planned (c.in-Ok.ensures.read c.args.ids.now (wire-named c.args.ids.now c.args.node.now _ _ c.encoding_id.ensures c.in-Some.ensures) (sym c.in-Some-reader.ensures.found)).head (roses_of-roses_list (below w)) in
-    get_past c.in-Ok.planned.children c.loop-i.i (omega (arith, same, wire-length c.args.ids.now c.args.node.now, c.nchildren-i-end.ensures, c.loop-i-test.true)) (sym c.in_default.ensures)
+    get_past c.in-Ok.planned.children c.loop-i.i (omega (arith, same, wire-length c.args.ids.now c.args.node.now, c.nchildren-i-end.ensures, c.loop-i-test.true)) (sym c.in_default-get.ensures)
 
 pub decode_node-requires : goal.decode_node-requires
 decode_node-requires g t c = (omega (arith, child-smaller c.args.node.now c.loop-i.i c.child-below.result c.child-below.ensures), tt)
@@ -36,7 +36,7 @@ returns-in-Err-decode_node-clause-cause g t c =
     let child = wire_in c.args.ids.now c.child-below.result in
     let plan = planned s w (typ c.args.dtype.now) c.args.len c.in-Some-reader.encoding node.head node.children (c.in-Ok.ensures.read c.args.ids.now (wire-named c.args.ids.now c.args.node.now _ _ c.encoding_id.ensures c.in-Some.ensures) (sym c.in-Some-reader.ensures.found)) c.in-Ok.ensures.planned in
     caused_by_child s c.in-Err-decode_node.e w (typ c.args.dtype.now) c.args.len (roses_list (below w)) node.children c.loop-i.i child _ plan (roses_of-roses_list (below w))
-    (wire-child c.args.ids.now c.args.node.now c.loop-i.i c.child-below.result c.child-below.ensures) (sym c.in-Some.ensures) c.in-Err-decode_node.ensures.cause
+    (wire-child c.args.ids.now c.args.node.now c.loop-i.i c.child-below.result c.child-below.ensures) (sym c.in-Some-get.ensures) c.in-Err-decode_node.ensures.cause
 
 pub loop-i-preserved : goal.loop-i-preserved
 loop-i-preserved g t c =
@@ -45,7 +45,7 @@ loop-i-preserved g t c =
     let child = wire_in c.args.ids.now c.child-below.result in
     let at = wire-child c.args.ids.now c.args.node.now c.loop-i.i c.child-below.result c.child-below.ensures in
     told-snoc s nodes c.in-Ok.planned.children c.loop-i.i child _ c.loop-i.children c.push.new.self c.in-Ok-decode_node.child (slice_get_within nodes c.loop-i.i child at) c.loop-i.invariant
-    (sym (get_or_from_slice_get nodes c.loop-i.i child child at)) (sym c.in-Some.ensures) c.in-Ok-decode_node.ensures.told c.in-Ok-push.ensures.ok
+    (sym (get_or_from_slice_get nodes c.loop-i.i child child at)) (sym c.in-Some-get.ensures) c.in-Ok-decode_node.ensures.told c.in-Ok-push.ensures.ok
 
 pub returns-in-Err-own_buffers-clause-cause : goal.returns-in-Err-own_buffers-clause-cause
 returns-in-Err-own_buffers-clause-cause g t c =

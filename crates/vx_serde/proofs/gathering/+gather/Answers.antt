@@ -63,7 +63,7 @@ loop-child-preserved t c =
           ∙ ap (λ ids. start ++ gathered_first s (λ h. encoding_index h.id ids ∷ []) ts i) (sym (longer-ids c.loop-child.ctx.ids kept.added more c.gather.new.ctx.ids kept.front)))
           (c.in_ok-gather.ensures.encodings s more);
       levels = levels-more ts i (c.args.room - 1) u lt c.loop-child.invariant.levels (levels_of ts i u (c.args.room - 1) is c.in_ok-gather.ensures.levels);
-      written = λ x open. everywhere-next (IsWrittenNode (tables_meaning c.args.arrays.now x)) ts i u lt is (c.loop-child.invariant.written x open) (c.in_ok-gather.ensures.written x open);
+      written = λ x allowed. everywhere-next (IsWrittenNode (tables_meaning c.args.arrays.now x)) ts i u lt is (c.loop-child.invariant.written x allowed) (c.in_ok-gather.ensures.written x allowed);
       messages = everywhere-next HasMessage ts i u lt is c.loop-child.invariant.messages c.in_ok-gather.ensures.messages;
       grown = λ s. grown-child (wired s ts) i (wire codec s u) c.push_root.new.ctx c.loop-child.ctx c.gather.new.ctx (wired-within s ts i lt) (wired-at s ts i u lt is) (c.loop-child.invariant.grown s) (c.in_ok-gather.ensures.grown s);
     }
@@ -92,6 +92,11 @@ returns-clause-messages t c =
     let a = c.args.array.now in
     everywhere-all HasMessage a c.children-child-items.result.now c.loop-child.child-index (omega (arith, c.loop-child-test.false)) c.children-child-items.ensures.children
     c.in_ok-push_root.ensures.message c.loop-child.invariant.messages
+
+pub returns-clause-written : goal.returns-clause-written
+returns-clause-written t c = λ x allowed.
+    everywhere-all (IsWrittenNode (tables_meaning c.args.arrays.now x)) c.args.array.now c.children-child-items.result.now c.loop-child.child-index (omega (arith, c.loop-child-test.false)) c.children-child-items.ensures.children
+    (c.in_ok-push_root.ensures.written x allowed) (c.loop-child.invariant.written x allowed)
 
 pub returns-clause-grown : goal.returns-clause-grown
 returns-clause-grown t c = λ s.

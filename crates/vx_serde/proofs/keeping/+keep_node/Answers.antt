@@ -16,24 +16,24 @@ loop-i-init t c = rw c.new-children.ensures (record { raw = refl; places = tt; s
 pub keep_node-requires : goal.keep_node-requires
 keep_node-requires t c = omega (arith, child-smaller c.args.node.now c.loop-i.i c.child-below.result c.child-below.ensures)
 
-pub returns-clause-cause : goal.returns-clause-cause
-returns-clause-cause t c =
+pub returns-in_default-clause-cause : goal.returns-in_default-clause-cause
+returns-in_default-clause-cause t c =
     unkept_by_id (wire_in c.args.ids.now c.args.node.now)
     (wire-id c.args.ids.now c.args.node.now ∙ ap (λ k. slice_get c.args.ids.now k) (sym c.encoding_id.ensures) ∙ sym c.in_default.ensures)
 
-pub returns-in-Err-keep_node-clause-cause : goal.returns-in-Err-keep_node-clause-cause
-returns-in-Err-keep_node-clause-cause t c =
+pub returns-in-Err-clause-cause : goal.returns-in-Err-clause-cause
+returns-in-Err-clause-cause t c =
     let child = wire_in c.args.ids.now c.child-below.result in
-    kept_above c.in-Err-keep_node.e (wire_in c.args.ids.now c.args.node.now) c.loop-i.i child
-    (wire-child c.args.ids.now c.args.node.now c.loop-i.i c.child-below.result c.child-below.ensures) c.in-Err-keep_node.ensures.cause
+    kept_above c.in-Err.e (wire_in c.args.ids.now c.args.node.now) c.loop-i.i child
+    (wire-child c.args.ids.now c.args.node.now c.loop-i.i c.child-below.result c.child-below.ensures) c.in-Err.ensures.cause
 
 pub loop-i-preserved : goal.loop-i-preserved
 loop-i-preserved t c =
     let nodes = roses_list (below (wire_in c.args.ids.now c.args.node.now)) in
     let child = wire_in c.args.ids.now c.child-below.result in
     let at = wire-child c.args.ids.now c.args.node.now c.loop-i.i c.child-below.result c.child-below.ensures in
-    kept-snoc nodes (typ c.args.dtype.now) c.args.len c.loop-i.i child c.loop-i.children c.push.new.self c.in-Ok-keep_node.child (slice_get_within nodes c.loop-i.i child at) c.loop-i.invariant
-    (sym (get_or_from_slice_get nodes c.loop-i.i child child at)) c.in-Ok-keep_node.ensures.kept c.in-Ok-push.ensures.ok
+    kept-snoc nodes (typ c.args.dtype.now) c.args.len c.loop-i.i child c.loop-i.children c.push.new.self c.in-Ok.child (slice_get_within nodes c.loop-i.i child at) c.loop-i.invariant
+    (sym (get_or_from_slice_get nodes c.loop-i.i child child at)) c.in-Ok.ensures.kept c.in-Ok-push.ensures.ok
 
 pub returns-in-Err-own_buffers-clause-cause : goal.returns-in-Err-own_buffers-clause-cause
 returns-in-Err-own_buffers-clause-cause t c =
