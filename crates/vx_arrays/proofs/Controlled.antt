@@ -1,19 +1,19 @@
 -- What says where a node's rows are, and whether it is known.
-use Rattle.std.proofs.Common.{ℕ, zero,  suc, ◌≡◌, ◌<◌, ◌≤◌, ◌+◌, List, [], ◌∷◌, Bool, IsTrue, Some, slice_get, length, take, get_or, refl, sym, ap, ◌∙◌, subst, arith, add-one, replicate}
+use Rattle.std.proofs.Common.{ℕ, zero, suc, ◌≡◌, ◌<◌, ◌≤◌, ◌+◌, List, [], ◌∷◌, Bool, IsTrue, Some, slice_get, length, take, get_or, refl, sym, ap, ◌∙◌, subst, arith, add-one, replicate}
 use Rattle.std.proofs.lemmas.Bool.{false≢true}
 use borrow.Author.Count.{below_more}
 use Rattle.std.proofs.lemmas.List.{take_all}
 use Rattle.std.proofs.lemmas.Option.{same_Some, slice_get_read}
 use Rattle.vx_types.specs.Typ.{Typ}
 use Rattle.vx_trees.specs.Everywhere.{EverywhereBelow}
-use Rattle.vx_trees.specs.Rose.{end, label, below, count, roses_of, roses_list, node}
+use Rattle.vx_trees.specs.Rose.{end, label, below, roses_of}
 use Rattle.vx_trees.proofs.Lists.{count-roses_of, roses_list-roses_of}
 use Rattle.vx_trees.proofs.Holding.{everywhere-at, everywhere-node, everywhere-parts}
 use Rattle.vx_array_tree.specs.Body.{Body}
 use Rattle.vx_array_tree.specs.Body as B
 use Rattle.vx_array_tree.specs.Encoding.{Encoding}
 use Rattle.vx_array_tree.specs.Encodings.Foreigns as Foreigns
-use Rattle.vx_array_tree.specs.Place.{Place, place}
+use Rattle.vx_array_tree.specs.Place.{place}
 use Rattle.vx_array_tree.specs.Refused.{IsWellShaped}
 use Rattle.vx_array_tree.specs.Sound.{HasNativeControls, HasNativeEntries, HasNoForeign, IsControlled, IsControlledBy, IsNativeNode, IsSoundNode}
 use Rattle.vx_array_tree.specs.Table.{encoding_of, is_control, IsNative}

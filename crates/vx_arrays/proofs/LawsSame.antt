@@ -6,6 +6,7 @@ use Rattle.vx_trees.specs.Rose.{node, label}
 use Rattle.vx_scalars.specs.Stats.{Stats}
 use Rattle.vx_array_tree.specs.Body.{Body}
 use Rattle.vx_array_tree.specs.Body as B
+use Rattle.vx_array_tree.specs.Encodings.Foreigns as Foreigns
 use Rattle.vx_array_tree.specs.Encodings.VarBinViews as VarBinViews
 use Rattle.vx_array_tree.specs.Metadata as M
 use Rattle.vx_array_tree.specs.Encoding as E
@@ -50,7 +51,6 @@ body_has (B.varbin x) c bs e = with_metadata bs e
     with_metadata (b ∷ []) e = ap (λ z. buffers_of z) (sym (same_Some (B.varbin (record { bytes = b })) c e))
     with_metadata (b ∷ d ∷ bs) e = absurd (cc)
 body_has (B.varbinview x) c bs e = body_buffers E.varbinview M.empty bs c e
-body_has (B.foreign x) c bs e = ap (λ z. buffers_of z) (sym (same_Some (B.foreign (record { id = x.id; metadata = x.metadata; buffers = bs })) c e))
 body_has B.null c [] e = ap (λ z. buffers_of z) (sym (same_Some B.null c e))
 body_has B.list c [] e = ap (λ z. buffers_of z) (sym (same_Some B.list c e))
 body_has (B.listview x) c [] e = ap (λ z. buffers_of z) (sym (same_Some (B.listview x) c e))
@@ -61,6 +61,7 @@ body_has B.union c [] e = ap (λ z. buffers_of z) (sym (same_Some B.union c e))
 body_has B.variant c [] e = ap (λ z. buffers_of z) (sym (same_Some B.variant c e))
 body_has B.ext c [] e = ap (λ z. buffers_of z) (sym (same_Some B.ext c e))
 body_has (B.dict x) c [] e = ap (λ z. buffers_of z) (sym (same_Some (B.dict x) c e))
+body_has (B.foreign x) c bs e = ap (λ z. buffers_of z) (sym (same_Some (B.foreign (Foreigns.body_of (Foreigns.metadata_of x) bs)) c e))
 body_has _ c (d ∷ bs) e = absurd (cc)
 
 pub has_buffers : (t u : Tree) (bs : List Buffer) → with_buffers t bs ≡ Some u → buffers_of (label u).body ≡ bs

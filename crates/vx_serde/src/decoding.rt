@@ -115,7 +115,10 @@ fn plan_node(
 }
 
 /// A node's buffers, where none is missing.
-pub(crate) fn own_buffers(alloc: Global, node: &SerializedNode<'_>) -> Result<BufferHandles, WireError>
+pub(crate) fn own_buffers(
+    alloc: Global,
+    node: &SerializedNode<'_>,
+) -> Result<BufferHandles, WireError>
     ensures ok { (ids : List (List ℕ)) → IfOk result (λ bs. (label (wire_in ids node.now)).buffers ≡ all_present bs) }
     ensures cause { (ids : List (List ℕ)) → IfErr result (λ e. RefusesBuffers e (label (wire_in ids node.now)).buffers) }
 {

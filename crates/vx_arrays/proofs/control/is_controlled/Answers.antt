@@ -1,5 +1,5 @@
 -- That is known exactly where each child that says where rows are is, and the entries of maps are.
-use Rattle.std.proofs.Common.{ℕ, ◌≡◌, ◌∙◌, arith, length, sym, true}
+use Rattle.std.proofs.Common.{ℕ, ◌≡◌, ◌∙◌, length, sym, true}
 use Rattle.std.proofs.lemmas.Bool.{false≢true, iff_false}
 use Rattle.vx_types.specs.Seen.{typ}
 use Rattle.vx_array_tree.specs.Table.{encoding_of, is_control}
@@ -13,8 +13,8 @@ pub loop-i-preserved : goal.loop-i-preserved
 loop-i-preserved c =
     let f = λ (j : ℕ). is_control (encoding_of (plain_body c.args.body.now)) (typ c.args.dtype.now) (length c.args.children.now) j in
     elim c.else-is_control.branch [
-      else-is_control-via-then-is_control+else-not-has_no_foreign w ↦
-      known_more f c.args.children.now c.loop-i.i w.index-children-i.result w.index-children-i.is c.loop-i.invariant (λ k. w.has_no_foreign.ensures.0 w.if-not-has_no_foreign.false)
+      | else-is_control-via-then-is_control+else-not-has_no_foreign w ↦
+          known_more f c.args.children.now c.loop-i.i w.index-children-i.result w.index-children-i.is c.loop-i.invariant (λ k. w.has_no_foreign.ensures.0 w.if-not-has_no_foreign.false)
       | else-is_control-via-else-is_control w ↦ known_past f c.args.children.now c.loop-i.i c.loop-i.invariant (λ (k : f c.loop-i.i ≡ true). false≢true (sym w.if-is_control.false ∙ c.is_control.ensures ∙ k))
     ]
 

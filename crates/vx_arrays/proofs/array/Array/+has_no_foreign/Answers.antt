@@ -8,7 +8,7 @@ use Rattle.vx_arrays.proofs.Controlled.{all_native, child_foreign, native_more, 
 use Rattle.vx_arrays.proofs.array.Array.+has_no_foreign.Goals as goal
 
 pub returns-then-not-is_native : goal.returns-then-not-is_native
-returns-then-not-is_native t c = 
+returns-then-not-is_native t c =
     decides_no (root_foreign c.args.self.now (λ n. iff_false c.is_native.ensures c.if-not-is_native.true (subst (λ (b : Body). IsNative b) (sym c.body.ensures) n)))
 
 pub returns-then-not-has_no_foreign : goal.returns-then-not-has_no_foreign
