@@ -33,19 +33,20 @@ int main(int count, char **words) {
   if (count != 4) return std::fputs("usage: made SEED ROWS TO\n", stderr), 2;
   Draws draws{std::strtoull(words[1], nullptr, 10)};
   size_t rows = std::strtoull(words[2], nullptr, 10);
-  std::vector<int64_t> numbers(rows);
-  std::vector<uint8_t> validity((rows + 7) / 8), codes(rows);
+  std::vector<int64_t> numbers;
+  std::vector<uint8_t> validity((rows + 7) / 8), codes;
   std::vector<uint16_t> elements;
-  std::vector<uint32_t> offsets(rows + 1);
+  std::vector<uint32_t> offsets{0};
+  numbers.reserve(rows);
+  codes.reserve(rows);
+  offsets.reserve(rows + 1);
   for (size_t i = 0; i < rows; i++) {
     uint32_t number = draws.draw();
-    if (number % 8 != 0) {
-      numbers[i] = int64_t{number} - (1 << 30);
-      validity[i / 8] |= 1 << i % 8;
-    }
-    codes[i] = draws.draw() % 5;
+    numbers.push_back(number % 8 == 0 ? 0 : int64_t{number} - (1 << 30));
+    validity[i / 8] |= (number % 8 != 0) << i % 8;
+    codes.push_back(draws.draw() % 5);
     for (uint32_t left = draws.draw() % 4; left > 0; left--) elements.push_back(draws.draw());
-    offsets[i + 1] = elements.size();
+    offsets.push_back(elements.size());
   }
 
   std::ofstream out(words[3], std::ios::binary);
