@@ -153,9 +153,8 @@ pub record CanRecodeInputs (line : Recode) (loaded : Loaded) : Type 0 where
   pub can_recode : CanRecode (asked_by line loaded terms)
 
 -- Why what was loaded is not recoded: the type file shows no type within the limits, or one with an extension that is not
--- allowed; an id file,
--- or the file of those that are allowed, is no text of at most 65,536 lines; or the blob is refused at the type and with the
--- identifiers that were read. Want of memory needs no cause.
+-- allowed; an id file, or the file of those that are allowed, is no text of at most 65,536 lines; or the blob is refused at
+-- the type and with the identifiers that were read. Want of memory needs no cause.
 abbrev pub RefusesInputs : Status → Recode → Loaded → Type 0
 RefusesInputs OutOfMemory line loaded = Unit {0}
 RefusesInputs BadType line loaded = (dtype : Typ) → ¬ (IsRead (ShowsType loaded.type_bytes) (readers_of line.settings) dtype)
