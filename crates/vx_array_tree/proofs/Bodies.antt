@@ -3,11 +3,12 @@ use Rattle.std.proofs.Common.{◌≡◌, ◌⊎◌, inl, inr, List, [], ◌∷�
 use Rattle.vx_buffer.specs.Buffer.{Buffer}
 use Rattle.vx_array_tree.specs.Body.{Body}
 use Rattle.vx_array_tree.specs.Body as B
+use Rattle.vx_array_tree.specs.Encoding as E
 use Rattle.vx_array_tree.specs.Encodings.Foreigns as Foreigns
 use Rattle.vx_array_tree.specs.Encodings.VarBinViews as VarBinViews
 use Rattle.vx_array_tree.specs.Normal.{IsNormalBy}
 use Rattle.vx_array_tree.specs.Place.{Place}
-use Rattle.vx_array_tree.specs.Table.{encoding_of, metadata_of, buffers_of, body_of, cleared, IsNative, IsNormalBody}
+use Rattle.vx_array_tree.specs.Table.{encoding_of, metadata_of, buffers_of, body_of, cleared, id_of, own_id, IsNative, IsNormalBody}
 use Rattle.vx_array_tree.specs.Tree.{Head, Trees, places}
 
 data_last : (b : Buffer) (bs : List Buffer) (v : Buffer) → VarBinViews.data_of b (bs ++ v ∷ []) ≡ record { buffers = b ∷ bs; views = v }
@@ -28,6 +29,15 @@ body_again _ ps = refl
 pub native_or : (b : Body) → IsNative b ⊎ ((x : Foreigns.Data) × (b ≡ B.foreign x))
 native_or (B.foreign x) = inr (x, refl)
 native_or _ = inl tt
+
+pub foreign_is : (b : Body) → encoding_of b ≡ E.foreign → (x : Foreigns.Data) × (b ≡ B.foreign x)
+foreign_is (B.foreign x) e = (x, refl)
+foreign_is _ e = absurd (cc)
+
+-- Its identifier is then its encoding's.
+pub native_id : (b : Body) → IsNative b → own_id b ≡ id_of (encoding_of b)
+native_id (B.foreign x) k = absurd k
+native_id _ k = refl
 
 -- A node of an encoding that is known is normal just where its encoding says so.
 pub normal_by : (b : Body) (h : Head) (ts : Trees) → IsNative b → IsNormalBody b h.dtype (places ts) → IsNormalBy b h ts

@@ -14,7 +14,6 @@ use Rattle.vx_array_tree.specs.Body.{Body}
 use Rattle.vx_array_tree.specs.Body as B
 use Rattle.vx_array_tree.specs.Canon.{types_in, planned_types, child_types, Spelling, as_foreign, all_foreign, canon_head, canon_at, canon_all, canon, written_head, stats_written, each_stats_written, IsKeptNode, KeepsStats}
 use Rattle.vx_array_tree.specs.Encoding.{Encoding}
-use Rattle.vx_array_tree.specs.Encoding as E
 use Rattle.vx_array_tree.specs.Encodings.Dicts as Dicts
 use Rattle.vx_array_tree.specs.Encodings.Foreigns as Foreigns
 use Rattle.vx_array_tree.specs.Metadata.{Metadata}
@@ -24,7 +23,7 @@ use Rattle.vx_array_tree.specs.Rows.{Rows}
 use Rattle.vx_array_tree.specs.Sound.{IsSound, IsSoundNode, IsNativeNode, HasNoForeign, HasNativeEntries, IsControlled, metadata_in}
 use Rattle.vx_array_tree.specs.Table.{encoding_of, metadata_of, plan_of, lifted, cleared, IsFair, Allows, Takes, Holds, Content, is_control, IsNative, IsNormalBody, node_rows}
 use Rattle.vx_array_tree.specs.Tree.{Head, Tree, Trees, places, encodings, rows_of, rows_below, untold}
-use Rattle.vx_array_tree.proofs.Bodies.{native_or, normal_by, cleared_native, cleared_encoding, normal_cleared}
+use Rattle.vx_array_tree.proofs.Bodies.{native_or, foreign_is, normal_by, cleared_native, cleared_encoding, normal_cleared}
 use Rattle.vx_array_tree.proofs.CanonPlaces.{known, unknown, known_node, foreign_node, Planned, planned_at, types_at, kids_metadata, kids_places, canon_count, canon_encodings}
 use Rattle.vx_array_tree.proofs.NodeLaws.{planned_places}
 use Rattle.vx_array_tree.proofs.Plans.{exactly_is}
@@ -255,10 +254,6 @@ own_types h ts x n = ap (λ o. planned_types o ts) (planned_places h ts x n)
 -- Foreign nodes are spelled as what they keep.
 abbrev pub SpellsOwn : Spelling → Type 0
 SpellsOwn sp = (h : Head) (ts : Trees) (x : Foreigns.Data) → h.body ≡ B.foreign x → sp h ts ≡ x
-
-foreign_is : (b : Body) → encoding_of b ≡ E.foreign → (x : Foreigns.Data) × (b ≡ B.foreign x)
-foreign_is (B.foreign x) e = (x, refl)
-foreign_is _ e = absurd (cc)
 
 pub normal_foreign : (b : Body) (h : Head) (ts : Trees) (x : Foreigns.Data) → b ≡ B.foreign x → IsNormalBy b h ts → IsNormalForeign h ts
 normal_foreign b h ts x e n = subst (λ c. IsNormalBy c h ts) e n

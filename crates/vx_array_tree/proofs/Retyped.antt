@@ -1,7 +1,7 @@
 -- A plan under another nullability.
 use Rattle.std.proofs.Common.{ℕ, zero, suc, ◌≡◌, List, [], ◌∷◌, Option, Some, None, option_map, refl, sym, ap, ◌∙◌, subst, length, replicate}
 use Rattle.std.proofs.lemmas.Option.{same_Some}
-use Rattle.vx_trees.specs.Rose.{node, end, more, label, count}
+use Rattle.vx_trees.specs.Rose.{node, end, more, count}
 use Rattle.vx_types.specs.Kind as K
 use Rattle.vx_types.specs.Kind.{Kind}
 use Rattle.vx_types.specs.Typ.{Typ}

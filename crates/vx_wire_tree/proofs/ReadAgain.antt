@@ -19,7 +19,7 @@ use Rattle.vx_array_tree.specs.Place.{Place}
 use Rattle.vx_array_tree.specs.Sound.{IsSound, IsSoundNode, metadata_in}
 use Rattle.vx_array_tree.specs.Table.{encoding_of, id_of, own_id, IsNative, IsNativeEncoding, IsFair}
 use Rattle.vx_array_tree.specs.Tree.{Head, Tree, Trees, places}
-use Rattle.vx_array_tree.proofs.Bodies.{cleared_encoding, cleared_buffers}
+use Rattle.vx_array_tree.proofs.Bodies.{native_id, cleared_encoding, cleared_buffers}
 use Rattle.vx_array_tree.proofs.CanonLaws.{by_node}
 use Rattle.vx_array_tree.proofs.CanonPlaces.{known_node, foreign_node, Planned, planned_at, types_at, kids_metadata}
 use Rattle.vx_array_tree.proofs.Identifiers.{distinct_ids}
@@ -72,10 +72,6 @@ module _ (c : Codec) (s : SessionMeaning) where
   read_back_foreign : (b : Body) (h : Head) (ts : Trees) (Below : Type 0) (x : Foreigns.Data) → b ≡ B.foreign x → ReadsBackBy c s b h ts Below → IsKept s x
   read_back_foreign b h ts Below x e r = subst (λ z. ReadsBackBy c s z h ts Below) e r
 
-  native_id : (b : Body) → IsNative b → own_id b ≡ id_of (encoding_of b)
-  native_id (B.foreign x) k = absurd k
-  native_id _ k = refl
-
   module _ (law : IsLawful c s) where
     -- A node as it is read back at a type matches what was written of it, if its children do.
     encoded_again : (d : Typ) (h : Head) (ts : Trees) → IsNative h.body → IsSoundNode h ts → IsReadBack c s h ts → (r : IsRetyped h.dtype d)
@@ -122,8 +118,8 @@ module _ (c : Codec) (s : SessionMeaning) where
       canon_matches d (node h ts) x b r =
           by_node (spelled c s) (λ u. Matches c s (wire c s (node h ts)) u) d h ts
           (λ native.
-              let y = read_back_native h.body h ts (AllReadBack c s ts) native b in
-              node_again d h ts native y.0 (encoded_again d h ts native x.0 y.0 r (λ p. canon_all_match ts p.at x.1 y.1 p.retyped)))
+          let y = read_back_native h.body h ts (AllReadBack c s ts) native b in
+          node_again d h ts native y.0 (encoded_again d h ts native x.0 y.0 r (λ p. canon_all_match ts p.at x.1 y.1 p.retyped)))
           (λ z e. foreign_again d h ts z e (read_back_foreign h.body h ts (AllReadBack c s ts) z e b))
 
       canon_all_match : (ts : Trees) (qs : List Place) → EverywhereBelow IsSoundNode ts → AllReadBack c s ts → AreRetyped (places ts) qs → AllMatch c s (wires c s ts) (canon_all (spelled c s) (types_in qs) ts)
