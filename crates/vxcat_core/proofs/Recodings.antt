@@ -38,6 +38,11 @@ same_session accepted session arrays ext unknown a e shipped none = λ k. tables
 pub unknown_allowed : (x y : ExtMeaning) (unknown : Bool) → x ≡ readers_by false → ((id : List ℕ) → y.reader id ≡ x.reader id) → y.unknown ≡ true → unknown ≡ true → y ≡ readers_by unknown
 unknown_allowed x y unknown before readers allowed is = λ k. record { reader = λ id. (readers id ∙ ap (λ (m : ExtMeaning). m.reader id) before) k; unknown = (allowed ∙ sym is) k }
 
+-- What holds of what is asked of bytes holds of what is asked of the same bytes.
+pub asked_alike : (P : Request → Type 0) (bytes blob : List ℕ) (dtype : Typ) (len : ℕ) (ids : List (List ℕ)) (context : Context) (session : SessionMeaning) (options : SerializeOptions)
+    → bytes ≡ blob → P (request_for bytes dtype len ids context session options) → P (request_for blob dtype len ids context session options)
+asked_alike P bytes blob dtype len ids context session options e p = subst (λ (l : List ℕ). P (request_for l dtype len ids context session options)) e p
+
 -- The outputs are what was made.
 pub outputs_made : (asked : Request) (made : Product) (result : Result Outputs Status) → IsRecoded asked made → IsFaithful asked made
     → IfOk result (λ outputs. outputs.array ≡ made.array) → IfOk result (λ outputs. outputs.buffers ≡ made.buffers) → IfOk result (λ outputs. outputs.ids ≡ made.context.ids) → IfOk result (AreMade asked)
