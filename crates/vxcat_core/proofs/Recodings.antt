@@ -35,8 +35,17 @@ pub same_session : {X : Type 0} {F : X → Type 0} (accepted : DynBox X Global F
 same_session accepted session arrays ext unknown a e shipped none = λ k. tables_meaning ((a ∙ shipped) k) ((ap (λ x. ext_meaning accepted x) e ∙ none) k)
 
 -- Once what is unknown is allowed, the readers of extensions are none, and their flag is set.
-pub unknown_allowed : (x y : ExtMeaning) (unknown : Bool) → x ≡ readers_by false → ((id : List ℕ) → y.reader id ≡ x.reader id) → y.unknown ≡ true → unknown ≡ true → y ≡ readers_by unknown
+unknown_allowed : (x y : ExtMeaning) (unknown : Bool) → x ≡ readers_by false → ((id : List ℕ) → y.reader id ≡ x.reader id) → y.unknown ≡ true → unknown ≡ true → y ≡ readers_by unknown
 unknown_allowed x y unknown before readers allowed is = λ k. record { reader = λ id. (readers id ∙ ap (λ (m : ExtMeaning). m.reader id) before) k; unknown = (allowed ∙ sym is) k }
+
+-- And the session means the shipped encodings beside these.
+pub allowing_session : {X : Type 0} {F : X → Type 0} (accepted : DynBox X Global F → List ℕ → Typ → Bool) (session : VortexSession X F) (arrays : Registry) (ext after : ExtSession X F) (unknown : Bool)
+    → session.arrays ≡ arrays → session.ext ≡ ext → arrays ≡ shipped_registry → ext_meaning accepted ext ≡ readers_by false
+    → ((id : List ℕ) → (ext_meaning accepted after).reader id ≡ (ext_meaning accepted session.ext).reader id) → (ext_meaning accepted after).unknown ≡ true → unknown ≡ true
+    → tables_meaning session.arrays (ext_meaning accepted after) ≡ session_by unknown
+allowing_session accepted session arrays ext after unknown a e shipped before readers allowed is =
+    let own = unknown_allowed (ext_meaning accepted session.ext) (ext_meaning accepted after) unknown (ap (λ x. ext_meaning accepted x) e ∙ before) readers allowed is in
+    λ k. tables_meaning ((a ∙ shipped) k) (own k)
 
 -- What holds of what is asked of bytes holds of what is asked of the same bytes.
 pub asked_alike : (P : Request → Type 0) (bytes blob : List ℕ) (dtype : Typ) (len : ℕ) (ids : List (List ℕ)) (context : Context) (session : SessionMeaning) (options : SerializeOptions)
