@@ -107,7 +107,7 @@ pub fn recode_inputs(alloc: Global, words: &RecodeWords, loaded: Inputs) -> Resu
     ensures cause { IfErr result (λ status. RefusesInputs status (line_of words.now) (loaded_of loaded)) }
     ensures complete { CanRecodeInputs (line_of words.now) (loaded_of loaded) → IfErr result (λ status. status ≡ OutOfMemory) }
 {
-    let dtype = match read_type(alloc, loaded.type_bytes.as_slice()) {
+    let dtype = match read_type_file(alloc, loaded.type_bytes) {
         Ok(dtype) => dtype,
         Err(status) => return Err(status),
     };
@@ -132,7 +132,16 @@ pub fn recode_inputs(alloc: Global, words: &RecodeWords, loaded: Inputs) -> Resu
     )
 }
 
-// The type that a type file shows, where no extension is known.
+// The type that a type file shows, where no extension is known. The bytes are let go once it is read.
+fn read_type_file(alloc: Global, bytes: Blob) -> Result<DType, Status>
+    ensures read { IfOk result (λ d. IsRead (ShowsType bytes) no_readers (typ d)) }
+    ensures status { IfErr result RefusesType }
+    ensures complete { (t : Typ) → IsRead (ShowsType bytes) no_readers t → IfErr result (λ status. status ≡ OutOfMemory) }
+{
+    read_type(alloc, bytes.as_slice())
+}
+
+// The type that bytes show, where no extension is known.
 fn read_type(alloc: Global, bytes: &[u8]) -> Result<DType, Status>
     ensures read { IfOk result (λ d. IsRead (ShowsType bytes.now) no_readers (typ d)) }
     ensures status { IfErr result RefusesType }

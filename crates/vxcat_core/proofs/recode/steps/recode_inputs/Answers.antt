@@ -1,4 +1,4 @@
-use Rattle.std.proofs.Common.{sym, subst}
+use Rattle.std.proofs.Common.{refl, sym, subst}
 use Rattle.vx_types.specs.Seen.{typ}
 use Rattle.vx_type_wire.specs.Known.{IsRead, no_readers}
 use Rattle.vx_type_wire.specs.Shown.{ShowsType}
@@ -9,10 +9,10 @@ use Rattle.vxcat_core.proofs.recode.steps.recode_inputs.Goals as goal
 use Rattle.vxcat_core.proofs.recode.steps.recode_inputs.Goals.{Joined-loaded-4}
 
 type_here : (c : Joined-loaded-4) → IsRead (ShowsType c.args.loaded.type_bytes) no_readers (typ c.in-Ok.dtype)
-type_here c = subst (λ l. IsRead (ShowsType l) no_readers (typ c.in-Ok.dtype)) c.as_slice.ensures c.in-Ok.ensures.read
+type_here c = c.in-Ok.ensures.read
 
 ids_here : (c : Joined-loaded-4) → ReadsIds c.args.loaded.id_bytes c.in-Ok-read_id_file.ids
-ids_here c = subst (λ l. ReadsIds l c.in-Ok-read_id_file.ids) c.as_slice-2.ensures c.in-Ok-read_id_file.ensures.read
+ids_here c = subst (λ l. ReadsIds l c.in-Ok-read_id_file.ids) c.as_slice.ensures c.in-Ok-read_id_file.ensures.read
 
 pub returns-clause-cause : goal.returns-clause-cause
 returns-clause-cause c =
@@ -31,20 +31,20 @@ returns-clause-made c =
 
 pub returns-in-Err-clause-cause : goal.returns-in-Err-clause-cause
 returns-in-Err-clause-cause c =
-    type_cause c.in-Err.status (line_of c.args.words.now) (loaded_of c.args.loaded) c.as_slice.result.now c.as_slice.ensures c.in-Err.ensures.status c.in-Err.ensures.complete
+    type_cause c.in-Err.status (line_of c.args.words.now) (loaded_of c.args.loaded) c.args.loaded.type_bytes refl c.in-Err.ensures.status c.in-Err.ensures.complete
 
 pub returns-in-Err-clause-complete : goal.returns-in-Err-clause-complete
 returns-in-Err-clause-complete c = λ can.
-    type_memory c.in-Err.status (line_of c.args.words.now) (loaded_of c.args.loaded) c.as_slice.result.now c.as_slice.ensures c.in-Err.ensures.complete can
+    type_memory c.in-Err.status (line_of c.args.words.now) (loaded_of c.args.loaded) c.args.loaded.type_bytes refl c.in-Err.ensures.complete can
 
 pub returns-in-Err-read_id_file-clause-cause : goal.returns-in-Err-read_id_file-clause-cause
 returns-in-Err-read_id_file-clause-cause c =
-    ids_cause c.in-Err-read_id_file.status (line_of c.args.words.now) (loaded_of c.args.loaded) c.as_slice-2.result.now c.as_slice-2.ensures c.in-Err-read_id_file.ensures.cause
+    ids_cause c.in-Err-read_id_file.status (line_of c.args.words.now) (loaded_of c.args.loaded) c.as_slice.result.now c.as_slice.ensures c.in-Err-read_id_file.ensures.cause
 
 pub returns-in-Err-read_id_file-clause-complete : goal.returns-in-Err-read_id_file-clause-complete
 returns-in-Err-read_id_file-clause-complete c = λ can.
-    ids_memory c.in-Err-read_id_file.status (λ ids. ReadsIds c.as_slice-2.result.now ids) c.in-Err-read_id_file.ensures.cause can.terms.ids
-    (subst (λ l. ReadsIds l can.terms.ids) (sym c.as_slice-2.ensures) can.are_read.ids_read)
+    ids_memory c.in-Err-read_id_file.status (λ ids. ReadsIds c.as_slice.result.now ids) c.in-Err-read_id_file.ensures.cause can.terms.ids
+    (subst (λ l. ReadsIds l can.terms.ids) (sym c.as_slice.ensures) can.are_read.ids_read)
 
 pub returns-in-Err-read_context-clause-cause : goal.returns-in-Err-read_context-clause-cause
 returns-in-Err-read_context-clause-cause c =
