@@ -13,4 +13,3 @@ pub mod VariantsFit
 pub mod RowsOfSound
 pub mod RowsAgree
 pub mod Built
-pub mod LawsControls

@@ -1,8 +1,7 @@
 -- The encodings.
 use Rattle.std.specs.Prelude.{List, [], ◌∷◌}
 
--- An encoding is a way to lay out an array's rows in buffers and in further arrays. Of a foreign node the way is
--- not known.
+-- An encoding is a way to lay out an array's rows in buffers and in further arrays.
 pub data Encoding : Type 0 where
   null : Encoding
   bool : Encoding
@@ -19,8 +18,7 @@ pub data Encoding : Type 0 where
   variant : Encoding
   ext : Encoding
   dict : Encoding
-  foreign : Encoding
 
--- Each of those that are known, once.
+-- Each of them, once.
 abbrev pub all : List Encoding
 all = null ∷ bool ∷ primitive ∷ decimal ∷ varbin ∷ varbinview ∷ list ∷ listview ∷ fixed_size_list ∷ map ∷ struct ∷ union ∷ variant ∷ ext ∷ dict ∷ []

@@ -27,5 +27,3 @@ mod Behind
 mod ListViewed
 mod Entries
 mod Mapped
-mod Controlled
-mod Bracketed

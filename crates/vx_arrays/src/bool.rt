@@ -161,8 +161,7 @@ impl BoolArray {
 
     /// The array of `len` flags that the buffer holds from this bit on.
     ///
-    /// `ForeignControl` where such an array would be sound but for a foreign node in the validity, and `BadShape` where it
-    /// is not sound otherwise.
+    /// `BadShape` where such an array is not sound.
     pub fn try_new(
         alloc: Global,
         bits: BufferHandle,

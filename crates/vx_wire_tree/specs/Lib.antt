@@ -5,7 +5,6 @@ pub mod Wire
 pub mod Session
 pub mod Matches
 pub mod Tells
-pub mod Kept
 pub mod Written
 pub mod Context
 pub mod Limits

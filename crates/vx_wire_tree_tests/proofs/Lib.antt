@@ -1,4 +1,3 @@
 pub mod SampleWires
 pub mod SampleContexts
 pub mod SampleTold
-pub mod SampleRaw

@@ -25,7 +25,6 @@ pub enum BlobRefusal {
     BadMetadata,
     BadShape,
     BadContent,
-    ForeignControl,
     BadStats,
     NotPermitted,
     WireLimit,
@@ -49,7 +48,6 @@ impl BlobRefusal {
             BlobRefusal::BadMetadata => WireError::BadMetadata,
             BlobRefusal::BadShape => WireError::BadShape,
             BlobRefusal::BadContent => WireError::BadContent,
-            BlobRefusal::ForeignControl => WireError::ForeignControl,
             BlobRefusal::BadStats => WireError::BadStats,
             BlobRefusal::NotPermitted => WireError::NotPermitted,
             BlobRefusal::WireLimit => WireError::WireLimit,
@@ -73,7 +71,7 @@ pub enum Status {
     SaveFault,
     /// The command's text could not be wholly printed; its outputs are saved.
     WriteFault,
-    /// The type file shows no type within the limits, or one with an extension that is not allowed.
+    /// The type file shows no type within the limits, or one with an extension.
     BadType,
     /// The id file is no text of identifiers.
     BadIds,
@@ -193,7 +191,6 @@ impl Status {
             WireError::BadMetadata => Status::Refused(BlobRefusal::BadMetadata),
             WireError::BadShape => Status::Refused(BlobRefusal::BadShape),
             WireError::BadContent => Status::Refused(BlobRefusal::BadContent),
-            WireError::ForeignControl => Status::Refused(BlobRefusal::ForeignControl),
             WireError::BadStats => Status::Refused(BlobRefusal::BadStats),
             WireError::NotPermitted => Status::Refused(BlobRefusal::NotPermitted),
             WireError::WireLimit => Status::Refused(BlobRefusal::WireLimit),
