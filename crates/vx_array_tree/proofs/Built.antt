@@ -1,5 +1,5 @@
 -- What is built of metadata and buffers, over children as they are planned.
-use Rattle.std.proofs.Common.{ℕ, ◌≡◌, ◌⊎◌, inl, inr, List, [], ◌∷◌, Some, refl, sym, ap, ◌∙◌, subst}
+use Rattle.std.proofs.Common.{ℕ, ◌≡◌, ◌⊎◌, inl, inr, List, [], ◌∷◌, Some, refl, sym, ap, ◌∙◌, subst, replicate}
 use Rattle.std.proofs.lemmas.Option.{same_Some}
 use Rattle.vx_buffer.specs.Buffer.{Buffer}
 use Rattle.vx_trees.specs.Rose.{node, end, label, count}
@@ -16,18 +16,20 @@ use Rattle.vx_array_tree.specs.Encodings.Decimals as Decimals
 use Rattle.vx_array_tree.specs.Encodings.VarBins as VarBins
 use Rattle.vx_array_tree.specs.Encodings.VarBinViews as VarBinViews
 use Rattle.vx_array_tree.specs.Encodings.Dicts as Dicts
+use Rattle.vx_array_tree.specs.Encodings.Foreigns as Foreigns
 use Rattle.vx_array_tree.specs.Metadata.{Metadata}
 use Rattle.vx_array_tree.specs.Metadata as M
 use Rattle.vx_array_tree.specs.Place.{Place, place}
 use Rattle.vx_array_tree.specs.Refused.{IsWellShaped}
 use Rattle.vx_array_tree.specs.Normal.{IsNormal}
-use Rattle.vx_array_tree.specs.Sound.{IsSound, IsSoundNode}
-use Rattle.vx_array_tree.specs.Table.{encoding_of, metadata_of, IsFair, buffers_of, bufferless, body_of, plan_of, lifted, Allows, Holds, IsShaped, Takes, Content, IsNormalBody}
+use Rattle.vx_array_tree.specs.Sound.{IsSound, IsSoundNode, IsControlled}
+use Rattle.vx_array_tree.specs.Table.{encoding_of, metadata_of, IsFair, buffers_of, bufferless, body_of, plan_of, lifted, Allows, Holds, IsShaped, Takes, Content, IsNative, IsNormalBody}
 use Rattle.vx_array_tree.specs.Tree.{Head, Tree, Trees, places, encodings, rows_below, untold, with_stats}
 use Rattle.vx_array_tree.proofs.NodeLaws.{body_encoding}
 use Rattle.vx_array_tree.proofs.Options.{mapped}
 use Rattle.vx_array_tree.proofs.Plans.{exactly_is, metadata_again}
-use Rattle.vx_array_tree.proofs.Retyped.{own_places}
+use Rattle.vx_array_tree.proofs.Bodies.{normal_by, body_normal}
+use Rattle.vx_array_tree.proofs.Retyped.{own_places, places_count}
 
 -- ---- a body has the buffers that it was built of
 
@@ -79,6 +81,7 @@ body_buffers E.union M.empty bs b q = bufferless_buffers B.union bs b refl q
 body_buffers E.variant (M.variant v) bs b q = bufferless_buffers B.variant bs b refl q
 body_buffers E.ext M.empty bs b q = bufferless_buffers B.ext bs b refl q
 body_buffers E.dict (M.dict v) bs b q = bufferless_buffers (B.dict (Dicts.body_of v)) bs b refl q
+body_buffers E.foreign (M.foreign v) bs b q = ap (λ z. buffers_of z) (sym (same_Some (B.foreign (Foreigns.body_of v bs)) b q))
 body_buffers _ v bs b q = absurd (cc)
 
 -- ---- and of the form in which it is read
@@ -108,12 +111,14 @@ built_normal E.ext d n M.empty k bs b ps p q = bufferless_normal B.ext bs b d ps
 built_normal E.dict d n (M.dict v) k bs b ps p q =
     let c = place (node (K.primitive v.codes_ptype v.nullable_codes) end) n in
     bufferless_normal (B.dict (Dicts.body_of v)) bs b d ps (own_values d c v.values_len ps (exactly_is (c ∷ place d v.values_len ∷ []) k ps q)) p
+built_normal E.foreign d n (M.foreign v) k bs b ps p q = subst (λ z. IsNormalBody z d ps) (same_Some (B.foreign (Foreigns.body_of v bs)) b p) tt
 built_normal _ d n v k bs b ps p q = absurd (cc)
 
 -- Whether a node takes children of such encodings is decided.
 pub takes_decided : (e : Encoding) (es : List Encoding) → Takes e es ⊎ (Takes e es → ⊥)
 takes_decided E.map [] = inr (λ x. x)
 takes_decided E.map (E.listview ∷ es) = inl tt
+takes_decided E.map (E.foreign ∷ es) = inl tt
 takes_decided E.map (_ ∷ es) = inr (λ x. x)
 takes_decided _ es = inl tt
 
@@ -129,6 +134,21 @@ pub record IsBuiltOver (e : Encoding) (d : Typ) (n : ℕ) (v : Metadata) (bs : L
 pub own_metadata : (e : Encoding) (d : Typ) (n : ℕ) (v : Metadata) (bs : List Buffer) (b : Body) (ts : Trees) → IsBuiltOver e d n v bs b ts → metadata_of b (places ts) ≡ v
 own_metadata e d n v bs b ts x = metadata_again e d n v (count ts) bs b (places ts) x.body_is x.planned
 
+foreign_own : (e : Encoding) (d : Typ) (n : ℕ) (v : Metadata) (bs : List Buffer) (y : Foreigns.Data) (ts : Trees) → IsBuiltOver e d n v bs (B.foreign y) ts
+    → lifted d n (B.foreign y) (places ts) ≡ places ts
+foreign_own e d n v bs y ts x =
+    let g = sym (body_encoding e v bs (B.foreign y) x.body_is) in
+    let m = sym (own_metadata e d n v bs (B.foreign y) ts x) in
+    let p : Foreigns.plan d n (count ts) ≡ Some (places ts) = sym (λ i. plan_of (g i) d n (m i) (count ts)) ∙ x.planned in
+    ap (λ k. replicate k (place d n)) (places_count ts) ∙ same_Some (replicate (count ts) (place d n)) (places ts) p
+
+-- Its children stand just where a plan is compared with.
+built_own : (e : Encoding) (d : Typ) (n : ℕ) (v : Metadata) (bs : List Buffer) (b : Body) (ts : Trees) → IsBuiltOver e d n v bs b ts
+    → Allows (encoding_of b) d (metadata_of b (places ts)) (count ts) → lifted d n b (places ts) ≡ places ts
+built_own e d n v bs (B.foreign y) ts x a = foreign_own e d n v bs y ts x
+built_own e d n v bs (B.dict y) ts x a = own_places (B.dict y) d n (places ts) (count ts) tt (built_normal e d n v (count ts) bs (B.dict y) (places ts) x.body_is x.planned) a
+built_own e d n v bs _ ts x a = refl
+
 -- It is of the right shape where its parts are, and its encoding takes the children.
 pub built_shaped : (e : Encoding) (d : Typ) (n : ℕ) (v : Metadata) (bs : List Buffer) (b : Body) (ts : Trees) → IsBuiltOver e d n v bs b ts
     → IsShaped e d n v bs (count ts) → Takes e (encodings ts) → IsWellShaped (untold d n b) ts
@@ -138,7 +158,7 @@ built_shaped e d n v bs b ts x s t =
     let q = same_Some s.body b (sym s.body_is ∙ x.body_is) in
     let a : Allows (encoding_of b) d (metadata_of b (places ts)) (count ts) =
     subst (λ (f : Encoding). Allows f d (metadata_of b (places ts)) (count ts)) (sym g) (subst (λ (z : Metadata). Allows e d z (count ts)) (sym m) s.allows) in
-    let own : lifted b (places ts) ≡ places ts = own_places b d (places ts) (count ts) (built_normal e d n v (count ts) bs b (places ts) x.body_is x.planned) a in
+    let own : lifted d n b (places ts) ≡ places ts = built_own e d n v bs b ts x a in
     record {
       fair = subst (λ (f : Encoding). IsFair f (metadata_of b (places ts))) (sym g) (subst (λ (z : Metadata). IsFair e z) (sym m) x.fair);
       planned = (λ i. plan_of (g i) d n (m i) (count ts)) ∙ x.planned ∙ ap (λ (z : List Place). Some z) (sym own);
@@ -162,9 +182,9 @@ shaped_built e d n v bs b ts x s =
       subst (λ (f : Encoding). Takes f (encodings ts)) g s.takes,
     )
 
--- A node of the right shape and content whose statistics fit is sound, and a sound one is of the right shape.
-pub shaped_sound : (h : Head) (ts : Trees) → IsWellShaped h ts → Content h.dtype h.len h.body (rows_below ts) → FitStats h.dtype h.stats → IsSoundNode h ts
-shaped_sound h ts s c f = record { fair = s.fair; planned = s.planned; allows = s.allows; takes = s.takes; holds = s.holds; content = c; stats = f }
+-- A node of the right shape and content, of which it is known where its rows are, and whose statistics fit is sound, and a sound one is of the right shape.
+pub shaped_sound : (h : Head) (ts : Trees) → IsWellShaped h ts → IsControlled h ts → Content h.dtype h.len h.body (rows_below ts) → FitStats h.dtype h.stats → IsSoundNode h ts
+shaped_sound h ts s r c f = record { fair = s.fair; planned = s.planned; allows = s.allows; takes = s.takes; holds = s.holds; controlled = r; content = c; stats = f }
 
 pub sound_well_shaped : (h : Head) (ts : Trees) → IsSoundNode h ts → IsWellShaped h ts
 sound_well_shaped h ts s = record { fair = s.fair; planned = s.planned; allows = s.allows; takes = s.takes; holds = s.holds }
@@ -172,9 +192,9 @@ sound_well_shaped h ts s = record { fair = s.fair; planned = s.planned; allows =
 -- A sound array with other statistics that fit is sound, and normal where it was.
 pub stats_sound : (x : Stats) (t : Tree) → IsSound t → FitStats (label t).dtype x → IsSound (with_stats x t)
 stats_sound x (node h ts) s f = (
-  record { fair = s.0.fair; planned = s.0.planned; allows = s.0.allows; takes = s.0.takes; holds = s.0.holds; content = s.0.content; stats = f },
+  record { fair = s.0.fair; planned = s.0.planned; allows = s.0.allows; takes = s.0.takes; holds = s.0.holds; controlled = record { controls = s.0.controlled.controls; entries = s.0.controlled.entries }; content = s.0.content; stats = f },
   s.1,
 )
 
-pub stats_normal : (x : Stats) (t : Tree) → IsNormal t → IsNormal (with_stats x t)
-stats_normal x (node h ts) n = n
+pub stats_normal : (x : Stats) (t : Tree) → IsNative (label t).body → IsNormal t → IsNormal (with_stats x t)
+stats_normal x (node h ts) k n = (normal_by h.body (label (with_stats x (node h ts))) ts k (body_normal h.body h ts n.0), n.1)

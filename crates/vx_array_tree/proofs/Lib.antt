@@ -13,3 +13,4 @@ pub mod VariantsFit
 pub mod RowsOfSound
 pub mod RowsAgree
 pub mod Built
+pub mod LawsControls

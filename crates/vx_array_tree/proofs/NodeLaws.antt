@@ -9,17 +9,18 @@ use Rattle.vx_array_tree.specs.Body.{Body}
 use Rattle.vx_array_tree.specs.Body as B
 use Rattle.vx_array_tree.specs.Encoding.{Encoding}
 use Rattle.vx_array_tree.specs.Encoding as E
+use Rattle.vx_array_tree.specs.Encodings.Foreigns as Foreigns
 use Rattle.vx_array_tree.specs.Metadata.{Metadata}
 use Rattle.vx_array_tree.specs.Metadata as M
 use Rattle.vx_array_tree.specs.Normal.{IsNormalNode}
 use Rattle.vx_array_tree.specs.Place.{Place}
-use Rattle.vx_array_tree.specs.Sound.{IsSoundNode, metadata_in}
+use Rattle.vx_array_tree.specs.Sound.{IsSoundNode, IsControlled, metadata_in}
 use Rattle.vx_array_tree.specs.Table.{encoding_of, metadata_of, buffers_of, body_of, plan_of, lifted, cleared, IsFair, IsShaped, Allows, Holds, Takes, Content}
 use Rattle.vx_array_tree.specs.Tree.{Head, Trees, places, encodings, rows_below, untold}
 use Rattle.vx_array_tree.proofs.Bodies.{body_again, normal_cleared}
 use Rattle.vx_array_tree.proofs.Options.{mapped}
 use Rattle.vx_array_tree.proofs.Plans.{metadata_again, bufferless_is}
-use Rattle.vx_array_tree.proofs.Retyped.{own_places}
+use Rattle.vx_array_tree.proofs.Retyped.{normal_places}
 
 -- ---- what is built of parts
 
@@ -40,24 +41,25 @@ body_encoding E.union M.empty bs b p = rw (bufferless_is B.union bs b p) refl
 body_encoding E.variant (M.variant v) bs b p = rw (bufferless_is B.variant bs b p) refl
 body_encoding E.ext M.empty bs b p = rw (bufferless_is B.ext bs b p) refl
 body_encoding E.dict (M.dict v) bs b p = rw (bufferless_is _ bs b p) refl
+body_encoding E.foreign (M.foreign v) bs b p = ap (λ z. encoding_of z) (sym (same_Some (B.foreign (Foreigns.body_of v bs)) b p))
 body_encoding _ v bs b p = absurd (cc)
 
 -- The nullability that codes bring to values is no part of metadata.
-lifted_metadata : (b : Body) (ps : List Place) → metadata_of b (lifted b ps) ≡ metadata_of b ps
-lifted_metadata (B.dict x) [] = refl
-lifted_metadata (B.dict x) (c ∷ []) = refl
-lifted_metadata (B.dict x) (c ∷ v ∷ ps) = refl
-lifted_metadata _ ps = refl
+lifted_metadata : (d : Typ) (n : ℕ) (b : Body) (ps : List Place) → metadata_of b (lifted d n b ps) ≡ metadata_of b ps
+lifted_metadata d n (B.dict x) [] = refl
+lifted_metadata d n (B.dict x) (c ∷ []) = refl
+lifted_metadata d n (B.dict x) (c ∷ v ∷ ps) = refl
+lifted_metadata d n _ ps = refl
 
 -- A node that is built over children as they are planned has the metadata that it was built by.
-pub built_metadata : (e : Encoding) (d : Typ) (n : ℕ) (v : Metadata) (bs : List Buffer) (b : Body) (ts : Trees) → body_of e v bs ≡ Some b → plan_of e d n v (count ts) ≡ Some (lifted b (places ts))
+pub built_metadata : (e : Encoding) (d : Typ) (n : ℕ) (v : Metadata) (bs : List Buffer) (b : Body) (ts : Trees) → body_of e v bs ≡ Some b → plan_of e d n v (count ts) ≡ Some (lifted d n b (places ts))
     → metadata_of b (places ts) ≡ v
-built_metadata e d n v bs b ts p q = sym (lifted_metadata b (places ts)) ∙ metadata_again e d n v (count ts) bs b (lifted b (places ts)) p q
+built_metadata e d n v bs b ts p q = sym (lifted_metadata d n b (places ts)) ∙ metadata_again e d n v (count ts) bs b (lifted d n b (places ts)) p q
 
 -- Without statistics it is sound, where its parts are as its encoding asks.
 pub built_sound : (e : Encoding) (d : Typ) (n : ℕ) (v : Metadata) (bs : List Buffer) (ts : Trees) (x : IsShaped e d n v bs (count ts)) → IsFair e v
-    → plan_of e d n v (count ts) ≡ Some (lifted x.body (places ts)) → Takes e (encodings ts) → Content d n x.body (rows_below ts) → IsSoundNode (untold d n x.body) ts
-built_sound e d n v bs ts x f p k c =
+    → plan_of e d n v (count ts) ≡ Some (lifted d n x.body (places ts)) → Takes e (encodings ts) → IsControlled (untold d n x.body) ts → Content d n x.body (rows_below ts) → IsSoundNode (untold d n x.body) ts
+built_sound e d n v bs ts x f p k r c =
     let g : e ≡ encoding_of x.body = sym (body_encoding e v bs x.body x.body_is) in
     let m : v ≡ metadata_of x.body (places ts) = sym (built_metadata e d n v bs x.body ts x.body_is p) in
     record {
@@ -66,6 +68,7 @@ built_sound e d n v bs ts x f p k c =
       allows = subst (λ (z : Metadata). Allows (encoding_of x.body) d z (count ts)) m (subst (λ (z : Encoding). Allows z d v (count ts)) g x.allows);
       takes = subst (λ (z : Encoding). Takes z (encodings ts)) g k;
       holds = x.holds;
+      controlled = r;
       content = c;
       stats = none_fit d;
     }
@@ -82,11 +85,11 @@ sound_shaped h ts s = record { body = cleared h.body; body_is = body_again h.bod
 
 -- A sound normal node's children stand just where they are planned.
 pub planned_places : (h : Head) (ts : Trees) → IsSoundNode h ts → IsNormalNode h ts → plan_of (encoding_of h.body) h.dtype h.len (metadata_in h ts) (count ts) ≡ Some (places ts)
-planned_places h ts s n = s.planned ∙ ap (λ (ps : List Place). Some ps) (own_places h.body h.dtype (places ts) (count ts) n s.allows)
+planned_places h ts s n = s.planned ∙ ap (λ (ps : List Place). Some ps) (normal_places h.body h ts n s.allows)
 
 -- Its metadata and buffers give back all that it holds.
 pub own_body : (h : Head) (ts : Trees) → IsNormalNode h ts → body_of (encoding_of h.body) (metadata_in h ts) (buffers_of h.body) ≡ Some h.body
-own_body h ts n = body_again h.body (places ts) ∙ ap (λ (b : Body). Some b) (normal_cleared h.body h.dtype (places ts) n)
+own_body h ts n = body_again h.body (places ts) ∙ ap (λ (b : Body). Some b) (normal_cleared h.body h ts n)
 
 -- Two sound normal nodes of one type, with as many rows, of one encoding, and with the same metadata, buffers,
 -- statistics and number of children, are equal, and their children stand at the same places.

@@ -17,6 +17,7 @@ use Rattle.vx_array_tree.specs.Encodings.Lists as Lists
 use Rattle.vx_array_tree.specs.Encodings.ListViews as ListViews
 use Rattle.vx_array_tree.specs.Encodings.Variants as Variants
 use Rattle.vx_array_tree.specs.Encodings.Dicts as Dicts
+use Rattle.vx_array_tree.specs.Encodings.Foreigns as Foreigns
 use Rattle.vx_array_tree.specs.Metadata.{Metadata}
 use Rattle.vx_array_tree.specs.Metadata as M
 use Rattle.vx_array_tree.specs.Place.{Place, place, numbers, exactly, before_validity, is_len}
@@ -114,4 +115,5 @@ metadata_again E.union d n M.empty k bs b ps p q = rw (bufferless_is B.union bs 
 metadata_again E.variant d n (M.variant v) k bs b ps p q = rw (bufferless_is B.variant bs b p) (ap (λ z. M.variant z) (variant_metadata d n v k ps q))
 metadata_again E.ext d n M.empty k bs b ps p q = rw (bufferless_is B.ext bs b p) refl
 metadata_again E.dict d n (M.dict v) k bs b ps p q = rw (bufferless_is (B.dict (Dicts.body_of v)) bs b p) (ap (λ z. M.dict z) (dict_metadata d n v k ps q))
+metadata_again E.foreign d n (M.foreign v) k bs b ps p q = ap (λ z. metadata_of z ps) (sym (same_Some (B.foreign (Foreigns.body_of v bs)) b p))
 metadata_again _ d n v k bs b ps p q = absurd (cc)

@@ -1,6 +1,7 @@
 -- A plan under another nullability.
-use Rattle.std.proofs.Common.{ℕ, zero, suc, ◌≡◌, List, [], ◌∷◌, Option, Some, None, option_map, refl, sym, ap, ◌∙◌, subst}
-use Rattle.vx_trees.specs.Rose.{node, end, more}
+use Rattle.std.proofs.Common.{ℕ, zero, suc, ◌≡◌, List, [], ◌∷◌, Option, Some, None, option_map, refl, sym, ap, ◌∙◌, subst, length, replicate}
+use Rattle.std.proofs.lemmas.Option.{same_Some}
+use Rattle.vx_trees.specs.Rose.{node, end, more, count}
 use Rattle.vx_types.specs.Kind as K
 use Rattle.vx_types.specs.Kind.{Kind}
 use Rattle.vx_types.specs.Typ.{Typ}
@@ -27,10 +28,13 @@ use Rattle.vx_array_tree.specs.Encodings.Structs as Structs
 use Rattle.vx_array_tree.specs.Encodings.Unions as Unions
 use Rattle.vx_array_tree.specs.Encodings.Variants as Variants
 use Rattle.vx_array_tree.specs.Encodings.Exts as Exts
+use Rattle.vx_array_tree.specs.Encodings.Foreigns as Foreigns
 use Rattle.vx_array_tree.specs.Metadata.{Metadata}
 use Rattle.vx_array_tree.specs.Metadata as M
 use Rattle.vx_array_tree.specs.Place.{Place, place, exactly, places_at}
-use Rattle.vx_array_tree.specs.Table.{metadata_of, plan_of, encoding_of, lifted, Allows, IsNormalBody}
+use Rattle.vx_array_tree.specs.Normal.{IsNormalBy, AreForeignAt}
+use Rattle.vx_array_tree.specs.Table.{metadata_of, plan_of, encoding_of, lifted, Allows, IsNative, IsNormalBody}
+use Rattle.vx_array_tree.specs.Tree.{Head, Trees, places}
 use Rattle.vx_types.proofs.Nullabilities.{nullable_under, own_nullability, twice_nullability, same_nullability}
 use Rattle.vx_array_tree.proofs.Options.{mapped}
 use Rattle.vx_array_tree.proofs.Plans.{exactly_is}
@@ -170,6 +174,15 @@ dict_replanned m d up n v k ps e =
     let c : Place = place (node (K.primitive v.codes_ptype v.nullable_codes) end) n in
     replanned_exactly (c ∷ place d v.values_len ∷ []) (c ∷ place (with_nullability m d) v.values_len ∷ []) k ps (retyped_same c.dtype, refl, (under m d up, refl, refl)) e
 
+alike_retyped : (p q : Place) (k : ℕ) → IsRetyped p.dtype q.dtype → p.len ≡ q.len → AreRetyped (replicate k p) (replicate k q)
+alike_retyped p q zero r l = refl
+alike_retyped p q (suc k) r l = (r, l, alike_retyped p q k r l)
+
+foreign_replanned : (m : Nullability) (d : Typ) (up : nullability d ≡ Nullable → m ≡ Nullable) (n k : ℕ) (ps : List Place) → Foreigns.plan d n k ≡ Some ps → Replanned ps (Foreigns.plan (with_nullability m d) n k)
+foreign_replanned m d up n k ps e =
+    let q : Place = place (with_nullability m d) n in
+    record { others = replicate k q; planned = refl; retyped = subst (λ (z : List Place). AreRetyped z (replicate k q)) (same_Some (replicate k (place d n)) ps e) (alike_retyped (place d n) q k (under m d up) refl) }
+
 -- Where something is planned for a type, so it is for the type under another nullability, at places that
 -- differ by their nullability alone.
 pub replanned : (e : Encoding) (m : Nullability) (d : Typ) (up : nullability d ≡ Nullable → m ≡ Nullable) (n : ℕ) (v : Metadata) (k : ℕ) (ps : List Place) → plan_of e d n v k ≡ Some ps → Replanned ps (plan_of e (with_nullability m d) n v k)
@@ -188,6 +201,7 @@ replanned E.union m d up n M.empty k ps p = union_replanned m d up n k ps p
 replanned E.variant m d up n (M.variant v) k ps p = variant_replanned m d up n v k ps p
 replanned E.ext m d up n M.empty k ps p = ext_replanned m d up n k ps p
 replanned E.dict m d up n (M.dict v) k ps p = dict_replanned m d up n v k ps p
+replanned E.foreign m d up n (M.foreign v) k ps p = foreign_replanned m d up n k ps p
 replanned _ m d up n v k ps p = absurd (cc)
 
 -- ---- a dictionary's values
@@ -201,10 +215,11 @@ dict_lifted [] = refl
 dict_lifted (c ∷ []) = are_retyped_same (c ∷ [])
 dict_lifted (c ∷ v ∷ ps) = (retyped_same c.dtype, refl, (raised_retyped (nullability c.dtype) v.dtype, refl, are_retyped_same ps))
 
--- The places that a plan is compared with are the children's but for nullability.
-pub lifted_retyped : (b : Body) (ps : List Place) → AreRetyped ps (lifted b ps)
-lifted_retyped (B.dict x) ps = dict_lifted ps
-lifted_retyped _ ps = are_retyped_same ps
+-- The places that a plan is compared with are the children's but for nullability, where the node is not foreign.
+pub lifted_retyped : (d : Typ) (n : ℕ) (b : Body) (ps : List Place) → IsNative b → AreRetyped ps (lifted d n b ps)
+lifted_retyped d n (B.dict x) ps k = dict_lifted ps
+lifted_retyped d n (B.foreign x) ps k = absurd k
+lifted_retyped d n _ ps k = are_retyped_same ps
 
 pub are_retyped_then : (ps qs rs : List Place) → AreRetyped ps qs → AreRetyped qs rs → AreRetyped ps rs
 are_retyped_then [] [] rs x y = y
@@ -223,6 +238,27 @@ dict_own d (c ∷ []) x p a = refl
 dict_own d (c ∷ v ∷ ps) x p a = ap (λ (z : Typ). c ∷ place z v.len ∷ ps) (own_raised (nullability c.dtype) d v.dtype p a)
 
 -- In its normal form a node's children stand just where they are planned.
-pub own_places : (b : Body) (d : Typ) (ps : List Place) (k : ℕ) → IsNormalBody b d ps → Allows (encoding_of b) d (metadata_of b ps) k → lifted b ps ≡ ps
-own_places (B.dict x) d ps k p a = dict_own d ps x p a
-own_places _ d ps k p a = refl
+pub own_places : (b : Body) (d : Typ) (n : ℕ) (ps : List Place) (k : ℕ) → IsNative b → IsNormalBody b d ps → Allows (encoding_of b) d (metadata_of b ps) k → lifted d n b ps ≡ ps
+own_places (B.dict x) d n ps k z p a = dict_own d ps x p a
+own_places (B.foreign x) d n ps k z p a = absurd z
+own_places _ d n ps k z p a = refl
+
+-- There are as many places as children.
+pub places_count : (ts : Trees) → length (places ts) ≡ count ts
+places_count end = refl
+places_count (more t ts) = ap (λ n. suc n) (places_count ts)
+
+foreign_alike : (d : Typ) (n : ℕ) (ts : Trees) → AreForeignAt d n ts → replicate (length (places ts)) (place d n) ≡ places ts
+foreign_alike d n end f = refl
+foreign_alike d n (more t ts) f =
+    let a = sym f.0.dtype in
+    let b = sym f.0.len in
+    let c = foreign_alike d n ts f.1 in
+    λ i. place (a i) (b i) ∷ c i
+
+-- So do those of a normal node, foreign or not.
+pub normal_places : (b : Body) (h : Head) (ts : Trees) → IsNormalBy b h ts → Allows (encoding_of b) h.dtype (metadata_of b (places ts)) (count ts)
+    → lifted h.dtype h.len b (places ts) ≡ places ts
+normal_places (B.foreign x) h ts n a = foreign_alike h.dtype h.len ts n.children
+normal_places (B.dict x) h ts n a = dict_own h.dtype (places ts) x n a
+normal_places _ h ts n a = refl

@@ -1,5 +1,5 @@
 -- A node under another nullability: its rows, and what its parts are to be.
-use Rattle.std.proofs.Common.{ℕ, suc, ◌≡◌, List, [], refl, sym, ap, ◌∙◌, subst, length, is_some, IsTrue, ◌*◌, ◌==◌, if◌then◌else◌, unwrap_or}
+use Rattle.std.proofs.Common.{ℕ, suc, ◌≡◌, List, [], refl, sym, ap, ◌∙◌, subst, length, is_some, IsTrue, ◌*◌, ◌==◌, ◌&&◌, if◌then◌else◌, unwrap_or}
 use Rattle.vx_trees.specs.Rose.{Roses, node, end, more, count}
 use Rattle.vx_types.specs.Kind as K
 use Rattle.vx_types.specs.Kind.{Kind}
@@ -23,7 +23,7 @@ use Rattle.vx_array_tree.specs.Metadata.{Metadata}
 use Rattle.vx_array_tree.specs.Metadata as M
 use Rattle.vx_array_tree.specs.Place.{Place, AllowsValidity, ptype_of}
 use Rattle.vx_array_tree.specs.Rows.{Rows, by_validity, by_validity_with, validity, first, rest, index_at, values_from, cells_from, values_at, cells_at}
-use Rattle.vx_array_tree.specs.Table.{metadata_of, node_rows, Holds, Content, Allows, cleared}
+use Rattle.vx_array_tree.specs.Table.{metadata_of, node_rows, Holds, Content, Allows, is_control, cleared}
 use Rattle.vx_types.specs.Value.{lone, number, tuple, union}
 use Rattle.vx_array_tree.proofs.Retyped.{IsRetyped, retyped_nullable}
 
@@ -118,3 +118,10 @@ allows_retyped E.struct d f v k r a =
     subst (λ m. AllowsValidity f m k) (sym w) (validity_retyped d f (Structs.width_of d) k r a)
 allows_retyped E.dict d f (M.dict v) k r a = λ q. retyped_nullable d f r (a q)
 allows_retyped _ d f v k r a = tt
+
+-- A type's nullability tells nothing of which children say where rows are.
+pub same_control : (e : Encoding) (d f : Typ) (k i : ℕ) → IsRetyped d f → is_control e f k i ≡ is_control e d k i
+same_control E.struct d f k i r =
+    let w : Structs.width_of f ≡ Structs.width_of d = ap (λ z. Structs.width_of z) (sym r.retyped) ∙ same_width r.nullability_is d in
+    ap (λ m. (k == suc m) && (i == 0)) w
+same_control _ d f k i r = refl

@@ -109,6 +109,7 @@ node_agrees d n B.map ps rs a = first_agrees rs a
 node_agrees d n B.ext ps rs a = first_agrees rs a
 node_agrees d n B.variant ps rs a = variants_agree n (Variants.metadata_of ps) rs a
 node_agrees d n (B.dict x) ps rs a = λ i. codes_agree ((first rs).valid i) (second rs) (λ j. index_at (first rs) j) i (second_agrees rs a)
+node_agrees d n (B.foreign x) ps rs a = λ i. refl
 node_agrees d n _ ps rs a = λ i. agrees_where _ _ i refl
 
 mutual

@@ -1,5 +1,5 @@
 -- A sound array has as many rows as it says, and they fit its type where nothing in them is opaque.
-use Rattle.std.proofs.Common.{ℕ, ◌≡◌, List, [], ◌∷◌, Some, None, refl, subst, arith}
+use Rattle.std.proofs.Common.{ℕ, ◌≡◌, List, [], ◌∷◌, Some, None, refl, subst, arith, inr}
 use Rattle.vx_trees.specs.Rose.{node, end, more, label, count}
 use Rattle.vx_trees.specs.Everywhere.{EverywhereBelow}
 use Rattle.vx_types.specs.Typ.{Typ}
@@ -57,6 +57,7 @@ body_fits d n z B.fixed_size_list ts s f = fixed_fit d n ts s.planned s.allows f
 body_fits d n z B.map ts s f = maps_fit d n ts s.planned f
 body_fits d n z B.struct ts s f = structs_fit d n ts s.planned s.allows f
 body_fits d n z B.union ts s f = unions_fit d n ts s.planned s.content f
+body_fits d n z (B.foreign x) ts s f = record { fits = λ i l h. absurd (cc); missing = λ i l v. absurd (cc); whole = λ k i l. inr refl }
 body_fits d n z B.variant ts s f = variants_fit d n ts s.planned f
 body_fits d n z B.ext ts s f = exts_fit d n ts s.planned f
 body_fits d n z (B.dict x) ts s f = dicts_fit d n x ts s.planned s.allows (λ i l v. let w = (s.content i l v).within in let k = second_rows ts in omega arith) f

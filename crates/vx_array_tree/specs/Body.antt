@@ -10,8 +10,9 @@ use Rattle.vx_array_tree.specs.Encodings.VarBins as VarBins
 use Rattle.vx_array_tree.specs.Encodings.VarBinViews as VarBinViews
 use Rattle.vx_array_tree.specs.Encodings.ListViews as ListViews
 use Rattle.vx_array_tree.specs.Encodings.Dicts as Dicts
+use Rattle.vx_array_tree.specs.Encodings.Foreigns as Foreigns
 
--- A case for each encoding, with what its nodes hold.
+-- A case for each encoding, with what its nodes hold, and one for foreign nodes.
 pub data Body : Type 0 where
   null : Body
   bool : Bools.Data → Body
@@ -28,12 +29,13 @@ pub data Body : Type 0 where
   variant : Body
   ext : Body
   dict : Dicts.Data → Body
+  foreign : Foreigns.Data → Body
 
 -- How a body is stored: its case, and what the case holds.
 abbrev Stored : Type 0
 Stored =
     Unit {0} ⊎ (Bools.Data ⊎ (Primitives.Data ⊎ (Decimals.Data ⊎ (VarBins.Data ⊎ (VarBinViews.Data ⊎ (Unit {0} ⊎ (ListViews.Data
-    ⊎ (Unit {0} ⊎ (Unit {0} ⊎ (Unit {0} ⊎ (Unit {0} ⊎ (Unit {0} ⊎ (Unit {0} ⊎ Dicts.Data)))))))))))))
+    ⊎ (Unit {0} ⊎ (Unit {0} ⊎ (Unit {0} ⊎ (Unit {0} ⊎ (Unit {0} ⊎ (Unit {0} ⊎ (Dicts.Data ⊎ Foreigns.Data))))))))))))))
 
 abbrev stored : Body → Stored
 stored null = inl tt
@@ -50,7 +52,8 @@ stored struct = inr (inr (inr (inr (inr (inr (inr (inr (inr (inr (inl tt))))))))
 stored union = inr (inr (inr (inr (inr (inr (inr (inr (inr (inr (inr (inl tt)))))))))))
 stored variant = inr (inr (inr (inr (inr (inr (inr (inr (inr (inr (inr (inr (inl tt))))))))))))
 stored ext = inr (inr (inr (inr (inr (inr (inr (inr (inr (inr (inr (inr (inr (inl tt)))))))))))))
-stored (dict x) = inr (inr (inr (inr (inr (inr (inr (inr (inr (inr (inr (inr (inr (inr x)))))))))))))
+stored (dict x) = inr (inr (inr (inr (inr (inr (inr (inr (inr (inr (inr (inr (inr (inr (inl x))))))))))))))
+stored (foreign x) = inr (inr (inr (inr (inr (inr (inr (inr (inr (inr (inr (inr (inr (inr (inr x))))))))))))))
 
 abbrev restored : Stored → Body
 restored (inl _) = null
@@ -67,7 +70,8 @@ restored (inr (inr (inr (inr (inr (inr (inr (inr (inr (inr (inl _))))))))))) = s
 restored (inr (inr (inr (inr (inr (inr (inr (inr (inr (inr (inr (inl _)))))))))))) = union
 restored (inr (inr (inr (inr (inr (inr (inr (inr (inr (inr (inr (inr (inl _))))))))))))) = variant
 restored (inr (inr (inr (inr (inr (inr (inr (inr (inr (inr (inr (inr (inr (inl _)))))))))))))) = ext
-restored (inr (inr (inr (inr (inr (inr (inr (inr (inr (inr (inr (inr (inr (inr x)))))))))))))) = dict x
+restored (inr (inr (inr (inr (inr (inr (inr (inr (inr (inr (inr (inr (inr (inr (inl x))))))))))))))) = dict x
+restored (inr (inr (inr (inr (inr (inr (inr (inr (inr (inr (inr (inr (inr (inr (inr x))))))))))))))) = foreign x
 
 -- What is stored gives back the body.
 pub restored-stored : (b : Body) → restored (stored b) ≡ b
@@ -86,11 +90,12 @@ restored-stored union = refl
 restored-stored variant = refl
 restored-stored ext = refl
 restored-stored (dict x) = refl
+restored-stored (foreign x) = refl
 
 -- The code by which bodies are told apart.
 abbrev pub body_code : Coded Body
 body_code =
     code_by Stored (coded⊎ coded_unit (coded⊎ Bools.data_code (coded⊎ Primitives.data_code (coded⊎ Decimals.data_code (coded⊎ VarBins.data_code
     (coded⊎ VarBinViews.data_code (coded⊎ coded_unit (coded⊎ ListViews.data_code (coded⊎ coded_unit (coded⊎ coded_unit (coded⊎ coded_unit
-    (coded⊎ coded_unit (coded⊎ coded_unit (coded⊎ coded_unit Dicts.data_code))))))))))))))
+    (coded⊎ coded_unit (coded⊎ coded_unit (coded⊎ coded_unit (coded⊎ Dicts.data_code Foreigns.data_code)))))))))))))))
     stored restored restored-stored

@@ -1,13 +1,16 @@
 -- The array that is read back where an array was written.
-use Rattle.std.specs.Prelude.{◌≡◌, List, [], ◌∷◌, Option, Some, None}
+use Rattle.std.specs.Prelude.{ℕ, ◌≡◌, List, [], ◌∷◌, Option, Some, None}
 use Rattle.vx_trees.specs.Everywhere.{Everywhere}
 use Rattle.vx_trees.specs.Rose.{node, end, more, label, count}
 use Rattle.vx_types.specs.Typ.{Typ}
 use Rattle.vx_scalars.specs.WrittenStats.{written_stats}
+use Rattle.vx_array_tree.specs.Body.{Body}
+use Rattle.vx_array_tree.specs.Body as B
+use Rattle.vx_array_tree.specs.Encodings.Foreigns as Foreigns
 use Rattle.vx_array_tree.specs.Place.{Place}
 use Rattle.vx_array_tree.specs.Sound.{metadata_in}
 use Rattle.vx_array_tree.specs.Table.{encoding_of, plan_of, cleared}
-use Rattle.vx_array_tree.specs.Tree.{Tree, Trees, Head, places}
+use Rattle.vx_array_tree.specs.Tree.{Tree, Trees, Head, places, untold}
 
 -- The types of places.
 abbrev pub types_in : List Place → List Typ
@@ -30,23 +33,50 @@ child_types d h ts = planned_types (plan_of (encoding_of h.body) d h.len (metada
 abbrev pub canon_head : Typ → Head → Head
 canon_head d h = record { dtype = d; len = h.len; stats = written_stats h.stats; body = cleared h.body }
 
+-- How nodes are spelled on the wire: each one's identifier, its metadata as bytes, and its buffers.
+abbrev pub Spelling : Type 0
+Spelling = Head → Trees → Foreigns.Data
+
+-- The foreign node of a node's parts, of a type and a length.
+abbrev pub foreign_head : Spelling → Typ → ℕ → Head → Trees → Head
+foreign_head spelled d n h ts = untold d n (B.foreign (spelled h ts))
+
+abbrev mutual
+  -- An array of which nothing is known: each node is the foreign node of its parts, of one type and length.
+  pub as_foreign : Spelling → Typ → ℕ → Tree → Tree
+  as_foreign spelled d n (node h ts) = node (foreign_head spelled d n h ts) (all_foreign spelled d n ts)
+
+  -- Several arrays so.
+  pub all_foreign : Spelling → Typ → ℕ → Trees → Trees
+  all_foreign spelled d n end = end
+  all_foreign spelled d n (more t ts) = more (as_foreign spelled d n t) (all_foreign spelled d n ts)
+
+-- A node as it is read back, by what it is: a foreign one with all below it as it is spelled, any other as it
+-- is known.
+abbrev pub canon_by : Body → Tree → Tree → Tree
+canon_by (B.foreign x) known unknown = unknown
+canon_by _ known unknown = known
+
 abbrev mutual
   -- An array as it is read back at a type: each node so, over its children, each at its own type.
-  pub canon_at : Typ → Tree → Tree
-  canon_at d (node h ts) = node (canon_head d h) (canon_all (child_types d h ts) ts)
+  pub canon_at : Spelling → Typ → Tree → Tree
+  canon_at spelled d (node h ts) =
+      canon_by h.body
+      (node (canon_head d h) (canon_all spelled (child_types d h ts) ts))
+      (node (foreign_head spelled d h.len h ts) (all_foreign spelled d h.len ts))
 
   -- Arrays as they are read back, each at a type. (As many types are given as there are arrays; where one is
   -- missing, an array keeps its own.)
-  pub canon_all : List Typ → Trees → Trees
-  canon_all ds end = end
-  canon_all ds (more t ts) = elim ds [
-    | [] ↦ more (canon_at (label t).dtype t) (canon_all [] ts)
-    | d ∷ es ↦ more (canon_at d t) (canon_all es ts)
+  pub canon_all : Spelling → List Typ → Trees → Trees
+  canon_all spelled ds end = end
+  canon_all spelled ds (more t ts) = elim ds [
+    | [] ↦ more (canon_at spelled (label t).dtype t) (canon_all spelled [] ts)
+    | d ∷ es ↦ more (canon_at spelled d t) (canon_all spelled es ts)
   ]
 
 -- An array as it is read back at its own type.
-abbrev pub canon : Tree → Tree
-canon t = canon_at (label t).dtype t
+abbrev pub canon : Spelling → Tree → Tree
+canon spelled t = canon_at spelled (label t).dtype t
 
 -- ---- statistics alone
 

@@ -1,7 +1,8 @@
 -- The encodings.
 use Rattle.std.specs.Prelude.{List, [], ◌∷◌}
 
--- An encoding is a way to lay out an array's rows in buffers and in further arrays.
+-- An encoding is a way to lay out an array's rows in buffers and in further arrays. Of a foreign node the way is
+-- not known.
 pub data Encoding : Type 0 where
   null : Encoding
   bool : Encoding
@@ -18,7 +19,8 @@ pub data Encoding : Type 0 where
   variant : Encoding
   ext : Encoding
   dict : Encoding
+  foreign : Encoding
 
--- Each of them, once.
+-- Each of those that are known, once.
 abbrev pub all : List Encoding
 all = null ∷ bool ∷ primitive ∷ decimal ∷ varbin ∷ varbinview ∷ list ∷ listview ∷ fixed_size_list ∷ map ∷ struct ∷ union ∷ variant ∷ ext ∷ dict ∷ []

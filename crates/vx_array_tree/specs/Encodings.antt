@@ -1,6 +1,6 @@
 -- The encodings, each in a file of its own that says all of it: what a node holds beside its children, its
--- identifier, its metadata, its buffers, the places of its children, what its buffers and its content are to
--- be, and its rows.
+-- identifier, its metadata, its buffers, the places of its children, which of them say where rows are, what its
+-- buffers and its content are to be, and its rows. Foreign nodes have a file beside them.
 pub mod Nulls
 pub mod Bools
 pub mod Primitives
@@ -16,3 +16,4 @@ pub mod Unions
 pub mod Variants
 pub mod Exts
 pub mod Dicts
+pub mod Foreigns

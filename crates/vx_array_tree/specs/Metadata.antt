@@ -6,8 +6,9 @@ use Rattle.vx_array_tree.specs.Encodings.Lists as Lists
 use Rattle.vx_array_tree.specs.Encodings.ListViews as ListViews
 use Rattle.vx_array_tree.specs.Encodings.Variants as Variants
 use Rattle.vx_array_tree.specs.Encodings.Dicts as Dicts
+use Rattle.vx_array_tree.specs.Encodings.Foreigns as Foreigns
 
--- Eight encodings keep nothing; each of the others has a value of its own.
+-- Eight encodings keep nothing; each of the others has a value of its own, and so has a foreign node.
 pub data Metadata : Type 0 where
   empty : Metadata
   bool : Bools.Metadata → Metadata
@@ -17,3 +18,4 @@ pub data Metadata : Type 0 where
   listview : ListViews.Metadata → Metadata
   variant : Variants.Metadata → Metadata
   dict : Dicts.Metadata → Metadata
+  foreign : Foreigns.Metadata → Metadata

@@ -1,5 +1,5 @@
 -- The table of encodings: for each of them, what its own file says. Nothing else is said of an encoding here.
-use Rattle.std.specs.Prelude.{ℕ, ◌≡◌, List, [], ◌∷◌, Option, Some, None, option_map, bytes_eq, if◌then◌else◌}
+use Rattle.std.specs.Prelude.{ℕ, ◌≡◌, List, [], ◌∷◌, Option, Some, None, option_map, bytes_eq, if◌then◌else◌, Bool, false}
 use Rattle.vx_buffer.specs.Buffer.{Buffer}
 use Rattle.vx_types.specs.Typ.{Typ}
 use Rattle.vx_array_tree.specs.Encoding.{Encoding}
@@ -25,8 +25,9 @@ use Rattle.vx_array_tree.specs.Encodings.Unions as Unions
 use Rattle.vx_array_tree.specs.Encodings.Variants as Variants
 use Rattle.vx_array_tree.specs.Encodings.Exts as Exts
 use Rattle.vx_array_tree.specs.Encodings.Dicts as Dicts
+use Rattle.vx_array_tree.specs.Encodings.Foreigns as Foreigns
 
--- An encoding's identifier.
+-- An encoding's identifier. (Foreign nodes have none in common; each has its own.)
 abbrev pub id_of : Encoding → List ℕ
 id_of E.null = Nulls.id
 id_of E.bool = Bools.id
@@ -43,6 +44,7 @@ id_of E.union = Unions.id
 id_of E.variant = Variants.id
 id_of E.ext = Exts.id
 id_of E.dict = Dicts.id
+id_of E.foreign = []
 
 -- The first of these encodings that has an identifier, if any.
 abbrev pub named_in : List ℕ → List Encoding → Option Encoding
@@ -70,6 +72,21 @@ encoding_of B.union = E.union
 encoding_of B.variant = E.variant
 encoding_of B.ext = E.ext
 encoding_of (B.dict x) = E.dict
+encoding_of (B.foreign x) = E.foreign
+
+-- A node's identifier: its encoding's, or a foreign node's own.
+abbrev pub own_id : Body → List ℕ
+own_id (B.foreign x) = x.id
+own_id b = id_of (encoding_of b)
+
+-- An encoding is known: it is not that of foreign nodes.
+abbrev pub IsNativeEncoding : Encoding → Type 0
+IsNativeEncoding E.foreign = ⊥
+IsNativeEncoding _ = Unit {0}
+
+-- A node is of an encoding that is known.
+abbrev pub IsNative : Body → Type 0
+IsNative b = IsNativeEncoding (encoding_of b)
 
 -- The metadata of a node whose children have these places.
 abbrev pub metadata_of : Body → List Place → Metadata
@@ -80,6 +97,7 @@ metadata_of B.list ps = M.list (Lists.metadata_of ps)
 metadata_of (B.listview x) ps = M.listview (ListViews.metadata_of ps)
 metadata_of B.variant ps = M.variant (Variants.metadata_of ps)
 metadata_of (B.dict x) ps = M.dict (Dicts.metadata_of x ps)
+metadata_of (B.foreign x) ps = M.foreign (Foreigns.metadata_of x)
 metadata_of _ ps = M.empty
 
 -- Whether an encoding admits this metadata. Metadata of another encoding it does not.
@@ -99,6 +117,7 @@ IsFair E.union M.empty = Unit {0}
 IsFair E.variant (M.variant v) = Variants.IsFair v
 IsFair E.ext M.empty = Unit {0}
 IsFair E.dict (M.dict v) = Dicts.IsFair v
+IsFair E.foreign (M.foreign v) = Unit {0}
 IsFair _ _ = ⊥
 
 -- The buffers that a node holds, in the order in which they are written.
@@ -108,6 +127,7 @@ buffers_of (B.primitive x) = Primitives.buffers_of x
 buffers_of (B.decimal x) = Decimals.buffers_of x
 buffers_of (B.varbin x) = VarBins.buffers_of x
 buffers_of (B.varbinview x) = VarBinViews.buffers_of x
+buffers_of (B.foreign x) = x.buffers
 buffers_of _ = []
 
 -- A node that has no buffers.
@@ -133,6 +153,7 @@ body_of E.union M.empty bs = bufferless B.union bs
 body_of E.variant (M.variant v) bs = bufferless B.variant bs
 body_of E.ext M.empty bs = bufferless B.ext bs
 body_of E.dict (M.dict v) bs = bufferless (B.dict (Dicts.body_of v)) bs
+body_of E.foreign (M.foreign v) bs = Some (B.foreign (Foreigns.body_of v bs))
 body_of _ _ bs = None
 
 -- Where the k children of a node are to stand, by its encoding, its type, its rows and its metadata: none
@@ -154,6 +175,7 @@ plan_of E.union d n M.empty k = Unions.plan d n k
 plan_of E.variant d n (M.variant v) k = Variants.plan d n v k
 plan_of E.ext d n M.empty k = Exts.plan d n k
 plan_of E.dict d n (M.dict v) k = Dicts.plan d n v k
+plan_of E.foreign d n (M.foreign v) k = Foreigns.plan d n k
 plan_of _ d n v k = None
 
 -- What is planned may stand: a validity, or codes that are null, only where rows may be null.
@@ -191,11 +213,27 @@ abbrev pub Takes : Encoding → List Encoding → Type 0
 Takes E.map es = Maps.Takes es
 Takes _ es = Unit {0}
 
+-- Whether child i of a node's k children says where rows are: a validity, codes, offsets, sizes or tags.
+abbrev pub is_control : Encoding → Typ → ℕ → ℕ → Bool
+is_control E.bool d k i = Bools.is_control i
+is_control E.primitive d k i = Primitives.is_control i
+is_control E.decimal d k i = Decimals.is_control i
+is_control E.varbin d k i = VarBins.is_control i
+is_control E.varbinview d k i = VarBinViews.is_control i
+is_control E.list d k i = Lists.is_control i
+is_control E.listview d k i = ListViews.is_control i
+is_control E.fixed_size_list d k i = FixedSizeLists.is_control i
+is_control E.struct d k i = Structs.is_control d k i
+is_control E.union d k i = Unions.is_control i
+is_control E.dict d k i = Dicts.is_control i
+is_control _ d k i = false
+
 -- The places that a plan is compared with: the children's own, but that a dictionary's values may lack
--- nullability that its codes bring.
-abbrev pub lifted : Body → List Place → List Place
-lifted (B.dict x) ps = Dicts.lifted ps
-lifted _ ps = ps
+-- nullability that its codes bring, and that a foreign node's children may stand anywhere.
+abbrev pub lifted : Typ → ℕ → Body → List Place → List Place
+lifted d n (B.dict x) ps = Dicts.lifted ps
+lifted d n (B.foreign x) ps = Foreigns.lifted d n ps
+lifted d n _ ps = ps
 
 -- What a node's content is to be, by its children's rows.
 abbrev pub Content : Typ → ℕ → Body → List Rows → Type 0
@@ -235,3 +273,4 @@ node_rows d n B.union ps rs = Unions.rows d n rs
 node_rows d n B.variant ps rs = Variants.rows n (Variants.metadata_of ps) rs
 node_rows d n B.ext ps rs = Exts.rows n rs
 node_rows d n (B.dict x) ps rs = Dicts.rows n rs
+node_rows d n (B.foreign x) ps rs = Foreigns.rows n

@@ -14,7 +14,7 @@ use Rattle.vx_array_tree.specs.Body as B
 use Rattle.vx_array_tree.specs.Encoding.{Encoding}
 use Rattle.vx_array_tree.specs.Place.{Place, place}
 use Rattle.vx_array_tree.specs.Rows.{Rows}
-use Rattle.vx_array_tree.specs.Table.{id_of, encoding_of, buffers_of, node_rows}
+use Rattle.vx_array_tree.specs.Table.{own_id, encoding_of, buffers_of, node_rows}
 
 -- What a node is beside its children: its type, how many rows it has, what is told of them, and what its
 -- encoding holds.
@@ -57,7 +57,7 @@ encodings (more t ts) = encoding_of (label t).body ∷ encodings ts
 
 -- The identifiers of a tree's nodes, in preorder.
 abbrev pub encoding_ids : Tree → List (List ℕ)
-encoding_ids t = gathered (λ h. id_of (encoding_of h.body) ∷ []) t
+encoding_ids t = gathered (λ h. own_id h.body ∷ []) t
 
 -- The buffers of a tree's nodes, in preorder.
 abbrev pub buffers : Tree → List Buffer

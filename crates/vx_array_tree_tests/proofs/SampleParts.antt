@@ -5,7 +5,7 @@ use Rattle.vx_types.specs.Kind as K
 use Rattle.vx_types.specs.declared.decimal.DecimalType.TheVariants as D
 use Rattle.vx_types.specs.declared.nullability.Nullability.TheVariants.{Nullable, NonNullable}
 use Rattle.vx_types.specs.declared.ptype.PType.TheVariants as P
-use Rattle.vx_array_tree.specs.Canon.{canon}
+use Rattle.vx_array_tree.specs.Canon.{Spelling, canon}
 use Rattle.vx_array_tree.specs.Encoding as E
 use Rattle.vx_array_tree.specs.Metadata.{Metadata}
 use Rattle.vx_array_tree.specs.Metadata as M
@@ -85,14 +85,16 @@ map_places = refl
 
 -- ---- what is read back
 
--- A list view loses its flag.
-flag_lost : canon (views true NonNullable (1 ∷ 0 ∷ []) (2 ∷ 1 ∷ []) []) ≡ views false NonNullable (1 ∷ 0 ∷ []) (2 ∷ 1 ∷ []) []
-flag_lost = refl
+-- However nodes are spelled, those of a known encoding are read back so.
+module _ (sp : Spelling) where
+  -- A list view loses its flag.
+  flag_lost : canon sp (views true NonNullable (1 ∷ 0 ∷ []) (2 ∷ 1 ∷ []) []) ≡ views false NonNullable (1 ∷ 0 ∷ []) (2 ∷ 1 ∷ []) []
+  flag_lost = refl
 
--- A dictionary's values take its type, and so their own parts do where they go by it.
-values_take : canon (lifted_values NonNullable) ≡ lifted_values Nullable
-values_take = refl
+  -- A dictionary's values take its type, and so their own parts do where they go by it.
+  values_take : canon sp (lifted_values NonNullable) ≡ lifted_values Nullable
+  values_take = refl
 
--- All else stays.
-unions_stay : canon (unions (0 ∷ 9 ∷ 5 ∷ [])) ≡ unions (0 ∷ 9 ∷ 5 ∷ [])
-unions_stay = refl
+  -- All else stays.
+  unions_stay : canon sp (unions (0 ∷ 9 ∷ 5 ∷ [])) ≡ unions (0 ∷ 9 ∷ 5 ∷ [])
+  unions_stay = refl

@@ -8,7 +8,7 @@ use Rattle.vx_types.specs.declared.ptype.PType.TheVariants as P
 use Rattle.vx_scalars.specs.Stats.{Stats, FitStats, no_stats}
 use Rattle.vx_scalars.specs.declared.precision.Precision.TheVariants.{Exact, Inexact, Absent}
 use Rattle.vx_scalars.specs.declared.stat.Stat.TheVariants.{Min, Max, Sum, IsSorted, IsStrictSorted, IsConstant, NullCount, UncompressedSizeInBytes, NaNCount}
-use Rattle.vx_array_tree.specs.Canon.{canon, KeepsStats}
+use Rattle.vx_array_tree.specs.Canon.{Spelling, canon, KeepsStats}
 use Rattle.vx_array_tree.specs.Sound.{IsSound}
 use Rattle.vx_array_tree.specs.Tree.{with_stats}
 use Rattle.vx_array_tree.proofs.Built.{stats_sound}
@@ -52,34 +52,38 @@ text_sum s = s.0.stats Sum
 
 -- ---- what is read back
 
--- A bound of least and greatest values stays, that of a flag does not.
-flag_dropped : (label (canon told_numbers)).stats ≡ record told_of_numbers { is_sorted = Absent }
-flag_dropped = refl
+-- However nodes are spelled.
+module _ (sp : Spelling) where
+  -- A bound of least and greatest values stays, that of a flag does not.
+  flag_dropped : (label (canon sp told_numbers)).stats ≡ record told_of_numbers { is_sorted = Absent }
+  flag_dropped = refl
 
--- Neither does a sum that is a bound.
-sum_dropped : (label (canon (summed (Inexact (float 0))))).stats ≡ no_stats
-sum_dropped = refl
+  -- Neither does a sum that is a bound.
+  sum_dropped : (label (canon sp (summed (Inexact (float 0))))).stats ≡ no_stats
+  sum_dropped = refl
 
--- A sum that is no number is the NaN of its width, whatever its sign and payload; any other sum stays.
-minus_nan : canon (summed (Exact (float 18444492273895866368))) ≡ summed (Exact (float 9221120237041090560))
-minus_nan = refl
+  -- A sum that is no number is the NaN of its width, whatever its sign and payload; any other sum stays.
+  minus_nan : canon sp (summed (Exact (float 18444492273895866368))) ≡ summed (Exact (float 9221120237041090560))
+  minus_nan = refl
 
-nan_with_payload : canon (summed (Exact (float 9221120240777019119))) ≡ summed (Exact (float 9221120237041090560))
-nan_with_payload = refl
+  nan_with_payload : canon sp (summed (Exact (float 9221120240777019119))) ≡ summed (Exact (float 9221120237041090560))
+  nan_with_payload = refl
 
-three : canon (summed (Exact (float 4613937818241073152))) ≡ summed (Exact (float 4613937818241073152))
-three = refl
+  three : canon sp (summed (Exact (float 4613937818241073152))) ≡ summed (Exact (float 4613937818241073152))
+  three = refl
 
-infinity : canon (summed (Exact (float 9218868437227405312))) ≡ summed (Exact (float 9218868437227405312))
-infinity = refl
+  infinity : canon sp (summed (Exact (float 9218868437227405312))) ≡ summed (Exact (float 9218868437227405312))
+  infinity = refl
 
--- So these are kept, and those of the numbers are not.
+  -- Values that take the type of their dictionary keep their statistics.
+  values_tell : canon sp (told_values NonNullable) ≡ told_values Nullable
+  values_tell = refl
+
+-- ---- what is kept
+
+-- The sum that is read back is kept, and what is told of the numbers is not.
 nan_kept : KeepsStats (summed (Exact (float 9221120237041090560)))
 nan_kept = (refl, tt)
 
 flag_not_kept : KeepsStats told_numbers → ⊥
 flag_not_kept k = let x : Absent ≡ Inexact (flag true) = (λ i. (k.0 i).is_sorted) in absurd (cc)
-
--- Values that take the type of their dictionary keep their statistics.
-values_tell : canon (told_values NonNullable) ≡ told_values Nullable
-values_tell = refl

@@ -15,6 +15,7 @@ use Rattle.vx_array_tree.specs.Rows.{Rows, IsIndex, IsThere, index_at, validity}
 use Rattle.vx_array_tree.specs.Sound.{IsSound}
 use Rattle.vx_array_tree.specs.Table.{Content}
 use Rattle.vx_array_tree.specs.Tree.{rows_of, rows_below}
+use Rattle.vx_array_tree.proofs.LawsControls.{native_controlled, leaf, one_leaf}
 use Rattle.vx_trees.specs.Rose.{label, below}
 use Rattle.vx_array_tree_tests.proofs.Samples.{bits, four, two, i32s, u16s, u8s, long_text, nulls, flags, flags_from, numbers, sixteen, decimals, texts, words, dictionary, lists, views, fixed, entry, entries, maps, empty_structs, structs, unions, days, lifted_values}
 
@@ -43,31 +44,31 @@ not_there e = let q : false ≡ true = cc in absurd (cc)
 -- ---- flags and numbers
 
 pub bits_sound : (n b : ℕ) → n ≤ 8 → IsSound (bits n b)
-bits_sound n b h = (record { fair = omega arith; planned = refl; allows = λ e. absurd (omega arith); takes = tt; holds = omega arith; content = tt; stats = none_fit _ }, tt)
+bits_sound n b h = (record { fair = omega arith; planned = refl; allows = λ e. absurd (omega arith); takes = tt; holds = omega arith; controlled = native_controlled _ _ _ tt; content = tt; stats = none_fit _ }, tt)
 
 pub flags_sound : IsSound (flags Nullable)
-flags_sound = (record { fair = omega arith; planned = refl; allows = λ e. refl; takes = tt; holds = omega arith; content = tt; stats = none_fit _ }, (bits_sound 4 5 (omega arith), tt))
+flags_sound = (record { fair = omega arith; planned = refl; allows = λ e. refl; takes = tt; holds = omega arith; controlled = native_controlled _ _ _ one_leaf; content = tt; stats = none_fit _ }, (bits_sound 4 5 (omega arith), tt))
 
 offset_flags_sound : IsSound (flags_from 2)
-offset_flags_sound = (record { fair = omega arith; planned = refl; allows = λ e. absurd (omega arith); takes = tt; holds = omega arith; content = tt; stats = none_fit _ }, tt)
+offset_flags_sound = (record { fair = omega arith; planned = refl; allows = λ e. absurd (omega arith); takes = tt; holds = omega arith; controlled = native_controlled _ _ _ tt; content = tt; stats = none_fit _ }, tt)
 
 pub i32s_sound : (m : Nullability) (ns : List ℕ) → length (four ns) ≡ 4 * length ns → IsSound (i32s m ns [])
-i32s_sound m ns h = (record { fair = tt; planned = refl; allows = λ e. absurd (omega arith); takes = tt; holds = record { length_is = h; aligned = omega arith }; content = tt; stats = none_fit _ }, tt)
+i32s_sound m ns h = (record { fair = tt; planned = refl; allows = λ e. absurd (omega arith); takes = tt; holds = record { length_is = h; aligned = omega arith }; controlled = native_controlled _ _ _ tt; content = tt; stats = none_fit _ }, tt)
 
 pub u16s_sound : (ns : List ℕ) → length (two ns) ≡ 2 * length ns → IsSound (u16s ns)
-u16s_sound ns h = (record { fair = tt; planned = refl; allows = λ e. absurd (omega arith); takes = tt; holds = record { length_is = h; aligned = omega arith }; content = tt; stats = none_fit _ }, tt)
+u16s_sound ns h = (record { fair = tt; planned = refl; allows = λ e. absurd (omega arith); takes = tt; holds = record { length_is = h; aligned = omega arith }; controlled = native_controlled _ _ _ tt; content = tt; stats = none_fit _ }, tt)
 
 pub u8s_sound : (m : Nullability) (ns : List ℕ) → length ns ≡ 1 * length ns → IsSound (u8s m ns [])
-u8s_sound m ns h = (record { fair = tt; planned = refl; allows = λ e. absurd (omega arith); takes = tt; holds = record { length_is = h; aligned = omega arith }; content = tt; stats = none_fit _ }, tt)
+u8s_sound m ns h = (record { fair = tt; planned = refl; allows = λ e. absurd (omega arith); takes = tt; holds = record { length_is = h; aligned = omega arith }; controlled = native_controlled _ _ _ tt; content = tt; stats = none_fit _ }, tt)
 
 pub numbers_sound : IsSound numbers
-numbers_sound = (record { fair = tt; planned = refl; allows = λ e. refl; takes = tt; holds = record { length_is = refl; aligned = omega arith }; content = tt; stats = none_fit _ }, (bits_sound 4 5 (omega arith), tt))
+numbers_sound = (record { fair = tt; planned = refl; allows = λ e. refl; takes = tt; holds = record { length_is = refl; aligned = omega arith }; controlled = native_controlled _ _ _ one_leaf; content = tt; stats = none_fit _ }, (bits_sound 4 5 (omega arith), tt))
 
 nulls_sound : IsSound nulls
-nulls_sound = (record { fair = tt; planned = refl; allows = tt; takes = tt; holds = tt; content = tt; stats = none_fit _ }, tt)
+nulls_sound = (record { fair = tt; planned = refl; allows = tt; takes = tt; holds = tt; controlled = native_controlled _ _ _ tt; content = tt; stats = none_fit _ }, tt)
 
 decimals_sound : IsSound (decimals D.I128 (sixteen 100 0 ++ sixteen 244 1) 4 2)
-decimals_sound = (record { fair = tt; planned = refl; allows = λ e. absurd (omega arith); takes = tt; holds = record { length_is = refl; aligned = omega arith }; content = tt; stats = none_fit _ }, tt)
+decimals_sound = (record { fair = tt; planned = refl; allows = λ e. absurd (omega arith); takes = tt; holds = record { length_is = refl; aligned = omega arith }; controlled = native_controlled _ _ _ tt; content = tt; stats = none_fit _ }, tt)
 
 -- ---- texts
 
@@ -93,6 +94,7 @@ words_sound = (
     allows = λ e. absurd (omega arith);
     takes = tt;
     holds = tt;
+    controlled = native_controlled _ _ _ one_leaf;
     content = record { offsets = words_offsets; texts = λ i l t. words_are i l };
     stats = none_fit _;
   },
@@ -113,7 +115,7 @@ texts_are (suc (suc (suc (suc zero)))) l t = (long_text, refl, refl)
 texts_are (suc (suc (suc (suc (suc i))))) l t = absurd (omega arith)
 
 texts_sound : IsSound (texts 21 97)
-texts_sound = (record { fair = tt; planned = refl; allows = λ e. refl; takes = tt; holds = record { length_is = refl; aligned = omega arith }; content = texts_are; stats = none_fit _ }, (bits_sound 5 21 (omega arith), tt))
+texts_sound = (record { fair = tt; planned = refl; allows = λ e. refl; takes = tt; holds = record { length_is = refl; aligned = omega arith }; controlled = native_controlled _ _ _ one_leaf; content = texts_are; stats = none_fit _ }, (bits_sound 5 21 (omega arith), tt))
 
 -- A wrong prefix in a row that is null is not looked at: 5 is 101, so that the last of the rows is null.
 null_prefix : texts_content 5 98
@@ -138,7 +140,7 @@ list_offsets =
 
 lists_sound : IsSound (lists (0 ∷ 2 ∷ 2 ∷ 3 ∷ []))
 lists_sound = (
-  record { fair = refl; planned = refl; allows = λ e. absurd (omega arith); takes = tt; holds = tt; content = list_offsets; stats = none_fit _ },
+  record { fair = refl; planned = refl; allows = λ e. absurd (omega arith); takes = tt; holds = tt; controlled = native_controlled _ _ _ (leaf, one_leaf); content = list_offsets; stats = none_fit _ },
   (u16s_sound (1 ∷ 2 ∷ 3 ∷ []) refl, (i32s_sound NonNullable (0 ∷ 2 ∷ 2 ∷ 3 ∷ []) refl, tt)),
 )
 
@@ -154,6 +156,7 @@ views_sound = (
     allows = λ e. absurd (omega arith);
     takes = tt;
     holds = tt;
+    controlled = native_controlled _ _ _ (leaf, (leaf, one_leaf));
     content = λ i l t. below_two (λ j. ViewAt (1 ∷ 0 ∷ []) (2 ∷ 1 ∷ []) j)
         (record { offset = λ u. refl; size = λ u. refl; within = omega arith }) (record { offset = λ u. refl; size = λ u. refl; within = omega arith }) i l;
     stats = none_fit _;
@@ -169,20 +172,20 @@ null_view (suc (suc i)) l t = absurd (omega arith)
 
 null_view_sound : IsSound (views false Nullable (1 ∷ 3 ∷ []) (2 ∷ 1 ∷ []) (bits 2 1 ∷ []))
 null_view_sound = (
-  record { fair = record { offsets = refl; sizes = refl }; planned = refl; allows = λ e. refl; takes = tt; holds = tt; content = null_view; stats = none_fit _ },
+  record { fair = record { offsets = refl; sizes = refl }; planned = refl; allows = λ e. refl; takes = tt; holds = tt; controlled = native_controlled _ _ _ (leaf, (leaf, (leaf, one_leaf))); content = null_view; stats = none_fit _ },
   (i32s_sound NonNullable (1 ∷ 2 ∷ 3 ∷ []) refl, (u8s_sound NonNullable (1 ∷ 3 ∷ []) refl, (u8s_sound NonNullable (2 ∷ 1 ∷ []) refl, (bits_sound 2 1 (omega arith), tt)))),
 )
 
 fixed_sound : IsSound (fixed 3 2 (1 ∷ 2 ∷ 3 ∷ 4 ∷ 5 ∷ 6 ∷ []))
-fixed_sound = (record { fair = tt; planned = refl; allows = λ e. absurd (omega arith); takes = tt; holds = tt; content = tt; stats = none_fit _ }, (u16s_sound (1 ∷ 2 ∷ 3 ∷ 4 ∷ 5 ∷ 6 ∷ []) refl, tt))
+fixed_sound = (record { fair = tt; planned = refl; allows = λ e. absurd (omega arith); takes = tt; holds = tt; controlled = native_controlled _ _ _ one_leaf; content = tt; stats = none_fit _ }, (u16s_sound (1 ∷ 2 ∷ 3 ∷ 4 ∷ 5 ∷ 6 ∷ []) refl, tt))
 
 -- ---- structures, maps, unions, extensions
 
 empty_structs_sound : IsSound empty_structs
-empty_structs_sound = (record { fair = tt; planned = refl; allows = λ e. absurd (omega arith); takes = tt; holds = tt; content = tt; stats = none_fit _ }, tt)
+empty_structs_sound = (record { fair = tt; planned = refl; allows = λ e. absurd (omega arith); takes = tt; holds = tt; controlled = native_controlled _ _ _ tt; content = tt; stats = none_fit _ }, tt)
 
 structs_sound : IsSound structs
-structs_sound = (record { fair = tt; planned = refl; allows = λ e. refl; takes = tt; holds = tt; content = tt; stats = none_fit _ }, (bits_sound 2 1 (omega arith), (u16s_sound (7 ∷ 8 ∷ []) refl, tt)))
+structs_sound = (record { fair = tt; planned = refl; allows = λ e. refl; takes = tt; holds = tt; controlled = native_controlled _ _ _ (leaf, one_leaf); content = tt; stats = none_fit _ }, (bits_sound 2 1 (omega arith), (u16s_sound (7 ∷ 8 ∷ []) refl, tt)))
 
 -- One offset and the next, of one text.
 one_offset : VarBins.AreOffsets (rows_of (i32s NonNullable (0 ∷ 1 ∷ []) [])) 1 1
@@ -201,12 +204,12 @@ one_text (suc i) l = absurd (omega arith)
 
 entry_sound : IsSound entry
 entry_sound = (
-  record { fair = tt; planned = refl; allows = λ e. absurd (omega arith); takes = tt; holds = tt; content = tt; stats = none_fit _ },
+  record { fair = tt; planned = refl; allows = λ e. absurd (omega arith); takes = tt; holds = tt; controlled = native_controlled _ _ _ (leaf, ((tt, one_leaf), tt)); content = tt; stats = none_fit _ },
   (
     i32s_sound NonNullable (1 ∷ []) refl,
     (
       (
-        record { fair = refl; planned = refl; allows = λ e. absurd (omega arith); takes = tt; holds = tt; content = record { offsets = one_offset; texts = λ i l t. one_text i l }; stats = none_fit _ },
+        record { fair = refl; planned = refl; allows = λ e. absurd (omega arith); takes = tt; holds = tt; controlled = native_controlled _ _ _ one_leaf; content = record { offsets = one_offset; texts = λ i l t. one_text i l }; stats = none_fit _ },
         (i32s_sound NonNullable (0 ∷ 1 ∷ []) refl, tt),
       ),
       tt,
@@ -220,15 +223,15 @@ one_view (suc i) l = absurd (omega arith)
 
 entries_sound : IsSound entries
 entries_sound = (
-  record { fair = record { offsets = refl; sizes = refl }; planned = refl; allows = λ e. absurd (omega arith); takes = tt; holds = tt; content = λ i l t. one_view i l; stats = none_fit _ },
+  record { fair = record { offsets = refl; sizes = refl }; planned = refl; allows = λ e. absurd (omega arith); takes = tt; holds = tt; controlled = native_controlled _ _ _ ((tt, (leaf, ((tt, one_leaf), tt))), (leaf, one_leaf)); content = λ i l t. one_view i l; stats = none_fit _ },
   (entry_sound, (u8s_sound NonNullable (0 ∷ []) refl, (u8s_sound NonNullable (1 ∷ []) refl, tt))),
 )
 
 maps_sound : IsSound (maps entries)
-maps_sound = (record { fair = tt; planned = refl; allows = tt; takes = tt; holds = tt; content = tt; stats = none_fit _ }, (entries_sound, tt))
+maps_sound = (record { fair = tt; planned = refl; allows = tt; takes = tt; holds = tt; controlled = native_controlled _ _ _ ((tt, ((tt, (leaf, ((tt, one_leaf), tt))), (leaf, one_leaf))), tt); content = tt; stats = none_fit _ }, (entries_sound, tt))
 
 tags_sound : IsSound (u8s Nullable (0 ∷ 9 ∷ 5 ∷ []) (bits 3 5 ∷ []))
-tags_sound = (record { fair = tt; planned = refl; allows = λ e. refl; takes = tt; holds = record { length_is = refl; aligned = omega arith }; content = tt; stats = none_fit _ }, (bits_sound 3 5 (omega arith), tt))
+tags_sound = (record { fair = tt; planned = refl; allows = λ e. refl; takes = tt; holds = record { length_is = refl; aligned = omega arith }; controlled = native_controlled _ _ _ one_leaf; content = tt; stats = none_fit _ }, (bits_sound 3 5 (omega arith), tt))
 
 members : (i : ℕ) → i < 3 → IsThere (rows_of (u8s Nullable (0 ∷ 9 ∷ 5 ∷ []) (bits 3 5 ∷ []))).valid i
     → Unions.HasMember (label (unions (0 ∷ 9 ∷ 5 ∷ []))).dtype (rows_below (below (unions (0 ∷ 9 ∷ 5 ∷ [])))) i
@@ -239,17 +242,17 @@ members (suc (suc (suc i))) l t = absurd (omega arith)
 
 unions_sound : IsSound (unions (0 ∷ 9 ∷ 5 ∷ []))
 unions_sound = (
-  record { fair = tt; planned = refl; allows = tt; takes = tt; holds = tt; content = members; stats = none_fit _ },
+  record { fair = tt; planned = refl; allows = tt; takes = tt; holds = tt; controlled = native_controlled _ _ _ ((tt, one_leaf), (leaf, ((tt, one_leaf), one_leaf))); content = members; stats = none_fit _ },
   (tags_sound, (i32s_sound NonNullable (7 ∷ 8 ∷ 9 ∷ []) refl, (words_sound, (bits_sound 3 7 (omega arith), tt)))),
 )
 
 days_sound : IsSound days
-days_sound = (record { fair = tt; planned = refl; allows = tt; takes = tt; holds = tt; content = tt; stats = none_fit _ }, (i32s_sound NonNullable (1 ∷ 2 ∷ 3 ∷ 4 ∷ []) refl, tt))
+days_sound = (record { fair = tt; planned = refl; allows = tt; takes = tt; holds = tt; controlled = native_controlled _ _ _ one_leaf; content = tt; stats = none_fit _ }, (i32s_sound NonNullable (1 ∷ 2 ∷ 3 ∷ 4 ∷ []) refl, tt))
 
 -- ---- dictionaries
 
 codes_sound : IsSound (u8s Nullable (0 ∷ 2 ∷ 9 ∷ 1 ∷ []) (bits 4 11 ∷ []))
-codes_sound = (record { fair = tt; planned = refl; allows = λ e. refl; takes = tt; holds = record { length_is = refl; aligned = omega arith }; content = tt; stats = none_fit _ }, (bits_sound 4 11 (omega arith), tt))
+codes_sound = (record { fair = tt; planned = refl; allows = λ e. refl; takes = tt; holds = record { length_is = refl; aligned = omega arith }; controlled = native_controlled _ _ _ one_leaf; content = tt; stats = none_fit _ }, (bits_sound 4 11 (omega arith), tt))
 
 abbrev code_rows : Rows
 code_rows = rows_of (u8s Nullable (0 ∷ 2 ∷ 9 ∷ 1 ∷ []) (bits 4 11 ∷ []))
@@ -262,7 +265,7 @@ codes_within (suc (suc (suc zero))) l v = record { natural = refl; within = omeg
 codes_within (suc (suc (suc (suc i)))) l v = absurd (omega arith)
 
 dictionary_sound : IsSound (dictionary 1)
-dictionary_sound = (record { fair = refl; planned = refl; allows = λ e. refl; takes = tt; holds = tt; content = codes_within; stats = none_fit _ }, (codes_sound, (words_sound, tt)))
+dictionary_sound = (record { fair = refl; planned = refl; allows = λ e. refl; takes = tt; holds = tt; controlled = native_controlled _ _ _ ((tt, one_leaf), ((tt, one_leaf), tt)); content = codes_within; stats = none_fit _ }, (codes_sound, (words_sound, tt)))
 
 lifted_codes : (i : ℕ) → i < 2 → IsThere (rows_of (u8s Nullable (0 ∷ 1 ∷ []) (bits 2 1 ∷ []))).valid i → Dicts.IsCode (rows_below (below (lifted_values NonNullable))) i
 lifted_codes zero l v = record { natural = refl; within = omega arith }
@@ -272,9 +275,9 @@ lifted_codes (suc (suc i)) l v = absurd (omega arith)
 -- Values need not be nullable where codes are.
 lifted_sound : IsSound (lifted_values NonNullable)
 lifted_sound = (
-  record { fair = refl; planned = refl; allows = λ e. refl; takes = tt; holds = tt; content = lifted_codes; stats = none_fit _ },
+  record { fair = refl; planned = refl; allows = λ e. refl; takes = tt; holds = tt; controlled = native_controlled _ _ _ ((tt, one_leaf), one_leaf); content = lifted_codes; stats = none_fit _ },
   (
-    (record { fair = tt; planned = refl; allows = λ e. refl; takes = tt; holds = record { length_is = refl; aligned = omega arith }; content = tt; stats = none_fit _ }, (bits_sound 2 1 (omega arith), tt)),
+    (record { fair = tt; planned = refl; allows = λ e. refl; takes = tt; holds = record { length_is = refl; aligned = omega arith }; controlled = native_controlled _ _ _ one_leaf; content = tt; stats = none_fit _ }, (bits_sound 2 1 (omega arith), tt)),
     (u16s_sound (3 ∷ 4 ∷ []) refl, tt),
   ),
 )

@@ -6,6 +6,7 @@ use Rattle.std.proofs.lemmas.List.{get_or-replicate, length-replicate}
 use Rattle.vx_buffer.specs.Buffer.{Buffer}
 use Rattle.vx_types.specs.declared.nullability.Nullability.TheVariants.{NonNullable}
 use Rattle.vx_scalars.proofs.LawsStats.{none_fit}
+use Rattle.vx_array_tree.specs.Encoding as E
 use Rattle.vx_array_tree.specs.Encodings.Bools.{bit_at}
 use Rattle.vx_array_tree.specs.Rows.{flag_in}
 use Rattle.vx_array_tree.specs.Sound.{IsSound}
@@ -13,8 +14,9 @@ use Rattle.vx_array_tree.specs.Tree.{Tree, row_at}
 use Rattle.vx_arrays.specs.Bools.{bool_tree}
 use Rattle.vx_arrays.specs.Refused.{IsOkOrMemory}
 use Rattle.vx_arrays.specs.Validity.{all_invalid}
+use Rattle.vx_arrays.proofs.Controlled.{bare_controlled}
 use Rattle.vx_arrays.specs.declared.error.ArrayError.{ArrayError}
-use Rattle.vx_arrays.specs.declared.error.ArrayError.TheVariants.{OutOfMemory, BadShape, BadContent, ValueTooLarge}
+use Rattle.vx_arrays.specs.declared.error.ArrayError.TheVariants.{OutOfMemory, BadShape, BadContent, ForeignControl, ValueTooLarge}
 
 no_bit : (k i : ℕ) → i / 8 < k → bit_at (replicate k 0) i ≡ false
 no_bit k i h = rw (get_or-replicate {A = ℕ} k (i / 8) 0 0 h, zero-div (2 ^ (i % 8))) refl
@@ -34,6 +36,7 @@ all_invalid_sound n = (
     allows = λ e. absurd (omega (arith, e));
     takes = tt;
     holds = let l : length (replicate {A = ℕ} ((n + 7) / 8) 0) ≡ (n + 7) / 8 = length-replicate {A = ℕ} ((n + 7) / 8) 0 in omega arith;
+    controlled = bare_controlled E.bool _ tt;
     content = tt;
     stats = none_fit _;
   },
@@ -62,6 +65,7 @@ only_memory (Ok t) h = tt
 only_memory (Err OutOfMemory) h = refl
 only_memory (Err BadShape) h = absurd h
 only_memory (Err BadContent) h = absurd h
+only_memory (Err ForeignControl) h = absurd h
 only_memory (Err ValueTooLarge) h = absurd h
 
 pub wants_memory : (b : Buffer) (n : ℕ) (r : Result Tree ArrayError) → b.bytes ≡ replicate ((n + 7) / 8) 0 → b.exponent ≡ 0 → (IsSound (bool_tree b 0 n NonNullable None) → IsOkOrMemory r) → IsOkUnless r OutOfMemory

@@ -14,6 +14,7 @@ use Rattle.vx_array_tree.specs.Encodings.Decimals as Decimals
 use Rattle.vx_array_tree.specs.Encodings.VarBins as VarBins
 use Rattle.vx_array_tree.specs.Encodings.VarBinViews as VarBinViews
 use Rattle.vx_array_tree.specs.Encodings.ListViews as ListViews
+use Rattle.vx_array_tree.specs.Encodings.Foreigns as Foreigns
 use Rattle.vx_array_tree.specs.Tree.{Tree, Trees, Head, untold}
 use Rattle.vx_arrays.specs.Plain.{plain_body}
 use Rattle.vx_arrays.specs.declared.body.Body.{Body as DeclaredBody}
@@ -121,7 +122,27 @@ module _ (x y : ListViews.Data) where
   unfolding list_views_in
   same-list_views e = ap (λ b. (list_views_in b).zero_copy) e
 
-pub ruleset bodies = (bools-same, same-bools_bytes, same-bools_offset, primitives-same, same-primitives, decimals-same, same-decimals_bytes, same-decimals_type, varbins-same, same-varbins, views-same, same-views_bytes, same-views_buffers, list_views-same, same-list_views)
+module _ (x y : Foreigns.Data) where
+  pub foreigns-same : x.id ≡ y.id → x.metadata ≡ y.metadata → map bare x.buffers ≡ map bare y.buffers → compared_body (B.foreign x) ≡ compared_body (B.foreign y)
+  foreigns-same p q r = λ i. B.foreign (record { id = p i; metadata = q i; buffers = r i })
+
+  foreign_in : Body → Foreigns.Data
+  foreign_in (B.foreign z) = z
+  foreign_in _ = x
+
+  pub same-foreigns_id : compared_body (B.foreign x) ≡ compared_body (B.foreign y) → x.id ≡ y.id
+  unfolding foreign_in
+  same-foreigns_id e = ap (λ b. (foreign_in b).id) e
+
+  pub same-foreigns_metadata : compared_body (B.foreign x) ≡ compared_body (B.foreign y) → x.metadata ≡ y.metadata
+  unfolding foreign_in
+  same-foreigns_metadata e = ap (λ b. (foreign_in b).metadata) e
+
+  pub same-foreigns_buffers : compared_body (B.foreign x) ≡ compared_body (B.foreign y) → map bare x.buffers ≡ map bare y.buffers
+  unfolding foreign_in
+  same-foreigns_buffers e = ap (λ b. (foreign_in b).buffers) e
+
+pub ruleset bodies = (bools-same, same-bools_bytes, same-bools_offset, primitives-same, same-primitives, decimals-same, same-decimals_bytes, same-decimals_type, varbins-same, same-varbins, views-same, same-views_bytes, same-views_buffers, list_views-same, same-list_views, foreigns-same, same-foreigns_id, same-foreigns_metadata, same-foreigns_buffers)
 
 -- ---- lists, element by element
 

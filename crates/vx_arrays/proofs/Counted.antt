@@ -12,7 +12,7 @@ use Rattle.vx_arrays.specs.Plain.{plain_value}
 use Rattle.vx_arrays.specs.Refused.{IsValueRefused}
 use Rattle.vx_arrays.specs.declared.error.ArrayError.{ArrayError}
 use Rattle.vx_arrays.specs.declared.row.RowValue.{RowValue}
-use Rattle.vx_arrays.specs.declared.error.ArrayError.TheVariants.{OutOfMemory, BadShape, BadContent, ValueTooLarge}
+use Rattle.vx_arrays.specs.declared.error.ArrayError.TheVariants.{OutOfMemory, BadShape, BadContent, ForeignControl, ValueTooLarge}
 
 -- ---- refusals
 
@@ -21,6 +21,7 @@ pub refused_more : (e : ArrayError) (few many budget : ℕ) → few ≤ many →
 refused_more OutOfMemory few many budget h r = tt
 refused_more BadShape few many budget h r = absurd r
 refused_more BadContent few many budget h r = absurd r
+refused_more ForeignControl few many budget h r = absurd r
 refused_more ValueTooLarge few many budget h r = omega (arith, h, r)
 
 -- What is refused where some cells were spent is refused with them.
@@ -28,6 +29,7 @@ pub refused_after : (e : ArrayError) (spent cells left budget total : ℕ) → b
 refused_after OutOfMemory spent cells left budget total q h r = tt
 refused_after BadShape spent cells left budget total q h r = absurd r
 refused_after BadContent spent cells left budget total q h r = absurd r
+refused_after ForeignControl spent cells left budget total q h r = absurd r
 refused_after ValueTooLarge spent cells left budget total q h r = omega (arith, q, h, r)
 
 -- What is said of a row, or of a number of cells, is said of the same one.

@@ -12,7 +12,7 @@ use Rattle.vx_trees.specs.Walks.{gathered_below}
 use Rattle.vx_trees.proofs.Gathering.{gathered-is, gathered_below-take}
 use Rattle.vx_array_tree.specs.Body.{Body}
 use Rattle.vx_array_tree.specs.Body as B
-use Rattle.vx_array_tree.specs.Table.{id_of, encoding_of, buffers_of}
+use Rattle.vx_array_tree.specs.Table.{own_id, buffers_of}
 use Rattle.vx_array_tree.specs.Tree.{Tree, Trees, Head}
 use Rattle.vx_arrays.specs.Compared.{bare, compared_body, compared_head, compared, each_compared, fed_buffer, fed_head, fed_array}
 
@@ -42,8 +42,9 @@ bare_buffers B.union = refl
 bare_buffers B.variant = refl
 bare_buffers B.ext = refl
 bare_buffers (B.dict x) = refl
+bare_buffers (B.foreign x) = refl
 
-same_id : (b : Body) → id_of (encoding_of (compared_body b)) ≡ id_of (encoding_of b)
+same_id : (b : Body) → own_id (compared_body b) ≡ own_id b
 same_id (B.bool x) = refl
 same_id (B.primitive x) = refl
 same_id (B.decimal x) = refl
@@ -59,12 +60,13 @@ same_id B.union = refl
 same_id B.variant = refl
 same_id B.ext = refl
 same_id (B.dict x) = refl
+same_id (B.foreign x) = refl
 
 fed_same : (h : Head) → fed_head (compared_head h) ≡ fed_head h
 fed_same h =
     let bs = buffers_of (compared_body h.body) in
     ap (λ id. fed.str id ++ (fed.usize h.len ++ fed.slice fed_buffer bs)) (same_id h.body)
-    ∙ ap (λ w. fed.str (id_of (encoding_of h.body)) ++ (fed.usize h.len ++ w)) (ap (fed.slice fed_buffer) (bare_buffers h.body) ∙ fed_bare (buffers_of h.body))
+    ∙ ap (λ w. fed.str (own_id h.body) ++ (fed.usize h.len ++ w)) (ap (fed.slice fed_buffer) (bare_buffers h.body) ∙ fed_bare (buffers_of h.body))
 
 mutual
   -- What is fed of an array is fed of what is compared of it.

@@ -6,6 +6,7 @@ use Rattle.vx_trees.specs.Rose.{node, label}
 use Rattle.vx_scalars.specs.Stats.{Stats}
 use Rattle.vx_array_tree.specs.Body.{Body}
 use Rattle.vx_array_tree.specs.Body as B
+use Rattle.vx_array_tree.specs.Encodings.Foreigns as Foreigns
 use Rattle.vx_array_tree.specs.Encodings.VarBinViews as VarBinViews
 use Rattle.vx_array_tree.specs.Metadata as M
 use Rattle.vx_array_tree.specs.Encoding as E
@@ -60,6 +61,7 @@ body_has B.union c [] e = ap (λ z. buffers_of z) (sym (same_Some B.union c e))
 body_has B.variant c [] e = ap (λ z. buffers_of z) (sym (same_Some B.variant c e))
 body_has B.ext c [] e = ap (λ z. buffers_of z) (sym (same_Some B.ext c e))
 body_has (B.dict x) c [] e = ap (λ z. buffers_of z) (sym (same_Some (B.dict x) c e))
+body_has (B.foreign x) c bs e = ap (λ z. buffers_of z) (sym (same_Some (B.foreign (Foreigns.body_of (Foreigns.metadata_of x) bs)) c e))
 body_has _ c (d ∷ bs) e = absurd (cc)
 
 pub has_buffers : (t u : Tree) (bs : List Buffer) → with_buffers t bs ≡ Some u → buffers_of (label u).body ≡ bs
@@ -85,6 +87,7 @@ own_body B.union = refl
 own_body B.variant = refl
 own_body B.ext = refl
 own_body (B.dict x) = refl
+own_body (B.foreign x) = refl
 
 pub own_buffers : (t : Tree) → with_buffers t (buffers_of (label t).body) ≡ Some t
 own_buffers (node h ts) = ap (λ (o : Option Body). option_map (λ (b : Body). node (let g : Head = record { dtype = h.dtype; len = h.len; stats = h.stats; body = b } in g) ts) o) (own_body h.body)
@@ -134,6 +137,7 @@ rebuffered_bare B.ext [] = refl
 rebuffered_bare B.ext (d ∷ bs) = refl
 rebuffered_bare (B.dict x) [] = refl
 rebuffered_bare (B.dict x) (d ∷ bs) = refl
+rebuffered_bare (B.foreign x) bs = refl
 
 -- With buffers that have the bytes of its own an array is equal to what it was.
 pub same_bytes : (t u : Tree) (bs : List Buffer) → with_buffers t bs ≡ Some u → map bare bs ≡ map bare (buffers_of (label t).body) → IsSame u t

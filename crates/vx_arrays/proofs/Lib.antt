@@ -27,3 +27,5 @@ mod Behind
 mod ListViewed
 mod Entries
 mod Mapped
+mod Controlled
+mod Bracketed

@@ -10,13 +10,10 @@ use Rattle.vx_types.specs.Words.{entries, nullability}
 use Rattle.vx_types.specs.declared.nullability.Nullability.{Nullability}
 use Rattle.vx_scalars.specs.Stats.{Stats}
 use Rattle.vx_array_tree.specs.Body as B
-use Rattle.vx_array_tree.specs.Encoding.{Encoding}
-use Rattle.vx_array_tree.specs.Encoding as E
 use Rattle.vx_array_tree.specs.Encodings.Maps.{plan, Takes}
 use Rattle.vx_array_tree.specs.Place.{Place, place}
 use Rattle.vx_array_tree.specs.Refused.{IsWellShaped}
 use Rattle.vx_array_tree.specs.Sound.{IsSoundNode}
-use Rattle.vx_array_tree.specs.Table.{encoding_of}
 use Rattle.vx_array_tree.specs.Tree.{Tree, Trees, cells, encodings, places, row_at, untold, valid_at}
 use Rattle.vx_arrays.specs.Maps.{AreEntries, map_tree}
 
@@ -27,14 +24,6 @@ some_is x y e = cc
 
 first_is : (p q : Place) (ps qs : List Place) → p ∷ ps ≡ q ∷ qs → p ≡ q
 first_is p q ps qs e = cc
-
--- The one encoding that entries may be of.
-only_view : (e : Encoding) (es : List Encoding) → Takes (e ∷ es) → e ≡ E.listview
-only_view E.listview es t = refl
-only_view _ es t = absurd t
-
-takes_view : (e : Encoding) (es : List Encoding) → e ≡ E.listview → Takes (e ∷ es)
-takes_view e es q = rw q tt
 
 -- A node's only child, which is the entries of its maps.
 pub record IsMapped (d : Typ) (n : ℕ) (ts : Trees) : Type 0 where
@@ -49,7 +38,7 @@ mapped (node (map b m) (more x (more y end))) n (more t end) h v =
     record {
       lists = t;
       alone = refl;
-      entries = record { typed = ap (λ (q : Place). Some q.dtype) p; counted = sym (ap (λ (q : Place). q.len) p); viewed = only_view (encoding_of (label t).body) [] v };
+      entries = record { typed = ap (λ (q : Place). Some q.dtype) p; counted = sym (ap (λ (q : Place). q.len) p); viewed = v };
     }
 mapped (node (map b m) (more x (more y end))) n (more t (more u us)) h v = absurd (cc)
 mapped _ n ts h v = absurd (cc)
@@ -65,7 +54,7 @@ pub shaped_mapped : (d : Typ) (n : ℕ) (ts : Trees) → IsWellShaped (untold d 
 shaped_mapped d n ts s = mapped d n ts s.planned s.takes
 
 pub entries_shaped : (d : Typ) (n : ℕ) (t : Tree) → AreEntries d n t → IsWellShaped (untold d n B.map) (more t end)
-entries_shaped d n t s = record { fair = tt; planned = planned d n t s; allows = tt; takes = takes_view (encoding_of (label t).body) [] s.viewed; holds = tt }
+entries_shaped d n t s = record { fair = tt; planned = planned d n t s; allows = tt; takes = s.viewed; holds = tt }
 
 pub sound_mapped : (d : Typ) (n : ℕ) (ts : Trees) → IsSoundNode (untold d n B.map) ts → IsMapped d n ts
 sound_mapped d n ts s = mapped d n ts s.planned s.takes

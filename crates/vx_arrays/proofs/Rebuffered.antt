@@ -19,9 +19,10 @@ use Rattle.vx_array_tree.specs.Encodings.Primitives as Primitives
 use Rattle.vx_array_tree.specs.Encodings.Decimals as Decimals
 use Rattle.vx_array_tree.specs.Encodings.VarBins as VarBins
 use Rattle.vx_array_tree.specs.Encodings.VarBinViews as VarBinViews
+use Rattle.vx_array_tree.specs.Encodings.Foreigns as Foreigns
 use Rattle.vx_array_tree.specs.Place.{before_validity}
-use Rattle.vx_array_tree.specs.Refused.{IsWellShaped, IsMisshaped, HasBrokenContent}
-use Rattle.vx_array_tree.specs.Sound.{IsSound, IsSoundNode}
+use Rattle.vx_array_tree.specs.Refused.{IsWellShaped, IsMisshaped, HasForeignControl, HasBrokenContent}
+use Rattle.vx_array_tree.specs.Sound.{IsControlled, IsSound, IsSoundNode}
 use Rattle.vx_array_tree.specs.Table.{bufferless}
 use Rattle.vx_array_tree.specs.Tree.{Tree, Trees, Head, option_trees, places, untold, with_stats}
 use Rattle.vx_arrays.specs.Bools.{bool_tree}
@@ -34,7 +35,7 @@ use Rattle.vx_arrays.specs.VarBins.{varbin_tree}
 use Rattle.vx_arrays.specs.VarBinViews.{varbinview_tree}
 use Rattle.vx_arrays.proofs.Parted.{first_and_behind, sound_counted}
 use Rattle.vx_arrays.specs.declared.error.ArrayError.{ArrayError}
-use Rattle.vx_arrays.specs.declared.error.ArrayError.TheVariants.{OutOfMemory, BadShape, BadContent, ValueTooLarge}
+use Rattle.vx_arrays.specs.declared.error.ArrayError.TheVariants.{OutOfMemory, BadShape, BadContent, ForeignControl, ValueTooLarge}
 
 -- The only child of a node whose only child may be a validity.
 pub only_child : (n : ℕ) (ts : List Tree) (t u : Tree) → before_validity [] n (count (roses_of ts)) ≡ Some (places (roses_of ts)) → 1 ≤ length ts → u ≡ get_or ts 0 u → t ≡ u → more t end ≡ roses_of ts
@@ -56,6 +57,7 @@ module _ (t u : Tree) (bs : List Buffer) (made : with_buffers t bs ≡ Some u) (
   refused OutOfMemory h = tt
   refused BadShape h = subst (λ (o : Option Tree). IfSome o (λ v. IsMisshaped (label v) (below v))) (sym made) h
   refused BadContent h = subst (λ (o : Option Tree). IsSomeAnd o (λ v. HasBrokenContent (label v) (below v))) (sym made) h
+  refused ForeignControl h = subst (λ (o : Option Tree). IsSomeAnd o (λ v. HasForeignControl (label v) (below v))) (sym made) h
   refused ValueTooLarge h = h
 
   pub answer_err : IfErr r (λ e. IsUnmade e u) → IfErr r (λ e. RefusesBuffers e t bs)
@@ -156,6 +158,13 @@ module _ (h : Head) (ts : Trees) (bs : List Buffer) (e : rebuffered h.body bs �
   pub bare_made : bs ≡ [] → with_buffers (node h ts) bs ≡ Some (node h ts)
   bare_made q = remade ∙ ap (λ (cs : List Buffer). option_map (λ (b : Body). node (record { dtype = h.dtype; len = h.len; stats = h.stats; body = b }) ts) (bufferless h.body cs)) q
 
+-- ---- foreign nodes
+
+-- A foreign node takes any buffers in the place of its own.
+pub foreigns_made : (d : Typ) (n : ℕ) (x y : Foreigns.Data) (ts : Trees) (bs : List Buffer) → y ≡ Foreigns.body_of (Foreigns.metadata_of x) bs
+    → with_buffers (node (untold d n (B.foreign x)) ts) bs ≡ Some (node (untold d n (B.foreign y)) ts)
+foreigns_made d n x y ts bs q = λ i. Some (node (untold d n (B.foreign (sym q i))) ts)
+
 -- A want of memory is among the refusals, and is no other.
 pub memory_refused : (r : Result Tree ArrayError) (t : Tree) (bs : List Buffer) → IsOkUnless r OutOfMemory → IfErr r (λ x. RefusesBuffers x t bs)
 memory_refused (Ok a) t bs h = tt
@@ -173,6 +182,9 @@ told_head h x b = record { dtype = h.dtype; len = h.len; stats = x; body = b }
 other_stats : (h : Head) (x y : Stats) (b : Body) (ts : Trees) → IsWellShaped (told_head h x b) ts → IsWellShaped (told_head h y b) ts
 other_stats h x y b ts s = record { fair = s.fair; planned = s.planned; allows = s.allows; takes = s.takes; holds = s.holds }
 
+other_control : (h : Head) (x y : Stats) (b : Body) (ts : Trees) → IsControlled (told_head h x b) ts → IsControlled (told_head h y b) ts
+other_control h x y b ts k = record { controls = k.controls; entries = k.entries }
+
 -- Whether buffers are refused does not depend on statistics.
 pub told_refused : (e : ArrayError) (x : Stats) (t : Tree) (bs : List Buffer) → RefusesBuffers e (with_stats x t) bs → RefusesBuffers e t bs
 told_refused OutOfMemory x t bs r = tt
@@ -187,5 +199,11 @@ told_refused BadContent x (node h ts) bs r = broken (rebuffered h.body bs) r
     broken : (o : Option Body) → IsSomeAnd (option_map (λ (b : Body). node (told_head h x b) ts) o) (λ u. HasBrokenContent (label u) (below u))
         → IsSomeAnd (option_map (λ (b : Body). node (told_head h h.stats b) ts) o) (λ u. HasBrokenContent (label u) (below u))
     broken None r = r
-    broken (Some b) r = record { shaped = other_stats h x h.stats b ts r.shaped; broken = r.broken }
+    broken (Some b) r = record { shaped = other_stats h x h.stats b ts r.shaped; controlled = other_control h x h.stats b ts r.controlled; broken = r.broken }
+told_refused ForeignControl x (node h ts) bs r = foreign (rebuffered h.body bs) r
+  where
+    foreign : (o : Option Body) → IsSomeAnd (option_map (λ (b : Body). node (told_head h x b) ts) o) (λ u. HasForeignControl (label u) (below u))
+        → IsSomeAnd (option_map (λ (b : Body). node (told_head h h.stats b) ts) o) (λ u. HasForeignControl (label u) (below u))
+    foreign None r = r
+    foreign (Some b) r = record { shaped = other_stats h x h.stats b ts r.shaped; foreign = λ k. r.foreign (other_control h h.stats x b ts k) }
 told_refused ValueTooLarge x t bs r = r

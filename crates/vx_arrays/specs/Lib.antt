@@ -14,6 +14,7 @@ pub mod ListViews
 pub mod Maps
 pub mod Structs
 pub mod Unions
+pub mod Foreigns
 pub mod Places
 pub mod Validity
 pub mod Slots

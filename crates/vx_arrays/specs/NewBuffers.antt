@@ -1,5 +1,5 @@
 -- An array with other buffers at its root.
-use Rattle.std.specs.Prelude.{List, Option, option_map, IfSome, IsSomeAnd}
+use Rattle.std.specs.Prelude.{List, Option, Some, option_map, IfSome, IsSomeAnd}
 use Rattle.vx_buffer.specs.Buffer.{Buffer}
 use Rattle.vx_trees.specs.Rose.{node, label, below}
 use Rattle.vx_array_tree.specs.Body.{Body}
@@ -9,11 +9,12 @@ use Rattle.vx_array_tree.specs.Encodings.Primitives as Primitives
 use Rattle.vx_array_tree.specs.Encodings.Decimals as Decimals
 use Rattle.vx_array_tree.specs.Encodings.VarBins as VarBins
 use Rattle.vx_array_tree.specs.Encodings.VarBinViews as VarBinViews
-use Rattle.vx_array_tree.specs.Refused.{IsMisshaped, HasBrokenContent}
+use Rattle.vx_array_tree.specs.Encodings.Foreigns as Foreigns
+use Rattle.vx_array_tree.specs.Refused.{IsMisshaped, HasForeignControl, HasBrokenContent}
 use Rattle.vx_array_tree.specs.Table.{bufferless}
 use Rattle.vx_array_tree.specs.Tree.{Tree}
 use Rattle.vx_arrays.specs.declared.error.ArrayError.{ArrayError}
-use Rattle.vx_arrays.specs.declared.error.ArrayError.TheVariants.{OutOfMemory, BadShape, BadContent, ValueTooLarge}
+use Rattle.vx_arrays.specs.declared.error.ArrayError.TheVariants.{OutOfMemory, BadShape, BadContent, ForeignControl, ValueTooLarge}
 
 -- What a node holds with these buffers in the place of its own, and all else as it was: none, where its encoding has
 -- another number of buffers.
@@ -23,6 +24,7 @@ rebuffered (B.primitive x) bs = option_map B.primitive (Primitives.body_of bs)
 rebuffered (B.decimal x) bs = option_map B.decimal (Decimals.body_of (Decimals.metadata_of x) bs)
 rebuffered (B.varbin x) bs = option_map B.varbin (VarBins.body_of bs)
 rebuffered (B.varbinview x) bs = option_map B.varbinview (VarBinViews.body_of bs)
+rebuffered (B.foreign x) bs = Some (B.foreign (Foreigns.body_of (Foreigns.metadata_of x) bs))
 rebuffered b bs = bufferless b bs
 
 -- An array with these buffers at its root in the place of its own: of the same type, length, statistics and children.
@@ -35,4 +37,5 @@ abbrev pub RefusesBuffers : ArrayError → Tree → List Buffer → Type 0
 RefusesBuffers OutOfMemory t bs = Unit {0}
 RefusesBuffers BadShape t bs = IfSome (with_buffers t bs) (λ u. IsMisshaped (label u) (below u))
 RefusesBuffers BadContent t bs = IsSomeAnd (with_buffers t bs) (λ u. HasBrokenContent (label u) (below u))
+RefusesBuffers ForeignControl t bs = IsSomeAnd (with_buffers t bs) (λ u. HasForeignControl (label u) (below u))
 RefusesBuffers ValueTooLarge t bs = ⊥

@@ -9,7 +9,7 @@ use Rattle.vx_array_tree.specs.Tree.{Head}
 use Rattle.vx_scalars.specs.Decimals.{decimal_of}
 use Rattle.vx_scalars.specs.Stats.{Stats}
 use Rattle.vx_arrays.specs.declared.body.Body.{Body}
-use Rattle.vx_arrays.specs.declared.body.Body.TheVariants.{Null, Primitive, Bool, Decimal, VarBin, VarBinView, FixedSizeList, Struct, Ext, List as ListOf, Union, Dict, ListView, Map}
+use Rattle.vx_arrays.specs.declared.body.Body.TheVariants.{Null, Primitive, Bool, Decimal, VarBin, VarBinView, FixedSizeList, Struct, Ext, List as ListOf, Union, Dict, ListView, Map, Foreign}
 use Rattle.vx_arrays.specs.declared.row.RowValue.{RowValue}
 use Rattle.vx_arrays.specs.declared.row.RowValue.TheVariants as R
 
@@ -29,6 +29,7 @@ plain_body Union = B.union
 plain_body (Dict x) = B.dict x
 plain_body (ListView x) = B.listview x
 plain_body Map = B.map
+plain_body (Foreign x) = B.foreign x
 
 -- A node without its children, by its type, its rows, what is told of them, and what its encoding holds.
 abbrev pub head_of : Typ → ℕ → Stats → Body → Head

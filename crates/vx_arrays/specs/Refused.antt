@@ -1,32 +1,28 @@
 -- When a call on arrays is refused.
-use Rattle.std.specs.Prelude.{ℕ, ◌≡◌, ◌<◌, Bool, true, false, Result, Ok, Err}
+use Rattle.std.specs.Prelude.{ℕ, ◌<◌, Result, Ok, Err}
 use Rattle.vx_trees.specs.Rose.{label, below}
-use Rattle.vx_array_tree.specs.Refused.{IsMisshaped, HasBrokenContent}
+use Rattle.vx_array_tree.specs.Refused.{IsMisshaped, HasForeignControl, HasBrokenContent}
 use Rattle.vx_array_tree.specs.Rows.{Rows}
 use Rattle.vx_array_tree.specs.Tree.{Tree}
 use Rattle.vx_arrays.specs.declared.error.ArrayError.{ArrayError}
-use Rattle.vx_arrays.specs.declared.error.ArrayError.TheVariants.{OutOfMemory, BadShape, BadContent, ValueTooLarge}
+use Rattle.vx_arrays.specs.declared.error.ArrayError.TheVariants.{OutOfMemory, BadShape, BadContent, ForeignControl, ValueTooLarge}
 
 -- A constructor refuses the tree of its parts for want of memory, where its root is of another shape than its
--- encoding asks for, or where its root is of that shape and its content is broken.
+-- encoding asks for, where its root is of that shape and a foreign node stands where it says where rows are, or where
+-- neither is so and its content is broken.
 abbrev pub IsUnmade : ArrayError → Tree → Type 0
 IsUnmade OutOfMemory t = Unit {0}
 IsUnmade BadShape t = IsMisshaped (label t) (below t)
 IsUnmade BadContent t = HasBrokenContent (label t) (below t)
+IsUnmade ForeignControl t = HasForeignControl (label t) (below t)
 IsUnmade ValueTooLarge t = ⊥
-
--- Parts are refused for their shape where this is wrong, and for their content where that alone is.
-abbrev pub IsJudged : ArrayError → Bool → Bool → Type 0
-IsJudged OutOfMemory shaped right = ⊥
-IsJudged BadShape shaped right = shaped ≡ false
-IsJudged BadContent shaped right = (shaped ≡ true) × (right ≡ false)
-IsJudged ValueTooLarge shaped right = ⊥
 
 -- A value of so many cells is refused for want of memory, or where they are more than there are to spend.
 abbrev pub IsValueRefused : ArrayError → ℕ → ℕ → Type 0
 IsValueRefused OutOfMemory cells budget = Unit {0}
 IsValueRefused BadShape cells budget = ⊥
 IsValueRefused BadContent cells budget = ⊥
+IsValueRefused ForeignControl cells budget = ⊥
 IsValueRefused ValueTooLarge cells budget = budget < cells
 
 -- A row is refused as its value is.
@@ -38,6 +34,7 @@ abbrev pub IsMemory : ArrayError → Type 0
 IsMemory OutOfMemory = Unit {0}
 IsMemory BadShape = ⊥
 IsMemory BadContent = ⊥
+IsMemory ForeignControl = ⊥
 IsMemory ValueTooLarge = ⊥
 
 -- The answer is Ok, or want of memory.

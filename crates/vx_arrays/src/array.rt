@@ -1,6 +1,6 @@
 //! Arrays, each a tree of nodes, and what they tell of themselves.
 
-ghost use Rattle.std.specs.Prelude.{◌≡◌, ◌<◌, ◌≤◌, ◌==◌, ◌+◌, length, IfOk, IfErr, OnOk, OnErr, IsOk, IsOkUnless, Some, slice_get};
+ghost use Rattle.std.specs.Prelude.{◌≡◌, ◌<◌, ◌≤◌, ◌==◌, ◌+◌, length, IfOk, IfErr, OnOk, OnErr, IsOk, IsOkUnless, IsTrue, IsFalse, Some, slice_get};
 ghost use Rattle.vx_trees.specs.Everywhere.{EverywhereBelow};
 ghost use Rattle.vx_trees.specs.Rose.{label, below, node, end, roses_of};
 ghost use Rattle.vx_types.specs.Kind.{boolean};
@@ -10,8 +10,9 @@ ghost use Rattle.vx_scalars.specs.Stats.{FitStats, no_stats};
 ghost use Rattle.vx_types.specs.declared.nullability.Nullability.TheVariants.{NonNullable};
 ghost use Rattle.vx_array_tree.specs.Refused.{IsWellShaped};
 ghost use Rattle.vx_array_tree.specs.Rows.{flag_in};
-ghost use Rattle.vx_array_tree.specs.Sound.{IsSound, IsSoundNode};
-ghost use Rattle.vx_array_tree.specs.Table.{id_of, encoding_of, buffers_of, Content};
+ghost use Rattle.vx_array_tree.specs.Sound.{IsControlled, IsSound, IsSoundNode};
+ghost use Rattle.vx_array_tree.specs.Encoding as E;
+ghost use Rattle.vx_array_tree.specs.Table.{encoding_of, own_id, buffers_of, Content, IsNative};
 ghost use Rattle.vx_array_tree.specs.Tree.{Tree, rows_of, rows_below, row_at, valid_at, cells, untold, with_stats};
 ghost use Rattle.vx_trees.specs.Walks.{nodes};
 ghost use Rattle.vx_arrays.specs.NewBuffers.{RefusesBuffers, with_buffers};
@@ -77,6 +78,7 @@ impl Array {
     #[tactic(auto, using(crate::proofs::Untold::untold_sound))]
     pub(crate) fn from_parts(dtype: DType, len: usize, body: Body, children: Vec<Array>) -> Array
         requires shaped { IsWellShaped (untold (typ dtype) len (plain_body body)) (roses_of children.items) }
+        requires controlled { IsControlled (untold (typ dtype) len (plain_body body)) (roses_of children.items) }
         requires content { Content (typ dtype) len (plain_body body) (rows_below (roses_of children.items)) }
         requires below { EverywhereBelow IsSoundNode (roses_of children.items) }
         ensures array { result ≡ node (untold (typ dtype) len (plain_body body)) (roses_of children.items) }
@@ -169,11 +171,19 @@ impl Array {
         &self.body
     }
 
-    /// The identifier of the root's encoding.
+    /// The identifier of the root's encoding; of a foreign node its own.
     pub fn encoding_id(&self) -> &str
-        ensures { result.now ≡ id_of (encoding_of (label self.now).body) }
+        ensures { result.now ≡ own_id (label self.now).body }
     {
         self.body.encoding_id()
+    }
+
+    /// Whether the root is foreign: nothing is known of its encoding.
+    pub fn is_foreign(&self) -> bool
+        ensures foreign { IsTrue result → encoding_of (label self.now).body ≡ E.foreign }
+        ensures native { IsFalse result → IsNative (label self.now).body }
+    {
+        matches!(self.body(), Body::Foreign(_))
     }
 
     /// The arrays below the root, in the order in which they are written.
@@ -258,6 +268,7 @@ impl Array {
                     None => codes.is_valid(index),
                 }
             }
+            Body::Foreign(_) => None,
         }
     }
 
@@ -285,7 +296,7 @@ impl Array {
                     None => None,
                 }
             }
-            Body::ListView(_) | Body::Map | Body::Union => None,
+            Body::ListView(_) | Body::Map | Body::Union | Body::Foreign(_) => None,
         }
     }
 
@@ -305,7 +316,7 @@ impl Array {
             Body::VarBin(_) => None,
             Body::VarBinView(_) => None,
             Body::FixedSizeList | Body::Struct | Body::List => None,
-            Body::ListView(_) | Body::Union => None,
+            Body::ListView(_) | Body::Union | Body::Foreign(_) => None,
             Body::Map => {
                 let entries = entries_in(&self.dtype, self.len, children);
                 entries.natural_at(index)
@@ -357,6 +368,7 @@ impl Array {
                 let array = storage_in(dtype, len, children);
                 RowParts::At { array, index }
             }
+            Body::Foreign(_) => RowParts::Lone(LoneRow::Opaque),
         }
     }
 
@@ -427,6 +439,7 @@ impl Array {
                 without_buffers(alloc, dtype, len, body, children, buffers)
             }
             Body::Map => without_buffers(alloc, dtype, len, Body::Map, children, buffers),
+            Body::Foreign(foreign) => foreign.with_buffers(alloc, dtype, len, children, buffers),
         }
     }
 

@@ -1,7 +1,7 @@
 //! What a node's encoding holds beside its type, its rows and its children: a line for each encoding.
 
 ghost use Rattle.std.specs.Prelude.{◌≡◌, ◌<◌, ◌↔◌, length, slice_get, Some, IfOk, IsOkUnless, IsTrue};
-ghost use Rattle.vx_array_tree.specs.Table.{id_of, encoding_of, buffers_of};
+ghost use Rattle.vx_array_tree.specs.Table.{own_id, buffers_of, IsNative};
 ghost use Rattle.vx_arrays.specs.Compared.{compared_body};
 
 use crate::bool::{BoolArray, BoolData};
@@ -10,6 +10,7 @@ use crate::dict::{DictArray, DictData};
 use crate::error::ArrayError;
 use crate::extension::ExtensionArray;
 use crate::fixed_size_list::FixedSizeListArray;
+use crate::foreign::ForeignData;
 use crate::list_view::{ListViewArray, ListViewData};
 use crate::lists::ListArray;
 use crate::map::MapArray;
@@ -53,14 +54,16 @@ pub enum Body {
     ListView(ListViewData),
     /// Nothing: maps, by their entries.
     Map,
+    /// All that is known of a node of an identifier that nothing reads.
+    Foreign(ForeignData),
 }
 
 impl Body {
     ghost use Rattle.vx_arrays.specs.Plain.{plain_body};
 
-    /// The identifier of the encoding.
-    pub fn encoding_id(&self) -> &'static str
-        ensures { result.now ≡ id_of (encoding_of (plain_body self.now)) }
+    /// The identifier of the encoding; of a foreign node its own.
+    pub fn encoding_id(&self) -> &str
+        ensures { result.now ≡ own_id (plain_body self.now) }
     {
         match self {
             Body::Null => NullArray::ID,
@@ -77,6 +80,7 @@ impl Body {
             Body::Dict(_) => DictArray::ID,
             Body::ListView(_) => ListViewArray::ID,
             Body::Map => MapArray::ID,
+            Body::Foreign(foreign) => foreign.id().as_str(),
         }
     }
 
@@ -93,6 +97,7 @@ impl Body {
             Body::VarBinView(views) => views.nbuffers(),
             Body::FixedSizeList | Body::Struct | Body::Ext | Body::List => 0,
             Body::ListView(_) | Body::Map | Body::Union | Body::Dict(_) => 0,
+            Body::Foreign(foreign) => foreign.buffers().len(),
         }
     }
 
@@ -111,6 +116,7 @@ impl Body {
             Body::Decimal(decimals) => decimals.values(),
             Body::VarBin(parts) => parts.bytes(),
             Body::VarBinView(views) => views.buffer(index),
+            Body::Foreign(foreign) => &foreign.buffers()[index],
         }
     }
 
@@ -133,6 +139,7 @@ impl Body {
             (Body::Dict(x), Body::Dict(y)) => x.array_eq(y),
             (Body::ListView(x), Body::ListView(y)) => x.array_eq(y),
             (Body::Map, Body::Map) => true,
+            (Body::Foreign(x), Body::Foreign(y)) => x.array_eq(y),
             _ => false,
         }
     }
@@ -157,6 +164,17 @@ impl Body {
             Body::Dict(flag) => Ok(Body::Dict(flag.clone())),
             Body::ListView(views) => Ok(Body::ListView(views.again())),
             Body::Map => Ok(Body::Map),
+            Body::Foreign(foreign) => Ok(Body::Foreign(foreign.clone(alloc)?)),
+        }
+    }
+
+    // Whether the encoding is known.
+    pub(crate) fn is_native(&self) -> bool
+        ensures { IsTrue result ↔ IsNative (plain_body self.now) }
+    {
+        match self {
+            Body::Foreign(_) => false,
+            _ => true,
         }
     }
 }

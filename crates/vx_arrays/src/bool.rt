@@ -161,7 +161,8 @@ impl BoolArray {
 
     /// The array of `len` flags that the buffer holds from this bit on.
     ///
-    /// `BadShape` where such an array is not sound.
+    /// `ForeignControl` where such an array would be sound but for a foreign node in the validity, and `BadShape` where it
+    /// is not sound otherwise.
     pub fn try_new(
         alloc: Global,
         bits: BufferHandle,

@@ -1,30 +1,45 @@
 //! Arrays over their children: the one place where a node that has children is made, once it is known of what shape and
-//! content they are.
+//! content they are, and that no foreign node stands where it says where rows are.
 
 ghost use Rattle.std.specs.Prelude.{◌≡◌, ◌↔◌, IfOk, IfErr, OnOk, IsTrue};
 ghost use Rattle.vx_trees.specs.Everywhere.{EverywhereBelow};
 ghost use Rattle.vx_trees.specs.Rose.{node, roses_of};
 ghost use Rattle.vx_types.specs.Seen.{typ};
 ghost use Rattle.vx_array_tree.specs.Refused.{IsWellShaped};
-ghost use Rattle.vx_array_tree.specs.Sound.{IsSound, IsSoundNode};
+ghost use Rattle.vx_array_tree.specs.Sound.{IsControlled, IsSound, IsSoundNode};
 ghost use Rattle.vx_array_tree.specs.Table.{Content};
 ghost use Rattle.vx_array_tree.specs.Tree.{rows_below, untold};
 ghost use Rattle.vx_arrays.specs.Plain.{plain_body};
-ghost use Rattle.vx_arrays.specs.Refused.{IsJudged, IsUnmade, IsOkOrMemory};
+ghost use Rattle.vx_arrays.specs.Refused.{IsUnmade, IsOkOrMemory};
 
 use crate::array::Array;
 use crate::body::Body;
+use crate::control::is_controlled;
 use crate::error::ArrayError;
 use vx_types::DType;
 
 // Why parts are refused that are of the shape of their encoding where `shaped` says so, and then of right content where
 // `right` does.
-fn judge(shaped: bool, right: bool) -> Result<(), ArrayError>
-    ensures ok { OnOk result (IsTrue shaped × IsTrue right) }
-    ensures err { IfErr result (λ e. IsJudged e shaped right) }
+fn judge(
+    dtype: &DType,
+    len: usize,
+    body: &Body,
+    children: &[Array],
+    shaped: bool,
+    right: bool,
+) -> Result<(), ArrayError>
+    requires shaped { IsTrue shaped ↔ IsWellShaped (untold (typ dtype.now) len (plain_body body.now)) (roses_of children.now) }
+    requires content { IsTrue shaped → IsTrue right ↔ Content (typ dtype.now) len (plain_body body.now) (rows_below (roses_of children.now)) }
+    ensures shaped { OnOk result (IsTrue shaped) }
+    ensures controlled { OnOk result (IsControlled (untold (typ dtype.now) len (plain_body body.now)) (roses_of children.now)) }
+    ensures right { OnOk result (IsTrue right) }
+    ensures err { IfErr result (λ e. IsUnmade e (node (untold (typ dtype.now) len (plain_body body.now)) (roses_of children.now))) }
 {
     if !shaped {
         return Err(ArrayError::BadShape);
+    }
+    if !is_controlled(dtype, len, body, children) {
+        return Err(ArrayError::ForeignControl);
     }
     if !right {
         return Err(ArrayError::BadContent);
@@ -50,7 +65,7 @@ pub(crate) fn over_children(
     ensures err { IfErr result (λ e. IsUnmade e (node (untold (typ dtype) len (plain_body body)) (roses_of children.items))) }
     ensures complete { IsSound (node (untold (typ dtype) len (plain_body body)) (roses_of children.items)) → IsOkOrMemory result }
 {
-    match judge(shaped, right) {
+    match judge(&dtype, len, &body, children.as_slice(), shaped, right) {
         Ok(()) => Ok(Array::from_parts(dtype, len, body, children)),
         Err(error) => Err(error),
     }

@@ -152,7 +152,8 @@ impl DecimalArray {
     /// that the digits want, and no integer is held against them. Where some rows are null, `validity` holds for each
     /// row whether it is there.
     ///
-    /// `BadShape` where such an array is not sound.
+    /// `ForeignControl` where such an array would be sound but for a foreign node in the validity, and `BadShape` where it
+    /// is not sound otherwise.
     pub fn try_new(
         alloc: Global,
         buffer: BufferHandle,

@@ -130,8 +130,8 @@ impl DictArray {
     /// The array whose rows are those of the values that codes name: a row is null where its code is, or the value that
     /// this names. Whether some code names each of the values is kept as it is told.
     ///
-    /// `BadShape` where the codes are no integers. `BadContent` where a code that is not null is below 0, or at or past
-    /// the values.
+    /// `BadShape` where the codes are no integers. `ForeignControl` where they hold a foreign node. `BadContent` where a
+    /// code that is not null is below 0, or at or past the values.
     pub fn try_new(
         alloc: Global,
         codes: Array,

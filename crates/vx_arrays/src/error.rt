@@ -19,6 +19,10 @@ pub enum ArrayError {
     /// A value in a buffer or a child names nothing that is there, or bytes are no text where one is to be.
     #[error("the content is broken")]
     BadContent,
+    /// A foreign node stands where it says where rows are: within a validity, codes, offsets, sizes or tags, or as the
+    /// entries of maps.
+    #[error("a foreign node stands where it says where rows are")]
+    ForeignControl,
     /// A row takes more cells than there are to spend.
     #[error("the row takes too many cells")]
     ValueTooLarge,

@@ -81,7 +81,8 @@ impl FixedSizeListArray {
     /// The array of `len` lists of `size` elements each: there are as many elements as all lists have together, also for
     /// those that are null. Where some rows are null, `validity` holds for each row whether it is there.
     ///
-    /// `BadShape` where such an array is not sound.
+    /// `ForeignControl` where such an array would be sound but for a foreign node in the validity, and `BadShape` where it
+    /// is not sound otherwise.
     pub fn try_new(
         alloc: Global,
         elements: Array,

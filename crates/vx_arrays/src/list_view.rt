@@ -139,8 +139,9 @@ impl ListViewArray {
     /// after the other is kept as it is told.
     ///
     /// `BadShape` where the offsets or the sizes are no integers that are never null, where there are not as many of
-    /// both, or where the validity may not stand. `BadContent` where in a row that is there the offset or the size is
-    /// below 0, or the elements end past the last.
+    /// both, or where the validity may not stand. `ForeignControl` where the offsets, the sizes or the validity hold a
+    /// foreign node. `BadContent` where in a row that is there the offset or the size is below 0, or the elements end past
+    /// the last.
     pub fn try_new(
         alloc: Global,
         elements: Array,

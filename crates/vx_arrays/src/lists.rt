@@ -89,7 +89,8 @@ impl ListArray {
     /// Where some rows are null, `validity` holds for each row whether it is there.
     ///
     /// `BadShape` where there are no offsets or they are no integers that are never null, or where the validity may not
-    /// stand. `BadContent` where an offset is below 0, below the one before or past the elements.
+    /// stand. `ForeignControl` where the offsets or the validity hold a foreign node. `BadContent` where an offset is below
+    /// 0, below the one before or past the elements.
     pub fn try_new(
         alloc: Global,
         elements: Array,

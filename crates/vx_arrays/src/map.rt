@@ -5,7 +5,7 @@ ghost use Rattle.vx_trees.specs.Rose.{end, label, more, node, roses_of};
 ghost use Rattle.vx_types.specs.Seen.{typ, typs};
 ghost use Rattle.vx_types.specs.Words.{entries, key_name, value_name};
 ghost use Rattle.vx_array_tree.specs.Body as B;
-ghost use Rattle.vx_array_tree.specs.Encoding as E;
+ghost use Rattle.vx_array_tree.specs.Encodings.Maps.{Takes};
 ghost use Rattle.vx_array_tree.specs.Refused.{IsWellShaped};
 ghost use Rattle.vx_array_tree.specs.Sound.{IsSound, IsSoundNode};
 ghost use Rattle.vx_array_tree.specs.Table.{encoding_of};
@@ -31,8 +31,8 @@ impl MapArray {
 
     /// The array of maps whose rows are lists of entries, which are null where the maps are.
     ///
-    /// `BadShape` where the entries are no list view, or no lists of the structures of a key and a value that the type of
-    /// the maps asks for.
+    /// `BadShape` where the entries are of an encoding that is known and no list view, or no lists of the structures of a
+    /// key and a value that the type of the maps asks for. `ForeignControl` where they are foreign.
     pub fn try_new(alloc: Global, map: MapDType, entries: Array) -> Result<Array, ArrayError>
         ensures ok { IfOk result (λ a. a ≡ map_tree map entries) }
         ensures sound { IfOk result IsSound }
@@ -48,7 +48,8 @@ impl MapArray {
 
     /// The array of a node of this type and length over these children.
     ///
-    /// `BadShape` where they are not one list view of so many rows of entries.
+    /// `BadShape` where they are not one array of so many rows of entries, in lists by views. `ForeignControl` where that
+    /// is foreign.
     pub fn of_children(dtype: DType, len: usize, children: Arrays) -> Result<Array, ArrayError>
         ensures ok { IfOk result (λ a. a ≡ node (untold (typ dtype) len B.map) children) }
         ensures sound { IfOk result IsSound }
@@ -86,20 +87,21 @@ fn is_shaped(dtype: &DType, len: usize, children: &[Array]) -> bool
     }
 }
 
-// Whether an array is the entries of so many maps of a type: of the type of their lists, and a list view.
+// Whether an array is the entries of so many maps of a type: of the type of their lists, and a list view as far as its
+// encoding is known.
 fn are_entries(dtype: &DType, len: usize, entries: &Array) -> bool
     ensures { IsTrue result ↔ AreEntries (typ dtype.now) len entries.now }
 {
     let typed = entries.len() == len && are_lists_of_entries(dtype, entries.dtype());
-    typed && is_list_view(entries.body())
+    typed && may_hold_entries(entries.body())
 }
 
-// Whether what a node holds is that of a list view.
-fn is_list_view(body: &Body) -> bool
-    ensures { IsTrue result ↔ (encoding_of (plain_body body.now) ≡ E.listview) }
+// Whether what a node holds is that of a list view, or of a foreign node.
+fn may_hold_entries(body: &Body) -> bool
+    ensures { IsTrue result ↔ Takes (encoding_of (plain_body body.now) ∷ []) }
 {
     match body {
-        Body::ListView(_) => true,
+        Body::ListView(_) | Body::Foreign(_) => true,
         _ => false,
     }
 }

@@ -26,7 +26,7 @@ impl Array {
     /// children and statistics.
     ///
     /// `BadShape` where the encoding has another number of buffers, or where these do not hold the rows; `BadContent`
-    /// where their content is broken.
+    /// where their content is broken. A foreign node takes any.
     pub fn with_buffers(&self, alloc: Global, buffers: BufferHandles) -> Result<Array, ArrayError>
         ensures ok { IfOk result (λ a. with_buffers self.now buffers ≡ Some a) }
         ensures sound { IfOk result IsSound }
@@ -97,7 +97,7 @@ pub(crate) fn without_buffers(
 }
 
 // The array of a node once more, without statistics.
-fn once_more(
+pub(crate) fn once_more(
     alloc: Global,
     dtype: &DType,
     len: usize,

@@ -169,7 +169,8 @@ impl PrimitiveArray {
     /// The array of `len` numbers that the buffer holds, each with its lowest byte first, aligned to their
     /// width. Where some rows are null, `validity` holds for each row whether it is there.
     ///
-    /// `BadShape` where such an array is not sound.
+    /// `ForeignControl` where such an array would be sound but for a foreign node in the validity, and `BadShape` where it
+    /// is not sound otherwise.
     pub fn try_new(
         alloc: Global,
         buffer: BufferHandle,

@@ -9,8 +9,8 @@ use std::hash::{Hash, Hasher};
 
 impl Array {
     /// Whether the arrays are equal: of the same encoding, type and length, with the same bytes in their buffers, equal
-    /// children, and the same of what an encoding keeps beside these, as a bit offset or the width of decimals. Neither
-    /// statistics nor the alignments of buffers are compared.
+    /// children, and the same of what an encoding keeps beside these, as a bit offset, the width of decimals or a foreign
+    /// node's metadata. Neither statistics nor the alignments of buffers are compared.
     #[tactic(auto, using(vx_trees::proofs::Roses::roses))]
     pub fn array_eq(&self, other: &Array) -> bool
         ensures { IsTrue result ↔ IsSame self.now other.now }

@@ -1,10 +1,10 @@
 //! The names of a node's slots and of its buffers.
 
-ghost use Rattle.std.specs.Prelude.{◌≡◌, ◌<◌, length, slice_get, Some, ◌∷◌, [], IfOk, IfSome, IfNone, IsOkUnless};
-ghost use Rattle.vx_trees.specs.Rose.{label};
+ghost use Rattle.std.specs.Prelude.{◌≡◌, ◌<◌, ◌++◌, codes, decimal, length, slice_get, Some, ◌∷◌, [], IfOk, IfSome, IfNone, IsOkUnless};
+ghost use Rattle.vx_trees.specs.Rose.{below, count, label};
 ghost use Rattle.vx_types.specs.Seen.{typ};
 ghost use Rattle.vx_arrays.specs.Plain.{plain_body};
-ghost use Rattle.vx_arrays.specs.Slots.{slot_names, buffer_names, member_names};
+ghost use Rattle.vx_arrays.specs.Slots.{native_slots, slot_names, buffer_names, member_names};
 
 use crate::array::Array;
 use crate::body::Body;
@@ -15,20 +15,23 @@ use vx_types::{DType, Name, Names};
 
 impl Array {
     /// How many slots the root has: one for each child that a node of its encoding and type may have, also where the
-    /// child is absent.
+    /// child is absent. A foreign node has one for each child.
     pub fn nslots(&self) -> usize
-        ensures { result ≡ length (slot_names (label self.now).dtype (label self.now).body) }
+        ensures { result ≡ length (slot_names (label self.now).dtype (label self.now).body (count (below self.now))) }
     {
-        slots_of(self.dtype(), self.body())
+        slots_of(self.dtype(), self.body(), self.children().len())
     }
 
     /// The name of the root's slot of this number: that of the child which stands there, or may.
     pub fn slot_name(&self, alloc: Global, index: usize) -> Result<Name, ArrayError>
-        requires { index < length (slot_names (label self.now).dtype (label self.now).body) }
-        ensures ok { IfOk result (λ name. slice_get (slot_names (label self.now).dtype (label self.now).body) index ≡ Some name) }
+        requires { index < length (slot_names (label self.now).dtype (label self.now).body (count (below self.now))) }
+        ensures ok { IfOk result (λ name. slice_get (slot_names (label self.now).dtype (label self.now).body (count (below self.now))) index ≡ Some name) }
         ensures err { IsOkUnless result ArrayError.OutOfMemory }
     {
-        owned_text(alloc, slot_of(self.dtype(), self.body(), index))
+        match self.body() {
+            Body::Foreign(_) => numbered(alloc, "child", index),
+            _ => owned_text(alloc, slot_of(self.dtype(), self.body(), index)),
+        }
     }
 
     /// The name of the root's buffer of this number: `None` exactly past the last.
@@ -43,15 +46,32 @@ impl Array {
             Body::Primitive(_) | Body::Decimal(_) => only_name(alloc, "values", index),
             Body::VarBin(_) => only_name(alloc, "bytes", index),
             Body::VarBinView(views) => views.buffer_name(alloc, index),
+            Body::Foreign(foreign) => {
+                if index < foreign.buffers().len() {
+                    Ok(Some(numbered(alloc, "buffer", index)?))
+                } else {
+                    Ok(None)
+                }
+            }
         }
     }
 }
 
-// How many slots a node of this type has.
-fn slots_of(dtype: &DType, body: &Body) -> usize
-    ensures { result ≡ length (slot_names (typ dtype.now) (plain_body body.now)) }
+// A word with a number in brackets.
+fn numbered(alloc: Global, word: &str, index: usize) -> Result<Name, ArrayError>
+    ensures ok { IfOk result (λ name. name ≡ word.now ++ (codes "[" ++ (decimal index ++ codes "]"))) }
+    ensures err { IsOkUnless result ArrayError.OutOfMemory }
+{
+    let text = format!(in alloc; "{word}[{index}]")?;
+    owned_text(alloc, text.as_str())
+}
+
+// How many slots a node of this type has that has so many children.
+fn slots_of(dtype: &DType, body: &Body, count: usize) -> usize
+    ensures { result ≡ length (slot_names (typ dtype.now) (plain_body body.now) count) }
 {
     match body {
+        Body::Foreign(_) => count,
         Body::Null => 0,
         Body::Bool(_) | Body::Primitive(_) | Body::Decimal(_) | Body::VarBinView(_) => 1,
         Body::Ext => 1,
@@ -79,13 +99,13 @@ fn members_of(dtype: &DType) -> Option<&Names>
     }
 }
 
-// The name of the slot of a node of this type.
+// The name of the slot of a node of this type, where its encoding is known.
 fn slot_of<'a>(dtype: &'a DType, body: &Body, index: usize) -> &'a str
-    requires { index < length (slot_names (typ dtype.now) (plain_body body.now)) }
-    ensures { slice_get (slot_names (typ dtype.now) (plain_body body.now)) index ≡ Some result.now }
+    requires { index < length (native_slots (typ dtype.now) (plain_body body.now)) }
+    ensures { slice_get (native_slots (typ dtype.now) (plain_body body.now)) index ≡ Some result.now }
 {
     match body {
-        Body::Null => unreachable!(),
+        Body::Null | Body::Foreign(_) => unreachable!(),
         Body::Bool(_) | Body::Primitive(_) | Body::Decimal(_) | Body::VarBinView(_) => "validity",
         Body::Ext => "storage",
         Body::List => match index {

@@ -83,7 +83,8 @@ impl StructArray {
     /// The array of `len` structures of these fields, whose columns have as many rows each: of every column a row is the
     /// field of a structure. Where some rows are null, `validity` holds for each row whether it is there.
     ///
-    /// `BadShape` where such an array is not sound.
+    /// `ForeignControl` where such an array would be sound but for a foreign node in the validity, and `BadShape` where it
+    /// is not sound otherwise.
     pub fn try_new(
         fields: StructFields,
         nullability: Nullability,
@@ -122,7 +123,7 @@ fn over_columns(
 }
 
 // How many fields a type of structures has.
-fn width_of(dtype: &DType) -> usize
+pub(crate) fn width_of(dtype: &DType) -> usize
     requires { IsOfFields (typ dtype.now) }
     ensures { result ≡ width_of (typ dtype.now) }
 {

@@ -66,7 +66,7 @@ impl UnionArray {
     /// is that of the member which its tag names. It is null where its tag is.
     ///
     /// `BadShape` where the tags are no numbers of 8 bits without a sign, or where the arrays are not those of the members.
-    /// `BadContent` where a tag that is not null is none of a member.
+    /// `ForeignControl` where the tags hold a foreign node. `BadContent` where a tag that is not null is none of a member.
     pub fn try_new(
         variants: UnionVariants,
         type_ids: Array,

@@ -165,8 +165,9 @@ impl VarBinArray {
     /// there is one row less than offsets. Where some rows are null, `validity` holds for each row whether it is there.
     ///
     /// `BadShape` where the type is another one, where there are no offsets or they are no integers that are never null,
-    /// or where the validity may not stand. `BadContent` where an offset is below 0, below the one before or past the
-    /// bytes, or where a row of a type of texts is there and no text.
+    /// or where the validity may not stand. `ForeignControl` where the offsets or the validity hold a foreign node.
+    /// `BadContent` where an offset is below 0, below the one before or past the bytes, or where a row of a type of texts
+    /// is there and no text.
     pub fn try_new(
         alloc: Global,
         dtype: DType,

@@ -240,7 +240,7 @@ impl VarBinViewData {
 
 // Whether the buffers are as many and have the same bytes.
 #[tactic(auto, using(crate::proofs::Comparing::alike))]
-fn are_same(buffers: &[BufferHandle], others: &[BufferHandle]) -> bool
+pub(crate) fn are_same(buffers: &[BufferHandle], others: &[BufferHandle]) -> bool
     ensures { IsTrue result ↔ (map bare buffers.now ≡ map bare others.now) }
 {
     if buffers.len() != others.len() {
@@ -280,8 +280,9 @@ impl VarBinViewArray {
     /// row whether it is there.
     ///
     /// `BadShape` where the type is another one, where the views are not so many or not aligned to 16 bytes, or where the
-    /// validity may not stand. `BadContent` where the view of a row that is there names a buffer or bytes that are not
-    /// there, where the bytes do not begin as it says, or where a row of a type of texts is there and no text.
+    /// validity may not stand. `ForeignControl` where the validity holds a foreign node. `BadContent` where the view of a
+    /// row that is there names a buffer or bytes that are not there, where the bytes do not begin as it says, or where a
+    /// row of a type of texts is there and no text.
     pub fn try_new(
         alloc: Global,
         dtype: DType,

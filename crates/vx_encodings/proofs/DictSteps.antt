@@ -8,9 +8,6 @@ use Rattle.vx_types.specs.Known.{ExtMeaning}
 use Rattle.vx_types.specs.Numbers.{is_integer}
 use Rattle.vx_types.specs.Seen.{typ}
 use Rattle.vx_types.specs.Typ.{Typ}
-use Rattle.vx_types.specs.Words.{nullability}
-use Rattle.vx_types.specs.declared.nullability.Nullability.{Nullability}
-use Rattle.vx_types.specs.declared.nullability.Nullability.TheVariants.{Nullable}
 use Rattle.vx_types.specs.declared.ptype.PType.{PType}
 use Rattle.vx_proto.specs.Reads.{Reads}
 use Rattle.vx_array_tree.specs.Body.{Body}
@@ -21,9 +18,8 @@ use Rattle.vx_array_tree.specs.Encodings.Dicts.{Allows, lifted, plan}
 use Rattle.vx_array_tree.specs.Metadata.{Metadata}
 use Rattle.vx_array_tree.specs.Metadata as M
 use Rattle.vx_array_tree.specs.Place.{Place, place, exactly}
-use Rattle.vx_array_tree.specs.Refused.{IsWellShaped, HasBrokenContent}
 use Rattle.vx_array_tree.specs.Table.{IsShaped, body_of, plan_of}
-use Rattle.vx_array_tree.specs.Tree.{Tree, Trees, places, untold}
+use Rattle.vx_array_tree.specs.Tree.{Tree, Trees, places}
 use Rattle.vx_array_tree.proofs.Plans.{exactly_is}
 use Rattle.vx_array_tree.proofs.Retyped.{own_places}
 use Rattle.vx_arrays.specs.Dicts.{dict_head}
@@ -146,7 +142,7 @@ level d n v b us p a =
     let e = exactly_is (place (node (primitive v.codes_ptype v.nullable_codes) end) n ∷ place d v.values_len ∷ []) (count us) (places us) p in
     let x : Dicts.Data = record { all_values_referenced = b } in
     let ps : List Place = place (node (primitive v.codes_ptype v.nullable_codes) end) n ∷ place d v.values_len ∷ [] in
-    let own : lifted ps ≡ ps = own_places (B.dict x) d ps (count us) refl a in
+    let own : lifted ps ≡ ps = own_places (B.dict x) d n ps (count us) tt refl a in
     subst (λ (qs : List Place). lifted qs ≡ qs) (sym e) own
 
 -- Parts that the constructor refuses do not fit the row of a planned node.
@@ -162,6 +158,9 @@ dicts_refused x A.BadShape h bs us f b planned r e q refused =
       metadata = dict_metadata x (typ h.dtype) h.metadata f r k.integer;
       wrong = inl (λ s. unfit E.dict (typ h.dtype) h.len (M.dict v) bs body us (bodied v b bs e q) k.integer k.planned (level (typ h.dtype) h.len v b us k.planned s.allows) tt refused s);
     }
+dicts_refused x A.ForeignControl h bs us f b planned r e q refused =
+    let k = dict_plan planned.0 h us f r planned.1 in
+    record { value = M.dict (kept_of (typ h.dtype) f); metadata = dict_metadata x (typ h.dtype) h.metadata f r k.integer; foreign = refused.foreign }
 dicts_refused x A.BadContent h bs us f b planned r e q refused =
     let k = dict_plan planned.0 h us f r planned.1 in
     let v = kept_of (typ h.dtype) f in
@@ -171,6 +170,7 @@ dicts_refused x A.BadContent h bs us f b planned r e q refused =
       value = M.dict v;
       metadata = dict_metadata x (typ h.dtype) h.metadata f r k.integer;
       shaped = record { body = B.dict (record { all_values_referenced = b }); body_is = bodied v b bs e q; holds = tt; allows = allows };
+      controlled = refused.controlled;
       wrong = refused.broken;
     }
 dicts_refused x A.ValueTooLarge h bs us f b planned r e q refused = absurd refused

@@ -5,7 +5,6 @@ use Rattle.vx_types.specs.Known.{ExtMeaning}
 use Rattle.vx_types.specs.Numbers.{code_of, is_integer}
 use Rattle.vx_types.specs.Typ.{Typ}
 use Rattle.vx_types.specs.declared.ptype.PType.{PType}
-use Rattle.vx_proto.specs.declared.schema.ScalarKind.TheVariants.{Uint64, Enum}
 use Rattle.vx_proto.specs.Form.{HasForm}
 use Rattle.vx_proto.specs.Reads.{Reads}
 use Rattle.vx_proto.specs.Written.{written, varint_bytes}

@@ -1,11 +1,12 @@
 -- That a root's metadata fits its message, by what the root holds.
-use Rattle.std.proofs.Common.{ℕ, ◌≡◌, ◌<◌, ◌≤◌, ◌-◌, ◌^◌, Bool as Truth, sym, ap, ◌∙◌, subst}
+use Rattle.std.proofs.Common.{◌≡◌, ◌<◌, ◌≤◌, ◌-◌, ◌^◌, Bool as Truth, sym, ap, ◌∙◌, subst}
 use Rattle.std.specs.Prelude.{IsTrue, IsFalse}
 use Rattle.vx_trees.specs.Rose.{label, below}
 use Rattle.vx_array_tree.specs.Body as B
 use Rattle.vx_array_tree.specs.Encodings.Bools as Bools
 use Rattle.vx_array_tree.specs.Encodings.Decimals as Decimals
 use Rattle.vx_array_tree.specs.Encodings.Dicts as Dicts
+use Rattle.vx_array_tree.specs.Encodings.Foreigns as Foreigns
 use Rattle.vx_array_tree.specs.Encodings.ListViews as ListViews
 use Rattle.vx_array_tree.specs.Encodings.Primitives as Primitives
 use Rattle.vx_array_tree.specs.Encodings.VarBins as VarBins
@@ -17,7 +18,7 @@ use Rattle.vx_wire_tree.specs.Fields.{FitsMessage}
 use Rattle.vx_wire_tree.specs.Limits.{HasMessage}
 use Rattle.vx_arrays.specs.Plain.{plain_body}
 use Rattle.vx_arrays.specs.declared.body.Body.{Body}
-use Rattle.vx_arrays.specs.declared.body.Body.TheVariants.{Null, Bool, Primitive, Decimal, VarBin, VarBinView, FixedSizeList, Struct, Ext, List as ListOf, ListView, Map, Union, Dict}
+use Rattle.vx_arrays.specs.declared.body.Body.TheVariants.{Null, Bool, Primitive, Decimal, VarBin, VarBinView, FixedSizeList, Struct, Ext, List as ListOf, ListView, Map, Union, Dict, Foreign}
 
 -- The metadata of a root that holds this fits its message.
 abbrev pub KeepsFit : Tree → B.Body → Type 0
@@ -61,6 +62,9 @@ unions_fit t b e p = root t b Union e p tt
 pub maps_fit : (t : Tree) (b : Body) → b ≡ Map → plain_body b ≡ (label t).body → HasMessage (label t) (below t)
 maps_fit t b e p = root t b Map e p tt
 
+pub foreign_fits : (t : Tree) (b : Body) (x : Foreigns.Data) → b ≡ Foreign x → plain_body b ≡ (label t).body → HasMessage (label t) (below t)
+foreign_fits t b x e p = root t b (Foreign x) e p tt
+
 -- Of these the test of a count says it: of how many elements there are, or values.
 pub elements_fit : (t : Tree) (b : Body) (us : Trees) (r : Truth) → b ≡ ListOf → plain_body b ≡ (label t).body → us ≡ below t → (IsTrue r → (first_place (places us)).len < 2 ^ 64) → IsTrue r → HasMessage (label t) (below t)
 elements_fit t b us r e p u h x = root t b (ListOf) e p (subst (λ (ts : Trees). (first_place (places ts)).len < 2 ^ 64) u (h x))
@@ -90,4 +94,4 @@ values_over t b y us r e p u h x m =
     h x (subst (λ (ts : Trees). (second_place (places ts)).len ≤ 2 ^ 32 - 1) (sym u) (subst P (sym q) m))
 
 -- What the test of a root's metadata rests on.
-pub ruleset fit = (nulls_fit, flags_fit, numbers_fit, decimals_fit, kinds_fit, views_fit, lists_fit, structures_fit, extensions_fit, unions_fit, maps_fit, elements_fit, elements_over, viewed_fit, viewed_over, values_fit, values_over)
+pub ruleset fit = (nulls_fit, flags_fit, numbers_fit, decimals_fit, kinds_fit, views_fit, lists_fit, structures_fit, extensions_fit, unions_fit, maps_fit, foreign_fits, elements_fit, elements_over, viewed_fit, viewed_over, values_fit, values_over)

@@ -5,6 +5,7 @@ use Rattle.vx_array_tree.specs.Body as B
 use Rattle.vx_array_tree.specs.Encodings.Bools as Bools
 use Rattle.vx_array_tree.specs.Encodings.Decimals as Decimals
 use Rattle.vx_array_tree.specs.Encodings.Dicts as Dicts
+use Rattle.vx_array_tree.specs.Encodings.Foreigns as Foreigns
 use Rattle.vx_array_tree.specs.Encodings.ListViews as ListViews
 use Rattle.vx_array_tree.specs.Encodings.Primitives as Primitives
 use Rattle.vx_array_tree.specs.Encodings.VarBins as VarBins
@@ -19,7 +20,7 @@ use Rattle.vx_wire_tree.specs.Fields.{FitsMessage, told}
 use Rattle.vx_wire_tree.specs.Limits.{HasMessage}
 use Rattle.vx_arrays.specs.Plain.{plain_body}
 use Rattle.vx_arrays.specs.declared.body.Body.{Body}
-use Rattle.vx_arrays.specs.declared.body.Body.TheVariants.{Null, Bool, Primitive, Decimal, VarBin, VarBinView, FixedSizeList, Struct, Ext, List as ListOf, Union, ListView, Map, Dict}
+use Rattle.vx_arrays.specs.declared.body.Body.TheVariants.{Null, Bool, Primitive, Decimal, VarBin, VarBinView, FixedSizeList, Struct, Ext, List as ListOf, Union, ListView, Map, Dict, Foreign}
 use Rattle.vx_encodings.specs.BoolMessage.{bool_bytes}
 use Rattle.vx_encodings.specs.DecimalMessage.{decimal_bytes}
 use Rattle.vx_encodings.specs.Messages.{message_bytes}
@@ -96,5 +97,10 @@ maps_kept t b bytes e p q = q ∙ root t b Map e p
 pub unions_kept : (t : Tree) (b : Body) (bytes : List ℕ) → b ≡ Union → plain_body b ≡ (label t).body → bytes ≡ [] → bytes ≡ message_bytes (told (metadata_in (label t) (below t)))
 unions_kept t b bytes e p q = q ∙ root t b Union e p
 
+pub foreign_kept : (t : Tree) (b : Body) (x : Foreigns.Data) (r : Result (List ℕ) EncodingError) → b ≡ Foreign x → plain_body b ≡ (label t).body → IfOk r (λ bytes. bytes ≡ x.metadata)
+    → IfOk r (λ bytes. bytes ≡ message_bytes (told (metadata_in (label t) (below t))))
+foreign_kept t b x (Ok bytes) e p q = q ∙ root t b (Foreign x) e p
+foreign_kept t b x (Err error) e p q = tt
+
 -- What the writing of metadata rests on.
-pub ruleset kept = (nulls_kept, numbers_kept, flags_kept, decimals_kept, kinds_kept, views_kept, dicts_kept, values_counted, lists_kept, structures_kept, extensions_kept, counts_kept, list_views_kept, maps_kept, unions_kept)
+pub ruleset kept = (nulls_kept, numbers_kept, flags_kept, decimals_kept, kinds_kept, views_kept, dicts_kept, values_counted, lists_kept, structures_kept, extensions_kept, counts_kept, list_views_kept, maps_kept, unions_kept, foreign_kept)

@@ -74,7 +74,7 @@ null_again _ fair fits = absurd fair
 
 -- The messages of nulls are lawful: one is shown at most, and what is written is shown.
 pub null_lawful : IsLawfulAt codec E.null
-null_lawful = record { one_message = one_message E.null; message_again = null_again }
+null_lawful = record { native = tt; one_message = one_message E.null; message_again = null_again }
 
 bool_again : (v : Metadata) → IsFair E.bool v → FitsMessage v → Shows E.bool (message_bytes (told v)) (told v)
 bool_again (M.bool o) fair fits = offset_again o fair
@@ -82,7 +82,7 @@ bool_again _ fair fits = absurd fair
 
 -- So are those of flags.
 pub bool_lawful : IsLawfulAt codec E.bool
-bool_lawful = record { one_message = one_message E.bool; message_again = bool_again }
+bool_lawful = record { native = tt; one_message = one_message E.bool; message_again = bool_again }
 
 primitive_again : (v : Metadata) → IsFair E.primitive v → FitsMessage v → Shows E.primitive (message_bytes (told v)) (told v)
 primitive_again M.empty fair fits = record { bytes_are = refl; fields_are = refl }
@@ -90,7 +90,7 @@ primitive_again _ fair fits = absurd fair
 
 -- So are those of numbers.
 pub primitive_lawful : IsLawfulAt codec E.primitive
-primitive_lawful = record { one_message = one_message E.primitive; message_again = primitive_again }
+primitive_lawful = record { native = tt; one_message = one_message E.primitive; message_again = primitive_again }
 
 decimal_again : (v : Metadata) → IsFair E.decimal v → FitsMessage v → Shows E.decimal (message_bytes (told v)) (told v)
 decimal_again (M.decimal w) fair fits = width_again w
@@ -98,7 +98,7 @@ decimal_again _ fair fits = absurd fair
 
 -- So are those of decimals.
 pub decimal_lawful : IsLawfulAt codec E.decimal
-decimal_lawful = record { one_message = one_message E.decimal; message_again = decimal_again }
+decimal_lawful = record { native = tt; one_message = one_message E.decimal; message_again = decimal_again }
 
 varbin_again : (v : Metadata) → IsFair E.varbin v → FitsMessage v → Shows E.varbin (message_bytes (told v)) (told v)
 varbin_again (M.varbin p) fair fits = kind_again p
@@ -106,7 +106,7 @@ varbin_again _ fair fits = absurd fair
 
 -- So are those of texts and of bytes by offsets.
 pub varbin_lawful : IsLawfulAt codec E.varbin
-varbin_lawful = record { one_message = one_message E.varbin; message_again = varbin_again }
+varbin_lawful = record { native = tt; one_message = one_message E.varbin; message_again = varbin_again }
 
 varbinview_again : (v : Metadata) → IsFair E.varbinview v → FitsMessage v → Shows E.varbinview (message_bytes (told v)) (told v)
 varbinview_again M.empty fair fits = record { bytes_are = refl; fields_are = refl }
@@ -114,7 +114,7 @@ varbinview_again _ fair fits = absurd fair
 
 -- So are those of texts and of bytes by views.
 pub varbinview_lawful : IsLawfulAt codec E.varbinview
-varbinview_lawful = record { one_message = one_message E.varbinview; message_again = varbinview_again }
+varbinview_lawful = record { native = tt; one_message = one_message E.varbinview; message_again = varbinview_again }
 
 dict_fits_again : (v : Metadata) → IsFair E.dict v → FitsMessage v → Shows E.dict (message_bytes (told v)) (told v)
 dict_fits_again (M.dict v) fair fits =
@@ -123,7 +123,7 @@ dict_fits_again _ fair fits = absurd fair
 
 -- So are those of dictionaries.
 pub dict_lawful : IsLawfulAt codec E.dict
-dict_lawful = record { one_message = one_message E.dict; message_again = dict_fits_again }
+dict_lawful = record { native = tt; one_message = one_message E.dict; message_again = dict_fits_again }
 
 fixed_size_list_again : (v : Metadata) → IsFair E.fixed_size_list v → FitsMessage v → Shows E.fixed_size_list (message_bytes (told v)) (told v)
 fixed_size_list_again M.empty fair fits = record { bytes_are = refl; fields_are = refl }
@@ -131,7 +131,7 @@ fixed_size_list_again _ fair fits = absurd fair
 
 -- So are those of lists of one size.
 pub fixed_size_list_lawful : IsLawfulAt codec E.fixed_size_list
-fixed_size_list_lawful = record { one_message = one_message E.fixed_size_list; message_again = fixed_size_list_again }
+fixed_size_list_lawful = record { native = tt; one_message = one_message E.fixed_size_list; message_again = fixed_size_list_again }
 
 struct_again : (v : Metadata) → IsFair E.struct v → FitsMessage v → Shows E.struct (message_bytes (told v)) (told v)
 struct_again M.empty fair fits = record { bytes_are = refl; fields_are = refl }
@@ -139,7 +139,7 @@ struct_again _ fair fits = absurd fair
 
 -- So are those of structures.
 pub struct_lawful : IsLawfulAt codec E.struct
-struct_lawful = record { one_message = one_message E.struct; message_again = struct_again }
+struct_lawful = record { native = tt; one_message = one_message E.struct; message_again = struct_again }
 
 ext_again : (v : Metadata) → IsFair E.ext v → FitsMessage v → Shows E.ext (message_bytes (told v)) (told v)
 ext_again M.empty fair fits = record { bytes_are = refl; fields_are = refl }
@@ -147,7 +147,7 @@ ext_again _ fair fits = absurd fair
 
 -- So are those of extensions.
 pub ext_lawful : IsLawfulAt codec E.ext
-ext_lawful = record { one_message = one_message E.ext; message_again = ext_again }
+ext_lawful = record { native = tt; one_message = one_message E.ext; message_again = ext_again }
 
 list_fits_again : (v : Metadata) → IsFair E.list v → FitsMessage v → Shows E.list (message_bytes (told v)) (told v)
 list_fits_again (M.list v) fair fits = list_again v.elements_len v.offset_ptype fits
@@ -155,7 +155,7 @@ list_fits_again _ fair fits = absurd fair
 
 -- So are those of lists.
 pub list_lawful : IsLawfulAt codec E.list
-list_lawful = record { one_message = one_message E.list; message_again = list_fits_again }
+list_lawful = record { native = tt; one_message = one_message E.list; message_again = list_fits_again }
 
 list_view_fits_again : (v : Metadata) → IsFair E.listview v → FitsMessage v → Shows E.listview (message_bytes (told v)) (told v)
 list_view_fits_again (M.listview v) fair fits = views_again v fits
@@ -163,7 +163,7 @@ list_view_fits_again _ fair fits = absurd fair
 
 -- So are those of list views.
 pub list_view_lawful : IsLawfulAt codec E.listview
-list_view_lawful = record { one_message = one_message E.listview; message_again = list_view_fits_again }
+list_view_lawful = record { native = tt; one_message = one_message E.listview; message_again = list_view_fits_again }
 
 map_again : (v : Metadata) → IsFair E.map v → FitsMessage v → Shows E.map (message_bytes (told v)) (told v)
 map_again M.empty fair fits = record { bytes_are = refl; fields_are = refl }
@@ -171,7 +171,7 @@ map_again _ fair fits = absurd fair
 
 -- So are those of maps.
 pub map_lawful : IsLawfulAt codec E.map
-map_lawful = record { one_message = one_message E.map; message_again = map_again }
+map_lawful = record { native = tt; one_message = one_message E.map; message_again = map_again }
 
 union_again : (v : Metadata) → IsFair E.union v → FitsMessage v → Shows E.union (message_bytes (told v)) (told v)
 union_again M.empty fair fits = record { bytes_are = refl; fields_are = refl }
@@ -179,7 +179,7 @@ union_again _ fair fits = absurd fair
 
 -- So are those of unions.
 pub union_lawful : IsLawfulAt codec E.union
-union_lawful = record { one_message = one_message E.union; message_again = union_again }
+union_lawful = record { native = tt; one_message = one_message E.union; message_again = union_again }
 
 -- So are those of each encoding that has code.
 pub lawful : (e : Encoding) → IsLawfulAt codec (plain_encoding e)
@@ -206,6 +206,7 @@ stats_lawful = record {
   stats_again = written_shown;
   written_storable = written_storable;
   written_alike = λ t. ap (λ vs. table vs) (written_alike t);
+  none_storable = record { least = tt; greatest = tt; sum = tt; null_count = tt; uncompressed_size = tt; nan_count = tt };
 }
 
 -- ---- plans

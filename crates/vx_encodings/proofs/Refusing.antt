@@ -10,20 +10,20 @@ use Rattle.vx_array_tree.specs.Body.{Body}
 use Rattle.vx_array_tree.specs.Encoding.{Encoding}
 use Rattle.vx_array_tree.specs.Metadata.{Metadata}
 use Rattle.vx_array_tree.specs.Place.{Place}
-use Rattle.vx_array_tree.specs.Sound.{IsSound, IsSoundNode}
+use Rattle.vx_array_tree.specs.Sound.{IsSound, IsSoundNode, IsControlledBy}
 use Rattle.vx_array_tree.specs.Table.{metadata_of, body_of, plan_of, Allows, Content, Takes, IsShaped}
 use Rattle.vx_array_tree.specs.Tree.{Tree, Trees, Head, places, encodings, rows_below, untold}
 use Rattle.vx_array_tree.proofs.NodeLaws.{body_encoding}
 use Rattle.vx_array_tree.proofs.Plans.{metadata_again}
 use Rattle.vx_wire_tree.specs.Limits.{HasMessage}
-use Rattle.vx_wire_tree.specs.Steps.{PlansChildren, HasNoPlan, HasParts, HasWrongShape, HasWrongContent}
+use Rattle.vx_wire_tree.specs.Steps.{PlansChildren, HasNoPlan, HasParts, HasWrongShape, HasWrongControl, HasWrongContent}
 use Rattle.vx_encodings.proofs.Laws.{one_value}
 use Rattle.vx_encodings.specs.Messages.{codec}
 use Rattle.vx_encodings.specs.Plain.{plain_encoding}
 use Rattle.vx_encodings.specs.Steps.{IsPlanned, IsUnplanned, IsBuilt, IsUnbuilt, IsUnwritten, IsMemory, IsOkOrMemory}
 use Rattle.vx_encodings.specs.declared.encoding.Encoding as Declared
 use Rattle.vx_encodings.specs.declared.error.EncodingError.{EncodingError}
-use Rattle.vx_encodings.specs.declared.error.EncodingError.TheVariants.{OutOfMemory, BadMetadata, BadShape, BadContent, WireLimit}
+use Rattle.vx_encodings.specs.declared.error.EncodingError.TheVariants.{OutOfMemory, BadMetadata, BadShape, BadContent, ForeignControl, WireLimit}
 use Rattle.vx_encodings.specs.declared.head.ArrayHead.{ArrayHead}
 
 not_both : {A : Type 0} {x : A} (o : Option A) → o ≡ None → o ≡ Some x → ⊥
@@ -86,6 +86,12 @@ module _ (x : ExtMeaning) (e : Encoding) (d : Typ) (n : ℕ) (bytes : List ℕ) 
       let b = same_body w.value parts.value w.shaped.body parts.body other w.shaped.body_is parts.body_is in
       w.wrong (subst (λ (c : Body). Content d n c (rows_below ts)) b s.content)
 
+  -- Nor does a foreign node stand where it says where rows are.
+  not_foreign : (t : Tree) → PlansChildren codec x e d n bytes k (places ts) → HasParts codec x e d n bytes bs ts t → IsSound t → HasWrongControl codec x e d n bytes ts → ⊥
+  not_foreign t planned parts sound w =
+      let s = root_is t (untold d n parts.body) parts.tree_is sound in
+      w.foreign (subst (λ (z : Encoding). IsControlledBy z d ts) (body_encoding e parts.value bs parts.body parts.body_is) s.controlled)
+
 -- Of what is a sound array's parts only memory is refused.
 pub built_refusal : (x : ExtMeaning) (error : EncodingError) (e : Declared.Encoding) (h : ArrayHead) (bs : List Buffer) (ts : Trees) (t : Tree)
     → IsPlanned x e h (places ts) → IsUnbuilt error x e h bs ts → IsBuilt x e h bs ts t → IsSound t → IsMemory error
@@ -95,6 +101,8 @@ built_refusal x BadShape e h bs ts t planned u parts sound =
     absurd (not_wrong x (plain_encoding e) (typ h.dtype) h.len h.metadata h.nchildren bs ts t planned parts sound u)
 built_refusal x BadContent e h bs ts t planned u parts sound =
     absurd (not_broken x (plain_encoding e) (typ h.dtype) h.len h.metadata h.nchildren bs ts t parts sound u)
+built_refusal x ForeignControl e h bs ts t planned u parts sound =
+    absurd (not_foreign x (plain_encoding e) (typ h.dtype) h.len h.metadata h.nchildren bs ts t planned parts sound u)
 built_refusal x WireLimit e h bs ts t planned u parts sound = absurd u
 
 -- An answer whose refusals are those of a plan is Ok, or want of memory, where there is a plan.
@@ -115,6 +123,7 @@ written_refusal OutOfMemory t u h = tt
 written_refusal BadMetadata t u h = absurd u
 written_refusal BadShape t u h = absurd u
 written_refusal BadContent t u h = absurd u
+written_refusal ForeignControl t u h = absurd u
 written_refusal WireLimit t u h = absurd (u h)
 
 pub metadata_complete : (t : Tree) (r : Result (List ℕ) EncodingError) → IfErr r (λ error. IsUnwritten error t) → HasMessage (label t) (below t) → IsOkOrMemory r

@@ -90,7 +90,7 @@ module _ (x : ExtMeaning) (e : Declared.Encoding) (h : ArrayHead) (v : Metadata)
   -- Parts that the constructor refuses do not fit the row of a planned node.
   pub single_refused : (error : ArrayError) (bs : List Buffer) (us : Trees) (b : Buffer) (body : Body) (t : Tree) → bs ≡ b ∷ [] → body_of (plain_encoding e) v (b ∷ []) ≡ Some body → IsFair (plain_encoding e) v
       → plan_of (plain_encoding e) (typ h.dtype) h.len v h.nchildren ≡ before_validity [] h.len h.nchildren → plan_of (plain_encoding e) (typ h.dtype) h.len v h.nchildren ≡ Some (places us)
-      → lifted body (places us) ≡ places us → Takes (plain_encoding e) (encodings us) → t ≡ node (untold (typ h.dtype) h.len body) us → IsUnmade error t
+      → lifted (typ h.dtype) h.len body (places us) ≡ places us → Takes (plain_encoding e) (encodings us) → t ≡ node (untold (typ h.dtype) h.len body) us → IsUnmade error t
       → IsUnbuilt (constructor_error error) x e h bs us
   single_refused error bs us b body t p body_is fair plan planned level takes q refused =
       let few = validity_few h.len h.nchildren us (sym plan ∙ planned) in

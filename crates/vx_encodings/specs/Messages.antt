@@ -23,7 +23,7 @@ pub record ShowsNothing (bytes : List ℕ) (f : Fields) : Type 0 where
 
 -- Eight encodings keep nothing, flags an offset, decimals a width, texts by offsets a kind of numbers, dictionaries a number of
 -- values, a kind and two flags, lists a number of elements and a kind, and list views another kind too. Messages of the other
--- one are not read here yet: no bytes show one.
+-- one are not read here yet, and a foreign node has none: no bytes show one.
 abbrev pub Shows : Encoding → List ℕ → Fields → Type 0
 Shows E.null = ShowsNothing
 Shows E.bool = ShowsBool
@@ -41,7 +41,8 @@ Shows E.union = ShowsNothing
 Shows E.ext = ShowsNothing
 Shows _ = λ bytes f. ⊥
 
--- What keeps nothing is written as no byte, and what is kept as its message. Other messages are not written here yet.
+-- What keeps nothing is written as no byte, what is kept as its message, and a foreign node's bytes as they are. Other
+-- messages are not written here yet.
 abbrev pub message_bytes : Fields → List ℕ
 message_bytes (F.bool offset) = bool_bytes offset
 message_bytes (F.decimal width) = decimal_bytes width
@@ -49,6 +50,7 @@ message_bytes (F.varbin kind) = varbin_bytes kind
 message_bytes (F.dict f) = dict_bytes f
 message_bytes (F.list count kind) = list_bytes count kind
 message_bytes (F.listview count kind other) = view_bytes (kept_views count kind other)
+message_bytes (F.raw bytes) = bytes
 message_bytes _ = []
 
 -- A set of statistics is written as its table, whatever it tells.

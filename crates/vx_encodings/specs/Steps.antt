@@ -12,14 +12,14 @@ use Rattle.vx_proto.specs.Value.{Value}
 use Rattle.vx_proto.specs.declared.error.ProtoError.{ProtoError}
 use Rattle.vx_proto.specs.declared.error.ProtoError.TheVariants as P
 use Rattle.vx_wire_tree.specs.Limits.{HasMessage}
-use Rattle.vx_wire_tree.specs.Steps.{HasNoMetadata, PlansChildren, HasNoPlan, HasParts, HasWrongShape, HasWrongContent}
+use Rattle.vx_wire_tree.specs.Steps.{HasNoMetadata, PlansChildren, HasNoPlan, HasParts, HasWrongShape, HasWrongControl, HasWrongContent}
 use Rattle.vx_arrays.specs.declared.error.ArrayError.{ArrayError}
 use Rattle.vx_arrays.specs.declared.error.ArrayError.TheVariants as A
 use Rattle.vx_encodings.specs.Messages.{codec}
 use Rattle.vx_encodings.specs.Plain.{plain_encoding}
 use Rattle.vx_encodings.specs.declared.encoding.Encoding.{Encoding}
 use Rattle.vx_encodings.specs.declared.error.EncodingError.{EncodingError}
-use Rattle.vx_encodings.specs.declared.error.EncodingError.TheVariants.{OutOfMemory, BadMetadata, BadShape, BadContent, WireLimit}
+use Rattle.vx_encodings.specs.declared.error.EncodingError.TheVariants.{OutOfMemory, BadMetadata, BadShape, BadContent, ForeignControl, WireLimit}
 use Rattle.vx_encodings.specs.declared.head.ArrayHead.{ArrayHead}
 
 -- The children of a node of this encoding and head are to stand at these places.
@@ -33,19 +33,21 @@ IsUnplanned OutOfMemory x e h = Unit {0}
 IsUnplanned BadMetadata x e h = HasNoMetadata codec x (plain_encoding e) (typ h.dtype) h.metadata
 IsUnplanned BadShape x e h = HasNoPlan codec x (plain_encoding e) (typ h.dtype) h.len h.metadata h.nchildren
 IsUnplanned BadContent x e h = ⊥
+IsUnplanned ForeignControl x e h = ⊥
 IsUnplanned WireLimit x e h = ⊥
 
 -- An array is the node of this encoding, head, buffers and children.
 abbrev pub IsBuilt : ExtMeaning → Encoding → ArrayHead → List Buffer → Trees → Tree → Type 0
 IsBuilt x e h bs ts t = HasParts codec x (plain_encoding e) (typ h.dtype) h.len h.metadata bs ts t
 
--- No node is built of a planned one's parts: for want of memory, for a shape that does not fit, or for broken content
--- where the shape fits. That the metadata is the encoding's was said where the children were planned.
+-- No node is built of a planned one's parts: for want of memory, for a shape that does not fit, for a foreign node where
+-- a child says where rows are, or for broken content where the shape fits and no such node stands there. That the metadata is the encoding's was said where the children were planned.
 abbrev pub IsUnbuilt : EncodingError → ExtMeaning → Encoding → ArrayHead → List Buffer → Trees → Type 0
 IsUnbuilt OutOfMemory x e h bs ts = Unit {0}
 IsUnbuilt BadMetadata x e h bs ts = ⊥
 IsUnbuilt BadShape x e h bs ts = HasWrongShape codec x (plain_encoding e) (typ h.dtype) h.len h.metadata bs ts
 IsUnbuilt BadContent x e h bs ts = HasWrongContent codec x (plain_encoding e) (typ h.dtype) h.len h.metadata bs ts
+IsUnbuilt ForeignControl x e h bs ts = HasWrongControl codec x (plain_encoding e) (typ h.dtype) h.len h.metadata ts
 IsUnbuilt WireLimit x e h bs ts = ⊥
 
 -- There is no such plan, or memory was wanted.
@@ -54,6 +56,7 @@ IsWithoutPlan OutOfMemory plan = Unit {0}
 IsWithoutPlan BadMetadata plan = ⊥
 IsWithoutPlan BadShape plan = plan ≡ None
 IsWithoutPlan BadContent plan = ⊥
+IsWithoutPlan ForeignControl plan = ⊥
 IsWithoutPlan WireLimit plan = ⊥
 
 -- No metadata is written of a root: for want of memory, or as it does not fit its message.
@@ -62,6 +65,7 @@ IsUnwritten OutOfMemory t = Unit {0}
 IsUnwritten BadMetadata t = ⊥
 IsUnwritten BadShape t = ⊥
 IsUnwritten BadContent t = ⊥
+IsUnwritten ForeignControl t = ⊥
 IsUnwritten WireLimit t = HasMessage (label t) (below t) → ⊥
 
 -- Of the refusals this one is want of memory.
@@ -70,6 +74,7 @@ IsMemory OutOfMemory = Unit {0}
 IsMemory BadMetadata = ⊥
 IsMemory BadShape = ⊥
 IsMemory BadContent = ⊥
+IsMemory ForeignControl = ⊥
 IsMemory WireLimit = ⊥
 
 -- The answer is Ok, or want of memory.
@@ -82,6 +87,7 @@ abbrev pub IsOfConstructor : ArrayError → Type 0
 IsOfConstructor A.OutOfMemory = Unit {0}
 IsOfConstructor A.BadShape = Unit {0}
 IsOfConstructor A.BadContent = Unit {0}
+IsOfConstructor A.ForeignControl = Unit {0}
 IsOfConstructor A.ValueTooLarge = ⊥
 
 -- A constructor's refusal as one of its encoding.
@@ -89,6 +95,7 @@ abbrev pub constructor_error : ArrayError → EncodingError
 constructor_error A.OutOfMemory = OutOfMemory
 constructor_error A.BadShape = BadShape
 constructor_error A.BadContent = BadContent
+constructor_error A.ForeignControl = ForeignControl
 constructor_error A.ValueTooLarge = OutOfMemory
 
 -- A message is not read: for want of memory, or as the bytes show none.
@@ -97,6 +104,7 @@ IsUnread OutOfMemory schema place bytes = Unit {0}
 IsUnread BadMetadata schema place bytes = (v : Value) → Reads schema place bytes v → ⊥
 IsUnread BadShape schema place bytes = ⊥
 IsUnread BadContent schema place bytes = ⊥
+IsUnread ForeignControl schema place bytes = ⊥
 IsUnread WireLimit schema place bytes = ⊥
 
 -- A message's refusal as one of its encoding.

@@ -24,6 +24,9 @@ pub enum EncodingError {
     /// A value in a buffer or a child names nothing that is there, or bytes are no text where one is to be.
     #[error("the content is broken")]
     BadContent,
+    /// A foreign node stands where it says where rows are, or as the entries of maps.
+    #[error("a foreign node says where rows are")]
+    ForeignControl,
     /// The metadata does not fit its message.
     #[error("the metadata does not fit its message")]
     WireLimit,
@@ -55,6 +58,7 @@ pub(crate) fn of_constructor(error: ArrayError) -> EncodingError
         ArrayError::OutOfMemory => EncodingError::OutOfMemory,
         ArrayError::BadShape => EncodingError::BadShape,
         ArrayError::BadContent => EncodingError::BadContent,
+        ArrayError::ForeignControl => EncodingError::ForeignControl,
         ArrayError::ValueTooLarge => unreachable!(),
     }
 }

@@ -23,7 +23,7 @@ use crate::{
     structs, union, varbin, varbinview,
 };
 use std::alloc::Global;
-use vx_arrays::{Array, Arrays, Body};
+use vx_arrays::{Array, Arrays, Body, ForeignData};
 use vx_buffer::BufferHandles;
 use vx_type_wire::ExtSession;
 use vx_types::Blob;
@@ -80,7 +80,8 @@ fn plan_by(
 
 /// The array of these parts, of which the children have the planned places.
 ///
-/// `BadShape` where the parts are not as the encoding's row asks, else `BadContent` where their content is broken.
+/// `BadShape` where the parts are not as the encoding's row asks, else `ForeignControl` where a child that says where
+/// rows are holds a foreign node, or the entries of maps are one, else `BadContent` where their content is broken.
 pub fn build(
     alloc: Global,
     encoding: Encoding,
@@ -172,6 +173,18 @@ fn metadata_by(alloc: Global, array: &Array) -> Result<Blob, EncodingError>
         Body::ListView(_) => list_view::metadata(alloc, array.children()),
         Body::Map => Ok(write_empty(alloc)),
         Body::Union => Ok(write_empty(alloc)),
+        Body::Foreign(kept) => kept_bytes(alloc, kept),
+    }
+}
+
+// The bytes of a foreign node's metadata, as it keeps them.
+fn kept_bytes(alloc: Global, kept: &ForeignData) -> Result<Blob, EncodingError>
+    ensures ok { IfOk result (λ bytes. bytes ≡ kept.now.metadata) }
+    ensures err { IsOkUnless result EncodingError.OutOfMemory }
+{
+    match kept.metadata().clone(alloc) {
+        Ok(bytes) => Ok(bytes),
+        Err(_) => Err(EncodingError::OutOfMemory),
     }
 }
 
@@ -194,5 +207,6 @@ pub fn has_message(array: &Array) -> bool
         Body::List | Body::ListView(_) => lists::has_message(array.children()),
         Body::Dict(_) => dict::has_message(array.children()),
         Body::Map | Body::Union => true,
+        Body::Foreign(_) => true,
     }
 }

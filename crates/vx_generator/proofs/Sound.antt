@@ -9,6 +9,7 @@ use Rattle.vx_array_tree.specs.Place.{is_len}
 use Rattle.vx_array_tree.specs.Sound.{IsSound}
 use Rattle.vx_array_tree.specs.Table.{Content}
 use Rattle.vx_array_tree.specs.Tree.{rows_below}
+use Rattle.vx_array_tree.proofs.LawsControls.{native_controlled, leaf, one_leaf}
 use Rattle.vx_trees.specs.Rose.{label, below}
 use Rattle.vx_generator.specs.Columns.{Columns}
 use Rattle.vx_generator.specs.Made.{flags_tree, numbers_tree, codes_tree, texts_tree, names_tree, elements_tree, offsets_tree, lists_tree, table_tree, long_text, views}
@@ -31,13 +32,13 @@ pub record Fit (c : Columns) (n : ℕ) : Type 0 where
   pub within : offset_at c.offsets n ≤ c.count
 
 pub flags_sound : (c : Columns) (n : ℕ) → Fit c n → IsSound (flags_tree c.validity n)
-flags_sound c n f = (record { fair = omega arith; planned = refl; allows = λ e. absurd (omega arith); takes = tt; holds = omega arith; content = tt; stats = none_fit _ }, tt)
+flags_sound c n f = (record { fair = omega arith; planned = refl; allows = λ e. absurd (omega arith); takes = tt; holds = omega arith; controlled = native_controlled _ _ _ tt; content = tt; stats = none_fit _ }, tt)
 
 pub numbers_sound : (c : Columns) (n : ℕ) → Fit c n → IsSound (numbers_tree c.numbers c.validity n)
-numbers_sound c n f = (record { fair = tt; planned = refl; allows = λ e. refl; takes = tt; holds = record { length_is = f.numbers; aligned = omega arith }; content = tt; stats = none_fit _ }, (flags_sound c n f, tt))
+numbers_sound c n f = (record { fair = tt; planned = refl; allows = λ e. refl; takes = tt; holds = record { length_is = f.numbers; aligned = omega arith }; controlled = native_controlled _ _ _ one_leaf; content = tt; stats = none_fit _ }, (flags_sound c n f, tt))
 
 pub codes_sound : (c : Columns) (n : ℕ) → Fit c n → IsSound (codes_tree c.codes n)
-codes_sound c n f = (record { fair = tt; planned = refl; allows = λ e. absurd (omega arith); takes = tt; holds = record { length_is = omega arith; aligned = omega arith }; content = tt; stats = none_fit _ }, tt)
+codes_sound c n f = (record { fair = tt; planned = refl; allows = λ e. absurd (omega arith); takes = tt; holds = record { length_is = omega arith; aligned = omega arith }; controlled = native_controlled _ _ _ tt; content = tt; stats = none_fit _ }, tt)
 
 texts_are : Content (label texts_tree).dtype 5 (label texts_tree).body (rows_below (below texts_tree))
 unfolding long_text views is_utf8 chars encode
@@ -50,7 +51,7 @@ texts_are (suc (suc (suc (suc (suc i))))) l t = absurd (omega arith)
 
 pub texts_sound : IsSound texts_tree
 unfolding views long_text
-texts_sound = (record { fair = tt; planned = refl; allows = λ e. absurd (omega arith); takes = tt; holds = record { length_is = refl; aligned = omega arith }; content = texts_are; stats = none_fit _ }, tt)
+texts_sound = (record { fair = tt; planned = refl; allows = λ e. absurd (omega arith); takes = tt; holds = record { length_is = refl; aligned = omega arith }; controlled = native_controlled _ _ _ tt; content = texts_are; stats = none_fit _ }, tt)
 
 pub names_sound : (c : Columns) (n : ℕ) → Fit c n → IsSound (names_tree c.codes n)
 names_sound c n f = (
@@ -60,6 +61,7 @@ names_sound c n f = (
     allows = λ e. absurd (cc);
     takes = tt;
     holds = tt;
+    controlled = native_controlled _ _ _ (leaf, one_leaf);
     content = λ i l t. record { natural = refl; within = f.named i };
     stats = none_fit _;
   },
@@ -67,10 +69,10 @@ names_sound c n f = (
 )
 
 pub elements_sound : (c : Columns) (n : ℕ) → Fit c n → IsSound (elements_tree c.elements c.count)
-elements_sound c n f = (record { fair = tt; planned = refl; allows = λ e. absurd (omega arith); takes = tt; holds = record { length_is = f.elements; aligned = omega arith }; content = tt; stats = none_fit _ }, tt)
+elements_sound c n f = (record { fair = tt; planned = refl; allows = λ e. absurd (omega arith); takes = tt; holds = record { length_is = f.elements; aligned = omega arith }; controlled = native_controlled _ _ _ tt; content = tt; stats = none_fit _ }, tt)
 
 pub offsets_sound : (c : Columns) (n : ℕ) → Fit c n → IsSound (offsets_tree c.offsets n)
-offsets_sound c n f = (record { fair = tt; planned = refl; allows = λ e. absurd (omega arith); takes = tt; holds = record { length_is = f.offsets; aligned = omega arith }; content = tt; stats = none_fit _ }, tt)
+offsets_sound c n f = (record { fair = tt; planned = refl; allows = λ e. absurd (omega arith); takes = tt; holds = record { length_is = f.offsets; aligned = omega arith }; controlled = native_controlled _ _ _ tt; content = tt; stats = none_fit _ }, tt)
 
 pub lists_sound : (c : Columns) (n : ℕ) → Fit c n → IsSound (lists_tree c.elements c.count c.offsets n)
 lists_sound c n f =
@@ -81,6 +83,7 @@ lists_sound c n f =
         allows = λ q. absurd (omega arith);
         takes = tt;
         holds = tt;
+        controlled = native_controlled _ _ _ (leaf, one_leaf);
         content = record { naturals = λ i l t. refl; rising = f.rising; within = f.within };
         stats = none_fit _;
       },
@@ -89,6 +92,6 @@ lists_sound c n f =
 
 pub table_sound : (c : Columns) (n : ℕ) → Fit c n → IsSound (table_tree c n)
 table_sound c n f = (
-  record { fair = tt; planned = refl; allows = λ e. absurd (omega arith); takes = tt; holds = tt; content = tt; stats = none_fit _ },
+  record { fair = tt; planned = refl; allows = λ e. absurd (omega arith); takes = tt; holds = tt; controlled = native_controlled _ _ _ ((tt, one_leaf), ((tt, (leaf, one_leaf)), ((tt, (leaf, one_leaf)), tt))); content = tt; stats = none_fit _ },
   (numbers_sound c n f, (names_sound c n f, (lists_sound c n f, tt))),
 )

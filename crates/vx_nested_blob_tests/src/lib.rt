@@ -1,4 +1,5 @@
-//! Tests of nested arrays in blobs, and of their nodes: which are planned, and the metadata that is written.
+//! Tests of nested arrays in blobs, also with nodes that nothing reads, and of their nodes: which are planned, and the
+//! metadata that is written.
 #![tactic(auto)]
 
 #[cfg(test)]
@@ -9,6 +10,8 @@ mod blobs;
 mod broken;
 #[cfg(test)]
 mod dictionaries;
+#[cfg(test)]
+mod foreign;
 #[cfg(test)]
 mod list_views;
 #[cfg(test)]

@@ -102,7 +102,7 @@ fn entry_lists(alloc: Global) -> Made {
 }
 
 // Two maps, of which the first is null.
-fn mapped(alloc: Global) -> Made {
+pub(crate) fn mapped(alloc: Global) -> Made {
     maps(alloc, keys(alloc), values(alloc), entry_views(alloc))
 }
 

@@ -29,8 +29,8 @@ fn are_ids(ids: &Ids, texts: &[&str]) -> bool {
     ids.len() == texts.len()
 }
 
-// Whether a context has these identifiers, in this order, and no other.
-fn has_ids(alloc: Global, ctx: &ArrayContext, texts: &[&str]) -> bool {
+/// Whether a context has these identifiers, in this order, and no other.
+pub(crate) fn has_ids(alloc: Global, ctx: &ArrayContext, texts: &[&str]) -> bool {
     match ctx.to_ids(alloc) {
         Ok(ids) => are_ids(&ids, texts),
         Err(_) => false,

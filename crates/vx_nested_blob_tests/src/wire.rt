@@ -28,6 +28,13 @@ fn shipped(alloc: Global) -> Result<VortexSession, WireError> {
     }
 }
 
+// The same, and nodes that nothing reads are kept.
+fn keeping(alloc: Global) -> Result<VortexSession, WireError> {
+    let mut session = shipped(alloc)?;
+    session.ext.allow_unknown();
+    Ok(session)
+}
+
 // The bytes of an array's blob.
 fn blob_under(
     alloc: Global,
@@ -152,6 +159,17 @@ fn read(
     read_under(alloc, array, dtype, len, change, &session)
 }
 
+/// An array written, and read at its own type and length once it is changed, where nodes that nothing reads are kept.
+pub(crate) fn kept(alloc: Global, array: &Array, change: Change<'_>) -> Result<Array, WireError> {
+    let session = keeping(alloc)?;
+    read_under(alloc, array, array.dtype(), array.len(), change, &session)
+}
+
+/// Why an array is not written under the encodings that are shipped, if it is not.
+pub(crate) fn unwritten_array(alloc: Global, array: &Array) -> Option<WireError> {
+    blob_of(alloc, array).err()
+}
+
 // A blob recoded at the type and length of an array, by these identifiers and encodings.
 fn recoded_by(
     alloc: Global,
@@ -166,16 +184,18 @@ fn recoded_by(
     recode(alloc, blob, dtype, len, ids, ctx, session, &options)
 }
 
-// An array written, and what was written recoded at its type and length, under these encodings.
+// An array written, and what was written recoded at its type and length once its identifiers are changed, under these
+// encodings.
 fn recoded_under(
     alloc: Global,
     array: &Array,
+    change: Change<'_>,
     ctx: &mut ArrayContext,
     session: &VortexSession,
 ) -> Result<Recoded, WireError> {
     let mut written = ArrayContext::empty(alloc);
     let blob = blob_under(alloc, array, session, &mut written)?;
-    let ids = read_ids(alloc, &written, Change::Nothing)?;
+    let ids = read_ids(alloc, &written, change)?;
     recoded_by(alloc, blob, array, &ids, ctx, session)
 }
 
@@ -186,7 +206,25 @@ pub(crate) fn recoded(
     ctx: &mut ArrayContext,
 ) -> Result<Recoded, WireError> {
     let session = shipped(alloc)?;
-    recoded_under(alloc, array, ctx, &session)
+    recoded_under(alloc, array, Change::Nothing, ctx, &session)
+}
+
+/// The same once identifiers are changed, where nodes that nothing reads are kept.
+pub(crate) fn recoded_kept(
+    alloc: Global,
+    array: &Array,
+    change: Change<'_>,
+    ctx: &mut ArrayContext,
+) -> Result<Recoded, WireError> {
+    let session = keeping(alloc)?;
+    recoded_under(alloc, array, change, ctx, &session)
+}
+
+/// The blob of an array under the encodings that are shipped.
+pub(crate) fn blob_of(alloc: Global, array: &Array) -> Result<ByteBuffer, WireError> {
+    let session = shipped(alloc)?;
+    let mut ctx = ArrayContext::empty(alloc);
+    blob_under(alloc, array, &session, &mut ctx)
 }
 
 // Whether two arrays are equal.

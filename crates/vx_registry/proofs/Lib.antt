@@ -1,5 +1,6 @@
 mod Interning
 mod Pairing
 mod Shipped
+mod Writers
 pub mod LawsSessions
 pub mod LawsContexts

@@ -50,7 +50,8 @@ impl ArraySerialization {
         }
     }
 
-    /// The parts of an array, under the identifier of its encoding. No buffer's bytes are copied. `WireLimit` exactly
+    /// The parts of an array, under the identifier of its encoding; those of a foreign node as it keeps them. No buffer's
+    /// bytes are copied. `WireLimit` exactly
     /// where the root's metadata does not fit its message.
     pub fn from_array(alloc: Global, array: &Array) -> Result<ArraySerialization, RegistryError>
         ensures parts { IfOk result (HasPartsOf array.now) }

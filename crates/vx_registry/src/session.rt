@@ -1,11 +1,15 @@
 //! Sessions: what reads and writes arrays, and what reads extension types.
 
-ghost use Rattle.std.specs.Prelude.{◌≡◌, ℕ, List, [], Some, IfOk, IfErr, OnOk, OnErr, IsOkUnless, IfSome, IsSome, None, option_map};
+ghost use Rattle.std.specs.Prelude.{◌≡◌, ℕ, List, [], Some, IfOk, IfErr, OnOk, OnErr, IsOkUnless, IfSome, IsSome, IsTrue, IsFalse, option_map};
 ghost use Rattle.vx_trees.specs.Rose.{label, below};
+ghost use Rattle.vx_types.specs.Known.{ExtMeaning};
 ghost use Rattle.vx_type_wire.specs.Session.{ext_meaning};
+ghost use Rattle.vx_wire_tree.specs.Causes.{LacksWriter, LacksWriterBy};
 ghost use Rattle.vx_wire_tree.specs.Limits.{HasMessage};
+ghost use Rattle.vx_wire_tree.specs.ReadBack.{IsWrittenBy};
+ghost use Rattle.vx_registry.specs.Meaning.{session_meaning};
 ghost use Rattle.vx_registry.specs.Serialization.{HasPartsOf, array_id};
-ghost use Rattle.vx_registry.specs.Session.{encoding_in, entry, found, found_with, registered, shipped_registry, ArePaired};
+ghost use Rattle.vx_registry.specs.Session.{encoding_in, entry, found, found_with, registered, shipped_registry, tables_meaning, ArePaired};
 
 use crate::error::RegistryError;
 use crate::named::named;
@@ -136,6 +140,20 @@ impl ArraySession {
         self.readers.get(id).copied()
     }
 
+    /// Whether an array's root is written: something writes the arrays of its encoding, or it is foreign and `unknown`
+    /// ones are allowed. `id` is its identifier.
+    #[tactic(auto, using(crate::proofs::Writers::writers))]
+    pub fn writes(&self, id: &Id, array: &Array, unknown: bool) -> bool
+        requires { id.now ≡ array_id array.now }
+        ensures written { (x : ExtMeaning) → x.unknown ≡ unknown → IsTrue result → IsWrittenBy (tables_meaning self.now x) (label array.now).body }
+        ensures lacking { (x : ExtMeaning) → x.unknown ≡ unknown → IsFalse result → LacksWriterBy (tables_meaning self.now x) (label array.now).body }
+    {
+        if array.is_foreign() {
+            return unknown;
+        }
+        self.writer(id).is_some()
+    }
+
     /// What writes the arrays of this identifier.
     pub fn writer(&self, id: &Id) -> Option<Encoding>
         ensures found { option_map entry result ≡ found self.now.writers id.now }
@@ -171,8 +189,8 @@ impl VortexSession {
     }
 
     /// An array's root as it is written: its parts, under the identifier that what writes its encoding's arrays
-    /// gives them. `NotRegistered` exactly where nothing writes them, else `WireLimit` exactly where its metadata does
-    /// not fit its message.
+    /// gives them; a foreign node's own, where unknown ones are allowed. `NotRegistered` exactly where nothing writes it,
+    /// else `WireLimit` exactly where its metadata does not fit its message.
     pub fn array_serialize(
         &self,
         alloc: Global,
@@ -180,18 +198,20 @@ impl VortexSession {
     ) -> Result<Option<ArraySerialization>, RegistryError>
         ensures parts { IfOk result (λ s. IfSome s (HasPartsOf array.now)) }
         ensures given { IfOk result IsSome }
-        ensures registered { OnOk result (IsSome (found self.now.arrays.writers (array_id array.now))) }
+        ensures registered { let s = session_meaning (λ b. accepted (b.vtable, b.value)) self.now in
+            OnOk result (IsWrittenBy s (label array.now).body) }
         ensures fits { OnOk result (HasMessage (label array.now) (below array.now)) }
-        ensures cause { IfErr result (λ e. e ≡ RegistryError.NotRegistered → found self.now.arrays.writers (array_id array.now) ≡ None) }
+        ensures cause { let s = session_meaning (λ b. accepted (b.vtable, b.value)) self.now in
+            IfErr result (λ e. e ≡ RegistryError.NotRegistered → LacksWriter s array.now) }
         ensures limit { IfErr result (λ e. e ≡ RegistryError.WireLimit → HasMessage (label array.now) (below array.now) → ⊥) }
     {
         let id = named(alloc, array.encoding_id())?;
-        match self.arrays.writer(&id) {
-            Some(_) => match ArraySerialization::from_array(alloc, array) {
-                Ok(parts) => Ok(Some(parts)),
-                Err(e) => Err(e),
-            },
-            None => Err(RegistryError::NotRegistered),
+        if !self.arrays.writes(&id, array, self.allows_unknown()) {
+            return Err(RegistryError::NotRegistered);
+        }
+        match ArraySerialization::from_array(alloc, array) {
+            Ok(parts) => Ok(Some(parts)),
+            Err(e) => Err(e),
         }
     }
 }

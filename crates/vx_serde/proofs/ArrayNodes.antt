@@ -1,5 +1,5 @@
 -- The blocks of an array's node, and why they are not written.
-use Rattle.std.proofs.Common.{ℕ, ◌≡◌, ◌<◌, List, [], Some, length, refl, ap, ◌∙◌, arith, inl, inr}
+use Rattle.std.proofs.Common.{ℕ, ◌≡◌, ◌<◌, List, Some, length, refl, ap, ◌∙◌, arith, inl, inr}
 use Rattle.std.specs.Prelude.{◌⊎◌}
 use Rattle.vx_buffer.specs.Buffer.{Buffer}
 use Rattle.vx_flat.specs.declared.error.FlatError.{FlatError}

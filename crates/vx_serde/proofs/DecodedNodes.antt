@@ -50,6 +50,10 @@ module _ (ids : List (List ℕ)) (a : Serialized) where
   pub wire-id : (label (wire_in ids a)).id ≡ slice_get ids (label a.root).encoding
   wire-id = wire_of-id ids a.buffers a.root
 
+  -- The identifier that a node's number stands for.
+  pub wire-named : (k : ℕ) (id : List ℕ) → k ≡ (label a.root).encoding → Some id ≡ slice_get ids k → (label (wire_in ids a)).id ≡ Some id
+  wire-named k id e there = wire-id ∙ ap (λ i. slice_get ids i) (sym e) ∙ sym there
+
   pub wire-metadata : (label (wire_in ids a)).metadata ≡ (label a.root).metadata
   wire-metadata = wire_of-metadata ids a.buffers a.root
 

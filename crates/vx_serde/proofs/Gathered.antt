@@ -1,5 +1,5 @@
 -- The nodes of an array that is to be written: each has a writer, and why they are not written.
-use Rattle.std.proofs.Common.{ℕ, zero, suc, ◌≡◌, ◌+◌, ◌-◌, ◌<◌, ◌≤◌, List, [], ◌∷◌, ◌++◌, Option, Some, None, length, take, get_or, sym, ap, ◌∙◌, subst, arith, append_assoc, option_map, inl, inr}
+use Rattle.std.proofs.Common.{ℕ, zero, suc, ◌≡◌, ◌+◌, ◌-◌, ◌<◌, ◌≤◌, List, [], ◌∷◌, ◌++◌, Option, Some, None, length, take, get_or, sym, ap, ◌∙◌, subst, arith, append_assoc, inl, inr, Bool, true, false, IsTrue}
 use Rattle.std.specs.Prelude.{slice_get}
 use Rattle.std.proofs.lemmas.List.{take_more, take_all}
 use Rattle.vx_trees.specs.Rose.{Rose, Roses, node, end, more, label, below, roses_of, roses_list}
@@ -8,25 +8,23 @@ use Rattle.vx_trees.specs.Everywhere.{Everywhere, EverywhereBelow}
 use Rattle.vx_trees.proofs.Counting.{levels-is, levels-at}
 use Rattle.vx_trees.proofs.Holding.{everywhere-at, everywhere-parts, everywhere_below-snoc}
 use Rattle.vx_trees.proofs.Lists.{roses_list-roses_of}
-use Rattle.vx_types.specs.Known.{ExtMeaning}
-use Rattle.vx_array_tree.specs.Table.{encoding_of, id_of}
+use Rattle.vx_array_tree.specs.Body.{Body}
+use Rattle.vx_array_tree.specs.Body as B
 use Rattle.vx_array_tree.specs.Tree.{Tree}
-use Rattle.vx_wire_tree.specs.Causes.{HasUnwritten, LacksWriter}
+use Rattle.vx_wire_tree.specs.Causes.{HasUnwritten, LacksWriter, LacksWriterBy}
 use Rattle.vx_wire_tree.specs.Context.{Context, grown_by}
 use Rattle.vx_wire_tree.specs.Limits.{HasMessage}
 use Rattle.vx_wire_tree.specs.Placed.{HoldsUnder}
-use Rattle.vx_wire_tree.specs.ReadBack.{IsWritten, IsWrittenNode}
+use Rattle.vx_wire_tree.specs.ReadBack.{IsWritten, IsWrittenNode, IsWrittenBy}
 use Rattle.vx_wire_tree.specs.Session.{SessionMeaning, Reader}
 use Rattle.vx_wire_tree.specs.Wire.{id_in}
 use Rattle.vx_wire_tree.specs.Written.{wire}
 use Rattle.vx_encodings.specs.Messages.{codec}
 use Rattle.vx_registry.specs.Serialization.{array_id}
-use Rattle.vx_encodings.specs.declared.encoding.Encoding.{Encoding}
-use Rattle.vx_registry.specs.Session.{Registry, entry, found, tables_meaning}
 use Rattle.vx_serde.specs.declared.error.WireError.{WireError}
 use Rattle.vx_serde.specs.declared.error.WireError.TheVariants.{OutOfMemory, NotPermitted, WireLimit, NotRegistered}
 use Rattle.vx_serde.specs.declared.options.SerializeOptions.{SerializeOptions}
-use Rattle.vx_serde.specs.WritingSteps.{HasEntry, RefusesNode, RefusesRoot, RefusesNodes, RefusesGathering, RefusesLayout}
+use Rattle.vx_serde.specs.WritingSteps.{RefusesNode, RefusesRoot, RefusesNodes, RefusesGathering, RefusesLayout}
 use Rattle.vx_serde.proofs.GrownNodes.{ungrown-own, ungrown-child}
 use Rattle.vx_serde.proofs.WiredNodes.{wired, wired-levels, wired-below, wired-at, wired-within, own-grown, own-ungrown, gathered_first}
 
@@ -63,31 +61,26 @@ levels_of ts i u n e h =
     let P : Rose _ → Type 0 = λ z. levels z ≤ n in
     subst P e h
 
--- ---- a node's writer
-
-pub has_entry : (r : Registry) (t : Tree) (id : List ℕ) (o : Option Encoding) (e : Encoding) → id ≡ array_id t → option_map entry o ≡ found r.writers id → o ≡ Some e → HasEntry r t
-has_entry r t id o e p q is = record { entry = entry e; found_is = ap (λ z. found r.writers z) (sym p) ∙ (sym q ∙ ap (λ z. option_map entry z) is) }
-
-module _ (r : Registry) (t : Tree) (has : HasEntry r t) where
-  pub node-written : (x : ExtMeaning) → IsWrittenNode (tables_meaning r x) (label t) (below t)
-  node-written x = record { writer = has.entry; writer_is = has.found_is }
-
 -- ---- why nodes are not written
 
-pub node-refused : (r : Registry) (x : ExtMeaning) (t : Tree) (room : ℕ) (e : WireError) → RefusesNode r t e → RefusesNodes (tables_meaning r x) t room e
-node-refused r x t room OutOfMemory h = tt
-node-refused r x t room WireLimit h = inr (λ k. h (everywhere-parts HasMessage t k).0)
-node-refused r x t room NotRegistered h = ([], h)
-node-refused r x t room _ h = absurd h
+pub node-refused : (s : SessionMeaning) (t : Tree) (room : ℕ) (e : WireError) → RefusesNode s t e → RefusesNodes s t room e
+node-refused s t room OutOfMemory h = tt
+node-refused s t room WireLimit h = inr (λ k. h (everywhere-parts HasMessage t k).0)
+node-refused s t room NotRegistered h = ([], h)
+node-refused s t room _ h = absurd h
 
-pub root-refused : (r : Registry) (x : ExtMeaning) (t : Tree) (room : ℕ) (c : Context) (e : WireError) → RefusesRoot r t c e → RefusesGathering (tables_meaning r x) t room c e
-root-refused r x t room c OutOfMemory h = tt
-root-refused r x t room c WireLimit h = node-refused r x t room WireLimit h
-root-refused r x t room c NotRegistered h = ([], h)
-root-refused r x t room c NotPermitted h =
-    let s = tables_meaning r x in
-    ungrown-own (wire codec s t) c (own-ungrown s t c h)
-root-refused r x t room c _ h = absurd h
+pub unrooted : (s : SessionMeaning) (t : Tree) (c : Context) (e : WireError) → RefusesNode s t e → RefusesRoot s t c e
+unrooted s t c OutOfMemory h = tt
+unrooted s t c WireLimit h = h
+unrooted s t c NotRegistered h = h
+unrooted s t c _ h = absurd h
+
+pub root-refused : (s : SessionMeaning) (t : Tree) (room : ℕ) (c : Context) (e : WireError) → RefusesRoot s t c e → RefusesGathering s t room c e
+root-refused s t room c OutOfMemory h = tt
+root-refused s t room c WireLimit h = node-refused s t room WireLimit h
+root-refused s t room c NotRegistered h = ([], h)
+root-refused s t room c NotPermitted h = ungrown-own (wire codec s t) c (own-ungrown s t c h)
+root-refused s t room c _ h = absurd h
 
 pub child-refused : (s : SessionMeaning) (t : Tree) (ts : List Tree) (i room : ℕ) (u : Tree) (e : WireError) → i < length ts → u ≡ get_or ts i u → roses_of ts ≡ below t
     → RefusesNodes s u (room - 1) e → RefusesNodes s t room e
@@ -126,8 +119,16 @@ not_both : (o : Option Reader) (q : Reader) → o ≡ Some q → o ≡ None → 
 not_both None q a b = absurd (cc)
 not_both (Some p) q a b = absurd (cc)
 
+open_closed : (b : Bool) → IsTrue b → b ≡ false → ⊥
+open_closed true t e = absurd (cc)
+open_closed false t e = absurd (cc)
+
+written_lacking : (s : SessionMeaning) (b : Body) → IsWrittenBy s b → LacksWriterBy s b → ⊥
+written_lacking s (B.foreign x) w l = open_closed s.ext.unknown w l
+written_lacking s _ w l = not_both _ w.writer w.writer_is l
+
 written_under : (s : SessionMeaning) (path : List ℕ) (t : Tree) → IsWritten s t → HoldsUnder (LacksWriter s) path t → ⊥
-written_under s [] (node h ts) w l = not_both (s.writer (id_of (encoding_of h.body))) w.0.writer w.0.writer_is l
+written_under s [] (node h ts) w l = written_lacking s h.body w.0 l
 written_under s (i ∷ path) (node h ts) w l = written_under s path l.0 (child-there (IsWrittenNode s) ts i l.0 w.1 l.1) l.2
 
 pub all-written : (s : SessionMeaning) (t : Tree) → IsWritten s t → HasUnwritten s t → ⊥

@@ -34,4 +34,5 @@ pub mod StandingNames
 pub mod OverriddenBuffers
 pub mod StoredMessages
 pub mod DecodedNodes
+pub mod KeptNodes
 pub mod ArrayNodes

@@ -16,7 +16,7 @@ use Rattle.vx_wire_tree.specs.Wire.{Wire}
 use Rattle.vx_wire_tree.proofs.Laws.{never_refused, one_tree}
 use Rattle.vx_encodings.specs.Messages.{codec}
 use Rattle.vx_serde.specs.declared.error.WireError.{WireError}
-use Rattle.vx_serde.specs.declared.error.WireError.TheVariants.{OutOfMemory, TooShort, BadTable, TableLimit, BadAlignment, Compressed, OutOfBounds, UnknownIndex, UnknownEncoding, BadMetadata, BadShape, BadContent, BadStats, NotPermitted, WireLimit, NotRegistered}
+use Rattle.vx_serde.specs.declared.error.WireError.TheVariants.{OutOfMemory, TooShort, BadTable, TableLimit, BadAlignment, Compressed, OutOfBounds, UnknownIndex, UnknownEncoding, BadMetadata, BadShape, BadContent, ForeignControl, BadStats, NotPermitted, WireLimit, NotRegistered}
 use Rattle.vx_serde.specs.ArraySchema.{array_schema}
 use Rattle.vx_serde.specs.Message.{Descriptor, message_of}
 use Rattle.vx_serde.specs.Blob.{IsBlob, AreClean}
@@ -36,6 +36,7 @@ never_caused_in s ok law UnknownEncoding w d n t told c = absurd (never_refused 
 never_caused_in s ok law BadMetadata w d n t told c = absurd (never_refused codec s ok law trees.bad_metadata w d n t told c)
 never_caused_in s ok law BadShape w d n t told c = absurd (never_refused codec s ok law trees.bad_shape w d n t told c)
 never_caused_in s ok law BadContent w d n t told c = absurd (never_refused codec s ok law trees.bad_content w d n t told c)
+never_caused_in s ok law ForeignControl w d n t told c = absurd (never_refused codec s ok law trees.foreign_control w d n t told c)
 never_caused_in s ok law BadStats w d n t told c = absurd (never_refused codec s ok law trees.bad_stats w d n t told c)
 never_caused_in s ok law _ w d n t told c = absurd c
 
@@ -112,6 +113,7 @@ module _ (asked : Request) (ok : IsShipped asked.session) (law : IsLawful codec 
   never_caused light fits grows BadMetadata h = never_below BadMetadata h
   never_caused light fits grows BadShape h = never_below BadShape h
   never_caused light fits grows BadContent h = never_below BadContent h
+  never_caused light fits grows ForeignControl h = never_below ForeignControl h
   never_caused light fits grows BadStats h = never_below BadStats h
   never_caused light fits grows NotPermitted h = absurd (not_this (λ u. grown codec asked.session asked.context u ≡ None) (λ e. is_grown (grown codec asked.session asked.context t) grows e) h)
   never_caused light fits grows WireLimit h = absurd (not_this (λ u. KeepsWriterLimits asked.session u asked.context asked.options → ⊥) (λ never. never fits) h)

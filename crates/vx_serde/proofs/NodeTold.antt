@@ -1,9 +1,9 @@
 -- What decoding a node and its children gives, and why it does not.
-use Rattle.std.proofs.Common.{ℕ, zero, suc, ◌≡◌, ◌+◌, ◌<◌, ◌≤◌, List, [], ◌∷◌, ◌++◌, Option, Some, None, refl, sym, ap, ◌∙◌, arith, subst, take, length, get_or, add-one, inl, inr}
+use Rattle.std.proofs.Common.{false, ℕ, zero, suc, ◌≡◌, ◌+◌, ◌<◌, ◌≤◌, List, [], ◌∷◌, ◌++◌, Option, Some, None, refl, sym, ap, ◌∙◌, arith, subst, take, length, get_or, add-one, inl, inr}
 use Rattle.std.specs.Prelude.{slice_get}
 use Rattle.std.proofs.lemmas.List.{take_all}
 use Rattle.vx_buffer.specs.Buffer.{Buffer}
-use Rattle.vx_trees.specs.Rose.{node, end, more, label, below, roses_of, roses_list, count}
+use Rattle.vx_trees.specs.Rose.{node, label, below, roses_of, roses_list, count}
 use Rattle.vx_trees.specs.Everywhere.{EverywhereBelow}
 use Rattle.vx_trees.proofs.Holding.{everywhere_below-snoc}
 use Rattle.vx_trees.proofs.Lists.{count-roses_of, roses_of-roses_list, roses_list-roses_of}
@@ -15,19 +15,20 @@ use Rattle.vx_array_tree.specs.Normal.{IsNormalNode}
 use Rattle.vx_array_tree.specs.Place.{Place}
 use Rattle.vx_array_tree.specs.Sound.{IsSound, IsSoundNode}
 use Rattle.vx_array_tree.specs.Encoding as Encodings
-use Rattle.vx_array_tree.specs.Table.{encoding_of, plan_of, Allows, Content, IsShaped}
+use Rattle.vx_array_tree.specs.Table.{plan_of, Allows, Content, IsShaped}
 use Rattle.vx_array_tree.specs.Tree.{Tree, Trees, places, encodings, rows_below}
-use Rattle.vx_wire_tree.specs.Causes.{IsOf, AreOf, MayStandFor}
+use Rattle.vx_wire_tree.specs.Causes.{IsOf, MayStandFor}
 use Rattle.vx_wire_tree.specs.Codec.{IsLawful}
-use Rattle.vx_wire_tree.specs.Matches.{Matches, AllMatch, IsNodeBy}
+use Rattle.vx_wire_tree.specs.Matches.{Matches, AllMatch}
 use Rattle.vx_wire_tree.specs.Placed.{IsChild, HasPlan, IsPlannedBy}
-use Rattle.vx_wire_tree.specs.Session.{SessionMeaning, Reader, shipped}
-use Rattle.vx_wire_tree.specs.Steps.{PlansChildren, HasNoMetadata, HasNoPlan, HasParts, HasWrongShape, HasWrongContent, IsToldBy}
+use Rattle.vx_wire_tree.specs.Session.{SessionMeaning, Reader, IsShipped}
+use Rattle.vx_wire_tree.specs.Steps.{PlansChildren, HasNoMetadata, HasNoPlan, HasParts, HasWrongShape, HasWrongControl, HasWrongContent, IsToldBy}
 use Rattle.vx_wire_tree.specs.Tells.{Tells}
-use Rattle.vx_wire_tree.specs.Wire.{WireHead, Wire, Wires, all_present}
-use Rattle.vx_wire_tree.proofs.Laws.{node_tells, matched_count}
+use Rattle.vx_wire_tree.specs.Wire.{Wire, Wires, all_present}
+use Rattle.vx_wire_tree.proofs.Laws.{node_tells, matched_count, untaken_of}
 use Rattle.vx_encodings.specs.Messages.{codec}
 use Rattle.vx_encodings.specs.Plain.{plain_encoding}
+use Rattle.vx_registry.specs.Session.{entry}
 use Rattle.vx_encodings.specs.Steps.{IsPlanned, IsUnplanned, IsBuilt, IsUnbuilt}
 use Rattle.vx_encodings.proofs.Laws.{one_value, plan_length}
 use Rattle.vx_encodings.specs.declared.encoding.Encoding.{Encoding}
@@ -35,9 +36,9 @@ use Rattle.vx_encodings.specs.declared.error.EncodingError.{EncodingError}
 use Rattle.vx_encodings.specs.declared.error.EncodingError.TheVariants as refusals
 use Rattle.vx_encodings.specs.declared.head.ArrayHead.{ArrayHead}
 use Rattle.vx_serde.specs.declared.error.WireError.{WireError}
-use Rattle.vx_serde.specs.declared.error.WireError.TheVariants.{OutOfMemory, OutOfBounds, UnknownIndex, UnknownEncoding, BadMetadata, BadShape, BadContent, BadStats}
+use Rattle.vx_serde.specs.declared.error.WireError.TheVariants.{OutOfMemory, OutOfBounds, UnknownIndex, UnknownEncoding, BadMetadata, BadShape, BadContent, ForeignControl, BadStats}
 use Rattle.vx_serde.specs.Causes.{RefusesWire}
-use Rattle.vx_serde.specs.ReadingSteps.{RefusesBuffers, RefusesStats, encoding_refusal}
+use Rattle.vx_serde.specs.ReadingSteps.{RefusesBuffers, RefusesKept, RefusesStats, encoding_refusal}
 use Rattle.vx_serde.specs.Decoding.{IsHeadOf, IsNodeOf, AllTell}
 
 -- ---- children, one by one
@@ -111,6 +112,7 @@ caused_above s UnknownEncoding w d n i v p child c = (i ∷ c.0, (v, p, child, c
 caused_above s BadMetadata w d n i v p child c = (i ∷ c.0, (v, p, child, c.1))
 caused_above s BadShape w d n i v p child c = (i ∷ c.0, (v, p, child, c.1))
 caused_above s BadContent w d n i v p child c = (i ∷ c.0, (v, p, child, c.1))
+caused_above s ForeignControl w d n i v p child c = (i ∷ c.0, (v, p, child, c.1))
 caused_above s BadStats w d n i v p child c = (i ∷ c.0, (v, p, child, c.1))
 caused_above s _ w d n i v p child c = absurd c
 
@@ -127,9 +129,16 @@ caused_by_buffers s OutOfMemory w d n c = tt
 caused_by_buffers s OutOfBounds w d n c = ([], c)
 caused_by_buffers s _ w d n c = absurd c
 
--- nothing reads the node
-pub caused_by_reader : (s : SessionMeaning) (w : Wire) (d : Typ) (n : ℕ) (id : List ℕ) → (label w).id ≡ Some id → s.reader id ≡ None → RefusesWire s UnknownEncoding w d n
-caused_by_reader s w d n id i r = ([], record { id = id; id_is = i; reader_is = r })
+-- nothing reads the node, and such nodes are not allowed
+pub caused_by_reader : (s : SessionMeaning) (w : Wire) (d : Typ) (n : ℕ) (id : List ℕ) → (label w).id ≡ Some id → s.reader id ≡ None → s.ext.unknown ≡ false → RefusesWire s UnknownEncoding w d n
+caused_by_reader s w d n id i r closed = ([], record { unregistered = record { id = id; id_is = i; reader_is = r }; closed = closed })
+
+-- a wire tree that is not kept
+pub caused_by_keeping : (s : SessionMeaning) (x : WireError) (w : Wire) (d : Typ) (n : ℕ) → RefusesKept x w → RefusesWire s x w d n
+caused_by_keeping s OutOfMemory w d n c = tt
+caused_by_keeping s OutOfBounds w d n c = c
+caused_by_keeping s UnknownIndex w d n c = c
+caused_by_keeping s _ w d n c = absurd c
 
 -- ---- what is told of a node
 
@@ -144,6 +153,10 @@ at_node P h w d n is x =
 
 own_encoding : (s : SessionMeaning) (w : Wire) (d : Typ) (n : ℕ) (e : Encoding) (h : ArrayHead) → IsNodeOf s w d n e h → IsOf s w (plain_encoding e)
 own_encoding s w d n e h read = record { id = read.id; id_is = read.id_is; reader_is = read.reader_is }
+
+-- a node of an encoding that reads its identifier
+pub node_of : (s : SessionMeaning) (w : Wire) (d : Typ) (n : ℕ) (e : Encoding) (h : ArrayHead) (id : List ℕ) → (label w).id ≡ Some id → s.reader id ≡ Some (entry e) → IsHeadOf h w d n → IsNodeOf s w d n e h
+node_of s w d n e h id i r head = record { id = id; id_is = i; reader_is = r; head = head }
 
 pub planned : (s : SessionMeaning) (w : Wire) (d : Typ) (n : ℕ) (e : Encoding) (h : ArrayHead) (ps : List Place) → IsNodeOf s w d n e h → IsPlanned s.ext e h ps → HasPlan codec s w d n ps
 planned s w d n e h ps read plan =
@@ -171,32 +184,20 @@ standing [] cs m = m
 standing (b ∷ bs) [] m = absurd m
 standing (b ∷ bs) (c ∷ cs) m = λ i. m.0 i ∷ standing bs cs m.1 i
 
--- what children are read by that match arrays
-by_reader : (s : SessionMeaning) (r : Option Reader) (w : WireHead) (t : Tree) (B : Trees → Type 0) → IsNodeBy codec s r w t B → r ≡ Some (shipped (encoding_of (label t).body))
-by_reader s (Some (shipped e)) w t B m = ap (λ z. Some (shipped z)) (sym m.encoding)
-by_reader s None w t B m = absurd m
-
-is_of : (s : SessionMeaning) (w : Wire) (t : Tree) → Matches codec s w t → IsOf s w (encoding_of (label t).body)
-is_of s (node w ws) t m = record { id = m.0; id_is = m.1; reader_is = by_reader s (s.reader m.0) w t (λ us. AllMatch codec s ws us) m.2 }
-
-are_of : (s : SessionMeaning) (ws : Wires) (ts : Trees) → AllMatch codec s ws ts → AreOf s ws (encodings ts)
-are_of s end ts m = ap (λ us. encodings us) m
-are_of s (more w ws) end m = absurd m
-are_of s (more w ws) (more t ts) m = (is_of s w t m.0, are_of s ws ts m.1)
-
 -- parts of as many children are of the same shape
 content_broken : (e : Encodings.Encoding) (d : Typ) (n : ℕ) (v : Metadata) (bs : List Buffer) (j k : ℕ) (ts : Trees) → j ≡ k → (x : IsShaped e d n v bs j) → (Content d n x.body (rows_below ts) → ⊥)
     → (y : IsShaped e d n v bs k) × (Content d n y.body (rows_below ts) → ⊥)
 content_broken e d n v bs j k ts same x wrong =
     (record { body = x.body; body_is = x.body_is; holds = x.holds; allows = subst (λ (z : ℕ). Allows e d v z) same x.allows }, wrong)
 
-pub caused_by_build : (s : SessionMeaning) (x : EncodingError) (w : Wire) (d : Typ) (n : ℕ) (e : Encoding) (h : ArrayHead) (bs : List Buffer) (ws : List Wire) (ps : List Place) (ts : Trees) → IsNodeOf s w d n e h
+pub caused_by_build : (s : SessionMeaning) → IsShipped s → IsLawful codec s → (x : EncodingError) (w : Wire) (d : Typ) (n : ℕ) (e : Encoding) (h : ArrayHead) (bs : List Buffer) (ws : List Wire) (ps : List Place) (ts : Trees) → IsNodeOf s w d n e h
     → IsPlanned s.ext e h ps → (label w).buffers ≡ all_present bs → roses_of ws ≡ below w → AllTell s (roses_of ws) ps ts → IsUnbuilt x s.ext e h bs ts → RefusesWire s (encoding_refusal x) w d n
-caused_by_build s refusals.OutOfMemory w d n e h bs ws ps ts read plan own own_children told c = tt
-caused_by_build s refusals.BadMetadata w d n e h bs ws ps ts read plan own own_children told c = absurd c
-caused_by_build s refusals.WireLimit w d n e h bs ws ps ts read plan own own_children told c = absurd c
-caused_by_build s refusals.BadShape w d n e h bs ws ps ts read plan own own_children told c =
+caused_by_build s ok law refusals.OutOfMemory w d n e h bs ws ps ts read plan own own_children told c = tt
+caused_by_build s ok law refusals.BadMetadata w d n e h bs ws ps ts read plan own own_children told c = absurd c
+caused_by_build s ok law refusals.WireLimit w d n e h bs ws ps ts read plan own own_children told c = absurd c
+caused_by_build s ok law refusals.BadShape w d n e h bs ws ps ts read plan own own_children told c =
     let wrong = at_node (λ f m b k. HasWrongShape codec s.ext (plain_encoding e) f m b bs ts) h w d n read.head c in
+    let plans = at_node (λ f m b k. PlansChildren codec s.ext (plain_encoding e) f m b k ps) h w d n read.head plan in
     let A : Wires → Type 0 = λ z. AllMatch codec s z ts in
     let matched : AllMatch codec s (below w) ts = subst A own_children told.matched in
     let same : count (below w) ≡ count ts = sym (matched_count codec s (below w) ts matched) in
@@ -213,10 +214,28 @@ caused_by_build s refusals.BadShape w d n e h bs ws ps ts read plan own own_chil
         by = own_encoding s w d n e h read;
         value = wrong.value;
         metadata = wrong.metadata;
-        broken = elim wrong.wrong [ inl never ↦ inr (inl (shaped never)) | inr never ↦ inr (inr (encodings ts, are_of s (below w) ts matched, never)) ];
+        broken = elim wrong.wrong [ inl never ↦ inr (inl (shaped never)) | inr never ↦ inr (inr (encodings ts, untaken_of codec s ok law (plain_encoding e) d n plans.value ps (below w) ts plans.plan matched never, never)) ];
       },
     )
-caused_by_build s refusals.BadContent w d n e h bs ws ps ts read plan own own_children told c =
+caused_by_build s ok law refusals.ForeignControl w d n e h bs ws ps ts read plan own own_children told c =
+    let wrong = at_node (λ f m b k. HasWrongControl codec s.ext (plain_encoding e) f m b ts) h w d n read.head c in
+    let plans = at_node (λ f m b k. PlansChildren codec s.ext (plain_encoding e) f m b k ps) h w d n read.head plan in
+    let A : Wires → Type 0 = λ z. AllMatch codec s z ts in
+    let value = one_value s.ext (plain_encoding e) d (label w).metadata plans.value wrong.value plans.metadata wrong.metadata in (
+      [],
+      record {
+        encoding = plain_encoding e;
+        by = own_encoding s w d n e h read;
+        value = wrong.value;
+        metadata = wrong.metadata;
+        places_are = ps;
+        plan = ap (λ z. plan_of (plain_encoding e) d n z (count (below w))) (sym value) ∙ plans.plan;
+        children = ts;
+        matched = record { matched = subst A own_children told.matched; sound = told.sound; normal = told.normal; placed = told.placed };
+        foreign = wrong.foreign;
+      },
+    )
+caused_by_build s ok law refusals.BadContent w d n e h bs ws ps ts read plan own own_children told c =
     let wrong = at_node (λ f m b k. HasWrongContent codec s.ext (plain_encoding e) f m b bs ts) h w d n read.head c in
     let plans = at_node (λ f m b k. PlansChildren codec s.ext (plain_encoding e) f m b k ps) h w d n read.head plan in
     let A : Wires → Type 0 = λ z. AllMatch codec s z ts in
@@ -237,6 +256,7 @@ caused_by_build s refusals.BadContent w d n e h bs ws ps ts read plan own own_ch
         shaped = broken.0;
         children = ts;
         matched = record { matched = matched; sound = told.sound; normal = told.normal; placed = told.placed };
+        controlled = wrong.controlled;
         broken = broken.1;
       },
     )

@@ -10,14 +10,14 @@ use Rattle.vx_scalars.specs.Stats.{Told, Stats}
 use Rattle.vx_scalars.specs.WrittenStats.{written_sum, exact_flag, exact_count}
 use Rattle.vx_scalars.specs.declared.precision.Precision.TheVariants.{Exact, Inexact, Absent}
 use Rattle.vx_scalar_wire.specs.StatsTable.{value_field, number_field, count_bits, stats_table}
-use Rattle.vx_trees.specs.Rose.{Rose, Roses, node, end, more}
+use Rattle.vx_trees.specs.Rose.{node, end, more}
 use Rattle.vx_trees.specs.Everywhere.{Everywhere, EverywhereBelow}
 use Rattle.vx_trees.specs.Walks.{nodes, nodes_of, gathered}
 use Rattle.vx_wire_tree.specs.Context.{Context, grown_by}
 use Rattle.vx_wire_tree.specs.Wire.{Wire, Wires, IsWhole, buffers_at_node, buffers_in, ids_in, present}
 use Rattle.vx_serde.specs.ArraySchema.{array_schema}
 use Rattle.vx_serde.specs.Blocks.{encodings_in, encodings_below, numbered_by, numbered_below_by, message_by, layout_by}
-use Rattle.vx_serde.specs.Message.{NodeFields, Descriptor}
+use Rattle.vx_serde.specs.Message.{Descriptor}
 use Rattle.vx_serde.specs.MessageValue.{node_value, rows_value, descriptors_bytes}
 use Rattle.vx_serde.specs.Numbered.{encoding_index, numbers_from, numbered, numbered_below}
 use Rattle.vx_serde.specs.WritingSteps.{layout_of}

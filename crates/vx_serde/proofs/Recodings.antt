@@ -19,18 +19,18 @@ use Rattle.vx_wire_tree.specs.Session.{IsShipped, IsPaired}
 use Rattle.vx_wire_tree.specs.Tells.{Tells}
 use Rattle.vx_wire_tree.specs.Wire.{Wire, ids_in, buffers_in}
 use Rattle.vx_wire_tree.specs.Written.{wire, canon}
-use Rattle.vx_wire_tree.proofs.Laws.{matched_whole, canon_wire, canon_written, canon_grown}
+use Rattle.vx_wire_tree.proofs.Laws.{matched_whole, matched_written, canon_wire, canon_written, canon_grown}
 use Rattle.vx_encodings.specs.Messages.{codec}
 use Rattle.vx_serde.specs.declared.options.SerializeOptions.{SerializeOptions}
 use Rattle.vx_serde.specs.declared.error.WireError.{WireError}
-use Rattle.vx_serde.specs.declared.error.WireError.TheVariants.{OutOfMemory, TooShort, BadTable, TableLimit, BadAlignment, Compressed, OutOfBounds, UnknownIndex, UnknownEncoding, BadMetadata, BadShape, BadContent, BadStats, NotPermitted, WireLimit, NotRegistered}
+use Rattle.vx_serde.specs.declared.error.WireError.TheVariants.{OutOfMemory, TooShort, BadTable, TableLimit, BadAlignment, Compressed, OutOfBounds, UnknownIndex, UnknownEncoding, BadMetadata, BadShape, BadContent, ForeignControl, BadStats, NotPermitted, WireLimit, NotRegistered}
 use Rattle.vx_serde.specs.ArraySchema.{array_schema}
 use Rattle.vx_serde.specs.Blob.{Carries}
 use Rattle.vx_serde.specs.Limits.{message_limits}
 use Rattle.vx_serde.specs.Opening.{RefusesOpening}
 use Rattle.vx_serde.specs.ReadingSteps.{IsOpened}
 use Rattle.vx_serde.specs.KeptContext.{KeepsContext}
-use Rattle.vx_serde.specs.Spells.{Spells, KeepsReaderLimits, KeepsWriterLimits, blob_of, ids_after}
+use Rattle.vx_serde.specs.Spells.{Spells, KeepsReaderLimits, ids_after}
 use Rattle.vx_serde.specs.Placing.{data_from}
 use Rattle.vx_serde.specs.Written.{message_bytes, message_pad, blob_bytes, IsWritable}
 use Rattle.vx_buffer.specs.Joined.{joined}
@@ -41,7 +41,7 @@ use Rattle.vx_serde.specs.Request.{Request, IsSpelled}
 use Rattle.vx_serde.specs.Recoding.{Product, IsRecoded, IsFaithful, IsTwiceAsOnce, LeavesContext}
 use Rattle.vx_serde.proofs.CarriedOnce.{one_blob}
 use Rattle.vx_serde.proofs.OneArray.{spelled_once}
-use Rattle.vx_serde.proofs.WrittenAgain.{spelled_again, read_written}
+use Rattle.vx_serde.proofs.WrittenAgain.{spelled_again}
 use Rattle.vx_serde.proofs.Gathered.{all-written}
 
 -- An opened blob spells the array that its wire tree tells.
@@ -97,14 +97,14 @@ mutual
 
 -- What was recoded can be recoded again, and its bytes stay as they are.
 twice : (asked : Request) (made : Product) → IsLawful codec asked.session → IsSpelled asked made.array → IsRecoded asked made
-    → Spells (joined made.buffers) made.context.ids asked.dtype asked.len asked.session (canon asked.session made.array) → IsTwiceAsOnce asked made
+    → Spells (joined made.buffers) made.context.ids asked.dtype asked.len asked.session (canon codec asked.session made.array) → IsTwiceAsOnce asked made
 twice asked made law spelled recoded again =
     let s = asked.session in
     let o = asked.options in
     let t = made.array in
     let sound = spelled.told.sound in
     let normal = spelled.told.normal in
-    let own : wire codec s (canon s t) ≡ wire codec s t = canon_wire codec s law.stats t sound normal in
+    let own : wire codec s (canon codec s t) ≡ wire codec s t = canon_wire codec s law.stats t sound normal in
     let by : Wire → List ℕ = λ w. blob_bytes (with_ids asked.context.ids (ids_in w)) o w in
     let P : Wire → Type 0 = λ w. IsWritable (with_ids asked.context.ids (ids_in w)) o w in
     let Q : List ℕ → Type 0 = λ z. KeepsReaderLimits o z in
@@ -113,21 +113,21 @@ twice asked made law spelled recoded again =
       bytes = ap by own ∙ sym recoded.serialized.written;
       context = same;
       can = record {
-        array = canon s t;
+        array = canon codec s t;
         spelled = again;
         reader_limits = subst Q (sym recoded.serialized.written) (written_light (ids_after s t asked.context) o (wire codec s t) recoded.serialized.limits.writable);
         writer_limits = record {
           messages = subst (λ (z : Tree). HasMessages z) (sym (canon_written codec s t sound normal)) (written_messages t recoded.serialized.limits.messages);
           writable = subst P (sym own) recoded.serialized.limits.writable;
         };
-        grows = is_some (grown codec s asked.context (canon s t)) made.context same;
+        grows = is_some (grown codec s asked.context (canon codec s t)) made.context same;
       };
     }
 
 -- What is recoded of a spelled array is faithful to it.
 pub faithful : (asked : Request) (made : Product) → IsShipped asked.session → IsLawful codec asked.session → IsPaired asked.session → IsSpelled asked made.array → IsRecoded asked made → IsFaithful asked made
 faithful asked made ok law paired spelled recoded =
-    let P : List ℕ → Type 0 = λ z. Spells z made.context.ids asked.dtype asked.len asked.session (canon asked.session made.array) in
+    let P : List ℕ → Type 0 = λ z. Spells z made.context.ids asked.dtype asked.len asked.session (canon codec asked.session made.array) in
     let again = subst P (sym recoded.serialized.written)
     (spelled_again asked.session ok law paired asked.blob asked.ids asked.dtype asked.len made.array asked.context made.context asked.options spelled recoded.serialized.storable recoded.serialized.grown_is recoded.serialized.limits) in
     record {
@@ -178,13 +178,14 @@ caused_by_tree asked UnknownEncoding w carried u = record { wire = w; carried = 
 caused_by_tree asked BadMetadata w carried u = record { wire = w; carried = carried; cause = u }
 caused_by_tree asked BadShape w carried u = record { wire = w; carried = carried; cause = u }
 caused_by_tree asked BadContent w carried u = record { wire = w; carried = carried; cause = u }
+caused_by_tree asked ForeignControl w carried u = record { wire = w; carried = carried; cause = u }
 caused_by_tree asked BadStats w carried u = record { wire = w; carried = carried; cause = u }
 caused_by_tree asked _ w carried u = absurd u
 
 -- An array that is not written. What was read is also written.
-pub caused_by_writing : (asked : Request) (e : WireError) (t : Tree) → IsPaired asked.session → IsSpelled asked t → RefusesArray asked.session t asked.context asked.options e → Refuses asked e
-caused_by_writing asked OutOfMemory t paired x u = tt
-caused_by_writing asked NotPermitted t paired x u = record { array = t; spelled = x; holds = u }
-caused_by_writing asked WireLimit t paired x u = record { array = t; spelled = x; holds = u }
-caused_by_writing asked NotRegistered t paired x u = all-written asked.session t (read_written codec asked.session paired x.wire t x.told.matched) u
-caused_by_writing asked _ t paired x u = absurd u
+pub caused_by_writing : (asked : Request) → IsShipped asked.session → IsLawful codec asked.session → (e : WireError) (t : Tree) → IsPaired asked.session → IsSpelled asked t → RefusesArray asked.session t asked.context asked.options e → Refuses asked e
+caused_by_writing asked ok law OutOfMemory t paired x u = tt
+caused_by_writing asked ok law NotPermitted t paired x u = record { array = t; spelled = x; holds = u }
+caused_by_writing asked ok law WireLimit t paired x u = record { array = t; spelled = x; holds = u }
+caused_by_writing asked ok law NotRegistered t paired x u = all-written asked.session t (matched_written codec asked.session ok law paired x.wire t x.told.matched) u
+caused_by_writing asked ok law _ t paired x u = absurd u

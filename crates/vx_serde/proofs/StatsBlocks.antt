@@ -1,6 +1,5 @@
 -- The blocks of a set of statistics, as a builder of tables has them, and why a table is not read.
-use Rattle.std.proofs.Common.{◌≡◌, ◌<◌, ◌^◌, ◌⊎◌, length, true, sym, ap, ◌∙◌, subst, inl, inr}
-use Rattle.std.specs.Prelude.{MatchResult, Result, Err}
+use Rattle.std.proofs.Common.{◌≡◌, ◌<◌, ◌^◌, ◌⊎◌, length, true, sym, subst, inl, inr}
 use Rattle.vx_flat.specs.Building.{Built, Written, Keeps, IsStopped}
 use Rattle.vx_flat.specs.Value.{Field, Fields, absent, table}
 use Rattle.vx_types.specs.Typ.{Typ}

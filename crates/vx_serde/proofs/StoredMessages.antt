@@ -19,7 +19,7 @@ use Rattle.vx_flat.proofs.LawsOfMessages.{shown-one}
 use Rattle.vx_flat.proofs.LawsOfViews.{seen-of}
 use Rattle.vx_trees.specs.Rose.{Rose}
 use Rattle.vx_serde.specs.declared.error.WireError.{WireError}
-use Rattle.vx_serde.specs.declared.error.WireError.TheVariants.{OutOfMemory, TooShort, BadTable, TableLimit, BadAlignment, Compressed, OutOfBounds, UnknownIndex, UnknownEncoding, BadMetadata, BadShape, BadContent, BadStats, NotPermitted, WireLimit, NotRegistered}
+use Rattle.vx_serde.specs.declared.error.WireError.TheVariants.{OutOfMemory, TooShort, BadTable, TableLimit, BadAlignment, Compressed, OutOfBounds, UnknownIndex, UnknownEncoding, BadMetadata, BadShape, BadContent, ForeignControl, BadStats, NotPermitted, WireLimit, NotRegistered}
 use Rattle.vx_serde.specs.ArraySchema.{array_schema}
 use Rattle.vx_serde.specs.Blob.{IsBlob, AreClean, buffers_at, wire_of}
 use Rattle.vx_serde.specs.Message.{Descriptor, NodeFields, message_of, node_of, root_in, descriptors_of, bytes_of_field}
@@ -131,6 +131,7 @@ refused_descriptors most UnknownEncoding given segment m value shows r = absurd 
 refused_descriptors most BadMetadata given segment m value shows r = absurd (never-refused BadMetadata given (λ g n p d x. x) (length segment) 0 0 (message_of value).descriptors r)
 refused_descriptors most BadShape given segment m value shows r = absurd (never-refused BadShape given (λ g n p d x. x) (length segment) 0 0 (message_of value).descriptors r)
 refused_descriptors most BadContent given segment m value shows r = absurd (never-refused BadContent given (λ g n p d x. x) (length segment) 0 0 (message_of value).descriptors r)
+refused_descriptors most ForeignControl given segment m value shows r = absurd (never-refused ForeignControl given (λ g n p d x. x) (length segment) 0 0 (message_of value).descriptors r)
 refused_descriptors most BadStats given segment m value shows r = absurd (never-refused BadStats given (λ g n p d x. x) (length segment) 0 0 (message_of value).descriptors r)
 refused_descriptors most NotPermitted given segment m value shows r = absurd (never-refused NotPermitted given (λ g n p d x. x) (length segment) 0 0 (message_of value).descriptors r)
 refused_descriptors most WireLimit given segment m value shows r = absurd (never-refused WireLimit given (λ g n p d x. x) (length segment) 0 0 (message_of value).descriptors r)

@@ -12,7 +12,9 @@ use Rattle.vx_array_tree.specs.Sound.{metadata_in}
 use Rattle.vx_array_tree.specs.Table.{buffers_of}
 use Rattle.vx_array_tree.specs.Tree.{Tree, Trees}
 use Rattle.vx_wire_tree.specs.Context.{Context, grown_by, index_of}
-use Rattle.vx_wire_tree.specs.Fields.{told}
+use Rattle.vx_wire_tree.specs.Codec.{metadata_bytes}
+use Rattle.vx_wire_tree.specs.Fields.{Fields, told}
+use Rattle.vx_wire_tree.specs.Fields as F
 use Rattle.vx_wire_tree.specs.Session.{SessionMeaning}
 use Rattle.vx_wire_tree.specs.Wire.{Wire, WireHead, present, all_present, id_in, buffers_at_node, buffers_in}
 use Rattle.vx_wire_tree.specs.Written.{wire, wires}
@@ -46,6 +48,11 @@ module _ {A B : Type 0} (f : A → B) where
 abbrev pub no_session : SessionMeaning
 no_session = record { reader = λ id. None; writer = λ id. None; ext = no_readers }
 
+-- A foreign node's bytes stand as they are, and others as their message.
+written_bytes : (f : Fields) → metadata_bytes codec f ≡ message_bytes f
+written_bytes (F.raw bytes) = refl
+written_bytes _ = refl
+
 module _ (s : SessionMeaning) where
   -- The wire trees of a list of arrays.
   abbrev pub wired : List Tree → List Wire
@@ -75,7 +82,7 @@ module _ (s : SessionMeaning) where
   own-index (node h ts) ids = refl
 
   pub own-metadata : (t : Tree) → (label (wire codec s t)).metadata ≡ message_bytes (told (metadata_in (label t) (below t)))
-  own-metadata (node h ts) = refl
+  own-metadata (node h ts) = written_bytes (told (metadata_in h ts))
 
   pub own-stats : (t : Tree) → (label (wire codec s t)).stats ≡ table (stats_table (label t).stats)
   own-stats (node h ts) = refl

@@ -10,7 +10,7 @@ use Rattle.vx_wire_tree.specs.Wire.{Wire}
 use Rattle.vx_encodings.specs.Messages.{codec}
 use Rattle.vx_serde.specs.declared.options.SerializeOptions.{SerializeOptions}
 use Rattle.vx_serde.specs.declared.error.WireError.{WireError}
-use Rattle.vx_serde.specs.declared.error.WireError.TheVariants.{OutOfMemory, TooShort, BadTable, TableLimit, BadAlignment, Compressed, OutOfBounds, UnknownIndex, UnknownEncoding, BadMetadata, BadShape, BadContent, BadStats, NotPermitted, WireLimit, NotRegistered}
+use Rattle.vx_serde.specs.declared.error.WireError.TheVariants.{OutOfMemory, TooShort, BadTable, TableLimit, BadAlignment, Compressed, OutOfBounds, UnknownIndex, UnknownEncoding, BadMetadata, BadShape, BadContent, ForeignControl, BadStats, NotPermitted, WireLimit, NotRegistered}
 use Rattle.vx_serde.specs.Blob.{Carries}
 use Rattle.vx_serde.specs.Limits.{message_limits}
 use Rattle.vx_serde.specs.Opening.{RefusesOpening}
@@ -26,6 +26,7 @@ RefusesWire s UnknownEncoding w d n = RefusesTree trees.unknown_encoding codec s
 RefusesWire s BadMetadata w d n = RefusesTree trees.bad_metadata codec s w d n
 RefusesWire s BadShape w d n = RefusesTree trees.bad_shape codec s w d n
 RefusesWire s BadContent w d n = RefusesTree trees.bad_content codec s w d n
+RefusesWire s ForeignControl w d n = RefusesTree trees.foreign_control codec s w d n
 RefusesWire s BadStats w d n = RefusesTree trees.bad_stats codec s w d n
 RefusesWire s _ w d n = ⊥
 
@@ -43,7 +44,7 @@ pub record SpellsOne (asked : Request) (P : Tree → Type 0) : Type 0 where
 
 -- Why an array is not written under a context: by the refusal. Want of memory has no cause but itself. The context does
 -- not take one of the array's identifiers, a limit on writing is passed, or nothing writes the arrays of a node's
--- encoding.
+-- encoding, or a node is foreign and such nodes are not allowed.
 abbrev pub RefusesArray : SessionMeaning → Tree → Context → SerializeOptions → WireError → Type 0
 RefusesArray s t context options OutOfMemory = Unit {0}
 RefusesArray s t context options NotPermitted = grown codec s context t ≡ None
@@ -68,6 +69,7 @@ Refuses asked UnknownEncoding = RefusesCarried asked UnknownEncoding
 Refuses asked BadMetadata = RefusesCarried asked BadMetadata
 Refuses asked BadShape = RefusesCarried asked BadShape
 Refuses asked BadContent = RefusesCarried asked BadContent
+Refuses asked ForeignControl = RefusesCarried asked ForeignControl
 Refuses asked BadStats = RefusesCarried asked BadStats
 Refuses asked NotPermitted = SpellsOne asked (λ t. RefusesArray asked.session t asked.context asked.options NotPermitted)
 Refuses asked WireLimit = SpellsOne asked (λ t. RefusesArray asked.session t asked.context asked.options WireLimit)

@@ -1,7 +1,7 @@
 -- The numbers of refusals.
 use Rattle.std.specs.Prelude.{ℕ}
 use Rattle.vx_serde.specs.declared.error.WireError.{WireError}
-use Rattle.vx_serde.specs.declared.error.WireError.TheVariants.{OutOfMemory, TooShort, BadTable, TableLimit, BadAlignment, Compressed, OutOfBounds, UnknownIndex, UnknownEncoding, BadMetadata, BadShape, BadContent, BadStats, NotPermitted, WireLimit, NotRegistered}
+use Rattle.vx_serde.specs.declared.error.WireError.TheVariants.{OutOfMemory, TooShort, BadTable, TableLimit, BadAlignment, Compressed, OutOfBounds, UnknownIndex, UnknownEncoding, BadMetadata, BadShape, BadContent, ForeignControl, BadStats, NotPermitted, WireLimit, NotRegistered}
 
 -- Want of memory is 1. The blob's own faults are 10 to 15, a node's 16 to 22, and
 -- those of writing 23 to 25.
@@ -18,6 +18,7 @@ error_number UnknownEncoding = 17
 error_number BadMetadata = 18
 error_number BadShape = 19
 error_number BadContent = 20
+error_number ForeignControl = 21
 error_number BadStats = 22
 error_number NotPermitted = 23
 error_number WireLimit = 24

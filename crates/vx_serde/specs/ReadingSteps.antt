@@ -8,6 +8,8 @@ use Rattle.vx_flat.specs.Limits.{IsLight}
 use Rattle.vx_flat.specs.Weight.{weight}
 use Rattle.vx_flat.specs.Value.{Field}
 use Rattle.vx_types.specs.Typ.{Typ}
+use Rattle.vx_wire_tree.specs.Causes.{LacksBuffer, LacksId}
+use Rattle.vx_wire_tree.specs.Placed.{Anywhere}
 use Rattle.vx_wire_tree.specs.Steps.{HasNoStats}
 use Rattle.vx_wire_tree.specs.Wire.{Wire}
 use Rattle.vx_encodings.specs.Messages.{codec}
@@ -16,7 +18,7 @@ use Rattle.vx_encodings.specs.declared.error.EncodingError.TheVariants as encodi
 use Rattle.vx_scalar_wire.specs.declared.error.ScalarWireError.{ScalarWireError}
 use Rattle.vx_scalar_wire.specs.declared.error.ScalarWireError.TheVariants as scalars
 use Rattle.vx_serde.specs.declared.error.WireError.{WireError}
-use Rattle.vx_serde.specs.declared.error.WireError.TheVariants.{OutOfMemory, BadTable, TableLimit, OutOfBounds, BadMetadata, BadShape, BadContent, BadStats, WireLimit}
+use Rattle.vx_serde.specs.declared.error.WireError.TheVariants.{OutOfMemory, BadTable, TableLimit, OutOfBounds, UnknownIndex, BadMetadata, BadShape, BadContent, ForeignControl, BadStats, WireLimit}
 use Rattle.vx_serde.specs.ArraySchema.{array_schema}
 use Rattle.vx_serde.specs.Blob.{Carries, AreClean}
 use Rattle.vx_serde.specs.Message.{Descriptor, message_of}
@@ -39,6 +41,13 @@ abbrev pub RefusesBuffers : WireError → List (Option Buffer) → Type 0
 RefusesBuffers OutOfMemory bs = Unit {0}
 RefusesBuffers OutOfBounds bs = (i : ℕ) × (slice_get bs i ≡ Some None)
 RefusesBuffers _ bs = ⊥
+
+-- Why a wire tree is not kept: an identifier or a buffer is missing somewhere, or memory was wanted.
+abbrev pub RefusesKept : WireError → Wire → Type 0
+RefusesKept OutOfMemory w = Unit {0}
+RefusesKept OutOfBounds w = Anywhere LacksBuffer w
+RefusesKept UnknownIndex w = Anywhere LacksId w
+RefusesKept _ w = ⊥
 
 -- Why a node's statistics are not taken: its field shows none of arrays of the type, or memory was wanted.
 abbrev pub RefusesStats : WireError → Typ → Field → Type 0
@@ -64,4 +73,5 @@ encoding_refusal encodings.OutOfMemory = OutOfMemory
 encoding_refusal encodings.BadMetadata = BadMetadata
 encoding_refusal encodings.BadShape = BadShape
 encoding_refusal encodings.BadContent = BadContent
+encoding_refusal encodings.ForeignControl = ForeignControl
 encoding_refusal encodings.WireLimit = WireLimit

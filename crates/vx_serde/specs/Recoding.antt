@@ -44,8 +44,8 @@ asked_again asked made = record {
 -- Recoding twice is recoding once: what is read back of the array has the new bytes as its blob, and grows the context
 -- alike; and what a second call is asked can be done.
 pub record IsTwiceAsOnce (asked : Request) (made : Product) : Type 0 where
-  pub bytes : blob_of asked.session (canon asked.session made.array) asked.context asked.options ≡ joined made.buffers
-  pub context : grown codec asked.session asked.context (canon asked.session made.array) ≡ Some made.context
+  pub bytes : blob_of asked.session (canon codec asked.session made.array) asked.context asked.options ≡ joined made.buffers
+  pub context : grown codec asked.session asked.context (canon codec asked.session made.array) ≡ Some made.context
   pub can : CanRecode (asked_again asked made)
 
 -- The blob spells the array, and no other one; the new blob spells the same array, read with the grown context; and
@@ -53,7 +53,7 @@ pub record IsTwiceAsOnce (asked : Request) (made : Product) : Type 0 where
 pub record IsFaithful (asked : Request) (made : Product) : Type 0 where
   pub spelled : IsSpelled asked made.array
   pub the_one : (other : Tree) → IsSpelled asked other → other ≡ made.array
-  pub again : Spells (joined made.buffers) made.context.ids asked.dtype asked.len asked.session (canon asked.session made.array)
+  pub again : Spells (joined made.buffers) made.context.ids asked.dtype asked.len asked.session (canon codec asked.session made.array)
   pub twice : IsTwiceAsOnce asked made
 
 -- What a call leaves of the context, whatever it answers: the context keeps what it had, and what comes to it at its

@@ -1,5 +1,5 @@
 -- What the steps of writing an array give, and why they refuse.
-use Rattle.std.specs.Prelude.{ℕ, ◌≡◌, ◌<◌, ◌^◌, ◌⊎◌, List, [], ◌∷◌, Some, None, length}
+use Rattle.std.specs.Prelude.{ℕ, ◌≡◌, ◌<◌, ◌^◌, ◌⊎◌, List, [], ◌∷◌, None, length}
 use Rattle.vx_flat.specs.Layout.{written_layout}
 use Rattle.vx_flat.specs.Limits.{limits, IsLight}
 use Rattle.vx_flat.specs.Value.{table, elements, field, no_fields}
@@ -11,10 +11,9 @@ use Rattle.vx_scalar_wire.specs.declared.error.ScalarWireError.TheVariants as sc
 use Rattle.vx_trees.specs.Rose.{label, below}
 use Rattle.vx_trees.specs.Walks.{levels}
 use Rattle.vx_array_tree.specs.Tree.{Tree}
-use Rattle.vx_wire_tree.specs.Causes.{HasUnwritten}
+use Rattle.vx_wire_tree.specs.Causes.{HasUnwritten, LacksWriter}
 use Rattle.vx_wire_tree.specs.Context.{Context, grown_by}
-use Rattle.vx_wire_tree.specs.Session.{SessionMeaning, Reader}
-use Rattle.vx_registry.specs.Session.{Registry, found}
+use Rattle.vx_wire_tree.specs.Session.{SessionMeaning}
 use Rattle.vx_registry.specs.Serialization.{array_id}
 use Rattle.vx_serde.specs.declared.error.WireError.{WireError}
 use Rattle.vx_serde.specs.declared.error.WireError.TheVariants.{OutOfMemory, NotPermitted, WireLimit, NotRegistered}
@@ -63,26 +62,20 @@ builder_refusal _ = tables.MessageTooLong
 
 -- ---- nodes
 
--- What writes the arrays of a root's encoding is registered.
-pub record HasEntry (r : Registry) (t : Tree) : Type 0 where
-  pub entry : Reader
-  pub found_is : found r.writers (array_id t) ≡ Some entry
-
--- A root is not written for want of memory, because its metadata does not fit its message, or because nothing writes the
--- arrays of its encoding.
-abbrev pub RefusesNode : Registry → Tree → WireError → Type 0
-RefusesNode r t OutOfMemory = Unit {0}
-RefusesNode r t WireLimit = HasMessage (label t) (below t) → ⊥
-RefusesNode r t NotRegistered = found r.writers (array_id t) ≡ None
-RefusesNode r t _ = ⊥
+-- A root is not written for want of memory, because its metadata does not fit its message, or because nothing writes it.
+abbrev pub RefusesNode : SessionMeaning → Tree → WireError → Type 0
+RefusesNode s t OutOfMemory = Unit {0}
+RefusesNode s t WireLimit = HasMessage (label t) (below t) → ⊥
+RefusesNode s t NotRegistered = LacksWriter s t
+RefusesNode s t _ = ⊥
 
 -- Or because the context does not take its identifier.
-abbrev pub RefusesRoot : Registry → Tree → Context → WireError → Type 0
-RefusesRoot r t c NotPermitted = grown_by (array_id t ∷ []) c ≡ None
-RefusesRoot r t c e = RefusesNode r t e
+abbrev pub RefusesRoot : SessionMeaning → Tree → Context → WireError → Type 0
+RefusesRoot s t c NotPermitted = grown_by (array_id t ∷ []) c ≡ None
+RefusesRoot s t c e = RefusesNode s t e
 
 -- The nodes of an array are not written for want of memory, because there are more levels than there is room for or the
--- metadata of one does not fit its message, or because nothing writes the arrays of one's encoding.
+-- metadata of one does not fit its message, or because nothing writes one.
 abbrev pub RefusesNodes : SessionMeaning → Tree → ℕ → WireError → Type 0
 RefusesNodes s t room OutOfMemory = Unit {0}
 RefusesNodes s t room WireLimit = (room < levels t) ⊎ (HasMessages t → ⊥)

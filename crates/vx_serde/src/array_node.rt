@@ -4,6 +4,7 @@ ghost use Rattle.std.specs.Prelude.{◌≡◌, ◌≤◌, ◌<◌, ◌^◌, Some
 ghost use Rattle.vx_flat.specs.Building.{Takes, Written, Keeps};
 ghost use Rattle.vx_trees.specs.Walks.{levels};
 ghost use Rattle.vx_types.specs.Known.{ExtMeaning};
+ghost use Rattle.vx_type_wire.specs.Session.{ext_meaning};
 ghost use Rattle.vx_wire_tree.specs.Context.{grown};
 ghost use Rattle.vx_wire_tree.specs.ReadBack.{IsWritten};
 ghost use Rattle.vx_wire_tree.specs.Wire.{ids_in};
@@ -29,6 +30,7 @@ use vx_registry::{ArrayContext, ArraySession, VortexSession};
 pub struct ArrayNodeFlatBuffer<'a> {
     ctx: &'a mut ArrayContext,
     arrays: &'a ArraySession,
+    unknown: bool,
     array: &'a Array,
 }
 
@@ -37,7 +39,8 @@ impl<'a> ArrayNodeFlatBuffer<'a> {
     ///
     /// # Errors
     /// `WireLimit` where the array has over 62 levels or a node's metadata does not fit its message, and
-    /// `NotRegistered` where nothing writes the arrays of a node's encoding.
+    /// `NotRegistered` where nothing writes the arrays of a node's encoding, or a node is foreign and the session does not
+    /// allow such nodes.
     pub fn try_new(
         alloc: Global,
         ctx: &'a mut ArrayContext,
@@ -49,13 +52,19 @@ impl<'a> ArrayNodeFlatBuffer<'a> {
         ensures array { IfOk result (λ n. n.array.now ≡ array.now) }
         ensures tables { IfOk result (λ n. n.arrays.now ≡ session.now.arrays) }
         ensures levels { OnOk result (levels array.now ≤ 62) }
-        ensures registered { (x : ExtMeaning) → OnOk result (IsWritten (tables_meaning session.now.arrays x) array.now) }
-        ensures cause { (x : ExtMeaning) → IfErr result (RefusesArray (tables_meaning session.now.arrays x) array.now ctx.old plain_options) }
+        ensures unknown { let x = ext_meaning (λ b. accepted (b.vtable, b.value)) session.now.ext in
+            IfOk result (λ n. x.unknown ≡ n.unknown) }
+        ensures registered { (x : ExtMeaning) → x.unknown ≡ (ext_meaning (λ b. accepted (b.vtable, b.value)) session.now.ext).unknown
+            → OnOk result (IsWritten (tables_meaning session.now.arrays x) array.now) }
+        ensures cause { (x : ExtMeaning) → x.unknown ≡ (ext_meaning (λ b. accepted (b.vtable, b.value)) session.now.ext).unknown
+            → IfErr result (RefusesArray (tables_meaning session.now.arrays x) array.now ctx.old plain_options) }
     {
-        judge(alloc, array, &session.arrays, MAX_LEVELS)?;
+        let unknown = session.allows_unknown();
+        judge(alloc, array, &session.arrays, unknown, MAX_LEVELS)?;
         Ok(ArrayNodeFlatBuffer {
             ctx,
             arrays: &session.arrays,
+            unknown,
             array,
         })
     }
@@ -66,7 +75,7 @@ impl<'a> ArrayNodeFlatBuffer<'a> {
     /// # Errors
     /// `NotPermitted` where the context does not take an identifier, `WireLimit` where the array passes a limit on
     /// writing or the builder's message would be too long or was before, and `NotRegistered` where nothing writes the
-    /// arrays of a node's encoding. After each of them the context keeps what it had and may have taken identifiers of
+    /// arrays of a node's encoding, or a node is foreign and such nodes are not allowed. After each of them the context keeps what it had and may have taken identifiers of
     /// the array, and the builder keeps the blocks that it has and those that were written so far.
     pub fn try_write_flatbuffer(
         &mut self,
@@ -77,6 +86,7 @@ impl<'a> ArrayNodeFlatBuffer<'a> {
         ensures same_reference { self.new.ctx.ghost_name ≡ self.old.ctx.ghost_name }
         ensures array { self.new.array.now ≡ self.old.array.now }
         ensures tables { self.new.arrays.now ≡ self.old.arrays.now }
+        ensures unknown { self.new.unknown ≡ self.old.unknown }
         ensures grown { (x : ExtMeaning) → let s = tables_meaning self.old.arrays.now x in
             OnOk result (grown codec s self.old.ctx.now self.old.array.now ≡ Some self.new.ctx.now) }
         ensures written { (x : ExtMeaning) → let s = tables_meaning self.old.arrays.now x in
@@ -86,7 +96,7 @@ impl<'a> ArrayNodeFlatBuffer<'a> {
             KeepsContext (ids_in (wire codec s self.old.array.now)) self.old.ctx.now self.new.ctx.now }
         ensures kept { (x : ExtMeaning) → let s = tables_meaning self.old.arrays.now x in
             OnErr result (Keeps builder.old (array_pieces s self.old.array.now self.old.ctx.now) builder.new) }
-        ensures cause { (x : ExtMeaning) → let s = tables_meaning self.old.arrays.now x in
+        ensures cause { (x : ExtMeaning) → x.unknown ≡ self.old.unknown → let s = tables_meaning self.old.arrays.now x in
             IfErr result (RefusesBlocks s self.old.array.now self.old.ctx.now builder.old) }
     {
         let mut found = Gathered::new(alloc);
@@ -94,6 +104,7 @@ impl<'a> ArrayNodeFlatBuffer<'a> {
             alloc,
             self.array,
             self.arrays,
+            self.unknown,
             MAX_LEVELS,
             self.ctx,
             &mut found,

@@ -1,6 +1,6 @@
 //! From a serialized array to the array that it tells.
 
-ghost use Rattle.std.specs.Prelude.{◌≡◌, List, ℕ, IfOk, IfErr, OnOk, IsOkUnless};
+ghost use Rattle.std.specs.Prelude.{◌≡◌, List, ℕ, Some, None, IfOk, IfErr, OnOk, IsOkUnless};
 ghost use Rattle.vx_trees.specs.Rose.{label};
 ghost use Rattle.vx_types.specs.Seen.{typ};
 ghost use Rattle.vx_scalars.specs.Stats.{FitStats};
@@ -13,13 +13,14 @@ ghost use Rattle.vx_scalar_wire.specs.StatsShown.{ShowsStatsIn};
 ghost use Rattle.vx_encodings.specs.Messages.{codec};
 ghost use Rattle.vx_encodings.specs.Steps.{IsPlanned};
 ghost use Rattle.vx_registry.specs.Meaning.{session_meaning};
-ghost use Rattle.vx_registry.specs.Session.{ArePaired};
+ghost use Rattle.vx_registry.specs.Session.{ArePaired, entry, found};
 ghost use Rattle.vx_serde.specs.Causes.{RefusesWire};
 ghost use Rattle.vx_serde.specs.Decoding.{IsHeadOf, IsNodeOf};
 ghost use Rattle.vx_serde.specs.ReadingSteps.{RefusesBuffers, RefusesStats, stats_refusal};
 ghost use Rattle.vx_serde.specs.Serialized.{wire_in};
 
 use crate::error::WireError;
+use crate::keeping::keep_node;
 use crate::serialized::SerializedArray;
 use crate::serialized::node::SerializedNode;
 use std::alloc::Global;
@@ -43,19 +44,21 @@ impl From<EncodingError> for WireError {
             EncodingError::BadMetadata => WireError::BadMetadata,
             EncodingError::BadShape => WireError::BadShape,
             EncodingError::BadContent => WireError::BadContent,
+            EncodingError::ForeignControl => WireError::ForeignControl,
             EncodingError::WireLimit => WireError::WireLimit,
         }
     }
 }
 
 /// What an encoding is told of a node before its children.
-fn head_of(
+pub(crate) fn head_of(
     alloc: Global,
     node: &SerializedNode<'_>,
     id: &Id,
     dtype: &DType,
     len: usize,
 ) -> Result<ArrayHead, WireError>
+    ensures id { IfOk result (λ h. h.serialized_id ≡ id.now) }
     ensures head { (ids : List (List ℕ)) → IfOk result (λ h. IsHeadOf h (wire_in ids node.now) (typ dtype.now) len) }
     ensures err { IsOkUnless result WireError.OutOfMemory }
 {
@@ -81,47 +84,41 @@ fn head_of(
 /// A node whose children are planned.
 #[derive(Drop)]
 struct PlannedNode {
-    encoding: Encoding,
     head: ArrayHead,
     children: ChildPlans,
 }
 
-/// What reads a node, and what it plans of the node's children.
+/// What the encoding that reads a node plans of the node's children.
 fn plan_node(
     alloc: Global,
     node: &SerializedNode<'_>,
+    id: &Id,
+    encoding: Encoding,
     dtype: &DType,
     len: usize,
-    ids: &ReadContext,
     session: &VortexSession,
 ) -> Result<PlannedNode, WireError>
     ensures read { let s = session_meaning (λ b. accepted (b.vtable, b.value)) session.now in
-        IfOk result (λ p. IsNodeOf s (wire_in ids.now node.now) (typ dtype.now) len p.encoding p.head) }
+        (ids : List (List ℕ)) → (label (wire_in ids node.now)).id ≡ Some id.now → s.reader id.now ≡ Some (entry encoding)
+        → IfOk result (λ p. IsNodeOf s (wire_in ids node.now) (typ dtype.now) len encoding p.head) }
     ensures planned { let s = session_meaning (λ b. accepted (b.vtable, b.value)) session.now in
-        IfOk result (λ p. IsPlanned s.ext p.encoding p.head p.children) }
-    ensures paired { OnOk result (ArePaired session.now.arrays) }
+        IfOk result (λ p. IsPlanned s.ext encoding p.head p.children) }
     ensures cause { let s = session_meaning (λ b. accepted (b.vtable, b.value)) session.now in
-        IfErr result (λ e. RefusesWire s e (wire_in ids.now node.now) (typ dtype.now) len) }
+        (ids : List (List ℕ)) → (label (wire_in ids node.now)).id ≡ Some id.now → s.reader id.now ≡ Some (entry encoding)
+        → IfErr result (λ e. RefusesWire s e (wire_in ids node.now) (typ dtype.now) len) }
 {
-    let Some(id) = ids.resolve(node.encoding_id()) else {
-        return Err(WireError::UnknownIndex);
-    };
-    let Some(encoding) = session.arrays.reader(id) else {
-        return Err(WireError::UnknownEncoding);
-    };
     let head = head_of(alloc, node, id, dtype, len)?;
     match plan(alloc, encoding, &head, &session.ext) {
-        Ok(children) => Ok(PlannedNode {
-            encoding,
-            head,
-            children,
-        }),
+        Ok(children) => Ok(PlannedNode { head, children }),
         Err(e) => Err(WireError::from(e)),
     }
 }
 
 /// A node's buffers, where none is missing.
-fn own_buffers(alloc: Global, node: &SerializedNode<'_>) -> Result<BufferHandles, WireError>
+pub(crate) fn own_buffers(
+    alloc: Global,
+    node: &SerializedNode<'_>,
+) -> Result<BufferHandles, WireError>
     ensures ok { (ids : List (List ℕ)) → IfOk result (λ bs. (label (wire_in ids node.now)).buffers ≡ all_present bs) }
     ensures cause { (ids : List (List ℕ)) → IfErr result (λ e. RefusesBuffers e (label (wire_in ids node.now)).buffers) }
 {
@@ -185,6 +182,30 @@ fn tell(
     }
 }
 
+/// A node of an encoding that nothing reads, and of which this is the identifier: kept as it stands, with those below it,
+/// where the session allows such nodes.
+fn unread_node(
+    alloc: Global,
+    node: &SerializedNode<'_>,
+    id: &Id,
+    dtype: &DType,
+    len: usize,
+    ids: &ReadContext,
+    session: &VortexSession,
+) -> Result<Array, WireError>
+    requires named { (label (wire_in ids.now node.now)).id ≡ Some id.now }
+    requires unread { found session.now.arrays.readers id.now ≡ None }
+    ensures told { let s = session_meaning (λ b. accepted (b.vtable, b.value)) session.now in
+        IfOk result (λ t. Tells codec s (wire_in ids.now node.now) (typ dtype.now) len t) }
+    ensures cause { let s = session_meaning (λ b. accepted (b.vtable, b.value)) session.now in
+        IfErr result (λ e. RefusesWire s e (wire_in ids.now node.now) (typ dtype.now) len) }
+{
+    if !session.allows_unknown() {
+        return Err(WireError::UnknownEncoding);
+    }
+    keep_node(alloc, node, dtype, len, ids)
+}
+
 /// The array that a node tells, with those below it, at a type and a length.
 fn decode_node(
     alloc: Global,
@@ -200,7 +221,13 @@ fn decode_node(
     ensures cause { let s = session_meaning (λ b. accepted (b.vtable, b.value)) session.now in
         IfErr result (λ e. RefusesWire s e (wire_in ids.now node.now) (typ dtype.now) len) }
 {
-    let planned = match plan_node(alloc, node, dtype, len, ids, session) {
+    let Some(id) = ids.resolve(node.encoding_id()) else {
+        return Err(WireError::UnknownIndex);
+    };
+    let Some(encoding) = session.arrays.reader(id) else {
+        return unread_node(alloc, node, id, dtype, len, ids, session);
+    };
+    let planned = match plan_node(alloc, node, id, encoding, dtype, len, session) {
         Ok(planned) => planned,
         Err(e) => return Err(e),
     };
@@ -224,7 +251,7 @@ fn decode_node(
     };
     match build(
         alloc,
-        planned.encoding,
+        encoding,
         planned.head,
         buffers,
         children,
@@ -239,9 +266,10 @@ impl<'a> SerializedNode<'a> {
     /// The array of this type and length that the node tells, with those below it.
     ///
     /// # Errors
-    /// `UnknownIndex`, `UnknownEncoding`, `BadMetadata`, `BadShape`, `BadContent` and `BadStats` where a node has that fault
-    /// at the type and length that follow for it, `OutOfBounds` where one names a buffer that is not there. Where several
-    /// have a cause, any of them may be answered.
+    /// `UnknownIndex`, `UnknownEncoding`, `BadMetadata`, `BadShape`, `BadContent`, `ForeignControl` and `BadStats` where a
+    /// node has that fault at the type and length that follow for it, `OutOfBounds` where one names a buffer that is not
+    /// there. Where several have a cause, any of them may be answered. A node of an encoding that nothing reads is
+    /// `UnknownEncoding`, unless the session allows such nodes: then it is kept, with all below it, as it stands.
     pub fn decode(
         &self,
         alloc: Global,

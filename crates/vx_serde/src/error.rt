@@ -35,7 +35,7 @@ pub enum WireError {
     /// A node names an encoding by an index that has no identifier.
     #[error("an encoding's index has no identifier")]
     UnknownIndex,
-    /// A node's identifier is not registered.
+    /// A node's identifier is not registered, and unknown ones are not allowed.
     #[error("an encoding's identifier is not registered")]
     UnknownEncoding,
     /// A node's metadata is none that its encoding reads.
@@ -48,6 +48,9 @@ pub enum WireError {
     /// text where one is to be.
     #[error("a node's content is broken")]
     BadContent,
+    /// A child that says where a node's rows are holds a foreign node, or the entries of maps are one.
+    #[error("a foreign node says where rows are")]
+    ForeignControl,
     /// A node's statistics are no values of their types, or have an unknown precision.
     #[error("a node's statistics are ill-formed")]
     BadStats,
@@ -57,7 +60,7 @@ pub enum WireError {
     /// The array passes a limit on writing.
     #[error("the array passes a limit on writing")]
     WireLimit,
-    /// Nothing writes the arrays of an encoding.
+    /// Nothing writes the arrays of an encoding, or a node is foreign and such nodes are not allowed.
     #[error("nothing writes the arrays of an encoding")]
     NotRegistered,
 }
@@ -80,6 +83,7 @@ impl WireError {
             WireError::BadMetadata => 18,
             WireError::BadShape => 19,
             WireError::BadContent => 20,
+            WireError::ForeignControl => 21,
             WireError::BadStats => 22,
             WireError::NotPermitted => 23,
             WireError::WireLimit => 24,

@@ -33,7 +33,7 @@ pub fn one_array()
 pub fn written_is_spelled()
     ensures { (s : SessionMeaning) (blob : List ℕ) (ids : List (List ℕ)) (d : Typ) (n : ℕ) (t : Tree) (old new : Context) (options : SerializeOptions)
         → IsShipped s → IsLawful codec s → IsPaired s → Spells blob ids d n s t → HasStorableStats codec t → grown codec s old t ≡ Some new → KeepsWriterLimits s t old options
-        → Spells (blob_of s t old options) new.ids d n s (canon s t) }
+        → Spells (blob_of s t old options) new.ids d n s (canon codec s t) }
 {}
 
 /// Where padding is asked, each buffer of a blob begins at a multiple of its alignment, the position of the blob counted;

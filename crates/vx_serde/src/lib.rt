@@ -7,6 +7,7 @@ mod blocks;
 mod decoding;
 mod error;
 mod gathering;
+mod keeping;
 pub mod laws;
 mod lent_buffers;
 mod limits;

@@ -38,7 +38,7 @@ impl ArrayExt for Array {
     /// # Errors
     /// `NotPermitted` where the context does not take an identifier, `WireLimit` where the array
     /// passes a limit on writing, and `NotRegistered` where nothing writes the arrays of a node's
-    /// encoding. After each of them the context keeps what it had, and may have taken identifiers
+    /// encoding, or a node is foreign and the session does not allow such nodes. After each of them the context keeps what it had, and may have taken identifiers
     /// of the array.
     fn serialize(
         &self,
@@ -54,6 +54,7 @@ impl ArrayExt for Array {
         ensures cause { let s = session_meaning (λ b. accepted (b.vtable, b.value)) session.now in
             IfErr result (RefusesArray s self.now ctx.old options.now) }
     {
-        write_array(alloc, self, &session.arrays, ctx, options)
+        let unknown = session.allows_unknown();
+        write_array(alloc, self, &session.arrays, unknown, ctx, options)
     }
 }

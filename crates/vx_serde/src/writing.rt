@@ -143,26 +143,28 @@ fn write_message(
     light_message(message)
 }
 
-/// What an array's nodes bring along in preorder, and where its buffers go. Its identifiers are taken into the context
+/// What an array's nodes bring along in preorder, and where its buffers go. Foreign nodes are written where `unknown` ones
+/// are allowed. Its identifiers are taken into the context
 /// in preorder.
 fn place<'a>(
     alloc: Global,
     array: &'a Array,
     arrays: &ArraySession,
+    unknown: bool,
     ctx: &mut ArrayContext,
     options: &SerializeOptions,
 ) -> Result<(Gathered<'a>, LaidOut), WireError>
     ensures buffers { (s : SessionMeaning) → IfOk result (λ p. p.0.buffers ≡ buffers_in (wire codec s array.now)) }
     ensures encodings { (s : SessionMeaning) → IfOk result (λ p. p.0.encodings.items ≡ encodings_in ctx.new.ids (wire codec s array.now)) }
     ensures placed { (s : SessionMeaning) → IfOk result (λ p. IsLaidOut options.now (wire codec s array.now) p.1.descriptors.items p.1.end) }
-    ensures written { (x : ExtMeaning) → OnOk result (IsWritten (tables_meaning arrays.now x) array.now) }
+    ensures written { (x : ExtMeaning) → x.unknown ≡ unknown → OnOk result (IsWritten (tables_meaning arrays.now x) array.now) }
     ensures messages { OnOk result (HasMessages array.now) }
     ensures grown { (s : SessionMeaning) → OnOk result (grown_by (ids_in (wire codec s array.now)) ctx.old ≡ Some ctx.new) }
     ensures kept { (s : SessionMeaning) → KeepsContext (ids_in (wire codec s array.now)) ctx.old ctx.new }
-    ensures refused { (x : ExtMeaning) → IfErr result (RefusesLayout (tables_meaning arrays.now x) options.now array.now ctx.old) }
+    ensures refused { (x : ExtMeaning) → x.unknown ≡ unknown → IfErr result (RefusesLayout (tables_meaning arrays.now x) options.now array.now ctx.old) }
 {
     let mut found = Gathered::new(alloc);
-    gather(alloc, array, arrays, MAX_LEVELS, ctx, &mut found)?;
+    gather(alloc, array, arrays, unknown, MAX_LEVELS, ctx, &mut found)?;
     if found.buffers.len() > MAX_BUFFERS || !are_describable(&found.buffers) {
         return Err(WireError::WireLimit);
     }
@@ -188,14 +190,15 @@ pub(crate) fn write_array(
     alloc: Global,
     array: &Array,
     arrays: &ArraySession,
+    unknown: bool,
     ctx: &mut ArrayContext,
     options: &SerializeOptions,
 ) -> Result<ByteBuffers, WireError>
-    ensures made { (x : ExtMeaning) → IfOk result (λ bs. IsSerialized (tables_meaning arrays.now x) array.now options.now ctx.old ctx.new bs) }
+    ensures made { (x : ExtMeaning) → x.unknown ≡ unknown → IfOk result (λ bs. IsSerialized (tables_meaning arrays.now x) array.now options.now ctx.old ctx.new bs) }
     ensures kept { (s : SessionMeaning) → KeepsContext (ids_in (wire codec s array.now)) ctx.old ctx.new }
-    ensures cause { (x : ExtMeaning) → IfErr result (RefusesArray (tables_meaning arrays.now x) array.now ctx.old options.now) }
+    ensures cause { (x : ExtMeaning) → x.unknown ≡ unknown → IfErr result (RefusesArray (tables_meaning arrays.now x) array.now ctx.old options.now) }
 {
-    let (found, placed) = place(alloc, array, arrays, ctx, options)?;
+    let (found, placed) = place(alloc, array, arrays, unknown, ctx, options)?;
     let message = write_message(alloc, array, &found.encodings, &placed.descriptors)?;
     let padding = pad_at(options, 3, placed.end);
     if !has_end(placed.end, padding, message.len()) {

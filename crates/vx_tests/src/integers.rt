@@ -122,7 +122,7 @@ fn the_greatest_pad_is_written(rt: HostRuntime) {
 }
 
 // Words that are no command.
-const NO_COMMANDS: [&[&str]; 9] = [
+const NO_COMMANDS: [&[&str]; 10] = [
     &[],
     &["recode", "t", "b", "4", "i", "o"],
     &["decode", "t", "b", "4", "i", "o", "j"],
@@ -133,6 +133,17 @@ const NO_COMMANDS: [&[&str]; 9] = [
     &["recode", "t", "b", "4", "i", "o", "j", "--pad"],
     &[
         "recode", "t", "b", "4", "i", "o", "j", "--allow", "i", "--allow", "i",
+    ],
+    &[
+        "recode",
+        "t",
+        "b",
+        "4",
+        "i",
+        "o",
+        "j",
+        "--unknown",
+        "--unknown",
     ],
 ];
 

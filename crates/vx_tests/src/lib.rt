@@ -12,6 +12,8 @@ mod flag_files;
 #[cfg(test)]
 mod flags;
 #[cfg(test)]
+mod foreigns;
+#[cfg(test)]
 mod integers;
 pub mod laws;
 #[cfg(test)]

@@ -77,8 +77,8 @@ fn entry(alloc: Global) -> Made {
     structs(alloc, &["key", "value"], types, columns, 1, There::Always)
 }
 
-// The map of that entry.
-fn mapped(alloc: Global) -> Made {
+/// The map of that entry.
+pub fn mapped(alloc: Global) -> Made {
     let offsets = bytes(alloc, &[0]);
     let sizes = bytes(alloc, &[1]);
     let entries = views(alloc, entry(alloc), offsets, sizes, There::Always);
@@ -265,8 +265,12 @@ fn shipped(alloc: Global) -> Result<VortexSession, WireError> {
     }
 }
 
-// The bytes of an array's blob, whose identifiers come into a context.
-fn blob_of(alloc: Global, array: &Array, ctx: &mut ArrayContext) -> Result<ByteBuffer, WireError> {
+/// The bytes of an array's blob, whose identifiers come into a context.
+pub fn blob_of(
+    alloc: Global,
+    array: &Array,
+    ctx: &mut ArrayContext,
+) -> Result<ByteBuffer, WireError> {
     let session = shipped(alloc)?;
     let buffers = array.serialize(alloc, ctx, &session, &SerializeOptions::default())?;
     Ok(buffers.join(alloc)?)

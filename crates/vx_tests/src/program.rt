@@ -102,6 +102,15 @@ pub fn saves_the_same(alloc: Global, words: &[&str], files: &Files<'_>, text: &s
     saves(alloc, words, files, (files.blob, files.ids), text)
 }
 
+/// Whether the program ends so on these words and files, whatever it prints.
+pub fn ends_on(alloc: Global, words: &[&str], files: &Files<'_>, status: u8) -> bool {
+    let mut out = MemSink::new(alloc);
+    match store_of(alloc, files) {
+        Ok(mut store) => ends(alloc, words, &mut store, &mut out, status),
+        Err(_) => false,
+    }
+}
+
 /// Whether the words have this status on these files, with nothing saved and nothing printed.
 pub fn refuses(alloc: Global, words: &[&str], files: &Files<'_>, status: u8) -> bool {
     match store_of(alloc, files) {

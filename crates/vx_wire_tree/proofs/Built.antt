@@ -1,15 +1,16 @@
 -- The array that a node tells, from what its steps say.
 use Rattle.std.proofs.Common.{ℕ, ◌≡◌, List, Some, refl, sym, ap, ◌∙◌, subst}
 use Rattle.vx_buffer.specs.Buffer.{Buffer}
-use Rattle.vx_trees.specs.Rose.{node, count}
+use Rattle.vx_trees.specs.Rose.{node, label, count}
 use Rattle.vx_types.specs.Typ.{Typ}
 use Rattle.vx_array_tree.specs.Encoding.{Encoding}
 use Rattle.vx_array_tree.specs.Metadata.{Metadata}
 use Rattle.vx_array_tree.specs.Place.{Place}
 use Rattle.vx_array_tree.specs.Sound.{IsSound}
-use Rattle.vx_array_tree.specs.Table.{plan_of}
+use Rattle.vx_array_tree.specs.Table.{plan_of, IsNative, IsNativeEncoding}
 use Rattle.vx_array_tree.specs.Tree.{Tree, Trees, places, untold, with_stats}
 use Rattle.vx_array_tree.proofs.Built.{body_buffers, built_normal, own_metadata, IsBuiltOver, stats_sound}
+use Rattle.vx_array_tree.proofs.Bodies.{normal_by}
 use Rattle.vx_array_tree.proofs.NodeLaws.{body_encoding}
 use Rattle.vx_wire_tree.specs.Codec.{Codec, IsLawful}
 use Rattle.vx_wire_tree.specs.Causes.{HasChildren}
@@ -43,11 +44,12 @@ module _ (c : Codec) (s : SessionMeaning) (law : IsLawful c s) where
         stats = y.shown;
         children = k.matched;
       } in
+      let native : IsNative x.body = subst (λ f. IsNativeEncoding f) (sym (body_encoding e x.value bs x.body x.body_is)) (law.messages id e r).native in
       let all : Tells c s (node w ws) d n told = record {
-        matched = (id, i, subst (λ z. IsNodeBy c s z w told (λ us. AllMatch c s ws us)) (sym r) m);
+        matched = (id, i, subst (λ z. IsNodeBy c s z w ws told (λ us. AllMatch c s ws us)) (sym r) m);
         dtype = refl;
         len = refl;
         sound = stats_sound y.stats built same_sound fit;
-        normal = (built_normal e d n x.value (count ts) bs x.body (places ts) x.body_is plan, k.normal);
+        normal = (normal_by x.body (label told) ts native (built_normal e d n x.value (count ts) bs x.body (places ts) x.body_is plan), k.normal);
       } in
       subst (λ (z : Tree). Tells c s (node w ws) d n z) (sym (y.tree_is ∙ ap (λ (z : Tree). with_stats y.stats z) x.tree_is)) all

@@ -1,67 +1,78 @@
 -- The laws of wire trees, for the crates above.
-use Rattle.std.proofs.Common.{ℕ, ◌≡◌, List, Some, sym, ap, ◌∙◌}
+use Rattle.std.proofs.Common.{ℕ, ◌≡◌, ◌+◌, ◌<◌, ◌≤◌, List, [], ◌∷◌, ◌++◌, Some, None, IsTrue, sym, ap, ◌∙◌, take, length, get_or}
 use Rattle.vx_buffer.specs.Buffer.{Buffer}
-use Rattle.vx_trees.specs.Rose.{node, label, count}
+use Rattle.vx_trees.specs.Rose.{node, label, count, roses_of, roses_list}
 use Rattle.vx_types.specs.Typ.{Typ}
+use Rattle.vx_array_tree.specs.Body as B
 use Rattle.vx_array_tree.specs.Canon.{stats_written, KeepsStats}
 use Rattle.vx_array_tree.specs.Encoding.{Encoding}
+use Rattle.vx_array_tree.specs.Metadata.{Metadata}
 use Rattle.vx_array_tree.specs.Normal.{IsNormal}
 use Rattle.vx_array_tree.specs.Place.{Place}
 use Rattle.vx_array_tree.specs.Sound.{IsSound}
-use Rattle.vx_array_tree.specs.Tree.{Tree, Trees, rows_of}
+use Rattle.vx_array_tree.specs.Table.{own_id, buffers_of, metadata_of, plan_of, Takes}
+use Rattle.vx_array_tree.specs.Tree.{Tree, Trees, places, rows_of, encodings, untold}
 use Rattle.vx_array_tree.proofs.CanonLaws as Canon
 use Rattle.vx_array_tree.proofs.CanonPlaces.{canon_dtype, canon_len}
-use Rattle.vx_wire_tree.specs.Causes.{HasChildren, Refusal, RefusesTree}
-use Rattle.vx_wire_tree.specs.Codec.{Codec, HasLawfulStats, IsLawful}
+use Rattle.vx_wire_tree.specs.Causes.{AreOf, HasChildren, Refusal, RefusesTree}
+use Rattle.vx_wire_tree.specs.Codec.{Codec, HasLawfulStats, IsLawful, metadata_bytes}
+use Rattle.vx_wire_tree.specs.Fields.{told}
 use Rattle.vx_wire_tree.specs.Context.{Context, grown_by, grown}
+use Rattle.vx_wire_tree.specs.Kept.{IsKeptAs, AreKeptAs}
 use Rattle.vx_wire_tree.specs.Limits.{HasMessages}
 use Rattle.vx_wire_tree.specs.Matches.{Matches, AllMatch}
-use Rattle.vx_wire_tree.specs.ReadBack.{IsWritten, HasKnownTypes, HasStorableStats}
+use Rattle.vx_wire_tree.specs.ReadBack.{IsUnread, IsWritten, HasKnownTypes, HasStorableStats}
 use Rattle.vx_wire_tree.specs.Session.{SessionMeaning, IsShipped, IsPaired, shipped}
 use Rattle.vx_wire_tree.specs.Steps.{PlansChildren, HasParts, IsToldBy}
 use Rattle.vx_wire_tree.specs.Tells.{Tells}
 use Rattle.vx_wire_tree.specs.Wire.{Wire, Wires, WireHead, IsWhole, ids_in, all_present}
-use Rattle.vx_wire_tree.specs.Written.{wire, canon}
+use Rattle.vx_wire_tree.specs.Written.{spelled, wire, canon}
 use Rattle.vx_wire_tree.proofs.Built as Built
+use Rattle.vx_wire_tree.proofs.Kept as Kept
+use Rattle.vx_wire_tree.proofs.Matched as Matched
 use Rattle.vx_wire_tree.proofs.NeverRefused as NeverRefused
 use Rattle.vx_wire_tree.proofs.ReadAgain as ReadAgain
 use Rattle.vx_wire_tree.proofs.Unique as Unique
 use Rattle.vx_wire_tree.proofs.WrittenAlike as WrittenAlike
 
 module _ (c : Codec) (s : SessionMeaning) where
+  -- A foreign node is spelled as what it keeps.
+  pub own_spelling : Canon.SpellsOwn (spelled c s)
+  own_spelling h ts x e = ap (λ b. record { id = own_id b; metadata = metadata_bytes c (told (metadata_of b (places ts))); buffers = buffers_of b }) e
+
   -- A sound normal array is read back as itself, where its statistics are kept, and in any case but for
   -- statistics; it is written as what is read back.
-  pub canon_own : (t : Tree) → IsSound t → IsNormal t → KeepsStats t → canon s t ≡ t
-  canon_own t x n k = Canon.canon_own t x n k
+  pub canon_own : (t : Tree) → IsSound t → IsNormal t → KeepsStats t → canon c s t ≡ t
+  canon_own t x n k = Canon.canon_own (spelled c s) own_spelling t x n k
 
-  pub canon_written : (t : Tree) → IsSound t → IsNormal t → canon s t ≡ stats_written t
-  canon_written t x n = Canon.canon_written t x n
+  pub canon_written : (t : Tree) → IsSound t → IsNormal t → canon c s t ≡ stats_written t
+  canon_written t x n = Canon.canon_written (spelled c s) own_spelling t x n
 
-  pub canon_wire : HasLawfulStats c → (t : Tree) → IsSound t → IsNormal t → wire c s (canon s t) ≡ wire c s t
+  pub canon_wire : HasLawfulStats c → (t : Tree) → IsSound t → IsNormal t → wire c s (canon c s t) ≡ wire c s t
   canon_wire law t x n = ap (λ u. wire c s u) (canon_written t x n) ∙ WrittenAlike.wire_alike c law s t
 
-  pub canon_grown : HasLawfulStats c → (ctx : Context) (t : Tree) → IsSound t → IsNormal t → grown c s ctx (canon s t) ≡ grown c s ctx t
+  pub canon_grown : HasLawfulStats c → (ctx : Context) (t : Tree) → IsSound t → IsNormal t → grown c s ctx (canon c s t) ≡ grown c s ctx t
   canon_grown law ctx t x n = ap (λ w. grown_by (ids_in w) ctx) (canon_wire law t x n)
 
   -- What is read back of a sound array is sound and normal, has its rows, and is read back as itself.
-  pub canon_sound : (t : Tree) → IsSound t → IsSound (canon s t)
-  canon_sound t x = Canon.canon_sound t x
+  pub canon_sound : (t : Tree) → IsSound t → IsSound (canon c s t)
+  canon_sound t x = Canon.canon_sound (spelled c s) t x
 
-  pub canon_normal : (t : Tree) → IsSound t → IsNormal (canon s t)
-  canon_normal t x = Canon.canon_normal t x
+  pub canon_normal : (t : Tree) → IsSound t → IsNormal (canon c s t)
+  canon_normal t x = Canon.canon_normal (spelled c s) t x
 
-  pub canon_rows : (t : Tree) → IsSound t → rows_of (canon s t) ≡ rows_of t
-  canon_rows t x = Canon.canon_rows t x
+  pub canon_rows : (t : Tree) → IsSound t → rows_of (canon c s t) ≡ rows_of t
+  canon_rows t x = Canon.canon_rows (spelled c s) t x
 
-  pub canon_twice : (t : Tree) → IsSound t → canon s (canon s t) ≡ canon s t
-  canon_twice t x = Canon.canon_twice t x
+  pub canon_twice : (t : Tree) → IsSound t → canon c s (canon c s t) ≡ canon c s t
+  canon_twice t x = Canon.canon_twice (spelled c s) own_spelling t x
 
   -- Its statistics are kept, and can be stored where the array's could.
-  pub canon_keeps : (t : Tree) → KeepsStats (canon s t)
-  canon_keeps t = Canon.canon_at_keeps (label t).dtype t
+  pub canon_keeps : (t : Tree) → KeepsStats (canon c s t)
+  canon_keeps t = Canon.canon_at_keeps (spelled c s) (label t).dtype t
 
-  pub canon_storable : HasLawfulStats c → (t : Tree) → HasStorableStats c t → HasStorableStats c (canon s t)
-  canon_storable law t k = WrittenAlike.storable_at c law (label t).dtype t k
+  pub canon_storable : HasLawfulStats c → (t : Tree) → HasStorableStats c t → HasStorableStats c (canon c s t)
+  canon_storable law t k = WrittenAlike.storable_at c law (spelled c s) (label t).dtype t k
 
   -- Wire trees that match arrays one by one are as many as these.
   pub matched_count : (ws : Wires) (ts : Trees) → AllMatch c s ws ts → count ts ≡ count ws
@@ -72,7 +83,22 @@ module _ (c : Codec) (s : SessionMeaning) where
     pub matched_whole : (w : Wire) (t : Tree) → Matches c s w t → IsWhole w
     matched_whole w t m = NeverRefused.whole c s ok w t m
 
+    -- The types in the metadata of an array that matches a wire tree are known.
+    pub matched_types : (w : Wire) (t : Tree) → Matches c s w t → HasKnownTypes s t
+    matched_types w t m = Matched.matched_types c s ok w t m
+
     module _ (law : IsLawful c s) where
+      -- Its nodes are written, and nothing reads its topmost foreign ones.
+      pub matched_written : IsPaired s → (w : Wire) (t : Tree) → Matches c s w t → IsWritten s t
+      matched_written p w t m = Matched.matched_written c s ok law p w t m
+
+      pub matched_unread : (w : Wire) (t : Tree) → Matches c s w t → IsUnread s t
+      matched_unread w t m = Matched.matched_unread c s ok law w t m
+
+      -- Where children are planned and may not stand below their node, each is read by its encoding.
+      pub untaken_of : (e : Encoding) (d : Typ) (n : ℕ) (v : Metadata) (ps : List Place) (ws : Wires) (ts : Trees) → plan_of e d n v (count ws) ≡ Some ps → AllMatch c s ws ts → (Takes e (encodings ts) → ⊥) → AreOf s ws (encodings ts)
+      untaken_of e d n v ps ws ts p m never = Matched.untaken_of c s ok law e d n v ps ws ts p m never
+
       -- A wire tree tells at most one array of a type and a length.
       pub one_tree : (w : Wire) (d : Typ) (n : ℕ) (t u : Tree) → Tells c s w d n t → Tells c s w d n u → t ≡ u
       one_tree w d n t u x y =
@@ -83,15 +109,16 @@ module _ (c : Codec) (s : SessionMeaning) where
       never_refused r w d n t x k = NeverRefused.never_refused c s ok law r w d n t x k
 
       -- A sound array of which each node is written, its metadata fits its message, the types in it are known,
-      -- and its statistics can be stored, is told by its wire tree: as it is read back.
-      pub told_again : IsPaired s → (t : Tree) → IsSound t → IsWritten s t → HasMessages t → HasKnownTypes s t → HasStorableStats c t
-          → Tells c s (wire c s t) (label t).dtype (label t).len (canon s t)
-      told_again p t x w m k b = record {
-        matched = ReadAgain.written_matches c s law t x (ReadAgain.reads_back c s ok p t w m k b);
-        dtype = canon_dtype (label t).dtype t;
-        len = canon_len (label t).dtype t;
-        sound = Canon.canon_sound t x;
-        normal = Canon.canon_normal t x;
+      -- and its statistics can be stored, and whose topmost foreign nodes nothing reads, is told by its wire tree:
+      -- as it is read back.
+      pub told_again : IsPaired s → (t : Tree) → IsSound t → IsUnread s t → IsWritten s t → HasMessages t → HasKnownTypes s t → HasStorableStats c t
+          → Tells c s (wire c s t) (label t).dtype (label t).len (canon c s t)
+      told_again p t x u w m k b = record {
+        matched = ReadAgain.written_matches c s law t x (ReadAgain.reads_back c s ok p t u w m k b);
+        dtype = canon_dtype (spelled c s) (label t).dtype t;
+        len = canon_len (spelled c s) (label t).dtype t;
+        sound = Canon.canon_sound (spelled c s) t x;
+        normal = Canon.canon_normal (spelled c s) t x;
       }
 
   -- A node whose children tell arrays where they are planned tells the array that is built of its parts, with
@@ -100,3 +127,20 @@ module _ (c : Codec) (s : SessionMeaning) where
       → w.id ≡ Some id → s.reader id ≡ Some (shipped e) → PlansChildren c s.ext e d n w.metadata (count ws) ps → w.buffers ≡ all_present bs
       → HasChildren c s (node w ws) ps ts → HasParts c s.ext e d n w.metadata bs ts t → IsSound t → IsToldBy c d w.stats t u → Tells c s (node w ws) d n u
   node_tells law id e w ws d n ps bs ts t u i r p b k x y z = Built.node_tells c s law id e w ws d n ps bs ts t u i r p b k x y z
+
+  -- A wire tree whose root nothing reads, under a session that allows such nodes, tells the array that is kept of it.
+  pub kept_tells : (id : List ℕ) (w : Wire) (d : Typ) (n : ℕ) (t : Tree) → (label w).id ≡ Some id → s.reader id ≡ None → IsTrue s.ext.unknown → IsKeptAs w d n t → Tells c s w d n t
+  kept_tells id w d n t i r allowed k = Kept.kept_tells c s id w d n t i r allowed k
+
+-- The foreign node of a node's parts, over children that are kept, is kept.
+pub kept_node : (id : List ℕ) (w : WireHead) (ws : Wires) (d : Typ) (n : ℕ) (metadata : List ℕ) (bs : List Buffer) (ts : Trees) → w.id ≡ Some id → metadata ≡ w.metadata → w.buffers ≡ all_present bs
+    → AreKeptAs ws d n ts → let t : Tree = node (untold d n (B.foreign (record { id = id; metadata = metadata; buffers = bs }))) ts in IsSound t → IsKeptAs (node w ws) d n t
+kept_node id w ws d n metadata bs ts i m b k sound = Kept.kept_node id w ws d n metadata bs ts i m b k sound
+
+-- One child more is kept, and then all of them.
+pub kept-snoc : (ws : List Wire) (d : Typ) (n : ℕ) (i : ℕ) (w : Wire) (us vs : Trees) (u : Tree) → i < length ws → AreKeptAs (roses_of (take i ws)) d n us → w ≡ get_or ws i w → IsKeptAs w d n u
+    → roses_list vs ≡ roses_list us ++ u ∷ [] → AreKeptAs (roses_of (take (i + 1) ws)) d n vs
+kept-snoc ws d n i w us vs u h k f x e = Kept.kept-snoc ws d n i w us vs u h k f x e
+
+pub all_kept : (ws : List Wire) (d : Typ) (n : ℕ) (i : ℕ) (us : Trees) → length ws ≤ i → AreKeptAs (roses_of (take i ws)) d n us → AreKeptAs (roses_of ws) d n us
+all_kept ws d n i us h k = Kept.all_kept ws d n i us h k

@@ -1,5 +1,5 @@
 -- Where a wire tree tells an array, no refusal has its cause.
-use Rattle.std.proofs.Common.{ℕ, zero, suc, ◌≡◌, inl, inr, List, [], ◌∷◌, Option, Some, None, refl, sym, ap, ◌∙◌, subst, slice_get}
+use Rattle.std.proofs.Common.{ℕ, zero, suc, ◌≡◌, inl, inr, ◌⊎◌, Bool, false, IsTrue, List, [], ◌∷◌, Option, Some, None, refl, sym, ap, ◌∙◌, subst, slice_get}
 use Rattle.std.proofs.lemmas.Option.{same_Some}
 use Rattle.vx_buffer.specs.Buffer.{Buffer}
 use Rattle.vx_trees.specs.Rose.{Rose, Roses, node, end, more, label, below, count, roses_list}
@@ -10,13 +10,13 @@ use Rattle.vx_array_tree.specs.Encoding.{Encoding}
 use Rattle.vx_array_tree.specs.Metadata.{Metadata}
 use Rattle.vx_array_tree.specs.Normal.{IsNormal, IsNormalNode}
 use Rattle.vx_array_tree.specs.Place.{Place, place}
-use Rattle.vx_array_tree.specs.Sound.{IsSound, IsSoundNode, metadata_in}
+use Rattle.vx_array_tree.specs.Sound.{IsSound, IsSoundNode, IsControlledBy, metadata_in}
 use Rattle.vx_array_tree.specs.Table.{encoding_of, buffers_of, body_of, plan_of, Allows, IsShaped, Takes, Content}
 use Rattle.vx_array_tree.specs.Tree.{Head, Tree, Trees, places, encodings, rows_below}
 use Rattle.vx_array_tree.proofs.NodeLaws.{planned_places, own_body}
-use Rattle.vx_wire_tree.specs.Causes.{LacksId, LacksBuffer, IsOf, IsUnregistered, HasBadMetadata, MayStandFor, AreOf, IsBroken, HasBadShape, HasChildren, HasBadContent, HasBadStats, Refusal, out_of_bounds, unknown_index, unknown_encoding, bad_metadata, bad_shape, bad_content, bad_stats, RefusesTree}
+use Rattle.vx_wire_tree.specs.Causes.{LacksId, LacksBuffer, IsReadBy, IsOf, IsUnregistered, HasBadMetadata, MayStandFor, AreOf, IsBroken, HasBadShape, HasChildren, HasForeignControl, HasBadContent, HasBadStats, Refusal, out_of_bounds, unknown_index, unknown_encoding, bad_metadata, bad_shape, foreign_control, bad_content, bad_stats, RefusesTree}
 use Rattle.vx_wire_tree.specs.Codec.{Codec, IsLawful}
-use Rattle.vx_wire_tree.specs.Matches.{IsEncodedNode, IsNodeBy, Matches, AllMatch}
+use Rattle.vx_wire_tree.specs.Matches.{IsRawNode, IsRaw, AreRaw, IsEncodedNode, IsNodeBy, Matches, AllMatch}
 use Rattle.vx_wire_tree.specs.Placed.{IsPlannedBy, HasPlan, IsChild, Claim, HoldsAt, HoldsUnder}
 use Rattle.vx_wire_tree.specs.Reads.{IsMetadata}
 use Rattle.vx_wire_tree.specs.Session.{SessionMeaning, Reader, shipped, IsShippedReader, IsShipped}
@@ -67,6 +67,12 @@ may_stand (o ∷ os) [] e = absurd (cc)
 may_stand (Some x ∷ os) (b ∷ bs) e = let p : b ≡ x = cc in let q : os ≡ all_present bs = cc in (p, may_stand os bs q)
 may_stand (None ∷ os) (b ∷ bs) e = let p : None ≡ Some b = cc in absurd (none_some p)
 
+closed_open : (b : Bool) → b ≡ false → IsTrue b → ⊥
+closed_open b e t = false_true (subst (λ z. IsTrue z) e t)
+  where
+    false_true : IsTrue false → ⊥
+    false_true x = absurd (cc)
+
 module _ (c : Codec) (s : SessionMeaning) where
   -- ---- what is told, node by node
 
@@ -75,10 +81,16 @@ module _ (c : Codec) (s : SessionMeaning) where
     pub by : IsOf s w e
     pub told : IsEncodedNode c s e (label w) t (λ us. AllMatch c s (below w) us)
 
+  -- Or nothing reads it, and it is foreign with all below it.
+  pub record IsForeignBy (w : Wire) (t : Tree) : Type 0 where
+    pub by : IsReadBy s w None
+    pub allowed : IsTrue s.ext.unknown
+    pub raw : IsRaw w t
+
   told_by : (r : Option Reader) → IsShippedReader r → (id : List ℕ) (w : WireHead) (ws : Wires) (t : Tree) → w.id ≡ Some id → s.reader id ≡ r
-      → IsNodeBy c s r w t (λ us. AllMatch c s ws us) → (e : Encoding) × IsEncodedBy e (node w ws) t
-  told_by None ok id w ws t i r m = absurd m
-  told_by (Some (shipped e)) ok id w ws t i r m = (e, record { by = record { id = id; id_is = i; reader_is = r }; told = m })
+      → IsNodeBy c s r w ws t (λ us. AllMatch c s ws us) → ((e : Encoding) × IsEncodedBy e (node w ws) t) ⊎ IsForeignBy (node w ws) t
+  told_by None ok id w ws t i r m = inr (record { by = record { id = id; id_is = i; reader_is = r }; allowed = m.0; raw = m.1 })
+  told_by (Some (shipped e)) ok id w ws t i r m = inl (e, record { by = record { id = id; id_is = i; reader_is = r }; told = m })
 
   -- Two readings of one node are by one encoding.
   same_reader : (o : Option (List ℕ)) (i j : List ℕ) (r q : Option Reader) → o ≡ Some i → o ≡ Some j → s.reader i ≡ r → s.reader j ≡ q → r ≡ q
@@ -87,25 +99,47 @@ module _ (c : Codec) (s : SessionMeaning) where
   same_encoding : (w : Wire) (e f : Encoding) → IsOf s w e → IsOf s w f → e ≡ f
   same_encoding w e f a b = let q = same_reader (label w).id a.id b.id (Some (shipped e)) (Some (shipped f)) a.id_is b.id_is a.reader_is b.reader_is in cc
 
+  -- Nothing is missing in what tells a foreign array.
+  raw_node : (w : Wire) (t : Tree) → IsRawNode (label w) (label t) → IsWholeNode (label w) (below w)
+  raw_node w t x = record { id = x.kept.id; id_is = x.id; buffers = x.kept.buffers; buffers_are = x.buffers }
+
+  mutual
+    pub raw_whole : (w : Wire) (t : Tree) → IsRaw w t → IsWhole w
+    raw_whole (node w ws) t r = (raw_node (node w ws) t r.0, raw_whole_each ws (below t) r.1)
+
+    raw_whole_each : (ws : Wires) (ts : Trees) → AreRaw ws ts → EverywhereBelow IsWholeNode ws
+    raw_whole_each end ts r = tt
+    raw_whole_each (more w ws) end r = absurd r
+    raw_whole_each (more w ws) (more t ts) r = (raw_whole w t r.0, raw_whole_each ws ts r.1)
+
+  -- A node that nothing reads is not read by an encoding.
+  not_both : (w : Wire) (e : Encoding) → IsReadBy s w None → IsOf s w e → ⊥
+  not_both w e a b = none_some (same_reader (label w).id a.id b.id None (Some (shipped e)) a.id_is b.id_is a.reader_is b.reader_is)
+
   module _ (ok : IsShipped s) where
-    pub node_told : (w : Wire) (t : Tree) → Matches c s w t → (e : Encoding) × IsEncodedBy e w t
+    pub node_told : (w : Wire) (t : Tree) → Matches c s w t → ((e : Encoding) × IsEncodedBy e w t) ⊎ IsForeignBy w t
     node_told (node w ws) t m = told_by (s.reader m.0) (ok.reads m.0) m.0 w ws t m.1 refl m.2
 
     -- A told node that is read by an encoding is of it.
     pub encoded_told : (w : Wire) (t : Tree) (e : Encoding) → Matches c s w t → IsOf s w e → IsEncodedBy e w t
-    encoded_told w t e m b =
-        let x = node_told w t m in
-        subst (λ (z : Encoding). IsEncodedBy z w t) (same_encoding w x.0 e x.1.by b) x.1
+    encoded_told w t e m b = go (node_told w t m)
+      where
+        go : ((f : Encoding) × IsEncodedBy f w t) ⊎ IsForeignBy w t → IsEncodedBy e w t
+        go (inl x) = subst (λ (z : Encoding). IsEncodedBy z w t) (same_encoding w x.0 e x.1.by b) x.1
+        go (inr f) = absurd (not_both w e f.by b)
 
     whole_node : (w : Wire) (t : Tree) → (e : Encoding) × IsEncodedBy e w t → IsWholeNode (label w) (below w)
     whole_node w t x = record { id = x.1.by.id; id_is = x.1.by.id_is; buffers = buffers_of (label t).body; buffers_are = x.1.told.buffers }
 
+    whole_by : (w : WireHead) (ws : Wires) (t : Tree) → ((e : Encoding) × IsEncodedBy e (node w ws) t) ⊎ IsForeignBy (node w ws) t
+        → (AllMatch c s ws (below t) → EverywhereBelow IsWholeNode ws) → IsWhole (node w ws)
+    whole_by w ws t (inl x) kids = (whole_node (node w ws) t x, kids x.1.told.children)
+    whole_by w ws t (inr f) kids = raw_whole (node w ws) t f.raw
+
     mutual
       -- Nothing is missing in what tells an array.
       pub whole : (w : Wire) (t : Tree) → Matches c s w t → IsWhole w
-      whole (node w ws) t m =
-          let x = node_told (node w ws) t m in
-          (whole_node (node w ws) t x, whole_each ws (below t) x.1.told.children)
+      whole (node w ws) t m = whole_by w ws t (node_told (node w ws) t m) (λ k. whole_each ws (below t) k)
 
       whole_each : (ws : Wires) (ts : Trees) → AllMatch c s ws ts → EverywhereBelow IsWholeNode ws
       whole_each end ts m = tt
@@ -153,14 +187,17 @@ module _ (c : Codec) (s : SessionMeaning) where
       planned_by None q id w d n ps i r p = absurd p
       planned_by (Some (shipped e)) q id w d n ps i r p = (e, record { id = id; id_is = i; reader_is = r }, p)
 
-      -- What is planned of a told node are its children's places.
-      plan_told : (w : Wire) (h : Head) (ts : Trees) (ps : List Place) (x : (e : Encoding) × IsEncodedBy e w (node h ts)) → IsSoundNode h ts → IsNormalNode h ts → HasPlan c s w h.dtype h.len ps → ps ≡ places ts
-      plan_told w h ts ps x y n p =
+      -- A told node of which children are planned is read by an encoding, and their places are planned.
+      pub record PlanTold (w : Wire) (h : Head) (ts : Trees) (ps : List Place) : Type 0 where
+        pub encoding : Encoding
+        pub told : IsEncodedBy encoding w (node h ts)
+        pub places_are : ps ≡ places ts
+
+      plan_told : (w : Wire) (h : Head) (ts : Trees) (ps : List Place) → Matches c s w (node h ts) → IsSoundNode h ts → IsNormalNode h ts → HasPlan c s w h.dtype h.len ps → PlanTold w h ts ps
+      plan_told w h ts ps m y n p =
           let z = planned_by (s.reader p.id) (ok.reads p.id) p.id w h.dtype h.len ps p.id_is refl p.planned in
-          let q = same_encoding w z.0 x.0 z.1 x.1.by in
-          let P : Encoding → Type 0 = λ e. PlansChildren c s.ext e h.dtype h.len (label w).metadata (count (below w)) ps in
-          let a = subst P q z.2 in
-          same_Some ps (places ts) (sym a.plan ∙ plan_is x.0 w h ts a.value x.1 y n a.metadata)
+          let x = encoded_told w (node h ts) z.0 m z.1 in
+          record { encoding = z.0; told = x; places_are = same_Some ps (places ts) (sym z.2.plan ∙ plan_is z.0 w h ts z.2.value x y n z.2.metadata) }
 
       -- ---- the placed nodes of what is told are told at their places
 
@@ -170,12 +207,12 @@ module _ (c : Codec) (s : SessionMeaning) where
         pub tells : Tells c s v p.dtype p.len array
         pub child : slice_get (roses_list (below t)) i ≡ Some array
 
-      child_at : (w : Wire) (h : Head) (ts : Trees) (i : ℕ) (v : Wire) (p : Place) → (e : Encoding) × IsEncodedBy e w (node h ts) → IsSound (node h ts) → IsNormal (node h ts)
+      child_at : (w : Wire) (h : Head) (ts : Trees) (i : ℕ) (v : Wire) (p : Place) → Matches c s w (node h ts) → IsSound (node h ts) → IsNormal (node h ts)
           → IsChild c s w h.dtype h.len i v p → ChildTells (node h ts) i v p
-      child_at w h ts i v p x y n k =
-          let ps = plan_told w h ts k.places x y.0 n.0 k.planned in
-          let z = child_told (below w) ts i v x.1.told.children k.child in
-          let q : place (label z.told).dtype (label z.told).len ≡ p = same_Some _ p (sym z.place_is ∙ ap (λ qs. slice_get qs i) (sym ps) ∙ k.place) in
+      child_at w h ts i v p m y n k =
+          let x = plan_told w h ts k.places m y.0 n.0 k.planned in
+          let z = child_told (below w) ts i v x.told.told.children k.child in
+          let q : place (label z.told).dtype (label z.told).len ≡ p = same_Some _ p (sym z.place_is ∙ ap (λ qs. slice_get qs i) (sym x.places_are) ∙ k.place) in
           record {
             array = z.told;
             tells = record {
@@ -191,7 +228,7 @@ module _ (c : Codec) (s : SessionMeaning) where
       -- The child of what is told tells its array.
       pub child_tells : (w : Wire) (d : Typ) (n : ℕ) (t : Tree) (i : ℕ) (v : Wire) (p : Place) → Tells c s w d n t → IsChild c s w d n i v p → ChildTells t i v p
       child_tells w d n (node h ts) i v p x k =
-          child_at w h ts i v p (node_told w (node h ts) x.matched) x.sound x.normal (subst (λ z. IsChild c s w z h.len i v p) (sym x.dtype) (subst (λ z. IsChild c s w d z i v p) (sym x.len) k))
+          child_at w h ts i v p x.matched x.sound x.normal (subst (λ z. IsChild c s w z h.len i v p) (sym x.dtype) (subst (λ z. IsChild c s w d z i v p) (sym x.len) k))
 
       -- A claim that never holds of what is told does not hold of a placed node below it.
       pub never_somewhere : (P : Claim) → ((w : Wire) (d : Typ) (n : ℕ) (t : Tree) → Tells c s w d n t → P w d n → ⊥)
@@ -204,9 +241,11 @@ module _ (c : Codec) (s : SessionMeaning) where
       -- ---- the causes, one by one
 
       not_unregistered : (w : Wire) (d : Typ) (n : ℕ) (t : Tree) → Tells c s w d n t → IsUnregistered s w d n → ⊥
-      not_unregistered w d n t x b =
-          let y = node_told w t x.matched in
-          none_some (same_reader (label w).id b.id y.1.by.id None (Some (shipped y.0)) b.id_is y.1.by.id_is b.reader_is y.1.by.reader_is)
+      not_unregistered w d n t x b = go (node_told w t x.matched)
+        where
+          go : ((e : Encoding) × IsEncodedBy e w t) ⊎ IsForeignBy w t → ⊥
+          go (inl y) = not_both w y.0 b.unregistered y.1.by
+          go (inr f) = closed_open s.ext.unknown b.closed f.allowed
 
       metadata_told : (w : Wire) (d : Typ) (n : ℕ) (t : Tree) → Tells c s w d n t → HasBadMetadata c s w d n → ⊥
       metadata_told w d n t x y =
@@ -259,6 +298,13 @@ module _ (c : Codec) (s : SessionMeaning) where
           let b : k.shaped.body ≡ h.body = same_Some k.shaped.body h.body (sym k.shaped.body_is ∙ (λ i. body_of (sym x.told.encoding i) (q i) (bs i)) ∙ own_body h ts n.0) in
           k.broken (subst (λ (z : Body). Content h.dtype h.len z (rows_below k.children)) (sym b) (subst (λ (z : Trees). Content h.dtype h.len h.body (rows_below z)) (sym r) y.0.content))
 
+      control_at : (w : Wire) (h : Head) (ts : Trees) → Matches c s w (node h ts) → IsSound (node h ts) → IsNormal (node h ts) → HasForeignControl c s w h.dtype h.len → ⊥
+      control_at w h ts m y n k =
+          let x = encoded_told w (node h ts) k.encoding m k.by in
+          let p = same_Some k.places_are (places ts) (sym k.plan ∙ plan_is k.encoding w h ts k.value x y.0 n.0 k.metadata) in
+          let r = children_told w ts k.children k.places_are x.told.children y.1 n.1 k.matched p in
+          k.foreign (subst (λ (z : Trees). IsControlledBy k.encoding h.dtype z) (sym r) (subst (λ (f : Encoding). IsControlledBy f h.dtype ts) x.told.encoding y.0.controlled))
+
       -- ---- all causes
 
       at_own : (P : Claim) → ((w : Wire) (h : Head) (ts : Trees) → Matches c s w (node h ts) → IsSound (node h ts) → IsNormal (node h ts) → P w h.dtype h.len → ⊥)
@@ -271,5 +317,6 @@ module _ (c : Codec) (s : SessionMeaning) where
       never_refused unknown_encoding w d n t x k = never_somewhere (IsUnregistered s) not_unregistered k.0 w d n t x k.1
       never_refused bad_metadata w d n t x k = never_somewhere (HasBadMetadata c s) metadata_told k.0 w d n t x k.1
       never_refused bad_shape w d n t x k = never_somewhere (HasBadShape c s) (at_own (HasBadShape c s) shape_at) k.0 w d n t x k.1
+      never_refused foreign_control w d n t x k = never_somewhere (HasForeignControl c s) (at_own (HasForeignControl c s) control_at) k.0 w d n t x k.1
       never_refused bad_content w d n t x k = never_somewhere (HasBadContent c s) (at_own (HasBadContent c s) content_at) k.0 w d n t x k.1
       never_refused bad_stats w d n t x k = never_somewhere (HasBadStats c s) stats_told k.0 w d n t x k.1

@@ -1,5 +1,5 @@
 -- What is written of a sound array is read back as its canon.
-use Rattle.std.proofs.Common.{◌≡◌, List, [], ◌∷◌, Option, Some, None, refl, sym, ap, ◌∙◌, subst}
+use Rattle.std.proofs.Common.{ℕ, ◌≡◌, List, [], ◌∷◌, Option, Some, None, refl, sym, ap, ◌∙◌, subst}
 use Rattle.vx_trees.specs.Rose.{node, end, more, label}
 use Rattle.vx_trees.specs.Everywhere.{EverywhereBelow}
 use Rattle.vx_types.specs.Typ.{Typ}
@@ -7,78 +7,128 @@ use Rattle.vx_types.specs.declared.nullability.Nullability.{Nullability}
 use Rattle.vx_types.specs.declared.nullability.Nullability.TheVariants.{Nullable, NonNullable}
 use Rattle.vx_scalars.specs.Stats.{FitStats}
 use Rattle.vx_scalars.proofs.LawsStats.{fit_under}
-use Rattle.vx_array_tree.specs.Canon.{types_in, child_types, canon_head, canon_at, canon_all}
+use Rattle.vx_array_tree.specs.Canon.{types_in, as_foreign, all_foreign, canon_at, canon_all}
+use Rattle.vx_array_tree.specs.Body.{Body}
+use Rattle.vx_array_tree.specs.Body as B
 use Rattle.vx_array_tree.specs.Encoding.{Encoding}
+use Rattle.vx_array_tree.specs.Encoding as E
+use Rattle.vx_array_tree.specs.Encodings.Foreigns as Foreigns
 use Rattle.vx_array_tree.specs.Metadata.{Metadata}
 use Rattle.vx_array_tree.specs.Metadata as M
 use Rattle.vx_array_tree.specs.Place.{Place}
 use Rattle.vx_array_tree.specs.Sound.{IsSound, IsSoundNode, metadata_in}
-use Rattle.vx_array_tree.specs.Table.{encoding_of, id_of}
+use Rattle.vx_array_tree.specs.Table.{encoding_of, id_of, own_id, IsNative, IsNativeEncoding, IsFair}
 use Rattle.vx_array_tree.specs.Tree.{Head, Tree, Trees, places}
-use Rattle.vx_array_tree.proofs.Bodies.{cleared_encoding, cleared_buffers}
-use Rattle.vx_array_tree.proofs.CanonPlaces.{Planned, planned_at, types_at, kids_metadata}
+use Rattle.vx_array_tree.proofs.Bodies.{native_id, cleared_encoding, cleared_buffers}
+use Rattle.vx_array_tree.proofs.CanonLaws.{by_node}
+use Rattle.vx_array_tree.proofs.CanonPlaces.{known_node, foreign_node, Planned, planned_at, types_at, kids_metadata}
 use Rattle.vx_array_tree.proofs.Identifiers.{distinct_ids}
 use Rattle.vx_array_tree.proofs.Retyped.{IsRetyped, AreRetyped, retyped_same}
-use Rattle.vx_wire_tree.specs.Codec.{Codec, IsLawful}
+use Rattle.vx_wire_tree.specs.Codec.{Codec, IsLawful, metadata_bytes}
 use Rattle.vx_wire_tree.specs.Fields.{meant, told, nullable_if, is_nullable}
 use Rattle.vx_wire_tree.specs.Limits.{HasMessages, HasMessage}
-use Rattle.vx_wire_tree.specs.Matches.{IsEncodedNode, IsNodeBy, Matches, AllMatch}
-use Rattle.vx_wire_tree.specs.ReadBack.{IsReadBack, ReadsBack, IsWrittenNode, IsWritten, IsKnownNode, HasKnownTypes, IsStorableNode, HasStorableStats}
+use Rattle.vx_wire_tree.specs.Matches.{IsRaw, AreRaw, IsEncodedNode, IsNodeBy, Matches, AllMatch}
+use Rattle.vx_wire_tree.specs.ReadBack.{IsReadBack, ReadsBack, IsWrittenNode, IsWritten, IsKnownNode, HasKnownTypes, IsStorableNode, HasStorableStats, HasWriter, IsWrittenBy, IsUnreadBy, IsUnread, AreUnread, IsKept, ReadsBackBy, AllReadBack}
 use Rattle.vx_wire_tree.specs.Reads.{IsMetadata}
 use Rattle.vx_wire_tree.specs.Session.{SessionMeaning, Reader, shipped, IsShippedReader, IsShipped, IsPaired, IsReadAgainBy}
 use Rattle.vx_wire_tree.specs.Wire.{all_present}
-use Rattle.vx_wire_tree.specs.Written.{wire_head, wire, wires, canon}
+use Rattle.vx_wire_tree.specs.Written.{spelled, wire_head, wire, wires, canon}
 
 nullable_again : (n : Nullability) → nullable_if (is_nullable n) ≡ n
 nullable_again Nullable = refl
 nullable_again NonNullable = refl
 
--- The message that is written of metadata means it, at any type.
-pub meant_told : (d : Typ) (v : Metadata) → meant d (told v) ≡ v
-meant_told d (M.dict x) = ap (λ (n : Nullability). M.dict (record { values_len = x.values_len; codes_ptype = x.codes_ptype; nullable_codes = n; all_values_referenced = x.all_values_referenced })) (nullable_again x.nullable_codes)
-meant_told d _ = refl
+-- No encoding that is known admits a foreign node's metadata.
+never_foreign : (e : Encoding) (x : Foreigns.Metadata) → IsNativeEncoding e → IsFair e (M.foreign x) → ⊥
+never_foreign E.foreign x k f = k
+never_foreign _ x k f = f
 
-module _ (c : Codec) (s : SessionMeaning) (law : IsLawful c s) where
-  -- A node as it is read back at a type matches what was written of it, if its children do.
-  encoded_again : (d : Typ) (h : Head) (ts : Trees) → IsSoundNode h ts → IsReadBack c s h ts → (r : IsRetyped h.dtype d)
-      → ((p : Planned d h ts) → AllMatch c s (wires c s ts) (canon_all (types_in p.at) ts))
-      → IsEncodedNode c s (encoding_of h.body) (wire_head c s h ts) (node (canon_head d h) (canon_all (child_types d h ts) ts)) (λ us. AllMatch c s (wires c s ts) us)
-  encoded_again d h ts x b r kids =
-      let e = encoding_of h.body in
-      let p = planned_at d h ts x r in
-      let v = metadata_in h ts in
-      let m : IsMetadata c s.ext e d (c.fields_bytes (told v)) v = record {
-        fields = told v;
-        shown = (law.messages (id_of e) e b.reader).message_again v x.fair b.message;
-        meaning = meant_told d v;
-        fair = x.fair;
-        known = b.known;
-      } in
-      let fit : FitStats d h.stats = subst (λ (z : Typ). FitStats z h.stats) r.retyped (fit_under r.nullability_is h.dtype h.stats x.stats) in
-      record {
-        encoding = cleared_encoding h.body;
-        metadata = subst (λ (z : Metadata). IsMetadata c s.ext e d (c.fields_bytes (told v)) z) (sym (kids_metadata d h ts p)) m;
-        buffers = ap (λ bs. all_present bs) (sym (cleared_buffers h.body));
-        stats = law.stats.stats_again d h.stats fit b.storable;
-        children = subst (λ (ds : List Typ). AllMatch c s (wires c s ts) (canon_all ds ts)) (sym (types_at d h ts p)) (kids p);
-      }
+-- The message that is written of metadata that such an encoding admits means it, at any type, and its bytes are
+-- the message's.
+pub meant_told : (e : Encoding) (d : Typ) (v : Metadata) → IsNativeEncoding e → IsFair e v → meant d (told v) ≡ v
+meant_told e d (M.foreign x) k f = absurd (never_foreign e x k f)
+meant_told e d (M.dict x) k f = ap (λ (n : Nullability). M.dict (record { values_len = x.values_len; codes_ptype = x.codes_ptype; nullable_codes = n; all_values_referenced = x.all_values_referenced })) (nullable_again x.nullable_codes)
+meant_told e d _ k f = refl
 
+own_bytes : (c : Codec) (e : Encoding) (v : Metadata) → IsNativeEncoding e → IsFair e v → metadata_bytes c (told v) ≡ c.fields_bytes (told v)
+own_bytes c e (M.foreign x) k f = absurd (never_foreign e x k f)
+own_bytes c e _ k f = refl
+
+module _ (c : Codec) (s : SessionMeaning) where
   mutual
-    -- A sound array that can be read back matches its wire tree as it is read back, at its own type or at one
-    -- that differs by nullability.
-    pub canon_matches : (d : Typ) (t : Tree) → IsSound t → ReadsBack c s t → IsRetyped (label t).dtype d → Matches c s (wire c s t) (canon_at d t)
-    canon_matches d (node h ts) x b r =
-        let k = encoded_again d h ts x.0 b.0 r (λ p. canon_all_match ts p.at x.1 b.1 p.retyped) in
-        let t = node (canon_head d h) (canon_all (child_types d h ts) ts) in
-        (id_of (encoding_of h.body), refl, subst (λ z. IsNodeBy c s z (wire_head c s h ts) t (λ us. AllMatch c s (wires c s ts) us)) (sym b.0.reader) k)
+    -- A foreign array is told by what is spelled of an array, whatever it is.
+    pub raw_again : (d : Typ) (n : ℕ) (t : Tree) → IsRaw (wire c s t) (as_foreign (spelled c s) d n t)
+    raw_again d n (node h ts) = (record { kept = spelled c s h ts; body = refl; id = refl; metadata = refl; buffers = refl }, raw_again_each d n ts)
 
-    canon_all_match : (ts : Trees) (qs : List Place) → EverywhereBelow IsSoundNode ts → EverywhereBelow (IsReadBack c s) ts → AreRetyped (places ts) qs → AllMatch c s (wires c s ts) (canon_all (types_in qs) ts)
-    canon_all_match end qs x b r = refl
-    canon_all_match (more t ts) [] x b r = absurd r
-    canon_all_match (more t ts) (q ∷ qs) x b r = (canon_matches q.dtype t x.0 b.0 r.0, canon_all_match ts qs x.1 b.1 r.2)
+    raw_again_each : (d : Typ) (n : ℕ) (ts : Trees) → AreRaw (wires c s ts) (all_foreign (spelled c s) d n ts)
+    raw_again_each d n end = refl
+    raw_again_each d n (more t ts) = (raw_again d n t, raw_again_each d n ts)
 
-  pub written_matches : (t : Tree) → IsSound t → ReadsBack c s t → Matches c s (wire c s t) (canon s t)
-  written_matches t x b = canon_matches (label t).dtype t x b (retyped_same (label t).dtype)
+  -- How a node is read back, by what it is.
+  read_back_native : (b : Body) (h : Head) (ts : Trees) (Below : Type 0) → IsNative b → ReadsBackBy c s b h ts Below → IsReadBack c s h ts × Below
+  read_back_native (B.foreign x) h ts Below k r = absurd k
+  read_back_native _ h ts Below k r = r
+
+  read_back_foreign : (b : Body) (h : Head) (ts : Trees) (Below : Type 0) (x : Foreigns.Data) → b ≡ B.foreign x → ReadsBackBy c s b h ts Below → IsKept s x
+  read_back_foreign b h ts Below x e r = subst (λ z. ReadsBackBy c s z h ts Below) e r
+
+  module _ (law : IsLawful c s) where
+    -- A node as it is read back at a type matches what was written of it, if its children do.
+    encoded_again : (d : Typ) (h : Head) (ts : Trees) → IsNative h.body → IsSoundNode h ts → IsReadBack c s h ts → (r : IsRetyped h.dtype d)
+        → ((p : Planned d h ts) → AllMatch c s (wires c s ts) (canon_all (spelled c s) (types_in p.at) ts))
+        → IsEncodedNode c s (encoding_of h.body) (wire_head c s h ts) (known_node (spelled c s) d h ts) (λ us. AllMatch c s (wires c s ts) us)
+    encoded_again d h ts native x b r kids =
+        let e = encoding_of h.body in
+        let p = planned_at d h ts native x r in
+        let v = metadata_in h ts in
+        let m : IsMetadata c s.ext e d (metadata_bytes c (told v)) v = record {
+          fields = told v;
+          shown = subst (λ bytes. c.Shows e bytes (told v)) (sym (own_bytes c e v native x.fair)) ((law.messages (id_of e) e b.reader).message_again v x.fair b.message);
+          meaning = meant_told e d v native x.fair;
+          fair = x.fair;
+          known = b.known;
+        } in
+        let fit : FitStats d h.stats = subst (λ (z : Typ). FitStats z h.stats) r.retyped (fit_under r.nullability_is h.dtype h.stats x.stats) in
+        record {
+          encoding = cleared_encoding h.body;
+          metadata = subst (λ (z : Metadata). IsMetadata c s.ext e d (metadata_bytes c (told v)) z) (sym (kids_metadata (spelled c s) d h ts p)) m;
+          buffers = ap (λ bs. all_present bs) (sym (cleared_buffers h.body));
+          stats = law.stats.stats_again d h.stats fit b.storable;
+          children = subst (λ (ds : List Typ). AllMatch c s (wires c s ts) (canon_all (spelled c s) ds ts)) (sym (types_at d h ts p)) (kids p);
+        }
+
+    node_again : (d : Typ) (h : Head) (ts : Trees) → IsNative h.body → IsReadBack c s h ts
+        → IsEncodedNode c s (encoding_of h.body) (wire_head c s h ts) (known_node (spelled c s) d h ts) (λ us. AllMatch c s (wires c s ts) us)
+        → Matches c s (wire c s (node h ts)) (known_node (spelled c s) d h ts)
+    node_again d h ts native b k =
+        let t = known_node (spelled c s) d h ts in
+        let r : s.reader (own_id h.body) ≡ Some (shipped (encoding_of h.body)) = ap (λ id. s.reader id) (native_id h.body native) ∙ b.reader in
+        (own_id h.body, refl, subst (λ z. IsNodeBy c s z (wire_head c s h ts) (wires c s ts) t (λ us. AllMatch c s (wires c s ts) us)) (sym r) k)
+
+    foreign_again : (d : Typ) (h : Head) (ts : Trees) (x : Foreigns.Data) → h.body ≡ B.foreign x → IsKept s x → Matches c s (wire c s (node h ts)) (foreign_node (spelled c s) d h ts)
+    foreign_again d h ts x e k =
+        let t = foreign_node (spelled c s) d h ts in
+        let r : s.reader (own_id h.body) ≡ None = ap (λ b. s.reader (own_id b)) e ∙ k.reader in
+        (own_id h.body, refl, subst (λ z. IsNodeBy c s z (wire_head c s h ts) (wires c s ts) t (λ us. AllMatch c s (wires c s ts) us)) (sym r) (k.allowed, raw_again d h.len (node h ts)))
+
+    mutual
+      -- A sound array that can be read back matches its wire tree as it is read back, at its own type or at one
+      -- that differs by nullability.
+      pub canon_matches : (d : Typ) (t : Tree) → IsSound t → ReadsBack c s t → IsRetyped (label t).dtype d → Matches c s (wire c s t) (canon_at (spelled c s) d t)
+      canon_matches d (node h ts) x b r =
+          by_node (spelled c s) (λ u. Matches c s (wire c s (node h ts)) u) d h ts
+          (λ native.
+          let y = read_back_native h.body h ts (AllReadBack c s ts) native b in
+          node_again d h ts native y.0 (encoded_again d h ts native x.0 y.0 r (λ p. canon_all_match ts p.at x.1 y.1 p.retyped)))
+          (λ z e. foreign_again d h ts z e (read_back_foreign h.body h ts (AllReadBack c s ts) z e b))
+
+      canon_all_match : (ts : Trees) (qs : List Place) → EverywhereBelow IsSoundNode ts → AllReadBack c s ts → AreRetyped (places ts) qs → AllMatch c s (wires c s ts) (canon_all (spelled c s) (types_in qs) ts)
+      canon_all_match end qs x b r = refl
+      canon_all_match (more t ts) [] x b r = absurd r
+      canon_all_match (more t ts) (q ∷ qs) x b r = (canon_matches q.dtype t x.0 b.0 r.0, canon_all_match ts qs x.1 b.1 r.2)
+
+    pub written_matches : (t : Tree) → IsSound t → ReadsBack c s t → Matches c s (wire c s t) (canon c s t)
+    written_matches t x b = canon_matches (label t).dtype t x b (retyped_same (label t).dtype)
 
 -- ---- the conditions on reading back are met
 
@@ -93,18 +143,30 @@ module _ (c : Codec) (s : SessionMeaning) (ok : IsShipped s) (paired : IsPaired 
       let same = distinct_ids e f (paired.own_identifier (id_of e) (shipped f) w) in
       read_by_shipped f (s.reader (id_of e)) (ok.reads (id_of e)) (paired.written_is_read (id_of e) f w) ∙ ap (λ g. Some (shipped g)) (sym same)
 
-  node_back : (h : Head) (ts : Trees) → IsWrittenNode s h ts → HasMessage h ts → IsKnownNode s h ts → IsStorableNode c h ts → IsReadBack c s h ts
-  node_back h ts w m k b = record {
-    reader = written_by (encoding_of h.body) w.writer (subst (λ z. IsShippedReader z) w.writer_is (ok.writes (id_of (encoding_of h.body)))) w.writer_is;
-    message = m;
-    known = k;
-    storable = b;
-  }
+  native_writer : (b : Body) → IsNative b → IsWrittenBy s b → HasWriter s (encoding_of b)
+  native_writer (B.foreign x) k w = absurd k
+  native_writer _ k w = w
+
+  node_back : (h : Head) (ts : Trees) → IsNative h.body → IsWrittenNode s h ts → HasMessage h ts → IsKnownNode s h ts → IsStorableNode c h ts → IsReadBack c s h ts
+  node_back h ts native w m k b =
+      let x = native_writer h.body native w in
+      record {
+        reader = written_by (encoding_of h.body) x.writer (subst (λ z. IsShippedReader z) x.writer_is (ok.writes (id_of (encoding_of h.body)))) x.writer_is;
+        message = m;
+        known = k;
+        storable = b;
+      }
+
+  -- A node is read back, by what it is.
+  kept_back : (b : Body) (h : Head) (ts : Trees) (Below Under : Type 0) → (IsNative b → IsReadBack c s h ts) → IsWrittenBy s b → IsUnreadBy s b Under → (Under → Below) → ReadsBackBy c s b h ts Below
+  kept_back (B.foreign x) h ts Below Under f w u g = record { reader = u; allowed = w }
+  kept_back _ h ts Below Under f w u g = (f tt, g u)
 
   mutual
-    pub reads_back : (t : Tree) → IsWritten s t → HasMessages t → HasKnownTypes s t → HasStorableStats c t → ReadsBack c s t
-    reads_back (node h ts) w m k b = (node_back h ts w.0 m.0 k.0 b.0, read_back_each ts w.1 m.1 k.1 b.1)
+    pub reads_back : (t : Tree) → IsUnread s t → IsWritten s t → HasMessages t → HasKnownTypes s t → HasStorableStats c t → ReadsBack c s t
+    reads_back (node h ts) u w m k b =
+        kept_back h.body h ts (AllReadBack c s ts) (AreUnread s ts) (λ native. node_back h ts native w.0 m.0 k.0 b.0) w.0 u (λ us. read_back_each ts us w.1 m.1 k.1 b.1)
 
-    read_back_each : (ts : Trees) → EverywhereBelow (IsWrittenNode s) ts → EverywhereBelow HasMessage ts → EverywhereBelow (IsKnownNode s) ts → EverywhereBelow (IsStorableNode c) ts → EverywhereBelow (IsReadBack c s) ts
-    read_back_each end w m k b = tt
-    read_back_each (more t ts) w m k b = (reads_back t w.0 m.0 k.0 b.0, read_back_each ts w.1 m.1 k.1 b.1)
+    read_back_each : (ts : Trees) → AreUnread s ts → EverywhereBelow (IsWrittenNode s) ts → EverywhereBelow HasMessage ts → EverywhereBelow (IsKnownNode s) ts → EverywhereBelow (IsStorableNode c) ts → AllReadBack c s ts
+    read_back_each end u w m k b = tt
+    read_back_each (more t ts) u w m k b = (reads_back t u.0 w.0 m.0 k.0 b.0, read_back_each ts u.1 w.1 m.1 k.1 b.1)

@@ -5,15 +5,17 @@ use Rattle.vx_trees.specs.Everywhere.{EverywhereBelow}
 use Rattle.vx_types.specs.Typ.{Typ}
 use Rattle.vx_array_tree.specs.Encoding.{Encoding}
 use Rattle.vx_array_tree.specs.Metadata.{Metadata}
-use Rattle.vx_array_tree.specs.Normal.{IsNormal, IsNormalNode}
+use Rattle.vx_array_tree.specs.Normal.{IsNormal, IsNormalNode, AreForeignAt}
 use Rattle.vx_array_tree.specs.Place.{place}
 use Rattle.vx_array_tree.specs.Sound.{IsSound, IsSoundNode, metadata_in}
 use Rattle.vx_array_tree.specs.Table.{buffers_of}
 use Rattle.vx_array_tree.specs.Tree.{Head, Tree, Trees, places}
+use Rattle.vx_array_tree.specs.Body as B
+use Rattle.vx_array_tree.proofs.CanonLaws.{normal_foreign}
 use Rattle.vx_array_tree.proofs.NodeLaws.{IsSameNode, same_head, same_places}
 use Rattle.vx_wire_tree.specs.Codec.{Codec, HasLawfulStats, IsLawful, IsLawfulAt}
 use Rattle.vx_wire_tree.specs.Fields.{meant}
-use Rattle.vx_wire_tree.specs.Matches.{IsEncodedNode, IsNodeBy, Matches, AllMatch}
+use Rattle.vx_wire_tree.specs.Matches.{IsRawNode, IsRaw, AreRaw, IsEncodedNode, IsNodeBy, Matches, AllMatch}
 use Rattle.vx_wire_tree.specs.Reads.{IsMetadata}
 use Rattle.vx_wire_tree.specs.Session.{SessionMeaning, Reader, shipped, IsShippedReader, IsShipped}
 use Rattle.vx_wire_tree.specs.Wire.{WireHead, Wire, Wires, all_present}
@@ -70,24 +72,53 @@ module _ (c : Codec) (s : SessionMeaning) where
       λ i. node (head i) (below i)
 
   module _ (law : IsLawful c s) where
-    node_unique : (r : Option Reader) → IsShippedReader r → (id : List ℕ) → s.reader id ≡ r → (w : WireHead) (ws : Wires) (h g : Head) (ts us : Trees)
-        → IsNodeBy c s r w (node h ts) (λ vs. AllMatch c s ws vs) → IsNodeBy c s r w (node g us) (λ vs. AllMatch c s ws vs)
-        → IsSoundNode h ts → IsSoundNode g us → IsNormalNode h ts → IsNormalNode g us → h.dtype ≡ g.dtype → h.len ≡ g.len
-        → (AllMatch c s ws ts → AllMatch c s ws us → places ts ≡ places us → ts ≡ us) → node h ts ≡ node g us
-    node_unique None ok id q w ws h g ts us a b sh sg nh ng d n kids = absurd a
-    node_unique (Some (shipped e)) ok id q w ws h g ts us a b sh sg nh ng d n kids =
-        encoded_unique e (law.messages id e q) law.stats w h g ts us (λ vs. AllMatch c s ws vs) a b sh sg nh ng d n (all_count ws ts a.children ∙ sym (all_count ws us b.children)) kids
-
     same_id : (o : Option (List ℕ)) (i j : List ℕ) → o ≡ Some i → o ≡ Some j → i ≡ j
     same_id o i j p q = cc
+
+    -- Two foreign nodes that keep what stands on one wire node keep the same.
+    same_kept : (w : WireHead) (h g : Head) → (x : IsRawNode w h) (y : IsRawNode w g) → x.kept ≡ y.kept
+    same_kept w h g x y =
+        let a = same_id w.id x.kept.id y.kept.id x.id y.id in
+        let b = sym x.metadata ∙ y.metadata in
+        let c = all_present_inj x.kept.buffers y.kept.buffers (sym x.buffers ∙ y.buffers) in
+        λ i. record { id = a i; metadata = b i; buffers = c i }
+
+    mutual
+      raw_unique : (w : Wire) (t u : Tree) → IsRaw w t → IsRaw w u → IsNormal t → IsNormal u → (label t).dtype ≡ (label u).dtype → (label t).len ≡ (label u).len → t ≡ u
+      raw_unique (node w ws) (node h ts) (node g us) a b nt nu d n =
+          let x = normal_foreign h.body h ts a.0.kept a.0.body nt.0 in
+          let y = normal_foreign g.body g us b.0.kept b.0.body nu.0 in
+          let body = a.0.body ∙ ap (λ z. B.foreign z) (same_kept w h g a.0 b.0) ∙ sym b.0.body in
+          let stats = x.stats ∙ sym y.stats in
+          let k = subst (λ (z : Typ). AreForeignAt z h.len ts) d x.children in
+          let below = raw_unique_each ws ts us a.1 b.1 nt.1 nu.1 g.dtype g.len (subst (λ (z : ℕ). AreForeignAt g.dtype z ts) n k) y.children in
+          λ i. node (record { dtype = d i; len = n i; stats = stats i; body = body i }) (below i)
+
+      raw_unique_each : (ws : Wires) (ts us : Trees) → AreRaw ws ts → AreRaw ws us → EverywhereBelow IsNormalNode ts → EverywhereBelow IsNormalNode us
+          → (d : Typ) (n : ℕ) → AreForeignAt d n ts → AreForeignAt d n us → ts ≡ us
+      raw_unique_each end ts us a b nt nu d n x y = a ∙ sym b
+      raw_unique_each (more w ws) end us a b nt nu d n x y = absurd a
+      raw_unique_each (more w ws) (more t ts) end a b nt nu d n x y = absurd b
+      raw_unique_each (more w ws) (more t ts) (more u us) a b nt nu d n x y =
+          let p = raw_unique w t u a.0 b.0 nt.0 nu.0 (x.0.dtype ∙ sym y.0.dtype) (x.0.len ∙ sym y.0.len) in
+          let q = raw_unique_each ws ts us a.1 b.1 nt.1 nu.1 d n x.1 y.1 in
+          λ i. more (p i) (q i)
+
+    node_unique : (r : Option Reader) → IsShippedReader r → (id : List ℕ) → s.reader id ≡ r → (w : WireHead) (ws : Wires) (h g : Head) (ts us : Trees)
+        → IsNodeBy c s r w ws (node h ts) (λ vs. AllMatch c s ws vs) → IsNodeBy c s r w ws (node g us) (λ vs. AllMatch c s ws vs)
+        → IsSoundNode h ts → IsSoundNode g us → IsNormal (node h ts) → IsNormal (node g us) → h.dtype ≡ g.dtype → h.len ≡ g.len
+        → (AllMatch c s ws ts → AllMatch c s ws us → places ts ≡ places us → ts ≡ us) → node h ts ≡ node g us
+    node_unique None ok id q w ws h g ts us a b sh sg nh ng d n kids = raw_unique (node w ws) (node h ts) (node g us) a.1 b.1 nh ng d n
+    node_unique (Some (shipped e)) ok id q w ws h g ts us a b sh sg nh ng d n kids =
+        encoded_unique e (law.messages id e q) law.stats w h g ts us (λ vs. AllMatch c s ws vs) a b sh sg nh.0 ng.0 d n (all_count ws ts a.children ∙ sym (all_count ws us b.children)) kids
 
     mutual
       pub one_tree : IsShipped s → (w : Wire) (t u : Tree) → Matches c s w t → Matches c s w u → IsSound t → IsSound u → IsNormal t → IsNormal u
           → (label t).dtype ≡ (label u).dtype → (label t).len ≡ (label u).len → t ≡ u
       one_tree ok (node w ws) (node h ts) (node g us) a b st su nt nu d n =
           let e = same_id w.id a.0 b.0 a.1 b.1 in
-          let b2 = subst (λ z. IsNodeBy c s (s.reader z) w (node g us) (λ vs. AllMatch c s ws vs)) (sym e) b.2 in
-          node_unique (s.reader a.0) (ok.reads a.0) a.0 refl w ws h g ts us a.2 b2 st.0 su.0 nt.0 nu.0 d n (λ x y l. one_tree_each ok ws ts us x y st.1 su.1 nt.1 nu.1 l)
+          let b2 = subst (λ z. IsNodeBy c s (s.reader z) w ws (node g us) (λ vs. AllMatch c s ws vs)) (sym e) b.2 in
+          node_unique (s.reader a.0) (ok.reads a.0) a.0 refl w ws h g ts us a.2 b2 st.0 su.0 nt nu d n (λ x y l. one_tree_each ok ws ts us x y st.1 su.1 nt.1 nu.1 l)
 
       pub one_tree_each : IsShipped s → (ws : Wires) (ts us : Trees) → AllMatch c s ws ts → AllMatch c s ws us → EverywhereBelow IsSoundNode ts → EverywhereBelow IsSoundNode us
           → EverywhereBelow IsNormalNode ts → EverywhereBelow IsNormalNode us → places ts ≡ places us → ts ≡ us

@@ -1,13 +1,13 @@
 -- What is written of statistics is written as the statistics are, so a tree is written alike before and after.
-use Rattle.std.proofs.Common.{◌≡◌, List, [], ◌∷◌, Some, refl}
+use Rattle.std.proofs.Common.{ℕ, ◌≡◌, List, [], ◌∷◌, Some, refl}
 use Rattle.vx_trees.specs.Rose.{node, end, more, label}
 use Rattle.vx_trees.specs.Everywhere.{EverywhereBelow}
 use Rattle.vx_types.specs.Typ.{Typ}
-use Rattle.vx_array_tree.specs.Canon.{child_types, canon_at, canon_all, written_head, stats_written, each_stats_written}
-use Rattle.vx_array_tree.specs.Table.{encoding_of, metadata_of, buffers_of, id_of}
+use Rattle.vx_array_tree.specs.Canon.{child_types, Spelling, as_foreign, all_foreign, canon_at, canon_all, written_head, stats_written, each_stats_written}
+use Rattle.vx_array_tree.specs.Table.{metadata_of, buffers_of, own_id}
 use Rattle.vx_array_tree.specs.Tree.{Head, Tree, Trees, places}
-use Rattle.vx_array_tree.proofs.CanonLaws.{written_places}
-use Rattle.vx_wire_tree.specs.Codec.{Codec, HasLawfulStats}
+use Rattle.vx_array_tree.proofs.CanonLaws.{by_node, written_places}
+use Rattle.vx_wire_tree.specs.Codec.{Codec, HasLawfulStats, metadata_bytes}
 use Rattle.vx_wire_tree.specs.Fields.{told}
 use Rattle.vx_wire_tree.specs.ReadBack.{IsStorableNode, HasStorableStats}
 use Rattle.vx_wire_tree.specs.Session.{SessionMeaning}
@@ -20,8 +20,8 @@ module _ (c : Codec) (law : HasLawfulStats c) where
     head_alike h ts us p =
         let x = law.written_alike h.stats in
         λ i. record {
-          id = Some (id_of (encoding_of h.body));
-          metadata = c.fields_bytes (told (metadata_of h.body (p i)));
+          id = Some (own_id h.body);
+          metadata = metadata_bytes c (told (metadata_of h.body (p i)));
           buffers = all_present (buffers_of h.body);
           stats = x i;
         }
@@ -41,11 +41,22 @@ module _ (c : Codec) (law : HasLawfulStats c) where
           λ i. more (a i) (b i)
 
   mutual
-    -- What is read back can be stored where what was written could.
-    pub storable_at : (d : Typ) (t : Tree) → HasStorableStats c t → HasStorableStats c (canon_at d t)
-    storable_at d (node h ts) k = (law.written_storable h.stats k.0, storable_each (child_types d h ts) ts k.1)
+    foreign_storable : (sp : Spelling) (d : Typ) (n : ℕ) (t : Tree) → HasStorableStats c (as_foreign sp d n t)
+    foreign_storable sp d n (node h ts) = (law.none_storable, all_foreign_storable sp d n ts)
 
-    storable_each : (ds : List Typ) (ts : Trees) → EverywhereBelow (IsStorableNode c) ts → EverywhereBelow (IsStorableNode c) (canon_all ds ts)
-    storable_each ds end k = tt
-    storable_each [] (more t ts) k = (storable_at (label t).dtype t k.0, storable_each [] ts k.1)
-    storable_each (d ∷ ds) (more t ts) k = (storable_at d t k.0, storable_each ds ts k.1)
+    all_foreign_storable : (sp : Spelling) (d : Typ) (n : ℕ) (ts : Trees) → EverywhereBelow (IsStorableNode c) (all_foreign sp d n ts)
+    all_foreign_storable sp d n end = tt
+    all_foreign_storable sp d n (more t ts) = (foreign_storable sp d n t, all_foreign_storable sp d n ts)
+
+  mutual
+    -- What is read back can be stored where what was written could.
+    pub storable_at : (sp : Spelling) (d : Typ) (t : Tree) → HasStorableStats c t → HasStorableStats c (canon_at sp d t)
+    storable_at sp d (node h ts) k =
+        by_node sp (λ u. HasStorableStats c u) d h ts
+        (λ _. (law.written_storable h.stats k.0, storable_each sp (child_types d h ts) ts k.1))
+        (λ z e. foreign_storable sp d h.len (node h ts))
+
+    storable_each : (sp : Spelling) (ds : List Typ) (ts : Trees) → EverywhereBelow (IsStorableNode c) ts → EverywhereBelow (IsStorableNode c) (canon_all sp ds ts)
+    storable_each sp ds end k = tt
+    storable_each sp [] (more t ts) k = (storable_at sp (label t).dtype t k.0, storable_each sp [] ts k.1)
+    storable_each sp (d ∷ ds) (more t ts) k = (storable_at sp d t k.0, storable_each sp ds ts k.1)

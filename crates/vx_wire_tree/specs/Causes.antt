@@ -1,14 +1,16 @@
 -- The cause of each refusal of a tree.
-use Rattle.std.specs.Prelude.{ℕ, ◌≡◌, List, [], ◌∷◌, Option, Some, None, ◌⊎◌, slice_get}
+use Rattle.std.specs.Prelude.{ℕ, ◌≡◌, List, [], ◌∷◌, Option, Some, None, ◌⊎◌, slice_get, false}
 use Rattle.vx_buffer.specs.Buffer.{Buffer}
 use Rattle.vx_trees.specs.Rose.{label, below, count, end, more}
 use Rattle.vx_trees.specs.Everywhere.{EverywhereBelow}
 use Rattle.vx_types.specs.Typ.{Typ}
+use Rattle.vx_array_tree.specs.Body.{Body}
+use Rattle.vx_array_tree.specs.Body as B
 use Rattle.vx_array_tree.specs.Encoding.{Encoding}
 use Rattle.vx_array_tree.specs.Metadata.{Metadata}
 use Rattle.vx_array_tree.specs.Normal.{IsNormalNode}
 use Rattle.vx_array_tree.specs.Place.{Place}
-use Rattle.vx_array_tree.specs.Sound.{IsSoundNode}
+use Rattle.vx_array_tree.specs.Sound.{IsSoundNode, IsControlledBy}
 use Rattle.vx_array_tree.specs.Table.{encoding_of, id_of, plan_of, IsShaped, Takes, Content}
 use Rattle.vx_array_tree.specs.Tree.{Tree, Trees, places, rows_below}
 use Rattle.vx_wire_tree.specs.Codec.{Codec}
@@ -41,9 +43,13 @@ pub record IsReadBy (s : SessionMeaning) (w : Wire) (r : Option Reader) : Type 0
 abbrev pub IsOf : SessionMeaning → Wire → Encoding → Type 0
 IsOf s w e = IsReadBy s w (Some (shipped e))
 
--- Nothing reads a node.
+-- Nothing reads a node, and such nodes are not allowed.
+pub record IsUnknownNode (s : SessionMeaning) (w : Wire) : Type 0 where
+  pub unregistered : IsReadBy s w None
+  pub closed : s.ext.unknown ≡ false
+
 abbrev pub IsUnregistered : SessionMeaning → Claim
-IsUnregistered s w d n = IsReadBy s w None
+IsUnregistered s w d n = IsUnknownNode s w
 
 -- A node's metadata is none that its encoding reads.
 pub record HasBadMetadata (c : Codec) (s : SessionMeaning) (w : Wire) (d : Typ) (n : ℕ) : Type 0 where
@@ -89,7 +95,21 @@ pub record HasChildren (c : Codec) (s : SessionMeaning) (w : Wire) (ps : List Pl
   pub normal : EverywhereBelow IsNormalNode ts
   pub placed : places ts ≡ ps
 
--- A node's parts are right, its children match sound arrays, and its content is broken over them.
+-- A node's metadata is read, its children match sound arrays, and one that says where the node's rows are holds
+-- a foreign node, or the entries of a map are one.
+pub record HasForeignControl (c : Codec) (s : SessionMeaning) (w : Wire) (d : Typ) (n : ℕ) : Type 0 where
+  pub encoding : Encoding
+  pub by : IsOf s w encoding
+  pub value : Metadata
+  pub metadata : IsMetadata c s.ext encoding d (label w).metadata value
+  pub places_are : List Place
+  pub plan : plan_of encoding d n value (count (below w)) ≡ Some places_are
+  pub children : Trees
+  pub matched : HasChildren c s w places_are children
+  pub foreign : IsControlledBy encoding d children → ⊥
+
+-- A node's parts are right, its children match sound arrays, it is known where its rows are, and its content is
+-- broken over them.
 pub record HasBadContent (c : Codec) (s : SessionMeaning) (w : Wire) (d : Typ) (n : ℕ) : Type 0 where
   pub encoding : Encoding
   pub by : IsOf s w encoding
@@ -102,6 +122,7 @@ pub record HasBadContent (c : Codec) (s : SessionMeaning) (w : Wire) (d : Typ) (
   pub shaped : IsShaped encoding d n value buffers (count (below w))
   pub children : Trees
   pub matched : HasChildren c s w places_are children
+  pub controlled : IsControlledBy encoding d children
   pub broken : Content d n shaped.body (rows_below children) → ⊥
 
 -- A node that an encoding reads has a field that shows no statistics of its type.
@@ -120,6 +141,7 @@ pub data Refusal : Type 0 where
   bad_metadata : Refusal
   bad_shape : Refusal
   bad_content : Refusal
+  foreign_control : Refusal
   bad_stats : Refusal
 
 -- Why a wire tree tells no array at a type and a length, by the refusal. An identifier or a buffer may be
@@ -131,13 +153,19 @@ RefusesTree unknown_encoding c s w d n = HoldsSomewhere c s (IsUnregistered s) w
 RefusesTree bad_metadata c s w d n = HoldsSomewhere c s (HasBadMetadata c s) w d n
 RefusesTree bad_shape c s w d n = HoldsSomewhere c s (HasBadShape c s) w d n
 RefusesTree bad_content c s w d n = HoldsSomewhere c s (HasBadContent c s) w d n
+RefusesTree foreign_control c s w d n = HoldsSomewhere c s (HasForeignControl c s) w d n
 RefusesTree bad_stats c s w d n = HoldsSomewhere c s (HasBadStats c s) w d n
 
 -- ---- writing
 
--- The session has no writer of the encoding of an array's root.
+-- The session has no writer of a node's encoding, or foreign nodes are not allowed and it is one.
+abbrev pub LacksWriterBy : SessionMeaning → Body → Type 0
+LacksWriterBy s (B.foreign x) = s.ext.unknown ≡ false
+LacksWriterBy s b = s.writer (id_of (encoding_of b)) ≡ None
+
+-- So it is with the root of an array.
 abbrev pub LacksWriter : SessionMeaning → Tree → Type 0
-LacksWriter s t = s.writer (id_of (encoding_of (label t).body)) ≡ None
+LacksWriter s t = LacksWriterBy s (label t).body
 
 -- Some node of an array has no writer.
 abbrev pub HasUnwritten : SessionMeaning → Tree → Type 0

@@ -4,12 +4,12 @@
 use Rattle.std.specs.Prelude.{ℕ, ◌≡◌, List, Some}
 use Rattle.vx_flat.specs.Value.{Field}
 use Rattle.vx_types.specs.Typ.{Typ}
-use Rattle.vx_scalars.specs.Stats.{Stats, FitStats}
+use Rattle.vx_scalars.specs.Stats.{Stats, FitStats, no_stats}
 use Rattle.vx_scalars.specs.WrittenStats.{written_stats}
 use Rattle.vx_array_tree.specs.Encoding.{Encoding}
 use Rattle.vx_array_tree.specs.Metadata.{Metadata}
-use Rattle.vx_array_tree.specs.Table.{IsFair}
-use Rattle.vx_wire_tree.specs.Fields.{Fields, told, FitsMessage}
+use Rattle.vx_array_tree.specs.Table.{IsFair, IsNativeEncoding}
+use Rattle.vx_wire_tree.specs.Fields.{Fields, raw, told, FitsMessage}
 use Rattle.vx_wire_tree.specs.Session.{SessionMeaning, shipped}
 
 -- Bytes show a message of an encoding's metadata, and a message is written as bytes. A field shows statistics of
@@ -21,19 +21,28 @@ pub record Codec : Type 1 where
   pub stats_field : Stats → Field
   pub IsStorable : Stats → Type 0
 
--- The messages of an encoding's metadata: bytes show one at most, and what is written of metadata shows it.
+-- The messages of the metadata of an encoding that is known: bytes show one at most, and what is written of
+-- metadata shows it.
 pub record IsLawfulAt (c : Codec) (e : Encoding) : Type 0 where
+  pub native : IsNativeEncoding e
   pub one_message : (bytes : List ℕ) (f g : Fields) → c.Shows e bytes f → c.Shows e bytes g → f ≡ g
   pub message_again : (v : Metadata) → IsFair e v → FitsMessage v → c.Shows e (c.fields_bytes (told v)) (told v)
 
 -- The tables of statistics: a field shows one set at most, which fits; that of a set which fits and can be
--- stored shows what is written of the set, which can be stored and is written alike.
+-- stored shows what is written of the set, which can be stored and is written alike. The set of none can be
+-- stored.
 pub record HasLawfulStats (c : Codec) : Type 0 where
   pub one_set : (d : Typ) (f : Field) (x y : Stats) → c.ShowsStats d f x → c.ShowsStats d f y → x ≡ y
   pub shown_fit : (d : Typ) (f : Field) (x : Stats) → c.ShowsStats d f x → FitStats d x
   pub stats_again : (d : Typ) (x : Stats) → FitStats d x → c.IsStorable x → c.ShowsStats d (c.stats_field x) (written_stats x)
   pub written_storable : (x : Stats) → c.IsStorable x → c.IsStorable (written_stats x)
   pub written_alike : (x : Stats) → c.stats_field (written_stats x) ≡ c.stats_field x
+  pub none_storable : c.IsStorable no_stats
+
+-- The bytes that are written of a message; those that are kept as they are stay so.
+abbrev pub metadata_bytes : Codec → Fields → List ℕ
+metadata_bytes c (raw bytes) = bytes
+metadata_bytes c f = c.fields_bytes f
 
 -- The messages are lawful at each encoding by which a session reads, and so are the tables.
 pub record IsLawful (c : Codec) (s : SessionMeaning) : Type 0 where

@@ -1,5 +1,5 @@
 -- The messages of metadata as plain values: what their fields show.
-use Rattle.std.specs.Prelude.{ℕ, ◌≤◌, ◌<◌, ◌-◌, ◌^◌, Bool, true, false, Option, Some, None, unwrap_or}
+use Rattle.std.specs.Prelude.{ℕ, ◌≤◌, ◌<◌, ◌-◌, ◌^◌, List, Bool, true, false, Option, Some, None, unwrap_or}
 use Rattle.vx_trees.specs.Walks.{levels}
 use Rattle.vx_types.specs.Typ.{Typ}
 use Rattle.vx_types.specs.Words.{nullability}
@@ -18,8 +18,8 @@ pub record DictFields : Type 0 where
   pub is_nullable_codes : Option Bool
   pub all_values_referenced : Option Bool
 
--- One message for each encoding that keeps something, and none for the others. A type in a message is one
--- that the message shows.
+-- One message for each encoding that keeps something, and none for the others; the metadata of a foreign node
+-- is bytes, whatever they show. A type in a message is one that the message shows.
 pub data Fields : Type 0 where
   empty : Fields
   bool : ℕ → Fields
@@ -29,6 +29,7 @@ pub data Fields : Type 0 where
   listview : ℕ → PType → PType → Fields
   variant : Option Typ → Fields
   dict : DictFields → Fields
+  raw : List ℕ → Fields
 
 -- A flag that says that rows may be null, as a nullability, and back.
 abbrev pub nullable_if : Bool → Nullability
@@ -45,9 +46,10 @@ codes_nullability d (Some b) = nullable_if b
 codes_nullability d None = nullability d
 
 -- What a message means as metadata of a node of a type. A dictionary's second flag is false where it is
--- absent.
+-- absent. (Bytes that are kept as they are mean nothing.)
 abbrev pub meant : Typ → Fields → Metadata
 meant d empty = M.empty
+meant d (raw bytes) = M.empty
 meant d (bool offset) = M.bool offset
 meant d (decimal w) = M.decimal w
 meant d (varbin p) = M.varbin p
@@ -61,7 +63,8 @@ meant d (dict f) = M.dict (record {
   all_values_referenced = unwrap_or f.all_values_referenced false;
 })
 
--- The message that is written of metadata: in a dictionary's both flags stand.
+-- The message that is written of metadata: in a dictionary's both flags stand. A foreign node's bytes are
+-- written as they are.
 abbrev pub told : Metadata → Fields
 told M.empty = empty
 told (M.bool offset) = bool offset
@@ -76,6 +79,7 @@ told (M.dict v) = dict (record {
   is_nullable_codes = Some (is_nullable v.nullable_codes);
   all_values_referenced = Some v.all_values_referenced;
 })
+told (M.foreign v) = raw v.bytes
 
 -- Metadata fits a message: values are counted in 32 bits, elements in 64 (as each length of an array in
 -- memory is), and a shredded type has at most 49 levels.

@@ -5,6 +5,7 @@ pub mod Wire
 pub mod Session
 pub mod Matches
 pub mod Tells
+pub mod Kept
 pub mod Written
 pub mod Context
 pub mod Limits

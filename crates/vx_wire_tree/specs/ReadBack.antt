@@ -1,6 +1,11 @@
 -- The conditions under which what is written of an array is read back.
-use Rattle.std.specs.Prelude.{◌≡◌, Some}
+use Rattle.std.specs.Prelude.{◌≡◌, Some, None, IsTrue}
+use Rattle.vx_trees.specs.Rose.{node, end, more}
 use Rattle.vx_trees.specs.Everywhere.{Everywhere}
+use Rattle.vx_array_tree.specs.Body.{Body}
+use Rattle.vx_array_tree.specs.Body as B
+use Rattle.vx_array_tree.specs.Encoding.{Encoding}
+use Rattle.vx_array_tree.specs.Encodings.Foreigns as Foreigns
 use Rattle.vx_array_tree.specs.Sound.{metadata_in}
 use Rattle.vx_array_tree.specs.Table.{encoding_of, id_of}
 use Rattle.vx_array_tree.specs.Tree.{Tree, Trees, Head}
@@ -9,10 +14,18 @@ use Rattle.vx_wire_tree.specs.Limits.{HasMessage}
 use Rattle.vx_wire_tree.specs.Reads.{IsKnownIn}
 use Rattle.vx_wire_tree.specs.Session.{SessionMeaning, Reader, shipped}
 
--- A node is written: the session has a writer of its encoding.
-pub record IsWrittenNode (s : SessionMeaning) (h : Head) (ts : Trees) : Type 0 where
+-- The session has a writer of an encoding.
+pub record HasWriter (s : SessionMeaning) (e : Encoding) : Type 0 where
   pub writer : Reader
-  pub writer_is : s.writer (id_of (encoding_of h.body)) ≡ Some writer
+  pub writer_is : s.writer (id_of e) ≡ Some writer
+
+-- A node is written: the session has a writer of its encoding, or it is foreign and such nodes are allowed.
+abbrev pub IsWrittenBy : SessionMeaning → Body → Type 0
+IsWrittenBy s (B.foreign x) = IsTrue s.ext.unknown
+IsWrittenBy s b = HasWriter s (encoding_of b)
+
+abbrev pub IsWrittenNode : SessionMeaning → Head → Trees → Type 0
+IsWrittenNode s h ts = IsWrittenBy s h.body
 
 -- Each node of an array is.
 abbrev pub IsWritten : SessionMeaning → Tree → Type 0
@@ -34,14 +47,44 @@ IsStorableNode c h ts = c.IsStorable h.stats
 abbrev pub HasStorableStats : Codec → Tree → Type 0
 HasStorableStats c = Everywhere (IsStorableNode c)
 
--- A node is read back: its identifier is read by its encoding, its metadata fits a message, a type in it is
--- known, and its statistics can be stored.
+-- Nothing reads a foreign node; of any other node the same is said of what is below it.
+abbrev pub IsUnreadBy : SessionMeaning → Body → Type 0 → Type 0
+IsUnreadBy s (B.foreign x) Below = s.reader x.id ≡ None
+IsUnreadBy s _ Below = Below
+
+abbrev mutual
+  -- Nothing reads the topmost foreign nodes of an array. Below them identifiers are free.
+  pub IsUnread : SessionMeaning → Tree → Type 0
+  IsUnread s (node h ts) = IsUnreadBy s h.body (AreUnread s ts)
+
+  -- Nor those of any of several arrays.
+  pub AreUnread : SessionMeaning → Trees → Type 0
+  AreUnread s end = Unit {0}
+  AreUnread s (more t ts) = IsUnread s t × AreUnread s ts
+
+-- A node of an encoding is read back: its identifier is read by its encoding, its metadata fits a message, a
+-- type in it is known, and its statistics can be stored.
 pub record IsReadBack (c : Codec) (s : SessionMeaning) (h : Head) (ts : Trees) : Type 0 where
   pub reader : s.reader (id_of (encoding_of h.body)) ≡ Some (shipped (encoding_of h.body))
   pub message : HasMessage h ts
   pub known : IsKnownNode s h ts
   pub storable : IsStorableNode c h ts
 
--- Each node of an array is.
-abbrev pub ReadsBack : Codec → SessionMeaning → Tree → Type 0
-ReadsBack c s = Everywhere (IsReadBack c s)
+-- A foreign node is read back as such: nothing reads it, and such nodes are allowed.
+pub record IsKept (s : SessionMeaning) (x : Foreigns.Data) : Type 0 where
+  pub reader : s.reader x.id ≡ None
+  pub allowed : IsTrue s.ext.unknown
+
+abbrev pub ReadsBackBy : Codec → SessionMeaning → Body → Head → Trees → Type 0 → Type 0
+ReadsBackBy c s (B.foreign x) h ts Below = IsKept s x
+ReadsBackBy c s _ h ts Below = IsReadBack c s h ts × Below
+
+abbrev mutual
+  -- Each node of an array down to the topmost foreign ones is read back.
+  pub ReadsBack : Codec → SessionMeaning → Tree → Type 0
+  ReadsBack c s (node h ts) = ReadsBackBy c s h.body h ts (AllReadBack c s ts)
+
+  -- So is each of several arrays.
+  pub AllReadBack : Codec → SessionMeaning → Trees → Type 0
+  AllReadBack c s end = Unit {0}
+  AllReadBack c s (more t ts) = ReadsBack c s t × AllReadBack c s ts

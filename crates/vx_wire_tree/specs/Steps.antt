@@ -10,6 +10,7 @@ use Rattle.vx_array_tree.specs.Body.{Body}
 use Rattle.vx_array_tree.specs.Encoding.{Encoding}
 use Rattle.vx_array_tree.specs.Metadata.{Metadata}
 use Rattle.vx_array_tree.specs.Place.{Place}
+use Rattle.vx_array_tree.specs.Sound.{IsControlledBy}
 use Rattle.vx_array_tree.specs.Table.{body_of, plan_of, Takes, Content, IsShaped}
 use Rattle.vx_array_tree.specs.Tree.{Tree, Trees, encodings, rows_below, untold, with_stats}
 use Rattle.vx_wire_tree.specs.Codec.{Codec}
@@ -51,11 +52,19 @@ pub record HasWrongShape (c : Codec) (x : ExtMeaning) (e : Encoding) (d : Typ) (
   pub metadata : IsMetadata c x e d bytes value
   pub wrong : (IsShaped e d n value bs (count ts) → ⊥) ⊎ (Takes e (encodings ts) → ⊥)
 
--- Parts are as their encoding's row asks, and their content is broken.
+-- Parts are as their encoding's row asks, and a child that says where rows are holds a foreign node, or the
+-- entries of a map are one.
+pub record HasWrongControl (c : Codec) (x : ExtMeaning) (e : Encoding) (d : Typ) (n : ℕ) (bytes : List ℕ) (ts : Trees) : Type 0 where
+  pub value : Metadata
+  pub metadata : IsMetadata c x e d bytes value
+  pub foreign : IsControlledBy e d ts → ⊥
+
+-- Parts are as their encoding's row asks, it is known where the rows are, and their content is broken.
 pub record HasWrongContent (c : Codec) (x : ExtMeaning) (e : Encoding) (d : Typ) (n : ℕ) (bytes : List ℕ) (bs : List Buffer) (ts : Trees) : Type 0 where
   pub value : Metadata
   pub metadata : IsMetadata c x e d bytes value
   pub shaped : IsShaped e d n value bs (count ts)
+  pub controlled : IsControlledBy e d ts
   pub wrong : Content d n shaped.body (rows_below ts) → ⊥
 
 -- ---- statistics, of what was built

@@ -1,3 +1,4 @@
 pub mod SampleWires
 pub mod SampleContexts
 pub mod SampleTold
+pub mod SampleRaw

@@ -42,7 +42,7 @@ ShowsStats d absent x = x ≡ no_stats
 ShowsStats d (number n) x = x ≡ nulls n
 ShowsStats d _ x = ⊥
 
-abbrev codec : Codec
+abbrev pub codec : Codec
 codec = record { Shows = Shows; fields_bytes = λ f. []; ShowsStats = ShowsStats; stats_field = λ x. absent; IsStorable = λ x. Unit {0} }
 
 -- One identifier is read, and nothing is written.
@@ -52,7 +52,7 @@ session r = record { reader = λ id. r; writer = λ id. None; ext = no_readers }
 abbrev numbers_session : SessionMeaning
 numbers_session = session (Some (shipped E.primitive))
 
-abbrev name : List ℕ
+abbrev pub name : List ℕ
 name = codes "vortex.primitive"
 
 abbrev numbers_of : Option (List ℕ) → List (Option Buffer) → Wire
@@ -105,7 +105,7 @@ stats_shown (zero ∷ path, x) = let e : None ≡ Some x.0 = x.2.child in absurd
 stats_shown (suc i ∷ path, x) = let e : None ≡ Some x.0 = x.2.child in absurd (cc)
 
 -- A buffer's index without a descriptor, an encoding's index without an identifier, an identifier that nothing
--- reads.
+-- reads where that is not allowed.
 no_buffer : RefusesTree out_of_bounds codec numbers_session (numbers_of (Some name) (None ∷ [])) type 4
 no_buffer = ([], (0, refl))
 
@@ -113,7 +113,7 @@ no_id : RefusesTree unknown_index codec numbers_session (numbers_of None (Some v
 no_id = ([], refl)
 
 no_reader : RefusesTree unknown_encoding codec (session None) (numbers_of (Some name) (Some values ∷ [])) type 4
-no_reader = ([], record { id = name; id_is = refl; reader_is = refl })
+no_reader = ([], record { unregistered = record { id = name; id_is = refl; reader_is = refl }; closed = refl })
 
 is_numbers : (bs : List (Option Buffer)) → IsOf numbers_session (numbers_of (Some name) bs) E.primitive
 is_numbers bs = record { id = name; id_is = refl; reader_is = refl }

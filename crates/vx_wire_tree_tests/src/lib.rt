@@ -2,5 +2,6 @@
 //!
 //! - `proofs::SampleWires`: wire trees of arrays of each encoding, their messages and their identifiers;
 //! - `proofs::SampleContexts`: how contexts grow;
-//! - `proofs::SampleTold`: a wire tree that tells an array, and the causes of those that tell none.
+//! - `proofs::SampleTold`: a wire tree that tells an array, and the causes of those that tell none;
+//! - `proofs::SampleRaw`: wire trees with nodes that nothing reads.
 #![tactic(auto)]

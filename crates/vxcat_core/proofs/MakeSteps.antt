@@ -78,14 +78,14 @@ module _ (array : Tree) (is : IsTable array) (s : SessionMeaning) (c : Context) 
 
 -- ---- the blob once more
 
-module _ (array : Tree) (is : IsTable array) (w : WrittenTable) (x : IsTableWritten array w) (bytes : List ℕ) (d : Typ) (n : ℕ) (ids : List (List ℕ)) (c : Context) (o : SerializeOptions)
-    (bytes_are : bytes ≡ w.blob.bytes) (d_is : d ≡ (label array).dtype) (n_is : n ≡ (label array).len) (ids_are : ids ≡ w.ids) (context : c ≡ no_ids) (options : o ≡ padded_at None) where
-  asked : request_for bytes d n ids c o ≡ request_for (joined x.buffers) (label array).dtype (label array).len x.after.ids no_ids (padded_at None)
-  asked = λ k. request_for ((bytes_are ∙ x.blob_is) k) (d_is k) (n_is k) ((ids_are ∙ x.ids_are) k) (context k) (options k)
+module _ (array : Tree) (is : IsTable array) (w : WrittenTable) (x : IsTableWritten array w) (bytes : List ℕ) (d : Typ) (n : ℕ) (ids : List (List ℕ)) (c : Context) (s : SessionMeaning) (o : SerializeOptions)
+    (bytes_are : bytes ≡ w.blob.bytes) (d_is : d ≡ (label array).dtype) (n_is : n ≡ (label array).len) (ids_are : ids ≡ w.ids) (context : c ≡ no_ids) (session : s ≡ make_session) (options : o ≡ padded_at None) where
+  asked : request_for bytes d n ids c s o ≡ request_for (joined x.buffers) (label array).dtype (label array).len x.after.ids no_ids make_session (padded_at None)
+  asked = λ k. request_for ((bytes_are ∙ x.blob_is) k) (d_is k) (n_is k) ((ids_are ∙ x.ids_are) k) (context k) (session k) (options k)
 
-  can : CanRecode (request_for (joined x.buffers) (label array).dtype (label array).len x.after.ids no_ids (padded_at None))
+  can : CanRecode (request_for (joined x.buffers) (label array).dtype (label array).len x.after.ids no_ids make_session (padded_at None))
   can =
-      let P : Tree → Type 0 = λ z. IsSerialized make_session z (padded_at None) no_ids x.after x.buffers → CanRecode (request_for (joined x.buffers) (label z).dtype (label z).len x.after.ids no_ids (padded_at None)) in
+      let P : Tree → Type 0 = λ z. IsSerialized make_session z (padded_at None) no_ids x.after x.buffers → CanRecode (request_for (joined x.buffers) (label z).dtype (label z).len x.after.ids no_ids make_session (padded_at None)) in
       of_table P array is (λ y. table_again is.seed is.rows is.few x.after x.buffers y) x.serialized
 
   spelled : Spells (joined x.buffers) x.after.ids (label array).dtype (label array).len make_session array
@@ -94,22 +94,22 @@ module _ (array : Tree) (is : IsTable array) (w : WrittenTable) (x : IsTableWrit
       of_table P array is (λ y. table_spelled is.seed is.rows is.few x.after x.buffers y) x.serialized
 
   -- It can be recoded.
-  pub again_can : CanRecode (request_for bytes d n ids c o)
+  pub again_can : CanRecode (request_for bytes d n ids c s o)
   again_can = subst CanRecode (sym asked) can
 
   grows : grown codec make_session no_ids array ≡ Some (record { ids = table_ids; allowed = None })
   grows = of_table (λ z. grown codec make_session no_ids z ≡ Some (record { ids = table_ids; allowed = None })) array is (table_grows is.seed is.rows)
 
-  own : canon make_session array ≡ array
-  own = of_table (λ z. canon make_session z ≡ z) array is (table_own is.seed is.rows is.few)
+  own : canon codec make_session array ≡ array
+  own = of_table (λ z. canon codec make_session z ≡ z) array is (table_own is.seed is.rows is.few)
 
-  again : (outputs : Outputs) → AreMade (request_for (joined x.buffers) (label array).dtype (label array).len x.after.ids no_ids (padded_at None)) outputs → IsWrittenAgain array outputs
+  again : (outputs : Outputs) → AreMade (request_for (joined x.buffers) (label array).dtype (label array).len x.after.ids no_ids make_session (padded_at None)) outputs → IsWrittenAgain array outputs
   again outputs m =
       let same : array ≡ m.made.array = m.faithful.the_one array spelled in
       let serialized = subst (λ (z : Tree). IsSerialized make_session z (padded_at None) no_ids m.made.context m.made.buffers) (sym same) m.recoded.serialized in
       let context_is : m.made.context ≡ record { ids = table_ids; allowed = None } = (let e = sym serialized.grown_is ∙ grows in cc) in
       let ids_is : outputs.ids ≡ table_ids = m.holds.ids_are ∙ ap (λ (z : Context). z.ids) context_is in
-      let again_spelled = subst (λ (z : Tree). Spells (joined m.made.buffers) m.made.context.ids (label array).dtype (label array).len make_session (canon make_session z)) (sym same) m.faithful.again in
+      let again_spelled = subst (λ (z : Tree). Spells (joined m.made.buffers) m.made.context.ids (label array).dtype (label array).len make_session (canon codec make_session z)) (sym same) m.faithful.again in
       let of_own = subst (λ (z : Tree). Spells (joined m.made.buffers) m.made.context.ids (label array).dtype (label array).len make_session z) own again_spelled in
       let of_ids = subst (λ (z : List (List ℕ)). Spells (joined m.made.buffers) z (label array).dtype (label array).len make_session array) (sym m.holds.ids_are) of_own in
       record {
@@ -119,7 +119,7 @@ module _ (array : Tree) (is : IsTable array) (w : WrittenTable) (x : IsTableWrit
       }
 
   -- What was recoded of it is the same blob again.
-  pub again_written : (result : Result Outputs Status) → IfOk result (AreMade (request_for bytes d n ids c o)) → IfOk result (IsWrittenAgain array)
+  pub again_written : (result : Result Outputs Status) → IfOk result (AreMade (request_for bytes d n ids c s o)) → IfOk result (IsWrittenAgain array)
   again_written result made =
       if_ok_map result _ _ again (subst (λ (r : Request). IfOk result (AreMade r)) asked made)
 

@@ -2,7 +2,7 @@
 use Rattle.std.proofs.Common.{◌≡◌, ℕ, List, [], ◌∷◌, ◌++◌, Option, Some, None, ◌<◌, ◌^◌, codes, decimal, length, get_or, drop, refl, sym, ap, ◌∙◌, arith}
 use Rattle.std.specs.List.{AllByRecursion, flat_map}
 use Rattle.std.proofs.lemmas.Fmt.{decimal_injective}
-use Rattle.vxcat_core.specs.Options.{IsInRange, Setting, pad, rows, allow, setting_words}
+use Rattle.vxcat_core.specs.Options.{IsInRange, Setting, pad, rows, allow, unknown, setting_words}
 use Rattle.vxcat_core.specs.GivenOptions.{Given, Gives, with_setting, with_settings}
 
 length_at : (a b : List (List ℕ)) (k : ℕ) → a ≡ b → length (get_or a k []) ≡ length (get_or b k [])
@@ -13,6 +13,9 @@ second a b same = ap (λ (l : List (List ℕ)). get_or l 1 []) same
 
 behind : (a b : List (List ℕ)) → a ≡ b → drop 2 a ≡ drop 2 b
 behind a b same = ap (λ (l : List (List ℕ)). drop 2 l) same
+
+behind_one : (a b : List (List ℕ)) → a ≡ b → drop 1 a ≡ drop 1 b
+behind_one a b same = ap (λ (l : List (List ℕ)). drop 1 l) same
 
 -- The option at the front of words is determined by them, and so is what stands behind it.
 pub front : (c d : Setting) (rest other : List (List ℕ)) → IsInRange c → IsInRange d → setting_words c ++ rest ≡ setting_words d ++ other → (c ≡ d) × (rest ≡ other)
@@ -26,6 +29,13 @@ front (pad n) (allow m) rest other fits also same = absurd (omega (arith, length
 front (allow n) (pad m) rest other fits also same = absurd (omega (arith, length_at _ _ 0 same))
 front (rows n) (allow m) rest other fits also same = absurd (omega (arith, length_at _ _ 0 same))
 front (allow n) (rows m) rest other fits also same = absurd (omega (arith, length_at _ _ 0 same))
+front unknown unknown rest other fits also same = (refl, behind_one _ _ same)
+front unknown (pad m) rest other fits also same = absurd (omega (arith, length_at _ _ 0 same))
+front unknown (rows m) rest other fits also same = absurd (omega (arith, length_at _ _ 0 same))
+front unknown (allow m) rest other fits also same = absurd (omega (arith, length_at _ _ 0 same))
+front (pad n) unknown rest other fits also same = absurd (omega (arith, length_at _ _ 0 same))
+front (rows n) unknown rest other fits also same = absurd (omega (arith, length_at _ _ 0 same))
+front (allow n) unknown rest other fits also same = absurd (omega (arith, length_at _ _ 0 same))
 
 -- What cannot be is not made good by more options.
 pub with_settings-None : (settings : List Setting) → with_settings None settings ≡ None
@@ -36,6 +46,7 @@ no_words : (setting : Setting) (rest : List (List ℕ)) → [] ≡ setting_words
 no_words (pad n) rest same = cc
 no_words (rows n) rest same = cc
 no_words (allow n) rest same = cc
+no_words unknown rest same = cc
 
 -- No words give no option.
 pub nothing_given : (before : Given) (words : List (List ℕ)) → words ≡ [] → Gives before words before
@@ -89,6 +100,7 @@ rest_not_given before next setting words rest words_are in_range given none afte
 pub too_many_rows : (setting : Setting) (rest other : List (List ℕ)) (n : ℕ) → 1000 < n → n < 2 ^ 64 → IsInRange setting → codes "--rows" ∷ decimal n ∷ other ≡ setting_words setting ++ rest → ⊥
 too_many_rows (pad m) rest other n many fits range same = absurd (omega (arith, length_at _ _ 0 same))
 too_many_rows (allow m) rest other n many fits range same = absurd (omega (arith, length_at _ _ 0 same))
+too_many_rows unknown rest other n many fits range same = absurd (omega (arith, length_at _ _ 0 same))
 too_many_rows (rows m) rest other n many fits range same =
     let is : n ≡ m = decimal_injective n m fits (omega (arith, range)) (second _ _ same) in
     omega (arith, is, many, range)

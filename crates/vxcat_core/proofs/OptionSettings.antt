@@ -1,8 +1,8 @@
 -- What options set that are given one after the other.
-use Rattle.std.proofs.Common.{ℕ, ◌≡◌, ◌≤◌, List, [], ◌∷◌, ◌++◌, Option, Some, None, length, unwrap_or, refl, sym, ap, ◌∙◌, subst, arith, append-nil}
+use Rattle.std.proofs.Common.{ℕ, ◌≡◌, ◌≤◌, Bool, true, false, List, [], ◌∷◌, ◌++◌, Option, Some, None, length, unwrap_or, refl, sym, ap, ◌∙◌, subst, arith, append-nil}
 use Rattle.std.specs.Prelude.{slice_get}
 use Rattle.std.specs.List.{flat_map, filter_map}
-use Rattle.vxcat_core.specs.Options.{AreOptions, Setting, pad, rows, allow, pad_of, rows_of, allow_of, setting_words, settings_of}
+use Rattle.vxcat_core.specs.Options.{AreOptions, Setting, pad, rows, allow, unknown, pad_of, rows_of, allow_of, unknown_of, setting_words, settings_of}
 use Rattle.vxcat_core.specs.GivenOptions.{Given, Gives, none_given, settings_by, with_settings}
 use Rattle.vxcat_core.proofs.OptionFronts.{with_settings-None}
 
@@ -10,41 +10,55 @@ held : {A : Type 0} → Option A → List A
 held None = []
 held (Some n) = n ∷ []
 
+-- Nothing is held by an option without a value that was not given.
+held_flag : Bool → List Bool
+held_flag false = []
+held_flag true = true ∷ []
+
 none_some : (given : Given) → (let n : Option Given = None in n ≡ Some given) → ⊥
 none_some given e = absurd (cc)
 
 same_given : (a b : Given) → Some a ≡ Some b → a ≡ b
 same_given a b e = cc
 
-abbrev given : Option ℕ → Option ℕ → Option (List ℕ) → Given
-given p r a = record { pad = p; rows = r; allow = a }
+abbrev given : Option ℕ → Option ℕ → Option (List ℕ) → Bool → Given
+given p r a u = record { pad = p; rows = r; allow = a; unknown = u }
 
 -- Each kind holds what it held before, and behind it what was given.
-record Adds (p r : Option ℕ) (a : Option (List ℕ)) (more : List Setting) (after : Given) : Type 0 where
+record Adds (p r : Option ℕ) (a : Option (List ℕ)) (u : Bool) (more : List Setting) (after : Given) : Type 0 where
   pub pads : held after.pad ≡ held p ++ filter_map pad_of more
   pub rows : held after.rows ≡ held r ++ filter_map rows_of more
   pub allows : held after.allow ≡ held a ++ filter_map allow_of more
+  pub unknowns : held_flag after.unknown ≡ held_flag u ++ filter_map unknown_of more
 
-adds : (p r : Option ℕ) (a : Option (List ℕ)) (more : List Setting) (after : Given) → with_settings (Some (given p r a)) more ≡ Some after → Adds p r a more after
-unfolding held
-adds p r a [] after e =
-    let same = same_given (given p r a) after e in
+adds : (p r : Option ℕ) (a : Option (List ℕ)) (u : Bool) (more : List Setting) (after : Given) → with_settings (Some (given p r a u)) more ≡ Some after → Adds p r a u more after
+unfolding held held_flag
+adds p r a u [] after e =
+    let same = same_given (given p r a u) after e in
     record {
       pads = ap (λ (o : Given). held o.pad) (sym same) ∙ sym (append-nil (held p));
       rows = ap (λ (o : Given). held o.rows) (sym same) ∙ sym (append-nil (held r));
       allows = ap (λ (o : Given). held o.allow) (sym same) ∙ sym (append-nil (held a));
+      unknowns = ap (λ (o : Given). held_flag o.unknown) (sym same) ∙ sym (append-nil (held_flag u));
     }
-adds None r a (pad n ∷ more) after e = let x = adds (Some n) r a more after e in record { pads = x.pads; rows = x.rows; allows = x.allows }
-adds (Some m) r a (pad n ∷ more) after e = absurd (none_some after (sym (with_settings-None more) ∙ e))
-adds p None a (rows n ∷ more) after e = let x = adds p (Some n) a more after e in record { pads = x.pads; rows = x.rows; allows = x.allows }
-adds p (Some m) a (rows n ∷ more) after e = absurd (none_some after (sym (with_settings-None more) ∙ e))
-adds p r None (allow n ∷ more) after e = let x = adds p r (Some n) more after e in record { pads = x.pads; rows = x.rows; allows = x.allows }
-adds p r (Some m) (allow n ∷ more) after e = absurd (none_some after (sym (with_settings-None more) ∙ e))
+adds None r a u (pad n ∷ more) after e = let x = adds (Some n) r a u more after e in record { pads = x.pads; rows = x.rows; allows = x.allows; unknowns = x.unknowns }
+adds (Some m) r a u (pad n ∷ more) after e = absurd (none_some after (sym (with_settings-None more) ∙ e))
+adds p None a u (rows n ∷ more) after e = let x = adds p (Some n) a u more after e in record { pads = x.pads; rows = x.rows; allows = x.allows; unknowns = x.unknowns }
+adds p (Some m) a u (rows n ∷ more) after e = absurd (none_some after (sym (with_settings-None more) ∙ e))
+adds p r None u (allow n ∷ more) after e = let x = adds p r (Some n) u more after e in record { pads = x.pads; rows = x.rows; allows = x.allows; unknowns = x.unknowns }
+adds p r (Some m) u (allow n ∷ more) after e = absurd (none_some after (sym (with_settings-None more) ∙ e))
+adds p r a false (unknown ∷ more) after e = let x = adds p r a true more after e in record { pads = x.pads; rows = x.rows; allows = x.allows; unknowns = x.unknowns }
+adds p r a true (unknown ∷ more) after e = absurd (none_some after (sym (with_settings-None more) ∙ e))
 
 first_held : {A : Type 0} (o : Option A) (ns : List A) → held o ≡ ns → (length ns ≤ 1) × (o ≡ slice_get ns 0)
 unfolding held
 first_held {A} None ns e = let P : List A → Type 0 = λ l. (length l ≤ 1) × (None ≡ slice_get l 0) in subst P e (omega arith, refl)
 first_held {A} (Some n) ns e = let P : List A → Type 0 = λ l. (length l ≤ 1) × (Some n ≡ slice_get l 0) in subst P e (omega arith, refl)
+
+flag_held : (u : Bool) (bs : List Bool) → held_flag u ≡ bs → (length bs ≤ 1) × (u ≡ unwrap_or (slice_get bs 0) false)
+unfolding held_flag
+flag_held false bs e = let P : List Bool → Type 0 = λ l. (length l ≤ 1) × (false ≡ unwrap_or (slice_get l 0) false) in subst P e (omega arith, refl)
+flag_held true bs e = let P : List Bool → Type 0 = λ l. (length l ≤ 1) × (true ≡ unwrap_or (slice_get l 0) false) in subst P e (omega arith, refl)
 
 -- The words are options, and they set what the given ones set.
 pub record Sets (words : List (List ℕ)) (after : Given) : Type 0 where
@@ -54,36 +68,39 @@ pub record Sets (words : List (List ℕ)) (after : Given) : Type 0 where
   pub settings_are : settings_by after ≡ settings_of settings
 
 pub sets : (words : List (List ℕ)) (after : Given) → Gives none_given words after → Sets words after
-unfolding held
+unfolding held held_flag
 sets words after gives =
-    let more = adds None None None gives.settings after gives.once in
+    let more = adds None None None false gives.settings after gives.once in
     let pads = first_held after.pad (filter_map pad_of gives.settings) more.pads in
     let rows = first_held after.rows (filter_map rows_of gives.settings) more.rows in
     let allows = first_held after.allow (filter_map allow_of gives.settings) more.allows in
+    let unknowns = flag_held after.unknown (filter_map unknown_of gives.settings) more.unknowns in
     record {
       settings = gives.settings;
       words_are = gives.words_are;
-      are_options = record { in_range = gives.in_range; pad_once = pads.0; rows_once = rows.0; allow_once = allows.0 };
-      settings_are = λ i. record { pad = pads.1 i; rows = unwrap_or (rows.1 i) 10; allow = allows.1 i };
+      are_options = record { in_range = gives.in_range; pad_once = pads.0; rows_once = rows.0; allow_once = allows.0; unknown_once = unknowns.0 };
+      settings_are = λ i. record { pad = pads.1 i; rows = unwrap_or (rows.1 i) 10; allow = allows.1 i; unknown = unknowns.1 i };
     }
 
 one_at_most : {A : Type 0} (m n : A) (ns : List A) → length (m ∷ n ∷ ns) ≤ 1 → ⊥
 one_at_most m n ns h = absurd (omega (arith, h))
 
-taken : (p r : Option ℕ) (a : Option (List ℕ)) (more : List Setting) → length (held p ++ filter_map pad_of more) ≤ 1 → length (held r ++ filter_map rows_of more) ≤ 1
-    → length (held a ++ filter_map allow_of more) ≤ 1 → (after : Given) × (with_settings (Some (given p r a)) more ≡ Some after)
-unfolding held
-taken p r a [] h k l = (given p r a, refl)
-taken None r a (pad n ∷ more) h k l = taken (Some n) r a more h k l
-taken (Some m) r a (pad n ∷ more) h k l = absurd (one_at_most m n (filter_map pad_of more) h)
-taken p None a (rows n ∷ more) h k l = taken p (Some n) a more h k l
-taken p (Some m) a (rows n ∷ more) h k l = absurd (one_at_most m n (filter_map rows_of more) k)
-taken p r None (allow n ∷ more) h k l = taken p r (Some n) more h k l
-taken p r (Some m) (allow n ∷ more) h k l = absurd (one_at_most m n (filter_map allow_of more) l)
+taken : (p r : Option ℕ) (a : Option (List ℕ)) (u : Bool) (more : List Setting) → length (held p ++ filter_map pad_of more) ≤ 1 → length (held r ++ filter_map rows_of more) ≤ 1
+    → length (held a ++ filter_map allow_of more) ≤ 1 → length (held_flag u ++ filter_map unknown_of more) ≤ 1 → (after : Given) × (with_settings (Some (given p r a u)) more ≡ Some after)
+unfolding held held_flag
+taken p r a u [] h k l m = (given p r a u, refl)
+taken None r a u (pad n ∷ more) h k l m = taken (Some n) r a u more h k l m
+taken (Some o) r a u (pad n ∷ more) h k l m = absurd (one_at_most o n (filter_map pad_of more) h)
+taken p None a u (rows n ∷ more) h k l m = taken p (Some n) a u more h k l m
+taken p (Some o) a u (rows n ∷ more) h k l m = absurd (one_at_most o n (filter_map rows_of more) k)
+taken p r None u (allow n ∷ more) h k l m = taken p r (Some n) u more h k l m
+taken p r (Some o) u (allow n ∷ more) h k l m = absurd (one_at_most o n (filter_map allow_of more) l)
+taken p r a false (unknown ∷ more) h k l m = taken p r a true more h k l m
+taken p r a true (unknown ∷ more) h k l m = absurd (one_at_most true true (filter_map unknown_of more) m)
 
 -- Words that are options give some.
 pub gives_some : (words : List (List ℕ)) (settings : List Setting) → words ≡ flat_map setting_words settings → AreOptions settings → (after : Given) × Gives none_given words after
-unfolding held
+unfolding held held_flag
 gives_some words settings words_are are =
-    let found = taken None None None settings are.pad_once are.rows_once are.allow_once in
+    let found = taken None None None false settings are.pad_once are.rows_once are.allow_once are.unknown_once in
     (found.0, record { settings = settings; words_are = words_are; in_range = are.in_range; once = found.1 })

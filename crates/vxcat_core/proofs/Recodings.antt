@@ -1,8 +1,8 @@
 -- From what `recode` ensures to what the program promises of its inputs.
-use Rattle.std.proofs.Common.{◌≡◌, ℕ, Bool, List, Option, Some, None, inl, inr, refl, Result, Ok, Err, IfOk, IfErr, Global, sym, ap, subst, ◌∙◌}
+use Rattle.std.proofs.Common.{◌≡◌, ℕ, Bool, true, false, List, Option, Some, None, inl, inr, refl, Result, Ok, Err, IfOk, IfErr, Global, sym, ap, subst, ◌∙◌}
 use Rattle.std.specs.declared.dyn_box.DynBox.{DynBox}
 use Rattle.vx_types.specs.Typ.{Typ}
-use Rattle.vx_type_wire.specs.Known.{IsRead, no_readers}
+use Rattle.vx_type_wire.specs.Known.{ExtMeaning, IsRead}
 use Rattle.vx_type_wire.specs.Shown.{ShowsType}
 use Rattle.vx_type_wire.specs.Session.{ext_meaning}
 use Rattle.vx_type_wire.specs.declared.readers.ExtSession.{ExtSession}
@@ -24,22 +24,33 @@ use Rattle.vxcat_core.specs.declared.recode.steps.Outputs.{Outputs}
 use Rattle.vxcat_core.specs.declared.status.Status.{Status}
 use Rattle.vxcat_core.specs.declared.status.Status.TheVariants.{Done, OutOfMemory, NoCommand, LoadFault, SaveFault, WriteFault, BadType, BadIds, BadExpression, Refused}
 use Rattle.vxcat_core.specs.IdFile.{ReadsIds}
-use Rattle.vxcat_core.specs.Recode.{AreRead, CanRecodeInputs, ReadsAllowed, RefusesInputs, Loaded, Recode, Terms, asked_by, context_of, padded_at}
+use Rattle.vxcat_core.specs.Recode.{AreRead, CanRecodeInputs, ReadsAllowed, RefusesInputs, Loaded, Recode, Terms, asked_by, context_of, padded_at, readers_by, readers_of, session_by, session_of}
 use Rattle.vxcat_core.proofs.IdLines.{lines_unique}
 use Rattle.vxcat_core.specs.RecodeViews.{AreMade, AreOutputs, RefusesBlob, RefusesIds, RefusesType, request_for}
 use Rattle.vxcat_core.specs.Statuses.{blob_status, id_status}
 
--- What `recode` is asked is what the program asks for.
-pub same_request : (blob bytes : List ℕ) (dtype : Typ) (len : ℕ) (ids : List (List ℕ)) (context : Context) (session : SessionMeaning) (options : SerializeOptions)
-    → bytes ≡ blob → session ≡ tables_meaning shipped_registry no_readers
-    → record { blob = bytes; dtype = dtype; len = len; ids = ids; context = context; options = options; session = session } ≡ request_for blob dtype len ids context options
-same_request blob bytes dtype len ids context session options b r =
-    λ k. record { blob = b k; dtype = dtype; len = len; ids = ids; context = context; options = options; session = r k }
-
 -- The session that the program makes means the shipped encodings, and no readers.
-pub same_session : {X : Type 0} {F : X → Type 0} (accepted : DynBox X Global F → List ℕ → Typ → Bool) (session : VortexSession X F) (arrays : Registry) (ext : ExtSession X F)
-    → session.arrays ≡ arrays → session.ext ≡ ext → arrays ≡ shipped_registry → ext_meaning accepted ext ≡ no_readers → session_meaning accepted session ≡ tables_meaning shipped_registry no_readers
-same_session accepted session arrays ext a e shipped none = λ k. tables_meaning ((a ∙ shipped) k) ((ap (λ x. ext_meaning accepted x) e ∙ none) k)
+pub same_session : {X : Type 0} {F : X → Type 0} (accepted : DynBox X Global F → List ℕ → Typ → Bool) (session : VortexSession X F) (arrays : Registry) (ext : ExtSession X F) (unknown : Bool)
+    → session.arrays ≡ arrays → session.ext ≡ ext → arrays ≡ shipped_registry → ext_meaning accepted ext ≡ readers_by unknown → session_meaning accepted session ≡ session_by unknown
+same_session accepted session arrays ext unknown a e shipped none = λ k. tables_meaning ((a ∙ shipped) k) ((ap (λ x. ext_meaning accepted x) e ∙ none) k)
+
+-- Once what is unknown is allowed, the readers of extensions are none, and their flag is set.
+unknown_allowed : (x y : ExtMeaning) (unknown : Bool) → x ≡ readers_by false → ((id : List ℕ) → y.reader id ≡ x.reader id) → y.unknown ≡ true → unknown ≡ true → y ≡ readers_by unknown
+unknown_allowed x y unknown before readers allowed is = λ k. record { reader = λ id. (readers id ∙ ap (λ (m : ExtMeaning). m.reader id) before) k; unknown = (allowed ∙ sym is) k }
+
+-- And the session means the shipped encodings beside these.
+pub allowing_session : {X : Type 0} {F : X → Type 0} (accepted : DynBox X Global F → List ℕ → Typ → Bool) (session : VortexSession X F) (arrays : Registry) (ext after : ExtSession X F) (unknown : Bool)
+    → session.arrays ≡ arrays → session.ext ≡ ext → arrays ≡ shipped_registry → ext_meaning accepted ext ≡ readers_by false
+    → ((id : List ℕ) → (ext_meaning accepted after).reader id ≡ (ext_meaning accepted session.ext).reader id) → (ext_meaning accepted after).unknown ≡ true → unknown ≡ true
+    → tables_meaning session.arrays (ext_meaning accepted after) ≡ session_by unknown
+allowing_session accepted session arrays ext after unknown a e shipped before readers allowed is =
+    let own = unknown_allowed (ext_meaning accepted session.ext) (ext_meaning accepted after) unknown (ap (λ x. ext_meaning accepted x) e ∙ before) readers allowed is in
+    λ k. tables_meaning ((a ∙ shipped) k) (own k)
+
+-- What holds of what is asked of bytes holds of what is asked of the same bytes.
+pub asked_alike : (P : Request → Type 0) (bytes blob : List ℕ) (dtype : Typ) (len : ℕ) (ids : List (List ℕ)) (context : Context) (session : SessionMeaning) (options : SerializeOptions)
+    → bytes ≡ blob → P (request_for bytes dtype len ids context session options) → P (request_for blob dtype len ids context session options)
+asked_alike P bytes blob dtype len ids context session options e p = subst (λ (l : List ℕ). P (request_for l dtype len ids context session options)) e p
 
 -- The outputs are what was made.
 pub outputs_made : (asked : Request) (made : Product) (result : Result Outputs Status) → IsRecoded asked made → IsFaithful asked made
@@ -67,6 +78,7 @@ refused wire.UnknownEncoding asked cause = cause
 refused wire.BadMetadata asked cause = cause
 refused wire.BadShape asked cause = cause
 refused wire.BadContent asked cause = cause
+refused wire.ForeignControl asked cause = cause
 refused wire.BadStats asked cause = cause
 refused wire.NotPermitted asked cause = cause
 refused wire.WireLimit asked cause = cause
@@ -75,24 +87,29 @@ refused wire.NotRegistered asked cause = cause
 not_memory : BadType ≡ OutOfMemory → ⊥
 not_memory e = absurd (cc)
 
+-- A type that is read of bytes by readers is read of the same bytes by the same readers.
+pub read_alike : (bytes others : List ℕ) (x y : ExtMeaning) (t : Typ) → bytes ≡ others → x ≡ y → IsRead (ShowsType bytes) x t → IsRead (ShowsType others) y t
+read_alike bytes others x y t e p r = subst (λ (z : ExtMeaning). IsRead (ShowsType others) z t) p (subst (λ (m : List ℕ). IsRead (ShowsType m) x t) e r)
+
 -- A type file that is refused, but for want of memory, is read as no type.
-pub type_cause : (status : Status) (line : Recode) (loaded : Loaded) (bytes : List ℕ) → bytes ≡ loaded.type_bytes → RefusesType status
-    → ((t : Typ) → IsRead (ShowsType bytes) no_readers t → status ≡ OutOfMemory) → RefusesInputs status line loaded
-type_cause OutOfMemory line loaded bytes e s complete = tt
-type_cause BadType line loaded bytes e s complete = λ t r. not_memory (complete t (subst (λ (m : List ℕ). IsRead (ShowsType m) no_readers t) (sym e) r))
-type_cause Done line loaded bytes e s complete = absurd s
-type_cause NoCommand line loaded bytes e s complete = absurd s
-type_cause BadExpression line loaded bytes e s complete = absurd s
-type_cause LoadFault line loaded bytes e s complete = absurd s
-type_cause SaveFault line loaded bytes e s complete = absurd s
-type_cause WriteFault line loaded bytes e s complete = absurd s
-type_cause BadIds line loaded bytes e s complete = absurd s
-type_cause (Refused error) line loaded bytes e s complete = absurd s
+pub type_cause : (status : Status) (line : Recode) (loaded : Loaded) (bytes : List ℕ) (x : ExtMeaning) → bytes ≡ loaded.type_bytes → x ≡ readers_of line.settings → RefusesType status
+    → ((t : Typ) → IsRead (ShowsType bytes) x t → status ≡ OutOfMemory) → RefusesInputs status line loaded
+type_cause OutOfMemory line loaded bytes x e p s complete = tt
+type_cause BadType line loaded bytes x e p s complete = λ t r. not_memory (complete t (read_alike loaded.type_bytes bytes (readers_of line.settings) x t (sym e) (sym p) r))
+type_cause Done line loaded bytes x e p s complete = absurd s
+type_cause NoCommand line loaded bytes x e p s complete = absurd s
+type_cause BadExpression line loaded bytes x e p s complete = absurd s
+type_cause LoadFault line loaded bytes x e p s complete = absurd s
+type_cause SaveFault line loaded bytes x e p s complete = absurd s
+type_cause WriteFault line loaded bytes x e p s complete = absurd s
+type_cause BadIds line loaded bytes x e p s complete = absurd s
+type_cause (Refused error) line loaded bytes x e p s complete = absurd s
 
 -- Where what was loaded can be recoded, its type file is refused for want of memory alone.
-pub type_memory : (status : Status) (line : Recode) (loaded : Loaded) (bytes : List ℕ) → bytes ≡ loaded.type_bytes
-    → ((t : Typ) → IsRead (ShowsType bytes) no_readers t → status ≡ OutOfMemory) → CanRecodeInputs line loaded → status ≡ OutOfMemory
-type_memory status line loaded bytes e complete can = complete can.terms.dtype (subst (λ (m : List ℕ). IsRead (ShowsType m) no_readers can.terms.dtype) (sym e) can.are_read.type_read)
+pub type_memory : (status : Status) (line : Recode) (loaded : Loaded) (bytes : List ℕ) (x : ExtMeaning) → bytes ≡ loaded.type_bytes → x ≡ readers_of line.settings
+    → ((t : Typ) → IsRead (ShowsType bytes) x t → status ≡ OutOfMemory) → CanRecodeInputs line loaded → status ≡ OutOfMemory
+type_memory status line loaded bytes x e p complete can =
+    complete can.terms.dtype (read_alike loaded.type_bytes bytes (readers_of line.settings) x can.terms.dtype (sym e) (sym p) can.are_read.type_read)
 
 -- An id file that is refused, but for want of memory, is no text of identifiers.
 pub ids_refused : {T : Type 0} (error : IdFileError) (status : Status) (bytes : List ℕ) (r : Result T IdFileError) → r ≡ Err error
@@ -183,9 +200,9 @@ blob_to_inputs line loaded terms read WriteFault cause = absurd cause
 blob_to_inputs line loaded terms read BadType cause = absurd cause
 blob_to_inputs line loaded terms read BadIds cause = absurd cause
 
-module _ (line : Recode) (loaded : Loaded) (dtype : Typ) (read_ids ids : List (List ℕ)) (context : Context) (options : SerializeOptions) (result : Result Outputs Status)
-    (type_read : IsRead (ShowsType loaded.type_bytes) no_readers dtype) (ids_read : ReadsIds loaded.id_bytes read_ids) (ids_are : ids ≡ read_ids)
-    (context_read : (allowed : Option (List (List ℕ))) × ReadsAllowed loaded.allow_bytes allowed × (context ≡ context_of allowed)) (options_are : options ≡ padded_at line.settings.pad) where
+module _ (line : Recode) (loaded : Loaded) (dtype : Typ) (read_ids ids : List (List ℕ)) (context : Context) (session : SessionMeaning) (options : SerializeOptions) (result : Result Outputs Status)
+    (type_read : IsRead (ShowsType loaded.type_bytes) (readers_of line.settings) dtype) (ids_read : ReadsIds loaded.id_bytes read_ids) (ids_are : ids ≡ read_ids)
+    (context_read : (allowed : Option (List (List ℕ))) × ReadsAllowed loaded.allow_bytes allowed × (context ≡ context_of allowed)) (session_is : session ≡ session_of line.settings) (options_are : options ≡ padded_at line.settings.pad) where
   terms : Terms
   terms = record { dtype = dtype; ids = read_ids; allowed = context_read.0 }
 
@@ -194,24 +211,24 @@ module _ (line : Recode) (loaded : Loaded) (dtype : Typ) (read_ids ids : List (L
   read = record { type_read = type_read; ids_read = ids_read; allowed_read = context_read.1 }
 
   -- What was asked is what the inputs ask for.
-  asked : request_for loaded.blob dtype line.len ids context options ≡ asked_by line loaded terms
+  asked : request_for loaded.blob dtype line.len ids context session options ≡ asked_by line loaded terms
   unfolding terms
-  asked = λ k. request_for loaded.blob dtype line.len (ids_are k) (context_read.2 k) (options_are k)
+  asked = λ k. request_for loaded.blob dtype line.len (ids_are k) (context_read.2 k) (session_is k) (options_are k)
 
   -- What was recoded of the blob was recoded of what was loaded.
-  pub inputs_made : IfOk result (AreMade (request_for loaded.blob dtype line.len ids context options)) → IfOk result (λ outputs. AreOutputs line loaded outputs)
+  pub inputs_made : IfOk result (AreMade (request_for loaded.blob dtype line.len ids context session options)) → IfOk result (λ outputs. AreOutputs line loaded outputs)
   inputs_made recoded =
       let here = subst (λ (r : Request). IfOk result (AreMade r)) asked recoded in
       if_ok_map result _ _ (λ outputs k. record { made = k.made; is_made = record { terms = terms; are_read = read; recoded = k.recoded; faithful = k.faithful }; holds = k.holds }) here
 
   -- A refused blob is a cause among those of what was loaded.
-  pub inputs_refused : IfErr result (λ s. RefusesBlob s (request_for loaded.blob dtype line.len ids context options)) → IfErr result (λ s. RefusesInputs s line loaded)
+  pub inputs_refused : IfErr result (λ s. RefusesBlob s (request_for loaded.blob dtype line.len ids context session options)) → IfErr result (λ s. RefusesInputs s line loaded)
   inputs_refused refused =
       let here = subst (λ (r : Request). IfErr result (λ s. RefusesBlob s r)) asked refused in
       if_err_map result _ _ (blob_to_inputs line loaded terms read) here
 
   -- What can be recoded on some terms can be so on those that were read.
-  pub inputs_complete : (CanRecode (request_for loaded.blob dtype line.len ids context options) → IfErr result (λ s. s ≡ OutOfMemory))
+  pub inputs_complete : (CanRecode (request_for loaded.blob dtype line.len ids context session options) → IfErr result (λ s. s ≡ OutOfMemory))
       → CanRecodeInputs line loaded → IfErr result (λ s. s ≡ OutOfMemory)
   unfolding terms
   inputs_complete complete can =

@@ -375,7 +375,7 @@ module _ (seed rows : ℕ) (h : rows ≤ 1000000) where
   -- ---- what is written is read back
 
   -- It is read back as itself.
-  pub table_own : canon session t ≡ t
+  pub table_own : canon codec session t ≡ t
   table_own = canon_own codec session t (made_sound seed rows h) (made_normal seed rows) (made_stats seed rows)
 
   table_told : Tells codec session w (label t).dtype (label t).len t
@@ -480,4 +480,5 @@ table_memory seed rows h wire_error.UnknownEncoding r = absurd r
 table_memory seed rows h wire_error.BadMetadata r = absurd r
 table_memory seed rows h wire_error.BadShape r = absurd r
 table_memory seed rows h wire_error.BadContent r = absurd r
+table_memory seed rows h wire_error.ForeignControl r = absurd r
 table_memory seed rows h wire_error.BadStats r = absurd r

@@ -1,8 +1,8 @@
 -- Options that are given one after the other.
-use Rattle.std.specs.Prelude.{◌≡◌, ℕ, List, [], ◌∷◌, Option, Some, None, option_map, unwrap_or}
+use Rattle.std.specs.Prelude.{◌≡◌, ℕ, Bool, true, false, List, [], ◌∷◌, Option, Some, None, option_map, unwrap_or}
 use Rattle.std.specs.List.{AllByRecursion, flat_map}
 use Rattle.vxcat_core.specs.declared.options.Choice.{Choice}
-use Rattle.vxcat_core.specs.declared.options.Choice.TheVariants.{Pad, Rows, Allow}
+use Rattle.vxcat_core.specs.declared.options.Choice.TheVariants.{Pad, Rows, Allow, Unknown}
 use Rattle.vxcat_core.specs.declared.options.Options.{Options}
 use Rattle.vxcat_core.specs.Options.{IsInRange, Setting, Settings, setting_words}
 use Rattle.vxcat_core.specs.Options as options
@@ -12,35 +12,43 @@ abbrev pub setting_of : Choice → Setting
 setting_of (Pad n) = options.pad n
 setting_of (Rows n) = options.rows n
 setting_of (Allow name) = options.allow name.now
+setting_of Unknown = options.unknown
 
 -- The options that were given, at most one of a kind.
 pub record Given : Type 0 where
   pub pad : Option ℕ
   pub rows : Option ℕ
   pub allow : Option (List ℕ)
+  pub unknown : Bool
 
 -- The options that are held.
 abbrev pub given_in : Options → Given
-given_in o = record { pad = o.pad; rows = o.rows; allow = option_map (λ name. name.now) o.allow }
+given_in o = record { pad = o.pad; rows = o.rows; allow = option_map (λ name. name.now) o.allow; unknown = o.unknown }
 
 -- What given options set.
 abbrev pub settings_by : Given → Settings
-settings_by given = record { pad = given.pad; rows = unwrap_or given.rows 10; allow = given.allow }
+settings_by given = record { pad = given.pad; rows = unwrap_or given.rows 10; allow = given.allow; unknown = given.unknown }
 
 -- No option was given.
 abbrev pub none_given : Given
-none_given = record { pad = None; rows = None; allow = None }
+none_given = record { pad = None; rows = None; allow = None; unknown = false }
 
 -- What one kind of option gives, where none of its kind was given before; none where one was.
 abbrev pub given_once : {A : Type 0} → Option A → A → Option (Option A)
 given_once None a = Some (Some a)
 given_once (Some b) a = None
 
+-- What an option without a value gives, where it was not given before; none where it was.
+abbrev pub set_once : Bool → Option Bool
+set_once false = Some true
+set_once true = None
+
 -- Options with one more: none where one of its kind was given before.
 abbrev pub with_setting : Given → Setting → Option Given
-with_setting given (options.pad n) = option_map (λ p. record { pad = p; rows = given.rows; allow = given.allow }) (given_once given.pad n)
-with_setting given (options.rows n) = option_map (λ r. record { pad = given.pad; rows = r; allow = given.allow }) (given_once given.rows n)
-with_setting given (options.allow name) = option_map (λ a. record { pad = given.pad; rows = given.rows; allow = a }) (given_once given.allow name)
+with_setting given (options.pad n) = option_map (λ p. record { pad = p; rows = given.rows; allow = given.allow; unknown = given.unknown }) (given_once given.pad n)
+with_setting given (options.rows n) = option_map (λ r. record { pad = given.pad; rows = r; allow = given.allow; unknown = given.unknown }) (given_once given.rows n)
+with_setting given (options.allow name) = option_map (λ a. record { pad = given.pad; rows = given.rows; allow = a; unknown = given.unknown }) (given_once given.allow name)
+with_setting given options.unknown = option_map (λ u. record { pad = given.pad; rows = given.rows; allow = given.allow; unknown = u }) (set_once given.unknown)
 
 -- Options with more, one after the other: none where two are of a kind.
 abbrev pub with_settings : Option Given → List Setting → Option Given

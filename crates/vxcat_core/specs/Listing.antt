@@ -4,7 +4,7 @@ use Rattle.std.specs.List.{flat_map}
 use Rattle.vx_trees.specs.Rose.{node, end, more, label}
 use Rattle.vx_buffer.specs.Buffer.{Buffer}
 use Rattle.vx_array_tree.specs.Tree.{Tree, Trees, Head, row_at, cells}
-use Rattle.vx_array_tree.specs.Table.{buffers_of, encoding_of, id_of}
+use Rattle.vx_array_tree.specs.Table.{buffers_of, own_id}
 use Rattle.vxcat_core.specs.RowText.{value_text}
 
 -- A buffer is listed by the number of its bytes.
@@ -20,10 +20,10 @@ abbrev pub lengths_text : List Buffer → List ℕ
 lengths_text [] = []
 lengths_text (buffer ∷ buffers) = length_text buffer ++ flat_map further_length buffers
 
--- A node's line has its identifier, its length and the lengths of its own buffers.
+-- A node's line has its identifier, which of a foreign node is its own, its length and the lengths of its own buffers.
 abbrev pub node_line : List ℕ → Head → List ℕ
 node_line indent head =
-    indent ++ (id_of (encoding_of head.body) ++ (codes " len=" ++ (decimal head.len ++ (codes " buffers=[" ++ (lengths_text (buffers_of head.body) ++ codes "]\n")))))
+    indent ++ (own_id head.body ++ (codes " len=" ++ (decimal head.len ++ (codes " buffers=[" ++ (lengths_text (buffers_of head.body) ++ codes "]\n")))))
 
 -- The nodes stand in preorder, each two spaces further in than its parent.
 abbrev mutual

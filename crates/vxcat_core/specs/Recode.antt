@@ -1,9 +1,9 @@
 -- The command `recode`: its words, what it loads, asks, makes, saves and prints, and how it ends.
-use Rattle.std.specs.Prelude.{◌≡◌, ◌≢◌, ◌⊎◌, ◌<◌, ◌^◌, ℕ, true, false, IsTrue, Option, None, Some, option_map, List, [], ◌∷◌, codes, decimal}
+use Rattle.std.specs.Prelude.{◌≡◌, ◌≢◌, ◌⊎◌, ◌<◌, ◌^◌, ℕ, Bool, true, false, IsTrue, Option, None, Some, option_map, List, [], ◌∷◌, codes, decimal}
 use Rattle.std.specs.Io.KnownBytes.{Keeps}
 use Rattle.std.specs.List.{flat_map}
 use Rattle.vx_types.specs.Typ.{Typ}
-use Rattle.vx_type_wire.specs.Known.{ExtMeaning, IsRead, no_readers}
+use Rattle.vx_type_wire.specs.Known.{ExtMeaning, IsRead}
 use Rattle.vx_type_wire.specs.Shown.{ShowsType}
 use Rattle.vx_wire_tree.specs.Context.{Context, with_ids}
 use Rattle.vx_wire_tree.specs.Session.{SessionMeaning}
@@ -79,13 +79,21 @@ pub record AreInputs (line : Recode) (store : StoreState) (loaded : Loaded) : Ty
 
 -- ---- what is asked
 
--- The readers of extensions: there are none, whatever the options say, so no extension stands in a type.
-abbrev pub readers_of : Settings → ExtMeaning
-readers_of settings = no_readers
+-- The readers of extensions: there are none, and extensions are allowed all the same where what is unknown is.
+abbrev pub readers_by : Bool → ExtMeaning
+readers_by unknown = record { reader = λ id. None; unknown = unknown }
 
--- What reads and writes arrays: the encodings that are shipped, beside these readers, whatever the options say.
+-- What is unknown is allowed where `--unknown` stands; without it no extension stands in a type.
+abbrev pub readers_of : Settings → ExtMeaning
+readers_of settings = readers_by settings.unknown
+
+-- What reads and writes arrays: the encodings that are shipped, beside these readers, whose flag says whether nodes that
+-- nothing reads are allowed, too.
+abbrev pub session_by : Bool → SessionMeaning
+session_by unknown = tables_meaning shipped_registry (readers_by unknown)
+
 abbrev pub session_of : Settings → SessionMeaning
-session_of settings = tables_meaning shipped_registry (readers_of settings)
+session_of settings = session_by settings.unknown
 
 -- The context under which the new blob is written: it has no identifiers, and allows those of the file that is named, or
 -- each encoding where none is.
@@ -144,9 +152,9 @@ pub record CanRecodeInputs (line : Recode) (loaded : Loaded) : Type 0 where
   pub are_read : AreRead line loaded terms
   pub can_recode : CanRecode (asked_by line loaded terms)
 
--- Why what was loaded is not recoded: the type file shows no type within the limits, or one with an extension; an id file,
--- or the file of those that are allowed, is no text of at most 65,536 lines; or the blob is refused at the type and with the
--- identifiers that were read. Want of memory needs no cause.
+-- Why what was loaded is not recoded: the type file shows no type within the limits, or one with an extension that is not
+-- allowed; an id file, or the file of those that are allowed, is no text of at most 65,536 lines; or the blob is refused at
+-- the type and with the identifiers that were read. Want of memory needs no cause.
 abbrev pub RefusesInputs : Status → Recode → Loaded → Type 0
 RefusesInputs OutOfMemory line loaded = Unit {0}
 RefusesInputs BadType line loaded = (dtype : Typ) → ¬ (IsRead (ShowsType loaded.type_bytes) (readers_of line.settings) dtype)

@@ -1,9 +1,8 @@
 -- What contracts see of the words of a command, and of what the program holds while it runs.
 use Rattle.std.specs.Prelude.{◌≡◌, ℕ, List}
 use Rattle.vx_types.specs.Typ.{Typ}
-use Rattle.vx_type_wire.specs.Known.{no_readers}
 use Rattle.vx_wire_tree.specs.Context.{Context}
-use Rattle.vx_registry.specs.Session.{tables_meaning, shipped_registry}
+use Rattle.vx_wire_tree.specs.Session.{SessionMeaning}
 use Rattle.vx_serde.specs.declared.options.SerializeOptions.{SerializeOptions}
 use Rattle.vx_serde.specs.Causes.{Refuses}
 use Rattle.vx_serde.specs.Recoding.{IsFaithful, IsRecoded, Product}
@@ -46,16 +45,16 @@ pub record AreOutputs (line : Recode) (loaded : Loaded) (outputs : Outputs) : Ty
   pub is_made : IsMade line loaded made
   pub holds : Holds outputs made
 
--- What the program asks for of a blob, at a type, with identifiers and under a context.
-abbrev pub request_for : List ℕ → Typ → ℕ → List (List ℕ) → Context → SerializeOptions → Request
-request_for blob dtype len ids context options = record {
+-- What the program asks for of a blob, at a type, with identifiers, and under a context and a session.
+abbrev pub request_for : List ℕ → Typ → ℕ → List (List ℕ) → Context → SessionMeaning → SerializeOptions → Request
+request_for blob dtype len ids context session options = record {
   blob = blob;
   dtype = dtype;
   len = len;
   ids = ids;
   context = context;
   options = options;
-  session = tables_meaning shipped_registry no_readers;
+  session = session;
 }
 
 -- The outputs are what `recode` makes of what is asked.

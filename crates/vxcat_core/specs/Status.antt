@@ -21,6 +21,7 @@ wire_error refusal.UnknownEncoding = wire.UnknownEncoding
 wire_error refusal.BadMetadata = wire.BadMetadata
 wire_error refusal.BadShape = wire.BadShape
 wire_error refusal.BadContent = wire.BadContent
+wire_error refusal.ForeignControl = wire.ForeignControl
 wire_error refusal.BadStats = wire.BadStats
 wire_error refusal.NotPermitted = wire.NotPermitted
 wire_error refusal.WireLimit = wire.WireLimit

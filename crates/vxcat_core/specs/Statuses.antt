@@ -73,6 +73,7 @@ blob_status wire.UnknownEncoding = Refused refusal.UnknownEncoding
 blob_status wire.BadMetadata = Refused refusal.BadMetadata
 blob_status wire.BadShape = Refused refusal.BadShape
 blob_status wire.BadContent = Refused refusal.BadContent
+blob_status wire.ForeignControl = Refused refusal.ForeignControl
 blob_status wire.BadStats = Refused refusal.BadStats
 blob_status wire.NotPermitted = Refused refusal.NotPermitted
 blob_status wire.WireLimit = Refused refusal.WireLimit

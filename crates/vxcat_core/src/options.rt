@@ -19,6 +19,8 @@ pub enum Choice<'a> {
     Rows(u64),
     /// `--allow FILE`: the new blob may have the identifiers of this file alone.
     Allow(&'a Name),
+    /// `--unknown`: unknown encodings and unknown extensions are allowed.
+    Unknown,
 }
 
 /// The options of a command, no two of a kind.
@@ -27,6 +29,7 @@ pub struct Options<'a> {
     pub pad: Option<u64>,
     pub rows: Option<u64>,
     pub allow: Option<&'a Name>,
+    pub unknown: bool,
 }
 
 impl<'a> Options<'a> {
@@ -38,6 +41,7 @@ impl<'a> Options<'a> {
             pad: None,
             rows: None,
             allow: None,
+            unknown: false,
         }
     }
 
@@ -58,6 +62,10 @@ impl<'a> Options<'a> {
                 allow: Some(name),
                 ..self
             }),
+            Choice::Unknown if !self.unknown => Some(Options {
+                unknown: true,
+                ..self
+            }),
             _ => None,
         }
     }
@@ -71,6 +79,9 @@ pub fn next_choice<'a>(words: &'a [Name]) -> Option<(Choice<'a>, &'a [Name])>
         → words.now ≢ setting_words setting ++ rest) }
 {
     let (option, after) = words.split_first()?;
+    if option.as_str() == "--unknown" {
+        return Some((Choice::Unknown, after));
+    }
     let (value, rest) = after.split_first()?;
     if option.as_str() == "--allow" {
         return Some((Choice::Allow(value), rest));

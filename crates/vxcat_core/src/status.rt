@@ -25,6 +25,7 @@ pub enum BlobRefusal {
     BadMetadata,
     BadShape,
     BadContent,
+    ForeignControl,
     BadStats,
     NotPermitted,
     WireLimit,
@@ -48,6 +49,7 @@ impl BlobRefusal {
             BlobRefusal::BadMetadata => WireError::BadMetadata,
             BlobRefusal::BadShape => WireError::BadShape,
             BlobRefusal::BadContent => WireError::BadContent,
+            BlobRefusal::ForeignControl => WireError::ForeignControl,
             BlobRefusal::BadStats => WireError::BadStats,
             BlobRefusal::NotPermitted => WireError::NotPermitted,
             BlobRefusal::WireLimit => WireError::WireLimit,
@@ -71,7 +73,7 @@ pub enum Status {
     SaveFault,
     /// The command's text could not be wholly printed; its outputs are saved.
     WriteFault,
-    /// The type file shows no type within the limits, or one with an extension.
+    /// The type file shows no type within the limits, or one with an extension that is not allowed.
     BadType,
     /// The id file is no text of identifiers.
     BadIds,
@@ -191,6 +193,7 @@ impl Status {
             WireError::BadMetadata => Status::Refused(BlobRefusal::BadMetadata),
             WireError::BadShape => Status::Refused(BlobRefusal::BadShape),
             WireError::BadContent => Status::Refused(BlobRefusal::BadContent),
+            WireError::ForeignControl => Status::Refused(BlobRefusal::ForeignControl),
             WireError::BadStats => Status::Refused(BlobRefusal::BadStats),
             WireError::NotPermitted => Status::Refused(BlobRefusal::NotPermitted),
             WireError::WireLimit => Status::Refused(BlobRefusal::WireLimit),

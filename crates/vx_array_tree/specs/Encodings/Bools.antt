@@ -1,5 +1,5 @@
 -- Flags, of a bit each.
-use Rattle.std.specs.Prelude.{ℕ, ◌+◌, ◌*◌, ◌/◌, ◌%◌, ◌^◌, ◌≤◌, ◌<◌, ◌==◌, List, [], ◌∷◌, Option, Some, None, Bool, codes, length, slice_index, refl}
+use Rattle.std.specs.Prelude.{ℕ, ◌+◌, ◌*◌, ◌/◌, ◌%◌, ◌^◌, ◌≤◌, ◌<◌, ◌==◌, List, [], ◌∷◌, Option, Some, None, Bool, codes, length, slice_index, refl, true}
 use Rattle.std.specs.Coded.{Coded, code_by, coded×, coded_ℕ}
 use Rattle.vx_buffer.specs.Buffer.{Buffer, coded_buffer}
 use Rattle.vx_trees.specs.Rose.{node, end}
@@ -47,6 +47,10 @@ body_of offset _ = None
 abbrev pub plan : Typ → ℕ → ℕ → Option (List Place)
 plan (node (boolean m) end) n k = before_validity [] n k
 plan _ n k = None
+
+-- Each child says where rows are: there is none but a validity.
+abbrev pub is_control : ℕ → Bool
+is_control i = true
 
 -- A validity stands only where rows may be null.
 abbrev pub Allows : Typ → ℕ → Type 0

@@ -1,5 +1,5 @@
 -- Dictionaries: rows are named by codes among values.
-use Rattle.std.specs.Prelude.{ℕ, ◌≡◌, ◌<◌, List, [], ◌∷◌, Option, Some, None, Bool, true, false, codes, IsTrue, refl}
+use Rattle.std.specs.Prelude.{ℕ, ◌≡◌, ◌<◌, List, [], ◌∷◌, Option, Some, None, Bool, true, false, codes, IsTrue, refl, ◌==◌}
 use Rattle.std.specs.Coded.{Coded, code_by, coded_bool}
 use Rattle.vx_trees.specs.Rose.{node, end}
 use Rattle.vx_types.specs.Kind.{primitive}
@@ -51,6 +51,10 @@ body_of v = record { all_values_referenced = v.all_values_referenced }
 -- A node is of any type, and has a code for each row and the values, which are of its own type.
 abbrev pub plan : Typ → ℕ → Metadata → ℕ → Option (List Place)
 plan d n v k = exactly (place (node (primitive v.codes_ptype v.nullable_codes) end) n ∷ place d v.values_len ∷ []) k
+
+-- The codes alone say where rows are.
+abbrev pub is_control : ℕ → Bool
+is_control i = i == 0
 
 -- Codes may be null only where the rows may.
 abbrev pub Allows : Typ → Metadata → Type 0

@@ -1,5 +1,5 @@
 -- Lists of one size, whose elements stand one row's after the other's.
-use Rattle.std.specs.Prelude.{ℕ, suc, ◌*◌, List, [], ◌∷◌, Option, None, codes}
+use Rattle.std.specs.Prelude.{ℕ, suc, ◌*◌, List, [], ◌∷◌, Option, None, codes, Bool, nat_le}
 use Rattle.vx_trees.specs.Rose.{node, end, more}
 use Rattle.vx_types.specs.Kind.{fixed_size_list}
 use Rattle.vx_types.specs.Typ.{Typ}
@@ -15,6 +15,10 @@ id = codes "vortex.fixed_size_list"
 abbrev pub plan : Typ → ℕ → ℕ → Option (List Place)
 plan (node (fixed_size_list s m) (more e end)) n k = when (is_len (n * s)) (before_validity (place e (n * s) ∷ []) n k)
 plan _ n k = None
+
+-- Each child but the elements says where rows are.
+abbrev pub is_control : ℕ → Bool
+is_control i = nat_le 1 i
 
 -- A validity stands only where rows may be null.
 abbrev pub Allows : Typ → ℕ → Type 0

@@ -1,6 +1,6 @@
 -- Lists, each with an offset and a size of its own, so that they may stand in any order, overlap or leave
 -- elements out.
-use Rattle.std.specs.Prelude.{ℕ, suc, ◌≡◌, ◌+◌, ◌<◌, ◌≤◌, List, [], ◌∷◌, Option, None, Bool, false, codes, IsTrue, refl}
+use Rattle.std.specs.Prelude.{ℕ, suc, ◌≡◌, ◌+◌, ◌<◌, ◌≤◌, List, [], ◌∷◌, Option, None, Bool, false, codes, IsTrue, refl, nat_le}
 use Rattle.std.specs.Coded.{Coded, code_by, coded_bool}
 use Rattle.vx_trees.specs.Rose.{node, end, more}
 use Rattle.vx_types.specs.Kind.{list}
@@ -55,6 +55,10 @@ abbrev pub plan : Typ → ℕ → Metadata → ℕ → Option (List Place)
 plan (node (list m) (more e end)) n v k =
     before_validity (place e v.elements_len ∷ place (numbers v.offset_ptype) n ∷ place (numbers v.size_ptype) n ∷ []) n k
 plan _ n v k = None
+
+-- Each child but the elements says where rows are.
+abbrev pub is_control : ℕ → Bool
+is_control i = nat_le 1 i
 
 -- A validity stands only where rows may be null.
 abbrev pub Allows : Typ → ℕ → Type 0

@@ -1,5 +1,5 @@
 -- Lists, whose elements stand one row's after the other's, parted by offsets.
-use Rattle.std.specs.Prelude.{ℕ, suc, ◌-◌, List, [], ◌∷◌, Option, None, codes, IsTrue}
+use Rattle.std.specs.Prelude.{ℕ, suc, ◌-◌, List, [], ◌∷◌, Option, None, codes, IsTrue, Bool, nat_le}
 use Rattle.vx_trees.specs.Rose.{node, end, more}
 use Rattle.vx_types.specs.Kind.{list}
 use Rattle.vx_types.specs.Numbers.{is_integer}
@@ -32,6 +32,10 @@ abbrev pub plan : Typ → ℕ → Metadata → ℕ → Option (List Place)
 plan (node (list m) (more e end)) n v k =
     when (is_len (suc n)) (before_validity (place e v.elements_len ∷ place (numbers v.offset_ptype) (suc n) ∷ []) n k)
 plan _ n v k = None
+
+-- Each child but the elements says where rows are.
+abbrev pub is_control : ℕ → Bool
+is_control i = nat_le 1 i
 
 -- A validity stands only where rows may be null.
 abbrev pub Allows : Typ → ℕ → Type 0

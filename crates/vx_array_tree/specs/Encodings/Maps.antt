@@ -19,9 +19,10 @@ plan (node (map b m) (more x (more y end))) n k =
     exactly (place (node (list m) (more (entries (record { key = x; value = y; keys_sorted = b })) end)) n ∷ []) k
 plan _ n k = None
 
--- The child is a list view.
+-- The child is a list view, as far as its encoding is known.
 abbrev pub Takes : List Encoding → Type 0
 Takes (E.listview ∷ es) = Unit {0}
+Takes (E.foreign ∷ es) = Unit {0}
 Takes _ = ⊥
 
 -- A row is the list of its entries.

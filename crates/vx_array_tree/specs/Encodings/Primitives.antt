@@ -1,5 +1,5 @@
 -- Numbers of one kind, one after the other, each with its lowest byte first.
-use Rattle.std.specs.Prelude.{ℕ, ◌≡◌, ◌*◌, ◌^◌, ◌≤◌, List, [], ◌∷◌, Option, Some, None, codes, length, refl}
+use Rattle.std.specs.Prelude.{ℕ, ◌≡◌, ◌*◌, ◌^◌, ◌≤◌, List, [], ◌∷◌, Option, Some, None, codes, length, refl, Bool, true}
 use Rattle.std.specs.Coded.{Coded, code_by}
 use Rattle.vx_buffer.specs.Buffer.{Buffer, coded_buffer}
 use Rattle.vx_trees.specs.Rose.{node, end}
@@ -36,6 +36,10 @@ body_of _ = None
 abbrev pub plan : Typ → ℕ → ℕ → Option (List Place)
 plan (node (primitive p m) end) n k = before_validity [] n k
 plan _ n k = None
+
+-- Each child says where rows are: there is none but a validity.
+abbrev pub is_control : ℕ → Bool
+is_control i = true
 
 -- A validity stands only where rows may be null.
 abbrev pub Allows : Typ → ℕ → Type 0

@@ -1,5 +1,5 @@
 -- Structures, by their fields.
-use Rattle.std.specs.Prelude.{ℕ, suc, ◌==◌, List, Option, Some, None, Bool, true, codes, length, if◌then◌else◌}
+use Rattle.std.specs.Prelude.{ℕ, suc, ◌==◌, List, Option, Some, None, Bool, true, codes, length, if◌then◌else◌, ◌&&◌}
 use Rattle.vx_trees.specs.Rose.{node, count}
 use Rattle.vx_types.specs.Kind.{structure}
 use Rattle.vx_types.specs.Typ.{Typ}
@@ -28,6 +28,10 @@ Allows d k = AllowsValidity d (width_of d) k
 -- A validity stands in front where a node has one child more than fields.
 abbrev pub has_validity : Typ → ℕ → Bool
 has_validity d k = k == suc (width_of d)
+
+-- Of k children a validity alone says where rows are.
+abbrev pub is_control : Typ → ℕ → ℕ → Bool
+is_control d k i = has_validity d k && (i == 0)
 
 -- The fields' rows, without a validity's.
 abbrev pub fields : Typ → List Rows → List Rows

@@ -1,5 +1,5 @@
 -- Unions, by the tags of their rows.
-use Rattle.std.specs.Prelude.{ℕ, suc, ◌<◌, ◌==◌, List, [], ◌∷◌, Option, Some, None, codes, IsTrue, is_some, if◌then◌else◌}
+use Rattle.std.specs.Prelude.{ℕ, suc, ◌<◌, ◌==◌, List, [], ◌∷◌, Option, Some, None, codes, IsTrue, is_some, if◌then◌else◌, Bool}
 use Rattle.vx_trees.specs.Rose.{node, end, more}
 use Rattle.vx_types.specs.Kind.{primitive, union as union_kind}
 use Rattle.vx_types.specs.Typ.{Typ}
@@ -17,6 +17,10 @@ id = codes "vortex.union"
 abbrev pub plan : Typ → ℕ → ℕ → Option (List Place)
 plan (node (union_kind ns ids m) ts) n k = exactly (place (node (primitive U8 m) end) n ∷ places_at ts n) k
 plan _ n k = None
+
+-- The tags alone say where rows are.
+abbrev pub is_control : ℕ → Bool
+is_control i = i == 0
 
 -- The rows of the member that a tag names.
 abbrev pub member_rows : ℕ → List ℕ → List Rows → Option Rows

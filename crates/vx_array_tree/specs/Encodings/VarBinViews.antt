@@ -1,5 +1,5 @@
 -- Texts and bytes by views of 16 bytes, which hold short ones themselves and name a place for long ones.
-use Rattle.std.specs.Prelude.{ℕ, ◌≡◌, ◌+◌, ◌*◌, ◌<◌, nat_le, ◌&&◌, List, [], ◌∷◌, ◌++◌, Option, Some, None, codes, length, take, drop, slice_get, bytes_eq, unwrap_or, if◌then◌else◌, refl}
+use Rattle.std.specs.Prelude.{ℕ, ◌≡◌, ◌+◌, ◌*◌, ◌<◌, nat_le, ◌&&◌, List, [], ◌∷◌, ◌++◌, Option, Some, None, codes, length, take, drop, slice_get, bytes_eq, unwrap_or, if◌then◌else◌, refl, Bool, true}
 use Rattle.std.specs.Coded.{Coded, code_by, coded×, coded_list}
 use Rattle.std.specs.Int.{w32, from_le_bytes}
 use Rattle.vx_buffer.specs.Buffer.{Buffer, coded_buffer}
@@ -46,6 +46,10 @@ abbrev pub plan : Typ → ℕ → ℕ → Option (List Place)
 plan (node (utf8_kind m) end) n k = before_validity [] n k
 plan (node (binary_kind m) end) n k = before_validity [] n k
 plan _ n k = None
+
+-- Each child says where rows are: there is none but a validity.
+abbrev pub is_control : ℕ → Bool
+is_control i = true
 
 -- A validity stands only where rows may be null.
 abbrev pub Allows : Typ → ℕ → Type 0

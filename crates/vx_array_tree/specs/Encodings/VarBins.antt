@@ -1,5 +1,5 @@
 -- Texts and bytes, one after the other in one buffer, parted by offsets.
-use Rattle.std.specs.Prelude.{ℕ, suc, ◌-◌, ◌<◌, ◌≤◌, List, [], ◌∷◌, Option, Some, None, codes, length, take, drop, IsTrue, refl}
+use Rattle.std.specs.Prelude.{ℕ, suc, ◌-◌, ◌<◌, ◌≤◌, List, [], ◌∷◌, Option, Some, None, codes, length, take, drop, IsTrue, refl, Bool, true}
 use Rattle.std.specs.Coded.{Coded, code_by}
 use Rattle.vx_buffer.specs.Buffer.{Buffer, coded_buffer}
 use Rattle.vx_trees.specs.Rose.{node, end}
@@ -54,6 +54,10 @@ abbrev pub plan : Typ → ℕ → Metadata → ℕ → Option (List Place)
 plan (node (utf8_kind m) end) n v k = planned n v k
 plan (node (binary_kind m) end) n v k = planned n v k
 plan _ n v k = None
+
+-- Each child says where rows are: there is none but offsets and a validity.
+abbrev pub is_control : ℕ → Bool
+is_control i = true
 
 -- A validity stands only where rows may be null.
 abbrev pub Allows : Typ → ℕ → Type 0

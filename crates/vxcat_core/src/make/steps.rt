@@ -8,7 +8,9 @@ ghost use Rattle.vx_type_wire.specs.Known.{IsRead, no_readers};
 ghost use Rattle.vx_type_wire.specs.Schema.{type_schema};
 ghost use Rattle.vx_type_wire.specs.Shown.{ShowsType};
 ghost use Rattle.vx_type_wire.specs.TypeTable.{type_table};
+ghost use Rattle.vx_registry.specs.Meaning.{session_meaning};
 ghost use Rattle.vx_generator.specs.Made.{data_len, made};
+ghost use Rattle.vxcat_core.specs.MakeCommand.{make_session};
 ghost use Rattle.vxcat_core.specs.MakeViews.{AreOutputsOf, IsTable, IsTableWritten, IsWrittenAgain};
 ghost use Rattle.vxcat_core.specs.declared.status.Status.TheVariants.{OutOfMemory};
 
@@ -91,13 +93,27 @@ fn write_type(alloc: Global, array: &Array) -> Result<FlatBuffer, Status>
     }
 }
 
-// A table's blob, which was read and written again.
+// A table's blob, which was read and written again, with the encodings that are shipped.
 fn write_again(alloc: Global, array: &Array) -> Result<Outputs, Status>
     requires { IsTable array.now }
     ensures again { IfOk result (IsWrittenAgain array.now) }
     ensures memory { IfErr result (λ status. status ≡ OutOfMemory) }
 {
-    let written = match write_once(alloc, array) {
+    let Ok(arrays) = ArraySession::default(alloc) else {
+        return Err(Status::OutOfMemory);
+    };
+    let session = VortexSession::new(arrays, ExtSession::new(alloc));
+    write_under(alloc, array, &session)
+}
+
+// The same under a session: that of these encodings, without readers of extensions.
+fn write_under(alloc: Global, array: &Array, session: &VortexSession) -> Result<Outputs, Status>
+    requires table { IsTable array.now }
+    requires session { session_meaning (λ b. accepted (b.vtable, b.value)) session.now ≡ make_session }
+    ensures again { IfOk result (IsWrittenAgain array.now) }
+    ensures memory { IfErr result (λ status. status ≡ OutOfMemory) }
+{
+    let written = match write_once(alloc, array, session) {
         Ok(written) => written,
         Err(status) => return Err(status),
     };
@@ -109,22 +125,20 @@ fn write_again(alloc: Global, array: &Array) -> Result<Outputs, Status>
         array.len() as u64,
         &read,
         ArrayContext::empty(alloc),
+        session,
         &serialize_options(None),
     )
 }
 
-// A table as a blob, written with the encodings that are shipped.
-fn write_once(alloc: Global, array: &Array) -> Result<WrittenTable, Status>
-    requires { IsTable array.now }
+// A table as a blob, written under that session.
+fn write_once(alloc: Global, array: &Array, session: &VortexSession) -> Result<WrittenTable, Status>
+    requires table { IsTable array.now }
+    requires session { session_meaning (λ b. accepted (b.vtable, b.value)) session.now ≡ make_session }
     ensures written { IfOk result (IsTableWritten array.now) }
     ensures memory { IfErr result (λ status. status ≡ OutOfMemory) }
 {
-    let Ok(arrays) = ArraySession::default(alloc) else {
-        return Err(Status::OutOfMemory);
-    };
-    let session = VortexSession::new(arrays, ExtSession::new(alloc));
     let mut ids = ArrayContext::empty(alloc);
-    match array.serialize(alloc, &mut ids, &session, &serialize_options(None)) {
+    match array.serialize(alloc, &mut ids, session, &serialize_options(None)) {
         Ok(buffers) => join_written(alloc, &buffers, &ids),
         Err(error) => Err(Status::of_blob(error)),
     }

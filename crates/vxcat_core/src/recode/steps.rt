@@ -3,11 +3,13 @@
 ghost use Rattle.std.specs.Prelude.{◌≡◌, ◌≢◌, ◌⊎◌, [], ◌∷◌, ◌++◌, ◌≤◌, List, ℕ, None, Some, IfOk, IfErr, OnOk, Option, option_map};
 ghost use Rattle.vx_types.specs.Seen.{typ};
 ghost use Rattle.vx_types.specs.Typ.{Typ};
-ghost use Rattle.vx_type_wire.specs.Known.{IsRead, no_readers};
+ghost use Rattle.vx_type_wire.specs.Known.{IsRead};
+ghost use Rattle.vx_type_wire.specs.Session.{ext_meaning};
+ghost use Rattle.vx_registry.specs.Meaning.{session_meaning};
 ghost use Rattle.vx_type_wire.specs.Shown.{ShowsType};
 ghost use Rattle.vx_serde.specs.Request.{CanRecode};
 ghost use Rattle.vx_buffer.specs.Joined.{joined};
-ghost use Rattle.vxcat_core.specs.Recode.{AreInputs, AreSaved, CanRecodeInputs, RefusesInputs, KeepsOthers, ReadsAllowed, SavesInOrder, StandsIfNamed, context_of, if_named, inputs, padded_at};
+ghost use Rattle.vxcat_core.specs.Recode.{AreInputs, AreSaved, CanRecodeInputs, RefusesInputs, KeepsOthers, ReadsAllowed, SavesInOrder, StandsIfNamed, context_of, if_named, inputs, padded_at, session_by};
 ghost use Rattle.vxcat_core.specs.IdFile.{ReadsIds};
 ghost use Rattle.vxcat_core.specs.StoreState.{AskedOnly};
 ghost use Rattle.vxcat_core.specs.RecodeViews.{AreMade, AreOutputs, RefusesIds, RefusesLoad, RefusesSave, RefusesType, RefusesBlob, request_for, line_of, loaded_of};
@@ -101,13 +103,37 @@ fn load_named<S: Store>(
     }
 }
 
-/// Judges the type file, then the id files, and recodes the blob.
+/// Judges the type file, then the id files, and recodes the blob, with the encodings that are shipped and without readers of
+/// extensions; what is unknown is allowed where the options say so.
 pub fn recode_inputs(alloc: Global, words: &RecodeWords, loaded: Inputs) -> Result<Outputs, Status>
     ensures made { IfOk result (λ made. AreOutputs (line_of words.now) (loaded_of loaded) made) }
     ensures cause { IfErr result (λ status. RefusesInputs status (line_of words.now) (loaded_of loaded)) }
     ensures complete { CanRecodeInputs (line_of words.now) (loaded_of loaded) → IfErr result (λ status. status ≡ OutOfMemory) }
 {
-    let dtype = match read_type(alloc, loaded.type_bytes.as_slice()) {
+    let Ok(arrays) = ArraySession::default(alloc) else {
+        return Err(Status::OutOfMemory);
+    };
+    let mut session = VortexSession::new(arrays, ExtSession::new(alloc));
+    if words.options.unknown {
+        session.ext.allow_unknown();
+        return recode_under(alloc, words, loaded, &session);
+    }
+    recode_under(alloc, words, loaded, &session)
+}
+
+// The same under a session: that which the options ask for.
+fn recode_under(
+    alloc: Global,
+    words: &RecodeWords,
+    loaded: Inputs,
+    session: &VortexSession,
+) -> Result<Outputs, Status>
+    requires { session_meaning (λ b. accepted (b.vtable, b.value)) session.now ≡ session_by words.now.options.unknown }
+    ensures made { IfOk result (λ made. AreOutputs (line_of words.now) (loaded_of loaded) made) }
+    ensures cause { IfErr result (λ status. RefusesInputs status (line_of words.now) (loaded_of loaded)) }
+    ensures complete { CanRecodeInputs (line_of words.now) (loaded_of loaded) → IfErr result (λ status. status ≡ OutOfMemory) }
+{
+    let dtype = match read_type(alloc, loaded.type_bytes.as_slice(), &session.ext) {
         Ok(dtype) => dtype,
         Err(status) => return Err(status),
     };
@@ -128,18 +154,20 @@ pub fn recode_inputs(alloc: Global, words: &RecodeWords, loaded: Inputs) -> Resu
         words.len,
         &read,
         context,
+        session,
         &options,
     )
 }
 
-// The type that a type file shows, where no extension is known.
-fn read_type(alloc: Global, bytes: &[u8]) -> Result<DType, Status>
-    ensures read { IfOk result (λ d. IsRead (ShowsType bytes.now) no_readers (typ d)) }
+// The type that a type file shows, as far as these readers know its extensions.
+fn read_type(alloc: Global, bytes: &[u8], readers: &ExtSession) -> Result<DType, Status>
+    ensures read { let x = ext_meaning (λ b. accepted (b.vtable, b.value)) readers.now in
+        IfOk result (λ d. IsRead (ShowsType bytes.now) x (typ d)) }
     ensures status { IfErr result RefusesType }
-    ensures complete { (t : Typ) → IsRead (ShowsType bytes.now) no_readers t → IfErr result (λ status. status ≡ OutOfMemory) }
+    ensures complete { let x = ext_meaning (λ b. accepted (b.vtable, b.value)) readers.now in
+        (t : Typ) → IsRead (ShowsType bytes.now) x t → IfErr result (λ status. status ≡ OutOfMemory) }
 {
-    let readers = ExtSession::new(alloc);
-    match DType::from_flatbuffer(alloc, bytes, &readers) {
+    match DType::from_flatbuffer(alloc, bytes, readers) {
         Ok(dtype) => Ok(dtype),
         Err(error) => Err(Status::of_type(error)),
     }
@@ -188,7 +216,7 @@ pub fn serialize_options(pad: Option<u64>) -> SerializeOptions
     }
 }
 
-// Recodes a blob with the encodings that are shipped, under this context.
+// Recodes a blob under a session and a context.
 fn recode_blob(
     alloc: Global,
     blob: Blob,
@@ -196,19 +224,23 @@ fn recode_blob(
     len: u64,
     read: &ReadContext,
     context: ArrayContext,
+    session: &VortexSession,
     options: &SerializeOptions,
 ) -> Result<Outputs, Status>
-    ensures made { IfOk result (AreMade (request_for blob (typ dtype.now) len read.now context options.now)) }
-    ensures cause { IfErr result (λ status. RefusesBlob status (request_for blob (typ dtype.now) len read.now context options.now)) }
-    ensures complete { CanRecode (request_for blob (typ dtype.now) len read.now context options.now) → IfErr result (λ status. status ≡ OutOfMemory) }
+    ensures made { let s = session_meaning (λ b. accepted (b.vtable, b.value)) session.now in
+        IfOk result (AreMade (request_for blob (typ dtype.now) len read.now context s options.now)) }
+    ensures cause { let s = session_meaning (λ b. accepted (b.vtable, b.value)) session.now in
+        IfErr result (λ status. RefusesBlob status (request_for blob (typ dtype.now) len read.now context s options.now)) }
+    ensures complete { let s = session_meaning (λ b. accepted (b.vtable, b.value)) session.now in
+        CanRecode (request_for blob (typ dtype.now) len read.now context s options.now) → IfErr result (λ status. status ≡ OutOfMemory) }
 {
     match ByteBuffer::from_vec(blob.into_vec()) {
-        Ok(buffer) => recode_buffer(alloc, buffer, dtype, len, read, context, options),
+        Ok(buffer) => recode_buffer(alloc, buffer, dtype, len, read, context, session, options),
         Err(_) => Err(Status::OutOfMemory),
     }
 }
 
-/// Recodes a blob that stands in a buffer, with the encodings that are shipped, under this context.
+/// Recodes a blob that stands in a buffer, under a session and a context.
 pub fn recode_buffer(
     alloc: Global,
     buffer: ByteBuffer,
@@ -216,16 +248,16 @@ pub fn recode_buffer(
     len: u64,
     read: &ReadContext,
     context: ArrayContext,
+    session: &VortexSession,
     options: &SerializeOptions,
 ) -> Result<Outputs, Status>
-    ensures made { IfOk result (AreMade (request_for buffer.bytes (typ dtype.now) len read.now context options.now)) }
-    ensures cause { IfErr result (λ status. RefusesBlob status (request_for buffer.bytes (typ dtype.now) len read.now context options.now)) }
-    ensures complete { CanRecode (request_for buffer.bytes (typ dtype.now) len read.now context options.now) → IfErr result (λ status. status ≡ OutOfMemory) }
+    ensures made { let s = session_meaning (λ b. accepted (b.vtable, b.value)) session.now in
+        IfOk result (AreMade (request_for buffer.bytes (typ dtype.now) len read.now context s options.now)) }
+    ensures cause { let s = session_meaning (λ b. accepted (b.vtable, b.value)) session.now in
+        IfErr result (λ status. RefusesBlob status (request_for buffer.bytes (typ dtype.now) len read.now context s options.now)) }
+    ensures complete { let s = session_meaning (λ b. accepted (b.vtable, b.value)) session.now in
+        CanRecode (request_for buffer.bytes (typ dtype.now) len read.now context s options.now) → IfErr result (λ status. status ≡ OutOfMemory) }
 {
-    let Ok(arrays) = ArraySession::default(alloc) else {
-        return Err(Status::OutOfMemory);
-    };
-    let session = VortexSession::new(arrays, ExtSession::new(alloc));
     let mut ids = context;
     match recode(
         alloc,
@@ -234,7 +266,7 @@ pub fn recode_buffer(
         len as usize,
         read,
         &mut ids,
-        &session,
+        session,
         options,
     ) {
         Ok(recoded) => make_outputs(alloc, recoded, &ids),

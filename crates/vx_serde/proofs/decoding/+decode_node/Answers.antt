@@ -7,10 +7,10 @@ use Rattle.vx_type_wire.specs.Session.{ext_meaning}
 use Rattle.vx_array_tree.specs.Place.{Place}
 use Rattle.vx_encodings.specs.Steps.{IsPlanned}
 use Rattle.vx_registry.specs.Meaning.{session_meaning}
-use Rattle.vx_registry.proofs.LawsSessions.{registry_lawful}
+use Rattle.vx_registry.proofs.LawsSessions.{registry_shipped, registry_lawful}
 use Rattle.vx_serde.specs.Serialized.{wire_in}
 use Rattle.vx_serde.specs.contracts.decoding.decode_node.{dyn-1-ghosts}
-use Rattle.vx_serde.proofs.DecodedNodes.{wire-child, wire-length, child-smaller, shown_at, refused_at}
+use Rattle.vx_serde.proofs.DecodedNodes.{wire-named, wire-child, wire-length, child-smaller, shown_at, refused_at}
 use Rattle.vx_serde.proofs.NodeTold.{told-snoc, all_told, enough, get_past, planned, caused_by_child, caused_by_buffers, caused_by_build, caused_by_stats, built_dtype, told_node}
 use Rattle.vx_serde.proofs.MessageBlocks.{if_ok, if_err}
 use Rattle.vx_serde.proofs.decoding.+decode_node.Goals as goal
@@ -22,8 +22,8 @@ pub unreachable-requires : goal.unreachable-requires
 unreachable-requires g t c =
     let w = wire_in c.args.ids.now c.args.node.now in
     let nodes = roses_list (below w) in
-    let same = enough c.in-Ok.planned.encoding _ c.in-Ok.planned.head c.in-Ok.planned.children nodes w (typ c.args.dtype.now) c.args.len c.in-Ok.ensures.planned c.in-Ok.ensures.read.head (roses_of-roses_list (below w)) in
-    get_past c.in-Ok.planned.children c.loop-i.i (omega (arith, same, wire-length c.args.ids.now c.args.node.now, c.nchildren-i-end.ensures, c.loop-i-test.true)) (sym c.in_default.ensures)
+    let same = enough c.in-Some-reader.encoding _ c.in-Ok.planned.head c.in-Ok.planned.children nodes w (typ c.args.dtype.now) c.args.len c.in-Ok.ensures.planned (c.in-Ok.ensures.read c.args.ids.now (wire-named c.args.ids.now c.args.node.now _ _ c.encoding_id.ensures c.in-Some.ensures) (sym c.in-Some-reader.ensures.found)).head (roses_of-roses_list (below w)) in
+    get_past c.in-Ok.planned.children c.loop-i.i (omega (arith, same, wire-length c.args.ids.now c.args.node.now, c.nchildren-i-end.ensures, c.loop-i-test.true)) (sym c.in_default-get.ensures)
 
 pub decode_node-requires : goal.decode_node-requires
 decode_node-requires g t c = (omega (arith, child-smaller c.args.node.now c.loop-i.i c.child-below.result c.child-below.ensures), tt)
@@ -34,9 +34,9 @@ returns-in-Err-decode_node-clause-cause g t c =
     let w = wire_in c.args.ids.now c.args.node.now in
     let node = c.in-Ok.planned in
     let child = wire_in c.args.ids.now c.child-below.result in
-    let plan = planned s w (typ c.args.dtype.now) c.args.len node.encoding node.head node.children c.in-Ok.ensures.read c.in-Ok.ensures.planned in
+    let plan = planned s w (typ c.args.dtype.now) c.args.len c.in-Some-reader.encoding node.head node.children (c.in-Ok.ensures.read c.args.ids.now (wire-named c.args.ids.now c.args.node.now _ _ c.encoding_id.ensures c.in-Some.ensures) (sym c.in-Some-reader.ensures.found)) c.in-Ok.ensures.planned in
     caused_by_child s c.in-Err-decode_node.e w (typ c.args.dtype.now) c.args.len (roses_list (below w)) node.children c.loop-i.i child _ plan (roses_of-roses_list (below w))
-    (wire-child c.args.ids.now c.args.node.now c.loop-i.i c.child-below.result c.child-below.ensures) (sym c.in-Some.ensures) c.in-Err-decode_node.ensures.cause
+    (wire-child c.args.ids.now c.args.node.now c.loop-i.i c.child-below.result c.child-below.ensures) (sym c.in-Some-get.ensures) c.in-Err-decode_node.ensures.cause
 
 pub loop-i-preserved : goal.loop-i-preserved
 loop-i-preserved g t c =
@@ -45,7 +45,7 @@ loop-i-preserved g t c =
     let child = wire_in c.args.ids.now c.child-below.result in
     let at = wire-child c.args.ids.now c.args.node.now c.loop-i.i c.child-below.result c.child-below.ensures in
     told-snoc s nodes c.in-Ok.planned.children c.loop-i.i child _ c.loop-i.children c.push.new.self c.in-Ok-decode_node.child (slice_get_within nodes c.loop-i.i child at) c.loop-i.invariant
-    (sym (get_or_from_slice_get nodes c.loop-i.i child child at)) (sym c.in-Some.ensures) c.in-Ok-decode_node.ensures.told c.in-Ok-push.ensures.ok
+    (sym (get_or_from_slice_get nodes c.loop-i.i child child at)) (sym c.in-Some-get.ensures) c.in-Ok-decode_node.ensures.told c.in-Ok-push.ensures.ok
 
 pub returns-in-Err-own_buffers-clause-cause : goal.returns-in-Err-own_buffers-clause-cause
 returns-in-Err-own_buffers-clause-cause g t c =
@@ -59,9 +59,9 @@ build-requires g t c =
     let w = wire_in c.args.ids.now c.args.node.now in
     let node = c.in-Ok.planned in
     let nodes = roses_list (below w) in
-    let same = enough node.encoding x node.head node.children nodes w (typ c.args.dtype.now) c.args.len c.in-Ok.ensures.planned c.in-Ok.ensures.read.head (roses_of-roses_list (below w)) in
+    let same = enough c.in-Some-reader.encoding x node.head node.children nodes w (typ c.args.dtype.now) c.args.len c.in-Ok.ensures.planned (c.in-Ok.ensures.read c.args.ids.now (wire-named c.args.ids.now c.args.node.now _ _ c.encoding_id.ensures c.in-Some.ensures) (sym c.in-Some-reader.ensures.found)).head (roses_of-roses_list (below w)) in
     let told = all_told s nodes node.children c.loop-i.children c.loop-i.i (omega (arith, wire-length c.args.ids.now c.args.node.now, c.nchildren-i-end.ensures, c.loop-i-test.false)) same c.loop-i.invariant in
-    subst (λ (ps : List Place). IsPlanned x node.encoding node.head ps) (sym told.placed) c.in-Ok.ensures.planned
+    subst (λ (ps : List Place). IsPlanned x c.in-Some-reader.encoding node.head ps) (sym told.placed) c.in-Ok.ensures.planned
 
 -- What was built is of the type that is asked, and is told with its statistics.
 pub tell-requires : goal.tell-requires
@@ -69,7 +69,7 @@ tell-requires g t c =
     let x = ext_meaning (λ b. ((dyn-1-ghosts g.dyn-1).0.entry b.vtable).1.accepted b.value) c.args.session.now.ext in
     let w = wire_in c.args.ids.now c.args.node.now in
     let node = c.in-Ok.planned in
-    built_dtype x node.encoding node.head c.in-Ok-own_buffers.buffers c.loop-i.children w (typ c.args.dtype.now) c.args.len c.in-Ok-build.array c.in-Ok.ensures.read.head c.in-Ok-build.ensures.parts
+    built_dtype x c.in-Some-reader.encoding node.head c.in-Ok-own_buffers.buffers c.loop-i.children w (typ c.args.dtype.now) c.args.len c.in-Ok-build.array (c.in-Ok.ensures.read c.args.ids.now (wire-named c.args.ids.now c.args.node.now _ _ c.encoding_id.ensures c.in-Some.ensures) (sym c.in-Some-reader.ensures.found)).head c.in-Ok-build.ensures.parts
 
 pub returns-in-Ok-build-clause-told : goal.returns-in-Ok-build-clause-told
 returns-in-Ok-build-clause-told g t c =
@@ -78,12 +78,12 @@ returns-in-Ok-build-clause-told g t c =
     let w = wire_in c.args.ids.now c.args.node.now in
     let node = c.in-Ok.planned in
     let nodes = roses_list (below w) in
-    let same = enough node.encoding x node.head node.children nodes w (typ c.args.dtype.now) c.args.len c.in-Ok.ensures.planned c.in-Ok.ensures.read.head (roses_of-roses_list (below w)) in
+    let same = enough c.in-Some-reader.encoding x node.head node.children nodes w (typ c.args.dtype.now) c.args.len c.in-Ok.ensures.planned (c.in-Ok.ensures.read c.args.ids.now (wire-named c.args.ids.now c.args.node.now _ _ c.encoding_id.ensures c.in-Some.ensures) (sym c.in-Some-reader.ensures.found)).head (roses_of-roses_list (below w)) in
     let past : length nodes ≤ c.loop-i.i = omega (arith, wire-length c.args.ids.now c.args.node.now, c.nchildren-i-end.ensures, c.loop-i-test.false) in
     let told = all_told s nodes node.children c.loop-i.children c.loop-i.i past same c.loop-i.invariant in
     if_ok c.tell.result _ _
-    (λ u y. told_node s (registry_lawful c.args.session.now.arrays x) w (typ c.args.dtype.now) c.args.len node.encoding node.head node.children c.in-Ok-own_buffers.buffers nodes
-    c.loop-i.children c.in-Ok-build.array u c.in-Ok.ensures.read c.in-Ok.ensures.planned (c.in-Ok-own_buffers.ensures.ok c.args.ids.now) (roses_of-roses_list (below w))
+    (λ u y. told_node s (registry_lawful c.args.session.now.arrays x) w (typ c.args.dtype.now) c.args.len c.in-Some-reader.encoding node.head node.children c.in-Ok-own_buffers.buffers nodes
+    c.loop-i.children c.in-Ok-build.array u (c.in-Ok.ensures.read c.args.ids.now (wire-named c.args.ids.now c.args.node.now _ _ c.encoding_id.ensures c.in-Some.ensures) (sym c.in-Some-reader.ensures.found)) c.in-Ok.ensures.planned (c.in-Ok-own_buffers.ensures.ok c.args.ids.now) (roses_of-roses_list (below w))
     told c.in-Ok-build.ensures.parts c.in-Ok-build.ensures.sound (shown_at c.args.ids.now c.args.node.now (typ c.args.dtype.now) c.in-Ok-build.array u y)) c.tell.ensures.told
 
 pub returns-in-Ok-build-clause-cause : goal.returns-in-Ok-build-clause-cause
@@ -92,7 +92,7 @@ returns-in-Ok-build-clause-cause g t c =
     let w = wire_in c.args.ids.now c.args.node.now in
     let node = c.in-Ok.planned in
     if_err c.tell.result _ _
-    (λ e y. caused_by_stats s e w (typ c.args.dtype.now) c.args.len node.encoding node.head c.in-Ok.ensures.read (refused_at c.args.ids.now c.args.node.now (typ c.args.dtype.now) e y)) c.tell.ensures.cause
+    (λ e y. caused_by_stats s e w (typ c.args.dtype.now) c.args.len c.in-Some-reader.encoding node.head (c.in-Ok.ensures.read c.args.ids.now (wire-named c.args.ids.now c.args.node.now _ _ c.encoding_id.ensures c.in-Some.ensures) (sym c.in-Some-reader.ensures.found)) (refused_at c.args.ids.now c.args.node.now (typ c.args.dtype.now) e y)) c.tell.ensures.cause
 
 pub returns-clause-cause : goal.returns-clause-cause
 returns-clause-cause g t c =
@@ -101,9 +101,9 @@ returns-clause-cause g t c =
     let w = wire_in c.args.ids.now c.args.node.now in
     let node = c.in-Ok.planned in
     let nodes = roses_list (below w) in
-    let same = enough node.encoding x node.head node.children nodes w (typ c.args.dtype.now) c.args.len c.in-Ok.ensures.planned c.in-Ok.ensures.read.head (roses_of-roses_list (below w)) in
+    let same = enough c.in-Some-reader.encoding x node.head node.children nodes w (typ c.args.dtype.now) c.args.len c.in-Ok.ensures.planned (c.in-Ok.ensures.read c.args.ids.now (wire-named c.args.ids.now c.args.node.now _ _ c.encoding_id.ensures c.in-Some.ensures) (sym c.in-Some-reader.ensures.found)).head (roses_of-roses_list (below w)) in
     let past : length nodes ≤ c.loop-i.i = omega (arith, wire-length c.args.ids.now c.args.node.now, c.nchildren-i-end.ensures, c.loop-i-test.false) in
     let told = all_told s nodes node.children c.loop-i.children c.loop-i.i past same c.loop-i.invariant in
     rw c.from.ensures
-    (caused_by_build s c.in-Err-build.e w (typ c.args.dtype.now) c.args.len node.encoding node.head c.in-Ok-own_buffers.buffers nodes node.children c.loop-i.children c.in-Ok.ensures.read
+    (caused_by_build s (registry_shipped c.args.session.now.arrays x) (registry_lawful c.args.session.now.arrays x) c.in-Err-build.e w (typ c.args.dtype.now) c.args.len c.in-Some-reader.encoding node.head c.in-Ok-own_buffers.buffers nodes node.children c.loop-i.children (c.in-Ok.ensures.read c.args.ids.now (wire-named c.args.ids.now c.args.node.now _ _ c.encoding_id.ensures c.in-Some.ensures) (sym c.in-Some-reader.ensures.found))
     c.in-Ok.ensures.planned (c.in-Ok-own_buffers.ensures.ok c.args.ids.now) (roses_of-roses_list (below w)) told c.in-Err-build.ensures.err)

@@ -22,7 +22,7 @@ invariant-loop-child l = record {
   encodings : (s : SessionMeaning) (more : List (List ℕ)) → l.found.encodings.items
       ≡ l.initial.found.encodings.items ++ gathered_first s (λ h. encoding_index h.id (l.ctx.ids ++ more) ∷ []) l.child-items l.child-index;
   levels : levels_below (roses_of (take l.child-index l.child-items)) ≤ l.room - 1;
-  written : (x : ExtMeaning) → EverywhereBelow (IsWrittenNode (tables_meaning l.arrays x)) (roses_of (take l.child-index l.child-items));
+  written : (x : ExtMeaning) → x.unknown ≡ l.unknown → EverywhereBelow (IsWrittenNode (tables_meaning l.arrays x)) (roses_of (take l.child-index l.child-items));
   messages : EverywhereBelow HasMessage (roses_of (take l.child-index l.child-items));
   grown : (s : SessionMeaning) → grown_by (gathered_first s (λ h. id_in h) l.child-items l.child-index) l.initial.ctx ≡ Some l.ctx;
 }

@@ -1,4 +1,4 @@
-use Rattle.std.proofs.Common.{◌≤◌, ◌-◌, take}
+use Rattle.std.proofs.Common.{◌≡◌, ◌≤◌, ◌-◌, take}
 use Rattle.vx_trees.specs.Everywhere.{EverywhereBelow}
 use Rattle.vx_trees.specs.Rose.{roses_of}
 use Rattle.vx_trees.specs.Walks.{nodes, levels_below}
@@ -13,5 +13,5 @@ decreases-judge l = nodes l.array.now
 abbrev pub invariant-loop-child : goal.invariant-loop-child
 invariant-loop-child l = record {
   levels : levels_below (roses_of (take l.child-index l.child-items)) ≤ l.room - 1;
-  written : (x : ExtMeaning) → EverywhereBelow (IsWrittenNode (tables_meaning l.arrays x)) (roses_of (take l.child-index l.child-items));
+  written : (x : ExtMeaning) → x.unknown ≡ l.unknown → EverywhereBelow (IsWrittenNode (tables_meaning l.arrays x)) (roses_of (take l.child-index l.child-items));
 }

@@ -48,7 +48,7 @@ returns-in-Err-serialize-clause-cause g c =
     let x = ext_meaning (λ b. (goal.ExtPlugin-dyn g (b.vtable, b.value)).accepted b.value) c.args.session.now.ext in
     let asked = request c.args.blob c.args.dtype.now c.args.len c.args.read_ids.now c.args.ctx.now (session_meaning (λ b. (goal.ExtPlugin-dyn g (b.vtable, b.value)).accepted b.value) c.args.session.now) c.args.options.now in
     let spelled = spells asked (registry_shipped c.args.session.now.arrays x) (wire_in c.args.read_ids.now c.in-Ok.serialized) c.in-Ok-decode.array (opened c.args.blob.bytes c.args.read_ids.now c.in-Ok.serialized c.in-Ok.ensures.opened) c.in-Ok-decode.ensures.told in
-    caused_by_writing asked c.in-Err-serialize.e c.in-Ok-decode.array (c.in-Ok-decode.ensures.paired x) spelled c.in-Err-serialize.ensures.cause
+    caused_by_writing asked (registry_shipped c.args.session.now.arrays x) (registry_lawful c.args.session.now.arrays x) c.in-Err-serialize.e c.in-Ok-decode.array (c.in-Ok-decode.ensures.paired x) spelled c.in-Err-serialize.ensures.cause
 
 pub returns-in-Err-serialize-clause-shipped : goal.returns-in-Err-serialize-clause-shipped
 returns-in-Err-serialize-clause-shipped g c = λ shipped.

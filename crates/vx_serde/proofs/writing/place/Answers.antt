@@ -10,9 +10,9 @@ use Rattle.vx_serde.proofs.WholeBlob.{laid_out}
 use Rattle.vx_serde.proofs.writing.place.Goals as goal
 
 pub returns-in_err-gather-clause-refused : goal.returns-in_err-gather-clause-refused
-returns-in_err-gather-clause-refused c = λ x.
+returns-in_err-gather-clause-refused c = λ x u.
     let p = err_from_is_err_and c.from_residual.result c.from_residual.ensures.1 in
-    rw (p.1, p.2) (unplaced_nodes (tables_meaning c.args.arrays.now x) c.args.options.now c.args.array.now c.args.ctx.now c.in_err-gather.field-0.0 (c.in_err-gather.ensures.cause x))
+    rw (p.1, p.2) (unplaced_nodes (tables_meaning c.args.arrays.now x) c.args.options.now c.args.array.now c.args.ctx.now c.in_err-gather.field-0.0 (c.in_err-gather.ensures.cause x u))
 
 pub returns-clause-encodings : goal.returns-clause-encodings
 returns-clause-encodings c = λ s.

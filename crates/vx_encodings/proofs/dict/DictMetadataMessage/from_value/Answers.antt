@@ -1,13 +1,12 @@
 -- A plain value of the form of the message is of its fields.
-use Rattle.std.proofs.Common.{ℕ, ◌≡◌, Bool, Option, option_map, ap, sym, ◌∙◌, Some, arith}
+use Rattle.std.proofs.Common.{◌≡◌, option_map, ap, sym, ◌∙◌, Some, arith}
 use Rattle.vx_types.specs.Numbers.{code_of}
-use Rattle.vx_types.specs.declared.ptype.PType.{PType}
 use Rattle.vx_proto.specs.Parts.{number_in, entries_in}
-use Rattle.vx_proto.specs.Value.{Value, value_view}
+use Rattle.vx_proto.specs.Value.{value_view}
 use Rattle.vx_proto.proofs.LawsOfParts.{whole_read, enum_range, uint32_range}
 use Rattle.vx_encodings.proofs.DictFields.{fields_value, flag_held}
 use Rattle.vx_encodings.proofs.OffsetKinds.{kind_coded}
-use Rattle.vx_encodings.specs.DictMessage.{dict_parts, dict_schema, dict_value, flag_of}
+use Rattle.vx_encodings.specs.DictMessage.{dict_parts, dict_schema, flag_of}
 use Rattle.vx_encodings.proofs.dict.DictMetadataMessage.from_value.Goals as goal
 
 pub unreachable-requires : goal.unreachable-requires

@@ -15,14 +15,14 @@ use Rattle.vx_serde.proofs.array_node.ArrayNodeFlatBuffer.try_write_flatbuffer.G
 use Rattle.vx_serde.proofs.array_node.ArrayNodeFlatBuffer.try_write_flatbuffer.Goals as goal
 
 pub returns-in_err-gather-clause-cause : goal.returns-in_err-gather-clause-cause
-returns-in_err-gather-clause-cause c = λ x.
+returns-in_err-gather-clause-cause c = λ x u.
     let p = err_from_is_err_and c.from_residual.result c.from_residual.ensures.1 in
     let own = c.args.self.now in
     rw (p.1, p.2)
-    (ungathered (tables_meaning own.arrays.now x) own.array.now own.ctx.now c.args.builder.now c.in_err-gather.field-0.0 (c.in_err-gather.ensures.cause x))
+    (ungathered (tables_meaning own.arrays.now x) own.array.now own.ctx.now c.args.builder.now c.in_err-gather.field-0.0 (c.in_err-gather.ensures.cause x u))
 
 pub returns-then-len-gt-MAX_BUFFERS-clause-cause : goal.returns-then-len-gt-MAX_BUFFERS-clause-cause
-returns-then-len-gt-MAX_BUFFERS-clause-cause c = λ x.
+returns-then-len-gt-MAX_BUFFERS-clause-cause c = λ x u.
     let own = c.args.self.now in
     let s = tables_meaning own.arrays.now x in
     let w = wire codec s own.array.now in
@@ -63,7 +63,7 @@ returns-in_err-write_node-clause-kept c = λ x.
     (subst (λ z. IsStopped c.args.builder.now z e c.write_node.new.builder) same (c.in_err-write_node.ensures.stopped s)))
 
 pub returns-in_err-write_node-clause-cause : goal.returns-in_err-write_node-clause-cause
-returns-in_err-write_node-clause-cause c = λ x.
+returns-in_err-write_node-clause-cause c = λ x u.
     let p = err_from_is_err_and c.from_residual-in_err-write_node.result c.from_residual-in_err-write_node.ensures.1 in
     let own = c.args.self.now in
     let s = tables_meaning own.arrays.now x in

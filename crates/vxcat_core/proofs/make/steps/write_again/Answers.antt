@@ -1,18 +1,7 @@
-use Rattle.std.proofs.Common.{refl}
-use Rattle.vx_types.specs.Seen.{typ}
-use Rattle.vxcat_core.proofs.MakeSteps.{again_can, again_written}
+use Rattle.std.proofs.Common.{false}
+use Rattle.vxcat_core.proofs.Recodings.{same_session}
 use Rattle.vxcat_core.proofs.make.steps.write_again.Goals as goal
 
-pub returns-clause-again : goal.returns-clause-again
-returns-clause-again c =
-    let written = c.in-Ok.written in
-    again_written c.args.array.now c.requires written c.in-Ok.ensures.written written.blob.bytes (typ c.dtype.result.now) c.len.result c.new-read.result c.empty.result c.serialize_options.result
-    refl c.dtype.ensures.dtype c.len.ensures.len c.new-read.ensures (λ k. record { ids = c.empty.ensures.ids k; allowed = c.empty.ensures.allowed k }) c.serialize_options.ensures
-    c.recode_buffer.result c.recode_buffer.ensures.made
-
-pub returns-clause-memory : goal.returns-clause-memory
-returns-clause-memory c =
-    let written = c.in-Ok.written in
-    c.recode_buffer.ensures.complete
-    (again_can c.args.array.now c.requires written c.in-Ok.ensures.written written.blob.bytes (typ c.dtype.result.now) c.len.result c.new-read.result c.empty.result c.serialize_options.result
-    refl c.dtype.ensures.dtype c.len.ensures.len c.new-read.ensures (λ k. record { ids = c.empty.ensures.ids k; allowed = c.empty.ensures.allowed k }) c.serialize_options.ensures)
+pub write_under-requires-clause-session : goal.write_under-requires-clause-session
+write_under-requires-clause-session c =
+    same_session _ c.new-session.result c.in-Ok.arrays c.new.result false c.new-session.ensures.arrays c.new-session.ensures.ext c.in-Ok.ensures.shipped c.new.ensures

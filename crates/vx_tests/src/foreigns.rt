@@ -1,0 +1,482 @@
+//! The program, run on nodes of identifiers that nothing reads, and on extensions without readers.
+
+use crate::flag_files::{NULLABLE_BLOB, NULLABLE_TYPE};
+use crate::integers::files;
+use crate::nested::{blob_of, mapped};
+use crate::program::{
+    Files, WORDS, ends_on, refuses, refuses_changed, saves, saves_the_same, with_bytes,
+};
+use std::alloc::{AllocError, Global};
+use vx_arrays::{Array, ArrayError, PrimitiveArray};
+use vx_buffer::{BufferHandle, ByteBuffer};
+use vx_nested_parts::parts::{
+    Made, There, both, bytes, dicts, extensions, flags, lists, nulls, structs, two, unions, views,
+};
+use vx_registry::ArrayContext;
+use vx_serde_tests::files::{BLOB, EXTENSION_TYPE, IDS, NULL_TYPE, PADDED_BLOB, TYPE};
+use vx_type_wire::DTypeExt;
+use vx_types::{DType, Ids, Nullability, PType};
+
+/// The words of `recode` at four rows, where what is unknown is allowed.
+const ALLOWING: [&str; 8] = ["recode", "t", "b", "4", "i", "o", "j", "--unknown"];
+
+// The blob of a node of the metadata aa, without buffers, over the node of 1, 2, 3, 4.
+const ROOT_BLOB: [u8; 240] = [
+    1, 0, 0, 0, 2, 0, 0, 0, 3, 0, 0, 0, 4, 0, 0, 0, 16, 0, 0, 0, 0, 0, 0, 0, 8, 0, 12, 0, 4, 0, 8,
+    0, 8, 0, 0, 0, 28, 0, 0, 0, 184, 0, 0, 0, 0, 0, 0, 0, 14, 0, 20, 0, 0, 0, 4, 0, 8, 0, 12, 0,
+    16, 0, 0, 0, 16, 0, 0, 0, 20, 0, 0, 0, 24, 0, 0, 0, 132, 0, 0, 0, 136, 0, 0, 0, 0, 0, 0, 0, 1,
+    0, 0, 0, 170, 0, 0, 0, 1, 0, 0, 0, 20, 0, 0, 0, 14, 0, 24, 0, 4, 0, 8, 0, 12, 0, 16, 0, 20, 0,
+    0, 0, 16, 0, 0, 0, 1, 0, 0, 0, 16, 0, 0, 0, 20, 0, 0, 0, 24, 0, 0, 0, 60, 0, 0, 0, 0, 0, 0, 0,
+    0, 0, 0, 0, 0, 0, 0, 0, 0, 0, 0, 0, 1, 0, 0, 0, 0, 0, 0, 0, 26, 0, 4, 0, 0, 0, 0, 0, 0, 0, 0,
+    0, 0, 0, 0, 0, 0, 0, 0, 0, 0, 0, 0, 0, 0, 0, 0, 0, 0, 0, 0, 0, 32, 0, 0, 0, 0, 0, 0, 0, 0, 0,
+    0, 0, 0, 0, 0, 0, 48, 0, 0, 0, 0, 0, 0, 0, 1, 0, 0, 0, 0, 0, 2, 0, 16, 0, 0, 0, 220, 0, 0, 0,
+];
+
+// That blob at the type of the numbers.
+fn rooted(ids: &str) -> Files<'_> {
+    Files {
+        dtype: &TYPE,
+        blob: &ROOT_BLOB,
+        ids,
+    }
+}
+
+const OVER_NUMBERS: &str = "x.y len=4 buffers=[]
+  vortex.primitive len=4 buffers=[16]
+0: ?
+1: ?
+2: ?
+3: ?
+";
+
+const OVER_NULLS: &str = "x.y len=4 buffers=[]
+  vortex.null len=4 buffers=[16]
+0: ?
+1: ?
+2: ?
+3: ?
+";
+
+const OVER_UNKNOWN: &str = "x.y len=4 buffers=[]
+  x.z len=4 buffers=[16]
+0: ?
+1: ?
+2: ?
+3: ?
+";
+
+// The identifiers of the root and of the node below it, and the listing: below a foreign node identifiers are free.
+const ROOTS: [(&str, &str); 3] = [
+    ("x.y\nvortex.primitive\n", OVER_NUMBERS),
+    ("x.y\nvortex.null\n", OVER_NULLS),
+    ("x.y\nx.z\n", OVER_UNKNOWN),
+];
+
+#[test]
+fn an_unknown_root_is_kept_whole(rt: HostRuntime) {
+    for (ids, text) in &ROOTS {
+        assert!(rt;
+            saves_the_same(rt.alloc(), &ALLOWING, &rooted(ids), text),
+            "{ids}"
+        );
+        assert!(rt; refuses(rt.alloc(), &WORDS, &rooted(ids), 17), "{ids}");
+    }
+}
+
+// Numbers that may be null, under an identifier of their validity that nothing reads.
+fn with_unknown_validity() -> Files<'static> {
+    Files {
+        dtype: &NULLABLE_TYPE,
+        blob: &NULLABLE_BLOB,
+        ids: "vortex.primitive\nx.y\n",
+    }
+}
+
+#[test]
+fn an_unknown_validity_is_refused(rt: HostRuntime) {
+    assert!(rt; refuses(rt.alloc(), &ALLOWING, &with_unknown_validity(), 21));
+    assert!(rt; refuses(rt.alloc(), &WORDS, &with_unknown_validity(), 17));
+}
+
+const AMONG_OTHERS: [&str; 12] = [
+    "recode",
+    "t",
+    "b",
+    "4",
+    "i",
+    "o",
+    "j",
+    "--rows",
+    "1",
+    "--unknown",
+    "--pad",
+    "3",
+];
+
+const OF_THAT_NAME: [&str; 9] = [
+    "recode",
+    "t",
+    "b",
+    "4",
+    "i",
+    "o",
+    "j",
+    "--allow",
+    "--unknown",
+];
+
+const FIRST_ROW: &str = "x.y len=4 buffers=[16]\n0: ?\n";
+
+const FOUR_ROWS: &str = "x.y len=4 buffers=[16]\n0: ?\n1: ?\n2: ?\n3: ?\n";
+
+// The option stands anywhere among the others, and behind `--allow` it is the name of a file.
+#[test]
+fn the_option_stands_among_others(rt: HostRuntime) {
+    let saved = (PADDED_BLOB.as_slice(), "x.y\n");
+    assert!(rt; saves(rt.alloc(), &AMONG_OTHERS, &files("x.y"), saved, FIRST_ROW));
+    assert!(rt; refuses(rt.alloc(), &OF_THAT_NAME, &files("x.y"), 3));
+}
+
+// A least value of no bytes stands among the statistics.
+const ILL_FORMED: [(usize, u8); 1] = [(116, 4)];
+
+// Whether the blob with these statistics is kept under an unknown identifier, and the statistics are dropped.
+fn drops_statistics(alloc: Global) -> bool {
+    match with_bytes(alloc, &BLOB, &ILL_FORMED) {
+        Ok(blob) => {
+            let files = Files {
+                dtype: &TYPE,
+                blob: blob.as_slice(),
+                ids: "x.y\n",
+            };
+            saves(alloc, &ALLOWING, &files, (&BLOB, "x.y\n"), FOUR_ROWS)
+        }
+        Err(_) => false,
+    }
+}
+
+#[test]
+fn statistics_of_a_foreign_node_are_skipped(rt: HostRuntime) {
+    assert!(rt; refuses_changed(rt.alloc(), &ALLOWING, &files(IDS), &ILL_FORMED, 22));
+    assert!(rt; drops_statistics(rt.alloc()));
+}
+
+// The numbers at the type of an extension without a reader.
+fn extended(ids: &str) -> Files<'_> {
+    Files {
+        dtype: &EXTENSION_TYPE,
+        blob: &BLOB,
+        ids,
+    }
+}
+
+// The type is read: numbers are of the wrong shape for it, and a foreign node may be of any type.
+#[test]
+fn an_unknown_extension_is_allowed(rt: HostRuntime) {
+    assert!(rt; refuses(rt.alloc(), &WORDS, &extended("x.y\n"), 6));
+    assert!(rt; refuses(rt.alloc(), &ALLOWING, &extended(IDS), 19));
+    assert!(rt; saves_the_same(rt.alloc(), &ALLOWING, &extended("x.y\n"), FOUR_ROWS));
+}
+
+// The place of the root table, the field table of an array and its table, whose root follows.
+const FRONT: [u8; 18] = [10, 0, 0, 0, 6, 0, 8, 0, 4, 0, 6, 0, 0, 0, 14, 0, 0, 0];
+
+// A node's field table, and the node with the one below it as its only child.
+const LEVEL: [u8; 26] = [
+    10, 0, 8, 0, 0, 0, 0, 0, 4, 0, 10, 0, 0, 0, 4, 0, 0, 0, 1, 0, 0, 0, 14, 0, 0, 0,
+];
+
+// The lowest node, which holds nothing.
+const LAST: [u8; 14] = [0, 0, 0, 0, 0, 0, 4, 0, 4, 0, 4, 0, 0, 0];
+
+// The blob of a chain of so many nodes, without statistics, whose message has this length.
+fn chain(alloc: Global, levels: usize, len: &[u8]) -> Result<Vec<u8>, AllocError> {
+    let mut blob = Vec::from_slice(alloc, &FRONT)?;
+    for _ in 1..levels {
+        blob.extend_from_slice(&LEVEL)?;
+    }
+    blob.extend_from_slice(&LAST)?;
+    blob.extend_from_slice(len)?;
+    Ok(blob)
+}
+
+const NO_ROWS: [&str; 10] = [
+    "recode",
+    "t",
+    "b",
+    "4",
+    "i",
+    "o",
+    "j",
+    "--unknown",
+    "--rows",
+    "0",
+];
+
+// Whether the program ends so on a chain of foreign nodes.
+fn ends_chain(alloc: Global, levels: usize, len: &[u8], status: u8) -> bool {
+    match chain(alloc, levels, len) {
+        Ok(blob) => {
+            let files = Files {
+                dtype: &NULL_TYPE,
+                blob: blob.as_slice(),
+                ids: "x.y\n",
+            };
+            ends_on(alloc, &NO_ROWS, &files, status)
+        }
+        Err(_) => false,
+    }
+}
+
+// How many levels a chain has, the length of its message, and the status: with the message 64 tables may be nested, and
+// what is written has statistics, too.
+const CHAINS: [(usize, [u8; 4], u8); 3] = [
+    (62, [82, 6, 0, 0], 0),
+    (63, [108, 6, 0, 0], 24),
+    (64, [134, 6, 0, 0], 12),
+];
+
+#[test]
+fn a_chain_of_62_foreign_nodes_is_written(rt: HostRuntime) {
+    for (levels, len, status) in &CHAINS {
+        assert!(rt; ends_chain(rt.alloc(), *levels, len, *status), "{levels}");
+    }
+}
+
+// Arrays of which one identifier is read by nothing.
+#[derive(Clone, Copy, Debug)]
+enum Outer {
+    // Structures of a flag and a number.
+    Struct,
+    // Lists of a flag, parted by offsets.
+    Lists,
+    // Lists of a flag, with offsets and with sizes that codes name.
+    Views,
+    // Unions of a flag and a null.
+    Unions,
+    // Flags that codes name.
+    Flags,
+    // A map from 1 to a.
+    Map,
+    // Extensions that are stored as flags.
+    Extensions,
+    // Numbers, there by flags that codes name.
+    Numbers,
+}
+
+// True and false.
+fn pair(alloc: Global) -> Made {
+    flags(alloc, 0b01, 2)
+}
+
+// The same by codes.
+fn named(alloc: Global) -> Made {
+    dicts(alloc, bytes(alloc, &[0, 1]), pair(alloc))
+}
+
+// Sizes of one, by codes.
+fn sizes(alloc: Global) -> Made {
+    dicts(alloc, bytes(alloc, &[0, 0]), bytes(alloc, &[1]))
+}
+
+// Structures of those flags and two numbers.
+fn records(alloc: Global) -> Made {
+    let types = two(alloc, pair(alloc), bytes(alloc, &[7, 8]));
+    let columns = two(alloc, pair(alloc), bytes(alloc, &[7, 8]));
+    structs(alloc, &["a", "b"], types, columns, 2, There::Always)
+}
+
+// Unions of a flag and a null.
+fn united(alloc: Global) -> Made {
+    let types = two(alloc, pair(alloc), nulls(alloc, 2));
+    let members = two(alloc, pair(alloc), nulls(alloc, 2));
+    unions(alloc, &[0, 5], types, bytes(alloc, &[0, 5]), members)
+}
+
+// Two bytes, as the values of numbers.
+fn values(alloc: Global) -> Result<BufferHandle, ArrayError> {
+    let buffer = ByteBuffer::copy_from(alloc, &[7, 8])?;
+    Ok(BufferHandle::new_host(buffer))
+}
+
+// Numbers of which the first is there.
+fn numbers(alloc: Global) -> Made {
+    let (values, validity) = both(values(alloc), named(alloc))?;
+    let there = Nullability::Nullable;
+    PrimitiveArray::try_new(alloc, values, PType::U8, there, 2, Some(validity))
+}
+
+// An array.
+fn made(alloc: Global, outer: Outer) -> Made {
+    match outer {
+        Outer::Struct => records(alloc),
+        Outer::Lists => lists(alloc, pair(alloc), bytes(alloc, &[0, 1, 2]), There::Always),
+        Outer::Views => views(
+            alloc,
+            pair(alloc),
+            bytes(alloc, &[0, 1]),
+            sizes(alloc),
+            There::Always,
+        ),
+        Outer::Unions => united(alloc),
+        Outer::Flags => named(alloc),
+        Outer::Map => mapped(alloc),
+        Outer::Extensions => extensions(alloc, pair(alloc), pair(alloc)),
+        Outer::Numbers => numbers(alloc),
+    }
+}
+
+const STRUCT: &str = "vortex.struct len=2 buffers=[]
+  x.y len=2 buffers=[1]
+  vortex.primitive len=2 buffers=[2]
+0: {?, 7}
+1: {?, 8}
+";
+
+const LISTS: &str = "vortex.list len=2 buffers=[]
+  x.y len=2 buffers=[1]
+  vortex.primitive len=3 buffers=[3]
+0: [?]
+1: [?]
+";
+
+const UNIONS: &str = "vortex.union len=2 buffers=[]
+  vortex.primitive len=2 buffers=[2]
+  x.y len=2 buffers=[1]
+  vortex.null len=2 buffers=[]
+0: #0(?)
+1: #5(null)
+";
+
+const FLAGS: &str = "vortex.dict len=2 buffers=[]
+  vortex.primitive len=2 buffers=[2]
+  x.y len=2 buffers=[1]
+0: ?
+1: ?
+";
+
+// The nodes below a foreign one have its length.
+const MAP: &str = "vortex.map len=1 buffers=[]
+  vortex.listview len=1 buffers=[]
+    x.y len=1 buffers=[]
+      vortex.primitive len=1 buffers=[4]
+      vortex.varbin len=1 buffers=[1]
+        vortex.primitive len=1 buffers=[2]
+    vortex.primitive len=1 buffers=[1]
+    vortex.primitive len=1 buffers=[1]
+0: {?}
+";
+
+const EXTENSIONS: &str = "vortex.ext len=2 buffers=[]
+  x.y len=2 buffers=[1]
+0: ?
+1: ?
+";
+
+// An array, the identifier in whose place one stands that nothing reads, how many rows there are, and how they are
+// listed; none where this identifier is that of what says where the rows are.
+const PLACES: [(Outer, &str, &str, Option<&str>); 14] = [
+    (Outer::Struct, "vortex.bool", "2", Some(STRUCT)),
+    (Outer::Lists, "vortex.bool", "2", Some(LISTS)),
+    (Outer::Unions, "vortex.bool", "2", Some(UNIONS)),
+    (Outer::Flags, "vortex.bool", "2", Some(FLAGS)),
+    (Outer::Map, "vortex.struct", "1", Some(MAP)),
+    (Outer::Extensions, "vortex.bool", "2", Some(EXTENSIONS)),
+    (Outer::Lists, "vortex.primitive", "2", None),
+    (Outer::Views, "vortex.primitive", "2", None),
+    (Outer::Views, "vortex.dict", "2", None),
+    (Outer::Unions, "vortex.primitive", "2", None),
+    (Outer::Flags, "vortex.primitive", "2", None),
+    (Outer::Map, "vortex.listview", "1", None),
+    (Outer::Numbers, "vortex.dict", "2", None),
+    (Outer::Numbers, "vortex.bool", "2", None),
+];
+
+// The identifier, or x.y in the place of that one.
+fn renamed<'a>(id: &'a str, unread: &str) -> &'a str {
+    if id == unread { "x.y" } else { id }
+}
+
+// A line for each identifier, and x.y in the place of one.
+fn lines_without(alloc: Global, ids: &Ids, unread: &str) -> Result<String, AllocError> {
+    let mut lines = String::new(alloc);
+    for id in ids.as_slice() {
+        lines.push_str(renamed(id.as_str(), unread))?;
+        lines.push_str("\n")?;
+    }
+    Ok(lines)
+}
+
+// Whether a blob at a type is kept as it was by the program, under these identifiers, and listed so, or is refused.
+fn is_kept(
+    alloc: Global,
+    dtype: &DType,
+    blob: &[u8],
+    ids: &str,
+    row: &(Outer, &str, &str, Option<&str>),
+) -> bool {
+    let words = ["recode", "t", "b", row.2, "i", "o", "j", "--unknown"];
+    match dtype.write_flatbuffer_bytes(alloc) {
+        Ok(message) => {
+            let dtype = message.as_slice();
+            let files = Files { dtype, blob, ids };
+            match row.3 {
+                Some(text) => saves_the_same(alloc, &words, &files, text),
+                None => refuses(alloc, &words, &files, 21),
+            }
+        }
+        Err(_) => false,
+    }
+}
+
+// The same under a list of identifiers, one of them unread.
+fn is_kept_under(
+    alloc: Global,
+    dtype: &DType,
+    blob: &[u8],
+    ids: &Ids,
+    row: &(Outer, &str, &str, Option<&str>),
+) -> bool {
+    match lines_without(alloc, ids, row.1) {
+        Ok(lines) => is_kept(alloc, dtype, blob, lines.as_str(), row),
+        Err(_) => false,
+    }
+}
+
+// The same under the identifiers of a context.
+fn is_kept_by(
+    alloc: Global,
+    dtype: &DType,
+    blob: &[u8],
+    ctx: &ArrayContext,
+    row: &(Outer, &str, &str, Option<&str>),
+) -> bool {
+    match ctx.to_ids(alloc) {
+        Ok(ids) => is_kept_under(alloc, dtype, blob, &ids, row),
+        Err(_) => false,
+    }
+}
+
+// The same of an array's blob.
+fn is_kept_of(alloc: Global, array: &Array, row: &(Outer, &str, &str, Option<&str>)) -> bool {
+    let mut ctx = ArrayContext::empty(alloc);
+    match blob_of(alloc, array, &mut ctx) {
+        Ok(blob) => is_kept_by(alloc, array.dtype(), blob.as_slice(), &ctx, row),
+        Err(_) => false,
+    }
+}
+
+// The same of an array, once it is made.
+fn are_kept(alloc: Global, row: &(Outer, &str, &str, Option<&str>)) -> bool {
+    match made(alloc, row.0) {
+        Ok(array) => is_kept_of(alloc, &array, row),
+        Err(_) => false,
+    }
+}
+
+#[test]
+fn foreign_nodes_stand_where_no_rows_go_by_them(rt: HostRuntime) {
+    for row in &PLACES {
+        assert!(rt; are_kept(rt.alloc(), row), "{row:?}");
+    }
+}
