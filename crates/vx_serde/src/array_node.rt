@@ -75,8 +75,9 @@ impl<'a> ArrayNodeFlatBuffer<'a> {
     /// # Errors
     /// `NotPermitted` where the context does not take an identifier, `WireLimit` where the array passes a limit on
     /// writing or the builder's message would be too long or was before, and `NotRegistered` where nothing writes the
-    /// arrays of a node's encoding, or a node is foreign and such nodes are not allowed. After each of them the context keeps what it had and may have taken identifiers of
-    /// the array, and the builder keeps the blocks that it has and those that were written so far.
+    /// arrays of a node's encoding, or a node is foreign and such nodes are not allowed. After each of them the context
+    /// keeps what it had and may have taken identifiers of the array, and the builder keeps the blocks that it has and
+    /// those that were written so far.
     pub fn try_write_flatbuffer(
         &mut self,
         alloc: Global,

@@ -38,8 +38,8 @@ impl ArrayExt for Array {
     /// # Errors
     /// `NotPermitted` where the context does not take an identifier, `WireLimit` where the array
     /// passes a limit on writing, and `NotRegistered` where nothing writes the arrays of a node's
-    /// encoding, or a node is foreign and the session does not allow such nodes. After each of them the context keeps what it had, and may have taken identifiers
-    /// of the array.
+    /// encoding, or a node is foreign and the session does not allow such nodes. After each of them
+    /// the context keeps what it had, and may have taken identifiers of the array.
     fn serialize(
         &self,
         alloc: Global,
