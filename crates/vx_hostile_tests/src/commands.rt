@@ -18,10 +18,10 @@ fn status_at(command: &Command<'_>, call: u64) -> u8 {
     }
 }
 
-// How many of the outputs are saved by then.
-fn saved_at(command: &Command<'_>, call: u64) -> usize {
+// The outputs that are saved by then.
+fn saved_at<'a>(command: &Command<'a>, call: u64) -> &'a [&'a str] {
     let saved = call.saturating_sub(command.loads).saturating_sub(1) as usize;
-    saved.min(command.saves.len())
+    &command.saves[..saved.min(command.saves.len())]
 }
 
 // Whether the program saves and prints all over a store of which no call fails.
@@ -44,7 +44,7 @@ fn fails_at(alloc: Global, command: &Command<'_>, call: u64) -> Result<bool, Sto
     let mut done = store_of(alloc, &FILES)?;
     let mut store = store_of(alloc, &FILES)?;
     store.fail_call(call)?;
-    let saved = &command.saves[..saved_at(command, call)];
+    let saved = saved_at(command, call);
     Ok(
         is_done(alloc, command, &mut done)
             && ends(alloc, command, &mut store, status_at(command, call))
@@ -94,7 +94,7 @@ fn each_write_fails(alloc: Global, command: &Command<'_>) -> Result<bool, StoreE
         return Ok(false);
     }
     for fifth in 0..command.text.len() / 5 {
-        if !is_cut_at(alloc, command, &done, fifth * 5)? {
+        if !is_cut_at(alloc, command, &done, fifth.saturating_mul(5))? {
             return Ok(false);
         }
     }
