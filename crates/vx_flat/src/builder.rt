@@ -1,7 +1,7 @@
 //! A message that is written block by block.
 
 ghost use Rattle.std.specs.Prelude.{◌≡◌, [], ◌<◌, ◌≤◌, ◌^◌, true, false, length, None};
-ghost use Rattle.std.specs.Prelude.{IfOk, IfErr, OnOk, OnErr, IsOk, IsErrOf, ◌∷◌};
+ghost use Rattle.std.specs.Prelude.{IfOk, IfErr, OnOk, OnErr, IsOk, IsOkUnless, IsErrOf, ◌∷◌};
 ghost use Rattle.vx_flat.specs.Schema.{Schema};
 ghost use Rattle.vx_flat.specs.Value.{Fields};
 ghost use Rattle.vx_flat.specs.IsOf.{IsOf};
@@ -85,13 +85,32 @@ impl Builder {
         Builder::sharing(alloc, true)
     }
 
+    /// A message without a block, with room for so many bytes. A longer one takes more.
+    ///
+    /// A message that grows from nothing leaves behind, in the heap, each room that became too small.
+    pub fn with_room(alloc: Global, room: usize) -> Result<Builder, FlatError>
+        ensures ok { IfOk result (λ b. b ≡ nothing_built) }
+        ensures err { IsOkUnless result FlatError.OutOfMemory }
+    {
+        let bytes = Vec::with_capacity(alloc, room)?;
+        Ok(Builder::over(alloc, bytes, true))
+    }
+
     /// A message without a block, of which equal field tables are shared or not.
     pub(crate) fn sharing(alloc: Global, shares: bool) -> Builder
         ensures { result ≡ nothing_by shares }
     {
+        Builder::over(alloc, Vec::new(alloc), shares)
+    }
+
+    // A message without a block, over an empty list of bytes.
+    fn over(alloc: Global, bytes: Vec<u8>, shares: bool) -> Builder
+        requires { bytes.items ≡ [] }
+        ensures { result ≡ nothing_by shares }
+    {
         Builder {
             alloc,
-            message: Message::new(alloc),
+            message: Message::new(alloc, bytes),
             known: FieldTables::new(alloc),
             shares,
             failed: false,
