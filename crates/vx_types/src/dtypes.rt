@@ -65,6 +65,16 @@ impl DTypes {
         }
     }
 
+    /// No type, with room for so many. A longer list takes more.
+    pub fn with_room(alloc: Global, room: usize) -> Result<DTypes, TypeError>
+        ensures ok { IfOk result (λ types. types ≡ []) }
+        ensures err { IsOkUnless result TypeError.OutOfMemory }
+    {
+        let types = TypeList::with_room(alloc, room)?;
+        let held = HeldTypes::Types(Box::new(alloc, types)?);
+        Ok(DTypes { held, alloc })
+    }
+
     /// How many types there are.
     pub fn len(&self) -> usize
         ensures len { result ≡ length self.now }
@@ -152,6 +162,7 @@ fn first(alloc: Global, dtype: DType) -> Result<Box<TypeList>, TypeError>
     ensures ok { IfOk result (λ b. b.value ≡ typ dtype ∷ []) }
     ensures err { IsOkUnless result TypeError.OutOfMemory }
 {
-    let types = TypeList::of(alloc, dtype)?;
+    let mut types = TypeList::with_room(alloc, 1)?;
+    types.push(dtype)?;
     Ok(Box::new(alloc, types)?)
 }

@@ -50,6 +50,16 @@ impl Names {
         }
     }
 
+    /// No name, with room for so many. A longer list takes more.
+    pub fn with_room(alloc: Global, room: usize) -> Result<Names, TypeError>
+        ensures ok { IfOk result (λ names. names ≡ []) }
+        ensures err { IsOkUnless result TypeError.OutOfMemory }
+    {
+        let names = Vec::with_capacity(alloc, room)?;
+        let held = HeldNames::Names(Box::new(alloc, names)?);
+        Ok(Names { held, alloc })
+    }
+
     /// How many names there are.
     pub fn len(&self) -> usize
         ensures len { result ≡ length self.now }

@@ -48,15 +48,13 @@ impl Model for TypeList {
 }
 
 impl TypeList {
-    /// This type alone, with room for no other.
-    pub(crate) fn of(alloc: Global, dtype: DType) -> Result<TypeList, TypeError>
-        ensures ok { IfOk result (λ types. types ≡ typ dtype ∷ []) }
+    /// No type, with room for so many.
+    pub(crate) fn with_room(alloc: Global, room: usize) -> Result<TypeList, TypeError>
+        ensures ok { IfOk result (λ types. types ≡ []) }
         ensures err { IsOkUnless result TypeError.OutOfMemory }
     {
-        let depth = dtype.levels();
-        let mut items = Vec::with_capacity(alloc, 1)?;
-        items.push(dtype)?;
-        Ok(TypeList { items, depth })
+        let items = Vec::with_capacity(alloc, room)?;
+        Ok(TypeList { items, depth: 0 })
     }
 
     /// How many types there are.
