@@ -35,14 +35,6 @@ impl ByteBuffers {
         }
     }
 
-    /// The empty list, with room for so many buffers. A longer one takes more.
-    pub fn with_room(alloc: Global, room: usize) -> Result<ByteBuffers, BufferError>
-        ensures { IfOk result (λ b. b ≡ []) }
-    {
-        let items = Vec::with_capacity(alloc, room)?;
-        Ok(ByteBuffers { items })
-    }
-
     /// One more buffer at the end. `OutOfMemory` where there is no memory for it: the list stays as it was,
     /// and the buffer is dropped.
     pub fn push(&mut self, buffer: ByteBuffer) -> Result<(), BufferError>

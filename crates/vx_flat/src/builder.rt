@@ -1,7 +1,7 @@
 //! A message that is written block by block.
 
 ghost use Rattle.std.specs.Prelude.{◌≡◌, [], ◌<◌, ◌≤◌, ◌^◌, true, false, length, None};
-ghost use Rattle.std.specs.Prelude.{IfOk, IfErr, OnOk, OnErr, IsOk, IsOkUnless, IsErrOf, ◌∷◌};
+ghost use Rattle.std.specs.Prelude.{IfOk, IfErr, OnOk, OnErr, IsOk, IsErrOf, ◌∷◌};
 ghost use Rattle.vx_flat.specs.Schema.{Schema};
 ghost use Rattle.vx_flat.specs.Value.{Fields};
 ghost use Rattle.vx_flat.specs.IsOf.{IsOf};
@@ -85,15 +85,12 @@ impl Builder {
         Builder::sharing(alloc, true)
     }
 
-    /// A message without a block, with room for so many bytes. A longer one takes more.
-    ///
-    /// A message that grows from nothing leaves behind, in the heap, each room that became too small.
-    pub fn with_room(alloc: Global, room: usize) -> Result<Builder, FlatError>
-        ensures ok { IfOk result (λ b. b ≡ nothing_built) }
-        ensures err { IsOkUnless result FlatError.OutOfMemory }
+    /// A message without a block, with room for so many bytes where there is memory for them at
+    /// once. A message that grows from nothing leaves in the heap each room that became too small.
+    pub fn with_room(alloc: Global, room: usize) -> Builder
+        ensures { result ≡ nothing_built }
     {
-        let bytes = Vec::with_capacity(alloc, room)?;
-        Ok(Builder::over(alloc, bytes, true))
+        Builder::over(alloc, no_bytes(alloc, room), true)
     }
 
     /// A message without a block, of which equal field tables are shared or not.
@@ -354,5 +351,15 @@ impl Builder {
         }
         let Message { bytes, .. } = message;
         Ok(FlatBuffer::new(bytes))
+    }
+}
+
+// No bytes, with room for so many where there is memory for them.
+fn no_bytes(alloc: Global, room: usize) -> Vec<u8>
+    ensures { result.items ≡ [] }
+{
+    match Vec::with_capacity(alloc, room) {
+        Ok(bytes) => bytes,
+        Err(_) => Vec::new(alloc),
     }
 }

@@ -44,6 +44,9 @@ use vx_buffer::{BufferError, ByteBuffer, ByteBuffers};
 use vx_flat::{Builder, FlatBuffer, FlatError, LinkKind, verify_uncounted};
 use vx_registry::{ArrayContext, ArraySession};
 
+// A little more than the bytes of a message that come with a node of one buffer.
+const NODE_ROOM: usize = 80;
+
 /// The buffers of a blob: the first is empty and has the greatest alignment.
 fn blob_buffers(
     alloc: Global,
@@ -134,7 +137,8 @@ fn write_message(
     if encodings.len() > MAX_NODES {
         return Err(WireError::WireLimit);
     }
-    let mut builder = Builder::new(alloc);
+    let room = (encodings.len() * NODE_ROOM).saturating_add(descriptors.len());
+    let mut builder = Builder::with_room(alloc, room);
     write_blocks(alloc, array, encodings, descriptors, &mut builder)?;
     let message = match builder.finish(alloc) {
         Ok(message) => message,

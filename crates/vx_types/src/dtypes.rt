@@ -65,14 +65,17 @@ impl DTypes {
         }
     }
 
-    /// No type, with room for so many. A longer list takes more.
-    pub fn with_room(alloc: Global, room: usize) -> Result<DTypes, TypeError>
-        ensures ok { IfOk result (λ types. types ≡ []) }
-        ensures err { IsOkUnless result TypeError.OutOfMemory }
+    /// No type, with room for so many where there is memory for them at once.
+    pub fn with_room(alloc: Global, room: usize) -> DTypes
+        ensures { result ≡ [] }
     {
-        let types = TypeList::with_room(alloc, room)?;
-        let held = HeldTypes::Types(Box::new(alloc, types)?);
-        Ok(DTypes { held, alloc })
+        match none(alloc, room) {
+            Ok(types) => DTypes {
+                held: HeldTypes::Types(types),
+                alloc,
+            },
+            Err(_) => DTypes::new(alloc),
+        }
     }
 
     /// How many types there are.
@@ -155,6 +158,15 @@ impl DTypes {
             HeldTypes::Types(types) => types.levels(),
         }
     }
+}
+
+// A list of no type, with room for so many, behind a pointer.
+fn none(alloc: Global, room: usize) -> Result<Box<TypeList>, TypeError>
+    ensures ok { IfOk result (λ b. b.value ≡ []) }
+    ensures err { IsOkUnless result TypeError.OutOfMemory }
+{
+    let types = TypeList::with_room(alloc, room)?;
+    Ok(Box::new(alloc, types)?)
 }
 
 // A list of this type alone, behind a pointer.

@@ -50,14 +50,17 @@ impl Names {
         }
     }
 
-    /// No name, with room for so many. A longer list takes more.
-    pub fn with_room(alloc: Global, room: usize) -> Result<Names, TypeError>
-        ensures ok { IfOk result (λ names. names ≡ []) }
-        ensures err { IsOkUnless result TypeError.OutOfMemory }
+    /// No name, with room for so many where there is memory for them at once.
+    pub fn with_room(alloc: Global, room: usize) -> Names
+        ensures { result ≡ [] }
     {
-        let names = Vec::with_capacity(alloc, room)?;
-        let held = HeldNames::Names(Box::new(alloc, names)?);
-        Ok(Names { held, alloc })
+        match none(alloc, room) {
+            Ok(names) => Names {
+                held: HeldNames::Names(names),
+                alloc,
+            },
+            Err(_) => Names::new(alloc),
+        }
     }
 
     /// How many names there are.
@@ -142,6 +145,15 @@ fn hold(held: &mut HeldNames, alloc: Global, name: Name) -> Result<(), TypeError
             Ok(())
         }
     }
+}
+
+// A list of no name, with room for so many, behind a pointer.
+fn none(alloc: Global, room: usize) -> Result<Box<Vec<Name>>, TypeError>
+    ensures ok { IfOk result (λ b. b.value.items ≡ []) }
+    ensures err { IsOkUnless result TypeError.OutOfMemory }
+{
+    let names = Vec::with_capacity(alloc, room)?;
+    Ok(Box::new(alloc, names)?)
 }
 
 // A list of one name, with room for no more.
