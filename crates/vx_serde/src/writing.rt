@@ -204,6 +204,8 @@ pub(crate) fn write_array(
 {
     let (found, placed) = place(alloc, array, arrays, unknown, ctx, options)?;
     let message = write_message(alloc, array, &found.encodings, &placed.descriptors)?;
+    // The message has the descriptors, and the list of buffers takes their room.
+    drop(placed.descriptors);
     let padding = pad_at(options, 3, placed.end);
     if !has_end(placed.end, padding, message.len()) {
         return Err(WireError::WireLimit);
