@@ -47,6 +47,9 @@ use vx_registry::{ArrayContext, ArraySession};
 // A little more than the bytes of a message that come with a node of one buffer.
 const NODE_ROOM: usize = 80;
 
+// What a blob has beside its data buffers and the pads in front of these: an empty buffer, a pad, its message and the length.
+const PARTS_BESIDE: usize = 4;
+
 /// The buffers of a blob: the first is empty and has the greatest alignment.
 fn blob_buffers(
     alloc: Global,
@@ -62,7 +65,7 @@ fn blob_buffers(
         ++ (pad_buffers padding ++ (unaligned message.items ∷ unaligned (to_le_bytes w32 (length message.items)) ∷ [])))) }
 {
     let word = Vec::from_slice(alloc, &(message.len() as u32).to_le_bytes())?;
-    let mut out = ByteBuffers::new(alloc);
+    let mut out = ByteBuffers::with_room(alloc, buffers.len().saturating_add(PARTS_BESIDE));
     out.push(ByteBuffer::empty().aligned(greatest_alignment(buffers)))?;
     push_data(alloc, options, buffers, &mut out)?;
     push_pad(alloc, padding, &mut out)?;

@@ -63,9 +63,6 @@ ref_size t = 4 * nodes t + 1
 abbrev pub slice_size : List Typ → ℕ
 slice_size ts = 4 * nodes_of (roses_of ts) + 1
 
-abbrev pub list_size : List Typ → ℕ
-list_size ts = 4 * nodes_of (roses_of ts) + 1
-
 abbrev pub types_size : List Typ → ℕ
 types_size ts = 4 * nodes_of (roses_of ts) + 2
 

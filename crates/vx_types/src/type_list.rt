@@ -28,7 +28,7 @@ impl Model for TypeList {
     ghost use Rattle.vx_trees.specs.Rose.{roses_of};
     ghost use Rattle.vx_trees.specs.Walks.{levels_below};
     ghost use Rattle.vx_types.specs.Typ.{Typ, typ_code, AreTypes};
-    ghost use Rattle.vx_types.specs.Parts.{list_size};
+    ghost use Rattle.vx_types.specs.Parts.{slice_size};
 
     ghost Value = { List Typ };
 
@@ -40,7 +40,7 @@ impl Model for TypeList {
 
     ghost invariant = { λ a. AreTypes (typs a.items.items) × (a.depth ≡ min (levels_below (roses_of (typs a.items.items))) (2 ^ 64 - 1)) };
 
-    ghost size = { list_size };
+    ghost size = { slice_size };
 
     ghost use Rattle.vx_types.specs.Falls.{most_le-size};
 
