@@ -171,7 +171,7 @@ fn copy_all(names: &[Name], alloc: Global) -> Result<Vec<Name>, TypeError>
     ensures ok { IfOk result (λ copies. copies.items ≡ names.now) }
     ensures err { IsOkUnless result TypeError.OutOfMemory }
 {
-    let mut copies = Vec::new(alloc);
+    let mut copies = Vec::with_capacity(alloc, names.len())?;
     for name in names {
         copies.push(name.clone(alloc)?)?;
     }
