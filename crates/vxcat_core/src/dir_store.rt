@@ -65,7 +65,7 @@ fn told_size<F: OpenFile>(file: &F) -> u64 {
     }
 }
 
-// Room for so many bytes, and for the one that a file has no more; none where that is too much.
+// Room for so many bytes and one more, by which the end is found; none where there is no memory for them at once.
 fn room_for(alloc: Global, size: u64) -> Vec<u8> {
     match Vec::with_capacity(alloc, (size as usize).saturating_add(1)) {
         Ok(room) => room,
@@ -73,10 +73,10 @@ fn room_for(alloc: Global, size: u64) -> Vec<u8> {
     }
 }
 
-// How many bytes the next read asks for, behind so many: those that the file says it has yet, and one more, which finds the
-// end. A file that has more than it says is read by whole pieces.
+// How many bytes the next read asks for where so many were read: what is left of those that the file says it has, and one more,
+// by which its end is found; a piece at most. A file that has more than it says is read on by whole pieces.
 fn next_piece(size: u64, end: usize) -> usize
-    ensures { result ≤ 65536 }
+    ensures { result ≤ PIECE }
 {
     match size.checked_sub(end as u64) {
         Some(rest) if rest < PIECE as u64 => rest as usize + 1,
