@@ -35,6 +35,16 @@ impl ByteBuffers {
         }
     }
 
+    /// The empty list, with room for so many buffers where there is memory for them at once.
+    pub fn with_room(alloc: Global, room: usize) -> ByteBuffers
+        ensures { result ≡ [] }
+    {
+        match Vec::with_capacity(alloc, room) {
+            Ok(items) => ByteBuffers { items },
+            Err(_) => ByteBuffers::new(alloc),
+        }
+    }
+
     /// One more buffer at the end. `OutOfMemory` where there is no memory for it: the list stays as it was,
     /// and the buffer is dropped.
     pub fn push(&mut self, buffer: ByteBuffer) -> Result<(), BufferError>

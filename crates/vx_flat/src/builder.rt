@@ -85,13 +85,29 @@ impl Builder {
         Builder::sharing(alloc, true)
     }
 
+    /// A message without a block, with room for so many bytes where there is memory for them at
+    /// once. A message that grows from nothing leaves in the heap each room that became too small.
+    pub fn with_room(alloc: Global, room: usize) -> Builder
+        ensures { result ≡ nothing_built }
+    {
+        Builder::over(alloc, no_bytes(alloc, room), true)
+    }
+
     /// A message without a block, of which equal field tables are shared or not.
     pub(crate) fn sharing(alloc: Global, shares: bool) -> Builder
         ensures { result ≡ nothing_by shares }
     {
+        Builder::over(alloc, Vec::new(alloc), shares)
+    }
+
+    // A message without a block, over an empty list of bytes.
+    fn over(alloc: Global, bytes: Vec<u8>, shares: bool) -> Builder
+        requires { bytes.items ≡ [] }
+        ensures { result ≡ nothing_by shares }
+    {
         Builder {
             alloc,
-            message: Message::new(alloc),
+            message: Message::new(alloc, bytes),
             known: FieldTables::new(alloc),
             shares,
             failed: false,
@@ -335,5 +351,15 @@ impl Builder {
         }
         let Message { bytes, .. } = message;
         Ok(FlatBuffer::new(bytes))
+    }
+}
+
+// No bytes, with room for so many where there is memory for them.
+fn no_bytes(alloc: Global, room: usize) -> Vec<u8>
+    ensures { result.items ≡ [] }
+{
+    match Vec::with_capacity(alloc, room) {
+        Ok(bytes) => bytes,
+        Err(_) => Vec::new(alloc),
     }
 }

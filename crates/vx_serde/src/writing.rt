@@ -44,6 +44,12 @@ use vx_buffer::{BufferError, ByteBuffer, ByteBuffers};
 use vx_flat::{Builder, FlatBuffer, FlatError, LinkKind, verify_uncounted};
 use vx_registry::{ArrayContext, ArraySession};
 
+// A little more than the bytes of a message that come with a node of one buffer.
+const NODE_ROOM: usize = 80;
+
+// What a blob has beside its data buffers and the pads in front of these: an empty buffer, a pad, its message and the length.
+const PARTS_BESIDE: usize = 4;
+
 /// The buffers of a blob: the first is empty and has the greatest alignment.
 fn blob_buffers(
     alloc: Global,
@@ -59,7 +65,7 @@ fn blob_buffers(
         ++ (pad_buffers padding ++ (unaligned message.items ∷ unaligned (to_le_bytes w32 (length message.items)) ∷ [])))) }
 {
     let word = Vec::from_slice(alloc, &(message.len() as u32).to_le_bytes())?;
-    let mut out = ByteBuffers::new(alloc);
+    let mut out = ByteBuffers::with_room(alloc, buffers.len().saturating_add(PARTS_BESIDE));
     out.push(ByteBuffer::empty().aligned(greatest_alignment(buffers)))?;
     push_data(alloc, options, buffers, &mut out)?;
     push_pad(alloc, padding, &mut out)?;
@@ -134,7 +140,8 @@ fn write_message(
     if encodings.len() > MAX_NODES {
         return Err(WireError::WireLimit);
     }
-    let mut builder = Builder::new(alloc);
+    let room = (encodings.len() * NODE_ROOM).saturating_add(descriptors.len());
+    let mut builder = Builder::with_room(alloc, room);
     write_blocks(alloc, array, encodings, descriptors, &mut builder)?;
     let message = match builder.finish(alloc) {
         Ok(message) => message,
@@ -200,6 +207,8 @@ pub(crate) fn write_array(
 {
     let (found, placed) = place(alloc, array, arrays, unknown, ctx, options)?;
     let message = write_message(alloc, array, &found.encodings, &placed.descriptors)?;
+    // The message has the descriptors, and the list of buffers takes their room.
+    drop(placed.descriptors);
     let padding = pad_at(options, 3, placed.end);
     if !has_end(placed.end, padding, message.len()) {
         return Err(WireError::WireLimit);

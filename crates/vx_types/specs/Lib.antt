@@ -5,6 +5,8 @@ pub mod Digits
 pub mod Typ
 pub mod Parts
 pub mod Seen
+pub mod HeldNames
+pub mod HeldTypes
 pub mod Falls
 pub mod Words
 pub mod Refused

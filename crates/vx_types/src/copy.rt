@@ -13,7 +13,7 @@ pub(crate) fn copy_all(types: &[DType], alloc: Global) -> Result<Vec<DType>, Typ
     ensures ok { IfOk result (λ copies. copies.items ≡ types.now) }
     ensures err { IsOkUnless result TypeError.OutOfMemory }
 {
-    let mut copies = Vec::new(alloc);
+    let mut copies = Vec::with_capacity(alloc, types.len())?;
     for dtype in types {
         copies.push(dtype.clone(alloc)?)?;
     }

@@ -9,43 +9,49 @@ ghost use Rattle.vx_types.specs.Typ.{AreTypes};
 use crate::copy::copy_all;
 use crate::dtype::DType;
 use crate::error::TypeError;
-use crate::levels::deeper;
+use crate::type_list::TypeList;
 use std::alloc::Global;
 use std::marker::Model;
 
-/// A list of types, in order, as of a structure's fields, and how many levels the
-/// deepest has, up to the largest number. Contracts see the list of their trees.
+/// A list of types, in order, as of a structure's fields. Contracts see the list
+/// of their trees.
+///
+/// The types stand behind a pointer from the first one on: a type is to be small,
+/// and most types hold no others.
 #[cycle(dtype)]
 #[derive(Debug, Drop)]
 pub struct DTypes {
-    items: Vec<DType>,
-    depth: u64,
+    held: HeldTypes,
+    alloc: Global,
+}
+
+/// Nothing, or some types behind a pointer.
+#[cycle(dtype)]
+#[derive(Debug, Drop)]
+enum HeldTypes {
+    Nothing,
+    Types(Box<TypeList>),
 }
 
 impl Model for DTypes {
-    ghost use Rattle.std.specs.Prelude.{◌≡◌, ◌-◌, ◌^◌, List, min};
+    ghost use Rattle.std.specs.Prelude.{List};
     ghost use Rattle.std.specs.Coded.{coded_list};
-    ghost use Rattle.std.proofs.Common.{arith};
-    ghost use Rattle.vx_trees.specs.Rose.{roses_of};
-    ghost use Rattle.vx_trees.specs.Walks.{levels_below};
-    ghost use Rattle.vx_types.specs.Typ.{Typ, typ_code, AreTypes};
+    ghost use Rattle.vx_types.specs.Typ.{Typ, typ_code};
     ghost use Rattle.vx_types.specs.Parts.{types_size};
 
     ghost Value = { List Typ };
 
     ghost coded = { coded_list typ_code };
 
-    ghost use Rattle.vx_types.specs.Seen.{typs};
+    ghost use Rattle.vx_types.specs.HeldTypes.{types_held};
 
-    ghost view = { λ a. typs a.items.items };
-
-    ghost invariant = { λ a. AreTypes (typs a.items.items) × (a.depth ≡ min (levels_below (roses_of (typs a.items.items))) (2 ^ 64 - 1)) };
+    ghost view = { λ a. types_held a.held };
 
     ghost size = { types_size };
 
-    ghost use Rattle.vx_types.specs.Falls.{most_le-size};
+    ghost use Rattle.vx_types.specs.Falls.{held_le-size};
 
-    ghost size_decreases = { λ a h. Prim.omega (arith, most_le-size a.items.items) };
+    ghost size_decreases = { λ a h. held_le-size a.held };
 }
 
 impl DTypes {
@@ -54,8 +60,21 @@ impl DTypes {
         ensures { result ≡ [] }
     {
         DTypes {
-            items: Vec::new(alloc),
-            depth: 0,
+            held: HeldTypes::Nothing,
+            alloc,
+        }
+    }
+
+    /// No type, with room for so many where there is memory for them at once.
+    pub fn with_room(alloc: Global, room: usize) -> DTypes
+        ensures { result ≡ [] }
+    {
+        match none(alloc, room) {
+            Ok(types) => DTypes {
+                held: HeldTypes::Types(types),
+                alloc,
+            },
+            Err(_) => DTypes::new(alloc),
         }
     }
 
@@ -64,28 +83,34 @@ impl DTypes {
         ensures len { result ≡ length self.now }
         ensures types { AreTypes self.now }
     {
-        self.items.len()
+        match &self.held {
+            HeldTypes::Nothing => 0,
+            HeldTypes::Types(types) => types.len(),
+        }
     }
 
     /// Whether there is no type.
     pub fn is_empty(&self) -> bool
         ensures { result ≡ (length self.now == 0) }
     {
-        self.items.is_empty()
+        self.len() == 0
     }
 
     /// The type at this place, counted from 0; None past the end.
     pub fn get(&self, index: usize) -> Option<&DType>
         ensures { option_map typ (option_copied result) ≡ slice_get self.now index }
     {
-        self.items.as_slice().get(index)
+        self.as_slice().get(index)
     }
 
     /// All types, in order.
     pub fn as_slice(&self) -> &[DType]
         ensures { typs result.now ≡ self.now }
     {
-        self.items.as_slice()
+        match &self.held {
+            HeldTypes::Nothing => &[],
+            HeldTypes::Types(types) => types.as_slice(),
+        }
     }
 
     /// One more type at the end. Where there is no memory for it, the list stays
@@ -95,10 +120,13 @@ impl DTypes {
         ensures unchanged { OnErr result (self.new ≡ self.old) }
         ensures err { IsOkUnless result TypeError.OutOfMemory }
     {
-        let depth = deeper(self.depth, dtype.levels());
-        self.items.push(dtype)?;
-        self.depth = depth;
-        Ok(())
+        match &mut self.held {
+            HeldTypes::Nothing => {
+                self.held = HeldTypes::Types(first(self.alloc, dtype)?);
+                Ok(())
+            }
+            HeldTypes::Types(types) => types.push(dtype),
+        }
     }
 
     /// An equal list.
@@ -107,9 +135,17 @@ impl DTypes {
         ensures ok { IfOk result (λ types. types ≡ self.now) }
         ensures err { IsOkUnless result TypeError.OutOfMemory }
     {
-        let items = copy_all(self.items.as_slice(), alloc)?;
-        let depth = self.depth;
-        Ok(DTypes { items, depth })
+        match &self.held {
+            HeldTypes::Nothing => Ok(DTypes::new(alloc)),
+            HeldTypes::Types(types) => {
+                let copies = copy_all(types.as_slice(), alloc)?;
+                let types = Box::new(alloc, types.of_copies(copies))?;
+                Ok(DTypes {
+                    held: HeldTypes::Types(types),
+                    alloc,
+                })
+            }
+        }
     }
 
     // How many levels the deepest has, up to the largest number.
@@ -117,6 +153,28 @@ impl DTypes {
         ensures levels { result ≡ min (levels_below (roses_of self.now)) (2 ^ 64 - 1) }
         ensures types { AreTypes self.now }
     {
-        self.depth
+        match &self.held {
+            HeldTypes::Nothing => 0,
+            HeldTypes::Types(types) => types.levels(),
+        }
     }
+}
+
+// A list of no type, with room for so many, behind a pointer.
+fn none(alloc: Global, room: usize) -> Result<Box<TypeList>, TypeError>
+    ensures ok { IfOk result (λ b. b.value ≡ []) }
+    ensures err { IsOkUnless result TypeError.OutOfMemory }
+{
+    let types = TypeList::with_room(alloc, room)?;
+    Ok(Box::new(alloc, types)?)
+}
+
+// A list of this type alone, behind a pointer.
+fn first(alloc: Global, dtype: DType) -> Result<Box<TypeList>, TypeError>
+    ensures ok { IfOk result (λ b. b.value ≡ typ dtype ∷ []) }
+    ensures err { IsOkUnless result TypeError.OutOfMemory }
+{
+    let mut types = TypeList::with_room(alloc, 1)?;
+    types.push(dtype)?;
+    Ok(Box::new(alloc, types)?)
 }

@@ -21,9 +21,15 @@ use std::marker::Model;
 #[cycle(dtype)]
 #[derive(Debug, Drop)]
 pub struct ExtDType {
+    own: Box<Own>,
+    storage: TypeRef,
+}
+
+/// What an extension has beside its storage.
+#[derive(Debug, Drop)]
+struct Own {
     id: Id,
     metadata: Blob,
-    storage: TypeRef,
 }
 
 impl Model for ExtDType {
@@ -35,9 +41,9 @@ impl Model for ExtDType {
 
     ghost coded = { ext_code };
 
-    ghost view = { λ a. record { id = a.id; metadata = a.metadata; storage = a.storage } };
+    ghost view = { λ a. record { id = a.own.value.id; metadata = a.own.value.metadata; storage = a.storage } };
 
-    ghost invariant = { λ a. IsText a.id × AreBytes a.metadata };
+    ghost invariant = { λ a. IsText a.own.value.id × AreBytes a.own.value.metadata };
 
     ghost size = { ext_size };
 
@@ -54,25 +60,22 @@ impl ExtDType {
         let _ = &id.text;
         let _ = &metadata.bytes;
         let storage = TypeRef::new(alloc, storage)?;
-        Ok(ExtDType {
-            id,
-            metadata,
-            storage,
-        })
+        let own = Box::new(alloc, Own { id, metadata })?;
+        Ok(ExtDType { own, storage })
     }
 
     /// The identifier.
     pub fn id(&self) -> &Id
         ensures { result.now ≡ self.now.id }
     {
-        &self.id
+        &self.own.id
     }
 
     /// The metadata.
     pub fn metadata(&self) -> &Blob
         ensures { result.now ≡ self.now.metadata }
     {
-        &self.metadata
+        &self.own.metadata
     }
 
     /// The type of the storage.
@@ -88,14 +91,11 @@ impl ExtDType {
         ensures ok { IfOk result (λ ext. ext ≡ self.now) }
         ensures err { IsOkUnless result TypeError.OutOfMemory }
     {
-        let id = self.id.clone(alloc)?;
-        let metadata = self.metadata.clone(alloc)?;
+        let id = self.id().clone(alloc)?;
+        let metadata = self.metadata().clone(alloc)?;
         let storage = self.storage.clone(alloc)?;
-        Ok(ExtDType {
-            id,
-            metadata,
-            storage,
-        })
+        let own = Box::new(alloc, Own { id, metadata })?;
+        Ok(ExtDType { own, storage })
     }
 
     // The same extension, with this nullability of its storage.
@@ -108,8 +108,8 @@ impl ExtDType {
         ensures ok { IfOk result (λ ext. ext ≡ record { id = self.now.id; metadata = self.now.metadata; storage = with_nullability nullability self.now.storage }) }
         ensures err { IsOkUnless result TypeError.OutOfMemory }
     {
-        let id = self.id.clone(alloc)?;
-        let metadata = self.metadata.clone(alloc)?;
+        let id = self.id().clone(alloc)?;
+        let metadata = self.metadata().clone(alloc)?;
         let storage = self.storage_dtype().with_nullability(alloc, nullability)?;
         ExtDType::new(alloc, id, metadata, storage)
     }

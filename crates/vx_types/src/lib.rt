@@ -24,6 +24,7 @@ pub mod ptype;
 mod same;
 pub mod struct_fields;
 pub mod type_ids;
+mod type_list;
 pub mod type_ref;
 pub mod union_variants;
 pub mod value;

@@ -2,6 +2,7 @@
 
 ghost use Rattle.std.specs.Prelude.{◌≡◌, ◌==◌, ◌↔◌, [], ◌∷◌, ◌++◌, IfOk, OnOk, OnErr, IsOkUnless, IsTrue, length, slice_get, option_copied};
 ghost use Rattle.vx_types.specs.Content.{AreTexts};
+ghost use Rattle.vx_types.specs.HeldNames.{names_held};
 
 use crate::error::TypeError;
 use crate::name::Name;
@@ -10,20 +11,32 @@ use std::marker::Model;
 
 /// A list of names, in order, as of a structure's fields. Contracts see the list
 /// of their UTF-8 bytes.
+///
+/// The names stand behind a pointer from the first one on: a type is to be small,
+/// and most types have no names.
 #[derive(Debug, Drop)]
 pub struct Names {
-    items: Vec<Name>,
+    held: HeldNames,
+    alloc: Global,
+}
+
+/// Nothing, or some names behind a pointer.
+#[derive(Debug, Drop)]
+enum HeldNames {
+    Nothing,
+    Names(Box<Vec<Name>>),
 }
 
 impl Model for Names {
     ghost use Rattle.std.specs.Prelude.{List, ℕ};
     ghost use Rattle.vx_types.specs.Content.{AreTexts};
+    ghost use Rattle.vx_types.specs.HeldNames.{names_held};
 
     ghost Value = { List (List ℕ) };
 
-    ghost view = { λ a. a.items.items };
+    ghost view = { λ a. names_held a.held };
 
-    ghost invariant = { λ a. AreTexts a.items.items };
+    ghost invariant = { λ a. AreTexts (names_held a.held) };
 }
 
 impl Names {
@@ -32,7 +45,21 @@ impl Names {
         ensures { result ≡ [] }
     {
         Names {
-            items: Vec::new(alloc),
+            held: HeldNames::Nothing,
+            alloc,
+        }
+    }
+
+    /// No name, with room for so many where there is memory for them at once.
+    pub fn with_room(alloc: Global, room: usize) -> Names
+        ensures { result ≡ [] }
+    {
+        match none(alloc, room) {
+            Ok(names) => Names {
+                held: HeldNames::Names(names),
+                alloc,
+            },
+            Err(_) => Names::new(alloc),
         }
     }
 
@@ -41,28 +68,33 @@ impl Names {
         ensures len { result ≡ length self.now }
         ensures texts { AreTexts self.now }
     {
-        self.items.len()
+        // A look at the names: each is a text.
+        let _ = &self.held;
+        self.as_slice().len()
     }
 
     /// Whether there is no name.
     pub fn is_empty(&self) -> bool
         ensures { result ≡ (length self.now == 0) }
     {
-        self.items.is_empty()
+        self.as_slice().is_empty()
     }
 
     /// The name at this place, counted from 0; None past the end.
     pub fn get(&self, index: usize) -> Option<&Name>
         ensures { option_copied result ≡ slice_get self.now index }
     {
-        self.items.as_slice().get(index)
+        self.as_slice().get(index)
     }
 
     /// All names, in order.
     pub fn as_slice(&self) -> &[Name]
         ensures { result.now ≡ self.now }
     {
-        self.items.as_slice()
+        match &self.held {
+            HeldNames::Names(names) => names.as_slice(),
+            HeldNames::Nothing => &[],
+        }
     }
 
     /// One more name at the end. Where there is no memory for it, the list stays
@@ -74,7 +106,7 @@ impl Names {
     {
         // A look at the name's field: it is a text.
         let _ = &name.text;
-        self.items.push(name)?;
+        hold(&mut self.held, self.alloc, name)?;
         Ok(())
     }
 
@@ -83,9 +115,55 @@ impl Names {
         ensures ok { IfOk result (λ names. names ≡ self.now) }
         ensures err { IsOkUnless result TypeError.OutOfMemory }
     {
-        let items = copy_all(self.items.as_slice(), alloc)?;
-        Ok(Names { items })
+        match &self.held {
+            HeldNames::Names(names) => {
+                let copies = copy_all(names.as_slice(), alloc)?;
+                let held = Box::new(alloc, copies)?;
+                Ok(Names {
+                    held: HeldNames::Names(held),
+                    alloc,
+                })
+            }
+            HeldNames::Nothing => Ok(Names::new(alloc)),
+        }
     }
+}
+
+// One more name behind the others. Where there is no memory for it, nothing changes.
+fn hold(held: &mut HeldNames, alloc: Global, name: Name) -> Result<(), TypeError>
+    ensures ok { OnOk result (names_held held.new ≡ names_held held.old ++ name ∷ []) }
+    ensures unchanged { OnErr result (names_held held.new ≡ names_held held.old) }
+    ensures err { IsOkUnless result TypeError.OutOfMemory }
+{
+    match held {
+        HeldNames::Nothing => {
+            *held = HeldNames::Names(first(alloc, name)?);
+            Ok(())
+        }
+        HeldNames::Names(names) => {
+            names.push(name)?;
+            Ok(())
+        }
+    }
+}
+
+// A list of no name, with room for so many, behind a pointer.
+fn none(alloc: Global, room: usize) -> Result<Box<Vec<Name>>, TypeError>
+    ensures ok { IfOk result (λ b. b.value.items ≡ []) }
+    ensures err { IsOkUnless result TypeError.OutOfMemory }
+{
+    let names = Vec::with_capacity(alloc, room)?;
+    Ok(Box::new(alloc, names)?)
+}
+
+// A list of one name, with room for no more.
+fn first(alloc: Global, name: Name) -> Result<Box<Vec<Name>>, TypeError>
+    ensures ok { IfOk result (λ b. b.value.items ≡ name ∷ []) }
+    ensures err { IsOkUnless result TypeError.OutOfMemory }
+{
+    let mut names = Vec::with_capacity(alloc, 1)?;
+    names.push(name)?;
+    Ok(Box::new(alloc, names)?)
 }
 
 // Copies of the names.
@@ -93,7 +171,7 @@ fn copy_all(names: &[Name], alloc: Global) -> Result<Vec<Name>, TypeError>
     ensures ok { IfOk result (λ copies. copies.items ≡ names.now) }
     ensures err { IsOkUnless result TypeError.OutOfMemory }
 {
-    let mut copies = Vec::new(alloc);
+    let mut copies = Vec::with_capacity(alloc, names.len())?;
     for name in names {
         copies.push(name.clone(alloc)?)?;
     }

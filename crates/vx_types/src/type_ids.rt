@@ -11,7 +11,7 @@ use std::marker::Model;
 /// list.
 #[derive(Debug, Drop)]
 pub struct TypeIds {
-    ids: Vec<u8>,
+    ids: Box<Vec<u8>>,
 }
 
 impl Model for TypeIds {
@@ -20,19 +20,12 @@ impl Model for TypeIds {
 
     ghost Value = { List ℕ };
 
-    ghost view = { λ a. a.ids.items };
+    ghost view = { λ a. a.ids.value.items };
 
-    ghost invariant = { λ a. AreBytes a.ids.items };
+    ghost invariant = { λ a. AreBytes a.ids.value.items };
 }
 
 impl TypeIds {
-    /// These tags.
-    pub fn new(ids: Vec<u8>) -> TypeIds
-        ensures { result ≡ ids.items }
-    {
-        TypeIds { ids }
-    }
-
     /// A copy of these tags.
     #[tactic(auto, using(crate::proofs::Contents::bytes_from_index))]
     pub fn copy_from(alloc: Global, ids: &[u8]) -> Result<TypeIds, TypeError>
@@ -40,7 +33,8 @@ impl TypeIds {
         ensures err { IsOkUnless result TypeError.OutOfMemory }
     {
         let copy = Vec::from_slice(alloc, ids)?;
-        Ok(TypeIds { ids: copy })
+        let ids = Box::new(alloc, copy)?;
+        Ok(TypeIds { ids })
     }
 
     /// The tags.

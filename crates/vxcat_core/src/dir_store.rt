@@ -57,25 +57,40 @@ impl<'a, R: Files> DirStore<'a, R> {
     }
 }
 
-// Room for as many bytes as the file says that it has, and for the read that finds its end; none where it does not say, or
-// says too much.
-fn room_for<F: OpenFile>(alloc: Global, file: &F) -> Vec<u8> {
-    let size = match file.metadata() {
+// How many bytes a file says that it has: none where it does not say.
+fn told_size<F: OpenFile>(file: &F) -> u64 {
+    match file.metadata() {
         Ok(metadata) => metadata.len(),
         Err(_) => 0,
-    };
-    match Vec::with_capacity(alloc, (size as usize).saturating_add(PIECE)) {
+    }
+}
+
+// Room for so many bytes and one more, by which the end is found; none where there is no memory for them at once.
+fn room_for(alloc: Global, size: u64) -> Vec<u8> {
+    match Vec::with_capacity(alloc, (size as usize).saturating_add(1)) {
         Ok(room) => room,
         Err(_) => Vec::new(alloc),
     }
 }
 
+// How many bytes the next read asks for where so many were read: what is left of those that the file says it has, and one more,
+// by which its end is found; a piece at most. A file that has more than it says is read on by whole pieces.
+fn next_piece(size: u64, end: usize) -> usize
+    ensures { result ≤ PIECE }
+{
+    match size.checked_sub(end as u64) {
+        Some(rest) if rest < PIECE as u64 => rest as usize + 1,
+        _ => PIECE,
+    }
+}
+
 // The file's bytes, read into the memory that is handed on.
 fn read_all<F: Read + OpenFile>(alloc: Global, file: &mut F) -> Result<Vec<u8>, StoreError> {
-    let mut bytes = room_for(alloc, file);
+    let size = told_size(file);
+    let mut bytes = room_for(alloc, size);
     let mut end = 0;
     for _ in 0..MAX_READS {
-        bytes.resize(end + PIECE, 0)?;
+        bytes.resize(end + next_piece(size, end), 0)?;
         match file.read(&mut bytes[end..]) {
             Ok(0) => {
                 bytes.truncate(end);

@@ -48,15 +48,16 @@ fn add_links(left: &mut Vec<Slot>, links: &mut Vec<Slot>) -> Result<(), AllocErr
 impl Message {
     ghost use Rattle.vx_flat.specs.BuilderView.{begun, SlotLies, IsOpen, IsSame};
 
-    /// No blocks.
-    pub fn new(alloc: Global) -> Message
+    /// No blocks, over an empty list of bytes.
+    pub fn new(alloc: Global, bytes: Vec<u8>) -> Message
+        requires { bytes.items ≡ [] }
         ensures bytes { result.bytes.items ≡ [] }
         ensures count { result.count ≡ 0 }
         ensures left { result.left.items ≡ [] }
         ensures waits { result.waits ≡ None }
     {
         Message {
-            bytes: Vec::new(alloc),
+            bytes,
             count: 0,
             left: Vec::new(alloc),
             waits: None,

@@ -133,7 +133,7 @@ fn recode_under(
     ensures cause { IfErr result (λ status. RefusesInputs status (line_of words.now) (loaded_of loaded)) }
     ensures complete { CanRecodeInputs (line_of words.now) (loaded_of loaded) → IfErr result (λ status. status ≡ OutOfMemory) }
 {
-    let dtype = match read_type(alloc, loaded.type_bytes.as_slice(), &session.ext) {
+    let dtype = match read_type_file(alloc, loaded.type_bytes, &session.ext) {
         Ok(dtype) => dtype,
         Err(status) => return Err(status),
     };
@@ -159,7 +159,18 @@ fn recode_under(
     )
 }
 
-// The type that a type file shows, as far as these readers know its extensions.
+// The type that a type file shows, as far as these readers know its extensions. The bytes are let go once it is read.
+fn read_type_file(alloc: Global, bytes: Blob, readers: &ExtSession) -> Result<DType, Status>
+    ensures read { let x = ext_meaning (λ b. accepted (b.vtable, b.value)) readers.now in
+        IfOk result (λ d. IsRead (ShowsType bytes) x (typ d)) }
+    ensures status { IfErr result RefusesType }
+    ensures complete { let x = ext_meaning (λ b. accepted (b.vtable, b.value)) readers.now in
+        (t : Typ) → IsRead (ShowsType bytes) x t → IfErr result (λ status. status ≡ OutOfMemory) }
+{
+    read_type(alloc, bytes.as_slice(), readers)
+}
+
+// The type that bytes show, as far as these readers know its extensions.
 fn read_type(alloc: Global, bytes: &[u8], readers: &ExtSession) -> Result<DType, Status>
     ensures read { let x = ext_meaning (λ b. accepted (b.vtable, b.value)) readers.now in
         IfOk result (λ d. IsRead (ShowsType bytes.now) x (typ d)) }

@@ -25,7 +25,7 @@ returns-then-encodings-gt-MAX_NODES-clause-refused c = λ s.
 
 pub write_blocks-requires-clause-takes : goal.write_blocks-requires-clause-takes
 write_blocks-requires-clause-takes c =
-    subst (λ z. Takes link.Table z) (sym c.new-builder.ensures) (λ _. tt)
+    subst (λ z. Takes link.Table z) (sym c.with_room-builder.ensures) (λ _. tt)
 
 pub write_blocks-requires-clause-counted : goal.write_blocks-requires-clause-counted
 write_blocks-requires-clause-counted c =
@@ -41,7 +41,7 @@ returns-in_err-write_blocks-clause-refused c = λ s.
     let e = c.in_err-write_blocks.field-0.0 in
     rw (p.1, p.2)
     (blocks-refused es w ds (c.requires.of_kind s) e c.write_blocks.new.builder
-    (subst (λ z. IsStopped z (pieces array_schema (message_by es w ds)) e c.write_blocks.new.builder) c.new-builder.ensures (c.in_err-write_blocks.ensures.stopped s)))
+    (subst (λ z. IsStopped z (pieces array_schema (message_by es w ds)) e c.write_blocks.new.builder) c.with_room-builder.ensures (c.in_err-write_blocks.ensures.stopped s)))
 
 pub finish-requires-clause-written : goal.finish-requires-clause-written
 finish-requires-clause-written c =
@@ -51,7 +51,7 @@ finish-requires-clause-written c =
     let w = wire codec no_session a in
     let of = c.requires.of_kind no_session in
     let b = c.write_blocks.new.builder in
-    let wrote : AreWritten nothing_built (pieces array_schema (message_by es w ds)) b = subst (λ z. AreWritten z (pieces array_schema (message_by es w ds)) b) c.new-builder.ensures (c.in_ok-write_blocks.ensures.written no_session) in
+    let wrote : AreWritten nothing_built (pieces array_schema (message_by es w ds)) b = subst (λ z. AreWritten z (pieces array_schema (message_by es w ds)) b) c.with_room-builder.ensures (c.in_ok-write_blocks.ensures.written no_session) in
     λ _. some-written es w ds of b wrote
 
 pub finish-requires-clause-linked : goal.finish-requires-clause-linked
@@ -62,7 +62,7 @@ finish-requires-clause-linked c =
     let w = wire codec no_session a in
     let of = c.requires.of_kind no_session in
     let b = c.write_blocks.new.builder in
-    let wrote : AreWritten nothing_built (pieces array_schema (message_by es w ds)) b = subst (λ z. AreWritten z (pieces array_schema (message_by es w ds)) b) c.new-builder.ensures (c.in_ok-write_blocks.ensures.written no_session) in
+    let wrote : AreWritten nothing_built (pieces array_schema (message_by es w ds)) b = subst (λ z. AreWritten z (pieces array_schema (message_by es w ds)) b) c.with_room-builder.ensures (c.in_ok-write_blocks.ensures.written no_session) in
     λ _. wrote.linked
 
 pub finish-requires-clause-idle : goal.finish-requires-clause-idle
@@ -73,7 +73,7 @@ finish-requires-clause-idle c =
     let w = wire codec no_session a in
     let of = c.requires.of_kind no_session in
     let b = c.write_blocks.new.builder in
-    let wrote : AreWritten nothing_built (pieces array_schema (message_by es w ds)) b = subst (λ z. AreWritten z (pieces array_schema (message_by es w ds)) b) c.new-builder.ensures (c.in_ok-write_blocks.ensures.written no_session) in
+    let wrote : AreWritten nothing_built (pieces array_schema (message_by es w ds)) b = subst (λ z. AreWritten z (pieces array_schema (message_by es w ds)) b) c.with_room-builder.ensures (c.in_ok-write_blocks.ensures.written no_session) in
     λ _. idle-written es w ds of b wrote
 
 pub unreachable-requires : goal.unreachable-requires
@@ -84,7 +84,7 @@ unreachable-requires c =
     let w = wire codec no_session a in
     let of = c.requires.of_kind no_session in
     let b = c.write_blocks.new.builder in
-    let wrote : AreWritten nothing_built (pieces array_schema (message_by es w ds)) b = subst (λ z. AreWritten z (pieces array_schema (message_by es w ds)) b) c.new-builder.ensures (c.in_ok-write_blocks.ensures.written no_session) in
+    let wrote : AreWritten nothing_built (pieces array_schema (message_by es w ds)) b = subst (λ z. AreWritten z (pieces array_schema (message_by es w ds)) b) c.with_room-builder.ensures (c.in_ok-write_blocks.ensures.written no_session) in
     let ok = c.in-Err.ensures.complete (works-written es w ds of b wrote) in
     absurd cc
 
@@ -96,7 +96,7 @@ light_message-requires c =
     let w = wire codec no_session a in
     let of = c.requires.of_kind no_session in
     let b = c.write_blocks.new.builder in
-    let wrote : AreWritten nothing_built (pieces array_schema (message_by es w ds)) b = subst (λ z. AreWritten z (pieces array_schema (message_by es w ds)) b) c.new-builder.ensures (c.in_ok-write_blocks.ensures.written no_session) in
+    let wrote : AreWritten nothing_built (pieces array_schema (message_by es w ds)) b = subst (λ z. AreWritten z (pieces array_schema (message_by es w ds)) b) c.with_room-builder.ensures (c.in_ok-write_blocks.ensures.written no_session) in
     let m = c.in-Ok.ensures.built ∙ layout-written es w ds of b wrote in
     message-shown es w ds of c.in-Ok.message m c.in-Ok.ensures.fits
 
@@ -108,7 +108,7 @@ returns-clause-written c = λ s.
     let w = wire codec s a in
     let of = c.requires.of_kind s in
     let b = c.write_blocks.new.builder in
-    let wrote : AreWritten nothing_built (pieces array_schema (message_by es w ds)) b = subst (λ z. AreWritten z (pieces array_schema (message_by es w ds)) b) c.new-builder.ensures (c.in_ok-write_blocks.ensures.written s) in
+    let wrote : AreWritten nothing_built (pieces array_schema (message_by es w ds)) b = subst (λ z. AreWritten z (pieces array_schema (message_by es w ds)) b) c.with_room-builder.ensures (c.in_ok-write_blocks.ensures.written s) in
     let m = c.in-Ok.ensures.built ∙ layout-written es w ds of b wrote in
     if_ok c.light_message.result (λ x. x.items ≡ c.in-Ok.message) (λ x. x.items ≡ layout_by es w ds) (λ x h. h ∙ m) c.light_message.ensures.same
 
@@ -131,6 +131,6 @@ returns-clause-refused c = λ s.
     let w = wire codec s a in
     let of = c.requires.of_kind s in
     let b = c.write_blocks.new.builder in
-    let wrote : AreWritten nothing_built (pieces array_schema (message_by es w ds)) b = subst (λ z. AreWritten z (pieces array_schema (message_by es w ds)) b) c.new-builder.ensures (c.in_ok-write_blocks.ensures.written s) in
+    let wrote : AreWritten nothing_built (pieces array_schema (message_by es w ds)) b = subst (λ z. AreWritten z (pieces array_schema (message_by es w ds)) b) c.with_room-builder.ensures (c.in_ok-write_blocks.ensures.written s) in
     let m = c.in-Ok.ensures.built ∙ layout-written es w ds of b wrote in
     if_err c.light_message.result _ _ (λ e h. heavy es w ds of c.in-Ok.message e m h) c.light_message.ensures.refused

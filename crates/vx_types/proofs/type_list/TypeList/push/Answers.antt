@@ -1,7 +1,7 @@
 use Rattle.std.proofs.Common.{arith}
 use Rattle.vx_types.proofs.Lists.{typs-levels_push}
 use Rattle.vx_types.proofs.Trees.{types-push}
-use Rattle.vx_types.proofs.dtypes.DTypes.push.Goals as goal
+use Rattle.vx_types.proofs.type_list.TypeList.push.Goals as goal
 
 pub invariant_of-self-2 : goal.invariant_of-self-2
 invariant_of-self-2 c =

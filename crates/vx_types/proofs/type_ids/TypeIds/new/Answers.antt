@@ -1,6 +1,0 @@
-use Rattle.std.proofs.Common.{arith}
-use Rattle.vx_types.proofs.Contents.{bytes_within}
-use Rattle.vx_types.proofs.type_ids.TypeIds.new.Goals as goal
-
-pub invariant_of-result : goal.invariant_of-result
-invariant_of-result c = bytes_within c.args.ids.items (λ i l. omega (arith, l))

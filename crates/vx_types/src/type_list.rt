@@ -1,0 +1,104 @@
+//! What a list of types holds behind its pointer.
+
+ghost use Rattle.std.specs.Prelude.{◌≡◌, ◌-◌, ◌^◌, [], ◌∷◌, ◌++◌, OnOk, OnErr, IfOk, IsOkUnless, length, min};
+ghost use Rattle.vx_trees.specs.Rose.{roses_of};
+ghost use Rattle.vx_trees.specs.Walks.{levels_below};
+ghost use Rattle.vx_types.specs.Seen.{typ, typs};
+ghost use Rattle.vx_types.specs.Typ.{AreTypes};
+
+use crate::dtype::DType;
+use crate::error::TypeError;
+use crate::levels::deeper;
+use std::alloc::Global;
+use std::marker::Model;
+
+/// Some types, in order, and how many levels the deepest has, up to the largest
+/// number. Contracts see the list of their trees.
+#[cycle(dtype)]
+#[derive(Debug, Drop)]
+pub(crate) struct TypeList {
+    items: Vec<DType>,
+    depth: u64,
+}
+
+impl Model for TypeList {
+    ghost use Rattle.std.specs.Prelude.{◌≡◌, ◌-◌, ◌^◌, List, min};
+    ghost use Rattle.std.specs.Coded.{coded_list};
+    ghost use Rattle.std.proofs.Common.{arith};
+    ghost use Rattle.vx_trees.specs.Rose.{roses_of};
+    ghost use Rattle.vx_trees.specs.Walks.{levels_below};
+    ghost use Rattle.vx_types.specs.Typ.{Typ, typ_code, AreTypes};
+    ghost use Rattle.vx_types.specs.Parts.{slice_size};
+
+    ghost Value = { List Typ };
+
+    ghost coded = { coded_list typ_code };
+
+    ghost use Rattle.vx_types.specs.Seen.{typs};
+
+    ghost view = { λ a. typs a.items.items };
+
+    ghost invariant = { λ a. AreTypes (typs a.items.items) × (a.depth ≡ min (levels_below (roses_of (typs a.items.items))) (2 ^ 64 - 1)) };
+
+    ghost size = { slice_size };
+
+    ghost use Rattle.vx_types.specs.Falls.{most_le-size};
+
+    ghost size_decreases = { λ a h. Prim.omega (arith, most_le-size a.items.items) };
+}
+
+impl TypeList {
+    /// No type, with room for so many.
+    pub(crate) fn with_room(alloc: Global, room: usize) -> Result<TypeList, TypeError>
+        ensures ok { IfOk result (λ types. types ≡ []) }
+        ensures err { IsOkUnless result TypeError.OutOfMemory }
+    {
+        let items = Vec::with_capacity(alloc, room)?;
+        Ok(TypeList { items, depth: 0 })
+    }
+
+    /// How many types there are.
+    pub(crate) fn len(&self) -> usize
+        ensures len { result ≡ length self.now }
+        ensures types { AreTypes self.now }
+    {
+        self.items.len()
+    }
+
+    /// All types, in order.
+    pub(crate) fn as_slice(&self) -> &[DType]
+        ensures { typs result.now ≡ self.now }
+    {
+        self.items.as_slice()
+    }
+
+    /// One more type at the end. Where there is no memory for it, the list stays
+    /// as it was, and the type is dropped.
+    pub(crate) fn push(&mut self, dtype: DType) -> Result<(), TypeError>
+        ensures ok { OnOk result (self.new ≡ self.old ++ typ dtype ∷ []) }
+        ensures unchanged { OnErr result (self.new ≡ self.old) }
+        ensures err { IsOkUnless result TypeError.OutOfMemory }
+    {
+        let depth = deeper(self.depth, dtype.levels());
+        self.items.push(dtype)?;
+        self.depth = depth;
+        Ok(())
+    }
+
+    /// The same list, of copies of its types.
+    pub(crate) fn of_copies(&self, items: Vec<DType>) -> TypeList
+        requires { typs items.items ≡ self.now }
+        ensures { result ≡ self.now }
+    {
+        let depth = self.depth;
+        TypeList { items, depth }
+    }
+
+    // How many levels the deepest has, up to the largest number.
+    pub(crate) fn levels(&self) -> u64
+        ensures levels { result ≡ min (levels_below (roses_of self.now)) (2 ^ 64 - 1) }
+        ensures types { AreTypes self.now }
+    {
+        self.depth
+    }
+}
