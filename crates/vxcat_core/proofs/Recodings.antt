@@ -1,6 +1,8 @@
 -- From what `recode` ensures to what the program promises of its inputs.
 use Rattle.std.proofs.Common.{◌≡◌, ℕ, Bool, true, false, List, Option, Some, None, inl, inr, refl, Result, Ok, Err, IfOk, IfErr, Global, sym, ap, subst, ◌∙◌}
 use Rattle.std.specs.declared.dyn_box.DynBox.{DynBox}
+use Rattle.vx_types.specs.declared.dtype.DType.{DType}
+use Rattle.vx_types.specs.Seen.{typ}
 use Rattle.vx_types.specs.Typ.{Typ}
 use Rattle.vx_type_wire.specs.Known.{ExtMeaning, IsRead}
 use Rattle.vx_type_wire.specs.Shown.{ShowsType}
@@ -90,6 +92,11 @@ not_memory e = absurd (cc)
 -- A type that is read of bytes by readers is read of the same bytes by the same readers.
 pub read_alike : (bytes others : List ℕ) (x y : ExtMeaning) (t : Typ) → bytes ≡ others → x ≡ y → IsRead (ShowsType bytes) x t → IsRead (ShowsType others) y t
 read_alike bytes others x y t e p r = subst (λ (z : ExtMeaning). IsRead (ShowsType others) z t) p (subst (λ (m : List ℕ). IsRead (ShowsType m) x t) e r)
+
+-- So is the type that a call gives.
+pub given_alike : (bytes others : List ℕ) (x : ExtMeaning) (result : Result DType Status) → bytes ≡ others → IfOk result (λ d. IsRead (ShowsType bytes) x (typ d))
+    → IfOk result (λ d. IsRead (ShowsType others) x (typ d))
+given_alike bytes others x result e p = subst (λ (m : List ℕ). IfOk result (λ d. IsRead (ShowsType m) x (typ d))) e p
 
 -- A type file that is refused, but for want of memory, is read as no type.
 pub type_cause : (status : Status) (line : Recode) (loaded : Loaded) (bytes : List ℕ) (x : ExtMeaning) → bytes ≡ loaded.type_bytes → x ≡ readers_of line.settings → RefusesType status
