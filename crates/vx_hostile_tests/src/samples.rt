@@ -9,16 +9,28 @@ use vx_serde::{ArrayExt, SerializeOptions, WireError};
 use vx_type_wire::ExtSession;
 use vx_types::{DType, Id, Ids, Nullability, PType, TypeError};
 
+// The encodings that are shipped, without readers of extensions.
+fn shipped(alloc: Global) -> Result<VortexSession, WireError> {
+    match ArraySession::default(alloc) {
+        Ok(arrays) => Ok(VortexSession::new(arrays, ExtSession::new(alloc))),
+        Err(_) => Err(WireError::OutOfMemory),
+    }
+}
+
+// The same, and nodes that nothing reads are kept.
+fn keeping(alloc: Global) -> Result<VortexSession, WireError> {
+    let mut session = shipped(alloc)?;
+    session.ext.allow_unknown();
+    Ok(session)
+}
+
 /// The encodings that are shipped, without readers of extensions; what is unknown may be allowed.
 pub fn session_of(alloc: Global, unknown: bool) -> Result<VortexSession, WireError> {
-    let Ok(arrays) = ArraySession::default(alloc) else {
-        return Err(WireError::OutOfMemory);
-    };
-    let mut session = VortexSession::new(arrays, ExtSession::new(alloc));
     if unknown {
-        session.ext.allow_unknown();
+        keeping(alloc)
+    } else {
+        shipped(alloc)
     }
-    Ok(session)
 }
 
 /// A list of identifiers.
