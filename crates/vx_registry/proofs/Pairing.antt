@@ -4,6 +4,7 @@ use Rattle.std.specs.Prelude.{bytes_eq}
 use Rattle.std.specs.Map.{lookup}
 use Rattle.std.proofs.lemmas.Slice.Eq.{bytes_eq-Decides}
 use Rattle.vx_array_tree.specs.Encoding as E
+use Rattle.vx_array_tree.specs.Table.{id_of}
 use Rattle.vx_wire_tree.specs.Session.{Reader, shipped, SessionMeaning, IsPaired, IsReadAgainBy, entry_id}
 use Rattle.vx_encodings.specs.declared.encoding.Encoding.{Encoding}
 use Rattle.vx_registry.specs.Session.{Registry, ArePaired, entry, found_with, own_id}
@@ -28,16 +29,16 @@ IsSetBy own r before now = (id : List ℕ) → now id ≡ cond (bytes_eq own id)
 
 paired_with : (old new : SessionMeaning) (r : Reader) → IsPaired old → IsSetBy (entry_id r) r old.reader new.reader → IsSetBy (entry_id r) r old.writer new.writer → IsPaired new
 paired_with old new r h reads writes = record {
-  read_is_written = λ id q p.
-      some_now (bytes_eq (entry_id r) (entry_id q)) r (old.writer (entry_id q)) (new.writer (entry_id q)) (writes (entry_id q)) (λ apart.
-      elim (which (bytes_eq (entry_id r) id) r q (old.reader id) (new.reader id) (reads id) p) [
-        | inl k ↦ absurd (apart_from_own (entry_id q) (entry_id r) (ap (λ z. entry_id z) k.1) apart)
-        | inr k ↦ h.read_is_written id q k.1
+  read_is_written = λ id e p.
+      some_now (bytes_eq (entry_id r) (id_of e)) r (old.writer (id_of e)) (new.writer (id_of e)) (writes (id_of e)) (λ apart.
+      elim (which (bytes_eq (entry_id r) id) r (shipped e) (old.reader id) (new.reader id) (reads id) p) [
+        | inl k ↦ absurd (apart_from_own (id_of e) (entry_id r) (ap (λ z. entry_id z) k.1) apart)
+        | inr k ↦ h.read_is_written id e k.1
       ]);
-  own_identifier = λ id q p.
-      elim (which (bytes_eq (entry_id r) id) r q (old.writer id) (new.writer id) (writes id) p) [
+  own_identifier = λ id e p.
+      elim (which (bytes_eq (entry_id r) id) r (shipped e) (old.writer id) (new.writer id) (writes id) p) [
         | inl k ↦ sym ((bytes_eq-Decides (entry_id r) id).0 k.0) ∙ sym (ap (λ z. entry_id z) k.1)
-        | inr k ↦ h.own_identifier id q k.1
+        | inr k ↦ h.own_identifier id e k.1
       ];
   written_is_read = λ id e p.
       elim (which (bytes_eq (entry_id r) id) r (shipped e) (old.writer id) (new.writer id) (writes id) p) [

@@ -16,16 +16,16 @@ use Rattle.vx_array_tree.specs.Place.{Place}
 use Rattle.vx_array_tree.specs.Sound.{IsSound, IsSoundNode}
 use Rattle.vx_array_tree.specs.Encoding as Encodings
 use Rattle.vx_array_tree.specs.Table.{plan_of, Allows, Content, IsShaped}
-use Rattle.vx_array_tree.specs.Tree.{Tree, Trees, places, encodings, rows_below}
-use Rattle.vx_wire_tree.specs.Causes.{IsOf, MayStandFor}
+use Rattle.vx_array_tree.specs.Tree.{Tree, Trees, places, rows_below}
+use Rattle.vx_wire_tree.specs.Causes.{IsOf, MayStandFor, HasChildren}
 use Rattle.vx_wire_tree.specs.Codec.{IsLawful}
 use Rattle.vx_wire_tree.specs.Matches.{Matches, AllMatch}
 use Rattle.vx_wire_tree.specs.Placed.{IsChild, HasPlan, IsPlannedBy}
-use Rattle.vx_wire_tree.specs.Session.{SessionMeaning, Reader, IsShipped}
+use Rattle.vx_wire_tree.specs.Session.{SessionMeaning, Reader, shipped}
 use Rattle.vx_wire_tree.specs.Steps.{PlansChildren, HasNoMetadata, HasNoPlan, HasParts, HasWrongShape, HasWrongControl, HasWrongContent, IsToldBy}
 use Rattle.vx_wire_tree.specs.Tells.{Tells}
 use Rattle.vx_wire_tree.specs.Wire.{Wire, Wires, all_present}
-use Rattle.vx_wire_tree.proofs.Laws.{node_tells, matched_count, untaken_of}
+use Rattle.vx_wire_tree.proofs.Laws.{node_tells, matched_count}
 use Rattle.vx_encodings.specs.Messages.{codec}
 use Rattle.vx_encodings.specs.Plain.{plain_encoding}
 use Rattle.vx_registry.specs.Session.{entry}
@@ -78,7 +78,7 @@ told-snoc s ws ps i w p us vs u h k f g x e =
     rw (next, add-one i) (record {
       matched = all_match-snoc_suc s ws i w ts u h (subst A back k.matched) (subst M f x.matched);
       sound = everywhere_below-snoc IsSoundNode ts (ts ++ u ∷ []) u (subst S back k.sound) x.sound refl;
-      normal = everywhere_below-snoc IsNormalNode ts (ts ++ u ∷ []) u (subst N back k.normal) x.normal refl;
+      normal = λ ok. everywhere_below-snoc IsNormalNode ts (ts ++ u ∷ []) u (subst N back (k.normal ok)) (x.normal ok) refl;
       placed = places-snoc_suc ts u ps i p (ap (λ z. places z) (sym back) ∙ k.placed) g x.dtype x.len;
     })
 
@@ -190,17 +190,24 @@ content_broken : (e : Encodings.Encoding) (d : Typ) (n : ℕ) (v : Metadata) (bs
 content_broken e d n v bs j k ts same x wrong =
     (record { body = x.body; body_is = x.body_is; holds = x.holds; allows = subst (λ (z : ℕ). Allows e d v z) same x.allows }, wrong)
 
-pub caused_by_build : (s : SessionMeaning) → IsShipped s → IsLawful codec s → (x : EncodingError) (w : Wire) (d : Typ) (n : ℕ) (e : Encoding) (h : ArrayHead) (bs : List Buffer) (ws : List Wire) (ps : List Place) (ts : Trees) → IsNodeOf s w d n e h
+-- arrays that the children tell are a node's children
+children_of : (s : SessionMeaning) (w : Wire) (ws : List Wire) (ps : List Place) (ts : Trees) → roses_of ws ≡ below w → AllTell s (roses_of ws) ps ts → HasChildren codec s w ps ts
+children_of s w ws ps ts own told =
+    let A : Wires → Type 0 = λ z. AllMatch codec s z ts in
+    record { matched = subst A own told.matched; sound = told.sound; normal = told.normal; placed = told.placed }
+
+pub caused_by_build : (s : SessionMeaning) (x : EncodingError) (w : Wire) (d : Typ) (n : ℕ) (e : Encoding) (h : ArrayHead) (bs : List Buffer) (ws : List Wire) (ps : List Place) (ts : Trees) → IsNodeOf s w d n e h
     → IsPlanned s.ext e h ps → (label w).buffers ≡ all_present bs → roses_of ws ≡ below w → AllTell s (roses_of ws) ps ts → IsUnbuilt x s.ext e h bs ts → RefusesWire s (encoding_refusal x) w d n
-caused_by_build s ok law refusals.OutOfMemory w d n e h bs ws ps ts read plan own own_children told c = tt
-caused_by_build s ok law refusals.BadMetadata w d n e h bs ws ps ts read plan own own_children told c = absurd c
-caused_by_build s ok law refusals.WireLimit w d n e h bs ws ps ts read plan own own_children told c = absurd c
-caused_by_build s ok law refusals.BadShape w d n e h bs ws ps ts read plan own own_children told c =
+caused_by_build s refusals.OutOfMemory w d n e h bs ws ps ts read plan own own_children told c = tt
+caused_by_build s refusals.BadMetadata w d n e h bs ws ps ts read plan own own_children told c = absurd c
+caused_by_build s refusals.WireLimit w d n e h bs ws ps ts read plan own own_children told c = absurd c
+caused_by_build s refusals.BadShape w d n e h bs ws ps ts read plan own own_children told c =
     let wrong = at_node (λ f m b k. HasWrongShape codec s.ext (plain_encoding e) f m b bs ts) h w d n read.head c in
     let plans = at_node (λ f m b k. PlansChildren codec s.ext (plain_encoding e) f m b k ps) h w d n read.head plan in
-    let A : Wires → Type 0 = λ z. AllMatch codec s z ts in
-    let matched : AllMatch codec s (below w) ts = subst A own_children told.matched in
-    let same : count (below w) ≡ count ts = sym (matched_count codec s (below w) ts matched) in
+    let kids = children_of s w ws ps ts own_children told in
+    let same : count (below w) ≡ count ts = sym (matched_count codec s (below w) ts kids.matched) in
+    let value = one_value s.ext (plain_encoding e) d (label w).metadata plans.value wrong.value plans.metadata wrong.metadata in
+    let plan_is = ap (λ z. plan_of (plain_encoding e) d n z (count (below w))) (sym value) ∙ plans.plan in
     let shaped : (IsShaped (plain_encoding e) d n wrong.value bs (count ts) → ⊥) → (cs : List Buffer) → MayStandFor (label w).buffers cs → IsShaped (plain_encoding e) d n wrong.value cs (count (below w)) → ⊥ =
     λ never cs stand fits.
     let B : List (Option Buffer) → Type 0 = λ os. MayStandFor os cs in
@@ -214,13 +221,12 @@ caused_by_build s ok law refusals.BadShape w d n e h bs ws ps ts read plan own o
         by = own_encoding s w d n e h read;
         value = wrong.value;
         metadata = wrong.metadata;
-        broken = elim wrong.wrong [ inl never ↦ inr (inl (shaped never)) | inr never ↦ inr (inr (encodings ts, untaken_of codec s ok law (plain_encoding e) d n plans.value ps (below w) ts plans.plan matched never, never)) ];
+        broken = elim wrong.wrong [ inl never ↦ inr (inl (shaped never)) | inr never ↦ inr (inr (record { places_are = ps; plan = plan_is; children = ts; matched = kids; untaken = never })) ];
       },
     )
-caused_by_build s ok law refusals.ForeignControl w d n e h bs ws ps ts read plan own own_children told c =
+caused_by_build s refusals.ForeignControl w d n e h bs ws ps ts read plan own own_children told c =
     let wrong = at_node (λ f m b k. HasWrongControl codec s.ext (plain_encoding e) f m b ts) h w d n read.head c in
     let plans = at_node (λ f m b k. PlansChildren codec s.ext (plain_encoding e) f m b k ps) h w d n read.head plan in
-    let A : Wires → Type 0 = λ z. AllMatch codec s z ts in
     let value = one_value s.ext (plain_encoding e) d (label w).metadata plans.value wrong.value plans.metadata wrong.metadata in (
       [],
       record {
@@ -231,16 +237,15 @@ caused_by_build s ok law refusals.ForeignControl w d n e h bs ws ps ts read plan
         places_are = ps;
         plan = ap (λ z. plan_of (plain_encoding e) d n z (count (below w))) (sym value) ∙ plans.plan;
         children = ts;
-        matched = record { matched = subst A own_children told.matched; sound = told.sound; normal = told.normal; placed = told.placed };
+        matched = children_of s w ws ps ts own_children told;
         foreign = wrong.foreign;
       },
     )
-caused_by_build s ok law refusals.BadContent w d n e h bs ws ps ts read plan own own_children told c =
+caused_by_build s refusals.BadContent w d n e h bs ws ps ts read plan own own_children told c =
     let wrong = at_node (λ f m b k. HasWrongContent codec s.ext (plain_encoding e) f m b bs ts) h w d n read.head c in
     let plans = at_node (λ f m b k. PlansChildren codec s.ext (plain_encoding e) f m b k ps) h w d n read.head plan in
-    let A : Wires → Type 0 = λ z. AllMatch codec s z ts in
-    let matched : AllMatch codec s (below w) ts = subst A own_children told.matched in
-    let same : count ts ≡ count (below w) = matched_count codec s (below w) ts matched in
+    let kids = children_of s w ws ps ts own_children told in
+    let same : count ts ≡ count (below w) = matched_count codec s (below w) ts kids.matched in
     let value = one_value s.ext (plain_encoding e) d (label w).metadata plans.value wrong.value plans.metadata wrong.metadata in
     let broken = content_broken (plain_encoding e) d n wrong.value bs (count ts) (count (below w)) ts same wrong.shaped wrong.wrong in (
       [],
@@ -255,7 +260,7 @@ caused_by_build s ok law refusals.BadContent w d n e h bs ws ps ts read plan own
         buffers_are = own;
         shaped = broken.0;
         children = ts;
-        matched = record { matched = matched; sound = told.sound; normal = told.normal; placed = told.placed };
+        matched = kids;
         controlled = wrong.controlled;
         broken = broken.1;
       },
@@ -268,7 +273,7 @@ built_dtype x e h bs ts w d n t is parts = ap (λ (z : Tree). (label z).dtype) p
 -- Statistics that a node shows none of.
 pub caused_by_stats : (s : SessionMeaning) (x : WireError) (w : Wire) (d : Typ) (n : ℕ) (e : Encoding) (h : ArrayHead) → IsNodeOf s w d n e h → RefusesStats x d (label w).stats → RefusesWire s x w d n
 caused_by_stats s OutOfMemory w d n e h read c = tt
-caused_by_stats s BadStats w d n e h read c = ([], record { encoding = plain_encoding e; by = own_encoding s w d n e h read; none = c })
+caused_by_stats s BadStats w d n e h read c = ([], record { reader = shipped (plain_encoding e); by = own_encoding s w d n e h read; none = c })
 caused_by_stats s _ w d n e h read c = absurd c
 
 -- The node of parts that a plan has told, over children that tell arrays, with the statistics that it shows.
@@ -276,8 +281,7 @@ pub told_node : (s : SessionMeaning) → IsLawful codec s → (w : Wire) (d : Ty
     → IsPlanned s.ext e h ps → (label w).buffers ≡ all_present bs → roses_of ws ≡ below w → AllTell s (roses_of ws) ps ts → IsBuilt s.ext e h bs ts t → IsSound t
     → IsToldBy codec d (label w).stats t u → Tells codec s w d n u
 told_node s law (node w below) d n e h ps bs ws ts t u read plan own own_children told parts sound stats =
-    let A : Wires → Type 0 = λ z. AllMatch codec s z ts in
     node_tells codec s law read.id (plain_encoding e) w below d n ps bs ts t u read.id_is read.reader_is
     (at_node (λ f m b k. PlansChildren codec s.ext (plain_encoding e) f m b k ps) h (node w below) d n read.head plan) own
-    (record { matched = subst A own_children told.matched; sound = told.sound; normal = told.normal; placed = told.placed })
+    (children_of s (node w below) ws ps ts own_children told)
     (at_node (λ f m b k. HasParts codec s.ext (plain_encoding e) f m b bs ts t) h (node w below) d n read.head parts) sound stats

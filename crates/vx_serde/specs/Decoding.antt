@@ -9,7 +9,7 @@ use Rattle.vx_array_tree.specs.Place.{Place}
 use Rattle.vx_array_tree.specs.Sound.{IsSoundNode}
 use Rattle.vx_array_tree.specs.Tree.{Trees, places}
 use Rattle.vx_wire_tree.specs.Matches.{AllMatch}
-use Rattle.vx_wire_tree.specs.Session.{SessionMeaning}
+use Rattle.vx_wire_tree.specs.Session.{SessionMeaning, IsShipped}
 use Rattle.vx_wire_tree.specs.Wire.{Wire, Wires}
 use Rattle.vx_encodings.specs.Messages.{codec}
 use Rattle.vx_encodings.specs.declared.encoding.Encoding.{Encoding}
@@ -30,9 +30,9 @@ pub record IsNodeOf (s : SessionMeaning) (w : Wire) (d : Typ) (n : ℕ) (e : Enc
   pub reader_is : s.reader id ≡ Some (entry e)
   pub head : IsHeadOf h w d n
 
--- Wire trees tell arrays one by one, each at its place.
+-- Wire trees tell arrays one by one, each at its place. These are normal, where no plugin reads or writes.
 pub record AllTell (s : SessionMeaning) (ws : Wires) (ps : List Place) (ts : Trees) : Type 0 where
   pub matched : AllMatch codec s ws ts
   pub sound : EverywhereBelow IsSoundNode ts
-  pub normal : EverywhereBelow IsNormalNode ts
+  pub normal : IsShipped s → EverywhereBelow IsNormalNode ts
   pub placed : places ts ≡ ps
