@@ -2,6 +2,7 @@
 use Rattle.std.proofs.Common.{ℕ, ◌≡◌, ◌+◌, ◌<◌, ◌≤◌, List, [], ◌∷◌, ◌++◌, Some, None, IsTrue, sym, ap, ◌∙◌, take, length, get_or}
 use Rattle.vx_buffer.specs.Buffer.{Buffer}
 use Rattle.vx_trees.specs.Rose.{node, label, count, roses_of, roses_list}
+use Rattle.vx_trees.specs.Walks.{levels}
 use Rattle.vx_types.specs.Typ.{Typ}
 use Rattle.vx_array_tree.specs.Body as B
 use Rattle.vx_array_tree.specs.Canon.{stats_written, KeepsStats}
@@ -26,7 +27,7 @@ use Rattle.vx_wire_tree.specs.Steps.{PlansChildren, HasParts, IsToldBy}
 use Rattle.vx_wire_tree.specs.Tells.{Tells}
 use Rattle.vx_wire_tree.specs.Wire.{Wire, Wires, WireHead, IsWhole, ids_in, all_present}
 use Rattle.vx_wire_tree.specs.Returns.{IsOwnCanon, Returns}
-use Rattle.vx_wire_tree.specs.Taken.{taken}
+use Rattle.vx_wire_tree.specs.Taken.{taken, IsTaken}
 use Rattle.vx_wire_tree.specs.Written.{spelled, wire, canon}
 use Rattle.vx_wire_tree.proofs.Built as Built
 use Rattle.vx_wire_tree.proofs.Kept as Kept
@@ -34,6 +35,7 @@ use Rattle.vx_wire_tree.proofs.Matched as Matched
 use Rattle.vx_wire_tree.proofs.NeverRefused as NeverRefused
 use Rattle.vx_wire_tree.proofs.PluginsAgain as PluginsAgain
 use Rattle.vx_wire_tree.proofs.ReadAgain as ReadAgain
+use Rattle.vx_wire_tree.proofs.TakenOwn as TakenOwn
 use Rattle.vx_wire_tree.proofs.Unique as Unique
 use Rattle.vx_wire_tree.proofs.WrittenAlike as WrittenAlike
 
@@ -134,6 +136,14 @@ module _ (c : Codec) (s : SessionMeaning) where
 -- write of it.
 pub returned : (c : Codec) (s : SessionMeaning) → IsLawful c s → IsPaired s → (n : ℕ) (t : Tree) → IsOwnCanon c s t → Returns c s n t → Matches c s (wire c s (taken s n t)) t
 returned c s law paired n t own r = PluginsAgain.returned c s law paired (own_spelling c s) n t (PluginsAgain.own_of c s law paired (own_spelling c s) t own) r
+
+-- What is written of an array has at most one level more than the descent goes down, whatever plugins give; and where no
+-- plugin writes, an array that is written within the levels is written as it is.
+pub taken_within : (s : SessionMeaning) (n : ℕ) (t : Tree) → levels (taken s n t) ≤ n + 1
+taken_within s n t = TakenOwn.taken_within s n t
+
+pub taken_own : (s : SessionMeaning) → IsShipped s → (n : ℕ) (t : Tree) → IsTaken s n t → levels (taken s n t) ≤ n → taken s n t ≡ t
+taken_own s ok n t k l = TakenOwn.taken_own s ok n t k l
 
 -- The foreign node of a node's parts, over children that are kept, is kept.
 pub kept_node : (id : List ℕ) (w : WireHead) (ws : Wires) (d : Typ) (n : ℕ) (metadata : List ℕ) (bs : List Buffer) (ts : Trees) → w.id ≡ Some id → metadata ≡ w.metadata → w.buffers ≡ all_present bs

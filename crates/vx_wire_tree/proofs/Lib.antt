@@ -7,4 +7,5 @@ pub mod Matched
 pub mod Built
 pub mod Plugins
 pub mod PluginsAgain
+pub mod TakenOwn
 pub mod Laws

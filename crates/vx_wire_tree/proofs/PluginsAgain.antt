@@ -55,6 +55,16 @@ record AreOwn (s : SessionMeaning) (ts : Trees) : Type 0 where
 own_below : (s : SessionMeaning) (h : Head) (ts : Trees) → IsOwn s (node h ts) → AreOwn s ts
 own_below s h ts x = record { sound = x.sound.1; normal = x.normal.1; kept = x.kept.1; known = x.known.1 }
 
+-- A node is of a known encoding, or foreign.
+pub native_or : (b : Body) → IsNative b ⊎ ((x : Foreigns.Data) × (b ≡ B.foreign x))
+native_or (B.foreign x) = inr (x, refl)
+native_or _ = inl tt
+
+-- A node of a known encoding is written by what writes the encoding.
+pub step_native : (s : SessionMeaning) (b : Body) (h : Head) (ts : Trees) → IsNative b → step_by s b h ts ≡ writer_step (s.writer (id_of (encoding_of b))) h ts
+step_native s (B.foreign x) h ts k = absurd k
+step_native s _ h ts k = refl
+
 module _ (c : Codec) (s : SessionMeaning) (law : IsLawful c s) (paired : IsPaired s) where
   -- An array that is its own canon is so.
   pub own_of : (spells : Canon.SpellsOwn (spelled c s)) (t : Tree) → IsOwnCanon c s t → IsOwn s t
@@ -149,10 +159,6 @@ module _ (c : Codec) (s : SessionMeaning) (law : IsLawful c s) (paired : IsPaire
       let S : Answer → Type 0 = λ a. Stepped (plugin_step p h a) f h ts in
       subst S (sym b.serialized) (declared_step p h ts y f b.declared (given_told p h ts (f y.children) y x k b.serialized b.reader g.1 g.0 (n y.children)))
 
-  step_native : (b : Body) (h : Head) (ts : Trees) → IsNative b → step_by s b h ts ≡ writer_step (s.writer (id_of (encoding_of b))) h ts
-  step_native (B.foreign x) h ts k = absurd k
-  step_native _ h ts k = refl
-
   returns_native : (b : Body) (h : Head) (ts : Trees) (Below Given : Trees → Type 0) → ReturnsAs s b h ts Below Given → IsNative b × ReturnsBy s (s.writer (id_of (encoding_of b))) h ts Below Given
   returns_native (B.foreign x) h ts Below Given r = absurd r
   returns_native _ h ts Below Given r = (tt, r)
@@ -179,17 +185,13 @@ module _ (c : Codec) (s : SessionMeaning) (law : IsLawful c s) (paired : IsPaire
   foreign_place true h ts = (refl, refl)
   foreign_place false h ts = (refl, refl)
 
-  native_or : (b : Body) → IsNative b ⊎ ((x : Foreigns.Data) × (b ≡ B.foreign x))
-  native_or (B.foreign x) = inr (x, refl)
-  native_or _ = inl tt
-
   abbrev IsPlacedAs : Head → Step → Type 0
   IsPlacedAs h x = ((step_head x h).dtype ≡ h.dtype) × ((step_head x h).len ≡ h.len)
 
   step_place : (b : Body) (h : Head) (ts : Trees) → IsPlacedAs h (step_by s b h ts)
   step_place b h ts =
       elim (native_or b) [
-        | inl k ↦ subst (λ x. IsPlacedAs h x) (sym (step_native b h ts k)) (writer_place (s.writer (id_of (encoding_of b))) h ts)
+        | inl k ↦ subst (λ x. IsPlacedAs h x) (sym (step_native s b h ts k)) (writer_place (s.writer (id_of (encoding_of b))) h ts)
         | inr q ↦ subst (λ z. IsPlacedAs h (step_by s z h ts)) (sym q.1) (foreign_place s.ext.unknown h ts)
       ]
 
@@ -227,6 +229,6 @@ module _ (c : Codec) (s : SessionMeaning) (law : IsLawful c s) (paired : IsPaire
       let Below : Trees → Type 0 = λ us. Each (λ u. Returns c s n u) us in
       let Given : Trees → Type 0 = λ us. Each (λ u. IsOwnCanon c s u × Returns c s n u) us in
       let q = returns_native h.body h ts Below Given r.1 in
-      subst (λ z. Stepped z f h ts) (sym (step_native h.body h ts q.0))
+      subst (λ z. Stepped z f h ts) (sym (step_native s h.body h ts q.0))
       (writer_told (s.writer (id_of (encoding_of h.body))) h ts f Below Given q.0 x r.0 refl q.1
       (λ us y k. all_returned n (λ t z w. returned spells n t z w) us y k) (λ us k. all_given spells n (λ t z w. returned spells n t z w) us k) (λ us. each_places n us) (λ us. each_count n us))
