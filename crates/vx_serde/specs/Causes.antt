@@ -10,7 +10,7 @@ use Rattle.vx_wire_tree.specs.Wire.{Wire}
 use Rattle.vx_encodings.specs.Messages.{codec}
 use Rattle.vx_serde.specs.declared.options.SerializeOptions.{SerializeOptions}
 use Rattle.vx_serde.specs.declared.error.WireError.{WireError}
-use Rattle.vx_serde.specs.declared.error.WireError.TheVariants.{OutOfMemory, TooShort, BadTable, TableLimit, BadAlignment, Compressed, OutOfBounds, UnknownIndex, UnknownEncoding, BadMetadata, BadShape, BadContent, ForeignControl, BadStats, NotPermitted, WireLimit, NotRegistered}
+use Rattle.vx_serde.specs.declared.error.WireError.TheVariants.{OutOfMemory, TooShort, BadTable, TableLimit, BadAlignment, Compressed, OutOfBounds, UnknownIndex, UnknownEncoding, BadMetadata, BadShape, BadContent, ForeignControl, BadStats, NotPermitted, WireLimit, NotRegistered, NotSerializable, UndeclaredId, PluginRefused}
 use Rattle.vx_serde.specs.Blob.{Carries}
 use Rattle.vx_serde.specs.Limits.{message_limits}
 use Rattle.vx_serde.specs.Opening.{RefusesOpening}
@@ -28,6 +28,7 @@ RefusesWire s BadShape w d n = RefusesTree trees.bad_shape codec s w d n
 RefusesWire s BadContent w d n = RefusesTree trees.bad_content codec s w d n
 RefusesWire s ForeignControl w d n = RefusesTree trees.foreign_control codec s w d n
 RefusesWire s BadStats w d n = RefusesTree trees.bad_stats codec s w d n
+RefusesWire s PluginRefused w d n = RefusesTree trees.plugin_refused codec s w d n
 RefusesWire s _ w d n = ⊥
 
 -- The blob carries a wire tree that tells no array.

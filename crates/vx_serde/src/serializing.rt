@@ -1,13 +1,5 @@
 //! Writing an array as a blob.
 
-ghost use Rattle.std.specs.Prelude.{IfOk, IfErr};
-ghost use Rattle.vx_wire_tree.specs.Wire.{ids_in};
-ghost use Rattle.vx_wire_tree.specs.Written.{wire};
-ghost use Rattle.vx_encodings.specs.Messages.{codec};
-ghost use Rattle.vx_registry.specs.Meaning.{session_meaning};
-ghost use Rattle.vx_serde.specs.Causes.{RefusesArray};
-ghost use Rattle.vx_serde.specs.KeptContext.{KeepsContext};
-ghost use Rattle.vx_serde.specs.Serializing.{IsSerialized};
 
 use crate::error::WireError;
 use crate::options::SerializeOptions;
@@ -47,12 +39,6 @@ impl ArrayExt for Array {
         session: &VortexSession,
         options: &SerializeOptions,
     ) -> Result<ByteBuffers, WireError>
-        ensures made { let s = session_meaning (λ b. accepted (b.vtable, b.value)) session.now in
-            IfOk result (λ buffers. IsSerialized s self.now options.now ctx.old ctx.new buffers) }
-        ensures left { let s = session_meaning (λ b. accepted (b.vtable, b.value)) session.now in
-            KeepsContext (ids_in (wire codec s self.now)) ctx.old ctx.new }
-        ensures cause { let s = session_meaning (λ b. accepted (b.vtable, b.value)) session.now in
-            IfErr result (RefusesArray s self.now ctx.old options.now) }
     {
         let unknown = session.allows_unknown();
         write_array(alloc, self, &session.arrays, unknown, ctx, options)
