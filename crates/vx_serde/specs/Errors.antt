@@ -1,5 +1,7 @@
 -- The numbers of refusals.
 use Rattle.std.specs.Prelude.{ℕ}
+use Rattle.vx_registry.specs.declared.error.RegistryError.{RegistryError}
+use Rattle.vx_registry.specs.declared.error.RegistryError.TheVariants as registry
 use Rattle.vx_serde.specs.declared.error.WireError.{WireError}
 use Rattle.vx_serde.specs.declared.error.WireError.TheVariants.{OutOfMemory, TooShort, BadTable, TableLimit, BadAlignment, Compressed, OutOfBounds, UnknownIndex, UnknownEncoding, BadMetadata, BadShape, BadContent, ForeignControl, BadStats, NotPermitted, WireLimit, NotRegistered, NotSerializable, UndeclaredId, PluginRefused}
 
@@ -26,3 +28,11 @@ error_number NotRegistered = 25
 error_number NotSerializable = 26
 error_number UndeclaredId = 27
 error_number PluginRefused = 28
+
+-- The refusals of a root, as those of an array.
+abbrev pub registry_refusal : RegistryError → WireError
+registry_refusal registry.OutOfMemory = OutOfMemory
+registry_refusal registry.NotRegistered = NotRegistered
+registry_refusal registry.UndeclaredId = UndeclaredId
+registry_refusal registry.PluginRefused = PluginRefused
+registry_refusal registry.WireLimit = WireLimit

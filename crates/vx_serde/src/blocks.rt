@@ -3,14 +3,15 @@
 ghost use Rattle.std.specs.Prelude.{◌≡◌, ◌%◌, ◌<◌, ◌^◌, ◌∷◌, [], true, false, length, OnOk, IfErr};
 ghost use Rattle.vx_flat.specs.Building.{Takes, IsStopped};
 ghost use Rattle.vx_flat.specs.Pieces.{elements_piece, default_entry, is_width};
+ghost use Rattle.vx_trees.specs.Rose.{label};
 ghost use Rattle.vx_scalar_wire.specs.StatsTable.{AreStorable, stats_pieces};
 ghost use Rattle.vx_serde.specs.Blocks.{AreWritten};
 ghost use Rattle.vx_serde.specs.WritingSteps.{builder_refusal};
 
+use crate::taken::TakenNode;
 use std::alloc::Global;
 use vx_flat::{BlockField, BlockVector, Builder, FlatError, LinkKind};
 use vx_scalar_wire::{ScalarWireError, StatsSetExt};
-use vx_scalars::StatsSet;
 
 /// The entry of a field that is a table.
 pub(crate) const TABLE: BlockField = BlockField::Link(LinkKind::Table);
@@ -50,15 +51,15 @@ pub(crate) fn write_elements(
 /// Writes the blocks of the table of an array's statistics.
 pub(crate) fn write_statistics(
     alloc: Global,
-    stats: &StatsSet,
+    array: &TakenNode<'_>,
     builder: &mut Builder,
 ) -> Result<(), FlatError>
     requires takes { Takes LinkKind.Table builder.old }
-    ensures written { OnOk result (AreWritten builder.old (stats_pieces stats.now) builder.new) }
-    ensures storable { OnOk result (AreStorable stats.now) }
-    ensures stopped { IfErr result (λ e. IsStopped builder.old (stats_pieces stats.now) e builder.new) }
+    ensures written { OnOk result (AreWritten builder.old (stats_pieces (label array.now).stats) builder.new) }
+    ensures storable { OnOk result (AreStorable (label array.now).stats) }
+    ensures stopped { IfErr result (λ e. IsStopped builder.old (stats_pieces (label array.now).stats) e builder.new) }
 {
-    match stats.write_flatbuffer(alloc, builder) {
+    match array.statistics().write_flatbuffer(alloc, builder) {
         Ok(()) => Ok(()),
         Err(e) => Err(as_flat_error(e)),
     }

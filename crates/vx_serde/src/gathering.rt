@@ -1,5 +1,18 @@
 //! What the nodes of an array bring along when it is written: their buffers, and the numbers of their encodings.
 
+ghost use Rattle.std.specs.Prelude.{◌≡◌, ◌++◌, ◌∷◌, [], ℕ, List, Some, OnOk, IfOk, IfErr};
+ghost use Rattle.vx_trees.specs.Rose.{label};
+ghost use Rattle.vx_array_tree.specs.Table.{buffers_of};
+ghost use Rattle.vx_wire_tree.specs.Context.{grown_by, index_of};
+ghost use Rattle.vx_wire_tree.specs.Session.{SessionMeaning};
+ghost use Rattle.vx_wire_tree.specs.Wire.{ids_in, buffers_in};
+ghost use Rattle.vx_wire_tree.specs.Written.{wire};
+ghost use Rattle.vx_encodings.specs.Messages.{codec};
+ghost use Rattle.vx_registry.specs.Serialization.{array_id};
+ghost use Rattle.vx_serde.specs.Blocks.{encodings_in};
+ghost use Rattle.vx_serde.specs.KeptContext.{KeepsContext};
+ghost use Rattle.vx_serde.specs.WritingSteps.{RefusesRoot, RefusesGathering};
+
 use crate::error::WireError;
 use crate::lent_buffers::LentBuffers;
 use crate::taken::TakenNode;
@@ -17,7 +30,10 @@ pub(crate) struct Gathered<'a> {
 
 impl<'a> Gathered<'a> {
     /// Those of no node.
-    pub(crate) fn new(alloc: Global) -> Gathered<'a> {
+    pub(crate) fn new(alloc: Global) -> Gathered<'a>
+        ensures buffers { result.buffers ≡ [] }
+        ensures encodings { result.encodings.items ≡ [] }
+    {
         Gathered {
             buffers: LentBuffers::new(alloc),
             encodings: Vec::new(alloc),
@@ -25,13 +41,18 @@ impl<'a> Gathered<'a> {
     }
 }
 
-/// The number of a node's identifier, which the context takes where it is new.
+/// The number of a root's identifier, which the context takes where it is new.
 fn encoding_number(
     alloc: Global,
-    node: &TakenNode<'_>,
+    array: &TakenNode<'_>,
     ctx: &mut ArrayContext,
-) -> Result<u16, WireError> {
-    let Ok(id) = Id::new(alloc, node.id()) else {
+) -> Result<u16, WireError>
+    ensures grown { OnOk result (grown_by (array_id array.now ∷ []) ctx.old ≡ Some ctx.new) }
+    ensures number { IfOk result (λ n. (more : List (List ℕ)) → index_of (array_id array.now) (ctx.new.ids ++ more) ≡ n) }
+    ensures kept { KeepsContext (array_id array.now ∷ []) ctx.old ctx.new }
+    ensures cause { IfErr result (RefusesRoot array.now ctx.old) }
+{
+    let Ok(id) = Id::new(alloc, array.encoding_id()) else {
         return Err(WireError::OutOfMemory);
     };
     match ctx.intern(&id) {
@@ -41,29 +62,52 @@ fn encoding_number(
     }
 }
 
-/// The buffers of a node itself, behind those that were found.
-fn push_own<'a>(
-    node: &'a TakenNode<'_>,
-    found: &mut LentBuffers<'a>,
-) -> Result<(), BufferError> {
-    for i in 0..node.nbuffers() {
-        found.push(node.buffer(i))?;
+/// The buffers of an array's root, behind those that were found.
+fn push_own<'a>(array: &'a TakenNode<'_>, found: &mut LentBuffers<'a>) -> Result<(), BufferError>
+    ensures { OnOk result (found.new ≡ found.old ++ buffers_of (label array.now).body) }
+{
+    for i in 0..array.nbuffers() {
+        found.push(array.buffer(i))?;
     }
     Ok(())
 }
 
-/// What nodes bring along in preorder, behind what was found. Their identifiers are taken into the context in preorder.
-/// `NotPermitted` where the context does not take an identifier.
-pub(crate) fn gather<'a>(
+/// What an array's root brings along, behind what was found.
+fn push_root<'a>(
     alloc: Global,
-    node: &'a TakenNode<'_>,
+    array: &'a TakenNode<'_>,
     ctx: &mut ArrayContext,
     found: &mut Gathered<'a>,
-) -> Result<(), WireError> {
-    let encoding = encoding_number(alloc, node, ctx)?;
+) -> Result<(), WireError>
+    ensures buffers { OnOk result (found.new.buffers ≡ found.old.buffers ++ buffers_of (label array.now).body) }
+    ensures encodings { (more : List (List ℕ)) → OnOk result (found.new.encodings.items ≡ found.old.encodings.items ++ index_of (array_id array.now) (ctx.new.ids ++ more) ∷ []) }
+    ensures grown { OnOk result (grown_by (array_id array.now ∷ []) ctx.old ≡ Some ctx.new) }
+    ensures kept { KeepsContext (array_id array.now ∷ []) ctx.old ctx.new }
+    ensures cause { IfErr result (RefusesRoot array.now ctx.old) }
+{
+    let encoding = encoding_number(alloc, array, ctx)?;
     found.encodings.push(encoding)?;
-    push_own(node, &mut found.buffers)?;
-    for child in node.children() {
+    push_own(array, &mut found.buffers)?;
+    Ok(())
+}
+
+/// What an array's nodes bring along in preorder, behind what was found. Their identifiers are taken into the context
+/// in preorder. `NotPermitted` where the context does not take an identifier.
+#[tactic(auto, using(vx_trees::proofs::Roses::roses))]
+pub(crate) fn gather<'a>(
+    alloc: Global,
+    array: &'a TakenNode<'_>,
+    ctx: &mut ArrayContext,
+    found: &mut Gathered<'a>,
+) -> Result<(), WireError>
+    ensures buffers { (s : SessionMeaning) → OnOk result (found.new.buffers ≡ found.old.buffers ++ buffers_in (wire codec s array.now)) }
+    ensures encodings { (s : SessionMeaning) (more : List (List ℕ)) → OnOk result (found.new.encodings.items ≡ found.old.encodings.items ++ encodings_in (ctx.new.ids ++ more) (wire codec s array.now)) }
+    ensures grown { (s : SessionMeaning) → OnOk result (grown_by (ids_in (wire codec s array.now)) ctx.old ≡ Some ctx.new) }
+    ensures kept { (s : SessionMeaning) → KeepsContext (ids_in (wire codec s array.now)) ctx.old ctx.new }
+    ensures cause { (s : SessionMeaning) → IfErr result (RefusesGathering s array.now ctx.old) }
+{
+    push_root(alloc, array, ctx, found)?;
+    for child in array.children() {
         gather(alloc, child, ctx, found)?;
     }
     Ok(())

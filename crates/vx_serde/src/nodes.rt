@@ -1,6 +1,22 @@
 //! The nodes of an array as blocks of a message: encodings by given numbers, buffers by their
 //! numbers in preorder.
 
+ghost use Rattle.std.specs.Prelude.{◌≡◌, ◌+◌, ◌≤◌, ◌<◌, ◌^◌, length, get_or, IfOk, IfErr, OnOk, IsOkUnless};
+ghost use Rattle.vx_trees.specs.Everywhere.{EverywhereBelow};
+ghost use Rattle.vx_trees.specs.Rose.{label, below, roses_of};
+ghost use Rattle.vx_trees.specs.Walks.{nodes, nodes_of, gathered_below};
+ghost use Rattle.vx_flat.specs.Building.{Takes, IsStopped};
+ghost use Rattle.vx_array_tree.specs.Sound.{metadata_in};
+ghost use Rattle.vx_array_tree.specs.Table.{buffers_of};
+ghost use Rattle.vx_wire_tree.specs.Fields.{told};
+ghost use Rattle.vx_wire_tree.specs.ReadBack.{IsStorableNode, HasStorableStats};
+ghost use Rattle.vx_wire_tree.specs.Session.{SessionMeaning};
+ghost use Rattle.vx_wire_tree.specs.Wire.{buffers_in, buffers_at_node};
+ghost use Rattle.vx_wire_tree.specs.Written.{wire, wires};
+ghost use Rattle.vx_encodings.specs.Messages.{codec, message_bytes};
+ghost use Rattle.vx_serde.specs.Blocks.{node_pieces, children_pieces, AreWritten};
+ghost use Rattle.vx_serde.specs.MessageValue.{index_bytes};
+ghost use Rattle.vx_serde.specs.Numbered.{numbers_from};
 
 use crate::blocks::{TABLE, VECTOR, encoding_entry, write_elements, write_statistics};
 use crate::taken::TakenNode;
@@ -25,6 +41,8 @@ struct NodeParts {
 
 /// This many numbers from the first on, in two bytes each.
 fn number_bytes(alloc: Global, first: usize, count: usize) -> Result<Vec<u8>, AllocError>
+    requires { first + count ≤ 65535 }
+    ensures { IfOk result (λ v. v.items ≡ index_bytes (numbers_from first count)) }
 {
     let mut bytes = Vec::new(alloc);
     for i in 0..count {
@@ -33,20 +51,28 @@ fn number_bytes(alloc: Global, first: usize, count: usize) -> Result<Vec<u8>, Al
     Ok(bytes)
 }
 
-/// The parts of a root, which is passed by. That its metadata fits its message was judged where the nodes were gathered,
+/// The parts of a root, which is passed by. That its metadata fits its message was judged where the nodes were taken,
 /// so want of memory is what is left.
 fn node_parts(
     alloc: Global,
-    node: &TakenNode<'_>,
+    array: &TakenNode<'_>,
     encodings: &[u16],
     passed: &mut Passed,
 ) -> Result<NodeParts, FlatError>
+    requires known { passed.old.nodes < length encodings.now }
+    requires few { passed.old.buffers + length (buffers_of (label array.now).body) ≤ 65535 }
+    ensures encoding { IfOk result (λ p. p.encoding ≡ get_or encodings.now passed.old.nodes 0) }
+    ensures metadata { IfOk result (λ p. p.metadata ≡ message_bytes (told (metadata_in (label array.now) (below array.now)))) }
+    ensures numbers { IfOk result (λ p. p.buffers.items ≡ index_bytes (numbers_from passed.old.buffers (length (buffers_of (label array.now).body)))) }
+    ensures nodes { OnOk result (passed.new.nodes ≡ passed.old.nodes + 1) }
+    ensures buffers { OnOk result (passed.new.buffers ≡ passed.old.buffers + length (buffers_of (label array.now).body)) }
+    ensures err { IsOkUnless result FlatError.OutOfMemory }
 {
     let encoding = encodings[passed.nodes];
-    let Ok(metadata) = node.metadata(alloc) else {
+    let Ok(metadata) = array.metadata(alloc) else {
         return Err(FlatError::OutOfMemory);
     };
-    let own = node.nbuffers();
+    let own = array.nbuffers();
     let buffers = number_bytes(alloc, passed.buffers, own)?;
     passed.nodes += 1;
     passed.buffers += own;
@@ -63,28 +89,37 @@ fn node_parts(
 #[cycle(nodes)]
 pub(crate) fn write_node(
     alloc: Global,
-    node: &TakenNode<'_>,
+    array: &TakenNode<'_>,
     encodings: &[u16],
     passed: &mut Passed,
     builder: &mut Builder,
 ) -> Result<(), FlatError>
+    requires takes { Takes LinkKind.Table builder.old }
+    requires known { passed.old.nodes + nodes array.now ≤ length encodings.now }
+    requires few { (s : SessionMeaning) → passed.old.buffers + length (buffers_in (wire codec s array.now)) ≤ 65535 }
+    requires counted { nodes array.now < 2 ^ 32 }
+    ensures nodes { OnOk result (passed.new.nodes ≡ passed.old.nodes + nodes array.now) }
+    ensures buffers { (s : SessionMeaning) → OnOk result (passed.new.buffers ≡ passed.old.buffers + length (buffers_in (wire codec s array.now))) }
+    ensures written { (s : SessionMeaning) → OnOk result (AreWritten builder.old (node_pieces encodings.now passed.old.nodes passed.old.buffers (wire codec s array.now)) builder.new) }
+    ensures storable { OnOk result (HasStorableStats codec array.now) }
+    ensures stopped { (s : SessionMeaning) → IfErr result (λ e. IsStopped builder.old (node_pieces encodings.now passed.old.nodes passed.old.buffers (wire codec s array.now)) e builder.new) }
 {
-    let parts = node_parts(alloc, node, encodings, passed)?;
-    let table = builder.table(&[
+    let parts = node_parts(alloc, array, encodings, passed)?;
+    let node = builder.table(&[
         encoding_entry(parts.encoding),
         VECTOR,
         VECTOR,
         VECTOR,
         TABLE,
     ])?;
-    builder.link(table, 1);
+    builder.link(node, 1);
     write_elements(1, parts.metadata.as_slice(), builder)?;
-    builder.link(table, 2);
-    write_nodes(alloc, node.children(), encodings, passed, builder)?;
-    builder.link(table, 3);
+    builder.link(node, 2);
+    write_nodes(alloc, array.children(), encodings, passed, builder)?;
+    builder.link(node, 3);
     write_elements(2, &parts.buffers, builder)?;
-    builder.link(table, 4);
-    write_statistics(alloc, node.statistics(), builder)?;
+    builder.link(node, 4);
+    write_statistics(alloc, array.statistics(), builder)?;
     Ok(())
 }
 
@@ -92,19 +127,28 @@ pub(crate) fn write_node(
 #[cycle(nodes)]
 fn write_nodes(
     alloc: Global,
-    nodes: &[TakenNode<'_>],
+    arrays: &[TakenNode<'_>],
     encodings: &[u16],
     passed: &mut Passed,
     builder: &mut Builder,
 ) -> Result<(), FlatError>
+    requires takes { Takes LinkKind.Vector builder.old }
+    requires known { passed.old.nodes + nodes_of (roses_of arrays.now) ≤ length encodings.now }
+    requires few { (s : SessionMeaning) → passed.old.buffers + length (gathered_below (λ h. buffers_at_node h) (wires codec s (roses_of arrays.now))) ≤ 65535 }
+    requires counted { nodes_of (roses_of arrays.now) < 2 ^ 32 }
+    ensures nodes { OnOk result (passed.new.nodes ≡ passed.old.nodes + nodes_of (roses_of arrays.now)) }
+    ensures buffers { (s : SessionMeaning) → OnOk result (passed.new.buffers ≡ passed.old.buffers + length (gathered_below (λ h. buffers_at_node h) (wires codec s (roses_of arrays.now)))) }
+    ensures written { (s : SessionMeaning) → OnOk result (AreWritten builder.old (children_pieces encodings.now passed.old.nodes passed.old.buffers (wires codec s (roses_of arrays.now))) builder.new) }
+    ensures storable { OnOk result (EverywhereBelow (IsStorableNode codec) (roses_of arrays.now)) }
+    ensures stopped { (s : SessionMeaning) → IfErr result (λ e. IsStopped builder.old (children_pieces encodings.now passed.old.nodes passed.old.buffers (wires codec s (roses_of arrays.now))) e builder.new) }
 {
     let vector = builder.vector(BlockVector::Links {
         kind: LinkKind::Table,
-        count: nodes.len() as u32,
+        count: arrays.len() as u32,
     })?;
-    for i in 0..nodes.len() {
+    for i in 0..arrays.len() {
         builder.link(vector, i);
-        write_node(alloc, &nodes[i], encodings, passed, builder)?;
+        write_node(alloc, &arrays[i], encodings, passed, builder)?;
     }
     Ok(())
 }

@@ -1,5 +1,34 @@
 //! Arrays as blobs.
 
+ghost use Rattle.std.specs.Prelude.{◌≡◌, ◌+◌, ◌≤◌, ◌<◌, ◌-◌, ◌^◌, ◌++◌, [], ◌∷◌, Some, false, IsTrue, IsFalse, length, IfOk, IfErr, OnOk};
+ghost use Rattle.std.specs.Int.{w32, to_le_bytes};
+ghost use Rattle.vx_flat.specs.Building.{Takes, IsStopped};
+ghost use Rattle.vx_flat.specs.IsOf.{IsOf};
+ghost use Rattle.vx_flat.specs.Limits.{limits, IsLight};
+ghost use Rattle.vx_flat.specs.Pieces.{pieces};
+ghost use Rattle.vx_flat.specs.Shows.{Shows};
+ghost use Rattle.vx_flat.specs.Value.{Fields};
+ghost use Rattle.vx_flat.specs.Weight as weigh;
+ghost use Rattle.vx_trees.specs.Walks.{levels, nodes};
+ghost use Rattle.vx_types.specs.Known.{ExtMeaning};
+ghost use Rattle.vx_wire_tree.specs.Context.{grown_by};
+ghost use Rattle.vx_wire_tree.specs.Limits.{AreDescribable, HasMessages};
+ghost use Rattle.vx_wire_tree.specs.ReadBack.{HasStorableStats};
+ghost use Rattle.vx_wire_tree.specs.Session.{SessionMeaning};
+ghost use Rattle.vx_wire_tree.specs.Wire.{ids_in, buffers_in};
+ghost use Rattle.vx_wire_tree.specs.Written.{wire};
+ghost use Rattle.vx_encodings.specs.Messages.{codec};
+ghost use Rattle.vx_registry.specs.Meaning.{arrays_meaning};
+ghost use Rattle.vx_buffer.specs.Joined.{joined};
+ghost use Rattle.vx_serde.specs.ArraySchema.{array_schema};
+ghost use Rattle.vx_serde.specs.Blocks.{AreWritten, encodings_in, message_by, layout_by};
+ghost use Rattle.vx_serde.specs.Causes.{RefusesArray, RefusesWriting};
+ghost use Rattle.vx_serde.specs.KeptContext.{KeepsContext};
+ghost use Rattle.vx_serde.specs.Placing.{data_end};
+ghost use Rattle.vx_serde.specs.Serializing.{IsWrittenBlob, IsSerialized};
+ghost use Rattle.vx_serde.specs.Taking.{as_written};
+ghost use Rattle.vx_serde.specs.WritingSteps.{IsLaidOut, RefusesLayout, RefusesBytes, AreDescriptors};
+ghost use Rattle.vx_serde.specs.WrittenBuffers.{unaligned, pad_buffers, data_buffers, greatest_exponent};
 
 use crate::array_kind::ArrayKind;
 use crate::blocks::{TABLE, VECTOR, write_elements};
@@ -25,6 +54,11 @@ fn blob_buffers(
     padding: usize,
     message: Vec<u8>,
 ) -> Result<ByteBuffers, BufferError>
+    requires describable { AreDescribable buffers.now }
+    requires fits { data_end options.now options.now.offset buffers.now < 2 ^ 64 }
+    requires short { length message.items < 2 ^ 31 }
+    ensures { IfOk result (λ bs. bs ≡ record { bytes = []; exponent = greatest_exponent 3 buffers.now } ∷ (data_buffers options.now options.now.offset buffers.now
+        ++ (pad_buffers padding ++ (unaligned message.items ∷ unaligned (to_le_bytes w32 (length message.items)) ∷ [])))) }
 {
     let word = Vec::from_slice(alloc, &(message.len() as u32).to_le_bytes())?;
     let mut out = ByteBuffers::new(alloc);
@@ -38,6 +72,10 @@ fn blob_buffers(
 
 /// A message, where a reader's limits admit it.
 fn light_message(message: FlatBuffer) -> Result<Vec<u8>, WireError>
+    requires { (v : Fields) × Shows array_schema message v }
+    ensures same { IfOk result (λ m. m.items ≡ message) }
+    ensures light { OnOk result (IsLight limits (weigh.weight array_schema message)) }
+    ensures refused { IfErr result (λ e. (e ≡ WireError.WireLimit) × (IsLight limits (weigh.weight array_schema message) → ⊥)) }
 {
     match verify_uncounted(message.as_slice(), &ArrayKind) {
         Ok(_) => {}
@@ -52,11 +90,19 @@ fn light_message(message: FlatBuffer) -> Result<Vec<u8>, WireError>
 /// Writes the blocks of a message: of its table, of an array's nodes, and of the bytes of descriptors.
 fn write_blocks(
     alloc: Global,
-    node: &TakenNode<'_>,
+    array: &TakenNode<'_>,
     encodings: &[u16],
     descriptors: &[u8],
     builder: &mut Builder,
 ) -> Result<(), FlatError>
+    requires takes { Takes LinkKind.Table builder.old }
+    requires known { nodes array.now ≤ length encodings.now }
+    requires few { (s : SessionMeaning) → length (buffers_in (wire codec s array.now)) ≤ 65535 }
+    requires counted { nodes array.now < 2 ^ 32 }
+    requires whole { AreDescriptors descriptors.now }
+    ensures written { (s : SessionMeaning) → OnOk result (AreWritten builder.old (pieces array_schema (message_by encodings.now (wire codec s array.now) descriptors.now)) builder.new) }
+    ensures storable { OnOk result (HasStorableStats codec array.now) }
+    ensures stopped { (s : SessionMeaning) → IfErr result (λ e. IsStopped builder.old (pieces array_schema (message_by encodings.now (wire codec s array.now) descriptors.now)) e builder.new) }
 {
     let root = builder.table(&[TABLE, VECTOR])?;
     builder.link(root, 0);
@@ -64,7 +110,7 @@ fn write_blocks(
         nodes: 0,
         buffers: 0,
     };
-    write_node(alloc, node, encodings, &mut passed, builder)?;
+    write_node(alloc, array, encodings, &mut passed, builder)?;
     builder.link(root, 1);
     write_elements(8, descriptors, builder)?;
     Ok(())
@@ -73,16 +119,25 @@ fn write_blocks(
 /// The message of an array, whose encodings have these numbers in preorder, and of the bytes of its descriptors.
 fn write_message(
     alloc: Global,
-    node: &TakenNode<'_>,
+    array: &TakenNode<'_>,
     encodings: &[u16],
     descriptors: &[u8],
 ) -> Result<Vec<u8>, WireError>
+    requires known { length encodings.now ≡ nodes array.now }
+    requires few { (s : SessionMeaning) → length (buffers_in (wire codec s array.now)) ≤ 65535 }
+    requires whole { AreDescriptors descriptors.now }
+    requires of_kind { (s : SessionMeaning) → IsOf array_schema (message_by encodings.now (wire codec s array.now) descriptors.now) }
+    ensures written { (s : SessionMeaning) → IfOk result (λ m. m.items ≡ layout_by encodings.now (wire codec s array.now) descriptors.now) }
+    ensures storable { OnOk result (HasStorableStats codec array.now) }
+    ensures short { IfOk result (λ m. length m.items < 2 ^ 31) }
+    ensures light { IfOk result (λ m. IsLight limits (weigh.weight array_schema m.items)) }
+    ensures refused { (s : SessionMeaning) → IfErr result (RefusesBytes (layout_by encodings.now (wire codec s array.now) descriptors.now)) }
 {
     if encodings.len() > MAX_NODES {
         return Err(WireError::WireLimit);
     }
     let mut builder = Builder::new(alloc);
-    write_blocks(alloc, node, encodings, descriptors, &mut builder)?;
+    write_blocks(alloc, array, encodings, descriptors, &mut builder)?;
     let message = match builder.finish(alloc) {
         Ok(message) => message,
         Err(_) => unreachable!(),
@@ -90,16 +145,24 @@ fn write_message(
     light_message(message)
 }
 
-/// What nodes bring along in preorder, and where their buffers go. Their identifiers are taken into the context in
-/// preorder.
+/// What an array's nodes bring along in preorder, and where its buffers go. Its identifiers are taken into the context
+/// in preorder.
 fn place<'a>(
     alloc: Global,
-    node: &'a TakenNode<'_>,
+    array: &'a TakenNode<'_>,
     ctx: &mut ArrayContext,
     options: &SerializeOptions,
-) -> Result<(Gathered<'a>, LaidOut), WireError> {
+) -> Result<(Gathered<'a>, LaidOut), WireError>
+    requires levels { levels array.now ≤ 62 }
+    ensures buffers { (s : SessionMeaning) → IfOk result (λ p. p.0.buffers ≡ buffers_in (wire codec s array.now)) }
+    ensures encodings { (s : SessionMeaning) → IfOk result (λ p. p.0.encodings.items ≡ encodings_in ctx.new.ids (wire codec s array.now)) }
+    ensures placed { (s : SessionMeaning) → IfOk result (λ p. IsLaidOut options.now (wire codec s array.now) p.1.descriptors.items p.1.end) }
+    ensures grown { (s : SessionMeaning) → OnOk result (grown_by (ids_in (wire codec s array.now)) ctx.old ≡ Some ctx.new) }
+    ensures kept { (s : SessionMeaning) → KeepsContext (ids_in (wire codec s array.now)) ctx.old ctx.new }
+    ensures refused { (s : SessionMeaning) → IfErr result (RefusesLayout s options.now array.now ctx.old) }
+{
     let mut found = Gathered::new(alloc);
-    gather(alloc, node, ctx, &mut found)?;
+    gather(alloc, array, ctx, &mut found)?;
     if found.buffers.len() > MAX_BUFFERS || !are_describable(&found.buffers) {
         return Err(WireError::WireLimit);
     }
@@ -112,8 +175,34 @@ fn place<'a>(
 /// Whether a blob ends within the positions of 64 bits: the position where its data ends, the
 /// pad in front of its message, and the message's length are given.
 fn has_end(end: usize, padding: usize, message: usize) -> bool
+    requires pad { padding < 2 ^ 16 }
+    requires short { message < 2 ^ 31 }
+    ensures within { IsTrue result → end + (padding + message + 4) < 2 ^ 64 }
+    ensures late { IsFalse result → 2 ^ 64 ≤ end + (padding + message + 4) }
 {
     end.checked_add(padding + message + 4).is_some()
+}
+
+/// Writes an array whose nodes were taken: the buffers, one after the other, are its blob.
+fn write_taken(
+    alloc: Global,
+    array: &TakenNode<'_>,
+    ctx: &mut ArrayContext,
+    options: &SerializeOptions,
+) -> Result<ByteBuffers, WireError>
+    requires levels { levels array.now ≤ 62 }
+    requires messages { HasMessages array.now }
+    ensures made { (s : SessionMeaning) → IfOk result (λ bs. IsWrittenBlob s array.now options.now ctx.old ctx.new bs) }
+    ensures kept { (s : SessionMeaning) → KeepsContext (ids_in (wire codec s array.now)) ctx.old ctx.new }
+    ensures cause { (s : SessionMeaning) → IfErr result (RefusesWriting s array.now ctx.old options.now) }
+{
+    let (found, placed) = place(alloc, array, ctx, options)?;
+    let message = write_message(alloc, array, &found.encodings, &placed.descriptors)?;
+    let padding = pad_at(options, 3, placed.end);
+    if !has_end(placed.end, padding, message.len()) {
+        return Err(WireError::WireLimit);
+    }
+    Ok(blob_buffers(alloc, options, &found.buffers, padding, message)?)
 }
 
 /// Writes an array: the buffers, one after the other, are its blob.
@@ -124,13 +213,12 @@ pub(crate) fn write_array(
     unknown: bool,
     ctx: &mut ArrayContext,
     options: &SerializeOptions,
-) -> Result<ByteBuffers, WireError> {
+) -> Result<ByteBuffers, WireError>
+    ensures made { (x : ExtMeaning) → x.unknown ≡ unknown → IfOk result (λ bs. IsSerialized (arrays_meaning means arrays.now x) array.now options.now ctx.old ctx.new bs) }
+    ensures kept { (x : ExtMeaning) → x.unknown ≡ unknown → let s = arrays_meaning means arrays.now x in
+        KeepsContext (ids_in (wire codec s (as_written s options.now array.now))) ctx.old ctx.new }
+    ensures cause { (x : ExtMeaning) → x.unknown ≡ unknown → IfErr result (RefusesArray (arrays_meaning means arrays.now x) array.now ctx.old options.now) }
+{
     let node = take(alloc, Source::Lent(array), arrays, unknown, MAX_LEVELS)?;
-    let (found, placed) = place(alloc, &node, ctx, options)?;
-    let message = write_message(alloc, &node, &found.encodings, &placed.descriptors)?;
-    let padding = pad_at(options, 3, placed.end);
-    if !has_end(placed.end, padding, message.len()) {
-        return Err(WireError::WireLimit);
-    }
-    Ok(blob_buffers(alloc, options, &found.buffers, padding, message)?)
+    write_taken(alloc, &node, ctx, options)
 }
