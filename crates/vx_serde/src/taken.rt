@@ -206,7 +206,7 @@ impl<'a> TakenNode<'a> {
 
     /// The nodes below it.
     pub(crate) fn children(&self) -> &[TakenNode<'a>]
-        ensures { roses_of result.now ≡ below self.now }
+        ensures children { roses_of result.now ≡ below self.now }
     {
         self.children.as_slice()
     }

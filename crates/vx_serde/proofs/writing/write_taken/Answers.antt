@@ -5,7 +5,6 @@ use Rattle.vx_wire_tree.specs.Limits.{AreDescribable}
 use Rattle.vx_wire_tree.specs.Wire.{buffers_in}
 use Rattle.vx_wire_tree.specs.Written.{wire}
 use Rattle.vx_encodings.specs.Messages.{codec}
-use Rattle.vx_registry.specs.Session.{tables_meaning}
 use Rattle.vx_serde.specs.Blocks.{layout_by}
 use Rattle.vx_serde.specs.Placing.{descriptors_from, data_end}
 use Rattle.vx_serde.specs.Spells.{ids_after}
@@ -16,12 +15,12 @@ use Rattle.vx_serde.proofs.WholeBlob.{message-is, unplaced, unwritten, late, wri
 use Rattle.vx_serde.proofs.WiredNodes.{no_session, wired-nodes}
 use Rattle.vx_serde.proofs.WiredStats.{wire-tabled}
 use Rattle.vx_serde.proofs.WrittenAgain.{grown-ids, wire-whole}
-use Rattle.vx_serde.proofs.writing.write_array.Goals as goal
+use Rattle.vx_serde.proofs.writing.write_taken.Goals as goal
 
 pub returns-in_err-found-clause-cause : goal.returns-in_err-found-clause-cause
-returns-in_err-found-clause-cause c = λ x u.
+returns-in_err-found-clause-cause c = λ s.
     let p = err_from_is_err_and c.from_residual.result c.from_residual.ensures.1 in
-    rw (p.1, p.2) (unplaced (tables_meaning c.args.arrays.now x) c.args.array.now c.args.ctx.now c.args.options.now c.in_err-found.field-0.0 (c.in_err-found.ensures.refused x u))
+    rw (p.1, p.2) (unplaced s c.args.array.now c.args.ctx.now c.args.options.now c.in_err-found.field-0.0 (c.in_err-found.ensures.refused s))
 
 pub write_message-requires-clause-known : goal.write_message-requires-clause-known
 write_message-requires-clause-known c =
@@ -45,9 +44,8 @@ write_message-requires-clause-of_kind c = λ s.
     placed.placeable.tree.few (c.deref-2.ensures.value ∙ placed.descriptors_are)
 
 pub returns-in_err-message-clause-cause : goal.returns-in_err-message-clause-cause
-returns-in_err-message-clause-cause c = λ x u.
+returns-in_err-message-clause-cause c = λ s.
     let p = err_from_is_err_and c.from_residual-in_err-message.result c.from_residual-in_err-message.ensures.1 in
-    let s = tables_meaning c.args.arrays.now x in
     let a = c.args.array.now in
     let w = wire codec s a in
     let o = c.args.options.now in
@@ -61,8 +59,7 @@ returns-in_err-message-clause-cause c = λ x u.
     (unwritten s a c.args.ctx.now o ds (layout_by es w ds) c.in_err-message.field-0.0 described (numbered ∙ ap (λ z. layout_of z w ds) ids) (c.in_err-message.ensures.refused s))
 
 pub returns-then-not-has_end-clause-cause : goal.returns-then-not-has_end-clause-cause
-returns-then-not-has_end-clause-cause c = λ x u.
-    let s = tables_meaning c.args.arrays.now x in
+returns-then-not-has_end-clause-cause c = λ s.
     let a = c.args.array.now in
     let w = wire codec s a in
     let o = c.args.options.now in
@@ -78,8 +75,7 @@ returns-then-not-has_end-clause-cause c = λ x u.
     (omega (arith, c.has_end.ensures.late c.if-not-has_end.true, e, c.len.ensures))
 
 pub returns-clause-made : goal.returns-clause-made
-returns-clause-made c = λ x u.
-    let s = tables_meaning c.args.arrays.now x in
+returns-clause-made c = λ s.
     let a = c.args.array.now in
     let w = wire codec s a in
     let o = c.args.options.now in
@@ -91,7 +87,7 @@ returns-clause-made c = λ x u.
     let numbered = layout-numbered c.place.new.ctx.ids w es ds (c.deref.ensures.value ∙ c.in_ok-found.ensures.encodings s) in
     let now = c.place.new.ctx.ids in
     let m = c.in_ok-message.ensures.written s ∙ numbered ∙ message-is now o w ds described in
-    serialized s a o c.args.ctx.now c.place.new.ctx _ (c.in_ok-found.ensures.grown s) (c.in_ok-found.ensures.written x u) c.in_ok-message.ensures.storable c.in_ok-found.ensures.messages
+    serialized s a o c.args.ctx.now c.place.new.ctx _ (c.in_ok-found.ensures.grown s) c.in_ok-message.ensures.storable c.requires.messages
     (writable-is now o w c.in_ok-found.placed.end c.in_ok-found.placed.descriptors.items c.in_ok-message.message.items placed m c.in_ok-message.ensures.short c.in_ok-message.ensures.light
     (omega (arith, c.has_end.ensures.within c.if-not-has_end.false, c.pad_at-padding.ensures.value, c.len.ensures)))
     (c.in_ok-blob_buffers.ensures
