@@ -1,5 +1,5 @@
 -- The meaning of readers that are lent, where it is given what each accepts.
-use Rattle.std.specs.Prelude.{ℕ, Bool, List, Option, Some, None, option_map, map, bytes_eq}
+use Rattle.std.specs.Prelude.{ℕ, Bool, List, Option, Some, None, map, bytes_eq}
 use Rattle.std.specs.Map.{lookup}
 use Rattle.vx_types.specs.Known.{ExtMeaning}
 use Rattle.vx_types.specs.Typ.{Typ}
