@@ -58,7 +58,13 @@ impl<'a> ArrayNodeFlatBuffer<'a> {
         ensures cause { let s = session_meaning (λ b. means (b.vtable, b.value)) (λ b. accepted (b.vtable, b.value)) session.now in IfErr result (RefusesArray s array.now ctx.old plain_options) }
     {
         let unknown = session.allows_unknown();
-        let array = take(alloc, Source::Lent(array), &session.arrays, unknown, MAX_LEVELS)?;
+        let array = take(
+            alloc,
+            Source::Lent(array),
+            &session.arrays,
+            unknown,
+            MAX_LEVELS,
+        )?;
         Ok(ArrayNodeFlatBuffer { ctx, array })
     }
 

@@ -70,7 +70,14 @@ pub(crate) fn build_entry(
         IfErr result (λ e. RefusesBuild e s.ext (entry_in (plugins_meaning (λ b. means (b.vtable, b.value)) session.now.arrays.plugins.items) entry) head buffers children) }
 {
     match entry {
-        Entry::Shipped(encoding) => match build(alloc, encoding, head, buffers, children, &session.ext) {
+        Entry::Shipped(encoding) => match build(
+            alloc,
+            encoding,
+            head,
+            buffers,
+            children,
+            &session.ext,
+        ) {
             Ok(array) => Ok(array),
             Err(e) => Err(WireError::from(e)),
         },
