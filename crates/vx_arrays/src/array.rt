@@ -33,6 +33,7 @@ use crate::row::RowValue;
 use crate::structs::StructArray;
 use crate::union::{UnionArray, tags_in};
 use crate::validity::validity_at;
+use crate::variant::{VariantArray, core_in};
 use std::alloc::Global;
 use std::marker::Model;
 use vx_buffer::{BufferHandle, BufferHandles};
@@ -268,6 +269,16 @@ impl Array {
                     None => codes.is_valid(index),
                 }
             }
+            Body::Variant => {
+                let (core, behind) = core_in(&self.dtype, self.len, self.children.as_slice());
+                match behind {
+                    [] => core.is_valid(index),
+                    [shredded, ..] => match shredded.is_valid(index) {
+                        Some(false) => core.is_valid(index),
+                        valid => valid,
+                    },
+                }
+            }
             Body::Foreign(_) => None,
         }
     }
@@ -296,7 +307,8 @@ impl Array {
                     None => None,
                 }
             }
-            Body::ListView(_) | Body::Map | Body::Union | Body::Foreign(_) => None,
+            Body::ListView(_) | Body::Map | Body::Union | Body::Variant => None,
+            Body::Foreign(_) => None,
         }
     }
 
@@ -316,7 +328,7 @@ impl Array {
             Body::VarBin(_) => None,
             Body::VarBinView(_) => None,
             Body::FixedSizeList | Body::Struct | Body::List => None,
-            Body::ListView(_) | Body::Union | Body::Foreign(_) => None,
+            Body::ListView(_) | Body::Union | Body::Variant | Body::Foreign(_) => None,
             Body::Map => {
                 let entries = entries_in(&self.dtype, self.len, children);
                 entries.natural_at(index)
@@ -368,6 +380,7 @@ impl Array {
                 let array = storage_in(dtype, len, children);
                 RowParts::At { array, index }
             }
+            Body::Variant => VariantArray::parts_at(dtype, len, children, index),
             Body::Foreign(_) => RowParts::Lone(LoneRow::Opaque),
         }
     }
@@ -439,6 +452,7 @@ impl Array {
                 without_buffers(alloc, dtype, len, body, children, buffers)
             }
             Body::Map => without_buffers(alloc, dtype, len, Body::Map, children, buffers),
+            Body::Variant => without_buffers(alloc, dtype, len, Body::Variant, children, buffers),
             Body::Foreign(foreign) => foreign.with_buffers(alloc, dtype, len, children, buffers),
         }
     }

@@ -5,17 +5,21 @@
 
 ghost use Rattle.std.specs.Prelude.{suc, ℕ, ◌≡◌, ◌+◌, ◌^◌, ◌<◌, ◌≤◌, IfOk, IfErr, OnOk, IsOkUnless};
 ghost use Rattle.vx_trees.specs.Rose.{label, roses_of};
+ghost use Rattle.vx_types.specs.Fits.{IsVariant};
 ghost use Rattle.vx_types.specs.Value.{Value, lone, mark_cells, value_cells};
 ghost use Rattle.vx_array_tree.specs.Rows.{cells_at, cells_from, cells_where, values_at, values_from, where_valid};
 ghost use Rattle.vx_array_tree.specs.Tree.{rows_below, rows_of};
 ghost use Rattle.vx_arrays.specs.Parts.{AreThere, HaveRow, lone_mark, parts_cells, parts_nodes, parts_value};
 ghost use Rattle.vx_arrays.specs.Plain.{plain_value};
 ghost use Rattle.vx_arrays.specs.Refused.{IsValueRefused};
+ghost use Rattle.vx_arrays.specs.Variants.{merged_cells, merged_row};
 
 use crate::array::Array;
+use crate::cells::spend_row;
 use crate::error::ArrayError;
 use crate::row::{RowValue, owned_bytes, owned_text};
 use crate::row_ref::RowRef;
+use crate::row_scalars::row_over;
 use crate::row_values::RowValues;
 use std::alloc::Global;
 use vx_scalars::DecimalValue;
@@ -67,6 +71,12 @@ pub(crate) enum RowParts<'a> {
         array: &'a Array,
         index: usize,
     },
+    // The variant of a typed array's row over a core's.
+    Merged {
+        core: &'a Array,
+        shredded: &'a Array,
+        index: usize,
+    },
 }
 
 // The parts of a row, where it is there; a row that is not there is null, and one of which that is not known is opaque.
@@ -85,7 +95,7 @@ pub(crate) fn where_there<'a>(valid: Option<bool>, parts: RowParts<'a>) -> RowPa
 }
 
 // Spends the cells of a value with so many bytes in it: one, and one for each byte.
-fn spend(bytes: usize, budget: &mut u64) -> Result<(), ArrayError>
+pub(crate) fn spend(bytes: usize, budget: &mut u64) -> Result<(), ArrayError>
     ensures spent { OnOk result (budget.old ≡ suc bytes + budget.new) }
     ensures err { IfErr result (λ e. IsValueRefused e (suc bytes) budget.old) }
 {
@@ -172,7 +182,39 @@ pub(crate) fn built(
             let value = array.row_within(alloc, index, budget)?;
             Ok(RowValue::Union(tag, RowRef::new(alloc, value)?))
         }
+        RowParts::Merged {
+            core,
+            shredded,
+            index,
+        } => merged_value(alloc, core, shredded, index, budget),
     }
+}
+
+// The value of a typed array's row over a core's, if there are cells to spend for the greatest of it and of these two rows.
+#[cycle(rows)]
+fn merged_value(
+    alloc: Global,
+    core: &Array,
+    shredded: &Array,
+    index: usize,
+    budget: &mut u64,
+) -> Result<RowValue, ArrayError>
+    requires core { index < (label core.now).len }
+    requires shredded { index < (label shredded.now).len }
+    requires variants { IsVariant (label core.now).dtype }
+    ensures row { IfOk result (λ value. plain_value value ≡ merged_row core.now shredded.now index) }
+    ensures spent { OnOk result (budget.old ≡ merged_cells core.now shredded.now index + budget.new) }
+    ensures err { IfErr result (λ e. IsValueRefused e (merged_cells core.now shredded.now index) budget.old) }
+{
+    let _rows = core.len();
+    let mut core_left = *budget;
+    let mut shredded_left = *budget;
+    let under = core.row_within(alloc, index, &mut core_left)?;
+    let over = shredded.row_within(alloc, index, &mut shredded_left)?;
+    let row = row_over(alloc, shredded.dtype(), over, under)?;
+    spend_row(&row, budget)?;
+    *budget = core_left.min(shredded_left).min(*budget);
+    Ok(row)
 }
 
 // The values of so many rows of an array, from one on, if there are cells to spend for all of them.

@@ -1,0 +1,232 @@
+//! Rows' values as scalars' and back, and rows of variants over which a typed child stands.
+
+ghost use Rattle.std.specs.Prelude.{◌≡◌, ◌++◌, IfOk, IsOkUnless, false, option_copied};
+ghost use Rattle.vx_trees.specs.Rose.{roses_of};
+ghost use Rattle.vx_types.specs.Fits.{Fits};
+ghost use Rattle.vx_types.specs.Seen.{typ};
+ghost use Rattle.vx_types.specs.Value.{has_opaque, have_opaque};
+ghost use Rattle.vx_scalars.specs.Seen.{all_seen, seen, value_of};
+ghost use Rattle.vx_array_tree.specs.Encodings.Variants.{is_structure, merged_over, row_over};
+ghost use Rattle.vx_arrays.specs.Plain.{plain_value, plain_values};
+ghost use Rattle.vx_arrays.specs.RowScalars.{IsVariantRow};
+
+use crate::error::ArrayError;
+use crate::merging::{as_variant, copied_scalar, merged_over, structure_within};
+use crate::row::{RowValue, owned_bytes, owned_text};
+use crate::row_ref::RowRef;
+use crate::row_values::RowValues;
+use std::alloc::Global;
+use vx_scalars::{Scalar, ScalarValue, ValueRef, Values};
+use vx_types::DType;
+
+// Whether something opaque stands in a row.
+#[cycle(opaque)]
+#[tactic(auto, using(crate::proofs::SameRows::same_rows))]
+pub(crate) fn has_opaque(row: &RowValue) -> bool
+    ensures { result ≡ has_opaque (plain_value row.now) }
+{
+    match row {
+        RowValue::Opaque => true,
+        RowValue::Tuple(rows) => have_opaque(rows.as_slice()),
+        RowValue::Union(_, row) => has_opaque(row.get()),
+        RowValue::Variant(scalar) => is_never_opaque(scalar),
+        _ => false,
+    }
+}
+
+// Whether something opaque stands in one of these rows.
+#[cycle(opaque)]
+#[tactic(auto, using(crate::proofs::SameRows::same_rows))]
+fn have_opaque(rows: &[RowValue]) -> bool
+    ensures { result ≡ have_opaque (roses_of (plain_values rows.now)) }
+{
+    for i in 0..rows.len() {
+        if has_opaque(&rows[i]) {
+            return true;
+        }
+    }
+    false
+}
+
+// Nothing opaque stands in a scalar.
+fn is_never_opaque(scalar: &Scalar) -> bool
+    ensures none { result ≡ false }
+    ensures same { result ≡ has_opaque scalar.now.value }
+{
+    let _ = scalar.value();
+    false
+}
+
+// A row's value as a scalar's; `None` is a null.
+#[cycle(scalars)]
+#[tactic(auto, using(crate::proofs::SameRows::same_rows))]
+pub(crate) fn scalar_value(
+    alloc: Global,
+    row: &RowValue,
+) -> Result<Option<ScalarValue>, ArrayError>
+    requires { has_opaque (plain_value row.now) ≡ false }
+    ensures ok { IfOk result (λ value. seen value ≡ plain_value row.now) }
+    ensures err { IsOkUnless result ArrayError.OutOfMemory }
+{
+    match row {
+        RowValue::Null => Ok(None),
+        RowValue::Opaque => unreachable!(),
+        RowValue::Bool(flag) => Ok(Some(ScalarValue::Bool(*flag))),
+        RowValue::Primitive(number) => Ok(Some(ScalarValue::Primitive(*number))),
+        RowValue::Decimal(decimal) => Ok(Some(ScalarValue::Decimal(*decimal))),
+        RowValue::Utf8(text) => Ok(Some(ScalarValue::Utf8(owned_text(alloc, text.as_str())?))),
+        RowValue::Binary(bytes) => {
+            let bytes = owned_bytes(alloc, bytes.as_slice())?;
+            Ok(Some(ScalarValue::Binary(bytes)))
+        }
+        RowValue::Tuple(rows) => {
+            let values = scalar_values(alloc, rows.as_slice())?;
+            Ok(Some(ScalarValue::Tuple(values)))
+        }
+        RowValue::Union(tag, row) => {
+            let value = scalar_value(alloc, row.get())?;
+            Ok(Some(ScalarValue::Union(*tag, member_of(alloc, value)?)))
+        }
+        RowValue::Variant(scalar) => {
+            let scalar = copied_scalar(alloc, scalar)?;
+            Ok(Some(as_variant(alloc, scalar)?))
+        }
+    }
+}
+
+// The values of rows as a scalar's.
+#[cycle(scalars)]
+#[tactic(auto, using(crate::proofs::SameRows::same_rows))]
+fn scalar_values(alloc: Global, rows: &[RowValue]) -> Result<Values, ArrayError>
+    requires { have_opaque (roses_of (plain_values rows.now)) ≡ false }
+    ensures ok { IfOk result (λ values. values ≡ plain_values rows.now) }
+    ensures err { IsOkUnless result ArrayError.OutOfMemory }
+{
+    let mut values = Values::new(alloc);
+    for i in 0..rows.len() {
+        let value = scalar_value(alloc, &rows[i])?;
+        match values.push(value) {
+            Ok(()) => {}
+            Err(_) => return Err(ArrayError::OutOfMemory),
+        }
+    }
+    Ok(values)
+}
+
+// The value of a union's member.
+fn member_of(alloc: Global, value: Option<ScalarValue>) -> Result<ValueRef, ArrayError>
+    ensures ok { IfOk result (λ member. member ≡ seen value) }
+    ensures err { IsOkUnless result ArrayError.OutOfMemory }
+{
+    match ValueRef::new(alloc, value) {
+        Ok(member) => Ok(member),
+        Err(_) => Err(ArrayError::OutOfMemory),
+    }
+}
+
+impl RowValue {
+    /// A scalar's value as a row's; `None` is a null.
+    #[cycle(rows_of_scalars)]
+    pub fn of_value(alloc: Global, value: Option<&ScalarValue>) -> Result<RowValue, ArrayError>
+        ensures ok { IfOk result (λ row. plain_value row ≡ seen (option_copied value.entry)) }
+        ensures err { IsOkUnless result ArrayError.OutOfMemory }
+    {
+        let Some(value) = value else {
+            return Ok(RowValue::Null);
+        };
+        match value {
+            ScalarValue::Bool(flag) => Ok(RowValue::Bool(*flag)),
+            ScalarValue::Primitive(number) => Ok(RowValue::Primitive(*number)),
+            ScalarValue::Decimal(decimal) => Ok(RowValue::Decimal(*decimal)),
+            ScalarValue::Utf8(text) => Ok(RowValue::Utf8(owned_text(alloc, text.as_str())?)),
+            ScalarValue::Binary(bytes) => {
+                let bytes = owned_bytes(alloc, bytes.as_slice())?;
+                Ok(RowValue::Binary(bytes))
+            }
+            ScalarValue::Tuple(values) => {
+                let rows = rows_of_values(alloc, values.as_slice())?;
+                Ok(RowValue::Tuple(rows))
+            }
+            ScalarValue::Union(tag, member) => {
+                let row = RowValue::of_value(alloc, member.get())?;
+                Ok(RowValue::Union(*tag, RowRef::new(alloc, row)?))
+            }
+            ScalarValue::Variant(scalar) => {
+                let scalar = copied_scalar(alloc, scalar.get())?;
+                Ok(RowValue::Variant(scalar))
+            }
+        }
+    }
+}
+
+// Scalars' values as rows'.
+#[cycle(rows_of_scalars)]
+fn rows_of_values(
+    alloc: Global,
+    values: &[Option<ScalarValue>],
+) -> Result<RowValues, ArrayError>
+    ensures ok { IfOk result (λ rows. rows ≡ all_seen values.now) }
+    ensures err { IsOkUnless result ArrayError.OutOfMemory }
+{
+    let mut rows = RowValues::new(alloc);
+    for value in values {
+        let row = RowValue::of_value(alloc, value.as_ref())?;
+        rows.push(row)?;
+    }
+    Ok(rows)
+}
+
+// A row of a type over a core's row: where it is null that of the core, where something in it is opaque an opaque one, and
+// else the variant of the two.
+pub(crate) fn row_over(
+    alloc: Global,
+    dtype: &DType,
+    typed: RowValue,
+    core: RowValue,
+) -> Result<RowValue, ArrayError>
+    requires fits { has_opaque (plain_value typed) ≡ false → Fits (plain_value typed) (typ dtype.now) }
+    requires core { IsVariantRow (plain_value core) }
+    ensures ok { IfOk result (λ row. plain_value row ≡ row_over (typ dtype.now) (plain_value typed) (plain_value core)) }
+    ensures variant { IfOk result (λ row. IsVariantRow (plain_value row)) }
+    ensures err { IsOkUnless result ArrayError.OutOfMemory }
+{
+    if has_opaque(&typed) {
+        return Ok(RowValue::Opaque);
+    }
+    match scalar_value(alloc, &typed)? {
+        None => Ok(core),
+        Some(value) => value_over(alloc, dtype, &value, &core),
+    }
+}
+
+// A value that is not null over a core's row. A structure over an opaque one is opaque.
+fn value_over(
+    alloc: Global,
+    dtype: &DType,
+    value: &ScalarValue,
+    core: &RowValue,
+) -> Result<RowValue, ArrayError>
+    requires { Fits (value_of value.now) (typ dtype.now) }
+    ensures ok { IfOk result (λ row. plain_value row ≡ merged_over (typ dtype.now) (value_of value.now) (plain_value core.now)) }
+    ensures variant { IfOk result (λ row. IsVariantRow (plain_value row)) }
+    ensures err { IsOkUnless result ArrayError.OutOfMemory }
+{
+    let scalar = match core {
+        RowValue::Opaque => {
+            if is_structure(dtype) {
+                return Ok(RowValue::Opaque);
+            }
+            merged_over(alloc, dtype, value, None)?
+        }
+        RowValue::Variant(core) => merged_over(alloc, dtype, value, structure_within(core))?,
+        _ => merged_over(alloc, dtype, value, None)?,
+    };
+    Ok(RowValue::Variant(scalar))
+}
+
+// Whether a type is one of structures.
+fn is_structure(dtype: &DType) -> bool
+    ensures { result ≡ is_structure (typ dtype.now) }
+{
+    matches!(dtype, DType::Struct(_, _))
+}
