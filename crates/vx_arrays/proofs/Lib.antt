@@ -29,3 +29,7 @@ mod Entries
 mod Mapped
 mod Controlled
 mod Bracketed
+mod Shredded
+mod Merged
+mod Fieldwise
+mod Scalared

@@ -51,22 +51,24 @@ abbrev pub merged_at : List ℕ → Raw → Option (Typ × Value) → Option Val
 merged_at name r None = None
 merged_at name r (Some f) = merged f.1 f.0 (structure_at name r)
 
--- The fields of a structure under these names that are not null, each merged with what a raw one has under its name.
-abbrev pub given_fields : Raw → Raw → List (List ℕ) → List Named
-given_fields t r [] = []
-given_fields t r (n ∷ ns) = kept n (merged_at n r (raw_field n t.names t.types t.values)) ++ given_fields t r ns
+-- What stands under a name of a structure over a raw one: none, where it has no such field, or that is null.
+abbrev pub given_at : Raw → Raw → List ℕ → Option Value
+given_at t r name = merged_at name r (raw_field name t.names t.types t.values)
 
 -- A field of a raw structure, as a variant, where a typed one does not give its name.
-abbrev pub other_at : Option (Typ × Value) → Option (Typ × Value) → Option Value
-other_at (Some f) o = None
-other_at None None = None
-other_at None (Some f) = Some (wrapped f.0 f.1)
+abbrev pub left_over : Option (Typ × Value) → Option (Typ × Value) → Option Value
+left_over (Some f) o = None
+left_over None None = None
+left_over None (Some f) = Some (wrapped f.0 f.1)
 
--- The fields of a raw structure under these names that are not null, and whose names the typed one does not give.
-abbrev pub other_fields : Raw → Raw → List (List ℕ) → List Named
-other_fields t r [] = []
-other_fields t r (n ∷ ns) =
-    kept n (other_at (not_null (raw_field n t.names t.types t.values)) (not_null (raw_field n r.names r.types r.values))) ++ other_fields t r ns
+-- What stands under a name of a raw structure that the typed one does not give.
+abbrev pub other_at : Raw → Raw → List ℕ → Option Value
+other_at t r name = left_over (not_null (raw_field name t.names t.types t.values)) (not_null (raw_field name r.names r.types r.values))
+
+-- These names in their order, each with what stands under it, where something does.
+abbrev pub listed : (List ℕ → Option Value) → List (List ℕ) → List Named
+listed f [] = []
+listed f (n ∷ ns) = kept n (f n) ++ listed f ns
 
 -- Two structures merged.
 abbrev pub merged_structures : Raw → Raw → Value

@@ -10,7 +10,7 @@ ghost use Rattle.vx_types.specs.Value.{tuple, variant_of};
 ghost use Rattle.vx_types.specs.declared.nullability.Nullability.TheVariants.{NonNullable, Nullable};
 ghost use Rattle.vx_scalars.specs.Seen.{seen, value_of};
 ghost use Rattle.vx_array_tree.specs.Merge.{Named, each_wrapped, merge, merged, raw_field, raw_structure, structure_at, structure_in, variants, wrapped};
-ghost use Rattle.vx_arrays.specs.Merging.{AreNamed, IsStructured, IsUnmerged, fallback_of, fallback_value, given_fields, merged_structures, not_null, other_fields, raw_of};
+ghost use Rattle.vx_arrays.specs.Merging.{AreNamed, IsStructured, IsUnmerged, fallback_of, fallback_value, given_at, listed, merged_structures, not_null, other_at, raw_of};
 
 use crate::error::ArrayError;
 use crate::named_variants::NamedVariants;
@@ -74,8 +74,8 @@ fn field_in<'a>(structure: Structure<'a>, name: &Name) -> Option<(&'a DType, &'a
     let names = structure.fields.names().as_slice();
     let types = structure.fields.fields().as_slice();
     let values = structure.values.as_slice();
-    for i in 0..names.len() {
-        if names[i] == *name {
+    for i in 0..names.len().min(types.len()).min(values.len()) {
+        if *name == names[i] {
             return match &values[i] {
                 Some(value) => Some((&types[i], value)),
                 None => None,
@@ -261,7 +261,7 @@ fn push_given(
     requires raw { IsStructured (raw_of raw) }
     requires none { AreNamed fields.old [] }
     ensures ok { let t = raw_of typed.entry in
-        OnOk result (AreNamed fields.new (given_fields t (raw_of raw.entry) t.names)) }
+        OnOk result (AreNamed fields.new (listed (given_at t (raw_of raw.entry)) t.names)) }
     ensures err { IsOkUnless result ArrayError.OutOfMemory }
 {
     for name in typed.fields.names().as_slice() {
@@ -283,7 +283,7 @@ fn push_others(
     requires typed { IsStructured (raw_of typed) }
     requires raw { IsStructured (raw_of raw) }
     ensures ok { let r = raw_of raw.entry in
-        (fs : List Named) → AreNamed fields.old fs → OnOk result (AreNamed fields.new (fs ++ other_fields (raw_of typed.entry) r r.names)) }
+        (fs : List Named) → AreNamed fields.old fs → OnOk result (AreNamed fields.new (fs ++ listed (other_at (raw_of typed.entry) r) r.names)) }
     ensures err { IsOkUnless result ArrayError.OutOfMemory }
 {
     for name in raw.fields.names().as_slice() {

@@ -1,17 +1,19 @@
 //! Rows' values as scalars' and back, and rows of variants over which a typed child stands.
 
-ghost use Rattle.std.specs.Prelude.{◌≡◌, ◌++◌, IfOk, IsOkUnless, false, option_copied};
+ghost use Rattle.std.specs.Prelude.{◌≡◌, Some, IfOk, IfSome, IsOkUnless, false, option_copied, option_map};
 ghost use Rattle.vx_trees.specs.Rose.{roses_of};
 ghost use Rattle.vx_types.specs.Fits.{Fits};
 ghost use Rattle.vx_types.specs.Seen.{typ};
 ghost use Rattle.vx_types.specs.Value.{has_opaque, have_opaque};
 ghost use Rattle.vx_scalars.specs.Seen.{all_seen, seen, value_of};
-ghost use Rattle.vx_array_tree.specs.Encodings.Variants.{is_structure, merged_over, row_over};
+ghost use Rattle.vx_array_tree.specs.Encodings.Variants.{merged_over, row_over};
+ghost use Rattle.vx_array_tree.specs.Merge.{fallback_structure};
+ghost use Rattle.vx_arrays.specs.Merging.{IsStructured, raw_of};
 ghost use Rattle.vx_arrays.specs.Plain.{plain_value, plain_values};
-ghost use Rattle.vx_arrays.specs.RowScalars.{IsVariantRow};
+ghost use Rattle.vx_arrays.specs.RowScalars.{IsVariantRow, hides};
 
 use crate::error::ArrayError;
-use crate::merging::{as_variant, copied_scalar, merged_over, structure_within};
+use crate::merging::{Structure, as_variant, copied_scalar, merged_over, structure_within};
 use crate::row::{RowValue, owned_bytes, owned_text};
 use crate::row_ref::RowRef;
 use crate::row_values::RowValues;
@@ -21,7 +23,7 @@ use vx_types::DType;
 
 // Whether something opaque stands in a row.
 #[cycle(opaque)]
-#[tactic(auto, using(crate::proofs::SameRows::same_rows))]
+#[tactic(auto, using(crate::proofs::SameRows::same_rows, crate::proofs::Scalared::opaque_rows))]
 pub(crate) fn has_opaque(row: &RowValue) -> bool
     ensures { result ≡ has_opaque (plain_value row.now) }
 {
@@ -36,7 +38,7 @@ pub(crate) fn has_opaque(row: &RowValue) -> bool
 
 // Whether something opaque stands in one of these rows.
 #[cycle(opaque)]
-#[tactic(auto, using(crate::proofs::SameRows::same_rows))]
+#[tactic(auto, using(crate::proofs::SameRows::same_rows, crate::proofs::Scalared::opaque_rows))]
 fn have_opaque(rows: &[RowValue]) -> bool
     ensures { result ≡ have_opaque (roses_of (plain_values rows.now)) }
 {
@@ -59,7 +61,7 @@ fn is_never_opaque(scalar: &Scalar) -> bool
 
 // A row's value as a scalar's; `None` is a null.
 #[cycle(scalars)]
-#[tactic(auto, using(crate::proofs::SameRows::same_rows))]
+#[tactic(auto, using(crate::proofs::SameRows::same_rows, crate::proofs::Scalared::row_values))]
 pub(crate) fn scalar_value(
     alloc: Global,
     row: &RowValue,
@@ -96,7 +98,7 @@ pub(crate) fn scalar_value(
 
 // The values of rows as a scalar's.
 #[cycle(scalars)]
-#[tactic(auto, using(crate::proofs::SameRows::same_rows))]
+#[tactic(auto, using(crate::proofs::SameRows::same_rows, crate::proofs::Scalared::row_values))]
 fn scalar_values(alloc: Global, rows: &[RowValue]) -> Result<Values, ArrayError>
     requires { have_opaque (roses_of (plain_values rows.now)) ≡ false }
     ensures ok { IfOk result (λ values. values ≡ plain_values rows.now) }
@@ -127,6 +129,7 @@ fn member_of(alloc: Global, value: Option<ScalarValue>) -> Result<ValueRef, Arra
 impl RowValue {
     /// A scalar's value as a row's; `None` is a null.
     #[cycle(rows_of_scalars)]
+    #[tactic(auto, using(vx_scalars::proofs::Lists::falling, crate::proofs::Scalared::value_rows))]
     pub fn of_value(alloc: Global, value: Option<&ScalarValue>) -> Result<RowValue, ArrayError>
         ensures ok { IfOk result (λ row. plain_value row ≡ seen (option_copied value.entry)) }
         ensures err { IsOkUnless result ArrayError.OutOfMemory }
@@ -161,6 +164,7 @@ impl RowValue {
 
 // Scalars' values as rows'.
 #[cycle(rows_of_scalars)]
+#[tactic(auto, using(vx_scalars::proofs::Lists::falling, crate::proofs::Scalared::value_rows))]
 fn rows_of_values(
     alloc: Global,
     values: &[Option<ScalarValue>],
@@ -178,6 +182,7 @@ fn rows_of_values(
 
 // A row of a type over a core's row: where it is null that of the core, where something in it is opaque an opaque one, and
 // else the variant of the two.
+#[tactic(auto, using(crate::proofs::Scalared::rows_over))]
 pub(crate) fn row_over(
     alloc: Global,
     dtype: &DType,
@@ -200,6 +205,7 @@ pub(crate) fn row_over(
 }
 
 // A value that is not null over a core's row. A structure over an opaque one is opaque.
+#[tactic(auto, using(crate::proofs::Scalared::values_over))]
 fn value_over(
     alloc: Global,
     dtype: &DType,
@@ -211,22 +217,30 @@ fn value_over(
     ensures variant { IfOk result (λ row. IsVariantRow (plain_value row)) }
     ensures err { IsOkUnless result ArrayError.OutOfMemory }
 {
-    let scalar = match core {
-        RowValue::Opaque => {
-            if is_structure(dtype) {
-                return Ok(RowValue::Opaque);
-            }
-            merged_over(alloc, dtype, value, None)?
-        }
-        RowValue::Variant(core) => merged_over(alloc, dtype, value, structure_within(core))?,
-        _ => merged_over(alloc, dtype, value, None)?,
-    };
+    if is_hidden(dtype, core) {
+        return Ok(RowValue::Opaque);
+    }
+    let scalar = merged_over(alloc, dtype, value, core_structure(core))?;
     Ok(RowValue::Variant(scalar))
 }
 
-// Whether a type is one of structures.
-fn is_structure(dtype: &DType) -> bool
-    ensures { result ≡ is_structure (typ dtype.now) }
+// The structure that a core's row holds, where there is one.
+fn core_structure(core: &RowValue) -> Option<Structure<'_>>
+    ensures found { option_map raw_of result ≡ fallback_structure (Some (plain_value core.now)) }
+    ensures sound { IfSome result (λ s. IsStructured (raw_of s)) }
 {
-    matches!(dtype, DType::Struct(_, _))
+    match core {
+        RowValue::Variant(scalar) => structure_within(scalar),
+        _ => None,
+    }
+}
+
+// Whether a core's row hides a typed value: whether it is opaque, and the value a structure.
+fn is_hidden(dtype: &DType, core: &RowValue) -> bool
+    ensures { result ≡ hides (typ dtype.now) (plain_value core.now) }
+{
+    match core {
+        RowValue::Opaque => matches!(dtype, DType::Struct(_, _)),
+        _ => false,
+    }
 }

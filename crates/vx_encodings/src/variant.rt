@@ -19,9 +19,9 @@ ghost use Rattle.vx_encodings.specs.Steps.{IsPlanned, IsUnplanned, IsBuilt, IsUn
 ghost use Rattle.vx_encodings.specs.VariantMessage.{IsShredded, IsUnshredded, child_places, variant_schema, variant_value, variant_parts};
 ghost use Rattle.vx_encodings.specs.declared.encoding.Encoding.TheVariants.{Variant};
 
-use crate::error::{EncodingError, of_constructor};
+use crate::error::{EncodingError, of_constructor, of_message};
 use crate::head::ArrayHead;
-use crate::messages::{read_message, write_message};
+use crate::messages::write_message;
 use crate::plans::{ChildPlan, ChildPlans, plan_of, plan_only};
 use std::alloc::Global;
 use vx_arrays::{Array, Arrays, VariantArray};
@@ -128,7 +128,10 @@ fn shredded_type(
     ensures err { let x = ext_meaning (λ b. accepted (b.vtable, b.value)) readers.now in
         IfErr result (λ e. IsUnshredded e x bytes.now) }
 {
-    let metadata: VariantMetadata = read_message(alloc, bytes)?;
+    let metadata = match VariantMetadata::decode(alloc, bytes) {
+        Ok(metadata) => metadata,
+        Err(e) => return Err(of_message(e)),
+    };
     match metadata.shredded_dtype {
         None => Ok(None),
         Some(message) => match DType::from_proto(alloc, &message, readers) {
