@@ -128,36 +128,48 @@ fn member_of(alloc: Global, value: Option<ScalarValue>) -> Result<ValueRef, Arra
 
 impl RowValue {
     /// A scalar's value as a row's; `None` is a null.
-    #[cycle(rows_of_scalars)]
-    #[tactic(auto, using(vx_scalars::proofs::Lists::falling, crate::proofs::Scalared::value_rows))]
+    ///
+    /// # Errors
+    ///
+    /// `OutOfMemory`.
     pub fn of_value(alloc: Global, value: Option<&ScalarValue>) -> Result<RowValue, ArrayError>
         ensures ok { IfOk result (λ row. plain_value row ≡ seen (option_copied value.entry)) }
         ensures err { IsOkUnless result ArrayError.OutOfMemory }
     {
-        let Some(value) = value else {
-            return Ok(RowValue::Null);
-        };
-        match value {
-            ScalarValue::Bool(flag) => Ok(RowValue::Bool(*flag)),
-            ScalarValue::Primitive(number) => Ok(RowValue::Primitive(*number)),
-            ScalarValue::Decimal(decimal) => Ok(RowValue::Decimal(*decimal)),
-            ScalarValue::Utf8(text) => Ok(RowValue::Utf8(owned_text(alloc, text.as_str())?)),
-            ScalarValue::Binary(bytes) => {
-                let bytes = owned_bytes(alloc, bytes.as_slice())?;
-                Ok(RowValue::Binary(bytes))
-            }
-            ScalarValue::Tuple(values) => {
-                let rows = rows_of_values(alloc, values.as_slice())?;
-                Ok(RowValue::Tuple(rows))
-            }
-            ScalarValue::Union(tag, member) => {
-                let row = RowValue::of_value(alloc, member.get())?;
-                Ok(RowValue::Union(*tag, RowRef::new(alloc, row)?))
-            }
-            ScalarValue::Variant(scalar) => {
-                let scalar = copied_scalar(alloc, scalar.get())?;
-                Ok(RowValue::Variant(scalar))
-            }
+        row_of_value(alloc, value)
+    }
+}
+
+// A scalar's value as a row's; `None` is a null.
+#[cycle(rows_of_scalars)]
+#[tactic(auto, using(vx_scalars::proofs::Lists::falling, crate::proofs::Scalared::value_rows))]
+fn row_of_value(alloc: Global, value: Option<&ScalarValue>) -> Result<RowValue, ArrayError>
+    ensures ok { IfOk result (λ row. plain_value row ≡ seen (option_copied value.entry)) }
+    ensures err { IsOkUnless result ArrayError.OutOfMemory }
+{
+    let Some(value) = value else {
+        return Ok(RowValue::Null);
+    };
+    match value {
+        ScalarValue::Bool(flag) => Ok(RowValue::Bool(*flag)),
+        ScalarValue::Primitive(number) => Ok(RowValue::Primitive(*number)),
+        ScalarValue::Decimal(decimal) => Ok(RowValue::Decimal(*decimal)),
+        ScalarValue::Utf8(text) => Ok(RowValue::Utf8(owned_text(alloc, text.as_str())?)),
+        ScalarValue::Binary(bytes) => {
+            let bytes = owned_bytes(alloc, bytes.as_slice())?;
+            Ok(RowValue::Binary(bytes))
+        }
+        ScalarValue::Tuple(values) => {
+            let rows = rows_of_values(alloc, values.as_slice())?;
+            Ok(RowValue::Tuple(rows))
+        }
+        ScalarValue::Union(tag, member) => {
+            let row = row_of_value(alloc, member.get())?;
+            Ok(RowValue::Union(*tag, RowRef::new(alloc, row)?))
+        }
+        ScalarValue::Variant(scalar) => {
+            let scalar = copied_scalar(alloc, scalar.get())?;
+            Ok(RowValue::Variant(scalar))
         }
     }
 }
@@ -174,7 +186,7 @@ fn rows_of_values(
 {
     let mut rows = RowValues::new(alloc);
     for value in values {
-        let row = RowValue::of_value(alloc, value.as_ref())?;
+        let row = row_of_value(alloc, value.as_ref())?;
         rows.push(row)?;
     }
     Ok(rows)

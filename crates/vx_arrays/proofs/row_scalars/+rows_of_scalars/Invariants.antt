@@ -3,8 +3,8 @@ use Rattle.vx_scalars.specs.Falls.{value_size, slice_size}
 use Rattle.vx_scalars.specs.Seen.{all_seen, seen}
 use Rattle.vx_arrays.proofs.row_scalars.+rows_of_scalars.Given as goal
 
-abbrev pub decreases-RowValue::of_value : goal.decreases-RowValue::of_value
-decreases-RowValue::of_value l = value_size (seen (option_copied l.value))
+abbrev pub decreases-row_of_value : goal.decreases-row_of_value
+decreases-row_of_value l = value_size (seen (option_copied l.value))
 
 abbrev pub decreases-rows_of_values : goal.decreases-rows_of_values
 decreases-rows_of_values l = slice_size (all_seen l.values.now)
