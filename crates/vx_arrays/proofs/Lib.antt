@@ -33,3 +33,4 @@ mod Shredded
 mod Merged
 mod Fieldwise
 mod Scalared
+mod VariantNodes

@@ -57,6 +57,14 @@ of_variants : (d e : Typ) → IsOfVariants d → e ≡ d → IsVariant e
 of_variants (node (K.variant m) end) e v q = subst (λ (z : Typ). IsVariant z) (sym q) tt
 of_variants _ e v q = absurd v
 
+variants_type : (d : Typ) → IsOfVariants d → IsVariant d
+variants_type d v = of_variants d d v refl
+
+-- A sound node of variants is of such a type.
+pub node_variants : (d : Typ) (n : ℕ) (ts : Trees) → IsSoundNode (untold d n B.variant) ts → IsVariant d
+node_variants d n end s = absurd (never_alone d n s.planned)
+node_variants d n (more c us) s = variants_type d (planned d n c us s.planned).variants
+
 module _ (d : Typ) (n : ℕ) (c : Tree) (us ts : Trees) (e : more c us ≡ ts) (s : IsSoundNode (untold d n B.variant) ts) where
   over : IsOverCore d n c us
   over = planned d n c us (subst (λ (ws : Trees). plan d n (metadata_of (places ws)) (count ws) ≡ Some (places ws)) (sym e) s.planned)

@@ -307,7 +307,8 @@ impl Array {
                     None => None,
                 }
             }
-            Body::ListView(_) | Body::Map | Body::Union | Body::Variant => None,
+            Body::ListView(_) | Body::Map | Body::Union => None,
+            Body::Variant => None,
             Body::Foreign(_) => None,
         }
     }
@@ -328,7 +329,8 @@ impl Array {
             Body::VarBin(_) => None,
             Body::VarBinView(_) => None,
             Body::FixedSizeList | Body::Struct | Body::List => None,
-            Body::ListView(_) | Body::Union | Body::Variant | Body::Foreign(_) => None,
+            Body::ListView(_) | Body::Union | Body::Foreign(_) => None,
+            Body::Variant => None,
             Body::Map => {
                 let entries = entries_in(&self.dtype, self.len, children);
                 entries.natural_at(index)
