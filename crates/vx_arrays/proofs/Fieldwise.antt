@@ -1,5 +1,6 @@
 -- Fields of structures that are lent, found by their names and gathered.
 use Rattle.std.proofs.Common.{ℕ, zero, suc, ◌≡◌, ◌<◌, ◌≤◌, ◌+◌, List, [], ◌∷◌, ◌++◌, Option, Some, None, Bool, true, false, Result, Ok, Err, OnOk, refl, sym, ap, ◌∙◌, subst, length, drop, take, get_or, arith, add-one, bytes_eq, option_map, if◌then◌else◌}
+use Rattle.std.proofs.lemmas.List.{append-nil}
 use Rattle.std.proofs.lemmas.Option.{none-some}
 use Rattle.vx_trees.specs.Rose.{Roses, node, end, more, count, roses_of}
 use Rattle.vx_trees.specs.Walks.{nodes, nodes_of}
@@ -172,6 +173,16 @@ other_none t r name e = ap (λ (x : Option (Typ × Value)). left_over (not_null 
     nothing_left None = refl
     nothing_left (Some f) = refl
 
+pub other_left : (t r : Raw) (name : List ℕ) → None ≡ not_null (raw_field name t.names t.types t.values) → other_at t r name ≡ left_over None (not_null (raw_field name r.names r.types r.values))
+other_left t r name e = ap (λ (x : Option (Typ × Value)). left_over x (not_null (raw_field name r.names r.types r.values))) (sym e)
+
+-- A field that is left over is kept as a variant.
+pub left_kept : (name : List ℕ) (d : Typ) (v w : Value) (o : Option (Typ × Value)) → Some (d, v) ≡ o → wrapped d v ≡ w → (name, w) ∷ [] ≡ kept name (left_over None o)
+left_kept name d v w o e m = ap (λ (x : Value). kept name (Some x)) (sym m) ∙ ap (λ (x : Option (Typ × Value)). kept name (left_over None x)) e
+
+pub none_kept : (name : List ℕ) (o : Option (Typ × Value)) (fs : List Named) → None ≡ o → fs ≡ fs ++ kept name (left_over None o)
+none_kept name o fs e = sym (append-nil fs) ∙ ap (λ (x : Option (Typ × Value)). fs ++ kept name (left_over None x)) e
+
 -- ---- gathering
 
 names_push : (fs : List Named) (x : Named) → names_of (fs ++ x ∷ []) ≡ names_of fs ++ x.0 ∷ []
@@ -254,6 +265,12 @@ seen_take : (os : List (Option ScalarValue)) (i : ℕ) (o : Option ScalarValue) 
 seen_take [] i o h q = absurd (omega (arith, h))
 seen_take (x ∷ os) zero o h q = ap (λ (z : Option ScalarValue). seen z ∷ []) (sym q)
 seen_take (x ∷ os) (suc i) o h q = ap (λ (vs : List Value). seen x ∷ vs) (seen_take os i o (omega (arith, h)) q)
+
+-- An element fits.
+pub element_fits : (e : Typ) (os : List (Option ScalarValue)) (i : ℕ) (o p : Option ScalarValue) → i < length os → o ≡ get_or os i o → p ≡ o → EachFits (roses_of (all_seen os)) e → Fits (seen p) e
+element_fits e [] i o p h q r f = absurd (omega (arith, h))
+element_fits e (x ∷ os) zero o p h q r f = subst (λ (z : Option ScalarValue). Fits (seen z) e) (sym (r ∙ q)) f.0
+element_fits e (x ∷ os) (suc i) o p h q r f = element_fits e os i o p (omega (arith, h)) q r f.1
 
 -- One element more.
 pub wrapped_more : (e : Typ) (ws : List Value) (os : List (Option ScalarValue)) (i : ℕ) (o : Option ScalarValue) (w : Value) → i < length os → o ≡ get_or os i o → roses_of ws ≡ each_wrapped e (roses_of (all_seen (take i os))) → w ≡ wrapped e (seen o)

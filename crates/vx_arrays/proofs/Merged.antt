@@ -2,6 +2,7 @@
 use Rattle.std.proofs.Common.{ℕ, zero, suc, ◌≡◌, ◌<◌, ◌≤◌, ◌+◌, ◌||◌, List, [], ◌∷◌, ◌++◌, Option, Some, None, Bool, true, false, refl, sym, ap, ◌∙◌, subst, length, drop, take, get_or, arith, add-one, append_assoc, bytes_eq, if◌then◌else◌}
 use Rattle.std.specs.Prelude.{is_some}
 use Rattle.std.proofs.lemmas.Bool.{false≢true}
+use Rattle.std.proofs.lemmas.List.{append-nil}
 use Rattle.std.proofs.lemmas.Option.{same_Some, none-some}
 use Rattle.std.proofs.lemmas.Slice.Eq.{bytes_eq-Decides}
 use Rattle.vx_trees.specs.Rose.{Roses, node, end, more, count, roses_of}
@@ -13,9 +14,10 @@ use Rattle.vx_types.specs.Typ.{Typ}
 use Rattle.vx_types.specs.Words.{entries}
 use Rattle.vx_types.specs.Value.{Value, Values, Mark, null, opaque, bool, number, decimal, utf8, binary, tuple, union, variant, variant_of, has_opaque, have_opaque, is_null}
 use Rattle.vx_types.specs.declared.nullability.Nullability.TheVariants.{NonNullable}
-use Rattle.vx_array_tree.specs.Merge.{Named, Raw, first_named, given, is_named, joined, kept, merge, merged, merged_fields, names_of, others, raw_field, raw_value, structure_at, structure_of, types_of, values_of, variants, wrapped}
+use Rattle.vx_array_tree.specs.Merge.{Named, Raw, each_wrapped, first_named, given, is_named, joined, kept, merge, merged, merged_fields, names_of, others, raw_field, raw_value, structure_at, structure_of, types_of, values_of, variants, wrapped}
 use Rattle.vx_array_tree.proofs.MergeFits.{IsGood, merge_good, fallback_good}
-use Rattle.vx_arrays.specs.Merging.{IsStructured, fallback_of, given_at, left_over, listed, merged_at, merged_structures, not_null, other_at}
+use Rattle.vx_arrays.specs.Merging.{AreNamed, IsStructured, fallback_of, given_at, left_over, listed, merged_at, merged_structures, not_null, other_at}
+use Rattle.vx_arrays.specs.declared.named_variants.NamedVariants.{NamedVariants}
 
 -- ---- what fits a type has nothing opaque in it
 
@@ -195,3 +197,29 @@ listed_next g (m ∷ ns) (suc i) n h e =
 -- One name more.
 pub listed_more : (g : List ℕ → Option Value) (ns : List (List ℕ)) (i : ℕ) (n : List ℕ) → i < length ns → n ≡ get_or ns i n → listed g (take (i + 1) ns) ≡ listed g (take i ns) ++ kept n (g n)
 listed_more g ns i n h e = rw (add-one i) (listed_next g ns i n h e)
+
+after : (g : List ℕ → Option Value) (ns : List (List ℕ)) (i : ℕ) (n : List ℕ) (fs : List Named) (o : Option Value) → i < length ns → n ≡ get_or ns i n → g n ≡ o → (fs ++ listed g (take i ns)) ++ kept n o ≡ fs ++ listed g (take (i + 1) ns)
+after g ns i n fs o h e z =
+    append_assoc fs (listed g (take i ns)) (kept n o)
+    ∙ ap (λ (xs : List Named). fs ++ xs) (ap (λ (x : Option Value). listed g (take i ns) ++ kept n x) (sym z) ∙ sym (listed_more g ns i n h e))
+
+-- What is gathered with what stands under one name more.
+pub step_on : (g : List ℕ → Option Value) (ns : List (List ℕ)) (i : ℕ) (n : List ℕ) (fs : List Named) (b : NamedVariants) (o : Option Value) → i < length ns → n ≡ get_or ns i n → g n ≡ o
+    → AreNamed b ((fs ++ listed g (take i ns)) ++ kept n o) → AreNamed b (fs ++ listed g (take (i + 1) ns))
+step_on g ns i n fs b o h e z p = subst (λ (xs : List Named). AreNamed b xs) (after g ns i n fs o h e z) p
+
+-- Where nothing does, it is the same.
+pub step_past : (g : List ℕ → Option Value) (ns : List (List ℕ)) (i : ℕ) (n : List ℕ) (fs : List Named) (b : NamedVariants) → i < length ns → n ≡ get_or ns i n → g n ≡ None
+    → AreNamed b (fs ++ listed g (take i ns)) → AreNamed b (fs ++ listed g (take (i + 1) ns))
+step_past g ns i n fs b h e z p = step_on g ns i n fs b None h e z (subst (λ (xs : List Named). AreNamed b xs) (sym (append-nil (fs ++ listed g (take i ns)))) p)
+
+-- ---- lists of variants
+
+-- The elements of a list of variants are such.
+pub each_fit : (e : Typ) (vs ws : Values) → ws ≡ each_wrapped e vs → EachFits vs e → EachFits ws variants
+each_fit e vs ws q f =
+    let d = node (K.list NonNullable) (more e end) in
+    subst (λ (xs : Values). EachFits xs variants) (sym q) ((merge_good d (node tuple vs) None (good d (node tuple vs) f) refl tt).fits.1.0)
+
+pub list_fits : (d : Typ) (ws : Values) → d ≡ node (K.list NonNullable) (more variants end) → EachFits ws variants → Fits (node tuple ws) d
+list_fits d ws e f = subst (λ (z : Typ). Fits (node tuple ws) z) (sym e) f

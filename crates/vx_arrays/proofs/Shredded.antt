@@ -158,3 +158,42 @@ both_decide d n c s t k = both_shaped d n c s k.0.0 k.0.1 k.1 t
 
 pub both_were : (d : Typ) (n : ℕ) (c s : Tree) → IsWellShaped (untold d n B.variant) (more c (more s end)) → (IsOfVariants d × (place_of c ≡ place d n)) × ((label s).len ≡ n)
 both_were d n c s w = let k = shaped_planned d n c (more s end) w in ((k.variants, k.core), k.behind.0)
+
+-- ---- the shape in the words of a slice
+
+one_item : (us : List Tree) (c : Tree) → length us ≡ 1 → c ≡ get_or us 0 c → more c end ≡ roses_of us
+one_item [] c l e = absurd (omega (arith, l))
+one_item (u ∷ []) c l e = ap (λ (t : Tree). more t end) e
+one_item (u ∷ v ∷ us) c l e = absurd (omega (arith, l))
+
+two_items : (us : List Tree) (c s : Tree) → length us ≡ 2 → c ≡ get_or us 0 c → s ≡ get_or us 1 s → more c (more s end) ≡ roses_of us
+two_items [] c s l e f = absurd (omega (arith, l))
+two_items (u ∷ []) c s l e f = absurd (omega (arith, l))
+two_items (u ∷ v ∷ []) c s l e f = λ i. more (e i) (more (f i) end)
+two_items (u ∷ v ∷ w ∷ us) c s l e f = absurd (omega (arith, l))
+
+pub one_shaped : (d : Typ) (n : ℕ) (us : List Tree) (c : Tree) (b : Bool) → length us ≡ 1 → c ≡ get_or us 0 c → (IsTrue b ↔ (IsOfVariants d × (place_of c ≡ place d n)))
+    → IsTrue b ↔ IsWellShaped (untold d n B.variant) (roses_of us)
+one_shaped d n us c b l e h = subst (λ (ts : Trees). IsTrue b ↔ IsWellShaped (untold d n B.variant) ts) (one_item us c l e) (lone_decides d n c b h)
+
+pub two_shaped : (d : Typ) (n : ℕ) (us : List Tree) (c s : Tree) (b r : Bool) → length us ≡ 2 → c ≡ get_or us 0 c → s ≡ get_or us 1 s → b ≡ true → (IsTrue b ↔ (IsOfVariants d × (place_of c ≡ place d n)))
+    → (IsTrue r ↔ ((label s).len ≡ n)) → IsType (label s).dtype → IsTrue r ↔ IsWellShaped (untold d n B.variant) (roses_of us)
+two_shaped d n us c s b r l e f t h g k = subst (λ (ts : Trees). IsTrue r ↔ IsWellShaped (untold d n B.variant) ts) (two_items us c s l e f) (
+    (λ y. both_decide d n c s k (h.0 t, g.0 y)),
+    (λ w. g.1 (both_were d n c s w).1),
+  )
+
+pub two_unshaped : (d : Typ) (n : ℕ) (us : List Tree) (c s : Tree) (b : Bool) → length us ≡ 2 → c ≡ get_or us 0 c → s ≡ get_or us 1 s → b ≡ false → (IsTrue b ↔ (IsOfVariants d × (place_of c ≡ place d n)))
+    → IsTrue false ↔ IsWellShaped (untold d n B.variant) (roses_of us)
+two_unshaped d n us c s b l e f t h = subst (λ (ts : Trees). IsTrue false ↔ IsWellShaped (untold d n B.variant) ts) (two_items us c s l e f) (
+    (λ y. absurd (false≢true y)),
+    (λ w. absurd (false≢true (sym t ∙ h.1 (both_were d n c s w).0))),
+  )
+
+pub none_shaped : (d : Typ) (n : ℕ) (us : List Tree) → length us ≡ 0 → IsTrue false ↔ IsWellShaped (untold d n B.variant) (roses_of us)
+none_shaped d n us l = ((λ y. absurd (false≢true y)), (λ w. absurd (no_other d n us (λ k. omega (arith, l, k)) (λ k. omega (arith, l, k)) w)))
+
+pub many_shaped : (d : Typ) (n : ℕ) (us : List Tree) → 3 ≤ length us → IsTrue false ↔ IsWellShaped (untold d n B.variant) (roses_of us)
+many_shaped d n us l = ((λ y. absurd (false≢true y)), (λ w. absurd (no_other d n us (λ k. omega (arith, l, k)) (λ k. omega (arith, l, k)) w)))
+
+pub ruleset shapes = (one_shaped, two_shaped, two_unshaped, none_shaped, many_shaped)

@@ -9,8 +9,8 @@ ghost use Rattle.vx_types.specs.Seen.{typ};
 ghost use Rattle.vx_types.specs.Value.{tuple, variant_of};
 ghost use Rattle.vx_types.specs.declared.nullability.Nullability.TheVariants.{NonNullable, Nullable};
 ghost use Rattle.vx_scalars.specs.Seen.{seen, value_of};
-ghost use Rattle.vx_array_tree.specs.Merge.{Named, each_wrapped, merge, merged, raw_field, raw_structure, structure_at, structure_in, variants, wrapped};
-ghost use Rattle.vx_arrays.specs.Merging.{AreNamed, IsStructured, IsUnmerged, fallback_of, fallback_value, given_at, listed, merged_structures, not_null, other_at, raw_of};
+ghost use Rattle.vx_array_tree.specs.Merge.{Named, each_wrapped, kept, merge, merged, raw_field, raw_structure, structure_at, structure_in, variants, wrapped};
+ghost use Rattle.vx_arrays.specs.Merging.{AreNamed, IsStructured, IsUnmerged, fallback_of, fallback_value, given_at, left_over, listed, merged_structures, not_null, other_at, raw_of};
 
 use crate::error::ArrayError;
 use crate::named_variants::NamedVariants;
@@ -265,12 +265,36 @@ fn push_given(
     ensures err { IsOkUnless result ArrayError.OutOfMemory }
 {
     for name in typed.fields.names().as_slice() {
-        if let Some((dtype, value)) = field_in(typed, name) {
-            let scalar = merged(alloc, dtype, value, structure_at(raw, name))?;
-            fields.push(alloc, name, scalar)?;
+        match field_in(typed, name) {
+            Some((dtype, value)) => {
+                let scalar = merged(alloc, dtype, value, structure_at(raw, name))?;
+                fields.push(alloc, name, scalar)?;
+            }
+            None => {}
         }
     }
     Ok(())
+}
+
+// Puts the field of a name of a structure, where there is one that is not null, behind others.
+fn push_field(
+    alloc: Global,
+    structure: Structure<'_>,
+    name: &Name,
+    fields: &mut NamedVariants,
+) -> Result<(), ArrayError>
+    requires { IsStructured (raw_of structure) }
+    ensures ok { let r = raw_of structure.entry in
+        (fs : List Named) → AreNamed fields.old fs → OnOk result (AreNamed fields.new (fs ++ kept name.now (left_over None (not_null (raw_field name.now r.names r.types r.values))))) }
+    ensures err { IsOkUnless result ArrayError.OutOfMemory }
+{
+    match field_in(structure, name) {
+        Some((dtype, value)) => {
+            let scalar = wrapped(alloc, dtype, Some(value))?;
+            fields.push(alloc, name, scalar)
+        }
+        None => Ok(()),
+    }
 }
 
 // Puts those fields of a raw structure behind others that are not null, and whose names a structure does not give.
@@ -287,9 +311,9 @@ fn push_others(
     ensures err { IsOkUnless result ArrayError.OutOfMemory }
 {
     for name in raw.fields.names().as_slice() {
-        if let (None, Some((dtype, value))) = (field_in(typed, name), field_in(raw, name)) {
-            let scalar = wrapped(alloc, dtype, Some(value))?;
-            fields.push(alloc, name, scalar)?;
+        match field_in(typed, name) {
+            Some(_) => {}
+            None => push_field(alloc, raw, name, fields)?,
         }
     }
     Ok(())

@@ -138,6 +138,7 @@ pub(crate) fn core_in<'a>(
 }
 
 // Whether arrays are the children of a node of variants: a core, and behind it at most a shredded child.
+#[tactic(auto, using(crate::proofs::Shredded::shapes))]
 fn is_shaped(dtype: &DType, len: usize, children: &[Array]) -> bool
     ensures { IsTrue result ↔ IsWellShaped (untold (typ dtype.now) len B.variant) (roses_of children.now) }
 {
