@@ -61,6 +61,8 @@ mutual
   by_plain (more v vs) end f = absurd f
   by_plain (more v vs) (more d ds) f = both_false (has_opaque v) (have_opaque vs) (plain v d f.0) (by_plain vs ds f.1)
 
+pub ruleset plains = (plain)
+
 good : (d : Typ) (v : Value) → Fits v d → IsGood d v
 good d v f = record { fits = f; plain = plain v d f }
 

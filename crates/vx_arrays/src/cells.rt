@@ -14,6 +14,7 @@ use crate::row::RowValue;
 use vx_scalars::ScalarValue;
 
 // Spends the cells of a row of variants.
+#[tactic(auto, using(crate::proofs::Counted::counted))]
 pub(crate) fn spend_row(row: &RowValue, budget: &mut u64) -> Result<(), ArrayError>
     requires { IsVariantRow (plain_value row.now) }
     ensures spent { OnOk result (budget.old ≡ value_cells (plain_value row.now) + budget.new) }
@@ -31,7 +32,7 @@ pub(crate) fn spend_row(row: &RowValue, budget: &mut u64) -> Result<(), ArrayErr
 
 // Spends the cells of a scalar's value.
 #[cycle(cells)]
-#[tactic(auto, using(vx_scalars::proofs::Lists::falling, crate::proofs::Scalared::value_spends))]
+#[tactic(auto, using(vx_scalars::proofs::Lists::falling, crate::proofs::Scalared::value_spends, crate::proofs::Counted::counted))]
 fn spend_value(value: Option<&ScalarValue>, budget: &mut u64) -> Result<(), ArrayError>
     ensures spent { OnOk result (budget.old ≡ value_cells (seen (option_copied value.entry)) + budget.new) }
     ensures err { IfErr result (λ e. IsValueRefused e (value_cells (seen (option_copied value.entry))) budget.old) }
@@ -62,7 +63,7 @@ fn spend_value(value: Option<&ScalarValue>, budget: &mut u64) -> Result<(), Arra
 
 // Spends the cells of several.
 #[cycle(cells)]
-#[tactic(auto, using(vx_scalars::proofs::Lists::falling, crate::proofs::Scalared::value_spends))]
+#[tactic(auto, using(vx_scalars::proofs::Lists::falling, crate::proofs::Scalared::value_spends, crate::proofs::Counted::counted))]
 fn spend_values(values: &[Option<ScalarValue>], budget: &mut u64) -> Result<(), ArrayError>
     ensures spent { OnOk result (budget.old ≡ values_cells (roses_of (all_seen values.now)) + budget.new) }
     ensures err { IfErr result (λ e. IsValueRefused e (values_cells (roses_of (all_seen values.now))) budget.old) }

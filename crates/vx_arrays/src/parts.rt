@@ -192,7 +192,7 @@ pub(crate) fn built(
 
 // The value of a typed array's row over a core's, if there are cells to spend for the greatest of it and of these two rows.
 #[cycle(rows)]
-#[tactic(auto, using(crate::proofs::Scalared::variant_rows))]
+#[tactic(auto, using(crate::proofs::Counted::counted, crate::proofs::Scalared::variant_rows))]
 fn merged_value(
     alloc: Global,
     core: &Array,

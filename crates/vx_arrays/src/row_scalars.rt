@@ -51,6 +51,7 @@ fn have_opaque(rows: &[RowValue]) -> bool
 }
 
 // Nothing opaque stands in a scalar.
+#[tactic(auto, using(crate::proofs::Merged::plains))]
 fn is_never_opaque(scalar: &Scalar) -> bool
     ensures none { result ≡ false }
     ensures same { result ≡ has_opaque scalar.now.value }
