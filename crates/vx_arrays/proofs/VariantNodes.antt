@@ -89,3 +89,5 @@ module _ (d : Typ) (n : ℕ) (z : Stats) (b : Body) (ts : Trees) (t c : Tree) (u
     -- A shredded row that is null leaves it to the core's.
     pub core_there : Some false ≡ valid_at s i → valid_at c i ≡ valid_at t i
     core_there p = ap (λ (o : Option Bool). valid_over o (valid_at c i)) p ∙ shredded_there
+
+pub ruleset variant_nodes = (core_below, core_rows, lone_there, shredded_below, shredded_there, core_there)

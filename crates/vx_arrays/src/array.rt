@@ -220,7 +220,7 @@ impl Array {
     }
 
     /// Whether the row is there; None where that is not known.
-    #[tactic(auto, using(crate::proofs::Untold::untold_node, crate::proofs::Stored::stored_rows, crate::proofs::Mapped::mapped_rows))]
+    #[tactic(auto, using(crate::proofs::Untold::untold_node, crate::proofs::Stored::stored_rows, crate::proofs::Mapped::mapped_rows, crate::proofs::VariantNodes::variant_nodes))]
     pub fn is_valid(&self, index: usize) -> Option<bool>
         requires { index < (label self.now).len }
         ensures { result ≡ valid_at self.now index }
