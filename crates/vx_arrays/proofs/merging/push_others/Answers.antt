@@ -9,7 +9,7 @@ use Rattle.vx_arrays.specs.declared.named_variants.NamedVariants.{NamedVariants}
 use Rattle.vx_arrays.proofs.Fieldwise.{ok_of, other_given, other_left}
 use Rattle.vx_arrays.proofs.Merged.{step_on, step_past}
 use Rattle.vx_arrays.proofs.merging.push_others.Goals as goal
-use Rattle.vx_arrays.proofs.merging.push_others.Goals.{in-Some, in-None+in_ok-push_field}
+use Rattle.vx_arrays.proofs.merging.push_others.Goals.{in-Some, in-None+in_ok-push_field-in-None}
 
 pub loop-name-preserved : goal.loop-name-preserved
 loop-name-preserved c = λ fs h.
@@ -24,10 +24,10 @@ loop-name-preserved c = λ fs h.
           let e = ap (λ o. option_map (λ f. (typ f.0.now, value_of f.1.now)) o) (sym w.in-Some.is) ∙ c.field_in.ensures.found in
           subst (λ (f : NamedVariants). AreNamed f (fs ++ listed (other_at t r) (take (i + 1) ns))) (sym w.fields-is)
           (step_past (other_at t r) ns i n fs c.loop-name.fields c.loop-name-test.true c.name-item.is (other_given t r n _ e) before)
-      | in-None+in_ok-push_field w ↦
+      | in-None+in_ok-push_field-in-None w ↦
           let e = ap (λ o. option_map (λ f. (typ f.0.now, value_of f.1.now)) o) (sym w.in-None.is) ∙ c.field_in.ensures.found in
           let o = left_over None (not_null (raw_field n r.names r.types r.values)) in
-          let p = ok_of w.push_field.result w.in_ok-push_field.field-0 _ (w.push_field.ensures.ok (fs ++ listed (other_at t r) (take i ns)) before) w.in_ok-push_field.was in
+          let p = ok_of w.push_field.result w.in_ok-push_field-in-None.field-0 _ (w.push_field.ensures.ok (fs ++ listed (other_at t r) (take i ns)) before) w.in_ok-push_field-in-None.was in
           subst (λ (f : NamedVariants). AreNamed f (fs ++ listed (other_at t r) (take (i + 1) ns))) (sym w.fields-is)
           (step_on (other_at t r) ns i n fs w.push_field.new.fields o c.loop-name-test.true c.name-item.is (other_left t r n e) p)
     ]
