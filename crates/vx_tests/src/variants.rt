@@ -102,13 +102,7 @@ fn is_kept_under(alloc: Global, dtype: &DType, blob: &[u8], ids: &Ids, text: &st
 }
 
 // The same under the identifiers of a context.
-fn is_kept_by(
-    alloc: Global,
-    dtype: &DType,
-    blob: &[u8],
-    ctx: &ArrayContext,
-    text: &str,
-) -> bool {
+fn is_kept_by(alloc: Global, dtype: &DType, blob: &[u8], ctx: &ArrayContext, text: &str) -> bool {
     match ctx.to_ids(alloc) {
         Ok(ids) => is_kept_under(alloc, dtype, blob, &ids, text),
         Err(_) => false,
