@@ -4,7 +4,7 @@ use crate::nested::{blob_of, lines_of};
 use crate::program::{Files, refuses, saves_the_same};
 use std::alloc::Global;
 use vx_arrays::Array;
-use vx_nested_parts::parts::{Made, There, lists, numbers, shredded, unknown_variants};
+use vx_nested_parts::parts::{Made, There, extensions, lists, numbers, shredded, unknown_variants};
 use vx_registry::ArrayContext;
 use vx_type_wire::DTypeExt;
 use vx_types::{DType, Ids, PType};
@@ -34,6 +34,8 @@ enum Typed {
     None,
     Counts,
     Lists,
+    // Extensions that no session knows.
+    Extensions,
 }
 
 // Two variants of which nothing is known, under such a child.
@@ -42,6 +44,7 @@ fn made(alloc: Global, typed: Typed) -> Made {
         Typed::None => None,
         Typed::Counts => Some(counts(alloc)),
         Typed::Lists => Some(parted(alloc)),
+        Typed::Extensions => Some(extensions(alloc, counts(alloc), counts(alloc))),
     };
     shredded(alloc, unknown_variants(alloc, 2), over)
 }
@@ -70,65 +73,99 @@ const LISTS: &str = "vortex.variant len=2 buffers=[]
 1: v([v(null)])
 ";
 
-// A typed child, and how the variants are listed.
-const LISTINGS: [(Typed, &str); 3] = [
-    (Typed::None, BARE),
-    (Typed::Counts, COUNTS),
-    (Typed::Lists, LISTS),
+const EXTENSIONS: &str = "vortex.variant len=2 buffers=[]
+  x.core len=2 buffers=[]
+  vortex.ext len=2 buffers=[]
+    vortex.primitive len=2 buffers=[8]
+      vortex.bool len=2 buffers=[1]
+0: v(1)
+1: ?
+";
+
+// A typed child, how the variants are listed, and the status where what is unknown is not allowed.
+#[derive(Clone, Copy, Debug)]
+struct Row {
+    typed: Typed,
+    text: &'static str,
+    status: u8,
+}
+
+// The metadata are looked at before the identifier of the core.
+const ROWS: [Row; 4] = [
+    Row {
+        typed: Typed::None,
+        text: BARE,
+        status: 17,
+    },
+    Row {
+        typed: Typed::Counts,
+        text: COUNTS,
+        status: 17,
+    },
+    Row {
+        typed: Typed::Lists,
+        text: LISTS,
+        status: 17,
+    },
+    Row {
+        typed: Typed::Extensions,
+        text: EXTENSIONS,
+        status: 18,
+    },
 ];
 
 // Whether files are kept as they were and listed so where what is unknown is allowed, and refused where it is not.
-fn stay(alloc: Global, files: &Files<'_>, text: &str) -> bool {
-    saves_the_same(alloc, &ALLOWING, files, text) && refuses(alloc, &WORDS, files, 17)
+fn stay(alloc: Global, files: &Files<'_>, row: &Row) -> bool {
+    saves_the_same(alloc, &ALLOWING, files, row.text) && refuses(alloc, &WORDS, files, row.status)
 }
 
 // The same of a blob at a type, under these identifiers.
-fn is_kept(alloc: Global, dtype: &DType, blob: &[u8], ids: &str, text: &str) -> bool {
+fn is_kept(alloc: Global, dtype: &DType, blob: &[u8], ids: &str, row: &Row) -> bool {
     match dtype.write_flatbuffer_bytes(alloc) {
         Ok(message) => {
             let dtype = message.as_slice();
-            stay(alloc, &Files { dtype, blob, ids }, text)
+            stay(alloc, &Files { dtype, blob, ids }, row)
         }
         Err(_) => false,
     }
 }
 
 // The same under a list of identifiers.
-fn is_kept_under(alloc: Global, dtype: &DType, blob: &[u8], ids: &Ids, text: &str) -> bool {
+fn is_kept_under(alloc: Global, dtype: &DType, blob: &[u8], ids: &Ids, row: &Row) -> bool {
     match lines_of(alloc, ids) {
-        Ok(lines) => is_kept(alloc, dtype, blob, lines.as_str(), text),
+        Ok(lines) => is_kept(alloc, dtype, blob, lines.as_str(), row),
         Err(_) => false,
     }
 }
 
 // The same under the identifiers of a context.
-fn is_kept_by(alloc: Global, dtype: &DType, blob: &[u8], ctx: &ArrayContext, text: &str) -> bool {
+fn is_kept_by(alloc: Global, dtype: &DType, blob: &[u8], ctx: &ArrayContext, row: &Row) -> bool {
     match ctx.to_ids(alloc) {
-        Ok(ids) => is_kept_under(alloc, dtype, blob, &ids, text),
+        Ok(ids) => is_kept_under(alloc, dtype, blob, &ids, row),
         Err(_) => false,
     }
 }
 
 // The same of an array's blob.
-fn is_kept_of(alloc: Global, array: &Array, text: &str) -> bool {
+fn is_kept_of(alloc: Global, array: &Array, row: &Row) -> bool {
     let mut ctx = ArrayContext::empty(alloc);
     match blob_of(alloc, array, &mut ctx) {
-        Ok(blob) => is_kept_by(alloc, array.dtype(), blob.as_slice(), &ctx, text),
+        Ok(blob) => is_kept_by(alloc, array.dtype(), blob.as_slice(), &ctx, row),
         Err(_) => false,
     }
 }
 
 // The same of an array, once it is made.
-fn are_kept(alloc: Global, row: &(Typed, &str)) -> bool {
-    match made(alloc, row.0) {
-        Ok(array) => is_kept_of(alloc, &array, row.1),
+fn are_kept(alloc: Global, row: &Row) -> bool {
+    match made(alloc, row.typed) {
+        Ok(array) => is_kept_of(alloc, &array, row),
         Err(_) => false,
     }
 }
 
 #[test]
 fn variants_over_an_unknown_core_are_kept(rt: HostRuntime) {
-    for row in &LISTINGS {
+    for row in &ROWS {
         assert!(rt; are_kept(rt.alloc(), row), "{row:?}");
     }
 }
