@@ -182,7 +182,9 @@ impl VarBinArray {
     {
         let len = offsets.len().saturating_sub(1);
         let shaped = are_parts(&dtype, len, &offsets, &validity);
-        let right = shaped && has_content(&dtype, len, &offsets, &bytes, &validity);
+        let right = shaped
+            && offsets.has_no_foreign()
+            && has_content(&dtype, len, &offsets, &bytes, &validity);
         let body = Body::VarBin(VarBinData { bytes });
         match with_validity(alloc, offsets, validity) {
             Ok(children) => over_children(dtype, len, body, children, shaped, right),
