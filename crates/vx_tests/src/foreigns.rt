@@ -272,7 +272,10 @@ const CHAINS: [(usize, [u8; 4], bool, Option<WireError>, u8); 7] = [
 fn chains_of_foreign_nodes_are_written_up_to_a_level(rt: HostRuntime) {
     let alloc = rt.alloc();
     for (levels, len, deep, refused, status) in &CHAINS {
-        assert!(rt; unopened(alloc, *levels, len, *deep) == Ok(*refused), "{levels}");
+        assert!(rt;
+            unopened(alloc, *levels, len, *deep) == Ok(*refused),
+            "{levels}"
+        );
         assert!(rt; ends_chain(alloc, *levels, len, *deep, *status), "{levels}");
     }
 }
