@@ -5,6 +5,7 @@ use std::alloc::Global;
 use vx_arrays::{Array, ArrayError, Arrays, new_foreign_array};
 use vx_buffer::BufferHandles;
 use vx_nested_parts::parts::{Made, There, bytes, dicts, extensions, lists, one, structs};
+use vx_nested_parts::rows::takes;
 use vx_registry::ArrayContext;
 use vx_serde::{SerializeOptions, SerializedArray, WireError};
 use vx_types::{Blob, DType, Id, TypeError};
@@ -79,42 +80,54 @@ fn options(deep: bool) -> SerializeOptions {
     }
 }
 
-// Why a tree is not written and recoded, if it is not; whether it comes back as it was, if it is.
-fn recoded(alloc: Global, tree: &Array, deep: bool) -> Result<bool, WireError> {
+// Why a tree is not written and recoded, if it is not; whether it comes back as it was and its row takes so many cells, if
+// it is.
+fn recoded(alloc: Global, tree: &Array, deep: bool, cells: u64) -> Result<bool, WireError> {
     let mut ctx = ArrayContext::empty(alloc);
-    let recoded = recoded_with(alloc, tree, &mut ctx, &options(deep))?;
-    Ok(tree.array_eq(&recoded.array))
+    match recoded_with(alloc, tree, &mut ctx, &options(deep)) {
+        Ok(recoded) => {
+            Ok(tree.array_eq(&recoded.array) && takes(alloc, tree.clone(alloc), cells))
+        }
+        Err(e) => Err(e),
+    }
 }
 
 // The same of a tree that is made.
-fn comes_back(alloc: Global, level: Level, levels: usize, deep: bool) -> Result<bool, WireError> {
+fn comes_back(
+    alloc: Global,
+    level: Level,
+    levels: usize,
+    deep: bool,
+    cells: u64,
+) -> Result<bool, WireError> {
     match tree(alloc, level, levels) {
-        Ok(tree) => recoded(alloc, &tree, deep),
+        Ok(tree) => recoded(alloc, &tree, deep, cells),
         Err(_) => Err(WireError::OutOfMemory),
     }
 }
 
 const PASSED: Result<bool, WireError> = Err(WireError::WireLimit);
 
-// What the levels are, how many there are, whether deep trees are asked for, and what comes of it.
-const TREES: [(Level, usize, bool, Result<bool, WireError>); 11] = [
-    (Level::Lists, 62, false, Ok(true)),
-    (Level::Lists, 63, false, PASSED),
-    (Level::Lists, 63, true, Ok(true)),
-    (Level::Lists, 126, true, Ok(true)),
-    (Level::Lists, 127, true, PASSED),
-    (Level::Structs, 126, true, Ok(true)),
-    (Level::Structs, 127, true, PASSED),
-    (Level::Extensions, 126, true, Ok(true)),
-    (Level::Extensions, 127, true, PASSED),
-    (Level::Dictionaries, 126, true, Ok(true)),
-    (Level::Dictionaries, 127, true, PASSED),
+// What the levels are, how many there are, how many cells the row takes, whether deep trees are asked for, and what comes
+// of it.
+const TREES: [(Level, usize, u64, bool, Result<bool, WireError>); 11] = [
+    (Level::Lists, 62, 62, false, Ok(true)),
+    (Level::Lists, 63, 63, false, PASSED),
+    (Level::Lists, 63, 63, true, Ok(true)),
+    (Level::Lists, 126, 126, true, Ok(true)),
+    (Level::Lists, 127, 127, true, PASSED),
+    (Level::Structs, 126, 126, true, Ok(true)),
+    (Level::Structs, 127, 127, true, PASSED),
+    (Level::Extensions, 126, 1, true, Ok(true)),
+    (Level::Extensions, 127, 1, true, PASSED),
+    (Level::Dictionaries, 126, 1, true, Ok(true)),
+    (Level::Dictionaries, 127, 1, true, PASSED),
 ];
 
 #[test]
 fn trees_are_written_up_to_a_level(rt: HostRuntime) {
-    for (level, levels, deep, told) in &TREES {
-        let answer = comes_back(rt.alloc(), *level, *levels, *deep);
+    for (level, levels, cells, deep, told) in &TREES {
+        let answer = comes_back(rt.alloc(), *level, *levels, *deep, *cells);
         assert!(rt; answer == *told, "{level:?} {levels}");
     }
 }
