@@ -132,7 +132,7 @@ const ENTRIES: [(&str, Option<Encoding>); 13] = [
     ("vortex.map", Some(Encoding::Map)),
     ("vortex.union", Some(Encoding::Union)),
     ("vortex.dict", Some(Encoding::Dict)),
-    ("vortex.variant", None),
+    ("vortex.variant", Some(Encoding::Variant)),
     ("", None),
 ];
 

@@ -16,7 +16,7 @@ use Rattle.vx_arrays.specs.Refused.{IsOkOrMemory}
 use Rattle.vx_arrays.specs.Validity.{all_invalid}
 use Rattle.vx_arrays.proofs.Controlled.{bare_controlled}
 use Rattle.vx_arrays.specs.declared.error.ArrayError.{ArrayError}
-use Rattle.vx_arrays.specs.declared.error.ArrayError.TheVariants.{OutOfMemory, BadShape, BadContent, ForeignControl, ValueTooLarge}
+use Rattle.vx_arrays.specs.declared.error.ArrayError.TheVariants.{OutOfMemory, BadShape, BadContent, ForeignControl, ValueTooLarge, BadCast}
 
 no_bit : (k i : ℕ) → i / 8 < k → bit_at (replicate k 0) i ≡ false
 no_bit k i h = rw (get_or-replicate {A = ℕ} k (i / 8) 0 0 h, zero-div (2 ^ (i % 8))) refl
@@ -67,6 +67,7 @@ only_memory (Err BadShape) h = absurd h
 only_memory (Err BadContent) h = absurd h
 only_memory (Err ForeignControl) h = absurd h
 only_memory (Err ValueTooLarge) h = absurd h
+only_memory (Err BadCast) h = absurd h
 
 pub wants_memory : (b : Buffer) (n : ℕ) (r : Result Tree ArrayError) → b.bytes ≡ replicate ((n + 7) / 8) 0 → b.exponent ≡ 0 → (IsSound (bool_tree b 0 n NonNullable None) → IsOkOrMemory r) → IsOkUnless r OutOfMemory
 wants_memory b n r p q complete = only_memory r (complete (subst (λ (t : Tree). IsSound t) (sym (tree_is b n p q)) (all_invalid_sound n)))

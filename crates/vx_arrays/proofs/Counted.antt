@@ -12,7 +12,7 @@ use Rattle.vx_arrays.specs.Plain.{plain_value}
 use Rattle.vx_arrays.specs.Refused.{IsValueRefused}
 use Rattle.vx_arrays.specs.declared.error.ArrayError.{ArrayError}
 use Rattle.vx_arrays.specs.declared.row.RowValue.{RowValue}
-use Rattle.vx_arrays.specs.declared.error.ArrayError.TheVariants.{OutOfMemory, BadShape, BadContent, ForeignControl, ValueTooLarge}
+use Rattle.vx_arrays.specs.declared.error.ArrayError.TheVariants.{OutOfMemory, BadShape, BadContent, ForeignControl, ValueTooLarge, BadCast}
 
 -- ---- refusals
 
@@ -23,6 +23,7 @@ refused_more BadShape few many budget h r = absurd r
 refused_more BadContent few many budget h r = absurd r
 refused_more ForeignControl few many budget h r = absurd r
 refused_more ValueTooLarge few many budget h r = omega (arith, h, r)
+refused_more BadCast few many budget h r = absurd r
 
 -- What is refused where some cells were spent is refused with them.
 pub refused_after : (e : ArrayError) (spent cells left budget total : ℕ) → budget ≡ spent + left → spent + cells ≤ total → IsValueRefused e cells left → IsValueRefused e total budget
@@ -31,6 +32,7 @@ refused_after BadShape spent cells left budget total q h r = absurd r
 refused_after BadContent spent cells left budget total q h r = absurd r
 refused_after ForeignControl spent cells left budget total q h r = absurd r
 refused_after ValueTooLarge spent cells left budget total q h r = omega (arith, q, h, r)
+refused_after BadCast spent cells left budget total q h r = absurd r
 
 -- What is said of a row, or of a number of cells, is said of the same one.
 pub same_row : (r : Result RowValue ArrayError) (v w : Value) → v ≡ w → IfOk r (λ row. plain_value row ≡ v) → IfOk r (λ row. plain_value row ≡ w)

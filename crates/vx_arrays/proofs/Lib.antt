@@ -29,3 +29,8 @@ mod Entries
 mod Mapped
 mod Controlled
 mod Bracketed
+mod Shredded
+mod Merged
+mod Fieldwise
+mod Scalared
+mod VariantNodes

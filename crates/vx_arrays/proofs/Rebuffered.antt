@@ -35,7 +35,7 @@ use Rattle.vx_arrays.specs.VarBins.{varbin_tree}
 use Rattle.vx_arrays.specs.VarBinViews.{varbinview_tree}
 use Rattle.vx_arrays.proofs.Parted.{first_and_behind, sound_counted}
 use Rattle.vx_arrays.specs.declared.error.ArrayError.{ArrayError}
-use Rattle.vx_arrays.specs.declared.error.ArrayError.TheVariants.{OutOfMemory, BadShape, BadContent, ForeignControl, ValueTooLarge}
+use Rattle.vx_arrays.specs.declared.error.ArrayError.TheVariants.{OutOfMemory, BadShape, BadContent, ForeignControl, ValueTooLarge, BadCast}
 
 -- The only child of a node whose only child may be a validity.
 pub only_child : (n : ℕ) (ts : List Tree) (t u : Tree) → before_validity [] n (count (roses_of ts)) ≡ Some (places (roses_of ts)) → 1 ≤ length ts → u ≡ get_or ts 0 u → t ≡ u → more t end ≡ roses_of ts
@@ -59,6 +59,7 @@ module _ (t u : Tree) (bs : List Buffer) (made : with_buffers t bs ≡ Some u) (
   refused BadContent h = subst (λ (o : Option Tree). IsSomeAnd o (λ v. HasBrokenContent (label v) (below v))) (sym made) h
   refused ForeignControl h = subst (λ (o : Option Tree). IsSomeAnd o (λ v. HasForeignControl (label v) (below v))) (sym made) h
   refused ValueTooLarge h = h
+  refused BadCast h = h
 
   pub answer_err : IfErr r (λ e. IsUnmade e u) → IfErr r (λ e. RefusesBuffers e t bs)
   answer_err h = err r h
@@ -207,3 +208,4 @@ told_refused ForeignControl x (node h ts) bs r = foreign (rebuffered h.body bs) 
     foreign None r = r
     foreign (Some b) r = record { shaped = other_stats h x h.stats b ts r.shaped; foreign = λ k. r.foreign (other_control h h.stats x b ts k) }
 told_refused ValueTooLarge x t bs r = r
+told_refused BadCast x t bs r = r

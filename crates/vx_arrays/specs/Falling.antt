@@ -7,7 +7,7 @@ use denote.Param.Weighed.{most}
 use Rattle.vx_arrays.specs.Falls.{value_size}
 use Rattle.vx_arrays.specs.Plain.{plain_value, plain_values}
 use Rattle.vx_arrays.specs.declared.row.RowValue.{RowValue}
-use Rattle.vx_arrays.specs.declared.row.RowValue.TheVariants.{Null, Opaque, Bool, Primitive, Decimal, Utf8, Binary, Tuple, Union}
+use Rattle.vx_arrays.specs.declared.row.RowValue.TheVariants.{Null, Opaque, Bool, Primitive, Decimal, Utf8, Binary, Tuple, Union, Variant}
 use Rattle.vx_arrays.specs.declared.row_ref.RowRef.TheDeep.{deep-RowValue}
 
 pub deep_le-size : (v : RowValue) → max (deep-RowValue v) 0 ≤ value_size (plain_value v)
@@ -20,6 +20,7 @@ deep_le-size (Utf8 text) = omega arith
 deep_le-size (Binary bytes) = omega arith
 deep_le-size (Tuple vs) = omega arith
 deep_le-size (Union tag v) = omega arith
+deep_le-size (Variant s) = omega arith
 
 pub most_le-size : (vs : List RowValue) → most (λ v. deep-RowValue v) vs ≤ 4 * nodes_of (roses_of (plain_values vs)) + 1
 most_le-size [] = omega arith

@@ -14,6 +14,9 @@ pub mod ListViews
 pub mod Maps
 pub mod Structs
 pub mod Unions
+pub mod Variants
+pub mod Merging
+pub mod RowScalars
 pub mod Foreigns
 pub mod Places
 pub mod Validity

@@ -14,7 +14,7 @@ use Rattle.vx_array_tree.specs.Refused.{IsMisshaped, HasForeignControl, HasBroke
 use Rattle.vx_array_tree.specs.Table.{bufferless}
 use Rattle.vx_array_tree.specs.Tree.{Tree}
 use Rattle.vx_arrays.specs.declared.error.ArrayError.{ArrayError}
-use Rattle.vx_arrays.specs.declared.error.ArrayError.TheVariants.{OutOfMemory, BadShape, BadContent, ForeignControl, ValueTooLarge}
+use Rattle.vx_arrays.specs.declared.error.ArrayError.TheVariants.{OutOfMemory, BadShape, BadContent, ForeignControl, ValueTooLarge, BadCast}
 
 -- What a node holds with these buffers in the place of its own, and all else as it was: none, where its encoding has
 -- another number of buffers.
@@ -39,3 +39,4 @@ RefusesBuffers BadShape t bs = IfSome (with_buffers t bs) (λ u. IsMisshaped (la
 RefusesBuffers BadContent t bs = IsSomeAnd (with_buffers t bs) (λ u. HasBrokenContent (label u) (below u))
 RefusesBuffers ForeignControl t bs = IsSomeAnd (with_buffers t bs) (λ u. HasForeignControl (label u) (below u))
 RefusesBuffers ValueTooLarge t bs = ⊥
+RefusesBuffers BadCast t bs = ⊥

@@ -2,14 +2,14 @@
 use Rattle.std.specs.Prelude.{ℕ, List, map as each}
 use Rattle.vx_trees.specs.Rose.{node, end, more, roses_of}
 use Rattle.vx_types.specs.Typ.{Typ}
-use Rattle.vx_types.specs.Value.{Value, lone}
+use Rattle.vx_types.specs.Value.{Value, lone, variant_of}
 use Rattle.vx_types.specs.Value as V
 use Rattle.vx_array_tree.specs.Body as B
 use Rattle.vx_array_tree.specs.Tree.{Head}
 use Rattle.vx_scalars.specs.Decimals.{decimal_of}
 use Rattle.vx_scalars.specs.Stats.{Stats}
 use Rattle.vx_arrays.specs.declared.body.Body.{Body}
-use Rattle.vx_arrays.specs.declared.body.Body.TheVariants.{Null, Primitive, Bool, Decimal, VarBin, VarBinView, FixedSizeList, Struct, Ext, List as ListOf, Union, Dict, ListView, Map, Foreign}
+use Rattle.vx_arrays.specs.declared.body.Body.TheVariants.{Null, Primitive, Bool, Decimal, VarBin, VarBinView, FixedSizeList, Struct, Ext, List as ListOf, Union, Dict, ListView, Map, Variant, Foreign}
 use Rattle.vx_arrays.specs.declared.row.RowValue.{RowValue}
 use Rattle.vx_arrays.specs.declared.row.RowValue.TheVariants as R
 
@@ -29,6 +29,7 @@ plain_body Union = B.union
 plain_body (Dict x) = B.dict x
 plain_body (ListView x) = B.listview x
 plain_body Map = B.map
+plain_body Variant = B.variant
 plain_body (Foreign x) = B.foreign x
 
 -- A node without its children, by its type, its rows, what is told of them, and what its encoding holds.
@@ -46,6 +47,7 @@ plain_value (R.Utf8 text) = lone (V.utf8 text)
 plain_value (R.Binary bytes) = lone (V.binary bytes)
 plain_value (R.Tuple values) = node V.tuple (roses_of values)
 plain_value (R.Union tag row) = node (V.union tag) (more row end)
+plain_value (R.Variant scalar) = variant_of scalar.dtype scalar.value
 
 -- The values of rows, in their order.
 abbrev pub plain_values : List RowValue → List Value

@@ -33,6 +33,7 @@ use crate::row::RowValue;
 use crate::structs::StructArray;
 use crate::union::{UnionArray, tags_in};
 use crate::validity::validity_at;
+use crate::variant::{VariantArray, core_in};
 use std::alloc::Global;
 use std::marker::Model;
 use vx_buffer::{BufferHandle, BufferHandles};
@@ -219,7 +220,7 @@ impl Array {
     }
 
     /// Whether the row is there; None where that is not known.
-    #[tactic(auto, using(crate::proofs::Untold::untold_node, crate::proofs::Stored::stored_rows, crate::proofs::Mapped::mapped_rows))]
+    #[tactic(auto, using(crate::proofs::Untold::untold_node, crate::proofs::Stored::stored_rows, crate::proofs::Mapped::mapped_rows, crate::proofs::VariantNodes::variant_nodes))]
     pub fn is_valid(&self, index: usize) -> Option<bool>
         requires { index < (label self.now).len }
         ensures { result ≡ valid_at self.now index }
@@ -268,6 +269,16 @@ impl Array {
                     None => codes.is_valid(index),
                 }
             }
+            Body::Variant => {
+                let (core, behind) = core_in(&self.dtype, self.len, self.children.as_slice());
+                match behind {
+                    [] => core.is_valid(index),
+                    [shredded, ..] => match shredded.is_valid(index) {
+                        Some(false) => core.is_valid(index),
+                        valid => valid,
+                    },
+                }
+            }
             Body::Foreign(_) => None,
         }
     }
@@ -296,7 +307,9 @@ impl Array {
                     None => None,
                 }
             }
-            Body::ListView(_) | Body::Map | Body::Union | Body::Foreign(_) => None,
+            Body::ListView(_) | Body::Map | Body::Union => None,
+            Body::Variant => None,
+            Body::Foreign(_) => None,
         }
     }
 
@@ -317,6 +330,7 @@ impl Array {
             Body::VarBinView(_) => None,
             Body::FixedSizeList | Body::Struct | Body::List => None,
             Body::ListView(_) | Body::Union | Body::Foreign(_) => None,
+            Body::Variant => None,
             Body::Map => {
                 let entries = entries_in(&self.dtype, self.len, children);
                 entries.natural_at(index)
@@ -368,6 +382,7 @@ impl Array {
                 let array = storage_in(dtype, len, children);
                 RowParts::At { array, index }
             }
+            Body::Variant => VariantArray::parts_at(dtype, len, children, index),
             Body::Foreign(_) => RowParts::Lone(LoneRow::Opaque),
         }
     }
@@ -439,6 +454,7 @@ impl Array {
                 without_buffers(alloc, dtype, len, body, children, buffers)
             }
             Body::Map => without_buffers(alloc, dtype, len, Body::Map, children, buffers),
+            Body::Variant => without_buffers(alloc, dtype, len, Body::Variant, children, buffers),
             Body::Foreign(foreign) => foreign.with_buffers(alloc, dtype, len, children, buffers),
         }
     }

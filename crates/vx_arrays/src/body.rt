@@ -20,6 +20,7 @@ use crate::structs::StructArray;
 use crate::union::UnionArray;
 use crate::varbin::{VarBinArray, VarBinData};
 use crate::varbinview::{VarBinViewArray, VarBinViewData};
+use crate::variant::VariantArray;
 use std::alloc::Global;
 use vx_buffer::BufferHandle;
 
@@ -54,6 +55,8 @@ pub enum Body {
     ListView(ListViewData),
     /// Nothing: maps, by their entries.
     Map,
+    /// Nothing: variants, by their core and, in part, a typed child.
+    Variant,
     /// All that is known of a node of an identifier that nothing reads.
     Foreign(ForeignData),
 }
@@ -80,6 +83,7 @@ impl Body {
             Body::Dict(_) => DictArray::ID,
             Body::ListView(_) => ListViewArray::ID,
             Body::Map => MapArray::ID,
+            Body::Variant => VariantArray::ID,
             Body::Foreign(foreign) => foreign.id().as_str(),
         }
     }
@@ -96,7 +100,7 @@ impl Body {
             Body::VarBin(_) => 1,
             Body::VarBinView(views) => views.nbuffers(),
             Body::FixedSizeList | Body::Struct | Body::Ext | Body::List => 0,
-            Body::ListView(_) | Body::Map | Body::Union | Body::Dict(_) => 0,
+            Body::ListView(_) | Body::Map | Body::Union | Body::Dict(_) | Body::Variant => 0,
             Body::Foreign(foreign) => foreign.buffers().len(),
         }
     }
@@ -111,6 +115,7 @@ impl Body {
                 unreachable!()
             }
             Body::ListView(_) | Body::Map | Body::Union | Body::Dict(_) => unreachable!(),
+            Body::Variant => unreachable!(),
             Body::Primitive(numbers) => numbers.values(),
             Body::Bool(flags) => flags.bits(),
             Body::Decimal(decimals) => decimals.values(),
@@ -139,6 +144,7 @@ impl Body {
             (Body::Dict(x), Body::Dict(y)) => x.array_eq(y),
             (Body::ListView(x), Body::ListView(y)) => x.array_eq(y),
             (Body::Map, Body::Map) => true,
+            (Body::Variant, Body::Variant) => true,
             (Body::Foreign(x), Body::Foreign(y)) => x.array_eq(y),
             _ => false,
         }
@@ -164,6 +170,7 @@ impl Body {
             Body::Dict(flag) => Ok(Body::Dict(flag.clone())),
             Body::ListView(views) => Ok(Body::ListView(views.again())),
             Body::Map => Ok(Body::Map),
+            Body::Variant => Ok(Body::Variant),
             Body::Foreign(foreign) => Ok(Body::Foreign(foreign.clone(alloc)?)),
         }
     }

@@ -74,7 +74,7 @@ fn is_control(dtype: &DType, body: &Body, count: usize, index: usize) -> bool
         Body::List | Body::ListView(_) | Body::FixedSizeList => index >= 1,
         Body::Union | Body::Dict(_) => index == 0,
         Body::Struct => has_front(dtype, count) && index == 0,
-        Body::Null | Body::Map | Body::Ext | Body::Foreign(_) => false,
+        Body::Null | Body::Map | Body::Ext | Body::Variant | Body::Foreign(_) => false,
     }
 }
 

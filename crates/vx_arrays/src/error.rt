@@ -26,6 +26,9 @@ pub enum ArrayError {
     /// A row takes more cells than there are to spend.
     #[error("the row takes too many cells")]
     ValueTooLarge,
+    /// What is merged is null, and the type that it is to be of has no null.
+    #[error("a merge that is null is of a type without nulls")]
+    BadCast,
 }
 
 impl From<AllocError> for ArrayError {

@@ -3,23 +3,30 @@
 //! An encoding's file says of what a row of its nodes is made, without memory. The one recursion over the arrays below a
 //! node stands here: it builds rows of their parts, and spends cells before it takes memory for them.
 
-ghost use Rattle.std.specs.Prelude.{suc, ℕ, ◌≡◌, ◌+◌, ◌^◌, ◌<◌, ◌≤◌, IfOk, IfErr, OnOk, IsOkUnless};
+ghost use Rattle.std.specs.Prelude.{suc, ℕ, false, ◌≡◌, ◌+◌, ◌^◌, ◌<◌, ◌≤◌, IfOk, IfErr, OnOk, IsOkUnless};
 ghost use Rattle.vx_trees.specs.Rose.{label, roses_of};
-ghost use Rattle.vx_types.specs.Value.{Value, lone, mark_cells, value_cells};
+ghost use Rattle.vx_types.specs.Fits.{Fits, IsVariant};
+ghost use Rattle.vx_types.specs.Seen.{typ};
+ghost use Rattle.vx_types.specs.Value.{Value, has_opaque, lone, mark_cells, value_cells};
+ghost use Rattle.vx_array_tree.specs.Encodings.Variants.{row_over};
 ghost use Rattle.vx_array_tree.specs.Rows.{cells_at, cells_from, cells_where, values_at, values_from, where_valid};
 ghost use Rattle.vx_array_tree.specs.Tree.{rows_below, rows_of};
 ghost use Rattle.vx_arrays.specs.Parts.{AreThere, HaveRow, lone_mark, parts_cells, parts_nodes, parts_value};
 ghost use Rattle.vx_arrays.specs.Plain.{plain_value};
 ghost use Rattle.vx_arrays.specs.Refused.{IsValueRefused};
+ghost use Rattle.vx_arrays.specs.RowScalars.{IsVariantRow};
+ghost use Rattle.vx_arrays.specs.Variants.{merged_cells, merged_row};
 
 use crate::array::Array;
+use crate::cells::spent_row;
 use crate::error::ArrayError;
 use crate::row::{RowValue, owned_bytes, owned_text};
 use crate::row_ref::RowRef;
+use crate::row_scalars::row_over;
 use crate::row_values::RowValues;
 use std::alloc::Global;
 use vx_scalars::DecimalValue;
-use vx_types::PValue;
+use vx_types::{DType, PValue};
 
 // A row without rows below it. Texts and bytes are lent.
 #[derive(Clone, Copy)]
@@ -67,6 +74,12 @@ pub(crate) enum RowParts<'a> {
         array: &'a Array,
         index: usize,
     },
+    // The variant of a typed array's row over a core's.
+    Merged {
+        core: &'a Array,
+        shredded: &'a Array,
+        index: usize,
+    },
 }
 
 // The parts of a row, where it is there; a row that is not there is null, and one of which that is not known is opaque.
@@ -85,7 +98,7 @@ pub(crate) fn where_there<'a>(valid: Option<bool>, parts: RowParts<'a>) -> RowPa
 }
 
 // Spends the cells of a value with so many bytes in it: one, and one for each byte.
-fn spend(bytes: usize, budget: &mut u64) -> Result<(), ArrayError>
+pub(crate) fn spend(bytes: usize, budget: &mut u64) -> Result<(), ArrayError>
     ensures spent { OnOk result (budget.old ≡ suc bytes + budget.new) }
     ensures err { IfErr result (λ e. IsValueRefused e (suc bytes) budget.old) }
 {
@@ -172,7 +185,65 @@ pub(crate) fn built(
             let value = array.row_within(alloc, index, budget)?;
             Ok(RowValue::Union(tag, RowRef::new(alloc, value)?))
         }
+        RowParts::Merged {
+            core,
+            shredded,
+            index,
+        } => merged_value(alloc, core, shredded, index, budget),
     }
+}
+
+// The value of a typed array's row over a core's, if there are cells to spend for the greatest of it and of these two rows.
+#[cycle(rows)]
+#[tactic(auto, using(crate::proofs::Counted::counted))]
+fn merged_value(
+    alloc: Global,
+    core: &Array,
+    shredded: &Array,
+    index: usize,
+    budget: &mut u64,
+) -> Result<RowValue, ArrayError>
+    requires core { index < (label core.now).len }
+    requires shredded { index < (label shredded.now).len }
+    requires variants { IsVariant (label core.now).dtype }
+    ensures row { IfOk result (λ value. plain_value value ≡ merged_row core.now shredded.now index) }
+    ensures spent { OnOk result (budget.old ≡ merged_cells core.now shredded.now index + budget.new) }
+    ensures err { IfErr result (λ e. IsValueRefused e (merged_cells core.now shredded.now index) budget.old) }
+{
+    let _rows = core.len();
+    let dtype = shredded.dtype();
+    let mut core_left = *budget;
+    let mut shredded_left = *budget;
+    let over = shredded.row_within(alloc, index, &mut shredded_left)?;
+    match core.row_within(alloc, index, &mut core_left) {
+        Ok(under) => {
+            let row = spent_over(alloc, dtype, over, under, budget);
+            *budget = core_left.min(shredded_left).min(*budget);
+            row
+        }
+        Err(error) => {
+            drop(over);
+            Err(error)
+        }
+    }
+}
+
+// A row of a type over a core's row, if there are cells to spend for it.
+fn spent_over(
+    alloc: Global,
+    dtype: &DType,
+    typed: RowValue,
+    core: RowValue,
+    budget: &mut u64,
+) -> Result<RowValue, ArrayError>
+    requires fits { has_opaque (plain_value typed) ≡ false → Fits (plain_value typed) (typ dtype.now) }
+    requires core { IsVariantRow (plain_value core) }
+    ensures row { IfOk result (λ row. plain_value row ≡ row_over (typ dtype.now) (plain_value typed) (plain_value core)) }
+    ensures spent { OnOk result (budget.old ≡ value_cells (row_over (typ dtype.now) (plain_value typed) (plain_value core)) + budget.new) }
+    ensures err { IfErr result (λ e. IsValueRefused e (value_cells (row_over (typ dtype.now) (plain_value typed) (plain_value core))) budget.old) }
+{
+    let row = row_over(alloc, dtype, typed, core)?;
+    spent_row(row, budget)
 }
 
 // The values of so many rows of an array, from one on, if there are cells to spend for all of them.

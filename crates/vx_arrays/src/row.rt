@@ -7,7 +7,7 @@ use crate::row_ref::RowRef;
 use crate::row_values::RowValues;
 use crate::same_values::is_same;
 use std::alloc::Global;
-use vx_scalars::DecimalValue;
+use vx_scalars::{DecimalValue, Scalar};
 use vx_types::{Blob, Name, PValue};
 
 /// The value of a row.
@@ -32,6 +32,8 @@ pub enum RowValue {
     Tuple(RowValues),
     /// A row of unions: its tag, and the row of the member that this names.
     Union(u8, RowRef),
+    /// A row of variants: a value with a type of its own.
+    Variant(Scalar),
 }
 
 impl PartialEq for RowValue {

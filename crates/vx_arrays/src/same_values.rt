@@ -4,6 +4,7 @@ ghost use Rattle.std.specs.Prelude.{◌≡◌, ◌↔◌, IsTrue};
 ghost use Rattle.vx_arrays.specs.Plain.{plain_value, plain_values};
 
 use crate::row::RowValue;
+use crate::same_scalars::is_same_scalar;
 
 // Whether two values are the same tree.
 #[cycle(same)]
@@ -21,6 +22,7 @@ pub(crate) fn is_same(a: &RowValue, b: &RowValue) -> bool
         (RowValue::Binary(x), RowValue::Binary(y)) => *x == *y,
         (RowValue::Tuple(x), RowValue::Tuple(y)) => are_same(x.as_slice(), y.as_slice()),
         (RowValue::Union(m, x), RowValue::Union(n, y)) => *m == *n && is_same(x.get(), y.get()),
+        (RowValue::Variant(x), RowValue::Variant(y)) => is_same_scalar(x, y),
         _ => false,
     }
 }

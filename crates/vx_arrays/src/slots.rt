@@ -42,6 +42,7 @@ impl Array {
         match self.body() {
             Body::Null | Body::FixedSizeList | Body::Struct | Body::Ext | Body::List => Ok(None),
             Body::ListView(_) | Body::Map | Body::Union | Body::Dict(_) => Ok(None),
+            Body::Variant => Ok(None),
             Body::Bool(_) => only_name(alloc, "bits", index),
             Body::Primitive(_) | Body::Decimal(_) => only_name(alloc, "values", index),
             Body::VarBin(_) => only_name(alloc, "bytes", index),
@@ -79,7 +80,7 @@ fn slots_of(dtype: &DType, body: &Body, count: usize) -> usize
         Body::ListView(_) => 4,
         Body::Map => 1,
         Body::VarBin(_) | Body::FixedSizeList => 2,
-        Body::Dict(_) => 2,
+        Body::Dict(_) | Body::Variant => 2,
         Body::Struct | Body::Union => match members_of(dtype) {
             Some(names) => names.as_slice().len() + 1,
             None => 1,
@@ -114,6 +115,13 @@ fn slot_of<'a>(dtype: &'a DType, body: &Body, index: usize) -> &'a str
             _ => "validity",
         },
         Body::Dict(_) => { if index == 0 { "codes" } else { "values" } }
+        Body::Variant => {
+            if index == 0 {
+                "core_storage"
+            } else {
+                "shredded"
+            }
+        }
         Body::ListView(_) => match index {
             0 => "elements",
             1 => "offsets",

@@ -174,6 +174,7 @@ dicts_refused x A.BadContent h bs us f b planned r e q refused =
       wrong = refused.broken;
     }
 dicts_refused x A.ValueTooLarge h bs us f b planned r e q refused = absurd refused
+dicts_refused x A.BadCast h bs us f b planned r e q refused = absurd refused
 
 -- Buffers do not fit.
 bufferless : (d : Typ) (n : ℕ) (v : Dicts.Metadata) (bs : List Buffer) (k : ℕ) → bs ≢ [] → IsShaped E.dict d n (M.dict v) bs k → ⊥

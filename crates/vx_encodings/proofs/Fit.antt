@@ -11,6 +11,8 @@ use Rattle.vx_array_tree.specs.Encodings.ListViews as ListViews
 use Rattle.vx_array_tree.specs.Encodings.Primitives as Primitives
 use Rattle.vx_array_tree.specs.Encodings.VarBins as VarBins
 use Rattle.vx_array_tree.specs.Encodings.VarBinViews as VarBinViews
+use Rattle.vx_array_tree.specs.Encodings.Variants as Variants
+use Rattle.vx_array_tree.specs.Metadata as M
 use Rattle.vx_array_tree.specs.Place.{first_place, second_place}
 use Rattle.vx_array_tree.specs.Table.{metadata_of}
 use Rattle.vx_array_tree.specs.Tree.{Tree, Trees, places}
@@ -18,7 +20,7 @@ use Rattle.vx_wire_tree.specs.Fields.{FitsMessage}
 use Rattle.vx_wire_tree.specs.Limits.{HasMessage}
 use Rattle.vx_arrays.specs.Plain.{plain_body}
 use Rattle.vx_arrays.specs.declared.body.Body.{Body}
-use Rattle.vx_arrays.specs.declared.body.Body.TheVariants.{Null, Bool, Primitive, Decimal, VarBin, VarBinView, FixedSizeList, Struct, Ext, List as ListOf, ListView, Map, Union, Dict, Foreign}
+use Rattle.vx_arrays.specs.declared.body.Body.TheVariants.{Null, Bool, Primitive, Decimal, VarBin, VarBinView, FixedSizeList, Struct, Ext, List as ListOf, ListView, Map, Union, Variant, Dict, Foreign}
 
 -- The metadata of a root that holds this fits its message.
 abbrev pub KeepsFit : Tree → B.Body → Type 0
@@ -93,5 +95,14 @@ values_over t b y us r e p u h x m =
     let q : plain_body (Dict y) ≡ (label t).body = ap (λ (z : Body). plain_body z) (sym e) ∙ p in
     h x (subst (λ (ts : Trees). (second_place (places ts)).len ≤ 2 ^ 32 - 1) (sym u) (subst P (sym q) m))
 
+pub typed_fit : (t : Tree) (b : Body) (us : Trees) (r : Truth) → b ≡ Variant → plain_body b ≡ (label t).body → us ≡ below t → (IsTrue r → FitsMessage (M.variant (Variants.metadata_of (places us)))) → IsTrue r → HasMessage (label t) (below t)
+typed_fit t b us r e p u h x = root t b Variant e p (subst (λ (ts : Trees). FitsMessage (M.variant (Variants.metadata_of (places ts)))) u (h x))
+
+pub typed_over : (t : Tree) (b : Body) (us : Trees) (r : Truth) → b ≡ Variant → plain_body b ≡ (label t).body → us ≡ below t → (IsFalse r → FitsMessage (M.variant (Variants.metadata_of (places us))) → ⊥) → IsFalse r → HasMessage (label t) (below t) → ⊥
+typed_over t b us r e p u h x m =
+    let P : B.Body → Type 0 = λ z. KeepsFit t z in
+    let q : plain_body Variant ≡ (label t).body = ap (λ (z : Body). plain_body z) (sym e) ∙ p in
+    h x (subst (λ (ts : Trees). FitsMessage (M.variant (Variants.metadata_of (places ts)))) (sym u) (subst P (sym q) m))
+
 -- What the test of a root's metadata rests on.
-pub ruleset fit = (nulls_fit, flags_fit, numbers_fit, decimals_fit, kinds_fit, views_fit, lists_fit, structures_fit, extensions_fit, unions_fit, maps_fit, foreign_fits, elements_fit, elements_over, viewed_fit, viewed_over, values_fit, values_over)
+pub ruleset fit = (nulls_fit, flags_fit, numbers_fit, decimals_fit, kinds_fit, views_fit, lists_fit, structures_fit, extensions_fit, unions_fit, maps_fit, foreign_fits, elements_fit, elements_over, viewed_fit, viewed_over, values_fit, values_over, typed_fit, typed_over)

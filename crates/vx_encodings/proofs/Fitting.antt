@@ -97,6 +97,7 @@ module _ (x : ExtMeaning) (e : Declared.Encoding) (h : ArrayHead) (v : Metadata)
       }
   constructor_refused A.ForeignControl bs us body t body_is fair planned level takes q refused = control_refused bs us body t body_is q refused
   constructor_refused A.ValueTooLarge bs us body t body_is fair planned level takes q refused = absurd refused
+  constructor_refused A.BadCast bs us body t body_is fair planned level takes q refused = absurd refused
 
   -- Nor do they where children of their encodings may not stand below it.
   either_refused : (error : ArrayError) (bs : List Buffer) (us : Trees) (body : Body) (t : Tree) → Takes (plain_encoding e) (encodings us) ⊎ (Takes (plain_encoding e) (encodings us) → ⊥) → body_of (plain_encoding e) v bs ≡ Some body → IsFair (plain_encoding e) v
@@ -110,6 +111,7 @@ module _ (x : ExtMeaning) (e : Declared.Encoding) (h : ArrayHead) (v : Metadata)
       absurd (none (subst (λ (z : Encoding). Takes z (encodings us)) (body_encoding (plain_encoding e) v bs body body_is) broken.shaped.takes))
   either_refused A.ForeignControl bs us body t (inr none) body_is fair planned level q refused = control_refused bs us body t body_is q refused
   either_refused A.ValueTooLarge bs us body t (inr none) body_is fair planned level q refused = absurd refused
+  either_refused A.BadCast bs us body t (inr none) body_is fair planned level q refused = absurd refused
 
   pub children_refused : (error : ArrayError) (bs : List Buffer) (us : Trees) (body : Body) (t : Tree) → body_of (plain_encoding e) v bs ≡ Some body → IsFair (plain_encoding e) v
       → plan_of (plain_encoding e) (typ h.dtype) h.len v (count us) ≡ Some (places us) → lifted (typ h.dtype) h.len body (places us) ≡ places us

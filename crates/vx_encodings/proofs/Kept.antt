@@ -11,6 +11,7 @@ use Rattle.vx_array_tree.specs.Encodings.Primitives as Primitives
 use Rattle.vx_array_tree.specs.Encodings.VarBins as VarBins
 use Rattle.vx_array_tree.specs.Encodings.Lists as Lists
 use Rattle.vx_array_tree.specs.Encodings.VarBinViews as VarBinViews
+use Rattle.vx_array_tree.specs.Encodings.Variants as Variants
 use Rattle.vx_array_tree.specs.Metadata as M
 use Rattle.vx_array_tree.specs.Place.{second_place}
 use Rattle.vx_array_tree.specs.Sound.{metadata_in}
@@ -20,7 +21,7 @@ use Rattle.vx_wire_tree.specs.Fields.{FitsMessage, told}
 use Rattle.vx_wire_tree.specs.Limits.{HasMessage}
 use Rattle.vx_arrays.specs.Plain.{plain_body}
 use Rattle.vx_arrays.specs.declared.body.Body.{Body}
-use Rattle.vx_arrays.specs.declared.body.Body.TheVariants.{Null, Bool, Primitive, Decimal, VarBin, VarBinView, FixedSizeList, Struct, Ext, List as ListOf, Union, ListView, Map, Dict, Foreign}
+use Rattle.vx_arrays.specs.declared.body.Body.TheVariants.{Null, Bool, Primitive, Decimal, VarBin, VarBinView, FixedSizeList, Struct, Ext, List as ListOf, Union, Variant, ListView, Map, Dict, Foreign}
 use Rattle.vx_encodings.specs.BoolMessage.{bool_bytes}
 use Rattle.vx_encodings.specs.DecimalMessage.{decimal_bytes}
 use Rattle.vx_encodings.specs.Messages.{message_bytes}
@@ -97,10 +98,22 @@ maps_kept t b bytes e p q = q ∙ root t b Map e p
 pub unions_kept : (t : Tree) (b : Body) (bytes : List ℕ) → b ≡ Union → plain_body b ≡ (label t).body → bytes ≡ [] → bytes ≡ message_bytes (told (metadata_in (label t) (below t)))
 unions_kept t b bytes e p q = q ∙ root t b Union e p
 
+pub variants_kept : (t : Tree) (b : Body) (us : Trees) (r : Result (List ℕ) EncodingError) → b ≡ Variant → plain_body b ≡ (label t).body → us ≡ below t → IfOk r (λ bytes. bytes ≡ message_bytes (told (M.variant (Variants.metadata_of (places us)))))
+    → IfOk r (λ bytes. bytes ≡ message_bytes (told (metadata_in (label t) (below t))))
+variants_kept t b us (Ok bytes) e p u q = q ∙ ap (λ (vs : Trees). message_bytes (told (M.variant (Variants.metadata_of (places vs))))) u ∙ root t b Variant e p
+variants_kept t b us (Err error) e p u q = tt
+
+-- What fits the message has few levels.
+pub variants_fitting : (t : Tree) (b : Body) (us : Trees) → b ≡ Variant → plain_body b ≡ (label t).body → us ≡ below t → HasMessage (label t) (below t) → FitsMessage (M.variant (Variants.metadata_of (places us)))
+variants_fitting t b us e p u h =
+    let P : B.Body → Type 0 = λ z. FitsMessage (metadata_of z (places (below t))) in
+    let q : plain_body Variant ≡ (label t).body = ap (λ (z : Body). plain_body z) (sym e) ∙ p in
+    subst (λ (ts : Trees). FitsMessage (M.variant (Variants.metadata_of (places ts)))) (sym u) (subst P (sym q) h)
+
 pub foreign_kept : (t : Tree) (b : Body) (x : Foreigns.Data) (r : Result (List ℕ) EncodingError) → b ≡ Foreign x → plain_body b ≡ (label t).body → IfOk r (λ bytes. bytes ≡ x.metadata)
     → IfOk r (λ bytes. bytes ≡ message_bytes (told (metadata_in (label t) (below t))))
 foreign_kept t b x (Ok bytes) e p q = q ∙ root t b (Foreign x) e p
 foreign_kept t b x (Err error) e p q = tt
 
 -- What the writing of metadata rests on.
-pub ruleset kept = (nulls_kept, numbers_kept, flags_kept, decimals_kept, kinds_kept, views_kept, dicts_kept, values_counted, lists_kept, structures_kept, extensions_kept, counts_kept, list_views_kept, maps_kept, unions_kept, foreign_kept)
+pub ruleset kept = (nulls_kept, numbers_kept, flags_kept, decimals_kept, kinds_kept, views_kept, dicts_kept, values_counted, lists_kept, structures_kept, extensions_kept, counts_kept, list_views_kept, maps_kept, unions_kept, variants_kept, variants_fitting, foreign_kept)

@@ -1,9 +1,9 @@
 -- What holds of the messages of metadata, encoding by encoding, and of the tables of statistics.
-use Rattle.std.proofs.Common.{ℕ, zero, suc, ◌≡◌, ◌*◌, List, [], ◌∷◌, Option, Some, None, length, refl, sym, ap, ◌∙◌}
+use Rattle.std.proofs.Common.{ℕ, zero, suc, ◌≡◌, ◌<◌, ◌^◌, ◌*◌, List, [], ◌∷◌, Option, Some, None, length, refl, sym, ap, ◌∙◌}
 use Rattle.vx_flat.specs.Value.{table}
 use Rattle.vx_trees.specs.Rose.{node, end, more}
 use Rattle.vx_types.specs.Known.{ExtMeaning}
-use Rattle.vx_types.specs.Kind.{null, boolean, primitive, decimal, utf8, binary, list, fixed_size_list, map, structure, union, extension}
+use Rattle.vx_types.specs.Kind.{null, boolean, primitive, decimal, utf8, binary, list, fixed_size_list, map, structure, union, extension, variant}
 use Rattle.vx_types.specs.Typ.{Typ}
 use Rattle.vx_types.specs.Words.{entries}
 use Rattle.vx_types.specs.declared.ptype.PType.{PType}
@@ -22,6 +22,7 @@ use Rattle.vx_array_tree.specs.Encodings.Lists as Lists
 use Rattle.vx_array_tree.specs.Encodings.ListViews as ListViews
 use Rattle.vx_array_tree.specs.Encodings.Maps as Maps
 use Rattle.vx_array_tree.specs.Encodings.Unions as Unions
+use Rattle.vx_array_tree.specs.Encodings.Variants as Variants
 use Rattle.vx_array_tree.specs.Metadata.{Metadata}
 use Rattle.vx_array_tree.specs.Metadata as M
 use Rattle.vx_array_tree.specs.Place.{Place, place, numbers, exactly, before_validity, behind_validity, validity_place, places_at, is_len}
@@ -35,13 +36,14 @@ use Rattle.vx_encodings.proofs.DictFields.{one_dict, dict_again}
 use Rattle.vx_encodings.proofs.ElementCounts.{one_count_and_kind, list_again}
 use Rattle.vx_encodings.proofs.Fronts.{behind_some, behind_none}
 use Rattle.vx_encodings.proofs.OffsetKinds.{one_kind, kind_again}
+use Rattle.vx_encodings.proofs.VariantFields.{one_variant, variant_again}
 use Rattle.vx_encodings.proofs.ViewCounts.{one_count_and_kinds, views_again}
 use Rattle.vx_encodings.proofs.Offsets.{one_offset, offset_again}
 use Rattle.vx_encodings.proofs.Widths.{one_width, width_again}
 use Rattle.vx_encodings.specs.Messages.{Shows, ShowsNothing, message_bytes, codec}
 use Rattle.vx_encodings.specs.Plain.{plain_encoding}
 use Rattle.vx_encodings.specs.declared.encoding.Encoding.{Encoding}
-use Rattle.vx_encodings.specs.declared.encoding.Encoding.TheVariants.{Null, Bool, Primitive, Decimal, VarBin, VarBinView, Dict, FixedSizeList, Struct, Ext, List as ListOf, ListView, Map, Union}
+use Rattle.vx_encodings.specs.declared.encoding.Encoding.TheVariants.{Null, Bool, Primitive, Decimal, VarBin, VarBinView, Dict, FixedSizeList, Struct, Ext, List as ListOf, ListView, Map, Union, Variant}
 
 one_nothing : (bytes : List ℕ) (f g : Fields) → ShowsNothing bytes f → ShowsNothing bytes g → f ≡ g
 one_nothing bytes f g a b = a.fields_are ∙ sym b.fields_are
@@ -61,8 +63,9 @@ one_message E.fixed_size_list bytes f g a b = one_nothing bytes f g a b
 one_message E.map bytes f g a b = one_nothing bytes f g a b
 one_message E.struct bytes f g a b = one_nothing bytes f g a b
 one_message E.union bytes f g a b = one_nothing bytes f g a b
+one_message E.variant bytes f g a b = one_variant bytes f g a b
 one_message E.ext bytes f g a b = one_nothing bytes f g a b
-one_message _ bytes f g a b = absurd a
+one_message E.foreign bytes f g a b = absurd a
 
 -- Bytes are metadata of a node of a type in at most one way.
 pub one_value : (x : ExtMeaning) (e : E.Encoding) (d : Typ) (bytes : List ℕ) (v w : Metadata) → IsMetadata codec x e d bytes v → IsMetadata codec x e d bytes w → v ≡ w
@@ -74,7 +77,7 @@ null_again _ fair fits = absurd fair
 
 -- The messages of nulls are lawful: one is shown at most, and what is written is shown.
 pub null_lawful : IsLawfulAt codec E.null
-null_lawful = record { native = tt; one_message = one_message E.null; message_again = null_again }
+null_lawful = record { native = tt; one_message = one_message E.null; message_again = λ v fair fits short. null_again v fair fits }
 
 bool_again : (v : Metadata) → IsFair E.bool v → FitsMessage v → Shows E.bool (message_bytes (told v)) (told v)
 bool_again (M.bool o) fair fits = offset_again o fair
@@ -82,7 +85,7 @@ bool_again _ fair fits = absurd fair
 
 -- So are those of flags.
 pub bool_lawful : IsLawfulAt codec E.bool
-bool_lawful = record { native = tt; one_message = one_message E.bool; message_again = bool_again }
+bool_lawful = record { native = tt; one_message = one_message E.bool; message_again = λ v fair fits short. bool_again v fair fits }
 
 primitive_again : (v : Metadata) → IsFair E.primitive v → FitsMessage v → Shows E.primitive (message_bytes (told v)) (told v)
 primitive_again M.empty fair fits = record { bytes_are = refl; fields_are = refl }
@@ -90,7 +93,7 @@ primitive_again _ fair fits = absurd fair
 
 -- So are those of numbers.
 pub primitive_lawful : IsLawfulAt codec E.primitive
-primitive_lawful = record { native = tt; one_message = one_message E.primitive; message_again = primitive_again }
+primitive_lawful = record { native = tt; one_message = one_message E.primitive; message_again = λ v fair fits short. primitive_again v fair fits }
 
 decimal_again : (v : Metadata) → IsFair E.decimal v → FitsMessage v → Shows E.decimal (message_bytes (told v)) (told v)
 decimal_again (M.decimal w) fair fits = width_again w
@@ -98,7 +101,7 @@ decimal_again _ fair fits = absurd fair
 
 -- So are those of decimals.
 pub decimal_lawful : IsLawfulAt codec E.decimal
-decimal_lawful = record { native = tt; one_message = one_message E.decimal; message_again = decimal_again }
+decimal_lawful = record { native = tt; one_message = one_message E.decimal; message_again = λ v fair fits short. decimal_again v fair fits }
 
 varbin_again : (v : Metadata) → IsFair E.varbin v → FitsMessage v → Shows E.varbin (message_bytes (told v)) (told v)
 varbin_again (M.varbin p) fair fits = kind_again p
@@ -106,7 +109,7 @@ varbin_again _ fair fits = absurd fair
 
 -- So are those of texts and of bytes by offsets.
 pub varbin_lawful : IsLawfulAt codec E.varbin
-varbin_lawful = record { native = tt; one_message = one_message E.varbin; message_again = varbin_again }
+varbin_lawful = record { native = tt; one_message = one_message E.varbin; message_again = λ v fair fits short. varbin_again v fair fits }
 
 varbinview_again : (v : Metadata) → IsFair E.varbinview v → FitsMessage v → Shows E.varbinview (message_bytes (told v)) (told v)
 varbinview_again M.empty fair fits = record { bytes_are = refl; fields_are = refl }
@@ -114,7 +117,7 @@ varbinview_again _ fair fits = absurd fair
 
 -- So are those of texts and of bytes by views.
 pub varbinview_lawful : IsLawfulAt codec E.varbinview
-varbinview_lawful = record { native = tt; one_message = one_message E.varbinview; message_again = varbinview_again }
+varbinview_lawful = record { native = tt; one_message = one_message E.varbinview; message_again = λ v fair fits short. varbinview_again v fair fits }
 
 dict_fits_again : (v : Metadata) → IsFair E.dict v → FitsMessage v → Shows E.dict (message_bytes (told v)) (told v)
 dict_fits_again (M.dict v) fair fits =
@@ -123,7 +126,7 @@ dict_fits_again _ fair fits = absurd fair
 
 -- So are those of dictionaries.
 pub dict_lawful : IsLawfulAt codec E.dict
-dict_lawful = record { native = tt; one_message = one_message E.dict; message_again = dict_fits_again }
+dict_lawful = record { native = tt; one_message = one_message E.dict; message_again = λ v fair fits short. dict_fits_again v fair fits }
 
 fixed_size_list_again : (v : Metadata) → IsFair E.fixed_size_list v → FitsMessage v → Shows E.fixed_size_list (message_bytes (told v)) (told v)
 fixed_size_list_again M.empty fair fits = record { bytes_are = refl; fields_are = refl }
@@ -131,7 +134,7 @@ fixed_size_list_again _ fair fits = absurd fair
 
 -- So are those of lists of one size.
 pub fixed_size_list_lawful : IsLawfulAt codec E.fixed_size_list
-fixed_size_list_lawful = record { native = tt; one_message = one_message E.fixed_size_list; message_again = fixed_size_list_again }
+fixed_size_list_lawful = record { native = tt; one_message = one_message E.fixed_size_list; message_again = λ v fair fits short. fixed_size_list_again v fair fits }
 
 struct_again : (v : Metadata) → IsFair E.struct v → FitsMessage v → Shows E.struct (message_bytes (told v)) (told v)
 struct_again M.empty fair fits = record { bytes_are = refl; fields_are = refl }
@@ -139,7 +142,7 @@ struct_again _ fair fits = absurd fair
 
 -- So are those of structures.
 pub struct_lawful : IsLawfulAt codec E.struct
-struct_lawful = record { native = tt; one_message = one_message E.struct; message_again = struct_again }
+struct_lawful = record { native = tt; one_message = one_message E.struct; message_again = λ v fair fits short. struct_again v fair fits }
 
 ext_again : (v : Metadata) → IsFair E.ext v → FitsMessage v → Shows E.ext (message_bytes (told v)) (told v)
 ext_again M.empty fair fits = record { bytes_are = refl; fields_are = refl }
@@ -147,7 +150,7 @@ ext_again _ fair fits = absurd fair
 
 -- So are those of extensions.
 pub ext_lawful : IsLawfulAt codec E.ext
-ext_lawful = record { native = tt; one_message = one_message E.ext; message_again = ext_again }
+ext_lawful = record { native = tt; one_message = one_message E.ext; message_again = λ v fair fits short. ext_again v fair fits }
 
 list_fits_again : (v : Metadata) → IsFair E.list v → FitsMessage v → Shows E.list (message_bytes (told v)) (told v)
 list_fits_again (M.list v) fair fits = list_again v.elements_len v.offset_ptype fits
@@ -155,7 +158,7 @@ list_fits_again _ fair fits = absurd fair
 
 -- So are those of lists.
 pub list_lawful : IsLawfulAt codec E.list
-list_lawful = record { native = tt; one_message = one_message E.list; message_again = list_fits_again }
+list_lawful = record { native = tt; one_message = one_message E.list; message_again = λ v fair fits short. list_fits_again v fair fits }
 
 list_view_fits_again : (v : Metadata) → IsFair E.listview v → FitsMessage v → Shows E.listview (message_bytes (told v)) (told v)
 list_view_fits_again (M.listview v) fair fits = views_again v fits
@@ -163,7 +166,7 @@ list_view_fits_again _ fair fits = absurd fair
 
 -- So are those of list views.
 pub list_view_lawful : IsLawfulAt codec E.listview
-list_view_lawful = record { native = tt; one_message = one_message E.listview; message_again = list_view_fits_again }
+list_view_lawful = record { native = tt; one_message = one_message E.listview; message_again = λ v fair fits short. list_view_fits_again v fair fits }
 
 map_again : (v : Metadata) → IsFair E.map v → FitsMessage v → Shows E.map (message_bytes (told v)) (told v)
 map_again M.empty fair fits = record { bytes_are = refl; fields_are = refl }
@@ -171,7 +174,7 @@ map_again _ fair fits = absurd fair
 
 -- So are those of maps.
 pub map_lawful : IsLawfulAt codec E.map
-map_lawful = record { native = tt; one_message = one_message E.map; message_again = map_again }
+map_lawful = record { native = tt; one_message = one_message E.map; message_again = λ v fair fits short. map_again v fair fits }
 
 union_again : (v : Metadata) → IsFair E.union v → FitsMessage v → Shows E.union (message_bytes (told v)) (told v)
 union_again M.empty fair fits = record { bytes_are = refl; fields_are = refl }
@@ -179,7 +182,15 @@ union_again _ fair fits = absurd fair
 
 -- So are those of unions.
 pub union_lawful : IsLawfulAt codec E.union
-union_lawful = record { native = tt; one_message = one_message E.union; message_again = union_again }
+union_lawful = record { native = tt; one_message = one_message E.union; message_again = λ v fair fits short. union_again v fair fits }
+
+variant_fits_again : (v : Metadata) → IsFair E.variant v → FitsMessage v → length (message_bytes (told v)) < 2 ^ 64 → Shows E.variant (message_bytes (told v)) (told v)
+variant_fits_again (M.variant v) fair fits short = variant_again v fair fits short
+variant_fits_again _ fair fits short = absurd fair
+
+-- So are those of variants.
+pub variant_lawful : IsLawfulAt codec E.variant
+variant_lawful = record { native = tt; one_message = one_message E.variant; message_again = variant_fits_again }
 
 -- So are those of each encoding that has code.
 pub lawful : (e : Encoding) → IsLawfulAt codec (plain_encoding e)
@@ -197,6 +208,7 @@ lawful ListOf = list_lawful
 lawful ListView = list_view_lawful
 lawful Map = map_lawful
 lawful Union = union_lawful
+lawful Variant = variant_lawful
 
 -- And so are the tables of statistics.
 pub stats_lawful : HasLawfulStats codec
@@ -289,6 +301,11 @@ union_count : (d : Typ) (n k : ℕ) (qs : List Place) → Unions.plan d n k ≡ 
 union_count (node (union ns ids m) ts) n k qs h = exactly_count (place (node (primitive U8 m) end) n ∷ places_at ts n) k qs h
 union_count _ n k qs h = absurd (cc)
 
+variant_count : (d : Typ) (n : ℕ) (v : Variants.Metadata) (k : ℕ) (qs : List Place) → Variants.plan d n v k ≡ Some qs → length qs ≡ k
+variant_count (node (variant m) end) n None k qs h = exactly_count (place (node (variant m) end) n ∷ []) k qs h
+variant_count (node (variant m) end) n (Some e) k qs h = exactly_count (place (node (variant m) end) n ∷ place e n ∷ []) k qs h
+variant_count _ n v k qs h = absurd (cc)
+
 -- An encoding that has code plans a place for each child.
 pub plan_length : (encoding : Encoding) (d : Typ) (n : ℕ) (v : Metadata) (k : ℕ) (qs : List Place) → plan_of (plain_encoding encoding) d n v k ≡ Some qs → length qs ≡ k
 plan_length Null d n M.empty k qs e = null_count d n k qs e
@@ -319,3 +336,5 @@ plan_length Map d n M.empty k qs e = map_count d n k qs e
 plan_length Map d n _ k qs e = absurd (cc)
 plan_length Union d n M.empty k qs e = union_count d n k qs e
 plan_length Union d n _ k qs e = absurd (cc)
+plan_length Variant d n (M.variant v) k qs e = variant_count d n v k qs e
+plan_length Variant d n _ k qs e = absurd (cc)

@@ -31,3 +31,5 @@ mod ListSteps
 mod ListViewSteps
 mod MapSteps
 mod UnionSteps
+mod VariantFields
+mod VariantSteps

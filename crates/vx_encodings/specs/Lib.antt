@@ -6,5 +6,6 @@ pub mod VarBinMessage
 pub mod DictMessage
 pub mod ListMessage
 pub mod ListViewMessage
+pub mod VariantMessage
 pub mod Messages
 pub mod Steps

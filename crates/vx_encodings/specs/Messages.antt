@@ -15,6 +15,7 @@ use Rattle.vx_encodings.specs.VarBinMessage.{ShowsVarBin, varbin_bytes}
 use Rattle.vx_encodings.specs.DictMessage.{ShowsDict, dict_bytes}
 use Rattle.vx_encodings.specs.ListMessage.{ShowsList, list_bytes}
 use Rattle.vx_encodings.specs.ListViewMessage.{ShowsListView, kept_views, view_bytes}
+use Rattle.vx_encodings.specs.VariantMessage.{ShowsVariant, variant_bytes}
 
 -- An encoding that keeps nothing has no metadata: no byte stands there.
 pub record ShowsNothing (bytes : List ℕ) (f : Fields) : Type 0 where
@@ -22,8 +23,8 @@ pub record ShowsNothing (bytes : List ℕ) (f : Fields) : Type 0 where
   pub fields_are : f ≡ F.empty
 
 -- Eight encodings keep nothing, flags an offset, decimals a width, texts by offsets a kind of numbers, dictionaries a number of
--- values, a kind and two flags, lists a number of elements and a kind, and list views another kind too. Messages of the other
--- one are not read here yet, and a foreign node has none: no bytes show one.
+-- values, a kind and two flags, lists a number of elements and a kind, list views another kind too, and variants a type that may
+-- stand. A foreign node has no message: no bytes show one.
 abbrev pub Shows : Encoding → List ℕ → Fields → Type 0
 Shows E.null = ShowsNothing
 Shows E.bool = ShowsBool
@@ -38,11 +39,11 @@ Shows E.fixed_size_list = ShowsNothing
 Shows E.map = ShowsNothing
 Shows E.struct = ShowsNothing
 Shows E.union = ShowsNothing
+Shows E.variant = ShowsVariant
 Shows E.ext = ShowsNothing
-Shows _ = λ bytes f. ⊥
+Shows E.foreign = λ bytes f. ⊥
 
--- What keeps nothing is written as no byte, what is kept as its message, and a foreign node's bytes as they are. Other
--- messages are not written here yet.
+-- What keeps nothing is written as no byte, what is kept as its message, and a foreign node's bytes as they are.
 abbrev pub message_bytes : Fields → List ℕ
 message_bytes (F.bool offset) = bool_bytes offset
 message_bytes (F.decimal width) = decimal_bytes width
@@ -50,8 +51,9 @@ message_bytes (F.varbin kind) = varbin_bytes kind
 message_bytes (F.dict f) = dict_bytes f
 message_bytes (F.list count kind) = list_bytes count kind
 message_bytes (F.listview count kind other) = view_bytes (kept_views count kind other)
+message_bytes (F.variant d) = variant_bytes d
 message_bytes (F.raw bytes) = bytes
-message_bytes _ = []
+message_bytes F.empty = []
 
 -- A set of statistics is written as its table, whatever it tells.
 abbrev pub stats_field : Stats → Field

@@ -3,7 +3,7 @@ use Rattle.vx_types.specs.Seen.{typ}
 use Rattle.vx_array_tree.specs.Encoding as E
 use Rattle.vx_array_tree.specs.Place.{Place, place}
 use Rattle.vx_encodings.specs.declared.encoding.Encoding.{Encoding}
-use Rattle.vx_encodings.specs.declared.encoding.Encoding.TheVariants.{Null, Bool, Primitive, Decimal, VarBin, VarBinView, Dict, FixedSizeList, Struct, Ext, List as ListOf, ListView, Map, Union}
+use Rattle.vx_encodings.specs.declared.encoding.Encoding.TheVariants.{Null, Bool, Primitive, Decimal, VarBin, VarBinView, Dict, FixedSizeList, Struct, Ext, List as ListOf, ListView, Map, Union, Variant}
 use Rattle.vx_encodings.specs.declared.plans.ChildPlan.{ChildPlan}
 
 -- An encoding, of those that definitions know.
@@ -22,6 +22,7 @@ plain_encoding ListOf = E.list
 plain_encoding ListView = E.listview
 plain_encoding Map = E.map
 plain_encoding Union = E.union
+plain_encoding Variant = E.variant
 
 -- The place that a planned child is to have.
 abbrev pub planned_place : ChildPlan → Place

@@ -82,13 +82,14 @@ abbrev pub IsOkOrMemory : {A : Type 0} → Result A EncodingError → Type 0
 IsOkOrMemory (Ok r) = Unit {0}
 IsOkOrMemory (Err e) = IsMemory e
 
--- A constructor of arrays answers no row, so none of its refusals is one of a row.
+-- A constructor of arrays answers no row and merges nothing, so none of its refusals is one of a row or of a merge.
 abbrev pub IsOfConstructor : ArrayError → Type 0
 IsOfConstructor A.OutOfMemory = Unit {0}
 IsOfConstructor A.BadShape = Unit {0}
 IsOfConstructor A.BadContent = Unit {0}
 IsOfConstructor A.ForeignControl = Unit {0}
 IsOfConstructor A.ValueTooLarge = ⊥
+IsOfConstructor A.BadCast = ⊥
 
 -- A constructor's refusal as one of its encoding.
 abbrev pub constructor_error : ArrayError → EncodingError
@@ -97,6 +98,7 @@ constructor_error A.BadShape = BadShape
 constructor_error A.BadContent = BadContent
 constructor_error A.ForeignControl = ForeignControl
 constructor_error A.ValueTooLarge = OutOfMemory
+constructor_error A.BadCast = OutOfMemory
 
 -- A message is not read: for want of memory, or as the bytes show none.
 abbrev pub IsUnread : EncodingError → Schema → ℕ → List ℕ → Type 0

@@ -6,7 +6,7 @@ ghost use Rattle.vx_array_tree.specs.Table.{id_of};
 use vx_arrays::{
     BoolArray, DecimalArray, DictArray, ExtensionArray, FixedSizeListArray, ListArray,
     ListViewArray, MapArray, NullArray, PrimitiveArray, StructArray, UnionArray, VarBinArray,
-    VarBinViewArray,
+    VarBinViewArray, VariantArray,
 };
 
 /// The shipped encodings.
@@ -40,6 +40,8 @@ pub enum Encoding {
     Map,
     /// Unions, by the tags of their rows.
     Union,
+    /// Variants, by a core and a typed child that may stand over it.
+    Variant,
 }
 
 impl Encoding {
@@ -64,6 +66,7 @@ impl Encoding {
             Encoding::ListView => ListViewArray::ID,
             Encoding::Map => MapArray::ID,
             Encoding::Union => UnionArray::ID,
+            Encoding::Variant => VariantArray::ID,
         }
     }
 }

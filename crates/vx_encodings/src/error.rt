@@ -48,8 +48,8 @@ impl<T: Drop> From<AllocFailed<T>> for EncodingError {
     }
 }
 
-// The refusal of an array's constructor as one of its encoding. A constructor answers no row, so none of its
-// refusals is one of a row.
+// The refusal of an array's constructor as one of its encoding. A constructor answers no row and merges nothing, so none of
+// its refusals is one of a row or of a merge.
 pub(crate) fn of_constructor(error: ArrayError) -> EncodingError
     requires { IsOfConstructor error }
     ensures { result ≡ constructor_error error }
@@ -59,7 +59,7 @@ pub(crate) fn of_constructor(error: ArrayError) -> EncodingError
         ArrayError::BadShape => EncodingError::BadShape,
         ArrayError::BadContent => EncodingError::BadContent,
         ArrayError::ForeignControl => EncodingError::ForeignControl,
-        ArrayError::ValueTooLarge => unreachable!(),
+        ArrayError::ValueTooLarge | ArrayError::BadCast => unreachable!(),
     }
 }
 

@@ -27,6 +27,7 @@ mod union;
 mod validity;
 mod varbin;
 mod varbinview;
+mod variant;
 
 pub use bool::BoolMetadata;
 pub use decimal::DecimalMetadata;
@@ -39,3 +40,4 @@ pub use lists::ListMetadata;
 pub use plans::{ChildPlan, ChildPlans};
 pub use steps::{build, has_message, metadata, plan};
 pub use varbin::VarBinMetadata;
+pub use variant::VariantMetadata;

@@ -20,7 +20,7 @@ use crate::head::ArrayHead;
 use crate::plans::ChildPlans;
 use crate::{
     bool, decimal, dict, extension, fixed_size_list, list_view, lists, map, null, primitive,
-    structs, union, varbin, varbinview,
+    structs, union, varbin, varbinview, variant,
 };
 use std::alloc::Global;
 use vx_arrays::{Array, Arrays, Body, ForeignData};
@@ -53,11 +53,11 @@ fn plan_by(
     alloc: Global,
     encoding: Encoding,
     head: &ArrayHead,
-    _readers: &ExtSession,
+    readers: &ExtSession,
 ) -> Result<ChildPlans, EncodingError>
-    ensures plan { let x = ext_meaning (λ b. accepted (b.vtable, b.value)) _readers.now in
+    ensures plan { let x = ext_meaning (λ b. accepted (b.vtable, b.value)) readers.now in
         IfOk result (λ plans. IsPlanned x encoding head.now plans) }
-    ensures err { let x = ext_meaning (λ b. accepted (b.vtable, b.value)) _readers.now in
+    ensures err { let x = ext_meaning (λ b. accepted (b.vtable, b.value)) readers.now in
         IfErr result (λ e. IsUnplanned e x encoding head.now) }
 {
     match encoding {
@@ -75,6 +75,7 @@ fn plan_by(
         Encoding::ListView => list_view::plan(alloc, head),
         Encoding::Map => map::plan(alloc, head),
         Encoding::Union => union::plan(alloc, head),
+        Encoding::Variant => variant::plan(alloc, head, readers),
     }
 }
 
@@ -135,6 +136,7 @@ fn build_by(
         Encoding::ListView => list_view::build(head, buffers, children),
         Encoding::Map => map::build(head, buffers, children),
         Encoding::Union => union::build(head, buffers, children),
+        Encoding::Variant => variant::build(head, buffers, children),
     }
 }
 
@@ -173,6 +175,7 @@ fn metadata_by(alloc: Global, array: &Array) -> Result<Blob, EncodingError>
         Body::ListView(_) => list_view::metadata(alloc, array.children()),
         Body::Map => Ok(write_empty(alloc)),
         Body::Union => Ok(write_empty(alloc)),
+        Body::Variant => variant::metadata(alloc, array.children()),
         Body::Foreign(kept) => kept_bytes(alloc, kept),
     }
 }
@@ -207,6 +210,7 @@ pub fn has_message(array: &Array) -> bool
         Body::List | Body::ListView(_) => lists::has_message(array.children()),
         Body::Dict(_) => dict::has_message(array.children()),
         Body::Map | Body::Union => true,
+        Body::Variant => variant::has_message(array.children()),
         Body::Foreign(_) => true,
     }
 }

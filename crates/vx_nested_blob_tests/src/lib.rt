@@ -23,4 +23,6 @@ mod recoding;
 #[cfg(test)]
 mod steps;
 #[cfg(test)]
+mod variants;
+#[cfg(test)]
 mod wire;

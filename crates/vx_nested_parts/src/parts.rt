@@ -4,8 +4,9 @@ use std::alloc::Global;
 use vx_arrays::{
     Array, ArrayError, Arrays, BoolArray, DictArray, ExtensionArray, FixedSizeListArray, ListArray,
     ListViewArray, MapArray, NullArray, PrimitiveArray, StructArray, UnionArray, VarBinArray,
+    VariantArray, new_foreign_array,
 };
-use vx_buffer::{Alignment, BufferHandle, ByteBuffer};
+use vx_buffer::{Alignment, BufferHandle, BufferHandles, ByteBuffer};
 use vx_types::{
     Blob, DType, DTypes, ExtDType, Id, MapDType, Name, Names, Nullability, PType, StructFields,
     TypeError, TypeIds, UnionVariants,
@@ -331,6 +332,31 @@ fn extensions_of(alloc: Global, ext: Result<ExtDType, ArrayError>, storage: Made
 pub fn extensions(alloc: Global, kind: Made, storage: Made) -> Made {
     let ext = stored_as(alloc, kind);
     extensions_of(alloc, ext, storage)
+}
+
+// Variants of which nothing is known, of this identifier.
+fn unknown_of(alloc: Global, id: Result<Id, TypeError>, len: usize) -> Made {
+    let id = typed(id)?;
+    let dtype = DType::Variant(Nullability::Nullable);
+    let metadata = Blob::new(Vec::new(alloc));
+    let buffers = BufferHandles::new(alloc);
+    new_foreign_array(alloc, id, dtype, len, metadata, buffers, Arrays::new(alloc))
+}
+
+/// So many variants of which nothing is known, which may be null.
+pub fn unknown_variants(alloc: Global, len: usize) -> Made {
+    unknown_of(alloc, Id::new(alloc, "x.core"), len)
+}
+
+/// Variants by their core and, where one is given, a typed child over it.
+pub fn shredded(alloc: Global, core: Made, over: Option<Made>) -> Made {
+    match over {
+        Some(over) => {
+            let (core, over) = both(core, over)?;
+            VariantArray::try_new(alloc, core, Some(over))
+        }
+        None => VariantArray::try_new(alloc, core?, None),
+    }
 }
 
 /// Dictionaries by their codes and values.

@@ -1,11 +1,16 @@
 //! What tests ask of arrays: the texts of their rows, the cells that these take, and why an array is not made.
 
+ghost use Rattle.std.specs.Prelude.{◌≡◌, IfOk};
+ghost use Rattle.vx_arrays.specs.Plain.{plain_value};
+
 use crate::parts::Made;
 use std::alloc::{AllocError, Global};
 use vx_arrays::{Array, ArrayError, RowValue};
+use vx_scalars::Scalar;
 use vx_types::PValue;
 
-// The text of a value: that of a text is its own, of lists, structures and maps `[a, b]`, and of a union `#5(a)`.
+// The text of a value: that of a text is its own, of lists, structures and maps `[a, b]`, of a union `#5(a)`, and of a variant
+// `v(a)`.
 #[cycle(text)]
 fn text_of(alloc: Global, value: &RowValue) -> Result<String, AllocError> {
     match value {
@@ -24,6 +29,27 @@ fn text_of(alloc: Global, value: &RowValue) -> Result<String, AllocError> {
             let text = text_of(alloc, row.get())?;
             format!(in alloc; "#{tag}({text})")
         }
+        RowValue::Variant(scalar) => variant_text(alloc, scalar),
+    }
+}
+
+// The text of a variant.
+#[cycle(text)]
+fn variant_text(alloc: Global, scalar: &Scalar) -> Result<String, AllocError> {
+    let value = value_of(alloc, scalar)?;
+    let text = text_of(alloc, &value);
+    drop(value);
+    let text = text?;
+    format!(in alloc; "v({text})")
+}
+
+// A scalar's value as a row's.
+fn value_of(alloc: Global, scalar: &Scalar) -> Result<RowValue, AllocError>
+    ensures { IfOk result (λ value. plain_value value ≡ scalar.now.value) }
+{
+    match RowValue::of_value(alloc, scalar.value()) {
+        Ok(value) => Ok(value),
+        Err(_) => Err(AllocError),
     }
 }
 
@@ -85,7 +111,11 @@ fn is_there(array: &Array, index: usize, there: bool) -> bool {
 // Whether a row has this text, and is there unless that is null.
 fn is_row(alloc: Global, array: &Array, index: usize, text: &str) -> bool {
     match value_at(alloc, array, index, 1_000) {
-        Ok(value) => has_text(alloc, &value, text) && is_there(array, index, text != "null"),
+        Ok(value) => {
+            let found = has_text(alloc, &value, text);
+            drop(value);
+            found && is_there(array, index, text != "null")
+        }
         Err(_) => false,
     }
 }

@@ -9,7 +9,7 @@ use Rattle.indexmap.specs.IndexMap.{insert_entry}
 use Rattle.vx_registry.specs.declared.session.PluginEntry.{PluginEntry}
 use Rattle.vx_registry.specs.declared.session.PluginEntry.TheVariants.{Shipped}
 use Rattle.vx_encodings.specs.declared.encoding.Encoding.{Encoding}
-use Rattle.vx_encodings.specs.declared.encoding.Encoding.TheVariants.{Null, Bool, Primitive, Decimal, VarBin, VarBinView, Dict, FixedSizeList, Struct, Ext, List as ListOf, ListView, Map, Union}
+use Rattle.vx_encodings.specs.declared.encoding.Encoding.TheVariants.{Null, Bool, Primitive, Decimal, VarBin, VarBinView, Dict, FixedSizeList, Struct, Ext, List as ListOf, ListView, Map, Union, Variant}
 
 -- Encodings by the identifiers that they read, and by the identifiers of the arrays that they write.
 pub record Registry : Type 0 where
@@ -48,7 +48,7 @@ ArePaired r = (x : ExtMeaning) → IsPaired (tables_meaning r x)
 
 -- The shipped encodings.
 abbrev pub shipped_encodings : List Encoding
-shipped_encodings = Null ∷ Bool ∷ Primitive ∷ Decimal ∷ VarBin ∷ VarBinView ∷ Dict ∷ FixedSizeList ∷ Struct ∷ Ext ∷ ListOf ∷ ListView ∷ Map ∷ Union ∷ []
+shipped_encodings = Null ∷ Bool ∷ Primitive ∷ Decimal ∷ VarBin ∷ VarBinView ∷ Dict ∷ FixedSizeList ∷ Struct ∷ Ext ∷ ListOf ∷ ListView ∷ Map ∷ Union ∷ Variant ∷ []
 
 -- The registry of the shipped encodings, each under its own identifier.
 abbrev pub shipped_registry : Registry

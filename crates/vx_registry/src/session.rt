@@ -81,6 +81,7 @@ impl ArraySession {
             Encoding::ListView,
             Encoding::Map,
             Encoding::Union,
+            Encoding::Variant,
         ] {
             session.set(encoding)?;
         }

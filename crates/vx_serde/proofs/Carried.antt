@@ -54,6 +54,14 @@ read_wire : (ids : List (List ℕ)) (w : Wire) (bs : List Buffer) → bs ≡ buf
 read_wire ids w bs e placed =
     sym (ap (λ bs. wire_of ids bs (numbered ids 0 w)) (e ∙ sym (append-nil (buffers_in w))) ∙ wire_of-numbered ids [] [] 0 w refl placed)
 
+-- The message that is written for a tree shows its value.
+pub message_shows : (ids : List (List ℕ)) (options : SerializeOptions) (w : Wire) → IsWhole w → Everywhere IsTabledNode w → All (IsPlaced ids) (ids_in w)
+    → IsWritable ids options w → Shows array_schema (message_bytes ids options w) (message_value (numbered ids 0 w) (descriptors_from options options.offset (buffers_in w)))
+message_shows ids options w clean tabled all fit =
+    let root = numbered ids 0 w in
+    let ds = descriptors_from options options.offset (buffers_in w) in
+    shows-layout (message_value root ds) (message_value_is_of root ds (numbered_fits ids 0 w (omega (arith, fit.tree.few)) (placed_from_ids ids w clean all) tabled)) (omega (arith, fit.short))
+
 -- What is written for a tree carries the tree, and its descriptors are in order.
 pub carried : (ids : List (List ℕ)) (options : SerializeOptions) (w : Wire) → IsWhole w → Everywhere IsTabledNode w → All (IsPlaced ids) (ids_in w)
     → IsWritable ids options w → (c : Carries (blob_bytes ids options w) ids w) × AreClean c.segment (message_of c.value).descriptors
@@ -66,7 +74,7 @@ carried ids options w clean tabled all fit =
     let numbered = numbered_fits ids 0 w (omega (arith, fit.tree.few)) placed tabled in
     let told = message_of-message_value root ds numbered (described-descriptors_from options options.offset bs fit.tree.describable) in
     let same : (message_of (message_value root ds)).descriptors ≡ ds = ap (λ m. m.descriptors) told in
-    let shows = shows-layout (message_value root ds) (message_value_is_of root ds numbered) (omega (arith, fit.short)) in (
+    let shows = message_shows ids options w clean tabled all fit in (
       record {
         segment = data_from options options.offset bs ++ zeros;
         message = message_bytes ids options w;

@@ -10,6 +10,7 @@ pub mod PlacedRead
 pub mod NumberedRead
 pub mod WiredStats
 pub mod Carried
+pub mod CountableMetadata
 pub mod CarriedOnce
 pub mod GrownPlaced
 pub mod WiredNodes

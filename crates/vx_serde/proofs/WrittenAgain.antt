@@ -10,14 +10,16 @@ use Rattle.vx_wire_tree.specs.Context.{Context, grown}
 use Rattle.vx_wire_tree.specs.ReadBack.{HasStorableStats}
 use Rattle.vx_wire_tree.specs.Session.{SessionMeaning, IsShipped, IsPaired}
 use Rattle.vx_wire_tree.specs.Tells.{Tells}
-use Rattle.vx_wire_tree.specs.Wire.{IsWhole, IsWholeNode, ids_in}
+use Rattle.vx_wire_tree.specs.Wire.{IsWhole, IsWholeNode, buffers_in, ids_in}
 use Rattle.vx_wire_tree.specs.Written.{wire, wires, canon}
 use Rattle.vx_wire_tree.proofs.Laws.{told_again, matched_types, matched_written, matched_unread}
 use Rattle.vx_encodings.specs.Messages.{codec}
 use Rattle.vx_serde.specs.declared.options.SerializeOptions.{SerializeOptions}
-use Rattle.vx_serde.specs.Written.{blob_bytes, IsWritable}
+use Rattle.vx_serde.specs.Placing.{descriptors_from}
+use Rattle.vx_serde.specs.Written.{blob_bytes, message_bytes, IsWritable}
 use Rattle.vx_serde.specs.Spells.{Spells, blob_of, ids_after, KeepsWriterLimits}
-use Rattle.vx_serde.proofs.Carried.{carried}
+use Rattle.vx_serde.proofs.Carried.{carried, message_shows}
+use Rattle.vx_serde.proofs.CountableMetadata.{countable_in}
 use Rattle.vx_serde.proofs.GrownPlaced.{grown_by-placed}
 use Rattle.vx_serde.proofs.WiredStats.{wire-tabled}
 use Rattle.vx_serde.proofs.GrownIds.{grown_by-ids}
@@ -44,9 +46,12 @@ spelled_again s ok law paired blob read d n t old new options x stored grew fit 
     let same = grown-ids s t old new grew in
     let placed = grown_by-placed (ids_in w) old new grew in
     let W : List (List ℕ) → Type 0 = λ z. IsWritable z options w in
-    let c = carried new.ids options w (wire-whole codec s t) (wire-tabled s t) placed.placed (subst W (sym same) fit.writable) in
+    let writable = subst W (sym same) fit.writable in
+    let c = carried new.ids options w (wire-whole codec s t) (wire-tabled s t) placed.placed writable in
+    let shows = message_shows new.ids options w (wire-whole codec s t) (wire-tabled s t) placed.placed writable in
+    let counted = countable_in new.ids s t options (message_bytes new.ids options w) (descriptors_from options options.offset (buffers_in w)) shows writable.light in
     let m = x.told.matched in
-    let again = told_again codec s ok law paired t x.told.sound (matched_unread codec s ok law x.wire t m) (matched_written codec s ok law paired x.wire t m) fit.messages (matched_types codec s ok x.wire t m) stored in
+    let again = told_again codec s ok law paired t x.told.sound (matched_unread codec s ok law x.wire t m) (matched_written codec s ok law paired x.wire t m) fit.messages counted (matched_types codec s ok x.wire t m) stored in
     let T : Typ → Type 0 = λ z. Tells codec s w z (label t).len (canon codec s t) in
     let L : ℕ → Type 0 = λ z. Tells codec s w d z (canon codec s t) in
     let spelled : Spells (blob_bytes new.ids options w) new.ids d n s (canon codec s t) = record {

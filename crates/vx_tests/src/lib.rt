@@ -26,3 +26,5 @@ mod program;
 mod varbins;
 #[cfg(test)]
 mod varbinviews;
+#[cfg(test)]
+mod variants;

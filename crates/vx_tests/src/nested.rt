@@ -265,19 +265,26 @@ fn shipped(alloc: Global) -> Result<VortexSession, WireError> {
     }
 }
 
+// The same, and nodes that nothing reads are written as they stand.
+fn allowing(alloc: Global) -> Result<VortexSession, WireError> {
+    let mut session = shipped(alloc)?;
+    session.ext.allow_unknown();
+    Ok(session)
+}
+
 /// The bytes of an array's blob, whose identifiers come into a context.
 pub fn blob_of(
     alloc: Global,
     array: &Array,
     ctx: &mut ArrayContext,
 ) -> Result<ByteBuffer, WireError> {
-    let session = shipped(alloc)?;
+    let session = allowing(alloc)?;
     let buffers = array.serialize(alloc, ctx, &session, &SerializeOptions::default())?;
     Ok(buffers.join(alloc)?)
 }
 
-// A line for each identifier.
-fn lines_of(alloc: Global, ids: &Ids) -> Result<String, AllocError> {
+/// A line for each identifier.
+pub fn lines_of(alloc: Global, ids: &Ids) -> Result<String, AllocError> {
     let mut lines = String::new(alloc);
     for id in ids.as_slice() {
         lines.push_str(id.as_str())?;

@@ -21,7 +21,7 @@ use Rattle.vx_wire_tree.specs.Context.{Context, grown_by, grown}
 use Rattle.vx_wire_tree.specs.Kept.{IsKeptAs, AreKeptAs}
 use Rattle.vx_wire_tree.specs.Limits.{HasMessages}
 use Rattle.vx_wire_tree.specs.Matches.{Matches, AllMatch}
-use Rattle.vx_wire_tree.specs.ReadBack.{IsUnread, IsWritten, HasKnownTypes, HasStorableStats}
+use Rattle.vx_wire_tree.specs.ReadBack.{IsUnread, IsWritten, HasKnownTypes, HasCountableMetadata, HasStorableStats}
 use Rattle.vx_wire_tree.specs.Session.{SessionMeaning, IsShipped, IsPaired, shipped}
 use Rattle.vx_wire_tree.specs.Steps.{PlansChildren, HasParts, IsToldBy}
 use Rattle.vx_wire_tree.specs.Tells.{Tells}
@@ -108,13 +108,13 @@ module _ (c : Codec) (s : SessionMeaning) where
       pub never_refused : (r : Refusal) (w : Wire) (d : Typ) (n : ℕ) (t : Tree) → Tells c s w d n t → RefusesTree r c s w d n → ⊥
       never_refused r w d n t x k = NeverRefused.never_refused c s ok law r w d n t x k
 
-      -- A sound array of which each node is written, its metadata fits its message, the types in it are known,
-      -- and its statistics can be stored, and whose topmost foreign nodes nothing reads, is told by its wire tree:
+      -- A sound array of which each node is written, its metadata fits its message, of which the bytes can be
+      -- counted, the types in it are known, and its statistics can be stored, and whose topmost foreign nodes nothing reads, is told by its wire tree:
       -- as it is read back.
-      pub told_again : IsPaired s → (t : Tree) → IsSound t → IsUnread s t → IsWritten s t → HasMessages t → HasKnownTypes s t → HasStorableStats c t
+      pub told_again : IsPaired s → (t : Tree) → IsSound t → IsUnread s t → IsWritten s t → HasMessages t → HasCountableMetadata c t → HasKnownTypes s t → HasStorableStats c t
           → Tells c s (wire c s t) (label t).dtype (label t).len (canon c s t)
-      told_again p t x u w m k b = record {
-        matched = ReadAgain.written_matches c s law t x (ReadAgain.reads_back c s ok p t u w m k b);
+      told_again p t x u w m n k b = record {
+        matched = ReadAgain.written_matches c s law t x (ReadAgain.reads_back c s ok p t u w m n k b);
         dtype = canon_dtype (spelled c s) (label t).dtype t;
         len = canon_len (spelled c s) (label t).dtype t;
         sound = Canon.canon_sound (spelled c s) t x;

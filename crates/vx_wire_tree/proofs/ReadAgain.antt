@@ -1,5 +1,5 @@
 -- What is written of a sound array is read back as its canon.
-use Rattle.std.proofs.Common.{ℕ, ◌≡◌, List, [], ◌∷◌, Option, Some, None, refl, sym, ap, ◌∙◌, subst}
+use Rattle.std.proofs.Common.{ℕ, ◌≡◌, ◌<◌, ◌^◌, List, [], ◌∷◌, length, Option, Some, None, refl, sym, ap, ◌∙◌, subst}
 use Rattle.vx_trees.specs.Rose.{node, end, more, label}
 use Rattle.vx_trees.specs.Everywhere.{EverywhereBelow}
 use Rattle.vx_types.specs.Typ.{Typ}
@@ -28,7 +28,7 @@ use Rattle.vx_wire_tree.specs.Codec.{Codec, IsLawful, metadata_bytes}
 use Rattle.vx_wire_tree.specs.Fields.{meant, told, nullable_if, is_nullable}
 use Rattle.vx_wire_tree.specs.Limits.{HasMessages, HasMessage}
 use Rattle.vx_wire_tree.specs.Matches.{IsRaw, AreRaw, IsEncodedNode, IsNodeBy, Matches, AllMatch}
-use Rattle.vx_wire_tree.specs.ReadBack.{IsReadBack, ReadsBack, IsWrittenNode, IsWritten, IsKnownNode, HasKnownTypes, IsStorableNode, HasStorableStats, HasWriter, IsWrittenBy, IsUnreadBy, IsUnread, AreUnread, IsKept, ReadsBackBy, AllReadBack}
+use Rattle.vx_wire_tree.specs.ReadBack.{IsReadBack, ReadsBack, IsWrittenNode, IsWritten, IsKnownNode, HasKnownTypes, IsCountableNode, HasCountableMetadata, IsStorableNode, HasStorableStats, HasWriter, IsWrittenBy, IsUnreadBy, IsUnread, AreUnread, IsKept, ReadsBackBy, AllReadBack}
 use Rattle.vx_wire_tree.specs.Reads.{IsMetadata}
 use Rattle.vx_wire_tree.specs.Session.{SessionMeaning, Reader, shipped, IsShippedReader, IsShipped, IsPaired, IsReadAgainBy}
 use Rattle.vx_wire_tree.specs.Wire.{all_present}
@@ -83,7 +83,8 @@ module _ (c : Codec) (s : SessionMeaning) where
         let v = metadata_in h ts in
         let m : IsMetadata c s.ext e d (metadata_bytes c (told v)) v = record {
           fields = told v;
-          shown = subst (λ bytes. c.Shows e bytes (told v)) (sym (own_bytes c e v native x.fair)) ((law.messages (id_of e) e b.reader).message_again v x.fair b.message);
+          shown = subst (λ bytes. c.Shows e bytes (told v)) (sym (own_bytes c e v native x.fair))
+              ((law.messages (id_of e) e b.reader).message_again v x.fair b.message (subst (λ bytes. length bytes < 2 ^ 64) (own_bytes c e v native x.fair) b.countable));
           meaning = meant_told e d v native x.fair;
           fair = x.fair;
           known = b.known;
@@ -147,12 +148,13 @@ module _ (c : Codec) (s : SessionMeaning) (ok : IsShipped s) (paired : IsPaired 
   native_writer (B.foreign x) k w = absurd k
   native_writer _ k w = w
 
-  node_back : (h : Head) (ts : Trees) → IsNative h.body → IsWrittenNode s h ts → HasMessage h ts → IsKnownNode s h ts → IsStorableNode c h ts → IsReadBack c s h ts
-  node_back h ts native w m k b =
+  node_back : (h : Head) (ts : Trees) → IsNative h.body → IsWrittenNode s h ts → HasMessage h ts → IsCountableNode c h ts → IsKnownNode s h ts → IsStorableNode c h ts → IsReadBack c s h ts
+  node_back h ts native w m n k b =
       let x = native_writer h.body native w in
       record {
         reader = written_by (encoding_of h.body) x.writer (subst (λ z. IsShippedReader z) x.writer_is (ok.writes (id_of (encoding_of h.body)))) x.writer_is;
         message = m;
+        countable = n;
         known = k;
         storable = b;
       }
@@ -163,10 +165,11 @@ module _ (c : Codec) (s : SessionMeaning) (ok : IsShipped s) (paired : IsPaired 
   kept_back _ h ts Below Under f w u g = (f tt, g u)
 
   mutual
-    pub reads_back : (t : Tree) → IsUnread s t → IsWritten s t → HasMessages t → HasKnownTypes s t → HasStorableStats c t → ReadsBack c s t
-    reads_back (node h ts) u w m k b =
-        kept_back h.body h ts (AllReadBack c s ts) (AreUnread s ts) (λ native. node_back h ts native w.0 m.0 k.0 b.0) w.0 u (λ us. read_back_each ts us w.1 m.1 k.1 b.1)
+    pub reads_back : (t : Tree) → IsUnread s t → IsWritten s t → HasMessages t → HasCountableMetadata c t → HasKnownTypes s t → HasStorableStats c t → ReadsBack c s t
+    reads_back (node h ts) u w m n k b =
+        kept_back h.body h ts (AllReadBack c s ts) (AreUnread s ts) (λ native. node_back h ts native w.0 m.0 n.0 k.0 b.0) w.0 u (λ us. read_back_each ts us w.1 m.1 n.1 k.1 b.1)
 
-    read_back_each : (ts : Trees) → AreUnread s ts → EverywhereBelow (IsWrittenNode s) ts → EverywhereBelow HasMessage ts → EverywhereBelow (IsKnownNode s) ts → EverywhereBelow (IsStorableNode c) ts → AllReadBack c s ts
-    read_back_each end u w m k b = tt
-    read_back_each (more t ts) u w m k b = (reads_back t u.0 w.0 m.0 k.0 b.0, read_back_each ts u.1 w.1 m.1 k.1 b.1)
+    read_back_each : (ts : Trees) → AreUnread s ts → EverywhereBelow (IsWrittenNode s) ts → EverywhereBelow HasMessage ts → EverywhereBelow (IsCountableNode c) ts → EverywhereBelow (IsKnownNode s) ts → EverywhereBelow (IsStorableNode c) ts
+        → AllReadBack c s ts
+    read_back_each end u w m n k b = tt
+    read_back_each (more t ts) u w m n k b = (reads_back t u.0 w.0 m.0 n.0 k.0 b.0, read_back_each ts u.1 w.1 m.1 n.1 k.1 b.1)

@@ -1,7 +1,7 @@
 -- The messages of metadata and the tables of statistics, as far as trees look at them: which bytes show a
 -- message, which field shows a set, and what is written. The crates of the messages and of the tables say which
 -- they are.
-use Rattle.std.specs.Prelude.{ℕ, ◌≡◌, List, Some}
+use Rattle.std.specs.Prelude.{ℕ, ◌≡◌, ◌<◌, ◌^◌, List, Some, length}
 use Rattle.vx_flat.specs.Value.{Field}
 use Rattle.vx_types.specs.Typ.{Typ}
 use Rattle.vx_scalars.specs.Stats.{Stats, FitStats, no_stats}
@@ -22,11 +22,11 @@ pub record Codec : Type 1 where
   pub IsStorable : Stats → Type 0
 
 -- The messages of the metadata of an encoding that is known: bytes show one at most, and what is written of
--- metadata shows it.
+-- metadata shows it, where its bytes can be counted in 64 bits.
 pub record IsLawfulAt (c : Codec) (e : Encoding) : Type 0 where
   pub native : IsNativeEncoding e
   pub one_message : (bytes : List ℕ) (f g : Fields) → c.Shows e bytes f → c.Shows e bytes g → f ≡ g
-  pub message_again : (v : Metadata) → IsFair e v → FitsMessage v → c.Shows e (c.fields_bytes (told v)) (told v)
+  pub message_again : (v : Metadata) → IsFair e v → FitsMessage v → length (c.fields_bytes (told v)) < 2 ^ 64 → c.Shows e (c.fields_bytes (told v)) (told v)
 
 -- The tables of statistics: a field shows one set at most, which fits; that of a set which fits and can be
 -- stored shows what is written of the set, which can be stored and is written alike. The set of none can be

@@ -1,5 +1,5 @@
 -- The conditions under which what is written of an array is read back.
-use Rattle.std.specs.Prelude.{◌≡◌, Some, None, IsTrue}
+use Rattle.std.specs.Prelude.{◌≡◌, ◌<◌, ◌^◌, Some, None, IsTrue, length}
 use Rattle.vx_trees.specs.Rose.{node, end, more}
 use Rattle.vx_trees.specs.Everywhere.{Everywhere}
 use Rattle.vx_array_tree.specs.Body.{Body}
@@ -9,7 +9,8 @@ use Rattle.vx_array_tree.specs.Encodings.Foreigns as Foreigns
 use Rattle.vx_array_tree.specs.Sound.{metadata_in}
 use Rattle.vx_array_tree.specs.Table.{encoding_of, id_of}
 use Rattle.vx_array_tree.specs.Tree.{Tree, Trees, Head}
-use Rattle.vx_wire_tree.specs.Codec.{Codec}
+use Rattle.vx_wire_tree.specs.Codec.{Codec, metadata_bytes}
+use Rattle.vx_wire_tree.specs.Fields.{told}
 use Rattle.vx_wire_tree.specs.Limits.{HasMessage}
 use Rattle.vx_wire_tree.specs.Reads.{IsKnownIn}
 use Rattle.vx_wire_tree.specs.Session.{SessionMeaning, Reader, shipped}
@@ -47,6 +48,14 @@ IsStorableNode c h ts = c.IsStorable h.stats
 abbrev pub HasStorableStats : Codec → Tree → Type 0
 HasStorableStats c = Everywhere (IsStorableNode c)
 
+-- The bytes of a node's metadata can be counted in 64 bits.
+abbrev pub IsCountableNode : Codec → Head → Trees → Type 0
+IsCountableNode c h ts = length (metadata_bytes c (told (metadata_in h ts))) < 2 ^ 64
+
+-- Those of each node of an array can be.
+abbrev pub HasCountableMetadata : Codec → Tree → Type 0
+HasCountableMetadata c = Everywhere (IsCountableNode c)
+
 -- Nothing reads a foreign node; of any other node the same is said of what is below it.
 abbrev pub IsUnreadBy : SessionMeaning → Body → Type 0 → Type 0
 IsUnreadBy s (B.foreign x) Below = s.reader x.id ≡ None
@@ -62,11 +71,12 @@ abbrev mutual
   AreUnread s end = Unit {0}
   AreUnread s (more t ts) = IsUnread s t × AreUnread s ts
 
--- A node of an encoding is read back: its identifier is read by its encoding, its metadata fits a message, a
--- type in it is known, and its statistics can be stored.
+-- A node of an encoding is read back: its identifier is read by its encoding, its metadata fits a message of
+-- which the bytes can be counted, a type in it is known, and its statistics can be stored.
 pub record IsReadBack (c : Codec) (s : SessionMeaning) (h : Head) (ts : Trees) : Type 0 where
   pub reader : s.reader (id_of (encoding_of h.body)) ≡ Some (shipped (encoding_of h.body))
   pub message : HasMessage h ts
+  pub countable : IsCountableNode c h ts
   pub known : IsKnownNode s h ts
   pub storable : IsStorableNode c h ts
 

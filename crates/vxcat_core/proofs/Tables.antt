@@ -215,21 +215,33 @@ table_written seed rows = (
 none_storable : AreStorable no_stats
 none_storable = record { least = tt; greatest = tt; sum = tt; null_count = tt; uncompressed_size = tt; nan_count = tt }
 
+none_counted : length {A = ℕ} [] < 2 ^ 64
+none_counted = omega arith
+
+flags_counted : length (bool_bytes 0) < 2 ^ 64
+flags_counted = omega (arith, bool_short)
+
+texts_counted : length (dict_bytes dict_fields) < 2 ^ 64
+texts_counted = omega (arith, dict_short)
+
+lists_counted : (n : ℕ) → length (list_bytes n U32) < 2 ^ 64
+lists_counted n = omega (arith, list_short n)
+
 table_read_back : (seed rows : ℕ) → rows ≤ 1000000 → ReadsBack codec session (made seed rows)
 unfolding made
 table_read_back seed rows h = (
-  record { reader = refl; message = tt; known = tt; storable = none_storable },
+  record { reader = refl; message = tt; countable = none_counted; known = tt; storable = none_storable },
   (
-    (record { reader = refl; message = tt; known = tt; storable = none_storable }, ((record { reader = refl; message = tt; known = tt; storable = none_storable }, tt), tt)),
+    (record { reader = refl; message = tt; countable = none_counted; known = tt; storable = none_storable }, ((record { reader = refl; message = tt; countable = flags_counted; known = tt; storable = none_storable }, tt), tt)),
     (
       (
-        record { reader = refl; message = omega arith; known = tt; storable = none_storable },
-        ((record { reader = refl; message = tt; known = tt; storable = none_storable }, tt), ((record { reader = refl; message = tt; known = tt; storable = none_storable }, tt), tt)),
+        record { reader = refl; message = omega arith; countable = texts_counted; known = tt; storable = none_storable },
+        ((record { reader = refl; message = tt; countable = none_counted; known = tt; storable = none_storable }, tt), ((record { reader = refl; message = tt; countable = none_counted; known = tt; storable = none_storable }, tt), tt)),
       ),
       (
         (
-          record { reader = refl; message = omega (arith, h, few seed rows rows); known = tt; storable = none_storable },
-          ((record { reader = refl; message = tt; known = tt; storable = none_storable }, tt), ((record { reader = refl; message = tt; known = tt; storable = none_storable }, tt), tt)),
+          record { reader = refl; message = omega (arith, h, few seed rows rows); countable = lists_counted (columns seed rows rows).count; known = tt; storable = none_storable },
+          ((record { reader = refl; message = tt; countable = none_counted; known = tt; storable = none_storable }, tt), ((record { reader = refl; message = tt; countable = none_counted; known = tt; storable = none_storable }, tt), tt)),
         ),
         tt,
       ),

@@ -1,4 +1,4 @@
--- The texts of unions: the type of the member that a tag names, and the text of its row under the tag.
+-- The texts of unions: the type of the member that a tag names, and the text of its row under the tag; and those of variants.
 use Rattle.std.proofs.Common.{ℕ, zero, suc, ◌≡◌, ◌≤◌, ◌<◌, ◌+◌, min, List, [], ◌∷◌, ◌++◌, Option, Some, None, codes, refl, sym, ap, ◌∙◌, length, drop, get_or, arith, add-one}
 use Rattle.std.proofs.lemmas.Bool.{eq-eqb, ne_eqb}
 use Rattle.std.proofs.lemmas.List.{append-nil}
@@ -9,7 +9,7 @@ use Rattle.vx_types.specs.Fits.{bare, member}
 use Rattle.vx_types.specs.Kind.{Kind}
 use Rattle.vx_types.specs.Seen.{typ, typs}
 use Rattle.vx_types.specs.Typ.{Typ}
-use Rattle.vx_types.specs.Value.{Value, union}
+use Rattle.vx_types.specs.Value.{Value, union, variant_of}
 use Rattle.vx_types.specs.declared.dtype.DType.{DType}
 use Rattle.vxcat_core.specs.RowText.{member_under, parted, texts_by, value_text}
 
@@ -77,3 +77,9 @@ union_some tag v d t e =
 pub union_none : (tag : ℕ) (v : Value) (d : Typ) → None ≡ member_under tag (bare d) → value_text (node (union tag) (more v end)) d ≡ codes "#" ++ (decimal tag ++ codes "()")
 unfolding text_by
 union_none tag v d e = sym (ap (λ (o : Option Typ). text_by tag v o) e)
+
+-- ---- variants
+
+-- A variant's text is that of its value, by the type of this.
+pub variant_is : (d e : Typ) (v : Value) → codes "v(" ++ (value_text v d ++ codes ")") ≡ value_text (variant_of d v) e
+variant_is d e v = sym (ap (λ (text : List ℕ). codes "v(" ++ (text ++ codes ")")) (append-nil (value_text v d)))

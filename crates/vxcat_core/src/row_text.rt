@@ -4,20 +4,20 @@ ghost use Rattle.std.specs.Prelude.{◌≡◌, ◌++◌, IfOk, OnOk, codes, opti
 ghost use Rattle.vx_trees.specs.Rose.{end, more, node, roses_of};
 ghost use Rattle.vx_types.specs.Fits.{bare, member};
 ghost use Rattle.vx_types.specs.Seen.{typ, typs};
-ghost use Rattle.vx_types.specs.Value.{tuple, union};
+ghost use Rattle.vx_types.specs.Value.{tuple, union, variant_of};
 ghost use Rattle.vx_arrays.specs.Plain.{plain_value, plain_values};
 ghost use Rattle.vx_scalars.specs.Decimals.{decimal_of};
 ghost use Rattle.vxcat_core.specs.RowText.{bytes_text, decimal_text, each_text, entry_text, entry_texts, further_text, hex_text, member_under, number_text, parted, texts_by, value_text};
 
 use std::alloc::{AllocError, Global};
 use vx_arrays::RowValue;
-use vx_scalars::{DecimalValue, bare_dtype};
+use vx_scalars::{DecimalValue, Scalar, bare_dtype};
 use vx_types::{DType, MapDType, PValue};
 
 /// The text of a row's value, of a row of this type: `null`, `true`, `false`, an integer in decimal, a float's bits as `0x`
 /// and hex digits, a decimal's unscaled integer, a text or bytes as hex digits behind an `x`, or `?` where nothing is known
-/// of the row; and of values with values in them `[a, b]` for lists, `{a, b}` for structures, `{k=>v, k=>v}` for maps and
-/// `#5(a)` for unions.
+/// of the row; and of values with values in them `[a, b]` for lists, `{a, b}` for structures, `{k=>v, k=>v}` for maps, `#5(a)`
+/// for unions and `v(a)` for variants.
 ///
 /// # Errors
 /// Want of memory.
@@ -36,6 +36,7 @@ pub fn row_text(alloc: Global, value: &RowValue, dtype: &DType) -> Result<String
         RowValue::Binary(bytes) => bytes_text(alloc, bytes.as_slice()),
         RowValue::Tuple(values) => tuple_text(alloc, values.as_slice(), dtype),
         RowValue::Union(tag, row) => union_text(alloc, *tag, row.get(), dtype),
+        RowValue::Variant(scalar) => variant_text(alloc, scalar),
     }
 }
 
@@ -72,6 +73,36 @@ fn union_text(alloc: Global, tag: u8, row: &RowValue, dtype: &DType) -> Result<S
             format!(in alloc; "#{tag}({text})")
         }
         None => format!(in alloc; "#{tag}()"),
+    }
+}
+
+// The text of a variant: that of its value, by the type of this.
+#[cycle(text)]
+fn variant_text(alloc: Global, scalar: &Scalar) -> Result<String, AllocError>
+    ensures { IfOk result (λ text. string_bytes text ≡ value_text (variant_of scalar.now.dtype scalar.now.value) scalar.now.dtype) }
+{
+    let value = value_of(alloc, scalar)?;
+    let text = text_of(alloc, value, scalar.dtype())?;
+    format!(in alloc; "v({text})")
+}
+
+// The text of a row's value, which is let go.
+#[cycle(text)]
+fn text_of(alloc: Global, value: RowValue, dtype: &DType) -> Result<String, AllocError>
+    ensures { IfOk result (λ text. string_bytes text ≡ value_text (plain_value value) (typ dtype.now)) }
+{
+    let text = row_text(alloc, &value, dtype);
+    drop(value);
+    text
+}
+
+// A scalar's value as a row's.
+fn value_of(alloc: Global, scalar: &Scalar) -> Result<RowValue, AllocError>
+    ensures { IfOk result (λ value. plain_value value ≡ scalar.now.value) }
+{
+    match RowValue::of_value(alloc, scalar.value()) {
+        Ok(value) => Ok(value),
+        Err(_) => Err(AllocError),
     }
 }
 

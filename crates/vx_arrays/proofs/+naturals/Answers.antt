@@ -7,6 +7,7 @@ use Rattle.vx_types.specs.Seen.{typ}
 use Rattle.vx_types.specs.Value.{Value, natural}
 use Rattle.vx_arrays.proofs.Dictionaries.{IsDict, dict_of, named_row, named_within, unnamed_flag, unnamed_natural, values_flags}
 use Rattle.vx_arrays.proofs.Flags.{flag_row}
+use Rattle.vx_arrays.proofs.VariantNodes.{flag_of, natural_of}
 use Rattle.vx_arrays.proofs.+naturals.Goals as goal
 
 pub array::Array::flag_at-returns-in-Bool : goal.array::Array::flag_at-returns-in-Bool
@@ -58,3 +59,13 @@ array::Array::natural_at-returns-in-None t c =
     dict_of (typ c.self.inside.dtype) c.self.inside.len c.self.inside.stats c.self.inside.body c.in-Dict.flag (roses_of c.self.inside.children.items) c.args.self.now c.pair_in.result.0.now c.pair_in.result.1.now
     c.in-Dict.is c.self.view_is c.self.invariant.0 (ap (λ (us : List Tree). roses_of us) (sym c.as_slice-children.ensures.value) ∙ c.pair_in.ensures.pair) in
     unnamed_natural c.args.self.now c.pair_in.result.0.now c.pair_in.result.1.now a c.args.index c.requires (sym c.in-None.is ∙ c.natural_at-in-Dict.ensures)
+
+-- ---- variants
+
+pub array::Array::flag_at-returns-in-Variant : goal.array::Array::flag_at-returns-in-Variant
+array::Array::flag_at-returns-in-Variant t c =
+    flag_of (typ c.self.inside.dtype) c.self.inside.len c.self.inside.stats c.self.inside.body (roses_of c.self.inside.children.items) c.args.self.now c.args.index c.in-Variant.is c.self.view_is c.self.invariant c.requires.inside
+
+pub array::Array::natural_at-returns-in-Variant : goal.array::Array::natural_at-returns-in-Variant
+array::Array::natural_at-returns-in-Variant t c =
+    natural_of (typ c.self.inside.dtype) c.self.inside.len c.self.inside.stats c.self.inside.body (roses_of c.self.inside.children.items) c.args.self.now c.args.index c.in-Variant.is c.self.view_is c.self.invariant c.requires

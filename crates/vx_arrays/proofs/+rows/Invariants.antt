@@ -13,6 +13,9 @@ decreases-array::Array::row_within l = 3 * nodes l.self.now
 abbrev pub decreases-parts::built : goal.decreases-parts::built
 decreases-parts::built l = 3 * parts_nodes l.parts + 2
 
+abbrev pub decreases-parts::merged_value : goal.decreases-parts::merged_value
+decreases-parts::merged_value l = 3 * (nodes l.core.now + nodes l.shredded.now) + 1
+
 abbrev pub decreases-parts::run_values : goal.decreases-parts::run_values
 decreases-parts::run_values l = 3 * nodes l.array.now + 1
 

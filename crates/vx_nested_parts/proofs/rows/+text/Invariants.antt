@@ -9,3 +9,6 @@ decreases-text_of l = 2 * nodes (plain_value l.value.now)
 
 abbrev pub decreases-texts_of : goal.decreases-texts_of
 decreases-texts_of l = 2 * nodes_of (roses_of (plain_values l.values.now)) + 1
+
+abbrev pub decreases-variant_text : goal.decreases-variant_text
+decreases-variant_text l = 2 * nodes l.scalar.now.value + 1

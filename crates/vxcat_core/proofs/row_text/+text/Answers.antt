@@ -2,13 +2,14 @@ use Rattle.std.proofs.Common.{List, ℕ, ◌++◌, string_bytes, codes, sym, ap,
 use Rattle.std.proofs.lemmas.Result.{IfOk-weaker}
 use Rattle.std.specs.Fmt.{decimal}
 use Rattle.std.specs.Prelude.{option_map}
+use Rattle.vx_trees.specs.Walks.{nodes}
 use Rattle.vx_types.specs.Seen.{typ}
 use Rattle.vx_types.specs.Typ.{Typ}
 use Rattle.vx_types.specs.Value.{Value}
 use Rattle.vx_arrays.specs.Plain.{plain_value}
 use Rattle.vxcat_core.specs.RowText.{entry_text, parted, value_text}
 use Rattle.vxcat_core.proofs.RowTexts.{smaller_value, each_next, by_next, by_all, entries_next, tuple_is, no_pair, pair_text}
-use Rattle.vxcat_core.proofs.UnionTexts.{union_some, union_none}
+use Rattle.vxcat_core.proofs.UnionTexts.{union_some, union_none, variant_is}
 use Rattle.vxcat_core.proofs.row_text.+text.Goals as goal
 
 -- ---- texts of one type
@@ -84,3 +85,14 @@ pub union_text-returns-in-None : goal.union_text-returns-in-None
 union_text-returns-in-None t c =
     let e = ap (λ o. option_map (λ d. typ d.now) o) (sym c.in-None.is) ∙ c.member_type.ensures in
     IfOk-weaker c.format-in-None.result _ _ (λ text h. h ∙ sym (union_none c.args.tag (plain_value c.args.row.now) (typ c.args.dtype.now) e)) c.format-in-None.ensures.ok
+
+-- ---- variants
+
+pub variant_text-text_of-requires : goal.variant_text-text_of-requires
+variant_text-text_of-requires t c = (omega (arith, ap (λ (v : Value). nodes v) c.in_ok-value.ensures), tt)
+
+pub variant_text-returns : goal.variant_text-returns
+variant_text-returns t c =
+    let d = c.args.scalar.now.dtype in
+    let text = c.in_ok-text.ensures ∙ (λ i. value_text (c.in_ok-value.ensures i) (c.dtype.ensures i)) in
+    IfOk-weaker c.format.result _ _ (λ made h. h ∙ ap (λ (r : List ℕ). codes "v(" ++ (r ++ codes ")")) text ∙ variant_is d d c.args.scalar.now.value) c.format.ensures.ok

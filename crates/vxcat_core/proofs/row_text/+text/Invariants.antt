@@ -16,6 +16,12 @@ decreases-tuple_text l = 4 * nodes_of (roses_of (plain_values l.values.now)) + 3
 abbrev pub decreases-union_text : goal.decreases-union_text
 decreases-union_text l = 4 * nodes (plain_value l.row.now) + 1
 
+abbrev pub decreases-variant_text : goal.decreases-variant_text
+decreases-variant_text l = 4 * nodes l.scalar.now.value + 2
+
+abbrev pub decreases-text_of : goal.decreases-text_of
+decreases-text_of l = 4 * nodes (plain_value l.value) + 1
+
 abbrev pub decreases-texts_of_one : goal.decreases-texts_of_one
 decreases-texts_of_one l = 4 * nodes_of (roses_of (plain_values l.values.now)) + 2
 

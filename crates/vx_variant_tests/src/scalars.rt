@@ -1,0 +1,188 @@
+//! The scalars that are merged.
+
+use std::alloc::Global;
+use vx_scalars::{Scalar, ScalarError, ScalarValue, Values, VariantRef};
+use vx_types::{DType, DTypes, Name, Names, Nullability, PType, PValue, StructFields, TypeRef};
+
+const NEVER: Nullability = Nullability::NonNullable;
+
+/// Rows may be null.
+pub(crate) const MAYBE: Nullability = Nullability::Nullable;
+
+/// A scalar, or why it is not made.
+pub(crate) type Made = Result<Scalar, ScalarError>;
+
+/// Two values, or why one of them is not made.
+pub(crate) fn both<A: Drop, B: Drop>(
+    first: Result<A, ScalarError>,
+    second: Result<B, ScalarError>,
+) -> Result<(A, B), ScalarError> {
+    let first = first?;
+    let second = second?;
+    Ok((first, second))
+}
+
+/// A number of 32 bits.
+pub(crate) fn small(number: i32) -> Made {
+    let value = ScalarValue::Primitive(PValue::I32(number));
+    Scalar::try_new(DType::Primitive(PType::I32, NEVER), Some(value))
+}
+
+/// A number of 64 bits.
+pub(crate) fn wide(number: i64) -> Made {
+    let value = ScalarValue::Primitive(PValue::I64(number));
+    Scalar::try_new(DType::Primitive(PType::I64, NEVER), Some(value))
+}
+
+/// A flag.
+pub(crate) fn flag(flag: bool) -> Made {
+    Scalar::try_new(DType::Bool(NEVER), Some(ScalarValue::Bool(flag)))
+}
+
+/// A null that stands in the place of a text.
+pub(crate) fn no_text() -> Made {
+    Scalar::try_new(DType::Utf8(MAYBE), None)
+}
+
+/// A null that stands in the place of a variant.
+pub(crate) fn no_variant() -> Made {
+    Scalar::try_new(DType::Variant(MAYBE), None)
+}
+
+// A scalar as a variant, of this nullability.
+fn wrapped(alloc: Global, scalar: Scalar, nullability: Nullability) -> Made {
+    let value = ScalarValue::Variant(VariantRef::new(alloc, scalar)?);
+    Scalar::try_new(DType::Variant(nullability), Some(value))
+}
+
+/// A scalar as a variant.
+pub(crate) fn variant(alloc: Global, scalar: Made) -> Made {
+    match scalar {
+        Ok(scalar) => wrapped(alloc, scalar, NEVER),
+        Err(e) => Err(e),
+    }
+}
+
+/// The same, of a type that lets rows be null.
+pub(crate) fn maybe(alloc: Global, scalar: Made) -> Made {
+    match scalar {
+        Ok(scalar) => wrapped(alloc, scalar, MAYBE),
+        Err(e) => Err(e),
+    }
+}
+
+/// Names, types and values, in one order.
+#[derive(Drop)]
+pub(crate) struct Parts {
+    names: Names,
+    types: DTypes,
+    values: Values,
+}
+
+/// Parts, or why one of them is not made.
+pub(crate) type Fields = Result<Parts, ScalarError>;
+
+/// No parts.
+pub(crate) fn none(alloc: Global) -> Fields {
+    Ok(Parts {
+        names: Names::new(alloc),
+        types: DTypes::new(alloc),
+        values: Values::new(alloc),
+    })
+}
+
+// One part more.
+fn put(mut parts: Parts, name: Name, scalar: Scalar) -> Fields {
+    let (dtype, value) = scalar.into_parts();
+    let named = parts.names.push(name);
+    let typed = parts.types.push(dtype);
+    let valued = parts.values.push(value);
+    match (named, typed, valued) {
+        (Ok(()), Ok(()), Ok(())) => Ok(parts),
+        _ => {
+            drop(parts);
+            Err(ScalarError::OutOfMemory)
+        }
+    }
+}
+
+// A name.
+fn name_of(alloc: Global, name: &str) -> Result<Name, ScalarError> {
+    Ok(Name::new(alloc, name)?)
+}
+
+/// One part more, under a name.
+pub(crate) fn with(alloc: Global, fields: Fields, name: &str, scalar: Made) -> Fields {
+    match both(both(fields, scalar), name_of(alloc, name)) {
+        Ok(((parts, scalar), name)) => put(parts, name, scalar),
+        Err(e) => Err(e),
+    }
+}
+
+// A tuple of these values, or a null.
+fn tuple(values: Values, there: bool) -> Option<ScalarValue> {
+    if there {
+        Some(ScalarValue::Tuple(values))
+    } else {
+        drop(values);
+        None
+    }
+}
+
+// The structure of parts, or the null of its type.
+fn structure_of(parts: Parts, there: bool) -> Made {
+    let fields = StructFields::try_new(parts.names, parts.types);
+    let value = tuple(parts.values, there);
+    match fields {
+        Ok(fields) => Scalar::try_new(DType::Struct(fields, MAYBE), value),
+        Err(_) => {
+            drop(value);
+            Err(ScalarError::BadScalar)
+        }
+    }
+}
+
+/// A structure of these fields.
+pub(crate) fn structure(fields: Fields) -> Made {
+    match fields {
+        Ok(parts) => structure_of(parts, true),
+        Err(e) => Err(e),
+    }
+}
+
+/// A null in the place of a structure of these fields.
+pub(crate) fn no_structure(fields: Fields) -> Made {
+    match fields {
+        Ok(parts) => structure_of(parts, false),
+        Err(e) => Err(e),
+    }
+}
+
+// The type of these elements: that of the first.
+fn element(alloc: Global, types: &DTypes) -> Result<TypeRef, ScalarError> {
+    match types.as_slice() {
+        [first, ..] => Ok(TypeRef::new(alloc, first.clone(alloc)?)?),
+        [] => Err(ScalarError::BadScalar),
+    }
+}
+
+// The type of the elements, and their values.
+fn elements(alloc: Global, parts: Parts) -> Result<(TypeRef, Values), ScalarError> {
+    let part = element(alloc, &parts.types);
+    drop(parts.types);
+    drop(parts.names);
+    both(part, Ok(parts.values))
+}
+
+/// A list of these values, whose names do not matter, of the type of the first.
+pub(crate) fn list(alloc: Global, fields: Fields) -> Made {
+    let (part, values) = elements(alloc, fields?)?;
+    Scalar::try_new(DType::List(part, MAYBE), Some(ScalarValue::Tuple(values)))
+}
+
+/// The same, of a type of lists of so many.
+pub(crate) fn fixed_list(alloc: Global, fields: Fields, size: u32) -> Made {
+    let (part, values) = elements(alloc, fields?)?;
+    let dtype = DType::FixedSizeList(part, size, MAYBE);
+    Scalar::try_new(dtype, Some(ScalarValue::Tuple(values)))
+}

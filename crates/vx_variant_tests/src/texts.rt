@@ -1,0 +1,111 @@
+//! The texts of scalars: `1` for a number of 32 bits, `7w` for one of 64, `v(a)` for a variant, `{a: 1, b: 2}` for a structure,
+//! `[a, b]` for a list, and `null`.
+
+use crate::scalars::Made;
+use std::alloc::{AllocError, Global};
+use vx_scalars::{Scalar, ScalarValue, bare_dtype};
+use vx_types::{DType, Name, PValue};
+
+// The text of a value of a type.
+#[cycle(text)]
+#[tactic(auto, using(vx_scalars::proofs::Lists::falling))]
+fn text_of(
+    alloc: Global,
+    value: Option<&ScalarValue>,
+    dtype: &DType,
+) -> Result<String, AllocError> {
+    let Some(value) = value else {
+        return String::from_str(alloc, "null");
+    };
+    match value {
+        ScalarValue::Bool(flag) => format!(in alloc; "{flag}"),
+        ScalarValue::Primitive(PValue::I32(n)) => format!(in alloc; "{n}"),
+        ScalarValue::Primitive(PValue::I64(n)) => format!(in alloc; "{n}w"),
+        ScalarValue::Tuple(values) => tuple_text(alloc, values.as_slice(), dtype),
+        ScalarValue::Variant(scalar) => {
+            let inner = scalar.get();
+            let text = text_of(alloc, inner.value(), inner.dtype())?;
+            format!(in alloc; "v({text})")
+        }
+        _ => String::from_str(alloc, "other"),
+    }
+}
+
+// The text of a tuple, by its type.
+#[cycle(text)]
+#[tactic(auto, using(vx_scalars::proofs::Lists::falling))]
+fn tuple_text(
+    alloc: Global,
+    values: &[Option<ScalarValue>],
+    dtype: &DType,
+) -> Result<String, AllocError> {
+    match bare_dtype(dtype) {
+        DType::Struct(fields, _) => {
+            let types = fields.fields().as_slice();
+            let texts = field_texts(alloc, values, types, fields.names().as_slice())?;
+            format!(in alloc; "{{{texts}}}")
+        }
+        DType::List(element, _) | DType::FixedSizeList(element, _, _) => {
+            let texts = element_texts(alloc, values, element.get())?;
+            format!(in alloc; "[{texts}]")
+        }
+        _ => String::from_str(alloc, "other"),
+    }
+}
+
+// The texts of fields, each behind its name, parted by commas.
+#[cycle(text)]
+#[tactic(auto, using(vx_scalars::proofs::Lists::falling))]
+fn field_texts(
+    alloc: Global,
+    values: &[Option<ScalarValue>],
+    types: &[DType],
+    names: &[Name],
+) -> Result<String, AllocError> {
+    let mut texts = String::new(alloc);
+    for i in 0..values.len().min(types.len()).min(names.len()) {
+        let text = text_of(alloc, values[i].as_ref(), &types[i])?;
+        texts.push_str(if i == 0 { "" } else { ", " })?;
+        texts.push_str(names[i].as_str())?;
+        texts.push_str(": ")?;
+        texts.push_str(text.as_str())?;
+    }
+    Ok(texts)
+}
+
+// The texts of elements, parted by commas.
+#[cycle(text)]
+#[tactic(auto, using(vx_scalars::proofs::Lists::falling))]
+fn element_texts(
+    alloc: Global,
+    values: &[Option<ScalarValue>],
+    dtype: &DType,
+) -> Result<String, AllocError> {
+    let mut texts = String::new(alloc);
+    for i in 0..values.len() {
+        let text = text_of(alloc, values[i].as_ref(), dtype)?;
+        texts.push_str(if i == 0 { "" } else { ", " })?;
+        texts.push_str(text.as_str())?;
+    }
+    Ok(texts)
+}
+
+// Whether a scalar has this text.
+fn has_text(alloc: Global, scalar: &Scalar, text: &str) -> bool {
+    match text_of(alloc, scalar.value(), scalar.dtype()) {
+        Ok(found) => found.as_str() == text,
+        Err(_) => false,
+    }
+}
+
+/// Whether a scalar that is made first has this text.
+pub(crate) fn is_text(alloc: Global, scalar: Made, text: &str) -> bool {
+    match scalar {
+        Ok(scalar) => {
+            let found = has_text(alloc, &scalar, text);
+            drop(scalar);
+            found
+        }
+        Err(_) => false,
+    }
+}
