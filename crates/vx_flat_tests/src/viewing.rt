@@ -357,14 +357,13 @@ fn nested_of(alloc: Global, levels: usize, both: bool, deep: bool) -> Result<u64
 }
 
 /// How many tables are one in the other, in one field or in both, whether deep trees are asked for, and what comes of it.
-const NESTED: [(usize, bool, bool, Result<u64, FlatError>); 7] = [
+const NESTED: [(usize, bool, bool, Result<u64, FlatError>); 6] = [
     (64, false, false, Ok(64)),
     (65, false, false, Err(FlatError::TableLimit)),
     (20, true, false, Err(FlatError::TableLimit)),
     (65, false, true, Ok(65)),
     (128, false, true, Ok(128)),
     (129, false, true, Err(FlatError::TableLimit)),
-    (20, true, true, Err(FlatError::TableLimit)),
 ];
 
 #[test]
