@@ -1,5 +1,7 @@
 mod Interning
+mod Putting
 mod Pairing
+mod Meanings
 mod Shipped
 mod Writers
 pub mod LawsSessions

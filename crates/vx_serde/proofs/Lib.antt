@@ -36,3 +36,4 @@ pub mod StoredMessages
 pub mod DecodedNodes
 pub mod KeptNodes
 pub mod ArrayNodes
+mod Taking

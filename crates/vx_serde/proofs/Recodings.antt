@@ -45,12 +45,12 @@ use Rattle.vx_serde.proofs.WrittenAgain.{spelled_again}
 use Rattle.vx_serde.proofs.Gathered.{all-written}
 
 -- An opened blob spells the array that its wire tree tells.
-pub spells : (asked : Request) → IsShipped asked.session → (w : Wire) (t : Tree) → IsOpened (message_limits asked.options) asked.blob asked.ids w → Tells codec asked.session w asked.dtype asked.len t → IsSpelled asked t
-spells asked ok w t opened told = record {
+pub spells : (asked : Request) (w : Wire) (t : Tree) → IsOpened (message_limits asked.options) asked.blob asked.ids w → Tells codec asked.session w asked.dtype asked.len t → IsSpelled asked t
+spells asked w t opened told = record {
   wire = w;
   carried = opened.carried;
   clean = opened.clean;
-  whole = matched_whole codec asked.session ok w t told.matched;
+  whole = matched_whole codec asked.session w t told.matched;
   told = told;
 }
 
@@ -96,14 +96,14 @@ mutual
   each_written_messages (more t ts) k = (written_messages t k.0, each_written_messages ts k.1)
 
 -- What was recoded can be recoded again, and its bytes stay as they are.
-twice : (asked : Request) (made : Product) → IsLawful codec asked.session → IsSpelled asked made.array → IsRecoded asked made
+twice : (asked : Request) (made : Product) → IsShipped asked.session → IsLawful codec asked.session → IsSpelled asked made.array → IsRecoded asked made
     → Spells (joined made.buffers) made.context.ids asked.dtype asked.len asked.session (canon codec asked.session made.array) → IsTwiceAsOnce asked made
-twice asked made law spelled recoded again =
+twice asked made ok law spelled recoded again =
     let s = asked.session in
     let o = asked.options in
     let t = made.array in
     let sound = spelled.told.sound in
-    let normal = spelled.told.normal in
+    let normal = spelled.told.normal ok in
     let own : wire codec s (canon codec s t) ≡ wire codec s t = canon_wire codec s law.stats t sound normal in
     let by : Wire → List ℕ = λ w. blob_bytes (with_ids asked.context.ids (ids_in w)) o w in
     let P : Wire → Type 0 = λ w. IsWritable (with_ids asked.context.ids (ids_in w)) o w in
@@ -134,7 +134,7 @@ faithful asked made ok law paired spelled recoded =
       spelled = spelled;
       the_one = λ other x. spelled_once asked.blob asked.ids asked.dtype asked.len asked.session other made.array ok law x spelled;
       again = again;
-      twice = twice asked made law spelled recoded again;
+      twice = twice asked made ok law spelled recoded again;
     }
 
 -- ---- what is left

@@ -18,6 +18,7 @@ mod entries;
 mod error;
 mod kind;
 mod known;
+mod lending;
 pub mod laws;
 mod messages;
 mod parts;
@@ -31,6 +32,7 @@ mod writing;
 
 pub use error::TypeWireError;
 pub use kind::TypeKind;
+pub use lending::{LentReader, Readers, ReadersOf};
 pub use messages::DTypeExt;
 pub use proto::{TypeMessage, slots};
 pub use readers::{ExtPlugin, ExtSession};

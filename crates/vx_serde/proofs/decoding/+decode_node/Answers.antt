@@ -7,7 +7,7 @@ use Rattle.vx_type_wire.specs.Session.{ext_meaning}
 use Rattle.vx_array_tree.specs.Place.{Place}
 use Rattle.vx_encodings.specs.Steps.{IsPlanned}
 use Rattle.vx_registry.specs.Meaning.{session_meaning}
-use Rattle.vx_registry.proofs.LawsSessions.{registry_shipped, registry_lawful}
+use Rattle.vx_registry.proofs.LawsSessions.{registry_lawful}
 use Rattle.vx_serde.specs.Serialized.{wire_in}
 use Rattle.vx_serde.specs.contracts.decoding.decode_node.{dyn-1-ghosts}
 use Rattle.vx_serde.proofs.DecodedNodes.{wire-named, wire-child, wire-length, child-smaller, shown_at, refused_at}
@@ -16,7 +16,7 @@ use Rattle.vx_serde.proofs.MessageBlocks.{if_ok, if_err}
 use Rattle.vx_serde.proofs.decoding.+decode_node.Goals as goal
 
 pub loop-i-init : goal.loop-i-init
-loop-i-init g t c = rw c.new-children.ensures (record { matched = refl; sound = tt; normal = tt; placed = refl })
+loop-i-init g t c = rw c.new-children.ensures (record { matched = refl; sound = tt; normal = λ _. tt; placed = refl })
 
 pub unreachable-requires : goal.unreachable-requires
 unreachable-requires g t c =
@@ -105,5 +105,5 @@ returns-clause-cause g t c =
     let past : length nodes ≤ c.loop-i.i = omega (arith, wire-length c.args.ids.now c.args.node.now, c.nchildren-i-end.ensures, c.loop-i-test.false) in
     let told = all_told s nodes node.children c.loop-i.children c.loop-i.i past same c.loop-i.invariant in
     rw c.from.ensures
-    (caused_by_build s (registry_shipped c.args.session.now.arrays x) (registry_lawful c.args.session.now.arrays x) c.in-Err-build.e w (typ c.args.dtype.now) c.args.len c.in-Some-reader.encoding node.head c.in-Ok-own_buffers.buffers nodes node.children c.loop-i.children (c.in-Ok.ensures.read c.args.ids.now (wire-named c.args.ids.now c.args.node.now _ _ c.encoding_id.ensures c.in-Some.ensures) (sym c.in-Some-reader.ensures.found))
+    (caused_by_build s c.in-Err-build.e w (typ c.args.dtype.now) c.args.len c.in-Some-reader.encoding node.head c.in-Ok-own_buffers.buffers nodes node.children c.loop-i.children (c.in-Ok.ensures.read c.args.ids.now (wire-named c.args.ids.now c.args.node.now _ _ c.encoding_id.ensures c.in-Some.ensures) (sym c.in-Some-reader.ensures.found))
     c.in-Ok.ensures.planned (c.in-Ok-own_buffers.ensures.ok c.args.ids.now) (roses_of-roses_list (below w)) told c.in-Err-build.ensures.err)

@@ -47,7 +47,7 @@ pub returns-in-Err-serialize-clause-cause : goal.returns-in-Err-serialize-clause
 returns-in-Err-serialize-clause-cause g c =
     let x = ext_meaning (λ b. (goal.ExtPlugin-dyn g (b.vtable, b.value)).accepted b.value) c.args.session.now.ext in
     let asked = request c.args.blob c.args.dtype.now c.args.len c.args.read_ids.now c.args.ctx.now (session_meaning (λ b. (goal.ExtPlugin-dyn g (b.vtable, b.value)).accepted b.value) c.args.session.now) c.args.options.now in
-    let spelled = spells asked (registry_shipped c.args.session.now.arrays x) (wire_in c.args.read_ids.now c.in-Ok.serialized) c.in-Ok-decode.array (opened c.args.blob.bytes c.args.read_ids.now c.in-Ok.serialized c.in-Ok.ensures.opened) c.in-Ok-decode.ensures.told in
+    let spelled = spells asked (wire_in c.args.read_ids.now c.in-Ok.serialized) c.in-Ok-decode.array (opened c.args.blob.bytes c.args.read_ids.now c.in-Ok.serialized c.in-Ok.ensures.opened) c.in-Ok-decode.ensures.told in
     caused_by_writing asked (registry_shipped c.args.session.now.arrays x) (registry_lawful c.args.session.now.arrays x) c.in-Err-serialize.e c.in-Ok-decode.array (c.in-Ok-decode.ensures.paired x) spelled c.in-Err-serialize.ensures.cause
 
 pub returns-in-Err-serialize-clause-shipped : goal.returns-in-Err-serialize-clause-shipped
@@ -60,7 +60,7 @@ pub returns-in-Err-serialize-clause-left : goal.returns-in-Err-serialize-clause-
 returns-in-Err-serialize-clause-left g c =
     let x = ext_meaning (λ b. (goal.ExtPlugin-dyn g (b.vtable, b.value)).accepted b.value) c.args.session.now.ext in
     let asked = request c.args.blob c.args.dtype.now c.args.len c.args.read_ids.now c.args.ctx.now (session_meaning (λ b. (goal.ExtPlugin-dyn g (b.vtable, b.value)).accepted b.value) c.args.session.now) c.args.options.now in
-    let spelled = spells asked (registry_shipped c.args.session.now.arrays x) (wire_in c.args.read_ids.now c.in-Ok.serialized) c.in-Ok-decode.array (opened c.args.blob.bytes c.args.read_ids.now c.in-Ok.serialized c.in-Ok.ensures.opened) c.in-Ok-decode.ensures.told in
+    let spelled = spells asked (wire_in c.args.read_ids.now c.in-Ok.serialized) c.in-Ok-decode.array (opened c.args.blob.bytes c.args.read_ids.now c.in-Ok.serialized c.in-Ok.ensures.opened) c.in-Ok-decode.ensures.told in
     left-written asked (registry_shipped c.args.session.now.arrays x) (registry_lawful c.args.session.now.arrays x) c.in-Ok-decode.array c.serialize.new.ctx spelled c.serialize.ensures.left
 
 -- ---- all is done
@@ -77,12 +77,12 @@ returns-clause-shipped g c = λ shipped.
     let x = ext_meaning (λ b. (goal.ExtPlugin-dyn g (b.vtable, b.value)).accepted b.value) c.args.session.now.ext in
     let asked = request c.args.blob c.args.dtype.now c.args.len c.args.read_ids.now c.args.ctx.now (session_meaning (λ b. (goal.ExtPlugin-dyn g (b.vtable, b.value)).accepted b.value) c.args.session.now) c.args.options.now in
     let made = product (record { array = c.in-Ok-decode.array; buffers = c.in-Ok-serialize.buffers }) c.serialize.new.ctx in
-    let spelled = spells asked (registry_shipped c.args.session.now.arrays x) (wire_in c.args.read_ids.now c.in-Ok.serialized) c.in-Ok-decode.array (opened c.args.blob.bytes c.args.read_ids.now c.in-Ok.serialized c.in-Ok.ensures.opened) c.in-Ok-decode.ensures.told in
+    let spelled = spells asked (wire_in c.args.read_ids.now c.in-Ok.serialized) c.in-Ok-decode.array (opened c.args.blob.bytes c.args.read_ids.now c.in-Ok.serialized c.in-Ok.ensures.opened) c.in-Ok-decode.ensures.told in
     (faithful asked made (registry_shipped c.args.session.now.arrays x) (registry_lawful c.args.session.now.arrays x) (c.in-Ok-decode.ensures.paired x) spelled (returns-clause-made g c), λ can. tt)
 
 pub returns-clause-left : goal.returns-clause-left
 returns-clause-left g c =
     let x = ext_meaning (λ b. (goal.ExtPlugin-dyn g (b.vtable, b.value)).accepted b.value) c.args.session.now.ext in
     let asked = request c.args.blob c.args.dtype.now c.args.len c.args.read_ids.now c.args.ctx.now (session_meaning (λ b. (goal.ExtPlugin-dyn g (b.vtable, b.value)).accepted b.value) c.args.session.now) c.args.options.now in
-    let spelled = spells asked (registry_shipped c.args.session.now.arrays x) (wire_in c.args.read_ids.now c.in-Ok.serialized) c.in-Ok-decode.array (opened c.args.blob.bytes c.args.read_ids.now c.in-Ok.serialized c.in-Ok.ensures.opened) c.in-Ok-decode.ensures.told in
+    let spelled = spells asked (wire_in c.args.read_ids.now c.in-Ok.serialized) c.in-Ok-decode.array (opened c.args.blob.bytes c.args.read_ids.now c.in-Ok.serialized c.in-Ok.ensures.opened) c.in-Ok-decode.ensures.told in
     left-written asked (registry_shipped c.args.session.now.arrays x) (registry_lawful c.args.session.now.arrays x) c.in-Ok-decode.array c.serialize.new.ctx spelled c.serialize.ensures.left

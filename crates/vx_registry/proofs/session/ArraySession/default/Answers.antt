@@ -4,8 +4,5 @@ use Rattle.vx_registry.proofs.Shipped.{all_tables, next_tables}
 use Rattle.vx_registry.proofs.session.ArraySession.default.Goals as goal
 
 pub loop-encoding-preserved : goal.loop-encoding-preserved
-loop-encoding-preserved c =
-    c.in_ok-set.ensures.registered ∙ next_tables shipped_encodings c.loop-encoding.encoding-index _ c.loop-encoding.session (omega (arith, c.loop-encoding-test.true)) c.loop-encoding.invariant
-
-pub returns-clause-shipped : goal.returns-clause-shipped
-returns-clause-shipped c = c.loop-encoding.invariant ∙ all_tables c.loop-encoding.encoding-index (omega arith)
+loop-encoding-preserved g c =
+    c.in_ok-set.ensures.registered ∙ next_tables shipped_encodings c.loop-encoding.encoding-index _ c.loop-encoding.tables (omega (arith, c.loop-encoding-test.true)) c.loop-encoding.invariant

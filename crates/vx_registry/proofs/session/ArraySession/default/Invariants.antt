@@ -4,4 +4,4 @@ use Rattle.vx_registry.proofs.session.ArraySession.default.Given as goal
 
 -- the encodings so far are put in, each under its own identifier
 abbrev pub invariant-loop-encoding : goal.invariant-loop-encoding
-invariant-loop-encoding l = l.session ≡ tables_of (take l.encoding-index l.encoding-items)
+invariant-loop-encoding g l = l.tables ≡ tables_of (take l.encoding-index l.encoding-items)

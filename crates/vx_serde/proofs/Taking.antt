@@ -1,0 +1,152 @@
+-- What is written of an array, node by node, and why a node is not.
+use Rattle.std.specs.Prelude.{bytes_eq, if◌then◌else◌}
+use Rattle.std.specs.List.{list_any}
+use Rattle.std.proofs.Common.{ℕ, zero, suc, Option, Some, None, Bool, true, false, ◌≡◌, ◌<◌, ◌≤◌, ◌+◌, ◌⊎◌, inl, inr, List, [], ◌∷◌, ◌++◌, refl, sym, ap, ◌∙◌, subst, arith}
+use Rattle.vx_trees.specs.Rose.{node, end, more, label, below, roses_of}
+use Rattle.vx_trees.specs.Walks.{levels, levels_below}
+use Rattle.vx_trees.specs.Everywhere.{EverywhereBelow}
+use Rattle.vx_array_tree.specs.Body.{Body}
+use Rattle.vx_array_tree.specs.Body as B
+use Rattle.vx_array_tree.specs.Place.{Place, place}
+use Rattle.vx_array_tree.specs.Table.{metadata_of}
+use Rattle.vx_array_tree.specs.Tree.{Tree, Trees, Head, places}
+use Rattle.vx_wire_tree.specs.Context.{Context}
+use Rattle.vx_wire_tree.specs.Fields.{FitsMessage}
+use Rattle.vx_wire_tree.specs.Limits.{HasMessage, HasMessages}
+use Rattle.vx_wire_tree.specs.Plugin.{PluginMeaning, Parts, Answer, none, refused, given}
+use Rattle.vx_wire_tree.specs.Session.{SessionMeaning, Reader, shipped, plugin}
+use Rattle.vx_wire_tree.specs.Taken.{Step, written, unwritten, Unwritten, unregistered, unserializable, undeclared, unwilling, IsWrittenStep, given_head, foreign_step, plugin_step, writer_step, step_by, step, step_head, step_below, each, Each, Any, taken, IsTaken, HasUntaken}
+use Rattle.vx_registry.specs.Serialization.{IsUnserialized, HasLargeMetadata}
+use Rattle.vx_registry.specs.declared.error.RegistryError.{RegistryError}
+use Rattle.vx_registry.specs.declared.error.RegistryError.TheVariants as registry
+use Rattle.vx_serde.specs.declared.error.WireError.{WireError}
+use Rattle.vx_serde.specs.declared.error.WireError.TheVariants.{OutOfMemory, WireLimit, NotRegistered, NotSerializable, UndeclaredId, PluginRefused}
+use Rattle.vx_serde.specs.declared.options.SerializeOptions.{SerializeOptions}
+use Rattle.vx_serde.specs.Causes.{RefusesArray}
+use Rattle.vx_serde.specs.Errors.{registry_refusal}
+use Rattle.vx_serde.specs.Taking.{as_written, RefusesTaking, RefusesOneOf}
+use Rattle.vx_serde.proofs.WiredNodes.{wired-levels}
+
+-- Where a node stands.
+abbrev at : Head → Place
+at h = place h.dtype h.len
+
+module _ (s : SessionMeaning) where
+  -- ---- places
+
+  foreign_at : (b : Bool) (h : Head) (ts : Trees) → at (step_head (foreign_step b h ts) h) ≡ at h
+  foreign_at true h ts = refl
+  foreign_at false h ts = refl
+
+  declared_at : (b : Bool) (h : Head) (y : Parts) → at (step_head (if b then written (given_head h y) y.children else unwritten undeclared) h) ≡ at h
+  declared_at true h y = refl
+  declared_at false h y = refl
+
+  plugin_at : (p : PluginMeaning) (h : Head) (a : Answer) → at (step_head (plugin_step p h a) h) ≡ at h
+  plugin_at p h none = refl
+  plugin_at p h refused = refl
+  plugin_at p h (given y) = declared_at (list_any (bytes_eq y.id) p.declared) h y
+
+  writer_at : (r : Option Reader) (h : Head) (ts : Trees) → at (step_head (writer_step r h ts) h) ≡ at h
+  writer_at None h ts = refl
+  writer_at (Some (shipped e)) h ts = refl
+  writer_at (Some (plugin p)) h ts = plugin_at p h (p.serialize (node h ts))
+
+  body_at : (b : Body) (h : Head) (ts : Trees) → at (step_head (step_by s b h ts) h) ≡ at h
+  body_at (B.foreign x) h ts = foreign_at s.ext.unknown h ts
+  body_at _ h ts = writer_at (s.writer _) h ts
+
+  place_taken : (n : ℕ) (t : Tree) → at (label (taken s n t)) ≡ at (label t)
+  place_taken zero (node h ts) = body_at h.body h ts
+  place_taken (suc n) (node h ts) = body_at h.body h ts
+
+  -- What is written stands where the arrays do.
+  pub places_taken : (n : ℕ) (ts : Trees) → places (each (taken s n) ts) ≡ places ts
+  places_taken n end = refl
+  places_taken n (more t ts) = λ i. place_taken n t i ∷ places_taken n ts i
+
+  message_by_places : (h : Head) (us ts : Trees) → places us ≡ places ts → HasMessage h us → HasMessage h ts
+  message_by_places h us ts e m = subst (λ ps. FitsMessage (metadata_of h.body ps)) e m
+
+  -- ---- a node whose step writes it
+
+  module _ (n : ℕ) (t : Tree) (h : Head) (ts : Trees) (e : step s t ≡ written h ts) where
+    pub taken_by : (us : Trees) → us ≡ each (taken s n) ts → node h us ≡ taken s (suc n) t
+    taken_by us f = ap (λ z. node h z) f ∙ sym (ap (λ x. node (step_head x (label t)) (each (taken s n) (step_below x))) e)
+
+    pub is_taken_by : Each (λ u. IsTaken s n u) ts → IsTaken s (suc n) t
+    is_taken_by k = subst (λ x. IsWrittenStep x × Each (λ u. IsTaken s n u) (step_below x)) (sym e) (tt, k)
+
+    taken_is : taken s (suc n) t ≡ node h (each (taken s n) ts)
+    taken_is = ap (λ x. node (step_head x (label t)) (each (taken s n) (step_below x))) e
+
+    -- The metadata of the node does not fit its message.
+    pub large_root : (HasMessage h ts → ⊥) → RefusesTaking s (suc n) t WireLimit
+    large_root k = inr (λ m.
+        let own = subst (λ z. HasMessages z) taken_is m in
+        k (message_by_places h (each (taken s n) ts) ts (places_taken n ts) own.0))
+
+    untaken_below : (why : Unwritten) → Any (λ u. HasUntaken s n why u) ts → HasUntaken s (suc n) why t
+    untaken_below why k = inr (subst (λ x. Any (λ u. HasUntaken s n why u) (step_below x)) (sym e) k)
+
+    -- A node below it is not written.
+    pub below_refused : (x : WireError) → RefusesOneOf s n ts x → RefusesTaking s (suc n) t x
+    below_refused OutOfMemory k = tt
+    below_refused WireLimit (inl k) = inl (omega (arith, k, ap (λ z. levels z) taken_is))
+    below_refused WireLimit (inr k) = inr (λ m. let own = subst (λ z. HasMessages z) taken_is m in k own.1)
+    below_refused NotRegistered k = untaken_below unregistered k
+    below_refused NotSerializable k = untaken_below unserializable k
+    below_refused UndeclaredId k = untaken_below undeclared k
+    below_refused PluginRefused k = untaken_below unwilling k
+    below_refused _ k = absurd k
+
+  -- ---- a node whose step does not write it
+
+  large_by : (n : ℕ) (t : Tree) (x : Step) → step s t ≡ x → HasLargeMetadata x → RefusesTaking s (suc n) t WireLimit
+  large_by n t (written h ts) e k = large_root n t h ts e k
+  large_by n t (unwritten why) e k = absurd k
+
+  pub root_refused : (n : ℕ) (t : Tree) (e : RegistryError) → IsUnserialized e (step s t) → RefusesTaking s (suc n) t (registry_refusal e)
+  root_refused n t registry.OutOfMemory k = tt
+  root_refused n t registry.NotRegistered k = inl k
+  root_refused n t registry.UndeclaredId k = inl k
+  root_refused n t registry.PluginRefused k = inl k
+  root_refused n t registry.WireLimit k = large_by n t (step s t) refl k
+
+  -- ---- one of several
+
+  first_refused : (n : ℕ) (t : Tree) (ts : Trees) (e : WireError) → RefusesTaking s n t e → RefusesOneOf s n (more t ts) e
+  first_refused n t ts OutOfMemory k = tt
+  first_refused n t ts WireLimit (inl k) = inl (omega (arith, k))
+  first_refused n t ts WireLimit (inr k) = inr (λ m. k m.0)
+  first_refused n t ts NotRegistered k = inl k
+  first_refused n t ts NotSerializable k = inl k
+  first_refused n t ts UndeclaredId k = inl k
+  first_refused n t ts PluginRefused k = inl k
+  first_refused n t ts _ k = absurd k
+
+  later_refused : (n : ℕ) (t : Tree) (ts : Trees) (e : WireError) → RefusesOneOf s n ts e → RefusesOneOf s n (more t ts) e
+  later_refused n t ts OutOfMemory k = tt
+  later_refused n t ts WireLimit (inl k) = inl (omega (arith, k))
+  later_refused n t ts WireLimit (inr k) = inr (λ m. k m.1)
+  later_refused n t ts NotRegistered k = inr k
+  later_refused n t ts NotSerializable k = inr k
+  later_refused n t ts UndeclaredId k = inr k
+  later_refused n t ts PluginRefused k = inr k
+  later_refused n t ts _ k = absurd k
+
+  pub one_refused : (n : ℕ) (xs ys : List Tree) (t : Tree) (e : WireError) → RefusesTaking s n t e → RefusesOneOf s n (roses_of (xs ++ t ∷ ys)) e
+  one_refused n [] ys t e k = first_refused n t (roses_of ys) e k
+  one_refused n (x ∷ xs) ys t e k = later_refused n x (roses_of (xs ++ t ∷ ys)) e (one_refused n xs ys t e k)
+
+  -- ---- an array that is not taken
+
+  pub untaken : (o : SerializeOptions) (t : Tree) (c : Context) (e : WireError) → RefusesTaking s 62 t e → RefusesArray s t c o e
+  untaken o t c OutOfMemory k = tt
+  untaken o t c WireLimit (inl k) = λ l. omega (arith, k, l.writable.tree.nested, wired-levels s (as_written s o t))
+  untaken o t c WireLimit (inr k) = λ l. k l.messages
+  untaken o t c NotRegistered k = k
+  untaken o t c NotSerializable k = k
+  untaken o t c UndeclaredId k = k
+  untaken o t c PluginRefused k = k
+  untaken o t c _ k = absurd k
