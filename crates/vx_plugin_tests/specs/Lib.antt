@@ -1,1 +1,4 @@
-pub mod Silent
+pub mod Odd
+pub mod Asking
+pub mod Versioned
+pub mod Meanings

@@ -1,9 +1,9 @@
 //! Plugins of a caller, and what sessions read and write by them.
 #![tactic(auto)]
 
+pub mod asking;
 pub mod named;
 pub mod odd;
-pub mod stored;
 pub mod versioned;
 #[cfg(test)]
 mod parts;

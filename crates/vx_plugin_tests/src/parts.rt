@@ -1,11 +1,11 @@
 //! What tests of plugins are made of.
 
+use crate::asking::Asking;
 use crate::odd::{Odd, Oddity};
-use crate::stored::Stored;
 use crate::versioned::Versioned;
 use std::alloc::Global;
-use vx_arrays::{Array, ExtensionArray, PrimitiveArray};
-use vx_buffer::{Alignment, BufferHandle, ByteBuffer, ByteBuffers};
+use vx_arrays::{Array, Arrays, ExtensionArray, PrimitiveArray, new_foreign_array};
+use vx_buffer::{Alignment, BufferHandle, BufferHandles, ByteBuffer, ByteBuffers};
 use vx_registry::{ArrayContext, ArrayPlugin, ArraySession, PluginEntry, ReadContext, VortexSession};
 use vx_serde::{ArrayExt, SerializeOptions, SerializedArray, WireError};
 use vx_type_wire::{ExtPlugin, ExtSession};
@@ -14,6 +14,9 @@ use vx_types::{Blob, DType, ExtDType, Id, Ids, Nullability, PType};
 /// The identifiers of numbers, for old writers and for new ones.
 pub(crate) const OLD: &str = "vortex.primitive";
 pub(crate) const NEW: &str = "vortex.test.primitive_v2";
+
+/// The identifier of nodes that are read where the session accepts their type.
+pub(crate) const ASKING: &str = "vortex.test.asking";
 
 /// Want of memory, whatever wanted it.
 pub(crate) fn lacking<T: Drop, E: Drop>(made: Result<T, E>) -> Result<T, WireError> {
@@ -53,6 +56,17 @@ pub(crate) fn day_type(alloc: Global) -> Result<ExtDType, WireError> {
 pub(crate) fn days(alloc: Global, count: u32) -> Result<Array, WireError> {
     let storage = numbers(alloc, count)?;
     lacking(ExtensionArray::try_new(alloc, day_type(alloc)?, storage))
+}
+
+/// So many days below a node that the asking plugin reads.
+pub(crate) fn asked_days(alloc: Global, count: u32) -> Result<Array, WireError> {
+    let id = lacking(Id::new(alloc, ASKING))?;
+    let dtype = DType::Extension(day_type(alloc)?);
+    let metadata = Blob::new(Vec::new(alloc));
+    let buffers = BufferHandles::new(alloc);
+    let mut children = Arrays::new(alloc);
+    lacking(children.push(days(alloc, count)?))?;
+    lacking(new_foreign_array(alloc, id, dtype, count as usize, metadata, buffers, children))
 }
 
 /// A list of identifiers.
@@ -147,13 +161,20 @@ impl ExtPlugin for Days {
     }
 }
 
-/// A session with a plugin for extensions that asks the session's readers, and with a reader of `x.day`.
-pub(crate) fn stored(alloc: Global, accepts: bool) -> Result<VortexSession, WireError> {
-    let plugin: Box<dyn ArrayPlugin> = Box::new(alloc, Stored::new(alloc)?)?;
+/// A session with a plugin that asks the session's readers, and with a reader of `x.day`.
+pub(crate) fn asking(alloc: Global, accepts: bool) -> Result<VortexSession, WireError> {
+    let plugin: Box<dyn ArrayPlugin> = Box::new(alloc, Asking::new(alloc)?)?;
     let mut session = plugged(alloc, plugin)?;
     let id = lacking(Id::new(alloc, "x.day"))?;
     let reader: Box<dyn ExtPlugin> = Box::new(alloc, Days { id, accepts })?;
     lacking(session.ext.register(reader))?;
+    Ok(session)
+}
+
+/// A session of the shipped encodings that allows what nothing is registered for.
+pub(crate) fn allowing_unknown(alloc: Global) -> Result<VortexSession, WireError> {
+    let mut session = shipped(alloc)?;
+    session.ext.allow_unknown();
     Ok(session)
 }
 

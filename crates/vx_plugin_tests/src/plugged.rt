@@ -1,7 +1,7 @@
 use crate::odd::Oddity;
 use crate::parts::{
-    NEW, OLD, allowing, day_type, days, has_ids, number_type, numbers, odd, read, replaced, shipped,
-    stored, versioned, written,
+    ASKING, NEW, OLD, allowing, allowing_unknown, asked_days, asking, day_type, days, has_ids,
+    number_type, numbers, odd, read, replaced, shipped, versioned, written,
 };
 use std::alloc::Global;
 use vx_arrays::Array;
@@ -143,23 +143,25 @@ fn a_later_plugin_takes_the_place_of_an_earlier_one(rt: HostRuntime) {
     assert!(rt; replaced_by(rt.alloc(), false) == Ok(true));
 }
 
-// Days written and read again under a session whose reader of days accepts them or not.
-fn days_again(alloc: Global, accepts: bool) -> Result<bool, WireError> {
-    let session = stored(alloc, accepts)?;
+// Days below a node that the asking plugin reads, read under a session whose reader of days accepts them or not.
+fn asked(alloc: Global, accepts: bool) -> Result<bool, WireError> {
+    let writer = allowing_unknown(alloc)?;
     let mut ctx = ArrayContext::empty(alloc);
-    let array = days(alloc, 3)?;
-    let blob = written(alloc, &array, &mut ctx, &session)?;
-    let dtype = DType::Extension(day_type(alloc)?);
-    let texts = &["vortex.test.stored", OLD];
+    let array = asked_days(alloc, 3)?;
+    let blob = written(alloc, &array, &mut ctx, &writer)?;
+    let texts = &[ASKING, "vortex.ext", OLD];
     if !has_ids(alloc, &ctx, texts) {
         return Err(WireError::BadContent);
     }
-    let again = read(alloc, blob, &dtype, 3, texts, &session)?;
-    Ok(array.array_eq(&again))
+    let session = asking(alloc, accepts)?;
+    let dtype = DType::Extension(day_type(alloc)?);
+    let read = read(alloc, blob, &dtype, 3, texts, &session)?;
+    let expected = days(alloc, 3)?;
+    Ok(expected.array_eq(&read))
 }
 
 #[test]
 fn a_plugin_asks_the_readers_of_extensions(rt: HostRuntime) {
-    assert!(rt; days_again(rt.alloc(), true) == Ok(true));
-    assert!(rt; days_again(rt.alloc(), false) == Err(WireError::PluginRefused));
+    assert!(rt; asked(rt.alloc(), true) == Ok(true));
+    assert!(rt; asked(rt.alloc(), false) == Err(WireError::PluginRefused));
 }

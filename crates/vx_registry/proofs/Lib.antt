@@ -3,6 +3,6 @@ mod Putting
 mod Pairing
 mod Meanings
 mod Shipped
-mod Writers
+mod Roots
 pub mod LawsSessions
 pub mod LawsContexts

@@ -1,5 +1,5 @@
 -- What the tables of a session mean, once an entry is registered.
-use Rattle.std.proofs.Common.{ℕ, zero, suc, ◌≡◌, ◌<◌, ◌+◌, arith, List, [], ◌∷◌, ◌++◌, Option, Some, None, Bool, true, false, cond, length, refl, sym, ap, ◌∙◌, subst}
+use Rattle.std.proofs.Common.{ℕ, zero, suc, ◌≡◌, ◌<◌, ◌+◌, arith, List, [], ◌∷◌, ◌++◌, Option, Some, None, IfSome, IsSome, is_some, Bool, true, false, cond, length, refl, sym, ap, ◌∙◌, subst}
 use Rattle.std.specs.Prelude.{bytes_eq, option_map, option_and_then, slice_get}
 use Rattle.std.specs.List.{list_any}
 use Rattle.std.specs.Map.{lookup}
@@ -117,3 +117,23 @@ module _ (f : Plugins) (k : ℕ) (all : (n : ℕ) → n < k → (p : PluginMeani
         let a = found_encoding f r.writers id e p in
         subst (λ z. IsReadAgainBy (found f r.readers id) z) a.2 (read_again (lookup (bytes_eq id) r.readers) a.0 (h.written_is_read id a.0 a.1) (λ n q. w.readers id n q));
   }
+
+-- ---- sessions of boxes
+
+module _ {B : Type 0} (means : B → PluginMeaning) (bs : List B) where
+  abbrev of_boxes : Plugins
+  of_boxes n = option_map means (slice_get bs n)
+
+  -- Each number below has its plugin.
+  pub all_there : (n : ℕ) → n < length bs → (p : PluginMeaning) × (of_boxes n ≡ Some p)
+  all_there n h = let x = get_within bs n h in (means x.0, ap (λ z. option_map means z) x.1)
+
+  some_is : (o : Option Reader) (r : Reader) → o ≡ Some r → IsSome o
+  some_is o r e = ap (λ z. is_some z) e
+
+  -- What is found in a table means something.
+  pub found_within : (table : Entries) (o : Option Entry) (id : List ℕ) → o ≡ lookup (bytes_eq id) table → ((n : ℕ) → lookup (bytes_eq id) table ≡ Some (Boxed n) → n < length bs) → IfSome o (λ e. IsSome (entry_in of_boxes e))
+  found_within table None id e h = tt
+  found_within table (Some q) id e h =
+      let x = entry_some of_boxes (length bs) all_there q (λ n p. h n (sym e ∙ ap (λ z. Some z) p)) in
+      some_is (entry_in of_boxes q) x.0 x.1

@@ -6,8 +6,9 @@ use Rattle.vx_array_tree.specs.Table.{buffers_of, own_id}
 use Rattle.vx_array_tree.specs.Tree.{Tree}
 use Rattle.vx_wire_tree.specs.Fields.{told}
 use Rattle.vx_wire_tree.specs.Limits.{HasMessage}
-use Rattle.vx_wire_tree.specs.Taken.{Step, written, unwritten, unregistered, unserializable, undeclared, unwilling}
+use Rattle.vx_wire_tree.specs.Taken.{Step, written, unwritten, unregistered, unserializable, undeclared, unwilling, given_head}
 use Rattle.vx_encodings.specs.Messages.{message_bytes}
+use Rattle.vx_registry.specs.Plugin.{parts_in}
 use Rattle.vx_registry.specs.declared.error.RegistryError.{RegistryError}
 use Rattle.vx_registry.specs.declared.error.RegistryError.TheVariants.{OutOfMemory, NotRegistered, UndeclaredId, PluginRefused, WireLimit}
 use Rattle.vx_registry.specs.declared.serialization.ArraySerialization.{ArraySerialization}
@@ -43,14 +44,10 @@ IsSerializedAs (unwritten unserializable) None = Unit {0}
 IsSerializedAs _ _ = ⊥
 
 -- A root is written as it is, as the parts that its plugin gives, or not, as its plugin has no form for it.
-abbrev pub IsGivenRoot : Step → WrittenRoot → Type 0
-IsGivenRoot (written h ts) (Given p) = HasPartsOf (node h ts) p
-IsGivenRoot (unwritten unserializable) Nothing = Unit {0}
-IsGivenRoot _ _ = ⊥
-
 abbrev pub IsRootOf : Tree → Step → WrittenRoot → Type 0
 IsRootOf t x Own = x ≡ written (label t) (below t)
-IsRootOf t x r = IsGivenRoot x r
+IsRootOf t x (Given p) = x ≡ written (given_head (label t) (parts_in p)) p.children
+IsRootOf t x Nothing = x ≡ unwritten unserializable
 
 -- What is written of a root has metadata that does not fit its message.
 abbrev pub HasLargeMetadata : Step → Type 0

@@ -6,7 +6,7 @@ ghost use Rattle.vx_trees.specs.Rose.{label};
 ghost use Rattle.vx_types.specs.Known.{ExtMeaning};
 ghost use Rattle.vx_wire_tree.specs.Taken.{step, plugin_step};
 ghost use Rattle.vx_registry.specs.Meaning.{arrays_meaning};
-ghost use Rattle.vx_registry.specs.Serialization.{IsSerializedAs, IsUnserialized, IsRootOf, IsGivenRoot};
+ghost use Rattle.vx_registry.specs.Serialization.{IsSerializedAs, IsUnserialized, IsRootOf};
 
 use crate::array_session::ArraySession;
 use crate::error::RegistryError;
@@ -63,7 +63,7 @@ fn given_root(
     plugin: &Box<dyn ArrayPlugin>,
     array: &Array,
 ) -> Result<WrittenRoot, RegistryError>
-    ensures root { IfOk result (IsGivenRoot (plugin_step (means plugin.now) (label array.now) ((means plugin.now).serialize array.now))) }
+    ensures root { IfOk result (IsRootOf array.now (plugin_step (means plugin.now) (label array.now) ((means plugin.now).serialize array.now))) }
     ensures cause { IfErr result (λ e. IsUnserialized e (plugin_step (means plugin.now) (label array.now) ((means plugin.now).serialize array.now))) }
 {
     let parts = match serialize_by(alloc, plugin, array) {

@@ -1,17 +1,14 @@
 //! Sessions: what reads and writes arrays, and what reads extension types.
 
-ghost use Rattle.std.specs.Prelude.{◌≡◌, ◌∷◌, [], ℕ, List, None, bytes_eq, slice_get, option_copied, IfOk, IfErr, OnOk, OnErr, IsOkUnless, IsTrue, IsFalse};
+ghost use Rattle.std.specs.Prelude.{◌≡◌, ◌∷◌, [], ℕ, List, None, bytes_eq, slice_get, option_copied, IfSome, IsSome, IfOk, IfErr, OnOk, OnErr, IsOkUnless};
 ghost use Rattle.std.specs.Map.{lookup};
-ghost use Rattle.vx_trees.specs.Rose.{label};
 ghost use Rattle.vx_types.specs.Known.{ExtMeaning};
 ghost use Rattle.vx_type_wire.specs.Session.{ext_meaning};
-ghost use Rattle.vx_wire_tree.specs.Causes.{LacksWriterBy};
-ghost use Rattle.vx_wire_tree.specs.ReadBack.{IsWrittenBy};
 ghost use Rattle.vx_wire_tree.specs.Session.{IsPaired, entry_id, plugin as plugin_reader};
 ghost use Rattle.vx_wire_tree.specs.Taken.{step};
-ghost use Rattle.vx_registry.specs.Meaning.{arrays_meaning, session_meaning, entry_reader, entry_ids};
-ghost use Rattle.vx_registry.specs.Serialization.{array_id, IsSerializedAs, IsUnserialized};
-ghost use Rattle.vx_registry.specs.Session.{shipped_meaning, found_with};
+ghost use Rattle.vx_registry.specs.Meaning.{arrays_meaning, plugins_meaning, session_meaning, entry_reader, entry_ids};
+ghost use Rattle.vx_registry.specs.Serialization.{IsSerializedAs, IsUnserialized};
+ghost use Rattle.vx_registry.specs.Session.{shipped_meaning, found_with, entry_in};
 
 use crate::array_session::ArraySession;
 use crate::error::RegistryError;
@@ -124,15 +121,14 @@ impl ArraySession {
         let Ok(id) = id_of(&plugin).clone(self.alloc) else {
             return Err(AllocFailed { value: plugin });
         };
-        let number = self.plugins.len();
-        self.plugins.push(plugin)?;
-        match self.tables.set_boxed(number, &id, &ids) {
-            Ok(()) => Ok(()),
-            Err(_) => match self.plugins.pop() {
-                Some(plugin) => Err(AllocFailed { value: plugin }),
-                None => unreachable!(),
-            },
-        }
+        let Ok(()) = self.plugins.reserve(1) else {
+            return Err(AllocFailed { value: plugin });
+        };
+        let Ok(()) = self.tables.set_boxed(self.plugins.len(), &id, &ids) else {
+            return Err(AllocFailed { value: plugin });
+        };
+        self.plugins.push_reserved(plugin);
+        Ok(())
     }
 
     /// The entries by the identifiers that they read, in the order in which these came: encodings, and numbers of plugins.
@@ -145,6 +141,7 @@ impl ArraySession {
     /// What reads the arrays of this identifier: `None` where it is not registered.
     pub fn reader(&self, id: &Id) -> Option<Entry>
         ensures found { result ≡ lookup (bytes_eq id.now) self.now.tables.readers }
+        ensures within { IfSome result (λ entry. IsSome (entry_in (plugins_meaning means self.now.plugins.items) entry)) }
         ensures paired { (x : ExtMeaning) → IsPaired (arrays_meaning means self.now x) }
     {
         self.tables.reader(id)
@@ -162,20 +159,6 @@ impl ArraySession {
         ensures { option_copied result ≡ slice_get self.now.plugins.items number }
     {
         self.plugins.get(number)
-    }
-
-    /// Whether an array's root is written: something writes the arrays of its encoding, or it is foreign and `unknown`
-    /// ones are allowed. `id` is its identifier.
-    #[tactic(auto, using(crate::proofs::Writers::writers))]
-    pub fn writes(&self, id: &Id, array: &Array, unknown: bool) -> bool
-        requires { id.now ≡ array_id array.now }
-        ensures written { (x : ExtMeaning) → x.unknown ≡ unknown → IsTrue result → IsWrittenBy (arrays_meaning means self.now x) (label array.now).body }
-        ensures lacking { (x : ExtMeaning) → x.unknown ≡ unknown → IsFalse result → LacksWriterBy (arrays_meaning means self.now x) (label array.now).body }
-    {
-        if array.is_foreign() {
-            return unknown;
-        }
-        self.writer(id).is_some()
     }
 }
 
