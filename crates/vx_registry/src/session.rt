@@ -180,9 +180,11 @@ impl VortexSession {
         VortexSession { arrays, ext }
     }
 
-    /// Whether what nothing is registered for is allowed: the flag of `ext`, which `allow_unknown` sets there.
+    /// Whether what nothing is registered for is allowed: the flag of `ext`, which `allow_unknown` sets there. The readers and
+    /// writers of every session fit one another.
     pub fn allows_unknown(&self) -> bool
-        ensures { result ≡ (ext_meaning (λ b. accepted (b.vtable, b.value)) self.now.ext).unknown }
+        ensures paired { IsPaired (session_meaning (λ b. means (b.vtable, b.value)) (λ b. accepted (b.vtable, b.value)) self.now) }
+        ensures unknown { result ≡ (ext_meaning (λ b. accepted (b.vtable, b.value)) self.now.ext).unknown }
     {
         self.ext.allows_unknown()
     }

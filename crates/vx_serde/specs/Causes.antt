@@ -66,7 +66,7 @@ RefusesArray s t context options e = RefusesWriting s (as_written s options t) c
 -- Why `recode` refuses: by the refusal. Want of memory has no cause but itself. The
 -- blob's own faults come first, then those of its nodes, then those of the array
 -- that it spells: an identifier that the context does not take, a limit on writing, or that a node of it is not written. Where
--- no plugin reads or writes, what is read is also written: then no node is without a writer.
+-- no plugin reads or writes, what is read is also written: then no node is without a writer, and there is no plugin to refuse.
 abbrev pub Refuses : Request → WireError → Type 0
 Refuses asked OutOfMemory = Unit {0}
 Refuses asked TooShort = RefusesOpening (message_limits asked.options) TooShort asked.blob
@@ -85,6 +85,6 @@ Refuses asked BadStats = RefusesCarried asked BadStats
 Refuses asked NotPermitted = SpellsOne asked (λ t. RefusesArray asked.session t asked.context asked.options NotPermitted)
 Refuses asked WireLimit = SpellsOne asked (λ t. RefusesArray asked.session t asked.context asked.options WireLimit)
 Refuses asked NotRegistered = (IsShipped asked.session → ⊥) × SpellsOne asked (λ t. RefusesArray asked.session t asked.context asked.options NotRegistered)
-Refuses asked NotSerializable = SpellsOne asked (λ t. RefusesArray asked.session t asked.context asked.options NotSerializable)
-Refuses asked UndeclaredId = SpellsOne asked (λ t. RefusesArray asked.session t asked.context asked.options UndeclaredId)
-Refuses asked PluginRefused = RefusesCarried asked PluginRefused ⊎ SpellsOne asked (λ t. RefusesArray asked.session t asked.context asked.options PluginRefused)
+Refuses asked NotSerializable = (IsShipped asked.session → ⊥) × SpellsOne asked (λ t. RefusesArray asked.session t asked.context asked.options NotSerializable)
+Refuses asked UndeclaredId = (IsShipped asked.session → ⊥) × SpellsOne asked (λ t. RefusesArray asked.session t asked.context asked.options UndeclaredId)
+Refuses asked PluginRefused = (IsShipped asked.session → ⊥) × (RefusesCarried asked PluginRefused ⊎ SpellsOne asked (λ t. RefusesArray asked.session t asked.context asked.options PluginRefused))

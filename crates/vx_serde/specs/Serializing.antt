@@ -2,16 +2,18 @@
 use Rattle.std.specs.Prelude.{◌≡◌, List, Some, IsTrue}
 use Rattle.vx_buffer.specs.Buffer.{Buffer}
 use Rattle.vx_buffer.specs.Joined.{joined}
+use Rattle.vx_trees.specs.Rose.{label}
 use Rattle.vx_array_tree.specs.Tree.{Tree}
 use Rattle.vx_wire_tree.specs.Context.{Context, grown}
 use Rattle.vx_wire_tree.specs.ReadBack.{HasStorableStats}
+use Rattle.vx_wire_tree.specs.Returns.{IsOwnCanon, Returns}
 use Rattle.vx_wire_tree.specs.Session.{SessionMeaning}
 use Rattle.vx_wire_tree.specs.Taken.{IsTaken}
 use Rattle.vx_encodings.specs.Messages.{codec}
 use Rattle.vx_serde.specs.declared.options.SerializeOptions.{SerializeOptions}
 use Rattle.vx_serde.specs.Aligned.{IsAlignedBlob}
 use Rattle.vx_serde.specs.Limits.{most_levels}
-use Rattle.vx_serde.specs.Spells.{KeepsWriterLimits, blob_of, blob_buffers}
+use Rattle.vx_serde.specs.Spells.{Spells, KeepsWriterLimits, blob_of, blob_buffers}
 use Rattle.vx_serde.specs.Taking.{as_written}
 
 -- The buffers, one after the other, are the blob of a tree that is written, under the context that is grown by it. They come
@@ -30,3 +32,13 @@ pub record IsWrittenBlob (s : SessionMeaning) (tree : Tree) (options : Serialize
 pub record IsSerialized (s : SessionMeaning) (array : Tree) (options : SerializeOptions) (before after : Context) (buffers : List Buffer) : Type 0 where
   pub taken : IsTaken s (most_levels options) array
   pub blob : IsWrittenBlob s (as_written s options array) options before after buffers
+
+-- An array is its own canon, and as it is written it is read again: each node is read by what wrote it, and the arrays that
+-- plugins gave are their own canons, too.
+pub record ReturnsWhole (s : SessionMeaning) (options : SerializeOptions) (array : Tree) : Type 0 where
+  pub own : IsOwnCanon codec s array
+  pub returns : Returns codec s (most_levels options) array
+
+-- The bytes spell the array itself with the identifiers of the context after it.
+abbrev pub IsSpelledAgain : SessionMeaning → Tree → Context → List Buffer → Type 0
+IsSpelledAgain s array after buffers = Spells (joined buffers) after.ids (label array).dtype (label array).len s array

@@ -1,13 +1,14 @@
 //! Writing an array as a blob.
 
 ghost use Rattle.std.specs.Prelude.{IfOk, IfErr};
+ghost use Rattle.vx_wire_tree.specs.Session.{IsShipped};
 ghost use Rattle.vx_wire_tree.specs.Wire.{ids_in};
 ghost use Rattle.vx_wire_tree.specs.Written.{wire};
 ghost use Rattle.vx_encodings.specs.Messages.{codec};
 ghost use Rattle.vx_registry.specs.Meaning.{session_meaning};
 ghost use Rattle.vx_serde.specs.Causes.{RefusesArray};
 ghost use Rattle.vx_serde.specs.KeptContext.{KeepsContext};
-ghost use Rattle.vx_serde.specs.Serializing.{IsSerialized};
+ghost use Rattle.vx_serde.specs.Serializing.{IsSerialized, ReturnsWhole, IsSpelledAgain};
 ghost use Rattle.vx_serde.specs.Taking.{as_written};
 
 use crate::error::WireError;
@@ -51,7 +52,12 @@ impl ArrayExt for Array {
         options: &SerializeOptions,
     ) -> Result<ByteBuffers, WireError>
         ensures made { let s = session_meaning (λ b. means (b.vtable, b.value)) (λ b. accepted (b.vtable, b.value)) session.now in IfOk result (λ buffers. IsSerialized s self.now options.now ctx.old ctx.new buffers) }
+        // An array that returns is spelled by what is written of it, whatever encodings and plugins wrote.
+        ensures returned { let s = session_meaning (λ b. means (b.vtable, b.value)) (λ b. accepted (b.vtable, b.value)) session.now in
+            IfOk result (λ buffers. ReturnsWhole s options.now self.now → IsSpelledAgain s self.now ctx.new buffers) }
         ensures left { let s = session_meaning (λ b. means (b.vtable, b.value)) (λ b. accepted (b.vtable, b.value)) session.now in KeepsContext (ids_in (wire codec s (as_written s options.now self.now))) ctx.old ctx.new }
+        // With shipped encodings only these are identifiers of the array as it stands.
+        ensures own { let s = session_meaning (λ b. means (b.vtable, b.value)) (λ b. accepted (b.vtable, b.value)) session.now in IsShipped s → KeepsContext (ids_in (wire codec s self.now)) ctx.old ctx.new }
         ensures cause { let s = session_meaning (λ b. means (b.vtable, b.value)) (λ b. accepted (b.vtable, b.value)) session.now in IfErr result (RefusesArray s self.now ctx.old options.now) }
     {
         let unknown = session.allows_unknown();

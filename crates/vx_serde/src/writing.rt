@@ -14,7 +14,7 @@ ghost use Rattle.vx_types.specs.Known.{ExtMeaning};
 ghost use Rattle.vx_wire_tree.specs.Context.{grown_by};
 ghost use Rattle.vx_wire_tree.specs.Limits.{AreDescribable, HasMessages};
 ghost use Rattle.vx_wire_tree.specs.ReadBack.{HasStorableStats};
-ghost use Rattle.vx_wire_tree.specs.Session.{SessionMeaning};
+ghost use Rattle.vx_wire_tree.specs.Session.{SessionMeaning, IsShipped};
 ghost use Rattle.vx_wire_tree.specs.Wire.{ids_in, buffers_in};
 ghost use Rattle.vx_wire_tree.specs.Written.{wire};
 ghost use Rattle.vx_encodings.specs.Messages.{codec};
@@ -226,6 +226,8 @@ pub(crate) fn write_array(
     ensures made { (x : ExtMeaning) → x.unknown ≡ unknown → IfOk result (λ bs. IsSerialized (arrays_meaning means arrays.now x) array.now options.now ctx.old ctx.new bs) }
     ensures kept { (x : ExtMeaning) → x.unknown ≡ unknown → let s = arrays_meaning means arrays.now x in
         KeepsContext (ids_in (wire codec s (as_written s options.now array.now))) ctx.old ctx.new }
+    ensures own { (x : ExtMeaning) → x.unknown ≡ unknown → let s = arrays_meaning means arrays.now x in
+        IsShipped s → KeepsContext (ids_in (wire codec s array.now)) ctx.old ctx.new }
     ensures cause { (x : ExtMeaning) → x.unknown ≡ unknown → IfErr result (RefusesArray (arrays_meaning means arrays.now x) array.now ctx.old options.now) }
 {
     let node = take(alloc, Source::Lent(array), arrays, unknown, MAX_LEVELS)?;

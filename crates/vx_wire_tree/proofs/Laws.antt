@@ -14,7 +14,7 @@ use Rattle.vx_array_tree.specs.Table.{own_id, buffers_of, metadata_of}
 use Rattle.vx_array_tree.specs.Tree.{Tree, Trees, places, rows_of, untold}
 use Rattle.vx_array_tree.proofs.CanonLaws as Canon
 use Rattle.vx_array_tree.proofs.CanonPlaces.{canon_dtype, canon_len}
-use Rattle.vx_wire_tree.specs.Causes.{HasChildren, Refusal, RefusesTree}
+use Rattle.vx_wire_tree.specs.Causes.{HasChildren, Refusal, plugin_refused, RefusesTree}
 use Rattle.vx_wire_tree.specs.Codec.{Codec, HasLawfulStats, IsLawful, metadata_bytes}
 use Rattle.vx_wire_tree.specs.Fields.{told}
 use Rattle.vx_wire_tree.specs.Context.{Context, grown_by, grown}
@@ -27,7 +27,7 @@ use Rattle.vx_wire_tree.specs.Steps.{PlansChildren, HasParts, IsToldBy}
 use Rattle.vx_wire_tree.specs.Tells.{Tells}
 use Rattle.vx_wire_tree.specs.Wire.{Wire, Wires, WireHead, IsWhole, ids_in, all_present}
 use Rattle.vx_wire_tree.specs.Returns.{IsOwnCanon, Returns}
-use Rattle.vx_wire_tree.specs.Taken.{taken, IsTaken}
+use Rattle.vx_wire_tree.specs.Taken.{taken, IsTaken, Unwritten, HasUntaken}
 use Rattle.vx_wire_tree.specs.Written.{spelled, wire, canon}
 use Rattle.vx_wire_tree.proofs.Built as Built
 use Rattle.vx_wire_tree.proofs.Kept as Kept
@@ -144,6 +144,22 @@ taken_within s n t = TakenOwn.taken_within s n t
 
 pub taken_own : (s : SessionMeaning) → IsShipped s → (n : ℕ) (t : Tree) → IsTaken s n t → levels (taken s n t) ≤ n → taken s n t ≡ t
 taken_own s ok n t k l = TakenOwn.taken_own s ok n t k l
+
+-- Then each of its nodes has a writer, or is a foreign one that is allowed.
+pub taken_written : (s : SessionMeaning) → IsShipped s → (n : ℕ) (t : Tree) → IsTaken s n t → levels (taken s n t) ≤ n → IsWritten s t
+taken_written s ok n t k l = TakenOwn.taken_written s ok n t k l
+
+-- And where each of its nodes has a writer, or is such a foreign one, it is written as it is within the levels, and no node
+-- is not written.
+pub taken_whole : (s : SessionMeaning) → IsShipped s → (n : ℕ) (t : Tree) → IsWritten s t → levels t ≤ n → taken s n t ≡ t
+taken_whole s ok n t w l = TakenOwn.taken_whole s ok n t w l
+
+pub never_untaken : (s : SessionMeaning) → IsShipped s → (n : ℕ) (why : Unwritten) (t : Tree) → IsWritten s t → HasUntaken s n why t → ⊥
+never_untaken s ok n why t w k = TakenOwn.never_untaken s ok n why t w k
+
+-- And no plugin refuses a wire tree there.
+pub no_plugin_refuses : (c : Codec) (s : SessionMeaning) → IsShipped s → (w : Wire) (d : Typ) (n : ℕ) → RefusesTree plugin_refused c s w d n → ⊥
+no_plugin_refuses c s ok w d n k = NeverRefused.no_plugin_refuses c s ok w d n k
 
 -- The foreign node of a node's parts, over children that are kept, is kept.
 pub kept_node : (id : List ℕ) (w : WireHead) (ws : Wires) (d : Typ) (n : ℕ) (metadata : List ℕ) (bs : List Buffer) (ts : Trees) → w.id ≡ Some id → metadata ≡ w.metadata → w.buffers ≡ all_present bs

@@ -318,3 +318,16 @@ module _ (c : Codec) (s : SessionMeaning) where
       never_refused bad_content w d n t x k = never_somewhere (HasBadContent c s) (at_own (HasBadContent c s) content_at) k.0 w d n t x k.1
       never_refused bad_stats w d n t x k = never_somewhere (HasBadStats c s) stats_told k.0 w d n t x k.1
       never_refused plugin_refused w d n t x k = never_somewhere (IsRefusedByPlugin c s) not_by_plugin k.0 w d n t x k.1
+
+-- ---- without plugins
+
+-- What holds on a path holds of the node at its end, at its place.
+held_there : (c : Codec) (s : SessionMeaning) (P : Claim) (path : List ℕ) (w : Wire) (d : Typ) (n : ℕ) → HoldsAt c s P path w d n → (v : Wire) × (e : Typ) × (m : ℕ) × P v e m
+held_there c s P [] w d n h = (w, d, n, h)
+held_there c s P (i ∷ path) w d n h = held_there c s P path h.0 h.1.dtype h.1.len h.3
+
+-- Where no plugin reads, none refuses.
+pub no_plugin_refuses : (c : Codec) (s : SessionMeaning) → IsShipped s → (w : Wire) (d : Typ) (n : ℕ) → RefusesTree plugin_refused c s w d n → ⊥
+no_plugin_refuses c s ok w d n k =
+    let x = held_there c s (IsRefusedByPlugin c s) k.0 w d n k.1 in
+    subst (λ r. IsShippedReader r) x.3.by.reader_is (ok.reads x.3.by.id)
