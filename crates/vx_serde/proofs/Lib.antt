@@ -37,3 +37,5 @@ pub mod DecodedNodes
 pub mod KeptNodes
 pub mod ArrayNodes
 mod Taking
+pub mod Sources
+pub mod EntrySteps

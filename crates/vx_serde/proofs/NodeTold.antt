@@ -1,6 +1,6 @@
 -- What decoding a node and its children gives, and why it does not.
 use Rattle.std.proofs.Common.{false, ℕ, zero, suc, ◌≡◌, ◌+◌, ◌<◌, ◌≤◌, List, [], ◌∷◌, ◌++◌, Option, Some, None, refl, sym, ap, ◌∙◌, arith, subst, take, length, get_or, add-one, inl, inr}
-use Rattle.std.specs.Prelude.{slice_get, option_map}
+use Rattle.std.specs.Prelude.{slice_get, option_map, IsSome}
 use Rattle.std.proofs.lemmas.List.{take_all}
 use Rattle.vx_buffer.specs.Buffer.{Buffer}
 use Rattle.vx_trees.specs.Rose.{node, label, below, roses_of, roses_list, count}
@@ -327,10 +327,11 @@ built_dtype s w d n (Some (plugin p)) h bs ws ps ts t read plan own own_children
     (p.as_asked at bs ts s.ext t planned kids.sound (ap (λ z. p.build z bs ts s.ext) (sym (head_of_parts s w d n read.id h bs ts read.head read.named own kids.matched)) ∙ parts)).0
 
 -- Statistics that a node shows none of.
-pub caused_by_stats : (s : SessionMeaning) (x : WireError) (w : Wire) (d : Typ) (n : ℕ) (r : Reader) (h : ArrayHead) → IsNodeOf s w d n (Some r) h → RefusesStats x d (label w).stats → RefusesWire s x w d n
-caused_by_stats s OutOfMemory w d n r h read c = tt
-caused_by_stats s BadStats w d n r h read c = ([], record { reader = r; by = record { id = read.id; id_is = read.id_is; reader_is = read.reader_is }; none = c })
-caused_by_stats s _ w d n r h read c = absurd c
+pub caused_by_stats : (s : SessionMeaning) (x : WireError) (w : Wire) (d : Typ) (n : ℕ) (r : Option Reader) (h : ArrayHead) → IsSome r → IsNodeOf s w d n r h → RefusesStats x d (label w).stats → RefusesWire s x w d n
+caused_by_stats s OutOfMemory w d n r h there read c = tt
+caused_by_stats s BadStats w d n None h there read c = absurd (cc)
+caused_by_stats s BadStats w d n (Some r) h there read c = ([], record { reader = r; by = record { id = read.id; id_is = read.id_is; reader_is = read.reader_is }; none = c })
+caused_by_stats s _ w d n r h there read c = absurd c
 
 -- The node of parts that a plan has told, over children that tell arrays, with the statistics that it shows.
 pub told_node : (s : SessionMeaning) → IsLawful codec s → (w : Wire) (d : Typ) (n : ℕ) (r : Option Reader) (h : ArrayHead) (ps : List Place) (bs : List Buffer) (ws : List Wire) (ts : Trees) (t u : Tree) → IsNodeOf s w d n r h

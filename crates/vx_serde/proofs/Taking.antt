@@ -8,14 +8,17 @@ use Rattle.vx_trees.specs.Everywhere.{EverywhereBelow}
 use Rattle.vx_array_tree.specs.Body.{Body}
 use Rattle.vx_array_tree.specs.Body as B
 use Rattle.vx_array_tree.specs.Place.{Place, place}
+use Rattle.vx_scalars.specs.Stats.{FitStats}
+use Rattle.vx_array_tree.specs.Sound.{metadata_in}
 use Rattle.vx_array_tree.specs.Table.{metadata_of}
 use Rattle.vx_array_tree.specs.Tree.{Tree, Trees, Head, places}
 use Rattle.vx_wire_tree.specs.Context.{Context}
-use Rattle.vx_wire_tree.specs.Fields.{FitsMessage}
+use Rattle.vx_wire_tree.specs.Fields.{FitsMessage, told}
 use Rattle.vx_wire_tree.specs.Limits.{HasMessage, HasMessages}
 use Rattle.vx_wire_tree.specs.Plugin.{PluginMeaning, Parts, Answer, none, refused, given}
 use Rattle.vx_wire_tree.specs.Session.{SessionMeaning, Reader, shipped, plugin}
 use Rattle.vx_wire_tree.specs.Taken.{Step, written, unwritten, Unwritten, unregistered, unserializable, undeclared, unwilling, IsWrittenStep, given_head, foreign_step, plugin_step, writer_step, step_by, step, step_head, step_below, each, Each, Any, taken, IsTaken, HasUntaken}
+use Rattle.vx_encodings.specs.Messages.{message_bytes}
 use Rattle.vx_registry.specs.Serialization.{IsUnserialized, HasLargeMetadata}
 use Rattle.vx_registry.specs.declared.error.RegistryError.{RegistryError}
 use Rattle.vx_registry.specs.declared.error.RegistryError.TheVariants as registry
@@ -24,7 +27,8 @@ use Rattle.vx_serde.specs.declared.error.WireError.TheVariants.{OutOfMemory, Wir
 use Rattle.vx_serde.specs.declared.options.SerializeOptions.{SerializeOptions}
 use Rattle.vx_serde.specs.Causes.{RefusesArray}
 use Rattle.vx_serde.specs.Errors.{registry_refusal}
-use Rattle.vx_serde.specs.Taking.{as_written, RefusesTaking, RefusesOneOf}
+use Rattle.vx_serde.specs.declared.taken.GivenParts.{GivenParts}
+use Rattle.vx_serde.specs.Taking.{as_written, own_parts, taken_head, RefusesTaking, RefusesOneOf}
 use Rattle.vx_serde.proofs.WiredNodes.{wired-levels}
 
 -- Where a node stands.
@@ -150,3 +154,26 @@ module _ (s : SessionMeaning) where
   untaken o t c UndeclaredId k = k
   untaken o t c PluginRefused k = k
   untaken o t c _ k = absurd k
+
+-- ---- a node that is written
+
+-- What a node is written as has its statistics and its type.
+pub head_stats : (h : Head) (g : Option GivenParts) → (taken_head h g).stats ≡ h.stats
+head_stats h None = refl
+head_stats h (Some g) = refl
+
+pub head_dtype : (h : Head) (g : Option GivenParts) → (taken_head h g).dtype ≡ h.dtype
+head_dtype h None = refl
+head_dtype h (Some g) = refl
+
+pub fit_head : (h : Head) (g : Option GivenParts) → FitStats h.dtype h.stats → FitStats (taken_head h g).dtype (taken_head h g).stats
+fit_head h None f = f
+fit_head h (Some g) f = f
+
+-- Its metadata looks at the places below alone.
+pub metadata_at : (h : Head) (us ts : Trees) → places us ≡ places ts → message_bytes (told (metadata_in h ts)) ≡ message_bytes (told (metadata_in h us))
+metadata_at h us ts e = ap (λ ps. message_bytes (told (metadata_of h.body ps))) (sym e)
+
+-- What nothing reads has any metadata.
+pub given_message : (h : Head) (g : GivenParts) (us : Trees) → HasMessage (given_head h (own_parts g)) us
+given_message h g us = tt

@@ -1,8 +1,8 @@
 //! An array as it is written: each node as its writer takes it.
 
-ghost use Rattle.std.specs.Prelude.{◌≡◌, ◌≤◌, ◌<◌, Some, length, map, slice_get, IfOk, IfErr, OnOk, IsOkUnless};
+ghost use Rattle.std.specs.Prelude.{◌≡◌, ◌≤◌, ◌<◌, Some, length, slice_get, IfOk, IfErr, OnOk, IsOkUnless};
 ghost use Rattle.vx_trees.specs.Everywhere.{EverywhereBelow};
-ghost use Rattle.vx_trees.specs.Rose.{label, below, count, roses_of, roses_list};
+ghost use Rattle.vx_trees.specs.Rose.{label, below, roses_of};
 ghost use Rattle.vx_trees.specs.Walks.{levels, levels_below};
 ghost use Rattle.vx_types.specs.Known.{ExtMeaning};
 ghost use Rattle.vx_scalars.specs.Stats.{FitStats};
@@ -20,7 +20,7 @@ ghost use Rattle.vx_serde.specs.Taking.{source_tree, source_trees, RefusesTaking
 use crate::error::WireError;
 use std::alloc::Global;
 use std::marker::Model;
-use vx_arrays::{Array, Arrays};
+use vx_arrays::Array;
 use vx_buffer::{BufferHandle, BufferHandles};
 use vx_encodings::{has_message, metadata};
 use vx_registry::{ArraySession, RegistryError, WrittenRoot, written_root};
@@ -44,18 +44,6 @@ impl<'a> Source<'a> {
             Source::Held(array) => array,
         }
     }
-
-    /// One of its children: lent, where it is lent itself, or a copy.
-    fn child(&self, alloc: Global, i: usize) -> Result<Source<'a>, WireError>
-        requires { i < count (below (source_tree self.now)) }
-        ensures ok { IfOk result (λ s. slice_get (roses_list (below (source_tree self.now))) i ≡ Some (source_tree s)) }
-        ensures err { IsOkUnless result WireError.OutOfMemory }
-    {
-        match self {
-            Source::Lent(array) => Ok(Source::Lent(&array.children()[i])),
-            Source::Held(array) => copy_of(alloc, &array.children()[i]),
-        }
-    }
 }
 
 // A copy of an array, which is held.
@@ -69,25 +57,36 @@ fn copy_of<'a>(alloc: Global, array: &Array) -> Result<Source<'a>, WireError>
     }
 }
 
-// The children of an array.
+// The children of an array: lent, where it is lent itself, or copies.
 fn own_sources<'a>(alloc: Global, source: &Source<'a>) -> Result<Vec<Source<'a>>, WireError>
     ensures ok { IfOk result (λ v. source_trees v.items ≡ below (source_tree source.now)) }
     ensures err { IsOkUnless result WireError.OutOfMemory }
 {
+    match source {
+        Source::Lent(array) => lent_sources(alloc, array),
+        Source::Held(array) => held_sources(alloc, array.children()),
+    }
+}
+
+// The children of an array that is lent.
+fn lent_sources<'a>(alloc: Global, array: &'a Array) -> Result<Vec<Source<'a>>, WireError>
+    ensures ok { IfOk result (λ v. source_trees v.items ≡ below array.now) }
+    ensures err { IsOkUnless result WireError.OutOfMemory }
+{
     let mut sources = Vec::new(alloc);
-    for i in 0..source.array().children().len() {
-        sources.push(source.child(alloc, i)?)?;
+    for child in array.children() {
+        sources.push(Source::Lent(child))?;
     }
     Ok(sources)
 }
 
-// Copies of the arrays that a plugin gave.
-fn held_sources<'a>(alloc: Global, arrays: &Arrays) -> Result<Vec<Source<'a>>, WireError>
-    ensures ok { IfOk result (λ v. source_trees v.items ≡ arrays.now) }
+// Copies of arrays.
+fn held_sources<'a>(alloc: Global, arrays: &[Array]) -> Result<Vec<Source<'a>>, WireError>
+    ensures ok { IfOk result (λ v. source_trees v.items ≡ roses_of arrays.now) }
     ensures err { IsOkUnless result WireError.OutOfMemory }
 {
     let mut sources = Vec::new(alloc);
-    for array in arrays.as_slice() {
+    for array in arrays {
         sources.push(copy_of(alloc, array)?)?;
     }
     Ok(sources)
@@ -257,7 +256,7 @@ pub(crate) fn take<'a>(
             })
         }
         WrittenRoot::Given(parts) => {
-            let below = held_sources(alloc, &parts.children)?;
+            let below = held_sources(alloc, parts.children.as_slice())?;
             let children = take_all(alloc, below, arrays, unknown, room - 1)?;
             Ok(TakenNode {
                 source,
