@@ -1,11 +1,12 @@
 -- Tables that fit one another, once an entry more is registered.
-use Rattle.std.proofs.Common.{ℕ, ◌≡◌, ◌<◌, ◌+◌, ◌⊎◌, inl, inr, arith, List, [], ◌∷◌, Option, Some, None, Bool, true, false, cond, refl, sym, ap, ◌∙◌, subst}
+use Rattle.std.proofs.Common.{ℕ, ◌≡◌, ◌<◌, ◌+◌, ◌⊎◌, inl, inr, arith, List, [], ◌∷◌, Option, Some, None, Result, Ok, Err, OnOk, OnErr, Bool, true, false, cond, refl, sym, ap, ◌∙◌, subst}
 use Rattle.std.specs.Prelude.{bytes_eq}
 use Rattle.std.specs.List.{list_any}
 use Rattle.std.specs.Map.{lookup}
 use Rattle.std.proofs.lemmas.Slice.Eq.{bytes_eq-Decides}
 use Rattle.vx_encodings.specs.declared.encoding.Encoding.{Encoding}
 use Rattle.vx_registry.specs.Session.{Registry, ArePaired, AreWithin, IsReadAgain, own_id, registered, with_plugin}
+use Rattle.vx_registry.specs.declared.error.RegistryError.{RegistryError}
 use Rattle.vx_registry.specs.declared.tables.Entry.{Entry}
 use Rattle.vx_registry.specs.declared.tables.Entry.TheVariants.{Shipped, Boxed}
 use Rattle.vx_registry.proofs.Putting.{lookup_put, lookup_put_all, which, some_still, some_new}
@@ -130,12 +131,17 @@ within_shipped e k r h = record {
 pub within_as : (r q : Registry) (j k : ℕ) → r ≡ q → j ≡ k → AreWithin q k → AreWithin r j
 within_as r q j k e f h = subst (λ z. AreWithin z j) (sym e) (subst (λ z. AreWithin q z) (sym f) h)
 
+-- An encoding comes, or does not.
+pub within_set : (e : Encoding) (k : ℕ) (old new : Registry) (r : Result (Unit {0}) RegistryError) → OnOk r (new ≡ registered e old) → OnErr r (new ≡ old) → AreWithin old k → AreWithin new k
+within_set e k old new (Ok u) done left h = within_as new (registered e old) k k done refl (within_shipped e k old h)
+within_set e k old new (Err x) done left h = within_as new old k k left refl h
+
+none_found : {x : Entry} → None ≡ Some x → ⊥
+none_found p = cc
+
 -- No table has a number where it has no entry.
 pub within_none : (r : Registry) (k : ℕ) → r.readers ≡ [] → r.writers ≡ [] → AreWithin r k
 within_none r k e f = record {
-  readers = λ id m p. absurd (none_some (ap (λ t. lookup (bytes_eq id) t) (sym e) ∙ p));
-  writers = λ id m p. absurd (none_some (ap (λ t. lookup (bytes_eq id) t) (sym f) ∙ p));
+  readers = λ id m p. absurd (none_found (ap (λ t. lookup (bytes_eq id) t) (sym e) ∙ p));
+  writers = λ id m p. absurd (none_found (ap (λ t. lookup (bytes_eq id) t) (sym f) ∙ p));
 }
-  where
-    none_some : {x : Entry} → None ≡ Some x → ⊥
-    none_some p = cc

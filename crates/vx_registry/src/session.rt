@@ -180,11 +180,9 @@ impl VortexSession {
         VortexSession { arrays, ext }
     }
 
-    /// Whether what nothing is registered for is allowed: the flag of `ext`, which `allow_unknown` sets there. The readers and
-    /// writers of every session fit one another.
+    /// Whether what nothing is registered for is allowed: the flag of `ext`, which `allow_unknown` sets there.
     pub fn allows_unknown(&self) -> bool
-        ensures paired { IsPaired (session_meaning (λ b. means (b.vtable, b.value)) (λ b. accepted (b.vtable, b.value)) self.now) }
-        ensures unknown { result ≡ (ext_meaning (λ b. accepted (b.vtable, b.value)) self.now.ext).unknown }
+        ensures { result ≡ (ext_meaning (λ b. accepted (b.vtable, b.value)) self.now.ext).unknown }
     {
         self.ext.allows_unknown()
     }
@@ -198,9 +196,9 @@ impl VortexSession {
         alloc: Global,
         array: &Array,
     ) -> Result<Option<ArraySerialization>, RegistryError>
-        ensures parts { let s = session_meaning (λ b. means (b.vtable, b.value)) (λ b. accepted (b.vtable, b.value)) self.now in
+        ensures parts { let s = session_meaning means (λ b. accepted (b.vtable, b.value)) self.now in
             IfOk result (IsSerializedAs (step s array.now)) }
-        ensures cause { let s = session_meaning (λ b. means (b.vtable, b.value)) (λ b. accepted (b.vtable, b.value)) self.now in
+        ensures cause { let s = session_meaning means (λ b. accepted (b.vtable, b.value)) self.now in
             IfErr result (λ e. IsUnserialized e (step s array.now)) }
     {
         serialize_root(alloc, array, &self.arrays, self.allows_unknown())

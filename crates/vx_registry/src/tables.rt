@@ -111,7 +111,7 @@ impl Tables {
 
     /// What writes the arrays of this identifier.
     pub(crate) fn writer(&self, id: &Id) -> Option<Entry>
-        ensures found { result ≡ lookup (bytes_eq id.now) self.now.writers }
+        ensures { result ≡ lookup (bytes_eq id.now) self.now.writers }
     {
         self.writers.get(id).copied()
     }

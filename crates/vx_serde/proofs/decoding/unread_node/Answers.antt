@@ -15,7 +15,7 @@ returns-then-not-allows_unknown-clause-cause g c =
     let f = plugins_meaning (λ b. (goal.ArrayPlugin-dyn g (b.vtable, b.value)).means b.value) c.args.session.now.arrays.plugins.items in
     let s = session_meaning (λ b. (goal.ArrayPlugin-dyn g (b.vtable, b.value)).means b.value) (λ b. (goal.ExtPlugin-dyn g (b.vtable, b.value)).accepted b.value) c.args.session.now in
     caused_by_reader s (wire_in c.args.ids.now c.args.node.now) (typ c.args.dtype.now) c.args.len c.args.id.now c.requires.named (ap (λ z. option_and_then (entry_in f) z) c.requires.unread)
-    (sym c.allows_unknown.ensures.unknown ∙ c.if-not-allows_unknown.true)
+    (sym c.allows_unknown.ensures ∙ c.if-not-allows_unknown.true)
 
 pub returns-clause-told : goal.returns-clause-told
 returns-clause-told g c =
@@ -23,7 +23,7 @@ returns-clause-told g c =
     let s = session_meaning (λ b. (goal.ArrayPlugin-dyn g (b.vtable, b.value)).means b.value) (λ b. (goal.ExtPlugin-dyn g (b.vtable, b.value)).accepted b.value) c.args.session.now in
     if_ok c.keep_node.result _ _
     (λ t kept. kept_tells codec s c.args.id.now (wire_in c.args.ids.now c.args.node.now) (typ c.args.dtype.now) c.args.len t c.requires.named (ap (λ z. option_and_then (entry_in f) z) c.requires.unread)
-    (sym c.allows_unknown.ensures.unknown ∙ c.if-not-allows_unknown.false) kept) c.keep_node.ensures.kept
+    (sym c.allows_unknown.ensures ∙ c.if-not-allows_unknown.false) kept) c.keep_node.ensures.kept
 
 pub returns-clause-cause : goal.returns-clause-cause
 returns-clause-cause g c =
