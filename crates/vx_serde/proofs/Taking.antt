@@ -17,8 +17,9 @@ use Rattle.vx_wire_tree.specs.Context.{Context}
 use Rattle.vx_wire_tree.specs.Fields.{FitsMessage, told}
 use Rattle.vx_wire_tree.specs.Limits.{HasMessage, HasMessages}
 use Rattle.vx_wire_tree.specs.Plugin.{PluginMeaning, Parts, Answer, none, refused, given}
-use Rattle.vx_wire_tree.specs.Session.{SessionMeaning, Reader, shipped, plugin}
+use Rattle.vx_wire_tree.specs.Session.{SessionMeaning, Reader, shipped, plugin, IsShipped}
 use Rattle.vx_wire_tree.specs.Taken.{Step, written, unwritten, Unwritten, unregistered, unserializable, undeclared, unwilling, IsWrittenStep, given_head, foreign_step, plugin_step, writer_step, step_by, step, step_head, step_below, each, Each, Any, taken, IsTaken, HasUntaken}
+use Rattle.vx_wire_tree.proofs.Laws.{taken_own}
 use Rattle.vx_encodings.specs.Messages.{message_bytes}
 use Rattle.vx_registry.specs.Serialization.{IsUnserialized, HasLargeMetadata}
 use Rattle.vx_registry.specs.Plugin.{parts_in}
@@ -26,9 +27,9 @@ use Rattle.vx_registry.specs.declared.error.RegistryError.{RegistryError}
 use Rattle.vx_registry.specs.declared.error.RegistryError.TheVariants as registry
 use Rattle.vx_registry.specs.declared.serialization.ArraySerialization.{ArraySerialization}
 use Rattle.vx_serde.specs.declared.error.WireError.{WireError}
-use Rattle.vx_serde.specs.declared.error.WireError.TheVariants.{OutOfMemory, WireLimit, NotRegistered, NotSerializable, UndeclaredId, PluginRefused}
+use Rattle.vx_serde.specs.declared.error.WireError.TheVariants.{OutOfMemory, NotPermitted, WireLimit, NotRegistered, NotSerializable, UndeclaredId, PluginRefused}
 use Rattle.vx_serde.specs.declared.options.SerializeOptions.{SerializeOptions}
-use Rattle.vx_serde.specs.Causes.{RefusesArray}
+use Rattle.vx_serde.specs.Causes.{RefusesWriting, RefusesArray}
 use Rattle.vx_serde.specs.Errors.{registry_refusal}
 use Rattle.vx_serde.specs.declared.taken.GivenParts.{GivenParts}
 use Rattle.vx_serde.specs.Taking.{as_written, taken_head, StandsAs, KeepsBelow, IsGivenAs, RefusesOwn, RefusesStep, RefusesTaking, RefusesOneOf}
@@ -209,9 +210,9 @@ stands_by s n (Some g) us ts vs k e = tt
 -- ---- a root by what is written of it
 
 -- As it stands.
-module _ (s : SessionMeaning) (t : Tree) (g : Option GivenParts) (ts : Trees) (none : g ≡ None) (e : ts ≡ below t) where
-  pub own_step : step s t ≡ written (label t) (below t) → step s t ≡ written (taken_head (label t) g) ts
-  own_step w = w ∙ (λ i. written (taken_head (label t) (sym none i)) (sym e i))
+module _ (t : Tree) (g : Option GivenParts) (ts : Trees) (none : g ≡ None) (e : ts ≡ below t) where
+  pub own_step : (s : SessionMeaning) → step s t ≡ written (label t) (below t) → step s t ≡ written (taken_head (label t) g) ts
+  own_step s w = w ∙ (λ i. written (taken_head (label t) (sym none i)) (sym e i))
 
   pub own_message : HasMessage (label t) (below t) → HasMessage (taken_head (label t) g) ts
   own_message m = subst (λ z. HasMessage (taken_head (label t) z) ts) (sym none) (subst (λ z. HasMessage (label t) z) (sym e) m)
@@ -253,3 +254,15 @@ no_room s room t e = subst (λ m. RefusesTaking s m t WireLimit) (sym e) (inl (o
 -- A node and those below it have messages, and so many levels.
 pub own_messages : (s : SessionMeaning) (n : ℕ) (h : Head) (us ts : Trees) → us ≡ each (taken s n) ts → HasMessage h ts → EverywhereBelow HasMessage us → HasMessages (node h us)
 own_messages s n h us ts e m k = (message_by_places s h ts us (sym (stands_at s n us ts e)) m, k)
+
+-- ---- an array that is taken, and has no blob
+
+pub without_blob : (s : SessionMeaning) (o : SerializeOptions) (t : Tree) (c : Context) (e : WireError) → RefusesWriting s (as_written s o t) c o e → RefusesArray s t c o e
+without_blob s o t c OutOfMemory k = tt
+without_blob s o t c NotPermitted k = k
+without_blob s o t c WireLimit k = k
+without_blob s o t c _ k = absurd k
+
+-- What is taken, where no plugin writes, is the array.
+pub taken_as_own : (s : SessionMeaning) (t u : Tree) → IsShipped s → u ≡ taken s 62 t → IsTaken s 62 t → levels u ≤ 62 → u ≡ t
+taken_as_own s t u ok e k l = e ∙ taken_own s ok 62 t k (omega (arith, l, ap (λ z. levels z) e))

@@ -244,8 +244,14 @@ fn root_of<'a>(
     ensures cause { (x : ExtMeaning) → x.unknown ≡ unknown → IfErr result (RefusesStep (step (arrays_meaning (λ b. means (b.vtable, b.value)) arrays.now x) (source_tree source.now))) }
 {
     match written_root(alloc, source.array(), arrays, unknown) {
-        Ok(WrittenRoot::Own) => own_root(alloc, source),
-        Ok(WrittenRoot::Given(parts)) => given_root(alloc, parts),
+        Ok(WrittenRoot::Own) => match own_root(alloc, source) {
+            Ok(root) => Ok(root),
+            Err(e) => Err(e),
+        },
+        Ok(WrittenRoot::Given(parts)) => match given_root(alloc, parts) {
+            Ok(root) => Ok(root),
+            Err(e) => Err(e),
+        },
         Ok(WrittenRoot::Nothing) => Err(WireError::NotSerializable),
         Err(e) => Err(WireError::from(e)),
     }
