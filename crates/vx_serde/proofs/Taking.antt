@@ -1,7 +1,8 @@
 -- What is written of an array, node by node, and why a node is not.
 use Rattle.std.specs.Prelude.{bytes_eq, if◌then◌else◌}
 use Rattle.std.specs.List.{list_any}
-use Rattle.std.proofs.Common.{ℕ, zero, suc, Option, Some, None, Bool, true, false, ◌≡◌, ◌<◌, ◌≤◌, ◌+◌, ◌⊎◌, inl, inr, List, [], ◌∷◌, ◌++◌, refl, sym, ap, ◌∙◌, subst, arith}
+use Rattle.std.proofs.Common.{ℕ, zero, suc, Option, Some, None, Bool, true, false, ◌≡◌, ◌<◌, ◌≤◌, ◌+◌, ◌⊎◌, inl, inr, List, [], ◌∷◌, ◌++◌, map, refl, sym, ap, ◌∙◌, subst, arith}
+use Rattle.std.proofs.lemmas.List.{map-append}
 use Rattle.vx_trees.specs.Rose.{node, end, more, label, below, roses_of}
 use Rattle.vx_trees.specs.Walks.{levels, levels_below}
 use Rattle.vx_trees.specs.Everywhere.{EverywhereBelow}
@@ -32,7 +33,8 @@ use Rattle.vx_serde.specs.declared.options.SerializeOptions.{SerializeOptions}
 use Rattle.vx_serde.specs.Causes.{RefusesWriting, RefusesArray}
 use Rattle.vx_serde.specs.Errors.{registry_refusal}
 use Rattle.vx_serde.specs.declared.taken.GivenParts.{GivenParts}
-use Rattle.vx_serde.specs.Taking.{as_written, taken_head, StandsAs, KeepsBelow, IsGivenAs, RefusesOwn, RefusesStep, RefusesTaking, RefusesOneOf}
+use Rattle.vx_serde.specs.declared.taken.Source.{Source}
+use Rattle.vx_serde.specs.Taking.{as_written, source_tree, source_trees, taken_head, StandsAs, KeepsBelow, IsGivenAs, RefusesOwn, RefusesStep, RefusesTaking, RefusesOneOf}
 use Rattle.vx_serde.proofs.WiredNodes.{wired-levels}
 
 -- Where a node stands.
@@ -266,3 +268,10 @@ without_blob s o t c _ k = absurd k
 -- What is taken, where no plugin writes, is the array.
 pub taken_as_own : (s : SessionMeaning) (t u : Tree) → IsShipped s → u ≡ taken s 62 t → IsTaken s 62 t → levels u ≤ 62 → u ≡ t
 taken_as_own s t u ok e k l = e ∙ taken_own s ok 62 t k (omega (arith, l, ap (λ z. levels z) e))
+
+-- ---- one of several sources
+
+pub source_refused : (s : SessionMeaning) (n : ℕ) (items xs rest : List Source) (x : Source) (e : WireError) → items ≡ xs ++ x ∷ rest → RefusesTaking s n (source_tree x) e → RefusesOneOf s n (source_trees items) e
+source_refused s n items xs rest x e p k =
+    let q : source_trees items ≡ roses_of (map source_tree xs ++ source_tree x ∷ map source_tree rest) = ap (λ z. source_trees z) p ∙ ap (λ z. roses_of z) (map-append source_tree xs (x ∷ rest)) in
+    subst (λ z. RefusesOneOf s n z e) (sym q) (one_refused s n (map source_tree xs) (map source_tree rest) (source_tree x) e k)
