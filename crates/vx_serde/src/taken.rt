@@ -302,11 +302,11 @@ pub(crate) fn take<'a>(
     unknown: bool,
     room: usize,
 ) -> Result<TakenNode<'a>, WireError>
-    ensures tree { (x : ExtMeaning) → x.unknown ≡ unknown → IfOk result (λ n. n ≡ taken (arrays_meaning (λ b. means (b.vtable, b.value)) arrays.now x) room (source_tree source)) }
-    ensures written { (x : ExtMeaning) → x.unknown ≡ unknown → OnOk result (IsTaken (arrays_meaning (λ b. means (b.vtable, b.value)) arrays.now x) room (source_tree source)) }
+    ensures tree { (x : ExtMeaning) → x.unknown ≡ unknown → IfOk result (λ n. n ≡ taken (arrays_meaning (λ b. means (b.vtable, b.value)) arrays.now x) room (source_tree source.entry)) }
+    ensures written { (x : ExtMeaning) → x.unknown ≡ unknown → OnOk result (IsTaken (arrays_meaning (λ b. means (b.vtable, b.value)) arrays.now x) room (source_tree source.entry)) }
     ensures levels { IfOk result (λ n. levels n ≤ room) }
     ensures messages { IfOk result HasMessages }
-    ensures cause { (x : ExtMeaning) → x.unknown ≡ unknown → IfErr result (RefusesTaking (arrays_meaning (λ b. means (b.vtable, b.value)) arrays.now x) room (source_tree source)) }
+    ensures cause { (x : ExtMeaning) → x.unknown ≡ unknown → IfErr result (RefusesTaking (arrays_meaning (λ b. means (b.vtable, b.value)) arrays.now x) room (source_tree source.entry)) }
 {
     if room == 0 {
         return Err(WireError::WireLimit);
