@@ -30,7 +30,7 @@ use Rattle.vx_wire_tree.specs.Tells.{Tells}
 use Rattle.vx_wire_tree.specs.Wire.{Wire, Wires, WireHead, IsWhole, ids_in, all_present}
 use Rattle.vx_wire_tree.specs.Returns.{IsOwnCanon, Returns}
 use Rattle.vx_wire_tree.specs.Taken.{taken, IsTaken, Unwritten, HasUntaken}
-use Rattle.vx_wire_tree.specs.Written.{body_id, spelled, wire, canon}
+use Rattle.vx_wire_tree.specs.Written.{writes_two, body_id, spelled, wire, canon}
 use Rattle.vx_wire_tree.proofs.Built as Built
 use Rattle.vx_wire_tree.proofs.Kept as Kept
 use Rattle.vx_wire_tree.proofs.Matched as Matched
@@ -45,7 +45,7 @@ use Rattle.vx_wire_tree.proofs.WrittenAlike as WrittenAlike
 module _ (c : Codec) (s : SessionMeaning) where
   -- A foreign node is spelled as what it keeps.
   pub own_spelling : Canon.SpellsOwn (spelled c s)
-  own_spelling h ts x e = ap (λ b. record { id = body_id s b h.len; metadata = metadata_bytes c (told (metadata_of b (places ts))); buffers = buffers_of b }) e
+  own_spelling h ts x e = ap (λ b. record { id = body_id (writes_two s) b h.len; metadata = metadata_bytes c (told (metadata_of b (places ts))); buffers = buffers_of b }) e
 
   -- A sound normal array is read back as itself, where its statistics are kept, and in any case but for
   -- statistics; it is written as what is read back.

@@ -33,7 +33,7 @@ use Rattle.vx_wire_tree.specs.Revised.{revised_holds}
 use Rattle.vx_wire_tree.specs.Session.{SessionMeaning, Reader, shipped, revised, plugin, IsPaired}
 use Rattle.vx_wire_tree.specs.Taken.{Step, written, unwritten, undeclared, given_head, foreign_step, plugin_step, writer_step, step_by, step_head, step_below, each, Each, taken}
 use Rattle.vx_wire_tree.specs.Wire.{WireHead, all_present}
-use Rattle.vx_wire_tree.specs.Written.{id_under, written_id, spelled, wire_head, wire, wires}
+use Rattle.vx_wire_tree.specs.Written.{writes_two, id_under, written_id, spelled, wire_head, wire, wires}
 use Rattle.vx_wire_tree.proofs.ReadAgain.{meant_told, own_bytes}
 use Rattle.vx_wire_tree.proofs.TwoIdentifiers.{holds_own, native_under, revised_under, read_shipped, read_revised, node_by}
 
@@ -144,7 +144,7 @@ module _ (c : Codec) (s : SessionMeaning) (law : IsLawful c s) (paired : IsPaire
   revised_told h native w r =
       let own = distinct_ids (encoding_of h.body) E.primitive (paired.own_revised (id_of (encoding_of h.body)) w) in
       let writer : s.writer Primitives.id ≡ Some revised = ap (λ e. s.writer (id_of e)) (sym own) ∙ w in
-      let under = native_under s h.body h.len native ∙ ap (λ e. id_under s e h.len) own ∙ revised_under s h.len writer in
+      let under = native_under (writes_two s) h.body h.len native ∙ ap (λ e. id_under (writes_two s) e h.len) own ∙ revised_under s h.len writer in
       let held : IsTrue (revised_holds (written_id s h) h.len) = subst (λ (id : List ℕ). IsTrue (revised_holds id h.len)) (sym under) (holds_own h.len) in
       subst (λ (e : Encoding). IsReadAs (s.reader (written_id s h)) e (written_id s h) h.len) (sym own) (read_revised (s.reader (written_id s h)) (written_id s h) h.len r held)
 

@@ -34,7 +34,7 @@ use Rattle.vx_wire_tree.specs.Reads.{IsMetadata}
 use Rattle.vx_wire_tree.specs.Revised.{revised_name, revised_holds}
 use Rattle.vx_wire_tree.specs.Session.{SessionMeaning, Reader, shipped, revised, plugin, IsShippedReader, IsShipped, IsPaired, IsReadAgainBy, IsRevisedAgainBy}
 use Rattle.vx_wire_tree.specs.Wire.{all_present}
-use Rattle.vx_wire_tree.specs.Written.{id_under, body_id, written_id, spelled, wire_head, wire, wires, canon}
+use Rattle.vx_wire_tree.specs.Written.{id_under, writes_two, body_id, written_id, spelled, wire_head, wire, wires, canon}
 use Rattle.vx_wire_tree.proofs.TwoIdentifiers.{holds_own, native_under, own_under, revised_under, read_shipped, read_revised, node_by}
 
 nullable_again : (n : Nullability) → nullable_if (is_nullable n) ≡ n
@@ -110,7 +110,7 @@ module _ (c : Codec) (s : SessionMeaning) where
     foreign_again : (d : Typ) (h : Head) (ts : Trees) (x : Foreigns.Data) → h.body ≡ B.foreign x → IsKept s x → Matches c s (wire c s (node h ts)) (foreign_node (spelled c s) d h ts)
     foreign_again d h ts x e k =
         let t = foreign_node (spelled c s) d h ts in
-        let r : s.reader (written_id s h) ≡ None = ap (λ b. s.reader (body_id s b h.len)) e ∙ k.reader in
+        let r : s.reader (written_id s h) ≡ None = ap (λ b. s.reader (body_id (writes_two s) b h.len)) e ∙ k.reader in
         (written_id s h, refl, subst (λ z. IsNodeBy c s z (wire_head c s h ts) (wires c s ts) t (λ us. AllMatch c s (wires c s ts) us)) (sym r) (k.allowed, raw_again d h.len (node h ts)))
 
     mutual
@@ -149,7 +149,7 @@ read_by_revised (Some (shipped f)) ok b = absurd b
 module _ (c : Codec) (s : SessionMeaning) (ok : IsShipped s) (paired : IsPaired s) where
   -- What nodes of an encoding are written under is read by it.
   abbrev ReadsAs : Encoding → ℕ → Type 0
-  ReadsAs e n = IsReadAs (s.reader (id_under s e n)) e (id_under s e n) n
+  ReadsAs e n = IsReadAs (s.reader (id_under (writes_two s) e n)) e (id_under (writes_two s) e n) n
 
   by_length : (n : ℕ) (b : Bool) → nat_le n 4 ≡ b → s.writer Primitives.id ≡ Some revised → s.reader (if b then Primitives.id else revised_name) ≡ Some revised
   by_length n true q w = read_by_revised (s.reader Primitives.id) (ok.reads Primitives.id) (paired.revised_is_read w).0
@@ -159,14 +159,14 @@ module _ (c : Codec) (s : SessionMeaning) (ok : IsShipped s) (paired : IsPaired 
   revised_as n w =
       let under = revised_under s n w in
       let r = ap (λ id. s.reader id) under ∙ by_length n (nat_le n 4) refl w in
-      read_revised (s.reader (id_under s E.primitive n)) (id_under s E.primitive n) n r (subst (λ (id : List ℕ). IsTrue (revised_holds id n)) (sym under) (holds_own n))
+      read_revised (s.reader (id_under (writes_two s) E.primitive n)) (id_under (writes_two s) E.primitive n) n r (subst (λ (id : List ℕ). IsTrue (revised_holds id n)) (sym under) (holds_own n))
 
   written_by : (e : Encoding) (n : ℕ) (r : Reader) → IsShippedReader (Some r) → s.writer (id_of e) ≡ Some r → ReadsAs e n
   written_by e n (plugin p) q w = absurd q
   written_by e n (shipped f) q w =
       let same = distinct_ids e f (paired.own_identifier (id_of e) f w) in
       let r = read_by_shipped f (s.reader (id_of e)) (ok.reads (id_of e)) (paired.written_is_read (id_of e) f w) ∙ ap (λ g. Some (shipped g)) (sym same) in
-      read_shipped (s.reader (id_under s e n)) e (id_under s e n) n (ap (λ id. s.reader id) (own_under s e f n w) ∙ r)
+      read_shipped (s.reader (id_under (writes_two s) e n)) e (id_under (writes_two s) e n) n (ap (λ id. s.reader id) (own_under s e f n w) ∙ r)
   written_by e n revised q w =
       let same = distinct_ids e E.primitive (paired.own_revised (id_of e) w) in
       let writer : s.writer Primitives.id ≡ Some revised = ap (λ g. s.writer (id_of g)) (sym same) ∙ w in
@@ -181,7 +181,7 @@ module _ (c : Codec) (s : SessionMeaning) (ok : IsShipped s) (paired : IsPaired 
       let x = native_writer h.body native w in
       record {
         reader =
-            subst (λ (id : List ℕ). IsReadAs (s.reader id) (encoding_of h.body) id h.len) (sym (native_under s h.body h.len native))
+            subst (λ (id : List ℕ). IsReadAs (s.reader id) (encoding_of h.body) id h.len) (sym (native_under (writes_two s) h.body h.len native))
             (written_by (encoding_of h.body) h.len x.writer (subst (λ z. IsShippedReader z) x.writer_is (ok.writes (id_of (encoding_of h.body)))) x.writer_is);
         message = m;
         known = k;

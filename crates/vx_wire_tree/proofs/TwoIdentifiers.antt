@@ -5,7 +5,7 @@ use Rattle.vx_array_tree.specs.Body as B
 use Rattle.vx_array_tree.specs.Encoding.{Encoding}
 use Rattle.vx_array_tree.specs.Encoding as E
 use Rattle.vx_array_tree.specs.Encodings.Primitives as Primitives
-use Rattle.vx_array_tree.specs.Table.{encoding_of, id_of, IsNative}
+use Rattle.vx_array_tree.specs.Table.{encoding_of, id_of, own_id, IsNative}
 use Rattle.vx_array_tree.specs.Tree.{Tree, Trees}
 use Rattle.vx_trees.specs.Rose.{label}
 use Rattle.vx_wire_tree.specs.Codec.{Codec}
@@ -14,7 +14,7 @@ use Rattle.vx_wire_tree.specs.ReadBack.{IsReadAs}
 use Rattle.vx_wire_tree.specs.Revised.{revised_name, revised_holds, revised_id}
 use Rattle.vx_wire_tree.specs.Session.{SessionMeaning, Reader, shipped, revised, plugin, encoding_by, IsPaired}
 use Rattle.vx_wire_tree.specs.Wire.{WireHead, Wires}
-use Rattle.vx_wire_tree.specs.Written.{long_id, id_under, body_id}
+use Rattle.vx_wire_tree.specs.Written.{is_revised, writes_two, id_under, body_id}
 
 -- ---- identifiers and lengths
 
@@ -30,20 +30,31 @@ either_way : (b : Bool) (x : List ℕ) → (if b then x else x) ≡ x
 either_way true x = refl
 either_way false x = refl
 
-module _ (s : SessionMeaning) where
-  -- What a node of a known encoding is written under goes by its encoding and its length.
-  pub native_under : (b : Body) (n : ℕ) → IsNative b → body_id s b n ≡ id_under s (encoding_of b) n
-  native_under (B.foreign x) n k = absurd k
-  native_under _ n k = refl
+-- What a node of a known encoding is written under goes by its encoding and its length.
+pub native_under : (two : Bool) (b : Body) (n : ℕ) → IsNative b → body_id two b n ≡ id_under two (encoding_of b) n
+native_under two (B.foreign x) n k = absurd k
+native_under two _ n k = refl
 
-  -- Where an encoding writes primitives, it is the encoding's own identifier.
-  pub own_under : (e f : Encoding) (n : ℕ) → s.writer (id_of e) ≡ Some (shipped f) → id_under s e n ≡ id_of e
-  own_under E.primitive f n w = ap (λ r. if nat_le n 4 then Primitives.id else long_id r) w ∙ either_way (nat_le n 4) Primitives.id
+-- Where primitives are not written under two identifiers, it is the encoding's own.
+pub one_under : (e : Encoding) (n : ℕ) → id_under false e n ≡ id_of e
+one_under E.primitive n = either_way (nat_le n 4) Primitives.id
+one_under _ n = refl
+
+-- And a body's is its own.
+pub one_own : (b : Body) (n : ℕ) → body_id false b n ≡ own_id b
+one_own (B.foreign x) n = refl
+one_own (B.primitive x) n = either_way (nat_le n 4) Primitives.id
+one_own _ n = refl
+
+module _ (s : SessionMeaning) where
+  -- Where an encoding writes its arrays, it is the encoding's own identifier.
+  pub own_under : (e f : Encoding) (n : ℕ) → s.writer (id_of e) ≡ Some (shipped f) → id_under (writes_two s) e n ≡ id_of e
+  own_under E.primitive f n w = ap (λ r. id_under (is_revised r) E.primitive n) w ∙ one_under E.primitive n
   own_under _ f n w = refl
 
-  -- Where they are written under two, it is the one of their length.
-  pub revised_under : (n : ℕ) → s.writer Primitives.id ≡ Some revised → id_under s E.primitive n ≡ revised_id n
-  revised_under n w = ap (λ r. if nat_le n 4 then Primitives.id else long_id r) w
+  -- Where primitives are written under two, it is the one of their length.
+  pub revised_under : (n : ℕ) → s.writer Primitives.id ≡ Some revised → id_under (writes_two s) E.primitive n ≡ revised_id n
+  revised_under n w = ap (λ r. id_under (is_revised r) E.primitive n) w
 
 -- ---- reading by an encoding
 

@@ -1,5 +1,5 @@
 -- The wire tree of an array, and the array that is read back from it.
-use Rattle.std.specs.Prelude.{ℕ, List, Option, Some, nat_le, if◌then◌else◌}
+use Rattle.std.specs.Prelude.{ℕ, List, Option, Some, Bool, true, false, nat_le, if◌then◌else◌}
 use Rattle.vx_trees.specs.Rose.{node, end, more, label}
 use Rattle.vx_array_tree.specs.Body.{Body}
 use Rattle.vx_array_tree.specs.Body as B
@@ -17,25 +17,33 @@ use Rattle.vx_wire_tree.specs.Revised.{revised_name}
 use Rattle.vx_wire_tree.specs.Session.{SessionMeaning, Reader, revised}
 use Rattle.vx_wire_tree.specs.Wire.{WireHead, Wire, Wires, all_present}
 
--- The identifier of primitives of more than four rows, by what writes primitives.
-abbrev pub long_id : Option Reader → List ℕ
-long_id (Some revised) = revised_name
-long_id _ = Primitives.id
+-- Primitives are written under two identifiers, by what writes them.
+abbrev pub is_revised : Option Reader → Bool
+is_revised (Some revised) = true
+is_revised _ = false
+
+-- So it is under a session.
+abbrev pub writes_two : SessionMeaning → Bool
+writes_two s = is_revised (s.writer Primitives.id)
 
 -- The identifier under which nodes of an encoding, of so many rows, are written: the encoding's, but that primitives of more
--- than four rows have the second one while they are written under two.
-abbrev pub id_under : SessionMeaning → Encoding → ℕ → List ℕ
-id_under s E.primitive n = if nat_le n 4 then Primitives.id else long_id (s.writer Primitives.id)
-id_under s e n = id_of e
+-- than four rows have the second one where they are written under two.
+abbrev pub id_under : Bool → Encoding → ℕ → List ℕ
+id_under two E.primitive n = if nat_le n 4 then Primitives.id else (if two then revised_name else Primitives.id)
+id_under two e n = id_of e
 
 -- A body's, of so many rows: a foreign one has its own.
-abbrev pub body_id : SessionMeaning → Body → ℕ → List ℕ
-body_id s (B.foreign x) n = x.id
-body_id s b n = id_under s (encoding_of b) n
+abbrev pub body_id : Bool → Body → ℕ → List ℕ
+body_id two (B.foreign x) n = x.id
+body_id two b n = id_under two (encoding_of b) n
 
 -- A node's.
+abbrev pub head_id : Bool → Head → List ℕ
+head_id two h = body_id two h.body h.len
+
+-- A node's under a session.
 abbrev pub written_id : SessionMeaning → Head → List ℕ
-written_id s h = body_id s h.body h.len
+written_id s h = head_id (writes_two s) h
 
 -- How a node is spelled: its identifier, the bytes of its metadata, its buffers.
 abbrev pub spelled : Codec → SessionMeaning → Head → Trees → Foreigns.Data
