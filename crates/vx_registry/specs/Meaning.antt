@@ -6,11 +6,11 @@ use Rattle.vx_types.specs.Known.{ExtMeaning}
 use Rattle.vx_types.specs.Typ.{Typ}
 use Rattle.vx_type_wire.specs.Session.{ext_meaning}
 use Rattle.vx_wire_tree.specs.Plugin.{PluginMeaning}
-use Rattle.vx_wire_tree.specs.Session.{Reader, plugin, SessionMeaning}
-use Rattle.vx_registry.specs.Session.{Plugins, entry, own_id, tables_meaning}
+use Rattle.vx_wire_tree.specs.Session.{Reader, revised, plugin, SessionMeaning}
+use Rattle.vx_registry.specs.Session.{Plugins, both_ids, entry, own_id, tables_meaning}
 use Rattle.vx_registry.specs.declared.array_session.ArraySession.{ArraySession}
 use Rattle.vx_registry.specs.declared.session.PluginEntry.{PluginEntry}
-use Rattle.vx_registry.specs.declared.session.PluginEntry.TheVariants.{Shipped, Boxed}
+use Rattle.vx_registry.specs.declared.session.PluginEntry.TheVariants.{Shipped, Revised, Boxed}
 use Rattle.vx_registry.specs.declared.session.VortexSession.{VortexSession}
 
 module _ {Y : Type 0} {G : Y → Type 0} (means : DynBox Y Global G → PluginMeaning) where
@@ -25,11 +25,13 @@ module _ {Y : Type 0} {G : Y → Type 0} (means : DynBox Y Global G → PluginMe
   -- What an entry reads or writes nodes as.
   abbrev pub entry_reader : PluginEntry Y G → Reader
   entry_reader (Shipped e) = entry e
+  entry_reader Revised = revised
   entry_reader (Boxed b) = plugin (means b)
 
-  -- The identifiers that an entry reads: its encoding's, or those that its plugin declares.
+  -- The identifiers that an entry reads: its encoding's, both of primitives, or those that its plugin declares.
   abbrev pub entry_ids : PluginEntry Y G → List (List ℕ)
   entry_ids (Shipped e) = own_id e ∷ []
+  entry_ids Revised = both_ids
   entry_ids (Boxed b) = (means b).declared
 
   -- Its tables and plugins read and write arrays, and its boxed readers judge extension types, where it is given what a box

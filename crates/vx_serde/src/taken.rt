@@ -23,7 +23,7 @@ use std::marker::Model;
 use vx_arrays::Array;
 use vx_buffer::{BufferHandle, BufferHandles};
 use vx_encodings::{has_message, metadata};
-use vx_registry::{ArraySession, RegistryError, WrittenRoot, written_root};
+use vx_registry::{ArraySession, RegistryError, WrittenRoot, written_id, written_root};
 use vx_scalars::StatsSet;
 use vx_types::{Blob, Id};
 
@@ -147,13 +147,20 @@ impl From<RegistryError> for WireError {
 }
 
 impl<'a> TakenNode<'a> {
-    /// The identifier under which the node is written.
-    pub(crate) fn encoding_id(&self) -> &str
-        ensures { result.now ≡ array_id self.now }
+    /// The identifier under which the node is written, where primitives are written under two or not.
+    pub(crate) fn written_id(&self, alloc: Global, two: bool) -> Result<Id, WireError>
+        ensures ok { IfOk result (λ id. id ≡ array_id two self.now) }
+        ensures err { IsOkUnless result WireError.OutOfMemory }
     {
         match &self.given {
-            Some(given) => given.id.as_str(),
-            None => self.source.array().encoding_id(),
+            Some(given) => match given.id.clone(alloc) {
+                Ok(id) => Ok(id),
+                Err(_) => Err(WireError::OutOfMemory),
+            },
+            None => match written_id(alloc, self.source.array(), two) {
+                Ok(id) => Ok(id),
+                Err(_) => Err(WireError::OutOfMemory),
+            },
         }
     }
 
