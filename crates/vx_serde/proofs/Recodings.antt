@@ -1,7 +1,6 @@
 -- What recoding a blob gives, what it leaves, and why it does not.
-use Rattle.std.proofs.Common.{ℕ, ◌≡◌, List, [], ◌++◌, Option, None, Some, replicate, refl, sym, ap, ◌∙◌, subst, inl, inr, append-nil, arith}
-use Rattle.std.specs.Prelude.{Contains, IsSome}
-use Rattle.std.proofs.lemmas.List.Elements.{All-nil}
+use Rattle.std.proofs.Common.{ℕ, ◌≡◌, List, [], ◌++◌, Option, None, Some, replicate, refl, sym, ap, ◌∙◌, subst, inl, inr, arith}
+use Rattle.std.specs.Prelude.{IsSome}
 use Rattle.vx_buffer.specs.Buffer.{Buffer}
 use Rattle.vx_array_tree.specs.Tree.{Tree, Trees}
 use Rattle.vx_flat.specs.Weight.{weight}
@@ -45,6 +44,7 @@ use Rattle.vx_serde.specs.Taking.{as_written}
 use Rattle.vx_serde.proofs.CarriedOnce.{one_blob}
 use Rattle.vx_serde.proofs.OneArray.{spelled_once}
 use Rattle.vx_serde.proofs.WrittenAgain.{spelled_again}
+use Rattle.vx_serde.proofs.Growing.{kept-same}
 use Rattle.vx_serde.proofs.WiredNodes.{wired-levels}
 
 -- An opened blob spells the array that its wire tree tells.
@@ -153,14 +153,11 @@ faithful asked made ok law paired spelled recoded =
 
 -- ---- what is left
 
-nothing_came : (ids : List (List ℕ)) (c : Context) → KeepsContext ids c c
-nothing_came ids c = record { added = []; front = sym (append-nil c.ids); among = All-nil (λ id. Contains ids id); permissions = refl }
-
 -- A context that is as it was.
 pub left-still : (asked : Request) → LeavesContext asked asked.context
 left-still asked = record {
   some = inl refl;
-  kept = λ shipped array spelled. nothing_came (ids_in (wire codec asked.session array)) asked.context;
+  kept = λ shipped array spelled. kept-same (ids_in (wire codec asked.session array)) asked.context asked.context refl;
   untouched = λ none. refl;
 }
 

@@ -59,6 +59,10 @@ impl<'a> ArrayNodeFlatBuffer<'a> {
         ensures taken { let s = session_meaning (λ b. means (b.vtable, b.value)) (λ b. accepted (b.vtable, b.value)) session.now in OnOk result (IsTaken s 62 array.now) }
         ensures cause { let s = session_meaning (λ b. means (b.vtable, b.value)) (λ b. accepted (b.vtable, b.value)) session.now in IfErr result (RefusesArray s array.now ctx.old plain_options) }
     {
+        let two = match session.arrays.writes_two(alloc) {
+            Ok(two) => two,
+            Err(_) => return Err(WireError::OutOfMemory),
+        };
         let unknown = session.allows_unknown();
         let array = take(
             alloc,
@@ -67,10 +71,6 @@ impl<'a> ArrayNodeFlatBuffer<'a> {
             unknown,
             MAX_LEVELS,
         )?;
-        let two = match session.arrays.writes_two(alloc) {
-            Ok(two) => two,
-            Err(_) => return Err(WireError::OutOfMemory),
-        };
         Ok(ArrayNodeFlatBuffer { ctx, array, two })
     }
 

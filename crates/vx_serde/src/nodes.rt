@@ -119,7 +119,7 @@ pub(crate) fn write_node(
     builder.link(node, 3);
     write_elements(2, &parts.buffers, builder)?;
     builder.link(node, 4);
-    write_statistics(alloc, array.statistics(), builder)?;
+    write_statistics(alloc, array, builder)?;
     Ok(())
 }
 

@@ -1,21 +1,20 @@
 //! An array as it is written: each node as its writer takes it.
 
-ghost use Rattle.std.specs.Prelude.{◌≡◌, ◌≤◌, ◌<◌, Some, length, slice_get, IfOk, IfErr, OnOk, IsOkUnless};
-ghost use Rattle.vx_trees.specs.Everywhere.{EverywhereBelow};
+ghost use Rattle.std.specs.Prelude.{◌≡◌, ◌≤◌, ◌<◌, Some, None, length, slice_get, IfOk, IfErr, OnOk, IsOkUnless};
 ghost use Rattle.vx_trees.specs.Rose.{label, below, roses_of};
-ghost use Rattle.vx_trees.specs.Walks.{levels, levels_below};
+ghost use Rattle.vx_trees.specs.Walks.{levels};
 ghost use Rattle.vx_types.specs.Known.{ExtMeaning};
 ghost use Rattle.vx_scalars.specs.Stats.{FitStats};
 ghost use Rattle.vx_array_tree.specs.Sound.{metadata_in};
 ghost use Rattle.vx_array_tree.specs.Table.{buffers_of};
 ghost use Rattle.vx_wire_tree.specs.Fields.{told};
 ghost use Rattle.vx_wire_tree.specs.Limits.{HasMessage, HasMessages};
-ghost use Rattle.vx_wire_tree.specs.Taken.{taken, each, IsTaken, Each};
+ghost use Rattle.vx_wire_tree.specs.Taken.{step, written, taken, IsTaken};
 ghost use Rattle.vx_encodings.specs.Messages.{message_bytes};
 ghost use Rattle.vx_registry.specs.Meaning.{arrays_meaning};
 ghost use Rattle.vx_registry.specs.Serialization.{array_id};
 ghost use Rattle.vx_serde.specs.Errors.{registry_refusal};
-ghost use Rattle.vx_serde.specs.Taking.{source_tree, source_trees, RefusesTaking, RefusesOneOf};
+ghost use Rattle.vx_serde.specs.Taking.{source_tree, source_trees, taken_head, KeepsBelow, IsGivenAs, RefusesOwn, RefusesStep, RefusesTaking};
 
 use crate::error::WireError;
 use std::alloc::Global;
@@ -23,7 +22,10 @@ use std::marker::Model;
 use vx_arrays::Array;
 use vx_buffer::{BufferHandle, BufferHandles};
 use vx_encodings::{has_message, metadata};
-use vx_registry::{ArraySession, RegistryError, WrittenRoot, written_id, written_root};
+use vx_registry::{
+    ArrayPlugin, ArraySerialization, ArraySession, RegistryError, WrittenRoot, written_id,
+    written_root,
+};
 use vx_scalars::StatsSet;
 use vx_types::{Blob, Id};
 
@@ -229,10 +231,78 @@ fn own_metadata(alloc: Global, array: &Array) -> Result<Blob, WireError>
     }
 }
 
+/// How an array's root is written: as it is, or with the parts that a plugin gives, and over which arrays.
+#[derive(Drop)]
+struct TakenRoot<'a> {
+    given: Option<GivenParts>,
+    below: Vec<Source<'a>>,
+}
+
+// How the root of an array is written: `WireLimit` where its metadata does not fit its message, else as `written_root`.
+fn root_of<'a>(
+    alloc: Global,
+    source: &Source<'a>,
+    arrays: &ArraySession,
+    unknown: bool,
+) -> Result<TakenRoot<'a>, WireError>
+    ensures step { (x : ExtMeaning) → x.unknown ≡ unknown → IfOk result (λ r. step (arrays_meaning (λ b. means (b.vtable, b.value)) arrays.now x) (source_tree source.now)
+        ≡ written (taken_head (label (source_tree source.now)) r.given) (source_trees r.below.items)) }
+    ensures message { IfOk result (λ r. HasMessage (taken_head (label (source_tree source.now)) r.given) (source_trees r.below.items)) }
+    ensures kept { IfOk result (λ r. KeepsBelow r.given (source_trees r.below.items) (below (source_tree source.now))) }
+    ensures cause { (x : ExtMeaning) → x.unknown ≡ unknown → IfErr result (RefusesStep (step (arrays_meaning (λ b. means (b.vtable, b.value)) arrays.now x) (source_tree source.now))) }
+{
+    match written_root(alloc, source.array(), arrays, unknown) {
+        Ok(WrittenRoot::Own) => match own_root(alloc, source) {
+            Ok(root) => Ok(root),
+            Err(e) => Err(e),
+        },
+        Ok(WrittenRoot::Given(parts)) => match given_root(alloc, parts) {
+            Ok(root) => Ok(root),
+            Err(e) => Err(e),
+        },
+        Ok(WrittenRoot::Nothing) => Err(WireError::NotSerializable),
+        Err(e) => Err(WireError::from(e)),
+    }
+}
+
+// A root that is written as it is.
+fn own_root<'a>(alloc: Global, source: &Source<'a>) -> Result<TakenRoot<'a>, WireError>
+    ensures given { IfOk result (λ r. r.given ≡ None) }
+    ensures below { IfOk result (λ r. source_trees r.below.items ≡ below (source_tree source.now)) }
+    ensures message { OnOk result (HasMessage (label (source_tree source.now)) (below (source_tree source.now))) }
+    ensures cause { IfErr result (RefusesOwn (source_tree source.now)) }
+{
+    if !has_message(source.array()) {
+        return Err(WireError::WireLimit);
+    }
+    match own_sources(alloc, source) {
+        Ok(below) => Ok(TakenRoot { given: None, below }),
+        Err(e) => Err(e),
+    }
+}
+
+// A root for which a plugin gave these parts.
+fn given_root<'a>(alloc: Global, parts: ArraySerialization) -> Result<TakenRoot<'a>, WireError>
+    ensures given { IfOk result (λ r. IsGivenAs parts r.given) }
+    ensures below { IfOk result (λ r. source_trees r.below.items ≡ parts.children) }
+    ensures err { IsOkUnless result WireError.OutOfMemory }
+{
+    match held_sources(alloc, parts.children.as_slice()) {
+        Ok(below) => Ok(TakenRoot {
+            given: Some(GivenParts {
+                id: parts.serialized_id,
+                metadata: parts.metadata,
+                buffers: parts.buffers,
+            }),
+            below,
+        }),
+        Err(e) => Err(e),
+    }
+}
+
 /// How the nodes of an array are written: `WireLimit` where there are more than `room` levels, whatever plugins give, or a
 /// node's metadata does not fit its message; `NotRegistered` where nothing writes a node, `NotSerializable`,
 /// `UndeclaredId` and `PluginRefused` where a plugin does not.
-#[cycle(taking)]
 pub(crate) fn take<'a>(
     alloc: Global,
     source: Source<'a>,
@@ -240,63 +310,32 @@ pub(crate) fn take<'a>(
     unknown: bool,
     room: usize,
 ) -> Result<TakenNode<'a>, WireError>
-    ensures tree { (x : ExtMeaning) → x.unknown ≡ unknown → IfOk result (λ n. n ≡ taken (arrays_meaning means arrays.now x) room (source_tree source)) }
-    ensures written { (x : ExtMeaning) → x.unknown ≡ unknown → OnOk result (IsTaken (arrays_meaning means arrays.now x) room (source_tree source)) }
+    ensures tree { (x : ExtMeaning) → x.unknown ≡ unknown → IfOk result (λ n. n ≡ taken (arrays_meaning (λ b. means (b.vtable, b.value)) arrays.now x) room (source_tree source)) }
+    ensures written { (x : ExtMeaning) → x.unknown ≡ unknown → OnOk result (IsTaken (arrays_meaning (λ b. means (b.vtable, b.value)) arrays.now x) room (source_tree source)) }
     ensures levels { IfOk result (λ n. levels n ≤ room) }
     ensures messages { IfOk result HasMessages }
-    ensures cause { (x : ExtMeaning) → x.unknown ≡ unknown → IfErr result (RefusesTaking (arrays_meaning means arrays.now x) room (source_tree source)) }
+    ensures cause { (x : ExtMeaning) → x.unknown ≡ unknown → IfErr result (RefusesTaking (arrays_meaning (λ b. means (b.vtable, b.value)) arrays.now x) room (source_tree source)) }
 {
     if room == 0 {
         return Err(WireError::WireLimit);
     }
-    match written_root(alloc, source.array(), arrays, unknown)? {
-        WrittenRoot::Own => {
-            if !has_message(source.array()) {
-                return Err(WireError::WireLimit);
-            }
-            let below = own_sources(alloc, &source)?;
-            let children = take_all(alloc, below, arrays, unknown, room - 1)?;
-            Ok(TakenNode {
-                source,
-                given: None,
-                children,
-            })
-        }
-        WrittenRoot::Given(parts) => {
-            let below = held_sources(alloc, parts.children.as_slice())?;
-            let children = take_all(alloc, below, arrays, unknown, room - 1)?;
-            Ok(TakenNode {
-                source,
-                given: Some(GivenParts {
-                    id: parts.serialized_id,
-                    metadata: parts.metadata,
-                    buffers: parts.buffers,
-                }),
-                children,
-            })
-        }
-        WrittenRoot::Nothing => Err(WireError::NotSerializable),
+    let root = match root_of(alloc, &source, arrays, unknown) {
+        Ok(root) => root,
+        Err(e) => return Err(e),
+    };
+    let mut children = Vec::new(alloc);
+    for below in root.below {
+        let child = match take(alloc, below, arrays, unknown, room - 1) {
+            Ok(child) => child,
+            Err(e) => return Err(e),
+        };
+        let Ok(()) = children.push(child) else {
+            return Err(WireError::OutOfMemory);
+        };
     }
-}
-
-// How the nodes of several arrays are written, where there is room for so many levels.
-#[cycle(taking)]
-fn take_all<'a>(
-    alloc: Global,
-    sources: Vec<Source<'a>>,
-    arrays: &ArraySession,
-    unknown: bool,
-    room: usize,
-) -> Result<Vec<TakenNode<'a>>, WireError>
-    ensures trees { (x : ExtMeaning) → x.unknown ≡ unknown → IfOk result (λ ns. roses_of ns.items ≡ each (taken (arrays_meaning means arrays.now x) room) (source_trees sources.items)) }
-    ensures written { (x : ExtMeaning) → x.unknown ≡ unknown → OnOk result (Each (λ t. IsTaken (arrays_meaning means arrays.now x) room t) (source_trees sources.items)) }
-    ensures levels { IfOk result (λ ns. levels_below (roses_of ns.items) ≤ room) }
-    ensures messages { IfOk result (λ ns. EverywhereBelow HasMessage (roses_of ns.items)) }
-    ensures cause { (x : ExtMeaning) → x.unknown ≡ unknown → IfErr result (RefusesOneOf (arrays_meaning means arrays.now x) room (source_trees sources.items)) }
-{
-    let mut nodes = Vec::new(alloc);
-    for source in sources {
-        nodes.push(take(alloc, source, arrays, unknown, room)?)?;
-    }
-    Ok(nodes)
+    Ok(TakenNode {
+        source,
+        given: root.given,
+        children,
+    })
 }

@@ -225,17 +225,17 @@ pub(crate) fn write_array(
     ctx: &mut ArrayContext,
     options: &SerializeOptions,
 ) -> Result<ByteBuffers, WireError>
-    ensures made { (x : ExtMeaning) → x.unknown ≡ unknown → IfOk result (λ bs. IsSerialized (arrays_meaning means arrays.now x) array.now options.now ctx.old ctx.new bs) }
-    ensures kept { (x : ExtMeaning) → x.unknown ≡ unknown → let s = arrays_meaning means arrays.now x in
+    ensures made { (x : ExtMeaning) → x.unknown ≡ unknown → IfOk result (λ bs. IsSerialized (arrays_meaning (λ b. means (b.vtable, b.value)) arrays.now x) array.now options.now ctx.old ctx.new bs) }
+    ensures kept { (x : ExtMeaning) → x.unknown ≡ unknown → let s = arrays_meaning (λ b. means (b.vtable, b.value)) arrays.now x in
         KeepsContext (ids_in (wire codec s (as_written s options.now array.now))) ctx.old ctx.new }
-    ensures own { (x : ExtMeaning) → x.unknown ≡ unknown → let s = arrays_meaning means arrays.now x in
+    ensures own { (x : ExtMeaning) → x.unknown ≡ unknown → let s = arrays_meaning (λ b. means (b.vtable, b.value)) arrays.now x in
         IsShipped s → KeepsContext (ids_in (wire codec s array.now)) ctx.old ctx.new }
-    ensures cause { (x : ExtMeaning) → x.unknown ≡ unknown → IfErr result (RefusesArray (arrays_meaning means arrays.now x) array.now ctx.old options.now) }
+    ensures cause { (x : ExtMeaning) → x.unknown ≡ unknown → IfErr result (RefusesArray (arrays_meaning (λ b. means (b.vtable, b.value)) arrays.now x) array.now ctx.old options.now) }
 {
-    let node = take(alloc, Source::Lent(array), arrays, unknown, MAX_LEVELS)?;
     let two = match arrays.writes_two(alloc) {
         Ok(two) => two,
         Err(_) => return Err(WireError::OutOfMemory),
     };
+    let node = take(alloc, Source::Lent(array), arrays, unknown, MAX_LEVELS)?;
     write_taken(alloc, &node, two, ctx, options)
 }
