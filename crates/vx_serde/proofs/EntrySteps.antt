@@ -1,5 +1,5 @@
 -- What an entry plans and builds, by what it is.
-use Rattle.std.proofs.Common.{ℕ, ◌≡◌, List, Option, Some, None, IsSome, Result, Ok, Err, refl, sym, ap, ◌∙◌, subst, length}
+use Rattle.std.proofs.Common.{ℕ, ◌≡◌, inl, List, Option, Some, None, IsSome, Result, Ok, Err, refl, sym, ap, ◌∙◌, subst, length}
 use Rattle.std.specs.Prelude.{option_map}
 use Rattle.vx_buffer.specs.Buffer.{Buffer}
 use Rattle.vx_trees.specs.Rose.{count}
@@ -8,10 +8,11 @@ use Rattle.vx_types.specs.Seen.{typ}
 use Rattle.vx_array_tree.specs.Place.{Place}
 use Rattle.vx_array_tree.specs.Tree.{Tree, Trees}
 use Rattle.vx_wire_tree.specs.Plugin.{PluginMeaning, NodeHead}
-use Rattle.vx_wire_tree.specs.Session.{Reader, shipped, plugin}
+use Rattle.vx_wire_tree.specs.Session.{Reader, shipped, revised, plugin}
 use Rattle.vx_encodings.specs.Plain.{plain_encoding}
 use Rattle.vx_encodings.specs.Steps.{IsUnplanned, IsUnbuilt}
 use Rattle.vx_encodings.specs.declared.encoding.Encoding.{Encoding}
+use Rattle.vx_encodings.specs.declared.encoding.Encoding.TheVariants.{Primitive}
 use Rattle.vx_encodings.specs.declared.error.EncodingError.{EncodingError}
 use Rattle.vx_encodings.specs.declared.error.EncodingError.TheVariants as encodings
 use Rattle.vx_encodings.specs.declared.head.ArrayHead.{ArrayHead}
@@ -39,6 +40,24 @@ unbuilt encodings.BadShape x g h bs ts u = u
 unbuilt encodings.BadContent x g h bs ts u = u
 unbuilt encodings.ForeignControl x g h bs ts u = u
 unbuilt encodings.WireLimit x g h bs ts u = absurd u
+
+-- ---- primitives under two identifiers
+
+pub revised_unplanned : (e : EncodingError) (x : ExtMeaning) (h : ArrayHead) → IsUnplanned e x Primitive h → RefusesPlan (encoding_refusal e) x (Some revised) h
+revised_unplanned encodings.OutOfMemory x h u = tt
+revised_unplanned encodings.BadMetadata x h u = u
+revised_unplanned encodings.BadShape x h u = inl u
+revised_unplanned encodings.BadContent x h u = absurd u
+revised_unplanned encodings.ForeignControl x h u = absurd u
+revised_unplanned encodings.WireLimit x h u = absurd u
+
+pub revised_unbuilt : (e : EncodingError) (x : ExtMeaning) (h : ArrayHead) (bs : List Buffer) (ts : Trees) → IsUnbuilt e x Primitive h bs ts → RefusesBuild (encoding_refusal e) x (Some revised) h bs ts
+revised_unbuilt encodings.OutOfMemory x h bs ts u = tt
+revised_unbuilt encodings.BadMetadata x h bs ts u = absurd u
+revised_unbuilt encodings.BadShape x h bs ts u = u
+revised_unbuilt encodings.BadContent x h bs ts u = u
+revised_unbuilt encodings.ForeignControl x h bs ts u = u
+revised_unbuilt encodings.WireLimit x h bs ts u = absurd u
 
 -- ---- a plugin by its number
 

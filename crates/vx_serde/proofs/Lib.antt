@@ -13,6 +13,7 @@ pub mod Carried
 pub mod CarriedOnce
 pub mod GrownPlaced
 pub mod WiredNodes
+pub mod WiredAlike
 pub mod Chains
 pub mod NodePieces
 pub mod NodeWays

@@ -34,21 +34,21 @@ pub returns-clause-made : goal.returns-clause-made
 returns-clause-made g c = λ x u.
     let s = arrays_meaning (λ b. (goal.ArrayPlugin-dyn g (b.vtable, b.value)).means b.value) c.args.arrays.now x in
     if_ok c.write_taken.result _ _
-    (λ bs y. record { taken = c.in_ok-node.ensures.written x u; blob = subst (λ (z : Tree). IsWrittenBlob s z c.args.options.now c.args.ctx.now c.write_taken.new.ctx bs) (c.in_ok-node.ensures.tree x u) y }) (c.write_taken.ensures.made s)
+    (λ bs y. record { taken = c.in_ok-node.ensures.written x u; blob = subst (λ (z : Tree). IsWrittenBlob s z c.args.options.now c.args.ctx.now c.write_taken.new.ctx bs) (c.in_ok-node.ensures.tree x u) y }) (c.write_taken.ensures.made s (c.in-Ok.ensures.two x))
 
 pub returns-clause-kept : goal.returns-clause-kept
 returns-clause-kept g c = λ x u.
     let s = arrays_meaning (λ b. (goal.ArrayPlugin-dyn g (b.vtable, b.value)).means b.value) c.args.arrays.now x in
-    subst (λ (z : Tree). KeepsContext (ids_in (wire codec s z)) c.args.ctx.now c.write_taken.new.ctx) (c.in_ok-node.ensures.tree x u) (c.write_taken.ensures.kept s)
+    subst (λ (z : Tree). KeepsContext (ids_in (wire codec s z)) c.args.ctx.now c.write_taken.new.ctx) (c.in_ok-node.ensures.tree x u) (c.write_taken.ensures.kept s (c.in-Ok.ensures.two x))
 
 pub returns-clause-own : goal.returns-clause-own
 returns-clause-own g c = λ x u ok.
     let s = arrays_meaning (λ b. (goal.ArrayPlugin-dyn g (b.vtable, b.value)).means b.value) c.args.arrays.now x in
     let same = taken_as_own s c.args.array.now c.in_ok-node.node ok (c.in_ok-node.ensures.tree x u) (c.in_ok-node.ensures.written x u) c.in_ok-node.ensures.levels in
-    subst (λ (z : Tree). KeepsContext (ids_in (wire codec s z)) c.args.ctx.now c.write_taken.new.ctx) same (c.write_taken.ensures.kept s)
+    subst (λ (z : Tree). KeepsContext (ids_in (wire codec s z)) c.args.ctx.now c.write_taken.new.ctx) same (c.write_taken.ensures.kept s (c.in-Ok.ensures.two x))
 
 pub returns-clause-cause : goal.returns-clause-cause
 returns-clause-cause g c = λ x u.
     let s = arrays_meaning (λ b. (goal.ArrayPlugin-dyn g (b.vtable, b.value)).means b.value) c.args.arrays.now x in
     if_err c.write_taken.result _ _
-    (λ e y. without_blob s c.args.options.now c.args.array.now c.args.ctx.now e (subst (λ (z : Tree). RefusesWriting s z c.args.ctx.now c.args.options.now e) (c.in_ok-node.ensures.tree x u) y)) (c.write_taken.ensures.cause s)
+    (λ e y. without_blob s c.args.options.now c.args.array.now c.args.ctx.now e (subst (λ (z : Tree). RefusesWriting s z c.args.ctx.now c.args.options.now e) (c.in_ok-node.ensures.tree x u) y)) (c.write_taken.ensures.cause s (c.in-Ok.ensures.two x))
