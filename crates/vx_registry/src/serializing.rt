@@ -1,6 +1,6 @@
 //! An array's root as it is written, by what writes it.
 
-ghost use Rattle.std.specs.Prelude.{◌≡◌, bytes_eq, IfOk, IfErr};
+ghost use Rattle.std.specs.Prelude.{◌≡◌, bytes_eq, IfOk, IfErr, OnOk};
 ghost use Rattle.std.specs.List.{list_any};
 ghost use Rattle.vx_trees.specs.Rose.{label, below};
 ghost use Rattle.vx_types.specs.Known.{ExtMeaning};
