@@ -9,10 +9,10 @@ use Rattle.vx_array_tree.specs.Encodings.Primitives as Primitives
 use Rattle.vx_array_tree.specs.Table.{id_of}
 use Rattle.vx_wire_tree.specs.Plugin.{PluginMeaning}
 use Rattle.vx_wire_tree.specs.Revised.{revised_name}
-use Rattle.vx_wire_tree.specs.Session.{Reader, shipped, revised, plugin, IsPaired, IsReadAgainBy, IsRevisedAgainBy}
+use Rattle.vx_wire_tree.specs.Session.{SessionMeaning, entry_id, Reader, shipped, revised, plugin, IsPaired, IsReadAgainBy, IsRevisedAgainBy}
 use Rattle.vx_encodings.specs.Plain.{plain_encoding}
 use Rattle.vx_encodings.specs.declared.encoding.Encoding.{Encoding}
-use Rattle.vx_registry.specs.Session.{Registry, Entries, Plugins, ArePaired, AreWithin, IsReadAgain, IsRevisedAgain, entry, entry_in, found, own_id, put_all, tables_meaning}
+use Rattle.vx_registry.specs.Session.{Registry, Entries, Plugins, ArePaired, AreWithin, IsReadAgain, IsRevisedAgain, entry, entry_in, found, own_id, put_all, tables_meaning, both_ids, found_with, no_plugins, shipped_registry, shipped_meaning, with_revised, revised_meaning}
 use Rattle.vx_registry.specs.declared.tables.Entry.{Entry}
 use Rattle.vx_registry.specs.declared.tables.Entry.TheVariants.{Shipped, Revised, Boxed}
 use Rattle.vx_registry.proofs.Putting.{lookup_put_all}
@@ -176,3 +176,19 @@ module _ {B : Type 0} (means : B → PluginMeaning) (bs : List B) where
   found_within table (Some q) id e h =
       let x = entry_some of_boxes (length bs) all_there q (λ n p. h n (sym e ∙ ap (λ z. Some z) p)) in
       some_is (entry_in of_boxes q) x.0 x.1
+
+-- ---- the shipped encodings, and then primitives under two identifiers
+
+-- What a session means, once they were registered in one that means the shipped encodings.
+pub revised_as : (now old : SessionMeaning) (x : ExtMeaning) → old ≡ shipped_meaning x → ((id : List ℕ) → now.reader id ≡ found_with both_ids revised old.reader id)
+    → ((id : List ℕ) → now.writer id ≡ found_with (entry_id revised ∷ []) revised old.writer id) → now.ext ≡ x → now ≡ revised_meaning x
+revised_as now old x e reads writes ext =
+    let r = λ (id : List ℕ).
+    reads id ∙ ap (λ (o : SessionMeaning). found_with both_ids revised o.reader id) e
+    ∙ sym (found_revised no_plugins no_plugins both_ids shipped_registry.readers (with_revised shipped_registry).readers id refl refl)
+    in
+    let w = λ (id : List ℕ).
+    writes id ∙ ap (λ (o : SessionMeaning). found_with (entry_id revised ∷ []) revised o.writer id) e
+    ∙ sym (found_revised no_plugins no_plugins (entry_id revised ∷ []) shipped_registry.writers (with_revised shipped_registry).writers id refl refl)
+    in
+    λ i. record { reader = λ id. r id i; writer = λ id. w id i; ext = ext i }

@@ -255,6 +255,11 @@ pub within_set : (e : Encoding) (k : ℕ) (old new : Registry) (r : Result (Unit
 within_set e k old new (Ok u) done left h = within_as new (registered e old) k k done refl (within_shipped e k old h)
 within_set e k old new (Err x) done left h = within_as new old k k left refl h
 
+-- What holds of what came holds where it came.
+pub on_ok : {P Q : Type 0} (r : Result (Unit {0}) RegistryError) → (P → Q) → OnOk r P → OnOk r Q
+on_ok (Ok u) f p = f p
+on_ok (Err e) f p = tt
+
 -- They come, or do not.
 pub within_two : (k : ℕ) (old new : Registry) (r : Result (Unit {0}) RegistryError) → OnOk r (new ≡ with_revised old) → OnErr r (new ≡ old) → AreWithin old k → AreWithin new k
 within_two k old new (Ok u) done left h = within_as new (with_revised old) k k done refl (within_revised k old h)
