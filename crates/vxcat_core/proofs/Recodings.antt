@@ -1,5 +1,5 @@
 -- From what `recode` ensures to what the program promises of its inputs.
-use Rattle.std.proofs.Common.{◌≡◌, ℕ, Bool, true, false, List, Option, Some, None, inl, inr, refl, Result, Ok, Err, IfOk, IfErr, Global, sym, ap, subst, ◌∙◌}
+use Rattle.std.proofs.Common.{◌≡◌, ℕ, List, Option, Some, None, inl, inr, refl, Result, Ok, Err, IfOk, IfErr, sym, ap, subst, ◌∙◌}
 use Rattle.vx_types.specs.declared.dtype.DType.{DType}
 use Rattle.vx_types.specs.Seen.{typ}
 use Rattle.vx_types.specs.Typ.{Typ}

@@ -51,7 +51,7 @@ use Rattle.vx_encodings.specs.DictMessage.{dict_bytes}
 use Rattle.vx_encodings.specs.ListMessage.{list_bytes}
 use Rattle.vx_encodings.specs.Messages.{codec, stats_field}
 use Rattle.vx_scalar_wire.specs.StatsTable.{AreStorable}
-use Rattle.vx_registry.specs.Session.{tables_meaning, shipped_registry}
+use Rattle.vx_registry.specs.Session.{no_plugins, shipped_meaning, shipped_registry}
 use Rattle.vx_registry.proofs.LawsSessions.{registry_lawful}
 use Rattle.vx_serde.specs.declared.options.SerializeOptions.{SerializeOptions}
 use Rattle.vx_serde.specs.ArraySchema.{array_schema}
@@ -182,7 +182,7 @@ value_light flags texts lists descriptors few = (omega arith, omega arith, omega
 
 -- What reads and writes it, and under what.
 abbrev pub session : SessionMeaning
-session = tables_meaning shipped_registry no_readers
+session = shipped_meaning no_readers
 
 abbrev pub nothing : Context
 nothing = record { ids = []; allowed = None }
@@ -382,7 +382,7 @@ module _ (seed rows : ℕ) (h : rows ≤ 1000000) where
   table_told =
       let sound = made_sound seed rows h in
       let normal = made_normal seed rows in
-      let law = registry_lawful shipped_registry no_readers in
+      let law = registry_lawful no_plugins shipped_registry no_readers in
       record {
         matched = subst (λ z. Matches codec session w z) table_own (written_matches codec session law t sound (table_read_back seed rows h));
         dtype = refl;
