@@ -62,6 +62,9 @@ refused wire.BadStats asked cause = cause
 refused wire.NotPermitted asked cause = cause
 refused wire.WireLimit asked cause = cause
 refused wire.NotRegistered asked cause = cause
+refused wire.NotSerializable asked cause = cause
+refused wire.UndeclaredId asked cause = cause
+refused wire.PluginRefused asked cause = cause
 
 not_memory : BadType ≡ OutOfMemory → ⊥
 not_memory e = absurd (cc)
