@@ -4,7 +4,7 @@ use Rattle.std.specs.Prelude.{◌↔◌}
 use Rattle.vx_trees.specs.Everywhere.{EverywhereBelow}
 use Rattle.vx_trees.specs.Rose.{node}
 use Rattle.vx_array_tree.specs.Refused.{IsWellShaped}
-use Rattle.vx_array_tree.specs.Sound.{IsSound, IsSoundNode}
+use Rattle.vx_array_tree.specs.Sound.{IsControlled, IsSound, IsSoundNode}
 use Rattle.vx_array_tree.specs.Table.{Content}
 use Rattle.vx_array_tree.specs.Tree.{Head, Tree, Trees, rows_below}
 use Rattle.vx_arrays.specs.Refused.{IsUnmade, IsOkOrMemory}
@@ -26,10 +26,12 @@ module _ (g h : Head) (ts us : Trees) (p : g ≡ h) (e : ts ≡ us) where
   pub shaped_over : (b : Bool) → (IsTrue b ↔ IsWellShaped h us) → IsTrue b ↔ IsWellShaped g ts
   shaped_over b q = subst (λ (k : Head). IsTrue b ↔ IsWellShaped k ts) (sym p) (subst (λ (vs : Trees). IsTrue b ↔ IsWellShaped h vs) (sym e) q)
 
-  pub content_over : (b r : Bool) → (IsTrue b → IsTrue r ↔ Content h.dtype h.len h.body (rows_below us)) → IsTrue b → IsTrue r ↔ Content g.dtype g.len g.body (rows_below ts)
+  pub content_over :
+      (b r : Bool) → (IsTrue b → IsControlled h us → IsTrue r ↔ Content h.dtype h.len h.body (rows_below us)) →
+      IsTrue b → IsControlled g ts → IsTrue r ↔ Content g.dtype g.len g.body (rows_below ts)
   content_over b r q =
-      subst (λ (k : Head). IsTrue b → IsTrue r ↔ Content k.dtype k.len k.body (rows_below ts)) (sym p)
-      (subst (λ (vs : Trees). IsTrue b → IsTrue r ↔ Content h.dtype h.len h.body (rows_below vs)) (sym e) q)
+      subst (λ (k : Head). IsTrue b → IsControlled k ts → IsTrue r ↔ Content k.dtype k.len k.body (rows_below ts)) (sym p)
+      (subst (λ (vs : Trees). IsTrue b → IsControlled h vs → IsTrue r ↔ Content h.dtype h.len h.body (rows_below vs)) (sym e) q)
 
   pub below_over : (b : Bool) → (IsTrue b → EverywhereBelow IsSoundNode us) → IsTrue b → EverywhereBelow IsSoundNode ts
   below_over b q = subst (λ (vs : Trees). IsTrue b → EverywhereBelow IsSoundNode vs) (sym e) q

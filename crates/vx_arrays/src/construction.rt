@@ -18,8 +18,8 @@ use crate::control::is_controlled;
 use crate::error::ArrayError;
 use vx_types::DType;
 
-// Why parts are refused that are of the shape of their encoding where `shaped` says so, and then of right content where
-// `right` does.
+// Why parts are refused that are of the shape of their encoding where `shaped` says so, and then, where it is known which
+// say where rows are, of right content where `right` does.
 fn judge(
     dtype: &DType,
     len: usize,
@@ -29,7 +29,8 @@ fn judge(
     right: bool,
 ) -> Result<(), ArrayError>
     requires shaped { IsTrue shaped ↔ IsWellShaped (untold (typ dtype.now) len (plain_body body.now)) (roses_of children.now) }
-    requires content { IsTrue shaped → IsTrue right ↔ Content (typ dtype.now) len (plain_body body.now) (rows_below (roses_of children.now)) }
+    requires content { IsTrue shaped → IsControlled (untold (typ dtype.now) len (plain_body body.now)) (roses_of children.now) →
+        IsTrue right ↔ Content (typ dtype.now) len (plain_body body.now) (rows_below (roses_of children.now)) }
     ensures shaped { OnOk result (IsTrue shaped) }
     ensures controlled { OnOk result (IsControlled (untold (typ dtype.now) len (plain_body body.now)) (roses_of children.now)) }
     ensures right { OnOk result (IsTrue right) }
@@ -48,7 +49,8 @@ fn judge(
 }
 
 // The array of a node over these children, which are of the shape that its encoding asks for exactly where `shaped` says
-// so, and then of right content exactly where `right` does.
+// so, and then, where no foreign node says where rows are, of right content exactly where `right` does. Of others `right` may
+// say anything: content is judged row by row, and nothing bounds how many rows a foreign node has.
 pub(crate) fn over_children(
     dtype: DType,
     len: usize,
@@ -58,7 +60,8 @@ pub(crate) fn over_children(
     right: bool,
 ) -> Result<Array, ArrayError>
     requires shaped { IsTrue shaped ↔ IsWellShaped (untold (typ dtype) len (plain_body body)) (roses_of children.items) }
-    requires content { IsTrue shaped → IsTrue right ↔ Content (typ dtype) len (plain_body body) (rows_below (roses_of children.items)) }
+    requires content { IsTrue shaped → IsControlled (untold (typ dtype) len (plain_body body)) (roses_of children.items) →
+        IsTrue right ↔ Content (typ dtype) len (plain_body body) (rows_below (roses_of children.items)) }
     requires below { IsTrue shaped → EverywhereBelow IsSoundNode (roses_of children.items) }
     ensures ok { IfOk result (λ a. a ≡ node (untold (typ dtype) len (plain_body body)) (roses_of children.items)) }
     ensures sound { IfOk result IsSound }

@@ -18,6 +18,7 @@ ghost use Rattle.vx_arrays.specs.Refused.{IsUnmade, IsOkOrMemory};
 use crate::array::Array;
 use crate::body::Body;
 use crate::construction::over_children;
+use crate::control::is_controlled;
 use crate::error::ArrayError;
 use crate::list::Arrays;
 use crate::parts::{LoneRow, RowParts};
@@ -173,10 +174,12 @@ impl DictArray {
         let flag = all_values_referenced;
         match is_shaped(alloc, &dtype, len, flag, children.as_slice()) {
             Ok(shaped) => {
-                let right = shaped && has_content(&dtype, len, flag, children.as_slice());
                 let body = Body::Dict(DictData {
                     all_values_referenced,
                 });
+                let right = shaped
+                    && is_controlled(&dtype, len, &body, children.as_slice())
+                    && has_content(&dtype, len, flag, children.as_slice());
                 over_children(dtype, len, body, children.into_vec(), shaped, right)
             }
             Err(error) => Err(error),

@@ -20,6 +20,7 @@ ghost use Rattle.vx_arrays.specs.Refused.{IsUnmade, IsOkOrMemory};
 use crate::array::Array;
 use crate::body::Body;
 use crate::construction::over_children;
+use crate::control::is_controlled;
 use crate::error::ArrayError;
 use crate::list::Arrays;
 use crate::lists::{element_type, list_type};
@@ -183,8 +184,10 @@ impl ListViewArray {
         ensures complete { IsSound (node (untold (typ dtype) len (views_of zero_copy)) children) → IsOkOrMemory result }
     {
         let shaped = is_shaped(zero_copy, &dtype, len, children.as_slice());
-        let right = shaped && has_content(zero_copy, &dtype, len, children.as_slice());
         let body = Body::ListView(ListViewData { zero_copy });
+        let right = shaped
+            && is_controlled(&dtype, len, &body, children.as_slice())
+            && has_content(zero_copy, &dtype, len, children.as_slice());
         over_children(dtype, len, body, children.into_vec(), shaped, right)
     }
 }

@@ -18,6 +18,7 @@ ghost use Rattle.vx_arrays.specs.Refused.{IsUnmade, IsOkOrMemory};
 use crate::array::Array;
 use crate::body::Body;
 use crate::construction::over_children;
+use crate::control::is_controlled;
 use crate::error::ArrayError;
 use crate::list::Arrays;
 use crate::offsets::{are_counted, are_offsets, offset_at};
@@ -123,7 +124,9 @@ impl ListArray {
         ensures complete { IsSound (node (untold (typ dtype) len B.list) children) → IsOkOrMemory result }
     {
         let shaped = is_shaped(&dtype, len, children.as_slice());
-        let right = shaped && has_content(&dtype, len, children.as_slice());
+        let right = shaped
+            && is_controlled(&dtype, len, &Body::List, children.as_slice())
+            && has_content(&dtype, len, children.as_slice());
         over_children(dtype, len, Body::List, children.into_vec(), shaped, right)
     }
 }

@@ -23,6 +23,7 @@ ghost use Rattle.vx_arrays.specs.Unions.{IsTagged, union_head, union_tree};
 use crate::array::Array;
 use crate::body::Body;
 use crate::construction::over_children;
+use crate::control::is_controlled;
 use crate::error::ArrayError;
 use crate::list::Arrays;
 use crate::parts::{LoneRow, RowParts};
@@ -107,7 +108,9 @@ fn over_tags(dtype: DType, len: usize, children: Vec<Array>) -> Result<Array, Ar
     ensures complete { IsSound (node (untold (typ dtype) len B.union) (roses_of children.items)) → IsOkOrMemory result }
 {
     let shaped = is_shaped(&dtype, len, children.as_slice());
-    let right = shaped && has_content(&dtype, len, children.as_slice());
+    let right = shaped
+        && is_controlled(&dtype, len, &Body::Union, children.as_slice())
+        && has_content(&dtype, len, children.as_slice());
     over_children(dtype, len, Body::Union, children, shaped, right)
 }
 

@@ -10,7 +10,7 @@ ghost use Rattle.vx_array_tree.specs.Body as B;
 ghost use Rattle.vx_array_tree.specs.Encodings.VarBins.{Content, IsContent, mark_of, rows as rows_of_parts};
 ghost use Rattle.vx_array_tree.specs.Refused.{IsWellShaped};
 ghost use Rattle.vx_array_tree.specs.Rows.{rest, validity};
-ghost use Rattle.vx_array_tree.specs.Sound.{IsSound, IsSoundNode};
+ghost use Rattle.vx_array_tree.specs.Sound.{IsControlled, IsSound, IsSoundNode};
 ghost use Rattle.vx_array_tree.specs.Tree.{Tree, option_trees, rows_below, rows_of, untold};
 ghost use Rattle.vx_arrays.specs.Compared.{compared_body};
 ghost use Rattle.vx_arrays.specs.NewBuffers.{RefusesBuffers, with_buffers};
@@ -182,7 +182,7 @@ impl VarBinArray {
     {
         let len = offsets.len().saturating_sub(1);
         let shaped = are_parts(&dtype, len, &offsets, &validity);
-        let right = shaped && has_content(&dtype, len, &offsets, &bytes, &validity);
+        let right = shaped && is_right(&dtype, len, &offsets, &bytes, &validity);
         let body = Body::VarBin(VarBinData { bytes });
         match with_validity(alloc, offsets, validity) {
             Ok(children) => over_children(dtype, len, body, children, shaped, right),
@@ -218,6 +218,22 @@ fn is_shaped(dtype: &DType, len: usize, offsets: &Array, validity: &Option<Array
         return false;
     }
     is_validity(dtype.nullability(), len, validity)
+}
+
+// Whether the content of parts of the right shape is right, where the offsets hold no foreign node; others are not looked
+// at, since nothing bounds how many rows such a node has.
+fn is_right(
+    dtype: &DType,
+    len: usize,
+    offsets: &Array,
+    bytes: &BufferHandle,
+    validity: &Option<Array>,
+) -> bool
+    requires { IsWellShaped (varbin_head (typ dtype.now) len bytes.now) (more offsets.now (option_trees validity.now)) }
+    ensures { IsControlled (varbin_head (typ dtype.now) len bytes.now) (more offsets.now (option_trees validity.now)) →
+        IsTrue result ↔ Content (typ dtype.now) len (record { bytes = bytes.now }) (rows_of offsets.now ∷ rows_below (option_trees validity.now)) }
+{
+    offsets.has_no_foreign() && has_content(dtype, len, offsets, bytes, validity)
 }
 
 // Whether the content of parts of the right shape is right: the offsets are, and so are the texts.

@@ -66,6 +66,7 @@ fn number_by(
     let options = SerializeOptions {
         offset: asked.offset,
         include_padding: asked.offset > 0,
+        deep: false,
     };
     let dtype = type_of(asked.kind);
     let answer = recode(alloc, blob, &dtype, asked.len, ids, ctx, session, &options);

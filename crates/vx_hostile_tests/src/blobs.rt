@@ -2,7 +2,7 @@
 
 use crate::asked::{Asked, INTEGERS, Kind, number_leaving};
 use crate::levels::levels_over_none;
-use crate::samples::{blob_of_no_text, blob_of_one_there, changed};
+use crate::samples::{blob_of_codes, blob_of_no_text, blob_of_one_there, changed};
 use std::alloc::{AllocError, Global};
 use vx_serde::WireError;
 use vx_serde_tests::files::{BLOB, BLOB_OF_SECOND};
@@ -66,6 +66,8 @@ enum Sample {
     NoText,
     // A number over a validity.
     OneThere,
+    // A code over a null.
+    Codes,
     // So many levels of nodes that hold the next one twice, over a node that is none, and the length of their message.
     OverNone(usize, u32),
 }
@@ -77,6 +79,7 @@ fn blob_of(alloc: Global, sample: Sample) -> Result<Vec<u8>, WireError> {
         Sample::OfSecond => Ok(Vec::from_slice(alloc, &BLOB_OF_SECOND)?),
         Sample::NoText => blob_of_no_text(alloc),
         Sample::OneThere => blob_of_one_there(alloc),
+        Sample::Codes => blob_of_codes(alloc),
         Sample::OverNone(count, len) => Ok(levels_over_none(alloc, count, len)?),
     }
 }
@@ -114,6 +117,15 @@ const UNREAD_VALIDITY: Asked<'static> = Asked {
     offset: 0,
 };
 
+// As many codes as can be counted that nothing reads, where that is allowed.
+const UNREAD_CODES: Asked<'static> = Asked {
+    kind: Kind::Null,
+    len: usize::MAX,
+    ids: &["vortex.dict", "x.y", "vortex.null"],
+    unknown: true,
+    offset: 0,
+};
+
 // Nodes that nothing reads, where that is allowed.
 const KEPT: Asked<'static> = Asked {
     kind: Kind::Null,
@@ -124,13 +136,14 @@ const KEPT: Asked<'static> = Asked {
 };
 
 // A blob, what is asked of it, its answer, and what is left of the context.
-const ROWS: [(Sample, Asked<'static>, u8, &[&str]); 7] = [
+const ROWS: [(Sample, Asked<'static>, u8, &[&str]); 8] = [
     (Sample::Integers, INTEGERS, 0, &["a", "vortex.primitive"]),
     (Sample::OfSecond, INTEGERS, 16, &["a"]),
     (Sample::Integers, UNREAD, 17, &["a"]),
     (Sample::Integers, ONE_MORE, 19, &["a"]),
     (Sample::NoText, TEXTS, 20, &["a"]),
     (Sample::OneThere, UNREAD_VALIDITY, 21, &["a"]),
+    (Sample::Codes, UNREAD_CODES, 21, &["a"]),
     (Sample::Integers, LAST, 24, &["a", "vortex.primitive"]),
 ];
 

@@ -39,6 +39,7 @@ fn number_of_blob(
     let options = SerializeOptions {
         offset,
         include_padding: true,
+        deep: false,
     };
     match array.serialize(alloc, ctx, session, &options).err() {
         None => 0,

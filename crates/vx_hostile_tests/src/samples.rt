@@ -3,7 +3,7 @@
 use std::alloc::{AllocError, Global};
 use vx_arrays::{Array, ArrayError, VarBinArray};
 use vx_buffer::{BufferHandle, ByteBuffer};
-use vx_nested_parts::parts::{Made, There, both, bytes, numbers};
+use vx_nested_parts::parts::{Made, There, both, bytes, dicts, nulls, numbers};
 use vx_registry::{ArrayContext, ArraySession, RegistryError, VortexSession};
 use vx_serde::{ArrayExt, SerializeOptions, WireError};
 use vx_type_wire::ExtSession;
@@ -133,6 +133,11 @@ fn blob_of_made(alloc: Global, array: Made) -> Result<Vec<u8>, WireError> {
 /// The blob of bytes that are no text, in one row.
 pub fn blob_of_no_text(alloc: Global) -> Result<Vec<u8>, WireError> {
     blob_of_made(alloc, no_text(alloc))
+}
+
+/// The blob of a dictionary: a code of a byte and a null that it names.
+pub fn blob_of_codes(alloc: Global) -> Result<Vec<u8>, WireError> {
+    blob_of_made(alloc, dicts(alloc, bytes(alloc, &[0]), nulls(alloc, 1)))
 }
 
 /// The blob of a number over a validity.

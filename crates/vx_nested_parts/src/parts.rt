@@ -334,10 +334,9 @@ pub fn extensions(alloc: Global, kind: Made, storage: Made) -> Made {
     extensions_of(alloc, ext, storage)
 }
 
-// Variants of which nothing is known, of this identifier.
-fn unknown_of(alloc: Global, id: Result<Id, TypeError>, len: usize) -> Made {
+// Rows of a type of which nothing is known, of this identifier.
+fn unknown_of(alloc: Global, id: Result<Id, TypeError>, dtype: DType, len: usize) -> Made {
     let id = typed(id)?;
-    let dtype = DType::Variant(Nullability::Nullable);
     let metadata = Blob::new(Vec::new(alloc));
     let buffers = BufferHandles::new(alloc);
     new_foreign_array(alloc, id, dtype, len, metadata, buffers, Arrays::new(alloc))
@@ -345,7 +344,14 @@ fn unknown_of(alloc: Global, id: Result<Id, TypeError>, len: usize) -> Made {
 
 /// So many variants of which nothing is known, which may be null.
 pub fn unknown_variants(alloc: Global, len: usize) -> Made {
-    unknown_of(alloc, Id::new(alloc, "x.core"), len)
+    let dtype = DType::Variant(Nullability::Nullable);
+    unknown_of(alloc, Id::new(alloc, "x.core"), dtype, len)
+}
+
+/// So many numbers of a byte without a sign of which nothing is known, never null.
+pub fn unknown_bytes(alloc: Global, len: usize) -> Made {
+    let dtype = DType::Primitive(PType::U8, Nullability::NonNullable);
+    unknown_of(alloc, Id::new(alloc, "x.bytes"), dtype, len)
 }
 
 /// Variants by their core and, where one is given, a typed child over it.

@@ -7,6 +7,8 @@ mod dictionaries;
 #[cfg(test)]
 mod extensions;
 #[cfg(test)]
+mod foreign;
+#[cfg(test)]
 mod list_views;
 #[cfg(test)]
 mod lists;

@@ -14,7 +14,7 @@ over_children-requires-clause-shaped c =
 pub over_children-requires-clause-content : goal.over_children-requires-clause-content
 over_children-requires-clause-content c =
     content_over (untold (typ c.args.dtype) c.args.len (plain_body c.args.body)) (untold (typ c.args.dtype) c.args.len (plain_body c.args.body)) (roses_of c.in-Ok.children.items) (option_trees c.args.validity) refl c.in-Ok.ensures.children c.args.shaped true
-    (λ _. (λ _. c.requires.content, λ _. refl))
+    (λ _ _. (λ _. c.requires.content, λ _. refl))
 
 pub over_children-requires-clause-below : goal.over_children-requires-clause-below
 over_children-requires-clause-below c =
