@@ -73,7 +73,8 @@ impl ArrayContext {
         ensures place { IfOk result (λ place. IfSome place (λ i. index_of id.now self.new.ids ≡ i)) }
         ensures refused { IfOk result (λ place. IfNone place (interned id.now self.old ≡ None)) }
         ensures none { IfOk result (λ place. IfNone place (self.new ≡ self.old)) }
-        ensures err { OnErr result (self.new ≡ self.old) }
+        ensures unchanged { OnErr result (self.new ≡ self.old) }
+        ensures err { IsOkUnless result RegistryError.OutOfMemory }
     {
         if !is_allowed(&self.allowed, id) {
             return Ok(None);
@@ -92,7 +93,8 @@ impl ArrayContext {
         ensures place { IfOk result (λ place. IfSome place (λ i. index_of id.now self.new.ids ≡ i)) }
         ensures refused { IfOk result (λ place. IfNone place (interned id.now self.old ≡ None)) }
         ensures none { IfOk result (λ place. IfNone place (self.new ≡ self.old)) }
-        ensures err { OnErr result (self.new ≡ self.old) }
+        ensures unchanged { OnErr result (self.new ≡ self.old) }
+        ensures err { IsOkUnless result RegistryError.OutOfMemory }
     {
         let last = match place(self.ids.len()) {
             Some(last) => last,

@@ -91,6 +91,7 @@ impl ArraySession {
     /// Registers an entry in the place of what read its identifiers and of what wrote its encoding's arrays.
     /// Where there is no memory for it, the session stays as it was, and the entry is handed back.
     pub fn register(&mut self, entry: PluginEntry) -> Result<(), AllocFailed<PluginEntry>>
+        ensures registered { OnOk result (self.new ≡ registered (encoding_in entry) self.old) }
         ensures readers { OnOk result ((id : List ℕ) → found self.new.readers id ≡ found_with (encoding_in entry) (found self.old.readers) id) }
         ensures writers { OnOk result ((id : List ℕ) → found self.new.writers id ≡ found_with (encoding_in entry) (found self.old.writers) id) }
         ensures unchanged { OnErr result (self.new ≡ self.old) }

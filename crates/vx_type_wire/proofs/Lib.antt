@@ -5,6 +5,7 @@ pub mod Rows
 pub mod TypeViews
 pub mod OfParts
 pub mod Judging
+pub mod LentReaders
 pub mod OneType
 pub mod Found
 pub mod Chains

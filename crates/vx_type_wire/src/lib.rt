@@ -19,6 +19,7 @@ mod error;
 mod kind;
 mod known;
 pub mod laws;
+mod lending;
 mod messages;
 mod parts;
 pub mod pb;
@@ -31,6 +32,7 @@ mod writing;
 
 pub use error::TypeWireError;
 pub use kind::TypeKind;
+pub use lending::{LentReader, Readers, ReadersOf};
 pub use messages::DTypeExt;
 pub use proto::{TypeMessage, slots};
 pub use readers::{ExtPlugin, ExtSession};

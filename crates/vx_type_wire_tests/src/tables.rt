@@ -326,6 +326,33 @@ fn extensions_without_a_reader_may_be_allowed(rt: HostRuntime) {
     assert!(rt; open_judgement(alloc, &[("x.day", false)]) == refused);
 }
 
+// Whether the readers that a session of these rows lends accept a day.
+fn lent_judgement(
+    alloc: Global,
+    rows: &[(&str, bool)],
+    unknown: bool,
+) -> Result<bool, TypeWireError> {
+    let mut readers = readers_of(alloc, rows)?;
+    if unknown {
+        readers.allow_unknown();
+    }
+    let Ok(lent) = readers.lend(alloc) else {
+        return Err(TypeWireError::OutOfMemory);
+    };
+    let day = Id::new(alloc, "x.day")?;
+    Ok(lent.accepts(&day, &[], &DType::Null) && lent.allows_unknown() == unknown)
+}
+
+#[test]
+fn lent_readers_accept_what_the_session_accepts(rt: HostRuntime) {
+    let alloc = rt.alloc();
+    let rows = [("x.night", true), ("x.day", false), ("x.day", true)];
+    assert!(rt; lent_judgement(alloc, &rows, false) == Ok(true));
+    assert!(rt; lent_judgement(alloc, &[("x.day", false)], true) == Ok(false));
+    assert!(rt; lent_judgement(alloc, &[("x.night", true)], false) == Ok(false));
+    assert!(rt; lent_judgement(alloc, &[("x.night", true)], true) == Ok(true));
+}
+
 #[test]
 fn nothing_unknown_is_allowed_at_first(rt: HostRuntime) {
     let mut readers = ExtSession::new(rt.alloc());
