@@ -1,12 +1,21 @@
 -- The limits of what a message may weigh.
-use Rattle.std.specs.Prelude.{◌≤◌, ◌^◌}
+use Rattle.std.specs.Prelude.{ℕ, Bool, true, false, ◌≤◌, ◌^◌}
 pub use Rattle.vx_flat.specs.declared.limits.Limits.{Limits}
 use Rattle.vx_flat.specs.Weight.{Weight}
 
--- The limits of this project: tables nest at most 64 deep, the root counted, and there are at most
--- 1,000,000 tables and 2^31 bytes, each counted as often as a path from the root reaches it.
+-- How deep tables may nest, the root counted: 64, and 128 where deep trees are asked for.
+abbrev pub most_nested : Bool → ℕ
+most_nested false = 64
+most_nested true = 128
+
+-- The limits of this project: so deep tables nest at most, and there are at most 1,000,000 tables
+-- and 2^31 bytes, each counted as often as a path from the root reaches it.
+abbrev pub limits_to : Bool → Limits
+limits_to deep = record { nested = most_nested deep; tables = 1000000; bytes = 2 ^ 31 }
+
+-- The limits where no deep tree is asked for.
 abbrev pub limits : Limits
-limits = record { nested = 64; tables = 1000000; bytes = 2 ^ 31 }
+limits = limits_to false
 
 -- A weight is within limits: none of its three numbers is above its limit.
 abbrev pub IsLight : Limits → Weight → Type 0

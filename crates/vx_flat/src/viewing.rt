@@ -16,7 +16,7 @@ use crate::reading::places::{
 };
 use crate::schema::{FieldKind, SchemaLists, Width, size_of_struct, table_of_tag};
 use crate::weight::Weight;
-pub use opening::{verify, verify_uncounted, view_at};
+pub use opening::{verify, verify_to, verify_uncounted, verify_uncounted_to, view_at};
 use std::str::from_utf8_unchecked;
 
 /// A table of a message that was verified.

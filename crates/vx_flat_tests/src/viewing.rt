@@ -13,7 +13,8 @@ use std::marker::Brand;
 use std::sync::ledger::{Blank, Ledger};
 use std::test::Fail;
 use vx_flat::{
-    FlatError, Steps, TableKind, UnionPart, View, Weight, verify, verify_uncounted, view_at,
+    FlatError, Steps, TableKind, UnionPart, View, Weight, verify, verify_uncounted,
+    verify_uncounted_to, view_at,
 };
 
 /// A table without a field.
@@ -341,28 +342,35 @@ fn steps_are_counted(rt: HostRuntime) -> Result<(), Fail> {
     Ok(())
 }
 
-/// How deep a message nests, or why it is refused.
-fn nested_in(message: &[u8]) -> Result<u64, FlatError> {
-    match verify_uncounted(message, &PairKind) {
+/// How deep a message nests, or why it is refused, where deep trees are asked for or not.
+fn nested_in(message: &[u8], deep: bool) -> Result<u64, FlatError> {
+    match verify_uncounted_to(message, &PairKind, deep) {
         Ok(root) => Ok(root.weight().nested),
         Err(error) => Err(error),
     }
 }
 
 /// The same of so many tables, one in the other.
-fn nested_of(alloc: Global, levels: usize, both: bool) -> Result<u64, FlatError> {
+fn nested_of(alloc: Global, levels: usize, both: bool, deep: bool) -> Result<u64, FlatError> {
     let message = nested(alloc, levels, both)?;
-    nested_in(&message)
+    nested_in(&message, deep)
 }
+
+/// How many tables are one in the other, in one field or in both, whether deep trees are asked for, and what comes of it.
+const NESTED: [(usize, bool, bool, Result<u64, FlatError>); 6] = [
+    (64, false, false, Ok(64)),
+    (65, false, false, Err(FlatError::TableLimit)),
+    (20, true, false, Err(FlatError::TableLimit)),
+    (65, false, true, Ok(65)),
+    (128, false, true, Ok(128)),
+    (129, false, true, Err(FlatError::TableLimit)),
+];
 
 #[test]
 fn nested_tables(rt: HostRuntime) {
-    assert_eq!(rt; nested_of(rt.alloc(), 64, false), Ok(64));
-    assert_eq!(rt;
-        nested_of(rt.alloc(), 65, false),
-        Err(FlatError::TableLimit)
-    );
-    assert_eq!(rt; nested_of(rt.alloc(), 20, true), Err(FlatError::TableLimit));
+    for (levels, both, deep, told) in &NESTED {
+        assert_eq!(rt; nested_of(rt.alloc(), *levels, *both, *deep), *told);
+    }
 }
 
 #[test]

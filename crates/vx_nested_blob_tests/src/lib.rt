@@ -9,6 +9,8 @@ mod blobs;
 #[cfg(test)]
 mod broken;
 #[cfg(test)]
+mod deep;
+#[cfg(test)]
 mod dictionaries;
 #[cfg(test)]
 mod foreign;

@@ -5,7 +5,9 @@ use vx_arrays::{Array, ArrayError};
 use vx_buffer::ByteBuffer;
 use vx_nested_parts::parts::{Made, both};
 use vx_registry::{ArrayContext, ArraySession, ReadContext, VortexSession};
-use vx_serde::{ArrayExt, Recoded, SerializeOptions, SerializedArray, WireError, recode};
+use vx_serde::{
+    ArrayExt, ArrayNodeFlatBuffer, Recoded, SerializeOptions, SerializedArray, WireError, recode,
+};
 use vx_type_wire::ExtSession;
 use vx_types::{DType, Id, Ids, TypeError};
 
@@ -35,16 +37,26 @@ fn keeping(alloc: Global) -> Result<VortexSession, WireError> {
     Ok(session)
 }
 
-// The bytes of an array's blob.
+// The bytes of an array's blob, by these options.
+fn blob_by(
+    alloc: Global,
+    array: &Array,
+    session: &VortexSession,
+    ctx: &mut ArrayContext,
+    options: &SerializeOptions,
+) -> Result<ByteBuffer, WireError> {
+    let buffers = array.serialize(alloc, ctx, session, options)?;
+    Ok(buffers.join(alloc)?)
+}
+
+// The same without pads, where no deep tree is asked for.
 fn blob_under(
     alloc: Global,
     array: &Array,
     session: &VortexSession,
     ctx: &mut ArrayContext,
 ) -> Result<ByteBuffer, WireError> {
-    let options = SerializeOptions::default();
-    let buffers = array.serialize(alloc, ctx, session, &options)?;
-    Ok(buffers.join(alloc)?)
+    blob_by(alloc, array, session, ctx, &SerializeOptions::default())
 }
 
 // Where bytes begin that stand in others.
@@ -170,7 +182,7 @@ pub(crate) fn unwritten_array(alloc: Global, array: &Array) -> Option<WireError>
     blob_of(alloc, array).err()
 }
 
-// A blob recoded at the type and length of an array, by these identifiers and encodings.
+// A blob recoded at the type and length of an array, by these identifiers, encodings and options.
 fn recoded_by(
     alloc: Global,
     blob: ByteBuffer,
@@ -178,35 +190,47 @@ fn recoded_by(
     ids: &ReadContext,
     ctx: &mut ArrayContext,
     session: &VortexSession,
+    options: &SerializeOptions,
 ) -> Result<Recoded, WireError> {
-    let options = SerializeOptions::default();
     let (dtype, len) = (array.dtype(), array.len());
-    recode(alloc, blob, dtype, len, ids, ctx, session, &options)
+    recode(alloc, blob, dtype, len, ids, ctx, session, options)
 }
 
 // An array written, and what was written recoded at its type and length once its identifiers are changed, under these
-// encodings.
+// encodings and options.
 fn recoded_under(
     alloc: Global,
     array: &Array,
     change: Change<'_>,
     ctx: &mut ArrayContext,
     session: &VortexSession,
+    options: &SerializeOptions,
 ) -> Result<Recoded, WireError> {
     let mut written = ArrayContext::empty(alloc);
-    let blob = blob_under(alloc, array, session, &mut written)?;
+    let blob = blob_by(alloc, array, session, &mut written, options)?;
     let ids = read_ids(alloc, &written, change)?;
-    recoded_by(alloc, blob, array, &ids, ctx, session)
+    recoded_by(alloc, blob, array, &ids, ctx, session, options)
 }
 
-/// An array written, and what was written recoded under the encodings that are shipped; a context takes the identifiers.
+/// An array written, and what was written recoded under the encodings that are shipped and by these options; a context
+/// takes the identifiers.
+pub(crate) fn recoded_with(
+    alloc: Global,
+    array: &Array,
+    ctx: &mut ArrayContext,
+    options: &SerializeOptions,
+) -> Result<Recoded, WireError> {
+    let session = shipped(alloc)?;
+    recoded_under(alloc, array, Change::Nothing, ctx, &session, options)
+}
+
+/// The same without pads, where no deep tree is asked for.
 pub(crate) fn recoded(
     alloc: Global,
     array: &Array,
     ctx: &mut ArrayContext,
 ) -> Result<Recoded, WireError> {
-    let session = shipped(alloc)?;
-    recoded_under(alloc, array, Change::Nothing, ctx, &session)
+    recoded_with(alloc, array, ctx, &SerializeOptions::default())
 }
 
 /// The same once identifiers are changed, where nodes that nothing reads are kept.
@@ -217,14 +241,31 @@ pub(crate) fn recoded_kept(
     ctx: &mut ArrayContext,
 ) -> Result<Recoded, WireError> {
     let session = keeping(alloc)?;
-    recoded_under(alloc, array, change, ctx, &session)
+    let options = SerializeOptions::default();
+    recoded_under(alloc, array, change, ctx, &session, &options)
 }
 
-/// The blob of an array under the encodings that are shipped.
-pub(crate) fn blob_of(alloc: Global, array: &Array) -> Result<ByteBuffer, WireError> {
+/// The blob of an array under the encodings that are shipped and by these options.
+pub(crate) fn blob_with(
+    alloc: Global,
+    array: &Array,
+    options: &SerializeOptions,
+) -> Result<ByteBuffer, WireError> {
     let session = shipped(alloc)?;
     let mut ctx = ArrayContext::empty(alloc);
-    blob_under(alloc, array, &session, &mut ctx)
+    blob_by(alloc, array, &session, &mut ctx, options)
+}
+
+/// The same without pads, where no deep tree is asked for.
+pub(crate) fn blob_of(alloc: Global, array: &Array) -> Result<ByteBuffer, WireError> {
+    blob_with(alloc, array, &SerializeOptions::default())
+}
+
+/// Why an array is no node of a message that a caller builds, if it is none.
+pub(crate) fn unbuilt(alloc: Global, array: &Array) -> Result<Option<WireError>, WireError> {
+    let session = shipped(alloc)?;
+    let mut ctx = ArrayContext::empty(alloc);
+    Ok(ArrayNodeFlatBuffer::try_new(alloc, &mut ctx, &session, array).err())
 }
 
 // Whether two arrays are equal.

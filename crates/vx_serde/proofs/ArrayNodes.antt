@@ -1,6 +1,6 @@
 -- The blocks of an array's node, and why they are not written.
 use Rattle.std.proofs.Common.{ℕ, ◌≡◌, ◌<◌, List, Some, length, refl, ap, ◌∙◌, arith, inl, inr}
-use Rattle.std.specs.Prelude.{◌⊎◌}
+use Rattle.std.specs.Prelude.{◌⊎◌, false}
 use Rattle.vx_buffer.specs.Buffer.{Buffer}
 use Rattle.vx_flat.specs.declared.error.FlatError.{FlatError}
 use Rattle.vx_flat.specs.declared.error.FlatError.TheVariants as flat
@@ -63,7 +63,7 @@ module _ (s : SessionMeaning) (t : Tree) (c : Context) where
       let bytes = descriptors_bytes (descriptors_from plain_options 0 (buffers_in w)) in
       let of = message-of_kind d.ids w es bytes e c d (descriptors_from plain_options 0 (buffers_in w)) refl g (wire-whole codec s t) (wire-tabled s t) k.writable.tree.few refl in
       let many : 499999 < nodes w = omega (arith, l, as-many d.ids w es e) in
-      unwritten s t c plain_options bytes (layout_by es w bytes) WireLimit refl (layout-numbered d.ids w es bytes e ∙ ap (λ ids. layout_of ids w bytes) (grown-ids s t c d g)) (too-many es w bytes of (wire-told s t) many) k)
+      unwritten s t c plain_options bytes (layout_by es w bytes) WireLimit refl (layout-numbered d.ids w es bytes e ∙ ap (λ ids. layout_of ids w bytes) (grown-ids s t c d g)) (too-many es w bytes of false (wire-told s t) many) k)
 
   -- An array whose blocks a builder does not take.
   pub untaken : (b new : Built) (e : FlatError) → IsStopped b (array_pieces s t c) e new → RefusesBlocks s t c b (message_refusal e)

@@ -24,6 +24,7 @@ use Rattle.vx_registry.specs.Serialization.{array_id}
 use Rattle.vx_serde.specs.declared.error.WireError.{WireError}
 use Rattle.vx_serde.specs.declared.error.WireError.TheVariants.{OutOfMemory, NotPermitted, WireLimit, NotRegistered}
 use Rattle.vx_serde.specs.declared.options.SerializeOptions.{SerializeOptions}
+use Rattle.vx_serde.specs.Limits.{most_levels}
 use Rattle.vx_serde.specs.WritingSteps.{RefusesNode, RefusesRoot, RefusesNodes, RefusesGathering, RefusesLayout}
 use Rattle.vx_serde.proofs.GrownNodes.{ungrown-own, ungrown-child}
 use Rattle.vx_serde.proofs.WiredNodes.{wired, wired-levels, wired-below, wired-at, wired-within, own-grown, own-ungrown, gathered_first}
@@ -136,7 +137,7 @@ all-written s t w lacks = written_under s lacks.0 t w lacks.1
 
 -- ---- an array whose nodes are not written is not laid out
 
-pub unplaced_nodes : (s : SessionMeaning) (o : SerializeOptions) (t : Tree) (c : Context) (e : WireError) → RefusesGathering s t 62 c e → RefusesLayout s o t c e
+pub unplaced_nodes : (s : SessionMeaning) (o : SerializeOptions) (t : Tree) (c : Context) (e : WireError) → RefusesGathering s t (most_levels o) c e → RefusesLayout s o t c e
 unplaced_nodes s o t c OutOfMemory h = tt
 unplaced_nodes s o t c WireLimit (inl h) = λ messages k. omega (arith, h, k.tree.nested, wired-levels s t)
 unplaced_nodes s o t c WireLimit (inr h) = λ messages k. h messages

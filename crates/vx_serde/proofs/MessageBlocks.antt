@@ -1,6 +1,6 @@
 -- The blocks of a message, and why they are not written.
 use Rattle.std.proofs.Common.{ℕ, ◌≡◌, ◌*◌, ◌<◌, ◌^◌, List, [], ◌∷◌, ◌++◌, length, refl, sym, ap, ◌∙◌, subst, arith, inl, inr}
-use Rattle.std.specs.Prelude.{false, None, Result, Ok, Err, IfOk, IfErr, OnOk}
+use Rattle.std.specs.Prelude.{Bool, false, None, Result, Ok, Err, IfOk, IfErr, OnOk}
 use Rattle.vx_flat.specs.declared.builder.piece.BlockField.TheVariants as entry
 use Rattle.vx_flat.specs.declared.builder.piece.LinkKind.TheVariants as link
 use Rattle.vx_flat.specs.declared.error.FlatError.{FlatError}
@@ -8,7 +8,8 @@ use Rattle.vx_flat.specs.declared.error.FlatError.TheVariants as flat
 use Rattle.vx_flat.specs.Building.{Built, Link, nothing_built, with_pieces, IsStopped, IsTooLong}
 use Rattle.vx_flat.specs.IsOf.{IsOf}
 use Rattle.vx_flat.specs.Layout.{shares}
-use Rattle.vx_flat.specs.Limits.{limits, IsLight}
+use Rattle.vx_flat.specs.declared.limits.Limits.{Limits}
+use Rattle.vx_flat.specs.Limits.{limits_to, IsLight}
 use Rattle.vx_flat.specs.Pieces.{Piece, table_piece, elements_piece, pieces}
 use Rattle.vx_flat.specs.Schema.{struct_size}
 use Rattle.vx_flat.specs.Shows.{Shows}
@@ -67,25 +68,25 @@ module _ (es : List ℕ) (w : Wire) (bytes : List ℕ) (of : IsOf array_schema (
       let Q : List ℕ → Type 0 = λ z. Shows array_schema z (message_by es w bytes) in
       (message_by es w bytes, subst Q (sym e) (shows-layout (message_by es w bytes) of (subst P e short)))
 
-  pub blocks-refused : (e : FlatError) (b : Built) → IsStopped nothing_built (pieces array_schema (message_by es w bytes)) e b → RefusesBytes (layout_by es w bytes) (message_refusal e)
-  blocks-refused flat.OutOfMemory b h = tt
-  blocks-refused flat.MessageTooLong b h = λ short light. at h.2 short where
+  pub blocks-refused : (most : Limits) (e : FlatError) (b : Built) → IsStopped nothing_built (pieces array_schema (message_by es w bytes)) e b → RefusesBytes most (layout_by es w bytes) (message_refusal e)
+  blocks-refused most flat.OutOfMemory b h = tt
+  blocks-refused most flat.MessageTooLong b h = λ short light. at h.2 short where
     at : IsTooLong nothing_built (pieces array_schema (message_by es w bytes)) → length (layout_by es w bytes) < 2 ^ 31 → ⊥
     at (inl f) short = absurd (cc)
     at (inr l) short = omega (arith, l, short, ap (λ z. length z) (bytes-with_pieces array_schema shares (message_by es w bytes) of))
-  blocks-refused flat.BadTable b h = absurd h
-  blocks-refused flat.TableLimit b h = absurd h
+  blocks-refused most flat.BadTable b h = absurd h
+  blocks-refused most flat.TableLimit b h = absurd h
 
   -- More nodes have too many tables.
-  pub too-many : Everywhere IsToldNode w → 499999 < nodes w → RefusesBytes (layout_by es w bytes) WireLimit
-  too-many told n = λ short light.
+  pub too-many : (deep : Bool) → Everywhere IsToldNode w → 499999 < nodes w → RefusesBytes (limits_to deep) (layout_by es w bytes) WireLimit
+  too-many deep told n = λ short light.
       let shown = shows-layout (message_by es w bytes) of short in
       omega (arith, n, light.1, ap (λ z. z.tables) (weight-shown array_schema (layout_by es w bytes) (message_by es w bytes) shown), message-tables es w bytes told)
 
-  pub heavy : (m : List ℕ) (e : WireError) → m ≡ layout_by es w bytes → (e ≡ WireLimit) × (IsLight limits (weight array_schema m) → ⊥) → RefusesBytes (layout_by es w bytes) e
-  heavy m e is h =
-      let P : List ℕ → Type 0 = λ z. IsLight limits (weight array_schema z) → ⊥ in
-      let Q : WireError → Type 0 = λ z. RefusesBytes (layout_by es w bytes) z in
+  pub heavy : (most : Limits) (m : List ℕ) (e : WireError) → m ≡ layout_by es w bytes → (e ≡ WireLimit) × (IsLight most (weight array_schema m) → ⊥) → RefusesBytes most (layout_by es w bytes) e
+  heavy most m e is h =
+      let P : List ℕ → Type 0 = λ z. IsLight most (weight array_schema z) → ⊥ in
+      let Q : WireError → Type 0 = λ z. RefusesBytes most (layout_by es w bytes) z in
       subst Q (sym h.0) (λ short light. subst P is h.1 light)
 
   -- A builder has them at least, and is not in the midst of one.

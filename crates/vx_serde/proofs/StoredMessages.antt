@@ -7,7 +7,7 @@ use Rattle.vx_flat.specs.declared.error.FlatError.{FlatError}
 use Rattle.vx_flat.specs.declared.error.FlatError.TheVariants as tables
 use Rattle.vx_flat.specs.declared.viewing.View.{View}
 use Rattle.vx_flat.specs.declared.limits.Limits.{Limits}
-use Rattle.vx_flat.specs.Limits.{limits, IsLight}
+use Rattle.vx_flat.specs.Limits.{IsLight}
 use Rattle.vx_flat.specs.Places.{u32_at}
 use Rattle.vx_flat.specs.Reading.{table_shown}
 use Rattle.vx_flat.specs.Seen.{seen, part_in, fields_or_none, IsViewAt, IsViewOf, IsRootView}
@@ -71,8 +71,8 @@ pub kept_root : (o : Option (Rose NodeFields)) (root : Rose NodeFields) → o �
 kept_root (Some t) root e = refl
 kept_root None root e = absurd (cc)
 
-pub message_of_stored : (m : List ℕ) (t : ℕ) (bs : List Buffer) → IsStored m t → Shows array_schema m (array_at m t) → IsLight limits (weight array_schema m) → IsMessageOf limits m (stored m t bs)
-message_of_stored m t bs s shows light = record {
+pub message_of_stored : (most : Limits) (m : List ℕ) (t : ℕ) (bs : List Buffer) → IsStored m t → Shows array_schema m (array_at m t) → IsLight most (weight array_schema m) → IsMessageOf most m (stored m t bs)
+message_of_stored most m t bs s shows light = record {
   value = array_at m t;
   shows = shows;
   light = light;
@@ -98,15 +98,15 @@ never_missing m t w v s h e =
 
 -- ---- why a message is not kept
 
-pub unread : (m : List ℕ) (e : FlatError) → (e ≡ tables.BadTable → (v : Fields) → Shows array_schema m v → ⊥) → (e ≡ tables.TableLimit → IsLight limits (weight array_schema m) → ⊥) → (e ≡ tables.MessageTooLong → ⊥)
-    → RefusesMessage limits (message_refusal e) m
-unread m tables.OutOfMemory bad heavy long = tt
-unread m tables.BadTable bad heavy long = λ v r shows root. bad refl v shows
-unread m tables.TableLimit bad heavy long = heavy refl
-unread m tables.MessageTooLong bad heavy long = absurd (long refl)
+pub unread : (most : Limits) (m : List ℕ) (e : FlatError) → (e ≡ tables.BadTable → (v : Fields) → Shows array_schema m v → ⊥) → (e ≡ tables.TableLimit → IsLight most (weight array_schema m) → ⊥) → (e ≡ tables.MessageTooLong → ⊥)
+    → RefusesMessage most (message_refusal e) m
+unread most m tables.OutOfMemory bad heavy long = tt
+unread most m tables.BadTable bad heavy long = λ v r shows root. bad refl v shows
+unread most m tables.TableLimit bad heavy long = heavy refl
+unread most m tables.MessageTooLong bad heavy long = absurd (long refl)
 
-pub rootless : (m : List ℕ) (v : View) → IsRootView array_schema m v → part_in v 0 ≡ absent → RefusesMessage limits BadTable m
-rootless m v h e = λ value root shows root_is.
+pub rootless : (most : Limits) (m : List ℕ) (v : View) → IsRootView array_schema m v → part_in v 0 ≡ absent → RefusesMessage most BadTable m
+rootless most m v h e = λ value root shows root_is.
     let same = shown-one array_schema m value (seen v) shows h.0 in
     let none = root_missing v (view_of m (u32_at m 0) (weight array_schema m) v h.1) e in
     let both = sym root_is ∙ ap (λ z. (message_of z).root) same ∙ none in
@@ -155,27 +155,27 @@ module _ (blob segment message : List ℕ) (is : IsBlob blob segment message) wh
           let whole : (length xs + length ys) - length xs ≡ length ys = omega arith in
           rw (whole, drop-append_seam xs (ys ++ zs)) (take-append_seam ys zs)
 
-  pub blob_refused : (e : WireError) → RefusesSegment limits e no_override segment message → RefusesOpening limits e blob
-  blob_refused OutOfMemory r = tt
-  blob_refused BadTable r = record { segment = segment; message = message; blob_is = is; none = r }
-  blob_refused TableLimit r = record { segment = segment; message = message; blob_is = is; heavy = r }
-  blob_refused BadAlignment r = record { segment = segment; message = message; value = r.value; blob_is = is; shows = r.shows; refused = aligned-any (length segment) 0 0 (message_of r.value).descriptors r.refused }
-  blob_refused Compressed r = record { segment = segment; message = message; value = r.value; blob_is = is; shows = r.shows; refused = plain-any (length segment) 0 0 (message_of r.value).descriptors r.refused }
-  blob_refused OutOfBounds r = record { segment = segment; message = message; value = r.value; blob_is = is; shows = r.shows; refused = past-end (length segment) 0 0 (message_of r.value).descriptors r.refused }
-  blob_refused _ r = absurd r
+  pub blob_refused : (most : Limits) (e : WireError) → RefusesSegment most e no_override segment message → RefusesOpening most e blob
+  blob_refused most OutOfMemory r = tt
+  blob_refused most BadTable r = record { segment = segment; message = message; blob_is = is; none = r }
+  blob_refused most TableLimit r = record { segment = segment; message = message; blob_is = is; heavy = r }
+  blob_refused most BadAlignment r = record { segment = segment; message = message; value = r.value; blob_is = is; shows = r.shows; refused = aligned-any (length segment) 0 0 (message_of r.value).descriptors r.refused }
+  blob_refused most Compressed r = record { segment = segment; message = message; value = r.value; blob_is = is; shows = r.shows; refused = plain-any (length segment) 0 0 (message_of r.value).descriptors r.refused }
+  blob_refused most OutOfBounds r = record { segment = segment; message = message; value = r.value; blob_is = is; shows = r.shows; refused = past-end (length segment) 0 0 (message_of r.value).descriptors r.refused }
+  blob_refused most _ r = absurd r
 
-  pub is_blob_of : (r : Result Serialized WireError) → IfOk r (IsMessageOf limits message) → IfOk r (λ a. a.buffers ≡ buffers_at segment 0 a.descriptors) → IfOk r (λ a. AreClean segment a.descriptors)
-      → IfOk r (IsBlobOf limits blob)
-  is_blob_of (Ok a) told buffers clean = record { segment = segment; message = message; blob_is = is; message_is = told; buffers = buffers; clean = clean }
-  is_blob_of (Err e) told buffers clean = tt
+  pub is_blob_of : (most : Limits) (r : Result Serialized WireError) → IfOk r (IsMessageOf most message) → IfOk r (λ a. a.buffers ≡ buffers_at segment 0 a.descriptors) → IfOk r (λ a. AreClean segment a.descriptors)
+      → IfOk r (IsBlobOf most blob)
+  is_blob_of most (Ok a) told buffers clean = record { segment = segment; message = message; blob_is = is; message_is = told; buffers = buffers; clean = clean }
+  is_blob_of most (Err e) told buffers clean = tt
 
-  pub blob_cause : (r : Result Serialized WireError) → IfErr r (λ e. RefusesSegment limits e no_override segment message) → IfErr r (λ e. RefusesOpening limits e blob)
-  blob_cause (Ok a) cause = tt
-  blob_cause (Err e) cause = blob_refused e cause
+  pub blob_cause : (most : Limits) (r : Result Serialized WireError) → IfErr r (λ e. RefusesSegment most e no_override segment message) → IfErr r (λ e. RefusesOpening most e blob)
+  blob_cause most (Ok a) cause = tt
+  blob_cause most (Err e) cause = blob_refused most e cause
 
 -- A blob's array tells the wire tree that the blob carries.
-pub opened : (blob : List ℕ) (ids : List (List ℕ)) (a : Serialized) → IsBlobOf limits blob a → IsOpened limits blob ids (wire_in ids a)
-opened blob ids a h =
+pub opened : (most : Limits) (blob : List ℕ) (ids : List (List ℕ)) (a : Serialized) → IsBlobOf most blob a → IsOpened most blob ids (wire_in ids a)
+opened most blob ids a h =
     let told = h.message_is in
     let own = h.buffers ∙ ap (λ ds. buffers_at h.segment 0 ds) told.descriptors in
     let P : List Descriptor → Type 0 = λ ds. AreClean h.segment ds in

@@ -4,7 +4,7 @@ use Rattle.std.specs.Int.{w32, to_le_bytes}
 use Rattle.std.proofs.Common.{arith, sym, ◌∙◌, ap, subst, append-nil, length-append}
 use Rattle.std.proofs.lemmas.List.{length-replicate}
 use Rattle.vx_buffer.specs.Buffer.{Buffer}
-use Rattle.vx_flat.specs.Limits.{limits, IsLight}
+use Rattle.vx_flat.specs.Limits.{IsLight}
 use Rattle.vx_flat.specs.Weight.{weight}
 use Rattle.vx_trees.specs.Walks.{levels}
 use Rattle.vx_array_tree.specs.Tree.{Tree}
@@ -22,6 +22,7 @@ use Rattle.vx_wire_tree.specs.Written.{wire}
 use Rattle.vx_encodings.specs.Messages.{codec}
 use Rattle.vx_serde.specs.Causes.{RefusesArray}
 use Rattle.vx_serde.specs.Spells.{ids_after}
+use Rattle.vx_serde.specs.Limits.{message_limits, most_levels}
 use Rattle.vx_serde.specs.Placing.{pad, descriptors_from, data_from, data_end}
 use Rattle.vx_serde.specs.WritingSteps.{KeepsTreeLimits, IsLaidOut, RefusesBytes, RefusesLayout, layout_of}
 use Rattle.vx_serde.specs.Written.{message_bytes, message_pad, blob_bytes, IsWritable}
@@ -62,9 +63,9 @@ pub writable-placeable : (ids : List (List ℕ)) (o : SerializeOptions) (w : Wir
 writable-placeable ids o w h = record { tree = h.tree; ends = omega (arith, h.ends, length-blob ids o w) }
 
 pub writable-is : (ids : List (List ℕ)) (o : SerializeOptions) (w : Wire) (last : ℕ) (ds message : List ℕ) → IsLaidOut o w ds last → message ≡ message_bytes ids o w
-    → length message < 2 ^ 31 → IsLight limits (weight array_schema message) → last + (pad o 3 last + length message + 4) < 2 ^ 64 → IsWritable ids o w
+    → length message < 2 ^ 31 → IsLight (message_limits o) (weight array_schema message) → last + (pad o 3 last + length message + 4) < 2 ^ 64 → IsWritable ids o w
 writable-is ids o w last ds message p e short light ends =
-    let P : List ℕ → Type 0 = λ m. IsLight limits (weight array_schema m) in
+    let P : List ℕ → Type 0 = λ m. IsLight (message_limits o) (weight array_schema m) in
     record {
       tree = p.placeable.tree;
       short = omega (arith, short, ap (λ m. length m) e);
@@ -73,7 +74,7 @@ writable-is ids o w last ds message p e short light ends =
     }
 
 -- An array is laid out where its tree keeps the limits and its buffers' descriptors are these.
-pub laid_out : (s : SessionMeaning) (t : Tree) (o : SerializeOptions) (bs : List Buffer) (descriptors : List ℕ) (last : ℕ) → bs ≡ buffers_in (wire codec s t) → levels t ≤ 62 → length bs ≤ 65535 → AreDescribable bs
+pub laid_out : (s : SessionMeaning) (t : Tree) (o : SerializeOptions) (bs : List Buffer) (descriptors : List ℕ) (last : ℕ) → bs ≡ buffers_in (wire codec s t) → levels t ≤ most_levels o → length bs ≤ 65535 → AreDescribable bs
     → descriptors ≡ descriptors_bytes (descriptors_from o o.offset bs) → last ≡ data_end o o.offset bs → last < 2 ^ 64 → IsLaidOut o (wire codec s t) descriptors last
 laid_out s t o bs descriptors last same deep few all d e ends =
     let P : List Buffer → Type 0 = λ z. AreDescribable z in
@@ -105,12 +106,12 @@ module _ (s : SessionMeaning) (t : Tree) (c : Context) (o : SerializeOptions) wh
 
   -- An array whose message is not written.
   pub unwritten : (bytes message : List ℕ) (e : WireError) → bytes ≡ descriptors_bytes (descriptors_from o o.offset (buffers_in (wire codec s t)))
-      → message ≡ layout_of (ids_after s t c) (wire codec s t) bytes → RefusesBytes message e → RefusesArray s t c o e
+      → message ≡ layout_of (ids_after s t c) (wire codec s t) bytes → RefusesBytes (message_limits o) message e → RefusesArray s t c o e
   unfolding w
   unwritten bytes message OutOfMemory p q h = tt
   unwritten bytes message WireLimit p q h = λ k.
       let same = q ∙ message-is (ids_after s t c) o w bytes p in
-      let P : List ℕ → Type 0 = λ m. IsLight limits (weight array_schema m) in
+      let P : List ℕ → Type 0 = λ m. IsLight (message_limits o) (weight array_schema m) in
       h (omega (arith, k.writable.short, ap (λ m. length m) same)) (subst P (sym same) k.writable.light)
   unwritten bytes message _ p q h = absurd h
 

@@ -19,7 +19,7 @@ use Rattle.vx_serde.specs.Spells.{KeepsWriterLimits, ids_after}
 
 -- The options under which limits are kept where a call takes none.
 abbrev pub plain_options : SerializeOptions
-plain_options = record { offset = 0; include_padding = false }
+plain_options = record { offset = 0; include_padding = false; deep = false }
 
 -- The value of an array's node under a context: identifiers by their places after the array's are taken in, buffers
 -- numbered from 0 on.

@@ -1,7 +1,8 @@
 -- What the steps of writing an array give, and why they refuse.
 use Rattle.std.specs.Prelude.{ℕ, ◌≡◌, ◌<◌, ◌^◌, ◌⊎◌, List, [], ◌∷◌, None, length}
 use Rattle.vx_flat.specs.Layout.{written_layout}
-use Rattle.vx_flat.specs.Limits.{limits, IsLight}
+use Rattle.vx_flat.specs.declared.limits.Limits.{Limits}
+use Rattle.vx_flat.specs.Limits.{IsLight}
 use Rattle.vx_flat.specs.Value.{table, elements, field, no_fields}
 use Rattle.vx_flat.specs.Weight.{weight}
 use Rattle.vx_flat.specs.declared.error.FlatError.{FlatError}
@@ -41,11 +42,11 @@ pub record IsLaidOut (options : SerializeOptions) (w : Wire) (descriptors : List
   pub descriptors_are : descriptors ≡ descriptors_bytes (descriptors_from options options.offset (buffers_in w))
   pub last_is : last ≡ data_end options options.offset (buffers_in w)
 
--- The bytes of a message are refused for want of memory, or because they are too many or too heavy.
-abbrev pub RefusesBytes : List ℕ → WireError → Type 0
-RefusesBytes message OutOfMemory = Unit {0}
-RefusesBytes message WireLimit = length message < 2 ^ 31 → IsLight limits (weight array_schema message) → ⊥
-RefusesBytes message _ = ⊥
+-- The bytes of a message are refused for want of memory, or because they are too many or weigh more than limits allow.
+abbrev pub RefusesBytes : Limits → List ℕ → WireError → Type 0
+RefusesBytes most message OutOfMemory = Unit {0}
+RefusesBytes most message WireLimit = length message < 2 ^ 31 → IsLight most (weight array_schema message) → ⊥
+RefusesBytes most message _ = ⊥
 
 -- Bytes that are descriptors.
 abbrev pub AreDescriptors : List ℕ → Type 0

@@ -2,12 +2,17 @@
 
 ghost use Rattle.std.specs.Prelude.{◌≡◌, ◌≤◌, ◌<◌, ◌^◌, ◌-◌, ◌↔◌, IsTrue, All, length};
 ghost use Rattle.vx_wire_tree.specs.Limits.{IsDescribable, AreDescribable};
+ghost use Rattle.vx_serde.specs.Limits.{most_levels as levels_by};
 
 use crate::lent_buffers::LentBuffers;
+use crate::options::SerializeOptions;
 use vx_buffer::BufferHandle;
 
 /// How many levels of nodes a written tree may have.
 pub(crate) const MAX_LEVELS: usize = 62;
+
+/// How many it may have where deep trees are asked for.
+const MAX_LEVELS_DEEP: usize = 126;
 
 /// How many buffers a written tree may have.
 pub(crate) const MAX_BUFFERS: usize = 65_535;
@@ -21,6 +26,16 @@ pub(crate) const MAX_BUFFER_LEN: usize = 4_294_967_295;
 
 /// The greatest exponent of the alignment of a buffer that is read or written.
 pub(crate) const MAX_EXPONENT: u8 = 16;
+
+/// How many levels of nodes a tree may have that is written by these options.
+pub(crate) fn most_levels(options: &SerializeOptions) -> usize
+    ensures { result ≡ levels_by options.now }
+{
+    if options.deep {
+        return MAX_LEVELS_DEEP;
+    }
+    MAX_LEVELS
+}
 
 /// Whether a descriptor can tell a buffer.
 fn is_describable(buffer: &BufferHandle) -> bool

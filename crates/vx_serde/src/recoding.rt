@@ -64,7 +64,7 @@ pub fn recode(
         let asked = request blob dtype.now len read_ids.now ctx.old s options.now in
         IfErr result (Refuses asked) }
 {
-    let serialized = match SerializedArray::try_from_buffer(alloc, blob) {
+    let serialized = match SerializedArray::try_from_buffer_to(alloc, blob, options.deep) {
         Ok(serialized) => serialized,
         Err(e) => return Err(e),
     };

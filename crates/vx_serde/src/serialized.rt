@@ -2,7 +2,7 @@
 
 ghost use Rattle.std.specs.Prelude.{◌≡◌, ◌<◌, List, ℕ, Some, None, [], length, slice_get, IfOk, IfErr, OnOk, OnErr, IsOkUnless};
 ghost use Rattle.vx_trees.specs.Rose.{label, below, count};
-ghost use Rattle.vx_flat.specs.Limits.{limits, IsLight};
+ghost use Rattle.vx_flat.specs.Limits.{limits, limits_to, IsLight};
 ghost use Rattle.vx_flat.specs.Seen.{seen, IsViewOf};
 ghost use Rattle.vx_flat.specs.Shows.{Shows};
 ghost use Rattle.vx_flat.specs.Weight.{weight};
@@ -31,7 +31,7 @@ use std::alloc::Global;
 use std::collections::BTreeMap;
 use std::marker::Model;
 use vx_buffer::{BufferHandle, BufferHandles, ByteBuffer};
-use vx_flat::{FlatError, View, Weight, verify_uncounted, view_at};
+use vx_flat::{FlatError, View, Weight, verify_uncounted_to, view_at};
 use vx_types::Names;
 
 /// An array as a blob has it: its message, verified once, and the buffers that the message's nodes name. Contracts see what
@@ -94,15 +94,15 @@ struct Verified<'a> {
     descriptors: &'a [u8],
 }
 
-/// What is kept of a message that shows an array value with a root.
-fn verify_message(message: &[u8]) -> Result<Verified<'_>, WireError>
+/// What is kept of a message that shows an array value with a root, deep or not.
+fn verify_message(message: &[u8], deep: bool) -> Result<Verified<'_>, WireError>
     ensures stored { IfOk result (λ v. IsStored message.now v.place) }
     ensures shows { IfOk result (λ v. Shows array_schema message.now (array_at message.now v.place)) }
     ensures descriptors { IfOk result (λ v. descriptors_of v.descriptors.now ≡ (message_of (array_at message.now v.place)).descriptors) }
-    ensures light { OnOk result (IsLight limits (weight array_schema message.now)) }
-    ensures cause { IfErr result (λ e. RefusesMessage limits e message.now) }
+    ensures light { OnOk result (IsLight (limits_to deep) (weight array_schema message.now)) }
+    ensures cause { IfErr result (λ e. RefusesMessage (limits_to deep) e message.now) }
 {
-    let view = match verify_uncounted(message, &ArrayKind) {
+    let view = match verify_uncounted_to(message, &ArrayKind, deep) {
         Ok(view) => view,
         Err(e) => return Err(WireError::from(e)),
     };
@@ -144,7 +144,7 @@ impl SerializedArray {
         ensures buffers { IfOk result (λ a. a.buffers ≡ buffers) }
         ensures cause { IfErr result (λ e. RefusesMessage limits e tree.bytes) }
     {
-        let verified = match verify_message(tree.as_slice()) {
+        let verified = match verify_message(tree.as_slice(), false) {
             Ok(verified) => verified,
             Err(e) => return Err(e),
         };
@@ -173,10 +173,54 @@ impl SerializedArray {
         ensures clean { IfOk result (λ a. AreClean segment.bytes a.descriptors) }
         ensures cause { IfErr result (λ e. RefusesSegment limits e no_override segment.bytes tree.bytes) }
     {
+        SerializedArray::over_segment(alloc, tree, segment, false)
+    }
+
+    /// [`SerializedArray::from_flatbuffer_and_segment`], where trees may be deep or not.
+    fn over_segment(
+        alloc: Global,
+        tree: ByteBuffer,
+        segment: BufferHandle,
+        deep: bool,
+    ) -> Result<SerializedArray, WireError>
+        ensures message { IfOk result (IsMessageOf (limits_to deep) tree.bytes) }
+        ensures buffers { IfOk result (λ a. a.buffers ≡ buffers_at segment.bytes 0 a.descriptors) }
+        ensures clean { IfOk result (λ a. AreClean segment.bytes a.descriptors) }
+        ensures cause { IfErr result (λ e. RefusesSegment (limits_to deep) e no_override segment.bytes tree.bytes) }
+    {
         let overrides = BTreeMap::new(alloc);
-        SerializedArray::from_flatbuffer_and_segment_with_overrides(
-            alloc, tree, segment, &overrides,
-        )
+        SerializedArray::over_segment_with(alloc, tree, segment, &overrides, deep)
+    }
+
+    /// [`SerializedArray::from_flatbuffer_and_segment_with_overrides`], where trees may be deep or not.
+    fn over_segment_with(
+        alloc: Global,
+        tree: ByteBuffer,
+        segment: BufferHandle,
+        overrides: &BTreeMap<u32, ByteBuffer>,
+        deep: bool,
+    ) -> Result<SerializedArray, WireError>
+        ensures message { IfOk result (IsMessageOf (limits_to deep) tree.bytes) }
+        ensures buffers { IfOk result (λ a. a.buffers ≡ buffers_with (overrides_in overrides.now) segment.bytes 0 0 a.descriptors) }
+        ensures clean { IfOk result (λ a. AreCleanWith (overrides_in overrides.now) (length segment.bytes) 0 0 a.descriptors) }
+        ensures cause { IfErr result (λ e. RefusesSegment (limits_to deep) e (overrides_in overrides.now) segment.bytes tree.bytes) }
+    {
+        let verified = match verify_message(tree.as_slice(), deep) {
+            Ok(verified) => verified,
+            Err(e) => return Err(e),
+        };
+        let buffers = match take_buffers(alloc, &segment, verified.descriptors, overrides) {
+            Ok(buffers) => buffers,
+            Err(e) => return Err(e),
+        };
+        let place = verified.place;
+        let weight = verified.weight;
+        Ok(SerializedArray {
+            message: tree,
+            place,
+            weight,
+            buffers,
+        })
     }
 
     /// The array of a message whose descriptors tell its buffers in a segment, but for those that are given by the number
@@ -196,22 +240,7 @@ impl SerializedArray {
         ensures clean { IfOk result (λ a. AreCleanWith (overrides_in overrides.now) (length segment.bytes) 0 0 a.descriptors) }
         ensures cause { IfErr result (λ e. RefusesSegment limits e (overrides_in overrides.now) segment.bytes tree.bytes) }
     {
-        let verified = match verify_message(tree.as_slice()) {
-            Ok(verified) => verified,
-            Err(e) => return Err(e),
-        };
-        let buffers = match take_buffers(alloc, &segment, verified.descriptors, overrides) {
-            Ok(buffers) => buffers,
-            Err(e) => return Err(e),
-        };
-        let place = verified.place;
-        let weight = verified.weight;
-        Ok(SerializedArray {
-            message: tree,
-            place,
-            weight,
-            buffers,
-        })
+        SerializedArray::over_segment_with(alloc, tree, segment, overrides, false)
     }
 
     /// The array of a blob: its message, whose length stands in the last four bytes, and the buffers that its descriptors
@@ -224,6 +253,21 @@ impl SerializedArray {
         ensures opened { IfOk result (IsBlobOf limits blob.bytes) }
         ensures cause { IfErr result (λ e. RefusesOpening limits e blob.bytes) }
     {
+        SerializedArray::try_from_buffer_to(alloc, blob, false)
+    }
+
+    /// [`SerializedArray::try_from_buffer`], where with `deep` 128 tables may nest in the message instead of 64.
+    ///
+    /// # Errors
+    /// Those of [`SerializedArray::try_from_buffer`].
+    pub fn try_from_buffer_to(
+        alloc: Global,
+        blob: ByteBuffer,
+        deep: bool,
+    ) -> Result<SerializedArray, WireError>
+        ensures opened { IfOk result (IsBlobOf (limits_to deep) blob.bytes) }
+        ensures cause { IfErr result (λ e. RefusesOpening (limits_to deep) e blob.bytes) }
+    {
         let Some((segment, message)) = split_blob(blob.as_slice()) else {
             return Err(WireError::TooShort);
         };
@@ -231,11 +275,7 @@ impl SerializedArray {
         let end = start + message.len();
         let segment = blob.slice(alloc, 0..start)?;
         let message = blob.slice(alloc, start..end)?;
-        SerializedArray::from_flatbuffer_and_segment(
-            alloc,
-            message,
-            BufferHandle::new_host(segment),
-        )
+        SerializedArray::over_segment(alloc, message, BufferHandle::new_host(segment), deep)
     }
 
     /// The array again. No byte of its message or its buffers is copied.

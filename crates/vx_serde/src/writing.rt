@@ -4,7 +4,7 @@ ghost use Rattle.std.specs.Prelude.{◌≡◌, ◌+◌, ◌≤◌, ◌<◌, ◌-
 ghost use Rattle.std.specs.Int.{w32, to_le_bytes};
 ghost use Rattle.vx_flat.specs.Building.{Takes, IsStopped};
 ghost use Rattle.vx_flat.specs.IsOf.{IsOf};
-ghost use Rattle.vx_flat.specs.Limits.{limits, IsLight};
+ghost use Rattle.vx_flat.specs.Limits.{limits_to, IsLight};
 ghost use Rattle.vx_flat.specs.Pieces.{pieces};
 ghost use Rattle.vx_flat.specs.Shows.{Shows};
 ghost use Rattle.vx_flat.specs.Value.{Fields};
@@ -34,14 +34,14 @@ use crate::blocks::{TABLE, VECTOR, write_elements};
 use crate::error::WireError;
 use crate::gathering::{Gathered, gather};
 use crate::lent_buffers::LentBuffers;
-use crate::limits::{MAX_BUFFERS, MAX_LEVELS, MAX_NODES, are_describable};
+use crate::limits::{MAX_BUFFERS, MAX_NODES, are_describable, most_levels};
 use crate::nodes::{Passed, write_node};
 use crate::options::SerializeOptions;
 use crate::placing::{LaidOut, describe, greatest_alignment, pad_at, push_data, push_pad};
 use std::alloc::Global;
 use vx_arrays::Array;
 use vx_buffer::{BufferError, ByteBuffer, ByteBuffers};
-use vx_flat::{Builder, FlatBuffer, FlatError, LinkKind, verify_uncounted};
+use vx_flat::{Builder, FlatBuffer, FlatError, LinkKind, verify_uncounted_to};
 use vx_registry::{ArrayContext, ArraySession};
 
 // A little more than the bytes of a message that come with a node of one buffer.
@@ -74,14 +74,14 @@ fn blob_buffers(
     Ok(out)
 }
 
-/// A message, where a reader's limits admit it.
-fn light_message(message: FlatBuffer) -> Result<Vec<u8>, WireError>
+/// A message, where a reader's limits admit it, deep or not.
+fn light_message(message: FlatBuffer, deep: bool) -> Result<Vec<u8>, WireError>
     requires { (v : Fields) × Shows array_schema message v }
     ensures same { IfOk result (λ m. m.items ≡ message) }
-    ensures light { OnOk result (IsLight limits (weigh.weight array_schema message)) }
-    ensures refused { IfErr result (λ e. (e ≡ WireError.WireLimit) × (IsLight limits (weigh.weight array_schema message) → ⊥)) }
+    ensures light { OnOk result (IsLight (limits_to deep) (weigh.weight array_schema message)) }
+    ensures refused { IfErr result (λ e. (e ≡ WireError.WireLimit) × (IsLight (limits_to deep) (weigh.weight array_schema message) → ⊥)) }
 {
-    match verify_uncounted(message.as_slice(), &ArrayKind) {
+    match verify_uncounted_to(message.as_slice(), &ArrayKind, deep) {
         Ok(_) => {}
         Err(FlatError::TableLimit) => return Err(WireError::WireLimit),
         Err(FlatError::OutOfMemory) => unreachable!(),
@@ -120,12 +120,14 @@ fn write_blocks(
     Ok(())
 }
 
-/// The message of an array, whose encodings have these numbers in preorder, and of the bytes of its descriptors.
+/// The message of an array, whose encodings have these numbers in preorder, and of the bytes of its descriptors; deep or
+/// not.
 fn write_message(
     alloc: Global,
     array: &Array,
     encodings: &[u16],
     descriptors: &[u8],
+    deep: bool,
 ) -> Result<Vec<u8>, WireError>
     requires known { length encodings.now ≡ nodes array.now }
     requires few { (s : SessionMeaning) → length (buffers_in (wire codec s array.now)) ≤ 65535 }
@@ -134,8 +136,8 @@ fn write_message(
     ensures written { (s : SessionMeaning) → IfOk result (λ m. m.items ≡ layout_by encodings.now (wire codec s array.now) descriptors.now) }
     ensures storable { OnOk result (HasStorableStats codec array.now) }
     ensures short { IfOk result (λ m. length m.items < 2 ^ 31) }
-    ensures light { IfOk result (λ m. IsLight limits (weigh.weight array_schema m.items)) }
-    ensures refused { (s : SessionMeaning) → IfErr result (RefusesBytes (layout_by encodings.now (wire codec s array.now) descriptors.now)) }
+    ensures light { IfOk result (λ m. IsLight (limits_to deep) (weigh.weight array_schema m.items)) }
+    ensures refused { (s : SessionMeaning) → IfErr result (RefusesBytes (limits_to deep) (layout_by encodings.now (wire codec s array.now) descriptors.now)) }
 {
     if encodings.len() > MAX_NODES {
         return Err(WireError::WireLimit);
@@ -147,7 +149,7 @@ fn write_message(
         Ok(message) => message,
         Err(_) => unreachable!(),
     };
-    light_message(message)
+    light_message(message, deep)
 }
 
 /// What an array's nodes bring along in preorder, and where its buffers go. Foreign nodes are written where `unknown` ones
@@ -170,8 +172,9 @@ fn place<'a>(
     ensures kept { (s : SessionMeaning) → KeepsContext (ids_in (wire codec s array.now)) ctx.old ctx.new }
     ensures refused { (x : ExtMeaning) → x.unknown ≡ unknown → IfErr result (RefusesLayout (tables_meaning arrays.now x) options.now array.now ctx.old) }
 {
+    let levels = most_levels(options);
     let mut found = Gathered::new(alloc);
-    gather(alloc, array, arrays, unknown, MAX_LEVELS, ctx, &mut found)?;
+    gather(alloc, array, arrays, unknown, levels, ctx, &mut found)?;
     if found.buffers.len() > MAX_BUFFERS || !are_describable(&found.buffers) {
         return Err(WireError::WireLimit);
     }
@@ -206,7 +209,13 @@ pub(crate) fn write_array(
     ensures cause { (x : ExtMeaning) → x.unknown ≡ unknown → IfErr result (RefusesArray (tables_meaning arrays.now x) array.now ctx.old options.now) }
 {
     let (found, placed) = place(alloc, array, arrays, unknown, ctx, options)?;
-    let message = write_message(alloc, array, &found.encodings, &placed.descriptors)?;
+    let message = write_message(
+        alloc,
+        array,
+        &found.encodings,
+        &placed.descriptors,
+        options.deep,
+    )?;
     // The message has the descriptors, and the list of buffers takes their room.
     drop(placed.descriptors);
     let padding = pad_at(options, 3, placed.end);

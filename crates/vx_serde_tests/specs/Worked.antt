@@ -24,7 +24,7 @@ no_ids = record { ids = []; allowed = None }
 
 -- Written at position 0 and without pads.
 abbrev pub unpadded : SerializeOptions
-unpadded = record { offset = 0; include_padding = false }
+unpadded = record { offset = 0; include_padding = false; deep = false }
 
 -- The blob: the numbers, the worked message of 148 bytes, and its length.
 abbrev pub integers_blob : List ℕ

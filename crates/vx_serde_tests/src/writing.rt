@@ -61,6 +61,7 @@ fn padded(offset: usize) -> SerializeOptions {
     SerializeOptions {
         offset,
         include_padding: true,
+        deep: false,
     }
 }
 

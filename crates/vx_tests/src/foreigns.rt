@@ -13,6 +13,7 @@ use vx_nested_parts::parts::{
     Made, There, both, bytes, dicts, extensions, flags, lists, nulls, structs, two, unions, views,
 };
 use vx_registry::ArrayContext;
+use vx_serde::{SerializedArray, WireError};
 use vx_serde_tests::files::{BLOB, EXTENSION_TYPE, IDS, NULL_TYPE, PADDED_BLOB, TYPE};
 use vx_type_wire::DTypeExt;
 use vx_types::{DType, Ids, Nullability, PType};
@@ -213,8 +214,35 @@ const NO_ROWS: [&str; 10] = [
     "0",
 ];
 
-// Whether the program ends so on a chain of foreign nodes.
-fn ends_chain(alloc: Global, levels: usize, len: &[u8], status: u8) -> bool {
+// The same, where deep trees are allowed.
+const NO_ROWS_DEEP: [&str; 11] = [
+    "recode",
+    "t",
+    "b",
+    "4",
+    "i",
+    "o",
+    "j",
+    "--unknown",
+    "--rows",
+    "0",
+    "--deep",
+];
+
+// Why the blob of a chain is not opened, deep or not, if it is not.
+fn unopened(
+    alloc: Global,
+    levels: usize,
+    len: &[u8],
+    deep: bool,
+) -> Result<Option<WireError>, WireError> {
+    let blob = ByteBuffer::from_vec(chain(alloc, levels, len)?)?;
+    Ok(SerializedArray::try_from_buffer_to(alloc, blob, deep).err())
+}
+
+// Whether the program ends so on a chain of foreign nodes, deep or not.
+fn ends_chain(alloc: Global, levels: usize, len: &[u8], deep: bool, status: u8) -> bool {
+    let words: &[&str] = if deep { &NO_ROWS_DEEP } else { &NO_ROWS };
     match chain(alloc, levels, len) {
         Ok(blob) => {
             let files = Files {
@@ -222,24 +250,33 @@ fn ends_chain(alloc: Global, levels: usize, len: &[u8], status: u8) -> bool {
                 blob: blob.as_slice(),
                 ids: "x.y\n",
             };
-            ends_on(alloc, &NO_ROWS, &files, status)
+            ends_on(alloc, words, &files, status)
         }
         Err(_) => false,
     }
 }
 
-// How many levels a chain has, the length of its message, and the status: with the message 64 tables may be nested, and
-// what is written has statistics, too.
-const CHAINS: [(usize, [u8; 4], u8); 3] = [
-    (62, [82, 6, 0, 0], 0),
-    (63, [108, 6, 0, 0], 24),
-    (64, [134, 6, 0, 0], 12),
+// How many levels a chain has, the length of its message, whether deep trees are allowed, why its blob is not opened, and
+// the status: with the message 64 or 128 tables may be nested, and what is written has statistics, too.
+const CHAINS: [(usize, [u8; 4], bool, Option<WireError>, u8); 7] = [
+    (62, [82, 6, 0, 0], false, None, 0),
+    (63, [108, 6, 0, 0], false, None, 24),
+    (64, [134, 6, 0, 0], false, Some(WireError::TableLimit), 12),
+    (63, [108, 6, 0, 0], true, None, 0),
+    (126, [210, 12, 0, 0], true, None, 0),
+    (127, [236, 12, 0, 0], true, None, 24),
+    (128, [6, 13, 0, 0], true, Some(WireError::TableLimit), 12),
 ];
 
 #[test]
-fn a_chain_of_62_foreign_nodes_is_written(rt: HostRuntime) {
-    for (levels, len, status) in &CHAINS {
-        assert!(rt; ends_chain(rt.alloc(), *levels, len, *status), "{levels}");
+fn chains_of_foreign_nodes_are_written_up_to_a_level(rt: HostRuntime) {
+    let alloc = rt.alloc();
+    for (levels, len, deep, refused, status) in &CHAINS {
+        assert!(rt;
+            unopened(alloc, *levels, len, *deep) == Ok(*refused),
+            "{levels}"
+        );
+        assert!(rt; ends_chain(alloc, *levels, len, *deep, *status), "{levels}");
     }
 }
 

@@ -1,5 +1,5 @@
 -- From what the steps of the command `make` ensure to what it makes.
-use Rattle.std.proofs.Common.{◌≡◌, ℕ, List, None, Some, Result, Ok, Err, IfOk, sym, ap, subst, ◌∙◌}
+use Rattle.std.proofs.Common.{◌≡◌, ℕ, false, List, None, Some, Result, Ok, Err, IfOk, sym, ap, subst, ◌∙◌}
 use Rattle.vx_buffer.specs.Buffer.{Buffer}
 use Rattle.vx_buffer.specs.Joined.{joined}
 use Rattle.vx_flat.specs.Building.{nothing_built}
@@ -57,7 +57,7 @@ type_refused array is t same e u status s = s ∙ ap type_status (type_memory e 
 
 -- ---- the blob
 
-module _ (array : Tree) (is : IsTable array) (s : SessionMeaning) (c : Context) (o : SerializeOptions) (session : s ≡ make_session) (context : c ≡ no_ids) (options : o ≡ padded_at None) where
+module _ (array : Tree) (is : IsTable array) (s : SessionMeaning) (c : Context) (o : SerializeOptions) (session : s ≡ make_session) (context : c ≡ no_ids) (options : o ≡ padded_at None false) where
   -- A table is refused for want of memory alone.
   pub once_refused : (e : WireError) → RefusesArray s array c o e → (status : Status) → status ≡ blob_status e → status ≡ OutOfMemory
   once_refused e r status same =
@@ -79,18 +79,18 @@ module _ (array : Tree) (is : IsTable array) (s : SessionMeaning) (c : Context) 
 -- ---- the blob once more
 
 module _ (array : Tree) (is : IsTable array) (w : WrittenTable) (x : IsTableWritten array w) (bytes : List ℕ) (d : Typ) (n : ℕ) (ids : List (List ℕ)) (c : Context) (s : SessionMeaning) (o : SerializeOptions)
-    (bytes_are : bytes ≡ w.blob.bytes) (d_is : d ≡ (label array).dtype) (n_is : n ≡ (label array).len) (ids_are : ids ≡ w.ids) (context : c ≡ no_ids) (session : s ≡ make_session) (options : o ≡ padded_at None) where
-  asked : request_for bytes d n ids c s o ≡ request_for (joined x.buffers) (label array).dtype (label array).len x.after.ids no_ids make_session (padded_at None)
+    (bytes_are : bytes ≡ w.blob.bytes) (d_is : d ≡ (label array).dtype) (n_is : n ≡ (label array).len) (ids_are : ids ≡ w.ids) (context : c ≡ no_ids) (session : s ≡ make_session) (options : o ≡ padded_at None false) where
+  asked : request_for bytes d n ids c s o ≡ request_for (joined x.buffers) (label array).dtype (label array).len x.after.ids no_ids make_session (padded_at None false)
   asked = λ k. request_for ((bytes_are ∙ x.blob_is) k) (d_is k) (n_is k) ((ids_are ∙ x.ids_are) k) (context k) (session k) (options k)
 
-  can : CanRecode (request_for (joined x.buffers) (label array).dtype (label array).len x.after.ids no_ids make_session (padded_at None))
+  can : CanRecode (request_for (joined x.buffers) (label array).dtype (label array).len x.after.ids no_ids make_session (padded_at None false))
   can =
-      let P : Tree → Type 0 = λ z. IsSerialized make_session z (padded_at None) no_ids x.after x.buffers → CanRecode (request_for (joined x.buffers) (label z).dtype (label z).len x.after.ids no_ids make_session (padded_at None)) in
+      let P : Tree → Type 0 = λ z. IsSerialized make_session z (padded_at None false) no_ids x.after x.buffers → CanRecode (request_for (joined x.buffers) (label z).dtype (label z).len x.after.ids no_ids make_session (padded_at None false)) in
       of_table P array is (λ y. table_again is.seed is.rows is.few x.after x.buffers y) x.serialized
 
   spelled : Spells (joined x.buffers) x.after.ids (label array).dtype (label array).len make_session array
   spelled =
-      let P : Tree → Type 0 = λ z. IsSerialized make_session z (padded_at None) no_ids x.after x.buffers → Spells (joined x.buffers) x.after.ids (label z).dtype (label z).len make_session z in
+      let P : Tree → Type 0 = λ z. IsSerialized make_session z (padded_at None false) no_ids x.after x.buffers → Spells (joined x.buffers) x.after.ids (label z).dtype (label z).len make_session z in
       of_table P array is (λ y. table_spelled is.seed is.rows is.few x.after x.buffers y) x.serialized
 
   -- It can be recoded.
@@ -103,10 +103,10 @@ module _ (array : Tree) (is : IsTable array) (w : WrittenTable) (x : IsTableWrit
   own : canon codec make_session array ≡ array
   own = of_table (λ z. canon codec make_session z ≡ z) array is (table_own is.seed is.rows is.few)
 
-  again : (outputs : Outputs) → AreMade (request_for (joined x.buffers) (label array).dtype (label array).len x.after.ids no_ids make_session (padded_at None)) outputs → IsWrittenAgain array outputs
+  again : (outputs : Outputs) → AreMade (request_for (joined x.buffers) (label array).dtype (label array).len x.after.ids no_ids make_session (padded_at None false)) outputs → IsWrittenAgain array outputs
   again outputs m =
       let same : array ≡ m.made.array = m.faithful.the_one array spelled in
-      let serialized = subst (λ (z : Tree). IsSerialized make_session z (padded_at None) no_ids m.made.context m.made.buffers) (sym same) m.recoded.serialized in
+      let serialized = subst (λ (z : Tree). IsSerialized make_session z (padded_at None false) no_ids m.made.context m.made.buffers) (sym same) m.recoded.serialized in
       let context_is : m.made.context ≡ record { ids = table_ids; allowed = None } = (let e = sym serialized.grown_is ∙ grows in cc) in
       let ids_is : outputs.ids ≡ table_ids = m.holds.ids_are ∙ ap (λ (z : Context). z.ids) context_is in
       let again_spelled = subst (λ (z : Tree). Spells (joined m.made.buffers) m.made.context.ids (label array).dtype (label array).len make_session (canon codec make_session z)) (sym same) m.faithful.again in

@@ -2,11 +2,15 @@
 use Rattle.std.proofs.Common.{◌≡◌, ℕ, List, [], ◌∷◌, ◌++◌, Option, Some, None, ◌<◌, ◌^◌, codes, decimal, length, get_or, drop, refl, sym, ap, ◌∙◌, arith}
 use Rattle.std.specs.List.{AllByRecursion, flat_map}
 use Rattle.std.proofs.lemmas.Fmt.{decimal_injective}
-use Rattle.vxcat_core.specs.Options.{IsInRange, Setting, pad, rows, allow, unknown, setting_words}
+use Rattle.vxcat_core.specs.Options.{IsInRange, Setting, pad, rows, allow, unknown, deep, setting_words}
 use Rattle.vxcat_core.specs.GivenOptions.{Given, Gives, with_setting, with_settings}
 
 length_at : (a b : List (List ℕ)) (k : ℕ) → a ≡ b → length (get_or a k []) ≡ length (get_or b k [])
 length_at a b k same = ap (λ (l : List (List ℕ)). length (get_or l k [])) same
+
+-- The words `--rows` and `--deep` are equally long, and differ in a letter.
+letter_at : (a b : List (List ℕ)) (k : ℕ) → a ≡ b → get_or (get_or a 0 []) k 0 ≡ get_or (get_or b 0 []) k 0
+letter_at a b k same = ap (λ (l : List (List ℕ)). get_or (get_or l 0 []) k 0) same
 
 second : (a b : List (List ℕ)) → a ≡ b → get_or a 1 [] ≡ get_or b 1 []
 second a b same = ap (λ (l : List (List ℕ)). get_or l 1 []) same
@@ -36,6 +40,15 @@ front unknown (allow m) rest other fits also same = absurd (omega (arith, length
 front (pad n) unknown rest other fits also same = absurd (omega (arith, length_at _ _ 0 same))
 front (rows n) unknown rest other fits also same = absurd (omega (arith, length_at _ _ 0 same))
 front (allow n) unknown rest other fits also same = absurd (omega (arith, length_at _ _ 0 same))
+front deep deep rest other fits also same = (refl, behind_one _ _ same)
+front deep (pad m) rest other fits also same = absurd (omega (arith, length_at _ _ 0 same))
+front (pad n) deep rest other fits also same = absurd (omega (arith, length_at _ _ 0 same))
+front deep (rows m) rest other fits also same = absurd (omega (arith, letter_at _ _ 2 same))
+front (rows n) deep rest other fits also same = absurd (omega (arith, letter_at _ _ 2 same))
+front deep (allow m) rest other fits also same = absurd (omega (arith, length_at _ _ 0 same))
+front (allow n) deep rest other fits also same = absurd (omega (arith, length_at _ _ 0 same))
+front deep unknown rest other fits also same = absurd (omega (arith, length_at _ _ 0 same))
+front unknown deep rest other fits also same = absurd (omega (arith, length_at _ _ 0 same))
 
 -- What cannot be is not made good by more options.
 pub with_settings-None : (settings : List Setting) → with_settings None settings ≡ None
@@ -47,6 +60,7 @@ no_words (pad n) rest same = cc
 no_words (rows n) rest same = cc
 no_words (allow n) rest same = cc
 no_words unknown rest same = cc
+no_words deep rest same = cc
 
 -- No words give no option.
 pub nothing_given : (before : Given) (words : List (List ℕ)) → words ≡ [] → Gives before words before
@@ -101,6 +115,7 @@ pub too_many_rows : (setting : Setting) (rest other : List (List ℕ)) (n : ℕ)
 too_many_rows (pad m) rest other n many fits range same = absurd (omega (arith, length_at _ _ 0 same))
 too_many_rows (allow m) rest other n many fits range same = absurd (omega (arith, length_at _ _ 0 same))
 too_many_rows unknown rest other n many fits range same = absurd (omega (arith, length_at _ _ 0 same))
+too_many_rows deep rest other n many fits range same = absurd (omega (arith, letter_at _ _ 2 same))
 too_many_rows (rows m) rest other n many fits range same =
     let is : n ≡ m = decimal_injective n m fits (omega (arith, range)) (second _ _ same) in
     omega (arith, is, many, range)

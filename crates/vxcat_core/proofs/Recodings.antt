@@ -209,7 +209,7 @@ blob_to_inputs line loaded terms read BadIds cause = absurd cause
 
 module _ (line : Recode) (loaded : Loaded) (dtype : Typ) (read_ids ids : List (List ℕ)) (context : Context) (session : SessionMeaning) (options : SerializeOptions) (result : Result Outputs Status)
     (type_read : IsRead (ShowsType loaded.type_bytes) (readers_of line.settings) dtype) (ids_read : ReadsIds loaded.id_bytes read_ids) (ids_are : ids ≡ read_ids)
-    (context_read : (allowed : Option (List (List ℕ))) × ReadsAllowed loaded.allow_bytes allowed × (context ≡ context_of allowed)) (session_is : session ≡ session_of line.settings) (options_are : options ≡ padded_at line.settings.pad) where
+    (context_read : (allowed : Option (List (List ℕ))) × ReadsAllowed loaded.allow_bytes allowed × (context ≡ context_of allowed)) (session_is : session ≡ session_of line.settings) (options_are : options ≡ padded_at line.settings.pad line.settings.deep) where
   terms : Terms
   terms = record { dtype = dtype; ids = read_ids; allowed = context_read.0 }
 

@@ -188,7 +188,7 @@ abbrev pub nothing : Context
 nothing = record { ids = []; allowed = None }
 
 abbrev pub plain : SerializeOptions
-plain = record { offset = 0; include_padding = false }
+plain = record { offset = 0; include_padding = false; deep = false }
 
 -- The identifiers of its nodes.
 abbrev pub table_ids : List (List ℕ)

@@ -2,7 +2,7 @@
 use Rattle.std.specs.Prelude.{◌≡◌, ℕ, Bool, true, false, List, [], ◌∷◌, Option, Some, None, option_map, unwrap_or}
 use Rattle.std.specs.List.{AllByRecursion, flat_map}
 use Rattle.vxcat_core.specs.declared.options.Choice.{Choice}
-use Rattle.vxcat_core.specs.declared.options.Choice.TheVariants.{Pad, Rows, Allow, Unknown}
+use Rattle.vxcat_core.specs.declared.options.Choice.TheVariants.{Pad, Rows, Allow, Unknown, Deep}
 use Rattle.vxcat_core.specs.declared.options.Options.{Options}
 use Rattle.vxcat_core.specs.Options.{IsInRange, Setting, Settings, setting_words}
 use Rattle.vxcat_core.specs.Options as options
@@ -13,6 +13,7 @@ setting_of (Pad n) = options.pad n
 setting_of (Rows n) = options.rows n
 setting_of (Allow name) = options.allow name.now
 setting_of Unknown = options.unknown
+setting_of Deep = options.deep
 
 -- The options that were given, at most one of a kind.
 pub record Given : Type 0 where
@@ -20,18 +21,19 @@ pub record Given : Type 0 where
   pub rows : Option ℕ
   pub allow : Option (List ℕ)
   pub unknown : Bool
+  pub deep : Bool
 
 -- The options that are held.
 abbrev pub given_in : Options → Given
-given_in o = record { pad = o.pad; rows = o.rows; allow = option_map (λ name. name.now) o.allow; unknown = o.unknown }
+given_in o = record { pad = o.pad; rows = o.rows; allow = option_map (λ name. name.now) o.allow; unknown = o.unknown; deep = o.deep }
 
 -- What given options set.
 abbrev pub settings_by : Given → Settings
-settings_by given = record { pad = given.pad; rows = unwrap_or given.rows 10; allow = given.allow; unknown = given.unknown }
+settings_by given = record { pad = given.pad; rows = unwrap_or given.rows 10; allow = given.allow; unknown = given.unknown; deep = given.deep }
 
 -- No option was given.
 abbrev pub none_given : Given
-none_given = record { pad = None; rows = None; allow = None; unknown = false }
+none_given = record { pad = None; rows = None; allow = None; unknown = false; deep = false }
 
 -- What one kind of option gives, where none of its kind was given before; none where one was.
 abbrev pub given_once : {A : Type 0} → Option A → A → Option (Option A)
@@ -45,10 +47,11 @@ set_once true = None
 
 -- Options with one more: none where one of its kind was given before.
 abbrev pub with_setting : Given → Setting → Option Given
-with_setting given (options.pad n) = option_map (λ p. record { pad = p; rows = given.rows; allow = given.allow; unknown = given.unknown }) (given_once given.pad n)
-with_setting given (options.rows n) = option_map (λ r. record { pad = given.pad; rows = r; allow = given.allow; unknown = given.unknown }) (given_once given.rows n)
-with_setting given (options.allow name) = option_map (λ a. record { pad = given.pad; rows = given.rows; allow = a; unknown = given.unknown }) (given_once given.allow name)
-with_setting given options.unknown = option_map (λ u. record { pad = given.pad; rows = given.rows; allow = given.allow; unknown = u }) (set_once given.unknown)
+with_setting given (options.pad n) = option_map (λ p. record { pad = p; rows = given.rows; allow = given.allow; unknown = given.unknown; deep = given.deep }) (given_once given.pad n)
+with_setting given (options.rows n) = option_map (λ r. record { pad = given.pad; rows = r; allow = given.allow; unknown = given.unknown; deep = given.deep }) (given_once given.rows n)
+with_setting given (options.allow name) = option_map (λ a. record { pad = given.pad; rows = given.rows; allow = a; unknown = given.unknown; deep = given.deep }) (given_once given.allow name)
+with_setting given options.unknown = option_map (λ u. record { pad = given.pad; rows = given.rows; allow = given.allow; unknown = u; deep = given.deep }) (set_once given.unknown)
+with_setting given options.deep = option_map (λ d. record { pad = given.pad; rows = given.rows; allow = given.allow; unknown = given.unknown; deep = d }) (set_once given.deep)
 
 -- Options with more, one after the other: none where two are of a kind.
 abbrev pub with_settings : Option Given → List Setting → Option Given

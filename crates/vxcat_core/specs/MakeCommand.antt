@@ -1,5 +1,5 @@
 -- The command `make`: its words, what it makes, saves and prints, and how it ends.
-use Rattle.std.specs.Prelude.{◌≡◌, ◌≢◌, ◌⊎◌, ◌<◌, ◌≤◌, ◌^◌, ℕ, IsTrue, None, Some, List, [], ◌∷◌, codes, decimal}
+use Rattle.std.specs.Prelude.{◌≡◌, ◌≢◌, ◌⊎◌, ◌<◌, ◌≤◌, ◌^◌, ℕ, false, IsTrue, None, Some, List, [], ◌∷◌, codes, decimal}
 use Rattle.std.specs.Io.KnownBytes.{Keeps}
 use Rattle.vx_flat.specs.Layout.{written_layout}
 use Rattle.vx_trees.specs.Rose.{label}
@@ -69,7 +69,7 @@ pub record MadeFiles : Type 0 where
 pub record AreFilesOf (array : Tree) (files : MadeFiles) : Type 0 where
   pub type_written : files.type_bytes ≡ written_layout type_schema (type_table (label array).dtype)
   pub type_read : IsRead (ShowsType files.type_bytes) no_readers (label array).dtype
-  pub blob_written : files.blob ≡ blob_of make_session array no_ids (padded_at None)
+  pub blob_written : files.blob ≡ blob_of make_session array no_ids (padded_at None false)
   pub ids_grown : grown codec make_session no_ids array ≡ Some (record { ids = files.ids; allowed = None })
   pub spelled : Spells files.blob files.ids (label array).dtype (label array).len make_session array
 

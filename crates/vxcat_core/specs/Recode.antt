@@ -100,10 +100,10 @@ session_of settings = session_by settings.unknown
 abbrev pub context_of : Option (List (List ℕ)) → Context
 context_of allowed = record { ids = []; allowed = option_map (λ ids. with_ids [] ids) allowed }
 
--- Without `--pad` no pads are written; with it they are, as at its position.
-abbrev pub padded_at : Option ℕ → SerializeOptions
-padded_at None = record { offset = 0; include_padding = false }
-padded_at (Some offset) = record { offset = offset; include_padding = true }
+-- Without `--pad` no pads are written; with it they are, as at its position. With `--deep` deep trees are read and written.
+abbrev pub padded_at : Option ℕ → Bool → SerializeOptions
+padded_at None deep = record { offset = 0; include_padding = false; deep = deep }
+padded_at (Some offset) deep = record { offset = offset; include_padding = true; deep = deep }
 
 -- What the files say beside the blob: the type, the identifiers to read with, and those that are allowed, if a file says so.
 pub record Terms : Type 0 where
@@ -131,7 +131,7 @@ asked_by line loaded terms = record {
   len = line.len;
   ids = terms.ids;
   context = context_of terms.allowed;
-  options = padded_at line.settings.pad;
+  options = padded_at line.settings.pad line.settings.deep;
   session = session_of line.settings;
 }
 

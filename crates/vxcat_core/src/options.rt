@@ -21,6 +21,8 @@ pub enum Choice<'a> {
     Allow(&'a Name),
     /// `--unknown`: unknown encodings and unknown extensions are allowed.
     Unknown,
+    /// `--deep`: deep trees are read and written.
+    Deep,
 }
 
 /// The options of a command, no two of a kind.
@@ -30,6 +32,7 @@ pub struct Options<'a> {
     pub rows: Option<u64>,
     pub allow: Option<&'a Name>,
     pub unknown: bool,
+    pub deep: bool,
 }
 
 impl<'a> Options<'a> {
@@ -42,6 +45,7 @@ impl<'a> Options<'a> {
             rows: None,
             allow: None,
             unknown: false,
+            deep: false,
         }
     }
 
@@ -66,6 +70,7 @@ impl<'a> Options<'a> {
                 unknown: true,
                 ..self
             }),
+            Choice::Deep if !self.deep => Some(Options { deep: true, ..self }),
             _ => None,
         }
     }
@@ -81,6 +86,9 @@ pub fn next_choice<'a>(words: &'a [Name]) -> Option<(Choice<'a>, &'a [Name])>
     let (option, after) = words.split_first()?;
     if option.as_str() == "--unknown" {
         return Some((Choice::Unknown, after));
+    }
+    if option.as_str() == "--deep" {
+        return Some((Choice::Deep, after));
     }
     let (value, rest) = after.split_first()?;
     if option.as_str() == "--allow" {

@@ -4,11 +4,11 @@ ghost use Rattle.std.specs.Prelude.{◌≡◌, ◌+◌, ◌<◌, ◌≤◌, IsOk
 ghost use Rattle.vx_flat.specs.Value.{Fields};
 ghost use Rattle.vx_flat.specs.Shows.{Shows, ShowsAt};
 ghost use Rattle.vx_flat.specs.Weight as weigh;
-ghost use Rattle.vx_flat.specs.Limits.{limits, IsLight};
+ghost use Rattle.vx_flat.specs.Limits.{limits, limits_to, IsLight};
 ghost use Rattle.vx_flat.specs.Seen.{IsViewAt, IsRootView};
 
 use crate::error::FlatError;
-use crate::limits::{LIMITS, Limits};
+use crate::limits::Limits;
 use crate::reading::places::u32_at;
 use crate::reading::room::Room;
 use crate::reading::verifying::verify_table;
@@ -63,12 +63,36 @@ fn verify_within<'a, K: TableKind, L: Ledger>(
     })
 }
 
-/// The view of a message's root, where the message shows a value within the limits.
+/// The view of a message's root, where the message shows a value within the limits: with `deep`
+/// tables may nest 128 deep, and 64 without.
 ///
 /// It takes no memory, and at most 1,000,001 steps: one for each table that it enters. The only
 /// refusals are [`FlatError::BadTable`] where the message shows no value, and
 /// [`FlatError::TableLimit`] where it passes a limit. Where a message has a fault and passes a
 /// limit too, either may come. A shared part is judged as often as a path reaches it.
+pub fn verify_to<'a, K: TableKind, L: Ledger>(
+    message: &'a [u8],
+    kind: &K,
+    deep: bool,
+    steps: &mut Steps<L>,
+) -> Result<View<'a>, FlatError>
+    ensures shows { IfOk result (λ v. IsRootView K.schema message.now v) }
+    ensures light { OnOk result (IsLight (limits_to deep) (weigh.weight K.schema message.now)) }
+    ensures bad { IsErrOf result FlatError.BadTable
+        → (v : Fields) → Shows K.schema message.now v → ⊥ }
+    ensures limit { IsErrOf result FlatError.TableLimit
+        → IsLight (limits_to deep) (weigh.weight K.schema message.now) → ⊥ }
+    ensures takes_no_memory { IsErrOf result FlatError.OutOfMemory → ⊥ }
+    ensures never_long { IsErrOf result FlatError.MessageTooLong → ⊥ }
+    ensures complete { (v : Fields) → Shows K.schema message.now v
+        → IsLight (limits_to deep) (weigh.weight K.schema message.now) → IsOk result }
+    ensures exact { OnOk result (steps.new ≡ steps.old + (weigh.weight K.schema message.now).tables) }
+    ensures bound { steps.new ≤ steps.old + 1000001 }
+{
+    verify_within(message, kind, Limits::to(deep), steps)
+}
+
+/// [`verify_to`] where no deep tree is asked for: tables may nest 64 deep.
 pub fn verify<'a, K: TableKind, L: Ledger>(
     message: &'a [u8],
     kind: &K,
@@ -87,31 +111,52 @@ pub fn verify<'a, K: TableKind, L: Ledger>(
     ensures exact { OnOk result (steps.new ≡ steps.old + (weigh.weight K.schema message.now).tables) }
     ensures bound { steps.new ≤ steps.old + 1000001 }
 {
-    verify_within(message, kind, LIMITS, steps)
+    verify_to(message, kind, false, steps)
 }
 
-// [`verify`] by a counter of its own.
+// [`verify_to`] by a counter of its own.
 fn verify_by<'a, K: TableKind, L: Ledger>(
     message: &'a [u8],
     kind: &K,
+    deep: bool,
     blank: Blank,
 ) -> Result<View<'a>, FlatError>
     requires name { blank.name ≡ L.name }
     requires parts { blank.parts ≡ L.parts }
     requires some { 0 < blank.parts }
     ensures shows { IfOk result (λ v. IsRootView K.schema message.now v) }
-    ensures light { OnOk result (IsLight limits (weigh.weight K.schema message.now)) }
+    ensures light { OnOk result (IsLight (limits_to deep) (weigh.weight K.schema message.now)) }
     ensures bad { IsErrOf result FlatError.BadTable
         → (v : Fields) → Shows K.schema message.now v → ⊥ }
     ensures limit { IsErrOf result FlatError.TableLimit
-        → IsLight limits (weigh.weight K.schema message.now) → ⊥ }
+        → IsLight (limits_to deep) (weigh.weight K.schema message.now) → ⊥ }
     ensures takes_no_memory { IsErrOf result FlatError.OutOfMemory → ⊥ }
     ensures never_long { IsErrOf result FlatError.MessageTooLong → ⊥ }
     ensures complete { (v : Fields) → Shows K.schema message.now v
-        → IsLight limits (weigh.weight K.schema message.now) → IsOk result }
+        → IsLight (limits_to deep) (weigh.weight K.schema message.now) → IsOk result }
 {
     let mut steps: Steps<L> = Steps::new(blank);
-    verify(message, kind, &mut steps)
+    verify_to(message, kind, deep, &mut steps)
+}
+
+/// [`verify_to`] where nobody counts the steps.
+pub fn verify_uncounted_to<'a, K: TableKind>(
+    message: &'a [u8],
+    kind: &K,
+    deep: bool,
+) -> Result<View<'a>, FlatError>
+    ensures shows { IfOk result (λ v. IsRootView K.schema message.now v) }
+    ensures light { OnOk result (IsLight (limits_to deep) (weigh.weight K.schema message.now)) }
+    ensures bad { IsErrOf result FlatError.BadTable
+        → (v : Fields) → Shows K.schema message.now v → ⊥ }
+    ensures limit { IsErrOf result FlatError.TableLimit
+        → IsLight (limits_to deep) (weigh.weight K.schema message.now) → ⊥ }
+    ensures takes_no_memory { IsErrOf result FlatError.OutOfMemory → ⊥ }
+    ensures never_long { IsErrOf result FlatError.MessageTooLong → ⊥ }
+    ensures complete { (v : Fields) → Shows K.schema message.now v
+        → IsLight (limits_to deep) (weigh.weight K.schema message.now) → IsOk result }
+{
+    verify_by::<K, Brand>(message, kind, deep, Blank::new(1))
 }
 
 /// [`verify`] where nobody counts the steps.
@@ -130,7 +175,7 @@ pub fn verify_uncounted<'a, K: TableKind>(
     ensures complete { (v : Fields) → Shows K.schema message.now v
         → IsLight limits (weigh.weight K.schema message.now) → IsOk result }
 {
-    verify_by::<K, Brand>(message, kind, Blank::new(1))
+    verify_uncounted_to(message, kind, false)
 }
 
 /// A view again, from a place that a view of this kind over the same bytes told: without a check, a

@@ -126,7 +126,7 @@ fn write_under(alloc: Global, array: &Array, session: &VortexSession) -> Result<
         &read,
         ArrayContext::empty(alloc),
         session,
-        &serialize_options(None),
+        &serialize_options(None, false),
     )
 }
 
@@ -138,7 +138,7 @@ fn write_once(alloc: Global, array: &Array, session: &VortexSession) -> Result<W
     ensures memory { IfErr result (λ status. status ≡ OutOfMemory) }
 {
     let mut ids = ArrayContext::empty(alloc);
-    match array.serialize(alloc, &mut ids, session, &serialize_options(None)) {
+    match array.serialize(alloc, &mut ids, session, &serialize_options(None, false)) {
         Ok(buffers) => join_written(alloc, &buffers, &ids),
         Err(error) => Err(Status::of_blob(error)),
     }

@@ -145,7 +145,7 @@ fn recode_under(
         Ok(context) => context,
         Err(status) => return Err(status),
     };
-    let options = serialize_options(words.options.pad);
+    let options = serialize_options(words.options.pad, words.options.deep);
     let read = ReadContext::new(read_ids);
     recode_blob(
         alloc,
@@ -214,15 +214,20 @@ fn read_context(alloc: Global, allow_bytes: &Option<Blob>) -> Result<ArrayContex
     }
 }
 
-/// How the new blob is written: with pads where their position is given.
-pub fn serialize_options(pad: Option<u64>) -> SerializeOptions
-    ensures { result ≡ padded_at pad }
+/// How the blob is read and the new one written: with pads where their position is given, and deep or not.
+pub fn serialize_options(pad: Option<u64>, deep: bool) -> SerializeOptions
+    ensures { result ≡ padded_at pad deep }
 {
     match pad {
-        None => SerializeOptions::default(),
+        None => SerializeOptions {
+            offset: 0,
+            include_padding: false,
+            deep,
+        },
         Some(offset) => SerializeOptions {
             offset: offset as usize,
             include_padding: true,
+            deep,
         },
     }
 }

@@ -1,3 +1,4 @@
+use Rattle.vx_flat.specs.Limits.{limits_to}
 use Rattle.vx_type_wire.specs.Session.{ext_meaning}
 use Rattle.vx_registry.specs.Meaning.{session_meaning}
 use Rattle.vx_registry.proofs.LawsSessions.{registry_shipped, registry_lawful}
@@ -31,7 +32,7 @@ pub returns-in-Err-decode-clause-shipped : goal.returns-in-Err-decode-clause-shi
 returns-in-Err-decode-clause-shipped g c = λ shipped.
     let x = ext_meaning (λ b. (goal.ExtPlugin-dyn g (b.vtable, b.value)).accepted b.value) c.args.session.now.ext in
     let asked = request c.args.blob c.args.dtype.now c.args.len c.args.read_ids.now c.args.ctx.now (session_meaning (λ b. (goal.ExtPlugin-dyn g (b.vtable, b.value)).accepted b.value) c.args.session.now) c.args.options.now in
-    (tt, λ can. memory_alone asked (registry_shipped c.args.session.now.arrays x) (registry_lawful c.args.session.now.arrays x) c.in-Err-decode.e can (caused_by_tree asked c.in-Err-decode.e (wire_in c.args.read_ids.now c.in-Ok.serialized) (opened c.args.blob.bytes c.args.read_ids.now c.in-Ok.serialized c.in-Ok.ensures.opened).carried c.in-Err-decode.ensures.cause))
+    (tt, λ can. memory_alone asked (registry_shipped c.args.session.now.arrays x) (registry_lawful c.args.session.now.arrays x) c.in-Err-decode.e can (caused_by_tree asked c.in-Err-decode.e (wire_in c.args.read_ids.now c.in-Ok.serialized) (opened (limits_to c.args.options.now.deep) c.args.blob.bytes c.args.read_ids.now c.in-Ok.serialized c.in-Ok.ensures.opened).carried c.in-Err-decode.ensures.cause))
 
 pub returns-in-Err-decode-clause-left : goal.returns-in-Err-decode-clause-left
 returns-in-Err-decode-clause-left g c = left-still (request c.args.blob c.args.dtype.now c.args.len c.args.read_ids.now c.args.ctx.now (session_meaning (λ b. (goal.ExtPlugin-dyn g (b.vtable, b.value)).accepted b.value) c.args.session.now) c.args.options.now)
@@ -39,7 +40,7 @@ returns-in-Err-decode-clause-left g c = left-still (request c.args.blob c.args.d
 pub returns-in-Err-decode-clause-cause : goal.returns-in-Err-decode-clause-cause
 returns-in-Err-decode-clause-cause g c =
     let asked = request c.args.blob c.args.dtype.now c.args.len c.args.read_ids.now c.args.ctx.now (session_meaning (λ b. (goal.ExtPlugin-dyn g (b.vtable, b.value)).accepted b.value) c.args.session.now) c.args.options.now in
-    caused_by_tree asked c.in-Err-decode.e (wire_in c.args.read_ids.now c.in-Ok.serialized) (opened c.args.blob.bytes c.args.read_ids.now c.in-Ok.serialized c.in-Ok.ensures.opened).carried c.in-Err-decode.ensures.cause
+    caused_by_tree asked c.in-Err-decode.e (wire_in c.args.read_ids.now c.in-Ok.serialized) (opened (limits_to c.args.options.now.deep) c.args.blob.bytes c.args.read_ids.now c.in-Ok.serialized c.in-Ok.ensures.opened).carried c.in-Err-decode.ensures.cause
 
 -- ---- the array is not written
 
@@ -47,7 +48,7 @@ pub returns-in-Err-serialize-clause-cause : goal.returns-in-Err-serialize-clause
 returns-in-Err-serialize-clause-cause g c =
     let x = ext_meaning (λ b. (goal.ExtPlugin-dyn g (b.vtable, b.value)).accepted b.value) c.args.session.now.ext in
     let asked = request c.args.blob c.args.dtype.now c.args.len c.args.read_ids.now c.args.ctx.now (session_meaning (λ b. (goal.ExtPlugin-dyn g (b.vtable, b.value)).accepted b.value) c.args.session.now) c.args.options.now in
-    let spelled = spells asked (registry_shipped c.args.session.now.arrays x) (wire_in c.args.read_ids.now c.in-Ok.serialized) c.in-Ok-decode.array (opened c.args.blob.bytes c.args.read_ids.now c.in-Ok.serialized c.in-Ok.ensures.opened) c.in-Ok-decode.ensures.told in
+    let spelled = spells asked (registry_shipped c.args.session.now.arrays x) (wire_in c.args.read_ids.now c.in-Ok.serialized) c.in-Ok-decode.array (opened (limits_to c.args.options.now.deep) c.args.blob.bytes c.args.read_ids.now c.in-Ok.serialized c.in-Ok.ensures.opened) c.in-Ok-decode.ensures.told in
     caused_by_writing asked (registry_shipped c.args.session.now.arrays x) (registry_lawful c.args.session.now.arrays x) c.in-Err-serialize.e c.in-Ok-decode.array (c.in-Ok-decode.ensures.paired x) spelled c.in-Err-serialize.ensures.cause
 
 pub returns-in-Err-serialize-clause-shipped : goal.returns-in-Err-serialize-clause-shipped
@@ -60,7 +61,7 @@ pub returns-in-Err-serialize-clause-left : goal.returns-in-Err-serialize-clause-
 returns-in-Err-serialize-clause-left g c =
     let x = ext_meaning (λ b. (goal.ExtPlugin-dyn g (b.vtable, b.value)).accepted b.value) c.args.session.now.ext in
     let asked = request c.args.blob c.args.dtype.now c.args.len c.args.read_ids.now c.args.ctx.now (session_meaning (λ b. (goal.ExtPlugin-dyn g (b.vtable, b.value)).accepted b.value) c.args.session.now) c.args.options.now in
-    let spelled = spells asked (registry_shipped c.args.session.now.arrays x) (wire_in c.args.read_ids.now c.in-Ok.serialized) c.in-Ok-decode.array (opened c.args.blob.bytes c.args.read_ids.now c.in-Ok.serialized c.in-Ok.ensures.opened) c.in-Ok-decode.ensures.told in
+    let spelled = spells asked (registry_shipped c.args.session.now.arrays x) (wire_in c.args.read_ids.now c.in-Ok.serialized) c.in-Ok-decode.array (opened (limits_to c.args.options.now.deep) c.args.blob.bytes c.args.read_ids.now c.in-Ok.serialized c.in-Ok.ensures.opened) c.in-Ok-decode.ensures.told in
     left-written asked (registry_shipped c.args.session.now.arrays x) (registry_lawful c.args.session.now.arrays x) c.in-Ok-decode.array c.serialize.new.ctx spelled c.serialize.ensures.left
 
 -- ---- all is done
@@ -70,19 +71,19 @@ returns-clause-made g c =
     let x = ext_meaning (λ b. (goal.ExtPlugin-dyn g (b.vtable, b.value)).accepted b.value) c.args.session.now.ext in
     let asked = request c.args.blob c.args.dtype.now c.args.len c.args.read_ids.now c.args.ctx.now (session_meaning (λ b. (goal.ExtPlugin-dyn g (b.vtable, b.value)).accepted b.value) c.args.session.now) c.args.options.now in
     let made = product (record { array = c.in-Ok-decode.array; buffers = c.in-Ok-serialize.buffers }) c.serialize.new.ctx in
-    recoded asked made (wire_in c.args.read_ids.now c.in-Ok.serialized) (opened c.args.blob.bytes c.args.read_ids.now c.in-Ok.serialized c.in-Ok.ensures.opened) c.in-Ok-serialize.ensures.made
+    recoded asked made (wire_in c.args.read_ids.now c.in-Ok.serialized) (opened (limits_to c.args.options.now.deep) c.args.blob.bytes c.args.read_ids.now c.in-Ok.serialized c.in-Ok.ensures.opened) c.in-Ok-serialize.ensures.made
 
 pub returns-clause-shipped : goal.returns-clause-shipped
 returns-clause-shipped g c = λ shipped.
     let x = ext_meaning (λ b. (goal.ExtPlugin-dyn g (b.vtable, b.value)).accepted b.value) c.args.session.now.ext in
     let asked = request c.args.blob c.args.dtype.now c.args.len c.args.read_ids.now c.args.ctx.now (session_meaning (λ b. (goal.ExtPlugin-dyn g (b.vtable, b.value)).accepted b.value) c.args.session.now) c.args.options.now in
     let made = product (record { array = c.in-Ok-decode.array; buffers = c.in-Ok-serialize.buffers }) c.serialize.new.ctx in
-    let spelled = spells asked (registry_shipped c.args.session.now.arrays x) (wire_in c.args.read_ids.now c.in-Ok.serialized) c.in-Ok-decode.array (opened c.args.blob.bytes c.args.read_ids.now c.in-Ok.serialized c.in-Ok.ensures.opened) c.in-Ok-decode.ensures.told in
+    let spelled = spells asked (registry_shipped c.args.session.now.arrays x) (wire_in c.args.read_ids.now c.in-Ok.serialized) c.in-Ok-decode.array (opened (limits_to c.args.options.now.deep) c.args.blob.bytes c.args.read_ids.now c.in-Ok.serialized c.in-Ok.ensures.opened) c.in-Ok-decode.ensures.told in
     (faithful asked made (registry_shipped c.args.session.now.arrays x) (registry_lawful c.args.session.now.arrays x) (c.in-Ok-decode.ensures.paired x) spelled (returns-clause-made g c), λ can. tt)
 
 pub returns-clause-left : goal.returns-clause-left
 returns-clause-left g c =
     let x = ext_meaning (λ b. (goal.ExtPlugin-dyn g (b.vtable, b.value)).accepted b.value) c.args.session.now.ext in
     let asked = request c.args.blob c.args.dtype.now c.args.len c.args.read_ids.now c.args.ctx.now (session_meaning (λ b. (goal.ExtPlugin-dyn g (b.vtable, b.value)).accepted b.value) c.args.session.now) c.args.options.now in
-    let spelled = spells asked (registry_shipped c.args.session.now.arrays x) (wire_in c.args.read_ids.now c.in-Ok.serialized) c.in-Ok-decode.array (opened c.args.blob.bytes c.args.read_ids.now c.in-Ok.serialized c.in-Ok.ensures.opened) c.in-Ok-decode.ensures.told in
+    let spelled = spells asked (registry_shipped c.args.session.now.arrays x) (wire_in c.args.read_ids.now c.in-Ok.serialized) c.in-Ok-decode.array (opened (limits_to c.args.options.now.deep) c.args.blob.bytes c.args.read_ids.now c.in-Ok.serialized c.in-Ok.ensures.opened) c.in-Ok-decode.ensures.told in
     left-written asked (registry_shipped c.args.session.now.arrays x) (registry_lawful c.args.session.now.arrays x) c.in-Ok-decode.array c.serialize.new.ctx spelled c.serialize.ensures.left

@@ -1,4 +1,5 @@
 use Rattle.std.proofs.Common.{ℕ, ap, sym, ◌∙◌, subst, Err}
+use Rattle.vx_flat.specs.Limits.{limits_to}
 use Rattle.vx_flat.specs.Places.{u32_at}
 use Rattle.vx_flat.specs.Seen.{seen}
 use Rattle.vx_flat.specs.Weight.{weight}
@@ -11,7 +12,7 @@ use Rattle.vx_serde.proofs.serialized.verify_message.Goals as goal
 pub returns-in-Err-clause-cause : goal.returns-in-Err-clause-cause
 returns-in-Err-clause-cause c =
     rw c.from.ensures
-    (unread c.args.message.now c.in-Err.e (λ q. c.in-Err.ensures.bad (ap (λ z. Err z) q)) (λ q. c.in-Err.ensures.limit (ap (λ z. Err z) q)) (λ q. c.in-Err.ensures.never_long (ap (λ z. Err z) q)))
+    (unread (limits_to c.args.deep) c.args.message.now c.in-Err.e (λ q. c.in-Err.ensures.bad (ap (λ z. Err z) q)) (λ q. c.in-Err.ensures.limit (ap (λ z. Err z) q)) (λ q. c.in-Err.ensures.never_long (ap (λ z. Err z) q)))
 
 pub returns-in-Some-clause-stored : goal.returns-in-Some-clause-stored
 returns-in-Some-clause-stored c =

@@ -3,7 +3,7 @@ use Rattle.std.proofs.lemmas.Result.{err_from_is_err_and}
 use Rattle.vx_flat.specs.declared.builder.piece.LinkKind.TheVariants as link
 use Rattle.vx_flat.specs.Building.{Takes, IsStopped, nothing_built}
 use Rattle.vx_flat.specs.Pieces.{pieces}
-use Rattle.vx_flat.specs.Limits.{limits, IsLight}
+use Rattle.vx_flat.specs.Limits.{limits_to, IsLight}
 use Rattle.vx_flat.specs.Weight as weigh
 use Rattle.vx_wire_tree.specs.ReadBack.{HasStorableStats}
 use Rattle.vx_wire_tree.specs.Written.{wire}
@@ -21,7 +21,7 @@ returns-then-encodings-gt-MAX_NODES-clause-refused c = λ s.
     let es = c.args.encodings.now in
     let ds = c.args.descriptors.now in
     let w = wire codec s a in
-    too-many es w ds (c.requires.of_kind s) (wire-told s a) (omega (arith, c.if-encodings-gt-MAX_NODES.true, c.requires.known, wired-nodes s a))
+    too-many es w ds (c.requires.of_kind s) c.args.deep (wire-told s a) (omega (arith, c.if-encodings-gt-MAX_NODES.true, c.requires.known, wired-nodes s a))
 
 pub write_blocks-requires-clause-takes : goal.write_blocks-requires-clause-takes
 write_blocks-requires-clause-takes c =
@@ -40,7 +40,7 @@ returns-in_err-write_blocks-clause-refused c = λ s.
     let w = wire codec s a in
     let e = c.in_err-write_blocks.field-0.0 in
     rw (p.1, p.2)
-    (blocks-refused es w ds (c.requires.of_kind s) e c.write_blocks.new.builder
+    (blocks-refused es w ds (c.requires.of_kind s) (limits_to c.args.deep) e c.write_blocks.new.builder
     (subst (λ z. IsStopped z (pieces array_schema (message_by es w ds)) e c.write_blocks.new.builder) c.with_room-builder.ensures (c.in_err-write_blocks.ensures.stopped s)))
 
 pub finish-requires-clause-written : goal.finish-requires-clause-written
@@ -121,7 +121,7 @@ returns-clause-short c =
 
 pub returns-clause-light : goal.returns-clause-light
 returns-clause-light c =
-    if_ok-same c.light_message.result (λ x. x.items) c.in-Ok.message (λ z. IsLight limits (weigh.weight array_schema z)) c.light_message.ensures.same c.light_message.ensures.light
+    if_ok-same c.light_message.result (λ x. x.items) c.in-Ok.message (λ z. IsLight (limits_to c.args.deep) (weigh.weight array_schema z)) c.light_message.ensures.same c.light_message.ensures.light
 
 pub returns-clause-refused : goal.returns-clause-refused
 returns-clause-refused c = λ s.
@@ -133,4 +133,4 @@ returns-clause-refused c = λ s.
     let b = c.write_blocks.new.builder in
     let wrote : AreWritten nothing_built (pieces array_schema (message_by es w ds)) b = subst (λ z. AreWritten z (pieces array_schema (message_by es w ds)) b) c.with_room-builder.ensures (c.in_ok-write_blocks.ensures.written s) in
     let m = c.in-Ok.ensures.built ∙ layout-written es w ds of b wrote in
-    if_err c.light_message.result _ _ (λ e h. heavy es w ds of c.in-Ok.message e m h) c.light_message.ensures.refused
+    if_err c.light_message.result _ _ (λ e h. heavy es w ds of (limits_to c.args.deep) c.in-Ok.message e m h) c.light_message.ensures.refused

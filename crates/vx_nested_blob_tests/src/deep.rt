@@ -1,0 +1,195 @@
+//! Trees of many levels, written and recoded, where deep trees are asked for and where not.
+
+use crate::wire::{blob_with, recoded_with, unbuilt};
+use std::alloc::Global;
+use vx_arrays::{Array, ArrayError, Arrays, new_foreign_array};
+use vx_buffer::BufferHandles;
+use vx_nested_parts::parts::{Made, There, bytes, dicts, extensions, lists, one, structs};
+use vx_nested_parts::rows::takes;
+use vx_registry::ArrayContext;
+use vx_serde::{SerializeOptions, SerializedArray, WireError};
+use vx_types::{Blob, DType, Id, TypeError};
+
+// What each level of a tree is but the lowest, which is a number.
+#[derive(Clone, Copy, Debug)]
+enum Level {
+    // A list of the level below.
+    Lists,
+    // A structure of one field.
+    Structs,
+    // An extension that is stored so.
+    Extensions,
+    // A code of the only value.
+    Dictionaries,
+}
+
+// The parts of a node that nothing reads, at the type of a tree.
+fn parts_like(alloc: Global, tree: &Array) -> Result<(Id, DType, Blob), TypeError> {
+    let dtype = tree.dtype().clone(alloc)?;
+    let id = Id::new(alloc, "x.new")?;
+    let metadata = Blob::copy_from(alloc, &[])?;
+    Ok((id, dtype, metadata))
+}
+
+// A row of which nothing is known, at the type of a tree.
+fn alike(alloc: Global, tree: &Array) -> Made {
+    match parts_like(alloc, tree) {
+        Ok((id, dtype, metadata)) => {
+            let buffers = BufferHandles::new(alloc);
+            new_foreign_array(alloc, id, dtype, 1, metadata, buffers, Arrays::new(alloc))
+        }
+        Err(_) => Err(ArrayError::OutOfMemory),
+    }
+}
+
+// One level more above a tree of one row.
+fn above(alloc: Global, level: Level, tree: Array) -> Made {
+    match level {
+        Level::Lists => lists(alloc, Ok(tree), bytes(alloc, &[0, 1]), There::Always),
+        Level::Structs => {
+            let types = one(alloc, alike(alloc, &tree));
+            let columns = one(alloc, Ok(tree));
+            structs(alloc, &["a"], types, columns, 1, There::Always)
+        }
+        Level::Extensions => {
+            let kind = alike(alloc, &tree);
+            extensions(alloc, kind, Ok(tree))
+        }
+        Level::Dictionaries => dicts(alloc, bytes(alloc, &[0]), Ok(tree)),
+    }
+}
+
+// A tree of so many levels.
+fn tree(alloc: Global, level: Level, levels: usize) -> Made {
+    let mut tree = bytes(alloc, &[7]);
+    for _ in 1..levels {
+        match tree {
+            Ok(lower) => tree = above(alloc, level, lower),
+            Err(e) => return Err(e),
+        }
+    }
+    tree
+}
+
+// No pads, and deep trees or none.
+fn options(deep: bool) -> SerializeOptions {
+    SerializeOptions {
+        offset: 0,
+        include_padding: false,
+        deep,
+    }
+}
+
+// Why a tree is not written and recoded, if it is not; whether it comes back as it was and its row takes so many cells, if
+// it is.
+fn recoded(alloc: Global, tree: &Array, deep: bool, cells: u64) -> Result<bool, WireError> {
+    let mut ctx = ArrayContext::empty(alloc);
+    match recoded_with(alloc, tree, &mut ctx, &options(deep)) {
+        Ok(recoded) => {
+            Ok(tree.array_eq(&recoded.array) && takes(alloc, tree.clone(alloc), cells))
+        }
+        Err(e) => Err(e),
+    }
+}
+
+// The same of a tree that is made.
+fn comes_back(
+    alloc: Global,
+    level: Level,
+    levels: usize,
+    deep: bool,
+    cells: u64,
+) -> Result<bool, WireError> {
+    match tree(alloc, level, levels) {
+        Ok(tree) => recoded(alloc, &tree, deep, cells),
+        Err(_) => Err(WireError::OutOfMemory),
+    }
+}
+
+const PASSED: Result<bool, WireError> = Err(WireError::WireLimit);
+
+// What the levels are, how many there are, how many cells the row takes, whether deep trees are asked for, and what comes
+// of it.
+const TREES: [(Level, usize, u64, bool, Result<bool, WireError>); 11] = [
+    (Level::Lists, 62, 62, false, Ok(true)),
+    (Level::Lists, 63, 63, false, PASSED),
+    (Level::Lists, 63, 63, true, Ok(true)),
+    (Level::Lists, 126, 126, true, Ok(true)),
+    (Level::Lists, 127, 127, true, PASSED),
+    (Level::Structs, 126, 126, true, Ok(true)),
+    (Level::Structs, 127, 127, true, PASSED),
+    (Level::Extensions, 126, 1, true, Ok(true)),
+    (Level::Extensions, 127, 1, true, PASSED),
+    (Level::Dictionaries, 126, 1, true, Ok(true)),
+    (Level::Dictionaries, 127, 1, true, PASSED),
+];
+
+#[test]
+fn trees_are_written_up_to_a_level(rt: HostRuntime) {
+    for (level, levels, cells, deep, told) in &TREES {
+        let answer = comes_back(rt.alloc(), *level, *levels, *deep, *cells);
+        assert!(rt; answer == *told, "{level:?} {levels}");
+    }
+}
+
+// Why a tree that was written deep is not opened, deep or not, if it is not.
+fn unopened(alloc: Global, tree: &Array, deep: bool) -> Result<Option<WireError>, WireError> {
+    let blob = blob_with(alloc, tree, &options(true))?;
+    Ok(SerializedArray::try_from_buffer_to(alloc, blob, deep).err())
+}
+
+// The same of lists that are made.
+fn unopened_lists(
+    alloc: Global,
+    levels: usize,
+    deep: bool,
+) -> Result<Option<WireError>, WireError> {
+    match tree(alloc, Level::Lists, levels) {
+        Ok(tree) => unopened(alloc, &tree, deep),
+        Err(_) => Err(WireError::OutOfMemory),
+    }
+}
+
+// How many levels of lists were written deep, and why they are not opened where no deep tree is asked for.
+const OPENED: [(usize, Option<WireError>); 3] = [
+    (62, None),
+    (63, Some(WireError::TableLimit)),
+    (126, Some(WireError::TableLimit)),
+];
+
+#[test]
+fn deep_trees_are_opened_where_they_are_asked_for(rt: HostRuntime) {
+    let alloc = rt.alloc();
+    for (levels, told) in &OPENED {
+        assert!(rt;
+            unopened_lists(alloc, *levels, true) == Ok(None),
+            "{levels}"
+        );
+        assert!(rt;
+            unopened_lists(alloc, *levels, false) == Ok(*told),
+            "{levels}"
+        );
+    }
+}
+
+// Why lists are no node of a message that a caller builds, if they are none.
+fn unbuilt_lists(alloc: Global, levels: usize) -> Result<Option<WireError>, WireError> {
+    match tree(alloc, Level::Lists, levels) {
+        Ok(tree) => unbuilt(alloc, &tree),
+        Err(_) => Err(WireError::OutOfMemory),
+    }
+}
+
+// How many levels lists have, and why they are no node, if they are none: no options are asked.
+const BUILT: [(usize, Option<WireError>); 3] = [
+    (62, None),
+    (63, Some(WireError::WireLimit)),
+    (126, Some(WireError::WireLimit)),
+];
+
+#[test]
+fn nodes_in_messages_of_a_caller_are_not_deep(rt: HostRuntime) {
+    for (levels, told) in &BUILT {
+        assert!(rt; unbuilt_lists(rt.alloc(), *levels) == Ok(*told), "{levels}");
+    }
+}
