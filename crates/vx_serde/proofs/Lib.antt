@@ -37,3 +37,6 @@ pub mod StoredMessages
 pub mod DecodedNodes
 pub mod KeptNodes
 pub mod ArrayNodes
+mod Taking
+pub mod Sources
+pub mod EntrySteps

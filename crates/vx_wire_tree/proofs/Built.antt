@@ -50,6 +50,6 @@ module _ (c : Codec) (s : SessionMeaning) (law : IsLawful c s) where
         dtype = refl;
         len = refl;
         sound = stats_sound y.stats built same_sound fit;
-        normal = (normal_by x.body (label told) ts native (built_normal e d n x.value (count ts) bs x.body (places ts) x.body_is plan), k.normal);
+        normal = λ ok. (normal_by x.body (label told) ts native (built_normal e d n x.value (count ts) bs x.body (places ts) x.body_is plan), k.normal ok);
       } in
       subst (λ (z : Tree). Tells c s (node w ws) d n z) (sym (y.tree_is ∙ ap (λ (z : Tree). with_stats y.stats z) x.tree_is)) all

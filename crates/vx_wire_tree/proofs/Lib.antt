@@ -5,4 +5,7 @@ pub mod NeverRefused
 pub mod Kept
 pub mod Matched
 pub mod Built
+pub mod Plugins
+pub mod PluginsAgain
+pub mod TakenOwn
 pub mod Laws

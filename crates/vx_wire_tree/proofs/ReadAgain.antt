@@ -30,7 +30,7 @@ use Rattle.vx_wire_tree.specs.Limits.{HasMessages, HasMessage}
 use Rattle.vx_wire_tree.specs.Matches.{IsRaw, AreRaw, IsEncodedNode, IsNodeBy, Matches, AllMatch}
 use Rattle.vx_wire_tree.specs.ReadBack.{IsReadBack, ReadsBack, IsWrittenNode, IsWritten, IsKnownNode, HasKnownTypes, IsCountableNode, HasCountableMetadata, IsStorableNode, HasStorableStats, HasWriter, IsWrittenBy, IsUnreadBy, IsUnread, AreUnread, IsKept, ReadsBackBy, AllReadBack}
 use Rattle.vx_wire_tree.specs.Reads.{IsMetadata}
-use Rattle.vx_wire_tree.specs.Session.{SessionMeaning, Reader, shipped, IsShippedReader, IsShipped, IsPaired, IsReadAgainBy}
+use Rattle.vx_wire_tree.specs.Session.{SessionMeaning, Reader, shipped, plugin, IsShippedReader, IsShipped, IsPaired, IsReadAgainBy}
 use Rattle.vx_wire_tree.specs.Wire.{all_present}
 use Rattle.vx_wire_tree.specs.Written.{spelled, wire_head, wire, wires, canon}
 
@@ -50,7 +50,7 @@ meant_told e d (M.foreign x) k f = absurd (never_foreign e x k f)
 meant_told e d (M.dict x) k f = ap (λ (n : Nullability). M.dict (record { values_len = x.values_len; codes_ptype = x.codes_ptype; nullable_codes = n; all_values_referenced = x.all_values_referenced })) (nullable_again x.nullable_codes)
 meant_told e d _ k f = refl
 
-own_bytes : (c : Codec) (e : Encoding) (v : Metadata) → IsNativeEncoding e → IsFair e v → metadata_bytes c (told v) ≡ c.fields_bytes (told v)
+pub own_bytes : (c : Codec) (e : Encoding) (v : Metadata) → IsNativeEncoding e → IsFair e v → metadata_bytes c (told v) ≡ c.fields_bytes (told v)
 own_bytes c e (M.foreign x) k f = absurd (never_foreign e x k f)
 own_bytes c e _ k f = refl
 
@@ -135,13 +135,15 @@ module _ (c : Codec) (s : SessionMeaning) where
 
 read_by_shipped : (e : Encoding) (r : Option Reader) → IsShippedReader r → IsReadAgainBy r e → r ≡ Some (shipped e)
 read_by_shipped e None ok b = absurd b
+read_by_shipped e (Some (plugin p)) ok b = absurd ok
 read_by_shipped e (Some (shipped f)) ok b = ap (λ z. Some (shipped z)) b
 
 module _ (c : Codec) (s : SessionMeaning) (ok : IsShipped s) (paired : IsPaired s) where
   -- What is written of an encoding is read by it.
   written_by : (e : Encoding) (r : Reader) → IsShippedReader (Some r) → s.writer (id_of e) ≡ Some r → s.reader (id_of e) ≡ Some (shipped e)
+  written_by e (plugin p) q w = absurd q
   written_by e (shipped f) q w =
-      let same = distinct_ids e f (paired.own_identifier (id_of e) (shipped f) w) in
+      let same = distinct_ids e f (paired.own_identifier (id_of e) f w) in
       read_by_shipped f (s.reader (id_of e)) (ok.reads (id_of e)) (paired.written_is_read (id_of e) f w) ∙ ap (λ g. Some (shipped g)) (sym same)
 
   native_writer : (b : Body) → IsNative b → IsWrittenBy s b → HasWriter s (encoding_of b)

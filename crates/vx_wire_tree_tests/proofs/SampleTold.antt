@@ -97,7 +97,7 @@ matched_stats = (
 
 -- Where a field shows none, the statistics are refused, at this node alone.
 no_stats_shown : RefusesTree bad_stats codec numbers_session (told_numbers (text [])) type 4
-no_stats_shown = ([], record { encoding = E.primitive; by = record { id = name; id_is = refl; reader_is = refl }; none = λ x h. h })
+no_stats_shown = ([], record { reader = shipped E.primitive; by = record { id = name; id_is = refl; reader_is = refl }; none = λ x h. h })
 
 stats_shown : RefusesTree bad_stats codec numbers_session (told_numbers (number 2)) type 4 → ⊥
 stats_shown ([], x) = x.none (nulls 2) refl

@@ -400,7 +400,7 @@ module _ (seed rows : ℕ) (h : rows ≤ 1000000) where
         dtype = refl;
         len = refl;
         sound = sound;
-        normal = normal;
+        normal = λ _. normal;
       }
 
   module _ (after : Context) (buffers : List Buffer) (x : IsSerialized session t plain nothing after buffers) where

@@ -1,16 +1,12 @@
-use Rattle.std.proofs.Common.{◌-◌, ◌++◌, ◌∷◌, [], arith, ap, sym, ◌∙◌}
+use Rattle.std.proofs.Common.{◌++◌, ◌∷◌, [], arith, ap, sym, ◌∙◌}
 use Rattle.std.proofs.lemmas.Result.{err_from_is_err_and}
-use Rattle.vx_trees.proofs.Counting.{levels-more}
 use Rattle.vx_wire_tree.specs.Context.{index_of}
-use Rattle.vx_wire_tree.specs.Limits.{HasMessage}
-use Rattle.vx_wire_tree.specs.ReadBack.{IsWrittenNode}
 use Rattle.vx_wire_tree.specs.Wire.{buffers_at_node}
 use Rattle.vx_wire_tree.specs.Written.{wire}
 use Rattle.vx_encodings.specs.Messages.{codec}
 use Rattle.vx_registry.specs.Serialization.{array_id}
-use Rattle.vx_registry.specs.Session.{tables_meaning}
 use Rattle.vx_serde.specs.Numbered.{encoding_index}
-use Rattle.vx_serde.proofs.Gathered.{everywhere-next, everywhere-all, root-refused, child-ungathered, levels_of, longer-ids}
+use Rattle.vx_serde.proofs.Gathered.{root-refused, child-ungathered, longer-ids}
 use Rattle.vx_serde.proofs.Growing.{kept-grown}
 use Rattle.vx_serde.proofs.GrownNodes.{kept-own, kept-child, kept-front, grown-child, grown-whole}
 use Rattle.vx_serde.proofs.WiredNodes.{wired, wired-below, wired-at, wired-within, wired-past, gathered_first, gathered-next, gathered-all, own-buffers, own-grown, own-kept, own-index}
@@ -22,10 +18,9 @@ returns-in_err-push_root-clause-kept t c = λ s.
     kept-own (wire codec s a) c.args.ctx.now c.push_root.new.ctx (own-kept s a c.args.ctx.now c.push_root.new.ctx c.in_err-push_root.ensures.kept)
 
 pub returns-in_err-push_root-clause-cause : goal.returns-in_err-push_root-clause-cause
-returns-in_err-push_root-clause-cause t c = λ x u.
+returns-in_err-push_root-clause-cause t c = λ s.
     let p = err_from_is_err_and c.from_residual.result c.from_residual.ensures.1 in
-    rw (p.1, p.2)
-    (root-refused (tables_meaning c.args.arrays.now x) c.args.array.now c.args.room c.args.ctx.now c.in_err-push_root.field-0.0 (c.in_err-push_root.ensures.cause x u))
+    rw (p.1, p.2) (root-refused s c.args.array.now c.args.ctx.now c.in_err-push_root.field-0.0 c.in_err-push_root.ensures.cause)
 
 pub returns-in_err-gather-clause-kept : goal.returns-in_err-gather-clause-kept
 returns-in_err-gather-clause-kept t c = λ s.
@@ -39,12 +34,11 @@ returns-in_err-gather-clause-kept t c = λ s.
     (own-grown s a c.args.ctx.now c.push_root.new.ctx c.in_ok-push_root.ensures.grown) (c.loop-child.invariant.grown s) (c.in_err-gather.ensures.kept s)
 
 pub returns-in_err-gather-clause-cause : goal.returns-in_err-gather-clause-cause
-returns-in_err-gather-clause-cause t c = λ x u.
+returns-in_err-gather-clause-cause t c = λ s.
     let p = err_from_is_err_and c.from_residual-in_err-gather.result c.from_residual-in_err-gather.ensures.1 in
-    let s = tables_meaning c.args.arrays.now x in
     rw (p.1, p.2)
-    (child-ungathered s c.args.array.now c.children-child-items.result.now c.loop-child.child-index c.args.room c.child-item.result c.args.ctx.now c.push_root.new.ctx c.loop-child.ctx c.in_err-gather.field-0.0
-    c.loop-child-test.true c.child-item.is c.children-child-items.ensures.children c.in_ok-push_root.ensures.grown (c.loop-child.invariant.grown s) (c.in_err-gather.ensures.cause x u))
+    (child-ungathered s c.args.array.now c.children-child-items.result.now c.loop-child.child-index c.child-item.result c.args.ctx.now c.push_root.new.ctx c.loop-child.ctx c.in_err-gather.field-0.0
+    c.loop-child-test.true c.child-item.is c.children-child-items.ensures.children c.in_ok-push_root.ensures.grown (c.loop-child.invariant.grown s) (c.in_err-gather.ensures.cause s))
 
 pub loop-child-preserved : goal.loop-child-preserved
 loop-child-preserved t c =
@@ -62,9 +56,6 @@ loop-child-preserved t c =
           (c.loop-child.invariant.encodings s (kept.added ++ more)
           ∙ ap (λ ids. start ++ gathered_first s (λ h. encoding_index h.id ids ∷ []) ts i) (sym (longer-ids c.loop-child.ctx.ids kept.added more c.gather.new.ctx.ids kept.front)))
           (c.in_ok-gather.ensures.encodings s more);
-      levels = levels-more ts i (c.args.room - 1) u lt c.loop-child.invariant.levels (levels_of ts i u (c.args.room - 1) is c.in_ok-gather.ensures.levels);
-      written = λ x allowed. everywhere-next (IsWrittenNode (tables_meaning c.args.arrays.now x)) ts i u lt is (c.loop-child.invariant.written x allowed) (c.in_ok-gather.ensures.written x allowed);
-      messages = everywhere-next HasMessage ts i u lt is c.loop-child.invariant.messages c.in_ok-gather.ensures.messages;
       grown = λ s. grown-child (wired s ts) i (wire codec s u) c.push_root.new.ctx c.loop-child.ctx c.gather.new.ctx (wired-within s ts i lt) (wired-at s ts i u lt is) (c.loop-child.invariant.grown s) (c.in_ok-gather.ensures.grown s);
     }
 
@@ -86,17 +77,6 @@ returns-clause-encodings t c = λ s more.
     ∙ ap (λ z. old ++ index_of (array_id a) z ∷ []) (sym (longer-ids c.push_root.new.ctx.ids kept.added more ids kept.front))
     ∙ ap (λ n. old ++ n ∷ []) (sym (own-index s a (ids ++ more))))
     (c.loop-child.invariant.encodings s more)
-
-pub returns-clause-messages : goal.returns-clause-messages
-returns-clause-messages t c =
-    let a = c.args.array.now in
-    everywhere-all HasMessage a c.children-child-items.result.now c.loop-child.child-index (omega (arith, c.loop-child-test.false)) c.children-child-items.ensures.children
-    c.in_ok-push_root.ensures.message c.loop-child.invariant.messages
-
-pub returns-clause-written : goal.returns-clause-written
-returns-clause-written t c = λ x allowed.
-    everywhere-all (IsWrittenNode (tables_meaning c.args.arrays.now x)) c.args.array.now c.children-child-items.result.now c.loop-child.child-index (omega (arith, c.loop-child-test.false)) c.children-child-items.ensures.children
-    (c.in_ok-push_root.ensures.written x allowed) (c.loop-child.invariant.written x allowed)
 
 pub returns-clause-grown : goal.returns-clause-grown
 returns-clause-grown t c = λ s.

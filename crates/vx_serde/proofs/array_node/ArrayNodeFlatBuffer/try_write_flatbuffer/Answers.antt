@@ -6,7 +6,6 @@ use Rattle.vx_flat.proofs.LawsOfBuilding.{keeps-stopped}
 use Rattle.vx_wire_tree.specs.Wire.{buffers_in}
 use Rattle.vx_wire_tree.specs.Written.{wire}
 use Rattle.vx_encodings.specs.Messages.{codec}
-use Rattle.vx_registry.specs.Session.{tables_meaning}
 use Rattle.vx_serde.specs.ArrayNode.{array_pieces}
 use Rattle.vx_serde.proofs.ArrayNodes.{pieces-are, ungathered, too-much, untaken, value-written}
 use Rattle.vx_serde.proofs.NumberedBy.{as-many, first-encodings}
@@ -15,17 +14,16 @@ use Rattle.vx_serde.proofs.array_node.ArrayNodeFlatBuffer.try_write_flatbuffer.G
 use Rattle.vx_serde.proofs.array_node.ArrayNodeFlatBuffer.try_write_flatbuffer.Goals as goal
 
 pub returns-in_err-gather-clause-cause : goal.returns-in_err-gather-clause-cause
-returns-in_err-gather-clause-cause c = λ x u.
+returns-in_err-gather-clause-cause c = λ s.
     let p = err_from_is_err_and c.from_residual.result c.from_residual.ensures.1 in
     let own = c.args.self.now in
     rw (p.1, p.2)
-    (ungathered (tables_meaning own.arrays.now x) own.array.now own.ctx.now c.args.builder.now c.in_err-gather.field-0.0 (c.in_err-gather.ensures.cause x u))
+    (ungathered s own.array own.ctx.now c.args.builder.now c.in_err-gather.field-0.0 (c.in_err-gather.ensures.cause s))
 
 pub returns-then-len-gt-MAX_BUFFERS-clause-cause : goal.returns-then-len-gt-MAX_BUFFERS-clause-cause
-returns-then-len-gt-MAX_BUFFERS-clause-cause c = λ x u.
+returns-then-len-gt-MAX_BUFFERS-clause-cause c = λ s.
     let own = c.args.self.now in
-    let s = tables_meaning own.arrays.now x in
-    let w = wire codec s own.array.now in
+    let w = wire codec s own.array in
     let found = c.gather.new.found in
     let es = found.encodings.items in
     let named = first-encodings w c.gather.new.ctx.ids c.new-found.result.encodings.items es c.new-found.ensures.encodings (c.in_ok-gather.ensures.encodings s []) in
@@ -34,53 +32,50 @@ returns-then-len-gt-MAX_BUFFERS-clause-cause c = λ x u.
       | then-len-gt-MAX_BUFFERS-via-then-len-gt-MAX_BUFFERS b ↦ inl (omega (arith, b.if-len-gt-MAX_BUFFERS.true, c.len.ensures))
       | then-len-gt-MAX_BUFFERS-via-else-len-gt-MAX_BUFFERS+then-len-gt-MAX_NODES b ↦ inr (omega (arith, b.if-len-gt-MAX_NODES.true, b.len-else-len-gt-MAX_BUFFERS.ensures, found.encodings.ok))
     ] in
-    too-much s own.array.now own.ctx.now c.args.builder.now c.gather.new.ctx es found.buffers (c.in_ok-gather.ensures.grown s) named same many
+    too-much s own.array own.ctx.now c.args.builder.now c.gather.new.ctx es found.buffers (c.in_ok-gather.ensures.grown s) named same many
 
 pub write_node-requires-clause-known : goal.write_node-requires-clause-known
 write_node-requires-clause-known c =
-    let a = c.args.self.now.array.now in
+    let a = c.args.self.now.array in
     let w = wire codec no_session a in
     let named = first-encodings w c.gather.new.ctx.ids c.new-found.result.encodings.items c.gather.new.found.encodings.items c.new-found.ensures.encodings (c.in_ok-gather.ensures.encodings no_session []) in
     omega (arith, as-many c.gather.new.ctx.ids w c.deref.result.now (c.deref.ensures.value ∙ named), wired-nodes no_session a)
 
 pub write_node-requires-clause-counted : goal.write_node-requires-clause-counted
 write_node-requires-clause-counted c =
-    let a = c.args.self.now.array.now in
+    let a = c.args.self.now.array in
     let w = wire codec no_session a in
     let named = first-encodings w c.gather.new.ctx.ids c.new-found.result.encodings.items c.gather.new.found.encodings.items c.new-found.ensures.encodings (c.in_ok-gather.ensures.encodings no_session []) in
     omega (arith, as-many c.gather.new.ctx.ids w c.deref.result.now (c.deref.ensures.value ∙ named), wired-nodes no_session a, c.deref.ensures.len, c.if-len-gt-MAX_NODES.false, c.len-else-len-gt-MAX_BUFFERS.ensures)
 
 pub returns-in_err-write_node-clause-kept : goal.returns-in_err-write_node-clause-kept
-returns-in_err-write_node-clause-kept c = λ x.
+returns-in_err-write_node-clause-kept c = λ s.
     let p = err_from_is_err_and c.from_residual-in_err-write_node.result c.from_residual-in_err-write_node.ensures.1 in
     let own = c.args.self.now in
-    let s = tables_meaning own.arrays.now x in
-    let named = first-encodings (wire codec s own.array.now) c.gather.new.ctx.ids c.new-found.result.encodings.items c.gather.new.found.encodings.items c.new-found.ensures.encodings (c.in_ok-gather.ensures.encodings s []) in
-    let same = pieces-are s own.array.now own.ctx.now c.gather.new.ctx c.deref.result.now (c.in_ok-gather.ensures.grown s) (c.deref.ensures.value ∙ named) in
+    let named = first-encodings (wire codec s own.array) c.gather.new.ctx.ids c.new-found.result.encodings.items c.gather.new.found.encodings.items c.new-found.ensures.encodings (c.in_ok-gather.ensures.encodings s []) in
+    let same = pieces-are s own.array own.ctx.now c.gather.new.ctx c.deref.result.now (c.in_ok-gather.ensures.grown s) (c.deref.ensures.value ∙ named) in
     let e = c.in_err-write_node.field-0.0 in
     rw p.1
-    (keeps-stopped c.args.builder.now c.write_node.new.builder (array_pieces s own.array.now own.ctx.now) e
+    (keeps-stopped c.args.builder.now c.write_node.new.builder (array_pieces s own.array own.ctx.now) e
     (subst (λ z. IsStopped c.args.builder.now z e c.write_node.new.builder) same (c.in_err-write_node.ensures.stopped s)))
 
 pub returns-in_err-write_node-clause-cause : goal.returns-in_err-write_node-clause-cause
-returns-in_err-write_node-clause-cause c = λ x u.
+returns-in_err-write_node-clause-cause c = λ s.
     let p = err_from_is_err_and c.from_residual-in_err-write_node.result c.from_residual-in_err-write_node.ensures.1 in
     let own = c.args.self.now in
-    let s = tables_meaning own.arrays.now x in
-    let named = first-encodings (wire codec s own.array.now) c.gather.new.ctx.ids c.new-found.result.encodings.items c.gather.new.found.encodings.items c.new-found.ensures.encodings (c.in_ok-gather.ensures.encodings s []) in
-    let same = pieces-are s own.array.now own.ctx.now c.gather.new.ctx c.deref.result.now (c.in_ok-gather.ensures.grown s) (c.deref.ensures.value ∙ named) in
+    let named = first-encodings (wire codec s own.array) c.gather.new.ctx.ids c.new-found.result.encodings.items c.gather.new.found.encodings.items c.new-found.ensures.encodings (c.in_ok-gather.ensures.encodings s []) in
+    let same = pieces-are s own.array own.ctx.now c.gather.new.ctx c.deref.result.now (c.in_ok-gather.ensures.grown s) (c.deref.ensures.value ∙ named) in
     let e = c.in_err-write_node.field-0.0 in
     rw (p.1, p.2)
-    (untaken s own.array.now own.ctx.now c.args.builder.now c.write_node.new.builder e
+    (untaken s own.array own.ctx.now c.args.builder.now c.write_node.new.builder e
     (subst (λ z. IsStopped c.args.builder.now z e c.write_node.new.builder) same (c.in_err-write_node.ensures.stopped s)))
 
 pub returns-clause-written : goal.returns-clause-written
-returns-clause-written c = λ x.
+returns-clause-written c = λ s.
     let own = c.args.self.now in
-    let s = tables_meaning own.arrays.now x in
-    let named = first-encodings (wire codec s own.array.now) c.gather.new.ctx.ids c.new-found.result.encodings.items c.gather.new.found.encodings.items c.new-found.ensures.encodings (c.in_ok-gather.ensures.encodings s []) in
-    let same = pieces-are s own.array.now own.ctx.now c.gather.new.ctx c.deref.result.now (c.in_ok-gather.ensures.grown s) (c.deref.ensures.value ∙ named) in
-    value-written s own.array.now own.ctx.now c.args.builder.now c.write_node.new.builder _ same (c.in_ok-write_node.ensures.written s)
+    let named = first-encodings (wire codec s own.array) c.gather.new.ctx.ids c.new-found.result.encodings.items c.gather.new.found.encodings.items c.new-found.ensures.encodings (c.in_ok-gather.ensures.encodings s []) in
+    let same = pieces-are s own.array own.ctx.now c.gather.new.ctx c.deref.result.now (c.in_ok-gather.ensures.grown s) (c.deref.ensures.value ∙ named) in
+    value-written s own.array own.ctx.now c.args.builder.now c.write_node.new.builder _ same (c.in_ok-write_node.ensures.written s)
 
 pub returns-clause-fits : goal.returns-clause-fits
 returns-clause-fits c = λ _. (c.in_ok-write_node.ensures.written no_session).fits

@@ -1,0 +1,3 @@
+mod OddLaws
+mod AskingLaws
+mod VersionedLaws

@@ -1,0 +1,4 @@
+pub mod Odd
+pub mod Asking
+pub mod Versioned
+pub mod Meanings
