@@ -12,7 +12,7 @@ same_tests true q f g = sym (f refl)
 same_tests false true f g = g refl
 same_tests false false f g = refl
 
-eq_sym : (a b : List ℕ) → bytes_eq a b ≡ bytes_eq b a
+pub eq_sym : (a b : List ℕ) → bytes_eq a b ≡ bytes_eq b a
 eq_sym a b = same_tests (bytes_eq a b) (bytes_eq b a) (λ e. (bytes_eq-Decides b a).1 (sym ((bytes_eq-Decides a b).0 e))) (λ e. (bytes_eq-Decides a b).1 (sym ((bytes_eq-Decides b a).0 e)))
 
 twice : {A : Type 0} (t : Bool) (a b l : A) → cond t a l ≡ cond t a (cond t b l)

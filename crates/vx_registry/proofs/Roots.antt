@@ -15,6 +15,7 @@ use Rattle.vx_array_tree.proofs.Bodies.{foreign_is}
 use Rattle.vx_wire_tree.specs.Limits.{HasMessage}
 use Rattle.vx_wire_tree.specs.Plugin.{PluginMeaning, Answer, given, none, refused}
 use Rattle.vx_wire_tree.specs.Session.{SessionMeaning, Reader, plugin}
+use Rattle.vx_wire_tree.specs.Written.{writes_two}
 use Rattle.vx_wire_tree.specs.Taken.{Step, written, unwritten, unregistered, unserializable, undeclared, unwilling, foreign_step, given_head, plugin_step, writer_step, step_by, step}
 use Rattle.vx_registry.specs.Plugin.{parts_in}
 use Rattle.vx_registry.specs.Serialization.{HasPartsOf, IsWithoutParts, IsSerializedAs, IsRootOf, IsUnserialized}
@@ -86,18 +87,18 @@ undeclared_root p h a y e d = ap (λ z. plugin_step p h z) e ∙ ap (λ z. if z 
 -- ---- a root's parts
 
 -- Those of a root that is written as it is.
-pub own_parts : (t : Tree) (x : Step) (p : ArraySerialization) → x ≡ written (label t) (below t) → HasPartsOf t p → HasMessage (label t) (below t) → IsSerializedAs x (Some p)
-own_parts (node h ts) x p e k m = subst (λ z. IsSerializedAs z (Some p)) (sym e) (k, m)
+pub own_parts : (s : SessionMeaning) (t : Tree) (x : Step) (p : ArraySerialization) → x ≡ written (label t) (below t) → HasPartsOf (writes_two s) t p → HasMessage (label t) (below t) → IsSerializedAs s x (Some p)
+own_parts s (node h ts) x p e k m = subst (λ z. IsSerializedAs s z (Some p)) (sym e) (k, m)
 
 -- Those that a plugin gives.
-pub given_parts : (h : Head) (x : Step) (p : ArraySerialization) → x ≡ written (given_head h (parts_in p)) p.children → IsSerializedAs x (Some p)
-given_parts h x p e =
-    let own : HasPartsOf (node (given_head h (parts_in p)) p.children) p = record { id_is = refl; metadata_is = refl; buffers_are = refl; children_are = refl } in
-    subst (λ z. IsSerializedAs z (Some p)) (sym e) (own, tt)
+pub given_parts : (s : SessionMeaning) (h : Head) (x : Step) (p : ArraySerialization) → x ≡ written (given_head h (parts_in p)) p.children → IsSerializedAs s x (Some p)
+given_parts s h x p e =
+    let own : HasPartsOf (writes_two s) (node (given_head h (parts_in p)) p.children) p = record { id_is = refl; metadata_is = refl; buffers_are = refl; children_are = refl } in
+    subst (λ z. IsSerializedAs s z (Some p)) (sym e) (own, tt)
 
 -- None.
-pub no_parts : (x : Step) → x ≡ unwritten unserializable → IsSerializedAs x None
-no_parts x e = subst (λ z. IsSerializedAs z None) (sym e) tt
+pub no_parts : (s : SessionMeaning) (x : Step) → x ≡ unwritten unserializable → IsSerializedAs s x None
+no_parts s x e = subst (λ z. IsSerializedAs s z None) (sym e) tt
 
 -- Why a root that is written as it is has none.
 pub without_parts : (t : Tree) (x : Step) (e : RegistryError) → x ≡ written (label t) (below t) → IsWithoutParts e t → IsUnserialized e x

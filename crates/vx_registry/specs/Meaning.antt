@@ -6,11 +6,11 @@ use Rattle.vx_types.specs.Known.{ExtMeaning}
 use Rattle.vx_types.specs.Typ.{Typ}
 use Rattle.vx_type_wire.specs.Session.{ext_meaning}
 use Rattle.vx_wire_tree.specs.Plugin.{PluginMeaning}
-use Rattle.vx_wire_tree.specs.Session.{Reader, plugin, SessionMeaning}
-use Rattle.vx_registry.specs.Session.{Plugins, entry, own_id, tables_meaning}
+use Rattle.vx_wire_tree.specs.Session.{Reader, revised, plugin, SessionMeaning}
+use Rattle.vx_registry.specs.Session.{Plugins, Registry, both_ids, entry, own_id, tables_meaning, registered, with_revised, with_plugin}
 use Rattle.vx_registry.specs.declared.array_session.ArraySession.{ArraySession}
 use Rattle.vx_registry.specs.declared.session.PluginEntry.{PluginEntry}
-use Rattle.vx_registry.specs.declared.session.PluginEntry.TheVariants.{Shipped, Boxed}
+use Rattle.vx_registry.specs.declared.session.PluginEntry.TheVariants.{Shipped, Revised, Boxed}
 use Rattle.vx_registry.specs.declared.session.VortexSession.{VortexSession}
 
 module _ {Y : Type 0} {G : Y → Type 0} (means : DynBox Y Global G → PluginMeaning) where
@@ -25,12 +25,21 @@ module _ {Y : Type 0} {G : Y → Type 0} (means : DynBox Y Global G → PluginMe
   -- What an entry reads or writes nodes as.
   abbrev pub entry_reader : PluginEntry Y G → Reader
   entry_reader (Shipped e) = entry e
+  entry_reader Revised = revised
   entry_reader (Boxed b) = plugin (means b)
 
-  -- The identifiers that an entry reads: its encoding's, or those that its plugin declares.
+  -- The identifiers that an entry reads: its encoding's, both of primitives, or those that its plugin declares.
   abbrev pub entry_ids : PluginEntry Y G → List (List ℕ)
   entry_ids (Shipped e) = own_id e ∷ []
+  entry_ids Revised = both_ids
   entry_ids (Boxed b) = (means b).declared
+
+  -- A registry in which an entry stands under the identifiers that it reads and that of the arrays that it writes, each in
+  -- the place of what stood there or at the end; a plugin stands there by its number.
+  abbrev pub with_entry : ℕ → PluginEntry Y G → Registry → Registry
+  with_entry n (Shipped e) r = registered e r
+  with_entry n Revised r = with_revised r
+  with_entry n (Boxed b) r = with_plugin n (means b).id (means b).declared r
 
   -- Its tables and plugins read and write arrays, and its boxed readers judge extension types, where it is given what a box
   -- accepts.

@@ -3,13 +3,15 @@ use Rattle.std.specs.Prelude.{ℕ, ◌≡◌, ◌<◌, ◌++◌, List, [], ◌�
 use Rattle.std.specs.List.{list_any}
 use Rattle.std.specs.Map.{lookup}
 use Rattle.vx_types.specs.Known.{ExtMeaning}
+use Rattle.vx_array_tree.specs.Encodings.Primitives as Primitives
 use Rattle.vx_array_tree.specs.Table.{id_of}
 use Rattle.vx_wire_tree.specs.Plugin.{PluginMeaning}
-use Rattle.vx_wire_tree.specs.Session.{Reader, shipped, plugin, SessionMeaning, entry_id}
+use Rattle.vx_wire_tree.specs.Revised.{revised_name}
+use Rattle.vx_wire_tree.specs.Session.{Reader, shipped, revised, plugin, SessionMeaning, entry_id}
 use Rattle.vx_encodings.specs.Plain.{plain_encoding}
 use Rattle.indexmap.specs.IndexMap.{insert_entry}
 use Rattle.vx_registry.specs.declared.tables.Entry.{Entry}
-use Rattle.vx_registry.specs.declared.tables.Entry.TheVariants.{Shipped, Boxed}
+use Rattle.vx_registry.specs.declared.tables.Entry.TheVariants.{Shipped, Revised, Boxed}
 use Rattle.vx_encodings.specs.declared.encoding.Encoding.{Encoding}
 use Rattle.vx_encodings.specs.declared.encoding.Encoding.TheVariants.{Null, Bool, Primitive, Decimal, VarBin, VarBinView, Dict, FixedSizeList, Struct, Ext, List as ListOf, ListView, Map, Union, Variant}
 
@@ -34,9 +36,10 @@ no_plugins = λ n. None
 abbrev pub entry : Encoding → Reader
 entry e = shipped (plain_encoding e)
 
--- What an entry reads or writes nodes as: its encoding, or the plugin of its number.
+-- What an entry reads or writes nodes as: its encoding, primitives under two identifiers, or the plugin of its number.
 abbrev pub entry_in : Plugins → Entry → Option Reader
 entry_in plugins (Shipped e) = Some (entry e)
+entry_in plugins Revised = Some revised
 entry_in plugins (Boxed n) = option_map (λ p. plugin p) (plugins n)
 
 -- What an identifier finds in a table: its entry is the first that has it.
@@ -59,14 +62,30 @@ tables_meaning plugins r x = record { reader = found plugins r.readers; writer =
 abbrev pub IsReadAgain : Option Entry → Encoding → Type 0
 IsReadAgain None e = ⊥
 IsReadAgain (Some (Shipped f)) e = f ≡ e
+IsReadAgain (Some Revised) e = ⊥
 IsReadAgain (Some (Boxed n)) e = Unit {0}
 
+-- An identifier is read by primitives under two identifiers, or by a plugin.
+abbrev pub IsRevisedAgain : Option Entry → Type 0
+IsRevisedAgain None = ⊥
+IsRevisedAgain (Some (Shipped f)) = ⊥
+IsRevisedAgain (Some Revised) = Unit {0}
+IsRevisedAgain (Some (Boxed n)) = Unit {0}
+
+-- Both identifiers of primitives, where they have two.
+abbrev pub both_ids : List (List ℕ)
+both_ids = Primitives.id ∷ revised_name ∷ []
+
 -- The tables fit one another: an encoding that reads is also written, one that writes stands under its own identifier, and
--- what it writes is read by it or by a plugin.
+-- what it writes is read by it or by a plugin; so it is with primitives under two identifiers.
 pub record ArePaired (r : Registry) : Type 0 where
   pub read_is_written : (id : List ℕ) (e : Encoding) → lookup (bytes_eq id) r.readers ≡ Some (Shipped e) → (q : Entry) × (lookup (bytes_eq (own_id e)) r.writers ≡ Some q)
   pub own_identifier : (id : List ℕ) (e : Encoding) → lookup (bytes_eq id) r.writers ≡ Some (Shipped e) → id ≡ own_id e
   pub written_is_read : (id : List ℕ) (e : Encoding) → lookup (bytes_eq id) r.writers ≡ Some (Shipped e) → IsReadAgain (lookup (bytes_eq id) r.readers) e
+  pub revised_is_written : (id : List ℕ) → lookup (bytes_eq id) r.readers ≡ Some Revised → (q : Entry) × (lookup (bytes_eq Primitives.id) r.writers ≡ Some q)
+  pub own_revised : (id : List ℕ) → lookup (bytes_eq id) r.writers ≡ Some Revised → id ≡ Primitives.id
+  pub revised_is_read : lookup (bytes_eq Primitives.id) r.writers ≡ Some Revised
+      → IsRevisedAgain (lookup (bytes_eq Primitives.id) r.readers) × IsRevisedAgain (lookup (bytes_eq revised_name) r.readers)
 
 -- Each number in the tables is below k.
 pub record AreWithin (r : Registry) (k : ℕ) : Type 0 where
@@ -97,6 +116,14 @@ put_all e (id ∷ ids) table = put_all e ids (put e id table)
 -- A registry in which an encoding stands under its own identifier.
 abbrev pub registered : Encoding → Registry → Registry
 registered e r = record { readers = put (Shipped e) (own_id e) r.readers; writers = put (Shipped e) (own_id e) r.writers }
+
+-- A registry in which primitives have two identifiers.
+abbrev pub with_revised : Registry → Registry
+with_revised r = record { readers = put_all Revised both_ids r.readers; writers = put Revised Primitives.id r.writers }
+
+-- What a session of the shipped encodings means in which primitives have two identifiers, beside readers of extension types.
+abbrev pub revised_meaning : ExtMeaning → SessionMeaning
+revised_meaning x = tables_meaning no_plugins (with_revised shipped_registry) x
 
 -- A registry in which the plugin of a number reads these identifiers and writes the arrays of one.
 abbrev pub with_plugin : ℕ → List ℕ → List (List ℕ) → Registry → Registry

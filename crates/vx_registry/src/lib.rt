@@ -17,7 +17,7 @@ pub use context::ArrayContext;
 pub use error::RegistryError;
 pub use plugin::{ArrayPlugin, PluginError, build_by, plan_by};
 pub use read::ReadContext;
-pub use serialization::{ArrayDeserialization, ArraySerialization};
+pub use serialization::{ArrayDeserialization, ArraySerialization, written_id};
 pub use serializing::{WrittenRoot, serialize_root, written_root};
 pub use session::{PluginEntry, VortexSession};
 pub use tables::Entry;

@@ -1,12 +1,14 @@
 //! An array's root as it is written, by what writes it.
 
-ghost use Rattle.std.specs.Prelude.{◌≡◌, bytes_eq, IfOk, IfErr};
+ghost use Rattle.std.specs.Prelude.{◌≡◌, bytes_eq, IfOk, IfErr, OnOk};
 ghost use Rattle.std.specs.List.{list_any};
-ghost use Rattle.vx_trees.specs.Rose.{label};
+ghost use Rattle.vx_trees.specs.Rose.{label, below};
 ghost use Rattle.vx_types.specs.Known.{ExtMeaning};
+ghost use Rattle.vx_wire_tree.specs.Limits.{HasMessage};
 ghost use Rattle.vx_wire_tree.specs.Taken.{step, plugin_step};
+ghost use Rattle.vx_wire_tree.specs.Written.{writes_two};
 ghost use Rattle.vx_registry.specs.Meaning.{arrays_meaning};
-ghost use Rattle.vx_registry.specs.Serialization.{IsSerializedAs, IsUnserialized, IsRootOf};
+ghost use Rattle.vx_registry.specs.Serialization.{HasPartsOf, IsWithoutParts, IsSerializedAs, IsUnserialized, IsRootOf};
 
 use crate::array_session::ArraySession;
 use crate::error::RegistryError;
@@ -49,6 +51,7 @@ pub fn written_root(
     let id = named(alloc, array.encoding_id())?;
     match arrays.writer(&id) {
         Some(Entry::Shipped(_)) => Ok(WrittenRoot::Own),
+        Some(Entry::Revised) => Ok(WrittenRoot::Own),
         Some(Entry::Boxed(number)) => match arrays.plugin(number) {
             Some(plugin) => given_root(alloc, plugin, array),
             None => Err(RegistryError::NotRegistered),
@@ -88,11 +91,11 @@ pub fn serialize_root(
     arrays: &ArraySession,
     unknown: bool,
 ) -> Result<Option<ArraySerialization>, RegistryError>
-    ensures parts { (x : ExtMeaning) → x.unknown ≡ unknown → IfOk result (IsSerializedAs (step (arrays_meaning means arrays.now x) array.now)) }
+    ensures parts { (x : ExtMeaning) → x.unknown ≡ unknown → IfOk result (IsSerializedAs (arrays_meaning means arrays.now x) (step (arrays_meaning means arrays.now x) array.now)) }
     ensures cause { (x : ExtMeaning) → x.unknown ≡ unknown → IfErr result (λ e. IsUnserialized e (step (arrays_meaning means arrays.now x) array.now)) }
 {
     match written_root(alloc, array, arrays, unknown) {
-        Ok(WrittenRoot::Own) => match ArraySerialization::from_array(alloc, array) {
+        Ok(WrittenRoot::Own) => match own_parts(alloc, array, arrays) {
             Ok(parts) => Ok(Some(parts)),
             Err(e) => Err(e),
         },
@@ -100,6 +103,23 @@ pub fn serialize_root(
         Ok(WrittenRoot::Nothing) => Ok(None),
         Err(e) => Err(e),
     }
+}
+
+// The parts of a root that is written as it is.
+fn own_parts(
+    alloc: Global,
+    array: &Array,
+    arrays: &ArraySession,
+) -> Result<ArraySerialization, RegistryError>
+    ensures parts { (x : ExtMeaning) → IfOk result (HasPartsOf (writes_two (arrays_meaning means arrays.now x)) array.now) }
+    ensures fits { OnOk result (HasMessage (label array.now) (below array.now)) }
+    ensures err { IfErr result (λ e. IsWithoutParts e array.now) }
+{
+    let two = match arrays.writes_two(alloc) {
+        Ok(two) => two,
+        Err(_) => return Err(RegistryError::OutOfMemory),
+    };
+    ArraySerialization::written_as(alloc, array, two)
 }
 
 // Whether an identifier is one of several.

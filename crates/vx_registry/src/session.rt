@@ -1,24 +1,26 @@
 //! Sessions: what reads and writes arrays, and what reads extension types.
 
-ghost use Rattle.std.specs.Prelude.{◌≡◌, ◌∷◌, [], ℕ, List, None, bytes_eq, slice_get, option_copied, IfSome, IsSome, IfOk, IfErr, OnOk, OnErr, IsOkUnless};
+ghost use Rattle.std.specs.Prelude.{◌≡◌, ◌∷◌, [], ℕ, List, None, length, bytes_eq, slice_get, option_copied, IfSome, IsSome, IfOk, IfErr, OnOk, OnErr, IsOkUnless};
 ghost use Rattle.std.specs.Map.{lookup};
 ghost use Rattle.vx_types.specs.Known.{ExtMeaning};
 ghost use Rattle.vx_type_wire.specs.Session.{ext_meaning};
-ghost use Rattle.vx_wire_tree.specs.Session.{IsPaired, entry_id, plugin as plugin_reader};
+ghost use Rattle.vx_wire_tree.specs.Session.{IsPaired, entry_id, revised as revised_reader, plugin as plugin_reader};
 ghost use Rattle.vx_wire_tree.specs.Taken.{step};
-ghost use Rattle.vx_registry.specs.Meaning.{arrays_meaning, plugins_meaning, session_meaning, entry_reader, entry_ids};
+ghost use Rattle.vx_wire_tree.specs.Written.{writes_two};
+ghost use Rattle.vx_registry.specs.Meaning.{arrays_meaning, plugins_meaning, session_meaning, entry_reader, entry_ids, with_entry};
 ghost use Rattle.vx_registry.specs.Serialization.{IsSerializedAs, IsUnserialized};
-ghost use Rattle.vx_registry.specs.Session.{shipped_meaning, found_with, entry_in};
+ghost use Rattle.vx_registry.specs.Session.{both_ids, shipped_meaning, revised_meaning, found_with, entry_in, with_revised, with_plugin};
 
 use crate::array_session::ArraySession;
 use crate::error::RegistryError;
+use crate::named::named;
 use crate::plugin::{ArrayPlugin, id_of, ids_of};
 use crate::serialization::ArraySerialization;
 use crate::serializing::serialize_root;
 use crate::tables::{Entry, Tables};
 use indexmap::IndexMap;
 use std::alloc::{AllocFailed, Global};
-use vx_arrays::Array;
+use vx_arrays::{Array, PrimitiveArray};
 use vx_encodings::Encoding;
 use vx_type_wire::ExtSession;
 use vx_types::Id;
@@ -28,6 +30,9 @@ use vx_types::Id;
 pub enum PluginEntry {
     /// A shipped encoding, which reads and writes under its own identifier.
     Shipped(Encoding),
+    /// Primitives under two identifiers: `vortex.primitive` up to four rows, and `vortex.primitive.v2`, which is written of more
+    /// and read of any number.
+    Revised,
     /// A plugin of the caller, which reads the identifiers that it declares and writes the arrays of its encoding.
     Boxed(Box<dyn ArrayPlugin>),
 }
@@ -77,10 +82,30 @@ impl ArraySession {
         })
     }
 
+    /// A session of the shipped encodings in which primitives have two identifiers: `default`, and then `Revised`.
+    pub fn revised(alloc: Global) -> Result<ArraySession, RegistryError>
+        ensures revised { IfOk result (λ s. (x : ExtMeaning) → arrays_meaning means s x ≡ revised_meaning x) }
+        ensures err { IsOkUnless result RegistryError.OutOfMemory }
+    {
+        let mut session = match ArraySession::default(alloc) {
+            Ok(session) => session,
+            Err(e) => return Err(e),
+        };
+        match session.set_revised() {
+            Ok(()) => Ok(session),
+            Err(e) => {
+                drop(session);
+                Err(e)
+            }
+        }
+    }
+
     /// Registers an entry in the place of what read its identifiers and of what wrote its encoding's arrays: a shipped
-    /// encoding reads its own identifier, a plugin those that it declares. Where there is no memory for it, the session means
+    /// encoding reads its own identifier, `Revised` both of primitives, a plugin those that it declares. In `registry` it stands
+    /// in the places of what read them, and at the end where nothing did. Where there is no memory for it, the session means
     /// what it meant, and the entry is handed back.
     pub fn register(&mut self, entry: PluginEntry) -> Result<(), AllocFailed<PluginEntry>>
+        ensures entries { OnOk result (self.new.tables ≡ with_entry means (length self.old.plugins.items) entry self.old.tables) }
         ensures readers { OnOk result ((x : ExtMeaning) (id : List ℕ) → (arrays_meaning means self.new x).reader id
             ≡ found_with (entry_ids means entry) (entry_reader means entry) (arrays_meaning means self.old x).reader id) }
         ensures writers { OnOk result ((x : ExtMeaning) (id : List ℕ) → (arrays_meaning means self.new x).writer id
@@ -95,6 +120,12 @@ impl ArraySession {
                     value: PluginEntry::Shipped(encoding),
                 }),
             },
+            PluginEntry::Revised => match self.set_revised() {
+                Ok(()) => Ok(()),
+                Err(_) => Err(AllocFailed {
+                    value: PluginEntry::Revised,
+                }),
+            },
             PluginEntry::Boxed(plugin) => match self.add(plugin) {
                 Ok(()) => Ok(()),
                 Err(refused) => Err(AllocFailed {
@@ -104,8 +135,22 @@ impl ArraySession {
         }
     }
 
+    // Registers primitives under two identifiers.
+    fn set_revised(&mut self) -> Result<(), RegistryError>
+        ensures entries { OnOk result (self.new.tables ≡ with_revised self.old.tables) }
+        ensures readers { OnOk result ((x : ExtMeaning) (id : List ℕ) → (arrays_meaning means self.new x).reader id
+            ≡ found_with both_ids revised_reader (arrays_meaning means self.old x).reader id) }
+        ensures writers { OnOk result ((x : ExtMeaning) (id : List ℕ) → (arrays_meaning means self.new x).writer id
+            ≡ found_with (entry_id revised_reader ∷ []) revised_reader (arrays_meaning means self.old x).writer id) }
+        ensures unchanged { OnErr result ((x : ExtMeaning) → arrays_meaning means self.new x ≡ arrays_meaning means self.old x) }
+        ensures err { IsOkUnless result RegistryError.OutOfMemory }
+    {
+        self.tables.set_revised()
+    }
+
     // Registers a plugin.
     fn add(&mut self, plugin: Box<dyn ArrayPlugin>) -> Result<(), AllocFailed<Box<dyn ArrayPlugin>>>
+        ensures entries { OnOk result (self.new.tables ≡ with_plugin (length self.old.plugins.items) (means plugin).id (means plugin).declared self.old.tables) }
         ensures readers { OnOk result ((x : ExtMeaning) (id : List ℕ) → (arrays_meaning means self.new x).reader id
             ≡ found_with (means plugin).declared (plugin_reader (means plugin)) (arrays_meaning means self.old x).reader id) }
         ensures writers { OnOk result ((x : ExtMeaning) (id : List ℕ) → (arrays_meaning means self.new x).writer id
@@ -152,6 +197,21 @@ impl ArraySession {
         self.tables.writer(id)
     }
 
+    /// Whether primitives are written under two identifiers. The only refusal is want of memory.
+    pub fn writes_two(&self, alloc: Global) -> Result<bool, RegistryError>
+        ensures two { IfOk result (λ two. (x : ExtMeaning) → writes_two (arrays_meaning means self.now x) ≡ two) }
+        ensures err { IsOkUnless result RegistryError.OutOfMemory }
+    {
+        let id = match named(alloc, PrimitiveArray::ID) {
+            Ok(id) => id,
+            Err(e) => return Err(e),
+        };
+        match self.tables.writer(&id) {
+            Some(Entry::Revised) => Ok(true),
+            _ => Ok(false),
+        }
+    }
+
     /// The plugin of this number: `None` exactly where there are not so many.
     pub fn plugin(&self, number: usize) -> Option<&Box<dyn ArrayPlugin>>
         ensures { option_copied result ≡ slice_get self.now.plugins.items number }
@@ -195,7 +255,7 @@ impl VortexSession {
         array: &Array,
     ) -> Result<Option<ArraySerialization>, RegistryError>
         ensures parts { let s = session_meaning means (λ b. accepted (b.vtable, b.value)) self.now in
-            IfOk result (IsSerializedAs (step s array.now)) }
+            IfOk result (IsSerializedAs s (step s array.now)) }
         ensures cause { let s = session_meaning means (λ b. accepted (b.vtable, b.value)) self.now in
             IfErr result (λ e. IsUnserialized e (step s array.now)) }
     {

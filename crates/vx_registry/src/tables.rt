@@ -3,21 +3,24 @@
 ghost use Rattle.std.specs.Prelude.{◌≡◌, ◌≤◌, [], length, bytes_eq, OnOk, OnErr, IfOk, IsOkUnless};
 ghost use Rattle.std.specs.Map.{lookup};
 ghost use Rattle.indexmap.specs.IndexMap.{spare};
-ghost use Rattle.vx_registry.specs.Session.{registered, with_plugin, put_all, ArePaired};
+ghost use Rattle.vx_wire_tree.specs.Revised.{revised_id};
+ghost use Rattle.vx_registry.specs.Session.{registered, with_plugin, with_revised, put_all, ArePaired};
 
 use crate::error::RegistryError;
 use crate::named::named;
 use indexmap::IndexMap;
 use std::alloc::Global;
 use std::marker::Model;
-use vx_encodings::Encoding;
+use vx_encodings::{Encoding, revised_id};
 use vx_types::{Id, Ids};
 
-/// What reads or writes: a shipped encoding, or the plugin of this number.
+/// What reads or writes: a shipped encoding, primitives under two identifiers, or the plugin of this number.
 #[derive(Clone, Copy, Debug, PartialEq, Eq)]
 pub enum Entry {
     /// A shipped encoding.
     Shipped(Encoding),
+    /// Primitives under two identifiers.
+    Revised,
     /// The plugin that was registered as this one, counted from 0.
     Boxed(usize),
 }
@@ -72,6 +75,29 @@ impl Tables {
         Ok(())
     }
 
+    /// Sets what reads both identifiers of primitives, and what writes primitives, to these under two identifiers.
+    pub(crate) fn set_revised(&mut self) -> Result<(), RegistryError>
+        ensures registered { OnOk result (self.new ≡ with_revised self.old) }
+        ensures unchanged { OnErr result (self.new ≡ self.old) }
+        ensures err { IsOkUnless result RegistryError.OutOfMemory }
+    {
+        let written = revised(self.alloc, 0)?;
+        let first = revised(self.alloc, 0)?;
+        let second = revised(self.alloc, 5)?;
+        self.readers.reserve(2)?;
+        self.writers.reserve(1)?;
+        let Ok(_) = self.readers.insert(first, Entry::Revised) else {
+            unreachable!();
+        };
+        let Ok(_) = self.readers.insert(second, Entry::Revised) else {
+            unreachable!();
+        };
+        let Ok(_) = self.writers.insert(written, Entry::Revised) else {
+            unreachable!();
+        };
+        Ok(())
+    }
+
     /// Sets what reads these identifiers and what writes the arrays of one to the plugin of a number.
     pub(crate) fn set_boxed(
         &mut self,
@@ -114,6 +140,17 @@ impl Tables {
         ensures { result ≡ lookup (bytes_eq id.now) self.now.writers }
     {
         self.writers.get(id).copied()
+    }
+}
+
+// The identifier of primitives of so many rows, where they have two.
+pub(crate) fn revised(alloc: Global, len: usize) -> Result<Id, RegistryError>
+    ensures ok { IfOk result (λ id. id ≡ revised_id len) }
+    ensures err { IsOkUnless result RegistryError.OutOfMemory }
+{
+    match revised_id(alloc, len) {
+        Ok(id) => Ok(id),
+        Err(_) => Err(RegistryError::OutOfMemory),
     }
 }
 

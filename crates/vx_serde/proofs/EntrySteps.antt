@@ -1,6 +1,6 @@
 -- What an entry plans and builds, by what it is.
-use Rattle.std.proofs.Common.{ℕ, ◌≡◌, List, Option, Some, None, IsSome, Result, Ok, Err, refl, sym, ap, ◌∙◌, subst, length}
-use Rattle.std.specs.Prelude.{option_map}
+use Rattle.std.proofs.Common.{ℕ, ◌≡◌, inl, inr, List, Option, Some, None, IsSome, Result, Ok, Err, refl, sym, ap, ◌∙◌, subst, length}
+use Rattle.std.specs.Prelude.{option_map, IfOk, IfErr, IsTrue, IsFalse}
 use Rattle.vx_buffer.specs.Buffer.{Buffer}
 use Rattle.vx_trees.specs.Rose.{count}
 use Rattle.vx_types.specs.Known.{ExtMeaning}
@@ -8,10 +8,12 @@ use Rattle.vx_types.specs.Seen.{typ}
 use Rattle.vx_array_tree.specs.Place.{Place}
 use Rattle.vx_array_tree.specs.Tree.{Tree, Trees}
 use Rattle.vx_wire_tree.specs.Plugin.{PluginMeaning, NodeHead}
-use Rattle.vx_wire_tree.specs.Session.{Reader, shipped, plugin}
+use Rattle.vx_wire_tree.specs.Revised.{revised_holds}
+use Rattle.vx_wire_tree.specs.Session.{Reader, shipped, revised, plugin}
 use Rattle.vx_encodings.specs.Plain.{plain_encoding}
-use Rattle.vx_encodings.specs.Steps.{IsUnplanned, IsUnbuilt}
+use Rattle.vx_encodings.specs.Steps.{IsPlanned, IsUnplanned, IsUnbuilt}
 use Rattle.vx_encodings.specs.declared.encoding.Encoding.{Encoding}
+use Rattle.vx_encodings.specs.declared.encoding.Encoding.TheVariants.{Primitive}
 use Rattle.vx_encodings.specs.declared.error.EncodingError.{EncodingError}
 use Rattle.vx_encodings.specs.declared.error.EncodingError.TheVariants as encodings
 use Rattle.vx_encodings.specs.declared.head.ArrayHead.{ArrayHead}
@@ -21,6 +23,8 @@ use Rattle.vx_registry.specs.declared.plugin.PluginError.TheVariants as plugins
 use Rattle.vx_registry.specs.declared.serialization.ArrayDeserialization.{ArrayDeserialization}
 use Rattle.vx_serde.specs.Decoding.{PlansBy, RefusesPlan, head_over, BuildsBy, RefusesBuild, refusal_of}
 use Rattle.vx_serde.specs.ReadingSteps.{encoding_refusal}
+use Rattle.vx_serde.specs.declared.error.WireError.{WireError}
+use Rattle.vx_serde.specs.declared.error.WireError.TheVariants.{BadShape}
 
 -- ---- an encoding refuses
 
@@ -39,6 +43,34 @@ unbuilt encodings.BadShape x g h bs ts u = u
 unbuilt encodings.BadContent x g h bs ts u = u
 unbuilt encodings.ForeignControl x g h bs ts u = u
 unbuilt encodings.WireLimit x g h bs ts u = absurd u
+
+-- ---- primitives under two identifiers
+
+pub revised_unplanned : (e : EncodingError) (x : ExtMeaning) (h : ArrayHead) → IsUnplanned e x Primitive h → RefusesPlan (encoding_refusal e) x (Some revised) h
+revised_unplanned encodings.OutOfMemory x h u = tt
+revised_unplanned encodings.BadMetadata x h u = u
+revised_unplanned encodings.BadShape x h u = inl u
+revised_unplanned encodings.BadContent x h u = absurd u
+revised_unplanned encodings.ForeignControl x h u = absurd u
+revised_unplanned encodings.WireLimit x h u = absurd u
+
+pub revised_unbuilt : (e : EncodingError) (x : ExtMeaning) (h : ArrayHead) (bs : List Buffer) (ts : Trees) → IsUnbuilt e x Primitive h bs ts → RefusesBuild (encoding_refusal e) x (Some revised) h bs ts
+revised_unbuilt encodings.OutOfMemory x h bs ts u = tt
+revised_unbuilt encodings.BadMetadata x h bs ts u = absurd u
+revised_unbuilt encodings.BadShape x h bs ts u = u
+revised_unbuilt encodings.BadContent x h bs ts u = u
+revised_unbuilt encodings.ForeignControl x h bs ts u = u
+revised_unbuilt encodings.WireLimit x h bs ts u = absurd u
+
+-- What was planned stands where the identifier holds the length,
+pub held_plan : (x : ExtMeaning) (h : ArrayHead) (ps : List Place) (r : Result (List Place) WireError) → IsPlanned x Primitive h ps → IfOk r (λ qs. (qs ≡ ps) × IsTrue (revised_holds h.serialized_id h.len)) → IfOk r (λ qs. PlansBy x (Some revised) h qs)
+held_plan x h ps (Ok qs) plan k = record { plan = subst (λ (z : List Place). IsPlanned x Primitive h z) (sym k.0) plan; holds = k.1 }
+held_plan x h ps (Err e) plan k = tt
+
+-- and is refused where it does not.
+pub past_plan : (x : ExtMeaning) (h : ArrayHead) (ps : List Place) (r : Result (List Place) WireError) → IsPlanned x Primitive h ps → IfErr r (λ e. (e ≡ BadShape) × IsFalse (revised_holds h.serialized_id h.len)) → IfErr r (λ e. RefusesPlan e x (Some revised) h)
+past_plan x h ps (Ok qs) plan k = tt
+past_plan x h ps (Err e) plan k = subst (λ z. RefusesPlan z x (Some revised) h) (sym k.0) (inr (record { places = ps; plan = plan; past = k.1 }))
 
 -- ---- a plugin by its number
 

@@ -1,5 +1,5 @@
 -- What the nodes of a tree that is written bring along, and why it is not taken.
-use Rattle.std.proofs.Common.{ℕ, ◌≡◌, ◌+◌, ◌<◌, List, [], ◌∷◌, ◌++◌, Some, length, take, get_or, ap, ◌∙◌, subst, append_assoc}
+use Rattle.std.proofs.Common.{ℕ, Bool, ◌≡◌, ◌+◌, ◌<◌, List, [], ◌∷◌, ◌++◌, Some, length, take, get_or, ap, ◌∙◌, subst, append_assoc}
 use Rattle.std.proofs.lemmas.List.{take_more}
 use Rattle.vx_trees.specs.Everywhere.{Everywhere, EverywhereBelow}
 use Rattle.vx_trees.specs.Rose.{Rose, Roses, below, roses_of}
@@ -8,7 +8,7 @@ use Rattle.vx_array_tree.specs.Tree.{Tree}
 use Rattle.vx_wire_tree.specs.Context.{Context, grown_by}
 use Rattle.vx_wire_tree.specs.Session.{SessionMeaning}
 use Rattle.vx_wire_tree.specs.Wire.{id_in}
-use Rattle.vx_wire_tree.specs.Written.{wire}
+use Rattle.vx_wire_tree.specs.Written.{writes_two, wire}
 use Rattle.vx_encodings.specs.Messages.{codec}
 use Rattle.vx_registry.specs.Serialization.{array_id}
 use Rattle.vx_serde.specs.declared.error.WireError.{WireError}
@@ -29,19 +29,19 @@ everywhere-next F ts i t h e b x =
 
 -- ---- why what nodes bring along is not taken
 
-pub root-refused : (s : SessionMeaning) (t : Tree) (c : Context) (e : WireError) → RefusesRoot t c e → RefusesGathering s t c e
-root-refused s t c OutOfMemory h = tt
-root-refused s t c NotPermitted h = ungrown-own (wire codec s t) c (own-ungrown s t c h)
-root-refused s t c _ h = absurd h
+pub root-refused : (s : SessionMeaning) (two : Bool) → writes_two s ≡ two → (t : Tree) (c : Context) (e : WireError) → RefusesRoot two t c e → RefusesGathering s t c e
+root-refused s two q t c OutOfMemory h = tt
+root-refused s two q t c NotPermitted h = ungrown-own (wire codec s t) c (own-ungrown s two q t c h)
+root-refused s two q t c _ h = absurd h
 
 -- What a tree below brings along comes after the root's identifier and those of the first trees.
-module _ (s : SessionMeaning) (t : Tree) (ts : List Tree) (i : ℕ) (u : Tree) (a b c : Context) where
+module _ (s : SessionMeaning) (two : Bool) (same : writes_two s ≡ two) (t : Tree) (ts : List Tree) (i : ℕ) (u : Tree) (a b c : Context) where
   pub child-ungathered : (e : WireError) → i < length ts → u ≡ get_or ts i u → roses_of ts ≡ below t
-      → grown_by (array_id t ∷ []) a ≡ Some b → grown_by (gathered_first s (λ h. id_in h) ts i) b ≡ Some c
+      → grown_by (array_id two t ∷ []) a ≡ Some b → grown_by (gathered_first s (λ h. id_in h) ts i) b ≡ Some c
       → RefusesGathering s u c e → RefusesGathering s t a e
   child-ungathered OutOfMemory h p q g k r = tt
   child-ungathered NotPermitted h p q g k r =
-      ungrown-child (wire codec s t) (wired s ts) i (wire codec s u) a b c (wired-below s t ts q) (wired-within s ts i h) (wired-at s ts i u h p) (own-grown s t a b g) k r
+      ungrown-child (wire codec s t) (wired s ts) i (wire codec s u) a b c (wired-below s t ts q) (wired-within s ts i h) (wired-at s ts i u h p) (own-grown s two same t a b g) k r
   child-ungathered _ h p q g k r = absurd r
 
 -- ---- an array whose identifiers are not taken is not laid out

@@ -14,6 +14,7 @@ pub mod CountableMetadata
 pub mod CarriedOnce
 pub mod GrownPlaced
 pub mod WiredNodes
+pub mod WiredAlike
 pub mod Chains
 pub mod NodePieces
 pub mod NodeWays
@@ -38,5 +39,5 @@ pub mod DecodedNodes
 pub mod KeptNodes
 pub mod ArrayNodes
 mod Taking
-pub mod Sources
+mod TakenBelow
 pub mod EntrySteps

@@ -1,5 +1,5 @@
 -- What decoding a node and its children gives, and why it does not.
-use Rattle.std.proofs.Common.{false, ℕ, zero, suc, ◌≡◌, ◌+◌, ◌<◌, ◌≤◌, List, [], ◌∷◌, ◌++◌, Option, Some, None, refl, sym, ap, ◌∙◌, arith, subst, take, length, get_or, add-one, inl, inr}
+use Rattle.std.proofs.Common.{Bool, true, false, ℕ, zero, suc, ◌≡◌, ◌+◌, ◌<◌, ◌≤◌, List, [], ◌∷◌, ◌++◌, Option, Some, None, refl, sym, ap, ◌∙◌, arith, subst, take, length, get_or, add-one, inl, inr}
 use Rattle.std.specs.Prelude.{slice_get, option_map, IsSome}
 use Rattle.std.proofs.lemmas.List.{take_all}
 use Rattle.vx_buffer.specs.Buffer.{Buffer}
@@ -22,24 +22,26 @@ use Rattle.vx_wire_tree.specs.Codec.{IsLawful}
 use Rattle.vx_wire_tree.specs.Matches.{Matches, AllMatch}
 use Rattle.vx_wire_tree.specs.Placed.{IsChild, HasPlan, IsPlannedBy}
 use Rattle.vx_wire_tree.specs.Plugin.{PluginMeaning, head_at}
-use Rattle.vx_wire_tree.specs.Session.{SessionMeaning, Reader, shipped, plugin}
+use Rattle.vx_wire_tree.specs.Revised.{revised_holds}
+use Rattle.vx_wire_tree.specs.Session.{SessionMeaning, Reader, shipped, revised, plugin, encoding_by}
 use Rattle.vx_wire_tree.specs.Steps.{PlansChildren, HasNoMetadata, HasNoPlan, HasParts, HasWrongShape, HasWrongControl, HasWrongContent, IsToldBy}
 use Rattle.vx_wire_tree.specs.Tells.{Tells}
 use Rattle.vx_wire_tree.specs.Wire.{Wire, Wires, all_present}
-use Rattle.vx_wire_tree.proofs.Laws.{node_tells, matched_count}
+use Rattle.vx_wire_tree.proofs.Laws.{node_tells, revised_tells, matched_count}
 use Rattle.vx_wire_tree.proofs.Plugins.{plugin_tells}
 use Rattle.vx_encodings.specs.Messages.{codec}
 use Rattle.vx_encodings.proofs.Laws.{one_value, plan_length}
+use Rattle.vx_encodings.specs.declared.encoding.Encoding.TheVariants.{Primitive}
 use Rattle.vx_encodings.specs.declared.head.ArrayHead.{ArrayHead}
 use Rattle.vx_registry.specs.Plugin.{head_in}
 use Rattle.vx_registry.specs.Session.{Plugins, entry_in}
 use Rattle.vx_registry.specs.declared.tables.Entry.{Entry}
-use Rattle.vx_registry.specs.declared.tables.Entry.TheVariants.{Shipped, Boxed}
+use Rattle.vx_registry.specs.declared.tables.Entry.TheVariants.{Shipped, Revised, Boxed}
 use Rattle.vx_serde.specs.declared.error.WireError.{WireError}
 use Rattle.vx_serde.specs.declared.error.WireError.TheVariants.{OutOfMemory, OutOfBounds, UnknownIndex, UnknownEncoding, BadMetadata, BadShape, BadContent, ForeignControl, BadStats, PluginRefused}
 use Rattle.vx_serde.specs.Causes.{RefusesWire}
 use Rattle.vx_serde.specs.ReadingSteps.{RefusesBuffers, RefusesKept, RefusesStats}
-use Rattle.vx_serde.specs.Decoding.{IsHeadOf, IsNodeOf, PlansBy, RefusesPlan, head_over, BuildsBy, RefusesBuild, AllTell}
+use Rattle.vx_serde.specs.Decoding.{IsHeadOf, IsNodeOf, IsPastHead, PlansBy, RefusesPlan, head_over, BuildsBy, RefusesBuild, AllTell}
 
 -- ---- children, one by one
 
@@ -99,6 +101,8 @@ enough_by (Some p) x h ps ws w d n plan is own = p.one_each (head_in h) x ps pla
 pub enough : (f : Plugins) (e : Entry) (x : ExtMeaning) (h : ArrayHead) (ps : List Place) (ws : List Wire) (w : Wire) (d : Typ) (n : ℕ) → PlansBy x (entry_in f e) h ps → IsHeadOf h w d n → roses_of ws ≡ below w → length ps ≡ length ws
 enough f (Shipped e) x h ps ws w d n plan is own =
     plan_length e (typ h.dtype) h.len plan.value h.nchildren ps plan.plan ∙ is.children ∙ sym (ap (λ z. count z) own) ∙ count-roses_of ws
+enough f Revised x h ps ws w d n plan is own =
+    plan_length Primitive (typ h.dtype) h.len plan.plan.value h.nchildren ps plan.plan.plan ∙ is.children ∙ sym (ap (λ z. count z) own) ∙ count-roses_of ws
 enough f (Boxed k) x h ps ws w d n plan is own = enough_by (f k) x h ps ws w d n plan is own
 
 pub get_past : {A : Type 0} (xs : List A) (i : ℕ) → i < length xs → slice_get xs i ≡ None → ⊥
@@ -162,7 +166,10 @@ told_head : (h : ArrayHead) (w : Wire) (d : Typ) (n : ℕ) (id : List ℕ) → I
 told_head h w d n id is named = λ i. record { id = named i; dtype = is.dtype i; len = is.len i; metadata = is.metadata i; nbuffers = is.buffers i; nchildren = is.children i }
 
 own_encoding : (s : SessionMeaning) (w : Wire) (d : Typ) (n : ℕ) (e : Encodings.Encoding) (h : ArrayHead) → IsNodeOf s w d n (Some (shipped e)) h → IsOf s w e
-own_encoding s w d n e h read = record { id = read.id; id_is = read.id_is; reader_is = read.reader_is }
+own_encoding s w d n e h read = record { id = read.id; id_is = read.id_is; encoding_is = ap (λ z. encoding_by z) read.reader_is }
+
+own_primitive : (s : SessionMeaning) (w : Wire) (d : Typ) (n : ℕ) (h : ArrayHead) → IsNodeOf s w d n (Some revised) h → IsOf s w Encodings.primitive
+own_primitive s w d n h read = record { id = read.id; id_is = read.id_is; encoding_is = ap (λ z. encoding_by z) read.reader_is }
 
 -- a node by what reads its identifier
 pub node_of : (s : SessionMeaning) (w : Wire) (d : Typ) (n : ℕ) (r : Option Reader) (h : ArrayHead) (id : List ℕ) → (label w).id ≡ Some id → h.serialized_id ≡ id → s.reader id ≡ r → IsHeadOf h w d n → IsNodeOf s w d n r h
@@ -171,6 +178,7 @@ node_of s w d n r h id i named q head = record { id = id; id_is = i; named = nam
 planned_by : (s : SessionMeaning) (w : Wire) (d : Typ) (n : ℕ) (r : Option Reader) (h : ArrayHead) (ps : List Place) → IsNodeOf s w d n r h → PlansBy s.ext r h ps → IsPlannedBy codec s r w d n ps
 planned_by s w d n None h ps read plan = absurd plan
 planned_by s w d n (Some (shipped e)) h ps read plan = at_node (λ f m b k. PlansChildren codec s.ext e f m b k ps) h w d n read.head plan
+planned_by s w d n (Some revised) h ps read plan = at_node (λ f m b k. PlansChildren codec s.ext Encodings.primitive f m b k ps) h w d n read.head plan.plan
 planned_by s w d n (Some (plugin p)) h ps read plan =
     record { id = read.id; id_is = read.id_is; plan = ap (λ z. p.plan z s.ext) (sym (told_head h w d n read.id read.head read.named)) ∙ plan }
 
@@ -179,13 +187,41 @@ planned s w d n r h ps read plan =
     let P : Option Reader → Type 0 = λ z. IsPlannedBy codec s z w d n ps in
     record { id = read.id; id_is = read.id_is; planned = subst P (sym read.reader_is) (planned_by s w d n r h ps read plan) }
 
+-- an encoding refuses a node's metadata, or plans nothing
+no_metadata : (s : SessionMeaning) (w : Wire) (d : Typ) (n : ℕ) (e : Encodings.Encoding) (h : ArrayHead) → IsHeadOf h w d n → IsOf s w e → HasNoMetadata codec s.ext e (typ h.dtype) h.metadata → RefusesWire s BadMetadata w d n
+no_metadata s w d n e h head by c = ([], record { encoding = e; by = by; none = at_node (λ f m b k. HasNoMetadata codec s.ext e f b) h w d n head c })
+
+no_plan : (s : SessionMeaning) (w : Wire) (d : Typ) (n : ℕ) (e : Encodings.Encoding) (h : ArrayHead) → IsHeadOf h w d n → IsOf s w e → HasNoPlan codec s.ext e (typ h.dtype) h.len h.metadata h.nchildren
+    → RefusesWire s BadShape w d n
+no_plan s w d n e h head by c =
+    let none = at_node (λ f m b k. HasNoPlan codec s.ext e f m b k) h w d n head c in
+    ([], record { encoding = e; by = by; value = none.value; metadata = none.metadata; broken = inl none.none })
+
+-- what an identifier holds of a head's rows it holds of the node's
+held_at : (b : Bool) (h : ArrayHead) (w : Wire) (d : Typ) (n : ℕ) (id : List ℕ) → IsHeadOf h w d n → h.serialized_id ≡ id → revised_holds h.serialized_id h.len ≡ b → revised_holds id n ≡ b
+held_at b h w d n id head named e = (λ i. revised_holds (sym named i) (sym head.len i)) ∙ e
+
+past_length : (s : SessionMeaning) (w : Wire) (d : Typ) (n : ℕ) (h : ArrayHead) → IsNodeOf s w d n (Some revised) h → IsPastHead s.ext h → RefusesWire s BadShape w d n
+past_length s w d n h read c =
+    let plans = at_node (λ f m b k. PlansChildren codec s.ext Encodings.primitive f m b k c.places) h w d n read.head c.plan in
+    let past = held_at false h w d n read.id read.head read.named c.past in (
+      [],
+      record {
+        encoding = Encodings.primitive;
+        by = own_primitive s w d n h read;
+        value = plans.value;
+        metadata = plans.metadata;
+        broken = inr (inr (inr (record { by = record { id = read.id; id_is = read.id_is; reader_is = read.reader_is }; past = past })));
+      },
+    )
+
 pub caused_by_plan : (s : SessionMeaning) (x : WireError) (w : Wire) (d : Typ) (n : ℕ) (r : Option Reader) (h : ArrayHead) → IsNodeOf s w d n r h → RefusesPlan x s.ext r h → RefusesWire s x w d n
 caused_by_plan s OutOfMemory w d n r h read c = tt
-caused_by_plan s BadMetadata w d n (Some (shipped e)) h read c =
-    ([], record { encoding = e; by = own_encoding s w d n e h read; none = at_node (λ f m b k. HasNoMetadata codec s.ext e f b) h w d n read.head c })
-caused_by_plan s BadShape w d n (Some (shipped e)) h read c =
-    let none = at_node (λ f m b k. HasNoPlan codec s.ext e f m b k) h w d n read.head c in
-    ([], record { encoding = e; by = own_encoding s w d n e h read; value = none.value; metadata = none.metadata; broken = inl none.none })
+caused_by_plan s BadMetadata w d n (Some (shipped e)) h read c = no_metadata s w d n e h read.head (own_encoding s w d n e h read) c
+caused_by_plan s BadShape w d n (Some (shipped e)) h read c = no_plan s w d n e h read.head (own_encoding s w d n e h read) c
+caused_by_plan s BadMetadata w d n (Some revised) h read c = no_metadata s w d n Encodings.primitive h read.head (own_primitive s w d n h read) c
+caused_by_plan s BadShape w d n (Some revised) h read (inl c) = no_plan s w d n Encodings.primitive h read.head (own_primitive s w d n h read) c
+caused_by_plan s BadShape w d n (Some revised) h read (inr c) = past_length s w d n h read c
 caused_by_plan s PluginRefused w d n (Some (plugin p)) h read c = (
   [],
   record {
@@ -227,12 +263,12 @@ head_of_parts s w d n id h bs ts is named own matched =
     let b : length bs ≡ length (label w).buffers = sym (ap (λ z. length z) own ∙ present_length bs) in
     λ i. record { id = named i; dtype = is.dtype i; len = is.len i; metadata = is.metadata i; nbuffers = b i; nchildren = k i }
 
-pub caused_by_build : (s : SessionMeaning) (x : WireError) (w : Wire) (d : Typ) (n : ℕ) (r : Option Reader) (h : ArrayHead) (bs : List Buffer) (ws : List Wire) (ps : List Place) (ts : Trees) → IsNodeOf s w d n r h
-    → PlansBy s.ext r h ps → (label w).buffers ≡ all_present bs → roses_of ws ≡ below w → AllTell s (roses_of ws) ps ts → RefusesBuild x s.ext r h bs ts → RefusesWire s x w d n
-caused_by_build s OutOfMemory w d n r h bs ws ps ts read plan own own_children told c = tt
-caused_by_build s BadShape w d n (Some (shipped e)) h bs ws ps ts read plan own own_children told c =
-    let wrong = at_node (λ f m b k. HasWrongShape codec s.ext e f m b bs ts) h w d n read.head c in
-    let plans = at_node (λ f m b k. PlansChildren codec s.ext e f m b k ps) h w d n read.head plan in
+-- what an encoding builds nothing of, after it has planned, by its refusal
+wrong_shape : (s : SessionMeaning) (w : Wire) (d : Typ) (n : ℕ) (e : Encodings.Encoding) (h : ArrayHead) (bs : List Buffer) (ws : List Wire) (ps : List Place) (ts : Trees) → IsHeadOf h w d n → IsOf s w e
+    → PlansChildren codec s.ext e (typ h.dtype) h.len h.metadata h.nchildren ps → (label w).buffers ≡ all_present bs → roses_of ws ≡ below w → AllTell s (roses_of ws) ps ts → HasWrongShape codec s.ext e (typ h.dtype) h.len h.metadata bs ts → RefusesWire s BadShape w d n
+wrong_shape s w d n e h bs ws ps ts head by plan own own_children told c =
+    let wrong = at_node (λ f m b k. HasWrongShape codec s.ext e f m b bs ts) h w d n head c in
+    let plans = at_node (λ f m b k. PlansChildren codec s.ext e f m b k ps) h w d n head plan in
     let kids = children_of s w ws ps ts own_children told in
     let same : count (below w) ≡ count ts = sym (matched_count codec s (below w) ts kids.matched) in
     let value = one_value s.ext e d (label w).metadata plans.value wrong.value plans.metadata wrong.metadata in
@@ -247,20 +283,23 @@ caused_by_build s BadShape w d n (Some (shipped e)) h bs ws ps ts read plan own 
       [],
       record {
         encoding = e;
-        by = own_encoding s w d n e h read;
+        by = by;
         value = wrong.value;
         metadata = wrong.metadata;
-        broken = elim wrong.wrong [ inl never ↦ inr (inl (shaped never)) | inr never ↦ inr (inr (record { places_are = ps; plan = plan_is; children = ts; matched = kids; untaken = never })) ];
+        broken = elim wrong.wrong [ inl never ↦ inr (inl (shaped never)) | inr never ↦ inr (inr (inl (record { places_are = ps; plan = plan_is; children = ts; matched = kids; untaken = never }))) ];
       },
     )
-caused_by_build s ForeignControl w d n (Some (shipped e)) h bs ws ps ts read plan own own_children told c =
-    let wrong = at_node (λ f m b k. HasWrongControl codec s.ext e f m b ts) h w d n read.head c in
-    let plans = at_node (λ f m b k. PlansChildren codec s.ext e f m b k ps) h w d n read.head plan in
+
+wrong_control : (s : SessionMeaning) (w : Wire) (d : Typ) (n : ℕ) (e : Encodings.Encoding) (h : ArrayHead) (bs : List Buffer) (ws : List Wire) (ps : List Place) (ts : Trees) → IsHeadOf h w d n → IsOf s w e
+    → PlansChildren codec s.ext e (typ h.dtype) h.len h.metadata h.nchildren ps → (label w).buffers ≡ all_present bs → roses_of ws ≡ below w → AllTell s (roses_of ws) ps ts → HasWrongControl codec s.ext e (typ h.dtype) h.len h.metadata ts → RefusesWire s ForeignControl w d n
+wrong_control s w d n e h bs ws ps ts head by plan own own_children told c =
+    let wrong = at_node (λ f m b k. HasWrongControl codec s.ext e f m b ts) h w d n head c in
+    let plans = at_node (λ f m b k. PlansChildren codec s.ext e f m b k ps) h w d n head plan in
     let value = one_value s.ext e d (label w).metadata plans.value wrong.value plans.metadata wrong.metadata in (
       [],
       record {
         encoding = e;
-        by = own_encoding s w d n e h read;
+        by = by;
         value = wrong.value;
         metadata = wrong.metadata;
         places_are = ps;
@@ -270,9 +309,12 @@ caused_by_build s ForeignControl w d n (Some (shipped e)) h bs ws ps ts read pla
         foreign = wrong.foreign;
       },
     )
-caused_by_build s BadContent w d n (Some (shipped e)) h bs ws ps ts read plan own own_children told c =
-    let wrong = at_node (λ f m b k. HasWrongContent codec s.ext e f m b bs ts) h w d n read.head c in
-    let plans = at_node (λ f m b k. PlansChildren codec s.ext e f m b k ps) h w d n read.head plan in
+
+wrong_content : (s : SessionMeaning) (w : Wire) (d : Typ) (n : ℕ) (e : Encodings.Encoding) (h : ArrayHead) (bs : List Buffer) (ws : List Wire) (ps : List Place) (ts : Trees) → IsHeadOf h w d n → IsOf s w e
+    → PlansChildren codec s.ext e (typ h.dtype) h.len h.metadata h.nchildren ps → (label w).buffers ≡ all_present bs → roses_of ws ≡ below w → AllTell s (roses_of ws) ps ts → HasWrongContent codec s.ext e (typ h.dtype) h.len h.metadata bs ts → RefusesWire s BadContent w d n
+wrong_content s w d n e h bs ws ps ts head by plan own own_children told c =
+    let wrong = at_node (λ f m b k. HasWrongContent codec s.ext e f m b bs ts) h w d n head c in
+    let plans = at_node (λ f m b k. PlansChildren codec s.ext e f m b k ps) h w d n head plan in
     let kids = children_of s w ws ps ts own_children told in
     let same : count ts ≡ count (below w) = matched_count codec s (below w) ts kids.matched in
     let value = one_value s.ext e d (label w).metadata plans.value wrong.value plans.metadata wrong.metadata in
@@ -280,7 +322,7 @@ caused_by_build s BadContent w d n (Some (shipped e)) h bs ws ps ts read plan ow
       [],
       record {
         encoding = e;
-        by = own_encoding s w d n e h read;
+        by = by;
         value = wrong.value;
         metadata = wrong.metadata;
         places_are = ps;
@@ -294,6 +336,19 @@ caused_by_build s BadContent w d n (Some (shipped e)) h bs ws ps ts read plan ow
         broken = broken.1;
       },
     )
+
+pub caused_by_build : (s : SessionMeaning) (x : WireError) (w : Wire) (d : Typ) (n : ℕ) (r : Option Reader) (h : ArrayHead) (bs : List Buffer) (ws : List Wire) (ps : List Place) (ts : Trees) → IsNodeOf s w d n r h
+    → PlansBy s.ext r h ps → (label w).buffers ≡ all_present bs → roses_of ws ≡ below w → AllTell s (roses_of ws) ps ts → RefusesBuild x s.ext r h bs ts → RefusesWire s x w d n
+caused_by_build s OutOfMemory w d n r h bs ws ps ts read plan own own_children told c = tt
+caused_by_build s BadShape w d n (Some (shipped e)) h bs ws ps ts read plan own own_children told c = wrong_shape s w d n e h bs ws ps ts read.head (own_encoding s w d n e h read) plan own own_children told c
+caused_by_build s BadShape w d n (Some revised) h bs ws ps ts read plan own own_children told c =
+    wrong_shape s w d n Encodings.primitive h bs ws ps ts read.head (own_primitive s w d n h read) plan.plan own own_children told c
+caused_by_build s ForeignControl w d n (Some (shipped e)) h bs ws ps ts read plan own own_children told c = wrong_control s w d n e h bs ws ps ts read.head (own_encoding s w d n e h read) plan own own_children told c
+caused_by_build s ForeignControl w d n (Some revised) h bs ws ps ts read plan own own_children told c =
+    wrong_control s w d n Encodings.primitive h bs ws ps ts read.head (own_primitive s w d n h read) plan.plan own own_children told c
+caused_by_build s BadContent w d n (Some (shipped e)) h bs ws ps ts read plan own own_children told c = wrong_content s w d n e h bs ws ps ts read.head (own_encoding s w d n e h read) plan own own_children told c
+caused_by_build s BadContent w d n (Some revised) h bs ws ps ts read plan own own_children told c =
+    wrong_content s w d n Encodings.primitive h bs ws ps ts read.head (own_primitive s w d n h read) plan.plan own own_children told c
 caused_by_build s PluginRefused w d n (Some (plugin p)) h bs ws ps ts read plan own own_children told c =
     let kids = children_of s w ws ps ts own_children told in (
       [],
@@ -320,6 +375,7 @@ pub built_dtype : (s : SessionMeaning) (w : Wire) (d : Typ) (n : ℕ) (r : Optio
     → (label w).buffers ≡ all_present bs → roses_of ws ≡ below w → AllTell s (roses_of ws) ps ts → BuildsBy s.ext r h bs ts t → (label t).dtype ≡ d
 built_dtype s w d n None h bs ws ps ts t read plan own own_children told parts = absurd parts
 built_dtype s w d n (Some (shipped e)) h bs ws ps ts t read plan own own_children told parts = ap (λ (z : Tree). (label z).dtype) parts.tree_is ∙ read.head.dtype
+built_dtype s w d n (Some revised) h bs ws ps ts t read plan own own_children told parts = ap (λ (z : Tree). (label z).dtype) parts.tree_is ∙ read.head.dtype
 built_dtype s w d n (Some (plugin p)) h bs ws ps ts t read plan own own_children told parts =
     let kids = children_of s w ws ps ts own_children told in
     let at = head_at read.id (label w) (count (below w)) d n in
@@ -343,6 +399,11 @@ told_node s law (node w below) d n (Some (shipped e)) h ps bs ws ts t u read pla
     (at_node (λ f m b k. PlansChildren codec s.ext e f m b k ps) h (node w below) d n read.head plan) own
     (children_of s (node w below) ws ps ts own_children told)
     (at_node (λ f m b k. HasParts codec s.ext e f m b bs ts t) h (node w below) d n read.head parts) sound stats
+told_node s law (node w below) d n (Some revised) h ps bs ws ts t u read plan own own_children told parts sound stats =
+    revised_tells codec s law read.id w below d n ps bs ts t u read.id_is read.reader_is (held_at true h (node w below) d n read.id read.head read.named plan.holds)
+    (at_node (λ f m b k. PlansChildren codec s.ext Encodings.primitive f m b k ps) h (node w below) d n read.head plan.plan) own
+    (children_of s (node w below) ws ps ts own_children told)
+    (at_node (λ f m b k. HasParts codec s.ext Encodings.primitive f m b bs ts t) h (node w below) d n read.head parts) sound stats
 told_node s law (node w below) d n (Some (plugin p)) h ps bs ws ts t u read plan own own_children told parts sound stats =
     let kids = children_of s (node w below) ws ps ts own_children told in
     plugin_tells codec s law.stats read.id p w below d n ps bs ts t u read.id_is read.reader_is

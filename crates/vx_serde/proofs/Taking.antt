@@ -1,40 +1,38 @@
 -- What is written of an array, node by node, and why a node is not.
-use Rattle.std.specs.Prelude.{bytes_eq, if◌then◌else◌}
+use Rattle.std.specs.Prelude.{bytes_eq, slice_get, if◌then◌else◌}
 use Rattle.std.specs.List.{list_any}
-use Rattle.std.proofs.Common.{ℕ, zero, suc, Option, Some, None, Bool, true, false, ◌≡◌, ◌<◌, ◌≤◌, ◌+◌, ◌⊎◌, inl, inr, List, [], ◌∷◌, ◌++◌, map, refl, sym, ap, ◌∙◌, subst, arith}
-use Rattle.std.proofs.lemmas.List.{map-append}
-use Rattle.vx_trees.specs.Rose.{node, end, more, label, below, roses_of}
+use Rattle.std.proofs.Common.{ℕ, zero, suc, Option, Some, None, Bool, true, false, ◌≡◌, ◌<◌, ◌≤◌, ◌+◌, ◌-◌, ◌⊎◌, inl, inr, List, [], ◌∷◌, refl, sym, ap, ◌∙◌, subst, arith}
+use Rattle.vx_trees.specs.Rose.{node, end, more, label, below, roses_of, roses_list}
 use Rattle.vx_trees.specs.Walks.{levels, levels_below}
 use Rattle.vx_trees.specs.Everywhere.{EverywhereBelow}
-use Rattle.vx_types.specs.Known.{ExtMeaning}
+use Rattle.vx_trees.proofs.Lists.{roses_of-roses_list}
 use Rattle.vx_array_tree.specs.Body.{Body}
 use Rattle.vx_array_tree.specs.Body as B
 use Rattle.vx_array_tree.specs.Place.{Place, place}
 use Rattle.vx_scalars.specs.Stats.{FitStats}
 use Rattle.vx_array_tree.specs.Sound.{metadata_in}
-use Rattle.vx_array_tree.specs.Table.{metadata_of}
+use Rattle.vx_array_tree.specs.Table.{metadata_of, buffers_of}
 use Rattle.vx_array_tree.specs.Tree.{Tree, Trees, Head, places}
 use Rattle.vx_wire_tree.specs.Context.{Context}
 use Rattle.vx_wire_tree.specs.Fields.{FitsMessage, told}
 use Rattle.vx_wire_tree.specs.Limits.{HasMessage, HasMessages}
 use Rattle.vx_wire_tree.specs.Plugin.{PluginMeaning, Parts, Answer, none, refused, given}
-use Rattle.vx_wire_tree.specs.Session.{SessionMeaning, Reader, shipped, plugin, IsShipped}
+use Rattle.vx_wire_tree.specs.Session.{SessionMeaning, Reader, shipped, revised, plugin, IsShipped}
 use Rattle.vx_wire_tree.specs.Taken.{Step, written, unwritten, Unwritten, unregistered, unserializable, undeclared, unwilling, IsWrittenStep, given_head, foreign_step, plugin_step, writer_step, step_by, step, step_head, step_below, each, Each, Any, taken, IsTaken, HasUntaken}
 use Rattle.vx_wire_tree.proofs.Laws.{taken_own}
 use Rattle.vx_encodings.specs.Messages.{message_bytes}
-use Rattle.vx_registry.specs.Serialization.{IsUnserialized, HasLargeMetadata}
-use Rattle.vx_registry.specs.Plugin.{parts_in}
+use Rattle.vx_wire_tree.specs.Written.{head_id}
+use Rattle.vx_registry.specs.Serialization.{IsUnserialized, HasLargeMetadata, array_id}
 use Rattle.vx_registry.specs.declared.error.RegistryError.{RegistryError}
 use Rattle.vx_registry.specs.declared.error.RegistryError.TheVariants as registry
-use Rattle.vx_registry.specs.declared.serialization.ArraySerialization.{ArraySerialization}
 use Rattle.vx_serde.specs.declared.error.WireError.{WireError}
 use Rattle.vx_serde.specs.declared.error.WireError.TheVariants.{OutOfMemory, NotPermitted, WireLimit, NotRegistered, NotSerializable, UndeclaredId, PluginRefused}
 use Rattle.vx_serde.specs.declared.options.SerializeOptions.{SerializeOptions}
 use Rattle.vx_serde.specs.Causes.{RefusesWriting, RefusesArray}
 use Rattle.vx_serde.specs.Errors.{registry_refusal}
+use Rattle.vx_serde.specs.Limits.{most_levels}
 use Rattle.vx_serde.specs.declared.taken.GivenParts.{GivenParts}
-use Rattle.vx_serde.specs.declared.taken.Source.{Source}
-use Rattle.vx_serde.specs.Taking.{as_written, source_tree, source_trees, taken_head, StandsAs, KeepsBelow, IsGivenAs, RefusesOwn, RefusesStep, RefusesTaking, RefusesOneOf}
+use Rattle.vx_serde.specs.Taking.{as_written, own_parts, taken_head, StandsAs, RefusesStep, RefusesTaking, RefusesOneOf}
 use Rattle.vx_serde.proofs.WiredNodes.{wired-levels}
 
 -- Where a node stands.
@@ -60,6 +58,7 @@ module _ (s : SessionMeaning) where
   writer_at : (r : Option Reader) (h : Head) (ts : Trees) → at (step_head (writer_step r h ts) h) ≡ at h
   writer_at None h ts = refl
   writer_at (Some (shipped e)) h ts = refl
+  writer_at (Some revised) h ts = refl
   writer_at (Some (plugin p)) h ts = plugin_at p h (p.serialize (node h ts))
 
   body_at : (b : Body) (h : Head) (ts : Trees) → at (step_head (step_by s b h ts) h) ≡ at h
@@ -147,13 +146,14 @@ module _ (s : SessionMeaning) where
   later_refused n t ts PluginRefused k = inr k
   later_refused n t ts _ k = absurd k
 
-  pub one_refused : (n : ℕ) (xs ys : List Tree) (t : Tree) (e : WireError) → RefusesTaking s n t e → RefusesOneOf s n (roses_of (xs ++ t ∷ ys)) e
-  one_refused n [] ys t e k = first_refused n t (roses_of ys) e k
-  one_refused n (x ∷ xs) ys t e k = later_refused n x (roses_of (xs ++ t ∷ ys)) e (one_refused n xs ys t e k)
+  pub one_refused : (n : ℕ) (ts : List Tree) (i : ℕ) (t : Tree) (e : WireError) → slice_get ts i ≡ Some t → RefusesTaking s n t e → RefusesOneOf s n (roses_of ts) e
+  one_refused n [] i t e p k = absurd (cc)
+  one_refused n (x ∷ ts) zero t e p k = let same : t ≡ x = cc in first_refused n x (roses_of ts) e (subst (λ z. RefusesTaking s n z e) same k)
+  one_refused n (x ∷ ts) (suc i) t e p k = later_refused n x (roses_of ts) e (one_refused n ts i t e p k)
 
   -- ---- an array that is not taken
 
-  pub untaken : (o : SerializeOptions) (t : Tree) (c : Context) (e : WireError) → RefusesTaking s 62 t e → RefusesArray s t c o e
+  pub untaken : (o : SerializeOptions) (t : Tree) (c : Context) (e : WireError) → RefusesTaking s (most_levels o) t e → RefusesArray s t c o e
   untaken o t c OutOfMemory k = tt
   untaken o t c WireLimit (inl k) = λ l. omega (arith, k, l.writable.tree.nested, wired-levels s (as_written s o t))
   untaken o t c WireLimit (inr k) = λ l. k l.messages
@@ -165,22 +165,57 @@ module _ (s : SessionMeaning) where
 
 -- ---- a node that is written
 
--- What a node is written as has its statistics and its type.
-pub head_stats : (h : Head) (g : Option GivenParts) → (taken_head h g).stats ≡ h.stats
-head_stats h None = refl
-head_stats h (Some g) = refl
-
-pub head_dtype : (h : Head) (g : Option GivenParts) → (taken_head h g).dtype ≡ h.dtype
-head_dtype h None = refl
-head_dtype h (Some g) = refl
-
-pub fit_head : (h : Head) (g : Option GivenParts) → FitStats h.dtype h.stats → FitStats (taken_head h g).dtype (taken_head h g).stats
-fit_head h None f = f
-fit_head h (Some g) f = f
-
 -- Its metadata looks at the places below alone.
 pub metadata_at : (h : Head) (us ts : Trees) → places us ≡ places ts → message_bytes (told (metadata_in h ts)) ≡ message_bytes (told (metadata_in h us))
 metadata_at h us ts e = ap (λ ps. message_bytes (told (metadata_of h.body ps))) (sym e)
+
+-- A node that stands for an array's root, over other nodes.
+module _ (src : Tree) (us : Trees) (t : Tree) where
+  -- As it stands.
+  module _ (g : Option GivenParts) (none : g ≡ None) (is : node (taken_head (label src) g) us ≡ t) where
+    own_label : label src ≡ label t
+    own_label = ap (λ z. taken_head (label src) z) (sym none) ∙ ap (λ z. label z) is
+
+    pub own_id : (two : Bool) → array_id two src ≡ array_id two t
+    own_id two = ap (λ h. head_id two h) own_label
+
+    pub own_buffers : buffers_of (label src).body ≡ buffers_of (label t).body
+    own_buffers = ap (λ (h : Head). buffers_of h.body) own_label
+
+    pub own_bytes : StandsAs g us (below src) → message_bytes (told (metadata_in (label src) (below src))) ≡ message_bytes (told (metadata_in (label t) (below t)))
+    own_bytes k =
+        metadata_at (label src) us (below src) (subst (λ z. StandsAs z us (below src)) none k)
+        ∙ (λ i. message_bytes (told (metadata_in (own_label i) (below (is i)))))
+
+  -- As a plugin gives it.
+  module _ (g : Option GivenParts) (p : GivenParts) (some : g ≡ Some p) (is : node (taken_head (label src) g) us ≡ t) where
+    given_label : given_head (label src) (own_parts p) ≡ label t
+    given_label = ap (λ z. taken_head (label src) z) (sym some) ∙ ap (λ (z : Tree). label z) is
+
+    pub given_id : (two : Bool) → p.id ≡ array_id two t
+    given_id two = ap (λ h. head_id two h) given_label
+
+    pub given_buffers : p.buffers ≡ buffers_of (label t).body
+    given_buffers = ap (λ (h : Head). buffers_of h.body) given_label
+
+    pub given_bytes : p.metadata ≡ message_bytes (told (metadata_in (label t) (below t)))
+    given_bytes = ap (λ (h : Head). message_bytes (told (metadata_in h (below t)))) given_label
+
+  -- Its statistics are the array's.
+  module _ (g : Option GivenParts) (is : node (taken_head (label src) g) us ≡ t) where
+    head_stats : (h : Head) (x : Option GivenParts) → (taken_head h x).stats ≡ h.stats
+    head_stats h None = refl
+    head_stats h (Some y) = refl
+
+    fit_head : (h : Head) (x : Option GivenParts) → FitStats h.dtype h.stats → FitStats (taken_head h x).dtype (taken_head h x).stats
+    fit_head h None f = f
+    fit_head h (Some y) f = f
+
+    pub same_stats : (label src).stats ≡ (label t).stats
+    same_stats = sym (head_stats (label src) g) ∙ ap (λ (z : Tree). (label z).stats) is
+
+    pub same_fit : FitStats (label src).dtype (label src).stats → FitStats (label t).dtype (label t).stats
+    same_fit f = subst (λ (z : Tree). FitStats (label z).dtype (label z).stats) is (fit_head (label src) g f)
 
 -- ---- where there is room for one level more than below
 
@@ -203,42 +238,7 @@ module _ (s : SessionMeaning) (n room : ℕ) (e : suc n ≡ room) (t : Tree) (h 
 pub stands_at : (s : SessionMeaning) (n : ℕ) (us ts : Trees) → us ≡ each (taken s n) ts → places us ≡ places ts
 stands_at s n us ts e = ap (λ z. places z) e ∙ places_taken s n ts
 
--- Below a node that is written as it stands.
-pub stands_by : (s : SessionMeaning) (n : ℕ) (g : Option GivenParts) (us ts vs : Trees) → KeepsBelow g ts vs → us ≡ each (taken s n) ts → StandsAs g us vs
-stands_by s n None us ts vs k e = stands_at s n us ts e ∙ ap (λ z. places z) k
-stands_by s n (Some g) us ts vs k e = tt
-
 -- ---- a root by what is written of it
-
--- As it stands.
-module _ (t : Tree) (g : Option GivenParts) (ts : Trees) (none : g ≡ None) (e : ts ≡ below t) where
-  pub own_step : (s : SessionMeaning) → step s t ≡ written (label t) (below t) → step s t ≡ written (taken_head (label t) g) ts
-  own_step s w = w ∙ (λ i. written (taken_head (label t) (sym none i)) (sym e i))
-
-  pub own_message : HasMessage (label t) (below t) → HasMessage (taken_head (label t) g) ts
-  own_message m = subst (λ z. HasMessage (taken_head (label t) z) ts) (sym none) (subst (λ z. HasMessage (label t) z) (sym e) m)
-
-  pub own_kept : KeepsBelow g ts (below t)
-  own_kept = subst (λ z. KeepsBelow z ts (below t)) (sym none) e
-
-pub own_unwritten : (s : SessionMeaning) (t : Tree) (x : WireError) → step s t ≡ written (label t) (below t) → RefusesOwn t x → RefusesStep (step s t) x
-own_unwritten s t OutOfMemory w k = tt
-own_unwritten s t WireLimit w k = subst (λ z. HasLargeMetadata z) (sym w) k
-own_unwritten s t _ w k = absurd k
-
--- With the parts that a plugin gives.
-pub given_step : (s : SessionMeaning) (t : Tree) (p : ArraySerialization) (g : Option GivenParts) (ts : Trees) → IsGivenAs p g → ts ≡ p.children → step s t ≡ written (given_head (label t) (parts_in p)) p.children
-    → step s t ≡ written (taken_head (label t) g) ts
-given_step s t p None ts k e w = absurd k
-given_step s t p (Some g) ts k e w = w ∙ (λ i. written (given_head (label t) (record { id = sym k.0 i; metadata = sym k.1 i; buffers = sym k.2 i; children = end })) (sym e i))
-
-pub given_as_message : (h : Head) (p : ArraySerialization) (g : Option GivenParts) (ts : Trees) → IsGivenAs p g → HasMessage (taken_head h g) ts
-given_as_message h p None ts k = absurd k
-given_as_message h p (Some g) ts k = tt
-
-pub given_kept : (p : ArraySerialization) (g : Option GivenParts) (us ts : Trees) → IsGivenAs p g → KeepsBelow g us ts
-given_kept p None us ts k = absurd k
-given_kept p (Some g) us ts k = tt
 
 -- Not at all.
 pub unserialized_step : (x : Step) (e : RegistryError) → IsUnserialized e x → RefusesStep x (registry_refusal e)
@@ -247,6 +247,10 @@ unserialized_step x registry.NotRegistered k = k
 unserialized_step x registry.UndeclaredId k = k
 unserialized_step x registry.PluginRefused k = k
 unserialized_step x registry.WireLimit k = k
+
+-- Memory was wanted.
+pub wanted : (s : SessionMeaning) (n : ℕ) (t : Tree) (e : WireError) → e ≡ OutOfMemory → RefusesTaking s n t e
+wanted s n t e p = subst (λ x. RefusesTaking s n t x) (sym p) tt
 
 -- There is no room.
 pub no_room : (s : SessionMeaning) (room : ℕ) (t : Tree) → room ≡ 0 → RefusesTaking s room t WireLimit
@@ -265,12 +269,17 @@ without_blob s o t c WireLimit k = k
 without_blob s o t c _ k = absurd k
 
 -- What is taken, where no plugin writes, is the array.
-pub taken_as_own : (s : SessionMeaning) (t u : Tree) → IsShipped s → u ≡ taken s 62 t → IsTaken s 62 t → levels u ≤ 62 → u ≡ t
-taken_as_own s t u ok e k l = e ∙ taken_own s ok 62 t k (omega (arith, l, ap (λ z. levels z) e))
+pub taken_as_own : (s : SessionMeaning) (n : ℕ) (t u : Tree) → IsShipped s → u ≡ taken s n t → IsTaken s n t → levels u ≤ n → u ≡ t
+taken_as_own s n t u ok e k l = e ∙ taken_own s ok n t k (omega (arith, l, ap (λ z. levels z) e))
 
--- ---- one of several sources
+-- ---- where there is room for as many levels as may be written
 
-pub source_refused : (s : SessionMeaning) (n : ℕ) (items xs rest : List Source) (x : Source) (e : WireError) → items ≡ xs ++ x ∷ rest → RefusesTaking s n (source_tree x) e → RefusesOneOf s n (source_trees items) e
-source_refused s n items xs rest x e p k =
-    let q : source_trees items ≡ roses_of (map source_tree xs ++ source_tree x ∷ map source_tree rest) = ap (λ z. source_trees z) p ∙ ap (λ z. roses_of z) (map-append source_tree xs (x ∷ rest)) in
-    subst (λ z. RefusesOneOf s n z e) (sym q) (one_refused s n (map source_tree xs) (map source_tree rest) (source_tree x) e k)
+module _ (s : SessionMeaning) (o : SerializeOptions) (room : ℕ) (same : room ≡ most_levels o) (t : Tree) where
+  pub taken_whole : (u : Tree) → u ≡ taken s room t → u ≡ as_written s o t
+  taken_whole u e = e ∙ ap (λ n. taken s n t) same
+
+  pub is_taken_whole : IsTaken s room t → IsTaken s (most_levels o) t
+  is_taken_whole k = subst (λ n. IsTaken s n t) same k
+
+  pub untaken_whole : (c : Context) (e : WireError) → RefusesTaking s room t e → RefusesArray s t c o e
+  untaken_whole c e k = untaken s o t c e (subst (λ n. RefusesTaking s n t e) same k)

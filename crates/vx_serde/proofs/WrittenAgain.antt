@@ -5,7 +5,7 @@ use Rattle.vx_trees.specs.Everywhere.{EverywhereBelow}
 use Rattle.vx_types.specs.Typ.{Typ}
 use Rattle.vx_buffer.specs.Buffer.{Buffer}
 use Rattle.vx_array_tree.specs.Normal.{IsNormal}
-use Rattle.vx_array_tree.specs.Table.{own_id, buffers_of}
+use Rattle.vx_array_tree.specs.Table.{buffers_of}
 use Rattle.vx_array_tree.specs.Tree.{Tree, Trees}
 use Rattle.vx_wire_tree.specs.Codec.{Codec, IsLawful}
 use Rattle.vx_wire_tree.specs.Context.{Context, grown}
@@ -13,7 +13,7 @@ use Rattle.vx_wire_tree.specs.ReadBack.{HasStorableStats}
 use Rattle.vx_wire_tree.specs.Session.{SessionMeaning, IsShipped, IsPaired}
 use Rattle.vx_wire_tree.specs.Tells.{Tells}
 use Rattle.vx_wire_tree.specs.Wire.{IsWhole, IsWholeNode, buffers_in, ids_in}
-use Rattle.vx_wire_tree.specs.Written.{wire, wires, canon}
+use Rattle.vx_wire_tree.specs.Written.{written_id, wire, wires, canon}
 use Rattle.vx_wire_tree.proofs.Laws.{told_again, canon_normal, matched_types, matched_written, matched_unread, returned}
 use Rattle.vx_encodings.specs.Messages.{codec}
 use Rattle.vx_serde.specs.declared.options.SerializeOptions.{SerializeOptions}
@@ -32,7 +32,7 @@ use Rattle.vx_serde.proofs.GrownIds.{grown_by-ids}
 -- nothing is missing in an array's wire tree
 mutual
   pub wire-whole : (c : Codec) (s : SessionMeaning) (t : Tree) → IsWhole (wire c s t)
-  wire-whole c s (node h ts) = (record { id = own_id h.body; id_is = refl; buffers = buffers_of h.body; buffers_are = refl }, wires-whole c s ts)
+  wire-whole c s (node h ts) = (record { id = written_id s h; id_is = refl; buffers = buffers_of h.body; buffers_are = refl }, wires-whole c s ts)
 
   wires-whole : (c : Codec) (s : SessionMeaning) (ts : Trees) → EverywhereBelow IsWholeNode (wires c s ts)
   wires-whole c s end = tt
@@ -79,14 +79,17 @@ returned_again s law t old new options x grew fit =
     let same = grown-ids s u old new grew in
     let placed = grown_by-placed (ids_in w) old new grew in
     let W : List (List ℕ) → Type 0 = λ z. IsWritable z options w in
-    let c = carried new.ids options w (wire-whole codec s u) (wire-tabled s u) placed.placed (subst W (sym same) fit.writable) in
+    let writable = subst W (sym same) fit.writable in
+    let c = carried new.ids options w (wire-whole codec s u) (wire-tabled s u) placed.placed writable in
+    let shows = message_shows new.ids options w (wire-whole codec s u) (wire-tabled s u) placed.placed writable in
+    let counted = countable_in new.ids s u options (message_bytes new.ids options w) (descriptors_from options options.offset (buffers_in w)) shows writable.light in
     let spelled : Spells (blob_bytes new.ids options w) new.ids (label t).dtype (label t).len s t = record {
       wire = w;
       carried = c.0;
       clean = c.1;
       whole = wire-whole codec s u;
       told = record {
-        matched = returned codec s law x.paired (most_levels options) t x.own x.returns;
+        matched = returned codec s law x.paired (most_levels options) t x.own x.returns counted;
         dtype = refl;
         len = refl;
         sound = x.own.sound;

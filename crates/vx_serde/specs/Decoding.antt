@@ -1,18 +1,20 @@
 -- How a node of a wire tree is read, and what its children tell.
-use Rattle.std.specs.Prelude.{ℕ, ◌≡◌, List, Option, Some, None, length}
+use Rattle.std.specs.Prelude.{ℕ, ◌≡◌, ◌⊎◌, List, Option, Some, None, IsTrue, IsFalse, length}
 use Rattle.vx_buffer.specs.Buffer.{Buffer}
 use Rattle.vx_trees.specs.Everywhere.{EverywhereBelow}
 use Rattle.vx_trees.specs.Rose.{label, below, count}
 use Rattle.vx_types.specs.Known.{ExtMeaning}
 use Rattle.vx_types.specs.Seen.{typ}
 use Rattle.vx_types.specs.Typ.{Typ}
+use Rattle.vx_array_tree.specs.Encoding as E
 use Rattle.vx_array_tree.specs.Normal.{IsNormalNode}
 use Rattle.vx_array_tree.specs.Place.{Place}
 use Rattle.vx_array_tree.specs.Sound.{IsSoundNode}
 use Rattle.vx_array_tree.specs.Tree.{Tree, Trees, places}
 use Rattle.vx_wire_tree.specs.Matches.{AllMatch}
 use Rattle.vx_wire_tree.specs.Plugin.{NodeHead}
-use Rattle.vx_wire_tree.specs.Session.{SessionMeaning, Reader, shipped, plugin, IsShipped}
+use Rattle.vx_wire_tree.specs.Revised.{revised_holds}
+use Rattle.vx_wire_tree.specs.Session.{SessionMeaning, Reader, shipped, revised, plugin, IsShipped}
 use Rattle.vx_wire_tree.specs.Steps.{HasNoMetadata, PlansChildren, HasNoPlan, HasParts, HasWrongShape, HasWrongControl, HasWrongContent}
 use Rattle.vx_wire_tree.specs.Wire.{Wire, Wires}
 use Rattle.vx_encodings.specs.Messages.{codec}
@@ -41,9 +43,21 @@ pub record IsNodeOf (s : SessionMeaning) (w : Wire) (d : Typ) (n : ℕ) (r : Opt
 
 -- ---- the steps of one node, by what reads it
 
+-- The places of the children of a node of primitives under two identifiers are told, and the identifier holds the length.
+pub record PlansRevised (x : ExtMeaning) (h : ArrayHead) (ps : List Place) : Type 0 where
+  pub plan : PlansChildren codec x E.primitive (typ h.dtype) h.len h.metadata h.nchildren ps
+  pub holds : IsTrue (revised_holds h.serialized_id h.len)
+
+-- They would be told, but that the identifier does not hold the length.
+pub record IsPastHead (x : ExtMeaning) (h : ArrayHead) : Type 0 where
+  pub places : List Place
+  pub plan : PlansChildren codec x E.primitive (typ h.dtype) h.len h.metadata h.nchildren places
+  pub past : IsFalse (revised_holds h.serialized_id h.len)
+
 -- The children of a node of this head are to stand at these places.
 abbrev pub PlansBy : ExtMeaning → Option Reader → ArrayHead → List Place → Type 0
 PlansBy x (Some (shipped e)) h ps = PlansChildren codec x e (typ h.dtype) h.len h.metadata h.nchildren ps
+PlansBy x (Some revised) h ps = PlansRevised x h ps
 PlansBy x (Some (plugin p)) h ps = p.plan (head_in h) x ≡ Some ps
 PlansBy x None h ps = ⊥
 
@@ -52,6 +66,8 @@ abbrev pub RefusesPlan : WireError → ExtMeaning → Option Reader → ArrayHea
 RefusesPlan OutOfMemory x r h = Unit {0}
 RefusesPlan BadMetadata x (Some (shipped e)) h = HasNoMetadata codec x e (typ h.dtype) h.metadata
 RefusesPlan BadShape x (Some (shipped e)) h = HasNoPlan codec x e (typ h.dtype) h.len h.metadata h.nchildren
+RefusesPlan BadMetadata x (Some revised) h = HasNoMetadata codec x E.primitive (typ h.dtype) h.metadata
+RefusesPlan BadShape x (Some revised) h = HasNoPlan codec x E.primitive (typ h.dtype) h.len h.metadata h.nchildren ⊎ IsPastHead x h
 RefusesPlan PluginRefused x (Some (plugin p)) h = p.plan (head_in h) x ≡ None
 RefusesPlan _ x r h = ⊥
 
@@ -62,6 +78,7 @@ head_over h bs ts = record { id = h.serialized_id; dtype = typ h.dtype; len = h.
 -- An array is built of a node's head, buffers and children.
 abbrev pub BuildsBy : ExtMeaning → Option Reader → ArrayHead → List Buffer → Trees → Tree → Type 0
 BuildsBy x (Some (shipped e)) h bs ts t = HasParts codec x e (typ h.dtype) h.len h.metadata bs ts t
+BuildsBy x (Some revised) h bs ts t = HasParts codec x E.primitive (typ h.dtype) h.len h.metadata bs ts t
 BuildsBy x (Some (plugin p)) h bs ts t = p.build (head_over h bs ts) bs ts x ≡ Some t
 BuildsBy x None h bs ts t = ⊥
 
@@ -71,6 +88,9 @@ RefusesBuild OutOfMemory x r h bs ts = Unit {0}
 RefusesBuild BadShape x (Some (shipped e)) h bs ts = HasWrongShape codec x e (typ h.dtype) h.len h.metadata bs ts
 RefusesBuild BadContent x (Some (shipped e)) h bs ts = HasWrongContent codec x e (typ h.dtype) h.len h.metadata bs ts
 RefusesBuild ForeignControl x (Some (shipped e)) h bs ts = HasWrongControl codec x e (typ h.dtype) h.len h.metadata ts
+RefusesBuild BadShape x (Some revised) h bs ts = HasWrongShape codec x E.primitive (typ h.dtype) h.len h.metadata bs ts
+RefusesBuild BadContent x (Some revised) h bs ts = HasWrongContent codec x E.primitive (typ h.dtype) h.len h.metadata bs ts
+RefusesBuild ForeignControl x (Some revised) h bs ts = HasWrongControl codec x E.primitive (typ h.dtype) h.len h.metadata ts
 RefusesBuild PluginRefused x (Some (plugin p)) h bs ts = p.build (head_over h bs ts) bs ts x ≡ None
 RefusesBuild _ x r h bs ts = ⊥
 

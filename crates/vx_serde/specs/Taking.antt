@@ -1,13 +1,14 @@
 -- An array as it is written, as a tree; and why its nodes are not written.
-use Rattle.std.specs.Prelude.{ℕ, ◌≡◌, ◌<◌, ◌⊎◌, List, Option, Some, None, map}
-use Rattle.vx_trees.specs.Rose.{end, label, below, roses_of}
+use Rattle.std.specs.Prelude.{ℕ, ◌≡◌, ◌≤◌, ◌<◌, ◌⊎◌, List, Option, Some, None, map, slice_get}
+use Rattle.vx_trees.specs.Rose.{end, label, below, roses_of, roses_list}
 use Rattle.vx_trees.specs.Walks.{levels, levels_below}
 use Rattle.vx_array_tree.specs.Tree.{Tree, Trees, Head, places}
 use Rattle.vx_trees.specs.Everywhere.{EverywhereBelow}
 use Rattle.vx_wire_tree.specs.Limits.{HasMessage, HasMessages}
 use Rattle.vx_wire_tree.specs.Plugin.{Parts}
 use Rattle.vx_wire_tree.specs.Session.{SessionMeaning}
-use Rattle.vx_wire_tree.specs.Taken.{Step, unwritten, taken, given_head, each, Any, HasUntaken, unregistered, unserializable, undeclared, unwilling}
+use Rattle.vx_wire_tree.specs.Taken.{Step, written, unwritten, step, taken, IsTaken, given_head, each, Each, Any, HasUntaken, unregistered, unserializable, undeclared, unwilling}
+use Rattle.vx_registry.specs.Plugin.{parts_in}
 use Rattle.vx_registry.specs.Serialization.{HasLargeMetadata}
 use Rattle.vx_registry.specs.declared.serialization.ArraySerialization.{ArraySerialization}
 use Rattle.vx_serde.specs.declared.error.WireError.{WireError}
@@ -16,6 +17,7 @@ use Rattle.vx_serde.specs.declared.options.SerializeOptions.{SerializeOptions}
 use Rattle.vx_serde.specs.declared.taken.GivenParts.{GivenParts}
 use Rattle.vx_serde.specs.declared.taken.Source.{Source}
 use Rattle.vx_serde.specs.declared.taken.Source.TheVariants.{Lent, Held}
+use Rattle.vx_serde.specs.declared.taken.TakenRoot.{TakenRoot}
 use Rattle.vx_serde.specs.Limits.{most_levels}
 
 -- An array as it is written: node by node as it stands, or as its plugin gives it, down to one level below the last that may
@@ -27,10 +29,6 @@ as_written s options t = taken s (most_levels options) t
 abbrev pub source_tree : Source → Tree
 source_tree (Lent array) = array.now
 source_tree (Held array) = array
-
--- The arrays of several.
-abbrev pub source_trees : List Source → Trees
-source_trees sources = roses_of (map source_tree sources)
 
 -- What a plugin gives for a node itself.
 abbrev pub own_parts : GivenParts → Parts
@@ -46,21 +44,37 @@ abbrev pub StandsAs : Option GivenParts → Trees → Trees → Type 0
 StandsAs None us ts = places us ≡ places ts
 StandsAs (Some g) us ts = Unit {0}
 
--- A node that is written as it stands is written over the array's own children.
-abbrev pub KeepsBelow : Option GivenParts → Trees → Trees → Type 0
-KeepsBelow None us ts = us ≡ ts
-KeepsBelow (Some g) us ts = Unit {0}
+-- A root that is written: its node, as it stands or as a plugin gives it,
+abbrev pub root_head : Head → Option ArraySerialization → Head
+root_head h None = h
+root_head h (Some p) = given_head h (parts_in p)
 
--- The parts that a plugin gives for a node itself are those of a serialization.
-abbrev pub IsGivenAs : ArraySerialization → Option GivenParts → Type 0
-IsGivenAs p None = ⊥
-IsGivenAs p (Some g) = (g.id ≡ p.serialized_id) × (g.metadata ≡ p.metadata) × (g.buffers ≡ p.buffers)
+-- and the arrays below it, its own or those that the plugin gives.
+abbrev pub root_below : Trees → Option ArraySerialization → Trees
+root_below ts None = ts
+root_below ts (Some p) = p.children
 
--- Why a root that is written as it stands is not: its metadata does not fit its message.
-abbrev pub RefusesOwn : Tree → WireError → Type 0
-RefusesOwn t OutOfMemory = Unit {0}
-RefusesOwn t WireLimit = HasMessage (label t) (below t) → ⊥
-RefusesOwn t _ = ⊥
+abbrev pub written_head : TakenRoot → Head
+written_head r = root_head (label (source_tree r.source)) r.given
+
+abbrev pub written_below : TakenRoot → Trees
+written_below r = root_below (below (source_tree r.source)) r.given
+
+-- Nodes are those that are taken of arrays where there is room for n levels, and each of these is taken.
+pub record AreTaken (s : SessionMeaning) (n : ℕ) (arrays nodes : List Tree) : Type 0 where
+  pub made : nodes ≡ map (λ t. taken s n t) arrays
+  pub written_each : Each (λ t. IsTaken s n t) (roses_of arrays)
+
+-- Nodes have so many levels, and their metadata fits its messages.
+pub record AreWithin (n : ℕ) (nodes : List Tree) : Type 0 where
+  pub levels_are : levels_below (roses_of nodes) ≤ n
+  pub messages : EverywhereBelow HasMessage (roses_of nodes)
+
+-- The root of one of several arrays is written as this node, over these arrays.
+pub record IsOpened (s : SessionMeaning) (arrays : Trees) (i : ℕ) (h : Head) (ts : Trees) : Type 0 where
+  pub array : Tree
+  pub stands : slice_get (roses_list arrays) i ≡ Some array
+  pub step_is : step s array ≡ written h ts
 
 -- Why a root is not written: by the refusal.
 abbrev pub RefusesStep : Step → WireError → Type 0

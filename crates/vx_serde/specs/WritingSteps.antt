@@ -1,5 +1,5 @@
 -- What the steps of writing an array give, and why they refuse.
-use Rattle.std.specs.Prelude.{ℕ, ◌≡◌, ◌<◌, ◌^◌, List, [], ◌∷◌, None, length}
+use Rattle.std.specs.Prelude.{ℕ, Bool, ◌≡◌, ◌<◌, ◌^◌, List, [], ◌∷◌, None, length}
 use Rattle.vx_flat.specs.Layout.{written_layout}
 use Rattle.vx_flat.specs.declared.limits.Limits.{Limits}
 use Rattle.vx_flat.specs.Limits.{IsLight}
@@ -61,10 +61,10 @@ builder_refusal _ = tables.MessageTooLong
 -- ---- nodes
 
 -- A root's identifier is not taken for want of memory, or because the context does not take it.
-abbrev pub RefusesRoot : Tree → Context → WireError → Type 0
-RefusesRoot t c OutOfMemory = Unit {0}
-RefusesRoot t c NotPermitted = grown_by (array_id t ∷ []) c ≡ None
-RefusesRoot t c _ = ⊥
+abbrev pub RefusesRoot : Bool → Tree → Context → WireError → Type 0
+RefusesRoot two t c OutOfMemory = Unit {0}
+RefusesRoot two t c NotPermitted = grown_by (array_id two t ∷ []) c ≡ None
+RefusesRoot two t c _ = ⊥
 
 -- The same of a whole tree.
 abbrev pub RefusesGathering : SessionMeaning → Tree → Context → WireError → Type 0

@@ -4,11 +4,10 @@ ghost use Rattle.std.specs.Prelude.{◌≡◌, ◌≤◌, ◌<◌, ◌^◌, Some
 ghost use Rattle.vx_flat.specs.Building.{Takes, Written, Keeps};
 ghost use Rattle.vx_trees.specs.Walks.{levels};
 ghost use Rattle.vx_wire_tree.specs.Context.{grown};
-ghost use Rattle.vx_wire_tree.specs.Limits.{HasMessages};
 ghost use Rattle.vx_wire_tree.specs.Session.{SessionMeaning};
 ghost use Rattle.vx_wire_tree.specs.Taken.{IsTaken};
 ghost use Rattle.vx_wire_tree.specs.Wire.{ids_in};
-ghost use Rattle.vx_wire_tree.specs.Written.{wire};
+ghost use Rattle.vx_wire_tree.specs.Written.{writes_two, wire};
 ghost use Rattle.vx_encodings.specs.Messages.{codec};
 ghost use Rattle.vx_registry.specs.Meaning.{session_meaning};
 ghost use Rattle.vx_serde.specs.ArrayNode.{plain_options, array_value, array_pieces, RefusesBlocks};
@@ -32,8 +31,7 @@ use vx_registry::{ArrayContext, VortexSession};
 pub struct ArrayNodeFlatBuffer<'a> {
     ctx: &'a mut ArrayContext,
     array: TakenNode<'a>,
-    // the levels are as many as may be written, and each node's metadata fits its message
-    ghost writable: { (levels array ≤ 62) × HasMessages array },
+    two: bool,
 }
 
 impl<'a> ArrayNodeFlatBuffer<'a> {
@@ -53,10 +51,15 @@ impl<'a> ArrayNodeFlatBuffer<'a> {
         ensures same_reference { IfOk result (λ n. n.ctx.ghost_name ≡ ctx.entry.ghost_name) }
         ensures context { IfOk result (λ n. n.ctx.now ≡ ctx.old) }
         ensures array { let s = session_meaning (λ b. means (b.vtable, b.value)) (λ b. accepted (b.vtable, b.value)) session.now in IfOk result (λ n. n.array ≡ as_written s plain_options array.now) }
+        ensures two { let s = session_meaning (λ b. means (b.vtable, b.value)) (λ b. accepted (b.vtable, b.value)) session.now in IfOk result (λ n. writes_two s ≡ n.two) }
         ensures levels { IfOk result (λ n. levels n.array ≤ 62) }
         ensures taken { let s = session_meaning (λ b. means (b.vtable, b.value)) (λ b. accepted (b.vtable, b.value)) session.now in OnOk result (IsTaken s 62 array.now) }
         ensures cause { let s = session_meaning (λ b. means (b.vtable, b.value)) (λ b. accepted (b.vtable, b.value)) session.now in IfErr result (RefusesArray s array.now ctx.old plain_options) }
     {
+        let two = match session.arrays.writes_two(alloc) {
+            Ok(two) => two,
+            Err(_) => return Err(WireError::OutOfMemory),
+        };
         let unknown = session.allows_unknown();
         let array = take(
             alloc,
@@ -65,7 +68,7 @@ impl<'a> ArrayNodeFlatBuffer<'a> {
             unknown,
             MAX_LEVELS,
         )?;
-        Ok(ArrayNodeFlatBuffer { ctx, array })
+        Ok(ArrayNodeFlatBuffer { ctx, array, two })
     }
 
     /// Takes the array's identifiers into the context in preorder, and writes the blocks of its nodes after those that
@@ -84,23 +87,44 @@ impl<'a> ArrayNodeFlatBuffer<'a> {
         requires { Takes LinkKind.Table builder.old }
         ensures same_reference { self.new.ctx.ghost_name ≡ self.old.ctx.ghost_name }
         ensures array { self.new.array ≡ self.old.array }
-        ensures grown { (s : SessionMeaning) → OnOk result (grown codec s self.old.ctx.now self.old.array ≡ Some self.new.ctx.now) }
-        ensures written { (s : SessionMeaning) → OnOk result (Written array_schema node_fields (array_value s self.old.array self.old.ctx.now) builder.old builder.new) }
+        ensures two { self.new.two ≡ self.old.two }
+        ensures grown { (s : SessionMeaning) → writes_two s ≡ self.old.two → OnOk result (grown codec s self.old.ctx.now self.old.array ≡ Some self.new.ctx.now) }
+        ensures written { (s : SessionMeaning) → writes_two s ≡ self.old.two → OnOk result (Written array_schema node_fields (array_value s self.old.array self.old.ctx.now) builder.old builder.new) }
         ensures fits { IsOk result → length builder.new.bytes < 2 ^ 31 }
-        ensures left { (s : SessionMeaning) → KeepsContext (ids_in (wire codec s self.old.array)) self.old.ctx.now self.new.ctx.now }
-        ensures kept { (s : SessionMeaning) → OnErr result (Keeps builder.old (array_pieces s self.old.array self.old.ctx.now) builder.new) }
-        ensures cause { (s : SessionMeaning) → IfErr result (RefusesBlocks s self.old.array self.old.ctx.now builder.old) }
+        ensures left { (s : SessionMeaning) → writes_two s ≡ self.old.two → KeepsContext (ids_in (wire codec s self.old.array)) self.old.ctx.now self.new.ctx.now }
+        ensures kept { (s : SessionMeaning) → writes_two s ≡ self.old.two → OnErr result (Keeps builder.old (array_pieces s self.old.array self.old.ctx.now) builder.new) }
+        ensures cause { (s : SessionMeaning) → writes_two s ≡ self.old.two → IfErr result (RefusesBlocks s self.old.array self.old.ctx.now builder.old) }
     {
-        let mut found = Gathered::new(alloc);
-        gather(alloc, &self.array, self.ctx, &mut found)?;
-        if found.buffers.len() > MAX_BUFFERS || found.encodings.len() > MAX_NODES {
-            return Err(WireError::WireLimit);
-        }
-        let mut passed = Passed {
-            nodes: 0,
-            buffers: 0,
-        };
-        write_node(alloc, &self.array, &found.encodings, &mut passed, builder)?;
-        Ok(())
+        write_into(alloc, &self.array, self.two, self.ctx, builder)
     }
+}
+
+// Takes the identifiers of an array that is written into the context in preorder, and writes the blocks of its nodes after
+// those that the builder has, the root's first.
+fn write_into(
+    alloc: Global,
+    array: &TakenNode<'_>,
+    two: bool,
+    ctx: &mut ArrayContext,
+    builder: &mut Builder,
+) -> Result<(), WireError>
+    requires { Takes LinkKind.Table builder.old }
+    ensures grown { (s : SessionMeaning) → writes_two s ≡ two → OnOk result (grown codec s ctx.old array.now ≡ Some ctx.new) }
+    ensures written { (s : SessionMeaning) → writes_two s ≡ two → OnOk result (Written array_schema node_fields (array_value s array.now ctx.old) builder.old builder.new) }
+    ensures fits { IsOk result → length builder.new.bytes < 2 ^ 31 }
+    ensures left { (s : SessionMeaning) → writes_two s ≡ two → KeepsContext (ids_in (wire codec s array.now)) ctx.old ctx.new }
+    ensures kept { (s : SessionMeaning) → writes_two s ≡ two → OnErr result (Keeps builder.old (array_pieces s array.now ctx.old) builder.new) }
+    ensures cause { (s : SessionMeaning) → writes_two s ≡ two → IfErr result (RefusesBlocks s array.now ctx.old builder.old) }
+{
+    let mut found = Gathered::new(alloc);
+    gather(alloc, array, two, ctx, &mut found)?;
+    if found.buffers.len() > MAX_BUFFERS || found.encodings.len() > MAX_NODES {
+        return Err(WireError::WireLimit);
+    }
+    let mut passed = Passed {
+        nodes: 0,
+        buffers: 0,
+    };
+    write_node(alloc, array, &found.encodings, &mut passed, builder)?;
+    Ok(())
 }

@@ -6,7 +6,7 @@ ghost use Rattle.vx_array_tree.specs.Table.{buffers_of};
 ghost use Rattle.vx_wire_tree.specs.Context.{grown_by, index_of};
 ghost use Rattle.vx_wire_tree.specs.Session.{SessionMeaning};
 ghost use Rattle.vx_wire_tree.specs.Wire.{ids_in, buffers_in};
-ghost use Rattle.vx_wire_tree.specs.Written.{wire};
+ghost use Rattle.vx_wire_tree.specs.Written.{writes_two, wire};
 ghost use Rattle.vx_encodings.specs.Messages.{codec};
 ghost use Rattle.vx_registry.specs.Serialization.{array_id};
 ghost use Rattle.vx_serde.specs.Blocks.{encodings_in};
@@ -19,7 +19,6 @@ use crate::taken::TakenNode;
 use std::alloc::Global;
 use vx_buffer::BufferError;
 use vx_registry::ArrayContext;
-use vx_types::Id;
 
 /// The buffers of nodes, lent, and the numbers of their encodings in a context, both in preorder.
 #[derive(Drop)]
@@ -45,14 +44,15 @@ impl<'a> Gathered<'a> {
 fn encoding_number(
     alloc: Global,
     array: &TakenNode<'_>,
+    two: bool,
     ctx: &mut ArrayContext,
 ) -> Result<u16, WireError>
-    ensures grown { OnOk result (grown_by (array_id array.now ∷ []) ctx.old ≡ Some ctx.new) }
-    ensures number { IfOk result (λ n. (more : List (List ℕ)) → index_of (array_id array.now) (ctx.new.ids ++ more) ≡ n) }
-    ensures kept { KeepsContext (array_id array.now ∷ []) ctx.old ctx.new }
-    ensures cause { IfErr result (RefusesRoot array.now ctx.old) }
+    ensures grown { OnOk result (grown_by (array_id two array.now ∷ []) ctx.old ≡ Some ctx.new) }
+    ensures number { IfOk result (λ n. (more : List (List ℕ)) → index_of (array_id two array.now) (ctx.new.ids ++ more) ≡ n) }
+    ensures kept { KeepsContext (array_id two array.now ∷ []) ctx.old ctx.new }
+    ensures cause { IfErr result (RefusesRoot two array.now ctx.old) }
 {
-    let Ok(id) = Id::new(alloc, array.encoding_id()) else {
+    let Ok(id) = array.written_id(alloc, two) else {
         return Err(WireError::OutOfMemory);
     };
     match ctx.intern(&id) {
@@ -76,39 +76,41 @@ fn push_own<'a>(array: &'a TakenNode<'_>, found: &mut LentBuffers<'a>) -> Result
 fn push_root<'a>(
     alloc: Global,
     array: &'a TakenNode<'_>,
+    two: bool,
     ctx: &mut ArrayContext,
     found: &mut Gathered<'a>,
 ) -> Result<(), WireError>
     ensures buffers { OnOk result (found.new.buffers ≡ found.old.buffers ++ buffers_of (label array.now).body) }
-    ensures encodings { (more : List (List ℕ)) → OnOk result (found.new.encodings.items ≡ found.old.encodings.items ++ index_of (array_id array.now) (ctx.new.ids ++ more) ∷ []) }
-    ensures grown { OnOk result (grown_by (array_id array.now ∷ []) ctx.old ≡ Some ctx.new) }
-    ensures kept { KeepsContext (array_id array.now ∷ []) ctx.old ctx.new }
-    ensures cause { IfErr result (RefusesRoot array.now ctx.old) }
+    ensures encodings { (more : List (List ℕ)) → OnOk result (found.new.encodings.items ≡ found.old.encodings.items ++ index_of (array_id two array.now) (ctx.new.ids ++ more) ∷ []) }
+    ensures grown { OnOk result (grown_by (array_id two array.now ∷ []) ctx.old ≡ Some ctx.new) }
+    ensures kept { KeepsContext (array_id two array.now ∷ []) ctx.old ctx.new }
+    ensures cause { IfErr result (RefusesRoot two array.now ctx.old) }
 {
-    let encoding = encoding_number(alloc, array, ctx)?;
+    let encoding = encoding_number(alloc, array, two, ctx)?;
     found.encodings.push(encoding)?;
     push_own(array, &mut found.buffers)?;
     Ok(())
 }
 
 /// What an array's nodes bring along in preorder, behind what was found. Their identifiers are taken into the context
-/// in preorder. `NotPermitted` where the context does not take an identifier.
+/// in preorder; primitives have two (`two`) or one. `NotPermitted` where the context does not take an identifier.
 #[tactic(auto, using(vx_trees::proofs::Roses::roses))]
 pub(crate) fn gather<'a>(
     alloc: Global,
     array: &'a TakenNode<'_>,
+    two: bool,
     ctx: &mut ArrayContext,
     found: &mut Gathered<'a>,
 ) -> Result<(), WireError>
     ensures buffers { (s : SessionMeaning) → OnOk result (found.new.buffers ≡ found.old.buffers ++ buffers_in (wire codec s array.now)) }
-    ensures encodings { (s : SessionMeaning) (more : List (List ℕ)) → OnOk result (found.new.encodings.items ≡ found.old.encodings.items ++ encodings_in (ctx.new.ids ++ more) (wire codec s array.now)) }
-    ensures grown { (s : SessionMeaning) → OnOk result (grown_by (ids_in (wire codec s array.now)) ctx.old ≡ Some ctx.new) }
-    ensures kept { (s : SessionMeaning) → KeepsContext (ids_in (wire codec s array.now)) ctx.old ctx.new }
-    ensures cause { (s : SessionMeaning) → IfErr result (RefusesGathering s array.now ctx.old) }
+    ensures encodings { (s : SessionMeaning) (more : List (List ℕ)) → writes_two s ≡ two → OnOk result (found.new.encodings.items ≡ found.old.encodings.items ++ encodings_in (ctx.new.ids ++ more) (wire codec s array.now)) }
+    ensures grown { (s : SessionMeaning) → writes_two s ≡ two → OnOk result (grown_by (ids_in (wire codec s array.now)) ctx.old ≡ Some ctx.new) }
+    ensures kept { (s : SessionMeaning) → writes_two s ≡ two → KeepsContext (ids_in (wire codec s array.now)) ctx.old ctx.new }
+    ensures cause { (s : SessionMeaning) → writes_two s ≡ two → IfErr result (RefusesGathering s array.now ctx.old) }
 {
-    push_root(alloc, array, ctx, found)?;
+    push_root(alloc, array, two, ctx, found)?;
     for child in array.children() {
-        gather(alloc, child, ctx, found)?;
+        gather(alloc, child, two, ctx, found)?;
     }
     Ok(())
 }

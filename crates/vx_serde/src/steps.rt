@@ -1,10 +1,11 @@
 //! The steps of one node, by what reads it: an encoding or a plugin.
 
-ghost use Rattle.std.specs.Prelude.{◌≡◌, IfOk, IfErr, IsSome};
+ghost use Rattle.std.specs.Prelude.{◌≡◌, IfOk, IfErr, IsSome, IsTrue, IsFalse};
 ghost use Rattle.vx_type_wire.specs.Lent.{lent_meaning};
 ghost use Rattle.vx_type_wire.specs.Session.{ext_meaning};
 ghost use Rattle.vx_array_tree.specs.Sound.{IsSound};
 ghost use Rattle.vx_array_tree.specs.Tree.{places};
+ghost use Rattle.vx_wire_tree.specs.Revised.{revised_holds as holds};
 ghost use Rattle.vx_registry.specs.Meaning.{plugins_meaning, session_meaning};
 ghost use Rattle.vx_registry.specs.Session.{entry_in};
 ghost use Rattle.vx_serde.specs.Decoding.{PlansBy, RefusesPlan, BuildsBy, RefusesBuild, refusal_of};
@@ -13,7 +14,7 @@ use crate::error::WireError;
 use std::alloc::Global;
 use vx_arrays::{Array, Arrays};
 use vx_buffer::BufferHandles;
-use vx_encodings::{ArrayHead, ChildPlans, build, plan};
+use vx_encodings::{ArrayHead, ChildPlans, Encoding, build, plan, revised_holds};
 use vx_registry::{
     ArrayDeserialization, ArrayPlugin, Entry, PluginError, VortexSession, build_by, plan_by,
 };
@@ -37,6 +38,10 @@ pub(crate) fn plan_entry(
     match entry {
         Entry::Shipped(encoding) => match plan(alloc, encoding, head, &session.ext) {
             Ok(children) => Ok(children),
+            Err(e) => Err(WireError::from(e)),
+        },
+        Entry::Revised => match plan(alloc, Encoding::Primitive, head, &session.ext) {
+            Ok(children) => held(head, children),
             Err(e) => Err(WireError::from(e)),
         },
         Entry::Boxed(number) => match session.arrays.plugin(number) {
@@ -81,6 +86,17 @@ pub(crate) fn build_entry(
             Ok(array) => Ok(array),
             Err(e) => Err(WireError::from(e)),
         },
+        Entry::Revised => match build(
+            alloc,
+            Encoding::Primitive,
+            head,
+            buffers,
+            children,
+            &session.ext,
+        ) {
+            Ok(array) => Ok(array),
+            Err(e) => Err(WireError::from(e)),
+        },
         Entry::Boxed(number) => match session.arrays.plugin(number) {
             Some(plugin) => {
                 let parts = ArrayDeserialization::new(
@@ -99,6 +115,17 @@ pub(crate) fn build_entry(
             None => unreachable!(),
         },
     }
+}
+
+// What is planned of a node of primitives under two identifiers, where its identifier holds its length.
+fn held(head: &ArrayHead, children: ChildPlans) -> Result<ChildPlans, WireError>
+    ensures ok { IfOk result (λ ps. (ps ≡ children) × IsTrue (holds head.now.serialized_id head.now.len)) }
+    ensures err { IfErr result (λ e. (e ≡ WireError.BadShape) × IsFalse (holds head.now.serialized_id head.now.len)) }
+{
+    if !revised_holds(&head.serialized_id, head.len) {
+        return Err(WireError::BadShape);
+    }
+    Ok(children)
 }
 
 // A plugin's refusal as one of a blob.

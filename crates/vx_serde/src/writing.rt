@@ -16,7 +16,7 @@ ghost use Rattle.vx_wire_tree.specs.Limits.{AreDescribable, HasMessages};
 ghost use Rattle.vx_wire_tree.specs.ReadBack.{HasStorableStats};
 ghost use Rattle.vx_wire_tree.specs.Session.{SessionMeaning, IsShipped};
 ghost use Rattle.vx_wire_tree.specs.Wire.{ids_in, buffers_in};
-ghost use Rattle.vx_wire_tree.specs.Written.{wire};
+ghost use Rattle.vx_wire_tree.specs.Written.{writes_two, wire};
 ghost use Rattle.vx_encodings.specs.Messages.{codec};
 ghost use Rattle.vx_registry.specs.Meaning.{arrays_meaning};
 ghost use Rattle.vx_buffer.specs.Joined.{joined};
@@ -24,6 +24,7 @@ ghost use Rattle.vx_serde.specs.ArraySchema.{array_schema};
 ghost use Rattle.vx_serde.specs.Blocks.{AreWritten, encodings_in, message_by, layout_by};
 ghost use Rattle.vx_serde.specs.Causes.{RefusesArray, RefusesWriting};
 ghost use Rattle.vx_serde.specs.KeptContext.{KeepsContext};
+ghost use Rattle.vx_serde.specs.Limits.{most_levels as levels_by};
 ghost use Rattle.vx_serde.specs.Placing.{data_end};
 ghost use Rattle.vx_serde.specs.Serializing.{IsWrittenBlob, IsSerialized};
 ghost use Rattle.vx_serde.specs.Taking.{as_written};
@@ -155,23 +156,24 @@ fn write_message(
 }
 
 /// What an array's nodes bring along in preorder, and where its buffers go. Its identifiers are taken into the context
-/// in preorder.
+/// in preorder; primitives have two (`two`) or one.
 fn place<'a>(
     alloc: Global,
     array: &'a TakenNode<'_>,
+    two: bool,
     ctx: &mut ArrayContext,
     options: &SerializeOptions,
 ) -> Result<(Gathered<'a>, LaidOut), WireError>
-    requires levels { levels array.now ≤ most_levels options.now }
+    requires levels { levels array.now ≤ levels_by options.now }
     ensures buffers { (s : SessionMeaning) → IfOk result (λ p. p.0.buffers ≡ buffers_in (wire codec s array.now)) }
-    ensures encodings { (s : SessionMeaning) → IfOk result (λ p. p.0.encodings.items ≡ encodings_in ctx.new.ids (wire codec s array.now)) }
+    ensures encodings { (s : SessionMeaning) → writes_two s ≡ two → IfOk result (λ p. p.0.encodings.items ≡ encodings_in ctx.new.ids (wire codec s array.now)) }
     ensures placed { (s : SessionMeaning) → IfOk result (λ p. IsLaidOut options.now (wire codec s array.now) p.1.descriptors.items p.1.end) }
-    ensures grown { (s : SessionMeaning) → OnOk result (grown_by (ids_in (wire codec s array.now)) ctx.old ≡ Some ctx.new) }
-    ensures kept { (s : SessionMeaning) → KeepsContext (ids_in (wire codec s array.now)) ctx.old ctx.new }
-    ensures refused { (s : SessionMeaning) → IfErr result (RefusesLayout s options.now array.now ctx.old) }
+    ensures grown { (s : SessionMeaning) → writes_two s ≡ two → OnOk result (grown_by (ids_in (wire codec s array.now)) ctx.old ≡ Some ctx.new) }
+    ensures kept { (s : SessionMeaning) → writes_two s ≡ two → KeepsContext (ids_in (wire codec s array.now)) ctx.old ctx.new }
+    ensures refused { (s : SessionMeaning) → writes_two s ≡ two → IfErr result (RefusesLayout s options.now array.now ctx.old) }
 {
     let mut found = Gathered::new(alloc);
-    gather(alloc, array, ctx, &mut found)?;
+    gather(alloc, array, two, ctx, &mut found)?;
     if found.buffers.len() > MAX_BUFFERS || !are_describable(&found.buffers) {
         return Err(WireError::WireLimit);
     }
@@ -196,16 +198,17 @@ fn has_end(end: usize, padding: usize, message: usize) -> bool
 fn write_taken(
     alloc: Global,
     array: &TakenNode<'_>,
+    two: bool,
     ctx: &mut ArrayContext,
     options: &SerializeOptions,
 ) -> Result<ByteBuffers, WireError>
-    requires levels { levels array.now ≤ most_levels options.now }
+    requires levels { levels array.now ≤ levels_by options.now }
     requires messages { HasMessages array.now }
-    ensures made { (s : SessionMeaning) → IfOk result (λ bs. IsWrittenBlob s array.now options.now ctx.old ctx.new bs) }
-    ensures kept { (s : SessionMeaning) → KeepsContext (ids_in (wire codec s array.now)) ctx.old ctx.new }
-    ensures cause { (s : SessionMeaning) → IfErr result (RefusesWriting s array.now ctx.old options.now) }
+    ensures made { (s : SessionMeaning) → writes_two s ≡ two → IfOk result (λ bs. IsWrittenBlob s array.now options.now ctx.old ctx.new bs) }
+    ensures kept { (s : SessionMeaning) → writes_two s ≡ two → KeepsContext (ids_in (wire codec s array.now)) ctx.old ctx.new }
+    ensures cause { (s : SessionMeaning) → writes_two s ≡ two → IfErr result (RefusesWriting s array.now ctx.old options.now) }
 {
-    let (found, placed) = place(alloc, array, ctx, options)?;
+    let (found, placed) = place(alloc, array, two, ctx, options)?;
     let message = write_message(
         alloc,
         array,
@@ -238,12 +241,11 @@ pub(crate) fn write_array(
         IsShipped s → KeepsContext (ids_in (wire codec s array.now)) ctx.old ctx.new }
     ensures cause { (x : ExtMeaning) → x.unknown ≡ unknown → IfErr result (RefusesArray (arrays_meaning (λ b. means (b.vtable, b.value)) arrays.now x) array.now ctx.old options.now) }
 {
-    let node = take(
-        alloc,
-        Source::Lent(array),
-        arrays,
-        unknown,
-        most_levels(options),
-    )?;
-    write_taken(alloc, &node, ctx, options)
+    let two = match arrays.writes_two(alloc) {
+        Ok(two) => two,
+        Err(_) => return Err(WireError::OutOfMemory),
+    };
+    let room = most_levels(options);
+    let node = take(alloc, Source::Lent(array), arrays, unknown, room)?;
+    write_taken(alloc, &node, two, ctx, options)
 }

@@ -7,10 +7,11 @@ use Rattle.vx_types.specs.Typ.{Typ}
 use Rattle.vx_array_tree.specs.Body as B
 use Rattle.vx_array_tree.specs.Canon.{stats_written, KeepsStats}
 use Rattle.vx_array_tree.specs.Encoding.{Encoding}
+use Rattle.vx_array_tree.specs.Encoding as E
 use Rattle.vx_array_tree.specs.Normal.{IsNormal}
 use Rattle.vx_array_tree.specs.Place.{Place}
 use Rattle.vx_array_tree.specs.Sound.{IsSound}
-use Rattle.vx_array_tree.specs.Table.{own_id, buffers_of, metadata_of}
+use Rattle.vx_array_tree.specs.Table.{buffers_of, metadata_of}
 use Rattle.vx_array_tree.specs.Tree.{Tree, Trees, places, rows_of, untold}
 use Rattle.vx_array_tree.proofs.CanonLaws as Canon
 use Rattle.vx_array_tree.proofs.CanonPlaces.{canon_dtype, canon_len}
@@ -22,13 +23,14 @@ use Rattle.vx_wire_tree.specs.Kept.{IsKeptAs, AreKeptAs}
 use Rattle.vx_wire_tree.specs.Limits.{HasMessages}
 use Rattle.vx_wire_tree.specs.Matches.{Matches, AllMatch}
 use Rattle.vx_wire_tree.specs.ReadBack.{IsUnread, IsWritten, HasKnownTypes, HasCountableMetadata, HasStorableStats}
-use Rattle.vx_wire_tree.specs.Session.{SessionMeaning, IsShipped, IsPaired, shipped}
+use Rattle.vx_wire_tree.specs.Revised.{revised_holds}
+use Rattle.vx_wire_tree.specs.Session.{SessionMeaning, IsShipped, IsPaired, shipped, revised}
 use Rattle.vx_wire_tree.specs.Steps.{PlansChildren, HasParts, IsToldBy}
 use Rattle.vx_wire_tree.specs.Tells.{Tells}
 use Rattle.vx_wire_tree.specs.Wire.{Wire, Wires, WireHead, IsWhole, ids_in, all_present}
 use Rattle.vx_wire_tree.specs.Returns.{IsOwnCanon, Returns}
 use Rattle.vx_wire_tree.specs.Taken.{taken, IsTaken, Unwritten, HasUntaken}
-use Rattle.vx_wire_tree.specs.Written.{spelled, wire, canon}
+use Rattle.vx_wire_tree.specs.Written.{writes_two, body_id, spelled, wire, canon}
 use Rattle.vx_wire_tree.proofs.Built as Built
 use Rattle.vx_wire_tree.proofs.Kept as Kept
 use Rattle.vx_wire_tree.proofs.Matched as Matched
@@ -36,13 +38,14 @@ use Rattle.vx_wire_tree.proofs.NeverRefused as NeverRefused
 use Rattle.vx_wire_tree.proofs.PluginsAgain as PluginsAgain
 use Rattle.vx_wire_tree.proofs.ReadAgain as ReadAgain
 use Rattle.vx_wire_tree.proofs.TakenOwn as TakenOwn
+use Rattle.vx_wire_tree.proofs.TwoIdentifiers.{read_shipped, read_revised}
 use Rattle.vx_wire_tree.proofs.Unique as Unique
 use Rattle.vx_wire_tree.proofs.WrittenAlike as WrittenAlike
 
 module _ (c : Codec) (s : SessionMeaning) where
   -- A foreign node is spelled as what it keeps.
   pub own_spelling : Canon.SpellsOwn (spelled c s)
-  own_spelling h ts x e = ap (λ b. record { id = own_id b; metadata = metadata_bytes c (told (metadata_of b (places ts))); buffers = buffers_of b }) e
+  own_spelling h ts x e = ap (λ b. record { id = body_id (writes_two s) b h.len; metadata = metadata_bytes c (told (metadata_of b (places ts))); buffers = buffers_of b }) e
 
   -- A sound normal array is read back as itself, where its statistics are kept, and in any case but for
   -- statistics; it is written as what is read back.
@@ -126,16 +129,22 @@ module _ (c : Codec) (s : SessionMeaning) where
   pub node_tells : IsLawful c s → (id : List ℕ) (e : Encoding) (w : WireHead) (ws : Wires) (d : Typ) (n : ℕ) (ps : List Place) (bs : List Buffer) (ts : Trees) (t u : Tree)
       → w.id ≡ Some id → s.reader id ≡ Some (shipped e) → PlansChildren c s.ext e d n w.metadata (count ws) ps → w.buffers ≡ all_present bs
       → HasChildren c s (node w ws) ps ts → HasParts c s.ext e d n w.metadata bs ts t → IsSound t → IsToldBy c d w.stats t u → Tells c s (node w ws) d n u
-  node_tells law id e w ws d n ps bs ts t u i r p b k x y z = Built.node_tells c s law id e w ws d n ps bs ts t u i r p b k x y z
+  node_tells law id e w ws d n ps bs ts t u i r p b k x y z = Built.node_tells c s law id e w ws d n ps bs ts t u i (read_shipped (s.reader id) e id n r) p b k x y z
+
+  -- So does a node of primitives under two identifiers, whose identifier holds its length.
+  pub revised_tells : IsLawful c s → (id : List ℕ) (w : WireHead) (ws : Wires) (d : Typ) (n : ℕ) (ps : List Place) (bs : List Buffer) (ts : Trees) (t u : Tree)
+      → w.id ≡ Some id → s.reader id ≡ Some revised → IsTrue (revised_holds id n) → PlansChildren c s.ext E.primitive d n w.metadata (count ws) ps → w.buffers ≡ all_present bs
+      → HasChildren c s (node w ws) ps ts → HasParts c s.ext E.primitive d n w.metadata bs ts t → IsSound t → IsToldBy c d w.stats t u → Tells c s (node w ws) d n u
+  revised_tells law id w ws d n ps bs ts t u i r h p b k x y z = Built.node_tells c s law id E.primitive w ws d n ps bs ts t u i (read_revised (s.reader id) id n r h) p b k x y z
 
   -- A wire tree whose root nothing reads, under a session that allows such nodes, tells the array that is kept of it.
   pub kept_tells : (id : List ℕ) (w : Wire) (d : Typ) (n : ℕ) (t : Tree) → (label w).id ≡ Some id → s.reader id ≡ None → IsTrue s.ext.unknown → IsKeptAs w d n t → Tells c s w d n t
   kept_tells id w d n t i r allowed k = Kept.kept_tells c s id w d n t i r allowed k
 
 -- An array that is its own canon, in which types are known, and that returns, is told as itself by what encodings and plugins
--- write of it.
-pub returned : (c : Codec) (s : SessionMeaning) → IsLawful c s → IsPaired s → (n : ℕ) (t : Tree) → IsOwnCanon c s t → Returns c s n t → Matches c s (wire c s (taken s n t)) t
-returned c s law paired n t own r = PluginsAgain.returned c s law paired (own_spelling c s) n t (PluginsAgain.own_of c s law paired (own_spelling c s) t own) r
+-- write of it, where the bytes of the metadata that is written can be counted.
+pub returned : (c : Codec) (s : SessionMeaning) → IsLawful c s → IsPaired s → (n : ℕ) (t : Tree) → IsOwnCanon c s t → Returns c s n t → HasCountableMetadata c (taken s n t) → Matches c s (wire c s (taken s n t)) t
+returned c s law paired n t own r counted = PluginsAgain.returned c s law paired (own_spelling c s) n t (PluginsAgain.own_of c s law paired (own_spelling c s) t own) r counted
 
 -- What is written of an array has at most one level more than the descent goes down, whatever plugins give; and where no
 -- plugin writes, an array that is written within the levels is written as it is.

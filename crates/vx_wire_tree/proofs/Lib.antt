@@ -1,3 +1,4 @@
+pub mod TwoIdentifiers
 pub mod Unique
 pub mod WrittenAlike
 pub mod ReadAgain

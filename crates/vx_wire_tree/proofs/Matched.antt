@@ -1,5 +1,5 @@
 -- What holds of an array that matches a wire tree, by what reads its nodes.
-use Rattle.std.proofs.Common.{◌≡◌, ◌⊎◌, inl, inr, ◌∷◌, IsTrue, sym, ap, ◌∙◌, subst}
+use Rattle.std.proofs.Common.{◌≡◌, ◌⊎◌, inl, inr, IsTrue, sym, ap, ◌∙◌, subst}
 use Rattle.std.proofs.lemmas.Option.{same_Some}
 use Rattle.vx_trees.specs.Rose.{node, end, more, label, below}
 use Rattle.vx_trees.specs.Everywhere.{EverywhereBelow}
@@ -15,6 +15,7 @@ use Rattle.vx_wire_tree.specs.Reads.{IsKnownIn}
 use Rattle.vx_wire_tree.specs.Session.{SessionMeaning, IsShipped, IsPaired}
 use Rattle.vx_wire_tree.specs.Wire.{Wire, Wires}
 use Rattle.vx_wire_tree.proofs.NeverRefused.{IsEncodedBy, IsForeignBy, node_told}
+use Rattle.vx_wire_tree.proofs.TwoIdentifiers.{read_is_written}
 
 -- ---- by what a node is
 
@@ -67,14 +68,14 @@ module _ (c : Codec) (s : SessionMeaning) (ok : IsShipped s) where
   module _ (law : IsLawful c s) where
     -- What an encoding reads is not foreign.
     read_native : (w : Wire) (t : Tree) (e : Encoding) → IsEncodedBy c s e w t → IsNative (label t).body
-    read_native w t e x = subst (λ f. IsNativeEncoding f) (sym x.told.encoding) (law.messages x.by.id e x.by.reader_is).native
+    read_native w t e x = subst (λ f. IsNativeEncoding f) (sym x.told.encoding) (law.messages x.by.id e x.by.encoding_is).native
 
     -- ---- nodes are written
 
     module _ (paired : IsPaired s) where
       written_of : (w : Wire) (t : Tree) → ((e : Encoding) × IsEncodedBy c s e w t) ⊎ IsForeignBy c s w t → (AllMatch c s (below w) (below t) → EverywhereBelow (IsWrittenNode s) (below t)) → IsWritten s t
       written_of w (node h ts) (inl x) kids =
-          let q = paired.read_is_written x.1.by.id x.0 x.1.by.reader_is in
+          let q = read_is_written s paired x.1.by.id x.0 x.1.by.encoding_is in
           let writer : HasWriter s (encoding_of h.body) = record { writer = q.0; writer_is = ap (λ z. s.writer (id_of z)) x.1.told.encoding ∙ q.1 } in
           (written_native s h.body writer (inr (read_native w (node h ts) x.0 x.1)), kids x.1.told.children)
       written_of w (node h ts) (inr f) kids = raw_written s f.allowed w (node h ts) f.raw

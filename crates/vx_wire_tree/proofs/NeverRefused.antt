@@ -7,6 +7,7 @@ use Rattle.vx_trees.specs.Everywhere.{Everywhere, EverywhereBelow}
 use Rattle.vx_types.specs.Typ.{Typ}
 use Rattle.vx_array_tree.specs.Body.{Body}
 use Rattle.vx_array_tree.specs.Encoding.{Encoding}
+use Rattle.vx_array_tree.specs.Encoding as E
 use Rattle.vx_array_tree.specs.Metadata.{Metadata}
 use Rattle.vx_array_tree.specs.Normal.{IsNormal, IsNormalNode}
 use Rattle.vx_array_tree.specs.Place.{Place, place}
@@ -19,7 +20,8 @@ use Rattle.vx_wire_tree.specs.Codec.{Codec, IsLawful}
 use Rattle.vx_wire_tree.specs.Matches.{IsRawNode, IsRaw, AreRaw, IsEncodedNode, IsNodeBy, Matches, AllMatch}
 use Rattle.vx_wire_tree.specs.Placed.{IsPlannedBy, HasPlan, IsChild, Claim, HoldsAt, HoldsUnder}
 use Rattle.vx_wire_tree.specs.Reads.{IsMetadata}
-use Rattle.vx_wire_tree.specs.Session.{SessionMeaning, Reader, shipped, plugin, IsShippedReader, IsShipped}
+use Rattle.vx_wire_tree.specs.Revised.{revised_holds}
+use Rattle.vx_wire_tree.specs.Session.{SessionMeaning, Reader, shipped, revised, plugin, encoding_by, HoldsLength, IsShippedReader, IsShipped}
 use Rattle.vx_wire_tree.specs.Steps.{PlansChildren}
 use Rattle.vx_wire_tree.specs.Tells.{Tells}
 use Rattle.vx_wire_tree.specs.Wire.{WireHead, Wire, Wires, all_present, IsWholeNode, IsWhole}
@@ -76,9 +78,10 @@ closed_open b e t = false_true (subst (λ z. IsTrue z) e t)
 module _ (c : Codec) (s : SessionMeaning) where
   -- ---- what is told, node by node
 
-  -- A matched node is read by an encoding, and is of it.
+  -- A matched node is read by an encoding, which may read so many rows, and is of it.
   pub record IsEncodedBy (e : Encoding) (w : Wire) (t : Tree) : Type 0 where
     pub by : IsOf s w e
+    pub held : HoldsLength (s.reader by.id) by.id (label t).len
     pub told : IsEncodedNode c s e (label w) t (λ us. AllMatch c s (below w) us)
 
   -- Or nothing reads it, and it is foreign with all below it.
@@ -91,14 +94,23 @@ module _ (c : Codec) (s : SessionMeaning) where
       → IsNodeBy c s r w ws t (λ us. AllMatch c s ws us) → ((e : Encoding) × IsEncodedBy e (node w ws) t) ⊎ IsForeignBy (node w ws) t
   told_by None ok id w ws t i r m = inr (record { by = record { id = id; id_is = i; reader_is = r }; allowed = m.0; raw = m.1 })
   told_by (Some (plugin p)) ok id w ws t i r m = absurd ok
-  told_by (Some (shipped e)) ok id w ws t i r m = inl (e, record { by = record { id = id; id_is = i; reader_is = r }; told = m })
+  told_by (Some (shipped e)) ok id w ws t i r m =
+      let held : HoldsLength (s.reader id) id (label t).len = subst (λ z. HoldsLength z id (label t).len) (sym r) tt in
+      inl (e, record { by = record { id = id; id_is = i; encoding_is = ap (λ z. encoding_by z) r }; held = held; told = m })
+  told_by (Some revised) ok id w ws t i r m =
+      let same : m.0.id ≡ id = same_Some m.0.id id (sym m.0.id_is ∙ i) in
+      let holds : IsTrue (revised_holds id (label t).len) = subst (λ (z : List ℕ). IsTrue (revised_holds z (label t).len)) same m.0.holds in
+      let held : HoldsLength (s.reader id) id (label t).len = subst (λ z. HoldsLength z id (label t).len) (sym r) holds in
+      inl (E.primitive, record { by = record { id = id; id_is = i; encoding_is = ap (λ z. encoding_by z) r }; held = held; told = m.1 })
 
   -- Two readings of one node are by one encoding.
   same_reader : (o : Option (List ℕ)) (i j : List ℕ) (r q : Option Reader) → o ≡ Some i → o ≡ Some j → s.reader i ≡ r → s.reader j ≡ q → r ≡ q
   same_reader o i j r q a b x y = cc
 
   same_encoding : (w : Wire) (e f : Encoding) → IsOf s w e → IsOf s w f → e ≡ f
-  same_encoding w e f a b = let q = same_reader (label w).id a.id b.id (Some (shipped e)) (Some (shipped f)) a.id_is b.id_is a.reader_is b.reader_is in cc
+  same_encoding w e f a b =
+      let same : a.id ≡ b.id = same_Some a.id b.id (sym a.id_is ∙ b.id_is) in
+      same_Some e f (sym a.encoding_is ∙ ap (λ z. encoding_by (s.reader z)) same ∙ b.encoding_is)
 
   -- Nothing is missing in what tells a foreign array.
   raw_node : (w : Wire) (t : Tree) → IsRawNode (label w) (label t) → IsWholeNode (label w) (below w)
@@ -118,6 +130,7 @@ module _ (c : Codec) (s : SessionMeaning) where
       → ((us : Trees) → AllMatch c s ws us → EverywhereBelow IsWholeNode ws) → IsWhole (node w ws)
   whole_by None id w ws t i m kids = raw_whole (node w ws) t m.1
   whole_by (Some (shipped e)) id w ws t i m kids = (record { id = id; id_is = i; buffers = buffers_of (label t).body; buffers_are = m.buffers }, kids (below t) m.children)
+  whole_by (Some revised) id w ws t i m kids = (record { id = id; id_is = i; buffers = buffers_of (label t).body; buffers_are = m.1.buffers }, kids (below t) m.1.children)
   whole_by (Some (plugin p)) id w ws t i m kids = (record { id = id; id_is = i; buffers = m.buffers; buffers_are = m.buffers_are }, kids m.children m.matched)
 
   mutual
@@ -131,7 +144,9 @@ module _ (c : Codec) (s : SessionMeaning) where
 
   -- A node that nothing reads is not read by an encoding.
   not_both : (w : Wire) (e : Encoding) → IsReadBy s w None → IsOf s w e → ⊥
-  not_both w e a b = none_some (same_reader (label w).id a.id b.id None (Some (shipped e)) a.id_is b.id_is a.reader_is b.reader_is)
+  not_both w e a b =
+      let same : b.id ≡ a.id = same_Some b.id a.id (sym b.id_is ∙ a.id_is) in
+      none_some (ap (λ z. encoding_by z) (sym a.reader_is) ∙ ap (λ z. encoding_by (s.reader z)) (sym same) ∙ b.encoding_is)
 
   module _ (ok : IsShipped s) where
     pub node_told : (w : Wire) (t : Tree) → Matches c s w t → ((e : Encoding) × IsEncodedBy e w t) ⊎ IsForeignBy w t
@@ -162,7 +177,7 @@ module _ (c : Codec) (s : SessionMeaning) where
       -- ---- what a told node is read as
 
       value_is : (e : Encoding) (w : Wire) (h : Head) (ts : Trees) (v : Metadata) → IsEncodedBy e w (node h ts) → IsMetadata c s.ext e h.dtype (label w).metadata v → v ≡ metadata_in h ts
-      value_is e w h ts v x m = one_metadata c s e (law.messages x.by.id e x.by.reader_is) h.dtype h.dtype (label w).metadata v (metadata_in h ts) refl m x.told.metadata
+      value_is e w h ts v x m = one_metadata c s e (law.messages x.by.id e x.by.encoding_is) h.dtype h.dtype (label w).metadata v (metadata_in h ts) refl m x.told.metadata
 
       plan_is : (e : Encoding) (w : Wire) (h : Head) (ts : Trees) (v : Metadata) → IsEncodedBy e w (node h ts) → IsSoundNode h ts → IsNormalNode h ts → IsMetadata c s.ext e h.dtype (label w).metadata v
           → plan_of e h.dtype h.len v (count (below w)) ≡ Some (places ts)
@@ -175,7 +190,8 @@ module _ (c : Codec) (s : SessionMeaning) where
           → (e : Encoding) × IsOf s w e × PlansChildren c s.ext e d n (label w).metadata (count (below w)) ps
       planned_by None q id w d n ps i r p = absurd p
       planned_by (Some (plugin x)) q id w d n ps i r p = absurd q
-      planned_by (Some (shipped e)) q id w d n ps i r p = (e, record { id = id; id_is = i; reader_is = r }, p)
+      planned_by (Some (shipped e)) q id w d n ps i r p = (e, record { id = id; id_is = i; encoding_is = ap (λ z. encoding_by z) r }, p)
+      planned_by (Some revised) q id w d n ps i r p = (E.primitive, record { id = id; id_is = i; encoding_is = ap (λ z. encoding_by z) r }, p)
 
       -- A told node of which children are planned is read by an encoding, and their places are planned.
       pub record PlanTold (w : Wire) (h : Head) (ts : Trees) (ps : List Place) : Type 0 where
@@ -273,7 +289,12 @@ module _ (c : Codec) (s : SessionMeaning) where
       broken_told e v w h ts x y n m (inl k) = none_some (sym k ∙ plan_is e w h ts v x y.0 n.0 m)
       broken_told e v w h ts x y n m (inr (inl k)) =
           k (buffers_of h.body) (may_stand (label w).buffers (buffers_of h.body) x.told.buffers) (shaped_told e w h ts v x y.0 n.0 (value_is e w h ts v x m))
-      broken_told e v w h ts x y n m (inr (inr k)) =
+      broken_told e v w h ts x y n m (inr (inr (inr k))) =
+          let same : x.by.id ≡ k.by.id = same_Some x.by.id k.by.id (sym x.by.id_is ∙ k.by.id_is) in
+          let held : HoldsLength (s.reader k.by.id) k.by.id h.len = subst (λ z. HoldsLength (s.reader z) z h.len) same x.held in
+          let holds : IsTrue (revised_holds k.by.id h.len) = subst (λ z. HoldsLength z k.by.id h.len) k.by.reader_is held in
+          closed_open (revised_holds k.by.id h.len) k.past holds
+      broken_told e v w h ts x y n m (inr (inr (inl k))) =
           let p = same_Some k.places_are (places ts) (sym k.plan ∙ plan_is e w h ts v x y.0 n.0 m) in
           let q = children_told w ts k.children k.places_are x.told.children y.1 n.1 k.matched p in
           k.untaken (subst (λ (us : Trees). Takes e (encodings us)) (sym q) (subst (λ (f : Encoding). Takes f (encodings ts)) x.told.encoding y.0.takes))

@@ -1,5 +1,5 @@
 -- An array as it is written: how many levels it has, and that it is itself, and has writers, where no plugin writes.
-use Rattle.std.proofs.Common.{ℕ, zero, suc, ◌≡◌, ◌+◌, ◌≤◌, ◌⊎◌, inl, inr, Option, Some, None, Bool, true, false, refl, sym, ap, ◌∙◌, subst, arith}
+use Rattle.std.proofs.Common.{ℕ, zero, suc, ◌≡◌, ◌+◌, ◌≤◌, inl, inr, Option, Some, None, Bool, true, false, refl, sym, ap, ◌∙◌, subst, arith}
 use Rattle.vx_trees.specs.Everywhere.{EverywhereBelow}
 use Rattle.vx_trees.specs.Rose.{node, end, more}
 use Rattle.vx_trees.specs.Walks.{levels, levels_below}
@@ -9,7 +9,7 @@ use Rattle.vx_array_tree.specs.Encoding.{Encoding}
 use Rattle.vx_array_tree.specs.Table.{encoding_of, id_of, IsNative}
 use Rattle.vx_array_tree.specs.Tree.{Head, Tree, Trees}
 use Rattle.vx_wire_tree.specs.ReadBack.{HasWriter, IsWrittenBy, IsWrittenNode, IsWritten}
-use Rattle.vx_wire_tree.specs.Session.{SessionMeaning, Reader, shipped, plugin, IsShippedReader, IsShipped}
+use Rattle.vx_wire_tree.specs.Session.{SessionMeaning, Reader, shipped, revised, plugin, IsShippedReader, IsShipped}
 use Rattle.vx_wire_tree.specs.Taken.{Step, written, unwritten, Unwritten, IsWrittenStep, foreign_step, writer_step, step_by, step, step_head, step_below, each, Each, Any, taken, IsTaken, HasUntaken}
 use Rattle.vx_wire_tree.proofs.PluginsAgain.{native_or, step_native}
 
@@ -27,6 +27,7 @@ module _ (s : SessionMeaning) where
     writer_own : (r : Option Reader) → IsShippedReader r → (h : Head) (ts : Trees) → IsWrittenStep (writer_step r h ts) → writer_step r h ts ≡ written h ts
     writer_own None k h ts w = absurd w
     writer_own (Some (shipped e)) k h ts w = refl
+    writer_own (Some revised) k h ts w = refl
     writer_own (Some (plugin p)) k h ts w = absurd k
 
     foreign_own : (b : Bool) (h : Head) (ts : Trees) → IsWrittenStep (foreign_step b h ts) → foreign_step b h ts ≡ written h ts
@@ -107,6 +108,7 @@ module _ (s : SessionMeaning) where
     writer_writes : (r : Option Reader) → IsShippedReader r → (q : Reader) → r ≡ Some q → (h : Head) (ts : Trees) → writer_step r h ts ≡ written h ts
     writer_writes None k q e h ts = absurd (cc)
     writer_writes (Some (shipped e)) k q p h ts = refl
+    writer_writes (Some revised) k q p h ts = refl
     writer_writes (Some (plugin p)) k q e h ts = absurd k
 
     native_writer : (b : Body) → IsNative b → IsWrittenBy s b → HasWriter s (encoding_of b)

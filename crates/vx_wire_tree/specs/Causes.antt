@@ -1,5 +1,5 @@
 -- The cause of each refusal of a tree.
-use Rattle.std.specs.Prelude.{ℕ, ◌≡◌, List, [], ◌∷◌, Option, Some, None, ◌⊎◌, slice_get, false}
+use Rattle.std.specs.Prelude.{ℕ, ◌≡◌, List, [], ◌∷◌, Option, Some, None, ◌⊎◌, slice_get, false, IsFalse}
 use Rattle.vx_buffer.specs.Buffer.{Buffer}
 use Rattle.vx_trees.specs.Rose.{label, below, count}
 use Rattle.vx_trees.specs.Everywhere.{EverywhereBelow}
@@ -18,7 +18,8 @@ use Rattle.vx_wire_tree.specs.Matches.{AllMatch}
 use Rattle.vx_wire_tree.specs.Placed.{Claim, HoldsSomewhere, Anywhere}
 use Rattle.vx_wire_tree.specs.Plugin.{PluginMeaning, head_at}
 use Rattle.vx_wire_tree.specs.Reads.{IsMetadata}
-use Rattle.vx_wire_tree.specs.Session.{SessionMeaning, Reader, shipped, plugin, IsShipped}
+use Rattle.vx_wire_tree.specs.Revised.{revised_holds}
+use Rattle.vx_wire_tree.specs.Session.{SessionMeaning, Reader, revised, plugin, encoding_by, IsShipped}
 use Rattle.vx_wire_tree.specs.Steps.{HasNoMetadata, HasNoStats}
 use Rattle.vx_wire_tree.specs.Wire.{Wire, all_present}
 
@@ -40,9 +41,11 @@ pub record IsReadBy (s : SessionMeaning) (w : Wire) (r : Option Reader) : Type 0
   pub id_is : (label w).id ≡ Some id
   pub reader_is : s.reader id ≡ r
 
--- A node is read by an encoding.
-abbrev pub IsOf : SessionMeaning → Wire → Encoding → Type 0
-IsOf s w e = IsReadBy s w (Some (shipped e))
+-- A node's identifier is there, and an encoding reads it.
+pub record IsOf (s : SessionMeaning) (w : Wire) (e : Encoding) : Type 0 where
+  pub id : List ℕ
+  pub id_is : (label w).id ≡ Some id
+  pub encoding_is : encoding_by (s.reader id) ≡ Some e
 
 -- Nothing reads a node, and such nodes are not allowed.
 pub record IsUnknownNode (s : SessionMeaning) (w : Wire) : Type 0 where
@@ -81,15 +84,21 @@ pub record HasOtherChildren (c : Codec) (s : SessionMeaning) (e : Encoding) (v :
   pub matched : HasChildren c s w places_are children
   pub untaken : Takes e (encodings children) → ⊥
 
+-- Primitives under two identifiers read a node, and its identifier does not hold so many rows.
+pub record IsPastLength (s : SessionMeaning) (w : Wire) (n : ℕ) : Type 0 where
+  pub by : IsReadBy s w (Some revised)
+  pub past : IsFalse (revised_holds by.id n)
+
 -- The parts of a node whose metadata is read break its encoding's row: nothing is planned for such a type
 -- and so many children; what is planned may not stand, or the buffers are wrong, by their number or by one
--- that is there, whatever stands for those that are missing; or its children are of encodings that may not
--- stand below it.
+-- that is there, whatever stands for those that are missing; its children are of encodings that may not stand
+-- below it; or its identifier does not hold its length.
 abbrev pub IsBroken : Codec → SessionMeaning → Encoding → Metadata → Claim
 IsBroken c s e v w d n =
     (plan_of e d n v (count (below w)) ≡ None)
     ⊎ ((bs : List Buffer) → MayStandFor (label w).buffers bs → IsShaped e d n v bs (count (below w)) → ⊥)
     ⊎ HasOtherChildren c s e v w d n
+    ⊎ IsPastLength s w n
 
 -- A node's metadata is read, and its parts break its encoding's row.
 pub record HasBadShape (c : Codec) (s : SessionMeaning) (w : Wire) (d : Typ) (n : ℕ) : Type 0 where

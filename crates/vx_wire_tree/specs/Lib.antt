@@ -4,6 +4,7 @@ pub mod Codec
 pub mod Reads
 pub mod Wire
 pub mod Plugin
+pub mod Revised
 pub mod Session
 pub mod Matches
 pub mod Tells

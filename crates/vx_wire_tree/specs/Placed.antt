@@ -2,10 +2,11 @@
 use Rattle.std.specs.Prelude.{ℕ, ◌≡◌, List, [], ◌∷◌, Option, Some, None, slice_get}
 use Rattle.vx_trees.specs.Rose.{Rose, label, below, count, roses_list}
 use Rattle.vx_types.specs.Typ.{Typ}
+use Rattle.vx_array_tree.specs.Encoding as E
 use Rattle.vx_array_tree.specs.Place.{Place}
 use Rattle.vx_wire_tree.specs.Codec.{Codec}
 use Rattle.vx_wire_tree.specs.Plugin.{PluginMeaning, head_at}
-use Rattle.vx_wire_tree.specs.Session.{SessionMeaning, Reader, shipped, plugin}
+use Rattle.vx_wire_tree.specs.Session.{SessionMeaning, Reader, shipped, revised, plugin}
 use Rattle.vx_wire_tree.specs.Steps.{PlansChildren}
 use Rattle.vx_wire_tree.specs.Wire.{Wire}
 
@@ -18,6 +19,7 @@ pub record PlansByPlugin (s : SessionMeaning) (p : PluginMeaning) (w : Wire) (d 
 -- A plan by what reads a node: its encoding or its plugin plans its children. Its buffers are not looked at.
 abbrev pub IsPlannedBy : Codec → SessionMeaning → Option Reader → Wire → Typ → ℕ → List Place → Type 0
 IsPlannedBy c s (Some (shipped e)) w d n ps = PlansChildren c s.ext e d n (label w).metadata (count (below w)) ps
+IsPlannedBy c s (Some revised) w d n ps = PlansChildren c s.ext E.primitive d n (label w).metadata (count (below w)) ps
 IsPlannedBy c s (Some (plugin p)) w d n ps = PlansByPlugin s p w d n ps
 IsPlannedBy c s None w d n ps = ⊥
 

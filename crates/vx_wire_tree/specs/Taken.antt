@@ -7,7 +7,7 @@ use Rattle.vx_array_tree.specs.Body as B
 use Rattle.vx_array_tree.specs.Table.{encoding_of, id_of}
 use Rattle.vx_array_tree.specs.Tree.{Tree, Trees, Head}
 use Rattle.vx_wire_tree.specs.Plugin.{PluginMeaning, Parts, Answer, none, refused, given}
-use Rattle.vx_wire_tree.specs.Session.{SessionMeaning, Reader, shipped, plugin}
+use Rattle.vx_wire_tree.specs.Session.{SessionMeaning, Reader, shipped, revised, plugin}
 
 -- Why a node is not written: nothing writes it, or its plugin has no form for it, names an identifier that it does not
 -- declare, or refuses it.
@@ -42,6 +42,7 @@ plugin_step p h (given y) = if list_any (bytes_eq y.id) p.declared then written 
 abbrev pub writer_step : Option Reader → Head → Trees → Step
 writer_step None h ts = unwritten unregistered
 writer_step (Some (shipped e)) h ts = written h ts
+writer_step (Some revised) h ts = written h ts
 writer_step (Some (plugin p)) h ts = plugin_step p h (p.serialize (node h ts))
 
 -- A node by what it is.

@@ -189,7 +189,7 @@ foreign_validity = (
   [],
   record {
     encoding = E.primitive;
-    by = record { id = name; id_is = refl; reader_is = refl };
+    by = record { id = name; id_is = refl; encoding_is = refl };
     value = M.empty;
     metadata = record { fields = F.empty; shown = refl; meaning = refl; fair = tt; known = tt };
     places_are = place (flag_type NonNullable) 4 ∷ [];

@@ -116,7 +116,7 @@ no_reader : RefusesTree unknown_encoding codec (session None) (numbers_of (Some 
 no_reader = ([], record { unregistered = record { id = name; id_is = refl; reader_is = refl }; closed = refl })
 
 is_numbers : (bs : List (Option Buffer)) → IsOf numbers_session (numbers_of (Some name) bs) E.primitive
-is_numbers bs = record { id = name; id_is = refl; reader_is = refl }
+is_numbers bs = record { id = name; id_is = refl; encoding_is = refl }
 
 -- Five rows do not fit the bytes of four.
 other_length : (bs : List Buffer) → MayStandFor (Some values ∷ []) bs → IsShaped E.primitive type 5 M.empty bs 0 → ⊥

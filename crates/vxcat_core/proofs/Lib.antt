@@ -13,6 +13,7 @@ mod OptionSettings
 mod Outcomes
 mod Recodings
 mod RowTexts
+mod Sessions
 mod SevenWords
 mod SixWords
 mod Tables

@@ -39,20 +39,21 @@ use Rattle.vx_wire_tree.specs.Context.{Context, grown}
 use Rattle.vx_wire_tree.specs.Fields.{DictFields}
 use Rattle.vx_wire_tree.specs.Limits.{HasMessages, IsDescribable, AreDescribable}
 use Rattle.vx_wire_tree.specs.ReadBack.{IsWritten, ReadsBack}
-use Rattle.vx_wire_tree.specs.Session.{SessionMeaning, shipped}
+use Rattle.vx_wire_tree.specs.Session.{SessionMeaning, IsShipped, shipped}
+use Rattle.vx_wire_tree.specs.Taken.{unregistered, unserializable, undeclared, unwilling}
 use Rattle.vx_wire_tree.specs.Wire.{Wire, buffers_in, ids_in}
 use Rattle.vx_wire_tree.specs.Tells.{Tells}
 use Rattle.vx_wire_tree.specs.Matches.{Matches}
 use Rattle.vx_wire_tree.specs.Written.{wire, canon}
-use Rattle.vx_wire_tree.proofs.Laws.{canon_own}
+use Rattle.vx_wire_tree.proofs.Laws.{canon_own, never_untaken, taken_whole}
 use Rattle.vx_wire_tree.proofs.ReadAgain.{written_matches}
 use Rattle.vx_encodings.specs.BoolMessage.{bool_bytes}
 use Rattle.vx_encodings.specs.DictMessage.{dict_bytes}
 use Rattle.vx_encodings.specs.ListMessage.{list_bytes}
 use Rattle.vx_encodings.specs.Messages.{codec, stats_field}
 use Rattle.vx_scalar_wire.specs.StatsTable.{AreStorable}
-use Rattle.vx_registry.specs.Session.{tables_meaning, shipped_registry}
-use Rattle.vx_registry.proofs.LawsSessions.{registry_lawful}
+use Rattle.vx_registry.specs.Session.{no_plugins, shipped_meaning, shipped_registry}
+use Rattle.vx_registry.proofs.LawsSessions.{registry_lawful, shipped_alone}
 use Rattle.vx_serde.specs.declared.options.SerializeOptions.{SerializeOptions}
 use Rattle.vx_serde.specs.ArraySchema.{array_schema}
 use Rattle.vx_serde.specs.declared.message.Descriptor.{Descriptor}
@@ -64,12 +65,13 @@ use Rattle.vx_serde.specs.Causes.{RefusesArray}
 use Rattle.vx_serde.specs.declared.error.WireError.{WireError}
 use Rattle.vx_serde.specs.declared.error.WireError.TheVariants as wire_error
 use Rattle.vx_serde.specs.Request.{CanRecode}
-use Rattle.vx_serde.specs.Serializing.{IsSerialized}
+use Rattle.vx_serde.specs.Limits.{most_levels}
+use Rattle.vx_serde.specs.Serializing.{IsSerialized, IsWrittenBlob}
 use Rattle.vx_serde.specs.Spells.{Spells, KeepsReaderLimits, KeepsWriterLimits, blob_of, ids_after}
+use Rattle.vx_serde.specs.Taking.{as_written}
 use Rattle.vx_serde.specs.Written.{message_bytes, message_pad, blob_bytes, IsWritable}
 use Rattle.vx_serde.proofs.Carried.{carried, is_blob, shows-layout}
 use Rattle.vx_serde.proofs.CarriedOnce.{one_blob}
-use Rattle.vx_serde.proofs.Gathered.{all-written}
 use Rattle.vx_serde.proofs.GrownPlaced.{grown_by-placed}
 use Rattle.vx_serde.proofs.MessageRead.{message_value_is_of}
 use Rattle.vx_serde.proofs.NumberedRead.{placed_from_ids, numbered_fits}
@@ -182,7 +184,7 @@ value_light flags texts lists descriptors few = (omega arith, omega arith, omega
 
 -- What reads and writes it, and under what.
 abbrev pub session : SessionMeaning
-session = tables_meaning shipped_registry no_readers
+session = shipped_meaning no_readers
 
 abbrev pub nothing : Context
 nothing = record { ids = []; allowed = None }
@@ -212,6 +214,17 @@ table_written seed rows = (
   ),
 )
 
+-- No plugin writes it, so it is written as it stands.
+session_shipped : IsShipped session
+session_shipped = shipped_alone no_readers
+
+table_levels : (seed rows : ℕ) → levels (made seed rows) ≡ 3
+unfolding made
+table_levels seed rows = refl
+
+pub table_whole : (seed rows : ℕ) → as_written session plain (made seed rows) ≡ made seed rows
+table_whole seed rows = taken_whole session session_shipped (most_levels plain) (made seed rows) (table_written seed rows) (omega (arith, table_levels seed rows))
+
 none_storable : AreStorable no_stats
 none_storable = record { least = tt; greatest = tt; sum = tt; null_count = tt; uncompressed_size = tt; nan_count = tt }
 
@@ -230,18 +243,18 @@ lists_counted n = omega (arith, list_short n)
 table_read_back : (seed rows : ℕ) → rows ≤ 1000000 → ReadsBack codec session (made seed rows)
 unfolding made
 table_read_back seed rows h = (
-  record { reader = refl; message = tt; countable = none_counted; known = tt; storable = none_storable },
+  record { reader = record { encoding = refl; held = tt }; message = tt; countable = none_counted; known = tt; storable = none_storable },
   (
-    (record { reader = refl; message = tt; countable = none_counted; known = tt; storable = none_storable }, ((record { reader = refl; message = tt; countable = flags_counted; known = tt; storable = none_storable }, tt), tt)),
+    (record { reader = record { encoding = refl; held = tt }; message = tt; countable = none_counted; known = tt; storable = none_storable }, ((record { reader = record { encoding = refl; held = tt }; message = tt; countable = flags_counted; known = tt; storable = none_storable }, tt), tt)),
     (
       (
-        record { reader = refl; message = omega arith; countable = texts_counted; known = tt; storable = none_storable },
-        ((record { reader = refl; message = tt; countable = none_counted; known = tt; storable = none_storable }, tt), ((record { reader = refl; message = tt; countable = none_counted; known = tt; storable = none_storable }, tt), tt)),
+        record { reader = record { encoding = refl; held = tt }; message = omega arith; countable = texts_counted; known = tt; storable = none_storable },
+        ((record { reader = record { encoding = refl; held = tt }; message = tt; countable = none_counted; known = tt; storable = none_storable }, tt), ((record { reader = record { encoding = refl; held = tt }; message = tt; countable = none_counted; known = tt; storable = none_storable }, tt), tt)),
       ),
       (
         (
-          record { reader = refl; message = omega (arith, h, few seed rows rows); countable = lists_counted (columns seed rows rows).count; known = tt; storable = none_storable },
-          ((record { reader = refl; message = tt; countable = none_counted; known = tt; storable = none_storable }, tt), ((record { reader = refl; message = tt; countable = none_counted; known = tt; storable = none_storable }, tt), tt)),
+          record { reader = record { encoding = refl; held = tt }; message = omega (arith, h, few seed rows rows); countable = lists_counted (columns seed rows rows).count; known = tt; storable = none_storable },
+          ((record { reader = record { encoding = refl; held = tt }; message = tt; countable = none_counted; known = tt; storable = none_storable }, tt), ((record { reader = record { encoding = refl; held = tt }; message = tt; countable = none_counted; known = tt; storable = none_storable }, tt), tt)),
         ),
         tt,
       ),
@@ -394,7 +407,7 @@ module _ (seed rows : ℕ) (h : rows ≤ 1000000) where
   table_told =
       let sound = made_sound seed rows h in
       let normal = made_normal seed rows in
-      let law = registry_lawful shipped_registry no_readers in
+      let law = registry_lawful no_plugins shipped_registry no_readers in
       record {
         matched = subst (λ z. Matches codec session w z) table_own (written_matches codec session law t sound (table_read_back seed rows h));
         dtype = refl;
@@ -404,12 +417,16 @@ module _ (seed rows : ℕ) (h : rows ≤ 1000000) where
       }
 
   module _ (after : Context) (buffers : List Buffer) (x : IsSerialized session t plain nothing after buffers) where
+    -- The blob is that of the table as it stands.
+    blob : IsWrittenBlob session t plain nothing after buffers
+    blob = subst (λ (z : Tree). IsWrittenBlob session z plain nothing after buffers) (table_whole seed rows) x.blob
+
     -- The blob that was written for the table spells it.
     pub table_spelled : Spells (joined buffers) after.ids (label t).dtype (label t).len session t
     table_spelled =
-        let same = grown-ids session t nothing after x.grown_is in
-        let placed = grown_by-placed (ids_in w) nothing after x.grown_is in
-        let c = carried after.ids plain w (wire-whole codec session t) (wire-tabled session t) placed.placed (subst (λ z. IsWritable z plain w) (sym same) x.limits.writable) in
+        let same = grown-ids session t nothing after blob.grown_is in
+        let placed = grown_by-placed (ids_in w) nothing after blob.grown_is in
+        let c = carried after.ids plain w (wire-whole codec session t) (wire-tabled session t) placed.placed (subst (λ z. IsWritable z plain w) (sym same) blob.limits.writable) in
         let spelled : Spells (blob_bytes after.ids plain w) after.ids (label t).dtype (label t).len session t = record {
           wire = w;
           carried = c.0;
@@ -417,7 +434,7 @@ module _ (seed rows : ℕ) (h : rows ≤ 1000000) where
           whole = wire-whole codec session t;
           told = table_told;
         } in
-        let own : blob_bytes after.ids plain w ≡ joined buffers = ap (λ z. blob_bytes z plain w) same ∙ sym x.written in
+        let own : blob_bytes after.ids plain w ≡ joined buffers = ap (λ z. blob_bytes z plain w) same ∙ sym blob.written in
         subst (λ (b : List ℕ). Spells b after.ids (label t).dtype (label t).len session t) own spelled
 
     written_light : KeepsReaderLimits plain (blob_of session t nothing plain)
@@ -425,7 +442,7 @@ module _ (seed rows : ℕ) (h : rows ≤ 1000000) where
         let ids = ids_after session t nothing in
         let bytes = data_from plain 0 (buffers_in w) in
         let zeros : List ℕ = replicate (message_pad plain w) 0 in
-        let fit = x.limits.writable in
+        let fit = blob.limits.writable in
         let own = is_blob bytes zeros (message_bytes ids plain w) fit.short in
         record {
           light = λ segment message is.
@@ -438,9 +455,9 @@ module _ (seed rows : ℕ) (h : rows ≤ 1000000) where
     table_again = record {
       array = t;
       spelled = table_spelled;
-      reader_limits = subst (λ (b : List ℕ). KeepsReaderLimits plain b) (sym x.written) written_light;
-      writer_limits = x.limits;
-      grows = ap is_some x.grown_is;
+      reader_limits = subst (λ (b : List ℕ). KeepsReaderLimits plain b) (sym blob.written) written_light;
+      writer_limits = blob.limits;
+      grows = ap is_some blob.grown_is;
     }
 
 -- ---- the bytes of its type
@@ -476,11 +493,14 @@ type_known = (tt, ((tt, tt), ((tt, tt), ((tt, ((tt, tt), tt)), tt))))
 
 pub table_memory : (seed rows : ℕ) → rows ≤ 1000000 → (e : WireError) → RefusesArray session (made seed rows) nothing plain e → e ≡ wire_error.OutOfMemory
 table_memory seed rows h wire_error.OutOfMemory r = refl
-table_memory seed rows h wire_error.NotPermitted r = absurd (none_or_some (sym (table_grows seed rows) ∙ r)) where
+table_memory seed rows h wire_error.NotPermitted r = absurd (none_or_some (sym (table_grows seed rows) ∙ ap (λ (z : Tree). grown codec session nothing z) (sym (table_whole seed rows)) ∙ r)) where
   none_or_some : {A : Type 0} {x : A} → Some x ≡ None → ⊥
   none_or_some e = absurd (cc)
-table_memory seed rows h wire_error.WireLimit r = absurd (r (table_limits seed rows h))
-table_memory seed rows h wire_error.NotRegistered r = absurd (all-written session (made seed rows) (table_written seed rows) r)
+table_memory seed rows h wire_error.WireLimit r = absurd (r (subst (λ (z : Tree). KeepsWriterLimits session z nothing plain) (sym (table_whole seed rows)) (table_limits seed rows h)))
+table_memory seed rows h wire_error.NotRegistered r = absurd (never_untaken session session_shipped (most_levels plain) unregistered (made seed rows) (table_written seed rows) r)
+table_memory seed rows h wire_error.NotSerializable r = absurd (never_untaken session session_shipped (most_levels plain) unserializable (made seed rows) (table_written seed rows) r)
+table_memory seed rows h wire_error.UndeclaredId r = absurd (never_untaken session session_shipped (most_levels plain) undeclared (made seed rows) (table_written seed rows) r)
+table_memory seed rows h wire_error.PluginRefused r = absurd (never_untaken session session_shipped (most_levels plain) unwilling (made seed rows) (table_written seed rows) r)
 table_memory seed rows h wire_error.TooShort r = absurd r
 table_memory seed rows h wire_error.BadTable r = absurd r
 table_memory seed rows h wire_error.TableLimit r = absurd r

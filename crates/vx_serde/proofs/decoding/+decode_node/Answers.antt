@@ -11,6 +11,7 @@ use Rattle.vx_registry.specs.Session.{entry_in}
 use Rattle.vx_registry.proofs.LawsSessions.{registry_lawful}
 use Rattle.vx_serde.specs.Decoding.{PlansBy}
 use Rattle.vx_serde.specs.Serialized.{wire_in}
+use Rattle.vx_serde.specs.contracts.decoding.decode_node.{dyn-1-ghosts, dyn-2-ghosts}
 use Rattle.vx_serde.proofs.DecodedNodes.{wire-named, wire-child, wire-length, child-smaller, shown_at, refused_at}
 use Rattle.vx_serde.proofs.NodeTold.{told-snoc, all_told, enough, get_past, planned, caused_by_child, caused_by_buffers, caused_by_build, caused_by_stats, built_dtype, told_node}
 use Rattle.vx_serde.proofs.MessageBlocks.{if_ok, if_err}
@@ -18,7 +19,7 @@ use Rattle.vx_serde.proofs.decoding.+decode_node.Goals as goal
 
 pub returns-in-Err-clause-cause : goal.returns-in-Err-clause-cause
 returns-in-Err-clause-cause g t c =
-    let f = plugins_meaning (λ b. (goal.ArrayPlugin-dyn g (b.vtable, b.value)).means b.value) c.args.session.now.arrays.plugins.items in
+    let f = plugins_meaning (λ b. ((dyn-2-ghosts g.dyn-2 g.dyn-1).0.entry b.vtable).1.means b.value) c.args.session.now.arrays.plugins.items in
     let named = wire-named c.args.ids.now c.args.node.now _ _ c.encoding_id.ensures c.in-Some.ensures in
     let found = ap (λ z. option_and_then (entry_in f) z) (sym c.in-Some-reader.ensures.found) in
     c.in-Err.ensures.cause c.args.ids.now named found
@@ -28,8 +29,8 @@ loop-i-init g t c = rw c.new-children.ensures (record { matched = refl; sound = 
 
 pub unreachable-requires : goal.unreachable-requires
 unreachable-requires g t c =
-    let x = ext_meaning (λ b. (goal.ExtPlugin-dyn g (b.vtable, b.value)).accepted b.value) c.args.session.now.ext in
-    let f = plugins_meaning (λ b. (goal.ArrayPlugin-dyn g (b.vtable, b.value)).means b.value) c.args.session.now.arrays.plugins.items in
+    let x = ext_meaning (λ b. ((dyn-1-ghosts g.dyn-2 g.dyn-1).0.entry b.vtable).1.accepted b.value) c.args.session.now.ext in
+    let f = plugins_meaning (λ b. ((dyn-2-ghosts g.dyn-2 g.dyn-1).0.entry b.vtable).1.means b.value) c.args.session.now.arrays.plugins.items in
     let w = wire_in c.args.ids.now c.args.node.now in
     let entry = c.in-Some-reader.entry in
     let named = wire-named c.args.ids.now c.args.node.now _ _ c.encoding_id.ensures c.in-Some.ensures in
@@ -46,8 +47,8 @@ decode_node-requires-decreases g t c = omega (arith, child-smaller c.args.node.n
 
 pub returns-in-Err-decode_node-clause-cause : goal.returns-in-Err-decode_node-clause-cause
 returns-in-Err-decode_node-clause-cause g t c =
-    let s = session_meaning (λ b. (goal.ArrayPlugin-dyn g (b.vtable, b.value)).means b.value) (λ b. (goal.ExtPlugin-dyn g (b.vtable, b.value)).accepted b.value) c.args.session.now in
-    let f = plugins_meaning (λ b. (goal.ArrayPlugin-dyn g (b.vtable, b.value)).means b.value) c.args.session.now.arrays.plugins.items in
+    let s = session_meaning (λ b. ((dyn-2-ghosts g.dyn-2 g.dyn-1).0.entry b.vtable).1.means b.value) (λ b. ((dyn-1-ghosts g.dyn-2 g.dyn-1).0.entry b.vtable).1.accepted b.value) c.args.session.now in
+    let f = plugins_meaning (λ b. ((dyn-2-ghosts g.dyn-2 g.dyn-1).0.entry b.vtable).1.means b.value) c.args.session.now.arrays.plugins.items in
     let w = wire_in c.args.ids.now c.args.node.now in
     let entry = c.in-Some-reader.entry in
     let named = wire-named c.args.ids.now c.args.node.now _ _ c.encoding_id.ensures c.in-Some.ensures in
@@ -61,7 +62,7 @@ returns-in-Err-decode_node-clause-cause g t c =
 
 pub loop-i-preserved : goal.loop-i-preserved
 loop-i-preserved g t c =
-    let s = session_meaning (λ b. (goal.ArrayPlugin-dyn g (b.vtable, b.value)).means b.value) (λ b. (goal.ExtPlugin-dyn g (b.vtable, b.value)).accepted b.value) c.args.session.now in
+    let s = session_meaning (λ b. ((dyn-2-ghosts g.dyn-2 g.dyn-1).0.entry b.vtable).1.means b.value) (λ b. ((dyn-1-ghosts g.dyn-2 g.dyn-1).0.entry b.vtable).1.accepted b.value) c.args.session.now in
     let nodes = roses_list (below (wire_in c.args.ids.now c.args.node.now)) in
     let child = wire_in c.args.ids.now c.child-below.result in
     let at = wire-child c.args.ids.now c.args.node.now c.loop-i.i c.child-below.result c.child-below.ensures in
@@ -70,14 +71,14 @@ loop-i-preserved g t c =
 
 pub returns-in-Err-own_buffers-clause-cause : goal.returns-in-Err-own_buffers-clause-cause
 returns-in-Err-own_buffers-clause-cause g t c =
-    let s = session_meaning (λ b. (goal.ArrayPlugin-dyn g (b.vtable, b.value)).means b.value) (λ b. (goal.ExtPlugin-dyn g (b.vtable, b.value)).accepted b.value) c.args.session.now in
+    let s = session_meaning (λ b. ((dyn-2-ghosts g.dyn-2 g.dyn-1).0.entry b.vtable).1.means b.value) (λ b. ((dyn-1-ghosts g.dyn-2 g.dyn-1).0.entry b.vtable).1.accepted b.value) c.args.session.now in
     caused_by_buffers s c.in-Err-own_buffers.e (wire_in c.args.ids.now c.args.node.now) (typ c.args.dtype.now) c.args.len (c.in-Err-own_buffers.ensures.cause c.args.ids.now)
 
 pub build_entry-requires-clause-planned : goal.build_entry-requires-clause-planned
 build_entry-requires-clause-planned g t c =
-    let x = ext_meaning (λ b. (goal.ExtPlugin-dyn g (b.vtable, b.value)).accepted b.value) c.args.session.now.ext in
-    let s = session_meaning (λ b. (goal.ArrayPlugin-dyn g (b.vtable, b.value)).means b.value) (λ b. (goal.ExtPlugin-dyn g (b.vtable, b.value)).accepted b.value) c.args.session.now in
-    let f = plugins_meaning (λ b. (goal.ArrayPlugin-dyn g (b.vtable, b.value)).means b.value) c.args.session.now.arrays.plugins.items in
+    let x = ext_meaning (λ b. ((dyn-1-ghosts g.dyn-2 g.dyn-1).0.entry b.vtable).1.accepted b.value) c.args.session.now.ext in
+    let s = session_meaning (λ b. ((dyn-2-ghosts g.dyn-2 g.dyn-1).0.entry b.vtable).1.means b.value) (λ b. ((dyn-1-ghosts g.dyn-2 g.dyn-1).0.entry b.vtable).1.accepted b.value) c.args.session.now in
+    let f = plugins_meaning (λ b. ((dyn-2-ghosts g.dyn-2 g.dyn-1).0.entry b.vtable).1.means b.value) c.args.session.now.arrays.plugins.items in
     let w = wire_in c.args.ids.now c.args.node.now in
     let entry = c.in-Some-reader.entry in
     let named = wire-named c.args.ids.now c.args.node.now _ _ c.encoding_id.ensures c.in-Some.ensures in
@@ -94,9 +95,9 @@ build_entry-requires-clause-planned g t c =
 -- What was built is of the type that is asked, and is told with its statistics.
 pub tell-requires : goal.tell-requires
 tell-requires g t c =
-    let x = ext_meaning (λ b. (goal.ExtPlugin-dyn g (b.vtable, b.value)).accepted b.value) c.args.session.now.ext in
-    let s = session_meaning (λ b. (goal.ArrayPlugin-dyn g (b.vtable, b.value)).means b.value) (λ b. (goal.ExtPlugin-dyn g (b.vtable, b.value)).accepted b.value) c.args.session.now in
-    let f = plugins_meaning (λ b. (goal.ArrayPlugin-dyn g (b.vtable, b.value)).means b.value) c.args.session.now.arrays.plugins.items in
+    let x = ext_meaning (λ b. ((dyn-1-ghosts g.dyn-2 g.dyn-1).0.entry b.vtable).1.accepted b.value) c.args.session.now.ext in
+    let s = session_meaning (λ b. ((dyn-2-ghosts g.dyn-2 g.dyn-1).0.entry b.vtable).1.means b.value) (λ b. ((dyn-1-ghosts g.dyn-2 g.dyn-1).0.entry b.vtable).1.accepted b.value) c.args.session.now in
+    let f = plugins_meaning (λ b. ((dyn-2-ghosts g.dyn-2 g.dyn-1).0.entry b.vtable).1.means b.value) c.args.session.now.arrays.plugins.items in
     let w = wire_in c.args.ids.now c.args.node.now in
     let entry = c.in-Some-reader.entry in
     let named = wire-named c.args.ids.now c.args.node.now _ _ c.encoding_id.ensures c.in-Some.ensures in
@@ -113,9 +114,9 @@ tell-requires g t c =
 
 pub returns-in-Ok-build_entry-clause-told : goal.returns-in-Ok-build_entry-clause-told
 returns-in-Ok-build_entry-clause-told g t c =
-    let x = ext_meaning (λ b. (goal.ExtPlugin-dyn g (b.vtable, b.value)).accepted b.value) c.args.session.now.ext in
-    let s = session_meaning (λ b. (goal.ArrayPlugin-dyn g (b.vtable, b.value)).means b.value) (λ b. (goal.ExtPlugin-dyn g (b.vtable, b.value)).accepted b.value) c.args.session.now in
-    let f = plugins_meaning (λ b. (goal.ArrayPlugin-dyn g (b.vtable, b.value)).means b.value) c.args.session.now.arrays.plugins.items in
+    let x = ext_meaning (λ b. ((dyn-1-ghosts g.dyn-2 g.dyn-1).0.entry b.vtable).1.accepted b.value) c.args.session.now.ext in
+    let s = session_meaning (λ b. ((dyn-2-ghosts g.dyn-2 g.dyn-1).0.entry b.vtable).1.means b.value) (λ b. ((dyn-1-ghosts g.dyn-2 g.dyn-1).0.entry b.vtable).1.accepted b.value) c.args.session.now in
+    let f = plugins_meaning (λ b. ((dyn-2-ghosts g.dyn-2 g.dyn-1).0.entry b.vtable).1.means b.value) c.args.session.now.arrays.plugins.items in
     let w = wire_in c.args.ids.now c.args.node.now in
     let entry = c.in-Some-reader.entry in
     let named = wire-named c.args.ids.now c.args.node.now _ _ c.encoding_id.ensures c.in-Some.ensures in
@@ -133,8 +134,8 @@ returns-in-Ok-build_entry-clause-told g t c =
 
 pub returns-in-Ok-build_entry-clause-cause : goal.returns-in-Ok-build_entry-clause-cause
 returns-in-Ok-build_entry-clause-cause g t c =
-    let s = session_meaning (λ b. (goal.ArrayPlugin-dyn g (b.vtable, b.value)).means b.value) (λ b. (goal.ExtPlugin-dyn g (b.vtable, b.value)).accepted b.value) c.args.session.now in
-    let f = plugins_meaning (λ b. (goal.ArrayPlugin-dyn g (b.vtable, b.value)).means b.value) c.args.session.now.arrays.plugins.items in
+    let s = session_meaning (λ b. ((dyn-2-ghosts g.dyn-2 g.dyn-1).0.entry b.vtable).1.means b.value) (λ b. ((dyn-1-ghosts g.dyn-2 g.dyn-1).0.entry b.vtable).1.accepted b.value) c.args.session.now in
+    let f = plugins_meaning (λ b. ((dyn-2-ghosts g.dyn-2 g.dyn-1).0.entry b.vtable).1.means b.value) c.args.session.now.arrays.plugins.items in
     let w = wire_in c.args.ids.now c.args.node.now in
     let entry = c.in-Some-reader.entry in
     let named = wire-named c.args.ids.now c.args.node.now _ _ c.encoding_id.ensures c.in-Some.ensures in
@@ -146,9 +147,9 @@ returns-in-Ok-build_entry-clause-cause g t c =
 
 pub returns-in-Err-build_entry-clause-cause : goal.returns-in-Err-build_entry-clause-cause
 returns-in-Err-build_entry-clause-cause g t c =
-    let x = ext_meaning (λ b. (goal.ExtPlugin-dyn g (b.vtable, b.value)).accepted b.value) c.args.session.now.ext in
-    let s = session_meaning (λ b. (goal.ArrayPlugin-dyn g (b.vtable, b.value)).means b.value) (λ b. (goal.ExtPlugin-dyn g (b.vtable, b.value)).accepted b.value) c.args.session.now in
-    let f = plugins_meaning (λ b. (goal.ArrayPlugin-dyn g (b.vtable, b.value)).means b.value) c.args.session.now.arrays.plugins.items in
+    let x = ext_meaning (λ b. ((dyn-1-ghosts g.dyn-2 g.dyn-1).0.entry b.vtable).1.accepted b.value) c.args.session.now.ext in
+    let s = session_meaning (λ b. ((dyn-2-ghosts g.dyn-2 g.dyn-1).0.entry b.vtable).1.means b.value) (λ b. ((dyn-1-ghosts g.dyn-2 g.dyn-1).0.entry b.vtable).1.accepted b.value) c.args.session.now in
+    let f = plugins_meaning (λ b. ((dyn-2-ghosts g.dyn-2 g.dyn-1).0.entry b.vtable).1.means b.value) c.args.session.now.arrays.plugins.items in
     let w = wire_in c.args.ids.now c.args.node.now in
     let entry = c.in-Some-reader.entry in
     let named = wire-named c.args.ids.now c.args.node.now _ _ c.encoding_id.ensures c.in-Some.ensures in

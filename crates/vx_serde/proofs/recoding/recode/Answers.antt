@@ -59,7 +59,7 @@ pub returns-in-Err-serialize-clause-shipped : goal.returns-in-Err-serialize-clau
 returns-in-Err-serialize-clause-shipped g c = λ ok.
     let x = ext_meaning (λ b. (goal.ExtPlugin-dyn g (b.vtable, b.value)).accepted b.value) c.args.session.now.ext in
     let asked = request c.args.blob c.args.dtype.now c.args.len c.args.read_ids.now c.args.ctx.now (session_meaning (λ b. (goal.ArrayPlugin-dyn g (b.vtable, b.value)).means b.value) (λ b. (goal.ExtPlugin-dyn g (b.vtable, b.value)).accepted b.value) c.args.session.now) c.args.options.now in
-    let spelled = spells asked (wire_in c.args.read_ids.now c.in-Ok.serialized) c.in-Ok-decode.array (opened c.args.blob.bytes c.args.read_ids.now c.in-Ok.serialized c.in-Ok.ensures.opened) c.in-Ok-decode.ensures.told in
+    let spelled = spells asked (wire_in c.args.read_ids.now c.in-Ok.serialized) c.in-Ok-decode.array (opened (limits_to c.args.options.now.deep) c.args.blob.bytes c.args.read_ids.now c.in-Ok.serialized c.in-Ok.ensures.opened) c.in-Ok-decode.ensures.told in
     (tt, λ can. memory_at_array asked ok (registry_lawful (plugins_meaning (λ b. (goal.ArrayPlugin-dyn g (b.vtable, b.value)).means b.value) c.args.session.now.arrays.plugins.items) c.args.session.now.arrays.tables x) c.in-Ok-decode.ensures.paired c.in-Err-serialize.e c.in-Ok-decode.array spelled can c.in-Err-serialize.ensures.cause)
 
 pub returns-in-Err-serialize-clause-left : goal.returns-in-Err-serialize-clause-left

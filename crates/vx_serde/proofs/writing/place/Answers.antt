@@ -9,13 +9,13 @@ use Rattle.vx_serde.proofs.WholeBlob.{laid_out}
 use Rattle.vx_serde.proofs.writing.place.Goals as goal
 
 pub returns-in_err-gather-clause-refused : goal.returns-in_err-gather-clause-refused
-returns-in_err-gather-clause-refused c = λ s.
+returns-in_err-gather-clause-refused c = λ s q.
     let p = err_from_is_err_and c.from_residual.result c.from_residual.ensures.1 in
-    rw (p.1, p.2) (unplaced_nodes s c.args.options.now c.args.array.now c.args.ctx.now c.in_err-gather.field-0.0 (c.in_err-gather.ensures.cause s))
+    rw (p.1, p.2) (unplaced_nodes s c.args.options.now c.args.array.now c.args.ctx.now c.in_err-gather.field-0.0 (c.in_err-gather.ensures.cause s q))
 
 pub returns-clause-encodings : goal.returns-clause-encodings
-returns-clause-encodings c = λ s.
-    first-encodings (wire codec s c.args.array.now) c.gather.new.ctx.ids c.new-found.result.encodings.items c.gather.new.found.encodings.items c.new-found.ensures.encodings (c.in_ok-gather.ensures.encodings s [])
+returns-clause-encodings c = λ s q.
+    first-encodings (wire codec s c.args.array.now) c.gather.new.ctx.ids c.new-found.result.encodings.items c.gather.new.found.encodings.items c.new-found.ensures.encodings (c.in_ok-gather.ensures.encodings s [] q)
 
 pub returns-clause-placed : goal.returns-clause-placed
 returns-clause-placed c = λ s.

@@ -12,20 +12,24 @@ use Rattle.vx_serde.specs.WritingSteps.{layout_of}
 use Rattle.vx_serde.proofs.NumberedBy.{as-many, layout-numbered, message-of_kind}
 use Rattle.vx_serde.proofs.Serializations.{serialized}
 use Rattle.vx_serde.proofs.WholeBlob.{message-is, unplaced, unwritten, late, writable-is, buffers-are}
-use Rattle.vx_serde.proofs.WiredNodes.{no_session, wired-nodes}
+use Rattle.vx_flat.specs.IsOf.{IsOf}
+use Rattle.vx_serde.specs.ArraySchema.{array_schema}
+use Rattle.vx_serde.proofs.WiredAlike.{message_alike}
+use Rattle.vx_serde.proofs.WiredNodes.{no_session, some_session, writes_so, wired-nodes}
 use Rattle.vx_serde.proofs.WiredStats.{wire-tabled}
 use Rattle.vx_serde.proofs.WrittenAgain.{grown-ids, wire-whole}
 use Rattle.vx_serde.proofs.writing.write_taken.Goals as goal
 
 pub returns-in_err-found-clause-cause : goal.returns-in_err-found-clause-cause
-returns-in_err-found-clause-cause c = λ s.
+returns-in_err-found-clause-cause c = λ s q.
     let p = err_from_is_err_and c.from_residual.result c.from_residual.ensures.1 in
-    rw (p.1, p.2) (unplaced s c.args.array.now c.args.ctx.now c.args.options.now c.in_err-found.field-0.0 (c.in_err-found.ensures.refused s))
+    rw (p.1, p.2) (unplaced s c.args.array.now c.args.ctx.now c.args.options.now c.in_err-found.field-0.0 (c.in_err-found.ensures.refused s q))
 
 pub write_message-requires-clause-known : goal.write_message-requires-clause-known
 write_message-requires-clause-known c =
-    let w = wire codec no_session c.args.array.now in
-    as-many c.place.new.ctx.ids w c.deref.result.now (c.deref.ensures.value ∙ c.in_ok-found.ensures.encodings no_session) ∙ wired-nodes no_session c.args.array.now
+    let r = some_session c.args.two in
+    let w = wire codec r c.args.array.now in
+    as-many c.place.new.ctx.ids w c.deref.result.now (c.deref.ensures.value ∙ c.in_ok-found.ensures.encodings r (writes_so c.args.two)) ∙ wired-nodes r c.args.array.now
 
 pub write_message-requires-clause-few : goal.write_message-requires-clause-few
 write_message-requires-clause-few c = λ s. (c.in_ok-found.ensures.placed s).placeable.tree.few
@@ -36,15 +40,20 @@ write_message-requires-clause-whole c =
 
 pub write_message-requires-clause-of_kind : goal.write_message-requires-clause-of_kind
 write_message-requires-clause-of_kind c = λ s.
-    let w = wire codec s c.args.array.now in
-    let placed = c.in_ok-found.ensures.placed s in
-    message-of_kind c.place.new.ctx.ids w c.deref.result.now c.deref-2.result.now (c.deref.ensures.value ∙ c.in_ok-found.ensures.encodings s)
-    c.args.ctx.now c.place.new.ctx (descriptors_from c.args.options.now c.args.options.now.offset (buffers_in w)) refl (c.in_ok-found.ensures.grown s) (wire-whole codec s c.args.array.now)
-    (wire-tabled s c.args.array.now)
+    let r = some_session c.args.two in
+    let q = writes_so c.args.two in
+    let w = wire codec r c.args.array.now in
+    let placed = c.in_ok-found.ensures.placed r in
+    let of =
+    message-of_kind c.place.new.ctx.ids w c.deref.result.now c.deref-2.result.now (c.deref.ensures.value ∙ c.in_ok-found.ensures.encodings r q)
+    c.args.ctx.now c.place.new.ctx (descriptors_from c.args.options.now c.args.options.now.offset (buffers_in w)) refl (c.in_ok-found.ensures.grown r q) (wire-whole codec r c.args.array.now)
+    (wire-tabled r c.args.array.now)
     placed.placeable.tree.few (c.deref-2.ensures.value ∙ placed.descriptors_are)
+    in
+    subst (λ v. IsOf array_schema v) (message_alike r s c.deref.result.now c.args.array.now c.deref-2.result.now) of
 
 pub returns-in_err-message-clause-cause : goal.returns-in_err-message-clause-cause
-returns-in_err-message-clause-cause c = λ s.
+returns-in_err-message-clause-cause c = λ s q.
     let p = err_from_is_err_and c.from_residual-in_err-message.result c.from_residual-in_err-message.ensures.1 in
     let a = c.args.array.now in
     let w = wire codec s a in
@@ -53,13 +62,13 @@ returns-in_err-message-clause-cause c = λ s.
     let ds = c.deref-2.result.now in
     let placed = c.in_ok-found.ensures.placed s in
     let described = c.deref-2.ensures.value ∙ placed.descriptors_are in
-    let ids = grown-ids s a c.args.ctx.now c.place.new.ctx (c.in_ok-found.ensures.grown s) in
-    let numbered = layout-numbered c.place.new.ctx.ids w es ds (c.deref.ensures.value ∙ c.in_ok-found.ensures.encodings s) in
+    let ids = grown-ids s a c.args.ctx.now c.place.new.ctx (c.in_ok-found.ensures.grown s q) in
+    let numbered = layout-numbered c.place.new.ctx.ids w es ds (c.deref.ensures.value ∙ c.in_ok-found.ensures.encodings s q) in
     rw (p.1, p.2)
     (unwritten s a c.args.ctx.now o ds (layout_by es w ds) c.in_err-message.field-0.0 described (numbered ∙ ap (λ z. layout_of z w ds) ids) (c.in_err-message.ensures.refused s))
 
 pub returns-then-not-has_end-clause-cause : goal.returns-then-not-has_end-clause-cause
-returns-then-not-has_end-clause-cause c = λ s.
+returns-then-not-has_end-clause-cause c = λ s q.
     let a = c.args.array.now in
     let w = wire codec s a in
     let o = c.args.options.now in
@@ -67,15 +76,15 @@ returns-then-not-has_end-clause-cause c = λ s.
     let ds = c.deref-2.result.now in
     let placed = c.in_ok-found.ensures.placed s in
     let described = c.deref-2.ensures.value ∙ placed.descriptors_are in
-    let ids = grown-ids s a c.args.ctx.now c.place.new.ctx (c.in_ok-found.ensures.grown s) in
-    let numbered = layout-numbered c.place.new.ctx.ids w es ds (c.deref.ensures.value ∙ c.in_ok-found.ensures.encodings s) in
+    let ids = grown-ids s a c.args.ctx.now c.place.new.ctx (c.in_ok-found.ensures.grown s q) in
+    let numbered = layout-numbered c.place.new.ctx.ids w es ds (c.deref.ensures.value ∙ c.in_ok-found.ensures.encodings s q) in
     let e = c.pad_at-padding.ensures.value in
     let m = c.in_ok-message.ensures.written s ∙ numbered ∙ ap (λ z. layout_of z w ds) ids ∙ ap (λ z. layout_of (ids_after s a c.args.ctx.now) w z) c.deref-2.ensures.value in
     late s a c.args.ctx.now o c.in_ok-found.placed.end c.in_ok-found.placed.descriptors.items c.in_ok-message.message.items placed m
     (omega (arith, c.has_end.ensures.late c.if-not-has_end.true, e, c.len.ensures))
 
 pub returns-clause-made : goal.returns-clause-made
-returns-clause-made c = λ s.
+returns-clause-made c = λ s q.
     let a = c.args.array.now in
     let w = wire codec s a in
     let o = c.args.options.now in
@@ -83,11 +92,11 @@ returns-clause-made c = λ s.
     let ds = c.deref-2.result.now in
     let placed = c.in_ok-found.ensures.placed s in
     let described = c.deref-2.ensures.value ∙ placed.descriptors_are in
-    let ids = grown-ids s a c.args.ctx.now c.place.new.ctx (c.in_ok-found.ensures.grown s) in
-    let numbered = layout-numbered c.place.new.ctx.ids w es ds (c.deref.ensures.value ∙ c.in_ok-found.ensures.encodings s) in
+    let ids = grown-ids s a c.args.ctx.now c.place.new.ctx (c.in_ok-found.ensures.grown s q) in
+    let numbered = layout-numbered c.place.new.ctx.ids w es ds (c.deref.ensures.value ∙ c.in_ok-found.ensures.encodings s q) in
     let now = c.place.new.ctx.ids in
     let m = c.in_ok-message.ensures.written s ∙ numbered ∙ message-is now o w ds described in
-    serialized s a o c.args.ctx.now c.place.new.ctx _ (c.in_ok-found.ensures.grown s) c.in_ok-message.ensures.storable c.requires.messages
+    serialized s a o c.args.ctx.now c.place.new.ctx _ (c.in_ok-found.ensures.grown s q) c.in_ok-message.ensures.storable c.requires.messages
     (writable-is now o w c.in_ok-found.placed.end c.in_ok-found.placed.descriptors.items c.in_ok-message.message.items placed m c.in_ok-message.ensures.short c.in_ok-message.ensures.light
     (omega (arith, c.has_end.ensures.within c.if-not-has_end.false, c.pad_at-padding.ensures.value, c.len.ensures)))
     (c.in_ok-blob_buffers.ensures

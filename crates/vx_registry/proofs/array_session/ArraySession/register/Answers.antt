@@ -26,3 +26,9 @@ returns-in-Ok-add-clause-readers g c = λ x id. rw c.in-Boxed.is (c.in-Ok-add.en
 
 pub returns-in-Ok-add-clause-writers : goal.returns-in-Ok-add-clause-writers
 returns-in-Ok-add-clause-writers g c = λ x id. rw c.in-Boxed.is (c.in-Ok-add.ensures.writers x id)
+
+pub returns-in-Ok-set_revised-clause-readers : goal.returns-in-Ok-set_revised-clause-readers
+returns-in-Ok-set_revised-clause-readers g c = λ x id. rw c.in-Revised.is (c.in-Ok-set_revised.ensures.readers x id)
+
+pub returns-in-Ok-set_revised-clause-writers : goal.returns-in-Ok-set_revised-clause-writers
+returns-in-Ok-set_revised-clause-writers g c = λ x id. rw c.in-Revised.is (c.in-Ok-set_revised.ensures.writers x id)

@@ -17,3 +17,6 @@ returns-clause-array g c = c.in_ok-array.ensures.tree (ext_meaning (λ b. (goal.
 
 pub returns-clause-taken : goal.returns-clause-taken
 returns-clause-taken g c = c.in_ok-array.ensures.written (ext_meaning (λ b. (goal.ExtPlugin-dyn g (b.vtable, b.value)).accepted b.value) c.args.session.now.ext) (sym c.allows_unknown-unknown.ensures)
+
+pub returns-clause-two : goal.returns-clause-two
+returns-clause-two g c = c.in-Ok.ensures.two (ext_meaning (λ b. (goal.ExtPlugin-dyn g (b.vtable, b.value)).accepted b.value) c.args.session.now.ext)
