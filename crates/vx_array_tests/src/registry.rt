@@ -2,7 +2,7 @@
 
 use std::alloc::Global;
 use vx_encodings::Encoding;
-use vx_registry::{ArrayContext, ArraySession, ReadContext, RegistryError, VortexSession};
+use vx_registry::{ArrayContext, ArraySession, Entry, ReadContext, RegistryError, VortexSession};
 use vx_type_wire::ExtSession;
 use vx_types::{Id, Ids, TypeError};
 
@@ -103,7 +103,8 @@ fn is_entry(
     encoding: Option<Encoding>,
 ) -> Result<bool, TypeError> {
     let id = Id::new(alloc, text)?;
-    Ok(arrays.reader(&id) == encoding && arrays.writer(&id) == encoding)
+    let entry = encoding.map(Entry::Shipped);
+    Ok(arrays.reader(&id) == entry && arrays.writer(&id) == entry)
 }
 
 // The shipped session.

@@ -7,7 +7,7 @@ use vx_arrays::{Array, ArrayError, Arrays};
 use vx_buffer::BufferHandles;
 use vx_encodings::Encoding;
 use vx_registry::{
-    ArrayContext, ArrayDeserialization, ArraySerialization, ArraySession, PluginEntry,
+    ArrayContext, ArrayDeserialization, ArraySerialization, ArraySession, Entry, PluginEntry,
     RegistryError, VortexSession,
 };
 use vx_type_wire::ExtSession;
@@ -108,8 +108,9 @@ fn register_numbers(session: &mut ArraySession) -> Result<(), AllocFailed<Plugin
 
 // Whether a session reads and writes an identifier by this encoding, or by none.
 fn is_entry(alloc: Global, session: &ArraySession, text: &str, encoding: Option<Encoding>) -> bool {
+    let entry = encoding.map(Entry::Shipped);
     match Id::new(alloc, text) {
-        Ok(id) => session.reader(&id) == encoding && session.writer(&id) == encoding,
+        Ok(id) => session.reader(&id) == entry && session.writer(&id) == entry,
         Err(_) => false,
     }
 }

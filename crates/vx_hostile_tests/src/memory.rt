@@ -7,7 +7,7 @@ use crate::samples::{begun, blob_of_one_there, ids_of, one_there, session_of};
 use std::alloc::Global;
 use vx_arrays::Array;
 use vx_encodings::Encoding;
-use vx_registry::{ArrayContext, ArraySession, PluginEntry, RegistryError, VortexSession};
+use vx_registry::{ArrayContext, ArraySession, Entry, PluginEntry, RegistryError, VortexSession};
 use vx_serde::{ArrayExt, SerializeOptions, WireError};
 use vx_types::{Id, TypeError};
 use vxcat_core::{MemSink, MemStore, StoreError};
@@ -53,22 +53,22 @@ fn each_command_ends_well_or_wants_memory(rt: HostRuntime) {
     }
 }
 
-// Whether a session reads and writes an identifier by this encoding, or by none.
-fn is_entry(session: &ArraySession, id: &Id, encoding: Option<Encoding>) -> bool {
-    session.reader(id) == encoding && session.writer(id) == encoding
+// Whether a session reads and writes an identifier by this entry, or by none.
+fn is_entry(session: &ArraySession, id: &Id, entry: Option<Entry>) -> bool {
+    session.reader(id) == entry && session.writer(id) == entry
 }
 
 // Whether flags are registered beside numbers, or handed back, and numbers are found as before.
 fn is_whole(session: &mut ArraySession, flags: &Id, numbers: &Id) -> bool {
     let whole = match session.register(PluginEntry::Shipped(Encoding::Bool)) {
-        Ok(()) => is_entry(session, flags, Some(Encoding::Bool)),
+        Ok(()) => is_entry(session, flags, Some(Entry::Shipped(Encoding::Bool))),
         Err(refused) => {
             matches!(refused.value, PluginEntry::Shipped(Encoding::Bool))
                 && is_entry(session, flags, None)
                 && session.registry().len() == 1
         }
     };
-    whole && is_entry(session, numbers, Some(Encoding::Primitive))
+    whole && is_entry(session, numbers, Some(Entry::Shipped(Encoding::Primitive)))
 }
 
 // The same over a session of numbers alone.

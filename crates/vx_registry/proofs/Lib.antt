@@ -1,6 +1,8 @@
 mod Interning
+mod Putting
 mod Pairing
+mod Meanings
 mod Shipped
-mod Writers
+mod Roots
 pub mod LawsSessions
 pub mod LawsContexts

@@ -1,25 +1,29 @@
 -- The registry of the shipped encodings.
-use Rattle.std.proofs.Common.{ℕ, ◌≡◌, List, [], ◌∷◌, ◌++◌, map, refl, sym, ap, ◌∙◌, take, length, ◌+◌, ◌<◌, ◌≤◌, slice_index_or}
-use Rattle.std.specs.Prelude.{bytes_eq}
+use Rattle.std.proofs.Common.{ℕ, ◌≡◌, List, [], ◌∷◌, ◌++◌, Option, Some, Bool, true, false, cond, map, refl, sym, ap, ◌∙◌, take, length, ◌+◌, ◌<◌, ◌≤◌, slice_index_or}
+use Rattle.std.specs.Prelude.{bytes_eq, option_and_then}
+use Rattle.std.specs.Map.{lookup}
 use Rattle.std.proofs.lemmas.List.{take_all, take_more}
-use Rattle.indexmap.specs.IndexMap.{insert_entry}
+use Rattle.vx_wire_tree.specs.Session.{IsShippedReader}
 use Rattle.vx_encodings.specs.declared.encoding.Encoding.{Encoding}
-use Rattle.vx_registry.specs.Session.{Registry, own_id, registered, shipped_encodings, shipped_registry}
+use Rattle.vx_registry.specs.Session.{Registry, Entries, Plugins, AreWithin, entry_in, own_id, put, registered, shipped_encodings, shipped_registry}
+use Rattle.vx_registry.specs.declared.tables.Entry.{Entry}
+use Rattle.vx_registry.specs.declared.tables.Entry.TheVariants.{Shipped, Boxed}
 
-abbrev pub Entries : Type 0
-Entries = List (List ℕ × Encoding)
+-- encodings under their own identifiers
+abbrev pub own_entries : List Encoding → Entries
+own_entries es = map (λ e. (own_id e, Shipped e)) es
 
 -- entries after encodings are put in one after the other, each under its own identifier
 abbrev pub put_in : Entries → List Encoding → Entries
 put_in m [] = m
-put_in m (e ∷ es) = put_in (insert_entry bytes_eq m (own_id e) e) es
+put_in m (e ∷ es) = put_in (put (Shipped e) (own_id e) m) es
 
-pub put_in-snoc : (m : Entries) (es : List Encoding) (e : Encoding) → put_in m (es ++ e ∷ []) ≡ insert_entry bytes_eq (put_in m es) (own_id e) e
+pub put_in-snoc : (m : Entries) (es : List Encoding) (e : Encoding) → put_in m (es ++ e ∷ []) ≡ put (Shipped e) (own_id e) (put_in m es)
 put_in-snoc m [] e = refl
-put_in-snoc m (x ∷ xs) e = put_in-snoc (insert_entry bytes_eq m (own_id x) x) xs e
+put_in-snoc m (x ∷ xs) e = put_in-snoc (put (Shipped x) (own_id x) m) xs e
 
 -- no two of the shipped ones have one identifier
-pub all_in : put_in [] shipped_encodings ≡ map (λ e. (own_id e, e)) shipped_encodings
+pub all_in : put_in [] shipped_encodings ≡ own_entries shipped_encodings
 all_in = refl
 
 -- the tables of a session into which these encodings were put
@@ -38,3 +42,29 @@ next_tables es i d r here e =
 -- and all of them
 pub all_tables : (n : ℕ) → length shipped_encodings ≤ n → tables_of (take n shipped_encodings) ≡ shipped_registry
 all_tables n h = ap (λ es. tables_of es) (take_all n shipped_encodings h) ∙ ap (λ m. record { readers = m; writers = m }) all_in
+
+-- ---- no plugin stands among encodings
+
+shipped_of : (b : Bool) (e : Encoding) (o : Option Entry) (n : ℕ) → cond b (Some (Shipped e)) o ≡ Some (Boxed n) → o ≡ Some (Boxed n)
+shipped_of true e o n p = absurd (cc)
+shipped_of false e o n p = p
+
+never_boxed : (test : List ℕ → Bool) (es : List Encoding) (n : ℕ) → lookup test (own_entries es) ≡ Some (Boxed n) → ⊥
+never_boxed test [] n p = cc
+never_boxed test (e ∷ es) n p = never_boxed test es n (shipped_of (test (own_id e)) e (lookup test (own_entries es)) n p)
+
+-- So no number stands in the tables of the shipped encodings.
+pub shipped_within : (r : Registry) (k : ℕ) → r ≡ shipped_registry → AreWithin r k
+shipped_within r k e = record {
+  readers = λ id n p. absurd (never_boxed (bytes_eq id) shipped_encodings n (ap (λ z. lookup (bytes_eq id) z.readers) (sym e) ∙ p));
+  writers = λ id n p. absurd (never_boxed (bytes_eq id) shipped_encodings n (ap (λ z. lookup (bytes_eq id) z.writers) (sym e) ∙ p));
+}
+
+shipped_by : (f : Plugins) (b : Bool) (e : Encoding) (o : Option Entry) → IsShippedReader (option_and_then (entry_in f) o) → IsShippedReader (option_and_then (entry_in f) (cond b (Some (Shipped e)) o))
+shipped_by f true e o h = tt
+shipped_by f false e o h = h
+
+-- What is found there is shipped.
+pub found_is_shipped : (f : Plugins) (test : List ℕ → Bool) (es : List Encoding) → IsShippedReader (option_and_then (entry_in f) (lookup test (own_entries es)))
+found_is_shipped f test [] = tt
+found_is_shipped f test (e ∷ es) = shipped_by f (test (own_id e)) e (lookup test (own_entries es)) (found_is_shipped f test es)

@@ -1,3 +1,4 @@
+pub mod Plugin
 pub mod Session
 pub mod Meaning
 pub mod Serialization

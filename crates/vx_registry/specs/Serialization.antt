@@ -1,23 +1,30 @@
 -- The parts of an array's root, as they are written.
-use Rattle.std.specs.Prelude.{ℕ, ◌≡◌, List}
-use Rattle.vx_trees.specs.Rose.{label, below}
+use Rattle.std.specs.Prelude.{ℕ, ◌≡◌, List, Option, Some, None, Bool}
+use Rattle.vx_trees.specs.Rose.{node, label, below}
 use Rattle.vx_array_tree.specs.Sound.{metadata_in}
-use Rattle.vx_array_tree.specs.Table.{buffers_of, own_id}
+use Rattle.vx_array_tree.specs.Table.{buffers_of}
 use Rattle.vx_array_tree.specs.Tree.{Tree}
 use Rattle.vx_wire_tree.specs.Fields.{told}
 use Rattle.vx_wire_tree.specs.Limits.{HasMessage}
+use Rattle.vx_wire_tree.specs.Session.{SessionMeaning}
+use Rattle.vx_wire_tree.specs.Taken.{Step, written, unwritten, unregistered, unserializable, undeclared, unwilling, given_head}
+use Rattle.vx_wire_tree.specs.Written.{head_id, writes_two}
 use Rattle.vx_encodings.specs.Messages.{message_bytes}
+use Rattle.vx_registry.specs.Plugin.{parts_in}
 use Rattle.vx_registry.specs.declared.error.RegistryError.{RegistryError}
-use Rattle.vx_registry.specs.declared.error.RegistryError.TheVariants.{OutOfMemory, NotRegistered, WireLimit}
+use Rattle.vx_registry.specs.declared.error.RegistryError.TheVariants.{OutOfMemory, NotRegistered, UndeclaredId, PluginRefused, WireLimit}
 use Rattle.vx_registry.specs.declared.serialization.ArraySerialization.{ArraySerialization}
+use Rattle.vx_registry.specs.declared.serializing.WrittenRoot.{WrittenRoot}
+use Rattle.vx_registry.specs.declared.serializing.WrittenRoot.TheVariants.{Own, Given, Nothing}
 
--- The identifier of an array's root: its encoding's, under which its writer stands, or a foreign node's own.
-abbrev pub array_id : Tree → List ℕ
-array_id t = own_id (label t).body
+-- The identifier of an array's root, where primitives are written under two or not: its encoding's, the second one of
+-- primitives, or a foreign node's own.
+abbrev pub array_id : Bool → Tree → List ℕ
+array_id two t = head_id two (label t)
 
 -- They are an array's: its root's identifier, the bytes of its metadata, its buffers, and the arrays below it.
-pub record HasPartsOf (t : Tree) (s : ArraySerialization) : Type 0 where
-  pub id_is : s.serialized_id ≡ array_id t
+pub record HasPartsOf (two : Bool) (t : Tree) (s : ArraySerialization) : Type 0 where
+  pub id_is : s.serialized_id ≡ array_id two t
   pub metadata_is : s.metadata ≡ message_bytes (told (metadata_in (label t) (below t)))
   pub buffers_are : s.buffers ≡ buffers_of (label t).body
   pub children_are : s.children ≡ below t
@@ -26,4 +33,35 @@ pub record HasPartsOf (t : Tree) (s : ArraySerialization) : Type 0 where
 abbrev pub IsWithoutParts : RegistryError → Tree → Type 0
 IsWithoutParts OutOfMemory t = Unit {0}
 IsWithoutParts NotRegistered t = ⊥
+IsWithoutParts UndeclaredId t = ⊥
+IsWithoutParts PluginRefused t = ⊥
 IsWithoutParts WireLimit t = HasMessage (label t) (below t) → ⊥
+
+-- ---- by what writes a root
+
+-- A root is serialized as the parts of what is written of it, whose metadata fits its message; or its plugin has no form for
+-- it.
+abbrev pub IsSerializedAs : SessionMeaning → Step → Option ArraySerialization → Type 0
+IsSerializedAs s (written h ts) (Some p) = HasPartsOf (writes_two s) (node h ts) p × HasMessage h ts
+IsSerializedAs s (unwritten unserializable) None = Unit {0}
+IsSerializedAs s _ _ = ⊥
+
+-- A root is written as it is, as the parts that its plugin gives, or not, as its plugin has no form for it.
+abbrev pub IsRootOf : Tree → Step → WrittenRoot → Type 0
+IsRootOf t x Own = x ≡ written (label t) (below t)
+IsRootOf t x (Given p) = x ≡ written (given_head (label t) (parts_in p)) p.children
+IsRootOf t x Nothing = x ≡ unwritten unserializable
+
+-- What is written of a root has metadata that does not fit its message.
+abbrev pub HasLargeMetadata : Step → Type 0
+HasLargeMetadata (written h ts) = HasMessage h ts → ⊥
+HasLargeMetadata (unwritten why) = ⊥
+
+-- Why a root is not serialized: for want of memory; nothing writes it; its plugin names an identifier that it does not
+-- declare, or refuses it; or its metadata does not fit its message.
+abbrev pub IsUnserialized : RegistryError → Step → Type 0
+IsUnserialized OutOfMemory x = Unit {0}
+IsUnserialized NotRegistered x = x ≡ unwritten unregistered
+IsUnserialized UndeclaredId x = x ≡ unwritten undeclared
+IsUnserialized PluginRefused x = x ≡ unwritten unwilling
+IsUnserialized WireLimit x = HasLargeMetadata x

@@ -1,50 +1,96 @@
--- The tables of a session: which encoding reads an identifier, and which writes the arrays of one.
-use Rattle.std.specs.Prelude.{ℕ, List, [], ◌∷◌, Option, Some, option_map, map, bytes_eq, if◌then◌else◌}
+-- The tables of a session: what reads an identifier, and what writes the arrays of one.
+use Rattle.std.specs.Prelude.{ℕ, ◌≡◌, ◌<◌, List, [], ◌∷◌, Option, Some, None, option_map, option_and_then, map, bytes_eq, if◌then◌else◌}
+use Rattle.std.specs.List.{list_any}
 use Rattle.std.specs.Map.{lookup}
 use Rattle.vx_types.specs.Known.{ExtMeaning}
+use Rattle.vx_array_tree.specs.Encodings.Primitives as Primitives
 use Rattle.vx_array_tree.specs.Table.{id_of}
-use Rattle.vx_wire_tree.specs.Session.{Reader, shipped, SessionMeaning, IsPaired}
+use Rattle.vx_wire_tree.specs.Plugin.{PluginMeaning}
+use Rattle.vx_wire_tree.specs.Revised.{revised_name}
+use Rattle.vx_wire_tree.specs.Session.{Reader, shipped, revised, plugin, SessionMeaning}
 use Rattle.vx_encodings.specs.Plain.{plain_encoding}
 use Rattle.indexmap.specs.IndexMap.{insert_entry}
-use Rattle.vx_registry.specs.declared.session.PluginEntry.{PluginEntry}
-use Rattle.vx_registry.specs.declared.session.PluginEntry.TheVariants.{Shipped}
+use Rattle.vx_registry.specs.declared.tables.Entry.{Entry}
+use Rattle.vx_registry.specs.declared.tables.Entry.TheVariants.{Shipped, Revised, Boxed}
 use Rattle.vx_encodings.specs.declared.encoding.Encoding.{Encoding}
 use Rattle.vx_encodings.specs.declared.encoding.Encoding.TheVariants.{Null, Bool, Primitive, Decimal, VarBin, VarBinView, Dict, FixedSizeList, Struct, Ext, List as ListOf, ListView, Map, Union, Variant}
 
--- Encodings by the identifiers that they read, and by the identifiers of the arrays that they write.
+-- Entries, under identifiers.
+abbrev pub Entries : Type 0
+Entries = List (List ℕ × Entry)
+
+-- Entries by the identifiers that they read, and by the identifiers of the arrays that they write.
 pub record Registry : Type 0 where
-  pub readers : List (List ℕ × Encoding)
-  pub writers : List (List ℕ × Encoding)
+  pub readers : Entries
+  pub writers : Entries
+
+-- What the plugins of a session mean, by their numbers.
+abbrev pub Plugins : Type 0
+Plugins = ℕ → Option PluginMeaning
+
+-- No plugins.
+abbrev pub no_plugins : Plugins
+no_plugins = λ n. None
 
 -- What an encoding reads or writes nodes as.
 abbrev pub entry : Encoding → Reader
 entry e = shipped (plain_encoding e)
 
+-- What an entry reads or writes nodes as: its encoding, primitives under two identifiers, or the plugin of its number.
+abbrev pub entry_in : Plugins → Entry → Option Reader
+entry_in plugins (Shipped e) = Some (entry e)
+entry_in plugins Revised = Some revised
+entry_in plugins (Boxed n) = option_map (λ p. plugin p) (plugins n)
+
 -- What an identifier finds in a table: its entry is the first that has it.
-abbrev pub found : List (List ℕ × Encoding) → List ℕ → Option Reader
-found table id = option_map entry (lookup (bytes_eq id) table)
+abbrev pub found : Plugins → Entries → List ℕ → Option Reader
+found plugins table id = option_and_then (entry_in plugins) (lookup (bytes_eq id) table)
 
 -- The identifier of an encoding.
 abbrev pub own_id : Encoding → List ℕ
 own_id e = id_of (plain_encoding e)
 
--- The encoding of an entry.
-abbrev pub encoding_in : PluginEntry → Encoding
-encoding_in (Shipped e) = e
-
--- What an identifier finds once an encoding stands under its own identifier: there the encoding, elsewhere what
--- it found before.
-abbrev pub found_with : Encoding → (List ℕ → Option Reader) → List ℕ → Option Reader
-found_with e before id = if bytes_eq (own_id e) id then Some (entry e) else before id
+-- What an identifier finds once a reader stands under others: there the reader, elsewhere what it found before.
+abbrev pub found_with : List (List ℕ) → Reader → (List ℕ → Option Reader) → List ℕ → Option Reader
+found_with ids r before id = if list_any (bytes_eq id) ids then Some r else before id
 
 -- What the tables mean, beside readers of extension types.
-abbrev pub tables_meaning : Registry → ExtMeaning → SessionMeaning
-tables_meaning r x = record { reader = found r.readers; writer = found r.writers; ext = x }
+abbrev pub tables_meaning : Plugins → Registry → ExtMeaning → SessionMeaning
+tables_meaning plugins r x = record { reader = found plugins r.readers; writer = found plugins r.writers; ext = x }
 
--- The tables fit one another: what reads is also written, under its own identifier, and what is written is read
--- by the encoding that wrote it. Readers of extension types have no part in that.
-abbrev pub ArePaired : Registry → Type 0
-ArePaired r = (x : ExtMeaning) → IsPaired (tables_meaning r x)
+-- An identifier is read by this encoding, or by a plugin.
+abbrev pub IsReadAgain : Option Entry → Encoding → Type 0
+IsReadAgain None e = ⊥
+IsReadAgain (Some (Shipped f)) e = f ≡ e
+IsReadAgain (Some Revised) e = ⊥
+IsReadAgain (Some (Boxed n)) e = Unit {0}
+
+-- An identifier is read by primitives under two identifiers, or by a plugin.
+abbrev pub IsRevisedAgain : Option Entry → Type 0
+IsRevisedAgain None = ⊥
+IsRevisedAgain (Some (Shipped f)) = ⊥
+IsRevisedAgain (Some Revised) = Unit {0}
+IsRevisedAgain (Some (Boxed n)) = Unit {0}
+
+-- Both identifiers of primitives, where they have two.
+abbrev pub both_ids : List (List ℕ)
+both_ids = Primitives.id ∷ revised_name ∷ []
+
+-- The tables fit one another: an encoding that reads is also written, one that writes stands under its own identifier, and
+-- what it writes is read by it or by a plugin; so it is with primitives under two identifiers.
+pub record ArePaired (r : Registry) : Type 0 where
+  pub read_is_written : (id : List ℕ) (e : Encoding) → lookup (bytes_eq id) r.readers ≡ Some (Shipped e) → (q : Entry) × (lookup (bytes_eq (own_id e)) r.writers ≡ Some q)
+  pub own_identifier : (id : List ℕ) (e : Encoding) → lookup (bytes_eq id) r.writers ≡ Some (Shipped e) → id ≡ own_id e
+  pub written_is_read : (id : List ℕ) (e : Encoding) → lookup (bytes_eq id) r.writers ≡ Some (Shipped e) → IsReadAgain (lookup (bytes_eq id) r.readers) e
+  pub revised_is_written : (id : List ℕ) → lookup (bytes_eq id) r.readers ≡ Some Revised → (q : Entry) × (lookup (bytes_eq Primitives.id) r.writers ≡ Some q)
+  pub own_revised : (id : List ℕ) → lookup (bytes_eq id) r.writers ≡ Some Revised → id ≡ Primitives.id
+  pub revised_is_read : lookup (bytes_eq Primitives.id) r.writers ≡ Some Revised
+      → IsRevisedAgain (lookup (bytes_eq Primitives.id) r.readers) × IsRevisedAgain (lookup (bytes_eq revised_name) r.readers)
+
+-- Each number in the tables is below k.
+pub record AreWithin (r : Registry) (k : ℕ) : Type 0 where
+  pub readers : (id : List ℕ) (n : ℕ) → lookup (bytes_eq id) r.readers ≡ Some (Boxed n) → n < k
+  pub writers : (id : List ℕ) (n : ℕ) → lookup (bytes_eq id) r.writers ≡ Some (Boxed n) → n < k
 
 -- The shipped encodings.
 abbrev pub shipped_encodings : List Encoding
@@ -52,8 +98,33 @@ shipped_encodings = Null ∷ Bool ∷ Primitive ∷ Decimal ∷ VarBin ∷ VarBi
 
 -- The registry of the shipped encodings, each under its own identifier.
 abbrev pub shipped_registry : Registry
-shipped_registry = record { readers = map (λ e. (own_id e, e)) shipped_encodings; writers = map (λ e. (own_id e, e)) shipped_encodings }
+shipped_registry = record { readers = map (λ e. (own_id e, Shipped e)) shipped_encodings; writers = map (λ e. (own_id e, Shipped e)) shipped_encodings }
 
--- A registry in which an encoding stands under its own identifier, in the place of what stood there or at the end.
+-- What a session of the shipped encodings means, beside readers of extension types.
+abbrev pub shipped_meaning : ExtMeaning → SessionMeaning
+shipped_meaning x = tables_meaning no_plugins shipped_registry x
+
+-- An entry under an identifier, in the place of what stood there or at the end.
+abbrev pub put : Entry → List ℕ → Entries → Entries
+put e id table = insert_entry bytes_eq table id e
+
+-- An entry under each of several identifiers.
+abbrev pub put_all : Entry → List (List ℕ) → Entries → Entries
+put_all e [] table = table
+put_all e (id ∷ ids) table = put_all e ids (put e id table)
+
+-- A registry in which an encoding stands under its own identifier.
 abbrev pub registered : Encoding → Registry → Registry
-registered e r = record { readers = insert_entry bytes_eq r.readers (own_id e) e; writers = insert_entry bytes_eq r.writers (own_id e) e }
+registered e r = record { readers = put (Shipped e) (own_id e) r.readers; writers = put (Shipped e) (own_id e) r.writers }
+
+-- A registry in which primitives have two identifiers.
+abbrev pub with_revised : Registry → Registry
+with_revised r = record { readers = put_all Revised both_ids r.readers; writers = put Revised Primitives.id r.writers }
+
+-- What a session of the shipped encodings means in which primitives have two identifiers, beside readers of extension types.
+abbrev pub revised_meaning : ExtMeaning → SessionMeaning
+revised_meaning x = tables_meaning no_plugins (with_revised shipped_registry) x
+
+-- A registry in which the plugin of a number reads these identifiers and writes the arrays of one.
+abbrev pub with_plugin : ℕ → List ℕ → List (List ℕ) → Registry → Registry
+with_plugin n id ids r = record { readers = put_all (Boxed n) ids r.readers; writers = put (Boxed n) id r.writers }

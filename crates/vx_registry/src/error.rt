@@ -10,9 +10,15 @@ pub enum RegistryError {
     /// Memory was wanted and not to be had.
     #[error("out of memory")]
     OutOfMemory,
-    /// Nothing writes the arrays of this encoding.
+    /// Nothing writes the arrays of this encoding, or it is foreign and such nodes are not allowed.
     #[error("nothing writes the arrays of this encoding")]
     NotRegistered,
+    /// The plugin that writes the array names an identifier that it does not declare.
+    #[error("a plugin names an identifier that it does not declare")]
+    UndeclaredId,
+    /// The plugin that writes the array refuses it.
+    #[error("a plugin refuses the array")]
+    PluginRefused,
     /// The metadata does not fit its message.
     #[error("the metadata does not fit its message")]
     WireLimit,

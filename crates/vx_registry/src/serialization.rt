@@ -1,16 +1,19 @@
 //! The parts of an array's root, as they are written and as they are read.
 
-ghost use Rattle.std.specs.Prelude.{◌≡◌, IfOk, IfErr, OnOk, IsOkUnless};
+ghost use Rattle.std.specs.Prelude.{ℕ, ◌≡◌, true, false, if◌then◌else◌, IfOk, IfErr, OnOk, IsOkUnless};
 ghost use Rattle.vx_trees.specs.Rose.{label, below, roses_of};
 ghost use Rattle.vx_types.specs.Seen.{typ};
-ghost use Rattle.vx_array_tree.specs.Table.{buffers_of};
+ghost use Rattle.vx_array_tree.specs.Table.{own_id, buffers_of};
 ghost use Rattle.vx_wire_tree.specs.Limits.{HasMessage};
-ghost use Rattle.vx_registry.specs.Serialization.{HasPartsOf, IsWithoutParts};
+ghost use Rattle.vx_wire_tree.specs.Revised.{revised_id as rows_id};
+ghost use Rattle.vx_wire_tree.specs.Written.{body_id};
+ghost use Rattle.vx_registry.specs.Serialization.{HasPartsOf, IsWithoutParts, array_id};
 
 use crate::error::RegistryError;
 use crate::named::named;
+use crate::tables::revised;
 use std::alloc::Global;
-use vx_arrays::{Array, Arrays};
+use vx_arrays::{Array, Arrays, Body};
 use vx_buffer::BufferHandles;
 use vx_encodings::{EncodingError, metadata};
 use vx_types::{Blob, DType, Id};
@@ -54,11 +57,24 @@ impl ArraySerialization {
     /// bytes are copied. `WireLimit` exactly
     /// where the root's metadata does not fit its message.
     pub fn from_array(alloc: Global, array: &Array) -> Result<ArraySerialization, RegistryError>
-        ensures parts { IfOk result (HasPartsOf array.now) }
+        ensures parts { IfOk result (HasPartsOf false array.now) }
         ensures fits { OnOk result (HasMessage (label array.now) (below array.now)) }
         ensures err { IfErr result (λ e. IsWithoutParts e array.now) }
     {
-        let serialized_id = named(alloc, array.encoding_id())?;
+        ArraySerialization::written_as(alloc, array, false)
+    }
+
+    // The same under the identifier under which the array is written, where primitives have two or not.
+    pub(crate) fn written_as(
+        alloc: Global,
+        array: &Array,
+        two: bool,
+    ) -> Result<ArraySerialization, RegistryError>
+        ensures parts { IfOk result (HasPartsOf two array.now) }
+        ensures fits { OnOk result (HasMessage (label array.now) (below array.now)) }
+        ensures err { IfErr result (λ e. IsWithoutParts e array.now) }
+    {
+        let serialized_id = written_id(alloc, array, two)?;
         let metadata = match metadata(alloc, array) {
             Ok(metadata) => metadata,
             Err(EncodingError::WireLimit) => return Err(RegistryError::WireLimit),
@@ -88,6 +104,27 @@ impl ArraySerialization {
         };
         let children = copies(alloc, self.children.as_slice())?;
         Ok(ArraySerialization::new(serialized_id, metadata, buffers, children))
+    }
+}
+
+/// The identifier under which an array's root is written, where primitives have two or not. The only refusal is want of memory.
+pub fn written_id(alloc: Global, array: &Array, two: bool) -> Result<Id, RegistryError>
+    ensures ok { IfOk result (λ id. id ≡ array_id two array.now) }
+    ensures err { IsOkUnless result RegistryError.OutOfMemory }
+{
+    if two && is_primitive(array) {
+        return revised(alloc, array.len());
+    }
+    named(alloc, array.encoding_id())
+}
+
+// Whether an array's root is of primitives.
+fn is_primitive(array: &Array) -> bool
+    ensures { (n : ℕ) → body_id true (label array.now).body n ≡ (if result then rows_id n else own_id (label array.now).body) }
+{
+    match array.body() {
+        Body::Primitive(_) => true,
+        _ => false,
     }
 }
 

@@ -1,71 +1,61 @@
 //! Sessions: what reads and writes arrays, and what reads extension types.
 
-ghost use Rattle.std.specs.Prelude.{◌≡◌, ℕ, List, [], Some, IfOk, IfErr, OnOk, OnErr, IsOkUnless, IfSome, IsSome, IsTrue, IsFalse, option_map};
-ghost use Rattle.vx_trees.specs.Rose.{label, below};
+ghost use Rattle.std.specs.Prelude.{◌≡◌, ◌∷◌, [], ℕ, List, None, length, bytes_eq, slice_get, option_copied, IfSome, IsSome, IfOk, IfErr, OnOk, OnErr, IsOkUnless};
+ghost use Rattle.std.specs.Map.{lookup};
 ghost use Rattle.vx_types.specs.Known.{ExtMeaning};
 ghost use Rattle.vx_type_wire.specs.Session.{ext_meaning};
-ghost use Rattle.vx_wire_tree.specs.Causes.{LacksWriter, LacksWriterBy};
-ghost use Rattle.vx_wire_tree.specs.Limits.{HasMessage};
-ghost use Rattle.vx_wire_tree.specs.ReadBack.{IsWrittenBy};
-ghost use Rattle.vx_registry.specs.Meaning.{session_meaning};
-ghost use Rattle.vx_registry.specs.Serialization.{HasPartsOf, array_id};
-ghost use Rattle.vx_registry.specs.Session.{encoding_in, entry, found, found_with, registered, shipped_registry, tables_meaning, ArePaired};
+ghost use Rattle.vx_wire_tree.specs.Session.{IsPaired, entry_id, revised as revised_reader, plugin as plugin_reader};
+ghost use Rattle.vx_wire_tree.specs.Taken.{step};
+ghost use Rattle.vx_wire_tree.specs.Written.{writes_two};
+ghost use Rattle.vx_registry.specs.Meaning.{arrays_meaning, plugins_meaning, session_meaning, entry_reader, entry_ids, with_entry};
+ghost use Rattle.vx_registry.specs.Serialization.{IsSerializedAs, IsUnserialized};
+ghost use Rattle.vx_registry.specs.Session.{both_ids, shipped_meaning, revised_meaning, found_with, entry_in, with_revised, with_plugin};
 
+use crate::array_session::ArraySession;
 use crate::error::RegistryError;
 use crate::named::named;
+use crate::plugin::{ArrayPlugin, id_of, ids_of};
 use crate::serialization::ArraySerialization;
+use crate::serializing::serialize_root;
+use crate::tables::{Entry, Tables};
 use indexmap::IndexMap;
 use std::alloc::{AllocFailed, Global};
-use std::marker::Model;
-use vx_arrays::Array;
+use vx_arrays::{Array, PrimitiveArray};
 use vx_encodings::Encoding;
 use vx_type_wire::ExtSession;
 use vx_types::Id;
 
 /// What is registered to read and write arrays.
-#[derive(Debug, Drop)]
+#[derive(Drop)]
 pub enum PluginEntry {
     /// A shipped encoding, which reads and writes under its own identifier.
     Shipped(Encoding),
-}
-
-/// Which encodings read and write arrays, each by its identifier.
-#[derive(Drop)]
-pub struct ArraySession {
-    readers: IndexMap<Id, Encoding>,
-    writers: IndexMap<Id, Encoding>,
-    alloc: Global,
-}
-
-impl Model for ArraySession {
-    ghost use Rattle.vx_registry.specs.Session.{Registry, ArePaired};
-
-    ghost Value = { Registry };
-
-    ghost view = { λ s. record { readers = s.readers.entries; writers = s.writers.entries } };
-
-    ghost invariant = { λ s. ArePaired (record { readers = s.readers.entries; writers = s.writers.entries }) };
+    /// Primitives under two identifiers: `vortex.primitive` up to four rows, and `vortex.primitive.v2`, which is written of more
+    /// and read of any number.
+    Revised,
+    /// A plugin of the caller, which reads the identifiers that it declares and writes the arrays of its encoding.
+    Boxed(Box<dyn ArrayPlugin>),
 }
 
 impl ArraySession {
     /// A session that reads and writes nothing.
     pub fn empty(alloc: Global) -> ArraySession
-        ensures readers { result.readers ≡ [] }
-        ensures writers { result.writers ≡ [] }
+        ensures readers { (x : ExtMeaning) (id : List ℕ) → (arrays_meaning means result x).reader id ≡ None }
+        ensures writers { (x : ExtMeaning) (id : List ℕ) → (arrays_meaning means result x).writer id ≡ None }
     {
         ArraySession {
-            readers: IndexMap::new(alloc),
-            writers: IndexMap::new(alloc),
+            plugins: Vec::new(alloc),
+            tables: Tables::new(alloc),
             alloc,
         }
     }
 
     /// A session of the shipped encodings.
     pub fn default(alloc: Global) -> Result<ArraySession, RegistryError>
-        ensures shipped { IfOk result (λ s. s ≡ shipped_registry) }
+        ensures shipped { IfOk result (λ s. (x : ExtMeaning) → arrays_meaning means s x ≡ shipped_meaning x) }
         ensures err { IsOkUnless result RegistryError.OutOfMemory }
     {
-        let mut session = ArraySession::empty(alloc);
+        let mut tables = Tables::new(alloc);
         for encoding in [
             Encoding::Null,
             Encoding::Bool,
@@ -83,92 +73,157 @@ impl ArraySession {
             Encoding::Union,
             Encoding::Variant,
         ] {
-            session.set(encoding)?;
+            tables.set(encoding)?;
         }
-        Ok(session)
+        Ok(ArraySession {
+            plugins: Vec::new(alloc),
+            tables,
+            alloc,
+        })
     }
 
-    /// Registers an entry in the place of what read its identifiers and of what wrote its encoding's arrays.
-    /// Where there is no memory for it, the session stays as it was, and the entry is handed back.
-    pub fn register(&mut self, entry: PluginEntry) -> Result<(), AllocFailed<PluginEntry>>
-        ensures registered { OnOk result (self.new ≡ registered (encoding_in entry) self.old) }
-        ensures readers { OnOk result ((id : List ℕ) → found self.new.readers id ≡ found_with (encoding_in entry) (found self.old.readers) id) }
-        ensures writers { OnOk result ((id : List ℕ) → found self.new.writers id ≡ found_with (encoding_in entry) (found self.old.writers) id) }
-        ensures unchanged { OnErr result (self.new ≡ self.old) }
-        ensures handed_back { IfErr result (λ refused. refused.value ≡ entry) }
-    {
-        let PluginEntry::Shipped(encoding) = entry;
-        match self.set(encoding) {
-            Ok(()) => Ok(()),
-            Err(_) => Err(AllocFailed {
-                value: PluginEntry::Shipped(encoding),
-            }),
-        }
-    }
-
-    // Sets what reads and writes an encoding's identifier.
-    fn set(&mut self, encoding: Encoding) -> Result<(), RegistryError>
-        ensures registered { OnOk result (self.new ≡ registered encoding self.old) }
-        ensures readers { OnOk result ((id : List ℕ) → found self.new.readers id ≡ found_with encoding (found self.old.readers) id) }
-        ensures writers { OnOk result ((id : List ℕ) → found self.new.writers id ≡ found_with encoding (found self.old.writers) id) }
-        ensures unchanged { OnErr result (self.new ≡ self.old) }
+    /// A session of the shipped encodings in which primitives have two identifiers: `default`, and then `Revised`.
+    pub fn revised(alloc: Global) -> Result<ArraySession, RegistryError>
+        ensures revised { IfOk result (λ s. (x : ExtMeaning) → arrays_meaning means s x ≡ revised_meaning x) }
         ensures err { IsOkUnless result RegistryError.OutOfMemory }
     {
-        let read = named(self.alloc, encoding.id())?;
-        let written = named(self.alloc, encoding.id())?;
-        self.readers.reserve(1)?;
-        self.writers.reserve(1)?;
-        let Ok(_) = self.readers.insert(read, encoding) else {
-            unreachable!();
+        let mut session = match ArraySession::default(alloc) {
+            Ok(session) => session,
+            Err(e) => return Err(e),
         };
-        let Ok(_) = self.writers.insert(written, encoding) else {
-            unreachable!();
+        match session.set_revised() {
+            Ok(()) => Ok(session),
+            Err(e) => {
+                drop(session);
+                Err(e)
+            }
+        }
+    }
+
+    /// Registers an entry in the place of what read its identifiers and of what wrote its encoding's arrays: a shipped
+    /// encoding reads its own identifier, `Revised` both of primitives, a plugin those that it declares. In `registry` it stands
+    /// in the places of what read them, and at the end where nothing did. Where there is no memory for it, the session means
+    /// what it meant, and the entry is handed back.
+    pub fn register(&mut self, entry: PluginEntry) -> Result<(), AllocFailed<PluginEntry>>
+        ensures entries { OnOk result (self.new.tables ≡ with_entry means (length self.old.plugins.items) entry self.old.tables) }
+        ensures readers { OnOk result ((x : ExtMeaning) (id : List ℕ) → (arrays_meaning means self.new x).reader id
+            ≡ found_with (entry_ids means entry) (entry_reader means entry) (arrays_meaning means self.old x).reader id) }
+        ensures writers { OnOk result ((x : ExtMeaning) (id : List ℕ) → (arrays_meaning means self.new x).writer id
+            ≡ found_with (entry_id (entry_reader means entry) ∷ []) (entry_reader means entry) (arrays_meaning means self.old x).writer id) }
+        ensures unchanged { OnErr result ((x : ExtMeaning) → arrays_meaning means self.new x ≡ arrays_meaning means self.old x) }
+        ensures handed_back { IfErr result (λ refused. refused.value ≡ entry) }
+    {
+        match entry {
+            PluginEntry::Shipped(encoding) => match self.tables.set(encoding) {
+                Ok(()) => Ok(()),
+                Err(_) => Err(AllocFailed {
+                    value: PluginEntry::Shipped(encoding),
+                }),
+            },
+            PluginEntry::Revised => match self.set_revised() {
+                Ok(()) => Ok(()),
+                Err(_) => Err(AllocFailed {
+                    value: PluginEntry::Revised,
+                }),
+            },
+            PluginEntry::Boxed(plugin) => match self.add(plugin) {
+                Ok(()) => Ok(()),
+                Err(refused) => Err(AllocFailed {
+                    value: PluginEntry::Boxed(refused.value),
+                }),
+            },
+        }
+    }
+
+    // Registers primitives under two identifiers.
+    fn set_revised(&mut self) -> Result<(), RegistryError>
+        ensures entries { OnOk result (self.new.tables ≡ with_revised self.old.tables) }
+        ensures readers { OnOk result ((x : ExtMeaning) (id : List ℕ) → (arrays_meaning means self.new x).reader id
+            ≡ found_with both_ids revised_reader (arrays_meaning means self.old x).reader id) }
+        ensures writers { OnOk result ((x : ExtMeaning) (id : List ℕ) → (arrays_meaning means self.new x).writer id
+            ≡ found_with (entry_id revised_reader ∷ []) revised_reader (arrays_meaning means self.old x).writer id) }
+        ensures unchanged { OnErr result ((x : ExtMeaning) → arrays_meaning means self.new x ≡ arrays_meaning means self.old x) }
+        ensures err { IsOkUnless result RegistryError.OutOfMemory }
+    {
+        self.tables.set_revised()
+    }
+
+    // Registers a plugin.
+    fn add(&mut self, plugin: Box<dyn ArrayPlugin>) -> Result<(), AllocFailed<Box<dyn ArrayPlugin>>>
+        ensures entries { OnOk result (self.new.tables ≡ with_plugin (length self.old.plugins.items) (means plugin).id (means plugin).declared self.old.tables) }
+        ensures readers { OnOk result ((x : ExtMeaning) (id : List ℕ) → (arrays_meaning means self.new x).reader id
+            ≡ found_with (means plugin).declared (plugin_reader (means plugin)) (arrays_meaning means self.old x).reader id) }
+        ensures writers { OnOk result ((x : ExtMeaning) (id : List ℕ) → (arrays_meaning means self.new x).writer id
+            ≡ found_with ((means plugin).id ∷ []) (plugin_reader (means plugin)) (arrays_meaning means self.old x).writer id) }
+        ensures unchanged { OnErr result ((x : ExtMeaning) → arrays_meaning means self.new x ≡ arrays_meaning means self.old x) }
+        ensures handed_back { IfErr result (λ refused. refused.value ≡ plugin) }
+    {
+        let Ok(ids) = ids_of(self.alloc, &plugin) else {
+            return Err(AllocFailed { value: plugin });
         };
+        let Ok(id) = id_of(&plugin).clone(self.alloc) else {
+            return Err(AllocFailed { value: plugin });
+        };
+        let Ok(()) = self.plugins.reserve(1) else {
+            return Err(AllocFailed { value: plugin });
+        };
+        let Ok(()) = self.tables.set_boxed(self.plugins.len(), &id, &ids) else {
+            return Err(AllocFailed { value: plugin });
+        };
+        self.plugins.push_reserved(plugin);
         Ok(())
     }
 
-    /// The encodings by the identifiers that they read, in the order in which these came.
-    pub fn registry(&self) -> &IndexMap<Id, Encoding>
-        ensures { result.now.entries ≡ self.now.readers }
+    /// The entries by the identifiers that they read, in the order in which these came: encodings, and numbers of plugins.
+    pub fn registry(&self) -> &IndexMap<Id, Entry>
+        ensures { result.now.entries ≡ self.now.tables.readers }
     {
-        &self.readers
+        self.tables.readers()
     }
 
     /// What reads the arrays of this identifier: `None` where it is not registered.
-    pub fn reader(&self, id: &Id) -> Option<Encoding>
-        ensures found { option_map entry result ≡ found self.now.readers id.now }
-        ensures paired { ArePaired self.now }
+    pub fn reader(&self, id: &Id) -> Option<Entry>
+        ensures found { result ≡ lookup (bytes_eq id.now) self.now.tables.readers }
+        ensures within { IfSome result (λ entry. IsSome (entry_in (plugins_meaning means self.now.plugins.items) entry)) }
+        ensures paired { (x : ExtMeaning) → IsPaired (arrays_meaning means self.now x) }
     {
-        self.readers.get(id).copied()
-    }
-
-    /// Whether an array's root is written: something writes the arrays of its encoding, or it is foreign and `unknown`
-    /// ones are allowed. `id` is its identifier.
-    #[tactic(auto, using(crate::proofs::Writers::writers))]
-    pub fn writes(&self, id: &Id, array: &Array, unknown: bool) -> bool
-        requires { id.now ≡ array_id array.now }
-        ensures written { (x : ExtMeaning) → x.unknown ≡ unknown → IsTrue result → IsWrittenBy (tables_meaning self.now x) (label array.now).body }
-        ensures lacking { (x : ExtMeaning) → x.unknown ≡ unknown → IsFalse result → LacksWriterBy (tables_meaning self.now x) (label array.now).body }
-    {
-        if array.is_foreign() {
-            return unknown;
-        }
-        self.writer(id).is_some()
+        self.tables.reader(id)
     }
 
     /// What writes the arrays of this identifier.
-    pub fn writer(&self, id: &Id) -> Option<Encoding>
-        ensures found { option_map entry result ≡ found self.now.writers id.now }
-        ensures paired { ArePaired self.now }
+    pub fn writer(&self, id: &Id) -> Option<Entry>
+        ensures found { result ≡ lookup (bytes_eq id.now) self.now.tables.writers }
     {
-        self.writers.get(id).copied()
+        self.tables.writer(id)
+    }
+
+    /// Whether primitives are written under two identifiers. The only refusal is want of memory.
+    pub fn writes_two(&self, alloc: Global) -> Result<bool, RegistryError>
+        ensures two { IfOk result (λ two. (x : ExtMeaning) → writes_two (arrays_meaning means self.now x) ≡ two) }
+        ensures err { IsOkUnless result RegistryError.OutOfMemory }
+    {
+        let id = match named(alloc, PrimitiveArray::ID) {
+            Ok(id) => id,
+            Err(e) => return Err(e),
+        };
+        match self.tables.writer(&id) {
+            Some(Entry::Revised) => Ok(true),
+            _ => Ok(false),
+        }
+    }
+
+    /// The plugin of this number: `None` exactly where there are not so many.
+    pub fn plugin(&self, number: usize) -> Option<&Box<dyn ArrayPlugin>>
+        ensures { option_copied result ≡ slice_get self.now.plugins.items number }
+    {
+        self.plugins.get(number)
     }
 }
 
 /// What arrays and types are read and written by.
 #[derive(Drop)]
 pub struct VortexSession {
-    /// The encodings of arrays.
+    /// The encodings and plugins of arrays.
     pub arrays: ArraySession,
     /// The readers of extension types.
     pub ext: ExtSession,
@@ -190,30 +245,20 @@ impl VortexSession {
         self.ext.allows_unknown()
     }
 
-    /// An array's root as it is written: its parts, under the identifier that what writes its encoding's arrays
-    /// gives them; a foreign node's own, where unknown ones are allowed. `NotRegistered` exactly where nothing writes it,
-    /// else `WireLimit` exactly where its metadata does not fit its message.
+    /// An array's root as it is written: its parts, under the identifier that what writes its encoding's arrays gives them; a
+    /// foreign node's own, where unknown ones are allowed; and `None` where its plugin has no form for it. `NotRegistered`
+    /// exactly where nothing writes it, `UndeclaredId` where its plugin names an identifier that it does not declare,
+    /// `PluginRefused` where its plugin refuses it, and `WireLimit` where its metadata does not fit its message.
     pub fn array_serialize(
         &self,
         alloc: Global,
         array: &Array,
     ) -> Result<Option<ArraySerialization>, RegistryError>
-        ensures parts { IfOk result (λ s. IfSome s (HasPartsOf array.now)) }
-        ensures given { IfOk result IsSome }
-        ensures registered { let s = session_meaning (λ b. accepted (b.vtable, b.value)) self.now in
-            OnOk result (IsWrittenBy s (label array.now).body) }
-        ensures fits { OnOk result (HasMessage (label array.now) (below array.now)) }
-        ensures cause { let s = session_meaning (λ b. accepted (b.vtable, b.value)) self.now in
-            IfErr result (λ e. e ≡ RegistryError.NotRegistered → LacksWriter s array.now) }
-        ensures limit { IfErr result (λ e. e ≡ RegistryError.WireLimit → HasMessage (label array.now) (below array.now) → ⊥) }
+        ensures parts { let s = session_meaning means (λ b. accepted (b.vtable, b.value)) self.now in
+            IfOk result (IsSerializedAs s (step s array.now)) }
+        ensures cause { let s = session_meaning means (λ b. accepted (b.vtable, b.value)) self.now in
+            IfErr result (λ e. IsUnserialized e (step s array.now)) }
     {
-        let id = named(alloc, array.encoding_id())?;
-        if !self.arrays.writes(&id, array, self.allows_unknown()) {
-            return Err(RegistryError::NotRegistered);
-        }
-        match ArraySerialization::from_array(alloc, array) {
-            Ok(parts) => Ok(Some(parts)),
-            Err(e) => Err(e),
-        }
+        serialize_root(alloc, array, &self.arrays, self.allows_unknown())
     }
 }

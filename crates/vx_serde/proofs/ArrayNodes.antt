@@ -14,20 +14,18 @@ use Rattle.vx_wire_tree.specs.Wire.{ids_in, buffers_in}
 use Rattle.vx_wire_tree.specs.Written.{wire}
 use Rattle.vx_encodings.specs.Messages.{codec}
 use Rattle.vx_serde.specs.declared.error.WireError.{WireError}
-use Rattle.vx_serde.specs.declared.error.WireError.TheVariants.{OutOfMemory, NotPermitted, WireLimit, NotRegistered}
+use Rattle.vx_serde.specs.declared.error.WireError.TheVariants.{OutOfMemory, NotPermitted, WireLimit}
 use Rattle.vx_serde.specs.ArrayNode.{plain_options, array_value, array_pieces, RefusesBlocks}
 use Rattle.vx_serde.specs.ArraySchema.{array_schema, node_fields}
 use Rattle.vx_serde.specs.Blocks.{encodings_in, node_pieces, layout_by, AreWritten}
-use Rattle.vx_serde.specs.Causes.{RefusesArray}
 use Rattle.vx_serde.specs.MessageValue.{node_value, descriptors_bytes}
 use Rattle.vx_serde.specs.Numbered.{numbered}
 use Rattle.vx_serde.specs.Placing.{descriptors_from}
 use Rattle.vx_serde.specs.ReadingSteps.{message_refusal}
-use Rattle.vx_serde.specs.WritingSteps.{RefusesNodes, RefusesGathering, layout_of}
-use Rattle.vx_serde.proofs.Gathered.{unplaced_nodes}
+use Rattle.vx_serde.specs.WritingSteps.{RefusesGathering, layout_of}
 use Rattle.vx_serde.proofs.MessageBlocks.{too-many}
 use Rattle.vx_serde.proofs.NumberedBy.{as-many, root-numbered, layout-numbered, message-of_kind}
-use Rattle.vx_serde.proofs.WholeBlob.{unplaced, unwritten}
+use Rattle.vx_serde.proofs.WholeBlob.{unwritten}
 use Rattle.vx_serde.proofs.WiredStats.{wire-tabled, wire-told}
 use Rattle.vx_serde.proofs.WrittenAgain.{grown-ids, wire-whole}
 
@@ -39,18 +37,9 @@ module _ (s : SessionMeaning) (t : Tree) (c : Context) where
       let w = wire codec s t in
       ap (λ root. table_pieces array_schema node_fields (node_value root)) (root-numbered d.ids w es e ∙ ap (λ ids. numbered ids 0 w) (grown-ids s t c d g))
 
-  -- An array whose nodes cannot be written.
-  pub unjudged : (e : WireError) → RefusesNodes s t 62 e → RefusesArray s t c plain_options e
-  unjudged OutOfMemory h = tt
-  unjudged WireLimit h = unplaced s t c plain_options WireLimit (unplaced_nodes s plain_options t c WireLimit h)
-  unjudged NotRegistered h = h
-  unjudged _ h = absurd h
-
-  -- An array whose nodes are not gathered.
-  pub ungathered : (b : Built) (e : WireError) → RefusesGathering s t 62 c e → RefusesBlocks s t c b e
+  -- A tree whose nodes are not gathered.
+  pub ungathered : (b : Built) (e : WireError) → RefusesGathering s t c e → RefusesBlocks s t c b e
   ungathered b OutOfMemory h = tt
-  ungathered b WireLimit h = inl (unplaced s t c plain_options WireLimit (unplaced_nodes s plain_options t c WireLimit h))
-  ungathered b NotRegistered h = h
   ungathered b NotPermitted h = h
   ungathered b _ h = absurd h
 

@@ -14,6 +14,7 @@ pub mod CountableMetadata
 pub mod CarriedOnce
 pub mod GrownPlaced
 pub mod WiredNodes
+pub mod WiredAlike
 pub mod Chains
 pub mod NodePieces
 pub mod NodeWays
@@ -37,3 +38,6 @@ pub mod StoredMessages
 pub mod DecodedNodes
 pub mod KeptNodes
 pub mod ArrayNodes
+mod Taking
+mod TakenBelow
+pub mod EntrySteps

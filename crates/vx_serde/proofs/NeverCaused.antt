@@ -10,22 +10,25 @@ use Rattle.vx_flat.proofs.LawsOfMessages.{shown-one}
 use Rattle.vx_wire_tree.specs.Causes as trees
 use Rattle.vx_wire_tree.specs.Codec.{IsLawful}
 use Rattle.vx_wire_tree.specs.Context.{Context, grown}
-use Rattle.vx_wire_tree.specs.Session.{SessionMeaning, IsShipped}
+use Rattle.vx_wire_tree.specs.ReadBack.{IsWritten}
+use Rattle.vx_wire_tree.specs.Session.{SessionMeaning, IsShipped, IsPaired}
 use Rattle.vx_wire_tree.specs.Tells.{Tells}
 use Rattle.vx_wire_tree.specs.Wire.{Wire}
-use Rattle.vx_wire_tree.proofs.Laws.{never_refused, one_tree}
+use Rattle.vx_wire_tree.proofs.Laws.{never_refused, matched_written, one_tree}
 use Rattle.vx_encodings.specs.Messages.{codec}
 use Rattle.vx_serde.specs.declared.error.WireError.{WireError}
-use Rattle.vx_serde.specs.declared.error.WireError.TheVariants.{OutOfMemory, TooShort, BadTable, TableLimit, BadAlignment, Compressed, OutOfBounds, UnknownIndex, UnknownEncoding, BadMetadata, BadShape, BadContent, ForeignControl, BadStats, NotPermitted, WireLimit, NotRegistered}
+use Rattle.vx_serde.specs.declared.error.WireError.TheVariants.{OutOfMemory, TooShort, BadTable, TableLimit, BadAlignment, Compressed, OutOfBounds, UnknownIndex, UnknownEncoding, BadMetadata, BadShape, BadContent, ForeignControl, BadStats, NotPermitted, WireLimit, PluginRefused}
 use Rattle.vx_serde.specs.ArraySchema.{array_schema}
 use Rattle.vx_serde.specs.Message.{Descriptor, message_of}
-use Rattle.vx_serde.specs.Blob.{IsBlob, AreClean}
-use Rattle.vx_serde.specs.Opening.{IsTooShort, RefusesDescriptors, HasRefusedDescriptors, ShowsNoRoot}
-use Rattle.vx_serde.specs.Causes.{Refuses, RefusesWire, RefusesCarried, SpellsOne}
+use Rattle.vx_serde.specs.Blob.{Carries, IsBlob, AreClean}
+use Rattle.vx_serde.specs.Limits.{message_limits}
+use Rattle.vx_serde.specs.Opening.{IsTooShort, RefusesOpening, RefusesDescriptors, HasRefusedDescriptors, ShowsNoRoot}
+use Rattle.vx_serde.specs.Causes.{RefusesWriting, RefusesArray, RefusesWire, RefusesCarried}
 use Rattle.vx_serde.specs.Spells.{KeepsReaderLimits, KeepsWriterLimits}
 use Rattle.vx_serde.specs.Request.{Request, IsSpelled, CanRecode}
 use Rattle.vx_serde.proofs.OneArray.{spelled_once}
 use Rattle.vx_serde.proofs.CarriedOnce.{one_blob, carried_once, backs}
+use Rattle.vx_serde.proofs.Taking.{refused_own}
 
 -- No node of a wire tree that tells an array is refused.
 pub never_caused_in : (s : SessionMeaning) → IsShipped s → IsLawful codec s → (x : WireError) (w : Wire) (d : Typ) (n : ℕ) (t : Tree) → Tells codec s w d n t → RefusesWire s x w d n → x ≡ OutOfMemory
@@ -38,6 +41,7 @@ never_caused_in s ok law BadShape w d n t told c = absurd (never_refused codec s
 never_caused_in s ok law BadContent w d n t told c = absurd (never_refused codec s ok law trees.bad_content w d n t told c)
 never_caused_in s ok law ForeignControl w d n t told c = absurd (never_refused codec s ok law trees.foreign_control w d n t told c)
 never_caused_in s ok law BadStats w d n t told c = absurd (never_refused codec s ok law trees.bad_stats w d n t told c)
+never_caused_in s ok law PluginRefused w d n t told c = absurd (never_refused codec s ok law trees.plugin_refused w d n t told c)
 never_caused_in s ok law _ w d n t told c = absurd c
 
 -- What a wire tree tells is the one array that it tells, and where it tells one only want of memory is left to refuse.
@@ -86,39 +90,53 @@ module _ (asked : Request) (ok : IsShipped asked.session) (law : IsLawful codec 
       let P : List ℕ → Type 0 = λ m. Shows array_schema m k.value in
       h.none k.value k.root (subst P parts.1 k.shows) k.root_is
 
-  never_below : (x : WireError) → RefusesCarried asked x → x ≡ OutOfMemory
+  -- Its wire tree is not refused.
+  pub never_below : (x : WireError) → RefusesCarried asked x → x ≡ OutOfMemory
   never_below x h =
       let same = (carried_once asked.blob asked.ids h.wire spelled.wire h.carried spelled.carried).tree in
       let P : Wire → Type 0 = λ z. RefusesWire asked.session x z asked.dtype asked.len in
       never_caused_in asked.session ok law x spelled.wire asked.dtype asked.len t spelled.told (subst P same h.cause)
 
-  not_this : (P : Tree → Type 0) → (P t → ⊥) → SpellsOne asked P → ⊥
-  not_this P never h = never (subst P (spelled_once asked.blob asked.ids asked.dtype asked.len asked.session h.array t ok law h.spelled spelled) h.holds)
+  -- The blob is opened.
+  pub never_closed : KeepsReaderLimits asked.options asked.blob → (x : WireError) → RefusesOpening (message_limits asked.options) x asked.blob → x ≡ OutOfMemory
+  never_closed light OutOfMemory h = refl
+  never_closed light TooShort h = absurd (not_short asked.blob spelled.carried.segment spelled.carried.message spelled.carried.blob_is h)
+  never_closed light BadTable h = absurd (not_rootless h)
+  never_closed light TableLimit h = absurd (h.heavy (light.light h.segment h.message h.blob_is))
+  never_closed light BadAlignment h = not_described BadAlignment h
+  never_closed light Compressed h = not_described Compressed h
+  never_closed light OutOfBounds h = not_described OutOfBounds h
+  never_closed light _ h = absurd h
 
   is_grown : (o : Option Context) → IsSome o → o ≡ None → ⊥
   is_grown (Some d) some e = absurd (cc)
   is_grown None some e = absurd (cc)
 
-  pub never_caused : KeepsReaderLimits asked.options asked.blob → KeepsWriterLimits asked.session t asked.context asked.options → IsSome (grown codec asked.session asked.context t) → (x : WireError) → Refuses asked x → x ≡ OutOfMemory
-  never_caused light fits grows OutOfMemory h = refl
-  never_caused light fits grows TooShort h = absurd (not_short asked.blob spelled.carried.segment spelled.carried.message spelled.carried.blob_is h)
-  never_caused light fits grows BadTable h = absurd (not_rootless h)
-  never_caused light fits grows TableLimit h = absurd (h.heavy (light.light h.segment h.message h.blob_is))
-  never_caused light fits grows BadAlignment h = not_described BadAlignment h
-  never_caused light fits grows Compressed h = not_described Compressed h
-  never_caused light fits grows OutOfBounds (inl h) = not_described OutOfBounds h
-  never_caused light fits grows OutOfBounds (inr h) = never_below OutOfBounds h
-  never_caused light fits grows UnknownIndex h = never_below UnknownIndex h
-  never_caused light fits grows UnknownEncoding h = never_below UnknownEncoding h
-  never_caused light fits grows BadMetadata h = never_below BadMetadata h
-  never_caused light fits grows BadShape h = never_below BadShape h
-  never_caused light fits grows BadContent h = never_below BadContent h
-  never_caused light fits grows ForeignControl h = never_below ForeignControl h
-  never_caused light fits grows BadStats h = never_below BadStats h
-  never_caused light fits grows NotPermitted h = absurd (not_this (λ u. grown codec asked.session asked.context u ≡ None) (λ e. is_grown (grown codec asked.session asked.context t) grows e) h)
-  never_caused light fits grows WireLimit h = absurd (not_this (λ u. KeepsWriterLimits asked.session u asked.context asked.options → ⊥) (λ never. never fits) h)
-  never_caused light fits grows NotRegistered h = absurd h
+  module _ (paired : IsPaired asked.session) (fits : KeepsWriterLimits asked.session t asked.context asked.options) where
+    has_writers : IsWritten asked.session t
+    has_writers = matched_written codec asked.session ok law paired spelled.wire t spelled.told.matched
 
--- Where what is asked can be done, no refusal but want of memory has a cause.
-pub memory_alone : (asked : Request) → IsShipped asked.session → IsLawful codec asked.session → (e : WireError) → CanRecode asked → Refuses asked e → e ≡ OutOfMemory
-memory_alone asked ok law e can cause = never_caused asked ok law can.array can.spelled can.reader_limits can.writer_limits can.grows e cause
+    has_blob : IsSome (grown codec asked.session asked.context t) → (x : WireError) → RefusesWriting asked.session t asked.context asked.options x → x ≡ OutOfMemory
+    has_blob grows OutOfMemory h = refl
+    has_blob grows NotPermitted h = absurd (is_grown (grown codec asked.session asked.context t) grows h)
+    has_blob grows WireLimit h = absurd (h fits)
+    has_blob grows _ h = absurd h
+
+    -- And it has a blob.
+    pub never_unwritten : IsSome (grown codec asked.session asked.context t) → (x : WireError) → RefusesArray asked.session t asked.context asked.options x → x ≡ OutOfMemory
+    never_unwritten grows x h = has_blob grows x (refused_own asked.session ok t asked.context asked.options x has_writers h)
+
+-- Where what is asked can be done, no refusal but want of memory has a cause: none of the blob,
+pub memory_at_blob : (asked : Request) → IsShipped asked.session → IsLawful codec asked.session → (e : WireError) → CanRecode asked → RefusesOpening (message_limits asked.options) e asked.blob → e ≡ OutOfMemory
+memory_at_blob asked ok law e can cause = never_closed asked ok law can.array can.spelled can.reader_limits e cause
+
+-- none of its wire tree,
+pub memory_at_tree : (asked : Request) → IsShipped asked.session → IsLawful codec asked.session → (e : WireError) (w : Wire) → Carries asked.blob asked.ids w → CanRecode asked → RefusesWire asked.session e w asked.dtype asked.len → e ≡ OutOfMemory
+memory_at_tree asked ok law e w carried can cause = never_below asked ok law can.array can.spelled e (record { wire = w; carried = carried; cause = cause })
+
+-- and none of the array.
+pub memory_at_array : (asked : Request) → IsShipped asked.session → IsLawful codec asked.session → IsPaired asked.session → (e : WireError) (t : Tree) → IsSpelled asked t → CanRecode asked → RefusesArray asked.session t asked.context asked.options e → e ≡ OutOfMemory
+memory_at_array asked ok law paired e t spelled can cause =
+    let same : t ≡ can.array = spelled_once asked.blob asked.ids asked.dtype asked.len asked.session t can.array ok law spelled can.spelled in
+    let P : Tree → Type 0 = λ z. RefusesArray asked.session z asked.context asked.options e in
+    never_unwritten asked ok law can.array can.spelled paired can.writer_limits can.grows e (subst P same cause)

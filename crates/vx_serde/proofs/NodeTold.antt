@@ -1,6 +1,6 @@
 -- What decoding a node and its children gives, and why it does not.
-use Rattle.std.proofs.Common.{false, ℕ, zero, suc, ◌≡◌, ◌+◌, ◌<◌, ◌≤◌, List, [], ◌∷◌, ◌++◌, Option, Some, None, refl, sym, ap, ◌∙◌, arith, subst, take, length, get_or, add-one, inl, inr}
-use Rattle.std.specs.Prelude.{slice_get}
+use Rattle.std.proofs.Common.{Bool, true, false, ℕ, zero, suc, ◌≡◌, ◌+◌, ◌<◌, ◌≤◌, List, [], ◌∷◌, ◌++◌, Option, Some, None, refl, sym, ap, ◌∙◌, arith, subst, take, length, get_or, add-one, inl, inr}
+use Rattle.std.specs.Prelude.{slice_get, option_map, IsSome}
 use Rattle.std.proofs.lemmas.List.{take_all}
 use Rattle.vx_buffer.specs.Buffer.{Buffer}
 use Rattle.vx_trees.specs.Rose.{node, label, below, roses_of, roses_list, count}
@@ -16,30 +16,32 @@ use Rattle.vx_array_tree.specs.Place.{Place}
 use Rattle.vx_array_tree.specs.Sound.{IsSound, IsSoundNode}
 use Rattle.vx_array_tree.specs.Encoding as Encodings
 use Rattle.vx_array_tree.specs.Table.{plan_of, Allows, Content, IsShaped}
-use Rattle.vx_array_tree.specs.Tree.{Tree, Trees, places, encodings, rows_below}
-use Rattle.vx_wire_tree.specs.Causes.{IsOf, MayStandFor}
+use Rattle.vx_array_tree.specs.Tree.{Tree, Trees, places, rows_below}
+use Rattle.vx_wire_tree.specs.Causes.{IsOf, MayStandFor, HasChildren}
 use Rattle.vx_wire_tree.specs.Codec.{IsLawful}
 use Rattle.vx_wire_tree.specs.Matches.{Matches, AllMatch}
 use Rattle.vx_wire_tree.specs.Placed.{IsChild, HasPlan, IsPlannedBy}
-use Rattle.vx_wire_tree.specs.Session.{SessionMeaning, Reader, IsShipped}
+use Rattle.vx_wire_tree.specs.Plugin.{PluginMeaning, head_at}
+use Rattle.vx_wire_tree.specs.Revised.{revised_holds}
+use Rattle.vx_wire_tree.specs.Session.{SessionMeaning, Reader, shipped, revised, plugin, encoding_by}
 use Rattle.vx_wire_tree.specs.Steps.{PlansChildren, HasNoMetadata, HasNoPlan, HasParts, HasWrongShape, HasWrongControl, HasWrongContent, IsToldBy}
 use Rattle.vx_wire_tree.specs.Tells.{Tells}
 use Rattle.vx_wire_tree.specs.Wire.{Wire, Wires, all_present}
-use Rattle.vx_wire_tree.proofs.Laws.{node_tells, matched_count, untaken_of}
+use Rattle.vx_wire_tree.proofs.Laws.{node_tells, revised_tells, matched_count}
+use Rattle.vx_wire_tree.proofs.Plugins.{plugin_tells}
 use Rattle.vx_encodings.specs.Messages.{codec}
-use Rattle.vx_encodings.specs.Plain.{plain_encoding}
-use Rattle.vx_registry.specs.Session.{entry}
-use Rattle.vx_encodings.specs.Steps.{IsPlanned, IsUnplanned, IsBuilt, IsUnbuilt}
 use Rattle.vx_encodings.proofs.Laws.{one_value, plan_length}
-use Rattle.vx_encodings.specs.declared.encoding.Encoding.{Encoding}
-use Rattle.vx_encodings.specs.declared.error.EncodingError.{EncodingError}
-use Rattle.vx_encodings.specs.declared.error.EncodingError.TheVariants as refusals
+use Rattle.vx_encodings.specs.declared.encoding.Encoding.TheVariants.{Primitive}
 use Rattle.vx_encodings.specs.declared.head.ArrayHead.{ArrayHead}
+use Rattle.vx_registry.specs.Plugin.{head_in}
+use Rattle.vx_registry.specs.Session.{Plugins, entry_in}
+use Rattle.vx_registry.specs.declared.tables.Entry.{Entry}
+use Rattle.vx_registry.specs.declared.tables.Entry.TheVariants.{Shipped, Revised, Boxed}
 use Rattle.vx_serde.specs.declared.error.WireError.{WireError}
-use Rattle.vx_serde.specs.declared.error.WireError.TheVariants.{OutOfMemory, OutOfBounds, UnknownIndex, UnknownEncoding, BadMetadata, BadShape, BadContent, ForeignControl, BadStats}
+use Rattle.vx_serde.specs.declared.error.WireError.TheVariants.{OutOfMemory, OutOfBounds, UnknownIndex, UnknownEncoding, BadMetadata, BadShape, BadContent, ForeignControl, BadStats, PluginRefused}
 use Rattle.vx_serde.specs.Causes.{RefusesWire}
-use Rattle.vx_serde.specs.ReadingSteps.{RefusesBuffers, RefusesKept, RefusesStats, encoding_refusal}
-use Rattle.vx_serde.specs.Decoding.{IsHeadOf, IsNodeOf, AllTell}
+use Rattle.vx_serde.specs.ReadingSteps.{RefusesBuffers, RefusesKept, RefusesStats}
+use Rattle.vx_serde.specs.Decoding.{IsHeadOf, IsNodeOf, IsPastHead, PlansBy, RefusesPlan, head_over, BuildsBy, RefusesBuild, AllTell}
 
 -- ---- children, one by one
 
@@ -78,7 +80,7 @@ told-snoc s ws ps i w p us vs u h k f g x e =
     rw (next, add-one i) (record {
       matched = all_match-snoc_suc s ws i w ts u h (subst A back k.matched) (subst M f x.matched);
       sound = everywhere_below-snoc IsSoundNode ts (ts ++ u ∷ []) u (subst S back k.sound) x.sound refl;
-      normal = everywhere_below-snoc IsNormalNode ts (ts ++ u ∷ []) u (subst N back k.normal) x.normal refl;
+      normal = λ ok. everywhere_below-snoc IsNormalNode ts (ts ++ u ∷ []) u (subst N back (k.normal ok)) (x.normal ok) refl;
       placed = places-snoc_suc ts u ps i p (ap (λ z. places z) (sym back) ∙ k.placed) g x.dtype x.len;
     })
 
@@ -92,9 +94,16 @@ all_told s ws ps us i h same k =
 -- ---- what is at a place of a list
 
 -- as many places as children
-pub enough : (e : Encoding) (x : ExtMeaning) (h : ArrayHead) (ps : List Place) (ws : List Wire) (w : Wire) (d : Typ) (n : ℕ) → IsPlanned x e h ps → IsHeadOf h w d n → roses_of ws ≡ below w → length ps ≡ length ws
-enough e x h ps ws w d n plan is own =
+enough_by : (r : Option PluginMeaning) (x : ExtMeaning) (h : ArrayHead) (ps : List Place) (ws : List Wire) (w : Wire) (d : Typ) (n : ℕ) → PlansBy x (option_map (λ p. plugin p) r) h ps → IsHeadOf h w d n → roses_of ws ≡ below w → length ps ≡ length ws
+enough_by None x h ps ws w d n plan is own = absurd plan
+enough_by (Some p) x h ps ws w d n plan is own = p.one_each (head_in h) x ps plan ∙ is.children ∙ sym (ap (λ z. count z) own) ∙ count-roses_of ws
+
+pub enough : (f : Plugins) (e : Entry) (x : ExtMeaning) (h : ArrayHead) (ps : List Place) (ws : List Wire) (w : Wire) (d : Typ) (n : ℕ) → PlansBy x (entry_in f e) h ps → IsHeadOf h w d n → roses_of ws ≡ below w → length ps ≡ length ws
+enough f (Shipped e) x h ps ws w d n plan is own =
     plan_length e (typ h.dtype) h.len plan.value h.nchildren ps plan.plan ∙ is.children ∙ sym (ap (λ z. count z) own) ∙ count-roses_of ws
+enough f Revised x h ps ws w d n plan is own =
+    plan_length Primitive (typ h.dtype) h.len plan.plan.value h.nchildren ps plan.plan.plan ∙ is.children ∙ sym (ap (λ z. count z) own) ∙ count-roses_of ws
+enough f (Boxed k) x h ps ws w d n plan is own = enough_by (f k) x h ps ws w d n plan is own
 
 pub get_past : {A : Type 0} (xs : List A) (i : ℕ) → i < length xs → slice_get xs i ≡ None → ⊥
 get_past [] i h g = absurd (omega (arith, h))
@@ -114,6 +123,7 @@ caused_above s BadShape w d n i v p child c = (i ∷ c.0, (v, p, child, c.1))
 caused_above s BadContent w d n i v p child c = (i ∷ c.0, (v, p, child, c.1))
 caused_above s ForeignControl w d n i v p child c = (i ∷ c.0, (v, p, child, c.1))
 caused_above s BadStats w d n i v p child c = (i ∷ c.0, (v, p, child, c.1))
+caused_above s PluginRefused w d n i v p child c = (i ∷ c.0, (v, p, child, c.1))
 caused_above s _ w d n i v p child c = absurd c
 
 -- and so is that of the child that stands at a place of a list
@@ -151,32 +161,76 @@ at_node P h w d n is x =
     let D : ℕ → Type 0 = λ z. P d n (label w).metadata z in
     subst D is.children (subst C is.metadata (subst B is.len (subst A is.dtype x)))
 
-own_encoding : (s : SessionMeaning) (w : Wire) (d : Typ) (n : ℕ) (e : Encoding) (h : ArrayHead) → IsNodeOf s w d n e h → IsOf s w (plain_encoding e)
-own_encoding s w d n e h read = record { id = read.id; id_is = read.id_is; reader_is = read.reader_is }
+-- what is told to a plugin
+told_head : (h : ArrayHead) (w : Wire) (d : Typ) (n : ℕ) (id : List ℕ) → IsHeadOf h w d n → h.serialized_id ≡ id → head_in h ≡ head_at id (label w) (count (below w)) d n
+told_head h w d n id is named = λ i. record { id = named i; dtype = is.dtype i; len = is.len i; metadata = is.metadata i; nbuffers = is.buffers i; nchildren = is.children i }
 
--- a node of an encoding that reads its identifier
-pub node_of : (s : SessionMeaning) (w : Wire) (d : Typ) (n : ℕ) (e : Encoding) (h : ArrayHead) (id : List ℕ) → (label w).id ≡ Some id → s.reader id ≡ Some (entry e) → IsHeadOf h w d n → IsNodeOf s w d n e h
-node_of s w d n e h id i r head = record { id = id; id_is = i; reader_is = r; head = head }
+own_encoding : (s : SessionMeaning) (w : Wire) (d : Typ) (n : ℕ) (e : Encodings.Encoding) (h : ArrayHead) → IsNodeOf s w d n (Some (shipped e)) h → IsOf s w e
+own_encoding s w d n e h read = record { id = read.id; id_is = read.id_is; encoding_is = ap (λ z. encoding_by z) read.reader_is }
 
-pub planned : (s : SessionMeaning) (w : Wire) (d : Typ) (n : ℕ) (e : Encoding) (h : ArrayHead) (ps : List Place) → IsNodeOf s w d n e h → IsPlanned s.ext e h ps → HasPlan codec s w d n ps
-planned s w d n e h ps read plan =
-    let P : Option Reader → Type 0 = λ r. IsPlannedBy codec s r w d n ps in
-    record {
-      id = read.id;
-      id_is = read.id_is;
-      planned = subst P (sym read.reader_is) (at_node (λ f m b k. PlansChildren codec s.ext (plain_encoding e) f m b k ps) h w d n read.head plan);
-    }
+own_primitive : (s : SessionMeaning) (w : Wire) (d : Typ) (n : ℕ) (h : ArrayHead) → IsNodeOf s w d n (Some revised) h → IsOf s w Encodings.primitive
+own_primitive s w d n h read = record { id = read.id; id_is = read.id_is; encoding_is = ap (λ z. encoding_by z) read.reader_is }
 
-pub caused_by_plan : (s : SessionMeaning) (x : EncodingError) (w : Wire) (d : Typ) (n : ℕ) (e : Encoding) (h : ArrayHead) → IsNodeOf s w d n e h → IsUnplanned x s.ext e h → RefusesWire s (encoding_refusal x) w d n
-caused_by_plan s refusals.OutOfMemory w d n e h read c = tt
-caused_by_plan s refusals.BadMetadata w d n e h read c =
-    ([], record { encoding = plain_encoding e; by = own_encoding s w d n e h read; none = at_node (λ f m b k. HasNoMetadata codec s.ext (plain_encoding e) f b) h w d n read.head c })
-caused_by_plan s refusals.BadShape w d n e h read c =
-    let none = at_node (λ f m b k. HasNoPlan codec s.ext (plain_encoding e) f m b k) h w d n read.head c in (
+-- a node by what reads its identifier
+pub node_of : (s : SessionMeaning) (w : Wire) (d : Typ) (n : ℕ) (r : Option Reader) (h : ArrayHead) (id : List ℕ) → (label w).id ≡ Some id → h.serialized_id ≡ id → s.reader id ≡ r → IsHeadOf h w d n → IsNodeOf s w d n r h
+node_of s w d n r h id i named q head = record { id = id; id_is = i; named = named; reader_is = q; head = head }
+
+planned_by : (s : SessionMeaning) (w : Wire) (d : Typ) (n : ℕ) (r : Option Reader) (h : ArrayHead) (ps : List Place) → IsNodeOf s w d n r h → PlansBy s.ext r h ps → IsPlannedBy codec s r w d n ps
+planned_by s w d n None h ps read plan = absurd plan
+planned_by s w d n (Some (shipped e)) h ps read plan = at_node (λ f m b k. PlansChildren codec s.ext e f m b k ps) h w d n read.head plan
+planned_by s w d n (Some revised) h ps read plan = at_node (λ f m b k. PlansChildren codec s.ext Encodings.primitive f m b k ps) h w d n read.head plan.plan
+planned_by s w d n (Some (plugin p)) h ps read plan =
+    record { id = read.id; id_is = read.id_is; plan = ap (λ z. p.plan z s.ext) (sym (told_head h w d n read.id read.head read.named)) ∙ plan }
+
+pub planned : (s : SessionMeaning) (w : Wire) (d : Typ) (n : ℕ) (r : Option Reader) (h : ArrayHead) (ps : List Place) → IsNodeOf s w d n r h → PlansBy s.ext r h ps → HasPlan codec s w d n ps
+planned s w d n r h ps read plan =
+    let P : Option Reader → Type 0 = λ z. IsPlannedBy codec s z w d n ps in
+    record { id = read.id; id_is = read.id_is; planned = subst P (sym read.reader_is) (planned_by s w d n r h ps read plan) }
+
+-- an encoding refuses a node's metadata, or plans nothing
+no_metadata : (s : SessionMeaning) (w : Wire) (d : Typ) (n : ℕ) (e : Encodings.Encoding) (h : ArrayHead) → IsHeadOf h w d n → IsOf s w e → HasNoMetadata codec s.ext e (typ h.dtype) h.metadata → RefusesWire s BadMetadata w d n
+no_metadata s w d n e h head by c = ([], record { encoding = e; by = by; none = at_node (λ f m b k. HasNoMetadata codec s.ext e f b) h w d n head c })
+
+no_plan : (s : SessionMeaning) (w : Wire) (d : Typ) (n : ℕ) (e : Encodings.Encoding) (h : ArrayHead) → IsHeadOf h w d n → IsOf s w e → HasNoPlan codec s.ext e (typ h.dtype) h.len h.metadata h.nchildren
+    → RefusesWire s BadShape w d n
+no_plan s w d n e h head by c =
+    let none = at_node (λ f m b k. HasNoPlan codec s.ext e f m b k) h w d n head c in
+    ([], record { encoding = e; by = by; value = none.value; metadata = none.metadata; broken = inl none.none })
+
+-- what an identifier holds of a head's rows it holds of the node's
+held_at : (b : Bool) (h : ArrayHead) (w : Wire) (d : Typ) (n : ℕ) (id : List ℕ) → IsHeadOf h w d n → h.serialized_id ≡ id → revised_holds h.serialized_id h.len ≡ b → revised_holds id n ≡ b
+held_at b h w d n id head named e = (λ i. revised_holds (sym named i) (sym head.len i)) ∙ e
+
+past_length : (s : SessionMeaning) (w : Wire) (d : Typ) (n : ℕ) (h : ArrayHead) → IsNodeOf s w d n (Some revised) h → IsPastHead s.ext h → RefusesWire s BadShape w d n
+past_length s w d n h read c =
+    let plans = at_node (λ f m b k. PlansChildren codec s.ext Encodings.primitive f m b k c.places) h w d n read.head c.plan in
+    let past = held_at false h w d n read.id read.head read.named c.past in (
       [],
-      record { encoding = plain_encoding e; by = own_encoding s w d n e h read; value = none.value; metadata = none.metadata; broken = inl none.none },
+      record {
+        encoding = Encodings.primitive;
+        by = own_primitive s w d n h read;
+        value = plans.value;
+        metadata = plans.metadata;
+        broken = inr (inr (inr (record { by = record { id = read.id; id_is = read.id_is; reader_is = read.reader_is }; past = past })));
+      },
     )
-caused_by_plan s _ w d n e h read c = absurd c
+
+pub caused_by_plan : (s : SessionMeaning) (x : WireError) (w : Wire) (d : Typ) (n : ℕ) (r : Option Reader) (h : ArrayHead) → IsNodeOf s w d n r h → RefusesPlan x s.ext r h → RefusesWire s x w d n
+caused_by_plan s OutOfMemory w d n r h read c = tt
+caused_by_plan s BadMetadata w d n (Some (shipped e)) h read c = no_metadata s w d n e h read.head (own_encoding s w d n e h read) c
+caused_by_plan s BadShape w d n (Some (shipped e)) h read c = no_plan s w d n e h read.head (own_encoding s w d n e h read) c
+caused_by_plan s BadMetadata w d n (Some revised) h read c = no_metadata s w d n Encodings.primitive h read.head (own_primitive s w d n h read) c
+caused_by_plan s BadShape w d n (Some revised) h read (inl c) = no_plan s w d n Encodings.primitive h read.head (own_primitive s w d n h read) c
+caused_by_plan s BadShape w d n (Some revised) h read (inr c) = past_length s w d n h read c
+caused_by_plan s PluginRefused w d n (Some (plugin p)) h read c = (
+  [],
+  record {
+    means = p;
+    by = record { id = read.id; id_is = read.id_is; reader_is = read.reader_is };
+    refuses = inl (record { id = read.id; id_is = read.id_is; none = ap (λ z. p.plan z s.ext) (sym (told_head h w d n read.id read.head read.named)) ∙ c });
+  },
+)
+caused_by_plan s _ w d n r h read c = absurd c
 
 -- no other buffers may stand for those that are there
 standing : (bs cs : List Buffer) → MayStandFor (all_present bs) cs → cs ≡ bs
@@ -190,94 +244,168 @@ content_broken : (e : Encodings.Encoding) (d : Typ) (n : ℕ) (v : Metadata) (bs
 content_broken e d n v bs j k ts same x wrong =
     (record { body = x.body; body_is = x.body_is; holds = x.holds; allows = subst (λ (z : ℕ). Allows e d v z) same x.allows }, wrong)
 
-pub caused_by_build : (s : SessionMeaning) → IsShipped s → IsLawful codec s → (x : EncodingError) (w : Wire) (d : Typ) (n : ℕ) (e : Encoding) (h : ArrayHead) (bs : List Buffer) (ws : List Wire) (ps : List Place) (ts : Trees) → IsNodeOf s w d n e h
-    → IsPlanned s.ext e h ps → (label w).buffers ≡ all_present bs → roses_of ws ≡ below w → AllTell s (roses_of ws) ps ts → IsUnbuilt x s.ext e h bs ts → RefusesWire s (encoding_refusal x) w d n
-caused_by_build s ok law refusals.OutOfMemory w d n e h bs ws ps ts read plan own own_children told c = tt
-caused_by_build s ok law refusals.BadMetadata w d n e h bs ws ps ts read plan own own_children told c = absurd c
-caused_by_build s ok law refusals.WireLimit w d n e h bs ws ps ts read plan own own_children told c = absurd c
-caused_by_build s ok law refusals.BadShape w d n e h bs ws ps ts read plan own own_children told c =
-    let wrong = at_node (λ f m b k. HasWrongShape codec s.ext (plain_encoding e) f m b bs ts) h w d n read.head c in
-    let plans = at_node (λ f m b k. PlansChildren codec s.ext (plain_encoding e) f m b k ps) h w d n read.head plan in
+-- arrays that the children tell are a node's children
+children_of : (s : SessionMeaning) (w : Wire) (ws : List Wire) (ps : List Place) (ts : Trees) → roses_of ws ≡ below w → AllTell s (roses_of ws) ps ts → HasChildren codec s w ps ts
+children_of s w ws ps ts own told =
     let A : Wires → Type 0 = λ z. AllMatch codec s z ts in
-    let matched : AllMatch codec s (below w) ts = subst A own_children told.matched in
-    let same : count (below w) ≡ count ts = sym (matched_count codec s (below w) ts matched) in
-    let shaped : (IsShaped (plain_encoding e) d n wrong.value bs (count ts) → ⊥) → (cs : List Buffer) → MayStandFor (label w).buffers cs → IsShaped (plain_encoding e) d n wrong.value cs (count (below w)) → ⊥ =
+    record { matched = subst A own told.matched; sound = told.sound; normal = told.normal; placed = told.placed }
+
+-- a list of which nothing is missing is as long
+present_length : {A : Type 0} (xs : List A) → length (all_present xs) ≡ length xs
+present_length [] = refl
+present_length (x ∷ xs) = ap (λ n. suc n) (present_length xs)
+
+-- what is told to a plugin with the parts
+head_of_parts : (s : SessionMeaning) (w : Wire) (d : Typ) (n : ℕ) (id : List ℕ) (h : ArrayHead) (bs : List Buffer) (ts : Trees) → IsHeadOf h w d n → h.serialized_id ≡ id → (label w).buffers ≡ all_present bs → AllMatch codec s (below w) ts
+    → head_over h bs ts ≡ head_at id (label w) (count (below w)) d n
+head_of_parts s w d n id h bs ts is named own matched =
+    let k = matched_count codec s (below w) ts matched in
+    let b : length bs ≡ length (label w).buffers = sym (ap (λ z. length z) own ∙ present_length bs) in
+    λ i. record { id = named i; dtype = is.dtype i; len = is.len i; metadata = is.metadata i; nbuffers = b i; nchildren = k i }
+
+-- what an encoding builds nothing of, after it has planned, by its refusal
+wrong_shape : (s : SessionMeaning) (w : Wire) (d : Typ) (n : ℕ) (e : Encodings.Encoding) (h : ArrayHead) (bs : List Buffer) (ws : List Wire) (ps : List Place) (ts : Trees) → IsHeadOf h w d n → IsOf s w e
+    → PlansChildren codec s.ext e (typ h.dtype) h.len h.metadata h.nchildren ps → (label w).buffers ≡ all_present bs → roses_of ws ≡ below w → AllTell s (roses_of ws) ps ts → HasWrongShape codec s.ext e (typ h.dtype) h.len h.metadata bs ts → RefusesWire s BadShape w d n
+wrong_shape s w d n e h bs ws ps ts head by plan own own_children told c =
+    let wrong = at_node (λ f m b k. HasWrongShape codec s.ext e f m b bs ts) h w d n head c in
+    let plans = at_node (λ f m b k. PlansChildren codec s.ext e f m b k ps) h w d n head plan in
+    let kids = children_of s w ws ps ts own_children told in
+    let same : count (below w) ≡ count ts = sym (matched_count codec s (below w) ts kids.matched) in
+    let value = one_value s.ext e d (label w).metadata plans.value wrong.value plans.metadata wrong.metadata in
+    let plan_is = ap (λ z. plan_of e d n z (count (below w))) (sym value) ∙ plans.plan in
+    let shaped : (IsShaped e d n wrong.value bs (count ts) → ⊥) → (cs : List Buffer) → MayStandFor (label w).buffers cs → IsShaped e d n wrong.value cs (count (below w)) → ⊥ =
     λ never cs stand fits.
     let B : List (Option Buffer) → Type 0 = λ os. MayStandFor os cs in
-    let C : List Buffer → Type 0 = λ z. IsShaped (plain_encoding e) d n wrong.value z (count (below w)) in
-    let D : ℕ → Type 0 = λ z. IsShaped (plain_encoding e) d n wrong.value bs z in
+    let C : List Buffer → Type 0 = λ z. IsShaped e d n wrong.value z (count (below w)) in
+    let D : ℕ → Type 0 = λ z. IsShaped e d n wrong.value bs z in
     never (subst D same (subst C (standing bs cs (subst B own stand)) fits))
     in (
       [],
       record {
-        encoding = plain_encoding e;
-        by = own_encoding s w d n e h read;
+        encoding = e;
+        by = by;
         value = wrong.value;
         metadata = wrong.metadata;
-        broken = elim wrong.wrong [ inl never ↦ inr (inl (shaped never)) | inr never ↦ inr (inr (encodings ts, untaken_of codec s ok law (plain_encoding e) d n plans.value ps (below w) ts plans.plan matched never, never)) ];
+        broken = elim wrong.wrong [ inl never ↦ inr (inl (shaped never)) | inr never ↦ inr (inr (inl (record { places_are = ps; plan = plan_is; children = ts; matched = kids; untaken = never }))) ];
       },
     )
-caused_by_build s ok law refusals.ForeignControl w d n e h bs ws ps ts read plan own own_children told c =
-    let wrong = at_node (λ f m b k. HasWrongControl codec s.ext (plain_encoding e) f m b ts) h w d n read.head c in
-    let plans = at_node (λ f m b k. PlansChildren codec s.ext (plain_encoding e) f m b k ps) h w d n read.head plan in
-    let A : Wires → Type 0 = λ z. AllMatch codec s z ts in
-    let value = one_value s.ext (plain_encoding e) d (label w).metadata plans.value wrong.value plans.metadata wrong.metadata in (
+
+wrong_control : (s : SessionMeaning) (w : Wire) (d : Typ) (n : ℕ) (e : Encodings.Encoding) (h : ArrayHead) (bs : List Buffer) (ws : List Wire) (ps : List Place) (ts : Trees) → IsHeadOf h w d n → IsOf s w e
+    → PlansChildren codec s.ext e (typ h.dtype) h.len h.metadata h.nchildren ps → (label w).buffers ≡ all_present bs → roses_of ws ≡ below w → AllTell s (roses_of ws) ps ts → HasWrongControl codec s.ext e (typ h.dtype) h.len h.metadata ts → RefusesWire s ForeignControl w d n
+wrong_control s w d n e h bs ws ps ts head by plan own own_children told c =
+    let wrong = at_node (λ f m b k. HasWrongControl codec s.ext e f m b ts) h w d n head c in
+    let plans = at_node (λ f m b k. PlansChildren codec s.ext e f m b k ps) h w d n head plan in
+    let value = one_value s.ext e d (label w).metadata plans.value wrong.value plans.metadata wrong.metadata in (
       [],
       record {
-        encoding = plain_encoding e;
-        by = own_encoding s w d n e h read;
+        encoding = e;
+        by = by;
         value = wrong.value;
         metadata = wrong.metadata;
         places_are = ps;
-        plan = ap (λ z. plan_of (plain_encoding e) d n z (count (below w))) (sym value) ∙ plans.plan;
+        plan = ap (λ z. plan_of e d n z (count (below w))) (sym value) ∙ plans.plan;
         children = ts;
-        matched = record { matched = subst A own_children told.matched; sound = told.sound; normal = told.normal; placed = told.placed };
+        matched = children_of s w ws ps ts own_children told;
         foreign = wrong.foreign;
       },
     )
-caused_by_build s ok law refusals.BadContent w d n e h bs ws ps ts read plan own own_children told c =
-    let wrong = at_node (λ f m b k. HasWrongContent codec s.ext (plain_encoding e) f m b bs ts) h w d n read.head c in
-    let plans = at_node (λ f m b k. PlansChildren codec s.ext (plain_encoding e) f m b k ps) h w d n read.head plan in
-    let A : Wires → Type 0 = λ z. AllMatch codec s z ts in
-    let matched : AllMatch codec s (below w) ts = subst A own_children told.matched in
-    let same : count ts ≡ count (below w) = matched_count codec s (below w) ts matched in
-    let value = one_value s.ext (plain_encoding e) d (label w).metadata plans.value wrong.value plans.metadata wrong.metadata in
-    let broken = content_broken (plain_encoding e) d n wrong.value bs (count ts) (count (below w)) ts same wrong.shaped wrong.wrong in (
+
+wrong_content : (s : SessionMeaning) (w : Wire) (d : Typ) (n : ℕ) (e : Encodings.Encoding) (h : ArrayHead) (bs : List Buffer) (ws : List Wire) (ps : List Place) (ts : Trees) → IsHeadOf h w d n → IsOf s w e
+    → PlansChildren codec s.ext e (typ h.dtype) h.len h.metadata h.nchildren ps → (label w).buffers ≡ all_present bs → roses_of ws ≡ below w → AllTell s (roses_of ws) ps ts → HasWrongContent codec s.ext e (typ h.dtype) h.len h.metadata bs ts → RefusesWire s BadContent w d n
+wrong_content s w d n e h bs ws ps ts head by plan own own_children told c =
+    let wrong = at_node (λ f m b k. HasWrongContent codec s.ext e f m b bs ts) h w d n head c in
+    let plans = at_node (λ f m b k. PlansChildren codec s.ext e f m b k ps) h w d n head plan in
+    let kids = children_of s w ws ps ts own_children told in
+    let same : count ts ≡ count (below w) = matched_count codec s (below w) ts kids.matched in
+    let value = one_value s.ext e d (label w).metadata plans.value wrong.value plans.metadata wrong.metadata in
+    let broken = content_broken e d n wrong.value bs (count ts) (count (below w)) ts same wrong.shaped wrong.wrong in (
       [],
       record {
-        encoding = plain_encoding e;
-        by = own_encoding s w d n e h read;
+        encoding = e;
+        by = by;
         value = wrong.value;
         metadata = wrong.metadata;
         places_are = ps;
-        plan = ap (λ z. plan_of (plain_encoding e) d n z (count (below w))) (sym value) ∙ plans.plan;
+        plan = ap (λ z. plan_of e d n z (count (below w))) (sym value) ∙ plans.plan;
         buffers = bs;
         buffers_are = own;
         shaped = broken.0;
         children = ts;
-        matched = record { matched = matched; sound = told.sound; normal = told.normal; placed = told.placed };
+        matched = kids;
         controlled = wrong.controlled;
         broken = broken.1;
       },
     )
 
+pub caused_by_build : (s : SessionMeaning) (x : WireError) (w : Wire) (d : Typ) (n : ℕ) (r : Option Reader) (h : ArrayHead) (bs : List Buffer) (ws : List Wire) (ps : List Place) (ts : Trees) → IsNodeOf s w d n r h
+    → PlansBy s.ext r h ps → (label w).buffers ≡ all_present bs → roses_of ws ≡ below w → AllTell s (roses_of ws) ps ts → RefusesBuild x s.ext r h bs ts → RefusesWire s x w d n
+caused_by_build s OutOfMemory w d n r h bs ws ps ts read plan own own_children told c = tt
+caused_by_build s BadShape w d n (Some (shipped e)) h bs ws ps ts read plan own own_children told c = wrong_shape s w d n e h bs ws ps ts read.head (own_encoding s w d n e h read) plan own own_children told c
+caused_by_build s BadShape w d n (Some revised) h bs ws ps ts read plan own own_children told c =
+    wrong_shape s w d n Encodings.primitive h bs ws ps ts read.head (own_primitive s w d n h read) plan.plan own own_children told c
+caused_by_build s ForeignControl w d n (Some (shipped e)) h bs ws ps ts read plan own own_children told c = wrong_control s w d n e h bs ws ps ts read.head (own_encoding s w d n e h read) plan own own_children told c
+caused_by_build s ForeignControl w d n (Some revised) h bs ws ps ts read plan own own_children told c =
+    wrong_control s w d n Encodings.primitive h bs ws ps ts read.head (own_primitive s w d n h read) plan.plan own own_children told c
+caused_by_build s BadContent w d n (Some (shipped e)) h bs ws ps ts read plan own own_children told c = wrong_content s w d n e h bs ws ps ts read.head (own_encoding s w d n e h read) plan own own_children told c
+caused_by_build s BadContent w d n (Some revised) h bs ws ps ts read plan own own_children told c =
+    wrong_content s w d n Encodings.primitive h bs ws ps ts read.head (own_primitive s w d n h read) plan.plan own own_children told c
+caused_by_build s PluginRefused w d n (Some (plugin p)) h bs ws ps ts read plan own own_children told c =
+    let kids = children_of s w ws ps ts own_children told in (
+      [],
+      record {
+        means = p;
+        by = record { id = read.id; id_is = read.id_is; reader_is = read.reader_is };
+        refuses = inr (record {
+          id = read.id;
+          id_is = read.id_is;
+          places_are = ps;
+          plan = ap (λ z. p.plan z s.ext) (sym (told_head h w d n read.id read.head read.named)) ∙ plan;
+          buffers = bs;
+          buffers_are = own;
+          children = ts;
+          matched = kids;
+          none = ap (λ z. p.build z bs ts s.ext) (sym (head_of_parts s w d n read.id h bs ts read.head read.named own kids.matched)) ∙ c;
+        });
+      },
+    )
+caused_by_build s _ w d n r h bs ws ps ts read plan own own_children told c = absurd c
+
 -- What is built is of the type that is asked.
-pub built_dtype : (x : ExtMeaning) (e : Encoding) (h : ArrayHead) (bs : List Buffer) (ts : Trees) (w : Wire) (d : Typ) (n : ℕ) (t : Tree) → IsHeadOf h w d n → IsBuilt x e h bs ts t → (label t).dtype ≡ d
-built_dtype x e h bs ts w d n t is parts = ap (λ (z : Tree). (label z).dtype) parts.tree_is ∙ is.dtype
+pub built_dtype : (s : SessionMeaning) (w : Wire) (d : Typ) (n : ℕ) (r : Option Reader) (h : ArrayHead) (bs : List Buffer) (ws : List Wire) (ps : List Place) (ts : Trees) (t : Tree) → IsNodeOf s w d n r h → PlansBy s.ext r h ps
+    → (label w).buffers ≡ all_present bs → roses_of ws ≡ below w → AllTell s (roses_of ws) ps ts → BuildsBy s.ext r h bs ts t → (label t).dtype ≡ d
+built_dtype s w d n None h bs ws ps ts t read plan own own_children told parts = absurd parts
+built_dtype s w d n (Some (shipped e)) h bs ws ps ts t read plan own own_children told parts = ap (λ (z : Tree). (label z).dtype) parts.tree_is ∙ read.head.dtype
+built_dtype s w d n (Some revised) h bs ws ps ts t read plan own own_children told parts = ap (λ (z : Tree). (label z).dtype) parts.tree_is ∙ read.head.dtype
+built_dtype s w d n (Some (plugin p)) h bs ws ps ts t read plan own own_children told parts =
+    let kids = children_of s w ws ps ts own_children told in
+    let at = head_at read.id (label w) (count (below w)) d n in
+    let planned : p.plan at s.ext ≡ Some (places ts) = ap (λ z. p.plan z s.ext) (sym (told_head h w d n read.id read.head read.named)) ∙ plan ∙ ap (λ (qs : List Place). Some qs) (sym kids.placed) in
+    (p.as_asked at bs ts s.ext t planned kids.sound (ap (λ z. p.build z bs ts s.ext) (sym (head_of_parts s w d n read.id h bs ts read.head read.named own kids.matched)) ∙ parts)).0
 
 -- Statistics that a node shows none of.
-pub caused_by_stats : (s : SessionMeaning) (x : WireError) (w : Wire) (d : Typ) (n : ℕ) (e : Encoding) (h : ArrayHead) → IsNodeOf s w d n e h → RefusesStats x d (label w).stats → RefusesWire s x w d n
-caused_by_stats s OutOfMemory w d n e h read c = tt
-caused_by_stats s BadStats w d n e h read c = ([], record { encoding = plain_encoding e; by = own_encoding s w d n e h read; none = c })
-caused_by_stats s _ w d n e h read c = absurd c
+pub caused_by_stats : (s : SessionMeaning) (x : WireError) (w : Wire) (d : Typ) (n : ℕ) (r : Option Reader) (h : ArrayHead) → IsSome r → IsNodeOf s w d n r h → RefusesStats x d (label w).stats → RefusesWire s x w d n
+caused_by_stats s OutOfMemory w d n r h there read c = tt
+caused_by_stats s BadStats w d n None h there read c = absurd (cc)
+caused_by_stats s BadStats w d n (Some r) h there read c = ([], record { reader = r; by = record { id = read.id; id_is = read.id_is; reader_is = read.reader_is }; none = c })
+caused_by_stats s _ w d n r h there read c = absurd c
 
 -- The node of parts that a plan has told, over children that tell arrays, with the statistics that it shows.
-pub told_node : (s : SessionMeaning) → IsLawful codec s → (w : Wire) (d : Typ) (n : ℕ) (e : Encoding) (h : ArrayHead) (ps : List Place) (bs : List Buffer) (ws : List Wire) (ts : Trees) (t u : Tree) → IsNodeOf s w d n e h
-    → IsPlanned s.ext e h ps → (label w).buffers ≡ all_present bs → roses_of ws ≡ below w → AllTell s (roses_of ws) ps ts → IsBuilt s.ext e h bs ts t → IsSound t
+pub told_node : (s : SessionMeaning) → IsLawful codec s → (w : Wire) (d : Typ) (n : ℕ) (r : Option Reader) (h : ArrayHead) (ps : List Place) (bs : List Buffer) (ws : List Wire) (ts : Trees) (t u : Tree) → IsNodeOf s w d n r h
+    → PlansBy s.ext r h ps → (label w).buffers ≡ all_present bs → roses_of ws ≡ below w → AllTell s (roses_of ws) ps ts → BuildsBy s.ext r h bs ts t → IsSound t
     → IsToldBy codec d (label w).stats t u → Tells codec s w d n u
-told_node s law (node w below) d n e h ps bs ws ts t u read plan own own_children told parts sound stats =
-    let A : Wires → Type 0 = λ z. AllMatch codec s z ts in
-    node_tells codec s law read.id (plain_encoding e) w below d n ps bs ts t u read.id_is read.reader_is
-    (at_node (λ f m b k. PlansChildren codec s.ext (plain_encoding e) f m b k ps) h (node w below) d n read.head plan) own
-    (record { matched = subst A own_children told.matched; sound = told.sound; normal = told.normal; placed = told.placed })
-    (at_node (λ f m b k. HasParts codec s.ext (plain_encoding e) f m b bs ts t) h (node w below) d n read.head parts) sound stats
+told_node s law (node w below) d n None h ps bs ws ts t u read plan own own_children told parts sound stats = absurd parts
+told_node s law (node w below) d n (Some (shipped e)) h ps bs ws ts t u read plan own own_children told parts sound stats =
+    node_tells codec s law read.id e w below d n ps bs ts t u read.id_is read.reader_is
+    (at_node (λ f m b k. PlansChildren codec s.ext e f m b k ps) h (node w below) d n read.head plan) own
+    (children_of s (node w below) ws ps ts own_children told)
+    (at_node (λ f m b k. HasParts codec s.ext e f m b bs ts t) h (node w below) d n read.head parts) sound stats
+told_node s law (node w below) d n (Some revised) h ps bs ws ts t u read plan own own_children told parts sound stats =
+    revised_tells codec s law read.id w below d n ps bs ts t u read.id_is read.reader_is (held_at true h (node w below) d n read.id read.head read.named plan.holds)
+    (at_node (λ f m b k. PlansChildren codec s.ext Encodings.primitive f m b k ps) h (node w below) d n read.head plan.plan) own
+    (children_of s (node w below) ws ps ts own_children told)
+    (at_node (λ f m b k. HasParts codec s.ext Encodings.primitive f m b bs ts t) h (node w below) d n read.head parts) sound stats
+told_node s law (node w below) d n (Some (plugin p)) h ps bs ws ts t u read plan own own_children told parts sound stats =
+    let kids = children_of s (node w below) ws ps ts own_children told in
+    plugin_tells codec s law.stats read.id p w below d n ps bs ts t u read.id_is read.reader_is
+    (ap (λ z. p.plan z s.ext) (sym (told_head h (node w below) d n read.id read.head read.named)) ∙ plan) own kids
+    (ap (λ z. p.build z bs ts s.ext) (sym (head_of_parts s (node w below) d n read.id h bs ts read.head read.named own kids.matched)) ∙ parts) sound stats

@@ -1,7 +1,7 @@
 -- What recoding a blob gives, what it leaves, and why it does not.
-use Rattle.std.proofs.Common.{ℕ, ◌≡◌, List, [], ◌++◌, Option, None, Some, replicate, refl, sym, ap, ◌∙◌, subst, inl, inr, append-nil}
-use Rattle.std.specs.Prelude.{Contains, IsSome}
-use Rattle.std.proofs.lemmas.List.Elements.{All-nil}
+use Rattle.std.proofs.Common.{ℕ, ◌≡◌, List, ◌++◌, Option, None, Some, replicate, refl, sym, ap, ◌∙◌, subst, inl, inr, arith}
+use Rattle.std.specs.Prelude.{IsSome}
+use Rattle.vx_buffer.specs.Buffer.{Buffer}
 use Rattle.vx_array_tree.specs.Tree.{Tree, Trees}
 use Rattle.vx_flat.specs.Weight.{weight}
 use Rattle.vx_flat.specs.Limits.{IsLight}
@@ -15,18 +15,19 @@ use Rattle.vx_array_tree.proofs.CanonLaws.{written_places}
 use Rattle.vx_wire_tree.specs.Context.{Context, with_ids, grown}
 use Rattle.vx_wire_tree.specs.Fields.{FitsMessage}
 use Rattle.vx_wire_tree.specs.Limits.{HasMessage, HasMessages}
-use Rattle.vx_wire_tree.specs.Session.{IsShipped, IsPaired}
+use Rattle.vx_wire_tree.specs.Session.{SessionMeaning, IsShipped, IsPaired}
+use Rattle.vx_wire_tree.specs.Taken.{Unwritten, unregistered, unserializable, undeclared, unwilling, HasUntaken}
 use Rattle.vx_wire_tree.specs.Tells.{Tells}
 use Rattle.vx_wire_tree.specs.Wire.{Wire, ids_in, buffers_in}
 use Rattle.vx_wire_tree.specs.Written.{wire, canon}
-use Rattle.vx_wire_tree.proofs.Laws.{matched_whole, matched_written, canon_wire, canon_written, canon_grown}
+use Rattle.vx_wire_tree.proofs.Laws.{matched_whole, matched_written, canon_wire, canon_written, canon_grown, never_untaken, no_plugin_refuses, taken_own}
 use Rattle.vx_encodings.specs.Messages.{codec}
 use Rattle.vx_serde.specs.declared.options.SerializeOptions.{SerializeOptions}
 use Rattle.vx_serde.specs.declared.error.WireError.{WireError}
-use Rattle.vx_serde.specs.declared.error.WireError.TheVariants.{OutOfMemory, TooShort, BadTable, TableLimit, BadAlignment, Compressed, OutOfBounds, UnknownIndex, UnknownEncoding, BadMetadata, BadShape, BadContent, ForeignControl, BadStats, NotPermitted, WireLimit, NotRegistered}
+use Rattle.vx_serde.specs.declared.error.WireError.TheVariants.{OutOfMemory, TooShort, BadTable, TableLimit, BadAlignment, Compressed, OutOfBounds, UnknownIndex, UnknownEncoding, BadMetadata, BadShape, BadContent, ForeignControl, BadStats, NotPermitted, WireLimit, NotRegistered, NotSerializable, UndeclaredId, PluginRefused}
 use Rattle.vx_serde.specs.ArraySchema.{array_schema}
 use Rattle.vx_serde.specs.Blob.{Carries}
-use Rattle.vx_serde.specs.Limits.{message_limits}
+use Rattle.vx_serde.specs.Limits.{message_limits, most_levels}
 use Rattle.vx_serde.specs.Opening.{RefusesOpening}
 use Rattle.vx_serde.specs.ReadingSteps.{IsOpened}
 use Rattle.vx_serde.specs.KeptContext.{KeepsContext}
@@ -35,22 +36,25 @@ use Rattle.vx_serde.specs.Placing.{data_from}
 use Rattle.vx_serde.specs.Written.{message_bytes, message_pad, blob_bytes, IsWritable}
 use Rattle.vx_buffer.specs.Joined.{joined}
 use Rattle.vx_serde.proofs.Carried.{is_blob}
-use Rattle.vx_serde.specs.Causes.{Refuses, RefusesWire, RefusesArray}
-use Rattle.vx_serde.specs.Serializing.{IsSerialized}
+use Rattle.vx_serde.specs.Causes.{Refuses, RefusesWire, RefusesArray, RefusesSpelled, SpellsOne}
+use Rattle.vx_serde.specs.Serializing.{IsWrittenBlob, IsSerialized}
 use Rattle.vx_serde.specs.Request.{Request, IsSpelled}
 use Rattle.vx_serde.specs.Recoding.{Product, IsRecoded, IsFaithful, IsTwiceAsOnce, LeavesContext}
+use Rattle.vx_serde.specs.Taking.{as_written}
 use Rattle.vx_serde.proofs.CarriedOnce.{one_blob}
 use Rattle.vx_serde.proofs.OneArray.{spelled_once}
 use Rattle.vx_serde.proofs.WrittenAgain.{spelled_again}
-use Rattle.vx_serde.proofs.Gathered.{all-written}
+use Rattle.vx_serde.proofs.Growing.{kept-same}
+use Rattle.vx_serde.proofs.Taking.{refused_own}
+use Rattle.vx_serde.proofs.WiredNodes.{wired-levels}
 
 -- An opened blob spells the array that its wire tree tells.
-pub spells : (asked : Request) → IsShipped asked.session → (w : Wire) (t : Tree) → IsOpened (message_limits asked.options) asked.blob asked.ids w → Tells codec asked.session w asked.dtype asked.len t → IsSpelled asked t
-spells asked ok w t opened told = record {
+pub spells : (asked : Request) (w : Wire) (t : Tree) → IsOpened (message_limits asked.options) asked.blob asked.ids w → Tells codec asked.session w asked.dtype asked.len t → IsSpelled asked t
+spells asked w t opened told = record {
   wire = w;
   carried = opened.carried;
   clean = opened.clean;
-  whole = matched_whole codec asked.session ok w t told.matched;
+  whole = matched_whole codec asked.session w t told.matched;
   told = told;
 }
 
@@ -96,45 +100,56 @@ mutual
   each_written_messages (more t ts) k = (written_messages t k.0, each_written_messages ts k.1)
 
 -- What was recoded can be recoded again, and its bytes stay as they are.
-twice : (asked : Request) (made : Product) → IsLawful codec asked.session → IsSpelled asked made.array → IsRecoded asked made
+twice : (asked : Request) (made : Product) → IsShipped asked.session → IsLawful codec asked.session → IsSpelled asked made.array
+    → IsWrittenBlob asked.session made.array asked.options asked.context made.context made.buffers
     → Spells (joined made.buffers) made.context.ids asked.dtype asked.len asked.session (canon codec asked.session made.array) → IsTwiceAsOnce asked made
-twice asked made law spelled recoded again =
+twice asked made ok law spelled blob again =
     let s = asked.session in
     let o = asked.options in
     let t = made.array in
     let sound = spelled.told.sound in
-    let normal = spelled.told.normal in
+    let normal = spelled.told.normal ok in
     let own : wire codec s (canon codec s t) ≡ wire codec s t = canon_wire codec s law.stats t sound normal in
     let by : Wire → List ℕ = λ w. blob_bytes (with_ids asked.context.ids (ids_in w)) o w in
     let P : Wire → Type 0 = λ w. IsWritable (with_ids asked.context.ids (ids_in w)) o w in
     let Q : List ℕ → Type 0 = λ z. KeepsReaderLimits o z in
-    let same = canon_grown codec s law.stats asked.context t sound normal ∙ recoded.serialized.grown_is in
+    let same = canon_grown codec s law.stats asked.context t sound normal ∙ blob.grown_is in
     record {
-      bytes = ap by own ∙ sym recoded.serialized.written;
+      bytes = ap by own ∙ sym blob.written;
       context = same;
       can = record {
         array = canon codec s t;
         spelled = again;
-        reader_limits = subst Q (sym recoded.serialized.written) (written_light (ids_after s t asked.context) o (wire codec s t) recoded.serialized.limits.writable);
+        reader_limits = subst Q (sym blob.written) (written_light (ids_after s t asked.context) o (wire codec s t) blob.limits.writable);
         writer_limits = record {
-          messages = subst (λ (z : Tree). HasMessages z) (sym (canon_written codec s t sound normal)) (written_messages t recoded.serialized.limits.messages);
-          writable = subst P (sym own) recoded.serialized.limits.writable;
+          messages = subst (λ (z : Tree). HasMessages z) (sym (canon_written codec s t sound normal)) (written_messages t blob.limits.messages);
+          writable = subst P (sym own) blob.limits.writable;
         };
         grows = is_some (grown codec s asked.context (canon codec s t)) made.context same;
       };
     }
 
+-- Where no plugin writes, what is serialized is written as it is.
+pub serialized_own : (s : SessionMeaning) (t : Tree) (o : SerializeOptions) (before after : Context) (bs : List Buffer) → IsShipped s → IsSerialized s t o before after bs → as_written s o t ≡ t
+serialized_own s t o before after bs ok x =
+    let written = as_written s o t in
+    taken_own s ok (most_levels o) t x.taken (omega (arith, x.blob.limits.writable.tree.nested, wired-levels s written))
+
 -- What is recoded of a spelled array is faithful to it.
 pub faithful : (asked : Request) (made : Product) → IsShipped asked.session → IsLawful codec asked.session → IsPaired asked.session → IsSpelled asked made.array → IsRecoded asked made → IsFaithful asked made
 faithful asked made ok law paired spelled recoded =
+    let own = serialized_own asked.session made.array asked.options asked.context made.context made.buffers ok recoded.serialized in
+    let B : Tree → Type 0 = λ z. IsWrittenBlob asked.session z asked.options asked.context made.context made.buffers in
+    let blob : IsWrittenBlob asked.session made.array asked.options asked.context made.context made.buffers = subst B own recoded.serialized.blob in
     let P : List ℕ → Type 0 = λ z. Spells z made.context.ids asked.dtype asked.len asked.session (canon codec asked.session made.array) in
-    let again = subst P (sym recoded.serialized.written)
-    (spelled_again asked.session ok law paired asked.blob asked.ids asked.dtype asked.len made.array asked.context made.context asked.options spelled recoded.serialized.storable recoded.serialized.grown_is recoded.serialized.limits) in
+    let again = subst P (sym blob.written)
+    (spelled_again asked.session ok law paired asked.blob asked.ids asked.dtype asked.len made.array asked.context made.context asked.options spelled blob.storable blob.grown_is blob.limits) in
     record {
       spelled = spelled;
+      own = own;
       the_one = λ other x. spelled_once asked.blob asked.ids asked.dtype asked.len asked.session other made.array ok law x spelled;
       again = again;
-      twice = twice asked made law spelled recoded again;
+      twice = twice asked made ok law spelled blob again;
     }
 
 -- ---- what is left
@@ -142,17 +157,20 @@ faithful asked made ok law paired spelled recoded =
 -- A context that is as it was.
 pub left-still : (asked : Request) → LeavesContext asked asked.context
 left-still asked = record {
-  kept = λ array spelled. record { added = []; front = sym (append-nil asked.context.ids); among = All-nil (λ id. Contains (ids_in (wire codec asked.session array)) id); permissions = refl };
+  some = inl refl;
+  kept = λ shipped array spelled. kept-same (ids_in (wire codec asked.session array)) asked.context asked.context refl;
   untouched = λ none. refl;
 }
 
 -- A context that identifiers of the spelled array came to.
-pub left-written : (asked : Request) → IsShipped asked.session → IsLawful codec asked.session → (t : Tree) (after : Context) → IsSpelled asked t → KeepsContext (ids_in (wire codec asked.session t)) asked.context after → LeavesContext asked after
-left-written asked ok law t after spelled keeps = record {
-  kept = λ array other.
+pub left-written : (asked : Request) → IsLawful codec asked.session → (t : Tree) (after : Context) → IsSpelled asked t → KeepsContext (ids_in (wire codec asked.session (as_written asked.session asked.options t))) asked.context after
+    → (IsShipped asked.session → KeepsContext (ids_in (wire codec asked.session t)) asked.context after) → LeavesContext asked after
+left-written asked law t after spelled keeps own = record {
+  some = inr (record { array = t; spelled = spelled; kept = keeps });
+  kept = λ ok array other.
       let P : Tree → Type 0 = λ z. KeepsContext (ids_in (wire codec asked.session z)) asked.context after in
       let same : array ≡ t = spelled_once asked.blob asked.ids asked.dtype asked.len asked.session array t ok law other spelled in
-      subst P (sym same) keeps;
+      subst P (sym same) (own ok);
   untouched = λ none. absurd (none t spelled);
 }
 
@@ -180,12 +198,33 @@ caused_by_tree asked BadShape w carried u = record { wire = w; carried = carried
 caused_by_tree asked BadContent w carried u = record { wire = w; carried = carried; cause = u }
 caused_by_tree asked ForeignControl w carried u = record { wire = w; carried = carried; cause = u }
 caused_by_tree asked BadStats w carried u = record { wire = w; carried = carried; cause = u }
+caused_by_tree asked PluginRefused w carried u = (λ ok. no_plugin_refuses codec asked.session ok w asked.dtype asked.len u, inl (record { wire = w; carried = carried; cause = u }))
 caused_by_tree asked _ w carried u = absurd u
 
--- An array that is not written. What was read is also written.
-pub caused_by_writing : (asked : Request) → IsShipped asked.session → IsLawful codec asked.session → (e : WireError) (t : Tree) → IsPaired asked.session → IsSpelled asked t → RefusesArray asked.session t asked.context asked.options e → Refuses asked e
-caused_by_writing asked ok law OutOfMemory t paired x u = tt
-caused_by_writing asked ok law NotPermitted t paired x u = record { array = t; spelled = x; holds = u }
-caused_by_writing asked ok law WireLimit t paired x u = record { array = t; spelled = x; holds = u }
-caused_by_writing asked ok law NotRegistered t paired x u = all-written asked.session t (matched_written codec asked.session ok law paired x.wire t x.told.matched) u
-caused_by_writing asked ok law _ t paired x u = absurd u
+-- What was read by encodings alone has writers.
+has_writers : (asked : Request) → IsLawful codec asked.session → IsPaired asked.session → (t : Tree) → IsSpelled asked t → (why : Unwritten) → HasUntaken asked.session (most_levels asked.options) why t → IsShipped asked.session → ⊥
+has_writers asked law paired t spelled why u ok =
+    never_untaken asked.session ok (most_levels asked.options) why t (matched_written codec asked.session ok law paired spelled.wire t spelled.told.matched) u
+
+-- By encodings alone it is written as it stands.
+refused_spelled : (asked : Request) → IsLawful codec asked.session → IsPaired asked.session → (e : WireError) (t : Tree) → IsSpelled asked t → RefusesArray asked.session t asked.context asked.options e
+    → SpellsOne asked (λ u. RefusesSpelled asked e u)
+refused_spelled asked law paired e t spelled u = record {
+  array = t;
+  spelled = spelled;
+  holds = record {
+    written = u;
+    own = λ ok. refused_own asked.session ok t asked.context asked.options e (matched_written codec asked.session ok law paired spelled.wire t spelled.told.matched) u;
+  };
+}
+
+-- An array that is not written.
+pub caused_by_writing : (asked : Request) → IsLawful codec asked.session → IsPaired asked.session → (e : WireError) (t : Tree) → IsSpelled asked t → RefusesArray asked.session t asked.context asked.options e → Refuses asked e
+caused_by_writing asked law paired OutOfMemory t spelled u = tt
+caused_by_writing asked law paired NotPermitted t spelled u = refused_spelled asked law paired NotPermitted t spelled u
+caused_by_writing asked law paired WireLimit t spelled u = refused_spelled asked law paired WireLimit t spelled u
+caused_by_writing asked law paired NotRegistered t spelled u = (has_writers asked law paired t spelled unregistered u, record { array = t; spelled = spelled; holds = u })
+caused_by_writing asked law paired NotSerializable t spelled u = (has_writers asked law paired t spelled unserializable u, record { array = t; spelled = spelled; holds = u })
+caused_by_writing asked law paired UndeclaredId t spelled u = (has_writers asked law paired t spelled undeclared u, record { array = t; spelled = spelled; holds = u })
+caused_by_writing asked law paired PluginRefused t spelled u = (has_writers asked law paired t spelled unwilling u, inr (record { array = t; spelled = spelled; holds = u }))
+caused_by_writing asked law paired _ t spelled u = absurd u

@@ -1,17 +1,17 @@
--- An array that is serialized: its blob, its limits and its context.
+-- A tree that is written: its blob, its limits and its context.
 use Rattle.std.proofs.Common.{ℕ, ◌≡◌, List, Some, sym, ap, ◌∙◌, subst}
 use Rattle.vx_buffer.specs.Buffer.{Buffer}
 use Rattle.vx_buffer.specs.Joined.{joined}
 use Rattle.vx_array_tree.specs.Tree.{Tree}
 use Rattle.vx_wire_tree.specs.Context.{Context, grown}
 use Rattle.vx_wire_tree.specs.Limits.{HasMessages}
-use Rattle.vx_wire_tree.specs.ReadBack.{IsWritten, HasStorableStats}
+use Rattle.vx_wire_tree.specs.ReadBack.{HasStorableStats}
 use Rattle.vx_wire_tree.specs.Session.{SessionMeaning}
 use Rattle.vx_wire_tree.specs.Written.{wire}
 use Rattle.vx_encodings.specs.Messages.{codec}
 use Rattle.vx_serde.specs.declared.options.SerializeOptions.{SerializeOptions}
 use Rattle.vx_serde.specs.Aligned.{IsAlignedBlob}
-use Rattle.vx_serde.specs.Serializing.{IsSerialized}
+use Rattle.vx_serde.specs.Serializing.{IsWrittenBlob}
 use Rattle.vx_serde.specs.Spells.{KeepsWriterLimits, blob_of, blob_buffers, ids_after}
 use Rattle.vx_serde.specs.Written.{IsWritable}
 use Rattle.vx_serde.specs.WrittenBuffers.{written_buffers}
@@ -20,9 +20,9 @@ use Rattle.vx_serde.proofs.WholeBlob.{joined-written}
 use Rattle.vx_serde.proofs.WrittenAgain.{grown-ids}
 
 -- What was written with the identifiers of the grown context.
-pub serialized : (s : SessionMeaning) (t : Tree) (o : SerializeOptions) (before after : Context) (bs : List Buffer) → grown codec s before t ≡ Some after → IsWritten s t → HasStorableStats codec t → HasMessages t
-    → IsWritable after.ids o (wire codec s t) → bs ≡ written_buffers after.ids o (wire codec s t) → IsSerialized s t o before after bs
-serialized s t o before after bs grew registered stored messages fit b =
+pub serialized : (s : SessionMeaning) (t : Tree) (o : SerializeOptions) (before after : Context) (bs : List Buffer) → grown codec s before t ≡ Some after → HasStorableStats codec t → HasMessages t
+    → IsWritable after.ids o (wire codec s t) → bs ≡ written_buffers after.ids o (wire codec s t) → IsWrittenBlob s t o before after bs
+serialized s t o before after bs grew stored messages fit b =
     let ids : after.ids ≡ ids_after s t before = grown-ids s t before after grew in
     let P : List (List ℕ) → Type 0 = λ z. IsWritable z o (wire codec s t) in
     let Q : List ℕ → Type 0 = λ z. IsAlignedBlob o.offset z in
@@ -32,7 +32,6 @@ serialized s t o before after bs grew registered stored messages fit b =
     record {
       written = bytes;
       buffers_are = own;
-      registered = registered;
       storable = stored;
       limits = limits;
       aligned = λ padded. subst Q (sym bytes) (aligned_blob s t before after o grew limits padded);

@@ -19,7 +19,7 @@ use Rattle.vx_flat.proofs.LawsOfMessages.{shown-one}
 use Rattle.vx_flat.proofs.LawsOfViews.{seen-of}
 use Rattle.vx_trees.specs.Rose.{Rose}
 use Rattle.vx_serde.specs.declared.error.WireError.{WireError}
-use Rattle.vx_serde.specs.declared.error.WireError.TheVariants.{OutOfMemory, TooShort, BadTable, TableLimit, BadAlignment, Compressed, OutOfBounds, UnknownIndex, UnknownEncoding, BadMetadata, BadShape, BadContent, ForeignControl, BadStats, NotPermitted, WireLimit, NotRegistered}
+use Rattle.vx_serde.specs.declared.error.WireError.TheVariants.{OutOfMemory, TooShort, BadTable, TableLimit, BadAlignment, Compressed, OutOfBounds, UnknownIndex, UnknownEncoding, BadMetadata, BadShape, BadContent, ForeignControl, BadStats, NotPermitted, WireLimit, NotRegistered, NotSerializable, UndeclaredId, PluginRefused}
 use Rattle.vx_serde.specs.ArraySchema.{array_schema}
 use Rattle.vx_serde.specs.Blob.{IsBlob, AreClean, buffers_at, wire_of}
 use Rattle.vx_serde.specs.Message.{Descriptor, NodeFields, message_of, node_of, root_in, descriptors_of, bytes_of_field}
@@ -128,6 +128,9 @@ refused_descriptors most BadTable given segment m value shows r = absurd (never-
 refused_descriptors most TableLimit given segment m value shows r = absurd (never-refused TableLimit given (λ g n p d x. x) (length segment) 0 0 (message_of value).descriptors r)
 refused_descriptors most UnknownIndex given segment m value shows r = absurd (never-refused UnknownIndex given (λ g n p d x. x) (length segment) 0 0 (message_of value).descriptors r)
 refused_descriptors most UnknownEncoding given segment m value shows r = absurd (never-refused UnknownEncoding given (λ g n p d x. x) (length segment) 0 0 (message_of value).descriptors r)
+refused_descriptors most NotSerializable given segment m value shows r = absurd (never-refused NotSerializable given (λ g n p d x. x) (length segment) 0 0 (message_of value).descriptors r)
+refused_descriptors most UndeclaredId given segment m value shows r = absurd (never-refused UndeclaredId given (λ g n p d x. x) (length segment) 0 0 (message_of value).descriptors r)
+refused_descriptors most PluginRefused given segment m value shows r = absurd (never-refused PluginRefused given (λ g n p d x. x) (length segment) 0 0 (message_of value).descriptors r)
 refused_descriptors most BadMetadata given segment m value shows r = absurd (never-refused BadMetadata given (λ g n p d x. x) (length segment) 0 0 (message_of value).descriptors r)
 refused_descriptors most BadShape given segment m value shows r = absurd (never-refused BadShape given (λ g n p d x. x) (length segment) 0 0 (message_of value).descriptors r)
 refused_descriptors most BadContent given segment m value shows r = absurd (never-refused BadContent given (λ g n p d x. x) (length segment) 0 0 (message_of value).descriptors r)

@@ -13,14 +13,14 @@ use Rattle.vx_serde.proofs.WiredNodes.{wired-levels}
 use Rattle.vx_wire_tree.specs.Context.{Context}
 use Rattle.vx_wire_tree.specs.Session.{SessionMeaning}
 use Rattle.vx_serde.specs.declared.error.WireError.{WireError}
-use Rattle.vx_serde.specs.declared.error.WireError.TheVariants.{OutOfMemory, NotPermitted, WireLimit, NotRegistered}
+use Rattle.vx_serde.specs.declared.error.WireError.TheVariants.{OutOfMemory, NotPermitted, WireLimit}
 use Rattle.vx_serde.specs.declared.options.SerializeOptions.{SerializeOptions}
 use Rattle.vx_serde.specs.ArraySchema.{array_schema}
 use Rattle.vx_serde.specs.MessageValue.{descriptors_bytes}
 use Rattle.vx_wire_tree.specs.Wire.{buffers_in, Wire}
 use Rattle.vx_wire_tree.specs.Written.{wire}
 use Rattle.vx_encodings.specs.Messages.{codec}
-use Rattle.vx_serde.specs.Causes.{RefusesArray}
+use Rattle.vx_serde.specs.Causes.{RefusesWriting}
 use Rattle.vx_serde.specs.Spells.{ids_after}
 use Rattle.vx_serde.specs.Limits.{message_limits, most_levels}
 use Rattle.vx_serde.specs.Placing.{pad, descriptors_from, data_from, data_end}
@@ -96,17 +96,16 @@ module _ (s : SessionMeaning) (t : Tree) (c : Context) (o : SerializeOptions) wh
   w = wire codec s t
 
   -- An array that is not laid out.
-  pub unplaced : (e : WireError) → RefusesLayout s o t c e → RefusesArray s t c o e
+  pub unplaced : (e : WireError) → RefusesLayout s o t c e → RefusesWriting s t c o e
   unfolding w
   unplaced OutOfMemory h = tt
-  unplaced WireLimit h = λ k. h k.messages (writable-placeable (ids_after s t c) o w k.writable)
-  unplaced NotRegistered h = h
+  unplaced WireLimit h = λ k. h (writable-placeable (ids_after s t c) o w k.writable)
   unplaced NotPermitted h = h
   unplaced _ h = absurd h
 
   -- An array whose message is not written.
   pub unwritten : (bytes message : List ℕ) (e : WireError) → bytes ≡ descriptors_bytes (descriptors_from o o.offset (buffers_in (wire codec s t)))
-      → message ≡ layout_of (ids_after s t c) (wire codec s t) bytes → RefusesBytes (message_limits o) message e → RefusesArray s t c o e
+      → message ≡ layout_of (ids_after s t c) (wire codec s t) bytes → RefusesBytes (message_limits o) message e → RefusesWriting s t c o e
   unfolding w
   unwritten bytes message OutOfMemory p q h = tt
   unwritten bytes message WireLimit p q h = λ k.
@@ -117,7 +116,7 @@ module _ (s : SessionMeaning) (t : Tree) (c : Context) (o : SerializeOptions) wh
 
   -- A blob that would end past the positions of 64 bits.
   pub late : (last : ℕ) (bytes message : List ℕ) → IsLaidOut o (wire codec s t) bytes last → message ≡ layout_of (ids_after s t c) (wire codec s t) bytes
-      → 2 ^ 64 ≤ last + (pad o 3 last + length message + 4) → RefusesArray s t c o WireLimit
+      → 2 ^ 64 ≤ last + (pad o 3 last + length message + 4) → RefusesWriting s t c o WireLimit
   unfolding w
   late last bytes message p e far = λ k.
       let same = e ∙ message-is (ids_after s t c) o w bytes p.descriptors_are in

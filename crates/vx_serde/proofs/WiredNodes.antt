@@ -1,5 +1,5 @@
 -- The wire tree of an array beside the array: its parts, its children and its size.
-use Rattle.std.proofs.Common.{ℕ, zero, suc, ◌≡◌, ◌+◌, ◌<◌, ◌≤◌, append_assoc, List, [], ◌∷◌, ◌++◌, length, map, take, get_or, refl, sym, ap, subst, ◌∙◌, arith, Some, None, length-append}
+use Rattle.std.proofs.Common.{ℕ, Bool, true, false, if◌then◌else◌, zero, suc, ◌≡◌, ◌+◌, ◌<◌, ◌≤◌, append_assoc, List, [], ◌∷◌, ◌++◌, length, map, take, get_or, refl, sym, ap, subst, ◌∙◌, arith, Some, None, length-append}
 use Rattle.std.specs.Prelude.{max}
 use Rattle.vx_buffer.specs.Buffer.{Buffer}
 use Rattle.vx_trees.specs.Rose.{node, end, more, label, below, roses_of}
@@ -15,9 +15,9 @@ use Rattle.vx_wire_tree.specs.Context.{Context, grown_by, index_of}
 use Rattle.vx_wire_tree.specs.Codec.{metadata_bytes}
 use Rattle.vx_wire_tree.specs.Fields.{Fields, told}
 use Rattle.vx_wire_tree.specs.Fields as F
-use Rattle.vx_wire_tree.specs.Session.{SessionMeaning}
+use Rattle.vx_wire_tree.specs.Session.{SessionMeaning, revised}
 use Rattle.vx_wire_tree.specs.Wire.{Wire, WireHead, present, all_present, id_in, buffers_at_node, buffers_in}
-use Rattle.vx_wire_tree.specs.Written.{wire, wires}
+use Rattle.vx_wire_tree.specs.Written.{writes_two, head_id, wire, wires}
 use Rattle.vx_encodings.specs.Messages.{codec, message_bytes}
 use Rattle.vx_registry.specs.Serialization.{array_id}
 use Rattle.vx_serde.specs.KeptContext.{KeepsContext}
@@ -48,6 +48,14 @@ module _ {A B : Type 0} (f : A → B) where
 abbrev pub no_session : SessionMeaning
 no_session = record { reader = λ id. None; writer = λ id. None; ext = no_readers }
 
+-- A session that reads nothing, and under which primitives have two identifiers or one.
+abbrev pub some_session : Bool → SessionMeaning
+some_session two = record { reader = λ id. None; writer = λ id. if two then Some revised else None; ext = no_readers }
+
+pub writes_so : (two : Bool) → writes_two (some_session two) ≡ two
+writes_so true = refl
+writes_so false = refl
+
 -- A foreign node's bytes stand as they are, and others as their message.
 written_bytes : (f : Fields) → metadata_bytes codec f ≡ message_bytes f
 written_bytes (F.raw bytes) = refl
@@ -67,8 +75,8 @@ module _ (s : SessionMeaning) where
   pub own-buffers : (t : Tree) → buffers_at_node (label (wire codec s t)) ≡ buffers_of (label t).body
   own-buffers (node h ts) = present-all (buffers_of h.body)
 
-  pub own-ids : (t : Tree) → id_in (label (wire codec s t)) ≡ array_id t ∷ []
-  own-ids (node h ts) = refl
+  pub own-ids : (two : Bool) → writes_two s ≡ two → (t : Tree) → id_in (label (wire codec s t)) ≡ array_id two t ∷ []
+  own-ids two q (node h ts) = ap (λ b. head_id b h ∷ []) q
 
   pub own-length : (t : Tree) → length (buffers_of (label t).body) ≡ length (buffers_at_node (label (wire codec s t)))
   own-length t = ap (λ z. length z) (sym (own-buffers t))
@@ -78,8 +86,8 @@ module _ (s : SessionMeaning) where
       let f : WireHead → List Buffer = λ h. buffers_at_node h in
       omega (arith, own-length t, ap (λ z. length z) (gathered-is f (wire codec s t)), length-append (f (label (wire codec s t))) (gathered_below f (below (wire codec s t))))
 
-  pub own-index : (t : Tree) (ids : List (List ℕ)) → encoding_index (label (wire codec s t)).id ids ≡ index_of (array_id t) ids
-  own-index (node h ts) ids = refl
+  pub own-index : (two : Bool) → writes_two s ≡ two → (t : Tree) (ids : List (List ℕ)) → encoding_index (label (wire codec s t)).id ids ≡ index_of (array_id two t) ids
+  own-index two q (node h ts) ids = ap (λ b. index_of (head_id b h) ids) q
 
   pub own-metadata : (t : Tree) → (label (wire codec s t)).metadata ≡ message_bytes (told (metadata_in (label t) (below t)))
   own-metadata (node h ts) = written_bytes (told (metadata_in h ts))
@@ -87,16 +95,16 @@ module _ (s : SessionMeaning) where
   pub own-stats : (t : Tree) → (label (wire codec s t)).stats ≡ table (stats_table (label t).stats)
   own-stats (node h ts) = refl
 
-  pub own-grown : (t : Tree) (a b : Context) → grown_by (array_id t ∷ []) a ≡ Some b → grown_by (id_in (label (wire codec s t))) a ≡ Some b
-  own-grown t a b g = ap (λ z. grown_by z a) (own-ids t) ∙ g
+  pub own-grown : (two : Bool) → writes_two s ≡ two → (t : Tree) (a b : Context) → grown_by (array_id two t ∷ []) a ≡ Some b → grown_by (id_in (label (wire codec s t))) a ≡ Some b
+  own-grown two q t a b g = ap (λ z. grown_by z a) (own-ids two q t) ∙ g
 
-  pub own-kept : (t : Tree) (a b : Context) → KeepsContext (array_id t ∷ []) a b → KeepsContext (id_in (label (wire codec s t))) a b
-  own-kept t a b k =
+  pub own-kept : (two : Bool) → writes_two s ≡ two → (t : Tree) (a b : Context) → KeepsContext (array_id two t ∷ []) a b → KeepsContext (id_in (label (wire codec s t))) a b
+  own-kept two q t a b k =
       let P : List (List ℕ) → Type 0 = λ z. KeepsContext z a b in
-      subst P (sym (own-ids t)) k
+      subst P (sym (own-ids two q t)) k
 
-  pub own-ungrown : (t : Tree) (a : Context) → grown_by (array_id t ∷ []) a ≡ None → grown_by (id_in (label (wire codec s t))) a ≡ None
-  own-ungrown t a r = ap (λ z. grown_by z a) (own-ids t) ∙ r
+  pub own-ungrown : (two : Bool) → writes_two s ≡ two → (t : Tree) (a : Context) → grown_by (array_id two t ∷ []) a ≡ None → grown_by (id_in (label (wire codec s t))) a ≡ None
+  own-ungrown two q t a r = ap (λ z. grown_by z a) (own-ids two q t) ∙ r
 
   -- ---- what stands below it
 

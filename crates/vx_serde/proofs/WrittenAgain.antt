@@ -3,7 +3,9 @@ use Rattle.std.proofs.Common.{ℕ, ◌≡◌, List, Some, refl, sym, subst}
 use Rattle.vx_trees.specs.Rose.{node, end, more, label}
 use Rattle.vx_trees.specs.Everywhere.{EverywhereBelow}
 use Rattle.vx_types.specs.Typ.{Typ}
-use Rattle.vx_array_tree.specs.Table.{own_id, buffers_of}
+use Rattle.vx_buffer.specs.Buffer.{Buffer}
+use Rattle.vx_array_tree.specs.Normal.{IsNormal}
+use Rattle.vx_array_tree.specs.Table.{buffers_of}
 use Rattle.vx_array_tree.specs.Tree.{Tree, Trees}
 use Rattle.vx_wire_tree.specs.Codec.{Codec, IsLawful}
 use Rattle.vx_wire_tree.specs.Context.{Context, grown}
@@ -11,11 +13,14 @@ use Rattle.vx_wire_tree.specs.ReadBack.{HasStorableStats}
 use Rattle.vx_wire_tree.specs.Session.{SessionMeaning, IsShipped, IsPaired}
 use Rattle.vx_wire_tree.specs.Tells.{Tells}
 use Rattle.vx_wire_tree.specs.Wire.{IsWhole, IsWholeNode, buffers_in, ids_in}
-use Rattle.vx_wire_tree.specs.Written.{wire, wires, canon}
-use Rattle.vx_wire_tree.proofs.Laws.{told_again, matched_types, matched_written, matched_unread}
+use Rattle.vx_wire_tree.specs.Written.{written_id, wire, wires, canon}
+use Rattle.vx_wire_tree.proofs.Laws.{told_again, canon_normal, matched_types, matched_written, matched_unread, returned}
 use Rattle.vx_encodings.specs.Messages.{codec}
 use Rattle.vx_serde.specs.declared.options.SerializeOptions.{SerializeOptions}
+use Rattle.vx_serde.specs.Limits.{most_levels}
 use Rattle.vx_serde.specs.Placing.{descriptors_from}
+use Rattle.vx_serde.specs.Serializing.{IsSerialized, ReturnsWhole, IsSpelledAgain}
+use Rattle.vx_serde.specs.Taking.{as_written}
 use Rattle.vx_serde.specs.Written.{blob_bytes, message_bytes, IsWritable}
 use Rattle.vx_serde.specs.Spells.{Spells, blob_of, ids_after, KeepsWriterLimits}
 use Rattle.vx_serde.proofs.Carried.{carried, message_shows}
@@ -27,7 +32,7 @@ use Rattle.vx_serde.proofs.GrownIds.{grown_by-ids}
 -- nothing is missing in an array's wire tree
 mutual
   pub wire-whole : (c : Codec) (s : SessionMeaning) (t : Tree) → IsWhole (wire c s t)
-  wire-whole c s (node h ts) = (record { id = own_id h.body; id_is = refl; buffers = buffers_of h.body; buffers_are = refl }, wires-whole c s ts)
+  wire-whole c s (node h ts) = (record { id = written_id s h; id_is = refl; buffers = buffers_of h.body; buffers_are = refl }, wires-whole c s ts)
 
   wires-whole : (c : Codec) (s : SessionMeaning) (ts : Trees) → EverywhereBelow IsWholeNode (wires c s ts)
   wires-whole c s end = tt
@@ -63,3 +68,38 @@ spelled_again s ok law paired blob read d n t old new options x stored grew fit 
     } in
     let P : List (List ℕ) → Type 0 = λ z. Spells (blob_bytes z options w) new.ids d n s (canon codec s t) in
     subst P same spelled
+
+-- What encodings and plugins write of an array that returns spells that array.
+pub returned_again : (s : SessionMeaning) → IsLawful codec s → (t : Tree) (old new : Context) (options : SerializeOptions) → ReturnsWhole s options t
+    → grown codec s old (as_written s options t) ≡ Some new → KeepsWriterLimits s (as_written s options t) old options
+    → Spells (blob_of s (as_written s options t) old options) new.ids (label t).dtype (label t).len s t
+returned_again s law t old new options x grew fit =
+    let u = as_written s options t in
+    let w = wire codec s u in
+    let same = grown-ids s u old new grew in
+    let placed = grown_by-placed (ids_in w) old new grew in
+    let W : List (List ℕ) → Type 0 = λ z. IsWritable z options w in
+    let writable = subst W (sym same) fit.writable in
+    let c = carried new.ids options w (wire-whole codec s u) (wire-tabled s u) placed.placed writable in
+    let shows = message_shows new.ids options w (wire-whole codec s u) (wire-tabled s u) placed.placed writable in
+    let counted = countable_in new.ids s u options (message_bytes new.ids options w) (descriptors_from options options.offset (buffers_in w)) shows writable.light in
+    let spelled : Spells (blob_bytes new.ids options w) new.ids (label t).dtype (label t).len s t = record {
+      wire = w;
+      carried = c.0;
+      clean = c.1;
+      whole = wire-whole codec s u;
+      told = record {
+        matched = returned codec s law x.paired (most_levels options) t x.own x.returns counted;
+        dtype = refl;
+        len = refl;
+        sound = x.own.sound;
+        normal = λ ok. subst (λ z. IsNormal z) x.own.own (canon_normal codec s t x.own.sound);
+      };
+    } in
+    let P : List (List ℕ) → Type 0 = λ z. Spells (blob_bytes z options w) new.ids (label t).dtype (label t).len s t in
+    subst P same spelled
+
+-- So do the bytes that are serialized.
+pub serialized_again : (s : SessionMeaning) → IsLawful codec s → (t : Tree) (old new : Context) (options : SerializeOptions) (bs : List Buffer) → IsSerialized s t options old new bs → ReturnsWhole s options t → IsSpelledAgain s t new bs
+serialized_again s law t old new options bs x r =
+    subst (λ z. Spells z new.ids (label t).dtype (label t).len s t) (sym x.blob.written) (returned_again s law t old new options r x.blob.grown_is x.blob.limits)

@@ -12,7 +12,7 @@ use Rattle.vx_serde.specs.declared.error.WireError.{WireError}
 use Rattle.vx_serde.specs.declared.error.WireError.TheVariants.{WireLimit}
 use Rattle.vx_serde.specs.declared.options.SerializeOptions.{SerializeOptions}
 use Rattle.vx_serde.specs.ArraySchema.{array_schema, node_fields}
-use Rattle.vx_serde.specs.Causes.{RefusesArray}
+use Rattle.vx_serde.specs.Causes.{RefusesWriting}
 use Rattle.vx_serde.specs.MessageValue.{node_value}
 use Rattle.vx_serde.specs.Numbered.{numbered}
 use Rattle.vx_serde.specs.Spells.{KeepsWriterLimits, ids_after}
@@ -30,8 +30,8 @@ array_value s t c = node_value (numbered (ids_after s t c) 0 (wire codec s t))
 abbrev pub array_pieces : SessionMeaning → Tree → Context → List Piece
 array_pieces s t c = table_pieces array_schema node_fields (array_value s t c)
 
--- Why an array's blocks are not written after those that a builder has: by the refusal. As an array is not, or because
--- with its blocks the message is too long.
+-- Why the blocks of a tree that is written do not come after those that a builder has: by the refusal. As it has no blob, or
+-- because with its blocks the message is too long.
 abbrev pub RefusesBlocks : SessionMeaning → Tree → Context → Built → WireError → Type 0
 RefusesBlocks s t c b WireLimit = (KeepsWriterLimits s t c plain_options → ⊥) ⊎ IsTooLong b (array_pieces s t c)
-RefusesBlocks s t c b e = RefusesArray s t c plain_options e
+RefusesBlocks s t c b e = RefusesWriting s t c plain_options e

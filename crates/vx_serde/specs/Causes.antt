@@ -1,20 +1,23 @@
 -- The cause of each refusal.
-use Rattle.std.specs.Prelude.{ℕ, ◌≡◌, None, ◌⊎◌}
+use Rattle.std.specs.Prelude.{ℕ, ◌≡◌, ◌≤◌, None, ◌⊎◌}
+use Rattle.vx_trees.specs.Walks.{levels}
 use Rattle.vx_types.specs.Typ.{Typ}
 use Rattle.vx_array_tree.specs.Tree.{Tree}
 use Rattle.vx_wire_tree.specs.Causes.{RefusesTree}
 use Rattle.vx_wire_tree.specs.Causes as trees
 use Rattle.vx_wire_tree.specs.Context.{Context, grown}
-use Rattle.vx_wire_tree.specs.Session.{SessionMeaning}
+use Rattle.vx_wire_tree.specs.Session.{SessionMeaning, IsShipped}
+use Rattle.vx_wire_tree.specs.Taken.{IsTaken, HasUntaken, unregistered, unserializable, undeclared, unwilling}
 use Rattle.vx_wire_tree.specs.Wire.{Wire}
 use Rattle.vx_encodings.specs.Messages.{codec}
 use Rattle.vx_serde.specs.declared.options.SerializeOptions.{SerializeOptions}
 use Rattle.vx_serde.specs.declared.error.WireError.{WireError}
-use Rattle.vx_serde.specs.declared.error.WireError.TheVariants.{OutOfMemory, TooShort, BadTable, TableLimit, BadAlignment, Compressed, OutOfBounds, UnknownIndex, UnknownEncoding, BadMetadata, BadShape, BadContent, ForeignControl, BadStats, NotPermitted, WireLimit, NotRegistered}
+use Rattle.vx_serde.specs.declared.error.WireError.TheVariants.{OutOfMemory, TooShort, BadTable, TableLimit, BadAlignment, Compressed, OutOfBounds, UnknownIndex, UnknownEncoding, BadMetadata, BadShape, BadContent, ForeignControl, BadStats, NotPermitted, WireLimit, NotRegistered, NotSerializable, UndeclaredId, PluginRefused}
 use Rattle.vx_serde.specs.Blob.{Carries}
-use Rattle.vx_serde.specs.Limits.{message_limits}
+use Rattle.vx_serde.specs.Limits.{message_limits, most_levels}
 use Rattle.vx_serde.specs.Opening.{RefusesOpening}
 use Rattle.vx_serde.specs.Spells.{KeepsWriterLimits}
+use Rattle.vx_serde.specs.Taking.{as_written}
 use Rattle.vx_serde.specs.Request.{Request, IsSpelled}
 
 -- Why a wire tree tells no array at a type and a length: by the refusal.
@@ -28,6 +31,7 @@ RefusesWire s BadShape w d n = RefusesTree trees.bad_shape codec s w d n
 RefusesWire s BadContent w d n = RefusesTree trees.bad_content codec s w d n
 RefusesWire s ForeignControl w d n = RefusesTree trees.foreign_control codec s w d n
 RefusesWire s BadStats w d n = RefusesTree trees.bad_stats codec s w d n
+RefusesWire s PluginRefused w d n = RefusesTree trees.plugin_refused codec s w d n
 RefusesWire s _ w d n = ⊥
 
 -- The blob carries a wire tree that tells no array.
@@ -42,20 +46,41 @@ pub record SpellsOne (asked : Request) (P : Tree → Type 0) : Type 0 where
   pub spelled : IsSpelled asked array
   pub holds : P array
 
--- Why an array is not written under a context: by the refusal. Want of memory has no cause but itself. The context does
--- not take one of the array's identifiers, a limit on writing is passed, or nothing writes the arrays of a node's
--- encoding, or a node is foreign and such nodes are not allowed.
+-- Why a tree that is written has no blob under a context: by the refusal. Want of memory has no cause but itself. The context
+-- does not take one of the tree's identifiers, or a limit on writing is passed.
+abbrev pub RefusesWriting : SessionMeaning → Tree → Context → SerializeOptions → WireError → Type 0
+RefusesWriting s t context options OutOfMemory = Unit {0}
+RefusesWriting s t context options NotPermitted = grown codec s context t ≡ None
+RefusesWriting s t context options WireLimit = KeepsWriterLimits s t context options → ⊥
+RefusesWriting s t context options _ = ⊥
+
+-- Each node of an array is written, in as many levels as may be written; and the context does not take one of the
+-- identifiers.
+pub record IsNotPermitted (s : SessionMeaning) (t : Tree) (context : Context) (options : SerializeOptions) : Type 0 where
+  pub taken : IsTaken s (most_levels options) t
+  pub levels_are : levels (as_written s options t) ≤ most_levels options
+  pub none : grown codec s context (as_written s options t) ≡ None
+
+-- Why an array is not written under a context: by the refusal. As it is written it has no blob; or nothing writes the arrays
+-- of a node's encoding, or a node is foreign and such nodes are not allowed; or the plugin that writes a node has no form for
+-- it, names an identifier that it does not declare, or refuses it.
 abbrev pub RefusesArray : SessionMeaning → Tree → Context → SerializeOptions → WireError → Type 0
-RefusesArray s t context options OutOfMemory = Unit {0}
-RefusesArray s t context options NotPermitted = grown codec s context t ≡ None
-RefusesArray s t context options WireLimit = KeepsWriterLimits s t context options → ⊥
-RefusesArray s t context options NotRegistered = trees.HasUnwritten s t
-RefusesArray s t context options _ = ⊥
+RefusesArray s t context options NotRegistered = HasUntaken s (most_levels options) unregistered t
+RefusesArray s t context options NotSerializable = HasUntaken s (most_levels options) unserializable t
+RefusesArray s t context options UndeclaredId = HasUntaken s (most_levels options) undeclared t
+RefusesArray s t context options PluginRefused = HasUntaken s (most_levels options) unwilling t
+RefusesArray s t context options NotPermitted = IsNotPermitted s t context options
+RefusesArray s t context options e = RefusesWriting s (as_written s options t) context options e
+
+-- Why an array that was read is not written: by the refusal. Where no plugin reads or writes, the array has no blob as it stands.
+pub record RefusesSpelled (asked : Request) (e : WireError) (t : Tree) : Type 0 where
+  pub written : RefusesArray asked.session t asked.context asked.options e
+  pub own : IsShipped asked.session → RefusesWriting asked.session t asked.context asked.options e
 
 -- Why `recode` refuses: by the refusal. Want of memory has no cause but itself. The
 -- blob's own faults come first, then those of its nodes, then those of the array
--- that it spells: an identifier that the context does not take, or a limit on writing. What is read is also written, so
--- no node of it is without a writer.
+-- that it spells: an identifier that the context does not take, a limit on writing, or that a node of it is not written. Where
+-- no plugin reads or writes, what is read is also written: then no node is without a writer, and there is no plugin to refuse.
 abbrev pub Refuses : Request → WireError → Type 0
 Refuses asked OutOfMemory = Unit {0}
 Refuses asked TooShort = RefusesOpening (message_limits asked.options) TooShort asked.blob
@@ -71,6 +96,9 @@ Refuses asked BadShape = RefusesCarried asked BadShape
 Refuses asked BadContent = RefusesCarried asked BadContent
 Refuses asked ForeignControl = RefusesCarried asked ForeignControl
 Refuses asked BadStats = RefusesCarried asked BadStats
-Refuses asked NotPermitted = SpellsOne asked (λ t. RefusesArray asked.session t asked.context asked.options NotPermitted)
-Refuses asked WireLimit = SpellsOne asked (λ t. RefusesArray asked.session t asked.context asked.options WireLimit)
-Refuses asked NotRegistered = ⊥
+Refuses asked NotPermitted = SpellsOne asked (λ t. RefusesSpelled asked NotPermitted t)
+Refuses asked WireLimit = SpellsOne asked (λ t. RefusesSpelled asked WireLimit t)
+Refuses asked NotRegistered = (IsShipped asked.session → ⊥) × SpellsOne asked (λ t. RefusesArray asked.session t asked.context asked.options NotRegistered)
+Refuses asked NotSerializable = (IsShipped asked.session → ⊥) × SpellsOne asked (λ t. RefusesArray asked.session t asked.context asked.options NotSerializable)
+Refuses asked UndeclaredId = (IsShipped asked.session → ⊥) × SpellsOne asked (λ t. RefusesArray asked.session t asked.context asked.options UndeclaredId)
+Refuses asked PluginRefused = (IsShipped asked.session → ⊥) × (RefusesCarried asked PluginRefused ⊎ SpellsOne asked (λ t. RefusesArray asked.session t asked.context asked.options PluginRefused))

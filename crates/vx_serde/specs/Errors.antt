@@ -1,10 +1,12 @@
 -- The numbers of refusals.
 use Rattle.std.specs.Prelude.{ℕ}
+use Rattle.vx_registry.specs.declared.error.RegistryError.{RegistryError}
+use Rattle.vx_registry.specs.declared.error.RegistryError.TheVariants as registry
 use Rattle.vx_serde.specs.declared.error.WireError.{WireError}
-use Rattle.vx_serde.specs.declared.error.WireError.TheVariants.{OutOfMemory, TooShort, BadTable, TableLimit, BadAlignment, Compressed, OutOfBounds, UnknownIndex, UnknownEncoding, BadMetadata, BadShape, BadContent, ForeignControl, BadStats, NotPermitted, WireLimit, NotRegistered}
+use Rattle.vx_serde.specs.declared.error.WireError.TheVariants.{OutOfMemory, TooShort, BadTable, TableLimit, BadAlignment, Compressed, OutOfBounds, UnknownIndex, UnknownEncoding, BadMetadata, BadShape, BadContent, ForeignControl, BadStats, NotPermitted, WireLimit, NotRegistered, NotSerializable, UndeclaredId, PluginRefused}
 
 -- Want of memory is 1. The blob's own faults are 10 to 15, a node's 16 to 22, and
--- those of writing 23 to 25.
+-- those of writing 23 to 27, and 28 is a plugin's, on reading and on writing.
 abbrev pub error_number : WireError → ℕ
 error_number OutOfMemory = 1
 error_number TooShort = 10
@@ -23,3 +25,14 @@ error_number BadStats = 22
 error_number NotPermitted = 23
 error_number WireLimit = 24
 error_number NotRegistered = 25
+error_number NotSerializable = 26
+error_number UndeclaredId = 27
+error_number PluginRefused = 28
+
+-- The refusals of a root, as those of an array.
+abbrev pub registry_refusal : RegistryError → WireError
+registry_refusal registry.OutOfMemory = OutOfMemory
+registry_refusal registry.NotRegistered = NotRegistered
+registry_refusal registry.UndeclaredId = UndeclaredId
+registry_refusal registry.PluginRefused = PluginRefused
+registry_refusal registry.WireLimit = WireLimit

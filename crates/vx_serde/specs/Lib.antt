@@ -15,6 +15,7 @@ pub mod Errors
 pub mod Opening
 pub mod Overrides
 pub mod Stored
+pub mod Taking
 pub mod Spells
 pub mod Request
 pub mod Causes

@@ -1,8 +1,9 @@
 -- What `recode` makes, and what it leaves.
-use Rattle.std.specs.Prelude.{◌≡◌, List, Some}
+use Rattle.std.specs.Prelude.{◌≡◌, ◌⊎◌, List, Some}
 use Rattle.vx_buffer.specs.Buffer.{Buffer}
 use Rattle.vx_array_tree.specs.Tree.{Tree}
 use Rattle.vx_wire_tree.specs.Context.{Context, grown}
+use Rattle.vx_wire_tree.specs.Session.{IsShipped}
 use Rattle.vx_wire_tree.specs.Wire.{ids_in}
 use Rattle.vx_wire_tree.specs.Written.{wire, canon}
 use Rattle.vx_encodings.specs.Messages.{codec}
@@ -11,6 +12,7 @@ use Rattle.vx_serde.specs.KeptContext.{KeepsContext}
 use Rattle.vx_serde.specs.Request.{Request, IsSpelled, CanRecode}
 use Rattle.vx_serde.specs.Serializing.{IsSerialized}
 use Rattle.vx_serde.specs.Spells.{Spells, KeepsReaderLimits, blob_of}
+use Rattle.vx_serde.specs.Taking.{as_written}
 use Rattle.vx_buffer.specs.Joined.{joined}
 
 -- What is made: an array, the buffers of its blob in order, and the context after it.
@@ -48,16 +50,26 @@ pub record IsTwiceAsOnce (asked : Request) (made : Product) : Type 0 where
   pub context : grown codec asked.session asked.context (canon codec asked.session made.array) ≡ Some made.context
   pub can : CanRecode (asked_again asked made)
 
--- The blob spells the array, and no other one; the new blob spells the same array, read with the grown context; and
+-- The blob spells the array, and no other one; it is written as it stands; the new blob spells the same array, read with the grown context; and
 -- recoding it again changes nothing.
 pub record IsFaithful (asked : Request) (made : Product) : Type 0 where
   pub spelled : IsSpelled asked made.array
+  pub own : as_written asked.session asked.options made.array ≡ made.array
   pub the_one : (other : Tree) → IsSpelled asked other → other ≡ made.array
   pub again : Spells (joined made.buffers) made.context.ids asked.dtype asked.len asked.session (canon codec asked.session made.array)
   pub twice : IsTwiceAsOnce asked made
 
+-- The context keeps what it had, and what comes to it at its end are identifiers of an array that the blob spells, as it is
+-- written.
+pub record KeepsOfSpelled (asked : Request) (after : Context) : Type 0 where
+  pub array : Tree
+  pub spelled : IsSpelled asked array
+  pub kept : KeepsContext (ids_in (wire codec asked.session (as_written asked.session asked.options array))) asked.context after
+
 -- What a call leaves of the context, whatever it answers: the context keeps what it had, and what comes to it at its
--- end are identifiers of the array that the blob spells. Where the blob spells none, nothing comes.
+-- end are identifiers of an array that the blob spells, as it is written; where no plugin reads or writes, of the one that it
+-- spells, as it stands. Where the blob spells none, nothing comes.
 pub record LeavesContext (asked : Request) (after : Context) : Type 0 where
-  pub kept : (array : Tree) → IsSpelled asked array → KeepsContext (ids_in (wire codec asked.session array)) asked.context after
+  pub some : (after ≡ asked.context) ⊎ KeepsOfSpelled asked after
+  pub kept : IsShipped asked.session → (array : Tree) → IsSpelled asked array → KeepsContext (ids_in (wire codec asked.session array)) asked.context after
   pub untouched : ((array : Tree) → IsSpelled asked array → ⊥) → after ≡ asked.context

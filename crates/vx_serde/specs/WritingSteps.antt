@@ -1,5 +1,5 @@
 -- What the steps of writing an array give, and why they refuse.
-use Rattle.std.specs.Prelude.{ℕ, ◌≡◌, ◌<◌, ◌^◌, ◌⊎◌, List, [], ◌∷◌, None, length}
+use Rattle.std.specs.Prelude.{ℕ, Bool, ◌≡◌, ◌<◌, ◌^◌, List, [], ◌∷◌, None, length}
 use Rattle.vx_flat.specs.Layout.{written_layout}
 use Rattle.vx_flat.specs.declared.limits.Limits.{Limits}
 use Rattle.vx_flat.specs.Limits.{IsLight}
@@ -9,15 +9,12 @@ use Rattle.vx_flat.specs.declared.error.FlatError.{FlatError}
 use Rattle.vx_flat.specs.declared.error.FlatError.TheVariants as tables
 use Rattle.vx_scalar_wire.specs.declared.error.ScalarWireError.{ScalarWireError}
 use Rattle.vx_scalar_wire.specs.declared.error.ScalarWireError.TheVariants as scalars
-use Rattle.vx_trees.specs.Rose.{label, below}
-use Rattle.vx_trees.specs.Walks.{levels}
 use Rattle.vx_array_tree.specs.Tree.{Tree}
-use Rattle.vx_wire_tree.specs.Causes.{HasUnwritten, LacksWriter}
 use Rattle.vx_wire_tree.specs.Context.{Context, grown_by}
 use Rattle.vx_wire_tree.specs.Session.{SessionMeaning}
 use Rattle.vx_registry.specs.Serialization.{array_id}
 use Rattle.vx_serde.specs.declared.error.WireError.{WireError}
-use Rattle.vx_serde.specs.declared.error.WireError.TheVariants.{OutOfMemory, NotPermitted, WireLimit, NotRegistered}
+use Rattle.vx_serde.specs.declared.error.WireError.TheVariants.{OutOfMemory, NotPermitted, WireLimit}
 use Rattle.vx_serde.specs.declared.options.SerializeOptions.{SerializeOptions}
 use Rattle.vx_wire_tree.specs.Wire.{Wire, ids_in, buffers_in}
 use Rattle.vx_wire_tree.specs.Written.{wire}
@@ -28,7 +25,7 @@ use Rattle.vx_serde.specs.Message.{Descriptor}
 use Rattle.vx_serde.specs.MessageValue.{descriptors_bytes, node_value}
 use Rattle.vx_serde.specs.Numbered.{numbered}
 use Rattle.vx_serde.specs.Placing.{descriptors_from, data_end}
-use Rattle.vx_wire_tree.specs.Limits.{IsWritableTree, HasMessage, HasMessages}
+use Rattle.vx_wire_tree.specs.Limits.{IsWritableTree}
 
 -- The limits that a tree keeps before its message is known: those on the tree, and one
 -- on the position where the last of its buffers ends.
@@ -63,36 +60,22 @@ builder_refusal _ = tables.MessageTooLong
 
 -- ---- nodes
 
--- A root is not written for want of memory, because its metadata does not fit its message, or because nothing writes it.
-abbrev pub RefusesNode : SessionMeaning → Tree → WireError → Type 0
-RefusesNode s t OutOfMemory = Unit {0}
-RefusesNode s t WireLimit = HasMessage (label t) (below t) → ⊥
-RefusesNode s t NotRegistered = LacksWriter s t
-RefusesNode s t _ = ⊥
+-- A root's identifier is not taken for want of memory, or because the context does not take it.
+abbrev pub RefusesRoot : Bool → Tree → Context → WireError → Type 0
+RefusesRoot two t c OutOfMemory = Unit {0}
+RefusesRoot two t c NotPermitted = grown_by (array_id two t ∷ []) c ≡ None
+RefusesRoot two t c _ = ⊥
 
--- Or because the context does not take its identifier.
-abbrev pub RefusesRoot : SessionMeaning → Tree → Context → WireError → Type 0
-RefusesRoot s t c NotPermitted = grown_by (array_id t ∷ []) c ≡ None
-RefusesRoot s t c e = RefusesNode s t e
+-- The same of a whole tree.
+abbrev pub RefusesGathering : SessionMeaning → Tree → Context → WireError → Type 0
+RefusesGathering s t c OutOfMemory = Unit {0}
+RefusesGathering s t c NotPermitted = grown_by (ids_in (wire codec s t)) c ≡ None
+RefusesGathering s t c _ = ⊥
 
--- The nodes of an array are not written for want of memory, because there are more levels than there is room for or the
--- metadata of one does not fit its message, or because nothing writes one.
-abbrev pub RefusesNodes : SessionMeaning → Tree → ℕ → WireError → Type 0
-RefusesNodes s t room OutOfMemory = Unit {0}
-RefusesNodes s t room WireLimit = (room < levels t) ⊎ (HasMessages t → ⊥)
-RefusesNodes s t room NotRegistered = HasUnwritten s t
-RefusesNodes s t room _ = ⊥
-
--- Or because the context does not take one's identifier.
-abbrev pub RefusesGathering : SessionMeaning → Tree → ℕ → Context → WireError → Type 0
-RefusesGathering s t room c NotPermitted = grown_by (ids_in (wire codec s t)) c ≡ None
-RefusesGathering s t room c e = RefusesNodes s t room e
-
--- An array is not laid out because its nodes are not written, or it passes one of the limits that are known before its
--- message.
+-- A tree is not laid out because the context does not take its identifiers, or it passes one of the limits that are known
+-- before its message.
 abbrev pub RefusesLayout : SessionMeaning → SerializeOptions → Tree → Context → WireError → Type 0
 RefusesLayout s options t c OutOfMemory = Unit {0}
-RefusesLayout s options t c WireLimit = HasMessages t → KeepsTreeLimits options (wire codec s t) → ⊥
-RefusesLayout s options t c NotRegistered = HasUnwritten s t
+RefusesLayout s options t c WireLimit = KeepsTreeLimits options (wire codec s t) → ⊥
 RefusesLayout s options t c NotPermitted = grown_by (ids_in (wire codec s t)) c ≡ None
 RefusesLayout s options t c _ = ⊥

@@ -3,81 +3,82 @@
 ghost use Rattle.std.specs.Prelude.{◌≡◌, ◌≤◌, ◌<◌, ◌^◌, Some, length, IfOk, IfErr, OnOk, OnErr, IsOk};
 ghost use Rattle.vx_flat.specs.Building.{Takes, Written, Keeps};
 ghost use Rattle.vx_trees.specs.Walks.{levels};
-ghost use Rattle.vx_types.specs.Known.{ExtMeaning};
-ghost use Rattle.vx_type_wire.specs.Session.{ext_meaning};
 ghost use Rattle.vx_wire_tree.specs.Context.{grown};
-ghost use Rattle.vx_wire_tree.specs.ReadBack.{IsWritten};
+ghost use Rattle.vx_wire_tree.specs.Session.{SessionMeaning};
+ghost use Rattle.vx_wire_tree.specs.Taken.{IsTaken};
 ghost use Rattle.vx_wire_tree.specs.Wire.{ids_in};
-ghost use Rattle.vx_wire_tree.specs.Written.{wire};
+ghost use Rattle.vx_wire_tree.specs.Written.{writes_two, wire};
 ghost use Rattle.vx_encodings.specs.Messages.{codec};
-ghost use Rattle.vx_registry.specs.Session.{tables_meaning};
+ghost use Rattle.vx_registry.specs.Meaning.{session_meaning};
 ghost use Rattle.vx_serde.specs.ArrayNode.{plain_options, array_value, array_pieces, RefusesBlocks};
 ghost use Rattle.vx_serde.specs.ArraySchema.{array_schema, node_fields};
 ghost use Rattle.vx_serde.specs.Causes.{RefusesArray};
 ghost use Rattle.vx_serde.specs.KeptContext.{KeepsContext};
+ghost use Rattle.vx_serde.specs.Taking.{as_written};
 
 use crate::error::WireError;
-use crate::gathering::{Gathered, gather, judge};
+use crate::gathering::{Gathered, gather};
 use crate::limits::{MAX_BUFFERS, MAX_LEVELS, MAX_NODES};
 use crate::nodes::{Passed, write_node};
+use crate::taken::{Source, TakenNode, take};
 use std::alloc::Global;
 use vx_arrays::Array;
 use vx_flat::{Builder, LinkKind};
-use vx_registry::{ArrayContext, ArraySession, VortexSession};
+use vx_registry::{ArrayContext, VortexSession};
 
 /// An array as a node of a message that a caller builds block by block. Its encodings are named by a context.
 #[derive(Drop)]
 pub struct ArrayNodeFlatBuffer<'a> {
     ctx: &'a mut ArrayContext,
-    arrays: &'a ArraySession,
-    unknown: bool,
-    array: &'a Array,
+    array: TakenNode<'a>,
+    two: bool,
 }
 
 impl<'a> ArrayNodeFlatBuffer<'a> {
     /// The array, where each of its nodes can be written. Nothing is taken into the context yet.
     ///
     /// # Errors
-    /// `WireLimit` where the array has over 62 levels or a node's metadata does not fit its message, and
+    /// `WireLimit` where the array as it is written has over 62 levels or a node's metadata does not fit its message;
     /// `NotRegistered` where nothing writes the arrays of a node's encoding, or a node is foreign and the session does not
-    /// allow such nodes.
+    /// allow such nodes; and `NotSerializable`, `UndeclaredId` and `PluginRefused` where the plugin that writes a node has no
+    /// form for it, names an identifier that it does not declare, or refuses it.
     pub fn try_new(
         alloc: Global,
         ctx: &'a mut ArrayContext,
-        session: &'a VortexSession,
+        session: &VortexSession,
         array: &'a Array,
     ) -> Result<ArrayNodeFlatBuffer<'a>, WireError>
         ensures same_reference { IfOk result (λ n. n.ctx.ghost_name ≡ ctx.entry.ghost_name) }
         ensures context { IfOk result (λ n. n.ctx.now ≡ ctx.old) }
-        ensures array { IfOk result (λ n. n.array.now ≡ array.now) }
-        ensures tables { IfOk result (λ n. n.arrays.now ≡ session.now.arrays) }
-        ensures levels { OnOk result (levels array.now ≤ 62) }
-        ensures unknown { let x = ext_meaning (λ b. accepted (b.vtable, b.value)) session.now.ext in
-            IfOk result (λ n. x.unknown ≡ n.unknown) }
-        ensures registered { (x : ExtMeaning) → x.unknown ≡ (ext_meaning (λ b. accepted (b.vtable, b.value)) session.now.ext).unknown
-            → OnOk result (IsWritten (tables_meaning session.now.arrays x) array.now) }
-        ensures cause { (x : ExtMeaning) → x.unknown ≡ (ext_meaning (λ b. accepted (b.vtable, b.value)) session.now.ext).unknown
-            → IfErr result (RefusesArray (tables_meaning session.now.arrays x) array.now ctx.old plain_options) }
+        ensures array { let s = session_meaning (λ b. means (b.vtable, b.value)) (λ b. accepted (b.vtable, b.value)) session.now in IfOk result (λ n. n.array ≡ as_written s plain_options array.now) }
+        ensures two { let s = session_meaning (λ b. means (b.vtable, b.value)) (λ b. accepted (b.vtable, b.value)) session.now in IfOk result (λ n. writes_two s ≡ n.two) }
+        ensures levels { IfOk result (λ n. levels n.array ≤ 62) }
+        ensures taken { let s = session_meaning (λ b. means (b.vtable, b.value)) (λ b. accepted (b.vtable, b.value)) session.now in OnOk result (IsTaken s 62 array.now) }
+        ensures cause { let s = session_meaning (λ b. means (b.vtable, b.value)) (λ b. accepted (b.vtable, b.value)) session.now in IfErr result (RefusesArray s array.now ctx.old plain_options) }
     {
+        let two = match session.arrays.writes_two(alloc) {
+            Ok(two) => two,
+            Err(_) => return Err(WireError::OutOfMemory),
+        };
         let unknown = session.allows_unknown();
-        judge(alloc, array, &session.arrays, unknown, MAX_LEVELS)?;
-        Ok(ArrayNodeFlatBuffer {
-            ctx,
-            arrays: &session.arrays,
+        let array = take(
+            alloc,
+            Source::Lent(array),
+            &session.arrays,
             unknown,
-            array,
-        })
+            MAX_LEVELS,
+        )?;
+        Ok(ArrayNodeFlatBuffer { ctx, array, two })
     }
 
     /// Takes the array's identifiers into the context in preorder, and writes the blocks of its nodes after those that
     /// the builder has, the root's first. The buffers are numbered in preorder from 0 on.
     ///
     /// # Errors
-    /// `NotPermitted` where the context does not take an identifier, `WireLimit` where the array passes a limit on
-    /// writing or the builder's message would be too long or was before, and `NotRegistered` where nothing writes the
-    /// arrays of a node's encoding, or a node is foreign and such nodes are not allowed. After each of them the context
-    /// keeps what it had and may have taken identifiers of the array, and the builder keeps the blocks that it has and
-    /// those that were written so far.
+    /// `NotPermitted` where the context does not take an identifier, and `WireLimit` where the array passes a limit on
+    /// writing or the builder's message would be too long or was before. After each of them the context keeps what it had and
+    /// may have taken identifiers of the array, and the builder keeps the blocks that it has and those that were written so
+    /// far.
     pub fn try_write_flatbuffer(
         &mut self,
         alloc: Global,
@@ -85,39 +86,45 @@ impl<'a> ArrayNodeFlatBuffer<'a> {
     ) -> Result<(), WireError>
         requires { Takes LinkKind.Table builder.old }
         ensures same_reference { self.new.ctx.ghost_name ≡ self.old.ctx.ghost_name }
-        ensures array { self.new.array.now ≡ self.old.array.now }
-        ensures tables { self.new.arrays.now ≡ self.old.arrays.now }
-        ensures unknown { self.new.unknown ≡ self.old.unknown }
-        ensures grown { (x : ExtMeaning) → let s = tables_meaning self.old.arrays.now x in
-            OnOk result (grown codec s self.old.ctx.now self.old.array.now ≡ Some self.new.ctx.now) }
-        ensures written { (x : ExtMeaning) → let s = tables_meaning self.old.arrays.now x in
-            OnOk result (Written array_schema node_fields (array_value s self.old.array.now self.old.ctx.now) builder.old builder.new) }
+        ensures array { self.new.array ≡ self.old.array }
+        ensures two { self.new.two ≡ self.old.two }
+        ensures grown { (s : SessionMeaning) → writes_two s ≡ self.old.two → OnOk result (grown codec s self.old.ctx.now self.old.array ≡ Some self.new.ctx.now) }
+        ensures written { (s : SessionMeaning) → writes_two s ≡ self.old.two → OnOk result (Written array_schema node_fields (array_value s self.old.array self.old.ctx.now) builder.old builder.new) }
         ensures fits { IsOk result → length builder.new.bytes < 2 ^ 31 }
-        ensures left { (x : ExtMeaning) → let s = tables_meaning self.old.arrays.now x in
-            KeepsContext (ids_in (wire codec s self.old.array.now)) self.old.ctx.now self.new.ctx.now }
-        ensures kept { (x : ExtMeaning) → let s = tables_meaning self.old.arrays.now x in
-            OnErr result (Keeps builder.old (array_pieces s self.old.array.now self.old.ctx.now) builder.new) }
-        ensures cause { (x : ExtMeaning) → x.unknown ≡ self.old.unknown → let s = tables_meaning self.old.arrays.now x in
-            IfErr result (RefusesBlocks s self.old.array.now self.old.ctx.now builder.old) }
+        ensures left { (s : SessionMeaning) → writes_two s ≡ self.old.two → KeepsContext (ids_in (wire codec s self.old.array)) self.old.ctx.now self.new.ctx.now }
+        ensures kept { (s : SessionMeaning) → writes_two s ≡ self.old.two → OnErr result (Keeps builder.old (array_pieces s self.old.array self.old.ctx.now) builder.new) }
+        ensures cause { (s : SessionMeaning) → writes_two s ≡ self.old.two → IfErr result (RefusesBlocks s self.old.array self.old.ctx.now builder.old) }
     {
-        let mut found = Gathered::new(alloc);
-        gather(
-            alloc,
-            self.array,
-            self.arrays,
-            self.unknown,
-            MAX_LEVELS,
-            self.ctx,
-            &mut found,
-        )?;
-        if found.buffers.len() > MAX_BUFFERS || found.encodings.len() > MAX_NODES {
-            return Err(WireError::WireLimit);
-        }
-        let mut passed = Passed {
-            nodes: 0,
-            buffers: 0,
-        };
-        write_node(alloc, self.array, &found.encodings, &mut passed, builder)?;
-        Ok(())
+        write_into(alloc, &self.array, self.two, self.ctx, builder)
     }
+}
+
+// Takes the identifiers of an array that is written into the context in preorder, and writes the blocks of its nodes after
+// those that the builder has, the root's first.
+fn write_into(
+    alloc: Global,
+    array: &TakenNode<'_>,
+    two: bool,
+    ctx: &mut ArrayContext,
+    builder: &mut Builder,
+) -> Result<(), WireError>
+    requires { Takes LinkKind.Table builder.old }
+    ensures grown { (s : SessionMeaning) → writes_two s ≡ two → OnOk result (grown codec s ctx.old array.now ≡ Some ctx.new) }
+    ensures written { (s : SessionMeaning) → writes_two s ≡ two → OnOk result (Written array_schema node_fields (array_value s array.now ctx.old) builder.old builder.new) }
+    ensures fits { IsOk result → length builder.new.bytes < 2 ^ 31 }
+    ensures left { (s : SessionMeaning) → writes_two s ≡ two → KeepsContext (ids_in (wire codec s array.now)) ctx.old ctx.new }
+    ensures kept { (s : SessionMeaning) → writes_two s ≡ two → OnErr result (Keeps builder.old (array_pieces s array.now ctx.old) builder.new) }
+    ensures cause { (s : SessionMeaning) → writes_two s ≡ two → IfErr result (RefusesBlocks s array.now ctx.old builder.old) }
+{
+    let mut found = Gathered::new(alloc);
+    gather(alloc, array, two, ctx, &mut found)?;
+    if found.buffers.len() > MAX_BUFFERS || found.encodings.len() > MAX_NODES {
+        return Err(WireError::WireLimit);
+    }
+    let mut passed = Passed {
+        nodes: 0,
+        buffers: 0,
+    };
+    write_node(alloc, array, &found.encodings, &mut passed, builder)?;
+    Ok(())
 }

@@ -1,21 +1,23 @@
 //! From a serialized array to the array that it tells.
 
-ghost use Rattle.std.specs.Prelude.{◌≡◌, List, ℕ, Some, None, IfOk, IfErr, OnOk, IsOkUnless};
+ghost use Rattle.std.specs.Prelude.{◌≡◌, List, ℕ, Some, None, bytes_eq, IfOk, IfErr, OnOk, IsOkUnless, IsSome};
+ghost use Rattle.std.specs.Map.{lookup};
 ghost use Rattle.vx_trees.specs.Rose.{label};
 ghost use Rattle.vx_types.specs.Seen.{typ};
 ghost use Rattle.vx_scalars.specs.Stats.{FitStats};
 ghost use Rattle.vx_array_tree.specs.Tree.{Tree};
-ghost use Rattle.vx_wire_tree.specs.Session.{IsShipped};
+ghost use Rattle.vx_type_wire.specs.Lent.{lent_meaning};
+ghost use Rattle.vx_type_wire.specs.Session.{ext_meaning};
+ghost use Rattle.vx_wire_tree.specs.Session.{IsShipped, IsPaired};
 ghost use Rattle.vx_wire_tree.specs.Steps.{IsToldBy};
 ghost use Rattle.vx_wire_tree.specs.Tells.{Tells};
 ghost use Rattle.vx_wire_tree.specs.Wire.{all_present};
 ghost use Rattle.vx_scalar_wire.specs.StatsShown.{ShowsStatsIn};
 ghost use Rattle.vx_encodings.specs.Messages.{codec};
-ghost use Rattle.vx_encodings.specs.Steps.{IsPlanned};
-ghost use Rattle.vx_registry.specs.Meaning.{session_meaning};
-ghost use Rattle.vx_registry.specs.Session.{ArePaired, entry, found};
+ghost use Rattle.vx_registry.specs.Meaning.{plugins_meaning, session_meaning};
+ghost use Rattle.vx_registry.specs.Session.{entry_in};
 ghost use Rattle.vx_serde.specs.Causes.{RefusesWire};
-ghost use Rattle.vx_serde.specs.Decoding.{IsHeadOf, IsNodeOf};
+ghost use Rattle.vx_serde.specs.Decoding.{IsHeadOf, IsNodeOf, PlansBy};
 ghost use Rattle.vx_serde.specs.ReadingSteps.{RefusesBuffers, RefusesStats, stats_refusal};
 ghost use Rattle.vx_serde.specs.Serialized.{wire_in};
 
@@ -23,13 +25,15 @@ use crate::error::WireError;
 use crate::keeping::keep_node;
 use crate::serialized::SerializedArray;
 use crate::serialized::node::SerializedNode;
+use crate::steps::{build_entry, plan_entry};
 use std::alloc::Global;
 use vx_arrays::{Array, Arrays};
 use vx_buffer::BufferHandles;
-use vx_encodings::{ArrayHead, ChildPlans, Encoding, EncodingError, build, plan};
-use vx_registry::{ReadContext, VortexSession};
+use vx_encodings::{ArrayHead, ChildPlans, EncodingError};
+use vx_registry::{ArrayPlugin, Entry, ReadContext, VortexSession};
 use vx_scalar_wire::{ScalarWireError, StatsSetExt};
 use vx_scalars::StatsSet;
+use vx_type_wire::{ExtPlugin, Readers};
 use vx_types::{Blob, DType, Id};
 
 impl From<EncodingError> for WireError {
@@ -88,29 +92,32 @@ struct PlannedNode {
     children: ChildPlans,
 }
 
-/// What the encoding that reads a node plans of the node's children.
+/// What the entry that reads a node plans of the node's children.
 fn plan_node(
     alloc: Global,
     node: &SerializedNode<'_>,
     id: &Id,
-    encoding: Encoding,
+    entry: Entry,
     dtype: &DType,
     len: usize,
     session: &VortexSession,
+    ext: &Readers,
 ) -> Result<PlannedNode, WireError>
-    ensures read { let s = session_meaning (λ b. accepted (b.vtable, b.value)) session.now in
-        (ids : List (List ℕ)) → (label (wire_in ids node.now)).id ≡ Some id.now → s.reader id.now ≡ Some (entry encoding)
-        → IfOk result (λ p. IsNodeOf s (wire_in ids node.now) (typ dtype.now) len encoding p.head) }
-    ensures planned { let s = session_meaning (λ b. accepted (b.vtable, b.value)) session.now in
-        IfOk result (λ p. IsPlanned s.ext encoding p.head p.children) }
-    ensures cause { let s = session_meaning (λ b. accepted (b.vtable, b.value)) session.now in
-        (ids : List (List ℕ)) → (label (wire_in ids node.now)).id ≡ Some id.now → s.reader id.now ≡ Some (entry encoding)
+    requires lent { lent_meaning (λ r. accepted r.now) ext.now ≡ ext_meaning (λ b. accepted (b.vtable, b.value)) session.now.ext }
+    requires within { IsSome (entry_in (plugins_meaning (λ b. means (b.vtable, b.value)) session.now.arrays.plugins.items) entry) }
+    ensures read { let s = session_meaning (λ b. means (b.vtable, b.value)) (λ b. accepted (b.vtable, b.value)) session.now in
+        (ids : List (List ℕ)) → (label (wire_in ids node.now)).id ≡ Some id.now → s.reader id.now ≡ entry_in (plugins_meaning (λ b. means (b.vtable, b.value)) session.now.arrays.plugins.items) entry
+        → IfOk result (λ p. IsNodeOf s (wire_in ids node.now) (typ dtype.now) len (entry_in (plugins_meaning (λ b. means (b.vtable, b.value)) session.now.arrays.plugins.items) entry) p.head) }
+    ensures planned { let s = session_meaning (λ b. means (b.vtable, b.value)) (λ b. accepted (b.vtable, b.value)) session.now in
+        IfOk result (λ p. PlansBy s.ext (entry_in (plugins_meaning (λ b. means (b.vtable, b.value)) session.now.arrays.plugins.items) entry) p.head p.children) }
+    ensures cause { let s = session_meaning (λ b. means (b.vtable, b.value)) (λ b. accepted (b.vtable, b.value)) session.now in
+        (ids : List (List ℕ)) → (label (wire_in ids node.now)).id ≡ Some id.now → s.reader id.now ≡ entry_in (plugins_meaning (λ b. means (b.vtable, b.value)) session.now.arrays.plugins.items) entry
         → IfErr result (λ e. RefusesWire s e (wire_in ids node.now) (typ dtype.now) len) }
 {
     let head = head_of(alloc, node, id, dtype, len)?;
-    match plan(alloc, encoding, &head, &session.ext) {
+    match plan_entry(alloc, entry, &head, session, ext) {
         Ok(children) => Ok(PlannedNode { head, children }),
-        Err(e) => Err(WireError::from(e)),
+        Err(e) => Err(e),
     }
 }
 
@@ -194,10 +201,10 @@ fn unread_node(
     session: &VortexSession,
 ) -> Result<Array, WireError>
     requires named { (label (wire_in ids.now node.now)).id ≡ Some id.now }
-    requires unread { found session.now.arrays.readers id.now ≡ None }
-    ensures told { let s = session_meaning (λ b. accepted (b.vtable, b.value)) session.now in
+    requires unread { lookup (bytes_eq id.now) session.now.arrays.tables.readers ≡ None }
+    ensures told { let s = session_meaning (λ b. means (b.vtable, b.value)) (λ b. accepted (b.vtable, b.value)) session.now in
         IfOk result (λ t. Tells codec s (wire_in ids.now node.now) (typ dtype.now) len t) }
-    ensures cause { let s = session_meaning (λ b. accepted (b.vtable, b.value)) session.now in
+    ensures cause { let s = session_meaning (λ b. means (b.vtable, b.value)) (λ b. accepted (b.vtable, b.value)) session.now in
         IfErr result (λ e. RefusesWire s e (wire_in ids.now node.now) (typ dtype.now) len) }
 {
     if !session.allows_unknown() {
@@ -214,20 +221,23 @@ fn decode_node(
     len: usize,
     ids: &ReadContext,
     session: &VortexSession,
+    ext: &Readers,
 ) -> Result<Array, WireError>
-    ensures told { let s = session_meaning (λ b. accepted (b.vtable, b.value)) session.now in
+    requires lent { lent_meaning (λ r. accepted r.now) ext.now ≡ ext_meaning (λ b. accepted (b.vtable, b.value)) session.now.ext }
+    ensures told { let s = session_meaning (λ b. means (b.vtable, b.value)) (λ b. accepted (b.vtable, b.value)) session.now in
         IfOk result (λ t. Tells codec s (wire_in ids.now node.now) (typ dtype.now) len t) }
-    ensures paired { OnOk result (ArePaired session.now.arrays) }
-    ensures cause { let s = session_meaning (λ b. accepted (b.vtable, b.value)) session.now in
+    ensures paired { let s = session_meaning (λ b. means (b.vtable, b.value)) (λ b. accepted (b.vtable, b.value)) session.now in
+        OnOk result (IsPaired s) }
+    ensures cause { let s = session_meaning (λ b. means (b.vtable, b.value)) (λ b. accepted (b.vtable, b.value)) session.now in
         IfErr result (λ e. RefusesWire s e (wire_in ids.now node.now) (typ dtype.now) len) }
 {
     let Some(id) = ids.resolve(node.encoding_id()) else {
         return Err(WireError::UnknownIndex);
     };
-    let Some(encoding) = session.arrays.reader(id) else {
+    let Some(entry) = session.arrays.reader(id) else {
         return unread_node(alloc, node, id, dtype, len, ids, session);
     };
-    let planned = match plan_node(alloc, node, id, encoding, dtype, len, session) {
+    let planned = match plan_node(alloc, node, id, entry, dtype, len, session, ext) {
         Ok(planned) => planned,
         Err(e) => return Err(e),
     };
@@ -237,7 +247,7 @@ fn decode_node(
             unreachable!();
         };
         let below = node.child(i);
-        let child = match decode_node(alloc, &below, &place.dtype, place.len, ids, session) {
+        let child = match decode_node(alloc, &below, &place.dtype, place.len, ids, session, ext) {
             Ok(child) => child,
             Err(e) => return Err(e),
         };
@@ -249,16 +259,9 @@ fn decode_node(
         Ok(buffers) => buffers,
         Err(e) => return Err(e),
     };
-    match build(
-        alloc,
-        encoding,
-        planned.head,
-        buffers,
-        children,
-        &session.ext,
-    ) {
+    match build_entry(alloc, entry, planned.head, buffers, children, session, ext) {
         Ok(array) => tell(alloc, node, dtype, array),
-        Err(e) => Err(WireError::from(e)),
+        Err(e) => Err(e),
     }
 }
 
@@ -279,18 +282,23 @@ impl<'a> SerializedNode<'a> {
         session: &VortexSession,
     ) -> Result<Array, WireError>
         // The array matches the node's wire tree, is sound and normal, and of this type and length.
-        ensures told { let s = session_meaning (λ b. accepted (b.vtable, b.value)) session.now in
+        ensures told { let s = session_meaning (λ b. means (b.vtable, b.value)) (λ b. accepted (b.vtable, b.value)) session.now in
             IfOk result (λ t. Tells codec s (wire_in ids.now self.now) (typ dtype.now) len t) }
         // With shipped encodings only it is the one that does; and where there is one, it is answered, or memory is wanted.
-        ensures one { let s = session_meaning (λ b. accepted (b.vtable, b.value)) session.now in
+        ensures one { let s = session_meaning (λ b. means (b.vtable, b.value)) (λ b. accepted (b.vtable, b.value)) session.now in
             IsShipped s → (t : Tree) → Tells codec s (wire_in ids.now self.now) (typ dtype.now) len t
             → IfOk result (λ u. u ≡ t) × IfErr result (λ e. e ≡ WireError.OutOfMemory) }
-        ensures paired { OnOk result (ArePaired session.now.arrays) }
+        ensures paired { let s = session_meaning (λ b. means (b.vtable, b.value)) (λ b. accepted (b.vtable, b.value)) session.now in
+            OnOk result (IsPaired s) }
         // Each refusal has its cause.
-        ensures cause { let s = session_meaning (λ b. accepted (b.vtable, b.value)) session.now in
+        ensures cause { let s = session_meaning (λ b. means (b.vtable, b.value)) (λ b. accepted (b.vtable, b.value)) session.now in
             IfErr result (λ e. RefusesWire s e (wire_in ids.now self.now) (typ dtype.now) len) }
     {
-        decode_node(alloc, self, dtype, len, ids, session)
+        let ext = match session.ext.lend(alloc) {
+            Ok(ext) => ext,
+            Err(_) => return Err(WireError::OutOfMemory),
+        };
+        decode_node(alloc, self, dtype, len, ids, session, &ext)
     }
 }
 
@@ -307,13 +315,14 @@ impl SerializedArray {
         ids: &ReadContext,
         session: &VortexSession,
     ) -> Result<Array, WireError>
-        ensures told { let s = session_meaning (λ b. accepted (b.vtable, b.value)) session.now in
+        ensures told { let s = session_meaning (λ b. means (b.vtable, b.value)) (λ b. accepted (b.vtable, b.value)) session.now in
             IfOk result (λ t. Tells codec s (wire_in ids.now self.now) (typ dtype.now) len t) }
-        ensures one { let s = session_meaning (λ b. accepted (b.vtable, b.value)) session.now in
+        ensures one { let s = session_meaning (λ b. means (b.vtable, b.value)) (λ b. accepted (b.vtable, b.value)) session.now in
             IsShipped s → (t : Tree) → Tells codec s (wire_in ids.now self.now) (typ dtype.now) len t
             → IfOk result (λ u. u ≡ t) × IfErr result (λ e. e ≡ WireError.OutOfMemory) }
-        ensures paired { OnOk result (ArePaired session.now.arrays) }
-        ensures cause { let s = session_meaning (λ b. accepted (b.vtable, b.value)) session.now in
+        ensures paired { let s = session_meaning (λ b. means (b.vtable, b.value)) (λ b. accepted (b.vtable, b.value)) session.now in
+            OnOk result (IsPaired s) }
+        ensures cause { let s = session_meaning (λ b. means (b.vtable, b.value)) (λ b. accepted (b.vtable, b.value)) session.now in
             IfErr result (λ e. RefusesWire s e (wire_in ids.now self.now) (typ dtype.now) len) }
     {
         self.root().decode(alloc, dtype, len, ids, session)

@@ -63,6 +63,15 @@ pub enum WireError {
     /// Nothing writes the arrays of an encoding, or a node is foreign and such nodes are not allowed.
     #[error("nothing writes the arrays of an encoding")]
     NotRegistered,
+    /// The plugin that writes a node has no form for it.
+    #[error("a plugin has no form for an array")]
+    NotSerializable,
+    /// The plugin that writes a node names an identifier that it does not declare.
+    #[error("a plugin names an identifier that it does not declare")]
+    UndeclaredId,
+    /// A plugin refuses a node's head or its parts or, on writing, an array.
+    #[error("a plugin refuses")]
+    PluginRefused,
 }
 
 impl WireError {
@@ -88,6 +97,9 @@ impl WireError {
             WireError::NotPermitted => 23,
             WireError::WireLimit => 24,
             WireError::NotRegistered => 25,
+            WireError::NotSerializable => 26,
+            WireError::UndeclaredId => 27,
+            WireError::PluginRefused => 28,
         }
     }
 }

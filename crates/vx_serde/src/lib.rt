@@ -18,6 +18,8 @@ mod placing;
 mod recoding;
 mod serialized;
 mod serializing;
+mod steps;
+mod taken;
 mod writing;
 
 pub use array_kind::ArrayKind;

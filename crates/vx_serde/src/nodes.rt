@@ -19,9 +19,8 @@ ghost use Rattle.vx_serde.specs.MessageValue.{index_bytes};
 ghost use Rattle.vx_serde.specs.Numbered.{numbers_from};
 
 use crate::blocks::{TABLE, VECTOR, encoding_entry, write_elements, write_statistics};
+use crate::taken::TakenNode;
 use std::alloc::{AllocError, Global};
-use vx_arrays::Array;
-use vx_encodings::metadata;
 use vx_flat::{BlockVector, Builder, FlatError, LinkKind};
 use vx_types::Blob;
 
@@ -52,11 +51,11 @@ fn number_bytes(alloc: Global, first: usize, count: usize) -> Result<Vec<u8>, Al
     Ok(bytes)
 }
 
-/// The parts of a root, which is passed by. That its metadata fits its message was judged where the nodes were gathered,
+/// The parts of a root, which is passed by. That its metadata fits its message was judged where the nodes were taken,
 /// so want of memory is what is left.
 fn node_parts(
     alloc: Global,
-    array: &Array,
+    array: &TakenNode<'_>,
     encodings: &[u16],
     passed: &mut Passed,
 ) -> Result<NodeParts, FlatError>
@@ -70,7 +69,7 @@ fn node_parts(
     ensures err { IsOkUnless result FlatError.OutOfMemory }
 {
     let encoding = encodings[passed.nodes];
-    let Ok(metadata) = metadata(alloc, array) else {
+    let Ok(metadata) = array.metadata(alloc) else {
         return Err(FlatError::OutOfMemory);
     };
     let own = array.nbuffers();
@@ -90,7 +89,7 @@ fn node_parts(
 #[cycle(nodes)]
 pub(crate) fn write_node(
     alloc: Global,
-    array: &Array,
+    array: &TakenNode<'_>,
     encodings: &[u16],
     passed: &mut Passed,
     builder: &mut Builder,
@@ -128,7 +127,7 @@ pub(crate) fn write_node(
 #[cycle(nodes)]
 fn write_nodes(
     alloc: Global,
-    arrays: &[Array],
+    arrays: &[TakenNode<'_>],
     encodings: &[u16],
     passed: &mut Passed,
     builder: &mut Builder,

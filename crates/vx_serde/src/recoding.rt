@@ -46,21 +46,21 @@ pub fn recode(
     options: &SerializeOptions,
 ) -> Result<Recoded, WireError>
     // What is made is the array's blob and the grown context, within the limits and aligned.
-    ensures made { let s = session_meaning (λ b. accepted (b.vtable, b.value)) session.now in
+    ensures made { let s = session_meaning (λ b. means (b.vtable, b.value)) (λ b. accepted (b.vtable, b.value)) session.now in
         let asked = request blob dtype.now len read_ids.now ctx.old s options.now in
         IfOk result (λ r. IsRecoded asked (product r ctx.new)) }
     // With shipped encodings only, the array is the one that the blob spells, the new blob spells it again, and
     // what can be done is done, or memory is wanted.
-    ensures shipped { let s = session_meaning (λ b. accepted (b.vtable, b.value)) session.now in
+    ensures shipped { let s = session_meaning (λ b. means (b.vtable, b.value)) (λ b. accepted (b.vtable, b.value)) session.now in
         let asked = request blob dtype.now len read_ids.now ctx.old s options.now in
         IsShipped asked.session → IfOk result (λ r. IsFaithful asked (product r ctx.new))
         × (CanRecode asked → IfErr result (λ e. e ≡ WireError.OutOfMemory)) }
     // Whatever the answer, the context keeps what it had, and what comes to it is the spelled array's.
-    ensures left { let s = session_meaning (λ b. accepted (b.vtable, b.value)) session.now in
+    ensures left { let s = session_meaning (λ b. means (b.vtable, b.value)) (λ b. accepted (b.vtable, b.value)) session.now in
         let asked = request blob dtype.now len read_ids.now ctx.old s options.now in
         LeavesContext asked ctx.new }
     // Each refusal has its cause.
-    ensures cause { let s = session_meaning (λ b. accepted (b.vtable, b.value)) session.now in
+    ensures cause { let s = session_meaning (λ b. means (b.vtable, b.value)) (λ b. accepted (b.vtable, b.value)) session.now in
         let asked = request blob dtype.now len read_ids.now ctx.old s options.now in
         IfErr result (Refuses asked) }
 {

@@ -1,13 +1,16 @@
 //! Writing an array as a blob.
 
 ghost use Rattle.std.specs.Prelude.{IfOk, IfErr};
+ghost use Rattle.vx_wire_tree.specs.ReadBack.{IsWritten};
+ghost use Rattle.vx_wire_tree.specs.Session.{IsShipped};
 ghost use Rattle.vx_wire_tree.specs.Wire.{ids_in};
 ghost use Rattle.vx_wire_tree.specs.Written.{wire};
 ghost use Rattle.vx_encodings.specs.Messages.{codec};
 ghost use Rattle.vx_registry.specs.Meaning.{session_meaning};
-ghost use Rattle.vx_serde.specs.Causes.{RefusesArray};
+ghost use Rattle.vx_serde.specs.Causes.{RefusesArray, RefusesWriting};
 ghost use Rattle.vx_serde.specs.KeptContext.{KeepsContext};
-ghost use Rattle.vx_serde.specs.Serializing.{IsSerialized};
+ghost use Rattle.vx_serde.specs.Serializing.{IsSerialized, ReturnsWhole, IsSpelledAgain};
+ghost use Rattle.vx_serde.specs.Taking.{as_written};
 
 use crate::error::WireError;
 use crate::options::SerializeOptions;
@@ -38,8 +41,10 @@ impl ArrayExt for Array {
     /// # Errors
     /// `NotPermitted` where the context does not take an identifier, `WireLimit` where the array
     /// passes a limit on writing, and `NotRegistered` where nothing writes the arrays of a node's
-    /// encoding, or a node is foreign and the session does not allow such nodes. After each of them
-    /// the context keeps what it had, and may have taken identifiers of the array.
+    /// encoding, or a node is foreign and the session does not allow such nodes; `NotSerializable`,
+    /// `UndeclaredId` and `PluginRefused` where the plugin that writes a node has no form for it, names
+    /// an identifier that it does not declare, or refuses it. After each of them the context keeps
+    /// what it had, and may have taken identifiers of the array as it is written.
     fn serialize(
         &self,
         alloc: Global,
@@ -47,12 +52,17 @@ impl ArrayExt for Array {
         session: &VortexSession,
         options: &SerializeOptions,
     ) -> Result<ByteBuffers, WireError>
-        ensures made { let s = session_meaning (λ b. accepted (b.vtable, b.value)) session.now in
-            IfOk result (λ buffers. IsSerialized s self.now options.now ctx.old ctx.new buffers) }
-        ensures left { let s = session_meaning (λ b. accepted (b.vtable, b.value)) session.now in
-            KeepsContext (ids_in (wire codec s self.now)) ctx.old ctx.new }
-        ensures cause { let s = session_meaning (λ b. accepted (b.vtable, b.value)) session.now in
-            IfErr result (RefusesArray s self.now ctx.old options.now) }
+        ensures made { let s = session_meaning (λ b. means (b.vtable, b.value)) (λ b. accepted (b.vtable, b.value)) session.now in IfOk result (λ buffers. IsSerialized s self.now options.now ctx.old ctx.new buffers) }
+        // An array that returns is spelled by what is written of it, whatever encodings and plugins wrote.
+        ensures returned { let s = session_meaning (λ b. means (b.vtable, b.value)) (λ b. accepted (b.vtable, b.value)) session.now in
+            IfOk result (λ buffers. ReturnsWhole s options.now self.now → IsSpelledAgain s self.now ctx.new buffers) }
+        ensures left { let s = session_meaning (λ b. means (b.vtable, b.value)) (λ b. accepted (b.vtable, b.value)) session.now in KeepsContext (ids_in (wire codec s (as_written s options.now self.now))) ctx.old ctx.new }
+        // With shipped encodings only these are identifiers of the array as it stands.
+        ensures own { let s = session_meaning (λ b. means (b.vtable, b.value)) (λ b. accepted (b.vtable, b.value)) session.now in IsShipped s → KeepsContext (ids_in (wire codec s self.now)) ctx.old ctx.new }
+        ensures cause { let s = session_meaning (λ b. means (b.vtable, b.value)) (λ b. accepted (b.vtable, b.value)) session.now in IfErr result (RefusesArray s self.now ctx.old options.now) }
+        // With shipped encodings only, where each node has a writer, the array has no blob as it stands.
+        ensures cause_own { let s = session_meaning (λ b. means (b.vtable, b.value)) (λ b. accepted (b.vtable, b.value)) session.now in
+            IsShipped s → IsWritten s self.now → IfErr result (RefusesWriting s self.now ctx.old options.now) }
     {
         let unknown = session.allows_unknown();
         write_array(alloc, self, &session.arrays, unknown, ctx, options)

@@ -9,23 +9,25 @@ ghost use Rattle.vx_flat.specs.Pieces.{pieces};
 ghost use Rattle.vx_flat.specs.Shows.{Shows};
 ghost use Rattle.vx_flat.specs.Value.{Fields};
 ghost use Rattle.vx_flat.specs.Weight as weigh;
-ghost use Rattle.vx_trees.specs.Walks.{nodes};
+ghost use Rattle.vx_trees.specs.Walks.{levels, nodes};
 ghost use Rattle.vx_types.specs.Known.{ExtMeaning};
 ghost use Rattle.vx_wire_tree.specs.Context.{grown_by};
 ghost use Rattle.vx_wire_tree.specs.Limits.{AreDescribable, HasMessages};
-ghost use Rattle.vx_wire_tree.specs.ReadBack.{IsWritten, HasStorableStats};
-ghost use Rattle.vx_wire_tree.specs.Session.{SessionMeaning};
+ghost use Rattle.vx_wire_tree.specs.ReadBack.{HasStorableStats};
+ghost use Rattle.vx_wire_tree.specs.Session.{SessionMeaning, IsShipped};
 ghost use Rattle.vx_wire_tree.specs.Wire.{ids_in, buffers_in};
-ghost use Rattle.vx_wire_tree.specs.Written.{wire};
+ghost use Rattle.vx_wire_tree.specs.Written.{writes_two, wire};
 ghost use Rattle.vx_encodings.specs.Messages.{codec};
-ghost use Rattle.vx_registry.specs.Session.{tables_meaning};
+ghost use Rattle.vx_registry.specs.Meaning.{arrays_meaning};
 ghost use Rattle.vx_buffer.specs.Joined.{joined};
 ghost use Rattle.vx_serde.specs.ArraySchema.{array_schema};
 ghost use Rattle.vx_serde.specs.Blocks.{AreWritten, encodings_in, message_by, layout_by};
-ghost use Rattle.vx_serde.specs.Causes.{RefusesArray};
+ghost use Rattle.vx_serde.specs.Causes.{RefusesArray, RefusesWriting};
 ghost use Rattle.vx_serde.specs.KeptContext.{KeepsContext};
+ghost use Rattle.vx_serde.specs.Limits.{most_levels as levels_by};
 ghost use Rattle.vx_serde.specs.Placing.{data_end};
-ghost use Rattle.vx_serde.specs.Serializing.{IsSerialized};
+ghost use Rattle.vx_serde.specs.Serializing.{IsWrittenBlob, IsSerialized};
+ghost use Rattle.vx_serde.specs.Taking.{as_written};
 ghost use Rattle.vx_serde.specs.WritingSteps.{IsLaidOut, RefusesLayout, RefusesBytes, AreDescriptors};
 ghost use Rattle.vx_serde.specs.WrittenBuffers.{unaligned, pad_buffers, data_buffers, greatest_exponent};
 
@@ -38,6 +40,7 @@ use crate::limits::{MAX_BUFFERS, MAX_NODES, are_describable, most_levels};
 use crate::nodes::{Passed, write_node};
 use crate::options::SerializeOptions;
 use crate::placing::{LaidOut, describe, greatest_alignment, pad_at, push_data, push_pad};
+use crate::taken::{Source, TakenNode, take};
 use std::alloc::Global;
 use vx_arrays::Array;
 use vx_buffer::{BufferError, ByteBuffer, ByteBuffers};
@@ -94,7 +97,7 @@ fn light_message(message: FlatBuffer, deep: bool) -> Result<Vec<u8>, WireError>
 /// Writes the blocks of a message: of its table, of an array's nodes, and of the bytes of descriptors.
 fn write_blocks(
     alloc: Global,
-    array: &Array,
+    array: &TakenNode<'_>,
     encodings: &[u16],
     descriptors: &[u8],
     builder: &mut Builder,
@@ -124,7 +127,7 @@ fn write_blocks(
 /// not.
 fn write_message(
     alloc: Global,
-    array: &Array,
+    array: &TakenNode<'_>,
     encodings: &[u16],
     descriptors: &[u8],
     deep: bool,
@@ -152,29 +155,25 @@ fn write_message(
     light_message(message, deep)
 }
 
-/// What an array's nodes bring along in preorder, and where its buffers go. Foreign nodes are written where `unknown` ones
-/// are allowed. Its identifiers are taken into the context
-/// in preorder.
+/// What an array's nodes bring along in preorder, and where its buffers go. Its identifiers are taken into the context
+/// in preorder; primitives have two (`two`) or one.
 fn place<'a>(
     alloc: Global,
-    array: &'a Array,
-    arrays: &ArraySession,
-    unknown: bool,
+    array: &'a TakenNode<'_>,
+    two: bool,
     ctx: &mut ArrayContext,
     options: &SerializeOptions,
 ) -> Result<(Gathered<'a>, LaidOut), WireError>
+    requires levels { levels array.now ≤ levels_by options.now }
     ensures buffers { (s : SessionMeaning) → IfOk result (λ p. p.0.buffers ≡ buffers_in (wire codec s array.now)) }
-    ensures encodings { (s : SessionMeaning) → IfOk result (λ p. p.0.encodings.items ≡ encodings_in ctx.new.ids (wire codec s array.now)) }
+    ensures encodings { (s : SessionMeaning) → writes_two s ≡ two → IfOk result (λ p. p.0.encodings.items ≡ encodings_in ctx.new.ids (wire codec s array.now)) }
     ensures placed { (s : SessionMeaning) → IfOk result (λ p. IsLaidOut options.now (wire codec s array.now) p.1.descriptors.items p.1.end) }
-    ensures written { (x : ExtMeaning) → x.unknown ≡ unknown → OnOk result (IsWritten (tables_meaning arrays.now x) array.now) }
-    ensures messages { OnOk result (HasMessages array.now) }
-    ensures grown { (s : SessionMeaning) → OnOk result (grown_by (ids_in (wire codec s array.now)) ctx.old ≡ Some ctx.new) }
-    ensures kept { (s : SessionMeaning) → KeepsContext (ids_in (wire codec s array.now)) ctx.old ctx.new }
-    ensures refused { (x : ExtMeaning) → x.unknown ≡ unknown → IfErr result (RefusesLayout (tables_meaning arrays.now x) options.now array.now ctx.old) }
+    ensures grown { (s : SessionMeaning) → writes_two s ≡ two → OnOk result (grown_by (ids_in (wire codec s array.now)) ctx.old ≡ Some ctx.new) }
+    ensures kept { (s : SessionMeaning) → writes_two s ≡ two → KeepsContext (ids_in (wire codec s array.now)) ctx.old ctx.new }
+    ensures refused { (s : SessionMeaning) → writes_two s ≡ two → IfErr result (RefusesLayout s options.now array.now ctx.old) }
 {
-    let levels = most_levels(options);
     let mut found = Gathered::new(alloc);
-    gather(alloc, array, arrays, unknown, levels, ctx, &mut found)?;
+    gather(alloc, array, two, ctx, &mut found)?;
     if found.buffers.len() > MAX_BUFFERS || !are_describable(&found.buffers) {
         return Err(WireError::WireLimit);
     }
@@ -195,20 +194,21 @@ fn has_end(end: usize, padding: usize, message: usize) -> bool
     end.checked_add(padding + message + 4).is_some()
 }
 
-/// Writes an array: the buffers, one after the other, are its blob.
-pub(crate) fn write_array(
+/// Writes an array whose nodes were taken: the buffers, one after the other, are its blob.
+fn write_taken(
     alloc: Global,
-    array: &Array,
-    arrays: &ArraySession,
-    unknown: bool,
+    array: &TakenNode<'_>,
+    two: bool,
     ctx: &mut ArrayContext,
     options: &SerializeOptions,
 ) -> Result<ByteBuffers, WireError>
-    ensures made { (x : ExtMeaning) → x.unknown ≡ unknown → IfOk result (λ bs. IsSerialized (tables_meaning arrays.now x) array.now options.now ctx.old ctx.new bs) }
-    ensures kept { (s : SessionMeaning) → KeepsContext (ids_in (wire codec s array.now)) ctx.old ctx.new }
-    ensures cause { (x : ExtMeaning) → x.unknown ≡ unknown → IfErr result (RefusesArray (tables_meaning arrays.now x) array.now ctx.old options.now) }
+    requires levels { levels array.now ≤ levels_by options.now }
+    requires messages { HasMessages array.now }
+    ensures made { (s : SessionMeaning) → writes_two s ≡ two → IfOk result (λ bs. IsWrittenBlob s array.now options.now ctx.old ctx.new bs) }
+    ensures kept { (s : SessionMeaning) → writes_two s ≡ two → KeepsContext (ids_in (wire codec s array.now)) ctx.old ctx.new }
+    ensures cause { (s : SessionMeaning) → writes_two s ≡ two → IfErr result (RefusesWriting s array.now ctx.old options.now) }
 {
-    let (found, placed) = place(alloc, array, arrays, unknown, ctx, options)?;
+    let (found, placed) = place(alloc, array, two, ctx, options)?;
     let message = write_message(
         alloc,
         array,
@@ -223,4 +223,29 @@ pub(crate) fn write_array(
         return Err(WireError::WireLimit);
     }
     Ok(blob_buffers(alloc, options, &found.buffers, padding, message)?)
+}
+
+/// Writes an array: the buffers, one after the other, are its blob.
+pub(crate) fn write_array(
+    alloc: Global,
+    array: &Array,
+    arrays: &ArraySession,
+    unknown: bool,
+    ctx: &mut ArrayContext,
+    options: &SerializeOptions,
+) -> Result<ByteBuffers, WireError>
+    ensures made { (x : ExtMeaning) → x.unknown ≡ unknown → IfOk result (λ bs. IsSerialized (arrays_meaning (λ b. means (b.vtable, b.value)) arrays.now x) array.now options.now ctx.old ctx.new bs) }
+    ensures kept { (x : ExtMeaning) → x.unknown ≡ unknown → let s = arrays_meaning (λ b. means (b.vtable, b.value)) arrays.now x in
+        KeepsContext (ids_in (wire codec s (as_written s options.now array.now))) ctx.old ctx.new }
+    ensures own { (x : ExtMeaning) → x.unknown ≡ unknown → let s = arrays_meaning (λ b. means (b.vtable, b.value)) arrays.now x in
+        IsShipped s → KeepsContext (ids_in (wire codec s array.now)) ctx.old ctx.new }
+    ensures cause { (x : ExtMeaning) → x.unknown ≡ unknown → IfErr result (RefusesArray (arrays_meaning (λ b. means (b.vtable, b.value)) arrays.now x) array.now ctx.old options.now) }
+{
+    let two = match arrays.writes_two(alloc) {
+        Ok(two) => two,
+        Err(_) => return Err(WireError::OutOfMemory),
+    };
+    let room = most_levels(options);
+    let node = take(alloc, Source::Lent(array), arrays, unknown, room)?;
+    write_taken(alloc, &node, two, ctx, options)
 }

@@ -1,5 +1,5 @@
 -- The root of an array's message, and which of its links are left.
-use Rattle.std.proofs.Common.{ℕ, ◌≡◌, false, List, [], ◌∷◌, None, refl, sym, ap, ◌∙◌, subst}
+use Rattle.std.proofs.Common.{ℕ, ◌≡◌, Bool, true, false, List, [], ◌∷◌, None, refl, sym, ap, ◌∙◌, subst}
 use Rattle.vx_flat.specs.declared.builder.piece.BlockField.TheVariants as entry
 use Rattle.vx_flat.specs.declared.builder.piece.LinkKind.TheVariants as link
 use Rattle.vx_flat.specs.declared.schema.FieldKind.{FieldKind}
@@ -8,6 +8,19 @@ use Rattle.vx_flat.specs.Pieces.{Piece, table_piece, elements_piece, entries, fi
 use Rattle.vx_flat.specs.Schema.{Schema}
 use Rattle.vx_flat.specs.Value.{Fields}
 use Rattle.vx_flat.proofs.LawsOfBuilding.{failed-with_pieces, waits-with_pieces}
+use Rattle.vx_types.specs.Known.{no_readers}
+use Rattle.vx_wire_tree.specs.Session.{SessionMeaning}
+use Rattle.vx_wire_tree.specs.Written.{writes_two}
+use Rattle.vx_registry.specs.Session.{shipped_meaning, revised_meaning}
+
+-- A session that writes primitives under two identifiers, or under one.
+abbrev pub session_for : Bool → SessionMeaning
+session_for true = revised_meaning no_readers
+session_for false = shipped_meaning no_readers
+
+pub writes_so : (two : Bool) → writes_two (session_for two) ≡ two
+writes_so true = refl
+writes_so false = refl
 
 -- The root links a table and a vector.
 abbrev root_piece : Piece

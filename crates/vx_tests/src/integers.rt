@@ -122,7 +122,7 @@ fn the_greatest_pad_is_written(rt: HostRuntime) {
 }
 
 // Words that are no command.
-const NO_COMMANDS: [&[&str]; 11] = [
+const NO_COMMANDS: [&[&str]; 12] = [
     &[],
     &["recode", "t", "b", "4", "i", "o"],
     &["decode", "t", "b", "4", "i", "o", "j"],
@@ -147,6 +147,9 @@ const NO_COMMANDS: [&[&str]; 11] = [
     ],
     &[
         "recode", "t", "b", "4", "i", "o", "j", "--deep", "--rows", "1", "--deep",
+    ],
+    &[
+        "recode", "t", "b", "4", "i", "o", "j", "--rev2", "--rows", "1", "--rev2",
     ],
 ];
 

@@ -23,6 +23,8 @@ mod nested;
 #[cfg(test)]
 mod program;
 #[cfg(test)]
+mod revised;
+#[cfg(test)]
 mod varbins;
 #[cfg(test)]
 mod varbinviews;

@@ -71,5 +71,5 @@ kept_tells c s id (node w ws) d n t i r allowed k = record {
   dtype = k.place.dtype;
   len = k.place.len;
   sound = k.sound;
-  normal = k.normal;
+  normal = λ _. k.normal;
 }

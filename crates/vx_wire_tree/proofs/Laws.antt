@@ -2,19 +2,20 @@
 use Rattle.std.proofs.Common.{ℕ, ◌≡◌, ◌+◌, ◌<◌, ◌≤◌, List, [], ◌∷◌, ◌++◌, Some, None, IsTrue, sym, ap, ◌∙◌, take, length, get_or}
 use Rattle.vx_buffer.specs.Buffer.{Buffer}
 use Rattle.vx_trees.specs.Rose.{node, label, count, roses_of, roses_list}
+use Rattle.vx_trees.specs.Walks.{levels}
 use Rattle.vx_types.specs.Typ.{Typ}
 use Rattle.vx_array_tree.specs.Body as B
 use Rattle.vx_array_tree.specs.Canon.{stats_written, KeepsStats}
 use Rattle.vx_array_tree.specs.Encoding.{Encoding}
-use Rattle.vx_array_tree.specs.Metadata.{Metadata}
+use Rattle.vx_array_tree.specs.Encoding as E
 use Rattle.vx_array_tree.specs.Normal.{IsNormal}
 use Rattle.vx_array_tree.specs.Place.{Place}
 use Rattle.vx_array_tree.specs.Sound.{IsSound}
-use Rattle.vx_array_tree.specs.Table.{own_id, buffers_of, metadata_of, plan_of, Takes}
-use Rattle.vx_array_tree.specs.Tree.{Tree, Trees, places, rows_of, encodings, untold}
+use Rattle.vx_array_tree.specs.Table.{buffers_of, metadata_of}
+use Rattle.vx_array_tree.specs.Tree.{Tree, Trees, places, rows_of, untold}
 use Rattle.vx_array_tree.proofs.CanonLaws as Canon
 use Rattle.vx_array_tree.proofs.CanonPlaces.{canon_dtype, canon_len}
-use Rattle.vx_wire_tree.specs.Causes.{AreOf, HasChildren, Refusal, RefusesTree}
+use Rattle.vx_wire_tree.specs.Causes.{HasChildren, Refusal, plugin_refused, RefusesTree}
 use Rattle.vx_wire_tree.specs.Codec.{Codec, HasLawfulStats, IsLawful, metadata_bytes}
 use Rattle.vx_wire_tree.specs.Fields.{told}
 use Rattle.vx_wire_tree.specs.Context.{Context, grown_by, grown}
@@ -22,23 +23,29 @@ use Rattle.vx_wire_tree.specs.Kept.{IsKeptAs, AreKeptAs}
 use Rattle.vx_wire_tree.specs.Limits.{HasMessages}
 use Rattle.vx_wire_tree.specs.Matches.{Matches, AllMatch}
 use Rattle.vx_wire_tree.specs.ReadBack.{IsUnread, IsWritten, HasKnownTypes, HasCountableMetadata, HasStorableStats}
-use Rattle.vx_wire_tree.specs.Session.{SessionMeaning, IsShipped, IsPaired, shipped}
+use Rattle.vx_wire_tree.specs.Revised.{revised_holds}
+use Rattle.vx_wire_tree.specs.Session.{SessionMeaning, IsShipped, IsPaired, shipped, revised}
 use Rattle.vx_wire_tree.specs.Steps.{PlansChildren, HasParts, IsToldBy}
 use Rattle.vx_wire_tree.specs.Tells.{Tells}
 use Rattle.vx_wire_tree.specs.Wire.{Wire, Wires, WireHead, IsWhole, ids_in, all_present}
-use Rattle.vx_wire_tree.specs.Written.{spelled, wire, canon}
+use Rattle.vx_wire_tree.specs.Returns.{IsOwnCanon, Returns}
+use Rattle.vx_wire_tree.specs.Taken.{taken, IsTaken, Unwritten, HasUntaken}
+use Rattle.vx_wire_tree.specs.Written.{writes_two, body_id, spelled, wire, canon}
 use Rattle.vx_wire_tree.proofs.Built as Built
 use Rattle.vx_wire_tree.proofs.Kept as Kept
 use Rattle.vx_wire_tree.proofs.Matched as Matched
 use Rattle.vx_wire_tree.proofs.NeverRefused as NeverRefused
+use Rattle.vx_wire_tree.proofs.PluginsAgain as PluginsAgain
 use Rattle.vx_wire_tree.proofs.ReadAgain as ReadAgain
+use Rattle.vx_wire_tree.proofs.TakenOwn as TakenOwn
+use Rattle.vx_wire_tree.proofs.TwoIdentifiers.{read_shipped, read_revised}
 use Rattle.vx_wire_tree.proofs.Unique as Unique
 use Rattle.vx_wire_tree.proofs.WrittenAlike as WrittenAlike
 
 module _ (c : Codec) (s : SessionMeaning) where
   -- A foreign node is spelled as what it keeps.
   pub own_spelling : Canon.SpellsOwn (spelled c s)
-  own_spelling h ts x e = ap (λ b. record { id = own_id b; metadata = metadata_bytes c (told (metadata_of b (places ts))); buffers = buffers_of b }) e
+  own_spelling h ts x e = ap (λ b. record { id = body_id (writes_two s) b h.len; metadata = metadata_bytes c (told (metadata_of b (places ts))); buffers = buffers_of b }) e
 
   -- A sound normal array is read back as itself, where its statistics are kept, and in any case but for
   -- statistics; it is written as what is read back.
@@ -78,11 +85,11 @@ module _ (c : Codec) (s : SessionMeaning) where
   pub matched_count : (ws : Wires) (ts : Trees) → AllMatch c s ws ts → count ts ≡ count ws
   matched_count ws ts m = Unique.all_count c s ws ts m
 
-  module _ (ok : IsShipped s) where
-    -- Nothing is missing in a wire tree that matches an array.
-    pub matched_whole : (w : Wire) (t : Tree) → Matches c s w t → IsWhole w
-    matched_whole w t m = NeverRefused.whole c s ok w t m
+  -- Nothing is missing in a wire tree that matches an array.
+  pub matched_whole : (w : Wire) (t : Tree) → Matches c s w t → IsWhole w
+  matched_whole w t m = NeverRefused.whole c s w t m
 
+  module _ (ok : IsShipped s) where
     -- The types in the metadata of an array that matches a wire tree are known.
     pub matched_types : (w : Wire) (t : Tree) → Matches c s w t → HasKnownTypes s t
     matched_types w t m = Matched.matched_types c s ok w t m
@@ -95,14 +102,10 @@ module _ (c : Codec) (s : SessionMeaning) where
       pub matched_unread : (w : Wire) (t : Tree) → Matches c s w t → IsUnread s t
       matched_unread w t m = Matched.matched_unread c s ok law w t m
 
-      -- Where children are planned and may not stand below their node, each is read by its encoding.
-      pub untaken_of : (e : Encoding) (d : Typ) (n : ℕ) (v : Metadata) (ps : List Place) (ws : Wires) (ts : Trees) → plan_of e d n v (count ws) ≡ Some ps → AllMatch c s ws ts → (Takes e (encodings ts) → ⊥) → AreOf s ws (encodings ts)
-      untaken_of e d n v ps ws ts p m never = Matched.untaken_of c s ok law e d n v ps ws ts p m never
-
       -- A wire tree tells at most one array of a type and a length.
       pub one_tree : (w : Wire) (d : Typ) (n : ℕ) (t u : Tree) → Tells c s w d n t → Tells c s w d n u → t ≡ u
       one_tree w d n t u x y =
-          Unique.one_tree c s law ok w t u x.matched y.matched x.sound y.sound x.normal y.normal (x.dtype ∙ sym y.dtype) (x.len ∙ sym y.len)
+          Unique.one_tree c s law ok w t u x.matched y.matched x.sound y.sound (x.normal ok) (y.normal ok) (x.dtype ∙ sym y.dtype) (x.len ∙ sym y.len)
 
       -- Where it tells one, no refusal has its cause.
       pub never_refused : (r : Refusal) (w : Wire) (d : Typ) (n : ℕ) (t : Tree) → Tells c s w d n t → RefusesTree r c s w d n → ⊥
@@ -118,7 +121,7 @@ module _ (c : Codec) (s : SessionMeaning) where
         dtype = canon_dtype (spelled c s) (label t).dtype t;
         len = canon_len (spelled c s) (label t).dtype t;
         sound = Canon.canon_sound (spelled c s) t x;
-        normal = Canon.canon_normal (spelled c s) t x;
+        normal = λ _. Canon.canon_normal (spelled c s) t x;
       }
 
   -- A node whose children tell arrays where they are planned tells the array that is built of its parts, with
@@ -126,11 +129,46 @@ module _ (c : Codec) (s : SessionMeaning) where
   pub node_tells : IsLawful c s → (id : List ℕ) (e : Encoding) (w : WireHead) (ws : Wires) (d : Typ) (n : ℕ) (ps : List Place) (bs : List Buffer) (ts : Trees) (t u : Tree)
       → w.id ≡ Some id → s.reader id ≡ Some (shipped e) → PlansChildren c s.ext e d n w.metadata (count ws) ps → w.buffers ≡ all_present bs
       → HasChildren c s (node w ws) ps ts → HasParts c s.ext e d n w.metadata bs ts t → IsSound t → IsToldBy c d w.stats t u → Tells c s (node w ws) d n u
-  node_tells law id e w ws d n ps bs ts t u i r p b k x y z = Built.node_tells c s law id e w ws d n ps bs ts t u i r p b k x y z
+  node_tells law id e w ws d n ps bs ts t u i r p b k x y z = Built.node_tells c s law id e w ws d n ps bs ts t u i (read_shipped (s.reader id) e id n r) p b k x y z
+
+  -- So does a node of primitives under two identifiers, whose identifier holds its length.
+  pub revised_tells : IsLawful c s → (id : List ℕ) (w : WireHead) (ws : Wires) (d : Typ) (n : ℕ) (ps : List Place) (bs : List Buffer) (ts : Trees) (t u : Tree)
+      → w.id ≡ Some id → s.reader id ≡ Some revised → IsTrue (revised_holds id n) → PlansChildren c s.ext E.primitive d n w.metadata (count ws) ps → w.buffers ≡ all_present bs
+      → HasChildren c s (node w ws) ps ts → HasParts c s.ext E.primitive d n w.metadata bs ts t → IsSound t → IsToldBy c d w.stats t u → Tells c s (node w ws) d n u
+  revised_tells law id w ws d n ps bs ts t u i r h p b k x y z = Built.node_tells c s law id E.primitive w ws d n ps bs ts t u i (read_revised (s.reader id) id n r h) p b k x y z
 
   -- A wire tree whose root nothing reads, under a session that allows such nodes, tells the array that is kept of it.
   pub kept_tells : (id : List ℕ) (w : Wire) (d : Typ) (n : ℕ) (t : Tree) → (label w).id ≡ Some id → s.reader id ≡ None → IsTrue s.ext.unknown → IsKeptAs w d n t → Tells c s w d n t
   kept_tells id w d n t i r allowed k = Kept.kept_tells c s id w d n t i r allowed k
+
+-- An array that is its own canon, in which types are known, and that returns, is told as itself by what encodings and plugins
+-- write of it, where the bytes of the metadata that is written can be counted.
+pub returned : (c : Codec) (s : SessionMeaning) → IsLawful c s → IsPaired s → (n : ℕ) (t : Tree) → IsOwnCanon c s t → Returns c s n t → HasCountableMetadata c (taken s n t) → Matches c s (wire c s (taken s n t)) t
+returned c s law paired n t own r counted = PluginsAgain.returned c s law paired (own_spelling c s) n t (PluginsAgain.own_of c s law paired (own_spelling c s) t own) r counted
+
+-- What is written of an array has at most one level more than the descent goes down, whatever plugins give; and where no
+-- plugin writes, an array that is written within the levels is written as it is.
+pub taken_within : (s : SessionMeaning) (n : ℕ) (t : Tree) → levels (taken s n t) ≤ n + 1
+taken_within s n t = TakenOwn.taken_within s n t
+
+pub taken_own : (s : SessionMeaning) → IsShipped s → (n : ℕ) (t : Tree) → IsTaken s n t → levels (taken s n t) ≤ n → taken s n t ≡ t
+taken_own s ok n t k l = TakenOwn.taken_own s ok n t k l
+
+-- Then each of its nodes has a writer, or is a foreign one that is allowed.
+pub taken_written : (s : SessionMeaning) → IsShipped s → (n : ℕ) (t : Tree) → IsTaken s n t → levels (taken s n t) ≤ n → IsWritten s t
+taken_written s ok n t k l = TakenOwn.taken_written s ok n t k l
+
+-- And where each of its nodes has a writer, or is such a foreign one, it is written as it is within the levels, and no node
+-- is not written.
+pub taken_whole : (s : SessionMeaning) → IsShipped s → (n : ℕ) (t : Tree) → IsWritten s t → levels t ≤ n → taken s n t ≡ t
+taken_whole s ok n t w l = TakenOwn.taken_whole s ok n t w l
+
+pub never_untaken : (s : SessionMeaning) → IsShipped s → (n : ℕ) (why : Unwritten) (t : Tree) → IsWritten s t → HasUntaken s n why t → ⊥
+never_untaken s ok n why t w k = TakenOwn.never_untaken s ok n why t w k
+
+-- And no plugin refuses a wire tree there.
+pub no_plugin_refuses : (c : Codec) (s : SessionMeaning) → IsShipped s → (w : Wire) (d : Typ) (n : ℕ) → RefusesTree plugin_refused c s w d n → ⊥
+no_plugin_refuses c s ok w d n k = NeverRefused.no_plugin_refuses c s ok w d n k
 
 -- The foreign node of a node's parts, over children that are kept, is kept.
 pub kept_node : (id : List ℕ) (w : WireHead) (ws : Wires) (d : Typ) (n : ℕ) (metadata : List ℕ) (bs : List Buffer) (ts : Trees) → w.id ≡ Some id → metadata ≡ w.metadata → w.buffers ≡ all_present bs

@@ -1,3 +1,4 @@
+pub mod TwoIdentifiers
 pub mod Unique
 pub mod WrittenAlike
 pub mod ReadAgain
@@ -5,4 +6,7 @@ pub mod NeverRefused
 pub mod Kept
 pub mod Matched
 pub mod Built
+pub mod Plugins
+pub mod PluginsAgain
+pub mod TakenOwn
 pub mod Laws

@@ -1,27 +1,21 @@
 -- What holds of an array that matches a wire tree, by what reads its nodes.
-use Rattle.std.proofs.Common.{ℕ, suc, ◌≡◌, ◌⊎◌, inl, inr, List, ◌∷◌, Some, IsTrue, sym, ap, ◌∙◌, subst}
+use Rattle.std.proofs.Common.{◌≡◌, ◌⊎◌, inl, inr, IsTrue, sym, ap, ◌∙◌, subst}
 use Rattle.std.proofs.lemmas.Option.{same_Some}
-use Rattle.vx_trees.specs.Rose.{node, end, more, label, below, count}
+use Rattle.vx_trees.specs.Rose.{node, end, more, label, below}
 use Rattle.vx_trees.specs.Everywhere.{EverywhereBelow}
-use Rattle.vx_types.specs.Kind as K
-use Rattle.vx_types.specs.Typ.{Typ}
 use Rattle.vx_array_tree.specs.Body.{Body}
 use Rattle.vx_array_tree.specs.Body as B
 use Rattle.vx_array_tree.specs.Encoding.{Encoding}
-use Rattle.vx_array_tree.specs.Encoding as E
-use Rattle.vx_array_tree.specs.Metadata.{Metadata}
-use Rattle.vx_array_tree.specs.Metadata as M
-use Rattle.vx_array_tree.specs.Place.{Place}
-use Rattle.vx_array_tree.specs.Table.{encoding_of, metadata_of, id_of, plan_of, IsNative, IsNativeEncoding, Takes}
-use Rattle.vx_array_tree.specs.Tree.{Tree, Trees, encodings, places}
-use Rattle.vx_wire_tree.specs.Causes.{IsOf, AreOf}
+use Rattle.vx_array_tree.specs.Table.{encoding_of, metadata_of, id_of, IsNative, IsNativeEncoding}
+use Rattle.vx_array_tree.specs.Tree.{Tree, Trees, places}
 use Rattle.vx_wire_tree.specs.Codec.{Codec, IsLawful}
 use Rattle.vx_wire_tree.specs.Matches.{IsRaw, AreRaw, Matches, AllMatch}
 use Rattle.vx_wire_tree.specs.ReadBack.{HasWriter, IsWritten, IsWrittenBy, IsWrittenNode, IsKnownNode, HasKnownTypes, IsUnreadBy, IsUnread, AreUnread}
 use Rattle.vx_wire_tree.specs.Reads.{IsKnownIn}
-use Rattle.vx_wire_tree.specs.Session.{SessionMeaning, IsShipped, IsPaired, shipped}
+use Rattle.vx_wire_tree.specs.Session.{SessionMeaning, IsShipped, IsPaired}
 use Rattle.vx_wire_tree.specs.Wire.{Wire, Wires}
 use Rattle.vx_wire_tree.proofs.NeverRefused.{IsEncodedBy, IsForeignBy, node_told}
+use Rattle.vx_wire_tree.proofs.TwoIdentifiers.{read_is_written}
 
 -- ---- by what a node is
 
@@ -74,26 +68,14 @@ module _ (c : Codec) (s : SessionMeaning) (ok : IsShipped s) where
   module _ (law : IsLawful c s) where
     -- What an encoding reads is not foreign.
     read_native : (w : Wire) (t : Tree) (e : Encoding) → IsEncodedBy c s e w t → IsNative (label t).body
-    read_native w t e x = subst (λ f. IsNativeEncoding f) (sym x.told.encoding) (law.messages x.by.id e x.by.reader_is).native
-
-    -- ---- what reads children that are not foreign
-
-    raw_foreign : (w : Wire) (t : Tree) → IsRaw w t → IsNative (label t).body → ⊥
-    raw_foreign (node w ws) t r k = subst (λ b. IsNative b) r.0.body k
-
-    of_native_by : (w : Wire) (t : Tree) → ((e : Encoding) × IsEncodedBy c s e w t) ⊎ IsForeignBy c s w t → IsNative (label t).body → IsOf s w (encoding_of (label t).body)
-    of_native_by w t (inl x) native = subst (λ e. IsOf s w e) (sym x.1.told.encoding) x.1.by
-    of_native_by w t (inr f) native = absurd (raw_foreign w t f.raw native)
-
-    of_native : (w : Wire) (t : Tree) → Matches c s w t → IsNative (label t).body → IsOf s w (encoding_of (label t).body)
-    of_native w t m native = of_native_by w t (node_told c s ok w t m) native
+    read_native w t e x = subst (λ f. IsNativeEncoding f) (sym x.told.encoding) (law.messages x.by.id e x.by.encoding_is).native
 
     -- ---- nodes are written
 
     module _ (paired : IsPaired s) where
       written_of : (w : Wire) (t : Tree) → ((e : Encoding) × IsEncodedBy c s e w t) ⊎ IsForeignBy c s w t → (AllMatch c s (below w) (below t) → EverywhereBelow (IsWrittenNode s) (below t)) → IsWritten s t
       written_of w (node h ts) (inl x) kids =
-          let q = paired.read_is_written x.1.by.id (shipped x.0) x.1.by.reader_is in
+          let q = read_is_written s paired x.1.by.id x.0 x.1.by.encoding_is in
           let writer : HasWriter s (encoding_of h.body) = record { writer = q.0; writer_is = ap (λ z. s.writer (id_of z)) x.1.told.encoding ∙ q.1 } in
           (written_native s h.body writer (inr (read_native w (node h ts) x.0 x.1)), kids x.1.told.children)
       written_of w (node h ts) (inr f) kids = raw_written s f.allowed w (node h ts) f.raw
@@ -124,25 +106,3 @@ module _ (c : Codec) (s : SessionMeaning) (ok : IsShipped s) where
       each_matched_unread end ts m = subst (λ (z : Trees). AreUnread s z) (sym m) tt
       each_matched_unread (more w ws) end m = absurd m
       each_matched_unread (more w ws) (more t ts) m = (matched_unread w t m.0, each_matched_unread ws ts m.1)
-
-    -- ---- children that may not stand below a node
-
-    -- Only a map asks of what encoding its entries are; foreign ones may stand.
-    first_native : (e f : Encoding) (fs : List Encoding) → (Takes e (f ∷ fs) → ⊥) → IsNativeEncoding f
-    first_native E.map E.foreign fs never = never tt
-    first_native _ E.foreign fs never = never tt
-    first_native e _ fs never = tt
-
-    -- A map is planned for one child.
-    two_entries : (d : Typ) (n : ℕ) (v : Metadata) (k : ℕ) (ps : List Place) → plan_of E.map d n v (suc (suc k)) ≡ Some ps → ⊥
-    two_entries (node (K.map b m) (more x (more y end))) n M.empty k ps e = cc
-    two_entries _ n M.empty k ps e = cc
-    two_entries d n _ k ps e = cc
-
-    -- Where children are planned and may not stand, each is read by its encoding.
-    pub untaken_of : (e : Encoding) (d : Typ) (n : ℕ) (v : Metadata) (ps : List Place) (ws : Wires) (ts : Trees) → plan_of e d n v (count ws) ≡ Some ps → AllMatch c s ws ts → (Takes e (encodings ts) → ⊥) → AreOf s ws (encodings ts)
-    untaken_of E.map d n v ps end ts p m never = ap (λ us. encodings us) m
-    untaken_of E.map d n v ps (more w ws) end p m never = absurd m
-    untaken_of E.map d n v ps (more w end) (more t ts) p m never = (of_native w t m.0 (first_native E.map (encoding_of (label t).body) (encodings ts) never), ap (λ us. encodings us) m.1)
-    untaken_of E.map d n v ps (more w (more x ws)) (more t ts) p m never = absurd (two_entries d n v (count ws) ps p)
-    untaken_of _ d n v ps ws ts p m never = absurd (never tt)

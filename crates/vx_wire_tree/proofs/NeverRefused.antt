@@ -7,6 +7,7 @@ use Rattle.vx_trees.specs.Everywhere.{Everywhere, EverywhereBelow}
 use Rattle.vx_types.specs.Typ.{Typ}
 use Rattle.vx_array_tree.specs.Body.{Body}
 use Rattle.vx_array_tree.specs.Encoding.{Encoding}
+use Rattle.vx_array_tree.specs.Encoding as E
 use Rattle.vx_array_tree.specs.Metadata.{Metadata}
 use Rattle.vx_array_tree.specs.Normal.{IsNormal, IsNormalNode}
 use Rattle.vx_array_tree.specs.Place.{Place, place}
@@ -14,12 +15,13 @@ use Rattle.vx_array_tree.specs.Sound.{IsSound, IsSoundNode, IsControlledBy, meta
 use Rattle.vx_array_tree.specs.Table.{encoding_of, buffers_of, body_of, plan_of, Allows, IsShaped, Takes, Content}
 use Rattle.vx_array_tree.specs.Tree.{Head, Tree, Trees, places, encodings, rows_below}
 use Rattle.vx_array_tree.proofs.NodeLaws.{planned_places, own_body}
-use Rattle.vx_wire_tree.specs.Causes.{LacksId, LacksBuffer, IsReadBy, IsOf, IsUnregistered, HasBadMetadata, MayStandFor, AreOf, IsBroken, HasBadShape, HasChildren, HasForeignControl, HasBadContent, HasBadStats, Refusal, out_of_bounds, unknown_index, unknown_encoding, bad_metadata, bad_shape, foreign_control, bad_content, bad_stats, RefusesTree}
+use Rattle.vx_wire_tree.specs.Causes.{LacksId, LacksBuffer, IsReadBy, IsOf, IsUnregistered, HasBadMetadata, MayStandFor, IsBroken, HasBadShape, HasChildren, HasForeignControl, HasBadContent, HasBadStats, IsRefusedByPlugin, Refusal, out_of_bounds, unknown_index, unknown_encoding, bad_metadata, bad_shape, foreign_control, bad_content, bad_stats, plugin_refused, RefusesTree}
 use Rattle.vx_wire_tree.specs.Codec.{Codec, IsLawful}
 use Rattle.vx_wire_tree.specs.Matches.{IsRawNode, IsRaw, AreRaw, IsEncodedNode, IsNodeBy, Matches, AllMatch}
 use Rattle.vx_wire_tree.specs.Placed.{IsPlannedBy, HasPlan, IsChild, Claim, HoldsAt, HoldsUnder}
 use Rattle.vx_wire_tree.specs.Reads.{IsMetadata}
-use Rattle.vx_wire_tree.specs.Session.{SessionMeaning, Reader, shipped, IsShippedReader, IsShipped}
+use Rattle.vx_wire_tree.specs.Revised.{revised_holds}
+use Rattle.vx_wire_tree.specs.Session.{SessionMeaning, Reader, shipped, revised, plugin, encoding_by, HoldsLength, IsShippedReader, IsShipped}
 use Rattle.vx_wire_tree.specs.Steps.{PlansChildren}
 use Rattle.vx_wire_tree.specs.Tells.{Tells}
 use Rattle.vx_wire_tree.specs.Wire.{WireHead, Wire, Wires, all_present, IsWholeNode, IsWhole}
@@ -76,9 +78,10 @@ closed_open b e t = false_true (subst (λ z. IsTrue z) e t)
 module _ (c : Codec) (s : SessionMeaning) where
   -- ---- what is told, node by node
 
-  -- A matched node is read by an encoding, and is of it.
+  -- A matched node is read by an encoding, which may read so many rows, and is of it.
   pub record IsEncodedBy (e : Encoding) (w : Wire) (t : Tree) : Type 0 where
     pub by : IsOf s w e
+    pub held : HoldsLength (s.reader by.id) by.id (label t).len
     pub told : IsEncodedNode c s e (label w) t (λ us. AllMatch c s (below w) us)
 
   -- Or nothing reads it, and it is foreign with all below it.
@@ -90,14 +93,24 @@ module _ (c : Codec) (s : SessionMeaning) where
   told_by : (r : Option Reader) → IsShippedReader r → (id : List ℕ) (w : WireHead) (ws : Wires) (t : Tree) → w.id ≡ Some id → s.reader id ≡ r
       → IsNodeBy c s r w ws t (λ us. AllMatch c s ws us) → ((e : Encoding) × IsEncodedBy e (node w ws) t) ⊎ IsForeignBy (node w ws) t
   told_by None ok id w ws t i r m = inr (record { by = record { id = id; id_is = i; reader_is = r }; allowed = m.0; raw = m.1 })
-  told_by (Some (shipped e)) ok id w ws t i r m = inl (e, record { by = record { id = id; id_is = i; reader_is = r }; told = m })
+  told_by (Some (plugin p)) ok id w ws t i r m = absurd ok
+  told_by (Some (shipped e)) ok id w ws t i r m =
+      let held : HoldsLength (s.reader id) id (label t).len = subst (λ z. HoldsLength z id (label t).len) (sym r) tt in
+      inl (e, record { by = record { id = id; id_is = i; encoding_is = ap (λ z. encoding_by z) r }; held = held; told = m })
+  told_by (Some revised) ok id w ws t i r m =
+      let same : m.0.id ≡ id = same_Some m.0.id id (sym m.0.id_is ∙ i) in
+      let holds : IsTrue (revised_holds id (label t).len) = subst (λ (z : List ℕ). IsTrue (revised_holds z (label t).len)) same m.0.holds in
+      let held : HoldsLength (s.reader id) id (label t).len = subst (λ z. HoldsLength z id (label t).len) (sym r) holds in
+      inl (E.primitive, record { by = record { id = id; id_is = i; encoding_is = ap (λ z. encoding_by z) r }; held = held; told = m.1 })
 
   -- Two readings of one node are by one encoding.
   same_reader : (o : Option (List ℕ)) (i j : List ℕ) (r q : Option Reader) → o ≡ Some i → o ≡ Some j → s.reader i ≡ r → s.reader j ≡ q → r ≡ q
   same_reader o i j r q a b x y = cc
 
   same_encoding : (w : Wire) (e f : Encoding) → IsOf s w e → IsOf s w f → e ≡ f
-  same_encoding w e f a b = let q = same_reader (label w).id a.id b.id (Some (shipped e)) (Some (shipped f)) a.id_is b.id_is a.reader_is b.reader_is in cc
+  same_encoding w e f a b =
+      let same : a.id ≡ b.id = same_Some a.id b.id (sym a.id_is ∙ b.id_is) in
+      same_Some e f (sym a.encoding_is ∙ ap (λ z. encoding_by (s.reader z)) same ∙ b.encoding_is)
 
   -- Nothing is missing in what tells a foreign array.
   raw_node : (w : Wire) (t : Tree) → IsRawNode (label w) (label t) → IsWholeNode (label w) (below w)
@@ -112,9 +125,28 @@ module _ (c : Codec) (s : SessionMeaning) where
     raw_whole_each (more w ws) end r = absurd r
     raw_whole_each (more w ws) (more t ts) r = (raw_whole w t r.0, raw_whole_each ws ts r.1)
 
+  -- Nothing is missing in what tells an array, whatever reads its nodes.
+  whole_by : (r : Option Reader) (id : List ℕ) (w : WireHead) (ws : Wires) (t : Tree) → w.id ≡ Some id → IsNodeBy c s r w ws t (λ us. AllMatch c s ws us)
+      → ((us : Trees) → AllMatch c s ws us → EverywhereBelow IsWholeNode ws) → IsWhole (node w ws)
+  whole_by None id w ws t i m kids = raw_whole (node w ws) t m.1
+  whole_by (Some (shipped e)) id w ws t i m kids = (record { id = id; id_is = i; buffers = buffers_of (label t).body; buffers_are = m.buffers }, kids (below t) m.children)
+  whole_by (Some revised) id w ws t i m kids = (record { id = id; id_is = i; buffers = buffers_of (label t).body; buffers_are = m.1.buffers }, kids (below t) m.1.children)
+  whole_by (Some (plugin p)) id w ws t i m kids = (record { id = id; id_is = i; buffers = m.buffers; buffers_are = m.buffers_are }, kids m.children m.matched)
+
+  mutual
+    pub whole : (w : Wire) (t : Tree) → Matches c s w t → IsWhole w
+    whole (node w ws) t m = whole_by (s.reader m.0) m.0 w ws t m.1 m.2 (λ us k. whole_each ws us k)
+
+    whole_each : (ws : Wires) (ts : Trees) → AllMatch c s ws ts → EverywhereBelow IsWholeNode ws
+    whole_each end ts m = tt
+    whole_each (more w ws) end m = absurd m
+    whole_each (more w ws) (more t ts) m = (whole w t m.0, whole_each ws ts m.1)
+
   -- A node that nothing reads is not read by an encoding.
   not_both : (w : Wire) (e : Encoding) → IsReadBy s w None → IsOf s w e → ⊥
-  not_both w e a b = none_some (same_reader (label w).id a.id b.id None (Some (shipped e)) a.id_is b.id_is a.reader_is b.reader_is)
+  not_both w e a b =
+      let same : b.id ≡ a.id = same_Some b.id a.id (sym b.id_is ∙ a.id_is) in
+      none_some (ap (λ z. encoding_by z) (sym a.reader_is) ∙ ap (λ z. encoding_by (s.reader z)) (sym same) ∙ b.encoding_is)
 
   module _ (ok : IsShipped s) where
     pub node_told : (w : Wire) (t : Tree) → Matches c s w t → ((e : Encoding) × IsEncodedBy e w t) ⊎ IsForeignBy w t
@@ -127,24 +159,6 @@ module _ (c : Codec) (s : SessionMeaning) where
         go : ((f : Encoding) × IsEncodedBy f w t) ⊎ IsForeignBy w t → IsEncodedBy e w t
         go (inl x) = subst (λ (z : Encoding). IsEncodedBy z w t) (same_encoding w x.0 e x.1.by b) x.1
         go (inr f) = absurd (not_both w e f.by b)
-
-    whole_node : (w : Wire) (t : Tree) → (e : Encoding) × IsEncodedBy e w t → IsWholeNode (label w) (below w)
-    whole_node w t x = record { id = x.1.by.id; id_is = x.1.by.id_is; buffers = buffers_of (label t).body; buffers_are = x.1.told.buffers }
-
-    whole_by : (w : WireHead) (ws : Wires) (t : Tree) → ((e : Encoding) × IsEncodedBy e (node w ws) t) ⊎ IsForeignBy (node w ws) t
-        → (AllMatch c s ws (below t) → EverywhereBelow IsWholeNode ws) → IsWhole (node w ws)
-    whole_by w ws t (inl x) kids = (whole_node (node w ws) t x, kids x.1.told.children)
-    whole_by w ws t (inr f) kids = raw_whole (node w ws) t f.raw
-
-    mutual
-      -- Nothing is missing in what tells an array.
-      pub whole : (w : Wire) (t : Tree) → Matches c s w t → IsWhole w
-      whole (node w ws) t m = whole_by w ws t (node_told (node w ws) t m) (λ k. whole_each ws (below t) k)
-
-      whole_each : (ws : Wires) (ts : Trees) → AllMatch c s ws ts → EverywhereBelow IsWholeNode ws
-      whole_each end ts m = tt
-      whole_each (more w ws) end m = absurd m
-      whole_each (more w ws) (more t ts) m = (whole w t m.0, whole_each ws ts m.1)
 
     -- A child of what is told, with the array that it tells.
     pub record ChildTold (ts : Trees) (i : ℕ) (u : Wire) : Type 0 where
@@ -159,21 +173,11 @@ module _ (c : Codec) (s : SessionMeaning) where
     child_told (more w ws) (more t ts) zero u m e = let q : w ≡ u = cc in record { told = t; matched = subst (λ z. Matches c s z t) q m.0; child = refl; place_is = refl }
     child_told (more w ws) (more t ts) (suc i) u m e = let x = child_told ws ts i u m.1 e in record { told = x.told; matched = x.matched; child = x.child; place_is = x.place_is }
 
-    -- The children of what is told are of the encodings that read them.
-    encodings_told : (ws : Wires) (ts : Trees) (es : List Encoding) → AllMatch c s ws ts → AreOf s ws es → encodings ts ≡ es
-    encodings_told end ts es m a = ap (λ us. encodings us) m ∙ sym a
-    encodings_told (more w ws) end es m a = absurd m
-    encodings_told (more w ws) (more t ts) [] m a = absurd a
-    encodings_told (more w ws) (more t ts) (e ∷ es) m a =
-        let x : encoding_of (label t).body ≡ e = (encoded_told w t e m.0 a.0).told.encoding in
-        let y = encodings_told ws ts es m.1 a.1 in
-        λ i. x i ∷ y i
-
     module _ (law : IsLawful c s) where
       -- ---- what a told node is read as
 
       value_is : (e : Encoding) (w : Wire) (h : Head) (ts : Trees) (v : Metadata) → IsEncodedBy e w (node h ts) → IsMetadata c s.ext e h.dtype (label w).metadata v → v ≡ metadata_in h ts
-      value_is e w h ts v x m = one_metadata c s e (law.messages x.by.id e x.by.reader_is) h.dtype h.dtype (label w).metadata v (metadata_in h ts) refl m x.told.metadata
+      value_is e w h ts v x m = one_metadata c s e (law.messages x.by.id e x.by.encoding_is) h.dtype h.dtype (label w).metadata v (metadata_in h ts) refl m x.told.metadata
 
       plan_is : (e : Encoding) (w : Wire) (h : Head) (ts : Trees) (v : Metadata) → IsEncodedBy e w (node h ts) → IsSoundNode h ts → IsNormalNode h ts → IsMetadata c s.ext e h.dtype (label w).metadata v
           → plan_of e h.dtype h.len v (count (below w)) ≡ Some (places ts)
@@ -185,7 +189,9 @@ module _ (c : Codec) (s : SessionMeaning) where
       planned_by : (r : Option Reader) → IsShippedReader r → (id : List ℕ) (w : Wire) (d : Typ) (n : ℕ) (ps : List Place) → (label w).id ≡ Some id → s.reader id ≡ r → IsPlannedBy c s r w d n ps
           → (e : Encoding) × IsOf s w e × PlansChildren c s.ext e d n (label w).metadata (count (below w)) ps
       planned_by None q id w d n ps i r p = absurd p
-      planned_by (Some (shipped e)) q id w d n ps i r p = (e, record { id = id; id_is = i; reader_is = r }, p)
+      planned_by (Some (plugin x)) q id w d n ps i r p = absurd q
+      planned_by (Some (shipped e)) q id w d n ps i r p = (e, record { id = id; id_is = i; encoding_is = ap (λ z. encoding_by z) r }, p)
+      planned_by (Some revised) q id w d n ps i r p = (E.primitive, record { id = id; id_is = i; encoding_is = ap (λ z. encoding_by z) r }, p)
 
       -- A told node of which children are planned is read by an encoding, and their places are planned.
       pub record PlanTold (w : Wire) (h : Head) (ts : Trees) (ps : List Place) : Type 0 where
@@ -220,7 +226,7 @@ module _ (c : Codec) (s : SessionMeaning) where
               dtype = ap (λ a. a.dtype) q;
               len = ap (λ a. a.len) q;
               sound = below_get IsSoundNode ts i z.told y.1 z.child;
-              normal = below_get IsNormalNode ts i z.told n.1 z.child;
+              normal = λ _. below_get IsNormalNode ts i z.told n.1 z.child;
             };
             child = z.child;
           }
@@ -228,7 +234,7 @@ module _ (c : Codec) (s : SessionMeaning) where
       -- The child of what is told tells its array.
       pub child_tells : (w : Wire) (d : Typ) (n : ℕ) (t : Tree) (i : ℕ) (v : Wire) (p : Place) → Tells c s w d n t → IsChild c s w d n i v p → ChildTells t i v p
       child_tells w d n (node h ts) i v p x k =
-          child_at w h ts i v p x.matched x.sound x.normal (subst (λ z. IsChild c s w z h.len i v p) (sym x.dtype) (subst (λ z. IsChild c s w d z i v p) (sym x.len) k))
+          child_at w h ts i v p x.matched x.sound (x.normal ok) (subst (λ z. IsChild c s w z h.len i v p) (sym x.dtype) (subst (λ z. IsChild c s w d z i v p) (sym x.len) k))
 
       -- A claim that never holds of what is told does not hold of a placed node below it.
       pub never_somewhere : (P : Claim) → ((w : Wire) (d : Typ) (n : ℕ) (t : Tree) → Tells c s w d n t → P w d n → ⊥)
@@ -253,9 +259,11 @@ module _ (c : Codec) (s : SessionMeaning) where
           y.none (metadata_in (label t) (below t)) (subst (λ k. IsMetadata c s.ext y.encoding k (label w).metadata (metadata_in (label t) (below t))) x.dtype z.told.metadata)
 
       stats_told : (w : Wire) (d : Typ) (n : ℕ) (t : Tree) → Tells c s w d n t → HasBadStats c s w d n → ⊥
-      stats_told w d n t x y =
-          let z = encoded_told w t y.encoding x.matched y.by in
-          y.none (label t).stats (subst (λ (k : Typ). c.ShowsStats k (label w).stats (label t).stats) x.dtype z.told.stats)
+      stats_told w d n t x y = go (node_told w t x.matched)
+        where
+          go : ((e : Encoding) × IsEncodedBy e w t) ⊎ IsForeignBy w t → ⊥
+          go (inl z) = y.none (label t).stats (subst (λ (k : Typ). c.ShowsStats k (label w).stats (label t).stats) x.dtype z.1.told.stats)
+          go (inr f) = none_some (same_reader (label w).id f.by.id y.by.id None (Some y.reader) f.by.id_is y.by.id_is f.by.reader_is y.by.reader_is)
 
       -- The parts of a told node are of its encoding's shape.
       shaped_told : (e : Encoding) (w : Wire) (h : Head) (ts : Trees) (v : Metadata) → IsEncodedBy e w (node h ts) → IsSoundNode h ts → IsNormalNode h ts → v ≡ metadata_in h ts
@@ -272,21 +280,27 @@ module _ (c : Codec) (s : SessionMeaning) where
                 (subst (λ (z : ℕ). Allows (encoding_of h.body) h.dtype (metadata_in h ts) z) k y.allows));
           }
 
-      broken_told : (e : Encoding) (v : Metadata) (w : Wire) (h : Head) (ts : Trees) → IsEncodedBy e w (node h ts) → IsSoundNode h ts → IsNormalNode h ts → IsMetadata c s.ext e h.dtype (label w).metadata v
-          → IsBroken s e v w h.dtype h.len → ⊥
-      broken_told e v w h ts x y n m (inl k) = none_some (sym k ∙ plan_is e w h ts v x y n m)
-      broken_told e v w h ts x y n m (inr (inl k)) =
-          k (buffers_of h.body) (may_stand (label w).buffers (buffers_of h.body) x.told.buffers) (shaped_told e w h ts v x y n (value_is e w h ts v x m))
-      broken_told e v w h ts x y n m (inr (inr k)) =
-          let q = encodings_told (below w) ts k.0 x.told.children k.1 in
-          k.2 (subst (λ es. Takes e es) q (subst (λ (f : Encoding). Takes f (encodings ts)) x.told.encoding y.takes))
-
-      shape_at : (w : Wire) (h : Head) (ts : Trees) → Matches c s w (node h ts) → IsSound (node h ts) → IsNormal (node h ts) → HasBadShape c s w h.dtype h.len → ⊥
-      shape_at w h ts m y n k = broken_told k.encoding k.value w h ts (encoded_told w (node h ts) k.encoding m k.by) y.0 n.0 k.metadata k.broken
-
       -- Children that match sound and normal arrays at the planned places are the told array's.
       children_told : (w : Wire) (ts us : Trees) (ps : List Place) → AllMatch c s (below w) ts → EverywhereBelow IsSoundNode ts → EverywhereBelow IsNormalNode ts → HasChildren c s w ps us → ps ≡ places ts → us ≡ ts
-      children_told w ts us ps m y n k q = one_tree_each c s law ok (below w) us ts k.matched m k.sound y k.normal n (k.placed ∙ q)
+      children_told w ts us ps m y n k q = one_tree_each c s law ok (below w) us ts k.matched m k.sound y (k.normal ok) n (k.placed ∙ q)
+
+      broken_told : (e : Encoding) (v : Metadata) (w : Wire) (h : Head) (ts : Trees) → IsEncodedBy e w (node h ts) → IsSound (node h ts) → IsNormal (node h ts) → IsMetadata c s.ext e h.dtype (label w).metadata v
+          → IsBroken c s e v w h.dtype h.len → ⊥
+      broken_told e v w h ts x y n m (inl k) = none_some (sym k ∙ plan_is e w h ts v x y.0 n.0 m)
+      broken_told e v w h ts x y n m (inr (inl k)) =
+          k (buffers_of h.body) (may_stand (label w).buffers (buffers_of h.body) x.told.buffers) (shaped_told e w h ts v x y.0 n.0 (value_is e w h ts v x m))
+      broken_told e v w h ts x y n m (inr (inr (inr k))) =
+          let same : x.by.id ≡ k.by.id = same_Some x.by.id k.by.id (sym x.by.id_is ∙ k.by.id_is) in
+          let held : HoldsLength (s.reader k.by.id) k.by.id h.len = subst (λ z. HoldsLength (s.reader z) z h.len) same x.held in
+          let holds : IsTrue (revised_holds k.by.id h.len) = subst (λ z. HoldsLength z k.by.id h.len) k.by.reader_is held in
+          closed_open (revised_holds k.by.id h.len) k.past holds
+      broken_told e v w h ts x y n m (inr (inr (inl k))) =
+          let p = same_Some k.places_are (places ts) (sym k.plan ∙ plan_is e w h ts v x y.0 n.0 m) in
+          let q = children_told w ts k.children k.places_are x.told.children y.1 n.1 k.matched p in
+          k.untaken (subst (λ (us : Trees). Takes e (encodings us)) (sym q) (subst (λ (f : Encoding). Takes f (encodings ts)) x.told.encoding y.0.takes))
+
+      shape_at : (w : Wire) (h : Head) (ts : Trees) → Matches c s w (node h ts) → IsSound (node h ts) → IsNormal (node h ts) → HasBadShape c s w h.dtype h.len → ⊥
+      shape_at w h ts m y n k = broken_told k.encoding k.value w h ts (encoded_told w (node h ts) k.encoding m k.by) y n k.metadata k.broken
 
       content_at : (w : Wire) (h : Head) (ts : Trees) → Matches c s w (node h ts) → IsSound (node h ts) → IsNormal (node h ts) → HasBadContent c s w h.dtype h.len → ⊥
       content_at w h ts m y n k =
@@ -305,11 +319,15 @@ module _ (c : Codec) (s : SessionMeaning) where
           let r = children_told w ts k.children k.places_are x.told.children y.1 n.1 k.matched p in
           k.foreign (subst (λ (z : Trees). IsControlledBy k.encoding h.dtype z) (sym r) (subst (λ (f : Encoding). IsControlledBy f h.dtype ts) x.told.encoding y.0.controlled))
 
+      -- No plugin reads a node.
+      not_by_plugin : (w : Wire) (d : Typ) (n : ℕ) (t : Tree) → Tells c s w d n t → IsRefusedByPlugin c s w d n → ⊥
+      not_by_plugin w d n t x k = subst (λ r. IsShippedReader r) k.by.reader_is (ok.reads k.by.id)
+
       -- ---- all causes
 
       at_own : (P : Claim) → ((w : Wire) (h : Head) (ts : Trees) → Matches c s w (node h ts) → IsSound (node h ts) → IsNormal (node h ts) → P w h.dtype h.len → ⊥)
           → (w : Wire) (d : Typ) (n : ℕ) (t : Tree) → Tells c s w d n t → P w d n → ⊥
-      at_own P never w d n (node h ts) x k = never w h ts x.matched x.sound x.normal (subst (λ z. P w z h.len) (sym x.dtype) (subst (λ z. P w d z) (sym x.len) k))
+      at_own P never w d n (node h ts) x k = never w h ts x.matched x.sound (x.normal ok) (subst (λ z. P w z h.len) (sym x.dtype) (subst (λ z. P w d z) (sym x.len) k))
 
       pub never_refused : (r : Refusal) (w : Wire) (d : Typ) (n : ℕ) (t : Tree) → Tells c s w d n t → RefusesTree r c s w d n → ⊥
       never_refused out_of_bounds w d n t x k = never_under IsWholeNode LacksBuffer has_buffers k.0 w (whole w t x.matched) k.1
@@ -320,3 +338,17 @@ module _ (c : Codec) (s : SessionMeaning) where
       never_refused foreign_control w d n t x k = never_somewhere (HasForeignControl c s) (at_own (HasForeignControl c s) control_at) k.0 w d n t x k.1
       never_refused bad_content w d n t x k = never_somewhere (HasBadContent c s) (at_own (HasBadContent c s) content_at) k.0 w d n t x k.1
       never_refused bad_stats w d n t x k = never_somewhere (HasBadStats c s) stats_told k.0 w d n t x k.1
+      never_refused plugin_refused w d n t x k = never_somewhere (IsRefusedByPlugin c s) not_by_plugin k.0 w d n t x k.1
+
+-- ---- without plugins
+
+-- What holds on a path holds of the node at its end, at its place.
+held_there : (c : Codec) (s : SessionMeaning) (P : Claim) (path : List ℕ) (w : Wire) (d : Typ) (n : ℕ) → HoldsAt c s P path w d n → (v : Wire) × (e : Typ) × (m : ℕ) × P v e m
+held_there c s P [] w d n h = (w, d, n, h)
+held_there c s P (i ∷ path) w d n h = held_there c s P path h.0 h.1.dtype h.1.len h.3
+
+-- Where no plugin reads, none refuses.
+pub no_plugin_refuses : (c : Codec) (s : SessionMeaning) → IsShipped s → (w : Wire) (d : Typ) (n : ℕ) → RefusesTree plugin_refused c s w d n → ⊥
+no_plugin_refuses c s ok w d n k =
+    let x = held_there c s (IsRefusedByPlugin c s) k.0 w d n k.1 in
+    subst (λ r. IsShippedReader r) x.3.by.reader_is (ok.reads x.3.by.id)

@@ -1,5 +1,5 @@
 -- What is written of a sound array is read back as its canon.
-use Rattle.std.proofs.Common.{ℕ, ◌≡◌, ◌<◌, ◌^◌, List, [], ◌∷◌, length, Option, Some, None, refl, sym, ap, ◌∙◌, subst}
+use Rattle.std.proofs.Common.{ℕ, ◌≡◌, ◌<◌, ◌^◌, List, [], ◌∷◌, length, Option, Some, None, Bool, true, false, IsTrue, nat_le, if◌then◌else◌, refl, sym, ap, ◌∙◌, subst}
 use Rattle.vx_trees.specs.Rose.{node, end, more, label}
 use Rattle.vx_trees.specs.Everywhere.{EverywhereBelow}
 use Rattle.vx_types.specs.Typ.{Typ}
@@ -13,13 +13,14 @@ use Rattle.vx_array_tree.specs.Body as B
 use Rattle.vx_array_tree.specs.Encoding.{Encoding}
 use Rattle.vx_array_tree.specs.Encoding as E
 use Rattle.vx_array_tree.specs.Encodings.Foreigns as Foreigns
+use Rattle.vx_array_tree.specs.Encodings.Primitives as Primitives
 use Rattle.vx_array_tree.specs.Metadata.{Metadata}
 use Rattle.vx_array_tree.specs.Metadata as M
 use Rattle.vx_array_tree.specs.Place.{Place}
 use Rattle.vx_array_tree.specs.Sound.{IsSound, IsSoundNode, metadata_in}
-use Rattle.vx_array_tree.specs.Table.{encoding_of, id_of, own_id, IsNative, IsNativeEncoding, IsFair}
+use Rattle.vx_array_tree.specs.Table.{encoding_of, id_of, IsNative, IsNativeEncoding, IsFair}
 use Rattle.vx_array_tree.specs.Tree.{Head, Tree, Trees, places}
-use Rattle.vx_array_tree.proofs.Bodies.{native_id, cleared_encoding, cleared_buffers}
+use Rattle.vx_array_tree.proofs.Bodies.{cleared_encoding, cleared_buffers}
 use Rattle.vx_array_tree.proofs.CanonLaws.{by_node}
 use Rattle.vx_array_tree.proofs.CanonPlaces.{known_node, foreign_node, Planned, planned_at, types_at, kids_metadata}
 use Rattle.vx_array_tree.proofs.Identifiers.{distinct_ids}
@@ -28,11 +29,13 @@ use Rattle.vx_wire_tree.specs.Codec.{Codec, IsLawful, metadata_bytes}
 use Rattle.vx_wire_tree.specs.Fields.{meant, told, nullable_if, is_nullable}
 use Rattle.vx_wire_tree.specs.Limits.{HasMessages, HasMessage}
 use Rattle.vx_wire_tree.specs.Matches.{IsRaw, AreRaw, IsEncodedNode, IsNodeBy, Matches, AllMatch}
-use Rattle.vx_wire_tree.specs.ReadBack.{IsReadBack, ReadsBack, IsWrittenNode, IsWritten, IsKnownNode, HasKnownTypes, IsCountableNode, HasCountableMetadata, IsStorableNode, HasStorableStats, HasWriter, IsWrittenBy, IsUnreadBy, IsUnread, AreUnread, IsKept, ReadsBackBy, AllReadBack}
+use Rattle.vx_wire_tree.specs.ReadBack.{IsReadAs, IsReadBack, ReadsBack, IsWrittenNode, IsWritten, IsKnownNode, HasKnownTypes, IsCountableNode, HasCountableMetadata, IsStorableNode, HasStorableStats, HasWriter, IsWrittenBy, IsUnreadBy, IsUnread, AreUnread, IsKept, ReadsBackBy, AllReadBack}
 use Rattle.vx_wire_tree.specs.Reads.{IsMetadata}
-use Rattle.vx_wire_tree.specs.Session.{SessionMeaning, Reader, shipped, IsShippedReader, IsShipped, IsPaired, IsReadAgainBy}
+use Rattle.vx_wire_tree.specs.Revised.{revised_name, revised_holds}
+use Rattle.vx_wire_tree.specs.Session.{SessionMeaning, Reader, shipped, revised, plugin, IsShippedReader, IsShipped, IsPaired, IsReadAgainBy, IsRevisedAgainBy}
 use Rattle.vx_wire_tree.specs.Wire.{all_present}
-use Rattle.vx_wire_tree.specs.Written.{spelled, wire_head, wire, wires, canon}
+use Rattle.vx_wire_tree.specs.Written.{id_under, writes_two, body_id, written_id, spelled, wire_head, wire, wires, canon}
+use Rattle.vx_wire_tree.proofs.TwoIdentifiers.{holds_own, native_under, own_under, revised_under, read_shipped, read_revised, node_by}
 
 nullable_again : (n : Nullability) → nullable_if (is_nullable n) ≡ n
 nullable_again Nullable = refl
@@ -50,7 +53,7 @@ meant_told e d (M.foreign x) k f = absurd (never_foreign e x k f)
 meant_told e d (M.dict x) k f = ap (λ (n : Nullability). M.dict (record { values_len = x.values_len; codes_ptype = x.codes_ptype; nullable_codes = n; all_values_referenced = x.all_values_referenced })) (nullable_again x.nullable_codes)
 meant_told e d _ k f = refl
 
-own_bytes : (c : Codec) (e : Encoding) (v : Metadata) → IsNativeEncoding e → IsFair e v → metadata_bytes c (told v) ≡ c.fields_bytes (told v)
+pub own_bytes : (c : Codec) (e : Encoding) (v : Metadata) → IsNativeEncoding e → IsFair e v → metadata_bytes c (told v) ≡ c.fields_bytes (told v)
 own_bytes c e (M.foreign x) k f = absurd (never_foreign e x k f)
 own_bytes c e _ k f = refl
 
@@ -84,7 +87,7 @@ module _ (c : Codec) (s : SessionMeaning) where
         let m : IsMetadata c s.ext e d (metadata_bytes c (told v)) v = record {
           fields = told v;
           shown = subst (λ bytes. c.Shows e bytes (told v)) (sym (own_bytes c e v native x.fair))
-              ((law.messages (id_of e) e b.reader).message_again v x.fair b.message (subst (λ bytes. length bytes < 2 ^ 64) (own_bytes c e v native x.fair) b.countable));
+              ((law.messages (written_id s h) e b.reader.encoding).message_again v x.fair b.message (subst (λ bytes. length bytes < 2 ^ 64) (own_bytes c e v native x.fair) b.countable));
           meaning = meant_told e d v native x.fair;
           fair = x.fair;
           known = b.known;
@@ -103,14 +106,13 @@ module _ (c : Codec) (s : SessionMeaning) where
         → Matches c s (wire c s (node h ts)) (known_node (spelled c s) d h ts)
     node_again d h ts native b k =
         let t = known_node (spelled c s) d h ts in
-        let r : s.reader (own_id h.body) ≡ Some (shipped (encoding_of h.body)) = ap (λ id. s.reader id) (native_id h.body native) ∙ b.reader in
-        (own_id h.body, refl, subst (λ z. IsNodeBy c s z (wire_head c s h ts) (wires c s ts) t (λ us. AllMatch c s (wires c s ts) us)) (sym r) k)
+        (written_id s h, refl, node_by c s (s.reader (written_id s h)) (encoding_of h.body) (written_id s h) (wire_head c s h ts) (wires c s ts) t (λ us. AllMatch c s (wires c s ts) us) b.reader refl k)
 
     foreign_again : (d : Typ) (h : Head) (ts : Trees) (x : Foreigns.Data) → h.body ≡ B.foreign x → IsKept s x → Matches c s (wire c s (node h ts)) (foreign_node (spelled c s) d h ts)
     foreign_again d h ts x e k =
         let t = foreign_node (spelled c s) d h ts in
-        let r : s.reader (own_id h.body) ≡ None = ap (λ b. s.reader (own_id b)) e ∙ k.reader in
-        (own_id h.body, refl, subst (λ z. IsNodeBy c s z (wire_head c s h ts) (wires c s ts) t (λ us. AllMatch c s (wires c s ts) us)) (sym r) (k.allowed, raw_again d h.len (node h ts)))
+        let r : s.reader (written_id s h) ≡ None = ap (λ b. s.reader (body_id (writes_two s) b h.len)) e ∙ k.reader in
+        (written_id s h, refl, subst (λ z. IsNodeBy c s z (wire_head c s h ts) (wires c s ts) t (λ us. AllMatch c s (wires c s ts) us)) (sym r) (k.allowed, raw_again d h.len (node h ts)))
 
     mutual
       -- A sound array that can be read back matches its wire tree as it is read back, at its own type or at one
@@ -135,14 +137,41 @@ module _ (c : Codec) (s : SessionMeaning) where
 
 read_by_shipped : (e : Encoding) (r : Option Reader) → IsShippedReader r → IsReadAgainBy r e → r ≡ Some (shipped e)
 read_by_shipped e None ok b = absurd b
+read_by_shipped e (Some (plugin p)) ok b = absurd ok
+read_by_shipped e (Some revised) ok b = absurd b
 read_by_shipped e (Some (shipped f)) ok b = ap (λ z. Some (shipped z)) b
 
+read_by_revised : (r : Option Reader) → IsShippedReader r → IsRevisedAgainBy r → r ≡ Some revised
+read_by_revised None ok b = absurd b
+read_by_revised (Some (plugin p)) ok b = absurd ok
+read_by_revised (Some revised) ok b = refl
+read_by_revised (Some (shipped f)) ok b = absurd b
+
 module _ (c : Codec) (s : SessionMeaning) (ok : IsShipped s) (paired : IsPaired s) where
-  -- What is written of an encoding is read by it.
-  written_by : (e : Encoding) (r : Reader) → IsShippedReader (Some r) → s.writer (id_of e) ≡ Some r → s.reader (id_of e) ≡ Some (shipped e)
-  written_by e (shipped f) q w =
-      let same = distinct_ids e f (paired.own_identifier (id_of e) (shipped f) w) in
-      read_by_shipped f (s.reader (id_of e)) (ok.reads (id_of e)) (paired.written_is_read (id_of e) f w) ∙ ap (λ g. Some (shipped g)) (sym same)
+  -- What nodes of an encoding are written under is read by it.
+  abbrev ReadsAs : Encoding → ℕ → Type 0
+  ReadsAs e n = IsReadAs (s.reader (id_under (writes_two s) e n)) e (id_under (writes_two s) e n) n
+
+  by_length : (n : ℕ) (b : Bool) → nat_le n 4 ≡ b → s.writer Primitives.id ≡ Some revised → s.reader (if b then Primitives.id else revised_name) ≡ Some revised
+  by_length n true q w = read_by_revised (s.reader Primitives.id) (ok.reads Primitives.id) (paired.revised_is_read w).0
+  by_length n false q w = read_by_revised (s.reader revised_name) (ok.reads revised_name) (paired.revised_is_read w).1
+
+  revised_as : (n : ℕ) → s.writer Primitives.id ≡ Some revised → ReadsAs E.primitive n
+  revised_as n w =
+      let under = revised_under s n w in
+      let r = ap (λ id. s.reader id) under ∙ by_length n (nat_le n 4) refl w in
+      read_revised (s.reader (id_under (writes_two s) E.primitive n)) (id_under (writes_two s) E.primitive n) n r (subst (λ (id : List ℕ). IsTrue (revised_holds id n)) (sym under) (holds_own n))
+
+  written_by : (e : Encoding) (n : ℕ) (r : Reader) → IsShippedReader (Some r) → s.writer (id_of e) ≡ Some r → ReadsAs e n
+  written_by e n (plugin p) q w = absurd q
+  written_by e n (shipped f) q w =
+      let same = distinct_ids e f (paired.own_identifier (id_of e) f w) in
+      let r = read_by_shipped f (s.reader (id_of e)) (ok.reads (id_of e)) (paired.written_is_read (id_of e) f w) ∙ ap (λ g. Some (shipped g)) (sym same) in
+      read_shipped (s.reader (id_under (writes_two s) e n)) e (id_under (writes_two s) e n) n (ap (λ id. s.reader id) (own_under s e f n w) ∙ r)
+  written_by e n revised q w =
+      let same = distinct_ids e E.primitive (paired.own_revised (id_of e) w) in
+      let writer : s.writer Primitives.id ≡ Some revised = ap (λ g. s.writer (id_of g)) (sym same) ∙ w in
+      subst (λ (g : Encoding). ReadsAs g n) (sym same) (revised_as n writer)
 
   native_writer : (b : Body) → IsNative b → IsWrittenBy s b → HasWriter s (encoding_of b)
   native_writer (B.foreign x) k w = absurd k
@@ -152,7 +181,9 @@ module _ (c : Codec) (s : SessionMeaning) (ok : IsShipped s) (paired : IsPaired 
   node_back h ts native w m n k b =
       let x = native_writer h.body native w in
       record {
-        reader = written_by (encoding_of h.body) x.writer (subst (λ z. IsShippedReader z) x.writer_is (ok.writes (id_of (encoding_of h.body)))) x.writer_is;
+        reader =
+            subst (λ (id : List ℕ). IsReadAs (s.reader id) (encoding_of h.body) id h.len) (sym (native_under (writes_two s) h.body h.len native))
+            (written_by (encoding_of h.body) h.len x.writer (subst (λ z. IsShippedReader z) x.writer_is (ok.writes (id_of (encoding_of h.body)))) x.writer_is);
         message = m;
         countable = n;
         known = k;

@@ -4,6 +4,7 @@ use Rattle.vx_trees.specs.Rose.{node, end, more, label, count}
 use Rattle.vx_trees.specs.Everywhere.{EverywhereBelow}
 use Rattle.vx_types.specs.Typ.{Typ}
 use Rattle.vx_array_tree.specs.Encoding.{Encoding}
+use Rattle.vx_array_tree.specs.Encoding as E
 use Rattle.vx_array_tree.specs.Metadata.{Metadata}
 use Rattle.vx_array_tree.specs.Normal.{IsNormal, IsNormalNode, AreForeignAt}
 use Rattle.vx_array_tree.specs.Place.{place}
@@ -17,7 +18,7 @@ use Rattle.vx_wire_tree.specs.Codec.{Codec, HasLawfulStats, IsLawful, IsLawfulAt
 use Rattle.vx_wire_tree.specs.Fields.{meant}
 use Rattle.vx_wire_tree.specs.Matches.{IsRawNode, IsRaw, AreRaw, IsEncodedNode, IsNodeBy, Matches, AllMatch}
 use Rattle.vx_wire_tree.specs.Reads.{IsMetadata}
-use Rattle.vx_wire_tree.specs.Session.{SessionMeaning, Reader, shipped, IsShippedReader, IsShipped}
+use Rattle.vx_wire_tree.specs.Session.{SessionMeaning, Reader, shipped, revised, plugin, encoding_by, IsShippedReader, IsShipped}
 use Rattle.vx_wire_tree.specs.Wire.{WireHead, Wire, Wires, all_present}
 
 -- A list of which nothing is missing is given back by what stands in it.
@@ -109,8 +110,12 @@ module _ (c : Codec) (s : SessionMeaning) where
         → IsSoundNode h ts → IsSoundNode g us → IsNormal (node h ts) → IsNormal (node g us) → h.dtype ≡ g.dtype → h.len ≡ g.len
         → (AllMatch c s ws ts → AllMatch c s ws us → places ts ≡ places us → ts ≡ us) → node h ts ≡ node g us
     node_unique None ok id q w ws h g ts us a b sh sg nh ng d n kids = raw_unique (node w ws) (node h ts) (node g us) a.1 b.1 nh ng d n
+    node_unique (Some (plugin p)) ok id q w ws h g ts us a b sh sg nh ng d n kids = absurd ok
     node_unique (Some (shipped e)) ok id q w ws h g ts us a b sh sg nh ng d n kids =
-        encoded_unique e (law.messages id e q) law.stats w h g ts us (λ vs. AllMatch c s ws vs) a b sh sg nh.0 ng.0 d n (all_count ws ts a.children ∙ sym (all_count ws us b.children)) kids
+        encoded_unique e (law.messages id e (ap (λ z. encoding_by z) q)) law.stats w h g ts us (λ vs. AllMatch c s ws vs) a b sh sg nh.0 ng.0 d n (all_count ws ts a.children ∙ sym (all_count ws us b.children)) kids
+    node_unique (Some revised) ok id q w ws h g ts us a b sh sg nh ng d n kids =
+        let m = law.messages id E.primitive (ap (λ z. encoding_by z) q) in
+        encoded_unique E.primitive m law.stats w h g ts us (λ vs. AllMatch c s ws vs) a.1 b.1 sh sg nh.0 ng.0 d n (all_count ws ts a.1.children ∙ sym (all_count ws us b.1.children)) kids
 
     mutual
       pub one_tree : IsShipped s → (w : Wire) (t u : Tree) → Matches c s w t → Matches c s w u → IsSound t → IsSound u → IsNormal t → IsNormal u

@@ -4,7 +4,7 @@ use Rattle.vx_trees.specs.Rose.{node, end, more, label}
 use Rattle.vx_trees.specs.Everywhere.{EverywhereBelow}
 use Rattle.vx_types.specs.Typ.{Typ}
 use Rattle.vx_array_tree.specs.Canon.{child_types, Spelling, as_foreign, all_foreign, canon_at, canon_all, written_head, stats_written, each_stats_written}
-use Rattle.vx_array_tree.specs.Table.{metadata_of, buffers_of, own_id}
+use Rattle.vx_array_tree.specs.Table.{metadata_of, buffers_of}
 use Rattle.vx_array_tree.specs.Tree.{Head, Tree, Trees, places}
 use Rattle.vx_array_tree.proofs.CanonLaws.{by_node, written_places}
 use Rattle.vx_wire_tree.specs.Codec.{Codec, HasLawfulStats, metadata_bytes}
@@ -12,7 +12,7 @@ use Rattle.vx_wire_tree.specs.Fields.{told}
 use Rattle.vx_wire_tree.specs.ReadBack.{IsStorableNode, HasStorableStats}
 use Rattle.vx_wire_tree.specs.Session.{SessionMeaning}
 use Rattle.vx_wire_tree.specs.Wire.{all_present}
-use Rattle.vx_wire_tree.specs.Written.{wire_head, wire, wires}
+use Rattle.vx_wire_tree.specs.Written.{written_id, wire_head, wire, wires}
 
 module _ (c : Codec) (law : HasLawfulStats c) where
   module _ (s : SessionMeaning) where
@@ -20,7 +20,7 @@ module _ (c : Codec) (law : HasLawfulStats c) where
     head_alike h ts us p =
         let x = law.written_alike h.stats in
         λ i. record {
-          id = Some (own_id h.body);
+          id = Some (written_id s h);
           metadata = metadata_bytes c (told (metadata_of h.body (p i)));
           buffers = all_present (buffers_of h.body);
           stats = x i;

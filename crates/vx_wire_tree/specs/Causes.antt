@@ -1,7 +1,7 @@
 -- The cause of each refusal of a tree.
-use Rattle.std.specs.Prelude.{ℕ, ◌≡◌, List, [], ◌∷◌, Option, Some, None, ◌⊎◌, slice_get, false}
+use Rattle.std.specs.Prelude.{ℕ, ◌≡◌, List, [], ◌∷◌, Option, Some, None, ◌⊎◌, slice_get, false, IsFalse}
 use Rattle.vx_buffer.specs.Buffer.{Buffer}
-use Rattle.vx_trees.specs.Rose.{label, below, count, end, more}
+use Rattle.vx_trees.specs.Rose.{label, below, count}
 use Rattle.vx_trees.specs.Everywhere.{EverywhereBelow}
 use Rattle.vx_types.specs.Typ.{Typ}
 use Rattle.vx_array_tree.specs.Body.{Body}
@@ -12,14 +12,16 @@ use Rattle.vx_array_tree.specs.Normal.{IsNormalNode}
 use Rattle.vx_array_tree.specs.Place.{Place}
 use Rattle.vx_array_tree.specs.Sound.{IsSoundNode, IsControlledBy}
 use Rattle.vx_array_tree.specs.Table.{encoding_of, id_of, plan_of, IsShaped, Takes, Content}
-use Rattle.vx_array_tree.specs.Tree.{Tree, Trees, places, rows_below}
+use Rattle.vx_array_tree.specs.Tree.{Tree, Trees, places, encodings, rows_below}
 use Rattle.vx_wire_tree.specs.Codec.{Codec}
 use Rattle.vx_wire_tree.specs.Matches.{AllMatch}
 use Rattle.vx_wire_tree.specs.Placed.{Claim, HoldsSomewhere, Anywhere}
+use Rattle.vx_wire_tree.specs.Plugin.{PluginMeaning, head_at}
 use Rattle.vx_wire_tree.specs.Reads.{IsMetadata}
-use Rattle.vx_wire_tree.specs.Session.{SessionMeaning, Reader, shipped}
+use Rattle.vx_wire_tree.specs.Revised.{revised_holds}
+use Rattle.vx_wire_tree.specs.Session.{SessionMeaning, Reader, revised, plugin, encoding_by, IsShipped}
 use Rattle.vx_wire_tree.specs.Steps.{HasNoMetadata, HasNoStats}
-use Rattle.vx_wire_tree.specs.Wire.{Wire, Wires, all_present}
+use Rattle.vx_wire_tree.specs.Wire.{Wire, all_present}
 
 -- ---- any node
 
@@ -39,9 +41,11 @@ pub record IsReadBy (s : SessionMeaning) (w : Wire) (r : Option Reader) : Type 0
   pub id_is : (label w).id ≡ Some id
   pub reader_is : s.reader id ≡ r
 
--- A node is read by an encoding.
-abbrev pub IsOf : SessionMeaning → Wire → Encoding → Type 0
-IsOf s w e = IsReadBy s w (Some (shipped e))
+-- A node's identifier is there, and an encoding reads it.
+pub record IsOf (s : SessionMeaning) (w : Wire) (e : Encoding) : Type 0 where
+  pub id : List ℕ
+  pub id_is : (label w).id ≡ Some id
+  pub encoding_is : encoding_by (s.reader id) ≡ Some e
 
 -- Nothing reads a node, and such nodes are not allowed.
 pub record IsUnknownNode (s : SessionMeaning) (w : Wire) : Type 0 where
@@ -64,21 +68,37 @@ MayStandFor (o ∷ os) [] = ⊥
 MayStandFor (Some b ∷ os) (x ∷ xs) = (x ≡ b) × MayStandFor os xs
 MayStandFor (None ∷ os) (x ∷ xs) = MayStandFor os xs
 
--- Nodes are read by these encodings, one by one.
-abbrev pub AreOf : SessionMeaning → Wires → List Encoding → Type 0
-AreOf s end es = es ≡ []
-AreOf s (more w ws) [] = ⊥
-AreOf s (more w ws) (e ∷ es) = IsOf s w e × AreOf s ws es
+-- A node's children match sound arrays that stand at these places. The arrays are normal, where no plugin reads or
+-- writes.
+pub record HasChildren (c : Codec) (s : SessionMeaning) (w : Wire) (ps : List Place) (ts : Trees) : Type 0 where
+  pub matched : AllMatch c s (below w) ts
+  pub sound : EverywhereBelow IsSoundNode ts
+  pub normal : IsShipped s → EverywhereBelow IsNormalNode ts
+  pub placed : places ts ≡ ps
+
+-- A node's children match sound arrays where they are planned, and these are of encodings that may not stand below it.
+pub record HasOtherChildren (c : Codec) (s : SessionMeaning) (e : Encoding) (v : Metadata) (w : Wire) (d : Typ) (n : ℕ) : Type 0 where
+  pub places_are : List Place
+  pub plan : plan_of e d n v (count (below w)) ≡ Some places_are
+  pub children : Trees
+  pub matched : HasChildren c s w places_are children
+  pub untaken : Takes e (encodings children) → ⊥
+
+-- Primitives under two identifiers read a node, and its identifier does not hold so many rows.
+pub record IsPastLength (s : SessionMeaning) (w : Wire) (n : ℕ) : Type 0 where
+  pub by : IsReadBy s w (Some revised)
+  pub past : IsFalse (revised_holds by.id n)
 
 -- The parts of a node whose metadata is read break its encoding's row: nothing is planned for such a type
 -- and so many children; what is planned may not stand, or the buffers are wrong, by their number or by one
--- that is there, whatever stands for those that are missing; or its children are read by encodings that may
--- not stand below it.
-abbrev pub IsBroken : SessionMeaning → Encoding → Metadata → Claim
-IsBroken s e v w d n =
+-- that is there, whatever stands for those that are missing; its children are of encodings that may not stand
+-- below it; or its identifier does not hold its length.
+abbrev pub IsBroken : Codec → SessionMeaning → Encoding → Metadata → Claim
+IsBroken c s e v w d n =
     (plan_of e d n v (count (below w)) ≡ None)
     ⊎ ((bs : List Buffer) → MayStandFor (label w).buffers bs → IsShaped e d n v bs (count (below w)) → ⊥)
-    ⊎ ((es : List Encoding) × AreOf s (below w) es × (Takes e es → ⊥))
+    ⊎ HasOtherChildren c s e v w d n
+    ⊎ IsPastLength s w n
 
 -- A node's metadata is read, and its parts break its encoding's row.
 pub record HasBadShape (c : Codec) (s : SessionMeaning) (w : Wire) (d : Typ) (n : ℕ) : Type 0 where
@@ -86,14 +106,7 @@ pub record HasBadShape (c : Codec) (s : SessionMeaning) (w : Wire) (d : Typ) (n 
   pub by : IsOf s w encoding
   pub value : Metadata
   pub metadata : IsMetadata c s.ext encoding d (label w).metadata value
-  pub broken : IsBroken s encoding value w d n
-
--- A node's children match sound and normal arrays that stand at these places.
-pub record HasChildren (c : Codec) (s : SessionMeaning) (w : Wire) (ps : List Place) (ts : Trees) : Type 0 where
-  pub matched : AllMatch c s (below w) ts
-  pub sound : EverywhereBelow IsSoundNode ts
-  pub normal : EverywhereBelow IsNormalNode ts
-  pub placed : places ts ≡ ps
+  pub broken : IsBroken c s encoding value w d n
 
 -- A node's metadata is read, its children match sound arrays, and one that says where the node's rows are holds
 -- a foreign node, or the entries of a map are one.
@@ -125,11 +138,36 @@ pub record HasBadContent (c : Codec) (s : SessionMeaning) (w : Wire) (d : Typ) (
   pub controlled : IsControlledBy encoding d children
   pub broken : Content d n shaped.body (rows_below children) → ⊥
 
--- A node that an encoding reads has a field that shows no statistics of its type.
+-- A node that is read has a field that shows no statistics of its type.
 pub record HasBadStats (c : Codec) (s : SessionMeaning) (w : Wire) (d : Typ) (n : ℕ) : Type 0 where
-  pub encoding : Encoding
-  pub by : IsOf s w encoding
+  pub reader : Reader
+  pub by : IsReadBy s w (Some reader)
   pub none : HasNoStats c d (label w).stats
+
+-- The plugin that reads a node refuses the node's head.
+pub record RefusesHead (s : SessionMeaning) (p : PluginMeaning) (w : Wire) (d : Typ) (n : ℕ) : Type 0 where
+  pub id : List ℕ
+  pub id_is : (label w).id ≡ Some id
+  pub none : p.plan (head_at id (label w) (count (below w)) d n) s.ext ≡ None
+
+-- It refuses the node's parts: sound arrays that match the children stand where it plans them, and of them, of the head
+-- and of the buffers it builds nothing.
+pub record RefusesParts (c : Codec) (s : SessionMeaning) (p : PluginMeaning) (w : Wire) (d : Typ) (n : ℕ) : Type 0 where
+  pub id : List ℕ
+  pub id_is : (label w).id ≡ Some id
+  pub places_are : List Place
+  pub plan : p.plan (head_at id (label w) (count (below w)) d n) s.ext ≡ Some places_are
+  pub buffers : List Buffer
+  pub buffers_are : (label w).buffers ≡ all_present buffers
+  pub children : Trees
+  pub matched : HasChildren c s w places_are children
+  pub none : p.build (head_at id (label w) (count (below w)) d n) buffers children s.ext ≡ None
+
+-- A plugin reads a node and refuses its head or its parts.
+pub record IsRefusedByPlugin (c : Codec) (s : SessionMeaning) (w : Wire) (d : Typ) (n : ℕ) : Type 0 where
+  pub means : PluginMeaning
+  pub by : IsReadBy s w (Some (plugin means))
+  pub refuses : RefusesHead s means w d n ⊎ RefusesParts c s means w d n
 
 -- ---- the whole tree
 
@@ -143,6 +181,7 @@ pub data Refusal : Type 0 where
   bad_content : Refusal
   foreign_control : Refusal
   bad_stats : Refusal
+  plugin_refused : Refusal
 
 -- Why a wire tree tells no array at a type and a length, by the refusal. An identifier or a buffer may be
 -- missing at any node, placed or not; all else is said of placed nodes.
@@ -155,6 +194,7 @@ RefusesTree bad_shape c s w d n = HoldsSomewhere c s (HasBadShape c s) w d n
 RefusesTree bad_content c s w d n = HoldsSomewhere c s (HasBadContent c s) w d n
 RefusesTree foreign_control c s w d n = HoldsSomewhere c s (HasForeignControl c s) w d n
 RefusesTree bad_stats c s w d n = HoldsSomewhere c s (HasBadStats c s) w d n
+RefusesTree plugin_refused c s w d n = HoldsSomewhere c s (IsRefusedByPlugin c s) w d n
 
 -- ---- writing
 

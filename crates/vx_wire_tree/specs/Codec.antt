@@ -10,7 +10,7 @@ use Rattle.vx_array_tree.specs.Encoding.{Encoding}
 use Rattle.vx_array_tree.specs.Metadata.{Metadata}
 use Rattle.vx_array_tree.specs.Table.{IsFair, IsNativeEncoding}
 use Rattle.vx_wire_tree.specs.Fields.{Fields, raw, told, FitsMessage}
-use Rattle.vx_wire_tree.specs.Session.{SessionMeaning, shipped}
+use Rattle.vx_wire_tree.specs.Session.{SessionMeaning, encoding_by}
 
 -- Bytes show a message of an encoding's metadata, and a message is written as bytes. A field shows statistics of
 -- arrays of a type, and statistics that can be stored are written as a field.
@@ -46,5 +46,5 @@ metadata_bytes c f = c.fields_bytes f
 
 -- The messages are lawful at each encoding by which a session reads, and so are the tables.
 pub record IsLawful (c : Codec) (s : SessionMeaning) : Type 0 where
-  pub messages : (id : List ℕ) (e : Encoding) → s.reader id ≡ Some (shipped e) → IsLawfulAt c e
+  pub messages : (id : List ℕ) (e : Encoding) → encoding_by (s.reader id) ≡ Some e → IsLawfulAt c e
   pub stats : HasLawfulStats c

@@ -1,15 +1,21 @@
 -- When an array is the one that a wire tree tells, under a session.
 use Rattle.std.specs.Prelude.{ℕ, ◌≡◌, List, Option, Some, None, IsTrue}
-use Rattle.vx_trees.specs.Rose.{node, end, more, label, below}
+use Rattle.vx_buffer.specs.Buffer.{Buffer}
+use Rattle.vx_trees.specs.Everywhere.{EverywhereBelow}
+use Rattle.vx_trees.specs.Rose.{node, end, more, label, below, count}
+use Rattle.vx_scalars.specs.Stats.{Stats}
 use Rattle.vx_array_tree.specs.Body as B
 use Rattle.vx_array_tree.specs.Encoding.{Encoding}
+use Rattle.vx_array_tree.specs.Encoding as E
 use Rattle.vx_array_tree.specs.Encodings.Foreigns as Foreigns
-use Rattle.vx_array_tree.specs.Sound.{metadata_in}
+use Rattle.vx_array_tree.specs.Sound.{IsSoundNode, metadata_in}
 use Rattle.vx_array_tree.specs.Table.{encoding_of, buffers_of}
-use Rattle.vx_array_tree.specs.Tree.{Head, Tree, Trees}
+use Rattle.vx_array_tree.specs.Tree.{Head, Tree, Trees, places, with_stats}
 use Rattle.vx_wire_tree.specs.Codec.{Codec}
+use Rattle.vx_wire_tree.specs.Plugin.{PluginMeaning, head_at}
 use Rattle.vx_wire_tree.specs.Reads.{IsMetadata}
-use Rattle.vx_wire_tree.specs.Session.{SessionMeaning, Reader, shipped}
+use Rattle.vx_wire_tree.specs.Revised.{revised_holds}
+use Rattle.vx_wire_tree.specs.Session.{SessionMeaning, Reader, shipped, revised, plugin}
 use Rattle.vx_wire_tree.specs.Wire.{WireHead, Wire, Wires, all_present}
 
 -- A foreign node keeps what stands on the wire: the identifier, the metadata's bytes, and the buffers with their
@@ -40,10 +46,35 @@ pub record IsEncodedNode (c : Codec) (s : SessionMeaning) (e : Encoding) (w : Wi
   pub stats : c.ShowsStats (label t).dtype w.stats (label t).stats
   pub children : Below (below t)
 
--- A node by what reads its identifier; one that nothing reads is foreign, with all below it, where such nodes
--- are allowed, and else tells no array.
+-- A node's identifier holds so many rows, where primitives have two identifiers.
+pub record IsHeldNode (w : WireHead) (n : ℕ) : Type 0 where
+  pub id : List ℕ
+  pub id_is : w.id ≡ Some id
+  pub holds : IsTrue (revised_holds id n)
+
+-- A node that a plugin reads: the array is, with the statistics that the field shows, what the plugin builds of the node's
+-- head, of its buffers, and of sound arrays that match the children and stand where the plugin plans them.
+pub record IsPluginNode (c : Codec) (s : SessionMeaning) (p : PluginMeaning) (w : WireHead) (k : ℕ) (t : Tree) (Below : Trees → Type 0) : Type 0 where
+  pub id : List ℕ
+  pub id_is : w.id ≡ Some id
+  pub buffers : List Buffer
+  pub buffers_are : w.buffers ≡ all_present buffers
+  pub children : Trees
+  pub planned : p.plan (head_at id w k (label t).dtype (label t).len) s.ext ≡ Some (places children)
+  pub matched : Below children
+  pub sound : EverywhereBelow IsSoundNode children
+  pub built : Tree
+  pub built_is : p.build (head_at id w k (label t).dtype (label t).len) buffers children s.ext ≡ Some built
+  pub stats : Stats
+  pub shown : c.ShowsStats (label t).dtype w.stats stats
+  pub tree_is : t ≡ with_stats stats built
+
+-- A node by what reads its identifier. Primitives under two identifiers hold some lengths under each; a node that nothing reads is
+-- foreign, with all below it, where such nodes are allowed, and else tells no array.
 abbrev pub IsNodeBy : Codec → SessionMeaning → Option Reader → WireHead → Wires → Tree → (Trees → Type 0) → Type 0
 IsNodeBy c s (Some (shipped e)) w ws t Below = IsEncodedNode c s e w t Below
+IsNodeBy c s (Some revised) w ws t Below = IsHeldNode w (label t).len × IsEncodedNode c s E.primitive w t Below
+IsNodeBy c s (Some (plugin p)) w ws t Below = IsPluginNode c s p w (count ws) t Below
 IsNodeBy c s None w ws t Below = IsTrue s.ext.unknown × IsRaw (node w ws) t
 
 abbrev mutual

@@ -2,15 +2,25 @@
 use Rattle.std.specs.Prelude.{ℕ, ◌≡◌, List, [], ◌∷◌, Option, Some, None, slice_get}
 use Rattle.vx_trees.specs.Rose.{Rose, label, below, count, roses_list}
 use Rattle.vx_types.specs.Typ.{Typ}
+use Rattle.vx_array_tree.specs.Encoding as E
 use Rattle.vx_array_tree.specs.Place.{Place}
 use Rattle.vx_wire_tree.specs.Codec.{Codec}
-use Rattle.vx_wire_tree.specs.Session.{SessionMeaning, Reader, shipped}
+use Rattle.vx_wire_tree.specs.Plugin.{PluginMeaning, head_at}
+use Rattle.vx_wire_tree.specs.Session.{SessionMeaning, Reader, shipped, revised, plugin}
 use Rattle.vx_wire_tree.specs.Steps.{PlansChildren}
 use Rattle.vx_wire_tree.specs.Wire.{Wire}
 
--- A plan by what reads a node: its encoding plans its children. Its buffers are not looked at.
+-- A plugin plans these places for the children of a node that stands at a type and a length.
+pub record PlansByPlugin (s : SessionMeaning) (p : PluginMeaning) (w : Wire) (d : Typ) (n : ℕ) (ps : List Place) : Type 0 where
+  pub id : List ℕ
+  pub id_is : (label w).id ≡ Some id
+  pub plan : p.plan (head_at id (label w) (count (below w)) d n) s.ext ≡ Some ps
+
+-- A plan by what reads a node: its encoding or its plugin plans its children. Its buffers are not looked at.
 abbrev pub IsPlannedBy : Codec → SessionMeaning → Option Reader → Wire → Typ → ℕ → List Place → Type 0
 IsPlannedBy c s (Some (shipped e)) w d n ps = PlansChildren c s.ext e d n (label w).metadata (count (below w)) ps
+IsPlannedBy c s (Some revised) w d n ps = PlansChildren c s.ext E.primitive d n (label w).metadata (count (below w)) ps
+IsPlannedBy c s (Some (plugin p)) w d n ps = PlansByPlugin s p w d n ps
 IsPlannedBy c s None w d n ps = ⊥
 
 -- A node that stands at a type and a length has a plan.

@@ -1,5 +1,5 @@
 -- The conditions under which what is written of an array is read back.
-use Rattle.std.specs.Prelude.{◌≡◌, ◌<◌, ◌^◌, Some, None, IsTrue, length}
+use Rattle.std.specs.Prelude.{ℕ, ◌≡◌, ◌<◌, ◌^◌, List, Option, Some, None, IsTrue, length}
 use Rattle.vx_trees.specs.Rose.{node, end, more}
 use Rattle.vx_trees.specs.Everywhere.{Everywhere}
 use Rattle.vx_array_tree.specs.Body.{Body}
@@ -13,7 +13,8 @@ use Rattle.vx_wire_tree.specs.Codec.{Codec, metadata_bytes}
 use Rattle.vx_wire_tree.specs.Fields.{told}
 use Rattle.vx_wire_tree.specs.Limits.{HasMessage}
 use Rattle.vx_wire_tree.specs.Reads.{IsKnownIn}
-use Rattle.vx_wire_tree.specs.Session.{SessionMeaning, Reader, shipped}
+use Rattle.vx_wire_tree.specs.Session.{SessionMeaning, Reader, encoding_by, HoldsLength}
+use Rattle.vx_wire_tree.specs.Written.{written_id}
 
 -- The session has a writer of an encoding.
 pub record HasWriter (s : SessionMeaning) (e : Encoding) : Type 0 where
@@ -71,10 +72,15 @@ abbrev mutual
   AreUnread s end = Unit {0}
   AreUnread s (more t ts) = IsUnread s t × AreUnread s ts
 
--- A node of an encoding is read back: its identifier is read by its encoding, its metadata fits a message of
--- which the bytes can be counted, a type in it is known, and its statistics can be stored.
+-- What reads an identifier is of this encoding, and may read so many rows under it.
+pub record IsReadAs (r : Option Reader) (e : Encoding) (id : List ℕ) (n : ℕ) : Type 0 where
+  pub encoding : encoding_by r ≡ Some e
+  pub held : HoldsLength r id n
+
+-- A node of an encoding is read back: the identifier under which it is written is read by its encoding, its metadata
+-- fits a message of which the bytes can be counted, a type in it is known, and its statistics can be stored.
 pub record IsReadBack (c : Codec) (s : SessionMeaning) (h : Head) (ts : Trees) : Type 0 where
-  pub reader : s.reader (id_of (encoding_of h.body)) ≡ Some (shipped (encoding_of h.body))
+  pub reader : IsReadAs (s.reader (written_id s h)) (encoding_of h.body) (written_id s h) h.len
   pub message : HasMessage h ts
   pub countable : IsCountableNode c h ts
   pub known : IsKnownNode s h ts

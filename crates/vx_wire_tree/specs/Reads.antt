@@ -1,18 +1,13 @@
 -- What a node's metadata is read as.
-use Rattle.std.specs.Prelude.{ℕ, ◌≡◌, List, Some}
-use Rattle.vx_types.specs.Known.{ExtMeaning, IsKnown}
+use Rattle.std.specs.Prelude.{ℕ, ◌≡◌, List}
+use Rattle.vx_types.specs.Known.{ExtMeaning}
 use Rattle.vx_types.specs.Typ.{Typ}
 use Rattle.vx_array_tree.specs.Encoding.{Encoding}
 use Rattle.vx_array_tree.specs.Metadata.{Metadata}
-use Rattle.vx_array_tree.specs.Metadata as M
 use Rattle.vx_array_tree.specs.Table.{IsFair}
 use Rattle.vx_wire_tree.specs.Codec.{Codec}
 use Rattle.vx_wire_tree.specs.Fields.{Fields, meant}
-
--- A type in metadata is known.
-abbrev pub IsKnownIn : ExtMeaning → Metadata → Type 0
-IsKnownIn x (M.variant (Some e)) = IsKnown x e
-IsKnownIn x _ = Unit {0}
+pub use Rattle.vx_wire_tree.specs.KnownTypes.{IsKnownIn}
 
 -- Bytes are metadata of an encoding's node of a type: they show a message, the encoding admits what it means
 -- at that type, and a type in it is known.

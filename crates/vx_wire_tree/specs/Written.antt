@@ -1,20 +1,54 @@
 -- The wire tree of an array, and the array that is read back from it.
-use Rattle.std.specs.Prelude.{Some}
+use Rattle.std.specs.Prelude.{ℕ, List, Option, Some, Bool, true, false, nat_le, if◌then◌else◌}
 use Rattle.vx_trees.specs.Rose.{node, end, more, label}
+use Rattle.vx_array_tree.specs.Body.{Body}
+use Rattle.vx_array_tree.specs.Body as B
 use Rattle.vx_array_tree.specs.Canon.{canon_at}
+use Rattle.vx_array_tree.specs.Encoding.{Encoding}
+use Rattle.vx_array_tree.specs.Encoding as E
 use Rattle.vx_array_tree.specs.Encodings.Foreigns as Foreigns
+use Rattle.vx_array_tree.specs.Encodings.Primitives as Primitives
 use Rattle.vx_array_tree.specs.Sound.{metadata_in}
-use Rattle.vx_array_tree.specs.Table.{own_id, buffers_of}
+use Rattle.vx_array_tree.specs.Table.{encoding_of, id_of, buffers_of}
 use Rattle.vx_array_tree.specs.Tree.{Tree, Trees, Head}
 use Rattle.vx_wire_tree.specs.Codec.{Codec, metadata_bytes}
 use Rattle.vx_wire_tree.specs.Fields.{told}
-use Rattle.vx_wire_tree.specs.Session.{SessionMeaning}
+use Rattle.vx_wire_tree.specs.Revised.{revised_name}
+use Rattle.vx_wire_tree.specs.Session.{SessionMeaning, Reader, revised}
 use Rattle.vx_wire_tree.specs.Wire.{WireHead, Wire, Wires, all_present}
 
--- How a node is spelled: its own identifier, the bytes of its metadata, its buffers.
+-- Primitives are written under two identifiers, by what writes them.
+abbrev pub is_revised : Option Reader → Bool
+is_revised (Some revised) = true
+is_revised _ = false
+
+-- So it is under a session.
+abbrev pub writes_two : SessionMeaning → Bool
+writes_two s = is_revised (s.writer Primitives.id)
+
+-- The identifier under which nodes of an encoding, of so many rows, are written: the encoding's, but that primitives of more
+-- than four rows have the second one where they are written under two.
+abbrev pub id_under : Bool → Encoding → ℕ → List ℕ
+id_under two E.primitive n = if nat_le n 4 then Primitives.id else (if two then revised_name else Primitives.id)
+id_under two e n = id_of e
+
+-- A body's, of so many rows: a foreign one has its own.
+abbrev pub body_id : Bool → Body → ℕ → List ℕ
+body_id two (B.foreign x) n = x.id
+body_id two b n = id_under two (encoding_of b) n
+
+-- A node's.
+abbrev pub head_id : Bool → Head → List ℕ
+head_id two h = body_id two h.body h.len
+
+-- A node's under a session.
+abbrev pub written_id : SessionMeaning → Head → List ℕ
+written_id s h = head_id (writes_two s) h
+
+-- How a node is spelled: its identifier, the bytes of its metadata, its buffers.
 abbrev pub spelled : Codec → SessionMeaning → Head → Trees → Foreigns.Data
 spelled c s h ts = record {
-  id = own_id h.body;
+  id = written_id s h;
   metadata = metadata_bytes c (told (metadata_in h ts));
   buffers = buffers_of h.body;
 }
@@ -22,14 +56,14 @@ spelled c s h ts = record {
 -- A node on the wire: as it is spelled, with its statistics' field.
 abbrev pub wire_head : Codec → SessionMeaning → Head → Trees → WireHead
 wire_head c s h ts = record {
-  id = Some (own_id h.body);
+  id = Some (written_id s h);
   metadata = metadata_bytes c (told (metadata_in h ts));
   buffers = all_present (buffers_of h.body);
   stats = c.stats_field h.stats;
 }
 
 abbrev mutual
-  -- The wire tree of an array, node by node. Each encoding has one form so far, whatever the session.
+  -- The wire tree of an array, node by node.
   pub wire : Codec → SessionMeaning → Tree → Wire
   wire c s (node h ts) = node (wire_head c s h ts) (wires c s ts)
 

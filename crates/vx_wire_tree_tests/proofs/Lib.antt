@@ -2,3 +2,4 @@ pub mod SampleWires
 pub mod SampleContexts
 pub mod SampleTold
 pub mod SampleRaw
+pub mod SampleRevised

@@ -189,7 +189,7 @@ foreign_validity = (
   [],
   record {
     encoding = E.primitive;
-    by = record { id = name; id_is = refl; reader_is = refl };
+    by = record { id = name; id_is = refl; encoding_is = refl };
     value = M.empty;
     metadata = record { fields = F.empty; shown = refl; meaning = refl; fair = tt; known = tt };
     places_are = place (flag_type NonNullable) 4 ∷ [];
@@ -198,7 +198,7 @@ foreign_validity = (
     matched = record {
       matched = ((codes "x.new", refl, (refl, (record { kept = new_flags; body = refl; id = refl; metadata = refl; buffers = refl }, refl))), refl);
       sound = ((record { fair = tt; planned = refl; allows = tt; takes = tt; holds = tt; controlled = native_controlled _ _ _ tt; content = tt; stats = none_fit _ }, tt), tt);
-      normal = ((record { stats = refl; children = tt }, tt), tt);
+      normal = λ _. ((record { stats = refl; children = tt }, tt), tt);
       placed = refl;
     };
     foreign = λ k. (k.controls 0 flags refl refl).0;

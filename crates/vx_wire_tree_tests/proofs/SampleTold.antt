@@ -97,7 +97,7 @@ matched_stats = (
 
 -- Where a field shows none, the statistics are refused, at this node alone.
 no_stats_shown : RefusesTree bad_stats codec numbers_session (told_numbers (text [])) type 4
-no_stats_shown = ([], record { encoding = E.primitive; by = record { id = name; id_is = refl; reader_is = refl }; none = λ x h. h })
+no_stats_shown = ([], record { reader = shipped E.primitive; by = record { id = name; id_is = refl; reader_is = refl }; none = λ x h. h })
 
 stats_shown : RefusesTree bad_stats codec numbers_session (told_numbers (number 2)) type 4 → ⊥
 stats_shown ([], x) = x.none (nulls 2) refl
@@ -116,7 +116,7 @@ no_reader : RefusesTree unknown_encoding codec (session None) (numbers_of (Some 
 no_reader = ([], record { unregistered = record { id = name; id_is = refl; reader_is = refl }; closed = refl })
 
 is_numbers : (bs : List (Option Buffer)) → IsOf numbers_session (numbers_of (Some name) bs) E.primitive
-is_numbers bs = record { id = name; id_is = refl; reader_is = refl }
+is_numbers bs = record { id = name; id_is = refl; encoding_is = refl }
 
 -- Five rows do not fit the bytes of four.
 other_length : (bs : List Buffer) → MayStandFor (Some values ∷ []) bs → IsShaped E.primitive type 5 M.empty bs 0 → ⊥

@@ -3,5 +3,6 @@
 //! - `proofs::SampleWires`: wire trees of arrays of each encoding, their messages and their identifiers;
 //! - `proofs::SampleContexts`: how contexts grow;
 //! - `proofs::SampleTold`: a wire tree that tells an array, and the causes of those that tell none;
-//! - `proofs::SampleRaw`: wire trees with nodes that nothing reads.
+//! - `proofs::SampleRaw`: wire trees with nodes that nothing reads;
+//! - `proofs::SampleRevised`: primitives under two identifiers.
 #![tactic(auto)]

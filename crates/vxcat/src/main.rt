@@ -19,7 +19,7 @@ const WRITE_FAULT: u8 = 5;
 const HELP: &str =
     "vxcat reads the blob of an array, or an expression, from a file and writes it again, or makes a table.
 
-vxcat recode TYPE BLOB LEN IDS OUT OUTIDS [--pad OFFSET] [--rows N] [--allow FILE] [--unknown] [--deep]
+vxcat recode TYPE BLOB LEN IDS OUT OUTIDS [--pad OFFSET] [--rows N] [--allow FILE] [--unknown] [--deep] [--rev2]
     TYPE      a file with the logical type, as a table message
     BLOB      a file with the blob
     LEN       the number of rows
@@ -31,6 +31,7 @@ vxcat recode TYPE BLOB LEN IDS OUT OUTIDS [--pad OFFSET] [--rows N] [--allow FIL
     --allow   write with the identifiers of this file alone, one a line
     --unknown allow unknown encodings and unknown extensions
     --deep    allow 126 levels of nodes, in the place of 62
+    --rev2    read and write primitives under two identifiers
 vxcat expr FILE
     FILE      a file with an expression, as a tagged message
 vxcat make SEED ROWS TYPE OUT IDS

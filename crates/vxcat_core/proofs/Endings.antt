@@ -145,6 +145,9 @@ refusal_not_two refusal.BadStats is = absurd (omega (arith, is))
 refusal_not_two refusal.NotPermitted is = absurd (omega (arith, is))
 refusal_not_two refusal.WireLimit is = absurd (omega (arith, is))
 refusal_not_two refusal.NotRegistered is = absurd (omega (arith, is))
+refusal_not_two refusal.NotSerializable is = absurd (omega (arith, is))
+refusal_not_two refusal.UndeclaredId is = absurd (omega (arith, is))
+refusal_not_two refusal.PluginRefused is = absurd (omega (arith, is))
 
 pub recode_not_two : (status : Status) (line : Recode) (run : Run) → EndsRecode status line run → status_number status ≡ 2 → ⊥
 recode_not_two NoCommand line run ends is = ends

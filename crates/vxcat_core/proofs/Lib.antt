@@ -11,8 +11,10 @@ mod MakeSteps
 mod OptionFronts
 mod OptionSettings
 mod Outcomes
+mod OwnNames
 mod Recodings
 mod RowTexts
+mod Sessions
 mod SevenWords
 mod SixWords
 mod Tables

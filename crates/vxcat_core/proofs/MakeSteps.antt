@@ -18,7 +18,7 @@ use Rattle.vx_serde.specs.declared.options.SerializeOptions.{SerializeOptions}
 use Rattle.vx_serde.specs.declared.error.WireError.{WireError}
 use Rattle.vx_serde.specs.Causes.{RefusesArray}
 use Rattle.vx_serde.specs.Request.{CanRecode, Request}
-use Rattle.vx_serde.specs.Serializing.{IsSerialized}
+use Rattle.vx_serde.specs.Serializing.{IsSerialized, IsWrittenBlob}
 use Rattle.vx_serde.specs.Spells.{Spells}
 use Rattle.vx_generator.specs.Made.{data_len, made, made_type}
 use Rattle.vx_generator.specs.Summary.{line_of, summary}
@@ -106,14 +106,14 @@ module _ (array : Tree) (is : IsTable array) (w : WrittenTable) (x : IsTableWrit
   again : (outputs : Outputs) → AreMade (request_for (joined x.buffers) (label array).dtype (label array).len x.after.ids no_ids make_session (padded_at None false)) outputs → IsWrittenAgain array outputs
   again outputs m =
       let same : array ≡ m.made.array = m.faithful.the_one array spelled in
-      let serialized = subst (λ (z : Tree). IsSerialized make_session z (padded_at None false) no_ids m.made.context m.made.buffers) (sym same) m.recoded.serialized in
-      let context_is : m.made.context ≡ record { ids = table_ids; allowed = None } = (let e = sym serialized.grown_is ∙ grows in cc) in
+      let blob = subst (λ (z : Tree). IsWrittenBlob make_session z (padded_at None false) no_ids m.made.context m.made.buffers) (m.faithful.own ∙ sym same) m.recoded.serialized.blob in
+      let context_is : m.made.context ≡ record { ids = table_ids; allowed = None } = (let e = sym blob.grown_is ∙ grows in cc) in
       let ids_is : outputs.ids ≡ table_ids = m.holds.ids_are ∙ ap (λ (z : Context). z.ids) context_is in
       let again_spelled = subst (λ (z : Tree). Spells (joined m.made.buffers) m.made.context.ids (label array).dtype (label array).len make_session (canon codec make_session z)) (sym same) m.faithful.again in
       let of_own = subst (λ (z : Tree). Spells (joined m.made.buffers) m.made.context.ids (label array).dtype (label array).len make_session z) own again_spelled in
       let of_ids = subst (λ (z : List (List ℕ)). Spells (joined m.made.buffers) z (label array).dtype (label array).len make_session array) (sym m.holds.ids_are) of_own in
       record {
-        blob_written = ap (λ (z : List Buffer). joined z) m.holds.buffers_are ∙ serialized.written;
+        blob_written = ap (λ (z : List Buffer). joined z) m.holds.buffers_are ∙ blob.written;
         ids_grown = grows ∙ ap (λ (z : List (List ℕ)). Some (record { ids = z; allowed = None })) (sym ids_is);
         spelled = subst (λ (z : List Buffer). Spells (joined z) outputs.ids (label array).dtype (label array).len make_session array) (sym m.holds.buffers_are) of_ids;
       }

@@ -1,16 +1,13 @@
 -- Words give options in one way alone.
-use Rattle.std.proofs.Common.{◌≡◌, ℕ, List, [], ◌∷◌, ◌++◌, Option, Some, None, ◌<◌, ◌^◌, codes, decimal, length, get_or, drop, refl, sym, ap, ◌∙◌, arith}
+use Rattle.std.proofs.Common.{◌≡◌, ℕ, List, [], ◌∷◌, ◌++◌, Option, Some, None, ◌<◌, ◌^◌, codes, decimal, get_or, drop, refl, sym, ap, ◌∙◌, arith}
 use Rattle.std.specs.List.{AllByRecursion, flat_map}
 use Rattle.std.proofs.lemmas.Fmt.{decimal_injective}
-use Rattle.vxcat_core.specs.Options.{IsInRange, Setting, pad, rows, allow, unknown, deep, setting_words}
+use Rattle.vxcat_core.specs.Options.{IsInRange, Setting, pad, rows, allow, unknown, deep, revised, setting_words}
 use Rattle.vxcat_core.specs.GivenOptions.{Given, Gives, with_setting, with_settings}
 
-length_at : (a b : List (List ℕ)) (k : ℕ) → a ≡ b → length (get_or a k []) ≡ length (get_or b k [])
-length_at a b k same = ap (λ (l : List (List ℕ)). length (get_or l k [])) same
-
--- The words `--rows` and `--deep` are equally long, and differ in a letter.
-letter_at : (a b : List (List ℕ)) (k : ℕ) → a ≡ b → get_or (get_or a 0 []) k 0 ≡ get_or (get_or b 0 []) k 0
-letter_at a b k same = ap (λ (l : List (List ℕ)). get_or (get_or l 0 []) k 0) same
+-- The fifth letter of the first word. No two options have the same there.
+letter_at : (a b : List (List ℕ)) → a ≡ b → get_or (get_or a 0 []) 4 0 ≡ get_or (get_or b 0 []) 4 0
+letter_at a b same = ap (λ (l : List (List ℕ)). get_or (get_or l 0 []) 4 0) same
 
 second : (a b : List (List ℕ)) → a ≡ b → get_or a 1 [] ≡ get_or b 1 []
 second a b same = ap (λ (l : List (List ℕ)). get_or l 1 []) same
@@ -27,28 +24,10 @@ front (pad n) (pad m) rest other fits also same = (ap (λ (k : ℕ). pad k) (dec
 front (rows n) (rows m) rest other few also same =
     (ap (λ (k : ℕ). rows k) (decimal_injective n m (omega (arith, few)) (omega (arith, also)) (second _ _ same)), behind _ _ same)
 front (allow n) (allow m) rest other fits also same = (ap (λ (k : List ℕ). allow k) (second _ _ same), behind _ _ same)
-front (pad n) (rows m) rest other fits also same = absurd (omega (arith, length_at _ _ 0 same))
-front (rows n) (pad m) rest other fits also same = absurd (omega (arith, length_at _ _ 0 same))
-front (pad n) (allow m) rest other fits also same = absurd (omega (arith, length_at _ _ 0 same))
-front (allow n) (pad m) rest other fits also same = absurd (omega (arith, length_at _ _ 0 same))
-front (rows n) (allow m) rest other fits also same = absurd (omega (arith, length_at _ _ 0 same))
-front (allow n) (rows m) rest other fits also same = absurd (omega (arith, length_at _ _ 0 same))
 front unknown unknown rest other fits also same = (refl, behind_one _ _ same)
-front unknown (pad m) rest other fits also same = absurd (omega (arith, length_at _ _ 0 same))
-front unknown (rows m) rest other fits also same = absurd (omega (arith, length_at _ _ 0 same))
-front unknown (allow m) rest other fits also same = absurd (omega (arith, length_at _ _ 0 same))
-front (pad n) unknown rest other fits also same = absurd (omega (arith, length_at _ _ 0 same))
-front (rows n) unknown rest other fits also same = absurd (omega (arith, length_at _ _ 0 same))
-front (allow n) unknown rest other fits also same = absurd (omega (arith, length_at _ _ 0 same))
 front deep deep rest other fits also same = (refl, behind_one _ _ same)
-front deep (pad m) rest other fits also same = absurd (omega (arith, length_at _ _ 0 same))
-front (pad n) deep rest other fits also same = absurd (omega (arith, length_at _ _ 0 same))
-front deep (rows m) rest other fits also same = absurd (omega (arith, letter_at _ _ 2 same))
-front (rows n) deep rest other fits also same = absurd (omega (arith, letter_at _ _ 2 same))
-front deep (allow m) rest other fits also same = absurd (omega (arith, length_at _ _ 0 same))
-front (allow n) deep rest other fits also same = absurd (omega (arith, length_at _ _ 0 same))
-front deep unknown rest other fits also same = absurd (omega (arith, length_at _ _ 0 same))
-front unknown deep rest other fits also same = absurd (omega (arith, length_at _ _ 0 same))
+front revised revised rest other fits also same = (refl, behind_one _ _ same)
+front c d rest other fits also same = absurd (omega (arith, letter_at _ _ same))
 
 -- What cannot be is not made good by more options.
 pub with_settings-None : (settings : List Setting) → with_settings None settings ≡ None
@@ -56,11 +35,8 @@ with_settings-None [] = refl
 with_settings-None (setting ∷ settings) = with_settings-None settings
 
 no_words : (setting : Setting) (rest : List (List ℕ)) → [] ≡ setting_words setting ++ rest → ⊥
-no_words (pad n) rest same = cc
-no_words (rows n) rest same = cc
-no_words (allow n) rest same = cc
 no_words unknown rest same = cc
-no_words deep rest same = cc
+no_words setting rest same = cc
 
 -- No words give no option.
 pub nothing_given : (before : Given) (words : List (List ℕ)) → words ≡ [] → Gives before words before
@@ -112,13 +88,10 @@ rest_not_given before next setting words rest words_are in_range given none afte
 
 -- A number of rows over 1,000 is no option.
 pub too_many_rows : (setting : Setting) (rest other : List (List ℕ)) (n : ℕ) → 1000 < n → n < 2 ^ 64 → IsInRange setting → codes "--rows" ∷ decimal n ∷ other ≡ setting_words setting ++ rest → ⊥
-too_many_rows (pad m) rest other n many fits range same = absurd (omega (arith, length_at _ _ 0 same))
-too_many_rows (allow m) rest other n many fits range same = absurd (omega (arith, length_at _ _ 0 same))
-too_many_rows unknown rest other n many fits range same = absurd (omega (arith, length_at _ _ 0 same))
-too_many_rows deep rest other n many fits range same = absurd (omega (arith, letter_at _ _ 2 same))
 too_many_rows (rows m) rest other n many fits range same =
     let is : n ≡ m = decimal_injective n m fits (omega (arith, range)) (second _ _ same) in
     omega (arith, is, many, range)
+too_many_rows setting rest other n many fits range same = absurd (omega (arith, letter_at _ _ same))
 
 -- Words are one list of options at most.
 pub settings_same : (cs ds : List Setting) → AllByRecursion IsInRange cs → AllByRecursion IsInRange ds → flat_map setting_words cs ≡ flat_map setting_words ds → cs ≡ ds

@@ -1,19 +1,14 @@
 -- From what `recode` ensures to what the program promises of its inputs.
-use Rattle.std.proofs.Common.{◌≡◌, ℕ, Bool, true, false, List, Option, Some, None, inl, inr, refl, Result, Ok, Err, IfOk, IfErr, Global, sym, ap, subst, ◌∙◌}
-use Rattle.std.specs.declared.dyn_box.DynBox.{DynBox}
+use Rattle.std.proofs.Common.{◌≡◌, ℕ, List, Option, Some, None, inl, inr, refl, Result, Ok, Err, IfOk, IfErr, sym, ap, subst, ◌∙◌}
 use Rattle.vx_types.specs.declared.dtype.DType.{DType}
 use Rattle.vx_types.specs.Seen.{typ}
 use Rattle.vx_types.specs.Typ.{Typ}
-use Rattle.vx_type_wire.specs.Known.{ExtMeaning, IsRead}
+use Rattle.vx_types.specs.Known.{ExtMeaning}
+use Rattle.vx_type_wire.specs.Known.{IsRead}
 use Rattle.vx_type_wire.specs.Shown.{ShowsType}
-use Rattle.vx_type_wire.specs.Session.{ext_meaning}
-use Rattle.vx_type_wire.specs.declared.readers.ExtSession.{ExtSession}
 use Rattle.vx_type_wire.proofs.LawsTypes.{one_type_shown}
 use Rattle.vx_wire_tree.specs.Context.{Context}
 use Rattle.vx_wire_tree.specs.Session.{SessionMeaning}
-use Rattle.vx_registry.specs.declared.session.VortexSession.{VortexSession}
-use Rattle.vx_registry.specs.Meaning.{session_meaning}
-use Rattle.vx_registry.specs.Session.{Registry, tables_meaning, shipped_registry}
 use Rattle.vx_serde.specs.declared.options.SerializeOptions.{SerializeOptions}
 use Rattle.vx_serde.specs.declared.error.WireError.{WireError}
 use Rattle.vx_serde.specs.declared.error.WireError.TheVariants as wire
@@ -26,28 +21,10 @@ use Rattle.vxcat_core.specs.declared.recode.steps.Outputs.{Outputs}
 use Rattle.vxcat_core.specs.declared.status.Status.{Status}
 use Rattle.vxcat_core.specs.declared.status.Status.TheVariants.{Done, OutOfMemory, NoCommand, LoadFault, SaveFault, WriteFault, BadType, BadIds, BadExpression, Refused}
 use Rattle.vxcat_core.specs.IdFile.{ReadsIds}
-use Rattle.vxcat_core.specs.Recode.{AreRead, CanRecodeInputs, ReadsAllowed, RefusesInputs, Loaded, Recode, Terms, asked_by, context_of, padded_at, readers_by, readers_of, session_by, session_of}
+use Rattle.vxcat_core.specs.Recode.{AreRead, CanRecodeInputs, ReadsAllowed, RefusesInputs, Loaded, Recode, Terms, asked_by, context_of, padded_at, readers_of, session_of}
 use Rattle.vxcat_core.proofs.IdLines.{lines_unique}
 use Rattle.vxcat_core.specs.RecodeViews.{AreMade, AreOutputs, RefusesBlob, RefusesIds, RefusesType, request_for}
 use Rattle.vxcat_core.specs.Statuses.{blob_status, id_status}
-
--- The session that the program makes means the shipped encodings, and no readers.
-pub same_session : {X : Type 0} {F : X → Type 0} (accepted : DynBox X Global F → List ℕ → Typ → Bool) (session : VortexSession X F) (arrays : Registry) (ext : ExtSession X F) (unknown : Bool)
-    → session.arrays ≡ arrays → session.ext ≡ ext → arrays ≡ shipped_registry → ext_meaning accepted ext ≡ readers_by unknown → session_meaning accepted session ≡ session_by unknown
-same_session accepted session arrays ext unknown a e shipped none = λ k. tables_meaning ((a ∙ shipped) k) ((ap (λ x. ext_meaning accepted x) e ∙ none) k)
-
--- Once what is unknown is allowed, the readers of extensions are none, and their flag is set.
-unknown_allowed : (x y : ExtMeaning) (unknown : Bool) → x ≡ readers_by false → ((id : List ℕ) → y.reader id ≡ x.reader id) → y.unknown ≡ true → unknown ≡ true → y ≡ readers_by unknown
-unknown_allowed x y unknown before readers allowed is = λ k. record { reader = λ id. (readers id ∙ ap (λ (m : ExtMeaning). m.reader id) before) k; unknown = (allowed ∙ sym is) k }
-
--- And the session means the shipped encodings beside these.
-pub allowing_session : {X : Type 0} {F : X → Type 0} (accepted : DynBox X Global F → List ℕ → Typ → Bool) (session : VortexSession X F) (arrays : Registry) (ext after : ExtSession X F) (unknown : Bool)
-    → session.arrays ≡ arrays → session.ext ≡ ext → arrays ≡ shipped_registry → ext_meaning accepted ext ≡ readers_by false
-    → ((id : List ℕ) → (ext_meaning accepted after).reader id ≡ (ext_meaning accepted session.ext).reader id) → (ext_meaning accepted after).unknown ≡ true → unknown ≡ true
-    → tables_meaning session.arrays (ext_meaning accepted after) ≡ session_by unknown
-allowing_session accepted session arrays ext after unknown a e shipped before readers allowed is =
-    let own = unknown_allowed (ext_meaning accepted session.ext) (ext_meaning accepted after) unknown (ap (λ x. ext_meaning accepted x) e ∙ before) readers allowed is in
-    λ k. tables_meaning ((a ∙ shipped) k) (own k)
 
 -- What holds of what is asked of bytes holds of what is asked of the same bytes.
 pub asked_alike : (P : Request → Type 0) (bytes blob : List ℕ) (dtype : Typ) (len : ℕ) (ids : List (List ℕ)) (context : Context) (session : SessionMeaning) (options : SerializeOptions)
@@ -85,6 +62,9 @@ refused wire.BadStats asked cause = cause
 refused wire.NotPermitted asked cause = cause
 refused wire.WireLimit asked cause = cause
 refused wire.NotRegistered asked cause = cause
+refused wire.NotSerializable asked cause = cause
+refused wire.UndeclaredId asked cause = cause
+refused wire.PluginRefused asked cause = cause
 
 not_memory : BadType ≡ OutOfMemory → ⊥
 not_memory e = absurd (cc)

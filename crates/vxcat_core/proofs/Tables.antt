@@ -14,8 +14,9 @@ use Rattle.vx_type_wire.specs.Written as T
 use Rattle.vx_type_wire.specs.declared.error.TypeWireError.{TypeWireError}
 use Rattle.vx_type_wire.specs.declared.error.TypeWireError.TheVariants as type_error
 use Rattle.vx_types.specs.declared.ptype.PType.TheVariants.{U8, U32}
+use Rattle.vx_array_tree.specs.Body as B
 use Rattle.vx_array_tree.specs.Encoding as E
-use Rattle.vx_array_tree.specs.Encoding.{Encoding}
+use Rattle.vx_array_tree.specs.Encodings.Primitives as Primitives
 use Rattle.vx_array_tree.specs.Table.{id_of}
 use Rattle.vx_array_tree.specs.Tree.{Tree}
 use Rattle.vx_scalars.specs.Stats.{no_stats}
@@ -35,24 +36,25 @@ use Rattle.vx_flat.specs.Weight.{weight}
 use Rattle.vx_flat.proofs.Inverse.{layout_length}
 use Rattle.vx_flat.proofs.LawsOfMessages.{weight-shown}
 use Rattle.vx_proto.specs.Written.{varint_within, varint_bytes, written}
-use Rattle.vx_wire_tree.specs.Context.{Context, grown}
+use Rattle.vx_wire_tree.specs.Context.{Context, with_ids, grown, grown_by}
 use Rattle.vx_wire_tree.specs.Fields.{DictFields}
 use Rattle.vx_wire_tree.specs.Limits.{HasMessages, IsDescribable, AreDescribable}
-use Rattle.vx_wire_tree.specs.ReadBack.{IsWritten, ReadsBack}
-use Rattle.vx_wire_tree.specs.Session.{SessionMeaning, shipped}
+use Rattle.vx_wire_tree.specs.ReadBack.{IsReadAs, IsWritten, ReadsBack}
+use Rattle.vx_wire_tree.specs.Session.{SessionMeaning, IsShipped, shipped}
+use Rattle.vx_wire_tree.specs.Taken.{unregistered, unserializable, undeclared, unwilling}
 use Rattle.vx_wire_tree.specs.Wire.{Wire, buffers_in, ids_in}
 use Rattle.vx_wire_tree.specs.Tells.{Tells}
 use Rattle.vx_wire_tree.specs.Matches.{Matches}
-use Rattle.vx_wire_tree.specs.Written.{wire, canon}
-use Rattle.vx_wire_tree.proofs.Laws.{canon_own}
+use Rattle.vx_wire_tree.specs.Written.{wire, canon, body_id, writes_two}
+use Rattle.vx_wire_tree.proofs.Laws.{canon_own, never_untaken, taken_whole}
 use Rattle.vx_wire_tree.proofs.ReadAgain.{written_matches}
 use Rattle.vx_encodings.specs.BoolMessage.{bool_bytes}
 use Rattle.vx_encodings.specs.DictMessage.{dict_bytes}
 use Rattle.vx_encodings.specs.ListMessage.{list_bytes}
 use Rattle.vx_encodings.specs.Messages.{codec, stats_field}
 use Rattle.vx_scalar_wire.specs.StatsTable.{AreStorable}
-use Rattle.vx_registry.specs.Session.{tables_meaning, shipped_registry}
-use Rattle.vx_registry.proofs.LawsSessions.{registry_lawful}
+use Rattle.vx_registry.specs.Session.{no_plugins, shipped_meaning, shipped_registry}
+use Rattle.vx_registry.proofs.LawsSessions.{registry_lawful, shipped_alone}
 use Rattle.vx_serde.specs.declared.options.SerializeOptions.{SerializeOptions}
 use Rattle.vx_serde.specs.ArraySchema.{array_schema}
 use Rattle.vx_serde.specs.declared.message.Descriptor.{Descriptor}
@@ -64,18 +66,20 @@ use Rattle.vx_serde.specs.Causes.{RefusesArray}
 use Rattle.vx_serde.specs.declared.error.WireError.{WireError}
 use Rattle.vx_serde.specs.declared.error.WireError.TheVariants as wire_error
 use Rattle.vx_serde.specs.Request.{CanRecode}
-use Rattle.vx_serde.specs.Serializing.{IsSerialized}
+use Rattle.vx_serde.specs.Limits.{most_levels}
+use Rattle.vx_serde.specs.Serializing.{IsSerialized, IsWrittenBlob}
 use Rattle.vx_serde.specs.Spells.{Spells, KeepsReaderLimits, KeepsWriterLimits, blob_of, ids_after}
+use Rattle.vx_serde.specs.Taking.{as_written}
 use Rattle.vx_serde.specs.Written.{message_bytes, message_pad, blob_bytes, IsWritable}
 use Rattle.vx_serde.proofs.Carried.{carried, is_blob, shows-layout}
 use Rattle.vx_serde.proofs.CarriedOnce.{one_blob}
-use Rattle.vx_serde.proofs.Gathered.{all-written}
 use Rattle.vx_serde.proofs.GrownPlaced.{grown_by-placed}
 use Rattle.vx_serde.proofs.MessageRead.{message_value_is_of}
 use Rattle.vx_serde.proofs.NumberedRead.{placed_from_ids, numbered_fits}
 use Rattle.vx_serde.proofs.WholeBlob.{length-blob}
 use Rattle.vx_serde.proofs.WiredStats.{wire-tabled}
 use Rattle.vx_serde.proofs.WrittenAgain.{grown-ids, wire-whole}
+use Rattle.vxcat_core.proofs.OwnNames.{wire_named, read_named}
 use Rattle.vx_generator.specs.Columns.{columns}
 use Rattle.vx_generator.specs.Made.{buffer, long_text, views, made, made_type}
 use Rattle.vx_generator.proofs.Fitting.{small}
@@ -182,7 +186,7 @@ value_light flags texts lists descriptors few = (omega arith, omega arith, omega
 
 -- What reads and writes it, and under what.
 abbrev pub session : SessionMeaning
-session = tables_meaning shipped_registry no_readers
+session = shipped_meaning no_readers
 
 abbrev pub nothing : Context
 nothing = record { ids = []; allowed = None }
@@ -196,7 +200,7 @@ table_ids = id_of E.struct ∷ id_of E.primitive ∷ id_of E.bool ∷ id_of E.di
 
 pub table_grows : (seed rows : ℕ) → grown codec session nothing (made seed rows) ≡ Some (record { ids = table_ids; allowed = None })
 unfolding made
-table_grows seed rows = refl
+table_grows seed rows = ap (λ w. grown_by (ids_in w) nothing) (wire_named session refl (made seed rows))
 
 -- Each node is written, and read back.
 pub table_written : (seed rows : ℕ) → IsWritten session (made seed rows)
@@ -211,6 +215,17 @@ table_written seed rows = (
     ),
   ),
 )
+
+-- No plugin writes it, so it is written as it stands.
+session_shipped : IsShipped session
+session_shipped = shipped_alone no_readers
+
+table_levels : (seed rows : ℕ) → levels (made seed rows) ≡ 3
+unfolding made
+table_levels seed rows = refl
+
+pub table_whole : (seed rows : ℕ) → as_written session plain (made seed rows) ≡ made seed rows
+table_whole seed rows = taken_whole session session_shipped (most_levels plain) (made seed rows) (table_written seed rows) (omega (arith, table_levels seed rows))
 
 none_storable : AreStorable no_stats
 none_storable = record { least = tt; greatest = tt; sum = tt; null_count = tt; uncompressed_size = tt; nan_count = tt }
@@ -227,21 +242,24 @@ texts_counted = omega (arith, dict_short)
 lists_counted : (n : ℕ) → length (list_bytes n U32) < 2 ^ 64
 lists_counted n = omega (arith, list_short n)
 
+own_read : (x : Primitives.Data) (n : ℕ) → IsReadAs (session.reader (body_id (writes_two session) (B.primitive x) n)) E.primitive (body_id (writes_two session) (B.primitive x) n) n
+own_read x n = read_named session refl (B.primitive x) n (record { encoding = refl; held = tt })
+
 table_read_back : (seed rows : ℕ) → rows ≤ 1000000 → ReadsBack codec session (made seed rows)
 unfolding made
 table_read_back seed rows h = (
-  record { reader = refl; message = tt; countable = none_counted; known = tt; storable = none_storable },
+  record { reader = record { encoding = refl; held = tt }; message = tt; countable = none_counted; known = tt; storable = none_storable },
   (
-    (record { reader = refl; message = tt; countable = none_counted; known = tt; storable = none_storable }, ((record { reader = refl; message = tt; countable = flags_counted; known = tt; storable = none_storable }, tt), tt)),
+    (record { reader = own_read (record { values = buffer (columns seed rows rows).numbers 3 }) rows; message = tt; countable = none_counted; known = tt; storable = none_storable }, ((record { reader = record { encoding = refl; held = tt }; message = tt; countable = flags_counted; known = tt; storable = none_storable }, tt), tt)),
     (
       (
-        record { reader = refl; message = omega arith; countable = texts_counted; known = tt; storable = none_storable },
-        ((record { reader = refl; message = tt; countable = none_counted; known = tt; storable = none_storable }, tt), ((record { reader = refl; message = tt; countable = none_counted; known = tt; storable = none_storable }, tt), tt)),
+        record { reader = record { encoding = refl; held = tt }; message = omega arith; countable = texts_counted; known = tt; storable = none_storable },
+        ((record { reader = own_read (record { values = buffer (columns seed rows rows).codes 0 }) rows; message = tt; countable = none_counted; known = tt; storable = none_storable }, tt), ((record { reader = record { encoding = refl; held = tt }; message = tt; countable = none_counted; known = tt; storable = none_storable }, tt), tt)),
       ),
       (
         (
-          record { reader = refl; message = omega (arith, h, few seed rows rows); countable = lists_counted (columns seed rows rows).count; known = tt; storable = none_storable },
-          ((record { reader = refl; message = tt; countable = none_counted; known = tt; storable = none_storable }, tt), ((record { reader = refl; message = tt; countable = none_counted; known = tt; storable = none_storable }, tt), tt)),
+          record { reader = record { encoding = refl; held = tt }; message = omega (arith, h, few seed rows rows); countable = lists_counted (columns seed rows rows).count; known = tt; storable = none_storable },
+          ((record { reader = own_read (record { values = buffer (columns seed rows rows).elements 1 }) (columns seed rows rows).count; message = tt; countable = none_counted; known = tt; storable = none_storable }, tt), ((record { reader = own_read (record { values = buffer (columns seed rows rows).offsets 2 }) (suc rows); message = tt; countable = none_counted; known = tt; storable = none_storable }, tt), tt)),
         ),
         tt,
       ),
@@ -308,11 +326,11 @@ table_describable seed rows h =
 table_numbered : (seed rows : ℕ)
     → numbered table_ids 0 (wire codec session (made seed rows)) ≡ table_nodes (bool_bytes 0) (dict_bytes dict_fields) (list_bytes (columns seed rows rows).count U32)
 unfolding made
-table_numbered seed rows = refl
+table_numbered seed rows = ap (λ w. numbered table_ids 0 w) (wire_named session refl (made seed rows))
 
 table_after : (seed rows : ℕ) → ids_after session (made seed rows) nothing ≡ table_ids
 unfolding made
-table_after seed rows = refl
+table_after seed rows = ap (λ w. with_ids nothing.ids (ids_in w)) (wire_named session refl (made seed rows))
 
 descriptors_len : (seed rows : ℕ) → length (descriptors_bytes (descriptors_from plain 0 (buffers_in (wire codec session (made seed rows))))) ≡ 56
 unfolding made
@@ -394,22 +412,26 @@ module _ (seed rows : ℕ) (h : rows ≤ 1000000) where
   table_told =
       let sound = made_sound seed rows h in
       let normal = made_normal seed rows in
-      let law = registry_lawful shipped_registry no_readers in
+      let law = registry_lawful no_plugins shipped_registry no_readers in
       record {
         matched = subst (λ z. Matches codec session w z) table_own (written_matches codec session law t sound (table_read_back seed rows h));
         dtype = refl;
         len = refl;
         sound = sound;
-        normal = normal;
+        normal = λ _. normal;
       }
 
   module _ (after : Context) (buffers : List Buffer) (x : IsSerialized session t plain nothing after buffers) where
+    -- The blob is that of the table as it stands.
+    blob : IsWrittenBlob session t plain nothing after buffers
+    blob = subst (λ (z : Tree). IsWrittenBlob session z plain nothing after buffers) (table_whole seed rows) x.blob
+
     -- The blob that was written for the table spells it.
     pub table_spelled : Spells (joined buffers) after.ids (label t).dtype (label t).len session t
     table_spelled =
-        let same = grown-ids session t nothing after x.grown_is in
-        let placed = grown_by-placed (ids_in w) nothing after x.grown_is in
-        let c = carried after.ids plain w (wire-whole codec session t) (wire-tabled session t) placed.placed (subst (λ z. IsWritable z plain w) (sym same) x.limits.writable) in
+        let same = grown-ids session t nothing after blob.grown_is in
+        let placed = grown_by-placed (ids_in w) nothing after blob.grown_is in
+        let c = carried after.ids plain w (wire-whole codec session t) (wire-tabled session t) placed.placed (subst (λ z. IsWritable z plain w) (sym same) blob.limits.writable) in
         let spelled : Spells (blob_bytes after.ids plain w) after.ids (label t).dtype (label t).len session t = record {
           wire = w;
           carried = c.0;
@@ -417,7 +439,7 @@ module _ (seed rows : ℕ) (h : rows ≤ 1000000) where
           whole = wire-whole codec session t;
           told = table_told;
         } in
-        let own : blob_bytes after.ids plain w ≡ joined buffers = ap (λ z. blob_bytes z plain w) same ∙ sym x.written in
+        let own : blob_bytes after.ids plain w ≡ joined buffers = ap (λ z. blob_bytes z plain w) same ∙ sym blob.written in
         subst (λ (b : List ℕ). Spells b after.ids (label t).dtype (label t).len session t) own spelled
 
     written_light : KeepsReaderLimits plain (blob_of session t nothing plain)
@@ -425,7 +447,7 @@ module _ (seed rows : ℕ) (h : rows ≤ 1000000) where
         let ids = ids_after session t nothing in
         let bytes = data_from plain 0 (buffers_in w) in
         let zeros : List ℕ = replicate (message_pad plain w) 0 in
-        let fit = x.limits.writable in
+        let fit = blob.limits.writable in
         let own = is_blob bytes zeros (message_bytes ids plain w) fit.short in
         record {
           light = λ segment message is.
@@ -438,9 +460,9 @@ module _ (seed rows : ℕ) (h : rows ≤ 1000000) where
     table_again = record {
       array = t;
       spelled = table_spelled;
-      reader_limits = subst (λ (b : List ℕ). KeepsReaderLimits plain b) (sym x.written) written_light;
-      writer_limits = x.limits;
-      grows = ap is_some x.grown_is;
+      reader_limits = subst (λ (b : List ℕ). KeepsReaderLimits plain b) (sym blob.written) written_light;
+      writer_limits = blob.limits;
+      grows = ap is_some blob.grown_is;
     }
 
 -- ---- the bytes of its type
@@ -476,11 +498,14 @@ type_known = (tt, ((tt, tt), ((tt, tt), ((tt, ((tt, tt), tt)), tt))))
 
 pub table_memory : (seed rows : ℕ) → rows ≤ 1000000 → (e : WireError) → RefusesArray session (made seed rows) nothing plain e → e ≡ wire_error.OutOfMemory
 table_memory seed rows h wire_error.OutOfMemory r = refl
-table_memory seed rows h wire_error.NotPermitted r = absurd (none_or_some (sym (table_grows seed rows) ∙ r)) where
+table_memory seed rows h wire_error.NotPermitted r = absurd (none_or_some (sym (table_grows seed rows) ∙ ap (λ (z : Tree). grown codec session nothing z) (sym (table_whole seed rows)) ∙ r.none)) where
   none_or_some : {A : Type 0} {x : A} → Some x ≡ None → ⊥
   none_or_some e = absurd (cc)
-table_memory seed rows h wire_error.WireLimit r = absurd (r (table_limits seed rows h))
-table_memory seed rows h wire_error.NotRegistered r = absurd (all-written session (made seed rows) (table_written seed rows) r)
+table_memory seed rows h wire_error.WireLimit r = absurd (r (subst (λ (z : Tree). KeepsWriterLimits session z nothing plain) (sym (table_whole seed rows)) (table_limits seed rows h)))
+table_memory seed rows h wire_error.NotRegistered r = absurd (never_untaken session session_shipped (most_levels plain) unregistered (made seed rows) (table_written seed rows) r)
+table_memory seed rows h wire_error.NotSerializable r = absurd (never_untaken session session_shipped (most_levels plain) unserializable (made seed rows) (table_written seed rows) r)
+table_memory seed rows h wire_error.UndeclaredId r = absurd (never_untaken session session_shipped (most_levels plain) undeclared (made seed rows) (table_written seed rows) r)
+table_memory seed rows h wire_error.PluginRefused r = absurd (never_untaken session session_shipped (most_levels plain) unwilling (made seed rows) (table_written seed rows) r)
 table_memory seed rows h wire_error.TooShort r = absurd r
 table_memory seed rows h wire_error.BadTable r = absurd r
 table_memory seed rows h wire_error.TableLimit r = absurd r

@@ -2,7 +2,7 @@
 use Rattle.std.specs.Prelude.{◌≡◌, ℕ, Bool, true, false, List, [], ◌∷◌, Option, Some, None, option_map, unwrap_or}
 use Rattle.std.specs.List.{AllByRecursion, flat_map}
 use Rattle.vxcat_core.specs.declared.options.Choice.{Choice}
-use Rattle.vxcat_core.specs.declared.options.Choice.TheVariants.{Pad, Rows, Allow, Unknown, Deep}
+use Rattle.vxcat_core.specs.declared.options.Choice.TheVariants.{Pad, Rows, Allow, Unknown, Deep, Revised}
 use Rattle.vxcat_core.specs.declared.options.Options.{Options}
 use Rattle.vxcat_core.specs.Options.{IsInRange, Setting, Settings, setting_words}
 use Rattle.vxcat_core.specs.Options as options
@@ -14,6 +14,7 @@ setting_of (Rows n) = options.rows n
 setting_of (Allow name) = options.allow name.now
 setting_of Unknown = options.unknown
 setting_of Deep = options.deep
+setting_of Revised = options.revised
 
 -- The options that were given, at most one of a kind.
 pub record Given : Type 0 where
@@ -22,18 +23,19 @@ pub record Given : Type 0 where
   pub allow : Option (List ℕ)
   pub unknown : Bool
   pub deep : Bool
+  pub revised : Bool
 
 -- The options that are held.
 abbrev pub given_in : Options → Given
-given_in o = record { pad = o.pad; rows = o.rows; allow = option_map (λ name. name.now) o.allow; unknown = o.unknown; deep = o.deep }
+given_in o = record { pad = o.pad; rows = o.rows; allow = option_map (λ name. name.now) o.allow; unknown = o.unknown; deep = o.deep; revised = o.revised }
 
 -- What given options set.
 abbrev pub settings_by : Given → Settings
-settings_by given = record { pad = given.pad; rows = unwrap_or given.rows 10; allow = given.allow; unknown = given.unknown; deep = given.deep }
+settings_by given = record { pad = given.pad; rows = unwrap_or given.rows 10; allow = given.allow; unknown = given.unknown; deep = given.deep; revised = given.revised }
 
 -- No option was given.
 abbrev pub none_given : Given
-none_given = record { pad = None; rows = None; allow = None; unknown = false; deep = false }
+none_given = record { pad = None; rows = None; allow = None; unknown = false; deep = false; revised = false }
 
 -- What one kind of option gives, where none of its kind was given before; none where one was.
 abbrev pub given_once : {A : Type 0} → Option A → A → Option (Option A)
@@ -47,11 +49,12 @@ set_once true = None
 
 -- Options with one more: none where one of its kind was given before.
 abbrev pub with_setting : Given → Setting → Option Given
-with_setting given (options.pad n) = option_map (λ p. record { pad = p; rows = given.rows; allow = given.allow; unknown = given.unknown; deep = given.deep }) (given_once given.pad n)
-with_setting given (options.rows n) = option_map (λ r. record { pad = given.pad; rows = r; allow = given.allow; unknown = given.unknown; deep = given.deep }) (given_once given.rows n)
-with_setting given (options.allow name) = option_map (λ a. record { pad = given.pad; rows = given.rows; allow = a; unknown = given.unknown; deep = given.deep }) (given_once given.allow name)
-with_setting given options.unknown = option_map (λ u. record { pad = given.pad; rows = given.rows; allow = given.allow; unknown = u; deep = given.deep }) (set_once given.unknown)
-with_setting given options.deep = option_map (λ d. record { pad = given.pad; rows = given.rows; allow = given.allow; unknown = given.unknown; deep = d }) (set_once given.deep)
+with_setting given (options.pad n) = option_map (λ p. record given { pad = p }) (given_once given.pad n)
+with_setting given (options.rows n) = option_map (λ r. record given { rows = r }) (given_once given.rows n)
+with_setting given (options.allow name) = option_map (λ a. record given { allow = a }) (given_once given.allow name)
+with_setting given options.unknown = option_map (λ u. record given { unknown = u }) (set_once given.unknown)
+with_setting given options.deep = option_map (λ d. record given { deep = d }) (set_once given.deep)
+with_setting given options.revised = option_map (λ v. record given { revised = v }) (set_once given.revised)
 
 -- Options with more, one after the other: none where two are of a kind.
 abbrev pub with_settings : Option Given → List Setting → Option Given

@@ -11,7 +11,7 @@ use Rattle.vx_array_tree.specs.Tree.{Tree}
 use Rattle.vx_wire_tree.specs.Context.{Context, grown}
 use Rattle.vx_wire_tree.specs.Session.{SessionMeaning}
 use Rattle.vx_encodings.specs.Messages.{codec}
-use Rattle.vx_registry.specs.Session.{tables_meaning, shipped_registry}
+use Rattle.vx_registry.specs.Session.{shipped_meaning}
 use Rattle.vx_serde.specs.Spells.{Spells, blob_of}
 use Rattle.vx_generator.specs.Made.{made}
 use Rattle.vx_generator.specs.Summary.{summary}
@@ -51,7 +51,7 @@ pub record InvokesMake (words : List (List ℕ)) (line : Make) : Type 0 where
 
 -- What reads and writes arrays: the encodings that are shipped, and no readers of extensions.
 abbrev pub make_session : SessionMeaning
-make_session = tables_meaning shipped_registry no_readers
+make_session = shipped_meaning no_readers
 
 -- The context under which the blob is written: it has no identifiers, and allows each.
 abbrev pub no_ids : Context

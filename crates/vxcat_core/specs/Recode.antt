@@ -3,11 +3,12 @@ use Rattle.std.specs.Prelude.{◌≡◌, ◌≢◌, ◌⊎◌, ◌<◌, ◌^◌,
 use Rattle.std.specs.Io.KnownBytes.{Keeps}
 use Rattle.std.specs.List.{flat_map}
 use Rattle.vx_types.specs.Typ.{Typ}
-use Rattle.vx_type_wire.specs.Known.{ExtMeaning, IsRead}
+use Rattle.vx_types.specs.Known.{ExtMeaning}
+use Rattle.vx_type_wire.specs.Known.{IsRead}
 use Rattle.vx_type_wire.specs.Shown.{ShowsType}
 use Rattle.vx_wire_tree.specs.Context.{Context, with_ids}
 use Rattle.vx_wire_tree.specs.Session.{SessionMeaning}
-use Rattle.vx_registry.specs.Session.{tables_meaning, shipped_registry}
+use Rattle.vx_registry.specs.Session.{Registry, no_plugins, shipped_registry, tables_meaning, with_revised}
 use Rattle.vx_serde.specs.declared.options.SerializeOptions.{SerializeOptions}
 use Rattle.vx_serde.specs.Causes.{Refuses}
 use Rattle.vx_serde.specs.Recoding.{IsFaithful, IsRecoded, Product}
@@ -87,13 +88,22 @@ readers_by unknown = record { reader = λ id. None; unknown = unknown }
 abbrev pub readers_of : Settings → ExtMeaning
 readers_of settings = readers_by settings.unknown
 
--- What reads and writes arrays: the encodings that are shipped, beside these readers, whose flag says whether nodes that
--- nothing reads are allowed, too.
-abbrev pub session_by : Bool → SessionMeaning
-session_by unknown = tables_meaning shipped_registry (readers_by unknown)
+-- The encodings that are shipped, where primitives have two identifiers or one.
+abbrev pub registry_by : Bool → Registry
+registry_by false = shipped_registry
+registry_by true = with_revised shipped_registry
 
+-- What reads and writes arrays: these encodings, beside readers of extensions.
+abbrev pub shipped_by : Bool → ExtMeaning → SessionMeaning
+shipped_by revised x = tables_meaning no_plugins (registry_by revised) x
+
+-- The same beside these readers, whose flag says whether nodes that nothing reads are allowed, too.
+abbrev pub session_by : Bool → Bool → SessionMeaning
+session_by revised unknown = shipped_by revised (readers_by unknown)
+
+-- Primitives have two identifiers where `--rev2` stands, and else one.
 abbrev pub session_of : Settings → SessionMeaning
-session_of settings = session_by settings.unknown
+session_of settings = session_by settings.revised settings.unknown
 
 -- The context under which the new blob is written: it has no identifiers, and allows those of the file that is named, or
 -- each encoding where none is.

@@ -78,3 +78,6 @@ blob_status wire.BadStats = Refused refusal.BadStats
 blob_status wire.NotPermitted = Refused refusal.NotPermitted
 blob_status wire.WireLimit = Refused refusal.WireLimit
 blob_status wire.NotRegistered = Refused refusal.NotRegistered
+blob_status wire.NotSerializable = Refused refusal.NotSerializable
+blob_status wire.UndeclaredId = Refused refusal.UndeclaredId
+blob_status wire.PluginRefused = Refused refusal.PluginRefused

@@ -23,6 +23,8 @@ pub enum Choice<'a> {
     Unknown,
     /// `--deep`: deep trees are read and written.
     Deep,
+    /// `--rev2`: primitives have two identifiers.
+    Revised,
 }
 
 /// The options of a command, no two of a kind.
@@ -33,6 +35,7 @@ pub struct Options<'a> {
     pub allow: Option<&'a Name>,
     pub unknown: bool,
     pub deep: bool,
+    pub revised: bool,
 }
 
 impl<'a> Options<'a> {
@@ -46,6 +49,7 @@ impl<'a> Options<'a> {
             allow: None,
             unknown: false,
             deep: false,
+            revised: false,
         }
     }
 
@@ -71,6 +75,10 @@ impl<'a> Options<'a> {
                 ..self
             }),
             Choice::Deep if !self.deep => Some(Options { deep: true, ..self }),
+            Choice::Revised if !self.revised => Some(Options {
+                revised: true,
+                ..self
+            }),
             _ => None,
         }
     }
@@ -89,6 +97,9 @@ pub fn next_choice<'a>(words: &'a [Name]) -> Option<(Choice<'a>, &'a [Name])>
     }
     if option.as_str() == "--deep" {
         return Some((Choice::Deep, after));
+    }
+    if option.as_str() == "--rev2" {
+        return Some((Choice::Revised, after));
     }
     let (value, rest) = after.split_first()?;
     if option.as_str() == "--allow" {

@@ -30,6 +30,9 @@ pub enum BlobRefusal {
     NotPermitted,
     WireLimit,
     NotRegistered,
+    NotSerializable,
+    UndeclaredId,
+    PluginRefused,
 }
 
 impl BlobRefusal {
@@ -54,6 +57,9 @@ impl BlobRefusal {
             BlobRefusal::NotPermitted => WireError::NotPermitted,
             BlobRefusal::WireLimit => WireError::WireLimit,
             BlobRefusal::NotRegistered => WireError::NotRegistered,
+            BlobRefusal::NotSerializable => WireError::NotSerializable,
+            BlobRefusal::UndeclaredId => WireError::UndeclaredId,
+            BlobRefusal::PluginRefused => WireError::PluginRefused,
         }
     }
 }
@@ -198,6 +204,9 @@ impl Status {
             WireError::NotPermitted => Status::Refused(BlobRefusal::NotPermitted),
             WireError::WireLimit => Status::Refused(BlobRefusal::WireLimit),
             WireError::NotRegistered => Status::Refused(BlobRefusal::NotRegistered),
+            WireError::NotSerializable => Status::Refused(BlobRefusal::NotSerializable),
+            WireError::UndeclaredId => Status::Refused(BlobRefusal::UndeclaredId),
+            WireError::PluginRefused => Status::Refused(BlobRefusal::PluginRefused),
         }
     }
 }

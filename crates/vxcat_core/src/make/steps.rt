@@ -109,7 +109,7 @@ fn write_again(alloc: Global, array: &Array) -> Result<Outputs, Status>
 // The same under a session: that of these encodings, without readers of extensions.
 fn write_under(alloc: Global, array: &Array, session: &VortexSession) -> Result<Outputs, Status>
     requires table { IsTable array.now }
-    requires session { session_meaning (λ b. accepted (b.vtable, b.value)) session.now ≡ make_session }
+    requires session { session_meaning (λ b. means (b.vtable, b.value)) (λ b. accepted (b.vtable, b.value)) session.now ≡ make_session }
     ensures again { IfOk result (IsWrittenAgain array.now) }
     ensures memory { IfErr result (λ status. status ≡ OutOfMemory) }
 {
@@ -133,7 +133,7 @@ fn write_under(alloc: Global, array: &Array, session: &VortexSession) -> Result<
 // A table as a blob, written under that session.
 fn write_once(alloc: Global, array: &Array, session: &VortexSession) -> Result<WrittenTable, Status>
     requires table { IsTable array.now }
-    requires session { session_meaning (λ b. accepted (b.vtable, b.value)) session.now ≡ make_session }
+    requires session { session_meaning (λ b. means (b.vtable, b.value)) (λ b. accepted (b.vtable, b.value)) session.now ≡ make_session }
     ensures written { IfOk result (IsTableWritten array.now) }
     ensures memory { IfErr result (λ status. status ≡ OutOfMemory) }
 {

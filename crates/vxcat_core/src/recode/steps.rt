@@ -1,15 +1,17 @@
 //! The steps of the command: loading its inputs, recoding the blob, and saving the outputs.
 
-ghost use Rattle.std.specs.Prelude.{◌≡◌, ◌≢◌, ◌⊎◌, [], ◌∷◌, ◌++◌, ◌≤◌, List, ℕ, None, Some, IfOk, IfErr, OnOk, Option, option_map};
+ghost use Rattle.std.specs.Prelude.{◌≡◌, ◌≢◌, ◌⊎◌, [], ◌∷◌, ◌++◌, ◌≤◌, List, ℕ, None, Some, false, IfOk, IfErr, OnOk, Option, option_map};
+ghost use Rattle.vx_types.specs.Known.{ExtMeaning};
 ghost use Rattle.vx_types.specs.Seen.{typ};
 ghost use Rattle.vx_types.specs.Typ.{Typ};
 ghost use Rattle.vx_type_wire.specs.Known.{IsRead};
 ghost use Rattle.vx_type_wire.specs.Session.{ext_meaning};
-ghost use Rattle.vx_registry.specs.Meaning.{session_meaning};
+ghost use Rattle.vx_wire_tree.specs.Session.{IsShipped};
+ghost use Rattle.vx_registry.specs.Meaning.{arrays_meaning, session_meaning};
 ghost use Rattle.vx_type_wire.specs.Shown.{ShowsType};
 ghost use Rattle.vx_serde.specs.Request.{CanRecode};
 ghost use Rattle.vx_buffer.specs.Joined.{joined};
-ghost use Rattle.vxcat_core.specs.Recode.{AreInputs, AreSaved, CanRecodeInputs, RefusesInputs, KeepsOthers, ReadsAllowed, SavesInOrder, StandsIfNamed, context_of, if_named, inputs, padded_at, session_by};
+ghost use Rattle.vxcat_core.specs.Recode.{AreInputs, AreSaved, CanRecodeInputs, RefusesInputs, KeepsOthers, ReadsAllowed, SavesInOrder, StandsIfNamed, context_of, if_named, inputs, padded_at, readers_by, session_by, shipped_by};
 ghost use Rattle.vxcat_core.specs.IdFile.{ReadsIds};
 ghost use Rattle.vxcat_core.specs.StoreState.{AskedOnly};
 ghost use Rattle.vxcat_core.specs.RecodeViews.{AreMade, AreOutputs, RefusesIds, RefusesLoad, RefusesSave, RefusesType, RefusesBlob, request_for, line_of, loaded_of};
@@ -104,16 +106,47 @@ fn load_named<S: Store>(
 }
 
 /// Judges the type file, then the id files, and recodes the blob, with the encodings that are shipped and without readers of
-/// extensions; what is unknown is allowed where the options say so.
+/// extensions; primitives have two identifiers, and what is unknown is allowed, where the options say so.
 pub fn recode_inputs(alloc: Global, words: &RecodeWords, loaded: Inputs) -> Result<Outputs, Status>
     ensures made { IfOk result (λ made. AreOutputs (line_of words.now) (loaded_of loaded) made) }
     ensures cause { IfErr result (λ status. RefusesInputs status (line_of words.now) (loaded_of loaded)) }
     ensures complete { CanRecodeInputs (line_of words.now) (loaded_of loaded) → IfErr result (λ status. status ≡ OutOfMemory) }
 {
+    if words.options.revised {
+        let Ok(arrays) = ArraySession::revised(alloc) else {
+            return Err(Status::OutOfMemory);
+        };
+        return recode_by(
+            alloc,
+            words,
+            loaded,
+            VortexSession::new(arrays, ExtSession::new(alloc)),
+        );
+    }
     let Ok(arrays) = ArraySession::default(alloc) else {
         return Err(Status::OutOfMemory);
     };
-    let mut session = VortexSession::new(arrays, ExtSession::new(alloc));
+    recode_by(
+        alloc,
+        words,
+        loaded,
+        VortexSession::new(arrays, ExtSession::new(alloc)),
+    )
+}
+
+// The same by a session of the encodings that are shipped, beside no readers of extensions.
+fn recode_by(
+    alloc: Global,
+    words: &RecodeWords,
+    loaded: Inputs,
+    mut session: VortexSession,
+) -> Result<Outputs, Status>
+    requires arrays { (x : ExtMeaning) → arrays_meaning (λ b. means (b.vtable, b.value)) session.arrays x ≡ shipped_by words.now.options.revised x }
+    requires readers { ext_meaning (λ b. accepted (b.vtable, b.value)) session.ext ≡ readers_by false }
+    ensures made { IfOk result (λ made. AreOutputs (line_of words.now) (loaded_of loaded) made) }
+    ensures cause { IfErr result (λ status. RefusesInputs status (line_of words.now) (loaded_of loaded)) }
+    ensures complete { CanRecodeInputs (line_of words.now) (loaded_of loaded) → IfErr result (λ status. status ≡ OutOfMemory) }
+{
     if words.options.unknown {
         session.ext.allow_unknown();
         return recode_under(alloc, words, loaded, &session);
@@ -128,7 +161,7 @@ fn recode_under(
     loaded: Inputs,
     session: &VortexSession,
 ) -> Result<Outputs, Status>
-    requires { session_meaning (λ b. accepted (b.vtable, b.value)) session.now ≡ session_by words.now.options.unknown }
+    requires { session_meaning (λ b. means (b.vtable, b.value)) (λ b. accepted (b.vtable, b.value)) session.now ≡ session_by words.now.options.revised words.now.options.unknown }
     ensures made { IfOk result (λ made. AreOutputs (line_of words.now) (loaded_of loaded) made) }
     ensures cause { IfErr result (λ status. RefusesInputs status (line_of words.now) (loaded_of loaded)) }
     ensures complete { CanRecodeInputs (line_of words.now) (loaded_of loaded) → IfErr result (λ status. status ≡ OutOfMemory) }
@@ -243,12 +276,12 @@ fn recode_blob(
     session: &VortexSession,
     options: &SerializeOptions,
 ) -> Result<Outputs, Status>
-    ensures made { let s = session_meaning (λ b. accepted (b.vtable, b.value)) session.now in
-        IfOk result (AreMade (request_for blob (typ dtype.now) len read.now context s options.now)) }
-    ensures cause { let s = session_meaning (λ b. accepted (b.vtable, b.value)) session.now in
+    ensures made { let s = session_meaning (λ b. means (b.vtable, b.value)) (λ b. accepted (b.vtable, b.value)) session.now in
+        IsShipped s → IfOk result (AreMade (request_for blob (typ dtype.now) len read.now context s options.now)) }
+    ensures cause { let s = session_meaning (λ b. means (b.vtable, b.value)) (λ b. accepted (b.vtable, b.value)) session.now in
         IfErr result (λ status. RefusesBlob status (request_for blob (typ dtype.now) len read.now context s options.now)) }
-    ensures complete { let s = session_meaning (λ b. accepted (b.vtable, b.value)) session.now in
-        CanRecode (request_for blob (typ dtype.now) len read.now context s options.now) → IfErr result (λ status. status ≡ OutOfMemory) }
+    ensures complete { let s = session_meaning (λ b. means (b.vtable, b.value)) (λ b. accepted (b.vtable, b.value)) session.now in
+        IsShipped s → CanRecode (request_for blob (typ dtype.now) len read.now context s options.now) → IfErr result (λ status. status ≡ OutOfMemory) }
 {
     match ByteBuffer::from_vec(blob.into_vec()) {
         Ok(buffer) => recode_buffer(alloc, buffer, dtype, len, read, context, session, options),
@@ -267,12 +300,12 @@ pub fn recode_buffer(
     session: &VortexSession,
     options: &SerializeOptions,
 ) -> Result<Outputs, Status>
-    ensures made { let s = session_meaning (λ b. accepted (b.vtable, b.value)) session.now in
-        IfOk result (AreMade (request_for buffer.bytes (typ dtype.now) len read.now context s options.now)) }
-    ensures cause { let s = session_meaning (λ b. accepted (b.vtable, b.value)) session.now in
+    ensures made { let s = session_meaning (λ b. means (b.vtable, b.value)) (λ b. accepted (b.vtable, b.value)) session.now in
+        IsShipped s → IfOk result (AreMade (request_for buffer.bytes (typ dtype.now) len read.now context s options.now)) }
+    ensures cause { let s = session_meaning (λ b. means (b.vtable, b.value)) (λ b. accepted (b.vtable, b.value)) session.now in
         IfErr result (λ status. RefusesBlob status (request_for buffer.bytes (typ dtype.now) len read.now context s options.now)) }
-    ensures complete { let s = session_meaning (λ b. accepted (b.vtable, b.value)) session.now in
-        CanRecode (request_for buffer.bytes (typ dtype.now) len read.now context s options.now) → IfErr result (λ status. status ≡ OutOfMemory) }
+    ensures complete { let s = session_meaning (λ b. means (b.vtable, b.value)) (λ b. accepted (b.vtable, b.value)) session.now in
+        IsShipped s → CanRecode (request_for buffer.bytes (typ dtype.now) len read.now context s options.now) → IfErr result (λ status. status ≡ OutOfMemory) }
 {
     let mut ids = context;
     match recode(

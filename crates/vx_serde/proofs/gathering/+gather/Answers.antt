@@ -1,34 +1,29 @@
-use Rattle.std.proofs.Common.{◌-◌, ◌++◌, ◌∷◌, [], arith, ap, sym, ◌∙◌}
+use Rattle.std.proofs.Common.{◌++◌, ◌∷◌, [], arith, ap, sym, ◌∙◌}
 use Rattle.std.proofs.lemmas.Result.{err_from_is_err_and}
-use Rattle.vx_trees.proofs.Counting.{levels-more}
 use Rattle.vx_wire_tree.specs.Context.{index_of}
-use Rattle.vx_wire_tree.specs.Limits.{HasMessage}
-use Rattle.vx_wire_tree.specs.ReadBack.{IsWrittenNode}
 use Rattle.vx_wire_tree.specs.Wire.{buffers_at_node}
 use Rattle.vx_wire_tree.specs.Written.{wire}
 use Rattle.vx_encodings.specs.Messages.{codec}
 use Rattle.vx_registry.specs.Serialization.{array_id}
-use Rattle.vx_registry.specs.Session.{tables_meaning}
 use Rattle.vx_serde.specs.Numbered.{encoding_index}
-use Rattle.vx_serde.proofs.Gathered.{everywhere-next, everywhere-all, root-refused, child-ungathered, levels_of, longer-ids}
+use Rattle.vx_serde.proofs.Gathered.{root-refused, child-ungathered, longer-ids}
 use Rattle.vx_serde.proofs.Growing.{kept-grown}
 use Rattle.vx_serde.proofs.GrownNodes.{kept-own, kept-child, kept-front, grown-child, grown-whole}
 use Rattle.vx_serde.proofs.WiredNodes.{wired, wired-below, wired-at, wired-within, wired-past, gathered_first, gathered-next, gathered-all, own-buffers, own-grown, own-kept, own-index}
 use Rattle.vx_serde.proofs.gathering.+gather.Goals as goal
 
 pub returns-in_err-push_root-clause-kept : goal.returns-in_err-push_root-clause-kept
-returns-in_err-push_root-clause-kept t c = λ s.
+returns-in_err-push_root-clause-kept t c = λ s q.
     let a = c.args.array.now in
-    kept-own (wire codec s a) c.args.ctx.now c.push_root.new.ctx (own-kept s a c.args.ctx.now c.push_root.new.ctx c.in_err-push_root.ensures.kept)
+    kept-own (wire codec s a) c.args.ctx.now c.push_root.new.ctx (own-kept s c.args.two q a c.args.ctx.now c.push_root.new.ctx c.in_err-push_root.ensures.kept)
 
 pub returns-in_err-push_root-clause-cause : goal.returns-in_err-push_root-clause-cause
-returns-in_err-push_root-clause-cause t c = λ x u.
+returns-in_err-push_root-clause-cause t c = λ s q.
     let p = err_from_is_err_and c.from_residual.result c.from_residual.ensures.1 in
-    rw (p.1, p.2)
-    (root-refused (tables_meaning c.args.arrays.now x) c.args.array.now c.args.room c.args.ctx.now c.in_err-push_root.field-0.0 (c.in_err-push_root.ensures.cause x u))
+    rw (p.1, p.2) (root-refused s c.args.two q c.args.array.now c.args.ctx.now c.in_err-push_root.field-0.0 c.in_err-push_root.ensures.cause)
 
 pub returns-in_err-gather-clause-kept : goal.returns-in_err-gather-clause-kept
-returns-in_err-gather-clause-kept t c = λ s.
+returns-in_err-gather-clause-kept t c = λ s q.
     let a = c.args.array.now in
     let ts = c.children-child-items.result.now in
     let i = c.loop-child.child-index in
@@ -36,15 +31,14 @@ returns-in_err-gather-clause-kept t c = λ s.
     let lt = c.loop-child-test.true in
     kept-child (wire codec s a) (wired s ts) i (wire codec s u) c.args.ctx.now c.push_root.new.ctx c.loop-child.ctx c.gather.new.ctx
     (wired-below s a ts c.children-child-items.ensures.children) (wired-within s ts i lt) (wired-at s ts i u lt c.child-item.is)
-    (own-grown s a c.args.ctx.now c.push_root.new.ctx c.in_ok-push_root.ensures.grown) (c.loop-child.invariant.grown s) (c.in_err-gather.ensures.kept s)
+    (own-grown s c.args.two q a c.args.ctx.now c.push_root.new.ctx c.in_ok-push_root.ensures.grown) (c.loop-child.invariant.grown s q) (c.in_err-gather.ensures.kept s q)
 
 pub returns-in_err-gather-clause-cause : goal.returns-in_err-gather-clause-cause
-returns-in_err-gather-clause-cause t c = λ x u.
+returns-in_err-gather-clause-cause t c = λ s q.
     let p = err_from_is_err_and c.from_residual-in_err-gather.result c.from_residual-in_err-gather.ensures.1 in
-    let s = tables_meaning c.args.arrays.now x in
     rw (p.1, p.2)
-    (child-ungathered s c.args.array.now c.children-child-items.result.now c.loop-child.child-index c.args.room c.child-item.result c.args.ctx.now c.push_root.new.ctx c.loop-child.ctx c.in_err-gather.field-0.0
-    c.loop-child-test.true c.child-item.is c.children-child-items.ensures.children c.in_ok-push_root.ensures.grown (c.loop-child.invariant.grown s) (c.in_err-gather.ensures.cause x u))
+    (child-ungathered s c.args.two q c.args.array.now c.children-child-items.result.now c.loop-child.child-index c.child-item.result c.args.ctx.now c.push_root.new.ctx c.loop-child.ctx c.in_err-gather.field-0.0
+    c.loop-child-test.true c.child-item.is c.children-child-items.ensures.children c.in_ok-push_root.ensures.grown (c.loop-child.invariant.grown s q) (c.in_err-gather.ensures.cause s q))
 
 pub loop-child-preserved : goal.loop-child-preserved
 loop-child-preserved t c =
@@ -56,16 +50,13 @@ loop-child-preserved t c =
     let start = c.push_root.new.found.encodings.items in
     record {
       buffers = λ s. gathered-next s (λ h. buffers_at_node h) c.push_root.new.found.buffers c.loop-child.found.buffers c.gather.new.found.buffers ts i u lt is (c.loop-child.invariant.buffers s) (c.in_ok-gather.ensures.buffers s);
-      encodings = λ s more.
-          let kept = c.in_ok-gather.ensures.kept s in
+      encodings = λ s more q.
+          let kept = c.in_ok-gather.ensures.kept s q in
           gathered-next s (λ h. encoding_index h.id (c.gather.new.ctx.ids ++ more) ∷ []) start c.loop-child.found.encodings.items c.gather.new.found.encodings.items ts i u lt is
-          (c.loop-child.invariant.encodings s (kept.added ++ more)
+          (c.loop-child.invariant.encodings s (kept.added ++ more) q
           ∙ ap (λ ids. start ++ gathered_first s (λ h. encoding_index h.id ids ∷ []) ts i) (sym (longer-ids c.loop-child.ctx.ids kept.added more c.gather.new.ctx.ids kept.front)))
-          (c.in_ok-gather.ensures.encodings s more);
-      levels = levels-more ts i (c.args.room - 1) u lt c.loop-child.invariant.levels (levels_of ts i u (c.args.room - 1) is c.in_ok-gather.ensures.levels);
-      written = λ x allowed. everywhere-next (IsWrittenNode (tables_meaning c.args.arrays.now x)) ts i u lt is (c.loop-child.invariant.written x allowed) (c.in_ok-gather.ensures.written x allowed);
-      messages = everywhere-next HasMessage ts i u lt is c.loop-child.invariant.messages c.in_ok-gather.ensures.messages;
-      grown = λ s. grown-child (wired s ts) i (wire codec s u) c.push_root.new.ctx c.loop-child.ctx c.gather.new.ctx (wired-within s ts i lt) (wired-at s ts i u lt is) (c.loop-child.invariant.grown s) (c.in_ok-gather.ensures.grown s);
+          (c.in_ok-gather.ensures.encodings s more q);
+      grown = λ s q. grown-child (wired s ts) i (wire codec s u) c.push_root.new.ctx c.loop-child.ctx c.gather.new.ctx (wired-within s ts i lt) (wired-at s ts i u lt is) (c.loop-child.invariant.grown s q) (c.in_ok-gather.ensures.grown s q);
     }
 
 pub returns-clause-buffers : goal.returns-clause-buffers
@@ -75,40 +66,29 @@ returns-clause-buffers t c = λ s.
     c.children-child-items.ensures.children (c.in_ok-push_root.ensures.buffers ∙ ap (λ z. c.args.found.now.buffers ++ z) (sym (own-buffers s a))) (c.loop-child.invariant.buffers s)
 
 pub returns-clause-encodings : goal.returns-clause-encodings
-returns-clause-encodings t c = λ s more.
+returns-clause-encodings t c = λ s more q.
     let a = c.args.array.now in
     let old = c.args.found.now.encodings.items in
     let ids = c.loop-child.ctx.ids in
-    let kept = kept-grown _ c.push_root.new.ctx c.loop-child.ctx (c.loop-child.invariant.grown s) in
+    let kept = kept-grown _ c.push_root.new.ctx c.loop-child.ctx (c.loop-child.invariant.grown s q) in
     gathered-all s (λ h. encoding_index h.id (ids ++ more) ∷ []) old c.push_root.new.found.encodings.items c.loop-child.found.encodings.items a c.children-child-items.result.now c.loop-child.child-index (omega (arith, c.loop-child-test.false))
     c.children-child-items.ensures.children
     (c.in_ok-push_root.ensures.encodings (kept.added ++ more)
-    ∙ ap (λ z. old ++ index_of (array_id a) z ∷ []) (sym (longer-ids c.push_root.new.ctx.ids kept.added more ids kept.front))
-    ∙ ap (λ n. old ++ n ∷ []) (sym (own-index s a (ids ++ more))))
-    (c.loop-child.invariant.encodings s more)
-
-pub returns-clause-messages : goal.returns-clause-messages
-returns-clause-messages t c =
-    let a = c.args.array.now in
-    everywhere-all HasMessage a c.children-child-items.result.now c.loop-child.child-index (omega (arith, c.loop-child-test.false)) c.children-child-items.ensures.children
-    c.in_ok-push_root.ensures.message c.loop-child.invariant.messages
-
-pub returns-clause-written : goal.returns-clause-written
-returns-clause-written t c = λ x allowed.
-    everywhere-all (IsWrittenNode (tables_meaning c.args.arrays.now x)) c.args.array.now c.children-child-items.result.now c.loop-child.child-index (omega (arith, c.loop-child-test.false)) c.children-child-items.ensures.children
-    (c.in_ok-push_root.ensures.written x allowed) (c.loop-child.invariant.written x allowed)
+    ∙ ap (λ z. old ++ index_of (array_id c.args.two a) z ∷ []) (sym (longer-ids c.push_root.new.ctx.ids kept.added more ids kept.front))
+    ∙ ap (λ n. old ++ n ∷ []) (sym (own-index s c.args.two q a (ids ++ more))))
+    (c.loop-child.invariant.encodings s more q)
 
 pub returns-clause-grown : goal.returns-clause-grown
-returns-clause-grown t c = λ s.
+returns-clause-grown t c = λ s q.
     let a = c.args.array.now in
     let ts = c.children-child-items.result.now in
     let i = c.loop-child.child-index in
     grown-whole (wire codec s a) (wired s ts) i c.args.ctx.now c.push_root.new.ctx c.loop-child.ctx (wired-below s a ts c.children-child-items.ensures.children) (wired-past s ts i c.loop-child-test.false)
-    (own-grown s a c.args.ctx.now c.push_root.new.ctx c.in_ok-push_root.ensures.grown) (c.loop-child.invariant.grown s)
+    (own-grown s c.args.two q a c.args.ctx.now c.push_root.new.ctx c.in_ok-push_root.ensures.grown) (c.loop-child.invariant.grown s q)
 
 pub returns-clause-kept : goal.returns-clause-kept
-returns-clause-kept t c = λ s.
+returns-clause-kept t c = λ s q.
     let a = c.args.array.now in
     let ts = c.children-child-items.result.now in
     kept-front (wire codec s a) (wired s ts) c.loop-child.child-index c.args.ctx.now c.push_root.new.ctx c.loop-child.ctx (wired-below s a ts c.children-child-items.ensures.children)
-    (own-grown s a c.args.ctx.now c.push_root.new.ctx c.in_ok-push_root.ensures.grown) (c.loop-child.invariant.grown s)
+    (own-grown s c.args.two q a c.args.ctx.now c.push_root.new.ctx c.in_ok-push_root.ensures.grown) (c.loop-child.invariant.grown s q)

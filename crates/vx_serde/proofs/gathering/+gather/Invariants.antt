@@ -1,14 +1,9 @@
-use Rattle.std.proofs.Common.{◌≡◌, ◌≤◌, ◌-◌, ◌++◌, ◌∷◌, [], ℕ, List, Some, take}
-use Rattle.vx_trees.specs.Everywhere.{EverywhereBelow}
-use Rattle.vx_trees.specs.Rose.{roses_of}
-use Rattle.vx_trees.specs.Walks.{nodes, levels_below}
-use Rattle.vx_types.specs.Known.{ExtMeaning}
+use Rattle.std.proofs.Common.{◌≡◌, ◌++◌, ◌∷◌, [], ℕ, List, Some}
+use Rattle.vx_trees.specs.Walks.{nodes}
 use Rattle.vx_wire_tree.specs.Context.{grown_by}
-use Rattle.vx_wire_tree.specs.Limits.{HasMessage}
-use Rattle.vx_wire_tree.specs.ReadBack.{IsWrittenNode}
 use Rattle.vx_wire_tree.specs.Session.{SessionMeaning}
 use Rattle.vx_wire_tree.specs.Wire.{id_in, buffers_at_node}
-use Rattle.vx_registry.specs.Session.{tables_meaning}
+use Rattle.vx_wire_tree.specs.Written.{writes_two}
 use Rattle.vx_serde.specs.Numbered.{encoding_index}
 use Rattle.vx_serde.proofs.WiredNodes.{gathered_first}
 use Rattle.vx_serde.proofs.gathering.+gather.Given as goal
@@ -19,10 +14,7 @@ decreases-gather l = nodes l.array.now
 abbrev pub invariant-loop-child : goal.invariant-loop-child
 invariant-loop-child l = record {
   buffers : (s : SessionMeaning) → l.found.buffers ≡ l.initial.found.buffers ++ gathered_first s (λ h. buffers_at_node h) l.child-items l.child-index;
-  encodings : (s : SessionMeaning) (more : List (List ℕ)) → l.found.encodings.items
+  encodings : (s : SessionMeaning) (more : List (List ℕ)) → writes_two s ≡ l.two → l.found.encodings.items
       ≡ l.initial.found.encodings.items ++ gathered_first s (λ h. encoding_index h.id (l.ctx.ids ++ more) ∷ []) l.child-items l.child-index;
-  levels : levels_below (roses_of (take l.child-index l.child-items)) ≤ l.room - 1;
-  written : (x : ExtMeaning) → x.unknown ≡ l.unknown → EverywhereBelow (IsWrittenNode (tables_meaning l.arrays x)) (roses_of (take l.child-index l.child-items));
-  messages : EverywhereBelow HasMessage (roses_of (take l.child-index l.child-items));
-  grown : (s : SessionMeaning) → grown_by (gathered_first s (λ h. id_in h) l.child-items l.child-index) l.initial.ctx ≡ Some l.ctx;
+  grown : (s : SessionMeaning) → writes_two s ≡ l.two → grown_by (gathered_first s (λ h. id_in h) l.child-items l.child-index) l.initial.ctx ≡ Some l.ctx;
 }

@@ -7,6 +7,6 @@ returns-clause-encodings c = λ more.
     c.in_ok-push.ensures.items ∙ ap (λ n. c.args.found.now.encodings.items ++ n ∷ []) (sym (c.in_ok-encoding.ensures.number more))
 
 pub returns-in_err-encoding-clause-cause : goal.returns-in_err-encoding-clause-cause
-returns-in_err-encoding-clause-cause c = λ x u.
+returns-in_err-encoding-clause-cause c =
     let p = err_from_is_err_and c.from_residual.result c.from_residual.ensures.1 in
-    rw (p.1, p.2) (c.in_err-encoding.ensures.cause x u)
+    rw (p.1, p.2) c.in_err-encoding.ensures.cause

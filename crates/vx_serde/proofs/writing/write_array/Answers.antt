@@ -1,111 +1,85 @@
-use Rattle.std.proofs.Common.{arith, ◌∙◌, ◌<◌, ◌^◌, List, ap, sym, subst, refl}
+use Rattle.std.proofs.Common.{arith, ◌≤◌, ap, refl, subst}
 use Rattle.std.proofs.lemmas.Result.{err_from_is_err_and}
-use Rattle.vx_buffer.specs.Buffer.{Buffer}
-use Rattle.vx_wire_tree.specs.Limits.{AreDescribable}
-use Rattle.vx_wire_tree.specs.Wire.{buffers_in}
+use Rattle.vx_trees.specs.Walks.{levels}
+use Rattle.vx_array_tree.specs.Tree.{Tree}
+use Rattle.vx_wire_tree.specs.Wire.{ids_in}
 use Rattle.vx_wire_tree.specs.Written.{wire}
 use Rattle.vx_encodings.specs.Messages.{codec}
-use Rattle.vx_registry.specs.Session.{tables_meaning}
-use Rattle.vx_serde.specs.Blocks.{layout_by}
-use Rattle.vx_serde.specs.Placing.{descriptors_from, data_end}
-use Rattle.vx_serde.specs.Spells.{ids_after}
-use Rattle.vx_serde.specs.WritingSteps.{layout_of}
-use Rattle.vx_serde.proofs.NumberedBy.{as-many, layout-numbered, message-of_kind}
-use Rattle.vx_serde.proofs.Serializations.{serialized}
-use Rattle.vx_serde.proofs.WholeBlob.{message-is, unplaced, unwritten, late, writable-is, buffers-are}
-use Rattle.vx_serde.proofs.WiredNodes.{no_session, wired-nodes}
-use Rattle.vx_serde.proofs.WiredStats.{wire-tabled}
-use Rattle.vx_serde.proofs.WrittenAgain.{grown-ids, wire-whole}
+use Rattle.vx_registry.specs.Meaning.{arrays_meaning}
+use Rattle.vx_serde.specs.Causes.{RefusesWriting}
+use Rattle.vx_serde.specs.KeptContext.{KeepsContext}
+use Rattle.vx_serde.specs.Limits.{most_levels}
+use Rattle.vx_serde.specs.Serializing.{IsWrittenBlob}
+use Rattle.vx_serde.specs.Taking.{as_written}
+use Rattle.vx_serde.proofs.Growing.{kept-same}
+use Rattle.vx_serde.proofs.MessageBlocks.{if_ok, if_err}
+use Rattle.vx_serde.proofs.Taking.{taken_as_own, taken_whole, is_taken_whole, untaken_whole, without_blob}
 use Rattle.vx_serde.proofs.writing.write_array.Goals as goal
 
-pub returns-in_err-found-clause-cause : goal.returns-in_err-found-clause-cause
-returns-in_err-found-clause-cause c = λ x u.
+-- ---- whether primitives have two identifiers is not told
+
+pub returns-in-Err-clause-kept : goal.returns-in-Err-clause-kept
+returns-in-Err-clause-kept g c = λ x u. kept-same _ c.args.ctx.now c.args.ctx.now refl
+
+pub returns-in-Err-clause-own : goal.returns-in-Err-clause-own
+returns-in-Err-clause-own g c = λ x u ok. kept-same _ c.args.ctx.now c.args.ctx.now refl
+
+pub returns-in-Err-clause-cause : goal.returns-in-Err-clause-cause
+returns-in-Err-clause-cause g c = λ x u. tt
+
+-- ---- its nodes are not taken
+
+pub returns-in_err-node-clause-kept : goal.returns-in_err-node-clause-kept
+returns-in_err-node-clause-kept g c = λ x u. kept-same _ c.args.ctx.now c.args.ctx.now refl
+
+pub returns-in_err-node-clause-own : goal.returns-in_err-node-clause-own
+returns-in_err-node-clause-own g c = λ x u ok. kept-same _ c.args.ctx.now c.args.ctx.now refl
+
+pub returns-in_err-node-clause-cause : goal.returns-in_err-node-clause-cause
+returns-in_err-node-clause-cause g c = λ x u.
+    let s = arrays_meaning (λ b. (goal.ArrayPlugin-dyn g (b.vtable, b.value)).means b.value) c.args.arrays.now x in
     let p = err_from_is_err_and c.from_residual.result c.from_residual.ensures.1 in
-    rw (p.1, p.2) (unplaced (tables_meaning c.args.arrays.now x) c.args.array.now c.args.ctx.now c.args.options.now c.in_err-found.field-0.0 (c.in_err-found.ensures.refused x u))
+    rw (p.1, p.2) (untaken_whole s c.args.options.now c.most_levels-room.result c.most_levels-room.ensures c.args.array.now c.args.ctx.now c.in_err-node.field-0.0 (c.in_err-node.ensures.cause x u))
 
-pub write_message-requires-clause-known : goal.write_message-requires-clause-known
-write_message-requires-clause-known c =
-    let w = wire codec no_session c.args.array.now in
-    as-many c.place.new.ctx.ids w c.deref.result.now (c.deref.ensures.value ∙ c.in_ok-found.ensures.encodings no_session) ∙ wired-nodes no_session c.args.array.now
+-- ---- they are
 
-pub write_message-requires-clause-few : goal.write_message-requires-clause-few
-write_message-requires-clause-few c = λ s. (c.in_ok-found.ensures.placed s).placeable.tree.few
-
-pub write_message-requires-clause-whole : goal.write_message-requires-clause-whole
-write_message-requires-clause-whole c =
-    (descriptors_from c.args.options.now c.args.options.now.offset (buffers_in (wire codec no_session c.args.array.now)), c.deref-2.ensures.value ∙ (c.in_ok-found.ensures.placed no_session).descriptors_are)
-
-pub write_message-requires-clause-of_kind : goal.write_message-requires-clause-of_kind
-write_message-requires-clause-of_kind c = λ s.
-    let w = wire codec s c.args.array.now in
-    let placed = c.in_ok-found.ensures.placed s in
-    message-of_kind c.place.new.ctx.ids w c.deref.result.now c.deref-2.result.now (c.deref.ensures.value ∙ c.in_ok-found.ensures.encodings s)
-    c.args.ctx.now c.place.new.ctx (descriptors_from c.args.options.now c.args.options.now.offset (buffers_in w)) refl (c.in_ok-found.ensures.grown s) (wire-whole codec s c.args.array.now)
-    (wire-tabled s c.args.array.now)
-    placed.placeable.tree.few (c.deref-2.ensures.value ∙ placed.descriptors_are)
-
-pub returns-in_err-message-clause-cause : goal.returns-in_err-message-clause-cause
-returns-in_err-message-clause-cause c = λ x u.
-    let p = err_from_is_err_and c.from_residual-in_err-message.result c.from_residual-in_err-message.ensures.1 in
-    let s = tables_meaning c.args.arrays.now x in
-    let a = c.args.array.now in
-    let w = wire codec s a in
-    let o = c.args.options.now in
-    let es = c.deref.result.now in
-    let ds = c.deref-2.result.now in
-    let placed = c.in_ok-found.ensures.placed s in
-    let described = c.deref-2.ensures.value ∙ placed.descriptors_are in
-    let ids = grown-ids s a c.args.ctx.now c.place.new.ctx (c.in_ok-found.ensures.grown s) in
-    let numbered = layout-numbered c.place.new.ctx.ids w es ds (c.deref.ensures.value ∙ c.in_ok-found.ensures.encodings s) in
-    rw (p.1, p.2)
-    (unwritten s a c.args.ctx.now o ds (layout_by es w ds) c.in_err-message.field-0.0 described (numbered ∙ ap (λ z. layout_of z w ds) ids) (c.in_err-message.ensures.refused s))
-
-pub returns-then-not-has_end-clause-cause : goal.returns-then-not-has_end-clause-cause
-returns-then-not-has_end-clause-cause c = λ x u.
-    let s = tables_meaning c.args.arrays.now x in
-    let a = c.args.array.now in
-    let w = wire codec s a in
-    let o = c.args.options.now in
-    let es = c.deref.result.now in
-    let ds = c.deref-2.result.now in
-    let placed = c.in_ok-found.ensures.placed s in
-    let described = c.deref-2.ensures.value ∙ placed.descriptors_are in
-    let ids = grown-ids s a c.args.ctx.now c.place.new.ctx (c.in_ok-found.ensures.grown s) in
-    let numbered = layout-numbered c.place.new.ctx.ids w es ds (c.deref.ensures.value ∙ c.in_ok-found.ensures.encodings s) in
-    let e = c.pad_at-padding.ensures.value in
-    let m = c.in_ok-message.ensures.written s ∙ numbered ∙ ap (λ z. layout_of z w ds) ids ∙ ap (λ z. layout_of (ids_after s a c.args.ctx.now) w z) c.deref-2.ensures.value in
-    late s a c.args.ctx.now o c.in_ok-found.placed.end c.in_ok-found.placed.descriptors.items c.in_ok-message.message.items placed m
-    (omega (arith, c.has_end.ensures.late c.if-not-has_end.true, e, c.len.ensures))
+pub write_taken-requires-clause-levels : goal.write_taken-requires-clause-levels
+write_taken-requires-clause-levels g c = omega (arith, c.in_ok-node.ensures.levels, c.most_levels-room.ensures)
 
 pub returns-clause-made : goal.returns-clause-made
-returns-clause-made c = λ x u.
-    let s = tables_meaning c.args.arrays.now x in
-    let a = c.args.array.now in
-    let w = wire codec s a in
+returns-clause-made g c = λ x u.
+    let s = arrays_meaning (λ b. (goal.ArrayPlugin-dyn g (b.vtable, b.value)).means b.value) c.args.arrays.now x in
     let o = c.args.options.now in
-    let es = c.deref.result.now in
-    let ds = c.deref-2.result.now in
-    let placed = c.in_ok-found.ensures.placed s in
-    let described = c.deref-2.ensures.value ∙ placed.descriptors_are in
-    let ids = grown-ids s a c.args.ctx.now c.place.new.ctx (c.in_ok-found.ensures.grown s) in
-    let numbered = layout-numbered c.place.new.ctx.ids w es ds (c.deref.ensures.value ∙ c.in_ok-found.ensures.encodings s) in
-    let now = c.place.new.ctx.ids in
-    let m = c.in_ok-message.ensures.written s ∙ numbered ∙ message-is now o w ds described in
-    serialized s a o c.args.ctx.now c.place.new.ctx _ (c.in_ok-found.ensures.grown s) (c.in_ok-found.ensures.written x u) c.in_ok-message.ensures.storable c.in_ok-found.ensures.messages
-    (writable-is now o w c.in_ok-found.placed.end c.in_ok-found.placed.descriptors.items c.in_ok-message.message.items placed m c.in_ok-message.ensures.short c.in_ok-message.ensures.light
-    (omega (arith, c.has_end.ensures.within c.if-not-has_end.false, c.pad_at-padding.ensures.value, c.len.ensures)))
-    (c.in_ok-blob_buffers.ensures
-    ∙ buffers-are now o w c.in_ok-found.placed.end c.in_ok-found.placed.descriptors.items c.in_ok-message.message.items c.in_ok-found.found.buffers c.pad_at-padding.result
-    placed m (c.in_ok-found.ensures.buffers s) c.pad_at-padding.ensures.value)
+    let t = c.args.array.now in
+    let room = c.most_levels-room.result in
+    let same = c.most_levels-room.ensures in
+    if_ok c.write_taken.result _ _
+    (λ bs y. record {
+      taken = is_taken_whole s o room same t (c.in_ok-node.ensures.written x u);
+      blob = subst (λ (z : Tree). IsWrittenBlob s z o c.args.ctx.now c.write_taken.new.ctx bs) (taken_whole s o room same t c.in_ok-node.node (c.in_ok-node.ensures.tree x u)) y;
+    }) (c.write_taken.ensures.made s (c.in-Ok.ensures.two x))
 
-pub blob_buffers-requires-clause-describable : goal.blob_buffers-requires-clause-describable
-blob_buffers-requires-clause-describable c =
-    let same = c.in_ok-found.ensures.buffers no_session in
-    let P : List Buffer → Type 0 = λ z. AreDescribable z in
-    subst P (sym same) (c.in_ok-found.ensures.placed no_session).placeable.tree.describable
+pub returns-clause-kept : goal.returns-clause-kept
+returns-clause-kept g c = λ x u.
+    let s = arrays_meaning (λ b. (goal.ArrayPlugin-dyn g (b.vtable, b.value)).means b.value) c.args.arrays.now x in
+    let whole = taken_whole s c.args.options.now c.most_levels-room.result c.most_levels-room.ensures c.args.array.now c.in_ok-node.node (c.in_ok-node.ensures.tree x u) in
+    subst (λ (z : Tree). KeepsContext (ids_in (wire codec s z)) c.args.ctx.now c.write_taken.new.ctx) whole (c.write_taken.ensures.kept s (c.in-Ok.ensures.two x))
 
-pub blob_buffers-requires-clause-fits : goal.blob_buffers-requires-clause-fits
-blob_buffers-requires-clause-fits c =
-    let same = c.in_ok-found.ensures.buffers no_session in
-    let P : List Buffer → Type 0 = λ z. data_end c.args.options.now c.args.options.now.offset z < 2 ^ 64 in
-    subst P (sym same) (c.in_ok-found.ensures.placed no_session).placeable.ends
+pub returns-clause-own : goal.returns-clause-own
+returns-clause-own g c = λ x u ok.
+    let s = arrays_meaning (λ b. (goal.ArrayPlugin-dyn g (b.vtable, b.value)).means b.value) c.args.arrays.now x in
+    let own = taken_as_own s c.most_levels-room.result c.args.array.now c.in_ok-node.node ok (c.in_ok-node.ensures.tree x u) (c.in_ok-node.ensures.written x u) c.in_ok-node.ensures.levels in
+    subst (λ (z : Tree). KeepsContext (ids_in (wire codec s z)) c.args.ctx.now c.write_taken.new.ctx) own (c.write_taken.ensures.kept s (c.in-Ok.ensures.two x))
+
+pub returns-clause-cause : goal.returns-clause-cause
+returns-clause-cause g c = λ x u.
+    let s = arrays_meaning (λ b. (goal.ArrayPlugin-dyn g (b.vtable, b.value)).means b.value) c.args.arrays.now x in
+    let o = c.args.options.now in
+    let t = c.args.array.now in
+    let room = c.most_levels-room.result in
+    let same = c.most_levels-room.ensures in
+    let whole = taken_whole s o room same t c.in_ok-node.node (c.in_ok-node.ensures.tree x u) in
+    let taken = is_taken_whole s o room same t (c.in_ok-node.ensures.written x u) in
+    let few : levels (as_written s o t) ≤ most_levels o = omega (arith, c.in_ok-node.ensures.levels, same, ap (λ (z : Tree). levels z) whole) in
+    if_err c.write_taken.result _ _
+    (λ e y. without_blob s c.args.options.now c.args.array.now c.args.ctx.now e taken few (subst (λ (z : Tree). RefusesWriting s z c.args.ctx.now c.args.options.now e) whole y)) (c.write_taken.ensures.cause s (c.in-Ok.ensures.two x))

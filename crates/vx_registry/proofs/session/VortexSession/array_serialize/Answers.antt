@@ -2,12 +2,8 @@ use Rattle.std.proofs.Common.{sym}
 use Rattle.vx_type_wire.specs.Session.{ext_meaning}
 use Rattle.vx_registry.proofs.session.VortexSession.array_serialize.Goals as goal
 
-pub returns-then-not-writes-clause-cause : goal.returns-then-not-writes-clause-cause
-returns-then-not-writes-clause-cause g c = λ e.
-    let x = ext_meaning (λ b. (goal.ExtPlugin-dyn g (b.vtable, b.value)).accepted b.value) c.args.self.now.ext in
-    c.writes.ensures.lacking x (sym c.allows_unknown.ensures) c.if-not-writes.true
+pub returns-clause-parts : goal.returns-clause-parts
+returns-clause-parts g c = c.serialize_root.ensures.parts (ext_meaning (λ b. (goal.ExtPlugin-dyn g (b.vtable, b.value)).accepted b.value) c.args.self.now.ext) (sym c.allows_unknown.ensures)
 
-pub returns-in-Ok-clause-registered : goal.returns-in-Ok-clause-registered
-returns-in-Ok-clause-registered g c =
-    let x = ext_meaning (λ b. (goal.ExtPlugin-dyn g (b.vtable, b.value)).accepted b.value) c.args.self.now.ext in
-    c.writes.ensures.written x (sym c.allows_unknown.ensures) c.if-not-writes.false
+pub returns-clause-cause : goal.returns-clause-cause
+returns-clause-cause g c = c.serialize_root.ensures.cause (ext_meaning (λ b. (goal.ExtPlugin-dyn g (b.vtable, b.value)).accepted b.value) c.args.self.now.ext) (sym c.allows_unknown.ensures)

@@ -11,6 +11,6 @@ use Rattle.vx_serde.proofs.serialized.SerializedArray.decode.Goals as goal
 
 pub returns-clause-one : goal.returns-clause-one
 returns-clause-one g c = λ shipped.
-    let s = session_meaning (λ b. (goal.ExtPlugin-dyn g (b.vtable, b.value)).accepted b.value) c.args.session.now in
+    let s = session_meaning (λ b. (goal.ArrayPlugin-dyn g (b.vtable, b.value)).means b.value) (λ b. (goal.ExtPlugin-dyn g (b.vtable, b.value)).accepted b.value) c.args.session.now in
     let P : Serialized → Type 0 = λ a. (t : Tree) → Tells codec s (wire_in c.args.ids.now a) (typ c.args.dtype.now) c.args.len t → IfOk c.decode.result (λ u. u ≡ t) × IfErr c.decode.result (λ e. e ≡ OutOfMemory) in
     subst P c.root.ensures (c.decode.ensures.one shipped)

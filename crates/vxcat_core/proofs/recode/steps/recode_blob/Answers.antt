@@ -1,4 +1,5 @@
 use Rattle.std.proofs.Common.{IfOk, IfErr, ◌≡◌, ◌∙◌}
+use Rattle.vx_wire_tree.specs.Session.{IsShipped}
 use Rattle.vx_serde.specs.Request.{CanRecode, Request}
 use Rattle.vxcat_core.specs.declared.status.Status.TheVariants.{OutOfMemory}
 use Rattle.vxcat_core.specs.RecodeViews.{AreMade, RefusesBlob}
@@ -7,7 +8,7 @@ use Rattle.vxcat_core.proofs.recode.steps.recode_blob.Goals as goal
 
 pub returns-in-Ok-clause-made : goal.returns-in-Ok-clause-made
 returns-in-Ok-clause-made g c =
-    asked_alike (λ (r : Request). IfOk c.recode_buffer.result (AreMade r)) _ _ _ _ _ _ _ _ (c.in-Ok.ensures.bytes ∙ c.into_vec.ensures) c.recode_buffer.ensures.made
+    asked_alike (λ (r : Request). IsShipped r.session → IfOk c.recode_buffer.result (AreMade r)) _ _ _ _ _ _ _ _ (c.in-Ok.ensures.bytes ∙ c.into_vec.ensures) c.recode_buffer.ensures.made
 
 pub returns-in-Ok-clause-cause : goal.returns-in-Ok-clause-cause
 returns-in-Ok-clause-cause g c =
@@ -15,4 +16,4 @@ returns-in-Ok-clause-cause g c =
 
 pub returns-in-Ok-clause-complete : goal.returns-in-Ok-clause-complete
 returns-in-Ok-clause-complete g c =
-    asked_alike (λ (r : Request). CanRecode r → IfErr c.recode_buffer.result (λ status. status ≡ OutOfMemory)) _ _ _ _ _ _ _ _ (c.in-Ok.ensures.bytes ∙ c.into_vec.ensures) c.recode_buffer.ensures.complete
+    asked_alike (λ (r : Request). IsShipped r.session → CanRecode r → IfErr c.recode_buffer.result (λ status. status ≡ OutOfMemory)) _ _ _ _ _ _ _ _ (c.in-Ok.ensures.bytes ∙ c.into_vec.ensures) c.recode_buffer.ensures.complete

@@ -1,14 +1,9 @@
-use Rattle.std.proofs.Common.{sym, ◌∙◌}
-use Rattle.vxcat_core.specs.Recode.{readers_by}
-use Rattle.vxcat_core.proofs.Recodings.{allowing_session, same_session}
+use Rattle.std.proofs.Common.{true, false}
+use Rattle.vxcat_core.proofs.Sessions.{arrays_asked}
 use Rattle.vxcat_core.proofs.recode.steps.recode_inputs.Goals as goal
 
-pub recode_under-requires : goal.recode_under-requires
-recode_under-requires c =
-    allowing_session _ c.new-session.result c.in-Ok.arrays c.new.result c.allow_unknown.new.self c.args.words.now.options.unknown c.new-session.ensures.arrays c.new-session.ensures.ext c.in-Ok.ensures.shipped c.new.ensures
-    c.allow_unknown.ensures.readers c.allow_unknown.ensures.unknown c.if-words.true
+pub recode_by-requires-clause-arrays : goal.recode_by-requires-clause-arrays
+recode_by-requires-clause-arrays c = arrays_asked _ _ _ c.args.words.now.options.revised true c.new-then-words.ensures.arrays c.if-words.true c.in-Ok.ensures.revised
 
-pub recode_under-requires-2 : goal.recode_under-requires-2
-recode_under-requires-2 c =
-    same_session _ c.new-session.result c.in-Ok.arrays c.new.result c.args.words.now.options.unknown c.new-session.ensures.arrays c.new-session.ensures.ext c.in-Ok.ensures.shipped
-    (c.new.ensures ∙ (λ k. readers_by (sym c.if-words.false k)))
+pub recode_by-requires-2-clause-arrays : goal.recode_by-requires-2-clause-arrays
+recode_by-requires-2-clause-arrays c = arrays_asked _ _ _ c.args.words.now.options.revised false c.new-3.ensures.arrays c.if-words.false c.in-Ok-default.ensures.shipped

@@ -1,9 +1,10 @@
 use Rattle.std.proofs.Common.{refl, sym, subst, ap}
 use Rattle.vx_types.specs.Seen.{typ}
-use Rattle.vx_wire_tree.specs.Session.{SessionMeaning}
+use Rattle.vx_wire_tree.specs.Session.{SessionMeaning, IsShipped}
 use Rattle.vxcat_core.specs.IdFile.{ReadsIds}
 use Rattle.vxcat_core.specs.RecodeViews.{line_of, loaded_of}
 use Rattle.vxcat_core.proofs.Recodings.{read_alike, inputs_made, inputs_refused, inputs_complete, type_cause, type_memory, ids_cause, allowed_cause, ids_memory}
+use Rattle.vxcat_core.proofs.Sessions.{shipped_session}
 use Rattle.vxcat_core.proofs.recode.steps.recode_under.Goals as goal
 
 pub returns-clause-cause : goal.returns-clause-cause
@@ -18,14 +19,16 @@ returns-clause-complete g c =
     let type_read = read_alike _ _ _ _ (typ c.in-Ok.dtype) refl (ap (λ (m : SessionMeaning). m.ext) c.requires) c.in-Ok.ensures.read in
     let ids_read = subst (λ l. ReadsIds l c.in-Ok-read_id_file.ids) c.as_slice.ensures c.in-Ok-read_id_file.ensures.read in
     inputs_complete (line_of c.args.words.now) (loaded_of c.args.loaded) (typ c.in-Ok.dtype) c.in-Ok-read_id_file.ids c.new-read.result c.in-Ok-read_context.context _ c.serialize_options-options.result c.recode_blob.result
-    type_read ids_read c.new-read.ensures c.in-Ok-read_context.ensures.read c.requires c.serialize_options-options.ensures c.recode_blob.ensures.complete
+    type_read ids_read c.new-read.ensures c.in-Ok-read_context.ensures.read c.requires c.serialize_options-options.ensures
+    (c.recode_blob.ensures.complete (subst (λ (z : SessionMeaning). IsShipped z) (sym c.requires) (shipped_session c.args.words.now.options.revised _)))
 
 pub returns-clause-made : goal.returns-clause-made
 returns-clause-made g c =
     let type_read = read_alike _ _ _ _ (typ c.in-Ok.dtype) refl (ap (λ (m : SessionMeaning). m.ext) c.requires) c.in-Ok.ensures.read in
     let ids_read = subst (λ l. ReadsIds l c.in-Ok-read_id_file.ids) c.as_slice.ensures c.in-Ok-read_id_file.ensures.read in
     inputs_made (line_of c.args.words.now) (loaded_of c.args.loaded) (typ c.in-Ok.dtype) c.in-Ok-read_id_file.ids c.new-read.result c.in-Ok-read_context.context _ c.serialize_options-options.result c.recode_blob.result
-    type_read ids_read c.new-read.ensures c.in-Ok-read_context.ensures.read c.requires c.serialize_options-options.ensures c.recode_blob.ensures.made
+    type_read ids_read c.new-read.ensures c.in-Ok-read_context.ensures.read c.requires c.serialize_options-options.ensures
+    (c.recode_blob.ensures.made (subst (λ (z : SessionMeaning). IsShipped z) (sym c.requires) (shipped_session c.args.words.now.options.revised _)))
 
 pub returns-in-Err-clause-cause : goal.returns-in-Err-clause-cause
 returns-in-Err-clause-cause g c =

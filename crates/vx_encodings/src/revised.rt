@@ -1,0 +1,43 @@
+//! The two identifiers of primitives, where they have two.
+
+ghost use Rattle.std.specs.Prelude.{◌≡◌, IfOk, IsOkUnless};
+ghost use Rattle.vx_wire_tree.specs.Revised.{revised_holds as holds, revised_id as id_for};
+
+use crate::error::EncodingError;
+use std::alloc::Global;
+use vx_arrays::PrimitiveArray;
+use vx_types::Id;
+
+// The identifier of the rows that the old one does not hold.
+const SECOND: &'static str = "vortex.primitive.v2";
+
+// So many rows the old identifier holds.
+const MOST: usize = 4;
+
+/// Whether nodes of this identifier hold so many rows, where primitives have two identifiers: `false` exactly for
+/// `vortex.primitive` and more than four rows.
+pub fn revised_holds(id: &Id, len: usize) -> bool
+    ensures { result ≡ holds id.now len }
+{
+    if id.as_str() == PrimitiveArray::ID {
+        return len <= MOST;
+    }
+    true
+}
+
+/// The identifier under which primitives of so many rows are written, where they have two. The only refusal is want of
+/// memory.
+pub fn revised_id(alloc: Global, len: usize) -> Result<Id, EncodingError>
+    ensures ok { IfOk result (λ id. id ≡ id_for len) }
+    ensures err { IsOkUnless result EncodingError.OutOfMemory }
+{
+    let text = if len <= MOST {
+        PrimitiveArray::ID
+    } else {
+        SECOND
+    };
+    match Id::new(alloc, text) {
+        Ok(id) => Ok(id),
+        Err(_) => Err(EncodingError::OutOfMemory),
+    }
+}

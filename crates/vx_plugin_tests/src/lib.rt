@@ -1,0 +1,11 @@
+//! Plugins of a caller, and what sessions read and write by them.
+#![tactic(auto)]
+
+pub mod asking;
+pub mod named;
+pub mod odd;
+#[cfg(test)]
+mod parts;
+#[cfg(test)]
+mod plugged;
+pub mod versioned;

@@ -1,0 +1,35 @@
+-- What a caller's plugin is told and what it answers, as the plain values of what it means.
+use Rattle.std.specs.Prelude.{◌≡◌, Option, Some, None, Result, Ok, Err, length}
+use Rattle.vx_trees.specs.Rose.{count}
+use Rattle.vx_types.specs.Seen.{typ}
+use Rattle.vx_wire_tree.specs.Plugin.{NodeHead, Parts, Answer, none, refused, given}
+use Rattle.vx_encodings.specs.declared.head.ArrayHead.{ArrayHead}
+use Rattle.vx_registry.specs.declared.plugin.PluginError.{PluginError}
+use Rattle.vx_registry.specs.declared.plugin.PluginError.TheVariants.{OutOfMemory, Refused}
+use Rattle.vx_registry.specs.declared.serialization.ArraySerialization.{ArraySerialization}
+use Rattle.vx_registry.specs.declared.serialization.ArrayDeserialization.{ArrayDeserialization}
+
+-- What is told of a node before its children.
+abbrev pub head_in : ArrayHead → NodeHead
+head_in h = record { id = h.serialized_id; dtype = typ h.dtype; len = h.len; metadata = h.metadata; nbuffers = h.nbuffers; nchildren = h.nchildren }
+
+-- The same, of a node whose parts are there.
+abbrev pub parts_head : ArrayDeserialization → NodeHead
+parts_head p = record { id = p.serialized_id; dtype = typ p.dtype; len = p.len; metadata = p.metadata; nbuffers = length p.buffers; nchildren = count p.children }
+
+-- What an array is written as.
+abbrev pub parts_in : ArraySerialization → Parts
+parts_in s = record { id = s.serialized_id; metadata = s.metadata; buffers = s.buffers; children = s.children }
+
+-- An answer is what is meant, or memory was wanted; it is a refusal exactly where nothing is meant.
+abbrev pub IsAnswer : {A : Type 0} → Option A → Result A PluginError → Type 0
+IsAnswer meant (Ok a) = meant ≡ Some a
+IsAnswer meant (Err OutOfMemory) = Unit {0}
+IsAnswer meant (Err Refused) = meant ≡ None
+
+-- The same of what is made of an array: its parts, or none, or a refusal.
+abbrev pub IsWrittenAs : Answer → Result (Option ArraySerialization) PluginError → Type 0
+IsWrittenAs meant (Ok None) = meant ≡ none
+IsWrittenAs meant (Ok (Some s)) = meant ≡ given (parts_in s)
+IsWrittenAs meant (Err OutOfMemory) = Unit {0}
+IsWrittenAs meant (Err Refused) = meant ≡ refused

@@ -1,0 +1,92 @@
+use Rattle.std.proofs.Common.{◌≡◌, ◌≤◌, ◌-◌, ◌++◌, ◌∷◌, [], length, None, arith, refl, sym, ap, ◌∙◌, subst}
+use Rattle.vx_trees.specs.Rose.{count, node, roses_of, roses_list}
+use Rattle.vx_trees.proofs.Lists.{length-roses_list}
+use Rattle.vx_types.specs.Known.{ExtMeaning}
+use Rattle.vx_array_tree.specs.Tree.{places}
+use Rattle.vx_registry.specs.Meaning.{arrays_meaning}
+use Rattle.vx_serde.specs.contracts.taken.fill.{dyn-1-ghosts}
+use Rattle.vx_serde.specs.declared.taken.TakenRoot.{TakenRoot}
+use Rattle.vx_serde.specs.Taking.{written_head, written_below, AreTaken, AreWithin, IsOpened, RefusesOneOf}
+use Rattle.vx_serde.proofs.TakenBelow.{none_within, one_more_within, one_more_taken, whole_taken, stands_below, node_levels, node_messages, node_taken, node_is_taken, filled_not, of_ok}
+use Rattle.vx_serde.proofs.taken.+fill.Goals as goal
+
+pub loop-i-init : goal.loop-i-init
+loop-i-init g t c = record {
+  root = refl;
+  taken = λ x u. record { made = c.requires.none; written_each = tt };
+  within = none_within c.args.room c.args.above.now.children.items c.requires.none;
+}
+
+pub child-requires : goal.child-requires
+child-requires g t c = omega (arith, c.nchildren-i-end.ensures, c.loop-i-test.true, ap (λ (r : TakenRoot). count (written_below r)) c.loop-i.invariant.root)
+
+pub returns-in-Err : goal.returns-in-Err
+returns-in-Err g t c = record {
+  root = c.loop-i.invariant.root;
+  taken = λ x u. tt;
+  within = tt;
+  cause = λ x u.
+      let s = arrays_meaning (λ b. ((dyn-1-ghosts g.dyn-1).0.entry b.vtable).1.means b.value) c.args.arrays.now x in
+      subst (λ (r : TakenRoot). RefusesOneOf s c.args.room (written_below r) c.in-Err.e) c.loop-i.invariant.root (c.in-Err.ensures.cause x u);
+}
+
+pub fill-filled-requires : goal.fill-filled-requires
+fill-filled-requires g t c = (omega (arith, c.in-Ok.ensures.room, c.decreases), c.in-Ok.ensures.none)
+
+pub close-requires : goal.close-requires
+close-requires g t c = λ ok.
+    let x : ExtMeaning = record { reader = λ id. None; unknown = c.args.unknown } in
+    let s = arrays_meaning (λ b. ((dyn-1-ghosts g.dyn-1).0.entry b.vtable).1.means b.value) c.args.arrays.now x in
+    let us = c.fill-filled.new.above.children.items in
+    subst (λ (r : TakenRoot). places (roses_of us) ≡ places (written_below r)) (sym c.fill-filled.ensures.root)
+    (stands_below s (c.args.room - 1) (written_below c.in-Ok.child.root) us (of_ok c.fill-filled.result _ ok (c.fill-filled.ensures.taken x refl)))
+
+pub returns-in-Err-close : goal.returns-in-Err-close
+returns-in-Err-close g t c = record {
+  root = c.close.ensures.root ∙ c.loop-i.invariant.root;
+  taken = λ x u. tt;
+  within = tt;
+  cause = λ x u.
+      let s = arrays_meaning (λ b. ((dyn-1-ghosts g.dyn-1).0.entry b.vtable).1.means b.value) c.args.arrays.now x in
+      let child = c.in-Ok.child.root in
+      let opened = subst (λ (r : TakenRoot). IsOpened s (written_below r) c.loop-i.i (written_head child) (written_below child)) c.loop-i.invariant.root (c.in-Ok.ensures.opened x u) in
+      filled_not s c.args.room c.in-Ok.ensures.room (written_below c.args.above.now.root) c.loop-i.i (written_head child) (written_below child) opened c.fill-filled.result c.in-Err-close.e (c.fill-filled.ensures.cause x u) c.in-Err-close.ensures.cause;
+}
+
+pub loop-i-preserved : goal.loop-i-preserved
+loop-i-preserved g t c =
+    let child = c.in-Ok.child.root in
+    let us = c.fill-filled.new.above.children.items in
+    let u = node (written_head child) (roses_of us) in
+    let ok = c.in-Ok-close.ensures.well in
+    let more : c.close.new.self.children.items ≡ c.loop-i.above.children.items ++ u ∷ [] =
+    subst (λ (r : TakenRoot). c.close.new.self.children.items ≡ c.loop-i.above.children.items ++ node (written_head r) (roses_of us) ∷ []) c.fill-filled.ensures.root c.in-Ok-close.ensures.children
+    in
+    let within = of_ok c.fill-filled.result (AreWithin (c.args.room - 1) us) ok c.fill-filled.ensures.within in
+    let any : ExtMeaning = record { reader = λ id. None; unknown = c.args.unknown } in
+    let m = arrays_meaning (λ b. ((dyn-1-ghosts g.dyn-1).0.entry b.vtable).1.means b.value) c.args.arrays.now any in
+    record {
+      root = c.close.ensures.root ∙ c.loop-i.invariant.root;
+      taken = λ x q.
+          let s = arrays_meaning (λ b. ((dyn-1-ghosts g.dyn-1).0.entry b.vtable).1.means b.value) c.args.arrays.now x in
+          let o = subst (λ (r : TakenRoot). IsOpened s (written_below r) c.loop-i.i (written_head child) (written_below child)) c.loop-i.invariant.root (c.in-Ok.ensures.opened x q) in
+          let below = of_ok c.fill-filled.result (AreTaken s (c.args.room - 1) (roses_list (written_below child)) us) ok (c.fill-filled.ensures.taken x q) in
+          one_more_taken s c.args.room (roses_list (written_below c.args.above.now.root)) c.loop-i.i o.array c.loop-i.above.children.items c.close.new.self.children.items u o.stands (c.loop-i.invariant.taken x q)
+          (node_taken s c.args.room c.in-Ok.ensures.room o.array (written_head child) (written_below child) o.step_is us below) (node_is_taken s c.args.room c.in-Ok.ensures.room o.array (written_head child) (written_below child) o.step_is us below) more;
+      within =
+          one_more_within c.args.room c.loop-i.above.children.items c.close.new.self.children.items u c.loop-i.invariant.within (node_levels c.args.room (written_head child) us c.in-Ok.ensures.room within)
+          (node_messages m (c.args.room - 1) (written_below child) us (of_ok c.fill-filled.result (AreTaken m (c.args.room - 1) (roses_list (written_below child)) us) ok (c.fill-filled.ensures.taken any refl)) (written_head child) c.in-Ok.ensures.message within)
+          more;
+    }
+
+pub returns : goal.returns
+returns g t c =
+    let ts = written_below c.args.above.now.root in
+    let past : length (roses_list ts) ≤ c.loop-i.i = omega (arith, length-roses_list ts, c.nchildren-i-end.ensures, c.loop-i-test.false) in
+    record {
+      root = c.loop-i.invariant.root;
+      taken = λ x u.
+          whole_taken (arrays_meaning (λ b. ((dyn-1-ghosts g.dyn-1).0.entry b.vtable).1.means b.value) c.args.arrays.now x) c.args.room (roses_list ts) c.loop-i.i c.loop-i.above.children.items past (c.loop-i.invariant.taken x u);
+      within = c.loop-i.invariant.within;
+      cause = λ x u. tt;
+    }

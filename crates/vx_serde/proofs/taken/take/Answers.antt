@@ -1,0 +1,53 @@
+use Rattle.std.proofs.Common.{◌≡◌, None, arith, refl, sym, ap, ◌∙◌, subst}
+use Rattle.vx_trees.specs.Rose.{node, roses_of}
+use Rattle.vx_trees.specs.Walks.{levels}
+use Rattle.vx_types.specs.Known.{ExtMeaning}
+use Rattle.vx_array_tree.specs.Tree.{places}
+use Rattle.vx_wire_tree.specs.Limits.{HasMessages}
+use Rattle.vx_registry.specs.Meaning.{arrays_meaning}
+use Rattle.vx_serde.specs.declared.taken.TakenRoot.{TakenRoot}
+use Rattle.vx_serde.specs.Taking.{source_tree, written_head, written_below}
+use Rattle.vx_serde.proofs.TakenBelow.{stands_below, node_levels, node_messages, node_taken, node_is_taken, root_refused_below}
+use Rattle.vx_serde.proofs.taken.take.Goals as goal
+
+pub returns-in-Err : goal.returns-in-Err
+returns-in-Err g c = record { tree = λ x u. tt; written = λ x u. tt; levels = tt; messages = tt; cause = λ x u. c.in-Err.ensures.cause x u }
+
+pub fill-requires : goal.fill-requires
+fill-requires g c = record { none = c.in-Ok.ensures.none }
+
+pub over-requires : goal.over-requires
+over-requires g c =
+    let x : ExtMeaning = record { reader = λ id. None; unknown = c.args.unknown } in
+    let us = c.fill.new.above.children.items in
+    subst (λ (r : TakenRoot). places (roses_of us) ≡ places (written_below r)) (sym c.fill.ensures.root)
+    (stands_below (arrays_meaning (λ b. (goal.ArrayPlugin-dyn g (b.vtable, b.value)).means b.value) c.args.arrays.now x) _ (written_below c.in-Ok.above.root) us (c.in-Ok-fill.ensures.taken x refl))
+
+pub returns-in-Ok-fill : goal.returns-in-Ok-fill
+returns-in-Ok-fill g c =
+    let root = c.in-Ok.above.root in
+    let us = c.fill.new.above.children.items in
+    let is = subst (λ (r : TakenRoot). c.over.result ≡ node (written_head r) (roses_of us)) c.fill.ensures.root c.over.ensures in
+    let any : ExtMeaning = record { reader = λ id. None; unknown = c.args.unknown } in
+    let m = arrays_meaning (λ b. (goal.ArrayPlugin-dyn g (b.vtable, b.value)).means b.value) c.args.arrays.now any in
+    record {
+      tree = λ x u.
+          is
+          ∙ node_taken (arrays_meaning (λ b. (goal.ArrayPlugin-dyn g (b.vtable, b.value)).means b.value) c.args.arrays.now x) c.args.room c.in-Ok.ensures.room (source_tree c.args.source) (written_head root) (written_below root) (c.in-Ok.ensures.step x u) us (c.in-Ok-fill.ensures.taken x u);
+      written = λ x u.
+          node_is_taken (arrays_meaning (λ b. (goal.ArrayPlugin-dyn g (b.vtable, b.value)).means b.value) c.args.arrays.now x) c.args.room c.in-Ok.ensures.room (source_tree c.args.source) (written_head root) (written_below root) (c.in-Ok.ensures.step x u) us (c.in-Ok-fill.ensures.taken x u);
+      levels = omega (arith, node_levels c.args.room (written_head root) us c.in-Ok.ensures.room c.in-Ok-fill.ensures.within, ap (λ z. levels z) is);
+      messages = subst (λ z. HasMessages z) (sym is) (node_messages m _ (written_below root) us (c.in-Ok-fill.ensures.taken any refl) (written_head root) c.in-Ok.ensures.message c.in-Ok-fill.ensures.within);
+      cause = λ x u. tt;
+    }
+
+pub returns-in-Err-fill : goal.returns-in-Err-fill
+returns-in-Err-fill g c = record {
+  tree = λ x u. tt;
+  written = λ x u. tt;
+  levels = tt;
+  messages = tt;
+  cause = λ x u.
+      root_refused_below (arrays_meaning (λ b. (goal.ArrayPlugin-dyn g (b.vtable, b.value)).means b.value) c.args.arrays.now x) c.args.room c.in-Ok.ensures.room (source_tree c.args.source) (written_head c.in-Ok.above.root) (written_below c.in-Ok.above.root) (c.in-Ok.ensures.step x u)
+      c.in-Err-fill.e (c.in-Err-fill.ensures.cause x u);
+}

@@ -1,0 +1,108 @@
+-- An array as it is written, as a tree; and why its nodes are not written.
+use Rattle.std.specs.Prelude.{ℕ, ◌≡◌, ◌≤◌, ◌<◌, ◌⊎◌, List, Option, Some, None, map, slice_get}
+use Rattle.vx_trees.specs.Rose.{end, label, below, roses_of, roses_list}
+use Rattle.vx_trees.specs.Walks.{levels, levels_below}
+use Rattle.vx_array_tree.specs.Tree.{Tree, Trees, Head, places}
+use Rattle.vx_trees.specs.Everywhere.{EverywhereBelow}
+use Rattle.vx_wire_tree.specs.Limits.{HasMessage, HasMessages}
+use Rattle.vx_wire_tree.specs.Plugin.{Parts}
+use Rattle.vx_wire_tree.specs.Session.{SessionMeaning}
+use Rattle.vx_wire_tree.specs.Taken.{Step, written, unwritten, step, taken, IsTaken, given_head, each, Each, Any, HasUntaken, unregistered, unserializable, undeclared, unwilling}
+use Rattle.vx_registry.specs.Plugin.{parts_in}
+use Rattle.vx_registry.specs.Serialization.{HasLargeMetadata}
+use Rattle.vx_registry.specs.declared.serialization.ArraySerialization.{ArraySerialization}
+use Rattle.vx_serde.specs.declared.error.WireError.{WireError}
+use Rattle.vx_serde.specs.declared.error.WireError.TheVariants.{OutOfMemory, WireLimit, NotRegistered, NotSerializable, UndeclaredId, PluginRefused}
+use Rattle.vx_serde.specs.declared.options.SerializeOptions.{SerializeOptions}
+use Rattle.vx_serde.specs.declared.taken.GivenParts.{GivenParts}
+use Rattle.vx_serde.specs.declared.taken.Source.{Source}
+use Rattle.vx_serde.specs.declared.taken.Source.TheVariants.{Lent, Held}
+use Rattle.vx_serde.specs.declared.taken.TakenRoot.{TakenRoot}
+use Rattle.vx_serde.specs.Limits.{most_levels}
+
+-- An array as it is written: node by node as it stands, or as its plugin gives it, down to one level below the last that may
+-- be written.
+abbrev pub as_written : SessionMeaning → SerializeOptions → Tree → Tree
+as_written s options t = taken s (most_levels options) t
+
+-- The array of a source.
+abbrev pub source_tree : Source → Tree
+source_tree (Lent array) = array.now
+source_tree (Held array) = array
+
+-- What a plugin gives for a node itself.
+abbrev pub own_parts : GivenParts → Parts
+own_parts g = record { id = g.id; metadata = g.metadata; buffers = g.buffers; children = end }
+
+-- A node as it is written: as it stands, or as a plugin gives it.
+abbrev pub taken_head : Head → Option GivenParts → Head
+taken_head h None = h
+taken_head h (Some g) = given_head h (own_parts g)
+
+-- Below a node that is written as it stands, nodes stand where the array's children do.
+abbrev pub StandsAs : Option GivenParts → Trees → Trees → Type 0
+StandsAs None us ts = places us ≡ places ts
+StandsAs (Some g) us ts = Unit {0}
+
+-- A root that is written: its node, as it stands or as a plugin gives it,
+abbrev pub root_head : Head → Option ArraySerialization → Head
+root_head h None = h
+root_head h (Some p) = given_head h (parts_in p)
+
+-- and the arrays below it, its own or those that the plugin gives.
+abbrev pub root_below : Trees → Option ArraySerialization → Trees
+root_below ts None = ts
+root_below ts (Some p) = p.children
+
+abbrev pub written_head : TakenRoot → Head
+written_head r = root_head (label (source_tree r.source)) r.given
+
+abbrev pub written_below : TakenRoot → Trees
+written_below r = root_below (below (source_tree r.source)) r.given
+
+-- Nodes are those that are taken of arrays where there is room for n levels, and each of these is taken.
+pub record AreTaken (s : SessionMeaning) (n : ℕ) (arrays nodes : List Tree) : Type 0 where
+  pub made : nodes ≡ map (λ t. taken s n t) arrays
+  pub written_each : Each (λ t. IsTaken s n t) (roses_of arrays)
+
+-- Nodes have so many levels, and their metadata fits its messages.
+pub record AreWithin (n : ℕ) (nodes : List Tree) : Type 0 where
+  pub levels_are : levels_below (roses_of nodes) ≤ n
+  pub messages : EverywhereBelow HasMessage (roses_of nodes)
+
+-- The root of one of several arrays is written as this node, over these arrays.
+pub record IsOpened (s : SessionMeaning) (arrays : Trees) (i : ℕ) (h : Head) (ts : Trees) : Type 0 where
+  pub array : Tree
+  pub stands : slice_get (roses_list arrays) i ≡ Some array
+  pub step_is : step s array ≡ written h ts
+
+-- Why a root is not written: by the refusal.
+abbrev pub RefusesStep : Step → WireError → Type 0
+RefusesStep x OutOfMemory = Unit {0}
+RefusesStep x WireLimit = HasLargeMetadata x
+RefusesStep x NotRegistered = x ≡ unwritten unregistered
+RefusesStep x NotSerializable = x ≡ unwritten unserializable
+RefusesStep x UndeclaredId = x ≡ unwritten undeclared
+RefusesStep x PluginRefused = x ≡ unwritten unwilling
+RefusesStep x _ = ⊥
+
+-- Why the nodes of an array are not written, where there is room for n levels: by the refusal. There are more levels than
+-- that, or the metadata of a node does not fit its message; or a node is not written for the cause that is told.
+abbrev pub RefusesTaking : SessionMeaning → ℕ → Tree → WireError → Type 0
+RefusesTaking s n t OutOfMemory = Unit {0}
+RefusesTaking s n t WireLimit = (n < levels (taken s n t)) ⊎ (HasMessages (taken s n t) → ⊥)
+RefusesTaking s n t NotRegistered = HasUntaken s n unregistered t
+RefusesTaking s n t NotSerializable = HasUntaken s n unserializable t
+RefusesTaking s n t UndeclaredId = HasUntaken s n undeclared t
+RefusesTaking s n t PluginRefused = HasUntaken s n unwilling t
+RefusesTaking s n t _ = ⊥
+
+-- Why the nodes of one of several arrays are not.
+abbrev pub RefusesOneOf : SessionMeaning → ℕ → Trees → WireError → Type 0
+RefusesOneOf s n ts OutOfMemory = Unit {0}
+RefusesOneOf s n ts WireLimit = (n < levels_below (each (taken s n) ts)) ⊎ (EverywhereBelow HasMessage (each (taken s n) ts) → ⊥)
+RefusesOneOf s n ts NotRegistered = Any (λ t. HasUntaken s n unregistered t) ts
+RefusesOneOf s n ts NotSerializable = Any (λ t. HasUntaken s n unserializable t) ts
+RefusesOneOf s n ts UndeclaredId = Any (λ t. HasUntaken s n undeclared t) ts
+RefusesOneOf s n ts PluginRefused = Any (λ t. HasUntaken s n unwilling t) ts
+RefusesOneOf s n ts _ = ⊥

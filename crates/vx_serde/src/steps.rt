@@ -1,0 +1,139 @@
+//! The steps of one node, by what reads it: an encoding or a plugin.
+
+ghost use Rattle.std.specs.Prelude.{◌≡◌, IfOk, IfErr, IsSome, IsTrue, IsFalse};
+ghost use Rattle.vx_type_wire.specs.Lent.{lent_meaning};
+ghost use Rattle.vx_type_wire.specs.Session.{ext_meaning};
+ghost use Rattle.vx_array_tree.specs.Sound.{IsSound};
+ghost use Rattle.vx_array_tree.specs.Tree.{places};
+ghost use Rattle.vx_wire_tree.specs.Revised.{revised_holds as holds};
+ghost use Rattle.vx_registry.specs.Meaning.{plugins_meaning, session_meaning};
+ghost use Rattle.vx_registry.specs.Session.{entry_in};
+ghost use Rattle.vx_serde.specs.Decoding.{PlansBy, RefusesPlan, BuildsBy, RefusesBuild, refusal_of};
+
+use crate::error::WireError;
+use std::alloc::Global;
+use vx_arrays::{Array, Arrays};
+use vx_buffer::BufferHandles;
+use vx_encodings::{ArrayHead, ChildPlans, Encoding, build, plan, revised_holds};
+use vx_registry::{
+    ArrayDeserialization, ArrayPlugin, Entry, PluginError, VortexSession, build_by, plan_by,
+};
+use vx_type_wire::{ExtPlugin, Readers};
+
+/// What an entry plans of a node's children.
+pub(crate) fn plan_entry(
+    alloc: Global,
+    entry: Entry,
+    head: &ArrayHead,
+    session: &VortexSession,
+    ext: &Readers,
+) -> Result<ChildPlans, WireError>
+    requires lent { lent_meaning (λ r. accepted r.now) ext.now ≡ ext_meaning (λ b. accepted (b.vtable, b.value)) session.now.ext }
+    requires within { IsSome (entry_in (plugins_meaning (λ b. means (b.vtable, b.value)) session.now.arrays.plugins.items) entry) }
+    ensures plan { let s = session_meaning (λ b. means (b.vtable, b.value)) (λ b. accepted (b.vtable, b.value)) session.now in
+        IfOk result (λ ps. PlansBy s.ext (entry_in (plugins_meaning (λ b. means (b.vtable, b.value)) session.now.arrays.plugins.items) entry) head.now ps) }
+    ensures cause { let s = session_meaning (λ b. means (b.vtable, b.value)) (λ b. accepted (b.vtable, b.value)) session.now in
+        IfErr result (λ e. RefusesPlan e s.ext (entry_in (plugins_meaning (λ b. means (b.vtable, b.value)) session.now.arrays.plugins.items) entry) head.now) }
+{
+    match entry {
+        Entry::Shipped(encoding) => match plan(alloc, encoding, head, &session.ext) {
+            Ok(children) => Ok(children),
+            Err(e) => Err(WireError::from(e)),
+        },
+        Entry::Revised => match plan(alloc, Encoding::Primitive, head, &session.ext) {
+            Ok(children) => held(head, children),
+            Err(e) => Err(WireError::from(e)),
+        },
+        Entry::Boxed(number) => match session.arrays.plugin(number) {
+            Some(plugin) => match plan_by(alloc, plugin, head, ext) {
+                Ok(children) => Ok(children),
+                Err(e) => Err(plugin_refusal(e)),
+            },
+            None => unreachable!(),
+        },
+    }
+}
+
+/// The array that an entry builds of a node's parts.
+pub(crate) fn build_entry(
+    alloc: Global,
+    entry: Entry,
+    head: ArrayHead,
+    buffers: BufferHandles,
+    children: Arrays,
+    session: &VortexSession,
+    ext: &Readers,
+) -> Result<Array, WireError>
+    requires lent { lent_meaning (λ r. accepted r.now) ext.now ≡ ext_meaning (λ b. accepted (b.vtable, b.value)) session.now.ext }
+    requires within { IsSome (entry_in (plugins_meaning (λ b. means (b.vtable, b.value)) session.now.arrays.plugins.items) entry) }
+    requires planned { let s = session_meaning (λ b. means (b.vtable, b.value)) (λ b. accepted (b.vtable, b.value)) session.now in
+        PlansBy s.ext (entry_in (plugins_meaning (λ b. means (b.vtable, b.value)) session.now.arrays.plugins.items) entry) head (places children) }
+    ensures built { let s = session_meaning (λ b. means (b.vtable, b.value)) (λ b. accepted (b.vtable, b.value)) session.now in
+        IfOk result (λ t. BuildsBy s.ext (entry_in (plugins_meaning (λ b. means (b.vtable, b.value)) session.now.arrays.plugins.items) entry) head buffers children t) }
+    ensures sound { IfOk result IsSound }
+    ensures cause { let s = session_meaning (λ b. means (b.vtable, b.value)) (λ b. accepted (b.vtable, b.value)) session.now in
+        IfErr result (λ e. RefusesBuild e s.ext (entry_in (plugins_meaning (λ b. means (b.vtable, b.value)) session.now.arrays.plugins.items) entry) head buffers children) }
+{
+    match entry {
+        Entry::Shipped(encoding) => match build(
+            alloc,
+            encoding,
+            head,
+            buffers,
+            children,
+            &session.ext,
+        ) {
+            Ok(array) => Ok(array),
+            Err(e) => Err(WireError::from(e)),
+        },
+        Entry::Revised => match build(
+            alloc,
+            Encoding::Primitive,
+            head,
+            buffers,
+            children,
+            &session.ext,
+        ) {
+            Ok(array) => Ok(array),
+            Err(e) => Err(WireError::from(e)),
+        },
+        Entry::Boxed(number) => match session.arrays.plugin(number) {
+            Some(plugin) => {
+                let parts = ArrayDeserialization::new(
+                    head.serialized_id,
+                    head.dtype,
+                    head.len,
+                    head.metadata,
+                    buffers,
+                    children,
+                );
+                match build_by(alloc, plugin, parts, ext) {
+                    Ok(array) => Ok(array),
+                    Err(e) => Err(plugin_refusal(e)),
+                }
+            }
+            None => unreachable!(),
+        },
+    }
+}
+
+// What is planned of a node of primitives under two identifiers, where its identifier holds its length.
+fn held(head: &ArrayHead, children: ChildPlans) -> Result<ChildPlans, WireError>
+    ensures ok { IfOk result (λ ps. (ps ≡ children) × IsTrue (holds head.now.serialized_id head.now.len)) }
+    ensures err { IfErr result (λ e. (e ≡ WireError.BadShape) × IsFalse (holds head.now.serialized_id head.now.len)) }
+{
+    if !revised_holds(&head.serialized_id, head.len) {
+        return Err(WireError::BadShape);
+    }
+    Ok(children)
+}
+
+// A plugin's refusal as one of a blob.
+fn plugin_refusal(error: PluginError) -> WireError
+    ensures { result ≡ refusal_of error }
+{
+    match error {
+        PluginError::OutOfMemory => WireError::OutOfMemory,
+        PluginError::Refused => WireError::PluginRefused,
+    }
+}

@@ -1,0 +1,483 @@
+//! An array as it is written: each node as its writer takes it.
+
+ghost use Rattle.std.specs.Prelude.{◌≡◌, ◌≤◌, ◌<◌, ◌⊎◌, ◌++◌, ◌∷◌, [], Some, None, Err, length, slice_get, IfOk, IfErr, OnOk, IsOk, IsOkUnless};
+ghost use Rattle.vx_trees.specs.Rose.{node, label, below, count, roses_of, roses_list};
+ghost use Rattle.vx_trees.specs.Walks.{levels};
+ghost use Rattle.vx_types.specs.Known.{ExtMeaning};
+ghost use Rattle.vx_scalars.specs.Stats.{FitStats};
+ghost use Rattle.vx_array_tree.specs.Sound.{metadata_in};
+ghost use Rattle.vx_array_tree.specs.Table.{buffers_of};
+ghost use Rattle.vx_array_tree.specs.Tree.{Trees, Head, places};
+ghost use Rattle.vx_wire_tree.specs.Fields.{told};
+ghost use Rattle.vx_wire_tree.specs.Limits.{HasMessage, HasMessages};
+ghost use Rattle.vx_wire_tree.specs.Taken.{step, written, taken, IsTaken};
+ghost use Rattle.vx_encodings.specs.Messages.{message_bytes};
+ghost use Rattle.vx_registry.specs.Meaning.{arrays_meaning};
+ghost use Rattle.vx_registry.specs.Serialization.{array_id};
+ghost use Rattle.vx_serde.specs.Errors.{registry_refusal};
+ghost use Rattle.vx_serde.specs.Taking.{source_tree, taken_head, root_head, root_below, written_head, written_below, StandsAs, AreTaken, AreWithin, IsOpened, RefusesTaking, RefusesOneOf};
+
+use crate::error::WireError;
+use std::alloc::Global;
+use std::marker::Model;
+use vx_arrays::Array;
+use vx_buffer::{BufferHandle, BufferHandles};
+use vx_encodings::{has_message, metadata};
+use vx_registry::{
+    ArrayPlugin, ArraySerialization, ArraySession, RegistryError, WrittenRoot, written_id,
+    written_root,
+};
+use vx_scalars::StatsSet;
+use vx_types::{Blob, Id};
+
+/// An array that is written: one that is lent, or, below what a plugin gave, one that is held.
+#[derive(Drop)]
+pub(crate) enum Source<'a> {
+    Lent(&'a Array),
+    Held(Array),
+}
+
+impl<'a> Source<'a> {
+    /// The array.
+    fn array(&self) -> &Array
+        ensures { result.now ≡ source_tree self.now }
+    {
+        match self {
+            Source::Lent(array) => array,
+            Source::Held(array) => array,
+        }
+    }
+}
+
+// A copy of an array, which is held.
+fn copy_of<'a>(alloc: Global, array: &Array) -> Result<Source<'a>, WireError>
+    ensures ok { IfOk result (λ s. source_tree s ≡ array.now) }
+    ensures err { IsOkUnless result WireError.OutOfMemory }
+{
+    match array.clone(alloc) {
+        Ok(copy) => Ok(Source::Held(copy)),
+        Err(_) => Err(WireError::OutOfMemory),
+    }
+}
+
+// A child of an array: lent, where the array is lent itself, or a copy.
+fn child_of<'a>(alloc: Global, source: &Source<'a>, i: usize) -> Result<Source<'a>, WireError>
+    requires { i < count (below (source_tree source.now)) }
+    ensures ok { IfOk result (λ s. slice_get (roses_list (below (source_tree source.now))) i ≡ Some (source_tree s)) }
+    ensures err { IsOkUnless result WireError.OutOfMemory }
+{
+    match source {
+        Source::Lent(array) => Ok(Source::Lent(lent_child(array, i))),
+        Source::Held(array) => {
+            let child = lent_child(array, i);
+            copy_of(alloc, child)
+        }
+    }
+}
+
+// A child of an array.
+fn lent_child(array: &Array, i: usize) -> &Array
+    requires { i < count (below array.now) }
+    ensures { slice_get (roses_list (below array.now)) i ≡ Some result.now }
+{
+    let children = array.children();
+    one_of(children, i)
+}
+
+// One of several arrays.
+fn one_of(arrays: &[Array], i: usize) -> &Array
+    requires { i < length arrays.now }
+    ensures { slice_get (roses_list (roses_of arrays.now)) i ≡ Some result.now }
+{
+    &arrays[i]
+}
+
+/// The parts that a plugin gives for an array's root.
+#[derive(Drop)]
+pub(crate) struct GivenParts {
+    id: Id,
+    metadata: Blob,
+    buffers: BufferHandles,
+}
+
+/// A node as it is written, with those below it: as an array's root is, or with the parts that a plugin gives for it.
+/// Contracts see the tree that is written.
+#[derive(Drop)]
+pub(crate) struct TakenNode<'a> {
+    source: Source<'a>,
+    given: Option<GivenParts>,
+    children: Vec<TakenNode<'a>>,
+}
+
+impl<'a> Model for TakenNode<'a> {
+    ghost use Rattle.vx_array_tree.specs.Tree.{Tree, tree_code};
+
+    ghost Value = { Tree };
+
+    ghost coded = { tree_code };
+
+    ghost use Rattle.std.proofs.Common.{arith};
+    ghost use Rattle.vx_trees.specs.Rose.{node, label, below, roses_of};
+    ghost use Rattle.vx_trees.specs.Walks.{nodes};
+    ghost use Rattle.vx_trees.proofs.Counting.{most_le-nodes};
+    ghost use Rattle.vx_scalars.specs.Stats.{FitStats};
+    ghost use Rattle.vx_serde.specs.Taking.{source_tree, taken_head, StandsAs};
+
+    ghost view = { λ n. node (taken_head (label (source_tree n.source)) n.given) (roses_of n.children.items) };
+
+    ghost invariant = { λ n. StandsAs n.given (roses_of n.children.items) (below (source_tree n.source)) };
+
+    ghost size = { nodes };
+
+    ghost size_decreases = { λ n h. Prim.omega (arith, most_le-nodes n.children.items) };
+}
+
+impl From<RegistryError> for WireError {
+    ghost from_gives = { λ r e. e ≡ registry_refusal r };
+
+    fn from(e: RegistryError) -> WireError {
+        match e {
+            RegistryError::OutOfMemory => WireError::OutOfMemory,
+            RegistryError::NotRegistered => WireError::NotRegistered,
+            RegistryError::UndeclaredId => WireError::UndeclaredId,
+            RegistryError::PluginRefused => WireError::PluginRefused,
+            RegistryError::WireLimit => WireError::WireLimit,
+        }
+    }
+}
+
+impl<'a> TakenNode<'a> {
+    /// The identifier under which the node is written, where primitives are written under two or not.
+    pub(crate) fn written_id(&self, alloc: Global, two: bool) -> Result<Id, WireError>
+        ensures ok { IfOk result (λ id. id ≡ array_id two self.now) }
+        ensures err { IsOkUnless result WireError.OutOfMemory }
+    {
+        match &self.given {
+            Some(given) => match given.id.clone(alloc) {
+                Ok(id) => Ok(id),
+                Err(_) => Err(WireError::OutOfMemory),
+            },
+            None => match written_id(alloc, self.source.array(), two) {
+                Ok(id) => Ok(id),
+                Err(_) => Err(WireError::OutOfMemory),
+            },
+        }
+    }
+
+    /// The bytes of its metadata.
+    pub(crate) fn metadata(&self, alloc: Global) -> Result<Blob, WireError>
+        ensures ok { IfOk result (λ bytes. bytes ≡ message_bytes (told (metadata_in (label self.now) (below self.now)))) }
+        ensures err { IsOkUnless result WireError.OutOfMemory }
+    {
+        match &self.given {
+            Some(given) => match given.metadata.clone(alloc) {
+                Ok(bytes) => Ok(bytes),
+                Err(_) => Err(WireError::OutOfMemory),
+            },
+            None => own_metadata(alloc, self.source.array()),
+        }
+    }
+
+    /// How many buffers it has itself.
+    pub(crate) fn nbuffers(&self) -> usize
+        ensures { result ≡ length (buffers_of (label self.now).body) }
+    {
+        match &self.given {
+            Some(given) => given.buffers.len(),
+            None => self.source.array().nbuffers(),
+        }
+    }
+
+    /// Its buffer at this place.
+    pub(crate) fn buffer(&self, i: usize) -> &BufferHandle
+        requires { i < length (buffers_of (label self.now).body) }
+        ensures { slice_get (buffers_of (label self.now).body) i ≡ Some result.now }
+    {
+        match &self.given {
+            Some(given) => match given.buffers.get(i) {
+                Some(buffer) => buffer,
+                None => unreachable!(),
+            },
+            None => self.source.array().buffer(i),
+        }
+    }
+
+    /// Its statistics.
+    pub(crate) fn statistics(&self) -> &StatsSet
+        ensures stats { result.now ≡ (label self.now).stats }
+        ensures fits { FitStats (label self.now).dtype (label self.now).stats }
+    {
+        self.source.array().statistics()
+    }
+
+    /// The nodes below it.
+    pub(crate) fn children(&self) -> &[TakenNode<'a>]
+        ensures children { roses_of result.now ≡ below self.now }
+    {
+        self.children.as_slice()
+    }
+}
+
+// The bytes of the metadata of an array's root, of which it was judged that they fit their message.
+fn own_metadata(alloc: Global, array: &Array) -> Result<Blob, WireError>
+    ensures ok { IfOk result (λ bytes. bytes ≡ message_bytes (told (metadata_in (label array.now) (below array.now)))) }
+    ensures err { IsOkUnless result WireError.OutOfMemory }
+{
+    match metadata(alloc, array) {
+        Ok(bytes) => Ok(bytes),
+        Err(_) => Err(WireError::OutOfMemory),
+    }
+}
+
+/// A root that is written: as it is, or as the parts that a plugin gives for it.
+#[derive(Drop)]
+struct TakenRoot<'a> {
+    source: Source<'a>,
+    given: Option<ArraySerialization>,
+}
+
+impl<'a> TakenRoot<'a> {
+    /// How many arrays it is written over.
+    fn nchildren(&self) -> usize
+        ensures { result ≡ count (written_below self.now) }
+    {
+        match &self.given {
+            Some(parts) => parts.children.len(),
+            None => self.source.array().children().len(),
+        }
+    }
+
+    /// One of the arrays that it is written over: lent, where it can be, or a copy.
+    fn child(&self, alloc: Global, i: usize) -> Result<Source<'a>, WireError>
+        requires { i < count (written_below self.now) }
+        ensures ok { IfOk result (λ s. slice_get (roses_list (written_below self.now)) i ≡ Some (source_tree s)) }
+        ensures err { IsOkUnless result WireError.OutOfMemory }
+    {
+        match &self.given {
+            Some(parts) => {
+                let arrays = parts.children.as_slice();
+                let array = one_of(arrays, i);
+                copy_of(alloc, array)
+            }
+            None => child_of(alloc, &self.source, i),
+        }
+    }
+
+    /// The node, over those below it.
+    fn over(self, children: Vec<TakenNode<'a>>) -> TakenNode<'a>
+        requires { places (roses_of children.items) ≡ places (written_below self) }
+        ensures { result ≡ node (written_head self.entry) (roses_of children.entry.items) }
+    {
+        let TakenRoot { source, given } = self;
+        let given = given_parts(given);
+        TakenNode {
+            source,
+            given,
+            children,
+        }
+    }
+}
+
+// The parts that a plugin gives for a root itself, without the arrays below it.
+fn given_parts(parts: Option<ArraySerialization>) -> Option<GivenParts>
+    ensures head { (h : Head) → taken_head h result ≡ root_head h parts }
+    ensures stands { (us ts : Trees) → places us ≡ places (root_below ts parts) → StandsAs result us ts }
+{
+    match parts {
+        Some(parts) => {
+            let ArraySerialization {
+                serialized_id: id,
+                metadata,
+                buffers,
+                children,
+            } = parts;
+            drop(children);
+            Some(GivenParts {
+                id,
+                metadata,
+                buffers,
+            })
+        }
+        None => None,
+    }
+}
+
+// The parts that a plugin gives for an array's root, where there is room for so many levels; none, where the root is
+// written as it is. `WireLimit` where there is no room or its metadata does not fit its message, else as `written_root`.
+fn parts_of(
+    alloc: Global,
+    array: &Array,
+    arrays: &ArraySession,
+    unknown: bool,
+    room: usize,
+) -> Result<Option<ArraySerialization>, WireError>
+    ensures room { OnOk result (0 < room) }
+    ensures step { (x : ExtMeaning) → x.unknown ≡ unknown → IfOk result (λ p. step (arrays_meaning (λ b. means (b.vtable, b.value)) arrays.now x) array.now ≡ written (root_head (label array.now) p) (root_below (below array.now) p)) }
+    ensures message { IfOk result (λ p. HasMessage (root_head (label array.now) p) (root_below (below array.now) p)) }
+    ensures cause { (x : ExtMeaning) → x.unknown ≡ unknown → IfErr result (RefusesTaking (arrays_meaning (λ b. means (b.vtable, b.value)) arrays.now x) room array.now) }
+{
+    if room == 0 {
+        return Err(WireError::WireLimit);
+    }
+    match written_root(alloc, array, arrays, unknown) {
+        Ok(WrittenRoot::Own) => {
+            if !has_message(array) {
+                return Err(WireError::WireLimit);
+            }
+            Ok(None)
+        }
+        Ok(WrittenRoot::Given(parts)) => Ok(Some(parts)),
+        Ok(WrittenRoot::Nothing) => Err(WireError::NotSerializable),
+        Err(e) => Err(WireError::from(e)),
+    }
+}
+
+/// A root that is written, and the nodes below it that are taken so far. It is handed on or dropped by hand wherever it is
+/// held: where it falls by itself, the proof spells out each of its parts.
+#[derive(Drop)]
+struct OpenRoot<'a> {
+    root: TakenRoot<'a>,
+    children: Vec<TakenNode<'a>>,
+}
+
+impl<'a> OpenRoot<'a> {
+    /// The root of an array, where there is room for so many levels. The refusals are those of `take`.
+    fn new(
+        alloc: Global,
+        source: Source<'a>,
+        arrays: &ArraySession,
+        unknown: bool,
+        room: usize,
+    ) -> Result<OpenRoot<'a>, WireError>
+        ensures room { OnOk result (0 < room) }
+        ensures none { IfOk result (λ o. o.children.items ≡ []) }
+        ensures step { (x : ExtMeaning) → x.unknown ≡ unknown → IfOk result (λ o. step (arrays_meaning (λ b. means (b.vtable, b.value)) arrays.now x) (source_tree source.entry) ≡ written (written_head o.root) (written_below o.root)) }
+        ensures message { IfOk result (λ o. HasMessage (written_head o.root) (written_below o.root)) }
+        ensures cause { (x : ExtMeaning) → x.unknown ≡ unknown → IfErr result (RefusesTaking (arrays_meaning (λ b. means (b.vtable, b.value)) arrays.now x) room (source_tree source.entry)) }
+    {
+        let parts = parts_of(alloc, source.array(), arrays, unknown, room);
+        match parts {
+            Ok(given) => Ok(OpenRoot {
+                root: TakenRoot { source, given },
+                children: Vec::new(alloc),
+            }),
+            Err(e) => {
+                drop(source);
+                Err(e)
+            }
+        }
+    }
+
+    /// How many arrays it is written over.
+    fn nchildren(&self) -> usize
+        ensures { result ≡ count (written_below self.now.root) }
+    {
+        self.root.nchildren()
+    }
+
+    /// The root of one of the arrays below it, where there is room for so many levels.
+    fn child(
+        &self,
+        alloc: Global,
+        arrays: &ArraySession,
+        unknown: bool,
+        room: usize,
+        i: usize,
+    ) -> Result<OpenRoot<'a>, WireError>
+        requires { i < count (written_below self.now.root) }
+        ensures room { OnOk result (0 < room) }
+        ensures none { IfOk result (λ o. o.children.items ≡ []) }
+        ensures opened { (x : ExtMeaning) → x.unknown ≡ unknown → IfOk result (λ o. IsOpened (arrays_meaning (λ b. means (b.vtable, b.value)) arrays.now x) (written_below self.now.root) i (written_head o.root) (written_below o.root)) }
+        ensures message { IfOk result (λ o. HasMessage (written_head o.root) (written_below o.root)) }
+        ensures cause { (x : ExtMeaning) → x.unknown ≡ unknown → IfErr result (RefusesOneOf (arrays_meaning (λ b. means (b.vtable, b.value)) arrays.now x) room (written_below self.now.root)) }
+    {
+        match self.root.child(alloc, i) {
+            Ok(below) => OpenRoot::new(alloc, below, arrays, unknown, room),
+            Err(e) => Err(e),
+        }
+    }
+
+    /// One more node below it: a root, once the nodes below that one are taken.
+    fn close(&mut self, child: OpenRoot<'a>, filled: Result<(), WireError>) -> Result<(), WireError>
+        requires { IsOk filled → places (roses_of child.children.items) ≡ places (written_below child.root) }
+        ensures root { self.new.root ≡ self.old.root }
+        ensures well { OnOk result (IsOk filled) }
+        ensures children { OnOk result (self.new.children.items ≡ self.old.children.items ++ node (written_head child.entry.root) (roses_of child.entry.children.items) ∷ []) }
+        ensures cause { IfErr result (λ e. (e ≡ WireError.OutOfMemory) ⊎ (filled ≡ Err e)) }
+    {
+        match filled {
+            Ok(()) => {
+                let OpenRoot { root, children } = child;
+                let node = root.over(children);
+                match self.children.push(node) {
+                    Ok(()) => Ok(()),
+                    Err(_) => Err(WireError::OutOfMemory),
+                }
+            }
+            Err(e) => {
+                drop(child);
+                Err(e)
+            }
+        }
+    }
+}
+
+// The nodes below a root, each as it is taken where there is room for so many levels below the root.
+fn fill<'a>(
+    alloc: Global,
+    above: &mut OpenRoot<'a>,
+    arrays: &ArraySession,
+    unknown: bool,
+    room: usize,
+) -> Result<(), WireError>
+    requires none { above.old.children.items ≡ [] }
+    ensures root { above.new.root ≡ above.old.root }
+    ensures taken { (x : ExtMeaning) → x.unknown ≡ unknown → OnOk result (AreTaken (arrays_meaning (λ b. means (b.vtable, b.value)) arrays.now x) room (roses_list (written_below above.old.root)) above.new.children.items) }
+    ensures within { OnOk result (AreWithin room above.new.children.items) }
+    ensures cause { (x : ExtMeaning) → x.unknown ≡ unknown → IfErr result (RefusesOneOf (arrays_meaning (λ b. means (b.vtable, b.value)) arrays.now x) room (written_below above.old.root)) }
+{
+    for i in 0..above.nchildren() {
+        let mut child = match above.child(alloc, arrays, unknown, room, i) {
+            Ok(child) => child,
+            Err(e) => return Err(e),
+        };
+        let filled = fill(alloc, &mut child, arrays, unknown, room - 1);
+        match above.close(child, filled) {
+            Ok(()) => {}
+            Err(e) => return Err(e),
+        }
+    }
+    Ok(())
+}
+
+/// How the nodes of an array are written: `WireLimit` where there are more than `room` levels, whatever plugins give, or a
+/// node's metadata does not fit its message; `NotRegistered` where nothing writes a node, `NotSerializable`,
+/// `UndeclaredId` and `PluginRefused` where a plugin does not.
+pub(crate) fn take<'a>(
+    alloc: Global,
+    source: Source<'a>,
+    arrays: &ArraySession,
+    unknown: bool,
+    room: usize,
+) -> Result<TakenNode<'a>, WireError>
+    ensures tree { (x : ExtMeaning) → x.unknown ≡ unknown → IfOk result (λ n. n ≡ taken (arrays_meaning (λ b. means (b.vtable, b.value)) arrays.now x) room (source_tree source.entry)) }
+    ensures written { (x : ExtMeaning) → x.unknown ≡ unknown → OnOk result (IsTaken (arrays_meaning (λ b. means (b.vtable, b.value)) arrays.now x) room (source_tree source.entry)) }
+    ensures levels { IfOk result (λ n. levels n ≤ room) }
+    ensures messages { IfOk result HasMessages }
+    ensures cause { (x : ExtMeaning) → x.unknown ≡ unknown → IfErr result (RefusesTaking (arrays_meaning (λ b. means (b.vtable, b.value)) arrays.now x) room (source_tree source.entry)) }
+{
+    let mut above = match OpenRoot::new(alloc, source, arrays, unknown, room) {
+        Ok(above) => above,
+        Err(e) => return Err(e),
+    };
+    match fill(alloc, &mut above, arrays, unknown, room - 1) {
+        Ok(()) => {
+            let OpenRoot { root, children } = above;
+            Ok(root.over(children))
+        }
+        Err(e) => {
+            drop(above);
+            Err(e)
+        }
+    }
+}

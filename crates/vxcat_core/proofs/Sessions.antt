@@ -1,0 +1,46 @@
+-- The session that the program makes.
+use Rattle.std.proofs.Common.{◌≡◌, ℕ, Bool, true, false, List, Global, sym, ap, ◌∙◌}
+use Rattle.std.specs.declared.dyn_box.DynBox.{DynBox}
+use Rattle.vx_types.specs.Known.{ExtMeaning}
+use Rattle.vx_types.specs.Typ.{Typ}
+use Rattle.vx_type_wire.specs.Session.{ext_meaning}
+use Rattle.vx_type_wire.specs.declared.readers.ExtSession.{ExtSession}
+use Rattle.vx_wire_tree.specs.Plugin.{PluginMeaning}
+use Rattle.vx_wire_tree.specs.Session.{IsShipped}
+use Rattle.vx_registry.specs.declared.array_session.ArraySession.{ArraySession}
+use Rattle.vx_registry.specs.declared.session.VortexSession.{VortexSession}
+use Rattle.vx_registry.specs.Meaning.{arrays_meaning, session_meaning}
+use Rattle.vx_registry.proofs.LawsSessions.{shipped_alone, revised_alone}
+use Rattle.vxcat_core.specs.Recode.{readers_by, session_by, shipped_by}
+
+-- The session that the program makes means the shipped encodings, and no readers.
+pub same_session : {Y : Type 0} {G : Y → Type 0} {X : Type 0} {F : X → Type 0} (means : DynBox Y Global G → PluginMeaning) (accepted : DynBox X Global F → List ℕ → Typ → Bool)
+    (session : VortexSession Y X G F) (arrays : ArraySession Y G) (ext : ExtSession X F) (revised unknown : Bool)
+    → session.arrays ≡ arrays → session.ext ≡ ext → ((x : ExtMeaning) → arrays_meaning means arrays x ≡ shipped_by revised x) → ext_meaning accepted ext ≡ readers_by unknown
+    → session_meaning means accepted session ≡ session_by revised unknown
+same_session means accepted session arrays ext revised unknown a e shipped none =
+    ap (λ z. arrays_meaning means z (ext_meaning accepted session.ext)) a ∙ (shipped (ext_meaning accepted session.ext) ∙ ap (λ (x : ExtMeaning). shipped_by revised x) (ap (λ z. ext_meaning accepted z) e ∙ none))
+
+-- Once what is unknown is allowed, the readers of extensions are none, and their flag is set.
+unknown_allowed : (x y : ExtMeaning) (unknown : Bool) → x ≡ readers_by false → ((id : List ℕ) → y.reader id ≡ x.reader id) → y.unknown ≡ true → unknown ≡ true → y ≡ readers_by unknown
+unknown_allowed x y unknown before readers allowed is = λ k. record { reader = λ id. (readers id ∙ ap (λ (m : ExtMeaning). m.reader id) before) k; unknown = (allowed ∙ sym is) k }
+
+-- And the session means the shipped encodings beside these.
+pub allowing_session : {Y : Type 0} {G : Y → Type 0} {X : Type 0} {F : X → Type 0} (means : DynBox Y Global G → PluginMeaning) (accepted : DynBox X Global F → List ℕ → Typ → Bool)
+    (session : VortexSession Y X G F) (arrays : ArraySession Y G) (ext after : ExtSession X F) (revised unknown : Bool)
+    → session.arrays ≡ arrays → session.ext ≡ ext → ((x : ExtMeaning) → arrays_meaning means arrays x ≡ shipped_by revised x) → ext_meaning accepted ext ≡ readers_by false
+    → ((id : List ℕ) → (ext_meaning accepted after).reader id ≡ (ext_meaning accepted session.ext).reader id) → (ext_meaning accepted after).unknown ≡ true → unknown ≡ true
+    → arrays_meaning means session.arrays (ext_meaning accepted after) ≡ session_by revised unknown
+allowing_session means accepted session arrays ext after revised unknown a e shipped before readers allowed is =
+    let own = unknown_allowed (ext_meaning accepted session.ext) (ext_meaning accepted after) unknown (ap (λ x. ext_meaning accepted x) e ∙ before) readers allowed is in
+    ap (λ z. arrays_meaning means z (ext_meaning accepted after)) a ∙ (shipped (ext_meaning accepted after) ∙ ap (λ (x : ExtMeaning). shipped_by revised x) own)
+
+-- It reads and writes by shipped encodings alone.
+pub shipped_session : (revised : Bool) (x : ExtMeaning) → IsShipped (shipped_by revised x)
+shipped_session false x = shipped_alone x
+shipped_session true x = revised_alone x
+
+-- What a session holds that was made with two identifiers of primitives, or with one, is what the flag asks.
+pub arrays_asked : {Y : Type 0} {G : Y → Type 0} (means : DynBox Y Global G → PluginMeaning) (held made : ArraySession Y G) (asked revised : Bool)
+    → held ≡ made → asked ≡ revised → ((x : ExtMeaning) → arrays_meaning means made x ≡ shipped_by revised x) → (x : ExtMeaning) → arrays_meaning means held x ≡ shipped_by asked x
+arrays_asked means held made asked revised same is shipped x = ap (λ z. arrays_meaning means z x) same ∙ (shipped x ∙ ap (λ (t : Bool). shipped_by t x) (sym is))
