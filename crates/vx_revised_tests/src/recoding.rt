@@ -87,10 +87,12 @@ fn rows_are_read_under_what_holds_them_and_written_by_their_length(rt: HostRunti
         (Kind::Two, 5, SECOND, true),
         (Kind::Two, 8, SECOND, true),
         (Kind::TwoAlone, 4, OLD, false),
+        (Kind::TwoAlone, 4, SECOND, false),
         (Kind::TwoAlone, 5, SECOND, true),
         (Kind::OneAgain, 4, OLD, false),
         (Kind::OneAgain, 5, OLD, false),
         (Kind::OneAgain, 8, OLD, false),
+        (Kind::OneAgain, 4, SECOND, false),
         (Kind::OneAgain, 5, SECOND, false),
     ];
     for (kind, count, text, second) in rows {
@@ -113,6 +115,7 @@ fn rows_are_refused_under_what_does_not_hold_them(rt: HostRuntime) {
         (Kind::Two, 8, OLD, WireError::BadShape),
         (Kind::TwoAlone, 5, OLD, WireError::BadShape),
         (Kind::One, 4, SECOND, WireError::UnknownEncoding),
+        (Kind::One, 5, SECOND, WireError::UnknownEncoding),
         (Kind::One, 8, SECOND, WireError::UnknownEncoding),
     ];
     for (kind, count, text, error) in rows {
