@@ -35,7 +35,7 @@ use Rattle.vx_array_tree.specs.Place.{Place, place, exactly, places_at}
 use Rattle.vx_array_tree.specs.Normal.{IsNormalBy, AreForeignAt}
 use Rattle.vx_array_tree.specs.Table.{metadata_of, plan_of, encoding_of, lifted, Allows, IsNative, IsNormalBody}
 use Rattle.vx_array_tree.specs.Tree.{Head, Trees, places}
-use Rattle.vx_types.proofs.Nullabilities.{nullable_under, own_nullability, twice_nullability, same_nullability}
+use Rattle.vx_types.proofs.LawsOfTypes.{nullable_under, own_nullability, twice_nullability, same_nullability}
 use Rattle.vx_array_tree.proofs.Options.{mapped}
 use Rattle.vx_array_tree.proofs.Plans.{exactly_is}
 

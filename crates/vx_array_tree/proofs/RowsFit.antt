@@ -33,8 +33,7 @@ use Rattle.vx_array_tree.specs.Encodings.Exts as Exts
 use Rattle.vx_array_tree.specs.Encodings.Structs as Structs
 use Rattle.vx_array_tree.specs.Encodings.Unions as Unions
 use Rattle.vx_array_tree.specs.Encodings.Dicts as Dicts
-use Rattle.vx_types.proofs.FitsAgain.{fits_nullable, fits_extension, fits_map}
-use Rattle.vx_types.proofs.Nullabilities.{nullable_under}
+use Rattle.vx_types.proofs.LawsOfTypes.{fits_nullable, fits_extension, fits_map, nullable_under}
 use Rattle.vx_array_tree.proofs.Options.{mapped, let_through}
 use Rattle.vx_array_tree.proofs.Plans.{exactly_is}
 

@@ -8,7 +8,7 @@ use Rattle.vx_trees.specs.Same.{same}
 use Rattle.vx_trees.proofs.Lists.{count-roses_of}
 use Rattle.vx_trees.proofs.Sameness.{same-decides}
 use Rattle.vx_trees.specs.Walks.{nodes, nodes_of}
-use Rattle.vx_types.proofs.Nullabilities.{nullable_under, same_nullability}
+use Rattle.vx_types.proofs.LawsOfTypes.{nullable_under, same_nullability}
 use Rattle.vx_types.specs.Kind.{primitive, boolean}
 use Rattle.vx_types.specs.Numbers.{is_integer}
 use Rattle.vx_types.specs.Typ.{Typ, typ_code}

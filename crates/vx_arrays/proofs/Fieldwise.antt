@@ -14,12 +14,12 @@ use Rattle.vx_types.specs.Value.{Value, Values, tuple, variant_of}
 use Rattle.vx_types.specs.Value as V
 use Rattle.vx_types.specs.declared.dtype.DType.{DType}
 use Rattle.vx_types.specs.declared.nullability.Nullability.TheVariants.{NonNullable}
-use Rattle.vx_types.proofs.Lists.{typs-at}
+use Rattle.vx_types.proofs.LawsOfTypes.{typs-at}
 use Rattle.vx_scalars.specs.Seen.{all_seen, seen, value_of}
 use Rattle.vx_scalars.specs.Told.{Typed}
 use Rattle.vx_scalars.specs.declared.value.ScalarValue.{ScalarValue}
 use Rattle.vx_scalars.specs.declared.value.ScalarValue.TheVariants as S
-use Rattle.vx_scalars.proofs.Lists.{by-at, seen-at, seen-length}
+use Rattle.vx_scalars.proofs.LawsOfLists.{by-at, seen-at, seen-length}
 use Rattle.vx_array_tree.specs.Merge.{Named, Raw, each_wrapped, kept, merged, names_of, raw_field, structure_at, types_of, values_of, variants, wrapped}
 use Rattle.vx_arrays.specs.Merging.{AreNamed, given_at, left_over, merged_at, not_null, other_at}
 use Rattle.vx_arrays.specs.declared.named_variants.NamedVariants.{NamedVariants}

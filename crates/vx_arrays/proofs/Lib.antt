@@ -1,5 +1,5 @@
 mod Naturals
-pub mod Cloned
+mod Cloned
 mod Rising
 mod PlainOffsets
 mod Parted

@@ -14,7 +14,7 @@ use Rattle.vx_proto.specs.Value.{entries_of, number}
 use Rattle.vx_proto.specs.Written.{written, written_entries, varint_bytes, nested}
 use Rattle.vx_proto.proofs.LawsOfMessages.{reads_one, written_shown}
 use Rattle.vx_proto.proofs.LawsOfParts.{IfStands, InRange, slot_with, whole_form}
-use Rattle.vx_proto.proofs.Spelled.{varint_spelled}
+use Rattle.vx_proto.proofs.LawsOfBytes.{varint_spelled}
 use Rattle.vx_array_tree.specs.Encoding as E
 use Rattle.vx_array_tree.specs.Metadata.{Metadata}
 use Rattle.vx_array_tree.specs.Metadata as M

@@ -10,7 +10,7 @@ use Rattle.vx_proto.specs.Reads.{Reads}
 use Rattle.vx_proto.specs.Written.{written, varint_bytes}
 use Rattle.vx_proto.proofs.LawsOfMessages.{reads_one, written_shown}
 use Rattle.vx_proto.proofs.LawsOfParts.{whole_form}
-use Rattle.vx_proto.proofs.Spelled.{varint_spelled}
+use Rattle.vx_proto.proofs.LawsOfBytes.{varint_spelled}
 use Rattle.vx_array_tree.specs.Encoding as E
 use Rattle.vx_array_tree.specs.Metadata.{Metadata}
 use Rattle.vx_array_tree.specs.Metadata as M

@@ -9,7 +9,7 @@ use Rattle.vx_proto.specs.Value.{number}
 use Rattle.vx_proto.specs.Written.{written, varint_bytes}
 use Rattle.vx_proto.proofs.LawsOfMessages.{reads_one, written_shown}
 use Rattle.vx_proto.proofs.LawsOfParts.{IsNumeric, whole_form}
-use Rattle.vx_proto.proofs.Spelled.{varint_spelled}
+use Rattle.vx_proto.proofs.LawsOfBytes.{varint_spelled}
 use Rattle.vx_encodings.specs.NumberMessage.{number_schema, number_parts, number_value, number_bytes, same_value}
 
 -- Bytes show one number at most.

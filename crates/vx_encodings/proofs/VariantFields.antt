@@ -12,8 +12,7 @@ use Rattle.vx_proto.proofs.LawsOfMessages.{reads_one, written_shown}
 use Rattle.vx_proto.proofs.LawsOfParts.{whole_form}
 use Rattle.vx_type_wire.specs.Known.{IsRead}
 use Rattle.vx_type_wire.specs.TypeMessage.{type_message, IsMessageOf}
-use Rattle.vx_type_wire.proofs.MessageForm.{type_form, type_depth}
-use Rattle.vx_type_wire.proofs.MessageFound.{message-injective}
+use Rattle.vx_type_wire.proofs.LawsTypes.{type_form, type_depth, message-injective}
 use Rattle.vx_array_tree.specs.Encoding as E
 use Rattle.vx_array_tree.specs.Encodings.Variants.{IsFair, metadata_of}
 use Rattle.vx_array_tree.specs.Metadata.{Metadata}

@@ -10,7 +10,7 @@ use Rattle.vx_proto.specs.Schema.{Schema, list_at, nested}
 use Rattle.vx_proto.specs.Value.{Value}
 use Rattle.vx_proto.specs.Written.{written}
 use Rattle.vx_proto.proofs.LawsOfParts.{Part, Parts, Both, IfStands, ◌and◌, nothing, nested_part}
-use Rattle.vx_proto.proofs.Longer.{same_form}
+use Rattle.vx_proto.proofs.LawsOfForms.{same_form}
 use Rattle.vx_type_wire.specs.Known.{IsRead}
 use Rattle.vx_type_wire.specs.TypeMessage.{IsMessageOf, most_levels, type_lists, type_lists_lawful, type_message}
 use Rattle.vx_array_tree.specs.Encodings.Variants.{IsFair}

@@ -16,9 +16,11 @@ use Rattle.vx_flat.specs.Shows.{ShowsAt}
 use Rattle.vx_flat.specs.Value.{Field, Fields, texts, tables}
 use Rattle.vx_flat.specs.View.{rows_from}
 use Rattle.vx_flat.proofs.AnyRoot.{shown_at_root}
-use Rattle.vx_flat.proofs.ReadingViews.{view_parts, strings_in, strings_are, texts_whole, tables_in, tables_are, tables_whole}
+use Rattle.vx_flat.proofs.ReadingViews.{view_parts, strings_are, texts_whole, tables_are, tables_whole}
 use Rattle.vx_flat.proofs.Seeing.{view_inline}
 use Rattle.vx_flat.proofs.SeeingElements.{have}
+-- The tables, or the texts, that a field holds.
+pub use Rattle.vx_flat.proofs.ReadingViews.{tables_in, strings_in}
 
 -- What a view sees is its parts, in the order of the fields.
 pub seen-parts : (v : View) → seen v ≡ from_parts (kinds_in v) (λ i. part_in v i) 0

@@ -8,7 +8,7 @@ use Rattle.vx_flat.specs.Reading.{shown_within, table_shown}
 use Rattle.vx_flat.specs.Layout.{layout, bytes_of}
 use Rattle.vx_flat_tests.specs.Worked.{array_schema, array_value, array_message, type_schema, type_value, type_message}
 use Rattle.vx_flat_tests.specs.Worked.{nodes_value, nodes_message}
-use Rattle.vx_flat.proofs.Agree.{table_sound}
+use Rattle.vx_flat.proofs.LawsOfMessages.{table_sound}
 
 -- ---- the array
 

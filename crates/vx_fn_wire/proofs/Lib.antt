@@ -1,10 +1,10 @@
-pub mod Forms
-pub mod Lists
-pub mod Texts
-pub mod Given
-pub mod AggregateParts
-pub mod ExprParts
-pub mod ReadNodes
-pub mod ReadExprs
+mod Forms
+mod Lists
+mod Texts
+mod Given
+mod AggregateParts
+mod ExprParts
+mod ReadNodes
+mod ReadExprs
 pub mod LawsOfExpressions
-pub mod ReadBytes
+mod ReadBytes

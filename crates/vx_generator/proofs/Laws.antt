@@ -16,9 +16,12 @@ use Rattle.vx_generator.specs.Columns.{columns}
 use Rattle.vx_generator.specs.Made.{data_len, made, made_type}
 use Rattle.vx_generator.specs.Summary.{line_of, summary}
 use Rattle.vx_generator.proofs.Fitting.{fit}
-use Rattle.vx_generator.proofs.Grown.{few, validity_len}
+use Rattle.vx_generator.proofs.Grown.{validity_len}
 use Rattle.vx_generator.proofs.Sound.{table_sound}
 use Rattle.vx_generator.proofs.Tabled.{long_len, views_len}
+-- Its numbers, validity, codes, elements and offsets have few bytes together, and its dictionary few values.
+pub use Rattle.vx_generator.proofs.Fitting.{small}
+pub use Rattle.vx_generator.proofs.Grown.{few}
 
 -- It is sound.
 pub made_sound : (seed rows : ℕ) → rows ≤ 1000000 → IsSound (made seed rows)

@@ -1,9 +1,9 @@
-pub mod Grown
-pub mod Sound
-pub mod Fitting
-pub mod Tabled
-pub mod Bits
-pub mod Pieces
-pub mod Rows
+mod Grown
+mod Sound
+mod Fitting
+mod Tabled
+mod Bits
+mod Pieces
+mod Rows
 pub mod Laws
 mod Worked

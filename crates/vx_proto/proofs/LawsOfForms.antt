@@ -9,6 +9,8 @@ use Rattle.vx_proto.specs.Schema.{Slot, Schema, list_at, kind_in, members_of}
 use Rattle.vx_proto.specs.Value.{Content, number, octets, message, Slots, Entry, Value, entries_of, slots_of, list_of, value_of}
 use Rattle.vx_proto.specs.Form.{FormContent, FormEntries, FormSlots, FormWithin, HasForm}
 use Rattle.vx_proto.specs.Written.{content_depth, entries_depth, slots_depth, nested}
+-- A value has a form in a message of a schema, and in the schema with more messages behind it, alike.
+pub use Rattle.vx_proto.proofs.Longer.{same_form}
 
 -- ---- a form within so many messages
 

@@ -1,27 +1,28 @@
-pub mod Steps
-pub mod Varint
-pub mod CutOne
-pub mod CutAll
-pub mod Loops
-pub mod Lasts
-pub mod Views
-pub mod Typed
-pub mod Split
-pub mod Judged
-pub mod Causes
+mod Steps
+mod Varint
+mod CutOne
+mod CutAll
+mod Loops
+mod Lasts
+mod Views
+mod Typed
+mod Split
+mod Judged
+mod Causes
 pub mod LawsOfMessages
 pub mod LawsOfForms
 pub mod LawsOfViews
 pub mod LawsOfSlots
 pub mod LawsOfParts
 pub mod LawsOfRepeated
-pub mod Spelled
-pub mod Again
-pub mod Formed
-pub mod LawfulSlots
-pub mod LawfulTest
-pub mod Suffixes
-pub mod Longer
-pub mod Signs
-pub mod Nests
-pub mod CopySteps
+mod Spelled
+mod Again
+mod Formed
+mod LawfulSlots
+mod LawfulTest
+mod Suffixes
+mod Longer
+mod Signs
+mod Nests
+mod CopySteps
+pub mod LawsOfBytes

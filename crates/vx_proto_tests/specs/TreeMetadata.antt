@@ -6,7 +6,7 @@ use Rattle.vx_proto.specs.Form.{HasForm}
 use Rattle.vx_proto.specs.Schema.{Schema, list_at, nested}
 use Rattle.vx_proto.specs.Value.{Value}
 use Rattle.vx_proto.proofs.LawsOfParts.{Part, Parts, Both, IfStands, ◌and◌, nothing, nested_part}
-use Rattle.vx_proto.proofs.Longer.{same_form}
+use Rattle.vx_proto.proofs.LawsOfForms.{same_form}
 use Rattle.vx_proto_tests.specs.Samples.{trees}
 
 -- The messages of trees, and then the one that may hold a tree.

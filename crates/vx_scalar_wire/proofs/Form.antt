@@ -14,11 +14,10 @@ use Rattle.vx_proto.specs.Value.{Content, Value, number, octets, message, slots_
 use Rattle.vx_proto.specs.declared.schema.Kind.{Kind}
 use Rattle.vx_proto.specs.declared.schema.Kind.TheVariants.{Scalar, Message}
 use Rattle.vx_proto.specs.declared.schema.ScalarKind.TheVariants.{Uint32, Uint64, Sint64, Flag, Enum, Fixed32, Fixed64, String, Bytes}
-use Rattle.vx_proto.proofs.LawsOfForms.{form_of_slots}
+use Rattle.vx_proto.proofs.LawsOfForms.{form_of_slots, same_form}
 use Rattle.vx_proto.proofs.LawsOfSlots.{Has, Each, has_plain, has_nested, has_none, has_repeated, form_one, form_two}
-use Rattle.vx_proto.proofs.Longer.{same_form}
 use Rattle.vx_type_wire.specs.TypeMessage.{type_lists, type_lists_lawful, type_message, first_message, all_messages}
-use Rattle.vx_type_wire.proofs.MessageForm.{type_form}
+use Rattle.vx_type_wire.proofs.LawsTypes.{type_form}
 use Rattle.vx_types.specs.Typ.{Typ, IsType}
 use Rattle.vx_types.specs.Value as V
 use Rattle.vx_types.specs.Value.{Mark}

@@ -13,11 +13,10 @@ use Rattle.vx_proto.specs.Parts.{entries_in, number_in, message_in, message_of}
 use Rattle.vx_proto.specs.Repeated.{nested_member, seen}
 use Rattle.vx_proto.specs.Schema.{field, kind_in, nested, plain}
 use Rattle.vx_proto.specs.Value.{Content, Entry, Value, number, octets, message, slots_of, view, entries_view, value_view}
-use Rattle.vx_proto.proofs.LawsOfForms.{HoldsMember, HoldsOne, at_most_one, slots_of_form, same_message, same_number, same_others, same_slot}
+use Rattle.vx_proto.proofs.LawsOfForms.{HoldsMember, HoldsOne, at_most_one, slots_of_form, same_message, same_number, same_others, same_slot, same_form}
 use Rattle.vx_proto.proofs.LawsOfRepeated.{holds_message, shows_message}
 use Rattle.vx_proto.proofs.LawsOfSlots.{Has, nested_holds, plain_holds, two_of}
 use Rattle.vx_proto.proofs.LawsOfViews.{entry_form, message_is, some_value, no_value}
-use Rattle.vx_proto.proofs.Longer.{same_form}
 use Rattle.vx_type_wire.specs.TypeMessage.{type_lists, type_lists_lawful, one_number, one_message}
 use Rattle.vx_type_wire.specs.Known.{ExtMeaning}
 use Rattle.vx_types.specs.Typ.{Typ}

@@ -6,7 +6,7 @@ use Rattle.vx_proto.proofs.LawsOfMessages.{reads_one}
 use Rattle.vx_trees.specs.Rose.{Roses, node, end, more, count}
 use Rattle.vx_type_wire.specs.Known.{ExtMeaning, IsKnown}
 use Rattle.vx_type_wire.specs.TypeMessage.{type_message}
-use Rattle.vx_type_wire.proofs.MessageFound.{message-injective}
+use Rattle.vx_type_wire.proofs.LawsTypes.{message-injective}
 use Rattle.vx_types.specs.Fits.{Fits, FitParts, FitsMember, EachFits, FitBy, bare}
 use Rattle.vx_types.specs.Kind as K
 use Rattle.vx_types.specs.Kind.{Kind}

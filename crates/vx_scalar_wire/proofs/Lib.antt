@@ -1,20 +1,20 @@
-pub mod Form
-pub mod Lists
-pub mod Digits
-pub mod OneValue
-pub mod Inversions
-pub mod Leaves
-pub mod Held
-pub mod Refused
-pub mod Complete
-pub mod Calls
-pub mod Gathered
+mod Form
+mod Lists
+mod Digits
+mod OneValue
+mod Inversions
+mod Leaves
+mod Held
+mod Refused
+mod Complete
+mod Calls
+mod Gathered
 pub mod LawsScalars
-pub mod Chains
-pub mod StatsEntries
-pub mod StatsWays
-pub mod StatsRead
-pub mod StatsValues
-pub mod StatsBack
+mod Chains
+mod StatsEntries
+mod StatsWays
+mod StatsRead
+mod StatsValues
+mod StatsBack
 pub mod LawsStats
 pub mod LawsWriting

@@ -11,7 +11,7 @@ use Rattle.vx_proto.specs.declared.element.Element.TheViews.{Message}
 use Rattle.vx_proto.specs.Value.{Content, Entry, message, slots_of, entries_view, value_view}
 use Rattle.vx_type_wire.specs.TypeMessage.{all_messages}
 use Rattle.vx_types.specs.Well.{IsWell, AreWell}
-use Rattle.vx_scalars.proofs.Lists.{size-at}
+use Rattle.vx_scalars.proofs.LawsOfLists.{size-at}
 use Rattle.vx_scalars.specs.Seen.{seen, all_seen}
 use Rattle.vx_scalars.specs.declared.value.ScalarValue.{ScalarValue}
 use Rattle.vx_scalar_wire.specs.ScalarMessage.{value_message, value_messages}

@@ -6,10 +6,10 @@ use Rattle.vx_proto.specs.Parts.{flag_number}
 use Rattle.vx_proto.specs.Signed.{zigzag}
 use Rattle.vx_proto.specs.Value.{Content, Entry, Value, number, octets, message, slots_of}
 use Rattle.vx_proto.proofs.LawsOfForms.{same_content, same_others, same_slot, same_rest, same_number, same_octets, same_message}
-use Rattle.vx_proto.proofs.Signs.{zigzag_one}
+use Rattle.vx_proto.proofs.LawsOfBytes.{zigzag_one}
 use Rattle.vx_type_wire.specs.Known.{ExtMeaning}
 use Rattle.vx_type_wire.specs.TypeMessage.{one_message, all_messages}
-use Rattle.vx_type_wire.proofs.MessageFound.{message-injective}
+use Rattle.vx_type_wire.proofs.LawsTypes.{message-injective}
 use Rattle.vx_types.specs.Fits.{FitBy, FitsMember, IsDecimal, IsUtf8, IsBinary, IsOf, bare, member}
 use Rattle.vx_types.specs.Kind as K
 use Rattle.vx_types.specs.Kind.{Kind}

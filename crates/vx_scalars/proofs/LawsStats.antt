@@ -14,7 +14,7 @@ use Rattle.vx_types.specs.declared.nullability.Nullability.{Nullability}
 use Rattle.vx_types.specs.declared.ptype.PType.{PType}
 use Rattle.vx_types.specs.declared.value.PValue.{PValue}
 use Rattle.vx_types.specs.declared.value.PValue.TheVariants.{U64, F16, F32, F64}
-use Rattle.vx_types.proofs.FitsAgain.{bare_under}
+use Rattle.vx_types.proofs.LawsOfTypes.{bare_under}
 use Rattle.vx_scalars.specs.Nans.{quiet, nan_canonical}
 use Rattle.vx_scalars.specs.StatTypes.{ordered, sum_type, flag_type, count_type}
 use Rattle.vx_scalars.specs.Stats.{Told, Stats, no_stats, IsOfType, FitsTold, FitStats}

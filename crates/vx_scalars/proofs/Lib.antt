@@ -1,3 +1,3 @@
-pub mod Lists
-pub mod Entries
+mod Entries
 pub mod LawsStats
+pub mod LawsOfLists

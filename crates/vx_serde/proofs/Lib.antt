@@ -1,43 +1,45 @@
-pub mod Pieces
-pub mod Growing
-pub mod PlacedData
-pub mod WalkedNodes
-pub mod GrownNodes
-pub mod WholeBlob
-pub mod NodeTold
-pub mod MessageRead
-pub mod PlacedRead
-pub mod NumberedRead
-pub mod WiredStats
-pub mod Carried
-pub mod CountableMetadata
-pub mod CarriedOnce
-pub mod GrownPlaced
-pub mod WiredNodes
-pub mod WiredAlike
-pub mod Chains
-pub mod NodePieces
-pub mod NodeWays
-pub mod NodeSteps
-pub mod StatsBlocks
-pub mod NumberedBy
-pub mod MessageBlocks
-pub mod Gathered
-pub mod OneArray
-pub mod GrownIds
-pub mod WrittenAgain
-pub mod Recodings
-pub mod NeverCaused
-pub mod PadsAlign
-pub mod AlignedBlob
-pub mod Serializations
-pub mod SerializedNodes
-pub mod StandingNames
-pub mod OverriddenBuffers
-pub mod StoredMessages
-pub mod DecodedNodes
-pub mod KeptNodes
-pub mod ArrayNodes
+mod Pieces
+mod Growing
+mod PlacedData
+mod WalkedNodes
+mod GrownNodes
+mod WholeBlob
+mod NodeTold
+mod MessageRead
+mod PlacedRead
+mod NumberedRead
+mod WiredStats
+mod Carried
+mod CountableMetadata
+mod CarriedOnce
+mod GrownPlaced
+mod WiredNodes
+mod WiredAlike
+mod Chains
+mod NodePieces
+mod NodeWays
+mod NodeSteps
+mod StatsBlocks
+mod NumberedBy
+mod MessageBlocks
+mod Gathered
+mod OneArray
+mod GrownIds
+mod WrittenAgain
+mod Recodings
+mod NeverCaused
+mod PadsAlign
+mod AlignedBlob
+mod Serializations
+mod SerializedNodes
+mod StandingNames
+mod OverriddenBuffers
+mod StoredMessages
+mod DecodedNodes
+mod KeptNodes
+mod ArrayNodes
 mod Taking
 mod TakenBelow
-pub mod EntrySteps
+mod EntrySteps
+-- For the proofs of other crates.
+pub mod LawsOfWriting

@@ -15,8 +15,7 @@ use Rattle.vx_flat.specs.Schema.{fields_of}
 use Rattle.vx_flat.specs.Seen.{seen, part_in, kind_in, kinds_in, IsBelow, fields_or_none, message_seen, table_seen, vector_seen, kind_seen, size_seen, IsViewOf, IsVectorOf, IsVectorBelow, IsElement}
 use Rattle.vx_flat.specs.Value.{Field, Fields, Rows, absent, number, table, tables, no_rows, row}
 use Rattle.vx_flat.specs.View.{fields_from, rows_from}
-use Rattle.vx_flat.proofs.LawsOfViews.{seen-of, kind-of, kinds-of, table-of, vector-of, element-of, tables-whole}
-use Rattle.vx_flat.proofs.ReadingViews.{tables_in}
+use Rattle.vx_flat.proofs.LawsOfViews.{seen-of, kind-of, kinds-of, table-of, vector-of, element-of, tables-whole, tables_in}
 use Rattle.vx_trees.specs.Rose.{Rose, node, label, below, roses_list, count}
 use Rattle.vx_serde.specs.ArraySchema.{array_schema, node_fields, stats_fields}
 use Rattle.vx_serde.specs.Message.{NodeFields, node_of, nodes_of, nodes_in, number_of_field, bytes_of_field, indices_of}

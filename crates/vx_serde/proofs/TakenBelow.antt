@@ -1,10 +1,10 @@
 -- What is taken of arrays, one after the other.
-use Rattle.std.proofs.Common.{ℕ, ◌≡◌, ◌+◌, ◌-◌, ◌<◌, ◌≤◌, ◌⊎◌, inl, inr, List, [], ◌∷◌, ◌++◌, Some, length, map, take, refl, sym, ap, ◌∙◌, subst, arith}
+use Rattle.std.proofs.Common.{ℕ, ◌≡◌, ◌+◌, ◌-◌, ◌<◌, ◌≤◌, ◌⊎◌, inl, inr, List, [], ◌∷◌, ◌++◌, Some, None, length, map, take, refl, sym, ap, ◌∙◌, subst, arith}
 use Rattle.std.specs.Prelude.{slice_get, Result, Ok, Err, IfErr, OnOk, IsOk}
 use Rattle.std.proofs.lemmas.List.{map-append, take_all, take_more}
 use Rattle.std.proofs.lemmas.Option.{slice_get_within, get_or_from_slice_get}
 use Rattle.vx_trees.specs.Everywhere.{EverywhereBelow}
-use Rattle.vx_trees.specs.Rose.{node, more, roses_of, roses_list}
+use Rattle.vx_trees.specs.Rose.{node, more, label, below, roses_of, roses_list}
 use Rattle.vx_trees.specs.Walks.{levels, levels_below}
 use Rattle.vx_trees.proofs.Lists.{roses_of-roses_list}
 use Rattle.vx_array_tree.specs.Tree.{Tree, Trees, Head, places}
@@ -13,7 +13,8 @@ use Rattle.vx_wire_tree.specs.Session.{SessionMeaning}
 use Rattle.vx_wire_tree.specs.Taken.{step, written, taken, IsTaken, each, Each}
 use Rattle.vx_serde.specs.declared.error.WireError.{WireError}
 use Rattle.vx_serde.specs.declared.error.WireError.TheVariants.{OutOfMemory}
-use Rattle.vx_serde.specs.Taking.{AreTaken, AreWithin, IsOpened, RefusesTaking, RefusesOneOf}
+use Rattle.vx_serde.specs.declared.taken.TakenRoot.{TakenRoot}
+use Rattle.vx_serde.specs.Taking.{source_tree, root_head, root_below, written_head, written_below, IsOwn, AreTaken, AreWithin, IsOpened, RefusesTaking, RefusesOneOf}
 use Rattle.vx_serde.proofs.Taking.{stands_at, own_messages, taken_at, is_taken_at, below_at, one_refused}
 
 -- ---- trees, and one more behind them
@@ -104,7 +105,32 @@ filled_not s room p arrays i h ts o r e k (inl m) = wanted_below s room arrays e
 filled_not s room p arrays i h ts o r e k (inr m) =
     one_below s room arrays i o.array e o.stands (root_refused_below s room p o.array h ts o.step_is e (subst (λ z. IfErr z (RefusesOneOf s (room - 1) ts)) m k))
 
+-- An answer that is well is.
+pub well : {T E : Type 0} (r : Result T E) (x : T) → r ≡ Ok x → IsOk r
+well (Ok y) x e = refl
+well (Err y) x e = absurd (cc)
+
 -- What was answered well.
 pub of_ok : {T E : Type 0} (r : Result T E) (P : Type 0) → IsOk r → OnOk r P → P
 of_ok (Ok x) P k h = h
 of_ok (Err e) P k h = absurd (cc)
+
+-- ---- a root that is written as it stands, over its array's own children
+
+pub own_root : (r : TakenRoot) (us : List Tree) → us ≡ roses_list (written_below r) → r.given ≡ None → IsOwn r us
+own_root r us e g = record { ungiven = g; children_are = e ∙ ap (λ z. roses_list (root_below (below (source_tree r.source)) z)) g }
+
+pub whole_tree : (t : Tree) → node (label t) (below t) ≡ t
+whole_tree (node h ts) = refl
+
+-- It is its array.
+pub own_tree : (r : TakenRoot) (us : List Tree) → IsOwn r us → node (written_head r) (roses_of us) ≡ source_tree r.source
+own_tree r us k =
+    let t = source_tree r.source in
+    ap (λ z. node (root_head (label t) z) (roses_of us)) k.ungiven ∙ ap (λ z. node (label t) z) (ap (λ z. roses_of z) k.children_are ∙ roses_of-roses_list (below t)) ∙ whole_tree t
+
+-- One more child as it stands.
+pub one_more_own : (ts : List Tree) (i : ℕ) (t : Tree) (old new : List Tree) (u : Tree) → slice_get ts i ≡ Some t → old ≡ take i ts → u ≡ t → new ≡ old ++ u ∷ [] → new ≡ take (i + 1) ts
+one_more_own ts i t old new u at k is e =
+    let next : take (i + 1) ts ≡ take i ts ++ t ∷ [] = take_more ts i t (slice_get_within ts i t at) ∙ ap (λ z. take i ts ++ z ∷ []) (get_or_from_slice_get ts i t t at) in
+    e ∙ (λ j. k j ++ is j ∷ []) ∙ sym next

@@ -1,5 +1,6 @@
 -- What is written of an array, node by node, and why a node is not.
-use Rattle.std.specs.Prelude.{bytes_eq, slice_get, if◌then◌else◌}
+use Rattle.std.specs.Prelude.{Box, bytes_eq, slice_get, if◌then◌else◌}
+use Rattle.std.specs.Global.{Global}
 use Rattle.std.specs.List.{list_any}
 use Rattle.std.proofs.Common.{ℕ, zero, suc, Option, Some, None, Bool, true, false, ◌≡◌, ◌≤◌, inl, inr, List, [], ◌∷◌, refl, sym, ap, ◌∙◌, subst, arith}
 use Rattle.vx_trees.specs.Rose.{node, end, more, label, below, roses_of}
@@ -174,7 +175,7 @@ metadata_at h us ts e = ap (λ ps. message_bytes (told (metadata_of h.body ps)))
 -- A node that stands for an array's root, over other nodes.
 module _ (src : Tree) (us : Trees) (t : Tree) where
   -- As it stands.
-  module _ (g : Option GivenParts) (none : g ≡ None) (is : node (taken_head (label src) g) us ≡ t) where
+  module _ (g : Option (Box GivenParts Global)) (none : g ≡ None) (is : node (taken_head (label src) g) us ≡ t) where
     own_label : label src ≡ label t
     own_label = ap (λ z. taken_head (label src) z) (sym none) ∙ ap (λ z. label z) is
 
@@ -190,26 +191,26 @@ module _ (src : Tree) (us : Trees) (t : Tree) where
         ∙ (λ i. message_bytes (told (metadata_in (own_label i) (below (is i)))))
 
   -- As a plugin gives it.
-  module _ (g : Option GivenParts) (p : GivenParts) (some : g ≡ Some p) (is : node (taken_head (label src) g) us ≡ t) where
-    given_label : given_head (label src) (own_parts p) ≡ label t
+  module _ (g : Option (Box GivenParts Global)) (p : Box GivenParts Global) (some : g ≡ Some p) (is : node (taken_head (label src) g) us ≡ t) where
+    given_label : given_head (label src) (own_parts p.value) ≡ label t
     given_label = ap (λ z. taken_head (label src) z) (sym some) ∙ ap (λ (z : Tree). label z) is
 
-    pub given_id : (two : Bool) → p.id ≡ array_id two t
+    pub given_id : (two : Bool) → p.value.id ≡ array_id two t
     given_id two = ap (λ h. head_id two h) given_label
 
-    pub given_buffers : p.buffers ≡ buffers_of (label t).body
+    pub given_buffers : p.value.buffers ≡ buffers_of (label t).body
     given_buffers = ap (λ (h : Head). buffers_of h.body) given_label
 
-    pub given_bytes : p.metadata ≡ message_bytes (told (metadata_in (label t) (below t)))
+    pub given_bytes : p.value.metadata ≡ message_bytes (told (metadata_in (label t) (below t)))
     given_bytes = ap (λ (h : Head). message_bytes (told (metadata_in h (below t)))) given_label
 
   -- Its statistics are the array's.
-  module _ (g : Option GivenParts) (is : node (taken_head (label src) g) us ≡ t) where
-    head_stats : (h : Head) (x : Option GivenParts) → (taken_head h x).stats ≡ h.stats
+  module _ (g : Option (Box GivenParts Global)) (is : node (taken_head (label src) g) us ≡ t) where
+    head_stats : (h : Head) (x : Option (Box GivenParts Global)) → (taken_head h x).stats ≡ h.stats
     head_stats h None = refl
     head_stats h (Some y) = refl
 
-    fit_head : (h : Head) (x : Option GivenParts) → FitStats h.dtype h.stats → FitStats (taken_head h x).dtype (taken_head h x).stats
+    fit_head : (h : Head) (x : Option (Box GivenParts Global)) → FitStats h.dtype h.stats → FitStats (taken_head h x).dtype (taken_head h x).stats
     fit_head h None f = f
     fit_head h (Some y) f = f
 

@@ -16,6 +16,8 @@ pub mod Opening
 pub mod Overrides
 pub mod Stored
 pub mod Taking
+pub mod TakenFalls
+pub mod Lent
 pub mod Spells
 pub mod Request
 pub mod Causes

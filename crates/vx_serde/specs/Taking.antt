@@ -1,5 +1,6 @@
 -- An array as it is written, as a tree; and why its nodes are not written.
-use Rattle.std.specs.Prelude.{ℕ, ◌≡◌, ◌≤◌, ◌<◌, ◌⊎◌, List, Option, Some, None, map, slice_get}
+use Rattle.std.specs.Prelude.{ℕ, ◌≡◌, ◌≤◌, ◌<◌, ◌⊎◌, List, Option, Some, None, Box, Vec, map, slice_get}
+use Rattle.std.specs.Global.{Global}
 use Rattle.vx_trees.specs.Rose.{end, label, below, roses_of, roses_list}
 use Rattle.vx_trees.specs.Walks.{levels, levels_below}
 use Rattle.vx_array_tree.specs.Tree.{Tree, Trees, Head, places}
@@ -28,19 +29,24 @@ as_written s options t = taken s (most_levels options) t
 -- The array of a source.
 abbrev pub source_tree : Source → Tree
 source_tree (Lent array) = array.now
-source_tree (Held array) = array
+source_tree (Held array) = array.value
 
 -- What a plugin gives for a node itself.
 abbrev pub own_parts : GivenParts → Parts
 own_parts g = record { id = g.id; metadata = g.metadata; buffers = g.buffers; children = end }
 
 -- A node as it is written: as it stands, or as a plugin gives it.
-abbrev pub taken_head : Head → Option GivenParts → Head
+abbrev pub taken_head : Head → Option (Box GivenParts Global) → Head
 taken_head h None = h
-taken_head h (Some g) = given_head h (own_parts g)
+taken_head h (Some g) = given_head h (own_parts g.value)
+
+-- The nodes below it: the array's own children as they stand, or those that were taken.
+abbrev pub taken_below : Trees → Option (Vec Tree Global) → Trees
+taken_below ts None = ts
+taken_below ts (Some us) = roses_of us.items
 
 -- Below a node that is written as it stands, nodes stand where the array's children do.
-abbrev pub StandsAs : Option GivenParts → Trees → Trees → Type 0
+abbrev pub StandsAs : Option (Box GivenParts Global) → Trees → Trees → Type 0
 StandsAs None us ts = places us ≡ places ts
 StandsAs (Some g) us ts = Unit {0}
 
@@ -59,6 +65,11 @@ written_head r = root_head (label (source_tree r.source)) r.given
 
 abbrev pub written_below : TakenRoot → Trees
 written_below r = root_below (below (source_tree r.source)) r.given
+
+-- A root is written as it stands, over its array's own children as they stand.
+pub record IsOwn (r : TakenRoot) (us : List Tree) : Type 0 where
+  pub ungiven : r.given ≡ None
+  pub children_are : us ≡ roses_list (below (source_tree r.source))
 
 -- Nodes are those that are taken of arrays where there is room for n levels, and each of these is taken.
 pub record AreTaken (s : SessionMeaning) (n : ℕ) (arrays nodes : List Tree) : Type 0 where

@@ -19,6 +19,7 @@ ghost use Rattle.vx_serde.specs.Taking.{as_written};
 use crate::error::WireError;
 use crate::gathering::{Gathered, gather};
 use crate::limits::{MAX_BUFFERS, MAX_LEVELS, MAX_NODES};
+use crate::node_ref::NodeRef;
 use crate::nodes::{Passed, write_node};
 use crate::taken::{Source, TakenNode, take};
 use std::alloc::Global;
@@ -95,7 +96,8 @@ impl<'a> ArrayNodeFlatBuffer<'a> {
         ensures kept { (s : SessionMeaning) → writes_two s ≡ self.old.two → OnErr result (Keeps builder.old (array_pieces s self.old.array self.old.ctx.now) builder.new) }
         ensures cause { (s : SessionMeaning) → writes_two s ≡ self.old.two → IfErr result (RefusesBlocks s self.old.array self.old.ctx.now builder.old) }
     {
-        write_into(alloc, &self.array, self.two, self.ctx, builder)
+        let array = NodeRef::taken(&self.array);
+        write_into(alloc, &array, self.two, self.ctx, builder)
     }
 }
 
@@ -103,7 +105,7 @@ impl<'a> ArrayNodeFlatBuffer<'a> {
 // those that the builder has, the root's first.
 fn write_into(
     alloc: Global,
-    array: &TakenNode<'_>,
+    array: &NodeRef<'_, '_>,
     two: bool,
     ctx: &mut ArrayContext,
     builder: &mut Builder,

@@ -8,7 +8,7 @@ ghost use Rattle.vx_scalar_wire.specs.StatsTable.{AreStorable, stats_pieces};
 ghost use Rattle.vx_serde.specs.Blocks.{AreWritten};
 ghost use Rattle.vx_serde.specs.WritingSteps.{builder_refusal};
 
-use crate::taken::TakenNode;
+use crate::node_ref::NodeRef;
 use std::alloc::Global;
 use vx_flat::{BlockField, BlockVector, Builder, FlatError, LinkKind};
 use vx_scalar_wire::{ScalarWireError, StatsSetExt};
@@ -51,7 +51,7 @@ pub(crate) fn write_elements(
 /// Writes the blocks of the table of an array's statistics.
 pub(crate) fn write_statistics(
     alloc: Global,
-    array: &TakenNode<'_>,
+    array: &NodeRef<'_, '_>,
     builder: &mut Builder,
 ) -> Result<(), FlatError>
     requires takes { Takes LinkKind.Table builder.old }

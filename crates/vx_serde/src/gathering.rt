@@ -15,7 +15,7 @@ ghost use Rattle.vx_serde.specs.WritingSteps.{RefusesRoot, RefusesGathering};
 
 use crate::error::WireError;
 use crate::lent_buffers::LentBuffers;
-use crate::taken::TakenNode;
+use crate::node_ref::NodeRef;
 use std::alloc::Global;
 use vx_buffer::BufferError;
 use vx_registry::ArrayContext;
@@ -43,7 +43,7 @@ impl<'a> Gathered<'a> {
 /// The number of a root's identifier, which the context takes where it is new.
 fn encoding_number(
     alloc: Global,
-    array: &TakenNode<'_>,
+    array: &NodeRef<'_, '_>,
     two: bool,
     ctx: &mut ArrayContext,
 ) -> Result<u16, WireError>
@@ -63,7 +63,7 @@ fn encoding_number(
 }
 
 /// The buffers of an array's root, behind those that were found.
-fn push_own<'a>(array: &'a TakenNode<'_>, found: &mut LentBuffers<'a>) -> Result<(), BufferError>
+fn push_own<'a>(array: &NodeRef<'a, '_>, found: &mut LentBuffers<'a>) -> Result<(), BufferError>
     ensures { OnOk result (found.new ≡ found.old ++ buffers_of (label array.now).body) }
 {
     for i in 0..array.nbuffers() {
@@ -75,7 +75,7 @@ fn push_own<'a>(array: &'a TakenNode<'_>, found: &mut LentBuffers<'a>) -> Result
 /// What an array's root brings along, behind what was found.
 fn push_root<'a>(
     alloc: Global,
-    array: &'a TakenNode<'_>,
+    array: &NodeRef<'a, '_>,
     two: bool,
     ctx: &mut ArrayContext,
     found: &mut Gathered<'a>,
@@ -97,7 +97,7 @@ fn push_root<'a>(
 #[tactic(auto, using(vx_trees::proofs::Roses::roses))]
 pub(crate) fn gather<'a>(
     alloc: Global,
-    array: &'a TakenNode<'_>,
+    array: &NodeRef<'a, '_>,
     two: bool,
     ctx: &mut ArrayContext,
     found: &mut Gathered<'a>,
@@ -109,8 +109,10 @@ pub(crate) fn gather<'a>(
     ensures cause { (s : SessionMeaning) → writes_two s ≡ two → IfErr result (RefusesGathering s array.now ctx.old) }
 {
     push_root(alloc, array, two, ctx, found)?;
-    for child in array.children() {
-        gather(alloc, child, two, ctx, found)?;
+    let children = array.children();
+    for i in 0..children.len() {
+        let child = children.get(i);
+        gather(alloc, &child, two, ctx, found)?;
     }
     Ok(())
 }

@@ -12,6 +12,7 @@ pub mod laws;
 mod lent_buffers;
 mod limits;
 mod message;
+mod node_ref;
 mod nodes;
 mod options;
 mod placing;

@@ -19,7 +19,7 @@ ghost use Rattle.vx_serde.specs.MessageValue.{index_bytes};
 ghost use Rattle.vx_serde.specs.Numbered.{numbers_from};
 
 use crate::blocks::{TABLE, VECTOR, encoding_entry, write_elements, write_statistics};
-use crate::taken::TakenNode;
+use crate::node_ref::{NodeRef, NodeRefs};
 use std::alloc::{AllocError, Global};
 use vx_flat::{BlockVector, Builder, FlatError, LinkKind};
 use vx_types::Blob;
@@ -55,7 +55,7 @@ fn number_bytes(alloc: Global, first: usize, count: usize) -> Result<Vec<u8>, Al
 /// so want of memory is what is left.
 fn node_parts(
     alloc: Global,
-    array: &TakenNode<'_>,
+    array: &NodeRef<'_, '_>,
     encodings: &[u16],
     passed: &mut Passed,
 ) -> Result<NodeParts, FlatError>
@@ -89,7 +89,7 @@ fn node_parts(
 #[cycle(nodes)]
 pub(crate) fn write_node(
     alloc: Global,
-    array: &TakenNode<'_>,
+    array: &NodeRef<'_, '_>,
     encodings: &[u16],
     passed: &mut Passed,
     builder: &mut Builder,
@@ -115,7 +115,7 @@ pub(crate) fn write_node(
     builder.link(node, 1);
     write_elements(1, parts.metadata.as_slice(), builder)?;
     builder.link(node, 2);
-    write_nodes(alloc, array.children(), encodings, passed, builder)?;
+    write_nodes(alloc, &array.children(), encodings, passed, builder)?;
     builder.link(node, 3);
     write_elements(2, &parts.buffers, builder)?;
     builder.link(node, 4);
@@ -127,7 +127,7 @@ pub(crate) fn write_node(
 #[cycle(nodes)]
 fn write_nodes(
     alloc: Global,
-    arrays: &[TakenNode<'_>],
+    arrays: &NodeRefs<'_, '_>,
     encodings: &[u16],
     passed: &mut Passed,
     builder: &mut Builder,
@@ -148,7 +148,8 @@ fn write_nodes(
     })?;
     for i in 0..arrays.len() {
         builder.link(vector, i);
-        write_node(alloc, &arrays[i], encodings, passed, builder)?;
+        let node = arrays.get(i);
+        write_node(alloc, &node, encodings, passed, builder)?;
     }
     Ok(())
 }

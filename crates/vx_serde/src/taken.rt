@@ -1,6 +1,6 @@
 //! An array as it is written: each node as its writer takes it.
 
-ghost use Rattle.std.specs.Prelude.{◌≡◌, ◌≤◌, ◌<◌, ◌⊎◌, ◌++◌, ◌∷◌, [], Some, None, Err, length, slice_get, IfOk, IfErr, OnOk, IsOk, IsOkUnless};
+ghost use Rattle.std.specs.Prelude.{◌≡◌, ◌≤◌, ◌<◌, ◌⊎◌, ◌++◌, ◌∷◌, [], Some, None, Err, IsTrue, length, slice_get, IfOk, IfErr, OnOk, IsOk, IsOkUnless};
 ghost use Rattle.vx_trees.specs.Rose.{node, label, below, count, roses_of, roses_list};
 ghost use Rattle.vx_trees.specs.Walks.{levels};
 ghost use Rattle.vx_types.specs.Known.{ExtMeaning};
@@ -15,9 +15,10 @@ ghost use Rattle.vx_encodings.specs.Messages.{message_bytes};
 ghost use Rattle.vx_registry.specs.Meaning.{arrays_meaning};
 ghost use Rattle.vx_registry.specs.Serialization.{array_id};
 ghost use Rattle.vx_serde.specs.Errors.{registry_refusal};
-ghost use Rattle.vx_serde.specs.Taking.{source_tree, taken_head, root_head, root_below, written_head, written_below, StandsAs, AreTaken, AreWithin, IsOpened, RefusesTaking, RefusesOneOf};
+ghost use Rattle.vx_serde.specs.Taking.{source_tree, taken_head, root_head, root_below, written_head, written_below, StandsAs, IsOwn, AreTaken, AreWithin, IsOpened, RefusesTaking, RefusesOneOf};
 
 use crate::error::WireError;
+use crate::node_ref::NodeRefs;
 use std::alloc::Global;
 use std::marker::Model;
 use vx_arrays::Array;
@@ -34,7 +35,7 @@ use vx_types::{Blob, Id};
 #[derive(Drop)]
 pub(crate) enum Source<'a> {
     Lent(&'a Array),
-    Held(Array),
+    Held(Box<Array>),
 }
 
 impl<'a> Source<'a> {
@@ -54,7 +55,10 @@ fn copy_of<'a>(alloc: Global, array: &Array) -> Result<Source<'a>, WireError>
     ensures ok { IfOk result (λ s. source_tree s ≡ array.now) }
     ensures err { IsOkUnless result WireError.OutOfMemory }
 {
-    match array.clone(alloc) {
+    let Ok(copy) = array.clone(alloc) else {
+        return Err(WireError::OutOfMemory);
+    };
+    match Box::new(alloc, copy) {
         Ok(copy) => Ok(Source::Held(copy)),
         Err(_) => Err(WireError::OutOfMemory),
     }
@@ -101,12 +105,13 @@ pub(crate) struct GivenParts {
 }
 
 /// A node as it is written, with those below it: as an array's root is, or with the parts that a plugin gives for it.
-/// Contracts see the tree that is written.
+/// Where an array is written as it stands, with all below it, no node is kept below. Contracts see the tree that is
+/// written.
 #[derive(Drop)]
 pub(crate) struct TakenNode<'a> {
     source: Source<'a>,
-    given: Option<GivenParts>,
-    children: Vec<TakenNode<'a>>,
+    given: Option<Box<GivenParts>>,
+    children: Option<Vec<TakenNode<'a>>>,
 }
 
 impl<'a> Model for TakenNode<'a> {
@@ -117,19 +122,19 @@ impl<'a> Model for TakenNode<'a> {
     ghost coded = { tree_code };
 
     ghost use Rattle.std.proofs.Common.{arith};
-    ghost use Rattle.vx_trees.specs.Rose.{node, label, below, roses_of};
+    ghost use Rattle.vx_trees.specs.Rose.{node, label, below};
     ghost use Rattle.vx_trees.specs.Walks.{nodes};
-    ghost use Rattle.vx_trees.proofs.Counting.{most_le-nodes};
-    ghost use Rattle.vx_scalars.specs.Stats.{FitStats};
-    ghost use Rattle.vx_serde.specs.Taking.{source_tree, taken_head, StandsAs};
+    ghost use Rattle.vx_serde.specs.Taking.{source_tree, taken_head, taken_below, StandsAs};
 
-    ghost view = { λ n. node (taken_head (label (source_tree n.source)) n.given) (roses_of n.children.items) };
+    ghost view = { λ n. node (taken_head (label (source_tree n.source)) n.given) (taken_below (below (source_tree n.source)) n.children) };
 
-    ghost invariant = { λ n. StandsAs n.given (roses_of n.children.items) (below (source_tree n.source)) };
+    ghost invariant = { λ n. StandsAs n.given (taken_below (below (source_tree n.source)) n.children) (below (source_tree n.source)) };
 
     ghost size = { nodes };
 
-    ghost size_decreases = { λ n h. Prim.omega (arith, most_le-nodes n.children.items) };
+    ghost use Rattle.vx_serde.specs.TakenFalls.{children_le-nodes};
+
+    ghost size_decreases = { λ n h. Prim.omega (arith, children_le-nodes (below (source_tree n.source)) n.children) };
 }
 
 impl From<RegistryError> for WireError {
@@ -211,15 +216,18 @@ impl<'a> TakenNode<'a> {
     }
 
     /// The nodes below it.
-    pub(crate) fn children(&self) -> &[TakenNode<'a>]
-        ensures children { roses_of result.now ≡ below self.now }
+    pub(crate) fn children<'n>(&'n self) -> NodeRefs<'n, 'a>
+        ensures children { roses_of result ≡ below self.now }
     {
-        self.children.as_slice()
+        match &self.children {
+            Some(children) => NodeRefs::taken(children.as_slice()),
+            None => NodeRefs::own(self.source.array().children()),
+        }
     }
 }
 
-// The bytes of the metadata of an array's root, of which it was judged that they fit their message.
-fn own_metadata(alloc: Global, array: &Array) -> Result<Blob, WireError>
+/// The bytes of the metadata of an array's root, of which it was judged that they fit their message.
+pub(crate) fn own_metadata(alloc: Global, array: &Array) -> Result<Blob, WireError>
     ensures ok { IfOk result (λ bytes. bytes ≡ message_bytes (told (metadata_in (label array.now) (below array.now)))) }
     ensures err { IsOkUnless result WireError.OutOfMemory }
 {
@@ -263,25 +271,58 @@ impl<'a> TakenRoot<'a> {
         }
     }
 
-    /// The node, over those below it.
-    fn over(self, children: Vec<TakenNode<'a>>) -> TakenNode<'a>
-        requires { places (roses_of children.items) ≡ places (written_below self) }
-        ensures { result ≡ node (written_head self.entry) (roses_of children.entry.items) }
+    /// Whether it is written as it is, over nodes that are its array's own as they stand (`below`) or not.
+    fn is_own(&self, below: bool) -> bool
+        ensures { IsTrue result → IsTrue below × (self.now.given ≡ None) }
+    {
+        below && self.given.is_none()
+    }
+
+    /// The node, over those below it. Where it is its array's own, and so are they, they need not be kept.
+    fn over(
+        self,
+        alloc: Global,
+        children: Vec<TakenNode<'a>>,
+        own: bool,
+    ) -> Result<TakenNode<'a>, WireError>
+        requires places { places (roses_of children.items) ≡ places (written_below self) }
+        requires own { IsTrue own → IsOwn self children.items }
+        ensures ok { IfOk result (λ n. n ≡ node (written_head self.entry) (roses_of children.entry.items)) }
+        ensures err { IsOkUnless result WireError.OutOfMemory }
     {
         let TakenRoot { source, given } = self;
-        let given = given_parts(given);
-        TakenNode {
-            source,
-            given,
-            children,
+        if own {
+            drop(given);
+            drop(children);
+            return Ok(TakenNode {
+                source,
+                given: None,
+                children: None,
+            });
+        }
+        match given_parts(alloc, given) {
+            Ok(given) => Ok(TakenNode {
+                source,
+                given,
+                children: Some(children),
+            }),
+            Err(e) => {
+                drop(source);
+                drop(children);
+                Err(e)
+            }
         }
     }
 }
 
 // The parts that a plugin gives for a root itself, without the arrays below it.
-fn given_parts(parts: Option<ArraySerialization>) -> Option<GivenParts>
-    ensures head { (h : Head) → taken_head h result ≡ root_head h parts }
-    ensures stands { (us ts : Trees) → places us ≡ places (root_below ts parts) → StandsAs result us ts }
+fn given_parts(
+    alloc: Global,
+    parts: Option<ArraySerialization>,
+) -> Result<Option<Box<GivenParts>>, WireError>
+    ensures head { (h : Head) → IfOk result (λ g. taken_head h g ≡ root_head h parts) }
+    ensures stands { (us ts : Trees) → places us ≡ places (root_below ts parts) → IfOk result (λ g. StandsAs g us ts) }
+    ensures err { IsOkUnless result WireError.OutOfMemory }
 {
     match parts {
         Some(parts) => {
@@ -292,13 +333,17 @@ fn given_parts(parts: Option<ArraySerialization>) -> Option<GivenParts>
                 children,
             } = parts;
             drop(children);
-            Some(GivenParts {
+            let own = GivenParts {
                 id,
                 metadata,
                 buffers,
-            })
+            };
+            match Box::new(alloc, own) {
+                Ok(own) => Ok(Some(own)),
+                Err(_) => Err(WireError::OutOfMemory),
+            }
         }
-        None => None,
+        None => Ok(None),
     }
 }
 
@@ -332,12 +377,24 @@ fn parts_of(
     }
 }
 
-/// A root that is written, and the nodes below it that are taken so far. It is handed on or dropped by hand wherever it is
-/// held: where it falls by itself, the proof spells out each of its parts.
+/// A root that is written, the nodes below it that are taken so far, and whether each of these is the root's array's own
+/// child as it stands. It is handed on or dropped by hand wherever it is held: where it falls by itself, the proof spells
+/// out each of its parts.
 #[derive(Drop)]
 struct OpenRoot<'a> {
     root: TakenRoot<'a>,
     children: Vec<TakenNode<'a>>,
+    own: bool,
+}
+
+// Room for so many nodes, where there is memory for it now.
+fn room_for<'a>(alloc: Global, count: usize) -> Vec<TakenNode<'a>>
+    ensures { result.items ≡ [] }
+{
+    match Vec::with_capacity(alloc, count) {
+        Ok(room) => room,
+        Err(_) => Vec::new(alloc),
+    }
 }
 
 impl<'a> OpenRoot<'a> {
@@ -351,16 +408,22 @@ impl<'a> OpenRoot<'a> {
     ) -> Result<OpenRoot<'a>, WireError>
         ensures room { OnOk result (0 < room) }
         ensures none { IfOk result (λ o. o.children.items ≡ []) }
+        ensures source { IfOk result (λ o. source_tree o.root.source ≡ source_tree source.entry) }
         ensures step { (x : ExtMeaning) → x.unknown ≡ unknown → IfOk result (λ o. step (arrays_meaning (λ b. means (b.vtable, b.value)) arrays.now x) (source_tree source.entry) ≡ written (written_head o.root) (written_below o.root)) }
         ensures message { IfOk result (λ o. HasMessage (written_head o.root) (written_below o.root)) }
         ensures cause { (x : ExtMeaning) → x.unknown ≡ unknown → IfErr result (RefusesTaking (arrays_meaning (λ b. means (b.vtable, b.value)) arrays.now x) room (source_tree source.entry)) }
     {
         let parts = parts_of(alloc, source.array(), arrays, unknown, room);
         match parts {
-            Ok(given) => Ok(OpenRoot {
-                root: TakenRoot { source, given },
-                children: Vec::new(alloc),
-            }),
+            Ok(given) => {
+                let root = TakenRoot { source, given };
+                let children = room_for(alloc, root.nchildren());
+                Ok(OpenRoot {
+                    root,
+                    children,
+                    own: true,
+                })
+            }
             Err(e) => {
                 drop(source);
                 Err(e)
@@ -387,6 +450,7 @@ impl<'a> OpenRoot<'a> {
         requires { i < count (written_below self.now.root) }
         ensures room { OnOk result (0 < room) }
         ensures none { IfOk result (λ o. o.children.items ≡ []) }
+        ensures stands { IfOk result (λ o. slice_get (roses_list (written_below self.now.root)) i ≡ Some (source_tree o.root.source)) }
         ensures opened { (x : ExtMeaning) → x.unknown ≡ unknown → IfOk result (λ o. IsOpened (arrays_meaning (λ b. means (b.vtable, b.value)) arrays.now x) (written_below self.now.root) i (written_head o.root) (written_below o.root)) }
         ensures message { IfOk result (λ o. HasMessage (written_head o.root) (written_below o.root)) }
         ensures cause { (x : ExtMeaning) → x.unknown ≡ unknown → IfErr result (RefusesOneOf (arrays_meaning (λ b. means (b.vtable, b.value)) arrays.now x) room (written_below self.now.root)) }
@@ -398,26 +462,53 @@ impl<'a> OpenRoot<'a> {
     }
 
     /// One more node below it: a root, once the nodes below that one are taken.
-    fn close(&mut self, child: OpenRoot<'a>, filled: Result<(), WireError>) -> Result<(), WireError>
-        requires { IsOk filled → places (roses_of child.children.items) ≡ places (written_below child.root) }
+    fn close(
+        &mut self,
+        alloc: Global,
+        child: OpenRoot<'a>,
+        filled: Result<(), WireError>,
+    ) -> Result<(), WireError>
+        requires places { IsOk filled → places (roses_of child.children.items) ≡ places (written_below child.root) }
+        requires own { IsOk filled → IsTrue child.own → child.children.items ≡ roses_list (written_below child.root) }
         ensures root { self.new.root ≡ self.old.root }
         ensures well { OnOk result (IsOk filled) }
         ensures children { OnOk result (self.new.children.items ≡ self.old.children.items ++ node (written_head child.entry.root) (roses_of child.entry.children.items) ∷ []) }
+        ensures own { OnOk result (IsTrue self.new.own → IsTrue self.old.own × IsOwn child.entry.root child.entry.children.items) }
         ensures cause { IfErr result (λ e. (e ≡ WireError.OutOfMemory) ⊎ (filled ≡ Err e)) }
     {
         match filled {
             Ok(()) => {
-                let OpenRoot { root, children } = child;
-                let node = root.over(children);
-                match self.children.push(node) {
-                    Ok(()) => Ok(()),
-                    Err(_) => Err(WireError::OutOfMemory),
+                let OpenRoot {
+                    root,
+                    children,
+                    own,
+                } = child;
+                let own = root.is_own(own);
+                match root.over(alloc, children, own) {
+                    Ok(node) => self.push(node, own),
+                    Err(e) => Err(e),
                 }
             }
             Err(e) => {
                 drop(child);
                 Err(e)
             }
+        }
+    }
+
+    // One more node below it, which is the array's own child as it stands, or not.
+    fn push(&mut self, node: TakenNode<'a>, own: bool) -> Result<(), WireError>
+        ensures root { self.new.root ≡ self.old.root }
+        ensures children { OnOk result (self.new.children.items ≡ self.old.children.items ++ node.entry ∷ []) }
+        ensures own { OnOk result (IsTrue self.new.own → IsTrue self.old.own × IsTrue own) }
+        ensures err { IsOkUnless result WireError.OutOfMemory }
+    {
+        match self.children.push(node) {
+            Ok(()) => {
+                self.own = self.own && own;
+                Ok(())
+            }
+            Err(_) => Err(WireError::OutOfMemory),
         }
     }
 }
@@ -434,6 +525,7 @@ fn fill<'a>(
     ensures root { above.new.root ≡ above.old.root }
     ensures taken { (x : ExtMeaning) → x.unknown ≡ unknown → OnOk result (AreTaken (arrays_meaning (λ b. means (b.vtable, b.value)) arrays.now x) room (roses_list (written_below above.old.root)) above.new.children.items) }
     ensures within { OnOk result (AreWithin room above.new.children.items) }
+    ensures own { OnOk result (IsTrue above.new.own → above.new.children.items ≡ roses_list (written_below above.old.root)) }
     ensures cause { (x : ExtMeaning) → x.unknown ≡ unknown → IfErr result (RefusesOneOf (arrays_meaning (λ b. means (b.vtable, b.value)) arrays.now x) room (written_below above.old.root)) }
 {
     for i in 0..above.nchildren() {
@@ -442,7 +534,7 @@ fn fill<'a>(
             Err(e) => return Err(e),
         };
         let filled = fill(alloc, &mut child, arrays, unknown, room - 1);
-        match above.close(child, filled) {
+        match above.close(alloc, child, filled) {
             Ok(()) => {}
             Err(e) => return Err(e),
         }
@@ -472,8 +564,16 @@ pub(crate) fn take<'a>(
     };
     match fill(alloc, &mut above, arrays, unknown, room - 1) {
         Ok(()) => {
-            let OpenRoot { root, children } = above;
-            Ok(root.over(children))
+            let OpenRoot {
+                root,
+                children,
+                own,
+            } = above;
+            let own = root.is_own(own);
+            match root.over(alloc, children, own) {
+                Ok(node) => Ok(node),
+                Err(e) => Err(e),
+            }
         }
         Err(e) => {
             drop(above);

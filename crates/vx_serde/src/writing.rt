@@ -37,10 +37,11 @@ use crate::error::WireError;
 use crate::gathering::{Gathered, gather};
 use crate::lent_buffers::LentBuffers;
 use crate::limits::{MAX_BUFFERS, MAX_NODES, are_describable, most_levels};
+use crate::node_ref::NodeRef;
 use crate::nodes::{Passed, write_node};
 use crate::options::SerializeOptions;
 use crate::placing::{LaidOut, describe, greatest_alignment, pad_at, push_data, push_pad};
-use crate::taken::{Source, TakenNode, take};
+use crate::taken::{Source, take};
 use std::alloc::Global;
 use vx_arrays::Array;
 use vx_buffer::{BufferError, ByteBuffer, ByteBuffers};
@@ -97,7 +98,7 @@ fn light_message(message: FlatBuffer, deep: bool) -> Result<Vec<u8>, WireError>
 /// Writes the blocks of a message: of its table, of an array's nodes, and of the bytes of descriptors.
 fn write_blocks(
     alloc: Global,
-    array: &TakenNode<'_>,
+    array: &NodeRef<'_, '_>,
     encodings: &[u16],
     descriptors: &[u8],
     builder: &mut Builder,
@@ -127,7 +128,7 @@ fn write_blocks(
 /// not.
 fn write_message(
     alloc: Global,
-    array: &TakenNode<'_>,
+    array: &NodeRef<'_, '_>,
     encodings: &[u16],
     descriptors: &[u8],
     deep: bool,
@@ -159,7 +160,7 @@ fn write_message(
 /// in preorder; primitives have two (`two`) or one.
 fn place<'a>(
     alloc: Global,
-    array: &'a TakenNode<'_>,
+    array: &NodeRef<'a, '_>,
     two: bool,
     ctx: &mut ArrayContext,
     options: &SerializeOptions,
@@ -197,7 +198,7 @@ fn has_end(end: usize, padding: usize, message: usize) -> bool
 /// Writes an array whose nodes were taken: the buffers, one after the other, are its blob.
 fn write_taken(
     alloc: Global,
-    array: &TakenNode<'_>,
+    array: &NodeRef<'_, '_>,
     two: bool,
     ctx: &mut ArrayContext,
     options: &SerializeOptions,
@@ -247,5 +248,6 @@ pub(crate) fn write_array(
     };
     let room = most_levels(options);
     let node = take(alloc, Source::Lent(array), arrays, unknown, room)?;
-    write_taken(alloc, &node, two, ctx, options)
+    let root = NodeRef::taken(&node);
+    write_taken(alloc, &root, two, ctx, options)
 }

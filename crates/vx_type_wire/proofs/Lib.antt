@@ -1,22 +1,22 @@
-pub mod Distinct
-pub mod ReadBack
-pub mod Sound
-pub mod Rows
-pub mod TypeViews
-pub mod OfParts
-pub mod Judging
-pub mod LentReaders
-pub mod OneType
-pub mod Found
-pub mod Chains
-pub mod Members
-pub mod Weights
-pub mod Elements
-pub mod Written
+mod Distinct
+mod ReadBack
+mod Sound
+mod Rows
+mod TypeViews
+mod OfParts
+mod Judging
+mod LentReaders
+mod OneType
+mod Found
+mod Chains
+mod Members
+mod Weights
+mod Elements
+mod Written
 pub mod LawsTypes
-pub mod MessageForm
-pub mod MessageBack
-pub mod MessageSound
-pub mod MessageFound
-pub mod Named
-pub mod MessageSteps
+mod MessageForm
+mod MessageBack
+mod MessageSound
+mod MessageFound
+mod Named
+mod MessageSteps

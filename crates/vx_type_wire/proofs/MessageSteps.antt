@@ -7,7 +7,7 @@ use Rattle.vx_proto.specs.declared.element.Element.{Element}
 use Rattle.vx_proto.specs.Parts.{entries_in, message_of, text_of}
 use Rattle.vx_proto.specs.Repeated.{members, as_message}
 use Rattle.vx_proto.specs.Value.{Entry, Value, message, view, entries_view, slots_of}
-use Rattle.vx_proto.proofs.Suffixes.{entries_at}
+use Rattle.vx_proto.proofs.LawsOfParts.{entries_at}
 use Rattle.vx_types.specs.declared.dtype.DType.{DType}
 use Rattle.vx_types.specs.Seen.{typ, typs}
 use Rattle.vx_types.specs.Typ.{Typ}

@@ -1,5 +1,6 @@
-pub mod Contents
-pub mod Lists
-pub mod Trees
-pub mod Nullabilities
-pub mod FitsAgain
+mod Contents
+mod Lists
+mod Trees
+mod Nullabilities
+mod FitsAgain
+pub mod LawsOfTypes

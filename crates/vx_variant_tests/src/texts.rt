@@ -8,7 +8,7 @@ use vx_types::{DType, Name, PValue};
 
 // The text of a value of a type.
 #[cycle(text)]
-#[tactic(auto, using(vx_scalars::proofs::Lists::falling))]
+#[tactic(auto, using(vx_scalars::proofs::LawsOfLists::falling))]
 fn text_of(
     alloc: Global,
     value: Option<&ScalarValue>,
@@ -33,7 +33,7 @@ fn text_of(
 
 // The text of a tuple, by its type.
 #[cycle(text)]
-#[tactic(auto, using(vx_scalars::proofs::Lists::falling))]
+#[tactic(auto, using(vx_scalars::proofs::LawsOfLists::falling))]
 fn tuple_text(
     alloc: Global,
     values: &[Option<ScalarValue>],
@@ -55,7 +55,7 @@ fn tuple_text(
 
 // The texts of fields, each behind its name, parted by commas.
 #[cycle(text)]
-#[tactic(auto, using(vx_scalars::proofs::Lists::falling))]
+#[tactic(auto, using(vx_scalars::proofs::LawsOfLists::falling))]
 fn field_texts(
     alloc: Global,
     values: &[Option<ScalarValue>],
@@ -75,7 +75,7 @@ fn field_texts(
 
 // The texts of elements, parted by commas.
 #[cycle(text)]
-#[tactic(auto, using(vx_scalars::proofs::Lists::falling))]
+#[tactic(auto, using(vx_scalars::proofs::LawsOfLists::falling))]
 fn element_texts(
     alloc: Global,
     values: &[Option<ScalarValue>],

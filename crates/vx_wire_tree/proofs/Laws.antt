@@ -41,6 +41,10 @@ use Rattle.vx_wire_tree.proofs.TakenOwn as TakenOwn
 use Rattle.vx_wire_tree.proofs.TwoIdentifiers.{read_shipped, read_revised}
 use Rattle.vx_wire_tree.proofs.Unique as Unique
 use Rattle.vx_wire_tree.proofs.WrittenAlike as WrittenAlike
+-- What a plugin builds is told.
+pub use Rattle.vx_wire_tree.proofs.Plugins.{plugin_tells}
+-- What is written of an array that is read back matches its canon.
+pub use Rattle.vx_wire_tree.proofs.ReadAgain.{written_matches}
 
 module _ (c : Codec) (s : SessionMeaning) where
   -- A foreign node is spelled as what it keeps.

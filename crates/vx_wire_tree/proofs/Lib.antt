@@ -1,12 +1,12 @@
-pub mod TwoIdentifiers
-pub mod Unique
-pub mod WrittenAlike
-pub mod ReadAgain
-pub mod NeverRefused
-pub mod Kept
-pub mod Matched
-pub mod Built
-pub mod Plugins
-pub mod PluginsAgain
-pub mod TakenOwn
+mod TwoIdentifiers
+mod Unique
+mod WrittenAlike
+mod ReadAgain
+mod NeverRefused
+mod Kept
+mod Matched
+mod Built
+mod Plugins
+mod PluginsAgain
+mod TakenOwn
 pub mod Laws

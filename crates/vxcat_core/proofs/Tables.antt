@@ -33,8 +33,7 @@ use Rattle.vx_flat.specs.Spots.{Known, known_at, table_spot, spot, intern, spots
 use Rattle.vx_flat.specs.Value.{Fields, table, elements, field, no_fields}
 use Rattle.vx_flat.specs.ValueWeight.{weight_of}
 use Rattle.vx_flat.specs.Weight.{weight}
-use Rattle.vx_flat.proofs.Inverse.{layout_length}
-use Rattle.vx_flat.proofs.LawsOfMessages.{weight-shown}
+use Rattle.vx_flat.proofs.LawsOfMessages.{weight-shown, layout_length}
 use Rattle.vx_proto.specs.Written.{varint_within, varint_bytes, written}
 use Rattle.vx_wire_tree.specs.Context.{Context, with_ids, grown, grown_by}
 use Rattle.vx_wire_tree.specs.Fields.{DictFields}
@@ -46,8 +45,7 @@ use Rattle.vx_wire_tree.specs.Wire.{Wire, buffers_in, ids_in}
 use Rattle.vx_wire_tree.specs.Tells.{Tells}
 use Rattle.vx_wire_tree.specs.Matches.{Matches}
 use Rattle.vx_wire_tree.specs.Written.{wire, canon, body_id, writes_two}
-use Rattle.vx_wire_tree.proofs.Laws.{canon_own, never_untaken, taken_whole}
-use Rattle.vx_wire_tree.proofs.ReadAgain.{written_matches}
+use Rattle.vx_wire_tree.proofs.Laws.{canon_own, never_untaken, taken_whole, written_matches}
 use Rattle.vx_encodings.specs.BoolMessage.{bool_bytes}
 use Rattle.vx_encodings.specs.DictMessage.{dict_bytes}
 use Rattle.vx_encodings.specs.ListMessage.{list_bytes}
@@ -71,20 +69,11 @@ use Rattle.vx_serde.specs.Serializing.{IsSerialized, IsWrittenBlob}
 use Rattle.vx_serde.specs.Spells.{Spells, KeepsReaderLimits, KeepsWriterLimits, blob_of, ids_after}
 use Rattle.vx_serde.specs.Taking.{as_written}
 use Rattle.vx_serde.specs.Written.{message_bytes, message_pad, blob_bytes, IsWritable}
-use Rattle.vx_serde.proofs.Carried.{carried, is_blob, shows-layout}
-use Rattle.vx_serde.proofs.CarriedOnce.{one_blob}
-use Rattle.vx_serde.proofs.GrownPlaced.{grown_by-placed}
-use Rattle.vx_serde.proofs.MessageRead.{message_value_is_of}
-use Rattle.vx_serde.proofs.NumberedRead.{placed_from_ids, numbered_fits}
-use Rattle.vx_serde.proofs.WholeBlob.{length-blob}
-use Rattle.vx_serde.proofs.WiredStats.{wire-tabled}
-use Rattle.vx_serde.proofs.WrittenAgain.{grown-ids, wire-whole}
+use Rattle.vx_serde.proofs.LawsOfWriting.{carried, is_blob, shows-layout, one_blob, length-blob, message_value_is_of, placed_from_ids, numbered_fits, wire-tabled, grown-ids, wire-whole, grown_by-placed}
 use Rattle.vxcat_core.proofs.OwnNames.{wire_named, read_named}
 use Rattle.vx_generator.specs.Columns.{columns}
 use Rattle.vx_generator.specs.Made.{buffer, long_text, views, made, made_type}
-use Rattle.vx_generator.proofs.Fitting.{small}
-use Rattle.vx_generator.proofs.Grown.{few}
-use Rattle.vx_generator.proofs.Laws.{made_sound, made_normal, made_stats}
+use Rattle.vx_generator.proofs.Laws.{made_sound, made_normal, made_stats, small, few}
 
 -- ---- how long a layout is at most
 

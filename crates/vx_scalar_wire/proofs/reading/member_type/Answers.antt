@@ -1,5 +1,5 @@
 use Rattle.std.proofs.Common.{◌≡◌, ◌∙◌, sym, length, refl, arith}
-use Rattle.vx_scalars.proofs.Lists.{member-index, member-nowhere}
+use Rattle.vx_scalars.proofs.LawsOfLists.{member-index, member-nowhere}
 use Rattle.vx_scalar_wire.proofs.reading.member_type.Goals as goal
 
 pub returns-in-Some-clause-found : goal.returns-in-Some-clause-found

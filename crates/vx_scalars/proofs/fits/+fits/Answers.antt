@@ -3,7 +3,7 @@ use Rattle.std.specs.Bool.{IsTrue}
 use Rattle.vx_types.specs.Fits.{Fits}
 use Rattle.vx_types.specs.Seen.{typ}
 use Rattle.vx_types.specs.Value.{Value}
-use Rattle.vx_scalars.proofs.Lists.{member-index, member-nowhere, member-fits, no-member}
+use Rattle.vx_scalars.proofs.LawsOfLists.{member-index, member-nowhere, member-fits, no-member}
 use Rattle.vx_scalars.proofs.fits.+fits.Goals as goal
 
 pub fits_member-returns-in-Some : goal.fits_member-returns-in-Some

@@ -1,4 +1,4 @@
-use Rattle.std.proofs.Common.{◌++◌, ◌∷◌, [], arith, ap, sym, ◌∙◌}
+use Rattle.std.proofs.Common.{◌++◌, ◌∷◌, [], ◌<◌, length, arith, ap, sym, ◌∙◌}
 use Rattle.std.proofs.lemmas.Result.{err_from_is_err_and}
 use Rattle.vx_wire_tree.specs.Context.{index_of}
 use Rattle.vx_wire_tree.specs.Wire.{buffers_at_node}
@@ -25,70 +25,70 @@ returns-in_err-push_root-clause-cause t c = λ s q.
 pub returns-in_err-gather-clause-kept : goal.returns-in_err-gather-clause-kept
 returns-in_err-gather-clause-kept t c = λ s q.
     let a = c.args.array.now in
-    let ts = c.children-child-items.result.now in
-    let i = c.loop-child.child-index in
-    let u = c.child-item.result in
-    let lt = c.loop-child-test.true in
-    kept-child (wire codec s a) (wired s ts) i (wire codec s u) c.args.ctx.now c.push_root.new.ctx c.loop-child.ctx c.gather.new.ctx
-    (wired-below s a ts c.children-child-items.ensures.children) (wired-within s ts i lt) (wired-at s ts i u lt c.child-item.is)
-    (own-grown s c.args.two q a c.args.ctx.now c.push_root.new.ctx c.in_ok-push_root.ensures.grown) (c.loop-child.invariant.grown s q) (c.in_err-gather.ensures.kept s q)
+    let ts = c.children-children.result in
+    let i = c.loop-i.i in
+    let u = c.get-child.result in
+    let lt : i < length ts = omega (arith, c.loop-i-test.true, c.len-i-end.ensures) in
+    kept-child (wire codec s a) (wired s ts) i (wire codec s u) c.args.ctx.now c.push_root.new.ctx c.loop-i.ctx c.gather.new.ctx
+    (wired-below s a ts c.children-children.ensures.children) (wired-within s ts i lt) (wired-at s ts i u lt c.get-child.ensures)
+    (own-grown s c.args.two q a c.args.ctx.now c.push_root.new.ctx c.in_ok-push_root.ensures.grown) (c.loop-i.invariant.grown s q) (c.in_err-gather.ensures.kept s q)
 
 pub returns-in_err-gather-clause-cause : goal.returns-in_err-gather-clause-cause
 returns-in_err-gather-clause-cause t c = λ s q.
     let p = err_from_is_err_and c.from_residual-in_err-gather.result c.from_residual-in_err-gather.ensures.1 in
     rw (p.1, p.2)
-    (child-ungathered s c.args.two q c.args.array.now c.children-child-items.result.now c.loop-child.child-index c.child-item.result c.args.ctx.now c.push_root.new.ctx c.loop-child.ctx c.in_err-gather.field-0.0
-    c.loop-child-test.true c.child-item.is c.children-child-items.ensures.children c.in_ok-push_root.ensures.grown (c.loop-child.invariant.grown s q) (c.in_err-gather.ensures.cause s q))
+    (child-ungathered s c.args.two q c.args.array.now c.children-children.result c.loop-i.i c.get-child.result c.args.ctx.now c.push_root.new.ctx c.loop-i.ctx c.in_err-gather.field-0.0
+    (omega (arith, c.loop-i-test.true, c.len-i-end.ensures)) c.get-child.ensures c.children-children.ensures.children c.in_ok-push_root.ensures.grown (c.loop-i.invariant.grown s q) (c.in_err-gather.ensures.cause s q))
 
-pub loop-child-preserved : goal.loop-child-preserved
-loop-child-preserved t c =
-    let ts = c.children-child-items.result.now in
-    let i = c.loop-child.child-index in
-    let u = c.child-item.result in
-    let lt = c.loop-child-test.true in
-    let is = c.child-item.is in
+pub loop-i-preserved : goal.loop-i-preserved
+loop-i-preserved t c =
+    let ts = c.children-children.result in
+    let i = c.loop-i.i in
+    let u = c.get-child.result in
+    let lt : i < length ts = omega (arith, c.loop-i-test.true, c.len-i-end.ensures) in
+    let is = c.get-child.ensures in
     let start = c.push_root.new.found.encodings.items in
     record {
-      buffers = λ s. gathered-next s (λ h. buffers_at_node h) c.push_root.new.found.buffers c.loop-child.found.buffers c.gather.new.found.buffers ts i u lt is (c.loop-child.invariant.buffers s) (c.in_ok-gather.ensures.buffers s);
+      buffers = λ s. gathered-next s (λ h. buffers_at_node h) c.push_root.new.found.buffers c.loop-i.found.buffers c.gather.new.found.buffers ts i u lt is (c.loop-i.invariant.buffers s) (c.in_ok-gather.ensures.buffers s);
       encodings = λ s more q.
           let kept = c.in_ok-gather.ensures.kept s q in
-          gathered-next s (λ h. encoding_index h.id (c.gather.new.ctx.ids ++ more) ∷ []) start c.loop-child.found.encodings.items c.gather.new.found.encodings.items ts i u lt is
-          (c.loop-child.invariant.encodings s (kept.added ++ more) q
-          ∙ ap (λ ids. start ++ gathered_first s (λ h. encoding_index h.id ids ∷ []) ts i) (sym (longer-ids c.loop-child.ctx.ids kept.added more c.gather.new.ctx.ids kept.front)))
+          gathered-next s (λ h. encoding_index h.id (c.gather.new.ctx.ids ++ more) ∷ []) start c.loop-i.found.encodings.items c.gather.new.found.encodings.items ts i u lt is
+          (c.loop-i.invariant.encodings s (kept.added ++ more) q
+          ∙ ap (λ ids. start ++ gathered_first s (λ h. encoding_index h.id ids ∷ []) ts i) (sym (longer-ids c.loop-i.ctx.ids kept.added more c.gather.new.ctx.ids kept.front)))
           (c.in_ok-gather.ensures.encodings s more q);
-      grown = λ s q. grown-child (wired s ts) i (wire codec s u) c.push_root.new.ctx c.loop-child.ctx c.gather.new.ctx (wired-within s ts i lt) (wired-at s ts i u lt is) (c.loop-child.invariant.grown s q) (c.in_ok-gather.ensures.grown s q);
+      grown = λ s q. grown-child (wired s ts) i (wire codec s u) c.push_root.new.ctx c.loop-i.ctx c.gather.new.ctx (wired-within s ts i lt) (wired-at s ts i u lt is) (c.loop-i.invariant.grown s q) (c.in_ok-gather.ensures.grown s q);
     }
 
 pub returns-clause-buffers : goal.returns-clause-buffers
 returns-clause-buffers t c = λ s.
     let a = c.args.array.now in
-    gathered-all s (λ h. buffers_at_node h) c.args.found.now.buffers c.push_root.new.found.buffers c.loop-child.found.buffers a c.children-child-items.result.now c.loop-child.child-index (omega (arith, c.loop-child-test.false))
-    c.children-child-items.ensures.children (c.in_ok-push_root.ensures.buffers ∙ ap (λ z. c.args.found.now.buffers ++ z) (sym (own-buffers s a))) (c.loop-child.invariant.buffers s)
+    gathered-all s (λ h. buffers_at_node h) c.args.found.now.buffers c.push_root.new.found.buffers c.loop-i.found.buffers a c.children-children.result c.loop-i.i (omega (arith, c.loop-i-test.false, c.len-i-end.ensures))
+    c.children-children.ensures.children (c.in_ok-push_root.ensures.buffers ∙ ap (λ z. c.args.found.now.buffers ++ z) (sym (own-buffers s a))) (c.loop-i.invariant.buffers s)
 
 pub returns-clause-encodings : goal.returns-clause-encodings
 returns-clause-encodings t c = λ s more q.
     let a = c.args.array.now in
     let old = c.args.found.now.encodings.items in
-    let ids = c.loop-child.ctx.ids in
-    let kept = kept-grown _ c.push_root.new.ctx c.loop-child.ctx (c.loop-child.invariant.grown s q) in
-    gathered-all s (λ h. encoding_index h.id (ids ++ more) ∷ []) old c.push_root.new.found.encodings.items c.loop-child.found.encodings.items a c.children-child-items.result.now c.loop-child.child-index (omega (arith, c.loop-child-test.false))
-    c.children-child-items.ensures.children
+    let ids = c.loop-i.ctx.ids in
+    let kept = kept-grown _ c.push_root.new.ctx c.loop-i.ctx (c.loop-i.invariant.grown s q) in
+    gathered-all s (λ h. encoding_index h.id (ids ++ more) ∷ []) old c.push_root.new.found.encodings.items c.loop-i.found.encodings.items a c.children-children.result c.loop-i.i (omega (arith, c.loop-i-test.false, c.len-i-end.ensures))
+    c.children-children.ensures.children
     (c.in_ok-push_root.ensures.encodings (kept.added ++ more)
     ∙ ap (λ z. old ++ index_of (array_id c.args.two a) z ∷ []) (sym (longer-ids c.push_root.new.ctx.ids kept.added more ids kept.front))
     ∙ ap (λ n. old ++ n ∷ []) (sym (own-index s c.args.two q a (ids ++ more))))
-    (c.loop-child.invariant.encodings s more q)
+    (c.loop-i.invariant.encodings s more q)
 
 pub returns-clause-grown : goal.returns-clause-grown
 returns-clause-grown t c = λ s q.
     let a = c.args.array.now in
-    let ts = c.children-child-items.result.now in
-    let i = c.loop-child.child-index in
-    grown-whole (wire codec s a) (wired s ts) i c.args.ctx.now c.push_root.new.ctx c.loop-child.ctx (wired-below s a ts c.children-child-items.ensures.children) (wired-past s ts i c.loop-child-test.false)
-    (own-grown s c.args.two q a c.args.ctx.now c.push_root.new.ctx c.in_ok-push_root.ensures.grown) (c.loop-child.invariant.grown s q)
+    let ts = c.children-children.result in
+    let i = c.loop-i.i in
+    grown-whole (wire codec s a) (wired s ts) i c.args.ctx.now c.push_root.new.ctx c.loop-i.ctx (wired-below s a ts c.children-children.ensures.children) (wired-past s ts i (omega (arith, c.loop-i-test.false, c.len-i-end.ensures)))
+    (own-grown s c.args.two q a c.args.ctx.now c.push_root.new.ctx c.in_ok-push_root.ensures.grown) (c.loop-i.invariant.grown s q)
 
 pub returns-clause-kept : goal.returns-clause-kept
 returns-clause-kept t c = λ s q.
     let a = c.args.array.now in
-    let ts = c.children-child-items.result.now in
-    kept-front (wire codec s a) (wired s ts) c.loop-child.child-index c.args.ctx.now c.push_root.new.ctx c.loop-child.ctx (wired-below s a ts c.children-child-items.ensures.children)
-    (own-grown s c.args.two q a c.args.ctx.now c.push_root.new.ctx c.in_ok-push_root.ensures.grown) (c.loop-child.invariant.grown s q)
+    let ts = c.children-children.result in
+    kept-front (wire codec s a) (wired s ts) c.loop-i.i c.args.ctx.now c.push_root.new.ctx c.loop-i.ctx (wired-below s a ts c.children-children.ensures.children)
+    (own-grown s c.args.two q a c.args.ctx.now c.push_root.new.ctx c.in_ok-push_root.ensures.grown) (c.loop-i.invariant.grown s q)

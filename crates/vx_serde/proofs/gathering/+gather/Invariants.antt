@@ -11,10 +11,10 @@ use Rattle.vx_serde.proofs.gathering.+gather.Given as goal
 abbrev pub decreases-gather : goal.decreases-gather
 decreases-gather l = nodes l.array.now
 
-abbrev pub invariant-loop-child : goal.invariant-loop-child
-invariant-loop-child l = record {
-  buffers : (s : SessionMeaning) → l.found.buffers ≡ l.initial.found.buffers ++ gathered_first s (λ h. buffers_at_node h) l.child-items l.child-index;
+abbrev pub invariant-loop-i : goal.invariant-loop-i
+invariant-loop-i l = record {
+  buffers : (s : SessionMeaning) → l.found.buffers ≡ l.initial.found.buffers ++ gathered_first s (λ h. buffers_at_node h) l.children l.i;
   encodings : (s : SessionMeaning) (more : List (List ℕ)) → writes_two s ≡ l.two → l.found.encodings.items
-      ≡ l.initial.found.encodings.items ++ gathered_first s (λ h. encoding_index h.id (l.ctx.ids ++ more) ∷ []) l.child-items l.child-index;
-  grown : (s : SessionMeaning) → writes_two s ≡ l.two → grown_by (gathered_first s (λ h. id_in h) l.child-items l.child-index) l.initial.ctx ≡ Some l.ctx;
+      ≡ l.initial.found.encodings.items ++ gathered_first s (λ h. encoding_index h.id (l.ctx.ids ++ more) ∷ []) l.children l.i;
+  grown : (s : SessionMeaning) → writes_two s ≡ l.two → grown_by (gathered_first s (λ h. id_in h) l.children l.i) l.initial.ctx ≡ Some l.ctx;
 }

@@ -1,8 +1,8 @@
-use Rattle.std.proofs.Common.{◌≡◌, ◌∙◌, ◌+◌, ◌-◌, ◌≤◌, [], ◌∷◌, ◌++◌, length, take, drop, suc, refl, ap, sym, subst, arith, append_assoc, append-nil}
+use Rattle.std.proofs.Common.{◌≡◌, ◌∙◌, ◌+◌, ◌-◌, ◌≤◌, ◌<◌, [], ◌∷◌, ◌++◌, length, take, drop, suc, refl, ap, sym, subst, arith, append_assoc, append-nil}
 use Rattle.std.proofs.lemmas.List.{take_all}
 use Rattle.std.proofs.lemmas.Result.{err_from_is_err_and}
 use Rattle.vx_flat.specs.declared.builder.piece.LinkKind.TheVariants as link
-use Rattle.vx_flat.specs.Building.{IsNext, IsStopped, element_links}
+use Rattle.vx_flat.specs.Building.{IsNext, IsStopped, IsRefused, with_piece, element_links}
 use Rattle.vx_flat.specs.Pieces.{elements_piece, links_piece}
 use Rattle.vx_trees.specs.Rose.{label, below, roses_of, roses_list}
 use Rattle.vx_trees.specs.Walks as walk
@@ -76,7 +76,7 @@ write_node-write_nodes-requires t c =
     let m = c.as_slice.result.now in
     let w0 = way0 old v c.table.new.self c.encoding_entry.result c.encoding_entry.ensures c.in_ok-node.ensures.written in
     let w1 = way1 old v c.table.new.self c.link.new.self c.write_elements.new.builder m w0 c.link.ensures.waits c.in_ok-write_elements.ensures.written in
-    let ts = c.children.result.now in
+    let ts = c.children.result in
     let at = c.children.ensures.children in
     (omega (arith, counted-below a ts at), (awaited old (node_piece v) _ _ _ c.write_elements.new.builder c.link-2.new.self w1 c.link-2.ensures.waits, (omega (arith, c.requires.known, counted-below a ts at, c.in_ok-parts.ensures.nodes), (λ s. omega (arith, c.requires.few s, buffers-split s a ts at, c.in_ok-parts.ensures.buffers), omega (arith, c.requires.counted, counted-below a ts at)))))
 
@@ -88,7 +88,7 @@ write_node-link-requires-3-clause-idle t c =
     let m = c.as_slice.result.now in
     let w0 = way0 old v c.table.new.self c.encoding_entry.result c.encoding_entry.ensures c.in_ok-node.ensures.written in
     let w1 = way1 old v c.table.new.self c.link.new.self c.write_elements.new.builder m w0 c.link.ensures.waits c.in_ok-write_elements.ensures.written in
-    let kids = children_pieces c.args.encodings.now c.node_parts.new.passed.nodes c.node_parts.new.passed.buffers (wires codec no_session (roses_of c.children.result.now)) in
+    let kids = children_pieces c.args.encodings.now c.node_parts.new.passed.nodes c.node_parts.new.passed.buffers (wires codec no_session (roses_of c.children.result)) in
     let w2 = way2 old v c.write_elements.new.builder c.link-2.new.self c.write_nodes.new.builder m kids w1 c.link-2.ensures.waits (c.in_ok-write_nodes.ensures.written no_session) in
     λ _. idle old (node_piece v) _ _ c.write_nodes.new.builder w2
 
@@ -100,7 +100,7 @@ write_node-link-requires-3-clause-next t c =
     let m = c.as_slice.result.now in
     let w0 = way0 old v c.table.new.self c.encoding_entry.result c.encoding_entry.ensures c.in_ok-node.ensures.written in
     let w1 = way1 old v c.table.new.self c.link.new.self c.write_elements.new.builder m w0 c.link.ensures.waits c.in_ok-write_elements.ensures.written in
-    let kids = children_pieces c.args.encodings.now c.node_parts.new.passed.nodes c.node_parts.new.passed.buffers (wires codec no_session (roses_of c.children.result.now)) in
+    let kids = children_pieces c.args.encodings.now c.node_parts.new.passed.nodes c.node_parts.new.passed.buffers (wires codec no_session (roses_of c.children.result)) in
     let w2 = way2 old v c.write_elements.new.builder c.link-2.new.self c.write_nodes.new.builder m kids w1 c.link-2.ensures.waits (c.in_ok-write_nodes.ensures.written no_session) in
     λ _. subst (λ n. IsNext c.write_nodes.new.builder.left n 3) (sym c.in_ok-node.ensures.number) (next_is old (node_piece v) _ _ _ c.write_nodes.new.builder w2)
 
@@ -112,7 +112,7 @@ write_node-write_elements-requires-2-clause-takes t c =
     let m = c.as_slice.result.now in
     let w0 = way0 old v c.table.new.self c.encoding_entry.result c.encoding_entry.ensures c.in_ok-node.ensures.written in
     let w1 = way1 old v c.table.new.self c.link.new.self c.write_elements.new.builder m w0 c.link.ensures.waits c.in_ok-write_elements.ensures.written in
-    let kids = children_pieces c.args.encodings.now c.node_parts.new.passed.nodes c.node_parts.new.passed.buffers (wires codec no_session (roses_of c.children.result.now)) in
+    let kids = children_pieces c.args.encodings.now c.node_parts.new.passed.nodes c.node_parts.new.passed.buffers (wires codec no_session (roses_of c.children.result)) in
     let w2 = way2 old v c.write_elements.new.builder c.link-2.new.self c.write_nodes.new.builder m kids w1 c.link-2.ensures.waits (c.in_ok-write_nodes.ensures.written no_session) in
     awaited old (node_piece v) _ _ _ c.write_nodes.new.builder c.link-3.new.self w2 c.link-3.ensures.waits
 
@@ -124,7 +124,7 @@ write_node-link-requires-4-clause-idle t c =
     let m = c.as_slice.result.now in
     let w0 = way0 old v c.table.new.self c.encoding_entry.result c.encoding_entry.ensures c.in_ok-node.ensures.written in
     let w1 = way1 old v c.table.new.self c.link.new.self c.write_elements.new.builder m w0 c.link.ensures.waits c.in_ok-write_elements.ensures.written in
-    let kids = children_pieces c.args.encodings.now c.node_parts.new.passed.nodes c.node_parts.new.passed.buffers (wires codec no_session (roses_of c.children.result.now)) in
+    let kids = children_pieces c.args.encodings.now c.node_parts.new.passed.nodes c.node_parts.new.passed.buffers (wires codec no_session (roses_of c.children.result)) in
     let w2 = way2 old v c.write_elements.new.builder c.link-2.new.self c.write_nodes.new.builder m kids w1 c.link-2.ensures.waits (c.in_ok-write_nodes.ensures.written no_session) in
     let bytes = c.deref.result.now in
     let w3 = way3 old v c.write_nodes.new.builder c.link-3.new.self c.write_elements-2.new.builder m bytes kids w2 c.link-3.ensures.waits c.in_ok-write_elements-2.ensures.written in
@@ -138,7 +138,7 @@ write_node-link-requires-4-clause-next t c =
     let m = c.as_slice.result.now in
     let w0 = way0 old v c.table.new.self c.encoding_entry.result c.encoding_entry.ensures c.in_ok-node.ensures.written in
     let w1 = way1 old v c.table.new.self c.link.new.self c.write_elements.new.builder m w0 c.link.ensures.waits c.in_ok-write_elements.ensures.written in
-    let kids = children_pieces c.args.encodings.now c.node_parts.new.passed.nodes c.node_parts.new.passed.buffers (wires codec no_session (roses_of c.children.result.now)) in
+    let kids = children_pieces c.args.encodings.now c.node_parts.new.passed.nodes c.node_parts.new.passed.buffers (wires codec no_session (roses_of c.children.result)) in
     let w2 = way2 old v c.write_elements.new.builder c.link-2.new.self c.write_nodes.new.builder m kids w1 c.link-2.ensures.waits (c.in_ok-write_nodes.ensures.written no_session) in
     let bytes = c.deref.result.now in
     let w3 = way3 old v c.write_nodes.new.builder c.link-3.new.self c.write_elements-2.new.builder m bytes kids w2 c.link-3.ensures.waits c.in_ok-write_elements-2.ensures.written in
@@ -152,7 +152,7 @@ write_node-write_statistics-requires t c =
     let m = c.as_slice.result.now in
     let w0 = way0 old v c.table.new.self c.encoding_entry.result c.encoding_entry.ensures c.in_ok-node.ensures.written in
     let w1 = way1 old v c.table.new.self c.link.new.self c.write_elements.new.builder m w0 c.link.ensures.waits c.in_ok-write_elements.ensures.written in
-    let kids = children_pieces c.args.encodings.now c.node_parts.new.passed.nodes c.node_parts.new.passed.buffers (wires codec no_session (roses_of c.children.result.now)) in
+    let kids = children_pieces c.args.encodings.now c.node_parts.new.passed.nodes c.node_parts.new.passed.buffers (wires codec no_session (roses_of c.children.result)) in
     let w2 = way2 old v c.write_elements.new.builder c.link-2.new.self c.write_nodes.new.builder m kids w1 c.link-2.ensures.waits (c.in_ok-write_nodes.ensures.written no_session) in
     let bytes = c.deref.result.now in
     let w3 = way3 old v c.write_nodes.new.builder c.link-3.new.self c.write_elements-2.new.builder m bytes kids w2 c.link-3.ensures.waits c.in_ok-write_elements-2.ensures.written in
@@ -213,8 +213,8 @@ write_node-returns-in_err-write_nodes-clause-stopped t c = λ s.
     let m = c.as_slice.result.now in
     let w0 = way0 old v c.table.new.self c.encoding_entry.result c.encoding_entry.ensures c.in_ok-node.ensures.written in
     let w1 = way1 old v c.table.new.self c.link.new.self c.write_elements.new.builder m w0 c.link.ensures.waits c.in_ok-write_elements.ensures.written in
-    let kids = children_pieces c.args.encodings.now c.node_parts.new.passed.nodes c.node_parts.new.passed.buffers (wires codec s (roses_of c.children.result.now)) in
-    let whole = node-is s a c.children.result.now c.children.ensures.children c.args.encodings.now c.args.passed.now.nodes c.args.passed.now.buffers c.node_parts.new.passed.nodes c.node_parts.new.passed.buffers v c.in_ok-parts.parts.metadata c.in_ok-parts.parts.buffers.items
+    let kids = children_pieces c.args.encodings.now c.node_parts.new.passed.nodes c.node_parts.new.passed.buffers (wires codec s (roses_of c.children.result)) in
+    let whole = node-is s a c.children.result c.children.ensures.children c.args.encodings.now c.args.passed.now.nodes c.args.passed.now.buffers c.node_parts.new.passed.nodes c.node_parts.new.passed.buffers v c.in_ok-parts.parts.metadata c.in_ok-parts.parts.buffers.items
     c.in_ok-parts.ensures.encoding c.in_ok-parts.ensures.metadata c.in_ok-parts.ensures.numbers c.in_ok-parts.ensures.nodes c.in_ok-parts.ensures.buffers in
     rw (p.1, p.2)
     (cut_short old (node_piece v) _ (elements_piece 1 m ∷ []) c.write_elements.new.builder c.link-2.new.self c.write_nodes.new.builder kids (elements_piece 2 c.in_ok-parts.parts.buffers.items ∷ stats_pieces (label a).stats) (node_pieces c.args.encodings.now c.args.passed.now.nodes c.args.passed.now.buffers (wire codec s a)) c.in_err-write_nodes.field-0.0
@@ -230,10 +230,10 @@ write_node-returns-in_err-write_elements-2-clause-stopped t c = λ s.
     let m = c.as_slice.result.now in
     let w0 = way0 old v c.table.new.self c.encoding_entry.result c.encoding_entry.ensures c.in_ok-node.ensures.written in
     let w1 = way1 old v c.table.new.self c.link.new.self c.write_elements.new.builder m w0 c.link.ensures.waits c.in_ok-write_elements.ensures.written in
-    let kids = children_pieces c.args.encodings.now c.node_parts.new.passed.nodes c.node_parts.new.passed.buffers (wires codec s (roses_of c.children.result.now)) in
+    let kids = children_pieces c.args.encodings.now c.node_parts.new.passed.nodes c.node_parts.new.passed.buffers (wires codec s (roses_of c.children.result)) in
     let w2 = way2 old v c.write_elements.new.builder c.link-2.new.self c.write_nodes.new.builder m kids w1 c.link-2.ensures.waits (c.in_ok-write_nodes.ensures.written s) in
     let bytes = c.deref.result.now in
-    let whole = node-is s a c.children.result.now c.children.ensures.children c.args.encodings.now c.args.passed.now.nodes c.args.passed.now.buffers c.node_parts.new.passed.nodes c.node_parts.new.passed.buffers v c.in_ok-parts.parts.metadata c.in_ok-parts.parts.buffers.items
+    let whole = node-is s a c.children.result c.children.ensures.children c.args.encodings.now c.args.passed.now.nodes c.args.passed.now.buffers c.node_parts.new.passed.nodes c.node_parts.new.passed.buffers v c.in_ok-parts.parts.metadata c.in_ok-parts.parts.buffers.items
     c.in_ok-parts.ensures.encoding c.in_ok-parts.ensures.metadata c.in_ok-parts.ensures.numbers c.in_ok-parts.ensures.nodes c.in_ok-parts.ensures.buffers in
     let same : node_piece v ∷ (elements_piece 1 m ∷ (kids ++ (elements_piece 2 bytes ∷ stats_pieces (label a).stats))) ≡ node_pieces c.args.encodings.now c.args.passed.now.nodes c.args.passed.now.buffers (wire codec s a) =
     (λ k. node_piece v ∷ (elements_piece 1 (c.as_slice.ensures k) ∷ (kids ++ (elements_piece 2 (c.deref.ensures.value k) ∷ stats_pieces (label a).stats)))) ∙ whole in
@@ -250,11 +250,11 @@ write_node-returns-in_err-write_statistics-clause-stopped t c = λ s.
     let m = c.as_slice.result.now in
     let w0 = way0 old v c.table.new.self c.encoding_entry.result c.encoding_entry.ensures c.in_ok-node.ensures.written in
     let w1 = way1 old v c.table.new.self c.link.new.self c.write_elements.new.builder m w0 c.link.ensures.waits c.in_ok-write_elements.ensures.written in
-    let kids = children_pieces c.args.encodings.now c.node_parts.new.passed.nodes c.node_parts.new.passed.buffers (wires codec s (roses_of c.children.result.now)) in
+    let kids = children_pieces c.args.encodings.now c.node_parts.new.passed.nodes c.node_parts.new.passed.buffers (wires codec s (roses_of c.children.result)) in
     let w2 = way2 old v c.write_elements.new.builder c.link-2.new.self c.write_nodes.new.builder m kids w1 c.link-2.ensures.waits (c.in_ok-write_nodes.ensures.written s) in
     let bytes = c.deref.result.now in
     let w3 = way3 old v c.write_nodes.new.builder c.link-3.new.self c.write_elements-2.new.builder m bytes kids w2 c.link-3.ensures.waits c.in_ok-write_elements-2.ensures.written in
-    let whole = node-is s a c.children.result.now c.children.ensures.children c.args.encodings.now c.args.passed.now.nodes c.args.passed.now.buffers c.node_parts.new.passed.nodes c.node_parts.new.passed.buffers v c.in_ok-parts.parts.metadata c.in_ok-parts.parts.buffers.items
+    let whole = node-is s a c.children.result c.children.ensures.children c.args.encodings.now c.args.passed.now.nodes c.args.passed.now.buffers c.node_parts.new.passed.nodes c.node_parts.new.passed.buffers v c.in_ok-parts.parts.metadata c.in_ok-parts.parts.buffers.items
     c.in_ok-parts.ensures.encoding c.in_ok-parts.ensures.metadata c.in_ok-parts.ensures.numbers c.in_ok-parts.ensures.nodes c.in_ok-parts.ensures.buffers in
     let same : node_piece v ∷ (elements_piece 1 m ∷ (kids ++ (elements_piece 2 bytes ∷ stats_pieces (label a).stats))) ≡ node_pieces c.args.encodings.now c.args.passed.now.nodes c.args.passed.now.buffers (wire codec s a) =
     (λ k. node_piece v ∷ (elements_piece 1 (c.as_slice.ensures k) ∷ (kids ++ (elements_piece 2 (c.deref.ensures.value k) ∷ stats_pieces (label a).stats)))) ∙ whole in
@@ -272,11 +272,11 @@ write_node-returns-clause-written t c = λ s.
     let m = c.as_slice.result.now in
     let w0 = way0 old v c.table.new.self c.encoding_entry.result c.encoding_entry.ensures c.in_ok-node.ensures.written in
     let w1 = way1 old v c.table.new.self c.link.new.self c.write_elements.new.builder m w0 c.link.ensures.waits c.in_ok-write_elements.ensures.written in
-    let kids = children_pieces c.args.encodings.now c.node_parts.new.passed.nodes c.node_parts.new.passed.buffers (wires codec s (roses_of c.children.result.now)) in
+    let kids = children_pieces c.args.encodings.now c.node_parts.new.passed.nodes c.node_parts.new.passed.buffers (wires codec s (roses_of c.children.result)) in
     let w2 = way2 old v c.write_elements.new.builder c.link-2.new.self c.write_nodes.new.builder m kids w1 c.link-2.ensures.waits (c.in_ok-write_nodes.ensures.written s) in
     let bytes = c.deref.result.now in
     let w3 = way3 old v c.write_nodes.new.builder c.link-3.new.self c.write_elements-2.new.builder m bytes kids w2 c.link-3.ensures.waits c.in_ok-write_elements-2.ensures.written in
-    let whole = node-is s a c.children.result.now c.children.ensures.children c.args.encodings.now c.args.passed.now.nodes c.args.passed.now.buffers c.node_parts.new.passed.nodes c.node_parts.new.passed.buffers v c.in_ok-parts.parts.metadata c.in_ok-parts.parts.buffers.items
+    let whole = node-is s a c.children.result c.children.ensures.children c.args.encodings.now c.args.passed.now.nodes c.args.passed.now.buffers c.node_parts.new.passed.nodes c.node_parts.new.passed.buffers v c.in_ok-parts.parts.metadata c.in_ok-parts.parts.buffers.items
     c.in_ok-parts.ensures.encoding c.in_ok-parts.ensures.metadata c.in_ok-parts.ensures.numbers c.in_ok-parts.ensures.nodes c.in_ok-parts.ensures.buffers in
     let same : node_piece v ∷ (elements_piece 1 m ∷ (kids ++ (elements_piece 2 bytes ∷ stats_pieces (label a).stats))) ≡ node_pieces c.args.encodings.now c.args.passed.now.nodes c.args.passed.now.buffers (wire codec s a) =
     (λ k. node_piece v ∷ (elements_piece 1 (c.as_slice.ensures k) ∷ (kids ++ (elements_piece 2 (c.deref.ensures.value k) ∷ stats_pieces (label a).stats)))) ∙ whole in
@@ -285,21 +285,21 @@ write_node-returns-clause-written t c = λ s.
 
 pub write_node-returns-clause-nodes : goal.write_node-returns-clause-nodes
 write_node-returns-clause-nodes t c =
-    omega (arith, counted-below c.args.array.now c.children.result.now c.children.ensures.children, c.in_ok-parts.ensures.nodes, c.in_ok-write_nodes.ensures.nodes)
+    omega (arith, counted-below c.args.array.now c.children.result c.children.ensures.children, c.in_ok-parts.ensures.nodes, c.in_ok-write_nodes.ensures.nodes)
 
 pub write_node-returns-clause-buffers : goal.write_node-returns-clause-buffers
 write_node-returns-clause-buffers t c = λ s.
-    omega (arith, buffers-split s c.args.array.now c.children.result.now c.children.ensures.children, c.in_ok-parts.ensures.buffers, c.in_ok-write_nodes.ensures.buffers s)
+    omega (arith, buffers-split s c.args.array.now c.children.result c.children.ensures.children, c.in_ok-parts.ensures.buffers, c.in_ok-write_nodes.ensures.buffers s)
 
 pub write_node-returns-clause-storable : goal.write_node-returns-clause-storable
 write_node-returns-clause-storable t c =
-    stored-node c.args.array.now c.children.result.now c.children.ensures.children c.in_ok-write_statistics.ensures.storable c.in_ok-write_nodes.ensures.storable
+    stored-node c.args.array.now c.children.result c.children.ensures.children c.in_ok-write_statistics.ensures.storable c.in_ok-write_nodes.ensures.storable
 
 -- ---- the nodes below one
 
-pub write_nodes-overflow_cast-arrays : goal.write_nodes-overflow_cast-arrays
-write_nodes-overflow_cast-arrays t c =
-    omega (arith, counted-list c.args.arrays.now, c.requires.counted)
+pub write_nodes-overflow_cast-len : goal.write_nodes-overflow_cast-len
+write_nodes-overflow_cast-len t c =
+    omega (arith, counted-list c.args.arrays.now, c.requires.counted, c.len.ensures)
 
 pub write_nodes-loop-i-init : goal.write_nodes-loop-i-init
 write_nodes-loop-i-init t c =
@@ -313,7 +313,7 @@ write_nodes-loop-i-init t c =
     record {
       places = omega arith;
       count = λ s. omega arith;
-      so_far = λ s. begun old c.vector.new.self p p _ c.in_ok-vector.ensures.written refl (ap (λ m. element_links old.count 0 link.Table m) all);
+      so_far = λ s. begun old c.vector.new.self p p _ (subst (λ n. c.vector.new.self ≡ with_piece old (links_piece link.Table n)) c.len.ensures c.in_ok-vector.ensures.written) refl (ap (λ m. element_links old.count 0 link.Table m) all);
       stored = tt;
       fits = c.in_ok-vector.ensures.fits refl;
       numbered = c.in_ok-vector.ensures.number;
@@ -341,7 +341,7 @@ write_nodes-link-requires-clause-next t c =
     let p = links_piece link.Table (length ts) in
     let i = c.loop-i.i in
     let now = c.loop-i.builder in
-    let lt = c.loop-i-test.true in
+    let lt : i < length ts = omega (arith, c.loop-i-test.true, c.len-i-end.ensures) in
     let way = next_left old link.Table (length ts) i (rows_of es k first (take i (wired no_session ts))) now lt (c.loop-i.invariant.so_far no_session) in
     λ _. subst (λ n. IsNext now.left n i) (sym c.loop-i.invariant.numbered) (next_is old _ _ _ _ now way)
 
@@ -355,9 +355,9 @@ write_nodes-write_node-requires t c =
     let p = links_piece link.Table (length ts) in
     let i = c.loop-i.i in
     let now = c.loop-i.builder in
-    let lt = c.loop-i-test.true in
-    let u = c.index-arrays-i.result in
-    let is = c.index-arrays-i.is in
+    let lt : i < length ts = omega (arith, c.loop-i-test.true, c.len-i-end.ensures) in
+    let u = c.get-node.result in
+    let is = c.get-node.ensures in
     let way = next_left old link.Table (length ts) i (rows_of es k first (take i (wired no_session ts))) now lt (c.loop-i.invariant.so_far no_session) in
     let split = nodes-split ts i u lt is in (
       omega (arith, split),
@@ -381,7 +381,7 @@ write_nodes-returns-in_err-vector-clause-stopped t c = λ s.
     let p = links_piece link.Table (length ts) in
     rw (q.1, q.2)
     (subst (λ z. IsStopped old z c.in_err-vector.field-0.0 c.vector.new.self) (children-whole s ts es k first)
-    (refused old c.vector.new.self p p (rows_of es k first (wired s ts)) c.in_err-vector.field-0.0 refl c.in_err-vector.ensures.refused))
+    (refused old c.vector.new.self p p (rows_of es k first (wired s ts)) c.in_err-vector.field-0.0 refl (subst (λ n. IsRefused old (links_piece link.Table n) c.in_err-vector.field-0.0 c.vector.new.self) c.len.ensures c.in_err-vector.ensures.refused)))
 
 pub write_nodes-returns-in_err-write_node-clause-stopped : goal.write_nodes-returns-in_err-write_node-clause-stopped
 write_nodes-returns-in_err-write_node-clause-stopped t c = λ s.
@@ -394,9 +394,9 @@ write_nodes-returns-in_err-write_node-clause-stopped t c = λ s.
     let p = links_piece link.Table (length ts) in
     let i = c.loop-i.i in
     let now = c.loop-i.builder in
-    let lt = c.loop-i-test.true in
-    let u = c.index-arrays-i.result in
-    let is = c.index-arrays-i.is in
+    let lt : i < length ts = omega (arith, c.loop-i-test.true, c.len-i-end.ensures) in
+    let u = c.get-node.result in
+    let is = c.get-node.ensures in
     let way = next_left old link.Table (length ts) i (rows_of es k first (take i (wired s ts))) now lt (c.loop-i.invariant.so_far s) in
     let places = c.loop-i.invariant.places ∙ ap (λ n. k + n) (sym (wired-first s ts i)) in
     rw (q.1, q.2)
@@ -416,9 +416,9 @@ write_nodes-loop-i-preserved t c =
     let p = links_piece link.Table (length ts) in
     let i = c.loop-i.i in
     let now = c.loop-i.builder in
-    let lt = c.loop-i-test.true in
-    let u = c.index-arrays-i.result in
-    let is = c.index-arrays-i.is in
+    let lt : i < length ts = omega (arith, c.loop-i-test.true, c.len-i-end.ensures) in
+    let u = c.get-node.result in
+    let is = c.get-node.ensures in
     record {
       places = omega (arith, c.in_ok-write_node.ensures.nodes, c.loop-i.invariant.places, nodes-up_to ts i u lt is);
       count = λ s. omega (arith, c.in_ok-write_node.ensures.buffers s, c.loop-i.invariant.count s, buffers-up_to s ts i u lt is);
@@ -443,7 +443,7 @@ write_nodes-returns-clause-nodes t c =
     let p = links_piece link.Table (length ts) in
     let i = c.loop-i.i in
     let now = c.loop-i.builder in
-    let past : length ts ≤ i = omega (arith, c.loop-i-test.false) in
+    let past : length ts ≤ i = omega (arith, c.loop-i-test.false, c.len-i-end.ensures) in
     omega (arith, c.loop-i.invariant.places, nodes-all_of ts i past)
 
 pub write_nodes-returns-clause-buffers : goal.write_nodes-returns-clause-buffers
@@ -456,7 +456,7 @@ write_nodes-returns-clause-buffers t c = λ s.
     let p = links_piece link.Table (length ts) in
     let i = c.loop-i.i in
     let now = c.loop-i.builder in
-    let past : length ts ≤ i = omega (arith, c.loop-i-test.false) in
+    let past : length ts ≤ i = omega (arith, c.loop-i-test.false, c.len-i-end.ensures) in
     omega (arith, c.loop-i.invariant.count s, buffers-all_of s ts i past)
 
 pub write_nodes-returns-clause-written : goal.write_nodes-returns-clause-written
@@ -469,7 +469,7 @@ write_nodes-returns-clause-written t c = λ s.
     let p = links_piece link.Table (length ts) in
     let i = c.loop-i.i in
     let now = c.loop-i.builder in
-    let past : length ts ≤ i = omega (arith, c.loop-i-test.false) in
+    let past : length ts ≤ i = omega (arith, c.loop-i-test.false, c.len-i-end.ensures) in
     let none : length ts - i ≡ 0 = omega (arith, past) in
     let last : IsPartWay old p [] (rows_of es k first (wired s ts)) now =
     subst (λ us. IsPartWay old p [] (rows_of es k first us) now) (take_all i (wired s ts) (omega (arith, past, wired-length s ts)))
@@ -479,4 +479,4 @@ write_nodes-returns-clause-written t c = λ s.
 pub write_nodes-returns-clause-storable : goal.write_nodes-returns-clause-storable
 write_nodes-returns-clause-storable t c =
     let ts = c.args.arrays.now in
-    stored-all ts c.loop-i.i (omega (arith, c.loop-i-test.false)) c.loop-i.invariant.stored
+    stored-all ts c.loop-i.i (omega (arith, c.loop-i-test.false, c.len-i-end.ensures)) c.loop-i.invariant.stored

@@ -1,4 +1,6 @@
-use Rattle.std.proofs.Common.{◌≡◌, ◌≤◌, ◌-◌, ◌++◌, ◌∷◌, [], length, None, arith, refl, sym, ap, ◌∙◌, subst}
+use Rattle.std.proofs.Common.{◌≡◌, ◌≤◌, ◌-◌, ◌++◌, ◌∷◌, [], length, Some, None, arith, refl, sym, ap, ◌∙◌, subst}
+use Rattle.std.specs.Prelude.{slice_get}
+use Rattle.std.proofs.lemmas.List.{take_all}
 use Rattle.vx_trees.specs.Rose.{count, node, roses_of, roses_list}
 use Rattle.vx_trees.proofs.Lists.{length-roses_list}
 use Rattle.vx_types.specs.Known.{ExtMeaning}
@@ -6,8 +8,8 @@ use Rattle.vx_array_tree.specs.Tree.{places}
 use Rattle.vx_registry.specs.Meaning.{arrays_meaning}
 use Rattle.vx_serde.specs.contracts.taken.fill.{dyn-1-ghosts}
 use Rattle.vx_serde.specs.declared.taken.TakenRoot.{TakenRoot}
-use Rattle.vx_serde.specs.Taking.{written_head, written_below, AreTaken, AreWithin, IsOpened, RefusesOneOf}
-use Rattle.vx_serde.proofs.TakenBelow.{none_within, one_more_within, one_more_taken, whole_taken, stands_below, node_levels, node_messages, node_taken, node_is_taken, filled_not, of_ok}
+use Rattle.vx_serde.specs.Taking.{source_tree, written_head, written_below, IsOwn, AreTaken, AreWithin, IsOpened, RefusesOneOf}
+use Rattle.vx_serde.proofs.TakenBelow.{none_within, one_more_within, one_more_taken, whole_taken, stands_below, node_levels, node_messages, node_taken, node_is_taken, filled_not, of_ok, own_tree, one_more_own}
 use Rattle.vx_serde.proofs.taken.+fill.Goals as goal
 
 pub loop-i-init : goal.loop-i-init
@@ -15,6 +17,7 @@ loop-i-init g t c = record {
   root = refl;
   taken = λ x u. record { made = c.requires.none; written_each = tt };
   within = none_within c.args.room c.args.above.now.children.items c.requires.none;
+  own = λ _. c.requires.none;
 }
 
 pub child-requires : goal.child-requires
@@ -25,6 +28,7 @@ returns-in-Err g t c = record {
   root = c.loop-i.invariant.root;
   taken = λ x u. tt;
   within = tt;
+  own = tt;
   cause = λ x u.
       let s = arrays_meaning (λ b. ((dyn-1-ghosts g.dyn-1).0.entry b.vtable).1.means b.value) c.args.arrays.now x in
       subst (λ (r : TakenRoot). RefusesOneOf s c.args.room (written_below r) c.in-Err.e) c.loop-i.invariant.root (c.in-Err.ensures.cause x u);
@@ -34,18 +38,24 @@ pub fill-filled-requires : goal.fill-filled-requires
 fill-filled-requires g t c = (omega (arith, c.in-Ok.ensures.room, c.decreases), c.in-Ok.ensures.none)
 
 pub close-requires : goal.close-requires
-close-requires g t c = λ ok.
-    let x : ExtMeaning = record { reader = λ id. None; unknown = c.args.unknown } in
-    let s = arrays_meaning (λ b. ((dyn-1-ghosts g.dyn-1).0.entry b.vtable).1.means b.value) c.args.arrays.now x in
-    let us = c.fill-filled.new.above.children.items in
-    subst (λ (r : TakenRoot). places (roses_of us) ≡ places (written_below r)) (sym c.fill-filled.ensures.root)
-    (stands_below s (c.args.room - 1) (written_below c.in-Ok.child.root) us (of_ok c.fill-filled.result _ ok (c.fill-filled.ensures.taken x refl)))
+close-requires g t c = record {
+  places = λ ok.
+      let x : ExtMeaning = record { reader = λ id. None; unknown = c.args.unknown } in
+      let s = arrays_meaning (λ b. ((dyn-1-ghosts g.dyn-1).0.entry b.vtable).1.means b.value) c.args.arrays.now x in
+      let us = c.fill-filled.new.above.children.items in
+      subst (λ (r : TakenRoot). places (roses_of us) ≡ places (written_below r)) (sym c.fill-filled.ensures.root)
+      (stands_below s (c.args.room - 1) (written_below c.in-Ok.child.root) us (of_ok c.fill-filled.result _ ok (c.fill-filled.ensures.taken x refl)));
+  own = λ ok o.
+      let us = c.fill-filled.new.above.children.items in
+      subst (λ (r : TakenRoot). us ≡ roses_list (written_below r)) (sym c.fill-filled.ensures.root) (of_ok c.fill-filled.result _ ok c.fill-filled.ensures.own o);
+}
 
 pub returns-in-Err-close : goal.returns-in-Err-close
 returns-in-Err-close g t c = record {
   root = c.close.ensures.root ∙ c.loop-i.invariant.root;
   taken = λ x u. tt;
   within = tt;
+  own = tt;
   cause = λ x u.
       let s = arrays_meaning (λ b. ((dyn-1-ghosts g.dyn-1).0.entry b.vtable).1.means b.value) c.args.arrays.now x in
       let child = c.in-Ok.child.root in
@@ -77,6 +87,11 @@ loop-i-preserved g t c =
           one_more_within c.args.room c.loop-i.above.children.items c.close.new.self.children.items u c.loop-i.invariant.within (node_levels c.args.room (written_head child) us c.in-Ok.ensures.room within)
           (node_messages m (c.args.room - 1) (written_below child) us (of_ok c.fill-filled.result (AreTaken m (c.args.room - 1) (roses_list (written_below child)) us) ok (c.fill-filled.ensures.taken any refl)) (written_head child) c.in-Ok.ensures.message within)
           more;
+      own = λ o.
+          let k = c.in-Ok-close.ensures.own o in
+          let ts = roses_list (written_below c.args.above.now.root) in
+          let stands = subst (λ (r : TakenRoot). slice_get (roses_list (written_below r)) c.loop-i.i ≡ Some (source_tree child.source)) c.loop-i.invariant.root c.in-Ok.ensures.stands in
+          one_more_own ts c.loop-i.i (source_tree child.source) c.loop-i.above.children.items c.close.new.self.children.items u stands (c.loop-i.invariant.own k.0) (own_tree child us (subst (λ (r : TakenRoot). IsOwn r us) c.fill-filled.ensures.root k.1)) more;
     }
 
 pub returns : goal.returns
@@ -88,5 +103,6 @@ returns g t c =
       taken = λ x u.
           whole_taken (arrays_meaning (λ b. ((dyn-1-ghosts g.dyn-1).0.entry b.vtable).1.means b.value) c.args.arrays.now x) c.args.room (roses_list ts) c.loop-i.i c.loop-i.above.children.items past (c.loop-i.invariant.taken x u);
       within = c.loop-i.invariant.within;
+      own = λ o. c.loop-i.invariant.own o ∙ take_all c.loop-i.i (roses_list ts) past;
       cause = λ x u. tt;
     }

@@ -1,4 +1,4 @@
-use Rattle.std.proofs.Common.{◌≡◌, take}
+use Rattle.std.proofs.Common.{◌≡◌, IsTrue, take}
 use Rattle.vx_trees.specs.Rose.{roses_list}
 use Rattle.vx_types.specs.Known.{ExtMeaning}
 use Rattle.vx_registry.specs.Meaning.{arrays_meaning}
@@ -16,4 +16,5 @@ invariant-loop-i g l = record {
   root : l.above.root ≡ l.initial.above.root;
   taken : (x : ExtMeaning) → x.unknown ≡ l.unknown → AreTaken (arrays_meaning (λ b. ((dyn-1-ghosts g.dyn-1).0.entry b.vtable).1.means b.value) l.arrays x) l.room (take l.i (roses_list (written_below l.initial.above.root))) l.above.children.items;
   within : AreWithin l.room l.above.children.items;
+  own : IsTrue l.above.own → l.above.children.items ≡ take l.i (roses_list (written_below l.initial.above.root));
 }

@@ -1,5 +1,5 @@
 use Rattle.std.proofs.Common.{◌≡◌, None, arith, refl, sym, ap, ◌∙◌, subst}
-use Rattle.vx_trees.specs.Rose.{node, roses_of}
+use Rattle.vx_trees.specs.Rose.{node, roses_of, roses_list}
 use Rattle.vx_trees.specs.Walks.{levels}
 use Rattle.vx_types.specs.Known.{ExtMeaning}
 use Rattle.vx_array_tree.specs.Tree.{places}
@@ -7,7 +7,8 @@ use Rattle.vx_wire_tree.specs.Limits.{HasMessages}
 use Rattle.vx_registry.specs.Meaning.{arrays_meaning}
 use Rattle.vx_serde.specs.declared.taken.TakenRoot.{TakenRoot}
 use Rattle.vx_serde.specs.Taking.{source_tree, written_head, written_below}
-use Rattle.vx_serde.proofs.TakenBelow.{stands_below, node_levels, node_messages, node_taken, node_is_taken, root_refused_below}
+use Rattle.vx_serde.proofs.TakenBelow.{stands_below, node_levels, node_messages, node_taken, node_is_taken, root_refused_below, own_root}
+use Rattle.vx_serde.proofs.Taking.{wanted}
 use Rattle.vx_serde.proofs.taken.take.Goals as goal
 
 pub returns-in-Err : goal.returns-in-Err
@@ -17,17 +18,32 @@ pub fill-requires : goal.fill-requires
 fill-requires g c = record { none = c.in-Ok.ensures.none }
 
 pub over-requires : goal.over-requires
-over-requires g c =
-    let x : ExtMeaning = record { reader = λ id. None; unknown = c.args.unknown } in
-    let us = c.fill.new.above.children.items in
-    subst (λ (r : TakenRoot). places (roses_of us) ≡ places (written_below r)) (sym c.fill.ensures.root)
-    (stands_below (arrays_meaning (λ b. (goal.ArrayPlugin-dyn g (b.vtable, b.value)).means b.value) c.args.arrays.now x) _ (written_below c.in-Ok.above.root) us (c.in-Ok-fill.ensures.taken x refl))
+over-requires g c = record {
+  places =
+      let x : ExtMeaning = record { reader = λ id. None; unknown = c.args.unknown } in
+      let us = c.fill.new.above.children.items in
+      subst (λ (r : TakenRoot). places (roses_of us) ≡ places (written_below r)) (sym c.fill.ensures.root)
+      (stands_below (arrays_meaning (λ b. (goal.ArrayPlugin-dyn g (b.vtable, b.value)).means b.value) c.args.arrays.now x) _ (written_below c.in-Ok.above.root) us (c.in-Ok-fill.ensures.taken x refl));
+  own = λ o.
+      let us = c.fill.new.above.children.items in
+      let k = c.is_own-own.ensures o in
+      own_root c.fill.new.above.root us (subst (λ (r : TakenRoot). us ≡ roses_list (written_below r)) (sym c.fill.ensures.root) (c.in-Ok-fill.ensures.own k.0)) k.1;
+}
 
-pub returns-in-Ok-fill : goal.returns-in-Ok-fill
-returns-in-Ok-fill g c =
+pub returns-in-Err-over : goal.returns-in-Err-over
+returns-in-Err-over g c = record {
+  tree = λ x u. tt;
+  written = λ x u. tt;
+  levels = tt;
+  messages = tt;
+  cause = λ x u. wanted (arrays_meaning (λ b. (goal.ArrayPlugin-dyn g (b.vtable, b.value)).means b.value) c.args.arrays.now x) c.args.room (source_tree c.args.source) c.in-Err-over.e c.in-Err-over.ensures.err;
+}
+
+pub returns-in-Ok-over : goal.returns-in-Ok-over
+returns-in-Ok-over g c =
     let root = c.in-Ok.above.root in
     let us = c.fill.new.above.children.items in
-    let is = subst (λ (r : TakenRoot). c.over.result ≡ node (written_head r) (roses_of us)) c.fill.ensures.root c.over.ensures in
+    let is = subst (λ (r : TakenRoot). c.in-Ok-over.node ≡ node (written_head r) (roses_of us)) c.fill.ensures.root c.in-Ok-over.ensures.ok in
     let any : ExtMeaning = record { reader = λ id. None; unknown = c.args.unknown } in
     let m = arrays_meaning (λ b. (goal.ArrayPlugin-dyn g (b.vtable, b.value)).means b.value) c.args.arrays.now any in
     record {

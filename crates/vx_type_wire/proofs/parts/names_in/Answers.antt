@@ -1,7 +1,6 @@
 use Rattle.std.proofs.Common.{◌∙◌, ◌+◌, ◌++◌, ◌∷◌, [], drop, ap, sym, append_assoc}
 use Rattle.vx_flat.specs.Seen.{vector_seen}
-use Rattle.vx_flat.proofs.LawsOfViews.{string-at}
-use Rattle.vx_flat.proofs.ReadingViews.{strings_in}
+use Rattle.vx_flat.proofs.LawsOfViews.{string-at, strings_in}
 use Rattle.vx_type_wire.proofs.TypeViews.{drop_next}
 use Rattle.vx_type_wire.proofs.parts.names_in.Goals as goal
 

@@ -1,6 +1,6 @@
 use Rattle.std.proofs.Common.{◌≡◌, ◌++◌, drop}
 use Rattle.vx_flat.specs.Seen.{vector_seen}
-use Rattle.vx_flat.proofs.ReadingViews.{strings_in}
+use Rattle.vx_flat.proofs.LawsOfViews.{strings_in}
 use Rattle.vx_type_wire.proofs.parts.names_in.Given as goal
 
 abbrev pub invariant-loop-i : goal.invariant-loop-i

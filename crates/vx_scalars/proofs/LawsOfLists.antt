@@ -14,7 +14,7 @@ use Rattle.vx_types.specs.Typ.{Typ}
 use Rattle.vx_types.specs.Value.{Value}
 use Rattle.vx_types.specs.declared.dtype.DType.{DType}
 use Rattle.vx_types.specs.declared.nullability.Nullability.{Nullability}
-use Rattle.vx_types.proofs.Lists.{typs-at}
+use Rattle.vx_types.proofs.LawsOfTypes.{typs-at}
 use Rattle.vx_scalars.specs.Falls.{value_size, slice_size}
 use Rattle.vx_scalars.specs.Seen.{seen, all_seen}
 use Rattle.vx_scalars.specs.declared.value.ScalarValue.{ScalarValue}

@@ -1,0 +1,208 @@
+//! Nodes that are written, lent: arrays as they stand, or nodes as they were taken.
+
+ghost use Rattle.std.specs.Prelude.{◌≡◌, ◌<◌, Some, length, get_or, slice_get, IfOk, IsOkUnless};
+ghost use Rattle.vx_trees.specs.Rose.{label, below, roses_of};
+ghost use Rattle.vx_scalars.specs.Stats.{FitStats};
+ghost use Rattle.vx_array_tree.specs.Sound.{metadata_in};
+ghost use Rattle.vx_array_tree.specs.Table.{buffers_of};
+ghost use Rattle.vx_wire_tree.specs.Fields.{told};
+ghost use Rattle.vx_encodings.specs.Messages.{message_bytes};
+ghost use Rattle.vx_registry.specs.Serialization.{array_id};
+
+use crate::error::WireError;
+use crate::taken::{TakenNode, own_metadata};
+use std::alloc::Global;
+use std::marker::Model;
+use vx_arrays::Array;
+use vx_buffer::BufferHandle;
+use vx_registry::written_id;
+use vx_scalars::StatsSet;
+use vx_types::{Blob, Id};
+
+/// What stands behind a node: an array, which is written as it stands, or a node that was taken.
+#[derive(Drop)]
+enum Lent<'n, 'a> {
+    Own(&'n Array),
+    Taken(&'n TakenNode<'a>),
+}
+
+/// A node that is written, lent. Contracts see the tree that is written.
+#[derive(Drop)]
+pub(crate) struct NodeRef<'n, 'a> {
+    node: Lent<'n, 'a>,
+}
+
+impl<'n, 'a> Model for NodeRef<'n, 'a> {
+    ghost use Rattle.vx_array_tree.specs.Tree.{Tree, tree_code};
+
+    ghost Value = { Tree };
+
+    ghost coded = { tree_code };
+
+    ghost use Rattle.vx_serde.specs.Lent.{lent_tree};
+
+    ghost view = { λ n. lent_tree n.node };
+}
+
+impl<'n, 'a> NodeRef<'n, 'a> {
+    /// A node that was taken.
+    pub(crate) fn taken(node: &'n TakenNode<'a>) -> NodeRef<'n, 'a>
+        ensures { result ≡ node.now }
+    {
+        NodeRef {
+            node: Lent::Taken(node),
+        }
+    }
+
+    /// An array as it stands.
+    fn own(array: &'n Array) -> NodeRef<'n, 'a>
+        ensures { result ≡ array.now }
+    {
+        NodeRef {
+            node: Lent::Own(array),
+        }
+    }
+
+    /// The identifier under which the node is written, where primitives are written under two or not.
+    pub(crate) fn written_id(&self, alloc: Global, two: bool) -> Result<Id, WireError>
+        ensures ok { IfOk result (λ id. id ≡ array_id two self.now) }
+        ensures err { IsOkUnless result WireError.OutOfMemory }
+    {
+        match &self.node {
+            Lent::Own(array) => match written_id(alloc, array, two) {
+                Ok(id) => Ok(id),
+                Err(_) => Err(WireError::OutOfMemory),
+            },
+            Lent::Taken(node) => node.written_id(alloc, two),
+        }
+    }
+
+    /// The bytes of its metadata.
+    pub(crate) fn metadata(&self, alloc: Global) -> Result<Blob, WireError>
+        ensures ok { IfOk result (λ bytes. bytes ≡ message_bytes (told (metadata_in (label self.now) (below self.now)))) }
+        ensures err { IsOkUnless result WireError.OutOfMemory }
+    {
+        match &self.node {
+            Lent::Own(array) => own_metadata(alloc, array),
+            Lent::Taken(node) => node.metadata(alloc),
+        }
+    }
+
+    /// How many buffers it has itself.
+    pub(crate) fn nbuffers(&self) -> usize
+        ensures { result ≡ length (buffers_of (label self.now).body) }
+    {
+        match &self.node {
+            Lent::Own(array) => array.nbuffers(),
+            Lent::Taken(node) => node.nbuffers(),
+        }
+    }
+
+    /// Its buffer at this place.
+    pub(crate) fn buffer(&self, i: usize) -> &'n BufferHandle
+        requires { i < length (buffers_of (label self.now).body) }
+        ensures { slice_get (buffers_of (label self.now).body) i ≡ Some result.now }
+    {
+        match &self.node {
+            Lent::Own(array) => array.buffer(i),
+            Lent::Taken(node) => node.buffer(i),
+        }
+    }
+
+    /// Its statistics.
+    pub(crate) fn statistics(&self) -> &'n StatsSet
+        ensures stats { result.now ≡ (label self.now).stats }
+        ensures fits { FitStats (label self.now).dtype (label self.now).stats }
+    {
+        match &self.node {
+            Lent::Own(array) => array.statistics(),
+            Lent::Taken(node) => node.statistics(),
+        }
+    }
+
+    /// The nodes below it.
+    pub(crate) fn children(&self) -> NodeRefs<'n, 'a>
+        ensures children { roses_of result ≡ below self.now }
+    {
+        match &self.node {
+            Lent::Own(array) => NodeRefs::own(array.children()),
+            Lent::Taken(node) => node.children(),
+        }
+    }
+}
+
+/// What stands behind nodes that lie beside each other.
+#[derive(Drop)]
+enum LentNodes<'n, 'a> {
+    Own(&'n [Array]),
+    Taken(&'n [TakenNode<'a>]),
+}
+
+/// Nodes that are written, beside each other, lent. Contracts see the trees that are written.
+#[derive(Drop)]
+pub(crate) struct NodeRefs<'n, 'a> {
+    nodes: LentNodes<'n, 'a>,
+}
+
+impl<'n, 'a> Model for NodeRefs<'n, 'a> {
+    ghost use Rattle.std.specs.Prelude.{List};
+    ghost use Rattle.std.specs.Coded.{coded_list};
+    ghost use Rattle.vx_array_tree.specs.Tree.{Tree, tree_code};
+
+    ghost Value = { List Tree };
+
+    ghost coded = { coded_list tree_code };
+
+    ghost use Rattle.vx_serde.specs.Lent.{lent_trees};
+
+    ghost view = { λ n. lent_trees n.nodes };
+}
+
+impl<'n, 'a> NodeRefs<'n, 'a> {
+    /// Nodes that were taken.
+    pub(crate) fn taken(nodes: &'n [TakenNode<'a>]) -> NodeRefs<'n, 'a>
+        ensures { result ≡ nodes.now }
+    {
+        NodeRefs {
+            nodes: LentNodes::Taken(nodes),
+        }
+    }
+
+    /// Arrays as they stand.
+    pub(crate) fn own(arrays: &'n [Array]) -> NodeRefs<'n, 'a>
+        ensures { result ≡ arrays.now }
+    {
+        NodeRefs {
+            nodes: LentNodes::Own(arrays),
+        }
+    }
+
+    /// How many there are.
+    pub(crate) fn len(&self) -> usize
+        ensures { result ≡ length self.now }
+    {
+        match &self.nodes {
+            LentNodes::Own(arrays) => arrays.len(),
+            LentNodes::Taken(nodes) => nodes.len(),
+        }
+    }
+
+    /// The node at this place.
+    pub(crate) fn get(&self, i: usize) -> NodeRef<'n, 'a>
+        requires { i < length self.now }
+        ensures { result ≡ get_or self.now i result }
+    {
+        match &self.nodes {
+            LentNodes::Own(arrays) => NodeRef::own(item_at(arrays, i)),
+            LentNodes::Taken(nodes) => NodeRef::taken(item_at(nodes, i)),
+        }
+    }
+}
+
+// The item of a slice at this place.
+fn item_at<T>(items: &[T], i: usize) -> &T
+    requires { i < length items.now }
+    ensures { result.now ≡ get_or items.now i result.now }
+{
+    &items[i]
+}
