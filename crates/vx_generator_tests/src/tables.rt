@@ -63,7 +63,26 @@ fn holds(row: &RowValue, number: Option<i64>, name: &str, elements: &[u16]) -> b
     }
 }
 
-// Whether a row of the table of a seed holds this number, this text and this list.
+// Whether a row of a table holds this number, this text and this list.
+fn row_holds(
+    alloc: Global,
+    table: &Table,
+    index: usize,
+    number: Option<i64>,
+    name: &str,
+    elements: &[u16],
+) -> bool {
+    match row_of(alloc, table, index) {
+        Some(row) => {
+            let told = holds(&row, number, name, elements);
+            drop(row);
+            told
+        }
+        None => false,
+    }
+}
+
+// The same of a row of the table of a seed.
 fn tells(
     alloc: Global,
     source: (u64, usize, usize),
@@ -73,10 +92,11 @@ fn tells(
 ) -> bool {
     let (seed, rows, index) = source;
     match table(alloc, seed, rows) {
-        Some(table) => match row_of(alloc, &table, index) {
-            Some(row) => holds(&row, number, name, elements),
-            None => false,
-        },
+        Some(table) => {
+            let told = row_holds(alloc, &table, index, number, name, elements);
+            drop(table);
+            told
+        }
         None => false,
     }
 }
@@ -112,21 +132,59 @@ const SIZES: [(u64, usize, u64); 5] = [
     (u64::MAX, 3, 155),
 ];
 
+// How many rows a table has, and how many bytes its buffers.
+fn sizes_of(table: &Table) -> (usize, u64) {
+    (table.array.len(), table.data_len)
+}
+
+// The same of the table of a seed.
+fn sizes(alloc: Global, seed: u64, rows: usize) -> Option<(usize, u64)> {
+    match table(alloc, seed, rows) {
+        Some(table) => {
+            let sizes = sizes_of(&table);
+            drop(table);
+            Some(sizes)
+        }
+        None => None,
+    }
+}
+
 #[test]
 fn the_bytes_of_the_buffers_are_counted(rt: HostRuntime) {
     let alloc = rt.alloc();
     for (seed, rows, size) in &SIZES {
-        let table = table(alloc, *seed, *rows);
-        let found = table.map(|t| (t.array.len(), t.data_len));
+        let found = sizes(alloc, *seed, *rows);
         assert!(rt; found == Some((*rows, *size)), "{seed} {rows}");
     }
 }
 
+// Whether a table is equal to that of a seed.
+fn is_of(alloc: Global, table: &Table, seed: u64) -> Option<bool> {
+    match hundred(alloc, seed) {
+        Some(other) => {
+            let same = table.array.array_eq(&other.array);
+            drop(other);
+            Some(same)
+        }
+        None => None,
+    }
+}
+
+// The table of a hundred rows of a seed.
+fn hundred(alloc: Global, seed: u64) -> Option<Table> {
+    table(alloc, seed, 100)
+}
+
 // Whether the tables of two seeds are equal.
 fn are_equal(alloc: Global, one: u64, other: u64) -> Option<bool> {
-    let one = table(alloc, one, 100)?;
-    let other = table(alloc, other, 100)?;
-    Some(one.array.array_eq(&other.array))
+    match hundred(alloc, one) {
+        Some(table) => {
+            let same = is_of(alloc, &table, other);
+            drop(table);
+            same
+        }
+        None => None,
+    }
 }
 
 #[test]

@@ -1,6 +1,6 @@
 //! Trees of many levels, written and recoded, where deep trees are asked for and where not.
 
-use crate::wire::{blob_with, recoded_with, unbuilt};
+use crate::wire::{blob_with, both, recoded_with, unbuilt};
 use std::alloc::Global;
 use vx_arrays::{Array, ArrayError, Arrays, new_foreign_array};
 use vx_buffer::BufferHandles;
@@ -23,18 +23,16 @@ enum Level {
     Dictionaries,
 }
 
-// The parts of a node that nothing reads, at the type of a tree.
-fn parts_like(alloc: Global, tree: &Array) -> Result<(Id, DType, Blob), TypeError> {
-    let dtype = tree.dtype().clone(alloc)?;
-    let id = Id::new(alloc, "x.new")?;
-    let metadata = Blob::copy_from(alloc, &[])?;
-    Ok((id, dtype, metadata))
+// An identifier that nothing reads, and the type of a tree.
+fn parts_like(alloc: Global, tree: &Array) -> Result<(Id, DType), TypeError> {
+    both(Id::new(alloc, "x.new"), tree.dtype().clone(alloc))
 }
 
 // A row of which nothing is known, at the type of a tree.
 fn alike(alloc: Global, tree: &Array) -> Made {
     match parts_like(alloc, tree) {
-        Ok((id, dtype, metadata)) => {
+        Ok((id, dtype)) => {
+            let metadata = Blob::new(Vec::new(alloc));
             let buffers = BufferHandles::new(alloc);
             new_foreign_array(alloc, id, dtype, 1, metadata, buffers, Arrays::new(alloc))
         }
@@ -59,14 +57,16 @@ fn above(alloc: Global, level: Level, tree: Array) -> Made {
     }
 }
 
+// The same, once that tree is made.
+fn higher(alloc: Global, level: Level, tree: Made) -> Made {
+    above(alloc, level, tree?)
+}
+
 // A tree of so many levels.
 fn tree(alloc: Global, level: Level, levels: usize) -> Made {
     let mut tree = bytes(alloc, &[7]);
     for _ in 1..levels {
-        match tree {
-            Ok(lower) => tree = above(alloc, level, lower),
-            Err(e) => return Err(e),
-        }
+        tree = higher(alloc, level, tree);
     }
     tree
 }
@@ -84,12 +84,12 @@ fn options(deep: bool) -> SerializeOptions {
 // it is.
 fn recoded(alloc: Global, tree: &Array, deep: bool, cells: u64) -> Result<bool, WireError> {
     let mut ctx = ArrayContext::empty(alloc);
-    match recoded_with(alloc, tree, &mut ctx, &options(deep)) {
-        Ok(recoded) => {
-            Ok(tree.array_eq(&recoded.array) && takes(alloc, tree.clone(alloc), cells))
-        }
-        Err(e) => Err(e),
-    }
+    let recoded = recoded_with(alloc, tree, &mut ctx, &options(deep));
+    drop(ctx);
+    let recoded = recoded?;
+    let same = tree.array_eq(&recoded.array);
+    drop(recoded);
+    Ok(same && takes(alloc, tree.clone(alloc), cells))
 }
 
 // The same of a tree that is made.
@@ -101,7 +101,11 @@ fn comes_back(
     cells: u64,
 ) -> Result<bool, WireError> {
     match tree(alloc, level, levels) {
-        Ok(tree) => recoded(alloc, &tree, deep, cells),
+        Ok(tree) => {
+            let told = recoded(alloc, &tree, deep, cells);
+            drop(tree);
+            told
+        }
         Err(_) => Err(WireError::OutOfMemory),
     }
 }
@@ -145,7 +149,11 @@ fn unopened_lists(
     deep: bool,
 ) -> Result<Option<WireError>, WireError> {
     match tree(alloc, Level::Lists, levels) {
-        Ok(tree) => unopened(alloc, &tree, deep),
+        Ok(tree) => {
+            let refused = unopened(alloc, &tree, deep);
+            drop(tree);
+            refused
+        }
         Err(_) => Err(WireError::OutOfMemory),
     }
 }
@@ -175,7 +183,11 @@ fn deep_trees_are_opened_where_they_are_asked_for(rt: HostRuntime) {
 // Why lists are no node of a message that a caller builds, if they are none.
 fn unbuilt_lists(alloc: Global, levels: usize) -> Result<Option<WireError>, WireError> {
     match tree(alloc, Level::Lists, levels) {
-        Ok(tree) => unbuilt(alloc, &tree),
+        Ok(tree) => {
+            let refused = unbuilt(alloc, &tree);
+            drop(tree);
+            refused
+        }
         Err(_) => Err(WireError::OutOfMemory),
     }
 }

@@ -18,7 +18,11 @@ const NEW: &str = "x.new";
 // Why an array is not read once an encoding has that name, if it is not.
 fn refusal(alloc: Global, array: Made, name: &str) -> Option<WireError> {
     match array {
-        Ok(array) => kept(alloc, &array, Change::Id(name, NEW)).err(),
+        Ok(array) => {
+            let refused = kept(alloc, &array, Change::Id(name, NEW)).err();
+            drop(array);
+            refused
+        }
         Err(_) => Some(WireError::OutOfMemory),
     }
 }
@@ -61,7 +65,11 @@ fn entries_of_maps_are_not_kept(rt: HostRuntime) {
 // What is read of an array of this name for an encoding.
 fn read(alloc: Global, array: Made, name: &str) -> Result<Array, WireError> {
     match array {
-        Ok(array) => kept(alloc, &array, Change::Id(name, NEW)),
+        Ok(array) => {
+            let read = kept(alloc, &array, Change::Id(name, NEW));
+            drop(array);
+            read
+        }
         Err(_) => Err(WireError::OutOfMemory),
     }
 }
@@ -70,8 +78,10 @@ fn read(alloc: Global, array: Made, name: &str) -> Result<Array, WireError> {
 fn is_unknown(alloc: Global, read: Result<Array, WireError>, texts: &[&str]) -> bool {
     match read {
         Ok(array) => {
-            begins_with(alloc, &array, texts)
-                && unwritten_array(alloc, &array) == Some(WireError::NotRegistered)
+            let has = begins_with(alloc, &array, texts);
+            let unwritten = unwritten_array(alloc, &array);
+            drop(array);
+            has && unwritten == Some(WireError::NotRegistered)
         }
         Err(_) => false,
     }
@@ -89,27 +99,61 @@ fn nothing_is_known_of_rows_that_are_kept(rt: HostRuntime) {
 // Whether what was recoded is this blob.
 fn is_blob(alloc: Global, recoded: &Recoded, blob: &ByteBuffer) -> bool {
     match recoded.buffers.join(alloc) {
-        Ok(bytes) => bytes.as_slice() == blob.as_slice(),
+        Ok(bytes) => {
+            let same = bytes.as_slice() == blob.as_slice();
+            drop(bytes);
+            same
+        }
         Err(_) => false,
     }
 }
 
-// Whether an array of this name for an encoding is recoded as its own blob; a context takes the identifiers.
-fn is_same(alloc: Global, array: &Array, name: &str, ctx: &mut ArrayContext) -> bool {
-    let Ok(blob) = blob_of(alloc, array) else {
-        return false;
-    };
+// Whether an array of this name for an encoding is recoded as this blob; a context takes the identifiers.
+fn is_recoded(
+    alloc: Global,
+    array: &Array,
+    name: &str,
+    blob: &ByteBuffer,
+    ctx: &mut ArrayContext,
+) -> bool {
     match recoded_kept(alloc, array, Change::Id(name, NEW), ctx) {
-        Ok(recoded) => is_blob(alloc, &recoded, &blob),
+        Ok(recoded) => {
+            let same = is_blob(alloc, &recoded, blob);
+            drop(recoded);
+            same
+        }
+        Err(_) => false,
+    }
+}
+
+// Whether it is recoded as its own blob.
+fn is_same(alloc: Global, array: &Array, name: &str, ctx: &mut ArrayContext) -> bool {
+    match blob_of(alloc, array) {
+        Ok(blob) => {
+            let same = is_recoded(alloc, array, name, &blob, ctx);
+            drop(blob);
+            same
+        }
         Err(_) => false,
     }
 }
 
 // Whether it is, by these identifiers.
-fn comes_by(alloc: Global, array: Made, name: &str, ids: &[&str]) -> bool {
+fn is_same_by(alloc: Global, array: &Array, name: &str, ids: &[&str]) -> bool {
     let mut ctx = ArrayContext::empty(alloc);
+    let same = is_same(alloc, array, name, &mut ctx) && has_ids(alloc, &ctx, ids);
+    drop(ctx);
+    same
+}
+
+// The same, once the array is made.
+fn comes_by(alloc: Global, array: Made, name: &str, ids: &[&str]) -> bool {
     match array {
-        Ok(array) => is_same(alloc, &array, name, &mut ctx) && has_ids(alloc, &ctx, ids),
+        Ok(array) => {
+            let same = is_same_by(alloc, &array, name, ids);
+            drop(array);
+            same
+        }
         Err(_) => false,
     }
 }

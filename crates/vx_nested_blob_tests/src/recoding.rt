@@ -32,7 +32,11 @@ fn are_ids(ids: &Ids, texts: &[&str]) -> bool {
 /// Whether a context has these identifiers, in this order, and no other.
 pub(crate) fn has_ids(alloc: Global, ctx: &ArrayContext, texts: &[&str]) -> bool {
     match ctx.to_ids(alloc) {
-        Ok(ids) => are_ids(&ids, texts),
+        Ok(ids) => {
+            let same = are_ids(&ids, texts);
+            drop(ids);
+            same
+        }
         Err(_) => false,
     }
 }
@@ -40,7 +44,11 @@ pub(crate) fn has_ids(alloc: Global, ctx: &ArrayContext, texts: &[&str]) -> bool
 // Whether what is recoded of an array has these rows; a context takes the identifiers.
 fn has_rows(alloc: Global, array: &Array, ctx: &mut ArrayContext, texts: &[&str]) -> bool {
     match recoded(alloc, array, ctx) {
-        Ok(recoded) => begins_with(alloc, &recoded.array, texts),
+        Ok(recoded) => {
+            let has = begins_with(alloc, &recoded.array, texts);
+            drop(recoded);
+            has
+        }
         Err(_) => false,
     }
 }
@@ -48,13 +56,19 @@ fn has_rows(alloc: Global, array: &Array, ctx: &mut ArrayContext, texts: &[&str]
 // Whether an array is recoded with these rows and identifiers.
 fn is_recoded(alloc: Global, array: &Array, rows: &[&str], ids: &[&str]) -> bool {
     let mut ctx = ArrayContext::empty(alloc);
-    has_rows(alloc, array, &mut ctx, rows) && has_ids(alloc, &ctx, ids)
+    let same = has_rows(alloc, array, &mut ctx, rows) && has_ids(alloc, &ctx, ids);
+    drop(ctx);
+    same
 }
 
 // The same of an array, once it is made.
 fn are_recoded(alloc: Global, array: Made, rows: &[&str], ids: &[&str]) -> bool {
     match array {
-        Ok(array) => is_recoded(alloc, &array, rows, ids),
+        Ok(array) => {
+            let same = is_recoded(alloc, &array, rows, ids);
+            drop(array);
+            same
+        }
         Err(_) => false,
     }
 }

@@ -1,5 +1,6 @@
 //! The steps of one node: what is planned, and the metadata that is written.
 
+use crate::wire::both;
 use std::alloc::Global;
 use vx_arrays::Array;
 use vx_encodings::{ArrayHead, Encoding, EncodingError, metadata, plan};
@@ -23,7 +24,11 @@ fn has_bytes(alloc: Global, array: &Array, bytes: &[u8]) -> bool {
 /// Whether an array that is made first has this metadata.
 pub(crate) fn has_metadata(alloc: Global, array: Made, bytes: &[u8]) -> bool {
     match array {
-        Ok(array) => has_bytes(alloc, &array, bytes),
+        Ok(array) => {
+            let has = has_bytes(alloc, &array, bytes);
+            drop(array);
+            has
+        }
         Err(_) => false,
     }
 }
@@ -31,34 +36,13 @@ pub(crate) fn has_metadata(alloc: Global, array: Made, bytes: &[u8]) -> bool {
 /// Why the metadata of an array that is made first is not written, if it is not.
 pub(crate) fn unwritten(alloc: Global, array: Made) -> Option<EncodingError> {
     match array {
-        Ok(array) => written(alloc, &array).err(),
+        Ok(array) => {
+            let refused = written(alloc, &array).err();
+            drop(array);
+            refused
+        }
         Err(_) => Some(EncodingError::OutOfMemory),
     }
-}
-
-// A copy of a type, and metadata of these bytes.
-fn label_of(alloc: Global, dtype: &DType, metadata: &[u8]) -> Result<(DType, Blob), TypeError> {
-    let dtype = dtype.clone(alloc)?;
-    let metadata = Blob::copy_from(alloc, metadata)?;
-    Ok((dtype, metadata))
-}
-
-// The head of a node without buffers, of this identifier.
-fn head_with(
-    serialized_id: Id,
-    label: Result<(DType, Blob), TypeError>,
-    len: usize,
-    nchildren: usize,
-) -> Result<ArrayHead, TypeError> {
-    let (dtype, metadata) = label?;
-    Ok(ArrayHead {
-        serialized_id,
-        dtype,
-        len,
-        metadata,
-        nbuffers: 0,
-        nchildren,
-    })
 }
 
 // The head of a node without buffers.
@@ -69,8 +53,16 @@ fn head_of(
     metadata: &[u8],
     nchildren: usize,
 ) -> Result<ArrayHead, TypeError> {
-    let id = Id::new(alloc, "test")?;
-    head_with(id, label_of(alloc, dtype, metadata), len, nchildren)
+    let parts = both(dtype.clone(alloc), Blob::copy_from(alloc, metadata));
+    let (serialized_id, (dtype, metadata)) = both(Id::new(alloc, "test"), parts)?;
+    Ok(ArrayHead {
+        serialized_id,
+        dtype,
+        len,
+        metadata,
+        nbuffers: 0,
+        nchildren,
+    })
 }
 
 // Why a node of this head is not planned, if it is not.
@@ -80,7 +72,13 @@ fn head_refusal(
     head: Result<ArrayHead, TypeError>,
 ) -> Option<EncodingError> {
     match head {
-        Ok(head) => plan(alloc, encoding, &head, &ExtSession::new(alloc)).err(),
+        Ok(head) => {
+            let readers = ExtSession::new(alloc);
+            let refused = plan(alloc, encoding, &head, &readers).err();
+            drop(readers);
+            drop(head);
+            refused
+        }
         Err(_) => Some(EncodingError::OutOfMemory),
     }
 }
@@ -97,6 +95,7 @@ pub(crate) fn unplanned(
     match kind {
         Ok(array) => {
             let head = head_of(alloc, array.dtype(), len, metadata, nchildren);
+            drop(array);
             head_refusal(alloc, encoding, head)
         }
         Err(_) => Some(EncodingError::OutOfMemory),

@@ -101,7 +101,11 @@ fn variants_are_planned_by_their_metadata(rt: HostRuntime) {
 // Whether an array is read again where nodes that nothing reads are kept.
 fn is_read_again(alloc: Global, array: &Array) -> bool {
     match kept(alloc, array, Change::Nothing) {
-        Ok(read) => read.array_eq(array),
+        Ok(read) => {
+            let same = read.array_eq(array);
+            drop(read);
+            same
+        }
         Err(_) => false,
     }
 }
@@ -115,7 +119,11 @@ fn is_kept(alloc: Global, array: &Array) -> bool {
 // The same, once the array is made.
 fn comes_again(alloc: Global, array: Made) -> bool {
     match array {
-        Ok(array) => is_kept(alloc, &array),
+        Ok(array) => {
+            let kept = is_kept(alloc, &array);
+            drop(array);
+            kept
+        }
         Err(_) => false,
     }
 }
@@ -133,7 +141,11 @@ fn variants_are_read_again(rt: HostRuntime) {
 // Why an array is not written and read again, if it is not.
 fn refusal(alloc: Global, array: Made, change: Change<'_>) -> Option<WireError> {
     match array {
-        Ok(array) => kept(alloc, &array, change).err(),
+        Ok(array) => {
+            let refused = kept(alloc, &array, change).err();
+            drop(array);
+            refused
+        }
         Err(_) => Some(WireError::OutOfMemory),
     }
 }

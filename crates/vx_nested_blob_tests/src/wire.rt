@@ -3,7 +3,7 @@
 use std::alloc::{AllocError, Global};
 use vx_arrays::{Array, ArrayError};
 use vx_buffer::ByteBuffer;
-use vx_nested_parts::parts::{Made, both};
+use vx_nested_parts::parts::Made;
 use vx_registry::{ArrayContext, ArraySession, ReadContext, VortexSession};
 use vx_serde::{
     ArrayExt, ArrayNodeFlatBuffer, Recoded, SerializeOptions, SerializedArray, WireError, recode,
@@ -20,6 +20,16 @@ pub(crate) enum Change<'a> {
     Bytes(&'a [u8], &'a [u8]),
     /// An identifier, by another one.
     Id(&'a str, &'a str),
+}
+
+/// Two values, or why one of them is not made.
+pub(crate) fn both<A: Drop, B: Drop, E: Drop>(
+    first: Result<A, E>,
+    second: Result<B, E>,
+) -> Result<(A, B), E> {
+    let first = first?;
+    let second = second?;
+    Ok((first, second))
 }
 
 // The encodings that are shipped, without readers of extensions.
@@ -46,17 +56,9 @@ fn blob_by(
     options: &SerializeOptions,
 ) -> Result<ByteBuffer, WireError> {
     let buffers = array.serialize(alloc, ctx, session, options)?;
-    Ok(buffers.join(alloc)?)
-}
-
-// The same without pads, where no deep tree is asked for.
-fn blob_under(
-    alloc: Global,
-    array: &Array,
-    session: &VortexSession,
-    ctx: &mut ArrayContext,
-) -> Result<ByteBuffer, WireError> {
-    blob_by(alloc, array, session, ctx, &SerializeOptions::default())
+    let blob = buffers.join(alloc);
+    drop(buffers);
+    Ok(blob?)
 }
 
 // Where bytes begin that stand in others.
@@ -87,14 +89,27 @@ fn replaced(alloc: Global, bytes: &[u8], old: &[u8], new: &[u8]) -> Result<Vec<u
     Ok(changed)
 }
 
+// A blob with other bytes in the place of some that stand there first.
+fn patched(
+    alloc: Global,
+    blob: ByteBuffer,
+    old: &[u8],
+    new: &[u8],
+) -> Result<ByteBuffer, WireError> {
+    let bytes = replaced(alloc, blob.as_slice(), old, new);
+    drop(blob);
+    Ok(ByteBuffer::from_vec(bytes?)?)
+}
+
 // A blob once it is changed.
-fn changed(alloc: Global, blob: ByteBuffer, change: Change<'_>) -> Result<ByteBuffer, WireError> {
+fn changed(
+    alloc: Global,
+    blob: Result<ByteBuffer, WireError>,
+    change: Change<'_>,
+) -> Result<ByteBuffer, WireError> {
     match change {
-        Change::Bytes(old, new) => {
-            let bytes = replaced(alloc, blob.as_slice(), old, new)?;
-            Ok(ByteBuffer::from_vec(bytes)?)
-        }
-        _ => Ok(blob),
+        Change::Bytes(old, new) => patched(alloc, blob?, old, new),
+        _ => blob,
     }
 }
 
@@ -106,13 +121,29 @@ fn name_of<'a>(text: &'a str, change: Change<'a>) -> &'a str {
     }
 }
 
-// Identifiers once they are changed.
-fn renamed(alloc: Global, ids: &Ids, change: Change<'_>) -> Result<Ids, TypeError> {
-    let mut named = Ids::new(alloc);
-    for id in ids.as_slice() {
+// Identifiers more, once they are changed.
+fn push_renamed(
+    alloc: Global,
+    ids: &[Id],
+    change: Change<'_>,
+    named: &mut Ids,
+) -> Result<(), TypeError> {
+    for id in ids {
         named.push(Id::new(alloc, name_of(id.as_str(), change))?)?;
     }
-    Ok(named)
+    Ok(())
+}
+
+// Identifiers once they are changed, for a reader.
+fn renamed(alloc: Global, ids: &Ids, change: Change<'_>) -> Result<ReadContext, WireError> {
+    let mut named = Ids::new(alloc);
+    match push_renamed(alloc, ids.as_slice(), change, &mut named) {
+        Ok(()) => Ok(ReadContext::new(named)),
+        Err(_) => {
+            drop(named);
+            Err(WireError::OutOfMemory)
+        }
+    }
 }
 
 // The identifiers by which what was written is read.
@@ -121,13 +152,29 @@ fn read_ids(
     ctx: &ArrayContext,
     change: Change<'_>,
 ) -> Result<ReadContext, WireError> {
-    let Ok(ids) = ctx.to_ids(alloc) else {
-        return Err(WireError::OutOfMemory);
-    };
-    match renamed(alloc, &ids, change) {
-        Ok(ids) => Ok(ReadContext::new(ids)),
+    match ctx.to_ids(alloc) {
+        Ok(ids) => {
+            let named = renamed(alloc, &ids, change);
+            drop(ids);
+            named
+        }
         Err(_) => Err(WireError::OutOfMemory),
     }
+}
+
+// An array's blob by these options, and the identifiers by which it is read, once both are changed.
+fn written(
+    alloc: Global,
+    array: &Array,
+    change: Change<'_>,
+    session: &VortexSession,
+    options: &SerializeOptions,
+) -> Result<(ByteBuffer, ReadContext), WireError> {
+    let mut ctx = ArrayContext::empty(alloc);
+    let blob = blob_by(alloc, array, session, &mut ctx, options);
+    let ids = read_ids(alloc, &ctx, change);
+    drop(ctx);
+    both(changed(alloc, blob, change), ids)
 }
 
 // The array that a blob holds at a type and length.
@@ -140,7 +187,9 @@ fn decoded(
     session: &VortexSession,
 ) -> Result<Array, WireError> {
     let serialized = SerializedArray::try_from_buffer(alloc, blob)?;
-    serialized.decode(alloc, dtype, len, ids, session)
+    let array = serialized.decode(alloc, dtype, len, ids, session);
+    drop(serialized);
+    array
 }
 
 // An array written, and read at a type and length once it is changed, under these encodings.
@@ -152,11 +201,11 @@ fn read_under(
     change: Change<'_>,
     session: &VortexSession,
 ) -> Result<Array, WireError> {
-    let mut ctx = ArrayContext::empty(alloc);
-    let blob = blob_under(alloc, array, session, &mut ctx)?;
-    let blob = changed(alloc, blob, change)?;
-    let ids = read_ids(alloc, &ctx, change)?;
-    decoded(alloc, blob, dtype, len, &ids, session)
+    let options = SerializeOptions::default();
+    let (blob, ids) = written(alloc, array, change, session, &options)?;
+    let read = decoded(alloc, blob, dtype, len, &ids, session);
+    drop(ids);
+    read
 }
 
 // The same under the encodings that are shipped.
@@ -168,13 +217,17 @@ fn read(
     change: Change<'_>,
 ) -> Result<Array, WireError> {
     let session = shipped(alloc)?;
-    read_under(alloc, array, dtype, len, change, &session)
+    let read = read_under(alloc, array, dtype, len, change, &session);
+    drop(session);
+    read
 }
 
 /// An array written, and read at its own type and length once it is changed, where nodes that nothing reads are kept.
 pub(crate) fn kept(alloc: Global, array: &Array, change: Change<'_>) -> Result<Array, WireError> {
     let session = keeping(alloc)?;
-    read_under(alloc, array, array.dtype(), array.len(), change, &session)
+    let read = read_under(alloc, array, array.dtype(), array.len(), change, &session);
+    drop(session);
+    read
 }
 
 /// Why an array is not written under the encodings that are shipped, if it is not.
@@ -196,8 +249,8 @@ fn recoded_by(
     recode(alloc, blob, dtype, len, ids, ctx, session, options)
 }
 
-// An array written, and what was written recoded at its type and length once its identifiers are changed, under these
-// encodings and options.
+// An array written, and what was written recoded at its type and length once it is changed, under these encodings and
+// options.
 fn recoded_under(
     alloc: Global,
     array: &Array,
@@ -206,10 +259,10 @@ fn recoded_under(
     session: &VortexSession,
     options: &SerializeOptions,
 ) -> Result<Recoded, WireError> {
-    let mut written = ArrayContext::empty(alloc);
-    let blob = blob_by(alloc, array, session, &mut written, options)?;
-    let ids = read_ids(alloc, &written, change)?;
-    recoded_by(alloc, blob, array, &ids, ctx, session, options)
+    let (blob, ids) = written(alloc, array, change, session, options)?;
+    let recoded = recoded_by(alloc, blob, array, &ids, ctx, session, options);
+    drop(ids);
+    recoded
 }
 
 /// An array written, and what was written recoded under the encodings that are shipped and by these options; a context
@@ -221,7 +274,9 @@ pub(crate) fn recoded_with(
     options: &SerializeOptions,
 ) -> Result<Recoded, WireError> {
     let session = shipped(alloc)?;
-    recoded_under(alloc, array, Change::Nothing, ctx, &session, options)
+    let recoded = recoded_under(alloc, array, Change::Nothing, ctx, &session, options);
+    drop(session);
+    recoded
 }
 
 /// The same without pads, where no deep tree is asked for.
@@ -242,7 +297,9 @@ pub(crate) fn recoded_kept(
 ) -> Result<Recoded, WireError> {
     let session = keeping(alloc)?;
     let options = SerializeOptions::default();
-    recoded_under(alloc, array, change, ctx, &session, &options)
+    let recoded = recoded_under(alloc, array, change, ctx, &session, &options);
+    drop(session);
+    recoded
 }
 
 /// The blob of an array under the encodings that are shipped and by these options.
@@ -253,7 +310,10 @@ pub(crate) fn blob_with(
 ) -> Result<ByteBuffer, WireError> {
     let session = shipped(alloc)?;
     let mut ctx = ArrayContext::empty(alloc);
-    blob_by(alloc, array, &session, &mut ctx, options)
+    let blob = blob_by(alloc, array, &session, &mut ctx, options);
+    drop(ctx);
+    drop(session);
+    blob
 }
 
 /// The same without pads, where no deep tree is asked for.
@@ -265,12 +325,10 @@ pub(crate) fn blob_of(alloc: Global, array: &Array) -> Result<ByteBuffer, WireEr
 pub(crate) fn unbuilt(alloc: Global, array: &Array) -> Result<Option<WireError>, WireError> {
     let session = shipped(alloc)?;
     let mut ctx = ArrayContext::empty(alloc);
-    Ok(ArrayNodeFlatBuffer::try_new(alloc, &mut ctx, &session, array).err())
-}
-
-// Whether two arrays are equal.
-fn are_equal(array: &Array, other: &Array) -> bool {
-    array.array_eq(other)
+    let refused = ArrayNodeFlatBuffer::try_new(alloc, &mut ctx, &session, array).err();
+    drop(ctx);
+    drop(session);
+    Ok(refused)
 }
 
 // An array written, and read at the type and length of another one.
@@ -281,7 +339,11 @@ fn read_as(alloc: Global, array: &Array, other: &Array) -> Result<Array, WireErr
 // Whether an array is read again as another one.
 fn comes_as(alloc: Global, array: &Array, other: &Array) -> bool {
     match read_as(alloc, array, other) {
-        Ok(read) => are_equal(&read, other),
+        Ok(read) => {
+            let same = read.array_eq(other);
+            drop(read);
+            same
+        }
         Err(_) => false,
     }
 }
@@ -289,7 +351,12 @@ fn comes_as(alloc: Global, array: &Array, other: &Array) -> bool {
 /// Whether an array is read again as another one, once both are made.
 pub(crate) fn is_read_as(alloc: Global, array: Made, other: Made) -> bool {
     match both(array, other) {
-        Ok((array, other)) => comes_as(alloc, &array, &other),
+        Ok((array, other)) => {
+            let same = comes_as(alloc, &array, &other);
+            drop(other);
+            drop(array);
+            same
+        }
         Err(_) => false,
     }
 }
@@ -303,7 +370,12 @@ pub(crate) fn refusal(
     change: Change<'_>,
 ) -> Option<WireError> {
     match both(array, kind) {
-        Ok((array, kind)) => read(alloc, &array, kind.dtype(), len, change).err(),
+        Ok((array, kind)) => {
+            let refused = read(alloc, &array, kind.dtype(), len, change).err();
+            drop(kind);
+            drop(array);
+            refused
+        }
         Err(_) => Some(WireError::OutOfMemory),
     }
 }

@@ -149,18 +149,22 @@ fn a_row_takes_its_elements_cells_and_one(rt: HostRuntime) {
     assert!(rt; has_slots(alloc, pair(alloc), &slots));
 }
 
-// So many levels of 64 lists, each of all those of the level below.
+// 64 numbers of this byte.
+fn repeated(alloc: Global, byte: u8) -> Made {
+    bytes(alloc, &[byte; 64])
+}
+
+// 64 lists, each of all those of the level below.
+fn above(alloc: Global, level: Made) -> Made {
+    let (offsets, sizes) = (repeated(alloc, 0), repeated(alloc, 64));
+    views(alloc, level, offsets, sizes, There::Always)
+}
+
+// So many such levels.
 fn levels(alloc: Global, count: usize) -> Made {
-    let mut level = bytes(alloc, &[64; 64]);
+    let mut level = repeated(alloc, 64);
     for _ in 0..count {
-        let offsets = bytes(alloc, &[0; 64]);
-        level = views(
-            alloc,
-            level,
-            offsets,
-            bytes(alloc, &[64; 64]),
-            There::Always,
-        );
+        level = above(alloc, level);
     }
     level
 }
@@ -208,7 +212,12 @@ fn are_views_of(alloc: Global, first: &Array, second: &Array) -> (bool, bool) {
 // The same, once both are made.
 fn are_views(alloc: Global, first: Made, second: Made) -> Option<(bool, bool)> {
     match both(first, second) {
-        Ok((first, second)) => Some(are_views_of(alloc, &first, &second)),
+        Ok((first, second)) => {
+            let told = are_views_of(alloc, &first, &second);
+            drop(second);
+            drop(first);
+            Some(told)
+        }
         Err(_) => None,
     }
 }

@@ -29,17 +29,37 @@ pub(crate) fn lacking<T: Drop, E: Drop>(made: Result<T, E>) -> Result<T, WireErr
     }
 }
 
-/// The numbers from 0 on, so many of them.
-pub(crate) fn numbers(alloc: Global, count: u32) -> Result<Array, WireError> {
+/// Two values, or why one of them is not made.
+pub(crate) fn both<A: Drop, B: Drop>(
+    first: Result<A, WireError>,
+    second: Result<B, WireError>,
+) -> Result<(A, B), WireError> {
+    let first = first?;
+    let second = second?;
+    Ok((first, second))
+}
+
+// The bytes of the numbers from 0 on, so many of them.
+fn number_bytes(alloc: Global, count: u32) -> Result<ByteBuffer, WireError> {
     let mut bytes = Vec::new(alloc);
     for i in 0..count {
         bytes.extend_from_slice(&i.to_le_bytes())?;
     }
-    let Some(alignment) = Alignment::new(4) else {
-        return Err(WireError::BadShape);
-    };
-    let buffer = lacking(ByteBuffer::copy_from(alloc, &bytes))?;
-    let values = BufferHandle::new_host(buffer.aligned(alignment));
+    lacking(ByteBuffer::from_vec(bytes))
+}
+
+// The alignment of the numbers.
+fn alignment() -> Alignment {
+    match Alignment::new(4) {
+        Some(alignment) => alignment,
+        None => Alignment::none(),
+    }
+}
+
+/// The numbers from 0 on, so many of them.
+pub(crate) fn numbers(alloc: Global, count: u32) -> Result<Array, WireError> {
+    let buffer = number_bytes(alloc, count)?;
+    let values = BufferHandle::new_host(buffer.aligned(alignment()));
     let never = Nullability::NonNullable;
     lacking(PrimitiveArray::try_new(alloc, values, PType::I32, never, count as usize, None))
 }
@@ -57,22 +77,37 @@ pub(crate) fn day_type(alloc: Global) -> Result<ExtDType, WireError> {
 
 /// So many days.
 pub(crate) fn days(alloc: Global, count: u32) -> Result<Array, WireError> {
-    let storage = numbers(alloc, count)?;
-    lacking(ExtensionArray::try_new(alloc, day_type(alloc)?, storage))
+    let (ext, storage) = both(day_type(alloc), numbers(alloc, count))?;
+    lacking(ExtensionArray::try_new(alloc, ext, storage))
+}
+
+// The only child of a node.
+fn only(alloc: Global, child: Array) -> Result<Arrays, WireError> {
+    let mut children = Arrays::new(alloc);
+    match lacking(children.push(child)) {
+        Ok(()) => Ok(children),
+        Err(e) => {
+            drop(children);
+            Err(e)
+        }
+    }
+}
+
+// So many days as the only child of a node.
+fn only_days(alloc: Global, count: u32) -> Result<Arrays, WireError> {
+    only(alloc, days(alloc, count)?)
 }
 
 /// So many days below a node that the asking plugin reads.
 pub(crate) fn asked_days(alloc: Global, count: u32) -> Result<Array, WireError> {
-    let id = lacking(Id::new(alloc, ASKING))?;
-    let dtype = DType::Extension(day_type(alloc)?);
+    let label = both(lacking(Id::new(alloc, ASKING)), day_type(alloc));
+    let ((id, ext), children) = both(label, only_days(alloc, count))?;
     let metadata = Blob::new(Vec::new(alloc));
     let buffers = BufferHandles::new(alloc);
-    let mut children = Arrays::new(alloc);
-    lacking(children.push(days(alloc, count)?))?;
     lacking(new_foreign_array(
         alloc,
         id,
-        dtype,
+        DType::Extension(ext),
         count as usize,
         metadata,
         buffers,
@@ -80,36 +115,58 @@ pub(crate) fn asked_days(alloc: Global, count: u32) -> Result<Array, WireError> 
     ))
 }
 
-/// A list of identifiers.
-pub(crate) fn ids_of(alloc: Global, texts: &[&str]) -> Result<Ids, WireError> {
-    let mut ids = Ids::new(alloc);
+// Identifiers more.
+fn push_ids(alloc: Global, texts: &[&str], ids: &mut Ids) -> Result<(), WireError> {
     for text in texts {
         let id = lacking(Id::new(alloc, text))?;
         lacking(ids.push(id))?;
     }
-    Ok(ids)
+    Ok(())
+}
+
+/// A list of identifiers.
+pub(crate) fn ids_of(alloc: Global, texts: &[&str]) -> Result<Ids, WireError> {
+    let mut ids = Ids::new(alloc);
+    match push_ids(alloc, texts, &mut ids) {
+        Ok(()) => Ok(ids),
+        Err(e) => {
+            drop(ids);
+            Err(e)
+        }
+    }
 }
 
 /// A context in which these identifiers may come.
 pub(crate) fn allowing(alloc: Global, texts: &[&str]) -> Result<ArrayContext, WireError> {
     let ids = ids_of(alloc, texts)?;
-    lacking(ArrayContext::empty(alloc).with_allowed_ids(alloc, &ids))
+    let ctx = ArrayContext::empty(alloc).with_allowed_ids(alloc, &ids);
+    drop(ids);
+    lacking(ctx)
 }
 
-/// Whether a context has these identifiers, in this order, and no other.
-pub(crate) fn has_ids(alloc: Global, ctx: &ArrayContext, texts: &[&str]) -> bool {
-    let Ok(ids) = ctx.to_ids(alloc) else {
-        return false;
-    };
+// Whether these are the identifiers, in this order.
+fn are_ids(ids: &[Id], texts: &[&str]) -> bool {
     if ids.len() != texts.len() {
         return false;
     }
-    for (id, text) in ids.as_slice().iter().zip(texts) {
+    for (id, text) in ids.iter().zip(texts) {
         if id.as_str() != *text {
             return false;
         }
     }
     true
+}
+
+/// Whether a context has these identifiers, in this order, and no other.
+pub(crate) fn has_ids(alloc: Global, ctx: &ArrayContext, texts: &[&str]) -> bool {
+    match ctx.to_ids(alloc) {
+        Ok(ids) => {
+            let same = are_ids(ids.as_slice(), texts);
+            drop(ids);
+            same
+        }
+        Err(_) => false,
+    }
 }
 
 /// A session of the shipped encodings.
@@ -118,41 +175,59 @@ pub(crate) fn shipped(alloc: Global) -> Result<VortexSession, WireError> {
     Ok(VortexSession::new(arrays, ExtSession::new(alloc)))
 }
 
-// The same with a plugin.
-fn plugged(alloc: Global, plugin: Box<dyn ArrayPlugin>) -> Result<VortexSession, WireError> {
-    let mut session = shipped(alloc)?;
-    match session.arrays.register(PluginEntry::Boxed(plugin)) {
+// Registers a plugin for numbers under two identifiers.
+fn register_versioned(alloc: Global, session: &mut VortexSession) -> Result<(), WireError> {
+    let plugin: Box<dyn ArrayPlugin> = Box::new(alloc, Versioned::new(alloc)?)?;
+    lacking(session.arrays.register(PluginEntry::Boxed(plugin)))
+}
+
+// Registers a plugin for numbers that does not write them as it should.
+fn register_odd(alloc: Global, does: Oddity, session: &mut VortexSession) -> Result<(), WireError> {
+    let plugin: Box<dyn ArrayPlugin> = Box::new(alloc, Odd::new(alloc, OLD, does)?)?;
+    lacking(session.arrays.register(PluginEntry::Boxed(plugin)))
+}
+
+// Registers a plugin for numbers that has no form for them, before or after that of both identifiers.
+fn register_both(alloc: Global, last: bool, session: &mut VortexSession) -> Result<(), WireError> {
+    if last {
+        register_versioned(alloc, session)?;
+        register_odd(alloc, Oddity::Formless, session)
+    } else {
+        register_odd(alloc, Oddity::Formless, session)?;
+        register_versioned(alloc, session)
+    }
+}
+
+// A session, unless memory was wanted for what was registered in it.
+fn unless(
+    registered: Result<(), WireError>,
+    session: VortexSession,
+) -> Result<VortexSession, WireError> {
+    match registered {
         Ok(()) => Ok(session),
-        Err(_) => Err(WireError::OutOfMemory),
+        Err(e) => {
+            drop(session);
+            Err(e)
+        }
     }
 }
 
 /// The same with a plugin for numbers under two identifiers.
 pub(crate) fn versioned(alloc: Global) -> Result<VortexSession, WireError> {
-    let plugin: Box<dyn ArrayPlugin> = Box::new(alloc, Versioned::new(alloc)?)?;
-    plugged(alloc, plugin)
+    let mut session = shipped(alloc)?;
+    unless(register_versioned(alloc, &mut session), session)
 }
 
 /// The same with a plugin for numbers that does not write them as it should.
 pub(crate) fn odd(alloc: Global, does: Oddity) -> Result<VortexSession, WireError> {
-    let plugin: Box<dyn ArrayPlugin> = Box::new(alloc, Odd::new(alloc, OLD, does)?)?;
-    plugged(alloc, plugin)
+    let mut session = shipped(alloc)?;
+    unless(register_odd(alloc, does, &mut session), session)
 }
 
 /// The same with a plugin for numbers that has no form for them, registered before or after that of both identifiers.
 pub(crate) fn replaced(alloc: Global, last: bool) -> Result<VortexSession, WireError> {
-    let formless: Box<dyn ArrayPlugin> = Box::new(alloc, Odd::new(alloc, OLD, Oddity::Formless)?)?;
-    let both: Box<dyn ArrayPlugin> = Box::new(alloc, Versioned::new(alloc)?)?;
-    let (first, second) = if last {
-        (both, formless)
-    } else {
-        (formless, both)
-    };
-    let mut session = plugged(alloc, first)?;
-    match session.arrays.register(PluginEntry::Boxed(second)) {
-        Ok(()) => Ok(session),
-        Err(_) => Err(WireError::OutOfMemory),
-    }
+    let mut session = shipped(alloc)?;
+    unless(register_both(alloc, last, &mut session), session)
 }
 
 /// A reader of the extension `x.day` that accepts all or none.
@@ -176,14 +251,37 @@ impl ExtPlugin for DayReader {
     }
 }
 
-/// A session with a plugin that asks the session's readers, and with a reader of `x.day`.
-pub(crate) fn asking(alloc: Global, accepts: bool) -> Result<VortexSession, WireError> {
+// Registers a plugin that asks the session's readers.
+fn register_asking(alloc: Global, session: &mut VortexSession) -> Result<(), WireError> {
     let plugin: Box<dyn ArrayPlugin> = Box::new(alloc, Asking::new(alloc)?)?;
-    let mut session = plugged(alloc, plugin)?;
+    lacking(session.arrays.register(PluginEntry::Boxed(plugin)))
+}
+
+// Registers a reader of `x.day`.
+fn register_reader(
+    alloc: Global,
+    accepts: bool,
+    session: &mut VortexSession,
+) -> Result<(), WireError> {
     let id = lacking(Id::new(alloc, "x.day"))?;
     let reader: Box<dyn ExtPlugin> = Box::new(alloc, DayReader { id, accepts })?;
-    lacking(session.ext.register(reader))?;
-    Ok(session)
+    lacking(session.ext.register(reader))
+}
+
+// Registers both.
+fn register_asked(
+    alloc: Global,
+    accepts: bool,
+    session: &mut VortexSession,
+) -> Result<(), WireError> {
+    register_asking(alloc, session)?;
+    register_reader(alloc, accepts, session)
+}
+
+/// A session with a plugin that asks the session's readers, and with a reader of `x.day`.
+pub(crate) fn asking(alloc: Global, accepts: bool) -> Result<VortexSession, WireError> {
+    let mut session = shipped(alloc)?;
+    unless(register_asked(alloc, accepts, &mut session), session)
 }
 
 /// A session of the shipped encodings that allows what nothing is registered for.
@@ -202,7 +300,9 @@ pub(crate) fn written(
 ) -> Result<ByteBuffer, WireError> {
     let options = SerializeOptions::default();
     let buffers: ByteBuffers = array.serialize(alloc, ctx, session, &options)?;
-    lacking(buffers.join(alloc))
+    let blob = buffers.join(alloc);
+    drop(buffers);
+    lacking(blob)
 }
 
 /// The array that a blob is read as, with these identifiers.
@@ -214,7 +314,11 @@ pub(crate) fn read(
     texts: &[&str],
     session: &VortexSession,
 ) -> Result<Array, WireError> {
-    let ids = ReadContext::new(ids_of(alloc, texts)?);
-    let serialized = SerializedArray::try_from_buffer(alloc, blob)?;
-    serialized.decode(alloc, dtype, len, &ids, session)
+    let opened = SerializedArray::try_from_buffer(alloc, blob);
+    let (serialized, ids) = both(opened, ids_of(alloc, texts))?;
+    let ids = ReadContext::new(ids);
+    let array = serialized.decode(alloc, dtype, len, &ids, session);
+    drop(ids);
+    drop(serialized);
+    array
 }

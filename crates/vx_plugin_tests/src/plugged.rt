@@ -1,6 +1,6 @@
 use crate::odd::Oddity;
 use crate::parts::{
-    ASKING, NEW, OLD, allowing, allowing_unknown, asked_days, asking, day_type, days, has_ids,
+    ASKING, NEW, OLD, allowing, allowing_unknown, asked_days, asking, both, days, has_ids,
     number_type, numbers, odd, read, replaced, shipped, versioned, written,
 };
 use std::alloc::Global;
@@ -8,103 +8,155 @@ use vx_arrays::Array;
 use vx_buffer::ByteBuffer;
 use vx_registry::{ArrayContext, VortexSession};
 use vx_serde::WireError;
-use vx_types::DType;
 
-// An array of so many numbers, written under a session where these identifiers may come: its blob, and which came.
-fn blob_of(
-    alloc: Global,
-    count: u32,
-    texts: &[&str],
-    session: &VortexSession,
-) -> Result<(ByteBuffer, ArrayContext), WireError> {
-    let array = numbers(alloc, count)?;
-    let mut ctx = allowing(alloc, texts)?;
-    let blob = written(alloc, &array, &mut ctx, session)?;
-    Ok((blob, ctx))
+// Whether there is something.
+fn is_made<T: Drop>(made: Result<T, WireError>) -> bool {
+    match made {
+        Ok(_) => true,
+        Err(_) => false,
+    }
 }
 
-// Whether an array of so many numbers is written under these identifiers alone, and read again as itself with them.
-fn returns_by(
-    alloc: Global,
-    array: &Array,
-    texts: &[&str],
-    session: &VortexSession,
-) -> Result<bool, WireError> {
-    let mut ctx = allowing(alloc, &[OLD, NEW])?;
-    let blob = written(alloc, array, &mut ctx, session)?;
-    let came = has_ids(alloc, &ctx, texts);
-    let again = read(alloc, blob, &number_type(), array.len(), texts, session)?;
-    Ok(came && array.array_eq(&again))
-}
-
-// The same by the plugin of both identifiers.
-fn returns(alloc: Global, count: u32, texts: &[&str]) -> Result<bool, WireError> {
-    let array = numbers(alloc, count)?;
-    let session = versioned(alloc)?;
-    returns_by(alloc, &array, texts, &session)
-}
-
-#[test]
-fn numbers_are_written_under_the_identifier_of_their_length(rt: HostRuntime) {
-    assert!(rt; returns(rt.alloc(), 4, &[OLD]) == Ok(true));
-    assert!(rt; returns(rt.alloc(), 5, &[NEW]) == Ok(true));
-    assert!(rt; returns(rt.alloc(), 8, &[NEW]) == Ok(true));
-    assert!(rt; returns(rt.alloc(), 0, &[OLD]) == Ok(true));
-}
-
-// Whether an array is not written where these identifiers may come, and nothing comes.
-fn is_not_permitted(
-    alloc: Global,
-    array: &Array,
-    texts: &[&str],
-    session: &VortexSession,
-) -> Result<bool, WireError> {
-    let mut ctx = allowing(alloc, texts)?;
-    let refused = is_error(
-        written(alloc, array, &mut ctx, session),
-        WireError::NotPermitted,
-    );
-    Ok(refused && has_ids(alloc, &ctx, &[]))
-}
-
-// The same of eight numbers, by the plugin of both identifiers.
-fn not_permitted(alloc: Global, texts: &[&str]) -> Result<bool, WireError> {
-    let array = numbers(alloc, 8)?;
-    let session = versioned(alloc)?;
-    is_not_permitted(alloc, &array, texts, &session)
-}
-
-#[test]
-fn a_new_identifier_has_to_be_allowed(rt: HostRuntime) {
-    assert!(rt; not_permitted(rt.alloc(), &[OLD]) == Ok(true));
-    assert!(rt; not_permitted(rt.alloc(), &[]) == Ok(true));
-}
-
-// Why such a blob is not read by a session, with this identifier.
-fn unread(
-    alloc: Global,
-    blob: ByteBuffer,
-    text: &str,
-    session: &VortexSession,
-) -> Result<WireError, WireError> {
-    match read(alloc, blob, &number_type(), 8, &[text], session) {
+// Why there is nothing.
+fn refusal<T: Drop>(made: Result<T, WireError>) -> Result<WireError, WireError> {
+    match made {
         Ok(_) => Err(WireError::BadShape),
         Err(e) => Ok(e),
     }
 }
 
-// The same by a session of the shipped encodings.
+// The blob of an array, if these identifiers come to a context and no other.
+fn blob_as(
+    alloc: Global,
+    array: &Array,
+    ctx: &mut ArrayContext,
+    texts: &[&str],
+    session: &VortexSession,
+) -> Result<ByteBuffer, WireError> {
+    let blob = written(alloc, array, ctx, session);
+    if has_ids(alloc, ctx, texts) {
+        blob
+    } else {
+        drop(blob);
+        Err(WireError::BadContent)
+    }
+}
+
+// The numbers that a blob is read as, with an identifier.
+fn read_numbers(
+    alloc: Global,
+    blob: ByteBuffer,
+    count: usize,
+    text: &str,
+    session: &VortexSession,
+) -> Result<Array, WireError> {
+    let dtype = number_type();
+    let array = read(alloc, blob, &dtype, count, &[text], session);
+    drop(dtype);
+    array
+}
+
+// Whether a blob is read as these numbers, with an identifier.
+fn is_read_as(
+    alloc: Global,
+    blob: ByteBuffer,
+    array: &Array,
+    text: &str,
+    session: &VortexSession,
+) -> Result<bool, WireError> {
+    let again = read_numbers(alloc, blob, array.len(), text, session)?;
+    let same = array.array_eq(&again);
+    drop(again);
+    Ok(same)
+}
+
+// Whether numbers are written under this identifier alone, and read again as themselves with it.
+fn returns_by(
+    alloc: Global,
+    array: &Array,
+    text: &str,
+    session: &VortexSession,
+) -> Result<bool, WireError> {
+    let mut ctx = allowing(alloc, &[OLD, NEW])?;
+    let blob = blob_as(alloc, array, &mut ctx, &[text], session);
+    drop(ctx);
+    is_read_as(alloc, blob?, array, text, session)
+}
+
+// The same of so many numbers, by the plugin of both identifiers.
+fn returns(alloc: Global, count: u32, text: &str) -> Result<bool, WireError> {
+    let (array, session) = both(numbers(alloc, count), versioned(alloc))?;
+    let told = returns_by(alloc, &array, text, &session);
+    drop(session);
+    drop(array);
+    told
+}
+
+#[test]
+fn numbers_are_written_under_the_identifier_of_their_length(rt: HostRuntime) {
+    assert!(rt; returns(rt.alloc(), 4, OLD) == Ok(true));
+    assert!(rt; returns(rt.alloc(), 5, NEW) == Ok(true));
+    assert!(rt; returns(rt.alloc(), 8, NEW) == Ok(true));
+    assert!(rt; returns(rt.alloc(), 0, OLD) == Ok(true));
+}
+
+// Why an array is not written, where nothing comes to a context.
+fn unwritten_in(
+    alloc: Global,
+    array: &Array,
+    ctx: &mut ArrayContext,
+    session: &VortexSession,
+) -> Result<WireError, WireError> {
+    let error = refusal(written(alloc, array, ctx, session));
+    if has_ids(alloc, ctx, &[]) {
+        error
+    } else {
+        Err(WireError::BadContent)
+    }
+}
+
+// The same of an array where these identifiers may come.
+fn unwritten_among(
+    alloc: Global,
+    array: &Array,
+    texts: &[&str],
+    session: &VortexSession,
+) -> Result<WireError, WireError> {
+    let mut ctx = allowing(alloc, texts)?;
+    let error = unwritten_in(alloc, array, &mut ctx, session);
+    drop(ctx);
+    error
+}
+
+// The same of eight numbers, by the plugin of both identifiers.
+fn not_permitted(alloc: Global, texts: &[&str]) -> Result<WireError, WireError> {
+    let (array, session) = both(numbers(alloc, 8), versioned(alloc))?;
+    let error = unwritten_among(alloc, &array, texts, &session);
+    drop(session);
+    drop(array);
+    error
+}
+
+#[test]
+fn a_new_identifier_has_to_be_allowed(rt: HostRuntime) {
+    assert!(rt; not_permitted(rt.alloc(), &[OLD]) == Ok(WireError::NotPermitted));
+    assert!(rt; not_permitted(rt.alloc(), &[]) == Ok(WireError::NotPermitted));
+}
+
+// Why the blob of eight numbers is not read by a session of the shipped encodings, with this identifier.
 fn unread_shipped(alloc: Global, text: &str) -> Result<WireError, WireError> {
-    let blob = versioned_blob(alloc, 8)?;
-    let session = shipped(alloc)?;
-    unread(alloc, blob, text, &session)
+    let (blob, session) = both(versioned_blob(alloc, 8), shipped(alloc))?;
+    let error = refusal(read_numbers(alloc, blob, 8, text, &session));
+    drop(session);
+    error
 }
 
 // And by that of the plugin.
 fn unread_plugged(alloc: Global, text: &str) -> Result<WireError, WireError> {
-    let blob = versioned_blob(alloc, 8)?;
-    let session = versioned(alloc)?;
-    unread(alloc, blob, text, &session)
+    let (blob, session) = both(versioned_blob(alloc, 8), versioned(alloc))?;
+    let error = refusal(read_numbers(alloc, blob, 8, text, &session));
+    drop(session);
+    error
 }
 
 #[test]
@@ -123,22 +175,18 @@ fn unwritten_by(
     session: &VortexSession,
 ) -> Result<WireError, WireError> {
     let mut ctx = ArrayContext::empty(alloc);
-    let error = match written(alloc, array, &mut ctx, session) {
-        Ok(_) => WireError::BadShape,
-        Err(e) => e,
-    };
-    if has_ids(alloc, &ctx, &[]) {
-        Ok(error)
-    } else {
-        Err(WireError::BadContent)
-    }
+    let error = unwritten_in(alloc, array, &mut ctx, session);
+    drop(ctx);
+    error
 }
 
 // Why numbers are not written by an odd plugin.
 fn unwritten(alloc: Global, does: Oddity) -> Result<WireError, WireError> {
-    let array = numbers(alloc, 2)?;
-    let session = odd(alloc, does)?;
-    unwritten_by(alloc, &array, &session)
+    let (array, session) = both(numbers(alloc, 2), odd(alloc, does))?;
+    let error = unwritten_by(alloc, &array, &session);
+    drop(session);
+    drop(array);
+    error
 }
 
 #[test]
@@ -154,26 +202,34 @@ fn odd_plugins_write_nothing(rt: HostRuntime) {
     }
 }
 
-// The blob of so many numbers that the plugin of both identifiers writes.
+// The blob of so many numbers, written where both identifiers may come.
+fn blob_of(alloc: Global, count: u32, session: &VortexSession) -> Result<ByteBuffer, WireError> {
+    let (array, mut ctx) = both(numbers(alloc, count), allowing(alloc, &[OLD, NEW]))?;
+    let blob = written(alloc, &array, &mut ctx, session);
+    drop(ctx);
+    drop(array);
+    blob
+}
+
+// The same by the plugin of both identifiers.
 fn versioned_blob(alloc: Global, count: u32) -> Result<ByteBuffer, WireError> {
     let session = versioned(alloc)?;
-    let (blob, _ctx) = blob_of(alloc, count, &[OLD, NEW], &session)?;
-    Ok(blob)
+    let blob = blob_of(alloc, count, &session);
+    drop(session);
+    blob
 }
 
-// Whether so many numbers are read of a blob, with an identifier.
-fn is_read(
-    alloc: Global,
-    blob: ByteBuffer,
-    count: usize,
-    text: &str,
-    session: &VortexSession,
-) -> bool {
-    read(alloc, blob, &number_type(), count, &[text], session).is_ok()
+// Whether two numbers are written as they should by a session to which the plugin without a form came last or first.
+fn are_written_by(alloc: Global, last: bool, session: &VortexSession) -> bool {
+    let blob = blob_of(alloc, 2, session);
+    if last {
+        refusal(blob) == Ok(WireError::NotSerializable)
+    } else {
+        is_made(blob)
+    }
 }
 
-// Whether the blobs of two numbers and of eight are read and two numbers written as they should by a session to which the
-// plugin without a form came last or first.
+// Whether the blobs of two numbers and of eight are read and two numbers written as they should by such a session.
 fn goes_by(
     alloc: Global,
     two: ByteBuffer,
@@ -181,30 +237,20 @@ fn goes_by(
     last: bool,
     session: &VortexSession,
 ) -> bool {
-    let written = match blob_of(alloc, 2, &[OLD, NEW], session) {
-        Ok(_) => !last,
-        Err(e) => last && e == WireError::NotSerializable,
-    };
-    let old = is_read(alloc, two, 2, OLD, session);
+    let written = are_written_by(alloc, last, session);
+    let old = is_made(read_numbers(alloc, two, 2, OLD, session));
     // An identifier that the later plugin does not declare is still the earlier one's.
-    let new = is_read(alloc, eight, 8, NEW, session);
+    let new = is_made(read_numbers(alloc, eight, 8, NEW, session));
     written && old != last && new
 }
 
 // The same by a session of both plugins.
 fn replaced_by(alloc: Global, last: bool) -> Result<bool, WireError> {
-    let two = versioned_blob(alloc, 2)?;
-    let eight = versioned_blob(alloc, 8)?;
-    let session = replaced(alloc, last)?;
-    Ok(goes_by(alloc, two, eight, last, &session))
-}
-
-// Whether this is why there is nothing.
-fn is_error<T: Drop>(made: Result<T, WireError>, error: WireError) -> bool {
-    match made {
-        Ok(_) => false,
-        Err(e) => e == error,
-    }
+    let blobs = both(versioned_blob(alloc, 2), versioned_blob(alloc, 8));
+    let ((two, eight), session) = both(blobs, replaced(alloc, last))?;
+    let told = goes_by(alloc, two, eight, last, &session);
+    drop(session);
+    Ok(told)
 }
 
 #[test]
@@ -216,41 +262,45 @@ fn a_later_plugin_takes_the_place_of_an_earlier_one(rt: HostRuntime) {
 // The identifiers of days below a node that the asking plugin reads.
 const ASKED: [&str; 3] = [ASKING, "vortex.ext", OLD];
 
-// The blob of an array of such identifiers.
-fn asked_blob_of(
-    alloc: Global,
-    array: &Array,
-    session: &VortexSession,
-) -> Result<ByteBuffer, WireError> {
+// The blob of three such days by a session, if those identifiers come.
+fn asked_blob_by(alloc: Global, session: &VortexSession) -> Result<ByteBuffer, WireError> {
+    let array = asked_days(alloc, 3)?;
     let mut ctx = ArrayContext::empty(alloc);
-    let blob = written(alloc, array, &mut ctx, session)?;
-    if has_ids(alloc, &ctx, &ASKED) {
-        Ok(blob)
-    } else {
-        Err(WireError::BadContent)
-    }
+    let blob = blob_as(alloc, &array, &mut ctx, &ASKED, session);
+    drop(ctx);
+    drop(array);
+    blob
 }
 
-// The blob of three such days.
+// The same by a session that allows what nothing is registered for.
 fn asked_blob(alloc: Global) -> Result<ByteBuffer, WireError> {
-    let array = asked_days(alloc, 3)?;
     let session = allowing_unknown(alloc)?;
-    asked_blob_of(alloc, &array, &session)
+    let blob = asked_blob_by(alloc, &session);
+    drop(session);
+    blob
 }
 
 // Whether three days are read of a blob.
-fn are_days(alloc: Global, blob: ByteBuffer, session: &VortexSession) -> Result<bool, WireError> {
-    let dtype = DType::Extension(day_type(alloc)?);
-    let found = read(alloc, blob, &dtype, 3, &ASKED, session)?;
-    let expected = days(alloc, 3)?;
-    Ok(expected.array_eq(&found))
+fn are_days(
+    alloc: Global,
+    days: &Array,
+    blob: ByteBuffer,
+    session: &VortexSession,
+) -> Result<bool, WireError> {
+    let found = read(alloc, blob, days.dtype(), 3, &ASKED, session)?;
+    let same = days.array_eq(&found);
+    drop(found);
+    Ok(same)
 }
 
 // Whether they are by a session whose reader of days accepts them or not.
 fn asked(alloc: Global, accepts: bool) -> Result<bool, WireError> {
-    let blob = asked_blob(alloc)?;
-    let session = asking(alloc, accepts)?;
-    are_days(alloc, blob, &session)
+    let parts = both(days(alloc, 3), asked_blob(alloc));
+    let ((days, blob), session) = both(parts, asking(alloc, accepts))?;
+    let told = are_days(alloc, &days, blob, &session);
+    drop(session);
+    drop(days);
+    told
 }
 
 #[test]
