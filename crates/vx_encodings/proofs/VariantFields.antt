@@ -20,7 +20,8 @@ use Rattle.vx_array_tree.specs.Metadata as M
 use Rattle.vx_array_tree.specs.Tree.{Tree, places}
 use Rattle.vx_wire_tree.specs.Fields.{Fields, FitsMessage}
 use Rattle.vx_wire_tree.specs.Fields as F
-use Rattle.vx_wire_tree.specs.Reads.{IsMetadata, IsKnownIn}
+use Rattle.vx_wire_tree.specs.KnownTypes.{IsKnownIn}
+use Rattle.vx_wire_tree.specs.Reads.{IsMetadata}
 use Rattle.vx_encodings.specs.Messages.{codec}
 use Rattle.vx_encodings.specs.Steps.{IsUnread}
 use Rattle.vx_encodings.specs.VariantMessage.{IsShredded, IsUnshredded, IsUnknownMessage, ShowsVariant, shredded_value, variant_bytes, variant_parts, variant_schema, variant_value}

@@ -17,7 +17,7 @@ use Rattle.vx_array_tree.specs.Encodings.Variants.{IsFair}
 use Rattle.vx_array_tree.specs.Place.{Place, place}
 use Rattle.vx_wire_tree.specs.Fields.{Fields}
 use Rattle.vx_wire_tree.specs.Fields as F
-use Rattle.vx_wire_tree.specs.Reads.{IsKnownIn}
+use Rattle.vx_wire_tree.specs.KnownTypes.{IsKnownIn}
 use Rattle.vx_array_tree.specs.Metadata as M
 use Rattle.vx_encodings.specs.declared.error.EncodingError.{EncodingError}
 use Rattle.vx_encodings.specs.declared.error.EncodingError.TheVariants.{OutOfMemory, BadMetadata}

@@ -1,25 +1,12 @@
 -- One identifier more in a context.
 use Rattle.std.proofs.Common.{ℕ, zero, suc, ◌≡◌, ◌<◌, ◌≤◌, List, [], ◌∷◌, ◌++◌, Option, Some, None, Bool, true, false, cond, ◌&&◌, ◌||◌, IfSome, IfNone, length, position, nat_lt, refl, sym, ap, ◌∙◌, subst, arith}
 use Rattle.std.specs.Prelude.{bytes_eq}
-use Rattle.std.specs.List.{position_or_len, list_any}
+use Rattle.std.specs.List.{position_or_len}
 use Rattle.std.proofs.lemmas.Bool.{lt-ltb}
 use Rattle.std.proofs.lemmas.Slice.Eq.{bytes_eq-Decides}
 use Rattle.std.proofs.lemmas.List.Recursion.{is_position_or_len}
-use Rattle.vx_registry.proofs.LawsContexts.{index_of-absent}
+use Rattle.vx_registry.proofs.LawsContexts.{index_of-absent, index_of-end}
 use Rattle.vx_wire_tree.specs.Context.{Context, is_among, index_of, with_id, with_ids, is_allowed, interned}
-
--- the two ways to say that a list has an identifier
-
-same_test : (p n : ℕ) → nat_lt (suc p) (suc n) ≡ nat_lt p n
-same_test p n = grind arith
-
-among_at : (b rest : Bool) (p n : ℕ) → rest ≡ nat_lt p n → b || rest ≡ nat_lt (cond b 0 (suc p)) (suc n)
-among_at true rest p n e = sym (lt-ltb 0 (suc n) (omega arith))
-among_at false rest p n e = e ∙ sym (same_test p n)
-
-pub list_any-among : (id : List ℕ) (ids : List (List ℕ)) → list_any (bytes_eq id) ids ≡ is_among id ids
-list_any-among id [] = refl
-list_any-among id (x ∷ xs) = among_at (bytes_eq id x) (list_any (bytes_eq id) xs) (index_of id xs) (length xs) (list_any-among id xs)
 
 -- places
 
@@ -35,10 +22,6 @@ pub index_of-found : (id : List ℕ) (ids : List (List ℕ)) (i : ℕ) → posit
 index_of-found id ids i e =
     is_position_or_len (index_of id) (bytes_eq id) refl (λ x xs. ap (λ n. cond (bytes_eq id x) 0 n) (omega arith)) ids
     ∙ some_is (nat_lt (position_or_len (bytes_eq id) ids) (length ids)) (position_or_len (bytes_eq id) ids) i e
-
--- what the set makes of its keys
-pub insert_key-with_id : (id : List ℕ) (ids : List (List ℕ)) → cond (list_any (bytes_eq id) ids) ids (ids ++ id ∷ []) ≡ with_id id ids
-insert_key-with_id id ids = ap (λ b. cond b ids (ids ++ id ∷ [])) (list_any-among id ids)
 
 -- an identifier that may come, at a place that a number names
 pub interned-some : (c : Context) (id : List ℕ) (ids : List (List ℕ)) → is_allowed c.allowed id ≡ true → index_of id c.ids < 65536 → ids ≡ with_id id c.ids
@@ -63,12 +46,12 @@ pub record IsInterned (old : Context) (id : List ℕ) (place : Option ℕ) (new 
   pub none : IfNone place (new ≡ old)
 
 -- an identifier that the context has
-pub found : (c : Context) (id : List ℕ) (i : ℕ) (p : Option ℕ) → is_allowed c.allowed id ≡ true → position (bytes_eq id) c.ids ≡ Some i → list_any (bytes_eq id) c.ids ≡ true
+pub found : (c : Context) (id : List ℕ) (i : ℕ) (p : Option ℕ) → is_allowed c.allowed id ≡ true → position (bytes_eq id) c.ids ≡ Some i → is_among id c.ids ≡ true
     → IfSome p (λ place. place ≡ i) → IfSome p (λ _. i < 65536) → IfNone p (65536 ≤ i) → IsInterned c id p c
 found c id i (Some place) allowed at there same small none =
     let e = index_of-found id c.ids i at in
     record {
-      interned_is = interned-some c id c.ids allowed (omega (arith, e, small)) (sym (ap (λ z. cond z c.ids (c.ids ++ id ∷ [])) (sym (list_any-among id c.ids) ∙ there)));
+      interned_is = interned-some c id c.ids allowed (omega (arith, e, small)) (sym (ap (λ z. cond z c.ids (c.ids ++ id ∷ [])) there));
       place_is = e ∙ sym same;
       refused = tt;
       none = tt;
@@ -81,44 +64,29 @@ found c id i None allowed at there same small none = record {
 }
 
 -- the same of a context that a value is seen as
-pub found_in : (v c : Context) (id : List ℕ) (i : ℕ) (p : Option ℕ) → v ≡ c → is_allowed v.allowed id ≡ true → position (bytes_eq id) v.ids ≡ Some i → list_any (bytes_eq id) v.ids ≡ true
+pub found_in : (v c : Context) (id : List ℕ) (i : ℕ) (p : Option ℕ) → v ≡ c → is_allowed v.allowed id ≡ true → position (bytes_eq id) v.ids ≡ Some i → is_among id v.ids ≡ true
     → IfSome p (λ place. place ≡ i) → IfSome p (λ _. i < 65536) → IfNone p (65536 ≤ i) → IsInterned c id p c
 found_in v c id i p e allowed at there same small none =
     let P : Context → Type 0 = λ z. IsInterned z id p z in
     subst P e (found v id i p allowed at there same small none)
 
 -- a new identifier where no place is left
-pub full : (c : Context) (id : List ℕ) → is_allowed c.allowed id ≡ true → list_any (bytes_eq id) c.ids ≡ false → 65536 ≤ length c.ids → interned id c ≡ None
-full c id allowed absent h = interned-past c id allowed (omega (arith, index_of-absent id c.ids (sym (list_any-among id c.ids) ∙ absent), h))
+pub full : (c : Context) (id : List ℕ) → is_allowed c.allowed id ≡ true → is_among id c.ids ≡ false → 65536 ≤ length c.ids → interned id c ≡ None
+full c id allowed absent h = interned-past c id allowed (omega (arith, index_of-absent id c.ids absent, h))
 
 -- a new identifier that goes last
 
-pub added : (c d : Context) (id : List ℕ) → is_allowed c.allowed id ≡ true → list_any (bytes_eq id) c.ids ≡ false → length c.ids < 65536
+pub added : (c d : Context) (id : List ℕ) → is_allowed c.allowed id ≡ true → is_among id c.ids ≡ false → length c.ids < 65536
     → d.ids ≡ with_id id c.ids → d.allowed ≡ c.allowed → interned id c ≡ Some d
 added c d id allowed absent small e f =
-    let at = index_of-absent id c.ids (sym (list_any-among id c.ids) ∙ absent) in
+    let at = index_of-absent id c.ids absent in
     interned-some c id d.ids allowed (omega (arith, at, small)) e ∙ ap (λ z. Some (record { ids = d.ids; allowed = z })) (sym f)
 
-end_at : (b rest : Bool) (p n : ℕ) → b || rest ≡ false → (rest ≡ false → p ≡ n) → cond b 0 (suc p) ≡ suc n
-end_at true rest p n e f = absurd (cc)
-end_at false rest p n e f = ap (λ k. suc k) (f e)
-
-own_place : (b : Bool) (n : ℕ) → b ≡ true → cond b 0 (suc n) ≡ zero
-own_place true n e = refl
-own_place false n e = absurd (cc)
-
-index_of-end : (id : List ℕ) (ids : List (List ℕ)) → list_any (bytes_eq id) ids ≡ false → index_of id (ids ++ id ∷ []) ≡ length ids
-index_of-end id [] e = own_place (bytes_eq id id) 0 ((bytes_eq-Decides id id).1 refl)
-index_of-end id (x ∷ xs) e = end_at (bytes_eq id x) (list_any (bytes_eq id) xs) (index_of id (xs ++ id ∷ [])) (length xs) e (λ q. index_of-end id xs q)
-
 -- and its place then
-pub added-place : (c d : Context) (id : List ℕ) (place : ℕ) → list_any (bytes_eq id) c.ids ≡ false → place ≡ length c.ids → d.ids ≡ with_id id c.ids → index_of id d.ids ≡ place
+pub added-place : (c d : Context) (id : List ℕ) (place : ℕ) → is_among id c.ids ≡ false → place ≡ length c.ids → d.ids ≡ with_id id c.ids → index_of id d.ids ≡ place
 added-place c d id place absent last e =
-    let new : with_id id c.ids ≡ c.ids ++ id ∷ [] = ap (λ b. cond b c.ids (c.ids ++ id ∷ [])) (sym (list_any-among id c.ids) ∙ absent) in
+    let new : with_id id c.ids ≡ c.ids ++ id ∷ [] = ap (λ b. cond b c.ids (c.ids ++ id ∷ [])) absent in
     ap (λ ids. index_of id ids) (e ∙ new) ∙ index_of-end id c.ids absent ∙ sym last
-
--- for the test of what may come
-pub ruleset among = (list_any-among)
 
 -- identifiers that go in one after the other
 

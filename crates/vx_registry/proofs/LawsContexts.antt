@@ -1,7 +1,6 @@
 -- Where an identifier stands in a list.
-use Rattle.std.proofs.Common.{ℕ, suc, ◌≡◌, ◌<◌, ◌≤◌, List, [], ◌∷◌, ◌++◌, Bool, true, false, cond, length, refl, arith}
+use Rattle.std.proofs.Common.{ℕ, suc, ◌≡◌, ◌<◌, ◌≤◌, ◌||◌, List, [], ◌∷◌, ◌++◌, Bool, true, false, cond, length, refl, ap, arith}
 use Rattle.std.specs.Prelude.{bytes_eq}
-use Rattle.std.proofs.lemmas.Bool.{ltb-true, ltb-false}
 use Rattle.std.proofs.lemmas.Slice.Eq.{bytes_eq-Decides}
 use Rattle.vx_wire_tree.specs.Context.{is_among, index_of}
 
@@ -14,13 +13,32 @@ pub index_of-within : (id : List ℕ) (ids : List (List ℕ)) → index_of id id
 index_of-within id [] = omega arith
 index_of-within id (x ∷ xs) = within_at (bytes_eq id x) (index_of id xs) (length xs) (index_of-within id xs)
 
+among_at : (b rest : Bool) (p n : ℕ) → b || rest ≡ true → (rest ≡ true → p < n) → cond b 0 (suc p) < suc n
+among_at true rest p n e f = omega arith
+among_at false rest p n e f = omega (arith, f e)
+
 -- An identifier that a list has, has its place in the list.
 pub index_of-among : (id : List ℕ) (ids : List (List ℕ)) → is_among id ids ≡ true → index_of id ids < length ids
-index_of-among id ids e = ltb-true (index_of id ids) (length ids) e
+index_of-among id [] e = absurd (cc)
+index_of-among id (x ∷ xs) e = among_at (bytes_eq id x) (is_among id xs) (index_of id xs) (length xs) e (λ q. index_of-among id xs q)
+
+absent_at : (b rest : Bool) (p n : ℕ) → b || rest ≡ false → (rest ≡ false → p ≡ n) → cond b 0 (suc p) ≡ suc n
+absent_at true rest p n e f = absurd (cc)
+absent_at false rest p n e f = ap (λ k. suc k) (f e)
 
 -- One that it has not has its place at the end.
 pub index_of-absent : (id : List ℕ) (ids : List (List ℕ)) → is_among id ids ≡ false → index_of id ids ≡ length ids
-index_of-absent id ids e = omega (arith, ltb-false (index_of id ids) (length ids) e, index_of-within id ids)
+index_of-absent id [] e = refl
+index_of-absent id (x ∷ xs) e = absent_at (bytes_eq id x) (is_among id xs) (index_of id xs) (length xs) e (λ q. index_of-absent id xs q)
+
+own_place : (b : Bool) (n : ℕ) → b ≡ true → cond b 0 (suc n) ≡ 0
+own_place true n e = refl
+own_place false n e = absurd (cc)
+
+-- And that place where it comes at the end.
+pub index_of-end : (id : List ℕ) (ids : List (List ℕ)) → is_among id ids ≡ false → index_of id (ids ++ id ∷ []) ≡ length ids
+index_of-end id [] e = own_place (bytes_eq id id) 0 ((bytes_eq-Decides id id).1 refl)
+index_of-end id (x ∷ xs) e = absent_at (bytes_eq id x) (is_among id xs) (index_of id (xs ++ id ∷ [])) (length xs) e (λ q. index_of-end id xs q)
 
 below_at : (b : Bool) (p n : ℕ) → p < n → cond b 0 (suc p) < suc n
 below_at true p n h = omega arith

@@ -1,21 +1,26 @@
 -- What holds of each session, for the proofs of other crates.
-use Rattle.std.proofs.Common.{◌≡◌, [], ◌∷◌, Option, Some, None, Bool, true, false, cond, sym, subst, refl}
+use Rattle.std.proofs.Common.{ℕ, ◌≡◌, ◌⊎◌, ◌||◌, inl, inr, List, [], ◌∷◌, Option, Some, None, Bool, true, false, cond, sym, ap, ◌∙◌, subst, refl}
 use Rattle.std.specs.Prelude.{bytes_eq, option_and_then, option_map}
-use Rattle.std.specs.List.{list_any}
 use Rattle.std.specs.Map.{lookup}
+use Rattle.std.specs.declared.alloc.Global.{Global}
+use Rattle.std.specs.declared.dyn_box.DynBox.{DynBox}
 use Rattle.vx_types.specs.Known.{ExtMeaning}
 use Rattle.vx_array_tree.specs.Encoding as E
 use Rattle.vx_wire_tree.specs.Codec.{IsLawful, IsLawfulAt}
+use Rattle.vx_wire_tree.specs.Context.{is_among}
 use Rattle.vx_wire_tree.specs.Plugin.{PluginMeaning}
-use Rattle.vx_wire_tree.specs.Session.{Reader, revised, plugin, encoding_by, entry_id, IsShippedReader, IsShipped}
+use Rattle.std.proofs.lemmas.Slice.Eq.{bytes_eq-Decides}
+use Rattle.vx_wire_tree.specs.Session.{SessionMeaning, Reader, shipped, revised, plugin, encoding_by, entry_id, IsShippedReader, IsShipped, HasPairedPlugins}
 use Rattle.vx_encodings.specs.Messages.{codec}
 use Rattle.vx_encodings.specs.Plain.{plain_encoding}
 use Rattle.vx_encodings.proofs.Laws.{lawful, stats_lawful}
 use Rattle.vx_encodings.specs.declared.encoding.Encoding.TheVariants.{Primitive}
-use Rattle.vx_registry.specs.Session.{Registry, Plugins, both_ids, entry_in, no_plugins, tables_meaning, shipped_meaning, revised_meaning, shipped_encodings, shipped_registry, with_revised}
+use Rattle.vx_registry.specs.Meaning.{plugins_meaning, arrays_meaning}
+use Rattle.vx_registry.specs.Session.{Registry, Plugins, both_ids, entry_in, found_with, no_plugins, tables_meaning, shipped_meaning, revised_meaning, shipped_encodings, shipped_registry, with_revised}
+use Rattle.vx_registry.specs.declared.array_session.ArraySession.{ArraySession}
 use Rattle.vx_registry.specs.declared.tables.Entry.{Entry}
 use Rattle.vx_registry.specs.declared.tables.Entry.TheVariants.{Shipped, Revised, Boxed}
-use Rattle.vx_registry.proofs.Meanings.{found_revised}
+use Rattle.vx_registry.proofs.Meanings.{found_put}
 use Rattle.vx_registry.proofs.Shipped.{found_is_shipped}
 
 -- The session of the shipped encodings reads and writes by shipped encodings alone.
@@ -35,11 +40,11 @@ revised_alone x =
     let all = shipped_alone x in
     record {
       reads = λ id.
-          subst (λ z. IsShippedReader z) (sym (found_revised no_plugins no_plugins both_ids shipped_registry.readers (with_revised shipped_registry).readers id refl refl))
-          (also_revised (list_any (bytes_eq id) both_ids) _ (all.reads id));
+          subst (λ z. IsShippedReader z) (sym (found_put no_plugins Revised revised both_ids shipped_registry.readers (with_revised shipped_registry).readers id refl refl))
+          (also_revised (is_among id both_ids) _ (all.reads id));
       writes = λ id.
-          subst (λ z. IsShippedReader z) (sym (found_revised no_plugins no_plugins (entry_id revised ∷ []) shipped_registry.writers (with_revised shipped_registry).writers id refl refl))
-          (also_revised (list_any (bytes_eq id) (entry_id revised ∷ [])) _ (all.writes id));
+          subst (λ z. IsShippedReader z) (sym (found_put no_plugins Revised revised (entry_id revised ∷ []) shipped_registry.writers (with_revised shipped_registry).writers id refl refl))
+          (also_revised (is_among id (entry_id revised ∷ [])) _ (all.writes id));
     }
 
 no_encoding : (o : Option PluginMeaning) (e : E.Encoding) → encoding_by (option_map (λ p. plugin p) o) ≡ Some e → ⊥
@@ -55,3 +60,62 @@ lawful_at f (Some (Boxed n)) e p = absurd (no_encoding (f n) e p)
 -- The encodings by which a session reads have lawful messages of metadata, and the tables of statistics are lawful.
 pub registry_lawful : (f : Plugins) (r : Registry) (x : ExtMeaning) → IsLawful codec (tables_meaning f r x)
 registry_lawful f r x = record { messages = λ id e p. lawful_at f (lookup (bytes_eq id) r.readers) e p; stats = stats_lawful }
+
+pub session_lawful : {Y : Type 0} {G : Y → Type 0} (means : DynBox Y Global G → PluginMeaning) (s : ArraySession Y G) (x : ExtMeaning) → IsLawful codec (arrays_meaning means s x)
+session_lawful means s x = registry_lawful (plugins_meaning means s.plugins.items) s.tables x
+
+-- ---- plugins that read and write
+
+no_plugin : (o : Option Reader) (p : PluginMeaning) → IsShippedReader o → o ≡ Some (plugin p) → ⊥
+no_plugin None p h e = cc
+no_plugin (Some (shipped f)) p h e = cc
+no_plugin (Some revised) p h e = cc
+no_plugin (Some (plugin q)) p h e = absurd h
+
+-- Where no plugin reads or writes, none is without its writer.
+pub paired_alone : (s : SessionMeaning) → IsShipped s → HasPairedPlugins s
+paired_alone s h = record {
+  read_is_written = λ id p e. absurd (no_plugin (s.reader id) p (h.reads id) e);
+  own_identifier = λ id p e. absurd (no_plugin (s.writer id) p (h.writes id) e);
+}
+
+-- What is found is the reader that came, where it came, or what was found before.
+came : (t : Bool) (r q : Reader) (o : Option Reader) → cond t (Some r) o ≡ Some q → ((t ≡ true) × (r ≡ q)) ⊎ (o ≡ Some q)
+came true r q o e = inl (refl, cc)
+came false r q o e = inr e
+
+there : (t : Bool) (r : Reader) (o : Option Reader) → t ≡ true → (q : Reader) × (cond t (Some r) o ≡ Some q)
+there true r o e = (r, refl)
+there false r o e = absurd (cc)
+
+still_there : (t : Bool) (r : Reader) (o : Option Reader) → ((q : Reader) × (o ≡ Some q)) → (q : Reader) × (cond t (Some r) o ≡ Some q)
+still_there true r o h = (r, refl)
+still_there false r o h = h
+
+found_as : (o p : Option Reader) → o ≡ p → ((q : Reader) × (p ≡ Some q)) → (q : Reader) × (o ≡ Some q)
+found_as o p e h = (h.0, e ∙ h.1)
+
+the_one : (b : Bool) → (b || false) ≡ true → b ≡ true
+the_one true e = refl
+the_one false e = e
+
+-- A reader that comes under identifiers, and as the writer of its own, leaves each plugin that reads with its writer, and each
+-- that writes under its own identifier.
+pub paired_registered : (old now : SessionMeaning) (ids : List (List ℕ)) (r : Reader) → ((id : List ℕ) → now.reader id ≡ found_with ids r old.reader id)
+    → ((id : List ℕ) → now.writer id ≡ found_with (entry_id r ∷ []) r old.writer id) → HasPairedPlugins old → HasPairedPlugins now
+paired_registered old now ids r reads writes h = record {
+  read_is_written = λ id p e.
+      let own = is_among p.id (entry_id r ∷ []) in
+      found_as (now.writer p.id) _ (writes p.id)
+      (
+        elim (came (is_among id ids) r (plugin p) (old.reader id) (sym (reads id) ∙ e)) [
+          | inl k ↦ there own r (old.writer p.id) (ap (λ b. b || false) ((bytes_eq-Decides p.id (entry_id r)).1 (ap (λ q. entry_id q) (sym k.1))))
+          | inr k ↦ still_there own r (old.writer p.id) (h.read_is_written id p k)
+        ]
+      );
+  own_identifier = λ id p e.
+      elim (came (is_among id (entry_id r ∷ [])) r (plugin p) (old.writer id) (sym (writes id) ∙ e)) [
+        | inl k ↦ (bytes_eq-Decides id (entry_id r)).0 (the_one (bytes_eq id (entry_id r)) k.0) ∙ ap (λ q. entry_id q) k.1
+        | inr k ↦ h.own_identifier id p k
+      ];
+}

@@ -66,17 +66,10 @@ entry_at : (f : Plugins) (e : Entry) (r : Reader) (t : Bool) (o p : Option Entry
 entry_at f e r true o p m q = ap (λ z. option_and_then (entry_in f) z) q ∙ m
 entry_at f e r false o p m q = ap (λ z. option_and_then (entry_in f) z) q
 
-pub found_shipped : (f g : Plugins) (e : Encoding) (ids : List (List ℕ)) (table now : Entries) (id : List ℕ) → f ≡ g → now ≡ put_all (Shipped e) ids table
-    → found f now id ≡ cond (list_any (bytes_eq id) ids) (Some (entry e)) (found g table id)
-found_shipped f g e ids table now id same is =
-    ap (λ z. found z now id) same
-    ∙ entry_at g (Shipped e) (entry e) (list_any (bytes_eq id) ids) (lookup (bytes_eq id) table) (lookup (bytes_eq id) now) refl (ap (λ z. lookup (bytes_eq id) z) is ∙ lookup_put_all (Shipped e) ids id table)
-
-pub found_revised : (f g : Plugins) (ids : List (List ℕ)) (table now : Entries) (id : List ℕ) → f ≡ g → now ≡ put_all Revised ids table
-    → found f now id ≡ cond (list_any (bytes_eq id) ids) (Some revised) (found g table id)
-found_revised f g ids table now id same is =
-    ap (λ z. found z now id) same
-    ∙ entry_at g Revised revised (list_any (bytes_eq id) ids) (lookup (bytes_eq id) table) (lookup (bytes_eq id) now) refl (ap (λ z. lookup (bytes_eq id) z) is ∙ lookup_put_all Revised ids id table)
+pub found_put : (f : Plugins) (e : Entry) (r : Reader) (ids : List (List ℕ)) (table now : Entries) (id : List ℕ) → entry_in f e ≡ Some r → now ≡ put_all e ids table
+    → found f now id ≡ cond (list_any (bytes_eq id) ids) (Some r) (found f table id)
+found_put f e r ids table now id m is =
+    entry_at f e r (list_any (bytes_eq id) ids) (lookup (bytes_eq id) table) (lookup (bytes_eq id) now) m (ap (λ z. lookup (bytes_eq id) z) is ∙ lookup_put_all e ids id table)
 
 -- ---- what tables that fit one another mean
 
@@ -167,16 +160,6 @@ module _ {B : Type 0} (means : B → PluginMeaning) (bs : List B) where
   pub all_there : (n : ℕ) → n < length bs → (p : PluginMeaning) × (of_boxes n ≡ Some p)
   all_there n h = let x = get_within bs n h in (means x.0, ap (λ z. option_map means z) x.1)
 
-  some_is : (o : Option Reader) (r : Reader) → o ≡ Some r → IsSome o
-  some_is o r e = ap (λ z. is_some z) e
-
-  -- What is found in a table means something.
-  pub found_within : (table : Entries) (o : Option Entry) (id : List ℕ) → o ≡ lookup (bytes_eq id) table → ((n : ℕ) → lookup (bytes_eq id) table ≡ Some (Boxed n) → n < length bs) → IfSome o (λ e. IsSome (entry_in of_boxes e))
-  found_within table None id e h = tt
-  found_within table (Some q) id e h =
-      let x = entry_some of_boxes (length bs) all_there q (λ n p. h n (sym e ∙ ap (λ z. Some z) p)) in
-      some_is (entry_in of_boxes q) x.0 x.1
-
 -- ---- the shipped encodings, and then primitives under two identifiers
 
 -- What a session means, once they were registered in one that means the shipped encodings.
@@ -185,10 +168,10 @@ pub revised_as : (now old : SessionMeaning) (x : ExtMeaning) → old ≡ shipped
 revised_as now old x e reads writes ext =
     let r = λ (id : List ℕ).
     reads id ∙ ap (λ (o : SessionMeaning). found_with both_ids revised o.reader id) e
-    ∙ sym (found_revised no_plugins no_plugins both_ids shipped_registry.readers (with_revised shipped_registry).readers id refl refl)
+    ∙ sym (found_put no_plugins Revised revised both_ids shipped_registry.readers (with_revised shipped_registry).readers id refl refl)
     in
     let w = λ (id : List ℕ).
     writes id ∙ ap (λ (o : SessionMeaning). found_with (entry_id revised ∷ []) revised o.writer id) e
-    ∙ sym (found_revised no_plugins no_plugins (entry_id revised ∷ []) shipped_registry.writers (with_revised shipped_registry).writers id refl refl)
+    ∙ sym (found_put no_plugins Revised revised (entry_id revised ∷ []) shipped_registry.writers (with_revised shipped_registry).writers id refl refl)
     in
     λ i. record { reader = λ id. r id i; writer = λ id. w id i; ext = ext i }

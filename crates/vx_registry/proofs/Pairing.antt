@@ -192,13 +192,6 @@ same_number n m p = cc
 no_number : {A : Type 0} (e : Encoding) (n : ℕ) → Shipped e ≡ Boxed n → A
 no_number e n p = absurd (cc)
 
--- Numbers stay below a greater bound.
-pub within_more : (r : Registry) (k : ℕ) → AreWithin r k → AreWithin r (k + 1)
-within_more r k h = record {
-  readers = λ id m p. omega (arith, h.readers id m p);
-  writers = λ id m p. omega (arith, h.writers id m p);
-}
-
 -- The plugin of the last number comes.
 pub within_boxed : (n : ℕ) (i : List ℕ) (ids : List (List ℕ)) (r : Registry) → AreWithin r n → AreWithin (with_plugin n i ids r) (n + 1)
 within_boxed n i ids r h = record {
@@ -250,27 +243,12 @@ within_revised k r h = record {
 pub within_as : (r q : Registry) (j k : ℕ) → r ≡ q → j ≡ k → AreWithin q k → AreWithin r j
 within_as r q j k e f h = subst (λ z. AreWithin z j) (sym e) (subst (λ z. AreWithin q z) (sym f) h)
 
--- An encoding comes, or does not.
-pub within_set : (e : Encoding) (k : ℕ) (old new : Registry) (r : Result (Unit {0}) RegistryError) → OnOk r (new ≡ registered e old) → OnErr r (new ≡ old) → AreWithin old k → AreWithin new k
-within_set e k old new (Ok u) done left h = within_as new (registered e old) k k done refl (within_shipped e k old h)
-within_set e k old new (Err x) done left h = within_as new old k k left refl h
+-- What comes, or does not, leaves numbers below.
+pub within_set : (k : ℕ) (old new with_it : Registry) (r : Result (Unit {0}) RegistryError) → OnOk r (new ≡ with_it) → OnErr r (new ≡ old) → AreWithin with_it k → AreWithin old k → AreWithin new k
+within_set k old new with_it (Ok u) done left came h = within_as new with_it k k done refl came
+within_set k old new with_it (Err x) done left came h = within_as new old k k left refl h
 
 -- What holds of what came holds where it came.
 pub on_ok : {P Q : Type 0} (r : Result (Unit {0}) RegistryError) → (P → Q) → OnOk r P → OnOk r Q
 on_ok (Ok u) f p = f p
 on_ok (Err e) f p = tt
-
--- They come, or do not.
-pub within_two : (k : ℕ) (old new : Registry) (r : Result (Unit {0}) RegistryError) → OnOk r (new ≡ with_revised old) → OnErr r (new ≡ old) → AreWithin old k → AreWithin new k
-within_two k old new (Ok u) done left h = within_as new (with_revised old) k k done refl (within_revised k old h)
-within_two k old new (Err x) done left h = within_as new old k k left refl h
-
-none_found : {x : Entry} → None ≡ Some x → ⊥
-none_found p = cc
-
--- No table has a number where it has no entry.
-pub within_none : (r : Registry) (k : ℕ) → r.readers ≡ [] → r.writers ≡ [] → AreWithin r k
-within_none r k e f = record {
-  readers = λ id m p. absurd (none_found (ap (λ t. lookup (bytes_eq id) t) (sym e) ∙ p));
-  writers = λ id m p. absurd (none_found (ap (λ t. lookup (bytes_eq id) t) (sym f) ∙ p));
-}

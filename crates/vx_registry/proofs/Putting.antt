@@ -71,8 +71,3 @@ some_still false a o p e h = (h.0, e ∙ h.1)
 pub some_new : (t : Bool) (a : Entry) (o p : Option Entry) → p ≡ cond t (Some a) o → t ≡ true → (q : Entry) × (p ≡ Some q)
 some_new true a o p e h = (a, e)
 some_new false a o p e h = absurd (cc)
-
--- One entry more put under the last of several.
-pub put_all-snoc : (e : Entry) (ids : List (List ℕ)) (id : List ℕ) (t : Entries) → put_all e (ids ++ id ∷ []) t ≡ put e id (put_all e ids t)
-put_all-snoc e [] id t = refl
-put_all-snoc e (x ∷ xs) id t = put_all-snoc e xs id (put e x t)

@@ -1,5 +1,5 @@
 -- What a session means.
-use Rattle.std.specs.Prelude.{ℕ, Bool, List, [], ◌∷◌, option_map, slice_get}
+use Rattle.std.specs.Prelude.{ℕ, Bool, List, [], ◌∷◌, Option, option_map, slice_get}
 use Rattle.std.specs.declared.alloc.Global.{Global}
 use Rattle.std.specs.declared.dyn_box.DynBox.{DynBox}
 use Rattle.vx_types.specs.Known.{ExtMeaning}
@@ -7,11 +7,12 @@ use Rattle.vx_types.specs.Typ.{Typ}
 use Rattle.vx_type_wire.specs.Session.{ext_meaning}
 use Rattle.vx_wire_tree.specs.Plugin.{PluginMeaning}
 use Rattle.vx_wire_tree.specs.Session.{Reader, revised, plugin, SessionMeaning}
-use Rattle.vx_registry.specs.Session.{Plugins, Registry, both_ids, entry, own_id, tables_meaning, registered, with_revised, with_plugin}
+use Rattle.vx_registry.specs.Session.{Plugins, Registry, both_ids, entry, entry_in, own_id, tables_meaning, registered, with_revised, with_plugin}
 use Rattle.vx_registry.specs.declared.array_session.ArraySession.{ArraySession}
 use Rattle.vx_registry.specs.declared.session.PluginEntry.{PluginEntry}
 use Rattle.vx_registry.specs.declared.session.PluginEntry.TheVariants.{Shipped, Revised, Boxed}
 use Rattle.vx_registry.specs.declared.session.VortexSession.{VortexSession}
+use Rattle.vx_registry.specs.declared.tables.Entry.{Entry}
 
 module _ {Y : Type 0} {G : Y → Type 0} (means : DynBox Y Global G → PluginMeaning) where
   -- What boxed plugins mean, by their numbers, where it is given what a box means.
@@ -22,7 +23,11 @@ module _ {Y : Type 0} {G : Y → Type 0} (means : DynBox Y Global G → PluginMe
   abbrev pub arrays_meaning : ArraySession Y G → ExtMeaning → SessionMeaning
   arrays_meaning s x = tables_meaning (plugins_meaning s.plugins.items) s.tables x
 
-  -- What an entry reads or writes nodes as.
+  -- What an entry of a session reads or writes nodes as.
+  abbrev pub reader_in : ArraySession Y G → Entry → Option Reader
+  reader_in s = entry_in (plugins_meaning s.plugins.items)
+
+  -- What an entry that is to be registered reads or writes nodes as.
   abbrev pub entry_reader : PluginEntry Y G → Reader
   entry_reader (Shipped e) = entry e
   entry_reader Revised = revised

@@ -22,7 +22,7 @@ use Rattle.vx_registry.specs.declared.serializing.WrittenRoot.TheVariants.{Own, 
 abbrev pub array_id : Bool → Tree → List ℕ
 array_id two t = head_id two (label t)
 
--- They are an array's: its root's identifier, the bytes of its metadata, its buffers, and the arrays below it.
+-- Parts are those of an array's root: its identifier, the bytes of its metadata, its buffers, and the arrays below it.
 pub record HasPartsOf (two : Bool) (t : Tree) (s : ArraySerialization) : Type 0 where
   pub id_is : s.serialized_id ≡ array_id two t
   pub metadata_is : s.metadata ≡ message_bytes (told (metadata_in (label t) (below t)))

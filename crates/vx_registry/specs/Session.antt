@@ -1,10 +1,10 @@
 -- The tables of a session: what reads an identifier, and what writes the arrays of one.
 use Rattle.std.specs.Prelude.{ℕ, ◌≡◌, ◌<◌, List, [], ◌∷◌, Option, Some, None, option_map, option_and_then, map, bytes_eq, if◌then◌else◌}
-use Rattle.std.specs.List.{list_any}
 use Rattle.std.specs.Map.{lookup}
 use Rattle.vx_types.specs.Known.{ExtMeaning}
 use Rattle.vx_array_tree.specs.Encodings.Primitives as Primitives
 use Rattle.vx_array_tree.specs.Table.{id_of}
+use Rattle.vx_wire_tree.specs.Context.{is_among}
 use Rattle.vx_wire_tree.specs.Plugin.{PluginMeaning}
 use Rattle.vx_wire_tree.specs.Revised.{revised_name}
 use Rattle.vx_wire_tree.specs.Session.{Reader, shipped, revised, plugin, SessionMeaning}
@@ -23,6 +23,10 @@ Entries = List (List ℕ × Entry)
 pub record Registry : Type 0 where
   pub readers : Entries
   pub writers : Entries
+
+-- Tables without entries.
+abbrev pub empty_registry : Registry
+empty_registry = record { readers = []; writers = [] }
 
 -- What the plugins of a session mean, by their numbers.
 abbrev pub Plugins : Type 0
@@ -52,7 +56,7 @@ own_id e = id_of (plain_encoding e)
 
 -- What an identifier finds once a reader stands under others: there the reader, elsewhere what it found before.
 abbrev pub found_with : List (List ℕ) → Reader → (List ℕ → Option Reader) → List ℕ → Option Reader
-found_with ids r before id = if list_any (bytes_eq id) ids then Some r else before id
+found_with ids r before id = if is_among id ids then Some r else before id
 
 -- What the tables mean, beside readers of extension types.
 abbrev pub tables_meaning : Plugins → Registry → ExtMeaning → SessionMeaning

@@ -1,6 +1,5 @@
-ghost use Rattle.std.specs.Prelude.{◌≡◌, ◌≤◌, ◌<◌, [], ◌∷◌, ◌++◌, length, true, false, None, Some, IfOk, IfNone, IfSome, OnErr, OnOk, IsOkUnless, option_map, bytes_eq};
-ghost use Rattle.vx_wire_tree.specs.Context.{interned, is_allowed, index_of, with_ids};
-ghost use Rattle.std.specs.List.{list_any};
+ghost use Rattle.std.specs.Prelude.{◌≡◌, ◌≤◌, ◌<◌, [], ◌∷◌, ◌++◌, length, true, false, None, Some, IfOk, IfNone, IfSome, OnErr, OnOk, IsOkUnless, option_map};
+ghost use Rattle.vx_wire_tree.specs.Context.{interned, is_allowed, is_among, index_of, with_ids};
 
 use crate::error::RegistryError;
 use crate::named::named;
@@ -88,7 +87,7 @@ impl ArrayContext {
     // Puts a new identifier last.
     fn append(&mut self, id: &Id) -> Result<Option<u16>, RegistryError>
         requires allowed { is_allowed self.old.allowed id.now ≡ true }
-        requires new { list_any (bytes_eq id.now) self.old.ids ≡ false }
+        requires new { is_among id.now self.old.ids ≡ false }
         ensures interned { IfOk result (λ place. IfSome place (λ _. interned id.now self.old ≡ Some self.new)) }
         ensures place { IfOk result (λ place. IfSome place (λ i. index_of id.now self.new.ids ≡ i)) }
         ensures refused { IfOk result (λ place. IfNone place (interned id.now self.old ≡ None)) }
@@ -131,7 +130,6 @@ fn set_of(alloc: Global, ids: &Ids) -> Result<IndexSet<Id>, RegistryError>
 }
 
 // Whether an identifier is among those that may come, where they are limited.
-#[tactic(auto, using(crate::proofs::Interning::among))]
 fn is_allowed(allowed: &Option<IndexSet<Id>>, id: &Id) -> bool
     ensures { result ≡ is_allowed (option_map (λ s. s.keys) allowed.now) id.now }
 {

@@ -58,7 +58,7 @@ pub trait ArrayPlugin: Drop {
     fn serialized_ids(&self, alloc: Global) -> Result<Ids, AllocError>
         ensures { IfOk result (λ ids. ids ≡ (means self.now).declared) };
 
-    /// What an array is written as; `None` where the plugin has no form for it.
+    /// What an array is written as; `None` where the plugin has no form for it, and `Refused` where it refuses the array.
     fn serialize(
         &self,
         alloc: Global,
@@ -66,7 +66,7 @@ pub trait ArrayPlugin: Drop {
     ) -> Result<Option<ArraySerialization>, PluginError>
         ensures { IsWrittenAs ((means self.now).serialize array.now) result };
 
-    /// What the children of a node are to be, one entry for each.
+    /// What the children of a node are to be, one entry for each; `Refused` where the plugin refuses the head.
     fn plan(
         &self,
         alloc: Global,
@@ -75,7 +75,7 @@ pub trait ArrayPlugin: Drop {
     ) -> Result<ChildPlans, PluginError>
         ensures { IsAnswer ((means self.now).plan (head_in head.now) (lent_meaning (λ r. accepted r.now) ext.now)) result };
 
-    /// The array of a node's parts.
+    /// The array of a node's parts; `Refused` where the plugin refuses them.
     fn build(
         &self,
         alloc: Global,
@@ -90,21 +90,21 @@ pub trait ArrayPlugin: Drop {
 }
 
 /// `id` of a box.
-pub fn id_of(plugin: &Box<dyn ArrayPlugin>) -> &Id
+pub(crate) fn id_of(plugin: &Box<dyn ArrayPlugin>) -> &Id
     ensures { result.now ≡ (means plugin.now).id }
 {
     plugin.id()
 }
 
 /// `serialized_ids` of a box.
-pub fn ids_of(alloc: Global, plugin: &Box<dyn ArrayPlugin>) -> Result<Ids, AllocError>
+pub(crate) fn ids_of(alloc: Global, plugin: &Box<dyn ArrayPlugin>) -> Result<Ids, AllocError>
     ensures { IfOk result (λ ids. ids ≡ (means plugin.now).declared) }
 {
     plugin.serialized_ids(alloc)
 }
 
 /// `serialize` of a box.
-pub fn serialize_by(
+pub(crate) fn serialize_by(
     alloc: Global,
     plugin: &Box<dyn ArrayPlugin>,
     array: &Array,

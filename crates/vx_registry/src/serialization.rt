@@ -54,8 +54,7 @@ impl ArraySerialization {
     }
 
     /// The parts of an array, under the identifier of its encoding; those of a foreign node as it keeps them. No buffer's
-    /// bytes are copied. `WireLimit` exactly
-    /// where the root's metadata does not fit its message.
+    /// bytes are copied. `WireLimit` exactly where the root's metadata does not fit its message.
     pub fn from_array(alloc: Global, array: &Array) -> Result<ArraySerialization, RegistryError>
         ensures parts { IfOk result (HasPartsOf false array.now) }
         ensures fits { OnOk result (HasMessage (label array.now) (below array.now)) }

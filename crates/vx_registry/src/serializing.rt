@@ -1,9 +1,9 @@
 //! An array's root as it is written, by what writes it.
 
-ghost use Rattle.std.specs.Prelude.{◌≡◌, bytes_eq, IfOk, IfErr, OnOk};
-ghost use Rattle.std.specs.List.{list_any};
+ghost use Rattle.std.specs.Prelude.{◌≡◌, IfOk, IfErr, OnOk};
 ghost use Rattle.vx_trees.specs.Rose.{label, below};
 ghost use Rattle.vx_types.specs.Known.{ExtMeaning};
+ghost use Rattle.vx_wire_tree.specs.Context.{is_among};
 ghost use Rattle.vx_wire_tree.specs.Limits.{HasMessage};
 ghost use Rattle.vx_wire_tree.specs.Taken.{step, plugin_step};
 ghost use Rattle.vx_wire_tree.specs.Written.{writes_two};
@@ -32,7 +32,9 @@ pub enum WrittenRoot {
 }
 
 /// How an array's root is written by an entry of the session, or, where it is foreign, where such nodes are allowed
-/// (`unknown`). Its metadata is not looked at.
+/// (`unknown`). Its metadata is not looked at. `NotRegistered` where nothing writes it or it is foreign and such nodes are not
+/// allowed, `UndeclaredId` where its plugin names an identifier that it does not declare, `PluginRefused` where its plugin
+/// refuses it.
 pub fn written_root(
     alloc: Global,
     array: &Array,
@@ -84,7 +86,9 @@ fn given_root(
     Ok(WrittenRoot::Given(parts))
 }
 
-/// An array's root as it is written: its parts, or `None` where its plugin has no form for it.
+/// An array's root as it is written, where foreign nodes are allowed (`unknown`) or not: its parts, or `None` where its plugin
+/// has no form for it. The refusals are those of `written_root`, and `WireLimit` where the metadata of what is written as it
+/// stands does not fit its message.
 pub fn serialize_root(
     alloc: Global,
     array: &Array,
@@ -124,7 +128,7 @@ fn own_parts(
 
 // Whether an identifier is one of several.
 fn is_among(ids: &Ids, id: &Id) -> bool
-    ensures { result ≡ list_any (bytes_eq id.now) ids.now }
+    ensures { result ≡ is_among id.now ids.now }
 {
     for other in ids.as_slice() {
         if *id == *other {

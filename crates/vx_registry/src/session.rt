@@ -1,15 +1,14 @@
 //! Sessions: what reads and writes arrays, and what reads extension types.
 
-ghost use Rattle.std.specs.Prelude.{◌≡◌, ◌∷◌, [], ℕ, List, None, length, bytes_eq, slice_get, option_copied, IfSome, IsSome, IfOk, IfErr, OnOk, OnErr, IsOkUnless};
-ghost use Rattle.std.specs.Map.{lookup};
+ghost use Rattle.std.specs.Prelude.{◌≡◌, ◌∷◌, [], ℕ, List, None, length, slice_get, option_copied, option_and_then, IfSome, IsSome, IfOk, IfErr, OnOk, OnErr, IsOkUnless};
 ghost use Rattle.vx_types.specs.Known.{ExtMeaning};
 ghost use Rattle.vx_type_wire.specs.Session.{ext_meaning};
-ghost use Rattle.vx_wire_tree.specs.Session.{IsPaired, entry_id, revised as revised_reader, plugin as plugin_reader};
+ghost use Rattle.vx_wire_tree.specs.Session.{IsPaired, HasPairedPlugins, entry_id, revised as revised_reader, plugin as plugin_reader};
 ghost use Rattle.vx_wire_tree.specs.Taken.{step};
 ghost use Rattle.vx_wire_tree.specs.Written.{writes_two};
-ghost use Rattle.vx_registry.specs.Meaning.{arrays_meaning, plugins_meaning, session_meaning, entry_reader, entry_ids, with_entry};
+ghost use Rattle.vx_registry.specs.Meaning.{arrays_meaning, reader_in, session_meaning, entry_reader, entry_ids, with_entry};
 ghost use Rattle.vx_registry.specs.Serialization.{IsSerializedAs, IsUnserialized};
-ghost use Rattle.vx_registry.specs.Session.{both_ids, shipped_meaning, revised_meaning, found_with, entry_in, with_revised, with_plugin};
+ghost use Rattle.vx_registry.specs.Session.{both_ids, empty_registry, shipped_registry, shipped_meaning, revised_meaning, found_with, with_revised, with_plugin};
 
 use crate::array_session::ArraySession;
 use crate::error::RegistryError;
@@ -40,8 +39,10 @@ pub enum PluginEntry {
 impl ArraySession {
     /// A session that reads and writes nothing.
     pub fn empty(alloc: Global) -> ArraySession
+        ensures entries { result.tables ≡ empty_registry }
         ensures readers { (x : ExtMeaning) (id : List ℕ) → (arrays_meaning means result x).reader id ≡ None }
         ensures writers { (x : ExtMeaning) (id : List ℕ) → (arrays_meaning means result x).writer id ≡ None }
+        ensures paired { (x : ExtMeaning) → HasPairedPlugins (arrays_meaning means result x) }
     {
         ArraySession {
             plugins: Vec::new(alloc),
@@ -52,6 +53,7 @@ impl ArraySession {
 
     /// A session of the shipped encodings.
     pub fn default(alloc: Global) -> Result<ArraySession, RegistryError>
+        ensures entries { IfOk result (λ s. s.tables ≡ shipped_registry) }
         ensures shipped { IfOk result (λ s. (x : ExtMeaning) → arrays_meaning means s x ≡ shipped_meaning x) }
         ensures err { IsOkUnless result RegistryError.OutOfMemory }
     {
@@ -84,6 +86,7 @@ impl ArraySession {
 
     /// A session of the shipped encodings in which primitives have two identifiers: `default`, and then `Revised`.
     pub fn revised(alloc: Global) -> Result<ArraySession, RegistryError>
+        ensures entries { IfOk result (λ s. s.tables ≡ with_revised shipped_registry) }
         ensures revised { IfOk result (λ s. (x : ExtMeaning) → arrays_meaning means s x ≡ revised_meaning x) }
         ensures err { IsOkUnless result RegistryError.OutOfMemory }
     {
@@ -102,14 +105,16 @@ impl ArraySession {
 
     /// Registers an entry in the place of what read its identifiers and of what wrote its encoding's arrays: a shipped
     /// encoding reads its own identifier, `Revised` both of primitives, a plugin those that it declares. In `registry` it stands
-    /// in the places of what read them, and at the end where nothing did. Where there is no memory for it, the session means
-    /// what it meant, and the entry is handed back.
+    /// in the places of what read them, and at the end where nothing did. Where there is no memory for it, the session has the
+    /// entries and the meaning that it had, and the entry is handed back.
     pub fn register(&mut self, entry: PluginEntry) -> Result<(), AllocFailed<PluginEntry>>
         ensures entries { OnOk result (self.new.tables ≡ with_entry means (length self.old.plugins.items) entry self.old.tables) }
         ensures readers { OnOk result ((x : ExtMeaning) (id : List ℕ) → (arrays_meaning means self.new x).reader id
             ≡ found_with (entry_ids means entry) (entry_reader means entry) (arrays_meaning means self.old x).reader id) }
         ensures writers { OnOk result ((x : ExtMeaning) (id : List ℕ) → (arrays_meaning means self.new x).writer id
             ≡ found_with (entry_id (entry_reader means entry) ∷ []) (entry_reader means entry) (arrays_meaning means self.old x).writer id) }
+        ensures paired { (x : ExtMeaning) → HasPairedPlugins (arrays_meaning means self.old x) → HasPairedPlugins (arrays_meaning means self.new x) }
+        ensures kept { OnErr result (self.new.tables ≡ self.old.tables) }
         ensures unchanged { OnErr result ((x : ExtMeaning) → arrays_meaning means self.new x ≡ arrays_meaning means self.old x) }
         ensures handed_back { IfErr result (λ refused. refused.value ≡ entry) }
     {
@@ -142,6 +147,7 @@ impl ArraySession {
             ≡ found_with both_ids revised_reader (arrays_meaning means self.old x).reader id) }
         ensures writers { OnOk result ((x : ExtMeaning) (id : List ℕ) → (arrays_meaning means self.new x).writer id
             ≡ found_with (entry_id revised_reader ∷ []) revised_reader (arrays_meaning means self.old x).writer id) }
+        ensures kept { OnErr result (self.new.tables ≡ self.old.tables) }
         ensures unchanged { OnErr result ((x : ExtMeaning) → arrays_meaning means self.new x ≡ arrays_meaning means self.old x) }
         ensures err { IsOkUnless result RegistryError.OutOfMemory }
     {
@@ -155,6 +161,7 @@ impl ArraySession {
             ≡ found_with (means plugin).declared (plugin_reader (means plugin)) (arrays_meaning means self.old x).reader id) }
         ensures writers { OnOk result ((x : ExtMeaning) (id : List ℕ) → (arrays_meaning means self.new x).writer id
             ≡ found_with ((means plugin).id ∷ []) (plugin_reader (means plugin)) (arrays_meaning means self.old x).writer id) }
+        ensures kept { OnErr result (self.new.tables ≡ self.old.tables) }
         ensures unchanged { OnErr result ((x : ExtMeaning) → arrays_meaning means self.new x ≡ arrays_meaning means self.old x) }
         ensures handed_back { IfErr result (λ refused. refused.value ≡ plugin) }
     {
@@ -183,16 +190,16 @@ impl ArraySession {
 
     /// What reads the arrays of this identifier: `None` where it is not registered.
     pub fn reader(&self, id: &Id) -> Option<Entry>
-        ensures found { result ≡ lookup (bytes_eq id.now) self.now.tables.readers }
-        ensures within { IfSome result (λ entry. IsSome (entry_in (plugins_meaning means self.now.plugins.items) entry)) }
+        ensures found { (x : ExtMeaning) → (arrays_meaning means self.now x).reader id.now ≡ option_and_then (reader_in means self.now) result }
+        ensures within { IfSome result (λ entry. IsSome (reader_in means self.now entry)) }
         ensures paired { (x : ExtMeaning) → IsPaired (arrays_meaning means self.now x) }
     {
         self.tables.reader(id)
     }
 
-    /// What writes the arrays of this identifier.
+    /// What writes the arrays of this identifier: `None` where nothing does.
     pub fn writer(&self, id: &Id) -> Option<Entry>
-        ensures found { result ≡ lookup (bytes_eq id.now) self.now.tables.writers }
+        ensures found { (x : ExtMeaning) → (arrays_meaning means self.now x).writer id.now ≡ option_and_then (reader_in means self.now) result }
     {
         self.tables.writer(id)
     }
@@ -200,6 +207,7 @@ impl ArraySession {
     /// Whether primitives are written under two identifiers. The only refusal is want of memory.
     pub fn writes_two(&self, alloc: Global) -> Result<bool, RegistryError>
         ensures two { IfOk result (λ two. (x : ExtMeaning) → writes_two (arrays_meaning means self.now x) ≡ two) }
+        ensures paired { (x : ExtMeaning) → IsPaired (arrays_meaning means self.now x) }
         ensures err { IsOkUnless result RegistryError.OutOfMemory }
     {
         let id = match named(alloc, PrimitiveArray::ID) {

@@ -75,7 +75,8 @@ impl Tables {
         Ok(())
     }
 
-    /// Sets what reads both identifiers of primitives, and what writes primitives, to these under two identifiers.
+    /// Sets what reads both identifiers of primitives, and what writes primitives, to these under two identifiers: those of no
+    /// rows and of the most.
     pub(crate) fn set_revised(&mut self) -> Result<(), RegistryError>
         ensures registered { OnOk result (self.new ≡ with_revised self.old) }
         ensures unchanged { OnErr result (self.new ≡ self.old) }
@@ -83,7 +84,7 @@ impl Tables {
     {
         let written = revised(self.alloc, 0)?;
         let first = revised(self.alloc, 0)?;
-        let second = revised(self.alloc, 5)?;
+        let second = revised(self.alloc, usize::MAX)?;
         self.readers.reserve(2)?;
         self.writers.reserve(1)?;
         let Ok(_) = self.readers.insert(first, Entry::Revised) else {

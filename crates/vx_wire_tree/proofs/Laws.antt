@@ -15,6 +15,7 @@ use Rattle.vx_array_tree.specs.Table.{buffers_of, metadata_of}
 use Rattle.vx_array_tree.specs.Tree.{Tree, Trees, places, rows_of, untold}
 use Rattle.vx_array_tree.proofs.CanonLaws as Canon
 use Rattle.vx_array_tree.proofs.CanonPlaces.{canon_dtype, canon_len}
+use Rattle.vx_wire_tree.specs.KnownTypes.{KnowsTypes}
 use Rattle.vx_wire_tree.specs.Causes.{HasChildren, Refusal, plugin_refused, RefusesTree}
 use Rattle.vx_wire_tree.specs.Codec.{Codec, HasLawfulStats, IsLawful, metadata_bytes}
 use Rattle.vx_wire_tree.specs.Fields.{told}
@@ -22,7 +23,7 @@ use Rattle.vx_wire_tree.specs.Context.{Context, grown_by, grown}
 use Rattle.vx_wire_tree.specs.Kept.{IsKeptAs, AreKeptAs}
 use Rattle.vx_wire_tree.specs.Limits.{HasMessages}
 use Rattle.vx_wire_tree.specs.Matches.{Matches, AllMatch}
-use Rattle.vx_wire_tree.specs.ReadBack.{IsUnread, IsWritten, HasKnownTypes, HasCountableMetadata, HasStorableStats}
+use Rattle.vx_wire_tree.specs.ReadBack.{IsUnread, IsWritten, HasCountableMetadata, HasStorableStats}
 use Rattle.vx_wire_tree.specs.Revised.{revised_holds}
 use Rattle.vx_wire_tree.specs.Session.{SessionMeaning, IsShipped, IsPaired, shipped, revised}
 use Rattle.vx_wire_tree.specs.Steps.{PlansChildren, HasParts, IsToldBy}
@@ -41,6 +42,10 @@ use Rattle.vx_wire_tree.proofs.TakenOwn as TakenOwn
 use Rattle.vx_wire_tree.proofs.TwoIdentifiers.{read_shipped, read_revised}
 use Rattle.vx_wire_tree.proofs.Unique as Unique
 use Rattle.vx_wire_tree.proofs.WrittenAlike as WrittenAlike
+-- What is written of arrays stands where they do.
+pub use Rattle.vx_wire_tree.proofs.TakenPlaces.{places_taken}
+-- Where primitives are not written under two identifiers, a body is written under its own.
+pub use Rattle.vx_wire_tree.proofs.TwoIdentifiers.{one_own}
 -- What a plugin builds is told.
 pub use Rattle.vx_wire_tree.proofs.Plugins.{plugin_tells}
 -- What is written of an array that is read back matches its canon.
@@ -78,13 +83,6 @@ module _ (c : Codec) (s : SessionMeaning) where
   pub canon_twice : (t : Tree) → IsSound t → canon c s (canon c s t) ≡ canon c s t
   canon_twice t x = Canon.canon_twice (spelled c s) own_spelling t x
 
-  -- Its statistics are kept, and can be stored where the array's could.
-  pub canon_keeps : (t : Tree) → KeepsStats (canon c s t)
-  canon_keeps t = Canon.canon_at_keeps (spelled c s) (label t).dtype t
-
-  pub canon_storable : HasLawfulStats c → (t : Tree) → HasStorableStats c t → HasStorableStats c (canon c s t)
-  canon_storable law t k = WrittenAlike.storable_at c law (spelled c s) (label t).dtype t k
-
   -- Wire trees that match arrays one by one are as many as these.
   pub matched_count : (ws : Wires) (ts : Trees) → AllMatch c s ws ts → count ts ≡ count ws
   matched_count ws ts m = Unique.all_count c s ws ts m
@@ -95,7 +93,7 @@ module _ (c : Codec) (s : SessionMeaning) where
 
   module _ (ok : IsShipped s) where
     -- The types in the metadata of an array that matches a wire tree are known.
-    pub matched_types : (w : Wire) (t : Tree) → Matches c s w t → HasKnownTypes s t
+    pub matched_types : (w : Wire) (t : Tree) → Matches c s w t → KnowsTypes s.ext t
     matched_types w t m = Matched.matched_types c s ok w t m
 
     module _ (law : IsLawful c s) where
@@ -115,10 +113,10 @@ module _ (c : Codec) (s : SessionMeaning) where
       pub never_refused : (r : Refusal) (w : Wire) (d : Typ) (n : ℕ) (t : Tree) → Tells c s w d n t → RefusesTree r c s w d n → ⊥
       never_refused r w d n t x k = NeverRefused.never_refused c s ok law r w d n t x k
 
-      -- A sound array of which each node is written, its metadata fits its message, of which the bytes can be
-      -- counted, the types in it are known, and its statistics can be stored, and whose topmost foreign nodes nothing reads, is told by its wire tree:
-      -- as it is read back.
-      pub told_again : IsPaired s → (t : Tree) → IsSound t → IsUnread s t → IsWritten s t → HasMessages t → HasCountableMetadata c t → HasKnownTypes s t → HasStorableStats c t
+      -- A sound array is told by its wire tree as it is read back, where each of its nodes is written, its metadata fits its
+      -- message, of which the bytes can be counted, the types in it are known, and its statistics can be stored; and nothing
+      -- reads its topmost foreign nodes.
+      pub told_again : IsPaired s → (t : Tree) → IsSound t → IsUnread s t → IsWritten s t → HasMessages t → HasCountableMetadata c t → KnowsTypes s.ext t → HasStorableStats c t
           → Tells c s (wire c s t) (label t).dtype (label t).len (canon c s t)
       told_again p t x u w m n k b = record {
         matched = ReadAgain.written_matches c s law t x (ReadAgain.reads_back c s ok p t u w m n k b);

@@ -1,4 +1,6 @@
 mod TwoIdentifiers
+mod Natives
+mod TakenPlaces
 mod Unique
 mod WrittenAlike
 mod ReadAgain

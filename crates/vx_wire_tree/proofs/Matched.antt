@@ -8,21 +8,17 @@ use Rattle.vx_array_tree.specs.Body as B
 use Rattle.vx_array_tree.specs.Encoding.{Encoding}
 use Rattle.vx_array_tree.specs.Table.{encoding_of, metadata_of, id_of, IsNative, IsNativeEncoding}
 use Rattle.vx_array_tree.specs.Tree.{Tree, Trees, places}
+use Rattle.vx_wire_tree.specs.KnownTypes.{IsKnownIn, KnowsNode, KnowsTypes}
 use Rattle.vx_wire_tree.specs.Codec.{Codec, IsLawful}
 use Rattle.vx_wire_tree.specs.Matches.{IsRaw, AreRaw, Matches, AllMatch}
-use Rattle.vx_wire_tree.specs.ReadBack.{HasWriter, IsWritten, IsWrittenBy, IsWrittenNode, IsKnownNode, HasKnownTypes, IsUnreadBy, IsUnread, AreUnread}
-use Rattle.vx_wire_tree.specs.Reads.{IsKnownIn}
+use Rattle.vx_wire_tree.specs.ReadBack.{HasWriter, IsWritten, IsWrittenBy, IsWrittenNode, IsUnreadBy, IsUnread, AreUnread}
 use Rattle.vx_wire_tree.specs.Session.{SessionMeaning, IsShipped, IsPaired}
 use Rattle.vx_wire_tree.specs.Wire.{Wire, Wires}
+use Rattle.vx_wire_tree.proofs.Natives.{native_written}
 use Rattle.vx_wire_tree.proofs.NeverRefused.{IsEncodedBy, IsForeignBy, node_told}
 use Rattle.vx_wire_tree.proofs.TwoIdentifiers.{read_is_written}
 
 -- ---- by what a node is
-
-written_native : (s : SessionMeaning) (b : Body) → HasWriter s (encoding_of b) → IsTrue s.ext.unknown ⊎ IsNative b → IsWrittenBy s b
-written_native s (B.foreign x) w (inl k) = k
-written_native s (B.foreign x) w (inr k) = absurd k
-written_native s _ w k = w
 
 unread_native : (s : SessionMeaning) (b : Body) (Below : Type 0) → IsNative b → Below → IsUnreadBy s b Below
 unread_native s (B.foreign x) Below k u = absurd k
@@ -41,27 +37,27 @@ module _ (s : SessionMeaning) (allowed : IsTrue s.ext.unknown) where
 
 module _ (s : SessionMeaning) where
   mutual
-    raw_types : (w : Wire) (t : Tree) → IsRaw w t → HasKnownTypes s t
+    raw_types : (w : Wire) (t : Tree) → IsRaw w t → KnowsTypes s.ext t
     raw_types (node w ws) (node h ts) r = (subst (λ b. IsKnownIn s.ext (metadata_of b (places ts))) (sym r.0.body) tt, each_raw_types ws ts r.1)
 
-    each_raw_types : (ws : Wires) (ts : Trees) → AreRaw ws ts → EverywhereBelow (IsKnownNode s) ts
-    each_raw_types end ts r = subst (λ (z : Trees). EverywhereBelow (IsKnownNode s) z) (sym r) tt
+    each_raw_types : (ws : Wires) (ts : Trees) → AreRaw ws ts → EverywhereBelow (KnowsNode s.ext) ts
+    each_raw_types end ts r = subst (λ (z : Trees). EverywhereBelow (KnowsNode s.ext) z) (sym r) tt
     each_raw_types (more w ws) end r = absurd r
     each_raw_types (more w ws) (more t ts) r = (raw_types w t r.0, each_raw_types ws ts r.1)
 
 module _ (c : Codec) (s : SessionMeaning) (ok : IsShipped s) where
   -- ---- the types in the metadata are known
 
-  types_by : (w : Wire) (t : Tree) → ((e : Encoding) × IsEncodedBy c s e w t) ⊎ IsForeignBy c s w t → (AllMatch c s (below w) (below t) → EverywhereBelow (IsKnownNode s) (below t)) → HasKnownTypes s t
+  types_by : (w : Wire) (t : Tree) → ((e : Encoding) × IsEncodedBy c s e w t) ⊎ IsForeignBy c s w t → (AllMatch c s (below w) (below t) → EverywhereBelow (KnowsNode s.ext) (below t)) → KnowsTypes s.ext t
   types_by w (node h ts) (inl x) kids = (x.1.told.metadata.known, kids x.1.told.children)
   types_by w (node h ts) (inr f) kids = raw_types s w (node h ts) f.raw
 
   mutual
-    pub matched_types : (w : Wire) (t : Tree) → Matches c s w t → HasKnownTypes s t
+    pub matched_types : (w : Wire) (t : Tree) → Matches c s w t → KnowsTypes s.ext t
     matched_types (node w ws) (node h ts) m = types_by (node w ws) (node h ts) (node_told c s ok (node w ws) (node h ts) m) (λ k. each_matched_types ws ts k)
 
-    each_matched_types : (ws : Wires) (ts : Trees) → AllMatch c s ws ts → EverywhereBelow (IsKnownNode s) ts
-    each_matched_types end ts m = subst (λ (z : Trees). EverywhereBelow (IsKnownNode s) z) (sym m) tt
+    each_matched_types : (ws : Wires) (ts : Trees) → AllMatch c s ws ts → EverywhereBelow (KnowsNode s.ext) ts
+    each_matched_types end ts m = subst (λ (z : Trees). EverywhereBelow (KnowsNode s.ext) z) (sym m) tt
     each_matched_types (more w ws) end m = absurd m
     each_matched_types (more w ws) (more t ts) m = (matched_types w t m.0, each_matched_types ws ts m.1)
 
@@ -77,7 +73,7 @@ module _ (c : Codec) (s : SessionMeaning) (ok : IsShipped s) where
       written_of w (node h ts) (inl x) kids =
           let q = read_is_written s paired x.1.by.id x.0 x.1.by.encoding_is in
           let writer : HasWriter s (encoding_of h.body) = record { writer = q.0; writer_is = ap (λ z. s.writer (id_of z)) x.1.told.encoding ∙ q.1 } in
-          (written_native s h.body writer (inr (read_native w (node h ts) x.0 x.1)), kids x.1.told.children)
+          (native_written s h.body (read_native w (node h ts) x.0 x.1) writer, kids x.1.told.children)
       written_of w (node h ts) (inr f) kids = raw_written s f.allowed w (node h ts) f.raw
 
       mutual

@@ -1,7 +1,6 @@
 -- What encodings and plugins write of an array that returns is told as that array.
-use Rattle.std.proofs.Common.{ℕ, zero, suc, ◌≡◌, ◌<◌, ◌^◌, ◌⊎◌, inl, inr, List, [], ◌∷◌, Option, Some, None, Bool, true, false, IsTrue, cond, refl, sym, ap, ◌∙◌, subst, length}
-use Rattle.std.specs.Prelude.{bytes_eq}
-use Rattle.std.specs.List.{list_any}
+use Rattle.std.proofs.Common.{ℕ, zero, suc, ◌≡◌, ◌<◌, ◌^◌, List, Option, Some, None, Bool, true, IsTrue, cond, refl, sym, ap, ◌∙◌, subst, length}
+use Rattle.std.proofs.lemmas.List.{length-map}
 use Rattle.vx_trees.specs.Rose.{node, end, more, label, count}
 use Rattle.vx_trees.specs.Everywhere.{EverywhereBelow}
 use Rattle.vx_types.specs.Typ.{Typ}
@@ -13,34 +12,30 @@ use Rattle.vx_array_tree.specs.Canon.{KeepsStats, IsKeptNode}
 use Rattle.vx_array_tree.specs.Encoding.{Encoding}
 use Rattle.vx_array_tree.specs.Encoding as E
 use Rattle.vx_array_tree.specs.Encodings.Primitives as Primitives
-use Rattle.vx_array_tree.specs.Encodings.Foreigns as Foreigns
 use Rattle.vx_array_tree.specs.Normal.{IsNormal, IsNormalNode}
-use Rattle.vx_array_tree.specs.Place.{place}
 use Rattle.vx_array_tree.specs.Sound.{IsSound, IsSoundNode, metadata_in}
 use Rattle.vx_array_tree.specs.Table.{encoding_of, metadata_of, id_of, IsNative}
 use Rattle.vx_array_tree.specs.Tree.{Tree, Trees, Head, places}
 use Rattle.vx_array_tree.proofs.CanonLaws as Canon
 use Rattle.vx_array_tree.proofs.Identifiers.{distinct_ids}
 use Rattle.vx_wire_tree.specs.Codec.{Codec, IsLawful, metadata_bytes}
+use Rattle.vx_wire_tree.specs.Context.{is_among}
 use Rattle.vx_wire_tree.specs.Fields.{told}
 use Rattle.vx_wire_tree.specs.KnownTypes.{KnowsNode, KnowsTypes}
 use Rattle.vx_wire_tree.specs.Limits.{HasMessage}
 use Rattle.vx_wire_tree.specs.Matches.{IsEncodedNode, IsPluginNode, IsNodeBy, Matches, AllMatch}
-use Rattle.vx_wire_tree.specs.Plugin.{NodeHead, head_at, head_of, PluginMeaning, Parts, Answer, none, refused, given}
+use Rattle.vx_wire_tree.specs.Plugin.{NodeHead, head_at, head_of, PluginMeaning, Parts, Answer, given}
 use Rattle.vx_wire_tree.specs.ReadBack.{IsReadAs, IsCountableNode, HasCountableMetadata}
 use Rattle.vx_wire_tree.specs.Returns.{IsOwnCanon, ReturnsBy, ReturnsAs, Returns}
 use Rattle.vx_wire_tree.specs.Revised.{revised_holds}
 use Rattle.vx_wire_tree.specs.Session.{SessionMeaning, Reader, shipped, revised, plugin, IsPaired}
-use Rattle.vx_wire_tree.specs.Taken.{Step, written, unwritten, undeclared, given_head, foreign_step, plugin_step, writer_step, step_by, step_head, step_below, each, Each, taken}
-use Rattle.vx_wire_tree.specs.Wire.{WireHead, all_present}
+use Rattle.vx_wire_tree.specs.Taken.{Step, written, unwritten, undeclared, given_head, plugin_step, writer_step, step_head, step_below, each, Each, taken}
+use Rattle.vx_wire_tree.specs.Wire.{WireHead}
 use Rattle.vx_wire_tree.specs.Written.{writes_two, id_under, written_id, spelled, wire_head, wire, wires}
+use Rattle.vx_wire_tree.proofs.Natives.{step_native}
+use Rattle.vx_wire_tree.proofs.TakenPlaces.{places_taken}
 use Rattle.vx_wire_tree.proofs.ReadAgain.{meant_told, own_bytes}
 use Rattle.vx_wire_tree.proofs.TwoIdentifiers.{holds_own, native_under, revised_under, read_shipped, read_revised, node_by}
-
--- A list of which nothing is missing has as many entries.
-present_length : {A : Type 0} (xs : List A) → length (all_present xs) ≡ length xs
-present_length [] = refl
-present_length (x ∷ xs) = ap (λ n. suc n) (present_length xs)
 
 -- What is said of an array down to what plugins write: it is sound and normal, its statistics are kept, and the types in it
 -- are known.
@@ -59,16 +54,6 @@ record AreOwn (s : SessionMeaning) (ts : Trees) : Type 0 where
 
 own_below : (s : SessionMeaning) (h : Head) (ts : Trees) → IsOwn s (node h ts) → AreOwn s ts
 own_below s h ts x = record { sound = x.sound.1; normal = x.normal.1; kept = x.kept.1; known = x.known.1 }
-
--- A node is of a known encoding, or foreign.
-pub native_or : (b : Body) → IsNative b ⊎ ((x : Foreigns.Data) × (b ≡ B.foreign x))
-native_or (B.foreign x) = inr (x, refl)
-native_or _ = inl tt
-
--- A node of a known encoding is written by what writes the encoding.
-pub step_native : (s : SessionMeaning) (b : Body) (h : Head) (ts : Trees) → IsNative b → step_by s b h ts ≡ writer_step (s.writer (id_of (encoding_of b))) h ts
-step_native s (B.foreign x) h ts k = absurd k
-step_native s _ h ts k = refl
 
 module _ (c : Codec) (s : SessionMeaning) (law : IsLawful c s) (paired : IsPaired s) where
   -- An array that is its own canon is so.
@@ -115,7 +100,7 @@ module _ (c : Codec) (s : SessionMeaning) (law : IsLawful c s) (paired : IsPaire
       let w : WireHead = wire_head c s (given_head h y) us in
       let g = p.builds_again (node h ts) y s.ext x.sound x.normal x.known e in
       let same : head_at y.id w (count (wires c s us)) h.dtype h.len ≡ head_of y (node h ts) =
-      λ i. record { id = y.id; dtype = h.dtype; len = h.len; metadata = y.metadata; nbuffers = present_length y.buffers i; nchildren = n i } in
+      λ i. record { id = y.id; dtype = h.dtype; len = h.len; metadata = y.metadata; nbuffers = length-map y.buffers (λ b. Some b) i; nchildren = n i } in
       let m : IsPluginNode c s p w (count (wires c s us)) (node h ts) (λ zs. AllMatch c s (wires c s us) zs) = record {
         id = y.id;
         id_is = refl;
@@ -157,17 +142,17 @@ module _ (c : Codec) (s : SessionMeaning) (law : IsLawful c s) (paired : IsPaire
   Stepped x f h ts = Counted (step_head x h) (f (step_below x)) → Told (step_head x h) (f (step_below x)) (node h ts)
 
   -- What holds of a node's children, and of those that a plugin gives.
-  abbrev Kids : (Trees → Trees) → (Trees → Type 0) → Type 0
-  Kids f Below = (us : Trees) → AreOwn s us → Below us → EverywhereBelow (IsCountableNode c) (f us) → AllMatch c s (wires c s (f us)) us
+  abbrev OfChildren : (Trees → Trees) → (Trees → Type 0) → Type 0
+  OfChildren f Below = (us : Trees) → AreOwn s us → Below us → EverywhereBelow (IsCountableNode c) (f us) → AllMatch c s (wires c s (f us)) us
 
-  abbrev Gifts : (Trees → Trees) → (Trees → Type 0) → Type 0
-  Gifts f Given = (us : Trees) → Given us → EverywhereBelow (IsCountableNode c) (f us) → AllMatch c s (wires c s (f us)) us × EverywhereBelow IsSoundNode us
+  abbrev OfGiven : (Trees → Trees) → (Trees → Type 0) → Type 0
+  OfGiven f Given = (us : Trees) → Given us → EverywhereBelow (IsCountableNode c) (f us) → AllMatch c s (wires c s (f us)) us × EverywhereBelow IsSoundNode us
 
-  declared_step : (p : PluginMeaning) (h : Head) (ts : Trees) (y : Parts) (f : Trees → Trees) → list_any (bytes_eq y.id) p.declared ≡ true → (Counted (given_head h y) (f y.children) → Told (given_head h y) (f y.children) (node h ts)) → Stepped (plugin_step p h (given y)) f h ts
+  declared_step : (p : PluginMeaning) (h : Head) (ts : Trees) (y : Parts) (f : Trees → Trees) → is_among y.id p.declared ≡ true → (Counted (given_head h y) (f y.children) → Told (given_head h y) (f y.children) (node h ts)) → Stepped (plugin_step p h (given y)) f h ts
   declared_step p h ts y f d m = subst (λ (b : Bool). Stepped (cond b (written (given_head h y) y.children) (unwritten undeclared)) f h ts) (sym d) m
 
   writer_told : (r : Option Reader) (h : Head) (ts : Trees) (f : Trees → Trees) (Below Given : Trees → Type 0) → IsNative h.body → IsOwn s (node h ts) → c.IsStorable h.stats → s.writer (id_of (encoding_of h.body)) ≡ r
-      → ReturnsBy s r h ts Below Given → Kids f Below → Gifts f Given → ((us : Trees) → places (f us) ≡ places us) → ((us : Trees) → count (wires c s (f us)) ≡ count us) → Stepped (writer_step r h ts) f h ts
+      → ReturnsBy s r h ts Below Given → OfChildren f Below → OfGiven f Given → ((us : Trees) → places (f us) ≡ places us) → ((us : Trees) → count (wires c s (f us)) ≡ count us) → Stepped (writer_step r h ts) f h ts
   writer_told None h ts f Below Given native x k w b kids gifts same n = absurd b
   writer_told (Some (shipped e)) h ts f Below Given native x k w b kids gifts same n =
       let own = same_encoding (encoding_of h.body) e w in
@@ -187,45 +172,6 @@ module _ (c : Codec) (s : SessionMeaning) (law : IsLawful c s) (paired : IsPaire
   returns_native _ h ts Below Given r = (tt, r)
 
   -- ---- node by node
-
-  -- What is written of an array is of its type and length.
-  writer_place : (r : Option Reader) (h : Head) (ts : Trees) → ((step_head (writer_step r h ts) h).dtype ≡ h.dtype) × ((step_head (writer_step r h ts) h).len ≡ h.len)
-  writer_place None h ts = (refl, refl)
-  writer_place (Some (shipped e)) h ts = (refl, refl)
-  writer_place (Some revised) h ts = (refl, refl)
-  writer_place (Some (plugin p)) h ts = answer_place (p.serialize (node h ts))
-    where
-      declared_place : (b : Bool) (y : Parts)
-          → ((step_head (cond b (written (given_head h y) y.children) (unwritten undeclared)) h).dtype ≡ h.dtype) × ((step_head (cond b (written (given_head h y) y.children) (unwritten undeclared)) h).len ≡ h.len)
-      declared_place true y = (refl, refl)
-      declared_place false y = (refl, refl)
-
-      answer_place : (a : Answer) → ((step_head (plugin_step p h a) h).dtype ≡ h.dtype) × ((step_head (plugin_step p h a) h).len ≡ h.len)
-      answer_place none = (refl, refl)
-      answer_place refused = (refl, refl)
-      answer_place (given y) = declared_place (list_any (bytes_eq y.id) p.declared) y
-
-  foreign_place : (b : Bool) (h : Head) (ts : Trees) → ((step_head (foreign_step b h ts) h).dtype ≡ h.dtype) × ((step_head (foreign_step b h ts) h).len ≡ h.len)
-  foreign_place true h ts = (refl, refl)
-  foreign_place false h ts = (refl, refl)
-
-  abbrev IsPlacedAs : Head → Step → Type 0
-  IsPlacedAs h x = ((step_head x h).dtype ≡ h.dtype) × ((step_head x h).len ≡ h.len)
-
-  step_place : (b : Body) (h : Head) (ts : Trees) → IsPlacedAs h (step_by s b h ts)
-  step_place b h ts =
-      elim (native_or b) [
-        | inl k ↦ subst (λ x. IsPlacedAs h x) (sym (step_native s b h ts k)) (writer_place (s.writer (id_of (encoding_of b))) h ts)
-        | inr q ↦ subst (λ z. IsPlacedAs h (step_by s z h ts)) (sym q.1) (foreign_place s.ext.unknown h ts)
-      ]
-
-  taken_place : (n : ℕ) (t : Tree) → place (label (taken s n t)).dtype (label (taken s n t)).len ≡ place (label t).dtype (label t).len
-  taken_place zero (node h ts) = let x = step_place h.body h ts in λ i. place (x.0 i) (x.1 i)
-  taken_place (suc n) (node h ts) = let x = step_place h.body h ts in λ i. place (x.0 i) (x.1 i)
-
-  each_places : (n : ℕ) (us : Trees) → places (each (taken s n) us) ≡ places us
-  each_places n end = refl
-  each_places n (more u us) = let a = taken_place n u in let b = each_places n us in λ i. a i ∷ b i
 
   each_count : (n : ℕ) (us : Trees) → count (wires c s (each (taken s n) us)) ≡ count us
   each_count n end = refl
@@ -260,4 +206,4 @@ module _ (c : Codec) (s : SessionMeaning) (law : IsLawful c s) (paired : IsPaire
       let q = returns_native h.body h ts Below Given r.1 in
       (subst (λ z. Stepped z f h ts) (sym (step_native s h.body h ts q.0))
       (writer_told (s.writer (id_of (encoding_of h.body))) h ts f Below Given q.0 x r.0 refl q.1
-      (λ us y k m. all_returned n (λ t z w v. returned spells n t z w v) us y k m) (λ us k m. all_given spells n (λ t z w v. returned spells n t z w v) us k m) (λ us. each_places n us) (λ us. each_count n us))) counted
+      (λ us y k m. all_returned n (λ t z w v. returned spells n t z w v) us y k m) (λ us k m. all_given spells n (λ t z w v. returned spells n t z w v) us k m) (λ us. places_taken s n us) (λ us. each_count n us))) counted

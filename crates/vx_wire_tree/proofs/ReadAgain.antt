@@ -25,16 +25,18 @@ use Rattle.vx_array_tree.proofs.CanonLaws.{by_node}
 use Rattle.vx_array_tree.proofs.CanonPlaces.{known_node, foreign_node, Planned, planned_at, types_at, kids_metadata}
 use Rattle.vx_array_tree.proofs.Identifiers.{distinct_ids}
 use Rattle.vx_array_tree.proofs.Retyped.{IsRetyped, AreRetyped, retyped_same}
+use Rattle.vx_wire_tree.specs.KnownTypes.{KnowsNode, KnowsTypes}
 use Rattle.vx_wire_tree.specs.Codec.{Codec, IsLawful, metadata_bytes}
 use Rattle.vx_wire_tree.specs.Fields.{meant, told, nullable_if, is_nullable}
 use Rattle.vx_wire_tree.specs.Limits.{HasMessages, HasMessage}
 use Rattle.vx_wire_tree.specs.Matches.{IsRaw, AreRaw, IsEncodedNode, IsNodeBy, Matches, AllMatch}
-use Rattle.vx_wire_tree.specs.ReadBack.{IsReadAs, IsReadBack, ReadsBack, IsWrittenNode, IsWritten, IsKnownNode, HasKnownTypes, IsCountableNode, HasCountableMetadata, IsStorableNode, HasStorableStats, HasWriter, IsWrittenBy, IsUnreadBy, IsUnread, AreUnread, IsKept, ReadsBackBy, AllReadBack}
+use Rattle.vx_wire_tree.specs.ReadBack.{IsReadAs, IsReadBack, ReadsBack, IsWrittenNode, IsWritten, IsCountableNode, HasCountableMetadata, IsStorableNode, HasStorableStats, IsWrittenBy, IsUnreadBy, IsUnread, AreUnread, IsKept, ReadsBackBy, AllReadBack}
 use Rattle.vx_wire_tree.specs.Reads.{IsMetadata}
 use Rattle.vx_wire_tree.specs.Revised.{revised_name, revised_holds}
 use Rattle.vx_wire_tree.specs.Session.{SessionMeaning, Reader, shipped, revised, plugin, IsShippedReader, IsShipped, IsPaired, IsReadAgainBy, IsRevisedAgainBy}
 use Rattle.vx_wire_tree.specs.Wire.{all_present}
 use Rattle.vx_wire_tree.specs.Written.{id_under, writes_two, body_id, written_id, spelled, wire_head, wire, wires, canon}
+use Rattle.vx_wire_tree.proofs.Natives.{native_writer}
 use Rattle.vx_wire_tree.proofs.TwoIdentifiers.{holds_own, native_under, own_under, revised_under, read_shipped, read_revised, node_by}
 
 nullable_again : (n : Nullability) → nullable_if (is_nullable n) ≡ n
@@ -173,13 +175,9 @@ module _ (c : Codec) (s : SessionMeaning) (ok : IsShipped s) (paired : IsPaired 
       let writer : s.writer Primitives.id ≡ Some revised = ap (λ g. s.writer (id_of g)) (sym same) ∙ w in
       subst (λ (g : Encoding). ReadsAs g n) (sym same) (revised_as n writer)
 
-  native_writer : (b : Body) → IsNative b → IsWrittenBy s b → HasWriter s (encoding_of b)
-  native_writer (B.foreign x) k w = absurd k
-  native_writer _ k w = w
-
-  node_back : (h : Head) (ts : Trees) → IsNative h.body → IsWrittenNode s h ts → HasMessage h ts → IsCountableNode c h ts → IsKnownNode s h ts → IsStorableNode c h ts → IsReadBack c s h ts
+  node_back : (h : Head) (ts : Trees) → IsNative h.body → IsWrittenNode s h ts → HasMessage h ts → IsCountableNode c h ts → KnowsNode s.ext h ts → IsStorableNode c h ts → IsReadBack c s h ts
   node_back h ts native w m n k b =
-      let x = native_writer h.body native w in
+      let x = native_writer s h.body native w in
       record {
         reader =
             subst (λ (id : List ℕ). IsReadAs (s.reader id) (encoding_of h.body) id h.len) (sym (native_under (writes_two s) h.body h.len native))
@@ -196,11 +194,11 @@ module _ (c : Codec) (s : SessionMeaning) (ok : IsShipped s) (paired : IsPaired 
   kept_back _ h ts Below Under f w u g = (f tt, g u)
 
   mutual
-    pub reads_back : (t : Tree) → IsUnread s t → IsWritten s t → HasMessages t → HasCountableMetadata c t → HasKnownTypes s t → HasStorableStats c t → ReadsBack c s t
+    pub reads_back : (t : Tree) → IsUnread s t → IsWritten s t → HasMessages t → HasCountableMetadata c t → KnowsTypes s.ext t → HasStorableStats c t → ReadsBack c s t
     reads_back (node h ts) u w m n k b =
         kept_back h.body h ts (AllReadBack c s ts) (AreUnread s ts) (λ native. node_back h ts native w.0 m.0 n.0 k.0 b.0) w.0 u (λ us. read_back_each ts us w.1 m.1 n.1 k.1 b.1)
 
-    read_back_each : (ts : Trees) → AreUnread s ts → EverywhereBelow (IsWrittenNode s) ts → EverywhereBelow HasMessage ts → EverywhereBelow (IsCountableNode c) ts → EverywhereBelow (IsKnownNode s) ts → EverywhereBelow (IsStorableNode c) ts
+    read_back_each : (ts : Trees) → AreUnread s ts → EverywhereBelow (IsWrittenNode s) ts → EverywhereBelow HasMessage ts → EverywhereBelow (IsCountableNode c) ts → EverywhereBelow (KnowsNode s.ext) ts → EverywhereBelow (IsStorableNode c) ts
         → AllReadBack c s ts
     read_back_each end u w m n k b = tt
     read_back_each (more t ts) u w m n k b = (reads_back t u.0 w.0 m.0 n.0 k.0 b.0, read_back_each ts u.1 w.1 m.1 n.1 k.1 b.1)

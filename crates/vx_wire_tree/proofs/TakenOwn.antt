@@ -4,14 +4,13 @@ use Rattle.vx_trees.specs.Everywhere.{EverywhereBelow}
 use Rattle.vx_trees.specs.Rose.{node, end, more}
 use Rattle.vx_trees.specs.Walks.{levels, levels_below}
 use Rattle.vx_array_tree.specs.Body.{Body}
-use Rattle.vx_array_tree.specs.Body as B
 use Rattle.vx_array_tree.specs.Encoding.{Encoding}
-use Rattle.vx_array_tree.specs.Table.{encoding_of, id_of, IsNative}
+use Rattle.vx_array_tree.specs.Table.{encoding_of, id_of}
 use Rattle.vx_array_tree.specs.Tree.{Head, Tree, Trees}
 use Rattle.vx_wire_tree.specs.ReadBack.{HasWriter, IsWrittenBy, IsWrittenNode, IsWritten}
 use Rattle.vx_wire_tree.specs.Session.{SessionMeaning, Reader, shipped, revised, plugin, IsShippedReader, IsShipped}
 use Rattle.vx_wire_tree.specs.Taken.{Step, written, unwritten, Unwritten, IsWrittenStep, foreign_step, writer_step, step_by, step, step_head, step_below, each, Each, Any, taken, IsTaken, HasUntaken}
-use Rattle.vx_wire_tree.proofs.PluginsAgain.{native_or, step_native}
+use Rattle.vx_wire_tree.proofs.Natives.{native_or, step_native, native_writer, native_written}
 
 module _ (s : SessionMeaning) where
   each_within : (n : ℕ) → ((t : Tree) → levels (taken s n t) ≤ n + 1) → (us : Trees) → levels_below (each (taken s n) us) ≤ n + 1
@@ -72,10 +71,6 @@ module _ (s : SessionMeaning) where
     has_writer e None p h ts w = absurd w
     has_writer e (Some r) p h ts w = record { writer = r; writer_is = p }
 
-    native_written : (b : Body) → IsNative b → HasWriter s (encoding_of b) → IsWrittenBy s b
-    native_written (B.foreign x) k w = absurd k
-    native_written _ k w = w
-
     is_allowed : (b : Bool) (h : Head) (ts : Trees) → IsWrittenStep (foreign_step b h ts) → b ≡ true
     is_allowed true h ts w = refl
     is_allowed false h ts w = absurd w
@@ -83,7 +78,7 @@ module _ (s : SessionMeaning) where
     node_written : (b : Body) (h : Head) (ts : Trees) → IsWrittenStep (step_by s b h ts) → IsWrittenBy s b
     node_written b h ts w =
         elim (native_or b) [
-          | inl k ↦ native_written b k (has_writer (encoding_of b) (s.writer (id_of (encoding_of b))) refl h ts (subst (λ x. IsWrittenStep x) (step_native s b h ts k) w))
+          | inl k ↦ native_written s b k (has_writer (encoding_of b) (s.writer (id_of (encoding_of b))) refl h ts (subst (λ x. IsWrittenStep x) (step_native s b h ts k) w))
           | inr q ↦
               let e = ap (λ z. step_by s z h ts) q.1 in
               subst (λ z. IsWrittenBy s z) (sym q.1) (is_allowed s.ext.unknown h ts (subst (λ x. IsWrittenStep x) e w))
@@ -111,15 +106,11 @@ module _ (s : SessionMeaning) where
     writer_writes (Some revised) k q p h ts = refl
     writer_writes (Some (plugin p)) k q e h ts = absurd k
 
-    native_writer : (b : Body) → IsNative b → IsWrittenBy s b → HasWriter s (encoding_of b)
-    native_writer (B.foreign x) k w = absurd k
-    native_writer _ k w = w
-
     step_writes : (b : Body) (h : Head) (ts : Trees) → IsWrittenBy s b → step_by s b h ts ≡ written h ts
     step_writes b h ts w =
         elim (native_or b) [
           | inl k ↦
-              let own = native_writer b k w in
+              let own = native_writer s b k w in
               let id = id_of (encoding_of b) in
               step_native s b h ts k ∙ writer_writes (s.writer id) (ok.writes id) own.writer own.writer_is h ts
           | inr q ↦

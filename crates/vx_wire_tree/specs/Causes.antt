@@ -4,15 +4,13 @@ use Rattle.vx_buffer.specs.Buffer.{Buffer}
 use Rattle.vx_trees.specs.Rose.{label, below, count}
 use Rattle.vx_trees.specs.Everywhere.{EverywhereBelow}
 use Rattle.vx_types.specs.Typ.{Typ}
-use Rattle.vx_array_tree.specs.Body.{Body}
-use Rattle.vx_array_tree.specs.Body as B
 use Rattle.vx_array_tree.specs.Encoding.{Encoding}
 use Rattle.vx_array_tree.specs.Metadata.{Metadata}
 use Rattle.vx_array_tree.specs.Normal.{IsNormalNode}
 use Rattle.vx_array_tree.specs.Place.{Place}
 use Rattle.vx_array_tree.specs.Sound.{IsSoundNode, IsControlledBy}
-use Rattle.vx_array_tree.specs.Table.{encoding_of, id_of, plan_of, IsShaped, Takes, Content}
-use Rattle.vx_array_tree.specs.Tree.{Tree, Trees, places, encodings, rows_below}
+use Rattle.vx_array_tree.specs.Table.{plan_of, IsShaped, Takes, Content}
+use Rattle.vx_array_tree.specs.Tree.{Trees, places, encodings, rows_below}
 use Rattle.vx_wire_tree.specs.Codec.{Codec}
 use Rattle.vx_wire_tree.specs.Matches.{AllMatch}
 use Rattle.vx_wire_tree.specs.Placed.{Claim, HoldsSomewhere, Anywhere}
@@ -21,7 +19,7 @@ use Rattle.vx_wire_tree.specs.Reads.{IsMetadata}
 use Rattle.vx_wire_tree.specs.Revised.{revised_holds}
 use Rattle.vx_wire_tree.specs.Session.{SessionMeaning, Reader, revised, plugin, encoding_by, IsShipped}
 use Rattle.vx_wire_tree.specs.Steps.{HasNoMetadata, HasNoStats}
-use Rattle.vx_wire_tree.specs.Wire.{Wire, all_present}
+use Rattle.vx_wire_tree.specs.Wire.{Wire, Wires, all_present}
 
 -- ---- any node
 
@@ -68,13 +66,17 @@ MayStandFor (o ∷ os) [] = ⊥
 MayStandFor (Some b ∷ os) (x ∷ xs) = (x ≡ b) × MayStandFor os xs
 MayStandFor (None ∷ os) (x ∷ xs) = MayStandFor os xs
 
--- A node's children match sound arrays that stand at these places. The arrays are normal, where no plugin reads or
+-- Wire trees match sound arrays one by one, which stand at these places. The arrays are normal, where no plugin reads or
 -- writes.
-pub record HasChildren (c : Codec) (s : SessionMeaning) (w : Wire) (ps : List Place) (ts : Trees) : Type 0 where
-  pub matched : AllMatch c s (below w) ts
+pub record AllTell (c : Codec) (s : SessionMeaning) (ws : Wires) (ps : List Place) (ts : Trees) : Type 0 where
+  pub matched : AllMatch c s ws ts
   pub sound : EverywhereBelow IsSoundNode ts
   pub normal : IsShipped s → EverywhereBelow IsNormalNode ts
   pub placed : places ts ≡ ps
+
+-- So it is with a node's children.
+abbrev pub HasChildren : Codec → SessionMeaning → Wire → List Place → Trees → Type 0
+HasChildren c s w ps ts = AllTell c s (below w) ps ts
 
 -- A node's children match sound arrays where they are planned, and these are of encodings that may not stand below it.
 pub record HasOtherChildren (c : Codec) (s : SessionMeaning) (e : Encoding) (v : Metadata) (w : Wire) (d : Typ) (n : ℕ) : Type 0 where
@@ -195,18 +197,3 @@ RefusesTree bad_content c s w d n = HoldsSomewhere c s (HasBadContent c s) w d n
 RefusesTree foreign_control c s w d n = HoldsSomewhere c s (HasForeignControl c s) w d n
 RefusesTree bad_stats c s w d n = HoldsSomewhere c s (HasBadStats c s) w d n
 RefusesTree plugin_refused c s w d n = HoldsSomewhere c s (IsRefusedByPlugin c s) w d n
-
--- ---- writing
-
--- The session has no writer of a node's encoding, or foreign nodes are not allowed and it is one.
-abbrev pub LacksWriterBy : SessionMeaning → Body → Type 0
-LacksWriterBy s (B.foreign x) = s.ext.unknown ≡ false
-LacksWriterBy s b = s.writer (id_of (encoding_of b)) ≡ None
-
--- So it is with the root of an array.
-abbrev pub LacksWriter : SessionMeaning → Tree → Type 0
-LacksWriter s t = LacksWriterBy s (label t).body
-
--- Some node of an array has no writer.
-abbrev pub HasUnwritten : SessionMeaning → Tree → Type 0
-HasUnwritten s t = Anywhere (LacksWriter s) t

@@ -1,5 +1,6 @@
 -- The numbered identifiers of a write: how they grow.
-use Rattle.std.specs.Prelude.{ℕ, suc, List, [], ◌∷◌, ◌++◌, Option, Some, None, Bool, true, ◌&&◌, bytes_eq, length, nat_lt, if◌then◌else◌}
+use Rattle.std.specs.Prelude.{ℕ, suc, List, [], ◌∷◌, ◌++◌, Option, Some, None, Bool, true, ◌&&◌, bytes_eq, nat_lt, if◌then◌else◌}
+use Rattle.std.specs.List.{list_any}
 use Rattle.vx_array_tree.specs.Tree.{Tree}
 use Rattle.vx_wire_tree.specs.Codec.{Codec}
 use Rattle.vx_wire_tree.specs.Session.{SessionMeaning}
@@ -19,7 +20,7 @@ index_of id (other ∷ ids) = if bytes_eq id other then 0 else suc (index_of id 
 
 -- Whether a list has an identifier.
 abbrev pub is_among : List ℕ → List (List ℕ) → Bool
-is_among id ids = nat_lt (index_of id ids) (length ids)
+is_among id ids = list_any (bytes_eq id) ids
 
 -- A list with an identifier at its end, where it does not have it yet.
 abbrev pub with_id : List ℕ → List (List ℕ) → List (List ℕ)

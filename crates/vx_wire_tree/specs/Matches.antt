@@ -69,8 +69,8 @@ pub record IsPluginNode (c : Codec) (s : SessionMeaning) (p : PluginMeaning) (w 
   pub shown : c.ShowsStats (label t).dtype w.stats stats
   pub tree_is : t ≡ with_stats stats built
 
--- A node by what reads its identifier. Primitives under two identifiers hold some lengths under each; a node that nothing reads is
--- foreign, with all below it, where such nodes are allowed, and else tells no array.
+-- A node by what reads its identifier. Primitives under two identifiers hold some lengths under each; a node that nothing
+-- reads is foreign, with all below it, where such nodes are allowed, and else tells no array.
 abbrev pub IsNodeBy : Codec → SessionMeaning → Option Reader → WireHead → Wires → Tree → (Trees → Type 0) → Type 0
 IsNodeBy c s (Some (shipped e)) w ws t Below = IsEncodedNode c s e w t Below
 IsNodeBy c s (Some revised) w ws t Below = IsHeldNode w (label t).len × IsEncodedNode c s E.primitive w t Below

@@ -16,7 +16,7 @@ pub record PlansByPlugin (s : SessionMeaning) (p : PluginMeaning) (w : Wire) (d 
   pub id_is : (label w).id ≡ Some id
   pub plan : p.plan (head_at id (label w) (count (below w)) d n) s.ext ≡ Some ps
 
--- A plan by what reads a node: its encoding or its plugin plans its children. Its buffers are not looked at.
+-- A plan by what reads a node: its encoding or its plugin plans its children. Of its buffers only the number is looked at, and by plugins alone.
 abbrev pub IsPlannedBy : Codec → SessionMeaning → Option Reader → Wire → Typ → ℕ → List Place → Type 0
 IsPlannedBy c s (Some (shipped e)) w d n ps = PlansChildren c s.ext e d n (label w).metadata (count (below w)) ps
 IsPlannedBy c s (Some revised) w d n ps = PlansChildren c s.ext E.primitive d n (label w).metadata (count (below w)) ps

@@ -12,7 +12,7 @@ use Rattle.vx_array_tree.specs.Tree.{Tree, Trees, Head}
 use Rattle.vx_wire_tree.specs.Codec.{Codec, metadata_bytes}
 use Rattle.vx_wire_tree.specs.Fields.{told}
 use Rattle.vx_wire_tree.specs.Limits.{HasMessage}
-use Rattle.vx_wire_tree.specs.Reads.{IsKnownIn}
+use Rattle.vx_wire_tree.specs.KnownTypes.{KnowsNode}
 use Rattle.vx_wire_tree.specs.Session.{SessionMeaning, Reader, encoding_by, HoldsLength}
 use Rattle.vx_wire_tree.specs.Written.{written_id}
 
@@ -32,14 +32,6 @@ IsWrittenNode s h ts = IsWrittenBy s h.body
 -- Each node of an array is.
 abbrev pub IsWritten : SessionMeaning → Tree → Type 0
 IsWritten s = Everywhere (IsWrittenNode s)
-
--- The types in a node's metadata are known.
-abbrev pub IsKnownNode : SessionMeaning → Head → Trees → Type 0
-IsKnownNode s h ts = IsKnownIn s.ext (metadata_in h ts)
-
--- Those of each node of an array are.
-abbrev pub HasKnownTypes : SessionMeaning → Tree → Type 0
-HasKnownTypes s = Everywhere (IsKnownNode s)
 
 -- A node's statistics can be stored.
 abbrev pub IsStorableNode : Codec → Head → Trees → Type 0
@@ -83,7 +75,7 @@ pub record IsReadBack (c : Codec) (s : SessionMeaning) (h : Head) (ts : Trees) :
   pub reader : IsReadAs (s.reader (written_id s h)) (encoding_of h.body) (written_id s h) h.len
   pub message : HasMessage h ts
   pub countable : IsCountableNode c h ts
-  pub known : IsKnownNode s h ts
+  pub known : KnowsNode s.ext h ts
   pub storable : IsStorableNode c h ts
 
 -- A foreign node is read back as such: nothing reads it, and such nodes are allowed.

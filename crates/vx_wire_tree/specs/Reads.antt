@@ -7,7 +7,7 @@ use Rattle.vx_array_tree.specs.Metadata.{Metadata}
 use Rattle.vx_array_tree.specs.Table.{IsFair}
 use Rattle.vx_wire_tree.specs.Codec.{Codec}
 use Rattle.vx_wire_tree.specs.Fields.{Fields, meant}
-pub use Rattle.vx_wire_tree.specs.KnownTypes.{IsKnownIn}
+use Rattle.vx_wire_tree.specs.KnownTypes.{IsKnownIn}
 
 -- Bytes are metadata of an encoding's node of a type: they show a message, the encoding admits what it means
 -- at that type, and a type in it is known.

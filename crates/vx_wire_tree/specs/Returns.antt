@@ -1,6 +1,5 @@
 -- When an array that encodings and plugins write is read again as itself.
-use Rattle.std.specs.Prelude.{ℕ, zero, suc, ◌≡◌, Option, Some, None, true, bytes_eq}
-use Rattle.std.specs.List.{list_any}
+use Rattle.std.specs.Prelude.{ℕ, zero, suc, ◌≡◌, Option, Some, None, true}
 use Rattle.vx_trees.specs.Rose.{node}
 use Rattle.vx_array_tree.specs.Body.{Body}
 use Rattle.vx_array_tree.specs.Body as B
@@ -8,6 +7,7 @@ use Rattle.vx_array_tree.specs.Sound.{IsSound}
 use Rattle.vx_array_tree.specs.Table.{encoding_of, id_of}
 use Rattle.vx_array_tree.specs.Tree.{Tree, Trees, Head}
 use Rattle.vx_wire_tree.specs.Codec.{Codec}
+use Rattle.vx_wire_tree.specs.Context.{is_among}
 use Rattle.vx_wire_tree.specs.KnownTypes.{KnowsTypes}
 use Rattle.vx_wire_tree.specs.Limits.{HasMessage}
 use Rattle.vx_wire_tree.specs.Plugin.{PluginMeaning, Parts, given}
@@ -32,7 +32,7 @@ pub record IsEncodedAgain (s : SessionMeaning) (e : Reader) (h : Head) (ts : Tre
 pub record IsGivenAgain (s : SessionMeaning) (p : PluginMeaning) (h : Head) (ts : Trees) (Given : Trees → Type 0) : Type 0 where
   pub parts : Parts
   pub serialized : p.serialize (node h ts) ≡ given parts
-  pub declared : list_any (bytes_eq parts.id) p.declared ≡ true
+  pub declared : is_among parts.id p.declared ≡ true
   pub reader : s.reader parts.id ≡ Some (plugin p)
   pub below : Given parts.children
 

@@ -1,15 +1,23 @@
 -- The second identifier of primitives: which of the two holds how many rows.
-use Rattle.std.specs.Prelude.{ℕ, List, Bool, not, ◌||◌, bytes_eq, nat_le, codes, if◌then◌else◌}
+use Rattle.std.specs.Prelude.{ℕ, List, Bool, true, not, ◌||◌, bytes_eq, nat_le, codes, if◌then◌else◌}
 use Rattle.vx_array_tree.specs.Encodings.Primitives as Primitives
 
 -- The second identifier is "vortex.primitive.v2".
 abbrev pub revised_name : List ℕ
 revised_name = codes "vortex.primitive.v2"
 
--- Where primitives have two identifiers, the old one holds at most four rows, and any other any number.
-abbrev pub revised_holds : List ℕ → ℕ → Bool
-revised_holds id n = not (bytes_eq id Primitives.id) || nat_le n 4
+-- So many rows the old identifier holds, where primitives have two.
+abbrev pub most_rows : ℕ
+most_rows = 4
 
--- So many rows are written under the old identifier where it holds them, and else under the second.
+-- Any other identifier holds any number of rows.
+abbrev pub revised_holds : List ℕ → ℕ → Bool
+revised_holds id n = not (bytes_eq id Primitives.id) || nat_le n most_rows
+
+-- So many rows are written under the old identifier where it holds them, and else under the second where there are two.
+abbrev pub id_of_rows : Bool → ℕ → List ℕ
+id_of_rows two n = if nat_le n most_rows then Primitives.id else (if two then revised_name else Primitives.id)
+
+-- The identifier of so many rows, where there are two.
 abbrev pub revised_id : ℕ → List ℕ
-revised_id n = if nat_le n 4 then Primitives.id else revised_name
+revised_id n = id_of_rows true n

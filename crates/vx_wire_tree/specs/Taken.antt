@@ -1,11 +1,11 @@
 -- An array as it is written under a session: each node as its writer takes it, down to a level at which the descent ends.
-use Rattle.std.specs.Prelude.{ℕ, zero, suc, ◌≡◌, ◌⊎◌, Option, Some, None, Bool, true, false, bytes_eq, if◌then◌else◌}
-use Rattle.std.specs.List.{list_any}
+use Rattle.std.specs.Prelude.{ℕ, zero, suc, ◌≡◌, ◌⊎◌, Option, Some, None, Bool, true, false, if◌then◌else◌}
 use Rattle.vx_trees.specs.Rose.{Rose, Roses, node, end, more, label}
 use Rattle.vx_array_tree.specs.Body.{Body}
 use Rattle.vx_array_tree.specs.Body as B
 use Rattle.vx_array_tree.specs.Table.{encoding_of, id_of}
 use Rattle.vx_array_tree.specs.Tree.{Tree, Trees, Head}
+use Rattle.vx_wire_tree.specs.Context.{is_among}
 use Rattle.vx_wire_tree.specs.Plugin.{PluginMeaning, Parts, Answer, none, refused, given}
 use Rattle.vx_wire_tree.specs.Session.{SessionMeaning, Reader, shipped, revised, plugin}
 
@@ -36,7 +36,7 @@ foreign_step false h ts = unwritten unregistered
 abbrev pub plugin_step : PluginMeaning → Head → Answer → Step
 plugin_step p h none = unwritten unserializable
 plugin_step p h refused = unwritten unwilling
-plugin_step p h (given y) = if list_any (bytes_eq y.id) p.declared then written (given_head h y) y.children else unwritten undeclared
+plugin_step p h (given y) = if is_among y.id p.declared then written (given_head h y) y.children else unwritten undeclared
 
 -- A node of an encoding by what writes it.
 abbrev pub writer_step : Option Reader → Head → Trees → Step
@@ -59,6 +59,7 @@ abbrev pub step_head : Step → Head → Head
 step_head (written g ts) h = g
 step_head (unwritten why) h = h
 
+-- What is written below it.
 abbrev pub step_below : Step → Trees
 step_below (written g ts) = ts
 step_below (unwritten why) = end
@@ -80,11 +81,12 @@ abbrev pub IsWrittenStep : Step → Type 0
 IsWrittenStep (written g ts) = Unit {0}
 IsWrittenStep (unwritten why) = ⊥
 
--- So it is with each of several arrays, and with some of them.
+-- A fact holds of each of several arrays.
 abbrev pub Each : (Tree → Type 0) → Trees → Type 0
 Each P end = Unit {0}
 Each P (more t ts) = P t × Each P ts
 
+-- It holds of some of them.
 abbrev pub Any : (Tree → Type 0) → Trees → Type 0
 Any P end = ⊥
 Any P (more t ts) = P t ⊎ Any P ts

@@ -1,5 +1,5 @@
 -- The wire tree of an array, and the array that is read back from it.
-use Rattle.std.specs.Prelude.{ℕ, List, Option, Some, Bool, true, false, nat_le, if◌then◌else◌}
+use Rattle.std.specs.Prelude.{ℕ, List, Option, Some, Bool, true, false}
 use Rattle.vx_trees.specs.Rose.{node, end, more, label}
 use Rattle.vx_array_tree.specs.Body.{Body}
 use Rattle.vx_array_tree.specs.Body as B
@@ -13,7 +13,7 @@ use Rattle.vx_array_tree.specs.Table.{encoding_of, id_of, buffers_of}
 use Rattle.vx_array_tree.specs.Tree.{Tree, Trees, Head}
 use Rattle.vx_wire_tree.specs.Codec.{Codec, metadata_bytes}
 use Rattle.vx_wire_tree.specs.Fields.{told}
-use Rattle.vx_wire_tree.specs.Revised.{revised_name}
+use Rattle.vx_wire_tree.specs.Revised.{id_of_rows}
 use Rattle.vx_wire_tree.specs.Session.{SessionMeaning, Reader, revised}
 use Rattle.vx_wire_tree.specs.Wire.{WireHead, Wire, Wires, all_present}
 
@@ -26,10 +26,10 @@ is_revised _ = false
 abbrev pub writes_two : SessionMeaning → Bool
 writes_two s = is_revised (s.writer Primitives.id)
 
--- The identifier under which nodes of an encoding, of so many rows, are written: the encoding's, but that primitives of more
--- than four rows have the second one where they are written under two.
+-- The identifier under which nodes of an encoding, of so many rows, are written: the encoding's, but for primitives, which may
+-- have two.
 abbrev pub id_under : Bool → Encoding → ℕ → List ℕ
-id_under two E.primitive n = if nat_le n 4 then Primitives.id else (if two then revised_name else Primitives.id)
+id_under two E.primitive n = id_of_rows two n
 id_under two e n = id_of e
 
 -- A body's, of so many rows: a foreign one has its own.

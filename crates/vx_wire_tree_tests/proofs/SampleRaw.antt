@@ -20,13 +20,14 @@ use Rattle.vx_array_tree.specs.Tree.{Tree}
 use Rattle.vx_array_tree.proofs.LawsControls.{native_controlled}
 use Rattle.vx_array_tree_tests.proofs.SampleForeigns.{foreign}
 use Rattle.vx_array_tree_tests.proofs.Samples.{array, buffer, four, number_type, flag_type, text_type, i32s, numbers}
-use Rattle.vx_wire_tree.specs.Causes.{IsUnregistered, LacksWriter, unknown_encoding, foreign_control, RefusesTree}
+use Rattle.vx_wire_tree.specs.Causes.{IsUnregistered, unknown_encoding, foreign_control, RefusesTree}
 use Rattle.vx_wire_tree.specs.Codec.{Codec, metadata_bytes}
 use Rattle.vx_wire_tree.specs.Fields as F
 use Rattle.vx_wire_tree.specs.Fields.{told}
 use Rattle.vx_wire_tree.specs.Matches.{IsRawNode, IsRaw, IsEncodedNode, IsNodeBy, Matches, AllMatch}
 use Rattle.vx_wire_tree.specs.Placed.{HoldsAt}
 use Rattle.vx_wire_tree.specs.ReadBack.{IsWrittenNode, IsUnread, ReadsBack}
+use Rattle.vx_wire_tree.specs.Taken.{step, unwritten, unregistered}
 use Rattle.vx_wire_tree.specs.Session.{SessionMeaning, Reader, shipped}
 use Rattle.vx_wire_tree.specs.Wire.{Wire, all_present, ids_in, buffers_in}
 use Rattle.vx_wire_tree.specs.Written.{wire, canon}
@@ -156,8 +157,8 @@ not_kept k = false≢true k.allowed
 written : IsWrittenNode (session true) (label kept_numbers) end
 written = refl
 
-unwritten : LacksWriter (session false) kept_numbers
-unwritten = refl
+not_written : step (session false) kept_numbers ≡ unwritten unregistered
+not_written = refl
 
 -- ---- causes
 

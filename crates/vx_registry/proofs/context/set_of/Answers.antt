@@ -1,7 +1,7 @@
 use Rattle.std.proofs.Common.{◌∙◌, ℕ, List, [], ap, get_or, sym, take}
 use Rattle.std.proofs.lemmas.List.{take_more}
 use Rattle.vx_wire_tree.specs.Context.{with_id, with_ids}
-use Rattle.vx_registry.proofs.Interning.{insert_key-with_id, with_ids-snoc}
+use Rattle.vx_registry.proofs.Interning.{with_ids-snoc}
 use Rattle.vx_registry.proofs.context.set_of.Goals as goal
 
 pub loop-id-preserved : goal.loop-id-preserved
@@ -9,7 +9,7 @@ loop-id-preserved c =
     let items : List (List ℕ) = c.as_slice-id-items.result.now in
     let x : List ℕ = c.id-item.result in
     let at : List ℕ = get_or items c.loop-id.id-index x in
-    c.in_ok-insert.ensures.keys ∙ insert_key-with_id c.in_ok-named.field-0 c.loop-id.set.keys
+    c.in_ok-insert.ensures.keys
     ∙ ap (λ id. with_id id c.loop-id.set.keys) (c.in_ok-named.ensures.ok ∙ (c.as_str.ensures.same ∙ c.id-item.is))
     ∙ ap (λ ids. with_id at ids) c.loop-id.invariant
     ∙ sym (with_ids-snoc [] (take c.loop-id.id-index items) at)

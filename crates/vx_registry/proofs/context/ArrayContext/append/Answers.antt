@@ -1,7 +1,7 @@
 use Rattle.std.proofs.Common.{◌≡◌, ◌<◌, ◌≤◌, ℕ, ◌∙◌, ap, subst, length}
 use Rattle.vx_wire_tree.specs.Context.{Context, with_id}
 use Rattle.vx_registry.specs.contracts.context.ArrayContext.{the_view}
-use Rattle.vx_registry.proofs.Interning.{full, added, added-place, insert_key-with_id}
+use Rattle.vx_registry.proofs.Interning.{full, added, added-place}
 use Rattle.vx_registry.proofs.context.ArrayContext.append.Goals as goal
 use Rattle.vx_registry.proofs.context.ArrayContext.append.Goals.{In_ok-insert}
 
@@ -13,8 +13,7 @@ returns-in-None-clause-refused c =
 -- the new list is the old one with the identifier
 grown_ids : (c : In_ok-insert) → c.insert.new.self.keys ≡ with_id c.args.id.now c.args.self.now.ids
 grown_ids c =
-    c.in_ok-insert.ensures.keys ∙ insert_key-with_id c.in_ok-id.id c.self.inside.ids.keys
-    ∙ ap (λ id. with_id id c.self.inside.ids.keys) (c.in_ok-id.ensures.ok ∙ c.as_str.ensures.same) ∙ ap (λ z. with_id c.args.id.now z.ids) c.self.view_is
+    c.in_ok-insert.ensures.keys ∙ ap (λ id. with_id id c.self.inside.ids.keys) (c.in_ok-id.ensures.ok ∙ c.as_str.ensures.same) ∙ ap (λ z. with_id c.args.id.now z.ids) c.self.view_is
 
 pub returns-clause-interned : goal.returns-clause-interned
 returns-clause-interned c =
