@@ -108,10 +108,10 @@ paired_registered old now ids r reads writes h = record {
       let own = is_among p.id (entry_id r ∷ []) in
       found_as (now.writer p.id) _ (writes p.id)
       (
-        elim (came (is_among id ids) r (plugin p) (old.reader id) (sym (reads id) ∙ e)) [
-          | inl k ↦ there own r (old.writer p.id) (ap (λ b. b || false) ((bytes_eq-Decides p.id (entry_id r)).1 (ap (λ q. entry_id q) (sym k.1))))
-          | inr k ↦ still_there own r (old.writer p.id) (h.read_is_written id p k)
-        ]
+      elim (came (is_among id ids) r (plugin p) (old.reader id) (sym (reads id) ∙ e)) [
+        | inl k ↦ there own r (old.writer p.id) (ap (λ b. b || false) ((bytes_eq-Decides p.id (entry_id r)).1 (ap (λ q. entry_id q) (sym k.1))))
+        | inr k ↦ still_there own r (old.writer p.id) (h.read_is_written id p k)
+      ]
       );
   own_identifier = λ id p e.
       elim (came (is_among id (entry_id r ∷ [])) r (plugin p) (old.writer id) (sym (writes id) ∙ e)) [

@@ -1,5 +1,5 @@
 -- Tables that fit one another, once an entry more is registered.
-use Rattle.std.proofs.Common.{ℕ, ◌≡◌, ◌+◌, ◌||◌, inl, inr, arith, List, [], Option, Some, None, Result, Ok, Err, OnOk, OnErr, Bool, true, false, cond, refl, sym, ap, ◌∙◌, subst}
+use Rattle.std.proofs.Common.{ℕ, ◌≡◌, ◌+◌, ◌||◌, inl, inr, arith, List, Option, Some, Result, Ok, Err, OnOk, OnErr, Bool, true, false, cond, refl, sym, ap, ◌∙◌, subst}
 use Rattle.std.specs.Prelude.{bytes_eq}
 use Rattle.std.specs.List.{list_any}
 use Rattle.std.specs.Map.{lookup}
@@ -247,6 +247,11 @@ within_as r q j k e f h = subst (λ z. AreWithin z j) (sym e) (subst (λ z. AreW
 pub within_set : (k : ℕ) (old new with_it : Registry) (r : Result (Unit {0}) RegistryError) → OnOk r (new ≡ with_it) → OnErr r (new ≡ old) → AreWithin with_it k → AreWithin old k → AreWithin new k
 within_set k old new with_it (Ok u) done left came h = within_as new with_it k k done refl came
 within_set k old new with_it (Err x) done left came h = within_as new old k k left refl h
+
+-- What holds at all holds where something came.
+pub on_any : {A P : Type 0} (r : Result A RegistryError) → P → OnOk r P
+on_any (Ok a) p = p
+on_any (Err e) p = tt
 
 -- What holds of what came holds where it came.
 pub on_ok : {P Q : Type 0} (r : Result (Unit {0}) RegistryError) → (P → Q) → OnOk r P → OnOk r Q

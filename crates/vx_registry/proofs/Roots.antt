@@ -1,29 +1,32 @@
--- The parts of a root that is written.
-use Rattle.std.proofs.Common.{ℕ, ◌≡◌, List, Option, Some, None, Bool, true, false, Result, IfOk, IfErr, refl, sym, ap, ◌∙◌, subst}
-use Rattle.std.specs.Prelude.{bytes_eq, option_and_then, option_map, if◌then◌else◌}
-use Rattle.std.specs.List.{list_any}
-use Rattle.std.specs.Map.{lookup}
+-- What is written of an array's root, by what writes it, and its parts.
+use Rattle.std.proofs.Common.{ℕ, ◌≡◌, List, Option, Some, None, refl, sym, ap, ◌∙◌, subst}
 use Rattle.vx_trees.specs.Rose.{node, label, below}
-use Rattle.vx_types.specs.Known.{ExtMeaning}
 use Rattle.vx_array_tree.specs.Body.{Body}
 use Rattle.vx_array_tree.specs.Body as B
-use Rattle.vx_array_tree.specs.Encoding as E
-use Rattle.vx_array_tree.specs.Table.{encoding_of, own_id, IsNative}
+use Rattle.vx_array_tree.specs.Table.{own_id, IsNative}
 use Rattle.vx_array_tree.specs.Tree.{Tree, Trees, Head}
-use Rattle.vx_array_tree.proofs.Bodies.{foreign_is}
 use Rattle.vx_wire_tree.specs.Limits.{HasMessage}
-use Rattle.vx_wire_tree.specs.Plugin.{PluginMeaning, Answer, given}
-use Rattle.vx_wire_tree.specs.Session.{SessionMeaning, plugin}
+use Rattle.vx_wire_tree.specs.Plugin.{PluginMeaning}
+use Rattle.vx_wire_tree.specs.Session.{SessionMeaning, Reader, plugin}
 use Rattle.vx_wire_tree.specs.Written.{writes_two}
-use Rattle.vx_wire_tree.specs.Taken.{Step, written, unwritten, unregistered, unserializable, undeclared, foreign_step, given_head, plugin_step, writer_step, step_by, step}
+use Rattle.vx_wire_tree.specs.Taken.{Step, written, unwritten, unserializable, given_head, plugin_step, writer_step, step_by, step}
 use Rattle.vx_registry.specs.Plugin.{parts_in}
-use Rattle.vx_registry.specs.Serialization.{HasPartsOf, IsWithoutParts, IsSerializedAs, IsRootOf, IsUnserialized}
-use Rattle.vx_registry.specs.Session.{Registry, Plugins, entry_in, tables_meaning}
+use Rattle.vx_registry.specs.Serialization.{HasPartsOf, IsWithoutParts, IsSerializedAs, IsUnserialized}
 use Rattle.vx_registry.specs.declared.error.RegistryError.{RegistryError}
 use Rattle.vx_registry.specs.declared.error.RegistryError.TheVariants as registry
 use Rattle.vx_registry.specs.declared.serialization.ArraySerialization.{ArraySerialization}
-use Rattle.vx_registry.specs.declared.serializing.WrittenRoot.{WrittenRoot}
-use Rattle.vx_registry.specs.declared.tables.Entry.{Entry}
+
+native_by : (s : SessionMeaning) (b : Body) (h : Head) (ts : Trees) → IsNative b → step_by s b h ts ≡ writer_step (s.writer (own_id b)) h ts
+native_by s (B.foreign x) h ts k = absurd k
+native_by s _ h ts k = refl
+
+-- What is written of a root whose encoding is known, by what its identifier finds among the writers.
+pub native_root : (s : SessionMeaning) (t : Tree) (id : List ℕ) (o : Option Reader) → IsNative (label t).body → id ≡ own_id (label t).body → s.writer id ≡ o → step s t ≡ writer_step o (label t) (below t)
+native_root s (node h ts) id o k i e = native_by s h.body h ts k ∙ ap (λ z. writer_step (s.writer z) h ts) (sym i) ∙ ap (λ z. writer_step z h ts) e
+
+-- And by a plugin.
+pub plugin_root : (s : SessionMeaning) (t : Tree) (id : List ℕ) (p : PluginMeaning) → IsNative (label t).body → id ≡ own_id (label t).body → s.writer id ≡ Some (plugin p) → step s t ≡ plugin_step p (label t) (p.serialize t)
+plugin_root s (node h ts) id p k i e = native_root s (node h ts) id (Some (plugin p)) k i e
 
 -- Those of a root that is written as it is.
 pub own_parts : (s : SessionMeaning) (t : Tree) (x : Step) (p : ArraySerialization) → x ≡ written (label t) (below t) → HasPartsOf (writes_two s) t p → HasMessage (label t) (below t) → IsSerializedAs s x (Some p)

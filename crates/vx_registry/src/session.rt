@@ -207,7 +207,7 @@ impl ArraySession {
     /// Whether primitives are written under two identifiers. The only refusal is want of memory.
     pub fn writes_two(&self, alloc: Global) -> Result<bool, RegistryError>
         ensures two { IfOk result (λ two. (x : ExtMeaning) → writes_two (arrays_meaning means self.now x) ≡ two) }
-        ensures paired { (x : ExtMeaning) → IsPaired (arrays_meaning means self.now x) }
+        ensures paired { OnOk result ((x : ExtMeaning) → IsPaired (arrays_meaning means self.now x)) }
         ensures err { IsOkUnless result RegistryError.OutOfMemory }
     {
         let id = match named(alloc, PrimitiveArray::ID) {

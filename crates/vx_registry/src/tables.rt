@@ -138,7 +138,8 @@ impl Tables {
 
     /// What writes the arrays of this identifier.
     pub(crate) fn writer(&self, id: &Id) -> Option<Entry>
-        ensures { result ≡ lookup (bytes_eq id.now) self.now.writers }
+        ensures found { result ≡ lookup (bytes_eq id.now) self.now.writers }
+        ensures paired { ArePaired self.now }
     {
         self.writers.get(id).copied()
     }

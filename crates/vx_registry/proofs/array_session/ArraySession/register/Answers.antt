@@ -1,7 +1,9 @@
-use Rattle.std.proofs.Common.{[], ◌∷◌, ap, refl}
+use Rattle.std.proofs.Common.{[], ◌∷◌, ap, refl, sym, subst}
+use Rattle.vx_wire_tree.specs.Session.{HasPairedPlugins}
 use Rattle.vx_registry.specs.Meaning.{plugins_meaning}
 use Rattle.vx_registry.specs.Session.{entry, own_id}
 use Rattle.vx_registry.specs.declared.tables.Entry.TheVariants.{Shipped}
+use Rattle.vx_registry.proofs.LawsSessions.{paired_registered}
 use Rattle.vx_registry.proofs.Meanings.{found_put}
 use Rattle.vx_registry.proofs.Pairing.{within_set, within_shipped}
 use Rattle.vx_registry.proofs.array_session.ArraySession.register.Goals as goal
@@ -33,3 +35,18 @@ returns-in-Ok-set_revised-clause-readers g c = λ x id. rw c.in-Revised.is (c.in
 
 pub returns-in-Ok-set_revised-clause-writers : goal.returns-in-Ok-set_revised-clause-writers
 returns-in-Ok-set_revised-clause-writers g c = λ x id. rw c.in-Revised.is (c.in-Ok-set_revised.ensures.writers x id)
+
+pub returns-in-Ok-clause-paired : goal.returns-in-Ok-clause-paired
+returns-in-Ok-clause-paired g c = λ x h. paired_registered _ _ _ _ (returns-in-Ok-clause-readers g c x) (returns-in-Ok-clause-writers g c x) h
+
+pub returns-in-Ok-add-clause-paired : goal.returns-in-Ok-add-clause-paired
+returns-in-Ok-add-clause-paired g c = λ x h. paired_registered _ _ _ _ (returns-in-Ok-add-clause-readers g c x) (returns-in-Ok-add-clause-writers g c x) h
+
+pub returns-in-Err-add-clause-paired : goal.returns-in-Err-add-clause-paired
+returns-in-Err-add-clause-paired g c = λ x h. subst (λ z. HasPairedPlugins z) (sym (c.in-Err-add.ensures.unchanged x)) h
+
+pub returns-in-Ok-set_revised-clause-paired : goal.returns-in-Ok-set_revised-clause-paired
+returns-in-Ok-set_revised-clause-paired g c = λ x h. paired_registered _ _ _ _ (returns-in-Ok-set_revised-clause-readers g c x) (returns-in-Ok-set_revised-clause-writers g c x) h
+
+pub returns-in-Err-set_revised-clause-paired : goal.returns-in-Err-set_revised-clause-paired
+returns-in-Err-set_revised-clause-paired g c = λ x h. subst (λ z. HasPairedPlugins z) (sym (c.in-Err-set_revised.ensures.unchanged x)) h
