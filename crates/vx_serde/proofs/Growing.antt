@@ -3,7 +3,7 @@ use Rattle.std.specs.Prelude.{ℕ, zero, suc, ◌≡◌, ◌<◌, Bool, true, fa
 use Rattle.std.proofs.Common.{arith, sym, ◌∙◌, ap, get_or, append_assoc, append-nil}
 use Rattle.std.proofs.lemmas.List.Elements.{All-append, Contains-append_left, Contains-append_right}
 use Rattle.vx_registry.proofs.LawsContexts.{index_of-among, index_of-last}
-use Rattle.vx_wire_tree.specs.Context.{Context, index_of, with_id, is_allowed, interned, stepped, grown_by}
+use Rattle.vx_wire_tree.specs.Context.{Context, is_among, index_of, with_id, is_allowed, interned, stepped, grown_by}
 use Rattle.vx_serde.specs.KeptContext.{KeepsContext}
 
 -- ---- one list of identifiers after the other
@@ -75,7 +75,7 @@ either-place id ids true f = f refl
 either-place id ids false f = index_of-last id ids
 
 with_id-place : (id : List ℕ) (ids : List (List ℕ)) → index_of id (with_id id ids) < length (with_id id ids)
-with_id-place id ids = either-place id ids (nat_lt (index_of id ids) (length ids)) (λ e. index_of-among id ids e)
+with_id-place id ids = either-place id ids (is_among id ids) (λ e. index_of-among id ids e)
 
 -- ---- one identifier that is taken
 
@@ -103,7 +103,7 @@ with_id-added id ids false = (id ∷ [], refl, one-among id)
 
 pub kept-taken : (id : List ℕ) (a b : Context) → interned id a ≡ Some b → KeepsContext (id ∷ []) a b
 kept-taken id a b e =
-    let w = with_id-added id a.ids (nat_lt (index_of id a.ids) (length a.ids)) in
+    let w = with_id-added id a.ids (is_among id a.ids) in
     record { added = w.0; front = ap (λ c. c.ids) (taken-is id a b e) ∙ w.1; among = w.2; permissions = ap (λ c. c.allowed) (taken-is id a b e) }
 
 kept-stepped : (x : List ℕ) (xs : List (List ℕ)) (a b : Context) (o : Option Context) → ((d : Context) → grown_by xs d ≡ Some b → KeepsContext xs d b)

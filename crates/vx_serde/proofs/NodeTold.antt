@@ -1,7 +1,9 @@
 -- What decoding a node and its children gives, and why it does not.
 use Rattle.std.proofs.Common.{Bool, true, false, ℕ, zero, suc, ◌≡◌, ◌+◌, ◌<◌, ◌≤◌, List, [], ◌∷◌, ◌++◌, Option, Some, None, refl, sym, ap, ◌∙◌, arith, subst, take, length, get_or, add-one, inl, inr}
 use Rattle.std.specs.Prelude.{slice_get, option_map, IsSome}
-use Rattle.std.proofs.lemmas.List.{take_all}
+use Rattle.std.specs.declared.alloc.Global.{Global}
+use Rattle.std.specs.declared.dyn_box.DynBox.{DynBox}
+use Rattle.std.proofs.lemmas.List.{length-map, take_all}
 use Rattle.vx_buffer.specs.Buffer.{Buffer}
 use Rattle.vx_trees.specs.Rose.{node, label, below, roses_of, roses_list, count}
 use Rattle.vx_trees.specs.Everywhere.{EverywhereBelow}
@@ -17,7 +19,7 @@ use Rattle.vx_array_tree.specs.Sound.{IsSound, IsSoundNode}
 use Rattle.vx_array_tree.specs.Encoding as Encodings
 use Rattle.vx_array_tree.specs.Table.{plan_of, Allows, Content, IsShaped}
 use Rattle.vx_array_tree.specs.Tree.{Tree, Trees, places, rows_below}
-use Rattle.vx_wire_tree.specs.Causes.{IsOf, MayStandFor, HasChildren}
+use Rattle.vx_wire_tree.specs.Causes.{AllTell, IsOf, MayStandFor, HasChildren}
 use Rattle.vx_wire_tree.specs.Codec.{IsLawful}
 use Rattle.vx_wire_tree.specs.Matches.{Matches, AllMatch}
 use Rattle.vx_wire_tree.specs.Placed.{IsChild, HasPlan, IsPlannedBy}
@@ -33,14 +35,15 @@ use Rattle.vx_encodings.proofs.Laws.{one_value, plan_length}
 use Rattle.vx_encodings.specs.declared.encoding.Encoding.TheVariants.{Primitive}
 use Rattle.vx_encodings.specs.declared.head.ArrayHead.{ArrayHead}
 use Rattle.vx_registry.specs.Plugin.{head_in}
-use Rattle.vx_registry.specs.Session.{Plugins, entry_in}
+use Rattle.vx_registry.specs.Meaning.{reader_in}
+use Rattle.vx_registry.specs.declared.array_session.ArraySession.{ArraySession}
 use Rattle.vx_registry.specs.declared.tables.Entry.{Entry}
 use Rattle.vx_registry.specs.declared.tables.Entry.TheVariants.{Shipped, Revised, Boxed}
 use Rattle.vx_serde.specs.declared.error.WireError.{WireError}
 use Rattle.vx_serde.specs.declared.error.WireError.TheVariants.{OutOfMemory, OutOfBounds, UnknownIndex, UnknownEncoding, BadMetadata, BadShape, BadContent, ForeignControl, BadStats, PluginRefused}
 use Rattle.vx_serde.specs.Causes.{RefusesWire}
 use Rattle.vx_serde.specs.ReadingSteps.{RefusesBuffers, RefusesKept, RefusesStats}
-use Rattle.vx_serde.specs.Decoding.{IsHeadOf, IsNodeOf, IsPastHead, PlansBy, RefusesPlan, head_over, BuildsBy, RefusesBuild, AllTell}
+use Rattle.vx_serde.specs.Decoding.{IsHeadOf, IsNodeOf, IsPastHead, PlansBy, RefusesPlan, head_over, BuildsBy, RefusesBuild}
 
 -- ---- children, one by one
 
@@ -66,8 +69,8 @@ places-snoc_suc (t ∷ ts) u (q ∷ ps) (suc i) p e g d n =
     λ j. a j ∷ places-snoc_suc ts u ps i p b g d n j
 
 -- One more child that tells the array of its place.
-pub told-snoc : (s : SessionMeaning) (ws : List Wire) (ps : List Place) (i : ℕ) (w : Wire) (p : Place) (us vs : Trees) (u : Tree) → i < length ws → AllTell s (roses_of (take i ws)) (take i ps) us
-    → w ≡ get_or ws i w → slice_get ps i ≡ Some p → Tells codec s w p.dtype p.len u → roses_list vs ≡ roses_list us ++ u ∷ [] → AllTell s (roses_of (take (i + 1) ws)) (take (i + 1) ps) vs
+pub told-snoc : (s : SessionMeaning) (ws : List Wire) (ps : List Place) (i : ℕ) (w : Wire) (p : Place) (us vs : Trees) (u : Tree) → i < length ws → AllTell codec s (roses_of (take i ws)) (take i ps) us
+    → w ≡ get_or ws i w → slice_get ps i ≡ Some p → Tells codec s w p.dtype p.len u → roses_list vs ≡ roses_list us ++ u ∷ [] → AllTell codec s (roses_of (take (i + 1) ws)) (take (i + 1) ps) vs
 told-snoc s ws ps i w p us vs u h k f g x e =
     let ts = roses_list us in
     let back = sym (roses_of-roses_list us) in
@@ -84,10 +87,10 @@ told-snoc s ws ps i w p us vs u h k f g x e =
     })
 
 -- All children.
-pub all_told : (s : SessionMeaning) (ws : List Wire) (ps : List Place) (us : Trees) (i : ℕ) → length ws ≤ i → length ps ≡ length ws → AllTell s (roses_of (take i ws)) (take i ps) us → AllTell s (roses_of ws) ps us
+pub all_told : (s : SessionMeaning) (ws : List Wire) (ps : List Place) (us : Trees) (i : ℕ) → length ws ≤ i → length ps ≡ length ws → AllTell codec s (roses_of (take i ws)) (take i ps) us → AllTell codec s (roses_of ws) ps us
 all_told s ws ps us i h same k =
-    let A : List Wire → Type 0 = λ z. AllTell s (roses_of z) (take i ps) us in
-    let B : List Place → Type 0 = λ z. AllTell s (roses_of ws) z us in
+    let A : List Wire → Type 0 = λ z. AllTell codec s (roses_of z) (take i ps) us in
+    let B : List Place → Type 0 = λ z. AllTell codec s (roses_of ws) z us in
     subst B (take_all i ps (omega (arith, h, same))) (subst A (take_all i ws h) k)
 
 -- ---- what is at a place of a list
@@ -97,12 +100,12 @@ enough_by : (r : Option PluginMeaning) (x : ExtMeaning) (h : ArrayHead) (ps : Li
 enough_by None x h ps ws w d n plan is own = absurd plan
 enough_by (Some p) x h ps ws w d n plan is own = p.one_each (head_in h) x ps plan ∙ is.children ∙ sym (ap (λ z. count z) own) ∙ count-roses_of ws
 
-pub enough : (f : Plugins) (e : Entry) (x : ExtMeaning) (h : ArrayHead) (ps : List Place) (ws : List Wire) (w : Wire) (d : Typ) (n : ℕ) → PlansBy x (entry_in f e) h ps → IsHeadOf h w d n → roses_of ws ≡ below w → length ps ≡ length ws
-enough f (Shipped e) x h ps ws w d n plan is own =
+pub enough : {Y : Type 0} {G : Y → Type 0} (means : DynBox Y Global G → PluginMeaning) (s : ArraySession Y G) (e : Entry) (x : ExtMeaning) (h : ArrayHead) (ps : List Place) (ws : List Wire) (w : Wire) (d : Typ) (n : ℕ) → PlansBy x (reader_in means s e) h ps → IsHeadOf h w d n → roses_of ws ≡ below w → length ps ≡ length ws
+enough means s (Shipped e) x h ps ws w d n plan is own =
     plan_length e (typ h.dtype) h.len plan.value h.nchildren ps plan.plan ∙ is.children ∙ sym (ap (λ z. count z) own) ∙ count-roses_of ws
-enough f Revised x h ps ws w d n plan is own =
+enough means s Revised x h ps ws w d n plan is own =
     plan_length Primitive (typ h.dtype) h.len plan.plan.value h.nchildren ps plan.plan.plan ∙ is.children ∙ sym (ap (λ z. count z) own) ∙ count-roses_of ws
-enough f (Boxed k) x h ps ws w d n plan is own = enough_by (f k) x h ps ws w d n plan is own
+enough means s (Boxed k) x h ps ws w d n plan is own = enough_by _ x h ps ws w d n plan is own
 
 pub get_past : {A : Type 0} (xs : List A) (i : ℕ) → i < length xs → slice_get xs i ≡ None → ⊥
 get_past [] i h g = absurd (omega (arith, h))
@@ -244,27 +247,20 @@ content_broken e d n v bs j k ts same x wrong =
     (record { body = x.body; body_is = x.body_is; holds = x.holds; allows = subst (λ (z : ℕ). Allows e d v z) same x.allows }, wrong)
 
 -- arrays that the children tell are a node's children
-children_of : (s : SessionMeaning) (w : Wire) (ws : List Wire) (ps : List Place) (ts : Trees) → roses_of ws ≡ below w → AllTell s (roses_of ws) ps ts → HasChildren codec s w ps ts
-children_of s w ws ps ts own told =
-    let A : Wires → Type 0 = λ z. AllMatch codec s z ts in
-    record { matched = subst A own told.matched; sound = told.sound; normal = told.normal; placed = told.placed }
-
--- a list of which nothing is missing is as long
-present_length : {A : Type 0} (xs : List A) → length (all_present xs) ≡ length xs
-present_length [] = refl
-present_length (x ∷ xs) = ap (λ n. suc n) (present_length xs)
+children_of : (s : SessionMeaning) (w : Wire) (ws : List Wire) (ps : List Place) (ts : Trees) → roses_of ws ≡ below w → AllTell codec s (roses_of ws) ps ts → HasChildren codec s w ps ts
+children_of s w ws ps ts own told = subst (λ z. AllTell codec s z ps ts) own told
 
 -- what is told to a plugin with the parts
 head_of_parts : (s : SessionMeaning) (w : Wire) (d : Typ) (n : ℕ) (id : List ℕ) (h : ArrayHead) (bs : List Buffer) (ts : Trees) → IsHeadOf h w d n → h.serialized_id ≡ id → (label w).buffers ≡ all_present bs → AllMatch codec s (below w) ts
     → head_over h bs ts ≡ head_at id (label w) (count (below w)) d n
 head_of_parts s w d n id h bs ts is named own matched =
     let k = matched_count codec s (below w) ts matched in
-    let b : length bs ≡ length (label w).buffers = sym (ap (λ z. length z) own ∙ present_length bs) in
+    let b : length bs ≡ length (label w).buffers = sym (ap (λ z. length z) own ∙ length-map bs (λ b. Some b)) in
     λ i. record { id = named i; dtype = is.dtype i; len = is.len i; metadata = is.metadata i; nbuffers = b i; nchildren = k i }
 
 -- what an encoding builds nothing of, after it has planned, by its refusal
 wrong_shape : (s : SessionMeaning) (w : Wire) (d : Typ) (n : ℕ) (e : Encodings.Encoding) (h : ArrayHead) (bs : List Buffer) (ws : List Wire) (ps : List Place) (ts : Trees) → IsHeadOf h w d n → IsOf s w e
-    → PlansChildren codec s.ext e (typ h.dtype) h.len h.metadata h.nchildren ps → (label w).buffers ≡ all_present bs → roses_of ws ≡ below w → AllTell s (roses_of ws) ps ts → HasWrongShape codec s.ext e (typ h.dtype) h.len h.metadata bs ts → RefusesWire s BadShape w d n
+    → PlansChildren codec s.ext e (typ h.dtype) h.len h.metadata h.nchildren ps → (label w).buffers ≡ all_present bs → roses_of ws ≡ below w → AllTell codec s (roses_of ws) ps ts → HasWrongShape codec s.ext e (typ h.dtype) h.len h.metadata bs ts → RefusesWire s BadShape w d n
 wrong_shape s w d n e h bs ws ps ts head by plan own own_children told c =
     let wrong = at_node (λ f m b k. HasWrongShape codec s.ext e f m b bs ts) h w d n head c in
     let plans = at_node (λ f m b k. PlansChildren codec s.ext e f m b k ps) h w d n head plan in
@@ -290,7 +286,7 @@ wrong_shape s w d n e h bs ws ps ts head by plan own own_children told c =
     )
 
 wrong_control : (s : SessionMeaning) (w : Wire) (d : Typ) (n : ℕ) (e : Encodings.Encoding) (h : ArrayHead) (bs : List Buffer) (ws : List Wire) (ps : List Place) (ts : Trees) → IsHeadOf h w d n → IsOf s w e
-    → PlansChildren codec s.ext e (typ h.dtype) h.len h.metadata h.nchildren ps → (label w).buffers ≡ all_present bs → roses_of ws ≡ below w → AllTell s (roses_of ws) ps ts → HasWrongControl codec s.ext e (typ h.dtype) h.len h.metadata ts → RefusesWire s ForeignControl w d n
+    → PlansChildren codec s.ext e (typ h.dtype) h.len h.metadata h.nchildren ps → (label w).buffers ≡ all_present bs → roses_of ws ≡ below w → AllTell codec s (roses_of ws) ps ts → HasWrongControl codec s.ext e (typ h.dtype) h.len h.metadata ts → RefusesWire s ForeignControl w d n
 wrong_control s w d n e h bs ws ps ts head by plan own own_children told c =
     let wrong = at_node (λ f m b k. HasWrongControl codec s.ext e f m b ts) h w d n head c in
     let plans = at_node (λ f m b k. PlansChildren codec s.ext e f m b k ps) h w d n head plan in
@@ -310,7 +306,7 @@ wrong_control s w d n e h bs ws ps ts head by plan own own_children told c =
     )
 
 wrong_content : (s : SessionMeaning) (w : Wire) (d : Typ) (n : ℕ) (e : Encodings.Encoding) (h : ArrayHead) (bs : List Buffer) (ws : List Wire) (ps : List Place) (ts : Trees) → IsHeadOf h w d n → IsOf s w e
-    → PlansChildren codec s.ext e (typ h.dtype) h.len h.metadata h.nchildren ps → (label w).buffers ≡ all_present bs → roses_of ws ≡ below w → AllTell s (roses_of ws) ps ts → HasWrongContent codec s.ext e (typ h.dtype) h.len h.metadata bs ts → RefusesWire s BadContent w d n
+    → PlansChildren codec s.ext e (typ h.dtype) h.len h.metadata h.nchildren ps → (label w).buffers ≡ all_present bs → roses_of ws ≡ below w → AllTell codec s (roses_of ws) ps ts → HasWrongContent codec s.ext e (typ h.dtype) h.len h.metadata bs ts → RefusesWire s BadContent w d n
 wrong_content s w d n e h bs ws ps ts head by plan own own_children told c =
     let wrong = at_node (λ f m b k. HasWrongContent codec s.ext e f m b bs ts) h w d n head c in
     let plans = at_node (λ f m b k. PlansChildren codec s.ext e f m b k ps) h w d n head plan in
@@ -337,7 +333,7 @@ wrong_content s w d n e h bs ws ps ts head by plan own own_children told c =
     )
 
 pub caused_by_build : (s : SessionMeaning) (x : WireError) (w : Wire) (d : Typ) (n : ℕ) (r : Option Reader) (h : ArrayHead) (bs : List Buffer) (ws : List Wire) (ps : List Place) (ts : Trees) → IsNodeOf s w d n r h
-    → PlansBy s.ext r h ps → (label w).buffers ≡ all_present bs → roses_of ws ≡ below w → AllTell s (roses_of ws) ps ts → RefusesBuild x s.ext r h bs ts → RefusesWire s x w d n
+    → PlansBy s.ext r h ps → (label w).buffers ≡ all_present bs → roses_of ws ≡ below w → AllTell codec s (roses_of ws) ps ts → RefusesBuild x s.ext r h bs ts → RefusesWire s x w d n
 caused_by_build s OutOfMemory w d n r h bs ws ps ts read plan own own_children told c = tt
 caused_by_build s BadShape w d n (Some (shipped e)) h bs ws ps ts read plan own own_children told c = wrong_shape s w d n e h bs ws ps ts read.head (own_encoding s w d n e h read) plan own own_children told c
 caused_by_build s BadShape w d n (Some revised) h bs ws ps ts read plan own own_children told c =
@@ -371,7 +367,7 @@ caused_by_build s _ w d n r h bs ws ps ts read plan own own_children told c = ab
 
 -- What is built is of the type that is asked.
 pub built_dtype : (s : SessionMeaning) (w : Wire) (d : Typ) (n : ℕ) (r : Option Reader) (h : ArrayHead) (bs : List Buffer) (ws : List Wire) (ps : List Place) (ts : Trees) (t : Tree) → IsNodeOf s w d n r h → PlansBy s.ext r h ps
-    → (label w).buffers ≡ all_present bs → roses_of ws ≡ below w → AllTell s (roses_of ws) ps ts → BuildsBy s.ext r h bs ts t → (label t).dtype ≡ d
+    → (label w).buffers ≡ all_present bs → roses_of ws ≡ below w → AllTell codec s (roses_of ws) ps ts → BuildsBy s.ext r h bs ts t → (label t).dtype ≡ d
 built_dtype s w d n None h bs ws ps ts t read plan own own_children told parts = absurd parts
 built_dtype s w d n (Some (shipped e)) h bs ws ps ts t read plan own own_children told parts = ap (λ (z : Tree). (label z).dtype) parts.tree_is ∙ read.head.dtype
 built_dtype s w d n (Some revised) h bs ws ps ts t read plan own own_children told parts = ap (λ (z : Tree). (label z).dtype) parts.tree_is ∙ read.head.dtype
@@ -390,7 +386,7 @@ caused_by_stats s _ w d n r h there read c = absurd c
 
 -- The node of parts that a plan has told, over children that tell arrays, with the statistics that it shows.
 pub told_node : (s : SessionMeaning) → IsLawful codec s → (w : Wire) (d : Typ) (n : ℕ) (r : Option Reader) (h : ArrayHead) (ps : List Place) (bs : List Buffer) (ws : List Wire) (ts : Trees) (t u : Tree) → IsNodeOf s w d n r h
-    → PlansBy s.ext r h ps → (label w).buffers ≡ all_present bs → roses_of ws ≡ below w → AllTell s (roses_of ws) ps ts → BuildsBy s.ext r h bs ts t → IsSound t
+    → PlansBy s.ext r h ps → (label w).buffers ≡ all_present bs → roses_of ws ≡ below w → AllTell codec s (roses_of ws) ps ts → BuildsBy s.ext r h bs ts t → IsSound t
     → IsToldBy codec d (label w).stats t u → Tells codec s w d n u
 told_node s law (node w below) d n None h ps bs ws ts t u read plan own own_children told parts sound stats = absurd parts
 told_node s law (node w below) d n (Some (shipped e)) h ps bs ws ts t u read plan own own_children told parts sound stats =

@@ -20,7 +20,7 @@ use Rattle.vx_wire_tree.specs.Plugin.{PluginMeaning, Parts, Answer, none, refuse
 use Rattle.vx_wire_tree.specs.Session.{SessionMeaning, Reader, shipped, revised, plugin, IsShipped}
 use Rattle.vx_wire_tree.specs.Taken.{Step, written, unwritten, Unwritten, unregistered, unserializable, undeclared, unwilling, IsWrittenStep, given_head, foreign_step, plugin_step, writer_step, step_by, step, step_head, step_below, each, Each, Any, taken, IsTaken, HasUntaken}
 use Rattle.vx_wire_tree.specs.ReadBack.{IsWritten}
-use Rattle.vx_wire_tree.proofs.Laws.{taken_own, never_untaken}
+use Rattle.vx_wire_tree.proofs.Laws.{places_taken, taken_own, never_untaken}
 use Rattle.vx_wire_tree.proofs.Laws as laws
 use Rattle.vx_encodings.specs.Messages.{codec, message_bytes}
 use Rattle.vx_wire_tree.specs.Written.{head_id}
@@ -38,45 +38,7 @@ use Rattle.vx_serde.specs.declared.taken.GivenParts.{GivenParts}
 use Rattle.vx_serde.specs.Taking.{as_written, own_parts, taken_head, StandsAs, RefusesStep, RefusesTaking, RefusesOneOf}
 use Rattle.vx_serde.proofs.WiredNodes.{wired-levels}
 
--- Where a node stands.
-abbrev at : Head → Place
-at h = place h.dtype h.len
-
 module _ (s : SessionMeaning) where
-  -- ---- places
-
-  foreign_at : (b : Bool) (h : Head) (ts : Trees) → at (step_head (foreign_step b h ts) h) ≡ at h
-  foreign_at true h ts = refl
-  foreign_at false h ts = refl
-
-  declared_at : (b : Bool) (h : Head) (y : Parts) → at (step_head (if b then written (given_head h y) y.children else unwritten undeclared) h) ≡ at h
-  declared_at true h y = refl
-  declared_at false h y = refl
-
-  plugin_at : (p : PluginMeaning) (h : Head) (a : Answer) → at (step_head (plugin_step p h a) h) ≡ at h
-  plugin_at p h none = refl
-  plugin_at p h refused = refl
-  plugin_at p h (given y) = declared_at (list_any (bytes_eq y.id) p.declared) h y
-
-  writer_at : (r : Option Reader) (h : Head) (ts : Trees) → at (step_head (writer_step r h ts) h) ≡ at h
-  writer_at None h ts = refl
-  writer_at (Some (shipped e)) h ts = refl
-  writer_at (Some revised) h ts = refl
-  writer_at (Some (plugin p)) h ts = plugin_at p h (p.serialize (node h ts))
-
-  body_at : (b : Body) (h : Head) (ts : Trees) → at (step_head (step_by s b h ts) h) ≡ at h
-  body_at (B.foreign x) h ts = foreign_at s.ext.unknown h ts
-  body_at _ h ts = writer_at (s.writer _) h ts
-
-  place_taken : (n : ℕ) (t : Tree) → at (label (taken s n t)) ≡ at (label t)
-  place_taken zero (node h ts) = body_at h.body h ts
-  place_taken (suc n) (node h ts) = body_at h.body h ts
-
-  -- What is written stands where the arrays do.
-  pub places_taken : (n : ℕ) (ts : Trees) → places (each (taken s n) ts) ≡ places ts
-  places_taken n end = refl
-  places_taken n (more t ts) = λ i. place_taken n t i ∷ places_taken n ts i
-
   pub message_by_places : (h : Head) (us ts : Trees) → places us ≡ places ts → HasMessage h us → HasMessage h ts
   message_by_places h us ts e m = subst (λ ps. FitsMessage (metadata_of h.body ps)) e m
 
@@ -96,7 +58,7 @@ module _ (s : SessionMeaning) where
     pub large_root : (HasMessage h ts → ⊥) → RefusesTaking s (suc n) t WireLimit
     large_root k = inr (λ m.
         let own = subst (λ z. HasMessages z) taken_is m in
-        k (message_by_places h (each (taken s n) ts) ts (places_taken n ts) own.0))
+        k (message_by_places h (each (taken s n) ts) ts (places_taken s n ts) own.0))
 
     untaken_below : (why : Unwritten) → Any (λ u. HasUntaken s n why u) ts → HasUntaken s (suc n) why t
     untaken_below why k = inr (subst (λ x. Any (λ u. HasUntaken s n why u) (step_below x)) (sym e) k)

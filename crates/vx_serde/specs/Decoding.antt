@@ -1,22 +1,18 @@
--- How a node of a wire tree is read, and what its children tell.
+-- How a node of a wire tree is read.
 use Rattle.std.specs.Prelude.{ℕ, ◌≡◌, ◌⊎◌, List, Option, Some, None, IsTrue, IsFalse, length}
 use Rattle.vx_buffer.specs.Buffer.{Buffer}
-use Rattle.vx_trees.specs.Everywhere.{EverywhereBelow}
 use Rattle.vx_trees.specs.Rose.{label, below, count}
 use Rattle.vx_types.specs.Known.{ExtMeaning}
 use Rattle.vx_types.specs.Seen.{typ}
 use Rattle.vx_types.specs.Typ.{Typ}
 use Rattle.vx_array_tree.specs.Encoding as E
-use Rattle.vx_array_tree.specs.Normal.{IsNormalNode}
 use Rattle.vx_array_tree.specs.Place.{Place}
-use Rattle.vx_array_tree.specs.Sound.{IsSoundNode}
-use Rattle.vx_array_tree.specs.Tree.{Tree, Trees, places}
-use Rattle.vx_wire_tree.specs.Matches.{AllMatch}
+use Rattle.vx_array_tree.specs.Tree.{Tree, Trees}
 use Rattle.vx_wire_tree.specs.Plugin.{NodeHead}
 use Rattle.vx_wire_tree.specs.Revised.{revised_holds}
-use Rattle.vx_wire_tree.specs.Session.{SessionMeaning, Reader, shipped, revised, plugin, IsShipped}
+use Rattle.vx_wire_tree.specs.Session.{SessionMeaning, Reader, shipped, revised, plugin}
 use Rattle.vx_wire_tree.specs.Steps.{HasNoMetadata, PlansChildren, HasNoPlan, HasParts, HasWrongShape, HasWrongControl, HasWrongContent}
-use Rattle.vx_wire_tree.specs.Wire.{Wire, Wires}
+use Rattle.vx_wire_tree.specs.Wire.{Wire}
 use Rattle.vx_encodings.specs.Messages.{codec}
 use Rattle.vx_encodings.specs.declared.head.ArrayHead.{ArrayHead}
 use Rattle.vx_registry.specs.Plugin.{head_in}
@@ -98,10 +94,3 @@ RefusesBuild _ x r h bs ts = ⊥
 abbrev pub refusal_of : PluginError → WireError
 refusal_of plugins.OutOfMemory = OutOfMemory
 refusal_of plugins.Refused = PluginRefused
-
--- Wire trees tell arrays one by one, each at its place. These are normal, where no plugin reads or writes.
-pub record AllTell (s : SessionMeaning) (ws : Wires) (ps : List Place) (ts : Trees) : Type 0 where
-  pub matched : AllMatch codec s ws ts
-  pub sound : EverywhereBelow IsSoundNode ts
-  pub normal : IsShipped s → EverywhereBelow IsNormalNode ts
-  pub placed : places ts ≡ ps

@@ -1,7 +1,6 @@
 //! From a serialized array to the array that it tells.
 
-ghost use Rattle.std.specs.Prelude.{◌≡◌, List, ℕ, Some, None, bytes_eq, IfOk, IfErr, OnOk, IsOkUnless, IsSome};
-ghost use Rattle.std.specs.Map.{lookup};
+ghost use Rattle.std.specs.Prelude.{◌≡◌, List, ℕ, Some, None, IfOk, IfErr, OnOk, IsOkUnless, IsSome};
 ghost use Rattle.vx_trees.specs.Rose.{label};
 ghost use Rattle.vx_types.specs.Seen.{typ};
 ghost use Rattle.vx_scalars.specs.Stats.{FitStats};
@@ -14,8 +13,7 @@ ghost use Rattle.vx_wire_tree.specs.Tells.{Tells};
 ghost use Rattle.vx_wire_tree.specs.Wire.{all_present};
 ghost use Rattle.vx_scalar_wire.specs.StatsShown.{ShowsStatsIn};
 ghost use Rattle.vx_encodings.specs.Messages.{codec};
-ghost use Rattle.vx_registry.specs.Meaning.{plugins_meaning, session_meaning};
-ghost use Rattle.vx_registry.specs.Session.{entry_in};
+ghost use Rattle.vx_registry.specs.Meaning.{reader_in, session_meaning};
 ghost use Rattle.vx_serde.specs.Causes.{RefusesWire};
 ghost use Rattle.vx_serde.specs.Decoding.{IsHeadOf, IsNodeOf, PlansBy};
 ghost use Rattle.vx_serde.specs.ReadingSteps.{RefusesBuffers, RefusesStats, stats_refusal};
@@ -104,14 +102,14 @@ fn plan_node(
     ext: &Readers,
 ) -> Result<PlannedNode, WireError>
     requires lent { lent_meaning (λ r. accepted r.now) ext.now ≡ ext_meaning (λ b. accepted (b.vtable, b.value)) session.now.ext }
-    requires within { IsSome (entry_in (plugins_meaning (λ b. means (b.vtable, b.value)) session.now.arrays.plugins.items) entry) }
+    requires within { IsSome (reader_in (λ b. means (b.vtable, b.value)) session.now.arrays entry) }
     ensures read { let s = session_meaning (λ b. means (b.vtable, b.value)) (λ b. accepted (b.vtable, b.value)) session.now in
-        (ids : List (List ℕ)) → (label (wire_in ids node.now)).id ≡ Some id.now → s.reader id.now ≡ entry_in (plugins_meaning (λ b. means (b.vtable, b.value)) session.now.arrays.plugins.items) entry
-        → IfOk result (λ p. IsNodeOf s (wire_in ids node.now) (typ dtype.now) len (entry_in (plugins_meaning (λ b. means (b.vtable, b.value)) session.now.arrays.plugins.items) entry) p.head) }
+        (ids : List (List ℕ)) → (label (wire_in ids node.now)).id ≡ Some id.now → s.reader id.now ≡ reader_in (λ b. means (b.vtable, b.value)) session.now.arrays entry
+        → IfOk result (λ p. IsNodeOf s (wire_in ids node.now) (typ dtype.now) len (reader_in (λ b. means (b.vtable, b.value)) session.now.arrays entry) p.head) }
     ensures planned { let s = session_meaning (λ b. means (b.vtable, b.value)) (λ b. accepted (b.vtable, b.value)) session.now in
-        IfOk result (λ p. PlansBy s.ext (entry_in (plugins_meaning (λ b. means (b.vtable, b.value)) session.now.arrays.plugins.items) entry) p.head p.children) }
+        IfOk result (λ p. PlansBy s.ext (reader_in (λ b. means (b.vtable, b.value)) session.now.arrays entry) p.head p.children) }
     ensures cause { let s = session_meaning (λ b. means (b.vtable, b.value)) (λ b. accepted (b.vtable, b.value)) session.now in
-        (ids : List (List ℕ)) → (label (wire_in ids node.now)).id ≡ Some id.now → s.reader id.now ≡ entry_in (plugins_meaning (λ b. means (b.vtable, b.value)) session.now.arrays.plugins.items) entry
+        (ids : List (List ℕ)) → (label (wire_in ids node.now)).id ≡ Some id.now → s.reader id.now ≡ reader_in (λ b. means (b.vtable, b.value)) session.now.arrays entry
         → IfErr result (λ e. RefusesWire s e (wire_in ids node.now) (typ dtype.now) len) }
 {
     let head = head_of(alloc, node, id, dtype, len)?;
@@ -201,7 +199,8 @@ fn unread_node(
     session: &VortexSession,
 ) -> Result<Array, WireError>
     requires named { (label (wire_in ids.now node.now)).id ≡ Some id.now }
-    requires unread { lookup (bytes_eq id.now) session.now.arrays.tables.readers ≡ None }
+    requires unread { let s = session_meaning (λ b. means (b.vtable, b.value)) (λ b. accepted (b.vtable, b.value)) session.now in
+        s.reader id.now ≡ None }
     ensures told { let s = session_meaning (λ b. means (b.vtable, b.value)) (λ b. accepted (b.vtable, b.value)) session.now in
         IfOk result (λ t. Tells codec s (wire_in ids.now node.now) (typ dtype.now) len t) }
     ensures cause { let s = session_meaning (λ b. means (b.vtable, b.value)) (λ b. accepted (b.vtable, b.value)) session.now in

@@ -6,8 +6,7 @@ ghost use Rattle.vx_type_wire.specs.Session.{ext_meaning};
 ghost use Rattle.vx_array_tree.specs.Sound.{IsSound};
 ghost use Rattle.vx_array_tree.specs.Tree.{places};
 ghost use Rattle.vx_wire_tree.specs.Revised.{revised_holds as holds};
-ghost use Rattle.vx_registry.specs.Meaning.{plugins_meaning, session_meaning};
-ghost use Rattle.vx_registry.specs.Session.{entry_in};
+ghost use Rattle.vx_registry.specs.Meaning.{reader_in, session_meaning};
 ghost use Rattle.vx_serde.specs.Decoding.{PlansBy, RefusesPlan, BuildsBy, RefusesBuild, refusal_of};
 
 use crate::error::WireError;
@@ -29,11 +28,11 @@ pub(crate) fn plan_entry(
     ext: &Readers,
 ) -> Result<ChildPlans, WireError>
     requires lent { lent_meaning (λ r. accepted r.now) ext.now ≡ ext_meaning (λ b. accepted (b.vtable, b.value)) session.now.ext }
-    requires within { IsSome (entry_in (plugins_meaning (λ b. means (b.vtable, b.value)) session.now.arrays.plugins.items) entry) }
+    requires within { IsSome (reader_in (λ b. means (b.vtable, b.value)) session.now.arrays entry) }
     ensures plan { let s = session_meaning (λ b. means (b.vtable, b.value)) (λ b. accepted (b.vtable, b.value)) session.now in
-        IfOk result (λ ps. PlansBy s.ext (entry_in (plugins_meaning (λ b. means (b.vtable, b.value)) session.now.arrays.plugins.items) entry) head.now ps) }
+        IfOk result (λ ps. PlansBy s.ext (reader_in (λ b. means (b.vtable, b.value)) session.now.arrays entry) head.now ps) }
     ensures cause { let s = session_meaning (λ b. means (b.vtable, b.value)) (λ b. accepted (b.vtable, b.value)) session.now in
-        IfErr result (λ e. RefusesPlan e s.ext (entry_in (plugins_meaning (λ b. means (b.vtable, b.value)) session.now.arrays.plugins.items) entry) head.now) }
+        IfErr result (λ e. RefusesPlan e s.ext (reader_in (λ b. means (b.vtable, b.value)) session.now.arrays entry) head.now) }
 {
     match entry {
         Entry::Shipped(encoding) => match plan(alloc, encoding, head, &session.ext) {
@@ -65,14 +64,14 @@ pub(crate) fn build_entry(
     ext: &Readers,
 ) -> Result<Array, WireError>
     requires lent { lent_meaning (λ r. accepted r.now) ext.now ≡ ext_meaning (λ b. accepted (b.vtable, b.value)) session.now.ext }
-    requires within { IsSome (entry_in (plugins_meaning (λ b. means (b.vtable, b.value)) session.now.arrays.plugins.items) entry) }
+    requires within { IsSome (reader_in (λ b. means (b.vtable, b.value)) session.now.arrays entry) }
     requires planned { let s = session_meaning (λ b. means (b.vtable, b.value)) (λ b. accepted (b.vtable, b.value)) session.now in
-        PlansBy s.ext (entry_in (plugins_meaning (λ b. means (b.vtable, b.value)) session.now.arrays.plugins.items) entry) head (places children) }
+        PlansBy s.ext (reader_in (λ b. means (b.vtable, b.value)) session.now.arrays entry) head (places children) }
     ensures built { let s = session_meaning (λ b. means (b.vtable, b.value)) (λ b. accepted (b.vtable, b.value)) session.now in
-        IfOk result (λ t. BuildsBy s.ext (entry_in (plugins_meaning (λ b. means (b.vtable, b.value)) session.now.arrays.plugins.items) entry) head buffers children t) }
+        IfOk result (λ t. BuildsBy s.ext (reader_in (λ b. means (b.vtable, b.value)) session.now.arrays entry) head buffers children t) }
     ensures sound { IfOk result IsSound }
     ensures cause { let s = session_meaning (λ b. means (b.vtable, b.value)) (λ b. accepted (b.vtable, b.value)) session.now in
-        IfErr result (λ e. RefusesBuild e s.ext (entry_in (plugins_meaning (λ b. means (b.vtable, b.value)) session.now.arrays.plugins.items) entry) head buffers children) }
+        IfErr result (λ e. RefusesBuild e s.ext (reader_in (λ b. means (b.vtable, b.value)) session.now.arrays entry) head buffers children) }
 {
     match entry {
         Entry::Shipped(encoding) => match build(

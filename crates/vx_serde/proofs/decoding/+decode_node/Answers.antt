@@ -1,14 +1,12 @@
-use Rattle.std.proofs.Common.{◌≤◌, List, length, arith, sym, ap, refl, subst}
-use Rattle.std.specs.Prelude.{option_and_then}
+use Rattle.std.proofs.Common.{◌≤◌, List, length, arith, sym, refl, subst}
 use Rattle.std.proofs.lemmas.Option.{slice_get_within, get_or_from_slice_get}
 use Rattle.vx_trees.specs.Rose.{below, roses_list}
 use Rattle.vx_trees.proofs.Lists.{roses_of-roses_list}
 use Rattle.vx_types.specs.Seen.{typ}
 use Rattle.vx_type_wire.specs.Session.{ext_meaning}
 use Rattle.vx_array_tree.specs.Place.{Place}
-use Rattle.vx_registry.specs.Meaning.{plugins_meaning, session_meaning}
-use Rattle.vx_registry.specs.Session.{entry_in}
-use Rattle.vx_registry.proofs.LawsSessions.{registry_lawful}
+use Rattle.vx_registry.specs.Meaning.{reader_in, session_meaning}
+use Rattle.vx_registry.proofs.LawsSessions.{session_lawful}
 use Rattle.vx_serde.specs.Decoding.{PlansBy}
 use Rattle.vx_serde.specs.Serialized.{wire_in}
 use Rattle.vx_serde.specs.contracts.decoding.decode_node.{dyn-1-ghosts, dyn-2-ghosts}
@@ -19,10 +17,12 @@ use Rattle.vx_serde.proofs.decoding.+decode_node.Goals as goal
 
 pub returns-in-Err-clause-cause : goal.returns-in-Err-clause-cause
 returns-in-Err-clause-cause g t c =
-    let f = plugins_meaning (λ b. ((dyn-2-ghosts g.dyn-2 g.dyn-1).0.entry b.vtable).1.means b.value) c.args.session.now.arrays.plugins.items in
+    let s = session_meaning (λ b. ((dyn-2-ghosts g.dyn-2 g.dyn-1).0.entry b.vtable).1.means b.value) (λ b. ((dyn-1-ghosts g.dyn-2 g.dyn-1).0.entry b.vtable).1.accepted b.value) c.args.session.now in
     let named = wire-named c.args.ids.now c.args.node.now _ _ c.encoding_id.ensures c.in-Some.ensures in
-    let found = ap (λ z. option_and_then (entry_in f) z) (sym c.in-Some-reader.ensures.found) in
-    c.in-Err.ensures.cause c.args.ids.now named found
+    c.in-Err.ensures.cause c.args.ids.now named (c.in-Some-reader.ensures.found s.ext)
+
+pub unread_node-requires-clause-unread : goal.unread_node-requires-clause-unread
+unread_node-requires-clause-unread g t c = c.in_default-reader.ensures.found (ext_meaning (λ b. ((dyn-1-ghosts g.dyn-2 g.dyn-1).0.entry b.vtable).1.accepted b.value) c.args.session.now.ext)
 
 pub returns-in_default-reader-clause-paired : goal.returns-in_default-reader-clause-paired
 returns-in_default-reader-clause-paired g t c = ok_of c.unread_node.result _ (c.in_default-reader.ensures.paired (ext_meaning (λ b. ((dyn-1-ghosts g.dyn-2 g.dyn-1).0.entry b.vtable).1.accepted b.value) c.args.session.now.ext))
@@ -32,17 +32,15 @@ loop-i-init g t c = rw c.new-children.ensures (record { matched = refl; sound = 
 
 pub unreachable-requires : goal.unreachable-requires
 unreachable-requires g t c =
-    let x = ext_meaning (λ b. ((dyn-1-ghosts g.dyn-2 g.dyn-1).0.entry b.vtable).1.accepted b.value) c.args.session.now.ext in
-    let f = plugins_meaning (λ b. ((dyn-2-ghosts g.dyn-2 g.dyn-1).0.entry b.vtable).1.means b.value) c.args.session.now.arrays.plugins.items in
+    let s = session_meaning (λ b. ((dyn-2-ghosts g.dyn-2 g.dyn-1).0.entry b.vtable).1.means b.value) (λ b. ((dyn-1-ghosts g.dyn-2 g.dyn-1).0.entry b.vtable).1.accepted b.value) c.args.session.now in
     let w = wire_in c.args.ids.now c.args.node.now in
-    let entry = c.in-Some-reader.entry in
-    let named = wire-named c.args.ids.now c.args.node.now _ _ c.encoding_id.ensures c.in-Some.ensures in
-    let found = ap (λ z. option_and_then (entry_in f) z) (sym c.in-Some-reader.ensures.found) in
+    let r = reader_in (λ b. ((dyn-2-ghosts g.dyn-2 g.dyn-1).0.entry b.vtable).1.means b.value) c.args.session.now.arrays c.in-Some-reader.entry in
     let node = c.in-Ok.planned in
-    let read = c.in-Ok.ensures.read c.args.ids.now named found in
+    let named = wire-named c.args.ids.now c.args.node.now _ _ c.encoding_id.ensures c.in-Some.ensures in
+    let read = c.in-Ok.ensures.read c.args.ids.now named (c.in-Some-reader.ensures.found s.ext) in
     let nodes = roses_list (below w) in
     let kids = roses_of-roses_list (below w) in
-    let same = enough f entry x node.head node.children nodes w (typ c.args.dtype.now) c.args.len c.in-Ok.ensures.planned read.head kids in
+    let same = enough (λ b. ((dyn-2-ghosts g.dyn-2 g.dyn-1).0.entry b.vtable).1.means b.value) c.args.session.now.arrays c.in-Some-reader.entry s.ext node.head node.children nodes w (typ c.args.dtype.now) c.args.len c.in-Ok.ensures.planned read.head kids in
     get_past node.children c.loop-i.i (omega (arith, same, wire-length c.args.ids.now c.args.node.now, c.nchildren-i-end.ensures, c.loop-i-test.true)) (sym c.in_default-get.ensures)
 
 pub decode_node-requires : goal.decode_node-requires
@@ -51,15 +49,13 @@ decode_node-requires g t c = (omega (arith, child-smaller c.args.node.now c.loop
 pub returns-in-Err-decode_node-clause-cause : goal.returns-in-Err-decode_node-clause-cause
 returns-in-Err-decode_node-clause-cause g t c =
     let s = session_meaning (λ b. ((dyn-2-ghosts g.dyn-2 g.dyn-1).0.entry b.vtable).1.means b.value) (λ b. ((dyn-1-ghosts g.dyn-2 g.dyn-1).0.entry b.vtable).1.accepted b.value) c.args.session.now in
-    let f = plugins_meaning (λ b. ((dyn-2-ghosts g.dyn-2 g.dyn-1).0.entry b.vtable).1.means b.value) c.args.session.now.arrays.plugins.items in
     let w = wire_in c.args.ids.now c.args.node.now in
-    let entry = c.in-Some-reader.entry in
-    let named = wire-named c.args.ids.now c.args.node.now _ _ c.encoding_id.ensures c.in-Some.ensures in
-    let found = ap (λ z. option_and_then (entry_in f) z) (sym c.in-Some-reader.ensures.found) in
+    let r = reader_in (λ b. ((dyn-2-ghosts g.dyn-2 g.dyn-1).0.entry b.vtable).1.means b.value) c.args.session.now.arrays c.in-Some-reader.entry in
     let node = c.in-Ok.planned in
-    let read = c.in-Ok.ensures.read c.args.ids.now named found in
+    let named = wire-named c.args.ids.now c.args.node.now _ _ c.encoding_id.ensures c.in-Some.ensures in
+    let read = c.in-Ok.ensures.read c.args.ids.now named (c.in-Some-reader.ensures.found s.ext) in
     let child = wire_in c.args.ids.now c.child-below.result in
-    let plan = planned s w (typ c.args.dtype.now) c.args.len (entry_in f entry) node.head node.children read c.in-Ok.ensures.planned in
+    let plan = planned s w (typ c.args.dtype.now) c.args.len r node.head node.children read c.in-Ok.ensures.planned in
     caused_by_child s c.in-Err-decode_node.e w (typ c.args.dtype.now) c.args.len (roses_list (below w)) node.children c.loop-i.i child _ plan (roses_of-roses_list (below w))
     (wire-child c.args.ids.now c.args.node.now c.loop-i.i c.child-below.result c.child-below.ensures) (sym c.in-Some-get.ensures) c.in-Err-decode_node.ensures.cause
 
@@ -79,60 +75,51 @@ returns-in-Err-own_buffers-clause-cause g t c =
 
 pub build_entry-requires-clause-planned : goal.build_entry-requires-clause-planned
 build_entry-requires-clause-planned g t c =
-    let x = ext_meaning (λ b. ((dyn-1-ghosts g.dyn-2 g.dyn-1).0.entry b.vtable).1.accepted b.value) c.args.session.now.ext in
     let s = session_meaning (λ b. ((dyn-2-ghosts g.dyn-2 g.dyn-1).0.entry b.vtable).1.means b.value) (λ b. ((dyn-1-ghosts g.dyn-2 g.dyn-1).0.entry b.vtable).1.accepted b.value) c.args.session.now in
-    let f = plugins_meaning (λ b. ((dyn-2-ghosts g.dyn-2 g.dyn-1).0.entry b.vtable).1.means b.value) c.args.session.now.arrays.plugins.items in
     let w = wire_in c.args.ids.now c.args.node.now in
-    let entry = c.in-Some-reader.entry in
-    let named = wire-named c.args.ids.now c.args.node.now _ _ c.encoding_id.ensures c.in-Some.ensures in
-    let found = ap (λ z. option_and_then (entry_in f) z) (sym c.in-Some-reader.ensures.found) in
+    let r = reader_in (λ b. ((dyn-2-ghosts g.dyn-2 g.dyn-1).0.entry b.vtable).1.means b.value) c.args.session.now.arrays c.in-Some-reader.entry in
     let node = c.in-Ok.planned in
-    let read = c.in-Ok.ensures.read c.args.ids.now named found in
+    let named = wire-named c.args.ids.now c.args.node.now _ _ c.encoding_id.ensures c.in-Some.ensures in
+    let read = c.in-Ok.ensures.read c.args.ids.now named (c.in-Some-reader.ensures.found s.ext) in
     let nodes = roses_list (below w) in
     let kids = roses_of-roses_list (below w) in
-    let same = enough f entry x node.head node.children nodes w (typ c.args.dtype.now) c.args.len c.in-Ok.ensures.planned read.head kids in
+    let same = enough (λ b. ((dyn-2-ghosts g.dyn-2 g.dyn-1).0.entry b.vtable).1.means b.value) c.args.session.now.arrays c.in-Some-reader.entry s.ext node.head node.children nodes w (typ c.args.dtype.now) c.args.len c.in-Ok.ensures.planned read.head kids in
     let past : length nodes ≤ c.loop-i.i = omega (arith, wire-length c.args.ids.now c.args.node.now, c.nchildren-i-end.ensures, c.loop-i-test.false) in
     let told = all_told s nodes node.children c.loop-i.children c.loop-i.i past same c.loop-i.invariant in
-    subst (λ (ps : List Place). PlansBy x (entry_in f entry) node.head ps) (sym told.placed) c.in-Ok.ensures.planned
+    subst (λ (ps : List Place). PlansBy s.ext r node.head ps) (sym told.placed) c.in-Ok.ensures.planned
 
 -- What was built is of the type that is asked, and is told with its statistics.
 pub tell-requires : goal.tell-requires
 tell-requires g t c =
-    let x = ext_meaning (λ b. ((dyn-1-ghosts g.dyn-2 g.dyn-1).0.entry b.vtable).1.accepted b.value) c.args.session.now.ext in
     let s = session_meaning (λ b. ((dyn-2-ghosts g.dyn-2 g.dyn-1).0.entry b.vtable).1.means b.value) (λ b. ((dyn-1-ghosts g.dyn-2 g.dyn-1).0.entry b.vtable).1.accepted b.value) c.args.session.now in
-    let f = plugins_meaning (λ b. ((dyn-2-ghosts g.dyn-2 g.dyn-1).0.entry b.vtable).1.means b.value) c.args.session.now.arrays.plugins.items in
     let w = wire_in c.args.ids.now c.args.node.now in
-    let entry = c.in-Some-reader.entry in
-    let named = wire-named c.args.ids.now c.args.node.now _ _ c.encoding_id.ensures c.in-Some.ensures in
-    let found = ap (λ z. option_and_then (entry_in f) z) (sym c.in-Some-reader.ensures.found) in
+    let r = reader_in (λ b. ((dyn-2-ghosts g.dyn-2 g.dyn-1).0.entry b.vtable).1.means b.value) c.args.session.now.arrays c.in-Some-reader.entry in
     let node = c.in-Ok.planned in
-    let read = c.in-Ok.ensures.read c.args.ids.now named found in
+    let named = wire-named c.args.ids.now c.args.node.now _ _ c.encoding_id.ensures c.in-Some.ensures in
+    let read = c.in-Ok.ensures.read c.args.ids.now named (c.in-Some-reader.ensures.found s.ext) in
     let nodes = roses_list (below w) in
     let kids = roses_of-roses_list (below w) in
-    let same = enough f entry x node.head node.children nodes w (typ c.args.dtype.now) c.args.len c.in-Ok.ensures.planned read.head kids in
+    let same = enough (λ b. ((dyn-2-ghosts g.dyn-2 g.dyn-1).0.entry b.vtable).1.means b.value) c.args.session.now.arrays c.in-Some-reader.entry s.ext node.head node.children nodes w (typ c.args.dtype.now) c.args.len c.in-Ok.ensures.planned read.head kids in
     let past : length nodes ≤ c.loop-i.i = omega (arith, wire-length c.args.ids.now c.args.node.now, c.nchildren-i-end.ensures, c.loop-i-test.false) in
     let told = all_told s nodes node.children c.loop-i.children c.loop-i.i past same c.loop-i.invariant in
-    built_dtype s w (typ c.args.dtype.now) c.args.len (entry_in f entry) node.head c.in-Ok-own_buffers.buffers nodes node.children c.loop-i.children c.in-Ok-build_entry.array read c.in-Ok.ensures.planned (c.in-Ok-own_buffers.ensures.ok c.args.ids.now) kids told
+    built_dtype s w (typ c.args.dtype.now) c.args.len r node.head c.in-Ok-own_buffers.buffers nodes node.children c.loop-i.children c.in-Ok-build_entry.array read c.in-Ok.ensures.planned (c.in-Ok-own_buffers.ensures.ok c.args.ids.now) kids told
     c.in-Ok-build_entry.ensures.built
 
 pub returns-in-Ok-build_entry-clause-told : goal.returns-in-Ok-build_entry-clause-told
 returns-in-Ok-build_entry-clause-told g t c =
-    let x = ext_meaning (λ b. ((dyn-1-ghosts g.dyn-2 g.dyn-1).0.entry b.vtable).1.accepted b.value) c.args.session.now.ext in
     let s = session_meaning (λ b. ((dyn-2-ghosts g.dyn-2 g.dyn-1).0.entry b.vtable).1.means b.value) (λ b. ((dyn-1-ghosts g.dyn-2 g.dyn-1).0.entry b.vtable).1.accepted b.value) c.args.session.now in
-    let f = plugins_meaning (λ b. ((dyn-2-ghosts g.dyn-2 g.dyn-1).0.entry b.vtable).1.means b.value) c.args.session.now.arrays.plugins.items in
     let w = wire_in c.args.ids.now c.args.node.now in
-    let entry = c.in-Some-reader.entry in
-    let named = wire-named c.args.ids.now c.args.node.now _ _ c.encoding_id.ensures c.in-Some.ensures in
-    let found = ap (λ z. option_and_then (entry_in f) z) (sym c.in-Some-reader.ensures.found) in
+    let r = reader_in (λ b. ((dyn-2-ghosts g.dyn-2 g.dyn-1).0.entry b.vtable).1.means b.value) c.args.session.now.arrays c.in-Some-reader.entry in
     let node = c.in-Ok.planned in
-    let read = c.in-Ok.ensures.read c.args.ids.now named found in
+    let named = wire-named c.args.ids.now c.args.node.now _ _ c.encoding_id.ensures c.in-Some.ensures in
+    let read = c.in-Ok.ensures.read c.args.ids.now named (c.in-Some-reader.ensures.found s.ext) in
     let nodes = roses_list (below w) in
     let kids = roses_of-roses_list (below w) in
-    let same = enough f entry x node.head node.children nodes w (typ c.args.dtype.now) c.args.len c.in-Ok.ensures.planned read.head kids in
+    let same = enough (λ b. ((dyn-2-ghosts g.dyn-2 g.dyn-1).0.entry b.vtable).1.means b.value) c.args.session.now.arrays c.in-Some-reader.entry s.ext node.head node.children nodes w (typ c.args.dtype.now) c.args.len c.in-Ok.ensures.planned read.head kids in
     let past : length nodes ≤ c.loop-i.i = omega (arith, wire-length c.args.ids.now c.args.node.now, c.nchildren-i-end.ensures, c.loop-i-test.false) in
     let told = all_told s nodes node.children c.loop-i.children c.loop-i.i past same c.loop-i.invariant in
     if_ok c.tell.result _ _
-    (λ u y. told_node s (registry_lawful f c.args.session.now.arrays.tables x) w (typ c.args.dtype.now) c.args.len (entry_in f entry) node.head node.children c.in-Ok-own_buffers.buffers nodes c.loop-i.children c.in-Ok-build_entry.array u read c.in-Ok.ensures.planned
+    (λ u y. told_node s (session_lawful (λ b. ((dyn-2-ghosts g.dyn-2 g.dyn-1).0.entry b.vtable).1.means b.value) c.args.session.now.arrays s.ext) w (typ c.args.dtype.now) c.args.len r node.head node.children c.in-Ok-own_buffers.buffers nodes c.loop-i.children c.in-Ok-build_entry.array u read c.in-Ok.ensures.planned
     (c.in-Ok-own_buffers.ensures.ok c.args.ids.now) kids told c.in-Ok-build_entry.ensures.built c.in-Ok-build_entry.ensures.sound (shown_at c.args.ids.now c.args.node.now (typ c.args.dtype.now) c.in-Ok-build_entry.array u y)) c.tell.ensures.told
 
 pub returns-in-Ok-build_entry-clause-paired : goal.returns-in-Ok-build_entry-clause-paired
@@ -141,31 +128,26 @@ returns-in-Ok-build_entry-clause-paired g t c = ok_of c.tell.result _ (c.in-Some
 pub returns-in-Ok-build_entry-clause-cause : goal.returns-in-Ok-build_entry-clause-cause
 returns-in-Ok-build_entry-clause-cause g t c =
     let s = session_meaning (λ b. ((dyn-2-ghosts g.dyn-2 g.dyn-1).0.entry b.vtable).1.means b.value) (λ b. ((dyn-1-ghosts g.dyn-2 g.dyn-1).0.entry b.vtable).1.accepted b.value) c.args.session.now in
-    let f = plugins_meaning (λ b. ((dyn-2-ghosts g.dyn-2 g.dyn-1).0.entry b.vtable).1.means b.value) c.args.session.now.arrays.plugins.items in
     let w = wire_in c.args.ids.now c.args.node.now in
-    let entry = c.in-Some-reader.entry in
-    let named = wire-named c.args.ids.now c.args.node.now _ _ c.encoding_id.ensures c.in-Some.ensures in
-    let found = ap (λ z. option_and_then (entry_in f) z) (sym c.in-Some-reader.ensures.found) in
+    let r = reader_in (λ b. ((dyn-2-ghosts g.dyn-2 g.dyn-1).0.entry b.vtable).1.means b.value) c.args.session.now.arrays c.in-Some-reader.entry in
     let node = c.in-Ok.planned in
-    let read = c.in-Ok.ensures.read c.args.ids.now named found in
+    let named = wire-named c.args.ids.now c.args.node.now _ _ c.encoding_id.ensures c.in-Some.ensures in
+    let read = c.in-Ok.ensures.read c.args.ids.now named (c.in-Some-reader.ensures.found s.ext) in
     if_err c.tell.result _ _
-    (λ e y. caused_by_stats s e w (typ c.args.dtype.now) c.args.len (entry_in f entry) node.head c.in-Some-reader.ensures.within read (refused_at c.args.ids.now c.args.node.now (typ c.args.dtype.now) e y)) c.tell.ensures.cause
+    (λ e y. caused_by_stats s e w (typ c.args.dtype.now) c.args.len r node.head c.in-Some-reader.ensures.within read (refused_at c.args.ids.now c.args.node.now (typ c.args.dtype.now) e y)) c.tell.ensures.cause
 
 pub returns-clause-cause : goal.returns-clause-cause
 returns-clause-cause g t c =
-    let x = ext_meaning (λ b. ((dyn-1-ghosts g.dyn-2 g.dyn-1).0.entry b.vtable).1.accepted b.value) c.args.session.now.ext in
     let s = session_meaning (λ b. ((dyn-2-ghosts g.dyn-2 g.dyn-1).0.entry b.vtable).1.means b.value) (λ b. ((dyn-1-ghosts g.dyn-2 g.dyn-1).0.entry b.vtable).1.accepted b.value) c.args.session.now in
-    let f = plugins_meaning (λ b. ((dyn-2-ghosts g.dyn-2 g.dyn-1).0.entry b.vtable).1.means b.value) c.args.session.now.arrays.plugins.items in
     let w = wire_in c.args.ids.now c.args.node.now in
-    let entry = c.in-Some-reader.entry in
-    let named = wire-named c.args.ids.now c.args.node.now _ _ c.encoding_id.ensures c.in-Some.ensures in
-    let found = ap (λ z. option_and_then (entry_in f) z) (sym c.in-Some-reader.ensures.found) in
+    let r = reader_in (λ b. ((dyn-2-ghosts g.dyn-2 g.dyn-1).0.entry b.vtable).1.means b.value) c.args.session.now.arrays c.in-Some-reader.entry in
     let node = c.in-Ok.planned in
-    let read = c.in-Ok.ensures.read c.args.ids.now named found in
+    let named = wire-named c.args.ids.now c.args.node.now _ _ c.encoding_id.ensures c.in-Some.ensures in
+    let read = c.in-Ok.ensures.read c.args.ids.now named (c.in-Some-reader.ensures.found s.ext) in
     let nodes = roses_list (below w) in
     let kids = roses_of-roses_list (below w) in
-    let same = enough f entry x node.head node.children nodes w (typ c.args.dtype.now) c.args.len c.in-Ok.ensures.planned read.head kids in
+    let same = enough (λ b. ((dyn-2-ghosts g.dyn-2 g.dyn-1).0.entry b.vtable).1.means b.value) c.args.session.now.arrays c.in-Some-reader.entry s.ext node.head node.children nodes w (typ c.args.dtype.now) c.args.len c.in-Ok.ensures.planned read.head kids in
     let past : length nodes ≤ c.loop-i.i = omega (arith, wire-length c.args.ids.now c.args.node.now, c.nchildren-i-end.ensures, c.loop-i-test.false) in
     let told = all_told s nodes node.children c.loop-i.children c.loop-i.i past same c.loop-i.invariant in
-    caused_by_build s c.in-Err-build_entry.e w (typ c.args.dtype.now) c.args.len (entry_in f entry) node.head c.in-Ok-own_buffers.buffers nodes node.children c.loop-i.children read c.in-Ok.ensures.planned (c.in-Ok-own_buffers.ensures.ok c.args.ids.now) kids told
+    caused_by_build s c.in-Err-build_entry.e w (typ c.args.dtype.now) c.args.len r node.head c.in-Ok-own_buffers.buffers nodes node.children c.loop-i.children read c.in-Ok.ensures.planned (c.in-Ok-own_buffers.ensures.ok c.args.ids.now) kids told
     c.in-Err-build_entry.ensures.cause

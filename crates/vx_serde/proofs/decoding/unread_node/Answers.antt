@@ -1,10 +1,8 @@
-use Rattle.std.proofs.Common.{sym, ap, ◌∙◌}
-use Rattle.std.specs.Prelude.{option_and_then}
+use Rattle.std.proofs.Common.{sym, ◌∙◌}
 use Rattle.vx_types.specs.Seen.{typ}
 use Rattle.vx_wire_tree.proofs.Laws.{kept_tells}
 use Rattle.vx_encodings.specs.Messages.{codec}
-use Rattle.vx_registry.specs.Meaning.{plugins_meaning, session_meaning}
-use Rattle.vx_registry.specs.Session.{entry_in}
+use Rattle.vx_registry.specs.Meaning.{session_meaning}
 use Rattle.vx_serde.specs.Serialized.{wire_in}
 use Rattle.vx_serde.proofs.MessageBlocks.{if_ok, if_err}
 use Rattle.vx_serde.proofs.NodeTold.{caused_by_reader, caused_by_keeping}
@@ -12,22 +10,19 @@ use Rattle.vx_serde.proofs.decoding.unread_node.Goals as goal
 
 pub returns-then-not-allows_unknown-clause-cause : goal.returns-then-not-allows_unknown-clause-cause
 returns-then-not-allows_unknown-clause-cause g c =
-    let f = plugins_meaning (λ b. (goal.ArrayPlugin-dyn g (b.vtable, b.value)).means b.value) c.args.session.now.arrays.plugins.items in
     let s = session_meaning (λ b. (goal.ArrayPlugin-dyn g (b.vtable, b.value)).means b.value) (λ b. (goal.ExtPlugin-dyn g (b.vtable, b.value)).accepted b.value) c.args.session.now in
-    caused_by_reader s (wire_in c.args.ids.now c.args.node.now) (typ c.args.dtype.now) c.args.len c.args.id.now c.requires.named (ap (λ z. option_and_then (entry_in f) z) c.requires.unread)
+    caused_by_reader s (wire_in c.args.ids.now c.args.node.now) (typ c.args.dtype.now) c.args.len c.args.id.now c.requires.named c.requires.unread
     (sym c.allows_unknown.ensures ∙ c.if-not-allows_unknown.true)
 
 pub returns-clause-told : goal.returns-clause-told
 returns-clause-told g c =
-    let f = plugins_meaning (λ b. (goal.ArrayPlugin-dyn g (b.vtable, b.value)).means b.value) c.args.session.now.arrays.plugins.items in
     let s = session_meaning (λ b. (goal.ArrayPlugin-dyn g (b.vtable, b.value)).means b.value) (λ b. (goal.ExtPlugin-dyn g (b.vtable, b.value)).accepted b.value) c.args.session.now in
     if_ok c.keep_node.result _ _
-    (λ t kept. kept_tells codec s c.args.id.now (wire_in c.args.ids.now c.args.node.now) (typ c.args.dtype.now) c.args.len t c.requires.named (ap (λ z. option_and_then (entry_in f) z) c.requires.unread)
+    (λ t kept. kept_tells codec s c.args.id.now (wire_in c.args.ids.now c.args.node.now) (typ c.args.dtype.now) c.args.len t c.requires.named c.requires.unread
     (sym c.allows_unknown.ensures ∙ c.if-not-allows_unknown.false) kept) c.keep_node.ensures.kept
 
 pub returns-clause-cause : goal.returns-clause-cause
 returns-clause-cause g c =
-    let f = plugins_meaning (λ b. (goal.ArrayPlugin-dyn g (b.vtable, b.value)).means b.value) c.args.session.now.arrays.plugins.items in
     let s = session_meaning (λ b. (goal.ArrayPlugin-dyn g (b.vtable, b.value)).means b.value) (λ b. (goal.ExtPlugin-dyn g (b.vtable, b.value)).accepted b.value) c.args.session.now in
     if_err c.keep_node.result _ _
     (λ e y. caused_by_keeping s e (wire_in c.args.ids.now c.args.node.now) (typ c.args.dtype.now) c.args.len y) c.keep_node.ensures.cause

@@ -1,7 +1,7 @@
 use Rattle.std.proofs.Common.{sym}
 use Rattle.vx_type_wire.specs.Session.{ext_meaning}
-use Rattle.vx_registry.specs.Meaning.{plugins_meaning, session_meaning}
-use Rattle.vx_registry.proofs.LawsSessions.{registry_lawful}
+use Rattle.vx_registry.specs.Meaning.{session_meaning}
+use Rattle.vx_registry.proofs.LawsSessions.{session_lawful}
 use Rattle.vx_serde.proofs.MessageBlocks.{if_ok, if_err}
 use Rattle.vx_serde.proofs.Taking.{refused_own}
 use Rattle.vx_serde.proofs.WrittenAgain.{serialized_again}
@@ -14,7 +14,7 @@ pub returns-clause-returned : goal.returns-clause-returned
 returns-clause-returned g c =
     let x = ext_meaning (λ b. (goal.ExtPlugin-dyn g (b.vtable, b.value)).accepted b.value) c.args.session.now.ext in
     let s = session_meaning (λ b. (goal.ArrayPlugin-dyn g (b.vtable, b.value)).means b.value) (λ b. (goal.ExtPlugin-dyn g (b.vtable, b.value)).accepted b.value) c.args.session.now in
-    let law = registry_lawful (plugins_meaning (λ b. (goal.ArrayPlugin-dyn g (b.vtable, b.value)).means b.value) c.args.session.now.arrays.plugins.items) c.args.session.now.arrays.tables x in
+    let law = session_lawful (λ b. (goal.ArrayPlugin-dyn g (b.vtable, b.value)).means b.value) c.args.session.now.arrays x in
     if_ok c.write_array.result _ _
     (λ bs made r. serialized_again s law c.args.self.now c.args.ctx.now c.write_array.new.ctx c.args.options.now bs made r) (c.write_array.ensures.made x (sym c.allows_unknown-unknown.ensures))
 
