@@ -117,6 +117,11 @@ pub if_ok-same : {T E : Type 0} (r : Result T E) (f : T → List ℕ) (m : List 
 if_ok-same (Ok x) f m Q h q = subst Q (sym h) q
 if_ok-same (Err e) f m Q h q = tt
 
+-- What holds where an answer is given goes into what follows of it.
+pub if_ok_where : {T E : Type 0} (r : Result T E) (H : Type 0) (P Q : T → Type 0) → (H → (x : T) → P x → Q x) → OnOk r H → IfOk r P → IfOk r Q
+if_ok_where (Ok x) H P Q f k h = f k x h
+if_ok_where (Err e) H P Q f k h = tt
+
 pub if_err : {T E : Type 0} (r : Result T E) (P Q : E → Type 0) → ((e : E) → P e → Q e) → IfErr r P → IfErr r Q
 if_err (Ok x) P Q f h = tt
 if_err (Err e) P Q f h = f e h

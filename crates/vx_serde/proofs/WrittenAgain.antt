@@ -70,10 +70,10 @@ spelled_again s ok law paired blob read d n t old new options x stored grew fit 
     subst P same spelled
 
 -- What encodings and plugins write of an array that returns spells that array.
-pub returned_again : (s : SessionMeaning) → IsLawful codec s → (t : Tree) (old new : Context) (options : SerializeOptions) → ReturnsWhole s options t
+pub returned_again : (s : SessionMeaning) → IsLawful codec s → IsPaired s → (t : Tree) (old new : Context) (options : SerializeOptions) → ReturnsWhole s options t
     → grown codec s old (as_written s options t) ≡ Some new → KeepsWriterLimits s (as_written s options t) old options
     → Spells (blob_of s (as_written s options t) old options) new.ids (label t).dtype (label t).len s t
-returned_again s law t old new options x grew fit =
+returned_again s law paired t old new options x grew fit =
     let u = as_written s options t in
     let w = wire codec s u in
     let same = grown-ids s u old new grew in
@@ -89,7 +89,7 @@ returned_again s law t old new options x grew fit =
       clean = c.1;
       whole = wire-whole codec s u;
       told = record {
-        matched = returned codec s law x.paired (most_levels options) t x.own x.returns counted;
+        matched = returned codec s law paired (most_levels options) t x.own x.returns counted;
         dtype = refl;
         len = refl;
         sound = x.own.sound;
@@ -100,6 +100,6 @@ returned_again s law t old new options x grew fit =
     subst P same spelled
 
 -- So do the bytes that are serialized.
-pub serialized_again : (s : SessionMeaning) → IsLawful codec s → (t : Tree) (old new : Context) (options : SerializeOptions) (bs : List Buffer) → IsSerialized s t options old new bs → ReturnsWhole s options t → IsSpelledAgain s t new bs
-serialized_again s law t old new options bs x r =
-    subst (λ z. Spells z new.ids (label t).dtype (label t).len s t) (sym x.blob.written) (returned_again s law t old new options r x.blob.grown_is x.blob.limits)
+pub serialized_again : (s : SessionMeaning) → IsLawful codec s → IsPaired s → (t : Tree) (old new : Context) (options : SerializeOptions) (bs : List Buffer) → IsSerialized s t options old new bs → ReturnsWhole s options t → IsSpelledAgain s t new bs
+serialized_again s law paired t old new options bs x r =
+    subst (λ z. Spells z new.ids (label t).dtype (label t).len s t) (sym x.blob.written) (returned_again s law paired t old new options r x.blob.grown_is x.blob.limits)

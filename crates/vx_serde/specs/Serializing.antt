@@ -7,7 +7,7 @@ use Rattle.vx_array_tree.specs.Tree.{Tree}
 use Rattle.vx_wire_tree.specs.Context.{Context, grown}
 use Rattle.vx_wire_tree.specs.ReadBack.{HasStorableStats}
 use Rattle.vx_wire_tree.specs.Returns.{IsOwnCanon, Returns}
-use Rattle.vx_wire_tree.specs.Session.{SessionMeaning, IsPaired}
+use Rattle.vx_wire_tree.specs.Session.{SessionMeaning}
 use Rattle.vx_wire_tree.specs.Taken.{IsTaken}
 use Rattle.vx_encodings.specs.Messages.{codec}
 use Rattle.vx_serde.specs.declared.options.SerializeOptions.{SerializeOptions}
@@ -34,10 +34,8 @@ pub record IsSerialized (s : SessionMeaning) (array : Tree) (options : Serialize
   pub blob : IsWrittenBlob s (as_written s options array) options before after buffers
 
 -- An array is its own canon, and as it is written it is read again: each node is read by what wrote it, and the arrays that
--- plugins gave are their own canons, too. The readers and the writers of the session fit one another, as those of every
--- session in hand do.
+-- plugins gave are their own canons, too.
 pub record ReturnsWhole (s : SessionMeaning) (options : SerializeOptions) (array : Tree) : Type 0 where
-  pub paired : IsPaired s
   pub own : IsOwnCanon codec s array
   pub returns : Returns codec s (most_levels options) array
 

@@ -14,7 +14,7 @@ ghost use Rattle.vx_types.specs.Known.{ExtMeaning};
 ghost use Rattle.vx_wire_tree.specs.Context.{grown_by};
 ghost use Rattle.vx_wire_tree.specs.Limits.{AreDescribable, HasMessages};
 ghost use Rattle.vx_wire_tree.specs.ReadBack.{HasStorableStats};
-ghost use Rattle.vx_wire_tree.specs.Session.{SessionMeaning, IsShipped};
+ghost use Rattle.vx_wire_tree.specs.Session.{SessionMeaning, IsShipped, IsPaired};
 ghost use Rattle.vx_wire_tree.specs.Wire.{ids_in, buffers_in};
 ghost use Rattle.vx_wire_tree.specs.Written.{writes_two, wire};
 ghost use Rattle.vx_encodings.specs.Messages.{codec};
@@ -235,6 +235,7 @@ pub(crate) fn write_array(
     ctx: &mut ArrayContext,
     options: &SerializeOptions,
 ) -> Result<ByteBuffers, WireError>
+    ensures paired { (x : ExtMeaning) → OnOk result (IsPaired (arrays_meaning (λ b. means (b.vtable, b.value)) arrays.now x)) }
     ensures made { (x : ExtMeaning) → x.unknown ≡ unknown → IfOk result (λ bs. IsSerialized (arrays_meaning (λ b. means (b.vtable, b.value)) arrays.now x) array.now options.now ctx.old ctx.new bs) }
     ensures kept { (x : ExtMeaning) → x.unknown ≡ unknown → let s = arrays_meaning (λ b. means (b.vtable, b.value)) arrays.now x in
         KeepsContext (ids_in (wire codec s (as_written s options.now array.now))) ctx.old ctx.new }

@@ -13,7 +13,7 @@ use Rattle.vx_serde.specs.Limits.{most_levels}
 use Rattle.vx_serde.specs.Serializing.{IsWrittenBlob}
 use Rattle.vx_serde.specs.Taking.{as_written}
 use Rattle.vx_serde.proofs.Growing.{kept-same}
-use Rattle.vx_serde.proofs.MessageBlocks.{if_ok, if_err}
+use Rattle.vx_serde.proofs.MessageBlocks.{if_ok, if_err, ok_of}
 use Rattle.vx_serde.proofs.Taking.{taken_as_own, taken_whole, is_taken_whole, untaken_whole, without_blob}
 use Rattle.vx_serde.proofs.writing.write_array.Goals as goal
 
@@ -88,3 +88,6 @@ returns-clause-cause g c = λ x u.
     let few : levels (as_written s o t) ≤ most_levels o = omega (arith, c.in_ok-node.ensures.levels, same, ap (λ (z : Tree). levels z) c.taken-root.ensures, ap (λ (z : Tree). levels z) whole) in
     if_err c.write_taken.result _ _
     (λ e y. without_blob s c.args.options.now c.args.array.now c.args.ctx.now e taken few (subst (λ (z : Tree). RefusesWriting s z c.args.ctx.now c.args.options.now e) whole y)) (c.write_taken.ensures.cause s (c.in-Ok.ensures.two x))
+
+pub returns-clause-paired : goal.returns-clause-paired
+returns-clause-paired g c = λ x. ok_of c.write_taken.result _ (c.in-Ok.ensures.paired x)

@@ -2,7 +2,7 @@ use Rattle.std.proofs.Common.{sym}
 use Rattle.vx_type_wire.specs.Session.{ext_meaning}
 use Rattle.vx_registry.specs.Meaning.{session_meaning}
 use Rattle.vx_registry.proofs.LawsSessions.{session_lawful}
-use Rattle.vx_serde.proofs.MessageBlocks.{if_ok, if_err}
+use Rattle.vx_serde.proofs.MessageBlocks.{if_ok_where, if_err}
 use Rattle.vx_serde.proofs.Taking.{refused_own}
 use Rattle.vx_serde.proofs.WrittenAgain.{serialized_again}
 use Rattle.vx_serde.proofs.serializing.ArrayArrayExt.serialize.Goals as goal
@@ -15,8 +15,8 @@ returns-clause-returned g c =
     let x = ext_meaning (λ b. (goal.ExtPlugin-dyn g (b.vtable, b.value)).accepted b.value) c.args.session.now.ext in
     let s = session_meaning (λ b. (goal.ArrayPlugin-dyn g (b.vtable, b.value)).means b.value) (λ b. (goal.ExtPlugin-dyn g (b.vtable, b.value)).accepted b.value) c.args.session.now in
     let law = session_lawful (λ b. (goal.ArrayPlugin-dyn g (b.vtable, b.value)).means b.value) c.args.session.now.arrays x in
-    if_ok c.write_array.result _ _
-    (λ bs made r. serialized_again s law c.args.self.now c.args.ctx.now c.write_array.new.ctx c.args.options.now bs made r) (c.write_array.ensures.made x (sym c.allows_unknown-unknown.ensures))
+    if_ok_where c.write_array.result _ _ _
+    (λ paired bs made r. serialized_again s law paired c.args.self.now c.args.ctx.now c.write_array.new.ctx c.args.options.now bs made r) (c.write_array.ensures.paired x) (c.write_array.ensures.made x (sym c.allows_unknown-unknown.ensures))
 
 pub returns-clause-left : goal.returns-clause-left
 returns-clause-left g c = c.write_array.ensures.kept (ext_meaning (λ b. (goal.ExtPlugin-dyn g (b.vtable, b.value)).accepted b.value) c.args.session.now.ext) (sym c.allows_unknown-unknown.ensures)
