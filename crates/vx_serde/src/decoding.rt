@@ -270,8 +270,9 @@ impl<'a> SerializedNode<'a> {
     /// # Errors
     /// `UnknownIndex`, `UnknownEncoding`, `BadMetadata`, `BadShape`, `BadContent`, `ForeignControl` and `BadStats` where a
     /// node has that fault at the type and length that follow for it, `OutOfBounds` where one names a buffer that is not
-    /// there. Where several have a cause, any of them may be answered. A node of an encoding that nothing reads is
-    /// `UnknownEncoding`, unless the session allows such nodes: then it is kept, with all below it, as it stands.
+    /// there, and `PluginRefused` where the plugin that reads a node refuses its head or its parts. Where several have a
+    /// cause, any of them may be answered. A node of an encoding that nothing reads is `UnknownEncoding`, unless the
+    /// session allows such nodes: then it is kept, with all below it, as it stands.
     pub fn decode(
         &self,
         alloc: Global,
@@ -280,7 +281,8 @@ impl<'a> SerializedNode<'a> {
         ids: &ReadContext,
         session: &VortexSession,
     ) -> Result<Array, WireError>
-        // The array matches the node's wire tree, is sound and normal, and of this type and length.
+        // The array matches the node's wire tree and is of this type and length; it is sound, and normal where no plugin
+        // reads or writes.
         ensures told { let s = session_meaning (λ b. means (b.vtable, b.value)) (λ b. accepted (b.vtable, b.value)) session.now in
             IfOk result (λ t. Tells codec s (wire_in ids.now self.now) (typ dtype.now) len t) }
         // With shipped encodings only it is the one that does; and where there is one, it is answered, or memory is wanted.
