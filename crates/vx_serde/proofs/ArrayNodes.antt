@@ -55,11 +55,11 @@ module _ (s : SessionMeaning) (t : Tree) (c : Context) where
       unwritten s t c plain_options bytes (layout_by es w bytes) WireLimit refl (layout-numbered d.ids w es bytes e ∙ ap (λ ids. layout_of ids w bytes) (grown-ids s t c d g)) (too-many es w bytes of false (wire-told s t) many) k)
 
   -- An array whose blocks a builder does not take.
-  pub untaken : (b new : Built) (e : FlatError) → IsStopped b (array_pieces s t c) e new → RefusesBlocks s t c b (message_refusal e)
-  untaken b new flat.OutOfMemory h = tt
-  untaken b new flat.MessageTooLong h = inr h.2
-  untaken b new flat.BadTable h = absurd h
-  untaken b new flat.TableLimit h = absurd h
+  pub blocks-refused : (b new : Built) (e : FlatError) → IsStopped b (array_pieces s t c) e new → RefusesBlocks s t c b (message_refusal e)
+  blocks-refused b new flat.OutOfMemory h = tt
+  blocks-refused b new flat.MessageTooLong h = inr h.2
+  blocks-refused b new flat.BadTable h = absurd h
+  blocks-refused b new flat.TableLimit h = absurd h
 
   -- Its blocks are those of its value.
   pub value-written : (b new : Built) (ps : List Piece) → ps ≡ array_pieces s t c → AreWritten b ps new → Written array_schema node_fields (array_value s t c) b new

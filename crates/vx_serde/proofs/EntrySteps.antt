@@ -21,7 +21,7 @@ use Rattle.vx_registry.specs.Plugin.{head_in, parts_head, IsAnswer}
 use Rattle.vx_registry.specs.declared.plugin.PluginError.{PluginError}
 use Rattle.vx_registry.specs.declared.plugin.PluginError.TheVariants as plugins
 use Rattle.vx_registry.specs.declared.serialization.ArrayDeserialization.{ArrayDeserialization}
-use Rattle.vx_serde.specs.Decoding.{PlansBy, RefusesPlan, head_over, BuildsBy, RefusesBuild, refusal_of}
+use Rattle.vx_serde.specs.Decoding.{PlansBy, RefusesPlan, head_over, BuildsBy, RefusesBuild, plugin_refusal}
 use Rattle.vx_serde.specs.ReadingSteps.{encoding_refusal}
 use Rattle.vx_serde.specs.declared.error.WireError.{WireError}
 use Rattle.vx_serde.specs.declared.error.WireError.TheVariants.{BadShape}
@@ -90,13 +90,13 @@ module _ {B : Type 0} (means : B → PluginMeaning) where
     pub plugin_plans : (h : ArrayHead) (ps : List Place) → (means b).plan (head_in h) y ≡ Some ps → PlansBy x (reader_of o) h ps
     plugin_plans h ps e = subst (λ r. PlansBy x r h ps) (sym own) (ap (λ z. (means b).plan (head_in h) z) (sym lent) ∙ e)
 
-    plugin_refuses : (e : PluginError) (h : ArrayHead) → IsAnswer {A = List Place} ((means b).plan (head_in h) x) (Err e) → RefusesPlan (refusal_of e) x (Some (plugin (means b))) h
+    plugin_refuses : (e : PluginError) (h : ArrayHead) → IsAnswer {A = List Place} ((means b).plan (head_in h) x) (Err e) → RefusesPlan (plugin_refusal e) x (Some (plugin (means b))) h
     plugin_refuses plugins.OutOfMemory h u = tt
     plugin_refuses plugins.Refused h u = u
 
-    pub plugin_unplanned : (e : PluginError) (h : ArrayHead) → IsAnswer {A = List Place} ((means b).plan (head_in h) y) (Err e) → RefusesPlan (refusal_of e) x (reader_of o) h
+    pub plugin_unplanned : (e : PluginError) (h : ArrayHead) → IsAnswer {A = List Place} ((means b).plan (head_in h) y) (Err e) → RefusesPlan (plugin_refusal e) x (reader_of o) h
     plugin_unplanned e h u =
-        subst (λ r. RefusesPlan (refusal_of e) x r h) (sym own) (plugin_refuses e h (subst (λ z. IsAnswer {A = List Place} ((means b).plan (head_in h) z) (Err e)) lent u))
+        subst (λ r. RefusesPlan (plugin_refusal e) x r h) (sym own) (plugin_refuses e h (subst (λ z. IsAnswer {A = List Place} ((means b).plan (head_in h) z) (Err e)) lent u))
 
     module _ (h : ArrayHead) (p : ArrayDeserialization) (bs : List Buffer) (ts : Trees) (head : parts_head p ≡ head_over h bs ts) (buffers : p.buffers ≡ bs) (children : p.children ≡ ts) where
       same : (means b).build (parts_head p) p.buffers p.children y ≡ (means b).build (head_over h bs ts) bs ts x
@@ -105,13 +105,13 @@ module _ {B : Type 0} (means : B → PluginMeaning) where
       pub plugin_builds : (t : Tree) → (means b).build (parts_head p) p.buffers p.children y ≡ Some t → BuildsBy x (reader_of o) h bs ts t
       plugin_builds t e = subst (λ r. BuildsBy x r h bs ts t) (sym own) (sym same ∙ e)
 
-      refuses_parts : (e : PluginError) → IsAnswer {A = Tree} ((means b).build (head_over h bs ts) bs ts x) (Err e) → RefusesBuild (refusal_of e) x (Some (plugin (means b))) h bs ts
+      refuses_parts : (e : PluginError) → IsAnswer {A = Tree} ((means b).build (head_over h bs ts) bs ts x) (Err e) → RefusesBuild (plugin_refusal e) x (Some (plugin (means b))) h bs ts
       refuses_parts plugins.OutOfMemory u = tt
       refuses_parts plugins.Refused u = u
 
-      pub plugin_unbuilt : (e : PluginError) → IsAnswer {A = Tree} ((means b).build (parts_head p) p.buffers p.children y) (Err e) → RefusesBuild (refusal_of e) x (reader_of o) h bs ts
+      pub plugin_unbuilt : (e : PluginError) → IsAnswer {A = Tree} ((means b).build (parts_head p) p.buffers p.children y) (Err e) → RefusesBuild (plugin_refusal e) x (reader_of o) h bs ts
       plugin_unbuilt e u =
-          subst (λ r. RefusesBuild (refusal_of e) x r h bs ts) (sym own) (refuses_parts e (subst (λ z. IsAnswer {A = Tree} z (Err e)) same u))
+          subst (λ r. RefusesBuild (plugin_refusal e) x r h bs ts) (sym own) (refuses_parts e (subst (λ z. IsAnswer {A = Tree} z (Err e)) same u))
 
 -- What is told of a node whose parts are there.
 pub told_parts : (p : ArrayDeserialization) (h : ArrayHead) (bs : List Buffer) (ts : Trees) → p.serialized_id ≡ h.serialized_id → typ p.dtype ≡ typ h.dtype → p.len ≡ h.len → p.metadata ≡ h.metadata → p.buffers ≡ bs → p.children ≡ ts

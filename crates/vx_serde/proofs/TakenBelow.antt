@@ -14,7 +14,7 @@ use Rattle.vx_wire_tree.specs.Taken.{step, written, taken, IsTaken, each, Each}
 use Rattle.vx_serde.specs.declared.error.WireError.{WireError}
 use Rattle.vx_serde.specs.declared.error.WireError.TheVariants.{OutOfMemory}
 use Rattle.vx_serde.specs.declared.taken.TakenRoot.{TakenRoot}
-use Rattle.vx_serde.specs.Taking.{source_tree, root_head, root_below, written_head, written_below, IsOwn, AreTaken, AreWithin, IsOpened, RefusesTaking, RefusesOneOf}
+use Rattle.vx_serde.specs.Taking.{source_tree, root_head, root_below, root_node, root_arrays, IsOwn, AreTaken, AreWithinLevels, IsRootAt, RefusesTaking, RefusesOneOf}
 use Rattle.vx_serde.proofs.Taking.{stands_at, own_messages, taken_at, is_taken_at, below_at, one_refused}
 
 -- ---- trees, and one more behind them
@@ -37,14 +37,14 @@ messages_behind (x ∷ ts) t k m = (k.0, messages_behind ts t k.1 m)
 
 -- ---- nodes that are within the room, and whose metadata fits
 
-pub none_within : (n : ℕ) (us : List Tree) → us ≡ [] → AreWithin n us
-none_within n us e = subst (λ z. AreWithin n z) (sym e) (record { levels_are = omega arith; messages = tt })
+pub none_within : (n : ℕ) (us : List Tree) → us ≡ [] → AreWithinLevels n us
+none_within n us e = subst (λ z. AreWithinLevels n z) (sym e) (record { levels_are = omega arith; messages = tt })
 
-pub one_more_within : (n : ℕ) (old new : List Tree) (u : Tree) → AreWithin n old → levels u ≤ n → HasMessages u → new ≡ old ++ u ∷ [] → AreWithin n new
-one_more_within n old new u k l m e = subst (λ z. AreWithin n z) (sym e) (record { levels_are = levels_behind n old u k.levels_are l; messages = messages_behind old u k.messages m })
+pub one_more_within : (n : ℕ) (old new : List Tree) (u : Tree) → AreWithinLevels n old → levels u ≤ n → HasMessages u → new ≡ old ++ u ∷ [] → AreWithinLevels n new
+one_more_within n old new u k l m e = subst (λ z. AreWithinLevels n z) (sym e) (record { levels_are = levels_behind n old u k.levels_are l; messages = messages_behind old u k.messages m })
 
 -- A node has one level more than those below it.
-pub node_levels : (room : ℕ) (h : Head) (us : List Tree) → 0 < room → AreWithin (room - 1) us → levels (node h (roses_of us)) ≤ room
+pub node_levels : (room : ℕ) (h : Head) (us : List Tree) → 0 < room → AreWithinLevels (room - 1) us → levels (node h (roses_of us)) ≤ room
 node_levels room h us p k = omega (arith, p, k.levels_are)
 
 -- ---- nodes that are taken of arrays, each of which is
@@ -73,7 +73,7 @@ module _ (s : SessionMeaning) (n : ℕ) where
     pub stands_below : places (roses_of us) ≡ places ts
     stands_below = stands_at s n (roses_of us) ts all_made
 
-    pub node_messages : (h : Head) → HasMessage h ts → AreWithin n us → HasMessages (node h (roses_of us))
+    pub node_messages : (h : Head) → HasMessage h ts → AreWithinLevels n us → HasMessages (node h (roses_of us))
     node_messages h m w = own_messages s n h (roses_of us) ts all_made m w.messages
 
 -- ---- a node over what is taken below it
@@ -99,7 +99,7 @@ pub wanted_below : (s : SessionMeaning) (n : ℕ) (ts : Trees) (e : WireError) �
 wanted_below s n ts e p = subst (λ x. RefusesOneOf s n ts x) (sym p) tt
 
 -- One below it is not: memory was wanted, or that is what was answered.
-pub filled_not : {A : Type 0} (s : SessionMeaning) (room : ℕ) → 0 < room → (arrays : Trees) (i : ℕ) (h : Head) (ts : Trees) → IsOpened s arrays i h ts → (r : Result A WireError) (e : WireError)
+pub filled_not : {A : Type 0} (s : SessionMeaning) (room : ℕ) → 0 < room → (arrays : Trees) (i : ℕ) (h : Head) (ts : Trees) → IsRootAt s arrays i h ts → (r : Result A WireError) (e : WireError)
     → IfErr r (RefusesOneOf s (room - 1) ts) → (e ≡ OutOfMemory) ⊎ (r ≡ Err e) → RefusesOneOf s room arrays e
 filled_not s room p arrays i h ts o r e k (inl m) = wanted_below s room arrays e m
 filled_not s room p arrays i h ts o r e k (inr m) =
@@ -117,14 +117,14 @@ of_ok (Err e) P k h = absurd (cc)
 
 -- ---- a root that is written as it stands, over its array's own children
 
-pub own_root : (r : TakenRoot) (us : List Tree) → us ≡ roses_list (written_below r) → r.given ≡ None → IsOwn r us
+pub own_root : (r : TakenRoot) (us : List Tree) → us ≡ roses_list (root_arrays r) → r.given ≡ None → IsOwn r us
 own_root r us e g = record { ungiven = g; children_are = e ∙ ap (λ z. roses_list (root_below (below (source_tree r.source)) z)) g }
 
 pub whole_tree : (t : Tree) → node (label t) (below t) ≡ t
 whole_tree (node h ts) = refl
 
 -- It is its array.
-pub own_tree : (r : TakenRoot) (us : List Tree) → IsOwn r us → node (written_head r) (roses_of us) ≡ source_tree r.source
+pub own_tree : (r : TakenRoot) (us : List Tree) → IsOwn r us → node (root_node r) (roses_of us) ≡ source_tree r.source
 own_tree r us k =
     let t = source_tree r.source in
     ap (λ z. node (root_head (label t) z) (roses_of us)) k.ungiven ∙ ap (λ z. node (label t) z) (ap (λ z. roses_of z) k.children_are ∙ roses_of-roses_list (below t)) ∙ whole_tree t

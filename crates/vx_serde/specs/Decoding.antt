@@ -91,6 +91,6 @@ RefusesBuild PluginRefused x (Some (plugin p)) h bs ts = p.build (head_over h bs
 RefusesBuild _ x r h bs ts = ⊥
 
 -- A plugin's refusal as one of a blob.
-abbrev pub refusal_of : PluginError → WireError
-refusal_of plugins.OutOfMemory = OutOfMemory
-refusal_of plugins.Refused = PluginRefused
+abbrev pub plugin_refusal : PluginError → WireError
+plugin_refusal plugins.OutOfMemory = OutOfMemory
+plugin_refusal plugins.Refused = PluginRefused

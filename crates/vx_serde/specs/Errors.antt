@@ -1,4 +1,4 @@
--- The numbers of refusals.
+-- The numbers of refusals, and the registry's refusals as those of a blob.
 use Rattle.std.specs.Prelude.{ℕ}
 use Rattle.vx_registry.specs.declared.error.RegistryError.{RegistryError}
 use Rattle.vx_registry.specs.declared.error.RegistryError.TheVariants as registry
@@ -29,7 +29,7 @@ error_number NotSerializable = 26
 error_number UndeclaredId = 27
 error_number PluginRefused = 28
 
--- The refusals of a root, as those of an array.
+-- Why the registry does not write a root, as a refusal of its array.
 abbrev pub registry_refusal : RegistryError → WireError
 registry_refusal registry.OutOfMemory = OutOfMemory
 registry_refusal registry.NotRegistered = NotRegistered

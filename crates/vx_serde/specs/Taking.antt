@@ -50,7 +50,7 @@ abbrev pub StandsAs : Option (Box GivenParts Global) → Trees → Trees → Typ
 StandsAs None us ts = places us ≡ places ts
 StandsAs (Some g) us ts = Unit {0}
 
--- A root that is written: its node, as it stands or as a plugin gives it,
+-- A root's node, as it stands or as a plugin gives it,
 abbrev pub root_head : Head → Option ArraySerialization → Head
 root_head h None = h
 root_head h (Some p) = given_head h (parts_in p)
@@ -60,11 +60,13 @@ abbrev pub root_below : Trees → Option ArraySerialization → Trees
 root_below ts None = ts
 root_below ts (Some p) = p.children
 
-abbrev pub written_head : TakenRoot → Head
-written_head r = root_head (label (source_tree r.source)) r.given
+-- The node of a root that is written,
+abbrev pub root_node : TakenRoot → Head
+root_node r = root_head (label (source_tree r.source)) r.given
 
-abbrev pub written_below : TakenRoot → Trees
-written_below r = root_below (below (source_tree r.source)) r.given
+-- and the arrays that it is written over.
+abbrev pub root_arrays : TakenRoot → Trees
+root_arrays r = root_below (below (source_tree r.source)) r.given
 
 -- A root is written as it stands, over its array's own children as they stand.
 pub record IsOwn (r : TakenRoot) (us : List Tree) : Type 0 where
@@ -76,13 +78,13 @@ pub record AreTaken (s : SessionMeaning) (n : ℕ) (arrays nodes : List Tree) : 
   pub made : nodes ≡ map (λ t. taken s n t) arrays
   pub written_each : Each (λ t. IsTaken s n t) (roses_of arrays)
 
--- Nodes have so many levels, and their metadata fits its messages.
-pub record AreWithin (n : ℕ) (nodes : List Tree) : Type 0 where
+-- Nodes have at most so many levels, and their metadata fits its messages.
+pub record AreWithinLevels (n : ℕ) (nodes : List Tree) : Type 0 where
   pub levels_are : levels_below (roses_of nodes) ≤ n
   pub messages : EverywhereBelow HasMessage (roses_of nodes)
 
 -- The root of one of several arrays is written as this node, over these arrays.
-pub record IsOpened (s : SessionMeaning) (arrays : Trees) (i : ℕ) (h : Head) (ts : Trees) : Type 0 where
+pub record IsRootAt (s : SessionMeaning) (arrays : Trees) (i : ℕ) (h : Head) (ts : Trees) : Type 0 where
   pub array : Tree
   pub stands : slice_get (roses_list arrays) i ≡ Some array
   pub step_is : step s array ≡ written h ts

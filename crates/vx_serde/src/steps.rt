@@ -7,7 +7,7 @@ ghost use Rattle.vx_array_tree.specs.Sound.{IsSound};
 ghost use Rattle.vx_array_tree.specs.Tree.{places};
 ghost use Rattle.vx_wire_tree.specs.Revised.{revised_holds as holds};
 ghost use Rattle.vx_registry.specs.Meaning.{reader_in, session_meaning};
-ghost use Rattle.vx_serde.specs.Decoding.{PlansBy, RefusesPlan, BuildsBy, RefusesBuild, refusal_of};
+ghost use Rattle.vx_serde.specs.Decoding.{PlansBy, RefusesPlan, BuildsBy, RefusesBuild, plugin_refusal};
 
 use crate::error::WireError;
 use std::alloc::Global;
@@ -46,7 +46,7 @@ pub(crate) fn plan_entry(
         Entry::Boxed(number) => match session.arrays.plugin(number) {
             Some(plugin) => match plan_by(alloc, plugin, head, ext) {
                 Ok(children) => Ok(children),
-                Err(e) => Err(plugin_refusal(e)),
+                Err(e) => Err(plugin_error(e)),
             },
             None => unreachable!(),
         },
@@ -108,7 +108,7 @@ pub(crate) fn build_entry(
                 );
                 match build_by(alloc, plugin, parts, ext) {
                     Ok(array) => Ok(array),
-                    Err(e) => Err(plugin_refusal(e)),
+                    Err(e) => Err(plugin_error(e)),
                 }
             }
             None => unreachable!(),
@@ -128,8 +128,8 @@ fn held(head: &ArrayHead, children: ChildPlans) -> Result<ChildPlans, WireError>
 }
 
 // A plugin's refusal as one of a blob.
-fn plugin_refusal(error: PluginError) -> WireError
-    ensures { result ≡ refusal_of error }
+fn plugin_error(error: PluginError) -> WireError
+    ensures { result ≡ plugin_refusal error }
 {
     match error {
         PluginError::OutOfMemory => WireError::OutOfMemory,

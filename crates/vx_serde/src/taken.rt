@@ -15,7 +15,7 @@ ghost use Rattle.vx_encodings.specs.Messages.{message_bytes};
 ghost use Rattle.vx_registry.specs.Meaning.{arrays_meaning};
 ghost use Rattle.vx_registry.specs.Serialization.{array_id};
 ghost use Rattle.vx_serde.specs.Errors.{registry_refusal};
-ghost use Rattle.vx_serde.specs.Taking.{source_tree, taken_head, root_head, root_below, written_head, written_below, StandsAs, IsOwn, AreTaken, AreWithin, IsOpened, RefusesTaking, RefusesOneOf};
+ghost use Rattle.vx_serde.specs.Taking.{source_tree, taken_head, root_head, root_below, root_node, root_arrays, StandsAs, IsOwn, AreTaken, AreWithinLevels, IsRootAt, RefusesTaking, RefusesOneOf};
 
 use crate::error::WireError;
 use crate::node_ref::NodeRefs;
@@ -247,7 +247,7 @@ struct TakenRoot<'a> {
 impl<'a> TakenRoot<'a> {
     /// How many arrays it is written over.
     fn nchildren(&self) -> usize
-        ensures { result ≡ count (written_below self.now) }
+        ensures { result ≡ count (root_arrays self.now) }
     {
         match &self.given {
             Some(parts) => parts.children.len(),
@@ -257,8 +257,8 @@ impl<'a> TakenRoot<'a> {
 
     /// One of the arrays that it is written over: lent, where it can be, or a copy.
     fn child(&self, alloc: Global, i: usize) -> Result<Source<'a>, WireError>
-        requires { i < count (written_below self.now) }
-        ensures ok { IfOk result (λ s. slice_get (roses_list (written_below self.now)) i ≡ Some (source_tree s)) }
+        requires { i < count (root_arrays self.now) }
+        ensures ok { IfOk result (λ s. slice_get (roses_list (root_arrays self.now)) i ≡ Some (source_tree s)) }
         ensures err { IsOkUnless result WireError.OutOfMemory }
     {
         match &self.given {
@@ -285,9 +285,9 @@ impl<'a> TakenRoot<'a> {
         children: Vec<TakenNode<'a>>,
         own: bool,
     ) -> Result<TakenNode<'a>, WireError>
-        requires places { places (roses_of children.items) ≡ places (written_below self) }
+        requires places { places (roses_of children.items) ≡ places (root_arrays self) }
         requires own { IsTrue own → IsOwn self children.items }
-        ensures ok { IfOk result (λ n. n ≡ node (written_head self.entry) (roses_of children.entry.items)) }
+        ensures ok { IfOk result (λ n. n ≡ node (root_node self.entry) (roses_of children.entry.items)) }
         ensures err { IsOkUnless result WireError.OutOfMemory }
     {
         let TakenRoot { source, given } = self;
@@ -409,8 +409,8 @@ impl<'a> OpenRoot<'a> {
         ensures room { OnOk result (0 < room) }
         ensures none { IfOk result (λ o. o.children.items ≡ []) }
         ensures source { IfOk result (λ o. source_tree o.root.source ≡ source_tree source.entry) }
-        ensures step { (x : ExtMeaning) → x.unknown ≡ unknown → IfOk result (λ o. step (arrays_meaning (λ b. means (b.vtable, b.value)) arrays.now x) (source_tree source.entry) ≡ written (written_head o.root) (written_below o.root)) }
-        ensures message { IfOk result (λ o. HasMessage (written_head o.root) (written_below o.root)) }
+        ensures step { (x : ExtMeaning) → x.unknown ≡ unknown → IfOk result (λ o. step (arrays_meaning (λ b. means (b.vtable, b.value)) arrays.now x) (source_tree source.entry) ≡ written (root_node o.root) (root_arrays o.root)) }
+        ensures message { IfOk result (λ o. HasMessage (root_node o.root) (root_arrays o.root)) }
         ensures cause { (x : ExtMeaning) → x.unknown ≡ unknown → IfErr result (RefusesTaking (arrays_meaning (λ b. means (b.vtable, b.value)) arrays.now x) room (source_tree source.entry)) }
     {
         let parts = parts_of(alloc, source.array(), arrays, unknown, room);
@@ -433,7 +433,7 @@ impl<'a> OpenRoot<'a> {
 
     /// How many arrays it is written over.
     fn nchildren(&self) -> usize
-        ensures { result ≡ count (written_below self.now.root) }
+        ensures { result ≡ count (root_arrays self.now.root) }
     {
         self.root.nchildren()
     }
@@ -447,13 +447,13 @@ impl<'a> OpenRoot<'a> {
         room: usize,
         i: usize,
     ) -> Result<OpenRoot<'a>, WireError>
-        requires { i < count (written_below self.now.root) }
+        requires { i < count (root_arrays self.now.root) }
         ensures room { OnOk result (0 < room) }
         ensures none { IfOk result (λ o. o.children.items ≡ []) }
-        ensures stands { IfOk result (λ o. slice_get (roses_list (written_below self.now.root)) i ≡ Some (source_tree o.root.source)) }
-        ensures opened { (x : ExtMeaning) → x.unknown ≡ unknown → IfOk result (λ o. IsOpened (arrays_meaning (λ b. means (b.vtable, b.value)) arrays.now x) (written_below self.now.root) i (written_head o.root) (written_below o.root)) }
-        ensures message { IfOk result (λ o. HasMessage (written_head o.root) (written_below o.root)) }
-        ensures cause { (x : ExtMeaning) → x.unknown ≡ unknown → IfErr result (RefusesOneOf (arrays_meaning (λ b. means (b.vtable, b.value)) arrays.now x) room (written_below self.now.root)) }
+        ensures stands { IfOk result (λ o. slice_get (roses_list (root_arrays self.now.root)) i ≡ Some (source_tree o.root.source)) }
+        ensures opened { (x : ExtMeaning) → x.unknown ≡ unknown → IfOk result (λ o. IsRootAt (arrays_meaning (λ b. means (b.vtable, b.value)) arrays.now x) (root_arrays self.now.root) i (root_node o.root) (root_arrays o.root)) }
+        ensures message { IfOk result (λ o. HasMessage (root_node o.root) (root_arrays o.root)) }
+        ensures cause { (x : ExtMeaning) → x.unknown ≡ unknown → IfErr result (RefusesOneOf (arrays_meaning (λ b. means (b.vtable, b.value)) arrays.now x) room (root_arrays self.now.root)) }
     {
         match self.root.child(alloc, i) {
             Ok(below) => OpenRoot::new(alloc, below, arrays, unknown, room),
@@ -468,11 +468,11 @@ impl<'a> OpenRoot<'a> {
         child: OpenRoot<'a>,
         filled: Result<(), WireError>,
     ) -> Result<(), WireError>
-        requires places { IsOk filled → places (roses_of child.children.items) ≡ places (written_below child.root) }
-        requires own { IsOk filled → IsTrue child.own → child.children.items ≡ roses_list (written_below child.root) }
+        requires places { IsOk filled → places (roses_of child.children.items) ≡ places (root_arrays child.root) }
+        requires own { IsOk filled → IsTrue child.own → child.children.items ≡ roses_list (root_arrays child.root) }
         ensures root { self.new.root ≡ self.old.root }
         ensures well { OnOk result (IsOk filled) }
-        ensures children { OnOk result (self.new.children.items ≡ self.old.children.items ++ node (written_head child.entry.root) (roses_of child.entry.children.items) ∷ []) }
+        ensures children { OnOk result (self.new.children.items ≡ self.old.children.items ++ node (root_node child.entry.root) (roses_of child.entry.children.items) ∷ []) }
         ensures own { OnOk result (IsTrue self.new.own → IsTrue self.old.own × IsOwn child.entry.root child.entry.children.items) }
         ensures cause { IfErr result (λ e. (e ≡ WireError.OutOfMemory) ⊎ (filled ≡ Err e)) }
     {
@@ -523,10 +523,10 @@ fn fill<'a>(
 ) -> Result<(), WireError>
     requires none { above.old.children.items ≡ [] }
     ensures root { above.new.root ≡ above.old.root }
-    ensures taken { (x : ExtMeaning) → x.unknown ≡ unknown → OnOk result (AreTaken (arrays_meaning (λ b. means (b.vtable, b.value)) arrays.now x) room (roses_list (written_below above.old.root)) above.new.children.items) }
-    ensures within { OnOk result (AreWithin room above.new.children.items) }
-    ensures own { OnOk result (IsTrue above.new.own → above.new.children.items ≡ roses_list (written_below above.old.root)) }
-    ensures cause { (x : ExtMeaning) → x.unknown ≡ unknown → IfErr result (RefusesOneOf (arrays_meaning (λ b. means (b.vtable, b.value)) arrays.now x) room (written_below above.old.root)) }
+    ensures taken { (x : ExtMeaning) → x.unknown ≡ unknown → OnOk result (AreTaken (arrays_meaning (λ b. means (b.vtable, b.value)) arrays.now x) room (roses_list (root_arrays above.old.root)) above.new.children.items) }
+    ensures within { OnOk result (AreWithinLevels room above.new.children.items) }
+    ensures own { OnOk result (IsTrue above.new.own → above.new.children.items ≡ roses_list (root_arrays above.old.root)) }
+    ensures cause { (x : ExtMeaning) → x.unknown ≡ unknown → IfErr result (RefusesOneOf (arrays_meaning (λ b. means (b.vtable, b.value)) arrays.now x) room (root_arrays above.old.root)) }
 {
     for i in 0..above.nchildren() {
         let mut child = match above.child(alloc, arrays, unknown, room, i) {

@@ -7,7 +7,7 @@ use Rattle.vx_wire_tree.specs.Wire.{buffers_in}
 use Rattle.vx_wire_tree.specs.Written.{wire}
 use Rattle.vx_encodings.specs.Messages.{codec}
 use Rattle.vx_serde.specs.ArrayNode.{array_pieces}
-use Rattle.vx_serde.proofs.ArrayNodes.{pieces-are, ungathered, too-much, untaken, value-written}
+use Rattle.vx_serde.proofs.ArrayNodes.{pieces-are, ungathered, too-much, blocks-refused, value-written}
 use Rattle.vx_serde.proofs.NumberedBy.{as-many, first-encodings}
 use Rattle.vx_serde.proofs.WiredNodes.{no_session, some_session, writes_so, wired-nodes}
 use Rattle.vx_serde.proofs.array_node.write_into.Goals.{then-len-gt-MAX_BUFFERS-via-then-len-gt-MAX_BUFFERS, then-len-gt-MAX_BUFFERS-via-else-len-gt-MAX_BUFFERS+then-len-gt-MAX_NODES}
@@ -63,7 +63,7 @@ returns-in_err-write_node-clause-cause c = λ s q.
     let same = pieces-are s c.args.array.now c.args.ctx.now c.gather.new.ctx c.deref.result.now (c.in_ok-gather.ensures.grown s q) (c.deref.ensures.value ∙ named) in
     let e = c.in_err-write_node.field-0.0 in
     rw (p.1, p.2)
-    (untaken s c.args.array.now c.args.ctx.now c.args.builder.now c.write_node.new.builder e
+    (blocks-refused s c.args.array.now c.args.ctx.now c.args.builder.now c.write_node.new.builder e
     (subst (λ z. IsStopped c.args.builder.now z e c.write_node.new.builder) same (c.in_err-write_node.ensures.stopped s)))
 
 pub returns-clause-written : goal.returns-clause-written

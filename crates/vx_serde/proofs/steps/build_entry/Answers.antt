@@ -34,7 +34,7 @@ returns-in-Ok-build_by-clause-built g c =
 pub returns-in-Err-build_by-clause-cause : goal.returns-in-Err-build_by-clause-cause
 returns-in-Err-build_by-clause-cause g c =
     rw c.in-Boxed.is
-    (rw c.plugin_refusal.ensures
+    (rw c.plugin_error.ensures
     (plugin_unbuilt (λ b. (goal.ArrayPlugin-dyn g (b.vtable, b.value)).means b.value) _ c.in-Some.plugin.now c.in-Some.ensures _ _ c.requires.lent c.args.head c.new-parts.result c.args.buffers c.args.children
     (told_parts c.new-parts.result c.args.head c.args.buffers c.args.children c.new-parts.ensures.id c.new-parts.ensures.dtype c.new-parts.ensures.len c.new-parts.ensures.metadata c.new-parts.ensures.buffers c.new-parts.ensures.children) c.new-parts.ensures.buffers c.new-parts.ensures.children c.in-Err-build_by.e c.in-Err-build_by.ensures))
 

@@ -30,7 +30,7 @@ returns-in-Ok-plan_by-clause-plan g c =
 pub returns-in-Err-plan_by-clause-cause : goal.returns-in-Err-plan_by-clause-cause
 returns-in-Err-plan_by-clause-cause g c =
     rw c.in-Boxed.is
-    (rw c.plugin_refusal.ensures
+    (rw c.plugin_error.ensures
     (plugin_unplanned (λ b. (goal.ArrayPlugin-dyn g (b.vtable, b.value)).means b.value) _ c.in-Some.plugin.now c.in-Some.ensures _ _ c.requires.lent c.in-Err-plan_by.e c.args.head.now c.in-Err-plan_by.ensures))
 
 pub unreachable-requires : goal.unreachable-requires

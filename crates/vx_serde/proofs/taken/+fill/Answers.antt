@@ -8,7 +8,7 @@ use Rattle.vx_array_tree.specs.Tree.{places}
 use Rattle.vx_registry.specs.Meaning.{arrays_meaning}
 use Rattle.vx_serde.specs.contracts.taken.fill.{dyn-1-ghosts}
 use Rattle.vx_serde.specs.declared.taken.TakenRoot.{TakenRoot}
-use Rattle.vx_serde.specs.Taking.{source_tree, written_head, written_below, IsOwn, AreTaken, AreWithin, IsOpened, RefusesOneOf}
+use Rattle.vx_serde.specs.Taking.{source_tree, root_node, root_arrays, IsOwn, AreTaken, AreWithinLevels, IsRootAt, RefusesOneOf}
 use Rattle.vx_serde.proofs.TakenBelow.{none_within, one_more_within, one_more_taken, whole_taken, stands_below, node_levels, node_messages, node_taken, node_is_taken, filled_not, of_ok, own_tree, one_more_own}
 use Rattle.vx_serde.proofs.taken.+fill.Goals as goal
 
@@ -21,7 +21,7 @@ loop-i-init g t c = record {
 }
 
 pub child-requires : goal.child-requires
-child-requires g t c = omega (arith, c.nchildren-i-end.ensures, c.loop-i-test.true, ap (λ (r : TakenRoot). count (written_below r)) c.loop-i.invariant.root)
+child-requires g t c = omega (arith, c.nchildren-i-end.ensures, c.loop-i-test.true, ap (λ (r : TakenRoot). count (root_arrays r)) c.loop-i.invariant.root)
 
 pub returns-in-Err : goal.returns-in-Err
 returns-in-Err g t c = record {
@@ -31,7 +31,7 @@ returns-in-Err g t c = record {
   own = tt;
   cause = λ x u.
       let s = arrays_meaning (λ b. ((dyn-1-ghosts g.dyn-1).0.entry b.vtable).1.means b.value) c.args.arrays.now x in
-      subst (λ (r : TakenRoot). RefusesOneOf s c.args.room (written_below r) c.in-Err.e) c.loop-i.invariant.root (c.in-Err.ensures.cause x u);
+      subst (λ (r : TakenRoot). RefusesOneOf s c.args.room (root_arrays r) c.in-Err.e) c.loop-i.invariant.root (c.in-Err.ensures.cause x u);
 }
 
 pub fill-filled-requires : goal.fill-filled-requires
@@ -43,11 +43,11 @@ close-requires g t c = record {
       let x : ExtMeaning = record { reader = λ id. None; unknown = c.args.unknown } in
       let s = arrays_meaning (λ b. ((dyn-1-ghosts g.dyn-1).0.entry b.vtable).1.means b.value) c.args.arrays.now x in
       let us = c.fill-filled.new.above.children.items in
-      subst (λ (r : TakenRoot). places (roses_of us) ≡ places (written_below r)) (sym c.fill-filled.ensures.root)
-      (stands_below s (c.args.room - 1) (written_below c.in-Ok.child.root) us (of_ok c.fill-filled.result _ ok (c.fill-filled.ensures.taken x refl)));
+      subst (λ (r : TakenRoot). places (roses_of us) ≡ places (root_arrays r)) (sym c.fill-filled.ensures.root)
+      (stands_below s (c.args.room - 1) (root_arrays c.in-Ok.child.root) us (of_ok c.fill-filled.result _ ok (c.fill-filled.ensures.taken x refl)));
   own = λ ok o.
       let us = c.fill-filled.new.above.children.items in
-      subst (λ (r : TakenRoot). us ≡ roses_list (written_below r)) (sym c.fill-filled.ensures.root) (of_ok c.fill-filled.result _ ok c.fill-filled.ensures.own o);
+      subst (λ (r : TakenRoot). us ≡ roses_list (root_arrays r)) (sym c.fill-filled.ensures.root) (of_ok c.fill-filled.result _ ok c.fill-filled.ensures.own o);
 }
 
 pub returns-in-Err-close : goal.returns-in-Err-close
@@ -59,44 +59,44 @@ returns-in-Err-close g t c = record {
   cause = λ x u.
       let s = arrays_meaning (λ b. ((dyn-1-ghosts g.dyn-1).0.entry b.vtable).1.means b.value) c.args.arrays.now x in
       let child = c.in-Ok.child.root in
-      let opened = subst (λ (r : TakenRoot). IsOpened s (written_below r) c.loop-i.i (written_head child) (written_below child)) c.loop-i.invariant.root (c.in-Ok.ensures.opened x u) in
-      filled_not s c.args.room c.in-Ok.ensures.room (written_below c.args.above.now.root) c.loop-i.i (written_head child) (written_below child) opened c.fill-filled.result c.in-Err-close.e (c.fill-filled.ensures.cause x u) c.in-Err-close.ensures.cause;
+      let opened = subst (λ (r : TakenRoot). IsRootAt s (root_arrays r) c.loop-i.i (root_node child) (root_arrays child)) c.loop-i.invariant.root (c.in-Ok.ensures.opened x u) in
+      filled_not s c.args.room c.in-Ok.ensures.room (root_arrays c.args.above.now.root) c.loop-i.i (root_node child) (root_arrays child) opened c.fill-filled.result c.in-Err-close.e (c.fill-filled.ensures.cause x u) c.in-Err-close.ensures.cause;
 }
 
 pub loop-i-preserved : goal.loop-i-preserved
 loop-i-preserved g t c =
     let child = c.in-Ok.child.root in
     let us = c.fill-filled.new.above.children.items in
-    let u = node (written_head child) (roses_of us) in
+    let u = node (root_node child) (roses_of us) in
     let ok = c.in-Ok-close.ensures.well in
     let more : c.close.new.self.children.items ≡ c.loop-i.above.children.items ++ u ∷ [] =
-    subst (λ (r : TakenRoot). c.close.new.self.children.items ≡ c.loop-i.above.children.items ++ node (written_head r) (roses_of us) ∷ []) c.fill-filled.ensures.root c.in-Ok-close.ensures.children
+    subst (λ (r : TakenRoot). c.close.new.self.children.items ≡ c.loop-i.above.children.items ++ node (root_node r) (roses_of us) ∷ []) c.fill-filled.ensures.root c.in-Ok-close.ensures.children
     in
-    let within = of_ok c.fill-filled.result (AreWithin (c.args.room - 1) us) ok c.fill-filled.ensures.within in
+    let within = of_ok c.fill-filled.result (AreWithinLevels (c.args.room - 1) us) ok c.fill-filled.ensures.within in
     let any : ExtMeaning = record { reader = λ id. None; unknown = c.args.unknown } in
     let m = arrays_meaning (λ b. ((dyn-1-ghosts g.dyn-1).0.entry b.vtable).1.means b.value) c.args.arrays.now any in
     record {
       root = c.close.ensures.root ∙ c.loop-i.invariant.root;
       taken = λ x q.
           let s = arrays_meaning (λ b. ((dyn-1-ghosts g.dyn-1).0.entry b.vtable).1.means b.value) c.args.arrays.now x in
-          let o = subst (λ (r : TakenRoot). IsOpened s (written_below r) c.loop-i.i (written_head child) (written_below child)) c.loop-i.invariant.root (c.in-Ok.ensures.opened x q) in
-          let below = of_ok c.fill-filled.result (AreTaken s (c.args.room - 1) (roses_list (written_below child)) us) ok (c.fill-filled.ensures.taken x q) in
-          one_more_taken s c.args.room (roses_list (written_below c.args.above.now.root)) c.loop-i.i o.array c.loop-i.above.children.items c.close.new.self.children.items u o.stands (c.loop-i.invariant.taken x q)
-          (node_taken s c.args.room c.in-Ok.ensures.room o.array (written_head child) (written_below child) o.step_is us below) (node_is_taken s c.args.room c.in-Ok.ensures.room o.array (written_head child) (written_below child) o.step_is us below) more;
+          let o = subst (λ (r : TakenRoot). IsRootAt s (root_arrays r) c.loop-i.i (root_node child) (root_arrays child)) c.loop-i.invariant.root (c.in-Ok.ensures.opened x q) in
+          let below = of_ok c.fill-filled.result (AreTaken s (c.args.room - 1) (roses_list (root_arrays child)) us) ok (c.fill-filled.ensures.taken x q) in
+          one_more_taken s c.args.room (roses_list (root_arrays c.args.above.now.root)) c.loop-i.i o.array c.loop-i.above.children.items c.close.new.self.children.items u o.stands (c.loop-i.invariant.taken x q)
+          (node_taken s c.args.room c.in-Ok.ensures.room o.array (root_node child) (root_arrays child) o.step_is us below) (node_is_taken s c.args.room c.in-Ok.ensures.room o.array (root_node child) (root_arrays child) o.step_is us below) more;
       within =
-          one_more_within c.args.room c.loop-i.above.children.items c.close.new.self.children.items u c.loop-i.invariant.within (node_levels c.args.room (written_head child) us c.in-Ok.ensures.room within)
-          (node_messages m (c.args.room - 1) (written_below child) us (of_ok c.fill-filled.result (AreTaken m (c.args.room - 1) (roses_list (written_below child)) us) ok (c.fill-filled.ensures.taken any refl)) (written_head child) c.in-Ok.ensures.message within)
+          one_more_within c.args.room c.loop-i.above.children.items c.close.new.self.children.items u c.loop-i.invariant.within (node_levels c.args.room (root_node child) us c.in-Ok.ensures.room within)
+          (node_messages m (c.args.room - 1) (root_arrays child) us (of_ok c.fill-filled.result (AreTaken m (c.args.room - 1) (roses_list (root_arrays child)) us) ok (c.fill-filled.ensures.taken any refl)) (root_node child) c.in-Ok.ensures.message within)
           more;
       own = λ o.
           let k = c.in-Ok-close.ensures.own o in
-          let ts = roses_list (written_below c.args.above.now.root) in
-          let stands = subst (λ (r : TakenRoot). slice_get (roses_list (written_below r)) c.loop-i.i ≡ Some (source_tree child.source)) c.loop-i.invariant.root c.in-Ok.ensures.stands in
+          let ts = roses_list (root_arrays c.args.above.now.root) in
+          let stands = subst (λ (r : TakenRoot). slice_get (roses_list (root_arrays r)) c.loop-i.i ≡ Some (source_tree child.source)) c.loop-i.invariant.root c.in-Ok.ensures.stands in
           one_more_own ts c.loop-i.i (source_tree child.source) c.loop-i.above.children.items c.close.new.self.children.items u stands (c.loop-i.invariant.own k.0) (own_tree child us (subst (λ (r : TakenRoot). IsOwn r us) c.fill-filled.ensures.root k.1)) more;
     }
 
 pub returns : goal.returns
 returns g t c =
-    let ts = written_below c.args.above.now.root in
+    let ts = root_arrays c.args.above.now.root in
     let past : length (roses_list ts) ≤ c.loop-i.i = omega (arith, length-roses_list ts, c.nchildren-i-end.ensures, c.loop-i-test.false) in
     record {
       root = c.loop-i.invariant.root;

@@ -6,7 +6,7 @@ use Rattle.vx_array_tree.specs.Tree.{places}
 use Rattle.vx_wire_tree.specs.Limits.{HasMessages}
 use Rattle.vx_registry.specs.Meaning.{arrays_meaning}
 use Rattle.vx_serde.specs.declared.taken.TakenRoot.{TakenRoot}
-use Rattle.vx_serde.specs.Taking.{source_tree, written_head, written_below}
+use Rattle.vx_serde.specs.Taking.{source_tree, root_node, root_arrays}
 use Rattle.vx_serde.proofs.TakenBelow.{stands_below, node_levels, node_messages, node_taken, node_is_taken, root_refused_below, own_root}
 use Rattle.vx_serde.proofs.Taking.{wanted}
 use Rattle.vx_serde.proofs.taken.take.Goals as goal
@@ -22,12 +22,12 @@ over-requires g c = record {
   places =
       let x : ExtMeaning = record { reader = λ id. None; unknown = c.args.unknown } in
       let us = c.fill.new.above.children.items in
-      subst (λ (r : TakenRoot). places (roses_of us) ≡ places (written_below r)) (sym c.fill.ensures.root)
-      (stands_below (arrays_meaning (λ b. (goal.ArrayPlugin-dyn g (b.vtable, b.value)).means b.value) c.args.arrays.now x) _ (written_below c.in-Ok.above.root) us (c.in-Ok-fill.ensures.taken x refl));
+      subst (λ (r : TakenRoot). places (roses_of us) ≡ places (root_arrays r)) (sym c.fill.ensures.root)
+      (stands_below (arrays_meaning (λ b. (goal.ArrayPlugin-dyn g (b.vtable, b.value)).means b.value) c.args.arrays.now x) _ (root_arrays c.in-Ok.above.root) us (c.in-Ok-fill.ensures.taken x refl));
   own = λ o.
       let us = c.fill.new.above.children.items in
       let k = c.is_own-own.ensures o in
-      own_root c.fill.new.above.root us (subst (λ (r : TakenRoot). us ≡ roses_list (written_below r)) (sym c.fill.ensures.root) (c.in-Ok-fill.ensures.own k.0)) k.1;
+      own_root c.fill.new.above.root us (subst (λ (r : TakenRoot). us ≡ roses_list (root_arrays r)) (sym c.fill.ensures.root) (c.in-Ok-fill.ensures.own k.0)) k.1;
 }
 
 pub returns-in-Err-over : goal.returns-in-Err-over
@@ -43,17 +43,17 @@ pub returns-in-Ok-over : goal.returns-in-Ok-over
 returns-in-Ok-over g c =
     let root = c.in-Ok.above.root in
     let us = c.fill.new.above.children.items in
-    let is = subst (λ (r : TakenRoot). c.in-Ok-over.node ≡ node (written_head r) (roses_of us)) c.fill.ensures.root c.in-Ok-over.ensures.ok in
+    let is = subst (λ (r : TakenRoot). c.in-Ok-over.node ≡ node (root_node r) (roses_of us)) c.fill.ensures.root c.in-Ok-over.ensures.ok in
     let any : ExtMeaning = record { reader = λ id. None; unknown = c.args.unknown } in
     let m = arrays_meaning (λ b. (goal.ArrayPlugin-dyn g (b.vtable, b.value)).means b.value) c.args.arrays.now any in
     record {
       tree = λ x u.
           is
-          ∙ node_taken (arrays_meaning (λ b. (goal.ArrayPlugin-dyn g (b.vtable, b.value)).means b.value) c.args.arrays.now x) c.args.room c.in-Ok.ensures.room (source_tree c.args.source) (written_head root) (written_below root) (c.in-Ok.ensures.step x u) us (c.in-Ok-fill.ensures.taken x u);
+          ∙ node_taken (arrays_meaning (λ b. (goal.ArrayPlugin-dyn g (b.vtable, b.value)).means b.value) c.args.arrays.now x) c.args.room c.in-Ok.ensures.room (source_tree c.args.source) (root_node root) (root_arrays root) (c.in-Ok.ensures.step x u) us (c.in-Ok-fill.ensures.taken x u);
       written = λ x u.
-          node_is_taken (arrays_meaning (λ b. (goal.ArrayPlugin-dyn g (b.vtable, b.value)).means b.value) c.args.arrays.now x) c.args.room c.in-Ok.ensures.room (source_tree c.args.source) (written_head root) (written_below root) (c.in-Ok.ensures.step x u) us (c.in-Ok-fill.ensures.taken x u);
-      levels = omega (arith, node_levels c.args.room (written_head root) us c.in-Ok.ensures.room c.in-Ok-fill.ensures.within, ap (λ z. levels z) is);
-      messages = subst (λ z. HasMessages z) (sym is) (node_messages m _ (written_below root) us (c.in-Ok-fill.ensures.taken any refl) (written_head root) c.in-Ok.ensures.message c.in-Ok-fill.ensures.within);
+          node_is_taken (arrays_meaning (λ b. (goal.ArrayPlugin-dyn g (b.vtable, b.value)).means b.value) c.args.arrays.now x) c.args.room c.in-Ok.ensures.room (source_tree c.args.source) (root_node root) (root_arrays root) (c.in-Ok.ensures.step x u) us (c.in-Ok-fill.ensures.taken x u);
+      levels = omega (arith, node_levels c.args.room (root_node root) us c.in-Ok.ensures.room c.in-Ok-fill.ensures.within, ap (λ z. levels z) is);
+      messages = subst (λ z. HasMessages z) (sym is) (node_messages m _ (root_arrays root) us (c.in-Ok-fill.ensures.taken any refl) (root_node root) c.in-Ok.ensures.message c.in-Ok-fill.ensures.within);
       cause = λ x u. tt;
     }
 
@@ -64,6 +64,6 @@ returns-in-Err-fill g c = record {
   levels = tt;
   messages = tt;
   cause = λ x u.
-      root_refused_below (arrays_meaning (λ b. (goal.ArrayPlugin-dyn g (b.vtable, b.value)).means b.value) c.args.arrays.now x) c.args.room c.in-Ok.ensures.room (source_tree c.args.source) (written_head c.in-Ok.above.root) (written_below c.in-Ok.above.root) (c.in-Ok.ensures.step x u)
+      root_refused_below (arrays_meaning (λ b. (goal.ArrayPlugin-dyn g (b.vtable, b.value)).means b.value) c.args.arrays.now x) c.args.room c.in-Ok.ensures.room (source_tree c.args.source) (root_node c.in-Ok.above.root) (root_arrays c.in-Ok.above.root) (c.in-Ok.ensures.step x u)
       c.in-Err-fill.e (c.in-Err-fill.ensures.cause x u);
 }
