@@ -35,7 +35,7 @@ use Rattle.vx_serde.specs.Errors.{registry_refusal}
 use Rattle.vx_serde.specs.Limits.{most_levels}
 use Rattle.vx_serde.specs.Spells.{KeepsWriterLimits}
 use Rattle.vx_serde.specs.declared.taken.GivenParts.{GivenParts}
-use Rattle.vx_serde.specs.Taking.{as_written, own_parts, taken_head, StandsAs, RefusesStep, RefusesTaking, RefusesOneOf}
+use Rattle.vx_serde.specs.Taking.{as_written, own_parts, taken_head, StandsAs, RefusesTaking, RefusesOneOf}
 use Rattle.vx_serde.proofs.WiredNodes.{wired-levels}
 
 module _ (s : SessionMeaning) where
@@ -80,14 +80,13 @@ module _ (s : SessionMeaning) where
   large_by n t (written h ts) e k = large_root n t h ts e k
   large_by n t (unwritten why) e k = absurd k
 
-  pub root_refused : (n : ℕ) (t : Tree) (e : WireError) → RefusesStep (step s t) e → RefusesTaking s (suc n) t e
-  root_refused n t OutOfMemory k = tt
-  root_refused n t WireLimit k = large_by n t (step s t) refl k
-  root_refused n t NotRegistered k = inl k
-  root_refused n t NotSerializable k = inl k
-  root_refused n t UndeclaredId k = inl k
-  root_refused n t PluginRefused k = inl k
-  root_refused n t _ k = absurd k
+  -- The registry does not write the root.
+  pub root_refused : (n : ℕ) (t : Tree) (e : RegistryError) → IsUnserialized e (step s t) → RefusesTaking s (suc n) t (registry_refusal e)
+  root_refused n t registry.OutOfMemory k = tt
+  root_refused n t registry.NotRegistered k = inl k
+  root_refused n t registry.UndeclaredId k = inl k
+  root_refused n t registry.PluginRefused k = inl k
+  root_refused n t registry.WireLimit k = large_by n t (step s t) refl k
 
   -- ---- one of several
 
@@ -184,9 +183,13 @@ module _ (src : Tree) (us : Trees) (t : Tree) where
 
 -- ---- where there is room for one level more than below
 
--- A root is refused, and so is the array.
-pub root_at : (s : SessionMeaning) (n room : ℕ) (e : suc n ≡ room) (t : Tree) (x : WireError) → RefusesStep (step s t) x → RefusesTaking s room t x
-root_at s n room e t x k = subst (λ m. RefusesTaking s m t x) e (root_refused s n t x k)
+-- A root is not written, and neither is the array.
+pub root_at : (s : SessionMeaning) (n room : ℕ) (e : suc n ≡ room) (t : Tree) (x : RegistryError) → IsUnserialized x (step s t) → RefusesTaking s room t (registry_refusal x)
+root_at s n room e t x k = subst (λ m. RefusesTaking s m t (registry_refusal x)) e (root_refused s n t x k)
+
+-- Its plugin has no form for it.
+pub formless_at : (s : SessionMeaning) (n room : ℕ) (e : suc n ≡ room) (t : Tree) → step s t ≡ unwritten unserializable → RefusesTaking s room t NotSerializable
+formless_at s n room e t k = subst (λ m. RefusesTaking s m t NotSerializable) e (inl k)
 
 -- A node that is written, over what is written below it.
 module _ (s : SessionMeaning) (n room : ℕ) (e : suc n ≡ room) (t : Tree) (h : Head) (ts : Trees) (w : step s t ≡ written h ts) where
@@ -202,16 +205,6 @@ module _ (s : SessionMeaning) (n room : ℕ) (e : suc n ≡ room) (t : Tree) (h 
 -- What is written of arrays stands where they do.
 pub stands_at : (s : SessionMeaning) (n : ℕ) (us ts : Trees) → us ≡ each (taken s n) ts → places us ≡ places ts
 stands_at s n us ts e = ap (λ z. places z) e ∙ places_taken s n ts
-
--- ---- a root by what is written of it
-
--- Not at all.
-pub unserialized_step : (x : Step) (e : RegistryError) → IsUnserialized e x → RefusesStep x (registry_refusal e)
-unserialized_step x registry.OutOfMemory k = tt
-unserialized_step x registry.NotRegistered k = k
-unserialized_step x registry.UndeclaredId k = k
-unserialized_step x registry.PluginRefused k = k
-unserialized_step x registry.WireLimit k = k
 
 -- Memory was wanted.
 pub wanted : (s : SessionMeaning) (n : ℕ) (t : Tree) (e : WireError) → e ≡ OutOfMemory → RefusesTaking s n t e

@@ -8,9 +8,8 @@ use Rattle.vx_trees.specs.Everywhere.{EverywhereBelow}
 use Rattle.vx_wire_tree.specs.Limits.{HasMessage, HasMessages}
 use Rattle.vx_wire_tree.specs.Plugin.{Parts}
 use Rattle.vx_wire_tree.specs.Session.{SessionMeaning}
-use Rattle.vx_wire_tree.specs.Taken.{Step, written, unwritten, step, taken, IsTaken, given_head, each, Each, Any, HasUntaken, unregistered, unserializable, undeclared, unwilling}
+use Rattle.vx_wire_tree.specs.Taken.{written, step, taken, IsTaken, given_head, each, Each, Any, HasUntaken, unregistered, unserializable, undeclared, unwilling}
 use Rattle.vx_registry.specs.Plugin.{parts_in}
-use Rattle.vx_registry.specs.Serialization.{HasLargeMetadata}
 use Rattle.vx_registry.specs.declared.serialization.ArraySerialization.{ArraySerialization}
 use Rattle.vx_serde.specs.declared.error.WireError.{WireError}
 use Rattle.vx_serde.specs.declared.error.WireError.TheVariants.{OutOfMemory, WireLimit, NotRegistered, NotSerializable, UndeclaredId, PluginRefused}
@@ -88,16 +87,6 @@ pub record IsRootAt (s : SessionMeaning) (arrays : Trees) (i : ℕ) (h : Head) (
   pub array : Tree
   pub stands : slice_get (roses_list arrays) i ≡ Some array
   pub step_is : step s array ≡ written h ts
-
--- Why a root is not written: by the refusal.
-abbrev pub RefusesStep : Step → WireError → Type 0
-RefusesStep x OutOfMemory = Unit {0}
-RefusesStep x WireLimit = HasLargeMetadata x
-RefusesStep x NotRegistered = x ≡ unwritten unregistered
-RefusesStep x NotSerializable = x ≡ unwritten unserializable
-RefusesStep x UndeclaredId = x ≡ unwritten undeclared
-RefusesStep x PluginRefused = x ≡ unwritten unwilling
-RefusesStep x _ = ⊥
 
 -- Why the nodes of an array are not written, where there is room for n levels: by the refusal. There are more levels than
 -- that, or the metadata of a node does not fit its message; or a node is not written for the cause that is told.
