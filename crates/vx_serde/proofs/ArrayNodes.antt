@@ -22,7 +22,7 @@ use Rattle.vx_serde.specs.MessageValue.{node_value, descriptors_bytes}
 use Rattle.vx_serde.specs.Numbered.{numbered}
 use Rattle.vx_serde.specs.Placing.{descriptors_from}
 use Rattle.vx_serde.specs.ReadingSteps.{message_refusal}
-use Rattle.vx_serde.specs.WritingSteps.{RefusesGathering, layout_of}
+use Rattle.vx_serde.specs.WritingSteps.{RefusesIds, layout_of}
 use Rattle.vx_serde.proofs.MessageBlocks.{too-many}
 use Rattle.vx_serde.proofs.NumberedBy.{as-many, root-numbered, layout-numbered, message-of_kind}
 use Rattle.vx_serde.proofs.WholeBlob.{unwritten}
@@ -38,7 +38,7 @@ module _ (s : SessionMeaning) (t : Tree) (c : Context) where
       ap (λ root. table_pieces array_schema node_fields (node_value root)) (root-numbered d.ids w es e ∙ ap (λ ids. numbered ids 0 w) (grown-ids s t c d g))
 
   -- A tree whose nodes are not gathered.
-  pub ungathered : (b : Built) (e : WireError) → RefusesGathering s t c e → RefusesBlocks s t c b e
+  pub ungathered : (b : Built) (e : WireError) → RefusesIds (ids_in (wire codec s t)) c e → RefusesBlocks s t c b e
   ungathered b OutOfMemory h = tt
   ungathered b NotPermitted h = h
   ungathered b _ h = absurd h

@@ -7,14 +7,14 @@ use Rattle.vx_trees.proofs.Holding.{everywhere_below-snoc}
 use Rattle.vx_array_tree.specs.Tree.{Tree}
 use Rattle.vx_wire_tree.specs.Context.{Context, grown_by}
 use Rattle.vx_wire_tree.specs.Session.{SessionMeaning}
-use Rattle.vx_wire_tree.specs.Wire.{id_in}
+use Rattle.vx_wire_tree.specs.Wire.{id_in, ids_in}
 use Rattle.vx_wire_tree.specs.Written.{writes_two, wire}
 use Rattle.vx_encodings.specs.Messages.{codec}
 use Rattle.vx_registry.specs.Serialization.{array_id}
 use Rattle.vx_serde.specs.declared.error.WireError.{WireError}
 use Rattle.vx_serde.specs.declared.error.WireError.TheVariants.{OutOfMemory, NotPermitted}
 use Rattle.vx_serde.specs.declared.options.SerializeOptions.{SerializeOptions}
-use Rattle.vx_serde.specs.WritingSteps.{RefusesRoot, RefusesGathering, RefusesLayout}
+use Rattle.vx_serde.specs.WritingSteps.{RefusesIds, RefusesLayout}
 use Rattle.vx_serde.proofs.GrownNodes.{ungrown-own, ungrown-child}
 use Rattle.vx_serde.proofs.WiredNodes.{wired, wired-below, wired-at, wired-within, own-grown, own-ungrown, gathered_first}
 
@@ -29,7 +29,7 @@ everywhere-next F ts i t h e b x =
 
 -- ---- why what nodes bring along is not taken
 
-pub root-refused : (s : SessionMeaning) (two : Bool) → writes_two s ≡ two → (t : Tree) (c : Context) (e : WireError) → RefusesRoot two t c e → RefusesGathering s t c e
+pub root-refused : (s : SessionMeaning) (two : Bool) → writes_two s ≡ two → (t : Tree) (c : Context) (e : WireError) → RefusesIds (array_id two t ∷ []) c e → RefusesIds (ids_in (wire codec s t)) c e
 root-refused s two q t c OutOfMemory h = tt
 root-refused s two q t c NotPermitted h = ungrown-own (wire codec s t) c (own-ungrown s two q t c h)
 root-refused s two q t c _ h = absurd h
@@ -38,7 +38,7 @@ root-refused s two q t c _ h = absurd h
 module _ (s : SessionMeaning) (two : Bool) (same : writes_two s ≡ two) (t : Tree) (ts : List Tree) (i : ℕ) (u : Tree) (a b c : Context) where
   pub child-ungathered : (e : WireError) → i < length ts → u ≡ get_or ts i u → roses_of ts ≡ below t
       → grown_by (array_id two t ∷ []) a ≡ Some b → grown_by (gathered_first s (λ h. id_in h) ts i) b ≡ Some c
-      → RefusesGathering s u c e → RefusesGathering s t a e
+      → RefusesIds (ids_in (wire codec s u)) c e → RefusesIds (ids_in (wire codec s t)) a e
   child-ungathered OutOfMemory h p q g k r = tt
   child-ungathered NotPermitted h p q g k r =
       ungrown-child (wire codec s t) (wired s ts) i (wire codec s u) a b c (wired-below s t ts q) (wired-within s ts i h) (wired-at s ts i u h p) (own-grown s two same t a b g) k r
@@ -46,7 +46,7 @@ module _ (s : SessionMeaning) (two : Bool) (same : writes_two s ≡ two) (t : Tr
 
 -- ---- an array whose identifiers are not taken is not laid out
 
-pub unplaced_nodes : (s : SessionMeaning) (o : SerializeOptions) (t : Tree) (c : Context) (e : WireError) → RefusesGathering s t c e → RefusesLayout s o t c e
+pub unplaced_nodes : (s : SessionMeaning) (o : SerializeOptions) (t : Tree) (c : Context) (e : WireError) → RefusesIds (ids_in (wire codec s t)) c e → RefusesLayout s o t c e
 unplaced_nodes s o t c OutOfMemory h = tt
 unplaced_nodes s o t c NotPermitted h = h
 unplaced_nodes s o t c _ h = absurd h

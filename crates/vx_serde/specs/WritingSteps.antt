@@ -1,5 +1,5 @@
 -- What the steps of writing an array give, and why they refuse.
-use Rattle.std.specs.Prelude.{ℕ, Bool, ◌≡◌, ◌<◌, ◌^◌, List, [], ◌∷◌, None, length}
+use Rattle.std.specs.Prelude.{ℕ, ◌≡◌, ◌<◌, ◌^◌, List, None, length}
 use Rattle.vx_flat.specs.Layout.{written_layout}
 use Rattle.vx_flat.specs.declared.limits.Limits.{Limits}
 use Rattle.vx_flat.specs.Limits.{IsLight}
@@ -12,7 +12,6 @@ use Rattle.vx_scalar_wire.specs.declared.error.ScalarWireError.TheVariants as sc
 use Rattle.vx_array_tree.specs.Tree.{Tree}
 use Rattle.vx_wire_tree.specs.Context.{Context, grown_by}
 use Rattle.vx_wire_tree.specs.Session.{SessionMeaning}
-use Rattle.vx_registry.specs.Serialization.{array_id}
 use Rattle.vx_serde.specs.declared.error.WireError.{WireError}
 use Rattle.vx_serde.specs.declared.error.WireError.TheVariants.{OutOfMemory, NotPermitted, WireLimit}
 use Rattle.vx_serde.specs.declared.options.SerializeOptions.{SerializeOptions}
@@ -60,22 +59,14 @@ builder_refusal _ = tables.MessageTooLong
 
 -- ---- nodes
 
--- A root's identifier is not taken for want of memory, or because the context does not take it.
-abbrev pub RefusesRoot : Bool → Tree → Context → WireError → Type 0
-RefusesRoot two t c OutOfMemory = Unit {0}
-RefusesRoot two t c NotPermitted = grown_by (array_id two t ∷ []) c ≡ None
-RefusesRoot two t c _ = ⊥
+-- Identifiers are not taken for want of memory, or because the context does not take one of them.
+abbrev pub RefusesIds : List (List ℕ) → Context → WireError → Type 0
+RefusesIds ids c OutOfMemory = Unit {0}
+RefusesIds ids c NotPermitted = grown_by ids c ≡ None
+RefusesIds ids c _ = ⊥
 
--- The same of a whole tree.
-abbrev pub RefusesGathering : SessionMeaning → Tree → Context → WireError → Type 0
-RefusesGathering s t c OutOfMemory = Unit {0}
-RefusesGathering s t c NotPermitted = grown_by (ids_in (wire codec s t)) c ≡ None
-RefusesGathering s t c _ = ⊥
-
--- A tree is not laid out because the context does not take its identifiers, or it passes one of the limits that are known
--- before its message.
+-- A tree is not laid out because its identifiers are not taken, or because it passes one of the limits that are known before
+-- its message.
 abbrev pub RefusesLayout : SessionMeaning → SerializeOptions → Tree → Context → WireError → Type 0
-RefusesLayout s options t c OutOfMemory = Unit {0}
 RefusesLayout s options t c WireLimit = KeepsTreeLimits options (wire codec s t) → ⊥
-RefusesLayout s options t c NotPermitted = grown_by (ids_in (wire codec s t)) c ≡ None
-RefusesLayout s options t c _ = ⊥
+RefusesLayout s options t c e = RefusesIds (ids_in (wire codec s t)) c e

@@ -11,7 +11,7 @@ ghost use Rattle.vx_encodings.specs.Messages.{codec};
 ghost use Rattle.vx_registry.specs.Serialization.{array_id};
 ghost use Rattle.vx_serde.specs.Blocks.{encodings_in};
 ghost use Rattle.vx_serde.specs.KeptContext.{KeepsContext};
-ghost use Rattle.vx_serde.specs.WritingSteps.{RefusesRoot, RefusesGathering};
+ghost use Rattle.vx_serde.specs.WritingSteps.{RefusesIds};
 
 use crate::error::WireError;
 use crate::lent_buffers::LentBuffers;
@@ -50,7 +50,7 @@ fn encoding_number(
     ensures grown { OnOk result (grown_by (array_id two array.now ∷ []) ctx.old ≡ Some ctx.new) }
     ensures number { IfOk result (λ n. (more : List (List ℕ)) → index_of (array_id two array.now) (ctx.new.ids ++ more) ≡ n) }
     ensures kept { KeepsContext (array_id two array.now ∷ []) ctx.old ctx.new }
-    ensures cause { IfErr result (RefusesRoot two array.now ctx.old) }
+    ensures cause { IfErr result (RefusesIds (array_id two array.now ∷ []) ctx.old) }
 {
     let Ok(id) = array.written_id(alloc, two) else {
         return Err(WireError::OutOfMemory);
@@ -84,7 +84,7 @@ fn push_root<'a>(
     ensures encodings { (more : List (List ℕ)) → OnOk result (found.new.encodings.items ≡ found.old.encodings.items ++ index_of (array_id two array.now) (ctx.new.ids ++ more) ∷ []) }
     ensures grown { OnOk result (grown_by (array_id two array.now ∷ []) ctx.old ≡ Some ctx.new) }
     ensures kept { KeepsContext (array_id two array.now ∷ []) ctx.old ctx.new }
-    ensures cause { IfErr result (RefusesRoot two array.now ctx.old) }
+    ensures cause { IfErr result (RefusesIds (array_id two array.now ∷ []) ctx.old) }
 {
     let encoding = encoding_number(alloc, array, two, ctx)?;
     found.encodings.push(encoding)?;
@@ -106,7 +106,7 @@ pub(crate) fn gather<'a>(
     ensures encodings { (s : SessionMeaning) (more : List (List ℕ)) → writes_two s ≡ two → OnOk result (found.new.encodings.items ≡ found.old.encodings.items ++ encodings_in (ctx.new.ids ++ more) (wire codec s array.now)) }
     ensures grown { (s : SessionMeaning) → writes_two s ≡ two → OnOk result (grown_by (ids_in (wire codec s array.now)) ctx.old ≡ Some ctx.new) }
     ensures kept { (s : SessionMeaning) → writes_two s ≡ two → KeepsContext (ids_in (wire codec s array.now)) ctx.old ctx.new }
-    ensures cause { (s : SessionMeaning) → writes_two s ≡ two → IfErr result (RefusesGathering s array.now ctx.old) }
+    ensures cause { (s : SessionMeaning) → writes_two s ≡ two → IfErr result (RefusesIds (ids_in (wire codec s array.now)) ctx.old) }
 {
     push_root(alloc, array, two, ctx, found)?;
     let children = array.children();
