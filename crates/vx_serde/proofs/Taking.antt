@@ -1,5 +1,5 @@
 -- What is written of an array, node by node, and why a node is not.
-use Rattle.std.specs.Prelude.{Box, bytes_eq, slice_get, if◌then◌else◌}
+use Rattle.std.specs.Prelude.{Box, IsSomeAnd, bytes_eq, slice_get, if◌then◌else◌}
 use Rattle.std.specs.Global.{Global}
 use Rattle.std.specs.List.{list_any}
 use Rattle.std.proofs.Common.{ℕ, zero, suc, Option, Some, None, Bool, true, false, ◌≡◌, ◌≤◌, inl, inr, List, [], ◌∷◌, refl, sym, ap, ◌∙◌, subst, arith}
@@ -35,8 +35,18 @@ use Rattle.vx_serde.specs.Errors.{registry_refusal}
 use Rattle.vx_serde.specs.Limits.{most_levels}
 use Rattle.vx_serde.specs.Spells.{KeepsWriterLimits}
 use Rattle.vx_serde.specs.declared.taken.GivenParts.{GivenParts}
-use Rattle.vx_serde.specs.Taking.{as_written, own_parts, taken_head, StandsAs, RefusesTaking, RefusesOneOf}
+use Rattle.vx_serde.specs.Taking.{as_written, own_parts, taken_head, StandsAs, unwritten_by, RefusesTaking, RefusesOneOf}
 use Rattle.vx_serde.proofs.WiredNodes.{wired-levels}
+
+-- No cause is told of which none holds.
+never_because : (o : Option Unwritten) (P : Unwritten → Type 0) → ((why : Unwritten) → P why → ⊥) → IsSomeAnd o P → ⊥
+never_because None P f k = k
+never_because (Some why) P f k = f why k
+
+-- What follows of each cause follows of the one that is told.
+because : (o : Option Unwritten) (P Q : Unwritten → Type 0) → ((why : Unwritten) → P why → Q why) → IsSomeAnd o P → IsSomeAnd o Q
+because None P Q f k = k
+because (Some why) P Q f k = f why k
 
 module _ (s : SessionMeaning) where
   pub message_by_places : (h : Head) (us ts : Trees) → places us ≡ places ts → HasMessage h us → HasMessage h ts
@@ -68,11 +78,7 @@ module _ (s : SessionMeaning) where
     below_refused OutOfMemory k = tt
     below_refused WireLimit (inl k) = inl (omega (arith, k, ap (λ z. levels z) taken_is))
     below_refused WireLimit (inr k) = inr (λ m. let own = subst (λ z. HasMessages z) taken_is m in k own.1)
-    below_refused NotRegistered k = untaken_below unregistered k
-    below_refused NotSerializable k = untaken_below unserializable k
-    below_refused UndeclaredId k = untaken_below undeclared k
-    below_refused PluginRefused k = untaken_below unwilling k
-    below_refused _ k = absurd k
+    below_refused x k = because (unwritten_by x) (λ why. Any (λ u. HasUntaken s n why u) ts) (λ why. HasUntaken s (suc n) why t) untaken_below k
 
   -- ---- a node whose step does not write it
 
@@ -94,21 +100,13 @@ module _ (s : SessionMeaning) where
   first_refused n t ts OutOfMemory k = tt
   first_refused n t ts WireLimit (inl k) = inl (omega (arith, k))
   first_refused n t ts WireLimit (inr k) = inr (λ m. k m.0)
-  first_refused n t ts NotRegistered k = inl k
-  first_refused n t ts NotSerializable k = inl k
-  first_refused n t ts UndeclaredId k = inl k
-  first_refused n t ts PluginRefused k = inl k
-  first_refused n t ts _ k = absurd k
+  first_refused n t ts e k = because (unwritten_by e) (λ why. HasUntaken s n why t) (λ why. Any (λ u. HasUntaken s n why u) (more t ts)) (λ why u. inl u) k
 
   later_refused : (n : ℕ) (t : Tree) (ts : Trees) (e : WireError) → RefusesOneOf s n ts e → RefusesOneOf s n (more t ts) e
   later_refused n t ts OutOfMemory k = tt
   later_refused n t ts WireLimit (inl k) = inl (omega (arith, k))
   later_refused n t ts WireLimit (inr k) = inr (λ m. k m.1)
-  later_refused n t ts NotRegistered k = inr k
-  later_refused n t ts NotSerializable k = inr k
-  later_refused n t ts UndeclaredId k = inr k
-  later_refused n t ts PluginRefused k = inr k
-  later_refused n t ts _ k = absurd k
+  later_refused n t ts e k = because (unwritten_by e) (λ why. Any (λ u. HasUntaken s n why u) ts) (λ why. Any (λ u. HasUntaken s n why u) (more t ts)) (λ why u. inr u) k
 
   pub one_refused : (n : ℕ) (ts : List Tree) (i : ℕ) (t : Tree) (e : WireError) → slice_get ts i ≡ Some t → RefusesTaking s n t e → RefusesOneOf s n (roses_of ts) e
   one_refused n [] i t e p k = absurd (cc)
@@ -121,11 +119,8 @@ module _ (s : SessionMeaning) where
   untaken o t c OutOfMemory k = tt
   untaken o t c WireLimit (inl k) = λ l. omega (arith, k, l.writable.tree.nested, wired-levels s (as_written s o t))
   untaken o t c WireLimit (inr k) = λ l. k l.messages
-  untaken o t c NotRegistered k = k
-  untaken o t c NotSerializable k = k
-  untaken o t c UndeclaredId k = k
-  untaken o t c PluginRefused k = k
-  untaken o t c _ k = absurd k
+  untaken o t c NotPermitted k = absurd k
+  untaken o t c e k = k
 
 -- ---- a node that is written
 
@@ -234,11 +229,7 @@ refused_own s ok t c o NotPermitted w k = subst (λ (z : Tree). grown codec s c 
 refused_own s ok t c o WireLimit w k = λ fits.
     let whole = laws.taken_whole s ok (most_levels o) t w (omega (arith, fits.writable.tree.nested, wired-levels s t)) in
     k (subst (λ (z : Tree). KeepsWriterLimits s z c o) (sym whole) fits)
-refused_own s ok t c o NotRegistered w k = absurd (never_untaken s ok (most_levels o) unregistered t w k)
-refused_own s ok t c o NotSerializable w k = absurd (never_untaken s ok (most_levels o) unserializable t w k)
-refused_own s ok t c o UndeclaredId w k = absurd (never_untaken s ok (most_levels o) undeclared t w k)
-refused_own s ok t c o PluginRefused w k = absurd (never_untaken s ok (most_levels o) unwilling t w k)
-refused_own s ok t c o _ w k = absurd k
+refused_own s ok t c o e w k = absurd (never_because (unwritten_by e) (λ why. HasUntaken s (most_levels o) why t) (λ why u. never_untaken s ok (most_levels o) why t w u) k)
 
 -- What is taken, where no plugin writes, is the array.
 pub taken_as_own : (s : SessionMeaning) (n : ℕ) (t u : Tree) → IsShipped s → u ≡ taken s n t → IsTaken s n t → levels u ≤ n → u ≡ t

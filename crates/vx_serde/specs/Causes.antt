@@ -1,5 +1,5 @@
 -- The cause of each refusal.
-use Rattle.std.specs.Prelude.{ℕ, ◌≡◌, ◌≤◌, None, ◌⊎◌}
+use Rattle.std.specs.Prelude.{ℕ, ◌≡◌, ◌≤◌, None, IsSomeAnd, ◌⊎◌}
 use Rattle.vx_trees.specs.Walks.{levels}
 use Rattle.vx_types.specs.Typ.{Typ}
 use Rattle.vx_array_tree.specs.Tree.{Tree}
@@ -7,7 +7,7 @@ use Rattle.vx_wire_tree.specs.Causes.{RefusesTree}
 use Rattle.vx_wire_tree.specs.Causes as trees
 use Rattle.vx_wire_tree.specs.Context.{Context, grown}
 use Rattle.vx_wire_tree.specs.Session.{SessionMeaning, IsShipped}
-use Rattle.vx_wire_tree.specs.Taken.{IsTaken, HasUntaken, unregistered, unserializable, undeclared, unwilling}
+use Rattle.vx_wire_tree.specs.Taken.{IsTaken, HasUntaken}
 use Rattle.vx_wire_tree.specs.Wire.{Wire}
 use Rattle.vx_encodings.specs.Messages.{codec}
 use Rattle.vx_serde.specs.declared.options.SerializeOptions.{SerializeOptions}
@@ -17,7 +17,7 @@ use Rattle.vx_serde.specs.Blob.{Carries}
 use Rattle.vx_serde.specs.Limits.{message_limits, most_levels}
 use Rattle.vx_serde.specs.Opening.{RefusesOpening}
 use Rattle.vx_serde.specs.Spells.{KeepsWriterLimits}
-use Rattle.vx_serde.specs.Taking.{as_written}
+use Rattle.vx_serde.specs.Taking.{as_written, unwritten_by}
 use Rattle.vx_serde.specs.Request.{Request, IsSpelled}
 
 -- Why a wire tree tells no array at a type and a length: by the refusal.
@@ -65,12 +65,10 @@ pub record IsNotPermitted (s : SessionMeaning) (t : Tree) (context : Context) (o
 -- of a node's encoding, or a node is foreign and such nodes are not allowed; or the plugin that writes a node has no form for
 -- it, names an identifier that it does not declare, or refuses it.
 abbrev pub RefusesArray : SessionMeaning → Tree → Context → SerializeOptions → WireError → Type 0
-RefusesArray s t context options NotRegistered = HasUntaken s (most_levels options) unregistered t
-RefusesArray s t context options NotSerializable = HasUntaken s (most_levels options) unserializable t
-RefusesArray s t context options UndeclaredId = HasUntaken s (most_levels options) undeclared t
-RefusesArray s t context options PluginRefused = HasUntaken s (most_levels options) unwilling t
+RefusesArray s t context options OutOfMemory = Unit {0}
 RefusesArray s t context options NotPermitted = IsNotPermitted s t context options
-RefusesArray s t context options e = RefusesWriting s (as_written s options t) context options e
+RefusesArray s t context options WireLimit = RefusesWriting s (as_written s options t) context options WireLimit
+RefusesArray s t context options e = IsSomeAnd (unwritten_by e) (λ why. HasUntaken s (most_levels options) why t)
 
 -- Why an array that was read is not written: by the refusal. Where no plugin reads or writes, the array has no blob as it stands.
 pub record RefusesSpelled (asked : Request) (e : WireError) (t : Tree) : Type 0 where

@@ -1,5 +1,5 @@
 -- An array as it is written, as a tree; and why its nodes are not written.
-use Rattle.std.specs.Prelude.{ℕ, ◌≡◌, ◌≤◌, ◌<◌, ◌⊎◌, List, Option, Some, None, Box, Vec, map, slice_get}
+use Rattle.std.specs.Prelude.{ℕ, ◌≡◌, ◌≤◌, ◌<◌, ◌⊎◌, List, Option, Some, None, IsSomeAnd, Box, Vec, map, slice_get}
 use Rattle.std.specs.Global.{Global}
 use Rattle.vx_trees.specs.Rose.{end, label, below, roses_of, roses_list}
 use Rattle.vx_trees.specs.Walks.{levels, levels_below}
@@ -8,7 +8,7 @@ use Rattle.vx_trees.specs.Everywhere.{EverywhereBelow}
 use Rattle.vx_wire_tree.specs.Limits.{HasMessage, HasMessages}
 use Rattle.vx_wire_tree.specs.Plugin.{Parts}
 use Rattle.vx_wire_tree.specs.Session.{SessionMeaning}
-use Rattle.vx_wire_tree.specs.Taken.{written, step, taken, IsTaken, given_head, each, Each, Any, HasUntaken, unregistered, unserializable, undeclared, unwilling}
+use Rattle.vx_wire_tree.specs.Taken.{written, step, taken, IsTaken, given_head, each, Each, Any, HasUntaken, Unwritten, unregistered, unserializable, undeclared, unwilling}
 use Rattle.vx_registry.specs.Plugin.{parts_in}
 use Rattle.vx_registry.specs.declared.serialization.ArraySerialization.{ArraySerialization}
 use Rattle.vx_serde.specs.declared.error.WireError.{WireError}
@@ -88,23 +88,23 @@ pub record IsRootAt (s : SessionMeaning) (arrays : Trees) (i : ℕ) (h : Head) (
   pub stands : slice_get (roses_list arrays) i ≡ Some array
   pub step_is : step s array ≡ written h ts
 
+-- Why a node is not written, by the refusal that tells it.
+abbrev pub unwritten_by : WireError → Option Unwritten
+unwritten_by NotRegistered = Some unregistered
+unwritten_by NotSerializable = Some unserializable
+unwritten_by UndeclaredId = Some undeclared
+unwritten_by PluginRefused = Some unwilling
+unwritten_by _ = None
+
 -- Why the nodes of an array are not written, where there is room for n levels: by the refusal. There are more levels than
 -- that, or the metadata of a node does not fit its message; or a node is not written for the cause that is told.
 abbrev pub RefusesTaking : SessionMeaning → ℕ → Tree → WireError → Type 0
 RefusesTaking s n t OutOfMemory = Unit {0}
 RefusesTaking s n t WireLimit = (n < levels (taken s n t)) ⊎ (HasMessages (taken s n t) → ⊥)
-RefusesTaking s n t NotRegistered = HasUntaken s n unregistered t
-RefusesTaking s n t NotSerializable = HasUntaken s n unserializable t
-RefusesTaking s n t UndeclaredId = HasUntaken s n undeclared t
-RefusesTaking s n t PluginRefused = HasUntaken s n unwilling t
-RefusesTaking s n t _ = ⊥
+RefusesTaking s n t e = IsSomeAnd (unwritten_by e) (λ why. HasUntaken s n why t)
 
 -- Why the nodes of one of several arrays are not.
 abbrev pub RefusesOneOf : SessionMeaning → ℕ → Trees → WireError → Type 0
 RefusesOneOf s n ts OutOfMemory = Unit {0}
 RefusesOneOf s n ts WireLimit = (n < levels_below (each (taken s n) ts)) ⊎ (EverywhereBelow HasMessage (each (taken s n) ts) → ⊥)
-RefusesOneOf s n ts NotRegistered = Any (λ t. HasUntaken s n unregistered t) ts
-RefusesOneOf s n ts NotSerializable = Any (λ t. HasUntaken s n unserializable t) ts
-RefusesOneOf s n ts UndeclaredId = Any (λ t. HasUntaken s n undeclared t) ts
-RefusesOneOf s n ts PluginRefused = Any (λ t. HasUntaken s n unwilling t) ts
-RefusesOneOf s n ts _ = ⊥
+RefusesOneOf s n ts e = IsSomeAnd (unwritten_by e) (λ why. Any (λ t. HasUntaken s n why t) ts)
