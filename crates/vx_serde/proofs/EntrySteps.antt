@@ -1,15 +1,18 @@
 -- What an entry plans and builds, by what it is.
-use Rattle.std.proofs.Common.{◌≡◌, inl, inr, List, Option, Some, None, IsSome, Result, Ok, Err, sym, ap, ◌∙◌, subst, length}
-use Rattle.std.specs.Prelude.{option_map, IfOk, IfErr, IsTrue, IsFalse}
+use Rattle.std.proofs.Common.{◌≡◌, inl, inr, Bool, true, false, List, Option, Some, None, IsSome, Result, Ok, Err, sym, ap, ◌∙◌, subst, length}
+use Rattle.std.specs.Prelude.{option_map, IsSomeAnd, IfOk, IfErr, IsTrue, IsFalse}
 use Rattle.vx_buffer.specs.Buffer.{Buffer}
 use Rattle.vx_trees.specs.Rose.{count}
 use Rattle.vx_types.specs.Known.{ExtMeaning}
 use Rattle.vx_types.specs.Seen.{typ}
+use Rattle.vx_array_tree.specs.Encoding as E
 use Rattle.vx_array_tree.specs.Place.{Place}
 use Rattle.vx_array_tree.specs.Tree.{Tree, Trees}
 use Rattle.vx_wire_tree.specs.Plugin.{PluginMeaning}
 use Rattle.vx_wire_tree.specs.Revised.{revised_holds}
-use Rattle.vx_wire_tree.specs.Session.{Reader, shipped, revised, plugin}
+use Rattle.vx_wire_tree.specs.Session.{Reader, revised, plugin, encoding_by}
+use Rattle.vx_wire_tree.specs.Steps.{HasNoMetadata, HasNoPlan, HasWrongShape, HasWrongControl, HasWrongContent}
+use Rattle.vx_encodings.specs.Messages.{codec}
 use Rattle.vx_encodings.specs.Plain.{plain_encoding}
 use Rattle.vx_encodings.specs.Steps.{IsPlanned, IsUnplanned, IsUnbuilt}
 use Rattle.vx_encodings.specs.declared.encoding.Encoding.{Encoding}
@@ -28,49 +31,42 @@ use Rattle.vx_serde.specs.declared.error.WireError.TheVariants.{BadShape}
 
 -- ---- an encoding refuses
 
-pub unplanned : (e : EncodingError) (x : ExtMeaning) (g : Encoding) (h : ArrayHead) → IsUnplanned e x g h → RefusesPlan (encoding_refusal e) x (Some (shipped (plain_encoding g))) h
-unplanned encodings.OutOfMemory x g h u = tt
-unplanned encodings.BadMetadata x g h u = u
-unplanned encodings.BadShape x g h u = u
-unplanned encodings.BadContent x g h u = absurd u
-unplanned encodings.ForeignControl x g h u = absurd u
-unplanned encodings.WireLimit x g h u = absurd u
+module _ (x : ExtMeaning) (r : Option Reader) (g : Encoding) (by : encoding_by r ≡ Some (plain_encoding g)) (h : ArrayHead) where
+  -- What is said of the encoding is said of the one that reads.
+  of_reader : (P : E.Encoding → Type 0) → P (plain_encoding g) → IsSomeAnd (encoding_by r) P
+  of_reader P k = subst (λ o. IsSomeAnd o P) (sym by) k
 
-pub unbuilt : (e : EncodingError) (x : ExtMeaning) (g : Encoding) (h : ArrayHead) (bs : List Buffer) (ts : Trees) → IsUnbuilt e x g h bs ts → RefusesBuild (encoding_refusal e) x (Some (shipped (plain_encoding g))) h bs ts
-unbuilt encodings.OutOfMemory x g h bs ts u = tt
-unbuilt encodings.BadMetadata x g h bs ts u = absurd u
-unbuilt encodings.BadShape x g h bs ts u = u
-unbuilt encodings.BadContent x g h bs ts u = u
-unbuilt encodings.ForeignControl x g h bs ts u = u
-unbuilt encodings.WireLimit x g h bs ts u = absurd u
+  pub unplanned : (e : EncodingError) → IsUnplanned e x g h → RefusesPlan (encoding_refusal e) x r h
+  unplanned encodings.OutOfMemory u = tt
+  unplanned encodings.BadMetadata u = of_reader (λ f. HasNoMetadata codec x f (typ h.dtype) h.metadata) u
+  unplanned encodings.BadShape u = inl (of_reader (λ f. HasNoPlan codec x f (typ h.dtype) h.len h.metadata h.nchildren) u)
+  unplanned encodings.BadContent u = absurd u
+  unplanned encodings.ForeignControl u = absurd u
+  unplanned encodings.WireLimit u = absurd u
+
+  pub unbuilt : (e : EncodingError) (bs : List Buffer) (ts : Trees) → IsUnbuilt e x g h bs ts → RefusesBuild (encoding_refusal e) x r h bs ts
+  unbuilt encodings.OutOfMemory bs ts u = tt
+  unbuilt encodings.BadMetadata bs ts u = absurd u
+  unbuilt encodings.BadShape bs ts u = of_reader (λ f. HasWrongShape codec x f (typ h.dtype) h.len h.metadata bs ts) u
+  unbuilt encodings.BadContent bs ts u = of_reader (λ f. HasWrongContent codec x f (typ h.dtype) h.len h.metadata bs ts) u
+  unbuilt encodings.ForeignControl bs ts u = of_reader (λ f. HasWrongControl codec x f (typ h.dtype) h.len h.metadata ts) u
+  unbuilt encodings.WireLimit bs ts u = absurd u
 
 -- ---- primitives under two identifiers
 
-pub revised_unplanned : (e : EncodingError) (x : ExtMeaning) (h : ArrayHead) → IsUnplanned e x Primitive h → RefusesPlan (encoding_refusal e) x (Some revised) h
-revised_unplanned encodings.OutOfMemory x h u = tt
-revised_unplanned encodings.BadMetadata x h u = u
-revised_unplanned encodings.BadShape x h u = inl u
-revised_unplanned encodings.BadContent x h u = absurd u
-revised_unplanned encodings.ForeignControl x h u = absurd u
-revised_unplanned encodings.WireLimit x h u = absurd u
-
-pub revised_unbuilt : (e : EncodingError) (x : ExtMeaning) (h : ArrayHead) (bs : List Buffer) (ts : Trees) → IsUnbuilt e x Primitive h bs ts → RefusesBuild (encoding_refusal e) x (Some revised) h bs ts
-revised_unbuilt encodings.OutOfMemory x h bs ts u = tt
-revised_unbuilt encodings.BadMetadata x h bs ts u = absurd u
-revised_unbuilt encodings.BadShape x h bs ts u = u
-revised_unbuilt encodings.BadContent x h bs ts u = u
-revised_unbuilt encodings.ForeignControl x h bs ts u = u
-revised_unbuilt encodings.WireLimit x h bs ts u = absurd u
+never_both : (b : Bool) → IsFalse b → IsTrue b → ⊥
+never_both true e t = cc
+never_both false e t = cc
 
 -- What was planned stands where the identifier holds the length,
 pub held_plan : (x : ExtMeaning) (h : ArrayHead) (ps : List Place) (r : Result (List Place) WireError) → IsPlanned x Primitive h ps → IfOk r (λ qs. (qs ≡ ps) × IsTrue (revised_holds h.serialized_id h.len)) → IfOk r (λ qs. PlansBy x (Some revised) h qs)
-held_plan x h ps (Ok qs) plan k = record { plan = subst (λ (z : List Place). IsPlanned x Primitive h z) (sym k.0) plan; holds = k.1 }
+held_plan x h ps (Ok qs) plan k = (subst (λ (z : List Place). IsPlanned x Primitive h z) (sym k.0) plan, k.1)
 held_plan x h ps (Err e) plan k = tt
 
 -- and is refused where it does not.
 pub past_plan : (x : ExtMeaning) (h : ArrayHead) (ps : List Place) (r : Result (List Place) WireError) → IsPlanned x Primitive h ps → IfErr r (λ e. (e ≡ BadShape) × IsFalse (revised_holds h.serialized_id h.len)) → IfErr r (λ e. RefusesPlan e x (Some revised) h)
 past_plan x h ps (Ok qs) plan k = tt
-past_plan x h ps (Err e) plan k = subst (λ z. RefusesPlan z x (Some revised) h) (sym k.0) (inr (record { places = ps; plan = plan; past = k.1 }))
+past_plan x h ps (Err e) plan k = subst (λ z. RefusesPlan z x (Some revised) h) (sym k.0) (inr (record { places = ps; plan = plan; past = λ holds. never_both (revised_holds h.serialized_id h.len) k.1 holds }))
 
 -- ---- a plugin by its number
 

@@ -1,6 +1,6 @@
 -- What decoding a node and its children gives, and why it does not.
 use Rattle.std.proofs.Common.{Bool, true, false, ℕ, zero, suc, ◌≡◌, ◌+◌, ◌<◌, ◌≤◌, List, [], ◌∷◌, ◌++◌, Option, Some, None, refl, sym, ap, ◌∙◌, arith, subst, take, length, get_or, add-one, inl, inr}
-use Rattle.std.specs.Prelude.{slice_get, option_map, IsSome}
+use Rattle.std.specs.Prelude.{slice_get, option_map, IsSome, IsSomeAnd}
 use Rattle.std.specs.declared.alloc.Global.{Global}
 use Rattle.std.specs.declared.dyn_box.DynBox.{DynBox}
 use Rattle.std.proofs.lemmas.List.{length-map, take_all}
@@ -97,14 +97,14 @@ all_told s ws ps us i h same k =
 
 -- as many places as children
 enough_by : (r : Option PluginMeaning) (x : ExtMeaning) (h : ArrayHead) (ps : List Place) (ws : List Wire) (w : Wire) (d : Typ) (n : ℕ) → PlansBy x (option_map (λ p. plugin p) r) h ps → IsHeadOf h w d n → roses_of ws ≡ below w → length ps ≡ length ws
-enough_by None x h ps ws w d n plan is own = absurd plan
+enough_by None x h ps ws w d n plan is own = absurd plan.0
 enough_by (Some p) x h ps ws w d n plan is own = p.one_each (head_in h) x ps plan ∙ is.children ∙ sym (ap (λ z. count z) own) ∙ count-roses_of ws
 
 pub enough : {Y : Type 0} {G : Y → Type 0} (means : DynBox Y Global G → PluginMeaning) (s : ArraySession Y G) (e : Entry) (x : ExtMeaning) (h : ArrayHead) (ps : List Place) (ws : List Wire) (w : Wire) (d : Typ) (n : ℕ) → PlansBy x (reader_in means s e) h ps → IsHeadOf h w d n → roses_of ws ≡ below w → length ps ≡ length ws
 enough means s (Shipped e) x h ps ws w d n plan is own =
-    plan_length e (typ h.dtype) h.len plan.value h.nchildren ps plan.plan ∙ is.children ∙ sym (ap (λ z. count z) own) ∙ count-roses_of ws
+    plan_length e (typ h.dtype) h.len plan.0.value h.nchildren ps plan.0.plan ∙ is.children ∙ sym (ap (λ z. count z) own) ∙ count-roses_of ws
 enough means s Revised x h ps ws w d n plan is own =
-    plan_length Primitive (typ h.dtype) h.len plan.plan.value h.nchildren ps plan.plan.plan ∙ is.children ∙ sym (ap (λ z. count z) own) ∙ count-roses_of ws
+    plan_length Primitive (typ h.dtype) h.len plan.0.value h.nchildren ps plan.0.plan ∙ is.children ∙ sym (ap (λ z. count z) own) ∙ count-roses_of ws
 enough means s (Boxed k) x h ps ws w d n plan is own = enough_by _ x h ps ws w d n plan is own
 
 pub get_past : {A : Type 0} (xs : List A) (i : ℕ) → i < length xs → slice_get xs i ≡ None → ⊥
@@ -167,20 +167,27 @@ at_node P h w d n is x =
 told_head : (h : ArrayHead) (w : Wire) (d : Typ) (n : ℕ) (id : List ℕ) → IsHeadOf h w d n → h.serialized_id ≡ id → head_in h ≡ head_at id (label w) (count (below w)) d n
 told_head h w d n id is named = λ i. record { id = named i; dtype = is.dtype i; len = is.len i; metadata = is.metadata i; nbuffers = is.buffers i; nchildren = is.children i }
 
-own_encoding : (s : SessionMeaning) (w : Wire) (d : Typ) (n : ℕ) (e : Encodings.Encoding) (h : ArrayHead) → IsNodeOf s w d n (Some (shipped e)) h → IsOf s w e
-own_encoding s w d n e h read = record { id = read.id; id_is = read.id_is; encoding_is = ap (λ z. encoding_by z) read.reader_is }
+own_encoding : (s : SessionMeaning) (w : Wire) (d : Typ) (n : ℕ) (r : Option Reader) (e : Encodings.Encoding) (h : ArrayHead) → IsNodeOf s w d n r h → encoding_by r ≡ Some e → IsOf s w e
+own_encoding s w d n r e h read by = record { id = read.id; id_is = read.id_is; encoding_is = ap (λ z. encoding_by z) read.reader_is ∙ by }
 
-own_primitive : (s : SessionMeaning) (w : Wire) (d : Typ) (n : ℕ) (h : ArrayHead) → IsNodeOf s w d n (Some revised) h → IsOf s w Encodings.primitive
-own_primitive s w d n h read = record { id = read.id; id_is = read.id_is; encoding_is = ap (λ z. encoding_by z) read.reader_is }
+-- what is said of what is there
+there : {A : Type 0} (o : Option A) (P : A → Type 0) → IsSomeAnd o P → (a : A) × (o ≡ Some a) × P a
+there None P k = absurd k
+there (Some a) P k = (a, refl, k)
+
+-- the encoding that reads plans
+plans_own : (x : ExtMeaning) (r : Option Reader) (e : Encodings.Encoding) (h : ArrayHead) (ps : List Place) → encoding_by r ≡ Some e → PlansBy x r h ps → PlansChildren codec x e (typ h.dtype) h.len h.metadata h.nchildren ps
+plans_own x (Some (plugin p)) e h ps by plan = absurd (cc)
+plans_own x r e h ps by plan = subst (λ (o : Option Encodings.Encoding). IsSomeAnd o (λ f. PlansChildren codec x f (typ h.dtype) h.len h.metadata h.nchildren ps)) by plan.0
 
 -- a node by what reads its identifier
 pub node_of : (s : SessionMeaning) (w : Wire) (d : Typ) (n : ℕ) (r : Option Reader) (h : ArrayHead) (id : List ℕ) → (label w).id ≡ Some id → h.serialized_id ≡ id → s.reader id ≡ r → IsHeadOf h w d n → IsNodeOf s w d n r h
 node_of s w d n r h id i named q head = record { id = id; id_is = i; named = named; reader_is = q; head = head }
 
 planned_by : (s : SessionMeaning) (w : Wire) (d : Typ) (n : ℕ) (r : Option Reader) (h : ArrayHead) (ps : List Place) → IsNodeOf s w d n r h → PlansBy s.ext r h ps → IsPlannedBy codec s r w d n ps
-planned_by s w d n None h ps read plan = absurd plan
-planned_by s w d n (Some (shipped e)) h ps read plan = at_node (λ f m b k. PlansChildren codec s.ext e f m b k ps) h w d n read.head plan
-planned_by s w d n (Some revised) h ps read plan = at_node (λ f m b k. PlansChildren codec s.ext Encodings.primitive f m b k ps) h w d n read.head plan.plan
+planned_by s w d n None h ps read plan = absurd plan.0
+planned_by s w d n (Some (shipped e)) h ps read plan = at_node (λ f m b k. PlansChildren codec s.ext e f m b k ps) h w d n read.head plan.0
+planned_by s w d n (Some revised) h ps read plan = at_node (λ f m b k. PlansChildren codec s.ext Encodings.primitive f m b k ps) h w d n read.head plan.0
 planned_by s w d n (Some (plugin p)) h ps read plan =
     record { id = read.id; id_is = read.id_is; plan = ap (λ z. p.plan z s.ext) (sym (told_head h w d n read.id read.head read.named)) ∙ plan }
 
@@ -203,27 +210,34 @@ no_plan s w d n e h head by c =
 held_at : (b : Bool) (h : ArrayHead) (w : Wire) (d : Typ) (n : ℕ) (id : List ℕ) → IsHeadOf h w d n → h.serialized_id ≡ id → revised_holds h.serialized_id h.len ≡ b → revised_holds id n ≡ b
 held_at b h w d n id head named e = (λ i. revised_holds (sym named i) (sym head.len i)) ∙ e
 
-past_length : (s : SessionMeaning) (w : Wire) (d : Typ) (n : ℕ) (h : ArrayHead) → IsNodeOf s w d n (Some revised) h → IsPastHead s.ext h → RefusesWire s BadShape w d n
-past_length s w d n h read c =
+not_held : (b : Bool) → (b ≡ true → ⊥) → b ≡ false
+not_held true k = absurd (k refl)
+not_held false k = refl
+
+past_length : (s : SessionMeaning) (w : Wire) (d : Typ) (n : ℕ) (r : Option Reader) (h : ArrayHead) → IsNodeOf s w d n r h → IsPastHead s.ext r h → RefusesWire s BadShape w d n
+past_length s w d n (Some revised) h read c =
     let plans = at_node (λ f m b k. PlansChildren codec s.ext Encodings.primitive f m b k c.places) h w d n read.head c.plan in
-    let past = held_at false h w d n read.id read.head read.named c.past in (
+    let past = held_at false h w d n read.id read.head read.named (not_held (revised_holds h.serialized_id h.len) c.past) in (
       [],
       record {
         encoding = Encodings.primitive;
-        by = own_primitive s w d n h read;
+        by = own_encoding s w d n (Some revised) Encodings.primitive h read refl;
         value = plans.value;
         metadata = plans.metadata;
         broken = inr (inr (inr (record { by = record { id = read.id; id_is = read.id_is; reader_is = read.reader_is }; past = past })));
       },
     )
+past_length s w d n _ h read c = absurd (c.past tt)
 
 pub caused_by_plan : (s : SessionMeaning) (x : WireError) (w : Wire) (d : Typ) (n : ℕ) (r : Option Reader) (h : ArrayHead) → IsNodeOf s w d n r h → RefusesPlan x s.ext r h → RefusesWire s x w d n
 caused_by_plan s OutOfMemory w d n r h read c = tt
-caused_by_plan s BadMetadata w d n (Some (shipped e)) h read c = no_metadata s w d n e h read.head (own_encoding s w d n e h read) c
-caused_by_plan s BadShape w d n (Some (shipped e)) h read c = no_plan s w d n e h read.head (own_encoding s w d n e h read) c
-caused_by_plan s BadMetadata w d n (Some revised) h read c = no_metadata s w d n Encodings.primitive h read.head (own_primitive s w d n h read) c
-caused_by_plan s BadShape w d n (Some revised) h read (inl c) = no_plan s w d n Encodings.primitive h read.head (own_primitive s w d n h read) c
-caused_by_plan s BadShape w d n (Some revised) h read (inr c) = past_length s w d n h read c
+caused_by_plan s BadMetadata w d n r h read c =
+    let k = there (encoding_by r) (λ e. HasNoMetadata codec s.ext e (typ h.dtype) h.metadata) c in
+    no_metadata s w d n k.0 h read.head (own_encoding s w d n r k.0 h read k.1) k.2
+caused_by_plan s BadShape w d n r h read (inl c) =
+    let k = there (encoding_by r) (λ e. HasNoPlan codec s.ext e (typ h.dtype) h.len h.metadata h.nchildren) c in
+    no_plan s w d n k.0 h read.head (own_encoding s w d n r k.0 h read k.1) k.2
+caused_by_plan s BadShape w d n r h read (inr c) = past_length s w d n r h read c
 caused_by_plan s PluginRefused w d n (Some (plugin p)) h read c = (
   [],
   record {
@@ -285,9 +299,9 @@ wrong_shape s w d n e h bs ws ps ts head by plan own own_children told c =
       },
     )
 
-wrong_control : (s : SessionMeaning) (w : Wire) (d : Typ) (n : ℕ) (e : Encodings.Encoding) (h : ArrayHead) (bs : List Buffer) (ws : List Wire) (ps : List Place) (ts : Trees) → IsHeadOf h w d n → IsOf s w e
-    → PlansChildren codec s.ext e (typ h.dtype) h.len h.metadata h.nchildren ps → (label w).buffers ≡ all_present bs → roses_of ws ≡ below w → AllTell codec s (roses_of ws) ps ts → HasWrongControl codec s.ext e (typ h.dtype) h.len h.metadata ts → RefusesWire s ForeignControl w d n
-wrong_control s w d n e h bs ws ps ts head by plan own own_children told c =
+wrong_control : (s : SessionMeaning) (w : Wire) (d : Typ) (n : ℕ) (e : Encodings.Encoding) (h : ArrayHead) (ws : List Wire) (ps : List Place) (ts : Trees) → IsHeadOf h w d n → IsOf s w e
+    → PlansChildren codec s.ext e (typ h.dtype) h.len h.metadata h.nchildren ps → roses_of ws ≡ below w → AllTell codec s (roses_of ws) ps ts → HasWrongControl codec s.ext e (typ h.dtype) h.len h.metadata ts → RefusesWire s ForeignControl w d n
+wrong_control s w d n e h ws ps ts head by plan own_children told c =
     let wrong = at_node (λ f m b k. HasWrongControl codec s.ext e f m b ts) h w d n head c in
     let plans = at_node (λ f m b k. PlansChildren codec s.ext e f m b k ps) h w d n head plan in
     let value = one_value s.ext e d (label w).metadata plans.value wrong.value plans.metadata wrong.metadata in (
@@ -335,15 +349,15 @@ wrong_content s w d n e h bs ws ps ts head by plan own own_children told c =
 pub caused_by_build : (s : SessionMeaning) (x : WireError) (w : Wire) (d : Typ) (n : ℕ) (r : Option Reader) (h : ArrayHead) (bs : List Buffer) (ws : List Wire) (ps : List Place) (ts : Trees) → IsNodeOf s w d n r h
     → PlansBy s.ext r h ps → (label w).buffers ≡ all_present bs → roses_of ws ≡ below w → AllTell codec s (roses_of ws) ps ts → RefusesBuild x s.ext r h bs ts → RefusesWire s x w d n
 caused_by_build s OutOfMemory w d n r h bs ws ps ts read plan own own_children told c = tt
-caused_by_build s BadShape w d n (Some (shipped e)) h bs ws ps ts read plan own own_children told c = wrong_shape s w d n e h bs ws ps ts read.head (own_encoding s w d n e h read) plan own own_children told c
-caused_by_build s BadShape w d n (Some revised) h bs ws ps ts read plan own own_children told c =
-    wrong_shape s w d n Encodings.primitive h bs ws ps ts read.head (own_primitive s w d n h read) plan.plan own own_children told c
-caused_by_build s ForeignControl w d n (Some (shipped e)) h bs ws ps ts read plan own own_children told c = wrong_control s w d n e h bs ws ps ts read.head (own_encoding s w d n e h read) plan own own_children told c
-caused_by_build s ForeignControl w d n (Some revised) h bs ws ps ts read plan own own_children told c =
-    wrong_control s w d n Encodings.primitive h bs ws ps ts read.head (own_primitive s w d n h read) plan.plan own own_children told c
-caused_by_build s BadContent w d n (Some (shipped e)) h bs ws ps ts read plan own own_children told c = wrong_content s w d n e h bs ws ps ts read.head (own_encoding s w d n e h read) plan own own_children told c
-caused_by_build s BadContent w d n (Some revised) h bs ws ps ts read plan own own_children told c =
-    wrong_content s w d n Encodings.primitive h bs ws ps ts read.head (own_primitive s w d n h read) plan.plan own own_children told c
+caused_by_build s BadShape w d n r h bs ws ps ts read plan own own_children told c =
+    let k = there (encoding_by r) (λ e. HasWrongShape codec s.ext e (typ h.dtype) h.len h.metadata bs ts) c in
+    wrong_shape s w d n k.0 h bs ws ps ts read.head (own_encoding s w d n r k.0 h read k.1) (plans_own s.ext r k.0 h ps k.1 plan) own own_children told k.2
+caused_by_build s ForeignControl w d n r h bs ws ps ts read plan own own_children told c =
+    let k = there (encoding_by r) (λ e. HasWrongControl codec s.ext e (typ h.dtype) h.len h.metadata ts) c in
+    wrong_control s w d n k.0 h ws ps ts read.head (own_encoding s w d n r k.0 h read k.1) (plans_own s.ext r k.0 h ps k.1 plan) own_children told k.2
+caused_by_build s BadContent w d n r h bs ws ps ts read plan own own_children told c =
+    let k = there (encoding_by r) (λ e. HasWrongContent codec s.ext e (typ h.dtype) h.len h.metadata bs ts) c in
+    wrong_content s w d n k.0 h bs ws ps ts read.head (own_encoding s w d n r k.0 h read k.1) (plans_own s.ext r k.0 h ps k.1 plan) own own_children told k.2
 caused_by_build s PluginRefused w d n (Some (plugin p)) h bs ws ps ts read plan own own_children told c =
     let kids = children_of s w ws ps ts own_children told in (
       [],
@@ -368,14 +382,14 @@ caused_by_build s _ w d n r h bs ws ps ts read plan own own_children told c = ab
 -- What is built is of the type that is asked.
 pub built_dtype : (s : SessionMeaning) (w : Wire) (d : Typ) (n : ℕ) (r : Option Reader) (h : ArrayHead) (bs : List Buffer) (ws : List Wire) (ps : List Place) (ts : Trees) (t : Tree) → IsNodeOf s w d n r h → PlansBy s.ext r h ps
     → (label w).buffers ≡ all_present bs → roses_of ws ≡ below w → AllTell codec s (roses_of ws) ps ts → BuildsBy s.ext r h bs ts t → (label t).dtype ≡ d
-built_dtype s w d n None h bs ws ps ts t read plan own own_children told parts = absurd parts
-built_dtype s w d n (Some (shipped e)) h bs ws ps ts t read plan own own_children told parts = ap (λ (z : Tree). (label z).dtype) parts.tree_is ∙ read.head.dtype
-built_dtype s w d n (Some revised) h bs ws ps ts t read plan own own_children told parts = ap (λ (z : Tree). (label z).dtype) parts.tree_is ∙ read.head.dtype
 built_dtype s w d n (Some (plugin p)) h bs ws ps ts t read plan own own_children told parts =
     let kids = children_of s w ws ps ts own_children told in
     let at = head_at read.id (label w) (count (below w)) d n in
     let planned : p.plan at s.ext ≡ Some (places ts) = ap (λ z. p.plan z s.ext) (sym (told_head h w d n read.id read.head read.named)) ∙ plan ∙ ap (λ (qs : List Place). Some qs) (sym kids.placed) in
     (p.as_asked at bs ts s.ext t planned kids.sound (ap (λ z. p.build z bs ts s.ext) (sym (head_of_parts s w d n read.id h bs ts read.head read.named own kids.matched)) ∙ parts)).0
+built_dtype s w d n r h bs ws ps ts t read plan own own_children told parts =
+    let k = there (encoding_by r) (λ e. HasParts codec s.ext e (typ h.dtype) h.len h.metadata bs ts t) parts in
+    ap (λ (z : Tree). (label z).dtype) k.2.tree_is ∙ read.head.dtype
 
 -- Statistics that a node shows none of.
 pub caused_by_stats : (s : SessionMeaning) (x : WireError) (w : Wire) (d : Typ) (n : ℕ) (r : Option Reader) (h : ArrayHead) → IsSome r → IsNodeOf s w d n r h → RefusesStats x d (label w).stats → RefusesWire s x w d n
@@ -391,12 +405,12 @@ pub told_node : (s : SessionMeaning) → IsLawful codec s → (w : Wire) (d : Ty
 told_node s law (node w below) d n None h ps bs ws ts t u read plan own own_children told parts sound stats = absurd parts
 told_node s law (node w below) d n (Some (shipped e)) h ps bs ws ts t u read plan own own_children told parts sound stats =
     node_tells codec s law read.id e w below d n ps bs ts t u read.id_is read.reader_is
-    (at_node (λ f m b k. PlansChildren codec s.ext e f m b k ps) h (node w below) d n read.head plan) own
+    (at_node (λ f m b k. PlansChildren codec s.ext e f m b k ps) h (node w below) d n read.head plan.0) own
     (children_of s (node w below) ws ps ts own_children told)
     (at_node (λ f m b k. HasParts codec s.ext e f m b bs ts t) h (node w below) d n read.head parts) sound stats
 told_node s law (node w below) d n (Some revised) h ps bs ws ts t u read plan own own_children told parts sound stats =
-    revised_tells codec s law read.id w below d n ps bs ts t u read.id_is read.reader_is (held_at true h (node w below) d n read.id read.head read.named plan.holds)
-    (at_node (λ f m b k. PlansChildren codec s.ext Encodings.primitive f m b k ps) h (node w below) d n read.head plan.plan) own
+    revised_tells codec s law read.id w below d n ps bs ts t u read.id_is read.reader_is (held_at true h (node w below) d n read.id read.head read.named plan.1)
+    (at_node (λ f m b k. PlansChildren codec s.ext Encodings.primitive f m b k ps) h (node w below) d n read.head plan.0) own
     (children_of s (node w below) ws ps ts own_children told)
     (at_node (λ f m b k. HasParts codec s.ext Encodings.primitive f m b bs ts t) h (node w below) d n read.head parts) sound stats
 told_node s law (node w below) d n (Some (plugin p)) h ps bs ws ts t u read plan own own_children told parts sound stats =

@@ -1,16 +1,14 @@
 -- How a node of a wire tree is read.
-use Rattle.std.specs.Prelude.{ℕ, ◌≡◌, ◌⊎◌, List, Option, Some, None, IsTrue, IsFalse, length}
+use Rattle.std.specs.Prelude.{ℕ, ◌≡◌, ◌⊎◌, List, Option, Some, None, IsSomeAnd, length}
 use Rattle.vx_buffer.specs.Buffer.{Buffer}
 use Rattle.vx_trees.specs.Rose.{label, below, count}
 use Rattle.vx_types.specs.Known.{ExtMeaning}
 use Rattle.vx_types.specs.Seen.{typ}
 use Rattle.vx_types.specs.Typ.{Typ}
-use Rattle.vx_array_tree.specs.Encoding as E
 use Rattle.vx_array_tree.specs.Place.{Place}
 use Rattle.vx_array_tree.specs.Tree.{Tree, Trees}
 use Rattle.vx_wire_tree.specs.Plugin.{NodeHead}
-use Rattle.vx_wire_tree.specs.Revised.{revised_holds}
-use Rattle.vx_wire_tree.specs.Session.{SessionMeaning, Reader, shipped, revised, plugin}
+use Rattle.vx_wire_tree.specs.Session.{SessionMeaning, Reader, plugin, encoding_by, HoldsLength}
 use Rattle.vx_wire_tree.specs.Steps.{HasNoMetadata, PlansChildren, HasNoPlan, HasParts, HasWrongShape, HasWrongControl, HasWrongContent}
 use Rattle.vx_wire_tree.specs.Wire.{Wire}
 use Rattle.vx_encodings.specs.Messages.{codec}
@@ -37,33 +35,25 @@ pub record IsNodeOf (s : SessionMeaning) (w : Wire) (d : Typ) (n : ℕ) (r : Opt
   pub reader_is : s.reader id ≡ r
   pub head : IsHeadOf h w d n
 
--- ---- the steps of one node, by what reads it
+-- ---- the steps of one node, by what reads it: an encoding or a plugin
 
--- The places of the children of a node of primitives under two identifiers are told, and the identifier holds the length.
-pub record PlansRevised (x : ExtMeaning) (h : ArrayHead) (ps : List Place) : Type 0 where
-  pub plan : PlansChildren codec x E.primitive (typ h.dtype) h.len h.metadata h.nchildren ps
-  pub holds : IsTrue (revised_holds h.serialized_id h.len)
-
--- They would be told, but that the identifier does not hold the length.
-pub record IsPastHead (x : ExtMeaning) (h : ArrayHead) : Type 0 where
-  pub places : List Place
-  pub plan : PlansChildren codec x E.primitive (typ h.dtype) h.len h.metadata h.nchildren places
-  pub past : IsFalse (revised_holds h.serialized_id h.len)
-
--- The children of a node of this head are to stand at these places.
+-- The children of a node of this head are to stand at these places: its plugin says so, or its encoding does and its
+-- identifier holds its length.
 abbrev pub PlansBy : ExtMeaning → Option Reader → ArrayHead → List Place → Type 0
-PlansBy x (Some (shipped e)) h ps = PlansChildren codec x e (typ h.dtype) h.len h.metadata h.nchildren ps
-PlansBy x (Some revised) h ps = PlansRevised x h ps
 PlansBy x (Some (plugin p)) h ps = p.plan (head_in h) x ≡ Some ps
-PlansBy x None h ps = ⊥
+PlansBy x r h ps = IsSomeAnd (encoding_by r) (λ e. PlansChildren codec x e (typ h.dtype) h.len h.metadata h.nchildren ps) × HoldsLength r h.serialized_id h.len
+
+-- Its encoding would say so, but that its identifier does not hold its length.
+pub record IsPastHead (x : ExtMeaning) (r : Option Reader) (h : ArrayHead) : Type 0 where
+  pub places : List Place
+  pub plan : IsSomeAnd (encoding_by r) (λ e. PlansChildren codec x e (typ h.dtype) h.len h.metadata h.nchildren places)
+  pub past : HoldsLength r h.serialized_id h.len → ⊥
 
 -- No children are planned: for want of memory, or by the refusal.
 abbrev pub RefusesPlan : WireError → ExtMeaning → Option Reader → ArrayHead → Type 0
 RefusesPlan OutOfMemory x r h = Unit {0}
-RefusesPlan BadMetadata x (Some (shipped e)) h = HasNoMetadata codec x e (typ h.dtype) h.metadata
-RefusesPlan BadShape x (Some (shipped e)) h = HasNoPlan codec x e (typ h.dtype) h.len h.metadata h.nchildren
-RefusesPlan BadMetadata x (Some revised) h = HasNoMetadata codec x E.primitive (typ h.dtype) h.metadata
-RefusesPlan BadShape x (Some revised) h = HasNoPlan codec x E.primitive (typ h.dtype) h.len h.metadata h.nchildren ⊎ IsPastHead x h
+RefusesPlan BadMetadata x r h = IsSomeAnd (encoding_by r) (λ e. HasNoMetadata codec x e (typ h.dtype) h.metadata)
+RefusesPlan BadShape x r h = IsSomeAnd (encoding_by r) (λ e. HasNoPlan codec x e (typ h.dtype) h.len h.metadata h.nchildren) ⊎ IsPastHead x r h
 RefusesPlan PluginRefused x (Some (plugin p)) h = p.plan (head_in h) x ≡ None
 RefusesPlan _ x r h = ⊥
 
@@ -71,22 +61,17 @@ RefusesPlan _ x r h = ⊥
 abbrev pub head_over : ArrayHead → List Buffer → Trees → NodeHead
 head_over h bs ts = record { id = h.serialized_id; dtype = typ h.dtype; len = h.len; metadata = h.metadata; nbuffers = length bs; nchildren = count ts }
 
--- An array is built of a node's head, buffers and children.
+-- An array is built of a node's head, buffers and children: by its plugin, or by its encoding.
 abbrev pub BuildsBy : ExtMeaning → Option Reader → ArrayHead → List Buffer → Trees → Tree → Type 0
-BuildsBy x (Some (shipped e)) h bs ts t = HasParts codec x e (typ h.dtype) h.len h.metadata bs ts t
-BuildsBy x (Some revised) h bs ts t = HasParts codec x E.primitive (typ h.dtype) h.len h.metadata bs ts t
 BuildsBy x (Some (plugin p)) h bs ts t = p.build (head_over h bs ts) bs ts x ≡ Some t
-BuildsBy x None h bs ts t = ⊥
+BuildsBy x r h bs ts t = IsSomeAnd (encoding_by r) (λ e. HasParts codec x e (typ h.dtype) h.len h.metadata bs ts t)
 
 -- None is built: for want of memory, or by the refusal.
 abbrev pub RefusesBuild : WireError → ExtMeaning → Option Reader → ArrayHead → List Buffer → Trees → Type 0
 RefusesBuild OutOfMemory x r h bs ts = Unit {0}
-RefusesBuild BadShape x (Some (shipped e)) h bs ts = HasWrongShape codec x e (typ h.dtype) h.len h.metadata bs ts
-RefusesBuild BadContent x (Some (shipped e)) h bs ts = HasWrongContent codec x e (typ h.dtype) h.len h.metadata bs ts
-RefusesBuild ForeignControl x (Some (shipped e)) h bs ts = HasWrongControl codec x e (typ h.dtype) h.len h.metadata ts
-RefusesBuild BadShape x (Some revised) h bs ts = HasWrongShape codec x E.primitive (typ h.dtype) h.len h.metadata bs ts
-RefusesBuild BadContent x (Some revised) h bs ts = HasWrongContent codec x E.primitive (typ h.dtype) h.len h.metadata bs ts
-RefusesBuild ForeignControl x (Some revised) h bs ts = HasWrongControl codec x E.primitive (typ h.dtype) h.len h.metadata ts
+RefusesBuild BadShape x r h bs ts = IsSomeAnd (encoding_by r) (λ e. HasWrongShape codec x e (typ h.dtype) h.len h.metadata bs ts)
+RefusesBuild BadContent x r h bs ts = IsSomeAnd (encoding_by r) (λ e. HasWrongContent codec x e (typ h.dtype) h.len h.metadata bs ts)
+RefusesBuild ForeignControl x r h bs ts = IsSomeAnd (encoding_by r) (λ e. HasWrongControl codec x e (typ h.dtype) h.len h.metadata ts)
 RefusesBuild PluginRefused x (Some (plugin p)) h bs ts = p.build (head_over h bs ts) bs ts x ≡ None
 RefusesBuild _ x r h bs ts = ⊥
 

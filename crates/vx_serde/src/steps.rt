@@ -1,11 +1,14 @@
 //! The steps of one node, by what reads it: an encoding or a plugin.
 
-ghost use Rattle.std.specs.Prelude.{◌≡◌, IfOk, IfErr, IsSome, IsTrue, IsFalse};
+ghost use Rattle.std.specs.Prelude.{◌≡◌, Option, Some, IfOk, IfErr, IsSome, IsTrue, IsFalse};
 ghost use Rattle.vx_type_wire.specs.Lent.{lent_meaning};
 ghost use Rattle.vx_type_wire.specs.Session.{ext_meaning};
 ghost use Rattle.vx_array_tree.specs.Sound.{IsSound};
 ghost use Rattle.vx_array_tree.specs.Tree.{places};
 ghost use Rattle.vx_wire_tree.specs.Revised.{revised_holds as holds};
+ghost use Rattle.vx_wire_tree.specs.Session.{Reader, encoding_by};
+ghost use Rattle.vx_encodings.specs.Plain.{plain_encoding};
+ghost use Rattle.vx_encodings.specs.Steps.{IsPlanned, IsBuilt};
 ghost use Rattle.vx_registry.specs.Meaning.{reader_in, session_meaning};
 ghost use Rattle.vx_serde.specs.Decoding.{PlansBy, RefusesPlan, BuildsBy, RefusesBuild, plugin_refusal};
 
@@ -74,28 +77,8 @@ pub(crate) fn build_entry(
         IfErr result (λ e. RefusesBuild e s.ext (reader_in (λ b. means (b.vtable, b.value)) session.now.arrays entry) head buffers children) }
 {
     match entry {
-        Entry::Shipped(encoding) => match build(
-            alloc,
-            encoding,
-            head,
-            buffers,
-            children,
-            &session.ext,
-        ) {
-            Ok(array) => Ok(array),
-            Err(e) => Err(WireError::from(e)),
-        },
-        Entry::Revised => match build(
-            alloc,
-            Encoding::Primitive,
-            head,
-            buffers,
-            children,
-            &session.ext,
-        ) {
-            Ok(array) => Ok(array),
-            Err(e) => Err(WireError::from(e)),
-        },
+        Entry::Shipped(encoding) => build_of(alloc, encoding, head, buffers, children, session),
+        Entry::Revised => build_of(alloc, Encoding::Primitive, head, buffers, children, session),
         Entry::Boxed(number) => match session.arrays.plugin(number) {
             Some(plugin) => {
                 let parts = ArrayDeserialization::new(
@@ -113,6 +96,27 @@ pub(crate) fn build_entry(
             }
             None => unreachable!(),
         },
+    }
+}
+
+// The array that an encoding builds of a node's parts, whatever entry it reads by.
+fn build_of(
+    alloc: Global,
+    encoding: Encoding,
+    head: ArrayHead,
+    buffers: BufferHandles,
+    children: Arrays,
+    session: &VortexSession,
+) -> Result<Array, WireError>
+    requires { let x = ext_meaning (λ b. accepted (b.vtable, b.value)) session.now.ext in IsPlanned x encoding head (places children) }
+    ensures built { let x = ext_meaning (λ b. accepted (b.vtable, b.value)) session.now.ext in IfOk result (λ t. IsBuilt x encoding head buffers children t) }
+    ensures sound { IfOk result IsSound }
+    ensures cause { let x = ext_meaning (λ b. accepted (b.vtable, b.value)) session.now.ext in
+        (r : Option Reader) → encoding_by r ≡ Some (plain_encoding encoding) → IfErr result (λ e. RefusesBuild e x r head buffers children) }
+{
+    match build(alloc, encoding, head, buffers, children, &session.ext) {
+        Ok(array) => Ok(array),
+        Err(e) => Err(WireError::from(e)),
     }
 }
 

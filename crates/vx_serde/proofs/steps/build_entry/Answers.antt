@@ -1,42 +1,45 @@
-use Rattle.vx_serde.proofs.EntrySteps.{unbuilt, revised_unbuilt, no_plugin, told_parts, plugin_builds, plugin_unbuilt}
+use Rattle.std.proofs.Common.{Some, refl}
+use Rattle.vx_wire_tree.specs.Session.{shipped, revised}
+use Rattle.vx_encodings.specs.Plain.{plain_encoding}
+use Rattle.vx_serde.proofs.EntrySteps.{no_plugin, told_parts, plugin_builds, plugin_unbuilt}
 use Rattle.vx_serde.proofs.steps.build_entry.Goals as goal
 
 -- ---- a shipped encoding
 
-pub build-requires : goal.build-requires
-build-requires g c = rw c.in-Shipped.is at c.requires.planned
+pub build_of-requires : goal.build_of-requires
+build_of-requires g c = (rw c.in-Shipped.is at c.requires.planned).0
 
-pub returns-in-Ok-clause-built : goal.returns-in-Ok-clause-built
-returns-in-Ok-clause-built g c = rw c.in-Shipped.is c.in-Ok.ensures.parts
+pub returns-in-Shipped-clause-built : goal.returns-in-Shipped-clause-built
+returns-in-Shipped-clause-built g c = rw c.in-Shipped.is c.build_of.ensures.built
 
-pub returns-in-Err-clause-cause : goal.returns-in-Err-clause-cause
-returns-in-Err-clause-cause g c = rw c.in-Shipped.is (rw c.from.ensures (unbuilt c.in-Err.e _ c.in-Shipped.encoding c.args.head c.args.buffers c.args.children c.in-Err.ensures.err))
+pub returns-in-Shipped-clause-cause : goal.returns-in-Shipped-clause-cause
+returns-in-Shipped-clause-cause g c = rw c.in-Shipped.is (c.build_of.ensures.cause (Some (shipped (plain_encoding c.in-Shipped.encoding))) refl)
 
 -- ---- primitives under two identifiers
 
-pub build-requires-in-Revised : goal.build-requires-in-Revised
-build-requires-in-Revised g c = (rw c.in-Revised.is at c.requires.planned).plan
+pub build_of-requires-in-Revised : goal.build_of-requires-in-Revised
+build_of-requires-in-Revised g c = (rw c.in-Revised.is at c.requires.planned).0
 
-pub returns-in-Ok-build-clause-built : goal.returns-in-Ok-build-clause-built
-returns-in-Ok-build-clause-built g c = rw c.in-Revised.is c.in-Ok-build.ensures.parts
+pub returns-in-Revised-clause-built : goal.returns-in-Revised-clause-built
+returns-in-Revised-clause-built g c = rw c.in-Revised.is c.build_of-in-Revised.ensures.built
 
-pub returns-in-Err-build-clause-cause : goal.returns-in-Err-build-clause-cause
-returns-in-Err-build-clause-cause g c = rw c.in-Revised.is (rw c.from-in-Err-build.ensures (revised_unbuilt c.in-Err-build.e _ c.args.head c.args.buffers c.args.children c.in-Err-build.ensures.err))
+pub returns-in-Revised-clause-cause : goal.returns-in-Revised-clause-cause
+returns-in-Revised-clause-cause g c = rw c.in-Revised.is (c.build_of-in-Revised.ensures.cause (Some revised) refl)
 
 -- ---- a plugin
 
-pub returns-in-Ok-build_by-clause-built : goal.returns-in-Ok-build_by-clause-built
-returns-in-Ok-build_by-clause-built g c =
+pub returns-in-Ok-clause-built : goal.returns-in-Ok-clause-built
+returns-in-Ok-clause-built g c =
     rw c.in-Boxed.is
     (plugin_builds (λ b. (goal.ArrayPlugin-dyn g (b.vtable, b.value)).means b.value) _ c.in-Some.plugin.now c.in-Some.ensures _ _ c.requires.lent c.args.head c.new-parts.result c.args.buffers c.args.children
-    (told_parts c.new-parts.result c.args.head c.args.buffers c.args.children c.new-parts.ensures.id c.new-parts.ensures.dtype c.new-parts.ensures.len c.new-parts.ensures.metadata c.new-parts.ensures.buffers c.new-parts.ensures.children) c.new-parts.ensures.buffers c.new-parts.ensures.children c.in-Ok-build_by.array c.in-Ok-build_by.ensures)
+    (told_parts c.new-parts.result c.args.head c.args.buffers c.args.children c.new-parts.ensures.id c.new-parts.ensures.dtype c.new-parts.ensures.len c.new-parts.ensures.metadata c.new-parts.ensures.buffers c.new-parts.ensures.children) c.new-parts.ensures.buffers c.new-parts.ensures.children c.in-Ok.array c.in-Ok.ensures)
 
-pub returns-in-Err-build_by-clause-cause : goal.returns-in-Err-build_by-clause-cause
-returns-in-Err-build_by-clause-cause g c =
+pub returns-in-Err-clause-cause : goal.returns-in-Err-clause-cause
+returns-in-Err-clause-cause g c =
     rw c.in-Boxed.is
     (rw c.plugin_error.ensures
     (plugin_unbuilt (λ b. (goal.ArrayPlugin-dyn g (b.vtable, b.value)).means b.value) _ c.in-Some.plugin.now c.in-Some.ensures _ _ c.requires.lent c.args.head c.new-parts.result c.args.buffers c.args.children
-    (told_parts c.new-parts.result c.args.head c.args.buffers c.args.children c.new-parts.ensures.id c.new-parts.ensures.dtype c.new-parts.ensures.len c.new-parts.ensures.metadata c.new-parts.ensures.buffers c.new-parts.ensures.children) c.new-parts.ensures.buffers c.new-parts.ensures.children c.in-Err-build_by.e c.in-Err-build_by.ensures))
+    (told_parts c.new-parts.result c.args.head c.args.buffers c.args.children c.new-parts.ensures.id c.new-parts.ensures.dtype c.new-parts.ensures.len c.new-parts.ensures.metadata c.new-parts.ensures.buffers c.new-parts.ensures.children) c.new-parts.ensures.buffers c.new-parts.ensures.children c.in-Err.e c.in-Err.ensures))
 
 pub unreachable-requires : goal.unreachable-requires
 unreachable-requires g c = no_plugin (λ b. (goal.ArrayPlugin-dyn g (b.vtable, b.value)).means b.value) _ c.in-None.ensures (rw c.in-Boxed.is at c.requires.within)

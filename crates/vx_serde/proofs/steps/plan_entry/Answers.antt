@@ -1,13 +1,17 @@
-use Rattle.vx_serde.proofs.EntrySteps.{unplanned, revised_unplanned, held_plan, past_plan, no_plugin, plugin_plans, plugin_unplanned}
+use Rattle.std.proofs.Common.{Some, refl}
+use Rattle.vx_wire_tree.specs.Session.{shipped, revised}
+use Rattle.vx_encodings.specs.Plain.{plain_encoding}
+use Rattle.vx_encodings.specs.declared.encoding.Encoding.TheVariants.{Primitive}
+use Rattle.vx_serde.proofs.EntrySteps.{unplanned, held_plan, past_plan, no_plugin, plugin_plans, plugin_unplanned}
 use Rattle.vx_serde.proofs.steps.plan_entry.Goals as goal
 
 -- ---- a shipped encoding
 
 pub returns-in-Ok-clause-plan : goal.returns-in-Ok-clause-plan
-returns-in-Ok-clause-plan g c = rw c.in-Shipped.is c.in-Ok.ensures.plan
+returns-in-Ok-clause-plan g c = rw c.in-Shipped.is (c.in-Ok.ensures.plan, tt)
 
 pub returns-in-Err-clause-cause : goal.returns-in-Err-clause-cause
-returns-in-Err-clause-cause g c = rw c.in-Shipped.is (rw c.from.ensures (unplanned c.in-Err.e _ c.in-Shipped.encoding c.args.head.now c.in-Err.ensures.err))
+returns-in-Err-clause-cause g c = rw c.in-Shipped.is (rw c.from.ensures (unplanned _ (Some (shipped (plain_encoding c.in-Shipped.encoding))) c.in-Shipped.encoding refl c.args.head.now c.in-Err.e c.in-Err.ensures.err))
 
 -- ---- primitives under two identifiers
 
@@ -18,7 +22,7 @@ pub returns-in-Ok-plan-clause-cause : goal.returns-in-Ok-plan-clause-cause
 returns-in-Ok-plan-clause-cause g c = rw c.in-Revised.is (past_plan _ c.args.head.now c.in-Ok-plan.children c.held.result c.in-Ok-plan.ensures.plan c.held.ensures.err)
 
 pub returns-in-Err-plan-clause-cause : goal.returns-in-Err-plan-clause-cause
-returns-in-Err-plan-clause-cause g c = rw c.in-Revised.is (rw c.from-in-Err-plan.ensures (revised_unplanned c.in-Err-plan.e _ c.args.head.now c.in-Err-plan.ensures.err))
+returns-in-Err-plan-clause-cause g c = rw c.in-Revised.is (rw c.from-in-Err-plan.ensures (unplanned _ (Some revised) Primitive refl c.args.head.now c.in-Err-plan.e c.in-Err-plan.ensures.err))
 
 -- ---- a plugin
 
