@@ -1,12 +1,12 @@
 -- What is taken of arrays, one after the other.
 use Rattle.std.proofs.Common.{ℕ, ◌≡◌, ◌+◌, ◌-◌, ◌<◌, ◌≤◌, ◌⊎◌, inl, inr, List, [], ◌∷◌, ◌++◌, Some, None, length, map, take, refl, sym, ap, ◌∙◌, subst, arith}
-use Rattle.std.specs.Prelude.{slice_get, Result, Ok, Err, IfErr, OnOk, IsOk}
+use Rattle.std.specs.Prelude.{slice_get, get_or, Result, Ok, Err, IfErr, OnOk, IsOk}
 use Rattle.std.proofs.lemmas.List.{map-append, take_all, take_more}
-use Rattle.std.proofs.lemmas.Option.{slice_get_within, get_or_from_slice_get}
+use Rattle.std.proofs.lemmas.Option.{slice_get_within, slice_get_read, get_or_from_slice_get}
 use Rattle.vx_trees.specs.Everywhere.{EverywhereBelow}
 use Rattle.vx_trees.specs.Rose.{node, more, label, below, roses_of, roses_list}
 use Rattle.vx_trees.specs.Walks.{levels, levels_below}
-use Rattle.vx_trees.proofs.Lists.{roses_of-roses_list}
+use Rattle.vx_trees.proofs.Lists.{roses_of-roses_list, roses_list-roses_of}
 use Rattle.vx_array_tree.specs.Tree.{Tree, Trees, Head, places}
 use Rattle.vx_wire_tree.specs.Limits.{HasMessage, HasMessages}
 use Rattle.vx_wire_tree.specs.Session.{SessionMeaning}
@@ -18,6 +18,10 @@ use Rattle.vx_serde.specs.Taking.{source_tree, root_head, root_below, root_node,
 use Rattle.vx_serde.proofs.Taking.{stands_at, own_messages, taken_at, is_taken_at, below_at, one_refused}
 
 -- ---- trees, and one more behind them
+
+-- One of the arrays that lie below another.
+pub item_below : (xs : List Tree) (ts : Trees) (i : ℕ) (x : Tree) → roses_of xs ≡ ts → i < length xs → x ≡ get_or xs i x → slice_get (roses_list ts) i ≡ Some x
+item_below xs ts i x e h at = ap (λ z. slice_get z i) (ap (λ z. roses_list z) (sym e) ∙ roses_list-roses_of xs) ∙ slice_get_read xs (length xs) i x refl h at
 
 each_of : (f : Tree → Tree) (ts : List Tree) → roses_of (map f ts) ≡ each f (roses_of ts)
 each_of f [] = refl

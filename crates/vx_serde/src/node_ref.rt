@@ -199,8 +199,8 @@ impl<'n, 'a> NodeRefs<'n, 'a> {
     }
 }
 
-// The item of a slice at this place.
-fn item_at<T>(items: &[T], i: usize) -> &T
+/// The item of a slice at this place.
+pub(crate) fn item_at<T>(items: &[T], i: usize) -> &T
     requires { i < length items.now }
     ensures { result.now ≡ get_or items.now i result.now }
 {

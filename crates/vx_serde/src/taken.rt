@@ -18,7 +18,7 @@ ghost use Rattle.vx_serde.specs.Errors.{registry_refusal};
 ghost use Rattle.vx_serde.specs.Taking.{source_tree, taken_head, root_head, root_below, root_node, root_arrays, StandsAs, IsOwn, AreTaken, AreWithinLevels, IsRootAt, RefusesTaking, RefusesOneOf};
 
 use crate::error::WireError;
-use crate::node_ref::NodeRefs;
+use crate::node_ref::{NodeRefs, item_at};
 use std::alloc::Global;
 use std::marker::Model;
 use vx_arrays::Array;
@@ -85,15 +85,7 @@ fn lent_child(array: &Array, i: usize) -> &Array
     ensures { slice_get (roses_list (below array.now)) i ≡ Some result.now }
 {
     let children = array.children();
-    one_of(children, i)
-}
-
-// One of several arrays.
-fn one_of(arrays: &[Array], i: usize) -> &Array
-    requires { i < length arrays.now }
-    ensures { slice_get (roses_list (roses_of arrays.now)) i ≡ Some result.now }
-{
-    &arrays[i]
+    item_at(children, i)
 }
 
 /// The parts that a plugin gives for an array's root.
@@ -264,7 +256,7 @@ impl<'a> TakenRoot<'a> {
         match &self.given {
             Some(parts) => {
                 let arrays = parts.children.as_slice();
-                let array = one_of(arrays, i);
+                let array = item_at(arrays, i);
                 copy_of(alloc, array)
             }
             None => child_of(alloc, &self.source, i),
@@ -461,6 +453,26 @@ impl<'a> OpenRoot<'a> {
         }
     }
 
+    /// The node of the root, over the nodes below it, once these are taken; and whether it is its array's own as it stands.
+    fn closed(self, alloc: Global) -> Result<(TakenNode<'a>, bool), WireError>
+        requires places { places (roses_of self.children.items) ≡ places (root_arrays self.root) }
+        requires own { IsTrue self.own → self.children.items ≡ roses_list (root_arrays self.root) }
+        ensures ok { IfOk result (λ p. p.0 ≡ node (root_node self.entry.root) (roses_of self.entry.children.items)) }
+        ensures own { IfOk result (λ p. IsTrue p.1 → IsOwn self.entry.root self.entry.children.items) }
+        ensures err { IsOkUnless result WireError.OutOfMemory }
+    {
+        let OpenRoot {
+            root,
+            children,
+            own,
+        } = self;
+        let own = root.is_own(own);
+        match root.over(alloc, children, own) {
+            Ok(node) => Ok((node, own)),
+            Err(e) => Err(e),
+        }
+    }
+
     /// One more node below it: a root, once the nodes below that one are taken.
     fn close(
         &mut self,
@@ -477,18 +489,10 @@ impl<'a> OpenRoot<'a> {
         ensures cause { IfErr result (λ e. (e ≡ WireError.OutOfMemory) ⊎ (filled ≡ Err e)) }
     {
         match filled {
-            Ok(()) => {
-                let OpenRoot {
-                    root,
-                    children,
-                    own,
-                } = child;
-                let own = root.is_own(own);
-                match root.over(alloc, children, own) {
-                    Ok(node) => self.push(node, own),
-                    Err(e) => Err(e),
-                }
-            }
+            Ok(()) => match child.closed(alloc) {
+                Ok((node, own)) => self.push(node, own),
+                Err(e) => Err(e),
+            },
             Err(e) => {
                 drop(child);
                 Err(e)
@@ -563,18 +567,10 @@ pub(crate) fn take<'a>(
         Err(e) => return Err(e),
     };
     match fill(alloc, &mut above, arrays, unknown, room - 1) {
-        Ok(()) => {
-            let OpenRoot {
-                root,
-                children,
-                own,
-            } = above;
-            let own = root.is_own(own);
-            match root.over(alloc, children, own) {
-                Ok(node) => Ok(node),
-                Err(e) => Err(e),
-            }
-        }
+        Ok(()) => match above.closed(alloc) {
+            Ok((node, _)) => Ok(node),
+            Err(e) => Err(e),
+        },
         Err(e) => {
             drop(above);
             Err(e)

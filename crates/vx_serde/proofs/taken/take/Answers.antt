@@ -7,7 +7,7 @@ use Rattle.vx_wire_tree.specs.Limits.{HasMessages}
 use Rattle.vx_registry.specs.Meaning.{arrays_meaning}
 use Rattle.vx_serde.specs.declared.taken.TakenRoot.{TakenRoot}
 use Rattle.vx_serde.specs.Taking.{source_tree, root_node, root_arrays}
-use Rattle.vx_serde.proofs.TakenBelow.{stands_below, node_levels, node_messages, node_taken, node_is_taken, root_refused_below, own_root}
+use Rattle.vx_serde.proofs.TakenBelow.{stands_below, node_levels, node_messages, node_taken, node_is_taken, root_refused_below}
 use Rattle.vx_serde.proofs.Taking.{wanted}
 use Rattle.vx_serde.proofs.taken.take.Goals as goal
 
@@ -17,8 +17,8 @@ returns-in-Err g c = record { tree = λ x u. tt; written = λ x u. tt; levels = 
 pub fill-requires : goal.fill-requires
 fill-requires g c = record { none = c.in-Ok.ensures.none }
 
-pub over-requires : goal.over-requires
-over-requires g c = record {
+pub closed-requires : goal.closed-requires
+closed-requires g c = record {
   places =
       let x : ExtMeaning = record { reader = λ id. None; unknown = c.args.unknown } in
       let us = c.fill.new.above.children.items in
@@ -26,24 +26,23 @@ over-requires g c = record {
       (stands_below (arrays_meaning (λ b. (goal.ArrayPlugin-dyn g (b.vtable, b.value)).means b.value) c.args.arrays.now x) _ (root_arrays c.in-Ok.above.root) us (c.in-Ok-fill.ensures.taken x refl));
   own = λ o.
       let us = c.fill.new.above.children.items in
-      let k = c.is_own-own.ensures o in
-      own_root c.fill.new.above.root us (subst (λ (r : TakenRoot). us ≡ roses_list (root_arrays r)) (sym c.fill.ensures.root) (c.in-Ok-fill.ensures.own k.0)) k.1;
+      subst (λ (r : TakenRoot). us ≡ roses_list (root_arrays r)) (sym c.fill.ensures.root) (c.in-Ok-fill.ensures.own o);
 }
 
-pub returns-in-Err-over : goal.returns-in-Err-over
-returns-in-Err-over g c = record {
+pub returns-in-Err-closed : goal.returns-in-Err-closed
+returns-in-Err-closed g c = record {
   tree = λ x u. tt;
   written = λ x u. tt;
   levels = tt;
   messages = tt;
-  cause = λ x u. wanted (arrays_meaning (λ b. (goal.ArrayPlugin-dyn g (b.vtable, b.value)).means b.value) c.args.arrays.now x) c.args.room (source_tree c.args.source) c.in-Err-over.e c.in-Err-over.ensures.err;
+  cause = λ x u. wanted (arrays_meaning (λ b. (goal.ArrayPlugin-dyn g (b.vtable, b.value)).means b.value) c.args.arrays.now x) c.args.room (source_tree c.args.source) c.in-Err-closed.e c.in-Err-closed.ensures.err;
 }
 
-pub returns-in-Ok-over : goal.returns-in-Ok-over
-returns-in-Ok-over g c =
+pub returns-in-Ok-closed : goal.returns-in-Ok-closed
+returns-in-Ok-closed g c =
     let root = c.in-Ok.above.root in
     let us = c.fill.new.above.children.items in
-    let is = subst (λ (r : TakenRoot). c.in-Ok-over.node ≡ node (root_node r) (roses_of us)) c.fill.ensures.root c.in-Ok-over.ensures.ok in
+    let is = subst (λ (r : TakenRoot). c.in-Ok-closed.node ≡ node (root_node r) (roses_of us)) c.fill.ensures.root c.in-Ok-closed.ensures.ok in
     let any : ExtMeaning = record { reader = λ id. None; unknown = c.args.unknown } in
     let m = arrays_meaning (λ b. (goal.ArrayPlugin-dyn g (b.vtable, b.value)).means b.value) c.args.arrays.now any in
     record {
