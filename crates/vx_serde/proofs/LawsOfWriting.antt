@@ -8,5 +8,6 @@ pub use Rattle.vx_serde.proofs.WholeBlob.{length-blob}
 pub use Rattle.vx_serde.proofs.MessageRead.{message_value_is_of}
 pub use Rattle.vx_serde.proofs.NumberedRead.{placed_from_ids, numbered_fits}
 pub use Rattle.vx_serde.proofs.WiredStats.{wire-tabled}
-pub use Rattle.vx_serde.proofs.WrittenAgain.{grown-ids, wire-whole}
+-- What is written of a tree spells the array that its wire tree tells.
+pub use Rattle.vx_serde.proofs.WrittenAgain.{grown-ids, wire-whole, told_spelled}
 pub use Rattle.vx_serde.proofs.GrownPlaced.{grown_by-placed}

@@ -1,5 +1,6 @@
 -- The blob that is written for an array spells it again.
 use Rattle.std.proofs.Common.{ℕ, ◌≡◌, List, Some, refl, sym, subst}
+use Rattle.std.specs.Prelude.{All}
 use Rattle.vx_trees.specs.Rose.{node, end, more, label}
 use Rattle.vx_trees.specs.Everywhere.{EverywhereBelow}
 use Rattle.vx_types.specs.Typ.{Typ}
@@ -9,7 +10,7 @@ use Rattle.vx_array_tree.specs.Table.{buffers_of}
 use Rattle.vx_array_tree.specs.Tree.{Tree, Trees}
 use Rattle.vx_wire_tree.specs.Codec.{Codec, IsLawful}
 use Rattle.vx_wire_tree.specs.Context.{Context, grown}
-use Rattle.vx_wire_tree.specs.ReadBack.{HasStorableStats}
+use Rattle.vx_wire_tree.specs.ReadBack.{HasStorableStats, HasCountableMetadata}
 use Rattle.vx_wire_tree.specs.Session.{SessionMeaning, IsShipped, IsPaired}
 use Rattle.vx_wire_tree.specs.Tells.{Tells}
 use Rattle.vx_wire_tree.specs.Wire.{IsWhole, IsWholeNode, buffers_in, ids_in}
@@ -25,7 +26,7 @@ use Rattle.vx_serde.specs.Written.{blob_bytes, message_bytes, IsWritable}
 use Rattle.vx_serde.specs.Spells.{Spells, blob_of, ids_after, KeepsWriterLimits}
 use Rattle.vx_serde.proofs.Carried.{carried, message_shows}
 use Rattle.vx_serde.proofs.CountableMetadata.{countable_in}
-use Rattle.vx_serde.proofs.GrownPlaced.{grown_by-placed}
+use Rattle.vx_serde.proofs.GrownPlaced.{IsPlaced, grown_by-placed}
 use Rattle.vx_serde.proofs.WiredStats.{wire-tabled}
 use Rattle.vx_serde.proofs.GrownIds.{grown_by-ids}
 
@@ -42,32 +43,45 @@ mutual
 pub grown-ids : (s : SessionMeaning) (t : Tree) (old new : Context) → grown codec s old t ≡ Some new → new.ids ≡ ids_after s t old
 grown-ids s t old new e = grown_by-ids (ids_in (wire codec s t)) old new e
 
+-- A tree that is written, under a context that is grown by it.
+module _ (s : SessionMeaning) (u : Tree) (old new : Context) (options : SerializeOptions) (grew : grown codec s old u ≡ Some new) (fit : KeepsWriterLimits s u old options) where
+  own-ids : new.ids ≡ ids_after s u old
+  own-ids = grown-ids s u old new grew
+
+  placed : All (λ id. IsPlaced new.ids id) (ids_in (wire codec s u))
+  placed = (grown_by-placed (ids_in (wire codec s u)) old new grew).placed
+
+  writable : IsWritable new.ids options (wire codec s u)
+  writable = subst (λ ids. IsWritable ids options (wire codec s u)) (sym own-ids) fit.writable
+
+  -- The metadata of its nodes can be counted.
+  pub written_countable : HasCountableMetadata codec u
+  written_countable =
+      let w = wire codec s u in
+      countable_in new.ids s u options (message_bytes new.ids options w) (descriptors_from options options.offset (buffers_in w)) (message_shows new.ids options w (wire-whole codec s u) (wire-tabled s u) placed writable) writable.light
+
+  -- Its blob spells the array that its wire tree tells, with the identifiers of the grown context.
+  pub told_spelled : (d : Typ) (n : ℕ) (t : Tree) → Tells codec s (wire codec s u) d n t → Spells (blob_of s u old options) new.ids d n s t
+  told_spelled d n t told =
+      let w = wire codec s u in
+      let c = carried new.ids options w (wire-whole codec s u) (wire-tabled s u) placed writable in
+      let spelled : Spells (blob_bytes new.ids options w) new.ids d n s t = record { wire = w; carried = c.0; clean = c.1; whole = wire-whole codec s u; told = told } in
+      subst (λ ids. Spells (blob_bytes ids options w) new.ids d n s t) own-ids spelled
+
 -- The blob that is written for an array that was read spells it with the identifiers of the grown context.
 pub spelled_again : (s : SessionMeaning) → IsShipped s → IsLawful codec s → IsPaired s → (blob : List ℕ) (read : List (List ℕ)) (d : Typ) (n : ℕ) (t : Tree)
     (old new : Context) (options : SerializeOptions) → Spells blob read d n s t → HasStorableStats codec t → grown codec s old t ≡ Some new → KeepsWriterLimits s t old options
     → Spells (blob_of s t old options) new.ids d n s (canon codec s t)
 spelled_again s ok law paired blob read d n t old new options x stored grew fit =
     let w = wire codec s t in
-    let same = grown-ids s t old new grew in
-    let placed = grown_by-placed (ids_in w) old new grew in
-    let W : List (List ℕ) → Type 0 = λ z. IsWritable z options w in
-    let writable = subst W (sym same) fit.writable in
-    let c = carried new.ids options w (wire-whole codec s t) (wire-tabled s t) placed.placed writable in
-    let shows = message_shows new.ids options w (wire-whole codec s t) (wire-tabled s t) placed.placed writable in
-    let counted = countable_in new.ids s t options (message_bytes new.ids options w) (descriptors_from options options.offset (buffers_in w)) shows writable.light in
     let m = x.told.matched in
-    let again = told_again codec s ok law paired t x.told.sound (matched_unread codec s ok law x.wire t m) (matched_written codec s ok law paired x.wire t m) fit.messages counted (matched_types codec s ok x.wire t m) stored in
+    let again =
+    told_again codec s ok law paired t x.told.sound (matched_unread codec s ok law x.wire t m) (matched_written codec s ok law paired x.wire t m) fit.messages (written_countable s t old new options grew fit)
+    (matched_types codec s ok x.wire t m) stored
+    in
     let T : Typ → Type 0 = λ z. Tells codec s w z (label t).len (canon codec s t) in
     let L : ℕ → Type 0 = λ z. Tells codec s w d z (canon codec s t) in
-    let spelled : Spells (blob_bytes new.ids options w) new.ids d n s (canon codec s t) = record {
-      wire = w;
-      carried = c.0;
-      clean = c.1;
-      whole = wire-whole codec s t;
-      told = subst L x.told.len (subst T x.told.dtype again);
-    } in
-    let P : List (List ℕ) → Type 0 = λ z. Spells (blob_bytes z options w) new.ids d n s (canon codec s t) in
-    subst P same spelled
+    told_spelled s t old new options grew fit d n (canon codec s t) (subst L x.told.len (subst T x.told.dtype again))
 
 -- What encodings and plugins write of an array that returns spells that array.
 pub returned_again : (s : SessionMeaning) → IsLawful codec s → IsPaired s → (t : Tree) (old new : Context) (options : SerializeOptions) → ReturnsWhole s options t
@@ -75,29 +89,14 @@ pub returned_again : (s : SessionMeaning) → IsLawful codec s → IsPaired s �
     → Spells (blob_of s (as_written s options t) old options) new.ids (label t).dtype (label t).len s t
 returned_again s law paired t old new options x grew fit =
     let u = as_written s options t in
-    let w = wire codec s u in
-    let same = grown-ids s u old new grew in
-    let placed = grown_by-placed (ids_in w) old new grew in
-    let W : List (List ℕ) → Type 0 = λ z. IsWritable z options w in
-    let writable = subst W (sym same) fit.writable in
-    let c = carried new.ids options w (wire-whole codec s u) (wire-tabled s u) placed.placed writable in
-    let shows = message_shows new.ids options w (wire-whole codec s u) (wire-tabled s u) placed.placed writable in
-    let counted = countable_in new.ids s u options (message_bytes new.ids options w) (descriptors_from options options.offset (buffers_in w)) shows writable.light in
-    let spelled : Spells (blob_bytes new.ids options w) new.ids (label t).dtype (label t).len s t = record {
-      wire = w;
-      carried = c.0;
-      clean = c.1;
-      whole = wire-whole codec s u;
-      told = record {
-        matched = returned codec s law paired (most_levels options) t x.own x.returns counted;
-        dtype = refl;
-        len = refl;
-        sound = x.own.sound;
-        normal = λ ok. subst (λ z. IsNormal z) x.own.own (canon_normal codec s t x.own.sound);
-      };
-    } in
-    let P : List (List ℕ) → Type 0 = λ z. Spells (blob_bytes z options w) new.ids (label t).dtype (label t).len s t in
-    subst P same spelled
+    told_spelled s u old new options grew fit (label t).dtype (label t).len t
+    (record {
+      matched = returned codec s law paired (most_levels options) t x.own x.returns (written_countable s u old new options grew fit);
+      dtype = refl;
+      len = refl;
+      sound = x.own.sound;
+      normal = λ ok. subst (λ z. IsNormal z) x.own.own (canon_normal codec s t x.own.sound);
+    })
 
 -- So do the bytes that are serialized.
 pub serialized_again : (s : SessionMeaning) → IsLawful codec s → IsPaired s → (t : Tree) (old new : Context) (options : SerializeOptions) (bs : List Buffer) → IsSerialized s t options old new bs → ReturnsWhole s options t → IsSpelledAgain s t new bs
