@@ -43,3 +43,4 @@ mod TakenBelow
 mod EntrySteps
 -- For the proofs of other crates.
 pub mod LawsOfWriting
+pub mod LawsOfReading

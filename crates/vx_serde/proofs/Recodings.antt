@@ -20,7 +20,7 @@ use Rattle.vx_wire_tree.specs.Taken.{Unwritten, unregistered, unserializable, un
 use Rattle.vx_wire_tree.specs.Tells.{Tells}
 use Rattle.vx_wire_tree.specs.Wire.{Wire, ids_in, buffers_in}
 use Rattle.vx_wire_tree.specs.Written.{wire, canon}
-use Rattle.vx_wire_tree.proofs.Laws.{matched_whole, matched_written, canon_wire, canon_written, canon_grown, never_untaken, no_plugin_refuses, taken_own}
+use Rattle.vx_wire_tree.proofs.Laws.{matched_written, canon_wire, canon_written, canon_grown, never_untaken, no_plugin_refuses, taken_own}
 use Rattle.vx_encodings.specs.Messages.{codec}
 use Rattle.vx_serde.specs.declared.options.SerializeOptions.{SerializeOptions}
 use Rattle.vx_serde.specs.declared.error.WireError.{WireError}
@@ -54,7 +54,6 @@ spells asked w t opened told = record {
   wire = w;
   carried = opened.carried;
   clean = opened.clean;
-  whole = matched_whole codec asked.session w t told.matched;
   told = told;
 }
 
@@ -159,7 +158,6 @@ pub left-still : (asked : Request) → LeavesContext asked asked.context
 left-still asked = record {
   some = inl refl;
   kept = λ shipped array spelled. kept-same (ids_in (wire codec asked.session array)) asked.context asked.context refl;
-  untouched = λ none. refl;
 }
 
 -- A context that identifiers of the spelled array came to.
@@ -171,7 +169,6 @@ left-written asked law t after spelled keeps own = record {
       let P : Tree → Type 0 = λ z. KeepsContext (ids_in (wire codec asked.session z)) asked.context after in
       let same : array ≡ t = spelled_once asked.blob asked.ids asked.dtype asked.len asked.session array t ok law other spelled in
       subst P (sym same) (own ok);
-  untouched = λ none. absurd (none t spelled);
 }
 
 -- ---- causes

@@ -65,7 +65,7 @@ module _ (s : SessionMeaning) (u : Tree) (old new : Context) (options : Serializ
   told_spelled d n t told =
       let w = wire codec s u in
       let c = carried new.ids options w (wire-whole codec s u) (wire-tabled s u) placed writable in
-      let spelled : Spells (blob_bytes new.ids options w) new.ids d n s t = record { wire = w; carried = c.0; clean = c.1; whole = wire-whole codec s u; told = told } in
+      let spelled : Spells (blob_bytes new.ids options w) new.ids d n s t = record { wire = w; carried = c.0; clean = c.1; told = told } in
       subst (λ ids. Spells (blob_bytes ids options w) new.ids d n s t) own-ids spelled
 
 -- The blob that is written for an array that was read spells it with the identifiers of the grown context.

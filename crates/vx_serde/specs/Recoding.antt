@@ -68,8 +68,7 @@ pub record KeepsOfSpelled (asked : Request) (after : Context) : Type 0 where
 
 -- What a call leaves of the context, whatever it answers: the context keeps what it had, and what comes to it at its
 -- end are identifiers of an array that the blob spells, as it is written; where no plugin reads or writes, of the one that it
--- spells, as it stands. Where the blob spells none, nothing comes.
+-- spells, as it stands. So where the blob spells none, nothing comes.
 pub record LeavesContext (asked : Request) (after : Context) : Type 0 where
   pub some : (after ≡ asked.context) ⊎ KeepsOfSpelled asked after
   pub kept : IsShipped asked.session → (array : Tree) → IsSpelled asked array → KeepsContext (ids_in (wire codec asked.session array)) asked.context after
-  pub untouched : ((array : Tree) → IsSpelled asked array → ⊥) → after ≡ asked.context

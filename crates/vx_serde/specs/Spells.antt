@@ -9,7 +9,7 @@ use Rattle.vx_wire_tree.specs.Context.{Context, with_ids}
 use Rattle.vx_wire_tree.specs.Limits.{HasMessages}
 use Rattle.vx_wire_tree.specs.Session.{SessionMeaning}
 use Rattle.vx_wire_tree.specs.Tells.{Tells}
-use Rattle.vx_wire_tree.specs.Wire.{Wire, IsWhole, ids_in}
+use Rattle.vx_wire_tree.specs.Wire.{Wire, ids_in}
 use Rattle.vx_wire_tree.specs.Written.{wire}
 use Rattle.vx_encodings.specs.Messages.{codec}
 use Rattle.vx_serde.specs.declared.options.SerializeOptions.{SerializeOptions}
@@ -21,13 +21,12 @@ use Rattle.vx_serde.specs.Written.{blob_bytes, IsWritable}
 use Rattle.vx_serde.specs.WrittenBuffers.{written_buffers}
 
 -- A blob spells an array at a type and a length, with identifiers to read by:
--- it carries a wire tree from which nothing is missing, under clean descriptors,
--- which tells the array at that type and length.
+-- it carries a wire tree, under clean descriptors, which tells the array at that
+-- type and length. So nothing is missing from the tree.
 pub record Spells (blob : List ℕ) (ids : List (List ℕ)) (d : Typ) (n : ℕ) (s : SessionMeaning) (t : Tree) : Type 0 where
   pub wire : Wire
   pub carried : Carries blob ids wire
   pub clean : AreClean carried.segment (message_of carried.value).descriptors
-  pub whole : IsWhole wire
   pub told : Tells codec s wire d n t
 
 -- A blob's message keeps the limits on reading.
