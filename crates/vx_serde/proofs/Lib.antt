@@ -1,3 +1,4 @@
+mod ListSteps
 mod Pieces
 mod Growing
 mod PlacedData

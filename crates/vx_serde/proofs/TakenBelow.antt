@@ -1,8 +1,8 @@
 -- What is taken of arrays, one after the other.
 use Rattle.std.proofs.Common.{ℕ, ◌≡◌, ◌+◌, ◌-◌, ◌<◌, ◌≤◌, ◌⊎◌, inl, inr, List, [], ◌∷◌, ◌++◌, Some, None, length, map, take, refl, sym, ap, ◌∙◌, subst, arith}
 use Rattle.std.specs.Prelude.{slice_get, get_or, Result, Ok, Err, IfErr, OnOk, IsOk}
-use Rattle.std.proofs.lemmas.List.{map-append, take_all, take_more}
-use Rattle.std.proofs.lemmas.Option.{slice_get_within, slice_get_read, get_or_from_slice_get}
+use Rattle.std.proofs.lemmas.List.{map-append, take_all}
+use Rattle.std.proofs.lemmas.Option.{slice_get_read}
 use Rattle.vx_trees.specs.Everywhere.{EverywhereBelow}
 use Rattle.vx_trees.specs.Rose.{node, more, label, below, roses_of, roses_list}
 use Rattle.vx_trees.specs.Walks.{levels, levels_below}
@@ -15,6 +15,7 @@ use Rattle.vx_serde.specs.declared.error.WireError.{WireError}
 use Rattle.vx_serde.specs.declared.error.WireError.TheVariants.{OutOfMemory}
 use Rattle.vx_serde.specs.declared.taken.TakenRoot.{TakenRoot}
 use Rattle.vx_serde.specs.Taking.{source_tree, root_head, root_below, root_node, root_arrays, IsOwn, AreTaken, AreWithinLevels, IsRootAt, RefusesTaking, RefusesOneOf}
+use Rattle.vx_serde.proofs.ListSteps.{take_next}
 use Rattle.vx_serde.proofs.Taking.{stands_at, own_messages, taken_at, is_taken_at, below_at, one_refused}
 
 -- ---- trees, and one more behind them
@@ -57,7 +58,7 @@ module _ (s : SessionMeaning) (n : ℕ) where
   pub one_more_taken : (ts : List Tree) (i : ℕ) (t : Tree) (old new : List Tree) (u : Tree) → slice_get ts i ≡ Some t → AreTaken s n (take i ts) old → u ≡ taken s n t → IsTaken s n t → new ≡ old ++ u ∷ []
       → AreTaken s n (take (i + 1) ts) new
   one_more_taken ts i t old new u at k is w e =
-      let next : take (i + 1) ts ≡ take i ts ++ t ∷ [] = take_more ts i t (slice_get_within ts i t at) ∙ ap (λ z. take i ts ++ z ∷ []) (get_or_from_slice_get ts i t t at) in
+      let next = take_next ts i t at in
       record {
         made = e ∙ (λ j. k.made j ++ is j ∷ []) ∙ sym (ap (λ z. map (λ v. taken s n v) z) next ∙ map-append (λ v. taken s n v) (take i ts) (t ∷ []));
         written_each = subst (λ z. Each (λ v. IsTaken s n v) (roses_of z)) (sym next) (facts_behind (λ v. IsTaken s n v) (take i ts) t k.written_each w);
@@ -135,6 +136,4 @@ own_tree r us k =
 
 -- One more child as it stands.
 pub one_more_own : (ts : List Tree) (i : ℕ) (t : Tree) (old new : List Tree) (u : Tree) → slice_get ts i ≡ Some t → old ≡ take i ts → u ≡ t → new ≡ old ++ u ∷ [] → new ≡ take (i + 1) ts
-one_more_own ts i t old new u at k is e =
-    let next : take (i + 1) ts ≡ take i ts ++ t ∷ [] = take_more ts i t (slice_get_within ts i t at) ∙ ap (λ z. take i ts ++ z ∷ []) (get_or_from_slice_get ts i t t at) in
-    e ∙ (λ j. k j ++ is j ∷ []) ∙ sym next
+one_more_own ts i t old new u at k is e = e ∙ (λ j. k j ++ is j ∷ []) ∙ sym (take_next ts i t at)

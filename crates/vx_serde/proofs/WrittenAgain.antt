@@ -26,7 +26,8 @@ use Rattle.vx_serde.specs.Written.{blob_bytes, message_bytes, IsWritable}
 use Rattle.vx_serde.specs.Spells.{Spells, blob_of, ids_after, KeepsWriterLimits}
 use Rattle.vx_serde.proofs.Carried.{carried, message_shows}
 use Rattle.vx_serde.proofs.CountableMetadata.{countable_in}
-use Rattle.vx_serde.proofs.GrownPlaced.{IsPlaced, grown_by-placed}
+use Rattle.vx_serde.proofs.GrownPlaced.{grown_by-placed}
+use Rattle.vx_serde.proofs.NumberedRead.{IsPlaced}
 use Rattle.vx_serde.proofs.WiredStats.{wire-tabled}
 use Rattle.vx_serde.proofs.GrownIds.{grown_by-ids}
 
