@@ -1,6 +1,5 @@
 -- A builder that goes on from link to link of a block.
-use Rattle.std.proofs.Common.{◌≡◌, ◌∙◌, ◌<◌, ◌^◌, false, ℕ, ◌+◌, ◌-◌, List, [], ◌∷◌, ◌++◌, length, None, Result, Err, ap, sym, subst, refl}
-use Rattle.std.specs.Prelude.{IfErr}
+use Rattle.std.proofs.Common.{◌≡◌, ◌∙◌, ◌<◌, ◌^◌, false, ℕ, ◌+◌, ◌-◌, List, [], ◌∷◌, ◌++◌, length, None, ap, sym, subst, refl}
 use Rattle.vx_flat.specs.declared.error.FlatError.{FlatError}
 use Rattle.vx_flat.specs.Building.{Built, Link, AreLeft, with_piece, with_pieces, waiting, links_of, later_links, next_link}
 use Rattle.vx_flat.specs.Building.{IsNext, IsAwaited, Takes, IsRefused, IsStopped, element_links}
@@ -78,6 +77,3 @@ cut_short b p ls ps now mid new qs rs whole e h m s w =
 -- Where the block itself is refused, the whole stops.
 pub refused : (b new : Built) (p q : Piece) (ps : List Piece) (e : FlatError) → q ≡ p → IsRefused b q e new → IsStopped b (p ∷ ps) e new
 refused b new p q ps e w r = stopped-first b new p ps e (subst (λ z. IsRefused b z e new) w r)
-
-pub at_error : {T : Type 0} (r : Result T FlatError) (y e : FlatError) (P : FlatError → Type 0) → r ≡ Err y → y ≡ e → P e → IfErr r P
-at_error r y e P p q h = subst (λ s. IfErr s P) (sym (p ∙ ap Err q)) h

@@ -1,8 +1,8 @@
 -- The wire tree of a serialized node, part by part, and of its children.
-use Rattle.std.proofs.Common.{ℕ, zero, suc, ◌≡◌, ◌+◌, ◌<◌, ◌≤◌, List, [], ◌∷◌, ◌++◌, Option, Some, None, length, take, map, get_or, refl, sym, ap, ◌∙◌, subst, arith}
+use Rattle.std.proofs.Common.{ℕ, zero, suc, ◌≡◌, ◌+◌, ◌<◌, List, [], ◌∷◌, ◌++◌, Option, Some, None, length, take, map, get_or, refl, sym, ap, ◌∙◌, subst, arith}
 use Rattle.std.specs.Prelude.{slice_get, option_map, option_and_then}
-use Rattle.std.proofs.lemmas.List.{take_more, take_all, map-append, length-map}
-use Rattle.std.proofs.lemmas.Option.{slice_get-map, slice_get_within, slice_get-get_or, get_or_from_slice_get}
+use Rattle.std.proofs.lemmas.List.{take_more, map-append}
+use Rattle.std.proofs.lemmas.Option.{slice_get-map, slice_get_within, get_or_from_slice_get}
 use Rattle.vx_buffer.specs.Buffer.{Buffer}
 use Rattle.vx_trees.specs.Rose.{Rose, Roses, node, end, more, label, below, roses_of, roses_list, count}
 use Rattle.vx_trees.specs.Walks as walk
@@ -12,13 +12,11 @@ use Rattle.vx_flat.specs.Value.{Field}
 use Rattle.vx_types.specs.Typ.{Typ}
 use Rattle.vx_array_tree.specs.Tree.{Tree}
 use Rattle.vx_wire_tree.specs.Steps.{IsToldBy}
-use Rattle.vx_wire_tree.specs.Wire.{all_present}
 use Rattle.vx_encodings.specs.Messages.{codec}
 use Rattle.vx_serde.specs.Blob.{wire_of, wires_of}
 use Rattle.vx_serde.specs.Message.{NodeFields}
 use Rattle.vx_serde.specs.declared.error.WireError.{WireError}
-use Rattle.vx_serde.specs.declared.error.WireError.TheVariants.{OutOfBounds}
-use Rattle.vx_serde.specs.ReadingSteps.{RefusesBuffers, RefusesStats}
+use Rattle.vx_serde.specs.ReadingSteps.{RefusesStats}
 use Rattle.vx_serde.specs.Serialized.{Serialized, wire_in, named_buffer, IsChildOf}
 
 module _ (ids : List (List ℕ)) (bs : List Buffer) where
@@ -89,10 +87,6 @@ named_there : (o : Option ℕ) (bs : List Buffer) (b : Buffer) → option_and_th
 named_there None bs b e = absurd (cc)
 named_there (Some k) bs b e = ap (λ z. Some z) e
 
-named_missing : (o : Option ℕ) (k : ℕ) (bs : List Buffer) → o ≡ Some k → option_and_then (λ k. slice_get bs k) o ≡ None → option_map (λ k. slice_get bs k) o ≡ Some None
-named_missing None k bs there e = absurd (cc)
-named_missing (Some j) k bs there e = ap (λ z. Some z) e
-
 module _ (a : Serialized) (i : ℕ) where
   -- What the numbers of a node's buffers stand for, each where it has one.
   abbrev named : List (Option Buffer)
@@ -100,11 +94,6 @@ module _ (a : Serialized) (i : ℕ) where
 
   pub buffer-there : (b : Buffer) → named_buffer a i ≡ Some b → slice_get named i ≡ Some (Some b)
   buffer-there b e = slice_get-map (λ k. slice_get a.buffers k) (label a.root).buffers i ∙ named_there (slice_get (label a.root).buffers i) a.buffers b e
-
-  pub buffer-missing : i < length (label a.root).buffers → named_buffer a i ≡ None → slice_get named i ≡ Some None
-  buffer-missing h e =
-      slice_get-map (λ k. slice_get a.buffers k) (label a.root).buffers i
-      ∙ named_missing (slice_get (label a.root).buffers i) (get_or (label a.root).buffers i 0) a.buffers (slice_get-get_or (label a.root).buffers i 0 h) e
 
   -- One buffer more.
   pub buffers-next : (own next : List Buffer) (b taken : Buffer) → take i named ≡ map (λ b. Some b) own → named_buffer a i ≡ Some b → taken ≡ b → next ≡ own ++ taken ∷ []
@@ -114,15 +103,6 @@ module _ (a : Serialized) (i : ℕ) where
       take_more named i (Some b) (slice_get_within named i (Some b) at)
       ∙ (λ j. inv j ++ (get_or_from_slice_get named i (Some b) (Some b) at ∙ ap (λ z. Some z) (sym is)) j ∷ [])
       ∙ sym (ap (λ z. map (λ b. Some b) z) e ∙ map-append (λ b. Some b) own (taken ∷ []))
-
-  -- All of them.
-  pub buffers-whole : (ids : List (List ℕ)) (own : List Buffer) → length (label a.root).buffers ≤ i → take i named ≡ map (λ b. Some b) own → (label (wire_in ids a)).buffers ≡ all_present own
-  buffers-whole ids own h inv =
-      wire-buffers ids a ∙ sym (take_all i named (omega (arith, h, length-map (label a.root).buffers (λ k. slice_get a.buffers k)))) ∙ inv
-
-  -- One of them is missing.
-  pub lacks-buffer : (ids : List (List ℕ)) → i < length (label a.root).buffers → named_buffer a i ≡ None → RefusesBuffers OutOfBounds (label (wire_in ids a)).buffers
-  lacks-buffer ids h e = (i, ap (λ z. slice_get z i) (wire-buffers ids a) ∙ buffer-missing h e)
 
 -- ---- statistics
 

@@ -28,12 +28,6 @@ refused-first xs ys a p = grown_by-append xs ys a ∙ ap (λ o. stepped o (λ d.
 pub refused-second : (xs ys : List (List ℕ)) (a b : Context) → grown_by xs a ≡ Some b → grown_by ys b ≡ None → grown_by (xs ++ ys) a ≡ None
 refused-second xs ys a b p q = grown_by-append xs ys a ∙ ap (λ o. stepped o (λ d. grown_by ys d)) p ∙ q
 
-pub grown-one : (x : List ℕ) (a b : Context) → interned x a ≡ Some b → grown_by (x ∷ []) a ≡ Some b
-grown-one x a b p = ap (λ o. stepped o (λ d. Some d)) p
-
-pub refused-one : (x : List ℕ) (a : Context) → interned x a ≡ None → grown_by (x ∷ []) a ≡ None
-refused-one x a p = ap (λ o. stepped o (λ d. Some d)) p
-
 -- ---- what is kept
 
 pub none-among : (xs : List (List ℕ)) → All (λ id. Contains xs id) []

@@ -1,7 +1,7 @@
 -- A context that has taken identifiers gives each of them its place.
 use Rattle.std.proofs.Common.{ℕ, suc, ◌≡◌, ◌<◌, Bool, true, false, List, [], ◌∷◌, ◌++◌, Option, Some, None, length, refl, sym, ap, ◌∙◌, subst, arith, append_assoc, append-nil, length-append}
 use Rattle.std.specs.Prelude.{All, slice_get, bytes_eq, nat_lt, ◌&&◌, if◌then◌else◌}
-use Rattle.std.proofs.lemmas.List.Elements.{All-nil, All-cons, All-weaker}
+use Rattle.std.proofs.lemmas.List.Elements.{All-nil, All-cons}
 use Rattle.std.proofs.lemmas.Bool.{ltb-true}
 use Rattle.std.proofs.lemmas.Option.{slice_get_within, cond_some}
 use Rattle.std.proofs.lemmas.Slice.Eq.{bytes_eq-Decides}
@@ -67,9 +67,6 @@ interned-comes old new id e =
     let parts = cond_some (is_allowed old.allowed id && nat_lt (index_of id old.ids) 65536) (record { ids = with_id id old.ids; allowed = old.allowed }) new e in
     let P : Context → Type 0 = λ c. Comes old.ids c.ids id in
     subst P parts.1 (comes old.ids id (ltb-true (index_of id old.ids) 65536 (second (is_allowed old.allowed id) (nat_lt (index_of id old.ids) 65536) parts.0)))
-
-placed-all : (ids new rest came : List (List ℕ)) → new ≡ ids ++ rest → All (λ id. IsPlaced ids id) came → All (λ id. IsPlaced new id) came
-placed-all ids new rest came e h = rw e (All-weaker (λ id. IsPlaced ids id) (λ id. IsPlaced (ids ++ rest) id) (λ id p. placed-more id ids rest p) came h)
 
 stepped_some : {P : Type 0} (o : Option Context) (step : Context → Option Context) (new : Context) → stepped o step ≡ Some new → ((next : Context) → o ≡ Some next → step next ≡ Some new → P) → P
 stepped_some None step new e f = absurd (cc)

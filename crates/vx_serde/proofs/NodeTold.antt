@@ -28,7 +28,7 @@ use Rattle.vx_wire_tree.specs.Revised.{revised_holds}
 use Rattle.vx_wire_tree.specs.Session.{SessionMeaning, Reader, shipped, revised, plugin, encoding_by}
 use Rattle.vx_wire_tree.specs.Steps.{PlansChildren, HasNoMetadata, HasNoPlan, HasParts, HasWrongShape, HasWrongControl, HasWrongContent, IsToldBy}
 use Rattle.vx_wire_tree.specs.Tells.{Tells}
-use Rattle.vx_wire_tree.specs.Wire.{Wire, Wires, all_present}
+use Rattle.vx_wire_tree.specs.Wire.{Wire, all_present}
 use Rattle.vx_wire_tree.proofs.Laws.{node_tells, revised_tells, matched_count, plugin_tells}
 use Rattle.vx_encodings.specs.Messages.{codec}
 use Rattle.vx_encodings.proofs.Laws.{one_value, plan_length}

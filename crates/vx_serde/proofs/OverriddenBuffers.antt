@@ -6,11 +6,10 @@ use Rattle.std.specs.Ordering.{nat_cmp}
 use Rattle.std.proofs.lemmas.List.Elements.{All-nil, All-cons}
 use Rattle.vx_buffer.specs.Buffer.{Buffer}
 use Rattle.vx_serde.specs.declared.error.WireError.{WireError}
-use Rattle.vx_serde.specs.declared.error.WireError.TheVariants.{OutOfMemory, BadAlignment, Compressed, OutOfBounds}
+use Rattle.vx_serde.specs.declared.error.WireError.TheVariants.{BadAlignment, Compressed, OutOfBounds}
 use Rattle.vx_serde.specs.Blob.{AreClean, buffers_at, end_of}
 use Rattle.vx_serde.specs.Message.{Descriptor, place_behind}
-use Rattle.vx_serde.specs.Overrides.{Overrides, no_override, overrides_in, buffer_with, buffers_with, IsCleanAt, AreCleanWith, RefusesAt, RefusesOne, RefusesWith}
-use Rattle.vx_serde.specs.ReadingSteps.{RefusesBuffer}
+use Rattle.vx_serde.specs.Overrides.{Overrides, no_override, overrides_in, buffer_with, buffers_with, IsCleanAt, AreCleanWith, RefusesAt, RefusesOne}
 use Rattle.vx_serde.specs.Serialized.{Serialized}
 
 -- ---- one descriptor more
@@ -38,18 +37,6 @@ module _ (given : Overrides) (i p : ℕ) (ds rest : List Descriptor) (d : Descri
       let Q : ℕ → Type 0 = λ z. RefusesOne e given n (suc i) z rest in
       let R : List Descriptor → Type 0 = λ z. RefusesOne e given n i p z in
       inv (subst R (sym front) (inr (subst Q behind (subst P next others))))
-
--- The first of the descriptors that are left is refused, or memory was wanted.
-pub refused-here : (e : WireError) (given : Overrides) (segment : List ℕ) (i p : ℕ) (ds rest all : List Descriptor) (d : Descriptor) → ds ≡ d ∷ rest
-    → (RefusesOne e given (length segment) i p ds → RefusesOne e given (length segment) 0 0 all) → RefusesBuffer e (given i) (length segment) p d → RefusesWith e given segment all
-refused-here OutOfMemory given segment i p ds rest all d front inv r = tt
-refused-here BadAlignment given segment i p ds rest all d front inv r =
-    let R : List Descriptor → Type 0 = λ z. RefusesOne BadAlignment given (length segment) i p z in inv (subst R (sym front) (inl r))
-refused-here Compressed given segment i p ds rest all d front inv r =
-    let R : List Descriptor → Type 0 = λ z. RefusesOne Compressed given (length segment) i p z in inv (subst R (sym front) (inl r))
-refused-here OutOfBounds given segment i p ds rest all d front inv r =
-    let R : List Descriptor → Type 0 = λ z. RefusesOne OutOfBounds given (length segment) i p z in inv (subst R (sym front) (inl r))
-refused-here _ given segment i p ds rest all d front inv r = absurd r
 
 -- A refusal that no descriptor has, none of them has.
 pub never-refused : (e : WireError) (given : Overrides) → ((g : Option Buffer) (n p : ℕ) (d : Descriptor) → RefusesAt e g n p d → ⊥) → (n i p : ℕ) (ds : List Descriptor) → RefusesOne e given n i p ds → ⊥

@@ -1,5 +1,5 @@
 -- Descriptors are read eight bytes at a time.
-use Rattle.std.proofs.Common.{ℕ, ◌≡◌, ◌<◌, ◌≤◌, List, [], ◌∷◌, length, get_or, drop, refl, arith}
+use Rattle.std.proofs.Common.{ℕ, ◌≡◌, ◌≤◌, List, [], ◌∷◌, length, get_or, drop, refl, arith}
 use Rattle.std.specs.Int.{w16, w32, from_le_bytes}
 use Rattle.vx_serde.specs.Message.{Descriptor, descriptors_of}
 
@@ -22,14 +22,3 @@ descriptors_of-eight (a ∷ b ∷ c ∷ d ∷ e ∷ []) h = absurd (omega (arith
 descriptors_of-eight (a ∷ b ∷ c ∷ d ∷ e ∷ f ∷ []) h = absurd (omega (arith, h))
 descriptors_of-eight (a ∷ b ∷ c ∷ d ∷ e ∷ f ∷ g ∷ []) h = absurd (omega (arith, h))
 descriptors_of-eight (a ∷ b ∷ c ∷ d ∷ e ∷ f ∷ g ∷ i ∷ rest) h = refl
-
-pub descriptors_of-short : (s : List ℕ) → length s < 8 → descriptors_of s ≡ []
-descriptors_of-short [] h = refl
-descriptors_of-short (a ∷ []) h = refl
-descriptors_of-short (a ∷ b ∷ []) h = refl
-descriptors_of-short (a ∷ b ∷ c ∷ []) h = refl
-descriptors_of-short (a ∷ b ∷ c ∷ d ∷ []) h = refl
-descriptors_of-short (a ∷ b ∷ c ∷ d ∷ e ∷ []) h = refl
-descriptors_of-short (a ∷ b ∷ c ∷ d ∷ e ∷ f ∷ []) h = refl
-descriptors_of-short (a ∷ b ∷ c ∷ d ∷ e ∷ f ∷ g ∷ []) h = refl
-descriptors_of-short (a ∷ b ∷ c ∷ d ∷ e ∷ f ∷ g ∷ i ∷ rest) h = absurd (omega (arith, h))

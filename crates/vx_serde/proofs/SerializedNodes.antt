@@ -12,14 +12,13 @@ use Rattle.vx_flat.specs.Parts.{HasElements, rows_count, row_at, table_in}
 use Rattle.vx_flat.specs.Places.{u16_at, place_of, table_at}
 use Rattle.vx_flat.specs.Reading.{table_shown, shown_within, found_shown, fields_shown, plain_shown}
 use Rattle.vx_flat.specs.Schema.{fields_of}
-use Rattle.vx_flat.specs.Seen.{seen, part_in, kind_in, kinds_in, IsBelow, fields_or_none, message_seen, table_seen, vector_seen, kind_seen, size_seen, IsViewOf, IsVectorOf, IsVectorBelow, IsElement}
+use Rattle.vx_flat.specs.Seen.{seen, part_in, kind_in, kinds_in, IsBelow, fields_or_none, table_seen, vector_seen, kind_seen, size_seen, IsViewOf, IsVectorOf, IsVectorBelow}
 use Rattle.vx_flat.specs.Value.{Field, Fields, Rows, absent, number, table, tables, no_rows, row}
 use Rattle.vx_flat.specs.View.{fields_from, rows_from}
-use Rattle.vx_flat.proofs.LawsOfViews.{seen-of, kind-of, kinds-of, table-of, vector-of, element-of, tables-whole, tables_in}
+use Rattle.vx_flat.proofs.LawsOfViews.{seen-of, kind-of, kinds-of, table-of, vector-of, tables-whole, tables_in}
 use Rattle.vx_trees.specs.Rose.{Rose, node, label, below, roses_list, count}
 use Rattle.vx_serde.specs.ArraySchema.{array_schema, node_fields, stats_fields}
 use Rattle.vx_serde.specs.Message.{NodeFields, node_of, nodes_of, nodes_in, number_of_field, bytes_of_field, indices_of}
-use Rattle.vx_serde.specs.Stored.{IsNodeView}
 
 -- A node is what its fields tell.
 pub node_seen : (v : View) → IsViewOf array_schema 1 v
@@ -161,12 +160,6 @@ module _ (v : View) (h : IsViewOf array_schema 1 v) (w : VectorView) (part : par
   pub child-told : (t : Rose NodeFields) (i : ℕ) (vs : Fields) → node_of (seen v) ≡ t → table_in (vector_seen w) i ≡ Some vs → slice_get (roses_list (below t)) i ≡ Some (node_of vs)
   child-told t i vs own e =
       ap (λ z. slice_get (roses_list z) i) (below_told v h t own ∙ ap (λ f. nodes_in f) part) ∙ children-at (vector_seen w) (rows_from (tables_in (vector_seen w))) i vs whole e
-
-  pub child-view : (u : View) → (bytes : (p : ℕ) → get_or (message_seen v) p 0 < 256) → IsElement w u → kind_seen w ≡ Tables (table_seen u) → IsNodeView u
-  child-view u bytes below is =
-      let same : message_seen v ≡ message_seen u = sym (ap (λ m. m.now) (below.message ∙ lies.message)) in
-      let P : List ℕ → Type 0 = λ m. (p : ℕ) → get_or m p 0 < 256 in
-      record { of = element-of array_schema 1 w u children_of below is; bytes = subst P same bytes }
 
 pub none-counted : (v : View) → IsViewOf array_schema 1 v → (t : Rose NodeFields) → node_of (seen v) ≡ t → part_in v 2 ≡ absent → 0 ≡ count (below t)
 none-counted v h t own part = sym (ap (λ z. count z) (below_told v h t own) ∙ ap (λ f. count (nodes_in f)) part)

@@ -1,5 +1,5 @@
 -- What is kept of a message that was verified, and why it is not.
-use Rattle.std.proofs.Common.{ℕ, ◌≡◌, ◌+◌, ◌-◌, List, ◌++◌, Option, Some, None, length, refl, sym, ap, ◌∙◌, subst, arith, append_assoc}
+use Rattle.std.proofs.Common.{ℕ, ◌≡◌, ◌+◌, ◌-◌, List, ◌++◌, Some, length, refl, sym, ap, ◌∙◌, subst, arith, append_assoc}
 use Rattle.std.specs.Prelude.{slice_range, Result, Ok, Err, IfOk, IfErr}
 use Rattle.std.proofs.Math.Seq.{take-append_seam, drop-append_seam}
 use Rattle.vx_buffer.specs.Buffer.{Buffer}
@@ -8,21 +8,19 @@ use Rattle.vx_flat.specs.declared.error.FlatError.TheVariants as tables
 use Rattle.vx_flat.specs.declared.viewing.View.{View}
 use Rattle.vx_flat.specs.declared.limits.Limits.{Limits}
 use Rattle.vx_flat.specs.Limits.{IsLight}
-use Rattle.vx_flat.specs.Places.{u32_at}
 use Rattle.vx_flat.specs.Reading.{table_shown}
-use Rattle.vx_flat.specs.Seen.{seen, part_in, fields_or_none, IsViewAt, IsViewOf, IsRootView}
+use Rattle.vx_flat.specs.Seen.{seen, part_in, fields_or_none, IsViewAt, IsViewOf}
 use Rattle.vx_flat.specs.Shows.{Shows, ShowsAt}
-use Rattle.vx_flat.specs.Value.{Fields, absent, table}
+use Rattle.vx_flat.specs.Value.{Fields, table}
 use Rattle.vx_flat.specs.Weight.{weight}
 use Rattle.vx_flat.specs.declared.weight.Weight.{Weight}
-use Rattle.vx_flat.proofs.LawsOfMessages.{shown-one}
 use Rattle.vx_flat.proofs.LawsOfViews.{seen-of}
 use Rattle.vx_trees.specs.Rose.{Rose}
 use Rattle.vx_serde.specs.declared.error.WireError.{WireError}
 use Rattle.vx_serde.specs.declared.error.WireError.TheVariants.{OutOfMemory, TooShort, BadTable, TableLimit, BadAlignment, Compressed, OutOfBounds, UnknownIndex, UnknownEncoding, BadMetadata, BadShape, BadContent, ForeignControl, BadStats, NotPermitted, WireLimit, NotRegistered, NotSerializable, UndeclaredId, PluginRefused}
 use Rattle.vx_serde.specs.ArraySchema.{array_schema}
 use Rattle.vx_serde.specs.Blob.{IsBlob, AreClean, buffers_at, wire_of}
-use Rattle.vx_serde.specs.Message.{Descriptor, NodeFields, message_of, node_of, root_in, descriptors_of, bytes_of_field}
+use Rattle.vx_serde.specs.Message.{Descriptor, NodeFields, message_of, node_of, root_in}
 use Rattle.vx_serde.specs.Opening.{RefusesOpening}
 use Rattle.vx_serde.specs.Overrides.{Overrides, no_override, RefusesWith}
 use Rattle.vx_serde.specs.ReadingSteps.{IsOpened, message_refusal}
@@ -39,17 +37,11 @@ pub view_of : (m : List ℕ) (t : ℕ) (w : Weight) (v : View) → IsViewAt arra
 view_of m t w v h = record { schema = h.schema; table = h.table }
 
 module _ (v : View) (h : IsViewOf array_schema 0 v) where
-  pub descriptors_seen : (message_of (seen v)).descriptors ≡ descriptors_of (bytes_of_field (part_in v 1))
-  descriptors_seen = ap (λ vs. (message_of vs).descriptors) (seen-of array_schema 0 v h)
-
   pub root_seen : (message_of (seen v)).root ≡ root_in (part_in v 0)
   root_seen = ap (λ vs. (message_of vs).root) (seen-of array_schema 0 v h)
 
   pub root_there : (w : View) → part_in v 0 ≡ table (seen w) → (message_of (seen v)).root ≡ Some (node_of (seen w))
   root_there w e = root_seen ∙ ap (λ f. root_in f) e
-
-  pub root_missing : part_in v 0 ≡ absent → (message_of (seen v)).root ≡ None
-  root_missing e = root_seen ∙ ap (λ f. root_in f) e
 
 -- ---- what is kept
 
@@ -60,26 +52,6 @@ module _ (m : List ℕ) (t : ℕ) (w : Weight) (v : View) (h : IsViewAt array_sc
       let P : Fields → Type 0 = λ z. ShowsAt array_schema m t 0 z in
       record { shows = subst P sees h.shows; root = root; root_is = ap (λ z. (message_of z).root) (sym sees) ∙ e }
 
-  pub is_shown : Shows array_schema m (seen v) → Shows array_schema m (array_at m t)
-  is_shown shows = let P : Fields → Type 0 = λ z. Shows array_schema m z in subst P (view_sees m t w v h) shows
-
-  pub is_told : (message_of (seen v)).descriptors ≡ (message_of (array_at m t)).descriptors
-  is_told = ap (λ z. (message_of z).descriptors) (view_sees m t w v h)
-
--- A root that stands is the one that is kept.
-pub kept_root : (o : Option (Rose NodeFields)) (root : Rose NodeFields) → o ≡ Some root → o ≡ Some (root_or_leaf o)
-kept_root (Some t) root e = refl
-kept_root None root e = absurd (cc)
-
-pub message_of_stored : (most : Limits) (m : List ℕ) (t : ℕ) (bs : List Buffer) → IsStored m t → Shows array_schema m (array_at m t) → IsLight most (weight array_schema m) → IsMessageOf most m (stored m t bs)
-message_of_stored most m t bs s shows light = record {
-  value = array_at m t;
-  shows = shows;
-  light = light;
-  root = kept_root (message_of (array_at m t)).root s.root s.root_is;
-  descriptors = refl;
-}
-
 -- What is kept is what a view again sees.
 pub stored_seen : (m : List ℕ) (t : ℕ) (w : Weight) (v r : View) (bs : List Buffer) → IsViewAt array_schema m t w v → part_in v 0 ≡ table (seen r)
     → stored m t bs ≡ record { root = node_of (seen r); descriptors = (message_of (seen v)).descriptors; buffers = bs }
@@ -89,13 +61,6 @@ stored_seen m t w v r bs h e =
     let descriptors : (message_of (array_at m t)).descriptors ≡ (message_of (seen v)).descriptors = ap (λ z. (message_of z).descriptors) sees in
     λ j. record { root = root j; descriptors = descriptors j; buffers = bs }
 
--- A message that is kept has a root.
-pub never_missing : (m : List ℕ) (t : ℕ) (w : Weight) (v : View) → IsStored m t → IsViewAt array_schema m t w v → part_in v 0 ≡ absent → ⊥
-never_missing m t w v s h e =
-    let none : (message_of (array_at m t)).root ≡ None = ap (λ z. (message_of z).root) (sym (view_sees m t w v h)) ∙ root_missing v (view_of m t w v h) e in
-    let both = sym s.root_is ∙ none in
-    absurd (cc)
-
 -- ---- why a message is not kept
 
 pub unread : (most : Limits) (m : List ℕ) (e : FlatError) → (e ≡ tables.BadTable → (v : Fields) → Shows array_schema m v → ⊥) → (e ≡ tables.TableLimit → IsLight most (weight array_schema m) → ⊥) → (e ≡ tables.MessageTooLong → ⊥)
@@ -104,13 +69,6 @@ unread most m tables.OutOfMemory bad heavy long = tt
 unread most m tables.BadTable bad heavy long = λ v r shows root. bad refl v shows
 unread most m tables.TableLimit bad heavy long = heavy refl
 unread most m tables.MessageTooLong bad heavy long = absurd (long refl)
-
-pub rootless : (most : Limits) (m : List ℕ) (v : View) → IsRootView array_schema m v → part_in v 0 ≡ absent → RefusesMessage most BadTable m
-rootless most m v h e = λ value root shows root_is.
-    let same = shown-one array_schema m value (seen v) shows h.0 in
-    let none = root_missing v (view_of m (u32_at m 0) (weight array_schema m) v h.1) e in
-    let both = sym root_is ∙ ap (λ z. (message_of z).root) same ∙ none in
-    absurd (cc)
 
 pub refused_message : (most : Limits) (e : WireError) (given : Overrides) (segment m : List ℕ) → RefusesMessage most e m → RefusesSegment most e given segment m
 refused_message most OutOfMemory given segment m r = tt

@@ -1,14 +1,10 @@
 -- What is written of an array, node by node, and why a node is not.
-use Rattle.std.specs.Prelude.{Box, IsSomeAnd, bytes_eq, slice_get, if◌then◌else◌}
+use Rattle.std.specs.Prelude.{Box, IsSomeAnd, slice_get}
 use Rattle.std.specs.Global.{Global}
-use Rattle.std.specs.List.{list_any}
-use Rattle.std.proofs.Common.{ℕ, zero, suc, Option, Some, None, Bool, true, false, ◌≡◌, ◌≤◌, inl, inr, List, [], ◌∷◌, refl, sym, ap, ◌∙◌, subst, arith}
-use Rattle.vx_trees.specs.Rose.{node, end, more, label, below, roses_of}
+use Rattle.std.proofs.Common.{ℕ, zero, suc, Option, Some, None, Bool, ◌≡◌, ◌≤◌, inl, inr, List, [], ◌∷◌, refl, sym, ap, ◌∙◌, subst, arith}
+use Rattle.vx_trees.specs.Rose.{node, more, label, below, roses_of}
 use Rattle.vx_trees.specs.Walks.{levels}
 use Rattle.vx_trees.specs.Everywhere.{EverywhereBelow}
-use Rattle.vx_array_tree.specs.Body.{Body}
-use Rattle.vx_array_tree.specs.Body as B
-use Rattle.vx_array_tree.specs.Place.{Place, place}
 use Rattle.vx_scalars.specs.Stats.{FitStats}
 use Rattle.vx_array_tree.specs.Sound.{metadata_in}
 use Rattle.vx_array_tree.specs.Table.{metadata_of, buffers_of}
@@ -16,9 +12,8 @@ use Rattle.vx_array_tree.specs.Tree.{Tree, Trees, Head, places}
 use Rattle.vx_wire_tree.specs.Context.{Context, grown}
 use Rattle.vx_wire_tree.specs.Fields.{FitsMessage, told}
 use Rattle.vx_wire_tree.specs.Limits.{HasMessage, HasMessages}
-use Rattle.vx_wire_tree.specs.Plugin.{PluginMeaning, Parts, Answer, none, refused, given}
-use Rattle.vx_wire_tree.specs.Session.{SessionMeaning, Reader, shipped, revised, plugin, IsShipped}
-use Rattle.vx_wire_tree.specs.Taken.{Step, written, unwritten, Unwritten, unregistered, unserializable, undeclared, unwilling, IsWrittenStep, given_head, foreign_step, plugin_step, writer_step, step_by, step, step_head, step_below, each, Each, Any, taken, IsTaken, HasUntaken}
+use Rattle.vx_wire_tree.specs.Session.{SessionMeaning, IsShipped}
+use Rattle.vx_wire_tree.specs.Taken.{Step, written, unwritten, Unwritten, unserializable, IsWrittenStep, given_head, step, step_head, step_below, each, Each, Any, taken, IsTaken, HasUntaken}
 use Rattle.vx_wire_tree.specs.ReadBack.{IsWritten}
 use Rattle.vx_wire_tree.proofs.Laws.{places_taken, taken_own, never_untaken}
 use Rattle.vx_wire_tree.proofs.Laws as laws
@@ -28,7 +23,7 @@ use Rattle.vx_registry.specs.Serialization.{IsUnserialized, HasLargeMetadata, ar
 use Rattle.vx_registry.specs.declared.error.RegistryError.{RegistryError}
 use Rattle.vx_registry.specs.declared.error.RegistryError.TheVariants as registry
 use Rattle.vx_serde.specs.declared.error.WireError.{WireError}
-use Rattle.vx_serde.specs.declared.error.WireError.TheVariants.{OutOfMemory, NotPermitted, WireLimit, NotRegistered, NotSerializable, UndeclaredId, PluginRefused}
+use Rattle.vx_serde.specs.declared.error.WireError.TheVariants.{OutOfMemory, NotPermitted, WireLimit, NotSerializable}
 use Rattle.vx_serde.specs.declared.options.SerializeOptions.{SerializeOptions}
 use Rattle.vx_serde.specs.Causes.{RefusesWriting, RefusesArray}
 use Rattle.vx_serde.specs.Errors.{registry_refusal}

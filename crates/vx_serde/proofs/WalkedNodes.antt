@@ -1,10 +1,10 @@
 -- What is gathered at a node, before, at and behind one of the trees below it.
-use Rattle.std.specs.Prelude.{ℕ, suc, ◌≡◌, ◌<◌, ◌≤◌, ◌+◌, List, [], ◌∷◌, ◌++◌, length, take, drop, refl}
-use Rattle.std.proofs.Common.{arith, sym, ◌∙◌, ap, get_or, append_assoc, length-append, drop-cons}
+use Rattle.std.specs.Prelude.{ℕ, suc, ◌≡◌, ◌<◌, ◌≤◌, List, [], ◌∷◌, ◌++◌, length, take, drop, refl}
+use Rattle.std.proofs.Common.{sym, ◌∙◌, ap, get_or, append_assoc, drop-cons}
 use Rattle.std.proofs.lemmas.List.{take-append-drop, take_all}
 use Rattle.vx_trees.specs.Rose.{Rose, label, below, roses_of}
 use Rattle.vx_trees.specs.Walks.{gathered, gathered_below}
-use Rattle.vx_trees.proofs.Gathering.{gathered-is, gathered_below-take}
+use Rattle.vx_trees.proofs.Gathering.{gathered-is}
 
 module _ {L A : Type 0} (f : L → List A) where
   pub gathered_below-append : (ts us : List (Rose L)) → gathered_below f (roses_of (ts ++ us)) ≡ gathered_below f (roses_of ts) ++ gathered_below f (roses_of us)
@@ -31,31 +31,3 @@ module _ {L A : Type 0} (f : L → List A) where
       → gathered f t ≡ f (label t) ++ gathered_below f (roses_of (take i ts))
   gathered-whole t ts i e h =
       gathered-is f t ∙ ap (λ r. f (label t) ++ gathered_below f r) (sym e) ∙ ap (λ r. f (label t) ++ gathered_below f (roses_of r)) (sym (take_all i ts h))
-
-  -- There is room for a tree below where there is room for the whole.
-  pub room-child : (t : Rose L) (ts : List (Rose L)) (i : ℕ) (d : Rose L) (first own next limit : ℕ) → roses_of ts ≡ below t → i < length ts
-      → own ≡ length (f (label t)) → next ≡ (first + own) + length (gathered_below f (roses_of (take i ts))) → first + length (gathered f t) ≤ limit
-      → next + length (gathered f (get_or ts i d)) ≤ limit
-  room-child t ts i d first own next limit e h p q r =
-      let before = f (label t) ++ gathered_below f (roses_of (take i ts)) in
-      let child = gathered f (get_or ts i d) in
-      omega (
-        arith,
-        ap (λ z. length z) (gathered-child t ts i d e h),
-        length-append (before ++ child) (gathered_below f (roses_of (drop (suc i) ts))),
-        length-append before child,
-        length-append (f (label t)) (gathered_below f (roses_of (take i ts))),
-      )
-
-  pub room-own : (t : Rose L) (first own limit : ℕ) → own ≡ length (f (label t)) → first + length (gathered f t) ≤ limit → first + own ≤ limit
-  room-own t first own limit p r = omega (arith, ap (λ z. length z) (gathered-is f t), length-append (f (label t)) (gathered_below f (below t)))
-
-  pub count-whole : (t : Rose L) (ts : List (Rose L)) (i first own next : ℕ) → roses_of ts ≡ below t → length ts ≤ i
-      → own ≡ length (f (label t)) → next ≡ (first + own) + length (gathered_below f (roses_of (take i ts))) → next ≡ first + length (gathered f t)
-  count-whole t ts i first own next e h p q =
-      omega (arith, ap (λ z. length z) (gathered-whole t ts i e h), length-append (f (label t)) (gathered_below f (roses_of (take i ts))))
-
-  pub count-next : (ts : List (Rose L)) (i : ℕ) (child : Rose L) (start now next : ℕ) → i < length ts → child ≡ get_or ts i child
-      → now ≡ start + length (gathered_below f (roses_of (take i ts))) → next ≡ now + length (gathered f child) → next ≡ start + length (gathered_below f (roses_of (take (i + 1) ts)))
-  count-next ts i child start now next h at p q =
-      omega (arith, ap (λ z. length z) (gathered_below-take f ts i child h), length-append (gathered_below f (roses_of (take i ts))) (gathered f (get_or ts i child)), ap (λ t. length (gathered f t)) at)

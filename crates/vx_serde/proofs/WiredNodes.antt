@@ -34,11 +34,6 @@ module _ {A B : Type 0} (f : A → B) where
   map-length [] = refl
   map-length (x ∷ xs) = ap suc (map-length xs)
 
-  pub map-take : (i : ℕ) (xs : List A) → take i (map f xs) ≡ map f (take i xs)
-  map-take zero xs = refl
-  map-take (suc i) [] = refl
-  map-take (suc i) (x ∷ xs) = ap (λ ys. f x ∷ ys) (map-take i xs)
-
   pub map-at : (xs : List A) (i : ℕ) (x : A) → i < length xs → x ≡ get_or xs i x → f x ≡ get_or (map f xs) i (f x)
   map-at [] i x h e = absurd (omega (arith, h))
   map-at (y ∷ xs) zero x h e = ap f e
