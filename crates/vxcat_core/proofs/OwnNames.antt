@@ -1,9 +1,7 @@
 -- Where primitives have one identifier, each node is written under its encoding's own, and read under it.
-use Rattle.std.proofs.Common.{ℕ, ◌≡◌, List, Some, Bool, true, false, nat_le, if◌then◌else◌, refl, sym, ap, ◌∙◌, subst}
+use Rattle.std.proofs.Common.{ℕ, ◌≡◌, List, Some, false, refl, sym, ap, ◌∙◌, subst}
 use Rattle.vx_trees.specs.Rose.{node, end, more}
 use Rattle.vx_array_tree.specs.Body.{Body}
-use Rattle.vx_array_tree.specs.Body as B
-use Rattle.vx_array_tree.specs.Encodings.Primitives as Primitives
 use Rattle.vx_array_tree.specs.Sound.{metadata_in}
 use Rattle.vx_array_tree.specs.Table.{encoding_of, own_id, buffers_of}
 use Rattle.vx_array_tree.specs.Tree.{Tree, Trees, Head}
@@ -13,6 +11,7 @@ use Rattle.vx_wire_tree.specs.ReadBack.{IsReadAs}
 use Rattle.vx_wire_tree.specs.Session.{SessionMeaning}
 use Rattle.vx_wire_tree.specs.Wire.{WireHead, Wire, Wires, all_present}
 use Rattle.vx_wire_tree.specs.Written.{wire, wires, writes_two, body_id}
+use Rattle.vx_wire_tree.proofs.Laws.{one_own}
 use Rattle.vx_encodings.specs.Messages.{codec}
 
 -- A node of these parts, under an identifier.
@@ -28,18 +27,9 @@ abbrev mutual
   own_wires end = end
   own_wires (more t ts) = more (own_wire t) (own_wires ts)
 
-either_way : (b : Bool) (x : List ℕ) → (if b then x else x) ≡ x
-either_way true x = refl
-either_way false x = refl
-
-one_named : (b : Body) (n : ℕ) → body_id false b n ≡ own_id b
-one_named (B.foreign x) n = refl
-one_named (B.primitive x) n = either_way (nat_le n 4) Primitives.id
-one_named _ n = refl
-
 module _ (s : SessionMeaning) (one : writes_two s ≡ false) where
   named : (b : Body) (n : ℕ) → body_id (writes_two s) b n ≡ own_id b
-  named b n = ap (λ two. body_id two b n) one ∙ one_named b n
+  named b n = ap (λ two. body_id two b n) one ∙ one_own b n
 
   mutual
     -- It is the wire tree that is written.
