@@ -1,3 +1,4 @@
+pub mod Tested
 pub mod Odd
 pub mod OddLaws
 pub mod Asking

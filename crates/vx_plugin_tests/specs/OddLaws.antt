@@ -1,5 +1,5 @@
 -- The laws of a plugin that writes an array over itself, or not at all.
-use Rattle.std.proofs.Common.{ℕ, ◌≡◌, Bool, true, false, List, [], ◌∷◌, Some, None, length, nat_eq, if◌then◌else◌, refl, ap, sym, ◌∙◌}
+use Rattle.std.proofs.Common.{ℕ, ◌≡◌, Bool, List, [], ◌∷◌, Some, None, length, nat_eq, if◌then◌else◌, refl, ap, sym, ◌∙◌}
 use Rattle.std.proofs.lemmas.Bool.{eqb-true}
 use Rattle.vx_trees.specs.Rose.{node, end, more, label}
 use Rattle.vx_array_tree.specs.Place.{Place, place}
@@ -7,19 +7,19 @@ use Rattle.vx_array_tree.specs.Tree.{Tree, Trees, places, with_stats}
 use Rattle.vx_wire_tree.specs.Plugin.{NodeHead, Parts, given, head_of}
 use Rattle.vx_plugin_tests.specs.declared.odd.Oddity.{Oddity}
 use Rattle.vx_plugin_tests.specs.declared.odd.Oddity.TheVariants.{Formless, Unwilling, Undeclared, Endless}
+use Rattle.vx_plugin_tests.specs.Tested.{test_holds}
 use Rattle.vx_plugin_tests.specs.Odd.{over, odd_answer, odd_plan, odd_build}
 
--- One place is planned where the test holds.
-pub planned : (b : Bool) (p : Place) (ps : List Place) → (if b then Some (p ∷ []) else None) ≡ Some ps → (b ≡ true) × (p ∷ [] ≡ ps)
-planned true p ps e = (refl, cc)
-planned false p ps e = absurd (cc)
+-- A list of one place has the length 1.
+pub one_long : (p : Place) (ps : List Place) → Some (p ∷ []) ≡ Some ps → length ps ≡ 1
+one_long p ps e = let same : p ∷ [] ≡ ps = cc in sym (ap (λ (z : List Place). length z) same)
 
 pub one_each : (h : NodeHead) (ps : List Place) → odd_plan h ≡ Some ps → length ps ≡ h.nchildren
 one_each h ps e =
-    let k = planned (nat_eq h.nchildren 1) (place h.dtype h.len) ps e in
-    sym (ap (λ (z : List Place). length z) k.1) ∙ sym (eqb-true h.nchildren 1 k.0)
+    let k = test_holds (nat_eq h.nchildren 1) (Some (place h.dtype h.len ∷ [])) ps e in
+    one_long (place h.dtype h.len) ps k.1 ∙ sym (eqb-true h.nchildren 1 k.0)
 
-first : (p : Place) (ps : List Place) (q : Place) (qs : List Place) → p ∷ ps ≡ q ∷ qs → p ≡ q
+first : (p : Place) (ps : List Place) (q : Place) (qs : List Place) → Some (p ∷ ps) ≡ Some (q ∷ qs) → p ≡ q
 first p ps q qs e = cc
 
 -- Where one child is planned at a place, it stands there.
@@ -27,7 +27,7 @@ pub one_child : (b : Bool) (p : Place) (ts : Trees) (t : Tree) → (if b then So
 one_child b p end t e k = absurd (cc)
 one_child b p (more u us) t e k =
     let same : u ≡ t = cc in
-    let q = first p [] (place (label u).dtype (label u).len) (places us) (planned b p (places (more u us)) e).1 in
+    let q = first p [] (place (label u).dtype (label u).len) (places us) (test_holds b (Some (p ∷ [])) (places (more u us)) e).1 in
     (ap (λ (z : Tree). (label z).dtype) (sym same) ∙ sym (ap (λ (z : Place). z.dtype) q), ap (λ (z : Tree). (label z).len) (sym same) ∙ sym (ap (λ (z : Place). z.len) q))
 
 pub as_asked : (h : NodeHead) (ts : Trees) (t : Tree) → odd_plan h ≡ Some (places ts) → odd_build ts ≡ Some t → ((label t).dtype ≡ h.dtype) × ((label t).len ≡ h.len)

@@ -34,16 +34,18 @@ is_plain _ = false
 abbrev pub parts : List ℕ → Primitives.Data → Parts
 parts id x = record { id = id; metadata = []; buffers = x.values ∷ []; children = end }
 
+-- Numbers are written so where none of them may be null, and else refused.
 abbrev pub plain_answer : Bool → List ℕ → Primitives.Data → Answer
 plain_answer true id x = given (parts id x)
 plain_answer false id x = refused
 
--- They are written, and no other array.
+-- Under an identifier, numbers without children are written, and no other array.
 abbrev pub answer_by : List ℕ → Typ → Body → Trees → Answer
 answer_by id d (B.primitive x) end = plain_answer (is_plain d) id x
 answer_by id d (B.primitive x) (more t ts) = refused
 answer_by id d _ ts = refused
 
+-- An array is written under the identifier for its rows.
 abbrev pub answer : List ℕ → List ℕ → Tree → Answer
 answer old new (node h ts) = answer_by (id_for old new h.len) h.dtype h.body ts
 
@@ -63,9 +65,11 @@ is_filled width n b = nat_eq (length b.bytes) (width * n) && nat_le width (2 ^ b
 abbrev pub numbers : Typ → ℕ → Buffer → Tree
 numbers d n b = node (untold d n (B.primitive (record { values = b }))) end
 
+-- What is read of buffers: the numbers of the first, where they fill it.
 abbrev pub filled : Typ → ℕ → List Buffer → Option Tree
 filled d n [] = None
 filled d n (b ∷ bs) = if is_filled (width_of (ptype_of d)) n b then Some (numbers d n b) else None
 
+-- What is read of a node: the numbers of its buffers, where it has the form.
 abbrev pub build : List ℕ → List ℕ → NodeHead → List Buffer → Option Tree
 build old new h bs = if is_form old new h then filled h.dtype h.len bs else None

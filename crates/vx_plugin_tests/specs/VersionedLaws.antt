@@ -1,5 +1,5 @@
 -- The laws of a plugin of numbers that has an identifier for few of them and one for any number.
-use Rattle.std.proofs.Common.{ℕ, ◌≡◌, ◌^◌, ◌*◌, ◌&&◌, Bool, true, false, List, [], ◌∷◌, Option, Some, None, length, nat_eq, nat_le, if◌then◌else◌, refl, ap, sym, ◌∙◌, subst}
+use Rattle.std.proofs.Common.{ℕ, ◌≡◌, ◌^◌, ◌*◌, ◌&&◌, Bool, true, false, List, [], ◌∷◌, Some, None, length, nat_eq, nat_le, if◌then◌else◌, refl, ap, sym, ◌∙◌, subst}
 use Rattle.std.specs.Prelude.{bytes_eq}
 use Rattle.std.proofs.lemmas.Bool.{eqb-true, eq-eqb, le-leb}
 use Rattle.std.proofs.lemmas.Slice.Eq.{bytes_eq-Decides}
@@ -15,11 +15,8 @@ use Rattle.vx_array_tree.specs.Sound.{IsSound}
 use Rattle.vx_array_tree.specs.Table.{own_id, Holds}
 use Rattle.vx_array_tree.specs.Tree.{Tree, Trees, places, with_stats}
 use Rattle.vx_wire_tree.specs.Plugin.{NodeHead, Parts, given, head_of}
+use Rattle.vx_plugin_tests.specs.Tested.{test_holds}
 use Rattle.vx_plugin_tests.specs.Versioned.{most, holds, id_for, is_plain, parts, plain_answer, answer_by, answer, is_form, plan, is_filled, numbers, filled, build}
-
-when : {A : Type 0} (b : Bool) (o : Option A) (a : A) → (if b then o else None) ≡ Some a → (b ≡ true) × (o ≡ Some a)
-when true o a e = (refl, e)
-when false o a e = absurd (cc)
 
 last : (a b c d e : Bool) → (a && (b && (c && (d && e)))) ≡ true → e ≡ true
 last true true true true e p = p
@@ -54,7 +51,7 @@ module _ (old new : List ℕ) where
 
   pub one_each : (h : NodeHead) (ps : List Place) → plan old new h ≡ Some ps → length ps ≡ h.nchildren
   one_each h ps e =
-      let k = when (is_form old new h) (Some []) ps e in
+      let k = test_holds (is_form old new h) (Some []) ps e in
       let childless = last (holds old new h.id h.len) (is_plain h.dtype) (nat_eq (length h.metadata) 0) (nat_eq h.nbuffers 1) (nat_eq h.nchildren 0) k.0 in
       none_planned ps k.1 ∙ sym (eqb-true h.nchildren 0 childless)
 
@@ -62,12 +59,12 @@ module _ (old new : List ℕ) where
   numbers_are : (d : Typ) (n : ℕ) (bs : List Buffer) (t : Tree) → filled d n bs ≡ Some t → (b : Buffer) × (numbers d n b ≡ t)
   numbers_are d n [] t e = absurd (cc)
   numbers_are d n (b ∷ bs) t e =
-      let k = when (is_filled (width_of (ptype_of d)) n b) (Some (numbers d n b)) t e in
+      let k = test_holds (is_filled (width_of (ptype_of d)) n b) (Some (numbers d n b)) t e in
       (b, let r = k.1 in cc)
 
   pub as_asked : (h : NodeHead) (bs : List Buffer) (t : Tree) → build old new h bs ≡ Some t → ((label t).dtype ≡ h.dtype) × ((label t).len ≡ h.len) × (bytes_eq Primitives.id (own_id (label t).body) ≡ true)
   as_asked h bs t e =
-      let k = when (is_form old new h) (filled h.dtype h.len bs) t e in
+      let k = test_holds (is_form old new h) (filled h.dtype h.len bs) t e in
       let x = numbers_are h.dtype h.len bs t k.1 in (
         ap (λ (z : Tree). (label z).dtype) (sym x.1),
         ap (λ (z : Tree). (label z).len) (sym x.1),
@@ -75,16 +72,16 @@ module _ (old new : List ℕ) where
       )
 
   -- An identifier holds the rows for which it is.
-  either : (a c d : Bool) → c ≡ true → d ≡ true → (if a then true else c && d) ≡ true
-  either true c d p q = refl
-  either false c d p q = λ i. p i && q i
+  passes : (a c d : Bool) → c ≡ true → d ≡ true → (if a then true else c && d) ≡ true
+  passes true c d p q = refl
+  passes false c d p q = λ i. p i && q i
 
-  held : (n : ℕ) (b : Bool) → nat_le n most ≡ b → holds old new (if b then old else new) n ≡ true
-  held n true e = either (bytes_eq old new) (bytes_eq old old) (nat_le n most) ((bytes_eq-Decides old old).1 refl) e
-  held n false e = ap (λ z. if z then true else bytes_eq new old && nat_le n most) ((bytes_eq-Decides new new).1 refl)
+  holds_either : (n : ℕ) (few : Bool) → nat_le n most ≡ few → holds old new (if few then old else new) n ≡ true
+  holds_either n true e = passes (bytes_eq old new) (bytes_eq old old) (nat_le n most) ((bytes_eq-Decides old old).1 refl) e
+  holds_either n false e = ap (λ z. if z then true else bytes_eq new old && nat_le n most) ((bytes_eq-Decides new new).1 refl)
 
-  own : (n : ℕ) → holds old new (id_for old new n) n ≡ true
-  own n = held n (nat_le n most) refl
+  holds_own : (n : ℕ) → holds old new (id_for old new n) n ≡ true
+  holds_own n = holds_either n (nat_le n most) refl
 
   -- What is written are numbers without nulls.
   record IsMade (id : List ℕ) (d : Typ) (b : Body) (ts : Trees) (y : Parts) : Type 0 where
@@ -107,7 +104,7 @@ module _ (old new : List ℕ) where
 
   -- So they have the form that is read.
   form : (n : ℕ) (q : Bool) → q ≡ true → (holds old new (id_for old new n) n && (q && true)) ≡ true
-  form n q p = λ i. own n i && (p i && true)
+  form n q p = λ i. holds_own n i && (p i && true)
 
   pub plans_again : (t : Tree) (y : Parts) → answer old new t ≡ given y → plan old new (head_of y t) ≡ Some (places y.children)
   plans_again (node h ts) y e =
