@@ -6,7 +6,7 @@ use Rattle.std.proofs.lemmas.Fmt.{decimal_injective}
 use Rattle.vxcat_core.specs.declared.status.Status.{Status}
 use Rattle.vxcat_core.specs.declared.status.Status.TheVariants.{Done, OutOfMemory, NoCommand, LoadFault, SaveFault, WriteFault, BadType, BadIds, BadExpression, Refused}
 use Rattle.vxcat_core.specs.Commands.{CanEnd, Command, Ends, Invokes, recode, expr, make}
-use Rattle.vxcat_core.specs.ExprCommand.{CanEndExpr, EndsExpr, EndsUnread, InvokesExpr, IsReadAs}
+use Rattle.vxcat_core.specs.ExprCommand.{CanEndExpr, EndsExpr, EndsUnread, InvokesExpr, IsReadAsExpression}
 use Rattle.vxcat_core.specs.MakeCommand.{InvokesMake, Make}
 use Rattle.vxcat_core.specs.Options.{Setting, setting_words, settings_of}
 use Rattle.vxcat_core.specs.Outcome.{CanRun}
@@ -76,7 +76,7 @@ recode_complete (Refused refusal) line run can none ends = absurd (never_refused
 never_unread : (file : List ℕ) (run : Run) → CanEndExpr file run.before → EndsUnread file run → ⊥
 never_unread file run can ends =
     let same = stands_same run.before file can.bytes ends.bytes can.tells can.stands ends.stands in
-    ends.none can.expr (subst (λ (b : List ℕ). IsReadAs b can.expr) same can.read)
+    ends.none can.expr (subst (λ (b : List ℕ). IsReadAsExpression b can.expr) same can.read)
 
 expr_complete : (status : Status) (file : List ℕ) (run : Run) → CanEndExpr file run.before → HasNoFault run → EndsExpr status file run → (status_number status ≡ 0) ⊎ (status_number status ≡ 1)
 expr_complete Done file run can none ends = inl refl

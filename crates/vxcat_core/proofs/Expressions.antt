@@ -13,7 +13,7 @@ use Rattle.vxcat_core.specs.declared.status.Status.{Status}
 use Rattle.vxcat_core.specs.declared.status.Status.TheVariants.{OutOfMemory, BadExpression}
 use Rattle.vxcat_core.specs.declared.store.StoreError.{StoreError}
 use Rattle.vxcat_core.specs.declared.store.StoreError.TheVariants as store_error
-use Rattle.vxcat_core.specs.ExprCommand.{EndsExpr, IsReadAs, RefusesExpr, no_functions}
+use Rattle.vxcat_core.specs.ExprCommand.{EndsExpr, IsReadAsExpression, RefusesExpr, no_functions}
 use Rattle.vxcat_core.specs.RunState.{run_of}
 use Rattle.vxcat_core.specs.SinkState.{SinkState}
 use Rattle.vxcat_core.specs.Statuses.{expr_status, load_status}
@@ -32,14 +32,14 @@ two (x ∷ y ∷ z ∷ ws) a b long p q = absurd (omega (arith, long))
 same_registry : (registry : Registry ScalarFn) → ((id : List ℕ) → registry id ≡ None) → registry ≡ no_functions
 same_registry registry none = λ k id. none id k
 
-pub read_as : (registry : Registry ScalarFn) (bytes : List ℕ) (e : Expr) → ((id : List ℕ) → registry id ≡ None) → ReadsExprBytes registry true bytes e → IsReadAs bytes e
+pub read_as : (registry : Registry ScalarFn) (bytes : List ℕ) (e : Expr) → ((id : List ℕ) → registry id ≡ None) → ReadsExprBytes registry true bytes e → IsReadAsExpression bytes e
 read_as registry bytes e none read = subst (λ (r : Registry ScalarFn). ReadsExprBytes r true bytes e) (same_registry registry none) read
 
-pub as_read : (registry : Registry ScalarFn) (bytes : List ℕ) (e : Expr) → ((id : List ℕ) → registry id ≡ None) → IsReadAs bytes e → ReadsExprBytes registry true bytes e
+pub as_read : (registry : Registry ScalarFn) (bytes : List ℕ) (e : Expr) → ((id : List ℕ) → registry id ≡ None) → IsReadAsExpression bytes e → ReadsExprBytes registry true bytes e
 as_read registry bytes e none read = subst (λ (r : Registry ScalarFn). ReadsExprBytes r true bytes e) (sym (same_registry registry none)) read
 
 -- Bytes are refused where they are read as no expression, or for want of memory.
-pub refused : (e : FnWireError) (bytes : List ℕ) → ((x : Expr) → IsReadAs bytes x → e ≡ error.OutOfMemory) → RefusesExpr (expr_status e) bytes
+pub refused : (e : FnWireError) (bytes : List ℕ) → ((x : Expr) → IsReadAsExpression bytes x → e ≡ error.OutOfMemory) → RefusesExpr (expr_status e) bytes
 refused error.OutOfMemory bytes complete = tt
 refused error.BadMessage bytes complete = λ x read. (let never = complete x read in cc)
 refused error.TooDeep bytes complete = λ x read. (let never = complete x read in cc)
@@ -51,7 +51,7 @@ refused error.NotSerializable bytes complete = λ x read. (let never = complete 
 refused error.PluginRefused bytes complete = λ x read. (let never = complete x read in cc)
 
 -- What is read can be written: nothing but memory is wanting.
-pub memory_alone : (e : FnWireError) (bytes : List ℕ) (x : Expr) → IsReadAs bytes x → levels x ≤ 100 → IsUnwrittenBytes e x → e ≡ error.OutOfMemory
+pub memory_alone : (e : FnWireError) (bytes : List ℕ) (x : Expr) → IsReadAsExpression bytes x → levels x ≤ 100 → IsUnwrittenBytes e x → e ≡ error.OutOfMemory
 memory_alone error.OutOfMemory bytes x read shallow cause = refl
 memory_alone error.TooDeep bytes x read shallow cause = absurd (omega (arith, shallow, cause))
 memory_alone error.NotSerializable bytes x read shallow cause = absurd (cause (read_writable no_functions true (λ id. refl) read.value x read.read))

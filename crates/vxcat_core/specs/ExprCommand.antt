@@ -18,12 +18,13 @@ use Rattle.vxcat_core.specs.StoreState.{AskedOnly, HasRisen, Stands, StoreState}
 abbrev pub InvokesExpr : List (List ℕ) → List ℕ → Type 0
 InvokesExpr words file = words ≡ codes "expr" ∷ file ∷ []
 
--- Bytes are read as an expression where no function is registered and unknown ones are allowed.
+-- No function is registered.
 abbrev pub no_functions : Registry ScalarFn
 no_functions = λ id. None
 
-abbrev pub IsReadAs : List ℕ → Expr → Type 0
-IsReadAs bytes e = ReadsExprBytes no_functions true bytes e
+-- Bytes are read as an expression under these, where unknown functions are allowed.
+abbrev pub IsReadAsExpression : List ℕ → Expr → Type 0
+IsReadAsExpression bytes e = ReadsExprBytes no_functions true bytes e
 
 -- The text of an expression, and bytes as hex digits, two for each, each on a line.
 abbrev pub two_lines : Expr → List ℕ → List ℕ
@@ -36,7 +37,7 @@ lines_of e = two_lines e (written expr_lists 0 (expr_message e))
 -- Why bytes have no lines: they are read as no expression. Want of memory needs no cause.
 abbrev pub RefusesExpr : Status → List ℕ → Type 0
 RefusesExpr OutOfMemory bytes = Unit {0}
-RefusesExpr BadExpression bytes = (e : Expr) → ¬ (IsReadAs bytes e)
+RefusesExpr BadExpression bytes = (e : Expr) → ¬ (IsReadAsExpression bytes e)
 RefusesExpr status bytes = ⊥
 
 -- It came to its lines: nothing is saved, and of the lines there was printed what is said of it.
@@ -44,7 +45,7 @@ pub record EndsPrintingExpr (file : List ℕ) (run : Run) (IsPrinted : Run → L
   pub bytes : List ℕ
   pub expr : Expr
   pub stands : Stands run.before file bytes
-  pub read : IsReadAs bytes expr
+  pub read : IsReadAsExpression bytes expr
   pub told : run.after.tells ≡ run.before.tells
   pub files : run.after.file ≡ run.before.file
   pub printed : IsPrinted run (lines_of expr)
@@ -53,7 +54,7 @@ pub record EndsPrintingExpr (file : List ℕ) (run : Run) (IsPrinted : Run → L
 pub record EndsUnread (file : List ℕ) (run : Run) : Type 0 where
   pub bytes : List ℕ
   pub stands : Stands run.before file bytes
-  pub none : (e : Expr) → ¬ (IsReadAs bytes e)
+  pub none : (e : Expr) → ¬ (IsReadAsExpression bytes e)
   pub untouched : IsUntouched run
 
 -- How it ends, by its status. 0: the two lines are printed. 1: nothing is printed. 3: the count of load faults rose, only
@@ -74,4 +75,4 @@ pub record CanEndExpr (file : List ℕ) (before : StoreState) : Type 0 where
   pub bytes : List ℕ
   pub expr : Expr
   pub stands : Stands before file bytes
-  pub read : IsReadAs bytes expr
+  pub read : IsReadAsExpression bytes expr

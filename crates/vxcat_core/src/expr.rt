@@ -3,7 +3,7 @@
 ghost use Rattle.std.specs.Prelude.{◌≡◌, ℕ, List, IfOk, IfErr, IfSome, IfNone, string_bytes};
 ghost use Rattle.vx_fn_wire.specs.Expr.{Expr};
 ghost use Rattle.vx_fn_wire.specs.Seen.{expr};
-ghost use Rattle.vxcat_core.specs.ExprCommand.{InvokesExpr, IsReadAs, EndsExpr, RefusesExpr, lines_of, two_lines};
+ghost use Rattle.vxcat_core.specs.ExprCommand.{InvokesExpr, IsReadAsExpression, EndsExpr, RefusesExpr, lines_of, two_lines};
 ghost use Rattle.vxcat_core.specs.RunState.{run_of};
 
 use crate::print::write_text;
@@ -48,7 +48,7 @@ pub fn run_expr<S: Store, O: Sink>(alloc: Global, file: &Name, store: &mut S, ou
 
 // The two lines of the expression that bytes are read as.
 fn expression_lines(alloc: Global, bytes: &Blob) -> Result<String, Status>
-    ensures lines { IfOk result (λ lines. (e : Expr) × IsReadAs bytes.now e × (string_bytes lines ≡ lines_of e)) }
+    ensures lines { IfOk result (λ lines. (e : Expr) × IsReadAsExpression bytes.now e × (string_bytes lines ≡ lines_of e)) }
     ensures cause { IfErr result (λ status. RefusesExpr status bytes.now) }
 {
     let scalars = ScalarFnSession::new(alloc);
