@@ -8,7 +8,7 @@ use Rattle.vx_type_wire.specs.Known.{IsRead}
 use Rattle.vx_type_wire.specs.Shown.{ShowsType}
 use Rattle.vx_wire_tree.specs.Context.{Context, with_ids}
 use Rattle.vx_wire_tree.specs.Session.{SessionMeaning}
-use Rattle.vx_registry.specs.Session.{Registry, no_plugins, shipped_registry, tables_meaning, with_revised}
+use Rattle.vx_registry.specs.Session.{shipped_meaning, revised_meaning}
 use Rattle.vx_serde.specs.declared.options.SerializeOptions.{SerializeOptions}
 use Rattle.vx_serde.specs.Causes.{Refuses}
 use Rattle.vx_serde.specs.Recoding.{IsFaithful, IsRecoded, Product}
@@ -88,14 +88,11 @@ readers_by unknown = record { reader = λ id. None; unknown = unknown }
 abbrev pub readers_of : Settings → ExtMeaning
 readers_of settings = readers_by settings.unknown
 
--- The encodings that are shipped, where primitives have two identifiers or one.
-abbrev pub registry_by : Bool → Registry
-registry_by false = shipped_registry
-registry_by true = with_revised shipped_registry
-
--- What reads and writes arrays: these encodings, beside readers of extensions.
+-- What reads and writes arrays beside readers of extensions: the encodings that are shipped, where primitives have two
+-- identifiers or one.
 abbrev pub shipped_by : Bool → ExtMeaning → SessionMeaning
-shipped_by revised x = tables_meaning no_plugins (registry_by revised) x
+shipped_by false x = shipped_meaning x
+shipped_by true x = revised_meaning x
 
 -- The same beside these readers, whose flag says whether nodes that nothing reads are allowed, too.
 abbrev pub session_by : Bool → Bool → SessionMeaning

@@ -112,18 +112,12 @@ pub fn recode_inputs(alloc: Global, words: &RecodeWords, loaded: Inputs) -> Resu
     ensures cause { IfErr result (λ status. RefusesInputs status (line_of words.now) (loaded_of loaded)) }
     ensures complete { CanRecodeInputs (line_of words.now) (loaded_of loaded) → IfErr result (λ status. status ≡ OutOfMemory) }
 {
-    if words.options.revised {
-        let Ok(arrays) = ArraySession::revised(alloc) else {
-            return Err(Status::OutOfMemory);
-        };
-        return recode_by(
-            alloc,
-            words,
-            loaded,
-            VortexSession::new(arrays, ExtSession::new(alloc)),
-        );
-    }
-    let Ok(arrays) = ArraySession::default(alloc) else {
+    let made = if words.options.revised {
+        ArraySession::revised(alloc)
+    } else {
+        ArraySession::default(alloc)
+    };
+    let Ok(arrays) = made else {
         return Err(Status::OutOfMemory);
     };
     recode_by(

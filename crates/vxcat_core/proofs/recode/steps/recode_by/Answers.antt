@@ -5,7 +5,7 @@ use Rattle.vxcat_core.proofs.recode.steps.recode_by.Goals as goal
 
 pub recode_under-requires : goal.recode_under-requires
 recode_under-requires g c =
-    allowing_session _ _ c.args.session c.args.session.arrays c.args.session.ext c.allow_unknown.new.self c.args.words.now.options.revised c.args.words.now.options.unknown refl refl c.requires.arrays c.requires.readers
+    allowing_session _ _ c.args.session c.allow_unknown.new.self c.args.words.now.options.revised c.args.words.now.options.unknown c.requires.arrays c.requires.readers
     c.allow_unknown.ensures.readers c.allow_unknown.ensures.unknown c.if-words.true
 
 pub recode_under-requires-2 : goal.recode_under-requires-2

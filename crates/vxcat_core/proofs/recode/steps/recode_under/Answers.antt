@@ -1,22 +1,22 @@
-use Rattle.std.proofs.Common.{refl, sym, subst, ap}
+use Rattle.std.proofs.Common.{refl, sym, subst}
 use Rattle.vx_types.specs.Seen.{typ}
 use Rattle.vx_wire_tree.specs.Session.{SessionMeaning, IsShipped}
 use Rattle.vxcat_core.specs.IdFile.{ReadsIds}
 use Rattle.vxcat_core.specs.RecodeViews.{line_of, loaded_of}
 use Rattle.vxcat_core.proofs.Recodings.{read_alike, inputs_made, inputs_refused, inputs_complete, type_cause, type_memory, ids_cause, allowed_cause, ids_memory}
-use Rattle.vxcat_core.proofs.Sessions.{shipped_session}
+use Rattle.vxcat_core.proofs.Sessions.{asked_readers, shipped_session}
 use Rattle.vxcat_core.proofs.recode.steps.recode_under.Goals as goal
 
 pub returns-clause-cause : goal.returns-clause-cause
 returns-clause-cause g c =
-    let type_read = read_alike _ _ _ _ (typ c.in-Ok.dtype) refl (ap (λ (m : SessionMeaning). m.ext) c.requires) c.in-Ok.ensures.read in
+    let type_read = read_alike _ _ _ _ (typ c.in-Ok.dtype) refl (asked_readers _ c.args.words.now.options.revised c.args.words.now.options.unknown c.requires) c.in-Ok.ensures.read in
     let ids_read = subst (λ l. ReadsIds l c.in-Ok-read_id_file.ids) c.as_slice.ensures c.in-Ok-read_id_file.ensures.read in
     inputs_refused (line_of c.args.words.now) (loaded_of c.args.loaded) (typ c.in-Ok.dtype) c.in-Ok-read_id_file.ids c.new-read.result c.in-Ok-read_context.context _ c.serialize_options-options.result c.recode_blob.result
     type_read ids_read c.new-read.ensures c.in-Ok-read_context.ensures.read c.requires c.serialize_options-options.ensures c.recode_blob.ensures.cause
 
 pub returns-clause-complete : goal.returns-clause-complete
 returns-clause-complete g c =
-    let type_read = read_alike _ _ _ _ (typ c.in-Ok.dtype) refl (ap (λ (m : SessionMeaning). m.ext) c.requires) c.in-Ok.ensures.read in
+    let type_read = read_alike _ _ _ _ (typ c.in-Ok.dtype) refl (asked_readers _ c.args.words.now.options.revised c.args.words.now.options.unknown c.requires) c.in-Ok.ensures.read in
     let ids_read = subst (λ l. ReadsIds l c.in-Ok-read_id_file.ids) c.as_slice.ensures c.in-Ok-read_id_file.ensures.read in
     inputs_complete (line_of c.args.words.now) (loaded_of c.args.loaded) (typ c.in-Ok.dtype) c.in-Ok-read_id_file.ids c.new-read.result c.in-Ok-read_context.context _ c.serialize_options-options.result c.recode_blob.result
     type_read ids_read c.new-read.ensures c.in-Ok-read_context.ensures.read c.requires c.serialize_options-options.ensures
@@ -24,7 +24,7 @@ returns-clause-complete g c =
 
 pub returns-clause-made : goal.returns-clause-made
 returns-clause-made g c =
-    let type_read = read_alike _ _ _ _ (typ c.in-Ok.dtype) refl (ap (λ (m : SessionMeaning). m.ext) c.requires) c.in-Ok.ensures.read in
+    let type_read = read_alike _ _ _ _ (typ c.in-Ok.dtype) refl (asked_readers _ c.args.words.now.options.revised c.args.words.now.options.unknown c.requires) c.in-Ok.ensures.read in
     let ids_read = subst (λ l. ReadsIds l c.in-Ok-read_id_file.ids) c.as_slice.ensures c.in-Ok-read_id_file.ensures.read in
     inputs_made (line_of c.args.words.now) (loaded_of c.args.loaded) (typ c.in-Ok.dtype) c.in-Ok-read_id_file.ids c.new-read.result c.in-Ok-read_context.context _ c.serialize_options-options.result c.recode_blob.result
     type_read ids_read c.new-read.ensures c.in-Ok-read_context.ensures.read c.requires c.serialize_options-options.ensures
@@ -32,11 +32,11 @@ returns-clause-made g c =
 
 pub returns-in-Err-clause-cause : goal.returns-in-Err-clause-cause
 returns-in-Err-clause-cause g c =
-    type_cause c.in-Err.status (line_of c.args.words.now) (loaded_of c.args.loaded) c.args.loaded.type_bytes _ refl (ap (λ (m : SessionMeaning). m.ext) c.requires) c.in-Err.ensures.status c.in-Err.ensures.complete
+    type_cause c.in-Err.status (line_of c.args.words.now) (loaded_of c.args.loaded) c.args.loaded.type_bytes _ refl (asked_readers _ c.args.words.now.options.revised c.args.words.now.options.unknown c.requires) c.in-Err.ensures.status c.in-Err.ensures.complete
 
 pub returns-in-Err-clause-complete : goal.returns-in-Err-clause-complete
 returns-in-Err-clause-complete g c = λ can.
-    type_memory c.in-Err.status (line_of c.args.words.now) (loaded_of c.args.loaded) c.args.loaded.type_bytes _ refl (ap (λ (m : SessionMeaning). m.ext) c.requires) c.in-Err.ensures.complete can
+    type_memory c.in-Err.status (line_of c.args.words.now) (loaded_of c.args.loaded) c.args.loaded.type_bytes _ refl (asked_readers _ c.args.words.now.options.revised c.args.words.now.options.unknown c.requires) c.in-Err.ensures.complete can
 
 pub returns-in-Err-read_id_file-clause-cause : goal.returns-in-Err-read_id_file-clause-cause
 returns-in-Err-read_id_file-clause-cause g c =
