@@ -1,5 +1,6 @@
 -- From what the steps of the command `make` ensure to what it makes.
-use Rattle.std.proofs.Common.{◌≡◌, ℕ, false, List, None, Some, Result, Ok, Err, IfOk, sym, ap, subst, ◌∙◌}
+use Rattle.std.proofs.Common.{◌≡◌, ℕ, List, None, Some, Result, Ok, Err, IfOk, sym, ap, subst, ◌∙◌}
+use Rattle.std.proofs.lemmas.Result.{IfOk-weaker}
 use Rattle.vx_buffer.specs.Buffer.{Buffer}
 use Rattle.vx_buffer.specs.Joined.{joined}
 use Rattle.vx_flat.specs.Building.{nothing_built}
@@ -27,16 +28,11 @@ use Rattle.vxcat_core.specs.declared.make.steps.WrittenTable.{WrittenTable}
 use Rattle.vxcat_core.specs.declared.recode.steps.Outputs.{Outputs}
 use Rattle.vxcat_core.specs.declared.status.Status.{Status}
 use Rattle.vxcat_core.specs.declared.status.Status.TheVariants.{OutOfMemory}
-use Rattle.vxcat_core.specs.MakeCommand.{make_session, no_ids}
+use Rattle.vxcat_core.specs.MakeCommand.{make_options, make_session, no_ids}
 use Rattle.vxcat_core.specs.MakeViews.{IsTable, IsTableWritten, IsWrittenAgain}
-use Rattle.vxcat_core.specs.Recode.{padded_at}
 use Rattle.vxcat_core.specs.RecodeViews.{AreMade, request_for}
 use Rattle.vxcat_core.specs.Statuses.{blob_status, type_status}
 use Rattle.vxcat_core.proofs.Tables.{table_again, table_grows, table_ids, table_memory, table_own, table_spelled, type_known, type_memory}
-
-if_ok_map : {A E : Type 0} (result : Result A E) (P Q : A → Type 0) → ((x : A) → P x → Q x) → IfOk result P → IfOk result Q
-if_ok_map (Ok x) P Q f p = f x p
-if_ok_map (Err e) P Q f p = tt
 
 -- What holds of the tables that seeds tell holds of a table.
 of_table : (P : Tree → Type 0) (array : Tree) (is : IsTable array) → P (made is.seed is.rows) → P array
@@ -57,7 +53,7 @@ type_refused array is t same e u status s = s ∙ ap type_status (type_memory e 
 
 -- ---- the blob
 
-module _ (array : Tree) (is : IsTable array) (s : SessionMeaning) (c : Context) (o : SerializeOptions) (session : s ≡ make_session) (context : c ≡ no_ids) (options : o ≡ padded_at None false) where
+module _ (array : Tree) (is : IsTable array) (s : SessionMeaning) (c : Context) (o : SerializeOptions) (session : s ≡ make_session) (context : c ≡ no_ids) (options : o ≡ make_options) where
   -- A table is refused for want of memory alone.
   pub once_refused : (e : WireError) → RefusesArray s array c o e → (status : Status) → status ≡ blob_status e → status ≡ OutOfMemory
   once_refused e r status same =
@@ -79,18 +75,18 @@ module _ (array : Tree) (is : IsTable array) (s : SessionMeaning) (c : Context) 
 -- ---- the blob once more
 
 module _ (array : Tree) (is : IsTable array) (w : WrittenTable) (x : IsTableWritten array w) (bytes : List ℕ) (d : Typ) (n : ℕ) (ids : List (List ℕ)) (c : Context) (s : SessionMeaning) (o : SerializeOptions)
-    (bytes_are : bytes ≡ w.blob.bytes) (d_is : d ≡ (label array).dtype) (n_is : n ≡ (label array).len) (ids_are : ids ≡ w.ids) (context : c ≡ no_ids) (session : s ≡ make_session) (options : o ≡ padded_at None false) where
-  asked : request_for bytes d n ids c s o ≡ request_for (joined x.buffers) (label array).dtype (label array).len x.after.ids no_ids make_session (padded_at None false)
+    (bytes_are : bytes ≡ w.blob.bytes) (d_is : d ≡ (label array).dtype) (n_is : n ≡ (label array).len) (ids_are : ids ≡ w.ids) (context : c ≡ no_ids) (session : s ≡ make_session) (options : o ≡ make_options) where
+  asked : request_for bytes d n ids c s o ≡ request_for (joined x.buffers) (label array).dtype (label array).len x.after.ids no_ids make_session make_options
   asked = λ k. request_for ((bytes_are ∙ x.blob_is) k) (d_is k) (n_is k) ((ids_are ∙ x.ids_are) k) (context k) (session k) (options k)
 
-  can : CanRecode (request_for (joined x.buffers) (label array).dtype (label array).len x.after.ids no_ids make_session (padded_at None false))
+  can : CanRecode (request_for (joined x.buffers) (label array).dtype (label array).len x.after.ids no_ids make_session make_options)
   can =
-      let P : Tree → Type 0 = λ z. IsSerialized make_session z (padded_at None false) no_ids x.after x.buffers → CanRecode (request_for (joined x.buffers) (label z).dtype (label z).len x.after.ids no_ids make_session (padded_at None false)) in
+      let P : Tree → Type 0 = λ z. IsSerialized make_session z make_options no_ids x.after x.buffers → CanRecode (request_for (joined x.buffers) (label z).dtype (label z).len x.after.ids no_ids make_session make_options) in
       of_table P array is (λ y. table_again is.seed is.rows is.few x.after x.buffers y) x.serialized
 
   spelled : Spells (joined x.buffers) x.after.ids (label array).dtype (label array).len make_session array
   spelled =
-      let P : Tree → Type 0 = λ z. IsSerialized make_session z (padded_at None false) no_ids x.after x.buffers → Spells (joined x.buffers) x.after.ids (label z).dtype (label z).len make_session z in
+      let P : Tree → Type 0 = λ z. IsSerialized make_session z make_options no_ids x.after x.buffers → Spells (joined x.buffers) x.after.ids (label z).dtype (label z).len make_session z in
       of_table P array is (λ y. table_spelled is.seed is.rows is.few x.after x.buffers y) x.serialized
 
   -- It can be recoded.
@@ -103,10 +99,10 @@ module _ (array : Tree) (is : IsTable array) (w : WrittenTable) (x : IsTableWrit
   own : canon codec make_session array ≡ array
   own = of_table (λ z. canon codec make_session z ≡ z) array is (table_own is.seed is.rows is.few)
 
-  again : (outputs : Outputs) → AreMade (request_for (joined x.buffers) (label array).dtype (label array).len x.after.ids no_ids make_session (padded_at None false)) outputs → IsWrittenAgain array outputs
+  again : (outputs : Outputs) → AreMade (request_for (joined x.buffers) (label array).dtype (label array).len x.after.ids no_ids make_session make_options) outputs → IsWrittenAgain array outputs
   again outputs m =
       let same : array ≡ m.made.array = m.faithful.the_one array spelled in
-      let blob = subst (λ (z : Tree). IsWrittenBlob make_session z (padded_at None false) no_ids m.made.context m.made.buffers) (m.faithful.own ∙ sym same) m.recoded.serialized.blob in
+      let blob = subst (λ (z : Tree). IsWrittenBlob make_session z make_options no_ids m.made.context m.made.buffers) (m.faithful.own ∙ sym same) m.recoded.serialized.blob in
       let context_is : m.made.context ≡ record { ids = table_ids; allowed = None } = (let e = sym blob.grown_is ∙ grows in cc) in
       let ids_is : outputs.ids ≡ table_ids = m.holds.ids_are ∙ ap (λ (z : Context). z.ids) context_is in
       let again_spelled = subst (λ (z : Tree). Spells (joined m.made.buffers) m.made.context.ids (label array).dtype (label array).len make_session (canon codec make_session z)) (sym same) m.faithful.again in
@@ -121,7 +117,7 @@ module _ (array : Tree) (is : IsTable array) (w : WrittenTable) (x : IsTableWrit
   -- What was recoded of it is the same blob again.
   pub again_written : (result : Result Outputs Status) → IfOk result (AreMade (request_for bytes d n ids c s o)) → IfOk result (IsWrittenAgain array)
   again_written result made =
-      if_ok_map result _ _ again (subst (λ (r : Request). IfOk result (AreMade r)) asked made)
+      IfOk-weaker result _ _ again (subst (λ (r : Request). IfOk result (AreMade r)) asked made)
 
 -- ---- the line
 

@@ -39,7 +39,7 @@ use Rattle.vx_wire_tree.specs.Context.{Context, with_ids, grown, grown_by}
 use Rattle.vx_wire_tree.specs.Fields.{DictFields}
 use Rattle.vx_wire_tree.specs.Limits.{HasMessages, IsDescribable, AreDescribable}
 use Rattle.vx_wire_tree.specs.ReadBack.{IsReadAs, IsWritten, ReadsBack}
-use Rattle.vx_wire_tree.specs.Session.{SessionMeaning, IsShipped, shipped}
+use Rattle.vx_wire_tree.specs.Session.{IsShipped, shipped}
 use Rattle.vx_wire_tree.specs.Taken.{unregistered, unserializable, undeclared, unwilling}
 use Rattle.vx_wire_tree.specs.Wire.{Wire, buffers_in, ids_in}
 use Rattle.vx_wire_tree.specs.Tells.{Tells}
@@ -51,9 +51,8 @@ use Rattle.vx_encodings.specs.DictMessage.{dict_bytes}
 use Rattle.vx_encodings.specs.ListMessage.{list_bytes}
 use Rattle.vx_encodings.specs.Messages.{codec, stats_field}
 use Rattle.vx_scalar_wire.specs.StatsTable.{AreStorable}
-use Rattle.vx_registry.specs.Session.{no_plugins, shipped_meaning, shipped_registry}
+use Rattle.vx_registry.specs.Session.{no_plugins, shipped_registry}
 use Rattle.vx_registry.proofs.LawsSessions.{registry_lawful, shipped_alone}
-use Rattle.vx_serde.specs.declared.options.SerializeOptions.{SerializeOptions}
 use Rattle.vx_serde.specs.ArraySchema.{array_schema}
 use Rattle.vx_serde.specs.declared.message.Descriptor.{Descriptor}
 use Rattle.vx_serde.specs.Message.{NodeFields}
@@ -70,6 +69,7 @@ use Rattle.vx_serde.specs.Spells.{Spells, KeepsReaderLimits, KeepsWriterLimits, 
 use Rattle.vx_serde.specs.Taking.{as_written}
 use Rattle.vx_serde.specs.Written.{message_bytes, message_pad, blob_bytes, IsWritable}
 use Rattle.vx_serde.proofs.LawsOfWriting.{carried, is_blob, shows-layout, one_blob, length-blob, message_value_is_of, placed_from_ids, numbered_fits, wire-tabled, grown-ids, wire-whole, grown_by-placed}
+use Rattle.vxcat_core.specs.MakeCommand.{make_options, make_session, no_ids}
 use Rattle.vxcat_core.proofs.OwnNames.{wire_named, read_named}
 use Rattle.vx_generator.specs.Columns.{columns}
 use Rattle.vx_generator.specs.Made.{buffer, long_text, views, made, made_type}
@@ -173,26 +173,16 @@ value_light flags texts lists descriptors few = (omega arith, omega arith, omega
 
 -- ---- the table
 
--- What reads and writes it, and under what.
-abbrev pub session : SessionMeaning
-session = shipped_meaning no_readers
-
-abbrev pub nothing : Context
-nothing = record { ids = []; allowed = None }
-
-abbrev pub plain : SerializeOptions
-plain = record { offset = 0; include_padding = false; deep = false }
-
 -- The identifiers of its nodes.
 abbrev pub table_ids : List (List ℕ)
 table_ids = id_of E.struct ∷ id_of E.primitive ∷ id_of E.bool ∷ id_of E.dict ∷ id_of E.varbinview ∷ id_of E.list ∷ []
 
-pub table_grows : (seed rows : ℕ) → grown codec session nothing (made seed rows) ≡ Some (record { ids = table_ids; allowed = None })
+pub table_grows : (seed rows : ℕ) → grown codec make_session no_ids (made seed rows) ≡ Some (record { ids = table_ids; allowed = None })
 unfolding made
-table_grows seed rows = ap (λ w. grown_by (ids_in w) nothing) (wire_named session refl (made seed rows))
+table_grows seed rows = ap (λ w. grown_by (ids_in w) no_ids) (wire_named make_session refl (made seed rows))
 
 -- Each node is written, and read back.
-pub table_written : (seed rows : ℕ) → IsWritten session (made seed rows)
+pub table_written : (seed rows : ℕ) → IsWritten make_session (made seed rows)
 unfolding made
 table_written seed rows = (
   record { writer = shipped E.struct; writer_is = refl },
@@ -206,15 +196,15 @@ table_written seed rows = (
 )
 
 -- No plugin writes it, so it is written as it stands.
-session_shipped : IsShipped session
+session_shipped : IsShipped make_session
 session_shipped = shipped_alone no_readers
 
 table_levels : (seed rows : ℕ) → levels (made seed rows) ≡ 3
 unfolding made
 table_levels seed rows = refl
 
-pub table_whole : (seed rows : ℕ) → as_written session plain (made seed rows) ≡ made seed rows
-table_whole seed rows = taken_whole session session_shipped (most_levels plain) (made seed rows) (table_written seed rows) (omega (arith, table_levels seed rows))
+pub table_whole : (seed rows : ℕ) → as_written make_session make_options (made seed rows) ≡ made seed rows
+table_whole seed rows = taken_whole make_session session_shipped (most_levels make_options) (made seed rows) (table_written seed rows) (omega (arith, table_levels seed rows))
 
 none_storable : AreStorable no_stats
 none_storable = record { least = tt; greatest = tt; sum = tt; null_count = tt; uncompressed_size = tt; nan_count = tt }
@@ -231,10 +221,10 @@ texts_counted = omega (arith, dict_short)
 lists_counted : (n : ℕ) → length (list_bytes n U32) < 2 ^ 64
 lists_counted n = omega (arith, list_short n)
 
-own_read : (x : Primitives.Data) (n : ℕ) → IsReadAs (session.reader (body_id (writes_two session) (B.primitive x) n)) E.primitive (body_id (writes_two session) (B.primitive x) n) n
-own_read x n = read_named session refl (B.primitive x) n (record { encoding = refl; held = tt })
+own_read : (x : Primitives.Data) (n : ℕ) → IsReadAs (make_session.reader (body_id (writes_two make_session) (B.primitive x) n)) E.primitive (body_id (writes_two make_session) (B.primitive x) n) n
+own_read x n = read_named make_session refl (B.primitive x) n (record { encoding = refl; held = tt })
 
-table_read_back : (seed rows : ℕ) → rows ≤ 1000000 → ReadsBack codec session (made seed rows)
+table_read_back : (seed rows : ℕ) → rows ≤ 1000000 → ReadsBack codec make_session (made seed rows)
 unfolding made
 table_read_back seed rows h = (
   record { reader = record { encoding = refl; held = tt }; message = tt; countable = none_counted; known = tt; storable = none_storable },
@@ -283,12 +273,12 @@ views_len : length views ≡ 80
 unfolding views long_text
 views_len = refl
 
-table_describable : (seed rows : ℕ) → rows ≤ 1000000 → AreDescribable (buffers_in (wire codec session (made seed rows)))
+table_describable : (seed rows : ℕ) → rows ≤ 1000000 → AreDescribable (buffers_in (wire codec make_session (made seed rows)))
 unfolding made
 table_describable seed rows h =
     let c = columns seed rows rows in
     let fits = small seed rows h in
-    All-from_recursion (λ b. IsDescribable b) (buffers_in (wire codec session (made seed rows))) (
+    All-from_recursion (λ b. IsDescribable b) (buffers_in (wire codec make_session (made seed rows))) (
       describable c.numbers 3 (omega arith) (omega (arith, fits)),
       (
         describable c.validity 0 (omega arith) (omega (arith, fits)),
@@ -313,27 +303,27 @@ table_describable seed rows h =
 
 -- The table's nodes as its message numbers them.
 table_numbered : (seed rows : ℕ)
-    → numbered table_ids 0 (wire codec session (made seed rows)) ≡ table_nodes (bool_bytes 0) (dict_bytes dict_fields) (list_bytes (columns seed rows rows).count U32)
+    → numbered table_ids 0 (wire codec make_session (made seed rows)) ≡ table_nodes (bool_bytes 0) (dict_bytes dict_fields) (list_bytes (columns seed rows rows).count U32)
 unfolding made
-table_numbered seed rows = ap (λ w. numbered table_ids 0 w) (wire_named session refl (made seed rows))
+table_numbered seed rows = ap (λ w. numbered table_ids 0 w) (wire_named make_session refl (made seed rows))
 
-table_after : (seed rows : ℕ) → ids_after session (made seed rows) nothing ≡ table_ids
+table_after : (seed rows : ℕ) → ids_after make_session (made seed rows) no_ids ≡ table_ids
 unfolding made
-table_after seed rows = ap (λ w. with_ids nothing.ids (ids_in w)) (wire_named session refl (made seed rows))
+table_after seed rows = ap (λ w. with_ids no_ids.ids (ids_in w)) (wire_named make_session refl (made seed rows))
 
-descriptors_len : (seed rows : ℕ) → length (descriptors_bytes (descriptors_from plain 0 (buffers_in (wire codec session (made seed rows))))) ≡ 56
+descriptors_len : (seed rows : ℕ) → length (descriptors_bytes (descriptors_from make_options 0 (buffers_in (wire codec make_session (made seed rows))))) ≡ 56
 unfolding made
 descriptors_len seed rows = refl
 
-data_small : (seed rows : ℕ) → rows ≤ 1000000 → data_end plain 0 (buffers_in (wire codec session (made seed rows))) < 2 ^ 33
+data_small : (seed rows : ℕ) → rows ≤ 1000000 → data_end make_options 0 (buffers_in (wire codec make_session (made seed rows))) < 2 ^ 33
 unfolding made
 data_small seed rows h = omega (arith, small seed rows h, long_len, views_len)
 
-table_few : (seed rows : ℕ) → length (buffers_in (wire codec session (made seed rows))) ≡ 7
+table_few : (seed rows : ℕ) → length (buffers_in (wire codec make_session (made seed rows))) ≡ 7
 unfolding made
 table_few seed rows = refl
 
-table_nested : (seed rows : ℕ) → levels (wire codec session (made seed rows)) ≡ 3
+table_nested : (seed rows : ℕ) → levels (wire codec make_session (made seed rows)) ≡ 3
 unfolding made
 table_nested seed rows = refl
 
@@ -344,10 +334,10 @@ module _ (seed rows : ℕ) (h : rows ≤ 1000000) where
   t = made seed rows
 
   abbrev w : Wire
-  w = wire codec session t
+  w = wire codec make_session t
 
   abbrev ds : List Descriptor
-  ds = descriptors_from plain 0 (buffers_in w)
+  ds = descriptors_from make_options 0 (buffers_in w)
 
   abbrev value : Fields
   value = message_value (numbered table_ids 0 w) ds
@@ -361,95 +351,95 @@ module _ (seed rows : ℕ) (h : rows ≤ 1000000) where
   parts_short : length (bool_bytes 0) + length (dict_bytes dict_fields) + length (list_bytes (columns seed rows rows).count U32) + length (descriptors_bytes ds) ≤ 100
   parts_short = omega (arith, bool_short, dict_short, list_short (columns seed rows rows).count, descriptors_len seed rows)
 
-  message_short : length (message_bytes table_ids plain w) ≤ 5000
+  message_short : length (message_bytes table_ids make_options w) ≤ 5000
   message_short =
       let bound = subst (λ (z : Fields). sizes (blocks array_schema z) ≤ 4000 + (length (bool_bytes 0) + length (dict_bytes dict_fields) + length (list_bytes (columns seed rows rows).count U32) + length (descriptors_bytes ds))) (sym value_is)
       (value_short (bool_bytes 0) (dict_bytes dict_fields) (list_bytes (columns seed rows rows).count U32) (descriptors_bytes ds)) in
       omega (arith, layout_short array_schema value, bound, parts_short)
 
-  message_light : IsLight limits (weight array_schema (message_bytes table_ids plain w))
+  message_light : IsLight limits (weight array_schema (message_bytes table_ids make_options w))
   message_light =
-      let placed = placed_from_ids table_ids w (wire-whole codec session t) (grown_by-placed (ids_in w) nothing (record { ids = table_ids; allowed = None }) (table_grows seed rows)).placed in
-      let of = message_value_is_of (numbered table_ids 0 w) ds (numbered_fits table_ids 0 w (omega (arith, table_few seed rows)) placed (wire-tabled session t)) in
+      let placed = placed_from_ids table_ids w (wire-whole codec make_session t) (grown_by-placed (ids_in w) no_ids (record { ids = table_ids; allowed = None }) (table_grows seed rows)).placed in
+      let of = message_value_is_of (numbered table_ids 0 w) ds (numbered_fits table_ids 0 w (omega (arith, table_few seed rows)) placed (wire-tabled make_session t)) in
       let shown = shows-layout value of (omega (arith, message_short)) in
       let light = subst (λ (z : Fields). IsLight limits (weight_of z)) (sym value_is)
       (value_light (bool_bytes 0) (dict_bytes dict_fields) (list_bytes (columns seed rows rows).count U32) (descriptors_bytes ds) (omega (arith, parts_short))) in
-      subst (λ z. IsLight limits z) (sym (weight-shown array_schema (message_bytes table_ids plain w) value shown)) light
+      subst (λ z. IsLight limits z) (sym (weight-shown array_schema (message_bytes table_ids make_options w) value shown)) light
 
-  writable : IsWritable table_ids plain w
+  writable : IsWritable table_ids make_options w
   writable = record {
     tree = record { nested = omega (arith, table_nested seed rows); few = omega (arith, table_few seed rows); describable = table_describable seed rows h };
     short = omega (arith, message_short);
     light = message_light;
-    ends = omega (arith, length-blob table_ids plain w, data_small seed rows h, message_short);
+    ends = omega (arith, length-blob table_ids make_options w, data_small seed rows h, message_short);
   }
 
   -- The table keeps the limits on writing.
-  pub table_limits : KeepsWriterLimits session t nothing plain
+  pub table_limits : KeepsWriterLimits make_session t no_ids make_options
   table_limits = record {
     messages = table_messages seed rows h;
-    writable = subst (λ z. IsWritable z plain w) (sym (table_after seed rows)) writable;
+    writable = subst (λ z. IsWritable z make_options w) (sym (table_after seed rows)) writable;
   }
 
   -- ---- what is written is read back
 
   -- It is read back as itself.
-  pub table_own : canon codec session t ≡ t
-  table_own = canon_own codec session t (made_sound seed rows h) (made_normal seed rows) (made_stats seed rows)
+  pub table_own : canon codec make_session t ≡ t
+  table_own = canon_own codec make_session t (made_sound seed rows h) (made_normal seed rows) (made_stats seed rows)
 
-  table_told : Tells codec session w (label t).dtype (label t).len t
+  table_told : Tells codec make_session w (label t).dtype (label t).len t
   table_told =
       let sound = made_sound seed rows h in
       let normal = made_normal seed rows in
       let law = registry_lawful no_plugins shipped_registry no_readers in
       record {
-        matched = subst (λ z. Matches codec session w z) table_own (written_matches codec session law t sound (table_read_back seed rows h));
+        matched = subst (λ z. Matches codec make_session w z) table_own (written_matches codec make_session law t sound (table_read_back seed rows h));
         dtype = refl;
         len = refl;
         sound = sound;
         normal = λ _. normal;
       }
 
-  module _ (after : Context) (buffers : List Buffer) (x : IsSerialized session t plain nothing after buffers) where
+  module _ (after : Context) (buffers : List Buffer) (x : IsSerialized make_session t make_options no_ids after buffers) where
     -- The blob is that of the table as it stands.
-    blob : IsWrittenBlob session t plain nothing after buffers
-    blob = subst (λ (z : Tree). IsWrittenBlob session z plain nothing after buffers) (table_whole seed rows) x.blob
+    blob : IsWrittenBlob make_session t make_options no_ids after buffers
+    blob = subst (λ (z : Tree). IsWrittenBlob make_session z make_options no_ids after buffers) (table_whole seed rows) x.blob
 
     -- The blob that was written for the table spells it.
-    pub table_spelled : Spells (joined buffers) after.ids (label t).dtype (label t).len session t
+    pub table_spelled : Spells (joined buffers) after.ids (label t).dtype (label t).len make_session t
     table_spelled =
-        let same = grown-ids session t nothing after blob.grown_is in
-        let placed = grown_by-placed (ids_in w) nothing after blob.grown_is in
-        let c = carried after.ids plain w (wire-whole codec session t) (wire-tabled session t) placed.placed (subst (λ z. IsWritable z plain w) (sym same) blob.limits.writable) in
-        let spelled : Spells (blob_bytes after.ids plain w) after.ids (label t).dtype (label t).len session t = record {
+        let same = grown-ids make_session t no_ids after blob.grown_is in
+        let placed = grown_by-placed (ids_in w) no_ids after blob.grown_is in
+        let c = carried after.ids make_options w (wire-whole codec make_session t) (wire-tabled make_session t) placed.placed (subst (λ z. IsWritable z make_options w) (sym same) blob.limits.writable) in
+        let spelled : Spells (blob_bytes after.ids make_options w) after.ids (label t).dtype (label t).len make_session t = record {
           wire = w;
           carried = c.0;
           clean = c.1;
-          whole = wire-whole codec session t;
+          whole = wire-whole codec make_session t;
           told = table_told;
         } in
-        let own : blob_bytes after.ids plain w ≡ joined buffers = ap (λ z. blob_bytes z plain w) same ∙ sym blob.written in
-        subst (λ (b : List ℕ). Spells b after.ids (label t).dtype (label t).len session t) own spelled
+        let own : blob_bytes after.ids make_options w ≡ joined buffers = ap (λ z. blob_bytes z make_options w) same ∙ sym blob.written in
+        subst (λ (b : List ℕ). Spells b after.ids (label t).dtype (label t).len make_session t) own spelled
 
-    written_light : KeepsReaderLimits plain (blob_of session t nothing plain)
+    written_light : KeepsReaderLimits make_options (blob_of make_session t no_ids make_options)
     written_light =
-        let ids = ids_after session t nothing in
-        let bytes = data_from plain 0 (buffers_in w) in
-        let zeros : List ℕ = replicate (message_pad plain w) 0 in
+        let ids = ids_after make_session t no_ids in
+        let bytes = data_from make_options 0 (buffers_in w) in
+        let zeros : List ℕ = replicate (message_pad make_options w) 0 in
         let fit = blob.limits.writable in
-        let own = is_blob bytes zeros (message_bytes ids plain w) fit.short in
+        let own = is_blob bytes zeros (message_bytes ids make_options w) fit.short in
         record {
           light = λ segment message is.
               let P : List ℕ → Type 0 = λ m. IsLight limits (weight array_schema m) in
-              subst P (one_blob (blob_bytes ids plain w) (bytes ++ zeros) segment (message_bytes ids plain w) message own is).1 fit.light;
+              subst P (one_blob (blob_bytes ids make_options w) (bytes ++ zeros) segment (message_bytes ids make_options w) message own is).1 fit.light;
         }
 
     -- It can be recoded.
-    pub table_again : CanRecode (record { blob = joined buffers; dtype = (label t).dtype; len = (label t).len; ids = after.ids; context = nothing; options = plain; session = session })
+    pub table_again : CanRecode (record { blob = joined buffers; dtype = (label t).dtype; len = (label t).len; ids = after.ids; context = no_ids; options = make_options; session = make_session })
     table_again = record {
       array = t;
       spelled = table_spelled;
-      reader_limits = subst (λ (b : List ℕ). KeepsReaderLimits plain b) (sym blob.written) written_light;
+      reader_limits = subst (λ (b : List ℕ). KeepsReaderLimits make_options b) (sym blob.written) written_light;
       writer_limits = blob.limits;
       grows = ap is_some blob.grown_is;
     }
@@ -485,16 +475,16 @@ type_known = (tt, ((tt, tt), ((tt, tt), ((tt, ((tt, tt), tt)), tt))))
 
 -- ---- only memory can be wanting where the table is written
 
-pub table_memory : (seed rows : ℕ) → rows ≤ 1000000 → (e : WireError) → RefusesArray session (made seed rows) nothing plain e → e ≡ wire_error.OutOfMemory
+pub table_memory : (seed rows : ℕ) → rows ≤ 1000000 → (e : WireError) → RefusesArray make_session (made seed rows) no_ids make_options e → e ≡ wire_error.OutOfMemory
 table_memory seed rows h wire_error.OutOfMemory r = refl
-table_memory seed rows h wire_error.NotPermitted r = absurd (none_or_some (sym (table_grows seed rows) ∙ ap (λ (z : Tree). grown codec session nothing z) (sym (table_whole seed rows)) ∙ r.none)) where
+table_memory seed rows h wire_error.NotPermitted r = absurd (none_or_some (sym (table_grows seed rows) ∙ ap (λ (z : Tree). grown codec make_session no_ids z) (sym (table_whole seed rows)) ∙ r.none)) where
   none_or_some : {A : Type 0} {x : A} → Some x ≡ None → ⊥
   none_or_some e = absurd (cc)
-table_memory seed rows h wire_error.WireLimit r = absurd (r (subst (λ (z : Tree). KeepsWriterLimits session z nothing plain) (sym (table_whole seed rows)) (table_limits seed rows h)))
-table_memory seed rows h wire_error.NotRegistered r = absurd (never_untaken session session_shipped (most_levels plain) unregistered (made seed rows) (table_written seed rows) r)
-table_memory seed rows h wire_error.NotSerializable r = absurd (never_untaken session session_shipped (most_levels plain) unserializable (made seed rows) (table_written seed rows) r)
-table_memory seed rows h wire_error.UndeclaredId r = absurd (never_untaken session session_shipped (most_levels plain) undeclared (made seed rows) (table_written seed rows) r)
-table_memory seed rows h wire_error.PluginRefused r = absurd (never_untaken session session_shipped (most_levels plain) unwilling (made seed rows) (table_written seed rows) r)
+table_memory seed rows h wire_error.WireLimit r = absurd (r (subst (λ (z : Tree). KeepsWriterLimits make_session z no_ids make_options) (sym (table_whole seed rows)) (table_limits seed rows h)))
+table_memory seed rows h wire_error.NotRegistered r = absurd (never_untaken make_session session_shipped (most_levels make_options) unregistered (made seed rows) (table_written seed rows) r)
+table_memory seed rows h wire_error.NotSerializable r = absurd (never_untaken make_session session_shipped (most_levels make_options) unserializable (made seed rows) (table_written seed rows) r)
+table_memory seed rows h wire_error.UndeclaredId r = absurd (never_untaken make_session session_shipped (most_levels make_options) undeclared (made seed rows) (table_written seed rows) r)
+table_memory seed rows h wire_error.PluginRefused r = absurd (never_untaken make_session session_shipped (most_levels make_options) unwilling (made seed rows) (table_written seed rows) r)
 table_memory seed rows h wire_error.TooShort r = absurd r
 table_memory seed rows h wire_error.BadTable r = absurd r
 table_memory seed rows h wire_error.TableLimit r = absurd r

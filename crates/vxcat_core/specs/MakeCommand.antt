@@ -12,6 +12,7 @@ use Rattle.vx_wire_tree.specs.Context.{Context, grown}
 use Rattle.vx_wire_tree.specs.Session.{SessionMeaning}
 use Rattle.vx_encodings.specs.Messages.{codec}
 use Rattle.vx_registry.specs.Session.{shipped_meaning}
+use Rattle.vx_serde.specs.declared.options.SerializeOptions.{SerializeOptions}
 use Rattle.vx_serde.specs.Spells.{Spells, blob_of}
 use Rattle.vx_generator.specs.Made.{made}
 use Rattle.vx_generator.specs.Summary.{summary}
@@ -57,6 +58,10 @@ make_session = shipped_meaning no_readers
 abbrev pub no_ids : Context
 no_ids = context_of None
 
+-- How the blob is written: without pads, and no deeper than plain trees are.
+abbrev pub make_options : SerializeOptions
+make_options = padded_at None false
+
 -- What is saved: the bytes of the type, the blob, and the identifiers of the blob's nodes.
 pub record MadeFiles : Type 0 where
   pub type_bytes : List ℕ
@@ -69,7 +74,7 @@ pub record MadeFiles : Type 0 where
 pub record AreFilesOf (array : Tree) (files : MadeFiles) : Type 0 where
   pub type_written : files.type_bytes ≡ written_layout type_schema (type_table (label array).dtype)
   pub type_read : IsRead (ShowsType files.type_bytes) no_readers (label array).dtype
-  pub blob_written : files.blob ≡ blob_of make_session array no_ids (padded_at None false)
+  pub blob_written : files.blob ≡ blob_of make_session array no_ids make_options
   pub ids_grown : grown codec make_session no_ids array ≡ Some (record { ids = files.ids; allowed = None })
   pub spelled : Spells files.blob files.ids (label array).dtype (label array).len make_session array
 

@@ -1,5 +1,5 @@
 -- What contracts see of the words of `make`, and of what it holds while it runs.
-use Rattle.std.specs.Prelude.{◌≡◌, ◌≤◌, ℕ, false, None, Some, List, string_bytes}
+use Rattle.std.specs.Prelude.{◌≡◌, ◌≤◌, ℕ, None, Some, List, string_bytes}
 use Rattle.vx_buffer.specs.Buffer.{Buffer}
 use Rattle.vx_buffer.specs.Joined.{joined}
 use Rattle.vx_trees.specs.Rose.{label}
@@ -14,8 +14,7 @@ use Rattle.vxcat_core.specs.declared.make.words.MakeWords.{MakeWords}
 use Rattle.vxcat_core.specs.declared.make.steps.MadeOutputs.{MadeOutputs}
 use Rattle.vxcat_core.specs.declared.make.steps.WrittenTable.{WrittenTable}
 use Rattle.vxcat_core.specs.declared.recode.steps.Outputs.{Outputs}
-use Rattle.vxcat_core.specs.MakeCommand.{AreFilesOf, Make, MadeFiles, Output, StopsAt, make_session, no_ids}
-use Rattle.vxcat_core.specs.Recode.{padded_at}
+use Rattle.vxcat_core.specs.MakeCommand.{AreFilesOf, Make, MadeFiles, Output, StopsAt, make_options, make_session, no_ids}
 use Rattle.vxcat_core.specs.StoreState.{StoreState}
 
 -- The line that words lend.
@@ -48,13 +47,13 @@ pub record IsTable (array : Tree) : Type 0 where
 pub record IsTableWritten (array : Tree) (written : WrittenTable) : Type 0 where
   pub buffers : List Buffer
   pub after : Context
-  pub serialized : IsSerialized make_session array (padded_at None false) no_ids after buffers
+  pub serialized : IsSerialized make_session array make_options no_ids after buffers
   pub blob_is : written.blob.bytes ≡ joined buffers
   pub ids_are : written.ids ≡ after.ids
 
 -- An array was written, read and written again: the new blob is its own, and spells it.
 pub record IsWrittenAgain (array : Tree) (outputs : Outputs) : Type 0 where
-  pub blob_written : joined outputs.buffers ≡ blob_of make_session array no_ids (padded_at None false)
+  pub blob_written : joined outputs.buffers ≡ blob_of make_session array no_ids make_options
   pub ids_grown : grown codec make_session no_ids array ≡ Some (record { ids = outputs.ids; allowed = None })
   pub spelled : Spells (joined outputs.buffers) outputs.ids (label array).dtype (label array).len make_session array
 
