@@ -1,7 +1,7 @@
 -- Known bytes that grow twice.
-use Rattle.std.proofs.Common.{◌≡◌, ℕ, Option, None, Some, List, [], ◌++◌, take, drop, refl, sym, ◌∙◌, ap, subst, append_assoc, take-append-drop}
+use Rattle.std.proofs.Common.{◌≡◌, ℕ, Option, None, Some, List, [], ◌++◌, take, drop, refl, sym, ◌∙◌, ap, append_assoc, take-append-drop}
 use Rattle.std.proofs.lemmas.List.{append-nil}
-use Rattle.std.specs.Io.KnownBytes.{Appends, Keeps}
+use Rattle.std.specs.Io.KnownBytes.{Appends}
 use Rattle.vxcat_core.specs.Written.{AppendsPrefix}
 
 pub appends_same : (old : Option (List ℕ)) → Appends old old []
@@ -13,12 +13,6 @@ appends_more None mid new xs ys first second = tt
 appends_more (Some a) None new xs ys first second = absurd first
 appends_more (Some a) (Some b) None xs ys first second = absurd second
 appends_more (Some a) (Some b) (Some c) xs ys first second = second ∙ ap (λ (l : List ℕ). l ++ ys) first ∙ append_assoc a xs ys
-
-pub appends_kept : (old mid new : Option (List ℕ)) (xs : List ℕ) → Appends old mid xs → Keeps mid new → Appends old new xs
-appends_kept None mid new xs first second = tt
-appends_kept (Some a) None new xs first second = absurd first
-appends_kept (Some a) (Some b) None xs first second = absurd second
-appends_kept (Some a) (Some b) (Some c) xs first second = second ∙ first
 
 -- the front so far, and what is left
 abbrev pub AppendsUpTo : Option (List ℕ) → Option (List ℕ) → List ℕ → List ℕ → Type 0
@@ -33,12 +27,6 @@ up_to_more old mid new text rest n so_far more = (
   append_assoc so_far.0 (take n rest) (drop n rest) ∙ ap (λ (l : List ℕ). so_far.0 ++ l) (take-append-drop n rest) ∙ so_far.1,
   appends_more old mid new so_far.0 (take n rest) so_far.2 more,
 )
-
-pub up_to_prefix : (old mid new : Option (List ℕ)) (text rest : List ℕ) → AppendsUpTo old mid text rest → Keeps mid new → AppendsPrefix old new text
-up_to_prefix old mid new text rest so_far kept = (so_far.0, (rest, so_far.1), appends_kept old mid new so_far.0 so_far.2 kept)
-
-pub up_to_end : (old new : Option (List ℕ)) (text rest : List ℕ) → AppendsUpTo old new text rest → rest ≡ [] → Appends old new text
-up_to_end old new text rest so_far none = subst (λ (l : List ℕ). Appends old new l) (sym (append-nil so_far.0) ∙ ap (λ (l : List ℕ). so_far.0 ++ l) (sym none) ∙ so_far.1) so_far.2
 
 pub up_to_ok : (old mid new : Option (List ℕ)) (text left line rest : List ℕ) → AppendsUpTo old mid text left → left ≡ line ++ rest → Appends mid new line → AppendsUpTo old new text rest
 up_to_ok old mid new text left line rest so_far is more = (
@@ -56,7 +44,3 @@ up_to_err old mid new text left line rest so_far is part = (
   ),
   appends_more old mid new so_far.0 part.0 so_far.2 part.2,
 )
-
--- what has been written so far is the front of the text
-pub up_to_now : (old new : Option (List ℕ)) (text rest : List ℕ) → AppendsUpTo old new text rest → AppendsPrefix old new text
-up_to_now old new text rest so_far = (so_far.0, (rest, so_far.1), so_far.2)

@@ -35,18 +35,6 @@ lengths_next buffers (suc i) b old new at so first further =
     let next : flat_map further_length (drop (suc i) buffers) ≡ further_length b ++ left = further_from buffers (suc i) b at in
     rw (add-one (suc i)) (ap (λ z. z ++ left) (further (omega arith)) ∙ append_assoc old (further_length b) left ∙ ap (λ z. old ++ z) (sym next) ∙ so)
 
-none_from : (buffers : List Buffer) (i : ℕ) → length buffers < i + 1 → flat_map further_length (drop i buffers) ≡ []
-none_from [] zero past = refl
-none_from [] (suc i) past = refl
-none_from (b ∷ bs) zero past = absurd (omega (arith, past))
-none_from (b ∷ bs) (suc i) past = none_from bs i (omega (arith, past))
-
--- Past the last buffer nothing is left.
-pub lengths_from-end : (buffers : List Buffer) (i : ℕ) → length buffers < i + 1 → lengths_from i buffers ≡ []
-lengths_from-end [] zero past = refl
-lengths_from-end (b ∷ bs) zero past = absurd (omega (arith, past))
-lengths_from-end buffers (suc i) past = none_from buffers (suc i) past
-
 -- A node's lines are its own, and those of the trees below it.
 pub node_lines-is : (indent : List ℕ) (tree : Tree) → node_lines indent tree ≡ node_line indent (label tree) ++ node_lines_below (indent ++ codes "  ") (below tree)
 node_lines-is indent (node head children) = refl

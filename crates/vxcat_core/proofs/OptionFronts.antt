@@ -38,10 +38,6 @@ no_words : (setting : Setting) (rest : List (List ℕ)) → [] ≡ setting_words
 no_words unknown rest same = cc
 no_words setting rest same = cc
 
--- No words give no option.
-pub nothing_given : (before : Given) (words : List (List ℕ)) → words ≡ [] → Gives before words before
-nothing_given before words none = record { settings = []; words_are = none; in_range = tt; once = refl }
-
 -- One option more at the front.
 pub one_more : (before next after : Given) (setting : Setting) (words rest : List (List ℕ)) → words ≡ setting_words setting ++ rest → IsInRange setting → with_setting before setting ≡ Some next
     → Gives next rest after → Gives before words after

@@ -1,5 +1,6 @@
 -- From what `recode` ensures to what the program promises of its inputs.
 use Rattle.std.proofs.Common.{◌≡◌, ℕ, List, Option, Some, None, inl, inr, refl, Result, Ok, Err, IfOk, IfErr, sym, ap, subst, ◌∙◌}
+use Rattle.std.proofs.lemmas.Result.{IfOk-weaker, IfErr-weaker}
 use Rattle.vx_types.specs.declared.dtype.DType.{DType}
 use Rattle.vx_types.specs.Seen.{typ}
 use Rattle.vx_types.specs.Typ.{Typ}
@@ -15,8 +16,6 @@ use Rattle.vx_serde.specs.declared.error.WireError.TheVariants as wire
 use Rattle.vx_serde.specs.Causes.{Refuses}
 use Rattle.vx_serde.specs.Recoding.{IsFaithful, IsRecoded, Product}
 use Rattle.vx_serde.specs.Request.{CanRecode, Request}
-use Rattle.vxcat_core.specs.declared.id_file.IdFileError.{IdFileError}
-use Rattle.vxcat_core.specs.declared.id_file.IdFileError.TheVariants as id_error
 use Rattle.vxcat_core.specs.declared.recode.steps.Outputs.{Outputs}
 use Rattle.vxcat_core.specs.declared.status.Status.{Status}
 use Rattle.vxcat_core.specs.declared.status.Status.TheVariants.{Done, OutOfMemory, NoCommand, LoadFault, SaveFault, WriteFault, BadType, BadIds, BadExpression, Refused}
@@ -24,7 +23,7 @@ use Rattle.vxcat_core.specs.IdFile.{ReadsIds}
 use Rattle.vxcat_core.specs.Recode.{AreRead, CanRecodeInputs, ReadsAllowed, RefusesInputs, Loaded, Recode, Terms, asked_by, context_of, padded_at, readers_of, session_of}
 use Rattle.vxcat_core.proofs.IdLines.{lines_unique}
 use Rattle.vxcat_core.specs.RecodeViews.{AreMade, AreOutputs, RefusesBlob, RefusesIds, RefusesType, request_for}
-use Rattle.vxcat_core.specs.Statuses.{blob_status, id_status}
+use Rattle.vxcat_core.specs.Statuses.{blob_status}
 
 -- What holds of what is asked of bytes holds of what is asked of the same bytes.
 pub asked_alike : (P : Request → Type 0) (bytes blob : List ℕ) (dtype : Typ) (len : ℕ) (ids : List (List ℕ)) (context : Context) (session : SessionMeaning) (options : SerializeOptions)
@@ -98,28 +97,6 @@ pub type_memory : (status : Status) (line : Recode) (loaded : Loaded) (bytes : L
 type_memory status line loaded bytes x e p complete can =
     complete can.terms.dtype (read_alike loaded.type_bytes bytes (readers_of line.settings) x can.terms.dtype (sym e) (sym p) can.are_read.type_read)
 
--- An id file that is refused, but for want of memory, is no text of identifiers.
-pub ids_refused : {T : Type 0} (error : IdFileError) (status : Status) (bytes : List ℕ) (r : Result T IdFileError) → r ≡ Err error
-    → status ≡ id_status error → (r ≡ Err id_error.BadText → (ids : List (List ℕ)) → ¬ (ReadsIds bytes ids)) → RefusesIds status (λ ids. ReadsIds bytes ids)
-ids_refused id_error.OutOfMemory status bytes r p s bad = subst (λ (x : Status). RefusesIds x (λ ids. ReadsIds bytes ids)) (sym s) tt
-ids_refused id_error.BadText status bytes r p s bad = subst (λ (x : Status). RefusesIds x (λ ids. ReadsIds bytes ids)) (sym s) (bad p)
-
--- So are the identifiers that are allowed, where a file of them is named.
-pub allowed_refused : (status : Status) (bytes : List ℕ) → RefusesIds status (λ ids. ReadsIds bytes ids) → RefusesIds status (λ allowed. ReadsAllowed (Some bytes) allowed)
-allowed_refused OutOfMemory bytes h = tt
-allowed_refused BadIds bytes h = never where
-  never : (allowed : Option (List (List ℕ))) → ¬ (ReadsAllowed (Some bytes) allowed)
-  never None r = r
-  never (Some ids) r = h ids r
-allowed_refused Done bytes h = absurd h
-allowed_refused NoCommand bytes h = absurd h
-allowed_refused BadExpression bytes h = absurd h
-allowed_refused LoadFault bytes h = absurd h
-allowed_refused SaveFault bytes h = absurd h
-allowed_refused WriteFault bytes h = absurd h
-allowed_refused BadType bytes h = absurd h
-allowed_refused (Refused error) bytes h = absurd h
-
 -- A bad id file is a cause among those of what was loaded.
 pub ids_cause : (status : Status) (line : Recode) (loaded : Loaded) (bytes : List ℕ) → bytes ≡ loaded.id_bytes → RefusesIds status (λ ids. ReadsIds bytes ids) → RefusesInputs status line loaded
 ids_cause OutOfMemory line loaded bytes e h = tt
@@ -167,14 +144,6 @@ allowed_unique (Some bytes) (Some a) (Some b) r q = ap (λ (l : List (List ℕ))
 allowed_unique (Some bytes) None b r q = absurd r
 allowed_unique (Some bytes) (Some a) None r q = absurd q
 
-if_ok_map : {A E : Type 0} (result : Result A E) (P Q : A → Type 0) → ((x : A) → P x → Q x) → IfOk result P → IfOk result Q
-if_ok_map (Ok x) P Q f p = f x p
-if_ok_map (Err e) P Q f p = tt
-
-if_err_map : {A E : Type 0} (result : Result A E) (P Q : E → Type 0) → ((e : E) → P e → Q e) → IfErr result P → IfErr result Q
-if_err_map (Ok x) P Q f p = tt
-if_err_map (Err e) P Q f p = f e p
-
 blob_to_inputs : (line : Recode) (loaded : Loaded) (terms : Terms) → AreRead line loaded terms → (status : Status) → RefusesBlob status (asked_by line loaded terms) → RefusesInputs status line loaded
 blob_to_inputs line loaded terms read OutOfMemory cause = tt
 blob_to_inputs line loaded terms read (Refused r) cause = (terms, read, cause)
@@ -206,13 +175,13 @@ module _ (line : Recode) (loaded : Loaded) (dtype : Typ) (read_ids ids : List (L
   pub inputs_made : IfOk result (AreMade (request_for loaded.blob dtype line.len ids context session options)) → IfOk result (λ outputs. AreOutputs line loaded outputs)
   inputs_made recoded =
       let here = subst (λ (r : Request). IfOk result (AreMade r)) asked recoded in
-      if_ok_map result _ _ (λ outputs k. record { made = k.made; is_made = record { terms = terms; are_read = read; recoded = k.recoded; faithful = k.faithful }; holds = k.holds }) here
+      IfOk-weaker result _ _ (λ outputs k. record { made = k.made; is_made = record { terms = terms; are_read = read; recoded = k.recoded; faithful = k.faithful }; holds = k.holds }) here
 
   -- A refused blob is a cause among those of what was loaded.
   pub inputs_refused : IfErr result (λ s. RefusesBlob s (request_for loaded.blob dtype line.len ids context session options)) → IfErr result (λ s. RefusesInputs s line loaded)
   inputs_refused refused =
       let here = subst (λ (r : Request). IfErr result (λ s. RefusesBlob s r)) asked refused in
-      if_err_map result _ _ (blob_to_inputs line loaded terms read) here
+      IfErr-weaker result _ _ (blob_to_inputs line loaded terms read) here
 
   -- What can be recoded on some terms can be so on those that were read.
   pub inputs_complete : (CanRecode (request_for loaded.blob dtype line.len ids context session options) → IfErr result (λ s. s ≡ OutOfMemory))
