@@ -39,11 +39,11 @@ pub(crate) fn both<A: Drop, B: Drop>(
     Ok((first, second))
 }
 
-// The bytes of the numbers from 0 on, so many of them.
-fn number_bytes(alloc: Global, count: u32) -> Result<ByteBuffer, WireError> {
+// The bytes of numbers.
+fn number_bytes(alloc: Global, values: &[i32]) -> Result<ByteBuffer, WireError> {
     let mut bytes = Vec::new(alloc);
-    for i in 0..count {
-        bytes.extend_from_slice(&i.to_le_bytes())?;
+    for value in values {
+        bytes.extend_from_slice(&value.to_le_bytes())?;
     }
     lacking(ByteBuffer::from_vec(bytes))
 }
@@ -56,12 +56,12 @@ fn alignment() -> Alignment {
     }
 }
 
-/// The numbers from 0 on, so many of them.
-pub(crate) fn numbers(alloc: Global, count: u32) -> Result<Array, WireError> {
-    let buffer = number_bytes(alloc, count)?;
-    let values = BufferHandle::new_host(buffer.aligned(alignment()));
+/// These numbers, never null.
+pub(crate) fn numbers(alloc: Global, values: &[i32]) -> Result<Array, WireError> {
+    let buffer = number_bytes(alloc, values)?;
+    let bytes = BufferHandle::new_host(buffer.aligned(alignment()));
     let never = Nullability::NonNullable;
-    lacking(PrimitiveArray::try_new(alloc, values, PType::I32, never, count as usize, None))
+    lacking(PrimitiveArray::try_new(alloc, bytes, PType::I32, never, values.len(), None))
 }
 
 /// The type of the numbers.
@@ -75,9 +75,9 @@ pub(crate) fn day_type(alloc: Global) -> Result<ExtDType, WireError> {
     lacking(ExtDType::new(alloc, id, Blob::new(Vec::new(alloc)), number_type()))
 }
 
-/// So many days.
-pub(crate) fn days(alloc: Global, count: u32) -> Result<Array, WireError> {
-    let (ext, storage) = both(day_type(alloc), numbers(alloc, count))?;
+/// The days of these numbers.
+pub(crate) fn days(alloc: Global, values: &[i32]) -> Result<Array, WireError> {
+    let (ext, storage) = both(day_type(alloc), numbers(alloc, values))?;
     lacking(ExtensionArray::try_new(alloc, ext, storage))
 }
 
@@ -93,22 +93,22 @@ fn only(alloc: Global, child: Array) -> Result<Arrays, WireError> {
     }
 }
 
-// So many days as the only child of a node.
-fn only_days(alloc: Global, count: u32) -> Result<Arrays, WireError> {
-    only(alloc, days(alloc, count)?)
+// Days as the only child of a node.
+fn only_days(alloc: Global, values: &[i32]) -> Result<Arrays, WireError> {
+    only(alloc, days(alloc, values)?)
 }
 
-/// So many days below a node that the asking plugin reads.
-pub(crate) fn asked_days(alloc: Global, count: u32) -> Result<Array, WireError> {
+/// Days below a node that the asking plugin reads.
+pub(crate) fn asked_days(alloc: Global, values: &[i32]) -> Result<Array, WireError> {
     let label = both(lacking(Id::new(alloc, ASKING)), day_type(alloc));
-    let ((id, ext), children) = both(label, only_days(alloc, count))?;
+    let ((id, ext), children) = both(label, only_days(alloc, values))?;
     let metadata = Blob::new(Vec::new(alloc));
     let buffers = BufferHandles::new(alloc);
     lacking(new_foreign_array(
         alloc,
         id,
         DType::Extension(ext),
-        count as usize,
+        values.len(),
         metadata,
         buffers,
         children,
@@ -198,8 +198,8 @@ fn register_both(alloc: Global, last: bool, session: &mut VortexSession) -> Resu
     }
 }
 
-// A session, unless memory was wanted for what was registered in it.
-fn unless(
+// A session once something was registered in it, or the refusal of that.
+fn once_registered(
     registered: Result<(), WireError>,
     session: VortexSession,
 ) -> Result<VortexSession, WireError> {
@@ -215,19 +215,19 @@ fn unless(
 /// The same with a plugin for numbers under two identifiers.
 pub(crate) fn versioned(alloc: Global) -> Result<VortexSession, WireError> {
     let mut session = shipped(alloc)?;
-    unless(register_versioned(alloc, &mut session), session)
+    once_registered(register_versioned(alloc, &mut session), session)
 }
 
 /// The same with a plugin for numbers that does not write them as it should.
 pub(crate) fn odd(alloc: Global, does: Oddity) -> Result<VortexSession, WireError> {
     let mut session = shipped(alloc)?;
-    unless(register_odd(alloc, does, &mut session), session)
+    once_registered(register_odd(alloc, does, &mut session), session)
 }
 
 /// The same with a plugin for numbers that has no form for them, registered before or after that of both identifiers.
 pub(crate) fn replaced(alloc: Global, last: bool) -> Result<VortexSession, WireError> {
     let mut session = shipped(alloc)?;
-    unless(register_both(alloc, last, &mut session), session)
+    once_registered(register_both(alloc, last, &mut session), session)
 }
 
 /// A reader of the extension `x.day` that accepts all or none.
@@ -281,7 +281,7 @@ fn register_asked(
 /// A session with a plugin that asks the session's readers, and with a reader of `x.day`.
 pub(crate) fn asking(alloc: Global, accepts: bool) -> Result<VortexSession, WireError> {
     let mut session = shipped(alloc)?;
-    unless(register_asked(alloc, accepts, &mut session), session)
+    once_registered(register_asked(alloc, accepts, &mut session), session)
 }
 
 /// A session of the shipped encodings that allows what nothing is registered for.

@@ -9,6 +9,15 @@ use vx_buffer::ByteBuffer;
 use vx_registry::{ArrayContext, VortexSession};
 use vx_serde::WireError;
 
+// Numbers of which tests are made, by how many there are.
+const TWO: [i32; 2] = [1, 2];
+
+const THREE: [i32; 3] = [1, 2, 3];
+
+const FOUR: [i32; 4] = [1, 2, 3, 4];
+
+const EIGHT: [i32; 8] = [0, 1, 2, 3, 4, 5, 6, 7];
+
 // Whether there is something.
 fn is_made<T: Drop>(made: Result<T, WireError>) -> bool {
     match made {
@@ -83,9 +92,9 @@ fn returns_by(
     is_read_as(alloc, blob?, array, text, session)
 }
 
-// The same of so many numbers, by the plugin of both identifiers.
-fn returns(alloc: Global, count: u32, text: &str) -> Result<bool, WireError> {
-    let (array, session) = both(numbers(alloc, count), versioned(alloc))?;
+// The same by the plugin of both identifiers.
+fn returns(alloc: Global, values: &[i32], text: &str) -> Result<bool, WireError> {
+    let (array, session) = both(numbers(alloc, values), versioned(alloc))?;
     let told = returns_by(alloc, &array, text, &session);
     drop(session);
     drop(array);
@@ -94,10 +103,10 @@ fn returns(alloc: Global, count: u32, text: &str) -> Result<bool, WireError> {
 
 #[test]
 fn numbers_are_written_under_the_identifier_of_their_length(rt: HostRuntime) {
-    assert!(rt; returns(rt.alloc(), 4, OLD) == Ok(true));
-    assert!(rt; returns(rt.alloc(), 5, NEW) == Ok(true));
-    assert!(rt; returns(rt.alloc(), 8, NEW) == Ok(true));
-    assert!(rt; returns(rt.alloc(), 0, OLD) == Ok(true));
+    assert!(rt; returns(rt.alloc(), &[], OLD) == Ok(true));
+    assert!(rt; returns(rt.alloc(), &FOUR, OLD) == Ok(true));
+    assert!(rt; returns(rt.alloc(), &[1, 2, 3, 4, 5], NEW) == Ok(true));
+    assert!(rt; returns(rt.alloc(), &EIGHT, NEW) == Ok(true));
 }
 
 // Why an array is not written, where nothing comes to a context.
@@ -130,7 +139,7 @@ fn unwritten_among(
 
 // The same of eight numbers, by the plugin of both identifiers.
 fn not_permitted(alloc: Global, texts: &[&str]) -> Result<WireError, WireError> {
-    let (array, session) = both(numbers(alloc, 8), versioned(alloc))?;
+    let (array, session) = both(numbers(alloc, &EIGHT), versioned(alloc))?;
     let error = unwritten_among(alloc, &array, texts, &session);
     drop(session);
     drop(array);
@@ -145,7 +154,7 @@ fn a_new_identifier_has_to_be_allowed(rt: HostRuntime) {
 
 // Why the blob of eight numbers is not read by a session of the shipped encodings, with this identifier.
 fn unread_shipped(alloc: Global, text: &str) -> Result<WireError, WireError> {
-    let (blob, session) = both(versioned_blob(alloc, 8), shipped(alloc))?;
+    let (blob, session) = both(versioned_blob(alloc, &EIGHT), shipped(alloc))?;
     let error = refusal(read_numbers(alloc, blob, 8, text, &session));
     drop(session);
     error
@@ -153,7 +162,7 @@ fn unread_shipped(alloc: Global, text: &str) -> Result<WireError, WireError> {
 
 // And by that of the plugin.
 fn unread_plugged(alloc: Global, text: &str) -> Result<WireError, WireError> {
-    let (blob, session) = both(versioned_blob(alloc, 8), versioned(alloc))?;
+    let (blob, session) = both(versioned_blob(alloc, &EIGHT), versioned(alloc))?;
     let error = refusal(read_numbers(alloc, blob, 8, text, &session));
     drop(session);
     error
@@ -163,9 +172,18 @@ fn unread_plugged(alloc: Global, text: &str) -> Result<WireError, WireError> {
 fn an_identifier_is_read_by_what_declares_it(rt: HostRuntime) {
     assert!(rt; unread_shipped(rt.alloc(), NEW) == Ok(WireError::UnknownEncoding));
     assert!(rt; unread_plugged(rt.alloc(), OLD) == Ok(WireError::PluginRefused));
-    assert!(rt; WireError::NotSerializable.number() == 26);
-    assert!(rt; WireError::UndeclaredId.number() == 27);
-    assert!(rt; WireError::PluginRefused.number() == 28);
+}
+
+#[test]
+fn refusals_of_plugins_have_numbers_of_their_own(rt: HostRuntime) {
+    let rows = [
+        (WireError::NotSerializable, 26),
+        (WireError::UndeclaredId, 27),
+        (WireError::PluginRefused, 28),
+    ];
+    for (error, number) in rows {
+        assert!(rt; error.number() == number);
+    }
 }
 
 // Why an array is not written by a session, where nothing comes to the context.
@@ -182,7 +200,7 @@ fn unwritten_by(
 
 // Why numbers are not written by an odd plugin.
 fn unwritten(alloc: Global, does: Oddity) -> Result<WireError, WireError> {
-    let (array, session) = both(numbers(alloc, 2), odd(alloc, does))?;
+    let (array, session) = both(numbers(alloc, &TWO), odd(alloc, does))?;
     let error = unwritten_by(alloc, &array, &session);
     drop(session);
     drop(array);
@@ -202,9 +220,13 @@ fn odd_plugins_write_nothing(rt: HostRuntime) {
     }
 }
 
-// The blob of so many numbers, written where both identifiers may come.
-fn blob_of(alloc: Global, count: u32, session: &VortexSession) -> Result<ByteBuffer, WireError> {
-    let (array, mut ctx) = both(numbers(alloc, count), allowing(alloc, &[OLD, NEW]))?;
+// The blob of numbers, written where both identifiers may come.
+fn blob_of(
+    alloc: Global,
+    values: &[i32],
+    session: &VortexSession,
+) -> Result<ByteBuffer, WireError> {
+    let (array, mut ctx) = both(numbers(alloc, values), allowing(alloc, &[OLD, NEW]))?;
     let blob = written(alloc, &array, &mut ctx, session);
     drop(ctx);
     drop(array);
@@ -212,16 +234,16 @@ fn blob_of(alloc: Global, count: u32, session: &VortexSession) -> Result<ByteBuf
 }
 
 // The same by the plugin of both identifiers.
-fn versioned_blob(alloc: Global, count: u32) -> Result<ByteBuffer, WireError> {
+fn versioned_blob(alloc: Global, values: &[i32]) -> Result<ByteBuffer, WireError> {
     let session = versioned(alloc)?;
-    let blob = blob_of(alloc, count, &session);
+    let blob = blob_of(alloc, values, &session);
     drop(session);
     blob
 }
 
 // Whether two numbers are written as they should by a session to which the plugin without a form came last or first.
 fn are_written_by(alloc: Global, last: bool, session: &VortexSession) -> bool {
-    let blob = blob_of(alloc, 2, session);
+    let blob = blob_of(alloc, &TWO, session);
     if last {
         refusal(blob) == Ok(WireError::NotSerializable)
     } else {
@@ -230,7 +252,7 @@ fn are_written_by(alloc: Global, last: bool, session: &VortexSession) -> bool {
 }
 
 // Whether the blobs of two numbers and of eight are read and two numbers written as they should by such a session.
-fn goes_by(
+fn are_read_and_written_by(
     alloc: Global,
     two: ByteBuffer,
     eight: ByteBuffer,
@@ -246,9 +268,9 @@ fn goes_by(
 
 // The same by a session of both plugins.
 fn replaced_by(alloc: Global, last: bool) -> Result<bool, WireError> {
-    let blobs = both(versioned_blob(alloc, 2), versioned_blob(alloc, 8));
+    let blobs = both(versioned_blob(alloc, &TWO), versioned_blob(alloc, &EIGHT));
     let ((two, eight), session) = both(blobs, replaced(alloc, last))?;
-    let told = goes_by(alloc, two, eight, last, &session);
+    let told = are_read_and_written_by(alloc, two, eight, last, &session);
     drop(session);
     Ok(told)
 }
@@ -264,7 +286,7 @@ const ASKED: [&str; 3] = [ASKING, "vortex.ext", OLD];
 
 // The blob of three such days by a session, if those identifiers come.
 fn asked_blob_by(alloc: Global, session: &VortexSession) -> Result<ByteBuffer, WireError> {
-    let array = asked_days(alloc, 3)?;
+    let array = asked_days(alloc, &THREE)?;
     let mut ctx = ArrayContext::empty(alloc);
     let blob = blob_as(alloc, &array, &mut ctx, &ASKED, session);
     drop(ctx);
@@ -294,8 +316,8 @@ fn are_days(
 }
 
 // Whether they are by a session whose reader of days accepts them or not.
-fn asked(alloc: Global, accepts: bool) -> Result<bool, WireError> {
-    let parts = both(days(alloc, 3), asked_blob(alloc));
+fn reads_days(alloc: Global, accepts: bool) -> Result<bool, WireError> {
+    let parts = both(days(alloc, &THREE), asked_blob(alloc));
     let ((days, blob), session) = both(parts, asking(alloc, accepts))?;
     let told = are_days(alloc, &days, blob, &session);
     drop(session);
@@ -305,6 +327,6 @@ fn asked(alloc: Global, accepts: bool) -> Result<bool, WireError> {
 
 #[test]
 fn a_plugin_asks_the_readers_of_extensions(rt: HostRuntime) {
-    assert!(rt; asked(rt.alloc(), true) == Ok(true));
-    assert!(rt; asked(rt.alloc(), false) == Err(WireError::PluginRefused));
+    assert!(rt; reads_days(rt.alloc(), true) == Ok(true));
+    assert!(rt; reads_days(rt.alloc(), false) == Err(WireError::PluginRefused));
 }
