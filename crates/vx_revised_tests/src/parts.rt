@@ -14,17 +14,17 @@ pub(crate) const OLD: &'static str = "vortex.primitive";
 
 pub(crate) const SECOND: &'static str = "vortex.primitive.v2";
 
-/// A session.
+/// What is registered in a session.
 #[derive(Clone, Copy)]
-pub(crate) enum Kind {
-    /// Primitives have one identifier.
-    One,
-    /// They have two.
-    Two,
-    /// They had two, and then the encoding was registered.
-    OneAgain,
-    /// Nothing was registered but primitives under two.
-    TwoAlone,
+pub(crate) enum Registered {
+    /// The shipped encodings: primitives have one identifier.
+    Shipped,
+    /// The same, and then primitives under two identifiers.
+    Revised,
+    /// The same, and then primitives under one again.
+    RevisedThenShipped,
+    /// Primitives under two identifiers, and nothing else.
+    RevisedAlone,
 }
 
 /// Want of memory, whatever wanted it.
@@ -36,16 +36,16 @@ pub(crate) fn lacking<T: Drop, E: Drop>(made: Result<T, E>) -> Result<T, WireErr
 }
 
 // The entries of a session.
-fn arrays_of(alloc: Global, kind: Kind) -> Result<ArraySession, WireError> {
-    match kind {
-        Kind::One => lacking(ArraySession::default(alloc)),
-        Kind::Two => lacking(ArraySession::revised(alloc)),
-        Kind::OneAgain => {
+fn arrays_of(alloc: Global, registered: Registered) -> Result<ArraySession, WireError> {
+    match registered {
+        Registered::Shipped => lacking(ArraySession::default(alloc)),
+        Registered::Revised => lacking(ArraySession::revised(alloc)),
+        Registered::RevisedThenShipped => {
             let mut arrays = lacking(ArraySession::revised(alloc))?;
             lacking(arrays.register(PluginEntry::Shipped(Encoding::Primitive)))?;
             Ok(arrays)
         }
-        Kind::TwoAlone => {
+        Registered::RevisedAlone => {
             let mut arrays = ArraySession::empty(alloc);
             lacking(arrays.register(PluginEntry::Revised))?;
             Ok(arrays)
@@ -53,9 +53,12 @@ fn arrays_of(alloc: Global, kind: Kind) -> Result<ArraySession, WireError> {
     }
 }
 
-/// A session of this kind, without readers of extensions.
-pub(crate) fn session_of(alloc: Global, kind: Kind) -> Result<VortexSession, WireError> {
-    let arrays = arrays_of(alloc, kind)?;
+/// A session in which this is registered, without readers of extensions.
+pub(crate) fn session_of(
+    alloc: Global,
+    registered: Registered,
+) -> Result<VortexSession, WireError> {
+    let arrays = arrays_of(alloc, registered)?;
     Ok(VortexSession::new(arrays, ExtSession::new(alloc)))
 }
 
@@ -114,6 +117,6 @@ fn written(alloc: Global, array: &Array, session: &VortexSession) -> Result<Byte
 /// The blob of so many numbers, whose node names its encoding by 0.
 pub(crate) fn blob_of(alloc: Global, count: u32) -> Result<ByteBuffer, WireError> {
     let array = numbers(alloc, count)?;
-    let session = session_of(alloc, Kind::One)?;
+    let session = session_of(alloc, Registered::Shipped)?;
     written(alloc, &array, &session)
 }

@@ -1,7 +1,7 @@
 //! Blobs of numbers under either identifier, read and written again.
 
 use crate::parts::{
-    Kind, OLD, SECOND, blob_of, has_id, ids_of, lacking, number_type, numbers, read_context,
+    OLD, Registered, SECOND, blob_of, has_id, ids_of, lacking, number_type, numbers, read_context,
     session_of,
 };
 use std::alloc::Global;
@@ -13,14 +13,14 @@ use vx_serde::{Recoded, SerializeOptions, WireError, recode};
 // What is read of a blob of so many numbers under an identifier, and what is written of it in a context.
 fn recoding_of(
     alloc: Global,
-    kind: Kind,
+    registered: Registered,
     count: u32,
     text: &str,
     ctx: &mut ArrayContext,
 ) -> Result<Recoded, WireError> {
     let blob = blob_of(alloc, count)?;
     let ids = read_context(alloc, text)?;
-    let session = session_of(alloc, kind)?;
+    let session = session_of(alloc, registered)?;
     let options = SerializeOptions::default();
     recode(
         alloc,
@@ -58,12 +58,12 @@ fn is_well(alloc: Global, made: &Recoded, count: u32) -> Result<bool, WireError>
 // encoding, and what is written are the same bytes, and under which of both it is.
 fn recoded_in(
     alloc: Global,
-    kind: Kind,
+    registered: Registered,
     count: u32,
     text: &str,
     mut ctx: ArrayContext,
 ) -> Result<(bool, bool), WireError> {
-    let made = recoding_of(alloc, kind, count, text, &mut ctx)?;
+    let made = recoding_of(alloc, registered, count, text, &mut ctx)?;
     let well = is_well(alloc, &made, count);
     drop(made);
     let second = has_id(alloc, &ctx, SECOND)?;
@@ -72,37 +72,47 @@ fn recoded_in(
 }
 
 // The same in a context that takes any identifier: whether all is well, and the second identifier is written.
-fn recoded(alloc: Global, kind: Kind, count: u32, text: &str) -> Result<(bool, bool), WireError> {
-    recoded_in(alloc, kind, count, text, ArrayContext::empty(alloc))
+fn recoded(
+    alloc: Global,
+    registered: Registered,
+    count: u32,
+    text: &str,
+) -> Result<(bool, bool), WireError> {
+    recoded_in(alloc, registered, count, text, ArrayContext::empty(alloc))
 }
 
 #[test]
 fn rows_are_read_under_what_holds_them_and_written_by_their_length(rt: HostRuntime) {
     let rows = [
-        (Kind::One, 4, OLD, false),
-        (Kind::One, 5, OLD, false),
-        (Kind::Two, 0, OLD, false),
-        (Kind::Two, 4, OLD, false),
-        (Kind::Two, 4, SECOND, false),
-        (Kind::Two, 5, SECOND, true),
-        (Kind::Two, 8, SECOND, true),
-        (Kind::TwoAlone, 4, OLD, false),
-        (Kind::TwoAlone, 4, SECOND, false),
-        (Kind::TwoAlone, 5, SECOND, true),
-        (Kind::OneAgain, 4, OLD, false),
-        (Kind::OneAgain, 5, OLD, false),
-        (Kind::OneAgain, 8, OLD, false),
-        (Kind::OneAgain, 4, SECOND, false),
-        (Kind::OneAgain, 5, SECOND, false),
+        (Registered::Shipped, 4, OLD, false),
+        (Registered::Shipped, 5, OLD, false),
+        (Registered::Revised, 0, OLD, false),
+        (Registered::Revised, 4, OLD, false),
+        (Registered::Revised, 4, SECOND, false),
+        (Registered::Revised, 5, SECOND, true),
+        (Registered::Revised, 8, SECOND, true),
+        (Registered::RevisedAlone, 4, OLD, false),
+        (Registered::RevisedAlone, 4, SECOND, false),
+        (Registered::RevisedAlone, 5, SECOND, true),
+        (Registered::RevisedThenShipped, 4, OLD, false),
+        (Registered::RevisedThenShipped, 5, OLD, false),
+        (Registered::RevisedThenShipped, 8, OLD, false),
+        (Registered::RevisedThenShipped, 4, SECOND, false),
+        (Registered::RevisedThenShipped, 5, SECOND, false),
     ];
-    for (kind, count, text, second) in rows {
-        assert!(rt; recoded(rt.alloc(), kind, count, text) == Ok((true, second)));
+    for (registered, count, text, second) in rows {
+        assert!(rt; recoded(rt.alloc(), registered, count, text) == Ok((true, second)));
     }
 }
 
 // Why they are not recoded.
-fn refused(alloc: Global, kind: Kind, count: u32, text: &str) -> Result<WireError, WireError> {
-    match recoded(alloc, kind, count, text) {
+fn refused(
+    alloc: Global,
+    registered: Registered,
+    count: u32,
+    text: &str,
+) -> Result<WireError, WireError> {
+    match recoded(alloc, registered, count, text) {
         Ok(_) => Err(WireError::BadContent),
         Err(e) => Ok(e),
     }
@@ -111,15 +121,15 @@ fn refused(alloc: Global, kind: Kind, count: u32, text: &str) -> Result<WireErro
 #[test]
 fn rows_are_refused_under_what_does_not_hold_them(rt: HostRuntime) {
     let rows = [
-        (Kind::Two, 5, OLD, WireError::BadShape),
-        (Kind::Two, 8, OLD, WireError::BadShape),
-        (Kind::TwoAlone, 5, OLD, WireError::BadShape),
-        (Kind::One, 4, SECOND, WireError::UnknownEncoding),
-        (Kind::One, 5, SECOND, WireError::UnknownEncoding),
-        (Kind::One, 8, SECOND, WireError::UnknownEncoding),
+        (Registered::Revised, 5, OLD, WireError::BadShape),
+        (Registered::Revised, 8, OLD, WireError::BadShape),
+        (Registered::RevisedAlone, 5, OLD, WireError::BadShape),
+        (Registered::Shipped, 4, SECOND, WireError::UnknownEncoding),
+        (Registered::Shipped, 5, SECOND, WireError::UnknownEncoding),
+        (Registered::Shipped, 8, SECOND, WireError::UnknownEncoding),
     ];
-    for (kind, count, text, error) in rows {
-        assert!(rt; refused(rt.alloc(), kind, count, text) == Ok(error));
+    for (registered, count, text, error) in rows {
+        assert!(rt; refused(rt.alloc(), registered, count, text) == Ok(error));
     }
     assert!(rt; WireError::BadShape.number() == 19);
     assert!(rt; WireError::UnknownEncoding.number() == 17);
@@ -129,7 +139,7 @@ fn rows_are_refused_under_what_does_not_hold_them(rt: HostRuntime) {
 fn not_permitted(alloc: Global) -> Result<WireError, WireError> {
     let allowed = ids_of(alloc, OLD)?;
     let ctx = lacking(ArrayContext::empty(alloc).with_allowed_ids(alloc, &allowed))?;
-    match recoded_in(alloc, Kind::Two, 8, SECOND, ctx) {
+    match recoded_in(alloc, Registered::Revised, 8, SECOND, ctx) {
         Ok(_) => Err(WireError::BadContent),
         Err(e) => Ok(e),
     }

@@ -1,6 +1,6 @@
 //! What sessions hold, and what holds which rows.
 
-use crate::parts::{Kind, OLD, SECOND, lacking, numbers, session_of};
+use crate::parts::{OLD, Registered, SECOND, lacking, numbers, session_of};
 use std::alloc::Global;
 use vx_arrays::Array;
 use vx_encodings::{Encoding, revised_holds, revised_id};
@@ -31,16 +31,16 @@ fn the_old_identifier_holds_at_most_four_rows(rt: HostRuntime) {
         (SECOND, 5, true),
         ("vortex.bool", 5, true),
     ];
-    for (text, len, held) in rows {
-        assert!(rt; holds(rt.alloc(), text, len) == Ok(held));
+    for (text, len, expected) in rows {
+        assert!(rt; holds(rt.alloc(), text, len) == Ok(expected));
     }
     assert!(rt; is_id(rt.alloc(), 4, OLD) == Ok(true));
     assert!(rt; is_id(rt.alloc(), 5, SECOND) == Ok(true));
 }
 
 // What reads an identifier in a session.
-fn reader(alloc: Global, kind: Kind, text: &str) -> Result<Option<Entry>, WireError> {
-    let session = session_of(alloc, kind)?;
+fn reader(alloc: Global, registered: Registered, text: &str) -> Result<Option<Entry>, WireError> {
+    let session = session_of(alloc, registered)?;
     let id = lacking(Id::new(alloc, text))?;
     Ok(session.arrays.reader(&id))
 }
@@ -49,16 +49,16 @@ fn reader(alloc: Global, kind: Kind, text: &str) -> Result<Option<Entry>, WireEr
 fn both_identifiers_are_registered_by_one_entry(rt: HostRuntime) {
     let shipped = Some(Entry::Shipped(Encoding::Primitive));
     let rows = [
-        (Kind::One, OLD, shipped),
-        (Kind::One, SECOND, None),
-        (Kind::Two, OLD, Some(Entry::Revised)),
-        (Kind::Two, SECOND, Some(Entry::Revised)),
-        (Kind::TwoAlone, SECOND, Some(Entry::Revised)),
-        (Kind::OneAgain, OLD, shipped),
-        (Kind::OneAgain, SECOND, Some(Entry::Revised)),
+        (Registered::Shipped, OLD, shipped),
+        (Registered::Shipped, SECOND, None),
+        (Registered::Revised, OLD, Some(Entry::Revised)),
+        (Registered::Revised, SECOND, Some(Entry::Revised)),
+        (Registered::RevisedAlone, SECOND, Some(Entry::Revised)),
+        (Registered::RevisedThenShipped, OLD, shipped),
+        (Registered::RevisedThenShipped, SECOND, Some(Entry::Revised)),
     ];
-    for (kind, text, entry) in rows {
-        assert!(rt; reader(rt.alloc(), kind, text) == Ok(entry));
+    for (registered, text, entry) in rows {
+        assert!(rt; reader(rt.alloc(), registered, text) == Ok(entry));
     }
 }
 
@@ -77,22 +77,27 @@ fn is_serialized(
 }
 
 // Whether the root of so many numbers is.
-fn serialized(alloc: Global, kind: Kind, count: u32, text: &str) -> Result<bool, WireError> {
+fn serialized(
+    alloc: Global,
+    registered: Registered,
+    count: u32,
+    text: &str,
+) -> Result<bool, WireError> {
     let array = numbers(alloc, count)?;
-    let session = session_of(alloc, kind)?;
+    let session = session_of(alloc, registered)?;
     is_serialized(alloc, &array, &session, text)
 }
 
 #[test]
 fn a_root_is_serialized_under_the_identifier_of_its_length(rt: HostRuntime) {
     let rows = [
-        (Kind::One, 4, OLD),
-        (Kind::One, 5, OLD),
-        (Kind::Two, 4, OLD),
-        (Kind::Two, 5, SECOND),
-        (Kind::OneAgain, 5, OLD),
+        (Registered::Shipped, 4, OLD),
+        (Registered::Shipped, 5, OLD),
+        (Registered::Revised, 4, OLD),
+        (Registered::Revised, 5, SECOND),
+        (Registered::RevisedThenShipped, 5, OLD),
     ];
-    for (kind, count, text) in rows {
-        assert!(rt; serialized(rt.alloc(), kind, count, text) == Ok(true));
+    for (registered, count, text) in rows {
+        assert!(rt; serialized(rt.alloc(), registered, count, text) == Ok(true));
     }
 }
