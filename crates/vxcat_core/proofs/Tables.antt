@@ -68,7 +68,7 @@ use Rattle.vx_serde.specs.Serializing.{IsSerialized, IsWrittenBlob}
 use Rattle.vx_serde.specs.Spells.{Spells, KeepsReaderLimits, KeepsWriterLimits, blob_of, ids_after}
 use Rattle.vx_serde.specs.Taking.{as_written}
 use Rattle.vx_serde.specs.Written.{message_bytes, message_pad, blob_bytes, IsWritable}
-use Rattle.vx_serde.proofs.LawsOfWriting.{carried, is_blob, shows-layout, one_blob, length-blob, message_value_is_of, placed_from_ids, numbered_fits, wire-tabled, grown-ids, wire-whole, grown_by-placed}
+use Rattle.vx_serde.proofs.LawsOfWriting.{is_blob, shows-layout, one_blob, length-blob, message_value_is_of, placed_from_ids, numbered_fits, wire-tabled, wire-whole, told_spelled, grown_by-placed}
 use Rattle.vxcat_core.specs.MakeCommand.{make_options, make_session, no_ids}
 use Rattle.vxcat_core.proofs.OwnNames.{wire_named, read_named}
 use Rattle.vx_generator.specs.Columns.{columns}
@@ -408,18 +408,8 @@ module _ (seed rows : ℕ) (h : rows ≤ 1000000) where
     -- The blob that was written for the table spells it.
     pub table_spelled : Spells (joined buffers) after.ids (label t).dtype (label t).len make_session t
     table_spelled =
-        let same = grown-ids make_session t no_ids after blob.grown_is in
-        let placed = grown_by-placed (ids_in w) no_ids after blob.grown_is in
-        let c = carried after.ids make_options w (wire-whole codec make_session t) (wire-tabled make_session t) placed.placed (subst (λ z. IsWritable z make_options w) (sym same) blob.limits.writable) in
-        let spelled : Spells (blob_bytes after.ids make_options w) after.ids (label t).dtype (label t).len make_session t = record {
-          wire = w;
-          carried = c.0;
-          clean = c.1;
-          whole = wire-whole codec make_session t;
-          told = table_told;
-        } in
-        let own : blob_bytes after.ids make_options w ≡ joined buffers = ap (λ z. blob_bytes z make_options w) same ∙ sym blob.written in
-        subst (λ (b : List ℕ). Spells b after.ids (label t).dtype (label t).len make_session t) own spelled
+        subst (λ (b : List ℕ). Spells b after.ids (label t).dtype (label t).len make_session t) (sym blob.written)
+        (told_spelled make_session t no_ids after make_options blob.grown_is blob.limits (label t).dtype (label t).len t table_told)
 
     written_light : KeepsReaderLimits make_options (blob_of make_session t no_ids make_options)
     written_light =
