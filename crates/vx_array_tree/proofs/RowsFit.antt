@@ -3,6 +3,7 @@ use Rattle.std.proofs.Common.{ℕ, zero, suc, ◌≡◌, ◌<◌, ◌≤◌, ◌
 use Rattle.std.proofs.lemmas.Option.{none-some}
 use Rattle.std.proofs.lemmas.Bool.Decides.{nat_tests}
 use Rattle.vx_trees.specs.Rose.{Roses, node, end, more, label, count}
+use Rattle.vx_trees.proofs.LawsOfLists.{heads, tails}
 use Rattle.vx_types.specs.Kind as K
 use Rattle.vx_types.specs.Kind.{Kind}
 use Rattle.vx_types.specs.Typ.{Typ}
@@ -119,15 +120,9 @@ pub record First (p : Place) (ps : List Place) (n : ℕ) (t : Tree) (us : Trees)
 first_planned : (p : Place) (ps : List Place) (n : ℕ) (t : Tree) (us : Trees) → before_validity (p ∷ ps) n (suc (count us)) ≡ Some (places (more t us)) → First p ps n t us
 first_planned p ps n t us e =
     let m = mapped (λ (qs : List Place). p ∷ qs) (before_validity ps n (count us)) (places (more t us)) e in
-    let q : place (label t).dtype (label t).len ≡ p = same (m.1) in
-    let r : places us ≡ m.0 = tail (m.1) in
+    let q : place (label t).dtype (label t).len ≡ p = heads _ _ _ _ (m.1) in
+    let r : places us ≡ m.0 = tails _ _ _ _ (m.1) in
     record { place_is = q; others = m.2 ∙ ap (λ z. Some z) (sym r) }
-  where
-    same : {x y : Place} {xs ys : List Place} → x ∷ xs ≡ y ∷ ys → x ≡ y
-    same z = cc
-
-    tail : {x y : Place} {xs ys : List Place} → x ∷ xs ≡ y ∷ ys → xs ≡ ys
-    tail z = cc
 
 varbin_rows_fit : (d : Typ) (n : ℕ) (v : VarBins.Metadata) (x : VarBins.Data) (us : Trees) → ((bs : List ℕ) → Fits (lone (VarBins.mark_of d bs)) d) → (IsVariant d → ⊥) → VarBins.planned n v (count us) ≡ Some (places us) → AllowsValidity d 1 (count us)
     → FitRows d n (VarBins.rows d n x (rows_below us))
@@ -224,12 +219,6 @@ fixed_fit _ n us p a f = absurd (cc)
 
 -- ---- by one child
 
-pub cons_first : (x y : Place) (xs ys : List Place) → x ∷ xs ≡ y ∷ ys → x ≡ y
-cons_first x y xs ys e = cc
-
-pub cons_rest : (x y : Place) (xs ys : List Place) → x ∷ xs ≡ y ∷ ys → xs ≡ ys
-cons_rest x y xs ys e = cc
-
 nil_cons : (x : Place) (xs : List Place) → [] ≡ x ∷ xs → ⊥
 nil_cons x xs e = cc
 
@@ -237,7 +226,7 @@ map_at : (b : Bool) (m : Nullability) (x y : Typ) (n : ℕ) (us : Trees) → pla
     → FitRows (node (K.map b m) (more x (more y end))) n (Maps.rows n (rows_below us))
 map_at b m x y n end p f = absurd (nil_cons _ _ p)
 map_at b m x y n (more t us) p f =
-    let g = retype t (node (K.list m) (more (entries (record { key = x; value = y; keys_sorted = b })) end)) n (cons_first _ _ _ _ p) f.0 in
+    let g = retype t (node (K.list m) (more (entries (record { key = x; value = y; keys_sorted = b })) end)) n (heads _ _ _ _ p) f.0 in
     record { fits = λ i l h. fits_map b m x y ((rows_of t).row i) (g.fits i l h); missing = λ i l v. g.missing i l v; whole = λ k i l. absurd k }
 
 pub maps_fit : (d : Typ) (n : ℕ) (us : Trees) → Maps.plan d n (count us) ≡ Some (places us) → FitAll us → FitRows d n (Maps.rows n (rows_below us))
@@ -247,7 +236,7 @@ maps_fit _ n us p f = absurd (cc)
 ext_at : (id bs : List ℕ) (e : Typ) (n : ℕ) (us : Trees) → places us ≡ place e n ∷ [] → FitAll us → FitRows (node (K.extension id bs) (more e end)) n (Exts.rows n (rows_below us))
 ext_at id bs e n end p f = absurd (nil_cons _ _ p)
 ext_at id bs e n (more t us) p f =
-    let g = retype t e n (cons_first _ _ _ _ p) f.0 in
+    let g = retype t e n (heads _ _ _ _ p) f.0 in
     record { fits = λ i l h. fits_extension id bs e ((rows_of t).row i) (g.fits i l h); missing = λ i l v. g.missing i l v; whole = λ k i l. absurd k }
 
 pub exts_fit : (d : Typ) (n : ℕ) (us : Trees) → Exts.plan d n (count us) ≡ Some (places us) → FitAll us → FitRows d n (Exts.rows n (rows_below us))
@@ -276,18 +265,18 @@ member_fits tag [] ds us n i l p f e = absurd (cc)
 member_fits tag (x ∷ ids) ds end n i l p f e = absurd (cc)
 member_fits tag (x ∷ ids) end (more t us) n i l p f e = absurd (nil_cons _ _ (sym p))
 member_fits tag (x ∷ ids) (more d ds) (more t us) n i l p f e =
-    member_found (tag == x) tag ids d ds t us n i l (retype t d n (cons_first _ _ _ _ p) f.0) (λ k. member_fits tag ids ds us n i l (cons_rest _ _ _ _ p) f.1 k) e
+    member_found (tag == x) tag ids d ds t us n i l (retype t d n (heads _ _ _ _ p) f.0) (λ k. member_fits tag ids ds us n i l (tails _ _ _ _ p) f.1 k) e
 
 union_at : (ns : List (List ℕ)) (ids : List ℕ) (m : Nullability) (ds : Roses Kind) (n : ℕ) (us : Trees) → places us ≡ place (node (K.primitive P.U8 m) end) n ∷ places_at ds n → Unions.Content (node (K.union ns ids m) ds) n (rows_below us) → FitAll us
     → FitRows (node (K.union ns ids m) ds) n (Unions.rows (node (K.union ns ids m) ds) n (rows_below us))
 union_at ns ids m ds n end p c f = absurd (nil_cons _ _ p)
 union_at ns ids m ds n (more t us) p c f =
-    let g = retype t (node (K.primitive P.U8 m) end) n (cons_first _ _ _ _ p) f.0 in
+    let g = retype t (node (K.primitive P.U8 m) end) n (heads _ _ _ _ p) f.0 in
     record {
       fits = λ i l h. fits_where ((rows_of t).valid i) (λ j. node (union (index_at (rows_of t) j)) (more ((Unions.rows_or_none (Unions.member_rows (index_at (rows_of t) j) ids (rows_below us))).row j) end)) i (node (K.union ns ids m) ds)
           (λ v. g.missing i l v)
           (λ v k.
-          let x = member_fits (index_at (rows_of t) i) ids ds us n i l (cons_rest _ _ _ _ p) f.1 (c i l v).named in
+          let x = member_fits (index_at (rows_of t) i) ids ds us n i l (tails _ _ _ _ p) f.1 (c i l v).named in
           (x.0, x.1, (x.2 (or_left _ false k), refl))) h;
       missing = λ i l v. g.missing i l v;
       whole = λ k i l. absurd k;
@@ -350,8 +339,8 @@ dicts_fit d n x end p a w f = absurd (none-some _ p)
 dicts_fit d n x (more c end) p a w f = absurd (none-some _ p)
 dicts_fit d n x (more c (more v us)) p a w f =
     let e = exactly_is (place (node (K.primitive (ptype_of (label c).dtype) (nullability (label c).dtype)) end) n ∷ place d (label v).len ∷ []) (suc (suc (count us))) (Dicts.lifted (places (more c (more v us)))) p in
-    let t = cons_first _ _ _ _ (cons_rest _ _ _ _ e) in
-    let k = cons_first _ _ _ _ e in
+    let t = heads _ _ _ _ (tails _ _ _ _ e) in
+    let k = heads _ _ _ _ e in
     dict_at d n c v us (ap (λ z. z.dtype) t) (ap (λ z. z.len) k) a w f
 
 -- ---- structures
@@ -361,7 +350,7 @@ fields_fit end end n i l p f h = refl
 fields_fit end (more t us) n i l p f h = absurd (nil_cons _ _ (sym p))
 fields_fit (more d ds) end n i l p f h = absurd (nil_cons _ _ p)
 fields_fit (more d ds) (more t us) n i l p f h =
-    ((retype t d n (cons_first _ _ _ _ p) f.0).fits i l (or_left (has_opaque ((rows_of t).row i)) _ h), fields_fit ds us n i l (cons_rest _ _ _ _ p) f.1 (or_right (has_opaque ((rows_of t).row i)) _ h))
+    ((retype t d n (heads _ _ _ _ p) f.0).fits i l (or_left (has_opaque ((rows_of t).row i)) _ h), fields_fit ds us n i l (tails _ _ _ _ p) f.1 (or_right (has_opaque ((rows_of t).row i)) _ h))
 
 exactly_count : (ps : List Place) (k : ℕ) (qs : List Place) → exactly ps k ≡ Some qs → k ≡ length ps
 exactly_count [] zero qs e = refl
@@ -406,7 +395,7 @@ struct_at None ns m ds n (more t us) e p a f =
     let c : suc (count us) ≡ suc (length (places_at ds n)) = exactly_count (validity_place n ∷ places_at ds n) (suc (count us)) (places (more t us)) p in
     let w = length_at ds n in
     let k = rows_count us in
-    struct_by true ns m ds n (more t us) (grind (arith, nat_tests)) (λ i l v. a (omega arith)) (λ i l h. fields_fit ds us n i l (cons_rest _ _ _ _ x) f.1 h)
+    struct_by true ns m ds n (more t us) (grind (arith, nat_tests)) (λ i l v. a (omega arith)) (λ i l h. fields_fit ds us n i l (tails _ _ _ _ x) f.1 h)
 
 pub structs_fit : (d : Typ) (n : ℕ) (us : Trees) → Structs.plan d n (count us) ≡ Some (places us) → AllowsValidity d (Structs.width_of d) (count us) → FitAll us → FitRows d n (Structs.rows d n (rows_below us))
 structs_fit (node (K.structure ns m) ds) n us p a f = struct_at (exactly (places_at ds n) (count us)) ns m ds n us refl p a f

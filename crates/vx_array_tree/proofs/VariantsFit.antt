@@ -2,6 +2,7 @@
 use Rattle.std.proofs.Common.{ℕ, suc, ◌≡◌, ◌<◌, ◌⊎◌, inl, inr, [], ◌∷◌, Option, Some, None, Bool, true, false, refl, sym, ap, ◌∙◌, if◌then◌else◌}
 use Rattle.std.proofs.lemmas.Option.{none-some}
 use Rattle.vx_trees.specs.Rose.{node, end, more, label, count}
+use Rattle.vx_trees.proofs.LawsOfLists.{heads, tails}
 use Rattle.vx_types.specs.Kind as K
 use Rattle.vx_types.specs.Typ.{Typ}
 use Rattle.vx_types.specs.declared.nullability.Nullability.{Nullability}
@@ -15,7 +16,7 @@ use Rattle.vx_array_tree.specs.Tree.{Tree, Trees, places, rows_of, rows_below}
 use Rattle.vx_types.specs.Value.{Value, null, opaque, lone, has_opaque, is_null}
 use Rattle.vx_array_tree.proofs.MergeFits.{IsGood, IsGoodVariant, merge_good, fallback_good, variant_fits}
 use Rattle.vx_array_tree.proofs.Plans.{exactly_is}
-use Rattle.vx_array_tree.proofs.RowsFit.{FitAll, retype, cons_first, cons_rest}
+use Rattle.vx_array_tree.proofs.RowsFit.{FitAll, retype}
 
 -- A row is a variant, or opaque as a whole.
 abbrev IsRow : Nullability → Value → Type 0
@@ -61,14 +62,14 @@ valid_core None b e = absurd (cc)
 
 core_fits : (m : Nullability) (n : ℕ) (c : Tree) (us : Trees) → places (more c us) ≡ place (node (K.variant m) end) n ∷ [] → FitAll (more c us) → FitRows (node (K.variant m) end) n (Variants.rows n None (rows_below (more c us)))
 core_fits m n c us p f =
-    let g = retype c (node (K.variant m) end) n (cons_first _ _ _ _ p) f.0 in
+    let g = retype c (node (K.variant m) end) n (heads _ _ _ _ p) f.0 in
     record { fits = λ i l h. g.fits i l h; missing = λ i l v. g.missing i l v; whole = λ k i l. g.whole tt i l }
 
 both_fit : (m : Nullability) (n : ℕ) (e : Typ) (c s : Tree) (us : Trees) → places (more c (more s us)) ≡ place (node (K.variant m) end) n ∷ place e n ∷ [] → FitAll (more c (more s us))
     → FitRows (node (K.variant m) end) n (Variants.rows n (Some e) (rows_below (more c (more s us))))
 both_fit m n e c s us p f =
-    let g = retype c (node (K.variant m) end) n (cons_first _ _ _ _ p) f.0 in
-    let t = retype s e n (cons_first _ _ _ _ (cons_rest _ _ _ _ p)) f.1.0 in
+    let g = retype c (node (K.variant m) end) n (heads _ _ _ _ p) f.0 in
+    let t = retype s e n (heads _ _ _ _ (tails _ _ _ _ p)) f.1.0 in
     let is : (i : ℕ) → i < n → IsRow m (row_over e ((rows_of s).row i) ((rows_of c).row i)) =
     λ i l. over_is m e ((rows_of s).row i) ((rows_of c).row i) (λ h. t.fits i l h) (row_is m ((rows_of c).row i) (λ h. g.fits i l h) (g.whole tt i l)) in
     record {

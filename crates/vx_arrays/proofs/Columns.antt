@@ -5,6 +5,7 @@ use Rattle.vx_trees.specs.Rose.{label, more, count, roses_of}
 use Rattle.vx_trees.specs.Same.{same}
 use Rattle.vx_trees.proofs.Lists.{count-roses_of}
 use Rattle.vx_trees.proofs.Sameness.{same-decides}
+use Rattle.vx_trees.proofs.LawsOfLists.{heads, tails}
 use Rattle.vx_types.specs.Seen.{typ, typs}
 use Rattle.vx_types.specs.Parts.{Fields}
 use Rattle.vx_types.specs.Typ.{Typ, typ_code}
@@ -34,12 +35,6 @@ pub type_decides : (t : Tree) (d : Typ) (b : Bool) (e : Typ) → e ≡ (label t)
 type_decides t d b e q h = (λ x. sym q ∙ (same-decides typ_code e d).0 (sym h ∙ x), λ x. h ∙ (same-decides typ_code e d).1 (q ∙ x))
 
 -- ---- lists of them
-
-heads : (p q : Place) (ps qs : List Place) → p ∷ ps ≡ q ∷ qs → p ≡ q
-heads p q ps qs e = cc
-
-tails : (p q : Place) (ps qs : List Place) → p ∷ ps ≡ q ∷ qs → ps ≡ qs
-tails p q ps qs e = cc
 
 both : (p q : Place) (ps qs : List Place) → p ≡ q → ps ≡ qs → p ∷ ps ≡ q ∷ qs
 both p q ps qs e f = λ i. e i ∷ f i

@@ -6,6 +6,7 @@ use Rattle.std.specs.Prelude.{◌↔◌, IsTrue}
 use Rattle.vx_buffer.specs.Buffer.{Buffer}
 use Rattle.vx_trees.specs.Rose.{node, end, more, label, below, count, roses_of, roses_list}
 use Rattle.vx_trees.proofs.Lists.{roses_list-roses_of, count-roses_of}
+use Rattle.vx_trees.proofs.LawsOfLists.{heads, tails}
 use Rattle.vx_array_tree.specs.Body.{Body}
 use Rattle.vx_array_tree.specs.Body as B
 use Rattle.vx_array_tree.specs.Encodings.Bools as Bools
@@ -146,12 +147,6 @@ pub ruleset bodies = (bools-same, same-bools_bytes, same-bools_offset, primitive
 
 -- ---- lists, element by element
 
-heads : {A : Type 0} {a b : A} {xs ys : List A} → a ∷ xs ≡ b ∷ ys → a ≡ b
-heads e = cc
-
-tails : {A : Type 0} {a b : A} {xs ys : List A} → a ∷ xs ≡ b ∷ ys → xs ≡ ys
-tails e = cc
-
 module _ {A C : Type 0} (f : A → C) where
   more_same_suc : (xs ys : List A) (i : ℕ) (d e : A) → i < length xs → i < length ys → map f (take i xs) ≡ map f (take i ys) → f (get_or xs i d) ≡ f (get_or ys i e)
       → map f (take (suc i) xs) ≡ map f (take (suc i) ys)
@@ -161,7 +156,7 @@ module _ {A C : Type 0} (f : A → C) where
   more_same_suc (x ∷ xs) (y ∷ ys) (suc i) d e h k p q =
       let g : i < length xs = omega (arith, h) in
       let l : i < length ys = omega (arith, k) in
-      λ j. heads p j ∷ more_same_suc xs ys i d e g l (tails p) q j
+      λ j. heads _ _ _ _ p j ∷ more_same_suc xs ys i d e g l (tails _ _ _ _ p) q j
 
   -- Lists that are the same up to i, and at i, are the same up to i + 1.
   pub more_same : (xs ys : List A) (i : ℕ) (d e : A) → i < length xs → i < length ys → map f (take i xs) ≡ map f (take i ys) → f (get_or xs i d) ≡ f (get_or ys i e)
@@ -172,18 +167,18 @@ module _ {A C : Type 0} (f : A → C) where
   pub same_at : (xs ys : List A) (i : ℕ) (d e : A) → i < length xs → i < length ys → map f xs ≡ map f ys → f (get_or xs i d) ≡ f (get_or ys i e)
   same_at [] ys i d e h k p = absurd (omega (arith, h))
   same_at (x ∷ xs) [] i d e h k p = absurd (omega (arith, k))
-  same_at (x ∷ xs) (y ∷ ys) zero d e h k p = heads p
+  same_at (x ∷ xs) (y ∷ ys) zero d e h k p = heads _ _ _ _ p
   same_at (x ∷ xs) (y ∷ ys) (suc i) d e h k p =
       let g : i < length xs = omega (arith, h) in
       let l : i < length ys = omega (arith, k) in
-      same_at xs ys i d e g l (tails p)
+      same_at xs ys i d e g l (tails _ _ _ _ p)
 
   -- They are as long.
   pub same_length : (xs ys : List A) → map f xs ≡ map f ys → length xs ≡ length ys
   same_length [] [] p = refl
   same_length [] (y ∷ ys) p = absurd (cc)
   same_length (x ∷ xs) [] p = absurd (cc)
-  same_length (x ∷ xs) (y ∷ ys) p = ap (λ n. suc n) (same_length xs ys (tails p))
+  same_length (x ∷ xs) (y ∷ ys) p = ap (λ n. suc n) (same_length xs ys (tails _ _ _ _ p))
 
 -- For loops over two lists of buffers.
 pub ruleset alike = (more_same, same_at, same_length, bare-same, same-bare)

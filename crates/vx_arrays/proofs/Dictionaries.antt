@@ -3,11 +3,13 @@ use Rattle.std.proofs.Common.{ℕ, ◌≡◌, ◌≤◌, ◌<◌, ◌+◌, ◌�
 use Rattle.std.specs.Prelude.{◌↔◌, IsTrue, is_some, unwrap_or}
 use Rattle.std.proofs.lemmas.Bool.{false≢true}
 use Rattle.std.proofs.Math.Nat.{eq-or-lt_of_le}
+use Rattle.std.proofs.lemmas.Option.{none-some}
 use Rattle.vx_trees.specs.Rose.{node, end, more, label, count, roses_of}
 use Rattle.vx_trees.specs.Same.{same}
 use Rattle.vx_trees.proofs.Lists.{count-roses_of}
 use Rattle.vx_trees.proofs.Sameness.{same-decides}
 use Rattle.vx_trees.specs.Walks.{nodes, nodes_of}
+use Rattle.vx_trees.proofs.LawsOfLists.{heads, tails}
 use Rattle.vx_types.proofs.LawsOfTypes.{nullable_under, same_nullability}
 use Rattle.vx_types.specs.Kind.{primitive, boolean}
 use Rattle.vx_types.specs.Numbers.{is_integer}
@@ -61,27 +63,18 @@ codes_allow NonNullable v d q e = absurd (cc)
 
 -- ---- shapes
 
-first_place_is : (p q : Place) (ps qs : List Place) → p ∷ ps ≡ q ∷ qs → p ≡ q
-first_place_is p q ps qs e = cc
-
-rest_is : (p q : Place) (ps qs : List Place) → p ∷ ps ≡ q ∷ qs → ps ≡ qs
-rest_is p q ps qs e = cc
-
-none_some : {A : Type 0} (x : A) → None ≡ Some x → ⊥
-none_some x e = absurd (cc)
-
 -- Its children are two.
 pub shaped_two : (d : Typ) (n : ℕ) (x : Data) (ts : Trees) → IsWellShaped (untold d n (B.dict x)) ts → count ts ≡ 2
-shaped_two d n x end s = absurd (none_some _ s.planned)
-shaped_two d n x (more c end) s = absurd (none_some _ s.planned)
+shaped_two d n x end s = absurd (none-some _ s.planned)
+shaped_two d n x (more c end) s = absurd (none-some _ s.planned)
 shaped_two d n x (more c (more v end)) s = refl
-shaped_two d n x (more c (more v (more u us))) s = absurd (none_some _ s.planned)
+shaped_two d n x (more c (more v (more u us))) s = absurd (none-some _ s.planned)
 
 pub shaped_paired : (d : Typ) (n : ℕ) (x : Data) (c v : Tree) → IsWellShaped (untold d n (B.dict x)) (more c (more v end)) → ArePaired d n c v
 shaped_paired d n x c v s =
     let e = exactly_is (place (node (primitive (ptype_of (label c).dtype) (nullability (label c).dtype)) end) n ∷ place d (label v).len ∷ []) 2 (lifted (places (more c (more v end)))) s.planned in
-    let p = first_place_is _ _ _ _ e in
-    let q = first_place_is _ _ _ _ (rest_is _ _ _ _ e) in
+    let p = heads _ _ _ _ e in
+    let q = heads _ _ _ _ (tails _ _ _ _ e) in
     record {
       kind = type_of_codes (label c).dtype (ptype_of (label c).dtype) (nullability (label c).dtype) (ap (λ (z : Place). z.dtype) p) s.fair;
       counted = ap (λ (z : Place). z.len) p;
@@ -131,8 +124,8 @@ other_items us h e = h (sym (count-roses_of us) ∙ e)
 
 -- A row of which a number is known is there.
 there : (o : Option Bool) (r : Value) (k : ℕ) → AgreesAt o r → natural r ≡ Some k → o ≡ Some true
-there None r k a e = absurd (none_some k (ap (λ (z : Value). natural z) (sym a) ∙ e))
-there (Some false) r k a e = absurd (none_some k (ap (λ (z : Value). natural z) (sym a) ∙ e))
+there None r k a e = absurd (none-some k (ap (λ (z : Value). natural z) (sym a) ∙ e))
+there (Some false) r k a e = absurd (none-some k (ap (λ (z : Value). natural z) (sym a) ∙ e))
 there (Some true) r k a e = refl
 
 number_there : (c : Tree) (i k : ℕ) → Some k ≡ natural (row_at c i) → valid_at c i ≡ Some true
@@ -336,7 +329,7 @@ module _ (n : ℕ) (ts : Trees) (c v : Tree) (i : ℕ) (e : ts ≡ more c (more 
     null_value b t = null_where (valid_at c i) b (λ j. row_at v (index_at (rows_of c) j)) i never t ∙ ap (λ (us : Trees). (rows n (rows_below us)).row i) (sym e)
       where
         null_where : (o : Option Bool) (b : Bool) (value : ℕ → Value) (i : ℕ) → (o ≡ Some true → ⊥) → Some b ≡ o → lone null ≡ where_valid o value i
-        null_where None b value i h t = absurd (none_some b (sym t))
+        null_where None b value i h t = absurd (none-some b (sym t))
         null_where (Some false) b value i h t = refl
         null_where (Some true) b value i h t = absurd (h refl)
 

@@ -7,6 +7,7 @@ use Rattle.std.specs.Prelude.{◌↔◌, ◌⊎◌, IsTrue, if◌then◌else◌}
 use Rattle.vx_trees.specs.Rose.{Roses, node, end, more, label, below, count, roses_of}
 use Rattle.vx_trees.specs.Walks.{nodes_of}
 use Rattle.vx_trees.proofs.Lists.{count-roses_of}
+use Rattle.vx_trees.proofs.LawsOfLists.{heads, tails}
 use Rattle.vx_types.specs.Kind.{Kind, structure}
 use Rattle.vx_types.specs.Parts.{Fields}
 use Rattle.vx_types.specs.Typ.{Typ}
@@ -110,13 +111,7 @@ pub record HasColumns (d : Typ) (n : ℕ) (ts : Trees) : Type 0 where
   pub columns : places (field_trees d ts) ≡ places_at (below d) n
 
 one_behind : (t : Tree) (us : Trees) (p : Place) (ps : List Place) → places (more t us) ≡ p ∷ ps → (place_of t ≡ p) × (places us ≡ ps)
-one_behind t us p ps e = (first_of e, others_of e)
-  where
-    first_of : {x y : Place} {xs ys : List Place} → x ∷ xs ≡ y ∷ ys → x ≡ y
-    first_of z = cc
-
-    others_of : {x y : Place} {xs ys : List Place} → x ∷ xs ≡ y ∷ ys → xs ≡ ys
-    others_of z = cc
+one_behind t us p ps e = (heads _ _ _ _ e, tails _ _ _ _ e)
 
 no_places : (p : Place) (ps : List Place) → [] ≡ p ∷ ps → ⊥
 no_places p ps e = absurd (cc)

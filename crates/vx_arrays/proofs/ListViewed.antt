@@ -2,6 +2,7 @@
 use Rattle.std.proofs.Common.{ℕ, suc, ◌≡◌, ◌≤◌, ◌<◌, ◌+◌, ◌⊎◌, inl, inr, List, [], ◌∷◌, Option, Some, None, Bool, true, false, refl, sym, ap, ◌∙◌, subst, length, arith}
 use Rattle.std.proofs.Math.Nat.{eq-or-lt_of_le}
 use Rattle.std.specs.Prelude.{◌↔◌, IsTrue}
+use Rattle.std.proofs.lemmas.Option.{none-some, same_Some}
 use Rattle.vx_trees.specs.Rose.{node, end, more, label, count, roses_of}
 use Rattle.vx_trees.specs.Walks.{nodes, nodes_of}
 use Rattle.vx_trees.specs.Same.{same}
@@ -23,7 +24,7 @@ use Rattle.vx_array_tree.proofs.RowsOfSound.{rows_len}
 use Rattle.vx_arrays.specs.Lists.{element_of}
 use Rattle.vx_arrays.specs.ListViews.{AreCounts, AreViewParts, views_of}
 use Rattle.vx_arrays.specs.VarBins.{IsOfOffsets}
-use Rattle.vx_arrays.proofs.Listed.{first_stands, none_some, some_is}
+use Rattle.vx_arrays.proofs.Listed.{first_stands}
 use Rattle.vx_arrays.proofs.Parted.{offsets_type, same_suc}
 
 -- ---- what a plan says
@@ -62,7 +63,7 @@ planned_of : (d : Typ) (n : ℕ) (a o z : Tree) (vs : Trees) (p q : PType) → e
     → before_validity [] n (count vs) ≡ Some (places vs)
     → plan d n (record { elements_len = (label a).len; offset_ptype = p; size_ptype = q }) (suc (suc (suc (count vs)))) ≡ Some (places (more a (more o (more z vs))))
 planned_of (node (list m) (more e end)) n a o z vs p q x t l u k b =
-    let f : e ≡ (label a).dtype = some_is _ _ x in
+    let f : e ≡ (label a).dtype = same_Some _ _ x in
     rw (b, t, l, u, k, f) refl
 planned_of _ n a o z vs p q x t l u k b = absurd (cc)
 
@@ -82,14 +83,14 @@ parts_shaped d n x a o z vs l =
 pub element_decides : (b : Bool) (k e : Typ) (a : Tree) (o : Option Typ) → Some k ≡ o → e ≡ (label a).dtype → b ≡ same typ_code e k → IsTrue b ↔ (o ≡ Some (label a).dtype)
 element_decides b k e a o s q d = (
   λ t. sym s ∙ ap (λ (y : Typ). Some y) (sym ((same-decides typ_code e k).0 (sym d ∙ t)) ∙ q),
-  λ h. d ∙ (same-decides typ_code e k).1 (q ∙ sym (some_is _ _ (s ∙ h))),
+  λ h. d ∙ (same-decides typ_code e k).1 (q ∙ sym (same_Some _ _ (s ∙ h))),
 )
 
 -- There are three children or more.
 pub three_children : (d : Typ) (n : ℕ) (x : Data) (ts : Trees) → IsWellShaped (untold d n (B.listview x)) ts → 3 ≤ count ts
-three_children d n x end s = let p = planned_three d n (metadata_of []) 0 [] s.planned in absurd (none_some _ p.2)
-three_children d n x (more a end) s = let p = planned_three d n (metadata_of (places (more a end))) 1 (places (more a end)) s.planned in absurd (none_some _ p.2)
-three_children d n x (more a (more o end)) s = let p = planned_three d n (metadata_of (places (more a (more o end)))) 2 (places (more a (more o end))) s.planned in absurd (none_some _ p.2)
+three_children d n x end s = let p = planned_three d n (metadata_of []) 0 [] s.planned in absurd (none-some _ p.2)
+three_children d n x (more a end) s = let p = planned_three d n (metadata_of (places (more a end))) 1 (places (more a end)) s.planned in absurd (none-some _ p.2)
+three_children d n x (more a (more o end)) s = let p = planned_three d n (metadata_of (places (more a (more o end)))) 2 (places (more a (more o end))) s.planned in absurd (none-some _ p.2)
 three_children d n x (more a (more o (more z vs))) s = omega arith
 
 -- So of fewer arrays there is no node.

@@ -1,11 +1,13 @@
 -- The children of a node of lists: its elements, its offsets, and what stands behind them; and its rows.
-use Rattle.std.proofs.Common.{ℕ, suc, ◌≡◌, ◌≤◌, ◌<◌, ◌+◌, ◌-◌, ◌^◌, List, [], ◌∷◌, Option, Some, None, Bool, true, false, refl, sym, ap, ◌∙◌, subst, length, arith, add-one}
+use Rattle.std.proofs.Common.{ℕ, suc, ◌≡◌, ◌≤◌, ◌<◌, ◌+◌, ◌-◌, ◌^◌, List, [], ◌∷◌, Option, Some, Bool, true, false, refl, sym, ap, ◌∙◌, subst, length, arith, add-one}
 use Rattle.std.specs.Prelude.{◌↔◌, IsTrue}
 use Rattle.std.proofs.lemmas.Bool.{ltb-true}
 use Rattle.std.specs.Prelude.{◌↔◌, IsTrue}
+use Rattle.std.proofs.lemmas.Option.{none-some, same_Some}
 use Rattle.vx_trees.specs.Rose.{node, end, more, label, count, roses_of}
 use Rattle.vx_trees.specs.Walks.{nodes, nodes_of}
 use Rattle.vx_trees.proofs.Lists.{count-roses_of}
+use Rattle.vx_trees.proofs.LawsOfLists.{heads, tails}
 use Rattle.vx_types.specs.Kind.{list}
 use Rattle.vx_types.specs.Typ.{Typ}
 use Rattle.vx_types.specs.Value.{Value, tuple}
@@ -29,12 +31,6 @@ use Rattle.vx_arrays.proofs.Parted.{below_limit, offsets_type, same_suc}
 
 -- ---- what a plan says
 
-pub some_is : {A : Type 0} (x y : A) → Some x ≡ Some y → x ≡ y
-some_is x y e = cc
-
-pub none_some : {A : Type 0} (x : A) → None ≡ Some x → ⊥
-none_some x e = absurd (cc)
-
 passed : (b : Bool) (o : Option (List Place)) (ps : List Place) → when b o ≡ Some ps → b ≡ true
 passed true o ps e = refl
 passed false o ps e = absurd (cc)
@@ -44,15 +40,9 @@ pub first_stands : (p : Place) (ps : List Place) (n : ℕ) (o : Tree) (vs : Tree
     → (place (label o).dtype (label o).len ≡ p) × (before_validity ps n (count vs) ≡ Some (places vs))
 first_stands p ps n o vs e =
     let m = mapped (λ (qs : List Place). p ∷ qs) (before_validity ps n (count vs)) (places (more o vs)) e in
-    let q : place (label o).dtype (label o).len ≡ p = same (m.1) in
-    let r : places vs ≡ m.0 = tail (m.1) in
+    let q : place (label o).dtype (label o).len ≡ p = heads _ _ _ _ (m.1) in
+    let r : places vs ≡ m.0 = tails _ _ _ _ (m.1) in
     (q, m.2 ∙ ap (λ z. Some z) (sym r))
-  where
-    same : {x y : Place} {xs ys : List Place} → x ∷ xs ≡ y ∷ ys → x ≡ y
-    same z = cc
-
-    tail : {x y : Place} {xs ys : List Place} → x ∷ xs ≡ y ∷ ys → xs ≡ ys
-    tail z = cc
 
 -- The places of the elements and of the offsets.
 abbrev pub two_places : Typ → ℕ → PType → ℕ → List Place
@@ -92,7 +82,7 @@ shaped_listed d n a o vs s =
 planned_of : (d : Typ) (n : ℕ) (a o : Tree) (vs : Trees) (q : PType) → element_of d ≡ Some (label a).dtype → (label o).dtype ≡ numbers q → (label o).len ≡ suc n → suc n < 2 ^ 64 → before_validity [] n (count vs) ≡ Some (places vs)
     → plan d n (record { elements_len = (label a).len; offset_ptype = q }) (suc (suc (count vs))) ≡ Some (places (more a (more o vs)))
 planned_of (node (list m) (more e end)) n a o vs q x t l lt p =
-    let f : e ≡ (label a).dtype = some_is _ _ x in
+    let f : e ≡ (label a).dtype = same_Some _ _ x in
     rw (below_limit (suc n) lt, p, t, l, f) refl
 planned_of _ n a o vs q x t l lt p = absurd (cc)
 
@@ -121,8 +111,8 @@ listed_decide d n b a o vs e k l lt h = (
 
 -- There are two children or more.
 pub two_children : (d : Typ) (n : ℕ) (ts : Trees) → IsWellShaped (untold d n B.list) ts → 2 ≤ count ts
-two_children d n end s = let p = planned_two d n (metadata_of []) 0 [] s.planned in absurd (none_some _ (let_through (is_len (suc n)) _ _ p.2))
-two_children d n (more a end) s = let p = planned_two d n (metadata_of (places (more a end))) 1 (places (more a end)) s.planned in absurd (none_some _ (let_through (is_len (suc n)) _ _ p.2))
+two_children d n end s = let p = planned_two d n (metadata_of []) 0 [] s.planned in absurd (none-some _ (let_through (is_len (suc n)) _ _ p.2))
+two_children d n (more a end) s = let p = planned_two d n (metadata_of (places (more a end))) 1 (places (more a end)) s.planned in absurd (none-some _ (let_through (is_len (suc n)) _ _ p.2))
 two_children d n (more a (more o vs)) s = omega arith
 
 -- So of fewer arrays there is no node.

@@ -1,8 +1,10 @@
 -- The entries of a node of maps, and its rows.
 use Rattle.std.proofs.Common.{ℕ, ◌≡◌, ◌<◌, ◌≤◌, List, [], ◌∷◌, ◌++◌, Some, refl, sym, ap, ◌∙◌, length, get_or, arith}
+use Rattle.std.proofs.lemmas.Option.{same_Some}
 use Rattle.vx_trees.specs.Rose.{node, end, more, label, count, roses_of, roses_list}
 use Rattle.vx_trees.proofs.Lists.{count-roses_of, roses_of-roses_list}
 use Rattle.vx_trees.specs.Walks.{nodes}
+use Rattle.vx_trees.proofs.LawsOfLists.{heads}
 use Rattle.vx_types.specs.Kind.{list, map}
 use Rattle.vx_types.specs.Parts.{Entries}
 use Rattle.vx_types.specs.Typ.{Typ}
@@ -19,12 +21,6 @@ use Rattle.vx_arrays.specs.Maps.{AreEntries, map_tree}
 
 -- ---- what a plan says
 
-some_is : {A : Type 0} (x y : A) → Some x ≡ Some y → x ≡ y
-some_is x y e = cc
-
-first_is : (p q : Place) (ps qs : List Place) → p ∷ ps ≡ q ∷ qs → p ≡ q
-first_is p q ps qs e = cc
-
 -- A node's only child, which is the entries of its maps.
 pub record IsMapped (d : Typ) (n : ℕ) (ts : Trees) : Type 0 where
   pub lists : Tree
@@ -34,7 +30,7 @@ pub record IsMapped (d : Typ) (n : ℕ) (ts : Trees) : Type 0 where
 mapped : (d : Typ) (n : ℕ) (ts : Trees) → plan d n (count ts) ≡ Some (places ts) → Takes (encodings ts) → IsMapped d n ts
 mapped (node (map b m) (more x (more y end))) n end h v = absurd (cc)
 mapped (node (map b m) (more x (more y end))) n (more t end) h v =
-    let p = first_is (place (node (list m) (more (entries (record { key = x; value = y; keys_sorted = b })) end)) n) (place (label t).dtype (label t).len) [] [] (some_is _ _ h) in
+    let p = heads (place (node (list m) (more (entries (record { key = x; value = y; keys_sorted = b })) end)) n) (place (label t).dtype (label t).len) [] [] (same_Some _ _ h) in
     record {
       lists = t;
       alone = refl;
@@ -45,7 +41,7 @@ mapped _ n ts h v = absurd (cc)
 
 planned : (d : Typ) (n : ℕ) (t : Tree) → AreEntries d n t → plan d n 1 ≡ Some (place (label t).dtype (label t).len ∷ [])
 planned (node (map b m) (more x (more y end))) n t s =
-    let typed : node (list m) (more (entries (record { key = x; value = y; keys_sorted = b })) end) ≡ (label t).dtype = some_is _ _ s.typed in
+    let typed : node (list m) (more (entries (record { key = x; value = y; keys_sorted = b })) end) ≡ (label t).dtype = same_Some _ _ s.typed in
     λ i. Some (place (typed i) (sym s.counted i) ∷ [])
 planned _ n t s = absurd (cc)
 

@@ -3,8 +3,10 @@ use Rattle.std.proofs.Common.{take, drop, get_or, ◌<◌, ℕ, suc, ◌≡◌, 
 use Rattle.std.proofs.lemmas.List.{take_all}
 use Rattle.std.proofs.lemmas.Bool.{false≢true, iff_false, lt-ltb}
 use Rattle.std.specs.Prelude.{◌↔◌, IsTrue}
+use Rattle.std.proofs.lemmas.Option.{none-some}
 use Rattle.vx_buffer.specs.Buffer.{Buffer}
 use Rattle.vx_trees.specs.Rose.{node, end, more, label, count, roses_of}
+use Rattle.vx_trees.proofs.LawsOfLists.{heads, tails}
 use Rattle.vx_types.specs.Content.{IsText}
 use Rattle.vx_types.specs.Kind as K
 use Rattle.vx_types.specs.Numbers.{is_integer}
@@ -41,21 +43,12 @@ pub front_is : (p : Place) (n : ℕ) (o : Tree) (vs : Trees) → before_validity
     → (place (label o).dtype (label o).len ≡ p) × (before_validity [] n (count vs) ≡ Some (places vs))
 front_is p n o vs e =
     let m = mapped (λ (qs : List Place). p ∷ qs) (before_validity [] n (count vs)) (places (more o vs)) e in
-    let q : place (label o).dtype (label o).len ≡ p = same (m.1) in
-    let r : places vs ≡ m.0 = tail (m.1) in
+    let q : place (label o).dtype (label o).len ≡ p = heads _ _ _ _ (m.1) in
+    let r : places vs ≡ m.0 = tails _ _ _ _ (m.1) in
     (q, m.2 ∙ ap (λ z. Some z) (sym r))
-  where
-    same : {x y : Place} {xs ys : List Place} → x ∷ xs ≡ y ∷ ys → x ≡ y
-    same z = cc
-
-    tail : {x y : Place} {xs ys : List Place} → x ∷ xs ≡ y ∷ ys → xs ≡ ys
-    tail z = cc
-
-none_some : {A : Type 0} (x : A) → None ≡ Some x → ⊥
-none_some x e = absurd (cc)
 
 some_planned : (n : ℕ) (v : PType) (ts : Trees) → planned n v (count ts) ≡ Some (places ts) → ts ≢ end
-some_planned n v end e = λ _. none_some _ (let_through (is_len (suc n)) _ _ e)
+some_planned n v end e = λ _. none-some _ (let_through (is_len (suc n)) _ _ e)
 some_planned n v (more o vs) e = λ q. absurd (cc)
 
 module _ (d : Typ) (n : ℕ) (b : Buffer) where

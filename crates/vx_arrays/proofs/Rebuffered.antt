@@ -1,6 +1,6 @@
 -- Arrays with other buffers, as their encodings make them.
 use Rattle.std.proofs.Common.{ℕ, suc, ◌≡◌, ◌≤◌, ◌-◌, take, drop, List, [], ◌∷◌, ◌++◌, Option, Some, None, Result, Ok, Err, IfOk, IfErr, length, get_or, option_map, refl, sym, ap, ◌∙◌, subst, arith}
-use Rattle.std.proofs.lemmas.Option.{same_Some}
+use Rattle.std.proofs.lemmas.Option.{same_Some, none-some}
 use Rattle.std.specs.Prelude.{IfSome, IsOkUnless, IsSomeAnd}
 use Rattle.vx_buffer.specs.Buffer.{Buffer}
 use Rattle.vx_trees.specs.Rose.{node, end, more, label, below, count, roses_of}
@@ -150,10 +150,7 @@ module _ (h : Head) (ts : Trees) (bs : List Buffer) (e : rebuffered h.body bs �
     bare_refused = subst (λ (o : Option Tree). IfSome o (λ v. IsMisshaped (label v) (below v))) (sym not_made) tt
 
     pub bare_unmade : (u : Tree) → with_buffers (node h ts) bs ≡ Some u → ⊥
-    bare_unmade u q = none_some u (sym not_made ∙ q)
-      where
-        none_some : (u : Tree) → None ≡ Some u → ⊥
-        none_some u q = absurd (cc)
+    bare_unmade u q = none-some u (sym not_made ∙ q)
 
   -- Without buffers such a node is what it was.
   pub bare_made : bs ≡ [] → with_buffers (node h ts) bs ≡ Some (node h ts)

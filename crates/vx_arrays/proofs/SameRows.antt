@@ -4,6 +4,7 @@ use Rattle.std.proofs.Common.{arith, get_or, sym, ap, ◌∙◌, subst, add-one}
 use Rattle.vx_trees.specs.Rose.{roses_of, roses_list}
 use Rattle.vx_trees.proofs.Counting.{nodes-at}
 use Rattle.vx_trees.proofs.Lists.{roses_list-roses_of}
+use Rattle.vx_trees.proofs.LawsOfLists.{heads, tails}
 use Rattle.vx_types.specs.Value.{Value}
 use Rattle.vx_arrays.specs.Falls.{value_size, slice_size}
 use Rattle.vx_arrays.specs.Plain.{plain_value, plain_values}
@@ -31,12 +32,6 @@ size-at vs i v h =
 
 pub roses_of-injective : (vs ws : List Value) → roses_of vs ≡ roses_of ws → vs ≡ ws
 roses_of-injective vs ws e = sym (roses_list-roses_of vs) ∙ ap roses_list e ∙ roses_list-roses_of ws
-
-heads : (v w : Value) (vs ws : List Value) → v ∷ vs ≡ w ∷ ws → v ≡ w
-heads v w vs ws e = cc
-
-tails : (v w : Value) (vs ws : List Value) → v ∷ vs ≡ w ∷ ws → vs ≡ ws
-tails v w vs ws e = cc
 
 both : (v w : Value) (vs ws : List Value) → v ≡ w → vs ≡ ws → v ∷ vs ≡ w ∷ ws
 both v w vs ws e f = λ i. e i ∷ f i

@@ -6,6 +6,7 @@ use Rattle.std.proofs.Common.{inl, inr}
 use Rattle.vx_trees.specs.Same.{same}
 use Rattle.vx_trees.proofs.Sameness.{same-decides}
 use Rattle.vx_trees.specs.Rose.{node, end, more, label, roses_of}
+use Rattle.vx_trees.proofs.LawsOfLists.{heads, tails}
 use Rattle.vx_types.specs.Fits.{Fits, IsVariant}
 use Rattle.vx_types.specs.Kind as K
 use Rattle.vx_types.specs.Typ.{Typ, typ_code}
@@ -116,12 +117,6 @@ same_take xs bs i a b h k p q e f = sym (values_more xs i a (all_seen (take i xs
 pub seen_more : (xs bs : List (Option ScalarValue)) (i : ℕ) (a b : Option ScalarValue) → i < length xs → i < length bs → a ≡ get_or xs i a → b ≡ get_or bs i b → all_seen (take i xs) ≡ all_seen (take i bs) → seen a ≡ seen b
     → all_seen (take (i + 1) xs) ≡ all_seen (take (i + 1) bs)
 seen_more xs bs i a b h k p q e f = same_take xs bs i a b h k p q e f
-
-heads : (v w : Value) (vs ws : List Value) → v ∷ vs ≡ w ∷ ws → v ≡ w
-heads v w vs ws e = cc
-
-tails : (v w : Value) (vs ws : List Value) → v ∷ vs ≡ w ∷ ws → vs ≡ ws
-tails v w vs ws e = cc
 
 -- The same lists have the same value at each place.
 pub seen_same : (xs bs : List (Option ScalarValue)) (i : ℕ) (a b : Option ScalarValue) → i < length xs → i < length bs → a ≡ get_or xs i a → b ≡ get_or bs i b → all_seen xs ≡ all_seen bs → seen a ≡ seen b

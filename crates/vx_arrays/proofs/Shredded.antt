@@ -5,6 +5,7 @@ use Rattle.std.proofs.lemmas.Bool.{false≢true}
 use Rattle.std.proofs.lemmas.Option.{none-some}
 use Rattle.vx_trees.specs.Rose.{node, end, more, label, count, roses_of}
 use Rattle.vx_trees.specs.Walks.{nodes, nodes_of}
+use Rattle.vx_trees.proofs.LawsOfLists.{heads, tails}
 use Rattle.vx_types.specs.Fits.{IsVariant}
 use Rattle.vx_types.specs.Kind as K
 use Rattle.vx_types.specs.Typ.{Typ, IsType}
@@ -18,12 +19,6 @@ use Rattle.vx_array_tree.proofs.Plans.{exactly_is}
 use Rattle.vx_arrays.specs.Places.{place_of}
 use Rattle.vx_arrays.specs.Variants.{AreRows, IsOfVariants, merged_cells, merged_row}
 
-first_place : (p q : Place) (ps qs : List Place) → p ∷ ps ≡ q ∷ qs → p ≡ q
-first_place p q ps qs e = cc
-
-other_places : (p q : Place) (ps qs : List Place) → p ∷ ps ≡ q ∷ qs → ps ≡ qs
-other_places p q ps qs e = cc
-
 -- ---- what a plan says
 
 -- A core of a type of variants and of n rows, and so many behind it.
@@ -35,11 +30,11 @@ pub record IsOverCore (d : Typ) (n : ℕ) (c : Tree) (us : Trees) : Type 0 where
 planned : (d : Typ) (n : ℕ) (c : Tree) (us : Trees) → plan d n (metadata_of (places (more c us))) (suc (count us)) ≡ Some (places (more c us)) → IsOverCore d n c us
 planned (node (K.variant m) end) n c end p =
     let e = exactly_is (place (node (K.variant m) end) n ∷ []) 1 (places (more c end)) p in
-    record { variants = tt; core = first_place _ _ _ _ e; behind = tt }
+    record { variants = tt; core = heads _ _ _ _ e; behind = tt }
 planned (node (K.variant m) end) n c (more s end) p =
     let e = exactly_is (place (node (K.variant m) end) n ∷ place (label s).dtype n ∷ []) 2 (places (more c (more s end))) p in
-    let f = first_place _ _ _ _ (other_places _ _ _ _ e) in
-    record { variants = tt; core = first_place _ _ _ _ e; behind = (ap (λ (q : Place). q.len) f, tt) }
+    let f = heads _ _ _ _ (tails _ _ _ _ e) in
+    record { variants = tt; core = heads _ _ _ _ e; behind = (ap (λ (q : Place). q.len) f, tt) }
 planned (node (K.variant m) end) n c (more s (more t us)) p = absurd (none-some _ p)
 planned _ n c us p = absurd (cc)
 

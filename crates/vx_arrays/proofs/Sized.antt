@@ -1,7 +1,8 @@
 -- The children of a node of lists of one size: its elements, and what stands behind them; and its rows.
-use Rattle.std.proofs.Common.{ℕ, suc, ◌≡◌, ◌≤◌, ◌<◌, ◌+◌, ◌*◌, ◌^◌, List, [], ◌∷◌, Option, Some, None, Bool, true, false, refl, sym, ap, ◌∙◌, subst, length, arith}
+use Rattle.std.proofs.Common.{ℕ, suc, ◌≡◌, ◌≤◌, ◌<◌, ◌+◌, ◌*◌, ◌^◌, List, [], ◌∷◌, Option, Some, Bool, true, false, refl, sym, ap, ◌∙◌, subst, length, arith}
 use Rattle.std.proofs.lemmas.Bool.{iff_false, false≢true, ltb-true}
 use Rattle.std.specs.Prelude.{◌↔◌, IsTrue}
+use Rattle.std.proofs.lemmas.Option.{none-some}
 use Rattle.vx_trees.specs.Rose.{node, end, more, label, count, roses_of}
 use Rattle.vx_trees.specs.Walks.{nodes, nodes_of}
 use Rattle.vx_trees.proofs.Lists.{count-roses_of}
@@ -40,9 +41,6 @@ passed false o ps e = absurd (cc)
 counted : (n : ℕ) → is_len n ≡ true → n < 2 ^ 64
 counted n h = ltb-true n (2 ^ 64) h
 
-none_some : {A : Type 0} (x : A) → None ≡ Some x → ⊥
-none_some x e = absurd (cc)
-
 -- ---- sound nodes
 
 module _ (d : Typ) (n : ℕ) (ts : Trees) (s : IsSoundNode (untold d n B.fixed_size_list) ts) where
@@ -61,7 +59,7 @@ module _ (d : Typ) (n : ℕ) (ts : Trees) (s : IsSoundNode (untold d n B.fixed_s
 
 -- There are elements.
 some_children : (p : Place) (n : ℕ) (ts : Trees) → before_validity (p ∷ []) n (count ts) ≡ Some (places ts) → 1 ≤ count ts
-some_children p n end e = absurd (none_some _ e)
+some_children p n end e = absurd (none-some _ e)
 some_children p n (more t ts) e = omega arith
 
 pub sound_some : (d : Typ) (n : ℕ) (ts : List Tree) → IsSoundNode (untold d n B.fixed_size_list) (roses_of ts) → 1 ≤ length ts

@@ -1,8 +1,10 @@
 -- The storage of a node of an extension, and its rows.
 use Rattle.std.proofs.Common.{ℕ, ◌≡◌, ◌<◌, ◌≤◌, List, [], ◌∷◌, ◌++◌, Some, refl, sym, ap, ◌∙◌, length, get_or, arith}
+use Rattle.std.proofs.lemmas.Option.{same_Some}
 use Rattle.vx_trees.specs.Rose.{node, end, more, label, count, roses_of, roses_list}
 use Rattle.vx_trees.proofs.Lists.{count-roses_of, roses_of-roses_list}
 use Rattle.vx_trees.specs.Walks.{nodes}
+use Rattle.vx_trees.proofs.LawsOfLists.{heads}
 use Rattle.vx_types.specs.Kind.{extension}
 use Rattle.vx_types.specs.Parts.{Ext}
 use Rattle.vx_types.specs.Typ.{Typ}
@@ -17,12 +19,6 @@ use Rattle.vx_arrays.specs.Extensions.{extension_tree, storage_of}
 
 -- ---- what a plan says
 
-some_is : {A : Type 0} (x y : A) → Some x ≡ Some y → x ≡ y
-some_is x y e = cc
-
-first_is : (p q : Place) (ps qs : List Place) → p ∷ ps ≡ q ∷ qs → p ≡ q
-first_is p q ps qs e = cc
-
 -- A node's only child, which stands at a place of its type's storage and of its length.
 pub record IsStored (d : Typ) (n : ℕ) (ts : Trees) : Type 0 where
   pub storage : Tree
@@ -33,14 +29,14 @@ pub record IsStored (d : Typ) (n : ℕ) (ts : Trees) : Type 0 where
 pub stored : (d : Typ) (n : ℕ) (ts : Trees) → plan d n (count ts) ≡ Some (places ts) → IsStored d n ts
 stored (node (extension x bs) (more e end)) n end h = absurd (cc)
 stored (node (extension x bs) (more e end)) n (more t end) h =
-    let p = first_is (place e n) (place (label t).dtype (label t).len) [] [] (some_is _ _ h) in
+    let p = heads (place e n) (place (label t).dtype (label t).len) [] [] (same_Some _ _ h) in
     record { storage = t; alone = refl; stands = ap (λ (q : Place). Some q.dtype) p; len_is = sym (ap (λ (q : Place). q.len) p) }
 stored (node (extension x bs) (more e end)) n (more t (more u us)) h = absurd (cc)
 stored _ n ts h = absurd (cc)
 
 pub planned : (d : Typ) (n : ℕ) (ts : Trees) → IsStored d n ts → plan d n (count ts) ≡ Some (places ts)
 planned (node (extension x bs) (more e end)) n ts s =
-    let typed : e ≡ (label s.storage).dtype = some_is _ _ s.stands in
+    let typed : e ≡ (label s.storage).dtype = same_Some _ _ s.stands in
     rw s.alone (λ i. Some (place (typed i) (sym s.len_is i) ∷ []))
 planned _ n ts s = absurd (cc)
 

@@ -4,11 +4,13 @@ use Rattle.std.proofs.lemmas.Bool.{false≢true, eq-eqb, ne_eqb}
 use Rattle.std.proofs.Math.Nat.{eq-or-lt_of_le}
 use Rattle.std.specs.Prelude.{◌↔◌, ◌⊎◌, IsTrue, is_some, if◌then◌else◌, unwrap_or, min}
 use Rattle.std.proofs.Common.{inl, inr}
+use Rattle.std.proofs.lemmas.Option.{same_Some}
 use Rattle.vx_trees.specs.Rose.{node, end, more, label, count, roses_of}
 use Rattle.vx_trees.specs.Walks.{nodes, nodes_of}
 use Rattle.vx_types.specs.Fits.{member}
 use Rattle.vx_types.specs.Kind.{Kind, primitive, union as union_kind}
 use Rattle.vx_trees.specs.Rose.{Roses}
+use Rattle.vx_trees.proofs.LawsOfLists.{heads, tails}
 use Rattle.vx_types.specs.Parts.{Members}
 use Rattle.vx_types.specs.Typ.{Typ}
 use Rattle.vx_types.specs.Value.{lone, null, opaque, union, natural}
@@ -45,24 +47,15 @@ mapped_some f (Some x) = refl
 some_member : (tag : ℕ) (ids : List ℕ) (us : Trees) → is_some (member_rows tag ids (rows_below us)) ≡ is_some (member tag ids us)
 some_member tag ids us = ap (λ (o : Option Rows). is_some o) (rows_of_member tag ids us) ∙ mapped_some rows_of (member tag ids us)
 
-some_is : {A : Type 0} (x y : A) → Some x ≡ Some y → x ≡ y
-some_is x y e = cc
-
 -- The one that is named is one of the trees.
 chosen_smaller : (b : Bool) (t : Tree) (us : Trees) (a : Tree) (o : Option Tree) → (Some a ≡ o → nodes a ≤ nodes_of us) → Some a ≡ (if b then Some t else o) → nodes a ≤ nodes_of (more t us)
-chosen_smaller true t us a o h e = omega (arith, ap (λ (z : Tree). nodes z) (some_is a t e))
+chosen_smaller true t us a o h e = omega (arith, ap (λ (z : Tree). nodes z) (same_Some a t e))
 chosen_smaller false t us a o h e = omega (arith, h e)
 
 named_smaller : (tag : ℕ) (ids : List ℕ) (us : Trees) (a : Tree) → Some a ≡ member tag ids us → nodes a ≤ nodes_of us
 named_smaller tag [] us a e = absurd (cc)
 named_smaller tag (x ∷ ids) end a e = absurd (cc)
 named_smaller tag (x ∷ ids) (more t us) a e = chosen_smaller (tag == x) t us a (member tag ids us) (λ q. named_smaller tag ids us a q) e
-
-first_place : (p q : Place) (ps qs : List Place) → p ∷ ps ≡ q ∷ qs → p ≡ q
-first_place p q ps qs e = cc
-
-other_places : (p q : Place) (ps qs : List Place) → p ∷ ps ≡ q ∷ qs → ps ≡ qs
-other_places p q ps qs e = cc
 
 no_places : (p : Place) (ps : List Place) → p ∷ ps ≡ [] → ⊥
 no_places p ps e = absurd (cc)
@@ -71,7 +64,7 @@ some_places : (p : Place) (ps : List Place) → [] ≡ p ∷ ps → ⊥
 some_places p ps e = absurd (cc)
 
 chosen_len : (b : Bool) (t : Tree) (n : ℕ) (a : Tree) (o : Option Tree) → (label t).len ≡ n → (Some a ≡ o → (label a).len ≡ n) → Some a ≡ (if b then Some t else o) → (label a).len ≡ n
-chosen_len true t n a o l h e = ap (λ (z : Tree). (label z).len) (some_is a t e) ∙ l
+chosen_len true t n a o l h e = ap (λ (z : Tree). (label z).len) (same_Some a t e) ∙ l
 chosen_len false t n a o l h e = h e
 
 named_len : (tag : ℕ) (ids : List ℕ) (us : Trees) (ds : Roses Kind) (n : ℕ) (a : Tree) → places us ≡ places_at ds n → Some a ≡ member tag ids us → (label a).len ≡ n
@@ -79,7 +72,7 @@ named_len tag [] us ds n a p e = absurd (cc)
 named_len tag (x ∷ ids) end ds n a p e = absurd (cc)
 named_len tag (x ∷ ids) (more t us) end n a p e = absurd (no_places _ _ p)
 named_len tag (x ∷ ids) (more t us) (more d ds) n a p e =
-    chosen_len (tag == x) t n a (member tag ids us) (ap (λ (z : Place). z.len) (first_place _ _ _ _ p)) (λ q. named_len tag ids us ds n a (other_places _ _ _ _ p) q) e
+    chosen_len (tag == x) t n a (member tag ids us) (ap (λ (z : Place). z.len) (heads _ _ _ _ p)) (λ q. named_len tag ids us ds n a (tails _ _ _ _ p) q) e
 
 -- ---- the tags one by one
 
@@ -162,13 +155,13 @@ module _ (v : Members) (m : Nullability) (n : ℕ) where
     pub members_decide : (r : Bool) → place_of t ≡ place (node (primitive U8 m) end) n → (IsTrue r ↔ (places us ≡ places_at (roses_of v.types) n)) → IsTrue r ↔ IsWellShaped (union_head v m n) ts
     members_decide r p g = (
       λ x. subst (λ (zs : Trees). IsWellShaped (union_head v m n) zs) (sym e) (union_shaped (more t us) (both_places p (g.0 x))),
-      λ s. g.1 (other_places _ _ _ _ (shaped_union (more t us) (subst (λ (zs : Trees). IsWellShaped (union_head v m n) zs) e s))),
+      λ s. g.1 (tails _ _ _ _ (shaped_union (more t us) (subst (λ (zs : Trees). IsWellShaped (union_head v m n) zs) e s))),
     )
 
     pub other_tags : (b : Bool) → (IsTrue b ↔ (place_of t ≡ place (node (primitive U8 m) end) n)) → b ≡ false → IsTrue b ↔ IsWellShaped (union_head v m n) ts
     other_tags b g q = (
       λ x. absurd (false≢true (sym q ∙ x)),
-      λ s. absurd (false≢true (sym q ∙ g.1 (first_place _ _ _ _ (shaped_union (more t us) (subst (λ (zs : Trees). IsWellShaped (union_head v m n) zs) e s))))),
+      λ s. absurd (false≢true (sym q ∙ g.1 (heads _ _ _ _ (shaped_union (more t us) (subst (λ (zs : Trees). IsWellShaped (union_head v m n) zs) e s))))),
     )
 
 -- ---- what a node is made of
@@ -199,7 +192,7 @@ module _ (d : Typ) (n : ℕ) (ts us : Trees) (t : Tree) (e : more t us ≡ ts) w
   parted_places o = subst (λ (zs : Trees). IsOfMembers d n zs) (sym e) o
 
   tags_len : IsOfMembers d n (more t us) → (label t).len ≡ n
-  tags_len o = ap (λ (p : Place). p.len) (first_place _ _ _ _ o.stand)
+  tags_len o = ap (λ (p : Place). p.len) (heads _ _ _ _ o.stand)
 
   pub shaped_tags : IsWellShaped (untold d n B.union) ts → (label t).len ≡ n
   shaped_tags s = tags_len (parted_places (of_members d n ts s.planned))
@@ -274,7 +267,7 @@ module _ (d : Typ) (n : ℕ) (ts us : Trees) (t : Tree) (e : more t us ≡ ts) w
         pub tagged_there : i < (label a).len
         tagged_there =
             let o = parted_places (of_members d n ts s.planned) in
-            omega (arith, l, named_len number (tags_of d) us o.types n a (other_places _ _ _ _ o.stand) f)
+            omega (arith, l, named_len number (tags_of d) us o.types n a (tails _ _ _ _ o.stand) f)
 
         pub tagged_smaller : nodes a ≤ nodes_of ts
         tagged_smaller = omega (arith, named_smaller number (tags_of d) us a f, ap (λ (zs : Trees). nodes_of zs) e)

@@ -1,6 +1,7 @@
 -- Children of which a validity is the only one, or stands behind another.
 use Rattle.std.proofs.Common.{ℕ, zero, suc, ◌≡◌, ◌≤◌, ◌<◌, ◌-◌, ◌++◌, List, [], ◌∷◌, Option, Some, None, length, option_map, refl, sym, ap, ◌∙◌, arith}
 use Rattle.vx_trees.specs.Rose.{end, more, count, label}
+use Rattle.vx_trees.proofs.LawsOfLists.{heads, tails}
 use Rattle.vx_array_tree.specs.Place.{Place, place, before_validity, validity_place}
 use Rattle.vx_array_tree.specs.Tree.{Tree, Trees, places}
 use Rattle.vx_array_tree.proofs.Options.{mapped}
@@ -23,19 +24,13 @@ behind_few p n (suc k) end e = let m = mapped (λ (qs : List Place). p ∷ qs) (
     no_places p ps e = absurd (cc)
 behind_few p n (suc k) (more u us) e =
     let m = mapped (λ (qs : List Place). p ∷ qs) (before_validity [] n k) (places (more u us)) e in
-    let few = validity_few n k us (m.2 ∙ ap (λ (z : List Place). Some z) (sym (rest_is (m.1)))) in
+    let few = validity_few n k us (m.2 ∙ ap (λ (z : List Place). Some z) (sym (tails _ _ _ _ (m.1)))) in
     (omega arith, omega (arith, few.0), ap (λ j. suc j) few.1)
-  where
-    rest_is : {x y : Place} {xs ys : List Place} → x ∷ xs ≡ y ∷ ys → xs ≡ ys
-    rest_is z = cc
 
 -- The child in front of it is at its place.
 pub behind_place : (p : Place) (n k : ℕ) (o : Tree) (vs : Trees) → before_validity (p ∷ []) n k ≡ Some (places (more o vs)) → place (label o).dtype (label o).len ≡ p
 behind_place p n zero o vs e = absurd (cc)
-behind_place p n (suc k) o vs e = let m = mapped (λ (qs : List Place). p ∷ qs) (before_validity [] n k) (places (more o vs)) e in first_is (m.1)
-  where
-    first_is : {x y : Place} {xs ys : List Place} → x ∷ xs ≡ y ∷ ys → x ≡ y
-    first_is z = cc
+behind_place p n (suc k) o vs e = let m = mapped (λ (qs : List Place). p ∷ qs) (before_validity [] n k) (places (more o vs)) e in heads _ _ _ _ (m.1)
 
 -- ---- behind any number of children
 

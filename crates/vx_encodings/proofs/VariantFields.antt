@@ -1,5 +1,6 @@
 -- The metadata of variants: bytes that show a type, or none, and what readers know of it.
 use Rattle.std.proofs.Common.{ℕ, ◌≡◌, ◌^◌, ◌≤◌, ◌<◌, Option, Some, None, option_map, List, [], ◌∷◌, length, Result, Ok, Err, IfOk, refl, sym, ap, ◌∙◌, subst, arith}
+use Rattle.std.proofs.lemmas.Option.{none-some, same_Some}
 use Rattle.vx_trees.specs.Rose.{roses_of}
 use Rattle.vx_trees.specs.Walks.{levels}
 use Rattle.vx_types.specs.Known.{ExtMeaning}
@@ -30,21 +31,15 @@ use Rattle.vx_encodings.specs.declared.error.EncodingError.TheVariants.{OutOfMem
 
 -- ---- one type
 
-some_is : (v w : Value) → Some v ≡ Some w → v ≡ w
-some_is v w e = cc
-
-no_some : (v : Value) → None ≡ Some v → ⊥
-no_some v e = absurd (cc)
-
 -- A plain value is that of one message of a type, or of none.
 same_slot : (v w : Option Value) → variant_value v ≡ variant_value w → v ≡ w
 same_slot v w e = ap (λ (p : Option Value × Unit {0}). p.0) (variant_parts.same (v, tt) (w, tt) e)
 
 same_types : (a b : Option Typ) → IsFair a → IsFair b → option_map type_message a ≡ option_map type_message b → a ≡ b
 same_types None None f g e = refl
-same_types None (Some u) f g e = absurd (no_some (type_message u) e)
-same_types (Some t) None f g e = absurd (no_some (type_message t) (sym e))
-same_types (Some t) (Some u) f g e = ap (λ (z : Typ). Some z) (message-injective t u f g (some_is (type_message t) (type_message u) e))
+same_types None (Some u) f g e = absurd (none-some (type_message u) e)
+same_types (Some t) None f g e = absurd (none-some (type_message t) (sym e))
+same_types (Some t) (Some u) f g e = ap (λ (z : Typ). Some z) (message-injective t u f g (same_Some (type_message t) (type_message u) e))
 
 one_read : (bytes : List ℕ) (a b : Option Typ) → IsFair a → IsFair b → Reads variant_schema 14 bytes (shredded_value a) → Reads variant_schema 14 bytes (shredded_value b) → a ≡ b
 one_read bytes a b f g r s = same_types a b f g (same_slot (option_map type_message a) (option_map type_message b) (reads_one variant_schema 14 bytes (shredded_value a) (shredded_value b) r s))
@@ -129,10 +124,10 @@ few_levels t f n = omega (arith, n, type_depth t f)
 pub type_untold : (x : ExtMeaning) (bytes : List ℕ) (v : Option Value) (m : Value) → Reads variant_schema 14 bytes (variant_value v) → nested (variant_value v) ≤ 100 → v ≡ Some m
     → ((t : Typ) → levels t ≤ 50 → IsRead (IsMessageOf m) x t → ⊥) → (d : Option Typ) → IsShredded x bytes d → ⊥
 type_untold x bytes v m r n e never None s =
-    no_some m (sym (same_slot v None (reads_one variant_schema 14 bytes (variant_value v) (variant_value None) r s.reads)) ∙ e)
+    none-some m (sym (same_slot v None (reads_one variant_schema 14 bytes (variant_value v) (variant_value None) r s.reads)) ∙ e)
 type_untold x bytes v m r n e never (Some t) s =
     let q : v ≡ Some (type_message t) = same_slot v (Some (type_message t)) (reads_one variant_schema 14 bytes (variant_value v) (shredded_value (Some t)) r s.reads) in
-    let is : m ≡ type_message t = some_is m (type_message t) (sym e ∙ q) in
+    let is : m ≡ type_message t = same_Some m (type_message t) (sym e ∙ q) in
     never t (few_levels t s.is_type (subst (λ (z : Option Value). nested (variant_value z) ≤ 100) q n)) (record { shows = record { is_type = s.is_type; is = is }; known = s.known })
 
 pub types_unknown : (x : ExtMeaning) (bytes : List ℕ) (v : Option Value) (m : Value) (error : EncodingError) → Reads variant_schema 14 bytes (variant_value v) → nested (variant_value v) ≤ 100 → v ≡ Some m → IsUnknownMessage error x m → IsUnshredded error x bytes

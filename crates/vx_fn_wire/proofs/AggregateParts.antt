@@ -3,6 +3,7 @@ use Rattle.std.proofs.Common.{◌≡◌, ◌⊎◌, inl, inr, Bool, ℕ, List, [
 use Rattle.std.specs.Prelude.{IsErr}
 use Rattle.std.specs.Str.{IsUtf8}
 use Rattle.std.proofs.lemmas.Str.{is_utf8-from_IsUtf8}
+use Rattle.std.proofs.lemmas.Option.{none-some, same_Some}
 use Rattle.vx_proto.specs.Schema.{plain, optional, field}
 use Rattle.vx_proto.specs.declared.schema.Kind.TheVariants.{Scalar}
 use Rattle.vx_proto.specs.declared.schema.ScalarKind.TheVariants.{String, Bytes}
@@ -68,29 +69,23 @@ parts v h =
       metadata_there = ap (λ w. octets_in (entries_in w 1)) two.is ∙ ap octets_in metadata.1 ∙ octets_there 2 metadata.0;
     }
 
-some_same : {A : Type 0} (x y : A) → Some x ≡ Some y → x ≡ y
-some_same x y e = cc
-
-none_some : {A : Type 0} (x : A) → None ≡ Some x → ⊥
-none_some x e = absurd (cc)
-
 -- The identifier of a message of the form is found.
 pub id_found : (v w : Value) → HasForm aggregate_lists 0 v → w ≡ v → None ≡ text_in (entries_in w 0) → ⊥
 id_found v w h same none =
     let p = parts v h in
-    none_some p.id (none ∙ ap (λ z. text_in (entries_in z 0)) same ∙ p.id_there)
+    none-some p.id (none ∙ ap (λ z. text_in (entries_in z 0)) same ∙ p.id_there)
 
 -- What the accessors find of a message of the form is what it holds.
 pub parts_found : (v w : Value) (id : List ℕ) (m : Option (List ℕ)) → HasForm aggregate_lists 0 v → w ≡ v → Some id ≡ text_in (entries_in w 0) → m ≡ octets_in (entries_in w 1) → HoldsAggregate v id m
 parts_found v w id m h same found metadata =
     let p = parts v h in
-    let id_is : id ≡ p.id = some_same id p.id (found ∙ ap (λ z. text_in (entries_in z 0)) same ∙ p.id_there) in
+    let id_is : id ≡ p.id = same_Some id p.id (found ∙ ap (λ z. text_in (entries_in z 0)) same ∙ p.id_there) in
     let m_is : m ≡ p.metadata = metadata ∙ ap (λ z. octets_in (entries_in z 1)) same ∙ p.metadata_there in
     p.holds ∙ sym (λ i. one_octets 1 (id_is i) ∷ optional_octets 2 (m_is i) ∷ [])
 
 -- A message holds one identifier and one metadata.
 one_id : (v : Value) (a b : List ℕ) (m n : Option (List ℕ)) → HoldsAggregate v a m → HoldsAggregate v b n → a ≡ b
-one_id v a b m n h k = some_same a b (sym (ap (λ z. octets_in (entries_in z 0)) h) ∙ ap (λ z. octets_in (entries_in z 0)) k)
+one_id v a b m n h k = same_Some a b (sym (ap (λ z. octets_in (entries_in z 0)) h) ∙ ap (λ z. octets_in (entries_in z 0)) k)
 
 one_metadata : (v : Value) (a b : List ℕ) (m n : Option (List ℕ)) → HoldsAggregate v a m → HoldsAggregate v b n → m ≡ n
 one_metadata v a b m n h k =

@@ -1,6 +1,7 @@
 -- The parts of the message of an expression, and the children that are read of them.
 use Rattle.std.proofs.Common.{◌≡◌, ◌<◌, ◌≤◌, ◌+◌, ℕ, zero, suc, Bool, List, [], ◌∷◌, ◌++◌, length, take, get_or, Option, Some, None, refl, ap, sym, subst, ◌∙◌, arith}
 use Rattle.std.proofs.lemmas.List.{take_more, take_all}
+use Rattle.std.proofs.lemmas.Option.{none-some, same_Some}
 use Rattle.vx_trees.specs.Rose.{Roses, end, more, count, roses_of}
 use Rattle.vx_proto.specs.Schema.{plain, optional, repeated}
 use Rattle.vx_proto.specs.declared.element.Element.{Element}
@@ -14,7 +15,7 @@ use Rattle.vx_proto.specs.Written.{content_depth, entries_depth, slots_depth}
 use Rattle.vx_proto.proofs.LawsOfForms.{slots_of_form, same_content, same_others}
 use Rattle.vx_proto.proofs.LawsOfRepeated.{holds_message}
 use Rattle.vx_proto.proofs.LawsOfSlots.{three_of}
-use Rattle.vx_proto.proofs.LawsOfViews.{message_is, some_value, no_value, held_depth, entry_depth_le, slot_depth_in, entry_form}
+use Rattle.vx_proto.proofs.LawsOfViews.{message_is, held_depth, entry_depth_le, slot_depth_in, entry_form}
 use Rattle.vx_fn_wire.specs.Expr.{Head, Expr}
 use Rattle.vx_fn_wire.specs.ReadsExpr.{HoldsExpr, IsMessageOf, AreMessagesOf}
 use Rattle.vx_fn_wire.specs.Schema.{expr_lists}
@@ -74,13 +75,13 @@ children_formed v es h same = subst (FormEntries F (nested_member 2 0 ∷ [])) (
 pub child_held : (es : List (ℕ × Element)) (i : ℕ) (x : ℕ × Element) → i < length es → x ≡ get_or es i x → FormEntries F (nested_member 2 0 ∷ []) (entries_view es) → None ≡ message_of (view x.1) → ⊥
 child_held es i x lt is f none =
     let h = holds_message F 2 0 (x.0, view x.1) (entry_form F (nested_member 2 0 ∷ []) es i x lt is f) in
-    no_value h.value (none ∙ message_is (view x.1) h.value (ap (λ (e : Entry). e.1) h.is))
+    none-some h.value (none ∙ message_is (view x.1) h.value (ap (λ (e : Entry). e.1) h.is))
 
 -- It has the form.
 pub child_form : (es : List (ℕ × Element)) (i : ℕ) (x : ℕ × Element) (w : Value) → i < length es → x ≡ get_or es i x → FormEntries F (nested_member 2 0 ∷ []) (entries_view es) → Some w ≡ message_of (view x.1) → HasForm expr_lists 0 w
 child_form es i x w lt is f some =
     let h = holds_message F 2 0 (x.0, view x.1) (entry_form F (nested_member 2 0 ∷ []) es i x lt is f) in
-    subst (F 0) (sym (some_value w h.value (some ∙ message_is (view x.1) h.value (ap (λ (e : Entry). e.1) h.is)))) h.form
+    subst (F 0) (sym (same_Some w h.value (some ∙ message_is (view x.1) h.value (ap (λ (e : Entry). e.1) h.is)))) h.form
 
 -- It is the child at that place.
 pub record IsAt (vs : List Value) (i : ℕ) (w : Value) : Type 0 where
@@ -92,7 +93,7 @@ child_at [] vs i x w lt is some same = absurd (omega arith)
 child_at (y ∷ es) [] i x w lt is some same = absurd cc
 child_at (y ∷ es) (v ∷ vs) zero x w lt is some same =
     let held : view y.1 ≡ message (slots_of v) = same_content y.0 2 (view y.1) (message (slots_of v)) (entries_view es) (messages (λ w. w) 2 vs) same in
-    let this : w ≡ v = some_value w v (some ∙ ap (λ (z : ℕ × Element). message_of (view z.1)) is ∙ message_is (view y.1) v held) in
+    let this : w ≡ v = same_Some w v (some ∙ ap (λ (z : ℕ × Element). message_of (view z.1)) is ∙ message_is (view y.1) v held) in
     record { within = omega arith; at = this }
 child_at (y ∷ es) (v ∷ vs) (suc i) x w lt is some same =
     let r = child_at es vs i x w (omega arith) is some (same_others y.0 2 (view y.1) (message (slots_of v)) (entries_view es) (messages (λ w. w) 2 vs) same) in

@@ -2,6 +2,7 @@
 use Rattle.std.specs.Prelude.{◌≡◌, ◌≤◌, ℕ, zero, suc, ◌⊎◌, Bool, true, false, cond, eqb, List, [], ◌∷◌, length, Some, None, refl}
 use Rattle.std.proofs.Common.{sym, ap, subst, ◌∙◌, inl, inr, arith}
 use Rattle.std.proofs.lemmas.Bool.{eqb-true}
+use Rattle.std.proofs.lemmas.Option.{none-some}
 use Rattle.vx_proto.specs.declared.schema.Kind.{Kind}
 use Rattle.vx_proto.specs.declared.schema.Kind.TheVariants.{Scalar, Message}
 use Rattle.vx_proto.specs.declared.schema.Member.{Member}
@@ -98,10 +99,7 @@ first_or_later F m ms es h = go (eqb m.number h.name) refl h.has
 
 -- A slot without members holds none.
 pub holds_none : (F : ℕ → Value → Type 0) (es : List Entry) → HoldsOne F [] es → ⊥
-holds_none F es h = absurd (no_kind h.kind h.has)
-  where
-    no_kind : (k : Kind) → None ≡ Some k → ⊥
-    no_kind k e = absurd cc
+holds_none F es h = absurd (none-some h.kind h.has)
 
 -- A slot with one member that need not stand: empty, or holding that member.
 pub none_or_one : (F : ℕ → Value → Type 0) (m : Member) (es : List Entry) → length es ≤ 1 → FormEntries F (m ∷ []) es → (es ≡ []) ⊎ HoldsMember F m es

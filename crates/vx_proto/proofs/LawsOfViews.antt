@@ -1,7 +1,8 @@
 -- What the code holds as plain values, put together and taken apart: for the types that are messages.
-use Rattle.std.specs.Prelude.{◌≡◌, ◌<◌, ◌≤◌, ℕ, zero, suc, List, [], ◌∷◌, ◌++◌, length, get_or, map, Some, None, refl}
+use Rattle.std.specs.Prelude.{◌≡◌, ◌<◌, ◌≤◌, ℕ, zero, suc, List, [], ◌∷◌, ◌++◌, length, get_or, map, Some, refl}
 use Rattle.std.specs.Global.{Vec}
 use Rattle.std.proofs.Common.{sym, ap, subst, ◌∙◌, arith}
+use Rattle.std.proofs.lemmas.Option.{same_Some}
 use Rattle.vx_proto.specs.declared.element.Element.{Element, fold-roll-Element}
 use Rattle.vx_proto.specs.declared.element.Element.TheOpen.{Element-F}
 use Rattle.vx_proto.specs.declared.element.Element.TheVariants.{rolls-Message}
@@ -36,14 +37,6 @@ slots_back : (v : Slots) → slots_of (value_of v) ≡ v
 slots_back no_slots = refl
 slots_back (slot es v) = ap (λ x. slot x (slots_of (value_of v))) (list_back es) ∙ ap (slot es) (slots_back v)
 
--- Values that stand are equal where their options are.
-pub some_value : (v w : Value) → Some v ≡ Some w → v ≡ w
-some_value v w e = cc
-
--- No value is one that stands.
-pub no_value : (v : Value) → None ≡ Some v → ⊥
-no_value v e = absurd cc
-
 -- The message that a member holds, where it is known.
 pub message_is : (e : Content) (v : Value) → e ≡ message (slots_of v) → message_of e ≡ Some v
 message_is e v is = ap message_of is ∙ ap (λ (w : Value). Some w) (value_again v)
@@ -54,7 +47,7 @@ message_is e v is = ap message_of is ∙ ap (λ (w : Value). Some w) (value_agai
 pub held_depth : (e : Content) (w : Value) → message_of e ≡ Some w → suc (slots_depth (slots_of w)) ≡ content_depth e
 held_depth (number n) w h = absurd cc
 held_depth (octets s) w h = absurd cc
-held_depth (message v) w h = ap (λ (u : Slots). suc (slots_depth u)) (ap slots_of (sym (some_value (value_of v) w h)) ∙ slots_back v)
+held_depth (message v) w h = ap (λ (u : Slots). suc (slots_depth u)) (ap slots_of (sym (same_Some (value_of v) w h)) ∙ slots_back v)
 
 -- A member nests no deeper than its slot.
 pub entry_depth_le : (es : List (ℕ × Element)) (i : ℕ) (x : ℕ × Element) → i < length es → x ≡ get_or es i x → content_depth (view x.1) ≤ entries_depth (entries_of (entries_view es))

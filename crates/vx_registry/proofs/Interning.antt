@@ -4,6 +4,7 @@ use Rattle.std.specs.Prelude.{bytes_eq}
 use Rattle.std.specs.List.{position_or_len}
 use Rattle.std.proofs.lemmas.Bool.{lt-ltb}
 use Rattle.std.proofs.lemmas.List.Recursion.{is_position_or_len}
+use Rattle.std.proofs.lemmas.Option.{cond_some}
 use Rattle.vx_registry.proofs.LawsContexts.{index_of-absent, index_of-end}
 use Rattle.vx_wire_tree.specs.Context.{Context, is_among, index_of, with_id, with_ids, is_allowed, interned}
 
@@ -12,15 +13,11 @@ use Rattle.vx_wire_tree.specs.Context.{Context, is_among, index_of, with_id, wit
 past : (n m : ℕ) → m ≤ n → nat_lt n m ≡ false
 past n m h = grind arith
 
-some_is : (b : Bool) (n i : ℕ) → cond b (Some n) None ≡ Some i → n ≡ i
-some_is true n i e = cc
-some_is false n i e = absurd (cc)
-
 -- one that it has, has the place where it is found
 pub index_of-found : (id : List ℕ) (ids : List (List ℕ)) (i : ℕ) → position (bytes_eq id) ids ≡ Some i → index_of id ids ≡ i
 index_of-found id ids i e =
     is_position_or_len (index_of id) (bytes_eq id) refl (λ x xs. ap (λ n. cond (bytes_eq id x) 0 n) (omega arith)) ids
-    ∙ some_is (nat_lt (position_or_len (bytes_eq id) ids) (length ids)) (position_or_len (bytes_eq id) ids) i e
+    ∙ (cond_some (nat_lt (position_or_len (bytes_eq id) ids) (length ids)) (position_or_len (bytes_eq id) ids) i e).1
 
 -- an identifier that may come, at a place that a number names
 pub interned-some : (c : Context) (id : List ℕ) (ids : List (List ℕ)) → is_allowed c.allowed id ≡ true → index_of id c.ids < 65536 → ids ≡ with_id id c.ids

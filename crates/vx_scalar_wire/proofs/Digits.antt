@@ -6,6 +6,7 @@ use Rattle.std.proofs.Common.{◌≡◌, ◌∙◌, ◌<◌, ◌^◌, ◌+◌, �
 use Rattle.std.proofs.Math.Arith.{mod-mul}
 use Rattle.std.proofs.Math.Nat.{div-div-eq-div-mul, mod-eq_of_lt}
 use Rattle.std.proofs.lemmas.Int.{ints, of_z-to_z, to_z-of_z}
+use Rattle.vx_trees.proofs.LawsOfLists.{heads, tails}
 use Rattle.vx_types.specs.Value as V
 use Rattle.vx_types.specs.Value.{DecimalValue}
 use Rattle.vx_types.specs.Content.{AreBytes}
@@ -13,12 +14,6 @@ use Rattle.vx_types.specs.Well.{IsDecimalInRange}
 use Rattle.vx_scalar_wire.specs.ScalarMessage.{decimal_bytes}
 
 -- ---- digits
-
-head_same : (a b : ℕ) (xs ys : List ℕ) → a ∷ xs ≡ b ∷ ys → a ≡ b
-head_same a b xs ys e = cc
-
-tail_same : (a b : ℕ) (xs ys : List ℕ) → a ∷ xs ≡ b ∷ ys → xs ≡ ys
-tail_same a b xs ys e = cc
 
 byte_is : (i n : ℕ) → byte_at i n ≡ n / 256 ^ i % 256
 byte_is zero n = omega arith
@@ -43,8 +38,8 @@ next_digits i n = ap (λ p. n / p) (power i) ∙ sym (div-div-eq-div-mul n (256 
 digits : (k i n m : ℕ) → bytes_low_first i k n ≡ bytes_low_first i k m → n / 256 ^ i % 256 ^ k ≡ m / 256 ^ i % 256 ^ k
 digits zero i n m e = no_digit (n / 256 ^ i) (m / 256 ^ i)
 digits (suc k) i n m e =
-    let low : n / 256 ^ i % 256 ≡ m / 256 ^ i % 256 = sym (byte_is i n) ∙ head_same _ _ _ _ e ∙ byte_is i m in
-    let high : n / 256 ^ suc i % 256 ^ k ≡ m / 256 ^ suc i % 256 ^ k = digits k (suc i) n m (tail_same _ _ _ _ e) in
+    let low : n / 256 ^ i % 256 ≡ m / 256 ^ i % 256 = sym (byte_is i n) ∙ heads _ _ _ _ e ∙ byte_is i m in
+    let high : n / 256 ^ suc i % 256 ^ k ≡ m / 256 ^ suc i % 256 ^ k = digits k (suc i) n m (tails _ _ _ _ e) in
     let next : n / 256 ^ i / 256 % 256 ^ k ≡ m / 256 ^ i / 256 % 256 ^ k =
     ap (λ q. q % 256 ^ k) (sym (next_digits i n)) ∙ high ∙ ap (λ q. q % 256 ^ k) (next_digits i m) in
     split k (n / 256 ^ i) ∙ (λ j. next j * 256 + low j) ∙ sym (split k (m / 256 ^ i))
@@ -179,7 +174,7 @@ same_size : (x y : DecimalValue) → IsDecimalInRange x → IsDecimalInRange y �
 same_size x y h g e = sym (sized x h) ∙ ap length e ∙ sized y g
 
 one_of_size : (x y : DecimalValue) → IsDecimalInRange x → IsDecimalInRange y → decimal_bytes x ≡ decimal_bytes y → size x ≡ size y → x ≡ y
-one_of_size (V.i8 y) (V.i8 z) h g e s = ap V.i8 (one_cast w8 y z h g (head_same _ _ _ _ e))
+one_of_size (V.i8 y) (V.i8 z) h g e s = ap V.i8 (one_cast w8 y z h g (heads _ _ _ _ e))
 one_of_size (V.i16 y) (V.i16 z) h g e s = ap V.i16 (one_16 y z h g e)
 one_of_size (V.i32 y) (V.i32 z) h g e s = ap V.i32 (one_32 y z h g e)
 one_of_size (V.i64 y) (V.i64 z) h g e s = ap V.i64 (one_64 y z h g e)

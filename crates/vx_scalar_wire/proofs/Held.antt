@@ -4,6 +4,7 @@ use Rattle.std.specs.Global.{Vec}
 use Rattle.vx_proto.specs.declared.element.Element.{Element}
 use Rattle.vx_proto.specs.declared.element.Element.TheViews.{Message as as_a_message}
 use Rattle.std.proofs.lemmas.Bool.{eqb-true}
+use Rattle.std.proofs.lemmas.Option.{none-some, same_Some}
 use Rattle.vx_proto.specs.declared.schema.Member.{Member}
 use Rattle.vx_proto.specs.declared.schema.Kind.{Kind}
 use Rattle.vx_proto.specs.declared.schema.Kind.TheVariants.{Scalar, Message}
@@ -16,7 +17,7 @@ use Rattle.vx_proto.specs.Value.{Content, Entry, Value, number, octets, message,
 use Rattle.vx_proto.proofs.LawsOfForms.{HoldsMember, HoldsOne, at_most_one, slots_of_form, same_message, same_number, same_others, same_slot, same_form}
 use Rattle.vx_proto.proofs.LawsOfRepeated.{holds_message, shows_message}
 use Rattle.vx_proto.proofs.LawsOfSlots.{Has, nested_holds, plain_holds, two_of}
-use Rattle.vx_proto.proofs.LawsOfViews.{entry_form, message_is, some_value, no_value}
+use Rattle.vx_proto.proofs.LawsOfViews.{entry_form, message_is}
 use Rattle.vx_type_wire.specs.TypeMessage.{type_lists, type_lists_lawful, one_number, one_message}
 use Rattle.vx_type_wire.specs.Known.{ExtMeaning}
 use Rattle.vx_types.specs.Typ.{Typ}
@@ -51,16 +52,13 @@ vacant m f e =
     let k : s.0 ≡ [] = sym (ap (λ (v : Value). entries_in v 0) s.2) ∙ e in
     s.2 ∙ ap (λ (es : List Entry). es ∷ s.1) k ∙ ap (λ (v : Value). [] ∷ v) s.5
 
-one_kind : (k l : Kind) → Some k ≡ Some l → k ≡ l
-one_kind k l e = cc
-
 -- The member holds what its kind can.
 content_at : (g : ℕ) (c : Content) (k : Kind) → kind_in value_members g ≡ Some k → HasForm scalar_lists 15 (lone_member g c) → FormContent F k c
 content_at g c k e f =
     let s : FormSlots F value_list (lone_member g c) = slots_of_form scalar_lists 15 (lone_member g c) f in
     let same : (g, c) ∷ [] ≡ s.0 = same_slot ((g, c) ∷ []) s.0 [] s.1 s.2 in
     let h : FormEntries F value_members ((g, c) ∷ []) = subst (λ (es : List Entry). FormEntries F value_members es) (sym same) s.4 in
-    subst (λ (l : Kind). FormContent F l c) (one_kind h.0.0 k (sym h.0.1 ∙ e)) h.0.2
+    subst (λ (l : Kind). FormContent F l c) (same_Some h.0.0 k (sym h.0.1 ∙ e)) h.0.2
 
 -- A kind takes such content: numbers, octets or messages.
 abbrev takes : Kind → Content → Bool
@@ -100,7 +98,7 @@ named (m ∷ ms) g c k e f = go (λ q. named ms g c k q f) (eqb m.number g) refl
     later is false h = h
 
     go : (kind_in ms g ≡ Some k → is_one_of g (names c ms) ≡ true) → (b : Bool) → eqb m.number g ≡ b → cond b (Some m.kind) (kind_in ms g) ≡ Some k → is_one_of g (names c (m ∷ ms)) ≡ true
-    go ih true is q = let t : takes m.kind c ≡ true = ap (λ x. takes x c) (one_kind m.kind k q) ∙ taken k c f in rw (t, is) refl
+    go ih true is q = let t : takes m.kind c ≡ true = ap (λ x. takes x c) (same_Some m.kind k q) ∙ taken k c f in rw (t, is) refl
     go ih false is q = later is (takes m.kind c) (ih q)
 
 name_of : (g : ℕ) (c : Content) → HasForm scalar_lists 15 (lone_member g c) → is_one_of g (names c value_members) ≡ true
@@ -195,7 +193,7 @@ pub element : (m w : Value) (es : List (ℕ × Element)) (i : ℕ) (x : ℕ × E
 element m w es i x f e lt is held =
     let all : FormEntries F (nested_member 1 15 ∷ []) (entries_view es) = subst (λ (ys : List Entry). FormEntries F (nested_member 1 15 ∷ []) ys) (sym e) (list_formed m f) in
     let h = holds_message F 1 15 (x.0, view x.1) (entry_form F (nested_member 1 15 ∷ []) es i x lt is all) in
-    let same : w ≡ h.value = some_value w h.value (held ∙ ap (λ (z : ℕ × Element). message_of (view z.1)) (sym is) ∙ message_is (view x.1) h.value (ap (λ (y : Entry). y.1) h.is)) in
+    let same : w ≡ h.value = same_Some w h.value (held ∙ ap (λ (z : ℕ × Element). message_of (view z.1)) (sym is) ∙ message_is (view x.1) h.value (ap (λ (y : Entry). y.1) h.is)) in
     (h.is ∙ ap (λ (v : Value). (1, message (slots_of v))) (sym same), subst (λ (v : Value). HasForm scalar_lists 15 v) (sym same) h.form)
 
 pub no_message : (m : Value) (es : List (ℕ × Element)) (i : ℕ) (x : ℕ × Element) → HasForm scalar_lists 16 m → entries_view es ≡ entries_in m 0 → i < length es → x ≡ get_or es i x
@@ -203,12 +201,12 @@ pub no_message : (m : Value) (es : List (ℕ × Element)) (i : ℕ) (x : ℕ × 
 no_message m es i x f e lt is held =
     let all : FormEntries F (nested_member 1 15 ∷ []) (entries_view es) = subst (λ (ys : List Entry). FormEntries F (nested_member 1 15 ∷ []) ys) (sym e) (list_formed m f) in
     let h = holds_message F 1 15 (x.0, view x.1) (entry_form F (nested_member 1 15 ∷ []) es i x lt is all) in
-    no_value h.value (held ∙ ap (λ (z : ℕ × Element). message_of (view z.1)) (sym is) ∙ message_is (view x.1) h.value (ap (λ (y : Entry). y.1) h.is))
+    none-some h.value (held ∙ ap (λ (z : ℕ × Element). message_of (view z.1)) (sym is) ∙ message_is (view x.1) h.value (ap (λ (y : Entry). y.1) h.is))
 
 -- ---- the parts of a union's message and of a scalar's
 
 nothing_in : (w : Value) (es : List Entry) → es ≡ [] → Some w ≡ message_in es → ⊥
-nothing_in w es e held = no_value w (sym (held ∙ ap message_in e))
+nothing_in w es e held = none-some w (sym (held ∙ ap message_in e))
 
 nested_part : (n place : ℕ) (es : List Entry) (w : Value) → Has F (nested n place) es → Some w ≡ message_in es → (es ≡ one_message n w) × F place w
 nested_part n place es w h held = go (nested_holds F n place es h)
@@ -216,31 +214,25 @@ nested_part n place es w h held = go (nested_holds F n place es h)
     go : (es ≡ []) ⊎ HoldsMember F (field n (Message place)) es → (es ≡ one_message n w) × F place w
     go (inl e) = absurd (nothing_in w es e held)
     go (inr k) =
-        let same : w ≡ k.form.0 = some_value w k.form.0 (held ∙ ap message_in k.is ∙ message_is k.element k.form.0 k.form.1) in
+        let same : w ≡ k.form.0 = same_Some w k.form.0 (held ∙ ap message_in k.is ∙ message_is k.element k.form.0 k.form.1) in
         (k.is ∙ ap (λ (c : Content). (n, c) ∷ []) k.form.1 ∙ ap (λ (v : Value). one_message n v) (sym same), subst (λ (v : Value). F place v) (sym same) k.form.2)
-
-some_number : (a b : ℕ) → Some a ≡ Some b → a ≡ b
-some_number a b e = cc
 
 pub union_parts : (m w : Value) (n : ℕ) → HasForm scalar_lists 17 m → Some n ≡ number_in (entries_in m 0) → Some w ≡ message_in (entries_in m 1)
     → (m ≡ one_number 1 n ∷ one_message 2 w ∷ []) × HasForm scalar_lists 15 w
 union_parts m w n f a b =
     let t = two_of F (plain 1 Uint32) (nested 2 15) m (slots_of_form scalar_lists 17 m f) in
     let k = plain_holds F 1 Uint32 t.a t.has_a in
-    let number_is : n ≡ k.form.0 = some_number n k.form.0 (a ∙ ap (λ (v : Value). number_in (entries_in v 0)) t.is ∙ ap number_in (k.is ∙ ap (λ (c : Content). (1, c) ∷ []) k.form.1)) in
+    let number_is : n ≡ k.form.0 = same_Some n k.form.0 (a ∙ ap (λ (v : Value). number_in (entries_in v 0)) t.is ∙ ap number_in (k.is ∙ ap (λ (c : Content). (1, c) ∷ []) k.form.1)) in
     let p = nested_part 2 15 t.b w t.has_b (b ∙ ap (λ (v : Value). message_in (entries_in v 1)) t.is) in
     let first : t.a ≡ one_number 1 n = k.is ∙ ap (λ (c : Content). (1, c) ∷ []) k.form.1 ∙ ap (λ (x : ℕ). one_number 1 x) (sym number_is) in
     (t.is ∙ ap (λ (es : List Entry). es ∷ t.b ∷ []) first ∙ ap (λ (es : List Entry). one_number 1 n ∷ es ∷ []) p.0, p.1)
-
-no_number : (n : ℕ) → None ≡ Some n → ⊥
-no_number n e = absurd (cc)
 
 -- A union's message has a tag.
 pub no_tag : (m : Value) → HasForm scalar_lists 17 m → None ≡ number_in (entries_in m 0) → ⊥
 no_tag m f a =
     let t = two_of F (plain 1 Uint32) (nested 2 15) m (slots_of_form scalar_lists 17 m f) in
     let k = plain_holds F 1 Uint32 t.a t.has_a in
-    no_number k.form.0 (a ∙ ap (λ (v : Value). number_in (entries_in v 0)) t.is ∙ ap number_in (k.is ∙ ap (λ (c : Content). (1, c) ∷ []) k.form.1))
+    none-some k.form.0 (a ∙ ap (λ (v : Value). number_in (entries_in v 0)) t.is ∙ ap number_in (k.is ∙ ap (λ (c : Content). (1, c) ∷ []) k.form.1))
 
 pub scalar_parts : (m d w : Value) → HasForm scalar_lists 14 m → Some d ≡ message_in (entries_in m 0) → Some w ≡ message_in (entries_in m 1)
     → (m ≡ one_message 1 d ∷ one_message 2 w ∷ []) × HasForm type_lists 0 d × HasForm scalar_lists 15 w

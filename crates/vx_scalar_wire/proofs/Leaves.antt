@@ -1,6 +1,7 @@
 -- Members without messages in them, at a type: what is read of them, and why they are refused.
 use Rattle.std.specs.Prelude.{IfOk, IfErr, Result, Ok, Err}
 use Rattle.std.proofs.Common.{◌≡◌, ◌⊎◌, Bool, false, true, ℕ, ℤ, pos, List, ◌∷◌, Some, refl, sym, ap, subst, inl, inr}
+use Rattle.std.proofs.lemmas.Option.{same_Some}
 use Rattle.vx_proto.specs.Parts.{flag_number}
 use Rattle.vx_proto.specs.Signed.{zigzag}
 use Rattle.vx_proto.specs.Value.{Content, number, octets}
@@ -136,11 +137,8 @@ integers kind.F32 a b c = absurd (b refl)
 integers kind.F64 a b c = absurd (c refl)
 integers _ a b c = refl
 
-some_integer : (y z : ℤ) → Some y ≡ Some z → y ≡ z
-some_integer y z e = cc
-
 as_signed : (y z : ℤ) → Some y ≡ Some z → HoldsInteger (lone_member 3 (number (zigzag z))) y
-as_signed y z e = inl (ap (λ x. lone_member 3 (number (zigzag x))) (sym (some_integer y z e)))
+as_signed y z e = inl (ap (λ x. lone_member 3 (number (zigzag x))) (sym (same_Some y z e)))
 
 -- An integer of a kind is read where it stands with sign,
 holds_signed : (n : PValue) (z : ℤ) → integer_of n ≡ Some z → HoldsNumber (lone_member 3 (number (zigzag z))) n
@@ -165,7 +163,7 @@ signed_given (Err error.OutOfRange) s most d p z o k h i x = (0, d, lone_member 
 signed_given (Err _) s most d p z o k h i x = absurd x
 
 as_unsigned : (y : ℤ) (k : ℕ) → Some y ≡ Some (pos k) → HoldsInteger (lone_member 4 (number k)) y
-as_unsigned y k e = subst (λ x. HoldsInteger (lone_member 4 (number k)) x) (sym (some_integer y (pos k) e)) (inr refl)
+as_unsigned y k e = subst (λ x. HoldsInteger (lone_member 4 (number k)) x) (sym (same_Some y (pos k) e)) (inr refl)
 
 -- and where it stands without.
 holds_unsigned : (n : PValue) (k : ℕ) → integer_of n ≡ Some (pos k) → HoldsNumber (lone_member 4 (number k)) n

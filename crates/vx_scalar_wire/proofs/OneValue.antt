@@ -1,6 +1,7 @@
 -- A message is read as one value at most, at one type and under the same readers.
 use Rattle.std.specs.Prelude.{if◌then◌else◌}
-use Rattle.std.proofs.Common.{◌≡◌, ◌∙◌, ◌==◌, Bool, true, false, ℕ, ℤ, pos, negsuc, List, [], ◌∷◌, Some, refl, sym, ap, subst, inl, inr, arith}
+use Rattle.std.proofs.Common.{◌≡◌, ◌∙◌, ◌==◌, Bool, true, false, ℕ, ℤ, pos, negsuc, List, [], ◌∷◌, refl, sym, ap, subst, inl, inr, arith}
+use Rattle.std.proofs.lemmas.Option.{same_Some}
 use Rattle.vx_trees.specs.Rose.{Roses, node, end, more}
 use Rattle.vx_proto.specs.Parts.{flag_number}
 use Rattle.vx_proto.specs.Signed.{zigzag}
@@ -204,13 +205,10 @@ both_parts Each Other By OtherBy R f g (node (K.structure ns m) ts) h k = g ts h
 both_parts Each Other By OtherBy R f g (node (K.map b m) (more x (more y end))) h k = f (entries (record { key = x; value = y; keys_sorted = b })) h k
 both_parts Each Other By OtherBy R f g _ h k = absurd h
 
-some_is : (t u : Typ) → Some t ≡ Some u → t ≡ u
-some_is t u e = cc
-
 pub both_members : (a b : ℕ) (By OtherBy : Roses Kind → Type 0) (R : Type 0) → a ≡ b → ((e : Typ) → By (more e end) → OtherBy (more e end) → R)
     → (d : Typ) → FitsMember a By d → FitsMember b OtherBy d → R
 both_members a b By OtherBy R same g (node (K.union ns ids m) ts) h k =
-    let one : h.0 ≡ k.0 = some_is h.0 k.0 (sym h.1 ∙ ap (λ t. member t ids ts) same ∙ k.1) in
+    let one : h.0 ≡ k.0 = same_Some h.0 k.0 (sym h.1 ∙ ap (λ t. member t ids ts) same ∙ k.1) in
     g h.0 h.2 (subst (λ t. OtherBy (more t end)) (sym one) k.2)
 both_members a b By OtherBy R same g _ h k = absurd h
 

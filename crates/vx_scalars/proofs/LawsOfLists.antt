@@ -4,6 +4,7 @@ use Rattle.std.specs.List.{position_or_len}
 use Rattle.std.specs.Cmp.{unsigned_Decides}
 use Rattle.std.proofs.lemmas.List.Quantifiers.{position-Some}
 use Rattle.std.proofs.Common.{arith, get_or, sym, ap, ◌∙◌, subst, add-one, true≢false}
+use Rattle.std.proofs.lemmas.Option.{same_Some}
 use Rattle.vx_trees.specs.Rose.{roses_of, node, end, more}
 use Rattle.vx_trees.proofs.Lists.{count-roses_of}
 use Rattle.vx_trees.proofs.Counting.{nodes-at}
@@ -151,14 +152,11 @@ pub member-index : (tag : ℕ) (ids : List ℕ) (ts : List Typ) (ds : List DType
 member-index tag ids ts ds i d e h p q =
     member-at tag ids ts i (typ d) e h ∙ ap (λ us. Some (get_or us i (typ d))) (sym p) ∙ ap (λ t. Some t) (typs-at ds i d) ∙ ap (λ x. Some (typ x)) (sym q)
 
-some_is : (t u : Typ) → Some t ≡ Some u → t ≡ u
-some_is t u e = cc
-
 -- A value fits the member that its tag names, or there is none.
 pub member-fits : (b : Bool) (tag : ℕ) (ns : List (List ℕ)) (ids : List ℕ) (m : Nullability) (ts : List Typ) (t : Typ) (v : Value)
     → member tag ids (roses_of ts) ≡ Some t → (IsTrue b ↔ Fits v t) → IsTrue b ↔ FitsMember tag (λ us. FitBy (more v end) us) (node (union_kind ns ids m) (roses_of ts))
 member-fits b tag ns ids m ts t v e f =
-    (λ h. (t, e, (f.0 h, refl)), λ g. f.1 (subst (λ u. Fits v u) (some_is g.0 t (sym g.1 ∙ e)) g.2.0))
+    (λ h. (t, e, (f.0 h, refl)), λ g. f.1 (subst (λ u. Fits v u) (same_Some g.0 t (sym g.1 ∙ e)) g.2.0))
 
 pub no-member : (tag : ℕ) (ns : List (List ℕ)) (ids : List ℕ) (m : Nullability) (ts : List Typ) (v : Value)
     → member tag ids (roses_of ts) ≡ None → IsTrue false ↔ FitsMember tag (λ us. FitBy (more v end) us) (node (union_kind ns ids m) (roses_of ts))

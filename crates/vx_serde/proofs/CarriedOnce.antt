@@ -1,12 +1,12 @@
 -- A blob carries at most one tree.
-use Rattle.std.proofs.Common.{ℕ, ◌≡◌, List, ◌++◌, Some, length, take, drop, sym, ap, ◌∙◌, subst, arith, length-append}
+use Rattle.std.proofs.Common.{ℕ, ◌≡◌, List, ◌++◌, length, take, drop, sym, ap, ◌∙◌, subst, arith, length-append}
 use Rattle.std.specs.Int.{w32, from_le_bytes}
 use Rattle.std.proofs.Math.Seq.{take-append_seam, drop-append_seam}
+use Rattle.std.proofs.lemmas.Option.{same_Some}
 use Rattle.vx_flat.specs.Shows.{Shows}
 use Rattle.vx_flat.proofs.LawsOfMessages.{shown-one}
-use Rattle.vx_trees.specs.Rose.{Rose}
 use Rattle.vx_serde.specs.ArraySchema.{array_schema}
-use Rattle.vx_serde.specs.Message.{NodeFields, message_of}
+use Rattle.vx_serde.specs.Message.{message_of}
 use Rattle.vx_wire_tree.specs.Wire.{Wire}
 use Rattle.vx_serde.specs.Blob.{IsBlob, buffers_at, wire_of, Carries}
 
@@ -38,16 +38,13 @@ pub record AreSame (blob : List ℕ) (ids : List (List ℕ)) (w w' : Wire) (a : 
   pub root : a.root ≡ b.root
   pub tree : w ≡ w'
 
-one_root : (x y : Rose NodeFields) → Some x ≡ Some y → x ≡ y
-one_root x y e = cc
-
 -- What a blob carries beside identifiers is one tree, with one segment, message and value.
 pub carried_once : (blob : List ℕ) (ids : List (List ℕ)) (w w' : Wire) (a : Carries blob ids w) (b : Carries blob ids w') → AreSame blob ids w w' a b
 carried_once blob ids w w' a b =
     let parts = one_blob blob a.segment b.segment a.message b.message a.blob_is b.blob_is in
     let shows : Shows array_schema b.message a.value = (let P : List ℕ → Type 0 = λ m. Shows array_schema m a.value in subst P parts.1 a.shows) in
     let value : a.value ≡ b.value = shown-one array_schema b.message a.value b.value shows b.shows in
-    let root : a.root ≡ b.root = one_root a.root b.root (sym a.root_is ∙ ap (λ v. (message_of v).root) value ∙ b.root_is) in
+    let root : a.root ≡ b.root = same_Some a.root b.root (sym a.root_is ∙ ap (λ v. (message_of v).root) value ∙ b.root_is) in
     let tree : w ≡ w' =
     a.wire_is
     ∙ ap (λ s. wire_of ids (buffers_at s 0 (message_of a.value).descriptors) a.root) parts.0

@@ -1,4 +1,5 @@
 pub mod Lists
+pub mod LawsOfLists
 pub mod Counting
 pub mod Gathering
 pub mod Holding

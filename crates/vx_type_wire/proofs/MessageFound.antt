@@ -1,6 +1,7 @@
 -- What a plain value tells of the type whose message it is.
 use Rattle.std.specs.Prelude.{IfErr, MatchResult}
 use Rattle.std.proofs.Common.{◌≡◌, ◌∙◌, [], ◌∷◌, ◌≤◌, ◌+◌, Option, None, Some, Result, Err, refl, ap, sym, subst, arith}
+use Rattle.std.proofs.lemmas.Option.{none-some, same_Some}
 use Rattle.vx_trees.specs.Walks.{levels}
 use Rattle.vx_proto.specs.Form.{HasForm}
 use Rattle.vx_proto.specs.Written.{nested}
@@ -17,17 +18,11 @@ use Rattle.vx_type_wire.proofs.MessageSound.{type_sound}
 use Rattle.vx_type_wire.proofs.OneType.{never}
 use Rattle.vx_type_wire.proofs.MessageForm.{type_depth}
 
-same : (t u : Typ) → Some t ≡ Some u → t ≡ u
-same t u e = cc
-
-none_some : (t : Typ) (x : Option Typ) → x ≡ None → x ≡ Some t → ⊥
-none_some t x e f = absurd (cc)
-
 -- A message is of one type at most.
 pub message-injective : (t u : Typ) → IsType t → IsType u → type_message t ≡ type_message u → t ≡ u
 message-injective t u h k e =
     let n = levels t + levels u in
-    same t u (sym (reads_back n t h (omega arith)) ∙ ap (type_in n) e ∙ reads_back n u k (omega arith))
+    same_Some t u (sym (reads_back n t h (omega arith)) ∙ ap (type_in n) e ∙ reads_back n u k (omega arith))
 
 -- The type whose message it is, is the one that is read.
 pub reads_message : (v : Value) (t : Typ) → levels t ≤ 50 → IsMessageOf v t → type_in 50 v ≡ Some t
@@ -35,7 +30,7 @@ reads_message v t le h = ap (type_in 50) h.is ∙ reads_back 50 t h.is_type le
 
 -- A value of which nothing is read is no type's.
 pub no_message : (v : Value) → type_in 50 v ≡ None → IsNoMessage v
-no_message v e t le h = none_some t (type_in 50 v) e (reads_message v t le h)
+no_message v e t le h = none-some t (sym e ∙ reads_message v t le h)
 
 default_unread : type_in 50 ([] ∷ []) ≡ None
 unfolding type_in
@@ -86,7 +81,7 @@ unknown_value WireLimit s v t m h = never WireLimit s t (λ id bs u n. n) h
 
 -- A message is of the type that is read of it, and of no other.
 pub the_type : (v w : Value) (t u : Typ) → w ≡ v → type_in 50 w ≡ Some t → levels u ≤ 50 → IsMessageOf v u → t ≡ u
-the_type v w t u q e le m = same t u (sym e ∙ ap (type_in 50) q ∙ reads_message v u le m)
+the_type v w t u q e le m = same_Some t u (sym e ∙ ap (type_in 50) q ∙ reads_message v u le m)
 
 pub at_error : {T : Type 0} (P : TypeWireError → Type 0) (r : Result T TypeWireError) (y e : TypeWireError) → r ≡ Err y → y ≡ e → P e → IfErr r P
 at_error P r y e p q h = subst (λ s. IfErr s P) (sym (p ∙ ap Err q)) h

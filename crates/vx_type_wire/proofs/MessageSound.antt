@@ -4,6 +4,7 @@ use Rattle.std.specs.Str.{is_utf8}
 use Rattle.std.proofs.Common.{◌≡◌, ◌⊎◌, inl, inr, ℕ, zero, suc, ◌<◌, ◌≤◌, ◌-◌, ◌^◌, ◌==◌, nat_lt, nat_le, if◌then◌else◌, pos, negsuc, Bool, true, false, List, [], ◌∷◌, Option, Some, None, refl, ap, sym, subst, ◌∙◌, arith}
 use Rattle.std.proofs.lemmas.Bool.{eqb-true, ltb-true, leb-true, lt-ltb}
 use Rattle.std.proofs.lemmas.Bool.Decides.{nat_tests}
+use Rattle.std.proofs.lemmas.Option.{same_Some}
 use Rattle.vx_trees.specs.Rose.{Roses, node, end}
 use Rattle.vx_proto.specs.Schema.{kind_in, field, plain as plain_slot, nested, repeated, oneof}
 use Rattle.vx_proto.specs.declared.schema.ScalarKind.{ScalarKind}
@@ -29,7 +30,7 @@ use Rattle.vx_type_wire.specs.Reading.{nullability_of, truth_of, ptypes, ptype_o
 use Rattle.vx_type_wire.specs.TypeMessage.{type_members, type_lists, int32_of, one_number, one_octets, one_message, texts, all_messages, in_oneof, type_message, type_messages}
 use Rattle.vx_type_wire.specs.MessageReading.{below, byte_of, with_text, texts_in, types_in, nullability_at, truth_at, ptype_at, below_at, scale_at, text_at, bytes_at, texts_at, type_at, types_at}
 use Rattle.vx_type_wire.specs.MessageReading.{plain_in, primitive_in, decimal_in, structure_in, list_in, extension_in, fixed_size_list_in, union_in, map_in, member_in, oneof_in, type_in}
-use Rattle.vx_type_wire.proofs.Sound.{choose, same, nullability_of-sound, truth_of-sound, found, plain_made, primitive_made, decimal_made, list_made, fixed_size_list_made, structure_made, union_made, map_made, extension_made, more_made}
+use Rattle.vx_type_wire.proofs.Sound.{choose, nullability_of-sound, truth_of-sound, found, plain_made, primitive_made, decimal_made, list_made, fixed_size_list_made, structure_made, union_made, map_made, extension_made, more_made}
 use Rattle.vx_type_wire.proofs.MessageForm.{F}
 
 -- ---- slots without types
@@ -53,15 +54,15 @@ code : (i : ℕ) (es : List Entry) (p : PType) → Has F (plain_slot i (Enum 11)
 code i es p h e = let m = a_number i (Enum 11) es tt h in number_sound i m.0 es ptype_of code_of p (found m.0 ptypes p) m.1 e
 
 below_is : (limit n m : ℕ) → below limit n ≡ Some m → m ≡ n
-below_is limit n m e = choose (m ≡ n) (nat_lt n limit) (Some n) None m (λ p f. sym (same _ _ f)) (λ f. absurd (cc)) e
+below_is limit n m e = choose (m ≡ n) (nat_lt n limit) (Some n) None m (λ p f. sym (same_Some _ _ f)) (λ f. absurd (cc)) e
 
 small : (i limit : ℕ) (es : List Entry) (n : ℕ) → Has F (plain_slot i Uint32) es → option_and_then (below limit) (number_in es) ≡ Some n → one_number i n ≡ es
 small i limit es n h e = let m = a_number i Uint32 es tt h in number_sound i m.0 es (below limit) (λ k. k) n (below_is limit m.0 n) m.1 e
 
 scale_is : (n s : ℕ) → n < 2 ^ 64 → byte_of n ≡ Some s → int32_of (scale_of s) ≡ n
 scale_is n s top =
-    choose (int32_of (scale_of s) ≡ n) (nat_lt n 128) (Some n) _ s (λ p f. low (same _ _ f) (ltb-true n 128 p))
-    (choose (int32_of (scale_of s) ≡ n) (nat_le (2 ^ 64 - 128) n) (Some (n - (2 ^ 64 - 256))) None s (λ p f. high (same _ _ f) (leb-true (2 ^ 64 - 128) n p)) (λ f. absurd (cc)))
+    choose (int32_of (scale_of s) ≡ n) (nat_lt n 128) (Some n) _ s (λ p f. low (same_Some _ _ f) (ltb-true n 128 p))
+    (choose (int32_of (scale_of s) ≡ n) (nat_le (2 ^ 64 - 128) n) (Some (n - (2 ^ 64 - 256))) None s (λ p f. high (same_Some _ _ f) (leb-true (2 ^ 64 - 128) n p)) (λ f. absurd (cc)))
   where
     low : n ≡ s → n < 128 → int32_of (scale_of s) ≡ n
     low e h = let k : s < 128 = omega (arith, e, h) in ap (λ b. int32_of (if b then pos s else negsuc (255 - s))) (lt-ltb s 128 k) ∙ sym e
@@ -83,13 +84,10 @@ bytes : (i : ℕ) (es : List Entry) (s : List ℕ) → Has F (plain_slot i Bytes
 bytes i es s h e =
     let w = plain_holds F i Bytes es h in
     let is : es ≡ one_octets i w.form.0 = w.is ∙ ap (λ (c : Content). (i, c) ∷ []) w.form.1 in
-    ap (one_octets i) (sym (same_bytes w.form.0 s (ap octets_in (sym is) ∙ e))) ∙ sym is
-  where
-    same_bytes : (a b : List ℕ) → Some a ≡ Some b → a ≡ b
-    same_bytes a b q = cc
+    ap (one_octets i) (sym (same_Some w.form.0 s (ap octets_in (sym is) ∙ e))) ∙ sym is
 
 text_is : (s t : List ℕ) → text_of_bytes s ≡ Some t → t ≡ s
-text_is s t e = choose (t ≡ s) (is_utf8 s) (Some s) None t (λ p f. sym (same _ _ f)) (λ f. absurd (cc)) e
+text_is s t e = choose (t ≡ s) (is_utf8 s) (Some s) None t (λ p f. sym (same_Some _ _ f)) (λ f. absurd (cc)) e
 
 text : (i : ℕ) (es : List Entry) (s : List ℕ) → Has F (plain_slot i String) es → text_in es ≡ Some s → one_octets i s ≡ es
 text i es s h e =
@@ -98,11 +96,11 @@ text i es s h e =
     ap (one_octets i) (text_is w.form.0 s (ap text_in (sym is) ∙ e)) ∙ sym is
 
 text_made : (x : Option (List ℕ)) (y : Option (List (List ℕ))) (ns : List (List ℕ)) → with_text x y ≡ Some ns → (s : List ℕ) × (ss : List (List ℕ)) × (x ≡ Some s) × (y ≡ Some ss) × (s ∷ ss ≡ ns)
-text_made (Some s) (Some ss) ns e = (s, ss, refl, refl, same _ _ e)
+text_made (Some s) (Some ss) ns e = (s, ss, refl, refl, same_Some _ _ e)
 text_made _ _ ns e = absurd (cc)
 
 names : (i : ℕ) (es : List Entry) (ns : List (List ℕ)) → FormEntries F (field i (Scalar String) ∷ []) es → texts_in es ≡ Some ns → texts i ns ≡ es
-names i [] ns f e = ap (texts i) (sym (same _ _ e))
+names i [] ns f e = ap (texts i) (sym (same_Some _ _ e))
 names i (x ∷ xs) ns f e =
     let w = text_made (text_of x.1) (texts_in xs) ns e in
     let m = repeated_member F i (Scalar String) x xs f in
@@ -130,7 +128,7 @@ child inside ih i es u h e = go (nested_holds F i 0 es h)
         ap (one_message i) (ih w.form.0 u w.form.2 q) ∙ sym is
 
 children : (inside : Value → Option Typ) → IsSound inside → (i : ℕ) (es : List Entry) (ts : Roses Kind) → FormEntries F (field i (Message 0) ∷ []) es → types_in inside es ≡ Some ts → all_messages i (type_messages ts) ≡ es
-children inside ih i [] ts f e = ap (λ z. all_messages i (type_messages z)) (sym (same _ _ e))
+children inside ih i [] ts f e = ap (λ z. all_messages i (type_messages z)) (sym (same_Some _ _ e))
 children inside ih i (x ∷ xs) ts f e =
     let w = more_made (option_and_then inside (message_of x.1)) (types_in inside xs) ts e in
     let m = repeated_member F i (Message 0) x xs f in
@@ -223,7 +221,7 @@ module _ (inside : Value → Option Typ) (ih : IsSound inside) where
       ap type_message (sym m.8) ∙ (λ i. in_oneof 13 (a i ∷ b i ∷ c i ∷ d i ∷ [])) ∙ ap (in_oneof 13) (sym s.is)
 
   null_sound : (w : Value) (t : Typ) → F 1 w → Some (node null end) ≡ Some t → type_message t ≡ in_oneof 1 w
-  null_sound w t f e = ap type_message (sym (same _ _ e)) ∙ ap (in_oneof 1) (sym (none_of F w (slots_of_form type_lists 1 w f)))
+  null_sound w t f e = ap type_message (sym (same_Some _ _ e)) ∙ ap (in_oneof 1) (sym (none_of F w (slots_of_form type_lists 1 w f)))
 
   flag_sound : (k : Nullability → Kind) (g : ℕ) → ((n : Nullability) → type_message (node (k n) end) ≡ in_oneof g (one_number 1 (flag_of n) ∷ []))
       → (w : Value) (t : Typ) → (F g w → FormSlots F (plain_slot 1 Flag ∷ []) w) → F g w → plain_in k w ≡ Some t → type_message t ≡ in_oneof g w
@@ -258,7 +256,7 @@ OwnPlaces (m ∷ ms) = (m.kind ≡ Message m.number) × OwnPlaces ms
 
 own_place : (ms : List Member) → OwnPlaces ms → (g : ℕ) (k : Spelling) → kind_in ms g ≡ Some k → k ≡ Message g
 own_place [] h g k e = absurd (cc)
-own_place (m ∷ ms) h g k e = choose (k ≡ Message g) (m.number == g) (Some m.kind) (kind_in ms g) k (λ p q. sym (same _ _ q) ∙ h.0 ∙ ap (λ n. Message n) (eqb-true m.number g p)) (own_place ms h.1 g k) e
+own_place (m ∷ ms) h g k e = choose (k ≡ Message g) (m.number == g) (Some m.kind) (kind_in ms g) k (λ p q. sym (same_Some _ _ q) ∙ h.0 ∙ ap (λ n. Message n) (eqb-true m.number g p)) (own_place ms h.1 g k) e
 
 -- A oneof of the form.
 oneof_sound : (inside : Value → Option Typ) → IsSound inside → (es : List Entry) (t : Typ) → Has F (oneof type_members) es → oneof_in inside es ≡ Some t → type_message t ≡ es ∷ []

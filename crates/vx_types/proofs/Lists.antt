@@ -5,6 +5,7 @@ use Rattle.vx_trees.specs.Rose.{roses_of, roses_list}
 use Rattle.vx_trees.specs.Walks.{levels, levels_below}
 use Rattle.vx_trees.proofs.Counting.{nodes-at}
 use Rattle.vx_trees.proofs.Lists.{roses_list-roses_of}
+use Rattle.vx_trees.proofs.LawsOfLists.{heads, tails}
 use Rattle.vx_types.specs.Parts.{typ_size, slice_size}
 use Rattle.vx_types.specs.Seen.{typ, typs}
 use Rattle.vx_types.specs.Typ.{Typ}
@@ -32,12 +33,6 @@ size-at ds i d h =
 
 pub roses_of-injective : (ts us : List Typ) → roses_of ts ≡ roses_of us → ts ≡ us
 roses_of-injective ts us e = sym (roses_list-roses_of ts) ∙ ap roses_list e ∙ roses_list-roses_of us
-
-heads : (t u : Typ) (ts us : List Typ) → t ∷ ts ≡ u ∷ us → t ≡ u
-heads t u ts us e = cc
-
-tails : (t u : Typ) (ts us : List Typ) → t ∷ ts ≡ u ∷ us → ts ≡ us
-tails t u ts us e = cc
 
 both : (t u : Typ) (ts us : List Typ) → t ≡ u → ts ≡ us → t ∷ ts ≡ u ∷ us
 both t u ts us e f = λ i. e i ∷ f i

@@ -1,6 +1,6 @@
 -- Where a wire tree tells an array, no refusal has its cause.
 use Rattle.std.proofs.Common.{ℕ, zero, suc, ◌≡◌, inl, inr, ◌⊎◌, Bool, false, IsTrue, List, [], ◌∷◌, Option, Some, None, refl, sym, ap, ◌∙◌, subst, slice_get}
-use Rattle.std.proofs.lemmas.Option.{same_Some}
+use Rattle.std.proofs.lemmas.Option.{same_Some, none-some}
 use Rattle.vx_buffer.specs.Buffer.{Buffer}
 use Rattle.vx_trees.specs.Rose.{Rose, Roses, node, end, more, label, below, count, roses_list}
 use Rattle.vx_trees.specs.Everywhere.{Everywhere, EverywhereBelow}
@@ -29,16 +29,13 @@ use Rattle.vx_wire_tree.proofs.Unique.{all_present_inj, all_count, one_metadata,
 
 -- ---- nothing is missing
 
-none_some : {A : Type 0} {x : A} → None ≡ Some x → ⊥
-none_some e = cc
-
 all_there : (bs : List Buffer) (i : ℕ) → slice_get (all_present bs) i ≡ Some None → ⊥
 all_there [] i e = absurd (cc)
 all_there (b ∷ bs) zero e = absurd (cc)
 all_there (b ∷ bs) (suc i) e = all_there bs i e
 
 has_id : (w : Wire) → IsWholeNode (label w) (below w) → LacksId w → ⊥
-has_id w x l = none_some (sym l ∙ x.id_is)
+has_id w x l = none-some _ (sym l ∙ x.id_is)
 
 has_buffers : (w : Wire) → IsWholeNode (label w) (below w) → LacksBuffer w → ⊥
 has_buffers w x l = all_there x.buffers l.0 (ap (λ bs. slice_get bs l.0) (sym x.buffers_are) ∙ l.1)
@@ -67,7 +64,7 @@ may_stand [] [] e = refl
 may_stand [] (b ∷ bs) e = absurd (cc)
 may_stand (o ∷ os) [] e = absurd (cc)
 may_stand (Some x ∷ os) (b ∷ bs) e = let p : b ≡ x = cc in let q : os ≡ all_present bs = cc in (p, may_stand os bs q)
-may_stand (None ∷ os) (b ∷ bs) e = let p : None ≡ Some b = cc in absurd (none_some p)
+may_stand (None ∷ os) (b ∷ bs) e = let p : None ≡ Some b = cc in absurd (none-some b p)
 
 closed_open : (b : Bool) → b ≡ false → IsTrue b → ⊥
 closed_open b e t = false_true (subst (λ z. IsTrue z) e t)
@@ -146,7 +143,7 @@ module _ (c : Codec) (s : SessionMeaning) where
   not_both : (w : Wire) (e : Encoding) → IsReadBy s w None → IsOf s w e → ⊥
   not_both w e a b =
       let same : b.id ≡ a.id = same_Some b.id a.id (sym b.id_is ∙ a.id_is) in
-      none_some (ap (λ z. encoding_by z) (sym a.reader_is) ∙ ap (λ z. encoding_by (s.reader z)) (sym same) ∙ b.encoding_is)
+      none-some _ (ap (λ z. encoding_by z) (sym a.reader_is) ∙ ap (λ z. encoding_by (s.reader z)) (sym same) ∙ b.encoding_is)
 
   module _ (ok : IsShipped s) where
     pub node_told : (w : Wire) (t : Tree) → Matches c s w t → ((e : Encoding) × IsEncodedBy e w t) ⊎ IsForeignBy w t
@@ -263,7 +260,7 @@ module _ (c : Codec) (s : SessionMeaning) where
         where
           go : ((e : Encoding) × IsEncodedBy e w t) ⊎ IsForeignBy w t → ⊥
           go (inl z) = y.none (label t).stats (subst (λ (k : Typ). c.ShowsStats k (label w).stats (label t).stats) x.dtype z.1.told.stats)
-          go (inr f) = none_some (same_reader (label w).id f.by.id y.by.id None (Some y.reader) f.by.id_is y.by.id_is f.by.reader_is y.by.reader_is)
+          go (inr f) = none-some _ (same_reader (label w).id f.by.id y.by.id None (Some y.reader) f.by.id_is y.by.id_is f.by.reader_is y.by.reader_is)
 
       -- The parts of a told node are of its encoding's shape.
       shaped_told : (e : Encoding) (w : Wire) (h : Head) (ts : Trees) (v : Metadata) → IsEncodedBy e w (node h ts) → IsSoundNode h ts → IsNormalNode h ts → v ≡ metadata_in h ts
@@ -286,7 +283,7 @@ module _ (c : Codec) (s : SessionMeaning) where
 
       broken_told : (e : Encoding) (v : Metadata) (w : Wire) (h : Head) (ts : Trees) → IsEncodedBy e w (node h ts) → IsSound (node h ts) → IsNormal (node h ts) → IsMetadata c s.ext e h.dtype (label w).metadata v
           → IsBroken c s e v w h.dtype h.len → ⊥
-      broken_told e v w h ts x y n m (inl k) = none_some (sym k ∙ plan_is e w h ts v x y.0 n.0 m)
+      broken_told e v w h ts x y n m (inl k) = none-some _ (sym k ∙ plan_is e w h ts v x y.0 n.0 m)
       broken_told e v w h ts x y n m (inr (inl k)) =
           k (buffers_of h.body) (may_stand (label w).buffers (buffers_of h.body) x.told.buffers) (shaped_told e w h ts v x y.0 n.0 (value_is e w h ts v x m))
       broken_told e v w h ts x y n m (inr (inr (inr k))) =

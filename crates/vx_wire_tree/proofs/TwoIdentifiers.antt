@@ -1,5 +1,6 @@
 -- Primitives under two identifiers: which is written, what it holds, and by what it is read.
 use Rattle.std.proofs.Common.{ℕ, ◌≡◌, List, Option, Some, None, Bool, true, false, IsTrue, nat_le, if◌then◌else◌, refl, sym, ap, ◌∙◌, subst}
+use Rattle.std.proofs.lemmas.Option.{none-some, same_Some}
 use Rattle.vx_array_tree.specs.Body.{Body}
 use Rattle.vx_array_tree.specs.Body as B
 use Rattle.vx_array_tree.specs.Encoding.{Encoding}
@@ -68,24 +69,12 @@ read_revised r id n q h = subst (λ z. IsReadAs z E.primitive id n) (sym q) (rec
 -- What is read as a node of an encoding matches as one.
 pub node_by : (c : Codec) (s : SessionMeaning) (r : Option Reader) (e : Encoding) (id : List ℕ) (w : WireHead) (ws : Wires) (t : Tree) (Below : Trees → Type 0)
     → IsReadAs r e id (label t).len → w.id ≡ Some id → IsEncodedNode c s e w t Below → IsNodeBy c s r w ws t Below
-node_by c s None e id w ws t Below x i m = absurd (none_is e x.encoding)
-  where
-    none_is : (e : Encoding) → None ≡ Some e → ⊥
-    none_is e q = cc
-node_by c s (Some (shipped f)) e id w ws t Below x i m = let q : f ≡ e = same_encoding f e x.encoding in subst (λ (g : Encoding). IsEncodedNode c s g w t Below) (sym q) m
-  where
-    same_encoding : (f e : Encoding) → Some f ≡ Some e → f ≡ e
-    same_encoding f e q = cc
+node_by c s None e id w ws t Below x i m = absurd (none-some e x.encoding)
+node_by c s (Some (shipped f)) e id w ws t Below x i m = let q : f ≡ e = same_Some f e x.encoding in subst (λ (g : Encoding). IsEncodedNode c s g w t Below) (sym q) m
 node_by c s (Some revised) e id w ws t Below x i m =
-    let q : E.primitive ≡ e = same_encoding e x.encoding in
+    let q : E.primitive ≡ e = same_Some E.primitive e x.encoding in
     (record { id = id; id_is = i; holds = x.held }, subst (λ (g : Encoding). IsEncodedNode c s g w t Below) (sym q) m)
-  where
-    same_encoding : (e : Encoding) → Some E.primitive ≡ Some e → E.primitive ≡ e
-    same_encoding e q = cc
-node_by c s (Some (plugin p)) e id w ws t Below x i m = absurd (none_is e x.encoding)
-  where
-    none_is : (e : Encoding) → None ≡ Some e → ⊥
-    none_is e q = cc
+node_by c s (Some (plugin p)) e id w ws t Below x i m = absurd (none-some e x.encoding)
 
 -- ---- what an encoding reads is written
 

@@ -2,6 +2,7 @@
 use Rattle.std.proofs.Common.{ℕ, ◌≡◌, ◌≤◌, Bool, true, false, List, [], ◌∷◌, ◌++◌, Option, Some, None, length, unwrap_or, refl, sym, ap, ◌∙◌, subst, arith, append-nil}
 use Rattle.std.specs.Prelude.{slice_get}
 use Rattle.std.specs.List.{flat_map, filter_map}
+use Rattle.std.proofs.lemmas.Option.{same_Some}
 use Rattle.vxcat_core.specs.Options.{AreOptions, Setting, pad, rows, allow, unknown, deep, revised, pad_of, rows_of, allow_of, unknown_of, deep_of, revised_of, setting_words, settings_of}
 use Rattle.vxcat_core.specs.GivenOptions.{Given, Gives, none_given, settings_by, with_settings}
 use Rattle.vxcat_core.proofs.OptionFronts.{with_settings-None}
@@ -18,9 +19,6 @@ held_flag true = true ∷ []
 none_some : (given : Given) → (let n : Option Given = None in n ≡ Some given) → ⊥
 none_some given e = absurd (cc)
 
-same_given : (a b : Given) → Some a ≡ Some b → a ≡ b
-same_given a b e = cc
-
 abbrev given : Option ℕ → Option ℕ → Option (List ℕ) → Bool → Bool → Bool → Given
 given p r a u d v = record { pad = p; rows = r; allow = a; unknown = u; deep = d; revised = v }
 
@@ -36,7 +34,7 @@ record Adds (p r : Option ℕ) (a : Option (List ℕ)) (u d v : Bool) (more : Li
 adds : (p r : Option ℕ) (a : Option (List ℕ)) (u d v : Bool) (more : List Setting) (after : Given) → with_settings (Some (given p r a u d v)) more ≡ Some after → Adds p r a u d v more after
 unfolding held held_flag
 adds p r a u d v [] after e =
-    let same = same_given (given p r a u d v) after e in
+    let same = same_Some (given p r a u d v) after e in
     record {
       pads = ap (λ (o : Given). held o.pad) (sym same) ∙ sym (append-nil (held p));
       rows = ap (λ (o : Given). held o.rows) (sym same) ∙ sym (append-nil (held r));

@@ -2,16 +2,17 @@
 use Rattle.std.proofs.Common.{Some, refl, ◌∙◌, ap, sym}
 use Rattle.std.proofs.lemmas.Bool.{false≢true, iff_false}
 use Rattle.std.specs.Prelude.{option_map}
+use Rattle.std.proofs.lemmas.Option.{same_Some}
 use Rattle.vx_trees.specs.Rose.{label, roses_of}
 use Rattle.vx_types.specs.Seen.{typ}
-use Rattle.vx_arrays.proofs.Listed.{listed_decide, shaped_listed, some_is, behind_type}
+use Rattle.vx_arrays.proofs.Listed.{listed_decide, shaped_listed, behind_type}
 use Rattle.vx_arrays.proofs.lists.are_parts.Goals as goal
 
 pub returns-then-not-is_of_type : goal.returns-then-not-is_of_type
 returns-then-not-is_of_type c = (
   λ x. absurd (false≢true x),
   λ s. absurd (iff_false c.is_of_type.ensures c.if-not-is_of_type.true
-      (sym (some_is (typ c.in-Some.kind.now) (label c.args.elements.now).dtype
+      (sym (same_Some (typ c.in-Some.kind.now) (label c.args.elements.now).dtype
       (ap (λ o. option_map (λ d. typ d.now) o) (sym c.in-Some.is) ∙ c.element_type.ensures ∙ (shaped_listed (typ c.args.dtype.now) c.args.len _ _ _ s).element)))),
 )
 
