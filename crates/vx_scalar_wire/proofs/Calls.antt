@@ -18,7 +18,7 @@ use Rattle.vx_scalars.specs.declared.error.ScalarError.{ScalarError}
 use Rattle.vx_scalars.specs.declared.error.ScalarError.TheVariants as scalar_error
 use Rattle.vx_scalars.specs.declared.value.ScalarValue.{ScalarValue}
 use Rattle.vx_scalar_wire.specs.Reading.{ReadsValue, ShowsValue}
-use Rattle.vx_scalar_wire.specs.Refusing.{IsRefused}
+use Rattle.vx_scalar_wire.specs.Refusing.{IsRefusedMessage}
 use Rattle.vx_scalar_wire.specs.RefusingCalls.{IsRefusedAt, IsRefusedBytes}
 use Rattle.vx_scalar_wire.specs.ScalarMessage.{scalar_lists}
 use Rattle.vx_scalar_wire.specs.Writing.{refusal_of_proto, refusal_of_scalar, refusal_of_type}
@@ -46,12 +46,12 @@ pub proto_memory : (p : ProtoError) (e : ScalarWireError) (s : ExtMeaning) (v : 
     → ShowsValue s v d bytes → e ≡ OutOfMemory
 proto_memory p e s v d bytes is h r = is ∙ ap (λ (x : ProtoError). refusal_of_proto x) (h r.0 r.1)
 
-message_caused : (e : ScalarWireError) (s : ExtMeaning) (d : Typ) (bytes : List ℕ) (m : Value) → Reads scalar_lists 15 bytes m → IsRefused e s 100 d m → IsRefusedBytes e s d bytes
+message_caused : (e : ScalarWireError) (s : ExtMeaning) (d : Typ) (bytes : List ℕ) (m : Value) → Reads scalar_lists 15 bytes m → IsRefusedMessage e s 100 d m → IsRefusedBytes e s d bytes
 message_caused OutOfMemory s d bytes m r h = tt
 message_caused _ s d bytes m r h = inr (m, r, h)
 
 -- Bytes whose message is refused are refused,
-pub message_refused : (r : Result (Option ScalarValue) ScalarWireError) (s : ExtMeaning) (d : Typ) (bytes : List ℕ) (m : Value) → Reads scalar_lists 15 bytes m → IfErr r (λ e. IsRefused e s 100 d m)
+pub message_refused : (r : Result (Option ScalarValue) ScalarWireError) (s : ExtMeaning) (d : Typ) (bytes : List ℕ) (m : Value) → Reads scalar_lists 15 bytes m → IfErr r (λ e. IsRefusedMessage e s 100 d m)
     → IfErr r (λ e. IsRefusedBytes e s d bytes)
 message_refused (Ok x) s d bytes m q h = tt
 message_refused (Err e) s d bytes m q h = message_caused e s d bytes m q h
@@ -68,7 +68,7 @@ pub ruleset bytes_read = (proto_refused, proto_memory, message_refused, bytes_co
 -- ---- scalars of a type
 
 -- What is refused as a value is refused as a scalar,
-pub value_refused_at : (e : ScalarWireError) (s : ExtMeaning) (d : Typ) (m : Value) → IsRefused e s 100 d m → IsRefusedAt e s d m
+pub value_refused_at : (e : ScalarWireError) (s : ExtMeaning) (d : Typ) (m : Value) → IsRefusedMessage e s 100 d m → IsRefusedAt e s d m
 value_refused_at BadScalar s d m h = inl h
 value_refused_at _ s d m h = h
 

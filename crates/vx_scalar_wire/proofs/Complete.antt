@@ -34,7 +34,7 @@ use Rattle.vx_scalars.specs.Seen.{seen}
 use Rattle.vx_scalars.specs.Told.{Typed}
 use Rattle.vx_scalars.specs.declared.value.ScalarValue.{ScalarValue}
 use Rattle.vx_scalar_wire.specs.Reading.{Holds, HoldsInteger, HoldsNumber, HoldsOctets, ReadsParts, ReadsValue, EachReads, ReadsBy, ReadsScalar}
-use Rattle.vx_scalar_wire.specs.Refusing.{is_one_of, numeral_members, members_at, integer_of, NoneIs, OfUnion, IsOtherCount, IsAt, IsFieldAt, IsPartType, IsPart, IsWithin, IsScalarCause, IsUnreadType, IsCause, IsRefused, IsRefusedScalar}
+use Rattle.vx_scalar_wire.specs.Refusing.{is_one_of, numeral_members, members_at, integer_of, NoneIs, OfUnion, IsOtherCount, IsAt, IsFieldAt, IsPartType, IsPart, IsWithin, IsScalarCause, IsUnreadType, IsCause, IsRefusedMessage, IsRefusedScalar}
 use Rattle.vx_scalar_wire.specs.declared.error.ScalarWireError.{ScalarWireError}
 use Rattle.vx_scalar_wire.specs.declared.error.ScalarWireError.TheVariants.{OutOfMemory, TooDeep, MissingKind, KindMismatch, OutOfRange, BadChild, BadScalar, BadDType}
 use Rattle.vx_scalar_wire.specs.declared.error.TypeRefusal.{TypeRefusal}
@@ -471,7 +471,7 @@ no_cause_within (suc depth) e s v d m f u is n r w c =
     no_cause_within depth e s p.1.0 w.0 w.1 f u p.0 (omega (arith, part_depth s d m w.0 w.1 w.2, n)) p.1.1 w.3 c
 
 -- What is read at a type, with at most 100 messages nested, is refused for want of memory alone.
-pub only_memory : (e : ScalarWireError) (s : ExtMeaning) (v : V.Value) (d : Typ) (m : Value) → IsType d → nested m ≤ 100 → ReadsValue s v d m → IsRefused e s 100 d m → e ≡ OutOfMemory
+pub only_memory : (e : ScalarWireError) (s : ExtMeaning) (v : V.Value) (d : Typ) (m : Value) → IsType d → nested m ≤ 100 → ReadsValue s v d m → IsRefusedMessage e s 100 d m → e ≡ OutOfMemory
 only_memory OutOfMemory s v d m is n r h = refl
 only_memory TooDeep s v d m is n r h = absurd (omega (arith, n, h))
 only_memory e s v d m is n r h = absurd (no_cause_within h.0 e s v d m h.1 h.2 is n r h.3 h.4)
@@ -479,7 +479,7 @@ only_memory e s v d m is n r h = absurd (no_cause_within h.0 e s v d m h.1 h.2 i
 -- ---- answers
 
 -- What is read at a type is given, want of memory aside.
-pub value_complete : (r : Result (Option ScalarValue) ScalarWireError) (s : ExtMeaning) (d : Typ) (m : Value) → IsType d → IfOk r (λ x. ReadsValue s (seen x) d m) → IfErr r (λ e. IsRefused e s 100 d m)
+pub value_complete : (r : Result (Option ScalarValue) ScalarWireError) (s : ExtMeaning) (d : Typ) (m : Value) → IsType d → IfOk r (λ x. ReadsValue s (seen x) d m) → IfErr r (λ e. IsRefusedMessage e s 100 d m)
     → (v : V.Value) → nested m ≤ 100 → ReadsValue s v d m → MatchResult r (λ x. seen x ≡ v) (λ e. e ≡ OutOfMemory)
 value_complete (Ok x) s d m is h k v n r = reads-one s (seen x) v d m h r
 value_complete (Err e) s d m is h k v n r = only_memory e s v d m is n r k

@@ -14,7 +14,7 @@ use Rattle.vx_types.specs.declared.dtype.DType.{DType}
 use Rattle.vx_types.specs.declared.nullability.Nullability.{Nullability}
 use Rattle.vx_scalars.specs.Told.{Typed}
 use Rattle.vx_scalar_wire.specs.Reading.{ReadsValue, ReadsParts, EachReads, ReadsBy, ReadsScalar}
-use Rattle.vx_scalar_wire.specs.Refusing.{IsPartType, IsRefused, IsRefusedScalar, IsUnreadType}
+use Rattle.vx_scalar_wire.specs.Refusing.{IsPartType, IsRefusedMessage, IsRefusedScalar, IsUnreadType}
 use Rattle.vx_scalar_wire.specs.declared.error.ScalarWireError.{ScalarWireError}
 use Rattle.vx_scalar_wire.specs.declared.error.ScalarWireError.TheVariants.{OutOfMemory, BadDType}
 
@@ -25,7 +25,7 @@ lone_member g c = ((g, c) ∷ []) ∷ []
 -- A reader gives what is read at a type, as view sees it, or refuses with a cause.
 abbrev pub GivesValue : {X : Type 0} → (X → V.Value) → Result X ScalarWireError → ExtMeaning → ℕ → Typ → Value → Type 0
 GivesValue view (Ok x) s most d m = ReadsValue s (view x) d m
-GivesValue view (Err e) s most d m = IsRefused e s most d m
+GivesValue view (Err e) s most d m = IsRefusedMessage e s most d m
 
 -- The same of a scalar.
 abbrev pub GivesScalar : Result Typed ScalarWireError → ExtMeaning → ℕ → Value → Type 0
@@ -35,17 +35,17 @@ GivesScalar (Err e) s most l = IsRefusedScalar e s most l
 -- A reader gives the parts of a tuple from its messages, at a type that is no extension, or refuses the tuple at each type that is stored so.
 abbrev pub GivesParts : Result (List V.Value) ScalarWireError → ExtMeaning → ℕ → Typ → Value → Type 0
 GivesParts (Ok vs) s most d l = (ws : List Value) × (l ≡ all_messages 1 ws ∷ []) × ReadsParts (λ e. EachReads s (roses_of vs) e ws) (λ ts. ReadsBy s (roses_of vs) ts ws) d
-GivesParts (Err e) s most d l = (t : Typ) → bare t ≡ d → IsRefused e s most t (lone_member 9 (message (slots_of l)))
+GivesParts (Err e) s most d l = (t : Typ) → bare t ≡ d → IsRefusedMessage e s most t (lone_member 9 (message (slots_of l)))
 
 -- What each message is read as at one type, whatever tuple holds them.
 abbrev pub GivesEach : Result (List V.Value) ScalarWireError → ExtMeaning → ℕ → Typ → Value → Type 0
 GivesEach (Ok vs) s most f l = (ws : List Value) × (l ≡ all_messages 1 ws ∷ []) × EachReads s (roses_of vs) f ws
-GivesEach (Err e) s most f l = (t : Typ) → ((i : ℕ) → IsPartType (bare t) i f) → IsRefused e s most t (lone_member 9 (message (slots_of l)))
+GivesEach (Err e) s most f l = (t : Typ) → ((i : ℕ) → IsPartType (bare t) i f) → IsRefusedMessage e s most t (lone_member 9 (message (slots_of l)))
 
 -- The same, one by one, of a structure's fields.
 abbrev pub GivesRow : Result (List V.Value) ScalarWireError → ExtMeaning → ℕ → Roses Kind → Value → Type 0
 GivesRow (Ok vs) s most ts l = (ws : List Value) × (l ≡ all_messages 1 ws ∷ []) × ReadsBy s (roses_of vs) ts ws
-GivesRow (Err e) s most ts l = (t : Typ) (ns : List (List ℕ)) (n : Nullability) → bare t ≡ node (structure ns n) ts → IsRefused e s most t (lone_member 9 (message (slots_of l)))
+GivesRow (Err e) s most ts l = (t : Typ) (ns : List (List ℕ)) (n : Nullability) → bare t ≡ node (structure ns n) ts → IsRefusedMessage e s most t (lone_member 9 (message (slots_of l)))
 
 -- ---- types
 

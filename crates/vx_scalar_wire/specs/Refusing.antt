@@ -203,12 +203,12 @@ IsWithin (suc depth) s d m f u = (e : Typ) × (w : Value) × IsPart s d m e w ×
 -- ---- refusals
 
 -- A message has a cause, or one that stands within it has, or more than so many nest. Want of memory has no cause.
-abbrev pub IsRefused : ScalarWireError → ExtMeaning → ℕ → Typ → Value → Type 0
-IsRefused OutOfMemory s most d m = Unit {0}
-IsRefused TooDeep s most d m = most < nested m
-IsRefused e s most d m = (depth : ℕ) × (f : Typ) × (u : Value) × IsWithin depth s d m f u × IsCause e s f u
+abbrev pub IsRefusedMessage : ScalarWireError → ExtMeaning → ℕ → Typ → Value → Type 0
+IsRefusedMessage OutOfMemory s most d m = Unit {0}
+IsRefusedMessage TooDeep s most d m = most < nested m
+IsRefusedMessage e s most d m = (depth : ℕ) × (f : Typ) × (u : Value) × IsWithin depth s d m f u × IsCause e s f u
 
 -- A scalar's message has a cause, or its value's message is refused at its type.
 abbrev pub IsRefusedScalar : ScalarWireError → ExtMeaning → ℕ → Value → Type 0
 IsRefusedScalar OutOfMemory s most l = Unit {0}
-IsRefusedScalar e s most l = IsScalarCause e s l ⊎ ((t : Value) × (w : Value) × (f : Typ) × (l ≡ one_message 1 t ∷ one_message 2 w ∷ []) × IsRead (IsMessageOf t) s f × IsRefused e s most f w)
+IsRefusedScalar e s most l = IsScalarCause e s l ⊎ ((t : Value) × (w : Value) × (f : Typ) × (l ≡ one_message 1 t ∷ one_message 2 w ∷ []) × IsRead (IsMessageOf t) s f × IsRefusedMessage e s most f w)

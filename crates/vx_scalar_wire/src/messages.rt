@@ -12,7 +12,7 @@ ghost use Rattle.vx_types.specs.Well.{IsWell};
 ghost use Rattle.vx_type_wire.specs.Session.{ext_meaning};
 ghost use Rattle.vx_scalar_wire.specs.Answers.{GivesType};
 ghost use Rattle.vx_scalar_wire.specs.Reading.{ReadsValue, ReadsScalar, ShowsValue, IsKnownValue};
-ghost use Rattle.vx_scalar_wire.specs.Refusing.{IsRefused, IsRefusedScalar};
+ghost use Rattle.vx_scalar_wire.specs.Refusing.{IsRefusedMessage, IsRefusedScalar};
 ghost use Rattle.vx_scalar_wire.specs.RefusingCalls.{IsRefusedAt, IsRefusedBytes};
 ghost use Rattle.vx_scalars.specs.Seen.{seen};
 ghost use Rattle.vx_scalars.specs.Told.{Typed};
@@ -101,7 +101,7 @@ impl ScalarValueExt for ScalarValue {
         readers: &ExtSession,
     ) -> Result<Option<ScalarValue>, ScalarWireError>
         ensures read { IfOk result (λ x. ReadsValue (ext_meaning (λ b. accepted (b.vtable, b.value)) readers.now) (seen x) (typ dtype.now) message.now) }
-        ensures cause { IfErr result (λ e. IsRefused e (ext_meaning (λ b. accepted (b.vtable, b.value)) readers.now) 100 (typ dtype.now) message.now) }
+        ensures cause { IfErr result (λ e. IsRefusedMessage e (ext_meaning (λ b. accepted (b.vtable, b.value)) readers.now) 100 (typ dtype.now) message.now) }
         ensures complete { (v : V.Value) → nested message.now ≤ 100 → ReadsValue (ext_meaning (λ b. accepted (b.vtable, b.value)) readers.now) v (typ dtype.now) message.now
             → MatchResult result (λ x. seen x ≡ v) (λ e. e ≡ ScalarWireError.OutOfMemory) }
     {

@@ -15,7 +15,7 @@ ghost use Rattle.vx_types.specs.Seen.{typ};
 ghost use Rattle.vx_scalars.specs.Seen.{value_of, seen};
 ghost use Rattle.vx_scalar_wire.specs.Answers.{GivesEach, GivesParts, GivesRow, GivesScalar, GivesValue, IsRefusedType, ReadsTypes, lone_member};
 ghost use Rattle.vx_scalar_wire.specs.Reading.{ReadsValue, ReadsScalar};
-ghost use Rattle.vx_scalar_wire.specs.Refusing.{IsRefused, IsRefusedScalar};
+ghost use Rattle.vx_scalar_wire.specs.Refusing.{IsRefusedMessage, IsRefusedScalar};
 ghost use Rattle.vx_scalar_wire.specs.ScalarMessage.{scalar_lists};
 
 use crate::error::{ScalarWireError, TypeRefusal};
@@ -44,7 +44,7 @@ pub fn read_value<F: Fn(&pb::DType) -> Result<DType, TypeWireError>>(
     ensures read { (s : ExtMeaning) → ReadsTypes (λ t r. FnReturnsAt F.Fn types.now t r) s
         → IfOk result (λ x. ReadsValue s (seen x) (typ dtype.now) (value_view slots.now)) }
     ensures cause { (s : ExtMeaning) → ReadsTypes (λ t r. FnReturnsAt F.Fn types.now t r) s
-        → IfErr result (λ e. IsRefused e s 100 (typ dtype.now) (value_view slots.now)) }
+        → IfErr result (λ e. IsRefusedMessage e s 100 (typ dtype.now) (value_view slots.now)) }
 {
     value_in(alloc, slots, dtype, types, MOST_LEVELS)
 }

@@ -27,6 +27,6 @@ abbrev pub all_seen : List (Option ScalarValue) → List Value
 all_seen vs = each seen vs
 
 -- A value behind a pointer, which may be null.
-abbrev pub place_of : {A : Type 0} → Option (Box ScalarValue A) → Value
-place_of None = lone null
-place_of (Some b) = value_of b.value
+abbrev pub value_behind : {A : Type 0} → Option (Box ScalarValue A) → Value
+value_behind None = lone null
+value_behind (Some b) = value_of b.value

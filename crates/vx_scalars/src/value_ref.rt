@@ -24,9 +24,9 @@ impl Model for ValueRef {
 
     ghost coded = { value_code };
 
-    ghost use Rattle.vx_scalars.specs.Seen.{place_of};
+    ghost use Rattle.vx_scalars.specs.Seen.{value_behind};
 
-    ghost view = { λ a. place_of a.value };
+    ghost view = { λ a. value_behind a.value };
 
     ghost size = { place_size };
 
