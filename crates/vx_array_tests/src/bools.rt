@@ -1,12 +1,13 @@
 //! Tests of flags, and of validities: which are made, what their rows are, and what is refused.
 
 use crate::arrays::is_node;
-use crate::parts::{Made, aligned_to, both, buffer_of, copy_of, flags, has_row, some};
+use crate::parts::{Made, aligned_to, buffer_of, copy_of, flags, has_row, some};
 use std::alloc::Global;
 use vx_arrays::{
     Array, ArrayError, BoolArray, NullArray, PrimitiveArray, RowValue, validity_all_invalid,
 };
 use vx_buffer::Alignment;
+use vx_nested_parts::parts::both;
 use vx_types::{Nullability, PType, PValue};
 
 // A validity or none, or why it is not made.

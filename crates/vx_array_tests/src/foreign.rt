@@ -1,12 +1,13 @@
 //! Tests of foreign arrays: what they keep, what is known of their rows, and where they may not stand.
 
-use crate::parts::{Made, aligned_to, both, buffer_of, flags, numbers, row_of, some};
+use crate::parts::{Made, aligned_to, buffer_of, flags, numbers, row_of, some};
 use std::alloc::Global;
 use vx_arrays::{
     Array, ArrayError, Arrays, Body, BoolArray, DictArray, PrimitiveArray, RowValue,
     new_foreign_array,
 };
 use vx_buffer::{Alignment, BufferHandles};
+use vx_nested_parts::parts::both;
 use vx_types::{Blob, DType, Id, Nullability, PType};
 
 // Of which type rows are.

@@ -9,20 +9,6 @@ use vx_types::{Nullability, PType};
 /// An array, or why it is not made.
 pub type Made = Result<Array, ArrayError>;
 
-/// Two values, or why one of them is not made.
-pub fn both<A: Drop, B: Drop, E: Drop>(
-    first: Result<A, E>,
-    second: Result<B, E>,
-) -> Result<(A, B), E> {
-    match first {
-        Ok(first) => match second {
-            Ok(second) => Ok((first, second)),
-            Err(e) => Err(e),
-        },
-        Err(e) => Err(e),
-    }
-}
-
 /// A validity, where it is made.
 pub fn some(made: Made) -> Result<Option<Array>, ArrayError> {
     match made {

@@ -1,13 +1,14 @@
 //! Tests of one level: planned, built and written; and of the texts of errors.
 
 use std::alloc::Global;
-use vx_array_tests::parts::{aligned_to, both, buffer_of, prints};
+use vx_array_tests::parts::{aligned_to, buffer_of, prints};
 use vx_arrays::{Array, Arrays};
 use vx_buffer::{Alignment, BufferHandles};
 use vx_encodings::{
     ArrayHead, BoolMetadata, ChildPlan, ChildPlans, Encoding, EncodingError, build, has_message,
     metadata, plan,
 };
+use vx_nested_parts::parts::both;
 use vx_proto::{Message, ProtoError};
 use vx_type_wire::ExtSession;
 use vx_types::{Blob, DType, Id, Nullability, PType, TypeError};

@@ -5,9 +5,10 @@ use crate::statistics::{answered, told_of};
 use crate::varbins::one_text;
 use std::alloc::Global;
 use std::hash::{FoldHasher, Hasher};
-use vx_array_tests::parts::{Made, aligned_to, both, buffer_of, flags, numbers, some};
+use vx_array_tests::parts::{Made, aligned_to, buffer_of, flags, numbers, some};
 use vx_arrays::{Array, ArrayError, NullArray, PrimitiveArray, VarBinViewArray};
 use vx_buffer::{BufferHandle, BufferHandles};
+use vx_nested_parts::parts::both;
 use vx_scalars::Stat;
 use vx_types::{DType, DecimalType, Nullability, PType, PValue};
 

@@ -2,11 +2,12 @@
 
 use crate::varbins::one_text;
 use std::alloc::Global;
-use vx_array_tests::parts::{Made, both, buffer_of, some};
+use vx_array_tests::parts::{Made, buffer_of, some};
 use vx_arrays::{
     Array, ArrayError, BoolArray, DecimalArray, NullArray, PrimitiveArray, validity_all_invalid,
 };
 use vx_buffer::{Alignment, BufferHandle};
+use vx_nested_parts::parts::both;
 use vx_types::{DecimalDType, DecimalType, Nullability, PType};
 
 const MAYBE: Nullability = Nullability::Nullable;

@@ -3,10 +3,11 @@
 
 use crate::encodings::{head_of, plan_refusal};
 use std::alloc::Global;
-use vx_array_tests::parts::{Made, both, buffer_of, flags, numbers, row_of, some, value_at};
+use vx_array_tests::parts::{Made, buffer_of, flags, numbers, row_of, some, value_at};
 use vx_arrays::{Array, ArrayError, RowValue, VarBinArray};
 use vx_buffer::Alignment;
 use vx_encodings::{Encoding, EncodingError, VarBinMetadata, metadata};
+use vx_nested_parts::parts::both;
 use vx_proto::{Message, ProtoError};
 use vx_types::{DType, Nullability, PType};
 

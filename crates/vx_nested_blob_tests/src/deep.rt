@@ -1,10 +1,10 @@
 //! Trees of many levels, written and recoded, where deep trees are asked for and where not.
 
-use crate::wire::{blob_with, both, recoded_with, unbuilt};
+use crate::wire::{blob_with, recoded_with, unbuilt};
 use std::alloc::Global;
 use vx_arrays::{Array, ArrayError, Arrays, new_foreign_array};
 use vx_buffer::BufferHandles;
-use vx_nested_parts::parts::{Made, There, bytes, dicts, extensions, lists, one, structs};
+use vx_nested_parts::parts::{Made, There, both, bytes, dicts, extensions, lists, one, structs};
 use vx_nested_parts::rows::takes;
 use vx_registry::ArrayContext;
 use vx_serde::{SerializeOptions, SerializedArray, WireError};

@@ -1,10 +1,9 @@
 //! The steps of one node: what is planned, and the metadata that is written.
 
-use crate::wire::both;
 use std::alloc::Global;
 use vx_arrays::Array;
 use vx_encodings::{ArrayHead, Encoding, EncodingError, metadata, plan};
-use vx_nested_parts::parts::Made;
+use vx_nested_parts::parts::{Made, both};
 use vx_type_wire::ExtSession;
 use vx_types::{Blob, DType, Id, TypeError};
 

@@ -3,7 +3,7 @@
 use std::alloc::{AllocError, Global};
 use vx_arrays::{Array, ArrayError};
 use vx_buffer::ByteBuffer;
-use vx_nested_parts::parts::Made;
+use vx_nested_parts::parts::{Made, both};
 use vx_registry::{ArrayContext, ArraySession, ReadContext, VortexSession};
 use vx_serde::{
     ArrayExt, ArrayNodeFlatBuffer, Recoded, SerializeOptions, SerializedArray, WireError, recode,
@@ -20,16 +20,6 @@ pub(crate) enum Change<'a> {
     Bytes(&'a [u8], &'a [u8]),
     /// An identifier, by another one.
     Id(&'a str, &'a str),
-}
-
-/// Two values, or why one of them is not made.
-pub(crate) fn both<A: Drop, B: Drop, E: Drop>(
-    first: Result<A, E>,
-    second: Result<B, E>,
-) -> Result<(A, B), E> {
-    let first = first?;
-    let second = second?;
-    Ok((first, second))
 }
 
 // The encodings that are shipped, without readers of extensions.

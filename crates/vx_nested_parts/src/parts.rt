@@ -40,10 +40,10 @@ fn typed<T: Drop>(made: Result<T, TypeError>) -> Result<T, ArrayError> {
 }
 
 /// Two values, or why one of them is not made.
-pub fn both<A: Drop, B: Drop>(
-    first: Result<A, ArrayError>,
-    second: Result<B, ArrayError>,
-) -> Result<(A, B), ArrayError> {
+pub fn both<A: Drop, B: Drop, E: Drop>(
+    first: Result<A, E>,
+    second: Result<B, E>,
+) -> Result<(A, B), E> {
     let first = first?;
     let second = second?;
     Ok((first, second))

@@ -6,6 +6,7 @@ use crate::versioned::Versioned;
 use std::alloc::Global;
 use vx_arrays::{Array, Arrays, ExtensionArray, PrimitiveArray, new_foreign_array};
 use vx_buffer::{Alignment, BufferHandle, BufferHandles, ByteBuffer, ByteBuffers};
+use vx_nested_parts::parts::both;
 use vx_registry::{
     ArrayContext, ArrayPlugin, ArraySession, PluginEntry, ReadContext, VortexSession,
 };
@@ -27,16 +28,6 @@ pub(crate) fn lacking<T: Drop, E: Drop>(made: Result<T, E>) -> Result<T, WireErr
         Ok(value) => Ok(value),
         Err(_) => Err(WireError::OutOfMemory),
     }
-}
-
-/// Two values, or why one of them is not made.
-pub(crate) fn both<A: Drop, B: Drop>(
-    first: Result<A, WireError>,
-    second: Result<B, WireError>,
-) -> Result<(A, B), WireError> {
-    let first = first?;
-    let second = second?;
-    Ok((first, second))
 }
 
 // The bytes of numbers.

@@ -1,11 +1,12 @@
 use crate::odd::Oddity;
 use crate::parts::{
-    ASKING, NEW, OLD, allowing, allowing_unknown, asked_days, asking, both, days, has_ids,
-    number_type, numbers, odd, read, replaced, shipped, versioned, written,
+    ASKING, NEW, OLD, allowing, allowing_unknown, asked_days, asking, days, has_ids, number_type,
+    numbers, odd, read, replaced, shipped, versioned, written,
 };
 use std::alloc::Global;
 use vx_arrays::Array;
 use vx_buffer::ByteBuffer;
+use vx_nested_parts::parts::both;
 use vx_registry::{ArrayContext, VortexSession};
 use vx_serde::WireError;
 

@@ -4,12 +4,13 @@ ghost use Rattle.std.specs.Prelude.{IsTrue};
 ghost use Rattle.vx_types.specs.Fits.{IsVariant};
 
 use crate::scalars::{
-    Fields, MAYBE, Made, both, fixed_list, flag, list, maybe, no_structure, no_text, no_variant,
-    none, small, structure, variant, wide, with,
+    Fields, MAYBE, Made, fixed_list, flag, list, maybe, no_structure, no_text, no_variant, none,
+    small, structure, variant, wide, with,
 };
 use crate::texts::is_text;
 use std::alloc::Global;
 use vx_arrays::{ArrayError, merge_typed_scalar_as_variant};
+use vx_nested_parts::parts::both;
 use vx_scalars::{Scalar, ScalarError};
 use vx_types::{DType, Nullability};
 

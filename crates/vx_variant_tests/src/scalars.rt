@@ -1,6 +1,7 @@
 //! The scalars that are merged.
 
 use std::alloc::Global;
+use vx_nested_parts::parts::both;
 use vx_scalars::{Scalar, ScalarError, ScalarValue, Values, VariantRef};
 use vx_types::{DType, DTypes, Name, Names, Nullability, PType, PValue, StructFields, TypeRef};
 
@@ -11,16 +12,6 @@ pub(crate) const MAYBE: Nullability = Nullability::Nullable;
 
 /// A scalar, or why it is not made.
 pub(crate) type Made = Result<Scalar, ScalarError>;
-
-/// Two values, or why one of them is not made.
-pub(crate) fn both<A: Drop, B: Drop>(
-    first: Result<A, ScalarError>,
-    second: Result<B, ScalarError>,
-) -> Result<(A, B), ScalarError> {
-    let first = first?;
-    let second = second?;
-    Ok((first, second))
-}
 
 /// A number of 32 bits.
 pub(crate) fn small(number: i32) -> Made {
