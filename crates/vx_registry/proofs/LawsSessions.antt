@@ -1,5 +1,5 @@
 -- What holds of each session, for the proofs of other crates.
-use Rattle.std.proofs.Common.{ℕ, ◌≡◌, ◌⊎◌, ◌||◌, inl, inr, List, [], ◌∷◌, Option, Some, None, Bool, true, false, cond, sym, ap, ◌∙◌, subst, refl}
+use Rattle.std.proofs.Common.{ℕ, ◌≡◌, inl, inr, List, [], ◌∷◌, Option, Some, None, Bool, true, false, cond, sym, ap, ◌∙◌, subst, refl}
 use Rattle.std.specs.Prelude.{bytes_eq, option_and_then, option_map}
 use Rattle.std.specs.Map.{lookup}
 use Rattle.std.specs.declared.alloc.Global.{Global}
@@ -9,7 +9,6 @@ use Rattle.vx_array_tree.specs.Encoding as E
 use Rattle.vx_wire_tree.specs.Codec.{IsLawful, IsLawfulAt}
 use Rattle.vx_wire_tree.specs.Context.{is_among}
 use Rattle.vx_wire_tree.specs.Plugin.{PluginMeaning}
-use Rattle.std.proofs.lemmas.Slice.Eq.{bytes_eq-Decides}
 use Rattle.vx_wire_tree.specs.Session.{SessionMeaning, Reader, shipped, revised, plugin, encoding_by, entry_id, IsShippedReader, IsShipped, HasPairedPlugins}
 use Rattle.vx_encodings.specs.Messages.{codec}
 use Rattle.vx_encodings.specs.Plain.{plain_encoding}
@@ -21,6 +20,7 @@ use Rattle.vx_registry.specs.declared.array_session.ArraySession.{ArraySession}
 use Rattle.vx_registry.specs.declared.tables.Entry.{Entry}
 use Rattle.vx_registry.specs.declared.tables.Entry.TheVariants.{Shipped, Revised, Boxed}
 use Rattle.vx_registry.proofs.Meanings.{found_put}
+use Rattle.vx_registry.proofs.Putting.{which, some_still, some_new, is_one, one_is}
 use Rattle.vx_registry.proofs.Shipped.{found_is_shipped}
 
 -- The session of the shipped encodings reads and writes by shipped encodings alone.
@@ -79,43 +79,21 @@ paired_alone s h = record {
   own_identifier = λ id p e. absurd (no_plugin (s.writer id) p (h.writes id) e);
 }
 
--- What is found is the reader that came, where it came, or what was found before.
-came : (t : Bool) (r q : Reader) (o : Option Reader) → cond t (Some r) o ≡ Some q → ((t ≡ true) × (r ≡ q)) ⊎ (o ≡ Some q)
-came true r q o e = inl (refl, cc)
-came false r q o e = inr e
-
-there : (t : Bool) (r : Reader) (o : Option Reader) → t ≡ true → (q : Reader) × (cond t (Some r) o ≡ Some q)
-there true r o e = (r, refl)
-there false r o e = absurd (cc)
-
-still_there : (t : Bool) (r : Reader) (o : Option Reader) → ((q : Reader) × (o ≡ Some q)) → (q : Reader) × (cond t (Some r) o ≡ Some q)
-still_there true r o h = (r, refl)
-still_there false r o h = h
-
-found_as : (o p : Option Reader) → o ≡ p → ((q : Reader) × (p ≡ Some q)) → (q : Reader) × (o ≡ Some q)
-found_as o p e h = (h.0, e ∙ h.1)
-
-the_one : (b : Bool) → (b || false) ≡ true → b ≡ true
-the_one true e = refl
-the_one false e = e
-
 -- A reader that comes under identifiers, and as the writer of its own, leaves each plugin that reads with its writer, and each
 -- that writes under its own identifier.
 pub paired_registered : (old now : SessionMeaning) (ids : List (List ℕ)) (r : Reader) → ((id : List ℕ) → now.reader id ≡ found_with ids r old.reader id)
     → ((id : List ℕ) → now.writer id ≡ found_with (entry_id r ∷ []) r old.writer id) → HasPairedPlugins old → HasPairedPlugins now
-paired_registered old now ids r reads writes h = record {
-  read_is_written = λ id p e.
-      let own = is_among p.id (entry_id r ∷ []) in
-      found_as (now.writer p.id) _ (writes p.id)
-      (
-      elim (came (is_among id ids) r (plugin p) (old.reader id) (sym (reads id) ∙ e)) [
-        | inl k ↦ there own r (old.writer p.id) (ap (λ b. b || false) ((bytes_eq-Decides p.id (entry_id r)).1 (ap (λ q. entry_id q) (sym k.1))))
-        | inr k ↦ still_there own r (old.writer p.id) (h.read_is_written id p k)
-      ]
-      );
-  own_identifier = λ id p e.
-      elim (came (is_among id (entry_id r ∷ [])) r (plugin p) (old.writer id) (sym (writes id) ∙ e)) [
-        | inl k ↦ (bytes_eq-Decides id (entry_id r)).0 (the_one (bytes_eq id (entry_id r)) k.0) ∙ ap (λ q. entry_id q) k.1
-        | inr k ↦ h.own_identifier id p k
-      ];
-}
+paired_registered old now ids r reads writes h =
+    let own = λ (id : List ℕ). is_among id (entry_id r ∷ []) in
+    record {
+      read_is_written = λ id p e.
+          elim (which (is_among id ids) r (plugin p) (old.reader id) (now.reader id) (reads id) e) [
+            | inl k ↦ some_new (own p.id) r (old.writer p.id) (now.writer p.id) (writes p.id) (one_is p.id (entry_id r) (ap (λ q. entry_id q) (sym k.1)))
+            | inr k ↦ some_still (own p.id) r (old.writer p.id) (now.writer p.id) (writes p.id) (h.read_is_written id p k.1)
+          ];
+      own_identifier = λ id p e.
+          elim (which (own id) r (plugin p) (old.writer id) (now.writer id) (writes id) e) [
+            | inl k ↦ is_one id (entry_id r) k.0 ∙ ap (λ q. entry_id q) k.1
+            | inr k ↦ h.own_identifier id p k.1
+          ];
+    }

@@ -3,16 +3,11 @@ use Rattle.std.proofs.Common.{ℕ, zero, suc, ◌≡◌, ◌<◌, arith, List, [
 use Rattle.std.specs.Prelude.{bytes_eq, option_map, option_and_then, slice_get}
 use Rattle.std.specs.List.{list_any}
 use Rattle.std.specs.Map.{lookup}
+use Rattle.std.proofs.lemmas.Option.{none-some}
 use Rattle.vx_types.specs.Known.{ExtMeaning}
-use Rattle.vx_array_tree.specs.Encoding as E
-use Rattle.vx_array_tree.specs.Encodings.Primitives as Primitives
-use Rattle.vx_array_tree.specs.Table.{id_of}
-use Rattle.vx_wire_tree.specs.Plugin.{PluginMeaning}
-use Rattle.vx_wire_tree.specs.Revised.{revised_name}
-use Rattle.vx_wire_tree.specs.Session.{SessionMeaning, entry_id, Reader, shipped, revised, plugin, IsPaired, IsReadAgainBy, IsRevisedAgainBy}
-use Rattle.vx_encodings.specs.Plain.{plain_encoding}
-use Rattle.vx_encodings.specs.declared.encoding.Encoding.{Encoding}
-use Rattle.vx_registry.specs.Session.{Registry, Entries, Plugins, ArePaired, AreWithin, IsReadAgain, IsRevisedAgain, entry, entry_in, found, own_id, put_all, tables_meaning, both_ids, found_with, no_plugins, shipped_registry, shipped_meaning, with_revised, revised_meaning}
+use Rattle.vx_wire_tree.specs.Plugin.{PluginMeaning, none}
+use Rattle.vx_wire_tree.specs.Session.{SessionMeaning, entry_id, Reader, revised, plugin, IsPaired}
+use Rattle.vx_registry.specs.Session.{Registry, Entries, Plugins, ArePaired, AreWithin, entry_in, found, put_all, tables_meaning, both_ids, found_with, no_plugins, shipped_registry, shipped_meaning, with_revised, revised_meaning}
 use Rattle.vx_registry.specs.declared.tables.Entry.{Entry}
 use Rattle.vx_registry.specs.declared.tables.Entry.TheVariants.{Shipped, Revised, Boxed}
 use Rattle.vx_registry.proofs.Putting.{lookup_put_all}
@@ -73,82 +68,45 @@ found_put f e r ids table now id m is =
 
 -- ---- what tables that fit one another mean
 
--- An encoding that is found is that of an entry.
-plugin_is : (o : Option PluginMeaning) (e : E.Encoding) → option_map (λ p. plugin p) o ≡ Some (shipped e) → ⊥
-plugin_is None e p = cc
-plugin_is (Some x) e p = cc
+-- A plugin that reads and writes no array.
+idle : PluginMeaning
+idle = record {
+  id = [];
+  declared = [];
+  supported = λ id. false;
+  serialize = λ t. none;
+  plan = λ h x. None;
+  build = λ h bs ts x. None;
+  one_each = λ h x ps p. absurd (cc);
+  as_asked = λ h bs ts x t p all q. absurd (cc);
+  plans_again = λ t y x sound normal known p. absurd (cc);
+  builds_again = λ t y x sound normal known p. absurd (cc);
+}
 
-encoding_is : (f : Plugins) (o : Option Entry) (e : E.Encoding) → option_and_then (entry_in f) o ≡ Some (shipped e) → (g : Encoding) × (o ≡ Some (Shipped g)) × (plain_encoding g ≡ e)
-encoding_is f None e p = absurd (cc)
-encoding_is f (Some (Shipped g)) e p = (g, refl, cc)
-encoding_is f (Some Revised) e p = absurd (cc)
-encoding_is f (Some (Boxed n)) e p = absurd (plugin_is (f n) e p)
+-- A plugin where there is one, and else the one that does nothing.
+abbrev filled : Option PluginMeaning → PluginMeaning
+filled None = idle
+filled (Some p) = p
 
-pub found_encoding : (f : Plugins) (table : Entries) (id : List ℕ) (e : E.Encoding) → found f table id ≡ Some (shipped e) → (g : Encoding) × (lookup (bytes_eq id) table ≡ Some (Shipped g)) × (plain_encoding g ≡ e)
-found_encoding f table id e p = encoding_is f (lookup (bytes_eq id) table) e p
-
-revised_plugin : (o : Option PluginMeaning) → option_map (λ p. plugin p) o ≡ Some revised → ⊥
-revised_plugin None p = cc
-revised_plugin (Some x) p = cc
-
-revised_is : (f : Plugins) (o : Option Entry) → option_and_then (entry_in f) o ≡ Some revised → o ≡ Some Revised
-revised_is f None p = absurd (cc)
-revised_is f (Some (Shipped g)) p = absurd (cc)
-revised_is f (Some Revised) p = refl
-revised_is f (Some (Boxed n)) p = absurd (revised_plugin (f n) p)
+filled_is : (o : Option PluginMeaning) → ((p : PluginMeaning) × (o ≡ Some p)) → Some (filled o) ≡ o
+filled_is None h = absurd (none-some _ h.1)
+filled_is (Some p) h = refl
 
 module _ (f : Plugins) (k : ℕ) (all : (n : ℕ) → n < k → (p : PluginMeaning) × (f n ≡ Some p)) where
-  -- An entry whose number is below is found as something.
-  pub entry_some : (e : Entry) → ((n : ℕ) → e ≡ Boxed n → n < k) → (r : Reader) × (entry_in f e ≡ Some r)
-  entry_some (Shipped e) h = (entry e, refl)
-  entry_some Revised h = (revised, refl)
-  entry_some (Boxed n) h = let x = all n (h n refl) in (plugin x.0, ap (λ z. option_map (λ p. plugin p) z) x.1)
-
-  pub found_some : (table : Entries) (id : List ℕ) (e : Entry) → lookup (bytes_eq id) table ≡ Some e → ((n : ℕ) → lookup (bytes_eq id) table ≡ Some (Boxed n) → n < k) → (r : Reader) × (found f table id ≡ Some r)
-  found_some table id e p h =
-      let x = entry_some e (λ n q. h n (p ∙ ap (λ z. Some z) q)) in
-      (x.0, ap (λ z. option_and_then (entry_in f) z) p ∙ x.1)
-
-  read_again : (o : Option Entry) (g : Encoding) → IsReadAgain o g → ((n : ℕ) → o ≡ Some (Boxed n) → n < k) → IsReadAgainBy (option_and_then (entry_in f) o) (plain_encoding g)
-  read_again None g h w = absurd h
-  read_again (Some (Shipped e)) g h w = ap (λ z. plain_encoding z) h
-  read_again (Some Revised) g h w = absurd h
-  read_again (Some (Boxed n)) g h w =
-      let x = all n (w n refl) in
-      subst (λ z. IsReadAgainBy z (plain_encoding g)) (sym (ap (λ z. option_map (λ p. plugin p) z) x.1)) tt
-
-  revised_again : (o : Option Entry) → IsRevisedAgain o → ((n : ℕ) → o ≡ Some (Boxed n) → n < k) → IsRevisedAgainBy (option_and_then (entry_in f) o)
-  revised_again None h w = absurd h
-  revised_again (Some (Shipped e)) h w = absurd h
-  revised_again (Some Revised) h w = tt
-  revised_again (Some (Boxed n)) h w =
-      let x = all n (w n refl) in
-      subst (λ z. IsRevisedAgainBy z) (sym (ap (λ z. option_map (λ p. plugin p) z) x.1)) tt
+  -- What is found is the same with a plugin for each number, where those that stand in the table are below.
+  found_filled : (o : Option Entry) → ((n : ℕ) → o ≡ Some (Boxed n) → n < k) → option_and_then (entry_in (λ n. Some (filled (f n)))) o ≡ option_and_then (entry_in f) o
+  found_filled None h = refl
+  found_filled (Some (Shipped e)) h = refl
+  found_filled (Some Revised) h = refl
+  found_filled (Some (Boxed n)) h = ap (λ z. option_map (λ p. plugin p) z) (filled_is (f n) (all n (h n refl)))
 
   -- Tables that fit one another, and whose numbers are below, mean readers and writers that do.
   pub paired_meaning : (r : Registry) → ArePaired r → AreWithin r k → (x : ExtMeaning) → IsPaired (tables_meaning f r x)
-  paired_meaning r h w x = record {
-    read_is_written = λ id e p.
-        let a = found_encoding f r.readers id e p in
-        let b = h.read_is_written id a.0 a.1 in
-        let c = found_some r.writers (own_id a.0) b.0 b.1 (λ n q. w.writers (own_id a.0) n q) in
-        subst (λ (z : E.Encoding). (q : Reader) × (found f r.writers (id_of z) ≡ Some q)) a.2 c;
-    own_identifier = λ id e p.
-        let a = found_encoding f r.writers id e p in
-        h.own_identifier id a.0 a.1 ∙ ap (λ z. id_of z) a.2;
-    written_is_read = λ id e p.
-        let a = found_encoding f r.writers id e p in
-        subst (λ z. IsReadAgainBy (found f r.readers id) z) a.2 (read_again (lookup (bytes_eq id) r.readers) a.0 (h.written_is_read id a.0 a.1) (λ n q. w.readers id n q));
-    revised_is_written = λ id p.
-        let b = h.revised_is_written id (revised_is f (lookup (bytes_eq id) r.readers) p) in
-        found_some r.writers Primitives.id b.0 b.1 (λ n q. w.writers Primitives.id n q);
-    own_revised = λ id p. h.own_revised id (revised_is f (lookup (bytes_eq id) r.writers) p);
-    revised_is_read = λ p.
-        let b = h.revised_is_read (revised_is f (lookup (bytes_eq Primitives.id) r.writers) p) in (
-          revised_again (lookup (bytes_eq Primitives.id) r.readers) b.0 (λ n q. w.readers Primitives.id n q),
-          revised_again (lookup (bytes_eq revised_name) r.readers) b.1 (λ n q. w.readers revised_name n q),
-        );
-  }
+  paired_meaning r h w x =
+      let read = λ (id : List ℕ). found_filled (lookup (bytes_eq id) r.readers) (λ n q. w.readers id n q) in
+      let write = λ (id : List ℕ). found_filled (lookup (bytes_eq id) r.writers) (λ n q. w.writers id n q) in
+      let same : tables_meaning (λ n. Some (filled (f n))) r x ≡ tables_meaning f r x = λ i. record { reader = λ id. read id i; writer = λ id. write id i; ext = x } in
+      subst (λ z. IsPaired z) same (h (λ n. filled (f n)) x)
 
 -- ---- sessions of boxes
 

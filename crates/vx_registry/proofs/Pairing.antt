@@ -1,184 +1,140 @@
 -- Tables that fit one another, once an entry more is registered.
-use Rattle.std.proofs.Common.{ℕ, ◌≡◌, ◌+◌, ◌||◌, inl, inr, arith, List, Option, Some, Result, Ok, Err, OnOk, OnErr, Bool, true, false, cond, refl, sym, ap, ◌∙◌, subst}
+use Rattle.std.proofs.Common.{ℕ, ◌≡◌, ◌⊎◌, ◌+◌, ◌||◌, inl, inr, arith, List, [], ◌∷◌, Option, Some, Result, Ok, Err, OnOk, OnErr, Bool, true, false, refl, sym, ap, ◌∙◌, subst}
 use Rattle.std.specs.Prelude.{bytes_eq}
 use Rattle.std.specs.List.{list_any}
 use Rattle.std.specs.Map.{lookup}
-use Rattle.std.proofs.lemmas.Slice.Eq.{bytes_eq-Decides}
+use Rattle.vx_array_tree.specs.Encoding as E
 use Rattle.vx_array_tree.specs.Encodings.Primitives as Primitives
+use Rattle.vx_array_tree.specs.Table.{id_of}
+use Rattle.vx_wire_tree.specs.Context.{is_among}
+use Rattle.vx_wire_tree.specs.Plugin.{PluginMeaning}
 use Rattle.vx_wire_tree.specs.Revised.{revised_name}
+use Rattle.vx_wire_tree.specs.Session.{Reader, shipped, revised, plugin, SessionMeaning, IsPaired, IsReadAgainBy, IsRevisedAgainBy}
 use Rattle.vx_encodings.specs.declared.encoding.Encoding.{Encoding}
-use Rattle.vx_encodings.specs.declared.encoding.Encoding.TheVariants.{Null}
-use Rattle.vx_registry.specs.Session.{Registry, ArePaired, AreWithin, IsReadAgain, IsRevisedAgain, both_ids, own_id, registered, with_revised, with_plugin}
+use Rattle.vx_registry.specs.Session.{Registry, ArePaired, AreWithin, both_ids, entry, entry_in, found_with, own_id, put_all, registered, with_revised, with_plugin}
 use Rattle.vx_registry.specs.declared.error.RegistryError.{RegistryError}
 use Rattle.vx_registry.specs.declared.tables.Entry.{Entry}
 use Rattle.vx_registry.specs.declared.tables.Entry.TheVariants.{Shipped, Revised, Boxed}
-use Rattle.vx_registry.proofs.Putting.{eq_sym, lookup_put, lookup_put_all, which, some_still, some_new}
-
-own_encoding : (e f : Encoding) → Shipped e ≡ Shipped f → e ≡ f
-own_encoding e f p = cc
-
-never_both : {A : Type 0} (n : ℕ) (e : Encoding) → Boxed n ≡ Shipped e → A
-never_both n e p = absurd (cc)
-
-never_revised : {A : Type 0} (e : Encoding) → Shipped e ≡ Revised → A
-never_revised e p = absurd (cc)
-
-never_shipped : {A : Type 0} (e : Encoding) → Revised ≡ Shipped e → A
-never_shipped e p = absurd (cc)
-
-never_boxed : {A : Type 0} (n : ℕ) → Boxed n ≡ Revised → A
-never_boxed n p = absurd (cc)
+use Rattle.vx_registry.proofs.Meanings.{found_put}
+use Rattle.vx_registry.proofs.Putting.{eq_sym, lookup_put, lookup_put_all, which, some_still, some_new, at_true, at_false, is_one, one_is}
 
 -- No encoding has the second identifier of primitives.
-never_second : (e : Encoding) → bytes_eq (own_id e) revised_name ≡ false
-never_second Null = refl
+never_second : (e : E.Encoding) → bytes_eq (id_of e) revised_name ≡ false
+never_second E.null = refl
 never_second _ = refl
 
-at_true : (t : Bool) (a : Entry) (o p : Option Entry) → p ≡ cond t (Some a) o → t ≡ true → p ≡ Some a
-at_true true a o p e h = e
-at_true false a o p e h = absurd (cc)
+-- The identifier under which a reader writes and those under which it reads: an encoding's own, or both of primitives;
+-- those of a plugin are any.
+abbrev StandsUnder : Reader → List ℕ → List (List ℕ) → Type 0
+StandsUnder (shipped e) w ids = (w ≡ id_of e) × (ids ≡ w ∷ [])
+StandsUnder revised w ids = (w ≡ Primitives.id) × (ids ≡ both_ids)
+StandsUnder (plugin p) w ids = Unit {0}
 
-at_false : (t : Bool) (a : Entry) (o p : Option Entry) → p ≡ cond t (Some a) o → t ≡ false → p ≡ o
-at_false true a o p e h = absurd (cc)
-at_false false a o p e h = e
+-- A reader that comes under an identifier is a plugin, or does not come there.
+abbrev IsPluginAt : Reader → List (List ℕ) → List ℕ → Type 0
+IsPluginAt r ids id = ((p : PluginMeaning) × (r ≡ plugin p)) ⊎ (is_among id ids ≡ false)
+
+module _ (w : List ℕ) (ids : List (List ℕ)) where
+  -- So it is under an identifier that is not its own, nor the second of primitives.
+  elsewhere : (r : Reader) → StandsUnder r w ids → (id : List ℕ) → is_among id (w ∷ []) ≡ false → bytes_eq id revised_name ≡ false → IsPluginAt r ids id
+  elsewhere (shipped f) s id a b = inr (ap (λ z. is_among id z) s.1 ∙ a)
+  elsewhere revised s id a b = inr (ap (λ z. is_among id z) s.1 ∙ ap (λ t. bytes_eq id Primitives.id || (t || false)) b ∙ sym (ap (λ z. is_among id (z ∷ [])) s.0) ∙ a)
+  elsewhere (plugin p) s id a b = inl (p, refl)
+
+  -- And under the second of primitives, where their first is not its own.
+  at_second : (r : Reader) → StandsUnder r w ids → is_among Primitives.id (w ∷ []) ≡ false → IsPluginAt r ids revised_name
+  at_second (shipped f) s a = inr (ap (λ z. is_among revised_name z) s.1 ∙ ap (λ z. is_among revised_name (z ∷ [])) s.0 ∙ ap (λ t. t || false) (eq_sym revised_name (id_of f) ∙ never_second f))
+  at_second revised s a = let q : true ≡ false = sym (ap (λ z. is_among Primitives.id (z ∷ [])) s.0) ∙ a in absurd (cc)
+  at_second (plugin p) s a = inl (p, refl)
+
+-- A session in which a reader came under identifiers, and as the writer of one.
+module _ (old now : SessionMeaning) (r : Reader) (w : List ℕ) (ids : List (List ℕ)) (stands : StandsUnder r w ids)
+    (reads : (id : List ℕ) → now.reader id ≡ found_with ids r old.reader id) (writes : (id : List ℕ) → now.writer id ≡ found_with (w ∷ []) r old.writer id) where
+  -- What it reads is written where the reader is, and where it was.
+  written_still : (q : Reader) (v id : List ℕ) → (r ≡ q → w ≡ v) → (old.reader id ≡ Some q → (z : Reader) × (old.writer v ≡ Some z)) → now.reader id ≡ Some q → (z : Reader) × (now.writer v ≡ Some z)
+  written_still q v id new before p =
+      let own = is_among v (w ∷ []) in
+      elim (which (is_among id ids) r q (old.reader id) (now.reader id) (reads id) p) [
+        | inl k ↦ some_new own r (old.writer v) (now.writer v) (writes v) (one_is v w (sym (new k.1)))
+        | inr k ↦ some_still own r (old.writer v) (now.writer v) (writes v) (before k.1)
+      ]
+
+  -- What it writes stands under its own identifier.
+  own_still : (q : Reader) (v id : List ℕ) → (r ≡ q → w ≡ v) → (old.writer id ≡ Some q → id ≡ v) → now.writer id ≡ Some q → id ≡ v
+  own_still q v id new before p =
+      elim (which (is_among id (w ∷ [])) r q (old.writer id) (now.writer id) (writes id) p) [
+        | inl k ↦ is_one id w k.0 ∙ new k.1
+        | inr k ↦ before k.1
+      ]
+
+  -- What reads an identifier is what came, where it came.
+  reads_new : (q : Reader) (id : List ℕ) → r ≡ q → is_among id ids ≡ true → now.reader id ≡ Some q
+  reads_new q id e t = at_true (is_among id ids) r (old.reader id) (now.reader id) (reads id) t ∙ ap (λ z. Some z) e
+
+  -- What holds of each plugin, and of what read an identifier, holds of what reads it now.
+  kept_at : (P : Option Reader → Type 0) → ((p : PluginMeaning) → P (Some (plugin p))) → (id : List ℕ) (t : Bool) → is_among id ids ≡ t → IsPluginAt r ids id → P (old.reader id) → P (now.reader id)
+  kept_at P all id true e (inl k) h = subst P (sym (reads_new (plugin k.0) id k.1 e)) (all k.0)
+  kept_at P all id true e (inr k) h = absurd (cc)
+  kept_at P all id false e k h = subst P (sym (at_false (is_among id ids) r (old.reader id) (now.reader id) (reads id) e)) h
+
+  own_shipped : (e : E.Encoding) → r ≡ shipped e → (w ≡ id_of e) × (ids ≡ w ∷ [])
+  own_shipped e k = subst (λ z. StandsUnder z w ids) k stands
+
+  own_revised : r ≡ revised → (w ≡ Primitives.id) × (ids ≡ both_ids)
+  own_revised k = subst (λ z. StandsUnder z w ids) k stands
+
+  -- It is paired where the one before was.
+  pub paired_with : IsPaired old → IsPaired now
+  paired_with h = record {
+    read_is_written = λ id e p. written_still (shipped e) (id_of e) id (λ k. (own_shipped e k).0) (λ q. h.read_is_written id e q) p;
+    own_identifier = λ id e p. own_still (shipped e) (id_of e) id (λ k. (own_shipped e k).0) (λ q. h.own_identifier id e q) p;
+    written_is_read = λ id e p.
+        let P : Option Reader → Type 0 = λ z. IsReadAgainBy z e in
+        elim (which (is_among id (w ∷ [])) r (shipped e) (old.writer id) (now.writer id) (writes id) p) [
+          | inl k ↦ subst P (sym (reads_new (shipped e) id k.1 (ap (λ z. is_among id z) (own_shipped e k.1).1 ∙ k.0))) refl
+          | inr k ↦
+              let second = ap (λ z. bytes_eq z revised_name) (h.own_identifier id e k.1) ∙ never_second e in
+              kept_at P (λ q. tt) id (is_among id ids) refl (elsewhere w ids r stands id k.0 second) (h.written_is_read id e k.1)
+        ];
+    revised_is_written = λ id p. written_still revised Primitives.id id (λ k. (own_revised k).0) (λ q. h.revised_is_written id q) p;
+    own_revised = λ id p. own_still revised Primitives.id id (λ k. (own_revised k).0) (λ q. h.own_revised id q) p;
+    revised_is_read = λ p.
+        let P : Option Reader → Type 0 = λ z. IsRevisedAgainBy z in
+        elim (which (is_among Primitives.id (w ∷ [])) r revised (old.writer Primitives.id) (now.writer Primitives.id) (writes Primitives.id) p) [
+          | inl k ↦
+              let both = (own_revised k.1).1 in (
+                subst P (sym (reads_new revised Primitives.id k.1 (ap (λ z. is_among Primitives.id z) both))) tt,
+                subst P (sym (reads_new revised revised_name k.1 (ap (λ z. is_among revised_name z) both))) tt,
+              )
+          | inr k ↦
+              let x = h.revised_is_read k.1 in (
+                kept_at P (λ q. tt) Primitives.id (is_among Primitives.id ids) refl (elsewhere w ids r stands Primitives.id k.0 refl) x.0,
+                kept_at P (λ q. tt) revised_name (is_among revised_name ids) refl (at_second w ids r stands k.0) x.1,
+              )
+        ];
+  }
+
+-- An entry comes under identifiers, and as the writer of one.
+paired_entry : (e : Entry) (w : List ℕ) (ids : List (List ℕ)) (old now : Registry) → now.readers ≡ put_all e ids old.readers → now.writers ≡ put_all e (w ∷ []) old.writers
+    → ((f : ℕ → PluginMeaning) → (r : Reader) × (entry_in (λ n. Some (f n)) e ≡ Some r) × StandsUnder r w ids) → ArePaired old → ArePaired now
+paired_entry e w ids old now readers writers stands h = λ f x.
+    let s = stands f in
+    let plugins = λ (n : ℕ). Some (f n) in
+    let read = λ (id : List ℕ). found_put plugins e s.0 ids old.readers now.readers id s.1 readers in
+    let write = λ (id : List ℕ). found_put plugins e s.0 (w ∷ []) old.writers now.writers id s.1 writers in
+    paired_with _ _ s.0 w ids s.2 read write (h f x)
 
 -- An encoding comes under its own identifier.
 pub paired_shipped : (e : Encoding) (r : Registry) → ArePaired r → ArePaired (registered e r)
-paired_shipped e r h =
-    let own = own_id e in
-    let read = λ (id : List ℕ). lookup_put (Shipped e) own id r.readers in
-    let write = λ (id : List ℕ). lookup_put (Shipped e) own id r.writers in
-    record {
-      read_is_written = λ id f p.
-          elim (which (bytes_eq own id) (Shipped e) (Shipped f) (lookup (bytes_eq id) r.readers) _ (read id) p) [
-            | inl k ↦
-                some_new (bytes_eq own (own_id f)) (Shipped e) (lookup (bytes_eq (own_id f)) r.writers) _ (write (own_id f))
-                ((bytes_eq-Decides own (own_id f)).1 (ap (λ g. own_id g) (own_encoding e f k.1)))
-            | inr k ↦ some_still (bytes_eq own (own_id f)) (Shipped e) (lookup (bytes_eq (own_id f)) r.writers) _ (write (own_id f)) (h.read_is_written id f k.1)
-          ];
-      own_identifier = λ id f p.
-          elim (which (bytes_eq own id) (Shipped e) (Shipped f) (lookup (bytes_eq id) r.writers) _ (write id) p) [
-            | inl k ↦ sym ((bytes_eq-Decides own id).0 k.0) ∙ ap (λ g. own_id g) (own_encoding e f k.1)
-            | inr k ↦ h.own_identifier id f k.1
-          ];
-      written_is_read = λ id f p.
-          let R : Option Entry → Type 0 = λ z. IsReadAgain z f in
-          elim (which (bytes_eq own id) (Shipped e) (Shipped f) (lookup (bytes_eq id) r.writers) _ (write id) p) [
-            | inl k ↦ subst R (sym (at_true (bytes_eq own id) (Shipped e) (lookup (bytes_eq id) r.readers) _ (read id) k.0)) (own_encoding e f k.1)
-            | inr k ↦ subst R (sym (at_false (bytes_eq own id) (Shipped e) (lookup (bytes_eq id) r.readers) _ (read id) k.0)) (h.written_is_read id f k.1)
-          ];
-      revised_is_written = λ id p.
-          elim (which (bytes_eq own id) (Shipped e) Revised (lookup (bytes_eq id) r.readers) _ (read id) p) [
-            | inl k ↦ never_revised e k.1
-            | inr k ↦ some_still (bytes_eq own Primitives.id) (Shipped e) (lookup (bytes_eq Primitives.id) r.writers) _ (write Primitives.id) (h.revised_is_written id k.1)
-          ];
-      own_revised = λ id p.
-          elim (which (bytes_eq own id) (Shipped e) Revised (lookup (bytes_eq id) r.writers) _ (write id) p) [
-            | inl k ↦ never_revised e k.1
-            | inr k ↦ h.own_revised id k.1
-          ];
-      revised_is_read = λ p.
-          elim (which (bytes_eq own Primitives.id) (Shipped e) Revised (lookup (bytes_eq Primitives.id) r.writers) _ (write Primitives.id) p) [
-            | inl k ↦ never_revised e k.1
-            | inr k ↦
-                let x = h.revised_is_read k.1 in
-                let a = at_false (bytes_eq own Primitives.id) (Shipped e) (lookup (bytes_eq Primitives.id) r.readers) _ (read Primitives.id) k.0 in
-                let b = at_false (bytes_eq own revised_name) (Shipped e) (lookup (bytes_eq revised_name) r.readers) _ (read revised_name) (never_second e) in
-                (subst (λ z. IsRevisedAgain z) (sym a) x.0, subst (λ z. IsRevisedAgain z) (sym b) x.1)
-          ];
-    }
-
-revised_still : (t : Bool) (n : ℕ) (o p : Option Entry) → p ≡ cond t (Some (Boxed n)) o → IsRevisedAgain o → IsRevisedAgain p
-revised_still true n o p e h = subst (λ z. IsRevisedAgain z) (sym e) tt
-revised_still false n o p e h = subst (λ z. IsRevisedAgain z) (sym e) h
-
-read_still : (t : Bool) (n : ℕ) (o p : Option Entry) (f : Encoding) → p ≡ cond t (Some (Boxed n)) o → IsReadAgain o f → IsReadAgain p f
-read_still true n o p f e h = subst (λ z. IsReadAgain z f) (sym e) tt
-read_still false n o p f e h = subst (λ z. IsReadAgain z f) (sym e) h
+paired_shipped e r h = paired_entry (Shipped e) (own_id e) (own_id e ∷ []) r (registered e r) refl refl (λ f. (entry e, refl, (refl, refl))) h
 
 -- A plugin comes under identifiers.
 pub paired_boxed : (n : ℕ) (i : List ℕ) (ids : List (List ℕ)) (r : Registry) → ArePaired r → ArePaired (with_plugin n i ids r)
-paired_boxed n i ids r h =
-    let read = λ (id : List ℕ). lookup_put_all (Boxed n) ids id r.readers in
-    let write = λ (id : List ℕ). lookup_put (Boxed n) i id r.writers in
-    record {
-      read_is_written = λ id f p.
-          elim (which (list_any (bytes_eq id) ids) (Boxed n) (Shipped f) (lookup (bytes_eq id) r.readers) _ (read id) p) [
-            | inl k ↦ never_both n f k.1
-            | inr k ↦ some_still (bytes_eq i (own_id f)) (Boxed n) (lookup (bytes_eq (own_id f)) r.writers) _ (write (own_id f)) (h.read_is_written id f k.1)
-          ];
-      own_identifier = λ id f p.
-          elim (which (bytes_eq i id) (Boxed n) (Shipped f) (lookup (bytes_eq id) r.writers) _ (write id) p) [
-            | inl k ↦ never_both n f k.1
-            | inr k ↦ h.own_identifier id f k.1
-          ];
-      written_is_read = λ id f p.
-          elim (which (bytes_eq i id) (Boxed n) (Shipped f) (lookup (bytes_eq id) r.writers) _ (write id) p) [
-            | inl k ↦ never_both n f k.1
-            | inr k ↦ read_still (list_any (bytes_eq id) ids) n (lookup (bytes_eq id) r.readers) _ f (read id) (h.written_is_read id f k.1)
-          ];
-      revised_is_written = λ id p.
-          elim (which (list_any (bytes_eq id) ids) (Boxed n) Revised (lookup (bytes_eq id) r.readers) _ (read id) p) [
-            | inl k ↦ never_boxed n k.1
-            | inr k ↦ some_still (bytes_eq i Primitives.id) (Boxed n) (lookup (bytes_eq Primitives.id) r.writers) _ (write Primitives.id) (h.revised_is_written id k.1)
-          ];
-      own_revised = λ id p.
-          elim (which (bytes_eq i id) (Boxed n) Revised (lookup (bytes_eq id) r.writers) _ (write id) p) [
-            | inl k ↦ never_boxed n k.1
-            | inr k ↦ h.own_revised id k.1
-          ];
-      revised_is_read = λ p.
-          elim (which (bytes_eq i Primitives.id) (Boxed n) Revised (lookup (bytes_eq Primitives.id) r.writers) _ (write Primitives.id) p) [
-            | inl k ↦ never_boxed n k.1
-            | inr k ↦
-                let x = h.revised_is_read k.1 in (
-                  revised_still (list_any (bytes_eq Primitives.id) ids) n (lookup (bytes_eq Primitives.id) r.readers) _ (read Primitives.id) x.0,
-                  revised_still (list_any (bytes_eq revised_name) ids) n (lookup (bytes_eq revised_name) r.readers) _ (read revised_name) x.1,
-                )
-          ];
-    }
-
--- An identifier of an encoding that does not write primitives is neither of theirs.
-neither : (id : List ℕ) (f : Encoding) → bytes_eq Primitives.id id ≡ false → id ≡ own_id f → list_any (bytes_eq id) both_ids ≡ false
-neither id f p q =
-    let a : bytes_eq id Primitives.id ≡ false = eq_sym id Primitives.id ∙ p in
-    let b : bytes_eq id revised_name ≡ false = ap (λ z. bytes_eq z revised_name) q ∙ never_second f in
-    λ i. a i || (b i || false)
+paired_boxed n i ids r h = paired_entry (Boxed n) i ids r (with_plugin n i ids r) refl refl (λ f. (plugin (f n), refl, tt)) h
 
 -- Primitives come under two identifiers.
 pub paired_revised : (r : Registry) → ArePaired r → ArePaired (with_revised r)
-paired_revised r h =
-    let read = λ (id : List ℕ). lookup_put_all Revised both_ids id r.readers in
-    let write = λ (id : List ℕ). lookup_put Revised Primitives.id id r.writers in
-    record {
-      read_is_written = λ id f p.
-          elim (which (list_any (bytes_eq id) both_ids) Revised (Shipped f) (lookup (bytes_eq id) r.readers) _ (read id) p) [
-            | inl k ↦ never_shipped f k.1
-            | inr k ↦ some_still (bytes_eq Primitives.id (own_id f)) Revised (lookup (bytes_eq (own_id f)) r.writers) _ (write (own_id f)) (h.read_is_written id f k.1)
-          ];
-      own_identifier = λ id f p.
-          elim (which (bytes_eq Primitives.id id) Revised (Shipped f) (lookup (bytes_eq id) r.writers) _ (write id) p) [
-            | inl k ↦ never_shipped f k.1
-            | inr k ↦ h.own_identifier id f k.1
-          ];
-      written_is_read = λ id f p.
-          elim (which (bytes_eq Primitives.id id) Revised (Shipped f) (lookup (bytes_eq id) r.writers) _ (write id) p) [
-            | inl k ↦ never_shipped f k.1
-            | inr k ↦
-                let a = at_false (list_any (bytes_eq id) both_ids) Revised (lookup (bytes_eq id) r.readers) _ (read id) (neither id f k.0 (h.own_identifier id f k.1)) in
-                subst (λ z. IsReadAgain z f) (sym a) (h.written_is_read id f k.1)
-          ];
-      revised_is_written = λ id p. some_new (bytes_eq Primitives.id Primitives.id) Revised (lookup (bytes_eq Primitives.id) r.writers) _ (write Primitives.id) refl;
-      own_revised = λ id p.
-          elim (which (bytes_eq Primitives.id id) Revised Revised (lookup (bytes_eq id) r.writers) _ (write id) p) [
-            | inl k ↦ sym ((bytes_eq-Decides Primitives.id id).0 k.0)
-            | inr k ↦ h.own_revised id k.1
-          ];
-      revised_is_read = λ p.
-          let a = at_true (list_any (bytes_eq Primitives.id) both_ids) Revised (lookup (bytes_eq Primitives.id) r.readers) _ (read Primitives.id) refl in
-          let b = at_true (list_any (bytes_eq revised_name) both_ids) Revised (lookup (bytes_eq revised_name) r.readers) _ (read revised_name) refl in
-          (subst (λ z. IsRevisedAgain z) (sym a) tt, subst (λ z. IsRevisedAgain z) (sym b) tt);
-    }
+paired_revised r h = paired_entry Revised Primitives.id both_ids r (with_revised r) refl refl (λ f. (revised, refl, (refl, refl))) h
 
 -- Tables that are equal to such ones are paired, too.
 pub paired_as : (r q : Registry) → r ≡ q → ArePaired q → ArePaired r

@@ -58,16 +58,39 @@ lookup_put_all e (id ∷ ids) q t =
     ∙ ap (λ z. cond (list_any (bytes_eq q) ids) (Some e) z) (lookup_put e id q t ∙ ap (λ z. cond z (Some e) l) (eq_sym id q))
     ∙ either (bytes_eq q id) (list_any (bytes_eq q) ids) (Some e) l
 
--- What is found after an entry came is that entry, or what was found before.
-pub which : (t : Bool) (a b : Entry) (o p : Option Entry) → p ≡ cond t (Some a) o → p ≡ Some b → ((t ≡ true) × (a ≡ b)) ⊎ ((t ≡ false) × (o ≡ Some b))
-which true a b o p e f = inl (refl, cc)
-which false a b o p e f = inr (refl, sym e ∙ f)
+the_one : (b : Bool) → (b || false) ≡ true → b ≡ true
+the_one true e = refl
+the_one false e = e
 
--- Something is found where something was, or where the entry came.
-pub some_still : (t : Bool) (a : Entry) (o p : Option Entry) → p ≡ cond t (Some a) o → ((q : Entry) × (o ≡ Some q)) → (q : Entry) × (p ≡ Some q)
-some_still true a o p e h = (a, e)
-some_still false a o p e h = (h.0, e ∙ h.1)
+-- ---- what is found once something came
 
-pub some_new : (t : Bool) (a : Entry) (o p : Option Entry) → p ≡ cond t (Some a) o → t ≡ true → (q : Entry) × (p ≡ Some q)
-some_new true a o p e h = (a, e)
-some_new false a o p e h = absurd (cc)
+module _ {A : Type 0} where
+  -- It is what came, or what was found before.
+  pub which : (t : Bool) (a b : A) (o p : Option A) → p ≡ cond t (Some a) o → p ≡ Some b → ((t ≡ true) × (a ≡ b)) ⊎ ((t ≡ false) × (o ≡ Some b))
+  which true a b o p e f = inl (refl, cc)
+  which false a b o p e f = inr (refl, sym e ∙ f)
+
+  -- Something is found where something was, or where it came.
+  pub some_still : (t : Bool) (a : A) (o p : Option A) → p ≡ cond t (Some a) o → ((q : A) × (o ≡ Some q)) → (q : A) × (p ≡ Some q)
+  some_still true a o p e h = (a, e)
+  some_still false a o p e h = (h.0, e ∙ h.1)
+
+  pub some_new : (t : Bool) (a : A) (o p : Option A) → p ≡ cond t (Some a) o → t ≡ true → (q : A) × (p ≡ Some q)
+  some_new true a o p e h = (a, e)
+  some_new false a o p e h = absurd (cc)
+
+  -- Where it came, it is found; where it did not, what was found before is.
+  pub at_true : (t : Bool) (a : A) (o p : Option A) → p ≡ cond t (Some a) o → t ≡ true → p ≡ Some a
+  at_true true a o p e h = e
+  at_true false a o p e h = absurd (cc)
+
+  pub at_false : (t : Bool) (a : A) (o p : Option A) → p ≡ cond t (Some a) o → t ≡ false → p ≡ o
+  at_false true a o p e h = absurd (cc)
+  at_false false a o p e h = e
+
+-- An identifier is one of a single one exactly where it is that one.
+pub is_one : (id w : List ℕ) → list_any (bytes_eq id) (w ∷ []) ≡ true → id ≡ w
+is_one id w e = (bytes_eq-Decides id w).0 (the_one (bytes_eq id w) e)
+
+pub one_is : (id w : List ℕ) → id ≡ w → list_any (bytes_eq id) (w ∷ []) ≡ true
+one_is id w e = ap (λ b. b || false) ((bytes_eq-Decides id w).1 e)

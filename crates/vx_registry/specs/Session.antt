@@ -7,7 +7,7 @@ use Rattle.vx_array_tree.specs.Table.{id_of}
 use Rattle.vx_wire_tree.specs.Context.{is_among}
 use Rattle.vx_wire_tree.specs.Plugin.{PluginMeaning}
 use Rattle.vx_wire_tree.specs.Revised.{revised_name}
-use Rattle.vx_wire_tree.specs.Session.{Reader, shipped, revised, plugin, SessionMeaning}
+use Rattle.vx_wire_tree.specs.Session.{Reader, shipped, revised, plugin, SessionMeaning, IsPaired}
 use Rattle.vx_encodings.specs.Plain.{plain_encoding}
 use Rattle.indexmap.specs.IndexMap.{insert_entry}
 use Rattle.vx_registry.specs.declared.tables.Entry.{Entry}
@@ -62,34 +62,13 @@ found_with ids r before id = if is_among id ids then Some r else before id
 abbrev pub tables_meaning : Plugins → Registry → ExtMeaning → SessionMeaning
 tables_meaning plugins r x = record { reader = found plugins r.readers; writer = found plugins r.writers; ext = x }
 
--- An identifier is read by this encoding, or by a plugin.
-abbrev pub IsReadAgain : Option Entry → Encoding → Type 0
-IsReadAgain None e = ⊥
-IsReadAgain (Some (Shipped f)) e = f ≡ e
-IsReadAgain (Some Revised) e = ⊥
-IsReadAgain (Some (Boxed n)) e = Unit {0}
-
--- An identifier is read by primitives under two identifiers, or by a plugin.
-abbrev pub IsRevisedAgain : Option Entry → Type 0
-IsRevisedAgain None = ⊥
-IsRevisedAgain (Some (Shipped f)) = ⊥
-IsRevisedAgain (Some Revised) = Unit {0}
-IsRevisedAgain (Some (Boxed n)) = Unit {0}
-
 -- Both identifiers of primitives, where they have two.
 abbrev pub both_ids : List (List ℕ)
 both_ids = Primitives.id ∷ revised_name ∷ []
 
--- The tables fit one another: an encoding that reads is also written, one that writes stands under its own identifier, and
--- what it writes is read by it or by a plugin; so it is with primitives under two identifiers.
-pub record ArePaired (r : Registry) : Type 0 where
-  pub read_is_written : (id : List ℕ) (e : Encoding) → lookup (bytes_eq id) r.readers ≡ Some (Shipped e) → (q : Entry) × (lookup (bytes_eq (own_id e)) r.writers ≡ Some q)
-  pub own_identifier : (id : List ℕ) (e : Encoding) → lookup (bytes_eq id) r.writers ≡ Some (Shipped e) → id ≡ own_id e
-  pub written_is_read : (id : List ℕ) (e : Encoding) → lookup (bytes_eq id) r.writers ≡ Some (Shipped e) → IsReadAgain (lookup (bytes_eq id) r.readers) e
-  pub revised_is_written : (id : List ℕ) → lookup (bytes_eq id) r.readers ≡ Some Revised → (q : Entry) × (lookup (bytes_eq Primitives.id) r.writers ≡ Some q)
-  pub own_revised : (id : List ℕ) → lookup (bytes_eq id) r.writers ≡ Some Revised → id ≡ Primitives.id
-  pub revised_is_read : lookup (bytes_eq Primitives.id) r.writers ≡ Some Revised
-      → IsRevisedAgain (lookup (bytes_eq Primitives.id) r.readers) × IsRevisedAgain (lookup (bytes_eq revised_name) r.readers)
+-- The tables fit one another: whatever the plugins of their numbers mean, what the tables mean does.
+abbrev pub ArePaired : Registry → Type 0
+ArePaired r = (f : ℕ → PluginMeaning) (x : ExtMeaning) → IsPaired (tables_meaning (λ n. Some (f n)) r x)
 
 -- Each number in the tables is below k.
 pub record AreWithin (r : Registry) (k : ℕ) : Type 0 where
