@@ -16,7 +16,7 @@ use Rattle.std.proofs.lemmas.Bool.{false≢true, iff_false}
 use Rattle.vx_array_tree.specs.Place.{Place, place, places_at, validity_place}
 use Rattle.vx_array_tree.specs.Refused.{IsWellShaped}
 use Rattle.vx_array_tree.specs.Tree.{Tree, Trees, places}
-use Rattle.vx_arrays.specs.Places.{place_of}
+use Rattle.vx_arrays.specs.Places.{array_place}
 use Rattle.vx_arrays.specs.Structs.{struct_head}
 use Rattle.vx_arrays.proofs.Fielded.{places_count, places_length, no_children, front_decides, front_right}
 
@@ -24,7 +24,7 @@ use Rattle.vx_arrays.proofs.Fielded.{places_count, places_length, no_children, f
 both_parts : (d e : Typ) (m n : ℕ) → d ≡ e → m ≡ n → place d m ≡ place e n
 both_parts d e m n p q = λ i. place (p i) (q i)
 
-pub column_decides : (t : Tree) (d : Typ) (n : ℕ) (b : Bool) (e : Typ) (k : ℕ) → k ≡ (label t).len → k ≡ n → e ≡ (label t).dtype → b ≡ same typ_code e d → IsTrue b ↔ (place_of t ≡ place d n)
+pub column_decides : (t : Tree) (d : Typ) (n : ℕ) (b : Bool) (e : Typ) (k : ℕ) → k ≡ (label t).len → k ≡ n → e ≡ (label t).dtype → b ≡ same typ_code e d → IsTrue b ↔ (array_place t ≡ place d n)
 column_decides t d n b e k l m q h = (
   λ x. both_parts (label t).dtype d (label t).len n (sym q ∙ (same-decides typ_code e d).0 (sym h ∙ x)) (sym l ∙ m),
   λ x. h ∙ (same-decides typ_code e d).1 (q ∙ ap (λ (p : Place). p.dtype) x),
@@ -40,7 +40,7 @@ both : (p q : Place) (ps qs : List Place) → p ≡ q → ps ≡ qs → p ∷ ps
 both p q ps qs e f = λ i. e i ∷ f i
 
 columns-more_suc : (ds : List DType) (us : List Tree) (n i : ℕ) (d : DType) (u : Tree) → i < length ds → i < length us → places (roses_of (take i us)) ≡ places_at (roses_of (typs (take i ds))) n
-    → place_of (get_or us i u) ≡ place (typ (get_or ds i d)) n → places (roses_of (take (suc i) us)) ≡ places_at (roses_of (typs (take (suc i) ds))) n
+    → array_place (get_or us i u) ≡ place (typ (get_or ds i d)) n → places (roses_of (take (suc i) us)) ≡ places_at (roses_of (typs (take (suc i) ds))) n
 columns-more_suc [] us n i d u h k p q = absurd (omega (arith, h))
 columns-more_suc (x ∷ ds) [] n i d u h k p q = absurd (omega (arith, k))
 columns-more_suc (x ∷ ds) (y ∷ us) n zero d u h k p q = ap (λ (t : Place). t ∷ []) q
@@ -51,11 +51,11 @@ columns-more_suc (x ∷ ds) (y ∷ us) n (suc i) d u h k p q =
 
 -- Columns that are right as far as i, and at i, are right as far as i + 1.
 pub columns-more : (ds : List DType) (us : List Tree) (n i : ℕ) (d : DType) (u : Tree) → i < length ds → i < length us → places (roses_of (take i us)) ≡ places_at (roses_of (typs (take i ds))) n
-    → place_of (get_or us i u) ≡ place (typ (get_or ds i d)) n → places (roses_of (take (i + 1) us)) ≡ places_at (roses_of (typs (take (i + 1) ds))) n
+    → array_place (get_or us i u) ≡ place (typ (get_or ds i d)) n → places (roses_of (take (i + 1) us)) ≡ places_at (roses_of (typs (take (i + 1) ds))) n
 columns-more ds us n i d u h k p q = rw (add-one i) (columns-more_suc ds us n i d u h k p q)
 
 pub columns-at : (ds : List DType) (us : List Tree) (n i : ℕ) (d : DType) (u : Tree) → i < length ds → i < length us → places (roses_of us) ≡ places_at (roses_of (typs ds)) n
-    → place_of (get_or us i u) ≡ place (typ (get_or ds i d)) n
+    → array_place (get_or us i u) ≡ place (typ (get_or ds i d)) n
 columns-at [] us n i d u h k p = absurd (omega (arith, h))
 columns-at (x ∷ ds) [] n i d u h k p = absurd (omega (arith, k))
 columns-at (x ∷ ds) (y ∷ us) n zero d u h k p = heads _ _ _ _ p
@@ -83,14 +83,14 @@ module _ (f : Fields) (m : Nullability) (n : ℕ) where
   none_right (t ∷ ts) h k = absurd (omega (arith, h))
 
   -- Behind a validity it is the columns that decide, and without one none do.
-  pub front_and_columns : (ts : Trees) (v : Tree) (us : Trees) (r : Bool) → ts ≡ more v us → (count (more v us) ≡ length f.types → ⊥) → (m ≡ Nullable) × (place_of v ≡ validity_place n)
+  pub front_and_columns : (ts : Trees) (v : Tree) (us : Trees) (r : Bool) → ts ≡ more v us → (count (more v us) ≡ length f.types → ⊥) → (m ≡ Nullable) × (array_place v ≡ validity_place n)
       → (IsTrue r ↔ (places us ≡ places_at (roses_of f.types) n)) → IsTrue r ↔ IsWellShaped (struct_head f m n) ts
   front_and_columns ts v us r e k p g = (
     λ x. subst (λ (zs : Trees). IsWellShaped (struct_head f m n) zs) (sym e) (front_right f m n v us p.0 p.1 (g.0 x)),
     λ w. g.1 (front_decides f m n v us k (subst (λ (zs : Trees). IsWellShaped (struct_head f m n) zs) e w)).2,
   )
 
-  pub without_front : (ts : Trees) (v : Tree) (us : Trees) (b : Bool) → ts ≡ more v us → (count (more v us) ≡ length f.types → ⊥) → (IsTrue b ↔ ((m ≡ Nullable) × (place_of v ≡ validity_place n)))
+  pub without_front : (ts : Trees) (v : Tree) (us : Trees) (b : Bool) → ts ≡ more v us → (count (more v us) ≡ length f.types → ⊥) → (IsTrue b ↔ ((m ≡ Nullable) × (array_place v ≡ validity_place n)))
       → b ≡ false → IsTrue b ↔ IsWellShaped (struct_head f m n) ts
   without_front ts v us b e k g q = (
     λ x. absurd (false≢true (sym q ∙ x)),

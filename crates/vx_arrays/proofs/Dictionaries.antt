@@ -30,7 +30,7 @@ use Rattle.vx_array_tree.specs.Tree.{Tree, Trees, cells, places, row_at, rows_be
 use Rattle.vx_array_tree.proofs.Plans.{exactly_is}
 use Rattle.vx_array_tree.proofs.RowsAgree.{AgreesAt, rows_agree}
 use Rattle.vx_array_tree.proofs.RowsOfSound.{rows_len}
-use Rattle.vx_arrays.specs.Dicts.{ArePaired, IsOfCodes, dict_head}
+use Rattle.vx_arrays.specs.Dicts.{AreDictChildren, IsOfCodes, dict_head}
 use Rattle.vx_arrays.specs.Plain.{head_of}
 use Rattle.vx_arrays.specs.declared.body.Body.{Body}
 use Rattle.vx_arrays.specs.declared.body.Body.TheVariants.{Dict}
@@ -70,7 +70,7 @@ shaped_two d n x (more c end) s = absurd (none-some _ s.planned)
 shaped_two d n x (more c (more v end)) s = refl
 shaped_two d n x (more c (more v (more u us))) s = absurd (none-some _ s.planned)
 
-pub shaped_paired : (d : Typ) (n : ℕ) (x : Data) (c v : Tree) → IsWellShaped (untold d n (B.dict x)) (more c (more v end)) → ArePaired d n c v
+pub shaped_paired : (d : Typ) (n : ℕ) (x : Data) (c v : Tree) → IsWellShaped (untold d n (B.dict x)) (more c (more v end)) → AreDictChildren d n c v
 shaped_paired d n x c v s =
     let e = exactly_is (place (node (primitive (ptype_of (label c).dtype) (nullability (label c).dtype)) end) n ∷ place d (label v).len ∷ []) 2 (lifted (places (more c (more v end)))) s.planned in
     let p = heads _ _ _ _ e in
@@ -81,7 +81,7 @@ shaped_paired d n x c v s =
       typed = ap (λ (z : Place). z.dtype) q;
     }
 
-pub paired_shaped : (d : Typ) (n : ℕ) (x : Data) (c v : Tree) → ArePaired d n c v → IsWellShaped (untold d n (B.dict x)) (more c (more v end))
+pub paired_shaped : (d : Typ) (n : ℕ) (x : Data) (c v : Tree) → AreDictChildren d n c v → IsWellShaped (untold d n (B.dict x)) (more c (more v end))
 paired_shaped d n x c v a =
     let k = codes_type (label c).dtype a.kind in
     record {
@@ -93,7 +93,7 @@ paired_shaped d n x c v a =
     }
 
 -- Two arrays are the children of a dictionary exactly where they are its codes and its values.
-pub pair_decides : (d : Typ) (n : ℕ) (f b : Bool) (ts : Trees) (c v : Tree) → ts ≡ more c (more v end) → (IsTrue b ↔ ArePaired d n c v) → IsTrue b ↔ IsWellShaped (dict_head d n f) ts
+pub pair_decides : (d : Typ) (n : ℕ) (f b : Bool) (ts : Trees) (c v : Tree) → ts ≡ more c (more v end) → (IsTrue b ↔ AreDictChildren d n c v) → IsTrue b ↔ IsWellShaped (dict_head d n f) ts
 pair_decides d n f b ts c v e h =
     let x : Data = record { all_values_referenced = f } in
     subst (λ (us : Trees). IsTrue b ↔ IsWellShaped (dict_head d n f) us) (sym e)
@@ -103,7 +103,7 @@ pair_decides d n f b ts c v e h =
 pub none_decides : (d : Typ) (n : ℕ) (f : Bool) (ts : Trees) → (count ts ≡ 2 → ⊥) → IsTrue false ↔ IsWellShaped (dict_head d n f) ts
 none_decides d n f ts h = (λ t. absurd (false≢true t), λ s. absurd (h (shaped_two d n (record { all_values_referenced = f }) ts s)))
 
-pub pair_answers : (d : Typ) (n : ℕ) (f : Bool) (ts : Trees) (c v : Tree) (r : Result Bool ArrayError) → ts ≡ more c (more v end) → IfOk r (λ b. IsTrue b ↔ ArePaired d n c v) → IfOk r (λ b. IsTrue b ↔ IsWellShaped (dict_head d n f) ts)
+pub pair_answers : (d : Typ) (n : ℕ) (f : Bool) (ts : Trees) (c v : Tree) (r : Result Bool ArrayError) → ts ≡ more c (more v end) → IfOk r (λ b. IsTrue b ↔ AreDictChildren d n c v) → IfOk r (λ b. IsTrue b ↔ IsWellShaped (dict_head d n f) ts)
 pair_answers d n f ts c v (Ok b) e h = pair_decides d n f b ts c v e h
 pair_answers d n f ts c v (Err x) e h = tt
 
@@ -183,7 +183,7 @@ module _ (d : Typ) (n : ℕ) (x : Data) (ts : Trees) (s : IsSoundNode (untold d 
   sound_two = shaped_two d n x ts shape
 
   module _ (c v : Tree) (e : ts ≡ more c (more v end)) where
-    paired : ArePaired d n c v
+    paired : AreDictChildren d n c v
     paired = shaped_paired d n x c v (subst (λ (us : Trees). IsWellShaped (untold d n (B.dict x)) us) e shape)
 
     content : Content n (rows_of c ∷ rows_of v ∷ [])

@@ -24,7 +24,7 @@ use Rattle.vx_array_tree.specs.Tree.{Tree, Trees, places, row_at, rows_below, un
 use Rattle.vx_array_tree.proofs.Options.{mapped}
 use Rattle.vx_array_tree.proofs.Plans.{exactly_is}
 use Rattle.vx_arrays.specs.Parts.{HaveRow}
-use Rattle.vx_arrays.specs.Places.{place_of}
+use Rattle.vx_arrays.specs.Places.{array_place}
 use Rattle.vx_arrays.specs.Structs.{IsOfFields, behind_first, field_trees, struct_head}
 
 -- ---- numbers of places
@@ -110,7 +110,7 @@ module _ (d : Typ) (n : ℕ) (ts : Trees) (s : IsSoundNode (untold d n B.struct)
 pub record HasColumns (d : Typ) (n : ℕ) (ts : Trees) : Type 0 where
   pub columns : places (field_trees d ts) ≡ places_at (below d) n
 
-one_behind : (t : Tree) (us : Trees) (p : Place) (ps : List Place) → places (more t us) ≡ p ∷ ps → (place_of t ≡ p) × (places us ≡ ps)
+one_behind : (t : Tree) (us : Trees) (p : Place) (ps : List Place) → places (more t us) ≡ p ∷ ps → (array_place t ≡ p) × (places us ≡ ps)
 one_behind t us p ps e = (heads _ _ _ _ e, tails _ _ _ _ e)
 
 no_places : (p : Place) (ps : List Place) → [] ≡ p ∷ ps → ⊥
@@ -148,7 +148,7 @@ have_row (more t us) (more d ds) n i e h =
     (omega (arith, l, h), have_row us ds n i q.1 h)
 
 -- The validity that stands in front of the columns has a flag for each row.
-pub front_flags : (d : Typ) (n : ℕ) (v : Tree) (us : Trees) → IsSoundNode (untold d n B.struct) (more v us) → count us ≡ width_of d → place_of v ≡ validity_place n
+pub front_flags : (d : Typ) (n : ℕ) (v : Tree) (us : Trees) → IsSoundNode (untold d n B.struct) (more v us) → count us ≡ width_of d → array_place v ≡ validity_place n
 front_flags d n v us s k =
     let b = sound_behind d n (more v us) s in
     elim (b.ways) [
@@ -284,7 +284,7 @@ module _ (f : Fields) (m : Nullability) (n : ℕ) (ts : Trees) where
           one_more a w p z = omega (arith, p, z)
 
 module _ (f : Fields) (m : Nullability) (n : ℕ) (v : Tree) (us : Trees) where
-  pub front_decides : (count (more v us) ≡ length f.types → ⊥) → IsWellShaped (struct_head f m n) (more v us) → (m ≡ Nullable) × (place_of v ≡ validity_place n) × (places us ≡ places_at (roses_of f.types) n)
+  pub front_decides : (count (more v us) ≡ length f.types → ⊥) → IsWellShaped (struct_head f m n) (more v us) → (m ≡ Nullable) × (array_place v ≡ validity_place n) × (places us ≡ places_at (roses_of f.types) n)
   front_decides other h =
       let b = shaped_behind f m n (more v us) h in
       elim (b.ways) [
@@ -296,14 +296,14 @@ module _ (f : Fields) (m : Nullability) (n : ℕ) (v : Tree) (us : Trees) where
         )
       ]
 
-  both_places : place_of v ≡ validity_place n → places us ≡ places_at (roses_of f.types) n → places (more v us) ≡ validity_place n ∷ places_at (roses_of f.types) n
+  both_places : array_place v ≡ validity_place n → places us ≡ places_at (roses_of f.types) n → places (more v us) ≡ validity_place n ∷ places_at (roses_of f.types) n
   both_places p q = λ i. p i ∷ q i
 
   -- Where nullability, validity and columns are right, so is the shape, and where one is not, it is not.
-  pub front_right : m ≡ Nullable → place_of v ≡ validity_place n → places us ≡ places_at (roses_of f.types) n → IsWellShaped (struct_head f m n) (more v us)
+  pub front_right : m ≡ Nullable → array_place v ≡ validity_place n → places us ≡ places_at (roses_of f.types) n → IsWellShaped (struct_head f m n) (more v us)
   front_right nullable p q = shaped_with f m n (more v us) nullable (both_places p q)
 
-  pub front_wrong : (count (more v us) ≡ length f.types → ⊥) → ((m ≡ Nullable) × (place_of v ≡ validity_place n) × (places us ≡ places_at (roses_of f.types) n) → ⊥) → IsWellShaped (struct_head f m n) (more v us) → ⊥
+  pub front_wrong : (count (more v us) ≡ length f.types → ⊥) → ((m ≡ Nullable) × (array_place v ≡ validity_place n) × (places us ≡ places_at (roses_of f.types) n) → ⊥) → IsWellShaped (struct_head f m n) (more v us) → ⊥
   front_wrong other w h = w (front_decides other h)
 
 pub no_children : (f : Fields) (m : Nullability) (n : ℕ) → (0 ≡ length f.types → ⊥) → IsWellShaped (struct_head f m n) end → ⊥

@@ -16,7 +16,7 @@ use Rattle.vx_array_tree.specs.Refused.{IsWellShaped}
 use Rattle.vx_array_tree.specs.Sound.{IsSoundNode}
 use Rattle.vx_array_tree.specs.Tree.{Tree, Trees, cells, places, row_at, rows_below, untold}
 use Rattle.vx_array_tree.proofs.Plans.{exactly_is}
-use Rattle.vx_arrays.specs.Places.{place_of}
+use Rattle.vx_arrays.specs.Places.{array_place}
 use Rattle.vx_arrays.specs.Variants.{AreRows, IsOfVariants, merged_cells, merged_row}
 
 -- ---- what a plan says
@@ -24,7 +24,7 @@ use Rattle.vx_arrays.specs.Variants.{AreRows, IsOfVariants, merged_cells, merged
 -- A core of a type of variants and of n rows, and so many behind it.
 pub record IsOverCore (d : Typ) (n : ℕ) (c : Tree) (us : Trees) : Type 0 where
   pub variants : IsOfVariants d
-  pub core : place_of c ≡ place d n
+  pub core : array_place c ≡ place d n
   pub behind : AreRows n us
 
 planned : (d : Typ) (n : ℕ) (c : Tree) (us : Trees) → plan d n (metadata_of (places (more c us))) (suc (count us)) ≡ Some (places (more c us)) → IsOverCore d n c us
@@ -122,11 +122,11 @@ pub ruleset shredded = (lone_value, lone_cells, core_smaller, merged_value, merg
 shaped_planned : (d : Typ) (n : ℕ) (c : Tree) (us : Trees) → IsWellShaped (untold d n B.variant) (more c us) → IsOverCore d n c us
 shaped_planned d n c us s = planned d n c us s.planned
 
-pub lone_shaped : (d : Typ) (n : ℕ) (c : Tree) → IsOfVariants d → place_of c ≡ place d n → IsWellShaped (untold d n B.variant) (more c end)
+pub lone_shaped : (d : Typ) (n : ℕ) (c : Tree) → IsOfVariants d → array_place c ≡ place d n → IsWellShaped (untold d n B.variant) (more c end)
 lone_shaped (node (K.variant m) end) n c v e = record { fair = tt; planned = ap (λ (p : Place). Some (p ∷ [])) (sym e); allows = tt; takes = tt; holds = tt }
 lone_shaped _ n c v e = absurd v
 
-pub both_shaped : (d : Typ) (n : ℕ) (c s : Tree) → IsOfVariants d → place_of c ≡ place d n → (label s).len ≡ n → IsType (label s).dtype → IsWellShaped (untold d n B.variant) (more c (more s end))
+pub both_shaped : (d : Typ) (n : ℕ) (c s : Tree) → IsOfVariants d → array_place c ≡ place d n → (label s).len ≡ n → IsType (label s).dtype → IsWellShaped (untold d n B.variant) (more c (more s end))
 both_shaped (node (K.variant m) end) n c s v e l t =
     record { fair = t; planned = λ i. Some (sym e i ∷ place (label s).dtype (sym l i) ∷ []); allows = tt; takes = tt; holds = tt }
 both_shaped _ n c s v e l t = absurd v
@@ -143,15 +143,15 @@ no_other d n (c ∷ s0 ∷ t ∷ us) f g s = three d n c s0 t (roses_of us) s.pl
     three _ n c s t us p = absurd (cc)
 
 -- One array is where it is the core.
-pub lone_decides : (d : Typ) (n : ℕ) (c : Tree) (b : Bool) → (IsTrue b ↔ (IsOfVariants d × (place_of c ≡ place d n))) → IsTrue b ↔ IsWellShaped (untold d n B.variant) (more c end)
+pub lone_decides : (d : Typ) (n : ℕ) (c : Tree) (b : Bool) → (IsTrue b ↔ (IsOfVariants d × (array_place c ≡ place d n))) → IsTrue b ↔ IsWellShaped (untold d n B.variant) (more c end)
 lone_decides d n c b h =
     (λ t. let k = h.0 t in lone_shaped d n c k.0 k.1, λ s. let k = shaped_planned d n c end s in h.1 (k.variants, k.core))
 
 -- Two are where the other has as many rows.
-pub both_decide : (d : Typ) (n : ℕ) (c s : Tree) → IsType (label s).dtype → (IsOfVariants d × (place_of c ≡ place d n)) × ((label s).len ≡ n) → IsWellShaped (untold d n B.variant) (more c (more s end))
+pub both_decide : (d : Typ) (n : ℕ) (c s : Tree) → IsType (label s).dtype → (IsOfVariants d × (array_place c ≡ place d n)) × ((label s).len ≡ n) → IsWellShaped (untold d n B.variant) (more c (more s end))
 both_decide d n c s t k = both_shaped d n c s k.0.0 k.0.1 k.1 t
 
-pub both_were : (d : Typ) (n : ℕ) (c s : Tree) → IsWellShaped (untold d n B.variant) (more c (more s end)) → (IsOfVariants d × (place_of c ≡ place d n)) × ((label s).len ≡ n)
+pub both_were : (d : Typ) (n : ℕ) (c s : Tree) → IsWellShaped (untold d n B.variant) (more c (more s end)) → (IsOfVariants d × (array_place c ≡ place d n)) × ((label s).len ≡ n)
 both_were d n c s w = let k = shaped_planned d n c (more s end) w in ((k.variants, k.core), k.behind.0)
 
 -- ---- the shape in the words of a slice
@@ -167,18 +167,18 @@ two_items (u ∷ []) c s l e f = absurd (omega (arith, l))
 two_items (u ∷ v ∷ []) c s l e f = λ i. more (e i) (more (f i) end)
 two_items (u ∷ v ∷ w ∷ us) c s l e f = absurd (omega (arith, l))
 
-pub one_shaped : (d : Typ) (n : ℕ) (us : List Tree) (c : Tree) (b : Bool) → length us ≡ 1 → c ≡ get_or us 0 c → (IsTrue b ↔ (IsOfVariants d × (place_of c ≡ place d n)))
+pub one_shaped : (d : Typ) (n : ℕ) (us : List Tree) (c : Tree) (b : Bool) → length us ≡ 1 → c ≡ get_or us 0 c → (IsTrue b ↔ (IsOfVariants d × (array_place c ≡ place d n)))
     → IsTrue b ↔ IsWellShaped (untold d n B.variant) (roses_of us)
 one_shaped d n us c b l e h = subst (λ (ts : Trees). IsTrue b ↔ IsWellShaped (untold d n B.variant) ts) (one_item us c l e) (lone_decides d n c b h)
 
-pub two_shaped : (d : Typ) (n : ℕ) (us : List Tree) (c s : Tree) (b r : Bool) → length us ≡ 2 → c ≡ get_or us 0 c → s ≡ get_or us 1 s → b ≡ true → (IsTrue b ↔ (IsOfVariants d × (place_of c ≡ place d n)))
+pub two_shaped : (d : Typ) (n : ℕ) (us : List Tree) (c s : Tree) (b r : Bool) → length us ≡ 2 → c ≡ get_or us 0 c → s ≡ get_or us 1 s → b ≡ true → (IsTrue b ↔ (IsOfVariants d × (array_place c ≡ place d n)))
     → (IsTrue r ↔ ((label s).len ≡ n)) → IsType (label s).dtype → IsTrue r ↔ IsWellShaped (untold d n B.variant) (roses_of us)
 two_shaped d n us c s b r l e f t h g k = subst (λ (ts : Trees). IsTrue r ↔ IsWellShaped (untold d n B.variant) ts) (two_items us c s l e f) (
   (λ y. both_decide d n c s k (h.0 t, g.0 y)),
   (λ w. g.1 (both_were d n c s w).1),
 )
 
-pub two_unshaped : (d : Typ) (n : ℕ) (us : List Tree) (c s : Tree) (b : Bool) → length us ≡ 2 → c ≡ get_or us 0 c → s ≡ get_or us 1 s → b ≡ false → (IsTrue b ↔ (IsOfVariants d × (place_of c ≡ place d n)))
+pub two_unshaped : (d : Typ) (n : ℕ) (us : List Tree) (c s : Tree) (b : Bool) → length us ≡ 2 → c ≡ get_or us 0 c → s ≡ get_or us 1 s → b ≡ false → (IsTrue b ↔ (IsOfVariants d × (array_place c ≡ place d n)))
     → IsTrue false ↔ IsWellShaped (untold d n B.variant) (roses_of us)
 two_unshaped d n us c s b l e f t h = subst (λ (ts : Trees). IsTrue false ↔ IsWellShaped (untold d n B.variant) ts) (two_items us c s l e f) (
   (λ y. absurd (false≢true y)),

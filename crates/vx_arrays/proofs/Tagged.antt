@@ -24,7 +24,7 @@ use Rattle.vx_array_tree.specs.Rows.{Rows, first, index_at, IsIndex, IsThere, wh
 use Rattle.vx_array_tree.specs.Sound.{IsSoundNode}
 use Rattle.vx_array_tree.specs.Tree.{Head, Tree, Trees, cells, places, row_at, rows_below, rows_of, untold}
 use Rattle.vx_array_tree.proofs.Plans.{exactly_is}
-use Rattle.vx_arrays.specs.Places.{place_of}
+use Rattle.vx_arrays.specs.Places.{array_place}
 use Rattle.vx_arrays.specs.Unions.{IsTagged, union_head}
 use Rattle.vx_arrays.proofs.Fielded.{exactly_self, places_count}
 
@@ -148,17 +148,17 @@ module _ (v : Members) (m : Nullability) (n : ℕ) where
   without_tags (t ∷ ts) h = absurd (omega (arith, h))
 
   module _ (ts : Trees) (t : Tree) (us : Trees) (e : ts ≡ more t us) where
-    both_places : place_of t ≡ place (node (primitive U8 m) end) n → places us ≡ places_at (roses_of v.types) n → places (more t us) ≡ union_places
+    both_places : array_place t ≡ place (node (primitive U8 m) end) n → places us ≡ places_at (roses_of v.types) n → places (more t us) ≡ union_places
     both_places p q = λ i. p i ∷ q i
 
     -- With tags it is the members that decide, and with others none do.
-    pub members_decide : (r : Bool) → place_of t ≡ place (node (primitive U8 m) end) n → (IsTrue r ↔ (places us ≡ places_at (roses_of v.types) n)) → IsTrue r ↔ IsWellShaped (union_head v m n) ts
+    pub members_decide : (r : Bool) → array_place t ≡ place (node (primitive U8 m) end) n → (IsTrue r ↔ (places us ≡ places_at (roses_of v.types) n)) → IsTrue r ↔ IsWellShaped (union_head v m n) ts
     members_decide r p g = (
       λ x. subst (λ (zs : Trees). IsWellShaped (union_head v m n) zs) (sym e) (union_shaped (more t us) (both_places p (g.0 x))),
       λ s. g.1 (tails _ _ _ _ (shaped_union (more t us) (subst (λ (zs : Trees). IsWellShaped (union_head v m n) zs) e s))),
     )
 
-    pub other_tags : (b : Bool) → (IsTrue b ↔ (place_of t ≡ place (node (primitive U8 m) end) n)) → b ≡ false → IsTrue b ↔ IsWellShaped (union_head v m n) ts
+    pub other_tags : (b : Bool) → (IsTrue b ↔ (array_place t ≡ place (node (primitive U8 m) end) n)) → b ≡ false → IsTrue b ↔ IsWellShaped (union_head v m n) ts
     other_tags b g q = (
       λ x. absurd (false≢true (sym q ∙ x)),
       λ s. absurd (false≢true (sym q ∙ g.1 (heads _ _ _ _ (shaped_union (more t us) (subst (λ (zs : Trees). IsWellShaped (union_head v m n) zs) e s))))),

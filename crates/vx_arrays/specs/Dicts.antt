@@ -25,7 +25,7 @@ IsOfCodes (node (primitive p m) end) = IsTrue (is_integer p)
 IsOfCodes _ = ⊥
 
 -- Codes and values are the children of a dictionary of this type and so many rows.
-pub record ArePaired (d : Typ) (n : ℕ) (codes values : Tree) : Type 0 where
+pub record AreDictChildren (d : Typ) (n : ℕ) (codes values : Tree) : Type 0 where
   pub kind : IsOfCodes (label codes).dtype
   pub counted : (label codes).len ≡ n
   pub typed : raised (nullability (label codes).dtype) (label values).dtype ≡ d

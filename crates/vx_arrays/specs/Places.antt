@@ -4,5 +4,5 @@ use Rattle.vx_array_tree.specs.Place.{Place, place}
 use Rattle.vx_array_tree.specs.Tree.{Tree}
 
 -- The place at which an array stands.
-abbrev pub place_of : Tree → Place
-place_of t = place (label t).dtype (label t).len
+abbrev pub array_place : Tree → Place
+array_place t = place (label t).dtype (label t).len

@@ -11,7 +11,7 @@ ghost use Rattle.vx_array_tree.specs.Rows.{IsThere};
 ghost use Rattle.vx_array_tree.specs.Sound.{IsSound, IsSoundNode};
 ghost use Rattle.vx_array_tree.specs.Tree.{rows_below, rows_of, untold};
 ghost use Rattle.vx_arrays.specs.Compared.{compared_body};
-ghost use Rattle.vx_arrays.specs.Dicts.{ArePaired, IsOfCodes, dict_head, dict_tree};
+ghost use Rattle.vx_arrays.specs.Dicts.{AreDictChildren, IsOfCodes, dict_head, dict_tree};
 ghost use Rattle.vx_arrays.specs.Parts.{AreThere, parts_cells, parts_nodes, parts_value};
 ghost use Rattle.vx_arrays.specs.Refused.{IsUnmade, IsOkOrMemory};
 
@@ -251,7 +251,7 @@ fn are_paired(
     codes: &Array,
     values: &Array,
 ) -> Result<bool, ArrayError>
-    ensures ok { IfOk result (λ b. IsTrue b ↔ ArePaired (typ dtype.now) len codes.now values.now) }
+    ensures ok { IfOk result (λ b. IsTrue b ↔ AreDictChildren (typ dtype.now) len codes.now values.now) }
     ensures err { IsOkUnless result ArrayError.OutOfMemory }
 {
     if codes.len() != len || !is_of_codes(codes.dtype()) {

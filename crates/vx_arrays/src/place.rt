@@ -4,14 +4,14 @@ ghost use Rattle.std.specs.Prelude.{◌≡◌, ◌↔◌, IsTrue};
 ghost use Rattle.vx_trees.specs.Rose.{label};
 ghost use Rattle.vx_types.specs.Seen.{typ};
 ghost use Rattle.vx_array_tree.specs.Place.{place};
-ghost use Rattle.vx_arrays.specs.Places.{place_of};
+ghost use Rattle.vx_arrays.specs.Places.{array_place};
 
 use crate::array::Array;
 use vx_types::DType;
 
 /// Whether an array is of this type and has so many rows.
 pub(crate) fn stands_at(array: &Array, dtype: &DType, len: usize) -> bool
-    ensures { IsTrue result ↔ (place_of array.now ≡ place (typ dtype.now) len) }
+    ensures { IsTrue result ↔ (array_place array.now ≡ place (typ dtype.now) len) }
 {
     array.len() == len && *array.dtype() == *dtype
 }

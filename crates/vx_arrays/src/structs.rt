@@ -13,7 +13,7 @@ ghost use Rattle.vx_array_tree.specs.Refused.{IsWellShaped};
 ghost use Rattle.vx_array_tree.specs.Sound.{IsSound, IsSoundNode};
 ghost use Rattle.vx_array_tree.specs.Tree.{places, rows_below, untold};
 ghost use Rattle.vx_arrays.specs.Parts.{AreThere, parts_cells, parts_nodes, parts_value};
-ghost use Rattle.vx_arrays.specs.Places.{place_of};
+ghost use Rattle.vx_arrays.specs.Places.{array_place};
 ghost use Rattle.vx_arrays.specs.Refused.{IsUnmade, IsOkOrMemory};
 ghost use Rattle.vx_arrays.specs.Structs.{IsOfFields, behind_validity, field_trees, struct_head, struct_tree};
 
@@ -174,7 +174,7 @@ fn are_shaped(
 
 // Whether an array may stand in front of the columns, as the validity of so many rows.
 fn is_front(nullability: Nullability, validity: &Array, len: usize) -> bool
-    ensures { IsTrue result ↔ ((nullability ≡ Nullable) × (place_of validity.now ≡ validity_place len)) }
+    ensures { IsTrue result ↔ ((nullability ≡ Nullable) × (array_place validity.now ≡ validity_place len)) }
 {
     match nullability {
         Nullability::NonNullable => false,

@@ -15,7 +15,7 @@ ghost use Rattle.vx_array_tree.specs.Tree.{rows_below, rows_of, untold};
 ghost use Rattle.vx_array_tree.specs.Place.{place};
 ghost use Rattle.vx_types.specs.Kind.{primitive};
 ghost use Rattle.vx_types.specs.declared.ptype.PType.TheVariants.{U8};
-ghost use Rattle.vx_arrays.specs.Places.{place_of};
+ghost use Rattle.vx_arrays.specs.Places.{array_place};
 ghost use Rattle.vx_arrays.specs.Parts.{AreThere, parts_cells, parts_nodes, parts_value};
 ghost use Rattle.vx_arrays.specs.Refused.{IsUnmade, IsOkOrMemory};
 ghost use Rattle.vx_arrays.specs.Unions.{IsTagged, union_head, union_tree};
@@ -219,7 +219,7 @@ fn are_shaped(
 
 // Whether an array may be the tags of so many rows, which may be null where it may.
 fn are_tags(nullability: Nullability, tags: &Array, len: usize) -> bool
-    ensures { IsTrue result ↔ (place_of tags.now ≡ place (node (primitive U8 nullability) end) len) }
+    ensures { IsTrue result ↔ (array_place tags.now ≡ place (node (primitive U8 nullability) end) len) }
 {
     stands_at(tags, &DType::Primitive(PType::U8, nullability), len)
 }

@@ -13,7 +13,7 @@ ghost use Rattle.vx_array_tree.specs.Refused.{IsWellShaped};
 ghost use Rattle.vx_array_tree.specs.Sound.{IsSound, IsSoundNode};
 ghost use Rattle.vx_array_tree.specs.Tree.{option_trees, places, rows_below, untold};
 ghost use Rattle.vx_arrays.specs.Parts.{AreThere, HaveRow, parts_cells, parts_nodes, parts_value};
-ghost use Rattle.vx_arrays.specs.Places.{place_of};
+ghost use Rattle.vx_arrays.specs.Places.{array_place};
 ghost use Rattle.vx_arrays.specs.Refused.{IsUnmade, IsOkOrMemory};
 ghost use Rattle.vx_arrays.specs.Variants.{AreRows, IsOfVariants, variant_tree};
 
@@ -143,7 +143,7 @@ fn is_shaped(dtype: &DType, len: usize, children: &[Array]) -> bool
 
 // Whether an array may be the core of so many variants of a type.
 fn is_core(dtype: &DType, core: &Array, len: usize) -> bool
-    ensures { IsTrue result ↔ (IsOfVariants (typ dtype.now) × (place_of core.now ≡ place (typ dtype.now) len)) }
+    ensures { IsTrue result ↔ (IsOfVariants (typ dtype.now) × (array_place core.now ≡ place (typ dtype.now) len)) }
 {
     match dtype {
         DType::Variant(_) => stands_at(core, dtype, len),

@@ -45,7 +45,7 @@ impl Message for BoolMetadata {
         SCHEMA
     }
 
-    fn place_of() -> u32 {
+    fn schema_place() -> u32 {
         0
     }
 

@@ -44,7 +44,7 @@ impl Message for DecimalMetadata {
         SCHEMA
     }
 
-    fn place_of() -> u32 {
+    fn schema_place() -> u32 {
         0
     }
 

@@ -68,7 +68,7 @@ impl Message for DictMetadata {
         SCHEMA
     }
 
-    fn place_of() -> u32 {
+    fn schema_place() -> u32 {
         0
     }
 

@@ -57,7 +57,7 @@ impl Message for ListViewMetadata {
         SCHEMA
     }
 
-    fn place_of() -> u32 {
+    fn schema_place() -> u32 {
         0
     }
 

@@ -48,7 +48,7 @@ impl Message for VarBinMetadata {
         SCHEMA
     }
 
-    fn place_of() -> u32 {
+    fn schema_place() -> u32 {
         0
     }
 

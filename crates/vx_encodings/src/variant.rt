@@ -79,7 +79,7 @@ impl Message for VariantMetadata {
         SCHEMA
     }
 
-    fn place_of() -> u32 {
+    fn schema_place() -> u32 {
         14
     }
 

@@ -139,7 +139,7 @@ impl Builder {
         push_entries(fields, &mut self.cells)?;
         self.fields.clear();
         push_field_table(&self.cells, &mut self.fields)?;
-        let spot = table_spot(start, &self.cells, self.known.place_of(&self.fields));
+        let spot = table_spot(start, &self.cells, self.known.find(&self.fields));
         if spot.end > MAX_MESSAGE {
             self.failed = true;
             return Err(FlatError::MessageTooLong);

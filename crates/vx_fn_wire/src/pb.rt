@@ -34,7 +34,7 @@ impl MessageKind for ExprMessage {
         EXPR
     }
 
-    fn place_of() -> u32 {
+    fn schema_place() -> u32 {
         0
     }
 
@@ -60,7 +60,7 @@ impl MessageKind for AggregateFnMessage {
         AGGREGATE_FN
     }
 
-    fn place_of() -> u32 {
+    fn schema_place() -> u32 {
         0
     }
 

@@ -52,7 +52,7 @@ fn blob_by(
 }
 
 // Where bytes begin that stand in others.
-fn place_of(bytes: &[u8], part: &[u8]) -> Option<usize> {
+fn find(bytes: &[u8], part: &[u8]) -> Option<usize> {
     for i in 0..bytes.len() {
         if bytes[i..].starts_with(part) {
             return Some(i);
@@ -73,7 +73,7 @@ fn put(bytes: &mut Vec<u8>, place: usize, new: &[u8]) {
 // Bytes with others in the place of some that stand there first.
 fn replaced(alloc: Global, bytes: &[u8], old: &[u8], new: &[u8]) -> Result<Vec<u8>, AllocError> {
     let mut changed = Vec::from_slice(alloc, bytes)?;
-    if let Some(place) = place_of(bytes, old) {
+    if let Some(place) = find(bytes, old) {
         put(&mut changed, place, new);
     }
     Ok(changed)

@@ -61,7 +61,7 @@ pub trait Message: Drop {
         ensures { schema_view result ≡ schema };
 
     /// The place of this type's message among the schema's.
-    fn place_of() -> u32
+    fn schema_place() -> u32
         ensures { result ≡ place };
 
     /// The message whose fields all have their defaults. It takes no memory.
@@ -93,7 +93,7 @@ pub trait Message: Drop {
         ensures cause { IfErr result (λ e. (e ≡ OutOfMemory) ⊎ ((e ≡ TooDeep) × (100 < nested (value self.now)))) }
     {
         let slots = self.to_value(alloc)?;
-        encoded(alloc, Self::lists(), Self::place_of(), &slots)
+        encoded(alloc, Self::lists(), Self::schema_place(), &slots)
     }
 
     /// The schema is lawful: a test, which `refl` proves of a schema that is written out.
@@ -125,7 +125,7 @@ pub trait Message: Drop {
             alloc,
             Self::lists(),
             NESTED_MESSAGES,
-            Self::place_of(),
+            Self::schema_place(),
             bytes,
         )?;
         Self::from_value(alloc, slots)

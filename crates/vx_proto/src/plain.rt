@@ -30,7 +30,7 @@ pub trait MessageKind {
         ensures { schema_view result ≡ schema };
 
     /// The place of the message among the schema's.
-    fn place_of() -> u32
+    fn schema_place() -> u32
         ensures { result ≡ place };
 
     /// The schema is lawful: a test, which `refl` proves of a schema that is written out.
@@ -108,8 +108,8 @@ impl<K: MessageKind> Message for PlainMessage<K> {
         K::lists()
     }
 
-    fn place_of() -> u32 {
-        K::place_of()
+    fn schema_place() -> u32 {
+        K::schema_place()
     }
 
     #[tactic(auto, using(crate::proofs::LawsOfMessages::default_formed))]
@@ -127,17 +127,17 @@ impl<K: MessageKind> Message for PlainMessage<K> {
     fn to_value(&self, alloc: Global) -> Result<Vec<Entries>, ProtoError> {
         match self.slots() {
             Some(slots) => copied_slots(alloc, slots),
-            None => default_slots(alloc, K::lists(), K::place_of()),
+            None => default_slots(alloc, K::lists(), K::schema_place()),
         }
     }
 
     // The slots are at hand, so they are not copied first.
     fn encode_value(&self, alloc: Global) -> Result<Blob, ProtoError> {
         match self.slots() {
-            Some(slots) => encoded(alloc, K::lists(), K::place_of(), slots),
+            Some(slots) => encoded(alloc, K::lists(), K::schema_place(), slots),
             None => {
-                let slots = default_slots(alloc, K::lists(), K::place_of())?;
-                encoded(alloc, K::lists(), K::place_of(), &slots)
+                let slots = default_slots(alloc, K::lists(), K::schema_place())?;
+                encoded(alloc, K::lists(), K::schema_place(), &slots)
             }
         }
     }

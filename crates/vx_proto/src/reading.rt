@@ -7,7 +7,7 @@ ghost use Rattle.vx_proto.specs.WireView.{part_view};
 ghost use Rattle.vx_proto.specs.Schema.{members_of, list_at, kind_in, slot_view, list_view, schema_view};
 ghost use Rattle.vx_proto.specs.Value.{view, value_view, entries_view};
 ghost use Rattle.vx_proto.specs.Reads.{default_in, last_of};
-ghost use Rattle.vx_proto.specs.Reading.{Gives, varint_in, octets_in, place_of, limited, limited_signed, typed_scalar, typed, gather_all, kept_of, finished, decoded};
+ghost use Rattle.vx_proto.specs.Reading.{Gives, varint_in, octets_in, first_slot, limited, limited_signed, typed_scalar, typed, gather_all, kept_of, finished, decoded};
 
 use crate::element::{Element, Entries, Entry, copied, flag};
 use crate::error::ProtoError;
@@ -46,7 +46,7 @@ pub fn kind_of(slot: &Slot, number: u32) -> Option<Kind>
 
 /// The slot of this number, and its kind.
 fn slot_of(list: &[Slot], number: u32) -> Option<(usize, Kind)>
-    ensures place { result ≡ place_of (map slot_view list.now) number }
+    ensures place { result ≡ first_slot (map slot_view list.now) number }
     ensures bound { IfSome result (λ x. x.0 < length list.now) }
 {
     for (i, slot) in list.iter().enumerate() {

@@ -49,7 +49,7 @@ impl MessageKind for Kinds {
         KINDS
     }
 
-    fn place_of() -> u32 {
+    fn schema_place() -> u32 {
         0
     }
 
@@ -102,7 +102,7 @@ impl MessageKind for Types {
         TYPES
     }
 
-    fn place_of() -> u32 {
+    fn schema_place() -> u32 {
         0
     }
 
@@ -183,7 +183,7 @@ impl MessageKind for Scalars {
         SCALARS
     }
 
-    fn place_of() -> u32 {
+    fn schema_place() -> u32 {
         0
     }
 
@@ -214,7 +214,7 @@ impl MessageKind for Dictionaries {
         DICTIONARIES
     }
 
-    fn place_of() -> u32 {
+    fn schema_place() -> u32 {
         0
     }
 
@@ -244,7 +244,7 @@ impl MessageKind for Expressions {
         EXPRESSIONS
     }
 
-    fn place_of() -> u32 {
+    fn schema_place() -> u32 {
         0
     }
 
@@ -273,7 +273,7 @@ impl MessageKind for Aggregates {
         AGGREGATES
     }
 
-    fn place_of() -> u32 {
+    fn schema_place() -> u32 {
         0
     }
 
@@ -297,7 +297,7 @@ impl MessageKind for Trees {
         TREES
     }
 
-    fn place_of() -> u32 {
+    fn schema_place() -> u32 {
         0
     }
 
@@ -326,7 +326,7 @@ impl MessageKind for Nests {
         NESTS
     }
 
-    fn place_of() -> u32 {
+    fn schema_place() -> u32 {
         0
     }
 

@@ -40,7 +40,7 @@ impl Message for TreeMetadata {
         SCHEMA
     }
 
-    fn place_of() -> u32 {
+    fn schema_place() -> u32 {
         1
     }
 

@@ -26,7 +26,7 @@ impl MessageKind for DocumentMessage {
         SCHEMA
     }
 
-    fn place_of() -> u32 {
+    fn schema_place() -> u32 {
         0
     }
 

@@ -120,7 +120,7 @@ impl MessageKind for ScalarMessage {
         SCHEMA
     }
 
-    fn place_of() -> u32 {
+    fn schema_place() -> u32 {
         14
     }
 
@@ -142,7 +142,7 @@ impl MessageKind for ScalarValueMessage {
         SCHEMA
     }
 
-    fn place_of() -> u32 {
+    fn schema_place() -> u32 {
         15
     }
 
@@ -164,7 +164,7 @@ impl MessageKind for ListValueMessage {
         SCHEMA
     }
 
-    fn place_of() -> u32 {
+    fn schema_place() -> u32 {
         16
     }
 
@@ -186,7 +186,7 @@ impl MessageKind for UnionValueMessage {
         SCHEMA
     }
 
-    fn place_of() -> u32 {
+    fn schema_place() -> u32 {
         17
     }
 

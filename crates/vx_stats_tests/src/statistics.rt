@@ -183,7 +183,7 @@ fn begins_at(bytes: &[u8], place: usize, part: &[u8]) -> bool {
 }
 
 // The place in bytes of others.
-fn place_of(bytes: &[u8], part: &[u8]) -> Option<usize> {
+fn find(bytes: &[u8], part: &[u8]) -> Option<usize> {
     for place in 0..bytes.len() {
         if begins_at(bytes, place, part) {
             return Some(place);
@@ -194,7 +194,7 @@ fn place_of(bytes: &[u8], part: &[u8]) -> Option<usize> {
 
 // Whether a blob has a message within, and is kept.
 fn has_kept(alloc: Global, blob: &[u8], message: &[u8], kind: PType) -> bool {
-    place_of(blob, message).is_some() && is_kept(alloc, blob, kind)
+    find(blob, message).is_some() && is_kept(alloc, blob, kind)
 }
 
 // Whether an array is written with that message, and kept.
@@ -339,7 +339,7 @@ fn least_bytes(alloc: Global) -> Result<Vec<u8>, WireError> {
 // The same with another byte this far from its message.
 fn bytes_with(alloc: Global, from: usize, byte: u8) -> Result<Vec<u8>, WireError> {
     let mut bytes = least_bytes(alloc)?;
-    match place_of(bytes.as_slice(), &MESSAGE) {
+    match find(bytes.as_slice(), &MESSAGE) {
         Some(place) => put(&mut bytes, place.saturating_sub(from), byte),
         None => return Err(WireError::BadTable),
     }
@@ -369,7 +369,7 @@ const ENTRIES: [u8; 8] = [26, 0, 9, 0, 4, 0, 8, 0];
 // The same blob with a precision of 2, and without the entry of the least value.
 fn lone_precision(alloc: Global) -> Result<Vec<u8>, WireError> {
     let mut bytes = bytes_with(alloc, 12, 2)?;
-    match place_of(bytes.as_slice(), &ENTRIES) {
+    match find(bytes.as_slice(), &ENTRIES) {
         Some(place) => put(&mut bytes, place.saturating_add(4), 0),
         None => return Err(WireError::BadTable),
     }

@@ -36,7 +36,7 @@ impl<'a> ReadersOf<'a, &'a dyn ExtPlugin> {
     {
         for entry in self.entries.as_slice() {
             if *entry.id == *id {
-                return asks(entry.reader, metadata, storage);
+                return reader_accepts(entry.reader, metadata, storage);
             }
         }
         self.unknown
@@ -51,7 +51,7 @@ impl<'a> ReadersOf<'a, &'a dyn ExtPlugin> {
 }
 
 // Whether a reader accepts this metadata and storage.
-fn asks(reader: &dyn ExtPlugin, metadata: &[u8], storage: &DType) -> bool
+fn reader_accepts(reader: &dyn ExtPlugin, metadata: &[u8], storage: &DType) -> bool
     ensures { result ≡ accepted reader.now metadata.now (typ storage.now) }
 {
     reader.accepts(metadata, storage)

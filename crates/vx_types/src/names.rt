@@ -106,7 +106,7 @@ impl Names {
     {
         // A look at the name's field: it is a text.
         let _ = &name.text;
-        hold(&mut self.held, self.alloc, name)?;
+        push_name(&mut self.held, self.alloc, name)?;
         Ok(())
     }
 
@@ -130,7 +130,7 @@ impl Names {
 }
 
 // One more name behind the others. Where there is no memory for it, nothing changes.
-fn hold(held: &mut HeldNames, alloc: Global, name: Name) -> Result<(), TypeError>
+fn push_name(held: &mut HeldNames, alloc: Global, name: Name) -> Result<(), TypeError>
     ensures ok { OnOk result (names_held held.new ≡ names_held held.old ++ name ∷ []) }
     ensures unchanged { OnErr result (names_held held.new ≡ names_held held.old) }
     ensures err { IsOkUnless result TypeError.OutOfMemory }

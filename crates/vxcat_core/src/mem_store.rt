@@ -1,6 +1,6 @@
 //! Files in memory, as a store.
 
-ghost use Rattle.std.specs.Prelude.{◌≡◌, ◌≢◌, ℕ, List, [], Some, None, IsTrue, OnOk, OnErr};
+ghost use Rattle.std.specs.Prelude.{◌≡◌, ◌≢◌, ℕ, List, [], Some, None, IsTrue, OnOk, OnErr, IsOkUnless};
 ghost use Rattle.std.specs.Option.{option_copied};
 
 use crate::store::{Store, StoreError};
@@ -43,7 +43,8 @@ impl MemStore {
     /// # Errors
     /// `OutOfMemory`, and no other.
     pub fn fail_call(&mut self, number: u64) -> Result<(), StoreError>
-        ensures { ⟦<MemStore as Store>⟧.state self.new ≡ ⟦<MemStore as Store>⟧.state self.old }
+        ensures unchanged { ⟦<MemStore as Store>⟧.state self.new ≡ ⟦<MemStore as Store>⟧.state self.old }
+        ensures err { IsOkUnless result StoreError.OutOfMemory }
     {
         self.failing.push(number)?;
         Ok(())
@@ -58,7 +59,8 @@ impl MemStore {
         ensures ok { OnOk result ((⟦<MemStore as Store>⟧.state self.new).file name.now ≡ Some bytes.now) }
         ensures others { (other : List ℕ) → other ≢ name.now
             → (⟦<MemStore as Store>⟧.state self.new).file other ≡ (⟦<MemStore as Store>⟧.state self.old).file other }
-        ensures err { OnErr result (⟦<MemStore as Store>⟧.state self.new ≡ ⟦<MemStore as Store>⟧.state self.old) }
+        ensures unchanged { OnErr result (⟦<MemStore as Store>⟧.state self.new ≡ ⟦<MemStore as Store>⟧.state self.old) }
+        ensures err { IsOkUnless result StoreError.OutOfMemory }
         ensures rest { ⟦<MemStore as Store>⟧.state self.new ≡ record (⟦<MemStore as Store>⟧.state self.old) { file = (⟦<MemStore as Store>⟧.state self.new).file } }
     {
         let key = String::from_str(alloc, name)?;

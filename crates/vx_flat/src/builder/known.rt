@@ -35,7 +35,7 @@ impl FieldTables {
     }
 
     /// The place of the first field table with these bytes.
-    pub fn place_of(&self, bytes: &[u8]) -> Option<usize>
+    pub fn find(&self, bytes: &[u8]) -> Option<usize>
         ensures { result ≡ known_at self.now bytes.now }
     {
         self.places.get(bytes).copied()

@@ -170,7 +170,7 @@ impl MessageKind for TypeMessage {
         SCHEMA
     }
 
-    fn place_of() -> u32 {
+    fn schema_place() -> u32 {
         0
     }
 

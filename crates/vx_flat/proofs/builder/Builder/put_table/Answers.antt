@@ -27,7 +27,7 @@ returns-then-spot-gt-MAX_MESSAGE-clause-refused c =
     let cells = alone c.push_entries.new.cells.items c.clear.new.self.items cs cs c.in_ok-push_entries.ensures c.clear.ensures.items refl in
     let fields = alone c.push_field_table.new.out.items c.clear-2.new.self.items (field_table_bytes c.deref-2.result.now) (field_table_bytes cs)
     c.in_ok-push_field_table.ensures c.clear-2.ensures.items (ap field_table_bytes (c.deref-2.ensures.value ∙ cells)) in
-    let known = c.place_of.ensures ∙ ap (λ b. known_at n.known b) (c.deref-4.ensures.value ∙ fields) in
+    let known = c.find.ensures ∙ ap (λ b. known_at n.known b) (c.deref-4.ensures.value ∙ fields) in
     let shown = c.deref-3.ensures.value ∙ cells in
     let place : c.table_spot-spot.result ≡ spot n.known (align 8 (length (begun n.message.bytes.items))) (loose_block q) =
     c.table_spot-spot.ensures.value ∙ (λ i. table_spot (start i) (shown i) (known i)) in (
@@ -48,7 +48,7 @@ adds c =
     let cells = alone c.push_entries.new.cells.items c.clear.new.self.items cs cs c.in_ok-push_entries.ensures c.clear.ensures.items refl in
     let fields = alone c.push_field_table.new.out.items c.clear-2.new.self.items (field_table_bytes c.deref-2.result.now) (field_table_bytes cs)
     c.in_ok-push_field_table.ensures c.clear-2.ensures.items (ap field_table_bytes (c.deref-2.ensures.value ∙ cells)) in
-    let known = c.place_of.ensures ∙ ap (λ b. known_at n.known b) (c.deref-4.ensures.value ∙ fields) in
+    let known = c.find.ensures ∙ ap (λ b. known_at n.known b) (c.deref-4.ensures.value ∙ fields) in
     let shown = c.deref-3.ensures.value ∙ cells in
     let place : s ≡ spot n.known (align 8 (length (begun m))) (loose_block q) =
     c.table_spot-spot.ensures.value ∙ (λ i. table_spot (start i) (shown i) (known i)) in

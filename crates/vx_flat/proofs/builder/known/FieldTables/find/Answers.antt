@@ -1,7 +1,7 @@
 use Rattle.std.proofs.Common.{ap, ◌∙◌}
 use Rattle.vx_flat.specs.Spots.{known_at}
 use Rattle.vx_flat.proofs.KnownTables.{lookup_known}
-use Rattle.vx_flat.proofs.builder.known.FieldTables.place_of.Goals as goal
+use Rattle.vx_flat.proofs.builder.known.FieldTables.find.Goals as goal
 
 pub returns : goal.returns
 returns c =
