@@ -41,13 +41,26 @@ use vx_scalars::{ScalarError, StatsSet};
 use vx_types::DType;
 
 /// An array: a tree of nodes that is sound as a whole, each with its statistics.
-#[derive(Drop)]
 pub struct Array {
     dtype: DType,
     len: usize,
     stats: StatsSet,
     body: Body,
     children: Vec<Array>,
+}
+
+// An array falls by a call of this, wherever one falls, and not part by part.
+impl Drop for Array {
+    #[cycle(fall)]
+    fn drop(self) {
+        let Array {
+            dtype: _,
+            len: _,
+            stats: _,
+            body: _,
+            children: _,
+        } = self;
+    }
 }
 
 impl Model for Array {

@@ -25,7 +25,6 @@ use std::alloc::Global;
 use vx_buffer::BufferHandle;
 
 /// What a node's encoding holds beside its type, its rows and its children.
-#[derive(Drop)]
 pub enum Body {
     /// Nothing: each row is null.
     Null,
@@ -59,6 +58,30 @@ pub enum Body {
     Variant,
     /// All that is known of a node of an identifier that nothing reads.
     Foreign(ForeignData),
+}
+
+// A body falls by a call of this, wherever one falls, and not part by part.
+impl Drop for Body {
+    fn drop(self) {
+        match self {
+            Body::Null => {}
+            Body::Primitive(_) => {}
+            Body::Bool(_) => {}
+            Body::Decimal(_) => {}
+            Body::VarBin(_) => {}
+            Body::VarBinView(_) => {}
+            Body::FixedSizeList => {}
+            Body::Struct => {}
+            Body::Ext => {}
+            Body::List => {}
+            Body::Union => {}
+            Body::Dict(_) => {}
+            Body::ListView(_) => {}
+            Body::Map => {}
+            Body::Variant => {}
+            Body::Foreign(_) => {}
+        }
+    }
 }
 
 impl Body {

@@ -12,7 +12,7 @@ use vx_types::{Blob, Name, PValue};
 
 /// The value of a row.
 #[cycle(row)]
-#[derive(Debug, Drop)]
+#[derive(Debug)]
 pub enum RowValue {
     /// The row is not there.
     Null,
@@ -34,6 +34,25 @@ pub enum RowValue {
     Union(u8, RowRef),
     /// A row of variants: a value with a type of its own.
     Variant(Scalar),
+}
+
+// A row's value falls by a call of this, wherever one falls, and not part by part.
+impl Drop for RowValue {
+    #[cycle(fall)]
+    fn drop(self) {
+        match self {
+            RowValue::Null => {}
+            RowValue::Opaque => {}
+            RowValue::Bool(_) => {}
+            RowValue::Primitive(_) => {}
+            RowValue::Decimal(_) => {}
+            RowValue::Utf8(_) => {}
+            RowValue::Binary(_) => {}
+            RowValue::Tuple(_) => {}
+            RowValue::Union(_, _) => {}
+            RowValue::Variant(_) => {}
+        }
+    }
 }
 
 impl PartialEq for RowValue {

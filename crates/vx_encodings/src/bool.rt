@@ -101,8 +101,8 @@ pub(crate) fn build(
     ensures err { (x : ExtMeaning) → IfErr result (λ e. IsUnbuilt e x Bool head buffers children) }
 {
     let metadata: BoolMetadata = read_message(alloc, head.metadata.as_slice())?;
-    let nullability = match head.dtype {
-        DType::Bool(nullability) => nullability,
+    let nullability = match &head.dtype {
+        DType::Bool(nullability) => *nullability,
         _ => unreachable!(),
     };
     let bits = match only_buffer(buffers) {

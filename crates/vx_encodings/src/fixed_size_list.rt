@@ -70,8 +70,8 @@ pub(crate) fn build(
     if !buffers.is_empty() {
         return Err(EncodingError::BadShape);
     }
-    let (size, nullability) = match head.dtype {
-        DType::FixedSizeList(_, size, nullability) => (size, nullability),
+    let (size, nullability) = match &head.dtype {
+        DType::FixedSizeList(_, size, nullability) => (*size, *nullability),
         _ => unreachable!(),
     };
     let (elements, validity) = first_and_validity(children.into_vec());

@@ -45,8 +45,8 @@ pub(crate) fn build(
     ensures sound { IfOk result IsSound }
     ensures err { (x : ExtMeaning) → IfErr result (λ e. IsUnbuilt e x Primitive head buffers children) }
 {
-    let (ptype, nullability) = match head.dtype {
-        DType::Primitive(ptype, nullability) => (ptype, nullability),
+    let (ptype, nullability) = match &head.dtype {
+        DType::Primitive(ptype, nullability) => (*ptype, *nullability),
         _ => unreachable!(),
     };
     let values = match only_buffer(buffers) {

@@ -91,10 +91,9 @@ pub(crate) fn build(
     if !buffers.is_empty() {
         return Err(EncodingError::BadShape);
     }
-    let dtype = head.dtype;
-    let (fields, nullability) = match dtype {
-        DType::Struct(fields, nullability) => (fields, nullability),
-        _ => unreachable!(),
+    let (fields, nullability) = match head.dtype.into_struct() {
+        Some(parts) => parts,
+        None => unreachable!(),
     };
     let (validity, columns) = front_and_fields(children, fields.fields().len());
     match StructArray::try_new(fields, nullability, columns, head.len, validity) {

@@ -18,10 +18,18 @@ use vx_types::DType;
 /// A value with its type, which it fits. Contracts see the type and the value as
 /// trees.
 #[cycle(scalar)]
-#[derive(Debug, Drop)]
+#[derive(Debug)]
 pub struct Scalar {
     dtype: DType,
     value: Option<ScalarValue>,
+}
+
+// A scalar falls by a call of this, wherever one falls, and not part by part.
+impl Drop for Scalar {
+    #[cycle(fall)]
+    fn drop(self) {
+        let Scalar { dtype: _, value: _ } = self;
+    }
 }
 
 impl Model for Scalar {
@@ -103,7 +111,8 @@ impl Scalar {
         ensures dtype { typ result.0 ≡ self.dtype }
         ensures value { seen result.1 ≡ self.value }
     {
-        (self.dtype, self.value)
+        let Scalar { dtype, value } = self;
+        (dtype, value)
     }
 
     /// An equal scalar.

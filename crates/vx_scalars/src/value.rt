@@ -13,7 +13,7 @@ use vx_types::{Blob, Name, PValue};
 /// A value that is not null, without its type. A null is `None` in the place of
 /// a value.
 #[cycle(scalar)]
-#[derive(Debug, Drop)]
+#[derive(Debug)]
 pub enum ScalarValue {
     /// True or false.
     Bool(bool),
@@ -32,6 +32,23 @@ pub enum ScalarValue {
     Union(u8, ValueRef),
     /// A value with a type of its own.
     Variant(VariantRef),
+}
+
+// A value falls by a call of this, wherever one falls, and not part by part.
+impl Drop for ScalarValue {
+    #[cycle(fall)]
+    fn drop(self) {
+        match self {
+            ScalarValue::Bool(_) => {}
+            ScalarValue::Primitive(_) => {}
+            ScalarValue::Decimal(_) => {}
+            ScalarValue::Utf8(_) => {}
+            ScalarValue::Binary(_) => {}
+            ScalarValue::Tuple(_) => {}
+            ScalarValue::Union(_, _) => {}
+            ScalarValue::Variant(_) => {}
+        }
+    }
 }
 
 impl ScalarValue {

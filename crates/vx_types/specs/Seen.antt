@@ -1,5 +1,5 @@
 -- A declared type as the tree that contracts see.
-use Rattle.std.specs.Prelude.{List, map as each}
+use Rattle.std.specs.Prelude.{List, ⊤, map as each}
 use Rattle.vx_trees.specs.Rose.{node, end, more, roses_of}
 use Rattle.vx_types.specs.Kind.{null, boolean, primitive, decimal, utf8, binary, list, fixed_size_list, structure, union, map, variant, extension}
 use Rattle.vx_types.specs.Typ.{Typ}
@@ -21,6 +21,11 @@ typ (Union v n) = node (union v.names v.ids n) (roses_of v.types)
 typ (Map m n) = node (map m.keys_sorted n) (more m.key (more m.value end))
 typ (Variant n) = node (variant n) end
 typ (Extension x) = node (extension x.id x.metadata) (more x.storage end)
+
+-- The types of structures.
+abbrev pub IsStruct : DType → Type 0
+IsStruct (Struct f n) = ⊤
+IsStruct _ = ⊥
 
 -- A list of types, each as its tree.
 abbrev pub typs : List DType → List Typ

@@ -1,8 +1,8 @@
 //! Logical types.
 
-ghost use Rattle.std.specs.Prelude.{◌≡◌, ◌↔◌, ◌≤◌, ◌-◌, ◌^◌, IfOk, IsOkUnless, IsTrue, min};
+ghost use Rattle.std.specs.Prelude.{◌≡◌, ◌↔◌, ◌≤◌, ◌-◌, ◌^◌, IfOk, IfSome, IfNone, IsOkUnless, IsTrue, min};
 ghost use Rattle.vx_trees.specs.Walks.{levels};
-ghost use Rattle.vx_types.specs.Seen.{typ};
+ghost use Rattle.vx_types.specs.Seen.{IsStruct, typ};
 ghost use Rattle.vx_types.specs.Typ.{IsType};
 ghost use Rattle.vx_types.specs.Words.{nullability, with_nullability};
 
@@ -20,7 +20,7 @@ use std::alloc::Global;
 
 /// A logical type: what an array's rows may be, whatever their encoding.
 #[cycle(dtype)]
-#[derive(Debug, Drop)]
+#[derive(Debug)]
 pub enum DType {
     /// Each row is null.
     Null,
@@ -51,7 +51,40 @@ pub enum DType {
     Extension(ExtDType),
 }
 
+// A type falls by a call of this, wherever one falls, and not part by part.
+impl Drop for DType {
+    #[cycle(fall)]
+    fn drop(self) {
+        match self {
+            DType::Null => {}
+            DType::Bool(_) => {}
+            DType::Primitive(_, _) => {}
+            DType::Decimal(_, _) => {}
+            DType::Utf8(_) => {}
+            DType::Binary(_) => {}
+            DType::List(_, _) => {}
+            DType::FixedSizeList(_, _, _) => {}
+            DType::Struct(_, _) => {}
+            DType::Union(_, _) => {}
+            DType::Map(_, _) => {}
+            DType::Variant(_) => {}
+            DType::Extension(_) => {}
+        }
+    }
+}
+
 impl DType {
+    /// The fields of a structure and its nullability, handed out; no other type has them.
+    pub fn into_struct(self) -> Option<(StructFields, Nullability)>
+        ensures some { IfSome result (λ parts. self ≡ DType.Struct parts.0 parts.1) }
+        ensures none { IfNone result (IsStruct self → ⊥) }
+    {
+        match self {
+            DType::Struct(fields, nullability) => Some((fields, nullability)),
+            _ => None,
+        }
+    }
+
     /// Whether rows may be null. The type of nulls is nullable.
     pub fn nullability(&self) -> Nullability
         ensures { result ≡ nullability (typ self.now) }
@@ -174,7 +207,7 @@ impl PartialEq for DType {
     ghost use Rattle.vx_trees.proofs.Sameness.{same-partial_equivalence};
     ghost use Rattle.std.specs.Cmp.{on_per};
     ghost use Rattle.vx_types.specs.Typ.{typ_code};
-    ghost use Rattle.vx_types.specs.Seen.{typ};
+    ghost use Rattle.vx_types.specs.Seen.{IsStruct, typ};
 
     ghost eq = { λ a b. same typ_code (typ a) (typ b) };
 
@@ -190,7 +223,7 @@ impl Eq for DType {
     ghost use Rattle.vx_trees.proofs.Sameness.{same-equivalence};
     ghost use Rattle.std.specs.Cmp.{on_equiv};
     ghost use Rattle.vx_types.specs.Typ.{typ_code};
-    ghost use Rattle.vx_types.specs.Seen.{typ};
+    ghost use Rattle.vx_types.specs.Seen.{IsStruct, typ};
 
     ghost laws = { on_equiv typ (same-equivalence typ_code) };
 }
