@@ -229,12 +229,18 @@ impl ArraySession {
 }
 
 /// What arrays and types are read and written by.
-#[derive(Drop)]
 pub struct VortexSession {
     /// The encodings and plugins of arrays.
     pub arrays: ArraySession,
     /// The readers of extension types.
     pub ext: ExtSession,
+}
+
+// A session falls by a call of this, wherever one falls, and not part by part.
+impl Drop for VortexSession {
+    fn drop(self) {
+        let VortexSession { arrays: _, ext: _ } = self;
+    }
 }
 
 impl VortexSession {
