@@ -268,7 +268,7 @@ fn is_copied(alloc: Global, message: &pb::DType, bytes: &[u8]) -> Result<bool, T
 fn is_i32(alloc: Global, message: &pb::DType) -> bool {
     match DType::from_proto(alloc, message, &ExtSession::new(alloc)) {
         Ok(dtype) => matches!(
-            dtype,
+            &dtype,
             DType::Primitive(PType::I32, Nullability::NonNullable)
         ),
         Err(_) => false,
