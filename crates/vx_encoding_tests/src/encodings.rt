@@ -73,7 +73,7 @@ pub(crate) fn plan_refusal(alloc: Global, encoding: Encoding, head: Head) -> Opt
 
 // Whether a child is planned as the validity of four rows.
 fn is_validity(child: &ChildPlan) -> bool {
-    child.len == 4 && matches!(child.dtype, DType::Bool(Nullability::NonNullable))
+    child.len == 4 && matches!(&child.dtype, DType::Bool(Nullability::NonNullable))
 }
 
 // Whether a validity of four rows is planned as the one child.
