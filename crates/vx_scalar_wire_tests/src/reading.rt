@@ -209,8 +209,11 @@ fn is_part(alloc: Global, bytes: &[u8], which: usize, place: usize, part: Answer
 
 // Whether this text is read from these bytes.
 fn is_text(alloc: Global, bytes: &[u8], text: &str) -> bool {
-    match value_of(alloc, bytes, &DType::Utf8(NO)) {
-        Ok(Some(ScalarValue::Utf8(name))) => name.as_str() == text,
+    let Ok(Some(value)) = value_of(alloc, bytes, &DType::Utf8(NO)) else {
+        return false;
+    };
+    match &value {
+        ScalarValue::Utf8(name) => name.as_str() == text,
         _ => false,
     }
 }
