@@ -4,6 +4,8 @@
 
 use anyhow::{Context, Result, bail};
 use std::alloc::Global;
+use std::rt::Files;
+use std::time::CpuClock;
 use std::{env, fs};
 use vx_buffer::ByteBuffer;
 use vx_registry::{ArraySession, ReadContext, VortexSession};
@@ -21,8 +23,50 @@ fn ids_of(alloc: Global, word: &str) -> Result<ReadContext> {
     Ok(ReadContext::new(ids))
 }
 
+// The type that a file shows.
+fn type_in<R: Files + AllocGlobal>(rt: &R, from: &str) -> Result<DType> {
+    let message = fs::read(rt, from).context(format_args!("reading {from}"))?;
+    Ok(DType::from_flatbuffer(rt.alloc(), &message, &ExtSession::new(rt.alloc()))?)
+}
+
+// The blob in a file, opened.
+fn blob_in<R: Files + AllocGlobal>(rt: &R, from: &str) -> Result<SerializedArray> {
+    let blob = fs::read(rt, from).context(format_args!("reading {from}"))?;
+    Ok(SerializedArray::try_from_buffer(rt.alloc(), ByteBuffer::from_vec(blob)?)?)
+}
+
+// Decodes an array, which judges it, and prints what it is.
+fn judge<R: AllocGlobal + Print>(
+    rt: &R,
+    serialized: &SerializedArray,
+    dtype: &DType,
+    len: usize,
+    ids: &ReadContext,
+) -> Result<()> {
+    let arrays = ArraySession::default(rt.alloc())?;
+    let session = VortexSession::new(arrays, ExtSession::new(rt.alloc()));
+    let array = serialized.decode(rt.alloc(), dtype, len, ids, &session)?;
+    rt.println(format_args!("{}, {} rows", array.encoding_id(), array.len()))?;
+    Ok(())
+}
+
+// Prints how long decoding it takes.
+fn time<R: CpuClock + AllocGlobal + Print>(
+    rt: &R,
+    serialized: &SerializedArray,
+    dtype: &DType,
+    len: usize,
+    ids: &ReadContext,
+    rounds: &str,
+) -> Result<()> {
+    let arrays = ArraySession::default(rt.alloc())?;
+    let session = VortexSession::new(arrays, ExtSession::new(rt.alloc()));
+    print_least(rt, "decode", rounds.parse()?, || {
+        Ok(serialized.decode(rt.alloc(), dtype, len, ids, &session)?)
+    })
+}
+
 fn main(rt: HostRuntime) -> Result<()> {
-    let alloc = rt.alloc();
     let mut words = env::args(&rt)?.skip(1);
     let (Some(of), Some(from), Some(len), Some(ids)) = (
         words.next(),
@@ -32,21 +76,13 @@ fn main(rt: HostRuntime) -> Result<()> {
     ) else {
         bail!("usage: vx_judge TYPE BLOB LEN ID,.. [ROUNDS]");
     };
-    let message = fs::read(&rt, of.as_str()).context(format_args!("reading {of}"))?;
-    let dtype = DType::from_flatbuffer(alloc, &message, &ExtSession::new(alloc))?;
-    let blob = fs::read(&rt, from.as_str()).context(format_args!("reading {from}"))?;
     let len = len.as_str().parse()?;
-    let ids = ids_of(alloc, ids.as_str())?;
-    let session = VortexSession::new(ArraySession::default(alloc)?, ExtSession::new(alloc));
-    let serialized = SerializedArray::try_from_buffer(alloc, ByteBuffer::from_vec(blob)?)?;
-    let array = serialized.decode(alloc, &dtype, len, &ids, &session)?;
-    let (id, rows) = (array.encoding_id(), array.len());
-    rt.println(format_args!("{id}, {rows} rows"))?;
-    if let Some(rounds) = words.next() {
-        let rounds = rounds.as_str().parse()?;
-        print_least(&rt, "decode", rounds, || {
-            Ok(serialized.decode(alloc, &dtype, len, &ids, &session)?)
-        })?;
+    let dtype = type_in(&rt, of.as_str())?;
+    let ids = ids_of(rt.alloc(), ids.as_str())?;
+    let serialized = blob_in(&rt, from.as_str())?;
+    judge(&rt, &serialized, &dtype, len, &ids)?;
+    match words.next() {
+        Some(rounds) => time(&rt, &serialized, &dtype, len, &ids, rounds.as_str()),
+        None => Ok(()),
     }
-    Ok(())
 }
