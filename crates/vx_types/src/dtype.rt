@@ -207,7 +207,7 @@ impl PartialEq for DType {
     ghost use Rattle.vx_trees.proofs.Sameness.{same-partial_equivalence};
     ghost use Rattle.std.specs.Cmp.{on_per};
     ghost use Rattle.vx_types.specs.Typ.{typ_code};
-    ghost use Rattle.vx_types.specs.Seen.{IsStruct, typ};
+    ghost use Rattle.vx_types.specs.Seen.{typ};
 
     ghost eq = { λ a b. same typ_code (typ a) (typ b) };
 
@@ -223,7 +223,7 @@ impl Eq for DType {
     ghost use Rattle.vx_trees.proofs.Sameness.{same-equivalence};
     ghost use Rattle.std.specs.Cmp.{on_equiv};
     ghost use Rattle.vx_types.specs.Typ.{typ_code};
-    ghost use Rattle.vx_types.specs.Seen.{IsStruct, typ};
+    ghost use Rattle.vx_types.specs.Seen.{typ};
 
     ghost laws = { on_equiv typ (same-equivalence typ_code) };
 }
