@@ -29,7 +29,8 @@ use Rattle.vx_array_tree.proofs.NodeLaws.{body_encoding}
 use Rattle.vx_array_tree.proofs.Options.{mapped}
 use Rattle.vx_array_tree.proofs.Plans.{exactly_is, metadata_again}
 use Rattle.vx_array_tree.proofs.Bodies.{normal_by, body_normal}
-use Rattle.vx_array_tree.proofs.Retyped.{own_places, places_count}
+use Rattle.vx_array_tree.proofs.LawsOfPlaces.{places_count}
+use Rattle.vx_array_tree.proofs.Retyped.{own_places}
 
 -- ---- a body has the buffers that it was built of
 

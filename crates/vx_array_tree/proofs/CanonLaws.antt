@@ -27,7 +27,8 @@ use Rattle.vx_array_tree.proofs.Bodies.{native_or, foreign_is, normal_by, cleare
 use Rattle.vx_array_tree.proofs.CanonPlaces.{known, unknown, known_node, foreign_node, Planned, planned_at, types_at, kids_metadata, kids_places, canon_count, canon_encodings}
 use Rattle.vx_array_tree.proofs.NodeLaws.{planned_places}
 use Rattle.vx_array_tree.proofs.Plans.{exactly_is}
-use Rattle.vx_array_tree.proofs.Retyped.{IsRetyped, AreRetyped, retyped_same, own_places, places_count}
+use Rattle.vx_array_tree.proofs.LawsOfPlaces.{places_count}
+use Rattle.vx_array_tree.proofs.Retyped.{IsRetyped, AreRetyped, retyped_same, own_places}
 use Rattle.vx_array_tree.proofs.RetypedParts.{rows_retyped, holds_retyped, content_retyped, allows_retyped, same_control}
 
 -- What is read back of a node, by what it is: of a known encoding, or foreign.

@@ -2,6 +2,7 @@ pub mod Options
 pub mod Identifiers
 pub mod Bodies
 pub mod Plans
+pub mod LawsOfPlaces
 pub mod Retyped
 pub mod RetypedParts
 pub mod NodeLaws

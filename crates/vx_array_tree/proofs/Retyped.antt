@@ -3,7 +3,6 @@ use Rattle.std.proofs.Common.{ℕ, zero, suc, ◌≡◌, List, [], ◌∷◌, Op
 use Rattle.std.proofs.lemmas.Option.{same_Some}
 use Rattle.vx_trees.specs.Rose.{node, end, more, count}
 use Rattle.vx_types.specs.Kind as K
-use Rattle.vx_types.specs.Kind.{Kind}
 use Rattle.vx_types.specs.Typ.{Typ}
 use Rattle.vx_types.specs.Words.{nullability, with_nullability, entries}
 use Rattle.vx_types.specs.declared.nullability.Nullability.{Nullability}
@@ -242,11 +241,6 @@ pub own_places : (b : Body) (d : Typ) (n : ℕ) (ps : List Place) (k : ℕ) → 
 own_places (B.dict x) d n ps k z p a = dict_own d ps x p a
 own_places (B.foreign x) d n ps k z p a = absurd z
 own_places _ d n ps k z p a = refl
-
--- There are as many places as children.
-pub places_count : (ts : Trees) → length (places ts) ≡ count ts
-places_count end = refl
-places_count (more t ts) = ap (λ n. suc n) (places_count ts)
 
 foreign_alike : (d : Typ) (n : ℕ) (ts : Trees) → AreForeignAt d n ts → replicate (length (places ts)) (place d n) ≡ places ts
 foreign_alike d n end f = refl

@@ -37,6 +37,7 @@ use Rattle.vx_array_tree.specs.Encodings.Dicts as Dicts
 use Rattle.vx_types.proofs.LawsOfTypes.{fits_nullable, fits_extension, fits_map, nullable_under}
 use Rattle.vx_array_tree.proofs.Options.{mapped, let_through}
 use Rattle.vx_array_tree.proofs.Plans.{exactly_is}
+use Rattle.vx_array_tree.proofs.LawsOfPlaces.{exactly_count, places_length, rows_count}
 
 abbrev pub FitAll : Trees → Type 0
 FitAll end = Unit {0}
@@ -352,20 +353,6 @@ fields_fit (more d ds) end n i l p f h = absurd (nil_cons _ _ p)
 fields_fit (more d ds) (more t us) n i l p f h =
     ((retype t d n (heads _ _ _ _ p) f.0).fits i l (or_left (has_opaque ((rows_of t).row i)) _ h), fields_fit ds us n i l (tails _ _ _ _ p) f.1 (or_right (has_opaque ((rows_of t).row i)) _ h))
 
-exactly_count : (ps : List Place) (k : ℕ) (qs : List Place) → exactly ps k ≡ Some qs → k ≡ length ps
-exactly_count [] zero qs e = refl
-exactly_count [] (suc k) qs e = absurd (none-some _ e)
-exactly_count (p ∷ ps) zero qs e = absurd (none-some _ e)
-exactly_count (p ∷ ps) (suc k) qs e = let m = mapped (λ (rs : List Place). p ∷ rs) (exactly ps k) qs e in ap (λ z. suc z) (exactly_count ps k m.0 m.2)
-
-length_at : (ds : Roses Kind) (n : ℕ) → length (places_at ds n) ≡ count ds
-length_at end n = refl
-length_at (more d ds) n = ap (λ z. suc z) (length_at ds n)
-
-rows_count : (us : Trees) → length (rows_below us) ≡ count us
-rows_count end = refl
-rows_count (more t us) = ap (λ z. suc z) (rows_count us)
-
 struct_by : (b : Bool) (ns : List (List ℕ)) (m : Nullability) (ds : Roses Kind) (n : ℕ) (us : Trees) → (length (rows_below us) == suc (count ds)) ≡ b
     → ((i : ℕ) → i < n → (if b then validity (rows_below us) i else Some true) ≡ Some false → m ≡ Nullable)
     → ((i : ℕ) → i < n → have_opaque (values_at (if b then rest (rows_below us) else rows_below us) i) ≡ false → FitBy (values_at (if b then rest (rows_below us) else rows_below us) i) ds)
@@ -385,7 +372,7 @@ struct_at : (o : Option (List Place)) (ns : List (List ℕ)) (m : Nullability) (
     → elim o as (λ _. Option (List Place)) [ Some qs ↦ Some qs | None ↦ exactly (validity_place n ∷ places_at ds n) (count us) ] ≡ Some (places us)
     → AllowsValidity (node (K.structure ns m) ds) (count ds) (count us) → FitAll us → FitRows (node (K.structure ns m) ds) n (Structs.rows (node (K.structure ns m) ds) n (rows_below us))
 struct_at (Some qs) ns m ds n us e p a f =
-    let c = exactly_count (places_at ds n) (count us) qs e ∙ length_at ds n in
+    let c = exactly_count (places_at ds n) (count us) qs e ∙ places_length ds n in
     let q = exactly_is (places_at ds n) (count us) (places us) (e ∙ p) in
     let k = rows_count us in
     struct_by false ns m ds n us (grind (arith, nat_tests)) (λ i l v. absurd (never_false v)) (λ i l h. fields_fit ds us n i l q f h)
@@ -393,7 +380,7 @@ struct_at None ns m ds n end e p a f = absurd (none-some _ p)
 struct_at None ns m ds n (more t us) e p a f =
     let x = exactly_is (validity_place n ∷ places_at ds n) (suc (count us)) (places (more t us)) p in
     let c : suc (count us) ≡ suc (length (places_at ds n)) = exactly_count (validity_place n ∷ places_at ds n) (suc (count us)) (places (more t us)) p in
-    let w = length_at ds n in
+    let w = places_length ds n in
     let k = rows_count us in
     struct_by true ns m ds n (more t us) (grind (arith, nat_tests)) (λ i l v. a (omega arith)) (λ i l h. fields_fit ds us n i l (tails _ _ _ _ x) f.1 h)
 

@@ -2,8 +2,8 @@
 -- and how many cells it takes where it is printed. The type is not among it, so that arrays that differ by
 -- their types' nullability alone have equal rows.
 use Rattle.std.specs.Prelude.{ℕ, zero, suc, ◌+◌, ◌≡◌, List, [], ◌∷◌, Option, Some, None, Bool, true, false, unwrap_or, is_some, IsTrue}
-use Rattle.vx_trees.specs.Rose.{node, end, more}
-use Rattle.vx_types.specs.Value.{Value, Values, null, opaque, bool, lone, natural, value_cells}
+use Rattle.vx_trees.specs.Rose.{end, more}
+use Rattle.vx_types.specs.Value.{Value, Values, null, opaque, flag_in, lone, natural, value_cells}
 
 -- Whether a row is there is true, false, or not known: none, where it ends at something opaque.
 pub record Rows : Type 0 where
@@ -33,11 +33,6 @@ second rs = first (rest rs)
 -- Those of the third.
 abbrev pub third : List Rows → Rows
 third rs = first (rest (rest rs))
-
--- A value as a flag: none, where it is no flag.
-abbrev pub flag_in : Value → Option Bool
-flag_in (node (bool b) vs) = Some b
-flag_in (node _ vs) = None
 
 -- Whether a row is there, by the flags of the validity that may stand: where none does, each row is.
 abbrev pub validity : List Rows → ℕ → Option Bool

@@ -8,7 +8,7 @@ use Rattle.vx_types.specs.declared.nullability.Nullability.TheVariants.{NonNulla
 use Rattle.vx_scalars.proofs.LawsStats.{none_fit}
 use Rattle.vx_array_tree.specs.Encoding as E
 use Rattle.vx_array_tree.specs.Encodings.Bools.{bit_at}
-use Rattle.vx_array_tree.specs.Rows.{flag_in}
+use Rattle.vx_types.specs.Value.{flag_in}
 use Rattle.vx_array_tree.specs.Sound.{IsSound}
 use Rattle.vx_array_tree.specs.Tree.{Tree, row_at}
 use Rattle.vx_arrays.specs.Bools.{bool_tree}

@@ -1,5 +1,5 @@
 -- Columns of structures, one by one.
-use Rattle.std.proofs.Common.{ℕ, zero, suc, ◌≡◌, ◌<◌, ◌+◌, List, [], ◌∷◌, Bool, false, refl, sym, ap, ◌∙◌, subst, length, take, get_or, add-one, arith}
+use Rattle.std.proofs.Common.{ℕ, zero, suc, ◌≡◌, ◌<◌, ◌+◌, List, [], ◌∷◌, Bool, false, sym, ap, ◌∙◌, subst, length, take, get_or, add-one, arith}
 use Rattle.std.specs.Prelude.{◌↔◌, IsTrue}
 use Rattle.vx_trees.specs.Rose.{label, more, count, roses_of}
 use Rattle.vx_trees.specs.Same.{same}
@@ -12,13 +12,15 @@ use Rattle.vx_types.specs.Typ.{Typ, typ_code}
 use Rattle.vx_types.specs.declared.dtype.DType.{DType}
 use Rattle.vx_types.specs.declared.nullability.Nullability.{Nullability}
 use Rattle.vx_types.specs.declared.nullability.Nullability.TheVariants.{Nullable}
+use Rattle.vx_types.proofs.LawsOfTypes.{typs-length}
 use Rattle.std.proofs.lemmas.Bool.{false≢true, iff_false}
 use Rattle.vx_array_tree.specs.Place.{Place, place, places_at, validity_place}
 use Rattle.vx_array_tree.specs.Refused.{IsWellShaped}
 use Rattle.vx_array_tree.specs.Tree.{Tree, Trees, places}
 use Rattle.vx_arrays.specs.Places.{array_place}
 use Rattle.vx_arrays.specs.Structs.{struct_head}
-use Rattle.vx_arrays.proofs.Fielded.{places_count, places_length, no_children, front_decides, front_right}
+use Rattle.vx_array_tree.proofs.LawsOfPlaces.{places_count, places_length}
+use Rattle.vx_arrays.proofs.Fielded.{no_children, front_decides, front_right}
 
 -- A place is its type and its length.
 both_parts : (d e : Typ) (m n : ℕ) → d ≡ e → m ≡ n → place d m ≡ place e n
@@ -63,10 +65,6 @@ columns-at (x ∷ ds) (y ∷ us) n (suc i) d u h k p =
     let g : i < length ds = omega (arith, h) in
     let f : i < length us = omega (arith, k) in
     columns-at ds us n i d u g f (tails _ _ _ _ p)
-
-pub typs-length : (ds : List DType) → length (typs ds) ≡ length ds
-typs-length [] = refl
-typs-length (d ∷ ds) = ap (λ k. suc k) (typs-length ds)
 
 -- There are as many columns as types.
 pub columns-length : (ds : List DType) (us : List Tree) (n : ℕ) → places (roses_of us) ≡ places_at (roses_of (typs ds)) n → length ds ≡ length us

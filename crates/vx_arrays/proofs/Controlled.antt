@@ -18,7 +18,7 @@ use Rattle.vx_array_tree.specs.Refused.{IsWellShaped}
 use Rattle.vx_array_tree.specs.Sound.{HasNativeControls, HasNativeEntries, HasNoForeign, IsControlled, IsControlledBy, IsNativeNode, IsSoundNode}
 use Rattle.vx_array_tree.specs.Table.{encoding_of, is_control, IsNative}
 use Rattle.vx_array_tree.specs.Tree.{Tree, Trees, untold}
-use Rattle.vx_array_tree.proofs.Retyped.{places_count}
+use Rattle.vx_array_tree.proofs.LawsOfPlaces.{places_count}
 use Rattle.vx_arrays.proofs.Untold.{untold_sound}
 
 -- ---- without children

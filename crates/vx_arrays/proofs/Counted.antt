@@ -4,6 +4,7 @@ use Rattle.std.proofs.lemmas.List.{take_all}
 use Rattle.vx_trees.specs.Rose.{end, more, label, roses_of}
 use Rattle.vx_trees.specs.Walks.{nodes, nodes_of}
 use Rattle.vx_trees.proofs.Counting.{nodes-at}
+use Rattle.vx_trees.proofs.LawsOfRoses.{first_tree, other_trees, never_end}
 use Rattle.vx_types.specs.Value.{Value, Values}
 use Rattle.vx_array_tree.specs.Rows.{Rows, values_from, cells_from, values_at, cells_at}
 use Rattle.vx_array_tree.specs.Tree.{Tree, rows_of, rows_below}
@@ -51,26 +52,17 @@ cells_fit (Err e) cells old new h = tt
 
 -- ---- one value more
 
-no_more : (v : Value) (vs : Values) → more v vs ≡ end → ⊥
-no_more v vs e = absurd (cc)
-
-first_is : (v w : Value) (vs ws : Values) → more v vs ≡ more w ws → v ≡ w
-first_is v w vs ws e = cc
-
-others_are : (v w : Value) (vs ws : Values) → more v vs ≡ more w ws → vs ≡ ws
-others_are v w vs ws e = cc
-
 both : (v w : Value) (vs ws : Values) → v ≡ w → vs ≡ ws → more v vs ≡ more w ws
 both v w vs ws e f = λ i. more (e i) (f i)
 
 -- Of the rows of an array from one on.
 values_next : (r : Rows) (start k : ℕ) (vs : List Value) (v : Value) → roses_of vs ≡ values_from r start k → v ≡ r.row (start + k) → roses_of (vs ++ v ∷ []) ≡ values_from r start (suc k)
 values_next r start zero [] v e f = both v (r.row start) end end (f ∙ ap (λ j. r.row j) (add-zero start)) refl
-values_next r start zero (w ∷ vs) v e f = absurd (no_more w (roses_of vs) e)
-values_next r start (suc k) [] v e f = absurd (no_more (r.row start) (values_from r (suc start) k) (sym e))
+values_next r start zero (w ∷ vs) v e f = absurd (never_end w (roses_of vs) e)
+values_next r start (suc k) [] v e f = absurd (never_end (r.row start) (values_from r (suc start) k) (sym e))
 values_next r start (suc k) (w ∷ vs) v e f =
-    both w (r.row start) (roses_of (vs ++ v ∷ [])) (values_from r (suc start) (suc k)) (first_is w (r.row start) (roses_of vs) (values_from r (suc start) k) e)
-    (values_next r (suc start) k vs v (others_are w (r.row start) (roses_of vs) (values_from r (suc start) k) e) (f ∙ ap (λ j. r.row j) (moved start k)))
+    both w (r.row start) (roses_of (vs ++ v ∷ [])) (values_from r (suc start) (suc k)) (first_tree w (r.row start) (roses_of vs) (values_from r (suc start) k) e)
+    (values_next r (suc start) k vs v (other_trees w (r.row start) (roses_of vs) (values_from r (suc start) k) e) (f ∙ ap (λ j. r.row j) (moved start k)))
   where
     moved : (j n : ℕ) → j + suc n ≡ suc j + n
     moved j n = omega arith
@@ -109,11 +101,11 @@ across_next : (ts : List Tree) (i k : ℕ) (vs : List Value) (t : Tree) (v : Val
     → roses_of (vs ++ v ∷ []) ≡ values_at (rows_below (roses_of (take (suc k) ts))) i
 across_next [] i k vs t v h q e f = absurd (omega (arith, h))
 across_next (u ∷ ts) i zero [] t v h q e f = both v ((rows_of u).row i) end end (f ∙ ap (λ (w : Tree). (rows_of w).row i) q) refl
-across_next (u ∷ ts) i zero (w ∷ vs) t v h q e f = absurd (no_more w (roses_of vs) e)
-across_next (u ∷ ts) i (suc k) [] t v h q e f = absurd (no_more _ _ (sym e))
+across_next (u ∷ ts) i zero (w ∷ vs) t v h q e f = absurd (never_end w (roses_of vs) e)
+across_next (u ∷ ts) i (suc k) [] t v h q e f = absurd (never_end _ _ (sym e))
 across_next (u ∷ ts) i (suc k) (w ∷ vs) t v h q e f =
-    both w ((rows_of u).row i) _ _ (first_is w ((rows_of u).row i) (roses_of vs) _ e)
-    (across_next ts i k vs t v (omega (arith, h)) q (others_are w ((rows_of u).row i) (roses_of vs) _ e) f)
+    both w ((rows_of u).row i) _ _ (first_tree w ((rows_of u).row i) (roses_of vs) _ e)
+    (across_next ts i k vs t v (omega (arith, h)) q (other_trees w ((rows_of u).row i) (roses_of vs) _ e) f)
 
 pub across_more : (ts : List Tree) (i k : ℕ) (vs : List Value) (t : Tree) (v : Value) → k < length ts → t ≡ get_or ts k t → roses_of vs ≡ values_at (rows_below (roses_of (take k ts))) i → v ≡ (rows_of t).row i
     → roses_of (vs ++ v ∷ []) ≡ values_at (rows_below (roses_of (take (k + 1) ts))) i

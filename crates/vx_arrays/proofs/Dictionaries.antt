@@ -24,7 +24,8 @@ use Rattle.vx_array_tree.specs.Body as B
 use Rattle.vx_array_tree.specs.Encodings.Dicts.{Data, Content, IsCode, lifted, raised, rows, valid_by}
 use Rattle.vx_array_tree.specs.Place.{Place, place, ptype_of}
 use Rattle.vx_array_tree.specs.Refused.{IsWellShaped}
-use Rattle.vx_array_tree.specs.Rows.{IsThere, flag_in, index_at, where_valid, cells_where}
+use Rattle.vx_types.specs.Value.{flag_in}
+use Rattle.vx_array_tree.specs.Rows.{IsThere, index_at, where_valid, cells_where}
 use Rattle.vx_array_tree.specs.Sound.{IsSoundNode}
 use Rattle.vx_array_tree.specs.Tree.{Tree, Trees, cells, places, row_at, rows_below, rows_of, untold, valid_at}
 use Rattle.vx_array_tree.proofs.Plans.{exactly_is}

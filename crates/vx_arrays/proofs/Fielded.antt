@@ -1,9 +1,8 @@
 -- The children of a node of structures: a validity that may stand in front, and its columns; and its rows.
-use Rattle.std.proofs.Common.{ℕ, zero, suc, ◌≡◌, ◌≤◌, ◌<◌, ◌-◌, ◌==◌, List, [], ◌∷◌, Option, Some, None, option_map, Bool, true, false, refl, sym, ap, ◌∙◌, subst, inl, inr, length, take, drop, arith}
+use Rattle.std.proofs.Common.{ℕ, suc, ◌≡◌, ◌≤◌, ◌<◌, ◌-◌, ◌==◌, List, [], ◌∷◌, Option, Some, Bool, true, false, refl, sym, ap, ◌∙◌, subst, inl, inr, length, take, drop, arith}
 use Rattle.std.proofs.lemmas.Bool.{eq-eqb, ne_eqb}
 use Rattle.std.proofs.lemmas.List.{take_all}
-use Rattle.std.proofs.lemmas.Option.{same_Some}
-use Rattle.std.specs.Prelude.{◌↔◌, ◌⊎◌, IsTrue, if◌then◌else◌}
+use Rattle.std.specs.Prelude.{◌↔◌, IsTrue, if◌then◌else◌}
 use Rattle.vx_trees.specs.Rose.{Roses, node, end, more, label, below, count, roses_of}
 use Rattle.vx_trees.specs.Walks.{nodes_of}
 use Rattle.vx_trees.proofs.Lists.{count-roses_of}
@@ -16,71 +15,16 @@ use Rattle.vx_types.specs.declared.nullability.Nullability.{Nullability}
 use Rattle.vx_types.specs.declared.nullability.Nullability.TheVariants.{Nullable}
 use Rattle.vx_array_tree.specs.Body as B
 use Rattle.vx_array_tree.specs.Encodings.Structs.{plan, rows, fields, width_of, has_validity, structure_valid}
-use Rattle.vx_array_tree.specs.Place.{Place, place, exactly, behind_validity, validity_place, places_at}
+use Rattle.vx_array_tree.specs.Place.{Place, place, behind_validity, validity_place, places_at}
 use Rattle.vx_array_tree.specs.Refused.{IsWellShaped}
-use Rattle.vx_array_tree.specs.Rows.{rest, flag_in, where_valid, cells_where, values_at, cells_at}
+use Rattle.vx_types.specs.Value.{flag_in}
+use Rattle.vx_array_tree.specs.Rows.{rest, where_valid, cells_where, values_at, cells_at}
 use Rattle.vx_array_tree.specs.Sound.{IsSoundNode}
 use Rattle.vx_array_tree.specs.Tree.{Tree, Trees, places, row_at, rows_below, untold}
-use Rattle.vx_array_tree.proofs.Options.{mapped}
-use Rattle.vx_array_tree.proofs.Plans.{exactly_is}
+use Rattle.vx_array_tree.proofs.LawsOfPlaces.{IsBehind, behind_is, behind_self, behind_one, places_count, places_length, rows_count}
 use Rattle.vx_arrays.specs.Parts.{HaveRow}
 use Rattle.vx_arrays.specs.Places.{array_place}
 use Rattle.vx_arrays.specs.Structs.{IsOfFields, behind_first, field_trees, struct_head}
-
--- ---- numbers of places
-
-exactly_count : (ps : List Place) (k : ℕ) (qs : List Place) → exactly ps k ≡ Some qs → k ≡ length ps
-exactly_count [] zero qs e = refl
-exactly_count [] (suc k) qs e = absurd (cc)
-exactly_count (p ∷ ps) zero qs e = absurd (cc)
-exactly_count (p ∷ ps) (suc k) qs e =
-    let m = mapped (λ (rs : List Place). p ∷ rs) (exactly ps k) qs e in
-    ap (λ n. suc n) (exactly_count ps k m.0 m.2)
-
-pub exactly_self : (ps : List Place) → exactly ps (length ps) ≡ Some ps
-exactly_self [] = refl
-exactly_self (p ∷ ps) = ap (λ (o : Option (List Place)). option_map (λ qs. p ∷ qs) o) (exactly_self ps)
-
-exactly_past : (ps : List Place) → exactly ps (suc (length ps)) ≡ None
-exactly_past [] = refl
-exactly_past (p ∷ ps) = ap (λ (o : Option (List Place)). option_map (λ qs. p ∷ qs) o) (exactly_past ps)
-
-behind_some : (ps : List Place) (n k : ℕ) (qs : List Place) → exactly ps k ≡ Some qs → behind_validity ps n k ≡ Some qs
-behind_some ps n k qs e = rw (e, behind_validity) refl
-
-behind_none : (ps : List Place) (n k : ℕ) → exactly ps k ≡ None → behind_validity ps n k ≡ exactly (validity_place n ∷ ps) k
-behind_none ps n k e = rw (e, behind_validity) refl
-
--- These places, or behind that of a validity.
-pub record IsBehind (ps : List Place) (n k : ℕ) (qs : List Place) : Type 0 where
-  pub ways : ((k ≡ length ps) × (qs ≡ ps)) ⊎ ((k ≡ suc (length ps)) × (qs ≡ validity_place n ∷ ps))
-
-behind_by : (ps : List Place) (n k : ℕ) (qs : List Place) (o : Option (List Place)) → exactly ps k ≡ o → behind_validity ps n k ≡ Some qs → IsBehind ps n k qs
-behind_by ps n k qs (Some rs) e h = record { ways = inl (exactly_count ps k rs e, sym (same_Some rs qs (sym (behind_some ps n k rs e) ∙ h)) ∙ exactly_is ps k rs e) }
-behind_by ps n k qs None e h =
-    let f = sym (behind_none ps n k e) ∙ h in
-    record { ways = inr (exactly_count (validity_place n ∷ ps) k qs f, exactly_is (validity_place n ∷ ps) k qs f) }
-
-pub behind_is : (ps : List Place) (n k : ℕ) (qs : List Place) → behind_validity ps n k ≡ Some qs → IsBehind ps n k qs
-behind_is ps n k qs h = behind_by ps n k qs (exactly ps k) refl h
-
-pub behind_self : (ps : List Place) (n : ℕ) → behind_validity ps n (length ps) ≡ Some ps
-behind_self ps n = behind_some ps n (length ps) ps (exactly_self ps)
-
-pub behind_one : (ps : List Place) (n : ℕ) → behind_validity ps n (suc (length ps)) ≡ Some (validity_place n ∷ ps)
-behind_one ps n = behind_none ps n (suc (length ps)) (exactly_past ps) ∙ exactly_self (validity_place n ∷ ps)
-
-pub places_length : (ds : Roses Kind) (n : ℕ) → length (places_at ds n) ≡ count ds
-places_length end n = refl
-places_length (more d ds) n = ap (λ k. suc k) (places_length ds n)
-
-pub places_count : (ts : Trees) → length (places ts) ≡ count ts
-places_count end = refl
-places_count (more t ts) = ap (λ k. suc k) (places_count ts)
-
-rows_count : (ts : Trees) → length (rows_below ts) ≡ count ts
-rows_count end = refl
-rows_count (more t ts) = ap (λ k. suc k) (rows_count ts)
 
 -- ---- whether a validity stands in front
 
@@ -253,7 +197,7 @@ module _ (f : Fields) (m : Nullability) (n : ℕ) (ts : Trees) where
       let k : count ts ≡ length ps = sym (places_count ts) ∙ ap (λ (rs : List Place). length rs) e in
       record {
         fair = tt;
-        planned = planned_at (length ps) ps k e (behind_self ps n);
+        planned = planned_at (length ps) ps k e (behind_self ps n (length ps) refl);
         allows = λ q. absurd (one_more (count ts) (count (roses_of f.types)) q (k ∙ places_length (roses_of f.types) n));
         takes = tt;
         holds = tt;
@@ -268,7 +212,7 @@ module _ (f : Fields) (m : Nullability) (n : ℕ) (ts : Trees) where
       let k : count ts ≡ suc (length ps) = sym (places_count ts) ∙ ap (λ (rs : List Place). length rs) e in
       record {
         fair = tt;
-        planned = planned_at (suc (length ps)) (validity_place n ∷ ps) k e (behind_one ps n);
+        planned = planned_at (suc (length ps)) (validity_place n ∷ ps) k e (behind_one ps n (suc (length ps)) refl);
         allows = λ q. nullable;
         takes = tt;
         holds = tt;

@@ -6,15 +6,16 @@ use Rattle.vx_trees.specs.Rose.{Roses, node, end, more, count, roses_of}
 use Rattle.vx_trees.specs.Walks.{nodes, nodes_of}
 use Rattle.vx_trees.proofs.Counting.{nodes-at}
 use Rattle.vx_trees.proofs.Lists.{count-roses_of}
+use Rattle.vx_trees.proofs.LawsOfRoses.{first_tree, other_trees, never_end}
 use Rattle.vx_types.specs.Fits.{Fits, EachFits, FitBy}
 use Rattle.vx_types.specs.Kind.{Kind, structure}
 use Rattle.vx_types.specs.Seen.{typ, typs}
 use Rattle.vx_types.specs.Typ.{Typ}
-use Rattle.vx_types.specs.Value.{Value, Values, tuple, variant_of}
+use Rattle.vx_types.specs.Value.{Value, Values, tuple}
 use Rattle.vx_types.specs.Value as V
 use Rattle.vx_types.specs.declared.dtype.DType.{DType}
 use Rattle.vx_types.specs.declared.nullability.Nullability.TheVariants.{NonNullable}
-use Rattle.vx_types.proofs.LawsOfTypes.{typs-at}
+use Rattle.vx_types.proofs.LawsOfTypes.{typs-at, typs-length}
 use Rattle.vx_scalars.specs.Seen.{all_seen, seen, value_of}
 use Rattle.vx_scalars.specs.Told.{Typed}
 use Rattle.vx_scalars.specs.declared.value.ScalarValue.{ScalarValue}
@@ -70,23 +71,19 @@ abbrev pub Searches : List ℕ → List (List ℕ) → List DType → List (Opti
 Searches name ns ds ws i =
     raw_field name (drop i ns) (roses_of (drop i (typs ds))) (roses_of (drop i (all_seen ws))) ≡ raw_field name ns (roses_of (typs ds)) (roses_of (all_seen ws))
 
-typs_length : (ds : List DType) → length (typs ds) ≡ length ds
-typs_length [] = refl
-typs_length (d ∷ ds) = ap (λ n. suc n) (typs_length ds)
-
 -- A field of another name is not the one.
 pub search_on : (name : List ℕ) (ns : List (List ℕ)) (ds : List DType) (ws : List (Option ScalarValue)) (i : ℕ) (n : List ℕ) → i < length ns → i < length ds → i < length ws → n ≡ get_or ns i n → bytes_eq name n ≡ false
     → Searches name ns ds ws i → Searches name ns ds ws (i + 1)
 search_on name ns ds ws i n h k l q e s =
     rw (add-one i)
-    (sym (next_suc name ns (typs ds) (all_seen ws) i n h (omega (arith, k, typs_length ds)) (omega (arith, l, seen-length ws)) (ap (λ (m : List ℕ). bytes_eq name m) (sym q) ∙ e)) ∙ s)
+    (sym (next_suc name ns (typs ds) (all_seen ws) i n h (omega (arith, k, typs-length ds)) (omega (arith, l, seen-length ws)) (ap (λ (m : List ℕ). bytes_eq name m) (sym q) ∙ e)) ∙ s)
 
 -- A field of the name is the one.
 pub search_hits : (name : List ℕ) (ns : List (List ℕ)) (ds : List DType) (ws : List (Option ScalarValue)) (i : ℕ) (n : List ℕ) (d : DType) (o : Option ScalarValue)
     → i < length ns → i < length ds → i < length ws → n ≡ get_or ns i n → d ≡ get_or ds i d → o ≡ get_or ws i o → bytes_eq name n ≡ true → Searches name ns ds ws i
     → raw_field name ns (roses_of (typs ds)) (roses_of (all_seen ws)) ≡ Some (typ d, seen o)
 search_hits name ns ds ws i n d o h k l q x y e s =
-    sym s ∙ here_suc name ns (typs ds) (all_seen ws) i n (typ d) (seen o) h (omega (arith, k, typs_length ds)) (omega (arith, l, seen-length ws)) (ap (λ (m : List ℕ). bytes_eq name m) (sym q) ∙ e)
+    sym s ∙ here_suc name ns (typs ds) (all_seen ws) i n (typ d) (seen o) h (omega (arith, k, typs-length ds)) (omega (arith, l, seen-length ws)) (ap (λ (m : List ℕ). bytes_eq name m) (sym q) ∙ e)
     ∙ (λ j. Some ((typs-at ds i d ∙ ap (λ (z : DType). typ z) (sym x)) j, (seen-at ws i o ∙ ap (λ (z : Option ScalarValue). seen z) (sym y)) j))
 
 -- Where none is left there is none.
@@ -108,7 +105,7 @@ not_null_value d (S.Variant s) = refl
 pub same_counts : (r : Raw) (ns : List (List ℕ)) (ds : List DType) (ws : List (Option ScalarValue)) → ns ≡ r.names → roses_of (typs ds) ≡ r.types → roses_of (all_seen ws) ≡ r.values → length r.names ≡ count r.types → FitBy r.values r.types
     → (length ns ≡ length ds) × (length ns ≡ length ws)
 same_counts r ns ds ws a b c e f =
-    let x : length ns ≡ length ds = ap (λ (z : List (List ℕ)). length z) a ∙ e ∙ ap (λ (z : Roses Kind). count z) (sym b) ∙ count-roses_of (typs ds) ∙ typs_length ds in
+    let x : length ns ≡ length ds = ap (λ (z : List (List ℕ)). length z) a ∙ e ∙ ap (λ (z : Roses Kind). count z) (sym b) ∙ count-roses_of (typs ds) ∙ typs-length ds in
     let y : count r.values ≡ count r.types = by_count r.values r.types f in
     (x, ap (λ (z : List (List ℕ)). length z) a ∙ e ∙ sym y ∙ ap (λ (z : Values). count z) (sym c) ∙ count-roses_of (all_seen ws) ∙ seen-length ws)
   where
@@ -189,40 +186,22 @@ names_push : (fs : List Named) (x : Named) → names_of (fs ++ x ∷ []) ≡ nam
 names_push [] x = refl
 names_push (f ∷ fs) x = ap (λ (ns : List (List ℕ)). f.0 ∷ ns) (names_push fs x)
 
-no_more : (t : Typ) (ts : Roses Kind) → more t ts ≡ end → ⊥
-no_more t ts e = absurd (cc)
-
-rest_types : (t u : Typ) (ts us : Roses Kind) → more t ts ≡ more u us → ts ≡ us
-rest_types t u ts us e = cc
-
-first_type : (t u : Typ) (ts us : Roses Kind) → more t ts ≡ more u us → t ≡ u
-first_type t u ts us e = cc
-
 types_push : (ts : List Typ) (fs : List Named) (x : Named) → roses_of ts ≡ types_of fs → roses_of (ts ++ variants ∷ []) ≡ types_of (fs ++ x ∷ [])
 types_push [] [] x e = refl
-types_push [] (f ∷ fs) x e = absurd (no_more variants (types_of fs) (sym e))
-types_push (t ∷ ts) [] x e = absurd (no_more t (roses_of ts) e)
+types_push [] (f ∷ fs) x e = absurd (never_end variants (types_of fs) (sym e))
+types_push (t ∷ ts) [] x e = absurd (never_end t (roses_of ts) e)
 types_push (t ∷ ts) (f ∷ fs) x e =
-    let p = first_type t variants (roses_of ts) (types_of fs) e in
-    let q = types_push ts fs x (rest_types t variants (roses_of ts) (types_of fs) e) in
+    let p = first_tree t variants (roses_of ts) (types_of fs) e in
+    let q = types_push ts fs x (other_trees t variants (roses_of ts) (types_of fs) e) in
     λ i. more (p i) (q i)
-
-no_value : (v : Value) (vs : Values) → more v vs ≡ end → ⊥
-no_value v vs e = absurd (cc)
-
-rest_values : (v w : Value) (vs ws : Values) → more v vs ≡ more w ws → vs ≡ ws
-rest_values v w vs ws e = cc
-
-first_value : (v w : Value) (vs ws : Values) → more v vs ≡ more w ws → v ≡ w
-first_value v w vs ws e = cc
 
 values_push : (vs : List Value) (fs : List Named) (x : Named) → roses_of vs ≡ values_of fs → roses_of (vs ++ x.1 ∷ []) ≡ values_of (fs ++ x ∷ [])
 values_push [] [] x e = refl
-values_push [] (f ∷ fs) x e = absurd (no_value f.1 (values_of fs) (sym e))
-values_push (v ∷ vs) [] x e = absurd (no_value v (roses_of vs) e)
+values_push [] (f ∷ fs) x e = absurd (never_end f.1 (values_of fs) (sym e))
+values_push (v ∷ vs) [] x e = absurd (never_end v (roses_of vs) e)
 values_push (v ∷ vs) (f ∷ fs) x e =
-    let p = first_value v f.1 (roses_of vs) (values_of fs) e in
-    let q = values_push vs fs x (rest_values v f.1 (roses_of vs) (values_of fs) e) in
+    let p = first_tree v f.1 (roses_of vs) (values_of fs) e in
+    let q = values_push vs fs x (other_trees v f.1 (roses_of vs) (values_of fs) e) in
     λ i. more (p i) (q i)
 
 -- One field more.
@@ -254,11 +233,11 @@ named_scalar n fs s h e = e ∙ (λ i. record { dtype = node (structure (h.names
 
 wrapped_push : (e : Typ) (ws vs : List Value) (v w : Value) → roses_of ws ≡ each_wrapped e (roses_of vs) → w ≡ wrapped e v → roses_of (ws ++ w ∷ []) ≡ each_wrapped e (roses_of (vs ++ v ∷ []))
 wrapped_push e [] [] v w p q = ap (λ (z : Value). more z end) q
-wrapped_push e [] (x ∷ vs) v w p q = absurd (no_value _ _ (sym p))
-wrapped_push e (y ∷ ws) [] v w p q = absurd (no_value _ _ p)
+wrapped_push e [] (x ∷ vs) v w p q = absurd (never_end _ _ (sym p))
+wrapped_push e (y ∷ ws) [] v w p q = absurd (never_end _ _ p)
 wrapped_push e (y ∷ ws) (x ∷ vs) v w p q =
-    let a = first_value y (wrapped e x) (roses_of ws) (each_wrapped e (roses_of vs)) p in
-    let b = wrapped_push e ws vs v w (rest_values y (wrapped e x) (roses_of ws) (each_wrapped e (roses_of vs)) p) q in
+    let a = first_tree y (wrapped e x) (roses_of ws) (each_wrapped e (roses_of vs)) p in
+    let b = wrapped_push e ws vs v w (other_trees y (wrapped e x) (roses_of ws) (each_wrapped e (roses_of vs)) p) q in
     λ i. more (a i) (b i)
 
 pub seen_take : (os : List (Option ScalarValue)) (i : ℕ) (o : Option ScalarValue) → i < length os → o ≡ get_or os i o → all_seen (take (suc i) os) ≡ all_seen (take i os) ++ seen o ∷ []

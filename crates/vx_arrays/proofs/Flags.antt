@@ -9,7 +9,7 @@ use Rattle.vx_scalars.specs.Stats.{Stats}
 use Rattle.vx_array_tree.specs.Body as B
 use Rattle.vx_array_tree.specs.Encodings.Bools.{Data, bit_at, plan}
 use Rattle.vx_array_tree.specs.Place.{before_validity}
-use Rattle.vx_array_tree.specs.Rows.{flag_in}
+use Rattle.vx_types.specs.Value.{flag_in}
 use Rattle.vx_array_tree.specs.Sound.{IsSoundNode}
 use Rattle.vx_array_tree.specs.Tree.{Trees, places, rows_of}
 use Rattle.vx_arrays.specs.Plain.{head_of}

@@ -1,10 +1,11 @@
 -- The entries of a node of maps, and its rows.
-use Rattle.std.proofs.Common.{ℕ, ◌≡◌, ◌<◌, ◌≤◌, List, [], ◌∷◌, ◌++◌, Some, refl, sym, ap, ◌∙◌, length, get_or, arith}
+use Rattle.std.proofs.Common.{ℕ, ◌≡◌, ◌<◌, ◌≤◌, List, [], ◌∷◌, Some, refl, sym, ap, ◌∙◌, length, get_or, arith}
 use Rattle.std.proofs.lemmas.Option.{same_Some}
-use Rattle.vx_trees.specs.Rose.{node, end, more, label, count, roses_of, roses_list}
-use Rattle.vx_trees.proofs.Lists.{count-roses_of, roses_of-roses_list}
+use Rattle.vx_trees.specs.Rose.{node, end, more, label, count, roses_of}
+use Rattle.vx_trees.proofs.Lists.{count-roses_of}
 use Rattle.vx_trees.specs.Walks.{nodes}
 use Rattle.vx_trees.proofs.LawsOfLists.{heads}
+use Rattle.vx_trees.proofs.LawsOfRoses.{first_tree, never_end, alone_too}
 use Rattle.vx_types.specs.Kind.{list, map}
 use Rattle.vx_types.specs.Parts.{Entries}
 use Rattle.vx_types.specs.Typ.{Typ}
@@ -55,18 +56,6 @@ entries_shaped d n t s = record { fair = tt; planned = planned d n t s; allows =
 pub sound_mapped : (d : Typ) (n : ℕ) (ts : Trees) → IsSoundNode (untold d n B.map) ts → IsMapped d n ts
 sound_mapped d n ts s = mapped d n ts s.planned s.takes
 
-no_end : (t : Tree) → end ≡ more t end → ⊥
-no_end t e = absurd (cc)
-
-first_tree : (t u : Tree) (ts us : Trees) → more t ts ≡ more u us → t ≡ u
-first_tree t u ts us e = cc
-
-rest_is : (t u : Tree) (ts us : Trees) → more t ts ≡ more u us → ts ≡ us
-rest_is t u ts us e = cc
-
-rest_none : (t : Tree) (ts : Trees) (u : Tree) → more t ts ≡ more u end → more t ts ≡ more t end
-rest_none t ts u e = ap (λ (us : Trees). more t us) (rest_is t u ts end e)
-
 pub shaped_entries : (d : Typ) (n : ℕ) (t : Tree) → IsWellShaped (untold d n B.map) (more t end) → AreEntries d n t
 shaped_entries d n t s =
     let m = shaped_mapped d n (more t end) s in
@@ -92,10 +81,10 @@ pub ruleset mapped_rows = (mapped_valid, mapped_row, mapped_cells, mapped_smalle
 -- ---- in the words of a slice
 
 pub not_empty : (d : Typ) (n : ℕ) → IsSoundNode (untold d n B.map) end → ⊥
-not_empty d n s = let m = sound_mapped d n end s in no_end m.lists m.alone
+not_empty d n s = let m = sound_mapped d n end s in never_end m.lists end (sym m.alone)
 
 pub alone_in : (d : Typ) (n : ℕ) (t : Tree) (ts : Trees) → IsSoundNode (untold d n B.map) (more t ts) → more t ts ≡ more t end
-alone_in d n t ts s = rest_none t ts _ (sound_mapped d n (more t ts) s).alone
+alone_in d n t ts s = alone_too t ts _ (sound_mapped d n (more t ts) s).alone
 
 pub rows_in : (d : Typ) (n : ℕ) (t : Tree) (ts : Trees) → IsSoundNode (untold d n B.map) (more t ts) → (label t).len ≡ n
 rows_in d n t ts s =
@@ -113,16 +102,13 @@ never_two us d n l s = omega (arith, l, count-roses_of us, ap (λ (ts : Trees). 
 
 -- Of none there is none.
 pub never_none : (d : Typ) (n : ℕ) → IsWellShaped (untold d n B.map) end → ⊥
-never_none d n s = let m = shaped_mapped d n end s in no_end m.lists m.alone
+never_none d n s = let m = shaped_mapped d n end s in never_end m.lists end (sym m.alone)
 
 pub ruleset maps = (not_empty, alone_in, rows_in)
 
 pub ruleset shapes = (entries_shaped, shaped_entries, never_two, never_none)
 
 -- ---- one child put into an empty list
-
-pub only_pushed : (none ts : Trees) (t : Tree) → none ≡ end → roses_list ts ≡ roses_list none ++ t ∷ [] → ts ≡ more t end
-only_pushed none ts t e q = sym (roses_of-roses_list ts) ∙ ap (λ (us : List Tree). roses_of us) (q ∙ ap (λ (us : Trees). roses_list us ++ t ∷ []) e)
 
 pub tree_is : (m : Entries) (t : Tree) (k : Nullability) (n : ℕ) (ts : Trees) → k ≡ nullability (label t).dtype → n ≡ (label t).len → ts ≡ more t end → node (untold (node (map m.keys_sorted k) (more m.key (more m.value end))) n B.map) ts ≡ map_tree m t
 tree_is m t k n ts e l q = rw (e, l, q) refl

@@ -5,7 +5,8 @@ use Rattle.vx_types.specs.Kind as K
 use Rattle.vx_types.specs.Typ.{Typ}
 use Rattle.vx_types.specs.Value.{Value, lone, natural}
 use Rattle.vx_array_tree.specs.Encodings.VarBins.{mark_of}
-use Rattle.vx_array_tree.specs.Rows.{flag_in, where_valid}
+use Rattle.vx_types.specs.Value.{flag_in}
+use Rattle.vx_array_tree.specs.Rows.{where_valid}
 
 -- A row whose value is none is none, whatever is known of it.
 pub no_natural : (valid : Option Bool) (value : ℕ → Value) (i : ℕ) → natural (value i) ≡ None → None ≡ natural (where_valid valid value i)

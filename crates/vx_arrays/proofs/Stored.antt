@@ -1,10 +1,11 @@
 -- The storage of a node of an extension, and its rows.
-use Rattle.std.proofs.Common.{ℕ, ◌≡◌, ◌<◌, ◌≤◌, List, [], ◌∷◌, ◌++◌, Some, refl, sym, ap, ◌∙◌, length, get_or, arith}
+use Rattle.std.proofs.Common.{ℕ, ◌≡◌, ◌<◌, ◌≤◌, List, [], ◌∷◌, Some, refl, sym, ap, ◌∙◌, length, get_or, arith}
 use Rattle.std.proofs.lemmas.Option.{same_Some}
-use Rattle.vx_trees.specs.Rose.{node, end, more, label, count, roses_of, roses_list}
-use Rattle.vx_trees.proofs.Lists.{count-roses_of, roses_of-roses_list}
+use Rattle.vx_trees.specs.Rose.{node, end, more, label, count, roses_of}
+use Rattle.vx_trees.proofs.Lists.{count-roses_of}
 use Rattle.vx_trees.specs.Walks.{nodes}
 use Rattle.vx_trees.proofs.LawsOfLists.{heads}
+use Rattle.vx_trees.proofs.LawsOfRoses.{first_tree, never_end, alone_too}
 use Rattle.vx_types.specs.Kind.{extension}
 use Rattle.vx_types.specs.Parts.{Ext}
 use Rattle.vx_types.specs.Typ.{Typ}
@@ -50,20 +51,8 @@ stored_shaped d n ts s = record { fair = tt; planned = planned d n ts s; allows 
 pub sound_stored : (d : Typ) (n : ℕ) (ts : Trees) → IsSoundNode (untold d n B.ext) ts → IsStored d n ts
 sound_stored d n ts s = stored d n ts s.planned
 
-no_end : (t : Tree) → end ≡ more t end → ⊥
-no_end t e = absurd (cc)
-
-first_tree : (t u : Tree) (ts us : Trees) → more t ts ≡ more u us → t ≡ u
-first_tree t u ts us e = cc
-
-rest_is : (t u : Tree) (ts us : Trees) → more t ts ≡ more u us → ts ≡ us
-rest_is t u ts us e = cc
-
-rest_none : (t : Tree) (ts : Trees) (u : Tree) → more t ts ≡ more u end → more t ts ≡ more t end
-rest_none t ts u e = ap (λ (us : Trees). more t us) (rest_is t u ts end e)
-
 nothing_stored : (d : Typ) (n : ℕ) → IsStored d n end → ⊥
-nothing_stored d n s = no_end s.storage s.alone
+nothing_stored d n s = never_end s.storage end (sym s.alone)
 
 -- ---- its rows
 
@@ -86,7 +75,7 @@ pub not_empty : (d : Typ) (n : ℕ) → IsSoundNode (untold d n B.ext) end → �
 not_empty d n s = nothing_stored d n (sound_stored d n end s)
 
 pub alone_in : (d : Typ) (n : ℕ) (t : Tree) (ts : Trees) → IsSoundNode (untold d n B.ext) (more t ts) → more t ts ≡ more t end
-alone_in d n t ts s = rest_none t ts _ (sound_stored d n (more t ts) s).alone
+alone_in d n t ts s = alone_too t ts _ (sound_stored d n (more t ts) s).alone
 
 pub rows_in : (d : Typ) (n : ℕ) (t : Tree) (ts : Trees) → IsSoundNode (untold d n B.ext) (more t ts) → (label t).len ≡ n
 rows_in d n t ts s =
@@ -103,9 +92,6 @@ pub never_two : (us : List Tree) (d : Typ) (n : ℕ) → 2 ≤ length us → IsW
 never_two us d n l s = omega (arith, l, count-roses_of us, ap (λ (ts : Trees). count ts) (shaped_stored d n (roses_of us) s).alone)
 
 -- ---- one child put into an empty list
-
-pub only_pushed : (none ts : Trees) (t : Tree) → none ≡ end → roses_list ts ≡ roses_list none ++ t ∷ [] → ts ≡ more t end
-only_pushed none ts t e q = sym (roses_of-roses_list ts) ∙ ap (λ (us : List Tree). roses_of us) (q ∙ ap (λ (us : Trees). roses_list us ++ t ∷ []) e)
 
 pub tree_is : (x : Ext) (t : Tree) (n : ℕ) (ts : Trees) → n ≡ (label t).len → ts ≡ more t end → node (untold (node (extension x.id x.metadata) (more x.storage end)) n B.ext) ts ≡ extension_tree x t
 tree_is x t n ts l e = rw (l, e) refl

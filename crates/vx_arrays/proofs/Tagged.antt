@@ -26,7 +26,7 @@ use Rattle.vx_array_tree.specs.Tree.{Head, Tree, Trees, cells, places, row_at, r
 use Rattle.vx_array_tree.proofs.Plans.{exactly_is}
 use Rattle.vx_arrays.specs.Places.{array_place}
 use Rattle.vx_arrays.specs.Unions.{IsTagged, union_head}
-use Rattle.vx_arrays.proofs.Fielded.{exactly_self, places_count}
+use Rattle.vx_array_tree.proofs.LawsOfPlaces.{exactly_self, places_count}
 
 -- ---- what a number names
 

@@ -10,7 +10,7 @@ use Rattle.vx_arrays.specs.declared.body.Body.{Body}
 use Rattle.vx_arrays.specs.declared.body.Body.TheVariants.{Variant}
 use Rattle.vx_array_tree.specs.Body as B
 use Rattle.vx_array_tree.specs.Encodings.Variants.{valid_over}
-use Rattle.vx_array_tree.specs.Rows.{flag_in}
+use Rattle.vx_types.specs.Value.{flag_in}
 use Rattle.vx_array_tree.specs.Sound.{IsSound, IsSoundNode}
 use Rattle.vx_array_tree.specs.Tree.{Tree, Trees, row_at, valid_at}
 use Rattle.vx_arrays.specs.Plain.{head_of}

@@ -25,5 +25,4 @@ pub mod Refused
 pub mod Compared
 pub mod NewBuffers
 pub mod Parts
-pub mod Falls
 pub mod Falling

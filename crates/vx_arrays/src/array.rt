@@ -9,7 +9,7 @@ ghost use Rattle.vx_types.specs.Value.{natural};
 ghost use Rattle.vx_scalars.specs.Stats.{FitStats, no_stats};
 ghost use Rattle.vx_types.specs.declared.nullability.Nullability.TheVariants.{NonNullable};
 ghost use Rattle.vx_array_tree.specs.Refused.{IsWellShaped};
-ghost use Rattle.vx_array_tree.specs.Rows.{flag_in};
+ghost use Rattle.vx_types.specs.Value.{flag_in};
 ghost use Rattle.vx_array_tree.specs.Sound.{IsControlled, IsSound, IsSoundNode};
 ghost use Rattle.vx_array_tree.specs.Encoding as E;
 ghost use Rattle.vx_array_tree.specs.Table.{encoding_of, own_id, buffers_of, Content, IsNative};

@@ -18,7 +18,7 @@ pub struct RowRef {
 impl Model for RowRef {
     ghost use Rattle.std.proofs.Common.{arith};
     ghost use Rattle.vx_types.specs.Value.{Value as Tree, value_code};
-    ghost use Rattle.vx_arrays.specs.Falls.{ref_size};
+    ghost use Rattle.vx_scalars.specs.Falls.{ref_size};
 
     ghost Value = { Tree };
 

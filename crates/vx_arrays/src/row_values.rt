@@ -20,7 +20,7 @@ impl Model for RowValues {
     ghost use Rattle.std.specs.Coded.{coded_list};
     ghost use Rattle.std.proofs.Common.{arith};
     ghost use Rattle.vx_types.specs.Value.{Value as Tree, value_code};
-    ghost use Rattle.vx_arrays.specs.Falls.{values_size};
+    ghost use Rattle.vx_scalars.specs.Falls.{values_size};
 
     ghost Value = { List Tree };
 

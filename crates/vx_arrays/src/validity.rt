@@ -6,7 +6,8 @@ ghost use Rattle.vx_trees.specs.Rose.{count, end, more, node, roses_list, roses_
 ghost use Rattle.vx_types.specs.Seen.{typ};
 ghost use Rattle.vx_array_tree.specs.Place.{before_validity};
 ghost use Rattle.vx_array_tree.specs.Refused.{IsWellShaped};
-ghost use Rattle.vx_array_tree.specs.Rows.{flag_in, validity as valid_by};
+ghost use Rattle.vx_types.specs.Value.{flag_in};
+ghost use Rattle.vx_array_tree.specs.Rows.{validity as valid_by};
 ghost use Rattle.vx_array_tree.specs.Sound.{IsSound, IsSoundNode};
 ghost use Rattle.vx_array_tree.specs.Table.{Content};
 ghost use Rattle.vx_array_tree.specs.Tree.{option_trees, places, row_at, rows_below, untold};

@@ -1,8 +1,8 @@
 -- The steps of nodes of dictionaries.
-use Rattle.std.proofs.Common.{ℕ, zero, suc, ◌≡◌, ◌≢◌, ◌++◌, List, [], ◌∷◌, Option, Some, None, Bool, true, false, Result, Ok, Err, IfOk, IfErr, IsTrue, refl, sym, ap, ◌∙◌, subst, inl, length}
+use Rattle.std.proofs.Common.{ℕ, zero, suc, ◌≡◌, ◌≢◌, ◌++◌, List, [], ◌∷◌, Option, Some, None, Bool, true, false, Result, Ok, Err, IfOk, IfErr, IsTrue, refl, sym, ap, ◌∙◌, subst, inl}
 use Rattle.std.specs.Prelude.{unwrap_or}
 use Rattle.vx_buffer.specs.Buffer.{Buffer}
-use Rattle.vx_trees.specs.Rose.{node, end, more, count}
+use Rattle.vx_trees.specs.Rose.{node, end, count}
 use Rattle.vx_types.specs.Kind.{primitive}
 use Rattle.vx_types.specs.Known.{ExtMeaning}
 use Rattle.vx_types.specs.Numbers.{is_integer}
@@ -22,6 +22,7 @@ use Rattle.vx_array_tree.specs.Table.{IsShaped, body_of, plan_of}
 use Rattle.vx_array_tree.specs.Tree.{Tree, Trees, places}
 use Rattle.vx_array_tree.proofs.Plans.{exactly_is}
 use Rattle.vx_array_tree.proofs.Retyped.{own_places}
+use Rattle.vx_array_tree.proofs.LawsOfPlaces.{places_count}
 use Rattle.vx_arrays.specs.Dicts.{dict_head}
 use Rattle.vx_arrays.specs.Refused.{IsUnmade}
 use Rattle.vx_arrays.specs.declared.error.ArrayError.{ArrayError}
@@ -102,10 +103,6 @@ pub record DictPlan (h : ArrayHead) (us : Trees) (f : DictFields) : Type 0 where
   pub integer : IsTrue (is_integer f.codes_ptype)
   pub planned : plan (typ h.dtype) h.len (kept_of (typ h.dtype) f) (count us) ≡ Some (places us)
 
-count_places : (us : Trees) → length (places us) ≡ count us
-count_places end = refl
-count_places (more u us) = ap (λ n. suc n) (count_places us)
-
 plan_some : (v : Metadata) (w : Dicts.Metadata) (d : Typ) (n k : ℕ) (ps : List Place) → v ≡ M.dict w → plan_of E.dict d n v k ≡ Some ps → plan d n w k ≡ Some ps
 plan_some v w d n k ps e q = subst (λ (z : Metadata). plan_of E.dict d n z k ≡ Some ps) e q
 
@@ -114,7 +111,7 @@ dict_plan x h us f r p =
     let m = dict_fields_are (typ h.dtype) h.metadata p.value f (dict_read x (typ h.dtype) h.metadata p.value p.metadata) r in
     let v = kept_of (typ h.dtype) f in
     let q = plan_some p.value v (typ h.dtype) h.len h.nchildren (places us) m.0 p.plan in
-    let k : h.nchildren ≡ count us = sym (exactly_count (place (node (primitive v.codes_ptype v.nullable_codes) end) h.len ∷ place (typ h.dtype) v.values_len ∷ []) h.nchildren (places us) q) ∙ count_places us in
+    let k : h.nchildren ≡ count us = sym (exactly_count (place (node (primitive v.codes_ptype v.nullable_codes) end) h.len ∷ place (typ h.dtype) v.values_len ∷ []) h.nchildren (places us) q) ∙ places_count us in
     record { integer = m.1; planned = subst (λ (j : ℕ). plan (typ h.dtype) h.len v j ≡ Some (places us)) k q }
 
 -- Metadata is read again, and want of memory is the one refusal.

@@ -34,7 +34,7 @@ use Rattle.vx_wire_tree.specs.Fields.{Fields, FitsMessage, is_nullable, meant, t
 use Rattle.vx_wire_tree.specs.Reads.{IsMetadata}
 use Rattle.vx_encodings.proofs.DictFields.{one_dict, dict_again}
 use Rattle.vx_encodings.proofs.ElementCounts.{one_count_and_kind, list_again}
-use Rattle.vx_encodings.proofs.Fronts.{behind_some, behind_none}
+use Rattle.vx_array_tree.proofs.LawsOfPlaces.{behind_some, behind_none}
 use Rattle.vx_encodings.proofs.OffsetKinds.{one_kind, kind_again}
 use Rattle.vx_encodings.proofs.VariantFields.{one_variant, variant_again}
 use Rattle.vx_encodings.proofs.ViewCounts.{one_count_and_kinds, views_again}

@@ -1,7 +1,6 @@
 pub mod Laws
 mod Refusing
 mod Bare
-mod Fronts
 mod Unread
 mod Numbers
 mod Offsets

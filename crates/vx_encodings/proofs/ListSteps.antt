@@ -22,6 +22,7 @@ use Rattle.vx_array_tree.specs.Metadata as M
 use Rattle.vx_array_tree.specs.Place.{Place, place, numbers, is_len, when, before_validity, ptype_of, second_place}
 use Rattle.vx_array_tree.specs.Table.{IsShaped, body_of, plan_of}
 use Rattle.vx_array_tree.specs.Tree.{Tree, Trees, places, untold}
+use Rattle.vx_array_tree.proofs.LawsOfPlaces.{places_count}
 use Rattle.vx_arrays.specs.Refused.{IsUnmade}
 use Rattle.vx_arrays.specs.declared.error.ArrayError.{ArrayError}
 use Rattle.vx_encodings.proofs.ElementCounts.{list_metadata, list_read, list_kind_is_integer}
@@ -102,15 +103,11 @@ pub record ListPlan (h : ArrayHead) (us : Trees) : Type 0 where
 plan_some : (v : Metadata) (m : ℕ) (p : PType) (d : Typ) (n k : ℕ) (ps : List Place) → v ≡ M.list (kept m p) → plan_of E.list d n v k ≡ Some ps → plan d n (kept m p) k ≡ Some ps
 plan_some v m p d n k ps e q = subst (λ (z : Metadata). plan_of E.list d n z k ≡ Some ps) e q
 
-pub count_places : (us : Trees) → length (places us) ≡ count us
-count_places end = refl
-count_places (more u us) = ap (λ n. suc n) (count_places us)
-
 pub list_plan : (x : ExtMeaning) (h : ArrayHead) (us : Trees) → IsPlanned x C.List h (places us) → ListPlan h us
 list_plan x h us p =
     let m = list_read x (typ h.dtype) h.metadata p.value p.metadata in
     let q = plan_some p.value m.elements_len m.offset_ptype (typ h.dtype) h.len h.nchildren (places us) m.value_is p.plan in
-    let k : h.nchildren ≡ count us = sym (list_count (typ h.dtype) h.len (kept m.elements_len m.offset_ptype) h.nchildren (places us) q) ∙ count_places us in
+    let k : h.nchildren ≡ count us = sym (list_count (typ h.dtype) h.len (kept m.elements_len m.offset_ptype) h.nchildren (places us) q) ∙ places_count us in
     record {
       elements_len = m.elements_len;
       kind = m.offset_ptype;

@@ -2,7 +2,7 @@
 use Rattle.std.proofs.Common.{ℕ, suc, ◌≡◌, ◌≢◌, ◌<◌, ◌≤◌, ◌+◌, List, [], ◌∷◌, ◌++◌, Option, Some, None, Result, Ok, Err, IfOk, refl, sym, ap, ◌∙◌, subst, inl, inr, length, drop, get_or, append_assoc}
 use Rattle.std.proofs.lemmas.List.{append-nil, drop_more, drop_all}
 use Rattle.vx_buffer.specs.Buffer.{Buffer}
-use Rattle.vx_trees.specs.Rose.{node, end, more, roses_of, count}
+use Rattle.vx_trees.specs.Rose.{node, roses_of, count}
 use Rattle.vx_types.specs.Kind.{structure}
 use Rattle.vx_types.specs.Known.{ExtMeaning}
 use Rattle.vx_types.specs.Parts.{Fields}
@@ -25,7 +25,7 @@ use Rattle.vx_arrays.specs.Structs.{IsOfFields, behind_validity, struct_head, st
 use Rattle.vx_arrays.specs.declared.error.ArrayError.{ArrayError}
 use Rattle.vx_encodings.proofs.Bare.{struct_metadata, struct_nothing}
 use Rattle.vx_encodings.proofs.Fitting.{constructor_refused}
-use Rattle.vx_encodings.proofs.Fronts.{IsBehind, behind_is, behind_self, behind_one, behind_other}
+use Rattle.vx_array_tree.proofs.LawsOfPlaces.{IsBehind, behind_is, behind_self, behind_one, behind_other, places_count}
 use Rattle.vx_encodings.proofs.Singles.{single_unplanned, single_built}
 use Rattle.vx_encodings.specs.Steps.{IsPlanned, IsUnplanned, IsWithoutPlan, IsBuilt, IsUnbuilt, constructor_error}
 use Rattle.vx_encodings.specs.declared.encoding.Encoding.TheVariants.{Struct}
@@ -130,11 +130,6 @@ structures_plan x h us p =
 
 pub structures_fielded : (h : ArrayHead) (us : Trees) → (y : ExtMeaning) × IsPlanned y Struct h (places us) → IsOfFields (typ h.dtype)
 structures_fielded h us planned = (structures_plan planned.0 h us planned.1).fielded
-
--- A plan has a place for each child.
-places_count : (ts : Trees) → length (places ts) ≡ count ts
-places_count end = refl
-places_count (more t ts) = ap (λ k. suc k) (places_count ts)
 
 behind_count : (ps : List Place) (n k : ℕ) (us : Trees) → behind ps n k ≡ Some (places us) → k ≡ count us
 behind_count ps n k us p = by (behind_is ps n k (places us) p)

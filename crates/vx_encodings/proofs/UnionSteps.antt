@@ -1,7 +1,7 @@
 -- The steps of nodes of unions.
 use Rattle.std.proofs.Common.{ℕ, suc, ◌≡◌, ◌≢◌, ◌+◌, List, [], ◌∷◌, ◌++◌, Some, None, Result, Ok, Err, IfOk, refl, sym, ap, ◌∙◌, subst, inl, length, add-one}
 use Rattle.vx_buffer.specs.Buffer.{Buffer}
-use Rattle.vx_trees.specs.Rose.{node, end, more, roses_of, count}
+use Rattle.vx_trees.specs.Rose.{node, end, roses_of, count}
 use Rattle.vx_types.specs.Kind.{primitive, union as union_kind}
 use Rattle.vx_types.specs.Known.{ExtMeaning}
 use Rattle.vx_types.specs.Parts.{Members}
@@ -24,7 +24,7 @@ use Rattle.vx_arrays.specs.Refused.{IsUnmade}
 use Rattle.vx_arrays.specs.declared.error.ArrayError.{ArrayError}
 use Rattle.vx_encodings.proofs.Bare.{union_metadata, union_nothing}
 use Rattle.vx_encodings.proofs.Fitting.{constructor_refused}
-use Rattle.vx_encodings.proofs.Fronts.{exactly_self, exactly_none, exactly_count}
+use Rattle.vx_array_tree.proofs.LawsOfPlaces.{exactly_self, exactly_none, exactly_count, places_count}
 use Rattle.vx_encodings.proofs.Singles.{single_unplanned, single_built}
 use Rattle.vx_encodings.proofs.StructSteps.{fields_length}
 use Rattle.vx_encodings.specs.Steps.{IsPlanned, IsUnplanned, IsWithoutPlan, IsBuilt, IsUnbuilt, constructor_error}
@@ -89,10 +89,6 @@ unions_without _ x h v ds m b q g w = absurd w
 
 plan_some : (v : Metadata) (d : Typ) (n k : ℕ) (ps : List Place) → v ≡ M.empty → plan_of E.union d n v k ≡ Some ps → plan d n k ≡ Some ps
 plan_some v d n k ps e p = subst (λ (z : Metadata). plan_of E.union d n z k ≡ Some ps) e p
-
-places_count : (ts : Trees) → length (places ts) ≡ count ts
-places_count end = refl
-places_count (more t ts) = ap (λ k. suc k) (places_count ts)
 
 pub exactly_many : (ps : List Place) (k : ℕ) (us : Trees) → exactly ps k ≡ Some (places us) → k ≡ count us
 exactly_many ps k us p = exactly_count ps k (places us) p ∙ ap (λ (qs : List Place). length qs) (sym (exactly_is ps k (places us) p)) ∙ places_count us

@@ -1,7 +1,7 @@
 -- The steps of nodes of variants.
-use Rattle.std.proofs.Common.{ℕ, suc, ◌≡◌, ◌≢◌, List, [], ◌∷◌, Option, Some, None, Result, Ok, Err, IfOk, IfErr, refl, sym, ap, ◌∙◌, subst, inl, length}
+use Rattle.std.proofs.Common.{ℕ, ◌≡◌, ◌≢◌, List, [], ◌∷◌, Option, Some, None, Result, Ok, Err, IfOk, IfErr, refl, sym, ap, ◌∙◌, subst, inl}
 use Rattle.vx_buffer.specs.Buffer.{Buffer}
-use Rattle.vx_trees.specs.Rose.{node, end, more, count}
+use Rattle.vx_trees.specs.Rose.{node, end, count}
 use Rattle.vx_types.specs.Kind.{variant}
 use Rattle.vx_types.specs.Known.{ExtMeaning}
 use Rattle.vx_types.specs.Seen.{typ}
@@ -17,6 +17,7 @@ use Rattle.vx_array_tree.specs.Metadata as M
 use Rattle.vx_array_tree.specs.Place.{Place, exactly}
 use Rattle.vx_array_tree.specs.Table.{IsShaped, body_of, plan_of}
 use Rattle.vx_array_tree.specs.Tree.{Tree, Trees, places, untold}
+use Rattle.vx_array_tree.proofs.LawsOfPlaces.{places_count}
 use Rattle.vx_arrays.specs.Refused.{IsUnmade}
 use Rattle.vx_arrays.specs.declared.error.ArrayError.{ArrayError}
 use Rattle.vx_encodings.proofs.Fitting.{children_refused}
@@ -82,10 +83,6 @@ unplanned_at x e h r q p = subst (λ (z : Encoding). IfErr r (λ error. IsUnplan
 
 -- ---- building
 
-count_places : (us : Trees) → length (places us) ≡ count us
-count_places end = refl
-count_places (more u us) = ap (λ n. suc n) (count_places us)
-
 -- What was planned: what the metadata is read as, and the places of the children, as many as there are.
 pub record VariantPlan (x : ExtMeaning) (h : ArrayHead) (us : Trees) : Type 0 where
   pub shredded : Option Typ
@@ -97,7 +94,7 @@ variant_plan x h us p =
     let k = variant_read x (typ h.dtype) h.metadata p.value p.metadata in
     let q : plan_of E.variant (typ h.dtype) h.len (M.variant k.shredded) h.nchildren ≡ Some (places us) =
     subst (λ (z : Metadata). plan_of E.variant (typ h.dtype) h.len z h.nchildren ≡ Some (places us)) k.value_is p.plan in
-    let c : h.nchildren ≡ count us = sym (plan_length Variant (typ h.dtype) h.len (M.variant k.shredded) h.nchildren (places us) q) ∙ count_places us in
+    let c : h.nchildren ≡ count us = sym (plan_length Variant (typ h.dtype) h.len (M.variant k.shredded) h.nchildren (places us) q) ∙ places_count us in
     record {
       shredded = k.shredded;
       told = k.told;

@@ -14,12 +14,12 @@ use Rattle.vx_flat.specs.declared.value.FieldValue.{FieldValue}
 use Rattle.vx_flat.specs.Building.{Built, waiting, with_piece, with_rest, with_pieces, nothing_by, IsTooLong, IsRefused}
 use Rattle.vx_flat.specs.IsOf.{IsOf, AreOf, IsOfKind, AreRowsOf}
 use Rattle.vx_flat.specs.Pieces.{Piece, elements_piece, links_piece, text_piece, entries, field_entries}
-use Rattle.vx_flat.specs.Pieces.{field_pieces, fields_pieces, rows_pieces, table_pieces, rows_length}
+use Rattle.vx_flat.specs.Pieces.{field_pieces, fields_pieces, rows_pieces, table_pieces}
 use Rattle.vx_flat.specs.Schema.{Schema, fields_of, members_of, table_of, slots, slots_of}
 use Rattle.vx_flat.specs.KindParts.{element_size, table_number, union_number}
 use Rattle.vx_flat.specs.Blocks.{union_fields}
 use Rattle.vx_flat.specs.declared.builder.piece.LinkKind.TheVariants as link
-use Rattle.vx_flat.specs.Value.{Field, absent, number, elements, text, texts, table, tables, member, unknown}
+use Rattle.vx_flat.specs.Value.{Field, absent, number, elements, text, texts, table, tables, member, unknown, rows_length}
 use Rattle.vx_flat.specs.Value.{Fields, no_fields, field, Rows, row}
 use Rattle.vx_flat.specs.View.{view, views, fields_from, rows_from}
 use Rattle.vx_flat.specs.Layout.{layout}

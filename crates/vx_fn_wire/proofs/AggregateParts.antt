@@ -13,7 +13,8 @@ use Rattle.vx_proto.specs.Value.{Entry, Value}
 use Rattle.vx_proto.proofs.LawsOfForms.{HoldsMember, none_or_one, slots_of_form}
 use Rattle.vx_proto.proofs.LawsOfSlots.{Has, plain_holds, two_of}
 use Rattle.vx_fn_wire.specs.Foreign.{foreign_aggregate_fn}
-use Rattle.vx_fn_wire.specs.Messages.{one_octets, metadata_of}
+use Rattle.vx_proto.specs.Value.{one_octets}
+use Rattle.vx_fn_wire.specs.Messages.{metadata_of}
 use Rattle.vx_fn_wire.specs.Schema.{aggregate_lists}
 use Rattle.vx_fn_wire.specs.Session.{Registry, IsAggregateOf, IsNoAggregate, optional_octets, HoldsAggregate, ReadsAggregate, IsUnreadAggregate}
 use Rattle.vx_fn_wire.specs.declared.aggregate_fn.AggregateFn.{AggregateFn}

@@ -16,7 +16,8 @@ use Rattle.vx_proto.specs.Written.{entries_depth, nested}
 use Rattle.vx_proto.proofs.LawsOfForms.{form_of_slots}
 use Rattle.vx_proto.proofs.LawsOfSlots.{Has, Each, has_plain, has_repeated, form_two, form_three}
 use Rattle.vx_fn_wire.specs.Expr.{Head, root, call, Expr, IsExprNode, IsExpr}
-use Rattle.vx_fn_wire.specs.Messages.{one_octets, root_id, id_of, metadata_at, call_message, expr_message, expr_messages}
+use Rattle.vx_proto.specs.Value.{one_octets}
+use Rattle.vx_fn_wire.specs.Messages.{root_id, id_of, metadata_at, call_message, expr_message, expr_messages}
 use Rattle.vx_fn_wire.specs.Schema.{expr_lists, aggregate_lists}
 
 -- A text in its plain slot, and metadata in its optional one.

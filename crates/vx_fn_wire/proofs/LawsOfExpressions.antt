@@ -14,7 +14,8 @@ use Rattle.vx_proto.proofs.LawsOfForms.{same_slot, same_rest, same_content, same
 use Rattle.vx_fn_wire.specs.Arity.{Admits}
 use Rattle.vx_fn_wire.specs.Expr.{Head, root, call, Expr, IsExprNode, IsExpr}
 use Rattle.vx_fn_wire.specs.Foreign.{foreign_fn}
-use Rattle.vx_fn_wire.specs.Messages.{one_octets, metadata_of, root_id, expr_message, expr_messages, IsSerializable, AreSerializable}
+use Rattle.vx_proto.specs.Value.{one_octets}
+use Rattle.vx_fn_wire.specs.Messages.{metadata_of, root_id, expr_message, expr_messages, IsSerializable, AreSerializable}
 use Rattle.vx_fn_wire.specs.ReadsExpr.{HoldsExpr, IsHeadOf, IsMessageOf, AreMessagesOf, ReadsExpr, IsNoHead, IsNoNode, StandsBelow, IsUnreadExpr, GivesBack, GivesEachBack}
 use Rattle.vx_fn_wire.specs.Session.{Registry, IsGiven, optional_octets}
 use Rattle.vx_fn_wire.specs.declared.error.FnWireError.{FnWireError}

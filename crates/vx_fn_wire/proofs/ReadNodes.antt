@@ -1,5 +1,5 @@
 -- What stands at the node of a message, or why nothing does.
-use Rattle.std.proofs.Common.{◌≡◌, ◌⊎◌, inl, inr, ℕ, Bool, true, false, List, length, Result, Err, IfErr, bytes_eq, refl, ap, sym, subst, ◌∙◌}
+use Rattle.std.proofs.Common.{◌≡◌, ◌⊎◌, inl, inr, ℕ, Bool, true, false, List, length, bytes_eq, refl, sym, subst, ◌∙◌}
 use Rattle.std.proofs.lemmas.Slice.Eq.{bytes_eq-Decides}
 use Rattle.vx_trees.specs.Rose.{node, roses_of, count}
 use Rattle.vx_trees.proofs.Lists.{count-roses_of}
@@ -11,10 +11,6 @@ use Rattle.vx_fn_wire.specs.Session.{Registry, IsNotGiven}
 use Rattle.vx_fn_wire.specs.declared.scalar_fn.ScalarFn.{ScalarFn}
 use Rattle.vx_fn_wire.specs.declared.error.FnWireError.{FnWireError}
 use Rattle.vx_fn_wire.specs.declared.error.FnWireError.TheVariants.{OutOfMemory, UnknownId, ArityMismatch, PluginRefused}
-
--- A refusal that is handed on has its cause.
-pub handed_on : {T : Type 0} (r : Result T FnWireError) (y e : FnWireError) (P : FnWireError → Type 0) → r ≡ Err y → y ≡ e → P e → IfErr r P
-handed_on r y e P p q h = subst (λ s. IfErr s P) (sym (p ∙ ap Err q)) h
 
 pub not_root : (id : List ℕ) → false ≡ bytes_eq id root_id → id ≡ root_id → ⊥
 not_root id e same = let t : bytes_eq id root_id ≡ true = (bytes_eq-Decides id root_id).1 same in absurd cc

@@ -4,15 +4,11 @@ use Rattle.vx_trees.specs.Rose.{Roses, node, end, more}
 use Rattle.vx_trees.specs.Everywhere.{Everywhere, EverywhereBelow}
 use Rattle.vx_trees.specs.Walks.{levels}
 use Rattle.vx_proto.specs.Repeated.{messages}
-use Rattle.vx_proto.specs.Value.{Entry, Value, octets}
+use Rattle.vx_proto.specs.Value.{Value, one_octets}
 use Rattle.vx_fn_wire.specs.declared.aggregate_fn.AggregateFn.{AggregateFn}
 use Rattle.vx_fn_wire.specs.declared.error.FnWireError.{FnWireError}
 use Rattle.vx_fn_wire.specs.declared.error.FnWireError.TheVariants.{OutOfMemory, TooDeep, NotSerializable}
 use Rattle.vx_fn_wire.specs.Expr.{Head, root, call, Expr}
-
--- A slot of one text or bytes.
-abbrev pub one_octets : ℕ → List ℕ → List Entry
-one_octets i s = (i, octets s) ∷ []
 
 -- The metadata by which options are written; options that cannot be written have none.
 abbrev pub metadata_of : Option (List ℕ) → List ℕ

@@ -10,7 +10,8 @@ use Rattle.vx_proto.specs.declared.error.ProtoError.TheVariants as proto
 use Rattle.vx_fn_wire.specs.Arity.{Admits}
 use Rattle.vx_fn_wire.specs.Expr.{Head, root, call, Expr, IsExpr}
 use Rattle.vx_fn_wire.specs.Foreign.{foreign_fn}
-use Rattle.vx_fn_wire.specs.Messages.{one_octets, metadata_of, root_id}
+use Rattle.vx_proto.specs.Value.{one_octets}
+use Rattle.vx_fn_wire.specs.Messages.{metadata_of, root_id}
 use Rattle.vx_fn_wire.specs.Schema.{expr_lists}
 use Rattle.vx_fn_wire.specs.Session.{Registry, IsGiven, IsNotGiven, optional_octets}
 use Rattle.vx_fn_wire.specs.declared.scalar_fn.ScalarFn.{ScalarFn}

@@ -11,7 +11,8 @@ use Rattle.vx_fn_wire.specs.declared.error.FnWireError.TheVariants.{UnknownId, I
 use Rattle.vx_fn_wire.specs.declared.session.ScalarFnSession.{ScalarFnSession}
 use Rattle.vx_fn_wire.specs.declared.session.AggregateFnSession.{AggregateFnSession}
 use Rattle.vx_fn_wire.specs.Foreign.{foreign_aggregate_fn}
-use Rattle.vx_fn_wire.specs.Messages.{one_octets, metadata_of}
+use Rattle.vx_proto.specs.Value.{one_octets}
+use Rattle.vx_fn_wire.specs.Messages.{metadata_of}
 
 -- Which identifiers have a plugin, and which function each gives of metadata, if it does not refuse them.
 abbrev pub Registry : Type 0 → Type 0

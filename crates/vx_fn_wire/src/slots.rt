@@ -2,7 +2,7 @@
 
 ghost use Rattle.std.specs.Prelude.{◌≡◌, IfOk, IsOkUnless};
 ghost use Rattle.vx_proto.specs.Value.{entries_view};
-ghost use Rattle.vx_fn_wire.specs.Messages.{one_octets};
+ghost use Rattle.vx_proto.specs.Value.{one_octets};
 
 use std::alloc::Global;
 use vx_proto::{Entries, ProtoError, copied, one};

@@ -10,15 +10,12 @@ use Rattle.vx_proto.specs.declared.schema.ScalarKind.{ScalarKind}
 use Rattle.vx_proto.specs.declared.schema.ScalarKind.TheVariants.{Uint32, Uint64, Int32, Sint64, Flag, Enum, Fixed32, Fixed64, String, Bytes}
 use Rattle.vx_proto.specs.declared.schema.Member.{Member}
 use Rattle.vx_proto.specs.Schema.{Slot, plain, optional, oneof, repeated, Schema, members_of, list_at, kind_in, has, kind_of}
-use Rattle.vx_proto.specs.Wire.{AreBytes, SpellsNumber, Part, i64, len, i32, Field, SpellsPart, Spells}
+use Rattle.vx_trees.specs.Bytes.{AreBytes}
+use Rattle.vx_proto.specs.Wire.{SpellsNumber, Part, i64, len, i32, Field, SpellsPart, Spells}
 use Rattle.vx_proto.specs.Value.{Content, Entry, Value}
 use Rattle.vx_proto.specs.Reads.{default_in, default_of, last_of, ShowsScalar, ShowsContent, ShowsEntries, ShowsSlots, Keeps, ReadsWithin}
 use Rattle.vx_proto.specs.Form.{FormScalar, FormContent, FormEntries, FormCount, FormSlots, FormWithin}
 use Rattle.vx_proto.proofs.LawfulSlots.{HasCodes, IsLawfulList}
-
-pub from_index : (bs : List ℕ) → ((i : ℕ) → get_or bs i 0 < 256) → AreBytes bs
-from_index [] h = tt
-from_index (b ∷ bs) h = (h 0, from_index bs (λ i. h (suc i)))
 
 at_index : (bs : List ℕ) → AreBytes bs → (i : ℕ) → get_or bs i 0 < 256
 at_index [] h i = omega arith

@@ -13,7 +13,7 @@ use Rattle.vx_proto.specs.Form.{HasForm}
 use Rattle.vx_proto.specs.Lawful.{is_lawful}
 use Rattle.vx_proto.proofs.Judged.{decoded_sound, decoded_again}
 use Rattle.vx_proto.proofs.Causes.{decoded_cause, reads_excludes}
-use Rattle.vx_proto.specs.Wire.{AreBytes}
+use Rattle.vx_trees.specs.Bytes.{AreBytes}
 use Rattle.vx_proto.proofs.Formed.{reads_form}
 use Rattle.vx_proto.proofs.Nests.{form_nests, deep_nests, nests_deep}
 use Rattle.vx_proto.proofs.LawsOfForms.{form_within}

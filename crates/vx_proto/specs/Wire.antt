@@ -29,11 +29,6 @@ varint_at (suc left) (b ∷ bytes) =
 unfoldable pub number_at : List ℕ → Option (ℕ × List ℕ)
 number_at bytes = varint_at 10 bytes
 
--- Each of a list of numbers is a byte.
-abbrev pub AreBytes : List ℕ → Type 0
-AreBytes [] = Unit {0}
-AreBytes (b ∷ bs) = (b < 256) × AreBytes bs
-
 -- ---- fields
 
 -- What a field holds, by its wire type: VARINT a number, I64 eight bytes, LEN bytes behind their length, I32 four bytes.

@@ -1,43 +1,13 @@
--- A builder that goes on from link to link of a block.
-use Rattle.std.specs.Prelude.{IfErr, MatchResult, OnErr, Option}
-use Rattle.std.proofs.Common.{◌≡◌, ◌∙◌, false, ℕ, List, [], ◌∷◌, ◌++◌, Some, None, Result, Err, ap, sym, subst, refl, append-nil}
+-- A builder that goes on from link to link of a table of statistics.
+use Rattle.std.proofs.Common.{◌≡◌, ◌∙◌, false, ℕ, List, [], ◌∷◌, ◌++◌, Option, Some, None, ap, sym, subst, refl, append-nil}
 use Rattle.vx_flat.specs.declared.error.FlatError.{FlatError}
 use Rattle.vx_flat.specs.declared.builder.piece.LinkKind.TheVariants as link
-use Rattle.vx_flat.specs.Building.{Built, Link, AreLeft, with_piece, with_pieces, waiting, links_of, later_links, next_link}
-use Rattle.vx_flat.specs.Building.{IsNext, IsAwaited, Takes, IsRefused, Keeps, IsStopped}
+use Rattle.vx_flat.specs.Building.{Built, Link, AreLeft, with_piece, with_pieces, waiting, later_links}
+use Rattle.vx_flat.specs.Building.{IsNext, IsPartWay, Takes, IsRefused, Keeps, IsStopped}
 use Rattle.vx_flat.specs.Pieces.{Piece, elements_piece}
-use Rattle.vx_flat.proofs.LawsOfBuilding.{with_pieces-runs, failed-with_pieces, waits-with_pieces, left-with_piece, stopped-first, stopped-later}
-use Rattle.vx_scalar_wire.specs.StatsBlocks.{IsPartWay, IsAtLink, vector_links, vector_pieces}
-
--- After the block itself.
-pub begun : (b now : Built) (p q : Piece) (ls : List Link) → now ≡ with_piece b q → q ≡ p → links_of b.count p ≡ ls → IsPartWay b p ls [] now
-begun b now p q ls h e f =
-    let s = h ∙ ap (with_piece b) e in
-    record {
-      same = s;
-      left = subst (λ ks. AreLeft ks now.left b.left) f
-          (subst (λ (x : Built). AreLeft (links_of b.count p) x.left b.left) (sym s) (left-with_piece b p));
-    }
-
-module _ (b : Built) (p : Piece) (ls : List Link) (ps : List Piece) (now : Built) (h : IsPartWay b p ls ps now) where
-  -- The builder has not failed, and no link waits.
-  pub works : now.failed ≡ false
-  works = ap (λ (x : Built). x.failed) h.same ∙ failed-with_pieces b p ps
-
-  pub idle : now.waits ≡ None
-  idle = ap (λ (x : Built). x.waits) h.same ∙ waits-with_pieces b p ps
-
--- The next link is the first of those that are left.
-pub next_is : (b : Built) (p : Piece) (l : Link) (ls : List Link) (ps : List Piece) (now : Built) → IsPartWay b p (l ∷ ls) ps now
-    → IsNext now.left l.block l.index
-next_is b p l ls ps now h = subst (λ z. IsNext z l.block l.index) (sym h.left.2) (refl, refl)
-
--- It aims at a block of its kind.
-pub awaited : (b : Built) (p : Piece) (l : Link) (ls : List Link) (ps : List Piece) (now mid : Built) → IsPartWay b p (l ∷ ls) ps now
-    → (now.failed ≡ false → mid ≡ waiting now) → Takes l.kind mid
-awaited b p l ls ps now mid h e =
-    let waited = e (works b p (l ∷ ls) ps now h) in
-    λ f. subst (λ o. IsAwaited l.kind o mid.count) (sym (ap (λ (x : Built). x.waits) waited ∙ ap next_link h.left.2)) refl
+use Rattle.vx_flat.proofs.LawsOfBuilding.{with_pieces-runs, stopped-first, stopped-later}
+use Rattle.vx_flat.proofs.LawsOfLinks.{works, idle, next_is, awaited}
+use Rattle.vx_scalar_wire.specs.StatsBlocks.{IsAtLink, vector_links, vector_pieces}
 
 -- After the vector of one more link.
 pub gone_on : (b : Built) (p : Piece) (l : Link) (ls : List Link) (ps : List Piece) (now mid new : Built) (bytes : List ℕ)
@@ -59,20 +29,6 @@ pub cut_short : (b : Built) (p : Piece) (l : Link) (ls : List Link) (ps rest : L
     → IsPartWay b p (l ∷ ls) ps now → (now.failed ≡ false → mid ≡ waiting now) → IsRefused mid q e new → IsStopped b ((p ∷ ps) ++ ((q ∷ []) ++ rest)) e new
 cut_short b p l ls ps rest now mid new q e h m r =
     stopped-later b mid new p ps (q ∷ []) rest e (m (works b p (l ∷ ls) ps now h) ∙ ap waiting h.same) (stopped-first mid new q [] e r)
-
--- Where the block itself is refused, the whole stops.
-pub refused : (b new : Built) (p q : Piece) (ps : List Piece) (e : FlatError) → q ≡ p → IsRefused b q e new → IsStopped b (p ∷ ps) e new
-refused b new p q ps e w r = stopped-first b new p ps e (subst (λ z. IsRefused b z e new) w r)
-
--- What holds of an error holds of it where it is handed on.
-pub at_error : {T E : Type 0} (r : Result T E) (y e : E) (P : E → Type 0) → r ≡ Err y → y ≡ e → P e → IfErr r P
-at_error r y e P p q h = subst (λ s. IfErr s P) (sym (p ∙ ap Err q)) h
-
-pub at_match : {T E : Type 0} (r : Result T E) (y e : E) (Q : T → Type 0) (P : E → Type 0) → r ≡ Err y → y ≡ e → P e → MatchResult r Q P
-at_match r y e Q P p q h = subst (λ s. MatchResult s Q P) (sym (p ∙ ap Err q)) h
-
-pub on_error : {T E : Type 0} (r : Result T E) (y : E) (P : Type 0) → r ≡ Err y → P → OnErr r P
-on_error r y P p h = subst (λ s. OnErr s P) (sym p) h
 
 -- ---- bytes that may stand
 

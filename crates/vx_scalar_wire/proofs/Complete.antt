@@ -14,10 +14,12 @@ use Rattle.vx_proto.specs.Written.{nested}
 use Rattle.vx_proto.proofs.LawsOfForms.{same_content, same_message, same_number, same_rest, same_slot}
 use Rattle.vx_proto.proofs.LawsOfViews.{message_is}
 use Rattle.vx_type_wire.specs.Known.{ExtMeaning, IsNotKnown, IsRead}
-use Rattle.vx_type_wire.specs.TypeMessage.{IsMessageOf, one_number, one_message, all_messages}
+use Rattle.vx_proto.specs.Value.{one_number, one_message}
+use Rattle.vx_type_wire.specs.TypeMessage.{IsMessageOf, all_messages}
 use Rattle.vx_type_wire.specs.declared.error.TypeWireError.TheVariants as type_error
 use Rattle.vx_type_wire.proofs.LawsTypes.{type_depth, message-injective, known_or}
-use Rattle.vx_types.specs.Content.{AreBytes, IsText}
+use Rattle.vx_trees.specs.Bytes.{AreBytes}
+use Rattle.vx_types.specs.Content.{IsText}
 use Rattle.vx_types.specs.Fits.{Fits, FitBy, FitsMember, IsBoolean, IsOf, IsDecimal, IsUtf8, IsBinary, IsVariant, bare, bare_first, member}
 use Rattle.vx_types.specs.Kind as K
 use Rattle.vx_types.specs.Kind.{Kind}

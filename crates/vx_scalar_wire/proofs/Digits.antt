@@ -9,7 +9,7 @@ use Rattle.std.proofs.lemmas.Int.{ints, of_z-to_z, to_z-of_z}
 use Rattle.vx_trees.proofs.LawsOfLists.{heads, tails}
 use Rattle.vx_types.specs.Value as V
 use Rattle.vx_types.specs.Value.{DecimalValue}
-use Rattle.vx_types.specs.Content.{AreBytes}
+use Rattle.vx_trees.specs.Bytes.{AreBytes}
 use Rattle.vx_types.specs.Well.{IsDecimalInRange}
 use Rattle.vx_scalar_wire.specs.ScalarMessage.{decimal_bytes}
 
@@ -111,11 +111,6 @@ signed_again w bs k l e h =
     let same : 256 ^ length bs ≡ 2 ^ bits w = ap (λ j. 256 ^ j) l ∙ e in
     let small : n < 2 ^ bits w = omega (arith, is, same, below_power bs h) in
     ap (λ m. bytes_low_first 0 (suc k) m) (of_z-to_z w n small) ∙ spelled_again bs k n l h refl
-
--- The elements of a list of bytes are bytes.
-pub bytes_known : (bs : List ℕ) → ((k : ℕ) → get_or bs k 0 < 256) → AreBytes bs
-bytes_known [] h = tt
-bytes_known (b ∷ bs) h = (h 0, bytes_known bs (λ k. h (suc k)))
 
 pub taken_whole : (bs : List ℕ) (k : ℕ) → length bs ≡ k → take k bs ≡ bs
 taken_whole bs k e = all_taken bs k e

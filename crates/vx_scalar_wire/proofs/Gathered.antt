@@ -7,7 +7,8 @@ use Rattle.vx_proto.specs.Repeated.{messages, seen, as_message}
 use Rattle.vx_proto.specs.Value.{Value, message, slots_of, entries_view}
 use Rattle.vx_proto.proofs.LawsOfRepeated.{member_read, all_read}
 use Rattle.vx_type_wire.specs.Known.{ExtMeaning, IsRead}
-use Rattle.vx_type_wire.specs.TypeMessage.{IsMessageOf, one_number, one_message}
+use Rattle.vx_proto.specs.Value.{one_number, one_message}
+use Rattle.vx_type_wire.specs.TypeMessage.{IsMessageOf}
 use Rattle.vx_types.specs.Fits.{Fits, FitBy, FitsMember, IsVariant, bare, member}
 use Rattle.vx_types.specs.Kind.{Kind, structure, union}
 use Rattle.vx_types.specs.declared.nullability.Nullability.{Nullability}

@@ -18,7 +18,8 @@ use Rattle.vx_proto.proofs.LawsOfForms.{HoldsMember, HoldsOne, at_most_one, slot
 use Rattle.vx_proto.proofs.LawsOfRepeated.{holds_message, shows_message}
 use Rattle.vx_proto.proofs.LawsOfSlots.{Has, nested_holds, plain_holds, two_of}
 use Rattle.vx_proto.proofs.LawsOfViews.{entry_form, message_is}
-use Rattle.vx_type_wire.specs.TypeMessage.{type_lists, type_lists_lawful, one_number, one_message}
+use Rattle.vx_proto.specs.Value.{one_number, one_message}
+use Rattle.vx_type_wire.specs.TypeMessage.{type_lists, type_lists_lawful}
 use Rattle.vx_type_wire.specs.Known.{ExtMeaning}
 use Rattle.vx_types.specs.Typ.{Typ}
 use Rattle.vx_types.specs.Value as V

@@ -5,7 +5,8 @@ use Rattle.vx_proto.specs.Parts.{flag_number}
 use Rattle.vx_proto.specs.Value.{Content, Value, number, octets, message, slots_of}
 use Rattle.vx_proto.proofs.LawsOfForms.{same_octets}
 use Rattle.vx_type_wire.specs.Known.{ExtMeaning, IsRead}
-use Rattle.vx_type_wire.specs.TypeMessage.{IsMessageOf, one_number, one_message, all_messages}
+use Rattle.vx_proto.specs.Value.{one_number, one_message}
+use Rattle.vx_type_wire.specs.TypeMessage.{IsMessageOf, all_messages}
 use Rattle.vx_types.specs.Content.{IsText}
 use Rattle.vx_types.specs.Fits.{FitBy, FitsMember, IsBoolean, IsOf, IsDecimal, IsUtf8, IsBinary, IsVariant, bare}
 use Rattle.vx_types.specs.Numbers.{kind_of}

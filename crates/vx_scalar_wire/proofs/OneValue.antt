@@ -9,7 +9,8 @@ use Rattle.vx_proto.specs.Value.{Content, Entry, Value, number, octets, message,
 use Rattle.vx_proto.proofs.LawsOfForms.{same_content, same_others, same_slot, same_rest, same_number, same_octets, same_message}
 use Rattle.vx_proto.proofs.LawsOfBytes.{zigzag_one}
 use Rattle.vx_type_wire.specs.Known.{ExtMeaning}
-use Rattle.vx_type_wire.specs.TypeMessage.{one_message, all_messages}
+use Rattle.vx_proto.specs.Value.{one_message}
+use Rattle.vx_type_wire.specs.TypeMessage.{all_messages}
 use Rattle.vx_type_wire.proofs.LawsTypes.{message-injective}
 use Rattle.vx_types.specs.Fits.{FitBy, FitsMember, IsDecimal, IsUtf8, IsBinary, IsOf, bare, member}
 use Rattle.vx_types.specs.Kind as K

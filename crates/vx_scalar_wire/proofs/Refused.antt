@@ -9,7 +9,8 @@ use Rattle.vx_proto.specs.Value.{Entry, Value, message, slots_of, entries_of, en
 use Rattle.vx_proto.specs.Written.{nested, content_depth, entries_depth, slots_depth}
 use Rattle.vx_proto.proofs.LawsOfViews.{slot_depth_in}
 use Rattle.vx_type_wire.specs.Known.{ExtMeaning, IsRead}
-use Rattle.vx_type_wire.specs.TypeMessage.{IsMessageOf, one_number, one_message}
+use Rattle.vx_proto.specs.Value.{one_number, one_message}
+use Rattle.vx_type_wire.specs.TypeMessage.{IsMessageOf}
 use Rattle.vx_types.specs.Fits.{Fits, FitsMember, IsVariant, bare, member}
 use Rattle.vx_types.specs.Kind.{Kind, structure, union}
 use Rattle.vx_types.specs.Seen.{typ, typs}
@@ -20,6 +21,7 @@ use Rattle.vx_scalars.specs.Told.{Typed}
 use Rattle.vx_scalars.specs.declared.value.ScalarValue.{ScalarValue}
 use Rattle.vx_types.specs.declared.dtype.DType.{DType}
 use Rattle.vx_types.specs.declared.nullability.Nullability.{Nullability}
+use Rattle.vx_types.proofs.LawsOfTypes.{typs-length}
 use Rattle.vx_scalar_wire.specs.Answers.{GivesScalar, GivesValue, IsRefusedType, lone_member}
 use Rattle.vx_scalar_wire.specs.Reading.{ReadsScalar, ReadsValue}
 use Rattle.vx_scalar_wire.specs.Refusing.{IsOtherCount, OfUnion, IsAt, IsFieldAt, IsPartType, IsPart, IsCause, IsRefusedMessage, IsRefusedScalar}
@@ -137,10 +139,6 @@ viewed_length : (es : List (ℕ × Element)) → length (entries_view es) ≡ le
 viewed_length [] = refl
 viewed_length (x ∷ es) = omega (arith, viewed_length es)
 
-typed_length : (ds : List DType) → length (typs ds) ≡ length ds
-typed_length [] = refl
-typed_length (d ∷ ds) = omega (arith, typed_length ds)
-
 pub other_count : (s : ExtMeaning) (most : ℕ) (l : Value) (es : List (ℕ × Element)) (ds : List DType) (ts : List Typ) → entries_view es ≡ entries_in l 0 → typs ds ≡ ts → (length es ≡ length ds → ⊥)
     → (t : Typ) (ns : List (List ℕ)) (n : Nullability) → bare t ≡ node (structure ns n) (roses_of ts) → IsRefusedMessage BadChild s most t (lone_member 9 (message (slots_of l)))
 other_count s most l es ds ts e f h t ns n is =
@@ -149,7 +147,7 @@ other_count s most l es ds ts e f h t ns n is =
       l,
       refl,
       subst (λ (z : Typ). IsOtherCount (length (entries_in l 0)) z) (sym is)
-          (λ c. h (sym (viewed_length es) ∙ ap (λ (x : List Entry). length x) e ∙ c ∙ same_count ts ∙ ap (λ (x : List Typ). length x) (sym f) ∙ typed_length ds)),
+          (λ c. h (sym (viewed_length es) ∙ ap (λ (x : List Entry). length x) e ∙ c ∙ same_count ts ∙ ap (λ (x : List Typ). length x) (sym f) ∙ typs-length ds)),
     ))
 
 -- ---- scalars

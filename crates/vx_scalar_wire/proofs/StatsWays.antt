@@ -2,15 +2,15 @@
 use Rattle.std.proofs.Common.{◌≡◌, ◌∙◌, ◌++◌, false, ℕ, List, [], ◌∷◌, sym, ap, subst, append_assoc}
 use Rattle.vx_flat.specs.declared.builder.piece.BlockField.{BlockField}
 use Rattle.vx_flat.specs.declared.error.FlatError.{FlatError}
-use Rattle.vx_flat.specs.Building.{Built, Link, Written, with_piece, with_pieces, IsRefused, IsStopped}
+use Rattle.vx_flat.specs.Building.{Built, Link, Written, with_piece, with_pieces, IsPartWay, IsRefused, IsStopped}
 use Rattle.vx_flat.specs.Pieces.{Piece, AreEntries, entries, fields_pieces, table_piece}
 use Rattle.vx_flat.proofs.LawsOfBuilding.{entries-taken}
+use Rattle.vx_flat.proofs.LawsOfLinks.{begun, refused}
 use Rattle.vx_scalars.specs.Stats.{Stats}
-use Rattle.vx_scalar_wire.specs.StatsBlocks.{IsStoredOf, IsPartWay, table_entries, vector_pieces, vector_links}
+use Rattle.vx_scalar_wire.specs.StatsBlocks.{IsStoredOf, table_entries, vector_pieces, vector_links}
 use Rattle.vx_scalar_wire.specs.StatsSchema.{stats_fields, stats_schema}
 use Rattle.vx_scalar_wire.specs.StatsTable.{stats_table, stats_pieces}
 use Rattle.vx_scalar_wire.specs.declared.stats.entries.Stored.{Stored}
-use Rattle.vx_scalar_wire.proofs.Chains.{begun, refused}
 use Rattle.vx_scalar_wire.proofs.StatsEntries.{table_of_kind, same_entries, same_links, same_pieces, regrouped}
 
 -- The table's own block.

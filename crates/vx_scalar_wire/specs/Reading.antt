@@ -6,7 +6,8 @@ use Rattle.vx_proto.specs.Reads.{Reads}
 use Rattle.vx_proto.specs.Signed.{zigzag}
 use Rattle.vx_proto.specs.Value.{Content, Value, number, octets, message, slots_of}
 use Rattle.vx_type_wire.specs.Known.{ExtMeaning, IsKnown, IsRead}
-use Rattle.vx_type_wire.specs.TypeMessage.{IsMessageOf, one_number, one_message, all_messages}
+use Rattle.vx_proto.specs.Value.{one_number, one_message}
+use Rattle.vx_type_wire.specs.TypeMessage.{IsMessageOf, all_messages}
 use Rattle.vx_types.specs.Fits.{Fits, FitBy, FitsMember, IsBoolean, IsOf, IsDecimal, IsUtf8, IsBinary, IsVariant, bare}
 use Rattle.vx_types.specs.Kind.{Kind, list, fixed_size_list, structure, map}
 use Rattle.vx_types.specs.Numbers.{kind_of}

@@ -5,7 +5,8 @@ use Rattle.vx_proto.specs.Parts.{entries_in, message_in, number_in}
 use Rattle.vx_proto.specs.Value.{Content, Entry, Value, octets, message, slots_of}
 use Rattle.vx_proto.specs.Written.{nested}
 use Rattle.vx_type_wire.specs.Known.{ExtMeaning, IsRead}
-use Rattle.vx_type_wire.specs.TypeMessage.{IsMessageOf, IsUnreadValue, one_number, one_message}
+use Rattle.vx_proto.specs.Value.{one_number, one_message}
+use Rattle.vx_type_wire.specs.TypeMessage.{IsMessageOf, IsUnreadValue}
 use Rattle.vx_type_wire.specs.declared.error.TypeWireError.TheVariants as type_error
 use Rattle.vx_types.specs.Content.{IsText}
 use Rattle.vx_types.specs.Fits.{Fits, FitsMember, IsDecimal, IsOf, IsUtf8, IsVariant, bare, member}

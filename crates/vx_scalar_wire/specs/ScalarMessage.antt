@@ -10,7 +10,8 @@ use Rattle.vx_proto.specs.Value.{Entry, Value}
 use Rattle.vx_proto.specs.declared.schema.Kind.TheVariants.{Scalar, Message}
 use Rattle.vx_proto.specs.declared.schema.ScalarKind.TheVariants.{Uint32, Uint64, Sint64, Flag, Enum, Fixed32, Fixed64, String, Bytes}
 use Rattle.vx_proto.specs.declared.schema.Member.{Member}
-use Rattle.vx_type_wire.specs.TypeMessage.{type_lists, type_message, one_number, one_octets, one_message, first_message, all_messages}
+use Rattle.vx_proto.specs.Value.{one_number, one_octets, one_message}
+use Rattle.vx_type_wire.specs.TypeMessage.{type_lists, type_message, first_message, all_messages}
 use Rattle.vx_types.specs.Value as V
 use Rattle.vx_types.specs.Value.{Mark, DecimalValue}
 use Rattle.vx_types.specs.declared.value.PValue.{PValue}

@@ -3,7 +3,7 @@ use Rattle.std.specs.Prelude.{◌≡◌, ◌++◌, ℕ, List, [], ◌∷◌, Opt
 use Rattle.vx_flat.specs.declared.builder.piece.BlockField.{BlockField}
 use Rattle.vx_flat.specs.declared.builder.piece.BlockField.TheVariants as entry
 use Rattle.vx_flat.specs.declared.builder.piece.LinkKind.TheVariants as link
-use Rattle.vx_flat.specs.Building.{Built, Link, AreLeft, with_pieces}
+use Rattle.vx_flat.specs.Building.{Built, Link, IsPartWay}
 use Rattle.vx_flat.specs.Pieces.{Piece, elements_piece, default_entry}
 use Rattle.vx_flat.specs.Value.{Field, absent, elements}
 use Rattle.vx_proto.specs.Parts.{flag_number}
@@ -57,11 +57,6 @@ vector_pieces (Some bytes) = elements_piece 1 bytes ∷ []
 abbrev pub vector_links : ℕ → ℕ → Option (List ℕ) → List Link
 vector_links block index None = []
 vector_links block index (Some bytes) = record { block = block; index = index; kind = link.Vector } ∷ []
-
--- The block p was written after b, with the blocks ps of what hangs on it; its links ls are left.
-pub record IsPartWay (b : Built) (p : Piece) (ls : List Link) (ps : List Piece) (now : Built) : Type 0 where
-  pub same : now ≡ with_pieces b (p ∷ ps)
-  pub left : AreLeft ls now.left b.left
 
 -- A block was written, and the link to bytes that may stand is the next that is left of it.
 pub record IsAtLink (block index : ℕ) (bytes : Option (List ℕ)) (now : Built) : Type 0 where

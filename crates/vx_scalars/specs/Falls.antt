@@ -1,4 +1,4 @@
--- Each part of a value is smaller than the value: what recursions go down by.
+-- What recursions over values, of scalars and of rows, go down by: each part of a value is smaller than the value.
 use Rattle.std.specs.Prelude.{ℕ, List, ◌+◌, ◌*◌}
 use Rattle.vx_trees.specs.Rose.{roses_of}
 use Rattle.vx_trees.specs.Walks.{nodes, nodes_of}
@@ -15,8 +15,8 @@ values_size vs = 4 * nodes_of (roses_of vs) + 3
 abbrev pub slice_size : List Value → ℕ
 slice_size vs = 4 * nodes_of (roses_of vs) + 2
 
-abbrev pub place_size : Value → ℕ
-place_size v = 4 * nodes v + 1
+abbrev pub ref_size : Value → ℕ
+ref_size v = 4 * nodes v + 1
 
 abbrev pub typed_size : Typed → ℕ
 typed_size s = 4 * nodes s.value + 2

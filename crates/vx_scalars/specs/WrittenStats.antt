@@ -2,7 +2,7 @@
 use Rattle.std.specs.Prelude.{ℕ, Bool, Option, Some, None, option_map}
 use Rattle.vx_trees.specs.Rose.{node}
 use Rattle.vx_types.specs.Value as V
-use Rattle.vx_types.specs.Value.{lone}
+use Rattle.vx_types.specs.Value.{flag_in, lone}
 use Rattle.vx_types.specs.declared.value.PValue.TheVariants.{U64}
 use Rattle.vx_scalars.specs.Nans.{nan_canonical}
 use Rattle.vx_scalars.specs.Stats.{Told, Stats}
@@ -19,10 +19,6 @@ written_sum (Exact v) = Exact (canonical_sum v)
 written_sum _ = Absent
 
 -- a flag where it is exact and a flag,
-abbrev pub flag_in : V.Value → Option Bool
-flag_in (node (V.bool b) vs) = Some b
-flag_in _ = None
-
 abbrev pub exact_flag : Told → Option Bool
 exact_flag (Exact v) = flag_in v
 exact_flag _ = None

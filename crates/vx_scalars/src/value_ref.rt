@@ -18,7 +18,7 @@ pub struct ValueRef {
 impl Model for ValueRef {
     ghost use Rattle.std.proofs.Common.{arith};
     ghost use Rattle.vx_types.specs.Value.{Value as Tree, value_code};
-    ghost use Rattle.vx_scalars.specs.Falls.{place_size};
+    ghost use Rattle.vx_scalars.specs.Falls.{ref_size};
 
     ghost Value = { Tree };
 
@@ -28,7 +28,7 @@ impl Model for ValueRef {
 
     ghost view = { λ a. value_behind a.value };
 
-    ghost size = { place_size };
+    ghost size = { ref_size };
 
     ghost use Rattle.vx_scalars.specs.Falling.{place_le-size};
 

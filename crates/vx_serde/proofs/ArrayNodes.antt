@@ -17,7 +17,8 @@ use Rattle.vx_serde.specs.declared.error.WireError.{WireError}
 use Rattle.vx_serde.specs.declared.error.WireError.TheVariants.{OutOfMemory, NotPermitted, WireLimit}
 use Rattle.vx_serde.specs.ArrayNode.{plain_options, array_value, array_pieces, RefusesBlocks}
 use Rattle.vx_serde.specs.ArraySchema.{array_schema, node_fields}
-use Rattle.vx_serde.specs.Blocks.{encodings_in, node_pieces, layout_by, AreWritten}
+use Rattle.vx_flat.specs.Building.{AreWritten}
+use Rattle.vx_serde.specs.Blocks.{encodings_in, node_pieces, layout_by}
 use Rattle.vx_serde.specs.MessageValue.{node_value, descriptors_bytes}
 use Rattle.vx_serde.specs.Numbered.{numbered}
 use Rattle.vx_serde.specs.Placing.{descriptors_from}

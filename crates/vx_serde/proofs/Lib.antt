@@ -16,7 +16,6 @@ mod CarriedOnce
 mod GrownPlaced
 mod WiredNodes
 mod WiredAlike
-mod Chains
 mod NodePieces
 mod NodeWays
 mod NodeSteps

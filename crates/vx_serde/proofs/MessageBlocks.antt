@@ -23,7 +23,8 @@ use Rattle.vx_wire_tree.specs.Wire.{Wire}
 use Rattle.vx_serde.specs.declared.error.WireError.{WireError}
 use Rattle.vx_serde.specs.declared.error.WireError.TheVariants.{WireLimit}
 use Rattle.vx_serde.specs.ArraySchema.{array_schema}
-use Rattle.vx_serde.specs.Blocks.{AreWritten, node_pieces, message_by, layout_by}
+use Rattle.vx_flat.specs.Building.{AreWritten}
+use Rattle.vx_serde.specs.Blocks.{node_pieces, message_by, layout_by}
 use Rattle.vx_serde.specs.ReadingSteps.{message_refusal}
 use Rattle.vx_serde.specs.WritingSteps.{AreDescriptors, RefusesBytes}
 use Rattle.vx_serde.proofs.Carried.{shows-layout}

@@ -4,8 +4,8 @@ use Rattle.std.specs.Int.{w16, to_le_bytes}
 use Rattle.std.proofs.lemmas.List.{take_more, take-append-drop}
 use Rattle.vx_flat.specs.declared.builder.piece.BlockField.TheVariants as entry
 use Rattle.vx_flat.specs.declared.builder.piece.LinkKind.TheVariants as link
-use Rattle.vx_flat.specs.Pieces.{Piece, table_piece, elements_piece, default_entry, rows_length, rows_pieces, table_pieces}
-use Rattle.vx_flat.specs.Value.{table}
+use Rattle.vx_flat.specs.Pieces.{Piece, table_piece, elements_piece, default_entry, rows_pieces, table_pieces}
+use Rattle.vx_flat.specs.Value.{table, rows_length}
 use Rattle.vx_scalars.specs.Stats.{Stats}
 use Rattle.vx_scalar_wire.specs.StatsTable.{stats_table, stats_pieces}
 use Rattle.vx_scalar_wire.proofs.LawsStats.{pieces_anywhere}

@@ -11,10 +11,12 @@ use Rattle.vx_scalars.specs.Stats.{Stats}
 use Rattle.vx_scalar_wire.specs.StatsTable.{stats_table, stats_pieces}
 use Rattle.vx_wire_tree.specs.Wire.{Wire, present}
 use Rattle.vx_trees.specs.Rose.{label, below}
-use Rattle.vx_serde.specs.Blocks.{AreWritten, node_pieces, children_pieces}
+use Rattle.vx_flat.specs.Building.{AreWritten}
+use Rattle.vx_serde.specs.Blocks.{node_pieces, children_pieces}
 use Rattle.vx_serde.specs.MessageValue.{index_bytes}
 use Rattle.vx_serde.specs.Numbered.{numbers_from}
-use Rattle.vx_serde.proofs.Chains.{IsPartWay, begun, gone_on, ended}
+use Rattle.vx_flat.specs.Building.{IsPartWay}
+use Rattle.vx_flat.proofs.LawsOfLinks.{begun, gone_on, ended}
 use Rattle.vx_serde.proofs.NodePieces.{node_piece, node-blocks}
 
 -- ---- the links of a node's block

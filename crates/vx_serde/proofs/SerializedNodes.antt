@@ -8,12 +8,12 @@ use Rattle.vx_flat.specs.declared.schema.Width.TheVariants.{One, Two}
 use Rattle.vx_flat.specs.declared.viewing.View.{View}
 use Rattle.vx_flat.specs.declared.viewing.VectorView.{VectorView}
 use Rattle.vx_flat.specs.Entries.{part_at}
-use Rattle.vx_flat.specs.Parts.{HasElements, rows_count, row_at, table_in}
+use Rattle.vx_flat.specs.Parts.{HasElements, row_at, table_in}
 use Rattle.vx_flat.specs.Places.{u16_at, place_of, table_at}
 use Rattle.vx_flat.specs.Reading.{table_shown, shown_within, found_shown, fields_shown, plain_shown}
 use Rattle.vx_flat.specs.Schema.{fields_of}
 use Rattle.vx_flat.specs.Seen.{seen, part_in, kind_in, kinds_in, IsBelow, fields_or_none, table_seen, vector_seen, kind_seen, size_seen, IsViewOf, IsVectorOf, IsVectorBelow}
-use Rattle.vx_flat.specs.Value.{Field, Fields, Rows, absent, number, table, tables, no_rows, row}
+use Rattle.vx_flat.specs.Value.{Field, Fields, Rows, absent, number, table, tables, no_rows, row, rows_length}
 use Rattle.vx_flat.specs.View.{fields_from, rows_from}
 use Rattle.vx_flat.proofs.LawsOfViews.{seen-of, kind-of, kinds-of, table-of, vector-of, tables-whole, tables_in}
 use Rattle.vx_trees.specs.Rose.{Rose, node, label, below, roses_list, count}
@@ -80,7 +80,7 @@ index-within bs is i e h = omega (arith, h, ap (λ xs. length xs) e, length-indi
 
 -- ---- children
 
-count-nodes_of : (rs : Rows) → count (nodes_of rs) ≡ rows_count rs
+count-nodes_of : (rs : Rows) → count (nodes_of rs) ≡ rows_length rs
 count-nodes_of no_rows = refl
 count-nodes_of (row vs rs) = omega (arith, count-nodes_of rs)
 

@@ -11,7 +11,7 @@ use Rattle.vx_scalar_wire.specs.StatsUnwritten.{IsUnwrittenStats}
 use Rattle.vx_scalar_wire.specs.declared.error.ScalarWireError.{ScalarWireError}
 use Rattle.vx_scalar_wire.specs.declared.error.ScalarWireError.TheVariants.{OutOfMemory, BadMessage, TooDeep, MissingKind, KindMismatch, OutOfRange, BadChild, BadScalar, BadPrecision, BadDType, MessageTooLong}
 use Rattle.vx_scalar_wire.proofs.LawsWriting.{fit_written}
-use Rattle.vx_serde.specs.Blocks.{AreWritten}
+use Rattle.vx_flat.specs.Building.{AreWritten}
 use Rattle.vx_serde.specs.ReadingSteps.{RefusesStats, stats_refusal}
 use Rattle.vx_serde.specs.WritingSteps.{builder_refusal}
 

@@ -1,10 +1,9 @@
--- The blocks of nodes, and what it means that blocks are written after what a builder has.
-use Rattle.std.specs.Prelude.{ℕ, ◌≡◌, ◌+◌, ◌<◌, ◌^◌, List, [], ◌∷◌, length, get_or}
+-- The blocks of nodes.
+use Rattle.std.specs.Prelude.{ℕ, ◌+◌, List, [], ◌∷◌, length, get_or}
 use Rattle.vx_flat.specs.declared.builder.piece.LinkKind.TheVariants as link
-use Rattle.vx_flat.specs.Building.{Built, with_pieces}
 use Rattle.vx_flat.specs.Layout.{written_layout}
-use Rattle.vx_flat.specs.Pieces.{Piece, links_piece, rows_length, rows_pieces, table_pieces}
-use Rattle.vx_flat.specs.Value.{Fields, table, elements, field, no_fields}
+use Rattle.vx_flat.specs.Pieces.{Piece, links_piece, rows_pieces, table_pieces}
+use Rattle.vx_flat.specs.Value.{Fields, table, elements, field, no_fields, rows_length}
 use Rattle.vx_trees.specs.Rose.{Rose, Roses, node, end, more}
 use Rattle.vx_trees.specs.Walks.{nodes, gathered, gathered_below}
 use Rattle.vx_wire_tree.specs.Wire.{Wire, Wires, present, buffers_at_node}
@@ -56,17 +55,3 @@ message_by numbers w bytes = field (table (node_value (numbered_by numbers 0 0 w
 -- The message.
 abbrev pub layout_by : List ℕ → Wire → List ℕ → List ℕ
 layout_by numbers w bytes = written_layout array_schema (message_by numbers w bytes)
-
--- ---- what is written
-
--- There are blocks.
-abbrev pub AreSome : List Piece → Type 0
-AreSome [] = ⊥
-AreSome (p ∷ ps) = Unit {0}
-
--- The blocks were written after what a builder had, no link of theirs is left, and the message is not too long.
-pub record AreWritten (old : Built) (ps : List Piece) (new : Built) : Type 0 where
-  pub some : AreSome ps
-  pub blocks : new ≡ with_pieces old ps
-  pub linked : new.left ≡ old.left
-  pub fits : length new.bytes < 2 ^ 31

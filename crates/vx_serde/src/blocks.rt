@@ -1,11 +1,10 @@
 //! Blocks of a message that hang on a node.
 
 ghost use Rattle.std.specs.Prelude.{◌≡◌, ◌%◌, ◌<◌, ◌^◌, ◌∷◌, [], true, false, length, OnOk, IfErr};
-ghost use Rattle.vx_flat.specs.Building.{Takes, IsStopped};
+ghost use Rattle.vx_flat.specs.Building.{AreWritten, Takes, IsStopped};
 ghost use Rattle.vx_flat.specs.Pieces.{elements_piece, default_entry, is_width};
 ghost use Rattle.vx_trees.specs.Rose.{label};
 ghost use Rattle.vx_scalar_wire.specs.StatsTable.{AreStorable, stats_pieces};
-ghost use Rattle.vx_serde.specs.Blocks.{AreWritten};
 ghost use Rattle.vx_serde.specs.WritingSteps.{builder_refusal};
 
 use crate::node_ref::NodeRef;

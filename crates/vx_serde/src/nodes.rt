@@ -5,7 +5,7 @@ ghost use Rattle.std.specs.Prelude.{◌≡◌, ◌+◌, ◌≤◌, ◌<◌, ◌^
 ghost use Rattle.vx_trees.specs.Everywhere.{EverywhereBelow};
 ghost use Rattle.vx_trees.specs.Rose.{label, below, roses_of};
 ghost use Rattle.vx_trees.specs.Walks.{nodes, nodes_of, gathered_below};
-ghost use Rattle.vx_flat.specs.Building.{Takes, IsStopped};
+ghost use Rattle.vx_flat.specs.Building.{AreWritten, Takes, IsStopped};
 ghost use Rattle.vx_array_tree.specs.Sound.{metadata_in};
 ghost use Rattle.vx_array_tree.specs.Table.{buffers_of};
 ghost use Rattle.vx_wire_tree.specs.Fields.{told};
@@ -14,7 +14,7 @@ ghost use Rattle.vx_wire_tree.specs.Session.{SessionMeaning};
 ghost use Rattle.vx_wire_tree.specs.Wire.{buffers_in, buffers_at_node};
 ghost use Rattle.vx_wire_tree.specs.Written.{wire, wires};
 ghost use Rattle.vx_encodings.specs.Messages.{codec, message_bytes};
-ghost use Rattle.vx_serde.specs.Blocks.{node_pieces, children_pieces, AreWritten};
+ghost use Rattle.vx_serde.specs.Blocks.{node_pieces, children_pieces};
 ghost use Rattle.vx_serde.specs.MessageValue.{index_bytes};
 ghost use Rattle.vx_serde.specs.Numbered.{numbers_from};
 

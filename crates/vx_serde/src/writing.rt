@@ -2,7 +2,7 @@
 
 ghost use Rattle.std.specs.Prelude.{◌≡◌, ◌+◌, ◌≤◌, ◌<◌, ◌-◌, ◌^◌, ◌++◌, [], ◌∷◌, Some, false, IsTrue, IsFalse, length, IfOk, IfErr, OnOk};
 ghost use Rattle.std.specs.Int.{w32, to_le_bytes};
-ghost use Rattle.vx_flat.specs.Building.{Takes, IsStopped};
+ghost use Rattle.vx_flat.specs.Building.{AreWritten, Takes, IsStopped};
 ghost use Rattle.vx_flat.specs.IsOf.{IsOf};
 ghost use Rattle.vx_flat.specs.Limits.{limits_to, IsLight};
 ghost use Rattle.vx_flat.specs.Pieces.{pieces};
@@ -21,7 +21,7 @@ ghost use Rattle.vx_encodings.specs.Messages.{codec};
 ghost use Rattle.vx_registry.specs.Meaning.{arrays_meaning};
 ghost use Rattle.vx_buffer.specs.Joined.{joined};
 ghost use Rattle.vx_serde.specs.ArraySchema.{array_schema};
-ghost use Rattle.vx_serde.specs.Blocks.{AreWritten, encodings_in, message_by, layout_by};
+ghost use Rattle.vx_serde.specs.Blocks.{encodings_in, message_by, layout_by};
 ghost use Rattle.vx_serde.specs.Causes.{RefusesArray, RefusesWriting};
 ghost use Rattle.vx_serde.specs.KeptContext.{KeepsContext};
 ghost use Rattle.vx_serde.specs.Limits.{most_levels as levels_by};

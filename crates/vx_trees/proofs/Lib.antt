@@ -1,5 +1,8 @@
 pub mod Lists
 pub mod LawsOfLists
+pub mod LawsOfRoses
+pub mod LawsOfResults
+pub mod LawsOfBytes
 pub mod Counting
 pub mod Gathering
 pub mod Holding

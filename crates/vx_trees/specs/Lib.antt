@@ -5,3 +5,4 @@ pub mod Preorder
 pub mod ReadBack
 pub mod Codes
 pub mod Same
+pub mod Bytes

@@ -8,7 +8,6 @@ mod Judging
 mod LentReaders
 mod OneType
 mod Found
-mod Chains
 mod Members
 mod Weights
 mod Elements

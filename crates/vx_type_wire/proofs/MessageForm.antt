@@ -23,7 +23,8 @@ use Rattle.vx_types.specs.Kind.{Kind, null, boolean, primitive, decimal, utf8, b
 use Rattle.vx_types.specs.Numbers.{code_of}
 use Rattle.vx_types.specs.Typ.{Typ, IsType, IsTypeNode}
 use Rattle.vx_type_wire.specs.TypeTable.{flag_of, bit_of, tag_of}
-use Rattle.vx_type_wire.specs.TypeMessage.{type_list, type_lists, int32_of, one_number, one_octets, one_message, first_message, second_message, texts, all_messages, parts_of, in_oneof, type_message, type_messages}
+use Rattle.vx_proto.specs.Value.{one_number, one_octets, one_message}
+use Rattle.vx_type_wire.specs.TypeMessage.{type_list, type_lists, int32_of, first_message, second_message, texts, all_messages, parts_of, in_oneof, type_message, type_messages}
 use Rattle.vx_type_wire.proofs.Members.{flag-small, bit-small}
 
 abbrev pub F : ℕ → Value → Type 0

@@ -1,6 +1,5 @@
 -- What a plain value tells of the type whose message it is.
-use Rattle.std.specs.Prelude.{IfErr, MatchResult}
-use Rattle.std.proofs.Common.{◌≡◌, ◌∙◌, [], ◌∷◌, ◌≤◌, ◌+◌, Option, None, Some, Result, Err, refl, ap, sym, subst, arith}
+use Rattle.std.proofs.Common.{◌≡◌, ◌∙◌, [], ◌∷◌, ◌≤◌, ◌+◌, Option, None, Some, refl, ap, sym, arith}
 use Rattle.std.proofs.lemmas.Option.{none-some, same_Some}
 use Rattle.vx_trees.specs.Walks.{levels}
 use Rattle.vx_proto.specs.Form.{HasForm}
@@ -82,12 +81,6 @@ unknown_value WireLimit s v t m h = never WireLimit s t (λ id bs u n. n) h
 -- A message is of the type that is read of it, and of no other.
 pub the_type : (v w : Value) (t u : Typ) → w ≡ v → type_in 50 w ≡ Some t → levels u ≤ 50 → IsMessageOf v u → t ≡ u
 the_type v w t u q e le m = same_Some t u (sym e ∙ ap (type_in 50) q ∙ reads_message v u le m)
-
-pub at_error : {T : Type 0} (P : TypeWireError → Type 0) (r : Result T TypeWireError) (y e : TypeWireError) → r ≡ Err y → y ≡ e → P e → IfErr r P
-at_error P r y e p q h = subst (λ s. IfErr s P) (sym (p ∙ ap Err q)) h
-
-pub no_memory : {T : Type 0} (P : T → Type 0) (r : Result T TypeWireError) (y e : TypeWireError) → r ≡ Err y → y ≡ e → e ≡ OutOfMemory → MatchResult r P (λ x. x ≡ OutOfMemory)
-no_memory P r y e p q h = subst (λ s. MatchResult s P (λ x. x ≡ OutOfMemory)) (sym (p ∙ ap Err q)) h
 
 -- ---- bytes
 

@@ -27,7 +27,8 @@ use Rattle.vx_types.specs.Numbers.{code_of}
 use Rattle.vx_types.specs.Typ.{Typ}
 use Rattle.vx_type_wire.specs.TypeTable.{flag_of, bit_of}
 use Rattle.vx_type_wire.specs.Reading.{nullability_of, truth_of, ptypes, ptype_of, scale_of}
-use Rattle.vx_type_wire.specs.TypeMessage.{type_members, type_lists, int32_of, one_number, one_octets, one_message, texts, all_messages, in_oneof, type_message, type_messages}
+use Rattle.vx_proto.specs.Value.{one_number, one_octets, one_message}
+use Rattle.vx_type_wire.specs.TypeMessage.{type_members, type_lists, int32_of, texts, all_messages, in_oneof, type_message, type_messages}
 use Rattle.vx_type_wire.specs.MessageReading.{below, byte_of, with_text, texts_in, types_in, nullability_at, truth_at, ptype_at, below_at, scale_at, text_at, bytes_at, texts_at, type_at, types_at}
 use Rattle.vx_type_wire.specs.MessageReading.{plain_in, primitive_in, decimal_in, structure_in, list_in, extension_in, fixed_size_list_in, union_in, map_in, member_in, oneof_in, type_in}
 use Rattle.vx_type_wire.proofs.Sound.{choose, nullability_of-sound, truth_of-sound, found, plain_made, primitive_made, decimal_made, list_made, fixed_size_list_made, structure_made, union_made, map_made, extension_made, more_made}

@@ -9,7 +9,7 @@ use Rattle.vx_proto.specs.declared.schema.Member.{Member}
 use Rattle.vx_proto.specs.Lawful.{is_lawful}
 use Rattle.vx_proto.specs.Reads.{Reads, Cause}
 use Rattle.vx_proto.specs.Repeated.{members, messages}
-use Rattle.vx_proto.specs.Value.{Entry, Value, number, octets, message, slots_of}
+use Rattle.vx_proto.specs.Value.{Entry, Value, octets, one_number, one_octets, one_message}
 use Rattle.vx_types.specs.Kind.{Kind, null, boolean, primitive, decimal, utf8, binary, list, fixed_size_list}
 use Rattle.vx_types.specs.Kind.{structure, union, map, variant, extension}
 use Rattle.vx_types.specs.Typ.{Typ, IsType}
@@ -61,17 +61,6 @@ type_lists_lawful = refl
 abbrev pub int32_of : ℤ → ℕ
 int32_of (pos n) = n
 int32_of (negsuc n) = 2 ^ 64 - 1 - n
-
--- A slot of one number, and one of one text or bytes.
-abbrev pub one_number : ℕ → ℕ → List Entry
-one_number i n = (i, number n) ∷ []
-
-abbrev pub one_octets : ℕ → List ℕ → List Entry
-one_octets i s = (i, octets s) ∷ []
-
--- A slot of one message.
-abbrev pub one_message : ℕ → Value → List Entry
-one_message i v = (i, message (slots_of v)) ∷ []
 
 -- The first and the second of some messages, as a slot.
 abbrev pub first_message : ℕ → List Value → List Entry

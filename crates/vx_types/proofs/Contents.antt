@@ -1,11 +1,8 @@
 -- Bytes and texts in lists.
 use Rattle.std.specs.Prelude.{ℕ, zero, suc, ◌<◌, List, [], ◌∷◌, ◌++◌, length}
 use Rattle.std.proofs.Common.{arith, get_or}
-use Rattle.vx_types.specs.Content.{IsText, AreTexts, AreBytes}
-
-pub bytes_from_index : (bs : List ℕ) → ((i : ℕ) → get_or bs i 0 < 256) → AreBytes bs
-bytes_from_index [] h = tt
-bytes_from_index (b ∷ bs) h = (omega (arith, h zero), bytes_from_index bs (λ i. h (suc i)))
+use Rattle.vx_trees.specs.Bytes.{AreBytes}
+use Rattle.vx_types.specs.Content.{IsText, AreTexts}
 
 pub bytes_within : (bs : List ℕ) → ((i : ℕ) → i < length bs → get_or bs i 0 < 256) → AreBytes bs
 bytes_within [] h = tt

@@ -1,5 +1,5 @@
 -- What the plain parts of a type may be.
-use Rattle.std.specs.Prelude.{ℕ, ℤ, pos, negsuc, ◌≤ℤ◌, ◌≡◌, ◌<◌, ◌≤◌, ◌^◌, List, [], ◌∷◌, IsTrue, AllPairs}
+use Rattle.std.specs.Prelude.{ℕ, ℤ, pos, negsuc, ◌≤ℤ◌, ◌≡◌, ◌≤◌, List, [], ◌∷◌, IsTrue, AllPairs}
 use Rattle.std.specs.Str.{is_utf8}
 
 -- A text is the bytes of characters in UTF-8.
@@ -10,11 +10,6 @@ IsText bs = IsTrue (is_utf8 bs)
 abbrev pub AreTexts : List (List ℕ) → Type 0
 AreTexts [] = Unit {0}
 AreTexts (s ∷ ss) = IsText s × AreTexts ss
-
--- Each of a list of numbers is a byte.
-abbrev pub AreBytes : List ℕ → Type 0
-AreBytes [] = Unit {0}
-AreBytes (b ∷ bs) = (b < 2 ^ 8) × AreBytes bs
 
 -- No two of the numbers, at different places, are equal.
 abbrev pub AreDistinct : List ℕ → Type 0

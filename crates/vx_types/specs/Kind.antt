@@ -82,7 +82,7 @@ restored-stored (extension id bs) = refl
 abbrev coded_nullability : Coded Nullability
 coded_nullability = nullability.the_row.coded
 
-abbrev coded_bytes : Coded (List ℕ)
+abbrev pub coded_bytes : Coded (List ℕ)
 coded_bytes = coded_list coded_ℕ
 
 -- The code by which kinds are told apart.

@@ -1,8 +1,9 @@
 -- What contracts see of the parts of types.
 use Rattle.std.specs.Prelude.{ℕ, Bool, List, ◌+◌, ◌*◌, refl}
-use Rattle.std.specs.Coded.{Coded, code_by, coded×, coded_ℕ, coded_bool, coded_list}
+use Rattle.std.specs.Coded.{Coded, code_by, coded×, coded_bool, coded_list}
 use Rattle.vx_trees.specs.Rose.{roses_of}
 use Rattle.vx_trees.specs.Walks.{nodes, nodes_of}
+use Rattle.vx_types.specs.Kind.{coded_bytes}
 use Rattle.vx_types.specs.Typ.{Typ, typ_code}
 
 -- The names of a structure's fields, and their types in the same order.
@@ -27,9 +28,6 @@ pub record Ext : Type 0 where
   pub id : List ℕ
   pub metadata : List ℕ
   pub storage : Typ
-
-abbrev coded_bytes : Coded (List ℕ)
-coded_bytes = coded_list coded_ℕ
 
 -- Each record is stored as its parts.
 abbrev pub fields_code : Coded Fields

@@ -4,7 +4,8 @@ use Rattle.std.specs.Coded.{Coded}
 use Rattle.vx_trees.specs.Rose.{Rose, Roses, count, roses_of}
 use Rattle.vx_trees.specs.Everywhere.{Everywhere, EverywhereBelow}
 use Rattle.vx_trees.specs.Codes.{coded_rose}
-use Rattle.vx_types.specs.Content.{IsText, AreTexts, AreBytes, AreDistinct, IsDecimal}
+use Rattle.vx_trees.specs.Bytes.{AreBytes}
+use Rattle.vx_types.specs.Content.{IsText, AreTexts, AreDistinct, IsDecimal}
 use Rattle.vx_types.specs.Kind.{Kind, null, boolean, primitive, decimal, utf8, binary, list, fixed_size_list, structure, union, map, variant, extension, kind_code}
 
 -- A type is a tree: a kind, and the types within it.

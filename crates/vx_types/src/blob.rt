@@ -1,7 +1,7 @@
 //! Plain bytes.
 
 ghost use Rattle.std.specs.Prelude.{◌≡◌, ◌==◌, IfOk, IsOkUnless, bytes_eq, length};
-ghost use Rattle.vx_types.specs.Content.{AreBytes};
+ghost use Rattle.vx_trees.specs.Bytes.{AreBytes};
 ghost use Rattle.std.specs.Cmp.{partial_equiv_from_equiv};
 ghost use Rattle.std.specs.Cmp.Lexicographic.{nat_list_eq_equiv};
 
@@ -18,7 +18,7 @@ pub struct Blob {
 
 impl Model for Blob {
     ghost use Rattle.std.specs.Prelude.{List, ℕ};
-    ghost use Rattle.vx_types.specs.Content.{AreBytes};
+    ghost use Rattle.vx_trees.specs.Bytes.{AreBytes};
 
     ghost Value = { List ℕ };
 
@@ -36,7 +36,7 @@ impl Blob {
     }
 
     /// A copy of these bytes.
-    #[tactic(auto, using(crate::proofs::Contents::bytes_from_index))]
+    #[tactic(auto, using(vx_trees::proofs::LawsOfBytes::bytes_from_index))]
     pub fn copy_from(alloc: Global, bytes: &[u8]) -> Result<Blob, TypeError>
         ensures ok { IfOk result (λ blob. blob ≡ bytes.now) }
         ensures err { IsOkUnless result TypeError.OutOfMemory }

@@ -2,7 +2,8 @@
 
 ghost use Rattle.std.specs.Prelude.{◌≡◌, ◌-◌, ◌^◌, IfOk, IsOkUnless, min};
 ghost use Rattle.vx_trees.specs.Walks.{levels};
-ghost use Rattle.vx_types.specs.Content.{IsText, AreBytes};
+ghost use Rattle.vx_trees.specs.Bytes.{AreBytes};
+ghost use Rattle.vx_types.specs.Content.{IsText};
 ghost use Rattle.vx_types.specs.Seen.{typ};
 ghost use Rattle.vx_types.specs.Typ.{IsType};
 ghost use Rattle.vx_types.specs.Words.{with_nullability};
@@ -34,7 +35,8 @@ struct Own {
 
 impl Model for ExtDType {
     ghost use Rattle.std.proofs.Common.{arith};
-    ghost use Rattle.vx_types.specs.Content.{IsText, AreBytes};
+    ghost use Rattle.vx_trees.specs.Bytes.{AreBytes};
+    ghost use Rattle.vx_types.specs.Content.{IsText};
     ghost use Rattle.vx_types.specs.Parts.{Ext, ext_code, ext_size};
 
     ghost Value = { Ext };

@@ -1,7 +1,7 @@
 //! The tags of a union.
 
 ghost use Rattle.std.specs.Prelude.{◌≡◌, ◌==◌, IfOk, IsOkUnless, length};
-ghost use Rattle.vx_types.specs.Content.{AreBytes};
+ghost use Rattle.vx_trees.specs.Bytes.{AreBytes};
 
 use crate::error::TypeError;
 use std::alloc::Global;
@@ -16,7 +16,7 @@ pub struct TypeIds {
 
 impl Model for TypeIds {
     ghost use Rattle.std.specs.Prelude.{List, ℕ};
-    ghost use Rattle.vx_types.specs.Content.{AreBytes};
+    ghost use Rattle.vx_trees.specs.Bytes.{AreBytes};
 
     ghost Value = { List ℕ };
 
@@ -27,7 +27,7 @@ impl Model for TypeIds {
 
 impl TypeIds {
     /// A copy of these tags.
-    #[tactic(auto, using(crate::proofs::Contents::bytes_from_index))]
+    #[tactic(auto, using(vx_trees::proofs::LawsOfBytes::bytes_from_index))]
     pub fn copy_from(alloc: Global, ids: &[u8]) -> Result<TypeIds, TypeError>
         ensures ok { IfOk result (λ copy. copy ≡ ids.now) }
         ensures err { IsOkUnless result TypeError.OutOfMemory }

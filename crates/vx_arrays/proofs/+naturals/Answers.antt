@@ -1,7 +1,7 @@
 -- Control rows, as flags and as natural numbers.
 use Rattle.std.proofs.Common.{arith, ap, sym, ◌∙◌, List, Some}
 use Rattle.vx_trees.specs.Rose.{label, roses_of}
-use Rattle.vx_array_tree.specs.Rows.{flag_in}
+use Rattle.vx_types.specs.Value.{flag_in}
 use Rattle.vx_array_tree.specs.Tree.{Tree, row_at}
 use Rattle.vx_types.specs.Seen.{typ}
 use Rattle.vx_types.specs.Value.{Value, natural}

@@ -1,9 +1,9 @@
 //! The blocks of a table of statistics.
 
 ghost use Rattle.std.specs.Prelude.{◌≡◌, ◌<◌, ◌^◌, ◌++◌, ◌∷◌, false, List, length, OnOk, IfErr, IsOk};
-ghost use Rattle.vx_flat.specs.Building.{Built, Link, Takes, Written, IsStopped};
+ghost use Rattle.vx_flat.specs.Building.{Built, IsPartWay, Link, Takes, Written, IsStopped};
 ghost use Rattle.vx_flat.specs.Pieces.{Piece};
-ghost use Rattle.vx_scalar_wire.specs.StatsBlocks.{IsStoredOf, IsAtLink, IsPartWay, vector_pieces, vector_links};
+ghost use Rattle.vx_scalar_wire.specs.StatsBlocks.{IsStoredOf, IsAtLink, vector_pieces, vector_links};
 ghost use Rattle.vx_scalar_wire.specs.StatsSchema.{stats_fields, stats_schema};
 ghost use Rattle.vx_scalar_wire.specs.StatsTable.{IsStorableCount, stats_table, stats_pieces};
 

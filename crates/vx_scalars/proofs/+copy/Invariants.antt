@@ -1,5 +1,5 @@
 use Rattle.std.proofs.Common.{◌≡◌, ◌+◌, take, option_copied}
-use Rattle.vx_scalars.specs.Falls.{value_size, place_size, values_size, slice_size, typed_size, variant_size}
+use Rattle.vx_scalars.specs.Falls.{value_size, ref_size, values_size, slice_size, typed_size, variant_size}
 use Rattle.vx_scalars.specs.Seen.{value_of, seen, all_seen}
 use Rattle.vx_scalars.proofs.+copy.Given as goal
 
@@ -10,7 +10,7 @@ abbrev pub decreases-values::Values::clone : goal.decreases-values::Values::clon
 decreases-values::Values::clone l = values_size l.self.now
 
 abbrev pub decreases-value_ref::ValueRef::clone : goal.decreases-value_ref::ValueRef::clone
-decreases-value_ref::ValueRef::clone l = place_size l.self.now
+decreases-value_ref::ValueRef::clone l = ref_size l.self.now
 
 abbrev pub decreases-variant_ref::VariantRef::clone : goal.decreases-variant_ref::VariantRef::clone
 decreases-variant_ref::VariantRef::clone l = variant_size l.self.now

@@ -7,7 +7,8 @@ use Rattle.vx_types.specs.Seen.{typs}
 use Rattle.vx_types.specs.Typ.{Typ}
 use Rattle.vx_array_tree.specs.Place.{places_at}
 use Rattle.vx_array_tree.specs.Tree.{places}
-use Rattle.vx_arrays.proofs.Columns.{typs-length, none_right, front_and_columns, without_front}
+use Rattle.vx_types.proofs.LawsOfTypes.{typs-length}
+use Rattle.vx_arrays.proofs.Columns.{none_right, front_and_columns, without_front}
 use Rattle.vx_arrays.proofs.Fielded.{columns_decide}
 use Rattle.vx_arrays.proofs.Parted.{first_and_behind}
 use Rattle.vx_arrays.proofs.structs.are_shaped.Goals as goal

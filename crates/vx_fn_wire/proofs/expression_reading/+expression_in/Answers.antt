@@ -10,7 +10,7 @@ use Rattle.vx_fn_wire.specs.contracts.expression_reading.expression_in.{dyn-1-gh
 use Rattle.vx_fn_wire.specs.declared.error.FnWireError.TheVariants.{OutOfMemory}
 use Rattle.vx_fn_wire.proofs.ExprParts.{children_formed, child_held, child_form, child_depth, id_found, one_more}
 use Rattle.vx_fn_wire.proofs.ReadExprs.{whole_read, whole_unread, child_unread}
-use Rattle.vx_fn_wire.proofs.ReadNodes.{handed_on}
+use Rattle.vx_trees.proofs.LawsOfResults.{at_error}
 use Rattle.vx_fn_wire.proofs.expression_reading.+expression_in.Goals as goal
 
 pub unreachable-requires : goal.unreachable-requires
@@ -35,7 +35,7 @@ returns-in_err-expression_in-clause-cause g t c =
     let registry = scalars_meaning (λ b. ((dyn-1-ghosts g.dyn-1).0.entry b.vtable).1.scalar_of b.value) c.args.session.now in
     let v = value_view c.args.slots.now in
     let e = c.in_err-expression_in.field-0.0 in
-    handed_on c.from_residual.result p.0 e (λ x. (x ≡ OutOfMemory) ⊎ IsUnreadExpr registry c.args.unknown x v) p.1 p.2
+    at_error c.from_residual.result p.0 e (λ x. (x ≡ OutOfMemory) ⊎ IsUnreadExpr registry c.args.unknown x v) p.1 p.2
     (child_unread registry c.args.unknown e v c.entries_at-element-items.result.now c.loop-element.element-index c.loop-element-item.result (value_view c.in-Some.child.now) c.requires c.entries_at-element-items.ensures
     c.loop-element-test.true c.loop-element-item.is c.in-Some.ensures c.in_err-expression_in.ensures.cause)
 

@@ -9,7 +9,8 @@ use Rattle.vx_fn_wire.specs.declared.arity.Arity.{Arity}
 use Rattle.vx_fn_wire.specs.declared.error.FnWireError.TheVariants.{OutOfMemory}
 use Rattle.vx_fn_wire.specs.declared.scalar_fn.ScalarFn.{ScalarFn}
 use Rattle.vx_fn_wire.proofs.Lists.{call_formed}
-use Rattle.vx_fn_wire.proofs.ReadNodes.{handed_on, no_function, not_admitted, call_node}
+use Rattle.vx_trees.proofs.LawsOfResults.{at_error}
+use Rattle.vx_fn_wire.proofs.ReadNodes.{no_function, not_admitted, call_node}
 use Rattle.vx_fn_wire.proofs.expression_reading.node_of.Goals as goal
 
 pub returns-in_err-function-clause-cause : goal.returns-in_err-function-clause-cause
@@ -17,7 +18,7 @@ returns-in_err-function-clause-cause g c =
     let p = err_from_is_err_and c.from_residual-in_err-function.result c.from_residual-in_err-function.ensures.1 in
     let registry = scalars_meaning (λ b. ((dyn-1-ghosts g.dyn-1).0.entry b.vtable).1.scalar_of b.value) c.args.session.now in
     let n = length c.args.children in
-    handed_on c.from_residual-in_err-function.result p.0 c.in_err-function.field-0.0 (λ e. (e ≡ OutOfMemory) ⊎ IsNoHead registry c.args.unknown e c.args.id.now c.args.metadata.now n) p.1 p.2
+    at_error c.from_residual-in_err-function.result p.0 c.in_err-function.field-0.0 (λ e. (e ≡ OutOfMemory) ⊎ IsNoHead registry c.args.unknown e c.args.id.now c.args.metadata.now n) p.1 p.2
     (no_function registry c.args.unknown c.in_err-function.field-0.0 c.args.id.now c.in_ok-id.id c.args.metadata.now n c.in_ok-id.ensures.ok c.if-eq.ensures c.in_err-function.ensures.cause)
 
 pub returns-then-not-admits-clause-cause : goal.returns-then-not-admits-clause-cause

@@ -1,5 +1,5 @@
 use Rattle.std.proofs.Common.{arith}
-use Rattle.vx_types.proofs.LawsOfTypes.{bytes_from_index}
+use Rattle.vx_trees.proofs.LawsOfBytes.{bytes_from_index}
 use Rattle.vx_scalar_wire.proofs.writing.octets_slot.Goals as goal
 
 pub returns-in_err-element-clause-bytes : goal.returns-in_err-element-clause-bytes

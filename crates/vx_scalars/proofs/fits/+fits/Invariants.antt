@@ -3,7 +3,7 @@ use Rattle.vx_trees.specs.Rose.{roses_of}
 use Rattle.vx_types.specs.Fits.{EachFits, FitBy}
 use Rattle.vx_types.specs.Seen.{typ, typs}
 use Rattle.vx_types.specs.Words.{entries}
-use Rattle.vx_scalars.specs.Falls.{value_size, place_size, values_size, slice_size}
+use Rattle.vx_scalars.specs.Falls.{value_size, ref_size, values_size, slice_size}
 use Rattle.vx_scalars.specs.Seen.{seen, all_seen}
 use Rattle.vx_scalars.proofs.fits.+fits.Given as goal
 
@@ -26,7 +26,7 @@ abbrev pub decreases-is_entry : goal.decreases-is_entry
 decreases-is_entry l = value_size (seen (option_copied l.value))
 
 abbrev pub decreases-fits_member : goal.decreases-fits_member
-decreases-fits_member l = place_size l.value.now
+decreases-fits_member l = ref_size l.value.now
 
 abbrev pub invariant-each_fits-loop-value : goal.invariant-each_fits-loop-value
 invariant-each_fits-loop-value l = EachFits (roses_of (all_seen (take l.value-index l.values))) (typ l.dtype)

@@ -11,10 +11,12 @@ use Rattle.vx_trees.proofs.Lists.{roses_of-roses_list}
 use Rattle.vx_wire_tree.specs.Wire.{buffers_in}
 use Rattle.vx_wire_tree.specs.Written.{wire, wires}
 use Rattle.vx_encodings.specs.Messages.{codec}
-use Rattle.vx_serde.specs.Blocks.{AreWritten, node_pieces, children_pieces}
+use Rattle.vx_flat.specs.Building.{AreWritten}
+use Rattle.vx_serde.specs.Blocks.{node_pieces, children_pieces}
 use Rattle.vx_wire_tree.specs.ReadBack.{IsStorableNode}
 use Rattle.vx_scalar_wire.specs.StatsTable.{stats_pieces}
-use Rattle.vx_serde.proofs.Chains.{IsPartWay, begun, gone_on, cut_short, refused, next_is, idle, awaited, ended, next_left}
+use Rattle.vx_flat.specs.Building.{IsPartWay}
+use Rattle.vx_flat.proofs.LawsOfLinks.{begun, gone_on, cut_short, refused, next_is, idle, awaited, ended, next_left}
 use Rattle.vx_serde.proofs.Gathered.{everywhere-next}
 use Rattle.vx_serde.proofs.NodePieces.{node_piece, rows_of, rows-next, rows-split, whole-bytes}
 use Rattle.vx_serde.proofs.NodeSteps.{nothing-written, buffers-split, node-is, counted-below, counted-list, nodes-split, nodes-up_to, nodes-all_of, wired-first, buffers-parts, buffers-up_to, buffers-all_of, children-whole, stored-node, stored-all}

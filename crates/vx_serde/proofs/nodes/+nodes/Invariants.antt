@@ -8,7 +8,7 @@ use Rattle.vx_trees.specs.Walks.{nodes, nodes_of}
 use Rattle.vx_wire_tree.specs.ReadBack.{IsStorableNode}
 use Rattle.vx_wire_tree.specs.Session.{SessionMeaning}
 use Rattle.vx_encodings.specs.Messages.{codec}
-use Rattle.vx_serde.proofs.Chains.{IsPartWay}
+use Rattle.vx_flat.specs.Building.{IsPartWay}
 use Rattle.vx_serde.proofs.NodePieces.{rows_of, buffers_below}
 use Rattle.vx_serde.proofs.WiredNodes.{wired}
 use Rattle.vx_serde.proofs.nodes.+nodes.Given as goal

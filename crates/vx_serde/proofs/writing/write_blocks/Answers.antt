@@ -5,8 +5,9 @@ use Rattle.vx_flat.specs.Pieces.{elements_piece, pieces}
 use Rattle.vx_wire_tree.specs.Written.{wire}
 use Rattle.vx_encodings.specs.Messages.{codec}
 use Rattle.vx_serde.specs.ArraySchema.{array_schema}
-use Rattle.vx_serde.specs.Blocks.{AreWritten, node_pieces, message_by}
-use Rattle.vx_serde.proofs.Chains.{begun, gone_on, cut_short, refused, next_is, idle, awaited, ended}
+use Rattle.vx_flat.specs.Building.{AreWritten}
+use Rattle.vx_serde.specs.Blocks.{node_pieces, message_by}
+use Rattle.vx_flat.proofs.LawsOfLinks.{begun, gone_on, cut_short, refused, next_is, idle, awaited, ended}
 use Rattle.vx_serde.proofs.MessageBlocks.{message_piece, root_link, descriptors_link, message-blocks, whole-descriptors}
 use Rattle.vx_serde.proofs.WiredNodes.{no_session}
 use Rattle.vx_serde.proofs.writing.write_blocks.Goals as goal

@@ -9,7 +9,8 @@ use Rattle.vx_wire_tree.specs.ReadBack.{HasStorableStats}
 use Rattle.vx_wire_tree.specs.Written.{wire}
 use Rattle.vx_encodings.specs.Messages.{codec}
 use Rattle.vx_serde.specs.ArraySchema.{array_schema}
-use Rattle.vx_serde.specs.Blocks.{AreWritten, message_by, layout_by}
+use Rattle.vx_flat.specs.Building.{AreWritten}
+use Rattle.vx_serde.specs.Blocks.{message_by, layout_by}
 use Rattle.vx_serde.proofs.MessageBlocks.{layout-written, message-shown, blocks-refused, too-many, heavy, some-written, works-written, idle-written, if_ok, if_ok-same, if_err, ok_of}
 use Rattle.vx_serde.proofs.WiredNodes.{no_session, wired-nodes}
 use Rattle.vx_serde.proofs.WiredStats.{wire-told}

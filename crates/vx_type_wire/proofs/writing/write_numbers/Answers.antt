@@ -1,6 +1,6 @@
 use Rattle.std.proofs.Common.{[], refl}
 use Rattle.vx_flat.specs.Pieces.{table_piece}
-use Rattle.vx_type_wire.proofs.Chains.{begun, ended}
+use Rattle.vx_flat.proofs.LawsOfLinks.{begun, ended}
 use Rattle.vx_type_wire.proofs.writing.write_numbers.Goals as goal
 
 pub returns-clause-written : goal.returns-clause-written

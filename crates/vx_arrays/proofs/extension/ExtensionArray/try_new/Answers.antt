@@ -3,8 +3,9 @@ use Rattle.std.proofs.Common.{◌≡◌, IfOk, IfErr, subst}
 use Rattle.vx_array_tree.specs.Sound.{IsSound}
 use Rattle.vx_array_tree.specs.Tree.{Tree}
 use Rattle.vx_arrays.specs.Refused.{IsUnmade, IsOkOrMemory}
-use Rattle.vx_arrays.proofs.Stored.{tree_is, only_pushed}
+use Rattle.vx_arrays.proofs.Stored.{tree_is}
 use Rattle.vx_arrays.proofs.extension.ExtensionArray.try_new.Goals as goal
+use Rattle.vx_trees.proofs.LawsOfRoses.{only_pushed}
 
 pub returns-clause-ok : goal.returns-clause-ok
 returns-clause-ok c =

@@ -5,7 +5,7 @@ use Rattle.vx_proto.specs.Value.{value_view}
 use Rattle.vx_proto.specs.Reads.{Reads}
 use Rattle.vx_proto.specs.Reading.{decoded}
 use Rattle.vx_proto.specs.Written.{nested}
-use Rattle.vx_proto.proofs.Formed.{from_index}
+use Rattle.vx_trees.proofs.LawsOfBytes.{bytes_from_index}
 use Rattle.vx_proto.proofs.LawsOfMessages.{where_ok, ok_unless, caused_unless, fails_caused, fails_only, is_read, reads_given, same_ok, read_uncaused, read_formed, read_nests, refused_deep, read_shallow}
 use Rattle.vx_proto.proofs.message.Message.decode.Goals as goal
 
@@ -56,7 +56,7 @@ from_value-requires g c =
     let place = g.Self.Message.place in
     let slots = value_view c.in_ok-slots.slots.items in
     let given : decoded schema 100 place c.args.bytes.now ≡ Ok slots = rw (sym c.lists.ensures, sym c.schema_place.ensures) c.in_ok-slots.ensures in
-    read_formed schema place c.args.bytes.now slots g.met.Self.Message.lawful (from_index c.args.bytes.now (λ i. omega (arith, c.type_inv.bytes i))) (is_read schema place c.args.bytes.now slots given)
+    read_formed schema place c.args.bytes.now slots g.met.Self.Message.lawful (bytes_from_index c.args.bytes.now (λ i. omega (arith, c.type_inv.bytes i))) (is_read schema place c.args.bytes.now slots given)
 
 pub returns-clause-nests : goal.returns-clause-nests
 returns-clause-nests g c =
@@ -64,7 +64,7 @@ returns-clause-nests g c =
     let place = g.Self.Message.place in
     let slots = value_view c.in_ok-slots.slots.items in
     let given : decoded schema 100 place c.args.bytes.now ≡ Ok slots = rw (sym c.lists.ensures, sym c.schema_place.ensures) c.in_ok-slots.ensures in
-    let nests : nested slots ≤ 100 = read_nests schema place c.args.bytes.now slots g.met.Self.Message.lawful (from_index c.args.bytes.now (λ i. omega (arith, c.type_inv.bytes i))) (is_read schema place c.args.bytes.now slots given) in
+    let nests : nested slots ≤ 100 = read_nests schema place c.args.bytes.now slots g.met.Self.Message.lawful (bytes_from_index c.args.bytes.now (λ i. omega (arith, c.type_inv.bytes i))) (is_read schema place c.args.bytes.now slots given) in
     where_ok c.from_value.result _ _ c.from_value.ensures.same (λ m same. subst (λ v. nested v ≤ 100) (sym same) nests)
 
 pub returns-in_err-slots-clause-deep : goal.returns-in_err-slots-clause-deep

@@ -6,7 +6,7 @@ use Rattle.vx_scalars.specs.Stats.{told, told_at}
 use Rattle.vx_scalars.specs.declared.stat.Stat.{Stat}
 use Rattle.vx_scalars.specs.declared.stat.Stat.TheVariants.{Min}
 use Rattle.vx_scalar_wire.specs.declared.error.ScalarWireError.TheVariants.{OutOfMemory}
-use Rattle.vx_scalar_wire.proofs.Chains.{at_match}
+use Rattle.vx_trees.proofs.LawsOfResults.{at_match}
 use Rattle.vx_scalar_wire.proofs.StatsRead.{one_more, all_shown, stats_fit, stats_one}
 use Rattle.vx_scalar_wire.proofs.stats.StatsSetStatsSetExt.from_flatbuffer.Goals as goal
 

@@ -1,7 +1,8 @@
 use Rattle.std.proofs.lemmas.Result.{err_from_is_err_and}
 use Rattle.vx_flat.specs.Building.{Keeps}
 use Rattle.vx_scalar_wire.specs.StatsTable.{stats_pieces}
-use Rattle.vx_scalar_wire.proofs.Chains.{nothing_kept, on_error}
+use Rattle.vx_trees.proofs.LawsOfResults.{on_error}
+use Rattle.vx_scalar_wire.proofs.Chains.{nothing_kept}
 use Rattle.vx_scalar_wire.proofs.stats.StatsSetStatsSetExt.write_flatbuffer.Goals as goal
 
 pub returns-in_err-value_bytes-clause-kept : goal.returns-in_err-value_bytes-clause-kept

@@ -5,7 +5,7 @@ use Rattle.vx_type_wire.specs.Known.{no_readers}
 use Rattle.vx_types.specs.Seen.{typ}
 use Rattle.vx_scalar_wire.specs.StatsUnread.{IsRefusedStat}
 use Rattle.vx_scalar_wire.specs.declared.error.ScalarWireError.TheVariants.{OutOfMemory}
-use Rattle.vx_scalar_wire.proofs.Chains.{at_error}
+use Rattle.vx_trees.proofs.LawsOfResults.{at_error}
 use Rattle.vx_scalar_wire.proofs.StatsValues.{read_some, value_told, bytes_refused, told_read, told_fits}
 use Rattle.vx_scalar_wire.proofs.stats.reading.value_of_type.Goals as goal
 

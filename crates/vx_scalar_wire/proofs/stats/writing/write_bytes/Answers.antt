@@ -1,9 +1,10 @@
 use Rattle.std.proofs.Common.{◌∙◌, ◌++◌, ◌∷◌, ℕ, List, Some, ap, sym}
 use Rattle.std.proofs.lemmas.Result.{err_from_is_err_and}
-use Rattle.vx_flat.specs.Building.{Built, Link, IsStopped}
+use Rattle.vx_flat.specs.Building.{Built, IsPartWay, Link, IsStopped}
 use Rattle.vx_flat.specs.Pieces.{Piece}
-use Rattle.vx_scalar_wire.specs.StatsBlocks.{IsPartWay, vector_pieces, vector_links}
-use Rattle.vx_scalar_wire.proofs.Chains.{at_error, at_idle, went_on, went_wrong}
+use Rattle.vx_scalar_wire.specs.StatsBlocks.{vector_pieces, vector_links}
+use Rattle.vx_trees.proofs.LawsOfResults.{at_error}
+use Rattle.vx_scalar_wire.proofs.Chains.{at_idle, went_on, went_wrong}
 use Rattle.vx_scalar_wire.proofs.stats.writing.write_bytes.Goals as goal
 
 pub link-requires-clause-idle : goal.link-requires-clause-idle

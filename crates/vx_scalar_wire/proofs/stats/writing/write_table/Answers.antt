@@ -3,7 +3,7 @@ use Rattle.std.proofs.lemmas.Result.{err_from_is_err_and}
 use Rattle.vx_flat.specs.Building.{IsStopped}
 use Rattle.vx_scalar_wire.specs.StatsBlocks.{vector_pieces}
 use Rattle.vx_scalar_wire.specs.StatsTable.{stats_pieces}
-use Rattle.vx_scalar_wire.proofs.Chains.{at_error}
+use Rattle.vx_trees.proofs.LawsOfResults.{at_error}
 use Rattle.vx_scalar_wire.proofs.StatsWays.{head, last_links, later_links, taken, refused_first, at_first, stopped_early, stopped_late, all_written}
 use Rattle.vx_scalar_wire.proofs.stats.writing.write_table.Goals as goal
 

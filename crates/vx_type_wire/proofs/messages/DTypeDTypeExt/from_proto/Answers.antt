@@ -1,14 +1,16 @@
 use Rattle.std.proofs.Common.{◌≡◌, ap, sym, subst, ◌∙◌}
 use Rattle.std.proofs.lemmas.Result.{err_from_is_err_and}
+use Rattle.vx_trees.proofs.LawsOfResults.{at_error, at_match}
 use Rattle.vx_proto.specs.Value.{value_view}
 use Rattle.vx_types.specs.Seen.{typ}
 use Rattle.vx_types.specs.declared.dtype.DType.{DType}
+use Rattle.vx_type_wire.specs.declared.error.TypeWireError.TheVariants.{OutOfMemory}
 use Rattle.vx_type_wire.specs.Known.{IsKnown}
 use Rattle.vx_type_wire.specs.MessageReading.{type_in}
 use Rattle.vx_type_wire.specs.Session.{ext_meaning}
 use Rattle.vx_type_wire.specs.TypeMessage.{IsUnreadValue}
 use Rattle.vx_type_wire.proofs.OneType.{known_or}
-use Rattle.vx_type_wire.proofs.MessageFound.{no_default, reads_message, shows_message, only_memory, unread_value, unknown_value, the_type, at_error, no_memory}
+use Rattle.vx_type_wire.proofs.MessageFound.{no_default, reads_message, shows_message, only_memory, unread_value, unknown_value, the_type}
 use Rattle.vx_type_wire.proofs.messages.DTypeDTypeExt.from_proto.Goals as goal
 
 pub returns-in_default-clause-cause : goal.returns-in_default-clause-cause
@@ -22,14 +24,14 @@ returns-in_err-found-clause-cause g c =
     let p = err_from_is_err_and c.from_residual.result c.from_residual.ensures.1 in
     let s = ext_meaning (λ b. (goal.ExtPlugin-dyn g (b.vtable, b.value)).accepted b.value) c.args.readers.now in
     let e = c.in_err-found.field-0.0 in
-    at_error (λ x. IsUnreadValue x s c.args.message.now) c.from_residual.result p.0 e p.1 p.2
+    at_error c.from_residual.result p.0 e (λ x. IsUnreadValue x s c.args.message.now) p.1 p.2
     (unread_value e s c.args.message.now (value_view c.in-Some.slots.now) c.in-Some.ensures.value c.in_err-found.ensures)
 
 pub returns-in_err-found-clause-complete : goal.returns-in_err-found-clause-complete
 returns-in_err-found-clause-complete g c = λ t le r.
     let p = err_from_is_err_and c.from_residual.result c.from_residual.ensures.1 in
     let e = c.in_err-found.field-0.0 in
-    no_memory (λ (d : DType). typ d ≡ t) c.from_residual.result p.0 e p.1 p.2
+    at_match c.from_residual.result p.0 e (λ (d : DType). typ d ≡ t) (λ x. x ≡ OutOfMemory) p.1 p.2
     (only_memory e (type_in 50 (value_view c.in-Some.slots.now)) t (ap (type_in 50) c.in-Some.ensures.value ∙ reads_message c.args.message.now t le r.shows) c.in_err-found.ensures)
 
 pub returns-in_err-judge-clause-cause : goal.returns-in_err-judge-clause-cause
@@ -39,7 +41,7 @@ returns-in_err-judge-clause-cause g c =
     let e = c.in_err-judge.field-0.0 in
     let m = c.args.message.now in
     let t = typ c.in_ok-found.found in
-    at_error (λ x. IsUnreadValue x s m) c.from_residual-in_err-judge.result p.0 e p.1 p.2
+    at_error c.from_residual-in_err-judge.result p.0 e (λ x. IsUnreadValue x s m) p.1 p.2
     (unknown_value e s m t (shows_message m (value_view c.in-Some.slots.now) t c.in-Some.ensures.form c.in-Some.ensures.value c.in_ok-found.ensures c.in_err-judge.ensures.is_type) c.in_err-judge.ensures.cause)
 
 pub returns-in_err-judge-clause-complete : goal.returns-in_err-judge-clause-complete

@@ -1,6 +1,7 @@
 use Rattle.std.proofs.Common.{sym, subst}
 use Rattle.std.proofs.lemmas.Str.{is_utf8-from_IsUtf8, IsUtf8-string_bytes}
-use Rattle.vx_types.specs.Content.{IsText, AreBytes}
+use Rattle.vx_trees.specs.Bytes.{AreBytes}
+use Rattle.vx_types.specs.Content.{IsText}
 use Rattle.vx_types.specs.declared.ext.Own.{Own}
 use Rattle.vx_types.proofs.ext.ExtDType.new.Goals as goal
 

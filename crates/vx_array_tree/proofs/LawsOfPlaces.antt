@@ -1,10 +1,30 @@
--- Places behind that of a validity.
+-- Places: how many a plan gives, and whether that of a validity stands in front of them.
 use Rattle.std.proofs.Common.{ℕ, zero, suc, ◌≡◌, List, [], ◌∷◌, Option, Some, None, option_map, refl, sym, ap, ◌∙◌, inl, inr, length}
 use Rattle.std.proofs.lemmas.Option.{same_Some}
 use Rattle.std.specs.Prelude.{◌⊎◌}
-use Rattle.vx_array_tree.specs.Place.{Place, exactly, behind_validity, validity_place}
+use Rattle.vx_trees.specs.Rose.{Roses, end, more, count}
+use Rattle.vx_types.specs.Kind.{Kind}
+use Rattle.vx_array_tree.specs.Place.{Place, exactly, behind_validity, validity_place, places_at}
+use Rattle.vx_array_tree.specs.Tree.{Trees, places, rows_below}
 use Rattle.vx_array_tree.proofs.Options.{mapped}
 use Rattle.vx_array_tree.proofs.Plans.{exactly_is}
+
+-- ---- how many there are
+
+-- There are as many places as types, as children, and as children with rows.
+pub places_length : (ds : Roses Kind) (n : ℕ) → length (places_at ds n) ≡ count ds
+places_length end n = refl
+places_length (more d ds) n = ap (λ k. suc k) (places_length ds n)
+
+pub places_count : (ts : Trees) → length (places ts) ≡ count ts
+places_count end = refl
+places_count (more t ts) = ap (λ k. suc k) (places_count ts)
+
+pub rows_count : (ts : Trees) → length (rows_below ts) ≡ count ts
+rows_count end = refl
+rows_count (more t ts) = ap (λ k. suc k) (rows_count ts)
+
+-- ---- exactly so many, or one more behind a validity
 
 pub behind_some : (ps : List Place) (n k : ℕ) (qs : List Place) → exactly ps k ≡ Some qs → behind_validity ps n k ≡ Some qs
 behind_some ps n k qs e = rw (e, behind_validity) refl

@@ -1,17 +1,11 @@
--- A builder that goes on from link to link of a block.
+-- A builder that goes on from link to link of a block: for the proofs of other crates.
 use Rattle.std.proofs.Common.{◌≡◌, ◌∙◌, ◌<◌, ◌^◌, false, ℕ, ◌+◌, ◌-◌, List, [], ◌∷◌, ◌++◌, length, None, ap, sym, subst, refl}
 use Rattle.vx_flat.specs.declared.error.FlatError.{FlatError}
 use Rattle.vx_flat.specs.Building.{Built, Link, AreLeft, with_piece, with_pieces, waiting, links_of, later_links, next_link}
-use Rattle.vx_flat.specs.Building.{IsNext, IsAwaited, Takes, IsRefused, IsStopped, element_links}
+use Rattle.vx_flat.specs.Building.{AreWritten, IsNext, IsAwaited, IsPartWay, Takes, IsRefused, IsStopped, element_links}
 use Rattle.vx_flat.specs.Pieces.{Piece, links_piece}
 use Rattle.vx_flat.specs.declared.builder.piece.LinkKind.{LinkKind}
 use Rattle.vx_flat.proofs.LawsOfBuilding.{with_pieces-runs, failed-with_pieces, waits-with_pieces, left-with_piece, stopped-first, stopped-later, element_links-next}
-use Rattle.vx_serde.specs.Blocks.{AreWritten}
-
--- The block p was written after b, with the blocks ps of what hangs on it; its links ls are left.
-pub record IsPartWay (b : Built) (p : Piece) (ls : List Link) (ps : List Piece) (now : Built) : Type 0 where
-  pub same : now ≡ with_pieces b (p ∷ ps)
-  pub left : AreLeft ls now.left b.left
 
 -- After the block itself.
 pub begun : (b now : Built) (p q : Piece) (ls : List Link) → now ≡ with_piece b q → q ≡ p → links_of b.count p ≡ ls → IsPartWay b p ls [] now
