@@ -13,7 +13,7 @@ use Rattle.vx_array_tree.specs.Sound.{IsSound}
 use Rattle.vx_array_tree.specs.Tree.{with_stats}
 use Rattle.vx_array_tree.proofs.Built.{stats_sound}
 use Rattle.vx_array_tree_tests.proofs.Samples.{number_type, numbers, flag, i32, count, float, told_of_numbers, told_numbers, summed, told_values, days, words}
-use Rattle.vx_array_tree_tests.proofs.SoundSamples.{numbers_sound}
+use Rattle.vx_array_tree_tests.proofs.SoundSamples.{numbers_sound, days_sound}
 
 -- ---- which fit
 
@@ -43,8 +43,22 @@ null_least : IsSound (with_stats (least (lone V.null)) numbers) → ⊥
 null_least s = let x : true ≡ false = (s.0.stats Min).1 in absurd (cc)
 
 -- The least value of an extension is of its storage's type, and it has no sum.
-day_least : IsSound (with_stats (record no_stats { total = Exact (i32 1) }) days) → ⊥
-day_least s = s.0.stats Sum
+day_fits : FitStats (label days).dtype (least (i32 1))
+day_fits Min = ((refl, refl), refl)
+day_fits Max = tt
+day_fits Sum = tt
+day_fits IsSorted = tt
+day_fits IsStrictSorted = tt
+day_fits IsConstant = tt
+day_fits NullCount = tt
+day_fits UncompressedSizeInBytes = tt
+day_fits NaNCount = tt
+
+day_least : IsSound (with_stats (least (i32 1)) days)
+day_least = stats_sound (least (i32 1)) days days_sound day_fits
+
+day_sum : IsSound (with_stats (record no_stats { total = Exact (i32 1) }) days) → ⊥
+day_sum s = s.0.stats Sum
 
 -- Texts have no sum, whatever is told as a bound.
 text_sum : IsSound (with_stats (record no_stats { total = Inexact (count 1) }) words) → ⊥

@@ -246,7 +246,7 @@ unions_sound = (
   (tags_sound, (i32s_sound NonNullable (7 ∷ 8 ∷ 9 ∷ []) refl, (words_sound, (bits_sound 3 7 (omega arith), tt)))),
 )
 
-days_sound : IsSound days
+pub days_sound : IsSound days
 days_sound = (record { fair = tt; planned = refl; allows = tt; takes = tt; holds = tt; controlled = native_controlled _ _ _ one_leaf; content = tt; stats = none_fit _ }, (i32s_sound NonNullable (1 ∷ 2 ∷ 3 ∷ 4 ∷ []) refl, tt))
 
 -- ---- dictionaries

@@ -6,5 +6,6 @@
 //! - `proofs::SoundSamples`: that they are sound;
 //! - `proofs::BrokenSamples`: that each array which breaks one rule is not;
 //! - `proofs::SampleForeigns`: foreign nodes, their rows and parts, where they may stand, and what is read back of them;
+//! - `proofs::SampleStats`: statistics that fit or do not, and what is read back of them;
 //! - `proofs::SampleMerges`: typed values over variants.
 #![tactic(auto)]
