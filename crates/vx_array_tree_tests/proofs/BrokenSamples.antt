@@ -1,18 +1,23 @@
 -- Arrays that break one rule each are not sound.
-use Rattle.std.proofs.Common.{ℕ, ◌≡◌, List, [], ◌∷◌, Option, Some, None, refl, ap, arith, false, true, codes}
+use Rattle.std.proofs.Common.{ℕ, ◌≡◌, List, [], ◌∷◌, Option, Some, None, Bool, refl, ap, arith, false, true, codes}
 use Rattle.std.proofs.lemmas.Option.{none-some}
 use Rattle.std.specs.Str.{is_utf8, chars}
 use lib.Utf8.{encode}
+use Rattle.vx_trees.specs.Rose.{node}
+use Rattle.vx_types.specs.Kind as K
+use Rattle.vx_types.specs.Typ.{Typ}
+use Rattle.vx_types.specs.Words.{nullability}
+use Rattle.vx_types.specs.declared.nullability.Nullability.{Nullability}
 use Rattle.vx_types.specs.declared.nullability.Nullability.TheVariants.{Nullable, NonNullable}
 use Rattle.vx_types.specs.declared.ptype.PType.TheVariants as P
 use Rattle.vx_types.specs.declared.decimal.DecimalType.TheVariants as D
 use Rattle.vx_array_tree.specs.Body as B
 use Rattle.vx_array_tree.specs.Encoding as E
 use Rattle.vx_array_tree.specs.Metadata as M
-use Rattle.vx_array_tree.specs.Place.{Place, first_place}
+use Rattle.vx_array_tree.specs.Place.{Place, first_place, second_place}
 use Rattle.vx_array_tree.specs.Sound.{IsSound}
 use Rattle.vx_array_tree.specs.Table.{IsFair}
-use Rattle.vx_array_tree_tests.proofs.Samples.{array, buffer, bits, u8s, u16s, number_type, flag_type, flags, decimals, varbins, texts, dictionary, lists, views, fixed, maps, list_of, entry_type, entry, i32s, unions}
+use Rattle.vx_array_tree_tests.proofs.Samples.{array, buffer, bits, kind, u8s, u16s, number_type, flag_type, variant_type, numbers, unknown_rows, variants_over, variants, typed, flags, decimals, varbins, texts, dictionary, lists, views, fixed, maps, list_of, entry_type, entry, i32s, unions}
 
 not_false : false ≡ true → ⊥
 not_false e = cc
@@ -88,6 +93,42 @@ few_bits s = let x = s.0.holds in absurd (omega (arith, x))
 typed_nulls : IsSound (array (number_type P.I32 Nullable) 3 B.null []) → ⊥
 typed_nulls s = none-some _ s.0.planned
 
+-- ---- variants
+
+abbrev second_len : Option (List Place) → ℕ
+second_len None = 0
+second_len (Some ps) = (second_place ps).len
+
+abbrev first_nullability : Option (List Place) → Nullability
+first_nullability None = Nullable
+first_nullability (Some ps) = nullability (first_place ps).dtype
+
+abbrev is_of_variants : Typ → Bool
+is_of_variants (node (K.variant m) ts) = true
+is_of_variants _ = false
+
+abbrev first_of_variants : Option (List Place) → Bool
+first_of_variants None = false
+first_of_variants (Some ps) = is_of_variants (first_place ps).dtype
+
+-- A typed child of four rows over two variants.
+long_typed : IsSound (variants (numbers ∷ [])) → ⊥
+long_typed s = let x : 2 ≡ 4 = ap second_len s.0.planned in absurd (omega (arith, x))
+
+-- A core that is none of variants, and one that may be null where the variants may not.
+core_of_numbers : IsSound (variants_over Nullable (i32s Nullable (1 ∷ 2 ∷ []) []) []) → ⊥
+core_of_numbers s = let x : true ≡ false = ap first_of_variants s.0.planned in absurd (cc)
+
+null_core : IsSound (variants_over NonNullable (unknown_rows (variant_type Nullable)) []) → ⊥
+null_core s = let x : NonNullable ≡ Nullable = ap first_nullability s.0.planned in absurd (cc)
+
+-- No core, and a child beside the typed one.
+no_core : IsSound (array (variant_type Nullable) 2 B.variant []) → ⊥
+no_core s = none-some _ s.0.planned
+
+two_typed : IsSound (variants (typed ∷ typed ∷ [])) → ⊥
+two_typed s = none-some _ s.0.planned
+
 -- ---- metadata
 
 -- An offset of a whole byte.
@@ -103,3 +144,7 @@ float_offsets f = not_false f
 
 float_sizes : IsFair E.listview (M.listview (record { elements_len = 3; offset_ptype = P.U8; size_ptype = P.F16 })) → ⊥
 float_sizes f = not_false f.sizes
+
+-- A list without a type of its elements.
+no_type : IsFair E.variant (M.variant (Some (kind (K.list NonNullable)))) → ⊥
+no_type f = let x : 0 ≡ 1 = f.0 in absurd (omega (arith, x))

@@ -28,7 +28,7 @@ use Rattle.vx_array_tree.specs.Table.{own_id, buffers_of, plan_of, is_control}
 use Rattle.vx_array_tree.specs.Tree.{Tree, encoding_ids, valid_at, cells, buffers, with_stats}
 use Rattle.vx_array_tree.proofs.CanonLaws.{canon_normal}
 use Rattle.vx_array_tree.proofs.LawsControls.{native_controlled, one_leaf}
-use Rattle.vx_array_tree_tests.proofs.Samples.{array, buffer, bits, number_type, flag_type, text_type, list_of, fixed_type, map_type, entry_type, union_type, first_rows, null, tuple, u16, u8s, u16s, i32s, numbers, words, maps, four, count, told_numbers}
+use Rattle.vx_array_tree_tests.proofs.Samples.{array, buffer, bits, number_type, flag_type, text_type, list_of, fixed_type, map_type, entry_type, union_type, variant_type, first_rows, null, tuple, u16, u8s, u16s, i32s, numbers, words, maps, four, count, told_numbers}
 use Rattle.vx_array_tree_tests.proofs.SoundSamples.{bits_sound, u16s_sound, numbers_sound}
 
 -- ---- samples
@@ -130,9 +130,15 @@ of_pairs = refl
 of_triples : controls E.struct (node (K.structure (codes "a" ∷ codes "b" ∷ codes "c" ∷ []) NonNullable) (more (text_type Nullable) (more (text_type Nullable) (more (text_type Nullable) end)))) ≡ false ∷ false ∷ false ∷ []
 of_triples = refl
 
--- No child of maps, extensions and foreign nodes.
+-- No child of maps, variants, extensions and foreign nodes.
 of_maps : controls E.map map_type ≡ false ∷ false ∷ false ∷ []
 of_maps = refl
+
+of_variants : controls E.variant (variant_type Nullable) ≡ false ∷ false ∷ false ∷ []
+of_variants = refl
+
+of_extensions : controls E.ext (node (K.extension (codes "x.day") []) (more (number_type P.I32 NonNullable) end)) ≡ false ∷ false ∷ false ∷ []
+of_extensions = refl
 
 of_foreigns : controls E.foreign (flag_type Nullable) ≡ false ∷ false ∷ false ∷ []
 of_foreigns = refl
@@ -197,7 +203,7 @@ abbrev bytes_of : Body → List ℕ
 bytes_of (B.foreign x) = x.metadata
 bytes_of _ = codes "m"
 
-abbrev spelled : Spelling
+abbrev pub spelled : Spelling
 spelled h ts = record { id = own_id h.body; metadata = bytes_of h.body; buffers = buffers_of h.body }
 
 -- Such a node over these children, as it is read.

@@ -1,5 +1,5 @@
 -- The rows of each encoding's samples, and how many cells a row takes.
-use Rattle.std.specs.Prelude.{◌≡◌, List, [], ◌∷◌, ◌++◌, Some, None, false, true, codes, pos, negsuc, refl}
+use Rattle.std.specs.Prelude.{ℕ, ◌≡◌, ◌-◌, ◌^◌, [], ◌∷◌, ◌++◌, Some, None, false, true, replicate, codes, pos, negsuc, refl}
 use Rattle.vx_trees.specs.Rose.{node, end, more}
 use Rattle.vx_types.specs.Value as V
 use Rattle.vx_types.specs.Value.{Value, lone, variant_of}
@@ -7,13 +7,21 @@ use Rattle.vx_types.specs.declared.decimal.DecimalType.TheVariants as D
 use Rattle.vx_types.specs.declared.nullability.Nullability.TheVariants.{Nullable, NonNullable}
 use Rattle.vx_types.specs.declared.ptype.PType.TheVariants as P
 use Rattle.vx_array_tree.specs.Encodings.VarBinViews as VarBinViews
-use Rattle.vx_array_tree.specs.Encodings.Variants as Variants
-use Rattle.vx_array_tree.specs.Rows.{Rows, no_rows}
 use Rattle.vx_array_tree.specs.Tree.{rows_of, row_at, valid_at, cells}
-use Rattle.vx_array_tree_tests.proofs.Samples.{buffer, number_type, first_rows, i32, u16, flag, null, tuple, utf8, nulls, flags, flags_from, numbers, sixteen, decimals, varbins, long_text, long_view, texts, dictionary, lists, views, fixed, entries, maps, empty_structs, structs, unions, days, lifted_values}
+use Rattle.vx_array_tree_tests.proofs.Samples.{buffer, number_type, first_rows, i32, u16, flag, null, tuple, utf8, nulls, flags, flags_from, numbers, sixteen, decimals, varbins, long_text, long_view, texts, dictionary, lists, views, fixed, entries, maps, empty_structs, structs, unions, days, lifted_values, list_of, variant_type, unknown_rows, variants_over, variants, typed, known, variant_values}
 
-nulls_are : first_rows 3 nulls ≡ null ∷ null ∷ null ∷ []
+-- Each row is null, however many there are: none, or as many as an index can count.
+nulls_are : first_rows 3 (nulls 3) ≡ null ∷ null ∷ null ∷ []
 nulls_are = refl
+
+no_nulls : (rows_of (nulls 0)).len ≡ 0
+no_nulls = refl
+
+most_nulls : (rows_of (nulls (2 ^ 64 - 1))).len ≡ 18446744073709551615
+most_nulls = refl
+
+last_null : row_at (nulls (2 ^ 64 - 1)) 18446744073709551614 ≡ null
+last_null = refl
 
 flags_are : first_rows 4 (flags Nullable) ≡ flag true ∷ null ∷ flag false ∷ null ∷ []
 flags_are = refl
@@ -37,6 +45,10 @@ decimals_are = refl
 -- Signed integers are in two's complement.
 negative_decimals_are : first_rows 2 (decimals D.I8 (255 ∷ 128 ∷ []) 0 2) ≡ lone (V.decimal (V.i8 (negsuc 0))) ∷ lone (V.decimal (V.i8 (negsuc 127))) ∷ []
 negative_decimals_are = refl
+
+-- The widest are kept by their bytes.
+widest_decimal_is : row_at (decimals D.I256 (replicate 32 255) 4 1) 0 ≡ lone (V.decimal (V.i256 (replicate 32 255)))
+widest_decimal_is = refl
 
 varbins_are : first_rows 3 (varbins (0 ∷ 2 ∷ 2 ∷ 3 ∷ []) (codes "abc")) ≡ utf8 (codes "ab") ∷ utf8 [] ∷ utf8 (codes "c") ∷ []
 varbins_are = refl
@@ -87,6 +99,9 @@ structs_are = refl
 unions_are : first_rows 3 (unions (0 ∷ 9 ∷ 5 ∷ [])) ≡ node (V.union 0) (more (i32 7) end) ∷ null ∷ node (V.union 5) (more (utf8 (codes "c")) end) ∷ []
 unions_are = refl
 
+greatest_tag_is : row_at (unions (0 ∷ 9 ∷ 255 ∷ [])) 2 ≡ node (V.union 255) (more (flag true) end)
+greatest_tag_is = refl
+
 union_cells : cells (unions (0 ∷ 9 ∷ 5 ∷ [])) 2 ≡ 3
 union_cells = refl
 
@@ -101,28 +116,67 @@ lifted_are = refl
 
 -- ---- variants
 
--- Rows of nulls and of a variant that is 5, as a core.
-abbrev core : Value → Rows
-core v = record { len = 2; valid = λ i. Some true; row = λ i. v; cells = λ i. 9 }
+abbrev opaque : Value
+opaque = lone V.opaque
 
-abbrev two_rows : Rows → List Value
-two_rows r = r.row 0 ∷ r.row 1 ∷ []
+abbrev one : Value
+one = variant_of (number_type P.I32 Nullable) (i32 1)
 
-abbrev five : Value
-five = variant_of (number_type P.U16 NonNullable) (u16 5)
+abbrev word : ℕ → Value
+word n = variant_of (number_type P.U16 NonNullable) (u16 n)
 
--- Without a shredded child the rows are the core's.
-variants_are : two_rows (Variants.rows 2 None (core five ∷ [])) ≡ five ∷ five ∷ []
-variants_are = refl
+-- Without a typed child the rows are the core's, known or not.
+bare_variants_are : first_rows 2 (variants []) ≡ opaque ∷ opaque ∷ []
+bare_variants_are = refl
 
--- A shredded row that is there stands over the core's; where it is null, the core's row is left.
-shredded_are : two_rows (Variants.rows 2 (Some (number_type P.I32 Nullable)) (core five ∷ rows_of numbers ∷ [])) ≡ variant_of (number_type P.I32 Nullable) (i32 1) ∷ five ∷ []
-shredded_are = refl
+known_variants_are : first_rows 2 (variants_over Nullable known []) ≡ word 5 ∷ word 6 ∷ []
+known_variants_are = refl
 
--- Over a core of which nothing is known.
-over_unknown : two_rows (Variants.rows 2 (Some (number_type P.I32 Nullable)) (no_rows ∷ rows_of numbers ∷ [])) ≡ variant_of (number_type P.I32 Nullable) (i32 1) ∷ lone V.opaque ∷ []
+-- A typed row that is there stands over the core's. Where it is null, the core's row is left: here one of which
+-- nothing is known, one that is there, and one that is null.
+over_unknown : first_rows 2 (variants (typed ∷ [])) ≡ one ∷ opaque ∷ []
 over_unknown = refl
 
--- The greatest of its own cells, the core's and the shredded row's.
-shredded_cells : (Variants.rows 2 (Some (number_type P.I32 Nullable)) (core five ∷ rows_of numbers ∷ [])).cells 0 ≡ 9
-shredded_cells = refl
+over_known : first_rows 2 (variants_over Nullable known (typed ∷ [])) ≡ one ∷ word 6 ∷ []
+over_known = refl
+
+over_null : first_rows 2 (variants_over Nullable (variant_values NonNullable) (typed ∷ [])) ≡ one ∷ null ∷ []
+over_null = refl
+
+-- So it is known whether a row is there.
+typed_stands : valid_at (variants (typed ∷ [])) 0 ≡ Some true
+typed_stands = refl
+
+unknown_left : valid_at (variants (typed ∷ [])) 1 ≡ None
+unknown_left = refl
+
+null_left : valid_at (variants_over Nullable (variant_values NonNullable) (typed ∷ [])) 1 ≡ Some false
+null_left = refl
+
+-- A list over a core of which nothing is known is one of variants.
+variant_lists_are : row_at (variants (fixed 3 2 (1 ∷ 2 ∷ 3 ∷ 4 ∷ 5 ∷ 6 ∷ []) ∷ [])) 1 ≡ variant_of (list_of (variant_type NonNullable)) (tuple (word 4 ∷ word 5 ∷ word 6 ∷ []))
+variant_lists_are = refl
+
+-- Of a structure over such a core nothing is known, though it is there.
+structure_hidden : row_at (variants (structs ∷ [])) 0 ≡ opaque
+structure_hidden = refl
+
+hidden_stands : valid_at (variants (structs ∷ [])) 0 ≡ Some true
+hidden_stands = refl
+
+-- A typed row of which nothing is known hides the core's.
+unknown_hides : row_at (variants_over Nullable known (unknown_rows (number_type P.I32 Nullable) ∷ [])) 0 ≡ opaque
+unknown_hides = refl
+
+unknown_typed : valid_at (variants_over Nullable known (unknown_rows (number_type P.I32 Nullable) ∷ [])) 0 ≡ None
+unknown_typed = refl
+
+-- A row takes the greatest of its own cells, the core's and the typed row's, in this order here.
+own_cells : cells (variants (fixed 3 2 (1 ∷ 2 ∷ 3 ∷ 4 ∷ 5 ∷ 6 ∷ []) ∷ [])) 0 ≡ 8
+own_cells = refl
+
+core_cells : cells (variants_over Nullable (variants (fixed 3 2 (1 ∷ 2 ∷ 3 ∷ 4 ∷ 5 ∷ 6 ∷ []) ∷ [])) (typed ∷ [])) 0 ≡ 8
+core_cells = refl
+
+typed_cells : cells (variants (structs ∷ [])) 0 ≡ 2
+typed_cells = refl

@@ -90,8 +90,8 @@ utf8 bs = lone (V.utf8 bs)
 
 -- ---- plain arrays
 
-abbrev pub nulls : Tree
-nulls = array (kind K.null) 3 B.null []
+abbrev pub nulls : ℕ → Tree
+nulls n = array (kind K.null) n B.null []
 
 -- Four flags by one byte, of which every second row is null; the same from the third bit on.
 abbrev pub flags : Nullability → Tree
@@ -213,6 +213,37 @@ abbrev pub lifted_values : Nullability → Tree
 lifted_values m =
     array (number_type P.U16 Nullable) 2 (B.dict (record { all_values_referenced = true }))
     (u8s Nullable (0 ∷ 1 ∷ []) (bits 2 1 ∷ []) ∷ array (number_type P.U16 m) 2 (B.primitive (record { values = buffer (two (3 ∷ 4 ∷ [])) 1 })) [] ∷ [])
+
+-- ---- variants
+
+abbrev pub variant_type : Nullability → Typ
+variant_type m = kind (K.variant m)
+
+-- Two rows of a type, of which nothing is known.
+abbrev pub unknown_rows : Typ → Tree
+unknown_rows d = array d 2 (B.foreign (record { id = codes "x.core"; metadata = []; buffers = [] })) []
+
+-- Two variants over this core, and a typed child beside it where one is given.
+abbrev pub variants_over : Nullability → Tree → List Tree → Tree
+variants_over m core ts = array (variant_type m) 2 B.variant (core ∷ ts)
+
+-- The same over a core of which nothing is known.
+abbrev pub variants : List Tree → Tree
+variants ts = variants_over Nullable (unknown_rows (variant_type Nullable)) ts
+
+-- The number 1 and a null, as a typed child.
+abbrev pub typed : Tree
+typed = i32s Nullable (1 ∷ 2 ∷ []) (bits 2 1 ∷ [])
+
+-- The variants of 5 and 6, as a core.
+abbrev pub known : Tree
+known = variants (u16s (5 ∷ 6 ∷ []) ∷ [])
+
+-- A dictionary of the same, in which the second code is null.
+abbrev pub variant_values : Nullability → Tree
+variant_values m =
+    array (variant_type Nullable) 2 (B.dict (record { all_values_referenced = false }))
+    (u8s Nullable (0 ∷ 1 ∷ []) (bits 2 1 ∷ []) ∷ variants_over m (unknown_rows (variant_type m)) (u16s (5 ∷ 6 ∷ []) ∷ []) ∷ [])
 
 -- ---- statistics
 

@@ -1,23 +1,28 @@
 -- Samples of each encoding are sound: the rules can be kept.
-use Rattle.std.proofs.Common.{ℕ, zero, suc, ◌≡◌, ◌<◌, ◌≤◌, ◌*◌, ◌++◌, List, [], ◌∷◌, Some, refl, arith, true, false, length, codes}
+use Rattle.std.proofs.Common.{ℕ, zero, suc, ◌≡◌, ◌<◌, ◌≤◌, ◌*◌, ◌++◌, List, [], ◌∷◌, Some, refl, subst, arith, true, false, IsTrue, length, replicate, slice_get, codes}
+use Rattle.std.proofs.lemmas.Bool.{false≢true}
+use Rattle.std.proofs.lemmas.Option.{same_Some}
 use Rattle.std.specs.Str.{is_utf8, chars}
 use lib.Utf8.{encode}
 use Rattle.vx_types.specs.Content.{IsText}
+use Rattle.vx_types.specs.Typ.{Typ}
 use Rattle.vx_types.specs.declared.decimal.DecimalType.TheVariants as D
 use Rattle.vx_types.specs.declared.nullability.Nullability.{Nullability}
 use Rattle.vx_types.specs.declared.nullability.Nullability.TheVariants.{Nullable, NonNullable}
+use Rattle.vx_types.specs.declared.ptype.PType.TheVariants as P
 use Rattle.vx_scalars.proofs.LawsStats.{none_fit}
+use Rattle.vx_array_tree.specs.Encoding as E
 use Rattle.vx_array_tree.specs.Encodings.Dicts as Dicts
 use Rattle.vx_array_tree.specs.Encodings.ListViews as ListViews
 use Rattle.vx_array_tree.specs.Encodings.Unions as Unions
 use Rattle.vx_array_tree.specs.Encodings.VarBins as VarBins
 use Rattle.vx_array_tree.specs.Rows.{Rows, IsIndex, IsThere, index_at, validity}
-use Rattle.vx_array_tree.specs.Sound.{IsSound}
+use Rattle.vx_array_tree.specs.Sound.{IsSound, IsControlledBy, HasNoForeign}
 use Rattle.vx_array_tree.specs.Table.{Content}
-use Rattle.vx_array_tree.specs.Tree.{rows_of, rows_below}
+use Rattle.vx_array_tree.specs.Tree.{Tree, Trees, rows_of, rows_below}
 use Rattle.vx_array_tree.proofs.LawsControls.{native_controlled, leaf, one_leaf}
 use Rattle.vx_trees.specs.Rose.{label, below}
-use Rattle.vx_array_tree_tests.proofs.Samples.{bits, four, two, i32s, u16s, u8s, long_text, nulls, flags, flags_from, numbers, sixteen, decimals, texts, words, dictionary, lists, views, fixed, entry, entries, maps, empty_structs, structs, unions, days, lifted_values}
+use Rattle.vx_array_tree_tests.proofs.Samples.{bits, four, two, number_type, i32s, u16s, u8s, long_text, nulls, flags, flags_from, numbers, sixteen, decimals, varbins, texts, words, dictionary, lists, views, fixed, entry, entries, maps, empty_structs, structs, unions, days, lifted_values, unknown_rows, variants_over, variants, typed, known, variant_values}
 
 -- What holds of the first indices, one by one.
 pub below_two : (P : ℕ → Type 0) → P 0 → P 1 → (i : ℕ) → i < 2 → P i
@@ -64,11 +69,14 @@ u8s_sound m ns h = (record { fair = tt; planned = refl; allows = λ e. absurd (o
 pub numbers_sound : IsSound numbers
 numbers_sound = (record { fair = tt; planned = refl; allows = λ e. refl; takes = tt; holds = record { length_is = refl; aligned = omega arith }; controlled = native_controlled _ _ _ one_leaf; content = tt; stats = none_fit _ }, (bits_sound 4 5 (omega arith), tt))
 
-nulls_sound : IsSound nulls
-nulls_sound = (record { fair = tt; planned = refl; allows = tt; takes = tt; holds = tt; controlled = native_controlled _ _ _ tt; content = tt; stats = none_fit _ }, tt)
+nulls_sound : (n : ℕ) → IsSound (nulls n)
+nulls_sound n = (record { fair = tt; planned = refl; allows = tt; takes = tt; holds = tt; controlled = native_controlled _ _ _ tt; content = tt; stats = none_fit _ }, tt)
 
 decimals_sound : IsSound (decimals D.I128 (sixteen 100 0 ++ sixteen 244 1) 4 2)
 decimals_sound = (record { fair = tt; planned = refl; allows = λ e. absurd (omega arith); takes = tt; holds = record { length_is = refl; aligned = omega arith }; controlled = native_controlled _ _ _ tt; content = tt; stats = none_fit _ }, tt)
+
+widest_decimal_sound : IsSound (decimals D.I256 (replicate 32 255) 4 1)
+widest_decimal_sound = (record { fair = tt; planned = refl; allows = λ e. absurd (omega arith); takes = tt; holds = record { length_is = refl; aligned = omega arith }; controlled = native_controlled _ _ _ tt; content = tt; stats = none_fit _ }, tt)
 
 -- ---- texts
 
@@ -138,6 +146,26 @@ list_offsets =
       within = omega arith;
     }
 
+-- Texts by the same offsets, of which the second is empty.
+varbins_are : (i : ℕ) → i < 3 → IsText (VarBins.bytes_at (codes "abc") (rows_of (i32s NonNullable (0 ∷ 2 ∷ 2 ∷ 3 ∷ []) [])) i)
+unfolding is_utf8 chars encode
+varbins_are i l = below_three (λ j. IsText (VarBins.bytes_at (codes "abc") (rows_of (i32s NonNullable (0 ∷ 2 ∷ 2 ∷ 3 ∷ []) [])) j)) refl refl refl i l
+
+varbins_sound : IsSound (varbins (0 ∷ 2 ∷ 2 ∷ 3 ∷ []) (codes "abc"))
+varbins_sound = (
+  record {
+    fair = refl;
+    planned = refl;
+    allows = λ e. absurd (omega arith);
+    takes = tt;
+    holds = tt;
+    controlled = native_controlled _ _ _ one_leaf;
+    content = record { offsets = list_offsets; texts = λ i l t. varbins_are i l };
+    stats = none_fit _;
+  },
+  (i32s_sound NonNullable (0 ∷ 2 ∷ 2 ∷ 3 ∷ []) refl, tt),
+)
+
 lists_sound : IsSound (lists (0 ∷ 2 ∷ 2 ∷ 3 ∷ []))
 lists_sound = (
   record { fair = refl; planned = refl; allows = λ e. absurd (omega arith); takes = tt; holds = tt; controlled = native_controlled _ _ _ (leaf, one_leaf); content = list_offsets; stats = none_fit _ },
@@ -178,6 +206,10 @@ null_view_sound = (
 
 fixed_sound : IsSound (fixed 3 2 (1 ∷ 2 ∷ 3 ∷ 4 ∷ 5 ∷ 6 ∷ []))
 fixed_sound = (record { fair = tt; planned = refl; allows = λ e. absurd (omega arith); takes = tt; holds = tt; controlled = native_controlled _ _ _ one_leaf; content = tt; stats = none_fit _ }, (u16s_sound (1 ∷ 2 ∷ 3 ∷ 4 ∷ 5 ∷ 6 ∷ []) refl, tt))
+
+-- Lists of the size 0 have no elements.
+empty_fixed_sound : IsSound (fixed 0 5 [])
+empty_fixed_sound = (record { fair = tt; planned = refl; allows = λ e. absurd (omega arith); takes = tt; holds = tt; controlled = native_controlled _ _ _ one_leaf; content = tt; stats = none_fit _ }, (u16s_sound [] refl, tt))
 
 -- ---- structures, maps, unions, extensions
 
@@ -230,21 +262,34 @@ entries_sound = (
 maps_sound : IsSound (maps entries)
 maps_sound = (record { fair = tt; planned = refl; allows = tt; takes = tt; holds = tt; controlled = native_controlled _ _ _ ((tt, ((tt, (leaf, ((tt, one_leaf), tt))), (leaf, one_leaf))), tt); content = tt; stats = none_fit _ }, (entries_sound, tt))
 
-tags_sound : IsSound (u8s Nullable (0 ∷ 9 ∷ 5 ∷ []) (bits 3 5 ∷ []))
-tags_sound = (record { fair = tt; planned = refl; allows = λ e. refl; takes = tt; holds = record { length_is = refl; aligned = omega arith }; controlled = native_controlled _ _ _ one_leaf; content = tt; stats = none_fit _ }, (bits_sound 3 5 (omega arith), tt))
+tags_sound : (tag : ℕ) → IsSound (u8s Nullable (0 ∷ 9 ∷ tag ∷ []) (bits 3 5 ∷ []))
+tags_sound tag = (record { fair = tt; planned = refl; allows = λ e. refl; takes = tt; holds = record { length_is = refl; aligned = omega arith }; controlled = native_controlled _ _ _ one_leaf; content = tt; stats = none_fit _ }, (bits_sound 3 5 (omega arith), tt))
 
-members : (i : ℕ) → i < 3 → IsThere (rows_of (u8s Nullable (0 ∷ 9 ∷ 5 ∷ []) (bits 3 5 ∷ []))).valid i
-    → Unions.HasMember (label (unions (0 ∷ 9 ∷ 5 ∷ []))).dtype (rows_below (below (unions (0 ∷ 9 ∷ 5 ∷ [])))) i
-members zero l t = record { tag = refl; named = refl }
-members (suc zero) l t = absurd (not_there t)
-members (suc (suc zero)) l t = record { tag = refl; named = refl }
-members (suc (suc (suc i))) l t = absurd (omega arith)
+-- What is asked of a row of unions whose third tag is this one.
+abbrev MemberAt : ℕ → ℕ → Type 0
+MemberAt tag i =
+    IsThere (rows_of (u8s Nullable (0 ∷ 9 ∷ tag ∷ []) (bits 3 5 ∷ []))).valid i → Unions.HasMember (label (unions (0 ∷ 9 ∷ tag ∷ []))).dtype (rows_below (below (unions (0 ∷ 9 ∷ tag ∷ [])))) i
+
+unions_sound_by : (tag : ℕ) → MemberAt tag 2 → IsSound (unions (0 ∷ 9 ∷ tag ∷ []))
+unions_sound_by tag m = (
+  record {
+    fair = tt;
+    planned = refl;
+    allows = tt;
+    takes = tt;
+    holds = tt;
+    controlled = native_controlled _ _ _ ((tt, one_leaf), (leaf, ((tt, one_leaf), one_leaf)));
+    content = λ i l. below_three (λ j. MemberAt tag j) (λ t. record { tag = refl; named = refl }) (λ t. absurd (not_there t)) m i l;
+    stats = none_fit _;
+  },
+  (tags_sound tag, (i32s_sound NonNullable (7 ∷ 8 ∷ 9 ∷ []) refl, (words_sound, (bits_sound 3 7 (omega arith), tt)))),
+)
 
 unions_sound : IsSound (unions (0 ∷ 9 ∷ 5 ∷ []))
-unions_sound = (
-  record { fair = tt; planned = refl; allows = tt; takes = tt; holds = tt; controlled = native_controlled _ _ _ ((tt, one_leaf), (leaf, ((tt, one_leaf), one_leaf))); content = members; stats = none_fit _ },
-  (tags_sound, (i32s_sound NonNullable (7 ∷ 8 ∷ 9 ∷ []) refl, (words_sound, (bits_sound 3 7 (omega arith), tt)))),
-)
+unions_sound = unions_sound_by 5 (λ t. record { tag = refl; named = refl })
+
+greatest_tag_sound : IsSound (unions (0 ∷ 9 ∷ 255 ∷ []))
+greatest_tag_sound = unions_sound_by 255 (λ t. record { tag = refl; named = refl })
 
 pub days_sound : IsSound days
 days_sound = (record { fair = tt; planned = refl; allows = tt; takes = tt; holds = tt; controlled = native_controlled _ _ _ one_leaf; content = tt; stats = none_fit _ }, (i32s_sound NonNullable (1 ∷ 2 ∷ 3 ∷ 4 ∷ []) refl, tt))
@@ -267,17 +312,87 @@ codes_within (suc (suc (suc (suc i)))) l v = absurd (omega arith)
 dictionary_sound : IsSound (dictionary 1)
 dictionary_sound = (record { fair = refl; planned = refl; allows = λ e. refl; takes = tt; holds = tt; controlled = native_controlled _ _ _ ((tt, one_leaf), ((tt, one_leaf), tt)); content = codes_within; stats = none_fit _ }, (codes_sound, (words_sound, tt)))
 
-lifted_codes : (i : ℕ) → i < 2 → IsThere (rows_of (u8s Nullable (0 ∷ 1 ∷ []) (bits 2 1 ∷ []))).valid i → Dicts.IsCode (rows_below (below (lifted_values NonNullable))) i
-lifted_codes zero l v = record { natural = refl; within = omega arith }
-lifted_codes (suc zero) l v = absurd (not_there v)
-lifted_codes (suc (suc i)) l v = absurd (omega arith)
+-- The codes 0 and 1, of which the second is null.
+abbrev two_codes : Tree
+two_codes = u8s Nullable (0 ∷ 1 ∷ []) (bits 2 1 ∷ [])
+
+two_codes_sound : IsSound two_codes
+two_codes_sound = (record { fair = tt; planned = refl; allows = λ e. refl; takes = tt; holds = record { length_is = refl; aligned = omega arith }; controlled = native_controlled _ _ _ one_leaf; content = tt; stats = none_fit _ }, (bits_sound 2 1 (omega arith), tt))
+
+two_within : (values : Rows) → values.len ≡ 2 → (i : ℕ) → i < 2 → IsThere (rows_of two_codes).valid i → Dicts.IsCode (rows_of two_codes ∷ values ∷ []) i
+two_within values e zero l v = record { natural = refl; within = omega (arith, e) }
+two_within values e (suc zero) l v = absurd (not_there v)
+two_within values e (suc (suc i)) l v = absurd (omega arith)
 
 -- Values need not be nullable where codes are.
 lifted_sound : IsSound (lifted_values NonNullable)
 lifted_sound = (
-  record { fair = refl; planned = refl; allows = λ e. refl; takes = tt; holds = tt; controlled = native_controlled _ _ _ ((tt, one_leaf), one_leaf); content = lifted_codes; stats = none_fit _ },
+  record { fair = refl; planned = refl; allows = λ e. refl; takes = tt; holds = tt; controlled = native_controlled _ _ _ ((tt, one_leaf), one_leaf); content = two_within _ refl; stats = none_fit _ },
+  (two_codes_sound, (u16s_sound (3 ∷ 4 ∷ []) refl, tt)),
+)
+
+-- ---- variants
+
+-- No child of variants says where rows are, so that any may be foreign.
+free : (d : Typ) (ts : Trees) → IsControlledBy E.variant d ts
+free d ts = record { controls = λ i t e c. absurd (false≢true c); entries = tt }
+
+unknown_sound : (d : Typ) → IsSound (unknown_rows d)
+unknown_sound d = (record { fair = tt; planned = refl; allows = tt; takes = tt; holds = tt; controlled = native_controlled _ _ _ tt; content = tt; stats = none_fit _ }, tt)
+
+bare_variants_sound : IsSound (variants [])
+bare_variants_sound = (record { fair = tt; planned = refl; allows = tt; takes = tt; holds = tt; controlled = free _ _; content = tt; stats = none_fit _ }, (unknown_sound _, tt))
+
+typed_sound : IsSound typed
+typed_sound = (record { fair = tt; planned = refl; allows = λ e. refl; takes = tt; holds = record { length_is = refl; aligned = omega arith }; controlled = native_controlled _ _ _ one_leaf; content = tt; stats = none_fit _ }, (bits_sound 2 1 (omega arith), tt))
+
+variants_sound : IsSound (variants (typed ∷ []))
+variants_sound = (record { fair = (refl, tt); planned = refl; allows = tt; takes = tt; holds = tt; controlled = free _ _; content = tt; stats = none_fit _ }, (unknown_sound _, (typed_sound, tt)))
+
+known_sound : IsSound known
+known_sound = (record { fair = (refl, tt); planned = refl; allows = tt; takes = tt; holds = tt; controlled = free _ _; content = tt; stats = none_fit _ }, (unknown_sound _, (u16s_sound (5 ∷ 6 ∷ []) refl, tt)))
+
+-- Variants may be the core of others, or a dictionary of them, and a typed child may be foreign.
+over_core_sound : IsSound (variants_over Nullable known [])
+over_core_sound = (record { fair = tt; planned = refl; allows = tt; takes = tt; holds = tt; controlled = free _ _; content = tt; stats = none_fit _ }, (known_sound, tt))
+
+over_known_sound : IsSound (variants_over Nullable known (typed ∷ []))
+over_known_sound = (record { fair = (refl, tt); planned = refl; allows = tt; takes = tt; holds = tt; controlled = free _ _; content = tt; stats = none_fit _ }, (known_sound, (typed_sound, tt)))
+
+unknown_typed_sound : IsSound (variants_over Nullable known (unknown_rows (number_type P.I32 Nullable) ∷ []))
+unknown_typed_sound = (record { fair = (refl, tt); planned = refl; allows = tt; takes = tt; holds = tt; controlled = free _ _; content = tt; stats = none_fit _ }, (known_sound, (unknown_sound _, tt)))
+
+-- The codes alone say where a dictionary's rows are.
+codes_control : (v : Tree) (i : ℕ) (t : Tree) → slice_get (two_codes ∷ v ∷ []) i ≡ Some t → IsTrue (Dicts.is_control i) → HasNoForeign t
+codes_control v zero t e c = subst (λ (z : Tree). HasNoForeign z) (same_Some two_codes t e) (tt, one_leaf)
+codes_control v (suc zero) t e c = absurd (false≢true c)
+codes_control v (suc (suc i)) t e c = absurd (cc)
+
+variant_values_sound : IsSound (variant_values NonNullable)
+variant_values_sound = (
+  record { fair = refl; planned = refl; allows = λ e. refl; takes = tt; holds = tt; controlled = record { controls = codes_control _; entries = tt }; content = two_within _ refl; stats = none_fit _ },
   (
-    (record { fair = tt; planned = refl; allows = λ e. refl; takes = tt; holds = record { length_is = refl; aligned = omega arith }; controlled = native_controlled _ _ _ one_leaf; content = tt; stats = none_fit _ }, (bits_sound 2 1 (omega arith), tt)),
-    (u16s_sound (3 ∷ 4 ∷ []) refl, tt),
+    two_codes_sound,
+    (
+      (record { fair = (refl, tt); planned = refl; allows = tt; takes = tt; holds = tt; controlled = free _ _; content = tt; stats = none_fit _ }, (unknown_sound _, (u16s_sound (5 ∷ 6 ∷ []) refl, tt))),
+      tt,
+    ),
   ),
+)
+
+over_values_sound : IsSound (variants_over Nullable (variant_values NonNullable) (typed ∷ []))
+over_values_sound = (record { fair = (refl, tt); planned = refl; allows = tt; takes = tt; holds = tt; controlled = free _ _; content = tt; stats = none_fit _ }, (variant_values_sound, (typed_sound, tt)))
+
+-- Lists and structures may be typed children.
+variant_lists_sound : IsSound (variants (fixed 3 2 (1 ∷ 2 ∷ 3 ∷ 4 ∷ 5 ∷ 6 ∷ []) ∷ []))
+variant_lists_sound = (
+  record { fair = ((refl, omega arith), ((refl, tt), tt)); planned = refl; allows = tt; takes = tt; holds = tt; controlled = free _ _; content = tt; stats = none_fit _ },
+  (unknown_sound _, (fixed_sound, tt)),
+)
+
+variant_structs_sound : IsSound (variants (structs ∷ []))
+unfolding is_utf8 chars encode
+variant_structs_sound = (
+  record { fair = (record { types = refl; texts = (refl, tt) }, ((refl, tt), tt)); planned = refl; allows = tt; takes = tt; holds = tt; controlled = free _ _; content = tt; stats = none_fit _ },
+  (unknown_sound _, (structs_sound, tt)),
 )

@@ -69,7 +69,7 @@ module _ (c : Codec) (s : SessionMeaning) where
   numbers_told : wire c s told_numbers ≡ with_field (c.stats_field told_of_numbers) (wire c s numbers)
   numbers_told = refl
 
-  nulls_buffers : buffers_in (wire c s nulls) ≡ []
+  nulls_buffers : buffers_in (wire c s (nulls 3)) ≡ []
   nulls_buffers = refl
 
   dictionary_ids : ids_in (wire c s (dictionary 1)) ≡ codes "vortex.dict" ∷ codes "vortex.primitive" ∷ codes "vortex.bool" ∷ codes "vortex.varbin" ∷ codes "vortex.primitive" ∷ []
