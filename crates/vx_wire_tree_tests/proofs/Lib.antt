@@ -3,3 +3,4 @@ pub mod SampleContexts
 pub mod SampleTold
 pub mod SampleRaw
 pub mod SampleRevised
+pub mod SampleVariants

@@ -8,7 +8,7 @@ use Rattle.vx_types.specs.declared.ptype.PType.TheVariants as P
 use Rattle.vx_array_tree.specs.Metadata as M
 use Rattle.vx_array_tree.specs.Sound.{metadata_in}
 use Rattle.vx_array_tree.specs.Tree.{Tree}
-use Rattle.vx_array_tree_tests.proofs.Samples.{text_type, buffer, four, flags_from, numbers, nulls, sixteen, decimals, varbins, dictionary, lists, views, maps, entries, structs, days, told_of_numbers, told_numbers}
+use Rattle.vx_array_tree_tests.proofs.Samples.{number_type, text_type, buffer, four, flags, flags_from, numbers, nulls, sixteen, decimals, varbins, texts, dictionary, lists, views, fixed, maps, entries, structs, unions, days, variants, typed, told_of_numbers, told_numbers}
 use Rattle.vx_wire_tree.specs.Codec.{Codec}
 use Rattle.vx_wire_tree.specs.Fields as F
 use Rattle.vx_wire_tree.specs.Fields.{Fields, meant, told}
@@ -43,6 +43,12 @@ views_message = refl
 dictionary_message : message (dictionary 1) ≡ F.dict (record { values_len = 3; codes_ptype = P.U8; is_nullable_codes = Some true; all_values_referenced = Some false })
 dictionary_message = refl
 
+variants_message : message (variants (typed ∷ [])) ≡ F.variant (Some (number_type P.I32 Nullable))
+variants_message = refl
+
+bare_variants_message : message (variants []) ≡ F.variant None
+bare_variants_message = refl
+
 -- Where the flags are absent, codes are nullable as the type is.
 nullable_codes : meant (text_type Nullable) (F.dict (record { values_len = 3; codes_ptype = P.U8; is_nullable_codes = None; all_values_referenced = None }))
     ≡ M.dict (record { values_len = 3; codes_ptype = P.U8; nullable_codes = Nullable; all_values_referenced = false })
@@ -69,8 +75,33 @@ module _ (c : Codec) (s : SessionMeaning) where
   numbers_told : wire c s told_numbers ≡ with_field (c.stats_field told_of_numbers) (wire c s numbers)
   numbers_told = refl
 
+  nulls_ids : ids_in (wire c s (nulls 3)) ≡ codes "vortex.null" ∷ []
+  nulls_ids = refl
+
   nulls_buffers : buffers_in (wire c s (nulls 3)) ≡ []
   nulls_buffers = refl
+
+  flags_ids : ids_in (wire c s (flags Nullable)) ≡ codes "vortex.bool" ∷ codes "vortex.bool" ∷ []
+  flags_ids = refl
+
+  decimals_ids : ids_in (wire c s (decimals D.I128 (sixteen 100 0 ++ sixteen 244 1) 4 2)) ≡ codes "vortex.decimal" ∷ []
+  decimals_ids = refl
+
+  varbins_ids : ids_in (wire c s (varbins (0 ∷ 2 ∷ 2 ∷ 3 ∷ []) (codes "abc"))) ≡ codes "vortex.varbin" ∷ codes "vortex.primitive" ∷ []
+  varbins_ids = refl
+
+  texts_ids : ids_in (wire c s (texts 21 97)) ≡ codes "vortex.varbinview" ∷ codes "vortex.bool" ∷ []
+  texts_ids = refl
+
+  lists_ids : ids_in (wire c s (lists (0 ∷ 2 ∷ 2 ∷ 3 ∷ []))) ≡ codes "vortex.list" ∷ codes "vortex.primitive" ∷ codes "vortex.primitive" ∷ []
+  lists_ids = refl
+
+  views_ids : ids_in (wire c s (views false NonNullable (1 ∷ 0 ∷ []) (2 ∷ 1 ∷ []) []))
+      ≡ codes "vortex.listview" ∷ codes "vortex.primitive" ∷ codes "vortex.primitive" ∷ codes "vortex.primitive" ∷ []
+  views_ids = refl
+
+  fixed_ids : ids_in (wire c s (fixed 2 2 (1 ∷ 2 ∷ 3 ∷ 4 ∷ []))) ≡ codes "vortex.fixed_size_list" ∷ codes "vortex.primitive" ∷ []
+  fixed_ids = refl
 
   dictionary_ids : ids_in (wire c s (dictionary 1)) ≡ codes "vortex.dict" ∷ codes "vortex.primitive" ∷ codes "vortex.bool" ∷ codes "vortex.varbin" ∷ codes "vortex.primitive" ∷ []
   dictionary_ids = refl
@@ -85,3 +116,17 @@ module _ (c : Codec) (s : SessionMeaning) where
 
   days_ids : ids_in (wire c s days) ≡ codes "vortex.ext" ∷ codes "vortex.primitive" ∷ []
   days_ids = refl
+
+  unions_ids : ids_in (wire c s (unions (0 ∷ 9 ∷ 5 ∷ [])))
+      ≡ codes "vortex.union" ∷ codes "vortex.primitive" ∷ codes "vortex.bool" ∷ codes "vortex.primitive" ∷ codes "vortex.varbin" ∷ codes "vortex.primitive" ∷ codes "vortex.bool" ∷ []
+  unions_ids = refl
+
+  variants_ids : ids_in (wire c s (variants (typed ∷ []))) ≡ codes "vortex.variant" ∷ codes "x.core" ∷ codes "vortex.primitive" ∷ codes "vortex.bool" ∷ []
+  variants_ids = refl
+
+  variants_buffers : buffers_in (wire c s (variants (typed ∷ []))) ≡ buffer (four (1 ∷ 2 ∷ [])) 2 ∷ buffer (1 ∷ []) 0 ∷ []
+  variants_buffers = refl
+
+  -- The message's bytes are the node's metadata.
+  variants_metadata : (label (wire c s (variants (typed ∷ [])))).metadata ≡ c.fields_bytes (F.variant (Some (number_type P.I32 Nullable)))
+  variants_metadata = refl

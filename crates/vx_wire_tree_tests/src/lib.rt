@@ -1,8 +1,9 @@
 //! Tests of the definitions of wire trees: each lemma is a row of a table, which the definitions compute.
 //!
-//! - `proofs::SampleWires`: wire trees of arrays of each encoding, their messages and their identifiers;
+//! - `proofs::SampleWires`: messages of metadata; of wire trees of arrays of each encoding the identifiers, of some the buffers;
 //! - `proofs::SampleContexts`: how contexts grow;
 //! - `proofs::SampleTold`: a wire tree that tells an array, and the causes of those that tell none;
 //! - `proofs::SampleRaw`: wire trees with nodes that nothing reads;
-//! - `proofs::SampleRevised`: primitives under two identifiers.
+//! - `proofs::SampleRevised`: primitives under two identifiers;
+//! - `proofs::SampleVariants`: wire trees of variants, and which types their metadata may tell.
 #![tactic(auto)]
