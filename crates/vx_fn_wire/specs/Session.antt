@@ -22,7 +22,9 @@ Registry F = List ℕ → Option (List ℕ → Option F)
 abbrev pub scalars_meaning : {X : Type 0} {P : X → Type 0} → (DynBox X Global P → List ℕ → Option ScalarFn) → ScalarFnSession X P → Registry ScalarFn
 scalars_meaning gives s = λ id. option_map (λ b. gives b) (get bytes_eq s.plugins id)
 
-abbrev pub aggregates_meaning : {X : Type 0} {P : X → Type 0} → (DynBox X Global P → List ℕ → Option AggregateFn) → AggregateFnSession X P → Registry AggregateFn
+-- Each identifier has the plugin that stands at it, and what that box gives: of metadata a function, which is a `Registry`, or
+-- of a type the function by which zones of its rows are told apart.
+abbrev pub aggregates_meaning : {X : Type 0} {P : X → Type 0} {M : Type 0} → (DynBox X Global P → M) → AggregateFnSession X P → List ℕ → Option M
 aggregates_meaning gives s = λ id. option_map (λ b. gives b) (get bytes_eq s.plugins id)
 
 -- ---- what is given of metadata

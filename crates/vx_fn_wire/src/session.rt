@@ -58,7 +58,8 @@ pub struct AggregateFnSession {
 impl AggregateFnSession {
     /// No plugin; more are stored by this allocator.
     pub fn new(alloc: Global) -> AggregateFnSession
-        ensures { (id : List ℕ) → aggregates_meaning aggregate_of result id ≡ None }
+        ensures functions { (id : List ℕ) → aggregates_meaning aggregate_of result id ≡ None }
+        ensures zones { (id : List ℕ) → aggregates_meaning zone_default result id ≡ None }
     {
         AggregateFnSession {
             plugins: HashMap::new(alloc),
@@ -71,7 +72,10 @@ impl AggregateFnSession {
     pub fn register(&mut self, plugin: Box<dyn AggregateFnPlugin>) -> Result<(), FnWireError>
         ensures set { OnOk result ((id : List ℕ) → aggregates_meaning aggregate_of self.new id
             ≡ cond (bytes_eq (aggregate_id plugin) id) (Some (aggregate_of plugin)) (aggregates_meaning aggregate_of self.old id)) }
+        ensures set_zones { OnOk result ((id : List ℕ) → aggregates_meaning zone_default self.new id
+            ≡ cond (bytes_eq (aggregate_id plugin) id) (Some (zone_default plugin)) (aggregates_meaning zone_default self.old id)) }
         ensures kept { OnErr result ((id : List ℕ) → aggregates_meaning aggregate_of self.new id ≡ aggregates_meaning aggregate_of self.old id) }
+        ensures kept_zones { OnErr result ((id : List ℕ) → aggregates_meaning zone_default self.new id ≡ aggregates_meaning zone_default self.old id) }
         ensures err { IsOkUnless result FnWireError.OutOfMemory }
     {
         let id = id_of_aggregate(&plugin).clone(self.alloc)?;
