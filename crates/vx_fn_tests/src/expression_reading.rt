@@ -1,14 +1,14 @@
 //! Expressions out of messages, under sessions.
 
 use crate::pairing::Pairing;
-use crate::samples::{deep, prints};
+use crate::samples::{deep, id_of, prints};
 use std::alloc::Global;
 use vx_fn_wire::{
     AggregateFnSession, ExprSerializeProtoExt, Expression, FnSession, FnWireError, ScalarFnSession,
     deserialize_expr_proto, pb,
 };
 use vx_proto::Message;
-use vx_types::{Blob, Id};
+use vx_types::Blob;
 
 const ROOT: &[u8] = b"\x0a\x0bvortex.root\x1a\x00";
 
@@ -17,7 +17,7 @@ const FOREIGN: &[u8] =
 
 // The pairing `x.g`.
 fn pairing(alloc: Global) -> Result<Box<Pairing>, FnWireError> {
-    let id = Id::new(alloc, "x.g")?;
+    let id = id_of(alloc, "x.g")?;
     Ok(Box::new(alloc, Pairing { id })?)
 }
 

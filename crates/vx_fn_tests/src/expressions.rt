@@ -1,6 +1,6 @@
 //! Expressions: their texts, and the messages by which they are written.
 
-use crate::samples::{call, deep, named, over, prints};
+use crate::samples::{call, deep, named, or_memory, over, prints};
 use std::alloc::Global;
 use vx_fn_wire::{Expression, Expressions, FnWireError, pb};
 use vx_proto::Message;
@@ -22,7 +22,7 @@ fn pair(alloc: Global, options: Option<Blob>) -> Result<Expression, FnWireError>
 
 // The call of a function with options of one byte.
 fn pair_with_options(alloc: Global) -> Result<Expression, FnWireError> {
-    let options = Blob::copy_from(alloc, b"\x05")?;
+    let options = or_memory(Blob::copy_from(alloc, b"\x05"))?;
     pair(alloc, Some(options))
 }
 

@@ -1,6 +1,6 @@
 //! Functions: their options, how their calls look, and the messages of aggregate functions.
 
-use crate::samples::{foreign, metadata, named, prints};
+use crate::samples::{foreign, id_of, metadata, named, or_memory, prints};
 use std::alloc::Global;
 use std::hash::{FoldHasher, Hash, Hasher};
 use vx_fn_wire::{
@@ -78,7 +78,7 @@ fn foreign_options(rt: HostRuntime) {
 
 // Options of a foreign aggregate function.
 fn aggregate_options(alloc: Global) -> Result<ForeignAggregateFnOptions, FnWireError> {
-    let metadata = Blob::copy_from(alloc, b"\x07\x08\x09")?;
+    let metadata = or_memory(Blob::copy_from(alloc, b"\x07\x08\x09"))?;
     Ok(ForeignAggregateFnOptions::new(metadata))
 }
 
@@ -114,13 +114,13 @@ fn aggregate_table(alloc: Global, id: Id) -> Result<ForeignAggregateFnVTable, Fn
 
 // Whether the table of a foreign function keeps an identifier of this text.
 fn is_kept(alloc: Global, text: &str) -> Result<bool, FnWireError> {
-    let id = Id::new(alloc, text)?;
+    let id = id_of(alloc, text)?;
     Ok(table(alloc, id)?.id().as_str() == text)
 }
 
 // The same of an aggregate function.
 fn is_kept_too(alloc: Global, text: &str) -> Result<bool, FnWireError> {
-    let id = Id::new(alloc, text)?;
+    let id = id_of(alloc, text)?;
     Ok(aggregate_table(alloc, id)?.id().as_str() == text)
 }
 
@@ -195,7 +195,7 @@ fn named_functions(rt: HostRuntime) {
 
 // The named function with empty options.
 fn with_options(alloc: Global) -> Result<ScalarFn, FnWireError> {
-    let options = Blob::copy_from(alloc, b"")?;
+    let options = or_memory(Blob::copy_from(alloc, b""))?;
     named(alloc, Some(options))
 }
 
@@ -225,8 +225,8 @@ fn written(alloc: Global, function: &AggregateFn) -> Result<vx_proto::Blob, FnWi
 
 // The foreign aggregate function of the rows.
 fn aggregate(alloc: Global) -> Result<AggregateFn, FnWireError> {
-    let id = Id::new(alloc, "vortex.test.foreign_aggregate")?;
-    let metadata = Blob::copy_from(alloc, b"\x07\x08\x09")?;
+    let id = id_of(alloc, "vortex.test.foreign_aggregate")?;
+    let metadata = or_memory(Blob::copy_from(alloc, b"\x07\x08\x09"))?;
     Ok(new_foreign_aggregate_fn(id, metadata))
 }
 
@@ -245,7 +245,7 @@ fn come_back(alloc: Global, bytes: &[u8]) -> Result<bool, FnWireError> {
 
 // Why an aggregate function without options is not written.
 fn silence(alloc: Global) -> Result<Option<FnWireError>, FnWireError> {
-    let id = Id::new(alloc, "x.f")?;
+    let id = id_of(alloc, "x.f")?;
     let silent = AggregateFn { id, options: None };
     Ok(written(alloc, &silent).err())
 }

@@ -1,6 +1,7 @@
 //! Aggregate functions out of messages, under sessions.
 
 use crate::echo::{Echo, Zoned};
+use crate::samples::id_of;
 use std::alloc::Global;
 use vx_fn_wire::{
     AggregateFn, AggregateFnPlugin, AggregateFnSession, FnSession, FnWireError, ScalarFnSession, pb,
@@ -21,13 +22,13 @@ fn session(alloc: Global, unknown: bool) -> FnSession {
 
 // The plugin of `x.f`, and gives this of it.
 fn echo(alloc: Global, gives: Option<Id>) -> Result<Box<Echo>, FnWireError> {
-    let id = Id::new(alloc, "x.f")?;
+    let id = id_of(alloc, "x.f")?;
     Ok(Box::new(alloc, Echo { id, gives })?)
 }
 
 // The same that gives a function of this identifier.
 fn echo_of(alloc: Global, text: &str) -> Result<Box<Echo>, FnWireError> {
-    let id = Id::new(alloc, text)?;
+    let id = id_of(alloc, text)?;
     echo(alloc, Some(id))
 }
 
@@ -143,7 +144,7 @@ fn has_its_zones(alloc: Global, plugin: &Zoned) -> bool {
 #[test]
 fn zones_of_a_plugin(rt: HostRuntime) {
     let alloc = rt.alloc();
-    match Id::new(alloc, "x.g") {
+    match id_of(alloc, "x.g") {
         Ok(id) => assert!(rt; has_its_zones(alloc, &Zoned { id })),
         Err(_) => assert!(rt; false),
     }

@@ -3,7 +3,7 @@
 use std::alloc::Global;
 use std::fmt::Display;
 use vx_fn_wire::{Arity, Expression, Expressions, FnWireError, ForeignScalarFnVTable, ScalarFn};
-use vx_types::{Blob, Id, Name, Names};
+use vx_types::{Blob, Id, Name, Names, TypeError};
 
 /// Whether a value is printed as this text.
 pub fn prints<T: Display>(alloc: Global, value: &T, text: &str) -> bool {
@@ -13,19 +13,32 @@ pub fn prints<T: Display>(alloc: Global, value: &T, text: &str) -> bool {
     }
 }
 
+/// What a call of types made, whose one refusal is want of memory.
+pub fn or_memory<T: Drop>(made: Result<T, TypeError>) -> Result<T, FnWireError> {
+    match made {
+        Ok(value) => Ok(value),
+        Err(_) => Err(FnWireError::OutOfMemory),
+    }
+}
+
+/// The identifier of this text.
+pub fn id_of(alloc: Global, text: &str) -> Result<Id, FnWireError> {
+    or_memory(Id::new(alloc, text))
+}
+
 /// The metadata of the foreign functions of the rows.
 pub fn metadata(alloc: Global) -> Result<Blob, FnWireError> {
-    Ok(Blob::copy_from(alloc, b"\x01\x02\x03\x04")?)
+    or_memory(Blob::copy_from(alloc, b"\x01\x02\x03\x04"))
 }
 
 /// The foreign function of the rows, whose calls have one child.
 pub fn foreign(alloc: Global) -> Result<ScalarFn, FnWireError> {
-    let id = Id::new(alloc, "vortex.test.foreign_scalar_fn")?;
+    let id = id_of(alloc, "vortex.test.foreign_scalar_fn")?;
     ForeignScalarFnVTable::make_scalar_fn(alloc, id, metadata(alloc)?, 1)
 }
 
 // The name of a first child.
-fn left(alloc: Global) -> Result<Names, FnWireError> {
+fn left(alloc: Global) -> Result<Names, TypeError> {
     let mut names = Names::new(alloc);
     names.push(Name::new(alloc, "left")?)?;
     Ok(names)
@@ -46,9 +59,10 @@ fn named_as(id: Id, text: Name, child_names: Names, options: Option<Blob>) -> Sc
 
 /// The function `x.f` of any number of children from one on, the first of them named, with these options.
 pub fn named(alloc: Global, options: Option<Blob>) -> Result<ScalarFn, FnWireError> {
-    let id = Id::new(alloc, "x.f")?;
-    let text = Name::new(alloc, "of the rows")?;
-    Ok(named_as(id, text, left(alloc)?, options))
+    let id = id_of(alloc, "x.f")?;
+    let text = or_memory(Name::new(alloc, "of the rows"))?;
+    let first = or_memory(left(alloc))?;
+    Ok(named_as(id, text, first, options))
 }
 
 /// The call of a function on these, where it may have so many.

@@ -7,7 +7,7 @@ ghost use Rattle.vx_fn_wire.specs.declared.aggregate_fn.AggregateFn.{AggregateFn
 ghost use Rattle.vx_fn_wire.specs.declared.error.FnWireError.{FnWireError as Refusal};
 
 use crate::aggregate_reading::{function_of, parts_of};
-use crate::error::FnWireError;
+use crate::error::{FnWireError, or_memory};
 use crate::pb;
 use crate::plugin::AggregateFnPlugin;
 use crate::session::FnSession;
@@ -45,7 +45,7 @@ impl AggregateFn {
         ensures refused { (e : Refusal) → IsUnreadAggregate e (aggregates_meaning aggregate_of session.now.aggregates) session.now.unknown message.now → IsErr result }
     {
         let parts = parts_of(message);
-        let id = Id::new(alloc, parts.id)?;
+        let id = or_memory(Id::new(alloc, parts.id))?;
         let metadata = parts.metadata_or_none();
         function_of(alloc, id, metadata, &session.aggregates, session.unknown)
     }

@@ -5,7 +5,7 @@ ghost use Rattle.vx_fn_wire.specs.Messages.{metadata_of};
 ghost use Rattle.vx_fn_wire.specs.Session.{aggregates_meaning, IsAggregateOf, IsNoAggregate, HoldsAggregate};
 
 use crate::aggregate_fn::AggregateFn;
-use crate::error::FnWireError;
+use crate::error::{FnWireError, or_memory};
 use crate::foreign_aggregate::new_foreign_aggregate_fn;
 use crate::pb;
 use crate::plugin::{AggregateFnPlugin, PluginError, aggregate_by};
@@ -91,7 +91,8 @@ pub fn function_of(
             if !unknown {
                 return Err(FnWireError::UnknownId);
             }
-            Ok(new_foreign_aggregate_fn(id, Blob::copy_from(alloc, metadata)?))
+            let metadata = or_memory(Blob::copy_from(alloc, metadata))?;
+            Ok(new_foreign_aggregate_fn(id, metadata))
         }
     }
 }

@@ -1,6 +1,6 @@
 //! Refusals of this crate.
 
-ghost use Rattle.std.specs.Prelude.{◌≡◌};
+ghost use Rattle.std.specs.Prelude.{◌≡◌, Ok, IfOk, IsOkUnless};
 ghost use Rattle.vx_fn_wire.specs.declared.error.FnWireError.TheVariants.{OutOfMemory};
 
 use std::alloc::{AllocError, AllocFailed};
@@ -56,15 +56,6 @@ impl<T: Drop> From<AllocFailed<T>> for FnWireError {
     }
 }
 
-impl From<TypeError> for FnWireError {
-    ghost from_gives = { λ _ e. e ≡ OutOfMemory };
-
-    // Of the calls of that crate only those are made here whose one refusal is want of memory.
-    fn from(_error: TypeError) -> FnWireError {
-        FnWireError::OutOfMemory
-    }
-}
-
 impl From<ProtoError> for FnWireError {
     ghost use Rattle.vx_fn_wire.specs.Refusals.{refusal_of_proto};
 
@@ -77,5 +68,17 @@ impl From<ProtoError> for FnWireError {
             ProtoError::TooDeep => FnWireError::TooDeep,
             ProtoError::OutOfRange => FnWireError::BadMessage,
         }
+    }
+}
+
+// What a call of `vx_types` made whose one refusal is want of memory. No other refusal is told as that.
+pub(crate) fn or_memory<T: Drop>(made: Result<T, TypeError>) -> Result<T, FnWireError>
+    requires { IsOkUnless made TypeError.OutOfMemory }
+    ensures same { IfOk result (λ x. made ≡ Ok x) }
+    ensures err { IsOkUnless result FnWireError.OutOfMemory }
+{
+    match made {
+        Ok(value) => Ok(value),
+        Err(_) => Err(FnWireError::OutOfMemory),
     }
 }

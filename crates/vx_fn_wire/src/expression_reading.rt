@@ -12,7 +12,7 @@ ghost use Rattle.vx_fn_wire.specs.Schema.{expr_lists};
 ghost use Rattle.vx_fn_wire.specs.Seen.{expr};
 ghost use Rattle.vx_fn_wire.specs.Session.{scalars_meaning, IsNotGiven};
 
-use crate::error::FnWireError;
+use crate::error::{FnWireError, or_memory};
 use crate::expression::Expression;
 use crate::expressions::Expressions;
 use crate::foreign::ForeignScalarFnVTable;
@@ -59,7 +59,7 @@ fn function_of(
             if !unknown {
                 return Err(FnWireError::UnknownId);
             }
-            let metadata = Blob::copy_from(alloc, metadata)?;
+            let metadata = or_memory(Blob::copy_from(alloc, metadata))?;
             ForeignScalarFnVTable::make_scalar_fn(alloc, id, metadata, children)
         }
     }
@@ -84,7 +84,7 @@ fn node_of(
         }
         return Ok(Expression::Root);
     }
-    let id = Id::new(alloc, id)?;
+    let id = or_memory(Id::new(alloc, id))?;
     let function = function_of(alloc, id, metadata, children.len(), session, unknown)?;
     if !function.signature().arity().admits(children.len()) {
         return Err(FnWireError::ArityMismatch);

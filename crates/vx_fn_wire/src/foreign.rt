@@ -8,7 +8,7 @@ ghost use Rattle.vx_fn_wire.specs.Foreign.{foreign_fn};
 ghost use Rattle.vx_fn_wire.specs.Texts.{foreign_text};
 
 use crate::arity::Arity;
-use crate::error::FnWireError;
+use crate::error::{FnWireError, or_memory};
 use crate::scalar_fn::ScalarFn;
 use std::alloc::Global;
 use std::fmt;
@@ -37,7 +37,7 @@ impl ForeignScalarFnOptions {
         ensures err { IsOkUnless result FnWireError.OutOfMemory }
     {
         Ok(ForeignScalarFnOptions {
-            metadata: self.metadata.clone(alloc)?,
+            metadata: or_memory(self.metadata.clone(alloc))?,
             arity: self.arity,
         })
     }
@@ -101,7 +101,7 @@ impl ForeignScalarFnVTable {
         Ok(ScalarFn {
             id,
             options: Some(options.metadata),
-            text: Name::new(alloc, text.as_str())?,
+            text: or_memory(Name::new(alloc, text.as_str()))?,
             arity: Arity::Exact(arity),
             child_names: Names::new(alloc),
             strict: false,
@@ -115,7 +115,7 @@ impl ForeignScalarFnVTable {
         ensures err { IsOkUnless result FnWireError.OutOfMemory }
     {
         Ok(ForeignScalarFnVTable {
-            id: self.id.clone(alloc)?,
+            id: or_memory(self.id.clone(alloc))?,
         })
     }
 }

@@ -8,7 +8,7 @@ ghost use Rattle.vx_fn_wire.specs.Foreign.{foreign_aggregate_fn};
 ghost use Rattle.vx_fn_wire.specs.Texts.{foreign_aggregate_text};
 
 use crate::aggregate_fn::AggregateFn;
-use crate::error::FnWireError;
+use crate::error::{FnWireError, or_memory};
 use std::alloc::Global;
 use std::fmt;
 use std::hash::{Hash, Hasher};
@@ -34,7 +34,7 @@ impl ForeignAggregateFnOptions {
         ensures err { IsOkUnless result FnWireError.OutOfMemory }
     {
         Ok(ForeignAggregateFnOptions {
-            metadata: self.metadata.clone(alloc)?,
+            metadata: or_memory(self.metadata.clone(alloc))?,
         })
     }
 }
@@ -85,7 +85,7 @@ impl ForeignAggregateFnVTable {
         ensures err { IsOkUnless result FnWireError.OutOfMemory }
     {
         Ok(ForeignAggregateFnVTable {
-            id: self.id.clone(alloc)?,
+            id: or_memory(self.id.clone(alloc))?,
         })
     }
 }

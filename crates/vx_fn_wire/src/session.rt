@@ -3,7 +3,7 @@
 ghost use Rattle.std.specs.Prelude.{◌≡◌, ℕ, List, None, Some, cond, bytes_eq, OnOk, OnErr, IsOkUnless};
 ghost use Rattle.vx_fn_wire.specs.Session.{scalars_meaning, aggregates_meaning};
 
-use crate::error::FnWireError;
+use crate::error::{FnWireError, or_memory};
 use crate::plugin::{AggregateFnPlugin, ScalarFnPlugin, id_of_aggregate, id_of_scalar};
 use std::alloc::Global;
 use std::collections::HashMap;
@@ -35,7 +35,7 @@ impl ScalarFnSession {
         ensures kept { OnErr result ((id : List ℕ) → scalars_meaning scalar_of self.new id ≡ scalars_meaning scalar_of self.old id) }
         ensures err { IsOkUnless result FnWireError.OutOfMemory }
     {
-        let id = id_of_scalar(&plugin).clone(self.alloc)?;
+        let id = or_memory(id_of_scalar(&plugin).clone(self.alloc))?;
         self.plugins.insert(id, plugin)?;
         Ok(())
     }
@@ -78,7 +78,7 @@ impl AggregateFnSession {
         ensures kept_zones { OnErr result ((id : List ℕ) → aggregates_meaning zone_default self.new id ≡ aggregates_meaning zone_default self.old id) }
         ensures err { IsOkUnless result FnWireError.OutOfMemory }
     {
-        let id = id_of_aggregate(&plugin).clone(self.alloc)?;
+        let id = or_memory(id_of_aggregate(&plugin).clone(self.alloc))?;
         self.plugins.insert(id, plugin)?;
         Ok(())
     }

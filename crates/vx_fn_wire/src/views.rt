@@ -5,7 +5,7 @@ ghost use Rattle.vx_types.specs.Content.{IsText};
 ghost use Rattle.vx_fn_wire.specs.Texts.{child_name_of};
 
 use crate::arity::Arity;
-use crate::error::FnWireError;
+use crate::error::{FnWireError, or_memory};
 use crate::scalar_fn::ScalarFn;
 use std::alloc::Global;
 use std::fmt;
@@ -49,7 +49,7 @@ impl<'a> ScalarFnOptions<'a> {
         ensures err { IsOkUnless result FnWireError.OutOfMemory }
     {
         match self.bytes {
-            Some(bytes) => Ok(Some(Blob::copy_from(alloc, bytes)?)),
+            Some(bytes) => Ok(Some(or_memory(Blob::copy_from(alloc, bytes))?)),
             None => Ok(None),
         }
     }
@@ -103,10 +103,10 @@ impl<'a> ScalarFnSignature<'a> {
         ensures err { IsOkUnless result FnWireError.OutOfMemory }
     {
         match self.function.child_names.get(index) {
-            Some(name) => Ok(name.clone(alloc)?),
+            Some(name) => or_memory(name.clone(alloc)),
             None => {
                 let text = format!(in alloc; "arg{index}")?;
-                Ok(Name::new(alloc, text.as_str())?)
+                or_memory(Name::new(alloc, text.as_str()))
             }
         }
     }
