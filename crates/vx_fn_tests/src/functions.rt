@@ -258,3 +258,40 @@ fn aggregate_functions(rt: HostRuntime) {
     assert!(rt; come_back(alloc, bytes) == Ok(true));
     assert!(rt; silence(alloc) == Ok(Some(FnWireError::NotSerializable)));
 }
+
+const TEXTS: [(FnWireError, &str); 9] = [
+    (FnWireError::OutOfMemory, "out of memory"),
+    (
+        FnWireError::BadMessage,
+        "the bytes are no message of an expression or of a function",
+    ),
+    (FnWireError::TooDeep, "over 100 messages nest"),
+    (FnWireError::RootWithChildren, "a root has children"),
+    (
+        FnWireError::UnknownId,
+        "a function's identifier has no reader",
+    ),
+    (
+        FnWireError::ArityMismatch,
+        "the number of children is outside the function's arity",
+    ),
+    (
+        FnWireError::IdMismatch,
+        "an aggregate function's reader gave another identifier",
+    ),
+    (
+        FnWireError::NotSerializable,
+        "a function's options cannot be written",
+    ),
+    (
+        FnWireError::PluginRefused,
+        "a function's reader refuses its metadata",
+    ),
+];
+
+#[test]
+fn texts_of_refusals(rt: HostRuntime) {
+    for (error, text) in &TEXTS {
+        assert!(rt; prints(rt.alloc(), error, text), "{text}");
+    }
+}

@@ -121,31 +121,60 @@ fn refused(rt: HostRuntime) {
     assert!(rt; none == Err(FnWireError::PluginRefused));
 }
 
-// Whether a plugin gives no function of zones.
-fn has_no_zones(alloc: Global, plugin: &Echo) -> bool {
-    matches!(plugin.zone_stat_default(alloc, &DType::Null), Ok(None))
+// The plugin of this identifier that tells zones apart by its own function.
+fn zoned(alloc: Global, text: &str) -> Result<Box<Zoned>, FnWireError> {
+    let id = id_of(alloc, text)?;
+    Ok(Box::new(alloc, Zoned { id })?)
 }
 
-#[test]
-fn zones(rt: HostRuntime) {
-    let alloc = rt.alloc();
-    match echo(alloc, None) {
-        Ok(plugin) => assert!(rt; has_no_zones(alloc, &plugin)),
-        Err(_) => assert!(rt; false),
+// The functions of `x.f`, which tells no zones apart, and then of `x.g` and of this one, which do.
+fn zoning(alloc: Global, last: &str) -> Result<AggregateFnSession, FnWireError> {
+    let plugin = echo(alloc, None)?;
+    let mut functions = aggregates(alloc, plugin)?;
+    functions.register(zoned(alloc, "x.g")?)?;
+    functions.register(zoned(alloc, last)?)?;
+    Ok(functions)
+}
+
+// The identifier of a function for zones; nothing where there is none.
+fn text_of(zones: &Option<AggregateFn>) -> &str {
+    match zones {
+        Some(function) => function.id.as_str(),
+        None => "",
     }
 }
 
-// Whether a plugin gives the function of its own identifier for zones.
-fn has_its_zones(alloc: Global, plugin: &Zoned) -> bool {
-    let given = plugin.zone_stat_default(alloc, &DType::Null);
-    matches!(&given, Ok(Some(function)) if function.id == plugin.id)
+// Whether the plugin that stands at an identifier gives this function for zones, or none.
+fn tells(alloc: Global, functions: &AggregateFnSession, at: &Id, zones: &str) -> bool {
+    let Some(plugin) = functions.registry().get(at) else {
+        return false;
+    };
+    match plugin.zone_stat_default(alloc, &DType::Null) {
+        Ok(given) => text_of(&given) == zones,
+        Err(_) => false,
+    }
 }
 
+// The same of the functions of which this one was registered last.
+fn zones_at(alloc: Global, last: &str, at: &str, zones: &str) -> Result<bool, FnWireError> {
+    let functions = zoning(alloc, last)?;
+    let id = id_of(alloc, at)?;
+    Ok(tells(alloc, &functions, &id, zones))
+}
+
+// Which was registered last, where a plugin is looked up, its function for zones, and whether it is so.
+const ZONES: [(&str, &str, &str, bool); 5] = [
+    ("x.h", "x.f", "", true),
+    ("x.h", "x.g", "x.g", true),
+    ("x.f", "x.f", "x.f", true),
+    ("x.f", "x.g", "x.g", true),
+    ("x.f", "x.h", "", false),
+];
+
 #[test]
-fn zones_of_a_plugin(rt: HostRuntime) {
-    let alloc = rt.alloc();
-    match id_of(alloc, "x.g") {
-        Ok(id) => assert!(rt; has_its_zones(alloc, &Zoned { id })),
-        Err(_) => assert!(rt; false),
+fn zones(rt: HostRuntime) {
+    for (last, at, zones, stands) in &ZONES {
+        let told = zones_at(rt.alloc(), last, at, zones);
+        assert!(rt; told == Ok(*stands), "{last} {at}");
     }
 }
