@@ -100,7 +100,7 @@ impl ArrayPlugin for Odd {
         &self.id
     }
 
-    fn serialized_ids(&self, alloc: Global) -> Result<Ids, AllocError> {
+    fn serialized_ids(&self, alloc: Global) -> Result<Ids, PluginError> {
         let mut ids = Ids::new(alloc);
         push(alloc, &self.id, &mut ids)?;
         Ok(ids)

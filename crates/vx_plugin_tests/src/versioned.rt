@@ -99,7 +99,7 @@ impl ArrayPlugin for Versioned {
         &self.old
     }
 
-    fn serialized_ids(&self, alloc: Global) -> Result<Ids, AllocError> {
+    fn serialized_ids(&self, alloc: Global) -> Result<Ids, PluginError> {
         let mut ids = Ids::new(alloc);
         push(alloc, &self.old, &mut ids)?;
         push(alloc, &self.new, &mut ids)?;

@@ -1,6 +1,6 @@
 //! Readers and writers of arrays, of the caller.
 
-ghost use Rattle.std.specs.Prelude.{◌≡◌, ℕ, IfOk};
+ghost use Rattle.std.specs.Prelude.{◌≡◌, ℕ, IfOk, IsOkUnless};
 ghost use Rattle.vx_type_wire.specs.Lent.{lent_meaning};
 ghost use Rattle.vx_wire_tree.specs.Plugin.{PluginMeaning};
 ghost use Rattle.vx_registry.specs.Plugin.{IsAnswer, IsWrittenAs, head_in, parts_head};
@@ -54,9 +54,11 @@ pub trait ArrayPlugin: Drop {
     fn id(&self) -> &Id
         ensures { result.now ≡ (means self.now).id };
 
-    /// The identifiers that the plugin declares: those of the nodes that it writes, and that it reads.
-    fn serialized_ids(&self, alloc: Global) -> Result<Ids, AllocError>
-        ensures { IfOk result (λ ids. ids ≡ (means self.now).declared) };
+    /// The identifiers that the plugin declares: those of the nodes that it writes, and that it reads. The only refusal is want
+    /// of memory.
+    fn serialized_ids(&self, alloc: Global) -> Result<Ids, PluginError>
+        ensures declared { IfOk result (λ ids. ids ≡ (means self.now).declared) }
+        ensures err { IsOkUnless result PluginError.OutOfMemory };
 
     /// What an array is written as; `None` where the plugin has no form for it, and `Refused` where it refuses the array.
     fn serialize(
@@ -97,8 +99,9 @@ pub(crate) fn id_of(plugin: &Box<dyn ArrayPlugin>) -> &Id
 }
 
 /// `serialized_ids` of a box.
-pub(crate) fn ids_of(alloc: Global, plugin: &Box<dyn ArrayPlugin>) -> Result<Ids, AllocError>
-    ensures { IfOk result (λ ids. ids ≡ (means plugin.now).declared) }
+pub(crate) fn ids_of(alloc: Global, plugin: &Box<dyn ArrayPlugin>) -> Result<Ids, PluginError>
+    ensures declared { IfOk result (λ ids. ids ≡ (means plugin.now).declared) }
+    ensures err { IsOkUnless result PluginError.OutOfMemory }
 {
     plugin.serialized_ids(alloc)
 }

@@ -24,7 +24,7 @@ returns-clause-entries g c =
     c.in-Ok-set_boxed.ensures.registered
     ∙ ap (λ n. with_plugin n c.in-Ok-clone.id c.in-Ok.ids own.tables) before
     ∙ ap (λ id. with_plugin k id c.in-Ok.ids own.tables) (c.in-Ok-clone.ensures.ok ∙ c.id_of.ensures)
-    ∙ ap (λ ids. with_plugin k p.id ids own.tables) c.in-Ok.ensures
+    ∙ ap (λ ids. with_plugin k p.id ids own.tables) c.in-Ok.ensures.declared
 
 pub returns-clause-readers : goal.returns-clause-readers
 returns-clause-readers g c = λ x id.
@@ -34,7 +34,7 @@ returns-clause-readers g c = λ x id.
     let before : n ≡ length own.plugins.items = omega (arith, c.len.ensures, c.reserve.ensures.len) in
     found_boxed (λ b. (goal.ArrayPlugin-dyn g (b.vtable, b.value)).means b.value) own.plugins.items c.push_reserved.new.self.items b n _ own.tables.readers c.set_boxed.new.self.readers id
     (c.push_reserved.ensures.items ∙ ap (λ z. z ++ b ∷ []) c.reserve.ensures.items) before
-    (ap (λ r. r.readers) c.in-Ok-set_boxed.ensures.registered ∙ ap (λ z. put_all (Boxed n) z own.tables.readers) c.in-Ok.ensures)
+    (ap (λ r. r.readers) c.in-Ok-set_boxed.ensures.registered ∙ ap (λ z. put_all (Boxed n) z own.tables.readers) c.in-Ok.ensures.declared)
     (λ m p. own.in_range.readers id m p)
 
 pub returns-clause-writers : goal.returns-clause-writers
