@@ -231,17 +231,24 @@ fn each_row_of_nulls_is_null(rt: HostRuntime) {
     assert!(rt; are_nulls_copied(rt.alloc()));
 }
 
+const TEXTS: [(ArrayError, &str); 6] = [
+    (ArrayError::OutOfMemory, "out of memory"),
+    (ArrayError::BadShape, "the parts fit no sound array"),
+    (ArrayError::BadContent, "the content is broken"),
+    (
+        ArrayError::ForeignControl,
+        "a foreign node stands where it says where rows are",
+    ),
+    (ArrayError::ValueTooLarge, "the row takes too many cells"),
+    (
+        ArrayError::BadCast,
+        "a merge that is null is of a type without nulls",
+    ),
+];
+
 #[test]
-fn errors_are_printed(rt: HostRuntime) {
-    let alloc = rt.alloc();
-    assert!(rt; prints(alloc, &ArrayError::OutOfMemory, "out of memory"));
-    assert!(rt; prints(alloc, &ArrayError::BadShape, "the parts fit no sound array"));
-    assert!(rt; prints(alloc, &ArrayError::BadContent, "the content is broken"));
-    assert!(rt;
-        prints(
-            alloc,
-            &ArrayError::ValueTooLarge,
-            "the row takes too many cells"
-        )
-    );
+fn texts_of_refusals(rt: HostRuntime) {
+    for (error, text) in &TEXTS {
+        assert!(rt; prints(rt.alloc(), error, text), "{text}");
+    }
 }

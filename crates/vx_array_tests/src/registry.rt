@@ -1,8 +1,11 @@
-//! Tests of numbered identifiers, and of what sessions read and write.
+//! Tests of numbered identifiers, of what sessions read and write, and of the texts of refusals.
 
+use crate::parts::prints;
 use std::alloc::Global;
 use vx_encodings::Encoding;
-use vx_registry::{ArrayContext, ArraySession, Entry, ReadContext, RegistryError, VortexSession};
+use vx_registry::{
+    ArrayContext, ArraySession, Entry, PluginError, ReadContext, RegistryError, VortexSession,
+};
 use vx_type_wire::ExtSession;
 use vx_types::{Id, Ids, TypeError};
 
@@ -165,5 +168,41 @@ fn the_shipped_session_reads_and_writes_its_encodings(rt: HostRuntime) {
 fn the_empty_session_reads_and_writes_nothing(rt: HostRuntime) {
     for (text, _) in &ENTRIES {
         assert!(rt; is_unread(rt.alloc(), text), "{text}");
+    }
+}
+
+const TEXTS: [(RegistryError, &str); 5] = [
+    (RegistryError::OutOfMemory, "out of memory"),
+    (
+        RegistryError::NotRegistered,
+        "nothing writes the arrays of this encoding",
+    ),
+    (
+        RegistryError::UndeclaredId,
+        "a plugin names an identifier that it does not declare",
+    ),
+    (RegistryError::PluginRefused, "a plugin refuses the array"),
+    (
+        RegistryError::WireLimit,
+        "the metadata does not fit its message",
+    ),
+];
+
+const PLUGIN_TEXTS: [(PluginError, &str); 2] = [
+    (PluginError::OutOfMemory, "out of memory"),
+    (PluginError::Refused, "the plugin refuses"),
+];
+
+#[test]
+fn texts_of_refusals(rt: HostRuntime) {
+    for (error, text) in &TEXTS {
+        assert!(rt; prints(rt.alloc(), error, text), "{text}");
+    }
+}
+
+#[test]
+fn texts_of_refusals_of_plugins(rt: HostRuntime) {
+    for (error, text) in &PLUGIN_TEXTS {
+        assert!(rt; prints(rt.alloc(), error, text), "{text}");
     }
 }

@@ -335,13 +335,27 @@ fn nulls_are_built_of_nothing(rt: HostRuntime) {
     assert!(rt; are_nulls_built(alloc, truths, &[], 0, 0) == unfit);
 }
 
+const TEXTS: [(EncodingError, &str); 6] = [
+    (EncodingError::OutOfMemory, "out of memory"),
+    (
+        EncodingError::BadMetadata,
+        "the metadata is none of the encoding's",
+    ),
+    (EncodingError::BadShape, "the parts do not fit the encoding"),
+    (EncodingError::BadContent, "the content is broken"),
+    (
+        EncodingError::ForeignControl,
+        "a foreign node says where rows are",
+    ),
+    (
+        EncodingError::WireLimit,
+        "the metadata does not fit its message",
+    ),
+];
+
 #[test]
-fn errors_are_printed(rt: HostRuntime) {
-    let alloc = rt.alloc();
-    assert!(rt; prints(alloc, &EncodingError::OutOfMemory, "out of memory"));
-    let unread = "the metadata is none of the encoding's";
-    assert!(rt; prints(alloc, &EncodingError::BadMetadata, unread));
-    let unfit = "the parts do not fit the encoding";
-    assert!(rt; prints(alloc, &EncodingError::BadShape, unfit));
-    assert!(rt; prints(alloc, &EncodingError::BadContent, "the content is broken"));
+fn texts_of_refusals(rt: HostRuntime) {
+    for (error, text) in &TEXTS {
+        assert!(rt; prints(rt.alloc(), error, text), "{text}");
+    }
 }

@@ -2,7 +2,7 @@
 
 use std::alloc::Global;
 use vx_arrays::RowValue;
-use vx_generator::{Table, generate};
+use vx_generator::{GeneratorError, Table, generate};
 use vx_types::PValue;
 
 // The table of a seed, of at most a million rows.
@@ -192,4 +192,17 @@ fn a_seed_tells_one_table(rt: HostRuntime) {
     let alloc = rt.alloc();
     assert!(rt; are_equal(alloc, 7, 7) == Some(true));
     assert!(rt; are_equal(alloc, 7, 8) == Some(false));
+}
+
+// Whether a refusal has this text.
+fn is_text(alloc: Global, error: GeneratorError, text: &str) -> bool {
+    match format!(in alloc; "{error}") {
+        Ok(printed) => printed.as_str() == text,
+        Err(_) => false,
+    }
+}
+
+#[test]
+fn the_text_of_the_refusal(rt: HostRuntime) {
+    assert!(rt; is_text(rt.alloc(), GeneratorError::OutOfMemory, "out of memory"));
 }

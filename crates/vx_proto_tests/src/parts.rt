@@ -1,7 +1,8 @@
+use std::alloc::Global;
 use std::test::Fail;
 use vx_proto::{
-    Element, flag, flag_at, i32_at, int32_number, int32_of, message_at, one, text_at, u8_at,
-    unzigzag, zigzag,
+    Element, ProtoError, flag, flag_at, i32_at, int32_number, int32_of, message_at, one, text_at,
+    u8_at, unzigzag, zigzag,
 };
 
 #[test]
@@ -48,4 +49,32 @@ fn members_by_slot(rt: HostRuntime) -> Result<(), Fail> {
     assert!(rt; matches!(message_at(&slots, 3), Some([])));
     assert!(rt; text_at(&slots, 4).is_none());
     Ok(())
+}
+
+// Whether a refusal has this text.
+fn is_text(alloc: Global, error: ProtoError, text: &str) -> bool {
+    match format!(in alloc; "{error}") {
+        Ok(printed) => printed.as_str() == text,
+        Err(_) => false,
+    }
+}
+
+const TEXTS: [(ProtoError, &str); 4] = [
+    (ProtoError::OutOfMemory, "out of memory"),
+    (
+        ProtoError::BadMessage,
+        "the bytes are no message of the schema",
+    ),
+    (ProtoError::TooDeep, "over 100 messages nest"),
+    (
+        ProtoError::OutOfRange,
+        "a number is out of its field's range",
+    ),
+];
+
+#[test]
+fn texts_of_refusals(rt: HostRuntime) {
+    for (error, text) in &TEXTS {
+        assert!(rt; is_text(rt.alloc(), *error, text), "{text}");
+    }
 }

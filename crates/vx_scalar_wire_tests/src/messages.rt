@@ -250,9 +250,60 @@ fn is_text(alloc: Global, error: ScalarWireError, text: &str) -> bool {
     }
 }
 
+// What each refusal is printed as, the refusal of a type behind the words that one is refused.
+const TEXTS: [(ScalarWireError, &str); 14] = [
+    (ScalarWireError::OutOfMemory, "out of memory"),
+    (
+        ScalarWireError::BadMessage,
+        "the bytes are no message of a scalar",
+    ),
+    (ScalarWireError::TooDeep, "over 100 messages nest"),
+    (ScalarWireError::MissingKind, "the message has no value"),
+    (
+        ScalarWireError::KindMismatch,
+        "the member is none of the type's",
+    ),
+    (
+        ScalarWireError::OutOfRange,
+        "a number is out of its type's range",
+    ),
+    (
+        ScalarWireError::BadChild,
+        "a child is missing, too many, or does not fit",
+    ),
+    (
+        ScalarWireError::BadScalar,
+        "the value does not fit its type",
+    ),
+    (
+        ScalarWireError::BadPrecision,
+        "a statistic has an unknown precision",
+    ),
+    (
+        ScalarWireError::BadDType(TypeRefusal::BadType),
+        "a type is refused: the message is no type's",
+    ),
+    (
+        ScalarWireError::BadDType(TypeRefusal::UnknownExtension),
+        "a type is refused: an extension's identifier has no reader",
+    ),
+    (
+        ScalarWireError::BadDType(TypeRefusal::ExtensionRefused),
+        "a type is refused: an extension's reader does not accept it",
+    ),
+    (
+        ScalarWireError::BadDType(TypeRefusal::WireLimit),
+        "a type is refused: the type is too deep to be written",
+    ),
+    (
+        ScalarWireError::MessageTooLong,
+        "the written message would be too long",
+    ),
+];
+
 #[test]
-fn refusals_have_texts(rt: HostRuntime) {
-    let deep = ScalarWireError::BadDType(TypeRefusal::WireLimit);
-    let text = "a type is refused: the type is too deep to be written";
-    assert!(rt; is_text(rt.alloc(), deep, text));
+fn texts_of_refusals(rt: HostRuntime) {
+    for (error, text) in &TEXTS {
+        assert!(rt; is_text(rt.alloc(), *error, text), "{text}");
+    }
 }

@@ -1,5 +1,5 @@
 //! The tests of the crate `vx_serde`: worked blobs, and what the definitions say of them; blobs read, read node by node
-//! and written again; arrays written.
+//! and written again; arrays written; and the texts of refusals.
 #![tactic(auto)]
 
 #[cfg(test)]
@@ -10,5 +10,7 @@ pub mod files;
 pub mod laws;
 #[cfg(test)]
 mod nodes;
+#[cfg(test)]
+mod texts;
 #[cfg(test)]
 mod writing;

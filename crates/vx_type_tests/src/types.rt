@@ -299,3 +299,31 @@ fn levels_are_counted_to_a_limit(rt: HostRuntime) {
     assert!(rt; is_within(alloc, 3) == Ok(true));
     assert!(rt; is_within(alloc, u32::MAX) == Ok(true));
 }
+
+// Whether a refusal has this text.
+fn is_text(alloc: Global, error: TypeError, text: &str) -> bool {
+    match format!(in alloc; "{error}") {
+        Ok(printed) => printed.as_str() == text,
+        Err(_) => false,
+    }
+}
+
+const TEXTS: [(TypeError, &str); 4] = [
+    (TypeError::OutOfMemory, "out of memory"),
+    (
+        TypeError::BadDecimal,
+        "a decimal's precision is not 1 to 76",
+    ),
+    (
+        TypeError::FieldCount,
+        "the numbers of names, types and tags differ",
+    ),
+    (TypeError::DuplicateTag, "a union's tag stands twice"),
+];
+
+#[test]
+fn texts_of_refusals(rt: HostRuntime) {
+    for (error, text) in &TEXTS {
+        assert!(rt; is_text(rt.alloc(), *error, text), "{text}");
+    }
+}

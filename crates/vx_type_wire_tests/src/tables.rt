@@ -427,13 +427,18 @@ fn is_text(alloc: Global, error: TypeWireError, text: &str) -> bool {
     }
 }
 
-const TEXTS: [(TypeWireError, &str); 7] = [
+const TEXTS: [(TypeWireError, &str); 9] = [
     (TypeWireError::OutOfMemory, "out of memory"),
     (TypeWireError::BadTable, "the message is no table of a type"),
     (
         TypeWireError::TableLimit,
         "the message nests too deep or unfolds to too many tables or bytes",
     ),
+    (
+        TypeWireError::BadMessage,
+        "the bytes are no message of a type",
+    ),
+    (TypeWireError::TooDeep, "over 100 messages nest"),
     (TypeWireError::BadType, "the table is no type's"),
     (
         TypeWireError::UnknownExtension,
