@@ -15,7 +15,7 @@ use Rattle.vx_wire_tree.specs.Written.{wire}
 use Rattle.vx_encodings.specs.Messages.{codec}
 use Rattle.vx_serde.specs.declared.error.WireError.{WireError}
 use Rattle.vx_serde.specs.declared.error.WireError.TheVariants.{OutOfMemory, NotPermitted, WireLimit}
-use Rattle.vx_serde.specs.ArrayNode.{plain_options, array_value, array_pieces, RefusesBlocks}
+use Rattle.vx_serde.specs.ArrayNode.{plain_options, array_value, array_pieces, RefusesBlocks, LeavesBuilder}
 use Rattle.vx_serde.specs.ArraySchema.{array_schema, node_fields}
 use Rattle.vx_flat.specs.Building.{AreWritten}
 use Rattle.vx_serde.specs.Blocks.{encodings_in, node_pieces, layout_by}
@@ -29,6 +29,19 @@ use Rattle.vx_serde.proofs.NumberedBy.{as-many, root-numbered, layout-numbered, 
 use Rattle.vx_serde.proofs.WholeBlob.{unwritten}
 use Rattle.vx_serde.proofs.WiredStats.{wire-tabled, wire-told}
 use Rattle.vx_serde.proofs.WrittenAgain.{grown-ids, wire-whole}
+
+-- A refusal leaves a builder as it was.
+pub builder_kept : (b : Built) (e : WireError) → LeavesBuilder b b e
+builder_kept b NotPermitted = refl
+builder_kept b WireLimit = inl refl
+builder_kept b _ = tt
+
+-- A builder that refuses a block has failed, or wants memory.
+pub builder_stopped : (old new : Built) (ps : List Piece) (e : FlatError) → IsStopped old ps e new → LeavesBuilder old new (message_refusal e)
+builder_stopped old new ps flat.OutOfMemory h = tt
+builder_stopped old new ps flat.MessageTooLong h = inr h.1
+builder_stopped old new ps flat.BadTable h = absurd h
+builder_stopped old new ps flat.TableLimit h = absurd h
 
 module _ (s : SessionMeaning) (t : Tree) (c : Context) where
   -- The blocks of the nodes whose encodings have the numbers of the grown context.

@@ -30,6 +30,7 @@ mod Recodings
 mod NeverCaused
 mod PadsAlign
 mod AlignedBlob
+mod WrittenOwn
 mod Serializations
 mod SerializedNodes
 mod StandingNames

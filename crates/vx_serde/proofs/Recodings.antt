@@ -1,7 +1,6 @@
 -- What recoding a blob gives, what it leaves, and why it does not.
-use Rattle.std.proofs.Common.{ℕ, ◌≡◌, List, ◌++◌, Option, None, Some, replicate, refl, sym, ap, ◌∙◌, subst, inl, inr, arith}
+use Rattle.std.proofs.Common.{ℕ, ◌≡◌, List, ◌++◌, Option, None, Some, replicate, refl, sym, ap, ◌∙◌, subst, inl, inr}
 use Rattle.std.specs.Prelude.{IsSome}
-use Rattle.vx_buffer.specs.Buffer.{Buffer}
 use Rattle.vx_array_tree.specs.Tree.{Tree, Trees}
 use Rattle.vx_flat.specs.Weight.{weight}
 use Rattle.vx_flat.specs.Limits.{IsLight}
@@ -15,12 +14,12 @@ use Rattle.vx_array_tree.proofs.CanonLaws.{written_places}
 use Rattle.vx_wire_tree.specs.Context.{Context, with_ids, grown}
 use Rattle.vx_wire_tree.specs.Fields.{FitsMessage}
 use Rattle.vx_wire_tree.specs.Limits.{HasMessage, HasMessages}
-use Rattle.vx_wire_tree.specs.Session.{SessionMeaning, IsShipped, IsPaired}
+use Rattle.vx_wire_tree.specs.Session.{IsShipped, IsPaired}
 use Rattle.vx_wire_tree.specs.Taken.{Unwritten, unregistered, unserializable, undeclared, unwilling, HasUntaken}
 use Rattle.vx_wire_tree.specs.Tells.{Tells}
 use Rattle.vx_wire_tree.specs.Wire.{Wire, ids_in, buffers_in}
 use Rattle.vx_wire_tree.specs.Written.{wire, canon}
-use Rattle.vx_wire_tree.proofs.Laws.{matched_written, canon_wire, canon_written, canon_grown, never_untaken, no_plugin_refuses, taken_own}
+use Rattle.vx_wire_tree.proofs.Laws.{matched_written, canon_wire, canon_written, canon_grown, never_untaken, no_plugin_refuses}
 use Rattle.vx_encodings.specs.Messages.{codec}
 use Rattle.vx_serde.specs.declared.options.SerializeOptions.{SerializeOptions}
 use Rattle.vx_serde.specs.declared.error.WireError.{WireError}
@@ -43,10 +42,10 @@ use Rattle.vx_serde.specs.Recoding.{Product, IsRecoded, IsFaithful, IsTwiceAsOnc
 use Rattle.vx_serde.specs.Taking.{as_written}
 use Rattle.vx_serde.proofs.CarriedOnce.{one_blob}
 use Rattle.vx_serde.proofs.OneArray.{spelled_once}
-use Rattle.vx_serde.proofs.WrittenAgain.{spelled_again}
+use Rattle.vx_serde.proofs.WrittenAgain.{spelled_again, serialized_again}
+use Rattle.vx_serde.proofs.WrittenOwn.{serialized_own}
 use Rattle.vx_serde.proofs.Growing.{kept-same}
 use Rattle.vx_serde.proofs.Taking.{refused_own}
-use Rattle.vx_serde.proofs.WiredNodes.{wired-levels}
 
 -- An opened blob spells the array that its wire tree tells.
 pub spells : (asked : Request) (w : Wire) (t : Tree) → IsOpened (message_limits asked.options) asked.blob asked.ids w → Tells codec asked.session w asked.dtype asked.len t → IsSpelled asked t
@@ -67,9 +66,14 @@ reader_limits options blob ids w opened = record {
 -- ---- what is made
 
 -- An array that was read is recoded where it is serialized.
-pub recoded : (asked : Request) (made : Product) (read : Wire) → IsOpened (message_limits asked.options) asked.blob asked.ids read
-    → IsSerialized asked.session made.array asked.options asked.context made.context made.buffers → IsRecoded asked made
-recoded asked made read opened serialized = record { reader_limits = reader_limits asked.options asked.blob asked.ids read opened; serialized = serialized }
+pub recoded : (asked : Request) (made : Product) → IsLawful codec asked.session → IsPaired asked.session → (read : Wire) → IsOpened (message_limits asked.options) asked.blob asked.ids read
+    → Tells codec asked.session read asked.dtype asked.len made.array → IsSerialized asked.session made.array asked.options asked.context made.context made.buffers → IsRecoded asked made
+recoded asked made law paired read opened told serialized = record {
+  spelled = spells asked read made.array opened told;
+  reader_limits = reader_limits asked.options asked.blob asked.ids read opened;
+  serialized = serialized;
+  returned = λ r. serialized_again asked.session law paired made.array asked.context made.context asked.options made.buffers serialized r;
+}
 
 -- A blob that was written keeps the limits on reading.
 written_light : (ids : List (List ℕ)) (o : SerializeOptions) (w : Wire) → IsWritable ids o w → KeepsReaderLimits o (blob_bytes ids o w)
@@ -128,27 +132,20 @@ twice asked made ok law spelled blob again =
       };
     }
 
--- Where no plugin writes, what is serialized is written as it is.
-pub serialized_own : (s : SessionMeaning) (t : Tree) (o : SerializeOptions) (before after : Context) (bs : List Buffer) → IsShipped s → IsSerialized s t o before after bs → as_written s o t ≡ t
-serialized_own s t o before after bs ok x =
-    let written = as_written s o t in
-    taken_own s ok (most_levels o) t x.taken (omega (arith, x.blob.limits.writable.tree.nested, wired-levels s written))
-
--- What is recoded of a spelled array is faithful to it.
-pub faithful : (asked : Request) (made : Product) → IsShipped asked.session → IsLawful codec asked.session → IsPaired asked.session → IsSpelled asked made.array → IsRecoded asked made → IsFaithful asked made
-faithful asked made ok law paired spelled recoded =
+-- What is recoded by shipped encodings is faithful.
+pub faithful : (asked : Request) (made : Product) → IsShipped asked.session → IsLawful codec asked.session → IsPaired asked.session → IsRecoded asked made → IsFaithful asked made
+faithful asked made ok law paired recoded =
     let own = serialized_own asked.session made.array asked.options asked.context made.context made.buffers ok recoded.serialized in
     let B : Tree → Type 0 = λ z. IsWrittenBlob asked.session z asked.options asked.context made.context made.buffers in
     let blob : IsWrittenBlob asked.session made.array asked.options asked.context made.context made.buffers = subst B own recoded.serialized.blob in
     let P : List ℕ → Type 0 = λ z. Spells z made.context.ids asked.dtype asked.len asked.session (canon codec asked.session made.array) in
     let again = subst P (sym blob.written)
-    (spelled_again asked.session ok law paired asked.blob asked.ids asked.dtype asked.len made.array asked.context made.context asked.options spelled blob.storable blob.grown_is blob.limits) in
+    (spelled_again asked.session ok law paired asked.blob asked.ids asked.dtype asked.len made.array asked.context made.context asked.options recoded.spelled blob.storable blob.grown_is blob.limits) in
     record {
-      spelled = spelled;
       own = own;
-      the_one = λ other x. spelled_once asked.blob asked.ids asked.dtype asked.len asked.session other made.array ok law x spelled;
+      the_one = λ other x. spelled_once asked.blob asked.ids asked.dtype asked.len asked.session other made.array ok law x recoded.spelled;
       again = again;
-      twice = twice asked made ok law spelled blob again;
+      twice = twice asked made ok law recoded.spelled blob again;
     }
 
 -- ---- what is left

@@ -10,7 +10,7 @@ use Rattle.vx_array_tree.specs.Table.{buffers_of}
 use Rattle.vx_array_tree.specs.Tree.{Tree, Trees}
 use Rattle.vx_wire_tree.specs.Codec.{Codec, IsLawful}
 use Rattle.vx_wire_tree.specs.Context.{Context, grown}
-use Rattle.vx_wire_tree.specs.ReadBack.{HasStorableStats, HasCountableMetadata}
+use Rattle.vx_wire_tree.specs.ReadBack.{HasStorableStats, HasCountableMetadata, IsWritten}
 use Rattle.vx_wire_tree.specs.Session.{SessionMeaning, IsShipped, IsPaired}
 use Rattle.vx_wire_tree.specs.Tells.{Tells}
 use Rattle.vx_wire_tree.specs.Wire.{IsWhole, IsWholeNode, buffers_in, ids_in}
@@ -20,7 +20,7 @@ use Rattle.vx_encodings.specs.Messages.{codec}
 use Rattle.vx_serde.specs.declared.options.SerializeOptions.{SerializeOptions}
 use Rattle.vx_serde.specs.Limits.{most_levels}
 use Rattle.vx_serde.specs.Placing.{descriptors_from}
-use Rattle.vx_serde.specs.Serializing.{IsSerialized, ReturnsWhole, IsSpelledAgain}
+use Rattle.vx_serde.specs.Serializing.{IsSerialized, ReturnsWhole, IsSpelledAgain, IsReadAgain}
 use Rattle.vx_serde.specs.Taking.{as_written}
 use Rattle.vx_serde.specs.Written.{blob_bytes, message_bytes, IsWritable}
 use Rattle.vx_serde.specs.Spells.{Spells, blob_of, ids_after, KeepsWriterLimits}
@@ -103,3 +103,11 @@ returned_again s law paired t old new options x grew fit =
 pub serialized_again : (s : SessionMeaning) → IsLawful codec s → IsPaired s → (t : Tree) (old new : Context) (options : SerializeOptions) (bs : List Buffer) → IsSerialized s t options old new bs → ReturnsWhole s options t → IsSpelledAgain s t new bs
 serialized_again s law paired t old new options bs x r =
     subst (λ z. Spells z new.ids (label t).dtype (label t).len s t) (sym x.blob.written) (returned_again s law paired t old new options r x.blob.grown_is x.blob.limits)
+
+-- What shipped encodings write of a sound array spells what is read back of it, where each of its nodes is written, the types
+-- in it are known, its statistics can be stored, and nothing reads its topmost foreign nodes.
+pub read_back : (s : SessionMeaning) → IsShipped s → IsLawful codec s → IsPaired s → (t : Tree) (old new : Context) (options : SerializeOptions) → IsReadAgain s t → IsWritten s t → HasStorableStats codec t
+    → grown codec s old t ≡ Some new → KeepsWriterLimits s t old options → Spells (blob_of s t old options) new.ids (label t).dtype (label t).len s (canon codec s t)
+read_back s ok law paired t old new options x written stored grew fit =
+    told_spelled s t old new options grew fit (label t).dtype (label t).len (canon codec s t)
+    (told_again codec s ok law paired t x.sound x.unread written fit.messages (written_countable s t old new options grew fit) x.known stored)

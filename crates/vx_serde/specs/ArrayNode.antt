@@ -1,5 +1,5 @@
 -- What an array's node is written as in a message that a caller builds, and why it is not.
-use Rattle.std.specs.Prelude.{◌⊎◌, List, false}
+use Rattle.std.specs.Prelude.{◌≡◌, ◌⊎◌, List, true, false}
 use Rattle.vx_flat.specs.Building.{Built, IsTooLong}
 use Rattle.vx_flat.specs.Pieces.{Piece, table_pieces}
 use Rattle.vx_flat.specs.Value.{Fields}
@@ -9,7 +9,7 @@ use Rattle.vx_wire_tree.specs.Session.{SessionMeaning}
 use Rattle.vx_wire_tree.specs.Written.{wire}
 use Rattle.vx_encodings.specs.Messages.{codec}
 use Rattle.vx_serde.specs.declared.error.WireError.{WireError}
-use Rattle.vx_serde.specs.declared.error.WireError.TheVariants.{WireLimit}
+use Rattle.vx_serde.specs.declared.error.WireError.TheVariants.{NotPermitted, WireLimit}
 use Rattle.vx_serde.specs.declared.options.SerializeOptions.{SerializeOptions}
 use Rattle.vx_serde.specs.ArraySchema.{array_schema, node_fields}
 use Rattle.vx_serde.specs.Causes.{RefusesWriting}
@@ -35,3 +35,10 @@ array_pieces s t c = table_pieces array_schema node_fields (array_value s t c)
 abbrev pub RefusesBlocks : SessionMeaning → Tree → Context → Built → WireError → Type 0
 RefusesBlocks s t c b WireLimit = (KeepsWriterLimits s t c plain_options → ⊥) ⊎ IsTooLong b (array_pieces s t c)
 RefusesBlocks s t c b e = RefusesWriting s t c plain_options e
+
+-- What a refusal leaves of the caller's builder. Where the context refuses it, it is as it was; at a limit it is as it was, or
+-- it has failed for want of room, and refuses from then on. Want of memory may leave blocks in it.
+abbrev pub LeavesBuilder : Built → Built → WireError → Type 0
+LeavesBuilder old new NotPermitted = new ≡ old
+LeavesBuilder old new WireLimit = (new ≡ old) ⊎ (new.failed ≡ true)
+LeavesBuilder old new e = Unit {0}

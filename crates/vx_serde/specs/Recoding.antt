@@ -9,8 +9,8 @@ use Rattle.vx_wire_tree.specs.Written.{wire, canon}
 use Rattle.vx_encodings.specs.Messages.{codec}
 use Rattle.vx_serde.specs.declared.recoding.Recoded.{Recoded}
 use Rattle.vx_serde.specs.KeptContext.{KeepsContext}
-use Rattle.vx_serde.specs.Request.{Request, IsSpelled, CanRecode}
-use Rattle.vx_serde.specs.Serializing.{IsSerialized}
+use Rattle.vx_serde.specs.Request.{Request, request_for, IsSpelled, CanRecode}
+use Rattle.vx_serde.specs.Serializing.{IsSerialized, ReturnsWhole, IsSpelledAgain}
 use Rattle.vx_serde.specs.Spells.{Spells, KeepsReaderLimits, blob_of}
 use Rattle.vx_serde.specs.Taking.{as_written}
 use Rattle.vx_buffer.specs.Joined.{joined}
@@ -25,23 +25,18 @@ pub record Product : Type 0 where
 abbrev pub product : Recoded → Context → Product
 product recoded context = record { array = recoded.array; buffers = recoded.buffers; context = context }
 
--- The limits on reading were kept, and the buffers are those that the array is written as.
+-- The blob spells the array; the limits on reading were kept, and the buffers are those that the array is written as. They
+-- spell it again where it returns, whatever encodings and plugins wrote.
 pub record IsRecoded (asked : Request) (made : Product) : Type 0 where
+  pub spelled : IsSpelled asked made.array
   pub reader_limits : KeepsReaderLimits asked.options asked.blob
   pub serialized : IsSerialized asked.session made.array asked.options asked.context made.context made.buffers
+  pub returned : ReturnsWhole asked.session asked.options made.array → IsSpelledAgain asked.session made.array made.context made.buffers
 
 -- What a second call is asked that reads the new blob with the grown context, and writes from the context with which
 -- the first call began.
 abbrev pub asked_again : Request → Product → Request
-asked_again asked made = record {
-  blob = joined made.buffers;
-  dtype = asked.dtype;
-  len = asked.len;
-  ids = made.context.ids;
-  context = asked.context;
-  options = asked.options;
-  session = asked.session;
-}
+asked_again asked made = request_for (joined made.buffers) asked.dtype asked.len made.context.ids asked.context asked.session asked.options
 
 -- Recoding twice is recoding once: what is read back of the array has the new bytes as its blob, and grows the context
 -- alike; and what a second call is asked can be done.
@@ -50,10 +45,9 @@ pub record IsTwiceAsOnce (asked : Request) (made : Product) : Type 0 where
   pub context : grown codec asked.session asked.context (canon codec asked.session made.array) ≡ Some made.context
   pub can : CanRecode (asked_again asked made)
 
--- The blob spells the array, and no other one; it is written as it stands; the new blob spells the same array, read with the grown context; and
+-- The blob spells no other array; it is written as it stands; the new blob spells the same array, read with the grown context; and
 -- recoding it again changes nothing.
 pub record IsFaithful (asked : Request) (made : Product) : Type 0 where
-  pub spelled : IsSpelled asked made.array
   pub own : as_written asked.session asked.options made.array ≡ made.array
   pub the_one : (other : Tree) → IsSpelled asked other → other ≡ made.array
   pub again : Spells (joined made.buffers) made.context.ids asked.dtype asked.len asked.session (canon codec asked.session made.array)

@@ -22,17 +22,21 @@ pub record Request : Type 0 where
   pub options : SerializeOptions
   pub session : SessionMeaning
 
--- What a call asks by its arguments.
-abbrev pub request : Buffer → DType → ℕ → List (List ℕ) → Context → SessionMeaning → SerializeOptions → Request
-request blob dtype len ids context session options = record {
-  blob = blob.bytes;
-  dtype = typ dtype;
+-- What is asked of a blob's bytes, at a type and a length, with identifiers, and under a context, a session and options.
+abbrev pub request_for : List ℕ → Typ → ℕ → List (List ℕ) → Context → SessionMeaning → SerializeOptions → Request
+request_for blob dtype len ids context session options = record {
+  blob = blob;
+  dtype = dtype;
   len = len;
   ids = ids;
   context = context;
   options = options;
   session = session;
 }
+
+-- What a call asks by its arguments.
+abbrev pub request : Buffer → DType → ℕ → List (List ℕ) → Context → SessionMeaning → SerializeOptions → Request
+request blob dtype len ids context session options = request_for blob.bytes (typ dtype) len ids context session options
 
 -- The blob spells the array, read as it is asked.
 abbrev pub IsSpelled : Request → Tree → Type 0

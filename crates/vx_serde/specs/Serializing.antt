@@ -3,12 +3,15 @@ use Rattle.std.specs.Prelude.{◌≡◌, List, Some, IsTrue}
 use Rattle.vx_buffer.specs.Buffer.{Buffer}
 use Rattle.vx_buffer.specs.Joined.{joined}
 use Rattle.vx_trees.specs.Rose.{label}
+use Rattle.vx_array_tree.specs.Sound.{IsSound}
 use Rattle.vx_array_tree.specs.Tree.{Tree}
 use Rattle.vx_wire_tree.specs.Context.{Context, grown}
-use Rattle.vx_wire_tree.specs.ReadBack.{HasStorableStats}
+use Rattle.vx_wire_tree.specs.KnownTypes.{KnowsTypes}
+use Rattle.vx_wire_tree.specs.ReadBack.{HasStorableStats, IsUnread}
 use Rattle.vx_wire_tree.specs.Returns.{IsOwnCanon, Returns}
 use Rattle.vx_wire_tree.specs.Session.{SessionMeaning}
 use Rattle.vx_wire_tree.specs.Taken.{IsTaken}
+use Rattle.vx_wire_tree.specs.Written.{canon}
 use Rattle.vx_encodings.specs.Messages.{codec}
 use Rattle.vx_serde.specs.declared.options.SerializeOptions.{SerializeOptions}
 use Rattle.vx_serde.specs.Aligned.{IsAlignedBlob}
@@ -42,3 +45,14 @@ pub record ReturnsWhole (s : SessionMeaning) (options : SerializeOptions) (array
 -- The bytes spell the array itself with the identifiers of the context after it.
 abbrev pub IsSpelledAgain : SessionMeaning → Tree → Context → List Buffer → Type 0
 IsSpelledAgain s array after buffers = Spells (joined buffers) after.ids (label array).dtype (label array).len s array
+
+-- An array is sound, the types in its metadata are known, and nothing reads its topmost foreign nodes. What shipped
+-- encodings write of such an array is read again.
+pub record IsReadAgain (s : SessionMeaning) (array : Tree) : Type 0 where
+  pub sound : IsSound array
+  pub known : KnowsTypes s.ext array
+  pub unread : IsUnread s array
+
+-- The bytes spell what is read back of the array, with the identifiers of the context after it.
+abbrev pub IsSpelledBack : SessionMeaning → Tree → Context → List Buffer → Type 0
+IsSpelledBack s array after buffers = Spells (joined buffers) after.ids (label array).dtype (label array).len s (canon codec s array)

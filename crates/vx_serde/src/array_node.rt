@@ -10,7 +10,7 @@ ghost use Rattle.vx_wire_tree.specs.Wire.{ids_in};
 ghost use Rattle.vx_wire_tree.specs.Written.{writes_two, wire};
 ghost use Rattle.vx_encodings.specs.Messages.{codec};
 ghost use Rattle.vx_registry.specs.Meaning.{session_meaning};
-ghost use Rattle.vx_serde.specs.ArrayNode.{plain_options, array_value, array_pieces, RefusesBlocks};
+ghost use Rattle.vx_serde.specs.ArrayNode.{plain_options, array_value, array_pieces, RefusesBlocks, LeavesBuilder};
 ghost use Rattle.vx_serde.specs.ArraySchema.{array_schema, node_fields};
 ghost use Rattle.vx_serde.specs.Causes.{RefusesArray};
 ghost use Rattle.vx_serde.specs.KeptContext.{KeepsContext};
@@ -79,7 +79,7 @@ impl<'a> ArrayNodeFlatBuffer<'a> {
     /// `NotPermitted` where the context does not take an identifier, and `WireLimit` where the array passes a limit on
     /// writing or the builder's message would be too long or was before. After each of them the context keeps what it had and
     /// may have taken identifiers of the array, and the builder keeps the blocks that it has and those that were written so
-    /// far.
+    /// far; where its message would be too long it has failed, and each later call of it is refused.
     pub fn try_write_flatbuffer(
         &mut self,
         alloc: Global,
@@ -94,6 +94,7 @@ impl<'a> ArrayNodeFlatBuffer<'a> {
         ensures fits { IsOk result → length builder.new.bytes < 2 ^ 31 }
         ensures left { (s : SessionMeaning) → writes_two s ≡ self.old.two → KeepsContext (ids_in (wire codec s self.old.array)) self.old.ctx.now self.new.ctx.now }
         ensures kept { (s : SessionMeaning) → writes_two s ≡ self.old.two → OnErr result (Keeps builder.old (array_pieces s self.old.array self.old.ctx.now) builder.new) }
+        ensures builder { IfErr result (LeavesBuilder builder.old builder.new) }
         ensures cause { (s : SessionMeaning) → writes_two s ≡ self.old.two → IfErr result (RefusesBlocks s self.old.array self.old.ctx.now builder.old) }
     {
         let array = NodeRef::taken(&self.array);
@@ -116,6 +117,7 @@ fn write_into(
     ensures fits { IsOk result → length builder.new.bytes < 2 ^ 31 }
     ensures left { (s : SessionMeaning) → writes_two s ≡ two → KeepsContext (ids_in (wire codec s array.now)) ctx.old ctx.new }
     ensures kept { (s : SessionMeaning) → writes_two s ≡ two → OnErr result (Keeps builder.old (array_pieces s array.now ctx.old) builder.new) }
+    ensures builder { IfErr result (LeavesBuilder builder.old builder.new) }
     ensures cause { (s : SessionMeaning) → writes_two s ≡ two → IfErr result (RefusesBlocks s array.now ctx.old builder.old) }
 {
     let mut found = Gathered::new(alloc);

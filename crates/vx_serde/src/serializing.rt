@@ -9,7 +9,7 @@ ghost use Rattle.vx_encodings.specs.Messages.{codec};
 ghost use Rattle.vx_registry.specs.Meaning.{session_meaning};
 ghost use Rattle.vx_serde.specs.Causes.{RefusesArray, RefusesWriting};
 ghost use Rattle.vx_serde.specs.KeptContext.{KeepsContext};
-ghost use Rattle.vx_serde.specs.Serializing.{IsSerialized, ReturnsWhole, IsSpelledAgain};
+ghost use Rattle.vx_serde.specs.Serializing.{IsSerialized, ReturnsWhole, IsSpelledAgain, IsReadAgain, IsSpelledBack};
 ghost use Rattle.vx_serde.specs.Taking.{as_written};
 
 use crate::error::WireError;
@@ -56,6 +56,9 @@ impl ArrayExt for Array {
         // An array that returns is spelled by what is written of it, whatever encodings and plugins wrote.
         ensures returned { let s = session_meaning (λ b. means (b.vtable, b.value)) (λ b. accepted (b.vtable, b.value)) session.now in
             IfOk result (λ buffers. ReturnsWhole s options.now self.now → IsSpelledAgain s self.now ctx.new buffers) }
+        // With shipped encodings only, what is written of an array spells what is read back of it.
+        ensures read_back { let s = session_meaning (λ b. means (b.vtable, b.value)) (λ b. accepted (b.vtable, b.value)) session.now in
+            IsShipped s → IfOk result (λ buffers. IsReadAgain s self.now → IsSpelledBack s self.now ctx.new buffers) }
         ensures left { let s = session_meaning (λ b. means (b.vtable, b.value)) (λ b. accepted (b.vtable, b.value)) session.now in KeepsContext (ids_in (wire codec s (as_written s options.now self.now))) ctx.old ctx.new }
         // With shipped encodings only these are identifiers of the array as it stands.
         ensures own { let s = session_meaning (λ b. means (b.vtable, b.value)) (λ b. accepted (b.vtable, b.value)) session.now in IsShipped s → KeepsContext (ids_in (wire codec s self.now)) ctx.old ctx.new }

@@ -73,17 +73,19 @@ returns-in-Err-serialize-clause-left g c =
 
 pub returns-clause-made : goal.returns-clause-made
 returns-clause-made g c =
+    let x = ext_meaning (λ b. (goal.ExtPlugin-dyn g (b.vtable, b.value)).accepted b.value) c.args.session.now.ext in
     let asked = request c.args.blob c.args.dtype.now c.args.len c.args.read_ids.now c.args.ctx.now (session_meaning (λ b. (goal.ArrayPlugin-dyn g (b.vtable, b.value)).means b.value) (λ b. (goal.ExtPlugin-dyn g (b.vtable, b.value)).accepted b.value) c.args.session.now) c.args.options.now in
     let made = product (record { array = c.in-Ok-decode.array; buffers = c.in-Ok-serialize.buffers }) c.serialize.new.ctx in
-    recoded asked made (wire_in c.args.read_ids.now c.in-Ok.serialized) (opened (limits_to c.args.options.now.deep) c.args.blob.bytes c.args.read_ids.now c.in-Ok.serialized c.in-Ok.ensures.opened) c.in-Ok-serialize.ensures.made
+    let law = session_lawful (λ b. (goal.ArrayPlugin-dyn g (b.vtable, b.value)).means b.value) c.args.session.now.arrays x in
+    recoded asked made law c.in-Ok-decode.ensures.paired (wire_in c.args.read_ids.now c.in-Ok.serialized) (opened (limits_to c.args.options.now.deep) c.args.blob.bytes c.args.read_ids.now c.in-Ok.serialized c.in-Ok.ensures.opened) c.in-Ok-decode.ensures.told c.in-Ok-serialize.ensures.made
 
 pub returns-clause-shipped : goal.returns-clause-shipped
 returns-clause-shipped g c = λ ok.
     let x = ext_meaning (λ b. (goal.ExtPlugin-dyn g (b.vtable, b.value)).accepted b.value) c.args.session.now.ext in
     let asked = request c.args.blob c.args.dtype.now c.args.len c.args.read_ids.now c.args.ctx.now (session_meaning (λ b. (goal.ArrayPlugin-dyn g (b.vtable, b.value)).means b.value) (λ b. (goal.ExtPlugin-dyn g (b.vtable, b.value)).accepted b.value) c.args.session.now) c.args.options.now in
     let made = product (record { array = c.in-Ok-decode.array; buffers = c.in-Ok-serialize.buffers }) c.serialize.new.ctx in
-    let spelled = spells asked (wire_in c.args.read_ids.now c.in-Ok.serialized) c.in-Ok-decode.array (opened (limits_to c.args.options.now.deep) c.args.blob.bytes c.args.read_ids.now c.in-Ok.serialized c.in-Ok.ensures.opened) c.in-Ok-decode.ensures.told in
-    (faithful asked made ok (session_lawful (λ b. (goal.ArrayPlugin-dyn g (b.vtable, b.value)).means b.value) c.args.session.now.arrays x) c.in-Ok-decode.ensures.paired spelled (returns-clause-made g c), λ can. tt)
+    let law = session_lawful (λ b. (goal.ArrayPlugin-dyn g (b.vtable, b.value)).means b.value) c.args.session.now.arrays x in
+    (faithful asked made ok law c.in-Ok-decode.ensures.paired (returns-clause-made g c), λ can. tt)
 
 pub returns-clause-left : goal.returns-clause-left
 returns-clause-left g c =
