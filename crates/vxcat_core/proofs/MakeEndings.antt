@@ -8,28 +8,28 @@ use Rattle.vxcat_core.specs.RecodeViews.{RefusesSave}
 use Rattle.vxcat_core.specs.RunState.{HasNoFault, Run, run_of}
 use Rattle.vxcat_core.specs.SinkState.{SinkState}
 use Rattle.vxcat_core.specs.Status.{status_number}
-use Rattle.vxcat_core.specs.StoreState.{StoreState}
+use Rattle.vxcat_core.specs.StoreState.{LoadsNothing, StoreState}
 use Rattle.vxcat_core.proofs.Endings.{keeps_same, untouched}
 
 -- A run that ends before its saves.
 pub memory_ends : (status : Status) (line : Make) (before : StoreState) (out : SinkState) → status ≡ OutOfMemory → EndsMake status line (run_of before before out out)
-memory_ends status line before out is = subst (λ (s : Status). EndsMake s line (run_of before before out out)) (sym is) (inl (untouched before before out refl refl))
+memory_ends status line before out is = subst (λ (s : Status). EndsMake s line (run_of before before out out)) (sym is) (inl (record { loaded = record { asked = refl; load_faults = refl }; untouched = untouched before before out refl refl }))
 
 -- A run that ends at a save.
 pub save_ends : (status : Status) (line : Make) (before after : StoreState) (out : SinkState) (files : MadeFiles) → AreFilesOf (table_of line) files → StopsSomewhere line before after files
-    → KeepsAllOthers line before after → RefusesSave status before after → EndsMake status line (run_of before after out out)
-save_ends OutOfMemory line before after out files made stopped others cause =
-    inr (record { files = files; are_made = made; output = stopped.0; stopped = stopped.1; others = others; unprinted = keeps_same out.written })
-save_ends SaveFault line before after out files made stopped others cause =
-    (cause, record { files = files; are_made = made; output = stopped.0; stopped = stopped.1; others = others; unprinted = keeps_same out.written })
-save_ends Done line before after out files made stopped others cause = absurd cause
-save_ends NoCommand line before after out files made stopped others cause = absurd cause
-save_ends BadExpression line before after out files made stopped others cause = absurd cause
-save_ends LoadFault line before after out files made stopped others cause = absurd cause
-save_ends WriteFault line before after out files made stopped others cause = absurd cause
-save_ends BadType line before after out files made stopped others cause = absurd cause
-save_ends BadIds line before after out files made stopped others cause = absurd cause
-save_ends (Refused r) line before after out files made stopped others cause = absurd cause
+    → LoadsNothing before after → KeepsAllOthers line before after → RefusesSave status before after → EndsMake status line (run_of before after out out)
+save_ends OutOfMemory line before after out files made stopped loaded others cause =
+    inr (record { loaded = loaded; files = files; are_made = made; output = stopped.0; stopped = stopped.1; others = others; unprinted = keeps_same out.written })
+save_ends SaveFault line before after out files made stopped loaded others cause =
+    (cause, record { loaded = loaded; files = files; are_made = made; output = stopped.0; stopped = stopped.1; others = others; unprinted = keeps_same out.written })
+save_ends Done line before after out files made stopped loaded others cause = absurd cause
+save_ends NoCommand line before after out files made stopped loaded others cause = absurd cause
+save_ends BadExpression line before after out files made stopped loaded others cause = absurd cause
+save_ends LoadFault line before after out files made stopped loaded others cause = absurd cause
+save_ends WriteFault line before after out files made stopped loaded others cause = absurd cause
+save_ends BadType line before after out files made stopped loaded others cause = absurd cause
+save_ends BadIds line before after out files made stopped loaded others cause = absurd cause
+save_ends (Refused r) line before after out files made stopped loaded others cause = absurd cause
 
 -- It does not end with the number of no command.
 pub make_not_two : (status : Status) (line : Make) (run : Run) → EndsMake status line run → status_number status ≡ 2 → ⊥

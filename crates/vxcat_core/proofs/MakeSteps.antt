@@ -18,7 +18,7 @@ use Rattle.vx_encodings.specs.Messages.{codec}
 use Rattle.vx_serde.specs.declared.options.SerializeOptions.{SerializeOptions}
 use Rattle.vx_serde.specs.declared.error.WireError.{WireError}
 use Rattle.vx_serde.specs.Causes.{RefusesArray}
-use Rattle.vx_serde.specs.Request.{CanRecode, Request}
+use Rattle.vx_serde.specs.Request.{CanRecode, Request, request_for}
 use Rattle.vx_serde.specs.Serializing.{IsSerialized, IsWrittenBlob}
 use Rattle.vx_serde.specs.Spells.{Spells}
 use Rattle.vx_generator.specs.Made.{data_len, made, made_type}
@@ -30,7 +30,7 @@ use Rattle.vxcat_core.specs.declared.status.Status.{Status}
 use Rattle.vxcat_core.specs.declared.status.Status.TheVariants.{OutOfMemory}
 use Rattle.vxcat_core.specs.MakeCommand.{make_options, make_session, no_ids}
 use Rattle.vxcat_core.specs.MakeViews.{IsTable, IsTableWritten, IsWrittenAgain}
-use Rattle.vxcat_core.specs.RecodeViews.{AreMade, request_for}
+use Rattle.vxcat_core.specs.RecodeViews.{AreMade}
 use Rattle.vxcat_core.specs.Statuses.{blob_status, type_status}
 use Rattle.vxcat_core.proofs.Tables.{table_again, table_grows, table_ids, table_memory, table_own, table_spelled, type_known, type_memory}
 
@@ -109,7 +109,7 @@ module _ (array : Tree) (is : IsTable array) (w : WrittenTable) (x : IsTableWrit
       let of_own = subst (λ (z : Tree). Spells (joined m.made.buffers) m.made.context.ids (label array).dtype (label array).len make_session z) own again_spelled in
       let of_ids = subst (λ (z : List (List ℕ)). Spells (joined m.made.buffers) z (label array).dtype (label array).len make_session array) (sym m.holds.ids_are) of_own in
       record {
-        blob_written = ap (λ (z : List Buffer). joined z) m.holds.buffers_are ∙ blob.written;
+        written = ap (λ (z : List Buffer). joined z) m.holds.buffers_are ∙ blob.written;
         ids_grown = grows ∙ ap (λ (z : List (List ℕ)). Some (record { ids = z; allowed = None })) (sym ids_is);
         spelled = subst (λ (z : List Buffer). Spells (joined z) outputs.ids (label array).dtype (label array).len make_session array) (sym m.holds.buffers_are) of_ids;
       }

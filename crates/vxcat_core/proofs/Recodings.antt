@@ -15,14 +15,14 @@ use Rattle.vx_serde.specs.declared.error.WireError.{WireError}
 use Rattle.vx_serde.specs.declared.error.WireError.TheVariants as wire
 use Rattle.vx_serde.specs.Causes.{Refuses}
 use Rattle.vx_serde.specs.Recoding.{IsFaithful, IsRecoded, Product}
-use Rattle.vx_serde.specs.Request.{CanRecode, Request}
+use Rattle.vx_serde.specs.Request.{CanRecode, Request, request_for}
 use Rattle.vxcat_core.specs.declared.recode.steps.Outputs.{Outputs}
 use Rattle.vxcat_core.specs.declared.status.Status.{Status}
 use Rattle.vxcat_core.specs.declared.status.Status.TheVariants.{Done, OutOfMemory, NoCommand, LoadFault, SaveFault, WriteFault, BadType, BadIds, BadExpression, Refused}
 use Rattle.vxcat_core.specs.IdFile.{ReadsIds}
 use Rattle.vxcat_core.specs.Recode.{AreRead, CanRecodeInputs, ReadsAllowed, RefusesInputs, Loaded, Recode, Terms, asked_by, context_of, padded_at, readers_of, session_of}
 use Rattle.vxcat_core.proofs.IdLines.{lines_unique}
-use Rattle.vxcat_core.specs.RecodeViews.{AreMade, AreOutputs, RefusesBlob, RefusesIds, RefusesType, request_for}
+use Rattle.vxcat_core.specs.RecodeViews.{AreMade, AreOutputs, RefusesBlob, RefusesIds, RefusesType}
 use Rattle.vxcat_core.specs.Statuses.{blob_status}
 
 -- What holds of what is asked of bytes holds of what is asked of the same bytes.

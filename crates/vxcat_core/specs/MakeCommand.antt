@@ -13,15 +13,16 @@ use Rattle.vx_wire_tree.specs.Session.{SessionMeaning}
 use Rattle.vx_encodings.specs.Messages.{codec}
 use Rattle.vx_registry.specs.Session.{shipped_meaning}
 use Rattle.vx_serde.specs.declared.options.SerializeOptions.{SerializeOptions}
+use Rattle.vx_serde.specs.ArrayNode.{plain_options}
 use Rattle.vx_serde.specs.Spells.{Spells, blob_of}
 use Rattle.vx_generator.specs.Made.{made}
 use Rattle.vx_generator.specs.Summary.{summary}
 use Rattle.vxcat_core.specs.declared.status.Status.{Status}
 use Rattle.vxcat_core.specs.declared.status.Status.TheVariants.{Done, OutOfMemory, SaveFault, WriteFault}
 use Rattle.vxcat_core.specs.IdFile.{id_text}
-use Rattle.vxcat_core.specs.Recode.{context_of, padded_at}
+use Rattle.vxcat_core.specs.Recode.{context_of}
 use Rattle.vxcat_core.specs.RunState.{IsUntouched, Prints, PrintsPrefix, Run}
-use Rattle.vxcat_core.specs.StoreState.{HasRisen, Stands, StoreState}
+use Rattle.vxcat_core.specs.StoreState.{HasRisen, LoadsNothing, Stands, StoreState}
 
 -- ---- the words
 
@@ -60,7 +61,7 @@ no_ids = context_of None
 
 -- How the blob is written: without pads, and no deeper than plain trees are.
 abbrev pub make_options : SerializeOptions
-make_options = padded_at None false
+make_options = plain_options
 
 -- What is saved: the bytes of the type, the blob, and the identifiers of the blob's nodes.
 pub record MadeFiles : Type 0 where
@@ -68,15 +69,19 @@ pub record MadeFiles : Type 0 where
   pub blob : List ℕ
   pub ids : List (List ℕ)
 
--- They are an array's. The bytes of the type are the written form of its table, and are read as the type. The blob is the
--- one that is written for the array, without pads, under a context without identifiers; with those that this context has
--- grown by, it spells the array.
+-- A blob is the one that is written for an array, without pads, under a context without identifiers; with those that this
+-- context has grown by, it spells the array.
+pub record IsMadeBlob (array : Tree) (blob : List ℕ) (ids : List (List ℕ)) : Type 0 where
+  pub written : blob ≡ blob_of make_session array no_ids make_options
+  pub ids_grown : grown codec make_session no_ids array ≡ Some (record { ids = ids; allowed = None })
+  pub spelled : Spells blob ids (label array).dtype (label array).len make_session array
+
+-- The files are an array's. The bytes of the type are the written form of its table, and are read as the type, and the blob
+-- is the array's.
 pub record AreFilesOf (array : Tree) (files : MadeFiles) : Type 0 where
   pub type_written : files.type_bytes ≡ written_layout type_schema (type_table (label array).dtype)
   pub type_read : IsRead (ShowsType files.type_bytes) no_readers (label array).dtype
-  pub blob_written : files.blob ≡ blob_of make_session array no_ids make_options
-  pub ids_grown : grown codec make_session no_ids array ≡ Some (record { ids = files.ids; allowed = None })
-  pub spelled : Spells files.blob files.ids (label array).dtype (label array).len make_session array
+  pub blob : IsMadeBlob array files.blob files.ids
 
 -- The table that the words ask for: the one that the seed and the number of rows tell.
 abbrev pub table_of : Make → Tree
@@ -113,9 +118,15 @@ StopsAt at_ids line before after files = Stands after line.type_file files.type_
 
 -- ---- how it ends
 
--- It came to its saves and no further: its outputs were made, the saves ended at one of them, names that are no outputs
--- hold what they held, and nothing is printed.
+-- It came to no save: nothing was loaded, saved or printed.
+pub record EndsUnsaved (run : Run) : Type 0 where
+  pub loaded : LoadsNothing run.before run.after
+  pub untouched : IsUntouched run
+
+-- It came to its saves and no further: nothing was loaded, its outputs were made, the saves ended at one of them, names
+-- that are no outputs hold what they held, and nothing is printed.
 pub record EndsAtSave (line : Make) (run : Run) : Type 0 where
+  pub loaded : LoadsNothing run.before run.after
   pub files : MadeFiles
   pub are_made : AreFilesOf (table_of line) files
   pub output : Output
@@ -123,22 +134,23 @@ pub record EndsAtSave (line : Make) (run : Run) : Type 0 where
   pub others : KeepsAllOthers line run.before run.after
   pub unprinted : Keeps run.out_before.written run.out_after.written
 
--- It came to its line: its outputs are saved, other names hold what they held, and of the line that the table is told by
+-- It came to its line: nothing was loaded, its outputs are saved, other names hold what they held, and of the line that the table is told by
 -- there was printed what is said of it.
 pub record EndsAtLine (line : Make) (run : Run) (IsPrinted : Run → List ℕ → Type 0) : Type 0 where
+  pub loaded : LoadsNothing run.before run.after
   pub files : MadeFiles
   pub are_made : AreFilesOf (table_of line) files
   pub saved : AreMadeSaved line run.after files
   pub others : KeepsAllOthers line run.before run.after
   pub printed : IsPrinted run (summary (table_of line))
 
--- How it ends, by its status. 0: the outputs are saved and the line is printed. 1: nothing is saved, or the saves ended at
+-- How it ends, by its status; whichever it is, nothing was loaded. 0: the outputs are saved and the line is printed. 1: nothing is saved, or the saves ended at
 -- one of the outputs, and nothing is printed. 4: the count of save faults rose, and the saves ended at one of the outputs.
 -- 5: the count of the sink's faults rose, the outputs are saved, and a prefix of the line is printed. There is no other end
 -- for these words.
 abbrev pub EndsMake : Status → Make → Run → Type 0
 EndsMake Done line run = EndsAtLine line run Prints
-EndsMake OutOfMemory line run = IsUntouched run ⊎ EndsAtSave line run
+EndsMake OutOfMemory line run = EndsUnsaved run ⊎ EndsAtSave line run
 EndsMake SaveFault line run = HasRisen run.before.save_faults run.after.save_faults × EndsAtSave line run
 EndsMake WriteFault line run = HasRisen run.out_before.faults run.out_after.faults × EndsAtLine line run PrintsPrefix
 EndsMake status line run = ⊥

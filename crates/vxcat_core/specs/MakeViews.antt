@@ -14,7 +14,7 @@ use Rattle.vxcat_core.specs.declared.make.words.MakeWords.{MakeWords}
 use Rattle.vxcat_core.specs.declared.make.steps.MadeOutputs.{MadeOutputs}
 use Rattle.vxcat_core.specs.declared.make.steps.WrittenTable.{WrittenTable}
 use Rattle.vxcat_core.specs.declared.recode.steps.Outputs.{Outputs}
-use Rattle.vxcat_core.specs.MakeCommand.{AreFilesOf, Make, MadeFiles, Output, StopsAt, make_options, make_session, no_ids}
+use Rattle.vxcat_core.specs.MakeCommand.{AreFilesOf, IsMadeBlob, Make, MadeFiles, Output, StopsAt, make_options, make_session, no_ids}
 use Rattle.vxcat_core.specs.StoreState.{StoreState}
 
 -- The line that words lend.
@@ -52,10 +52,8 @@ pub record IsTableWritten (array : Tree) (written : WrittenTable) : Type 0 where
   pub ids_are : written.ids ≡ after.ids
 
 -- An array was written, read and written again: the new blob is its own, and spells it.
-pub record IsWrittenAgain (array : Tree) (outputs : Outputs) : Type 0 where
-  pub blob_written : joined outputs.buffers ≡ blob_of make_session array no_ids make_options
-  pub ids_grown : grown codec make_session no_ids array ≡ Some (record { ids = outputs.ids; allowed = None })
-  pub spelled : Spells (joined outputs.buffers) outputs.ids (label array).dtype (label array).len make_session array
+abbrev pub IsWrittenAgain : Tree → Outputs → Type 0
+IsWrittenAgain array outputs = IsMadeBlob array (joined outputs.buffers) outputs.ids
 
 -- The saves ended at one of the outputs.
 abbrev pub StopsSomewhere : Make → StoreState → StoreState → MadeFiles → Type 0

@@ -12,7 +12,7 @@ use Rattle.vx_registry.specs.Session.{shipped_meaning, revised_meaning}
 use Rattle.vx_serde.specs.declared.options.SerializeOptions.{SerializeOptions}
 use Rattle.vx_serde.specs.Causes.{Refuses}
 use Rattle.vx_serde.specs.Recoding.{IsFaithful, IsRecoded, Product}
-use Rattle.vx_serde.specs.Request.{CanRecode, Request}
+use Rattle.vx_serde.specs.Request.{CanRecode, Request, request_for}
 use Rattle.vx_buffer.specs.Joined.{joined}
 use Rattle.vxcat_core.specs.declared.status.Status.{Status}
 use Rattle.vxcat_core.specs.declared.status.Status.TheVariants.{Done, OutOfMemory, NoCommand, LoadFault, SaveFault, WriteFault, BadType, BadIds, BadExpression, Refused}
@@ -132,15 +132,8 @@ pub record AreRead (line : Recode) (loaded : Loaded) (terms : Terms) : Type 0 wh
 
 -- What is asked of the blob, on the terms that were read.
 abbrev pub asked_by : Recode → Loaded → Terms → Request
-asked_by line loaded terms = record {
-  blob = loaded.blob;
-  dtype = terms.dtype;
-  len = line.len;
-  ids = terms.ids;
-  context = context_of terms.allowed;
-  options = padded_at line.settings.pad line.settings.deep;
-  session = session_of line.settings;
-}
+asked_by line loaded terms =
+    request_for loaded.blob terms.dtype line.len terms.ids (context_of terms.allowed) (session_of line.settings) (padded_at line.settings.pad line.settings.deep)
 
 -- ---- what is made
 

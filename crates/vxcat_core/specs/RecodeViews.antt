@@ -45,18 +45,6 @@ pub record AreOutputs (line : Recode) (loaded : Loaded) (outputs : Outputs) : Ty
   pub is_made : IsMade line loaded made
   pub holds : Holds outputs made
 
--- What the program asks for of a blob, at a type, with identifiers, and under a context and a session.
-abbrev pub request_for : List ℕ → Typ → ℕ → List (List ℕ) → Context → SessionMeaning → SerializeOptions → Request
-request_for blob dtype len ids context session options = record {
-  blob = blob;
-  dtype = dtype;
-  len = len;
-  ids = ids;
-  context = context;
-  options = options;
-  session = session;
-}
-
 -- The outputs are what `recode` makes of what is asked.
 pub record AreMade (asked : Request) (outputs : Outputs) : Type 0 where
   pub made : Product

@@ -22,3 +22,8 @@ Stands store name bytes = IsTrue store.tells → store.file name ≡ Some bytes
 -- Only these names were asked for in addition.
 abbrev pub AskedOnly : List (List ℕ) → List (List ℕ) → List (List ℕ) → Type 0
 AskedOnly names before after = (more : List (List ℕ)) × (after ≡ before ++ more) × AllByRecursion (λ name. Contains names name) more
+
+-- Nothing was loaded: no name was asked for, and no load failed.
+pub record LoadsNothing (before after : StoreState) : Type 0 where
+  pub asked : after.asked ≡ before.asked
+  pub load_faults : after.load_faults ≡ before.load_faults

@@ -4,6 +4,7 @@ ghost use Rattle.std.specs.Prelude.{OnOk, OnErr, IfErr};
 ghost use Rattle.vxcat_core.specs.MakeCommand.{AreApart, AreMadeSaved, KeepsAllOthers};
 ghost use Rattle.vxcat_core.specs.MakeViews.{StopsSomewhere, files_of, make_line};
 ghost use Rattle.vxcat_core.specs.RecodeViews.{RefusesSave};
+ghost use Rattle.vxcat_core.specs.StoreState.{LoadsNothing};
 
 use super::steps::MadeOutputs;
 use super::words::MakeWords;
@@ -21,6 +22,7 @@ pub fn save_made<S: Store>(
 ) -> Result<(), Status>
     requires { AreApart (make_line words.now) }
     ensures saved { OnOk result (AreMadeSaved (make_line words.now) (S.state store.new) (files_of made.now)) }
+    ensures loaded { LoadsNothing (S.state store.old) (S.state store.new) }
     ensures others { KeepsAllOthers (make_line words.now) (S.state store.old) (S.state store.new) }
     ensures stopped { OnErr result (StopsSomewhere (make_line words.now) (S.state store.old) (S.state store.new) (files_of made.now)) }
     ensures cause { IfErr result (λ status. RefusesSave status (S.state store.old) (S.state store.new)) }

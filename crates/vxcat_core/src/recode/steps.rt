@@ -9,12 +9,12 @@ ghost use Rattle.vx_type_wire.specs.Session.{ext_meaning};
 ghost use Rattle.vx_wire_tree.specs.Session.{IsShipped};
 ghost use Rattle.vx_registry.specs.Meaning.{arrays_meaning, session_meaning};
 ghost use Rattle.vx_type_wire.specs.Shown.{ShowsType};
-ghost use Rattle.vx_serde.specs.Request.{CanRecode};
+ghost use Rattle.vx_serde.specs.Request.{CanRecode, request_for};
 ghost use Rattle.vx_buffer.specs.Joined.{joined};
 ghost use Rattle.vxcat_core.specs.Recode.{AreInputs, AreSaved, CanRecodeInputs, RefusesInputs, KeepsOthers, ReadsAllowed, SavesInOrder, StandsIfNamed, context_of, if_named, inputs, padded_at, readers_by, session_by, shipped_by};
 ghost use Rattle.vxcat_core.specs.IdFile.{ReadsIds};
 ghost use Rattle.vxcat_core.specs.StoreState.{AskedOnly};
-ghost use Rattle.vxcat_core.specs.RecodeViews.{AreMade, AreOutputs, RefusesIds, RefusesLoad, RefusesSave, RefusesType, RefusesBlob, request_for, line_of, loaded_of};
+ghost use Rattle.vxcat_core.specs.RecodeViews.{AreMade, AreOutputs, RefusesIds, RefusesLoad, RefusesSave, RefusesType, RefusesBlob, line_of, loaded_of};
 ghost use Rattle.vxcat_core.specs.declared.status.Status.TheVariants.{OutOfMemory};
 
 use super::words::RecodeWords;

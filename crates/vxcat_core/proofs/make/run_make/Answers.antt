@@ -11,13 +11,14 @@ returns-in-Err g c = memory_ends c.in-Err.status (make_line c.args.words.now) (g
 pub returns-in-Err-save_made : goal.returns-in-Err-save_made
 returns-in-Err-save_made g c =
     let made = c.in-Ok.ensures.made in
-    save_ends c.in-Err-save_made.status (make_line c.args.words.now) _ _ _ (files_of c.in-Ok.made) made.are_made c.in-Err-save_made.ensures.stopped c.save_made.ensures.others c.in-Err-save_made.ensures.cause
+    save_ends c.in-Err-save_made.status (make_line c.args.words.now) _ _ _ (files_of c.in-Ok.made) made.are_made c.in-Err-save_made.ensures.stopped c.save_made.ensures.loaded c.save_made.ensures.others c.in-Err-save_made.ensures.cause
 
 pub returns-in-Ok-write_text : goal.returns-in-Ok-write_text
 returns-in-Ok-write_text g c =
     let made = c.in-Ok.ensures.made in
     let text = c.as_bytes.ensures.value ∙ c.as_str.ensures.value ∙ made.line_is in
     record {
+      loaded = c.save_made.ensures.loaded;
       files = files_of c.in-Ok.made;
       are_made = made.are_made;
       saved = c.in_default.ensures.saved;
@@ -31,6 +32,7 @@ returns g c =
     let text = c.as_bytes.ensures.value ∙ c.as_str.ensures.value ∙ made.line_is in (
       c.in-Err-write_text.ensures.fault,
       record {
+        loaded = c.save_made.ensures.loaded;
         files = files_of c.in-Ok.made;
         are_made = made.are_made;
         saved = c.in_default.ensures.saved;

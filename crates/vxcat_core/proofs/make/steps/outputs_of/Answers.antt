@@ -9,9 +9,7 @@ returns-in-Ok-write_again-clause-made c =
       are_made = record {
         type_written = c.in-Ok-write_type.ensures.written;
         type_read = c.in-Ok-write_type.ensures.read;
-        blob_written = again.blob_written;
-        ids_grown = again.ids_grown;
-        spelled = again.spelled;
+        blob = again;
       };
       line_is = c.in-Ok.ensures ∙ line_of_table c.args.table.now.array c.requires.table c.len.result c.args.table.now.data_len c.len.ensures.len c.requires.data;
     }
