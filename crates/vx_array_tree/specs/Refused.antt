@@ -19,7 +19,7 @@ abbrev pub IsMisshaped : Head → Trees → Type 0
 IsMisshaped h ts = IsWellShaped h ts → ⊥
 
 -- A node over its children is of the right shape, and a foreign node stands where it says where rows are.
-pub record HasForeignControl (h : Head) (ts : Trees) : Type 0 where
+pub record IsForeignControlled (h : Head) (ts : Trees) : Type 0 where
   pub shaped : IsWellShaped h ts
   pub foreign : IsControlled h ts → ⊥
 

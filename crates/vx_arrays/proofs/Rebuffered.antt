@@ -21,7 +21,7 @@ use Rattle.vx_array_tree.specs.Encodings.VarBins as VarBins
 use Rattle.vx_array_tree.specs.Encodings.VarBinViews as VarBinViews
 use Rattle.vx_array_tree.specs.Encodings.Foreigns as Foreigns
 use Rattle.vx_array_tree.specs.Place.{before_validity}
-use Rattle.vx_array_tree.specs.Refused.{IsWellShaped, IsMisshaped, HasForeignControl, HasBrokenContent}
+use Rattle.vx_array_tree.specs.Refused.{IsWellShaped, IsMisshaped, IsForeignControlled, HasBrokenContent}
 use Rattle.vx_array_tree.specs.Sound.{IsControlled, IsSound, IsSoundNode}
 use Rattle.vx_array_tree.specs.Table.{bufferless}
 use Rattle.vx_array_tree.specs.Tree.{Tree, Trees, Head, option_trees, places, untold, with_stats}
@@ -57,7 +57,7 @@ module _ (t u : Tree) (bs : List Buffer) (made : with_buffers t bs ≡ Some u) (
   refused OutOfMemory h = tt
   refused BadShape h = subst (λ (o : Option Tree). IfSome o (λ v. IsMisshaped (label v) (below v))) (sym made) h
   refused BadContent h = subst (λ (o : Option Tree). IsSomeAnd o (λ v. HasBrokenContent (label v) (below v))) (sym made) h
-  refused ForeignControl h = subst (λ (o : Option Tree). IsSomeAnd o (λ v. HasForeignControl (label v) (below v))) (sym made) h
+  refused ForeignControl h = subst (λ (o : Option Tree). IsSomeAnd o (λ v. IsForeignControlled (label v) (below v))) (sym made) h
   refused ValueTooLarge h = h
   refused BadCast h = h
 
@@ -200,8 +200,8 @@ told_refused BadContent x (node h ts) bs r = broken (rebuffered h.body bs) r
     broken (Some b) r = record { shaped = other_stats h x h.stats b ts r.shaped; controlled = other_control h x h.stats b ts r.controlled; broken = r.broken }
 told_refused ForeignControl x (node h ts) bs r = foreign (rebuffered h.body bs) r
   where
-    foreign : (o : Option Body) → IsSomeAnd (option_map (λ (b : Body). node (told_head h x b) ts) o) (λ u. HasForeignControl (label u) (below u))
-        → IsSomeAnd (option_map (λ (b : Body). node (told_head h h.stats b) ts) o) (λ u. HasForeignControl (label u) (below u))
+    foreign : (o : Option Body) → IsSomeAnd (option_map (λ (b : Body). node (told_head h x b) ts) o) (λ u. IsForeignControlled (label u) (below u))
+        → IsSomeAnd (option_map (λ (b : Body). node (told_head h h.stats b) ts) o) (λ u. IsForeignControlled (label u) (below u))
     foreign None r = r
     foreign (Some b) r = record { shaped = other_stats h x h.stats b ts r.shaped; foreign = λ k. r.foreign (other_control h h.stats x b ts k) }
 told_refused ValueTooLarge x t bs r = r

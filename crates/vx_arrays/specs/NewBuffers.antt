@@ -10,7 +10,7 @@ use Rattle.vx_array_tree.specs.Encodings.Decimals as Decimals
 use Rattle.vx_array_tree.specs.Encodings.VarBins as VarBins
 use Rattle.vx_array_tree.specs.Encodings.VarBinViews as VarBinViews
 use Rattle.vx_array_tree.specs.Encodings.Foreigns as Foreigns
-use Rattle.vx_array_tree.specs.Refused.{IsMisshaped, HasForeignControl, HasBrokenContent}
+use Rattle.vx_array_tree.specs.Refused.{IsMisshaped, IsForeignControlled, HasBrokenContent}
 use Rattle.vx_array_tree.specs.Table.{bufferless}
 use Rattle.vx_array_tree.specs.Tree.{Tree}
 use Rattle.vx_arrays.specs.declared.error.ArrayError.{ArrayError}
@@ -37,6 +37,6 @@ abbrev pub RefusesBuffers : ArrayError → Tree → List Buffer → Type 0
 RefusesBuffers OutOfMemory t bs = Unit {0}
 RefusesBuffers BadShape t bs = IfSome (with_buffers t bs) (λ u. IsMisshaped (label u) (below u))
 RefusesBuffers BadContent t bs = IsSomeAnd (with_buffers t bs) (λ u. HasBrokenContent (label u) (below u))
-RefusesBuffers ForeignControl t bs = IsSomeAnd (with_buffers t bs) (λ u. HasForeignControl (label u) (below u))
+RefusesBuffers ForeignControl t bs = IsSomeAnd (with_buffers t bs) (λ u. IsForeignControlled (label u) (below u))
 RefusesBuffers ValueTooLarge t bs = ⊥
 RefusesBuffers BadCast t bs = ⊥

@@ -1,7 +1,7 @@
 -- When a call on arrays is refused.
 use Rattle.std.specs.Prelude.{ℕ, ◌<◌, Result, Ok, Err}
 use Rattle.vx_trees.specs.Rose.{label, below}
-use Rattle.vx_array_tree.specs.Refused.{IsMisshaped, HasForeignControl, HasBrokenContent}
+use Rattle.vx_array_tree.specs.Refused.{IsMisshaped, IsForeignControlled, HasBrokenContent}
 use Rattle.vx_array_tree.specs.Rows.{Rows}
 use Rattle.vx_array_tree.specs.Tree.{Tree}
 use Rattle.vx_arrays.specs.declared.error.ArrayError.{ArrayError}
@@ -14,7 +14,7 @@ abbrev pub IsUnmade : ArrayError → Tree → Type 0
 IsUnmade OutOfMemory t = Unit {0}
 IsUnmade BadShape t = IsMisshaped (label t) (below t)
 IsUnmade BadContent t = HasBrokenContent (label t) (below t)
-IsUnmade ForeignControl t = HasForeignControl (label t) (below t)
+IsUnmade ForeignControl t = IsForeignControlled (label t) (below t)
 IsUnmade ValueTooLarge t = ⊥
 IsUnmade BadCast t = ⊥
 

@@ -1,4 +1,5 @@
-//! Equality of arrays, and their hashes: of all but their statistics and the alignments of their buffers.
+//! Equality of arrays, and their hashes: of all but their statistics, the alignments of their buffers and the flags of
+//! dictionaries.
 
 ghost use Rattle.std.specs.Prelude.{◌≡◌, ◌↔◌, fold, IsTrue};
 ghost use Rattle.vx_trees.specs.Rose.{label, below, count};
@@ -10,7 +11,8 @@ use std::hash::{Hash, Hasher};
 impl Array {
     /// Whether the arrays are equal: of the same encoding, type and length, with the same bytes in their buffers, equal
     /// children, and the same of what an encoding keeps beside these, as a bit offset, the width of decimals or a foreign
-    /// node's metadata. Neither statistics nor the alignments of buffers are compared.
+    /// node's metadata. Compared are neither statistics nor the alignments of buffers, nor whether all values of a
+    /// dictionary are referenced.
     #[tactic(auto, using(vx_trees::proofs::Roses::roses))]
     pub fn array_eq(&self, other: &Array) -> bool
         ensures { IsTrue result ↔ IsSame self.now other.now }

@@ -23,7 +23,7 @@ use Rattle.vx_arrays.specs.declared.error.ArrayError.{ArrayError}
 use Rattle.vx_encodings.proofs.Offsets.{bool_metadata, bool_offset, offset_is, ReadsOffset}
 use Rattle.vx_encodings.proofs.Singles.{single_children, single_planned, single_unplanned, single_without, single_built, single_refused, single_buffers}
 use Rattle.vx_encodings.specs.BoolMessage.{bool_schema, bool_value}
-use Rattle.vx_encodings.specs.Steps.{IsPlanned, IsUnplanned, IsWithoutPlan, IsBuilt, IsUnbuilt, IsUnread, constructor_error}
+use Rattle.vx_encodings.specs.Steps.{IsPlanned, IsUnplanned, IsWithoutPlan, IsBuilt, IsUnbuilt, RefusesMetadata, constructor_error}
 use Rattle.vx_encodings.specs.declared.encoding.Encoding.TheVariants.{Bool}
 use Rattle.vx_encodings.specs.declared.error.EncodingError.{EncodingError}
 use Rattle.vx_encodings.specs.declared.error.EncodingError.TheVariants.{OutOfMemory, BadMetadata, BadShape}
@@ -40,7 +40,7 @@ flags_planned x h r o m shown lt d e =
     single_planned x Bool h (M.bool o) (bool_metadata x (typ h.dtype) h.metadata o shown lt) r (plan_is (typ h.dtype) h.len h.nchildren m (ap (λ z. typ z) d)) e
 
 -- Bytes that are no message are no metadata.
-pub flags_unread : (x : ExtMeaning) (error : EncodingError) (h : ArrayHead) → IsUnread error bool_schema 0 h.metadata → IsUnplanned error x Bool h
+pub flags_unread : (x : ExtMeaning) (error : EncodingError) (h : ArrayHead) → RefusesMetadata error bool_schema 0 h.metadata → IsUnplanned error x Bool h
 flags_unread x OutOfMemory h u = tt
 flags_unread x BadMetadata h u = λ v m. u _ (bool_offset x (typ h.dtype) h.metadata v m).reads
 flags_unread x BadShape h u = absurd u
@@ -81,7 +81,7 @@ flags_plan x h us p =
     record { value = p.value; read = m; planned = plan_some p.value m.offset (typ h.dtype) h.len h.nchildren (places us) m.value_is p.plan }
 
 -- So its metadata is read again, and want of memory is the one refusal.
-pub flags_read : (x : ExtMeaning) (error : EncodingError) (h : ArrayHead) (bs : List Buffer) (us : Trees) → (y : ExtMeaning) × IsPlanned y Bool h (places us) → IsUnread error bool_schema 0 h.metadata → IsUnbuilt error x Bool h bs us
+pub flags_read : (x : ExtMeaning) (error : EncodingError) (h : ArrayHead) (bs : List Buffer) (us : Trees) → (y : ExtMeaning) × IsPlanned y Bool h (places us) → RefusesMetadata error bool_schema 0 h.metadata → IsUnbuilt error x Bool h bs us
 flags_read x OutOfMemory h bs us planned u = tt
 flags_read x BadMetadata h bs us planned u = absurd (u _ (flags_plan planned.0 h us planned.1).read.reads)
 flags_read x BadShape h bs us planned u = absurd u

@@ -25,7 +25,7 @@ use Rattle.vx_arrays.specs.declared.error.ArrayError.{ArrayError}
 use Rattle.vx_encodings.proofs.Singles.{single_children, single_planned, single_unplanned, single_without, single_built, single_refused, single_buffers}
 use Rattle.vx_encodings.proofs.Widths.{decimal_metadata, decimal_width, ReadsWidth}
 use Rattle.vx_encodings.specs.DecimalMessage.{decimal_schema, decimal_value}
-use Rattle.vx_encodings.specs.Steps.{IsPlanned, IsUnplanned, IsWithoutPlan, IsBuilt, IsUnbuilt, IsUnread, constructor_error}
+use Rattle.vx_encodings.specs.Steps.{IsPlanned, IsUnplanned, IsWithoutPlan, IsBuilt, IsUnbuilt, RefusesMetadata, constructor_error}
 use Rattle.vx_encodings.specs.declared.encoding.Encoding.TheVariants.{Decimal}
 use Rattle.vx_encodings.specs.declared.error.EncodingError.{EncodingError}
 use Rattle.vx_encodings.specs.declared.error.EncodingError.TheVariants.{OutOfMemory, BadMetadata, BadShape}
@@ -41,7 +41,7 @@ pub decimals_planned : (x : ExtMeaning) (h : ArrayHead) (r : Result (List Place)
 decimals_planned x h r w c m shown d e = single_planned x Decimal h (M.decimal w) (decimal_metadata x (typ h.dtype) h.metadata w shown) r (plan_is h c m d) e
 
 -- Bytes that are no message are no metadata.
-pub decimals_unread : (x : ExtMeaning) (error : EncodingError) (h : ArrayHead) → IsUnread error decimal_schema 0 h.metadata → IsUnplanned error x Decimal h
+pub decimals_unread : (x : ExtMeaning) (error : EncodingError) (h : ArrayHead) → RefusesMetadata error decimal_schema 0 h.metadata → IsUnplanned error x Decimal h
 decimals_unread x OutOfMemory h u = tt
 decimals_unread x BadMetadata h u = λ v m. u _ (decimal_width x (typ h.dtype) h.metadata v m).reads
 decimals_unread x BadShape h u = absurd u
@@ -71,7 +71,7 @@ decimals_plan x h us p =
     record { value = p.value; read = m; planned = plan_some p.value m.values_type (typ h.dtype) h.len h.nchildren (places us) m.value_is p.plan }
 
 -- So its metadata is read again, and want of memory is the one refusal.
-pub decimals_read : (x : ExtMeaning) (error : EncodingError) (h : ArrayHead) (bs : List Buffer) (us : Trees) → (y : ExtMeaning) × IsPlanned y Decimal h (places us) → IsUnread error decimal_schema 0 h.metadata → IsUnbuilt error x Decimal h bs us
+pub decimals_read : (x : ExtMeaning) (error : EncodingError) (h : ArrayHead) (bs : List Buffer) (us : Trees) → (y : ExtMeaning) × IsPlanned y Decimal h (places us) → RefusesMetadata error decimal_schema 0 h.metadata → IsUnbuilt error x Decimal h bs us
 decimals_read x OutOfMemory h bs us planned u = tt
 decimals_read x BadMetadata h bs us planned u = absurd (u _ (decimals_plan planned.0 h us planned.1).read.reads)
 decimals_read x BadShape h bs us planned u = absurd u

@@ -33,7 +33,7 @@ use Rattle.vx_encodings.proofs.Fitting.{unfit}
 use Rattle.vx_encodings.proofs.Laws.{exactly_count}
 use Rattle.vx_encodings.proofs.Singles.{single_unplanned, single_built}
 use Rattle.vx_encodings.specs.DictMessage.{dict_schema, dict_value, kept_of}
-use Rattle.vx_encodings.specs.Steps.{IsPlanned, IsUnplanned, IsUnread, IsWithoutPlan, IsBuilt, IsUnbuilt, constructor_error}
+use Rattle.vx_encodings.specs.Steps.{IsPlanned, IsUnplanned, RefusesMetadata, IsWithoutPlan, IsBuilt, IsUnbuilt, constructor_error}
 use Rattle.vx_encodings.specs.declared.encoding.Encoding.TheVariants as C
 use Rattle.vx_encodings.specs.declared.error.EncodingError.{EncodingError}
 use Rattle.vx_encodings.specs.declared.error.EncodingError.TheVariants.{OutOfMemory, BadMetadata, BadShape}
@@ -54,7 +54,7 @@ others_unplanned p q (suc (suc (suc k))) c = refl
 pub ruleset pair_steps = (two_planned, others_unplanned)
 
 -- Bytes that are no message are no metadata.
-pub dicts_unread : (x : ExtMeaning) (error : EncodingError) (h : ArrayHead) → IsUnread error dict_schema 0 h.metadata → IsUnplanned error x C.Dict h
+pub dicts_unread : (x : ExtMeaning) (error : EncodingError) (h : ArrayHead) → RefusesMetadata error dict_schema 0 h.metadata → IsUnplanned error x C.Dict h
 dicts_unread x OutOfMemory h u = tt
 dicts_unread x BadMetadata h u = λ v m. u _ (dict_read x (typ h.dtype) h.metadata v m).reads
 dicts_unread x BadShape h u = absurd u
@@ -115,7 +115,7 @@ dict_plan x h us f r p =
     record { integer = m.1; planned = subst (λ (j : ℕ). plan (typ h.dtype) h.len v j ≡ Some (places us)) k q }
 
 -- Metadata is read again, and want of memory is the one refusal.
-pub dicts_read : (x : ExtMeaning) (error : EncodingError) (h : ArrayHead) (bs : List Buffer) (us : Trees) → (y : ExtMeaning) × IsPlanned y C.Dict h (places us) → IsUnread error dict_schema 0 h.metadata → IsUnbuilt error x C.Dict h bs us
+pub dicts_read : (x : ExtMeaning) (error : EncodingError) (h : ArrayHead) (bs : List Buffer) (us : Trees) → (y : ExtMeaning) × IsPlanned y C.Dict h (places us) → RefusesMetadata error dict_schema 0 h.metadata → IsUnbuilt error x C.Dict h bs us
 dicts_read x OutOfMemory h bs us planned u = tt
 dicts_read x BadMetadata h bs us planned u = absurd (u _ (dict_read planned.0 (typ h.dtype) h.metadata planned.1.value planned.1.metadata).reads)
 dicts_read x BadShape h bs us planned u = absurd u

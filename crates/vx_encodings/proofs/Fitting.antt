@@ -10,7 +10,7 @@ use Rattle.vx_array_tree.specs.Body.{Body}
 use Rattle.vx_array_tree.specs.Encoding.{Encoding}
 use Rattle.vx_array_tree.specs.Metadata.{Metadata}
 use Rattle.vx_array_tree.specs.Place.{Place}
-use Rattle.vx_array_tree.specs.Refused.{IsMisshaped, IsWellShaped, HasForeignControl, HasBrokenContent}
+use Rattle.vx_array_tree.specs.Refused.{IsMisshaped, IsWellShaped, IsForeignControlled, HasBrokenContent}
 use Rattle.vx_array_tree.specs.Sound.{IsControlled, IsControlledBy}
 use Rattle.vx_array_tree.specs.Table.{IsFair, metadata_of, body_of, plan_of, lifted, Allows, Holds, Takes, IsShaped, encoding_of}
 use Rattle.vx_array_tree.specs.Tree.{Tree, Trees, places, encodings, untold}
@@ -62,7 +62,7 @@ module _ (x : ExtMeaning) (e : Declared.Encoding) (h : ArrayHead) (v : Metadata)
   pub control_refused : (bs : List Buffer) (us : Trees) (body : Body) (t : Tree) → body_of (plain_encoding e) v bs ≡ Some body → t ≡ node (untold (typ h.dtype) h.len body) us
       → IsUnmade A.ForeignControl t → IsUnbuilt (constructor_error A.ForeignControl) x e h bs us
   control_refused bs us body t body_is q refused =
-      let r = subst (λ (z : Tree). HasForeignControl (label z) (below z)) q refused in
+      let r = subst (λ (z : Tree). IsForeignControlled (label z) (below z)) q refused in
       record {
         value = v;
         metadata = m;

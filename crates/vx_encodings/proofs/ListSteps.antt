@@ -30,7 +30,7 @@ use Rattle.vx_encodings.proofs.Fitting.{constructor_refused}
 use Rattle.vx_encodings.proofs.Laws.{list_count}
 use Rattle.vx_encodings.proofs.Singles.{single_unplanned, single_built}
 use Rattle.vx_encodings.specs.ListMessage.{list_schema, list_value}
-use Rattle.vx_encodings.specs.Steps.{IsPlanned, IsUnplanned, IsUnread, IsWithoutPlan, IsBuilt, IsUnbuilt, constructor_error}
+use Rattle.vx_encodings.specs.Steps.{IsPlanned, IsUnplanned, RefusesMetadata, IsWithoutPlan, IsBuilt, IsUnbuilt, constructor_error}
 use Rattle.vx_encodings.specs.declared.encoding.Encoding.TheVariants as C
 use Rattle.vx_encodings.specs.declared.error.EncodingError.{EncodingError}
 use Rattle.vx_encodings.specs.declared.error.EncodingError.TheVariants.{OutOfMemory, BadMetadata, BadShape}
@@ -39,7 +39,7 @@ use Rattle.vx_encodings.specs.declared.head.ArrayHead.{ArrayHead}
 -- ---- a plan
 
 -- Bytes that are no message are no metadata.
-pub lists_unread : (x : ExtMeaning) (error : EncodingError) (h : ArrayHead) → IsUnread error list_schema 0 h.metadata → IsUnplanned error x C.List h
+pub lists_unread : (x : ExtMeaning) (error : EncodingError) (h : ArrayHead) → RefusesMetadata error list_schema 0 h.metadata → IsUnplanned error x C.List h
 lists_unread x OutOfMemory h u = tt
 lists_unread x BadMetadata h u = λ v m. u _ (list_read x (typ h.dtype) h.metadata v m).reads
 lists_unread x BadShape h u = absurd u

@@ -26,7 +26,7 @@ use Rattle.vx_array_tree.proofs.LawsOfPlaces.{places_count}
 use Rattle.vx_encodings.proofs.Singles.{single_unplanned, single_built}
 use Rattle.vx_encodings.proofs.ViewCounts.{views_metadata, views_read, views_fair}
 use Rattle.vx_encodings.specs.ListViewMessage.{view_schema, view_value}
-use Rattle.vx_encodings.specs.Steps.{IsPlanned, IsUnplanned, IsUnread, IsWithoutPlan, IsBuilt, IsUnbuilt, constructor_error}
+use Rattle.vx_encodings.specs.Steps.{IsPlanned, IsUnplanned, RefusesMetadata, IsWithoutPlan, IsBuilt, IsUnbuilt, constructor_error}
 use Rattle.vx_encodings.specs.declared.encoding.Encoding.TheVariants.{ListView}
 use Rattle.vx_encodings.specs.declared.error.EncodingError.{EncodingError}
 use Rattle.vx_encodings.specs.declared.error.EncodingError.TheVariants.{OutOfMemory, BadMetadata, BadShape}
@@ -35,7 +35,7 @@ use Rattle.vx_encodings.specs.declared.head.ArrayHead.{ArrayHead}
 -- ---- a plan
 
 -- Bytes that are no message are no metadata.
-pub views_unread : (x : ExtMeaning) (error : EncodingError) (h : ArrayHead) → IsUnread error view_schema 0 h.metadata → IsUnplanned error x ListView h
+pub views_unread : (x : ExtMeaning) (error : EncodingError) (h : ArrayHead) → RefusesMetadata error view_schema 0 h.metadata → IsUnplanned error x ListView h
 views_unread x OutOfMemory h u = tt
 views_unread x BadMetadata h u = λ w m. u _ (views_read x (typ h.dtype) h.metadata w m).reads
 views_unread x BadShape h u = absurd u

@@ -5,9 +5,9 @@ use Rattle.vx_proto.specs.Schema.{Schema}
 use Rattle.vx_proto.specs.declared.error.ProtoError.{ProtoError}
 use Rattle.vx_proto.specs.declared.error.ProtoError.TheVariants.{OutOfMemory, BadMessage, TooDeep, OutOfRange}
 use Rattle.vx_proto.proofs.LawsOfMessages.{read_uncaused}
-use Rattle.vx_encodings.specs.Steps.{IsUnread, message_error}
+use Rattle.vx_encodings.specs.Steps.{RefusesMetadata, message_error}
 
-pub unread_message : (s : Schema) (place : ℕ) (bytes : List ℕ) (e : ProtoError) → (e ≡ OutOfMemory) ⊎ Cause s 100 e place bytes → IsUnread (message_error e) s place bytes
+pub unread_message : (s : Schema) (place : ℕ) (bytes : List ℕ) (e : ProtoError) → (e ≡ OutOfMemory) ⊎ Cause s 100 e place bytes → RefusesMetadata (message_error e) s place bytes
 unread_message s place bytes OutOfMemory c = tt
 unread_message s place bytes BadMessage (inl h) = absurd (cc)
 unread_message s place bytes BadMessage (inr c) = λ v r. read_uncaused s place bytes v BadMessage r c

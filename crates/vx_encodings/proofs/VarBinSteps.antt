@@ -27,7 +27,7 @@ use Rattle.vx_encodings.proofs.Fitting.{constructor_refused}
 use Rattle.vx_encodings.proofs.OffsetKinds.{varbin_metadata, varbin_kind, kind_is_integer}
 use Rattle.vx_encodings.proofs.Singles.{single_unplanned, single_built, single_buffers}
 use Rattle.vx_encodings.proofs.Validities.{behind_few, behind_place}
-use Rattle.vx_encodings.specs.Steps.{IsPlanned, IsUnplanned, IsWithoutPlan, IsBuilt, IsUnbuilt, IsUnread, constructor_error}
+use Rattle.vx_encodings.specs.Steps.{IsPlanned, IsUnplanned, IsWithoutPlan, IsBuilt, IsUnbuilt, RefusesMetadata, constructor_error}
 use Rattle.vx_encodings.specs.VarBinMessage.{varbin_schema, varbin_value}
 use Rattle.vx_encodings.specs.declared.encoding.Encoding.TheVariants.{VarBin}
 use Rattle.vx_encodings.specs.declared.error.EncodingError.{EncodingError}
@@ -37,7 +37,7 @@ use Rattle.vx_encodings.specs.declared.head.ArrayHead.{ArrayHead}
 -- ---- a plan
 
 -- Bytes that are no message are no metadata.
-pub varbins_unread : (x : ExtMeaning) (error : EncodingError) (h : ArrayHead) → IsUnread error varbin_schema 0 h.metadata → IsUnplanned error x VarBin h
+pub varbins_unread : (x : ExtMeaning) (error : EncodingError) (h : ArrayHead) → RefusesMetadata error varbin_schema 0 h.metadata → IsUnplanned error x VarBin h
 varbins_unread x OutOfMemory h u = tt
 varbins_unread x BadMetadata h u = λ v m. u _ (varbin_kind x (typ h.dtype) h.metadata v m).reads
 varbins_unread x BadShape h u = absurd u

@@ -24,7 +24,7 @@ use Rattle.vx_wire_tree.specs.Fields as F
 use Rattle.vx_wire_tree.specs.KnownTypes.{IsKnownIn}
 use Rattle.vx_wire_tree.specs.Reads.{IsMetadata}
 use Rattle.vx_encodings.specs.Messages.{codec}
-use Rattle.vx_encodings.specs.Steps.{IsUnread}
+use Rattle.vx_encodings.specs.Steps.{RefusesMetadata}
 use Rattle.vx_encodings.specs.VariantMessage.{IsShredded, IsUnshredded, IsUnknownMessage, ShowsVariant, shredded_value, variant_bytes, variant_parts, variant_schema, variant_value}
 use Rattle.vx_encodings.specs.declared.error.EncodingError.{EncodingError}
 use Rattle.vx_encodings.specs.declared.error.EncodingError.TheVariants.{OutOfMemory, BadMetadata, BadShape}
@@ -101,7 +101,7 @@ variant_read x d bytes v m =
 -- ---- the type of a shredded child
 
 -- Bytes that are no message tell none.
-pub nothing_told : (x : ExtMeaning) (bytes : List ℕ) (e : EncodingError) → IsUnread e variant_schema 14 bytes → IsUnshredded e x bytes
+pub nothing_told : (x : ExtMeaning) (bytes : List ℕ) (e : EncodingError) → RefusesMetadata e variant_schema 14 bytes → IsUnshredded e x bytes
 nothing_told x bytes OutOfMemory u = tt
 nothing_told x bytes BadMetadata u = λ d h. u _ h.reads
 nothing_told x bytes BadShape u = absurd u

@@ -101,13 +101,13 @@ constructor_error A.ValueTooLarge = OutOfMemory
 constructor_error A.BadCast = OutOfMemory
 
 -- A message is not read: for want of memory, or as the bytes show none.
-abbrev pub IsUnread : EncodingError → Schema → ℕ → List ℕ → Type 0
-IsUnread OutOfMemory schema place bytes = Unit {0}
-IsUnread BadMetadata schema place bytes = (v : Value) → Reads schema place bytes v → ⊥
-IsUnread BadShape schema place bytes = ⊥
-IsUnread BadContent schema place bytes = ⊥
-IsUnread ForeignControl schema place bytes = ⊥
-IsUnread WireLimit schema place bytes = ⊥
+abbrev pub RefusesMetadata : EncodingError → Schema → ℕ → List ℕ → Type 0
+RefusesMetadata OutOfMemory schema place bytes = Unit {0}
+RefusesMetadata BadMetadata schema place bytes = (v : Value) → Reads schema place bytes v → ⊥
+RefusesMetadata BadShape schema place bytes = ⊥
+RefusesMetadata BadContent schema place bytes = ⊥
+RefusesMetadata ForeignControl schema place bytes = ⊥
+RefusesMetadata WireLimit schema place bytes = ⊥
 
 -- A message's refusal as one of its encoding.
 abbrev pub message_error : ProtoError → EncodingError

@@ -7,7 +7,7 @@ ghost use Rattle.vx_proto.specs.Parts.{number_in, entries_in};
 ghost use Rattle.vx_proto.specs.Reads.{Reads};
 ghost use Rattle.vx_proto.specs.Value.{value_view};
 ghost use Rattle.vx_proto.specs.Written.{written, nested};
-ghost use Rattle.vx_encodings.specs.Steps.{IsUnread};
+ghost use Rattle.vx_encodings.specs.Steps.{RefusesMetadata};
 
 use crate::error::{EncodingError, of_message};
 use std::alloc::Global;
@@ -18,7 +18,7 @@ use vx_types::{Blob, PType};
 #[tactic(auto, using(crate::proofs::Unread::unread))]
 pub(crate) fn read_message<M: Message>(alloc: Global, bytes: &[u8]) -> Result<M, EncodingError>
     ensures read { IfOk result (λ m. Reads M.schema M.place bytes.now (M.value m)) }
-    ensures err { IfErr result (λ e. IsUnread e M.schema M.place bytes.now) }
+    ensures err { IfErr result (λ e. RefusesMetadata e M.schema M.place bytes.now) }
 {
     match ProstMetadata::<M>::deserialize(alloc, bytes) {
         Ok(message) => Ok(message),

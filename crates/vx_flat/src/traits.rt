@@ -11,7 +11,7 @@ ghost use Rattle.vx_flat.specs.Limits.{limits, IsLight};
 ghost use Rattle.vx_flat.specs.Weight.{weight};
 ghost use Rattle.vx_flat.specs.Pieces.{table_pieces};
 ghost use Rattle.vx_flat.specs.Building.{Built, nothing_built, Takes, Written, Keeps};
-ghost use Rattle.vx_flat.specs.Refusing.{IsUnread};
+ghost use Rattle.vx_flat.specs.Refusing.{RefusesTables};
 ghost use Rattle.vx_flat.specs.declared.error.FlatError.TheVariants.{OutOfMemory};
 
 use crate::buffer::FlatBuffer;
@@ -58,7 +58,7 @@ pub trait ReadFlatBuffer: Sized {
             (λ x. (v : Fields) × Shows Self.Kind.schema message.now v × reads v x) }
         ensures light { OnOk result (IsLight limits (weight Self.Kind.schema message.now)) }
         ensures cause { IfErr result
-            (λ e. ((f : FlatError) × IsUnread Self.Kind.schema message.now f × Self.Error.from_gives f e)
+            (λ e. ((f : FlatError) × RefusesTables Self.Kind.schema message.now f × Self.Error.from_gives f e)
             ⊎ ((v : Fields) × Shows Self.Kind.schema message.now v × unread v e)) }
 
         // What a message shows within the limits and can be read is read, unless memory runs out.

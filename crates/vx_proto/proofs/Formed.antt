@@ -11,7 +11,7 @@ use Rattle.vx_proto.specs.declared.schema.ScalarKind.TheVariants.{Uint32, Uint64
 use Rattle.vx_proto.specs.declared.schema.Member.{Member}
 use Rattle.vx_proto.specs.Schema.{Slot, plain, optional, oneof, repeated, Schema, members_of, list_at, kind_in, has, kind_of}
 use Rattle.vx_trees.specs.Bytes.{AreBytes}
-use Rattle.vx_proto.specs.Wire.{SpellsNumber, Part, i64, len, i32, Field, SpellsPart, Spells}
+use Rattle.vx_proto.specs.Wire.{SpellsNumber, Part, i64, len, i32, Field, SpellsPart, SpellsMessage}
 use Rattle.vx_proto.specs.Value.{Content, Entry, Value}
 use Rattle.vx_proto.specs.Reads.{default_in, default_of, last_of, ShowsScalar, ShowsContent, ShowsEntries, ShowsSlots, Keeps, ReadsWithin}
 use Rattle.vx_proto.specs.Form.{FormScalar, FormContent, FormEntries, FormCount, FormSlots, FormWithin}
@@ -67,7 +67,7 @@ abbrev pub AllForm : (ℕ → Value → Type 0) → List Slot → List Entry →
 AllForm F list [] = Unit {0}
 AllForm F list (x ∷ xs) = ((k : Kind) × (kind_of list x.0 ≡ Some k) × FormContent F k x.1) × AllForm F list xs
 
-entries_form : (R : ℕ → List ℕ → Value → Type 0) (F : ℕ → Value → Type 0) (list : List Slot) (bytes : List ℕ) (fs : List Field) (es : List Entry) → Formed R F → Spells bytes fs → AreBytes bytes → ShowsEntries R list fs es → AllForm F list es
+entries_form : (R : ℕ → List ℕ → Value → Type 0) (F : ℕ → Value → Type 0) (list : List Slot) (bytes : List ℕ) (fs : List Field) (es : List Entry) → Formed R F → SpellsMessage bytes fs → AreBytes bytes → ShowsEntries R list fs es → AllForm F list es
 entries_form R F list bytes [] es h w b s = subst (AllForm F list) (sym s) tt
 entries_form R F list bytes (f ∷ fs) es h w b (inl s) = entries_form R F list w.1 fs es h w.4 (back w.0 w.1 (subst AreBytes w.2 b)) s.1
 entries_form R F list bytes (f ∷ fs) es h w b (inr s) =

@@ -69,9 +69,9 @@ pub record SpellsField (bytes : List ℕ) (f : Field) : Type 0 where
   pub part_is : SpellsPart part f.part
 
 -- The bytes that spell a list of fields: one after the other, with nothing between and nothing left.
-abbrev pub Spells : List ℕ → List Field → Type 0
-Spells bytes [] = bytes ≡ []
-Spells bytes (f ∷ fs) = (front : List ℕ) × (rest : List ℕ) × (bytes ≡ front ++ rest) × SpellsField front f × Spells rest fs
+abbrev pub SpellsMessage : List ℕ → List Field → Type 0
+SpellsMessage bytes [] = bytes ≡ []
+SpellsMessage bytes (f ∷ fs) = (front : List ℕ) × (rest : List ℕ) × (bytes ≡ front ++ rest) × SpellsField front f × SpellsMessage rest fs
 
 -- The bytes begin with those of a field, and these come after it.
 pub record BeginsWith (bytes : List ℕ) (f : Field) (rest : List ℕ) : Type 0 where

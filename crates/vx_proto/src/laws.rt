@@ -1,7 +1,7 @@
 //! What holds of the definitions of this crate, for each schema at once. A caller of these functions learns the laws.
 
 ghost use Rattle.std.specs.Prelude.{◌≡◌, ◌<◌, ◌≤◌, ◌^◌, ◌↔◌, ℕ, ℤ, List, [], ◌++◌, length, IsTrue, Some, true};
-ghost use Rattle.vx_proto.specs.Wire.{Field, field_at, cut, BeginsWith, Spells};
+ghost use Rattle.vx_proto.specs.Wire.{Field, field_at, cut, BeginsWith, SpellsMessage};
 ghost use Rattle.vx_proto.specs.declared.error.ProtoError.{ProtoError as Refusal};
 ghost use Rattle.vx_proto.specs.Schema.{Schema};
 ghost use Rattle.vx_proto.specs.Value.{Value};
@@ -56,6 +56,6 @@ pub fn deep_nests_over()
 pub fn front_is_spelled()
     ensures cut { (bytes rest : List ℕ) (f : Field) → field_at bytes ≡ Some (f, rest) → BeginsWith bytes f rest }
     ensures again { (bytes rest : List ℕ) (f : Field) → BeginsWith bytes f rest → field_at bytes ≡ Some (f, rest) }
-    ensures whole { (bytes : List ℕ) → (cut bytes).1 ≡ true → Spells bytes (cut bytes).0 }
-    ensures all { (bytes : List ℕ) (fs : List Field) → Spells bytes fs → cut bytes ≡ (fs, true) }
+    ensures whole { (bytes : List ℕ) → (cut bytes).1 ≡ true → SpellsMessage bytes (cut bytes).0 }
+    ensures all { (bytes : List ℕ) (fs : List Field) → SpellsMessage bytes fs → cut bytes ≡ (fs, true) }
 {}

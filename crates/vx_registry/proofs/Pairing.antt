@@ -11,7 +11,7 @@ use Rattle.vx_wire_tree.specs.Plugin.{PluginMeaning}
 use Rattle.vx_wire_tree.specs.Revised.{revised_name}
 use Rattle.vx_wire_tree.specs.Session.{Reader, shipped, revised, plugin, SessionMeaning, IsPaired, IsReadAgainBy, IsRevisedAgainBy}
 use Rattle.vx_encodings.specs.declared.encoding.Encoding.{Encoding}
-use Rattle.vx_registry.specs.Session.{Registry, ArePaired, AreWithin, both_ids, entry, entry_in, found_with, own_id, put_all, registered, with_revised, with_plugin}
+use Rattle.vx_registry.specs.Session.{Registry, ArePaired, AreWithin, both_ids, entry, entry_in, found_with, shipped_id, put_all, registered, with_revised, with_plugin}
 use Rattle.vx_registry.specs.declared.error.RegistryError.{RegistryError}
 use Rattle.vx_registry.specs.declared.tables.Entry.{Entry}
 use Rattle.vx_registry.specs.declared.tables.Entry.TheVariants.{Shipped, Revised, Boxed}
@@ -126,7 +126,7 @@ paired_entry e w ids old now readers writers stands h = λ f x.
 
 -- An encoding comes under its own identifier.
 pub paired_shipped : (e : Encoding) (r : Registry) → ArePaired r → ArePaired (registered e r)
-paired_shipped e r h = paired_entry (Shipped e) (own_id e) (own_id e ∷ []) r (registered e r) refl refl (λ f. (entry e, refl, (refl, refl))) h
+paired_shipped e r h = paired_entry (Shipped e) (shipped_id e) (shipped_id e ∷ []) r (registered e r) refl refl (λ f. (entry e, refl, (refl, refl))) h
 
 -- A plugin comes under identifiers.
 pub paired_boxed : (n : ℕ) (i : List ℕ) (ids : List (List ℕ)) (r : Registry) → ArePaired r → ArePaired (with_plugin n i ids r)
@@ -167,12 +167,12 @@ within_boxed n i ids r h = record {
 pub within_shipped : (e : Encoding) (k : ℕ) (r : Registry) → AreWithin r k → AreWithin (registered e r) k
 within_shipped e k r h = record {
   readers = λ id m p.
-      elim (which (bytes_eq (own_id e) id) (Shipped e) (Boxed m) (lookup (bytes_eq id) r.readers) _ (lookup_put (Shipped e) (own_id e) id r.readers) p) [
+      elim (which (bytes_eq (shipped_id e) id) (Shipped e) (Boxed m) (lookup (bytes_eq id) r.readers) _ (lookup_put (Shipped e) (shipped_id e) id r.readers) p) [
         | inl q ↦ no_number e m q.1
         | inr q ↦ h.readers id m q.1
       ];
   writers = λ id m p.
-      elim (which (bytes_eq (own_id e) id) (Shipped e) (Boxed m) (lookup (bytes_eq id) r.writers) _ (lookup_put (Shipped e) (own_id e) id r.writers) p) [
+      elim (which (bytes_eq (shipped_id e) id) (Shipped e) (Boxed m) (lookup (bytes_eq id) r.writers) _ (lookup_put (Shipped e) (shipped_id e) id r.writers) p) [
         | inl q ↦ no_number e m q.1
         | inr q ↦ h.writers id m q.1
       ];

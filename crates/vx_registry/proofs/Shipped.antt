@@ -5,22 +5,22 @@ use Rattle.std.specs.Map.{lookup}
 use Rattle.std.proofs.lemmas.List.{take_all, take_more}
 use Rattle.vx_wire_tree.specs.Session.{IsShippedReader}
 use Rattle.vx_encodings.specs.declared.encoding.Encoding.{Encoding}
-use Rattle.vx_registry.specs.Session.{Registry, Entries, Plugins, AreWithin, entry_in, own_id, put, registered, shipped_encodings, shipped_registry}
+use Rattle.vx_registry.specs.Session.{Registry, Entries, Plugins, AreWithin, entry_in, shipped_id, put, registered, shipped_encodings, shipped_registry}
 use Rattle.vx_registry.specs.declared.tables.Entry.{Entry}
 use Rattle.vx_registry.specs.declared.tables.Entry.TheVariants.{Shipped, Boxed}
 
 -- encodings under their own identifiers
 abbrev pub own_entries : List Encoding → Entries
-own_entries es = map (λ e. (own_id e, Shipped e)) es
+own_entries es = map (λ e. (shipped_id e, Shipped e)) es
 
 -- entries after encodings are put in one after the other, each under its own identifier
 abbrev pub put_in : Entries → List Encoding → Entries
 put_in m [] = m
-put_in m (e ∷ es) = put_in (put (Shipped e) (own_id e) m) es
+put_in m (e ∷ es) = put_in (put (Shipped e) (shipped_id e) m) es
 
-pub put_in-snoc : (m : Entries) (es : List Encoding) (e : Encoding) → put_in m (es ++ e ∷ []) ≡ put (Shipped e) (own_id e) (put_in m es)
+pub put_in-snoc : (m : Entries) (es : List Encoding) (e : Encoding) → put_in m (es ++ e ∷ []) ≡ put (Shipped e) (shipped_id e) (put_in m es)
 put_in-snoc m [] e = refl
-put_in-snoc m (x ∷ xs) e = put_in-snoc (put (Shipped x) (own_id x) m) xs e
+put_in-snoc m (x ∷ xs) e = put_in-snoc (put (Shipped x) (shipped_id x) m) xs e
 
 -- no two of the shipped ones have one identifier
 pub all_in : put_in [] shipped_encodings ≡ own_entries shipped_encodings
@@ -51,7 +51,7 @@ shipped_of false e o n p = p
 
 never_boxed : (test : List ℕ → Bool) (es : List Encoding) (n : ℕ) → lookup test (own_entries es) ≡ Some (Boxed n) → ⊥
 never_boxed test [] n p = cc
-never_boxed test (e ∷ es) n p = never_boxed test es n (shipped_of (test (own_id e)) e (lookup test (own_entries es)) n p)
+never_boxed test (e ∷ es) n p = never_boxed test es n (shipped_of (test (shipped_id e)) e (lookup test (own_entries es)) n p)
 
 -- So no number stands in the tables of the shipped encodings.
 pub shipped_within : (r : Registry) (k : ℕ) → r ≡ shipped_registry → AreWithin r k
@@ -67,4 +67,4 @@ shipped_by f false e o h = h
 -- What is found there is shipped.
 pub found_is_shipped : (f : Plugins) (test : List ℕ → Bool) (es : List Encoding) → IsShippedReader (option_and_then (entry_in f) (lookup test (own_entries es)))
 found_is_shipped f test [] = tt
-found_is_shipped f test (e ∷ es) = shipped_by f (test (own_id e)) e (lookup test (own_entries es)) (found_is_shipped f test es)
+found_is_shipped f test (e ∷ es) = shipped_by f (test (shipped_id e)) e (lookup test (own_entries es)) (found_is_shipped f test es)

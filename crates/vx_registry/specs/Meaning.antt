@@ -7,7 +7,7 @@ use Rattle.vx_types.specs.Typ.{Typ}
 use Rattle.vx_type_wire.specs.Session.{ext_meaning}
 use Rattle.vx_wire_tree.specs.Plugin.{PluginMeaning}
 use Rattle.vx_wire_tree.specs.Session.{Reader, revised, plugin, SessionMeaning}
-use Rattle.vx_registry.specs.Session.{Plugins, Registry, both_ids, entry, entry_in, own_id, tables_meaning, registered, with_revised, with_plugin}
+use Rattle.vx_registry.specs.Session.{Plugins, Registry, both_ids, entry, entry_in, shipped_id, tables_meaning, registered, with_revised, with_plugin}
 use Rattle.vx_registry.specs.declared.array_session.ArraySession.{ArraySession}
 use Rattle.vx_registry.specs.declared.session.PluginEntry.{PluginEntry}
 use Rattle.vx_registry.specs.declared.session.PluginEntry.TheVariants.{Shipped, Revised, Boxed}
@@ -35,7 +35,7 @@ module _ {Y : Type 0} {G : Y → Type 0} (means : DynBox Y Global G → PluginMe
 
   -- The identifiers that an entry reads: its encoding's, both of primitives, or those that its plugin declares.
   abbrev pub entry_ids : PluginEntry Y G → List (List ℕ)
-  entry_ids (Shipped e) = own_id e ∷ []
+  entry_ids (Shipped e) = shipped_id e ∷ []
   entry_ids Revised = both_ids
   entry_ids (Boxed b) = (means b).declared
 

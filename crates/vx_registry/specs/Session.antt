@@ -51,8 +51,8 @@ abbrev pub found : Plugins → Entries → List ℕ → Option Reader
 found plugins table id = option_and_then (entry_in plugins) (lookup (bytes_eq id) table)
 
 -- The identifier of an encoding.
-abbrev pub own_id : Encoding → List ℕ
-own_id e = id_of (plain_encoding e)
+abbrev pub shipped_id : Encoding → List ℕ
+shipped_id e = id_of (plain_encoding e)
 
 -- What an identifier finds once a reader stands under others: there the reader, elsewhere what it found before.
 abbrev pub found_with : List (List ℕ) → Reader → (List ℕ → Option Reader) → List ℕ → Option Reader
@@ -81,7 +81,7 @@ shipped_encodings = Null ∷ Bool ∷ Primitive ∷ Decimal ∷ VarBin ∷ VarBi
 
 -- The registry of the shipped encodings, each under its own identifier.
 abbrev pub shipped_registry : Registry
-shipped_registry = record { readers = map (λ e. (own_id e, Shipped e)) shipped_encodings; writers = map (λ e. (own_id e, Shipped e)) shipped_encodings }
+shipped_registry = record { readers = map (λ e. (shipped_id e, Shipped e)) shipped_encodings; writers = map (λ e. (shipped_id e, Shipped e)) shipped_encodings }
 
 -- What a session of the shipped encodings means, beside readers of extension types.
 abbrev pub shipped_meaning : ExtMeaning → SessionMeaning
@@ -98,7 +98,7 @@ put_all e (id ∷ ids) table = put_all e ids (put e id table)
 
 -- A registry in which an encoding stands under its own identifier.
 abbrev pub registered : Encoding → Registry → Registry
-registered e r = record { readers = put (Shipped e) (own_id e) r.readers; writers = put (Shipped e) (own_id e) r.writers }
+registered e r = record { readers = put (Shipped e) (shipped_id e) r.readers; writers = put (Shipped e) (shipped_id e) r.writers }
 
 -- A registry in which primitives have two identifiers.
 abbrev pub with_revised : Registry → Registry

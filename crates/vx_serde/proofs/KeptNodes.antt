@@ -15,7 +15,7 @@ use Rattle.vx_encodings.specs.declared.head.ArrayHead.{ArrayHead}
 use Rattle.vx_serde.specs.declared.error.WireError.{WireError}
 use Rattle.vx_serde.specs.declared.error.WireError.TheVariants.{OutOfMemory, OutOfBounds, UnknownIndex}
 use Rattle.vx_serde.specs.Decoding.{IsHeadOf}
-use Rattle.vx_serde.specs.ReadingSteps.{RefusesBuffers, RefusesKept}
+use Rattle.vx_serde.specs.ReadingSteps.{RefusesNodeBuffers, RefusesKept}
 
 -- a child's cause is its parent's
 pub kept_above : (x : WireError) (w : Wire) (i : ℕ) (v : Wire) → slice_get (roses_list (below w)) i ≡ Some v → RefusesKept x v → RefusesKept x w
@@ -25,7 +25,7 @@ kept_above UnknownIndex w i v child c = (i ∷ c.0, (v, child, c.1))
 kept_above _ w i v child c = absurd c
 
 -- a missing buffer
-pub unkept_by_buffers : (x : WireError) (w : Wire) → RefusesBuffers x (label w).buffers → RefusesKept x w
+pub unkept_by_buffers : (x : WireError) (w : Wire) → RefusesNodeBuffers x (label w).buffers → RefusesKept x w
 unkept_by_buffers OutOfMemory w c = tt
 unkept_by_buffers OutOfBounds w c = ([], c)
 unkept_by_buffers _ w c = absurd c

@@ -42,7 +42,7 @@ use Rattle.vx_registry.specs.declared.tables.Entry.TheVariants.{Shipped, Revised
 use Rattle.vx_serde.specs.declared.error.WireError.{WireError}
 use Rattle.vx_serde.specs.declared.error.WireError.TheVariants.{OutOfMemory, OutOfBounds, UnknownIndex, UnknownEncoding, BadMetadata, BadShape, BadContent, ForeignControl, BadStats, PluginRefused}
 use Rattle.vx_serde.specs.Causes.{RefusesWire}
-use Rattle.vx_serde.specs.ReadingSteps.{RefusesBuffers, RefusesKept, RefusesStats}
+use Rattle.vx_serde.specs.ReadingSteps.{RefusesNodeBuffers, RefusesKept, RefusesStats}
 use Rattle.vx_serde.specs.Decoding.{IsHeadOf, IsNodeOf, IsPastHead, PlansBy, RefusesPlan, head_over, BuildsBy, RefusesBuild}
 
 -- ---- children, one by one
@@ -136,7 +136,7 @@ caused_by_child s x w d n ws ps i v p plan e g f c =
     caused_above s x w d n i v p (record { places = ps; planned = plan; child = child; place = f }) c
 
 -- a missing buffer
-pub caused_by_buffers : (s : SessionMeaning) (x : WireError) (w : Wire) (d : Typ) (n : ℕ) → RefusesBuffers x (label w).buffers → RefusesWire s x w d n
+pub caused_by_buffers : (s : SessionMeaning) (x : WireError) (w : Wire) (d : Typ) (n : ℕ) → RefusesNodeBuffers x (label w).buffers → RefusesWire s x w d n
 caused_by_buffers s OutOfMemory w d n c = tt
 caused_by_buffers s OutOfBounds w d n c = ([], c)
 caused_by_buffers s _ w d n c = absurd c

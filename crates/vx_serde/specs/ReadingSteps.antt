@@ -37,10 +37,10 @@ RefusesBuffer OutOfMemory given n p d = Unit {0}
 RefusesBuffer e given n p d = RefusesAt e given n p d
 
 -- Why a node's buffers are not taken: one is missing, or memory was wanted.
-abbrev pub RefusesBuffers : WireError → List (Option Buffer) → Type 0
-RefusesBuffers OutOfMemory bs = Unit {0}
-RefusesBuffers OutOfBounds bs = (i : ℕ) × (slice_get bs i ≡ Some None)
-RefusesBuffers _ bs = ⊥
+abbrev pub RefusesNodeBuffers : WireError → List (Option Buffer) → Type 0
+RefusesNodeBuffers OutOfMemory bs = Unit {0}
+RefusesNodeBuffers OutOfBounds bs = (i : ℕ) × (slice_get bs i ≡ Some None)
+RefusesNodeBuffers _ bs = ⊥
 
 -- Why a wire tree is not kept: an identifier or a buffer is missing somewhere, or memory was wanted.
 abbrev pub RefusesKept : WireError → Wire → Type 0

@@ -16,7 +16,7 @@ ghost use Rattle.vx_encodings.specs.Messages.{codec};
 ghost use Rattle.vx_registry.specs.Meaning.{reader_in, session_meaning};
 ghost use Rattle.vx_serde.specs.Causes.{RefusesWire};
 ghost use Rattle.vx_serde.specs.Decoding.{IsHeadOf, IsNodeOf, PlansBy};
-ghost use Rattle.vx_serde.specs.ReadingSteps.{RefusesBuffers, RefusesStats, stats_refusal};
+ghost use Rattle.vx_serde.specs.ReadingSteps.{RefusesNodeBuffers, RefusesStats, stats_refusal};
 ghost use Rattle.vx_serde.specs.Serialized.{wire_in};
 
 use crate::error::WireError;
@@ -125,7 +125,7 @@ pub(crate) fn own_buffers(
     node: &SerializedNode<'_>,
 ) -> Result<BufferHandles, WireError>
     ensures ok { (ids : List (List ℕ)) → IfOk result (λ bs. (label (wire_in ids node.now)).buffers ≡ all_present bs) }
-    ensures cause { (ids : List (List ℕ)) → IfErr result (λ e. RefusesBuffers e (label (wire_in ids node.now)).buffers) }
+    ensures cause { (ids : List (List ℕ)) → IfErr result (λ e. RefusesNodeBuffers e (label (wire_in ids node.now)).buffers) }
 {
     let mut own = BufferHandles::new(alloc);
     for i in 0..node.nbuffers() {

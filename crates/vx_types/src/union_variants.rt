@@ -44,9 +44,9 @@ impl Model for UnionVariants {
 }
 
 impl UnionVariants {
-    /// Members of these names, types and tags. `FieldCount` exactly where the
-    /// lists are not of one length, and else `DuplicateTag` exactly where two tags
-    /// are equal.
+    /// Members of these names, types and tags. Refused exactly where the lists are
+    /// not of one length or two tags are equal: `FieldCount` tells the first,
+    /// `DuplicateTag` the second.
     pub fn try_new(names: Names, types: DTypes, ids: TypeIds) -> Result<UnionVariants, TypeError>
         ensures ok { IfOk result (λ members. members ≡ record { names = names; types = types; ids = ids }) }
         ensures types_fit { IfOk result (λ _. length names ≡ length types) }

@@ -52,8 +52,7 @@ pub record HasWrongShape (c : Codec) (x : ExtMeaning) (e : Encoding) (d : Typ) (
   pub metadata : IsMetadata c x e d bytes value
   pub wrong : (IsShaped e d n value bs (count ts) → ⊥) ⊎ (Takes e (encodings ts) → ⊥)
 
--- Parts are as their encoding's row asks, and a child that says where rows are holds a foreign node, or the
--- entries of a map are one.
+-- Metadata is read, and a child that says where rows are holds a foreign node, or the entries of a map are one.
 pub record HasWrongControl (c : Codec) (x : ExtMeaning) (e : Encoding) (d : Typ) (n : ℕ) (bytes : List ℕ) (ts : Trees) : Type 0 where
   pub value : Metadata
   pub metadata : IsMetadata c x e d bytes value

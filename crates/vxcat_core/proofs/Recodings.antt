@@ -22,7 +22,7 @@ use Rattle.vxcat_core.specs.declared.status.Status.TheVariants.{Done, OutOfMemor
 use Rattle.vxcat_core.specs.IdFile.{ReadsIds}
 use Rattle.vxcat_core.specs.Recode.{AreRead, CanRecodeInputs, ReadsAllowed, RefusesInputs, Loaded, Recode, Terms, asked_by, context_of, padded_at, readers_of, session_of}
 use Rattle.vxcat_core.proofs.IdLines.{lines_unique}
-use Rattle.vxcat_core.specs.RecodeViews.{AreMade, AreOutputs, RefusesBlob, RefusesIds, RefusesType}
+use Rattle.vxcat_core.specs.RecodeViews.{AreMade, AreOutputs, RefusesBlob, RefusesIdFile, RefusesTypeFile}
 use Rattle.vxcat_core.specs.Statuses.{blob_status}
 
 -- What holds of what is asked of bytes holds of what is asked of the same bytes.
@@ -78,7 +78,7 @@ pub given_alike : (bytes others : List ℕ) (x : ExtMeaning) (result : Result DT
 given_alike bytes others x result e p = subst (λ (m : List ℕ). IfOk result (λ d. IsRead (ShowsType m) x (typ d))) e p
 
 -- A type file that is refused, but for want of memory, is read as no type.
-pub type_cause : (status : Status) (line : Recode) (loaded : Loaded) (bytes : List ℕ) (x : ExtMeaning) → bytes ≡ loaded.type_bytes → x ≡ readers_of line.settings → RefusesType status
+pub type_cause : (status : Status) (line : Recode) (loaded : Loaded) (bytes : List ℕ) (x : ExtMeaning) → bytes ≡ loaded.type_bytes → x ≡ readers_of line.settings → RefusesTypeFile status
     → ((t : Typ) → IsRead (ShowsType bytes) x t → status ≡ OutOfMemory) → RefusesInputs status line loaded
 type_cause OutOfMemory line loaded bytes x e p s complete = tt
 type_cause BadType line loaded bytes x e p s complete = λ t r. not_memory (complete t (read_alike loaded.type_bytes bytes (readers_of line.settings) x t (sym e) (sym p) r))
@@ -98,7 +98,7 @@ type_memory status line loaded bytes x e p complete can =
     complete can.terms.dtype (read_alike loaded.type_bytes bytes (readers_of line.settings) x can.terms.dtype (sym e) (sym p) can.are_read.type_read)
 
 -- A bad id file is a cause among those of what was loaded.
-pub ids_cause : (status : Status) (line : Recode) (loaded : Loaded) (bytes : List ℕ) → bytes ≡ loaded.id_bytes → RefusesIds status (λ ids. ReadsIds bytes ids) → RefusesInputs status line loaded
+pub ids_cause : (status : Status) (line : Recode) (loaded : Loaded) (bytes : List ℕ) → bytes ≡ loaded.id_bytes → RefusesIdFile status (λ ids. ReadsIds bytes ids) → RefusesInputs status line loaded
 ids_cause OutOfMemory line loaded bytes e h = tt
 ids_cause BadIds line loaded bytes e h = inl (λ ids r. h ids (subst (λ (m : List ℕ). ReadsIds m ids) (sym e) r))
 ids_cause Done line loaded bytes e h = absurd h
@@ -110,7 +110,7 @@ ids_cause WriteFault line loaded bytes e h = absurd h
 ids_cause BadType line loaded bytes e h = absurd h
 ids_cause (Refused error) line loaded bytes e h = absurd h
 
-pub allowed_cause : (status : Status) (line : Recode) (loaded : Loaded) → RefusesIds status (λ allowed. ReadsAllowed loaded.allow_bytes allowed) → RefusesInputs status line loaded
+pub allowed_cause : (status : Status) (line : Recode) (loaded : Loaded) → RefusesIdFile status (λ allowed. ReadsAllowed loaded.allow_bytes allowed) → RefusesInputs status line loaded
 allowed_cause OutOfMemory line loaded h = tt
 allowed_cause BadIds line loaded h = inr h
 allowed_cause Done line loaded h = absurd h
@@ -123,7 +123,7 @@ allowed_cause BadType line loaded h = absurd h
 allowed_cause (Refused error) line loaded h = absurd h
 
 -- A file of which something is read is refused for want of memory alone.
-pub ids_memory : {A : Type 0} (status : Status) (Reads : A → Type 0) → RefusesIds status Reads → (ids : A) → Reads ids → status ≡ OutOfMemory
+pub ids_memory : {A : Type 0} (status : Status) (Reads : A → Type 0) → RefusesIdFile status Reads → (ids : A) → Reads ids → status ≡ OutOfMemory
 ids_memory OutOfMemory Reads h ids r = refl
 ids_memory BadIds Reads h ids r = absurd (h ids r)
 ids_memory Done Reads h ids r = absurd h

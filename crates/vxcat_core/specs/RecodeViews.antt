@@ -67,16 +67,16 @@ RefusesSave OutOfMemory before after = Unit {0}
 RefusesSave status before after = ⊥
 
 -- A type file is a bad one, or wants memory.
-abbrev pub RefusesType : Status → Type 0
-RefusesType OutOfMemory = Unit {0}
-RefusesType BadType = Unit {0}
-RefusesType status = ⊥
+abbrev pub RefusesTypeFile : Status → Type 0
+RefusesTypeFile OutOfMemory = Unit {0}
+RefusesTypeFile BadType = Unit {0}
+RefusesTypeFile status = ⊥
 
 -- An id file is a bad one where nothing is read of it, or memory is wanted.
-abbrev pub RefusesIds : {A : Type 0} → Status → (A → Type 0) → Type 0
-RefusesIds OutOfMemory Reads = Unit {0}
-RefusesIds {A} BadIds Reads = (ids : A) → ¬ (Reads ids)
-RefusesIds status Reads = ⊥
+abbrev pub RefusesIdFile : {A : Type 0} → Status → (A → Type 0) → Type 0
+RefusesIdFile OutOfMemory Reads = Unit {0}
+RefusesIdFile {A} BadIds Reads = (ids : A) → ¬ (Reads ids)
+RefusesIdFile status Reads = ⊥
 
 -- A blob is refused with its cause, or wants memory.
 abbrev pub RefusesBlob : Status → Request → Type 0

@@ -14,7 +14,7 @@ ghost use Rattle.vx_buffer.specs.Joined.{joined};
 ghost use Rattle.vxcat_core.specs.Recode.{AreInputs, AreSaved, CanRecodeInputs, RefusesInputs, KeepsOthers, ReadsAllowed, SavesInOrder, StandsIfNamed, context_of, if_named, inputs, padded_at, readers_by, session_by, shipped_by};
 ghost use Rattle.vxcat_core.specs.IdFile.{ReadsIds};
 ghost use Rattle.vxcat_core.specs.StoreState.{AskedOnly};
-ghost use Rattle.vxcat_core.specs.RecodeViews.{AreMade, AreOutputs, RefusesIds, RefusesLoad, RefusesSave, RefusesType, RefusesBlob, line_of, loaded_of};
+ghost use Rattle.vxcat_core.specs.RecodeViews.{AreMade, AreOutputs, RefusesIdFile, RefusesLoad, RefusesSave, RefusesTypeFile, RefusesBlob, line_of, loaded_of};
 ghost use Rattle.vxcat_core.specs.declared.status.Status.TheVariants.{OutOfMemory};
 
 use super::words::RecodeWords;
@@ -190,7 +190,7 @@ fn recode_under(
 fn read_type_file(alloc: Global, bytes: Blob, readers: &ExtSession) -> Result<DType, Status>
     ensures read { let x = ext_meaning (λ b. accepted (b.vtable, b.value)) readers.now in
         IfOk result (λ d. IsRead (ShowsType bytes) x (typ d)) }
-    ensures status { IfErr result RefusesType }
+    ensures status { IfErr result RefusesTypeFile }
     ensures complete { let x = ext_meaning (λ b. accepted (b.vtable, b.value)) readers.now in
         (t : Typ) → IsRead (ShowsType bytes) x t → IfErr result (λ status. status ≡ OutOfMemory) }
 {
@@ -201,7 +201,7 @@ fn read_type_file(alloc: Global, bytes: Blob, readers: &ExtSession) -> Result<DT
 fn read_type(alloc: Global, bytes: &[u8], readers: &ExtSession) -> Result<DType, Status>
     ensures read { let x = ext_meaning (λ b. accepted (b.vtable, b.value)) readers.now in
         IfOk result (λ d. IsRead (ShowsType bytes.now) x (typ d)) }
-    ensures status { IfErr result RefusesType }
+    ensures status { IfErr result RefusesTypeFile }
     ensures complete { let x = ext_meaning (λ b. accepted (b.vtable, b.value)) readers.now in
         (t : Typ) → IsRead (ShowsType bytes.now) x t → IfErr result (λ status. status ≡ OutOfMemory) }
 {
@@ -214,7 +214,7 @@ fn read_type(alloc: Global, bytes: &[u8], readers: &ExtSession) -> Result<DType,
 // The identifiers of an id file.
 fn read_id_file(alloc: Global, bytes: &[u8]) -> Result<Ids, Status>
     ensures read { IfOk result (λ ids. ReadsIds bytes.now ids) }
-    ensures cause { IfErr result (λ status. RefusesIds status (λ ids. ReadsIds bytes.now ids)) }
+    ensures cause { IfErr result (λ status. RefusesIdFile status (λ ids. ReadsIds bytes.now ids)) }
 {
     match read_ids(alloc, bytes) {
         Ok(ids) => Ok(ids),
@@ -225,7 +225,7 @@ fn read_id_file(alloc: Global, bytes: &[u8]) -> Result<Ids, Status>
 // The context under which the new blob is written: an empty one, which allows the identifiers of the file, if there is one.
 fn read_context(alloc: Global, allow_bytes: &Option<Blob>) -> Result<ArrayContext, Status>
     ensures read { IfOk result (λ context. (allowed : Option (List (List ℕ))) × ReadsAllowed allow_bytes.now allowed × (context ≡ context_of allowed)) }
-    ensures cause { IfErr result (λ status. RefusesIds status (λ allowed. ReadsAllowed allow_bytes.now allowed)) }
+    ensures cause { IfErr result (λ status. RefusesIdFile status (λ allowed. ReadsAllowed allow_bytes.now allowed)) }
 {
     let context = ArrayContext::empty(alloc);
     let Some(bytes) = allow_bytes else {

@@ -1,7 +1,7 @@
 use Rattle.std.proofs.Common.{[], ◌∷◌, ap, refl, sym, subst}
 use Rattle.vx_wire_tree.specs.Session.{HasPairedPlugins}
 use Rattle.vx_registry.specs.Meaning.{plugins_meaning}
-use Rattle.vx_registry.specs.Session.{entry, own_id}
+use Rattle.vx_registry.specs.Session.{entry, shipped_id}
 use Rattle.vx_registry.specs.declared.tables.Entry.TheVariants.{Shipped}
 use Rattle.vx_registry.proofs.LawsSessions.{paired_registered}
 use Rattle.vx_registry.proofs.Meanings.{found_put}
@@ -16,13 +16,13 @@ pub returns-in-Ok-clause-readers : goal.returns-in-Ok-clause-readers
 returns-in-Ok-clause-readers g c = λ x id.
     let own = c.args.self.now in
     let f = plugins_meaning (λ b. (goal.ArrayPlugin-dyn g (b.vtable, b.value)).means b.value) own.plugins.items in
-    rw c.in-Shipped.is (found_put f (Shipped c.in-Shipped.encoding) (entry c.in-Shipped.encoding) (own_id c.in-Shipped.encoding ∷ []) own.tables.readers c.set.new.self.readers id refl (ap (λ r. r.readers) c.in-Ok.ensures.registered))
+    rw c.in-Shipped.is (found_put f (Shipped c.in-Shipped.encoding) (entry c.in-Shipped.encoding) (shipped_id c.in-Shipped.encoding ∷ []) own.tables.readers c.set.new.self.readers id refl (ap (λ r. r.readers) c.in-Ok.ensures.registered))
 
 pub returns-in-Ok-clause-writers : goal.returns-in-Ok-clause-writers
 returns-in-Ok-clause-writers g c = λ x id.
     let own = c.args.self.now in
     let f = plugins_meaning (λ b. (goal.ArrayPlugin-dyn g (b.vtable, b.value)).means b.value) own.plugins.items in
-    rw c.in-Shipped.is (found_put f (Shipped c.in-Shipped.encoding) (entry c.in-Shipped.encoding) (own_id c.in-Shipped.encoding ∷ []) own.tables.writers c.set.new.self.writers id refl (ap (λ r. r.writers) c.in-Ok.ensures.registered))
+    rw c.in-Shipped.is (found_put f (Shipped c.in-Shipped.encoding) (entry c.in-Shipped.encoding) (shipped_id c.in-Shipped.encoding ∷ []) own.tables.writers c.set.new.self.writers id refl (ap (λ r. r.writers) c.in-Ok.ensures.registered))
 
 pub returns-in-Ok-add-clause-readers : goal.returns-in-Ok-add-clause-readers
 returns-in-Ok-add-clause-readers g c = λ x id. rw c.in-Boxed.is (c.in-Ok-add.ensures.readers x id)
