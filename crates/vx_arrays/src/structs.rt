@@ -24,6 +24,7 @@ use crate::error::ArrayError;
 use crate::list::Arrays;
 use crate::parts::{RowParts, where_there};
 use crate::place::stands_at;
+use std::alloc::Global;
 use vx_types::{DType, Nullability, StructFields};
 
 /// Arrays of structures, with an array for each field.
@@ -86,6 +87,7 @@ impl StructArray {
     /// `ForeignControl` where such an array would be sound but for a foreign node in the validity, and `BadShape` where it
     /// is not sound otherwise.
     pub fn try_new(
+        _alloc: Global,
         fields: StructFields,
         nullability: Nullability,
         columns: Arrays,

@@ -30,6 +30,7 @@ use crate::parts::{LoneRow, RowParts};
 use crate::place::stands_at;
 use crate::structs::are_columns;
 use crate::validity::parted;
+use std::alloc::Global;
 use vx_types::{DType, Nullability, PType, UnionVariants};
 
 /// Arrays of unions, with the tags of their rows and an array for each member.
@@ -69,6 +70,7 @@ impl UnionArray {
     /// `BadShape` where the tags are no numbers of 8 bits without a sign, or where the arrays are not those of the members.
     /// `ForeignControl` where the tags hold a foreign node. `BadContent` where a tag that is not null is none of a member.
     pub fn try_new(
+        _alloc: Global,
         variants: UnionVariants,
         type_ids: Array,
         children: Arrays,

@@ -96,7 +96,7 @@ pub(crate) fn build(
         None => unreachable!(),
     };
     let (validity, columns) = front_and_fields(children, fields.fields().len());
-    match StructArray::try_new(fields, nullability, columns, head.len, validity) {
+    match StructArray::try_new(alloc, fields, nullability, columns, head.len, validity) {
         Ok(array) => Ok(array),
         Err(e) => Err(of_constructor(e)),
     }

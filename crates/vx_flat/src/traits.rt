@@ -90,8 +90,7 @@ pub trait WriteFlatBuffer {
 
     /// Writes the blocks of the value, its table first, after those that the builder has. Ok means
     /// that the builder had not failed. After a refusal the builder keeps the blocks that it has,
-    /// and those of the value that were written so far; where the message would be too long, it has
-    /// failed.
+    /// and those of the value that were written so far.
     fn write_flatbuffer(&self, alloc: Global, builder: &mut Builder) -> Result<(), Self::Error>
         requires { Takes LinkKind.Table builder.old }
         ensures of_kind { IsOk result → IsOf Self.Kind.schema (table self.now) }
@@ -110,6 +109,7 @@ pub trait WriteFlatBuffer {
 pub trait WriteFlatBufferExt: WriteFlatBuffer + FlatBufferRoot {
     /// The message whose root is the value's table: its layout.
     fn write_flatbuffer_bytes(&self, alloc: Global) -> Result<FlatBuffer, Self::Error>
+        ensures of_kind { IsOk result → IsOf Self.Kind.schema (Self.table self.now) }
         ensures written { IfOk result
             (λ b. b ≡ written_layout Self.Kind.schema (Self.table self.now)) }
         ensures fits { IfOk result (λ b. length b < 2 ^ 31) }

@@ -49,7 +49,14 @@ fn over_fields(alloc: Global, fields: Arrays, rows: usize) -> Result<Array, Arra
     ensures err { IsOkOrMemory result }
 {
     match fields_of(alloc) {
-        Ok(names) => StructArray::try_new(names, Nullability::NonNullable, fields, rows, None),
+        Ok(names) => StructArray::try_new(
+            alloc,
+            names,
+            Nullability::NonNullable,
+            fields,
+            rows,
+            None,
+        ),
         Err(TypeError::OutOfMemory) => Err(ArrayError::OutOfMemory),
         Err(_) => unreachable!(),
     }

@@ -53,5 +53,5 @@ fn types(alloc: Global, columns: &Arrays) -> Result<DTypes> {
 pub fn cities(alloc: Global) -> Result<Array> {
     let columns = columns(alloc)?;
     let fields = StructFields::try_new(names(alloc)?, types(alloc, &columns)?)?;
-    Ok(StructArray::try_new(fields, Nullability::NonNullable, columns, 3, None)?)
+    Ok(StructArray::try_new(alloc, fields, Nullability::NonNullable, columns, 3, None)?)
 }

@@ -232,6 +232,7 @@ fn fields(alloc: Global, names: &[&str], arrays: AllMade) -> Result<StructFields
 
 // So many structures of these columns, of which some may be null.
 fn structs_of(
+    alloc: Global,
     fields: Result<StructFields, ArrayError>,
     columns: AllMade,
     len: usize,
@@ -239,7 +240,7 @@ fn structs_of(
     validity: Result<Option<Array>, ArrayError>,
 ) -> Made {
     let ((fields, columns), validity) = both(both(fields, columns), validity)?;
-    StructArray::try_new(fields, nullability(there), columns, len, validity)
+    StructArray::try_new(alloc, fields, nullability(there), columns, len, validity)
 }
 
 /// So many structures: the fields' names, arrays of their types, and the columns.
@@ -252,7 +253,14 @@ pub fn structs(
     there: There,
 ) -> Made {
     let fields = fields(alloc, names, types);
-    structs_of(fields, columns, len, there, validity(alloc, there, len))
+    structs_of(
+        alloc,
+        fields,
+        columns,
+        len,
+        there,
+        validity(alloc, there, len),
+    )
 }
 
 // The type of maps from keys to values of the types of these arrays.
@@ -296,15 +304,20 @@ fn variants(alloc: Global, ids: &[u8], arrays: AllMade) -> Result<UnionVariants,
 }
 
 // Unions of these members, by their tags.
-fn unions_of(variants: Result<UnionVariants, ArrayError>, tags: Made, members: AllMade) -> Made {
+fn unions_of(
+    alloc: Global,
+    variants: Result<UnionVariants, ArrayError>,
+    tags: Made,
+    members: AllMade,
+) -> Made {
     let ((variants, tags), members) = both(both(variants, tags), members)?;
-    UnionArray::try_new(variants, tags, members)
+    UnionArray::try_new(alloc, variants, tags, members)
 }
 
 /// Unions: the members' tags, arrays of their types, the tags of the rows, and the members.
 pub fn unions(alloc: Global, ids: &[u8], types: AllMade, tags: Made, members: AllMade) -> Made {
     let variants = variants(alloc, ids, types);
-    unions_of(variants, tags, members)
+    unions_of(alloc, variants, tags, members)
 }
 
 // The extension that is stored as arrays of this one's type are.
