@@ -237,7 +237,7 @@ const TEXTS: [(ArrayError, &str); 6] = [
     (ArrayError::BadContent, "the content is broken"),
     (
         ArrayError::ForeignControl,
-        "a foreign node stands where it says where rows are",
+        "a foreign node says where rows are, or is the entries of a map",
     ),
     (ArrayError::ValueTooLarge, "the row takes too many cells"),
     (

@@ -21,7 +21,7 @@ pub enum ArrayError {
     BadContent,
     /// A foreign node stands where it says where rows are: within a validity, codes, offsets, sizes or tags, or as the
     /// entries of maps.
-    #[error("a foreign node stands where it says where rows are")]
+    #[error("a foreign node says where rows are, or is the entries of a map")]
     ForeignControl,
     /// A row takes more cells than there are to spend.
     #[error("the row takes too many cells")]

@@ -345,7 +345,7 @@ const TEXTS: [(EncodingError, &str); 6] = [
     (EncodingError::BadContent, "the content is broken"),
     (
         EncodingError::ForeignControl,
-        "a foreign node says where rows are",
+        "a foreign node says where rows are, or is the entries of a map",
     ),
     (
         EncodingError::WireLimit,

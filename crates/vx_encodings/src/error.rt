@@ -25,7 +25,7 @@ pub enum EncodingError {
     #[error("the content is broken")]
     BadContent,
     /// A foreign node stands where it says where rows are, or as the entries of maps.
-    #[error("a foreign node says where rows are")]
+    #[error("a foreign node says where rows are, or is the entries of a map")]
     ForeignControl,
     /// The metadata does not fit its message.
     #[error("the metadata does not fit its message")]

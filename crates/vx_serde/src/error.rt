@@ -30,7 +30,7 @@ pub enum WireError {
     #[error("a buffer is compressed")]
     Compressed,
     /// A descriptor's range ends past the segment, or a node names a buffer that has no descriptor.
-    #[error("a buffer lies out of bounds")]
+    #[error("a buffer lies out of bounds or has no descriptor")]
     OutOfBounds,
     /// A node names an encoding by an index that has no identifier.
     #[error("an encoding's index has no identifier")]
@@ -49,7 +49,7 @@ pub enum WireError {
     #[error("a node's content is broken")]
     BadContent,
     /// A child that says where a node's rows are holds a foreign node, or the entries of maps are one.
-    #[error("a foreign node says where rows are")]
+    #[error("a foreign node says where rows are, or is the entries of a map")]
     ForeignControl,
     /// A node's statistics are no values of their types, or have an unknown precision.
     #[error("a node's statistics are ill-formed")]

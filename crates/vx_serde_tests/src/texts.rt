@@ -24,7 +24,10 @@ const TEXTS: [(WireError, &str); 20] = [
     ),
     (WireError::BadAlignment, "a buffer's alignment is over 2^16"),
     (WireError::Compressed, "a buffer is compressed"),
-    (WireError::OutOfBounds, "a buffer lies out of bounds"),
+    (
+        WireError::OutOfBounds,
+        "a buffer lies out of bounds or has no descriptor",
+    ),
     (
         WireError::UnknownIndex,
         "an encoding's index has no identifier",
@@ -44,7 +47,7 @@ const TEXTS: [(WireError, &str); 20] = [
     (WireError::BadContent, "a node's content is broken"),
     (
         WireError::ForeignControl,
-        "a foreign node says where rows are",
+        "a foreign node says where rows are, or is the entries of a map",
     ),
     (WireError::BadStats, "a node's statistics are ill-formed"),
     (

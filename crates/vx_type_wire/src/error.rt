@@ -30,7 +30,7 @@ pub enum TypeWireError {
     /// The table is no type's: its union has no member or one that is not known,
     /// a part is absent, a number is no code or out of range, lists of parts are
     /// not of one length, a tag stands twice, or a decimal has no digit or too many.
-    #[error("the table is no type's")]
+    #[error("the table or message is no type's")]
     BadType,
     /// An extension's identifier has no reader, and such extensions are not
     /// allowed.

@@ -439,7 +439,7 @@ const TEXTS: [(TypeWireError, &str); 9] = [
         "the bytes are no message of a type",
     ),
     (TypeWireError::TooDeep, "over 100 messages nest"),
-    (TypeWireError::BadType, "the table is no type's"),
+    (TypeWireError::BadType, "the table or message is no type's"),
     (
         TypeWireError::UnknownExtension,
         "an extension's identifier has no reader",
