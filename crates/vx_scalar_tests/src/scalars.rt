@@ -18,8 +18,11 @@ fn i32_type() -> DType {
     DType::Primitive(PType::I32, PLAIN)
 }
 
-fn text(alloc: Global, text: &str) -> Result<ScalarValue, TypeError> {
-    Ok(ScalarValue::Utf8(Name::new(alloc, text)?))
+fn text(alloc: Global, text: &str) -> Result<ScalarValue, ScalarError> {
+    match Name::new(alloc, text) {
+        Ok(text) => Ok(ScalarValue::Utf8(text)),
+        Err(_) => Err(ScalarError::OutOfMemory),
+    }
 }
 
 // A tuple of so many times the number 7.

@@ -75,13 +75,13 @@ fn has_kind(
 }
 
 // Whether a sum of decimals of so many digits has so many.
-fn has_digits(alloc: Global, precision: u8, wanted: u8) -> Result<bool, ScalarError> {
+fn has_digits(alloc: Global, precision: u8, wanted: u8) -> Result<bool, Fail> {
     let dtype = DType::Decimal(
         DecimalDType::try_new(precision, 2)?,
         Nullability::NonNullable,
     );
     let wanted = DType::Decimal(DecimalDType::try_new(wanted, 2)?, Nullability::Nullable);
-    has_type(alloc, Stat::Sum, &dtype, &wanted)
+    Ok(has_type(alloc, Stat::Sum, &dtype, &wanted)?)
 }
 
 // Whether arrays of variants have the statistic.

@@ -1,7 +1,6 @@
 pub mod Decimals
 pub mod Seen
 pub mod Told
-pub mod Refused
 pub mod Falls
 pub mod Falling
 pub mod StatTypes

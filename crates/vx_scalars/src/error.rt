@@ -1,6 +1,6 @@
 //! Refusals of this crate.
 
-ghost use Rattle.std.specs.Prelude.{◌≡◌};
+ghost use Rattle.std.specs.Prelude.{◌≡◌, Ok, IfOk, IsOkUnless};
 ghost use Rattle.vx_scalars.specs.declared.error.ScalarError.TheVariants.{OutOfMemory};
 
 use std::alloc::{AllocError, AllocFailed};
@@ -34,15 +34,14 @@ impl<T: Drop> From<AllocFailed<T>> for ScalarError {
     }
 }
 
-impl From<TypeError> for ScalarError {
-    ghost use Rattle.vx_scalars.specs.Refused.{refusal_of};
-
-    ghost from_gives = { λ t e. e ≡ refusal_of t };
-
-    fn from(error: TypeError) -> ScalarError {
-        match error {
-            TypeError::OutOfMemory => ScalarError::OutOfMemory,
-            _ => ScalarError::BadScalar,
-        }
+// What a call of `vx_types` made whose one refusal is want of memory. No other refusal is told as that.
+pub(crate) fn or_memory<T: Drop>(made: Result<T, TypeError>) -> Result<T, ScalarError>
+    requires { IsOkUnless made TypeError.OutOfMemory }
+    ensures same { IfOk result (λ x. made ≡ Ok x) }
+    ensures err { IsOkUnless result ScalarError.OutOfMemory }
+{
+    match made {
+        Ok(value) => Ok(value),
+        Err(_) => Err(ScalarError::OutOfMemory),
     }
 }

@@ -8,7 +8,7 @@ ghost use Rattle.vx_types.specs.Value.{is_null};
 ghost use Rattle.vx_scalars.specs.Seen.{seen};
 
 use crate::copy::copied;
-use crate::error::ScalarError;
+use crate::error::{ScalarError, or_memory};
 use crate::fits::fits;
 use crate::value::ScalarValue;
 use std::alloc::Global;
@@ -121,7 +121,7 @@ impl Scalar {
         ensures ok { IfOk result (λ scalar. scalar ≡ self.now) }
         ensures err { IsOkUnless result ScalarError.OutOfMemory }
     {
-        let dtype = self.dtype.clone(alloc)?;
+        let dtype = or_memory(self.dtype.clone(alloc))?;
         let value = copied(self.value(), alloc)?;
         Ok(Scalar { dtype, value })
     }

@@ -4,7 +4,7 @@ ghost use Rattle.std.specs.Prelude.{◌≡◌, IfOk, IsOkUnless, option_map, min
 ghost use Rattle.vx_types.specs.Seen.{typ};
 ghost use Rattle.vx_scalars.specs.StatTypes.{all_stats, stat_index, stat_type, ordered, sum_kind, sum_type};
 
-use crate::error::ScalarError;
+use crate::error::{ScalarError, or_memory};
 use crate::fits::bare_dtype;
 use std::alloc::Global;
 use vx_types::{DType, DecimalDType, Nullability, PType};
@@ -99,7 +99,7 @@ fn ordered_dtype(alloc: Global, dtype: &DType) -> Result<Option<DType>, ScalarEr
         | DType::Primitive(_, _)
         | DType::Decimal(_, _)
         | DType::Utf8(_)
-        | DType::Binary(_) => Ok(Some(dtype.clone(alloc)?)),
+        | DType::Binary(_) => Ok(Some(or_memory(dtype.clone(alloc))?)),
         _ => Ok(None),
     }
 }

@@ -3,7 +3,7 @@
 ghost use Rattle.std.specs.Prelude.{◌≡◌, IfOk, IsOkUnless};
 
 use crate::decimal::DecimalValue;
-use crate::error::ScalarError;
+use crate::error::{ScalarError, or_memory};
 use crate::value_ref::ValueRef;
 use crate::values::Values;
 use crate::variant_ref::VariantRef;
@@ -62,8 +62,8 @@ impl ScalarValue {
             ScalarValue::Bool(flag) => Ok(ScalarValue::Bool(*flag)),
             ScalarValue::Primitive(number) => Ok(ScalarValue::Primitive(*number)),
             ScalarValue::Decimal(decimal) => Ok(ScalarValue::Decimal(*decimal)),
-            ScalarValue::Utf8(text) => Ok(ScalarValue::Utf8(text.clone(alloc)?)),
-            ScalarValue::Binary(bytes) => Ok(ScalarValue::Binary(bytes.clone(alloc)?)),
+            ScalarValue::Utf8(text) => Ok(ScalarValue::Utf8(or_memory(text.clone(alloc))?)),
+            ScalarValue::Binary(bytes) => Ok(ScalarValue::Binary(or_memory(bytes.clone(alloc))?)),
             ScalarValue::Tuple(values) => Ok(ScalarValue::Tuple(values.clone(alloc)?)),
             ScalarValue::Union(tag, value) => Ok(ScalarValue::Union(*tag, value.clone(alloc)?)),
             ScalarValue::Variant(scalar) => Ok(ScalarValue::Variant(scalar.clone(alloc)?)),
