@@ -3,7 +3,9 @@
 use std::alloc::Global;
 use vx_nested_parts::parts::both;
 use vx_scalars::{Scalar, ScalarError, ScalarValue, Values, VariantRef};
-use vx_types::{DType, DTypes, Name, Names, Nullability, PType, PValue, StructFields, TypeRef};
+use vx_types::{
+    DType, DTypes, Name, Names, Nullability, PType, PValue, StructFields, TypeError, TypeRef,
+};
 
 const NEVER: Nullability = Nullability::NonNullable;
 
@@ -99,7 +101,10 @@ fn put(mut parts: Parts, name: Name, scalar: Scalar) -> Fields {
 
 // A name.
 fn name_of(alloc: Global, name: &str) -> Result<Name, ScalarError> {
-    Ok(Name::new(alloc, name)?)
+    match Name::new(alloc, name) {
+        Ok(name) => Ok(name),
+        Err(_) => Err(ScalarError::OutOfMemory),
+    }
 }
 
 /// One part more, under a name.
@@ -149,10 +154,18 @@ pub(crate) fn no_structure(fields: Fields) -> Made {
     }
 }
 
+// A type as that of elements.
+fn element_of(alloc: Global, dtype: &DType) -> Result<TypeRef, TypeError> {
+    TypeRef::new(alloc, dtype.clone(alloc)?)
+}
+
 // The type of these elements: that of the first.
 fn element(alloc: Global, types: &DTypes) -> Result<TypeRef, ScalarError> {
     match types.as_slice() {
-        [first, ..] => Ok(TypeRef::new(alloc, first.clone(alloc)?)?),
+        [first, ..] => match element_of(alloc, first) {
+            Ok(part) => Ok(part),
+            Err(_) => Err(ScalarError::OutOfMemory),
+        },
         [] => Err(ScalarError::BadScalar),
     }
 }
