@@ -18,6 +18,22 @@ fn two_numbers(alloc: Global) -> Result<Values, ScalarError> {
     Ok(values)
 }
 
+/// The text `hi`.
+pub(crate) fn text(alloc: Global) -> Result<ScalarValue, ScalarError> {
+    match Name::new(alloc, "hi") {
+        Ok(text) => Ok(ScalarValue::Utf8(text)),
+        Err(_) => Err(ScalarError::OutOfMemory),
+    }
+}
+
+/// One byte.
+pub(crate) fn one_byte(alloc: Global) -> Result<ScalarValue, ScalarError> {
+    match Blob::copy_from(alloc, &[0xff]) {
+        Ok(bytes) => Ok(ScalarValue::Binary(bytes)),
+        Err(_) => Err(ScalarError::OutOfMemory),
+    }
+}
+
 // A value, by number; 0 is null.
 fn value(alloc: Global, which: usize) -> Result<Option<ScalarValue>, ScalarError> {
     match which {
@@ -27,7 +43,7 @@ fn value(alloc: Global, which: usize) -> Result<Option<ScalarValue>, ScalarError
         3 => Ok(Some(ScalarValue::Primitive(PValue::I8(-128)))),
         4 => Ok(Some(ScalarValue::Primitive(PValue::U32(42)))),
         5 => Ok(Some(ScalarValue::Primitive(PValue::F16(14008)))),
-        6 => Ok(Some(ScalarValue::Utf8(Name::new(alloc, "hi")?))),
+        6 => Ok(Some(text(alloc)?)),
         7 => Ok(Some(ScalarValue::Decimal(DecimalValue::I32(123_456)))),
         8 => Ok(Some(ScalarValue::Tuple(two_numbers(alloc)?))),
         _ => Ok(Some(ScalarValue::Union(5, ValueRef::new(alloc, Some(number(42)))?))),
@@ -82,7 +98,7 @@ fn other_value(alloc: Global, which: usize) -> Result<Option<ScalarValue>, Scala
     match which {
         0 => Ok(Some(ScalarValue::Primitive(PValue::F32(1)))),
         1 => Ok(Some(ScalarValue::Primitive(PValue::F64(2)))),
-        2 => Ok(Some(ScalarValue::Binary(Blob::copy_from(alloc, &[0xff])?))),
+        2 => Ok(Some(one_byte(alloc)?)),
         _ => variants(alloc, 1),
     }
 }

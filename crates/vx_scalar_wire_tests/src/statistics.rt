@@ -1,12 +1,13 @@
 //! Statistics and the bytes of their tables.
 
+use crate::messages::{one_byte, text};
 use crate::reading::{Answer, answer_of, type_of};
 use std::alloc::Global;
 use std::process::Abort;
 use vx_flat::{BlockField, Builder, FlatBuffer, verify_uncounted};
 use vx_scalar_wire::{ScalarWireError, StatsKind, StatsSetExt};
 use vx_scalars::{DecimalValue, Precision, ScalarError, ScalarValue, Stat, StatsSet};
-use vx_types::{Blob, DType, Name, PValue};
+use vx_types::{DType, PValue};
 
 fn number(value: i32) -> ScalarValue {
     ScalarValue::Primitive(PValue::I32(value))
@@ -199,8 +200,8 @@ fn value_of(alloc: Global, answer: Answer) -> Result<ScalarValue, ScalarError> {
         Answer::Bool(flag) => Ok(ScalarValue::Bool(flag)),
         Answer::Number(number) => Ok(ScalarValue::Primitive(number)),
         Answer::Decimal(decimal) => Ok(ScalarValue::Decimal(decimal)),
-        Answer::Text => Ok(ScalarValue::Utf8(Name::new(alloc, "hi")?)),
-        _ => Ok(ScalarValue::Binary(Blob::copy_from(alloc, &[0xff])?)),
+        Answer::Text => text(alloc),
+        _ => one_byte(alloc),
     }
 }
 
