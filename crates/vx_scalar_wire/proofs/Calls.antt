@@ -11,8 +11,6 @@ use Rattle.vx_type_wire.specs.Known.{ExtMeaning}
 use Rattle.vx_types.specs.Fits.{Fits}
 use Rattle.vx_types.specs.Typ.{Typ}
 use Rattle.vx_types.specs.Value as V
-use Rattle.vx_types.specs.declared.error.TypeError.{TypeError}
-use Rattle.vx_types.specs.declared.error.TypeError.TheVariants as type_error
 use Rattle.vx_scalars.specs.Seen.{seen}
 use Rattle.vx_scalars.specs.declared.error.ScalarError.{ScalarError}
 use Rattle.vx_scalars.specs.declared.error.ScalarError.TheVariants as scalar_error
@@ -21,7 +19,7 @@ use Rattle.vx_scalar_wire.specs.Reading.{ReadsValue, ShowsValue}
 use Rattle.vx_scalar_wire.specs.Refusing.{IsRefusedMessage}
 use Rattle.vx_scalar_wire.specs.RefusingCalls.{IsRefusedAt, IsRefusedBytes}
 use Rattle.vx_scalar_wire.specs.ScalarMessage.{scalar_lists}
-use Rattle.vx_scalar_wire.specs.Writing.{refusal_of_proto, refusal_of_scalar, refusal_of_type}
+use Rattle.vx_scalar_wire.specs.Writing.{refusal_of_proto, refusal_of_scalar}
 use Rattle.vx_scalar_wire.specs.declared.error.ScalarWireError.{ScalarWireError}
 use Rattle.vx_scalar_wire.specs.declared.error.ScalarWireError.TheVariants.{OutOfMemory, BadScalar}
 
@@ -72,9 +70,6 @@ pub value_refused_at : (e : ScalarWireError) (s : ExtMeaning) (d : Typ) (m : Val
 value_refused_at BadScalar s d m h = inl h
 value_refused_at _ s d m h = h
 
-pub memory_at : (t : TypeError) (e : ScalarWireError) (s : ExtMeaning) (d : Typ) (m : Value) → e ≡ refusal_of_type t → t ≡ type_error.OutOfMemory → IsRefusedAt e s d m
-memory_at t e s d m is h = subst (λ (x : ScalarWireError). IsRefusedAt x s d m) (sym (is ∙ ap (λ (x : TypeError). refusal_of_type x) h)) tt
-
 -- and so is what does not fit.
 pub unfit_at : (x : ScalarError) (e : ScalarWireError) (s : ExtMeaning) (v : V.Value) (d f : Typ) (m : Value) → e ≡ refusal_of_scalar x → (x ≡ scalar_error.BadScalar) × (Fits v f → ⊥) → f ≡ d → ReadsValue s v d m
     → IsRefusedAt e s d m
@@ -82,10 +77,7 @@ unfit_at x e s v d f m is h same r =
     subst (λ (y : ScalarWireError). IsRefusedAt y s d m) (sym (is ∙ ap (λ (y : ScalarError). refusal_of_scalar y) h.0))
     (inr (v, r, subst (λ (t : Typ). Fits v t → ⊥) same h.1))
 
-pub type_memory : (t : TypeError) (e : ScalarWireError) → e ≡ refusal_of_type t → t ≡ type_error.OutOfMemory → e ≡ OutOfMemory
-type_memory t e is h = is ∙ ap (λ (x : TypeError). refusal_of_type x) h
-
 pub never_unfit : (x : ScalarError) (e : ScalarWireError) (u v : V.Value) (d f : Typ) → (x ≡ scalar_error.BadScalar) × (Fits u f → ⊥) → f ≡ d → u ≡ v → Fits v d → e ≡ OutOfMemory
 never_unfit x e u v d f h same is k = absurd (h.1 (subst (λ (t : Typ). Fits u t) (sym same) (subst (λ (y : V.Value). Fits y d) (sym is) k)))
 
-pub ruleset scalars_read = (value_refused_at, memory_at, unfit_at, type_memory, never_unfit)
+pub ruleset scalars_read = (value_refused_at, unfit_at, never_unfit)

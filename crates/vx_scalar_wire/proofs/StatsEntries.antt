@@ -1,6 +1,6 @@
 -- The entries, the links and the blocks of a table of statistics.
 use Rattle.std.specs.Prelude.{option_map}
-use Rattle.std.proofs.Common.{◌≡◌, ◌∙◌, ◌+◌, ◌<◌, ◌^◌, ◌++◌, Bool, true, false, ℕ, List, [], ◌∷◌, length, Option, Some, None, refl, sym, ap, arith, append_assoc, append-nil}
+use Rattle.std.proofs.Common.{◌≡◌, ◌∙◌, ◌+◌, ◌^◌, ◌++◌, Bool, true, false, ℕ, List, [], ◌∷◌, length, Option, Some, None, refl, sym, ap, arith, append_assoc, append-nil}
 use Rattle.std.proofs.lemmas.Nat.{mod_below}
 use Rattle.vx_flat.specs.declared.builder.piece.BlockField.{BlockField}
 use Rattle.vx_flat.specs.declared.schema.FieldKind.TheVariants.{Number, OptNumber, OptFlag, Vector}

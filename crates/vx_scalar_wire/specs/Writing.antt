@@ -9,8 +9,6 @@ use Rattle.vx_proto.specs.declared.error.ProtoError.TheVariants as proto
 use Rattle.vx_scalar_wire.specs.declared.error.ScalarWireError.{ScalarWireError}
 use Rattle.vx_scalars.specs.declared.error.ScalarError.{ScalarError}
 use Rattle.vx_scalars.specs.declared.error.ScalarError.TheVariants as scalar
-use Rattle.vx_types.specs.declared.error.TypeError.{TypeError}
-use Rattle.vx_types.specs.declared.error.TypeError.TheVariants as type_error
 use Rattle.vx_scalar_wire.specs.declared.error.ScalarWireError.TheVariants.{OutOfMemory, BadMessage, TooDeep, OutOfRange, BadScalar, BadDType, MessageTooLong}
 use Rattle.vx_scalar_wire.specs.declared.error.TypeRefusal.TheVariants.{WireLimit}
 
@@ -32,20 +30,24 @@ refusal_of_proto proto.BadMessage = BadMessage
 refusal_of_proto proto.TooDeep = TooDeep
 refusal_of_proto proto.OutOfRange = OutOfRange
 
--- A refusal of a table is that of its statistics. A builder has no other refusal than these two.
-abbrev pub refusal_of_flat : FlatError → ScalarWireError
-refusal_of_flat flat.OutOfMemory = OutOfMemory
-refusal_of_flat error = MessageTooLong
+-- A builder reads no table, so it refuses for want of memory, or as the message would be too long.
+abbrev pub IsOfBuilder : FlatError → Type 0
+IsOfBuilder flat.OutOfMemory = Unit {0}
+IsOfBuilder flat.MessageTooLong = Unit {0}
+IsOfBuilder flat.BadTable = ⊥
+IsOfBuilder flat.TableLimit = ⊥
+
+-- A builder's refusal as one of statistics.
+abbrev pub builder_error : FlatError → ScalarWireError
+builder_error flat.OutOfMemory = OutOfMemory
+builder_error flat.MessageTooLong = MessageTooLong
+builder_error flat.BadTable = OutOfMemory
+builder_error flat.TableLimit = OutOfMemory
 
 -- A refusal of a scalar is that of its message.
 abbrev pub refusal_of_scalar : ScalarError → ScalarWireError
 refusal_of_scalar scalar.OutOfMemory = OutOfMemory
 refusal_of_scalar scalar.BadScalar = BadScalar
-
--- A part of a type that cannot be made: want of memory stays that.
-abbrev pub refusal_of_type : TypeError → ScalarWireError
-refusal_of_type type_error.OutOfMemory = OutOfMemory
-refusal_of_type error = BadScalar
 
 -- Why no bytes are written of a message: something is not shallow, or over 100 messages nest.
 abbrev pub IsUnwrittenBytes : ScalarWireError → Type 0 → Value → Type 0

@@ -1,6 +1,7 @@
 //! Refusals of this crate.
 
-ghost use Rattle.std.specs.Prelude.{◌≡◌};
+ghost use Rattle.std.specs.Prelude.{◌≡◌, Ok, IfOk, IsOkUnless};
+ghost use Rattle.vx_scalar_wire.specs.Writing.{IsOfBuilder, builder_error};
 ghost use Rattle.vx_scalar_wire.specs.declared.error.ScalarWireError.TheVariants.{OutOfMemory};
 
 use std::alloc::{AllocError, AllocFailed};
@@ -98,19 +99,6 @@ impl From<ProtoError> for ScalarWireError {
     }
 }
 
-impl From<FlatError> for ScalarWireError {
-    ghost use Rattle.vx_scalar_wire.specs.Writing.{refusal_of_flat};
-
-    ghost from_gives = { λ f e. e ≡ refusal_of_flat f };
-
-    fn from(error: FlatError) -> ScalarWireError {
-        match error {
-            FlatError::OutOfMemory => ScalarWireError::OutOfMemory,
-            _ => ScalarWireError::MessageTooLong,
-        }
-    }
-}
-
 impl From<ScalarError> for ScalarWireError {
     ghost use Rattle.vx_scalar_wire.specs.Writing.{refusal_of_scalar};
 
@@ -124,15 +112,27 @@ impl From<ScalarError> for ScalarWireError {
     }
 }
 
-impl From<TypeError> for ScalarWireError {
-    ghost use Rattle.vx_scalar_wire.specs.Writing.{refusal_of_type};
+// The refusal of a builder as one of statistics. A builder reads no table, so none of its refusals is one of a table that is
+// read.
+pub(crate) fn of_builder(error: FlatError) -> ScalarWireError
+    requires { IsOfBuilder error }
+    ensures { result ≡ builder_error error }
+{
+    match error {
+        FlatError::OutOfMemory => ScalarWireError::OutOfMemory,
+        FlatError::MessageTooLong => ScalarWireError::MessageTooLong,
+        FlatError::BadTable | FlatError::TableLimit => unreachable!(),
+    }
+}
 
-    ghost from_gives = { λ t e. e ≡ refusal_of_type t };
-
-    fn from(error: TypeError) -> ScalarWireError {
-        match error {
-            TypeError::OutOfMemory => ScalarWireError::OutOfMemory,
-            _ => ScalarWireError::BadScalar,
-        }
+// What a call of `vx_types` made whose one refusal is want of memory. No other refusal is told as that.
+pub(crate) fn or_memory<T: Drop>(made: Result<T, TypeError>) -> Result<T, ScalarWireError>
+    requires { IsOkUnless made TypeError.OutOfMemory }
+    ensures same { IfOk result (λ x. made ≡ Ok x) }
+    ensures err { IsOkUnless result ScalarWireError.OutOfMemory }
+{
+    match made {
+        Ok(value) => Ok(value),
+        Err(_) => Err(ScalarWireError::OutOfMemory),
     }
 }

@@ -20,7 +20,7 @@ ghost use Rattle.vx_scalar_wire.specs.ScalarMessage.{scalar_lists, value_message
 ghost use Rattle.vx_scalar_wire.specs.Shallow.{IsShallow, IsShallowScalar};
 ghost use Rattle.vx_scalar_wire.specs.Writing.{Writes, IsUnwritten, IsUnwrittenBytes};
 
-use crate::error::ScalarWireError;
+use crate::error::{ScalarWireError, or_memory};
 use crate::pb;
 use crate::reading::{read_scalar, read_value};
 use crate::writing::{scalar_slots, value_slots};
@@ -205,6 +205,6 @@ impl ScalarExt for Scalar {
             → MatchResult result (λ x. x.value ≡ v) (λ e. e ≡ ScalarWireError.OutOfMemory) }
     {
         let value = ScalarValue::from_proto(alloc, message, dtype, readers)?;
-        Ok(Scalar::try_new(dtype.clone(alloc)?, value)?)
+        Ok(Scalar::try_new(or_memory(dtype.clone(alloc))?, value)?)
     }
 }

@@ -18,7 +18,7 @@ ghost use Rattle.vx_scalar_wire.specs.Reading.{ReadsValue, ReadsScalar};
 ghost use Rattle.vx_scalar_wire.specs.Refusing.{IsRefusedMessage, IsRefusedScalar};
 ghost use Rattle.vx_scalar_wire.specs.ScalarMessage.{scalar_lists};
 
-use crate::error::{ScalarWireError, TypeRefusal};
+use crate::error::{ScalarWireError, TypeRefusal, or_memory};
 use crate::reading::leaves::octets_value;
 use crate::reading::numbers::number_value;
 use std::alloc::Global;
@@ -164,7 +164,7 @@ fn parts_of<F: Fn(&pb::DType) -> Result<DType, TypeWireError>>(
         DType::List(element, _) => each_value(alloc, slots, element.get(), types, left),
         DType::FixedSizeList(element, _, _) => each_value(alloc, slots, element.get(), types, left),
         DType::Map(map, _) => {
-            let entries = map.entries_dtype(alloc)?;
+            let entries = or_memory(map.entries_dtype(alloc))?;
             each_value(alloc, slots, &entries, types, left)
         }
         DType::Struct(fields, _) => field_values(alloc, slots, fields, types, left),

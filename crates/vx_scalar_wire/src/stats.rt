@@ -16,7 +16,7 @@ mod reading;
 mod values;
 mod writing;
 
-use crate::error::ScalarWireError;
+use crate::error::{ScalarWireError, of_builder};
 use crate::stats::entries::Stored;
 use crate::stats::reading::read_stat;
 use crate::stats::values::{sum_bytes, value_bytes};
@@ -92,7 +92,9 @@ impl StatsSetExt for StatsSet {
             greatest: value_bytes(alloc, self.get(Stat::Max))?,
             sum: sum_bytes(alloc, self.get(Stat::Sum))?,
         };
-        write_table(self, &stored, builder)?;
-        Ok(())
+        match write_table(self, &stored, builder) {
+            Ok(()) => Ok(()),
+            Err(error) => Err(of_builder(error)),
+        }
     }
 }

@@ -4,7 +4,7 @@ use crate::messages::{one_byte, text};
 use crate::reading::{Answer, answer_of, type_of};
 use std::alloc::Global;
 use std::process::Abort;
-use vx_flat::{BlockField, Builder, FlatBuffer, verify_uncounted};
+use vx_flat::{BlockField, Builder, FlatBuffer, FlatError, verify_uncounted};
 use vx_scalar_wire::{ScalarWireError, StatsKind, StatsSetExt};
 use vx_scalars::{DecimalValue, Precision, ScalarError, ScalarValue, Stat, StatsSet};
 use vx_types::{DType, PValue};
@@ -58,7 +58,10 @@ fn with_byte(alloc: Global, place: usize, byte: u8) -> Result<Vec<u8>, ScalarWir
 fn message_of(alloc: Global, set: &StatsSet) -> Result<FlatBuffer, ScalarWireError> {
     let mut builder = Builder::new(alloc);
     set.write_flatbuffer(alloc, &mut builder)?;
-    Ok(builder.finish(alloc)?)
+    match builder.finish(alloc) {
+        Ok(message) => Ok(message),
+        Err(_) => Err(ScalarWireError::MessageTooLong),
+    }
 }
 
 // Whether a set is written as these bytes.
@@ -431,20 +434,22 @@ fn sums_that_are_no_number_become_one(rt: HostRuntime) {
 }
 
 // The message of two precisions of 2 without values beside them.
-fn lone_precisions(alloc: Global) -> Result<FlatBuffer, ScalarWireError> {
+fn lone_precisions(alloc: Global) -> Result<FlatBuffer, FlatError> {
     let none = BlockField::Absent;
     let two = BlockField::Number { width: 1, bits: 2 };
     let mut builder = Builder::new(alloc);
     builder.table(&[
         none, two, none, two, none, none, none, none, none, none, none,
     ])?;
-    Ok(builder.finish(alloc)?)
+    builder.finish(alloc)
 }
 
 // Whether it tells nothing of the least value.
 fn is_nothing(alloc: Global) -> Result<bool, ScalarWireError> {
-    let message = lone_precisions(alloc)?;
-    is_untold_at(alloc, message.as_slice(), Stat::Min, 1)
+    match lone_precisions(alloc) {
+        Ok(message) => is_untold_at(alloc, message.as_slice(), Stat::Min, 1),
+        Err(_) => Err(ScalarWireError::OutOfMemory),
+    }
 }
 
 #[test]

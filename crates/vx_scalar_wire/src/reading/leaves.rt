@@ -14,7 +14,7 @@ ghost use Rattle.vx_scalar_wire.specs.Answers.{GivesValue, lone_member};
 ghost use Rattle.vx_scalar_wire.specs.Refusing.{is_one_of};
 ghost use Rattle.vx_scalar_wire.specs.ScalarMessage.{decimal_bytes, scalar_lists};
 
-use crate::error::ScalarWireError;
+use crate::error::{ScalarWireError, or_memory};
 use std::alloc::Global;
 use vx_scalars::{DecimalValue, ScalarValue, bare_dtype};
 use vx_types::{Blob, DType, Name};
@@ -35,7 +35,10 @@ pub fn octets_value(
             Ok(text) => Ok(Some(text)),
             Err(error) => Err(error),
         },
-        DType::Binary(_) => Ok(Some(ScalarValue::Binary(Blob::copy_from(alloc, bytes)?))),
+        DType::Binary(_) => {
+            let copy = or_memory(Blob::copy_from(alloc, bytes))?;
+            Ok(Some(ScalarValue::Binary(copy)))
+        }
         DType::Decimal(_, _) => match number {
             8 => Ok(Some(ScalarValue::Decimal(decimal_of(bytes)?))),
             _ => Err(ScalarWireError::KindMismatch),
@@ -51,7 +54,7 @@ fn text_of(alloc: Global, bytes: &[u8]) -> Result<ScalarValue, ScalarWireError>
     ensures cause { IfErr result (λ e. (e ≡ ScalarWireError.OutOfMemory) ⊎ ((e ≡ ScalarWireError.BadScalar) × (IsText bytes.now → ⊥))) }
 {
     match std::str::from_utf8(bytes) {
-        Ok(text) => Ok(ScalarValue::Utf8(Name::new(alloc, text)?)),
+        Ok(text) => Ok(ScalarValue::Utf8(or_memory(Name::new(alloc, text))?)),
         Err(_) => Err(ScalarWireError::BadScalar),
     }
 }

@@ -1,3 +1,4 @@
+use Rattle.std.specs.Prelude.{IfOk}
 use Rattle.std.proofs.Common.{rules, ◌≡◌, ◌∙◌, ◌+◌, ◌-◌, ◌*◌, ℕ, List, [], ◌∷◌, ◌++◌, take, Option, Ok, Err, refl, sym, ap, subst, arith}
 use Rattle.vx_trees.specs.Rose.{node, end, more, roses_of}
 use Rattle.vx_proto.specs.Form.{HasForm}
@@ -129,7 +130,7 @@ pub parts_of-returns-in_ok-entries-in-Map : goal.parts_of-returns-in_ok-entries-
 parts_of-returns-in_ok-entries-in-Map g t c = record {
   read = λ s k.
       tuple_parts s c.each_value-in-Map.result (2 * c.args.left + 2) (value_view c.args.slots.now) (typ c.in_ok-entries-in-Map.entries) (entries c.in-Map.map) (typ c.args.dtype.now)
-      (node (K.map c.in-Map.map.keys_sorted c.in-Map.field-1) (more c.in-Map.map.key (more c.in-Map.map.value end))) (ap typ c.in-Map.is) c.in_ok-entries-in-Map.ensures.ok (λ Each By q. q) (λ i. refl)
+      (node (K.map c.in-Map.map.keys_sorted c.in-Map.field-1) (more c.in-Map.map.key (more c.in-Map.map.value end))) (ap typ c.in-Map.is) (subst (λ r. IfOk r (λ d. typ d ≡ entries c.in-Map.map)) c.in_ok-entries-in-Map.ensures.same c.entries_dtype.ensures.ok) (λ Each By q. q) (λ i. refl)
       (c.each_value-in-Map.ensures.read s k);
 }
 

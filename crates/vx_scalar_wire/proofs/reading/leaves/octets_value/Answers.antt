@@ -1,4 +1,5 @@
-use Rattle.std.proofs.Common.{subst, sym, arith}
+use Rattle.std.specs.Prelude.{IfOk}
+use Rattle.std.proofs.Common.{◌≡◌, subst, sym, arith}
 use Rattle.vx_proto.specs.Value.{octets}
 use Rattle.vx_types.specs.Fits.{IsBinary, IsUtf8}
 use Rattle.vx_types.specs.Seen.{typ}
@@ -22,11 +23,11 @@ returns-in-Err c = record {
       (subst (λ (d : DType). IsUtf8 (typ d)) (sym c.in-Utf8.is) tt) (octets_name c.args.number c.args.bytes.now c.requires) c.in-Err.ensures.cause;
 }
 
-pub returns-in_ok-copy_from-in-Binary : goal.returns-in_ok-copy_from-in-Binary
-returns-in_ok-copy_from-in-Binary c = record {
+pub returns-in_ok-copy-in-Binary : goal.returns-in_ok-copy-in-Binary
+returns-in_ok-copy-in-Binary c = record {
   read = λ s most.
-      binary_read s (typ c.args.dtype.now) (typ c.bare_dtype.result.now) c.args.number c.args.bytes.now c.in_ok-copy_from-in-Binary.field-0 c.bare_dtype.ensures
-      (subst (λ (d : DType). IsBinary (typ d)) (sym c.in-Binary.is) tt) (octets_name c.args.number c.args.bytes.now c.requires) c.in_ok-copy_from-in-Binary.ensures.ok;
+      binary_read s (typ c.args.dtype.now) (typ c.bare_dtype.result.now) c.args.number c.args.bytes.now c.in_ok-copy-in-Binary.copy c.bare_dtype.ensures
+      (subst (λ (d : DType). IsBinary (typ d)) (sym c.in-Binary.is) tt) (octets_name c.args.number c.args.bytes.now c.requires) (subst (λ r. IfOk r (λ b. b ≡ c.args.bytes.now)) c.in_ok-copy-in-Binary.ensures.same c.copy_from.ensures.ok);
 }
 
 pub returns-in_default : goal.returns-in_default
