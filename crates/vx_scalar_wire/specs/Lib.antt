@@ -11,4 +11,5 @@ pub mod StatsShown
 pub mod StatsUnread
 pub mod StatsTable
 pub mod StatsUnwritten
+pub mod StatsKept
 pub mod StatsBlocks
