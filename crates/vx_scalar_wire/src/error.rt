@@ -42,20 +42,20 @@ pub enum ScalarWireError {
     TooDeep,
     /// No value stands where one is needed: a oneof without member, a union or a
     /// variant without value, a scalar without type or value: 3.
-    #[error("the message has no value")]
+    #[error("the message has no value or no type")]
     MissingKind,
     /// The member is none that is read at the type: 4.
     #[error("the member is none of the type's")]
     KindMismatch,
     /// A number is outside its field's range or outside its type: 5.
-    #[error("a number is out of its type's range")]
+    #[error("a number is out of its field's or its type's range")]
     OutOfRange,
     /// A structure has another number of values than of fields, no member of a union
     /// has the tag, or a union's value does not fit the member: 6.
-    #[error("a child is missing, too many, or does not fit")]
+    #[error("a child is missing, too many, or fits no member")]
     BadChild,
     /// A value does not fit its type, or bytes are no text: 7.
-    #[error("the value does not fit its type")]
+    #[error("the value does not fit its type, or is no text")]
     BadScalar,
     /// A statistic's precision is over 1: 8.
     #[error("a statistic has an unknown precision")]

@@ -274,22 +274,25 @@ const TEXTS: [(ScalarWireError, &str); 14] = [
         "the bytes are no message of a scalar",
     ),
     (ScalarWireError::TooDeep, "over 100 messages nest"),
-    (ScalarWireError::MissingKind, "the message has no value"),
+    (
+        ScalarWireError::MissingKind,
+        "the message has no value or no type",
+    ),
     (
         ScalarWireError::KindMismatch,
         "the member is none of the type's",
     ),
     (
         ScalarWireError::OutOfRange,
-        "a number is out of its type's range",
+        "a number is out of its field's or its type's range",
     ),
     (
         ScalarWireError::BadChild,
-        "a child is missing, too many, or does not fit",
+        "a child is missing, too many, or fits no member",
     ),
     (
         ScalarWireError::BadScalar,
-        "the value does not fit its type",
+        "the value does not fit its type, or is no text",
     ),
     (
         ScalarWireError::BadPrecision,
