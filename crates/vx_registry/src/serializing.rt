@@ -98,14 +98,10 @@ pub fn serialize_root(
     ensures parts { (x : ExtMeaning) → x.unknown ≡ unknown → IfOk result (IsSerializedAs (arrays_meaning means arrays.now x) (step (arrays_meaning means arrays.now x) array.now)) }
     ensures cause { (x : ExtMeaning) → x.unknown ≡ unknown → IfErr result (λ e. IsUnserialized e (step (arrays_meaning means arrays.now x) array.now)) }
 {
-    match written_root(alloc, array, arrays, unknown) {
-        Ok(WrittenRoot::Own) => match own_parts(alloc, array, arrays) {
-            Ok(parts) => Ok(Some(parts)),
-            Err(e) => Err(e),
-        },
-        Ok(WrittenRoot::Given(parts)) => Ok(Some(parts)),
-        Ok(WrittenRoot::Nothing) => Ok(None),
-        Err(e) => Err(e),
+    match written_root(alloc, array, arrays, unknown)? {
+        WrittenRoot::Own => Ok(Some(own_parts(alloc, array, arrays)?)),
+        WrittenRoot::Given(parts) => Ok(Some(parts)),
+        WrittenRoot::Nothing => Ok(None),
     }
 }
 

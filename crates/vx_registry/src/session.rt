@@ -90,10 +90,7 @@ impl ArraySession {
         ensures revised { IfOk result (λ s. (x : ExtMeaning) → arrays_meaning means s x ≡ revised_meaning x) }
         ensures err { IsOkUnless result RegistryError.OutOfMemory }
     {
-        let mut session = match ArraySession::default(alloc) {
-            Ok(session) => session,
-            Err(e) => return Err(e),
-        };
+        let mut session = ArraySession::default(alloc)?;
         match session.set_revised() {
             Ok(()) => Ok(session),
             Err(e) => {
@@ -210,10 +207,7 @@ impl ArraySession {
         ensures paired { OnOk result ((x : ExtMeaning) → IsPaired (arrays_meaning means self.now x)) }
         ensures err { IsOkUnless result RegistryError.OutOfMemory }
     {
-        let id = match named(alloc, PrimitiveArray::ID) {
-            Ok(id) => id,
-            Err(e) => return Err(e),
-        };
+        let id = named(alloc, PrimitiveArray::ID)?;
         match self.tables.writer(&id) {
             Some(Entry::Revised) => Ok(true),
             _ => Ok(false),
