@@ -113,10 +113,8 @@ fn plan_node(
         → IfErr result (λ e. RefusesWire s e (wire_in ids node.now) (typ dtype.now) len) }
 {
     let head = head_of(alloc, node, id, dtype, len)?;
-    match plan_entry(alloc, entry, &head, session, ext) {
-        Ok(children) => Ok(PlannedNode { head, children }),
-        Err(e) => Err(e),
-    }
+    let children = plan_entry(alloc, entry, &head, session, ext)?;
+    Ok(PlannedNode { head, children })
 }
 
 /// A node's buffers, where none is missing.
@@ -177,10 +175,7 @@ fn tell(
     ensures told { IfOk result (IsToldBy codec (typ dtype.now) (label node.now.root).stats array) }
     ensures cause { IfErr result (λ e. RefusesStats e (typ dtype.now) (label node.now.root).stats) }
 {
-    let stats = match statistics_in(alloc, node, dtype) {
-        Ok(stats) => stats,
-        Err(e) => return Err(e),
-    };
+    let stats = statistics_in(alloc, node, dtype)?;
     match array.set_all(stats) {
         Ok(()) => Ok(array),
         Err(_) => unreachable!(),
@@ -236,32 +231,21 @@ fn decode_node(
     let Some(entry) = session.arrays.reader(id) else {
         return unread_node(alloc, node, id, dtype, len, ids, session);
     };
-    let planned = match plan_node(alloc, node, id, entry, dtype, len, session, ext) {
-        Ok(planned) => planned,
-        Err(e) => return Err(e),
-    };
+    let planned = plan_node(alloc, node, id, entry, dtype, len, session, ext)?;
     let mut children = Arrays::new(alloc);
     for i in 0..node.nchildren() {
         let Some(place) = planned.children.get(i) else {
             unreachable!();
         };
         let below = node.child(i);
-        let child = match decode_node(alloc, &below, &place.dtype, place.len, ids, session, ext) {
-            Ok(child) => child,
-            Err(e) => return Err(e),
-        };
+        let child = decode_node(alloc, &below, &place.dtype, place.len, ids, session, ext)?;
         let Ok(()) = children.push(child) else {
             return Err(WireError::OutOfMemory);
         };
     }
-    let buffers = match own_buffers(alloc, node) {
-        Ok(buffers) => buffers,
-        Err(e) => return Err(e),
-    };
-    match build_entry(alloc, entry, planned.head, buffers, children, session, ext) {
-        Ok(array) => tell(alloc, node, dtype, array),
-        Err(e) => Err(e),
-    }
+    let buffers = own_buffers(alloc, node)?;
+    let array = build_entry(alloc, entry, planned.head, buffers, children, session, ext)?;
+    tell(alloc, node, dtype, array)
 }
 
 impl<'a> SerializedNode<'a> {

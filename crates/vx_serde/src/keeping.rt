@@ -32,22 +32,13 @@ pub(crate) fn keep_node(
     let mut children = Arrays::new(alloc);
     for i in 0..node.nchildren() {
         let below = node.child(i);
-        let child = match keep_node(alloc, &below, dtype, len, ids) {
-            Ok(child) => child,
-            Err(e) => return Err(e),
-        };
+        let child = keep_node(alloc, &below, dtype, len, ids)?;
         let Ok(()) = children.push(child) else {
             return Err(WireError::OutOfMemory);
         };
     }
-    let buffers = match own_buffers(alloc, node) {
-        Ok(buffers) => buffers,
-        Err(e) => return Err(e),
-    };
-    let head = match head_of(alloc, node, id, dtype, len) {
-        Ok(head) => head,
-        Err(e) => return Err(e),
-    };
+    let buffers = own_buffers(alloc, node)?;
+    let head = head_of(alloc, node, id, dtype, len)?;
     match new_foreign_array(
         alloc,
         head.serialized_id,

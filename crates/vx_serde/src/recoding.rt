@@ -64,19 +64,10 @@ pub fn recode(
         let asked = request blob dtype.now len read_ids.now ctx.old s options.now in
         IfErr result (Refuses asked) }
 {
-    let serialized = match SerializedArray::try_from_buffer_to(alloc, blob, options.deep) {
-        Ok(serialized) => serialized,
-        Err(e) => return Err(e),
-    };
-    let array = match serialized.decode(alloc, dtype, len, read_ids, session) {
-        Ok(array) => array,
-        Err(e) => return Err(e),
-    };
+    let serialized = SerializedArray::try_from_buffer_to(alloc, blob, options.deep)?;
+    let array = serialized.decode(alloc, dtype, len, read_ids, session)?;
     // The list of what was read is not needed any more, and the new blob takes its room.
     drop(serialized);
-    let buffers = match array.serialize(alloc, ctx, session, options) {
-        Ok(buffers) => buffers,
-        Err(e) => return Err(e),
-    };
+    let buffers = array.serialize(alloc, ctx, session, options)?;
     Ok(Recoded { array, buffers })
 }

@@ -144,10 +144,7 @@ impl SerializedArray {
         ensures buffers { IfOk result (λ a. a.buffers ≡ buffers) }
         ensures cause { IfErr result (λ e. RefusesMessage limits e tree.bytes) }
     {
-        let verified = match verify_message(tree.as_slice(), false) {
-            Ok(verified) => verified,
-            Err(e) => return Err(e),
-        };
+        let verified = verify_message(tree.as_slice(), false)?;
         let place = verified.place;
         let weight = verified.weight;
         Ok(SerializedArray {
@@ -205,14 +202,8 @@ impl SerializedArray {
         ensures clean { IfOk result (λ a. AreCleanWith (overrides_in overrides.now) (length segment.bytes) 0 0 a.descriptors) }
         ensures cause { IfErr result (λ e. RefusesSegment (limits_to deep) e (overrides_in overrides.now) segment.bytes tree.bytes) }
     {
-        let verified = match verify_message(tree.as_slice(), deep) {
-            Ok(verified) => verified,
-            Err(e) => return Err(e),
-        };
-        let buffers = match take_buffers(alloc, &segment, verified.descriptors, overrides) {
-            Ok(buffers) => buffers,
-            Err(e) => return Err(e),
-        };
+        let verified = verify_message(tree.as_slice(), deep)?;
+        let buffers = take_buffers(alloc, &segment, verified.descriptors, overrides)?;
         let place = verified.place;
         let weight = verified.weight;
         Ok(SerializedArray {

@@ -447,10 +447,8 @@ impl<'a> OpenRoot<'a> {
         ensures message { IfOk result (λ o. HasMessage (root_node o.root) (root_arrays o.root)) }
         ensures cause { (x : ExtMeaning) → x.unknown ≡ unknown → IfErr result (RefusesOneOf (arrays_meaning (λ b. means (b.vtable, b.value)) arrays.now x) room (root_arrays self.now.root)) }
     {
-        match self.root.child(alloc, i) {
-            Ok(below) => OpenRoot::new(alloc, below, arrays, unknown, room),
-            Err(e) => Err(e),
-        }
+        let below = self.root.child(alloc, i)?;
+        OpenRoot::new(alloc, below, arrays, unknown, room)
     }
 
     /// The node of the root, over the nodes below it, once these are taken; and whether it is its array's own as it stands.
@@ -467,10 +465,8 @@ impl<'a> OpenRoot<'a> {
             own,
         } = self;
         let own = root.is_own(own);
-        match root.over(alloc, children, own) {
-            Ok(node) => Ok((node, own)),
-            Err(e) => Err(e),
-        }
+        let node = root.over(alloc, children, own)?;
+        Ok((node, own))
     }
 
     /// One more node below it: a root, once the nodes below that one are taken.
@@ -489,10 +485,10 @@ impl<'a> OpenRoot<'a> {
         ensures cause { IfErr result (λ e. (e ≡ WireError.OutOfMemory) ⊎ (filled ≡ Err e)) }
     {
         match filled {
-            Ok(()) => match child.closed(alloc) {
-                Ok((node, own)) => self.push(node, own),
-                Err(e) => Err(e),
-            },
+            Ok(()) => {
+                let (node, own) = child.closed(alloc)?;
+                self.push(node, own)
+            }
             Err(e) => {
                 drop(child);
                 Err(e)
@@ -533,15 +529,9 @@ fn fill<'a>(
     ensures cause { (x : ExtMeaning) → x.unknown ≡ unknown → IfErr result (RefusesOneOf (arrays_meaning (λ b. means (b.vtable, b.value)) arrays.now x) room (root_arrays above.old.root)) }
 {
     for i in 0..above.nchildren() {
-        let mut child = match above.child(alloc, arrays, unknown, room, i) {
-            Ok(child) => child,
-            Err(e) => return Err(e),
-        };
+        let mut child = above.child(alloc, arrays, unknown, room, i)?;
         let filled = fill(alloc, &mut child, arrays, unknown, room - 1);
-        match above.close(alloc, child, filled) {
-            Ok(()) => {}
-            Err(e) => return Err(e),
-        }
+        above.close(alloc, child, filled)?;
     }
     Ok(())
 }
@@ -562,15 +552,12 @@ pub(crate) fn take<'a>(
     ensures messages { IfOk result HasMessages }
     ensures cause { (x : ExtMeaning) → x.unknown ≡ unknown → IfErr result (RefusesTaking (arrays_meaning (λ b. means (b.vtable, b.value)) arrays.now x) room (source_tree source.entry)) }
 {
-    let mut above = match OpenRoot::new(alloc, source, arrays, unknown, room) {
-        Ok(above) => above,
-        Err(e) => return Err(e),
-    };
+    let mut above = OpenRoot::new(alloc, source, arrays, unknown, room)?;
     match fill(alloc, &mut above, arrays, unknown, room - 1) {
-        Ok(()) => match above.closed(alloc) {
-            Ok((node, _)) => Ok(node),
-            Err(e) => Err(e),
-        },
+        Ok(()) => {
+            let (node, _) = above.closed(alloc)?;
+            Ok(node)
+        }
         Err(e) => {
             drop(above);
             Err(e)

@@ -80,10 +80,7 @@ pub(crate) fn take_buffers(
     let mut left = descriptors;
     while let Some((descriptor, rest)) = first_descriptor(left) {
         let given = override_at(overrides, number);
-        let buffer = match take_buffer(alloc, segment, &descriptor, place, given) {
-            Ok(buffer) => buffer,
-            Err(e) => return Err(e),
-        };
+        let buffer = take_buffer(alloc, segment, &descriptor, place, given)?;
         buffers.push(buffer)?;
         place += descriptor.padding as u128 + descriptor.len as u128;
         number += 1;

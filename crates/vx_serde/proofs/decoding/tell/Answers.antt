@@ -4,7 +4,7 @@ use Rattle.vx_scalars.specs.Stats.{FitStats}
 use Rattle.vx_serde.proofs.decoding.tell.Goals as goal
 
 pub unreachable-requires : goal.unreachable-requires
-unreachable-requires c = c.in-Err-set_all.ensures.err.1 (subst (λ (d : Typ). FitStats d c.in-Ok.stats) (sym c.requires) c.in-Ok.ensures.fits)
+unreachable-requires c = c.in-Err.ensures.err.1 (subst (λ (d : Typ). FitStats d c.in_ok-stats.stats) (sym c.requires) c.in_ok-stats.ensures.fits)
 
 pub returns-clause-told : goal.returns-clause-told
-returns-clause-told c = record { stats = c.in-Ok.stats; shown = c.in-Ok.ensures.shown; tree_is = c.in-Ok-set_all.ensures.ok }
+returns-clause-told c = record { stats = c.in_ok-stats.stats; shown = c.in_ok-stats.ensures.shown; tree_is = c.in-Ok.ensures.ok }

@@ -19,10 +19,10 @@ loop-descriptor-preserved c =
     let next : i + 1 ≡ suc i = add-one i in
     let behind : p + (d.padding + d.len) ≡ place_behind p d = omega arith in
     let inv = c.loop-descriptor.invariant in
-    let own = c.in-Ok.ensures.ok ∙ ap (λ o. buffer_with o segment p d) c.override_at-given.ensures in
+    let own = c.in_ok-buffer.ensures.ok ∙ ap (λ o. buffer_with o segment p d) c.override_at-given.ensures in
     let C : Option Buffer → Type 0 = λ o. IsCleanAt o n p d in
-    let clean = subst C c.override_at-given.ensures c.in-Ok.ensures.clean in (
-      buffers-more given i p ds rest d c.in-Some.ensures.some (i + 1) (p + (d.padding + d.len)) next behind segment c.loop-descriptor.buffers c.push.new.self (buffers_with given segment 0 0 all) c.in-Ok.buffer inv.0 own c.in_ok-push.ensures.ok,
+    let clean = subst C c.override_at-given.ensures c.in_ok-buffer.ensures.clean in (
+      buffers-more given i p ds rest d c.in-Some.ensures.some (i + 1) (p + (d.padding + d.len)) next behind segment c.loop-descriptor.buffers c.push.new.self (buffers_with given segment 0 0 all) c.in_ok-buffer.buffer inv.0 own c.in_ok-push.ensures.ok,
       λ others. clean-more given i p ds rest d c.in-Some.ensures.some (i + 1) (p + (d.padding + d.len)) next behind n (AreCleanWith given n 0 0 all) inv.1 clean others,
       λ e others. refused-more given i p ds rest d c.in-Some.ensures.some (i + 1) (p + (d.padding + d.len)) next behind n e (RefusesOne e given n 0 0 all) (inv.2 e) others,
       omega (arith, inv.3, c.in-Some.ensures.shorter),
