@@ -3,7 +3,7 @@ use Rattle.std.proofs.Common.{ℕ, ◌≡◌, List, [], ◌∷◌, Option, Some,
 use Rattle.std.proofs.lemmas.Option.{none-some}
 use Rattle.std.specs.Str.{is_utf8, chars}
 use lib.Utf8.{encode}
-use Rattle.vx_trees.specs.Rose.{node}
+use Rattle.vx_trees.specs.Rose.{node, label, below}
 use Rattle.vx_types.specs.Kind as K
 use Rattle.vx_types.specs.Typ.{Typ}
 use Rattle.vx_types.specs.Words.{nullability}
@@ -15,9 +15,12 @@ use Rattle.vx_array_tree.specs.Body as B
 use Rattle.vx_array_tree.specs.Encoding as E
 use Rattle.vx_array_tree.specs.Metadata as M
 use Rattle.vx_array_tree.specs.Place.{Place, first_place, second_place}
+use Rattle.vx_array_tree.specs.Refused.{IsMisshaped, HasBrokenContent}
 use Rattle.vx_array_tree.specs.Sound.{IsSound}
 use Rattle.vx_array_tree.specs.Table.{IsFair}
-use Rattle.vx_array_tree_tests.proofs.Samples.{array, buffer, bits, kind, u8s, u16s, number_type, flag_type, variant_type, numbers, unknown_rows, variants_over, variants, typed, flags, decimals, varbins, texts, dictionary, lists, views, fixed, maps, list_of, entry_type, entry, i32s, unions}
+use Rattle.vx_array_tree.specs.Tree.{Tree}
+use Rattle.vx_array_tree.proofs.LawsControls.{native_controlled, leaf, one_leaf}
+use Rattle.vx_array_tree_tests.proofs.Samples.{array, buffer, bits, four, kind, u8s, u16s, number_type, flag_type, variant_type, numbers, unknown_rows, variants_over, variants, typed, flags, decimals, varbins, texts, dictionary, lists, views, fixed, maps, list_of, entry_type, entry, i32s, unions}
 
 not_false : false ≡ true → ⊥
 not_false e = cc
@@ -85,6 +88,13 @@ short_buffer s = let x : 11 ≡ 12 = s.0.holds.length_is in absurd (omega (arith
 small_alignment : IsSound (decimals D.I32 (1 ∷ 0 ∷ 0 ∷ 0 ∷ []) 1 1) → ⊥
 small_alignment s = let x = s.0.holds.aligned in absurd (omega (arith, x))
 
+-- Three numbers, and five, where there are four rows.
+twelve_bytes : IsSound (array (number_type P.I32 NonNullable) 4 (B.primitive (record { values = buffer (four (1 ∷ 2 ∷ 3 ∷ [])) 2 })) []) → ⊥
+twelve_bytes s = let x : 12 ≡ 16 = s.0.holds.length_is in absurd (omega (arith, x))
+
+twenty_bytes : IsSound (array (number_type P.I32 NonNullable) 4 (B.primitive (record { values = buffer (four (1 ∷ 2 ∷ 3 ∷ 4 ∷ 5 ∷ [])) 2 })) []) → ⊥
+twenty_bytes s = let x : 20 ≡ 16 = s.0.holds.length_is in absurd (omega (arith, x))
+
 -- Eight bits for nine flags.
 few_bits : IsSound (array (flag_type NonNullable) 9 (B.bool (record { bits = buffer (1 ∷ []) 0; offset = 0 })) []) → ⊥
 few_bits s = let x = s.0.holds in absurd (omega (arith, x))
@@ -148,3 +158,32 @@ float_sizes f = not_false f.sizes
 -- A list without a type of its elements.
 no_type : IsFair E.variant (M.variant (Some (kind (K.list NonNullable)))) → ⊥
 no_type f = let x : 0 ≡ 1 = f.0 in absurd (omega (arith, x))
+
+-- ---- refusals
+
+-- Of these parts a constructor says what is wrong: their content, where the shape is right and it is known where rows are,
+code_refused : HasBrokenContent (label (dictionary 3)) (below (dictionary 3))
+code_refused = record {
+  shaped = record { fair = refl; planned = refl; allows = λ e. refl; takes = tt; holds = tt };
+  controlled = native_controlled _ _ _ ((tt, one_leaf), ((tt, one_leaf), tt));
+  broken = λ c. (let x = c 3 (omega arith) refl in absurd (omega (arith, x.within)));
+}
+
+offsets_refused : HasBrokenContent (label (lists (0 ∷ 2 ∷ 1 ∷ 3 ∷ []))) (below (lists (0 ∷ 2 ∷ 1 ∷ 3 ∷ [])))
+offsets_refused = record {
+  shaped = record { fair = refl; planned = refl; allows = λ e. absurd (omega arith); takes = tt; holds = tt };
+  controlled = native_controlled _ _ _ (leaf, one_leaf);
+  broken = λ c. (let x = c.rising 1 (omega arith) in absurd (omega (arith, x)));
+}
+
+-- or their shape: seven elements for six, and codes that are floats.
+elements_refused : IsMisshaped (label (fixed 3 2 (1 ∷ 2 ∷ 3 ∷ 4 ∷ 5 ∷ 6 ∷ 7 ∷ []))) (below (fixed 3 2 (1 ∷ 2 ∷ 3 ∷ 4 ∷ 5 ∷ 6 ∷ 7 ∷ [])))
+elements_refused s = let x : 6 ≡ 7 = ap first_len s.planned in absurd (omega (arith, x))
+
+abbrev float_dictionary : Tree
+float_dictionary =
+    array (number_type P.U16 NonNullable) 1 (B.dict (record { all_values_referenced = false }))
+    (array (number_type P.F32 NonNullable) 1 (B.primitive (record { values = buffer (0 ∷ 0 ∷ 0 ∷ 0 ∷ []) 2 })) [] ∷ u16s (3 ∷ []) ∷ [])
+
+float_codes_refused : IsMisshaped (label float_dictionary) (below float_dictionary)
+float_codes_refused s = not_false s.fair

@@ -2,6 +2,7 @@
 use Rattle.std.specs.Prelude.{◌≡◌, [], ◌∷◌, Some, None, true, codes, pos, refl}
 use Rattle.vx_trees.specs.Rose.{node, end, more}
 use Rattle.vx_types.specs.Kind as K
+use Rattle.vx_types.specs.Fits.{Fits}
 use Rattle.vx_types.specs.Typ.{Typ}
 use Rattle.vx_types.specs.Value as V
 use Rattle.vx_types.specs.Value.{Value, lone, variant_of}
@@ -41,6 +42,10 @@ null_leaves = refl
 
 null_alone : merge typed_type null None ≡ null
 null_alone = refl
+
+-- So it fits no type that has no null.
+null_unfit : Fits (merge typed_type null None) variants → ⊥
+null_unfit f = let x : NonNullable ≡ Nullable = f.0 in absurd (cc)
 
 -- A list's elements are wrapped.
 lists_wrap : merge (list_of (number_type P.U16 NonNullable)) (tuple (u16 1 ∷ u16 2 ∷ [])) (Some yes)

@@ -1,5 +1,5 @@
 -- The identifiers and the metadata of samples, the places of their children, and what is read back of them.
-use Rattle.std.specs.Prelude.{◌≡◌, ◌-◌, ◌^◌, List, [], ◌∷◌, ◌++◌, Some, None, false, true, replicate, codes, pos, refl}
+use Rattle.std.specs.Prelude.{◌≡◌, ◌-◌, ◌^◌, List, [], ◌∷◌, Some, None, false, true, replicate, codes, pos, refl}
 use Rattle.vx_trees.specs.Rose.{node, end, more, label, below}
 use Rattle.vx_types.specs.Kind as K
 use Rattle.vx_types.specs.declared.decimal.DecimalType.TheVariants as D
@@ -14,7 +14,7 @@ use Rattle.vx_array_tree.specs.Sound.{metadata_in}
 use Rattle.vx_array_tree.specs.Table.{plan_of}
 use Rattle.vx_array_tree.specs.Tree.{Tree, encoding_ids}
 use Rattle.vx_array_tree_tests.proofs.SampleForeigns.{spelled}
-use Rattle.vx_array_tree_tests.proofs.Samples.{kind, number_type, flag_type, text_type, list_of, fixed_type, entry_type, map_type, union_type, variant_type, nulls, flags_from, numbers, sixteen, decimals, varbins, texts, dictionary, lists, views, fixed, entries, maps, structs, unions, days, lifted_values, variants, typed, variant_values}
+use Rattle.vx_array_tree_tests.proofs.Samples.{kind, number_type, flag_type, text_type, list_of, fixed_type, entry_type, map_type, union_type, variant_type, nulls, flags_from, numbers, hundreds, small_decimals, varbins, texts, dictionary, lists, views, fixed, entries, maps, structs, unions, days, lifted_values, variants, typed, variant_values}
 
 -- ---- identifiers, in preorder
 
@@ -37,8 +37,11 @@ told t = metadata_in (label t) (below t)
 flags_tell : told (flags_from 2) ≡ M.bool 2
 flags_tell = refl
 
-decimals_tell : told (decimals D.I128 (sixteen 100 0 ++ sixteen 244 1) 4 2) ≡ M.decimal D.I128
+decimals_tell : told hundreds ≡ M.decimal D.I128
 decimals_tell = refl
+
+small_decimals_tell : told small_decimals ≡ M.decimal D.I8
+small_decimals_tell = refl
 
 varbins_tell : told (varbins (0 ∷ 2 ∷ 2 ∷ 3 ∷ []) (codes "abc")) ≡ M.varbin P.I32
 varbins_tell = refl
@@ -77,7 +80,7 @@ flags_places = refl
 numbers_places : plan_of E.primitive (number_type P.I32 Nullable) 4 M.empty 0 ≡ Some []
 numbers_places = refl
 
-decimals_places : plan_of E.decimal (kind (K.decimal 10 (pos 2) NonNullable)) 2 (M.decimal D.I128) 0 ≡ Some []
+decimals_places : plan_of E.decimal (kind (K.decimal 10 (pos 2) NonNullable)) 5 (M.decimal D.I128) 0 ≡ Some []
 decimals_places = refl
 
 texts_places : plan_of E.varbinview (text_type Nullable) 5 M.empty 1 ≡ Some (validity_place 5 ∷ [])

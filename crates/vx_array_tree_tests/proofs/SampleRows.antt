@@ -1,14 +1,15 @@
 -- The rows of each encoding's samples, and how many cells a row takes.
-use Rattle.std.specs.Prelude.{ℕ, ◌≡◌, ◌-◌, ◌^◌, [], ◌∷◌, ◌++◌, Some, None, false, true, replicate, codes, pos, negsuc, refl}
+use Rattle.std.specs.Prelude.{ℕ, ◌≡◌, ◌-◌, ◌^◌, [], ◌∷◌, Some, None, false, true, map, replicate, codes, pos, negsuc, refl}
 use Rattle.vx_trees.specs.Rose.{node, end, more}
 use Rattle.vx_types.specs.Value as V
 use Rattle.vx_types.specs.Value.{Value, lone, variant_of}
 use Rattle.vx_types.specs.declared.decimal.DecimalType.TheVariants as D
 use Rattle.vx_types.specs.declared.nullability.Nullability.TheVariants.{Nullable, NonNullable}
 use Rattle.vx_types.specs.declared.ptype.PType.TheVariants as P
+use Rattle.vx_array_tree.specs.Body as B
 use Rattle.vx_array_tree.specs.Encodings.VarBinViews as VarBinViews
 use Rattle.vx_array_tree.specs.Tree.{rows_of, row_at, valid_at, cells}
-use Rattle.vx_array_tree_tests.proofs.Samples.{buffer, number_type, first_rows, i32, u16, flag, null, tuple, utf8, nulls, flags, flags_from, numbers, sixteen, decimals, varbins, long_text, long_view, texts, dictionary, lists, views, fixed, entries, maps, empty_structs, structs, unions, days, lifted_values, list_of, variant_type, unknown_rows, variants_over, variants, typed, known, variant_values}
+use Rattle.vx_array_tree_tests.proofs.Samples.{array, buffer, four, number_type, flag_type, i32s, first_rows, i32, u16, flag, null, tuple, utf8, nulls, flags, flags_from, numbers, decimals, hundreds, small_decimals, binaries, varbins, long_text, long_view, texts, dictionary, lists, views, fixed, entries, maps, empty_structs, structs, unions, days, lifted_values, list_of, variant_type, unknown_rows, variants_over, variants, typed, known, variant_values}
 
 -- Each row is null, however many there are: none, or as many as an index can count.
 nulls_are : first_rows 3 (nulls 3) ≡ null ∷ null ∷ null ∷ []
@@ -20,6 +21,9 @@ no_nulls = refl
 most_nulls : (rows_of (nulls (2 ^ 64 - 1))).len ≡ 18446744073709551615
 most_nulls = refl
 
+first_null : row_at (nulls (2 ^ 64 - 1)) 0 ≡ null
+first_null = refl
+
 last_null : row_at (nulls (2 ^ 64 - 1)) 18446744073709551614 ≡ null
 last_null = refl
 
@@ -30,6 +34,10 @@ flags_are = refl
 offset_flags_are : first_rows 5 (flags_from 2) ≡ flag true ∷ flag true ∷ flag false ∷ flag true ∷ flag false ∷ []
 offset_flags_are = refl
 
+-- Two zero bytes are a validity of nine rows of which none is there.
+none_there : first_rows 9 (array (flag_type NonNullable) 9 (B.bool (record { bits = buffer (0 ∷ 0 ∷ []) 0; offset = 0 })) []) ≡ replicate 9 (flag false)
+none_there = refl
+
 numbers_are : first_rows 4 numbers ≡ i32 1 ∷ null ∷ i32 3 ∷ null ∷ []
 numbers_are = refl
 
@@ -39,11 +47,14 @@ numbers_stand = refl
 numbers_lack : valid_at numbers 1 ≡ Some false
 numbers_lack = refl
 
-decimals_are : first_rows 2 (decimals D.I128 (sixteen 100 0 ++ sixteen 244 1) 4 2) ≡ lone (V.decimal (V.i128 (pos 100))) ∷ lone (V.decimal (V.i128 (pos 500))) ∷ []
+integers_are : first_rows 4 (i32s NonNullable (1 ∷ 2 ∷ 3 ∷ 4 ∷ []) []) ≡ i32 1 ∷ i32 2 ∷ i32 3 ∷ i32 4 ∷ []
+integers_are = refl
+
+decimals_are : first_rows 5 hundreds ≡ map (λ n. lone (V.decimal (V.i128 (pos n)))) (100 ∷ 200 ∷ 300 ∷ 400 ∷ 500 ∷ [])
 decimals_are = refl
 
 -- Signed integers are in two's complement.
-negative_decimals_are : first_rows 2 (decimals D.I8 (255 ∷ 128 ∷ []) 0 2) ≡ lone (V.decimal (V.i8 (negsuc 0))) ∷ lone (V.decimal (V.i8 (negsuc 127))) ∷ []
+negative_decimals_are : first_rows 2 small_decimals ≡ lone (V.decimal (V.i8 (negsuc 0))) ∷ lone (V.decimal (V.i8 (negsuc 127))) ∷ []
 negative_decimals_are = refl
 
 -- The widest are kept by their bytes.
@@ -52,6 +63,16 @@ widest_decimal_is = refl
 
 varbins_are : first_rows 3 (varbins (0 ∷ 2 ∷ 2 ∷ 3 ∷ []) (codes "abc")) ≡ utf8 (codes "ab") ∷ utf8 [] ∷ utf8 (codes "c") ∷ []
 varbins_are = refl
+
+binary_is : row_at (binaries (four (0 ∷ 2 ∷ [])) (97 ∷ 255 ∷ [])) 0 ≡ lone (V.binary (97 ∷ 255 ∷ []))
+binary_is = refl
+
+-- Bytes take one cell and one for each of them: 9,999 are within ten thousand cells, one more are not.
+most_cells : cells (binaries (0 ∷ 0 ∷ 0 ∷ 0 ∷ 15 ∷ 39 ∷ 0 ∷ 0 ∷ []) (replicate 9999 65)) 0 ≡ 10000
+most_cells = refl
+
+too_many_cells : cells (binaries (0 ∷ 0 ∷ 0 ∷ 0 ∷ 16 ∷ 39 ∷ 0 ∷ 0 ∷ []) (replicate 10000 65)) 0 ≡ 10001
+too_many_cells = refl
 
 texts_are : first_rows 5 (texts 21 97) ≡ utf8 (codes "hello") ∷ null ∷ utf8 (codes "world") ∷ null ∷ utf8 long_text ∷ []
 texts_are = refl
@@ -90,7 +111,7 @@ empty_fixed_are = refl
 map_is : row_at (maps entries) 0 ≡ tuple (tuple (i32 1 ∷ utf8 (codes "a") ∷ []) ∷ [])
 map_is = refl
 
-empty_structs_are : first_rows 2 empty_structs ≡ tuple [] ∷ tuple [] ∷ []
+empty_structs_are : first_rows 7 empty_structs ≡ replicate 7 (tuple [])
 empty_structs_are = refl
 
 structs_are : first_rows 2 structs ≡ tuple (u16 7 ∷ []) ∷ null ∷ []

@@ -12,7 +12,7 @@ use Rattle.vx_array_tree.specs.Canon.{Spelling, canon, KeepsStats}
 use Rattle.vx_array_tree.specs.Sound.{IsSound}
 use Rattle.vx_array_tree.specs.Tree.{with_stats}
 use Rattle.vx_array_tree.proofs.Built.{stats_sound}
-use Rattle.vx_array_tree_tests.proofs.Samples.{number_type, numbers, flag, i32, count, float, told_of_numbers, told_numbers, summed, told_values, days, words}
+use Rattle.vx_array_tree_tests.proofs.Samples.{number_type, nulls, flags, numbers, flag, i32, count, float, told_of_numbers, told_numbers, summed, told_values, days, words}
 use Rattle.vx_array_tree_tests.proofs.SoundSamples.{numbers_sound, days_sound}
 
 -- ---- which fit
@@ -41,6 +41,13 @@ other_kind s = let x : P.U64 ≡ P.I32 = (s.0.stats Min).0.0 in absurd (cc)
 
 null_least : IsSound (with_stats (least (lone V.null)) numbers) → ⊥
 null_least s = let x : true ≡ false = (s.0.stats Min).1 in absurd (cc)
+
+-- Nulls have no least value, and one of flags is no number.
+nulls_least : IsSound (with_stats (least (i32 1)) (nulls 3)) → ⊥
+nulls_least s = s.0.stats Min
+
+flags_least : IsSound (with_stats (least (i32 1)) (flags Nullable)) → ⊥
+flags_least s = (s.0.stats Min).0.0
 
 -- The least value of an extension is of its storage's type, and it has no sum.
 day_fits : FitStats (label days).dtype (least (i32 1))

@@ -11,6 +11,7 @@ use Rattle.vx_types.specs.declared.nullability.Nullability.TheVariants.{Nullable
 use Rattle.vx_types.specs.declared.ptype.PType.{PType}
 use Rattle.vx_types.specs.declared.ptype.PType.TheVariants as P
 use Rattle.vx_types.specs.declared.decimal.DecimalType.{DecimalType}
+use Rattle.vx_types.specs.declared.decimal.DecimalType.TheVariants as D
 use Rattle.vx_types.specs.declared.value.PValue.TheVariants as N
 use Rattle.vx_scalars.specs.Stats.{Stats, Told, no_stats}
 use Rattle.vx_scalars.specs.declared.precision.Precision.TheVariants.{Exact, Inexact}
@@ -109,6 +110,19 @@ sixteen a b = a ∷ b ∷ 0 ∷ 0 ∷ 0 ∷ 0 ∷ 0 ∷ 0 ∷ 0 ∷ 0 ∷ 0 ∷ 
 -- Decimals of ten digits, two of them behind the point.
 abbrev pub decimals : DecimalType → List ℕ → ℕ → ℕ → Tree
 decimals w bs e n = array (kind (K.decimal 10 (pos 2) NonNullable)) n (B.decimal (record { values = buffer bs e; values_type = w })) []
+
+-- 1.00, 2.00, 3.00, 4.00 and 5.00.
+abbrev pub hundreds : Tree
+hundreds = decimals D.I128 (sixteen 100 0 ++ (sixteen 200 0 ++ (sixteen 44 1 ++ (sixteen 144 1 ++ sixteen 244 1)))) 4 5
+
+-- -0.01 and -1.28.
+abbrev pub small_decimals : Tree
+small_decimals = decimals D.I8 (255 ∷ 128 ∷ []) 0 2
+
+-- One row of bytes, by these bytes of two offsets.
+abbrev pub binaries : List ℕ → List ℕ → Tree
+binaries offsets bs =
+    array (kind (K.binary NonNullable)) 1 (B.varbin (record { bytes = buffer bs 0 })) (array (number_type P.I32 NonNullable) 2 (B.primitive (record { values = buffer offsets 2 })) [] ∷ [])
 
 -- Three texts by these offsets in these bytes.
 abbrev pub varbins : List ℕ → List ℕ → Tree

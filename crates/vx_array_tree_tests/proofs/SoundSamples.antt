@@ -1,5 +1,5 @@
 -- Samples of each encoding are sound: the rules can be kept.
-use Rattle.std.proofs.Common.{ℕ, zero, suc, ◌≡◌, ◌<◌, ◌≤◌, ◌*◌, ◌++◌, List, [], ◌∷◌, Some, refl, subst, arith, true, false, IsTrue, length, replicate, slice_get, codes}
+use Rattle.std.proofs.Common.{ℕ, zero, suc, ◌≡◌, ◌<◌, ◌≤◌, ◌*◌, List, [], ◌∷◌, Some, refl, subst, arith, true, false, IsTrue, length, replicate, slice_get, codes}
 use Rattle.std.proofs.lemmas.Bool.{false≢true}
 use Rattle.std.proofs.lemmas.Option.{same_Some}
 use Rattle.std.specs.Str.{is_utf8, chars}
@@ -22,7 +22,7 @@ use Rattle.vx_array_tree.specs.Table.{Content}
 use Rattle.vx_array_tree.specs.Tree.{Tree, Trees, rows_of, rows_below}
 use Rattle.vx_array_tree.proofs.LawsControls.{native_controlled, leaf, one_leaf}
 use Rattle.vx_trees.specs.Rose.{label, below}
-use Rattle.vx_array_tree_tests.proofs.Samples.{bits, four, two, number_type, i32s, u16s, u8s, long_text, nulls, flags, flags_from, numbers, sixteen, decimals, varbins, texts, words, dictionary, lists, views, fixed, entry, entries, maps, empty_structs, structs, unions, days, lifted_values, unknown_rows, variants_over, variants, typed, known, variant_values}
+use Rattle.vx_array_tree_tests.proofs.Samples.{bits, four, two, number_type, i32s, u16s, u8s, long_text, nulls, flags, flags_from, numbers, decimals, hundreds, varbins, texts, words, dictionary, lists, views, fixed, entry, entries, maps, empty_structs, structs, unions, days, lifted_values, unknown_rows, variants_over, variants, typed, known, variant_values}
 
 -- What holds of the first indices, one by one.
 pub below_two : (P : ℕ → Type 0) → P 0 → P 1 → (i : ℕ) → i < 2 → P i
@@ -72,7 +72,7 @@ numbers_sound = (record { fair = tt; planned = refl; allows = λ e. refl; takes 
 nulls_sound : (n : ℕ) → IsSound (nulls n)
 nulls_sound n = (record { fair = tt; planned = refl; allows = tt; takes = tt; holds = tt; controlled = native_controlled _ _ _ tt; content = tt; stats = none_fit _ }, tt)
 
-decimals_sound : IsSound (decimals D.I128 (sixteen 100 0 ++ sixteen 244 1) 4 2)
+decimals_sound : IsSound hundreds
 decimals_sound = (record { fair = tt; planned = refl; allows = λ e. absurd (omega arith); takes = tt; holds = record { length_is = refl; aligned = omega arith }; controlled = native_controlled _ _ _ tt; content = tt; stats = none_fit _ }, tt)
 
 widest_decimal_sound : IsSound (decimals D.I256 (replicate 32 255) 4 1)
@@ -134,6 +134,9 @@ null_prefix (suc (suc zero)) l t = (codes "world", refl, refl)
 null_prefix (suc (suc (suc zero))) l t = absurd (not_there t)
 null_prefix (suc (suc (suc (suc zero)))) l t = absurd (not_there t)
 null_prefix (suc (suc (suc (suc (suc i))))) l t = absurd (omega arith)
+
+null_prefix_sound : IsSound (texts 5 98)
+null_prefix_sound = (record { fair = tt; planned = refl; allows = λ e. refl; takes = tt; holds = record { length_is = refl; aligned = omega arith }; controlled = native_controlled _ _ _ one_leaf; content = null_prefix; stats = none_fit _ }, (bits_sound 5 5 (omega arith), tt))
 
 -- ---- lists
 

@@ -1,6 +1,7 @@
 -- How contexts grow.
 use Rattle.std.specs.Prelude.{ℕ, ◌≡◌, List, [], ◌∷◌, Option, Some, None, codes, refl}
-use Rattle.vx_array_tree_tests.proofs.Samples.{numbers}
+use Rattle.vx_types.specs.declared.nullability.Nullability.TheVariants.{Nullable}
+use Rattle.vx_array_tree_tests.proofs.Samples.{flags, numbers}
 use Rattle.vx_wire_tree.specs.Codec.{Codec}
 use Rattle.vx_wire_tree.specs.Context.{Context, index_of, interned, grown_by, grown}
 use Rattle.vx_wire_tree.specs.Session.{SessionMeaning}
@@ -36,3 +37,7 @@ second_index = refl
 -- Numbers with a validity name two encodings.
 numbers_grow : (c : Codec) (s : SessionMeaning) → grown c s (context (codes "a" ∷ []) None) numbers ≡ Some (context (codes "a" ∷ codes "vortex.primitive" ∷ codes "vortex.bool" ∷ []) None)
 numbers_grow c s = refl
+
+-- So do flags with one, once.
+flags_grow : (c : Codec) (s : SessionMeaning) → grown c s (context [] None) (flags Nullable) ≡ Some (context (codes "vortex.bool" ∷ []) None)
+flags_grow c s = refl

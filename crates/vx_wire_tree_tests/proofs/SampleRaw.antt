@@ -1,11 +1,12 @@
 -- Wire trees with nodes that nothing reads: what they tell, what is written and read back, and the causes.
-use Rattle.std.proofs.Common.{ℕ, ◌≡◌, List, [], ◌∷◌, Option, Some, None, Bool, true, false, bytes_eq, if◌then◌else◌, codes, refl, arith, sym, ap, ◌∙◌, subst}
+use Rattle.std.proofs.Common.{ℕ, ◌≡◌, List, [], ◌∷◌, Option, Some, None, Bool, true, false, bytes_eq, if◌then◌else◌, codes, replicate, refl, arith, sym, ap, ◌∙◌, subst}
 use Rattle.std.proofs.lemmas.Bool.{true≢false, false≢true}
 use Rattle.std.proofs.lemmas.Option.{same_Some}
 use Rattle.vx_buffer.specs.Buffer.{Buffer}
 use Rattle.vx_flat.specs.Value.{absent, text}
 use Rattle.vx_trees.specs.Rose.{node, end, more, label, below}
 use Rattle.vx_types.specs.Typ.{Typ}
+use Rattle.vx_types.specs.Value.{lone, opaque}
 use Rattle.vx_types.specs.declared.nullability.Nullability.TheVariants.{Nullable, NonNullable}
 use Rattle.vx_types.specs.declared.ptype.PType.TheVariants as P
 use Rattle.vx_scalars.proofs.LawsStats.{none_fit}
@@ -19,7 +20,7 @@ use Rattle.vx_array_tree.specs.Sound.{metadata_in}
 use Rattle.vx_array_tree.specs.Tree.{Tree}
 use Rattle.vx_array_tree.proofs.LawsControls.{native_controlled}
 use Rattle.vx_array_tree_tests.proofs.SampleForeigns.{foreign}
-use Rattle.vx_array_tree_tests.proofs.Samples.{array, buffer, four, number_type, flag_type, text_type, i32s, numbers}
+use Rattle.vx_array_tree_tests.proofs.Samples.{array, buffer, four, number_type, flag_type, text_type, i32s, first_rows, numbers}
 use Rattle.vx_wire_tree.specs.Causes.{IsUnregistered, unknown_encoding, foreign_control, RefusesTree}
 use Rattle.vx_wire_tree.specs.Codec.{Codec, metadata_bytes}
 use Rattle.vx_wire_tree.specs.Fields as F
@@ -81,6 +82,35 @@ matched = (
     ),
   ),
 )
+
+-- So is a root over numbers, without buffers, of which no row is known; where foreign nodes are not allowed, its identifier is refused.
+abbrev root_node : Wire
+root_node = node (record { id = Some (codes "x.y"); metadata = 170 ∷ []; buffers = []; stats = text [] }) (more numbers_node end)
+
+abbrev foreign_numbers : List ℕ → List ℕ → List Buffer → List Tree → Tree
+foreign_numbers id metadata bs ts = array (number_type P.I32 NonNullable) 4 (B.foreign (record { id = id; metadata = metadata; buffers = bs })) ts
+
+abbrev root : Tree
+root = foreign_numbers (codes "x.y") (170 ∷ []) [] (foreign_numbers name [] (values ∷ []) [] ∷ [])
+
+root_matches : Matches codec (session true) root_node root
+root_matches = (
+  codes "x.y",
+  refl,
+  (
+    refl,
+    (
+      record { kept = record { id = codes "x.y"; metadata = 170 ∷ []; buffers = [] }; body = refl; id = refl; metadata = refl; buffers = refl },
+      ((record { kept = record { id = name; metadata = []; buffers = values ∷ [] }; body = refl; id = refl; metadata = refl; buffers = refl }, refl), refl),
+    ),
+  ),
+)
+
+root_rows : first_rows 4 root ≡ replicate 4 (lone opaque)
+root_rows = refl
+
+root_refused : RefusesTree unknown_encoding codec (session false) root_node (number_type P.I32 NonNullable) 4
+root_refused = ([], record { unregistered = record { id = codes "x.y"; id_is = refl; reader_is = refl }; closed = refl })
 
 -- A node by an encoding that is read does not match a foreign one.
 read_is_not_kept : Matches codec (session true) numbers_node kept_numbers → ⊥

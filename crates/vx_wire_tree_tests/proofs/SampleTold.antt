@@ -1,6 +1,6 @@
 -- A wire tree of numbers, the array that it tells, and the causes of trees that tell none.
 use Rattle.std.proofs.Common.{ℕ, zero, suc, ◌≡◌, List, [], ◌∷◌, Option, Some, None, refl, sym, ap, subst, inl, inr, codes, length, arith}
-use Rattle.std.proofs.lemmas.Option.{same_Some}
+use Rattle.std.proofs.lemmas.Option.{same_Some, none-some}
 use Rattle.vx_buffer.specs.Buffer.{Buffer}
 use Rattle.vx_flat.specs.Value.{Field, absent, number, text}
 use Rattle.vx_scalars.specs.Stats.{Stats, no_stats}
@@ -8,17 +8,19 @@ use Rattle.vx_scalars.specs.declared.precision.Precision.TheVariants.{Exact}
 use Rattle.vx_trees.specs.Rose.{node, end}
 use Rattle.vx_types.specs.Known.{no_readers}
 use Rattle.vx_types.specs.Typ.{Typ}
-use Rattle.vx_types.specs.declared.nullability.Nullability.TheVariants.{NonNullable}
+use Rattle.vx_types.specs.declared.nullability.Nullability.TheVariants.{Nullable, NonNullable}
 use Rattle.vx_types.specs.declared.ptype.PType.TheVariants as P
 use Rattle.vx_array_tree.specs.Body as B
 use Rattle.vx_array_tree.specs.Encoding.{Encoding}
 use Rattle.vx_array_tree.specs.Encoding as E
 use Rattle.vx_array_tree.specs.Encodings.Primitives.{IsFilled}
+use Rattle.vx_array_tree.specs.Encodings.VarBinViews as VarBinViews
 use Rattle.vx_array_tree.specs.Metadata as M
 use Rattle.vx_array_tree.specs.Table.{IsShaped, Holds}
 use Rattle.vx_array_tree.specs.Tree.{with_stats}
-use Rattle.vx_array_tree_tests.proofs.Samples.{number_type, buffer, four, i32s, count}
-use Rattle.vx_wire_tree.specs.Causes.{IsOf, MayStandFor, out_of_bounds, unknown_index, unknown_encoding, bad_shape, bad_stats, RefusesTree}
+use Rattle.vx_array_tree.proofs.LawsControls.{native_controlled}
+use Rattle.vx_array_tree_tests.proofs.Samples.{number_type, text_type, buffer, four, i32s, long_text, long_view, count}
+use Rattle.vx_wire_tree.specs.Causes.{IsOf, MayStandFor, out_of_bounds, unknown_index, unknown_encoding, bad_shape, bad_content, bad_stats, RefusesTree}
 use Rattle.vx_wire_tree.specs.Codec.{Codec}
 use Rattle.vx_wire_tree.specs.Fields as F
 use Rattle.vx_wire_tree.specs.Fields.{Fields}
@@ -26,10 +28,11 @@ use Rattle.vx_wire_tree.specs.Matches.{Matches}
 use Rattle.vx_wire_tree.specs.Session.{SessionMeaning, Reader, shipped}
 use Rattle.vx_wire_tree.specs.Wire.{Wire}
 
--- Nulls and numbers keep no metadata.
+-- Nulls, numbers and texts by views keep no metadata.
 abbrev Shows : Encoding → List ℕ → Fields → Type 0
 Shows E.null bytes F.empty = bytes ≡ []
 Shows E.primitive bytes F.empty = bytes ≡ []
+Shows E.varbinview bytes F.empty = bytes ≡ []
 Shows _ bytes f = ⊥
 
 -- So many rows are null.
@@ -156,5 +159,43 @@ too_many = (
     value = M.empty;
     metadata = record { fields = F.empty; shown = refl; meaning = refl; fair = tt; known = tt };
     broken = inr (inl two_buffers);
+  },
+)
+
+-- Nor do numbers stand under the type of texts.
+at_texts : RefusesTree bad_shape codec numbers_session (numbers_of (Some name) (Some values ∷ [])) (text_type Nullable) 4
+at_texts = (
+  [],
+  record {
+    encoding = E.primitive;
+    by = is_numbers (Some values ∷ []);
+    value = M.empty;
+    metadata = record { fields = F.empty; shown = refl; meaning = refl; fair = tt; known = tt };
+    broken = inl refl;
+  },
+)
+
+-- A view whose prefix is not that of its bytes.
+abbrev long_views : VarBinViews.Data
+long_views = record { buffers = buffer long_text 0 ∷ []; views = buffer (long_view 98) 4 }
+
+wrong_prefix : RefusesTree bad_content codec (session (Some (shipped E.varbinview)))
+    (node (record { id = Some (codes "vortex.varbinview"); metadata = []; buffers = Some (buffer long_text 0) ∷ Some (buffer (long_view 98) 4) ∷ []; stats = absent }) end) (text_type NonNullable) 1
+wrong_prefix = (
+  [],
+  record {
+    encoding = E.varbinview;
+    by = record { id = codes "vortex.varbinview"; id_is = refl; encoding_is = refl };
+    value = M.empty;
+    metadata = record { fields = F.empty; shown = refl; meaning = refl; fair = tt; known = tt };
+    places_are = [];
+    plan = refl;
+    buffers = buffer long_text 0 ∷ buffer (long_view 98) 4 ∷ [];
+    buffers_are = refl;
+    shaped = record { body = B.varbinview long_views; body_is = refl; holds = record { length_is = refl; aligned = omega arith }; allows = λ e. absurd (omega arith) };
+    children = end;
+    matched = record { matched = refl; sound = tt; normal = λ _. tt; placed = refl };
+    controlled = native_controlled _ _ _ tt;
+    broken = λ c. none-some _ (c 0 (omega arith) refl).1;
   },
 )

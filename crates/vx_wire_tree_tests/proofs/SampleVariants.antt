@@ -19,7 +19,7 @@ use Rattle.vx_array_tree.specs.Metadata as M
 use Rattle.vx_array_tree.specs.Place.{place}
 use Rattle.vx_array_tree.specs.Table.{encoding_named}
 use Rattle.vx_array_tree.specs.Tree.{Tree}
-use Rattle.vx_array_tree_tests.proofs.Samples.{buffer, bits, four, number_type, list_of, variant_type, unknown_rows, variants, typed}
+use Rattle.vx_array_tree_tests.proofs.Samples.{days as four_days, buffer, bits, four, number_type, list_of, variant_type, unknown_rows, variants, typed}
 use Rattle.vx_wire_tree.specs.Causes.{unknown_encoding, bad_metadata, RefusesTree}
 use Rattle.vx_wire_tree.specs.Codec.{Codec}
 use Rattle.vx_wire_tree.specs.Fields as F
@@ -33,10 +33,11 @@ use Rattle.vx_wire_tree.specs.Wire.{Wire, Wires}
 
 -- ---- samples
 
--- Of variants no byte tells no type, and the byte 7 this one; flags and numbers keep no metadata.
+-- Of variants no byte tells no type, and the byte 7 this one; flags, numbers and extensions keep no metadata.
 abbrev Shows : Typ → Encoding → List ℕ → Fields → Type 0
 Shows d E.bool bytes (F.bool zero) = bytes ≡ []
 Shows d E.primitive bytes F.empty = bytes ≡ []
+Shows d E.ext bytes F.empty = bytes ≡ []
 Shows d E.variant bytes (F.variant None) = bytes ≡ []
 Shows d E.variant bytes (F.variant (Some e)) = (bytes ≡ 7 ∷ []) × (e ≡ d)
 Shows d _ bytes f = ⊥
@@ -178,3 +179,35 @@ fifty_refused h = fifty_levels h.0
 
 forty_nine_levels : HasMessages (over_deep 48)
 forty_nine_levels = (omega arith, ((tt, tt), ((tt, tt), tt)))
+
+-- ---- extensions
+
+-- The type of an extension is not told by its node: no reader is asked about it.
+abbrev day_node : Wire
+day_node = node (record { id = Some (codes "vortex.primitive"); metadata = []; buffers = Some (buffer (four (1 ∷ 2 ∷ 3 ∷ 4 ∷ [])) 2) ∷ []; stats = absent }) end
+
+days_match : Matches (codec numbers) (session false) (node (record { id = Some (codes "vortex.ext"); metadata = []; buffers = []; stats = absent }) (more day_node end)) four_days
+days_match = (
+  codes "vortex.ext",
+  refl,
+  record {
+    encoding = refl;
+    metadata = record { fields = F.empty; shown = refl; meaning = refl; fair = tt; known = tt };
+    buffers = refl;
+    stats = refl;
+    children = (
+      (
+        codes "vortex.primitive",
+        refl,
+        record {
+          encoding = refl;
+          metadata = record { fields = F.empty; shown = refl; meaning = refl; fair = tt; known = tt };
+          buffers = refl;
+          stats = refl;
+          children = refl;
+        },
+      ),
+      refl,
+    );
+  },
+)
