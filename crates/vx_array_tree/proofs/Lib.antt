@@ -3,6 +3,7 @@ pub mod Identifiers
 pub mod Bodies
 pub mod Plans
 pub mod LawsOfPlaces
+pub mod PlanCounts
 pub mod Retyped
 pub mod RetypedParts
 pub mod NodeLaws

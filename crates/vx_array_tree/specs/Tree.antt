@@ -45,10 +45,14 @@ abbrev pub option_trees : Option Tree → Trees
 option_trees None = end
 option_trees (Some t) = more t end
 
+-- The place at which an array stands.
+abbrev pub array_place : Tree → Place
+array_place t = place (label t).dtype (label t).len
+
 -- The places of children, in their order.
 abbrev pub places : Trees → List Place
 places end = []
-places (more t ts) = place (label t).dtype (label t).len ∷ places ts
+places (more t ts) = array_place t ∷ places ts
 
 -- The encodings of children, in their order.
 abbrev pub encodings : Trees → List Encoding

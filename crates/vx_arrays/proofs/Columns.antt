@@ -16,8 +16,7 @@ use Rattle.vx_types.proofs.LawsOfTypes.{typs-length}
 use Rattle.std.proofs.lemmas.Bool.{false≢true, iff_false}
 use Rattle.vx_array_tree.specs.Place.{Place, place, places_at, validity_place}
 use Rattle.vx_array_tree.specs.Refused.{IsWellShaped}
-use Rattle.vx_array_tree.specs.Tree.{Tree, Trees, places}
-use Rattle.vx_arrays.specs.Places.{array_place}
+use Rattle.vx_array_tree.specs.Tree.{Tree, Trees, array_place, places}
 use Rattle.vx_arrays.specs.Structs.{struct_head}
 use Rattle.vx_array_tree.proofs.LawsOfPlaces.{places_count, places_length}
 use Rattle.vx_arrays.proofs.Fielded.{no_children, front_decides, front_right}

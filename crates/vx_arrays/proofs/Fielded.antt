@@ -20,10 +20,9 @@ use Rattle.vx_array_tree.specs.Refused.{IsWellShaped}
 use Rattle.vx_types.specs.Value.{flag_in}
 use Rattle.vx_array_tree.specs.Rows.{rest, where_valid, cells_where, values_at, cells_at}
 use Rattle.vx_array_tree.specs.Sound.{IsSoundNode}
-use Rattle.vx_array_tree.specs.Tree.{Tree, Trees, places, row_at, rows_below, untold}
+use Rattle.vx_array_tree.specs.Tree.{Tree, Trees, array_place, places, row_at, rows_below, untold}
 use Rattle.vx_array_tree.proofs.LawsOfPlaces.{IsBehind, behind_is, behind_self, behind_one, places_count, places_length, rows_count}
 use Rattle.vx_arrays.specs.Parts.{HaveRow}
-use Rattle.vx_arrays.specs.Places.{array_place}
 use Rattle.vx_arrays.specs.Structs.{IsOfFields, behind_first, field_trees, struct_head}
 
 -- ---- whether a validity stands in front

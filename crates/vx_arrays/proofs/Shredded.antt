@@ -14,9 +14,8 @@ use Rattle.vx_array_tree.specs.Encodings.Variants.{metadata_of, plan, rows}
 use Rattle.vx_array_tree.specs.Place.{Place, place}
 use Rattle.vx_array_tree.specs.Refused.{IsWellShaped}
 use Rattle.vx_array_tree.specs.Sound.{IsSoundNode}
-use Rattle.vx_array_tree.specs.Tree.{Tree, Trees, cells, places, row_at, rows_below, untold}
+use Rattle.vx_array_tree.specs.Tree.{Tree, Trees, array_place, cells, places, row_at, rows_below, untold}
 use Rattle.vx_array_tree.proofs.Plans.{exactly_is}
-use Rattle.vx_arrays.specs.Places.{array_place}
 use Rattle.vx_arrays.specs.Variants.{AreRows, IsOfVariants, merged_cells, merged_row}
 
 -- ---- what a plan says

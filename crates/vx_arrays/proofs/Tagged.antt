@@ -22,9 +22,8 @@ use Rattle.vx_array_tree.specs.Place.{Place, place, exactly, places_at}
 use Rattle.vx_array_tree.specs.Refused.{IsWellShaped}
 use Rattle.vx_array_tree.specs.Rows.{Rows, first, index_at, IsIndex, IsThere, where_valid, cells_where}
 use Rattle.vx_array_tree.specs.Sound.{IsSoundNode}
-use Rattle.vx_array_tree.specs.Tree.{Head, Tree, Trees, cells, places, row_at, rows_below, rows_of, untold}
+use Rattle.vx_array_tree.specs.Tree.{Head, Tree, Trees, array_place, cells, places, row_at, rows_below, rows_of, untold}
 use Rattle.vx_array_tree.proofs.Plans.{exactly_is}
-use Rattle.vx_arrays.specs.Places.{array_place}
 use Rattle.vx_arrays.specs.Unions.{IsTagged, union_head}
 use Rattle.vx_array_tree.proofs.LawsOfPlaces.{exactly_self, places_count}
 

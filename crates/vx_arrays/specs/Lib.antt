@@ -18,7 +18,6 @@ pub mod Variants
 pub mod Merging
 pub mod RowScalars
 pub mod Foreigns
-pub mod Places
 pub mod Validity
 pub mod Slots
 pub mod Refused

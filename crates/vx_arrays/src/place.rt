@@ -4,7 +4,7 @@ ghost use Rattle.std.specs.Prelude.{◌≡◌, ◌↔◌, IsTrue};
 ghost use Rattle.vx_trees.specs.Rose.{label};
 ghost use Rattle.vx_types.specs.Seen.{typ};
 ghost use Rattle.vx_array_tree.specs.Place.{place};
-ghost use Rattle.vx_arrays.specs.Places.{array_place};
+ghost use Rattle.vx_array_tree.specs.Tree.{array_place};
 
 use crate::array::Array;
 use vx_types::DType;

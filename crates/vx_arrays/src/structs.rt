@@ -11,9 +11,8 @@ ghost use Rattle.vx_array_tree.specs.Place.{place, places_at, validity_place};
 ghost use Rattle.vx_types.specs.declared.nullability.Nullability.TheVariants.{Nullable};
 ghost use Rattle.vx_array_tree.specs.Refused.{IsWellShaped};
 ghost use Rattle.vx_array_tree.specs.Sound.{IsSound, IsSoundNode};
-ghost use Rattle.vx_array_tree.specs.Tree.{places, rows_below, untold};
+ghost use Rattle.vx_array_tree.specs.Tree.{array_place, places, rows_below, untold};
 ghost use Rattle.vx_arrays.specs.Parts.{AreThere, parts_cells, parts_nodes, parts_value};
-ghost use Rattle.vx_arrays.specs.Places.{array_place};
 ghost use Rattle.vx_arrays.specs.Refused.{IsUnmade, IsOkOrMemory};
 ghost use Rattle.vx_arrays.specs.Structs.{IsOfFields, behind_validity, field_trees, struct_head, struct_tree};
 

@@ -11,11 +11,10 @@ ghost use Rattle.vx_array_tree.specs.Encodings.Unions.{Content, rows as rows_of_
 ghost use Rattle.vx_array_tree.specs.Refused.{IsWellShaped};
 ghost use Rattle.vx_array_tree.specs.Rows.{first, IsThere};
 ghost use Rattle.vx_array_tree.specs.Sound.{IsSound, IsSoundNode};
-ghost use Rattle.vx_array_tree.specs.Tree.{rows_below, rows_of, untold};
+ghost use Rattle.vx_array_tree.specs.Tree.{array_place, rows_below, rows_of, untold};
 ghost use Rattle.vx_array_tree.specs.Place.{place};
 ghost use Rattle.vx_types.specs.Kind.{primitive};
 ghost use Rattle.vx_types.specs.declared.ptype.PType.TheVariants.{U8};
-ghost use Rattle.vx_arrays.specs.Places.{array_place};
 ghost use Rattle.vx_arrays.specs.Parts.{AreThere, parts_cells, parts_nodes, parts_value};
 ghost use Rattle.vx_arrays.specs.Refused.{IsUnmade, IsOkOrMemory};
 ghost use Rattle.vx_arrays.specs.Unions.{IsTagged, union_head, union_tree};

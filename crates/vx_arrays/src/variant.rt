@@ -11,9 +11,8 @@ ghost use Rattle.vx_array_tree.specs.Encodings.Variants.{metadata_of, rows as ro
 ghost use Rattle.vx_array_tree.specs.Place.{place};
 ghost use Rattle.vx_array_tree.specs.Refused.{IsWellShaped};
 ghost use Rattle.vx_array_tree.specs.Sound.{IsSound, IsSoundNode};
-ghost use Rattle.vx_array_tree.specs.Tree.{option_trees, places, rows_below, untold};
+ghost use Rattle.vx_array_tree.specs.Tree.{array_place, option_trees, places, rows_below, untold};
 ghost use Rattle.vx_arrays.specs.Parts.{AreThere, HaveRow, parts_cells, parts_nodes, parts_value};
-ghost use Rattle.vx_arrays.specs.Places.{array_place};
 ghost use Rattle.vx_arrays.specs.Refused.{IsUnmade, IsOkOrMemory};
 ghost use Rattle.vx_arrays.specs.Variants.{AreRows, IsOfVariants, variant_tree};
 

@@ -1,8 +1,7 @@
 -- What a caller's plugin is told and what it answers, as the plain values of what it means.
-use Rattle.std.specs.Prelude.{◌≡◌, Option, Some, None, Result, Ok, Err, length}
-use Rattle.vx_trees.specs.Rose.{count}
+use Rattle.std.specs.Prelude.{◌≡◌, Option, Some, None, Result, Ok, Err}
 use Rattle.vx_types.specs.Seen.{typ}
-use Rattle.vx_wire_tree.specs.Plugin.{NodeHead, Parts, Answer, none, refused, given}
+use Rattle.vx_wire_tree.specs.Plugin.{NodeHead, Parts, parts_head, Answer, none, refused, given}
 use Rattle.vx_encodings.specs.declared.head.ArrayHead.{ArrayHead}
 use Rattle.vx_registry.specs.declared.plugin.PluginError.{PluginError}
 use Rattle.vx_registry.specs.declared.plugin.PluginError.TheVariants.{OutOfMemory, Refused}
@@ -13,9 +12,13 @@ use Rattle.vx_registry.specs.declared.serialization.ArrayDeserialization.{ArrayD
 abbrev pub head_in : ArrayHead → NodeHead
 head_in h = record { id = h.serialized_id; dtype = typ h.dtype; len = h.len; metadata = h.metadata; nbuffers = h.nbuffers; nchildren = h.nchildren }
 
--- The same, of a node whose parts are there.
-abbrev pub parts_head : ArrayDeserialization → NodeHead
-parts_head p = record { id = p.serialized_id; dtype = typ p.dtype; len = p.len; metadata = p.metadata; nbuffers = length p.buffers; nchildren = count p.children }
+-- The parts of a node that is read.
+abbrev pub read_parts : ArrayDeserialization → Parts
+read_parts p = record { id = p.serialized_id; metadata = p.metadata; buffers = p.buffers; children = p.children }
+
+-- What is told of a node whose parts are there.
+abbrev pub read_head : ArrayDeserialization → NodeHead
+read_head p = parts_head (read_parts p) (typ p.dtype) p.len
 
 -- What an array is written as.
 abbrev pub parts_in : ArraySerialization → Parts

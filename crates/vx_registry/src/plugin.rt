@@ -3,7 +3,7 @@
 ghost use Rattle.std.specs.Prelude.{◌≡◌, ℕ, IfOk, IsOkUnless};
 ghost use Rattle.vx_type_wire.specs.Lent.{lent_meaning};
 ghost use Rattle.vx_wire_tree.specs.Plugin.{PluginMeaning};
-ghost use Rattle.vx_registry.specs.Plugin.{IsAnswer, IsWrittenAs, head_in, parts_head};
+ghost use Rattle.vx_registry.specs.Plugin.{IsAnswer, IsWrittenAs, head_in, read_head};
 ghost use Rattle.vx_registry.specs.declared.plugin.PluginError.TheVariants.{OutOfMemory};
 
 use crate::serialization::{ArrayDeserialization, ArraySerialization};
@@ -84,7 +84,7 @@ pub trait ArrayPlugin: Drop {
         parts: ArrayDeserialization,
         ext: &Readers,
     ) -> Result<Array, PluginError>
-        ensures { IsAnswer ((means self.now).build (parts_head parts) parts.buffers parts.children (lent_meaning (λ r. accepted r.now) ext.now)) result };
+        ensures { IsAnswer ((means self.now).build (read_head parts) parts.buffers parts.children (lent_meaning (λ r. accepted r.now) ext.now)) result };
 
     /// Whether the plugin may build arrays of the encoding of this identifier.
     fn is_supported_encoding(&self, encoding: &Id) -> bool
@@ -136,7 +136,7 @@ pub fn build_by(
     parts: ArrayDeserialization,
     ext: &Readers,
 ) -> Result<Array, PluginError>
-    ensures { IsAnswer ((means plugin.now).build (parts_head parts) parts.buffers parts.children (lent_meaning (λ r. accepted r.now) ext.now)) result }
+    ensures { IsAnswer ((means plugin.now).build (read_head parts) parts.buffers parts.children (lent_meaning (λ r. accepted r.now) ext.now)) result }
 {
     plugin.build(alloc, parts, ext)
 }

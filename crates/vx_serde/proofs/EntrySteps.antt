@@ -20,7 +20,7 @@ use Rattle.vx_encodings.specs.declared.encoding.Encoding.TheVariants.{Primitive}
 use Rattle.vx_encodings.specs.declared.error.EncodingError.{EncodingError}
 use Rattle.vx_encodings.specs.declared.error.EncodingError.TheVariants as encodings
 use Rattle.vx_encodings.specs.declared.head.ArrayHead.{ArrayHead}
-use Rattle.vx_registry.specs.Plugin.{head_in, parts_head, IsAnswer}
+use Rattle.vx_registry.specs.Plugin.{head_in, read_head, IsAnswer}
 use Rattle.vx_registry.specs.declared.plugin.PluginError.{PluginError}
 use Rattle.vx_registry.specs.declared.plugin.PluginError.TheVariants as plugins
 use Rattle.vx_registry.specs.declared.serialization.ArrayDeserialization.{ArrayDeserialization}
@@ -94,22 +94,22 @@ module _ {B : Type 0} (means : B → PluginMeaning) where
     plugin_unplanned e h u =
         subst (λ r. RefusesPlan (plugin_refusal e) x r h) (sym own) (plugin_refuses e h (subst (λ z. IsAnswer {A = List Place} ((means b).plan (head_in h) z) (Err e)) lent u))
 
-    module _ (h : ArrayHead) (p : ArrayDeserialization) (bs : List Buffer) (ts : Trees) (head : parts_head p ≡ head_over h bs ts) (buffers : p.buffers ≡ bs) (children : p.children ≡ ts) where
-      same : (means b).build (parts_head p) p.buffers p.children y ≡ (means b).build (head_over h bs ts) bs ts x
+    module _ (h : ArrayHead) (p : ArrayDeserialization) (bs : List Buffer) (ts : Trees) (head : read_head p ≡ head_over h bs ts) (buffers : p.buffers ≡ bs) (children : p.children ≡ ts) where
+      same : (means b).build (read_head p) p.buffers p.children y ≡ (means b).build (head_over h bs ts) bs ts x
       same = λ i. (means b).build (head i) (buffers i) (children i) (lent i)
 
-      pub plugin_builds : (t : Tree) → (means b).build (parts_head p) p.buffers p.children y ≡ Some t → BuildsBy x (reader_of o) h bs ts t
+      pub plugin_builds : (t : Tree) → (means b).build (read_head p) p.buffers p.children y ≡ Some t → BuildsBy x (reader_of o) h bs ts t
       plugin_builds t e = subst (λ r. BuildsBy x r h bs ts t) (sym own) (sym same ∙ e)
 
       refuses_parts : (e : PluginError) → IsAnswer {A = Tree} ((means b).build (head_over h bs ts) bs ts x) (Err e) → RefusesBuild (plugin_refusal e) x (Some (plugin (means b))) h bs ts
       refuses_parts plugins.OutOfMemory u = tt
       refuses_parts plugins.Refused u = u
 
-      pub plugin_unbuilt : (e : PluginError) → IsAnswer {A = Tree} ((means b).build (parts_head p) p.buffers p.children y) (Err e) → RefusesBuild (plugin_refusal e) x (reader_of o) h bs ts
+      pub plugin_unbuilt : (e : PluginError) → IsAnswer {A = Tree} ((means b).build (read_head p) p.buffers p.children y) (Err e) → RefusesBuild (plugin_refusal e) x (reader_of o) h bs ts
       plugin_unbuilt e u =
           subst (λ r. RefusesBuild (plugin_refusal e) x r h bs ts) (sym own) (refuses_parts e (subst (λ z. IsAnswer {A = Tree} z (Err e)) same u))
 
 -- What is told of a node whose parts are there.
 pub told_parts : (p : ArrayDeserialization) (h : ArrayHead) (bs : List Buffer) (ts : Trees) → p.serialized_id ≡ h.serialized_id → typ p.dtype ≡ typ h.dtype → p.len ≡ h.len → p.metadata ≡ h.metadata → p.buffers ≡ bs → p.children ≡ ts
-    → parts_head p ≡ head_over h bs ts
+    → read_head p ≡ head_over h bs ts
 told_parts p h bs ts a b c d e f = λ i. record { id = a i; dtype = b i; len = c i; metadata = d i; nbuffers = length (e i); nchildren = count (f i) }

@@ -7,7 +7,7 @@ use Rattle.vx_types.specs.Seen.{typ}
 use Rattle.vx_types.specs.Typ.{Typ}
 use Rattle.vx_array_tree.specs.Place.{Place}
 use Rattle.vx_array_tree.specs.Tree.{Tree, Trees}
-use Rattle.vx_wire_tree.specs.Plugin.{NodeHead}
+use Rattle.vx_wire_tree.specs.Plugin.{NodeHead, parts_head}
 use Rattle.vx_wire_tree.specs.Session.{SessionMeaning, Reader, plugin, encoding_by, HoldsLength}
 use Rattle.vx_wire_tree.specs.Steps.{HasNoMetadata, PlansChildren, HasNoPlan, HasParts, HasWrongShape, HasWrongControl, HasWrongContent}
 use Rattle.vx_wire_tree.specs.Wire.{Wire}
@@ -57,9 +57,9 @@ RefusesPlan BadShape x r h = IsSomeAnd (encoding_by r) (λ e. HasNoPlan codec x 
 RefusesPlan PluginRefused x (Some (plugin p)) h = p.plan (head_in h) x ≡ None
 RefusesPlan _ x r h = ⊥
 
--- The head of a node whose parts are these.
+-- What is told of a node of this head once its buffers and children are there.
 abbrev pub head_over : ArrayHead → List Buffer → Trees → NodeHead
-head_over h bs ts = record { id = h.serialized_id; dtype = typ h.dtype; len = h.len; metadata = h.metadata; nbuffers = length bs; nchildren = count ts }
+head_over h bs ts = parts_head (record { id = h.serialized_id; metadata = h.metadata; buffers = bs; children = ts }) (typ h.dtype) h.len
 
 -- An array is built of a node's head, buffers and children: by its plugin, or by its encoding.
 abbrev pub BuildsBy : ExtMeaning → Option Reader → ArrayHead → List Buffer → Trees → Tree → Type 0

@@ -34,9 +34,13 @@ pub record Parts : Type 0 where
   pub buffers : List Buffer
   pub children : Trees
 
+-- What is told of a node of these parts, at a type and a length.
+abbrev pub parts_head : Parts → Typ → ℕ → NodeHead
+parts_head x d n = record { id = x.id; dtype = d; len = n; metadata = x.metadata; nbuffers = length x.buffers; nchildren = count x.children }
+
 -- What is told of an array that is written as these parts.
 abbrev pub head_of : Parts → Tree → NodeHead
-head_of x t = record { id = x.id; dtype = (label t).dtype; len = (label t).len; metadata = x.metadata; nbuffers = length x.buffers; nchildren = count x.children }
+head_of x t = parts_head x (label t).dtype (label t).len
 
 -- A plugin has no written form for an array, refuses it, or gives its parts.
 pub data Answer : Type 0 where

@@ -4,8 +4,7 @@ use Rattle.std.proofs.lemmas.Bool.{iff_false, false≢true}
 use Rattle.vx_types.specs.Seen.{typ}
 use Rattle.vx_types.specs.declared.dtype.DType.{DType}
 use Rattle.vx_array_tree.specs.Place.{place}
-use Rattle.vx_array_tree.specs.Tree.{Tree}
-use Rattle.vx_arrays.specs.Places.{array_place}
+use Rattle.vx_array_tree.specs.Tree.{Tree, array_place}
 use Rattle.vx_arrays.proofs.Columns.{columns-more, columns-at, columns-length}
 use Rattle.vx_arrays.proofs.structs.are_columns.Goals as goal
 
