@@ -10,6 +10,14 @@ mod Untold
 mod Comparing
 mod Feeding
 mod Rebuffered
+mod NullBodies
+mod BoolBodies
+mod PrimitiveBodies
+mod DecimalBodies
+mod VarBinBodies
+mod VarBinViewBodies
+mod ListViewBodies
+mod ForeignBodies
 pub mod LawsSame
 mod SameRows
 mod Firsts

@@ -1,39 +1,18 @@
 -- Arrays with other buffers, as their encodings make them.
-use Rattle.std.proofs.Common.{ℕ, suc, ◌≡◌, ◌≤◌, ◌-◌, take, drop, List, [], ◌∷◌, ◌++◌, Option, Some, None, Result, Ok, Err, IfOk, IfErr, length, get_or, option_map, refl, sym, ap, ◌∙◌, subst, arith}
+use Rattle.std.proofs.Common.{ℕ, ◌≡◌, ◌≤◌, List, [], ◌∷◌, Option, Some, None, Result, Ok, Err, IfOk, IfErr, length, get_or, option_map, refl, sym, ap, ◌∙◌, subst, arith}
 use Rattle.std.proofs.lemmas.Option.{same_Some, none-some}
 use Rattle.std.specs.Prelude.{IfSome, IsOkUnless, IsSomeAnd}
 use Rattle.vx_buffer.specs.Buffer.{Buffer}
 use Rattle.vx_trees.specs.Rose.{node, end, more, label, below, count, roses_of}
-use Rattle.vx_types.specs.Kind as K
-use Rattle.vx_types.specs.Digits.{Digits}
-use Rattle.vx_types.specs.Typ.{Typ}
-use Rattle.vx_types.specs.declared.decimal.DecimalType.{DecimalType}
-use Rattle.vx_types.specs.declared.nullability.Nullability.{Nullability}
-use Rattle.vx_types.specs.declared.ptype.PType.{PType}
 use Rattle.vx_scalars.specs.Stats.{Stats}
 use Rattle.vx_array_tree.specs.Body.{Body}
-use Rattle.vx_array_tree.specs.Body as B
-use Rattle.vx_array_tree.specs.Encodings.Nulls as Nulls
-use Rattle.vx_array_tree.specs.Encodings.Bools as Bools
-use Rattle.vx_array_tree.specs.Encodings.Primitives as Primitives
-use Rattle.vx_array_tree.specs.Encodings.Decimals as Decimals
-use Rattle.vx_array_tree.specs.Encodings.VarBins as VarBins
-use Rattle.vx_array_tree.specs.Encodings.VarBinViews as VarBinViews
-use Rattle.vx_array_tree.specs.Encodings.Foreigns as Foreigns
 use Rattle.vx_array_tree.specs.Place.{before_validity}
 use Rattle.vx_array_tree.specs.Refused.{IsWellShaped, IsMisshaped, IsForeignControlled, HasBrokenContent}
-use Rattle.vx_array_tree.specs.Sound.{IsControlled, IsSound, IsSoundNode}
+use Rattle.vx_array_tree.specs.Sound.{IsControlled, IsSound}
 use Rattle.vx_array_tree.specs.Table.{bufferless}
-use Rattle.vx_array_tree.specs.Tree.{Tree, Trees, Head, option_trees, places, untold, with_stats}
-use Rattle.vx_arrays.specs.Bools.{bool_tree}
-use Rattle.vx_arrays.specs.Decimals.{decimal_tree}
+use Rattle.vx_array_tree.specs.Tree.{Tree, Trees, Head, places, with_stats}
 use Rattle.vx_arrays.specs.NewBuffers.{rebuffered, with_buffers, RefusesBuffers}
-use Rattle.vx_arrays.specs.Nulls.{null_tree}
-use Rattle.vx_arrays.specs.Primitives.{primitive_tree}
 use Rattle.vx_arrays.specs.Refused.{IsMemory, IsUnmade, IsOkOrMemory}
-use Rattle.vx_arrays.specs.VarBins.{varbin_tree}
-use Rattle.vx_arrays.specs.VarBinViews.{varbinview_tree}
-use Rattle.vx_arrays.proofs.Parted.{first_and_behind, sound_counted}
 use Rattle.vx_arrays.specs.declared.error.ArrayError.{ArrayError}
 use Rattle.vx_arrays.specs.declared.error.ArrayError.TheVariants.{OutOfMemory, BadShape, BadContent, ForeignControl, ValueTooLarge, BadCast}
 
@@ -71,66 +50,6 @@ module _ (t u : Tree) (bs : List Buffer) (made : with_buffers t bs ≡ Some u) (
   pub answer_complete : (IsSound u → IsOkOrMemory r) → (v : Tree) → with_buffers t bs ≡ Some v → IsSound v → IsOkOrMemory r
   answer_complete h v e s = h (subst (λ (z : Tree). IsSound z) (sym (same_Some u v (sym made ∙ e))) s)
 
--- ---- nulls
-
-nulls_alone : (d : Typ) (n : ℕ) (ts : Trees) → Nulls.plan d n (count ts) ≡ Some (places ts) → (d ≡ node K.null end) × (ts ≡ end)
-nulls_alone (node K.null end) n end e = (refl, refl)
-nulls_alone (node K.null end) n (more t ts) e = absurd (cc)
-nulls_alone _ n ts e = absurd (cc)
-
--- Without buffers a node of nulls is what it was.
-pub nulls_made : (d : Typ) (n : ℕ) (ts : Trees) (bs : List Buffer) → IsSoundNode (untold d n B.null) ts → bs ≡ [] → with_buffers (node (untold d n B.null) ts) bs ≡ Some (null_tree n)
-nulls_made d n ts bs s e =
-    let p = nulls_alone d n ts s.planned in
-    ap (λ (cs : List Buffer). with_buffers (node (untold d n B.null) ts) cs) e ∙ (λ i. Some (node (untold (p.0 i) n B.null) (p.1 i)))
-
--- ---- flags, numbers and decimals
-
-pub bools_made : (d : Typ) (n : ℕ) (x : Bools.Data) (ts : Trees) (bs : List Buffer) (b : Buffer) (k : ℕ) (m : Nullability) (v : Option Tree) → d ≡ node (K.boolean m) end → k ≡ x.offset
-    → option_trees v ≡ ts → bs ≡ b ∷ [] → with_buffers (node (untold d n (B.bool x)) ts) bs ≡ Some (bool_tree b k n m v)
-bools_made d n x ts bs b k m v p q w e =
-    ap (λ (cs : List Buffer). with_buffers (node (untold d n (B.bool x)) ts) cs) e ∙ (λ i. Some (node (untold (p i) n (B.bool (record { bits = b; offset = sym q i }))) (sym w i)))
-
-pub primitives_made : (d : Typ) (n : ℕ) (x : Primitives.Data) (ts : Trees) (bs : List Buffer) (b : Buffer) (k : PType) (m : Nullability) (v : Option Tree) → d ≡ node (K.primitive k m) end
-    → option_trees v ≡ ts → bs ≡ b ∷ [] → with_buffers (node (untold d n (B.primitive x)) ts) bs ≡ Some (primitive_tree k m n b v)
-primitives_made d n x ts bs b k m v p w e =
-    ap (λ (cs : List Buffer). with_buffers (node (untold d n (B.primitive x)) ts) cs) e ∙ (λ i. Some (node (untold (p i) n (B.primitive (record { values = b }))) (sym w i)))
-
-pub decimals_made : (d : Typ) (n : ℕ) (x : Decimals.Data) (ts : Trees) (bs : List Buffer) (b : Buffer) (k : DecimalType) (digits : Digits) (m : Nullability) (v : Option Tree)
-    → d ≡ node (K.decimal digits.precision digits.scale m) end → k ≡ x.values_type → option_trees v ≡ ts → bs ≡ b ∷ []
-    → with_buffers (node (untold d n (B.decimal x)) ts) bs ≡ Some (decimal_tree b k digits m n v)
-decimals_made d n x ts bs b k digits m v p q w e =
-    ap (λ (cs : List Buffer). with_buffers (node (untold d n (B.decimal x)) ts) cs) e ∙ (λ i. Some (node (untold (p i) n (B.decimal (record { values = b; values_type = sym q i }))) (sym w i)))
-
--- ---- texts and bytes by views
-
--- The last of the buffers are the views.
-pub views_last : (front : List Buffer) (views : Buffer) → VarBinViews.body_of (front ++ views ∷ []) ≡ Some (record { buffers = front; views = views })
-views_last [] v = refl
-views_last (b ∷ bs) v = last (bs ++ v ∷ []) (views_last bs v)
-  where
-    last : (cs : List Buffer) → VarBinViews.body_of cs ≡ Some (record { buffers = bs; views = v }) → VarBinViews.body_of (b ∷ cs) ≡ Some (record { buffers = b ∷ bs; views = v })
-    last [] e = absurd (cc)
-    last (c ∷ cs) e = ap (λ (x : VarBinViews.Data). let y : VarBinViews.Data = record { buffers = b ∷ x.buffers; views = x.views } in Some y) (same_Some (VarBinViews.data_of c cs) (record { buffers = bs; views = v }) e)
-
-pub views_made : (d c : Typ) (n : ℕ) (x : VarBinViews.Data) (ts : Trees) (bs front : List Buffer) (views : Buffer) (v : Option Tree) → c ≡ d → option_trees v ≡ ts → bs ≡ front ++ views ∷ []
-    → with_buffers (node (untold d n (B.varbinview x)) ts) bs ≡ Some (varbinview_tree c n front views v)
-views_made d c n x ts bs front views v p q e =
-    ap (λ (o : Option VarBinViews.Data). option_map (λ (b : Body). node (untold d n b) ts) (option_map B.varbinview o)) (ap VarBinViews.body_of e ∙ views_last front views)
-    ∙ (λ i. Some (node (untold (sym p i) n (B.varbinview (record { buffers = front; views = views }))) (sym q i)))
-
--- ---- texts and bytes by offsets
-
-pub parts_made : (d c : Typ) (n : ℕ) (x : VarBins.Data) (ts : List Tree) (item o : Tree) (bs : List Buffer) (b : Buffer) (v : Option Tree) → IsSoundNode (untold d n (B.varbin x)) (roses_of ts)
-    → 1 ≤ length ts → item ≡ get_or ts 0 item → o ≡ item → c ≡ d → option_trees v ≡ roses_of (take (length ts - 1) (drop 1 ts)) → bs ≡ b ∷ []
-    → with_buffers (node (untold d n (B.varbin x)) (roses_of ts)) bs ≡ Some (varbin_tree c o b v)
-parts_made d c n x ts item o bs b v s l is q p w e =
-    let first : roses_of ts ≡ more item (roses_of (take (length ts - 1) (drop 1 ts))) = first_and_behind ts item l is in
-    let counted : (label o).len ≡ suc n = ap (λ (z : Tree). (label z).len) q ∙ sound_counted d n x (roses_of ts) item (roses_of (take (length ts - 1) (drop 1 ts))) first s in
-    let len : n ≡ (label o).len - 1 = omega (arith, counted) in
-    let children : roses_of ts ≡ more o (option_trees v) = first ∙ (λ i. more (sym q i) (sym w i)) in
-    ap (λ (cs : List Buffer). with_buffers (node (untold d n (B.varbin x)) (roses_of ts)) cs) e ∙ (λ i. Some (node (untold (sym p i) (len i) (B.varbin (record { bytes = b }))) (children i)))
-
 -- ---- nodes without buffers
 
 module _ (h : Head) (ts : Trees) (bs : List Buffer) (e : rebuffered h.body bs ≡ bufferless h.body bs) where
@@ -155,13 +74,6 @@ module _ (h : Head) (ts : Trees) (bs : List Buffer) (e : rebuffered h.body bs �
   -- Without buffers such a node is what it was.
   pub bare_made : bs ≡ [] → with_buffers (node h ts) bs ≡ Some (node h ts)
   bare_made q = remade ∙ ap (λ (cs : List Buffer). option_map (λ (b : Body). node (record { dtype = h.dtype; len = h.len; stats = h.stats; body = b }) ts) (bufferless h.body cs)) q
-
--- ---- foreign nodes
-
--- A foreign node takes any buffers in the place of its own.
-pub foreigns_made : (d : Typ) (n : ℕ) (x y : Foreigns.Data) (ts : Trees) (bs : List Buffer) → y ≡ Foreigns.body_of (Foreigns.metadata_of x) bs
-    → with_buffers (node (untold d n (B.foreign x)) ts) bs ≡ Some (node (untold d n (B.foreign y)) ts)
-foreigns_made d n x y ts bs q = λ i. Some (node (untold d n (B.foreign (sym q i))) ts)
 
 -- A want of memory is among the refusals, and is no other.
 pub memory_refused : (r : Result Tree ArrayError) (t : Tree) (bs : List Buffer) → IsOkUnless r OutOfMemory → IfErr r (λ x. RefusesBuffers x t bs)

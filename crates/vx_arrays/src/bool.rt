@@ -66,7 +66,7 @@ impl BoolData {
     }
 
     // Whether the bits and the offsets are equal, whatever the alignments.
-    #[tactic(auto, using(crate::proofs::Comparing::bodies))]
+    #[tactic(auto, using(crate::proofs::BoolBodies::bool_bodies))]
     pub(crate) fn array_eq(&self, other: &BoolData) -> bool
         ensures { IsTrue result ↔ (compared_body (B.bool self.now) ≡ compared_body (B.bool other.now)) }
     {

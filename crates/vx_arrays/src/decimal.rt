@@ -62,7 +62,7 @@ impl DecimalData {
     }
 
     // Whether the integers and their widths are equal, whatever the alignments.
-    #[tactic(auto, using(crate::proofs::Comparing::bodies))]
+    #[tactic(auto, using(crate::proofs::DecimalBodies::decimal_bodies))]
     pub(crate) fn array_eq(&self, other: &DecimalData) -> bool
         ensures { IsTrue result ↔ (compared_body (B.decimal self.now) ≡ compared_body (B.decimal other.now)) }
     {

@@ -160,7 +160,7 @@ impl ForeignData {
     }
 
     // Whether the identifiers, the bytes of the metadata and the buffers are equal, whatever the alignments.
-    #[tactic(auto, using(crate::proofs::Comparing::bodies))]
+    #[tactic(auto, using(crate::proofs::ForeignBodies::foreign_bodies))]
     pub(crate) fn array_eq(&self, other: &ForeignData) -> bool
         ensures { IsTrue result ↔ (compared_body (B.foreign self.now) ≡ compared_body (B.foreign other.now)) }
     {

@@ -57,7 +57,7 @@ impl ListViewData {
     }
 
     // Whether the flags are equal.
-    #[tactic(auto, using(crate::proofs::Comparing::bodies))]
+    #[tactic(auto, using(crate::proofs::ListViewBodies::list_view_bodies))]
     pub(crate) fn array_eq(&self, other: &ListViewData) -> bool
         ensures { IsTrue result ↔ (compared_body (B.listview self.now) ≡ compared_body (B.listview other.now)) }
     {

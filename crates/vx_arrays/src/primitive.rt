@@ -54,7 +54,7 @@ impl PrimitiveData {
     }
 
     // Whether the numbers are equal, whatever the alignments.
-    #[tactic(auto, using(crate::proofs::Comparing::bodies))]
+    #[tactic(auto, using(crate::proofs::PrimitiveBodies::primitive_bodies))]
     pub(crate) fn array_eq(&self, other: &PrimitiveData) -> bool
         ensures { IsTrue result ↔ (compared_body (B.primitive self.now) ≡ compared_body (B.primitive other.now)) }
     {

@@ -57,7 +57,7 @@ impl VarBinData {
     }
 
     // Whether the bytes are equal, whatever the alignments.
-    #[tactic(auto, using(crate::proofs::Comparing::bodies))]
+    #[tactic(auto, using(crate::proofs::VarBinBodies::varbin_bodies))]
     pub(crate) fn array_eq(&self, other: &VarBinData) -> bool
         ensures { IsTrue result ↔ (compared_body (B.varbin self.now) ≡ compared_body (B.varbin other.now)) }
     {

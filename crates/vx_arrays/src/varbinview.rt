@@ -107,7 +107,7 @@ impl VarBinViewData {
     }
 
     // Whether the views and the buffers that they name are equal, whatever the alignments.
-    #[tactic(auto, using(crate::proofs::Comparing::bodies))]
+    #[tactic(auto, using(crate::proofs::VarBinViewBodies::varbinview_bodies))]
     pub(crate) fn array_eq(&self, other: &VarBinViewData) -> bool
         ensures { IsTrue result ↔ (compared_body (B.varbinview self.now) ≡ compared_body (B.varbinview other.now)) }
     {

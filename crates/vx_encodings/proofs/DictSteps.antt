@@ -23,6 +23,7 @@ use Rattle.vx_array_tree.specs.Tree.{Tree, Trees, places}
 use Rattle.vx_array_tree.proofs.Plans.{exactly_is}
 use Rattle.vx_array_tree.proofs.Retyped.{own_places}
 use Rattle.vx_array_tree.proofs.LawsOfPlaces.{places_count}
+use Rattle.vx_array_tree.proofs.PlanCounts.{planned_count}
 use Rattle.vx_arrays.specs.Dicts.{dict_head}
 use Rattle.vx_arrays.specs.Refused.{IsUnmade}
 use Rattle.vx_arrays.specs.declared.error.ArrayError.{ArrayError}
@@ -30,7 +31,6 @@ use Rattle.vx_arrays.specs.declared.error.ArrayError.TheVariants as A
 use Rattle.vx_wire_tree.specs.Fields.{DictFields, codes_nullability}
 use Rattle.vx_encodings.proofs.DictFields.{dict_metadata, dict_read, dict_fields_are}
 use Rattle.vx_encodings.proofs.Fitting.{unfit}
-use Rattle.vx_encodings.proofs.Laws.{exactly_count}
 use Rattle.vx_encodings.proofs.Singles.{single_unplanned, single_built}
 use Rattle.vx_encodings.specs.DictMessage.{dict_schema, dict_value, kept_of}
 use Rattle.vx_encodings.specs.Steps.{IsPlanned, IsUnplanned, RefusesMetadata, IsWithoutPlan, IsBuilt, IsUnbuilt, constructor_error}
@@ -111,7 +111,7 @@ dict_plan x h us f r p =
     let m = dict_fields_are (typ h.dtype) h.metadata p.value f (dict_read x (typ h.dtype) h.metadata p.value p.metadata) r in
     let v = kept_of (typ h.dtype) f in
     let q = plan_some p.value v (typ h.dtype) h.len h.nchildren (places us) m.0 p.plan in
-    let k : h.nchildren ≡ count us = sym (exactly_count (place (node (primitive v.codes_ptype v.nullable_codes) end) h.len ∷ place (typ h.dtype) v.values_len ∷ []) h.nchildren (places us) q) ∙ places_count us in
+    let k : h.nchildren ≡ count us = sym (planned_count E.dict (typ h.dtype) h.len (M.dict v) h.nchildren (places us) q) ∙ places_count us in
     record { integer = m.1; planned = subst (λ (j : ℕ). plan (typ h.dtype) h.len v j ≡ Some (places us)) k q }
 
 -- Metadata is read again, and want of memory is the one refusal.

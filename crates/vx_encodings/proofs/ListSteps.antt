@@ -23,11 +23,11 @@ use Rattle.vx_array_tree.specs.Place.{Place, place, numbers, is_len, when, befor
 use Rattle.vx_array_tree.specs.Table.{IsShaped, body_of, plan_of}
 use Rattle.vx_array_tree.specs.Tree.{Tree, Trees, places, untold}
 use Rattle.vx_array_tree.proofs.LawsOfPlaces.{places_count}
+use Rattle.vx_array_tree.proofs.PlanCounts.{planned_count}
 use Rattle.vx_arrays.specs.Refused.{IsUnmade}
 use Rattle.vx_arrays.specs.declared.error.ArrayError.{ArrayError}
 use Rattle.vx_encodings.proofs.ElementCounts.{list_metadata, list_read, list_kind_is_integer}
 use Rattle.vx_encodings.proofs.Fitting.{constructor_refused}
-use Rattle.vx_encodings.proofs.Laws.{list_count}
 use Rattle.vx_encodings.proofs.Singles.{single_unplanned, single_built}
 use Rattle.vx_encodings.specs.ListMessage.{list_schema, list_value}
 use Rattle.vx_encodings.specs.Steps.{IsPlanned, IsUnplanned, RefusesMetadata, IsWithoutPlan, IsBuilt, IsUnbuilt, constructor_error}
@@ -107,7 +107,7 @@ pub list_plan : (x : ExtMeaning) (h : ArrayHead) (us : Trees) → IsPlanned x C.
 list_plan x h us p =
     let m = list_read x (typ h.dtype) h.metadata p.value p.metadata in
     let q = plan_some p.value m.elements_len m.offset_ptype (typ h.dtype) h.len h.nchildren (places us) m.value_is p.plan in
-    let k : h.nchildren ≡ count us = sym (list_count (typ h.dtype) h.len (kept m.elements_len m.offset_ptype) h.nchildren (places us) q) ∙ places_count us in
+    let k : h.nchildren ≡ count us = sym (planned_count E.list (typ h.dtype) h.len (M.list (kept m.elements_len m.offset_ptype)) h.nchildren (places us) q) ∙ places_count us in
     record {
       elements_len = m.elements_len;
       kind = m.offset_ptype;

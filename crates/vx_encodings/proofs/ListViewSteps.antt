@@ -17,12 +17,12 @@ use Rattle.vx_array_tree.specs.Metadata as M
 use Rattle.vx_array_tree.specs.Place.{Place, place, numbers, before_validity}
 use Rattle.vx_array_tree.specs.Table.{IsShaped, body_of, plan_of}
 use Rattle.vx_array_tree.specs.Tree.{Tree, Trees, places, untold}
+use Rattle.vx_array_tree.proofs.LawsOfPlaces.{places_count}
+use Rattle.vx_array_tree.proofs.PlanCounts.{planned_count}
 use Rattle.vx_arrays.specs.ListViews.{views_of}
 use Rattle.vx_arrays.specs.Refused.{IsUnmade}
 use Rattle.vx_arrays.specs.declared.error.ArrayError.{ArrayError}
 use Rattle.vx_encodings.proofs.Fitting.{constructor_refused}
-use Rattle.vx_encodings.proofs.Laws.{list_view_count}
-use Rattle.vx_array_tree.proofs.LawsOfPlaces.{places_count}
 use Rattle.vx_encodings.proofs.Singles.{single_unplanned, single_built}
 use Rattle.vx_encodings.proofs.ViewCounts.{views_metadata, views_read, views_fair}
 use Rattle.vx_encodings.specs.ListViewMessage.{view_schema, view_value}
@@ -103,7 +103,7 @@ pub list_view_plan : (x : ExtMeaning) (h : ArrayHead) (us : Trees) → IsPlanned
 list_view_plan x h us p =
     let m = views_read x (typ h.dtype) h.metadata p.value p.metadata in
     let q = plan_some p.value m.value (typ h.dtype) h.len h.nchildren (places us) m.value_is p.plan in
-    let k : h.nchildren ≡ count us = sym (list_view_count (typ h.dtype) h.len m.value h.nchildren (places us) q) ∙ places_count us in
+    let k : h.nchildren ≡ count us = sym (planned_count E.listview (typ h.dtype) h.len (M.listview m.value) h.nchildren (places us) q) ∙ places_count us in
     record {
       value = m.value;
       reads = m.reads;

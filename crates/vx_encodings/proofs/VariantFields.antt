@@ -1,7 +1,7 @@
 -- The metadata of variants: bytes that show a type, or none, and what readers know of it.
 use Rattle.std.proofs.Common.{ℕ, ◌≡◌, ◌^◌, ◌≤◌, ◌<◌, Option, Some, None, option_map, List, [], ◌∷◌, length, Result, Ok, Err, IfOk, refl, sym, ap, ◌∙◌, subst, arith}
 use Rattle.std.proofs.lemmas.Option.{none-some, same_Some}
-use Rattle.vx_trees.specs.Rose.{roses_of}
+use Rattle.vx_trees.specs.Rose.{label, below, roses_of}
 use Rattle.vx_trees.specs.Walks.{levels}
 use Rattle.vx_types.specs.Known.{ExtMeaning}
 use Rattle.vx_types.specs.Typ.{Typ, IsType}
@@ -18,11 +18,16 @@ use Rattle.vx_array_tree.specs.Encoding as E
 use Rattle.vx_array_tree.specs.Encodings.Variants.{IsFair, metadata_of}
 use Rattle.vx_array_tree.specs.Metadata.{Metadata}
 use Rattle.vx_array_tree.specs.Metadata as M
-use Rattle.vx_array_tree.specs.Tree.{Tree, places}
+use Rattle.vx_array_tree.specs.Tree.{Tree, Trees, places}
 use Rattle.vx_wire_tree.specs.Fields.{Fields, FitsMessage}
 use Rattle.vx_wire_tree.specs.Fields as F
 use Rattle.vx_wire_tree.specs.KnownTypes.{IsKnownIn}
+use Rattle.vx_wire_tree.specs.Limits.{HasMessage}
 use Rattle.vx_wire_tree.specs.Reads.{IsMetadata}
+use Rattle.vx_arrays.specs.Plain.{plain_body}
+use Rattle.vx_arrays.specs.declared.body.Body.{Body}
+use Rattle.vx_arrays.specs.declared.body.Body.TheVariants.{Variant}
+use Rattle.vx_encodings.proofs.Fit.{fits_over}
 use Rattle.vx_encodings.specs.Messages.{codec}
 use Rattle.vx_encodings.specs.Steps.{RefusesMetadata}
 use Rattle.vx_encodings.specs.VariantMessage.{IsShredded, IsUnshredded, IsUnknownMessage, ShowsVariant, shredded_value, variant_bytes, variant_parts, variant_schema, variant_value}
@@ -155,3 +160,9 @@ written_is v d (Ok bytes) e q = q ∙ ap (λ (z : Option Value). written variant
 written_is v d (Err error) e q = tt
 
 pub ruleset variant_written = (written_nests, written_is)
+
+-- ---- what fits
+
+-- The type in a root that fits its message has few levels.
+pub typed_fit : (t : Tree) (b : Body) (us : Trees) → b ≡ Variant → plain_body b ≡ (label t).body → us ≡ below t → HasMessage (label t) (below t) → FitsMessage (M.variant (metadata_of (places us)))
+typed_fit t b us e p u h = fits_over t b Variant e p us u h

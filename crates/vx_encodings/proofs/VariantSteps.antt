@@ -18,10 +18,10 @@ use Rattle.vx_array_tree.specs.Place.{Place, exactly}
 use Rattle.vx_array_tree.specs.Table.{IsShaped, body_of, plan_of}
 use Rattle.vx_array_tree.specs.Tree.{Tree, Trees, places, untold}
 use Rattle.vx_array_tree.proofs.LawsOfPlaces.{places_count}
+use Rattle.vx_array_tree.proofs.PlanCounts.{planned_count}
 use Rattle.vx_arrays.specs.Refused.{IsUnmade}
 use Rattle.vx_arrays.specs.declared.error.ArrayError.{ArrayError}
 use Rattle.vx_encodings.proofs.Fitting.{children_refused}
-use Rattle.vx_encodings.proofs.Laws.{plan_length}
 use Rattle.vx_encodings.proofs.Singles.{single_unplanned, single_built}
 use Rattle.vx_encodings.proofs.VariantFields.{variant_metadata, variant_read}
 use Rattle.vx_encodings.specs.Steps.{IsPlanned, IsUnplanned, IsWithoutPlan, IsBuilt, IsUnbuilt, constructor_error}
@@ -94,7 +94,7 @@ variant_plan x h us p =
     let k = variant_read x (typ h.dtype) h.metadata p.value p.metadata in
     let q : plan_of E.variant (typ h.dtype) h.len (M.variant k.shredded) h.nchildren ≡ Some (places us) =
     subst (λ (z : Metadata). plan_of E.variant (typ h.dtype) h.len z h.nchildren ≡ Some (places us)) k.value_is p.plan in
-    let c : h.nchildren ≡ count us = sym (plan_length Variant (typ h.dtype) h.len (M.variant k.shredded) h.nchildren (places us) q) ∙ places_count us in
+    let c : h.nchildren ≡ count us = sym (planned_count E.variant (typ h.dtype) h.len (M.variant k.shredded) h.nchildren (places us) q) ∙ places_count us in
     record {
       shredded = k.shredded;
       told = k.told;

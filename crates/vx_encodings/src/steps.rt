@@ -154,7 +154,7 @@ pub fn metadata(alloc: Global, array: &Array) -> Result<Blob, EncodingError>
 }
 
 // The bytes of metadata that fits its message.
-#[tactic(auto, using(crate::proofs::Kept::kept))]
+#[tactic(auto, using(crate::proofs::Kept::kept, crate::proofs::DictWritten::values_counted, crate::proofs::VariantFields::typed_fit))]
 fn metadata_by(alloc: Global, array: &Array) -> Result<Blob, EncodingError>
     requires { HasMessage (label array.now) (below array.now) }
     ensures ok { IfOk result (λ bytes. bytes ≡ message_bytes (told (metadata_in (label array.now) (below array.now)))) }

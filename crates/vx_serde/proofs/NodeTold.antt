@@ -19,6 +19,7 @@ use Rattle.vx_array_tree.specs.Sound.{IsSound, IsSoundNode}
 use Rattle.vx_array_tree.specs.Encoding as Encodings
 use Rattle.vx_array_tree.specs.Table.{plan_of, Allows, Content, IsShaped}
 use Rattle.vx_array_tree.specs.Tree.{Tree, Trees, places, rows_below}
+use Rattle.vx_array_tree.proofs.PlanCounts.{planned_count}
 use Rattle.vx_wire_tree.specs.Causes.{AllTell, IsOf, MayStandFor, HasChildren}
 use Rattle.vx_wire_tree.specs.Codec.{IsLawful}
 use Rattle.vx_wire_tree.specs.Matches.{Matches, AllMatch}
@@ -31,8 +32,8 @@ use Rattle.vx_wire_tree.specs.Tells.{Tells}
 use Rattle.vx_wire_tree.specs.Wire.{Wire, all_present}
 use Rattle.vx_wire_tree.proofs.Laws.{node_tells, revised_tells, matched_count, plugin_tells}
 use Rattle.vx_encodings.specs.Messages.{codec}
-use Rattle.vx_encodings.proofs.Laws.{one_value, plan_length}
-use Rattle.vx_encodings.specs.declared.encoding.Encoding.TheVariants.{Primitive}
+use Rattle.vx_encodings.specs.Plain.{plain_encoding}
+use Rattle.vx_encodings.proofs.Laws.{one_value}
 use Rattle.vx_encodings.specs.declared.head.ArrayHead.{ArrayHead}
 use Rattle.vx_registry.specs.Plugin.{head_in}
 use Rattle.vx_registry.specs.Meaning.{reader_in}
@@ -102,9 +103,9 @@ enough_by (Some p) x h ps ws w d n plan is own = p.one_each (head_in h) x ps pla
 
 pub enough : {Y : Type 0} {G : Y → Type 0} (means : DynBox Y Global G → PluginMeaning) (s : ArraySession Y G) (e : Entry) (x : ExtMeaning) (h : ArrayHead) (ps : List Place) (ws : List Wire) (w : Wire) (d : Typ) (n : ℕ) → PlansBy x (reader_in means s e) h ps → IsHeadOf h w d n → roses_of ws ≡ below w → length ps ≡ length ws
 enough means s (Shipped e) x h ps ws w d n plan is own =
-    plan_length e (typ h.dtype) h.len plan.0.value h.nchildren ps plan.0.plan ∙ is.children ∙ sym (ap (λ z. count z) own) ∙ count-roses_of ws
+    planned_count (plain_encoding e) (typ h.dtype) h.len plan.0.value h.nchildren ps plan.0.plan ∙ is.children ∙ sym (ap (λ z. count z) own) ∙ count-roses_of ws
 enough means s Revised x h ps ws w d n plan is own =
-    plan_length Primitive (typ h.dtype) h.len plan.0.value h.nchildren ps plan.0.plan ∙ is.children ∙ sym (ap (λ z. count z) own) ∙ count-roses_of ws
+    planned_count Encodings.primitive (typ h.dtype) h.len plan.0.value h.nchildren ps plan.0.plan ∙ is.children ∙ sym (ap (λ z. count z) own) ∙ count-roses_of ws
 enough means s (Boxed k) x h ps ws w d n plan is own = enough_by _ x h ps ws w d n plan is own
 
 pub get_past : {A : Type 0} (xs : List A) (i : ℕ) → i < length xs → slice_get xs i ≡ None → ⊥

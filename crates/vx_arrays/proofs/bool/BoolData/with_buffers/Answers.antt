@@ -7,7 +7,8 @@ use Rattle.vx_array_tree.specs.Encodings.Bools.{Data}
 use Rattle.vx_array_tree.specs.Tree.{Tree, untold}
 use Rattle.vx_arrays.specs.Bools.{bool_tree}
 use Rattle.vx_arrays.specs.NewBuffers.{with_buffers}
-use Rattle.vx_arrays.proofs.Rebuffered.{bools_made, answer_ok, answer_err, answer_complete}
+use Rattle.vx_arrays.proofs.BoolBodies.{bools_made}
+use Rattle.vx_arrays.proofs.Rebuffered.{answer_ok, answer_err, answer_complete}
 use Rattle.vx_arrays.proofs.bool.BoolData.with_buffers.Goals as goal
 
 pub returns-clause-ok : goal.returns-clause-ok

@@ -7,7 +7,8 @@ use Rattle.vx_array_tree.specs.Encodings.Decimals.{Data}
 use Rattle.vx_array_tree.specs.Tree.{Tree, untold}
 use Rattle.vx_arrays.specs.Decimals.{decimal_tree}
 use Rattle.vx_arrays.specs.NewBuffers.{with_buffers}
-use Rattle.vx_arrays.proofs.Rebuffered.{decimals_made, answer_ok, answer_err, answer_complete}
+use Rattle.vx_arrays.proofs.DecimalBodies.{decimals_made}
+use Rattle.vx_arrays.proofs.Rebuffered.{answer_ok, answer_err, answer_complete}
 use Rattle.vx_arrays.proofs.decimal.DecimalData.with_buffers.Goals as goal
 
 pub returns-clause-ok : goal.returns-clause-ok

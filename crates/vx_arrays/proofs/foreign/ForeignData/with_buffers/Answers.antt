@@ -4,7 +4,8 @@ use Rattle.vx_types.specs.Seen.{typ}
 use Rattle.vx_array_tree.specs.Body as B
 use Rattle.vx_array_tree.specs.Tree.{untold}
 use Rattle.vx_arrays.proofs.Controlled.{foreign_sound}
-use Rattle.vx_arrays.proofs.Rebuffered.{answer_ok, foreigns_made, memory_alone, memory_refused}
+use Rattle.vx_arrays.proofs.ForeignBodies.{foreigns_made}
+use Rattle.vx_arrays.proofs.Rebuffered.{answer_ok, memory_alone, memory_refused}
 use Rattle.vx_arrays.proofs.foreign.ForeignData.with_buffers.Goals as goal
 
 pub once_more-requires-clause-sound : goal.once_more-requires-clause-sound

@@ -4,7 +4,8 @@ use Rattle.vx_types.specs.Seen.{typ}
 use Rattle.vx_array_tree.specs.Body as B
 use Rattle.vx_array_tree.specs.Tree.{untold}
 use Rattle.vx_arrays.specs.Nulls.{null_tree}
-use Rattle.vx_arrays.proofs.Rebuffered.{nulls_made, answer_ok}
+use Rattle.vx_arrays.proofs.NullBodies.{nulls_made}
+use Rattle.vx_arrays.proofs.Rebuffered.{answer_ok}
 use Rattle.vx_arrays.proofs.null.NullArray.with_buffers.Goals as goal
 
 pub returns-clause-ok : goal.returns-clause-ok

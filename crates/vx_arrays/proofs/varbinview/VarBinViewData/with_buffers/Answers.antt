@@ -6,7 +6,8 @@ use Rattle.vx_array_tree.specs.Body as B
 use Rattle.vx_array_tree.specs.Tree.{Tree, untold}
 use Rattle.vx_arrays.specs.NewBuffers.{with_buffers}
 use Rattle.vx_arrays.specs.VarBinViews.{varbinview_tree}
-use Rattle.vx_arrays.proofs.Rebuffered.{views_made, answer_ok, answer_err, answer_complete}
+use Rattle.vx_arrays.proofs.VarBinViewBodies.{views_made}
+use Rattle.vx_arrays.proofs.Rebuffered.{answer_ok, answer_err, answer_complete}
 use Rattle.vx_arrays.proofs.varbinview.VarBinViewData.with_buffers.Goals as goal
 
 pub returns-clause-ok : goal.returns-clause-ok
