@@ -1,5 +1,6 @@
 //! Tests of encodings: decimals, texts and bytes by offsets, nodes, and what arrays of each encoding tell: the names of
-//! their parts, statistics, and which arrays are equal.
+//! their parts, statistics, and which arrays are equal. `proofs::WorkedMetadata` has the bytes of worked metadata, as the
+//! definitions compute them.
 #![tactic(auto)]
 
 #[cfg(test)]
