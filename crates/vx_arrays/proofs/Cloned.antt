@@ -6,7 +6,7 @@ use Rattle.vx_types.specs.Typ.{Typ}
 use Rattle.vx_scalars.specs.Stats.{Stats}
 use Rattle.vx_array_tree.specs.Sound.{IsSound, IsSoundNode}
 use Rattle.vx_array_tree.specs.Tree.{Tree, Trees}
-use Rattle.vx_arrays.specs.Plain.{plain_body, head_of}
+use Rattle.vx_arrays.specs.Plain.{plain_body, plain_head}
 use Rattle.vx_arrays.specs.declared.body.Body.{Body}
 
 -- All of the first children are the children.
@@ -15,11 +15,11 @@ all_of_them cs us i ts p h q = ap (λ (xs : List Tree). roses_of xs) (p ∙ take
 
 -- A node of the same parts is the same.
 pub same_again : (t : Tree) (d : Typ) (n : ℕ) (x : Stats) (b : Body) (ts : Trees) → d ≡ (label t).dtype → n ≡ (label t).len → x ≡ (label t).stats → plain_body b ≡ (label t).body → ts ≡ below t
-    → node (head_of d n x b) ts ≡ t
+    → node (plain_head d n x b) ts ≡ t
 same_again (node h us) d n x b ts p q r w e = λ i. node (record { dtype = p i; len = q i; stats = r i; body = w i }) (e i)
 
 -- It is sound as that is.
-pub sound_again : (t : Tree) (d : Typ) (n : ℕ) (x : Stats) (b : Body) (ts : Trees) → node (head_of d n x b) ts ≡ t → IsSound t → IsSoundNode (head_of d n x b) ts
+pub sound_again : (t : Tree) (d : Typ) (n : ℕ) (x : Stats) (b : Body) (ts : Trees) → node (plain_head d n x b) ts ≡ t → IsSound t → IsSoundNode (plain_head d n x b) ts
 sound_again t d n x b ts e s =
-    let g : IsSound (node (head_of d n x b) ts) = subst (λ (u : Tree). IsSound u) (sym e) s in
+    let g : IsSound (node (plain_head d n x b) ts) = subst (λ (u : Tree). IsSound u) (sym e) s in
     g.0

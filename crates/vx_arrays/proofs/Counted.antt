@@ -10,7 +10,7 @@ use Rattle.vx_array_tree.specs.Rows.{Rows, values_from, cells_from, values_at, c
 use Rattle.vx_array_tree.specs.Tree.{Tree, rows_of, rows_below}
 use Rattle.vx_arrays.specs.Parts.{HaveRow}
 use Rattle.vx_arrays.specs.Plain.{plain_value}
-use Rattle.vx_arrays.specs.Refused.{IsValueRefused}
+use Rattle.vx_arrays.specs.Refused.{RefusesCells}
 use Rattle.vx_arrays.specs.declared.error.ArrayError.{ArrayError}
 use Rattle.vx_arrays.specs.declared.row.RowValue.{RowValue}
 use Rattle.vx_arrays.specs.declared.error.ArrayError.TheVariants.{OutOfMemory, BadShape, BadContent, ForeignControl, ValueTooLarge, BadCast}
@@ -18,7 +18,7 @@ use Rattle.vx_arrays.specs.declared.error.ArrayError.TheVariants.{OutOfMemory, B
 -- ---- refusals
 
 -- What is refused for some cells is refused for more.
-pub refused_more : (e : ArrayError) (few many budget : ℕ) → few ≤ many → IsValueRefused e few budget → IsValueRefused e many budget
+pub refused_more : (e : ArrayError) (few many budget : ℕ) → few ≤ many → RefusesCells e few budget → RefusesCells e many budget
 refused_more OutOfMemory few many budget h r = tt
 refused_more BadShape few many budget h r = absurd r
 refused_more BadContent few many budget h r = absurd r
@@ -27,7 +27,7 @@ refused_more ValueTooLarge few many budget h r = omega (arith, h, r)
 refused_more BadCast few many budget h r = absurd r
 
 -- What is refused where some cells were spent is refused with them.
-pub refused_after : (e : ArrayError) (spent cells left budget total : ℕ) → budget ≡ spent + left → spent + cells ≤ total → IsValueRefused e cells left → IsValueRefused e total budget
+pub refused_after : (e : ArrayError) (spent cells left budget total : ℕ) → budget ≡ spent + left → spent + cells ≤ total → RefusesCells e cells left → RefusesCells e total budget
 refused_after OutOfMemory spent cells left budget total q h r = tt
 refused_after BadShape spent cells left budget total q h r = absurd r
 refused_after BadContent spent cells left budget total q h r = absurd r
@@ -42,8 +42,8 @@ same_row r v w e h = subst (λ (z : Value). IfOk r (λ row. plain_value row ≡ 
 pub same_spent : (r : Result RowValue ArrayError) (a b old new : ℕ) → a ≡ b → OnOk r (old ≡ a + new) → OnOk r (old ≡ b + new)
 same_spent r a b old new e h = subst (λ (n : ℕ). OnOk r (old ≡ n + new)) e h
 
-pub same_refused : (r : Result RowValue ArrayError) (a b budget : ℕ) → a ≡ b → IfErr r (λ e. IsValueRefused e a budget) → IfErr r (λ e. IsValueRefused e b budget)
-same_refused r a b budget e h = subst (λ (n : ℕ). IfErr r (λ x. IsValueRefused x n budget)) e h
+pub same_refused : (r : Result RowValue ArrayError) (a b budget : ℕ) → a ≡ b → IfErr r (λ e. RefusesCells e a budget) → IfErr r (λ e. RefusesCells e b budget)
+same_refused r a b budget e h = subst (λ (n : ℕ). IfErr r (λ x. RefusesCells x n budget)) e h
 
 -- Of a row that was built so many cells were there.
 pub cells_fit : (r : Result RowValue ArrayError) (cells old new : ℕ) → OnOk r (old ≡ cells + new) → IfOk r (λ _. cells ≤ old)

@@ -32,7 +32,7 @@ use Rattle.vx_array_tree.proofs.Plans.{exactly_is}
 use Rattle.vx_array_tree.proofs.RowsAgree.{AgreesAt, rows_agree}
 use Rattle.vx_array_tree.proofs.RowsOfSound.{rows_len}
 use Rattle.vx_arrays.specs.Dicts.{AreDictChildren, IsOfCodes, dict_head}
-use Rattle.vx_arrays.specs.Plain.{head_of}
+use Rattle.vx_arrays.specs.Plain.{plain_head}
 use Rattle.vx_arrays.specs.declared.body.Body.{Body}
 use Rattle.vx_arrays.specs.declared.body.Body.TheVariants.{Dict}
 use Rattle.vx_arrays.specs.declared.error.ArrayError.{ArrayError}
@@ -259,10 +259,10 @@ dict_over d n z x ts c v e s =
     subst (λ (us : Trees). IsDict (node (record { dtype = d; len = n; stats = z; body = B.dict x }) us) c v) (sym e)
     (dict_node d n z x c v (subst (λ (us : Trees). IsSoundNode (untold d n (B.dict x)) us) e s))
 
-pub dict_of : (d : Typ) (n : ℕ) (z : Stats) (b : Body) (x : Data) (ts : Trees) (t c v : Tree) → b ≡ Dict x → node (head_of d n z b) ts ≡ t → IsSoundNode (head_of d n z b) ts → ts ≡ more c (more v end) → IsDict t c v
+pub dict_of : (d : Typ) (n : ℕ) (z : Stats) (b : Body) (x : Data) (ts : Trees) (t c v : Tree) → b ≡ Dict x → node (plain_head d n z b) ts ≡ t → IsSoundNode (plain_head d n z b) ts → ts ≡ more c (more v end) → IsDict t c v
 dict_of d n z b x ts t c v q w s e =
-    let f : IsSoundNode (head_of d n z (Dict x)) ts = subst (λ (y : Body). IsSoundNode (head_of d n z y) ts) q s in
-    let g : node (head_of d n z (Dict x)) ts ≡ t = ap (λ (y : Body). node (head_of d n z y) ts) (sym q) ∙ w in
+    let f : IsSoundNode (plain_head d n z (Dict x)) ts = subst (λ (y : Body). IsSoundNode (plain_head d n z y) ts) q s in
+    let g : node (plain_head d n z (Dict x)) ts ≡ t = ap (λ (y : Body). node (plain_head d n z y) ts) (sym q) ∙ w in
     subst (λ (u : Tree). IsDict u c v) g (dict_over d n z x ts c v e (untold_node d n z (B.dict x) ts f))
 
 -- A row of the dictionary is that of the values which its code names.

@@ -12,7 +12,7 @@ use Rattle.vx_array_tree.specs.Place.{before_validity}
 use Rattle.vx_types.specs.Value.{flag_in}
 use Rattle.vx_array_tree.specs.Sound.{IsSoundNode}
 use Rattle.vx_array_tree.specs.Tree.{Trees, places, rows_of}
-use Rattle.vx_arrays.specs.Plain.{head_of}
+use Rattle.vx_arrays.specs.Plain.{plain_head}
 use Rattle.vx_arrays.specs.declared.body.Body.{Body}
 use Rattle.vx_arrays.specs.declared.body.Body.TheVariants.{Bool}
 
@@ -31,8 +31,8 @@ flag_at : (d : Typ) (n i : ℕ) (z : Stats) (x : Data) (ts : Trees) → ts ≡ e
 flag_at d n i z x ts e = subst (λ (us : Trees). Some (bit_at x.bits.bytes (x.offset + i)) ≡ flag_in ((rows_of (node (record { dtype = d; len = n; stats = z; body = B.bool x }) us)).row i)) (sym e) refl
 
 -- A row of theirs is its bit.
-pub flag_row : (d : Typ) (n i : ℕ) (z : Stats) (b : Body) (x : Data) (ts : Trees) → b ≡ Bool x → d ≡ node (boolean NonNullable) end → IsSoundNode (head_of d n z b) ts
-    → Some (bit_at x.bits.bytes (x.offset + i)) ≡ flag_in ((rows_of (node (head_of d n z b) ts)).row i)
+pub flag_row : (d : Typ) (n i : ℕ) (z : Stats) (b : Body) (x : Data) (ts : Trees) → b ≡ Bool x → d ≡ node (boolean NonNullable) end → IsSoundNode (plain_head d n z b) ts
+    → Some (bit_at x.bits.bytes (x.offset + i)) ≡ flag_in ((rows_of (node (plain_head d n z b) ts)).row i)
 flag_row d n i z b x ts p e s =
-    let q : IsSoundNode (head_of d n z (Bool x)) ts = subst (λ (c : Body). IsSoundNode (head_of d n z c) ts) p s in
-    subst (λ (c : Body). Some (bit_at x.bits.bytes (x.offset + i)) ≡ flag_in ((rows_of (node (head_of d n z c) ts)).row i)) (sym p) (flag_at d n i z x ts (bare d n z x ts e q))
+    let q : IsSoundNode (plain_head d n z (Bool x)) ts = subst (λ (c : Body). IsSoundNode (plain_head d n z c) ts) p s in
+    subst (λ (c : Body). Some (bit_at x.bits.bytes (x.offset + i)) ≡ flag_in ((rows_of (node (plain_head d n z c) ts)).row i)) (sym p) (flag_at d n i z x ts (bare d n z x ts e q))

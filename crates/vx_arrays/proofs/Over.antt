@@ -7,7 +7,7 @@ use Rattle.vx_array_tree.specs.Refused.{IsWellShaped}
 use Rattle.vx_array_tree.specs.Sound.{IsControlled, IsSound, IsSoundNode}
 use Rattle.vx_array_tree.specs.Table.{Content}
 use Rattle.vx_array_tree.specs.Tree.{Head, Tree, Trees, rows_below}
-use Rattle.vx_arrays.specs.Refused.{IsUnmade, IsOkOrMemory}
+use Rattle.vx_arrays.specs.Refused.{RefusesMaking, IsOkOrMemory}
 use Rattle.vx_arrays.specs.declared.error.ArrayError.{ArrayError}
 
 module _ (g h : Head) (ts us : Trees) (p : g ≡ h) (e : ts ≡ us) where
@@ -17,8 +17,8 @@ module _ (g h : Head) (ts us : Trees) (p : g ≡ h) (e : ts ≡ us) where
   pub made_over : (r : Result Tree ArrayError) → IfOk r (λ a. a ≡ node g ts) → IfOk r (λ a. a ≡ node h us)
   made_over r q = subst (λ (t : Tree). IfOk r (λ a. a ≡ t)) same_node q
 
-  pub unmade_over : (r : Result Tree ArrayError) → IfErr r (λ x. IsUnmade x (node g ts)) → IfErr r (λ x. IsUnmade x (node h us))
-  unmade_over r q = subst (λ (t : Tree). IfErr r (λ x. IsUnmade x t)) same_node q
+  pub unmade_over : (r : Result Tree ArrayError) → IfErr r (λ x. RefusesMaking x (node g ts)) → IfErr r (λ x. RefusesMaking x (node h us))
+  unmade_over r q = subst (λ (t : Tree). IfErr r (λ x. RefusesMaking x t)) same_node q
 
   pub complete_over : (r : Result Tree ArrayError) → (IsSound (node g ts) → IsOkOrMemory r) → IsSound (node h us) → IsOkOrMemory r
   complete_over r q = subst (λ (t : Tree). IsSound t → IsOkOrMemory r) same_node q

@@ -12,7 +12,7 @@ use Rattle.vx_array_tree.specs.Sound.{IsControlled, IsSound}
 use Rattle.vx_array_tree.specs.Table.{bufferless}
 use Rattle.vx_array_tree.specs.Tree.{Tree, Trees, Head, places, with_stats}
 use Rattle.vx_arrays.specs.NewBuffers.{rebuffered, with_buffers, RefusesBuffers}
-use Rattle.vx_arrays.specs.Refused.{IsMemory, IsUnmade, IsOkOrMemory}
+use Rattle.vx_arrays.specs.Refused.{IsMemory, RefusesMaking, IsOkOrMemory}
 use Rattle.vx_arrays.specs.declared.error.ArrayError.{ArrayError}
 use Rattle.vx_arrays.specs.declared.error.ArrayError.TheVariants.{OutOfMemory, BadShape, BadContent, ForeignControl, ValueTooLarge, BadCast}
 
@@ -32,7 +32,7 @@ module _ (t u : Tree) (bs : List Buffer) (made : with_buffers t bs ≡ Some u) (
       ok (Ok a) h = made ∙ ap (λ z. Some z) (sym h)
       ok (Err e) h = tt
 
-  refused : (e : ArrayError) → IsUnmade e u → RefusesBuffers e t bs
+  refused : (e : ArrayError) → RefusesMaking e u → RefusesBuffers e t bs
   refused OutOfMemory h = tt
   refused BadShape h = subst (λ (o : Option Tree). IfSome o (λ v. IsMisshaped (label v) (below v))) (sym made) h
   refused BadContent h = subst (λ (o : Option Tree). IsSomeAnd o (λ v. HasBrokenContent (label v) (below v))) (sym made) h
@@ -40,10 +40,10 @@ module _ (t u : Tree) (bs : List Buffer) (made : with_buffers t bs ≡ Some u) (
   refused ValueTooLarge h = h
   refused BadCast h = h
 
-  pub answer_err : IfErr r (λ e. IsUnmade e u) → IfErr r (λ e. RefusesBuffers e t bs)
+  pub answer_err : IfErr r (λ e. RefusesMaking e u) → IfErr r (λ e. RefusesBuffers e t bs)
   answer_err h = err r h
     where
-      err : (r : Result Tree ArrayError) → IfErr r (λ e. IsUnmade e u) → IfErr r (λ e. RefusesBuffers e t bs)
+      err : (r : Result Tree ArrayError) → IfErr r (λ e. RefusesMaking e u) → IfErr r (λ e. RefusesBuffers e t bs)
       err (Ok a) h = tt
       err (Err e) h = refused e h
 

@@ -23,7 +23,7 @@ use Rattle.vx_array_tree.specs.Tree.{Tree, row_at}
 use Rattle.vx_array_tree.proofs.RowsOfSound.{rows_fit}
 use Rattle.vx_arrays.specs.Merging.{fallback_of}
 use Rattle.vx_arrays.specs.Plain.{plain_value, plain_values}
-use Rattle.vx_arrays.specs.Refused.{IsValueRefused}
+use Rattle.vx_arrays.specs.Refused.{RefusesCells}
 use Rattle.vx_arrays.specs.RowScalars.{IsVariantRow, hides}
 use Rattle.vx_arrays.specs.Variants.{merged_row}
 use Rattle.vx_arrays.specs.declared.error.ArrayError.{ArrayError}
@@ -293,14 +293,14 @@ least_left (Ok row) budget own core typed a b e m left p q h k l = omega (arith,
 least_left (Err x) budget own core typed a b e m left p q h k l = tt
 
 -- What is refused for the cells of one of three is refused for the greatest.
-pub own_refused : (r : Result RowValue ArrayError) (budget own others : ℕ) → IfErr r (λ e. IsValueRefused e own budget) → IfErr r (λ e. IsValueRefused e (max own others) budget)
+pub own_refused : (r : Result RowValue ArrayError) (budget own others : ℕ) → IfErr r (λ e. RefusesCells e own budget) → IfErr r (λ e. RefusesCells e (max own others) budget)
 own_refused (Ok row) budget own others h = tt
 own_refused (Err e) budget own others h = refused_more e own (max own others) budget (omega arith) h
 
-pub core_refused : (e : ArrayError) (budget own core typed : ℕ) → IsValueRefused e core budget → IsValueRefused e (max own (max core typed)) budget
+pub core_refused : (e : ArrayError) (budget own core typed : ℕ) → RefusesCells e core budget → RefusesCells e (max own (max core typed)) budget
 core_refused e budget own core typed h = refused_more e core (max own (max core typed)) budget (omega arith) h
 
-pub typed_refused : (e : ArrayError) (budget own core typed : ℕ) → IsValueRefused e typed budget → IsValueRefused e (max own (max core typed)) budget
+pub typed_refused : (e : ArrayError) (budget own core typed : ℕ) → RefusesCells e typed budget → RefusesCells e (max own (max core typed)) budget
 typed_refused e budget own core typed h = refused_more e typed (max own (max core typed)) budget (omega arith) h
 
 -- ---- for the steps

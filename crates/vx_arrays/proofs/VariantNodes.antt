@@ -13,7 +13,7 @@ use Rattle.vx_array_tree.specs.Encodings.Variants.{valid_over}
 use Rattle.vx_types.specs.Value.{flag_in}
 use Rattle.vx_array_tree.specs.Sound.{IsSound, IsSoundNode}
 use Rattle.vx_array_tree.specs.Tree.{Tree, Trees, row_at, valid_at}
-use Rattle.vx_arrays.specs.Plain.{head_of}
+use Rattle.vx_arrays.specs.Plain.{plain_head}
 use Rattle.vx_arrays.specs.RowScalars.{IsVariantRow}
 use Rattle.vx_arrays.proofs.Scalared.{variant_row}
 use Rattle.vx_arrays.proofs.Shredded.{node_variants}
@@ -33,10 +33,10 @@ row_no_flag (node opaque vs) i = refl
 row_no_flag (node (variant d) vs) i = refl
 row_no_flag _ i = absurd i
 
-module _ (d : Typ) (n : ℕ) (z : Stats) (b : Body) (ts : Trees) (t : Tree) (i : ℕ) (q : b ≡ Variant) (w : node (head_of d n z b) ts ≡ t) (s : IsSound (node (head_of d n z b) ts)) (h : i < (label t).len) where
+module _ (d : Typ) (n : ℕ) (z : Stats) (b : Body) (ts : Trees) (t : Tree) (i : ℕ) (q : b ≡ Variant) (w : node (plain_head d n z b) ts ≡ t) (s : IsSound (node (plain_head d n z b) ts)) (h : i < (label t).len) where
   of_variants : IsVariant (label t).dtype
   of_variants =
-      let f : IsSoundNode (head_of d n z Variant) ts = subst (λ (y : Body). IsSoundNode (head_of d n z y) ts) q s.0 in
+      let f : IsSoundNode (plain_head d n z Variant) ts = subst (λ (y : Body). IsSoundNode (plain_head d n z y) ts) q s.0 in
       subst (λ (u : Tree). IsVariant (label u).dtype) w (node_variants d n ts (untold_node d n z B.variant ts f))
 
   its_row : IsVariantRow (row_at t i)
@@ -51,9 +51,9 @@ module _ (d : Typ) (n : ℕ) (z : Stats) (b : Body) (ts : Trees) (t : Tree) (i :
 
 -- ---- which rows are there
 
-module _ (d : Typ) (n : ℕ) (z : Stats) (b : Body) (ts : Trees) (t c : Tree) (us : List Tree) (i : ℕ) (q : b ≡ Variant) (w : node (head_of d n z b) ts ≡ t) (e : more c (roses_of us) ≡ ts) where
-  whole : node (head_of d n z Variant) (more c (roses_of us)) ≡ t
-  whole = ap (λ (y : Body). node (head_of d n z y) (more c (roses_of us))) (sym q) ∙ ap (λ (vs : Trees). node (head_of d n z b) vs) e ∙ w
+module _ (d : Typ) (n : ℕ) (z : Stats) (b : Body) (ts : Trees) (t c : Tree) (us : List Tree) (i : ℕ) (q : b ≡ Variant) (w : node (plain_head d n z b) ts ≡ t) (e : more c (roses_of us) ≡ ts) where
+  whole : node (plain_head d n z Variant) (more c (roses_of us)) ≡ t
+  whole = ap (λ (y : Body). node (plain_head d n z y) (more c (roses_of us))) (sym q) ∙ ap (λ (vs : Trees). node (plain_head d n z b) vs) e ∙ w
 
   pub core_below : nodes c < nodes t
   core_below = omega (arith, ap (λ (u : Tree). nodes u) whole)
@@ -64,7 +64,7 @@ module _ (d : Typ) (n : ℕ) (z : Stats) (b : Body) (ts : Trees) (t c : Tree) (u
   pub lone_there : length us ≡ 0 → valid_at c i ≡ valid_at t i
   lone_there l = alone us l whole
     where
-      alone : (us : List Tree) → length us ≡ 0 → node (head_of d n z Variant) (more c (roses_of us)) ≡ t → valid_at c i ≡ valid_at t i
+      alone : (us : List Tree) → length us ≡ 0 → node (plain_head d n z Variant) (more c (roses_of us)) ≡ t → valid_at c i ≡ valid_at t i
       alone [] l whole = ap (λ (u : Tree). valid_at u i) whole
       alone (u ∷ us) l whole = absurd (omega (arith, l))
 
@@ -76,8 +76,8 @@ module _ (d : Typ) (n : ℕ) (z : Stats) (b : Body) (ts : Trees) (t c : Tree) (u
         front [] l f = absurd (omega (arith, l))
         front (u ∷ us) l f = (roses_of us, ap (λ (v : Tree). more v (roses_of us)) (sym f))
 
-    both_whole : node (head_of d n z Variant) (more c (more s in_front.0)) ≡ t
-    both_whole = ap (λ (vs : Trees). node (head_of d n z Variant) (more c vs)) (sym in_front.1) ∙ whole
+    both_whole : node (plain_head d n z Variant) (more c (more s in_front.0)) ≡ t
+    both_whole = ap (λ (vs : Trees). node (plain_head d n z Variant) (more c vs)) (sym in_front.1) ∙ whole
 
     pub shredded_below : nodes s < nodes t
     shredded_below = omega (arith, ap (λ (u : Tree). nodes u) both_whole)

@@ -75,7 +75,7 @@ abbrev pub merged_structures : Raw → Raw → Value
 merged_structures t r = joined (merged_fields t.values t.names t.types r) r
 
 -- A merge is refused for want of memory, or where it is null and of a type without nulls.
-abbrev pub IsUnmerged : ArrayError → Typ → Value → Type 0
-IsUnmerged OutOfMemory d v = Unit {0}
-IsUnmerged BadCast d v = (v ≡ lone null) × (nullability d ≡ NonNullable)
-IsUnmerged _ d v = ⊥
+abbrev pub RefusesMerge : ArrayError → Typ → Value → Type 0
+RefusesMerge OutOfMemory d v = Unit {0}
+RefusesMerge BadCast d v = (v ≡ lone null) × (nullability d ≡ NonNullable)
+RefusesMerge _ d v = ⊥

@@ -33,8 +33,8 @@ plain_body Variant = B.variant
 plain_body (Foreign x) = B.foreign x
 
 -- A node without its children, by its type, its rows, what is told of them, and what its encoding holds.
-abbrev pub head_of : Typ → ℕ → Stats → Body → Head
-head_of d n x b = record { dtype = d; len = n; stats = x; body = plain_body b }
+abbrev pub plain_head : Typ → ℕ → Stats → Body → Head
+plain_head d n x b = record { dtype = d; len = n; stats = x; body = plain_body b }
 
 -- The value of a row.
 abbrev pub plain_value : RowValue → Value

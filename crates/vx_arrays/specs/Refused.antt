@@ -10,26 +10,26 @@ use Rattle.vx_arrays.specs.declared.error.ArrayError.TheVariants.{OutOfMemory, B
 -- A constructor refuses the tree of its parts for want of memory, where its root is of another shape than its
 -- encoding asks for, where its root is of that shape and a foreign node stands where it says where rows are, or where
 -- neither is so and its content is broken.
-abbrev pub IsUnmade : ArrayError → Tree → Type 0
-IsUnmade OutOfMemory t = Unit {0}
-IsUnmade BadShape t = IsMisshaped (label t) (below t)
-IsUnmade BadContent t = HasBrokenContent (label t) (below t)
-IsUnmade ForeignControl t = IsForeignControlled (label t) (below t)
-IsUnmade ValueTooLarge t = ⊥
-IsUnmade BadCast t = ⊥
+abbrev pub RefusesMaking : ArrayError → Tree → Type 0
+RefusesMaking OutOfMemory t = Unit {0}
+RefusesMaking BadShape t = IsMisshaped (label t) (below t)
+RefusesMaking BadContent t = HasBrokenContent (label t) (below t)
+RefusesMaking ForeignControl t = IsForeignControlled (label t) (below t)
+RefusesMaking ValueTooLarge t = ⊥
+RefusesMaking BadCast t = ⊥
 
 -- A value of so many cells is refused for want of memory, or where they are more than there are to spend.
-abbrev pub IsValueRefused : ArrayError → ℕ → ℕ → Type 0
-IsValueRefused OutOfMemory cells budget = Unit {0}
-IsValueRefused BadShape cells budget = ⊥
-IsValueRefused BadContent cells budget = ⊥
-IsValueRefused ForeignControl cells budget = ⊥
-IsValueRefused ValueTooLarge cells budget = budget < cells
-IsValueRefused BadCast cells budget = ⊥
+abbrev pub RefusesCells : ArrayError → ℕ → ℕ → Type 0
+RefusesCells OutOfMemory cells budget = Unit {0}
+RefusesCells BadShape cells budget = ⊥
+RefusesCells BadContent cells budget = ⊥
+RefusesCells ForeignControl cells budget = ⊥
+RefusesCells ValueTooLarge cells budget = budget < cells
+RefusesCells BadCast cells budget = ⊥
 
 -- A row is refused as its value is.
-abbrev pub IsRowRefused : ArrayError → Rows → ℕ → ℕ → Type 0
-IsRowRefused e r i budget = IsValueRefused e (r.cells i) budget
+abbrev pub RefusesRow : ArrayError → Rows → ℕ → ℕ → Type 0
+RefusesRow e r i budget = RefusesCells e (r.cells i) budget
 
 -- Of the refusals this one is want of memory.
 abbrev pub IsMemory : ArrayError → Type 0

@@ -17,8 +17,8 @@ ghost use Rattle.vx_array_tree.specs.Tree.{Tree, rows_of, rows_below, row_at, va
 ghost use Rattle.vx_trees.specs.Walks.{nodes};
 ghost use Rattle.vx_arrays.specs.NewBuffers.{RefusesBuffers, with_buffers};
 ghost use Rattle.vx_arrays.specs.Parts.{AreThere, parts_cells, parts_nodes, parts_value};
-ghost use Rattle.vx_arrays.specs.Plain.{plain_body, head_of, plain_value};
-ghost use Rattle.vx_arrays.specs.Refused.{IsRowRefused, IsOkOrMemory};
+ghost use Rattle.vx_arrays.specs.Plain.{plain_body, plain_head, plain_value};
+ghost use Rattle.vx_arrays.specs.Refused.{RefusesRow, IsOkOrMemory};
 
 use crate::body::Body;
 use crate::error::ArrayError;
@@ -76,11 +76,11 @@ impl Model for Array {
     ghost use Rattle.vx_trees.proofs.Counting.{most_le-nodes};
     ghost use Rattle.vx_types.specs.Seen.{typ};
     ghost use Rattle.vx_array_tree.specs.Sound.{IsSound};
-    ghost use Rattle.vx_arrays.specs.Plain.{head_of};
+    ghost use Rattle.vx_arrays.specs.Plain.{plain_head};
 
-    ghost view = { λ a. node (head_of (typ a.dtype) a.len a.stats a.body) (roses_of a.children.items) };
+    ghost view = { λ a. node (plain_head (typ a.dtype) a.len a.stats a.body) (roses_of a.children.items) };
 
-    ghost invariant = { λ a. IsSound (node (head_of (typ a.dtype) a.len a.stats a.body) (roses_of a.children.items)) };
+    ghost invariant = { λ a. IsSound (node (plain_head (typ a.dtype) a.len a.stats a.body) (roses_of a.children.items)) };
 
     ghost size = { nodes };
 
@@ -110,9 +110,9 @@ impl Array {
         body: Body,
         children: Vec<Array>,
     ) -> Array
-        requires node { IsSoundNode (head_of (typ dtype) len stats body) (roses_of children.items) }
+        requires node { IsSoundNode (plain_head (typ dtype) len stats body) (roses_of children.items) }
         requires below { EverywhereBelow IsSoundNode (roses_of children.items) }
-        ensures { result ≡ node (head_of (typ dtype) len stats body) (roses_of children.items) }
+        ensures { result ≡ node (plain_head (typ dtype) len stats body) (roses_of children.items) }
     {
         Array {
             dtype,
@@ -412,7 +412,7 @@ impl Array {
         requires { index < (label self.now).len }
         ensures row { IfOk result (λ row. plain_value row ≡ row_at self.now index) }
         ensures spent { OnOk result (budget.old ≡ cells self.now index + budget.new) }
-        ensures err { IfErr result (λ e. IsRowRefused e (rows_of self.now) index budget.old) }
+        ensures err { IfErr result (λ e. RefusesRow e (rows_of self.now) index budget.old) }
     {
         let parts = self.parts_at(index);
         built(alloc, parts, budget)
@@ -424,7 +424,7 @@ impl Array {
         requires { index < (label self.now).len }
         ensures row { IfOk result (λ row. plain_value row ≡ row_at self.now index) }
         ensures fits { IfOk result (λ _. cells self.now index ≤ budget) }
-        ensures err { IfErr result (λ e. IsRowRefused e (rows_of self.now) index budget) }
+        ensures err { IfErr result (λ e. RefusesRow e (rows_of self.now) index budget) }
     {
         let mut left = budget;
         self.row_within(alloc, index, &mut left)

@@ -15,7 +15,7 @@ ghost use Rattle.vx_arrays.specs.Bools.{bool_tree};
 ghost use Rattle.vx_arrays.specs.Compared.{compared_body};
 ghost use Rattle.vx_arrays.specs.NewBuffers.{RefusesBuffers, with_buffers};
 ghost use Rattle.vx_arrays.specs.Parts.{lone_mark};
-ghost use Rattle.vx_arrays.specs.Refused.{IsUnmade, IsOkOrMemory};
+ghost use Rattle.vx_arrays.specs.Refused.{RefusesMaking, IsOkOrMemory};
 
 use crate::array::Array;
 use crate::body::Body;
@@ -173,7 +173,7 @@ impl BoolArray {
     ) -> Result<Array, ArrayError>
         ensures ok { IfOk result (λ a. a ≡ bool_tree bits offset len nullability validity) }
         ensures sound { IfOk result IsSound }
-        ensures err { IfErr result (λ e. IsUnmade e (bool_tree bits offset len nullability validity)) }
+        ensures err { IfErr result (λ e. RefusesMaking e (bool_tree bits offset len nullability validity)) }
         ensures complete { IsSound (bool_tree bits offset len nullability validity) → IsOkOrMemory result }
     {
         if offset >= 8 {

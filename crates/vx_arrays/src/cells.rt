@@ -5,7 +5,7 @@ ghost use Rattle.vx_trees.specs.Rose.{roses_of};
 ghost use Rattle.vx_types.specs.Value.{value_cells, values_cells};
 ghost use Rattle.vx_scalars.specs.Seen.{all_seen, seen};
 ghost use Rattle.vx_arrays.specs.Plain.{plain_value};
-ghost use Rattle.vx_arrays.specs.Refused.{IsValueRefused};
+ghost use Rattle.vx_arrays.specs.Refused.{RefusesCells};
 ghost use Rattle.vx_arrays.specs.RowScalars.{IsVariantRow};
 
 use crate::error::ArrayError;
@@ -18,7 +18,7 @@ use vx_scalars::ScalarValue;
 fn spend_row(row: &RowValue, budget: &mut u64) -> Result<(), ArrayError>
     requires { IsVariantRow (plain_value row.now) }
     ensures spent { OnOk result (budget.old ≡ value_cells (plain_value row.now) + budget.new) }
-    ensures err { IfErr result (λ e. IsValueRefused e (value_cells (plain_value row.now)) budget.old) }
+    ensures err { IfErr result (λ e. RefusesCells e (value_cells (plain_value row.now)) budget.old) }
 {
     match row {
         RowValue::Null | RowValue::Opaque => spend(0, budget),
@@ -35,7 +35,7 @@ pub(crate) fn spent_row(row: RowValue, budget: &mut u64) -> Result<RowValue, Arr
     requires { IsVariantRow (plain_value row) }
     ensures row { IfOk result (λ kept. plain_value kept ≡ plain_value row) }
     ensures spent { OnOk result (budget.old ≡ value_cells (plain_value row) + budget.new) }
-    ensures err { IfErr result (λ e. IsValueRefused e (value_cells (plain_value row)) budget.old) }
+    ensures err { IfErr result (λ e. RefusesCells e (value_cells (plain_value row)) budget.old) }
 {
     match spend_row(&row, budget) {
         Ok(()) => Ok(row),
@@ -51,7 +51,7 @@ pub(crate) fn spent_row(row: RowValue, budget: &mut u64) -> Result<RowValue, Arr
 #[tactic(auto, using(vx_scalars::proofs::LawsOfLists::falling, crate::proofs::Scalared::value_spends, crate::proofs::Counted::counted))]
 fn spend_value(value: Option<&ScalarValue>, budget: &mut u64) -> Result<(), ArrayError>
     ensures spent { OnOk result (budget.old ≡ value_cells (seen (option_copied value.entry)) + budget.new) }
-    ensures err { IfErr result (λ e. IsValueRefused e (value_cells (seen (option_copied value.entry))) budget.old) }
+    ensures err { IfErr result (λ e. RefusesCells e (value_cells (seen (option_copied value.entry))) budget.old) }
 {
     let Some(value) = value else {
         return spend(0, budget);
@@ -82,7 +82,7 @@ fn spend_value(value: Option<&ScalarValue>, budget: &mut u64) -> Result<(), Arra
 #[tactic(auto, using(vx_scalars::proofs::LawsOfLists::falling, crate::proofs::Scalared::value_spends, crate::proofs::Counted::counted))]
 fn spend_values(values: &[Option<ScalarValue>], budget: &mut u64) -> Result<(), ArrayError>
     ensures spent { OnOk result (budget.old ≡ values_cells (roses_of (all_seen values.now)) + budget.new) }
-    ensures err { IfErr result (λ e. IsValueRefused e (values_cells (roses_of (all_seen values.now))) budget.old) }
+    ensures err { IfErr result (λ e. RefusesCells e (values_cells (roses_of (all_seen values.now))) budget.old) }
 {
     for value in values {
         spend_value(value.as_ref(), budget)?;

@@ -10,7 +10,7 @@ ghost use Rattle.vx_array_tree.specs.Sound.{IsControlled, IsSound, IsSoundNode};
 ghost use Rattle.vx_array_tree.specs.Table.{Content};
 ghost use Rattle.vx_array_tree.specs.Tree.{rows_below, untold};
 ghost use Rattle.vx_arrays.specs.Plain.{plain_body};
-ghost use Rattle.vx_arrays.specs.Refused.{IsUnmade, IsOkOrMemory};
+ghost use Rattle.vx_arrays.specs.Refused.{RefusesMaking, IsOkOrMemory};
 
 use crate::array::Array;
 use crate::body::Body;
@@ -34,7 +34,7 @@ fn judge(
     ensures shaped { OnOk result (IsTrue shaped) }
     ensures controlled { OnOk result (IsControlled (untold (typ dtype.now) len (plain_body body.now)) (roses_of children.now)) }
     ensures right { OnOk result (IsTrue right) }
-    ensures err { IfErr result (λ e. IsUnmade e (node (untold (typ dtype.now) len (plain_body body.now)) (roses_of children.now))) }
+    ensures err { IfErr result (λ e. RefusesMaking e (node (untold (typ dtype.now) len (plain_body body.now)) (roses_of children.now))) }
 {
     if !shaped {
         return Err(ArrayError::BadShape);
@@ -65,7 +65,7 @@ pub(crate) fn over_children(
     requires below { IsTrue shaped → EverywhereBelow IsSoundNode (roses_of children.items) }
     ensures ok { IfOk result (λ a. a ≡ node (untold (typ dtype) len (plain_body body)) (roses_of children.items)) }
     ensures sound { IfOk result IsSound }
-    ensures err { IfErr result (λ e. IsUnmade e (node (untold (typ dtype) len (plain_body body)) (roses_of children.items))) }
+    ensures err { IfErr result (λ e. RefusesMaking e (node (untold (typ dtype) len (plain_body body)) (roses_of children.items))) }
     ensures complete { IsSound (node (untold (typ dtype) len (plain_body body)) (roses_of children.items)) → IsOkOrMemory result }
 {
     match judge(&dtype, len, &body, children.as_slice(), shaped, right) {

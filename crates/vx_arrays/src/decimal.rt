@@ -14,7 +14,7 @@ ghost use Rattle.vx_arrays.specs.Compared.{compared_body};
 ghost use Rattle.vx_arrays.specs.Decimals.{decimal_tree};
 ghost use Rattle.vx_arrays.specs.NewBuffers.{RefusesBuffers, with_buffers};
 ghost use Rattle.vx_arrays.specs.Parts.{lone_mark};
-ghost use Rattle.vx_arrays.specs.Refused.{IsUnmade, IsOkOrMemory};
+ghost use Rattle.vx_arrays.specs.Refused.{RefusesMaking, IsOkOrMemory};
 
 use crate::array::Array;
 use crate::body::Body;
@@ -165,7 +165,7 @@ impl DecimalArray {
     ) -> Result<Array, ArrayError>
         ensures ok { IfOk result (λ a. a ≡ decimal_tree buffer values_type decimal nullability len validity) }
         ensures sound { IfOk result IsSound }
-        ensures err { IfErr result (λ e. IsUnmade e (decimal_tree buffer values_type decimal nullability len validity)) }
+        ensures err { IfErr result (λ e. RefusesMaking e (decimal_tree buffer values_type decimal nullability len validity)) }
         ensures complete { IsSound (decimal_tree buffer values_type decimal nullability len validity) → IsOkOrMemory result }
     {
         let shaped = is_shaped(&buffer, values_type, decimal, nullability, len, &validity);

@@ -13,7 +13,7 @@ ghost use Rattle.vx_array_tree.specs.Tree.{rows_below, rows_of, untold};
 ghost use Rattle.vx_arrays.specs.Compared.{compared_body};
 ghost use Rattle.vx_arrays.specs.Dicts.{AreDictChildren, IsOfCodes, dict_head, dict_tree};
 ghost use Rattle.vx_arrays.specs.Parts.{AreThere, parts_cells, parts_nodes, parts_value};
-ghost use Rattle.vx_arrays.specs.Refused.{IsUnmade, IsOkOrMemory};
+ghost use Rattle.vx_arrays.specs.Refused.{RefusesMaking, IsOkOrMemory};
 
 use crate::array::Array;
 use crate::body::Body;
@@ -141,7 +141,7 @@ impl DictArray {
     ) -> Result<Array, ArrayError>
         ensures ok { IfOk result (λ a. a ≡ dict_tree codes values all_values_referenced) }
         ensures sound { IfOk result IsSound }
-        ensures err { IfErr result (λ e. IsUnmade e (dict_tree codes values all_values_referenced)) }
+        ensures err { IfErr result (λ e. RefusesMaking e (dict_tree codes values all_values_referenced)) }
         ensures complete { IsSound (dict_tree codes values all_values_referenced) → IsOkOrMemory result }
     {
         let len = codes.len();
@@ -168,7 +168,7 @@ impl DictArray {
     ) -> Result<Array, ArrayError>
         ensures ok { IfOk result (λ a. a ≡ node (dict_head (typ dtype) len all_values_referenced) children) }
         ensures sound { IfOk result IsSound }
-        ensures err { IfErr result (λ e. IsUnmade e (node (dict_head (typ dtype) len all_values_referenced) children)) }
+        ensures err { IfErr result (λ e. RefusesMaking e (node (dict_head (typ dtype) len all_values_referenced) children)) }
         ensures complete { IsSound (node (dict_head (typ dtype) len all_values_referenced) children) → IsOkOrMemory result }
     {
         let flag = all_values_referenced;

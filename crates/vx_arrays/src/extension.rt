@@ -8,7 +8,7 @@ ghost use Rattle.vx_array_tree.specs.Refused.{IsWellShaped};
 ghost use Rattle.vx_array_tree.specs.Sound.{IsSound, IsSoundNode};
 ghost use Rattle.vx_array_tree.specs.Tree.{untold};
 ghost use Rattle.vx_arrays.specs.Extensions.{extension_tree, storage_of};
-ghost use Rattle.vx_arrays.specs.Refused.{IsUnmade, IsOkOrMemory};
+ghost use Rattle.vx_arrays.specs.Refused.{RefusesMaking, IsOkOrMemory};
 
 use crate::array::Array;
 use crate::body::Body;
@@ -32,7 +32,7 @@ impl ExtensionArray {
     pub fn try_new(alloc: Global, ext: ExtDType, storage: Array) -> Result<Array, ArrayError>
         ensures ok { IfOk result (λ a. a ≡ extension_tree ext storage) }
         ensures sound { IfOk result IsSound }
-        ensures err { IfErr result (λ e. IsUnmade e (extension_tree ext storage)) }
+        ensures err { IfErr result (λ e. RefusesMaking e (extension_tree ext storage)) }
         ensures complete { IsSound (extension_tree ext storage) → IsOkOrMemory result }
     {
         let len = storage.len();
@@ -47,7 +47,7 @@ impl ExtensionArray {
     pub fn of_children(dtype: DType, len: usize, children: Arrays) -> Result<Array, ArrayError>
         ensures ok { IfOk result (λ a. a ≡ node (untold (typ dtype) len B.ext) children) }
         ensures sound { IfOk result IsSound }
-        ensures err { IfErr result (λ e. IsUnmade e (node (untold (typ dtype) len B.ext) children)) }
+        ensures err { IfErr result (λ e. RefusesMaking e (node (untold (typ dtype) len B.ext) children)) }
         ensures complete { IsSound (node (untold (typ dtype) len B.ext) children) → IsOkOrMemory result }
     {
         let shaped = is_shaped(&dtype, len, children.as_slice());

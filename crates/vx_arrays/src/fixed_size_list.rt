@@ -14,7 +14,7 @@ ghost use Rattle.vx_array_tree.specs.Sound.{IsSound, IsSoundNode};
 ghost use Rattle.vx_array_tree.specs.Tree.{option_trees, rows_below, untold};
 ghost use Rattle.vx_arrays.specs.FixedSizeLists.{IsOfSize, fixed_size_list_head, fixed_size_list_tree};
 ghost use Rattle.vx_arrays.specs.Parts.{AreThere, parts_cells, parts_nodes, parts_value};
-ghost use Rattle.vx_arrays.specs.Refused.{IsUnmade, IsOkOrMemory};
+ghost use Rattle.vx_arrays.specs.Refused.{RefusesMaking, IsOkOrMemory};
 
 use crate::array::Array;
 use crate::body::Body;
@@ -93,7 +93,7 @@ impl FixedSizeListArray {
     ) -> Result<Array, ArrayError>
         ensures ok { IfOk result (λ a. a ≡ fixed_size_list_tree elements size nullability len validity) }
         ensures sound { IfOk result IsSound }
-        ensures err { IfErr result (λ e. IsUnmade e (fixed_size_list_tree elements size nullability len validity)) }
+        ensures err { IfErr result (λ e. RefusesMaking e (fixed_size_list_tree elements size nullability len validity)) }
         ensures complete { IsSound (fixed_size_list_tree elements size nullability len validity) → IsOkOrMemory result }
     {
         let shaped = is_shaped(&elements, size, nullability, len, &validity);

@@ -15,7 +15,7 @@ ghost use Rattle.vx_arrays.specs.Compared.{compared_body};
 ghost use Rattle.vx_arrays.specs.ListViews.{list_view_tree, views_of, AreCounts, AreViewParts};
 ghost use Rattle.vx_arrays.specs.Lists.{element_of};
 ghost use Rattle.vx_arrays.specs.Parts.{AreThere, parts_cells, parts_nodes, parts_value};
-ghost use Rattle.vx_arrays.specs.Refused.{IsUnmade, IsOkOrMemory};
+ghost use Rattle.vx_arrays.specs.Refused.{RefusesMaking, IsOkOrMemory};
 
 use crate::array::Array;
 use crate::body::Body;
@@ -154,7 +154,7 @@ impl ListViewArray {
     ) -> Result<Array, ArrayError>
         ensures ok { IfOk result (λ a. a ≡ list_view_tree elements offsets sizes nullability validity zero_copy) }
         ensures sound { IfOk result IsSound }
-        ensures err { IfErr result (λ e. IsUnmade e (list_view_tree elements offsets sizes nullability validity zero_copy)) }
+        ensures err { IfErr result (λ e. RefusesMaking e (list_view_tree elements offsets sizes nullability validity zero_copy)) }
         ensures complete { IsSound (list_view_tree elements offsets sizes nullability validity zero_copy) → IsOkOrMemory result }
     {
         let len = offsets.len();
@@ -180,7 +180,7 @@ impl ListViewArray {
     ) -> Result<Array, ArrayError>
         ensures ok { IfOk result (λ a. a ≡ node (untold (typ dtype) len (views_of zero_copy)) children) }
         ensures sound { IfOk result IsSound }
-        ensures err { IfErr result (λ e. IsUnmade e (node (untold (typ dtype) len (views_of zero_copy)) children)) }
+        ensures err { IfErr result (λ e. RefusesMaking e (node (untold (typ dtype) len (views_of zero_copy)) children)) }
         ensures complete { IsSound (node (untold (typ dtype) len (views_of zero_copy)) children) → IsOkOrMemory result }
     {
         let shaped = is_shaped(zero_copy, &dtype, len, children.as_slice());

@@ -13,7 +13,7 @@ ghost use Rattle.vx_array_tree.specs.Sound.{IsSound, IsSoundNode};
 ghost use Rattle.vx_array_tree.specs.Tree.{rows_below, untold};
 ghost use Rattle.vx_arrays.specs.Lists.{element_of, list_tree};
 ghost use Rattle.vx_arrays.specs.Parts.{AreThere, parts_cells, parts_nodes, parts_value};
-ghost use Rattle.vx_arrays.specs.Refused.{IsUnmade, IsOkOrMemory};
+ghost use Rattle.vx_arrays.specs.Refused.{RefusesMaking, IsOkOrMemory};
 
 use crate::array::Array;
 use crate::body::Body;
@@ -101,7 +101,7 @@ impl ListArray {
     ) -> Result<Array, ArrayError>
         ensures ok { IfOk result (λ a. a ≡ list_tree elements offsets nullability validity) }
         ensures sound { IfOk result IsSound }
-        ensures err { IfErr result (λ e. IsUnmade e (list_tree elements offsets nullability validity)) }
+        ensures err { IfErr result (λ e. RefusesMaking e (list_tree elements offsets nullability validity)) }
         ensures complete { IsSound (list_tree elements offsets nullability validity) → IsOkOrMemory result }
     {
         let len = offsets.len().saturating_sub(1);
@@ -120,7 +120,7 @@ impl ListArray {
     pub fn of_children(dtype: DType, len: usize, children: Arrays) -> Result<Array, ArrayError>
         ensures ok { IfOk result (λ a. a ≡ node (untold (typ dtype) len B.list) children) }
         ensures sound { IfOk result IsSound }
-        ensures err { IfErr result (λ e. IsUnmade e (node (untold (typ dtype) len B.list) children)) }
+        ensures err { IfErr result (λ e. RefusesMaking e (node (untold (typ dtype) len B.list) children)) }
         ensures complete { IsSound (node (untold (typ dtype) len B.list) children) → IsOkOrMemory result }
     {
         let shaped = is_shaped(&dtype, len, children.as_slice());

@@ -12,7 +12,7 @@ ghost use Rattle.vx_array_tree.specs.Table.{encoding_of};
 ghost use Rattle.vx_array_tree.specs.Tree.{untold};
 ghost use Rattle.vx_arrays.specs.Maps.{entries_of, map_tree, AreEntries};
 ghost use Rattle.vx_arrays.specs.Plain.{plain_body};
-ghost use Rattle.vx_arrays.specs.Refused.{IsUnmade, IsOkOrMemory};
+ghost use Rattle.vx_arrays.specs.Refused.{RefusesMaking, IsOkOrMemory};
 
 use crate::array::Array;
 use crate::body::Body;
@@ -36,7 +36,7 @@ impl MapArray {
     pub fn try_new(alloc: Global, map: MapDType, entries: Array) -> Result<Array, ArrayError>
         ensures ok { IfOk result (λ a. a ≡ map_tree map entries) }
         ensures sound { IfOk result IsSound }
-        ensures err { IfErr result (λ e. IsUnmade e (map_tree map entries)) }
+        ensures err { IfErr result (λ e. RefusesMaking e (map_tree map entries)) }
         ensures complete { IsSound (map_tree map entries) → IsOkOrMemory result }
     {
         let len = entries.len();
@@ -53,7 +53,7 @@ impl MapArray {
     pub fn of_children(dtype: DType, len: usize, children: Arrays) -> Result<Array, ArrayError>
         ensures ok { IfOk result (λ a. a ≡ node (untold (typ dtype) len B.map) children) }
         ensures sound { IfOk result IsSound }
-        ensures err { IfErr result (λ e. IsUnmade e (node (untold (typ dtype) len B.map) children)) }
+        ensures err { IfErr result (λ e. RefusesMaking e (node (untold (typ dtype) len B.map) children)) }
         ensures complete { IsSound (node (untold (typ dtype) len B.map) children) → IsOkOrMemory result }
     {
         let shaped = is_shaped(&dtype, len, children.as_slice());

@@ -10,7 +10,7 @@ ghost use Rattle.vx_types.specs.Value.{tuple, variant_of};
 ghost use Rattle.vx_types.specs.declared.nullability.Nullability.TheVariants.{NonNullable, Nullable};
 ghost use Rattle.vx_scalars.specs.Seen.{seen, value_of};
 ghost use Rattle.vx_array_tree.specs.Merge.{Named, each_wrapped, kept, merge, merged, raw_field, raw_structure, structure_at, structure_in, variants, wrapped};
-ghost use Rattle.vx_arrays.specs.Merging.{AreNamed, IsStructured, IsUnmerged, fallback_of, fallback_value, given_at, left_over, listed, merged_structures, not_null, other_at, raw_of};
+ghost use Rattle.vx_arrays.specs.Merging.{AreNamed, IsStructured, RefusesMerge, fallback_of, fallback_value, given_at, left_over, listed, merged_structures, not_null, other_at, raw_of};
 
 use crate::error::ArrayError;
 use crate::named_variants::NamedVariants;
@@ -350,8 +350,8 @@ fn fallback_structure(value: Option<&ScalarValue>) -> Option<Structure<'_>>
 fn cast(alloc: Global, value: Option<ScalarValue>, dtype: &DType) -> Result<Scalar, ArrayError>
     requires { IsVariant (typ dtype.now) × Fits (seen value) (node (variant Nullable) end) }
     ensures ok { IfOk result (λ s. s ≡ record { dtype = typ dtype.now; value = seen value }) }
-    ensures err { IfErr result (λ e. IsUnmerged e (typ dtype.now) (seen value)) }
-    ensures cast { IsUnmerged ArrayError.BadCast (typ dtype.now) (seen value) → IfOk result (λ _. ⊥) }
+    ensures err { IfErr result (λ e. RefusesMerge e (typ dtype.now) (seen value)) }
+    ensures cast { RefusesMerge ArrayError.BadCast (typ dtype.now) (seen value) → IfOk result (λ _. ⊥) }
 {
     if value.is_none() && dtype.nullability() == Nullability::NonNullable {
         return Err(ArrayError::BadCast);
@@ -379,9 +379,9 @@ pub fn merge_typed_scalar_as_variant(
     ensures ok { let v = merge typed.now.dtype typed.now.value (fallback_value (option_copied fallback.entry)) in
         IfOk result (λ s. s ≡ record { dtype = typ dtype.now; value = v }) }
     ensures err { let v = merge typed.now.dtype typed.now.value (fallback_value (option_copied fallback.entry)) in
-        IfErr result (λ e. IsUnmerged e (typ dtype.now) v) }
+        IfErr result (λ e. RefusesMerge e (typ dtype.now) v) }
     ensures cast { let v = merge typed.now.dtype typed.now.value (fallback_value (option_copied fallback.entry)) in
-        IsUnmerged ArrayError.BadCast (typ dtype.now) v → IfOk result (λ _. ⊥) }
+        RefusesMerge ArrayError.BadCast (typ dtype.now) v → IfOk result (λ _. ⊥) }
 {
     let under = match fallback {
         Some(scalar) => scalar.value(),

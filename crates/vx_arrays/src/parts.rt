@@ -13,7 +13,7 @@ ghost use Rattle.vx_array_tree.specs.Rows.{cells_at, cells_from, cells_where, va
 ghost use Rattle.vx_array_tree.specs.Tree.{rows_below, rows_of};
 ghost use Rattle.vx_arrays.specs.Parts.{AreThere, HaveRow, lone_mark, parts_cells, parts_nodes, parts_value};
 ghost use Rattle.vx_arrays.specs.Plain.{plain_value};
-ghost use Rattle.vx_arrays.specs.Refused.{IsValueRefused};
+ghost use Rattle.vx_arrays.specs.Refused.{RefusesCells};
 ghost use Rattle.vx_arrays.specs.RowScalars.{IsVariantRow};
 ghost use Rattle.vx_arrays.specs.Variants.{merged_cells, merged_row};
 
@@ -100,7 +100,7 @@ pub(crate) fn where_there<'a>(valid: Option<bool>, parts: RowParts<'a>) -> RowPa
 // Spends the cells of a value with so many bytes in it: one, and one for each byte.
 pub(crate) fn spend(bytes: usize, budget: &mut u64) -> Result<(), ArrayError>
     ensures spent { OnOk result (budget.old ≡ suc bytes + budget.new) }
-    ensures err { IfErr result (λ e. IsValueRefused e (suc bytes) budget.old) }
+    ensures err { IfErr result (λ e. RefusesCells e (suc bytes) budget.old) }
 {
     if bytes as u64 >= *budget {
         return Err(ArrayError::ValueTooLarge);
@@ -144,7 +144,7 @@ fn owned(alloc: Global, row: LoneRow<'_>) -> Result<RowValue, ArrayError>
 fn lone_value(alloc: Global, row: LoneRow<'_>, budget: &mut u64) -> Result<RowValue, ArrayError>
     ensures row { IfOk result (λ value. plain_value value ≡ lone (lone_mark row.entry)) }
     ensures spent { OnOk result (budget.old ≡ value_cells (lone (lone_mark row.entry)) + budget.new) }
-    ensures err { IfErr result (λ e. IsValueRefused e (value_cells (lone (lone_mark row.entry))) budget.old) }
+    ensures err { IfErr result (λ e. RefusesCells e (value_cells (lone (lone_mark row.entry))) budget.old) }
 {
     spend(bytes_in(&row), budget)?;
     owned(alloc, row)
@@ -161,7 +161,7 @@ pub(crate) fn built(
     requires there { AreThere parts }
     ensures row { IfOk result (λ value. plain_value value ≡ parts_value parts.entry) }
     ensures spent { OnOk result (budget.old ≡ parts_cells parts.entry + budget.new) }
-    ensures err { IfErr result (λ e. IsValueRefused e (parts_cells parts.entry) budget.old) }
+    ensures err { IfErr result (λ e. RefusesCells e (parts_cells parts.entry) budget.old) }
 {
     match parts {
         RowParts::Lone(row) => lone_value(alloc, row, budget),
@@ -208,7 +208,7 @@ fn merged_value(
     requires variants { IsVariant (label core.now).dtype }
     ensures row { IfOk result (λ value. plain_value value ≡ merged_row core.now shredded.now index) }
     ensures spent { OnOk result (budget.old ≡ merged_cells core.now shredded.now index + budget.new) }
-    ensures err { IfErr result (λ e. IsValueRefused e (merged_cells core.now shredded.now index) budget.old) }
+    ensures err { IfErr result (λ e. RefusesCells e (merged_cells core.now shredded.now index) budget.old) }
 {
     let _rows = core.len();
     let dtype = shredded.dtype();
@@ -240,7 +240,7 @@ fn spent_over(
     requires core { IsVariantRow (plain_value core) }
     ensures row { IfOk result (λ row. plain_value row ≡ row_over (typ dtype.now) (plain_value typed) (plain_value core)) }
     ensures spent { OnOk result (budget.old ≡ value_cells (row_over (typ dtype.now) (plain_value typed) (plain_value core)) + budget.new) }
-    ensures err { IfErr result (λ e. IsValueRefused e (value_cells (row_over (typ dtype.now) (plain_value typed) (plain_value core))) budget.old) }
+    ensures err { IfErr result (λ e. RefusesCells e (value_cells (row_over (typ dtype.now) (plain_value typed) (plain_value core))) budget.old) }
 {
     let row = row_over(alloc, dtype, typed, core)?;
     spent_row(row, budget)
@@ -259,7 +259,7 @@ fn run_values(
     requires counted { start + count < 2 ^ 64 }
     ensures values { IfOk result (λ values. roses_of values ≡ values_from (rows_of array.now) start count) }
     ensures spent { OnOk result (budget.old ≡ cells_from (rows_of array.now) start count + budget.new) }
-    ensures err { IfErr result (λ e. IsValueRefused e (cells_from (rows_of array.now) start count) budget.old) }
+    ensures err { IfErr result (λ e. RefusesCells e (cells_from (rows_of array.now) start count) budget.old) }
 {
     let mut values = RowValues::new(alloc);
     for i in 0..count {
@@ -280,7 +280,7 @@ fn across_values(
     requires inside { HaveRow index (roses_of arrays.now) }
     ensures values { IfOk result (λ values. roses_of values ≡ values_at (rows_below (roses_of arrays.now)) index) }
     ensures spent { OnOk result (budget.old ≡ cells_at (rows_below (roses_of arrays.now)) index + budget.new) }
-    ensures err { IfErr result (λ e. IsValueRefused e (cells_at (rows_below (roses_of arrays.now)) index) budget.old) }
+    ensures err { IfErr result (λ e. RefusesCells e (cells_at (rows_below (roses_of arrays.now)) index) budget.old) }
 {
     let mut values = RowValues::new(alloc);
     for i in 0..arrays.len() {

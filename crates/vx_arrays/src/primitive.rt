@@ -14,7 +14,7 @@ ghost use Rattle.vx_arrays.specs.Compared.{compared_body};
 ghost use Rattle.vx_arrays.specs.NewBuffers.{RefusesBuffers, with_buffers};
 ghost use Rattle.vx_arrays.specs.Parts.{lone_mark};
 ghost use Rattle.vx_arrays.specs.Primitives.{primitive_tree};
-ghost use Rattle.vx_arrays.specs.Refused.{IsUnmade, IsOkOrMemory};
+ghost use Rattle.vx_arrays.specs.Refused.{RefusesMaking, IsOkOrMemory};
 
 use crate::array::Array;
 use crate::body::Body;
@@ -181,7 +181,7 @@ impl PrimitiveArray {
     ) -> Result<Array, ArrayError>
         ensures ok { IfOk result (λ a. a ≡ primitive_tree ptype nullability len buffer validity) }
         ensures sound { IfOk result IsSound }
-        ensures err { IfErr result (λ e. IsUnmade e (primitive_tree ptype nullability len buffer validity)) }
+        ensures err { IfErr result (λ e. RefusesMaking e (primitive_tree ptype nullability len buffer validity)) }
         ensures complete { IsSound (primitive_tree ptype nullability len buffer validity) → IsOkOrMemory result }
     {
         let shaped = is_shaped(&buffer, ptype, nullability, len, &validity);

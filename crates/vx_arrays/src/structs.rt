@@ -13,7 +13,7 @@ ghost use Rattle.vx_array_tree.specs.Refused.{IsWellShaped};
 ghost use Rattle.vx_array_tree.specs.Sound.{IsSound, IsSoundNode};
 ghost use Rattle.vx_array_tree.specs.Tree.{array_place, places, rows_below, untold};
 ghost use Rattle.vx_arrays.specs.Parts.{AreThere, parts_cells, parts_nodes, parts_value};
-ghost use Rattle.vx_arrays.specs.Refused.{IsUnmade, IsOkOrMemory};
+ghost use Rattle.vx_arrays.specs.Refused.{RefusesMaking, IsOkOrMemory};
 ghost use Rattle.vx_arrays.specs.Structs.{IsOfFields, behind_validity, field_trees, struct_head, struct_tree};
 
 use crate::array::Array;
@@ -95,7 +95,7 @@ impl StructArray {
     ) -> Result<Array, ArrayError>
         ensures ok { IfOk result (λ a. a ≡ struct_tree fields nullability columns len validity) }
         ensures sound { IfOk result IsSound }
-        ensures err { IfErr result (λ e. IsUnmade e (struct_tree fields nullability columns len validity)) }
+        ensures err { IfErr result (λ e. RefusesMaking e (struct_tree fields nullability columns len validity)) }
         ensures complete { IsSound (struct_tree fields nullability columns len validity) → IsOkOrMemory result }
     {
         match behind_validity(validity, columns) {
@@ -115,7 +115,7 @@ fn over_columns(
     requires below { EverywhereBelow IsSoundNode (roses_of children.items) }
     ensures ok { IfOk result (λ a. a ≡ node (struct_head fields nullability len) (roses_of children.items)) }
     ensures sound { IfOk result IsSound }
-    ensures err { IfErr result (λ e. IsUnmade e (node (struct_head fields nullability len) (roses_of children.items))) }
+    ensures err { IfErr result (λ e. RefusesMaking e (node (struct_head fields nullability len) (roses_of children.items))) }
     ensures complete { IsSound (node (struct_head fields nullability len) (roses_of children.items)) → IsOkOrMemory result }
 {
     let shaped = are_shaped(&fields, nullability, len, children.as_slice());

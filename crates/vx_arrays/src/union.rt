@@ -16,7 +16,7 @@ ghost use Rattle.vx_array_tree.specs.Place.{place};
 ghost use Rattle.vx_types.specs.Kind.{primitive};
 ghost use Rattle.vx_types.specs.declared.ptype.PType.TheVariants.{U8};
 ghost use Rattle.vx_arrays.specs.Parts.{AreThere, parts_cells, parts_nodes, parts_value};
-ghost use Rattle.vx_arrays.specs.Refused.{IsUnmade, IsOkOrMemory};
+ghost use Rattle.vx_arrays.specs.Refused.{RefusesMaking, IsOkOrMemory};
 ghost use Rattle.vx_arrays.specs.Unions.{IsTagged, union_head, union_tree};
 
 use crate::array::Array;
@@ -76,7 +76,7 @@ impl UnionArray {
     ) -> Result<Array, ArrayError>
         ensures ok { IfOk result (λ a. a ≡ union_tree variants type_ids children) }
         ensures sound { IfOk result IsSound }
-        ensures err { IfErr result (λ e. IsUnmade e (union_tree variants type_ids children)) }
+        ensures err { IfErr result (λ e. RefusesMaking e (union_tree variants type_ids children)) }
         ensures complete { IsSound (union_tree variants type_ids children) → IsOkOrMemory result }
     {
         let len = type_ids.len();
@@ -93,7 +93,7 @@ impl UnionArray {
     pub fn of_children(dtype: DType, len: usize, children: Arrays) -> Result<Array, ArrayError>
         ensures ok { IfOk result (λ a. a ≡ node (untold (typ dtype) len B.union) children) }
         ensures sound { IfOk result IsSound }
-        ensures err { IfErr result (λ e. IsUnmade e (node (untold (typ dtype) len B.union) children)) }
+        ensures err { IfErr result (λ e. RefusesMaking e (node (untold (typ dtype) len B.union) children)) }
         ensures complete { IsSound (node (untold (typ dtype) len B.union) children) → IsOkOrMemory result }
     {
         over_tags(dtype, len, children.into_vec())
@@ -105,7 +105,7 @@ fn over_tags(dtype: DType, len: usize, children: Vec<Array>) -> Result<Array, Ar
     requires below { EverywhereBelow IsSoundNode (roses_of children.items) }
     ensures ok { IfOk result (λ a. a ≡ node (untold (typ dtype) len B.union) (roses_of children.items)) }
     ensures sound { IfOk result IsSound }
-    ensures err { IfErr result (λ e. IsUnmade e (node (untold (typ dtype) len B.union) (roses_of children.items))) }
+    ensures err { IfErr result (λ e. RefusesMaking e (node (untold (typ dtype) len B.union) (roses_of children.items))) }
     ensures complete { IsSound (node (untold (typ dtype) len B.union) (roses_of children.items)) → IsOkOrMemory result }
 {
     let shaped = is_shaped(&dtype, len, children.as_slice());

@@ -12,7 +12,7 @@ ghost use Rattle.vx_array_tree.specs.Sound.{IsSound, IsSoundNode};
 ghost use Rattle.vx_array_tree.specs.Table.{Content};
 ghost use Rattle.vx_array_tree.specs.Tree.{option_trees, places, row_at, rows_below, untold};
 ghost use Rattle.vx_arrays.specs.Plain.{plain_body};
-ghost use Rattle.vx_arrays.specs.Refused.{IsUnmade, IsOkOrMemory};
+ghost use Rattle.vx_arrays.specs.Refused.{RefusesMaking, IsOkOrMemory};
 ghost use Rattle.vx_arrays.specs.Validity.{IsValidity, all_invalid};
 
 use crate::array::Array;
@@ -114,7 +114,7 @@ pub(crate) fn over_validity(
     requires below { IsTrue shaped → EverywhereBelow IsSoundNode (option_trees validity) }
     ensures ok { IfOk result (λ a. a ≡ node (untold (typ dtype) len (plain_body body)) (option_trees validity)) }
     ensures sound { IfOk result IsSound }
-    ensures err { IfErr result (λ e. IsUnmade e (node (untold (typ dtype) len (plain_body body)) (option_trees validity))) }
+    ensures err { IfErr result (λ e. RefusesMaking e (node (untold (typ dtype) len (plain_body body)) (option_trees validity))) }
     ensures complete { IsSound (node (untold (typ dtype) len (plain_body body)) (option_trees validity)) → IsOkOrMemory result }
 {
     match only_validity(alloc, validity) {

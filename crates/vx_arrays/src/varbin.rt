@@ -15,7 +15,7 @@ ghost use Rattle.vx_array_tree.specs.Tree.{Tree, option_trees, rows_below, rows_
 ghost use Rattle.vx_arrays.specs.Compared.{compared_body};
 ghost use Rattle.vx_arrays.specs.NewBuffers.{RefusesBuffers, with_buffers};
 ghost use Rattle.vx_arrays.specs.Parts.{lone_mark};
-ghost use Rattle.vx_arrays.specs.Refused.{IsUnmade, IsOkOrMemory};
+ghost use Rattle.vx_arrays.specs.Refused.{RefusesMaking, IsOkOrMemory};
 ghost use Rattle.vx_arrays.specs.VarBins.{IsOfBytes, varbin_head, varbin_tree};
 
 use crate::array::Array;
@@ -177,7 +177,7 @@ impl VarBinArray {
     ) -> Result<Array, ArrayError>
         ensures ok { IfOk result (λ a. a ≡ varbin_tree (typ dtype) offsets bytes validity) }
         ensures sound { IfOk result IsSound }
-        ensures err { IfErr result (λ e. IsUnmade e (varbin_tree (typ dtype) offsets bytes validity)) }
+        ensures err { IfErr result (λ e. RefusesMaking e (varbin_tree (typ dtype) offsets bytes validity)) }
         ensures complete { IsSound (varbin_tree (typ dtype) offsets bytes validity) → IsOkOrMemory result }
     {
         let len = offsets.len().saturating_sub(1);

@@ -15,7 +15,7 @@ ghost use Rattle.vx_array_tree.specs.Tree.{Tree, option_trees, places, rows_belo
 ghost use Rattle.vx_arrays.specs.Compared.{bare, compared_body};
 ghost use Rattle.vx_arrays.specs.NewBuffers.{RefusesBuffers, with_buffers};
 ghost use Rattle.vx_arrays.specs.Parts.{lone_mark};
-ghost use Rattle.vx_arrays.specs.Refused.{IsUnmade, IsOkOrMemory};
+ghost use Rattle.vx_arrays.specs.Refused.{RefusesMaking, IsOkOrMemory};
 ghost use Rattle.vx_arrays.specs.Slots.{numbered};
 ghost use Rattle.vx_arrays.specs.VarBinViews.{IsRight, varbinview_head, varbinview_tree};
 
@@ -293,7 +293,7 @@ impl VarBinViewArray {
     ) -> Result<Array, ArrayError>
         ensures ok { IfOk result (λ a. a ≡ varbinview_tree (typ dtype) len buffers.items views validity) }
         ensures sound { IfOk result IsSound }
-        ensures err { IfErr result (λ e. IsUnmade e (varbinview_tree (typ dtype) len buffers.items views validity)) }
+        ensures err { IfErr result (λ e. RefusesMaking e (varbinview_tree (typ dtype) len buffers.items views validity)) }
         ensures complete { IsSound (varbinview_tree (typ dtype) len buffers.items views validity) → IsOkOrMemory result }
     {
         let body = VarBinViewData { buffers, views };

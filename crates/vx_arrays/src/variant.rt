@@ -13,7 +13,7 @@ ghost use Rattle.vx_array_tree.specs.Refused.{IsWellShaped};
 ghost use Rattle.vx_array_tree.specs.Sound.{IsSound, IsSoundNode};
 ghost use Rattle.vx_array_tree.specs.Tree.{array_place, option_trees, places, rows_below, untold};
 ghost use Rattle.vx_arrays.specs.Parts.{AreThere, HaveRow, parts_cells, parts_nodes, parts_value};
-ghost use Rattle.vx_arrays.specs.Refused.{IsUnmade, IsOkOrMemory};
+ghost use Rattle.vx_arrays.specs.Refused.{RefusesMaking, IsOkOrMemory};
 ghost use Rattle.vx_arrays.specs.Variants.{AreRows, IsOfVariants, variant_tree};
 
 use crate::array::Array;
@@ -70,7 +70,7 @@ impl VariantArray {
     pub fn try_new(alloc: Global, core: Array, shredded: Option<Array>) -> Result<Array, ArrayError>
         ensures ok { IfOk result (λ a. a ≡ variant_tree core shredded) }
         ensures sound { IfOk result IsSound }
-        ensures err { IfErr result (λ e. IsUnmade e (variant_tree core shredded)) }
+        ensures err { IfErr result (λ e. RefusesMaking e (variant_tree core shredded)) }
         ensures complete { IsSound (variant_tree core shredded) → IsOkOrMemory result }
     {
         let len = core.len();
@@ -89,7 +89,7 @@ impl VariantArray {
     pub fn of_children(dtype: DType, len: usize, children: Arrays) -> Result<Array, ArrayError>
         ensures ok { IfOk result (λ a. a ≡ node (untold (typ dtype) len B.variant) children) }
         ensures sound { IfOk result IsSound }
-        ensures err { IfErr result (λ e. IsUnmade e (node (untold (typ dtype) len B.variant) children)) }
+        ensures err { IfErr result (λ e. RefusesMaking e (node (untold (typ dtype) len B.variant) children)) }
         ensures complete { IsSound (node (untold (typ dtype) len B.variant) children) → IsOkOrMemory result }
     {
         let shaped = is_shaped(&dtype, len, children.as_slice());

@@ -18,12 +18,12 @@ use Rattle.vx_array_tree.specs.Place.{Place, before_validity}
 use Rattle.vx_array_tree.specs.Table.{plan_of}
 use Rattle.vx_array_tree.specs.Tree.{Tree, Trees, places, option_trees, untold}
 use Rattle.vx_arrays.specs.Bools.{bool_tree}
-use Rattle.vx_arrays.specs.Refused.{IsUnmade}
+use Rattle.vx_arrays.specs.Refused.{RefusesMaking}
 use Rattle.vx_arrays.specs.declared.error.ArrayError.{ArrayError}
 use Rattle.vx_encodings.proofs.Offsets.{bool_metadata, bool_offset, offset_is, ReadsOffset}
 use Rattle.vx_encodings.proofs.Singles.{single_children, single_planned, single_unplanned, single_without, single_built, single_refused, single_buffers}
 use Rattle.vx_encodings.specs.BoolMessage.{bool_schema, bool_value}
-use Rattle.vx_encodings.specs.Steps.{IsPlanned, IsUnplanned, IsWithoutPlan, IsBuilt, IsUnbuilt, RefusesMetadata, constructor_error}
+use Rattle.vx_encodings.specs.Steps.{IsPlanned, RefusesPlanning, RefusesPlaces, IsBuilt, RefusesBuilding, RefusesMetadata, constructor_error}
 use Rattle.vx_encodings.specs.declared.encoding.Encoding.TheVariants.{Bool}
 use Rattle.vx_encodings.specs.declared.error.EncodingError.{EncodingError}
 use Rattle.vx_encodings.specs.declared.error.EncodingError.TheVariants.{OutOfMemory, BadMetadata, BadShape}
@@ -40,7 +40,7 @@ flags_planned x h r o m shown lt d e =
     single_planned x Bool h (M.bool o) (bool_metadata x (typ h.dtype) h.metadata o shown lt) r (plan_is (typ h.dtype) h.len h.nchildren m (ap (λ z. typ z) d)) e
 
 -- Bytes that are no message are no metadata.
-pub flags_unread : (x : ExtMeaning) (error : EncodingError) (h : ArrayHead) → RefusesMetadata error bool_schema 0 h.metadata → IsUnplanned error x Bool h
+pub flags_unread : (x : ExtMeaning) (error : EncodingError) (h : ArrayHead) → RefusesMetadata error bool_schema 0 h.metadata → RefusesPlanning error x Bool h
 flags_unread x OutOfMemory h u = tt
 flags_unread x BadMetadata h u = λ v m. u _ (bool_offset x (typ h.dtype) h.metadata v m).reads
 flags_unread x BadShape h u = absurd u
@@ -50,19 +50,19 @@ bool_at : (a b : ℕ) → M.bool a ≡ M.bool b → a ≡ b
 bool_at a b e = cc
 
 -- Nor are those of an offset past a byte.
-pub flags_past : (x : ExtMeaning) (h : ArrayHead) (o : ℕ) → Reads bool_schema 0 h.metadata (bool_value o) → 8 ≤ o → IsUnplanned BadMetadata x Bool h
+pub flags_past : (x : ExtMeaning) (h : ArrayHead) (o : ℕ) → Reads bool_schema 0 h.metadata (bool_value o) → 8 ≤ o → RefusesPlanning BadMetadata x Bool h
 flags_past x h o r ge v m =
     let p = bool_offset x (typ h.dtype) h.metadata v m in
     let e = bool_at p.offset o (sym p.value_is ∙ offset_is h.metadata v o p r) in
     omega (arith, p.below)
 
 -- Where nothing is planned the shape does not fit.
-pub flags_unplanned : (x : ExtMeaning) (h : ArrayHead) (o : ℕ) → Reads bool_schema 0 h.metadata (bool_value o) → o < 8 → plan (typ h.dtype) h.len h.nchildren ≡ None → IsUnplanned BadShape x Bool h
+pub flags_unplanned : (x : ExtMeaning) (h : ArrayHead) (o : ℕ) → Reads bool_schema 0 h.metadata (bool_value o) → o < 8 → plan (typ h.dtype) h.len h.nchildren ≡ None → RefusesPlanning BadShape x Bool h
 flags_unplanned x h o r lt e = single_unplanned x Bool h (M.bool o) (bool_metadata x (typ h.dtype) h.metadata o r lt) e
 
 -- Nor does it where no validity is.
 pub flags_without : (error : EncodingError) (x : ExtMeaning) (h : ArrayHead) (o : ℕ) (m : Nullability) → Reads bool_schema 0 h.metadata (bool_value o) → o < 8 → h.dtype ≡ D.Bool m
-    → IsWithoutPlan error (before_validity [] h.len h.nchildren) → IsUnplanned error x Bool h
+    → RefusesPlaces error (before_validity [] h.len h.nchildren) → RefusesPlanning error x Bool h
 flags_without error x h o m r lt d e =
     single_without x Bool h (M.bool o) (bool_metadata x (typ h.dtype) h.metadata o r lt) error (plan_is (typ h.dtype) h.len h.nchildren m (ap (λ z. typ z) d)) e
 
@@ -81,7 +81,7 @@ flags_plan x h us p =
     record { value = p.value; read = m; planned = plan_some p.value m.offset (typ h.dtype) h.len h.nchildren (places us) m.value_is p.plan }
 
 -- So its metadata is read again, and want of memory is the one refusal.
-pub flags_read : (x : ExtMeaning) (error : EncodingError) (h : ArrayHead) (bs : List Buffer) (us : Trees) → (y : ExtMeaning) × IsPlanned y Bool h (places us) → RefusesMetadata error bool_schema 0 h.metadata → IsUnbuilt error x Bool h bs us
+pub flags_read : (x : ExtMeaning) (error : EncodingError) (h : ArrayHead) (bs : List Buffer) (us : Trees) → (y : ExtMeaning) × IsPlanned y Bool h (places us) → RefusesMetadata error bool_schema 0 h.metadata → RefusesBuilding error x Bool h bs us
 flags_read x OutOfMemory h bs us planned u = tt
 flags_read x BadMetadata h bs us planned u = absurd (u _ (flags_plan planned.0 h us planned.1).read.reads)
 flags_read x BadShape h bs us planned u = absurd u
@@ -112,8 +112,8 @@ flags_built x h bs us o m b v t planned r d p e q =
 
 -- Parts that the constructor refuses do not fit the row of a planned node.
 pub flags_refused : (x : ExtMeaning) (error : ArrayError) (h : ArrayHead) (bs : List Buffer) (us : Trees) (o : ℕ) (m : Nullability) (b : Buffer) (v : Option Tree)
-    → (y : ExtMeaning) × IsPlanned y Bool h (places us) → Reads bool_schema 0 h.metadata (bool_value o) → h.dtype ≡ D.Bool m → bs ≡ b ∷ [] → option_trees v ≡ us → IsUnmade error (bool_tree b o h.len m v)
-    → IsUnbuilt (constructor_error error) x Bool h bs us
+    → (y : ExtMeaning) × IsPlanned y Bool h (places us) → Reads bool_schema 0 h.metadata (bool_value o) → h.dtype ≡ D.Bool m → bs ≡ b ∷ [] → option_trees v ≡ us → RefusesMaking error (bool_tree b o h.len m v)
+    → RefusesBuilding (constructor_error error) x Bool h bs us
 flags_refused x error h bs us o m b v planned r d p e refused =
     let q = flags_plan planned.0 h us planned.1 in
     let lt = read_below h us o q r in
@@ -121,7 +121,7 @@ flags_refused x error h bs us o m b v planned r d p e refused =
     p refl lt (plan_is (typ h.dtype) h.len h.nchildren m (ap (λ z. typ z) d)) q.planned refl tt (made h us o m b v d e) refused
 
 -- Buffers of another number than one do not fit.
-pub flags_buffers : (x : ExtMeaning) (h : ArrayHead) (bs : List Buffer) (us : Trees) (o : ℕ) → (y : ExtMeaning) × IsPlanned y Bool h (places us) → Reads bool_schema 0 h.metadata (bool_value o) → (length bs ≡ 1 → ⊥) → IsUnbuilt BadShape x Bool h bs us
+pub flags_buffers : (x : ExtMeaning) (h : ArrayHead) (bs : List Buffer) (us : Trees) (o : ℕ) → (y : ExtMeaning) × IsPlanned y Bool h (places us) → Reads bool_schema 0 h.metadata (bool_value o) → (length bs ≡ 1 → ⊥) → RefusesBuilding BadShape x Bool h bs us
 flags_buffers x h bs us o planned r none =
     single_buffers x Bool h (M.bool o) (bool_metadata x (typ h.dtype) h.metadata o r (read_below h us o (flags_plan planned.0 h us planned.1) r)) bs us tt none
 

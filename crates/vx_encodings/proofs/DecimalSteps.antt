@@ -20,12 +20,12 @@ use Rattle.vx_array_tree.specs.Place.{Place, before_validity}
 use Rattle.vx_array_tree.specs.Table.{plan_of}
 use Rattle.vx_array_tree.specs.Tree.{Tree, Trees, places, option_trees, untold}
 use Rattle.vx_arrays.specs.Decimals.{decimal_tree}
-use Rattle.vx_arrays.specs.Refused.{IsUnmade}
+use Rattle.vx_arrays.specs.Refused.{RefusesMaking}
 use Rattle.vx_arrays.specs.declared.error.ArrayError.{ArrayError}
 use Rattle.vx_encodings.proofs.Singles.{single_children, single_planned, single_unplanned, single_without, single_built, single_refused, single_buffers}
 use Rattle.vx_encodings.proofs.Widths.{decimal_metadata, decimal_width, ReadsWidth}
 use Rattle.vx_encodings.specs.DecimalMessage.{decimal_schema, decimal_value}
-use Rattle.vx_encodings.specs.Steps.{IsPlanned, IsUnplanned, IsWithoutPlan, IsBuilt, IsUnbuilt, RefusesMetadata, constructor_error}
+use Rattle.vx_encodings.specs.Steps.{IsPlanned, RefusesPlanning, RefusesPlaces, IsBuilt, RefusesBuilding, RefusesMetadata, constructor_error}
 use Rattle.vx_encodings.specs.declared.encoding.Encoding.TheVariants.{Decimal}
 use Rattle.vx_encodings.specs.declared.error.EncodingError.{EncodingError}
 use Rattle.vx_encodings.specs.declared.error.EncodingError.TheVariants.{OutOfMemory, BadMetadata, BadShape}
@@ -41,19 +41,19 @@ pub decimals_planned : (x : ExtMeaning) (h : ArrayHead) (r : Result (List Place)
 decimals_planned x h r w c m shown d e = single_planned x Decimal h (M.decimal w) (decimal_metadata x (typ h.dtype) h.metadata w shown) r (plan_is h c m d) e
 
 -- Bytes that are no message are no metadata.
-pub decimals_unread : (x : ExtMeaning) (error : EncodingError) (h : ArrayHead) → RefusesMetadata error decimal_schema 0 h.metadata → IsUnplanned error x Decimal h
+pub decimals_unread : (x : ExtMeaning) (error : EncodingError) (h : ArrayHead) → RefusesMetadata error decimal_schema 0 h.metadata → RefusesPlanning error x Decimal h
 decimals_unread x OutOfMemory h u = tt
 decimals_unread x BadMetadata h u = λ v m. u _ (decimal_width x (typ h.dtype) h.metadata v m).reads
 decimals_unread x BadShape h u = absurd u
 decimals_unread x _ h u = absurd u
 
 -- Where nothing is planned the shape does not fit.
-pub decimals_unplanned : (x : ExtMeaning) (h : ArrayHead) (w : DecimalType) → Reads decimal_schema 0 h.metadata (decimal_value w) → plan (typ h.dtype) h.len h.nchildren ≡ None → IsUnplanned BadShape x Decimal h
+pub decimals_unplanned : (x : ExtMeaning) (h : ArrayHead) (w : DecimalType) → Reads decimal_schema 0 h.metadata (decimal_value w) → plan (typ h.dtype) h.len h.nchildren ≡ None → RefusesPlanning BadShape x Decimal h
 decimals_unplanned x h w shown e = single_unplanned x Decimal h (M.decimal w) (decimal_metadata x (typ h.dtype) h.metadata w shown) e
 
 -- Nor does it where no validity is.
 pub decimals_without : (error : EncodingError) (x : ExtMeaning) (h : ArrayHead) (w : DecimalType) (c : Digits) (m : Nullability) → Reads decimal_schema 0 h.metadata (decimal_value w) → h.dtype ≡ D.Decimal c m
-    → IsWithoutPlan error (before_validity [] h.len h.nchildren) → IsUnplanned error x Decimal h
+    → RefusesPlaces error (before_validity [] h.len h.nchildren) → RefusesPlanning error x Decimal h
 decimals_without error x h w c m shown d e = single_without x Decimal h (M.decimal w) (decimal_metadata x (typ h.dtype) h.metadata w shown) error (plan_is h c m d) e
 
 -- What was planned: metadata of a width, a type of decimals, and at most one child, a validity.
@@ -71,7 +71,7 @@ decimals_plan x h us p =
     record { value = p.value; read = m; planned = plan_some p.value m.values_type (typ h.dtype) h.len h.nchildren (places us) m.value_is p.plan }
 
 -- So its metadata is read again, and want of memory is the one refusal.
-pub decimals_read : (x : ExtMeaning) (error : EncodingError) (h : ArrayHead) (bs : List Buffer) (us : Trees) → (y : ExtMeaning) × IsPlanned y Decimal h (places us) → RefusesMetadata error decimal_schema 0 h.metadata → IsUnbuilt error x Decimal h bs us
+pub decimals_read : (x : ExtMeaning) (error : EncodingError) (h : ArrayHead) (bs : List Buffer) (us : Trees) → (y : ExtMeaning) × IsPlanned y Decimal h (places us) → RefusesMetadata error decimal_schema 0 h.metadata → RefusesBuilding error x Decimal h bs us
 decimals_read x OutOfMemory h bs us planned u = tt
 decimals_read x BadMetadata h bs us planned u = absurd (u _ (decimals_plan planned.0 h us planned.1).read.reads)
 decimals_read x BadShape h bs us planned u = absurd u
@@ -94,14 +94,14 @@ decimals_built x h bs us w c m b v t shown d p e q =
 
 -- Parts that the constructor refuses do not fit the row of a planned node.
 pub decimals_refused : (x : ExtMeaning) (error : ArrayError) (h : ArrayHead) (bs : List Buffer) (us : Trees) (w : DecimalType) (c : Digits) (m : Nullability) (b : Buffer) (v : Option Tree)
-    → (y : ExtMeaning) × IsPlanned y Decimal h (places us) → Reads decimal_schema 0 h.metadata (decimal_value w) → h.dtype ≡ D.Decimal c m → bs ≡ b ∷ [] → option_trees v ≡ us → IsUnmade error (decimal_tree b w c m h.len v)
-    → IsUnbuilt (constructor_error error) x Decimal h bs us
+    → (y : ExtMeaning) × IsPlanned y Decimal h (places us) → Reads decimal_schema 0 h.metadata (decimal_value w) → h.dtype ≡ D.Decimal c m → bs ≡ b ∷ [] → option_trees v ≡ us → RefusesMaking error (decimal_tree b w c m h.len v)
+    → RefusesBuilding (constructor_error error) x Decimal h bs us
 decimals_refused x error h bs us w c m b v planned shown d p e refused =
     single_refused x Decimal h (M.decimal w) (decimal_metadata x (typ h.dtype) h.metadata w shown) error bs us b (B.decimal (record { values = b; values_type = w })) (decimal_tree b w c m h.len v)
     p refl tt (plan_is h c m d) (decimals_plan planned.0 h us planned.1).planned refl tt (made h us w c m b v d e) refused
 
 -- Buffers of another number than one do not fit.
-pub decimals_buffers : (x : ExtMeaning) (h : ArrayHead) (bs : List Buffer) (us : Trees) (w : DecimalType) → Reads decimal_schema 0 h.metadata (decimal_value w) → (length bs ≡ 1 → ⊥) → IsUnbuilt BadShape x Decimal h bs us
+pub decimals_buffers : (x : ExtMeaning) (h : ArrayHead) (bs : List Buffer) (us : Trees) (w : DecimalType) → Reads decimal_schema 0 h.metadata (decimal_value w) → (length bs ≡ 1 → ⊥) → RefusesBuilding BadShape x Decimal h bs us
 decimals_buffers x h bs us w shown none = single_buffers x Decimal h (M.decimal w) (decimal_metadata x (typ h.dtype) h.metadata w shown) bs us tt none
 
 -- What the steps of decimals rest on.

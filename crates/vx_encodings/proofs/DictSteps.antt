@@ -25,7 +25,7 @@ use Rattle.vx_array_tree.proofs.Retyped.{own_places}
 use Rattle.vx_array_tree.proofs.LawsOfPlaces.{places_count}
 use Rattle.vx_array_tree.proofs.PlanCounts.{planned_count}
 use Rattle.vx_arrays.specs.Dicts.{dict_head}
-use Rattle.vx_arrays.specs.Refused.{IsUnmade}
+use Rattle.vx_arrays.specs.Refused.{RefusesMaking}
 use Rattle.vx_arrays.specs.declared.error.ArrayError.{ArrayError}
 use Rattle.vx_arrays.specs.declared.error.ArrayError.TheVariants as A
 use Rattle.vx_wire_tree.specs.Fields.{DictFields, codes_nullability}
@@ -33,7 +33,7 @@ use Rattle.vx_encodings.proofs.DictFields.{dict_metadata, dict_read, dict_fields
 use Rattle.vx_encodings.proofs.Fitting.{unfit}
 use Rattle.vx_encodings.proofs.Singles.{single_unplanned, single_built}
 use Rattle.vx_encodings.specs.DictMessage.{dict_schema, dict_value, kept_of}
-use Rattle.vx_encodings.specs.Steps.{IsPlanned, IsUnplanned, RefusesMetadata, IsWithoutPlan, IsBuilt, IsUnbuilt, constructor_error}
+use Rattle.vx_encodings.specs.Steps.{IsPlanned, RefusesPlanning, RefusesMetadata, RefusesPlaces, IsBuilt, RefusesBuilding, constructor_error}
 use Rattle.vx_encodings.specs.declared.encoding.Encoding.TheVariants as C
 use Rattle.vx_encodings.specs.declared.error.EncodingError.{EncodingError}
 use Rattle.vx_encodings.specs.declared.error.EncodingError.TheVariants.{OutOfMemory, BadMetadata, BadShape}
@@ -54,7 +54,7 @@ others_unplanned p q (suc (suc (suc k))) c = refl
 pub ruleset pair_steps = (two_planned, others_unplanned)
 
 -- Bytes that are no message are no metadata.
-pub dicts_unread : (x : ExtMeaning) (error : EncodingError) (h : ArrayHead) → RefusesMetadata error dict_schema 0 h.metadata → IsUnplanned error x C.Dict h
+pub dicts_unread : (x : ExtMeaning) (error : EncodingError) (h : ArrayHead) → RefusesMetadata error dict_schema 0 h.metadata → RefusesPlanning error x C.Dict h
 dicts_unread x OutOfMemory h u = tt
 dicts_unread x BadMetadata h u = λ v m. u _ (dict_read x (typ h.dtype) h.metadata v m).reads
 dicts_unread x BadShape h u = absurd u
@@ -64,7 +64,7 @@ no_integer : (p : PType) → is_integer p ≡ false → IsTrue (is_integer p) �
 no_integer p e t = absurd (cc)
 
 -- Nor are those of a kind of floats.
-pub dicts_of_floats : (x : ExtMeaning) (h : ArrayHead) (f : DictFields) (t : Bool) → Reads dict_schema 0 h.metadata (dict_value f) → t ≡ is_integer f.codes_ptype → t ≡ false → IsUnplanned BadMetadata x C.Dict h
+pub dicts_of_floats : (x : ExtMeaning) (h : ArrayHead) (f : DictFields) (t : Bool) → Reads dict_schema 0 h.metadata (dict_value f) → t ≡ is_integer f.codes_ptype → t ≡ false → RefusesPlanning BadMetadata x C.Dict h
 dicts_of_floats x h f t r e g v m =
     no_integer f.codes_ptype (sym e ∙ g) (dict_fields_are (typ h.dtype) h.metadata v f (dict_read x (typ h.dtype) h.metadata v m) r).1
 
@@ -86,7 +86,7 @@ dicts_planned x h (Err error) f t c shown i j q a = tt
 
 pub dicts_without : (x : ExtMeaning) (h : ArrayHead) (r : Result (List Place) EncodingError) (f : DictFields) (t : Bool) (c : Typ) → Reads dict_schema 0 h.metadata (dict_value f) → t ≡ is_integer f.codes_ptype → t ≡ true
     → c ≡ node (primitive f.codes_ptype (codes_nullability (typ h.dtype) f.is_nullable_codes)) end
-    → IfErr r (λ e. IsWithoutPlan e (pair_plan c (typ h.dtype) h.len f.values_len h.nchildren)) → IfErr r (λ e. IsUnplanned e x C.Dict h)
+    → IfErr r (λ e. RefusesPlaces e (pair_plan c (typ h.dtype) h.len f.values_len h.nchildren)) → IfErr r (λ e. RefusesPlanning e x C.Dict h)
 dicts_without x h (Ok ps) f t c shown i j q a = tt
 dicts_without x h (Err OutOfMemory) f t c shown i j q a = tt
 dicts_without x h (Err BadMetadata) f t c shown i j q a = absurd a
@@ -115,7 +115,7 @@ dict_plan x h us f r p =
     record { integer = m.1; planned = subst (λ (j : ℕ). plan (typ h.dtype) h.len v j ≡ Some (places us)) k q }
 
 -- Metadata is read again, and want of memory is the one refusal.
-pub dicts_read : (x : ExtMeaning) (error : EncodingError) (h : ArrayHead) (bs : List Buffer) (us : Trees) → (y : ExtMeaning) × IsPlanned y C.Dict h (places us) → RefusesMetadata error dict_schema 0 h.metadata → IsUnbuilt error x C.Dict h bs us
+pub dicts_read : (x : ExtMeaning) (error : EncodingError) (h : ArrayHead) (bs : List Buffer) (us : Trees) → (y : ExtMeaning) × IsPlanned y C.Dict h (places us) → RefusesMetadata error dict_schema 0 h.metadata → RefusesBuilding error x C.Dict h bs us
 dicts_read x OutOfMemory h bs us planned u = tt
 dicts_read x BadMetadata h bs us planned u = absurd (u _ (dict_read planned.0 (typ h.dtype) h.metadata planned.1.value planned.1.metadata).reads)
 dicts_read x BadShape h bs us planned u = absurd u
@@ -144,7 +144,7 @@ level d n v b us p a =
 
 -- Parts that the constructor refuses do not fit the row of a planned node.
 pub dicts_refused : (x : ExtMeaning) (error : ArrayError) (h : ArrayHead) (bs : List Buffer) (us : Trees) (f : DictFields) (b : Bool) → (y : ExtMeaning) × IsPlanned y C.Dict h (places us) → Reads dict_schema 0 h.metadata (dict_value f) → bs ≡ []
-    → b ≡ unwrap_or f.all_values_referenced false → IsUnmade error (node (dict_head (typ h.dtype) h.len b) us) → IsUnbuilt (constructor_error error) x C.Dict h bs us
+    → b ≡ unwrap_or f.all_values_referenced false → RefusesMaking error (node (dict_head (typ h.dtype) h.len b) us) → RefusesBuilding (constructor_error error) x C.Dict h bs us
 dicts_refused x A.OutOfMemory h bs us f b planned r e q refused = tt
 dicts_refused x A.BadShape h bs us f b planned r e q refused =
     let k = dict_plan planned.0 h us f r planned.1 in
@@ -178,7 +178,7 @@ bufferless : (d : Typ) (n : ℕ) (v : Dicts.Metadata) (bs : List Buffer) (k : �
 bufferless d n v [] k none s = none refl
 bufferless d n v (b ∷ bs) k none s = let f : None ≡ Some s.body = s.body_is in cc
 
-pub dicts_buffers : (x : ExtMeaning) (h : ArrayHead) (bs : List Buffer) (us : Trees) → (y : ExtMeaning) × IsPlanned y C.Dict h (places us) → bs ≢ [] → IsUnbuilt BadShape x C.Dict h bs us
+pub dicts_buffers : (x : ExtMeaning) (h : ArrayHead) (bs : List Buffer) (us : Trees) → (y : ExtMeaning) × IsPlanned y C.Dict h (places us) → bs ≢ [] → RefusesBuilding BadShape x C.Dict h bs us
 dicts_buffers x h bs us planned none =
     let m = dict_read planned.0 (typ h.dtype) h.metadata planned.1.value planned.1.metadata in
     record {

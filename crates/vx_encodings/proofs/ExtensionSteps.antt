@@ -17,12 +17,12 @@ use Rattle.vx_array_tree.specs.Metadata as M
 use Rattle.vx_array_tree.specs.Place.{Place, place, exactly}
 use Rattle.vx_array_tree.specs.Table.{IsShaped, body_of, plan_of}
 use Rattle.vx_array_tree.specs.Tree.{Tree, Trees, places, untold}
-use Rattle.vx_arrays.specs.Refused.{IsUnmade}
+use Rattle.vx_arrays.specs.Refused.{RefusesMaking}
 use Rattle.vx_arrays.specs.declared.error.ArrayError.{ArrayError}
 use Rattle.vx_encodings.proofs.Bare.{ext_metadata, ext_nothing}
 use Rattle.vx_encodings.proofs.Fitting.{constructor_refused}
 use Rattle.vx_encodings.proofs.Singles.{single_unplanned, single_built}
-use Rattle.vx_encodings.specs.Steps.{IsPlanned, IsUnplanned, IsWithoutPlan, IsBuilt, IsUnbuilt, constructor_error}
+use Rattle.vx_encodings.specs.Steps.{IsPlanned, RefusesPlanning, RefusesPlaces, IsBuilt, RefusesBuilding, constructor_error}
 use Rattle.vx_encodings.specs.declared.encoding.Encoding.TheVariants.{Ext}
 use Rattle.vx_encodings.specs.declared.error.EncodingError.{EncodingError}
 use Rattle.vx_encodings.specs.declared.error.EncodingError.TheVariants.{OutOfMemory, BadMetadata, BadShape}
@@ -31,11 +31,11 @@ use Rattle.vx_encodings.specs.declared.head.ArrayHead.{ArrayHead}
 -- ---- a plan
 
 -- Where a byte stands there is no metadata.
-pub extensions_unread : (x : ExtMeaning) (h : ArrayHead) → h.metadata ≢ [] → IsUnplanned BadMetadata x Ext h
+pub extensions_unread : (x : ExtMeaning) (h : ArrayHead) → h.metadata ≢ [] → RefusesPlanning BadMetadata x Ext h
 extensions_unread x h b v m = b (ext_nothing x (typ h.dtype) h.metadata v m).0
 
 -- Where nothing is planned the shape does not fit.
-pub extensions_unplanned : (x : ExtMeaning) (h : ArrayHead) → h.metadata ≡ [] → plan (typ h.dtype) h.len h.nchildren ≡ None → IsUnplanned BadShape x Ext h
+pub extensions_unplanned : (x : ExtMeaning) (h : ArrayHead) → h.metadata ≡ [] → plan (typ h.dtype) h.len h.nchildren ≡ None → RefusesPlanning BadShape x Ext h
 extensions_unplanned x h b e = single_unplanned x Ext h M.empty (ext_metadata x (typ h.dtype) h.metadata b) e
 
 plan_at : (d : DType) (e : P.Ext) (n k : ℕ) → d ≡ D.Extension e → plan (typ d) n k ≡ exactly (place e.storage n ∷ []) k
@@ -49,7 +49,7 @@ extensions_planned x h (Ok ps) e f b q g p =
 extensions_planned x h (Err error) e f b q g p = tt
 
 pub extensions_without : (error : EncodingError) (x : ExtMeaning) (h : ArrayHead) (e : P.Ext) (f : Typ) → h.metadata ≡ [] → h.dtype ≡ D.Extension e → f ≡ e.storage
-    → IsWithoutPlan error (exactly (place f h.len ∷ []) h.nchildren) → IsUnplanned error x Ext h
+    → RefusesPlaces error (exactly (place f h.len ∷ []) h.nchildren) → RefusesPlanning error x Ext h
 extensions_without OutOfMemory x h e f b q g w = tt
 extensions_without BadMetadata x h e f b q g w = absurd w
 extensions_without BadShape x h e f b q g w = extensions_unplanned x h b (plan_at h.dtype e h.len h.nchildren q ∙ ap (λ (z : Typ). exactly (place z h.len ∷ []) h.nchildren) (sym g) ∙ w)
@@ -90,7 +90,7 @@ extensions_built x h bs us t planned b w =
 
 -- Parts that the constructor refuses do not fit the row of a planned node.
 pub extensions_refused : (x : ExtMeaning) (error : ArrayError) (h : ArrayHead) (bs : List Buffer) (us : Trees) → (y : ExtMeaning) × IsPlanned y Ext h (places us) → bs ≡ []
-    → IsUnmade error (node (untold (typ h.dtype) h.len B.ext) us) → IsUnbuilt (constructor_error error) x Ext h bs us
+    → RefusesMaking error (node (untold (typ h.dtype) h.len B.ext) us) → RefusesBuilding (constructor_error error) x Ext h bs us
 extensions_refused x error h bs us planned b refused =
     let k = extension_plan planned.0 h us planned.1 in
     constructor_refused x Ext h M.empty (ext_metadata x (typ h.dtype) h.metadata k.no_byte) error bs us B.ext (node (untold (typ h.dtype) h.len B.ext) us) (bodied bs b) tt k.planned refl tt refl refused
@@ -100,7 +100,7 @@ bufferless : (d : Typ) (n : ℕ) (bs : List Buffer) (k : ℕ) → bs ≢ [] → 
 bufferless d n [] k none s = none refl
 bufferless d n (b ∷ bs) k none s = let f : None ≡ Some s.body = s.body_is in cc
 
-pub extensions_buffers : (x : ExtMeaning) (h : ArrayHead) (bs : List Buffer) (us : Trees) → (y : ExtMeaning) × IsPlanned y Ext h (places us) → bs ≢ [] → IsUnbuilt BadShape x Ext h bs us
+pub extensions_buffers : (x : ExtMeaning) (h : ArrayHead) (bs : List Buffer) (us : Trees) → (y : ExtMeaning) × IsPlanned y Ext h (places us) → bs ≢ [] → RefusesBuilding BadShape x Ext h bs us
 extensions_buffers x h bs us planned none =
     record {
       value = M.empty;

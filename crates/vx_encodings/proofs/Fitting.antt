@@ -18,12 +18,12 @@ use Rattle.vx_array_tree.proofs.Built.{takes_decided}
 use Rattle.vx_array_tree.proofs.NodeLaws.{body_encoding}
 use Rattle.vx_array_tree.proofs.Plans.{metadata_again}
 use Rattle.vx_wire_tree.specs.Reads.{IsMetadata}
-use Rattle.vx_arrays.specs.Refused.{IsUnmade}
+use Rattle.vx_arrays.specs.Refused.{RefusesMaking}
 use Rattle.vx_arrays.specs.declared.error.ArrayError.{ArrayError}
 use Rattle.vx_arrays.specs.declared.error.ArrayError.TheVariants as A
 use Rattle.vx_encodings.specs.Messages.{codec}
 use Rattle.vx_encodings.specs.Plain.{plain_encoding}
-use Rattle.vx_encodings.specs.Steps.{IsUnbuilt, constructor_error}
+use Rattle.vx_encodings.specs.Steps.{RefusesBuilding, constructor_error}
 use Rattle.vx_encodings.specs.declared.encoding.Encoding as Declared
 use Rattle.vx_encodings.specs.declared.head.ArrayHead.{ArrayHead}
 
@@ -60,7 +60,7 @@ module _ (e : Encoding) (d : Typ) (n : ℕ) (v : Metadata) (bs : List Buffer) (b
 module _ (x : ExtMeaning) (e : Declared.Encoding) (h : ArrayHead) (v : Metadata) (m : IsMetadata codec x (plain_encoding e) (typ h.dtype) h.metadata v) where
   -- A foreign node stands where the constructor says so.
   pub control_refused : (bs : List Buffer) (us : Trees) (body : Body) (t : Tree) → body_of (plain_encoding e) v bs ≡ Some body → t ≡ node (untold (typ h.dtype) h.len body) us
-      → IsUnmade A.ForeignControl t → IsUnbuilt (constructor_error A.ForeignControl) x e h bs us
+      → RefusesMaking A.ForeignControl t → RefusesBuilding (constructor_error A.ForeignControl) x e h bs us
   control_refused bs us body t body_is q refused =
       let r = subst (λ (z : Tree). IsForeignControlled (label z) (below z)) q refused in
       record {
@@ -76,7 +76,7 @@ module _ (x : ExtMeaning) (e : Declared.Encoding) (h : ArrayHead) (v : Metadata)
   -- Parts that the constructor refuses do not fit its row.
   pub constructor_refused : (error : ArrayError) (bs : List Buffer) (us : Trees) (body : Body) (t : Tree) → body_of (plain_encoding e) v bs ≡ Some body → IsFair (plain_encoding e) v
       → plan_of (plain_encoding e) (typ h.dtype) h.len v (count us) ≡ Some (places us) → lifted (typ h.dtype) h.len body (places us) ≡ places us → Takes (plain_encoding e) (encodings us)
-      → t ≡ node (untold (typ h.dtype) h.len body) us → IsUnmade error t → IsUnbuilt (constructor_error error) x e h bs us
+      → t ≡ node (untold (typ h.dtype) h.len body) us → RefusesMaking error t → RefusesBuilding (constructor_error error) x e h bs us
   constructor_refused A.OutOfMemory bs us body t body_is fair planned level takes q refused = tt
   constructor_refused A.BadShape bs us body t body_is fair planned level takes q refused =
       let wrong = subst (λ (z : Tree). IsMisshaped (label z) (below z)) q refused in
@@ -102,7 +102,7 @@ module _ (x : ExtMeaning) (e : Declared.Encoding) (h : ArrayHead) (v : Metadata)
   -- Nor do they where children of their encodings may not stand below it.
   either_refused : (error : ArrayError) (bs : List Buffer) (us : Trees) (body : Body) (t : Tree) → Takes (plain_encoding e) (encodings us) ⊎ (Takes (plain_encoding e) (encodings us) → ⊥) → body_of (plain_encoding e) v bs ≡ Some body → IsFair (plain_encoding e) v
       → plan_of (plain_encoding e) (typ h.dtype) h.len v (count us) ≡ Some (places us) → lifted (typ h.dtype) h.len body (places us) ≡ places us
-      → t ≡ node (untold (typ h.dtype) h.len body) us → IsUnmade error t → IsUnbuilt (constructor_error error) x e h bs us
+      → t ≡ node (untold (typ h.dtype) h.len body) us → RefusesMaking error t → RefusesBuilding (constructor_error error) x e h bs us
   either_refused error bs us body t (inl takes) body_is fair planned level q refused = constructor_refused error bs us body t body_is fair planned level takes q refused
   either_refused A.OutOfMemory bs us body t (inr none) body_is fair planned level q refused = tt
   either_refused A.BadShape bs us body t (inr none) body_is fair planned level q refused = record { value = v; metadata = m; wrong = inr none }
@@ -115,5 +115,5 @@ module _ (x : ExtMeaning) (e : Declared.Encoding) (h : ArrayHead) (v : Metadata)
 
   pub children_refused : (error : ArrayError) (bs : List Buffer) (us : Trees) (body : Body) (t : Tree) → body_of (plain_encoding e) v bs ≡ Some body → IsFair (plain_encoding e) v
       → plan_of (plain_encoding e) (typ h.dtype) h.len v (count us) ≡ Some (places us) → lifted (typ h.dtype) h.len body (places us) ≡ places us
-      → t ≡ node (untold (typ h.dtype) h.len body) us → IsUnmade error t → IsUnbuilt (constructor_error error) x e h bs us
+      → t ≡ node (untold (typ h.dtype) h.len body) us → RefusesMaking error t → RefusesBuilding (constructor_error error) x e h bs us
   children_refused error bs us body t body_is fair planned level q refused = either_refused error bs us body t (takes_decided (plain_encoding e) (encodings us)) body_is fair planned level q refused

@@ -20,13 +20,13 @@ use Rattle.vx_array_tree.specs.Table.{IsShaped, body_of, plan_of}
 use Rattle.vx_array_tree.specs.Tree.{Tree, Trees, places, option_trees, untold}
 use Rattle.vx_array_tree.proofs.Options.{let_through}
 use Rattle.vx_arrays.specs.FixedSizeLists.{IsOfSize, fixed_size_list_tree}
-use Rattle.vx_arrays.specs.Refused.{IsUnmade}
+use Rattle.vx_arrays.specs.Refused.{RefusesMaking}
 use Rattle.vx_arrays.specs.declared.error.ArrayError.{ArrayError}
 use Rattle.vx_encodings.proofs.Bare.{fixed_size_list_metadata, fixed_size_list_nothing}
 use Rattle.vx_encodings.proofs.Fitting.{constructor_refused}
 use Rattle.vx_encodings.proofs.Singles.{single_unplanned, single_built}
 use Rattle.vx_encodings.proofs.Validities.{behind_few, behind_place}
-use Rattle.vx_encodings.specs.Steps.{IsPlanned, IsUnplanned, IsWithoutPlan, IsBuilt, IsUnbuilt, constructor_error}
+use Rattle.vx_encodings.specs.Steps.{IsPlanned, RefusesPlanning, RefusesPlaces, IsBuilt, RefusesBuilding, constructor_error}
 use Rattle.vx_encodings.specs.declared.encoding.Encoding.TheVariants.{FixedSizeList}
 use Rattle.vx_encodings.specs.declared.error.EncodingError.{EncodingError}
 use Rattle.vx_encodings.specs.declared.error.EncodingError.TheVariants.{OutOfMemory, BadMetadata, BadShape}
@@ -35,11 +35,11 @@ use Rattle.vx_encodings.specs.declared.head.ArrayHead.{ArrayHead}
 -- ---- a plan
 
 -- Where a byte stands there is no metadata.
-pub lists_unread : (x : ExtMeaning) (h : ArrayHead) → h.metadata ≢ [] → IsUnplanned BadMetadata x FixedSizeList h
+pub lists_unread : (x : ExtMeaning) (h : ArrayHead) → h.metadata ≢ [] → RefusesPlanning BadMetadata x FixedSizeList h
 lists_unread x h b v m = b (fixed_size_list_nothing x (typ h.dtype) h.metadata v m).0
 
 -- Where nothing is planned the shape does not fit.
-pub lists_unplanned : (x : ExtMeaning) (h : ArrayHead) → h.metadata ≡ [] → plan (typ h.dtype) h.len h.nchildren ≡ None → IsUnplanned BadShape x FixedSizeList h
+pub lists_unplanned : (x : ExtMeaning) (h : ArrayHead) → h.metadata ≡ [] → plan (typ h.dtype) h.len h.nchildren ≡ None → RefusesPlanning BadShape x FixedSizeList h
 lists_unplanned x h b e = single_unplanned x FixedSizeList h M.empty (fixed_size_list_metadata x (typ h.dtype) h.metadata b) e
 
 -- What is planned of elements and a validity behind them.
@@ -57,7 +57,7 @@ lists_planned x h (Ok ps) e f s m b q g p =
 lists_planned x h (Err error) e f s m b q g p = tt
 
 pub lists_without : (error : EncodingError) (x : ExtMeaning) (h : ArrayHead) (e f : Typ) (s : ℕ) (m : Nullability) → h.metadata ≡ [] → h.dtype ≡ D.FixedSizeList e s m → f ≡ e
-    → IsWithoutPlan error (elements_plan f s h.len h.nchildren) → IsUnplanned error x FixedSizeList h
+    → RefusesPlaces error (elements_plan f s h.len h.nchildren) → RefusesPlanning error x FixedSizeList h
 lists_without OutOfMemory x h e f s m b q g w = tt
 lists_without BadMetadata x h e f s m b q g w = absurd w
 lists_without BadShape x h e f s m b q g w = lists_unplanned x h b (plan_at h.dtype e s m h.len h.nchildren q ∙ ap (λ (z : Typ). elements_plan z s h.len h.nchildren) (sym g) ∙ w)
@@ -125,8 +125,8 @@ lists_built x h bs us o v e s m t planned b q r w =
 
 -- Parts that the constructor refuses do not fit the row of a planned node.
 pub lists_refused : (x : ExtMeaning) (error : ArrayError) (h : ArrayHead) (bs : List Buffer) (us : Trees) (o : Tree) (v : Option Tree) (e : Typ) (s : ℕ) (m : Nullability)
-    → (y : ExtMeaning) × IsPlanned y FixedSizeList h (places us) → bs ≡ [] → h.dtype ≡ D.FixedSizeList e s m → more o (option_trees v) ≡ us → IsUnmade error (fixed_size_list_tree o s m h.len v)
-    → IsUnbuilt (constructor_error error) x FixedSizeList h bs us
+    → (y : ExtMeaning) × IsPlanned y FixedSizeList h (places us) → bs ≡ [] → h.dtype ≡ D.FixedSizeList e s m → more o (option_trees v) ≡ us → RefusesMaking error (fixed_size_list_tree o s m h.len v)
+    → RefusesBuilding (constructor_error error) x FixedSizeList h bs us
 lists_refused x error h bs us o v e s m planned b q r refused =
     let k = lists_plan planned.0 h us planned.1 in
     let f = few_of (typ h.dtype) h.len h.nchildren us k.planned in
@@ -139,7 +139,7 @@ bufferless : (d : Typ) (n : ℕ) (bs : List Buffer) (k : ℕ) → bs ≢ [] → 
 bufferless d n [] k none s = none refl
 bufferless d n (b ∷ bs) k none s = let f : None ≡ Some s.body = s.body_is in cc
 
-pub lists_buffers : (x : ExtMeaning) (h : ArrayHead) (bs : List Buffer) (us : Trees) → (y : ExtMeaning) × IsPlanned y FixedSizeList h (places us) → bs ≢ [] → IsUnbuilt BadShape x FixedSizeList h bs us
+pub lists_buffers : (x : ExtMeaning) (h : ArrayHead) (bs : List Buffer) (us : Trees) → (y : ExtMeaning) × IsPlanned y FixedSizeList h (places us) → bs ≢ [] → RefusesBuilding BadShape x FixedSizeList h bs us
 lists_buffers x h bs us planned none =
     record {
       value = M.empty;

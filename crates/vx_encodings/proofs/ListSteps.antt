@@ -24,13 +24,13 @@ use Rattle.vx_array_tree.specs.Table.{IsShaped, body_of, plan_of}
 use Rattle.vx_array_tree.specs.Tree.{Tree, Trees, places, untold}
 use Rattle.vx_array_tree.proofs.LawsOfPlaces.{places_count}
 use Rattle.vx_array_tree.proofs.PlanCounts.{planned_count}
-use Rattle.vx_arrays.specs.Refused.{IsUnmade}
+use Rattle.vx_arrays.specs.Refused.{RefusesMaking}
 use Rattle.vx_arrays.specs.declared.error.ArrayError.{ArrayError}
 use Rattle.vx_encodings.proofs.ElementCounts.{list_metadata, list_read, list_kind_is_integer}
 use Rattle.vx_encodings.proofs.Fitting.{constructor_refused}
 use Rattle.vx_encodings.proofs.Singles.{single_unplanned, single_built}
 use Rattle.vx_encodings.specs.ListMessage.{list_schema, list_value}
-use Rattle.vx_encodings.specs.Steps.{IsPlanned, IsUnplanned, RefusesMetadata, IsWithoutPlan, IsBuilt, IsUnbuilt, constructor_error}
+use Rattle.vx_encodings.specs.Steps.{IsPlanned, RefusesPlanning, RefusesMetadata, RefusesPlaces, IsBuilt, RefusesBuilding, constructor_error}
 use Rattle.vx_encodings.specs.declared.encoding.Encoding.TheVariants as C
 use Rattle.vx_encodings.specs.declared.error.EncodingError.{EncodingError}
 use Rattle.vx_encodings.specs.declared.error.EncodingError.TheVariants.{OutOfMemory, BadMetadata, BadShape}
@@ -39,7 +39,7 @@ use Rattle.vx_encodings.specs.declared.head.ArrayHead.{ArrayHead}
 -- ---- a plan
 
 -- Bytes that are no message are no metadata.
-pub lists_unread : (x : ExtMeaning) (error : EncodingError) (h : ArrayHead) → RefusesMetadata error list_schema 0 h.metadata → IsUnplanned error x C.List h
+pub lists_unread : (x : ExtMeaning) (error : EncodingError) (h : ArrayHead) → RefusesMetadata error list_schema 0 h.metadata → RefusesPlanning error x C.List h
 lists_unread x OutOfMemory h u = tt
 lists_unread x BadMetadata h u = λ v m. u _ (list_read x (typ h.dtype) h.metadata v m).reads
 lists_unread x BadShape h u = absurd u
@@ -49,7 +49,7 @@ no_integer : (p : PType) → is_integer p ≡ false → IsTrue (is_integer p) �
 no_integer p e t = absurd (cc)
 
 -- Nor are those of a kind of floats.
-pub lists_of_floats : (x : ExtMeaning) (h : ArrayHead) (n : ℕ) (p : PType) (t : Bool) → Reads list_schema 0 h.metadata (list_value n p) → t ≡ is_integer p → t ≡ false → IsUnplanned BadMetadata x C.List h
+pub lists_of_floats : (x : ExtMeaning) (h : ArrayHead) (n : ℕ) (p : PType) (t : Bool) → Reads list_schema 0 h.metadata (list_value n p) → t ≡ is_integer p → t ≡ false → RefusesPlanning BadMetadata x C.List h
 lists_of_floats x h n p t r e f v m = no_integer p (sym e ∙ f) (list_kind_is_integer x (typ h.dtype) h.metadata v n p m r)
 
 -- What is planned of elements, offsets and a validity behind them.
@@ -67,7 +67,7 @@ plan_none (node (list s) (more e end)) n v k h = absurd (h s e refl)
 plan_none _ n v k h = refl
 
 -- Where the type is another one the shape does not fit.
-pub lists_of_others : (x : ExtMeaning) (h : ArrayHead) (n : ℕ) (p : PType) (t : Bool) → Reads list_schema 0 h.metadata (list_value n p) → t ≡ is_integer p → t ≡ true → plan (typ h.dtype) h.len (kept n p) h.nchildren ≡ None → IsUnplanned BadShape x C.List h
+pub lists_of_others : (x : ExtMeaning) (h : ArrayHead) (n : ℕ) (p : PType) (t : Bool) → Reads list_schema 0 h.metadata (list_value n p) → t ≡ is_integer p → t ≡ true → plan (typ h.dtype) h.len (kept n p) h.nchildren ≡ None → RefusesPlanning BadShape x C.List h
 lists_of_others x h n p t r e f none = single_unplanned x C.List h (M.list (kept n p)) (list_metadata x (typ h.dtype) h.metadata n p r (sym e ∙ f)) none
 
 -- What is answered for the parts is the answer for the node.
@@ -82,7 +82,7 @@ lists_planned x h (Ok ps) m p t e f s shown i j q g a =
 lists_planned x h (Err error) m p t e f s shown i j q g a = tt
 
 pub lists_without : (error : EncodingError) (x : ExtMeaning) (h : ArrayHead) (m : ℕ) (p : PType) (t : Bool) (e f : Typ) (s : Nullability) → Reads list_schema 0 h.metadata (list_value m p) → t ≡ is_integer p → t ≡ true → h.dtype ≡ D.List e s → f ≡ e
-    → IsWithoutPlan error (parts_plan f m p h.len h.nchildren) → IsUnplanned error x C.List h
+    → RefusesPlaces error (parts_plan f m p h.len h.nchildren) → RefusesPlanning error x C.List h
 lists_without OutOfMemory x h m p t e f s shown i j q g w = tt
 lists_without BadMetadata x h m p t e f s shown i j q g w = absurd w
 lists_without BadShape x h m p t e f s shown i j q g w =
@@ -127,7 +127,7 @@ lists_built x h bs us t planned b w =
 
 -- Parts that the constructor refuses do not fit the row of a planned node.
 pub lists_refused : (x : ExtMeaning) (error : ArrayError) (h : ArrayHead) (bs : List Buffer) (us : Trees) → (y : ExtMeaning) × IsPlanned y C.List h (places us) → bs ≡ []
-    → IsUnmade error (node (untold (typ h.dtype) h.len B.list) us) → IsUnbuilt (constructor_error error) x C.List h bs us
+    → RefusesMaking error (node (untold (typ h.dtype) h.len B.list) us) → RefusesBuilding (constructor_error error) x C.List h bs us
 lists_refused x error h bs us planned b refused =
     let k = list_plan planned.0 h us planned.1 in
     constructor_refused x C.List h (M.list (kept k.elements_len k.kind)) (list_metadata x (typ h.dtype) h.metadata k.elements_len k.kind k.reads k.integer) error bs us B.list (node (untold (typ h.dtype) h.len B.list) us)
@@ -138,7 +138,7 @@ bufferless : (d : Typ) (n : ℕ) (v : Lists.Metadata) (bs : List Buffer) (k : �
 bufferless d n v [] k none s = none refl
 bufferless d n v (b ∷ bs) k none s = let f : None ≡ Some s.body = s.body_is in cc
 
-pub lists_buffers : (x : ExtMeaning) (h : ArrayHead) (bs : List Buffer) (us : Trees) → (y : ExtMeaning) × IsPlanned y C.List h (places us) → bs ≢ [] → IsUnbuilt BadShape x C.List h bs us
+pub lists_buffers : (x : ExtMeaning) (h : ArrayHead) (bs : List Buffer) (us : Trees) → (y : ExtMeaning) × IsPlanned y C.List h (places us) → bs ≢ [] → RefusesBuilding BadShape x C.List h bs us
 lists_buffers x h bs us planned none =
     let k = list_plan planned.0 h us planned.1 in
     record {

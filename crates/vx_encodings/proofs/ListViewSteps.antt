@@ -20,13 +20,13 @@ use Rattle.vx_array_tree.specs.Tree.{Tree, Trees, places, untold}
 use Rattle.vx_array_tree.proofs.LawsOfPlaces.{places_count}
 use Rattle.vx_array_tree.proofs.PlanCounts.{planned_count}
 use Rattle.vx_arrays.specs.ListViews.{views_of}
-use Rattle.vx_arrays.specs.Refused.{IsUnmade}
+use Rattle.vx_arrays.specs.Refused.{RefusesMaking}
 use Rattle.vx_arrays.specs.declared.error.ArrayError.{ArrayError}
 use Rattle.vx_encodings.proofs.Fitting.{constructor_refused}
 use Rattle.vx_encodings.proofs.Singles.{single_unplanned, single_built}
 use Rattle.vx_encodings.proofs.ViewCounts.{views_metadata, views_read, views_fair}
 use Rattle.vx_encodings.specs.ListViewMessage.{view_schema, view_value}
-use Rattle.vx_encodings.specs.Steps.{IsPlanned, IsUnplanned, RefusesMetadata, IsWithoutPlan, IsBuilt, IsUnbuilt, constructor_error}
+use Rattle.vx_encodings.specs.Steps.{IsPlanned, RefusesPlanning, RefusesMetadata, RefusesPlaces, IsBuilt, RefusesBuilding, constructor_error}
 use Rattle.vx_encodings.specs.declared.encoding.Encoding.TheVariants.{ListView}
 use Rattle.vx_encodings.specs.declared.error.EncodingError.{EncodingError}
 use Rattle.vx_encodings.specs.declared.error.EncodingError.TheVariants.{OutOfMemory, BadMetadata, BadShape}
@@ -35,7 +35,7 @@ use Rattle.vx_encodings.specs.declared.head.ArrayHead.{ArrayHead}
 -- ---- a plan
 
 -- Bytes that are no message are no metadata.
-pub views_unread : (x : ExtMeaning) (error : EncodingError) (h : ArrayHead) → RefusesMetadata error view_schema 0 h.metadata → IsUnplanned error x ListView h
+pub views_unread : (x : ExtMeaning) (error : EncodingError) (h : ArrayHead) → RefusesMetadata error view_schema 0 h.metadata → RefusesPlanning error x ListView h
 views_unread x OutOfMemory h u = tt
 views_unread x BadMetadata h u = λ w m. u _ (views_read x (typ h.dtype) h.metadata w m).reads
 views_unread x BadShape h u = absurd u
@@ -48,7 +48,7 @@ told : (t : Bool) (P : Type 0) → (IsTrue t ↔ P) → t ≡ true → P
 told t P i f = i.0 f
 
 -- Nor are those of a kind of floats.
-pub views_of_floats : (x : ExtMeaning) (h : ArrayHead) (v : ListViews.Metadata) (t : Bool) → Reads view_schema 0 h.metadata (view_value v) → (IsTrue t ↔ ListViews.IsFair v) → t ≡ false → IsUnplanned BadMetadata x ListView h
+pub views_of_floats : (x : ExtMeaning) (h : ArrayHead) (v : ListViews.Metadata) (t : Bool) → Reads view_schema 0 h.metadata (view_value v) → (IsTrue t ↔ ListViews.IsFair v) → t ≡ false → RefusesPlanning BadMetadata x ListView h
 views_of_floats x h v t r i f w m = not_told t (ListViews.IsFair v) i f (views_fair x (typ h.dtype) h.metadata w v m r)
 
 -- What is planned of elements, offsets, sizes and a validity behind them.
@@ -59,7 +59,7 @@ plan_at : (d : DType) (e : Typ) (s : Nullability) (v : ListViews.Metadata) (n k 
 plan_at d e s v n k q = ap (λ (z : DType). plan (typ z) n v k) q
 
 -- Where the type is another one the shape does not fit.
-pub views_of_others : (x : ExtMeaning) (h : ArrayHead) (v : ListViews.Metadata) (t : Bool) → Reads view_schema 0 h.metadata (view_value v) → (IsTrue t ↔ ListViews.IsFair v) → t ≡ true → plan (typ h.dtype) h.len v h.nchildren ≡ None → IsUnplanned BadShape x ListView h
+pub views_of_others : (x : ExtMeaning) (h : ArrayHead) (v : ListViews.Metadata) (t : Bool) → Reads view_schema 0 h.metadata (view_value v) → (IsTrue t ↔ ListViews.IsFair v) → t ≡ true → plan (typ h.dtype) h.len v h.nchildren ≡ None → RefusesPlanning BadShape x ListView h
 views_of_others x h v t r i f none = single_unplanned x ListView h (M.listview v) (views_metadata x (typ h.dtype) h.metadata v r (told t (ListViews.IsFair v) i f)) none
 
 -- What is answered for the parts is the answer for the node.
@@ -74,7 +74,7 @@ views_planned x h (Ok ps) v t e f s shown i j q g a =
 views_planned x h (Err error) v t e f s shown i j q g a = tt
 
 pub views_without : (error : EncodingError) (x : ExtMeaning) (h : ArrayHead) (v : ListViews.Metadata) (t : Bool) (e f : Typ) (s : Nullability) → Reads view_schema 0 h.metadata (view_value v) → (IsTrue t ↔ ListViews.IsFair v) → t ≡ true → h.dtype ≡ D.List e s → f ≡ e
-    → IsWithoutPlan error (parts_plan f v h.len h.nchildren) → IsUnplanned error x ListView h
+    → RefusesPlaces error (parts_plan f v h.len h.nchildren) → RefusesPlanning error x ListView h
 views_without OutOfMemory x h v t e f s shown i j q g w = tt
 views_without BadMetadata x h v t e f s shown i j q g w = absurd w
 views_without BadShape x h v t e f s shown i j q g w =
@@ -82,7 +82,7 @@ views_without BadShape x h v t e f s shown i j q g w =
 views_without _ x h v t e f s shown i j q g w = absurd w
 
 pub views_unplanned : (x : ExtMeaning) (h : ArrayHead) (r : Result (List Place) EncodingError) (v : ListViews.Metadata) (t : Bool) (e f : Typ) (s : Nullability) → Reads view_schema 0 h.metadata (view_value v) → (IsTrue t ↔ ListViews.IsFair v) → t ≡ true → h.dtype ≡ D.List e s → f ≡ e
-    → IfErr r (λ error. IsWithoutPlan error (parts_plan f v h.len h.nchildren)) → IfErr r (λ error. IsUnplanned error x ListView h)
+    → IfErr r (λ error. RefusesPlaces error (parts_plan f v h.len h.nchildren)) → IfErr r (λ error. RefusesPlanning error x ListView h)
 views_unplanned x h (Ok ps) v t e f s shown i j q g w = tt
 views_unplanned x h (Err error) v t e f s shown i j q g w = views_without error x h v t e f s shown i j q g w
 
@@ -122,7 +122,7 @@ views_built x h bs us t planned b w =
 
 -- Parts that the constructor refuses do not fit the row of a planned node.
 pub views_refused : (x : ExtMeaning) (error : ArrayError) (h : ArrayHead) (bs : List Buffer) (us : Trees) → (y : ExtMeaning) × IsPlanned y ListView h (places us) → bs ≡ []
-    → IsUnmade error (node (untold (typ h.dtype) h.len (views_of false)) us) → IsUnbuilt (constructor_error error) x ListView h bs us
+    → RefusesMaking error (node (untold (typ h.dtype) h.len (views_of false)) us) → RefusesBuilding (constructor_error error) x ListView h bs us
 views_refused x error h bs us planned b refused =
     let k = list_view_plan planned.0 h us planned.1 in
     constructor_refused x ListView h (M.listview k.value) (views_metadata x (typ h.dtype) h.metadata k.value k.reads k.fair) error bs us (views_of false) (node (untold (typ h.dtype) h.len (views_of false)) us)
@@ -133,7 +133,7 @@ bufferless : (d : Typ) (n : ℕ) (v : ListViews.Metadata) (bs : List Buffer) (k 
 bufferless d n v [] k none s = none refl
 bufferless d n v (b ∷ bs) k none s = let f : None ≡ Some s.body = s.body_is in cc
 
-pub views_buffers : (x : ExtMeaning) (h : ArrayHead) (bs : List Buffer) (us : Trees) → (y : ExtMeaning) × IsPlanned y ListView h (places us) → bs ≢ [] → IsUnbuilt BadShape x ListView h bs us
+pub views_buffers : (x : ExtMeaning) (h : ArrayHead) (bs : List Buffer) (us : Trees) → (y : ExtMeaning) × IsPlanned y ListView h (places us) → bs ≢ [] → RefusesBuilding BadShape x ListView h bs us
 views_buffers x h bs us planned none =
     let k = list_view_plan planned.0 h us planned.1 in
     record {

@@ -19,13 +19,13 @@ use Rattle.vx_array_tree.specs.Metadata as M
 use Rattle.vx_array_tree.specs.Place.{Place, place, exactly}
 use Rattle.vx_array_tree.specs.Table.{IsShaped, body_of, plan_of}
 use Rattle.vx_array_tree.specs.Tree.{Tree, Trees, places, untold}
-use Rattle.vx_arrays.specs.Refused.{IsUnmade}
+use Rattle.vx_arrays.specs.Refused.{RefusesMaking}
 use Rattle.vx_arrays.specs.declared.error.ArrayError.{ArrayError}
 use Rattle.vx_encodings.proofs.Bare.{map_metadata, map_nothing}
 use Rattle.vx_encodings.proofs.Fitting.{children_refused}
 use Rattle.vx_encodings.proofs.Singles.{single_unplanned, single_built}
 use Rattle.vx_encodings.proofs.UnionSteps.{exactly_many}
-use Rattle.vx_encodings.specs.Steps.{IsPlanned, IsUnplanned, IsWithoutPlan, IsBuilt, IsUnbuilt, constructor_error}
+use Rattle.vx_encodings.specs.Steps.{IsPlanned, RefusesPlanning, RefusesPlaces, IsBuilt, RefusesBuilding, constructor_error}
 use Rattle.vx_encodings.specs.declared.encoding.Encoding.TheVariants.{Map}
 use Rattle.vx_encodings.specs.declared.error.EncodingError.{EncodingError}
 use Rattle.vx_encodings.specs.declared.error.EncodingError.TheVariants.{OutOfMemory, BadMetadata, BadShape}
@@ -38,11 +38,11 @@ abbrev pub entries_place : Entries → Nullability → ℕ → Place
 entries_place v s n = place (node (list s) (more (entries v) end)) n
 
 -- Where a byte stands there is no metadata.
-pub maps_unread : (x : ExtMeaning) (h : ArrayHead) → h.metadata ≢ [] → IsUnplanned BadMetadata x Map h
+pub maps_unread : (x : ExtMeaning) (h : ArrayHead) → h.metadata ≢ [] → RefusesPlanning BadMetadata x Map h
 maps_unread x h b v m = b (map_nothing x (typ h.dtype) h.metadata v m).0
 
 -- Where nothing is planned the shape does not fit.
-pub maps_unplanned : (x : ExtMeaning) (h : ArrayHead) → h.metadata ≡ [] → plan (typ h.dtype) h.len h.nchildren ≡ None → IsUnplanned BadShape x Map h
+pub maps_unplanned : (x : ExtMeaning) (h : ArrayHead) → h.metadata ≡ [] → plan (typ h.dtype) h.len h.nchildren ≡ None → RefusesPlanning BadShape x Map h
 maps_unplanned x h b e = single_unplanned x Map h M.empty (map_metadata x (typ h.dtype) h.metadata b) e
 
 plan_at : (d : DType) (v : Entries) (s : Nullability) (n k : ℕ) → d ≡ D.Map v s → plan (typ d) n k ≡ exactly (entries_place v s n ∷ []) k
@@ -55,7 +55,7 @@ maps_planned x h (Ok ps) v s b q p = record { value = M.empty; metadata = map_me
 maps_planned x h (Err error) v s b q p = tt
 
 pub maps_without : (error : EncodingError) (x : ExtMeaning) (h : ArrayHead) (v : Entries) (s : Nullability) → h.metadata ≡ [] → h.dtype ≡ D.Map v s
-    → IsWithoutPlan error (exactly (entries_place v s h.len ∷ []) h.nchildren) → IsUnplanned error x Map h
+    → RefusesPlaces error (exactly (entries_place v s h.len ∷ []) h.nchildren) → RefusesPlanning error x Map h
 maps_without OutOfMemory x h v s b q w = tt
 maps_without BadMetadata x h v s b q w = absurd w
 maps_without BadShape x h v s b q w = maps_unplanned x h b (plan_at h.dtype v s h.len h.nchildren q ∙ w)
@@ -93,7 +93,7 @@ maps_built x h bs us t planned b w =
 -- Parts that the constructor refuses do not fit the row of a planned node: where they are shaped as they are to be, the
 -- entries are no list view.
 pub maps_refused : (x : ExtMeaning) (error : ArrayError) (h : ArrayHead) (bs : List Buffer) (us : Trees) → (y : ExtMeaning) × IsPlanned y Map h (places us) → bs ≡ []
-    → IsUnmade error (node (untold (typ h.dtype) h.len B.map) us) → IsUnbuilt (constructor_error error) x Map h bs us
+    → RefusesMaking error (node (untold (typ h.dtype) h.len B.map) us) → RefusesBuilding (constructor_error error) x Map h bs us
 maps_refused x error h bs us planned b refused =
     let k = map_plan planned.0 h us planned.1 in
     children_refused x Map h M.empty (map_metadata x (typ h.dtype) h.metadata k.no_byte) error bs us B.map (node (untold (typ h.dtype) h.len B.map) us) (bodied bs b) tt k.planned refl refl refused
@@ -103,7 +103,7 @@ bufferless : (d : Typ) (n : ℕ) (bs : List Buffer) (k : ℕ) → bs ≢ [] → 
 bufferless d n [] k none s = none refl
 bufferless d n (b ∷ bs) k none s = let f : None ≡ Some s.body = s.body_is in cc
 
-pub maps_buffers : (x : ExtMeaning) (h : ArrayHead) (bs : List Buffer) (us : Trees) → (y : ExtMeaning) × IsPlanned y Map h (places us) → bs ≢ [] → IsUnbuilt BadShape x Map h bs us
+pub maps_buffers : (x : ExtMeaning) (h : ArrayHead) (bs : List Buffer) (us : Trees) → (y : ExtMeaning) × IsPlanned y Map h (places us) → bs ≢ [] → RefusesBuilding BadShape x Map h bs us
 maps_buffers x h bs us planned none =
     record {
       value = M.empty;

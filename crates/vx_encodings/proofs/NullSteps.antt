@@ -16,7 +16,7 @@ use Rattle.vx_array_tree.specs.Table.{IsShaped, plan_of}
 use Rattle.vx_array_tree.specs.Tree.{Tree, Trees, places}
 use Rattle.vx_arrays.specs.Nulls.{null_tree}
 use Rattle.vx_encodings.proofs.Bare.{null_metadata, null_nothing}
-use Rattle.vx_encodings.specs.Steps.{IsPlanned, IsUnplanned, IsBuilt, IsUnbuilt}
+use Rattle.vx_encodings.specs.Steps.{IsPlanned, RefusesPlanning, IsBuilt, RefusesBuilding}
 use Rattle.vx_encodings.specs.declared.encoding.Encoding.TheVariants.{Null}
 use Rattle.vx_encodings.specs.declared.error.EncodingError.TheVariants.{BadMetadata, BadShape}
 use Rattle.vx_encodings.specs.declared.head.ArrayHead.{ArrayHead}
@@ -34,11 +34,11 @@ null_planned x h ps b d k e =
     })
 
 -- Where a byte stands there is no metadata.
-pub null_unread : (x : ExtMeaning) (h : ArrayHead) → h.metadata ≢ [] → IsUnplanned BadMetadata x Null h
+pub null_unread : (x : ExtMeaning) (h : ArrayHead) → h.metadata ≢ [] → RefusesPlanning BadMetadata x Null h
 null_unread x h b v m = b (null_nothing x (typ h.dtype) h.metadata v m).0
 
 -- Where nothing is planned the shape does not fit.
-pub null_unplanned : (x : ExtMeaning) (h : ArrayHead) → h.metadata ≡ [] → plan (typ h.dtype) h.len h.nchildren ≡ None → IsUnplanned BadShape x Null h
+pub null_unplanned : (x : ExtMeaning) (h : ArrayHead) → h.metadata ≡ [] → plan (typ h.dtype) h.len h.nchildren ≡ None → RefusesPlanning BadShape x Null h
 null_unplanned x h b e = record { value = M.empty; metadata = null_metadata x (typ h.dtype) h.metadata b; none = e }
 
 plan_some : (v : Metadata) (d : Typ) (n k : ℕ) (ps : List Place) → v ≡ M.empty → plan_of E.null d n v k ≡ Some ps → plan d n k ≡ Some ps
@@ -79,7 +79,7 @@ misshaped d n [] k none s = none refl
 misshaped d n (b ∷ bs) k none s = let f : None ≡ Some s.body = s.body_is in cc
 
 -- A buffer does not fit.
-pub null_unbuilt : (x : ExtMeaning) (h : ArrayHead) (bs : List Buffer) (us : Trees) → (y : ExtMeaning) × IsPlanned y Null h (places us) → bs ≢ [] → IsUnbuilt BadShape x Null h bs us
+pub null_unbuilt : (x : ExtMeaning) (h : ArrayHead) (bs : List Buffer) (us : Trees) → (y : ExtMeaning) × IsPlanned y Null h (places us) → bs ≢ [] → RefusesBuilding BadShape x Null h bs us
 null_unbuilt x h bs us planned none =
     let p = null_plan planned.0 h us planned.1 in
     record {

@@ -18,11 +18,11 @@ use Rattle.vx_array_tree.specs.Place.{Place, before_validity}
 use Rattle.vx_array_tree.specs.Table.{plan_of}
 use Rattle.vx_array_tree.specs.Tree.{Tree, Trees, places, option_trees, untold}
 use Rattle.vx_arrays.specs.Primitives.{primitive_tree}
-use Rattle.vx_arrays.specs.Refused.{IsUnmade}
+use Rattle.vx_arrays.specs.Refused.{RefusesMaking}
 use Rattle.vx_arrays.specs.declared.error.ArrayError.{ArrayError}
 use Rattle.vx_encodings.proofs.Singles.{single_children, single_planned, single_unplanned, single_without, single_built, single_refused, single_buffers}
 use Rattle.vx_encodings.proofs.Bare.{primitive_metadata, primitive_nothing}
-use Rattle.vx_encodings.specs.Steps.{IsPlanned, IsUnplanned, IsWithoutPlan, IsBuilt, IsUnbuilt, constructor_error}
+use Rattle.vx_encodings.specs.Steps.{IsPlanned, RefusesPlanning, RefusesPlaces, IsBuilt, RefusesBuilding, constructor_error}
 use Rattle.vx_encodings.specs.declared.encoding.Encoding.TheVariants.{Primitive}
 use Rattle.vx_encodings.specs.declared.error.EncodingError.{EncodingError}
 use Rattle.vx_encodings.specs.declared.error.EncodingError.TheVariants.{BadMetadata, BadShape}
@@ -38,16 +38,16 @@ pub validity_planned : (x : ExtMeaning) (h : ArrayHead) (r : Result (List Place)
 validity_planned x h r p m b d e = single_planned x Primitive h M.empty (primitive_metadata x (typ h.dtype) h.metadata b) r (plan_is (typ h.dtype) h.len h.nchildren p m (ap (λ z. typ z) d)) e
 
 -- Where a byte stands there is no metadata.
-pub primitive_unread : (x : ExtMeaning) (h : ArrayHead) → h.metadata ≢ [] → IsUnplanned BadMetadata x Primitive h
+pub primitive_unread : (x : ExtMeaning) (h : ArrayHead) → h.metadata ≢ [] → RefusesPlanning BadMetadata x Primitive h
 primitive_unread x h b v m = b (primitive_nothing x (typ h.dtype) h.metadata v m).0
 
 -- Where nothing is planned the shape does not fit.
-pub primitive_unplanned : (x : ExtMeaning) (h : ArrayHead) → h.metadata ≡ [] → plan (typ h.dtype) h.len h.nchildren ≡ None → IsUnplanned BadShape x Primitive h
+pub primitive_unplanned : (x : ExtMeaning) (h : ArrayHead) → h.metadata ≡ [] → plan (typ h.dtype) h.len h.nchildren ≡ None → RefusesPlanning BadShape x Primitive h
 primitive_unplanned x h b e = single_unplanned x Primitive h M.empty (primitive_metadata x (typ h.dtype) h.metadata b) e
 
 -- Nor does it where no validity is.
 pub validity_unplanned : (error : EncodingError) (x : ExtMeaning) (h : ArrayHead) (p : PType) (m : Nullability) → h.metadata ≡ [] → h.dtype ≡ D.Primitive p m
-    → IsWithoutPlan error (before_validity [] h.len h.nchildren) → IsUnplanned error x Primitive h
+    → RefusesPlaces error (before_validity [] h.len h.nchildren) → RefusesPlanning error x Primitive h
 validity_unplanned error x h p m b d e = single_without x Primitive h M.empty (primitive_metadata x (typ h.dtype) h.metadata b) error (plan_is (typ h.dtype) h.len h.nchildren p m (ap (λ z. typ z) d)) e
 
 -- What was planned: no byte of metadata, a type of numbers, and at most one child, a validity.
@@ -82,15 +82,15 @@ primitive_built x h bs us p m b o t planned d e c r =
 
 -- Parts that the constructor refuses do not fit the row of a planned node.
 pub primitive_refused : (x : ExtMeaning) (error : ArrayError) (h : ArrayHead) (bs : List Buffer) (us : Trees) (p : PType) (m : Nullability) (b : Buffer) (o : Option Tree)
-    → (y : ExtMeaning) × IsPlanned y Primitive h (places us) → h.dtype ≡ D.Primitive p m → bs ≡ b ∷ [] → option_trees o ≡ us → IsUnmade error (primitive_tree p m h.len b o)
-    → IsUnbuilt (constructor_error error) x Primitive h bs us
+    → (y : ExtMeaning) × IsPlanned y Primitive h (places us) → h.dtype ≡ D.Primitive p m → bs ≡ b ∷ [] → option_trees o ≡ us → RefusesMaking error (primitive_tree p m h.len b o)
+    → RefusesBuilding (constructor_error error) x Primitive h bs us
 primitive_refused x error h bs us p m b o planned d e c refused =
     let q = primitive_plan planned.0 h us planned.1 in
     single_refused x Primitive h M.empty (primitive_metadata x (typ h.dtype) h.metadata q.no_byte) error bs us b (B.primitive (record { values = b })) (primitive_tree p m h.len b o)
     e refl tt (plan_is (typ h.dtype) h.len h.nchildren p m (ap (λ z. typ z) d)) q.planned refl tt (made h us p m b o d c) refused
 
 -- Buffers of another number than one do not fit.
-pub primitive_buffers : (x : ExtMeaning) (h : ArrayHead) (bs : List Buffer) (us : Trees) → (y : ExtMeaning) × IsPlanned y Primitive h (places us) → (length bs ≡ 1 → ⊥) → IsUnbuilt BadShape x Primitive h bs us
+pub primitive_buffers : (x : ExtMeaning) (h : ArrayHead) (bs : List Buffer) (us : Trees) → (y : ExtMeaning) × IsPlanned y Primitive h (places us) → (length bs ≡ 1 → ⊥) → RefusesBuilding BadShape x Primitive h bs us
 primitive_buffers x h bs us planned none =
     single_buffers x Primitive h M.empty (primitive_metadata x (typ h.dtype) h.metadata (primitive_plan planned.0 h us planned.1).no_byte) bs us tt none
 

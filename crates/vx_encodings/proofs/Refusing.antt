@@ -20,7 +20,7 @@ use Rattle.vx_wire_tree.specs.Steps.{PlansChildren, HasNoPlan, HasParts, HasWron
 use Rattle.vx_encodings.proofs.Laws.{one_value}
 use Rattle.vx_encodings.specs.Messages.{codec}
 use Rattle.vx_encodings.specs.Plain.{plain_encoding}
-use Rattle.vx_encodings.specs.Steps.{IsPlanned, IsUnplanned, IsBuilt, IsUnbuilt, IsUnwritten, IsMemory, IsOkOrMemory}
+use Rattle.vx_encodings.specs.Steps.{IsPlanned, RefusesPlanning, IsBuilt, RefusesBuilding, RefusesWritingMetadata, IsMemory, IsOkOrMemory}
 use Rattle.vx_encodings.specs.declared.encoding.Encoding as Declared
 use Rattle.vx_encodings.specs.declared.error.EncodingError.{EncodingError}
 use Rattle.vx_encodings.specs.declared.error.EncodingError.TheVariants.{OutOfMemory, BadMetadata, BadShape, BadContent, ForeignControl, WireLimit}
@@ -35,7 +35,7 @@ no_plan x e d n bytes k ps u p =
     not_both (plan_of e d n p.value k) (sym (ap (λ v. plan_of e d n v k) same) ∙ u.none) p.plan
 
 -- Of what is planned only memory is refused.
-pub planned_refusal : (x : ExtMeaning) (error : EncodingError) (e : Declared.Encoding) (h : ArrayHead) (ps : List Place) → IsUnplanned error x e h → IsPlanned x e h ps → IsMemory error
+pub planned_refusal : (x : ExtMeaning) (error : EncodingError) (e : Declared.Encoding) (h : ArrayHead) (ps : List Place) → RefusesPlanning error x e h → IsPlanned x e h ps → IsMemory error
 planned_refusal x OutOfMemory e h ps u p = tt
 planned_refusal x BadMetadata e h ps u p = absurd (u p.value p.metadata)
 planned_refusal x BadShape e h ps u p = absurd (no_plan x (plain_encoding e) (typ h.dtype) h.len h.metadata h.nchildren ps u p)
@@ -94,7 +94,7 @@ module _ (x : ExtMeaning) (e : Encoding) (d : Typ) (n : ℕ) (bytes : List ℕ) 
 
 -- Of what is a sound array's parts only memory is refused.
 pub built_refusal : (x : ExtMeaning) (error : EncodingError) (e : Declared.Encoding) (h : ArrayHead) (bs : List Buffer) (ts : Trees) (t : Tree)
-    → IsPlanned x e h (places ts) → IsUnbuilt error x e h bs ts → IsBuilt x e h bs ts t → IsSound t → IsMemory error
+    → IsPlanned x e h (places ts) → RefusesBuilding error x e h bs ts → IsBuilt x e h bs ts t → IsSound t → IsMemory error
 built_refusal x OutOfMemory e h bs ts t planned u parts sound = tt
 built_refusal x BadMetadata e h bs ts t planned u parts sound = absurd u
 built_refusal x BadShape e h bs ts t planned u parts sound =
@@ -106,19 +106,19 @@ built_refusal x ForeignControl e h bs ts t planned u parts sound =
 built_refusal x WireLimit e h bs ts t planned u parts sound = absurd u
 
 -- An answer whose refusals are those of a plan is Ok, or want of memory, where there is a plan.
-pub plan_complete : (x : ExtMeaning) (e : Declared.Encoding) (h : ArrayHead) (r : Result (List Place) EncodingError) → IfErr r (λ error. IsUnplanned error x e h)
+pub plan_complete : (x : ExtMeaning) (e : Declared.Encoding) (h : ArrayHead) (r : Result (List Place) EncodingError) → IfErr r (λ error. RefusesPlanning error x e h)
     → (ps : List Place) → IsPlanned x e h ps → IsOkOrMemory r
 plan_complete x e h (Ok qs) u ps p = tt
 plan_complete x e h (Err error) u ps p = planned_refusal x error e h ps u p
 
 -- And one whose refusals are those of a node that is built, where such a node is sound.
 pub build_complete : (x : ExtMeaning) (e : Declared.Encoding) (h : ArrayHead) (bs : List Buffer) (ts : Trees) (r : Result Tree EncodingError) → IsPlanned x e h (places ts)
-    → IfErr r (λ error. IsUnbuilt error x e h bs ts) → (t : Tree) → IsBuilt x e h bs ts t → IsSound t → IsOkOrMemory r
+    → IfErr r (λ error. RefusesBuilding error x e h bs ts) → (t : Tree) → IsBuilt x e h bs ts t → IsSound t → IsOkOrMemory r
 build_complete x e h bs ts (Ok u) planned refused t parts sound = tt
 build_complete x e h bs ts (Err error) planned refused t parts sound = built_refusal x error e h bs ts t planned refused parts sound
 
 -- Of metadata that fits its message only memory is refused.
-written_refusal : (error : EncodingError) (t : Tree) → IsUnwritten error t → HasMessage (label t) (below t) → IsMemory error
+written_refusal : (error : EncodingError) (t : Tree) → RefusesWritingMetadata error t → HasMessage (label t) (below t) → IsMemory error
 written_refusal OutOfMemory t u h = tt
 written_refusal BadMetadata t u h = absurd u
 written_refusal BadShape t u h = absurd u
@@ -126,6 +126,6 @@ written_refusal BadContent t u h = absurd u
 written_refusal ForeignControl t u h = absurd u
 written_refusal WireLimit t u h = absurd (u h)
 
-pub metadata_complete : (t : Tree) (r : Result (List ℕ) EncodingError) → IfErr r (λ error. IsUnwritten error t) → HasMessage (label t) (below t) → IsOkOrMemory r
+pub metadata_complete : (t : Tree) (r : Result (List ℕ) EncodingError) → IfErr r (λ error. RefusesWritingMetadata error t) → HasMessage (label t) (below t) → IsOkOrMemory r
 metadata_complete t (Ok bytes) u h = tt
 metadata_complete t (Err error) u h = written_refusal error t u h

@@ -16,13 +16,13 @@ use Rattle.vx_array_tree.specs.Place.{Place, before_validity}
 use Rattle.vx_array_tree.specs.Table.{IsFair, IsShaped, Takes, body_of, lifted, plan_of}
 use Rattle.vx_array_tree.specs.Tree.{Tree, Trees, places, encodings, untold}
 use Rattle.vx_wire_tree.specs.Reads.{IsMetadata}
-use Rattle.vx_arrays.specs.Refused.{IsUnmade}
+use Rattle.vx_arrays.specs.Refused.{RefusesMaking}
 use Rattle.vx_arrays.specs.declared.error.ArrayError.{ArrayError}
 use Rattle.vx_encodings.proofs.Fitting.{constructor_refused}
 use Rattle.vx_encodings.proofs.Validities.{validity_few}
 use Rattle.vx_encodings.specs.Messages.{codec}
 use Rattle.vx_encodings.specs.Plain.{plain_encoding}
-use Rattle.vx_encodings.specs.Steps.{IsPlanned, IsUnplanned, IsWithoutPlan, IsBuilt, IsUnbuilt, constructor_error}
+use Rattle.vx_encodings.specs.Steps.{IsPlanned, RefusesPlanning, RefusesPlaces, IsBuilt, RefusesBuilding, constructor_error}
 use Rattle.vx_encodings.specs.declared.encoding.Encoding as Declared
 use Rattle.vx_encodings.specs.declared.error.EncodingError.{EncodingError}
 use Rattle.vx_encodings.specs.declared.error.EncodingError.TheVariants.{OutOfMemory, BadMetadata, BadShape}
@@ -72,12 +72,12 @@ module _ (x : ExtMeaning) (e : Declared.Encoding) (h : ArrayHead) (v : Metadata)
   single_planned (Err error) p q = tt
 
   -- Where nothing is planned the shape does not fit.
-  pub single_unplanned : plan_of (plain_encoding e) (typ h.dtype) h.len v h.nchildren ≡ None → IsUnplanned BadShape x e h
+  pub single_unplanned : plan_of (plain_encoding e) (typ h.dtype) h.len v h.nchildren ≡ None → RefusesPlanning BadShape x e h
   single_unplanned none = record { value = v; metadata = m; none = none }
 
   -- Nor does it where no validity is.
   pub single_without : (error : EncodingError) → plan_of (plain_encoding e) (typ h.dtype) h.len v h.nchildren ≡ before_validity [] h.len h.nchildren
-      → IsWithoutPlan error (before_validity [] h.len h.nchildren) → IsUnplanned error x e h
+      → RefusesPlaces error (before_validity [] h.len h.nchildren) → RefusesPlanning error x e h
   single_without OutOfMemory p w = tt
   single_without BadMetadata p w = absurd w
   single_without BadShape p w = single_unplanned (p ∙ w)
@@ -90,13 +90,13 @@ module _ (x : ExtMeaning) (e : Declared.Encoding) (h : ArrayHead) (v : Metadata)
   -- Parts that the constructor refuses do not fit the row of a planned node.
   pub single_refused : (error : ArrayError) (bs : List Buffer) (us : Trees) (b : Buffer) (body : Body) (t : Tree) → bs ≡ b ∷ [] → body_of (plain_encoding e) v (b ∷ []) ≡ Some body → IsFair (plain_encoding e) v
       → plan_of (plain_encoding e) (typ h.dtype) h.len v h.nchildren ≡ before_validity [] h.len h.nchildren → plan_of (plain_encoding e) (typ h.dtype) h.len v h.nchildren ≡ Some (places us)
-      → lifted (typ h.dtype) h.len body (places us) ≡ places us → Takes (plain_encoding e) (encodings us) → t ≡ node (untold (typ h.dtype) h.len body) us → IsUnmade error t
-      → IsUnbuilt (constructor_error error) x e h bs us
+      → lifted (typ h.dtype) h.len body (places us) ≡ places us → Takes (plain_encoding e) (encodings us) → t ≡ node (untold (typ h.dtype) h.len body) us → RefusesMaking error t
+      → RefusesBuilding (constructor_error error) x e h bs us
   single_refused error bs us b body t p body_is fair plan planned level takes q refused =
       let few = validity_few h.len h.nchildren us (sym plan ∙ planned) in
       let counted : plan_of (plain_encoding e) (typ h.dtype) h.len v (count us) ≡ Some (places us) = subst (λ (z : ℕ). plan_of (plain_encoding e) (typ h.dtype) h.len v z ≡ Some (places us)) few.1 planned in
       constructor_refused x e h v m error bs us body t (ap (λ (z : List Buffer). body_of (plain_encoding e) v z) p ∙ body_is) fair counted level takes q refused
 
   -- Buffers of another number than one do not fit.
-  pub single_buffers : (bs : List Buffer) (us : Trees) → IsSingle (plain_encoding e) → (length bs ≡ 1 → ⊥) → IsUnbuilt BadShape x e h bs us
+  pub single_buffers : (bs : List Buffer) (us : Trees) → IsSingle (plain_encoding e) → (length bs ≡ 1 → ⊥) → RefusesBuilding BadShape x e h bs us
   single_buffers bs us s none = record { value = v; metadata = m; wrong = inl (misshaped (plain_encoding e) (typ h.dtype) h.len v bs (count us) s none) }

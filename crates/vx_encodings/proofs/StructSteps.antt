@@ -20,14 +20,14 @@ use Rattle.vx_array_tree.specs.Place.{Place, place, places_at, validity_place}
 use Rattle.vx_array_tree.specs.Place.{behind_validity as behind}
 use Rattle.vx_array_tree.specs.Table.{IsShaped, body_of, plan_of}
 use Rattle.vx_array_tree.specs.Tree.{Tree, Trees, places, untold}
-use Rattle.vx_arrays.specs.Refused.{IsUnmade}
+use Rattle.vx_arrays.specs.Refused.{RefusesMaking}
 use Rattle.vx_arrays.specs.Structs.{IsOfFields, behind_validity, struct_head, struct_tree}
 use Rattle.vx_arrays.specs.declared.error.ArrayError.{ArrayError}
 use Rattle.vx_encodings.proofs.Bare.{struct_metadata, struct_nothing}
 use Rattle.vx_encodings.proofs.Fitting.{constructor_refused}
 use Rattle.vx_array_tree.proofs.LawsOfPlaces.{IsBehind, behind_is, behind_self, behind_one, behind_other, places_count}
 use Rattle.vx_encodings.proofs.Singles.{single_unplanned, single_built}
-use Rattle.vx_encodings.specs.Steps.{IsPlanned, IsUnplanned, IsWithoutPlan, IsBuilt, IsUnbuilt, constructor_error}
+use Rattle.vx_encodings.specs.Steps.{IsPlanned, RefusesPlanning, RefusesPlaces, IsBuilt, RefusesBuilding, constructor_error}
 use Rattle.vx_encodings.specs.declared.encoding.Encoding.TheVariants.{Struct}
 use Rattle.vx_encodings.specs.declared.error.EncodingError.{EncodingError}
 use Rattle.vx_encodings.specs.declared.error.EncodingError.TheVariants.{OutOfMemory, BadMetadata, BadShape}
@@ -36,11 +36,11 @@ use Rattle.vx_encodings.specs.declared.head.ArrayHead.{ArrayHead}
 -- ---- a plan
 
 -- Where a byte stands there is no metadata.
-pub structures_unread : (x : ExtMeaning) (h : ArrayHead) → h.metadata ≢ [] → IsUnplanned BadMetadata x Struct h
+pub structures_unread : (x : ExtMeaning) (h : ArrayHead) → h.metadata ≢ [] → RefusesPlanning BadMetadata x Struct h
 structures_unread x h b v m = b (struct_nothing x (typ h.dtype) h.metadata v m).0
 
 -- Where nothing is planned the shape does not fit.
-pub structures_unplanned : (x : ExtMeaning) (h : ArrayHead) → h.metadata ≡ [] → plan (typ h.dtype) h.len h.nchildren ≡ None → IsUnplanned BadShape x Struct h
+pub structures_unplanned : (x : ExtMeaning) (h : ArrayHead) → h.metadata ≡ [] → plan (typ h.dtype) h.len h.nchildren ≡ None → RefusesPlanning BadShape x Struct h
 structures_unplanned x h b e = single_unplanned x Struct h M.empty (struct_metadata x (typ h.dtype) h.metadata b) e
 
 plan_at : (d : DType) (f : Fields) (m : Nullability) (n k : ℕ) → d ≡ D.Struct f m → plan (typ d) n k ≡ behind (places_at (roses_of f.types) n) n k
@@ -58,7 +58,7 @@ structures_planned x h (Ok ps) f ds m b q g p =
 structures_planned x h (Err error) f ds m b q g p = tt
 
 pub structures_without : (error : EncodingError) (x : ExtMeaning) (h : ArrayHead) (f : Fields) (ds : List Typ) (m : Nullability) → h.metadata ≡ [] → h.dtype ≡ D.Struct f m → ds ≡ f.types
-    → IsWithoutPlan error (behind (places_at (roses_of ds) h.len) h.len h.nchildren) → IsUnplanned error x Struct h
+    → RefusesPlaces error (behind (places_at (roses_of ds) h.len) h.len h.nchildren) → RefusesPlanning error x Struct h
 structures_without OutOfMemory x h f ds m b q g w = tt
 structures_without BadMetadata x h f ds m b q g w = absurd w
 structures_without BadShape x h f ds m b q g w =
@@ -162,8 +162,8 @@ structures_built x h bs us columns v f m t planned b q r w =
 
 -- Parts that the constructor refuses do not fit the row of a planned node.
 pub structures_refused : (x : ExtMeaning) (error : ArrayError) (h : ArrayHead) (bs : List Buffer) (us columns : Trees) (v : Option Tree) (f : Fields) (m : Nullability)
-    → (y : ExtMeaning) × IsPlanned y Struct h (places us) → bs ≡ [] → h.dtype ≡ D.Struct f m → behind_validity v columns ≡ us → IsUnmade error (struct_tree f m columns h.len v)
-    → IsUnbuilt (constructor_error error) x Struct h bs us
+    → (y : ExtMeaning) × IsPlanned y Struct h (places us) → bs ≡ [] → h.dtype ≡ D.Struct f m → behind_validity v columns ≡ us → RefusesMaking error (struct_tree f m columns h.len v)
+    → RefusesBuilding (constructor_error error) x Struct h bs us
 structures_refused x error h bs us columns v f m planned b q r refused =
     let k = structures_plan planned.0 h us planned.1 in
     let counted : plan (typ h.dtype) h.len (count us) ≡ Some (places us) = subst (λ (j : ℕ). plan (typ h.dtype) h.len j ≡ Some (places us)) (count_of (typ h.dtype) h.len h.nchildren us k.planned) k.planned in
@@ -175,7 +175,7 @@ bufferless : (d : Typ) (n : ℕ) (bs : List Buffer) (k : ℕ) → bs ≢ [] → 
 bufferless d n [] k none s = none refl
 bufferless d n (b ∷ bs) k none s = let f : None ≡ Some s.body = s.body_is in cc
 
-pub structures_buffers : (x : ExtMeaning) (h : ArrayHead) (bs : List Buffer) (us : Trees) → (y : ExtMeaning) × IsPlanned y Struct h (places us) → bs ≢ [] → IsUnbuilt BadShape x Struct h bs us
+pub structures_buffers : (x : ExtMeaning) (h : ArrayHead) (bs : List Buffer) (us : Trees) → (y : ExtMeaning) × IsPlanned y Struct h (places us) → bs ≢ [] → RefusesBuilding BadShape x Struct h bs us
 structures_buffers x h bs us planned none =
     record {
       value = M.empty;

@@ -20,14 +20,14 @@ use Rattle.vx_array_tree.specs.Place.{Place, place, exactly, places_at}
 use Rattle.vx_array_tree.specs.Table.{IsShaped, body_of, plan_of}
 use Rattle.vx_array_tree.specs.Tree.{Tree, Trees, places, untold}
 use Rattle.vx_array_tree.proofs.Plans.{exactly_is}
-use Rattle.vx_arrays.specs.Refused.{IsUnmade}
+use Rattle.vx_arrays.specs.Refused.{RefusesMaking}
 use Rattle.vx_arrays.specs.declared.error.ArrayError.{ArrayError}
 use Rattle.vx_encodings.proofs.Bare.{union_metadata, union_nothing}
 use Rattle.vx_encodings.proofs.Fitting.{constructor_refused}
 use Rattle.vx_array_tree.proofs.LawsOfPlaces.{exactly_self, exactly_none, exactly_count, places_count}
 use Rattle.vx_encodings.proofs.Singles.{single_unplanned, single_built}
 use Rattle.vx_encodings.proofs.StructSteps.{fields_length}
-use Rattle.vx_encodings.specs.Steps.{IsPlanned, IsUnplanned, IsWithoutPlan, IsBuilt, IsUnbuilt, constructor_error}
+use Rattle.vx_encodings.specs.Steps.{IsPlanned, RefusesPlanning, RefusesPlaces, IsBuilt, RefusesBuilding, constructor_error}
 use Rattle.vx_encodings.specs.declared.encoding.Encoding.TheVariants.{Union}
 use Rattle.vx_encodings.specs.declared.error.EncodingError.{EncodingError}
 use Rattle.vx_encodings.specs.declared.error.EncodingError.TheVariants.{OutOfMemory, BadMetadata, BadShape}
@@ -56,11 +56,11 @@ members_planned (Err error) front none p ds m n k o w f e q = tt
 pub ruleset member_steps = (others_unplanned, members_planned)
 
 -- Where a byte stands there is no metadata.
-pub unions_unread : (x : ExtMeaning) (h : ArrayHead) → h.metadata ≢ [] → IsUnplanned BadMetadata x Union h
+pub unions_unread : (x : ExtMeaning) (h : ArrayHead) → h.metadata ≢ [] → RefusesPlanning BadMetadata x Union h
 unions_unread x h b v m = b (union_nothing x (typ h.dtype) h.metadata v m).0
 
 -- Where nothing is planned the shape does not fit.
-pub unions_unplanned : (x : ExtMeaning) (h : ArrayHead) → h.metadata ≡ [] → plan (typ h.dtype) h.len h.nchildren ≡ None → IsUnplanned BadShape x Union h
+pub unions_unplanned : (x : ExtMeaning) (h : ArrayHead) → h.metadata ≡ [] → plan (typ h.dtype) h.len h.nchildren ≡ None → RefusesPlanning BadShape x Union h
 unions_unplanned x h b e = single_unplanned x Union h M.empty (union_metadata x (typ h.dtype) h.metadata b) e
 
 plan_at : (d : DType) (v : Members) (m : Nullability) (n k : ℕ) → d ≡ D.Union v m → plan (typ d) n k ≡ exactly (member_places v.types m n) k
@@ -78,7 +78,7 @@ unions_planned x h (Ok ps) v ds m b q g p =
 unions_planned x h (Err error) v ds m b q g p = tt
 
 pub unions_without : (error : EncodingError) (x : ExtMeaning) (h : ArrayHead) (v : Members) (ds : List Typ) (m : Nullability) → h.metadata ≡ [] → h.dtype ≡ D.Union v m → ds ≡ v.types
-    → IsWithoutPlan error (exactly (member_places ds m h.len) h.nchildren) → IsUnplanned error x Union h
+    → RefusesPlaces error (exactly (member_places ds m h.len) h.nchildren) → RefusesPlanning error x Union h
 unions_without OutOfMemory x h v ds m b q g w = tt
 unions_without BadMetadata x h v ds m b q g w = absurd w
 unions_without BadShape x h v ds m b q g w =
@@ -119,7 +119,7 @@ unions_built x h bs us t planned b w =
 
 -- Parts that the constructor refuses do not fit the row of a planned node.
 pub unions_refused : (x : ExtMeaning) (error : ArrayError) (h : ArrayHead) (bs : List Buffer) (us : Trees) → (y : ExtMeaning) × IsPlanned y Union h (places us) → bs ≡ []
-    → IsUnmade error (node (untold (typ h.dtype) h.len B.union) us) → IsUnbuilt (constructor_error error) x Union h bs us
+    → RefusesMaking error (node (untold (typ h.dtype) h.len B.union) us) → RefusesBuilding (constructor_error error) x Union h bs us
 unions_refused x error h bs us planned b refused =
     let k = union_plan planned.0 h us planned.1 in
     constructor_refused x Union h M.empty (union_metadata x (typ h.dtype) h.metadata k.no_byte) error bs us B.union (node (untold (typ h.dtype) h.len B.union) us) (bodied bs b) tt k.planned refl tt refl refused
@@ -129,7 +129,7 @@ bufferless : (d : Typ) (n : ℕ) (bs : List Buffer) (k : ℕ) → bs ≢ [] → 
 bufferless d n [] k none s = none refl
 bufferless d n (b ∷ bs) k none s = let f : None ≡ Some s.body = s.body_is in cc
 
-pub unions_buffers : (x : ExtMeaning) (h : ArrayHead) (bs : List Buffer) (us : Trees) → (y : ExtMeaning) × IsPlanned y Union h (places us) → bs ≢ [] → IsUnbuilt BadShape x Union h bs us
+pub unions_buffers : (x : ExtMeaning) (h : ArrayHead) (bs : List Buffer) (us : Trees) → (y : ExtMeaning) × IsPlanned y Union h (places us) → bs ≢ [] → RefusesBuilding BadShape x Union h bs us
 unions_buffers x h bs us planned none =
     record {
       value = M.empty;

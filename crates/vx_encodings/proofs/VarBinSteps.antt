@@ -20,14 +20,14 @@ use Rattle.vx_array_tree.specs.Place.{Place, place, numbers, is_len, before_vali
 use Rattle.vx_array_tree.specs.Table.{plan_of}
 use Rattle.vx_array_tree.specs.Tree.{Tree, Trees, places, option_trees, untold}
 use Rattle.vx_array_tree.proofs.Options.{let_through}
-use Rattle.vx_arrays.specs.Refused.{IsUnmade}
+use Rattle.vx_arrays.specs.Refused.{RefusesMaking}
 use Rattle.vx_arrays.specs.VarBins.{IsOfBytes, varbin_tree}
 use Rattle.vx_arrays.specs.declared.error.ArrayError.{ArrayError}
 use Rattle.vx_encodings.proofs.Fitting.{constructor_refused}
 use Rattle.vx_encodings.proofs.OffsetKinds.{varbin_metadata, varbin_kind, kind_is_integer}
 use Rattle.vx_encodings.proofs.Singles.{single_unplanned, single_built, single_buffers}
 use Rattle.vx_encodings.proofs.Validities.{behind_few, behind_place}
-use Rattle.vx_encodings.specs.Steps.{IsPlanned, IsUnplanned, IsWithoutPlan, IsBuilt, IsUnbuilt, RefusesMetadata, constructor_error}
+use Rattle.vx_encodings.specs.Steps.{IsPlanned, RefusesPlanning, RefusesPlaces, IsBuilt, RefusesBuilding, RefusesMetadata, constructor_error}
 use Rattle.vx_encodings.specs.VarBinMessage.{varbin_schema, varbin_value}
 use Rattle.vx_encodings.specs.declared.encoding.Encoding.TheVariants.{VarBin}
 use Rattle.vx_encodings.specs.declared.error.EncodingError.{EncodingError}
@@ -37,7 +37,7 @@ use Rattle.vx_encodings.specs.declared.head.ArrayHead.{ArrayHead}
 -- ---- a plan
 
 -- Bytes that are no message are no metadata.
-pub varbins_unread : (x : ExtMeaning) (error : EncodingError) (h : ArrayHead) → RefusesMetadata error varbin_schema 0 h.metadata → IsUnplanned error x VarBin h
+pub varbins_unread : (x : ExtMeaning) (error : EncodingError) (h : ArrayHead) → RefusesMetadata error varbin_schema 0 h.metadata → RefusesPlanning error x VarBin h
 varbins_unread x OutOfMemory h u = tt
 varbins_unread x BadMetadata h u = λ v m. u _ (varbin_kind x (typ h.dtype) h.metadata v m).reads
 varbins_unread x BadShape h u = absurd u
@@ -47,7 +47,7 @@ no_integer : (p : PType) → is_integer p ≡ false → IsTrue (is_integer p) �
 no_integer p e t = absurd (cc)
 
 -- Nor are those of a kind of floats.
-pub varbins_of_floats : (x : ExtMeaning) (h : ArrayHead) (p : PType) (t : Bool) → Reads varbin_schema 0 h.metadata (varbin_value p) → t ≡ is_integer p → t ≡ false → IsUnplanned BadMetadata x VarBin h
+pub varbins_of_floats : (x : ExtMeaning) (h : ArrayHead) (p : PType) (t : Bool) → Reads varbin_schema 0 h.metadata (varbin_value p) → t ≡ is_integer p → t ≡ false → RefusesPlanning BadMetadata x VarBin h
 varbins_of_floats x h p t r e f v m = no_integer p (sym e ∙ f) (kind_is_integer x (typ h.dtype) h.metadata v p m r)
 
 counted : (n : ℕ) → suc n < 2 ^ 64 → is_len (suc n) ≡ true
@@ -73,11 +73,11 @@ plan_past (node (binary m) end) n p k h = rw (uncounted n h) refl
 plan_past _ n p k h = refl
 
 -- Where the type is another one, or the offsets cannot be counted, the shape does not fit.
-pub varbins_of_others : (x : ExtMeaning) (h : ArrayHead) (p : PType) (t u : Bool) → Reads varbin_schema 0 h.metadata (varbin_value p) → t ≡ is_integer p → t ≡ true → (IsTrue u ↔ IsOfBytes (typ h.dtype)) → u ≡ false → IsUnplanned BadShape x VarBin h
+pub varbins_of_others : (x : ExtMeaning) (h : ArrayHead) (p : PType) (t u : Bool) → Reads varbin_schema 0 h.metadata (varbin_value p) → t ≡ is_integer p → t ≡ true → (IsTrue u ↔ IsOfBytes (typ h.dtype)) → u ≡ false → RefusesPlanning BadShape x VarBin h
 varbins_of_others x h p t u r e f g k =
     single_unplanned x VarBin h (M.varbin p) (varbin_metadata x (typ h.dtype) h.metadata p r (sym e ∙ f)) (plan_none (typ h.dtype) h.len p h.nchildren (iff_false g k))
 
-pub varbins_uncounted : (x : ExtMeaning) (h : ArrayHead) (p : PType) (t : Bool) → Reads varbin_schema 0 h.metadata (varbin_value p) → t ≡ is_integer p → t ≡ true → 2 ^ 64 ≤ h.len + 1 → IsUnplanned BadShape x VarBin h
+pub varbins_uncounted : (x : ExtMeaning) (h : ArrayHead) (p : PType) (t : Bool) → Reads varbin_schema 0 h.metadata (varbin_value p) → t ≡ is_integer p → t ≡ true → 2 ^ 64 ≤ h.len + 1 → RefusesPlanning BadShape x VarBin h
 varbins_uncounted x h p t r e f past =
     single_unplanned x VarBin h (M.varbin p) (varbin_metadata x (typ h.dtype) h.metadata p r (sym e ∙ f)) (plan_past (typ h.dtype) h.len p h.nchildren (omega (arith, past)))
 
@@ -94,7 +94,7 @@ varbins_planned x h (Ok ps) p t u k shown i f g b e lt q =
 varbins_planned x h (Err error) p t u k shown i f g b e lt q = tt
 
 pub varbins_without : (error : EncodingError) (x : ExtMeaning) (h : ArrayHead) (p : PType) (t u : Bool) (k : ℕ) → Reads varbin_schema 0 h.metadata (varbin_value p) → t ≡ is_integer p → t ≡ true → (IsTrue u ↔ IsOfBytes (typ h.dtype)) → u ≡ true → k ≡ h.len + 1 → k < 2 ^ 64
-    → IsWithoutPlan error (before_validity (place (numbers p) k ∷ []) h.len h.nchildren) → IsUnplanned error x VarBin h
+    → RefusesPlaces error (before_validity (place (numbers p) k ∷ []) h.len h.nchildren) → RefusesPlanning error x VarBin h
 varbins_without OutOfMemory x h p t u k shown i f g b e lt w = tt
 varbins_without BadMetadata x h p t u k shown i f g b e lt w = absurd w
 varbins_without BadShape x h p t u k shown i f g b e lt w =
@@ -163,7 +163,7 @@ varbins_built x h bs us o b v t planned p e q =
 
 -- Parts that the constructor refuses do not fit the row of a planned node.
 pub varbins_refused : (x : ExtMeaning) (error : ArrayError) (h : ArrayHead) (bs : List Buffer) (us : Trees) (o : Tree) (b : Buffer) (v : Option Tree)
-    → (y : ExtMeaning) × IsPlanned y VarBin h (places us) → bs ≡ b ∷ [] → more o (option_trees v) ≡ us → IsUnmade error (varbin_tree (typ h.dtype) o b v) → IsUnbuilt (constructor_error error) x VarBin h bs us
+    → (y : ExtMeaning) × IsPlanned y VarBin h (places us) → bs ≡ b ∷ [] → more o (option_trees v) ≡ us → RefusesMaking error (varbin_tree (typ h.dtype) o b v) → RefusesBuilding (constructor_error error) x VarBin h bs us
 varbins_refused x error h bs us o b v planned p e refused =
     let k = varbin_plan planned.0 h us planned.1 in
     let f = behind_few (place (numbers k.kind) (suc h.len)) h.len h.nchildren us k.children in
@@ -172,7 +172,7 @@ varbins_refused x error h bs us o b v planned p e refused =
     (rw p refl) k.integer counted refl tt (made h us o b v k e) refused
 
 -- Buffers of another number than one do not fit.
-pub varbins_buffers : (x : ExtMeaning) (h : ArrayHead) (bs : List Buffer) (us : Trees) → (y : ExtMeaning) × IsPlanned y VarBin h (places us) → (length bs ≡ 1 → ⊥) → IsUnbuilt BadShape x VarBin h bs us
+pub varbins_buffers : (x : ExtMeaning) (h : ArrayHead) (bs : List Buffer) (us : Trees) → (y : ExtMeaning) × IsPlanned y VarBin h (places us) → (length bs ≡ 1 → ⊥) → RefusesBuilding BadShape x VarBin h bs us
 varbins_buffers x h bs us planned none =
     let k = varbin_plan planned.0 h us planned.1 in
     single_buffers x VarBin h (M.varbin k.kind) (varbin_metadata x (typ h.dtype) h.metadata k.kind k.reads k.integer) bs us tt none

@@ -16,7 +16,7 @@ use Rattle.vx_array_tree.specs.Place.{Place, before_validity}
 use Rattle.vx_array_tree.specs.Table.{IsShaped, body_of, plan_of}
 use Rattle.vx_array_tree.specs.Tree.{Tree, Trees, places, option_trees}
 use Rattle.vx_array_tree.proofs.Bodies.{body_again}
-use Rattle.vx_arrays.specs.Refused.{IsUnmade}
+use Rattle.vx_arrays.specs.Refused.{RefusesMaking}
 use Rattle.vx_arrays.specs.VarBins.{IsOfBytes}
 use Rattle.vx_arrays.specs.VarBinViews.{varbinview_head, varbinview_tree}
 use Rattle.vx_arrays.specs.declared.error.ArrayError.{ArrayError}
@@ -24,7 +24,7 @@ use Rattle.vx_encodings.proofs.Bare.{varbinview_metadata, varbinview_nothing}
 use Rattle.vx_encodings.proofs.Fitting.{constructor_refused}
 use Rattle.vx_encodings.proofs.Singles.{single_children, single_planned, single_unplanned, single_without, single_built}
 use Rattle.vx_encodings.proofs.Validities.{validity_few}
-use Rattle.vx_encodings.specs.Steps.{IsPlanned, IsUnplanned, IsWithoutPlan, IsBuilt, IsUnbuilt, constructor_error}
+use Rattle.vx_encodings.specs.Steps.{IsPlanned, RefusesPlanning, RefusesPlaces, IsBuilt, RefusesBuilding, constructor_error}
 use Rattle.vx_encodings.specs.declared.encoding.Encoding.TheVariants.{VarBinView}
 use Rattle.vx_encodings.specs.declared.error.EncodingError.{EncodingError}
 use Rattle.vx_encodings.specs.declared.error.EncodingError.TheVariants.{BadMetadata, BadShape}
@@ -44,11 +44,11 @@ plan_none (node (binary m) end) n k h = absurd (h tt)
 plan_none _ n k h = refl
 
 -- Where a byte stands there is no metadata.
-pub views_unread : (x : ExtMeaning) (h : ArrayHead) → h.metadata ≢ [] → IsUnplanned BadMetadata x VarBinView h
+pub views_unread : (x : ExtMeaning) (h : ArrayHead) → h.metadata ≢ [] → RefusesPlanning BadMetadata x VarBinView h
 views_unread x h b v m = b (varbinview_nothing x (typ h.dtype) h.metadata v m).0
 
 -- Where the type is another one the shape does not fit.
-pub views_of_others : (x : ExtMeaning) (h : ArrayHead) (t : Bool) → h.metadata ≡ [] → (IsTrue t ↔ IsOfBytes (typ h.dtype)) → t ≡ false → IsUnplanned BadShape x VarBinView h
+pub views_of_others : (x : ExtMeaning) (h : ArrayHead) (t : Bool) → h.metadata ≡ [] → (IsTrue t ↔ IsOfBytes (typ h.dtype)) → t ≡ false → RefusesPlanning BadShape x VarBinView h
 views_of_others x h t b f e = single_unplanned x VarBinView h M.empty (varbinview_metadata x (typ h.dtype) h.metadata b) (plan_none (typ h.dtype) h.len h.nchildren (iff_false f e))
 
 -- Else what is answered for a validity is the answer for the node.
@@ -57,7 +57,7 @@ pub views_planned : (x : ExtMeaning) (h : ArrayHead) (r : Result (List Place) En
 views_planned x h r t b f e q = single_planned x VarBinView h M.empty (varbinview_metadata x (typ h.dtype) h.metadata b) r (plan_is (typ h.dtype) h.len h.nchildren (f.0 e)) q
 
 pub views_without : (error : EncodingError) (x : ExtMeaning) (h : ArrayHead) (t : Bool) → h.metadata ≡ [] → (IsTrue t ↔ IsOfBytes (typ h.dtype)) → t ≡ true
-    → IsWithoutPlan error (before_validity [] h.len h.nchildren) → IsUnplanned error x VarBinView h
+    → RefusesPlaces error (before_validity [] h.len h.nchildren) → RefusesPlanning error x VarBinView h
 views_without error x h t b f e w = single_without x VarBinView h M.empty (varbinview_metadata x (typ h.dtype) h.metadata b) error (plan_is (typ h.dtype) h.len h.nchildren (f.0 e)) w
 
 -- ---- building
@@ -104,8 +104,8 @@ views_built x h bs us front b o t planned e c r =
 
 -- Parts that the constructor refuses do not fit the row of a planned node.
 pub views_refused : (x : ExtMeaning) (error : ArrayError) (h : ArrayHead) (bs : List Buffer) (us : Trees) (front : List Buffer) (b : Buffer) (o : Option Tree)
-    → (y : ExtMeaning) × IsPlanned y VarBinView h (places us) → bs ≡ front ++ b ∷ [] → option_trees o ≡ us → IsUnmade error (varbinview_tree (typ h.dtype) h.len front b o)
-    → IsUnbuilt (constructor_error error) x VarBinView h bs us
+    → (y : ExtMeaning) × IsPlanned y VarBinView h (places us) → bs ≡ front ++ b ∷ [] → option_trees o ≡ us → RefusesMaking error (varbinview_tree (typ h.dtype) h.len front b o)
+    → RefusesBuilding (constructor_error error) x VarBinView h bs us
 views_refused x error h bs us front b o planned e c refused =
     let q = views_plan planned.0 h us planned.1 in
     let few = validity_few h.len h.nchildren us q.children in
@@ -117,7 +117,7 @@ views_refused x error h bs us front b o planned e c refused =
 viewless : (d : Typ) (n : ℕ) (bs : List Buffer) (k : ℕ) → bs ≡ [] → IsShaped E.varbinview d n M.empty bs k → ⊥
 viewless d n bs k e s = let f : None ≡ Some s.body = ap (λ (cs : List Buffer). body_of E.varbinview M.empty cs) (sym e) ∙ s.body_is in absurd (cc)
 
-pub views_missing : (x : ExtMeaning) (h : ArrayHead) (bs : List Buffer) (us : Trees) → (y : ExtMeaning) × IsPlanned y VarBinView h (places us) → bs ≡ [] → IsUnbuilt BadShape x VarBinView h bs us
+pub views_missing : (x : ExtMeaning) (h : ArrayHead) (bs : List Buffer) (us : Trees) → (y : ExtMeaning) × IsPlanned y VarBinView h (places us) → bs ≡ [] → RefusesBuilding BadShape x VarBinView h bs us
 views_missing x h bs us planned e =
     record {
       value = M.empty;

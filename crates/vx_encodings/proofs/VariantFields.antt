@@ -30,7 +30,7 @@ use Rattle.vx_arrays.specs.declared.body.Body.TheVariants.{Variant}
 use Rattle.vx_encodings.proofs.Fit.{fits_over}
 use Rattle.vx_encodings.specs.Messages.{codec}
 use Rattle.vx_encodings.specs.Steps.{RefusesMetadata}
-use Rattle.vx_encodings.specs.VariantMessage.{IsShredded, IsUnshredded, IsUnknownMessage, ShowsVariant, shredded_value, variant_bytes, variant_parts, variant_schema, variant_value}
+use Rattle.vx_encodings.specs.VariantMessage.{IsShredded, RefusesShredded, RefusesShreddedType, ShowsVariant, shredded_value, variant_bytes, variant_parts, variant_schema, variant_value}
 use Rattle.vx_encodings.specs.declared.error.EncodingError.{EncodingError}
 use Rattle.vx_encodings.specs.declared.error.EncodingError.TheVariants.{OutOfMemory, BadMetadata, BadShape}
 
@@ -106,7 +106,7 @@ variant_read x d bytes v m =
 -- ---- the type of a shredded child
 
 -- Bytes that are no message tell none.
-pub nothing_told : (x : ExtMeaning) (bytes : List ℕ) (e : EncodingError) → RefusesMetadata e variant_schema 14 bytes → IsUnshredded e x bytes
+pub nothing_told : (x : ExtMeaning) (bytes : List ℕ) (e : EncodingError) → RefusesMetadata e variant_schema 14 bytes → RefusesShredded e x bytes
 nothing_told x bytes OutOfMemory u = tt
 nothing_told x bytes BadMetadata u = λ d h. u _ h.reads
 nothing_told x bytes BadShape u = absurd u
@@ -135,7 +135,7 @@ type_untold x bytes v m r n e never (Some t) s =
     let is : m ≡ type_message t = same_Some m (type_message t) (sym e ∙ q) in
     never t (few_levels t s.is_type (subst (λ (z : Option Value). nested (variant_value z) ≤ 100) q n)) (record { shows = record { is_type = s.is_type; is = is }; known = s.known })
 
-pub types_unknown : (x : ExtMeaning) (bytes : List ℕ) (v : Option Value) (m : Value) (error : EncodingError) → Reads variant_schema 14 bytes (variant_value v) → nested (variant_value v) ≤ 100 → v ≡ Some m → IsUnknownMessage error x m → IsUnshredded error x bytes
+pub types_unknown : (x : ExtMeaning) (bytes : List ℕ) (v : Option Value) (m : Value) (error : EncodingError) → Reads variant_schema 14 bytes (variant_value v) → nested (variant_value v) ≤ 100 → v ≡ Some m → RefusesShreddedType error x m → RefusesShredded error x bytes
 types_unknown x bytes v m OutOfMemory r n e u = tt
 types_unknown x bytes v m BadMetadata r n e u = type_untold x bytes v m r n e u
 types_unknown x bytes v m BadShape r n e u = absurd u

@@ -19,13 +19,13 @@ use Rattle.vx_array_tree.specs.Table.{IsShaped, body_of, plan_of}
 use Rattle.vx_array_tree.specs.Tree.{Tree, Trees, places, untold}
 use Rattle.vx_array_tree.proofs.LawsOfPlaces.{places_count}
 use Rattle.vx_array_tree.proofs.PlanCounts.{planned_count}
-use Rattle.vx_arrays.specs.Refused.{IsUnmade}
+use Rattle.vx_arrays.specs.Refused.{RefusesMaking}
 use Rattle.vx_arrays.specs.declared.error.ArrayError.{ArrayError}
 use Rattle.vx_encodings.proofs.Fitting.{children_refused}
 use Rattle.vx_encodings.proofs.Singles.{single_unplanned, single_built}
 use Rattle.vx_encodings.proofs.VariantFields.{variant_metadata, variant_read}
-use Rattle.vx_encodings.specs.Steps.{IsPlanned, IsUnplanned, IsWithoutPlan, IsBuilt, IsUnbuilt, constructor_error}
-use Rattle.vx_encodings.specs.VariantMessage.{IsShredded, IsUnshredded, child_places}
+use Rattle.vx_encodings.specs.Steps.{IsPlanned, RefusesPlanning, RefusesPlaces, IsBuilt, RefusesBuilding, constructor_error}
+use Rattle.vx_encodings.specs.VariantMessage.{IsShredded, RefusesShredded, child_places}
 use Rattle.vx_encodings.specs.declared.encoding.Encoding.{Encoding}
 use Rattle.vx_encodings.specs.declared.encoding.Encoding.TheVariants.{Variant}
 use Rattle.vx_encodings.specs.declared.error.EncodingError.{EncodingError}
@@ -35,17 +35,17 @@ use Rattle.vx_encodings.specs.declared.head.ArrayHead.{ArrayHead}
 -- ---- a plan
 
 -- Bytes that tell no type that is known are no metadata.
-pub variants_unread : (x : ExtMeaning) (error : EncodingError) (h : ArrayHead) → IsUnshredded error x h.metadata → IsUnplanned error x Variant h
+pub variants_unread : (x : ExtMeaning) (error : EncodingError) (h : ArrayHead) → RefusesShredded error x h.metadata → RefusesPlanning error x Variant h
 variants_unread x OutOfMemory h u = tt
 variants_unread x BadMetadata h u = λ v m. let k = variant_read x (typ h.dtype) h.metadata v m in u k.shredded k.told
 variants_unread x BadShape h u = absurd u
 variants_unread x _ h u = absurd u
 
 -- Where nothing is planned the shape does not fit.
-unplanned : (x : ExtMeaning) (h : ArrayHead) (s : Option Typ) → IsShredded x h.metadata s → plan (typ h.dtype) h.len s h.nchildren ≡ None → IsUnplanned BadShape x Variant h
+unplanned : (x : ExtMeaning) (h : ArrayHead) (s : Option Typ) → IsShredded x h.metadata s → plan (typ h.dtype) h.len s h.nchildren ≡ None → RefusesPlanning BadShape x Variant h
 unplanned x h s k e = single_unplanned x Variant h (M.variant s) (variant_metadata x h.metadata (typ h.dtype) s k) e
 
-pub variants_unplanned : (x : ExtMeaning) (h : ArrayHead) (bytes : List ℕ) (s : Option Typ) → bytes ≡ h.metadata → IsShredded x bytes s → plan (typ h.dtype) h.len s h.nchildren ≡ None → IsUnplanned BadShape x Variant h
+pub variants_unplanned : (x : ExtMeaning) (h : ArrayHead) (bytes : List ℕ) (s : Option Typ) → bytes ≡ h.metadata → IsShredded x bytes s → plan (typ h.dtype) h.len s h.nchildren ≡ None → RefusesPlanning BadShape x Variant h
 variants_unplanned x h bytes s same k e = unplanned x h s (subst (λ (z : List ℕ). IsShredded x z s) same k) e
 
 plan_is : (m : Nullability) (n : ℕ) (s : Option Typ) (k : ℕ) → plan (node (variant m) end) n s k ≡ exactly (child_places (node (variant m) end) s n) k
@@ -63,14 +63,14 @@ variants_planned x h (Ok ps) bytes s m same k q p =
 variants_planned x h (Err error) bytes s m same k q p = tt
 
 without : (error : EncodingError) (x : ExtMeaning) (h : ArrayHead) (s : Option Typ) (m : Nullability) → IsShredded x h.metadata s → h.dtype ≡ D.Variant m
-    → IsWithoutPlan error (exactly (child_places (typ h.dtype) s h.len) h.nchildren) → IsUnplanned error x Variant h
+    → RefusesPlaces error (exactly (child_places (typ h.dtype) s h.len) h.nchildren) → RefusesPlanning error x Variant h
 without OutOfMemory x h s m k q w = tt
 without BadMetadata x h s m k q w = absurd w
 without BadShape x h s m k q w = unplanned x h s k (plan_at h.dtype m h.len s h.nchildren q ∙ w)
 without _ x h s m k q w = absurd w
 
 pub variants_without : (x : ExtMeaning) (h : ArrayHead) (r : Result (List Place) EncodingError) (s : Option Typ) (m : Nullability) → IsShredded x h.metadata s → h.dtype ≡ D.Variant m
-    → IfErr r (λ e. IsWithoutPlan e (exactly (child_places (typ h.dtype) s h.len) h.nchildren)) → IfErr r (λ e. IsUnplanned e x Variant h)
+    → IfErr r (λ e. RefusesPlaces e (exactly (child_places (typ h.dtype) s h.len) h.nchildren)) → IfErr r (λ e. RefusesPlanning e x Variant h)
 variants_without x h (Ok ps) s m k q w = tt
 variants_without x h (Err error) s m k q w = without error x h s m k q w
 
@@ -78,8 +78,8 @@ variants_without x h (Err error) s m k q w = without error x h s m k q w
 pub planned_at : (x : ExtMeaning) (e : Encoding) (h : ArrayHead) (r : Result (List Place) EncodingError) → e ≡ Variant → IfOk r (λ ps. IsPlanned x Variant h ps) → IfOk r (λ ps. IsPlanned x e h ps)
 planned_at x e h r q p = subst (λ (z : Encoding). IfOk r (λ ps. IsPlanned x z h ps)) (sym q) p
 
-pub unplanned_at : (x : ExtMeaning) (e : Encoding) (h : ArrayHead) (r : Result (List Place) EncodingError) → e ≡ Variant → IfErr r (λ error. IsUnplanned error x Variant h) → IfErr r (λ error. IsUnplanned error x e h)
-unplanned_at x e h r q p = subst (λ (z : Encoding). IfErr r (λ error. IsUnplanned error x z h)) (sym q) p
+pub unplanned_at : (x : ExtMeaning) (e : Encoding) (h : ArrayHead) (r : Result (List Place) EncodingError) → e ≡ Variant → IfErr r (λ error. RefusesPlanning error x Variant h) → IfErr r (λ error. RefusesPlanning error x e h)
+unplanned_at x e h r q p = subst (λ (z : Encoding). IfErr r (λ error. RefusesPlanning error x z h)) (sym q) p
 
 -- ---- building
 
@@ -112,7 +112,7 @@ variants_built x h bs us t planned b w =
 
 -- Parts that the constructor refuses do not fit the row of a planned node.
 pub variants_refused : (x : ExtMeaning) (error : ArrayError) (h : ArrayHead) (bs : List Buffer) (us : Trees) → IsPlanned x Variant h (places us) → bs ≡ []
-    → IsUnmade error (node (untold (typ h.dtype) h.len B.variant) us) → IsUnbuilt (constructor_error error) x Variant h bs us
+    → RefusesMaking error (node (untold (typ h.dtype) h.len B.variant) us) → RefusesBuilding (constructor_error error) x Variant h bs us
 variants_refused x error h bs us planned b refused =
     let k = variant_plan x h us planned in
     children_refused x Variant h (M.variant k.shredded) (variant_metadata x h.metadata (typ h.dtype) k.shredded k.told) error bs us B.variant
@@ -123,7 +123,7 @@ bufferless : (d : Typ) (n : ℕ) (s : Option Typ) (bs : List Buffer) (k : ℕ) �
 bufferless d n s [] k none z = none refl
 bufferless d n s (b ∷ bs) k none z = let f : None ≡ Some z.body = z.body_is in cc
 
-pub variants_buffers : (x : ExtMeaning) (h : ArrayHead) (bs : List Buffer) (us : Trees) → IsPlanned x Variant h (places us) → bs ≢ [] → IsUnbuilt BadShape x Variant h bs us
+pub variants_buffers : (x : ExtMeaning) (h : ArrayHead) (bs : List Buffer) (us : Trees) → IsPlanned x Variant h (places us) → bs ≢ [] → RefusesBuilding BadShape x Variant h bs us
 variants_buffers x h bs us planned none =
     let k = variant_plan x h us planned in
     record {

@@ -28,13 +28,13 @@ IsPlanned x e h ps = PlansChildren codec x (plain_encoding e) (typ h.dtype) h.le
 
 -- No children are planned: for want of memory, for metadata that is none of the encoding's, or for a type or a
 -- number of children that does not fit.
-abbrev pub IsUnplanned : EncodingError → ExtMeaning → Encoding → ArrayHead → Type 0
-IsUnplanned OutOfMemory x e h = Unit {0}
-IsUnplanned BadMetadata x e h = HasNoMetadata codec x (plain_encoding e) (typ h.dtype) h.metadata
-IsUnplanned BadShape x e h = HasNoPlan codec x (plain_encoding e) (typ h.dtype) h.len h.metadata h.nchildren
-IsUnplanned BadContent x e h = ⊥
-IsUnplanned ForeignControl x e h = ⊥
-IsUnplanned WireLimit x e h = ⊥
+abbrev pub RefusesPlanning : EncodingError → ExtMeaning → Encoding → ArrayHead → Type 0
+RefusesPlanning OutOfMemory x e h = Unit {0}
+RefusesPlanning BadMetadata x e h = HasNoMetadata codec x (plain_encoding e) (typ h.dtype) h.metadata
+RefusesPlanning BadShape x e h = HasNoPlan codec x (plain_encoding e) (typ h.dtype) h.len h.metadata h.nchildren
+RefusesPlanning BadContent x e h = ⊥
+RefusesPlanning ForeignControl x e h = ⊥
+RefusesPlanning WireLimit x e h = ⊥
 
 -- An array is the node of this encoding, head, buffers and children.
 abbrev pub IsBuilt : ExtMeaning → Encoding → ArrayHead → List Buffer → Trees → Tree → Type 0
@@ -42,31 +42,31 @@ IsBuilt x e h bs ts t = HasParts codec x (plain_encoding e) (typ h.dtype) h.len 
 
 -- No node is built of a planned one's parts: for want of memory, for a shape that does not fit, for a foreign node where
 -- a child says where rows are, or for broken content where the shape fits and no such node stands there. That the metadata is the encoding's was said where the children were planned.
-abbrev pub IsUnbuilt : EncodingError → ExtMeaning → Encoding → ArrayHead → List Buffer → Trees → Type 0
-IsUnbuilt OutOfMemory x e h bs ts = Unit {0}
-IsUnbuilt BadMetadata x e h bs ts = ⊥
-IsUnbuilt BadShape x e h bs ts = HasWrongShape codec x (plain_encoding e) (typ h.dtype) h.len h.metadata bs ts
-IsUnbuilt BadContent x e h bs ts = HasWrongContent codec x (plain_encoding e) (typ h.dtype) h.len h.metadata bs ts
-IsUnbuilt ForeignControl x e h bs ts = HasWrongControl codec x (plain_encoding e) (typ h.dtype) h.len h.metadata ts
-IsUnbuilt WireLimit x e h bs ts = ⊥
+abbrev pub RefusesBuilding : EncodingError → ExtMeaning → Encoding → ArrayHead → List Buffer → Trees → Type 0
+RefusesBuilding OutOfMemory x e h bs ts = Unit {0}
+RefusesBuilding BadMetadata x e h bs ts = ⊥
+RefusesBuilding BadShape x e h bs ts = HasWrongShape codec x (plain_encoding e) (typ h.dtype) h.len h.metadata bs ts
+RefusesBuilding BadContent x e h bs ts = HasWrongContent codec x (plain_encoding e) (typ h.dtype) h.len h.metadata bs ts
+RefusesBuilding ForeignControl x e h bs ts = HasWrongControl codec x (plain_encoding e) (typ h.dtype) h.len h.metadata ts
+RefusesBuilding WireLimit x e h bs ts = ⊥
 
 -- There is no such plan, or memory was wanted.
-abbrev pub IsWithoutPlan : EncodingError → Option (List Place) → Type 0
-IsWithoutPlan OutOfMemory plan = Unit {0}
-IsWithoutPlan BadMetadata plan = ⊥
-IsWithoutPlan BadShape plan = plan ≡ None
-IsWithoutPlan BadContent plan = ⊥
-IsWithoutPlan ForeignControl plan = ⊥
-IsWithoutPlan WireLimit plan = ⊥
+abbrev pub RefusesPlaces : EncodingError → Option (List Place) → Type 0
+RefusesPlaces OutOfMemory plan = Unit {0}
+RefusesPlaces BadMetadata plan = ⊥
+RefusesPlaces BadShape plan = plan ≡ None
+RefusesPlaces BadContent plan = ⊥
+RefusesPlaces ForeignControl plan = ⊥
+RefusesPlaces WireLimit plan = ⊥
 
 -- No metadata is written of a root: for want of memory, or as it does not fit its message.
-abbrev pub IsUnwritten : EncodingError → Tree → Type 0
-IsUnwritten OutOfMemory t = Unit {0}
-IsUnwritten BadMetadata t = ⊥
-IsUnwritten BadShape t = ⊥
-IsUnwritten BadContent t = ⊥
-IsUnwritten ForeignControl t = ⊥
-IsUnwritten WireLimit t = HasMessage (label t) (below t) → ⊥
+abbrev pub RefusesWritingMetadata : EncodingError → Tree → Type 0
+RefusesWritingMetadata OutOfMemory t = Unit {0}
+RefusesWritingMetadata BadMetadata t = ⊥
+RefusesWritingMetadata BadShape t = ⊥
+RefusesWritingMetadata BadContent t = ⊥
+RefusesWritingMetadata ForeignControl t = ⊥
+RefusesWritingMetadata WireLimit t = HasMessage (label t) (below t) → ⊥
 
 -- Of the refusals this one is want of memory.
 abbrev pub IsMemory : EncodingError → Type 0

@@ -63,16 +63,16 @@ pub record IsShredded (x : ExtMeaning) (bytes : List ℕ) (d : Option Typ) : Typ
   pub known : IsKnownIn x (M.variant d)
 
 -- Bytes tell none that the readers know, or memory was wanted.
-abbrev pub IsUnshredded : EncodingError → ExtMeaning → List ℕ → Type 0
-IsUnshredded OutOfMemory x bytes = Unit {0}
-IsUnshredded BadMetadata x bytes = (d : Option Typ) → IsShredded x bytes d → ⊥
-IsUnshredded _ x bytes = ⊥
+abbrev pub RefusesShredded : EncodingError → ExtMeaning → List ℕ → Type 0
+RefusesShredded OutOfMemory x bytes = Unit {0}
+RefusesShredded BadMetadata x bytes = (d : Option Typ) → IsShredded x bytes d → ⊥
+RefusesShredded _ x bytes = ⊥
 
 -- A message is of no type that the readers know and whose message nests few enough others, or memory was wanted.
-abbrev pub IsUnknownMessage : EncodingError → ExtMeaning → Value → Type 0
-IsUnknownMessage OutOfMemory x m = Unit {0}
-IsUnknownMessage BadMetadata x m = (t : Typ) → levels t ≤ most_levels → IsRead (IsMessageOf m) x t → ⊥
-IsUnknownMessage _ x m = ⊥
+abbrev pub RefusesShreddedType : EncodingError → ExtMeaning → Value → Type 0
+RefusesShreddedType OutOfMemory x m = Unit {0}
+RefusesShreddedType BadMetadata x m = (t : Typ) → levels t ≤ most_levels → IsRead (IsMessageOf m) x t → ⊥
+RefusesShreddedType _ x m = ⊥
 
 -- Where the children are to stand: a core of a type, and behind it a shredded child, where it has a type.
 abbrev pub child_places : Typ → Option Typ → ℕ → List Place

@@ -8,7 +8,7 @@ ghost use Rattle.vx_array_tree.specs.Sound.{IsSound};
 ghost use Rattle.vx_array_tree.specs.Tree.{places};
 ghost use Rattle.vx_encodings.specs.BoolMessage.{bool_schema, bool_value, bool_bytes};
 ghost use Rattle.vx_encodings.specs.NumberMessage.{same_value};
-ghost use Rattle.vx_encodings.specs.Steps.{IsPlanned, IsUnplanned, IsBuilt, IsUnbuilt};
+ghost use Rattle.vx_encodings.specs.Steps.{IsPlanned, RefusesPlanning, IsBuilt, RefusesBuilding};
 ghost use Rattle.vx_encodings.specs.declared.encoding.Encoding.TheVariants.{Bool};
 
 use crate::buffers::only_buffer;
@@ -74,7 +74,7 @@ impl Message for BoolMetadata {
 #[tactic(auto, using(crate::proofs::BoolSteps::bool_steps))]
 pub(crate) fn plan(alloc: Global, head: &ArrayHead) -> Result<ChildPlans, EncodingError>
     ensures plan { (x : ExtMeaning) → IfOk result (λ plans. IsPlanned x Bool head.now plans) }
-    ensures err { (x : ExtMeaning) → IfErr result (λ e. IsUnplanned e x Bool head.now) }
+    ensures err { (x : ExtMeaning) → IfErr result (λ e. RefusesPlanning e x Bool head.now) }
 {
     let metadata: BoolMetadata = read_message(alloc, head.metadata.as_slice())?;
     if metadata.offset >= 8 {
@@ -98,7 +98,7 @@ pub(crate) fn build(
     requires { (x : ExtMeaning) × IsPlanned x Bool head (places children) }
     ensures parts { (x : ExtMeaning) → IfOk result (λ t. IsBuilt x Bool head buffers children t) }
     ensures sound { IfOk result IsSound }
-    ensures err { (x : ExtMeaning) → IfErr result (λ e. IsUnbuilt e x Bool head buffers children) }
+    ensures err { (x : ExtMeaning) → IfErr result (λ e. RefusesBuilding e x Bool head buffers children) }
 {
     let metadata: BoolMetadata = read_message(alloc, head.metadata.as_slice())?;
     let nullability = match &head.dtype {

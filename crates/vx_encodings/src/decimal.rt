@@ -7,7 +7,7 @@ ghost use Rattle.vx_types.specs.Known.{ExtMeaning};
 ghost use Rattle.vx_array_tree.specs.Sound.{IsSound};
 ghost use Rattle.vx_array_tree.specs.Tree.{places};
 ghost use Rattle.vx_encodings.specs.DecimalMessage.{decimal_schema, decimal_value, decimal_bytes, same_width};
-ghost use Rattle.vx_encodings.specs.Steps.{IsPlanned, IsUnplanned, IsBuilt, IsUnbuilt};
+ghost use Rattle.vx_encodings.specs.Steps.{IsPlanned, RefusesPlanning, IsBuilt, RefusesBuilding};
 ghost use Rattle.vx_encodings.specs.declared.encoding.Encoding.TheVariants.{Decimal};
 
 use crate::buffers::only_buffer;
@@ -79,7 +79,7 @@ impl Message for DecimalMetadata {
 #[tactic(auto, using(crate::proofs::DecimalSteps::decimal_steps))]
 pub(crate) fn plan(alloc: Global, head: &ArrayHead) -> Result<ChildPlans, EncodingError>
     ensures plan { (x : ExtMeaning) → IfOk result (λ plans. IsPlanned x Decimal head.now plans) }
-    ensures err { (x : ExtMeaning) → IfErr result (λ e. IsUnplanned e x Decimal head.now) }
+    ensures err { (x : ExtMeaning) → IfErr result (λ e. RefusesPlanning e x Decimal head.now) }
 {
     let _metadata: DecimalMetadata = read_message(alloc, head.metadata.as_slice())?;
     match head.dtype {
@@ -110,7 +110,7 @@ pub(crate) fn build(
     requires { (x : ExtMeaning) × IsPlanned x Decimal head (places children) }
     ensures parts { (x : ExtMeaning) → IfOk result (λ t. IsBuilt x Decimal head buffers children t) }
     ensures sound { IfOk result IsSound }
-    ensures err { (x : ExtMeaning) → IfErr result (λ e. IsUnbuilt e x Decimal head buffers children) }
+    ensures err { (x : ExtMeaning) → IfErr result (λ e. RefusesBuilding e x Decimal head buffers children) }
 {
     let metadata: DecimalMetadata = read_message(alloc, head.metadata.as_slice())?;
     match &head.dtype {

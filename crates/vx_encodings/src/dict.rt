@@ -19,7 +19,7 @@ ghost use Rattle.vx_array_tree.specs.Tree.{places};
 ghost use Rattle.vx_wire_tree.specs.Fields.{codes_nullability, is_nullable, told};
 ghost use Rattle.vx_encodings.specs.DictMessage.{dict_schema, dict_value, flag_content, flag_of, same_dict};
 ghost use Rattle.vx_encodings.specs.Messages.{message_bytes};
-ghost use Rattle.vx_encodings.specs.Steps.{IsPlanned, IsUnplanned, IsBuilt, IsUnbuilt, IsWithoutPlan};
+ghost use Rattle.vx_encodings.specs.Steps.{IsPlanned, RefusesPlanning, IsBuilt, RefusesBuilding, RefusesPlaces};
 ghost use Rattle.vx_encodings.specs.declared.encoding.Encoding.TheVariants.{Dict};
 
 use crate::error::{EncodingError, of_constructor};
@@ -147,7 +147,7 @@ fn nullability_of(dtype: &DType, told: Option<bool>) -> Nullability
 #[tactic(auto, using(crate::proofs::DictSteps::dict_steps))]
 pub(crate) fn plan(alloc: Global, head: &ArrayHead) -> Result<ChildPlans, EncodingError>
     ensures plan { (x : ExtMeaning) → IfOk result (λ plans. IsPlanned x Dict head.now plans) }
-    ensures err { (x : ExtMeaning) → IfErr result (λ e. IsUnplanned e x Dict head.now) }
+    ensures err { (x : ExtMeaning) → IfErr result (λ e. RefusesPlanning e x Dict head.now) }
 {
     let metadata: DictMetadata = read_message(alloc, head.metadata.as_slice())?;
     if !metadata.codes_ptype.is_int() {
@@ -176,7 +176,7 @@ fn plan_pair(
     count: usize,
 ) -> Result<ChildPlans, EncodingError>
     ensures plan { IfOk result (λ plans. exactly (place (typ codes) len ∷ place (typ values.now) values_len ∷ []) count ≡ Some plans) }
-    ensures err { IfErr result (λ e. IsWithoutPlan e (exactly (place (typ codes) len ∷ place (typ values.now) values_len ∷ []) count)) }
+    ensures err { IfErr result (λ e. RefusesPlaces e (exactly (place (typ codes) len ∷ place (typ values.now) values_len ∷ []) count)) }
 {
     if count != 2 {
         return Err(EncodingError::BadShape);
@@ -199,7 +199,7 @@ pub(crate) fn build(
     requires { (x : ExtMeaning) × IsPlanned x Dict head (places children) }
     ensures parts { (x : ExtMeaning) → IfOk result (λ t. IsBuilt x Dict head buffers children t) }
     ensures sound { IfOk result IsSound }
-    ensures err { (x : ExtMeaning) → IfErr result (λ e. IsUnbuilt e x Dict head buffers children) }
+    ensures err { (x : ExtMeaning) → IfErr result (λ e. RefusesBuilding e x Dict head buffers children) }
 {
     let metadata: DictMetadata = read_message(alloc, head.metadata.as_slice())?;
     if !buffers.is_empty() {

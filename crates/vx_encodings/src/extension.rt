@@ -6,7 +6,7 @@ ghost use Rattle.vx_types.specs.Seen.{typ};
 ghost use Rattle.vx_array_tree.specs.Place.{exactly, place};
 ghost use Rattle.vx_array_tree.specs.Sound.{IsSound};
 ghost use Rattle.vx_array_tree.specs.Tree.{places};
-ghost use Rattle.vx_encodings.specs.Steps.{IsPlanned, IsUnplanned, IsBuilt, IsUnbuilt, IsWithoutPlan};
+ghost use Rattle.vx_encodings.specs.Steps.{IsPlanned, RefusesPlanning, IsBuilt, RefusesBuilding, RefusesPlaces};
 ghost use Rattle.vx_encodings.specs.declared.encoding.Encoding.TheVariants.{Ext};
 
 use crate::empty_metadata::read_empty;
@@ -22,7 +22,7 @@ use vx_types::DType;
 #[tactic(auto, using(crate::proofs::ExtensionSteps::extension_steps))]
 pub(crate) fn plan(alloc: Global, head: &ArrayHead) -> Result<ChildPlans, EncodingError>
     ensures plan { (x : ExtMeaning) → IfOk result (λ plans. IsPlanned x Ext head.now plans) }
-    ensures err { (x : ExtMeaning) → IfErr result (λ e. IsUnplanned e x Ext head.now) }
+    ensures err { (x : ExtMeaning) → IfErr result (λ e. RefusesPlanning e x Ext head.now) }
 {
     read_empty(head.metadata.as_slice())?;
     match &head.dtype {
@@ -41,7 +41,7 @@ fn plan_storage(
     count: usize,
 ) -> Result<ChildPlans, EncodingError>
     ensures plan { IfOk result (λ plans. exactly (place (typ storage.now) len ∷ []) count ≡ Some plans) }
-    ensures err { IfErr result (λ e. IsWithoutPlan e (exactly (place (typ storage.now) len ∷ []) count)) }
+    ensures err { IfErr result (λ e. RefusesPlaces e (exactly (place (typ storage.now) len ∷ []) count)) }
 {
     let plan = plan_of(alloc, storage, len)?;
     plan_only(alloc, plan, count)
@@ -57,7 +57,7 @@ pub(crate) fn build(
     requires { (x : ExtMeaning) × IsPlanned x Ext head (places children) }
     ensures parts { (x : ExtMeaning) → IfOk result (λ t. IsBuilt x Ext head buffers children t) }
     ensures sound { IfOk result IsSound }
-    ensures err { (x : ExtMeaning) → IfErr result (λ e. IsUnbuilt e x Ext head buffers children) }
+    ensures err { (x : ExtMeaning) → IfErr result (λ e. RefusesBuilding e x Ext head buffers children) }
 {
     if !buffers.is_empty() {
         return Err(EncodingError::BadShape);

@@ -6,7 +6,7 @@ ghost use Rattle.vx_types.specs.Seen.{typ};
 ghost use Rattle.vx_array_tree.specs.Place.{before_validity, is_len, place, when};
 ghost use Rattle.vx_array_tree.specs.Sound.{IsSound};
 ghost use Rattle.vx_array_tree.specs.Tree.{places};
-ghost use Rattle.vx_encodings.specs.Steps.{IsPlanned, IsUnplanned, IsBuilt, IsUnbuilt, IsWithoutPlan};
+ghost use Rattle.vx_encodings.specs.Steps.{IsPlanned, RefusesPlanning, IsBuilt, RefusesBuilding, RefusesPlaces};
 ghost use Rattle.vx_encodings.specs.declared.encoding.Encoding.TheVariants.{FixedSizeList};
 
 use crate::empty_metadata::read_empty;
@@ -23,7 +23,7 @@ use vx_types::DType;
 #[tactic(auto, using(crate::proofs::FixedSizeListSteps::fixed_size_list_steps))]
 pub(crate) fn plan(alloc: Global, head: &ArrayHead) -> Result<ChildPlans, EncodingError>
     ensures plan { (x : ExtMeaning) → IfOk result (λ plans. IsPlanned x FixedSizeList head.now plans) }
-    ensures err { (x : ExtMeaning) → IfErr result (λ e. IsUnplanned e x FixedSizeList head.now) }
+    ensures err { (x : ExtMeaning) → IfErr result (λ e. RefusesPlanning e x FixedSizeList head.now) }
 {
     read_empty(head.metadata.as_slice())?;
     match &head.dtype {
@@ -43,7 +43,7 @@ fn plan_elements(
     count: usize,
 ) -> Result<ChildPlans, EncodingError>
     ensures plan { IfOk result (λ plans. when (is_len (len * size)) (before_validity (place (typ element.now) (len * size) ∷ []) len count) ≡ Some plans) }
-    ensures err { IfErr result (λ e. IsWithoutPlan e (when (is_len (len * size)) (before_validity (place (typ element.now) (len * size) ∷ []) len count))) }
+    ensures err { IfErr result (λ e. RefusesPlaces e (when (is_len (len * size)) (before_validity (place (typ element.now) (len * size) ∷ []) len count))) }
 {
     match len.checked_mul(size as usize) {
         None => Err(EncodingError::BadShape),
@@ -65,7 +65,7 @@ pub(crate) fn build(
     requires { (x : ExtMeaning) × IsPlanned x FixedSizeList head (places children) }
     ensures parts { (x : ExtMeaning) → IfOk result (λ t. IsBuilt x FixedSizeList head buffers children t) }
     ensures sound { IfOk result IsSound }
-    ensures err { (x : ExtMeaning) → IfErr result (λ e. IsUnbuilt e x FixedSizeList head buffers children) }
+    ensures err { (x : ExtMeaning) → IfErr result (λ e. RefusesBuilding e x FixedSizeList head buffers children) }
 {
     if !buffers.is_empty() {
         return Err(EncodingError::BadShape);

@@ -12,7 +12,7 @@ ghost use Rattle.vx_array_tree.specs.Sound.{IsSound};
 ghost use Rattle.vx_array_tree.specs.Tree.{places};
 ghost use Rattle.vx_encodings.specs.ListViewMessage.{kept_views, view_schema, view_value, view_bytes, same_views};
 ghost use Rattle.vx_encodings.specs.Plain.{planned_place};
-ghost use Rattle.vx_encodings.specs.Steps.{IsPlanned, IsUnplanned, IsBuilt, IsUnbuilt, IsWithoutPlan};
+ghost use Rattle.vx_encodings.specs.Steps.{IsPlanned, RefusesPlanning, IsBuilt, RefusesBuilding, RefusesPlaces};
 ghost use Rattle.vx_encodings.specs.declared.encoding.Encoding.TheVariants.{ListView};
 
 use crate::error::{EncodingError, of_constructor};
@@ -101,7 +101,7 @@ impl Message for ListViewMetadata {
 #[tactic(auto, using(crate::proofs::ListViewSteps::list_view_steps))]
 pub(crate) fn plan(alloc: Global, head: &ArrayHead) -> Result<ChildPlans, EncodingError>
     ensures plan { (x : ExtMeaning) → IfOk result (λ plans. IsPlanned x ListView head.now plans) }
-    ensures err { (x : ExtMeaning) → IfErr result (λ e. IsUnplanned e x ListView head.now) }
+    ensures err { (x : ExtMeaning) → IfErr result (λ e. RefusesPlanning e x ListView head.now) }
 {
     let metadata: ListViewMetadata = read_message(alloc, head.metadata.as_slice())?;
     if !is_fair(&metadata) {
@@ -131,7 +131,7 @@ fn plan_parts(
     count: usize,
 ) -> Result<ChildPlans, EncodingError>
     ensures plan { IfOk result (λ plans. before_validity (place (typ element.now) metadata.elements_len ∷ place (numbers metadata.offset_ptype) len ∷ place (numbers metadata.size_ptype) len ∷ []) len count ≡ Some plans) }
-    ensures err { IfErr result (λ e. IsWithoutPlan e (before_validity (place (typ element.now) metadata.elements_len ∷ place (numbers metadata.offset_ptype) len ∷ place (numbers metadata.size_ptype) len ∷ []) len count)) }
+    ensures err { IfErr result (λ e. RefusesPlaces e (before_validity (place (typ element.now) metadata.elements_len ∷ place (numbers metadata.offset_ptype) len ∷ place (numbers metadata.size_ptype) len ∷ []) len count)) }
 {
     let mut front = ChildPlans::new(alloc);
     front.push(plan_of(alloc, element, metadata.elements_len as usize)?)?;
@@ -160,7 +160,7 @@ pub(crate) fn build(
     requires { (x : ExtMeaning) × IsPlanned x ListView head (places children) }
     ensures parts { (x : ExtMeaning) → IfOk result (λ t. IsBuilt x ListView head buffers children t) }
     ensures sound { IfOk result IsSound }
-    ensures err { (x : ExtMeaning) → IfErr result (λ e. IsUnbuilt e x ListView head buffers children) }
+    ensures err { (x : ExtMeaning) → IfErr result (λ e. RefusesBuilding e x ListView head buffers children) }
 {
     if !buffers.is_empty() {
         return Err(EncodingError::BadShape);

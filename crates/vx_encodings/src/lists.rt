@@ -11,7 +11,7 @@ ghost use Rattle.vx_array_tree.specs.Place.{before_validity, first_place, is_len
 ghost use Rattle.vx_array_tree.specs.Sound.{IsSound};
 ghost use Rattle.vx_array_tree.specs.Tree.{places};
 ghost use Rattle.vx_encodings.specs.ListMessage.{list_schema, list_value, list_bytes, same_count, same_kinds};
-ghost use Rattle.vx_encodings.specs.Steps.{IsPlanned, IsUnplanned, IsBuilt, IsUnbuilt, IsWithoutPlan};
+ghost use Rattle.vx_encodings.specs.Steps.{IsPlanned, RefusesPlanning, IsBuilt, RefusesBuilding, RefusesPlaces};
 ghost use Rattle.vx_encodings.specs.declared.encoding.Encoding.TheVariants.{List};
 
 use crate::error::{EncodingError, of_constructor};
@@ -91,7 +91,7 @@ impl Message for ListMetadata {
 #[tactic(auto, using(crate::proofs::ListSteps::list_steps))]
 pub(crate) fn plan(alloc: Global, head: &ArrayHead) -> Result<ChildPlans, EncodingError>
     ensures plan { (x : ExtMeaning) → IfOk result (λ plans. IsPlanned x List head.now plans) }
-    ensures err { (x : ExtMeaning) → IfErr result (λ e. IsUnplanned e x List head.now) }
+    ensures err { (x : ExtMeaning) → IfErr result (λ e. RefusesPlanning e x List head.now) }
 {
     let metadata: ListMetadata = read_message(alloc, head.metadata.as_slice())?;
     if !metadata.offset_ptype.is_int() {
@@ -114,7 +114,7 @@ fn plan_parts(
     count: usize,
 ) -> Result<ChildPlans, EncodingError>
     ensures plan { IfOk result (λ plans. when (is_len (suc len)) (before_validity (place (typ element.now) metadata.elements_len ∷ place (numbers metadata.offset_ptype) (suc len) ∷ []) len count) ≡ Some plans) }
-    ensures err { IfErr result (λ e. IsWithoutPlan e (when (is_len (suc len)) (before_validity (place (typ element.now) metadata.elements_len ∷ place (numbers metadata.offset_ptype) (suc len) ∷ []) len count))) }
+    ensures err { IfErr result (λ e. RefusesPlaces e (when (is_len (suc len)) (before_validity (place (typ element.now) metadata.elements_len ∷ place (numbers metadata.offset_ptype) (suc len) ∷ []) len count))) }
 {
     let Some(offsets) = len.checked_add(1) else {
         return Err(EncodingError::BadShape);
@@ -138,7 +138,7 @@ pub(crate) fn build(
     requires { (x : ExtMeaning) × IsPlanned x List head (places children) }
     ensures parts { (x : ExtMeaning) → IfOk result (λ t. IsBuilt x List head buffers children t) }
     ensures sound { IfOk result IsSound }
-    ensures err { (x : ExtMeaning) → IfErr result (λ e. IsUnbuilt e x List head buffers children) }
+    ensures err { (x : ExtMeaning) → IfErr result (λ e. RefusesBuilding e x List head buffers children) }
 {
     if !buffers.is_empty() {
         return Err(EncodingError::BadShape);

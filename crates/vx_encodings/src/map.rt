@@ -9,7 +9,7 @@ ghost use Rattle.vx_types.specs.Words.{entries};
 ghost use Rattle.vx_array_tree.specs.Place.{exactly, place};
 ghost use Rattle.vx_array_tree.specs.Sound.{IsSound};
 ghost use Rattle.vx_array_tree.specs.Tree.{places};
-ghost use Rattle.vx_encodings.specs.Steps.{IsPlanned, IsUnplanned, IsBuilt, IsUnbuilt, IsWithoutPlan};
+ghost use Rattle.vx_encodings.specs.Steps.{IsPlanned, RefusesPlanning, IsBuilt, RefusesBuilding, RefusesPlaces};
 ghost use Rattle.vx_encodings.specs.declared.encoding.Encoding.TheVariants.{Map};
 
 use crate::empty_metadata::read_empty;
@@ -25,7 +25,7 @@ use vx_types::{DType, MapDType, Nullability, TypeRef};
 #[tactic(auto, using(crate::proofs::MapSteps::map_steps))]
 pub(crate) fn plan(alloc: Global, head: &ArrayHead) -> Result<ChildPlans, EncodingError>
     ensures plan { (x : ExtMeaning) → IfOk result (λ plans. IsPlanned x Map head.now plans) }
-    ensures err { (x : ExtMeaning) → IfErr result (λ e. IsUnplanned e x Map head.now) }
+    ensures err { (x : ExtMeaning) → IfErr result (λ e. RefusesPlanning e x Map head.now) }
 {
     read_empty(head.metadata.as_slice())?;
     match &head.dtype {
@@ -45,7 +45,7 @@ fn plan_entries(
     count: usize,
 ) -> Result<ChildPlans, EncodingError>
     ensures plan { IfOk result (λ plans. exactly (place (node (list nullability) (more (entries map.now) end)) len ∷ []) count ≡ Some plans) }
-    ensures err { IfErr result (λ e. IsWithoutPlan e (exactly (place (node (list nullability) (more (entries map.now) end)) len ∷ []) count)) }
+    ensures err { IfErr result (λ e. RefusesPlaces e (exactly (place (node (list nullability) (more (entries map.now) end)) len ∷ []) count)) }
 {
     let dtype = lists_of_entries(alloc, map, nullability)?;
     plan_only(alloc, ChildPlan { dtype, len }, count)
@@ -79,7 +79,7 @@ pub(crate) fn build(
     requires { (x : ExtMeaning) × IsPlanned x Map head (places children) }
     ensures parts { (x : ExtMeaning) → IfOk result (λ t. IsBuilt x Map head buffers children t) }
     ensures sound { IfOk result IsSound }
-    ensures err { (x : ExtMeaning) → IfErr result (λ e. IsUnbuilt e x Map head buffers children) }
+    ensures err { (x : ExtMeaning) → IfErr result (λ e. RefusesBuilding e x Map head buffers children) }
 {
     if !buffers.is_empty() {
         return Err(EncodingError::BadShape);

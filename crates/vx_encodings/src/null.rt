@@ -4,7 +4,7 @@ ghost use Rattle.std.specs.Prelude.{IfOk, IfErr};
 ghost use Rattle.vx_types.specs.Known.{ExtMeaning};
 ghost use Rattle.vx_array_tree.specs.Sound.{IsSound};
 ghost use Rattle.vx_array_tree.specs.Tree.{places};
-ghost use Rattle.vx_encodings.specs.Steps.{IsPlanned, IsUnplanned, IsBuilt, IsUnbuilt};
+ghost use Rattle.vx_encodings.specs.Steps.{IsPlanned, RefusesPlanning, IsBuilt, RefusesBuilding};
 ghost use Rattle.vx_encodings.specs.declared.encoding.Encoding.TheVariants.{Null};
 
 use crate::empty_metadata::read_empty;
@@ -20,7 +20,7 @@ use vx_types::DType;
 #[tactic(auto, using(crate::proofs::NullSteps::null_steps))]
 pub(crate) fn plan(alloc: Global, head: &ArrayHead) -> Result<ChildPlans, EncodingError>
     ensures plan { (x : ExtMeaning) → IfOk result (λ plans. IsPlanned x Null head.now plans) }
-    ensures err { (x : ExtMeaning) → IfErr result (λ e. IsUnplanned e x Null head.now) }
+    ensures err { (x : ExtMeaning) → IfErr result (λ e. RefusesPlanning e x Null head.now) }
 {
     read_empty(head.metadata.as_slice())?;
     match head.dtype {
@@ -44,7 +44,7 @@ pub(crate) fn build(
     requires { (x : ExtMeaning) × IsPlanned x Null head (places children) }
     ensures parts { (x : ExtMeaning) → IfOk result (λ t. IsBuilt x Null head buffers children t) }
     ensures sound { IfOk result IsSound }
-    ensures err { (x : ExtMeaning) → IfErr result (λ e. IsUnbuilt e x Null head buffers children) }
+    ensures err { (x : ExtMeaning) → IfErr result (λ e. RefusesBuilding e x Null head buffers children) }
 {
     if !buffers.is_empty() {
         return Err(EncodingError::BadShape);

@@ -4,7 +4,7 @@ ghost use Rattle.std.specs.Prelude.{◌≡◌, ◌∷◌, ◌++◌, [], length, 
 ghost use Rattle.vx_types.specs.Seen.{typ};
 ghost use Rattle.vx_array_tree.specs.Place.{exactly, place};
 ghost use Rattle.vx_encodings.specs.Plain.{planned_place};
-ghost use Rattle.vx_encodings.specs.Steps.{IsWithoutPlan};
+ghost use Rattle.vx_encodings.specs.Steps.{RefusesPlaces};
 
 use crate::error::EncodingError;
 use std::alloc::Global;
@@ -94,7 +94,7 @@ pub(crate) fn plan_only(
     count: usize,
 ) -> Result<ChildPlans, EncodingError>
     ensures plan { IfOk result (λ plans. exactly (planned_place plan ∷ []) count ≡ Some plans) }
-    ensures err { IfErr result (λ e. IsWithoutPlan e (exactly (planned_place plan ∷ []) count)) }
+    ensures err { IfErr result (λ e. RefusesPlaces e (exactly (planned_place plan ∷ []) count)) }
 {
     if count != 1 {
         return Err(EncodingError::BadShape);

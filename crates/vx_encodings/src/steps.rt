@@ -11,7 +11,7 @@ ghost use Rattle.vx_array_tree.specs.Tree.{Tree, places};
 ghost use Rattle.vx_wire_tree.specs.Fields.{told};
 ghost use Rattle.vx_wire_tree.specs.Limits.{HasMessage};
 ghost use Rattle.vx_encodings.specs.Messages.{message_bytes};
-ghost use Rattle.vx_encodings.specs.Steps.{IsPlanned, IsUnplanned, IsBuilt, IsUnbuilt, IsUnwritten, IsOkOrMemory};
+ghost use Rattle.vx_encodings.specs.Steps.{IsPlanned, RefusesPlanning, IsBuilt, RefusesBuilding, RefusesWritingMetadata, IsOkOrMemory};
 
 use crate::empty_metadata::write_empty;
 use crate::encoding::Encoding;
@@ -41,7 +41,7 @@ pub fn plan(
     ensures plan { let x = ext_meaning (λ b. accepted (b.vtable, b.value)) readers.now in
         IfOk result (λ plans. IsPlanned x encoding head.now plans) }
     ensures err { let x = ext_meaning (λ b. accepted (b.vtable, b.value)) readers.now in
-        IfErr result (λ e. IsUnplanned e x encoding head.now) }
+        IfErr result (λ e. RefusesPlanning e x encoding head.now) }
     ensures complete { let x = ext_meaning (λ b. accepted (b.vtable, b.value)) readers.now in
         (ps : List Place) → IsPlanned x encoding head.now ps → IsOkOrMemory result }
 {
@@ -58,7 +58,7 @@ fn plan_by(
     ensures plan { let x = ext_meaning (λ b. accepted (b.vtable, b.value)) readers.now in
         IfOk result (λ plans. IsPlanned x encoding head.now plans) }
     ensures err { let x = ext_meaning (λ b. accepted (b.vtable, b.value)) readers.now in
-        IfErr result (λ e. IsUnplanned e x encoding head.now) }
+        IfErr result (λ e. RefusesPlanning e x encoding head.now) }
 {
     match encoding {
         Encoding::Null => null::plan(alloc, head),
@@ -97,7 +97,7 @@ pub fn build(
         IfOk result (λ t. IsBuilt x encoding head buffers children t) }
     ensures sound { IfOk result IsSound }
     ensures err { let x = ext_meaning (λ b. accepted (b.vtable, b.value)) readers.now in
-        IfErr result (λ e. IsUnbuilt e x encoding head buffers children) }
+        IfErr result (λ e. RefusesBuilding e x encoding head buffers children) }
     ensures complete { let x = ext_meaning (λ b. accepted (b.vtable, b.value)) readers.now in
         (t : Tree) → IsBuilt x encoding head buffers children t → IsSound t → IsOkOrMemory result }
 {
@@ -119,7 +119,7 @@ fn build_by(
         IfOk result (λ t. IsBuilt x encoding head buffers children t) }
     ensures sound { IfOk result IsSound }
     ensures err { let x = ext_meaning (λ b. accepted (b.vtable, b.value)) _readers.now in
-        IfErr result (λ e. IsUnbuilt e x encoding head buffers children) }
+        IfErr result (λ e. RefusesBuilding e x encoding head buffers children) }
 {
     match encoding {
         Encoding::Null => null::build(alloc, head, buffers, children),
@@ -144,7 +144,7 @@ fn build_by(
 pub fn metadata(alloc: Global, array: &Array) -> Result<Blob, EncodingError>
     ensures ok { IfOk result (λ bytes. bytes ≡ message_bytes (told (metadata_in (label array.now) (below array.now)))) }
     ensures fits { OnOk result (HasMessage (label array.now) (below array.now)) }
-    ensures err { IfErr result (λ e. IsUnwritten e array.now) }
+    ensures err { IfErr result (λ e. RefusesWritingMetadata e array.now) }
     ensures complete { HasMessage (label array.now) (below array.now) → IsOkOrMemory result }
 {
     if !has_message(array) {

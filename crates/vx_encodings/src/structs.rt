@@ -8,7 +8,7 @@ ghost use Rattle.vx_array_tree.specs.Place.{behind_validity as behind, places_at
 ghost use Rattle.vx_array_tree.specs.Sound.{IsSound};
 ghost use Rattle.vx_array_tree.specs.Tree.{places};
 ghost use Rattle.vx_arrays.specs.Structs.{behind_validity};
-ghost use Rattle.vx_encodings.specs.Steps.{IsPlanned, IsUnplanned, IsBuilt, IsUnbuilt, IsWithoutPlan};
+ghost use Rattle.vx_encodings.specs.Steps.{IsPlanned, RefusesPlanning, IsBuilt, RefusesBuilding, RefusesPlaces};
 ghost use Rattle.vx_encodings.specs.declared.encoding.Encoding.TheVariants.{Struct};
 
 use crate::empty_metadata::read_empty;
@@ -25,7 +25,7 @@ use vx_types::DType;
 #[tactic(auto, using(crate::proofs::StructSteps::struct_steps))]
 pub(crate) fn plan(alloc: Global, head: &ArrayHead) -> Result<ChildPlans, EncodingError>
     ensures plan { (x : ExtMeaning) → IfOk result (λ plans. IsPlanned x Struct head.now plans) }
-    ensures err { (x : ExtMeaning) → IfErr result (λ e. IsUnplanned e x Struct head.now) }
+    ensures err { (x : ExtMeaning) → IfErr result (λ e. RefusesPlanning e x Struct head.now) }
 {
     read_empty(head.metadata.as_slice())?;
     match &head.dtype {
@@ -45,7 +45,7 @@ fn plan_fields(
     count: usize,
 ) -> Result<ChildPlans, EncodingError>
     ensures plan { IfOk result (λ plans. behind (places_at (roses_of (typs types.now)) len) len count ≡ Some plans) }
-    ensures err { IfErr result (λ e. IsWithoutPlan e (behind (places_at (roses_of (typs types.now)) len) len count)) }
+    ensures err { IfErr result (λ e. RefusesPlaces e (behind (places_at (roses_of (typs types.now)) len) len count)) }
 {
     let mut plans = ChildPlans::new(alloc);
     match count.checked_sub(types.len()) {
@@ -86,7 +86,7 @@ pub(crate) fn build(
     requires { (x : ExtMeaning) × IsPlanned x Struct head (places children) }
     ensures parts { (x : ExtMeaning) → IfOk result (λ t. IsBuilt x Struct head buffers children t) }
     ensures sound { IfOk result IsSound }
-    ensures err { (x : ExtMeaning) → IfErr result (λ e. IsUnbuilt e x Struct head buffers children) }
+    ensures err { (x : ExtMeaning) → IfErr result (λ e. RefusesBuilding e x Struct head buffers children) }
 {
     if !buffers.is_empty() {
         return Err(EncodingError::BadShape);

@@ -10,7 +10,7 @@ ghost use Rattle.vx_array_tree.specs.Place.{exactly, place, places_at};
 ghost use Rattle.vx_array_tree.specs.Sound.{IsSound};
 ghost use Rattle.vx_array_tree.specs.Tree.{places};
 ghost use Rattle.vx_encodings.specs.Plain.{planned_place};
-ghost use Rattle.vx_encodings.specs.Steps.{IsPlanned, IsUnplanned, IsBuilt, IsUnbuilt, IsWithoutPlan};
+ghost use Rattle.vx_encodings.specs.Steps.{IsPlanned, RefusesPlanning, IsBuilt, RefusesBuilding, RefusesPlaces};
 ghost use Rattle.vx_encodings.specs.declared.encoding.Encoding.TheVariants.{Union};
 
 use crate::empty_metadata::read_empty;
@@ -27,7 +27,7 @@ use vx_types::{DType, Nullability, PType};
 #[tactic(auto, using(crate::proofs::UnionSteps::union_steps))]
 pub(crate) fn plan(alloc: Global, head: &ArrayHead) -> Result<ChildPlans, EncodingError>
     ensures plan { (x : ExtMeaning) → IfOk result (λ plans. IsPlanned x Union head.now plans) }
-    ensures err { (x : ExtMeaning) → IfErr result (λ e. IsUnplanned e x Union head.now) }
+    ensures err { (x : ExtMeaning) → IfErr result (λ e. RefusesPlanning e x Union head.now) }
 {
     read_empty(head.metadata.as_slice())?;
     match &head.dtype {
@@ -49,7 +49,7 @@ fn plan_members(
     count: usize,
 ) -> Result<ChildPlans, EncodingError>
     ensures plan { IfOk result (λ plans. exactly (place (node (primitive U8 nullability) end) len ∷ places_at (roses_of (typs types.now)) len) count ≡ Some plans) }
-    ensures err { IfErr result (λ e. IsWithoutPlan e (exactly (place (node (primitive U8 nullability) end) len ∷ places_at (roses_of (typs types.now)) len) count)) }
+    ensures err { IfErr result (λ e. RefusesPlaces e (exactly (place (node (primitive U8 nullability) end) len ∷ places_at (roses_of (typs types.now)) len) count)) }
 {
     if count != types.len() + 1 {
         return Err(EncodingError::BadShape);
@@ -79,7 +79,7 @@ pub(crate) fn build(
     requires { (x : ExtMeaning) × IsPlanned x Union head (places children) }
     ensures parts { (x : ExtMeaning) → IfOk result (λ t. IsBuilt x Union head buffers children t) }
     ensures sound { IfOk result IsSound }
-    ensures err { (x : ExtMeaning) → IfErr result (λ e. IsUnbuilt e x Union head buffers children) }
+    ensures err { (x : ExtMeaning) → IfErr result (λ e. RefusesBuilding e x Union head buffers children) }
 {
     if !buffers.is_empty() {
         return Err(EncodingError::BadShape);

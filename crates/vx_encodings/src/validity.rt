@@ -5,7 +5,7 @@ ghost use Rattle.vx_trees.specs.Rose.{more, roses_of};
 ghost use Rattle.vx_array_tree.specs.Place.{before_validity, validity_place};
 ghost use Rattle.vx_array_tree.specs.Tree.{option_trees};
 ghost use Rattle.vx_encodings.specs.Plain.{planned_place};
-ghost use Rattle.vx_encodings.specs.Steps.{IsWithoutPlan};
+ghost use Rattle.vx_encodings.specs.Steps.{RefusesPlaces};
 
 use crate::error::EncodingError;
 use crate::plans::{ChildPlan, ChildPlans};
@@ -30,7 +30,7 @@ pub(crate) fn plan_validity(
     count: usize,
 ) -> Result<ChildPlans, EncodingError>
     ensures plan { IfOk result (λ plans. before_validity [] len count ≡ Some plans) }
-    ensures err { IfErr result (λ e. IsWithoutPlan e (before_validity [] len count)) }
+    ensures err { IfErr result (λ e. RefusesPlaces e (before_validity [] len count)) }
 {
     let mut plans = ChildPlans::new(alloc);
     match count {
@@ -60,7 +60,7 @@ pub(crate) fn plan_behind(
     count: usize,
 ) -> Result<ChildPlans, EncodingError>
     ensures plan { IfOk result (λ plans. before_validity (planned_place first ∷ []) len count ≡ Some plans) }
-    ensures err { IfErr result (λ e. IsWithoutPlan e (before_validity (planned_place first ∷ []) len count)) }
+    ensures err { IfErr result (λ e. RefusesPlaces e (before_validity (planned_place first ∷ []) len count)) }
 {
     let mut plans = ChildPlans::new(alloc);
     plans.push(first)?;
@@ -82,7 +82,7 @@ pub(crate) fn plan_behind_all(
     count: usize,
 ) -> Result<ChildPlans, EncodingError>
     ensures plan { IfOk result (λ plans. before_validity front len count ≡ Some plans) }
-    ensures err { IfErr result (λ e. IsWithoutPlan e (before_validity front len count)) }
+    ensures err { IfErr result (λ e. RefusesPlaces e (before_validity front len count)) }
 {
     let mut plans = front;
     match count.checked_sub(plans.len()) {

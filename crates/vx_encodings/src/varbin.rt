@@ -10,7 +10,7 @@ ghost use Rattle.vx_array_tree.specs.Encodings.VarBins.{metadata_of};
 ghost use Rattle.vx_array_tree.specs.Sound.{IsSound};
 ghost use Rattle.vx_array_tree.specs.Tree.{places};
 ghost use Rattle.vx_arrays.specs.VarBins.{IsOfBytes};
-ghost use Rattle.vx_encodings.specs.Steps.{IsPlanned, IsUnplanned, IsBuilt, IsUnbuilt};
+ghost use Rattle.vx_encodings.specs.Steps.{IsPlanned, RefusesPlanning, IsBuilt, RefusesBuilding};
 ghost use Rattle.vx_encodings.specs.VarBinMessage.{varbin_schema, varbin_value, varbin_bytes, same_kind};
 ghost use Rattle.vx_encodings.specs.declared.encoding.Encoding.TheVariants.{VarBin};
 
@@ -83,7 +83,7 @@ impl Message for VarBinMetadata {
 #[tactic(auto, using(crate::proofs::VarBinSteps::varbin_steps))]
 pub(crate) fn plan(alloc: Global, head: &ArrayHead) -> Result<ChildPlans, EncodingError>
     ensures plan { (x : ExtMeaning) → IfOk result (λ plans. IsPlanned x VarBin head.now plans) }
-    ensures err { (x : ExtMeaning) → IfErr result (λ e. IsUnplanned e x VarBin head.now) }
+    ensures err { (x : ExtMeaning) → IfErr result (λ e. RefusesPlanning e x VarBin head.now) }
 {
     let metadata: VarBinMetadata = read_message(alloc, head.metadata.as_slice())?;
     if !metadata.offsets_ptype.is_int() {
@@ -126,7 +126,7 @@ pub(crate) fn build(
     requires { (x : ExtMeaning) × IsPlanned x VarBin head (places children) }
     ensures parts { (x : ExtMeaning) → IfOk result (λ t. IsBuilt x VarBin head buffers children t) }
     ensures sound { IfOk result IsSound }
-    ensures err { (x : ExtMeaning) → IfErr result (λ e. IsUnbuilt e x VarBin head buffers children) }
+    ensures err { (x : ExtMeaning) → IfErr result (λ e. RefusesBuilding e x VarBin head buffers children) }
 {
     let bytes = match only_buffer(buffers) {
         Some(bytes) => bytes,

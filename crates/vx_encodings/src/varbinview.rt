@@ -5,7 +5,7 @@ ghost use Rattle.std.specs.Prelude.{IfOk, IfErr};
 ghost use Rattle.vx_types.specs.Known.{ExtMeaning};
 ghost use Rattle.vx_array_tree.specs.Sound.{IsSound};
 ghost use Rattle.vx_array_tree.specs.Tree.{places};
-ghost use Rattle.vx_encodings.specs.Steps.{IsPlanned, IsUnplanned, IsBuilt, IsUnbuilt};
+ghost use Rattle.vx_encodings.specs.Steps.{IsPlanned, RefusesPlanning, IsBuilt, RefusesBuilding};
 ghost use Rattle.vx_encodings.specs.declared.encoding.Encoding.TheVariants.{VarBinView};
 
 use crate::empty_metadata::read_empty;
@@ -22,7 +22,7 @@ use vx_buffer::BufferHandles;
 #[tactic(auto, using(crate::proofs::VarBinViewSteps::varbinview_steps))]
 pub(crate) fn plan(alloc: Global, head: &ArrayHead) -> Result<ChildPlans, EncodingError>
     ensures plan { (x : ExtMeaning) → IfOk result (λ plans. IsPlanned x VarBinView head.now plans) }
-    ensures err { (x : ExtMeaning) → IfErr result (λ e. IsUnplanned e x VarBinView head.now) }
+    ensures err { (x : ExtMeaning) → IfErr result (λ e. RefusesPlanning e x VarBinView head.now) }
 {
     read_empty(head.metadata.as_slice())?;
     if !is_of_bytes(&head.dtype) {
@@ -42,7 +42,7 @@ pub(crate) fn build(
     requires { (x : ExtMeaning) × IsPlanned x VarBinView head (places children) }
     ensures parts { (x : ExtMeaning) → IfOk result (λ t. IsBuilt x VarBinView head buffers children t) }
     ensures sound { IfOk result IsSound }
-    ensures err { (x : ExtMeaning) → IfErr result (λ e. IsUnbuilt e x VarBinView head buffers children) }
+    ensures err { (x : ExtMeaning) → IfErr result (λ e. RefusesBuilding e x VarBinView head buffers children) }
 {
     let mut front = buffers.into_vec();
     let views = match front.pop() {

@@ -17,8 +17,8 @@ ghost use Rattle.vx_array_tree.specs.Tree.{Tree, places};
 ghost use Rattle.vx_wire_tree.specs.Fields.{FitsMessage, told};
 ghost use Rattle.vx_encodings.specs.Messages.{message_bytes};
 ghost use Rattle.vx_encodings.specs.Plain.{planned_place};
-ghost use Rattle.vx_encodings.specs.Steps.{IsPlanned, IsUnplanned, IsBuilt, IsUnbuilt, IsWithoutPlan};
-ghost use Rattle.vx_encodings.specs.VariantMessage.{IsShredded, IsUnshredded, IsUnknownMessage, child_places, variant_schema, variant_value, variant_parts};
+ghost use Rattle.vx_encodings.specs.Steps.{IsPlanned, RefusesPlanning, IsBuilt, RefusesBuilding, RefusesPlaces};
+ghost use Rattle.vx_encodings.specs.VariantMessage.{IsShredded, RefusesShredded, RefusesShreddedType, child_places, variant_schema, variant_value, variant_parts};
 ghost use Rattle.vx_encodings.specs.declared.encoding.Encoding.TheVariants.{Variant};
 
 use crate::error::{EncodingError, of_constructor, of_message};
@@ -128,7 +128,7 @@ fn shredded_type(
     ensures ok { let x = ext_meaning (λ b. accepted (b.vtable, b.value)) readers.now in
         IfOk result (λ d. IsShredded x bytes.now (option_map typ d)) }
     ensures err { let x = ext_meaning (λ b. accepted (b.vtable, b.value)) readers.now in
-        IfErr result (λ e. IsUnshredded e x bytes.now) }
+        IfErr result (λ e. RefusesShredded e x bytes.now) }
 {
     let metadata = match VariantMetadata::decode(alloc, bytes) {
         Ok(metadata) => metadata,
@@ -152,7 +152,7 @@ fn known_type(
     ensures ok { let x = ext_meaning (λ b. accepted (b.vtable, b.value)) readers.now in
         IfOk result (λ d. IsRead (IsMessageOf message.now) x (typ d)) }
     ensures err { let x = ext_meaning (λ b. accepted (b.vtable, b.value)) readers.now in
-        IfErr result (λ e. IsUnknownMessage e x message.now) }
+        IfErr result (λ e. RefusesShreddedType e x message.now) }
 {
     match DType::from_proto(alloc, message, readers) {
         Ok(dtype) => Ok(dtype),
@@ -172,7 +172,7 @@ pub(crate) fn plan(
     ensures plan { let x = ext_meaning (λ b. accepted (b.vtable, b.value)) readers.now in
         IfOk result (λ plans. IsPlanned x Variant head.now plans) }
     ensures err { let x = ext_meaning (λ b. accepted (b.vtable, b.value)) readers.now in
-        IfErr result (λ e. IsUnplanned e x Variant head.now) }
+        IfErr result (λ e. RefusesPlanning e x Variant head.now) }
 {
     let shredded = shredded_type(alloc, head.metadata.as_slice(), readers)?;
     match head.dtype {
@@ -191,7 +191,7 @@ fn plan_children(
     count: usize,
 ) -> Result<ChildPlans, EncodingError>
     ensures plan { IfOk result (λ plans. exactly (child_places (typ core.now) (option_map typ shredded) len) count ≡ Some plans) }
-    ensures err { IfErr result (λ e. IsWithoutPlan e (exactly (child_places (typ core.now) (option_map typ shredded) len) count)) }
+    ensures err { IfErr result (λ e. RefusesPlaces e (exactly (child_places (typ core.now) (option_map typ shredded) len) count)) }
 {
     let first = plan_of(alloc, core, len)?;
     match shredded {
@@ -209,7 +209,7 @@ fn plan_both(
     count: usize,
 ) -> Result<ChildPlans, EncodingError>
     ensures plan { IfOk result (λ plans. exactly (planned_place first ∷ planned_place second ∷ []) count ≡ Some plans) }
-    ensures err { IfErr result (λ e. IsWithoutPlan e (exactly (planned_place first ∷ planned_place second ∷ []) count)) }
+    ensures err { IfErr result (λ e. RefusesPlaces e (exactly (planned_place first ∷ planned_place second ∷ []) count)) }
 {
     if count != 2 {
         return Err(EncodingError::BadShape);
@@ -230,7 +230,7 @@ pub(crate) fn build(
     requires { (x : ExtMeaning) × IsPlanned x Variant head (places children) }
     ensures parts { (x : ExtMeaning) → IsPlanned x Variant head (places children) → IfOk result (λ t. IsBuilt x Variant head buffers children t) }
     ensures sound { IfOk result IsSound }
-    ensures err { (x : ExtMeaning) → IsPlanned x Variant head (places children) → IfErr result (λ e. IsUnbuilt e x Variant head buffers children) }
+    ensures err { (x : ExtMeaning) → IsPlanned x Variant head (places children) → IfErr result (λ e. RefusesBuilding e x Variant head buffers children) }
 {
     if !buffers.is_empty() {
         return Err(EncodingError::BadShape);

@@ -10,7 +10,7 @@ use Rattle.vx_flat.specs.declared.error.FlatError.{FlatError}
 use Rattle.vx_flat.specs.declared.error.FlatError.TheVariants.{OutOfMemory, BadTable, TableLimit}
 use Rattle.vx_flat.specs.declared.error.FlatError.TheVariants.{MessageTooLong}
 use Rattle.vx_flat.specs.Building.{Built, patch, aimed, spot_after, with_piece, with_rest, with_pieces, waiting}
-use Rattle.vx_flat.specs.Building.{IsTooLong, IsRefused, Keeps, IsStopped, AreLeft, links_of, entry_links, element_links}
+use Rattle.vx_flat.specs.Building.{IsTooLong, RefusesPiece, Keeps, RefusesPieces, AreLeft, links_of, entry_links, element_links}
 use Rattle.vx_flat.specs.Building.{entry_slots, element_slots}
 use Rattle.vx_flat.specs.CellForm.{end_after}
 use Rattle.vx_flat.specs.FieldTables.{le_bytes, zeros, align}
@@ -142,8 +142,8 @@ keeps_same : (old new : Built) (ps : List Piece) → new.bytes ≡ old.bytes →
 keeps_same old new ps e = record { more = []; rest = ps; front = refl; bytes = e }
 
 -- where the first block is refused, the whole stops
-pub stops_first : (old new : Built) (p : Piece) (ps : List Piece) (e : FlatError) → IsRefused old p e new
-    → IsStopped old (p ∷ ps) e new
+pub stops_first : (old new : Built) (p : Piece) (ps : List Piece) (e : FlatError) → RefusesPiece old p e new
+    → RefusesPieces old (p ∷ ps) e new
 stops_first old new p ps OutOfMemory h = keeps_same old new (p ∷ ps) (ap (λ (b : Built). b.bytes) h)
 stops_first old new p ps MessageTooLong h =
     (keeps_same old new (p ∷ ps) (ap (λ (b : Built). b.bytes) h.0), ap (λ (b : Built). b.failed) h.0, longer old (p ∷ []) ps h.1)
@@ -152,7 +152,7 @@ stops_first old new p ps TableLimit h = h
 
 -- where after some blocks a later run stops, the whole stops
 pub stops_later : (old mid new : Built) (p : Piece) (ps qs rs : List Piece) (e : FlatError)
-    → mid ≡ waiting (with_pieces old (p ∷ ps)) → IsStopped mid qs e new → IsStopped old ((p ∷ ps) ++ (qs ++ rs)) e new
+    → mid ≡ waiting (with_pieces old (p ∷ ps)) → RefusesPieces mid qs e new → RefusesPieces old ((p ∷ ps) ++ (qs ++ rs)) e new
 stops_later old mid new p ps qs rs OutOfMemory b h = keeps_later old mid new p ps qs rs b h
 stops_later old mid new p ps qs rs MessageTooLong b h =
     (keeps_later old mid new p ps qs rs b h.0, h.1, longer_later old mid p ps (qs ++ rs) b (longer mid qs rs h.2))

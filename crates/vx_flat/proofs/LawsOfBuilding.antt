@@ -4,7 +4,7 @@ use Rattle.vx_flat.specs.declared.builder.piece.LinkKind.{LinkKind}
 use Rattle.vx_flat.specs.declared.error.FlatError.{FlatError}
 use Rattle.vx_flat.specs.declared.error.FlatError.TheVariants.{OutOfMemory, BadTable, TableLimit, MessageTooLong}
 use Rattle.vx_flat.specs.declared.schema.FieldKind.{FieldKind}
-use Rattle.vx_flat.specs.Building.{Built, waiting, with_piece, with_pieces, nothing_by, IsRefused, IsStopped, Keeps, AreLeft, links_of, element_links}
+use Rattle.vx_flat.specs.Building.{Built, waiting, with_piece, with_pieces, nothing_by, RefusesPiece, RefusesPieces, Keeps, AreLeft, links_of, element_links}
 use Rattle.vx_flat.specs.IsOf.{IsOf, AreOf}
 use Rattle.vx_flat.specs.Layout.{layout}
 use Rattle.vx_flat.specs.Pieces.{Piece, pieces, entries, AreEntries}
@@ -49,13 +49,13 @@ pub left-with_piece : (b : Built) (p : Piece) → AreLeft (links_of b.count p) (
 left-with_piece b p = links_left b p
 
 -- Where the first block is refused, the whole stops.
-pub stopped-first : (old new : Built) (p : Piece) (ps : List Piece) (e : FlatError) → IsRefused old p e new
-    → IsStopped old (p ∷ ps) e new
+pub stopped-first : (old new : Built) (p : Piece) (ps : List Piece) (e : FlatError) → RefusesPiece old p e new
+    → RefusesPieces old (p ∷ ps) e new
 stopped-first old new p ps e h = stops_first old new p ps e h
 
 -- Where after some blocks a later run stops, the whole stops.
 pub stopped-later : (old mid new : Built) (p : Piece) (ps qs rs : List Piece) (e : FlatError)
-    → mid ≡ waiting (with_pieces old (p ∷ ps)) → IsStopped mid qs e new → IsStopped old ((p ∷ ps) ++ (qs ++ rs)) e new
+    → mid ≡ waiting (with_pieces old (p ∷ ps)) → RefusesPieces mid qs e new → RefusesPieces old ((p ∷ ps) ++ (qs ++ rs)) e new
 stopped-later old mid new p ps qs rs e is h = stops_later old mid new p ps qs rs e is h
 
 -- A builder takes the entries of each table of a schema.
@@ -63,7 +63,7 @@ pub entries-taken : (s : Schema) (ks : List FieldKind) (v : Fields) → AreOf s 
 entries-taken s ks v of = entries_taken s ks v of
 
 -- Where the writing of blocks stops, those that were there are kept.
-pub keeps-stopped : (old new : Built) (ps : List Piece) (e : FlatError) → IsStopped old ps e new → Keeps old ps new
+pub keeps-stopped : (old new : Built) (ps : List Piece) (e : FlatError) → RefusesPieces old ps e new → Keeps old ps new
 keeps-stopped old new ps OutOfMemory h = h
 keeps-stopped old new ps MessageTooLong h = h.0
 keeps-stopped old new ps BadTable h = absurd h

@@ -2,7 +2,7 @@
 use Rattle.std.proofs.Common.{◌≡◌, ◌∙◌, ◌<◌, ◌^◌, false, ℕ, ◌+◌, ◌-◌, List, [], ◌∷◌, ◌++◌, length, None, ap, sym, subst, refl}
 use Rattle.vx_flat.specs.declared.error.FlatError.{FlatError}
 use Rattle.vx_flat.specs.Building.{Built, Link, AreLeft, with_piece, with_pieces, waiting, links_of, later_links, next_link}
-use Rattle.vx_flat.specs.Building.{AreWritten, IsNext, IsAwaited, IsPartWay, Takes, IsRefused, IsStopped, element_links}
+use Rattle.vx_flat.specs.Building.{AreWritten, IsNext, IsAwaited, IsPartWay, Takes, RefusesPiece, RefusesPieces, element_links}
 use Rattle.vx_flat.specs.Pieces.{Piece, links_piece}
 use Rattle.vx_flat.specs.declared.builder.piece.LinkKind.{LinkKind}
 use Rattle.vx_flat.proofs.LawsOfBuilding.{with_pieces-runs, failed-with_pieces, waits-with_pieces, left-with_piece, stopped-first, stopped-later, element_links-next}
@@ -63,11 +63,11 @@ ended b p ps now h fits = record { some = tt; blocks = h.same; linked = h.left; 
 
 -- Where the blocks of a link stop, the whole stops.
 pub cut_short : (b : Built) (p : Piece) (ls : List Link) (ps : List Piece) (now mid new : Built) (qs rs whole : List Piece) (e : FlatError)
-    → IsPartWay b p ls ps now → (now.failed ≡ false → mid ≡ waiting now) → IsStopped mid qs e new → (p ∷ ps) ++ (qs ++ rs) ≡ whole → IsStopped b whole e new
+    → IsPartWay b p ls ps now → (now.failed ≡ false → mid ≡ waiting now) → RefusesPieces mid qs e new → (p ∷ ps) ++ (qs ++ rs) ≡ whole → RefusesPieces b whole e new
 cut_short b p ls ps now mid new qs rs whole e h m s w =
-    subst (λ z. IsStopped b z e new) w
+    subst (λ z. RefusesPieces b z e new) w
     (stopped-later b mid new p ps qs rs e (m (works b p ls ps now h) ∙ ap waiting h.same) s)
 
 -- Where the block itself is refused, the whole stops.
-pub refused : (b new : Built) (p q : Piece) (ps : List Piece) (e : FlatError) → q ≡ p → IsRefused b q e new → IsStopped b (p ∷ ps) e new
-refused b new p q ps e w r = stopped-first b new p ps e (subst (λ z. IsRefused b z e new) w r)
+pub refused : (b new : Built) (p q : Piece) (ps : List Piece) (e : FlatError) → q ≡ p → RefusesPiece b q e new → RefusesPieces b (p ∷ ps) e new
+refused b new p q ps e w r = stopped-first b new p ps e (subst (λ z. RefusesPiece b z e new) w r)

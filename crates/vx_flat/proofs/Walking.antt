@@ -11,7 +11,7 @@ use Rattle.vx_flat.specs.declared.schema.FieldKind.TheVariants.{Number, OptNumbe
 use Rattle.vx_flat.specs.declared.schema.FieldKind.TheVariants.{Texts, Table, Tables, Union}
 use Rattle.vx_flat.specs.declared.schema.Width.TheVariants.{One}
 use Rattle.vx_flat.specs.declared.value.FieldValue.{FieldValue}
-use Rattle.vx_flat.specs.Building.{Built, waiting, with_piece, with_rest, with_pieces, nothing_by, IsTooLong, IsRefused}
+use Rattle.vx_flat.specs.Building.{Built, waiting, with_piece, with_rest, with_pieces, nothing_by, IsTooLong, RefusesPiece}
 use Rattle.vx_flat.specs.IsOf.{IsOf, AreOf, IsOfKind, AreRowsOf}
 use Rattle.vx_flat.specs.Pieces.{Piece, elements_piece, links_piece, text_piece, entries, field_entries}
 use Rattle.vx_flat.specs.Pieces.{field_pieces, fields_pieces, rows_pieces, table_pieces}
@@ -36,7 +36,7 @@ too_long b p w (inl f) = let e : true ≡ false = sym f ∙ w in absurd cc
 too_long b p w (inr l) = l
 
 -- a block is refused by a builder that has not failed
-pub refused_cut : (b new : Built) (p : Piece) (e : FlatError) → b.failed ≡ false → IsRefused b p e new
+pub refused_cut : (b new : Built) (p : Piece) (e : FlatError) → b.failed ≡ false → RefusesPiece b p e new
     → IsCut (with_piece b p) e
 refused_cut b new p OutOfMemory w h = tt
 refused_cut b new p MessageTooLong w h = too_long b p w h.1
@@ -57,7 +57,7 @@ pub next_written : {T : Type 0} (r : Result T FlatError) (old mid new : Built) (
 next_written r old mid new p is h = subst (λ b. OnOk r (new ≡ with_piece b p)) is h
 
 pub next_cut : {T : Type 0} (r : Result T FlatError) (old mid new : Built) (p : Piece) → mid ≡ waiting old
-    → old.failed ≡ false → IfErr r (λ e. IsRefused mid p e new) → IfErr r (λ e. IsCut (with_rest old (p ∷ [])) e)
+    → old.failed ≡ false → IfErr r (λ e. RefusesPiece mid p e new) → IfErr r (λ e. IsCut (with_rest old (p ∷ [])) e)
 next_cut (Ok x) old mid new p is w h = tt
 next_cut (Err e) old mid new p is w h =
     let works : mid.failed ≡ false = ap (λ (b : Built). b.failed) is ∙ w in

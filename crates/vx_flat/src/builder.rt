@@ -8,7 +8,7 @@ ghost use Rattle.vx_flat.specs.IsOf.{IsOf};
 ghost use Rattle.vx_flat.specs.Layout.{layout};
 ghost use Rattle.vx_flat.specs.Pieces.{pieces, table_piece, elements_piece, links_piece, text_piece, AreEntries};
 ghost use Rattle.vx_flat.specs.Building.{nothing_by, nothing_built, with_piece, with_pieces, waiting};
-ghost use Rattle.vx_flat.specs.Building.{Takes, IsNext, IsRefused};
+ghost use Rattle.vx_flat.specs.Building.{Takes, IsNext, RefusesPiece};
 ghost use Rattle.vx_flat.specs.PieceView.{vector_piece, IsVector};
 
 mod composing;
@@ -127,7 +127,7 @@ impl Builder {
         ensures fits { IsOk result → length self.new.bytes < 2 ^ 31 }
         ensures works { IsOk result → self.old.failed ≡ false }
         ensures refused { IfErr result
-            (λ e. IsRefused self.old (table_piece fields.now) e self.new) }
+            (λ e. RefusesPiece self.old (table_piece fields.now) e self.new) }
         ensures failed { self.old.failed ≡ true → IsErrOf result FlatError.MessageTooLong }
     {
         if self.failed {
@@ -169,7 +169,7 @@ impl Builder {
         ensures fits { IsOk result → length self.new.bytes < 2 ^ 31 }
         ensures works { IsOk result → self.old.failed ≡ false }
         ensures refused { IfErr result
-            (λ e. IsRefused self.old (table_piece fields.now) e self.new) }
+            (λ e. RefusesPiece self.old (table_piece fields.now) e self.new) }
         ensures failed { self.old.failed ≡ true → IsErrOf result FlatError.MessageTooLong }
     {
         self.put_table(fields)
@@ -181,7 +181,7 @@ impl Builder {
         ensures fits { IsOk result → length self.new.bytes < 2 ^ 31 }
         ensures works { IsOk result → self.old.failed ≡ false }
         ensures refused { IfErr result
-            (λ e. IsRefused self.old (elements_piece size bytes.now) e self.new) }
+            (λ e. RefusesPiece self.old (elements_piece size bytes.now) e self.new) }
         ensures failed { self.old.failed ≡ true → IsErrOf result FlatError.MessageTooLong }
     {
         if self.failed {
@@ -208,7 +208,7 @@ impl Builder {
         ensures fits { IsOk result → length self.new.bytes < 2 ^ 31 }
         ensures works { IsOk result → self.old.failed ≡ false }
         ensures refused { IfErr result
-            (λ e. IsRefused self.old (links_piece kind count) e self.new) }
+            (λ e. RefusesPiece self.old (links_piece kind count) e self.new) }
         ensures failed { self.old.failed ≡ true → IsErrOf result FlatError.MessageTooLong }
     {
         if self.failed {
@@ -245,7 +245,7 @@ impl Builder {
         ensures fits { IsOk result → length self.new.bytes < 2 ^ 31 }
         ensures works { IsOk result → self.old.failed ≡ false }
         ensures refused { IfErr result
-            (λ e. IsRefused self.old (vector_piece elements.entry) e self.new) }
+            (λ e. RefusesPiece self.old (vector_piece elements.entry) e self.new) }
         ensures failed { self.old.failed ≡ true → IsErrOf result FlatError.MessageTooLong }
     {
         let number = self.message.count;
@@ -262,7 +262,7 @@ impl Builder {
         ensures fits { IsOk result → length self.new.bytes < 2 ^ 31 }
         ensures works { IsOk result → self.old.failed ≡ false }
         ensures refused { IfErr result
-            (λ e. IsRefused self.old (text_piece text.now) e self.new) }
+            (λ e. RefusesPiece self.old (text_piece text.now) e self.new) }
         ensures failed { self.old.failed ≡ true → IsErrOf result FlatError.MessageTooLong }
     {
         if self.failed {
@@ -289,7 +289,7 @@ impl Builder {
         ensures fits { IsOk result → length self.new.bytes < 2 ^ 31 }
         ensures works { IsOk result → self.old.failed ≡ false }
         ensures refused { IfErr result
-            (λ e. IsRefused self.old (text_piece text.now) e self.new) }
+            (λ e. RefusesPiece self.old (text_piece text.now) e self.new) }
         ensures failed { self.old.failed ≡ true → IsErrOf result FlatError.MessageTooLong }
     {
         self.put_text(text)

@@ -2,7 +2,7 @@
 
 ghost use Rattle.std.specs.Prelude.{◌≡◌, ◌∷◌, [], ◌++◌, ◌⊎◌, IfOk, IfErr, OnOk, OnErr, IsOk, ◌<◌, ◌^◌};
 ghost use Rattle.vx_flat.specs.declared.error.FlatError.TheVariants.{OutOfMemory, BadTable};
-ghost use Rattle.vx_flat.specs.Building.{IsStopped, Built};
+ghost use Rattle.vx_flat.specs.Building.{RefusesPieces, Built};
 ghost use Rattle.vx_flat.specs.Pieces.{pieces, default_entry};
 ghost use Rattle.vx_flat.specs.Value.{Fields, number, member, field, no_fields};
 ghost use Rattle.vx_flat_tests.specs.Worked.{primitive_schema};
@@ -45,7 +45,7 @@ impl WriteFlatBuffer for Primitive {
 
     ghost table = { λ p. field (member 3 (field (number p.code) (field (number 0) no_fields))) no_fields };
 
-    ghost unwritten = { λ p b e. (c : Built) × IsStopped b (pieces primitive_schema
+    ghost unwritten = { λ p b e. (c : Built) × RefusesPieces b (pieces primitive_schema
         (field (member 3 (field (number p.code) (field (number 0) no_fields))) no_fields)) e c };
 
     fn write_flatbuffer(&self, _alloc: Global, builder: &mut Builder) -> Result<(), FlatError> {

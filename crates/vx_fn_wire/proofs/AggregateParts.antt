@@ -16,7 +16,7 @@ use Rattle.vx_fn_wire.specs.Foreign.{foreign_aggregate_fn}
 use Rattle.vx_proto.specs.Value.{one_octets}
 use Rattle.vx_fn_wire.specs.Messages.{metadata_of}
 use Rattle.vx_fn_wire.specs.Schema.{aggregate_lists}
-use Rattle.vx_fn_wire.specs.Session.{Registry, IsAggregateOf, IsNoAggregate, optional_octets, HoldsAggregate, ReadsAggregate, IsUnreadAggregate}
+use Rattle.vx_fn_wire.specs.Session.{Registry, IsAggregateOf, RefusesAggregate, optional_octets, HoldsAggregate, ReadsAggregate, RefusesReadingAggregate}
 use Rattle.vx_fn_wire.specs.declared.aggregate_fn.AggregateFn.{AggregateFn}
 use Rattle.vx_fn_wire.specs.declared.error.FnWireError.{FnWireError}
 use Rattle.vx_fn_wire.specs.declared.error.FnWireError.TheVariants.{OutOfMemory, IdMismatch}
@@ -97,7 +97,7 @@ one_given : (reader : Option (List ℕ → Option AggregateFn)) (unknown : Bool)
 one_given reader unknown id metadata f g h k = given_same reader unknown metadata (foreign_aggregate_fn id metadata) f g h.0 k.0
 
 -- Where there is one, no cause stands.
-none_given : (e : FnWireError) (reader : Option (List ℕ → Option AggregateFn)) (unknown : Bool) (id metadata : List ℕ) (g : AggregateFn) → IsNoAggregate e reader unknown id metadata → IsAggregateOf reader unknown id metadata g → ⊥
+none_given : (e : FnWireError) (reader : Option (List ℕ → Option AggregateFn)) (unknown : Bool) (id metadata : List ℕ) (g : AggregateFn) → RefusesAggregate e reader unknown id metadata → IsAggregateOf reader unknown id metadata g → ⊥
 none_given IdMismatch reader unknown id metadata g h k =
     let same = given_same reader unknown metadata (foreign_aggregate_fn id metadata) h.0 g h.1 k.0 in
     h.2 (ap (λ (f : AggregateFn). f.id) same ∙ k.1)
@@ -111,11 +111,11 @@ read_of registry unknown v id there m metadata (Ok f) holds same is given =
 read_of registry unknown v id there m metadata (Err e) holds same is given = tt
 
 pub caused_of : (registry : Registry AggregateFn) (unknown : Bool) (v : Value) (id there : List ℕ) (m : Option (List ℕ)) (metadata : List ℕ) (r : Result AggregateFn FnWireError)
-    → HoldsAggregate v there m → id ≡ there → metadata ≡ metadata_of m → IfErr r (λ e. (e ≡ OutOfMemory) ⊎ IsNoAggregate e (registry id) unknown id metadata) → IfErr r (λ e. (e ≡ OutOfMemory) ⊎ IsUnreadAggregate e registry unknown v)
+    → HoldsAggregate v there m → id ≡ there → metadata ≡ metadata_of m → IfErr r (λ e. (e ≡ OutOfMemory) ⊎ RefusesAggregate e (registry id) unknown id metadata) → IfErr r (λ e. (e ≡ OutOfMemory) ⊎ RefusesReadingAggregate e registry unknown v)
 caused_of registry unknown v id there m metadata (Ok f) holds same is cause = tt
 caused_of registry unknown v id there m metadata (Err e) holds same is (inl h) = inl h
 caused_of registry unknown v id there m metadata (Err e) holds same is (inr cause) =
-    inr (record { id = id; metadata = m; holds = subst (λ i. HoldsAggregate v i m) (sym same) holds; cause = subst (λ b. IsNoAggregate e (registry id) unknown id b) is cause })
+    inr (record { id = id; metadata = m; holds = subst (λ i. HoldsAggregate v i m) (sym same) holds; cause = subst (λ b. RefusesAggregate e (registry id) unknown id b) is cause })
 
 module _ (registry : Registry AggregateFn) (unknown : Bool) (v : Value) where
   one_function : (f g : AggregateFn) → ReadsAggregate registry unknown v f → ReadsAggregate registry unknown v g → f ≡ g
@@ -125,7 +125,7 @@ module _ (registry : Registry AggregateFn) (unknown : Bool) (v : Value) where
       one_given (registry read.id) unknown read.id (metadata_of read.metadata) f g read.given
       (subst (λ n. IsAggregateOf (registry read.id) unknown read.id (metadata_of n) g) m (subst (λ i. IsAggregateOf (registry i) unknown i (metadata_of k.metadata) g) id k.given))
 
-  uncaused : (e : FnWireError) (g : AggregateFn) → IsUnreadAggregate e registry unknown v → ReadsAggregate registry unknown v g → ⊥
+  uncaused : (e : FnWireError) (g : AggregateFn) → RefusesReadingAggregate e registry unknown v → ReadsAggregate registry unknown v g → ⊥
   uncaused e g cause k =
       let id = one_id v k.id cause.id k.metadata cause.metadata k.holds cause.holds in
       let m = one_metadata v k.id cause.id k.metadata cause.metadata k.holds cause.holds in
@@ -133,13 +133,13 @@ module _ (registry : Registry AggregateFn) (unknown : Bool) (v : Value) where
       (subst (λ n. IsAggregateOf (registry cause.id) unknown cause.id (metadata_of n) g) m (subst (λ i. IsAggregateOf (registry i) unknown i (metadata_of k.metadata) g) id k.given))
 
   -- One function is read of a message, and where one is, memory alone can run out.
-  pub one_read : (r : Result AggregateFn FnWireError) (g : AggregateFn) → IfOk r (λ f. ReadsAggregate registry unknown v f) → IfErr r (λ e. (e ≡ OutOfMemory) ⊎ IsUnreadAggregate e registry unknown v) → ReadsAggregate registry unknown v g
+  pub one_read : (r : Result AggregateFn FnWireError) (g : AggregateFn) → IfOk r (λ f. ReadsAggregate registry unknown v f) → IfErr r (λ e. (e ≡ OutOfMemory) ⊎ RefusesReadingAggregate e registry unknown v) → ReadsAggregate registry unknown v g
       → MatchResult r (λ f. f ≡ g) (λ e. e ≡ OutOfMemory)
   one_read (Ok f) g read cause k = one_function f g read k
   one_read (Err e) g read (inl h) k = h
   one_read (Err e) g read (inr cause) k = absurd (uncaused e g cause k)
 
   -- A message is refused where a cause stands.
-  pub none_read : (r : Result AggregateFn FnWireError) (e : FnWireError) → IfOk r (λ f. ReadsAggregate registry unknown v f) → IsUnreadAggregate e registry unknown v → IsErr r
+  pub none_read : (r : Result AggregateFn FnWireError) (e : FnWireError) → IfOk r (λ f. ReadsAggregate registry unknown v f) → RefusesReadingAggregate e registry unknown v → IsErr r
   none_read (Ok f) e read cause = absurd (uncaused e f cause read)
   none_read (Err y) e read cause = refl

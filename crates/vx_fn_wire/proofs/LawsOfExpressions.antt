@@ -16,7 +16,7 @@ use Rattle.vx_fn_wire.specs.Expr.{Head, root, call, Expr, IsExprNode, IsExpr}
 use Rattle.vx_fn_wire.specs.Foreign.{foreign_fn}
 use Rattle.vx_proto.specs.Value.{one_octets}
 use Rattle.vx_fn_wire.specs.Messages.{metadata_of, root_id, expr_message, expr_messages, IsSerializable, AreSerializable}
-use Rattle.vx_fn_wire.specs.ReadsExpr.{HoldsExpr, IsHeadOf, IsMessageOf, AreMessagesOf, ReadsExpr, IsNoHead, IsNoNode, StandsBelow, IsUnreadExpr, GivesBack, GivesEachBack}
+use Rattle.vx_fn_wire.specs.ReadsExpr.{HoldsExpr, IsHeadOf, IsMessageOf, AreMessagesOf, ReadsExpr, RefusesCall, RefusesNode, StandsBelow, RefusesReadingExpr, GivesBack, GivesEachBack}
 use Rattle.vx_fn_wire.specs.Session.{Registry, IsGiven, optional_octets}
 use Rattle.vx_fn_wire.specs.declared.error.FnWireError.{FnWireError}
 use Rattle.vx_fn_wire.specs.declared.error.FnWireError.TheVariants.{RootWithChildren, ArityMismatch}
@@ -61,7 +61,7 @@ module _ (registry : Registry ScalarFn) (unknown : Bool) where
   head_same id metadata n (call f) root a b = absurd (a.0 b)
   head_same id metadata n (call f) (call g) a b = ap call (given_same (registry id) unknown metadata (foreign_fn id metadata n) f g a.1 b.1)
 
-  head_excludes : (e : FnWireError) (id metadata : List ℕ) (n : ℕ) (h : Head) (ts : Roses Head) → IsExprNode h ts → count ts ≡ n → IsHeadOf registry unknown id metadata n h → IsNoHead registry unknown e id metadata n → ⊥
+  head_excludes : (e : FnWireError) (id metadata : List ℕ) (n : ℕ) (h : Head) (ts : Roses Head) → IsExprNode h ts → count ts ≡ n → IsHeadOf registry unknown id metadata n h → RefusesCall registry unknown e id metadata n → ⊥
   head_excludes RootWithChildren id metadata n root ts is number a c = absurd (omega (arith, is, number, c.1))
   head_excludes RootWithChildren id metadata n (call f) ts is number a c = a.0 c.0
   head_excludes ArityMismatch id metadata n root ts is number a c = c.0 a
@@ -121,18 +121,18 @@ module _ (registry : Registry ScalarFn) (unknown : Bool) where
       let here = at_place ts s.1.1 among.0 s.0 r.is_expr.1 (subst (AreMessagesOf registry unknown ts) parts.children m.5) among.1.0 among.1.1 in
       below_read n s.0 w here.0 here.1 s.2
 
-  node_excludes : (e : FnWireError) (v : Value) (t : Expr) → ReadsExpr registry unknown v t → IsNoNode registry unknown e v → ⊥
+  node_excludes : (e : FnWireError) (v : Value) (t : Expr) → ReadsExpr registry unknown v t → RefusesNode registry unknown e v → ⊥
   node_excludes e v (node h ts) r c =
       let m = r.message in
       let s = holds_same v m.0 c.id m.1 c.children m.2 c.metadata m.3 c.holds in
       let number : length c.children ≡ count ts = ap length (sym s.children) ∙ same_number registry unknown ts m.1 m.5 in
       head_excludes e m.0 (metadata_of m.2) (count ts) h ts r.is_expr.0 refl m.4
-      (subst (λ (n : ℕ). IsNoHead registry unknown e m.0 (metadata_of m.2) n) number
-      (subst (λ (z : Option (List ℕ)). IsNoHead registry unknown e m.0 (metadata_of z) (length c.children)) (sym s.metadata)
-      (subst (λ (i : List ℕ). IsNoHead registry unknown e i (metadata_of c.metadata) (length c.children)) (sym s.id) c.cause)))
+      (subst (λ (n : ℕ). RefusesCall registry unknown e m.0 (metadata_of m.2) n) number
+      (subst (λ (z : Option (List ℕ)). RefusesCall registry unknown e m.0 (metadata_of z) (length c.children)) (sym s.metadata)
+      (subst (λ (i : List ℕ). RefusesCall registry unknown e i (metadata_of c.metadata) (length c.children)) (sym s.id) c.cause)))
 
   -- Where a message is read as an expression, it has no cause to be read as none.
-  pub read_uncaused : (e : FnWireError) (v : Value) (t : Expr) → ReadsExpr registry unknown v t → IsUnreadExpr registry unknown e v → ⊥
+  pub read_uncaused : (e : FnWireError) (v : Value) (t : Expr) → ReadsExpr registry unknown v t → RefusesReadingExpr registry unknown e v → ⊥
   read_uncaused e v t r u =
       let at = below_read u.depth v u.at t r u.stands in
       node_excludes e u.at at.0 at.1 u.cause

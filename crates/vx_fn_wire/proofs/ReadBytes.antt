@@ -14,7 +14,7 @@ use Rattle.vx_proto.specs.Value.{Value}
 use Rattle.vx_proto.specs.Written.{nested}
 use Rattle.vx_proto.proofs.LawsOfMessages as laws
 use Rattle.vx_fn_wire.specs.Expr.{Expr}
-use Rattle.vx_fn_wire.specs.ReadsExpr.{ReadsExpr, IsUnreadExpr, ReadsExprBytes, IsUnreadExprBytes}
+use Rattle.vx_fn_wire.specs.ReadsExpr.{ReadsExpr, RefusesReadingExpr, ReadsExprBytes, RefusesReadingExprBytes}
 use Rattle.vx_fn_wire.specs.Refusals.{refusal_of_proto}
 use Rattle.vx_fn_wire.specs.Schema.{expr_lists}
 use Rattle.vx_fn_wire.specs.Seen.{expr}
@@ -70,19 +70,19 @@ no_range (suc left) bytes (inr (inr h)) = absurd (let e : proto.OutOfRange ≡ p
 
 module _ (registry : Registry ScalarFn) (unknown : Bool) where
   -- One expression is read of a message, and where one is, memory alone can run out.
-  pub one_read : (v : Value) (r : Result Expression FnWireError) → IfOk r (λ x. ReadsExpr registry unknown v (expr x)) → IfErr r (λ e. (e ≡ OutOfMemory) ⊎ IsUnreadExpr registry unknown e v) → (t : Expr) → ReadsExpr registry unknown v t
+  pub one_read : (v : Value) (r : Result Expression FnWireError) → IfOk r (λ x. ReadsExpr registry unknown v (expr x)) → IfErr r (λ e. (e ≡ OutOfMemory) ⊎ RefusesReadingExpr registry unknown e v) → (t : Expr) → ReadsExpr registry unknown v t
       → MatchResult r (λ x. expr x ≡ t) (λ e. e ≡ OutOfMemory)
   one_read v (Ok x) read cause t h = one_expr registry unknown v (expr x) t read h
   one_read v (Err e) read (inl m) t h = m
   one_read v (Err e) read (inr c) t h = absurd (read_uncaused registry unknown e v t h c)
 
   -- A message is refused where a cause stands.
-  pub none_read : (v : Value) (r : Result Expression FnWireError) → IfOk r (λ x. ReadsExpr registry unknown v (expr x)) → (e : FnWireError) → IsUnreadExpr registry unknown e v → IsErr r
+  pub none_read : (v : Value) (r : Result Expression FnWireError) → IfOk r (λ x. ReadsExpr registry unknown v (expr x)) → (e : FnWireError) → RefusesReadingExpr registry unknown e v → IsErr r
   none_read v (Ok x) read e c = absurd (read_uncaused registry unknown e v (expr x) read c)
   none_read v (Err y) read e c = refl
 
   -- Why bytes are no message is why they are read as no expression.
-  pub bytes_unread : (bytes : List ℕ) (p : ProtoError) → (p ≡ proto.OutOfMemory) ⊎ Cause expr_lists 100 p 0 bytes → (refusal_of_proto p ≡ OutOfMemory) ⊎ IsUnreadExprBytes registry unknown (refusal_of_proto p) bytes
+  pub bytes_unread : (bytes : List ℕ) (p : ProtoError) → (p ≡ proto.OutOfMemory) ⊎ Cause expr_lists 100 p 0 bytes → (refusal_of_proto p ≡ OutOfMemory) ⊎ RefusesReadingExprBytes registry unknown (refusal_of_proto p) bytes
   bytes_unread bytes proto.OutOfMemory h = inl refl
   bytes_unread bytes proto.BadMessage (inl m) = absurd cc
   bytes_unread bytes proto.BadMessage (inr c) = inr c
@@ -96,10 +96,10 @@ module _ (registry : Registry ScalarFn) (unknown : Bool) where
   of_bytes bytes v t shown h = subst (λ (w : Value). ReadsExpr registry unknown w t) (laws.reads_one expr_lists 0 bytes h.value v h.shown shown) h.read
 
   -- Bytes that are a message are refused where that is.
-  pub refused_bytes : (bytes : List ℕ) (v : Value) (r : Result Expression FnWireError) (e : FnWireError) → Reads expr_lists 0 bytes v → ((x : FnWireError) → IsUnreadExpr registry unknown x v → IsErr r) → IsUnreadExprBytes registry unknown e bytes → IsErr r
+  pub refused_bytes : (bytes : List ℕ) (v : Value) (r : Result Expression FnWireError) (e : FnWireError) → Reads expr_lists 0 bytes v → ((x : FnWireError) → RefusesReadingExpr registry unknown x v → IsErr r) → RefusesReadingExprBytes registry unknown e bytes → IsErr r
   refused_bytes bytes v r BadMessage shown refused c = absurd (laws.read_uncaused expr_lists 0 bytes v proto.BadMessage shown c)
   refused_bytes bytes v r TooDeep shown refused c = absurd (laws.read_uncaused expr_lists 0 bytes v proto.TooDeep shown c)
-  refused_bytes bytes v r e shown refused c = refused e (subst (IsUnreadExpr registry unknown e) (laws.reads_one expr_lists 0 bytes c.0 v c.1.0 shown) c.1.1)
+  refused_bytes bytes v r e shown refused c = refused e (subst (RefusesReadingExpr registry unknown e) (laws.reads_one expr_lists 0 bytes c.0 v c.1.0 shown) c.1.1)
 
   -- What is read of a message has as many levels as messages nest there.
   pub read_shallow : (v : Value) (r : Result Expression FnWireError) → nested v ≤ 100 → IfOk r (λ x. ReadsExpr registry unknown v (expr x)) → IfOk r (λ x. levels (expr x) ≤ 100)

@@ -9,7 +9,7 @@ use Rattle.vx_proto.specs.Reads.{default_value}
 use Rattle.vx_proto.specs.Value.{Value, view, entries_view}
 use Rattle.vx_fn_wire.specs.Expr.{Head, Expr, IsExpr}
 use Rattle.vx_fn_wire.specs.Messages.{metadata_of}
-use Rattle.vx_fn_wire.specs.ReadsExpr.{HoldsExpr, IsHeadOf, IsNodeOf, IsMessageOf, AreMessagesOf, ReadsExpr, IsNoHead, IsUnreadExpr}
+use Rattle.vx_fn_wire.specs.ReadsExpr.{HoldsExpr, IsHeadOf, IsNodeOf, IsMessageOf, AreMessagesOf, ReadsExpr, RefusesCall, RefusesReadingExpr}
 use Rattle.vx_fn_wire.specs.Schema.{expr_lists}
 use Rattle.vx_fn_wire.specs.Seen.{expr}
 use Rattle.vx_fn_wire.specs.Session.{Registry}
@@ -27,8 +27,8 @@ module _ (registry : Registry ScalarFn) (unknown : Bool) where
       (id, vs, m, holds, subst (λ (z : Roses Head). IsHeadOf registry unknown id (metadata_of m) (count z) h) (sym is.0) is.1, subst (λ (z : Roses Head). AreMessagesOf registry unknown z vs) (sym is.0) read)
 
   -- Where nothing stands at the node, the message is read as none.
-  node_unread : (e : FnWireError) (v : Value) (id : List ℕ) (vs : List Value) (m : Option (List ℕ)) → HoldsExpr v id vs m → (e ≡ OutOfMemory) ⊎ IsNoHead registry unknown e id (metadata_of m) (length vs)
-      → (e ≡ OutOfMemory) ⊎ IsUnreadExpr registry unknown e v
+  node_unread : (e : FnWireError) (v : Value) (id : List ℕ) (vs : List Value) (m : Option (List ℕ)) → HoldsExpr v id vs m → (e ≡ OutOfMemory) ⊎ RefusesCall registry unknown e id (metadata_of m) (length vs)
+      → (e ≡ OutOfMemory) ⊎ RefusesReadingExpr registry unknown e v
   node_unread e v id vs m holds (inl h) = inl h
   node_unread e v id vs m holds (inr h) = inr (record { depth = 0; at = v; stands = refl; cause = record { id = id; children = vs; metadata = m; holds = holds; cause = h } })
 
@@ -62,19 +62,19 @@ module _ (registry : Registry ScalarFn) (unknown : Bool) where
       record { is_expr = formed; message = is }
 
   pub whole_unread : (v : Value) (es : List (ℕ × Element)) (i : ℕ) (ts : List Expr) (id metadata : List ℕ) (r : Result Expression FnWireError) → HasForm expr_lists 0 v → entries_view es ≡ entries_in v 1 → length es ≤ i → AreReadTo registry unknown ts es i
-      → Some id ≡ text_in (entries_in v 0) → metadata ≡ metadata_of (octets_in (entries_in v 2)) → IfErr r (λ e. (e ≡ OutOfMemory) ⊎ IsNoHead registry unknown e id metadata (length ts)) → IfErr r (λ e. (e ≡ OutOfMemory) ⊎ IsUnreadExpr registry unknown e v)
+      → Some id ≡ text_in (entries_in v 0) → metadata ≡ metadata_of (octets_in (entries_in v 2)) → IfErr r (λ e. (e ≡ OutOfMemory) ⊎ RefusesCall registry unknown e id metadata (length ts)) → IfErr r (λ e. (e ≡ OutOfMemory) ⊎ RefusesReadingExpr registry unknown e v)
   whole_unread v es i ts id metadata (Ok e) h same le so_far found md cause = tt
   whole_unread v es i ts id metadata (Err e) h same le so_far found md cause =
       let p = read_parts v es i ts id metadata h same le so_far found md in
       let number : length ts ≡ length p.parts.children = sym (count-roses_of ts) ∙ sym (same_number registry unknown (roses_of ts) p.parts.children p.children) in
       node_unread e v p.parts.id p.parts.children p.parts.metadata p.parts.holds
-      (subst (λ (n : ℕ). (e ≡ OutOfMemory) ⊎ IsNoHead registry unknown e p.parts.id (metadata_of p.parts.metadata) n) number
-      (subst (λ (z : List ℕ). (e ≡ OutOfMemory) ⊎ IsNoHead registry unknown e p.parts.id z (length ts)) p.metadata_is
-      (subst (λ (z : List ℕ). (e ≡ OutOfMemory) ⊎ IsNoHead registry unknown e z metadata (length ts)) p.id_is cause)))
+      (subst (λ (n : ℕ). (e ≡ OutOfMemory) ⊎ RefusesCall registry unknown e p.parts.id (metadata_of p.parts.metadata) n) number
+      (subst (λ (z : List ℕ). (e ≡ OutOfMemory) ⊎ RefusesCall registry unknown e p.parts.id z (length ts)) p.metadata_is
+      (subst (λ (z : List ℕ). (e ≡ OutOfMemory) ⊎ RefusesCall registry unknown e z metadata (length ts)) p.id_is cause)))
 
   -- A child is read as none, and so is the message.
   pub child_unread : (e : FnWireError) (v : Value) (es : List (ℕ × Element)) (i : ℕ) (x : ℕ × Element) (w : Value) → HasForm expr_lists 0 v → entries_view es ≡ entries_in v 1 → i < length es → x ≡ get_or es i x → Some w ≡ message_of (view x.1)
-      → (e ≡ OutOfMemory) ⊎ IsUnreadExpr registry unknown e w → (e ≡ OutOfMemory) ⊎ IsUnreadExpr registry unknown e v
+      → (e ≡ OutOfMemory) ⊎ RefusesReadingExpr registry unknown e w → (e ≡ OutOfMemory) ⊎ RefusesReadingExpr registry unknown e v
   child_unread e v es i x w h same lt is some (inl m) = inl m
   child_unread e v es i x w h same lt is some (inr u) =
       let p = parts v h in
@@ -86,6 +86,6 @@ module _ (registry : Registry ScalarFn) (unknown : Bool) where
   default_read v (Err e) is given formed = tt
   default_read v (Ok e) is given formed = record { is_expr = formed; message = node_message v [] [] None end (expr e) is refl given }
 
-  pub default_unread : (v : Value) (r : Result Expression FnWireError) → v ≡ default_value expr_lists 0 → IfErr r (λ e. (e ≡ OutOfMemory) ⊎ IsNoHead registry unknown e [] [] 0) → IfErr r (λ e. (e ≡ OutOfMemory) ⊎ IsUnreadExpr registry unknown e v)
+  pub default_unread : (v : Value) (r : Result Expression FnWireError) → v ≡ default_value expr_lists 0 → IfErr r (λ e. (e ≡ OutOfMemory) ⊎ RefusesCall registry unknown e [] [] 0) → IfErr r (λ e. (e ≡ OutOfMemory) ⊎ RefusesReadingExpr registry unknown e v)
   default_unread v (Ok e) is cause = tt
   default_unread v (Err e) is cause = node_unread e v [] [] None is cause

@@ -6,8 +6,8 @@ use Rattle.vx_trees.proofs.Lists.{count-roses_of}
 use Rattle.vx_fn_wire.specs.Arity.{Admits}
 use Rattle.vx_fn_wire.specs.Expr.{call, Expr}
 use Rattle.vx_fn_wire.specs.Messages.{root_id}
-use Rattle.vx_fn_wire.specs.ReadsExpr.{IsFunctionOf, IsNodeOf, IsNoHead}
-use Rattle.vx_fn_wire.specs.Session.{Registry, IsNotGiven}
+use Rattle.vx_fn_wire.specs.ReadsExpr.{IsFunctionOf, IsNodeOf, RefusesCall}
+use Rattle.vx_fn_wire.specs.Session.{Registry, RefusesGiving}
 use Rattle.vx_fn_wire.specs.declared.scalar_fn.ScalarFn.{ScalarFn}
 use Rattle.vx_fn_wire.specs.declared.error.FnWireError.{FnWireError}
 use Rattle.vx_fn_wire.specs.declared.error.FnWireError.TheVariants.{OutOfMemory, UnknownId, ArityMismatch, PluginRefused}
@@ -16,15 +16,15 @@ pub not_root : (id : List ℕ) → false ≡ bytes_eq id root_id → id ≡ root
 not_root id e same = let t : bytes_eq id root_id ≡ true = (bytes_eq-Decides id root_id).1 same in absurd cc
 
 module _ (registry : Registry ScalarFn) (unknown : Bool) where
-  no_scalar : (e : FnWireError) (id metadata : List ℕ) (n : ℕ) → (id ≡ root_id → ⊥) → IsNotGiven e (registry id) unknown metadata → IsNoHead registry unknown e id metadata n
+  no_scalar : (e : FnWireError) (id metadata : List ℕ) (n : ℕ) → (id ≡ root_id → ⊥) → RefusesGiving e (registry id) unknown metadata → RefusesCall registry unknown e id metadata n
   no_scalar UnknownId id metadata n other h = (other, h)
   no_scalar PluginRefused id metadata n other h = (other, h)
   no_scalar e id metadata n other h = absurd h
 
   -- No function is given of an identifier that is not the root's.
-  pub no_function : (e : FnWireError) (id there metadata : List ℕ) (n : ℕ) → there ≡ id → false ≡ bytes_eq id root_id → (e ≡ OutOfMemory) ⊎ IsNotGiven e (registry there) unknown metadata → (e ≡ OutOfMemory) ⊎ IsNoHead registry unknown e id metadata n
+  pub no_function : (e : FnWireError) (id there metadata : List ℕ) (n : ℕ) → there ≡ id → false ≡ bytes_eq id root_id → (e ≡ OutOfMemory) ⊎ RefusesGiving e (registry there) unknown metadata → (e ≡ OutOfMemory) ⊎ RefusesCall registry unknown e id metadata n
   no_function e id there metadata n same other (inl h) = inl h
-  no_function e id there metadata n same other (inr h) = inr (no_scalar e id metadata n (not_root id other) (subst (λ (i : List ℕ). IsNotGiven e (registry i) unknown metadata) same h))
+  no_function e id there metadata n same other (inr h) = inr (no_scalar e id metadata n (not_root id other) (subst (λ (i : List ℕ). RefusesGiving e (registry i) unknown metadata) same h))
 
   given_at : (id there metadata : List ℕ) (n m : ℕ) (f : ScalarFn) → there ≡ id → m ≡ n → IsFunctionOf registry unknown there metadata m f → IsFunctionOf registry unknown id metadata n f
   given_at id there metadata n m f same number h =
@@ -32,7 +32,7 @@ module _ (registry : Registry ScalarFn) (unknown : Bool) where
 
   -- The arity of the function that is given does not admit so many children.
   pub not_admitted : (id there metadata : List ℕ) (n m : ℕ) (f : ScalarFn) → there ≡ id → false ≡ bytes_eq id root_id → m ≡ n → IsFunctionOf registry unknown there metadata m f → (Admits f.arity n → ⊥)
-      → IsNoHead registry unknown ArityMismatch id metadata n
+      → RefusesCall registry unknown ArityMismatch id metadata n
   not_admitted id there metadata n m f same other number h not = (not_root id other, f, given_at id there metadata n m f same number h, not)
 
   -- A call of the function that is given.

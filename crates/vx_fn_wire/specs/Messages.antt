@@ -19,10 +19,10 @@ abbrev pub aggregate_message : AggregateFn → Value
 aggregate_message f = one_octets 1 f.id ∷ one_octets 2 (metadata_of f.options) ∷ []
 
 -- Why an aggregate function is not written: its options cannot be. Want of memory has no cause.
-abbrev pub IsUnwrittenAggregate : FnWireError → AggregateFn → Type 0
-IsUnwrittenAggregate OutOfMemory f = Unit {0}
-IsUnwrittenAggregate NotSerializable f = f.options ≡ None
-IsUnwrittenAggregate _ f = ⊥
+abbrev pub RefusesWritingAggregate : FnWireError → AggregateFn → Type 0
+RefusesWritingAggregate OutOfMemory f = Unit {0}
+RefusesWritingAggregate NotSerializable f = f.options ≡ None
+RefusesWritingAggregate _ f = ⊥
 
 -- ---- expressions
 
@@ -69,12 +69,12 @@ abbrev pub AreSerializable : Roses Head → Type 0
 AreSerializable = EverywhereBelow CanWrite
 
 -- Why an expression has no message: the options of some function in it cannot be written. Want of memory has no cause.
-abbrev pub IsUnwritten : FnWireError → Expr → Type 0
-IsUnwritten OutOfMemory e = Unit {0}
-IsUnwritten NotSerializable e = IsSerializable e → ⊥
-IsUnwritten _ e = ⊥
+abbrev pub RefusesWritingExpr : FnWireError → Expr → Type 0
+RefusesWritingExpr OutOfMemory e = Unit {0}
+RefusesWritingExpr NotSerializable e = IsSerializable e → ⊥
+RefusesWritingExpr _ e = ⊥
 
 -- Why it has no bytes: that, or it has over 100 levels, each of which is a message in the one above.
-abbrev pub IsUnwrittenBytes : FnWireError → Expr → Type 0
-IsUnwrittenBytes TooDeep e = 100 < levels e
-IsUnwrittenBytes error e = IsUnwritten error e
+abbrev pub RefusesWritingExprBytes : FnWireError → Expr → Type 0
+RefusesWritingExprBytes TooDeep e = 100 < levels e
+RefusesWritingExprBytes error e = RefusesWritingExpr error e

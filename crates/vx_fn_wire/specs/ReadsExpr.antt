@@ -13,7 +13,7 @@ use Rattle.vx_fn_wire.specs.Foreign.{foreign_fn}
 use Rattle.vx_proto.specs.Value.{one_octets}
 use Rattle.vx_fn_wire.specs.Messages.{metadata_of, root_id}
 use Rattle.vx_fn_wire.specs.Schema.{expr_lists}
-use Rattle.vx_fn_wire.specs.Session.{Registry, IsGiven, IsNotGiven, optional_octets}
+use Rattle.vx_fn_wire.specs.Session.{Registry, IsGiven, RefusesGiving, optional_octets}
 use Rattle.vx_fn_wire.specs.declared.scalar_fn.ScalarFn.{ScalarFn}
 use Rattle.vx_fn_wire.specs.declared.error.FnWireError.{FnWireError}
 use Rattle.vx_fn_wire.specs.declared.error.FnWireError.TheVariants.{BadMessage, TooDeep, RootWithChildren, ArityMismatch}
@@ -66,19 +66,19 @@ module _ (registry : Registry ScalarFn) (unknown : Bool) where
 
   -- Why nothing stands at a node, by its message's identifier and metadata and how many children it has: the root has some;
   -- no function is given; or its arity does not admit so many.
-  abbrev pub IsNoHead : FnWireError → List ℕ → List ℕ → ℕ → Type 0
-  IsNoHead RootWithChildren id metadata children = (id ≡ root_id) × (0 < children)
-  IsNoHead ArityMismatch id metadata children =
+  abbrev pub RefusesCall : FnWireError → List ℕ → List ℕ → ℕ → Type 0
+  RefusesCall RootWithChildren id metadata children = (id ≡ root_id) × (0 < children)
+  RefusesCall ArityMismatch id metadata children =
       (id ≡ root_id → ⊥) × (f : ScalarFn) × IsFunctionOf id metadata children f × (Admits f.arity children → ⊥)
-  IsNoHead error id metadata children = (id ≡ root_id → ⊥) × IsNotGiven error (registry id) unknown metadata
+  RefusesCall error id metadata children = (id ≡ root_id → ⊥) × RefusesGiving error (registry id) unknown metadata
 
   -- Nothing stands at the node of a message.
-  pub record IsNoNode (error : FnWireError) (v : Value) : Type 0 where
+  pub record RefusesNode (error : FnWireError) (v : Value) : Type 0 where
     pub id : List ℕ
     pub children : List Value
     pub metadata : Option (List ℕ)
     pub holds : HoldsExpr v id children metadata
-    pub cause : IsNoHead error id (metadata_of metadata) (length children)
+    pub cause : RefusesCall error id (metadata_of metadata) (length children)
 
 -- A message is a child of another: one of the messages that it holds.
 abbrev pub IsChild : Value → Value → Type 0
@@ -91,17 +91,17 @@ StandsBelow (suc n) v w = (u : Value) × IsChild v u × StandsBelow n u w
 
 module _ (registry : Registry ScalarFn) (unknown : Bool) where
   -- Why a message is read as no expression: at some message in it, itself or below, nothing stands.
-  pub record IsUnreadExpr (error : FnWireError) (v : Value) : Type 0 where
+  pub record RefusesReadingExpr (error : FnWireError) (v : Value) : Type 0 where
     pub depth : ℕ
     pub at : Value
     pub stands : StandsBelow depth v at
-    pub cause : IsNoNode registry unknown error at
+    pub cause : RefusesNode registry unknown error at
 
   -- Why bytes are read as none: they are no fields of the schema, over 100 messages nest, or their message is read as none.
-  abbrev pub IsUnreadExprBytes : FnWireError → List ℕ → Type 0
-  IsUnreadExprBytes BadMessage bytes = Cause expr_lists 100 proto.BadMessage 0 bytes
-  IsUnreadExprBytes TooDeep bytes = Cause expr_lists 100 proto.TooDeep 0 bytes
-  IsUnreadExprBytes error bytes = (v : Value) × (Reads expr_lists 0 bytes v × IsUnreadExpr error v)
+  abbrev pub RefusesReadingExprBytes : FnWireError → List ℕ → Type 0
+  RefusesReadingExprBytes BadMessage bytes = Cause expr_lists 100 proto.BadMessage 0 bytes
+  RefusesReadingExprBytes TooDeep bytes = Cause expr_lists 100 proto.TooDeep 0 bytes
+  RefusesReadingExprBytes error bytes = (v : Value) × (Reads expr_lists 0 bytes v × RefusesReadingExpr error v)
 
   -- ---- what is read back
 

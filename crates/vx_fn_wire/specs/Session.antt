@@ -35,10 +35,10 @@ IsGiven (Some gives) unknown metadata foreign f = gives metadata ≡ Some f
 IsGiven None unknown metadata foreign f = (unknown ≡ true) × (f ≡ foreign)
 
 -- Why none is given: there is no plugin and unknown ones are not allowed, or the plugin refuses the metadata.
-abbrev pub IsNotGiven : {F : Type 0} → FnWireError → Option (List ℕ → Option F) → Bool → List ℕ → Type 0
-IsNotGiven UnknownId reader unknown metadata = (reader ≡ None) × (unknown ≡ false)
-IsNotGiven {F = F} PluginRefused reader unknown metadata = (gives : List ℕ → Option F) × (reader ≡ Some gives) × (gives metadata ≡ None)
-IsNotGiven error reader unknown metadata = ⊥
+abbrev pub RefusesGiving : {F : Type 0} → FnWireError → Option (List ℕ → Option F) → Bool → List ℕ → Type 0
+RefusesGiving UnknownId reader unknown metadata = (reader ≡ None) × (unknown ≡ false)
+RefusesGiving {F = F} PluginRefused reader unknown metadata = (gives : List ℕ → Option F) × (reader ≡ Some gives) × (gives metadata ≡ None)
+RefusesGiving error reader unknown metadata = ⊥
 
 -- ---- aggregate functions
 
@@ -47,9 +47,9 @@ abbrev pub IsAggregateOf : Option (List ℕ → Option AggregateFn) → Bool →
 IsAggregateOf reader unknown id metadata f = IsGiven reader unknown metadata (foreign_aggregate_fn id metadata) f × (f.id ≡ id)
 
 -- Why there is none: none is given, or one of another identifier.
-abbrev pub IsNoAggregate : FnWireError → Option (List ℕ → Option AggregateFn) → Bool → List ℕ → List ℕ → Type 0
-IsNoAggregate IdMismatch reader unknown id metadata = (f : AggregateFn) × IsGiven reader unknown metadata (foreign_aggregate_fn id metadata) f × (f.id ≡ id → ⊥)
-IsNoAggregate error reader unknown id metadata = IsNotGiven error reader unknown metadata
+abbrev pub RefusesAggregate : FnWireError → Option (List ℕ → Option AggregateFn) → Bool → List ℕ → List ℕ → Type 0
+RefusesAggregate IdMismatch reader unknown id metadata = (f : AggregateFn) × IsGiven reader unknown metadata (foreign_aggregate_fn id metadata) f × (f.id ≡ id → ⊥)
+RefusesAggregate error reader unknown id metadata = RefusesGiving error reader unknown metadata
 
 -- Metadata in its slot, which is empty where none stands.
 abbrev pub optional_octets : ℕ → Option (List ℕ) → List Entry
@@ -68,8 +68,8 @@ pub record ReadsAggregate (registry : Registry AggregateFn) (unknown : Bool) (v 
   pub given : IsAggregateOf (registry id) unknown id (metadata_of metadata) f
 
 -- Why a message is read as no function.
-pub record IsUnreadAggregate (error : FnWireError) (registry : Registry AggregateFn) (unknown : Bool) (v : Value) : Type 0 where
+pub record RefusesReadingAggregate (error : FnWireError) (registry : Registry AggregateFn) (unknown : Bool) (v : Value) : Type 0 where
   pub id : List ℕ
   pub metadata : Option (List ℕ)
   pub holds : HoldsAggregate v id metadata
-  pub cause : IsNoAggregate error (registry id) unknown id (metadata_of metadata)
+  pub cause : RefusesAggregate error (registry id) unknown id (metadata_of metadata)

@@ -1,8 +1,8 @@
 //! Functions of columns.
 
 ghost use Rattle.std.specs.Prelude.{◌≡◌, ◌⊎◌, None, IfOk, IfErr, IsErr, MatchResult};
-ghost use Rattle.vx_fn_wire.specs.Messages.{aggregate_message, IsUnwrittenAggregate};
-ghost use Rattle.vx_fn_wire.specs.Session.{aggregates_meaning, ReadsAggregate, IsUnreadAggregate};
+ghost use Rattle.vx_fn_wire.specs.Messages.{aggregate_message, RefusesWritingAggregate};
+ghost use Rattle.vx_fn_wire.specs.Session.{aggregates_meaning, ReadsAggregate, RefusesReadingAggregate};
 ghost use Rattle.vx_fn_wire.specs.declared.aggregate_fn.AggregateFn.{AggregateFn as Aggregate};
 ghost use Rattle.vx_fn_wire.specs.declared.error.FnWireError.{FnWireError as Refusal};
 
@@ -39,10 +39,10 @@ impl AggregateFn {
         session: &FnSession,
     ) -> Result<AggregateFn, FnWireError>
         ensures read { IfOk result (λ f. ReadsAggregate (aggregates_meaning aggregate_of session.now.aggregates) session.now.unknown message.now f) }
-        ensures cause { IfErr result (λ e. (e ≡ FnWireError.OutOfMemory) ⊎ IsUnreadAggregate e (aggregates_meaning aggregate_of session.now.aggregates) session.now.unknown message.now) }
+        ensures cause { IfErr result (λ e. (e ≡ FnWireError.OutOfMemory) ⊎ RefusesReadingAggregate e (aggregates_meaning aggregate_of session.now.aggregates) session.now.unknown message.now) }
         ensures complete { (f : Aggregate) → ReadsAggregate (aggregates_meaning aggregate_of session.now.aggregates) session.now.unknown message.now f
             → MatchResult result (λ g. g ≡ f) (λ e. e ≡ FnWireError.OutOfMemory) }
-        ensures refused { (e : Refusal) → IsUnreadAggregate e (aggregates_meaning aggregate_of session.now.aggregates) session.now.unknown message.now → IsErr result }
+        ensures refused { (e : Refusal) → RefusesReadingAggregate e (aggregates_meaning aggregate_of session.now.aggregates) session.now.unknown message.now → IsErr result }
     {
         let parts = parts_of(message);
         let id = or_memory(Id::new(alloc, parts.id))?;
@@ -53,7 +53,7 @@ impl AggregateFn {
     /// The function's message. `NotSerializable` exactly where its options cannot be written.
     pub fn serialize_proto(&self, alloc: Global) -> Result<pb::AggregateFn, FnWireError>
         ensures same { IfOk result (λ m. m ≡ aggregate_message self.now) }
-        ensures cause { IfErr result (λ e. IsUnwrittenAggregate e self.now) }
+        ensures cause { IfErr result (λ e. RefusesWritingAggregate e self.now) }
         ensures refused { self.now.options ≡ None → IsErr result }
     {
         let Some(metadata) = &self.options else {

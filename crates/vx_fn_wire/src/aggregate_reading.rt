@@ -2,7 +2,7 @@
 
 ghost use Rattle.std.specs.Prelude.{◌≡◌, ◌⊎◌, Bool, Some, IfOk, IfErr, option_map};
 ghost use Rattle.vx_fn_wire.specs.Messages.{metadata_of};
-ghost use Rattle.vx_fn_wire.specs.Session.{aggregates_meaning, IsAggregateOf, IsNoAggregate, HoldsAggregate};
+ghost use Rattle.vx_fn_wire.specs.Session.{aggregates_meaning, IsAggregateOf, RefusesAggregate, HoldsAggregate};
 
 use crate::aggregate_fn::AggregateFn;
 use crate::error::{FnWireError, or_memory};
@@ -60,7 +60,7 @@ fn registered(
     plugin: &Box<dyn AggregateFnPlugin>,
 ) -> Result<AggregateFn, FnWireError>
     ensures given { IfOk result (λ f. (aggregate_of plugin.now metadata.now ≡ Some f) × (f.id ≡ id.now)) }
-    ensures cause { IfErr result (λ e. (e ≡ FnWireError.OutOfMemory) ⊎ ((unknown : Bool) → IsNoAggregate e (Some (aggregate_of plugin.now)) unknown id.now metadata.now)) }
+    ensures cause { IfErr result (λ e. (e ≡ FnWireError.OutOfMemory) ⊎ ((unknown : Bool) → RefusesAggregate e (Some (aggregate_of plugin.now)) unknown id.now metadata.now)) }
 {
     match aggregate_by(alloc, plugin, metadata) {
         Ok(function) => {
@@ -83,7 +83,7 @@ pub fn function_of(
     unknown: bool,
 ) -> Result<AggregateFn, FnWireError>
     ensures given { IfOk result (λ f. IsAggregateOf (aggregates_meaning aggregate_of session.now id) unknown id metadata.now f) }
-    ensures cause { IfErr result (λ e. (e ≡ FnWireError.OutOfMemory) ⊎ IsNoAggregate e (aggregates_meaning aggregate_of session.now id) unknown id metadata.now) }
+    ensures cause { IfErr result (λ e. (e ≡ FnWireError.OutOfMemory) ⊎ RefusesAggregate e (aggregates_meaning aggregate_of session.now id) unknown id metadata.now) }
 {
     match session.plugins.get(&id) {
         Some(plugin) => registered(alloc, &id, metadata, plugin),

@@ -8,8 +8,8 @@ ghost use Rattle.vx_proto.specs.Written.{written};
 ghost use Rattle.vx_fn_wire.specs.Arity.{Admits};
 ghost use Rattle.vx_fn_wire.specs.Expr.{Expr, call, IsExpr};
 ghost use Rattle.vx_fn_wire.specs.ExprText.{expr_text};
-ghost use Rattle.vx_fn_wire.specs.Messages.{expr_message, IsSerializable, IsUnwritten, IsUnwrittenBytes};
-ghost use Rattle.vx_fn_wire.specs.ReadsExpr.{ReadsExpr, IsUnreadExpr, ReadsExprBytes, IsUnreadExprBytes, GivesEachBack};
+ghost use Rattle.vx_fn_wire.specs.Messages.{expr_message, IsSerializable, RefusesWritingExpr, RefusesWritingExprBytes};
+ghost use Rattle.vx_fn_wire.specs.ReadsExpr.{ReadsExpr, RefusesReadingExpr, ReadsExprBytes, RefusesReadingExprBytes, GivesEachBack};
 ghost use Rattle.vx_fn_wire.specs.Schema.{expr_lists};
 ghost use Rattle.vx_fn_wire.specs.Seen.{expr};
 ghost use Rattle.vx_fn_wire.specs.Session.{Registry, scalars_meaning};
@@ -63,10 +63,10 @@ impl Expression {
         session: &FnSession,
     ) -> Result<Expression, FnWireError>
         ensures read { IfOk result (λ e. ReadsExpr (scalars_meaning scalar_of session.now.scalars) session.now.unknown message.now (expr e)) }
-        ensures cause { IfErr result (λ e. (e ≡ FnWireError.OutOfMemory) ⊎ IsUnreadExpr (scalars_meaning scalar_of session.now.scalars) session.now.unknown e message.now) }
+        ensures cause { IfErr result (λ e. (e ≡ FnWireError.OutOfMemory) ⊎ RefusesReadingExpr (scalars_meaning scalar_of session.now.scalars) session.now.unknown e message.now) }
         ensures complete { (e : Expr) → ReadsExpr (scalars_meaning scalar_of session.now.scalars) session.now.unknown message.now e
             → MatchResult result (λ d. expr d ≡ e) (λ e. e ≡ FnWireError.OutOfMemory) }
-        ensures refused { (e : Refusal) → IsUnreadExpr (scalars_meaning scalar_of session.now.scalars) session.now.unknown e message.now → IsErr result }
+        ensures refused { (e : Refusal) → RefusesReadingExpr (scalars_meaning scalar_of session.now.scalars) session.now.unknown e message.now → IsErr result }
     {
         expression_of(alloc, message, &session.scalars, session.unknown)
     }
@@ -79,10 +79,10 @@ impl Expression {
         session: &FnSession,
     ) -> Result<Expression, FnWireError>
         ensures read { IfOk result (λ e. ReadsExprBytes (scalars_meaning scalar_of session.now.scalars) session.now.unknown bytes.now (expr e)) }
-        ensures cause { IfErr result (λ e. (e ≡ FnWireError.OutOfMemory) ⊎ IsUnreadExprBytes (scalars_meaning scalar_of session.now.scalars) session.now.unknown e bytes.now) }
+        ensures cause { IfErr result (λ e. (e ≡ FnWireError.OutOfMemory) ⊎ RefusesReadingExprBytes (scalars_meaning scalar_of session.now.scalars) session.now.unknown e bytes.now) }
         ensures complete { (e : Expr) → ReadsExprBytes (scalars_meaning scalar_of session.now.scalars) session.now.unknown bytes.now e
             → MatchResult result (λ d. expr d ≡ e) (λ e. e ≡ FnWireError.OutOfMemory) }
-        ensures refused { (e : Refusal) → IsUnreadExprBytes (scalars_meaning scalar_of session.now.scalars) session.now.unknown e bytes.now → IsErr result }
+        ensures refused { (e : Refusal) → RefusesReadingExprBytes (scalars_meaning scalar_of session.now.scalars) session.now.unknown e bytes.now → IsErr result }
         ensures shallow { IfOk result (λ e. levels (expr e) ≤ 100) }
     {
         let message = pb::Expr::decode(alloc, bytes)?;
@@ -106,7 +106,7 @@ impl Expression {
         ensures read_back { IfOk result (λ bytes. (registry : Registry Scalar) (unknown : Bool) → GivesEachBack registry unknown (expr self.now) → ReadsExprBytes registry unknown bytes (expr self.now)) }
         ensures whole { IsOk result → IsSerializable (expr self.now) }
         ensures shallow { IsOk result → levels (expr self.now) ≤ 100 }
-        ensures cause { IfErr result (λ e. IsUnwrittenBytes e (expr self.now)) }
+        ensures cause { IfErr result (λ e. RefusesWritingExprBytes e (expr self.now)) }
     {
         let message = self.message(alloc)?;
         let bytes = message.encode_to_vec(alloc)?;
@@ -120,7 +120,7 @@ impl Expression {
         ensures same { IfOk result (λ m. m ≡ expr_message (expr self.now)) }
         ensures formed { IfOk result (λ _. IsExpr (expr self.now)) }
         ensures whole { IsOk result → IsSerializable (expr self.now) }
-        ensures cause { IfErr result (λ e. IsUnwritten e (expr self.now)) }
+        ensures cause { IfErr result (λ e. RefusesWritingExpr e (expr self.now)) }
     {
         if !self.is_serializable() {
             return Err(FnWireError::NotSerializable);
@@ -137,10 +137,10 @@ pub fn deserialize_expr_proto(
     session: &FnSession,
 ) -> Result<Expression, FnWireError>
     ensures read { IfOk result (λ e. ReadsExpr (scalars_meaning scalar_of session.now.scalars) session.now.unknown message.now (expr e)) }
-    ensures cause { IfErr result (λ e. (e ≡ FnWireError.OutOfMemory) ⊎ IsUnreadExpr (scalars_meaning scalar_of session.now.scalars) session.now.unknown e message.now) }
+    ensures cause { IfErr result (λ e. (e ≡ FnWireError.OutOfMemory) ⊎ RefusesReadingExpr (scalars_meaning scalar_of session.now.scalars) session.now.unknown e message.now) }
     ensures complete { (e : Expr) → ReadsExpr (scalars_meaning scalar_of session.now.scalars) session.now.unknown message.now e
         → MatchResult result (λ d. expr d ≡ e) (λ e. e ≡ FnWireError.OutOfMemory) }
-    ensures refused { (e : Refusal) → IsUnreadExpr (scalars_meaning scalar_of session.now.scalars) session.now.unknown e message.now → IsErr result }
+    ensures refused { (e : Refusal) → RefusesReadingExpr (scalars_meaning scalar_of session.now.scalars) session.now.unknown e message.now → IsErr result }
 {
     Expression::from_proto(alloc, message, session)
 }
@@ -155,7 +155,7 @@ pub trait ExprSerializeProtoExt {
     fn serialize_proto(&self, alloc: Global) -> Result<pb::Expr, FnWireError>
         ensures same { IfOk result (λ m. m ≡ expr_message (tree self.now)) }
         ensures whole { IsOk result → IsSerializable (tree self.now) }
-        ensures cause { IfErr result (λ e. IsUnwritten e (tree self.now)) };
+        ensures cause { IfErr result (λ e. RefusesWritingExpr e (tree self.now)) };
 }
 
 impl ExprSerializeProtoExt for Expression {

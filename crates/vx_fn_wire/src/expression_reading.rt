@@ -7,10 +7,10 @@ ghost use Rattle.vx_proto.specs.Parts.{entries_in, octets_in};
 ghost use Rattle.vx_proto.specs.Value.{value_view};
 ghost use Rattle.vx_fn_wire.specs.Expr.{IsExpr, AreExprs};
 ghost use Rattle.vx_fn_wire.specs.Messages.{metadata_of};
-ghost use Rattle.vx_fn_wire.specs.ReadsExpr.{IsFunctionOf, IsNodeOf, IsNoHead, ReadsExpr, IsUnreadExpr};
+ghost use Rattle.vx_fn_wire.specs.ReadsExpr.{IsFunctionOf, IsNodeOf, RefusesCall, ReadsExpr, RefusesReadingExpr};
 ghost use Rattle.vx_fn_wire.specs.Schema.{expr_lists};
 ghost use Rattle.vx_fn_wire.specs.Seen.{expr};
-ghost use Rattle.vx_fn_wire.specs.Session.{scalars_meaning, IsNotGiven};
+ghost use Rattle.vx_fn_wire.specs.Session.{scalars_meaning, RefusesGiving};
 
 use crate::error::{FnWireError, or_memory};
 use crate::expression::Expression;
@@ -51,7 +51,7 @@ fn function_of(
     unknown: bool,
 ) -> Result<ScalarFn, FnWireError>
     ensures given { IfOk result (λ f. IsFunctionOf (scalars_meaning scalar_of session.now) unknown id metadata.now children f) }
-    ensures cause { IfErr result (λ e. (e ≡ FnWireError.OutOfMemory) ⊎ IsNotGiven e (scalars_meaning scalar_of session.now id) unknown metadata.now) }
+    ensures cause { IfErr result (λ e. (e ≡ FnWireError.OutOfMemory) ⊎ RefusesGiving e (scalars_meaning scalar_of session.now id) unknown metadata.now) }
 {
     match session.plugins.get(&id) {
         Some(plugin) => registered(alloc, metadata, plugin),
@@ -76,7 +76,7 @@ fn node_of(
 ) -> Result<Expression, FnWireError>
     ensures given { IfOk result (λ e. IsNodeOf (scalars_meaning scalar_of session.now) unknown id.now metadata.now (roses_of children) (expr e)) }
     ensures formed { AreExprs children → IfOk result (λ e. IsExpr (expr e)) }
-    ensures cause { IfErr result (λ e. (e ≡ FnWireError.OutOfMemory) ⊎ IsNoHead (scalars_meaning scalar_of session.now) unknown e id.now metadata.now (length children)) }
+    ensures cause { IfErr result (λ e. (e ≡ FnWireError.OutOfMemory) ⊎ RefusesCall (scalars_meaning scalar_of session.now) unknown e id.now metadata.now (length children)) }
 {
     if id == ROOT_ID {
         if !children.is_empty() {
@@ -111,7 +111,7 @@ fn expression_in(
 ) -> Result<Expression, FnWireError>
     requires { HasForm expr_lists 0 (value_view slots.now) }
     ensures read { IfOk result (λ e. ReadsExpr (scalars_meaning scalar_of session.now) unknown (value_view slots.now) (expr e)) }
-    ensures cause { IfErr result (λ e. (e ≡ FnWireError.OutOfMemory) ⊎ IsUnreadExpr (scalars_meaning scalar_of session.now) unknown e (value_view slots.now)) }
+    ensures cause { IfErr result (λ e. (e ≡ FnWireError.OutOfMemory) ⊎ RefusesReadingExpr (scalars_meaning scalar_of session.now) unknown e (value_view slots.now)) }
 {
     let mut children = Expressions::new(alloc);
     for (_, element) in entries_at(slots, 1) {
@@ -134,7 +134,7 @@ pub fn expression_of(
     unknown: bool,
 ) -> Result<Expression, FnWireError>
     ensures read { IfOk result (λ e. ReadsExpr (scalars_meaning scalar_of session.now) unknown message.now (expr e)) }
-    ensures cause { IfErr result (λ e. (e ≡ FnWireError.OutOfMemory) ⊎ IsUnreadExpr (scalars_meaning scalar_of session.now) unknown e message.now) }
+    ensures cause { IfErr result (λ e. (e ≡ FnWireError.OutOfMemory) ⊎ RefusesReadingExpr (scalars_meaning scalar_of session.now) unknown e message.now) }
 {
     match message.slots() {
         Some(slots) => expression_in(alloc, slots, session, unknown),

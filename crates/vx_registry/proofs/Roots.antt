@@ -11,7 +11,7 @@ use Rattle.vx_wire_tree.specs.Session.{SessionMeaning, Reader, plugin}
 use Rattle.vx_wire_tree.specs.Written.{writes_two}
 use Rattle.vx_wire_tree.specs.Taken.{Step, written, unwritten, unserializable, given_head, plugin_step, writer_step, step_by, step}
 use Rattle.vx_registry.specs.Plugin.{parts_in}
-use Rattle.vx_registry.specs.Serialization.{HasPartsOf, IsWithoutParts, IsSerializedAs, IsUnserialized}
+use Rattle.vx_registry.specs.Serialization.{HasPartsOf, RefusesPartsOf, IsSerializedAs, RefusesSerializing}
 use Rattle.vx_registry.specs.declared.error.RegistryError.{RegistryError}
 use Rattle.vx_registry.specs.declared.error.RegistryError.TheVariants as registry
 use Rattle.vx_registry.specs.declared.serialization.ArraySerialization.{ArraySerialization}
@@ -43,9 +43,9 @@ pub no_parts : (s : SessionMeaning) (x : Step) → x ≡ unwritten unserializabl
 no_parts s x e = subst (λ z. IsSerializedAs s z None) (sym e) tt
 
 -- Why a root that is written as it is has none.
-pub without_parts : (t : Tree) (x : Step) (e : RegistryError) → x ≡ written (label t) (below t) → IsWithoutParts e t → IsUnserialized e x
+pub without_parts : (t : Tree) (x : Step) (e : RegistryError) → x ≡ written (label t) (below t) → RefusesPartsOf e t → RefusesSerializing e x
 without_parts t x registry.OutOfMemory e k = tt
 without_parts t x registry.NotRegistered e k = absurd k
 without_parts t x registry.UndeclaredId e k = absurd k
 without_parts t x registry.PluginRefused e k = absurd k
-without_parts t x registry.WireLimit e k = subst (λ z. IsUnserialized registry.WireLimit z) (sym e) k
+without_parts t x registry.WireLimit e k = subst (λ z. RefusesSerializing registry.WireLimit z) (sym e) k

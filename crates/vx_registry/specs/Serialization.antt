@@ -30,12 +30,12 @@ pub record HasPartsOf (two : Bool) (t : Tree) (s : ArraySerialization) : Type 0 
   pub children_are : s.children ≡ below t
 
 -- No parts are given of an array: for want of memory, or as its root's metadata does not fit its message.
-abbrev pub IsWithoutParts : RegistryError → Tree → Type 0
-IsWithoutParts OutOfMemory t = Unit {0}
-IsWithoutParts NotRegistered t = ⊥
-IsWithoutParts UndeclaredId t = ⊥
-IsWithoutParts PluginRefused t = ⊥
-IsWithoutParts WireLimit t = HasMessage (label t) (below t) → ⊥
+abbrev pub RefusesPartsOf : RegistryError → Tree → Type 0
+RefusesPartsOf OutOfMemory t = Unit {0}
+RefusesPartsOf NotRegistered t = ⊥
+RefusesPartsOf UndeclaredId t = ⊥
+RefusesPartsOf PluginRefused t = ⊥
+RefusesPartsOf WireLimit t = HasMessage (label t) (below t) → ⊥
 
 -- ---- by what writes a root
 
@@ -59,9 +59,9 @@ HasLargeMetadata (unwritten why) = ⊥
 
 -- Why a root is not serialized: for want of memory; nothing writes it; its plugin names an identifier that it does not
 -- declare, or refuses it; or its metadata does not fit its message.
-abbrev pub IsUnserialized : RegistryError → Step → Type 0
-IsUnserialized OutOfMemory x = Unit {0}
-IsUnserialized NotRegistered x = x ≡ unwritten unregistered
-IsUnserialized UndeclaredId x = x ≡ unwritten undeclared
-IsUnserialized PluginRefused x = x ≡ unwritten unwilling
-IsUnserialized WireLimit x = HasLargeMetadata x
+abbrev pub RefusesSerializing : RegistryError → Step → Type 0
+RefusesSerializing OutOfMemory x = Unit {0}
+RefusesSerializing NotRegistered x = x ≡ unwritten unregistered
+RefusesSerializing UndeclaredId x = x ≡ unwritten undeclared
+RefusesSerializing PluginRefused x = x ≡ unwritten unwilling
+RefusesSerializing WireLimit x = HasLargeMetadata x

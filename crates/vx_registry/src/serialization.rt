@@ -7,7 +7,7 @@ ghost use Rattle.vx_array_tree.specs.Table.{own_id, buffers_of};
 ghost use Rattle.vx_wire_tree.specs.Limits.{HasMessage};
 ghost use Rattle.vx_wire_tree.specs.Revised.{revised_id as rows_id};
 ghost use Rattle.vx_wire_tree.specs.Written.{body_id};
-ghost use Rattle.vx_registry.specs.Serialization.{HasPartsOf, IsWithoutParts, array_id};
+ghost use Rattle.vx_registry.specs.Serialization.{HasPartsOf, RefusesPartsOf, array_id};
 
 use crate::error::RegistryError;
 use crate::named::named;
@@ -58,7 +58,7 @@ impl ArraySerialization {
     pub fn from_array(alloc: Global, array: &Array) -> Result<ArraySerialization, RegistryError>
         ensures parts { IfOk result (HasPartsOf false array.now) }
         ensures fits { OnOk result (HasMessage (label array.now) (below array.now)) }
-        ensures err { IfErr result (λ e. IsWithoutParts e array.now) }
+        ensures err { IfErr result (λ e. RefusesPartsOf e array.now) }
     {
         ArraySerialization::written_as(alloc, array, false)
     }
@@ -71,7 +71,7 @@ impl ArraySerialization {
     ) -> Result<ArraySerialization, RegistryError>
         ensures parts { IfOk result (HasPartsOf two array.now) }
         ensures fits { OnOk result (HasMessage (label array.now) (below array.now)) }
-        ensures err { IfErr result (λ e. IsWithoutParts e array.now) }
+        ensures err { IfErr result (λ e. RefusesPartsOf e array.now) }
     {
         let serialized_id = written_id(alloc, array, two)?;
         let metadata = match metadata(alloc, array) {

@@ -8,7 +8,7 @@ ghost use Rattle.vx_wire_tree.specs.Limits.{HasMessage};
 ghost use Rattle.vx_wire_tree.specs.Taken.{step, plugin_step};
 ghost use Rattle.vx_wire_tree.specs.Written.{writes_two};
 ghost use Rattle.vx_registry.specs.Meaning.{arrays_meaning};
-ghost use Rattle.vx_registry.specs.Serialization.{HasPartsOf, IsWithoutParts, IsSerializedAs, IsUnserialized, IsRootOf};
+ghost use Rattle.vx_registry.specs.Serialization.{HasPartsOf, RefusesPartsOf, IsSerializedAs, RefusesSerializing, IsRootOf};
 
 use crate::array_session::ArraySession;
 use crate::error::RegistryError;
@@ -42,7 +42,7 @@ pub fn written_root(
     unknown: bool,
 ) -> Result<WrittenRoot, RegistryError>
     ensures root { (x : ExtMeaning) → x.unknown ≡ unknown → IfOk result (IsRootOf array.now (step (arrays_meaning means arrays.now x) array.now)) }
-    ensures cause { (x : ExtMeaning) → x.unknown ≡ unknown → IfErr result (λ e. IsUnserialized e (step (arrays_meaning means arrays.now x) array.now)) }
+    ensures cause { (x : ExtMeaning) → x.unknown ≡ unknown → IfErr result (λ e. RefusesSerializing e (step (arrays_meaning means arrays.now x) array.now)) }
 {
     if array.is_foreign() {
         if !unknown {
@@ -69,7 +69,7 @@ fn given_root(
     array: &Array,
 ) -> Result<WrittenRoot, RegistryError>
     ensures root { IfOk result (IsRootOf array.now (plugin_step (means plugin.now) (label array.now) ((means plugin.now).serialize array.now))) }
-    ensures cause { IfErr result (λ e. IsUnserialized e (plugin_step (means plugin.now) (label array.now) ((means plugin.now).serialize array.now))) }
+    ensures cause { IfErr result (λ e. RefusesSerializing e (plugin_step (means plugin.now) (label array.now) ((means plugin.now).serialize array.now))) }
 {
     let parts = match serialize_by(alloc, plugin, array) {
         Ok(Some(parts)) => parts,
@@ -96,7 +96,7 @@ pub fn serialize_root(
     unknown: bool,
 ) -> Result<Option<ArraySerialization>, RegistryError>
     ensures parts { (x : ExtMeaning) → x.unknown ≡ unknown → IfOk result (IsSerializedAs (arrays_meaning means arrays.now x) (step (arrays_meaning means arrays.now x) array.now)) }
-    ensures cause { (x : ExtMeaning) → x.unknown ≡ unknown → IfErr result (λ e. IsUnserialized e (step (arrays_meaning means arrays.now x) array.now)) }
+    ensures cause { (x : ExtMeaning) → x.unknown ≡ unknown → IfErr result (λ e. RefusesSerializing e (step (arrays_meaning means arrays.now x) array.now)) }
 {
     match written_root(alloc, array, arrays, unknown)? {
         WrittenRoot::Own => Ok(Some(own_parts(alloc, array, arrays)?)),
@@ -113,7 +113,7 @@ fn own_parts(
 ) -> Result<ArraySerialization, RegistryError>
     ensures parts { (x : ExtMeaning) → IfOk result (HasPartsOf (writes_two (arrays_meaning means arrays.now x)) array.now) }
     ensures fits { OnOk result (HasMessage (label array.now) (below array.now)) }
-    ensures err { IfErr result (λ e. IsWithoutParts e array.now) }
+    ensures err { IfErr result (λ e. RefusesPartsOf e array.now) }
 {
     let two = match arrays.writes_two(alloc) {
         Ok(two) => two,

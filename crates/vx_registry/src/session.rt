@@ -7,7 +7,7 @@ ghost use Rattle.vx_wire_tree.specs.Session.{IsPaired, HasPairedPlugins, entry_i
 ghost use Rattle.vx_wire_tree.specs.Taken.{step};
 ghost use Rattle.vx_wire_tree.specs.Written.{writes_two};
 ghost use Rattle.vx_registry.specs.Meaning.{arrays_meaning, reader_in, session_meaning, entry_reader, entry_ids, with_entry};
-ghost use Rattle.vx_registry.specs.Serialization.{IsSerializedAs, IsUnserialized};
+ghost use Rattle.vx_registry.specs.Serialization.{IsSerializedAs, RefusesSerializing};
 ghost use Rattle.vx_registry.specs.Session.{both_ids, empty_registry, shipped_registry, shipped_meaning, revised_meaning, found_with, with_revised, with_plugin};
 
 use crate::array_session::ArraySession;
@@ -265,7 +265,7 @@ impl VortexSession {
         ensures parts { let s = session_meaning means (λ b. accepted (b.vtable, b.value)) self.now in
             IfOk result (IsSerializedAs s (step s array.now)) }
         ensures cause { let s = session_meaning means (λ b. accepted (b.vtable, b.value)) self.now in
-            IfErr result (λ e. IsUnserialized e (step s array.now)) }
+            IfErr result (λ e. RefusesSerializing e (step s array.now)) }
     {
         serialize_root(alloc, array, &self.arrays, self.allows_unknown())
     }

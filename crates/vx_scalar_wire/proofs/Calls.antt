@@ -16,8 +16,8 @@ use Rattle.vx_scalars.specs.declared.error.ScalarError.{ScalarError}
 use Rattle.vx_scalars.specs.declared.error.ScalarError.TheVariants as scalar_error
 use Rattle.vx_scalars.specs.declared.value.ScalarValue.{ScalarValue}
 use Rattle.vx_scalar_wire.specs.Reading.{ReadsValue, ShowsValue}
-use Rattle.vx_scalar_wire.specs.Refusing.{IsRefusedMessage}
-use Rattle.vx_scalar_wire.specs.RefusingCalls.{IsRefusedAt, IsRefusedBytes}
+use Rattle.vx_scalar_wire.specs.Refusing.{RefusesReadingValue}
+use Rattle.vx_scalar_wire.specs.RefusingCalls.{RefusesReadingScalarAt, RefusesReadingValueBytes}
 use Rattle.vx_scalar_wire.specs.ScalarMessage.{scalar_lists}
 use Rattle.vx_scalar_wire.specs.Writing.{refusal_of_proto, refusal_of_scalar}
 use Rattle.vx_scalar_wire.specs.declared.error.ScalarWireError.{ScalarWireError}
@@ -26,7 +26,7 @@ use Rattle.vx_scalar_wire.specs.declared.error.ScalarWireError.TheVariants.{OutO
 -- ---- bytes
 
 -- Bytes that are no message are refused so,
-proto_caused : (p : ProtoError) (s : ExtMeaning) (d : Typ) (bytes : List ℕ) → (p ≡ proto.OutOfMemory) ⊎ Cause scalar_lists 100 p 15 bytes → IsRefusedBytes (refusal_of_proto p) s d bytes
+proto_caused : (p : ProtoError) (s : ExtMeaning) (d : Typ) (bytes : List ℕ) → (p ≡ proto.OutOfMemory) ⊎ Cause scalar_lists 100 p 15 bytes → RefusesReadingValueBytes (refusal_of_proto p) s d bytes
 proto_caused proto.OutOfMemory s d bytes h = tt
 proto_caused proto.BadMessage s d bytes (inl h) = absurd (cc)
 proto_caused proto.BadMessage s d bytes (inr h) = inl (proto.BadMessage, refl, h)
@@ -36,21 +36,21 @@ proto_caused proto.OutOfRange s d bytes (inl h) = absurd (cc)
 proto_caused proto.OutOfRange s d bytes (inr h) = inl (proto.OutOfRange, refl, h)
 
 pub proto_refused : (p : ProtoError) (e : ScalarWireError) (s : ExtMeaning) (d : Typ) (bytes : List ℕ) → e ≡ refusal_of_proto p → (p ≡ proto.OutOfMemory) ⊎ Cause scalar_lists 100 p 15 bytes
-    → IsRefusedBytes e s d bytes
-proto_refused p e s d bytes is h = subst (λ (x : ScalarWireError). IsRefusedBytes x s d bytes) (sym is) (proto_caused p s d bytes h)
+    → RefusesReadingValueBytes e s d bytes
+proto_refused p e s d bytes is h = subst (λ (x : ScalarWireError). RefusesReadingValueBytes x s d bytes) (sym is) (proto_caused p s d bytes h)
 
 -- and want memory where they show a value.
 pub proto_memory : (p : ProtoError) (e : ScalarWireError) (s : ExtMeaning) (v : V.Value) (d : Typ) (bytes : List ℕ) → e ≡ refusal_of_proto p → ((m : Value) → Reads scalar_lists 15 bytes m → p ≡ proto.OutOfMemory)
     → ShowsValue s v d bytes → e ≡ OutOfMemory
 proto_memory p e s v d bytes is h r = is ∙ ap (λ (x : ProtoError). refusal_of_proto x) (h r.0 r.1)
 
-message_caused : (e : ScalarWireError) (s : ExtMeaning) (d : Typ) (bytes : List ℕ) (m : Value) → Reads scalar_lists 15 bytes m → IsRefusedMessage e s 100 d m → IsRefusedBytes e s d bytes
+message_caused : (e : ScalarWireError) (s : ExtMeaning) (d : Typ) (bytes : List ℕ) (m : Value) → Reads scalar_lists 15 bytes m → RefusesReadingValue e s 100 d m → RefusesReadingValueBytes e s d bytes
 message_caused OutOfMemory s d bytes m r h = tt
 message_caused _ s d bytes m r h = inr (m, r, h)
 
 -- Bytes whose message is refused are refused,
-pub message_refused : (r : Result (Option ScalarValue) ScalarWireError) (s : ExtMeaning) (d : Typ) (bytes : List ℕ) (m : Value) → Reads scalar_lists 15 bytes m → IfErr r (λ e. IsRefusedMessage e s 100 d m)
-    → IfErr r (λ e. IsRefusedBytes e s d bytes)
+pub message_refused : (r : Result (Option ScalarValue) ScalarWireError) (s : ExtMeaning) (d : Typ) (bytes : List ℕ) (m : Value) → Reads scalar_lists 15 bytes m → IfErr r (λ e. RefusesReadingValue e s 100 d m)
+    → IfErr r (λ e. RefusesReadingValueBytes e s d bytes)
 message_refused (Ok x) s d bytes m q h = tt
 message_refused (Err e) s d bytes m q h = message_caused e s d bytes m q h
 
@@ -66,15 +66,15 @@ pub ruleset bytes_read = (proto_refused, proto_memory, message_refused, bytes_co
 -- ---- scalars of a type
 
 -- What is refused as a value is refused as a scalar,
-pub value_refused_at : (e : ScalarWireError) (s : ExtMeaning) (d : Typ) (m : Value) → IsRefusedMessage e s 100 d m → IsRefusedAt e s d m
+pub value_refused_at : (e : ScalarWireError) (s : ExtMeaning) (d : Typ) (m : Value) → RefusesReadingValue e s 100 d m → RefusesReadingScalarAt e s d m
 value_refused_at BadScalar s d m h = inl h
 value_refused_at _ s d m h = h
 
 -- and so is what does not fit.
 pub unfit_at : (x : ScalarError) (e : ScalarWireError) (s : ExtMeaning) (v : V.Value) (d f : Typ) (m : Value) → e ≡ refusal_of_scalar x → (x ≡ scalar_error.BadScalar) × (Fits v f → ⊥) → f ≡ d → ReadsValue s v d m
-    → IsRefusedAt e s d m
+    → RefusesReadingScalarAt e s d m
 unfit_at x e s v d f m is h same r =
-    subst (λ (y : ScalarWireError). IsRefusedAt y s d m) (sym (is ∙ ap (λ (y : ScalarError). refusal_of_scalar y) h.0))
+    subst (λ (y : ScalarWireError). RefusesReadingScalarAt y s d m) (sym (is ∙ ap (λ (y : ScalarError). refusal_of_scalar y) h.0))
     (inr (v, r, subst (λ (t : Typ). Fits v t → ⊥) same h.1))
 
 pub never_unfit : (x : ScalarError) (e : ScalarWireError) (u v : V.Value) (d f : Typ) → (x ≡ scalar_error.BadScalar) × (Fits u f → ⊥) → f ≡ d → u ≡ v → Fits v d → e ≡ OutOfMemory

@@ -3,7 +3,7 @@ use Rattle.std.proofs.Common.{◌≡◌, ◌∙◌, false, ℕ, List, [], ◌∷
 use Rattle.vx_flat.specs.declared.error.FlatError.{FlatError}
 use Rattle.vx_flat.specs.declared.builder.piece.LinkKind.TheVariants as link
 use Rattle.vx_flat.specs.Building.{Built, Link, AreLeft, with_piece, with_pieces, waiting, later_links}
-use Rattle.vx_flat.specs.Building.{IsNext, IsPartWay, Takes, IsRefused, Keeps, IsStopped}
+use Rattle.vx_flat.specs.Building.{IsNext, IsPartWay, Takes, RefusesPiece, Keeps, RefusesPieces}
 use Rattle.vx_flat.specs.Pieces.{Piece, elements_piece}
 use Rattle.vx_flat.proofs.LawsOfBuilding.{with_pieces-runs, stopped-first, stopped-later}
 use Rattle.vx_flat.proofs.LawsOfLinks.{works, idle, next_is, awaited}
@@ -26,7 +26,7 @@ gone_past b p ls ps now h = subst (λ qs. IsPartWay b p ls qs now) (sym (append-
 
 -- Where the vector of a link is refused, the whole stops.
 pub cut_short : (b : Built) (p : Piece) (l : Link) (ls : List Link) (ps rest : List Piece) (now mid new : Built) (q : Piece) (e : FlatError)
-    → IsPartWay b p (l ∷ ls) ps now → (now.failed ≡ false → mid ≡ waiting now) → IsRefused mid q e new → IsStopped b ((p ∷ ps) ++ ((q ∷ []) ++ rest)) e new
+    → IsPartWay b p (l ∷ ls) ps now → (now.failed ≡ false → mid ≡ waiting now) → RefusesPiece mid q e new → RefusesPieces b ((p ∷ ps) ++ ((q ∷ []) ++ rest)) e new
 cut_short b p l ls ps rest now mid new q e h m r =
     stopped-later b mid new p ps (q ∷ []) rest e (m (works b p (l ∷ ls) ps now h) ∙ ap waiting h.same) (stopped-first mid new q [] e r)
 
@@ -60,12 +60,12 @@ went_past block index None now e b p ls ps h = gone_past b p ls ps now h
 went_past block index (Some cs) now e b p ls ps h = absurd (cc)
 
 -- or are refused.
-pub went_wrong : (block index : ℕ) (o : Option (List ℕ)) (bytes : List ℕ) (now mid new : Built) (e : FlatError) → o ≡ Some bytes → (now.failed ≡ false → mid ≡ waiting now) → IsRefused mid (elements_piece 1 bytes) e new
-    → (b : Built) (p : Piece) (ls : List Link) (ps rest : List Piece) → IsPartWay b p (vector_links block index o ++ ls) ps now → IsStopped b ((p ∷ ps) ++ (vector_pieces o ++ rest)) e new
+pub went_wrong : (block index : ℕ) (o : Option (List ℕ)) (bytes : List ℕ) (now mid new : Built) (e : FlatError) → o ≡ Some bytes → (now.failed ≡ false → mid ≡ waiting now) → RefusesPiece mid (elements_piece 1 bytes) e new
+    → (b : Built) (p : Piece) (ls : List Link) (ps rest : List Piece) → IsPartWay b p (vector_links block index o ++ ls) ps now → RefusesPieces b ((p ∷ ps) ++ (vector_pieces o ++ rest)) e new
 went_wrong block index None bytes now mid new e is m r b p ls ps rest h = absurd (cc)
 went_wrong block index (Some cs) bytes now mid new e is m r b p ls ps rest h =
     let same : bytes ≡ cs = cc in
-    cut_short b p (record { block = block; index = index; kind = link.Vector }) ls ps rest now mid new (elements_piece 1 cs) e h m (subst (λ (x : List ℕ). IsRefused mid (elements_piece 1 x) e new) same r)
+    cut_short b p (record { block = block; index = index; kind = link.Vector }) ls ps rest now mid new (elements_piece 1 cs) e h m (subst (λ (x : List ℕ). RefusesPiece mid (elements_piece 1 x) e new) same r)
 
 pub ruleset vector_steps = (at_idle, at_next, at_takes, went_on, went_past, went_wrong)
 

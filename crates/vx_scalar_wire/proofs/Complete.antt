@@ -36,7 +36,7 @@ use Rattle.vx_scalars.specs.Seen.{seen}
 use Rattle.vx_scalars.specs.Told.{Typed}
 use Rattle.vx_scalars.specs.declared.value.ScalarValue.{ScalarValue}
 use Rattle.vx_scalar_wire.specs.Reading.{Holds, HoldsInteger, HoldsNumber, HoldsOctets, ReadsParts, ReadsValue, EachReads, ReadsBy, ReadsScalar}
-use Rattle.vx_scalar_wire.specs.Refusing.{is_one_of, numeral_members, members_at, integer_of, NoneIs, OfUnion, IsOtherCount, IsAt, IsFieldAt, IsPartType, IsPart, IsWithin, IsScalarCause, IsUnreadType, IsCause, IsRefusedMessage, IsRefusedScalar}
+use Rattle.vx_scalar_wire.specs.Refusing.{is_one_of, numeral_members, members_at, integer_of, NoneIs, OfUnion, IsOtherCount, IsAt, IsFieldAt, IsPartType, IsPart, IsWithin, IsScalarCause, RefusesTypeBy, IsCause, RefusesReadingValue, RefusesReadingScalar}
 use Rattle.vx_scalar_wire.specs.declared.error.ScalarWireError.{ScalarWireError}
 use Rattle.vx_scalar_wire.specs.declared.error.ScalarWireError.TheVariants.{OutOfMemory, TooDeep, MissingKind, KindMismatch, OutOfRange, BadChild, BadScalar, BadDType}
 use Rattle.vx_scalar_wire.specs.declared.error.TypeRefusal.{TypeRefusal}
@@ -328,7 +328,7 @@ few_levels s l q n =
     let typed : nested q.typed_by ≡ 2 * levels q.dtype = ap nested q.shown.shows.is ∙ type_depth q.dtype q.shown.shows.is_type in
     omega (arith, whole, typed, n)
 
-not_unread : (r : TypeRefusal) (s : ExtMeaning) (l t : Value) (q : ScalarRead s l) → nested l ≤ 100 → q.typed_by ≡ t → IsUnreadType r s t → ⊥
+not_unread : (r : TypeRefusal) (s : ExtMeaning) (l t : Value) (q : ScalarRead s l) → nested l ≤ 100 → q.typed_by ≡ t → RefusesTypeBy r s t → ⊥
 not_unread BadType s l t q n e h = h q.dtype (few_levels s l q n) (record { is_type = q.shown.shows.is_type; is = sym e ∙ q.shown.shows.is })
 not_unread UnknownExtension s l t q n e h =
     known_or type_error.UnknownExtension s q.dtype (subst (λ u. IsNotKnown type_error.UnknownExtension s u) (sym (one_typed s q.typed_by t q.dtype h.0 e q.shown h.1.0)) h.1.1) q.shown.known
@@ -473,7 +473,7 @@ no_cause_within (suc depth) e s v d m f u is n r w c =
     no_cause_within depth e s p.1.0 w.0 w.1 f u p.0 (omega (arith, part_depth s d m w.0 w.1 w.2, n)) p.1.1 w.3 c
 
 -- What is read at a type, with at most 100 messages nested, is refused for want of memory alone.
-pub only_memory : (e : ScalarWireError) (s : ExtMeaning) (v : V.Value) (d : Typ) (m : Value) → IsType d → nested m ≤ 100 → ReadsValue s v d m → IsRefusedMessage e s 100 d m → e ≡ OutOfMemory
+pub only_memory : (e : ScalarWireError) (s : ExtMeaning) (v : V.Value) (d : Typ) (m : Value) → IsType d → nested m ≤ 100 → ReadsValue s v d m → RefusesReadingValue e s 100 d m → e ≡ OutOfMemory
 only_memory OutOfMemory s v d m is n r h = refl
 only_memory TooDeep s v d m is n r h = absurd (omega (arith, n, h))
 only_memory e s v d m is n r h = absurd (no_cause_within h.0 e s v d m h.1 h.2 is n r h.3 h.4)
@@ -481,7 +481,7 @@ only_memory e s v d m is n r h = absurd (no_cause_within h.0 e s v d m h.1 h.2 i
 -- ---- answers
 
 -- What is read at a type is given, want of memory aside.
-pub value_complete : (r : Result (Option ScalarValue) ScalarWireError) (s : ExtMeaning) (d : Typ) (m : Value) → IsType d → IfOk r (λ x. ReadsValue s (seen x) d m) → IfErr r (λ e. IsRefusedMessage e s 100 d m)
+pub value_complete : (r : Result (Option ScalarValue) ScalarWireError) (s : ExtMeaning) (d : Typ) (m : Value) → IsType d → IfOk r (λ x. ReadsValue s (seen x) d m) → IfErr r (λ e. RefusesReadingValue e s 100 d m)
     → (v : V.Value) → nested m ≤ 100 → ReadsValue s v d m → MatchResult r (λ x. seen x ≡ v) (λ e. e ≡ OutOfMemory)
 value_complete (Ok x) s d m is h k v n r = reads-one s (seen x) v d m h r
 value_complete (Err e) s d m is h k v n r = only_memory e s v d m is n r k
@@ -493,7 +493,7 @@ inner_depth : (l t w : Value) → l ≡ one_message 1 t ∷ one_message 2 w ∷ 
 inner_depth l t w e n = let whole : nested l ≡ nested (one_message 1 t ∷ one_message 2 w ∷ []) = ap nested e in omega (arith, whole, n)
 
 -- A scalar's message that is read is refused for want of memory alone.
-pub scalar_memory : (e : ScalarWireError) (s : ExtMeaning) (x : Typed) (l : Value) → nested l ≤ 100 → ReadsScalar s x l → IsRefusedScalar e s 100 l → e ≡ OutOfMemory
+pub scalar_memory : (e : ScalarWireError) (s : ExtMeaning) (x : Typed) (l : Value) → nested l ≤ 100 → ReadsScalar s x l → RefusesReadingScalar e s 100 l → e ≡ OutOfMemory
 scalar_memory OutOfMemory s x l n r c = refl
 scalar_memory e s x l n r (inl c) = absurd (no_scalar_cause e s l (scalar_held s x l r) n c)
 scalar_memory e s x l n r (inr c) =
@@ -505,7 +505,7 @@ scalar_memory e s x l n r (inr c) =
     only_memory e s x.value c.2 c.1 c.4.shows.is_type (inner_depth l c.0 c.1 c.3 n) read c.5
 
 -- What is read of a scalar's message is given, want of memory aside.
-pub scalar_complete : (r : Result Typed ScalarWireError) (s : ExtMeaning) (l : Value) → IfOk r (λ x. ReadsScalar s x l) → IfErr r (λ e. IsRefusedScalar e s 100 l)
+pub scalar_complete : (r : Result Typed ScalarWireError) (s : ExtMeaning) (l : Value) → IfOk r (λ x. ReadsScalar s x l) → IfErr r (λ e. RefusesReadingScalar e s 100 l)
     → (x : Typed) → nested l ≤ 100 → ReadsScalar s x l → MatchResult r (λ y. y ≡ x) (λ e. e ≡ OutOfMemory)
 scalar_complete (Ok y) s l h k x n r = one_scalar s l y x h r
 scalar_complete (Err e) s l h k x n r = scalar_memory e s x l n r k

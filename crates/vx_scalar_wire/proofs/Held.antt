@@ -25,7 +25,7 @@ use Rattle.vx_types.specs.Typ.{Typ}
 use Rattle.vx_types.specs.Value as V
 use Rattle.vx_scalar_wire.specs.Answers.{lone_member}
 use Rattle.vx_scalar_wire.specs.Reading.{Holds, ReadsValue}
-use Rattle.vx_scalar_wire.specs.Refusing.{IsRefusedMessage, is_one_of}
+use Rattle.vx_scalar_wire.specs.Refusing.{RefusesReadingValue, is_one_of}
 use Rattle.vx_scalar_wire.specs.declared.error.ScalarWireError.{ScalarWireError}
 use Rattle.vx_scalar_wire.specs.ScalarMessage.{value_members, scalar_list, value_list, list_list, union_list, scalar_lists}
 
@@ -158,8 +158,8 @@ pub message_held : (m : Value) (x : ℕ × Element) (parts : Vec (Vec (ℕ × El
 message_held m x parts items e is same = e ∙ ap (λ (c : Content). lone_member x.0 c) (ap view is ∙ shows_message parts (value_view items) (ap value_view (sym same)))
 
 -- A member is refused, whichever name its number has.
-pub refused_under : (e : ScalarWireError) (s : ExtMeaning) (most : ℕ) (d : Typ) (g k : ℕ) (c : Content) → g ≡ k → IsRefusedMessage e s most d (lone_member k c) → IsRefusedMessage e s most d (lone_member g c)
-refused_under e s most d g k c is r = subst (λ (j : ℕ). IsRefusedMessage e s most d (lone_member j c)) (sym is) r
+pub refused_under : (e : ScalarWireError) (s : ExtMeaning) (most : ℕ) (d : Typ) (g k : ℕ) (c : Content) → g ≡ k → RefusesReadingValue e s most d (lone_member k c) → RefusesReadingValue e s most d (lone_member g c)
+refused_under e s most d g k c is r = subst (λ (j : ℕ). RefusesReadingValue e s most d (lone_member j c)) (sym is) r
 
 -- A message in it has its form.
 pub held_form : (g place : ℕ) (w : Value) → kind_in value_members g ≡ Some (Message place) → HasForm scalar_lists 15 (lone_member g (message (slots_of w))) → HasForm scalar_lists place w

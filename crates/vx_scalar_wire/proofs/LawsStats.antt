@@ -19,9 +19,9 @@ use Rattle.vx_scalar_wire.specs.StatsSchema.{stats_fields}
 use Rattle.vx_scalars.specs.declared.precision.Precision.TheVariants.{Exact, Inexact, Absent}
 use Rattle.vx_scalars.specs.declared.stat.Stat.TheVariants.{Sum, IsSorted, IsStrictSorted, IsConstant, NullCount, UncompressedSizeInBytes, NaNCount}
 use Rattle.vx_scalar_wire.specs.StatsShown.{ShowsSum, ShowsFlag, ShowsCount, ShowsStats, ShowsStatsIn, part}
-use Rattle.vx_scalars.specs.Nans.{quiet, nan_canonical}
+use Rattle.vx_scalars.specs.Nans.{is_nan, quiet, nan_canonical}
 use Rattle.vx_scalars.specs.WrittenStats.{canonical_sum, written_sum, written_flag, written_count, written_stats}
-use Rattle.vx_scalar_wire.specs.StatsKept.{is_nan, canonical_told, canonical_stats}
+use Rattle.vx_scalar_wire.specs.StatsKept.{canonical_told, canonical_stats}
 use Rattle.vx_scalar_wire.specs.StatsTable.{IsStorable, IsStorableCount, AreStorable, count_bits, value_field, precision_of, number_field, stats_pieces, stats_table}
 use Rattle.vx_scalar_wire.proofs.StatsBack.{stats_back, sum_well}
 use Rattle.vx_scalar_wire.proofs.StatsEntries.{of_any, pieces_any}

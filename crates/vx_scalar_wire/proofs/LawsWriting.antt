@@ -14,8 +14,8 @@ use Rattle.vx_scalars.specs.declared.precision.Precision.TheVariants.{Exact, Ine
 use Rattle.vx_scalars.specs.declared.stat.Stat.TheVariants.{Min, Max, Sum}
 use Rattle.vx_scalar_wire.specs.ScalarMessage.{value_message}
 use Rattle.vx_scalar_wire.specs.Shallow.{IsShallow, AreShallow}
-use Rattle.vx_scalar_wire.specs.StatsUnwritten.{IsUnwrittenTold, IsUnwrittenStats}
-use Rattle.vx_scalar_wire.specs.Writing.{IsUnwrittenBytes}
+use Rattle.vx_scalar_wire.specs.StatsUnwritten.{RefusesWritingTold, RefusesWritingStats}
+use Rattle.vx_scalar_wire.specs.Writing.{RefusesWritingValueBytes}
 use Rattle.vx_scalar_wire.specs.declared.error.ScalarWireError.{ScalarWireError}
 use Rattle.vx_scalar_wire.specs.declared.error.ScalarWireError.TheVariants.{OutOfMemory, BadMessage, TooDeep, MissingKind, KindMismatch, OutOfRange, BadChild, BadScalar, BadPrecision, BadDType, MessageTooLong}
 use Rattle.vx_scalar_wire.specs.declared.error.TypeRefusal.TheVariants.{WireLimit}
@@ -39,13 +39,13 @@ leaf_shallow (node (V.union tag) vs) d l f = absurd (no_member tag (λ ts. FitBy
 leaf_shallow (node (V.variant e) vs) d l f = absurd (no_variant d l f.0)
 
 -- So they are written.
-value_written : (e : ScalarWireError) (v : V.Value) → IsShallow v → nested (value_message v) ≤ 100 → IsUnwrittenBytes e (IsShallow v) (value_message v) → e ≡ OutOfMemory
+value_written : (e : ScalarWireError) (v : V.Value) → IsShallow v → nested (value_message v) ≤ 100 → RefusesWritingValueBytes e (IsShallow v) (value_message v) → e ≡ OutOfMemory
 value_written OutOfMemory v s n u = refl
 value_written TooDeep v s n u = absurd (omega (arith, n, u))
 value_written (BadDType WireLimit) v s n u = absurd (u s)
 value_written _ v s n u = absurd u
 
-told_written : (e : ScalarWireError) (o : Option Typ) (x : Told) → ((d : Typ) → o ≡ Some d → IsLeaf d) → FitsTold o x → IsUnwrittenTold e x → e ≡ OutOfMemory
+told_written : (e : ScalarWireError) (o : Option Typ) (x : Told) → ((d : Typ) → o ≡ Some d → IsLeaf d) → FitsTold o x → RefusesWritingTold e x → e ≡ OutOfMemory
 told_written e (Some d) (Exact v) l f u = value_written e v (leaf_shallow v d (l d refl) f.0) (leaf_known v d (l d refl) f.0).1 u
 told_written e (Some d) (Inexact v) l f u = value_written e v (leaf_shallow v d (l d refl) f.0) (leaf_known v d (l d refl) f.0).1 u
 told_written e (Some d) Absent l f u = absurd u
@@ -62,13 +62,13 @@ sum_told None (Exact v) f = absurd f
 sum_told None (Inexact v) f = absurd f
 sum_told None Absent f = tt
 
-one_of_three : (e : ScalarWireError) (d : Typ) (t : Stats) → FitStats d t → IsUnwrittenTold e t.least ⊎ (IsUnwrittenTold e t.greatest ⊎ IsUnwrittenTold e (written_sum t.total)) → e ≡ OutOfMemory
+one_of_three : (e : ScalarWireError) (d : Typ) (t : Stats) → FitStats d t → RefusesWritingTold e t.least ⊎ (RefusesWritingTold e t.greatest ⊎ RefusesWritingTold e (written_sum t.total)) → e ≡ OutOfMemory
 one_of_three e d t f (inl u) = told_written e (stat_type Min d) t.least (λ k h. ordered_leaf (bare d) k h) (f Min) u
 one_of_three e d t f (inr (inl u)) = told_written e (stat_type Max d) t.greatest (λ k h. ordered_leaf (bare d) k h) (f Max) u
 one_of_three e d t f (inr (inr u)) = told_written e (stat_type Sum d) (written_sum t.total) (λ k h. sum_leaf d k h) (sum_told (stat_type Sum d) t.total (f Sum)) u
 
 -- Of a set that fits, nothing is refused but for want of memory, or where the message would be too long.
-pub fit_written : (e : ScalarWireError) (d : Typ) (t : Stats) (b : Built) → FitStats d t → IsUnwrittenStats e t b → (e ≡ OutOfMemory) ⊎ (e ≡ MessageTooLong)
+pub fit_written : (e : ScalarWireError) (d : Typ) (t : Stats) (b : Built) → FitStats d t → RefusesWritingStats e t b → (e ≡ OutOfMemory) ⊎ (e ≡ MessageTooLong)
 fit_written OutOfMemory d t b f u = inl refl
 fit_written MessageTooLong d t b f u = inr refl
 fit_written BadMessage d t b f u = inl (one_of_three BadMessage d t f u)

@@ -25,13 +25,13 @@ use Rattle.vx_types.specs.declared.value.PValue.{PValue}
 use Rattle.vx_types.specs.declared.value.PValue.TheVariants.{U8, U16, U32, U64, I8, I16, I32, I64, F16, F32, F64}
 use Rattle.vx_scalar_wire.specs.Answers.{lone_member, GivesValue}
 use Rattle.vx_scalar_wire.specs.Reading.{HoldsInteger, HoldsNumber, HoldsOctets, ReadsValue}
-use Rattle.vx_scalar_wire.specs.Refusing.{is_one_of, numeral_members, members_at, integer_of, IsNoInteger, IsRefusedMessage}
+use Rattle.vx_scalar_wire.specs.Refusing.{is_one_of, numeral_members, members_at, integer_of, IsNoInteger, RefusesReadingValue}
 use Rattle.vx_scalar_wire.specs.declared.error.ScalarWireError.{ScalarWireError}
 use Rattle.vx_scalar_wire.specs.declared.error.ScalarWireError.TheVariants as error
 
 -- ---- members that are not read at a type
 
-pub mismatch : (s : ExtMeaning) (most : ℕ) (d t : Typ) (g : ℕ) (c : Content) → t ≡ bare d → is_one_of g (1 ∷ members_at t) ≡ false → IsRefusedMessage error.KindMismatch s most d (lone_member g c)
+pub mismatch : (s : ExtMeaning) (most : ℕ) (d t : Typ) (g : ℕ) (c : Content) → t ≡ bare d → is_one_of g (1 ∷ members_at t) ≡ false → RefusesReadingValue error.KindMismatch s most d (lone_member g c)
 mismatch s most d t g c e h = (0, d, lone_member g c, (refl, refl), (g, c, refl, subst (λ (x : Typ). is_one_of g (1 ∷ members_at x) ≡ false) e h))
 
 no_flag_of : (p : PType) → is_one_of 2 (1 ∷ numeral_members p) ≡ false
@@ -58,22 +58,22 @@ others (node (primitive p m) ts) h = absurd (h p refl)
 others _ h = (refl, refl, refl, refl, refl)
 
 refused_as : (e : ScalarWireError) (s : ExtMeaning) (most : ℕ) (d : Typ) (g : ℕ) (c : Content) → e ≡ error.KindMismatch → is_one_of g (1 ∷ members_at (bare d)) ≡ false
-    → IsRefusedMessage e s most d (lone_member g c)
-refused_as e s most d g c is h = subst (λ (x : ScalarWireError). IsRefusedMessage x s most d (lone_member g c)) (sym is) (mismatch s most d (bare d) g c refl h)
+    → RefusesReadingValue e s most d (lone_member g c)
+refused_as e s most d g c is h = subst (λ (x : ScalarWireError). RefusesReadingValue x s most d (lone_member g c)) (sym is) (mismatch s most d (bare d) g c refl h)
 
-pub no_signed : (e : ScalarWireError) (s : ExtMeaning) (most : ℕ) (d : Typ) (c : Content) → e ≡ error.KindMismatch → ((p : PType) → IsOf p (bare d) → ⊥) → IsRefusedMessage e s most d (lone_member 3 c)
+pub no_signed : (e : ScalarWireError) (s : ExtMeaning) (most : ℕ) (d : Typ) (c : Content) → e ≡ error.KindMismatch → ((p : PType) → IsOf p (bare d) → ⊥) → RefusesReadingValue e s most d (lone_member 3 c)
 no_signed e s most d c is h = refused_as e s most d 3 c is (others (bare d) h).0
 
-pub no_unsigned : (e : ScalarWireError) (s : ExtMeaning) (most : ℕ) (d : Typ) (c : Content) → e ≡ error.KindMismatch → ((p : PType) → IsOf p (bare d) → ⊥) → IsRefusedMessage e s most d (lone_member 4 c)
+pub no_unsigned : (e : ScalarWireError) (s : ExtMeaning) (most : ℕ) (d : Typ) (c : Content) → e ≡ error.KindMismatch → ((p : PType) → IsOf p (bare d) → ⊥) → RefusesReadingValue e s most d (lone_member 4 c)
 no_unsigned e s most d c is h = refused_as e s most d 4 c is (others (bare d) h).1
 
-pub no_single : (e : ScalarWireError) (s : ExtMeaning) (most : ℕ) (d : Typ) (c : Content) → e ≡ error.KindMismatch → ((p : PType) → IsOf p (bare d) → ⊥) → IsRefusedMessage e s most d (lone_member 5 c)
+pub no_single : (e : ScalarWireError) (s : ExtMeaning) (most : ℕ) (d : Typ) (c : Content) → e ≡ error.KindMismatch → ((p : PType) → IsOf p (bare d) → ⊥) → RefusesReadingValue e s most d (lone_member 5 c)
 no_single e s most d c is h = refused_as e s most d 5 c is (others (bare d) h).2
 
-pub no_double : (e : ScalarWireError) (s : ExtMeaning) (most : ℕ) (d : Typ) (c : Content) → e ≡ error.KindMismatch → ((p : PType) → IsOf p (bare d) → ⊥) → IsRefusedMessage e s most d (lone_member 6 c)
+pub no_double : (e : ScalarWireError) (s : ExtMeaning) (most : ℕ) (d : Typ) (c : Content) → e ≡ error.KindMismatch → ((p : PType) → IsOf p (bare d) → ⊥) → RefusesReadingValue e s most d (lone_member 6 c)
 no_double e s most d c is h = refused_as e s most d 6 c is (others (bare d) h).3
 
-pub no_half : (e : ScalarWireError) (s : ExtMeaning) (most : ℕ) (d : Typ) (c : Content) → e ≡ error.KindMismatch → ((p : PType) → IsOf p (bare d) → ⊥) → IsRefusedMessage e s most d (lone_member 10 c)
+pub no_half : (e : ScalarWireError) (s : ExtMeaning) (most : ℕ) (d : Typ) (c : Content) → e ≡ error.KindMismatch → ((p : PType) → IsOf p (bare d) → ⊥) → RefusesReadingValue e s most d (lone_member 10 c)
 no_half e s most d c is h = refused_as e s most d 10 c is (others (bare d) h).4
 
 pub at_numbers : (b : Typ) (p : PType) → IsOf p b → members_at b ≡ numeral_members p
@@ -81,7 +81,7 @@ at_numbers (node (primitive q m) ts) p o = ap numeral_members (sym o)
 at_numbers _ p o = absurd o
 
 other_number : (s : ExtMeaning) (most : ℕ) (d : Typ) (g : ℕ) (c : Content) (p : PType) → IsOf p (bare d) → is_one_of g (1 ∷ numeral_members p) ≡ false
-    → IsRefusedMessage error.KindMismatch s most d (lone_member g c)
+    → RefusesReadingValue error.KindMismatch s most d (lone_member g c)
 other_number s most d g c p o h = mismatch s most d (bare d) g c refl (subst (λ (ms : List ℕ). is_one_of g (1 ∷ ms) ≡ false) (sym (at_numbers (bare d) p o)) h)
 
 no_ten : (p : PType) → (p ≡ kind.F16 → ⊥) → is_one_of 10 (1 ∷ numeral_members p) ≡ false
@@ -114,13 +114,13 @@ no_four kind.F32 x h = refl
 no_four kind.F64 x h = refl
 no_four _ x h = absurd (cc)
 
-pub other_half : (s : ExtMeaning) (most : ℕ) (d : Typ) (c : Content) (p : PType) → IsOf p (bare d) → (p ≡ kind.F16 → ⊥) → IsRefusedMessage error.KindMismatch s most d (lone_member 10 c)
+pub other_half : (s : ExtMeaning) (most : ℕ) (d : Typ) (c : Content) (p : PType) → IsOf p (bare d) → (p ≡ kind.F16 → ⊥) → RefusesReadingValue error.KindMismatch s most d (lone_member 10 c)
 other_half s most d c p o h = other_number s most d 10 c p o (no_ten p h)
 
-pub other_single : (s : ExtMeaning) (most : ℕ) (d : Typ) (c : Content) (p : PType) → IsOf p (bare d) → (p ≡ kind.F32 → ⊥) → IsRefusedMessage error.KindMismatch s most d (lone_member 5 c)
+pub other_single : (s : ExtMeaning) (most : ℕ) (d : Typ) (c : Content) (p : PType) → IsOf p (bare d) → (p ≡ kind.F32 → ⊥) → RefusesReadingValue error.KindMismatch s most d (lone_member 5 c)
 other_single s most d c p o h = other_number s most d 5 c p o (no_five p h)
 
-pub other_double : (s : ExtMeaning) (most : ℕ) (d : Typ) (c : Content) (p : PType) → IsOf p (bare d) → (p ≡ kind.F64 → ⊥) → IsRefusedMessage error.KindMismatch s most d (lone_member 6 c)
+pub other_double : (s : ExtMeaning) (most : ℕ) (d : Typ) (c : Content) (p : PType) → IsOf p (bare d) → (p ≡ kind.F64 → ⊥) → RefusesReadingValue error.KindMismatch s most d (lone_member 6 c)
 other_double s most d c p o h = other_number s most d 6 c p o (no_six p h)
 
 -- ---- flags
@@ -195,7 +195,7 @@ pub float_given : (r : Result PValue ScalarWireError) (s : ExtMeaning) (most : �
     → GivesValue (λ n. V.lone (V.number n)) r s most d (lone_member g c)
 float_given (Ok n) s most d g c x o f h e i z = (subst (λ y. IsOf (kind_of y) (bare d)) (sym e) o, refl, i, subst (λ y. HoldsNumber (lone_member g c) y) (sym e) h)
 float_given (Err e) s most d g c x o f h k i z =
-    subst (λ (y : ScalarWireError). IsRefusedMessage y s most d (lone_member g c)) (sym z.0) (0, d, lone_member g c, (refl, refl), inr (inl (x, o, f, h, z.1)))
+    subst (λ (y : ScalarWireError). RefusesReadingValue y s most d (lone_member g c)) (sym z.0) (0, d, lone_member g c, (refl, refl), inr (inl (x, o, f, h, z.1)))
 
 -- The bits of a float of 16 stand as an integer without sign, too.
 pub half_given : (r : Result PValue ScalarWireError) (s : ExtMeaning) (most : ℕ) (d : Typ) (k : ℕ) → IsOf kind.F16 (bare d)
@@ -234,10 +234,10 @@ text_read s d t g bs v e u x h is =
     subst (λ (w : V.Value). ReadsValue s w d (lone_member g (octets bs))) (sym is) (subst (λ (z : Typ). IsUtf8 z) e u, refl, x, holds_octets g bs h)
 
 pub text_refused : (e : ScalarWireError) (s : ExtMeaning) (most : ℕ) (d t : Typ) (g : ℕ) (bs : List ℕ) → t ≡ bare d → IsUtf8 t → (g ≡ 7) ⊎ (g ≡ 8)
-    → (e ≡ error.OutOfMemory) ⊎ ((e ≡ error.BadScalar) × (IsText bs → ⊥)) → IsRefusedMessage e s most d (lone_member g (octets bs))
-text_refused e s most d t g bs is u h (inl x) = subst (λ (y : ScalarWireError). IsRefusedMessage y s most d (lone_member g (octets bs))) (sym x) tt
+    → (e ≡ error.OutOfMemory) ⊎ ((e ≡ error.BadScalar) × (IsText bs → ⊥)) → RefusesReadingValue e s most d (lone_member g (octets bs))
+text_refused e s most d t g bs is u h (inl x) = subst (λ (y : ScalarWireError). RefusesReadingValue y s most d (lone_member g (octets bs))) (sym x) tt
 text_refused e s most d t g bs is u h (inr x) =
-    subst (λ (y : ScalarWireError). IsRefusedMessage y s most d (lone_member g (octets bs))) (sym x.0)
+    subst (λ (y : ScalarWireError). RefusesReadingValue y s most d (lone_member g (octets bs))) (sym x.0)
     (0, d, lone_member g (octets bs), (refl, refl), inl (bs, subst (λ (z : Typ). IsUtf8 z) is u, holds_octets g bs h, x.1))
 
 pub binary_read : (s : ExtMeaning) (d t : Typ) (g : ℕ) (bs cs : List ℕ) → t ≡ bare d → IsBinary t → (g ≡ 7) ⊎ (g ≡ 8) → cs ≡ bs → ReadsValue s (V.lone (V.binary cs)) d (lone_member g (octets bs))

@@ -16,7 +16,7 @@ use Rattle.vx_scalars.specs.Seen.{seen, all_seen}
 use Rattle.vx_scalars.specs.declared.value.ScalarValue.{ScalarValue}
 use Rattle.vx_scalar_wire.specs.ScalarMessage.{value_message, value_messages}
 use Rattle.vx_scalar_wire.specs.Shallow.{IsShallow, AreShallow}
-use Rattle.vx_scalar_wire.specs.Writing.{IsUnwritten}
+use Rattle.vx_scalar_wire.specs.Writing.{RefusesWritingValue}
 use Rattle.vx_scalar_wire.specs.declared.error.ScalarWireError.{ScalarWireError}
 use Rattle.vx_scalar_wire.specs.declared.error.ScalarWireError.TheVariants.{OutOfMemory, BadMessage, TooDeep, MissingKind, KindMismatch, OutOfRange, BadChild, BadScalar, BadDType, BadPrecision, MessageTooLong}
 use Rattle.vx_scalar_wire.specs.declared.error.TypeRefusal.TheVariants.{BadType, UnknownExtension, ExtensionRefused, WireLimit}
@@ -77,7 +77,7 @@ nodes-at vs i v h e =
     omega (arith, f, g)
 
 -- What hinders a part hinders the whole.
-pub unwritten-whole : (e : ScalarWireError) (Part Whole : Type 0) → (Whole → Part) → IsUnwritten e Part → IsUnwritten e Whole
+pub unwritten-whole : (e : ScalarWireError) (Part Whole : Type 0) → (Whole → Part) → RefusesWritingValue e Part → RefusesWritingValue e Whole
 unwritten-whole OutOfMemory Part Whole f u = tt
 unwritten-whole BadMessage Part Whole f u = absurd u
 unwritten-whole TooDeep Part Whole f u = absurd u

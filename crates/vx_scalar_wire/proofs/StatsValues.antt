@@ -20,10 +20,10 @@ use Rattle.vx_scalars.specs.declared.stat.Stat.TheVariants.{Min, Max}
 use Rattle.vx_scalars.specs.declared.value.ScalarValue.{ScalarValue}
 use Rattle.vx_scalars.specs.declared.value.ScalarValue.TheVariants.{Bool, Primitive, Decimal, Utf8, Binary, Tuple, Union, Variant}
 use Rattle.vx_scalar_wire.specs.Reading.{ShowsValue}
-use Rattle.vx_scalar_wire.specs.RefusingCalls.{IsRefusedBytes}
+use Rattle.vx_scalar_wire.specs.RefusingCalls.{RefusesReadingValueBytes}
 use Rattle.vx_scalar_wire.specs.StatsSchema.{stats_fields}
 use Rattle.vx_scalar_wire.specs.StatsShown.{HoldsStat, TellsNothing, IsToldField, ShowsBound, ShowsStat}
-use Rattle.vx_scalar_wire.specs.StatsUnread.{IsRefusedStat}
+use Rattle.vx_scalar_wire.specs.StatsUnread.{RefusesStatBytes}
 use Rattle.vx_scalar_wire.specs.declared.error.ScalarWireError.{ScalarWireError}
 use Rattle.vx_scalar_wire.specs.declared.error.ScalarWireError.TheVariants.{OutOfMemory, BadScalar}
 use Rattle.vx_scalar_wire.proofs.LawsScalars.{one_shown}
@@ -47,9 +47,9 @@ value_told s v d bytes e h f = (subst (λ (r : ExtMeaning). ShowsValue r (value_
 
 -- ---- what is refused
 
-pub bytes_refused : (s : ExtMeaning) (e : ScalarWireError) (d : Typ) (bytes : List ℕ) → s ≡ no_readers → IsRefusedBytes e s d bytes → IsRefusedStat e d bytes
-bytes_refused s BadScalar d bytes is h = inl (subst (λ (r : ExtMeaning). IsRefusedBytes BadScalar r d bytes) is h)
-bytes_refused s e d bytes is h = subst (λ (r : ExtMeaning). IsRefusedBytes e r d bytes) is h
+pub bytes_refused : (s : ExtMeaning) (e : ScalarWireError) (d : Typ) (bytes : List ℕ) → s ≡ no_readers → RefusesReadingValueBytes e s d bytes → RefusesStatBytes e d bytes
+bytes_refused s BadScalar d bytes is h = inl (subst (λ (r : ExtMeaning). RefusesReadingValueBytes BadScalar r d bytes) is h)
+bytes_refused s e d bytes is h = subst (λ (r : ExtMeaning). RefusesReadingValueBytes e r d bytes) is h
 
 -- ---- what is told is not refused
 

@@ -2,7 +2,7 @@
 use Rattle.std.proofs.Common.{◌≡◌, ◌∙◌, ◌++◌, false, ℕ, List, [], ◌∷◌, sym, ap, subst, append_assoc}
 use Rattle.vx_flat.specs.declared.builder.piece.BlockField.{BlockField}
 use Rattle.vx_flat.specs.declared.error.FlatError.{FlatError}
-use Rattle.vx_flat.specs.Building.{Built, Link, Written, with_piece, with_pieces, IsPartWay, IsRefused, IsStopped}
+use Rattle.vx_flat.specs.Building.{Built, Link, Written, with_piece, with_pieces, IsPartWay, RefusesPiece, RefusesPieces}
 use Rattle.vx_flat.specs.Pieces.{Piece, AreEntries, entries, fields_pieces, table_piece}
 use Rattle.vx_flat.proofs.LawsOfBuilding.{entries-taken}
 use Rattle.vx_flat.proofs.LawsOfLinks.{begun, refused}
@@ -33,8 +33,8 @@ taken t x es h e =
     subst (λ (z : List BlockField). AreEntries false z) (sym (e ∙ same_entries t x h)) (entries-taken stats_schema stats_fields (stats_table t) (table_of_kind t))
 
 -- It was refused,
-pub refused_first : (t : Stats) (x : Stored) (es : List BlockField) (old new : Built) (e : FlatError) → IsStoredOf t x → es ≡ table_entries t x → IsRefused old (table_piece es) e new
-    → IsStopped old (stats_pieces t) e new
+pub refused_first : (t : Stats) (x : Stored) (es : List BlockField) (old new : Built) (e : FlatError) → IsStoredOf t x → es ≡ table_entries t x → RefusesPiece old (table_piece es) e new
+    → RefusesPieces old (stats_pieces t) e new
 refused_first t x es old new e h is r =
     refused old new (table_piece (entries stats_fields (stats_table t))) (table_piece es) (fields_pieces stats_schema stats_fields (stats_table t)) e
     (ap (λ (z : List BlockField). table_piece z) (is ∙ same_entries t x h)) r
@@ -47,15 +47,15 @@ at_first t x es n old now e m w =
 
 -- Where a vector is refused, the table stops: the first or the second,
 pub stopped_early : (t : Stats) (x : Stored) (old new : Built) (e : FlatError) → IsStoredOf t x
-    → IsStopped old (head t x ∷ (vector_pieces x.least ++ (vector_pieces x.greatest ++ (vector_pieces x.sum ++ [])))) e new → IsStopped old (stats_pieces t) e new
-stopped_early t x old new e h s = subst (λ (ps : List Piece). IsStopped old ps e new) (same_pieces t x h) s
+    → RefusesPieces old (head t x ∷ (vector_pieces x.least ++ (vector_pieces x.greatest ++ (vector_pieces x.sum ++ [])))) e new → RefusesPieces old (stats_pieces t) e new
+stopped_early t x old new e h s = subst (λ (ps : List Piece). RefusesPieces old ps e new) (same_pieces t x h) s
 
 -- or the third.
 pub stopped_late : (t : Stats) (x : Stored) (old new : Built) (e : FlatError) → IsStoredOf t x
-    → IsStopped old (head t x ∷ ((vector_pieces x.least ++ vector_pieces x.greatest) ++ (vector_pieces x.sum ++ []))) e new → IsStopped old (stats_pieces t) e new
+    → RefusesPieces old (head t x ∷ ((vector_pieces x.least ++ vector_pieces x.greatest) ++ (vector_pieces x.sum ++ []))) e new → RefusesPieces old (stats_pieces t) e new
 stopped_late t x old new e h s =
     stopped_early t x old new e h
-    (subst (λ (ps : List Piece). IsStopped old (head t x ∷ ps) e new) (append_assoc (vector_pieces x.least) (vector_pieces x.greatest) (vector_pieces x.sum ++ [])) s)
+    (subst (λ (ps : List Piece). RefusesPieces old (head t x ∷ ps) e new) (append_assoc (vector_pieces x.least) (vector_pieces x.greatest) (vector_pieces x.sum ++ [])) s)
 
 -- After the third the table is written.
 pub all_written : (t : Stats) (x : Stored) (old new : Built) → IsStoredOf t x

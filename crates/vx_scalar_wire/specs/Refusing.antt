@@ -6,7 +6,7 @@ use Rattle.vx_proto.specs.Value.{Content, Entry, Value, octets, message, slots_o
 use Rattle.vx_proto.specs.Written.{nested}
 use Rattle.vx_type_wire.specs.Known.{ExtMeaning, IsRead}
 use Rattle.vx_proto.specs.Value.{one_number, one_message}
-use Rattle.vx_type_wire.specs.TypeMessage.{IsMessageOf, IsUnreadValue}
+use Rattle.vx_type_wire.specs.TypeMessage.{IsMessageOf, RefusesReadingType}
 use Rattle.vx_type_wire.specs.declared.error.TypeWireError.TheVariants as type_error
 use Rattle.vx_types.specs.Content.{IsText}
 use Rattle.vx_types.specs.Fits.{Fits, FitsMember, IsDecimal, IsOf, IsUtf8, IsVariant, bare, member}
@@ -133,18 +133,18 @@ HasOtherCount d m = (l : Value) × Holds m 9 (message (slots_of l)) × IsOtherCo
 -- ---- causes at a scalar's message
 
 -- Why a scalar's type is not read.
-abbrev pub IsUnreadType : TypeRefusal → ExtMeaning → Value → Type 0
-IsUnreadType BadType = IsUnreadValue type_error.BadType
-IsUnreadType UnknownExtension = IsUnreadValue type_error.UnknownExtension
-IsUnreadType ExtensionRefused = IsUnreadValue type_error.ExtensionRefused
-IsUnreadType WireLimit = λ s t. ⊥
+abbrev pub RefusesTypeBy : TypeRefusal → ExtMeaning → Value → Type 0
+RefusesTypeBy BadType = RefusesReadingType type_error.BadType
+RefusesTypeBy UnknownExtension = RefusesReadingType type_error.UnknownExtension
+RefusesTypeBy ExtensionRefused = RefusesReadingType type_error.ExtensionRefused
+RefusesTypeBy WireLimit = λ s t. ⊥
 
 -- A scalar lacks its type or its value, its value does not fit its type, or its type is not read.
 abbrev pub IsScalarCause : ScalarWireError → ExtMeaning → Value → Type 0
 IsScalarCause MissingKind s l = (message_in (entries_in l 0) ≡ None) ⊎ (message_in (entries_in l 1) ≡ None)
 IsScalarCause BadScalar s l =
     (t : Value) × (w : Value) × (f : Typ) × (v : V.Value) × (l ≡ one_message 1 t ∷ one_message 2 w ∷ []) × IsRead (IsMessageOf t) s f × ReadsValue s v f w × (Fits v f → ⊥)
-IsScalarCause (BadDType r) s l = (t : Value) × (message_in (entries_in l 0) ≡ Some t) × IsUnreadType r s t
+IsScalarCause (BadDType r) s l = (t : Value) × (message_in (entries_in l 0) ≡ Some t) × RefusesTypeBy r s t
 IsScalarCause _ s l = ⊥
 
 -- The scalar in a variant has a cause.
@@ -204,12 +204,12 @@ IsWithin (suc depth) s d m f u = (e : Typ) × (w : Value) × IsPart s d m e w ×
 -- ---- refusals
 
 -- A message has a cause, or one that stands within it has, or more than so many nest. Want of memory has no cause.
-abbrev pub IsRefusedMessage : ScalarWireError → ExtMeaning → ℕ → Typ → Value → Type 0
-IsRefusedMessage OutOfMemory s most d m = Unit {0}
-IsRefusedMessage TooDeep s most d m = most < nested m
-IsRefusedMessage e s most d m = (depth : ℕ) × (f : Typ) × (u : Value) × IsWithin depth s d m f u × IsCause e s f u
+abbrev pub RefusesReadingValue : ScalarWireError → ExtMeaning → ℕ → Typ → Value → Type 0
+RefusesReadingValue OutOfMemory s most d m = Unit {0}
+RefusesReadingValue TooDeep s most d m = most < nested m
+RefusesReadingValue e s most d m = (depth : ℕ) × (f : Typ) × (u : Value) × IsWithin depth s d m f u × IsCause e s f u
 
 -- A scalar's message has a cause, or its value's message is refused at its type.
-abbrev pub IsRefusedScalar : ScalarWireError → ExtMeaning → ℕ → Value → Type 0
-IsRefusedScalar OutOfMemory s most l = Unit {0}
-IsRefusedScalar e s most l = IsScalarCause e s l ⊎ ((t : Value) × (w : Value) × (f : Typ) × (l ≡ one_message 1 t ∷ one_message 2 w ∷ []) × IsRead (IsMessageOf t) s f × IsRefusedMessage e s most f w)
+abbrev pub RefusesReadingScalar : ScalarWireError → ExtMeaning → ℕ → Value → Type 0
+RefusesReadingScalar OutOfMemory s most l = Unit {0}
+RefusesReadingScalar e s most l = IsScalarCause e s l ⊎ ((t : Value) × (w : Value) × (f : Typ) × (l ≡ one_message 1 t ∷ one_message 2 w ∷ []) × IsRead (IsMessageOf t) s f × RefusesReadingValue e s most f w)

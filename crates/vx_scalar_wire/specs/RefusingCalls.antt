@@ -8,19 +8,19 @@ use Rattle.vx_types.specs.Fits.{Fits}
 use Rattle.vx_types.specs.Typ.{Typ}
 use Rattle.vx_types.specs.Value as V
 use Rattle.vx_scalar_wire.specs.Reading.{ReadsValue}
-use Rattle.vx_scalar_wire.specs.Refusing.{IsRefusedMessage}
+use Rattle.vx_scalar_wire.specs.Refusing.{RefusesReadingValue}
 use Rattle.vx_scalar_wire.specs.ScalarMessage.{scalar_lists}
 use Rattle.vx_scalar_wire.specs.Writing.{refusal_of_proto}
 use Rattle.vx_scalar_wire.specs.declared.error.ScalarWireError.{ScalarWireError}
 use Rattle.vx_scalar_wire.specs.declared.error.ScalarWireError.TheVariants.{OutOfMemory, BadScalar}
 
 -- Bytes are no message of a value, or are read as one that is refused. Want of memory has no cause.
-abbrev pub IsRefusedBytes : ScalarWireError → ExtMeaning → Typ → List ℕ → Type 0
-IsRefusedBytes OutOfMemory s d bytes = Unit {0}
-IsRefusedBytes e s d bytes =
-    ((p : ProtoError) × (refusal_of_proto p ≡ e) × Cause scalar_lists 100 p 15 bytes) ⊎ ((m : Value) × Reads scalar_lists 15 bytes m × IsRefusedMessage e s 100 d m)
+abbrev pub RefusesReadingValueBytes : ScalarWireError → ExtMeaning → Typ → List ℕ → Type 0
+RefusesReadingValueBytes OutOfMemory s d bytes = Unit {0}
+RefusesReadingValueBytes e s d bytes =
+    ((p : ProtoError) × (refusal_of_proto p ≡ e) × Cause scalar_lists 100 p 15 bytes) ⊎ ((m : Value) × Reads scalar_lists 15 bytes m × RefusesReadingValue e s 100 d m)
 
 -- A value's message is refused where a scalar of a type is asked for: as a value's, or what it is read as does not fit.
-abbrev pub IsRefusedAt : ScalarWireError → ExtMeaning → Typ → Value → Type 0
-IsRefusedAt BadScalar s d m = IsRefusedMessage BadScalar s 100 d m ⊎ ((v : V.Value) × ReadsValue s v d m × (Fits v d → ⊥))
-IsRefusedAt e s d m = IsRefusedMessage e s 100 d m
+abbrev pub RefusesReadingScalarAt : ScalarWireError → ExtMeaning → Typ → Value → Type 0
+RefusesReadingScalarAt BadScalar s d m = RefusesReadingValue BadScalar s 100 d m ⊎ ((v : V.Value) × ReadsValue s v d m × (Fits v d → ⊥))
+RefusesReadingScalarAt e s d m = RefusesReadingValue e s 100 d m

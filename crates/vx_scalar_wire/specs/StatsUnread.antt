@@ -10,7 +10,7 @@ use Rattle.vx_scalars.specs.StatTypes.{stat_type}
 use Rattle.vx_scalars.specs.declared.stat.Stat.{Stat}
 use Rattle.vx_scalars.specs.declared.stat.Stat.TheVariants.{Min, Max, Sum}
 use Rattle.vx_scalar_wire.specs.Reading.{ShowsValue}
-use Rattle.vx_scalar_wire.specs.RefusingCalls.{IsRefusedBytes}
+use Rattle.vx_scalar_wire.specs.RefusingCalls.{RefusesReadingValueBytes}
 use Rattle.vx_scalar_wire.specs.StatsShown.{HoldsStat, part}
 use Rattle.vx_scalar_wire.specs.declared.error.ScalarWireError.{ScalarWireError}
 use Rattle.vx_scalar_wire.specs.declared.error.ScalarWireError.TheVariants.{OutOfMemory, BadScalar, BadPrecision}
@@ -20,32 +20,32 @@ abbrev pub ShowsUnfit : Typ → List ℕ → Type 0
 ShowsUnfit d bytes = (v : V.Value) × ShowsValue no_readers v d bytes × (is_null v ≡ false) × (Fits v d → ⊥)
 
 -- Bytes are refused as a value's, or what they show does not fit. Want of memory has no cause.
-abbrev pub IsRefusedStat : ScalarWireError → Typ → List ℕ → Type 0
-IsRefusedStat BadScalar d bytes = IsRefusedBytes BadScalar no_readers d bytes ⊎ ShowsUnfit d bytes
-IsRefusedStat e d bytes = IsRefusedBytes e no_readers d bytes
+abbrev pub RefusesStatBytes : ScalarWireError → Typ → List ℕ → Type 0
+RefusesStatBytes BadScalar d bytes = RefusesReadingValueBytes BadScalar no_readers d bytes ⊎ ShowsUnfit d bytes
+RefusesStatBytes e d bytes = RefusesReadingValueBytes e no_readers d bytes
 
 -- The bytes in a field are refused at the statistic's type. A field without a type is not looked at.
-abbrev pub IsUnreadField : ScalarWireError → Option Typ → Field → Type 0
-IsUnreadField OutOfMemory o f = Unit {0}
-IsUnreadField e (Some d) (elements bytes) = IsRefusedStat e d bytes
-IsUnreadField e _ f = ⊥
+abbrev pub RefusesStatField : ScalarWireError → Option Typ → Field → Type 0
+RefusesStatField OutOfMemory o f = Unit {0}
+RefusesStatField e (Some d) (elements bytes) = RefusesStatBytes e d bytes
+RefusesStatField e _ f = ⊥
 
 -- A value stands, and the precision beside it is over 1.
 abbrev pub HasBadPrecision : Option Typ → Field → Field → Type 0
 HasBadPrecision o f p = (v : V.Value) × (n : ℕ) × HoldsStat o f v × (p ≡ number n) × (1 < n)
 
 -- A least or greatest value is refused for its bytes or its precision.
-abbrev pub IsUnreadBound : ScalarWireError → Option Typ → Field → Field → Type 0
-IsUnreadBound e o f p = IsUnreadField e o f ⊎ ((e ≡ BadPrecision) × HasBadPrecision o f p)
+abbrev pub RefusesBound : ScalarWireError → Option Typ → Field → Field → Type 0
+RefusesBound e o f p = RefusesStatField e o f ⊎ ((e ≡ BadPrecision) × HasBadPrecision o f p)
 
 -- Why a statistic is refused. Flags and counts are not.
-abbrev pub IsUnreadStat : ScalarWireError → Stat → Typ → Fields → Type 0
-IsUnreadStat e Min d vs = IsUnreadBound e (stat_type Min d) (part vs 0) (part vs 1)
-IsUnreadStat e Max d vs = IsUnreadBound e (stat_type Max d) (part vs 2) (part vs 3)
-IsUnreadStat e Sum d vs = IsUnreadField e (stat_type Sum d) (part vs 4)
-IsUnreadStat e _ d vs = ⊥
+abbrev pub RefusesStat : ScalarWireError → Stat → Typ → Fields → Type 0
+RefusesStat e Min d vs = RefusesBound e (stat_type Min d) (part vs 0) (part vs 1)
+RefusesStat e Max d vs = RefusesBound e (stat_type Max d) (part vs 2) (part vs 3)
+RefusesStat e Sum d vs = RefusesStatField e (stat_type Sum d) (part vs 4)
+RefusesStat e _ d vs = ⊥
 
 -- A table is refused for one of its statistics.
-abbrev pub IsUnreadStats : ScalarWireError → Typ → Fields → Type 0
-IsUnreadStats OutOfMemory d vs = Unit {0}
-IsUnreadStats e d vs = (s : Stat) × IsUnreadStat e s d vs
+abbrev pub RefusesReadingStats : ScalarWireError → Typ → Fields → Type 0
+RefusesReadingStats OutOfMemory d vs = Unit {0}
+RefusesReadingStats e d vs = (s : Stat) × RefusesStat e s d vs

@@ -9,7 +9,7 @@ use Rattle.vx_scalar_wire.specs.ScalarMessage.{value_message}
 use Rattle.vx_scalar_wire.specs.Shallow.{IsShallow}
 use Rattle.vx_scalars.specs.WrittenStats.{written_sum}
 use Rattle.vx_scalar_wire.specs.StatsTable.{stats_pieces}
-use Rattle.vx_scalar_wire.specs.Writing.{IsUnwrittenBytes}
+use Rattle.vx_scalar_wire.specs.Writing.{RefusesWritingValueBytes}
 use Rattle.vx_scalar_wire.specs.declared.error.ScalarWireError.{ScalarWireError}
 use Rattle.vx_scalar_wire.specs.declared.error.ScalarWireError.TheVariants.{OutOfMemory, MessageTooLong}
 
@@ -31,14 +31,14 @@ pub record AreWritable (t : Stats) : Type 0 where
   pub total : IsWritableTold (written_sum t.total)
 
 -- The value that is told is not written as bytes.
-abbrev pub IsUnwrittenTold : ScalarWireError → Told → Type 0
-IsUnwrittenTold e (Exact v) = IsUnwrittenBytes e (IsShallow v) (value_message v)
-IsUnwrittenTold e (Inexact v) = IsUnwrittenBytes e (IsShallow v) (value_message v)
-IsUnwrittenTold e Absent = ⊥
+abbrev pub RefusesWritingTold : ScalarWireError → Told → Type 0
+RefusesWritingTold e (Exact v) = RefusesWritingValueBytes e (IsShallow v) (value_message v)
+RefusesWritingTold e (Inexact v) = RefusesWritingValueBytes e (IsShallow v) (value_message v)
+RefusesWritingTold e Absent = ⊥
 
 -- Why a set is not written after what a builder has: one of its values is not, or with its blocks the message is too
 -- long. Want of memory has no cause.
-abbrev pub IsUnwrittenStats : ScalarWireError → Stats → Built → Type 0
-IsUnwrittenStats OutOfMemory t b = Unit {0}
-IsUnwrittenStats MessageTooLong t b = IsTooLong b (stats_pieces t)
-IsUnwrittenStats e t b = IsUnwrittenTold e t.least ⊎ (IsUnwrittenTold e t.greatest ⊎ IsUnwrittenTold e (written_sum t.total))
+abbrev pub RefusesWritingStats : ScalarWireError → Stats → Built → Type 0
+RefusesWritingStats OutOfMemory t b = Unit {0}
+RefusesWritingStats MessageTooLong t b = IsTooLong b (stats_pieces t)
+RefusesWritingStats e t b = RefusesWritingTold e t.least ⊎ (RefusesWritingTold e t.greatest ⊎ RefusesWritingTold e (written_sum t.total))

@@ -13,15 +13,15 @@ use Rattle.vx_scalar_wire.specs.declared.error.ScalarWireError.TheVariants.{OutO
 use Rattle.vx_scalar_wire.specs.declared.error.TypeRefusal.TheVariants.{WireLimit}
 
 -- Why nothing is written: something is not shallow. Want of memory has no cause.
-abbrev pub IsUnwritten : ScalarWireError → Type 0 → Type 0
-IsUnwritten OutOfMemory Shallow = Unit {0}
-IsUnwritten (BadDType WireLimit) Shallow = Shallow → ⊥
-IsUnwritten error Shallow = ⊥
+abbrev pub RefusesWritingValue : ScalarWireError → Type 0 → Type 0
+RefusesWritingValue OutOfMemory Shallow = Unit {0}
+RefusesWritingValue (BadDType WireLimit) Shallow = Shallow → ⊥
+RefusesWritingValue error Shallow = ⊥
 
 -- A writer gives this, as view sees it, of what is shallow, or it has a cause.
 abbrev pub Writes : {X Y : Type 0} → (X → Y) → Result X ScalarWireError → Type 0 → Y → Type 0
 Writes view (Ok x) Shallow y = (view x ≡ y) × Shallow
-Writes view (Err e) Shallow y = IsUnwritten e Shallow
+Writes view (Err e) Shallow y = RefusesWritingValue e Shallow
 
 -- A refusal of a message is that of its scalar.
 abbrev pub refusal_of_proto : ProtoError → ScalarWireError
@@ -50,6 +50,6 @@ refusal_of_scalar scalar.OutOfMemory = OutOfMemory
 refusal_of_scalar scalar.BadScalar = BadScalar
 
 -- Why no bytes are written of a message: something is not shallow, or over 100 messages nest.
-abbrev pub IsUnwrittenBytes : ScalarWireError → Type 0 → Value → Type 0
-IsUnwrittenBytes TooDeep Shallow v = 100 < nested v
-IsUnwrittenBytes error Shallow v = IsUnwritten error Shallow
+abbrev pub RefusesWritingValueBytes : ScalarWireError → Type 0 → Value → Type 0
+RefusesWritingValueBytes TooDeep Shallow v = 100 < nested v
+RefusesWritingValueBytes error Shallow v = RefusesWritingValue error Shallow

@@ -12,13 +12,13 @@ ghost use Rattle.vx_types.specs.Well.{IsWell};
 ghost use Rattle.vx_type_wire.specs.Session.{ext_meaning};
 ghost use Rattle.vx_scalar_wire.specs.Answers.{GivesType};
 ghost use Rattle.vx_scalar_wire.specs.Reading.{ReadsValue, ReadsScalar, ShowsValue, IsKnownValue};
-ghost use Rattle.vx_scalar_wire.specs.Refusing.{IsRefusedMessage, IsRefusedScalar};
-ghost use Rattle.vx_scalar_wire.specs.RefusingCalls.{IsRefusedAt, IsRefusedBytes};
+ghost use Rattle.vx_scalar_wire.specs.Refusing.{RefusesReadingValue, RefusesReadingScalar};
+ghost use Rattle.vx_scalar_wire.specs.RefusingCalls.{RefusesReadingScalarAt, RefusesReadingValueBytes};
 ghost use Rattle.vx_scalars.specs.Seen.{seen};
 ghost use Rattle.vx_scalars.specs.Told.{Typed};
 ghost use Rattle.vx_scalar_wire.specs.ScalarMessage.{scalar_lists, value_message, scalar_message};
 ghost use Rattle.vx_scalar_wire.specs.Shallow.{IsShallow, IsShallowScalar};
-ghost use Rattle.vx_scalar_wire.specs.Writing.{Writes, IsUnwritten, IsUnwrittenBytes};
+ghost use Rattle.vx_scalar_wire.specs.Writing.{Writes, RefusesWritingValue, RefusesWritingValueBytes};
 
 use crate::error::{ScalarWireError, or_memory};
 use crate::pb;
@@ -85,7 +85,7 @@ impl ScalarValueExt for ScalarValue {
         ensures shallow { OnOk result (IsShallow (seen (option_copied value.entry))) }
         ensures well { OnOk result (IsWell (seen (option_copied value.entry))) }
         ensures nests { IsOk result → nested (value_message (seen (option_copied value.entry))) ≤ 100 }
-        ensures cause { IfErr result (λ e. IsUnwrittenBytes e (IsShallow (seen (option_copied value.entry))) (value_message (seen (option_copied value.entry)))) }
+        ensures cause { IfErr result (λ e. RefusesWritingValueBytes e (IsShallow (seen (option_copied value.entry))) (value_message (seen (option_copied value.entry)))) }
     {
         let message = ScalarValue::to_proto(alloc, value)?;
         let bytes = message.encode_to_vec(alloc)?;
@@ -101,7 +101,7 @@ impl ScalarValueExt for ScalarValue {
         readers: &ExtSession,
     ) -> Result<Option<ScalarValue>, ScalarWireError>
         ensures read { IfOk result (λ x. ReadsValue (ext_meaning (λ b. accepted (b.vtable, b.value)) readers.now) (seen x) (typ dtype.now) message.now) }
-        ensures cause { IfErr result (λ e. IsRefusedMessage e (ext_meaning (λ b. accepted (b.vtable, b.value)) readers.now) 100 (typ dtype.now) message.now) }
+        ensures cause { IfErr result (λ e. RefusesReadingValue e (ext_meaning (λ b. accepted (b.vtable, b.value)) readers.now) 100 (typ dtype.now) message.now) }
         ensures complete { (v : V.Value) → nested message.now ≤ 100 → ReadsValue (ext_meaning (λ b. accepted (b.vtable, b.value)) readers.now) v (typ dtype.now) message.now
             → MatchResult result (λ x. seen x ≡ v) (λ e. e ≡ ScalarWireError.OutOfMemory) }
     {
@@ -125,7 +125,7 @@ impl ScalarValueExt for ScalarValue {
         readers: &ExtSession,
     ) -> Result<Option<ScalarValue>, ScalarWireError>
         ensures read { IfOk result (λ x. ShowsValue (ext_meaning (λ b. accepted (b.vtable, b.value)) readers.now) (seen x) (typ dtype.now) bytes.now) }
-        ensures cause { IfErr result (λ e. IsRefusedBytes e (ext_meaning (λ b. accepted (b.vtable, b.value)) readers.now) (typ dtype.now) bytes.now) }
+        ensures cause { IfErr result (λ e. RefusesReadingValueBytes e (ext_meaning (λ b. accepted (b.vtable, b.value)) readers.now) (typ dtype.now) bytes.now) }
         ensures complete { (v : V.Value) → ShowsValue (ext_meaning (λ b. accepted (b.vtable, b.value)) readers.now) v (typ dtype.now) bytes.now
             → MatchResult result (λ x. seen x ≡ v) (λ e. e ≡ ScalarWireError.OutOfMemory) }
     {
@@ -175,7 +175,7 @@ impl ScalarExt for Scalar {
         readers: &ExtSession,
     ) -> Result<Scalar, ScalarWireError>
         ensures read { IfOk result (λ x. ReadsScalar (ext_meaning (λ b. accepted (b.vtable, b.value)) readers.now) x message.now) }
-        ensures cause { IfErr result (λ e. IsRefusedScalar e (ext_meaning (λ b. accepted (b.vtable, b.value)) readers.now) 100 message.now) }
+        ensures cause { IfErr result (λ e. RefusesReadingScalar e (ext_meaning (λ b. accepted (b.vtable, b.value)) readers.now) 100 message.now) }
         ensures complete { (x : Typed) → nested message.now ≤ 100 → ReadsScalar (ext_meaning (λ b. accepted (b.vtable, b.value)) readers.now) x message.now
             → MatchResult result (λ y. y ≡ x) (λ e. e ≡ ScalarWireError.OutOfMemory) }
     {
@@ -200,7 +200,7 @@ impl ScalarExt for Scalar {
         ensures dtype { IfOk result (λ x. x.dtype ≡ typ dtype.now) }
         ensures read { IfOk result (λ x. ReadsValue (ext_meaning (λ b. accepted (b.vtable, b.value)) readers.now) x.value (typ dtype.now) message.now) }
         ensures fits { IfOk result (λ x. Fits x.value (typ dtype.now)) }
-        ensures cause { IfErr result (λ e. IsRefusedAt e (ext_meaning (λ b. accepted (b.vtable, b.value)) readers.now) (typ dtype.now) message.now) }
+        ensures cause { IfErr result (λ e. RefusesReadingScalarAt e (ext_meaning (λ b. accepted (b.vtable, b.value)) readers.now) (typ dtype.now) message.now) }
         ensures complete { (v : V.Value) → nested message.now ≤ 100 → ReadsValue (ext_meaning (λ b. accepted (b.vtable, b.value)) readers.now) v (typ dtype.now) message.now → Fits v (typ dtype.now)
             → MatchResult result (λ x. x.value ≡ v) (λ e. e ≡ ScalarWireError.OutOfMemory) }
     {

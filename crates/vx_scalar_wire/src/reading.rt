@@ -9,13 +9,13 @@ ghost use Rattle.vx_trees.specs.Rose.{roses_of};
 ghost use Rattle.vx_proto.specs.Form.{HasForm};
 ghost use Rattle.vx_proto.specs.Value.{Value, view, value_view, message as a_message, slots_of};
 ghost use Rattle.vx_type_wire.specs.Known.{ExtMeaning};
-ghost use Rattle.vx_type_wire.specs.TypeMessage.{IsUnreadValue, type_lists};
+ghost use Rattle.vx_type_wire.specs.TypeMessage.{RefusesReadingType, type_lists};
 ghost use Rattle.vx_types.specs.Fits.{member};
 ghost use Rattle.vx_types.specs.Seen.{typ};
 ghost use Rattle.vx_scalars.specs.Seen.{value_of, seen};
-ghost use Rattle.vx_scalar_wire.specs.Answers.{GivesEach, GivesParts, GivesRow, GivesScalar, GivesValue, IsRefusedType, ReadsTypes, lone_member};
+ghost use Rattle.vx_scalar_wire.specs.Answers.{GivesEach, GivesParts, GivesRow, GivesScalar, GivesValue, RefusesScalarType, ReadsTypes, lone_member};
 ghost use Rattle.vx_scalar_wire.specs.Reading.{ReadsValue, ReadsScalar};
-ghost use Rattle.vx_scalar_wire.specs.Refusing.{IsRefusedMessage, IsRefusedScalar};
+ghost use Rattle.vx_scalar_wire.specs.Refusing.{RefusesReadingValue, RefusesReadingScalar};
 ghost use Rattle.vx_scalar_wire.specs.ScalarMessage.{scalar_lists};
 
 use crate::error::{ScalarWireError, TypeRefusal, or_memory};
@@ -44,7 +44,7 @@ pub fn read_value<F: Fn(&pb::DType) -> Result<DType, TypeWireError>>(
     ensures read { (s : ExtMeaning) → ReadsTypes (λ t r. FnReturnsAt F.Fn types.now t r) s
         → IfOk result (λ x. ReadsValue s (seen x) (typ dtype.now) (value_view slots.now)) }
     ensures cause { (s : ExtMeaning) → ReadsTypes (λ t r. FnReturnsAt F.Fn types.now t r) s
-        → IfErr result (λ e. IsRefusedMessage e s 100 (typ dtype.now) (value_view slots.now)) }
+        → IfErr result (λ e. RefusesReadingValue e s 100 (typ dtype.now) (value_view slots.now)) }
 {
     value_in(alloc, slots, dtype, types, MOST_LEVELS)
 }
@@ -60,7 +60,7 @@ pub fn read_scalar<F: Fn(&pb::DType) -> Result<DType, TypeWireError>>(
     ensures read { (s : ExtMeaning) → ReadsTypes (λ t r. FnReturnsAt F.Fn types.now t r) s
         → IfOk result (λ x. ReadsScalar s x (value_view slots.now)) }
     ensures cause { (s : ExtMeaning) → ReadsTypes (λ t r. FnReturnsAt F.Fn types.now t r) s
-        → IfErr result (λ e. IsRefusedScalar e s 100 (value_view slots.now)) }
+        → IfErr result (λ e. RefusesReadingScalar e s 100 (value_view slots.now)) }
 {
     scalar_in(alloc, slots, types, MOST_LEVELS)
 }
@@ -330,7 +330,7 @@ fn type_in<F: Fn(&pb::DType) -> Result<DType, TypeWireError>>(
     requires call { F.IsAlwaysCallable types.now }
     requires form { HasForm type_lists 0 (value_view slots.now) }
     ensures read { IfOk result (λ d. FnReturnsAt F.Fn types.now (value_view slots.now) (Ok d)) }
-    ensures cause { (s : ExtMeaning) → ReadsTypes (λ t r. FnReturnsAt F.Fn types.now t r) s → IfErr result (λ e. IsRefusedType e s (value_view slots.now)) }
+    ensures cause { (s : ExtMeaning) → ReadsTypes (λ t r. FnReturnsAt F.Fn types.now t r) s → IfErr result (λ e. RefusesScalarType e s (value_view slots.now)) }
 {
     let message = PlainMessage::new(copied_slots(alloc, slots)?);
     match types(&message) {
@@ -341,7 +341,7 @@ fn type_in<F: Fn(&pb::DType) -> Result<DType, TypeWireError>>(
 
 // The refusal of a scalar whose type is refused so.
 fn type_refusal(error: TypeWireError) -> ScalarWireError
-    ensures { (s : ExtMeaning) (t : Value) → IsUnreadValue error s t → IsRefusedType result s t }
+    ensures { (s : ExtMeaning) (t : Value) → RefusesReadingType error s t → RefusesScalarType result s t }
 {
     match error {
         TypeWireError::OutOfMemory => ScalarWireError::OutOfMemory,

@@ -8,8 +8,8 @@ ghost use Rattle.vx_types.specs.Seen.{typ};
 ghost use Rattle.vx_scalar_wire.specs.StatsSchema.{stats_fields, stats_schema};
 ghost use Rattle.vx_scalar_wire.specs.StatsShown.{ShowsStats};
 ghost use Rattle.vx_scalar_wire.specs.StatsTable.{AreStorable, stats_table, stats_pieces};
-ghost use Rattle.vx_scalar_wire.specs.StatsUnread.{IsUnreadStats};
-ghost use Rattle.vx_scalar_wire.specs.StatsUnwritten.{AreWritable, IsUnwrittenStats};
+ghost use Rattle.vx_scalar_wire.specs.StatsUnread.{RefusesReadingStats};
+ghost use Rattle.vx_scalar_wire.specs.StatsUnwritten.{AreWritable, RefusesWritingStats};
 
 mod entries;
 mod reading;
@@ -54,7 +54,7 @@ impl StatsSetExt for StatsSet {
         requires { kinds_in view.now ≡ stats_fields }
         ensures read { IfOk result (λ set. ShowsStats (typ dtype.now) (seen view.now) set) }
         ensures fits { IfOk result (λ set. FitStats (typ dtype.now) set) }
-        ensures cause { IfErr result (λ e. IsUnreadStats e (typ dtype.now) (seen view.now)) }
+        ensures cause { IfErr result (λ e. RefusesReadingStats e (typ dtype.now) (seen view.now)) }
         ensures complete { (t : Stats) → ShowsStats (typ dtype.now) (seen view.now) t
             → MatchResult result (λ set. set ≡ t) (λ e. e ≡ ScalarWireError.OutOfMemory) }
     {
@@ -83,7 +83,7 @@ impl StatsSetExt for StatsSet {
         ensures writable { OnOk result (AreWritable self.now) }
         ensures storable { OnOk result (AreStorable self.now) }
         ensures kept { OnErr result (Keeps builder.old (stats_pieces self.now) builder.new) }
-        ensures cause { IfErr result (λ e. IsUnwrittenStats e self.now builder.old) }
+        ensures cause { IfErr result (λ e. RefusesWritingStats e self.now builder.old) }
         ensures failed { IfErr result (λ e. e ≡ ScalarWireError.MessageTooLong → builder.new.failed ≡ true) }
         ensures limit { IsTooLong builder.old (stats_pieces self.now) → IsOk result → ⊥ }
     {

@@ -1,9 +1,16 @@
 -- Floats that are no number.
-use Rattle.std.specs.Prelude.{ℕ, ◌%◌, ◌^◌, nat_lt, if◌then◌else◌}
+use Rattle.std.specs.Prelude.{ℕ, ◌%◌, ◌^◌, nat_lt, if◌then◌else◌, Bool, false}
 use Rattle.vx_types.specs.declared.value.PValue.{PValue}
 use Rattle.vx_types.specs.declared.value.PValue.TheVariants.{F16, F32, F64}
 
--- The bits of a float but for its sign are past those of infinity where it is no number. All such floats become one.
+-- A float is no number where its bits but for the sign are past those of infinity.
+abbrev pub is_nan : PValue → Bool
+is_nan (F16 bits) = nat_lt 31744 (bits % 2 ^ 15)
+is_nan (F32 bits) = nat_lt 2139095040 (bits % 2 ^ 31)
+is_nan (F64 bits) = nat_lt 9218868437227405312 (bits % 2 ^ 63)
+is_nan n = false
+
+-- Where they are past those of infinity but for the sign, the bits of a float become those of one NaN.
 abbrev pub quiet : ℕ → ℕ → ℕ → ℕ → ℕ
 quiet sign infinity nan bits = if nat_lt infinity (bits % sign) then nan else bits
 

@@ -4,7 +4,7 @@ use Rattle.std.specs.Prelude.{◌⊎◌, false}
 use Rattle.vx_buffer.specs.Buffer.{Buffer}
 use Rattle.vx_flat.specs.declared.error.FlatError.{FlatError}
 use Rattle.vx_flat.specs.declared.error.FlatError.TheVariants as flat
-use Rattle.vx_flat.specs.Building.{Built, with_pieces, Written, IsStopped}
+use Rattle.vx_flat.specs.Building.{Built, with_pieces, Written, RefusesPieces}
 use Rattle.vx_flat.specs.Pieces.{Piece, table_pieces}
 use Rattle.vx_trees.specs.Walks.{nodes}
 use Rattle.vx_array_tree.specs.Tree.{Tree}
@@ -37,7 +37,7 @@ builder_kept b WireLimit = inl refl
 builder_kept b _ = tt
 
 -- A builder that refuses a block has failed, or wants memory.
-pub builder_stopped : (old new : Built) (ps : List Piece) (e : FlatError) → IsStopped old ps e new → LeavesBuilder old new (message_refusal e)
+pub builder_stopped : (old new : Built) (ps : List Piece) (e : FlatError) → RefusesPieces old ps e new → LeavesBuilder old new (message_refusal e)
 builder_stopped old new ps flat.OutOfMemory h = tt
 builder_stopped old new ps flat.MessageTooLong h = inr h.1
 builder_stopped old new ps flat.BadTable h = absurd h
@@ -69,7 +69,7 @@ module _ (s : SessionMeaning) (t : Tree) (c : Context) where
       unwritten s t c plain_options bytes (layout_by es w bytes) WireLimit refl (layout-numbered d.ids w es bytes e ∙ ap (λ ids. layout_of ids w bytes) (grown-ids s t c d g)) (too-many es w bytes of false (wire-told s t) many) k)
 
   -- An array whose blocks a builder does not take.
-  pub blocks-refused : (b new : Built) (e : FlatError) → IsStopped b (array_pieces s t c) e new → RefusesBlocks s t c b (message_refusal e)
+  pub blocks-refused : (b new : Built) (e : FlatError) → RefusesPieces b (array_pieces s t c) e new → RefusesBlocks s t c b (message_refusal e)
   blocks-refused b new flat.OutOfMemory h = tt
   blocks-refused b new flat.MessageTooLong h = inr h.2
   blocks-refused b new flat.BadTable h = absurd h

@@ -14,7 +14,7 @@ use Rattle.vx_wire_tree.specs.Session.{Reader, revised, plugin, encoding_by}
 use Rattle.vx_wire_tree.specs.Steps.{HasNoMetadata, HasNoPlan, HasWrongShape, HasWrongControl, HasWrongContent}
 use Rattle.vx_encodings.specs.Messages.{codec}
 use Rattle.vx_encodings.specs.Plain.{plain_encoding}
-use Rattle.vx_encodings.specs.Steps.{IsPlanned, IsUnplanned, IsUnbuilt}
+use Rattle.vx_encodings.specs.Steps.{IsPlanned, RefusesPlanning, RefusesBuilding}
 use Rattle.vx_encodings.specs.declared.encoding.Encoding.{Encoding}
 use Rattle.vx_encodings.specs.declared.encoding.Encoding.TheVariants.{Primitive}
 use Rattle.vx_encodings.specs.declared.error.EncodingError.{EncodingError}
@@ -36,7 +36,7 @@ module _ (x : ExtMeaning) (r : Option Reader) (g : Encoding) (by : encoding_by r
   of_reader : (P : E.Encoding → Type 0) → P (plain_encoding g) → IsSomeAnd (encoding_by r) P
   of_reader P k = subst (λ o. IsSomeAnd o P) (sym by) k
 
-  pub unplanned : (e : EncodingError) → IsUnplanned e x g h → RefusesPlan (encoding_refusal e) x r h
+  pub unplanned : (e : EncodingError) → RefusesPlanning e x g h → RefusesPlan (encoding_refusal e) x r h
   unplanned encodings.OutOfMemory u = tt
   unplanned encodings.BadMetadata u = of_reader (λ f. HasNoMetadata codec x f (typ h.dtype) h.metadata) u
   unplanned encodings.BadShape u = inl (of_reader (λ f. HasNoPlan codec x f (typ h.dtype) h.len h.metadata h.nchildren) u)
@@ -44,7 +44,7 @@ module _ (x : ExtMeaning) (r : Option Reader) (g : Encoding) (by : encoding_by r
   unplanned encodings.ForeignControl u = absurd u
   unplanned encodings.WireLimit u = absurd u
 
-  pub unbuilt : (e : EncodingError) (bs : List Buffer) (ts : Trees) → IsUnbuilt e x g h bs ts → RefusesBuild (encoding_refusal e) x r h bs ts
+  pub unbuilt : (e : EncodingError) (bs : List Buffer) (ts : Trees) → RefusesBuilding e x g h bs ts → RefusesBuild (encoding_refusal e) x r h bs ts
   unbuilt encodings.OutOfMemory bs ts u = tt
   unbuilt encodings.BadMetadata bs ts u = absurd u
   unbuilt encodings.BadShape bs ts u = of_reader (λ f. HasWrongShape codec x f (typ h.dtype) h.len h.metadata bs ts) u

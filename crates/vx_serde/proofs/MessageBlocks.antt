@@ -5,7 +5,7 @@ use Rattle.vx_flat.specs.declared.builder.piece.BlockField.TheVariants as entry
 use Rattle.vx_flat.specs.declared.builder.piece.LinkKind.TheVariants as link
 use Rattle.vx_flat.specs.declared.error.FlatError.{FlatError}
 use Rattle.vx_flat.specs.declared.error.FlatError.TheVariants as flat
-use Rattle.vx_flat.specs.Building.{Built, Link, nothing_built, with_pieces, IsStopped, IsTooLong}
+use Rattle.vx_flat.specs.Building.{Built, Link, nothing_built, with_pieces, RefusesPieces, IsTooLong}
 use Rattle.vx_flat.specs.IsOf.{IsOf}
 use Rattle.vx_flat.specs.Layout.{shares}
 use Rattle.vx_flat.specs.declared.limits.Limits.{Limits}
@@ -69,7 +69,7 @@ module _ (es : List ℕ) (w : Wire) (bytes : List ℕ) (of : IsOf array_schema (
       let Q : List ℕ → Type 0 = λ z. Shows array_schema z (message_by es w bytes) in
       (message_by es w bytes, subst Q (sym e) (shows-layout (message_by es w bytes) of (subst P e short)))
 
-  pub blocks-refused : (most : Limits) (e : FlatError) (b : Built) → IsStopped nothing_built (pieces array_schema (message_by es w bytes)) e b → RefusesBytes most (layout_by es w bytes) (message_refusal e)
+  pub blocks-refused : (most : Limits) (e : FlatError) (b : Built) → RefusesPieces nothing_built (pieces array_schema (message_by es w bytes)) e b → RefusesBytes most (layout_by es w bytes) (message_refusal e)
   blocks-refused most flat.OutOfMemory b h = tt
   blocks-refused most flat.MessageTooLong b h = λ short light. at h.2 short where
     at : IsTooLong nothing_built (pieces array_schema (message_by es w bytes)) → length (layout_by es w bytes) < 2 ^ 31 → ⊥

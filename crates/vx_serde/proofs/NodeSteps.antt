@@ -5,7 +5,7 @@ use Rattle.vx_buffer.specs.Buffer.{Buffer}
 use Rattle.vx_flat.specs.declared.error.FlatError.{FlatError}
 use Rattle.vx_flat.specs.declared.error.FlatError.TheVariants as flat
 use Rattle.vx_flat.specs.declared.builder.piece.LinkKind.TheVariants as link
-use Rattle.vx_flat.specs.Building.{Built, IsStopped}
+use Rattle.vx_flat.specs.Building.{Built, RefusesPieces}
 use Rattle.vx_flat.specs.Pieces.{Piece, elements_piece, links_piece}
 use Rattle.vx_trees.specs.Everywhere.{EverywhereBelow}
 use Rattle.vx_trees.specs.Rose.{Rose, node, label, below, roses_of}
@@ -31,9 +31,9 @@ use Rattle.vx_serde.proofs.WalkedNodes.{gathered_below-append}
 use Rattle.vx_serde.proofs.WiredNodes.{wired, wires-list, wired-length, wired-at, wired-below, wired-within, wired-nodes, own-buffers, own-length, own-metadata, own-stats}
 
 -- Where memory is wanted before the first block, nothing was written.
-pub nothing-written : (ps : List Piece) (old : Built) (e : FlatError) → e ≡ flat.OutOfMemory → IsStopped old ps e old
+pub nothing-written : (ps : List Piece) (old : Built) (e : FlatError) → e ≡ flat.OutOfMemory → RefusesPieces old ps e old
 nothing-written ps old e is =
-    let P : FlatError → Type 0 = λ z. IsStopped old ps z old in
+    let P : FlatError → Type 0 = λ z. RefusesPieces old ps z old in
     subst P (sym is) (record { more = []; rest = ps; front = refl; bytes = refl })
 
 -- ---- a node and the nodes below it

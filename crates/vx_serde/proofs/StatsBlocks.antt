@@ -1,13 +1,13 @@
 -- The blocks of a set of statistics, as a builder of tables has them, and why a table is not read.
 use Rattle.std.proofs.Common.{◌≡◌, ◌<◌, ◌^◌, ◌⊎◌, length, true, sym, subst, inl, inr}
-use Rattle.vx_flat.specs.Building.{Built, Written, Keeps, IsStopped}
+use Rattle.vx_flat.specs.Building.{Built, Written, Keeps, RefusesPieces}
 use Rattle.vx_flat.specs.Value.{Field, Fields, absent, table}
 use Rattle.vx_types.specs.Typ.{Typ}
 use Rattle.vx_scalars.specs.Stats.{Stats, FitStats, no_stats}
 use Rattle.vx_scalar_wire.specs.StatsSchema.{stats_fields, stats_schema}
 use Rattle.vx_scalar_wire.specs.StatsShown.{ShowsStats, ShowsStatsIn}
 use Rattle.vx_scalar_wire.specs.StatsTable.{stats_table, stats_pieces}
-use Rattle.vx_scalar_wire.specs.StatsUnwritten.{IsUnwrittenStats}
+use Rattle.vx_scalar_wire.specs.StatsUnwritten.{RefusesWritingStats}
 use Rattle.vx_scalar_wire.specs.declared.error.ScalarWireError.{ScalarWireError}
 use Rattle.vx_scalar_wire.specs.declared.error.ScalarWireError.TheVariants.{OutOfMemory, BadMessage, TooDeep, MissingKind, KindMismatch, OutOfRange, BadChild, BadScalar, BadPrecision, BadDType, MessageTooLong}
 use Rattle.vx_scalar_wire.proofs.LawsWriting.{fit_written}
@@ -23,22 +23,22 @@ written_blocks x y same old new h short =
     let P : Stats → Type 0 = λ z. AreWritten old (stats_pieces z) new in
     subst P same (record { some = tt; blocks = h.blocks; linked = h.linked; fits = short })
 
-stopped_by : (e : ScalarWireError) (y : Stats) (old new : Built) → (e ≡ OutOfMemory) ⊎ (e ≡ MessageTooLong) → Keeps old (stats_pieces y) new → IsUnwrittenStats e y old → (e ≡ MessageTooLong → new.failed ≡ true)
-    → IsStopped old (stats_pieces y) (builder_refusal e) new
+stopped_by : (e : ScalarWireError) (y : Stats) (old new : Built) → (e ≡ OutOfMemory) ⊎ (e ≡ MessageTooLong) → Keeps old (stats_pieces y) new → RefusesWritingStats e y old → (e ≡ MessageTooLong → new.failed ≡ true)
+    → RefusesPieces old (stats_pieces y) (builder_refusal e) new
 stopped_by e y old new (inl q) k u f =
-    let P : ScalarWireError → Type 0 = λ z. IsStopped old (stats_pieces y) (builder_refusal z) new in
+    let P : ScalarWireError → Type 0 = λ z. RefusesPieces old (stats_pieces y) (builder_refusal z) new in
     subst P (sym q) k
 stopped_by e y old new (inr q) k u f =
-    let P : ScalarWireError → Type 0 = λ z. IsStopped old (stats_pieces y) (builder_refusal z) new in
-    let Q : ScalarWireError → Type 0 = λ z. IsUnwrittenStats z y old in
+    let P : ScalarWireError → Type 0 = λ z. RefusesPieces old (stats_pieces y) (builder_refusal z) new in
+    let Q : ScalarWireError → Type 0 = λ z. RefusesWritingStats z y old in
     subst P (sym q) (k, f q, subst Q q u)
 
 -- or they were not, for want of memory or because with them the message is too long.
-pub stopped_for : (d : Typ) (x y : Stats) → x ≡ y → FitStats d y → (old new : Built) (e : ScalarWireError) → Keeps old (stats_pieces x) new → IsUnwrittenStats e x old → (e ≡ MessageTooLong → new.failed ≡ true)
-    → IsStopped old (stats_pieces y) (builder_refusal e) new
+pub stopped_for : (d : Typ) (x y : Stats) → x ≡ y → FitStats d y → (old new : Built) (e : ScalarWireError) → Keeps old (stats_pieces x) new → RefusesWritingStats e x old → (e ≡ MessageTooLong → new.failed ≡ true)
+    → RefusesPieces old (stats_pieces y) (builder_refusal e) new
 stopped_for d x y same fits old new e k u f =
     let P : Stats → Type 0 = λ z. Keeps old (stats_pieces z) new in
-    let Q : Stats → Type 0 = λ z. IsUnwrittenStats e z old in
+    let Q : Stats → Type 0 = λ z. RefusesWritingStats e z old in
     stopped_by e y old new (fit_written e d y old fits (subst Q same u)) (subst P same k) (subst Q same u) f
 
 -- ---- read

@@ -19,7 +19,7 @@ use Rattle.vx_wire_tree.proofs.Laws.{places_taken, taken_own, never_untaken}
 use Rattle.vx_wire_tree.proofs.Laws as laws
 use Rattle.vx_encodings.specs.Messages.{codec, message_bytes}
 use Rattle.vx_wire_tree.specs.Written.{head_id}
-use Rattle.vx_registry.specs.Serialization.{IsUnserialized, HasLargeMetadata, array_id}
+use Rattle.vx_registry.specs.Serialization.{RefusesSerializing, HasLargeMetadata, array_id}
 use Rattle.vx_registry.specs.declared.error.RegistryError.{RegistryError}
 use Rattle.vx_registry.specs.declared.error.RegistryError.TheVariants as registry
 use Rattle.vx_serde.specs.declared.error.WireError.{WireError}
@@ -82,7 +82,7 @@ module _ (s : SessionMeaning) where
   large_by n t (unwritten why) e k = absurd k
 
   -- The registry does not write the root.
-  pub root_refused : (n : ℕ) (t : Tree) (e : RegistryError) → IsUnserialized e (step s t) → RefusesTaking s (suc n) t (registry_refusal e)
+  pub root_refused : (n : ℕ) (t : Tree) (e : RegistryError) → RefusesSerializing e (step s t) → RefusesTaking s (suc n) t (registry_refusal e)
   root_refused n t registry.OutOfMemory k = tt
   root_refused n t registry.NotRegistered k = inl k
   root_refused n t registry.UndeclaredId k = inl k
@@ -174,7 +174,7 @@ module _ (src : Tree) (us : Trees) (t : Tree) where
 -- ---- where there is room for one level more than below
 
 -- A root is not written, and neither is the array.
-pub root_at : (s : SessionMeaning) (n room : ℕ) (e : suc n ≡ room) (t : Tree) (x : RegistryError) → IsUnserialized x (step s t) → RefusesTaking s room t (registry_refusal x)
+pub root_at : (s : SessionMeaning) (n room : ℕ) (e : suc n ≡ room) (t : Tree) (x : RegistryError) → RefusesSerializing x (step s t) → RefusesTaking s room t (registry_refusal x)
 root_at s n room e t x k = subst (λ m. RefusesTaking s m t (registry_refusal x)) e (root_refused s n t x k)
 
 -- Its plugin has no form for it.

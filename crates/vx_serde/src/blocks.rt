@@ -1,7 +1,7 @@
 //! Blocks of a message that hang on a node.
 
 ghost use Rattle.std.specs.Prelude.{◌≡◌, ◌%◌, ◌<◌, ◌^◌, ◌∷◌, [], true, false, length, OnOk, IfErr};
-ghost use Rattle.vx_flat.specs.Building.{AreWritten, Takes, IsStopped};
+ghost use Rattle.vx_flat.specs.Building.{AreWritten, Takes, RefusesPieces};
 ghost use Rattle.vx_flat.specs.Pieces.{elements_piece, default_entry, is_width};
 ghost use Rattle.vx_trees.specs.Rose.{label};
 ghost use Rattle.vx_scalar_wire.specs.StatsTable.{AreStorable, stats_pieces};
@@ -41,7 +41,7 @@ pub(crate) fn write_elements(
     requires whole { length bytes.now % width ≡ 0 }
     requires takes { Takes LinkKind.Vector builder.old }
     ensures written { OnOk result (AreWritten builder.old (elements_piece width bytes.now ∷ []) builder.new) }
-    ensures stopped { IfErr result (λ e. IsStopped builder.old (elements_piece width bytes.now ∷ []) e builder.new) }
+    ensures stopped { IfErr result (λ e. RefusesPieces builder.old (elements_piece width bytes.now ∷ []) e builder.new) }
 {
     builder.vector(BlockVector::Numbers { width, bytes })?;
     Ok(())
@@ -56,7 +56,7 @@ pub(crate) fn write_statistics(
     requires takes { Takes LinkKind.Table builder.old }
     ensures written { OnOk result (AreWritten builder.old (stats_pieces (label array.now).stats) builder.new) }
     ensures storable { OnOk result (AreStorable (label array.now).stats) }
-    ensures stopped { IfErr result (λ e. IsStopped builder.old (stats_pieces (label array.now).stats) e builder.new) }
+    ensures stopped { IfErr result (λ e. RefusesPieces builder.old (stats_pieces (label array.now).stats) e builder.new) }
 {
     match array.statistics().write_flatbuffer(alloc, builder) {
         Ok(()) => Ok(()),

@@ -5,7 +5,7 @@ ghost use Rattle.std.specs.Prelude.{◌≡◌, ◌+◌, ◌≤◌, ◌<◌, ◌^
 ghost use Rattle.vx_trees.specs.Everywhere.{EverywhereBelow};
 ghost use Rattle.vx_trees.specs.Rose.{label, below, roses_of};
 ghost use Rattle.vx_trees.specs.Walks.{nodes, nodes_of, gathered_below};
-ghost use Rattle.vx_flat.specs.Building.{AreWritten, Takes, IsStopped};
+ghost use Rattle.vx_flat.specs.Building.{AreWritten, Takes, RefusesPieces};
 ghost use Rattle.vx_array_tree.specs.Sound.{metadata_in};
 ghost use Rattle.vx_array_tree.specs.Table.{buffers_of};
 ghost use Rattle.vx_wire_tree.specs.Fields.{told};
@@ -102,7 +102,7 @@ pub(crate) fn write_node(
     ensures buffers { (s : SessionMeaning) → OnOk result (passed.new.buffers ≡ passed.old.buffers + length (buffers_in (wire codec s array.now))) }
     ensures written { (s : SessionMeaning) → OnOk result (AreWritten builder.old (node_pieces encodings.now passed.old.nodes passed.old.buffers (wire codec s array.now)) builder.new) }
     ensures storable { OnOk result (HasStorableStats codec array.now) }
-    ensures stopped { (s : SessionMeaning) → IfErr result (λ e. IsStopped builder.old (node_pieces encodings.now passed.old.nodes passed.old.buffers (wire codec s array.now)) e builder.new) }
+    ensures stopped { (s : SessionMeaning) → IfErr result (λ e. RefusesPieces builder.old (node_pieces encodings.now passed.old.nodes passed.old.buffers (wire codec s array.now)) e builder.new) }
 {
     let parts = node_parts(alloc, array, encodings, passed)?;
     let node = builder.table(&[
@@ -140,7 +140,7 @@ fn write_nodes(
     ensures buffers { (s : SessionMeaning) → OnOk result (passed.new.buffers ≡ passed.old.buffers + length (gathered_below (λ h. buffers_at_node h) (wires codec s (roses_of arrays.now)))) }
     ensures written { (s : SessionMeaning) → OnOk result (AreWritten builder.old (children_pieces encodings.now passed.old.nodes passed.old.buffers (wires codec s (roses_of arrays.now))) builder.new) }
     ensures storable { OnOk result (EverywhereBelow (IsStorableNode codec) (roses_of arrays.now)) }
-    ensures stopped { (s : SessionMeaning) → IfErr result (λ e. IsStopped builder.old (children_pieces encodings.now passed.old.nodes passed.old.buffers (wires codec s (roses_of arrays.now))) e builder.new) }
+    ensures stopped { (s : SessionMeaning) → IfErr result (λ e. RefusesPieces builder.old (children_pieces encodings.now passed.old.nodes passed.old.buffers (wires codec s (roses_of arrays.now))) e builder.new) }
 {
     let vector = builder.vector(BlockVector::Links {
         kind: LinkKind::Table,

@@ -2,7 +2,7 @@
 
 ghost use Rattle.std.specs.Prelude.{◌≡◌, ◌+◌, ◌≤◌, ◌<◌, ◌-◌, ◌^◌, ◌++◌, [], ◌∷◌, Some, false, IsTrue, IsFalse, length, IfOk, IfErr, OnOk};
 ghost use Rattle.std.specs.Int.{w32, to_le_bytes};
-ghost use Rattle.vx_flat.specs.Building.{AreWritten, Takes, IsStopped};
+ghost use Rattle.vx_flat.specs.Building.{AreWritten, Takes, RefusesPieces};
 ghost use Rattle.vx_flat.specs.IsOf.{IsOf};
 ghost use Rattle.vx_flat.specs.Limits.{limits_to, IsLight};
 ghost use Rattle.vx_flat.specs.Pieces.{pieces};
@@ -110,7 +110,7 @@ fn write_blocks(
     requires whole { AreDescriptors descriptors.now }
     ensures written { (s : SessionMeaning) → OnOk result (AreWritten builder.old (pieces array_schema (message_by encodings.now (wire codec s array.now) descriptors.now)) builder.new) }
     ensures storable { OnOk result (HasStorableStats codec array.now) }
-    ensures stopped { (s : SessionMeaning) → IfErr result (λ e. IsStopped builder.old (pieces array_schema (message_by encodings.now (wire codec s array.now) descriptors.now)) e builder.new) }
+    ensures stopped { (s : SessionMeaning) → IfErr result (λ e. RefusesPieces builder.old (pieces array_schema (message_by encodings.now (wire codec s array.now) descriptors.now)) e builder.new) }
 {
     let root = builder.table(&[TABLE, VECTOR])?;
     builder.link(root, 0);

@@ -11,7 +11,7 @@ use Rattle.vx_type_wire.specs.declared.error.TypeWireError.TheVariants.{OutOfMem
 use Rattle.vx_type_wire.specs.Answers.{Fails}
 use Rattle.vx_type_wire.specs.Known.{ExtMeaning, IsNotKnown}
 use Rattle.vx_type_wire.specs.MessageReading.{type_in}
-use Rattle.vx_type_wire.specs.TypeMessage.{type_lists, type_message, IsMessageOf, IsNoMessage, IsUnreadValue}
+use Rattle.vx_type_wire.specs.TypeMessage.{type_lists, type_message, IsMessageOf, IsNoMessage, RefusesReadingType}
 use Rattle.vx_type_wire.proofs.MessageBack.{reads_back}
 use Rattle.vx_type_wire.proofs.MessageSound.{type_sound}
 use Rattle.vx_type_wire.proofs.OneType.{never}
@@ -55,7 +55,7 @@ only_memory ExtensionRefused x t p h = absurd h
 only_memory WireLimit x t p h = absurd h
 
 -- Why nothing is read of a value.
-pub unread_value : (e : TypeWireError) (s : ExtMeaning) (v w : Value) → w ≡ v → Fails e (type_in 50 w) → IsUnreadValue e s v
+pub unread_value : (e : TypeWireError) (s : ExtMeaning) (v w : Value) → w ≡ v → Fails e (type_in 50 w) → RefusesReadingType e s v
 unread_value OutOfMemory s v w q h = tt
 unread_value BadTable s v w q h = absurd h
 unread_value TableLimit s v w q h = absurd h
@@ -67,7 +67,7 @@ unread_value ExtensionRefused s v w q h = absurd h
 unread_value WireLimit s v w q h = absurd h
 
 -- Why a type that is shown is not known.
-pub unknown_value : (e : TypeWireError) (s : ExtMeaning) (v : Value) (t : Typ) → IsMessageOf v t → IsNotKnown e s t → IsUnreadValue e s v
+pub unknown_value : (e : TypeWireError) (s : ExtMeaning) (v : Value) (t : Typ) → IsMessageOf v t → IsNotKnown e s t → RefusesReadingType e s v
 unknown_value OutOfMemory s v t m h = tt
 unknown_value BadTable s v t m h = never BadTable s t (λ id bs u n. n) h
 unknown_value TableLimit s v t m h = never TableLimit s t (λ id bs u n. n) h

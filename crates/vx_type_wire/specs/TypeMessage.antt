@@ -133,26 +133,26 @@ abbrev pub IsNoMessage : Value → Type 0
 IsNoMessage v = (t : Typ) → levels t ≤ most_levels → IsMessageOf v t → ⊥
 
 -- Why a plain value is read as no type under a session. Want of memory has no cause.
-abbrev pub IsUnreadValue : TypeWireError → ExtMeaning → Value → Type 0
-IsUnreadValue error.OutOfMemory s v = Unit {0}
-IsUnreadValue error.BadType s v = IsNoMessage v
-IsUnreadValue error.UnknownExtension s v = ShowsNotKnown (IsMessageOf v) error.UnknownExtension s
-IsUnreadValue error.ExtensionRefused s v = ShowsNotKnown (IsMessageOf v) error.ExtensionRefused s
-IsUnreadValue _ s v = ⊥
+abbrev pub RefusesReadingType : TypeWireError → ExtMeaning → Value → Type 0
+RefusesReadingType error.OutOfMemory s v = Unit {0}
+RefusesReadingType error.BadType s v = IsNoMessage v
+RefusesReadingType error.UnknownExtension s v = ShowsNotKnown (IsMessageOf v) error.UnknownExtension s
+RefusesReadingType error.ExtensionRefused s v = ShowsNotKnown (IsMessageOf v) error.ExtensionRefused s
+RefusesReadingType _ s v = ⊥
 
 -- Why bytes are read as no type under a session: they are no fields of the schema, over 100 messages nest, a number is out
 -- of its field's range or the message is no type's, or an extension in the type is not accepted.
-abbrev pub IsUnreadBytes : TypeWireError → ExtMeaning → List ℕ → Type 0
-IsUnreadBytes error.OutOfMemory s bytes = Unit {0}
-IsUnreadBytes error.BadMessage s bytes = Cause type_lists 100 proto.BadMessage 0 bytes
-IsUnreadBytes error.TooDeep s bytes = Cause type_lists 100 proto.TooDeep 0 bytes
-IsUnreadBytes error.BadType s bytes = Cause type_lists 100 proto.OutOfRange 0 bytes ⊎ ((v : Value) × (Reads type_lists 0 bytes v × IsNoMessage v))
-IsUnreadBytes error.UnknownExtension s bytes = ShowsNotKnown (ShowsMessage bytes) error.UnknownExtension s
-IsUnreadBytes error.ExtensionRefused s bytes = ShowsNotKnown (ShowsMessage bytes) error.ExtensionRefused s
-IsUnreadBytes _ s bytes = ⊥
+abbrev pub RefusesReadingTypeBytes : TypeWireError → ExtMeaning → List ℕ → Type 0
+RefusesReadingTypeBytes error.OutOfMemory s bytes = Unit {0}
+RefusesReadingTypeBytes error.BadMessage s bytes = Cause type_lists 100 proto.BadMessage 0 bytes
+RefusesReadingTypeBytes error.TooDeep s bytes = Cause type_lists 100 proto.TooDeep 0 bytes
+RefusesReadingTypeBytes error.BadType s bytes = Cause type_lists 100 proto.OutOfRange 0 bytes ⊎ ((v : Value) × (Reads type_lists 0 bytes v × IsNoMessage v))
+RefusesReadingTypeBytes error.UnknownExtension s bytes = ShowsNotKnown (ShowsMessage bytes) error.UnknownExtension s
+RefusesReadingTypeBytes error.ExtensionRefused s bytes = ShowsNotKnown (ShowsMessage bytes) error.ExtensionRefused s
+RefusesReadingTypeBytes _ s bytes = ⊥
 
 -- Why a type is not written as a message: it has too many levels.
-abbrev pub IsUnwrittenMessage : TypeWireError → Typ → Type 0
-IsUnwrittenMessage error.OutOfMemory t = Unit {0}
-IsUnwrittenMessage error.WireLimit t = most_levels < levels t
-IsUnwrittenMessage _ t = ⊥
+abbrev pub RefusesWritingType : TypeWireError → Typ → Type 0
+RefusesWritingType error.OutOfMemory t = Unit {0}
+RefusesWritingType error.WireLimit t = most_levels < levels t
+RefusesWritingType _ t = ⊥

@@ -7,8 +7,8 @@ use Rattle.vx_types.specs.declared.error.TypeError.TheVariants.{OutOfMemory, Bad
 
 -- The lists of a union's parts are refused where they are not of one length, and
 -- where two tags are equal.
-abbrev pub IsRefusedUnion : TypeError → List (List ℕ) → List Typ → List ℕ → Type 0
-IsRefusedUnion OutOfMemory names types ids = ⊥
-IsRefusedUnion BadDecimal names types ids = ⊥
-IsRefusedUnion FieldCount names types ids = (length names ≢ length types) ⊎ (length names ≢ length ids)
-IsRefusedUnion DuplicateTag names types ids = AreDistinct ids → ⊥
+abbrev pub RefusesUnion : TypeError → List (List ℕ) → List Typ → List ℕ → Type 0
+RefusesUnion OutOfMemory names types ids = ⊥
+RefusesUnion BadDecimal names types ids = ⊥
+RefusesUnion FieldCount names types ids = (length names ≢ length types) ⊎ (length names ≢ length ids)
+RefusesUnion DuplicateTag names types ids = AreDistinct ids → ⊥

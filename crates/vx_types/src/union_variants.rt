@@ -5,7 +5,7 @@ ghost use Rattle.vx_trees.specs.Rose.{roses_of};
 ghost use Rattle.vx_trees.specs.Walks.{levels_below};
 ghost use Rattle.vx_types.specs.Content.{AreDistinct};
 ghost use Rattle.vx_types.specs.Typ.{AreTypes, IsUnion};
-ghost use Rattle.vx_types.specs.Refused.{IsRefusedUnion};
+ghost use Rattle.vx_types.specs.Refused.{RefusesUnion};
 
 use crate::dtypes::DTypes;
 use crate::error::TypeError;
@@ -52,7 +52,7 @@ impl UnionVariants {
         ensures types_fit { IfOk result (λ _. length names ≡ length types) }
         ensures ids_fit { IfOk result (λ _. length names ≡ length ids) }
         ensures distinct { IfOk result (λ _. AreDistinct ids) }
-        ensures err { IfErr result (λ e. IsRefusedUnion e names types ids) }
+        ensures err { IfErr result (λ e. RefusesUnion e names types ids) }
     {
         if names.len() != types.len() {
             return Err(TypeError::FieldCount);

@@ -2,7 +2,7 @@
 use Rattle.std.proofs.Common.{◌≡◌, ◌≤◌, ℕ, true, None, List, [], ◌∷◌, length, get_or, refl, subst, sym, arith}
 use Rattle.vx_trees.specs.Walks.{levels}
 use Rattle.vx_fn_wire.specs.Expr.{Expr}
-use Rattle.vx_fn_wire.specs.Messages.{IsUnwrittenBytes}
+use Rattle.vx_fn_wire.specs.Messages.{RefusesWritingExprBytes}
 use Rattle.vx_fn_wire.specs.ReadsExpr.{ReadsExprBytes}
 use Rattle.vx_fn_wire.specs.Session.{Registry}
 use Rattle.vx_fn_wire.specs.declared.error.FnWireError.{FnWireError}
@@ -51,7 +51,7 @@ refused error.NotSerializable bytes complete = λ x read. (let never = complete 
 refused error.PluginRefused bytes complete = λ x read. (let never = complete x read in cc)
 
 -- What is read can be written: nothing but memory is wanting.
-pub memory_alone : (e : FnWireError) (bytes : List ℕ) (x : Expr) → IsReadAsExpression bytes x → levels x ≤ 100 → IsUnwrittenBytes e x → e ≡ error.OutOfMemory
+pub memory_alone : (e : FnWireError) (bytes : List ℕ) (x : Expr) → IsReadAsExpression bytes x → levels x ≤ 100 → RefusesWritingExprBytes e x → e ≡ error.OutOfMemory
 memory_alone error.OutOfMemory bytes x read shallow cause = refl
 memory_alone error.TooDeep bytes x read shallow cause = absurd (omega (arith, shallow, cause))
 memory_alone error.NotSerializable bytes x read shallow cause = absurd (cause (read_writable no_functions true (λ id. refl) read.value x read.read))

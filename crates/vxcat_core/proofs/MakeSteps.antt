@@ -8,7 +8,7 @@ use Rattle.vx_trees.specs.Rose.{label}
 use Rattle.vx_types.specs.Typ.{Typ}
 use Rattle.vx_type_wire.specs.Known.{ExtMeaning, IsKnown, IsRead, no_readers}
 use Rattle.vx_type_wire.specs.Shown.{ShowsType}
-use Rattle.vx_type_wire.specs.Written.{IsUnwritten}
+use Rattle.vx_type_wire.specs.Written.{RefusesWritingTypeTable}
 use Rattle.vx_type_wire.specs.declared.error.TypeWireError.{TypeWireError}
 use Rattle.vx_array_tree.specs.Tree.{Tree}
 use Rattle.vx_wire_tree.specs.Context.{Context, grown}
@@ -48,8 +48,8 @@ type_read array is t m e back =
     let known = subst (λ (z : Typ). IsKnown no_readers z) (sym (e ∙ table_dtype array is)) type_known in
     subst (λ (z : Typ). IsRead (ShowsType m) no_readers z) e (back no_readers known)
 
-pub type_refused : (array : Tree) → IsTable array → (t : Typ) → t ≡ (label array).dtype → (e : TypeWireError) → IsUnwritten t nothing_built e → (status : Status) → status ≡ type_status e → status ≡ OutOfMemory
-type_refused array is t same e u status s = s ∙ ap type_status (type_memory e (subst (λ (z : Typ). IsUnwritten z nothing_built e) (same ∙ table_dtype array is) u))
+pub type_refused : (array : Tree) → IsTable array → (t : Typ) → t ≡ (label array).dtype → (e : TypeWireError) → RefusesWritingTypeTable t nothing_built e → (status : Status) → status ≡ type_status e → status ≡ OutOfMemory
+type_refused array is t same e u status s = s ∙ ap type_status (type_memory e (subst (λ (z : Typ). RefusesWritingTypeTable z nothing_built e) (same ∙ table_dtype array is) u))
 
 -- ---- the blob
 

@@ -446,7 +446,7 @@ not_failed : nothing_built.failed ≡ true → ⊥
 not_failed e = absurd (cc)
 
 -- Only memory can be wanting where the type is written.
-pub type_memory : (e : TypeWireError) → T.IsUnwritten made_type nothing_built e → e ≡ type_error.OutOfMemory
+pub type_memory : (e : TypeWireError) → T.RefusesWritingTypeTable made_type nothing_built e → e ≡ type_error.OutOfMemory
 type_memory type_error.OutOfMemory h = refl
 type_memory type_error.WireLimit (inl h) = absurd (h type_writable)
 type_memory type_error.WireLimit (inr (inl h)) = absurd (not_failed h)

@@ -10,7 +10,7 @@ ghost use Rattle.vx_scalars.specs.Stats.{Told, told};
 ghost use Rattle.vx_types.specs.Seen.{typ};
 ghost use Rattle.vx_scalar_wire.specs.StatsSchema.{stats_fields};
 ghost use Rattle.vx_scalar_wire.specs.StatsShown.{HoldsStat, TellsNothing, IsToldField, ShowsBound, ShowsSum, ShowsFlag, ShowsCount, ShowsStat};
-ghost use Rattle.vx_scalar_wire.specs.StatsUnread.{IsRefusedStat, IsUnreadField, IsUnreadBound, IsUnreadStat};
+ghost use Rattle.vx_scalar_wire.specs.StatsUnread.{RefusesStatBytes, RefusesStatField, RefusesBound, RefusesStat};
 
 use crate::error::ScalarWireError;
 use crate::messages::ScalarValueExt;
@@ -29,7 +29,7 @@ pub fn read_stat(
 ) -> Result<Precision<ScalarValue>, ScalarWireError>
     requires { kinds_in view.now ≡ stats_fields }
     ensures read { IfOk result (λ x. ShowsStat stat (typ dtype.now) (seen view.now) (told x)) }
-    ensures cause { IfErr result (λ e. IsUnreadStat e stat (typ dtype.now) (seen view.now)) }
+    ensures cause { IfErr result (λ e. RefusesStat e stat (typ dtype.now) (seen view.now)) }
     ensures complete { (x : Told) → ShowsStat stat (typ dtype.now) (seen view.now) x → IfErr result (λ e. e ≡ ScalarWireError.OutOfMemory) }
 {
     match stat {
@@ -57,7 +57,7 @@ fn read_bound(
     requires bytes { IsBytes (kind_in view.now field) }
     requires number { IsNumber (kind_in view.now precision) }
     ensures read { IfOk result (λ x. ShowsBound (stat_type stat (typ dtype.now)) (part_in view.now field) (part_in view.now precision) (told x)) }
-    ensures cause { IfErr result (λ e. IsUnreadBound e (stat_type stat (typ dtype.now)) (part_in view.now field) (part_in view.now precision)) }
+    ensures cause { IfErr result (λ e. RefusesBound e (stat_type stat (typ dtype.now)) (part_in view.now field) (part_in view.now precision)) }
     ensures complete { (x : Told) → ShowsBound (stat_type stat (typ dtype.now)) (part_in view.now field) (part_in view.now precision) x → IfErr result (λ e. e ≡ ScalarWireError.OutOfMemory) }
 {
     let Some(value) = value_in(alloc, view, field, stat, dtype)? else {
@@ -79,7 +79,7 @@ fn read_sum(
 ) -> Result<Precision<ScalarValue>, ScalarWireError>
     requires { IsBytes (kind_in view.now field) }
     ensures read { IfOk result (λ x. ShowsSum (stat_type Stat.Sum (typ dtype.now)) (part_in view.now field) (told x)) }
-    ensures cause { IfErr result (λ e. IsUnreadField e (stat_type Stat.Sum (typ dtype.now)) (part_in view.now field)) }
+    ensures cause { IfErr result (λ e. RefusesStatField e (stat_type Stat.Sum (typ dtype.now)) (part_in view.now field)) }
     ensures complete { (x : Told) → ShowsSum (stat_type Stat.Sum (typ dtype.now)) (part_in view.now field) x → IfErr result (λ e. e ≡ ScalarWireError.OutOfMemory) }
 {
     match value_in(alloc, view, field, Stat::Sum, dtype)? {
@@ -99,7 +99,7 @@ fn value_in(
     requires { IsBytes (kind_in view.now field) }
     ensures read { IfOk result (λ x. MatchOption x (TellsNothing (stat_type stat (typ dtype.now)) (part_in view.now field))
         (λ v. HoldsStat (stat_type stat (typ dtype.now)) (part_in view.now field) (value_of v))) }
-    ensures cause { IfErr result (λ e. IsUnreadField e (stat_type stat (typ dtype.now)) (part_in view.now field)) }
+    ensures cause { IfErr result (λ e. RefusesStatField e (stat_type stat (typ dtype.now)) (part_in view.now field)) }
     ensures complete { IsToldField (stat_type stat (typ dtype.now)) (part_in view.now field) → IfErr result (λ e. e ≡ ScalarWireError.OutOfMemory) }
 {
     let Some(own) = stat.dtype(alloc, dtype)? else {
@@ -119,7 +119,7 @@ fn value_of_type(
 ) -> Result<Option<ScalarValue>, ScalarWireError>
     ensures read { IfOk result (λ x. MatchOption x (TellsNothing (Some (typ dtype.now)) (elements bytes.now))
         (λ v. HoldsStat (Some (typ dtype.now)) (elements bytes.now) (value_of v))) }
-    ensures cause { IfErr result (λ e. IsRefusedStat e (typ dtype.now) bytes.now) }
+    ensures cause { IfErr result (λ e. RefusesStatBytes e (typ dtype.now) bytes.now) }
     ensures complete { IsToldField (Some (typ dtype.now)) (elements bytes.now) → IfErr result (λ e. e ≡ ScalarWireError.OutOfMemory) }
 {
     let readers = ExtSession::new(alloc);

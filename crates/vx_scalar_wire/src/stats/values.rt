@@ -6,7 +6,7 @@ ghost use Rattle.vx_scalars.specs.Stats.{told as told_of};
 ghost use Rattle.vx_scalar_wire.specs.StatsBlocks.{stored_field};
 ghost use Rattle.vx_scalars.specs.WrittenStats.{written_sum};
 ghost use Rattle.vx_scalar_wire.specs.StatsTable.{IsStorable, value_field};
-ghost use Rattle.vx_scalar_wire.specs.StatsUnwritten.{IsWritableTold, IsUnwrittenTold};
+ghost use Rattle.vx_scalar_wire.specs.StatsUnwritten.{IsWritableTold, RefusesWritingTold};
 
 use crate::error::ScalarWireError;
 use crate::messages::ScalarValueExt;
@@ -23,7 +23,7 @@ pub fn value_bytes(
     ensures written { IfOk result (λ b. stored_field b ≡ value_field (told_of (lent told.entry))) }
     ensures writable { OnOk result (IsWritableTold (told_of (lent told.entry))) }
     ensures storable { OnOk result (IsStorable (told_of (lent told.entry))) }
-    ensures cause { IfErr result (λ e. IsUnwrittenTold e (told_of (lent told.entry))) }
+    ensures cause { IfErr result (λ e. RefusesWritingTold e (told_of (lent told.entry))) }
 {
     match told {
         Precision::Exact(value) | Precision::Inexact(value) => {
@@ -44,7 +44,7 @@ pub fn sum_bytes(
     ensures written { IfOk result (λ b. stored_field b ≡ value_field (written_sum (told_of (lent told.entry)))) }
     ensures writable { OnOk result (IsWritableTold (written_sum (told_of (lent told.entry)))) }
     ensures storable { OnOk result (IsStorable (written_sum (told_of (lent told.entry)))) }
-    ensures cause { IfErr result (λ e. IsUnwrittenTold e (written_sum (told_of (lent told.entry)))) }
+    ensures cause { IfErr result (λ e. RefusesWritingTold e (written_sum (told_of (lent told.entry)))) }
 {
     let Precision::Exact(value) = told else {
         return Ok(None);

@@ -1,7 +1,7 @@
 //! The blocks of a table of statistics.
 
 ghost use Rattle.std.specs.Prelude.{◌≡◌, ◌<◌, ◌^◌, ◌++◌, ◌∷◌, false, List, length, OnOk, IfErr, IsOk};
-ghost use Rattle.vx_flat.specs.Building.{Built, IsPartWay, Link, Takes, Written, IsStopped};
+ghost use Rattle.vx_flat.specs.Building.{Built, IsPartWay, Link, Takes, Written, RefusesPieces};
 ghost use Rattle.vx_flat.specs.Pieces.{Piece};
 ghost use Rattle.vx_scalar_wire.specs.StatsBlocks.{IsStoredOf, IsAtLink, vector_pieces, vector_links};
 ghost use Rattle.vx_scalar_wire.specs.StatsSchema.{stats_fields, stats_schema};
@@ -26,7 +26,7 @@ pub fn write_table(
     ensures written { OnOk result (Written stats_schema stats_fields (stats_table stats.now) builder.old builder.new) }
     ensures fits { IsOk result → length builder.new.bytes < 2 ^ 31 }
     ensures works { IsOk result → builder.old.failed ≡ false }
-    ensures stopped { IfErr result (λ e. IsStopped builder.old (stats_pieces stats.now) e builder.new) }
+    ensures stopped { IfErr result (λ e. RefusesPieces builder.old (stats_pieces stats.now) e builder.new) }
 {
     let table = builder.table(&entries_of(stats, stored))?;
     write_bytes(&stored.least, table, 0, builder)?;
@@ -48,7 +48,7 @@ fn write_bytes(
         → IsPartWay b p ls (ps ++ vector_pieces bytes.now) builder.new) }
     ensures fits { IsOk result → length builder.old.bytes < 2 ^ 31 → length builder.new.bytes < 2 ^ 31 }
     ensures stopped { IfErr result (λ e. (b : Built) (p : Piece) (ls : List Link) (ps rest : List Piece) → IsPartWay b p (vector_links table index bytes.now ++ ls) ps builder.old
-        → IsStopped b ((p ∷ ps) ++ (vector_pieces bytes.now ++ rest)) e builder.new) }
+        → RefusesPieces b ((p ∷ ps) ++ (vector_pieces bytes.now ++ rest)) e builder.new) }
 {
     let Some(bytes) = bytes else {
         return Ok(());

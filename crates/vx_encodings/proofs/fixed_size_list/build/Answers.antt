@@ -1,6 +1,6 @@
 use Rattle.std.proofs.Common.{◌∙◌, sym, subst}
 use Rattle.vx_encodings.proofs.FixedSizeListSteps.{few_children, lists_built, lists_refused}
-use Rattle.vx_encodings.specs.Steps.{IsUnbuilt}
+use Rattle.vx_encodings.specs.Steps.{RefusesBuilding}
 use Rattle.vx_encodings.specs.declared.encoding.Encoding.TheVariants.{FixedSizeList}
 use Rattle.vx_encodings.specs.declared.error.EncodingError.{EncodingError}
 use Rattle.vx_encodings.proofs.fixed_size_list.build.Goals as goal
@@ -17,6 +17,6 @@ returns-in-Ok-clause-parts c =
 pub returns-clause-err : goal.returns-clause-err
 returns-clause-err c =
     let parts = c.first_and_validity-elements.result in
-    λ x. subst (λ (e : EncodingError). IsUnbuilt e x FixedSizeList c.args.head c.args.buffers c.args.children) (sym c.of_constructor.ensures)
+    λ x. subst (λ (e : EncodingError). RefusesBuilding e x FixedSizeList c.args.head c.args.buffers c.args.children) (sym c.of_constructor.ensures)
     (lists_refused x c.in-Err.e c.args.head c.args.buffers c.args.children parts.0 parts.1 c.in-FixedSizeList.field-0 c.in-FixedSizeList.size c.in-FixedSizeList.nullability c.requires
     (c.is_empty.ensures.0 c.if-not-is_empty.false) c.in-FixedSizeList.is (c.first_and_validity-elements.ensures ∙ c.into_vec.ensures.items) c.in-Err.ensures.err)

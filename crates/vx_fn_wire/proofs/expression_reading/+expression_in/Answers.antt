@@ -3,7 +3,7 @@ use Rattle.std.proofs.lemmas.Result.{err_from_is_err_and}
 use Rattle.vx_proto.specs.Value.{value_view}
 use Rattle.vx_trees.proofs.Holding.{everywhere_below-snoc}
 use Rattle.vx_fn_wire.specs.Expr.{IsExprNode}
-use Rattle.vx_fn_wire.specs.ReadsExpr.{IsUnreadExpr}
+use Rattle.vx_fn_wire.specs.ReadsExpr.{RefusesReadingExpr}
 use Rattle.vx_fn_wire.specs.Seen.{expr}
 use Rattle.vx_fn_wire.specs.Session.{scalars_meaning}
 use Rattle.vx_fn_wire.specs.contracts.expression_reading.expression_in.{dyn-1-ghosts}
@@ -35,7 +35,7 @@ returns-in_err-expression_in-clause-cause g t c =
     let registry = scalars_meaning (λ b. ((dyn-1-ghosts g.dyn-1).0.entry b.vtable).1.scalar_of b.value) c.args.session.now in
     let v = value_view c.args.slots.now in
     let e = c.in_err-expression_in.field-0.0 in
-    at_error c.from_residual.result p.0 e (λ x. (x ≡ OutOfMemory) ⊎ IsUnreadExpr registry c.args.unknown x v) p.1 p.2
+    at_error c.from_residual.result p.0 e (λ x. (x ≡ OutOfMemory) ⊎ RefusesReadingExpr registry c.args.unknown x v) p.1 p.2
     (child_unread registry c.args.unknown e v c.entries_at-element-items.result.now c.loop-element.element-index c.loop-element-item.result (value_view c.in-Some.child.now) c.requires c.entries_at-element-items.ensures
     c.loop-element-test.true c.loop-element-item.is c.in-Some.ensures c.in_err-expression_in.ensures.cause)
 

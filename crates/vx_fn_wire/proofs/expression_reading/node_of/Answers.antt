@@ -2,7 +2,7 @@ use Rattle.std.proofs.Common.{◌⊎◌, IfOk, inr, ◌≡◌, true, false, leng
 use Rattle.std.proofs.lemmas.Result.{err_from_is_err_and}
 use Rattle.vx_fn_wire.specs.Arity.{Admits}
 use Rattle.vx_fn_wire.specs.Seen.{expr}
-use Rattle.vx_fn_wire.specs.ReadsExpr.{IsNoHead}
+use Rattle.vx_fn_wire.specs.ReadsExpr.{RefusesCall}
 use Rattle.vx_fn_wire.specs.Session.{scalars_meaning}
 use Rattle.vx_fn_wire.specs.contracts.expression_reading.node_of.{dyn-1-ghosts}
 use Rattle.vx_fn_wire.specs.declared.arity.Arity.{Arity}
@@ -19,7 +19,7 @@ returns-in_err-function-clause-cause g c =
     let p = err_from_is_err_and c.from_residual-in_err-function.result c.from_residual-in_err-function.ensures.1 in
     let registry = scalars_meaning (λ b. ((dyn-1-ghosts g.dyn-1).0.entry b.vtable).1.scalar_of b.value) c.args.session.now in
     let n = length c.args.children in
-    at_error c.from_residual-in_err-function.result p.0 c.in_err-function.field-0.0 (λ e. (e ≡ OutOfMemory) ⊎ IsNoHead registry c.args.unknown e c.args.id.now c.args.metadata.now n) p.1 p.2
+    at_error c.from_residual-in_err-function.result p.0 c.in_err-function.field-0.0 (λ e. (e ≡ OutOfMemory) ⊎ RefusesCall registry c.args.unknown e c.args.id.now c.args.metadata.now n) p.1 p.2
     (no_function registry c.args.unknown c.in_err-function.field-0.0 c.args.id.now c.in_ok-id.id c.args.metadata.now n named c.if-eq.ensures c.in_err-function.ensures.cause)
 
 pub returns-then-not-admits-clause-cause : goal.returns-then-not-admits-clause-cause

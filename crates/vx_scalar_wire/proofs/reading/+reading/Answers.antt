@@ -18,7 +18,7 @@ use Rattle.vx_scalar_wire.specs.Reading.{ReadsParts, EachReads, ReadsBy}
 use Rattle.vx_scalar_wire.specs.ScalarMessage.{scalar_lists}
 use Rattle.vx_scalar_wire.proofs.Gathered.{further, done, each_more, fields_more, types_all, tuple_parts, row_parts, scalar_read, variant_read, union_read}
 use Rattle.vx_scalar_wire.proofs.Held.{message_name, no_message, no_tag, element, held_form, list_is, message_held, scalar_parts, union_parts}
-use Rattle.vx_scalar_wire.specs.Refusing.{IsAt, IsFieldAt, IsRefusedMessage, IsRefusedScalar, IsPartType}
+use Rattle.vx_scalar_wire.specs.Refusing.{IsAt, IsFieldAt, RefusesReadingValue, RefusesReadingScalar, IsPartType}
 use Rattle.vx_scalar_wire.proofs.Refused.{large_tag, other_count, refused_type, unfit_scalar, unfit_value, unknown_tag, element_at, field_at, refused_element, refused_member, refused_value, refused_variant}
 use Rattle.vx_scalar_wire.proofs.reading.+reading.Goals as goal
 
@@ -208,7 +208,7 @@ pub variant_value-returns-in_err-scalar : goal.variant_value-returns-in_err-scal
 variant_value-returns-in_err-scalar g t c = record {
   read = λ s k.
       let v = subst (λ (d : Typ). IsVariant d) c.bare_dtype.ensures (subst (λ (d : DType). IsVariant (typ d)) (sym c.in-Variant.is) tt) in
-      let h : IsRefusedMessage c.in_err-scalar.field-0.0 s (2 * c.args.left + 2) (typ c.args.dtype.now) (lone_member 12 (message (slots_of (value_view c.args.slots.now)))) =
+      let h : RefusesReadingValue c.in_err-scalar.field-0.0 s (2 * c.args.left + 2) (typ c.args.dtype.now) (lone_member 12 (message (slots_of (value_view c.args.slots.now)))) =
       refused_variant c.in_err-scalar.field-0.0 s (2 * c.args.left) (typ c.args.dtype.now) (value_view c.args.slots.now) v (c.in_err-scalar.ensures.read s k) in
       search rules;
 }
@@ -275,7 +275,7 @@ union_value-returns-in_err-dtype g t c = record {
   read = λ s k.
       let u = c.in-Union.variants in
       let stored : bare (typ c.args.dtype.now) ≡ node (K.union u.names u.ids c.in-Union.field-1) (roses_of u.types) = sym c.bare_dtype.ensures ∙ ap typ c.in-Union.is in
-      let h : IsRefusedMessage c.in_err-dtype.field-0.0 s (2 * c.args.left + 2) (typ c.args.dtype.now) (lone_member 11 (message (slots_of (value_view c.args.slots.now)))) =
+      let h : RefusesReadingValue c.in_err-dtype.field-0.0 s (2 * c.args.left + 2) (typ c.args.dtype.now) (lone_member 11 (message (slots_of (value_view c.args.slots.now)))) =
       unknown_tag c.in_err-dtype.field-0.0 s (2 * c.args.left + 2) (typ c.args.dtype.now) (value_view c.args.slots.now) c.in-Some.number u.names u.ids c.in-Union.field-1 (roses_of u.types) stored
       c.in-Some.ensures c.in_err-dtype.ensures.none in
       search rules;
@@ -289,7 +289,7 @@ union_value-returns-in_err-value g t c = record {
       let l : Value = value_view c.args.slots.now in
       let w : Value = value_view c.in-Some-message_at.message.now in
       let p = union_parts l w c.in-Some.number c.requires.form c.in-Some.ensures c.in-Some-message_at.ensures in
-      let h : IsRefusedMessage c.in_err-value.field-0.0 s (2 * c.args.left + 2) (typ c.args.dtype.now) (lone_member 11 (message (slots_of l))) =
+      let h : RefusesReadingValue c.in_err-value.field-0.0 s (2 * c.args.left + 2) (typ c.args.dtype.now) (lone_member 11 (message (slots_of l))) =
       refused_member c.in_err-value.field-0.0 s (2 * c.args.left) (typ c.args.dtype.now) (typ c.in_ok-dtype.dtype.now) l w c.in-Some.number u.names u.ids c.in-Union.field-1 (roses_of u.types) stored
       c.in_ok-dtype.ensures.found p.0 (c.in_err-value.ensures.read s k) in
       search rules;
@@ -315,7 +315,7 @@ scalar_in-returns-in_err-dtype g t c = record {
   read = λ s k.
       let l : Value = value_view c.args.slots.now in
       let d : Value = value_view c.in-Some.type_slots.now in
-      let h : IsRefusedScalar c.in_err-dtype.field-0.0 s (2 * c.args.left) l = refused_type c.in_err-dtype.field-0.0 s (2 * c.args.left) l d c.in-Some.ensures (c.in_err-dtype.ensures.cause s k) in
+      let h : RefusesReadingScalar c.in_err-dtype.field-0.0 s (2 * c.args.left) l = refused_type c.in_err-dtype.field-0.0 s (2 * c.args.left) l d c.in-Some.ensures (c.in_err-dtype.ensures.cause s k) in
       search rules;
 }
 
@@ -326,7 +326,7 @@ scalar_in-returns-in_err-value g t c = record {
       let d : Value = value_view c.in-Some.type_slots.now in
       let w : Value = value_view c.in-Some-message_at.value_slots.now in
       let p = scalar_parts l d w c.requires.form c.in-Some.ensures c.in-Some-message_at.ensures in
-      let h : IsRefusedScalar c.in_err-value.field-0.0 s (2 * c.args.left) l =
+      let h : RefusesReadingScalar c.in_err-value.field-0.0 s (2 * c.args.left) l =
       refused_value c.in_err-value.field-0.0 s (2 * c.args.left) l d w (typ c.in_ok-dtype.dtype) p.0 (k d (Ok c.in_ok-dtype.dtype) c.in_ok-dtype.ensures.read) (c.in_err-value.ensures.read s k) in
       search rules;
 }

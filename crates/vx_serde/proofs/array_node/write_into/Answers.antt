@@ -1,7 +1,7 @@
 use Rattle.std.proofs.Common.{◌≡◌, ◌∙◌, ◌<◌, ◌++◌, [], length, arith, subst, inl, inr}
 use Rattle.std.specs.Prelude.{◌⊎◌}
 use Rattle.std.proofs.lemmas.Result.{err_from_is_err_and}
-use Rattle.vx_flat.specs.Building.{IsStopped}
+use Rattle.vx_flat.specs.Building.{RefusesPieces}
 use Rattle.vx_flat.proofs.LawsOfBuilding.{keeps-stopped}
 use Rattle.vx_wire_tree.specs.Wire.{buffers_in}
 use Rattle.vx_wire_tree.specs.Written.{wire}
@@ -59,7 +59,7 @@ returns-in_err-write_node-clause-kept c = λ s q.
     let e = c.in_err-write_node.field-0.0 in
     rw p.1
     (keeps-stopped c.args.builder.now c.write_node.new.builder (array_pieces s c.args.array.now c.args.ctx.now) e
-    (subst (λ z. IsStopped c.args.builder.now z e c.write_node.new.builder) same (c.in_err-write_node.ensures.stopped s)))
+    (subst (λ z. RefusesPieces c.args.builder.now z e c.write_node.new.builder) same (c.in_err-write_node.ensures.stopped s)))
 
 pub returns-in_err-write_node-clause-builder : goal.returns-in_err-write_node-clause-builder
 returns-in_err-write_node-clause-builder c =
@@ -74,7 +74,7 @@ returns-in_err-write_node-clause-cause c = λ s q.
     let e = c.in_err-write_node.field-0.0 in
     rw (p.1, p.2)
     (blocks-refused s c.args.array.now c.args.ctx.now c.args.builder.now c.write_node.new.builder e
-    (subst (λ z. IsStopped c.args.builder.now z e c.write_node.new.builder) same (c.in_err-write_node.ensures.stopped s)))
+    (subst (λ z. RefusesPieces c.args.builder.now z e c.write_node.new.builder) same (c.in_err-write_node.ensures.stopped s)))
 
 pub returns-clause-written : goal.returns-clause-written
 returns-clause-written c = λ s q.

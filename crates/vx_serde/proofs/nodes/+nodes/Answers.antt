@@ -2,7 +2,7 @@ use Rattle.std.proofs.Common.{◌≡◌, ◌∙◌, ◌+◌, ◌-◌, ◌≤◌,
 use Rattle.std.proofs.lemmas.List.{take_all}
 use Rattle.std.proofs.lemmas.Result.{err_from_is_err_and}
 use Rattle.vx_flat.specs.declared.builder.piece.LinkKind.TheVariants as link
-use Rattle.vx_flat.specs.Building.{IsNext, IsStopped, IsRefused, with_piece, element_links}
+use Rattle.vx_flat.specs.Building.{IsNext, RefusesPieces, RefusesPiece, with_piece, element_links}
 use Rattle.vx_flat.specs.Pieces.{elements_piece, links_piece}
 use Rattle.vx_trees.specs.Rose.{label, below, roses_of, roses_list}
 use Rattle.vx_trees.specs.Walks as walk
@@ -187,7 +187,7 @@ write_node-returns-in_err-node-clause-stopped t c = λ s.
     let whole = node-is s a (roses_list (below a)) (roses_of-roses_list (below a)) c.args.encodings.now c.args.passed.now.nodes c.args.passed.now.buffers c.node_parts.new.passed.nodes c.node_parts.new.passed.buffers v c.in_ok-parts.parts.metadata c.in_ok-parts.parts.buffers.items
     c.in_ok-parts.ensures.encoding c.in_ok-parts.ensures.metadata c.in_ok-parts.ensures.numbers c.in_ok-parts.ensures.nodes c.in_ok-parts.ensures.buffers in
     rw (p.1, p.2)
-    (subst (λ z. IsStopped old z c.in_err-node.field-0.0 c.table.new.self) whole
+    (subst (λ z. RefusesPieces old z c.in_err-node.field-0.0 c.table.new.self) whole
     (refused old c.table.new.self (node_piece v) _ _ c.in_err-node.field-0.0 (entry_is c.encoding_entry.result v c.encoding_entry.ensures) c.in_err-node.ensures.refused))
 
 pub write_node-returns-in_err-write_elements-clause-stopped : goal.write_node-returns-in_err-write_elements-clause-stopped
@@ -382,8 +382,8 @@ write_nodes-returns-in_err-vector-clause-stopped t c = λ s.
     let first = c.args.passed.now.buffers in
     let p = links_piece link.Table (length ts) in
     rw (q.1, q.2)
-    (subst (λ z. IsStopped old z c.in_err-vector.field-0.0 c.vector.new.self) (children-whole s ts es k first)
-    (refused old c.vector.new.self p p (rows_of es k first (wired s ts)) c.in_err-vector.field-0.0 refl (subst (λ n. IsRefused old (links_piece link.Table n) c.in_err-vector.field-0.0 c.vector.new.self) c.len.ensures c.in_err-vector.ensures.refused)))
+    (subst (λ z. RefusesPieces old z c.in_err-vector.field-0.0 c.vector.new.self) (children-whole s ts es k first)
+    (refused old c.vector.new.self p p (rows_of es k first (wired s ts)) c.in_err-vector.field-0.0 refl (subst (λ n. RefusesPiece old (links_piece link.Table n) c.in_err-vector.field-0.0 c.vector.new.self) c.len.ensures c.in_err-vector.ensures.refused)))
 
 pub write_nodes-returns-in_err-write_node-clause-stopped : goal.write_nodes-returns-in_err-write_node-clause-stopped
 write_nodes-returns-in_err-write_node-clause-stopped t c = λ s.

@@ -1,6 +1,6 @@
 use Rattle.std.proofs.Common.{[], ◌∷◌, ◌++◌, refl, sym, subst, arith}
 use Rattle.std.proofs.lemmas.Result.{err_from_is_err_and}
-use Rattle.vx_flat.specs.Building.{IsNext, IsStopped}
+use Rattle.vx_flat.specs.Building.{IsNext, RefusesPieces}
 use Rattle.vx_flat.specs.Pieces.{elements_piece, pieces}
 use Rattle.vx_wire_tree.specs.Written.{wire}
 use Rattle.vx_encodings.specs.Messages.{codec}
@@ -85,7 +85,7 @@ returns-in_err-root-clause-stopped c = λ s.
     let ds = c.args.descriptors.now in
     let old = c.args.builder.now in
     rw (p.1, p.2)
-    (subst (λ z. IsStopped old z c.in_err-root.field-0.0 c.table.new.self) (message-blocks es (wire codec s a) ds)
+    (subst (λ z. RefusesPieces old z c.in_err-root.field-0.0 c.table.new.self) (message-blocks es (wire codec s a) ds)
     (refused old c.table.new.self message_piece message_piece (node_pieces es 0 0 (wire codec s a) ++ (elements_piece 8 ds ∷ [])) c.in_err-root.field-0.0 refl c.in_err-root.ensures.refused))
 
 pub returns-in_err-write_node-clause-stopped : goal.returns-in_err-write_node-clause-stopped

@@ -1,7 +1,7 @@
 use Rattle.std.proofs.Common.{◌≡◌, ◌∙◌, ◌<◌, ◌^◌, length, sym, subst, arith}
 use Rattle.std.proofs.lemmas.Result.{err_from_is_err_and}
 use Rattle.vx_flat.specs.declared.builder.piece.LinkKind.TheVariants as link
-use Rattle.vx_flat.specs.Building.{Takes, IsStopped, nothing_built}
+use Rattle.vx_flat.specs.Building.{Takes, RefusesPieces, nothing_built}
 use Rattle.vx_flat.specs.Pieces.{pieces}
 use Rattle.vx_flat.specs.Limits.{limits_to, IsLight}
 use Rattle.vx_flat.specs.Weight as weigh
@@ -42,7 +42,7 @@ returns-in_err-write_blocks-clause-refused c = λ s.
     let e = c.in_err-write_blocks.field-0.0 in
     rw (p.1, p.2)
     (blocks-refused es w ds (c.requires.of_kind s) (limits_to c.args.deep) e c.write_blocks.new.builder
-    (subst (λ z. IsStopped z (pieces array_schema (message_by es w ds)) e c.write_blocks.new.builder) c.with_room-builder.ensures (c.in_err-write_blocks.ensures.stopped s)))
+    (subst (λ z. RefusesPieces z (pieces array_schema (message_by es w ds)) e c.write_blocks.new.builder) c.with_room-builder.ensures (c.in_err-write_blocks.ensures.stopped s)))
 
 pub finish-requires-clause-written : goal.finish-requires-clause-written
 finish-requires-clause-written c =

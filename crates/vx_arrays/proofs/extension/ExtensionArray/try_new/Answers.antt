@@ -2,7 +2,7 @@
 use Rattle.std.proofs.Common.{◌≡◌, IfOk, IfErr, subst}
 use Rattle.vx_array_tree.specs.Sound.{IsSound}
 use Rattle.vx_array_tree.specs.Tree.{Tree}
-use Rattle.vx_arrays.specs.Refused.{IsUnmade, IsOkOrMemory}
+use Rattle.vx_arrays.specs.Refused.{RefusesMaking, IsOkOrMemory}
 use Rattle.vx_arrays.proofs.Stored.{tree_is}
 use Rattle.vx_arrays.proofs.extension.ExtensionArray.try_new.Goals as goal
 use Rattle.vx_trees.proofs.LawsOfRoses.{only_pushed}
@@ -14,7 +14,7 @@ returns-clause-ok c =
 
 pub returns-clause-err : goal.returns-clause-err
 returns-clause-err c =
-    subst (λ (t : Tree). IfErr c.of_children.result (λ e. IsUnmade e t)) (tree_is c.args.ext c.args.storage c.len-len.result c.push.new.self c.len-len.ensures.len (only_pushed c.new-children.result c.push.new.self c.args.storage c.new-children.ensures c.in_ok-push.ensures.ok))
+    subst (λ (t : Tree). IfErr c.of_children.result (λ e. RefusesMaking e t)) (tree_is c.args.ext c.args.storage c.len-len.result c.push.new.self c.len-len.ensures.len (only_pushed c.new-children.result c.push.new.self c.args.storage c.new-children.ensures c.in_ok-push.ensures.ok))
     c.of_children.ensures.err
 
 pub returns-clause-complete : goal.returns-clause-complete

@@ -1,6 +1,6 @@
 use Rattle.std.proofs.Common.{◌≡◌, ◌⊎◌}
 use Rattle.std.proofs.lemmas.Result.{err_from_is_err_and}
-use Rattle.vx_fn_wire.specs.ReadsExpr.{IsUnreadExprBytes}
+use Rattle.vx_fn_wire.specs.ReadsExpr.{RefusesReadingExprBytes}
 use Rattle.vx_fn_wire.specs.Refusals.{refusal_of_proto}
 use Rattle.vx_fn_wire.specs.Session.{scalars_meaning}
 use Rattle.vx_fn_wire.specs.declared.error.FnWireError.TheVariants.{OutOfMemory}
@@ -14,7 +14,7 @@ returns-in_err-message-clause-cause g c =
     let registry = scalars_meaning (λ z. (g.dyn-1.0.entry z.vtable).1.scalar_of z.value) c.args.session.now.scalars in
     let unknown = c.args.session.now.unknown in
     let error = c.in_err-message.field-0.0 in
-    at_error c.from_residual.result p.0 (refusal_of_proto error) (λ e. (e ≡ OutOfMemory) ⊎ IsUnreadExprBytes registry unknown e c.args.bytes.now) p.1 p.2
+    at_error c.from_residual.result p.0 (refusal_of_proto error) (λ e. (e ≡ OutOfMemory) ⊎ RefusesReadingExprBytes registry unknown e c.args.bytes.now) p.1 p.2
     (bytes_unread registry unknown c.args.bytes.now error c.in_err-message.ensures.cause)
 
 pub returns-clause-complete : goal.returns-clause-complete

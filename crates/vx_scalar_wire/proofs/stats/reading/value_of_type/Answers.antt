@@ -3,7 +3,7 @@ use Rattle.std.proofs.Common.{◌≡◌, refl}
 use Rattle.std.proofs.lemmas.Result.{err_from_is_err_and}
 use Rattle.vx_type_wire.specs.Known.{no_readers}
 use Rattle.vx_types.specs.Seen.{typ}
-use Rattle.vx_scalar_wire.specs.StatsUnread.{IsRefusedStat}
+use Rattle.vx_scalar_wire.specs.StatsUnread.{RefusesStatBytes}
 use Rattle.vx_scalar_wire.specs.declared.error.ScalarWireError.TheVariants.{OutOfMemory}
 use Rattle.vx_trees.proofs.LawsOfResults.{at_error}
 use Rattle.vx_scalar_wire.proofs.StatsValues.{read_some, value_told, bytes_refused, told_read, told_fits}
@@ -15,7 +15,7 @@ returns-in_err-value-clause-cause c =
     let q = err_from_is_err_and r c.from_residual.ensures.1 in
     let e = c.in_err-value.field-0.0 in
     let d = typ c.args.dtype.now in
-    at_error r q.0 e (λ z. IsRefusedStat z d c.args.bytes.now) q.1 q.2 (bytes_refused _ e d c.args.bytes.now c.new-readers.ensures c.in_err-value.ensures.cause)
+    at_error r q.0 e (λ z. RefusesStatBytes z d c.args.bytes.now) q.1 q.2 (bytes_refused _ e d c.args.bytes.now c.new-readers.ensures c.in_err-value.ensures.cause)
 
 pub returns-in_err-value-clause-complete : goal.returns-in_err-value-clause-complete
 returns-in_err-value-clause-complete c = λ h.

@@ -1,6 +1,6 @@
 use Rattle.std.proofs.Common.{◌∙◌, ◌++◌, ◌∷◌, ℕ, List, Some, ap, sym}
 use Rattle.std.proofs.lemmas.Result.{err_from_is_err_and}
-use Rattle.vx_flat.specs.Building.{Built, IsPartWay, Link, IsStopped}
+use Rattle.vx_flat.specs.Building.{Built, IsPartWay, Link, RefusesPieces}
 use Rattle.vx_flat.specs.Pieces.{Piece}
 use Rattle.vx_scalar_wire.specs.StatsBlocks.{vector_pieces, vector_links}
 use Rattle.vx_trees.proofs.LawsOfResults.{at_error}
@@ -24,6 +24,6 @@ returns-in_err-vector-clause-stopped c =
     let is = c.in-Some.is ∙ ap (λ (x : List ℕ). Some x) (sym c.as_slice.ensures) in
     at_error r q.0 e
     (λ z. (b : Built) (p : Piece) (ls : List Link) (ps rest : List Piece) → IsPartWay b p (vector_links c.args.table c.args.index o ++ ls) ps c.args.builder.now
-    → IsStopped b ((p ∷ ps) ++ (vector_pieces o ++ rest)) z c.vector.new.self)
+    → RefusesPieces b ((p ∷ ps) ++ (vector_pieces o ++ rest)) z c.vector.new.self)
     q.1 q.2
     (λ b p ls ps rest h. went_wrong c.args.table c.args.index o c.as_slice.result.now c.args.builder.now c.link.new.self c.vector.new.self e is c.link.ensures.waits c.in_err-vector.ensures.refused b p ls ps rest h)

@@ -1,6 +1,6 @@
 use Rattle.std.proofs.Common.{[], ◌++◌}
 use Rattle.std.proofs.lemmas.Result.{err_from_is_err_and}
-use Rattle.vx_flat.specs.Building.{IsStopped}
+use Rattle.vx_flat.specs.Building.{RefusesPieces}
 use Rattle.vx_scalar_wire.specs.StatsBlocks.{vector_pieces}
 use Rattle.vx_scalar_wire.specs.StatsTable.{stats_pieces}
 use Rattle.vx_trees.proofs.LawsOfResults.{at_error}
@@ -16,7 +16,7 @@ returns-in_err-table-clause-stopped c =
     let q = err_from_is_err_and r c.from_residual.ensures.1 in
     let e = c.in_err-table.field-0.0 in
     let old = c.args.builder.now in
-    at_error r q.0 e (λ z. IsStopped old (stats_pieces c.args.stats.now) z c.table.new.self) q.1 q.2
+    at_error r q.0 e (λ z. RefusesPieces old (stats_pieces c.args.stats.now) z c.table.new.self) q.1 q.2
     (refused_first c.args.stats.now c.args.stored.now c.entries_of.result old c.table.new.self e c.requires.stored c.entries_of.ensures.entries c.in_err-table.ensures.refused)
 
 pub write_bytes-requires : goal.write_bytes-requires
@@ -42,7 +42,7 @@ returns-in_err-write_bytes-clause-stopped c =
     let n = c.in_ok-table.table in
     let old = c.args.builder.now in
     let first = at_first t x c.entries_of.result n old c.table.new.self c.entries_of.ensures.entries c.in_ok-table.ensures.number c.in_ok-table.ensures.written in
-    at_error r q.0 e (λ z. IsStopped old (stats_pieces t) z c.write_bytes.new.builder) q.1 q.2
+    at_error r q.0 e (λ z. RefusesPieces old (stats_pieces t) z c.write_bytes.new.builder) q.1 q.2
     (stopped_early t x old c.write_bytes.new.builder e c.requires.stored
     (c.in_err-write_bytes.ensures.stopped old (head t x) (later_links n x) [] (vector_pieces x.greatest ++ (vector_pieces x.sum ++ [])) first))
 
@@ -72,7 +72,7 @@ returns-in_err-write_bytes-2-clause-stopped c =
     let old = c.args.builder.now in
     let first = at_first t x c.entries_of.result n old c.table.new.self c.entries_of.ensures.entries c.in_ok-table.ensures.number c.in_ok-table.ensures.written in
     let second = c.in_ok-write_bytes.ensures.written old (head t x) (later_links n x) [] first in
-    at_error r q.0 e (λ z. IsStopped old (stats_pieces t) z c.write_bytes-2.new.builder) q.1 q.2
+    at_error r q.0 e (λ z. RefusesPieces old (stats_pieces t) z c.write_bytes-2.new.builder) q.1 q.2
     (stopped_early t x old c.write_bytes-2.new.builder e c.requires.stored
     (c.in_err-write_bytes-2.ensures.stopped old (head t x) (last_links n x) (vector_pieces x.least) (vector_pieces x.sum ++ []) second))
 
@@ -104,7 +104,7 @@ returns-in_err-write_bytes-3-clause-stopped c =
     let first = at_first t x c.entries_of.result n old c.table.new.self c.entries_of.ensures.entries c.in_ok-table.ensures.number c.in_ok-table.ensures.written in
     let second = c.in_ok-write_bytes.ensures.written old (head t x) (later_links n x) [] first in
     let third = c.in_ok-write_bytes-2.ensures.written old (head t x) (last_links n x) (vector_pieces x.least) second in
-    at_error r q.0 e (λ z. IsStopped old (stats_pieces t) z c.write_bytes-3.new.builder) q.1 q.2
+    at_error r q.0 e (λ z. RefusesPieces old (stats_pieces t) z c.write_bytes-3.new.builder) q.1 q.2
     (stopped_late t x old c.write_bytes-3.new.builder e c.requires.stored
     (c.in_err-write_bytes-3.ensures.stopped old (head t x) [] (vector_pieces x.least ++ vector_pieces x.greatest) [] third))
 

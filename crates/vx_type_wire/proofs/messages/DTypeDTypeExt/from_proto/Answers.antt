@@ -8,7 +8,7 @@ use Rattle.vx_type_wire.specs.declared.error.TypeWireError.TheVariants.{OutOfMem
 use Rattle.vx_type_wire.specs.Known.{IsKnown}
 use Rattle.vx_type_wire.specs.MessageReading.{type_in}
 use Rattle.vx_type_wire.specs.Session.{ext_meaning}
-use Rattle.vx_type_wire.specs.TypeMessage.{IsUnreadValue}
+use Rattle.vx_type_wire.specs.TypeMessage.{RefusesReadingType}
 use Rattle.vx_type_wire.proofs.OneType.{known_or}
 use Rattle.vx_type_wire.proofs.MessageFound.{no_default, reads_message, shows_message, only_memory, unread_value, unknown_value, the_type}
 use Rattle.vx_type_wire.proofs.messages.DTypeDTypeExt.from_proto.Goals as goal
@@ -24,7 +24,7 @@ returns-in_err-found-clause-cause g c =
     let p = err_from_is_err_and c.from_residual.result c.from_residual.ensures.1 in
     let s = ext_meaning (λ b. (goal.ExtPlugin-dyn g (b.vtable, b.value)).accepted b.value) c.args.readers.now in
     let e = c.in_err-found.field-0.0 in
-    at_error c.from_residual.result p.0 e (λ x. IsUnreadValue x s c.args.message.now) p.1 p.2
+    at_error c.from_residual.result p.0 e (λ x. RefusesReadingType x s c.args.message.now) p.1 p.2
     (unread_value e s c.args.message.now (value_view c.in-Some.slots.now) c.in-Some.ensures.value c.in_err-found.ensures)
 
 pub returns-in_err-found-clause-complete : goal.returns-in_err-found-clause-complete
@@ -41,7 +41,7 @@ returns-in_err-judge-clause-cause g c =
     let e = c.in_err-judge.field-0.0 in
     let m = c.args.message.now in
     let t = typ c.in_ok-found.found in
-    at_error c.from_residual-in_err-judge.result p.0 e (λ x. IsUnreadValue x s m) p.1 p.2
+    at_error c.from_residual-in_err-judge.result p.0 e (λ x. RefusesReadingType x s m) p.1 p.2
     (unknown_value e s m t (shows_message m (value_view c.in-Some.slots.now) t c.in-Some.ensures.form c.in-Some.ensures.value c.in_ok-found.ensures c.in_err-judge.ensures.is_type) c.in_err-judge.ensures.cause)
 
 pub returns-in_err-judge-clause-complete : goal.returns-in_err-judge-clause-complete
