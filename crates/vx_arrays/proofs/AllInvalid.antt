@@ -15,8 +15,8 @@ use Rattle.vx_arrays.specs.Bools.{bool_tree}
 use Rattle.vx_arrays.specs.Refused.{IsOkOrMemory}
 use Rattle.vx_arrays.specs.Validity.{all_invalid}
 use Rattle.vx_arrays.proofs.Controlled.{bare_controlled}
-use Rattle.vx_arrays.specs.declared.error.ArrayError.{ArrayError}
-use Rattle.vx_arrays.specs.declared.error.ArrayError.TheVariants.{OutOfMemory, BadShape, BadContent, ForeignControl, ValueTooLarge, BadCast}
+use Rattle.vx_rows.specs.declared.error.ArrayError.{ArrayError}
+use Rattle.vx_rows.specs.declared.error.ArrayError.TheVariants.{OutOfMemory, BadShape, BadContent, ForeignControl, ValueTooLarge, BadCast}
 
 no_bit : (k i : ℕ) → i / 8 < k → bit_at (replicate k 0) i ≡ false
 no_bit k i h = rw (get_or-replicate {A = ℕ} k (i / 8) 0 0 h, zero-div (2 ^ (i % 8))) refl

@@ -10,7 +10,7 @@ use Rattle.vx_arrays.specs.Plain.{plain_body}
 use Rattle.vx_arrays.specs.Slots.{bracketed, buffer_names, slot_names}
 use Rattle.vx_arrays.specs.declared.body.Body.{Body as Declared}
 use Rattle.vx_arrays.specs.declared.body.Body.TheVariants.{Foreign}
-use Rattle.vx_arrays.specs.declared.error.ArrayError.{ArrayError}
+use Rattle.vx_rows.specs.declared.error.ArrayError.{ArrayError}
 
 -- There are so many.
 length-bracketed : (word : List ℕ) (i k : ℕ) → length (bracketed word i k) ≡ k

@@ -35,7 +35,7 @@ use Rattle.vx_arrays.specs.Dicts.{AreDictChildren, IsOfCodes, dict_head}
 use Rattle.vx_arrays.specs.Plain.{plain_head}
 use Rattle.vx_arrays.specs.declared.body.Body.{Body}
 use Rattle.vx_arrays.specs.declared.body.Body.TheVariants.{Dict}
-use Rattle.vx_arrays.specs.declared.error.ArrayError.{ArrayError}
+use Rattle.vx_rows.specs.declared.error.ArrayError.{ArrayError}
 use Rattle.vx_arrays.proofs.Untold.{untold_node}
 
 -- ---- types

@@ -4,8 +4,8 @@ use Rattle.vx_array_tree.specs.Sound.{IsSound}
 use Rattle.vx_array_tree.specs.Tree.{Head, Trees}
 use Rattle.vx_array_tree.proofs.Built.{sound_well_shaped}
 use Rattle.vx_arrays.specs.Refused.{IsMemory, RefusesMaking}
-use Rattle.vx_arrays.specs.declared.error.ArrayError.{ArrayError}
-use Rattle.vx_arrays.specs.declared.error.ArrayError.TheVariants.{OutOfMemory, BadShape, BadContent, ForeignControl, ValueTooLarge, BadCast}
+use Rattle.vx_rows.specs.declared.error.ArrayError.{ArrayError}
+use Rattle.vx_rows.specs.declared.error.ArrayError.TheVariants.{OutOfMemory, BadShape, BadContent, ForeignControl, ValueTooLarge, BadCast}
 
 pub unmade_unsound : (e : ArrayError) (h : Head) (ts : Trees) → RefusesMaking e (node h ts) → IsSound (node h ts) → IsMemory e
 unmade_unsound OutOfMemory h ts u s = tt

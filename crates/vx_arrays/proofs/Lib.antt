@@ -19,7 +19,6 @@ mod VarBinViewBodies
 mod ListViewBodies
 mod ForeignBodies
 pub mod LawsSame
-mod SameRows
 mod Firsts
 mod Counted
 mod Sized
@@ -38,7 +37,5 @@ mod Mapped
 mod Controlled
 mod Bracketed
 mod Shredded
-mod Merged
-mod Fieldwise
-mod Scalared
+mod MergedRows
 mod VariantNodes

@@ -8,7 +8,7 @@ use Rattle.vx_array_tree.specs.Sound.{IsControlled, IsSound, IsSoundNode}
 use Rattle.vx_array_tree.specs.Table.{Content}
 use Rattle.vx_array_tree.specs.Tree.{Head, Tree, Trees, rows_below}
 use Rattle.vx_arrays.specs.Refused.{RefusesMaking, IsOkOrMemory}
-use Rattle.vx_arrays.specs.declared.error.ArrayError.{ArrayError}
+use Rattle.vx_rows.specs.declared.error.ArrayError.{ArrayError}
 
 module _ (g h : Head) (ts us : Trees) (p : g ≡ h) (e : ts ≡ us) where
   same_node : node g ts ≡ node h us

@@ -14,8 +14,8 @@ use Rattle.vx_types.specs.Value.{flag_in}
 use Rattle.vx_array_tree.specs.Sound.{IsSound, IsSoundNode}
 use Rattle.vx_array_tree.specs.Tree.{Tree, Trees, row_at, valid_at}
 use Rattle.vx_arrays.specs.Plain.{plain_head}
-use Rattle.vx_arrays.specs.RowScalars.{IsVariantRow}
-use Rattle.vx_arrays.proofs.Scalared.{variant_row}
+use Rattle.vx_rows.specs.RowScalars.{IsVariantRow}
+use Rattle.vx_arrays.proofs.MergedRows.{variant_row}
 use Rattle.vx_arrays.proofs.Shredded.{node_variants}
 use Rattle.vx_arrays.proofs.Untold.{untold_node}
 

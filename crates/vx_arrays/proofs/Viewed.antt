@@ -1,10 +1,8 @@
 -- Texts and bytes by views: the names of their buffers, a row's view, and what tests say of them.
-use Rattle.std.proofs.Common.{ℕ, zero, suc, ◌≡◌, ◌≤◌, ◌<◌, ◌+◌, ◌-◌, ◌*◌, List, [], ◌∷◌, ◌++◌, Option, Some, None, length, take, drop, get_or, codes, slice_get, refl, sym, ap, subst, ◌∙◌, add-zero, zero-add, arith}
-use Rattle.std.proofs.lemmas.Option.{slice_get_past, slice_get_read}
+use Rattle.std.proofs.Common.{ℕ, zero, suc, ◌≡◌, ◌<◌, ◌+◌, ◌-◌, ◌*◌, List, [], ◌∷◌, ◌++◌, Some, None, length, take, drop, codes, slice_get, refl, sym, ap, ◌∙◌, add-zero, zero-add, arith}
 use Rattle.std.specs.Fmt.{decimal}
-use Rattle.std.specs.Int.{w32, from_le_bytes}
 use Rattle.vx_buffer.specs.Buffer.{Buffer}
-use Rattle.vx_array_tree.specs.Encodings.VarBinViews.{Data, viewed, bytes_at, found, long_view}
+use Rattle.vx_array_tree.specs.Encodings.VarBinViews.{Data, viewed, bytes_at}
 use Rattle.vx_arrays.specs.Slots.{numbered}
 
 -- ---- names
@@ -43,21 +41,3 @@ module _ (x : Data) (n i : ℕ) (e : n ≡ length x.buffers) where
 -- A row's view is its 16 bytes.
 pub row_view : (x : Data) (i : ℕ) (bs : List Buffer) (views : List ℕ) → bs ≡ x.buffers → views ≡ x.views.bytes → viewed bs (take (16 * i + 16 - 16 * i) (drop (16 * i) views)) ≡ bytes_at x i
 row_view x i bs views p q = let e : 16 * i + 16 - 16 * i ≡ 16 = omega arith in rw (e, p, q) refl
-
--- A long view tells bytes of the buffer that it names, where that is there.
-module _ (buffers : List Buffer) (size : ℕ) (view : List ℕ) (which : ℕ) (w : which ≡ from_le_bytes w32 (take 4 (drop 8 view))) where
-  told : (o : Option Buffer) (r : Option (List ℕ)) → slice_get buffers which ≡ o
-      → r ≡ elim o [ None ↦ None | Some b ↦ found size (take 4 (drop 4 view)) (from_le_bytes w32 (take 4 (drop 12 view))) b.bytes ] → r ≡ long_view buffers size view
-  told o r e h =
-      subst
-      (λ (k : ℕ). r ≡ elim (slice_get buffers k) [ None ↦ None | Some b ↦ found size (take 4 (drop 4 view)) (from_le_bytes w32 (take 4 (drop 12 view))) b.bytes ])
-      w
-      (subst (λ (x : Option Buffer). r ≡ elim x [ None ↦ None | Some b ↦ found size (take 4 (drop 4 view)) (from_le_bytes w32 (take 4 (drop 12 view))) b.bytes ]) (sym e) h)
-
-  pub long_none : length buffers ≤ which → None ≡ long_view buffers size view
-  long_none h = told None None (slice_get_past buffers which h) refl
-
-  pub long_some : (offset : ℕ) (b : Buffer) (bytes : List ℕ) (r : Option (List ℕ)) → offset ≡ from_le_bytes w32 (take 4 (drop 12 view)) → which < length buffers → b ≡ get_or buffers which b → bytes ≡ b.bytes
-      → r ≡ found size (take 4 (drop 4 view)) offset bytes → r ≡ long_view buffers size view
-  long_some offset b bytes r o l g e q =
-      told (Some b) r (slice_get_read buffers (length buffers) which b refl l g) (q ∙ (λ i. found size (take 4 (drop 4 view)) (o i) (e i)))

@@ -15,8 +15,6 @@ pub mod Maps
 pub mod Structs
 pub mod Unions
 pub mod Variants
-pub mod Merging
-pub mod RowScalars
 pub mod Foreigns
 pub mod Validity
 pub mod Slots
@@ -24,4 +22,3 @@ pub mod Refused
 pub mod Compared
 pub mod NewBuffers
 pub mod Parts
-pub mod Falling

@@ -13,8 +13,8 @@ use Rattle.vx_array_tree.specs.Encodings.Foreigns as Foreigns
 use Rattle.vx_array_tree.specs.Refused.{IsMisshaped, IsForeignControlled, HasBrokenContent}
 use Rattle.vx_array_tree.specs.Table.{bufferless}
 use Rattle.vx_array_tree.specs.Tree.{Tree}
-use Rattle.vx_arrays.specs.declared.error.ArrayError.{ArrayError}
-use Rattle.vx_arrays.specs.declared.error.ArrayError.TheVariants.{OutOfMemory, BadShape, BadContent, ForeignControl, ValueTooLarge, BadCast}
+use Rattle.vx_rows.specs.declared.error.ArrayError.{ArrayError}
+use Rattle.vx_rows.specs.declared.error.ArrayError.TheVariants.{OutOfMemory, BadShape, BadContent, ForeignControl, ValueTooLarge, BadCast}
 
 -- What a node holds with these buffers in the place of its own, and all else as it was: none, where its encoding has
 -- another number of buffers.

@@ -3,26 +3,13 @@ use Rattle.std.specs.Prelude.{ℕ, suc, ◌+◌, ◌^◌, ◌<◌, ◌≤◌}
 use Rattle.vx_trees.specs.Rose.{node, end, more, label, roses_of}
 use Rattle.vx_trees.specs.Walks.{nodes, nodes_of}
 use Rattle.vx_types.specs.Fits.{IsVariant}
-use Rattle.vx_types.specs.Value.{Value, Mark, lone, tuple, union, value_cells}
-use Rattle.vx_types.specs.Value as V
-use Rattle.vx_scalars.specs.Decimals.{decimal_of}
+use Rattle.vx_types.specs.Value.{Value, lone, tuple, union, value_cells}
 use Rattle.vx_array_tree.specs.Rows.{values_from, cells_from, values_at, cells_at}
 use Rattle.vx_array_tree.specs.Tree.{Trees, cells, row_at, rows_of, rows_below}
+use Rattle.vx_rows.specs.Lone.{lone_mark}
 use Rattle.vx_arrays.specs.Variants.{merged_cells, merged_row}
-use Rattle.vx_arrays.specs.declared.parts.LoneRow.{LoneRow}
-use Rattle.vx_arrays.specs.declared.parts.LoneRow.TheVariants as L
 use Rattle.vx_arrays.specs.declared.parts.RowParts.{RowParts}
 use Rattle.vx_arrays.specs.declared.parts.RowParts.TheVariants.{Lone, At, Run, Across, Tagged, Merged}
-
--- A row without rows below it, as the mark of its value.
-abbrev pub lone_mark : LoneRow → Mark
-lone_mark L.Null = V.null
-lone_mark L.Opaque = V.opaque
-lone_mark (L.Bool b) = V.bool b
-lone_mark (L.Primitive n) = V.number n
-lone_mark (L.Decimal x) = V.decimal (decimal_of x)
-lone_mark (L.Utf8 text) = V.utf8 text.now
-lone_mark (L.Binary bytes) = V.binary bytes.now
 
 -- The value of a row of these parts.
 abbrev pub parts_value : RowParts → Value

@@ -1,11 +1,12 @@
 -- When a call on arrays is refused.
-use Rattle.std.specs.Prelude.{ℕ, ◌<◌, Result, Ok, Err}
+use Rattle.std.specs.Prelude.{ℕ, Result, Ok, Err}
 use Rattle.vx_trees.specs.Rose.{label, below}
 use Rattle.vx_array_tree.specs.Refused.{IsMisshaped, IsForeignControlled, HasBrokenContent}
 use Rattle.vx_array_tree.specs.Rows.{Rows}
 use Rattle.vx_array_tree.specs.Tree.{Tree}
-use Rattle.vx_arrays.specs.declared.error.ArrayError.{ArrayError}
-use Rattle.vx_arrays.specs.declared.error.ArrayError.TheVariants.{OutOfMemory, BadShape, BadContent, ForeignControl, ValueTooLarge, BadCast}
+use Rattle.vx_rows.specs.Refused.{RefusesCells}
+use Rattle.vx_rows.specs.declared.error.ArrayError.{ArrayError}
+use Rattle.vx_rows.specs.declared.error.ArrayError.TheVariants.{OutOfMemory, BadShape, BadContent, ForeignControl, ValueTooLarge, BadCast}
 
 -- A constructor refuses the tree of its parts for want of memory, where its root is of another shape than its
 -- encoding asks for, where its root is of that shape and a foreign node stands where it says where rows are, or where
@@ -17,15 +18,6 @@ RefusesMaking BadContent t = HasBrokenContent (label t) (below t)
 RefusesMaking ForeignControl t = IsForeignControlled (label t) (below t)
 RefusesMaking ValueTooLarge t = ⊥
 RefusesMaking BadCast t = ⊥
-
--- A value of so many cells is refused for want of memory, or where they are more than there are to spend.
-abbrev pub RefusesCells : ArrayError → ℕ → ℕ → Type 0
-RefusesCells OutOfMemory cells budget = Unit {0}
-RefusesCells BadShape cells budget = ⊥
-RefusesCells BadContent cells budget = ⊥
-RefusesCells ForeignControl cells budget = ⊥
-RefusesCells ValueTooLarge cells budget = budget < cells
-RefusesCells BadCast cells budget = ⊥
 
 -- A row is refused as its value is.
 abbrev pub RefusesRow : ArrayError → Rows → ℕ → ℕ → Type 0

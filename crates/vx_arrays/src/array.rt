@@ -17,19 +17,18 @@ ghost use Rattle.vx_array_tree.specs.Tree.{Tree, rows_of, rows_below, row_at, va
 ghost use Rattle.vx_trees.specs.Walks.{nodes};
 ghost use Rattle.vx_arrays.specs.NewBuffers.{RefusesBuffers, with_buffers};
 ghost use Rattle.vx_arrays.specs.Parts.{AreThere, parts_cells, parts_nodes, parts_value};
-ghost use Rattle.vx_arrays.specs.Plain.{plain_body, plain_head, plain_value};
+ghost use Rattle.vx_rows.specs.Plain.{plain_value};
+ghost use Rattle.vx_arrays.specs.Plain.{plain_body, plain_head};
 ghost use Rattle.vx_arrays.specs.Refused.{RefusesRow, IsOkOrMemory};
 
 use crate::body::Body;
-use crate::error::ArrayError;
 use crate::extension::storage_in;
 use crate::fixed_size_list::FixedSizeListArray;
 use crate::lists::ListArray;
 use crate::map::entries_in;
 use crate::new_buffers::without_buffers;
 use crate::null::NullArray;
-use crate::parts::{LoneRow, RowParts, built};
-use crate::row::RowValue;
+use crate::parts::{RowParts, built};
 use crate::structs::StructArray;
 use crate::union::{UnionArray, tags_in};
 use crate::validity::validity_at;
@@ -37,6 +36,7 @@ use crate::variant::{VariantArray, core_in};
 use std::alloc::Global;
 use std::marker::Model;
 use vx_buffer::{BufferHandle, BufferHandles};
+use vx_rows::{ArrayError, LoneRow, RowValue};
 use vx_scalars::{ScalarError, StatsSet};
 use vx_types::DType;
 

@@ -7,7 +7,6 @@ ghost use Rattle.vx_arrays.specs.Compared.{compared_body};
 use crate::bool::{BoolArray, BoolData};
 use crate::decimal::{DecimalArray, DecimalData};
 use crate::dict::{DictArray, DictData};
-use crate::error::ArrayError;
 use crate::extension::ExtensionArray;
 use crate::fixed_size_list::FixedSizeListArray;
 use crate::foreign::ForeignData;
@@ -23,6 +22,7 @@ use crate::varbinview::{VarBinViewArray, VarBinViewData};
 use crate::variant::VariantArray;
 use std::alloc::Global;
 use vx_buffer::BufferHandle;
+use vx_rows::ArrayError;
 
 /// What a node's encoding holds beside its type, its rows and its children.
 pub enum Body {

@@ -14,18 +14,17 @@ ghost use Rattle.vx_array_tree.specs.Refused.{IsWellShaped};
 ghost use Rattle.vx_arrays.specs.Bools.{bool_tree};
 ghost use Rattle.vx_arrays.specs.Compared.{compared_body};
 ghost use Rattle.vx_arrays.specs.NewBuffers.{RefusesBuffers, with_buffers};
-ghost use Rattle.vx_arrays.specs.Parts.{lone_mark};
+ghost use Rattle.vx_rows.specs.Lone.{lone_mark};
 ghost use Rattle.vx_arrays.specs.Refused.{RefusesMaking, IsOkOrMemory};
 
 use crate::array::Array;
 use crate::body::Body;
-use crate::error::ArrayError;
 use crate::new_buffers::{copied_validity, only_buffer};
-use crate::parts::LoneRow;
 use crate::validity::{is_validity, over_validity, validity_at};
 use std::alloc::Global;
 use std::marker::Model;
 use vx_buffer::{BufferHandle, BufferHandles};
+use vx_rows::{ArrayError, LoneRow};
 use vx_types::{DType, Nullability};
 
 /// What a node of flags holds: bits, and how many of them stand before the first row's.

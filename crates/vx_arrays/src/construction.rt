@@ -15,7 +15,7 @@ ghost use Rattle.vx_arrays.specs.Refused.{RefusesMaking, IsOkOrMemory};
 use crate::array::Array;
 use crate::body::Body;
 use crate::control::is_controlled;
-use crate::error::ArrayError;
+use vx_rows::ArrayError;
 use vx_types::DType;
 
 // Why parts are refused that are of the shape of their encoding where `shaped` says so, and then, where it is known which

@@ -19,12 +19,12 @@ use crate::array::Array;
 use crate::body::Body;
 use crate::construction::over_children;
 use crate::control::is_controlled;
-use crate::error::ArrayError;
 use crate::list::Arrays;
-use crate::parts::{LoneRow, RowParts};
+use crate::parts::RowParts;
 use crate::validity::listed;
 use std::alloc::Global;
 use std::marker::Model;
+use vx_rows::{ArrayError, LoneRow};
 use vx_types::{DType, Nullability};
 
 /// What a node of a dictionary holds beside its codes and its values: a flag, which is kept as it is told.

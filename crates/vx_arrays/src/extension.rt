@@ -13,10 +13,10 @@ ghost use Rattle.vx_arrays.specs.Refused.{RefusesMaking, IsOkOrMemory};
 use crate::array::Array;
 use crate::body::Body;
 use crate::construction::over_children;
-use crate::error::ArrayError;
 use crate::list::Arrays;
 use crate::place::stands_at;
 use std::alloc::Global;
+use vx_rows::ArrayError;
 use vx_types::{DType, ExtDType};
 
 /// Arrays of extensions, by their storage.

@@ -19,10 +19,10 @@ ghost use Rattle.vx_arrays.specs.Refused.{RefusesMaking, IsOkOrMemory};
 use crate::array::Array;
 use crate::body::Body;
 use crate::construction::over_children;
-use crate::error::ArrayError;
 use crate::parts::{RowParts, where_there};
 use crate::validity::{is_validity, parted, validity_at, with_validity};
 use std::alloc::Global;
+use vx_rows::ArrayError;
 use vx_types::{DType, Nullability, TypeRef};
 
 /// Arrays of lists of one size, whose elements stand one row's after the other's.

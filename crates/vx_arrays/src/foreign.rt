@@ -15,15 +15,14 @@ ghost use Rattle.vx_arrays.specs.Refused.{IsOkOrMemory};
 
 use crate::array::Array;
 use crate::body::Body;
-use crate::error::ArrayError;
 use crate::list::Arrays;
 use crate::new_buffers::once_more;
-use crate::row::owned_bytes;
 use crate::varbinview::are_same;
 use std::alloc::Global;
 use std::fmt;
 use std::marker::Model;
 use vx_buffer::{BufferHandle, BufferHandles};
+use vx_rows::{ArrayError, owned_bytes};
 use vx_types::{Blob, DType, Id};
 
 /// An encoding that nothing reads: its identifier.

@@ -8,9 +8,9 @@ ghost use Rattle.vx_array_tree.specs.Sound.{IsSoundNode};
 ghost use Rattle.vx_array_tree.specs.Tree.{option_trees};
 
 use crate::array::Array;
-use crate::error::ArrayError;
 use std::alloc::Global;
 use std::marker::Model;
+use vx_rows::ArrayError;
 
 /// A list of arrays, as the children of a node.
 #[derive(Drop)]

@@ -21,7 +21,6 @@ use crate::array::Array;
 use crate::body::Body;
 use crate::construction::over_children;
 use crate::control::is_controlled;
-use crate::error::ArrayError;
 use crate::list::Arrays;
 use crate::lists::{element_type, list_type};
 use crate::offsets::{index_at, is_of_offsets};
@@ -29,6 +28,7 @@ use crate::parts::{RowParts, where_there};
 use crate::validity::{listed_by_three, parted, stands_behind, validity_at};
 use std::alloc::Global;
 use std::marker::Model;
+use vx_rows::ArrayError;
 use vx_types::{DType, Nullability};
 
 /// What a node of list views holds: whether its rows stand one after the other. That is kept as it is told, and never

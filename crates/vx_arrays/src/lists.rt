@@ -19,13 +19,13 @@ use crate::array::Array;
 use crate::body::Body;
 use crate::construction::over_children;
 use crate::control::is_controlled;
-use crate::error::ArrayError;
 use crate::list::Arrays;
 use crate::offsets::{are_counted, are_offsets, offset_at};
 use crate::parts::{RowParts, where_there};
 use crate::place::is_of_type;
 use crate::validity::{listed, parted, stands_behind, validity_at};
 use std::alloc::Global;
+use vx_rows::ArrayError;
 use vx_types::{DType, Nullability, TypeRef};
 
 /// Arrays of lists, whose elements stand one row's after the other's, parted by offsets.

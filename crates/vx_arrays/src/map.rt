@@ -17,9 +17,9 @@ ghost use Rattle.vx_arrays.specs.Refused.{RefusesMaking, IsOkOrMemory};
 use crate::array::Array;
 use crate::body::Body;
 use crate::construction::over_children;
-use crate::error::ArrayError;
 use crate::list::Arrays;
 use std::alloc::Global;
+use vx_rows::ArrayError;
 use vx_types::{DType, MapDType, Name, Nullability};
 
 /// Arrays of maps, by their entries.

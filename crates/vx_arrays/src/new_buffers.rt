@@ -15,9 +15,9 @@ ghost use Rattle.vx_arrays.specs.Refused.{IsOkOrMemory};
 
 use crate::array::Array;
 use crate::body::Body;
-use crate::error::ArrayError;
 use std::alloc::Global;
 use vx_buffer::{BufferHandle, BufferHandles};
+use vx_rows::{ArrayError, copied_type};
 use vx_scalars::StatsSet;
 use vx_types::DType;
 
@@ -131,15 +131,4 @@ fn copied_children(alloc: Global, children: &[Array]) -> Result<Vec<Array>, Arra
         copies.push(child.clone(alloc)?)?;
     }
     Ok(copies)
-}
-
-// A type once more.
-pub(crate) fn copied_type(alloc: Global, dtype: &DType) -> Result<DType, ArrayError>
-    ensures ok { IfOk result (λ copy. copy ≡ dtype.now) }
-    ensures err { IsOkUnless result ArrayError.OutOfMemory }
-{
-    match dtype.clone(alloc) {
-        Ok(copy) => Ok(copy),
-        Err(_) => Err(ArrayError::OutOfMemory),
-    }
 }

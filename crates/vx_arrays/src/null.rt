@@ -12,9 +12,9 @@ ghost use Rattle.vx_arrays.specs.Refused.{IsOkOrMemory};
 
 use crate::array::Array;
 use crate::body::Body;
-use crate::error::ArrayError;
 use std::alloc::Global;
 use vx_buffer::BufferHandles;
+use vx_rows::ArrayError;
 use vx_types::DType;
 
 /// Arrays of which each row is null.

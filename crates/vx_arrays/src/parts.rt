@@ -11,41 +11,20 @@ ghost use Rattle.vx_types.specs.Value.{Value, has_opaque, lone, mark_cells, valu
 ghost use Rattle.vx_array_tree.specs.Encodings.Variants.{row_over};
 ghost use Rattle.vx_array_tree.specs.Rows.{cells_at, cells_from, cells_where, values_at, values_from, where_valid};
 ghost use Rattle.vx_array_tree.specs.Tree.{rows_below, rows_of};
-ghost use Rattle.vx_arrays.specs.Parts.{AreThere, HaveRow, lone_mark, parts_cells, parts_nodes, parts_value};
-ghost use Rattle.vx_arrays.specs.Plain.{plain_value};
-ghost use Rattle.vx_arrays.specs.Refused.{RefusesCells};
-ghost use Rattle.vx_arrays.specs.RowScalars.{IsVariantRow};
+ghost use Rattle.vx_rows.specs.Lone.{lone_mark};
+ghost use Rattle.vx_arrays.specs.Parts.{AreThere, HaveRow, parts_cells, parts_nodes, parts_value};
+ghost use Rattle.vx_rows.specs.Plain.{plain_value};
+ghost use Rattle.vx_rows.specs.Refused.{RefusesCells};
+ghost use Rattle.vx_rows.specs.RowScalars.{IsVariantRow};
 ghost use Rattle.vx_arrays.specs.Variants.{merged_cells, merged_row};
 
 use crate::array::Array;
-use crate::cells::spent_row;
-use crate::error::ArrayError;
-use crate::row::{RowValue, owned_bytes, owned_text};
-use crate::row_ref::RowRef;
-use crate::row_scalars::row_over;
-use crate::row_values::RowValues;
 use std::alloc::Global;
+use vx_rows::{
+    ArrayError, LoneRow, RowRef, RowValue, RowValues, lone_value, row_over, spend, spent_row,
+};
 use vx_scalars::DecimalValue;
 use vx_types::{DType, PValue};
-
-// A row without rows below it. Texts and bytes are lent.
-#[derive(Clone, Copy)]
-pub(crate) enum LoneRow<'a> {
-    // The row is not there.
-    Null,
-    // Nothing is known of the row.
-    Opaque,
-    // A flag.
-    Bool(bool),
-    // A number, floats as their bits.
-    Primitive(PValue),
-    // A decimal, by its unscaled integer.
-    Decimal(DecimalValue),
-    // A text.
-    Utf8(&'a str),
-    // Bytes.
-    Binary(&'a [u8]),
-}
 
 // Of what a row is made.
 #[derive(Clone, Copy)]
@@ -95,59 +74,6 @@ pub(crate) fn where_there<'a>(valid: Option<bool>, parts: RowParts<'a>) -> RowPa
         Some(false) => RowParts::Lone(LoneRow::Null),
         Some(true) => parts,
     }
-}
-
-// Spends the cells of a value with so many bytes in it: one, and one for each byte.
-pub(crate) fn spend(bytes: usize, budget: &mut u64) -> Result<(), ArrayError>
-    ensures spent { OnOk result (budget.old ≡ suc bytes + budget.new) }
-    ensures err { IfErr result (λ e. RefusesCells e (suc bytes) budget.old) }
-{
-    if bytes as u64 >= *budget {
-        return Err(ArrayError::ValueTooLarge);
-    }
-    *budget -= bytes as u64 + 1;
-    Ok(())
-}
-
-// How many bytes stand in a row.
-fn bytes_in(row: &LoneRow<'_>) -> usize
-    ensures { result ≡ mark_cells (lone_mark row.now) }
-{
-    match row {
-        LoneRow::Null => 0,
-        LoneRow::Opaque => 0,
-        LoneRow::Bool(_) => 0,
-        LoneRow::Primitive(_) => 0,
-        LoneRow::Decimal(_) => 0,
-        LoneRow::Utf8(text) => text.len(),
-        LoneRow::Binary(bytes) => bytes.len(),
-    }
-}
-
-// A row of its own.
-fn owned(alloc: Global, row: LoneRow<'_>) -> Result<RowValue, ArrayError>
-    ensures ok { IfOk result (λ value. plain_value value ≡ lone (lone_mark row.entry)) }
-    ensures err { IsOkUnless result ArrayError.OutOfMemory }
-{
-    match row {
-        LoneRow::Null => Ok(RowValue::Null),
-        LoneRow::Opaque => Ok(RowValue::Opaque),
-        LoneRow::Bool(flag) => Ok(RowValue::Bool(flag)),
-        LoneRow::Primitive(number) => Ok(RowValue::Primitive(number)),
-        LoneRow::Decimal(decimal) => Ok(RowValue::Decimal(decimal)),
-        LoneRow::Utf8(text) => Ok(RowValue::Utf8(owned_text(alloc, text)?)),
-        LoneRow::Binary(bytes) => Ok(RowValue::Binary(owned_bytes(alloc, bytes)?)),
-    }
-}
-
-// The value of a row without rows below it, if there are cells to spend for it.
-fn lone_value(alloc: Global, row: LoneRow<'_>, budget: &mut u64) -> Result<RowValue, ArrayError>
-    ensures row { IfOk result (λ value. plain_value value ≡ lone (lone_mark row.entry)) }
-    ensures spent { OnOk result (budget.old ≡ value_cells (lone (lone_mark row.entry)) + budget.new) }
-    ensures err { IfErr result (λ e. RefusesCells e (value_cells (lone (lone_mark row.entry))) budget.old) }
-{
-    spend(bytes_in(&row), budget)?;
-    owned(alloc, row)
 }
 
 // The value of a row of these parts, if there are cells to spend for it.

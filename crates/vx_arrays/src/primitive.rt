@@ -12,20 +12,18 @@ ghost use Rattle.vx_array_tree.specs.Sound.{IsSound, IsSoundNode};
 ghost use Rattle.vx_array_tree.specs.Tree.{Tree, option_trees, rows_below, untold};
 ghost use Rattle.vx_arrays.specs.Compared.{compared_body};
 ghost use Rattle.vx_arrays.specs.NewBuffers.{RefusesBuffers, with_buffers};
-ghost use Rattle.vx_arrays.specs.Parts.{lone_mark};
+ghost use Rattle.vx_rows.specs.Lone.{lone_mark};
 ghost use Rattle.vx_arrays.specs.Primitives.{primitive_tree};
 ghost use Rattle.vx_arrays.specs.Refused.{RefusesMaking, IsOkOrMemory};
 
 use crate::array::Array;
 use crate::body::Body;
-use crate::error::ArrayError;
 use crate::new_buffers::{copied_validity, only_buffer};
-use crate::numbers::{is_filled, natural, number_at};
-use crate::parts::LoneRow;
 use crate::validity::{is_validity, over_validity, validity_at};
 use std::alloc::Global;
 use std::marker::Model;
 use vx_buffer::{BufferHandle, BufferHandles};
+use vx_rows::{ArrayError, LoneRow, is_filled, natural, number_at};
 use vx_types::{DType, Nullability, PType};
 
 /// What a node of numbers holds: the numbers, one after the other, each with its lowest byte first. Their kind

@@ -8,9 +8,8 @@ ghost use Rattle.vx_arrays.specs.Slots.{native_slots, slot_names, buffer_names, 
 
 use crate::array::Array;
 use crate::body::Body;
-use crate::error::ArrayError;
-use crate::row::owned_text;
 use std::alloc::Global;
+use vx_rows::{ArrayError, owned_text};
 use vx_types::{DType, Name, Names};
 
 impl Array {

@@ -19,11 +19,11 @@ ghost use Rattle.vx_arrays.specs.Structs.{IsOfFields, behind_validity, field_tre
 use crate::array::Array;
 use crate::body::Body;
 use crate::construction::over_children;
-use crate::error::ArrayError;
 use crate::list::Arrays;
 use crate::parts::{RowParts, where_there};
 use crate::place::stands_at;
 use std::alloc::Global;
+use vx_rows::ArrayError;
 use vx_types::{DType, Nullability, StructFields};
 
 /// Arrays of structures, with an array for each field.

@@ -8,14 +8,14 @@ ghost use Rattle.vx_array_tree.specs.Encodings.VarBins.{AreOffsets, IsContent, b
 ghost use Rattle.vx_array_tree.specs.Place.{before_validity};
 ghost use Rattle.vx_array_tree.specs.Rows.{IsThere, validity as valid_by};
 ghost use Rattle.vx_array_tree.specs.Tree.{option_trees, places, rows_below, rows_of};
-ghost use Rattle.vx_arrays.specs.Parts.{lone_mark};
+ghost use Rattle.vx_rows.specs.Lone.{lone_mark};
 ghost use Rattle.vx_arrays.specs.VarBins.{IsOfBytes};
 ghost use Rattle.std.specs.Str.{is_utf8};
 
 use crate::array::Array;
 use crate::offsets::index_at;
-use crate::parts::LoneRow;
 use crate::validity::option_validity_at;
+use vx_rows::LoneRow;
 use vx_types::DType;
 
 // The bytes from an offset up to the next one.

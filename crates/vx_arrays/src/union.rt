@@ -23,13 +23,13 @@ use crate::array::Array;
 use crate::body::Body;
 use crate::construction::over_children;
 use crate::control::is_controlled;
-use crate::error::ArrayError;
 use crate::list::Arrays;
-use crate::parts::{LoneRow, RowParts};
+use crate::parts::RowParts;
 use crate::place::stands_at;
 use crate::structs::are_columns;
 use crate::validity::parted;
 use std::alloc::Global;
+use vx_rows::{ArrayError, LoneRow};
 use vx_types::{DType, Nullability, PType, UnionVariants};
 
 /// Arrays of unions, with the tags of their rows and an array for each member.

@@ -19,11 +19,11 @@ use crate::array::Array;
 use crate::body::Body;
 use crate::bool::BoolArray;
 use crate::construction::over_children;
-use crate::error::ArrayError;
 use crate::list::Arrays;
 use crate::place::stands_at;
 use std::alloc::Global;
 use vx_buffer::{BufferHandle, ByteBuffer};
+use vx_rows::ArrayError;
 use vx_types::{DType, Nullability};
 
 // Whether a row is there, by the validity that a node of `len` rows may have as its only child; None where that

@@ -14,22 +14,21 @@ ghost use Rattle.vx_array_tree.specs.Sound.{IsControlled, IsSound, IsSoundNode};
 ghost use Rattle.vx_array_tree.specs.Tree.{Tree, option_trees, rows_below, rows_of, untold};
 ghost use Rattle.vx_arrays.specs.Compared.{compared_body};
 ghost use Rattle.vx_arrays.specs.NewBuffers.{RefusesBuffers, with_buffers};
-ghost use Rattle.vx_arrays.specs.Parts.{lone_mark};
+ghost use Rattle.vx_rows.specs.Lone.{lone_mark};
 ghost use Rattle.vx_arrays.specs.Refused.{RefusesMaking, IsOkOrMemory};
 ghost use Rattle.vx_arrays.specs.VarBins.{IsOfBytes, varbin_head, varbin_tree};
 
 use crate::array::Array;
 use crate::body::Body;
 use crate::construction::over_children;
-use crate::error::ArrayError;
-use crate::new_buffers::{copied_type, copied_validity, only_buffer};
+use crate::new_buffers::{copied_validity, only_buffer};
 use crate::offsets::{are_offsets, is_of_offsets};
-use crate::parts::LoneRow;
 use crate::texts::{are_texts, is_of_bytes, lone_part, part_at};
 use crate::validity::{is_validity, validity_at, with_validity};
 use std::alloc::Global;
 use std::marker::Model;
 use vx_buffer::{BufferHandle, BufferHandles};
+use vx_rows::{ArrayError, LoneRow, copied_type};
 use vx_types::{DType, Nullability};
 
 /// What a node of texts or of bytes holds: the bytes of all rows, one after the other.

@@ -14,7 +14,7 @@ ghost use Rattle.vx_array_tree.specs.Sound.{IsSound, IsSoundNode};
 ghost use Rattle.vx_array_tree.specs.Tree.{Tree, option_trees, places, rows_below, untold};
 ghost use Rattle.vx_arrays.specs.Compared.{bare, compared_body};
 ghost use Rattle.vx_arrays.specs.NewBuffers.{RefusesBuffers, with_buffers};
-ghost use Rattle.vx_arrays.specs.Parts.{lone_mark};
+ghost use Rattle.vx_rows.specs.Lone.{lone_mark};
 ghost use Rattle.vx_arrays.specs.Refused.{RefusesMaking, IsOkOrMemory};
 ghost use Rattle.vx_arrays.specs.Slots.{numbered};
 ghost use Rattle.vx_arrays.specs.VarBinViews.{IsRight, varbinview_head, varbinview_tree};
@@ -22,16 +22,13 @@ ghost use Rattle.vx_arrays.specs.VarBinViews.{IsRight, varbinview_head, varbinvi
 use crate::array::Array;
 use crate::body::Body;
 use crate::construction::over_children;
-use crate::error::ArrayError;
-use crate::new_buffers::{copied_type, copied_validity};
-use crate::parts::LoneRow;
-use crate::row::owned_text;
+use crate::new_buffers::copied_validity;
 use crate::texts::{is_content, is_of_bytes, lone_part};
 use crate::validity::{is_validity, only_validity, option_validity_at, validity_at};
-use crate::views::viewed;
 use std::alloc::Global;
 use std::marker::Model;
 use vx_buffer::{BufferHandle, BufferHandles};
+use vx_rows::{ArrayError, LoneRow, copied_type, owned_text, viewed};
 use vx_types::{DType, Name};
 
 /// What a node of texts or of bytes by views holds: the buffers that views name by their numbers, and a view for each

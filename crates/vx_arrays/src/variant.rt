@@ -19,13 +19,12 @@ ghost use Rattle.vx_arrays.specs.Variants.{AreRows, IsOfVariants, variant_tree};
 use crate::array::Array;
 use crate::body::Body;
 use crate::construction::over_children;
-use crate::error::ArrayError;
 use crate::list::Arrays;
-use crate::new_buffers::copied_type;
 use crate::parts::RowParts;
 use crate::place::stands_at;
 use crate::validity::parted;
 use std::alloc::Global;
+use vx_rows::{ArrayError, copied_type};
 use vx_types::DType;
 
 /// Arrays of variants, in part by a typed child that stands over the core.

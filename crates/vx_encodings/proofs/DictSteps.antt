@@ -26,8 +26,8 @@ use Rattle.vx_array_tree.proofs.LawsOfPlaces.{places_count}
 use Rattle.vx_array_tree.proofs.PlanCounts.{planned_count}
 use Rattle.vx_arrays.specs.Dicts.{dict_head}
 use Rattle.vx_arrays.specs.Refused.{RefusesMaking}
-use Rattle.vx_arrays.specs.declared.error.ArrayError.{ArrayError}
-use Rattle.vx_arrays.specs.declared.error.ArrayError.TheVariants as A
+use Rattle.vx_rows.specs.declared.error.ArrayError.{ArrayError}
+use Rattle.vx_rows.specs.declared.error.ArrayError.TheVariants as A
 use Rattle.vx_wire_tree.specs.Fields.{DictFields, codes_nullability}
 use Rattle.vx_encodings.proofs.DictFields.{dict_metadata, dict_read, dict_fields_are}
 use Rattle.vx_encodings.proofs.Fitting.{unfit}

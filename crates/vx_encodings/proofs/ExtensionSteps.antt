@@ -18,7 +18,7 @@ use Rattle.vx_array_tree.specs.Place.{Place, place, exactly}
 use Rattle.vx_array_tree.specs.Table.{IsShaped, body_of, plan_of}
 use Rattle.vx_array_tree.specs.Tree.{Tree, Trees, places, untold}
 use Rattle.vx_arrays.specs.Refused.{RefusesMaking}
-use Rattle.vx_arrays.specs.declared.error.ArrayError.{ArrayError}
+use Rattle.vx_rows.specs.declared.error.ArrayError.{ArrayError}
 use Rattle.vx_encodings.proofs.Bare.{ext_metadata, ext_nothing}
 use Rattle.vx_encodings.proofs.Fitting.{constructor_refused}
 use Rattle.vx_encodings.proofs.Singles.{single_unplanned, single_built}

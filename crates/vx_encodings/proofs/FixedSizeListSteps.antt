@@ -21,7 +21,7 @@ use Rattle.vx_array_tree.specs.Tree.{Tree, Trees, places, option_trees, untold}
 use Rattle.vx_array_tree.proofs.Options.{let_through}
 use Rattle.vx_arrays.specs.FixedSizeLists.{IsOfSize, fixed_size_list_tree}
 use Rattle.vx_arrays.specs.Refused.{RefusesMaking}
-use Rattle.vx_arrays.specs.declared.error.ArrayError.{ArrayError}
+use Rattle.vx_rows.specs.declared.error.ArrayError.{ArrayError}
 use Rattle.vx_encodings.proofs.Bare.{fixed_size_list_metadata, fixed_size_list_nothing}
 use Rattle.vx_encodings.proofs.Fitting.{constructor_refused}
 use Rattle.vx_encodings.proofs.Singles.{single_unplanned, single_built}

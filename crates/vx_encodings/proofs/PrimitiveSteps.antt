@@ -19,7 +19,7 @@ use Rattle.vx_array_tree.specs.Table.{plan_of}
 use Rattle.vx_array_tree.specs.Tree.{Tree, Trees, places, option_trees, untold}
 use Rattle.vx_arrays.specs.Primitives.{primitive_tree}
 use Rattle.vx_arrays.specs.Refused.{RefusesMaking}
-use Rattle.vx_arrays.specs.declared.error.ArrayError.{ArrayError}
+use Rattle.vx_rows.specs.declared.error.ArrayError.{ArrayError}
 use Rattle.vx_encodings.proofs.Singles.{single_children, single_planned, single_unplanned, single_without, single_built, single_refused, single_buffers}
 use Rattle.vx_encodings.proofs.Bare.{primitive_metadata, primitive_nothing}
 use Rattle.vx_encodings.specs.Steps.{IsPlanned, RefusesPlanning, RefusesPlaces, IsBuilt, RefusesBuilding, constructor_error}

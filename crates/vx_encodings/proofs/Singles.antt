@@ -17,7 +17,7 @@ use Rattle.vx_array_tree.specs.Table.{IsFair, IsShaped, Takes, body_of, lifted, 
 use Rattle.vx_array_tree.specs.Tree.{Tree, Trees, places, encodings, untold}
 use Rattle.vx_wire_tree.specs.Reads.{IsMetadata}
 use Rattle.vx_arrays.specs.Refused.{RefusesMaking}
-use Rattle.vx_arrays.specs.declared.error.ArrayError.{ArrayError}
+use Rattle.vx_rows.specs.declared.error.ArrayError.{ArrayError}
 use Rattle.vx_encodings.proofs.Fitting.{constructor_refused}
 use Rattle.vx_encodings.proofs.Validities.{validity_few}
 use Rattle.vx_encodings.specs.Messages.{codec}

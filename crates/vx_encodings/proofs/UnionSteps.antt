@@ -21,7 +21,7 @@ use Rattle.vx_array_tree.specs.Table.{IsShaped, body_of, plan_of}
 use Rattle.vx_array_tree.specs.Tree.{Tree, Trees, places, untold}
 use Rattle.vx_array_tree.proofs.Plans.{exactly_is}
 use Rattle.vx_arrays.specs.Refused.{RefusesMaking}
-use Rattle.vx_arrays.specs.declared.error.ArrayError.{ArrayError}
+use Rattle.vx_rows.specs.declared.error.ArrayError.{ArrayError}
 use Rattle.vx_encodings.proofs.Bare.{union_metadata, union_nothing}
 use Rattle.vx_encodings.proofs.Fitting.{constructor_refused}
 use Rattle.vx_array_tree.proofs.LawsOfPlaces.{exactly_self, exactly_none, exactly_count, places_count}

@@ -22,7 +22,7 @@ use Rattle.vx_array_tree.specs.Tree.{Tree, Trees, places, option_trees, untold}
 use Rattle.vx_array_tree.proofs.Options.{let_through}
 use Rattle.vx_arrays.specs.Refused.{RefusesMaking}
 use Rattle.vx_arrays.specs.VarBins.{IsOfBytes, varbin_tree}
-use Rattle.vx_arrays.specs.declared.error.ArrayError.{ArrayError}
+use Rattle.vx_rows.specs.declared.error.ArrayError.{ArrayError}
 use Rattle.vx_encodings.proofs.Fitting.{constructor_refused}
 use Rattle.vx_encodings.proofs.OffsetKinds.{varbin_metadata, varbin_kind, kind_is_integer}
 use Rattle.vx_encodings.proofs.Singles.{single_unplanned, single_built, single_buffers}

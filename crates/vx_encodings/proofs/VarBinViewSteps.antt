@@ -19,7 +19,7 @@ use Rattle.vx_array_tree.proofs.Bodies.{body_again}
 use Rattle.vx_arrays.specs.Refused.{RefusesMaking}
 use Rattle.vx_arrays.specs.VarBins.{IsOfBytes}
 use Rattle.vx_arrays.specs.VarBinViews.{varbinview_head, varbinview_tree}
-use Rattle.vx_arrays.specs.declared.error.ArrayError.{ArrayError}
+use Rattle.vx_rows.specs.declared.error.ArrayError.{ArrayError}
 use Rattle.vx_encodings.proofs.Bare.{varbinview_metadata, varbinview_nothing}
 use Rattle.vx_encodings.proofs.Fitting.{constructor_refused}
 use Rattle.vx_encodings.proofs.Singles.{single_children, single_planned, single_unplanned, single_without, single_built}

@@ -2,8 +2,8 @@
 use Rattle.std.proofs.Common.{ℕ, zero, suc, ◌≡◌, ◌≤◌, ◌<◌, List, [], ◌∷◌, ap, length, get_or, arith}
 use Rattle.vx_trees.specs.Rose.{roses_of}
 use Rattle.vx_trees.specs.Walks.{nodes, nodes_of}
-use Rattle.vx_arrays.specs.Plain.{plain_value, plain_values}
-use Rattle.vx_arrays.specs.declared.row.RowValue.{RowValue}
+use Rattle.vx_rows.specs.Plain.{plain_value, plain_values}
+use Rattle.vx_rows.specs.declared.row.RowValue.{RowValue}
 
 -- A value in a list has no more nodes than the list.
 pub smaller_value : (vs : List RowValue) (i : ℕ) (v : RowValue) → i < length vs → v ≡ get_or vs i v → nodes (plain_value v) ≤ nodes_of (roses_of (plain_values vs))

@@ -1,7 +1,7 @@
 //! What tests ask of arrays: the texts of their rows, the cells that these take, and why an array is not made.
 
 ghost use Rattle.std.specs.Prelude.{◌≡◌, IfOk};
-ghost use Rattle.vx_arrays.specs.Plain.{plain_value};
+ghost use Rattle.vx_rows.specs.Plain.{plain_value};
 
 use crate::parts::Made;
 use std::alloc::{AllocError, Global};

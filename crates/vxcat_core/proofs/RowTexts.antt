@@ -10,9 +10,9 @@ use Rattle.vx_types.specs.Seen.{typ, typs}
 use Rattle.vx_types.specs.Typ.{Typ}
 use Rattle.vx_types.specs.Value.{Value, tuple}
 use Rattle.vx_types.specs.declared.dtype.DType.{DType}
-use Rattle.vx_arrays.specs.Plain.{plain_value, plain_values}
-use Rattle.vx_arrays.specs.declared.row.RowValue.{RowValue}
-use Rattle.vx_arrays.specs.declared.row.RowValue.TheVariants as R
+use Rattle.vx_rows.specs.Plain.{plain_value, plain_values}
+use Rattle.vx_rows.specs.declared.row.RowValue.{RowValue}
+use Rattle.vx_rows.specs.declared.row.RowValue.TheVariants as R
 use Rattle.vxcat_core.specs.RowText.{each_text, entry_text, entry_texts, further_text, parted, texts_by, value_text}
 
 -- ---- what the recursion goes down by

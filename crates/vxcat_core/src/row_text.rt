@@ -5,7 +5,7 @@ ghost use Rattle.vx_trees.specs.Rose.{end, more, node, roses_of};
 ghost use Rattle.vx_types.specs.Fits.{bare, member};
 ghost use Rattle.vx_types.specs.Seen.{typ, typs};
 ghost use Rattle.vx_types.specs.Value.{tuple, union, variant_of};
-ghost use Rattle.vx_arrays.specs.Plain.{plain_value, plain_values};
+ghost use Rattle.vx_rows.specs.Plain.{plain_value, plain_values};
 ghost use Rattle.vx_scalars.specs.Decimals.{decimal_of};
 ghost use Rattle.vxcat_core.specs.RowText.{bytes_text, decimal_text, each_text, entry_text, entry_texts, further_text, hex_text, member_under, number_text, parted, texts_by, value_text};
 

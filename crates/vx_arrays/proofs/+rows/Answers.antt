@@ -9,10 +9,11 @@ use Rattle.vx_array_tree.specs.Encodings.Variants.{row_over}
 use Rattle.vx_array_tree.specs.Tree.{cells, rows_of, rows_below}
 use Rattle.std.proofs.Common.{take}
 use Rattle.std.specs.Prelude.{max}
-use Rattle.vx_arrays.specs.Plain.{plain_value}
+use Rattle.vx_rows.specs.Plain.{plain_value}
 use Rattle.vx_arrays.specs.Variants.{merged_row}
-use Rattle.vx_arrays.proofs.Counted.{refused_after, values_more, cells_more, cells_within, across_more, across_cells, across_within, row_inside, same_refused, same_row, same_spent, smaller_at}
-use Rattle.vx_arrays.proofs.Scalared.{core_refused, least_left, merged_is, own_refused, row_fits, typed_refused, variant_row_is}
+use Rattle.vx_rows.proofs.LawsOfCells.{refused_after, same_refused, same_row, same_spent}
+use Rattle.vx_arrays.proofs.Counted.{values_more, cells_more, cells_within, across_more, across_cells, across_within, row_inside, smaller_at}
+use Rattle.vx_arrays.proofs.MergedRows.{core_refused, least_left, merged_is, own_refused, row_fits, typed_refused, variant_row_is}
 use Rattle.vx_arrays.proofs.+rows.Goals as goal
 
 -- ---- of an array

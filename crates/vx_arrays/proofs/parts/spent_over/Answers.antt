@@ -1,8 +1,8 @@
 -- The cells of a row are those of the value that it is.
 use Rattle.std.proofs.Common.{ap}
 use Rattle.vx_types.specs.Value.{Value, value_cells}
-use Rattle.vx_arrays.specs.Plain.{plain_value}
-use Rattle.vx_arrays.proofs.Counted.{same_refused, same_row, same_spent}
+use Rattle.vx_rows.specs.Plain.{plain_value}
+use Rattle.vx_rows.proofs.LawsOfCells.{same_refused, same_row, same_spent}
 use Rattle.vx_arrays.proofs.parts.spent_over.Goals as goal
 
 pub returns-clause-row : goal.returns-clause-row

@@ -1,7 +1,7 @@
 use Rattle.std.proofs.Common.{◌+◌, ◌*◌}
 use Rattle.vx_trees.specs.Rose.{roses_of}
 use Rattle.vx_trees.specs.Walks.{nodes, nodes_of}
-use Rattle.vx_arrays.specs.Plain.{plain_value, plain_values}
+use Rattle.vx_rows.specs.Plain.{plain_value, plain_values}
 use Rattle.vx_nested_parts.proofs.rows.+text.Given as goal
 
 abbrev pub decreases-text_of : goal.decreases-text_of

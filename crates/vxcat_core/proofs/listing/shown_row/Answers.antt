@@ -1,5 +1,5 @@
 use Rattle.vx_types.specs.Seen.{typ}
-use Rattle.vx_arrays.specs.Plain.{plain_value}
+use Rattle.vx_rows.specs.Plain.{plain_value}
 use Rattle.vxcat_core.proofs.Listings.{row_shown}
 use Rattle.vxcat_core.proofs.listing.shown_row.Goals as goal
 

@@ -6,7 +6,7 @@ use Rattle.vx_trees.specs.Walks.{nodes}
 use Rattle.vx_types.specs.Seen.{typ}
 use Rattle.vx_types.specs.Typ.{Typ}
 use Rattle.vx_types.specs.Value.{Value}
-use Rattle.vx_arrays.specs.Plain.{plain_value}
+use Rattle.vx_rows.specs.Plain.{plain_value}
 use Rattle.vxcat_core.specs.RowText.{entry_text, parted, value_text}
 use Rattle.vxcat_core.proofs.RowTexts.{smaller_value, each_next, by_next, by_all, entries_next, tuple_is, no_pair, pair_text}
 use Rattle.vxcat_core.proofs.UnionTexts.{union_some, union_none, variant_is}

@@ -3,7 +3,7 @@ use Rattle.std.specs.Prelude.{string_bytes}
 use Rattle.vx_trees.specs.Rose.{roses_of}
 use Rattle.vx_trees.specs.Walks.{nodes, nodes_of}
 use Rattle.vx_types.specs.Seen.{typ, typs}
-use Rattle.vx_arrays.specs.Plain.{plain_value, plain_values}
+use Rattle.vx_rows.specs.Plain.{plain_value, plain_values}
 use Rattle.vxcat_core.specs.RowText.{each_text, entry_texts, parted, texts_by}
 use Rattle.vxcat_core.proofs.row_text.+text.Given as goal
 

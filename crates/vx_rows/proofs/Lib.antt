@@ -1,0 +1,6 @@
+mod SameRows
+mod LongViews
+pub mod LawsOfCells
+mod Merged
+mod Fieldwise
+mod Scalared

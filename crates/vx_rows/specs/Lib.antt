@@ -1,0 +1,6 @@
+pub mod Plain
+pub mod Lone
+pub mod Merging
+pub mod RowScalars
+pub mod Refused
+pub mod Falling

@@ -1,0 +1,82 @@
+//! The values of rows.
+
+ghost use Rattle.std.specs.Prelude.{◌≡◌, IfOk, IsOkUnless};
+
+use crate::error::ArrayError;
+use crate::row_ref::RowRef;
+use crate::row_values::RowValues;
+use crate::same_values::is_same;
+use std::alloc::Global;
+use vx_scalars::{DecimalValue, Scalar};
+use vx_types::{Blob, Name, PValue};
+
+/// The value of a row.
+#[cycle(row)]
+#[derive(Debug)]
+pub enum RowValue {
+    /// The row is not there.
+    Null,
+    /// Nothing is known of the row.
+    Opaque,
+    /// A flag.
+    Bool(bool),
+    /// A number, floats as their bits.
+    Primitive(PValue),
+    /// A decimal, by its unscaled integer.
+    Decimal(DecimalValue),
+    /// A text.
+    Utf8(Name),
+    /// Bytes.
+    Binary(Blob),
+    /// A row of lists or of structures: the rows of its elements, or of its fields.
+    Tuple(RowValues),
+    /// A row of unions: its tag, and the row of the member that this names.
+    Union(u8, RowRef),
+    /// A row of variants: a value with a type of its own.
+    Variant(Scalar),
+}
+
+// A row's value falls by a call of this, wherever one falls, and not part by part.
+impl Drop for RowValue {
+    #[cycle(fall)]
+    fn drop(self) {
+        match self {
+            RowValue::Null => {}
+            RowValue::Opaque => {}
+            RowValue::Bool(_) => {}
+            RowValue::Primitive(_) => {}
+            RowValue::Decimal(_) => {}
+            RowValue::Utf8(_) => {}
+            RowValue::Binary(_) => {}
+            RowValue::Tuple(_) => {}
+            RowValue::Union(_, _) => {}
+            RowValue::Variant(_) => {}
+        }
+    }
+}
+
+impl PartialEq for RowValue {
+    ghost use Rattle.vx_trees.specs.Same.{same};
+    ghost use Rattle.vx_trees.proofs.Sameness.{same-partial_equivalence};
+    ghost use Rattle.std.specs.Cmp.{on_per};
+    ghost use Rattle.vx_types.specs.Value.{value_code};
+    ghost use Rattle.vx_rows.specs.Plain.{plain_value};
+
+    ghost eq = { λ a b. same value_code (plain_value a) (plain_value b) };
+
+    ghost laws = { on_per plain_value (same-partial_equivalence value_code) };
+
+    #[tactic(auto, using(vx_trees::proofs::Sameness::sameness))]
+    fn eq(&self, other: &RowValue) -> bool {
+        is_same(self, other)
+    }
+}
+
+impl Eq for RowValue {
+    ghost use Rattle.vx_trees.proofs.Sameness.{same-equivalence};
+    ghost use Rattle.std.specs.Cmp.{on_equiv};
+    ghost use Rattle.vx_types.specs.Value.{value_code};
+    ghost use Rattle.vx_rows.specs.Plain.{plain_value};
+
+    ghost laws = { on_equiv plain_value (same-equivalence value_code) };
+}
