@@ -1,4 +1,4 @@
-//! Refusals of this crate.
+//! Why calls on arrays, and on rows of them, are refused.
 
 ghost use Rattle.std.specs.Prelude.{◌≡◌};
 ghost use Rattle.vx_rows.specs.declared.error.ArrayError.TheVariants.{OutOfMemory};
@@ -7,7 +7,7 @@ use std::alloc::{AllocError, AllocFailed};
 use thiserror::Error;
 use vx_buffer::BufferError;
 
-/// Why a call on arrays was refused.
+/// Why a call on an array, or on a row of one, was refused.
 #[derive(Clone, Copy, Debug, PartialEq, Eq, Error)]
 pub enum ArrayError {
     /// Memory was wanted and not to be had.
