@@ -20,7 +20,7 @@ use Rattle.vx_array_tree.specs.Sound.{IsSound}
 use Rattle.vx_array_tree.specs.Table.{IsFair}
 use Rattle.vx_array_tree.specs.Tree.{Tree}
 use Rattle.vx_array_tree.proofs.LawsControls.{native_controlled, leaf, one_leaf}
-use Rattle.vx_array_tree_tests.proofs.Samples.{array, buffer, bits, four, kind, u8s, u16s, number_type, flag_type, variant_type, numbers, unknown_rows, variants_over, variants, typed, flags, decimals, varbins, texts, dictionary, lists, views, fixed, maps, list_of, entry_type, entry, i32s, unions}
+use Rattle.vx_array_tree_tests.proofs.Samples.{array, buffer, bits, four, kind, u8s, u16s, number_type, flag_type, variant_type, numbers, unknown_rows, variants_over, variants, typed, flags, decimals, varbins, texts, dictionary, lists, views, fixed, listed, maps, i32s, unions}
 
 not_false : false ≡ true → ⊥
 not_false e = cc
@@ -78,7 +78,7 @@ codes_null : IsSound (array (number_type P.U16 NonNullable) 2 (B.dict (record { 
 codes_null s = let x = s.0.allows refl in absurd (cc)
 
 -- Maps over lists that are no list view.
-other_entries : IsSound (maps (array (list_of entry_type) 1 B.list (entry ∷ i32s NonNullable (0 ∷ 1 ∷ []) [] ∷ []))) → ⊥
+other_entries : IsSound (maps listed) → ⊥
 other_entries s = s.0.takes
 
 -- Three numbers of four bytes in eleven bytes; and an alignment that is too small.

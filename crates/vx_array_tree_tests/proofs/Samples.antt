@@ -196,6 +196,10 @@ abbrev pub entries : Tree
 entries =
     array (list_of entry_type) 1 (B.listview (record { zero_copy = false })) (entry ∷ u8s NonNullable (0 ∷ []) [] ∷ u8s NonNullable (1 ∷ []) [] ∷ [])
 
+-- The same entry in a list by offsets.
+abbrev pub listed : Tree
+listed = array (list_of entry_type) 1 B.list (entry ∷ i32s NonNullable (0 ∷ 1 ∷ []) [] ∷ [])
+
 abbrev pub map_type : Typ
 map_type = node (K.map false NonNullable) (more (number_type P.I32 NonNullable) (more (text_type Nullable) end))
 

@@ -22,7 +22,7 @@ use Rattle.vx_array_tree.specs.Table.{Content}
 use Rattle.vx_array_tree.specs.Tree.{Tree, Trees, rows_of, rows_below}
 use Rattle.vx_array_tree.proofs.LawsControls.{native_controlled, leaf, one_leaf}
 use Rattle.vx_trees.specs.Rose.{label, below}
-use Rattle.vx_array_tree_tests.proofs.Samples.{bits, four, two, number_type, i32s, u16s, u8s, long_text, nulls, flags, flags_from, numbers, decimals, hundreds, varbins, texts, words, dictionary, lists, views, fixed, entry, entries, maps, empty_structs, structs, unions, days, lifted_values, unknown_rows, variants_over, variants, typed, known, variant_values}
+use Rattle.vx_array_tree_tests.proofs.Samples.{bits, four, two, number_type, i32s, u16s, u8s, long_text, nulls, flags, flags_from, numbers, decimals, hundreds, varbins, texts, words, dictionary, lists, views, fixed, entry, entries, listed, maps, empty_structs, structs, unions, days, lifted_values, unknown_rows, variants_over, variants, typed, known, variant_values}
 
 -- What holds of the first indices, one by one.
 pub below_two : (P : ℕ → Type 0) → P 0 → P 1 → (i : ℕ) → i < 2 → P i
@@ -260,6 +260,13 @@ entries_sound : IsSound entries
 entries_sound = (
   record { fair = record { offsets = refl; sizes = refl }; planned = refl; allows = λ e. absurd (omega arith); takes = tt; holds = tt; controlled = native_controlled _ _ _ ((tt, (leaf, ((tt, one_leaf), tt))), (leaf, one_leaf)); content = λ i l t. one_view i l; stats = none_fit _ },
   (entry_sound, (u8s_sound NonNullable (0 ∷ []) refl, (u8s_sound NonNullable (1 ∷ []) refl, tt))),
+)
+
+-- The entry stands in a list by offsets.
+pub listed_sound : IsSound listed
+listed_sound = (
+  record { fair = refl; planned = refl; allows = λ e. absurd (omega arith); takes = tt; holds = tt; controlled = native_controlled _ _ _ ((tt, (leaf, ((tt, one_leaf), tt))), one_leaf); content = one_offset; stats = none_fit _ },
+  (entry_sound, (i32s_sound NonNullable (0 ∷ 1 ∷ []) refl, tt)),
 )
 
 maps_sound : IsSound (maps entries)

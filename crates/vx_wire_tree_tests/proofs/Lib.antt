@@ -4,3 +4,4 @@ pub mod SampleTold
 pub mod SampleRaw
 pub mod SampleRevised
 pub mod SampleVariants
+pub mod SampleMaps
