@@ -130,7 +130,7 @@ const ENTRIES: [(&str, Option<Encoding>); 13] = [
     ("vortex.bool", Some(Encoding::Bool)),
     ("vortex.decimal", Some(Encoding::Decimal)),
     ("vortex.struct", Some(Encoding::Struct)),
-    ("vortex.ext", Some(Encoding::Ext)),
+    ("vortex.ext", Some(Encoding::Extension)),
     ("vortex.list", Some(Encoding::List)),
     ("vortex.listview", Some(Encoding::ListView)),
     ("vortex.map", Some(Encoding::Map)),

@@ -22,7 +22,7 @@ use Rattle.vx_encodings.proofs.Widths.{one_width, width_again}
 use Rattle.vx_encodings.specs.Messages.{Shows, ShowsNothing, message_bytes, codec}
 use Rattle.vx_encodings.specs.Plain.{plain_encoding}
 use Rattle.vx_encodings.specs.declared.encoding.Encoding.{Encoding}
-use Rattle.vx_encodings.specs.declared.encoding.Encoding.TheVariants.{Null, Bool, Primitive, Decimal, VarBin, VarBinView, Dict, FixedSizeList, Struct, Ext, List as ListOf, ListView, Map, Union, Variant}
+use Rattle.vx_encodings.specs.declared.encoding.Encoding.TheVariants.{Null, Bool, Primitive, Decimal, VarBin, VarBinView, Dict, FixedSizeList, Struct, Extension, List as ListOf, ListView, Map, Union, Variant}
 
 one_nothing : (bytes : List ℕ) (f g : Fields) → ShowsNothing bytes f → ShowsNothing bytes g → f ≡ g
 one_nothing bytes f g a b = a.fields_are ∙ sym b.fields_are
@@ -65,7 +65,7 @@ message_again Dict (M.dict v) fair fits short =
     dict_again (record { values_len = v.values_len; codes_ptype = v.codes_ptype; is_nullable_codes = Some (is_nullable v.nullable_codes); all_values_referenced = Some v.all_values_referenced }) fits
 message_again FixedSizeList M.empty fair fits short = nothing_shown
 message_again Struct M.empty fair fits short = nothing_shown
-message_again Ext M.empty fair fits short = nothing_shown
+message_again Extension M.empty fair fits short = nothing_shown
 message_again ListOf (M.list v) fair fits short = list_again v.elements_len v.offset_ptype fits
 message_again ListView (M.listview v) fair fits short = views_again v fits
 message_again Map M.empty fair fits short = nothing_shown

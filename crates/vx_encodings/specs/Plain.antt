@@ -3,7 +3,7 @@ use Rattle.vx_types.specs.Seen.{typ}
 use Rattle.vx_array_tree.specs.Encoding as E
 use Rattle.vx_array_tree.specs.Place.{Place, place}
 use Rattle.vx_encodings.specs.declared.encoding.Encoding.{Encoding}
-use Rattle.vx_encodings.specs.declared.encoding.Encoding.TheVariants.{Null, Bool, Primitive, Decimal, VarBin, VarBinView, Dict, FixedSizeList, Struct, Ext, List as ListOf, ListView, Map, Union, Variant}
+use Rattle.vx_encodings.specs.declared.encoding.Encoding.TheVariants.{Null, Bool, Primitive, Decimal, VarBin, VarBinView, Dict, FixedSizeList, Struct, Extension, List as ListOf, ListView, Map, Union, Variant}
 use Rattle.vx_encodings.specs.declared.plans.ChildPlan.{ChildPlan}
 
 -- An encoding, of those that definitions know.
@@ -17,7 +17,7 @@ plain_encoding VarBinView = E.varbinview
 plain_encoding Dict = E.dict
 plain_encoding FixedSizeList = E.fixed_size_list
 plain_encoding Struct = E.struct
-plain_encoding Ext = E.ext
+plain_encoding Extension = E.ext
 plain_encoding ListOf = E.list
 plain_encoding ListView = E.listview
 plain_encoding Map = E.map

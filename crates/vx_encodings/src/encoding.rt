@@ -31,7 +31,7 @@ pub enum Encoding {
     /// Structures, by their fields.
     Struct,
     /// Extensions, by their storage.
-    Ext,
+    Extension,
     /// Lists, whose elements are parted by offsets.
     List,
     /// Lists, each with an offset and a size of its own.
@@ -61,7 +61,7 @@ impl Encoding {
             Encoding::Dict => DictArray::ID,
             Encoding::FixedSizeList => FixedSizeListArray::ID,
             Encoding::Struct => StructArray::ID,
-            Encoding::Ext => ExtensionArray::ID,
+            Encoding::Extension => ExtensionArray::ID,
             Encoding::List => ListArray::ID,
             Encoding::ListView => ListViewArray::ID,
             Encoding::Map => MapArray::ID,

@@ -7,7 +7,7 @@ ghost use Rattle.vx_array_tree.specs.Place.{exactly, place};
 ghost use Rattle.vx_array_tree.specs.Sound.{IsSound};
 ghost use Rattle.vx_array_tree.specs.Tree.{places};
 ghost use Rattle.vx_encodings.specs.Steps.{IsPlanned, RefusesPlanning, IsBuilt, RefusesBuilding, RefusesPlaces};
-ghost use Rattle.vx_encodings.specs.declared.encoding.Encoding.TheVariants.{Ext};
+ghost use Rattle.vx_encodings.specs.declared.encoding.Encoding.TheVariants.{Extension};
 
 use crate::empty_metadata::read_empty;
 use crate::error::{EncodingError, of_constructor};
@@ -21,8 +21,8 @@ use vx_types::DType;
 // What the children of a node of an extension are to be: its storage.
 #[tactic(auto, using(crate::proofs::ExtensionSteps::extension_steps))]
 pub(crate) fn plan(alloc: Global, head: &ArrayHead) -> Result<ChildPlans, EncodingError>
-    ensures plan { (x : ExtMeaning) → IfOk result (λ plans. IsPlanned x Ext head.now plans) }
-    ensures err { (x : ExtMeaning) → IfErr result (λ e. RefusesPlanning e x Ext head.now) }
+    ensures plan { (x : ExtMeaning) → IfOk result (λ plans. IsPlanned x Extension head.now plans) }
+    ensures err { (x : ExtMeaning) → IfErr result (λ e. RefusesPlanning e x Extension head.now) }
 {
     read_empty(head.metadata.as_slice())?;
     match &head.dtype {
@@ -54,10 +54,10 @@ pub(crate) fn build(
     buffers: BufferHandles,
     children: Arrays,
 ) -> Result<Array, EncodingError>
-    requires { (x : ExtMeaning) × IsPlanned x Ext head (places children) }
-    ensures parts { (x : ExtMeaning) → IfOk result (λ t. IsBuilt x Ext head buffers children t) }
+    requires { (x : ExtMeaning) × IsPlanned x Extension head (places children) }
+    ensures parts { (x : ExtMeaning) → IfOk result (λ t. IsBuilt x Extension head buffers children t) }
     ensures sound { IfOk result IsSound }
-    ensures err { (x : ExtMeaning) → IfErr result (λ e. RefusesBuilding e x Ext head buffers children) }
+    ensures err { (x : ExtMeaning) → IfErr result (λ e. RefusesBuilding e x Extension head buffers children) }
 {
     if !buffers.is_empty() {
         return Err(EncodingError::BadShape);

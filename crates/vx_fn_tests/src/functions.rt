@@ -5,8 +5,8 @@ use std::alloc::Global;
 use std::hash::{FoldHasher, Hash, Hasher};
 use vx_fn_wire::{
     AggregateFn, Arity, FnWireError, ForeignAggregateFnOptions, ForeignAggregateFnVTable,
-    ForeignScalarFnOptions, ForeignScalarFnVTable, ScalarFn, ScalarFnOptions, ScalarFnSignature,
-    new_foreign_aggregate_fn, pb,
+    ForeignScalarFnOptions, ForeignScalarFnVTable, PluginError, ScalarFn, ScalarFnOptions,
+    ScalarFnSignature, new_foreign_aggregate_fn, pb,
 };
 use vx_proto::Message;
 use vx_types::{Blob, Id};
@@ -289,9 +289,17 @@ const TEXTS: [(FnWireError, &str); 9] = [
     ),
 ];
 
+const PLUGIN_TEXTS: [(PluginError, &str); 2] = [
+    (PluginError::OutOfMemory, "out of memory"),
+    (PluginError::Refused, "the plugin refuses"),
+];
+
 #[test]
 fn texts_of_refusals(rt: HostRuntime) {
     for (error, text) in &TEXTS {
+        assert!(rt; prints(rt.alloc(), error, text), "{text}");
+    }
+    for (error, text) in &PLUGIN_TEXTS {
         assert!(rt; prints(rt.alloc(), error, text), "{text}");
     }
 }

@@ -119,6 +119,7 @@ impl Expression {
     fn message(&self, alloc: Global) -> Result<pb::Expr, FnWireError>
         ensures same { IfOk result (λ m. m ≡ expr_message (expr self.now)) }
         ensures formed { IfOk result (λ _. IsExpr (expr self.now)) }
+        ensures read_back { IfOk result (λ m. (registry : Registry Scalar) (unknown : Bool) → GivesEachBack registry unknown (expr self.now) → ReadsExpr registry unknown m (expr self.now)) }
         ensures whole { IsOk result → IsSerializable (expr self.now) }
         ensures cause { IfErr result (λ e. RefusesWritingExpr e (expr self.now)) }
     {
@@ -151,9 +152,11 @@ pub trait ExprSerializeProtoExt {
     ghost tree: { Self → Expr };
 
     /// The message of the expression. `NotSerializable` where the options of some function in it cannot
-    /// be written.
+    /// be written. What is written is read as the expression by each session that gives its functions
+    /// back.
     fn serialize_proto(&self, alloc: Global) -> Result<pb::Expr, FnWireError>
         ensures same { IfOk result (λ m. m ≡ expr_message (tree self.now)) }
+        ensures read_back { IfOk result (λ m. (registry : Registry Scalar) (unknown : Bool) → GivesEachBack registry unknown (tree self.now) → ReadsExpr registry unknown m (tree self.now)) }
         ensures whole { IsOk result → IsSerializable (tree self.now) }
         ensures cause { IfErr result (λ e. RefusesWritingExpr e (tree self.now)) };
 }

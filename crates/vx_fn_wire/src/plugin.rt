@@ -6,19 +6,39 @@ ghost use Rattle.vx_types.specs.Typ.{Typ};
 ghost use Rattle.vx_fn_wire.specs.Plugin.{IsAnswer};
 ghost use Rattle.vx_fn_wire.specs.declared.scalar_fn.ScalarFn.{ScalarFn as Scalar};
 ghost use Rattle.vx_fn_wire.specs.declared.aggregate_fn.AggregateFn.{AggregateFn as Aggregate};
+ghost use Rattle.vx_fn_wire.specs.declared.plugin.PluginError.TheVariants.{OutOfMemory};
 
 use crate::aggregate_fn::AggregateFn;
 use crate::scalar_fn::ScalarFn;
-use std::alloc::Global;
+use std::alloc::{AllocError, AllocFailed, Global};
+use thiserror::Error;
 use vx_types::{DType, Id};
 
 /// Why a plugin gives no function.
-#[derive(Clone, Copy, Debug, PartialEq, Eq, Drop)]
+#[derive(Clone, Copy, Debug, PartialEq, Eq, Error)]
 pub enum PluginError {
     /// The allocator gave no memory.
+    #[error("out of memory")]
     OutOfMemory,
     /// The plugin refuses the metadata.
+    #[error("the plugin refuses")]
     Refused,
+}
+
+impl From<AllocError> for PluginError {
+    ghost from_gives = { λ _ e. e ≡ OutOfMemory };
+
+    fn from(_: AllocError) -> PluginError {
+        PluginError::OutOfMemory
+    }
+}
+
+impl<T: Drop> From<AllocFailed<T>> for PluginError {
+    ghost from_gives = { λ _ e. e ≡ OutOfMemory };
+
+    fn from(_: AllocFailed<T>) -> PluginError {
+        PluginError::OutOfMemory
+    }
 }
 
 /// What a caller knows of the functions of rows of one identifier.

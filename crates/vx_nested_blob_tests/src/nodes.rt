@@ -82,9 +82,9 @@ const PLANS: [(Encoding, Nested, usize, Option<EncodingError>); 20] = [
     (Encoding::Struct, Nested::SomePairs, 4, UNFIT),
     (Encoding::Struct, Nested::OneField, 0, UNFIT),
     (Encoding::Struct, Nested::Unions, 2, UNFIT),
-    (Encoding::Ext, Nested::Stored, 1, None),
-    (Encoding::Ext, Nested::Stored, 0, UNFIT),
-    (Encoding::Ext, Nested::Stored, 2, UNFIT),
+    (Encoding::Extension, Nested::Stored, 1, None),
+    (Encoding::Extension, Nested::Stored, 0, UNFIT),
+    (Encoding::Extension, Nested::Stored, 2, UNFIT),
     (Encoding::Union, Nested::Unions, 3, None),
     (Encoding::Union, Nested::Unions, 2, UNFIT),
     (Encoding::Union, Nested::Unions, 4, UNFIT),
@@ -105,7 +105,7 @@ fn plans_have_the_children_of_the_encoding(rt: HostRuntime) {
 const WITHOUT: [(Encoding, Nested, usize); 4] = [
     (Encoding::FixedSizeList, Nested::Threes, 1),
     (Encoding::Struct, Nested::Pairs, 2),
-    (Encoding::Ext, Nested::Stored, 1),
+    (Encoding::Extension, Nested::Stored, 1),
     (Encoding::Union, Nested::Unions, 3),
 ];
 

@@ -68,7 +68,7 @@ impl ArraySession {
             Encoding::Dict,
             Encoding::FixedSizeList,
             Encoding::Struct,
-            Encoding::Ext,
+            Encoding::Extension,
             Encoding::List,
             Encoding::ListView,
             Encoding::Map,

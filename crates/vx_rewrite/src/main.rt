@@ -4,7 +4,7 @@
 
 ghost use Rattle.vx_flat.specs.IsOf.{IsOf};
 ghost use Rattle.vx_flat.specs.View.{value as value_of};
-ghost use Rattle.vx_serde.specs.ArraySchema.{array_schema};
+ghost use Rattle.vx_serialized.specs.ArraySchema.{array_schema};
 
 use anyhow::{Context, Result, bail};
 use std::rt::Files;

@@ -25,10 +25,10 @@ use crate::pb;
 use crate::reading::{read_scalar, read_value};
 use crate::writing::{scalar_slots, value_slots};
 use std::alloc::Global;
-use vx_proto::{Blob, Message, PlainMessage};
+use vx_proto::{Message, PlainMessage};
 use vx_scalars::{Scalar, ScalarValue};
 use vx_type_wire::{DTypeExt, ExtSession, TypeWireError, pb as types};
-use vx_types::DType;
+use vx_types::{Blob, DType};
 
 /// A value into its message.
 pub trait ScalarValueExt: Sized {
@@ -89,7 +89,7 @@ impl ScalarValueExt for ScalarValue {
     {
         let message = ScalarValue::to_proto(alloc, value)?;
         let bytes = message.encode_to_vec(alloc)?;
-        Ok(bytes)
+        Ok(Blob::new(bytes.into_vec()))
     }
 
     /// The value, or the null, whose message this is at a type.

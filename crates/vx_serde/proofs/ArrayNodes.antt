@@ -13,35 +13,22 @@ use Rattle.vx_wire_tree.specs.Session.{SessionMeaning}
 use Rattle.vx_wire_tree.specs.Wire.{ids_in, buffers_in}
 use Rattle.vx_wire_tree.specs.Written.{wire}
 use Rattle.vx_encodings.specs.Messages.{codec}
-use Rattle.vx_serde.specs.declared.error.WireError.{WireError}
-use Rattle.vx_serde.specs.declared.error.WireError.TheVariants.{OutOfMemory, NotPermitted, WireLimit}
-use Rattle.vx_serde.specs.ArrayNode.{plain_options, array_value, array_pieces, RefusesBlocks, LeavesBuilder}
-use Rattle.vx_serde.specs.ArraySchema.{array_schema, node_fields}
+use Rattle.vx_serialized.specs.declared.error.WireError.{WireError}
+use Rattle.vx_serialized.specs.declared.error.WireError.TheVariants.{OutOfMemory, NotPermitted, WireLimit}
+use Rattle.vx_serde.specs.ArrayNode.{plain_options, array_value, array_pieces, RefusesBlocks}
+use Rattle.vx_serialized.specs.ArraySchema.{array_schema, node_fields}
 use Rattle.vx_flat.specs.Building.{AreWritten}
 use Rattle.vx_serde.specs.Blocks.{encodings_in, node_pieces, layout_by}
 use Rattle.vx_serde.specs.MessageValue.{node_value, descriptors_bytes}
 use Rattle.vx_serde.specs.Numbered.{numbered}
 use Rattle.vx_serde.specs.Placing.{descriptors_from}
-use Rattle.vx_serde.specs.ReadingSteps.{message_refusal}
+use Rattle.vx_serialized.specs.ReadingSteps.{message_refusal}
 use Rattle.vx_serde.specs.WritingSteps.{RefusesIds, layout_of}
 use Rattle.vx_serde.proofs.MessageBlocks.{too-many}
 use Rattle.vx_serde.proofs.NumberedBy.{as-many, root-numbered, layout-numbered, message-of_kind}
 use Rattle.vx_serde.proofs.WholeBlob.{unwritten}
 use Rattle.vx_serde.proofs.WiredStats.{wire-tabled, wire-told}
 use Rattle.vx_serde.proofs.WrittenAgain.{grown-ids, wire-whole}
-
--- A refusal leaves a builder as it was.
-pub builder_kept : (b : Built) (e : WireError) → LeavesBuilder b b e
-builder_kept b NotPermitted = refl
-builder_kept b WireLimit = inl refl
-builder_kept b _ = tt
-
--- A builder that refuses a block has failed, or wants memory.
-pub builder_stopped : (old new : Built) (ps : List Piece) (e : FlatError) → RefusesPieces old ps e new → LeavesBuilder old new (message_refusal e)
-builder_stopped old new ps flat.OutOfMemory h = tt
-builder_stopped old new ps flat.MessageTooLong h = inr h.1
-builder_stopped old new ps flat.BadTable h = absurd h
-builder_stopped old new ps flat.TableLimit h = absurd h
 
 module _ (s : SessionMeaning) (t : Tree) (c : Context) where
   -- The blocks of the nodes whose encodings have the numbers of the grown context.
@@ -52,16 +39,16 @@ module _ (s : SessionMeaning) (t : Tree) (c : Context) where
       ap (λ root. table_pieces array_schema node_fields (node_value root)) (root-numbered d.ids w es e ∙ ap (λ ids. numbered ids 0 w) (grown-ids s t c d g))
 
   -- A tree whose nodes are not gathered.
-  pub ungathered : (b : Built) (e : WireError) → RefusesIds (ids_in (wire codec s t)) c e → RefusesBlocks s t c b e
+  pub ungathered : (b : Built) (e : WireError) → RefusesIds (ids_in (wire codec s t)) c e → RefusesBlocks s t c b b e
   ungathered b OutOfMemory h = tt
-  ungathered b NotPermitted h = h
+  ungathered b NotPermitted h = (refl, h)
   ungathered b _ h = absurd h
 
   -- An array of too many buffers or nodes.
   pub too-much : (b : Built) (d : Context) (es : List ℕ) (bs : List Buffer) → grown_by (ids_in (wire codec s t)) c ≡ Some d → es ≡ encodings_in d.ids (wire codec s t) → bs ≡ buffers_in (wire codec s t)
-      → (65535 < length bs) ⊎ (499999 < length es) → RefusesBlocks s t c b WireLimit
-  too-much b d es bs g e f (inl l) = inl (λ k. omega (arith, l, k.writable.tree.few, ap (λ z. length z) f))
-  too-much b d es bs g e f (inr l) = inl (λ k.
+      → (65535 < length bs) ⊎ (499999 < length es) → RefusesBlocks s t c b b WireLimit
+  too-much b d es bs g e f (inl l) = inl (refl, λ k. omega (arith, l, k.writable.tree.few, ap (λ z. length z) f))
+  too-much b d es bs g e f (inr l) = inl (refl, λ k.
       let w = wire codec s t in
       let bytes = descriptors_bytes (descriptors_from plain_options 0 (buffers_in w)) in
       let of = message-of_kind d.ids w es bytes e c d (descriptors_from plain_options 0 (buffers_in w)) refl g (wire-whole codec s t) (wire-tabled s t) k.writable.tree.few refl in
@@ -69,9 +56,9 @@ module _ (s : SessionMeaning) (t : Tree) (c : Context) where
       unwritten s t c plain_options bytes (layout_by es w bytes) WireLimit refl (layout-numbered d.ids w es bytes e ∙ ap (λ ids. layout_of ids w bytes) (grown-ids s t c d g)) (too-many es w bytes of false (wire-told s t) many) k)
 
   -- An array whose blocks a builder does not take.
-  pub blocks-refused : (b new : Built) (e : FlatError) → RefusesPieces b (array_pieces s t c) e new → RefusesBlocks s t c b (message_refusal e)
+  pub blocks-refused : (b new : Built) (e : FlatError) → RefusesPieces b (array_pieces s t c) e new → RefusesBlocks s t c b new (message_refusal e)
   blocks-refused b new flat.OutOfMemory h = tt
-  blocks-refused b new flat.MessageTooLong h = inr h.2
+  blocks-refused b new flat.MessageTooLong h = inr (h.1, h.2)
   blocks-refused b new flat.BadTable h = absurd h
   blocks-refused b new flat.TableLimit h = absurd h
 

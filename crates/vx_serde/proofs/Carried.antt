@@ -12,12 +12,12 @@ use Rattle.vx_flat.proofs.LawsOfMessages.{shown-layout}
 use Rattle.vx_buffer.specs.Buffer.{Buffer}
 use Rattle.vx_trees.specs.Everywhere.{Everywhere}
 use Rattle.vx_serde.specs.declared.options.SerializeOptions.{SerializeOptions}
-use Rattle.vx_serde.specs.ArraySchema.{array_schema}
+use Rattle.vx_serialized.specs.ArraySchema.{array_schema}
 use Rattle.vx_wire_tree.specs.Limits.{AreDescribable}
-use Rattle.vx_serde.specs.Message.{Descriptor, message_of}
+use Rattle.vx_serialized.specs.Message.{Descriptor, message_of}
 use Rattle.vx_serde.specs.MessageValue.{message_value}
 use Rattle.vx_wire_tree.specs.Wire.{Wire, IsWhole, ids_in, buffers_in}
-use Rattle.vx_serde.specs.Blob.{IsBlob, buffers_at, end_of, wire_of, Carries, AreClean}
+use Rattle.vx_serialized.specs.Blob.{IsBlob, buffers_at, end_of, wire_of, Carries, AreClean}
 use Rattle.vx_serde.specs.Numbered.{numbered}
 use Rattle.vx_serde.specs.Placing.{descriptors_from, data_from}
 use Rattle.vx_serde.specs.Written.{message_bytes, message_pad, blob_bytes, IsWritable}

@@ -11,8 +11,8 @@ use Rattle.vx_wire_tree.specs.Wire.{id_in, ids_in}
 use Rattle.vx_wire_tree.specs.Written.{writes_two, wire}
 use Rattle.vx_encodings.specs.Messages.{codec}
 use Rattle.vx_registry.specs.Serialization.{array_id}
-use Rattle.vx_serde.specs.declared.error.WireError.{WireError}
-use Rattle.vx_serde.specs.declared.error.WireError.TheVariants.{OutOfMemory, NotPermitted}
+use Rattle.vx_serialized.specs.declared.error.WireError.{WireError}
+use Rattle.vx_serialized.specs.declared.error.WireError.TheVariants.{OutOfMemory, NotPermitted}
 use Rattle.vx_serde.specs.declared.options.SerializeOptions.{SerializeOptions}
 use Rattle.vx_serde.specs.WritingSteps.{RefusesIds, RefusesLayout}
 use Rattle.vx_serde.proofs.GrownNodes.{ungrown-own, ungrown-child}

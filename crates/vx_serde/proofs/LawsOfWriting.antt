@@ -2,7 +2,7 @@
 
 -- A tree that may be written is carried by its blob, which is a segment, a message and a length, and no others.
 pub use Rattle.vx_serde.proofs.Carried.{carried, is_blob, shows-layout}
-pub use Rattle.vx_serde.proofs.CarriedOnce.{one_blob}
+pub use Rattle.vx_serialized.proofs.LawsOfBlobs.{one_blob}
 pub use Rattle.vx_serde.proofs.WholeBlob.{length-blob}
 -- The nodes of its message are of its schema where the context has their identifiers and the buffers can be numbered.
 pub use Rattle.vx_serde.proofs.MessageRead.{message_value_is_of}

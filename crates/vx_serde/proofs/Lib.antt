@@ -1,18 +1,15 @@
 mod ListSteps
-mod Pieces
 mod Growing
 mod PlacedData
 mod WalkedNodes
 mod GrownNodes
 mod WholeBlob
-mod NodeTold
 mod MessageRead
 mod PlacedRead
 mod NumberedRead
 mod WiredStats
 mod Carried
 mod CountableMetadata
-mod CarriedOnce
 mod GrownPlaced
 mod WiredNodes
 mod WiredAlike
@@ -32,16 +29,9 @@ mod PadsAlign
 mod AlignedBlob
 mod WrittenOwn
 mod Serializations
-mod SerializedNodes
-mod StandingNames
-mod OverriddenBuffers
-mod StoredMessages
-mod DecodedNodes
-mod KeptNodes
 mod ArrayNodes
 mod Taking
 mod TakenBelow
-mod EntrySteps
 -- For the proofs of other crates.
 pub mod LawsOfWriting
 pub mod LawsOfReading

@@ -20,12 +20,12 @@ use Rattle.vx_flat.proofs.LawsOfMessages.{weight-shown}
 use Rattle.vx_trees.specs.Everywhere.{Everywhere}
 use Rattle.vx_trees.specs.Walks.{nodes}
 use Rattle.vx_wire_tree.specs.Wire.{Wire}
-use Rattle.vx_serde.specs.declared.error.WireError.{WireError}
-use Rattle.vx_serde.specs.declared.error.WireError.TheVariants.{WireLimit}
-use Rattle.vx_serde.specs.ArraySchema.{array_schema}
+use Rattle.vx_serialized.specs.declared.error.WireError.{WireError}
+use Rattle.vx_serialized.specs.declared.error.WireError.TheVariants.{WireLimit}
+use Rattle.vx_serialized.specs.ArraySchema.{array_schema}
 use Rattle.vx_flat.specs.Building.{AreWritten}
 use Rattle.vx_serde.specs.Blocks.{node_pieces, message_by, layout_by}
-use Rattle.vx_serde.specs.ReadingSteps.{message_refusal}
+use Rattle.vx_serialized.specs.ReadingSteps.{message_refusal}
 use Rattle.vx_serde.specs.WritingSteps.{AreDescriptors, RefusesBytes}
 use Rattle.vx_serde.proofs.Carried.{shows-layout}
 use Rattle.vx_serde.proofs.MessageRead.{length-descriptors_bytes}
@@ -108,11 +108,6 @@ module _ (es : List ℕ) (w : Wire) (bytes : List ℕ) (of : IsOf array_schema (
 
 -- ---- answers
 
--- What an answer shows, shown again.
-pub if_ok : {T E : Type 0} (r : Result T E) (P Q : T → Type 0) → ((x : T) → P x → Q x) → IfOk r P → IfOk r Q
-if_ok (Ok x) P Q f h = f x h
-if_ok (Err e) P Q f h = tt
-
 -- What holds of some bytes holds of those that an answer gives, where they are the same.
 pub if_ok-same : {T E : Type 0} (r : Result T E) (f : T → List ℕ) (m : List ℕ) (Q : List ℕ → Type 0) → IfOk r (λ x. f x ≡ m) → OnOk r (Q m) → IfOk r (λ x. Q (f x))
 if_ok-same (Ok x) f m Q h q = subst Q (sym h) q
@@ -122,12 +117,3 @@ if_ok-same (Err e) f m Q h q = tt
 pub if_ok_where : {T E : Type 0} (r : Result T E) (H : Type 0) (P Q : T → Type 0) → (H → (x : T) → P x → Q x) → OnOk r H → IfOk r P → IfOk r Q
 if_ok_where (Ok x) H P Q f k h = f k x h
 if_ok_where (Err e) H P Q f k h = tt
-
-pub if_err : {T E : Type 0} (r : Result T E) (P Q : E → Type 0) → ((e : E) → P e → Q e) → IfErr r P → IfErr r Q
-if_err (Ok x) P Q f h = tt
-if_err (Err e) P Q f h = f e h
-
--- What holds in any case holds where an answer is given.
-pub ok_of : {T E : Type 0} (r : Result T E) (P : Type 0) → P → OnOk r P
-ok_of (Ok x) P h = h
-ok_of (Err e) P h = tt

@@ -1,54 +1,34 @@
 -- Where a blob spells an array within the limits, no refusal but want of memory has a cause.
 use Rattle.std.proofs.Common.{ℕ, ◌≡◌, List, ◌++◌, Option, Some, None, length, refl, sym, ap, ◌∙◌, subst, arith, length-append, inl, inr}
-use Rattle.std.specs.Prelude.{IsSome, Result, Ok, Err, IfOk, IfErr}
+use Rattle.std.specs.Prelude.{IsSome}
 use Rattle.std.specs.Int.{w32, from_le_bytes}
 use Rattle.vx_types.specs.Typ.{Typ}
 use Rattle.vx_array_tree.specs.Tree.{Tree}
 use Rattle.vx_flat.specs.Value.{Fields}
 use Rattle.vx_flat.specs.Shows.{Shows}
 use Rattle.vx_flat.proofs.LawsOfMessages.{shown-one}
-use Rattle.vx_wire_tree.specs.Causes as trees
 use Rattle.vx_wire_tree.specs.Codec.{IsLawful}
 use Rattle.vx_wire_tree.specs.Context.{Context, grown}
 use Rattle.vx_wire_tree.specs.ReadBack.{IsWritten}
 use Rattle.vx_wire_tree.specs.Session.{SessionMeaning, IsShipped, IsPaired}
-use Rattle.vx_wire_tree.specs.Tells.{Tells}
 use Rattle.vx_wire_tree.specs.Wire.{Wire}
-use Rattle.vx_wire_tree.proofs.Laws.{never_refused, matched_written, one_tree}
+use Rattle.vx_wire_tree.proofs.Laws.{matched_written}
 use Rattle.vx_encodings.specs.Messages.{codec}
-use Rattle.vx_serde.specs.declared.error.WireError.{WireError}
-use Rattle.vx_serde.specs.declared.error.WireError.TheVariants.{OutOfMemory, TooShort, BadTable, TableLimit, BadAlignment, Compressed, OutOfBounds, UnknownIndex, UnknownEncoding, BadMetadata, BadShape, BadContent, ForeignControl, BadStats, NotPermitted, WireLimit, PluginRefused}
-use Rattle.vx_serde.specs.ArraySchema.{array_schema}
-use Rattle.vx_serde.specs.Message.{Descriptor, message_of}
-use Rattle.vx_serde.specs.Blob.{Carries, IsBlob, AreClean}
+use Rattle.vx_serialized.specs.declared.error.WireError.{WireError}
+use Rattle.vx_serialized.specs.declared.error.WireError.TheVariants.{OutOfMemory, TooShort, BadTable, TableLimit, BadAlignment, Compressed, OutOfBounds, NotPermitted, WireLimit}
+use Rattle.vx_serialized.specs.ArraySchema.{array_schema}
+use Rattle.vx_serialized.specs.Message.{Descriptor, message_of}
+use Rattle.vx_serialized.specs.Blob.{Carries, IsBlob, AreClean}
 use Rattle.vx_serde.specs.Limits.{message_limits}
-use Rattle.vx_serde.specs.Opening.{IsTooShort, RefusesOpening, RefusesDescriptors, HasRefusedDescriptors, ShowsNoRoot}
-use Rattle.vx_serde.specs.Causes.{RefusesWriting, RefusesArray, RefusesWire, RefusesCarried}
+use Rattle.vx_serialized.specs.Opening.{IsTooShort, RefusesOpening, RefusesDescriptors, HasRefusedDescriptors, ShowsNoRoot}
+use Rattle.vx_serialized.specs.Causes.{RefusesWire}
+use Rattle.vx_serde.specs.Causes.{RefusesWriting, RefusesArray, RefusesCarried}
 use Rattle.vx_serde.specs.Spells.{KeepsReaderLimits, KeepsWriterLimits}
 use Rattle.vx_serde.specs.Request.{Request, IsSpelled, CanRecode}
 use Rattle.vx_serde.proofs.OneArray.{spelled_once}
-use Rattle.vx_serde.proofs.CarriedOnce.{one_blob, carried_once, backs}
+use Rattle.vx_serialized.proofs.LawsOfBlobs.{one_blob, carried_once, backs}
+use Rattle.vx_serialized.proofs.LawsOfTrees.{never_caused}
 use Rattle.vx_serde.proofs.Taking.{refused_own}
-
--- No node of a wire tree that tells an array is refused.
-pub never_caused_in : (s : SessionMeaning) → IsShipped s → IsLawful codec s → (x : WireError) (w : Wire) (d : Typ) (n : ℕ) (t : Tree) → Tells codec s w d n t → RefusesWire s x w d n → x ≡ OutOfMemory
-never_caused_in s ok law OutOfMemory w d n t told c = refl
-never_caused_in s ok law OutOfBounds w d n t told c = absurd (never_refused codec s ok law trees.out_of_bounds w d n t told c)
-never_caused_in s ok law UnknownIndex w d n t told c = absurd (never_refused codec s ok law trees.unknown_index w d n t told c)
-never_caused_in s ok law UnknownEncoding w d n t told c = absurd (never_refused codec s ok law trees.unknown_encoding w d n t told c)
-never_caused_in s ok law BadMetadata w d n t told c = absurd (never_refused codec s ok law trees.bad_metadata w d n t told c)
-never_caused_in s ok law BadShape w d n t told c = absurd (never_refused codec s ok law trees.bad_shape w d n t told c)
-never_caused_in s ok law BadContent w d n t told c = absurd (never_refused codec s ok law trees.bad_content w d n t told c)
-never_caused_in s ok law ForeignControl w d n t told c = absurd (never_refused codec s ok law trees.foreign_control w d n t told c)
-never_caused_in s ok law BadStats w d n t told c = absurd (never_refused codec s ok law trees.bad_stats w d n t told c)
-never_caused_in s ok law PluginRefused w d n t told c = absurd (never_refused codec s ok law trees.plugin_refused w d n t told c)
-never_caused_in s ok law _ w d n t told c = absurd c
-
--- What a wire tree tells is the one array that it tells, and where it tells one only want of memory is left to refuse.
-pub told_one : (s : SessionMeaning) → IsShipped s → IsLawful codec s → (w : Wire) (d : Typ) (n : ℕ) (r : Result Tree WireError) → IfOk r (λ u. Tells codec s w d n u) → IfErr r (λ e. RefusesWire s e w d n)
-    → (t : Tree) → Tells codec s w d n t → IfOk r (λ u. u ≡ t) × IfErr r (λ e. e ≡ OutOfMemory)
-told_one s ok law w d n (Ok u) told cause t x = (one_tree codec s ok law w d n u t told x, tt)
-told_one s ok law w d n (Err e) told cause t x = (tt, never_caused_in s ok law e w d n t x cause)
 
 -- ---- the blob
 
@@ -95,7 +75,7 @@ module _ (asked : Request) (ok : IsShipped asked.session) (law : IsLawful codec 
   never_below x h =
       let same = (carried_once asked.blob asked.ids h.wire spelled.wire h.carried spelled.carried).tree in
       let P : Wire → Type 0 = λ z. RefusesWire asked.session x z asked.dtype asked.len in
-      never_caused_in asked.session ok law x spelled.wire asked.dtype asked.len t spelled.told (subst P same h.cause)
+      never_caused asked.session ok law x spelled.wire asked.dtype asked.len t spelled.told (subst P same h.cause)
 
   -- The blob is opened.
   pub never_closed : KeepsReaderLimits asked.options asked.blob → (x : WireError) → RefusesOpening (message_limits asked.options) x asked.blob → x ≡ OutOfMemory

@@ -12,7 +12,7 @@ use Rattle.vx_scalar_wire.proofs.LawsStats.{pieces_anywhere}
 use Rattle.vx_trees.specs.Rose.{node, label, below, roses_of}
 use Rattle.vx_trees.specs.Walks.{nodes, nodes_of, gathered, gathered_below}
 use Rattle.vx_wire_tree.specs.Wire.{Wire, present, buffers_at_node, buffers_in}
-use Rattle.vx_serde.specs.ArraySchema.{array_schema, stats_fields}
+use Rattle.vx_serialized.specs.ArraySchema.{array_schema, stats_fields}
 use Rattle.vx_serde.specs.Blocks.{numbered_below_by, node_pieces, children_pieces}
 use Rattle.vx_serde.specs.MessageValue.{index_bytes, rows_value}
 use Rattle.vx_serde.specs.Numbered.{numbers_from}

@@ -10,10 +10,10 @@ use Rattle.vx_flat.specs.declared.schema.FieldKind.TheVariants.{Table}
 use Rattle.vx_trees.specs.Rose.{node, end, more}
 use Rattle.vx_trees.specs.Walks.{gathered_below}
 use Rattle.vx_trees.specs.Everywhere.{Everywhere, EverywhereBelow}
-use Rattle.vx_serde.specs.ArraySchema.{array_schema}
+use Rattle.vx_serialized.specs.ArraySchema.{array_schema}
 use Rattle.vx_serde.specs.MessageValue.{IsNumberedNode, IsNumbered}
 use Rattle.vx_wire_tree.specs.Wire.{WireHead, Wire, Wires, IsWholeNode, IsWhole, present, id_in, buffers_at_node, ids_in, buffers_in}
-use Rattle.vx_serde.specs.Blob.{wire_of, wires_of}
+use Rattle.vx_serialized.specs.Blob.{wire_of, wires_of}
 use Rattle.vx_wire_tree.specs.Context.{index_of}
 use Rattle.vx_serde.specs.Numbered.{encoding_index, numbers_from, numbered, numbered_below}
 

@@ -9,7 +9,7 @@ use Rattle.vx_wire_tree.specs.Wire.{Wire}
 use Rattle.vx_wire_tree.proofs.Laws.{one_tree}
 use Rattle.vx_encodings.specs.Messages.{codec}
 use Rattle.vx_serde.specs.Spells.{Spells}
-use Rattle.vx_serde.proofs.CarriedOnce.{carried_once}
+use Rattle.vx_serialized.proofs.LawsOfBlobs.{carried_once}
 
 -- A blob spells at most one array at a type and a length, beside one list of identifiers and under one session.
 pub spelled_once : (blob : List ℕ) (ids : List (List ℕ)) (d : Typ) (n : ℕ) (s : SessionMeaning) (t u : Tree) → IsShipped s → IsLawful codec s → Spells blob ids d n s t → Spells blob ids d n s u → t ≡ u

@@ -10,7 +10,7 @@ use Rattle.vx_buffer.specs.Buffer.{Buffer}
 use Rattle.vx_serde.specs.declared.options.SerializeOptions.{SerializeOptions}
 use Rattle.vx_wire_tree.specs.Limits.{IsDescribable, AreDescribable}
 use Rattle.vx_serde.specs.MessageValue.{IsDescribed}
-use Rattle.vx_serde.specs.Blob.{buffers_at, end_of}
+use Rattle.vx_serialized.specs.Blob.{buffers_at, end_of}
 use Rattle.vx_serde.specs.Placing.{gap_to, pad, descriptors_from, data_from}
 
 -- Beside its pad, a buffer's bytes stand where its descriptor says.

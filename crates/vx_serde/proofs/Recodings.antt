@@ -22,25 +22,26 @@ use Rattle.vx_wire_tree.specs.Written.{wire, canon}
 use Rattle.vx_wire_tree.proofs.Laws.{matched_written, canon_wire, canon_written, canon_grown, never_untaken, no_plugin_refuses}
 use Rattle.vx_encodings.specs.Messages.{codec}
 use Rattle.vx_serde.specs.declared.options.SerializeOptions.{SerializeOptions}
-use Rattle.vx_serde.specs.declared.error.WireError.{WireError}
-use Rattle.vx_serde.specs.declared.error.WireError.TheVariants.{OutOfMemory, TooShort, BadTable, TableLimit, BadAlignment, Compressed, OutOfBounds, UnknownIndex, UnknownEncoding, BadMetadata, BadShape, BadContent, ForeignControl, BadStats, NotPermitted, WireLimit, NotRegistered, NotSerializable, UndeclaredId, PluginRefused}
-use Rattle.vx_serde.specs.ArraySchema.{array_schema}
-use Rattle.vx_serde.specs.Blob.{Carries}
+use Rattle.vx_serialized.specs.declared.error.WireError.{WireError}
+use Rattle.vx_serialized.specs.declared.error.WireError.TheVariants.{OutOfMemory, TooShort, BadTable, TableLimit, BadAlignment, Compressed, OutOfBounds, UnknownIndex, UnknownEncoding, BadMetadata, BadShape, BadContent, ForeignControl, BadStats, NotPermitted, WireLimit, NotRegistered, NotSerializable, UndeclaredId, PluginRefused}
+use Rattle.vx_serialized.specs.ArraySchema.{array_schema}
+use Rattle.vx_serialized.specs.Blob.{Carries}
 use Rattle.vx_serde.specs.Limits.{message_limits, most_levels}
-use Rattle.vx_serde.specs.Opening.{RefusesOpening}
-use Rattle.vx_serde.specs.ReadingSteps.{IsOpened}
+use Rattle.vx_serialized.specs.Opening.{RefusesOpening}
+use Rattle.vx_serialized.specs.ReadingSteps.{IsOpened}
 use Rattle.vx_serde.specs.KeptContext.{KeepsContext}
 use Rattle.vx_serde.specs.Spells.{Spells, KeepsReaderLimits, ids_after}
 use Rattle.vx_serde.specs.Placing.{data_from}
 use Rattle.vx_serde.specs.Written.{message_bytes, message_pad, blob_bytes, IsWritable}
 use Rattle.vx_buffer.specs.Joined.{joined}
 use Rattle.vx_serde.proofs.Carried.{is_blob}
-use Rattle.vx_serde.specs.Causes.{Refuses, RefusesWire, RefusesArray, RefusesSpelled, SpellsOne}
+use Rattle.vx_serialized.specs.Causes.{RefusesWire}
+use Rattle.vx_serde.specs.Causes.{Refuses, RefusesArray, RefusesSpelled, SpellsOne}
 use Rattle.vx_serde.specs.Serializing.{IsWrittenBlob, IsSerialized}
 use Rattle.vx_serde.specs.Request.{Request, IsSpelled}
 use Rattle.vx_serde.specs.Recoding.{Product, IsRecoded, IsFaithful, IsTwiceAsOnce, LeavesContext}
 use Rattle.vx_serde.specs.Taking.{as_written}
-use Rattle.vx_serde.proofs.CarriedOnce.{one_blob}
+use Rattle.vx_serialized.proofs.LawsOfBlobs.{one_blob}
 use Rattle.vx_serde.proofs.OneArray.{spelled_once}
 use Rattle.vx_serde.proofs.WrittenAgain.{spelled_again, serialized_again}
 use Rattle.vx_serde.proofs.WrittenOwn.{serialized_own}

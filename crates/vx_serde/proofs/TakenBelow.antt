@@ -11,8 +11,8 @@ use Rattle.vx_array_tree.specs.Tree.{Tree, Trees, Head, places}
 use Rattle.vx_wire_tree.specs.Limits.{HasMessage, HasMessages}
 use Rattle.vx_wire_tree.specs.Session.{SessionMeaning}
 use Rattle.vx_wire_tree.specs.Taken.{step, written, taken, IsTaken, each, Each}
-use Rattle.vx_serde.specs.declared.error.WireError.{WireError}
-use Rattle.vx_serde.specs.declared.error.WireError.TheVariants.{OutOfMemory}
+use Rattle.vx_serialized.specs.declared.error.WireError.{WireError}
+use Rattle.vx_serialized.specs.declared.error.WireError.TheVariants.{OutOfMemory}
 use Rattle.vx_serde.specs.declared.taken.TakenRoot.{TakenRoot}
 use Rattle.vx_serde.specs.Taking.{source_tree, root_head, root_below, root_node, root_arrays, IsOwn, AreTaken, AreWithinLevels, IsRootAt, RefusesTaking, RefusesOneOf}
 use Rattle.vx_serde.proofs.ListSteps.{take_next}

@@ -22,11 +22,11 @@ use Rattle.vx_wire_tree.specs.Written.{head_id}
 use Rattle.vx_registry.specs.Serialization.{RefusesSerializing, HasLargeMetadata, array_id}
 use Rattle.vx_registry.specs.declared.error.RegistryError.{RegistryError}
 use Rattle.vx_registry.specs.declared.error.RegistryError.TheVariants as registry
-use Rattle.vx_serde.specs.declared.error.WireError.{WireError}
-use Rattle.vx_serde.specs.declared.error.WireError.TheVariants.{OutOfMemory, NotPermitted, WireLimit, NotSerializable}
+use Rattle.vx_serialized.specs.declared.error.WireError.{WireError}
+use Rattle.vx_serialized.specs.declared.error.WireError.TheVariants.{OutOfMemory, NotPermitted, WireLimit, NotSerializable}
 use Rattle.vx_serde.specs.declared.options.SerializeOptions.{SerializeOptions}
 use Rattle.vx_serde.specs.Causes.{RefusesWriting, RefusesArray}
-use Rattle.vx_serde.specs.Errors.{registry_refusal}
+use Rattle.vx_serialized.specs.Errors.{registry_refusal}
 use Rattle.vx_serde.specs.Limits.{most_levels}
 use Rattle.vx_serde.specs.Spells.{KeepsWriterLimits}
 use Rattle.vx_serde.specs.declared.taken.GivenParts.{GivenParts}

@@ -12,10 +12,10 @@ use Rattle.vx_wire_tree.specs.Limits.{AreDescribable}
 use Rattle.vx_serde.proofs.WiredNodes.{wired-levels}
 use Rattle.vx_wire_tree.specs.Context.{Context}
 use Rattle.vx_wire_tree.specs.Session.{SessionMeaning}
-use Rattle.vx_serde.specs.declared.error.WireError.{WireError}
-use Rattle.vx_serde.specs.declared.error.WireError.TheVariants.{OutOfMemory, NotPermitted, WireLimit}
+use Rattle.vx_serialized.specs.declared.error.WireError.{WireError}
+use Rattle.vx_serialized.specs.declared.error.WireError.TheVariants.{OutOfMemory, NotPermitted, WireLimit}
 use Rattle.vx_serde.specs.declared.options.SerializeOptions.{SerializeOptions}
-use Rattle.vx_serde.specs.ArraySchema.{array_schema}
+use Rattle.vx_serialized.specs.ArraySchema.{array_schema}
 use Rattle.vx_serde.specs.MessageValue.{descriptors_bytes}
 use Rattle.vx_wire_tree.specs.Wire.{buffers_in, Wire}
 use Rattle.vx_wire_tree.specs.Written.{wire}

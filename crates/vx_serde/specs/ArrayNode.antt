@@ -8,14 +8,14 @@ use Rattle.vx_wire_tree.specs.Context.{Context}
 use Rattle.vx_wire_tree.specs.Session.{SessionMeaning}
 use Rattle.vx_wire_tree.specs.Written.{wire}
 use Rattle.vx_encodings.specs.Messages.{codec}
-use Rattle.vx_serde.specs.declared.error.WireError.{WireError}
-use Rattle.vx_serde.specs.declared.error.WireError.TheVariants.{NotPermitted, WireLimit}
+use Rattle.vx_serialized.specs.declared.error.WireError.{WireError}
+use Rattle.vx_serialized.specs.declared.error.WireError.TheVariants.{NotPermitted, WireLimit}
 use Rattle.vx_serde.specs.declared.options.SerializeOptions.{SerializeOptions}
-use Rattle.vx_serde.specs.ArraySchema.{array_schema, node_fields}
+use Rattle.vx_serialized.specs.ArraySchema.{array_schema, node_fields}
 use Rattle.vx_serde.specs.Causes.{RefusesWriting}
 use Rattle.vx_serde.specs.MessageValue.{node_value}
 use Rattle.vx_serde.specs.Numbered.{numbered}
-use Rattle.vx_serde.specs.Spells.{KeepsWriterLimits, ids_after}
+use Rattle.vx_serde.specs.Spells.{ids_after}
 
 -- The options under which limits are kept where a call takes none.
 abbrev pub plain_options : SerializeOptions
@@ -30,15 +30,11 @@ array_value s t c = node_value (numbered (ids_after s t c) 0 (wire codec s t))
 abbrev pub array_pieces : SessionMeaning → Tree → Context → List Piece
 array_pieces s t c = table_pieces array_schema node_fields (array_value s t c)
 
--- Why the blocks of a tree that is written do not come after those that a builder has: by the refusal. As it has no blob, or
--- because with its blocks the message is too long.
-abbrev pub RefusesBlocks : SessionMeaning → Tree → Context → Built → WireError → Type 0
-RefusesBlocks s t c b WireLimit = (KeepsWriterLimits s t c plain_options → ⊥) ⊎ IsTooLong b (array_pieces s t c)
-RefusesBlocks s t c b e = RefusesWriting s t c plain_options e
-
--- What a refusal leaves of the caller's builder. Where the context refuses it, it is as it was; at a limit it is as it was, or
--- it has failed for want of room, and refuses from then on. Want of memory may leave blocks in it.
-abbrev pub LeavesBuilder : Built → Built → WireError → Type 0
-LeavesBuilder old new NotPermitted = new ≡ old
-LeavesBuilder old new WireLimit = (new ≡ old) ⊎ (new.failed ≡ true)
-LeavesBuilder old new e = Unit {0}
+-- Why the blocks of a tree that is written do not come after those that a builder has, and what it leaves of the builder: by
+-- the refusal. The context does not take one of the tree's identifiers, or the tree passes a limit on writing, and the builder
+-- is as it was; or with its blocks the message is too long, and the builder has failed, and refuses from then on. Want of
+-- memory may leave blocks in it.
+abbrev pub RefusesBlocks : SessionMeaning → Tree → Context → Built → Built → WireError → Type 0
+RefusesBlocks s t c old new NotPermitted = (new ≡ old) × RefusesWriting s t c plain_options NotPermitted
+RefusesBlocks s t c old new WireLimit = ((new ≡ old) × RefusesWriting s t c plain_options WireLimit) ⊎ ((new.failed ≡ true) × IsTooLong old (array_pieces s t c))
+RefusesBlocks s t c old new e = RefusesWriting s t c plain_options e

@@ -7,8 +7,8 @@ use Rattle.vx_flat.specs.Value.{Fields, table, elements, field, no_fields, rows_
 use Rattle.vx_trees.specs.Rose.{Rose, Roses, node, end, more}
 use Rattle.vx_trees.specs.Walks.{nodes, gathered, gathered_below}
 use Rattle.vx_wire_tree.specs.Wire.{Wire, Wires, present, buffers_at_node}
-use Rattle.vx_serde.specs.ArraySchema.{array_schema, node_fields}
-use Rattle.vx_serde.specs.Message.{NodeFields}
+use Rattle.vx_serialized.specs.ArraySchema.{array_schema, node_fields}
+use Rattle.vx_serialized.specs.Message.{NodeFields}
 use Rattle.vx_serde.specs.MessageValue.{node_value, rows_value}
 use Rattle.vx_serde.specs.Numbered.{encoding_index, numbers_from}
 

@@ -1,38 +1,22 @@
 -- The cause of each refusal.
-use Rattle.std.specs.Prelude.{ℕ, ◌≡◌, ◌≤◌, None, IsSomeAnd, ◌⊎◌}
+use Rattle.std.specs.Prelude.{◌≡◌, ◌≤◌, None, IsSomeAnd, ◌⊎◌}
 use Rattle.vx_trees.specs.Walks.{levels}
-use Rattle.vx_types.specs.Typ.{Typ}
 use Rattle.vx_array_tree.specs.Tree.{Tree}
-use Rattle.vx_wire_tree.specs.Causes.{RefusesTree}
-use Rattle.vx_wire_tree.specs.Causes as trees
 use Rattle.vx_wire_tree.specs.Context.{Context, grown}
 use Rattle.vx_wire_tree.specs.Session.{SessionMeaning, IsShipped}
 use Rattle.vx_wire_tree.specs.Taken.{IsTaken, HasUntaken}
 use Rattle.vx_wire_tree.specs.Wire.{Wire}
 use Rattle.vx_encodings.specs.Messages.{codec}
 use Rattle.vx_serde.specs.declared.options.SerializeOptions.{SerializeOptions}
-use Rattle.vx_serde.specs.declared.error.WireError.{WireError}
-use Rattle.vx_serde.specs.declared.error.WireError.TheVariants.{OutOfMemory, TooShort, BadTable, TableLimit, BadAlignment, Compressed, OutOfBounds, UnknownIndex, UnknownEncoding, BadMetadata, BadShape, BadContent, ForeignControl, BadStats, NotPermitted, WireLimit, NotRegistered, NotSerializable, UndeclaredId, PluginRefused}
-use Rattle.vx_serde.specs.Blob.{Carries}
+use Rattle.vx_serialized.specs.declared.error.WireError.{WireError}
+use Rattle.vx_serialized.specs.declared.error.WireError.TheVariants.{OutOfMemory, TooShort, BadTable, TableLimit, BadAlignment, Compressed, OutOfBounds, UnknownIndex, UnknownEncoding, BadMetadata, BadShape, BadContent, ForeignControl, BadStats, NotPermitted, WireLimit, NotRegistered, NotSerializable, UndeclaredId, PluginRefused}
+use Rattle.vx_serialized.specs.Blob.{Carries}
 use Rattle.vx_serde.specs.Limits.{message_limits, most_levels}
-use Rattle.vx_serde.specs.Opening.{RefusesOpening}
+use Rattle.vx_serialized.specs.Causes.{RefusesWire}
+use Rattle.vx_serialized.specs.Opening.{RefusesOpening}
 use Rattle.vx_serde.specs.Spells.{KeepsWriterLimits}
 use Rattle.vx_serde.specs.Taking.{as_written, unwritten_by}
 use Rattle.vx_serde.specs.Request.{Request, IsSpelled}
-
--- Why a wire tree tells no array at a type and a length: by the refusal.
-abbrev pub RefusesWire : SessionMeaning → WireError → Wire → Typ → ℕ → Type 0
-RefusesWire s OutOfMemory w d n = Unit {0}
-RefusesWire s OutOfBounds w d n = RefusesTree trees.out_of_bounds codec s w d n
-RefusesWire s UnknownIndex w d n = RefusesTree trees.unknown_index codec s w d n
-RefusesWire s UnknownEncoding w d n = RefusesTree trees.unknown_encoding codec s w d n
-RefusesWire s BadMetadata w d n = RefusesTree trees.bad_metadata codec s w d n
-RefusesWire s BadShape w d n = RefusesTree trees.bad_shape codec s w d n
-RefusesWire s BadContent w d n = RefusesTree trees.bad_content codec s w d n
-RefusesWire s ForeignControl w d n = RefusesTree trees.foreign_control codec s w d n
-RefusesWire s BadStats w d n = RefusesTree trees.bad_stats codec s w d n
-RefusesWire s PluginRefused w d n = RefusesTree trees.plugin_refused codec s w d n
-RefusesWire s _ w d n = ⊥
 
 -- The blob carries a wire tree that tells no array.
 pub record RefusesCarried (asked : Request) (e : WireError) : Type 0 where

@@ -1,20 +1,10 @@
-pub mod ArraySchema
-pub mod Message
 pub mod MessageValue
-pub mod FieldCode
-pub mod StatNames
 pub mod Limits
-pub mod Blob
-pub mod Serialized
 pub mod Numbered
 pub mod Placing
 pub mod Written
 pub mod KeptContext
 pub mod WrittenBuffers
-pub mod Errors
-pub mod Opening
-pub mod Overrides
-pub mod Stored
 pub mod Taking
 pub mod TakenFalls
 pub mod Lent
@@ -26,7 +16,5 @@ pub mod Serializing
 pub mod ArrayNode
 pub mod Recoding
 -- What the contracts of private functions alone cite.
-pub mod Decoding
-pub mod ReadingSteps
 pub mod Blocks
 pub mod WritingSteps

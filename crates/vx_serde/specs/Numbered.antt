@@ -3,7 +3,7 @@ use Rattle.std.specs.Prelude.{ℕ, zero, suc, ◌+◌, List, [], ◌∷◌, Opti
 use Rattle.vx_trees.specs.Rose.{Rose, Roses, node, end, more}
 use Rattle.vx_trees.specs.Walks.{gathered}
 use Rattle.vx_wire_tree.specs.Context.{index_of}
-use Rattle.vx_serde.specs.Message.{NodeFields}
+use Rattle.vx_serialized.specs.Message.{NodeFields}
 use Rattle.vx_wire_tree.specs.Wire.{Wire, Wires, present, buffers_at_node}
 
 -- The place of a node's identifier; 0 where it is missing.

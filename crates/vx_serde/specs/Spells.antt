@@ -13,9 +13,9 @@ use Rattle.vx_wire_tree.specs.Wire.{Wire, ids_in}
 use Rattle.vx_wire_tree.specs.Written.{wire}
 use Rattle.vx_encodings.specs.Messages.{codec}
 use Rattle.vx_serde.specs.declared.options.SerializeOptions.{SerializeOptions}
-use Rattle.vx_serde.specs.ArraySchema.{array_schema}
-use Rattle.vx_serde.specs.Message.{message_of}
-use Rattle.vx_serde.specs.Blob.{IsBlob, Carries, AreClean}
+use Rattle.vx_serialized.specs.ArraySchema.{array_schema}
+use Rattle.vx_serialized.specs.Message.{message_of}
+use Rattle.vx_serialized.specs.Blob.{IsBlob, Carries, AreClean}
 use Rattle.vx_serde.specs.Limits.{message_limits}
 use Rattle.vx_serde.specs.Written.{blob_bytes, IsWritable}
 use Rattle.vx_serde.specs.WrittenBuffers.{written_buffers}

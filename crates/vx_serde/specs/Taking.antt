@@ -11,8 +11,8 @@ use Rattle.vx_wire_tree.specs.Session.{SessionMeaning}
 use Rattle.vx_wire_tree.specs.Taken.{written, step, taken, IsTaken, given_head, each, Each, Any, HasUntaken, Unwritten, unregistered, unserializable, undeclared, unwilling}
 use Rattle.vx_registry.specs.Plugin.{parts_in}
 use Rattle.vx_registry.specs.declared.serialization.ArraySerialization.{ArraySerialization}
-use Rattle.vx_serde.specs.declared.error.WireError.{WireError}
-use Rattle.vx_serde.specs.declared.error.WireError.TheVariants.{OutOfMemory, WireLimit, NotRegistered, NotSerializable, UndeclaredId, PluginRefused}
+use Rattle.vx_serialized.specs.declared.error.WireError.{WireError}
+use Rattle.vx_serialized.specs.declared.error.WireError.TheVariants.{OutOfMemory, WireLimit, NotRegistered, NotSerializable, UndeclaredId, PluginRefused}
 use Rattle.vx_serde.specs.declared.options.SerializeOptions.{SerializeOptions}
 use Rattle.vx_serde.specs.declared.taken.GivenParts.{GivenParts}
 use Rattle.vx_serde.specs.declared.taken.Source.{Source}

@@ -5,7 +5,7 @@ use Rattle.vx_flat.specs.Layout.{written_layout}
 use Rattle.vx_flat.specs.Weight.{weight}
 use Rattle.vx_flat.specs.Limits.{IsLight}
 use Rattle.vx_serde.specs.declared.options.SerializeOptions.{SerializeOptions}
-use Rattle.vx_serde.specs.ArraySchema.{array_schema}
+use Rattle.vx_serialized.specs.ArraySchema.{array_schema}
 use Rattle.vx_wire_tree.specs.Limits.{IsWritableTree}
 use Rattle.vx_serde.specs.Limits.{message_limits, most_levels}
 use Rattle.vx_serde.specs.MessageValue.{message_value}

@@ -10,13 +10,12 @@ ghost use Rattle.vx_wire_tree.specs.Wire.{ids_in};
 ghost use Rattle.vx_wire_tree.specs.Written.{writes_two, wire};
 ghost use Rattle.vx_encodings.specs.Messages.{codec};
 ghost use Rattle.vx_registry.specs.Meaning.{session_meaning};
-ghost use Rattle.vx_serde.specs.ArrayNode.{plain_options, array_value, array_pieces, RefusesBlocks, LeavesBuilder};
-ghost use Rattle.vx_serde.specs.ArraySchema.{array_schema, node_fields};
+ghost use Rattle.vx_serde.specs.ArrayNode.{plain_options, array_value, array_pieces, RefusesBlocks};
+ghost use Rattle.vx_serialized.specs.ArraySchema.{array_schema, node_fields};
 ghost use Rattle.vx_serde.specs.Causes.{RefusesArray};
 ghost use Rattle.vx_serde.specs.KeptContext.{KeepsContext};
 ghost use Rattle.vx_serde.specs.Taking.{as_written};
 
-use crate::error::WireError;
 use crate::gathering::{Gathered, gather};
 use crate::limits::{MAX_BUFFERS, MAX_LEVELS, MAX_NODES};
 use crate::node_ref::NodeRef;
@@ -26,6 +25,7 @@ use std::alloc::Global;
 use vx_arrays::Array;
 use vx_flat::{Builder, LinkKind};
 use vx_registry::{ArrayContext, VortexSession};
+use vx_serialized::WireError;
 
 /// An array as a node of a message that a caller builds block by block. Its encodings are named by a context.
 #[derive(Drop)]
@@ -94,8 +94,7 @@ impl<'a> ArrayNodeFlatBuffer<'a> {
         ensures fits { IsOk result → length builder.new.bytes < 2 ^ 31 }
         ensures left { (s : SessionMeaning) → writes_two s ≡ self.old.two → KeepsContext (ids_in (wire codec s self.old.array)) self.old.ctx.now self.new.ctx.now }
         ensures kept { (s : SessionMeaning) → writes_two s ≡ self.old.two → OnErr result (Keeps builder.old (array_pieces s self.old.array self.old.ctx.now) builder.new) }
-        ensures builder { IfErr result (LeavesBuilder builder.old builder.new) }
-        ensures cause { (s : SessionMeaning) → writes_two s ≡ self.old.two → IfErr result (RefusesBlocks s self.old.array self.old.ctx.now builder.old) }
+        ensures cause { (s : SessionMeaning) → writes_two s ≡ self.old.two → IfErr result (RefusesBlocks s self.old.array self.old.ctx.now builder.old builder.new) }
     {
         let array = NodeRef::taken(&self.array);
         write_into(alloc, &array, self.two, self.ctx, builder)
@@ -117,8 +116,7 @@ fn write_into(
     ensures fits { IsOk result → length builder.new.bytes < 2 ^ 31 }
     ensures left { (s : SessionMeaning) → writes_two s ≡ two → KeepsContext (ids_in (wire codec s array.now)) ctx.old ctx.new }
     ensures kept { (s : SessionMeaning) → writes_two s ≡ two → OnErr result (Keeps builder.old (array_pieces s array.now ctx.old) builder.new) }
-    ensures builder { IfErr result (LeavesBuilder builder.old builder.new) }
-    ensures cause { (s : SessionMeaning) → writes_two s ≡ two → IfErr result (RefusesBlocks s array.now ctx.old builder.old) }
+    ensures cause { (s : SessionMeaning) → writes_two s ≡ two → IfErr result (RefusesBlocks s array.now ctx.old builder.old builder.new) }
 {
     let mut found = Gathered::new(alloc);
     gather(alloc, array, two, ctx, &mut found)?;

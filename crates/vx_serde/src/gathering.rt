@@ -13,12 +13,12 @@ ghost use Rattle.vx_serde.specs.Blocks.{encodings_in};
 ghost use Rattle.vx_serde.specs.KeptContext.{KeepsContext};
 ghost use Rattle.vx_serde.specs.WritingSteps.{RefusesIds};
 
-use crate::error::WireError;
 use crate::lent_buffers::LentBuffers;
 use crate::node_ref::NodeRef;
 use std::alloc::Global;
 use vx_buffer::BufferError;
 use vx_registry::ArrayContext;
+use vx_serialized::WireError;
 
 /// The buffers of nodes, lent, and the numbers of their encodings in a context, both in preorder.
 #[derive(Drop)]

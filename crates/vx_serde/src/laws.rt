@@ -8,7 +8,7 @@ ghost use Rattle.vx_serde.specs.Placing.{gap_to, descriptors_from};
 ghost use Rattle.vx_wire_tree.specs.Codec.{IsLawful};
 ghost use Rattle.vx_wire_tree.specs.Wire.{Wire};
 ghost use Rattle.vx_encodings.specs.Messages.{codec};
-ghost use Rattle.vx_serde.specs.Blob.{Carries};
+ghost use Rattle.vx_serialized.specs.Blob.{Carries};
 ghost use Rattle.vx_serde.specs.Spells.{Spells, blob_of, KeepsWriterLimits};
 ghost use Rattle.vx_wire_tree.specs.ReadBack.{HasStorableStats};
 ghost use Rattle.vx_wire_tree.specs.Written.{canon};

@@ -7,6 +7,7 @@ ghost use Rattle.vx_serde.specs.Limits.{most_levels as levels_by};
 use crate::lent_buffers::LentBuffers;
 use crate::options::SerializeOptions;
 use vx_buffer::BufferHandle;
+use vx_serialized::Descriptor;
 
 /// How many levels of nodes a written tree may have.
 pub(crate) const MAX_LEVELS: usize = 62;
@@ -24,9 +25,6 @@ pub(crate) const MAX_NODES: usize = 499_999;
 /// How many bytes a written buffer may have.
 pub(crate) const MAX_BUFFER_LEN: usize = 4_294_967_295;
 
-/// The greatest exponent of the alignment of a buffer that is read or written.
-pub(crate) const MAX_EXPONENT: u8 = 16;
-
 /// How many levels of nodes a tree may have that is written by these options.
 pub(crate) fn most_levels(options: &SerializeOptions) -> usize
     ensures { result ≡ levels_by options.now }
@@ -41,7 +39,7 @@ pub(crate) fn most_levels(options: &SerializeOptions) -> usize
 fn is_describable(buffer: &BufferHandle) -> bool
     ensures { IsTrue result ↔ IsDescribable buffer.now }
 {
-    if buffer.alignment().exponent() > MAX_EXPONENT {
+    if buffer.alignment().exponent() > Descriptor::MAX_EXPONENT {
         return false;
     }
     buffer.len() <= MAX_BUFFER_LEN

@@ -9,7 +9,6 @@ ghost use Rattle.vx_wire_tree.specs.Fields.{told};
 ghost use Rattle.vx_encodings.specs.Messages.{message_bytes};
 ghost use Rattle.vx_registry.specs.Serialization.{array_id};
 
-use crate::error::WireError;
 use crate::taken::{TakenNode, own_metadata};
 use std::alloc::Global;
 use std::marker::Model;
@@ -17,6 +16,7 @@ use vx_arrays::Array;
 use vx_buffer::BufferHandle;
 use vx_registry::written_id;
 use vx_scalars::StatsSet;
+use vx_serialized::WireError;
 use vx_types::{Blob, Id};
 
 /// What stands behind a node: an array, which is written as it stands, or a node that was taken.

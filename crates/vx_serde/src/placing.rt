@@ -7,10 +7,10 @@ ghost use Rattle.vx_serde.specs.Placing.{pad, descriptors_from, data_end};
 ghost use Rattle.vx_serde.specs.WrittenBuffers.{pad_buffers, data_buffers, greatest_exponent};
 
 use crate::lent_buffers::LentBuffers;
-use crate::message::Descriptor;
 use crate::options::SerializeOptions;
 use std::alloc::{AllocError, Global};
 use vx_buffer::{Alignment, BufferError, BufferHandle, ByteBuffer, ByteBuffers};
+use vx_serialized::Descriptor;
 
 /// Descriptors as bytes, and the position where the last buffer ends.
 #[derive(Drop)]

@@ -7,14 +7,13 @@ ghost use Rattle.vx_serde.specs.Request.{CanRecode, request};
 ghost use Rattle.vx_serde.specs.Recoding.{IsFaithful, IsRecoded, LeavesContext, product};
 ghost use Rattle.vx_serde.specs.Causes.{Refuses};
 
-use crate::error::WireError;
 use crate::options::SerializeOptions;
-use crate::serialized::SerializedArray;
 use crate::serializing::ArrayExt;
 use std::alloc::Global;
 use vx_arrays::Array;
 use vx_buffer::{ByteBuffer, ByteBuffers};
 use vx_registry::{ArrayContext, ReadContext, VortexSession};
+use vx_serialized::{SerializedArray, WireError};
 use vx_types::DType;
 
 /// An array that was read from a blob, and the blob that is written for it.

@@ -12,13 +12,13 @@ ghost use Rattle.vx_serde.specs.KeptContext.{KeepsContext};
 ghost use Rattle.vx_serde.specs.Serializing.{IsSerialized, ReturnsWhole, IsSpelledAgain, IsReadAgain, IsSpelledBack};
 ghost use Rattle.vx_serde.specs.Taking.{as_written};
 
-use crate::error::WireError;
 use crate::options::SerializeOptions;
 use crate::writing::write_array;
 use std::alloc::Global;
 use vx_arrays::Array;
 use vx_buffer::ByteBuffers;
 use vx_registry::{ArrayContext, VortexSession};
+use vx_serialized::WireError;
 
 /// An array as a blob.
 pub trait ArrayExt {

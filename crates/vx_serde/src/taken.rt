@@ -14,10 +14,8 @@ ghost use Rattle.vx_wire_tree.specs.Taken.{step, written, taken, IsTaken};
 ghost use Rattle.vx_encodings.specs.Messages.{message_bytes};
 ghost use Rattle.vx_registry.specs.Meaning.{arrays_meaning};
 ghost use Rattle.vx_registry.specs.Serialization.{array_id};
-ghost use Rattle.vx_serde.specs.Errors.{registry_refusal};
 ghost use Rattle.vx_serde.specs.Taking.{source_tree, taken_head, root_head, root_below, root_node, root_arrays, StandsAs, IsOwn, AreTaken, AreWithinLevels, IsRootAt, RefusesTaking, RefusesOneOf};
 
-use crate::error::WireError;
 use crate::node_ref::{NodeRefs, item_at};
 use std::alloc::Global;
 use std::marker::Model;
@@ -25,10 +23,10 @@ use vx_arrays::Array;
 use vx_buffer::{BufferHandle, BufferHandles};
 use vx_encodings::{has_message, metadata};
 use vx_registry::{
-    ArrayPlugin, ArraySerialization, ArraySession, RegistryError, WrittenRoot, written_id,
-    written_root,
+    ArrayPlugin, ArraySerialization, ArraySession, WrittenRoot, written_id, written_root,
 };
 use vx_scalars::StatsSet;
+use vx_serialized::WireError;
 use vx_types::{Blob, Id};
 
 /// An array that is written: one that is lent, or, below what a plugin gave, one that is held.
@@ -127,20 +125,6 @@ impl<'a> Model for TakenNode<'a> {
     ghost use Rattle.vx_serde.specs.TakenFalls.{children_le-nodes};
 
     ghost size_decreases = { λ n h. Prim.omega (arith, children_le-nodes (below (source_tree n.source)) n.children) };
-}
-
-impl From<RegistryError> for WireError {
-    ghost from_gives = { λ r e. e ≡ registry_refusal r };
-
-    fn from(e: RegistryError) -> WireError {
-        match e {
-            RegistryError::OutOfMemory => WireError::OutOfMemory,
-            RegistryError::NotRegistered => WireError::NotRegistered,
-            RegistryError::UndeclaredId => WireError::UndeclaredId,
-            RegistryError::PluginRefused => WireError::PluginRefused,
-            RegistryError::WireLimit => WireError::WireLimit,
-        }
-    }
 }
 
 impl<'a> TakenNode<'a> {

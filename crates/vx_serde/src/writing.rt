@@ -20,7 +20,7 @@ ghost use Rattle.vx_wire_tree.specs.Written.{writes_two, wire};
 ghost use Rattle.vx_encodings.specs.Messages.{codec};
 ghost use Rattle.vx_registry.specs.Meaning.{arrays_meaning};
 ghost use Rattle.vx_buffer.specs.Joined.{joined};
-ghost use Rattle.vx_serde.specs.ArraySchema.{array_schema};
+ghost use Rattle.vx_serialized.specs.ArraySchema.{array_schema};
 ghost use Rattle.vx_serde.specs.Blocks.{encodings_in, message_by, layout_by};
 ghost use Rattle.vx_serde.specs.Causes.{RefusesArray, RefusesWriting};
 ghost use Rattle.vx_serde.specs.KeptContext.{KeepsContext};
@@ -31,9 +31,7 @@ ghost use Rattle.vx_serde.specs.Taking.{as_written};
 ghost use Rattle.vx_serde.specs.WritingSteps.{IsLaidOut, RefusesLayout, RefusesBytes, AreDescriptors};
 ghost use Rattle.vx_serde.specs.WrittenBuffers.{unaligned, pad_buffers, data_buffers, greatest_exponent};
 
-use crate::array_kind::ArrayKind;
 use crate::blocks::{TABLE, VECTOR, write_elements};
-use crate::error::WireError;
 use crate::gathering::{Gathered, gather};
 use crate::lent_buffers::LentBuffers;
 use crate::limits::{MAX_BUFFERS, MAX_NODES, are_describable, most_levels};
@@ -47,6 +45,7 @@ use vx_arrays::Array;
 use vx_buffer::{BufferError, ByteBuffer, ByteBuffers};
 use vx_flat::{Builder, FlatBuffer, FlatError, LinkKind, verify_uncounted_to};
 use vx_registry::{ArrayContext, ArraySession};
+use vx_serialized::{ArrayKind, WireError};
 
 // A little more than the bytes of a message that come with a node of one buffer.
 const NODE_ROOM: usize = 80;

@@ -6,7 +6,7 @@ mod walk;
 
 ghost use Rattle.std.specs.Prelude.{IfOk};
 ghost use Rattle.vx_flat.specs.Seen.{IsViewOf};
-ghost use Rattle.vx_serde.specs.ArraySchema.{array_schema};
+ghost use Rattle.vx_serialized.specs.ArraySchema.{array_schema};
 
 use anyhow::{Context, Result, bail};
 use std::{env, fs};

@@ -1,7 +1,7 @@
 //! The walk: every part of every table is read once.
 
 ghost use Rattle.vx_flat.specs.Seen.{IsViewOf};
-ghost use Rattle.vx_serde.specs.ArraySchema.{array_schema};
+ghost use Rattle.vx_serialized.specs.ArraySchema.{array_schema};
 
 use std::fmt;
 use vx_flat::View;

@@ -16,7 +16,7 @@ use Rattle.vx_wire_tree.specs.Session.{SessionMeaning}
 use Rattle.vx_wire_tree.specs.Written.{canon}
 use Rattle.vx_encodings.specs.Messages.{codec}
 use Rattle.vx_serde.specs.declared.options.SerializeOptions.{SerializeOptions}
-use Rattle.vx_serde.specs.declared.error.WireError.{WireError}
+use Rattle.vx_serialized.specs.declared.error.WireError.{WireError}
 use Rattle.vx_serde.specs.Causes.{RefusesArray}
 use Rattle.vx_serde.specs.Request.{CanRecode, Request, request_for}
 use Rattle.vx_serde.specs.Serializing.{IsSerialized, IsWrittenBlob}

@@ -53,15 +53,15 @@ use Rattle.vx_encodings.specs.Messages.{codec, stats_field}
 use Rattle.vx_scalar_wire.specs.StatsTable.{AreStorable}
 use Rattle.vx_registry.specs.Session.{no_plugins, shipped_registry}
 use Rattle.vx_registry.proofs.LawsSessions.{registry_lawful, shipped_alone}
-use Rattle.vx_serde.specs.ArraySchema.{array_schema}
-use Rattle.vx_serde.specs.declared.message.Descriptor.{Descriptor}
-use Rattle.vx_serde.specs.Message.{NodeFields}
+use Rattle.vx_serialized.specs.ArraySchema.{array_schema}
+use Rattle.vx_serialized.specs.declared.message.Descriptor.{Descriptor}
+use Rattle.vx_serialized.specs.Message.{NodeFields}
 use Rattle.vx_serde.specs.MessageValue.{node_value, message_value, descriptors_bytes}
 use Rattle.vx_serde.specs.Numbered.{numbered}
 use Rattle.vx_serde.specs.Placing.{descriptors_from, data_from, data_end}
 use Rattle.vx_serde.specs.Causes.{RefusesArray}
-use Rattle.vx_serde.specs.declared.error.WireError.{WireError}
-use Rattle.vx_serde.specs.declared.error.WireError.TheVariants as wire_error
+use Rattle.vx_serialized.specs.declared.error.WireError.{WireError}
+use Rattle.vx_serialized.specs.declared.error.WireError.TheVariants as wire_error
 use Rattle.vx_serde.specs.Request.{CanRecode}
 use Rattle.vx_serde.specs.Limits.{most_levels}
 use Rattle.vx_serde.specs.Serializing.{IsSerialized, IsWrittenBlob}

@@ -1,8 +1,8 @@
 -- The statuses of the program, and their numbers.
 use Rattle.std.specs.Prelude.{ℕ}
-use Rattle.vx_serde.specs.declared.error.WireError.{WireError}
-use Rattle.vx_serde.specs.declared.error.WireError.TheVariants as wire
-use Rattle.vx_serde.specs.Errors.{error_number}
+use Rattle.vx_serialized.specs.declared.error.WireError.{WireError}
+use Rattle.vx_serialized.specs.declared.error.WireError.TheVariants as wire
+use Rattle.vx_serialized.specs.Errors.{error_number}
 use Rattle.vxcat_core.specs.declared.status.BlobRefusal.{BlobRefusal}
 use Rattle.vxcat_core.specs.declared.status.BlobRefusal.TheVariants as refusal
 use Rattle.vxcat_core.specs.declared.status.Status.{Status}

@@ -1,6 +1,6 @@
 -- The statuses of steps that are refused.
-use Rattle.vx_serde.specs.declared.error.WireError.{WireError}
-use Rattle.vx_serde.specs.declared.error.WireError.TheVariants as wire
+use Rattle.vx_serialized.specs.declared.error.WireError.{WireError}
+use Rattle.vx_serialized.specs.declared.error.WireError.TheVariants as wire
 use Rattle.vx_fn_wire.specs.declared.error.FnWireError.{FnWireError}
 use Rattle.vx_fn_wire.specs.declared.error.FnWireError.TheVariants as fn_error
 use Rattle.vx_type_wire.specs.declared.error.TypeWireError.{TypeWireError}

@@ -8,9 +8,8 @@ ghost use Rattle.vx_scalar_wire.specs.StatsBlocks.{vector_entry, flag_entry, cou
 ghost use Rattle.vx_scalar_wire.specs.StatsTable.{precision_of, IsStorableCount};
 
 use vx_flat::{BlockField, LinkKind};
-use vx_proto::Blob;
 use vx_scalars::{Precision, ScalarValue, Stat, StatsSet};
-use vx_types::PValue;
+use vx_types::{Blob, PValue};
 
 /// The values of a set that are written as bytes.
 #[derive(Drop)]

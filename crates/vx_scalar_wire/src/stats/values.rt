@@ -12,8 +12,8 @@ use crate::error::ScalarWireError;
 use crate::messages::ScalarValueExt;
 use crate::nans::canonical_nan_sum;
 use std::alloc::Global;
-use vx_proto::Blob;
 use vx_scalars::{Precision, ScalarValue};
+use vx_types::Blob;
 
 /// The bytes of a value that is told, exactly or not.
 pub fn value_bytes(

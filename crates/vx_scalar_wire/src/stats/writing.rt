@@ -9,8 +9,8 @@ ghost use Rattle.vx_scalar_wire.specs.StatsTable.{IsStorableCount, stats_table, 
 
 use crate::stats::entries::{Stored, entries_of};
 use vx_flat::{BlockVector, Builder, FlatError, LinkKind};
-use vx_proto::Blob;
 use vx_scalars::StatsSet;
+use vx_types::Blob;
 
 /// Writes the blocks of the table of a set, whose values are stored so.
 pub fn write_table(

@@ -7,16 +7,11 @@ use Rattle.vx_wire_tree.specs.Wire.{buffers_in}
 use Rattle.vx_wire_tree.specs.Written.{wire}
 use Rattle.vx_encodings.specs.Messages.{codec}
 use Rattle.vx_serde.specs.ArrayNode.{array_pieces}
-use Rattle.vx_serde.proofs.ArrayNodes.{builder_kept, builder_stopped, pieces-are, ungathered, too-much, blocks-refused, value-written}
+use Rattle.vx_serde.proofs.ArrayNodes.{pieces-are, ungathered, too-much, blocks-refused, value-written}
 use Rattle.vx_serde.proofs.NumberedBy.{as-many, first-encodings}
 use Rattle.vx_serde.proofs.WiredNodes.{no_session, some_session, writes_so, wired-nodes}
 use Rattle.vx_serde.proofs.array_node.write_into.Goals.{then-len-gt-MAX_BUFFERS-via-then-len-gt-MAX_BUFFERS, then-len-gt-MAX_BUFFERS-via-else-len-gt-MAX_BUFFERS+then-len-gt-MAX_NODES}
 use Rattle.vx_serde.proofs.array_node.write_into.Goals as goal
-
-pub returns-in_err-gather-clause-builder : goal.returns-in_err-gather-clause-builder
-returns-in_err-gather-clause-builder c =
-    let p = err_from_is_err_and c.from_residual.result c.from_residual.ensures.1 in
-    rw (p.1, p.2) (builder_kept c.args.builder.now c.in_err-gather.field-0.0)
 
 pub returns-in_err-gather-clause-cause : goal.returns-in_err-gather-clause-cause
 returns-in_err-gather-clause-cause c = λ s q.
@@ -60,11 +55,6 @@ returns-in_err-write_node-clause-kept c = λ s q.
     rw p.1
     (keeps-stopped c.args.builder.now c.write_node.new.builder (array_pieces s c.args.array.now c.args.ctx.now) e
     (subst (λ z. RefusesPieces c.args.builder.now z e c.write_node.new.builder) same (c.in_err-write_node.ensures.stopped s)))
-
-pub returns-in_err-write_node-clause-builder : goal.returns-in_err-write_node-clause-builder
-returns-in_err-write_node-clause-builder c =
-    let p = err_from_is_err_and c.from_residual-in_err-write_node.result c.from_residual-in_err-write_node.ensures.1 in
-    rw (p.1, p.2) (builder_stopped c.args.builder.now c.write_node.new.builder _ c.in_err-write_node.field-0.0 (c.in_err-write_node.ensures.stopped no_session))
 
 pub returns-in_err-write_node-clause-cause : goal.returns-in_err-write_node-clause-cause
 returns-in_err-write_node-clause-cause c = λ s q.

@@ -1,4 +1,4 @@
-use Rattle.vx_serde.proofs.CarriedOnce.{carried_once}
+use Rattle.vx_serialized.proofs.LawsOfBlobs.{carried_once}
 use Rattle.vx_serde.proofs.laws.one_tree.Goals as goal
 
 pub returns : goal.returns

@@ -5,10 +5,10 @@ use Rattle.vx_registry.specs.Meaning.{session_meaning}
 use Rattle.vx_registry.proofs.LawsSessions.{session_lawful}
 use Rattle.vx_serde.specs.Request.{request}
 use Rattle.vx_serde.specs.Recoding.{product}
-use Rattle.vx_serde.specs.Serialized.{wire_in}
+use Rattle.vx_serialized.specs.Serialized.{wire_in}
 use Rattle.vx_serde.proofs.NeverCaused.{memory_at_blob, memory_at_tree, memory_at_array}
 use Rattle.vx_serde.proofs.Recodings.{spells, recoded, faithful, left-still, left-written, caused_by_blob, caused_by_tree, caused_by_writing}
-use Rattle.vx_serde.proofs.StoredMessages.{opened}
+use Rattle.vx_serialized.proofs.LawsOfBlobs.{opened}
 use Rattle.vx_serde.proofs.recoding.recode.Goals as goal
 
 -- ---- the blob is not opened

@@ -1,5 +1,5 @@
 use Rattle.std.proofs.Common.{arith, ◌≤◌, ◌∙◌, ap, sym, refl, subst}
-use Rattle.std.proofs.lemmas.Result.{err_from_is_err_and}
+use Rattle.std.proofs.lemmas.Result.{err_from_is_err_and, IfOk-weaker, IfErr-weaker}
 use Rattle.vx_trees.specs.Walks.{levels}
 use Rattle.vx_array_tree.specs.Tree.{Tree}
 use Rattle.vx_wire_tree.specs.Limits.{HasMessages}
@@ -13,7 +13,7 @@ use Rattle.vx_serde.specs.Limits.{most_levels}
 use Rattle.vx_serde.specs.Serializing.{IsWrittenBlob}
 use Rattle.vx_serde.specs.Taking.{as_written}
 use Rattle.vx_serde.proofs.Growing.{kept-same}
-use Rattle.vx_serde.proofs.MessageBlocks.{if_ok, if_err, ok_of}
+use Rattle.vx_serialized.proofs.LawsOfAnswers.{ok_of}
 use Rattle.vx_serde.proofs.Taking.{taken_as_own, taken_whole, is_taken_whole, untaken_whole, without_blob}
 use Rattle.vx_serde.proofs.writing.write_array.Goals as goal
 
@@ -57,7 +57,7 @@ returns-clause-made g c = λ x u.
     let t = c.args.array.now in
     let room = c.most_levels-room.result in
     let same = c.most_levels-room.ensures in
-    if_ok c.write_taken.result _ _
+    IfOk-weaker c.write_taken.result _ _
     (λ bs y. record {
       taken = is_taken_whole s o room same t (c.in_ok-node.ensures.written x u);
       blob = subst (λ (z : Tree). IsWrittenBlob s z o c.args.ctx.now c.write_taken.new.ctx bs) (taken_whole s o room same t c.taken-root.result (c.taken-root.ensures ∙ c.in_ok-node.ensures.tree x u)) y;
@@ -86,7 +86,7 @@ returns-clause-cause g c = λ x u.
     let whole = taken_whole s o room same t c.taken-root.result (c.taken-root.ensures ∙ c.in_ok-node.ensures.tree x u) in
     let taken = is_taken_whole s o room same t (c.in_ok-node.ensures.written x u) in
     let few : levels (as_written s o t) ≤ most_levels o = omega (arith, c.in_ok-node.ensures.levels, same, ap (λ (z : Tree). levels z) c.taken-root.ensures, ap (λ (z : Tree). levels z) whole) in
-    if_err c.write_taken.result _ _
+    IfErr-weaker c.write_taken.result _ _
     (λ e y. without_blob s c.args.options.now c.args.array.now c.args.ctx.now e taken few (subst (λ (z : Tree). RefusesWriting s z c.args.ctx.now c.args.options.now e) whole y)) (c.write_taken.ensures.cause s (c.in-Ok.ensures.two x))
 
 pub returns-clause-paired : goal.returns-clause-paired

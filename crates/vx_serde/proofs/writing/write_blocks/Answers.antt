@@ -4,7 +4,7 @@ use Rattle.vx_flat.specs.Building.{IsNext, RefusesPieces}
 use Rattle.vx_flat.specs.Pieces.{elements_piece, pieces}
 use Rattle.vx_wire_tree.specs.Written.{wire}
 use Rattle.vx_encodings.specs.Messages.{codec}
-use Rattle.vx_serde.specs.ArraySchema.{array_schema}
+use Rattle.vx_serialized.specs.ArraySchema.{array_schema}
 use Rattle.vx_flat.specs.Building.{AreWritten}
 use Rattle.vx_serde.specs.Blocks.{node_pieces, message_by}
 use Rattle.vx_flat.proofs.LawsOfLinks.{begun, gone_on, cut_short, refused, next_is, idle, awaited, ended}

@@ -1,5 +1,5 @@
 use Rattle.std.proofs.Common.{◌≡◌, ◌∙◌, ◌<◌, ◌^◌, length, sym, subst, arith}
-use Rattle.std.proofs.lemmas.Result.{err_from_is_err_and}
+use Rattle.std.proofs.lemmas.Result.{err_from_is_err_and, IfOk-weaker, IfErr-weaker}
 use Rattle.vx_flat.specs.declared.builder.piece.LinkKind.TheVariants as link
 use Rattle.vx_flat.specs.Building.{Takes, RefusesPieces, nothing_built}
 use Rattle.vx_flat.specs.Pieces.{pieces}
@@ -8,10 +8,11 @@ use Rattle.vx_flat.specs.Weight as weigh
 use Rattle.vx_wire_tree.specs.ReadBack.{HasStorableStats}
 use Rattle.vx_wire_tree.specs.Written.{wire}
 use Rattle.vx_encodings.specs.Messages.{codec}
-use Rattle.vx_serde.specs.ArraySchema.{array_schema}
+use Rattle.vx_serialized.specs.ArraySchema.{array_schema}
 use Rattle.vx_flat.specs.Building.{AreWritten}
 use Rattle.vx_serde.specs.Blocks.{message_by, layout_by}
-use Rattle.vx_serde.proofs.MessageBlocks.{layout-written, message-shown, blocks-refused, too-many, heavy, some-written, works-written, idle-written, if_ok, if_ok-same, if_err, ok_of}
+use Rattle.vx_serde.proofs.MessageBlocks.{layout-written, message-shown, blocks-refused, too-many, heavy, some-written, works-written, idle-written, if_ok-same}
+use Rattle.vx_serialized.proofs.LawsOfAnswers.{ok_of}
 use Rattle.vx_serde.proofs.WiredNodes.{no_session, wired-nodes}
 use Rattle.vx_serde.proofs.WiredStats.{wire-told}
 use Rattle.vx_serde.proofs.writing.write_message.Goals as goal
@@ -111,14 +112,14 @@ returns-clause-written c = λ s.
     let b = c.write_blocks.new.builder in
     let wrote : AreWritten nothing_built (pieces array_schema (message_by es w ds)) b = subst (λ z. AreWritten z (pieces array_schema (message_by es w ds)) b) c.with_room-builder.ensures (c.in_ok-write_blocks.ensures.written s) in
     let m = c.in-Ok.ensures.built ∙ layout-written es w ds of b wrote in
-    if_ok c.light_message.result (λ x. x.items ≡ c.in-Ok.message) (λ x. x.items ≡ layout_by es w ds) (λ x h. h ∙ m) c.light_message.ensures.same
+    IfOk-weaker c.light_message.result (λ x. x.items ≡ c.in-Ok.message) (λ x. x.items ≡ layout_by es w ds) (λ x h. h ∙ m) c.light_message.ensures.same
 
 pub returns-clause-storable : goal.returns-clause-storable
 returns-clause-storable c = ok_of c.light_message.result (HasStorableStats codec c.args.array.now) c.in_ok-write_blocks.ensures.storable
 
 pub returns-clause-short : goal.returns-clause-short
 returns-clause-short c =
-    if_ok c.light_message.result (λ x. x.items ≡ c.in-Ok.message) (λ x. length x.items < 2 ^ 31) (λ x h. subst (λ z. length z < 2 ^ 31) (sym h) c.in-Ok.ensures.fits) c.light_message.ensures.same
+    IfOk-weaker c.light_message.result (λ x. x.items ≡ c.in-Ok.message) (λ x. length x.items < 2 ^ 31) (λ x h. subst (λ z. length z < 2 ^ 31) (sym h) c.in-Ok.ensures.fits) c.light_message.ensures.same
 
 pub returns-clause-light : goal.returns-clause-light
 returns-clause-light c =
@@ -134,4 +135,4 @@ returns-clause-refused c = λ s.
     let b = c.write_blocks.new.builder in
     let wrote : AreWritten nothing_built (pieces array_schema (message_by es w ds)) b = subst (λ z. AreWritten z (pieces array_schema (message_by es w ds)) b) c.with_room-builder.ensures (c.in_ok-write_blocks.ensures.written s) in
     let m = c.in-Ok.ensures.built ∙ layout-written es w ds of b wrote in
-    if_err c.light_message.result _ _ (λ e h. heavy es w ds of (limits_to c.args.deep) c.in-Ok.message e m h) c.light_message.ensures.refused
+    IfErr-weaker c.light_message.result _ _ (λ e h. heavy es w ds of (limits_to c.args.deep) c.in-Ok.message e m h) c.light_message.ensures.refused

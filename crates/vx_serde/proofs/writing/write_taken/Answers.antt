@@ -13,7 +13,7 @@ use Rattle.vx_serde.proofs.NumberedBy.{as-many, layout-numbered, message-of_kind
 use Rattle.vx_serde.proofs.Serializations.{serialized}
 use Rattle.vx_serde.proofs.WholeBlob.{message-is, unplaced, unwritten, late, writable-is, buffers-are}
 use Rattle.vx_flat.specs.IsOf.{IsOf}
-use Rattle.vx_serde.specs.ArraySchema.{array_schema}
+use Rattle.vx_serialized.specs.ArraySchema.{array_schema}
 use Rattle.vx_serde.proofs.WiredAlike.{message_alike}
 use Rattle.vx_serde.proofs.WiredNodes.{no_session, some_session, writes_so, wired-nodes}
 use Rattle.vx_serde.proofs.WiredStats.{wire-tabled}

@@ -1,8 +1,9 @@
 use Rattle.std.proofs.Common.{sym}
+use Rattle.std.proofs.lemmas.Result.{IfErr-weaker}
 use Rattle.vx_type_wire.specs.Session.{ext_meaning}
 use Rattle.vx_registry.specs.Meaning.{session_meaning}
 use Rattle.vx_registry.proofs.LawsSessions.{session_lawful}
-use Rattle.vx_serde.proofs.MessageBlocks.{if_ok_where, if_err}
+use Rattle.vx_serde.proofs.MessageBlocks.{if_ok_where}
 use Rattle.vx_serde.proofs.Taking.{refused_own}
 use Rattle.vx_serde.proofs.WrittenAgain.{serialized_again}
 use Rattle.vx_serde.proofs.WrittenOwn.{serialized_back}
@@ -40,5 +41,5 @@ pub returns-clause-cause_own : goal.returns-clause-cause_own
 returns-clause-cause_own g c = λ ok w.
     let x = ext_meaning (λ b. (goal.ExtPlugin-dyn g (b.vtable, b.value)).accepted b.value) c.args.session.now.ext in
     let s = session_meaning (λ b. (goal.ArrayPlugin-dyn g (b.vtable, b.value)).means b.value) (λ b. (goal.ExtPlugin-dyn g (b.vtable, b.value)).accepted b.value) c.args.session.now in
-    if_err c.write_array.result _ _
+    IfErr-weaker c.write_array.result _ _
     (λ e u. refused_own s ok c.args.self.now c.args.ctx.now c.args.options.now e w u) (c.write_array.ensures.cause x (sym c.allows_unknown-unknown.ensures))

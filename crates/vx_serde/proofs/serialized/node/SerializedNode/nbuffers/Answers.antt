@@ -1,6 +1,0 @@
-use Rattle.std.proofs.Common.{ap, sym, ◌∙◌, length}
-use Rattle.vx_serde.proofs.SerializedNodes.{length-indices_of}
-use Rattle.vx_serde.proofs.serialized.node.SerializedNode.nbuffers.Goals as goal
-
-pub returns : goal.returns
-returns c = sym (length-indices_of c.indices.result.now) ∙ ap (λ xs. length xs) c.indices.ensures

@@ -1,0 +1,14 @@
+pub mod ArraySchema
+pub mod Message
+pub mod FieldCode
+pub mod StatNames
+pub mod Blob
+pub mod Serialized
+pub mod Errors
+pub mod Opening
+pub mod Overrides
+pub mod Stored
+pub mod Causes
+-- What the contracts of private functions alone cite.
+pub mod Decoding
+pub mod ReadingSteps

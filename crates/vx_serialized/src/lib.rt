@@ -1,0 +1,17 @@
+//! Serialized arrays: a blob, or a message with its buffers, opened, looked at node by node, and decoded.
+#![tactic(auto)]
+
+mod array_kind;
+mod decoding;
+mod error;
+mod keeping;
+mod message;
+mod serialized;
+mod steps;
+
+pub use array_kind::ArrayKind;
+pub use error::WireError;
+pub use message::Descriptor;
+pub use serialized::SerializedArray;
+pub use serialized::lengths::BufferLengths;
+pub use serialized::node::SerializedNode;

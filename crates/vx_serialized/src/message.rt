@@ -1,0 +1,42 @@
+//! The descriptors of an array message.
+
+ghost use Rattle.std.specs.Prelude.{◌≡◌, ◌+◌, ◌<◌, ◌^◌, ◌∷◌, [], IfSome, IfNone, length};
+ghost use Rattle.vx_serialized.specs.Message.{descriptors_of};
+
+/// Where a buffer lies in the segment.
+#[derive(Clone, Copy, Debug, PartialEq, Eq)]
+pub struct Descriptor {
+    /// How many bytes are skipped in front of the buffer.
+    pub padding: u16,
+    /// The exponent of the buffer's alignment.
+    pub exponent: u8,
+    /// How the buffer is compressed; 0 is not at all.
+    pub compression: u8,
+    /// The buffer's length in bytes.
+    pub len: u32,
+}
+
+impl Descriptor {
+    /// The greatest exponent of the alignment of a buffer that is read or written.
+    pub const MAX_EXPONENT: u8 = 16;
+}
+
+/// The descriptor of the first eight bytes, and the bytes behind them.
+pub(crate) fn first_descriptor(bytes: &[u8]) -> Option<(Descriptor, &[u8])>
+    ensures some { IfSome result (λ p. descriptors_of bytes.now ≡ p.0 ∷ descriptors_of p.1.now) }
+    ensures shorter { IfSome result (λ p. length p.1.now < length bytes.now) }
+    ensures narrow { IfSome result (λ p. p.0.padding + p.0.len < 2 ^ 33) }
+    ensures none { IfNone result (descriptors_of bytes.now ≡ []) }
+{
+    if bytes.len() < 8 {
+        return None;
+    }
+    let descriptor = Descriptor {
+        padding: u16::from_le_bytes([bytes[0], bytes[1]]),
+        exponent: bytes[2],
+        compression: bytes[3],
+        len: u32::from_le_bytes([bytes[4], bytes[5], bytes[6], bytes[7]]),
+    };
+    let (_, rest) = bytes.split_at(8);
+    Some((descriptor, rest))
+}
