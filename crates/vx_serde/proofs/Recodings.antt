@@ -36,6 +36,7 @@ use Rattle.vx_serde.specs.Written.{message_bytes, message_pad, blob_bytes, IsWri
 use Rattle.vx_buffer.specs.Joined.{joined}
 use Rattle.vx_serde.proofs.Carried.{is_blob}
 use Rattle.vx_serialized.specs.Causes.{RefusesWire}
+use Rattle.vx_serialized.specs.Errors.{IsOfReading}
 use Rattle.vx_serde.specs.Causes.{Refuses, RefusesArray, RefusesSpelled, SpellsOne}
 use Rattle.vx_serde.specs.Serializing.{IsWrittenBlob, IsSerialized}
 use Rattle.vx_serde.specs.Request.{Request, IsSpelled}
@@ -223,3 +224,20 @@ caused_by_writing asked law paired NotSerializable t spelled u = (has_writers as
 caused_by_writing asked law paired UndeclaredId t spelled u = (has_writers asked law paired t spelled undeclared u, record { array = t; spelled = spelled; holds = u })
 caused_by_writing asked law paired PluginRefused t spelled u = (has_writers asked law paired t spelled unwilling u, inr (record { array = t; spelled = spelled; holds = u }))
 caused_by_writing asked law paired _ t spelled u = absurd u
+
+-- No array is left unwritten for a refusal that is of reading alone.
+pub written_of_reading : (asked : Request) (e : WireError) (t : Tree) → RefusesArray asked.session t asked.context asked.options e → IsOfReading e → ⊥
+written_of_reading asked TooShort t u r = absurd u
+written_of_reading asked BadTable t u r = absurd u
+written_of_reading asked TableLimit t u r = absurd u
+written_of_reading asked BadAlignment t u r = absurd u
+written_of_reading asked Compressed t u r = absurd u
+written_of_reading asked OutOfBounds t u r = absurd u
+written_of_reading asked UnknownIndex t u r = absurd u
+written_of_reading asked UnknownEncoding t u r = absurd u
+written_of_reading asked BadMetadata t u r = absurd u
+written_of_reading asked BadShape t u r = absurd u
+written_of_reading asked BadContent t u r = absurd u
+written_of_reading asked ForeignControl t u r = absurd u
+written_of_reading asked BadStats t u r = absurd u
+written_of_reading asked _ t u r = absurd r

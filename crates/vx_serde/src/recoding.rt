@@ -6,6 +6,7 @@ ghost use Rattle.vx_registry.specs.Meaning.{session_meaning};
 ghost use Rattle.vx_serde.specs.Request.{CanRecode, request};
 ghost use Rattle.vx_serde.specs.Recoding.{IsFaithful, IsRecoded, LeavesContext, product};
 ghost use Rattle.vx_serde.specs.Causes.{Refuses};
+ghost use Rattle.vx_serialized.specs.Errors.{IsOfReading};
 
 use crate::options::SerializeOptions;
 use crate::serializing::ArrayExt;
@@ -58,6 +59,8 @@ pub fn recode(
     ensures left { let s = session_meaning (λ b. means (b.vtable, b.value)) (λ b. accepted (b.vtable, b.value)) session.now in
         let asked = request blob dtype.now len read_ids.now ctx.old s options.now in
         LeavesContext asked ctx.new }
+    // A refusal of what is read leaves the context as it was.
+    ensures unread { IfErr result (λ e. IsOfReading e → ctx.new ≡ ctx.old) }
     // Each refusal has its cause.
     ensures cause { let s = session_meaning (λ b. means (b.vtable, b.value)) (λ b. accepted (b.vtable, b.value)) session.now in
         let asked = request blob dtype.now len read_ids.now ctx.old s options.now in

@@ -1,4 +1,4 @@
--- The numbers of refusals, and the registry's refusals as those of a blob.
+-- The numbers of refusals, the registry's refusals as those of a blob, and which are of reading alone.
 use Rattle.std.specs.Prelude.{ℕ}
 use Rattle.vx_registry.specs.declared.error.RegistryError.{RegistryError}
 use Rattle.vx_registry.specs.declared.error.RegistryError.TheVariants as registry
@@ -36,3 +36,20 @@ registry_refusal registry.NotRegistered = NotRegistered
 registry_refusal registry.UndeclaredId = UndeclaredId
 registry_refusal registry.PluginRefused = PluginRefused
 registry_refusal registry.WireLimit = WireLimit
+
+-- Refusals of what is read alone: of a blob, or of its nodes.
+abbrev pub IsOfReading : WireError → Type 0
+IsOfReading TooShort = Unit {0}
+IsOfReading BadTable = Unit {0}
+IsOfReading TableLimit = Unit {0}
+IsOfReading BadAlignment = Unit {0}
+IsOfReading Compressed = Unit {0}
+IsOfReading OutOfBounds = Unit {0}
+IsOfReading UnknownIndex = Unit {0}
+IsOfReading UnknownEncoding = Unit {0}
+IsOfReading BadMetadata = Unit {0}
+IsOfReading BadShape = Unit {0}
+IsOfReading BadContent = Unit {0}
+IsOfReading ForeignControl = Unit {0}
+IsOfReading BadStats = Unit {0}
+IsOfReading _ = ⊥

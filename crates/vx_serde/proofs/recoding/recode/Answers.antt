@@ -7,7 +7,7 @@ use Rattle.vx_serde.specs.Request.{request}
 use Rattle.vx_serde.specs.Recoding.{product}
 use Rattle.vx_serialized.specs.Serialized.{wire_in}
 use Rattle.vx_serde.proofs.NeverCaused.{memory_at_blob, memory_at_tree, memory_at_array}
-use Rattle.vx_serde.proofs.Recodings.{spells, recoded, faithful, left-still, left-written, caused_by_blob, caused_by_tree, caused_by_writing}
+use Rattle.vx_serde.proofs.Recodings.{spells, recoded, faithful, left-still, left-written, caused_by_blob, caused_by_tree, caused_by_writing, written_of_reading}
 use Rattle.vx_serialized.proofs.LawsOfBlobs.{opened}
 use Rattle.vx_serde.proofs.recoding.recode.Goals as goal
 
@@ -68,6 +68,12 @@ returns-in_err-buffers-clause-shipped g c = λ ok.
     let asked = request c.args.blob c.args.dtype.now c.args.len c.args.read_ids.now c.args.ctx.now (session_meaning (λ b. (goal.ArrayPlugin-dyn g (b.vtable, b.value)).means b.value) (λ b. (goal.ExtPlugin-dyn g (b.vtable, b.value)).accepted b.value) c.args.session.now) c.args.options.now in
     let spelled = spells asked (wire_in c.args.read_ids.now c.in_ok-serialized.serialized) c.in_ok-array.array (opened (limits_to c.args.options.now.deep) c.args.blob.bytes c.args.read_ids.now c.in_ok-serialized.serialized c.in_ok-serialized.ensures.opened) c.in_ok-array.ensures.told in
     rw (p.1, p.2) (tt, λ can. memory_at_array asked ok (session_lawful (λ b. (goal.ArrayPlugin-dyn g (b.vtable, b.value)).means b.value) c.args.session.now.arrays x) c.in_ok-array.ensures.paired c.in_err-buffers.field-0.0 c.in_ok-array.array spelled can c.in_err-buffers.ensures.cause)
+
+pub returns-in_err-buffers-clause-unread : goal.returns-in_err-buffers-clause-unread
+returns-in_err-buffers-clause-unread g c =
+    let p = err_from_is_err_and c.from_residual-in_err-buffers.result c.from_residual-in_err-buffers.ensures.1 in
+    let asked = request c.args.blob c.args.dtype.now c.args.len c.args.read_ids.now c.args.ctx.now (session_meaning (λ b. (goal.ArrayPlugin-dyn g (b.vtable, b.value)).means b.value) (λ b. (goal.ExtPlugin-dyn g (b.vtable, b.value)).accepted b.value) c.args.session.now) c.args.options.now in
+    rw (p.1, p.2) (λ read. absurd (written_of_reading asked c.in_err-buffers.field-0.0 c.in_ok-array.array c.in_err-buffers.ensures.cause read))
 
 pub returns-in_err-buffers-clause-left : goal.returns-in_err-buffers-clause-left
 returns-in_err-buffers-clause-left g c =
