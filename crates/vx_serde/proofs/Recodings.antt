@@ -45,6 +45,7 @@ use Rattle.vx_serde.specs.Taking.{as_written}
 use Rattle.vx_serialized.proofs.LawsOfBlobs.{one_blob}
 use Rattle.vx_serde.proofs.OneArray.{spelled_once}
 use Rattle.vx_serde.proofs.WrittenAgain.{spelled_again, serialized_again}
+use Rattle.vx_serde.proofs.CanonicalSums.{told_sums}
 use Rattle.vx_serde.proofs.WrittenOwn.{serialized_own}
 use Rattle.vx_serde.proofs.Growing.{kept-same}
 use Rattle.vx_serde.proofs.Taking.{refused_own}
@@ -147,6 +148,7 @@ faithful asked made ok law paired recoded =
       own = own;
       the_one = λ other x. spelled_once asked.blob asked.ids asked.dtype asked.len asked.session other made.array ok law x recoded.spelled;
       again = again;
+      sums = told_sums asked.session ok recoded.spelled.wire asked.dtype asked.len made.array recoded.spelled.told;
       twice = twice asked made ok law recoded.spelled blob again;
     }
 

@@ -14,6 +14,7 @@ pub mod Causes
 pub mod Aligned
 pub mod Serializing
 pub mod ArrayNode
+pub mod Sums
 pub mod Recoding
 -- What the contracts of private functions alone cite.
 pub mod Blocks

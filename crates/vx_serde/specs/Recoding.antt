@@ -12,6 +12,7 @@ use Rattle.vx_serde.specs.KeptContext.{KeepsContext}
 use Rattle.vx_serde.specs.Request.{Request, request_for, IsSpelled, CanRecode}
 use Rattle.vx_serde.specs.Serializing.{IsSerialized, ReturnsWhole, IsSpelledAgain}
 use Rattle.vx_serde.specs.Spells.{Spells, KeepsReaderLimits, blob_of}
+use Rattle.vx_serde.specs.Sums.{sums_canonical}
 use Rattle.vx_serde.specs.Taking.{as_written}
 use Rattle.vx_buffer.specs.Joined.{joined}
 
@@ -45,12 +46,14 @@ pub record IsTwiceAsOnce (asked : Request) (made : Product) : Type 0 where
   pub context : grown codec asked.session asked.context (canon codec asked.session made.array) ≡ Some made.context
   pub can : CanRecode (asked_again asked made)
 
--- The blob spells no other array; it is written as it stands; the new blob spells the same array, read with the grown context; and
--- recoding it again changes nothing.
+-- The blob spells no other array; it is written as it stands; the new blob spells what is read back of it, read with the grown
+-- context: the same array, but that each sum that is no number is the one NaN of its width; and recoding it again changes
+-- nothing.
 pub record IsFaithful (asked : Request) (made : Product) : Type 0 where
   pub own : as_written asked.session asked.options made.array ≡ made.array
   pub the_one : (other : Tree) → IsSpelled asked other → other ≡ made.array
   pub again : Spells (joined made.buffers) made.context.ids asked.dtype asked.len asked.session (canon codec asked.session made.array)
+  pub sums : canon codec asked.session made.array ≡ sums_canonical made.array
   pub twice : IsTwiceAsOnce asked made
 
 -- The context keeps what it had, and what comes to it at its end are identifiers of an array that the blob spells, as it is
