@@ -8,7 +8,8 @@ use Rattle.vx_wire_tree.specs.Session.{SessionMeaning}
 use Rattle.vx_encodings.specs.Messages.{codec}
 use Rattle.vx_serde.specs.declared.options.SerializeOptions.{SerializeOptions}
 use Rattle.vx_serde.specs.Aligned.{AreAligned, IsAlignedBlob}
-use Rattle.vx_serialized.specs.Message.{Descriptor, message_of}
+use Rattle.vx_serialized.specs.declared.message.Descriptor.{Descriptor}
+use Rattle.vx_serialized.specs.Message.{message_of}
 use Rattle.vx_serde.specs.MessageValue.{message_value}
 use Rattle.vx_wire_tree.specs.Wire.{Wire, IsWhole, ids_in, buffers_in}
 use Rattle.vx_serde.specs.Numbered.{numbered}

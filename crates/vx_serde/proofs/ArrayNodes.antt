@@ -48,12 +48,15 @@ module _ (s : SessionMeaning) (t : Tree) (c : Context) where
   pub too-much : (b : Built) (d : Context) (es : List ℕ) (bs : List Buffer) → grown_by (ids_in (wire codec s t)) c ≡ Some d → es ≡ encodings_in d.ids (wire codec s t) → bs ≡ buffers_in (wire codec s t)
       → (65535 < length bs) ⊎ (499999 < length es) → RefusesBlocks s t c b b WireLimit
   too-much b d es bs g e f (inl l) = inl (refl, λ k. omega (arith, l, k.writable.tree.few, ap (λ z. length z) f))
-  too-much b d es bs g e f (inr l) = inl (refl, λ k.
-      let w = wire codec s t in
-      let bytes = descriptors_bytes (descriptors_from plain_options 0 (buffers_in w)) in
-      let of = message-of_kind d.ids w es bytes e c d (descriptors_from plain_options 0 (buffers_in w)) refl g (wire-whole codec s t) (wire-tabled s t) k.writable.tree.few refl in
-      let many : 499999 < nodes w = omega (arith, l, as-many d.ids w es e) in
-      unwritten s t c plain_options bytes (layout_by es w bytes) WireLimit refl (layout-numbered d.ids w es bytes e ∙ ap (λ ids. layout_of ids w bytes) (grown-ids s t c d g)) (too-many es w bytes of false (wire-told s t) many) k)
+  too-much b d es bs g e f (inr l) = inl (
+    refl,
+    λ k.
+        let w = wire codec s t in
+        let bytes = descriptors_bytes (descriptors_from plain_options 0 (buffers_in w)) in
+        let of = message-of_kind d.ids w es bytes e c d (descriptors_from plain_options 0 (buffers_in w)) refl g (wire-whole codec s t) (wire-tabled s t) k.writable.tree.few refl in
+        let many : 499999 < nodes w = omega (arith, l, as-many d.ids w es e) in
+        unwritten s t c plain_options bytes (layout_by es w bytes) WireLimit refl (layout-numbered d.ids w es bytes e ∙ ap (λ ids. layout_of ids w bytes) (grown-ids s t c d g)) (too-many es w bytes of false (wire-told s t) many) k,
+  )
 
   -- An array whose blocks a builder does not take.
   pub blocks-refused : (b new : Built) (e : FlatError) → RefusesPieces b (array_pieces s t c) e new → RefusesBlocks s t c b new (message_refusal e)

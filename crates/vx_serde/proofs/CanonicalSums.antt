@@ -3,14 +3,13 @@ use Rattle.std.proofs.Common.{ℕ, ◌≡◌, Option, Some, None, refl, sym, ap,
 use Rattle.vx_trees.specs.Rose.{node, end, more}
 use Rattle.vx_trees.specs.Everywhere.{EverywhereBelow}
 use Rattle.vx_types.specs.Typ.{Typ}
-use Rattle.vx_scalars.specs.Stats.{Stats, no_stats}
+use Rattle.vx_scalars.specs.Stats.{Stats}
 use Rattle.vx_scalars.specs.WrittenStats.{written_stats}
 use Rattle.vx_scalar_wire.specs.StatsKept.{canonical_stats}
 use Rattle.vx_scalar_wire.proofs.LawsStats.{shown_kept_in}
 use Rattle.vx_array_tree.specs.Canon.{stats_written, each_stats_written}
 use Rattle.vx_array_tree.specs.Normal.{IsNormal, IsNormalBy, IsNormalForeign, IsNormalNode}
 use Rattle.vx_array_tree.specs.Tree.{Tree, Trees, Head}
-use Rattle.vx_array_tree.specs.Body as B
 use Rattle.vx_wire_tree.specs.Matches.{Matches, AllMatch, IsNodeBy, IsRaw, AreRaw}
 use Rattle.vx_wire_tree.specs.Session.{SessionMeaning, Reader, shipped, revised, plugin, IsShipped, IsShippedReader}
 use Rattle.vx_wire_tree.specs.Tells.{Tells}

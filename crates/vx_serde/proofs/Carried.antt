@@ -14,7 +14,8 @@ use Rattle.vx_trees.specs.Everywhere.{Everywhere}
 use Rattle.vx_serde.specs.declared.options.SerializeOptions.{SerializeOptions}
 use Rattle.vx_serialized.specs.ArraySchema.{array_schema}
 use Rattle.vx_wire_tree.specs.Limits.{AreDescribable}
-use Rattle.vx_serialized.specs.Message.{Descriptor, message_of}
+use Rattle.vx_serialized.specs.declared.message.Descriptor.{Descriptor}
+use Rattle.vx_serialized.specs.Message.{message_of}
 use Rattle.vx_serde.specs.MessageValue.{message_value}
 use Rattle.vx_wire_tree.specs.Wire.{Wire, IsWhole, ids_in, buffers_in}
 use Rattle.vx_serialized.specs.Blob.{IsBlob, buffers_at, end_of, wire_of, Carries, AreClean}

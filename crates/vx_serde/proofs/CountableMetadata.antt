@@ -17,7 +17,7 @@ use Rattle.vx_wire_tree.specs.Written.{wire, wires}
 use Rattle.vx_encodings.specs.Messages.{codec}
 use Rattle.vx_serialized.specs.ArraySchema.{array_schema}
 use Rattle.vx_serde.specs.Limits.{message_limits}
-use Rattle.vx_serialized.specs.Message.{Descriptor}
+use Rattle.vx_serialized.specs.declared.message.Descriptor.{Descriptor}
 use Rattle.vx_serde.specs.MessageValue.{message_value, node_value, rows_value}
 use Rattle.vx_serde.specs.Numbered.{numbered, numbered_below}
 use Rattle.vx_serde.specs.declared.options.SerializeOptions.{SerializeOptions}

@@ -8,7 +8,8 @@ use Rattle.vx_flat.specs.Schema.{struct_size}
 use Rattle.vx_trees.specs.Rose.{Rose, Roses, node, end, more}
 use Rattle.vx_trees.specs.Everywhere.{EverywhereBelow}
 use Rattle.vx_serialized.specs.ArraySchema.{array_schema, node_fields}
-use Rattle.vx_serialized.specs.Message.{Descriptor, NodeFields, indices_of, descriptors_of, node_of, nodes_of, message_of}
+use Rattle.vx_serialized.specs.declared.message.Descriptor.{Descriptor}
+use Rattle.vx_serialized.specs.Message.{NodeFields, indices_of, descriptors_of, node_of, nodes_of, message_of}
 use Rattle.vx_serde.specs.MessageValue.{index_bytes, descriptors_bytes, node_value, rows_value, message_value, IsNumberedNode, IsDescribed, IsNumbered}
 
 -- Indices are read as they were written, two bytes each.

@@ -2,7 +2,6 @@
 use Rattle.std.proofs.Common.{ℕ, ◌≡◌, List, ◌++◌, Option, Some, None, length, refl, sym, ap, ◌∙◌, subst, arith, length-append, inl, inr}
 use Rattle.std.specs.Prelude.{IsSome}
 use Rattle.std.specs.Int.{w32, from_le_bytes}
-use Rattle.vx_types.specs.Typ.{Typ}
 use Rattle.vx_array_tree.specs.Tree.{Tree}
 use Rattle.vx_flat.specs.Value.{Fields}
 use Rattle.vx_flat.specs.Shows.{Shows}
@@ -10,14 +9,15 @@ use Rattle.vx_flat.proofs.LawsOfMessages.{shown-one}
 use Rattle.vx_wire_tree.specs.Codec.{IsLawful}
 use Rattle.vx_wire_tree.specs.Context.{Context, grown}
 use Rattle.vx_wire_tree.specs.ReadBack.{IsWritten}
-use Rattle.vx_wire_tree.specs.Session.{SessionMeaning, IsShipped, IsPaired}
+use Rattle.vx_wire_tree.specs.Session.{IsShipped, IsPaired}
 use Rattle.vx_wire_tree.specs.Wire.{Wire}
 use Rattle.vx_wire_tree.proofs.Laws.{matched_written}
 use Rattle.vx_encodings.specs.Messages.{codec}
 use Rattle.vx_serialized.specs.declared.error.WireError.{WireError}
 use Rattle.vx_serialized.specs.declared.error.WireError.TheVariants.{OutOfMemory, TooShort, BadTable, TableLimit, BadAlignment, Compressed, OutOfBounds, NotPermitted, WireLimit}
 use Rattle.vx_serialized.specs.ArraySchema.{array_schema}
-use Rattle.vx_serialized.specs.Message.{Descriptor, message_of}
+use Rattle.vx_serialized.specs.declared.message.Descriptor.{Descriptor}
+use Rattle.vx_serialized.specs.Message.{message_of}
 use Rattle.vx_serialized.specs.Blob.{Carries, IsBlob, AreClean}
 use Rattle.vx_serde.specs.Limits.{message_limits}
 use Rattle.vx_serialized.specs.Opening.{IsTooShort, RefusesOpening, RefusesDescriptors, HasRefusedDescriptors, ShowsNoRoot}

@@ -17,7 +17,7 @@ use Rattle.vx_wire_tree.specs.Context.{Context, grown_by}
 use Rattle.vx_wire_tree.specs.Wire.{Wire, Wires, IsWhole, buffers_at_node, buffers_in, ids_in, present}
 use Rattle.vx_serialized.specs.ArraySchema.{array_schema}
 use Rattle.vx_serde.specs.Blocks.{encodings_in, encodings_below, numbered_by, numbered_below_by, message_by, layout_by}
-use Rattle.vx_serialized.specs.Message.{Descriptor}
+use Rattle.vx_serialized.specs.declared.message.Descriptor.{Descriptor}
 use Rattle.vx_serde.specs.MessageValue.{node_value, rows_value, descriptors_bytes}
 use Rattle.vx_serde.specs.Numbered.{encoding_index, numbers_from, numbered, numbered_below}
 use Rattle.vx_serde.specs.WritingSteps.{layout_of}

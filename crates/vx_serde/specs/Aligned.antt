@@ -4,7 +4,8 @@ use Rattle.vx_flat.specs.Value.{Fields}
 use Rattle.vx_flat.specs.Shows.{Shows}
 use Rattle.vx_serialized.specs.ArraySchema.{array_schema}
 use Rattle.vx_serialized.specs.Blob.{IsBlob}
-use Rattle.vx_serialized.specs.Message.{Descriptor, message_of, place_behind}
+use Rattle.vx_serialized.specs.declared.message.Descriptor.{Descriptor}
+use Rattle.vx_serialized.specs.Message.{message_of, place_behind}
 
 -- Each buffer begins at a multiple of two to its exponent, where the first one's
 -- padding begins at a position, and each other one's where the one before it ends.

@@ -7,7 +7,8 @@ use Rattle.vx_flat.specs.IsOf.{IsOfKind}
 use Rattle.vx_trees.specs.Rose.{Rose, Roses, node, end, more}
 use Rattle.vx_trees.specs.Everywhere.{Everywhere}
 use Rattle.vx_serialized.specs.ArraySchema.{array_schema}
-use Rattle.vx_serialized.specs.Message.{Descriptor, NodeFields}
+use Rattle.vx_serialized.specs.declared.message.Descriptor.{Descriptor}
+use Rattle.vx_serialized.specs.Message.{NodeFields}
 
 -- Indices as numbers of two bytes.
 abbrev pub index_bytes : List ℕ → List ℕ

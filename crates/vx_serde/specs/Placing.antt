@@ -3,7 +3,7 @@
 use Rattle.std.specs.Prelude.{ℕ, ◌+◌, ◌-◌, ◌%◌, ◌^◌, List, [], ◌∷◌, ◌++◌, length, replicate, if◌then◌else◌}
 use Rattle.vx_buffer.specs.Buffer.{Buffer}
 use Rattle.vx_serde.specs.declared.options.SerializeOptions.{SerializeOptions}
-use Rattle.vx_serialized.specs.Message.{Descriptor}
+use Rattle.vx_serialized.specs.declared.message.Descriptor.{Descriptor}
 
 -- The least number that makes a position a multiple of n when it is added.
 abbrev pub gap_to : ℕ → ℕ → ℕ

@@ -20,7 +20,7 @@ use Rattle.vx_wire_tree.specs.Written.{wire}
 use Rattle.vx_encodings.specs.Messages.{codec}
 use Rattle.vx_serialized.specs.ArraySchema.{array_schema}
 use Rattle.vx_serde.specs.Limits.{most_levels}
-use Rattle.vx_serialized.specs.Message.{Descriptor}
+use Rattle.vx_serialized.specs.declared.message.Descriptor.{Descriptor}
 use Rattle.vx_serde.specs.MessageValue.{descriptors_bytes, node_value}
 use Rattle.vx_serde.specs.Numbered.{numbered}
 use Rattle.vx_serde.specs.Placing.{descriptors_from, data_end}

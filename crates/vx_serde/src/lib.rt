@@ -20,4 +20,6 @@ pub use array_node::ArrayNodeFlatBuffer;
 pub use options::SerializeOptions;
 pub use recoding::{Recoded, recode};
 pub use serializing::ArrayExt;
-pub use vx_serialized::{ArrayKind, BufferLengths, Descriptor, SerializedArray, SerializedNode, WireError};
+pub use vx_serialized::{
+    ArrayKind, BufferLengths, Descriptor, SerializedArray, SerializedNode, WireError,
+};

@@ -20,7 +20,7 @@ use Rattle.vx_serialized.specs.declared.error.WireError.{WireError}
 use Rattle.vx_serialized.specs.declared.error.WireError.TheVariants.{OutOfMemory, TooShort, BadTable, TableLimit, BadAlignment, Compressed, OutOfBounds, UnknownIndex, UnknownEncoding, BadMetadata, BadShape, BadContent, ForeignControl, BadStats, NotPermitted, WireLimit, NotRegistered, NotSerializable, UndeclaredId, PluginRefused}
 use Rattle.vx_serialized.specs.ArraySchema.{array_schema}
 use Rattle.vx_serialized.specs.Blob.{IsBlob, AreClean, buffers_at}
-use Rattle.vx_serialized.specs.Message.{Descriptor, NodeFields, message_of, node_of, root_in}
+use Rattle.vx_serialized.specs.Message.{NodeFields, message_of, node_of, root_in}
 use Rattle.vx_serialized.specs.Opening.{RefusesOpening}
 use Rattle.vx_serialized.specs.Overrides.{Overrides, no_override, RefusesWith}
 use Rattle.vx_serialized.specs.ReadingSteps.{message_refusal}
