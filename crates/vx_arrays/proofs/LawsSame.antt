@@ -17,7 +17,7 @@ use Rattle.vx_array_tree.proofs.Options.{mapped}
 use Rattle.vx_arrays.specs.Compared.{IsSame, bare, compared_body, compared, each_compared, fed_array}
 use Rattle.vx_arrays.specs.NewBuffers.{rebuffered, with_buffers}
 use Rattle.vx_arrays.proofs.Feeding.{bare_buffers}
-use Rattle.vx_arrays.proofs.VarBinViewBodies.{views_last}
+use Rattle.vx_arrays.proofs.Bodies.VarBinViews.{views_last}
 
 -- ---- equality is an equivalence, and equal arrays are fed to a hash alike
 

@@ -10,14 +10,7 @@ mod Untold
 mod Comparing
 mod Feeding
 mod Rebuffered
-mod NullBodies
-mod BoolBodies
-mod PrimitiveBodies
-mod DecimalBodies
-mod VarBinBodies
-mod VarBinViewBodies
-mod ListViewBodies
-mod ForeignBodies
+mod Bodies
 pub mod LawsSame
 mod Firsts
 mod Counted

@@ -21,22 +21,18 @@ ghost use Rattle.vx_rows.specs.Plain.{plain_value};
 ghost use Rattle.vx_arrays.specs.Plain.{plain_body, plain_head};
 ghost use Rattle.vx_arrays.specs.Refused.{RefusesRow, IsOkOrMemory};
 
+mod flag_at;
+mod is_valid;
+mod natural_at;
+mod parts_at;
+mod untold_with;
+
 use crate::body::Body;
-use crate::extension::storage_in;
-use crate::fixed_size_list::FixedSizeListArray;
-use crate::lists::ListArray;
-use crate::map::entries_in;
-use crate::new_buffers::without_buffers;
-use crate::null::NullArray;
-use crate::parts::{RowParts, built};
-use crate::structs::StructArray;
-use crate::union::{UnionArray, tags_in};
-use crate::validity::validity_at;
-use crate::variant::{VariantArray, core_in};
+use crate::parts::built;
 use std::alloc::Global;
 use std::marker::Model;
-use vx_buffer::{BufferHandle, BufferHandles};
-use vx_rows::{ArrayError, LoneRow, RowValue};
+use vx_buffer::BufferHandle;
+use vx_rows::{ArrayError, RowValue};
 use vx_scalars::{ScalarError, StatsSet};
 use vx_types::DType;
 
@@ -232,174 +228,6 @@ impl Array {
         Ok(())
     }
 
-    /// Whether the row is there; None where that is not known.
-    #[tactic(auto, using(crate::proofs::Untold::untold_node, crate::proofs::Stored::stored_rows, crate::proofs::Mapped::mapped_rows, crate::proofs::VariantNodes::variant_nodes))]
-    pub fn is_valid(&self, index: usize) -> Option<bool>
-        requires { index < (label self.now).len }
-        ensures { result ≡ valid_at self.now index }
-    {
-        match &self.body {
-            Body::Null => Some(false),
-            Body::Primitive(_) => validity_at(self.children.as_slice(), self.len, index),
-            Body::Bool(_) => validity_at(self.children.as_slice(), self.len, index),
-            Body::Decimal(_) => validity_at(self.children.as_slice(), self.len, index),
-            Body::VarBin(parts) => {
-                parts.valid_at(&self.dtype, self.len, self.children.as_slice(), index)
-            }
-            Body::VarBinView(_) => validity_at(self.children.as_slice(), self.len, index),
-            Body::FixedSizeList => FixedSizeListArray::valid_at(
-                &self.dtype,
-                self.len,
-                self.children.as_slice(),
-                index,
-            ),
-            Body::Struct => {
-                StructArray::valid_at(&self.dtype, self.len, self.children.as_slice(), index)
-            }
-            Body::List => {
-                ListArray::valid_at(&self.dtype, self.len, self.children.as_slice(), index)
-            }
-            Body::ListView(views) => {
-                views.valid_at(&self.dtype, self.len, self.children.as_slice(), index)
-            }
-            Body::Map => {
-                let entries = entries_in(&self.dtype, self.len, self.children.as_slice());
-                entries.is_valid(index)
-            }
-            Body::Ext => {
-                let storage = storage_in(&self.dtype, self.len, self.children.as_slice());
-                storage.is_valid(index)
-            }
-            Body::Union => {
-                let tags = tags_in(&self.dtype, self.len, self.children.as_slice());
-                tags.is_valid(index)
-            }
-            Body::Dict(flag) => {
-                let children = self.children.as_slice();
-                let (codes, values) = flag.pair_in(&self.dtype, self.len, children);
-                match codes.natural_at(index) {
-                    Some(code) => values.is_valid(code as usize),
-                    None => codes.is_valid(index),
-                }
-            }
-            Body::Variant => {
-                let (core, behind) = core_in(&self.dtype, self.len, self.children.as_slice());
-                match behind {
-                    [] => core.is_valid(index),
-                    [shredded, ..] => match shredded.is_valid(index) {
-                        Some(false) => core.is_valid(index),
-                        valid => valid,
-                    },
-                }
-            }
-            Body::Foreign(_) => None,
-        }
-    }
-
-    // The row's flag, where this array has the type of a validity; None where the row is no flag.
-    #[cycle(naturals)]
-    #[tactic(auto, using(crate::proofs::Untold::untold_node))]
-    pub(crate) fn flag_at(&self, index: usize) -> Option<bool>
-        requires inside { index < (label self.now).len }
-        requires flags { (label self.now).dtype ≡ node (boolean NonNullable) end }
-        ensures { result ≡ flag_in (row_at self.now index) }
-    {
-        match &self.body {
-            Body::Null => None,
-            Body::Primitive(_) => None,
-            Body::Bool(flags) => Some(flags.flag_at(index)),
-            Body::Decimal(_) => None,
-            Body::VarBin(_) => None,
-            Body::VarBinView(_) => None,
-            Body::FixedSizeList | Body::Struct | Body::Ext | Body::List => None,
-            Body::Dict(flag) => {
-                let children = self.children.as_slice();
-                let (codes, values) = flag.pair_in(&self.dtype, self.len, children);
-                match codes.natural_at(index) {
-                    Some(code) => values.flag_at(code as usize),
-                    None => None,
-                }
-            }
-            Body::ListView(_) | Body::Map | Body::Union => None,
-            Body::Variant => None,
-            Body::Foreign(_) => None,
-        }
-    }
-
-    // The row as a natural number; None where it is none, or is not there, or nothing is known of it.
-    #[cycle(naturals)]
-    #[tactic(auto, using(crate::proofs::Naturals::naturals, crate::proofs::Untold::untold_node, crate::proofs::Stored::stored_rows, crate::proofs::Mapped::mapped_rows))]
-    pub(crate) fn natural_at(&self, index: usize) -> Option<u64>
-        requires { index < (label self.now).len }
-        ensures { result ≡ natural (row_at self.now index) }
-    {
-        let children = self.children.as_slice();
-        match &self.body {
-            Body::Null => None,
-            Body::Primitive(numbers) => numbers.natural_at(&self.dtype, self.len, children, index),
-            Body::Bool(_) => None,
-            Body::Decimal(_) => None,
-            Body::VarBin(_) => None,
-            Body::VarBinView(_) => None,
-            Body::FixedSizeList | Body::Struct | Body::List => None,
-            Body::ListView(_) | Body::Union | Body::Foreign(_) => None,
-            Body::Variant => None,
-            Body::Map => {
-                let entries = entries_in(&self.dtype, self.len, children);
-                entries.natural_at(index)
-            }
-            Body::Ext => {
-                let storage = storage_in(&self.dtype, self.len, children);
-                storage.natural_at(index)
-            }
-            Body::Dict(flag) => {
-                let (codes, values) = flag.pair_in(&self.dtype, self.len, children);
-                match codes.natural_at(index) {
-                    Some(code) => values.natural_at(code as usize),
-                    None => None,
-                }
-            }
-        }
-    }
-
-    // Of what a row is made.
-    #[tactic(auto, using(crate::proofs::Untold::untold_node, crate::proofs::Stored::stored_rows, crate::proofs::Mapped::mapped_rows))]
-    fn parts_at(&self, index: usize) -> RowParts<'_>
-        requires { index < (label self.now).len }
-        ensures value { parts_value result ≡ row_at self.now index }
-        ensures cells { parts_cells result ≡ cells self.now index }
-        ensures there { AreThere result }
-        ensures smaller { parts_nodes result < nodes self.now }
-    {
-        let dtype = &self.dtype;
-        let len = self.len;
-        let children = self.children.as_slice();
-        match &self.body {
-            Body::Null => RowParts::Lone(LoneRow::Null),
-            Body::Primitive(numbers) => RowParts::Lone(numbers.row_at(dtype, len, children, index)),
-            Body::Bool(flags) => RowParts::Lone(flags.row_at(dtype, len, children, index)),
-            Body::Decimal(decimals) => RowParts::Lone(decimals.row_at(dtype, len, children, index)),
-            Body::VarBin(parts) => RowParts::Lone(parts.row_at(dtype, len, children, index)),
-            Body::VarBinView(views) => RowParts::Lone(views.row_at(dtype, len, children, index)),
-            Body::FixedSizeList => FixedSizeListArray::parts_at(dtype, len, children, index),
-            Body::Struct => StructArray::parts_at(dtype, len, children, index),
-            Body::List => ListArray::parts_at(dtype, len, children, index),
-            Body::Union => UnionArray::parts_at(dtype, len, children, index),
-            Body::Dict(flag) => flag.parts_at(dtype, len, children, index),
-            Body::ListView(views) => views.parts_at(dtype, len, children, index),
-            Body::Map => {
-                let array = entries_in(dtype, len, children);
-                RowParts::At { array, index }
-            }
-            Body::Ext => {
-                let array = storage_in(dtype, len, children);
-                RowParts::At { array, index }
-            }
-            Body::Variant => VariantArray::parts_at(dtype, len, children, index),
-            Body::Foreign(_) => RowParts::Lone(LoneRow::Opaque),
-        }
-    }
-
     // The row's value, if there are cells to spend for it.
     #[cycle(rows)]
     #[tactic(auto, using(crate::proofs::Counted::counted))]
@@ -428,48 +256,6 @@ impl Array {
     {
         let mut left = budget;
         self.row_within(alloc, index, &mut left)
-    }
-
-    // The same array without statistics and with these buffers at its root, as the root's encoding makes it.
-    #[tactic(auto, using(crate::proofs::Untold::untold_node))]
-    pub(crate) fn untold_with(
-        &self,
-        alloc: Global,
-        buffers: BufferHandles,
-    ) -> Result<Array, ArrayError>
-        ensures ok { IfOk result (λ a. with_buffers (with_stats no_stats self.now) buffers ≡ Some a) }
-        ensures sound { IfOk result IsSound }
-        ensures err { IfErr result (λ e. RefusesBuffers e (with_stats no_stats self.now) buffers) }
-        ensures complete { (t : Tree) → with_buffers (with_stats no_stats self.now) buffers ≡ Some t → IsSound t → IsOkOrMemory result }
-    {
-        let (dtype, len) = (&self.dtype, self.len);
-        let children = self.children.as_slice();
-        match &self.body {
-            Body::Null => NullArray::with_buffers(alloc, dtype, len, children, buffers),
-            Body::Primitive(numbers) => numbers.with_buffers(alloc, dtype, len, children, buffers),
-            Body::Bool(flags) => flags.with_buffers(alloc, dtype, len, children, buffers),
-            Body::Decimal(decimals) => decimals.with_buffers(alloc, dtype, len, children, buffers),
-            Body::VarBin(parts) => parts.with_buffers(alloc, dtype, len, children, buffers),
-            Body::VarBinView(views) => views.with_buffers(alloc, dtype, len, children, buffers),
-            Body::FixedSizeList => {
-                without_buffers(alloc, dtype, len, Body::FixedSizeList, children, buffers)
-            }
-            Body::Struct => without_buffers(alloc, dtype, len, Body::Struct, children, buffers),
-            Body::Ext => without_buffers(alloc, dtype, len, Body::Ext, children, buffers),
-            Body::List => without_buffers(alloc, dtype, len, Body::List, children, buffers),
-            Body::Union => without_buffers(alloc, dtype, len, Body::Union, children, buffers),
-            Body::Dict(flag) => {
-                let body = Body::Dict(flag.clone());
-                without_buffers(alloc, dtype, len, body, children, buffers)
-            }
-            Body::ListView(views) => {
-                let body = Body::ListView(views.again());
-                without_buffers(alloc, dtype, len, body, children, buffers)
-            }
-            Body::Map => without_buffers(alloc, dtype, len, Body::Map, children, buffers),
-            Body::Variant => without_buffers(alloc, dtype, len, Body::Variant, children, buffers),
-            Body::Foreign(foreign) => foreign.with_buffers(alloc, dtype, len, children, buffers),
-        }
     }
 
     /// The same array again. No buffer's bytes are copied.

@@ -15,7 +15,7 @@ ghost use Rattle.vx_arrays.specs.Structs.{IsOfFields};
 
 use crate::array::Array;
 use crate::body::Body;
-use crate::structs::width_of;
+use crate::encodings::structs::width_of;
 use vx_types::DType;
 
 impl Array {

@@ -1,58 +1,44 @@
 //! Arrays as sound trees: a type, a number of rows, an encoding's buffers, and the arrays below.
 //!
-//! Contracts see an [`Array`] as the plain tree of `vx_array_tree`. All code of an encoding stands in the file
-//! named after it; `body` and `array` only hand on to it, by a line for each encoding.
+//! Contracts see an [`Array`] as the plain tree of `vx_array_tree`. All code of an encoding stands in its own file of
+//! `encodings`. A file of `array`, `body` or `slots`, and `control`, asks one thing of all encodings, and hands on to
+//! those files by a line for each.
 #![tactic(auto)]
 
 mod array;
 mod body;
-mod bool;
 mod construction;
 mod control;
-mod decimal;
-mod dict;
-mod extension;
-mod fixed_size_list;
-mod foreign;
+mod encodings;
 mod list;
-mod list_view;
-mod lists;
-mod map;
 mod new_buffers;
-mod null;
 mod offsets;
 mod parts;
 mod place;
 mod plain_offsets;
-mod primitive;
 mod same;
 mod slots;
-mod structs;
 mod texts;
-mod union;
 mod validity;
-mod varbin;
-mod varbinview;
-mod variant;
 
 pub use array::Array;
 pub use body::Body;
-pub use bool::{BoolArray, BoolData};
-pub use decimal::{DecimalArray, DecimalData};
-pub use dict::{DictArray, DictData};
-pub use extension::ExtensionArray;
-pub use fixed_size_list::FixedSizeListArray;
-pub use foreign::{ForeignArray, ForeignArrayData, ForeignData, new_foreign_array};
+pub use encodings::bool::{BoolArray, BoolData};
+pub use encodings::decimal::{DecimalArray, DecimalData};
+pub use encodings::dict::{DictArray, DictData};
+pub use encodings::extension::ExtensionArray;
+pub use encodings::fixed_size_list::FixedSizeListArray;
+pub use encodings::foreign::{ForeignArray, ForeignArrayData, ForeignData, new_foreign_array};
+pub use encodings::list_view::{ListViewArray, ListViewData};
+pub use encodings::lists::ListArray;
+pub use encodings::map::MapArray;
+pub use encodings::null::NullArray;
+pub use encodings::primitive::{PrimitiveArray, PrimitiveData};
+pub use encodings::structs::StructArray;
+pub use encodings::union::UnionArray;
+pub use encodings::varbin::{VarBinArray, VarBinData};
+pub use encodings::varbinview::{VarBinViewArray, VarBinViewData};
+pub use encodings::variant::VariantArray;
 pub use list::Arrays;
-pub use list_view::{ListViewArray, ListViewData};
-pub use lists::ListArray;
-pub use map::MapArray;
-pub use null::NullArray;
-pub use primitive::{PrimitiveArray, PrimitiveData};
-pub use structs::StructArray;
-pub use union::UnionArray;
 pub use validity::validity_all_invalid;
-pub use varbin::{VarBinArray, VarBinData};
-pub use varbinview::{VarBinViewArray, VarBinViewData};
-pub use variant::VariantArray;
 pub use vx_rows::{ArrayError, RowRef, RowValue, RowValues, merge_typed_scalar_as_variant};

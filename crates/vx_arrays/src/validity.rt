@@ -17,8 +17,8 @@ ghost use Rattle.vx_arrays.specs.Validity.{IsValidity, all_invalid};
 
 use crate::array::Array;
 use crate::body::Body;
-use crate::bool::BoolArray;
 use crate::construction::over_children;
+use crate::encodings::bool::BoolArray;
 use crate::list::Arrays;
 use crate::place::stands_at;
 use std::alloc::Global;

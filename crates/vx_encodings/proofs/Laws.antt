@@ -22,7 +22,7 @@ use Rattle.vx_encodings.proofs.Widths.{one_width, width_again}
 use Rattle.vx_encodings.specs.Messages.{Shows, ShowsNothing, message_bytes, codec}
 use Rattle.vx_encodings.specs.Plain.{plain_encoding}
 use Rattle.vx_encodings.specs.declared.encoding.Encoding.{Encoding}
-use Rattle.vx_encodings.specs.declared.encoding.Encoding.TheVariants.{Null, Bool, Primitive, Decimal, VarBin, VarBinView, Dict, FixedSizeList, Struct, Extension, List as ListOf, ListView, Map, Union, Variant}
+use Rattle.vx_encodings.specs.declared.encoding.Encoding.TheVariants.{Null}
 
 one_nothing : (bytes : List ℕ) (f g : Fields) → ShowsNothing bytes f → ShowsNothing bytes g → f ≡ g
 one_nothing bytes f g a b = a.fields_are ∙ sym b.fields_are
@@ -54,36 +54,37 @@ nothing_shown : ShowsNothing [] F.empty
 nothing_shown = record { bytes_are = refl; fields_are = refl }
 
 -- What is written of metadata that an encoding admits and that fits its message shows it, where its bytes can be counted.
-message_again : (e : Encoding) (v : Metadata) → IsFair (plain_encoding e) v → FitsMessage v → length (message_bytes (told v)) < 2 ^ 64 → Shows (plain_encoding e) (message_bytes (told v)) (told v)
-message_again Null M.empty fair fits short = nothing_shown
-message_again Bool (M.bool o) fair fits short = offset_again o fair
-message_again Primitive M.empty fair fits short = nothing_shown
-message_again Decimal (M.decimal w) fair fits short = width_again w
-message_again VarBin (M.varbin p) fair fits short = kind_again p
-message_again VarBinView M.empty fair fits short = nothing_shown
-message_again Dict (M.dict v) fair fits short =
+message_again : (e : E.Encoding) (v : Metadata) → IsNativeEncoding e → IsFair e v → FitsMessage v → length (message_bytes (told v)) < 2 ^ 64 → Shows e (message_bytes (told v)) (told v)
+message_again E.null M.empty native fair fits short = nothing_shown
+message_again E.bool (M.bool o) native fair fits short = offset_again o fair
+message_again E.primitive M.empty native fair fits short = nothing_shown
+message_again E.decimal (M.decimal w) native fair fits short = width_again w
+message_again E.varbin (M.varbin p) native fair fits short = kind_again p
+message_again E.varbinview M.empty native fair fits short = nothing_shown
+message_again E.dict (M.dict v) native fair fits short =
     dict_again (record { values_len = v.values_len; codes_ptype = v.codes_ptype; is_nullable_codes = Some (is_nullable v.nullable_codes); all_values_referenced = Some v.all_values_referenced }) fits
-message_again FixedSizeList M.empty fair fits short = nothing_shown
-message_again Struct M.empty fair fits short = nothing_shown
-message_again Extension M.empty fair fits short = nothing_shown
-message_again ListOf (M.list v) fair fits short = list_again v.elements_len v.offset_ptype fits
-message_again ListView (M.listview v) fair fits short = views_again v fits
-message_again Map M.empty fair fits short = nothing_shown
-message_again Union M.empty fair fits short = nothing_shown
-message_again Variant (M.variant v) fair fits short = variant_again v fair fits short
-message_again _ v fair fits short = absurd fair
+message_again E.fixed_size_list M.empty native fair fits short = nothing_shown
+message_again E.struct M.empty native fair fits short = nothing_shown
+message_again E.ext M.empty native fair fits short = nothing_shown
+message_again E.list (M.list v) native fair fits short = list_again v.elements_len v.offset_ptype fits
+message_again E.listview (M.listview v) native fair fits short = views_again v fits
+message_again E.map M.empty native fair fits short = nothing_shown
+message_again E.union M.empty native fair fits short = nothing_shown
+message_again E.variant (M.variant v) native fair fits short = variant_again v fair fits short
+message_again E.foreign v native fair fits short = absurd native
+message_again _ v native fair fits short = absurd fair
 
 -- What has code is known.
-native : (e : Encoding) → IsNativeEncoding (plain_encoding e)
+pub native : (e : Encoding) → IsNativeEncoding (plain_encoding e)
 native Null = tt
 native _ = tt
 
--- The messages of each encoding that has code are lawful: one is shown at most, and what is written is shown.
-pub lawful : (e : Encoding) → IsLawfulAt codec (plain_encoding e)
-lawful e = record {
-  native = native e;
-  one_message = one_message (plain_encoding e);
-  message_again = message_again e;
+-- The messages of each encoding that is known are lawful: one is shown at most, and what is written is shown.
+pub lawful : (e : E.Encoding) → IsNativeEncoding e → IsLawfulAt codec e
+lawful e known = record {
+  native = known;
+  one_message = one_message e;
+  message_again = λ v. message_again e v known;
 }
 
 -- And so are the tables of statistics.

@@ -3,26 +3,26 @@ use Rattle.vx_types.specs.Seen.{typ}
 use Rattle.vx_array_tree.specs.Encoding as E
 use Rattle.vx_array_tree.specs.Place.{Place, place}
 use Rattle.vx_encodings.specs.declared.encoding.Encoding.{Encoding}
-use Rattle.vx_encodings.specs.declared.encoding.Encoding.TheVariants.{Null, Bool, Primitive, Decimal, VarBin, VarBinView, Dict, FixedSizeList, Struct, Extension, List as ListOf, ListView, Map, Union, Variant}
+use Rattle.vx_encodings.specs.declared.encoding.Encoding.TheVariants as V
 use Rattle.vx_encodings.specs.declared.plans.ChildPlan.{ChildPlan}
 
 -- An encoding, of those that definitions know.
 abbrev pub plain_encoding : Encoding → E.Encoding
-plain_encoding Null = E.null
-plain_encoding Bool = E.bool
-plain_encoding Primitive = E.primitive
-plain_encoding Decimal = E.decimal
-plain_encoding VarBin = E.varbin
-plain_encoding VarBinView = E.varbinview
-plain_encoding Dict = E.dict
-plain_encoding FixedSizeList = E.fixed_size_list
-plain_encoding Struct = E.struct
-plain_encoding Extension = E.ext
-plain_encoding ListOf = E.list
-plain_encoding ListView = E.listview
-plain_encoding Map = E.map
-plain_encoding Union = E.union
-plain_encoding Variant = E.variant
+plain_encoding V.Null = E.null
+plain_encoding V.Bool = E.bool
+plain_encoding V.Primitive = E.primitive
+plain_encoding V.Decimal = E.decimal
+plain_encoding V.VarBin = E.varbin
+plain_encoding V.VarBinView = E.varbinview
+plain_encoding V.Dict = E.dict
+plain_encoding V.FixedSizeList = E.fixed_size_list
+plain_encoding V.Struct = E.struct
+plain_encoding V.Extension = E.ext
+plain_encoding V.List = E.list
+plain_encoding V.ListView = E.listview
+plain_encoding V.Map = E.map
+plain_encoding V.Union = E.union
+plain_encoding V.Variant = E.variant
 
 -- The place that a planned child is to have.
 abbrev pub planned_place : ChildPlan → Place

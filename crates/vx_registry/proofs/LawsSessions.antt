@@ -12,8 +12,7 @@ use Rattle.vx_wire_tree.specs.Plugin.{PluginMeaning}
 use Rattle.vx_wire_tree.specs.Session.{SessionMeaning, Reader, shipped, revised, plugin, encoding_by, entry_id, IsShippedReader, IsShipped, HasPairedPlugins}
 use Rattle.vx_encodings.specs.Messages.{codec}
 use Rattle.vx_encodings.specs.Plain.{plain_encoding}
-use Rattle.vx_encodings.proofs.Laws.{lawful, stats_lawful}
-use Rattle.vx_encodings.specs.declared.encoding.Encoding.TheVariants.{Primitive}
+use Rattle.vx_encodings.proofs.Laws.{lawful, native, stats_lawful}
 use Rattle.vx_registry.specs.Meaning.{plugins_meaning, arrays_meaning}
 use Rattle.vx_registry.specs.Session.{Registry, Plugins, both_ids, entry_in, found_with, no_plugins, tables_meaning, shipped_meaning, revised_meaning, shipped_encodings, shipped_registry, with_revised}
 use Rattle.vx_registry.specs.declared.array_session.ArraySession.{ArraySession}
@@ -53,8 +52,8 @@ no_encoding (Some x) e p = cc
 
 lawful_at : (f : Plugins) (o : Option Entry) (e : E.Encoding) → encoding_by (option_and_then (entry_in f) o) ≡ Some e → IsLawfulAt codec e
 lawful_at f None e p = absurd (cc)
-lawful_at f (Some (Shipped g)) e p = let q : plain_encoding g ≡ e = cc in subst (λ (z : E.Encoding). IsLawfulAt codec z) q (lawful g)
-lawful_at f (Some Revised) e p = let q : E.primitive ≡ e = cc in subst (λ (z : E.Encoding). IsLawfulAt codec z) q (lawful Primitive)
+lawful_at f (Some (Shipped g)) e p = let q : plain_encoding g ≡ e = cc in subst (λ (z : E.Encoding). IsLawfulAt codec z) q (lawful (plain_encoding g) (native g))
+lawful_at f (Some Revised) e p = let q : E.primitive ≡ e = cc in subst (λ (z : E.Encoding). IsLawfulAt codec z) q (lawful E.primitive tt)
 lawful_at f (Some (Boxed n)) e p = absurd (no_encoding (f n) e p)
 
 -- The encodings by which a session reads have lawful messages of metadata, and the tables of statistics are lawful.

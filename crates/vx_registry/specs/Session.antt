@@ -13,7 +13,7 @@ use Rattle.indexmap.specs.IndexMap.{insert_entry}
 use Rattle.vx_registry.specs.declared.tables.Entry.{Entry}
 use Rattle.vx_registry.specs.declared.tables.Entry.TheVariants.{Shipped, Revised, Boxed}
 use Rattle.vx_encodings.specs.declared.encoding.Encoding.{Encoding}
-use Rattle.vx_encodings.specs.declared.encoding.Encoding.TheVariants.{Null, Bool, Primitive, Decimal, VarBin, VarBinView, Dict, FixedSizeList, Struct, Extension, List as ListOf, ListView, Map, Union, Variant}
+use Rattle.vx_encodings.specs.declared.encoding.Encoding.TheVariants as V
 
 -- Entries, under identifiers.
 abbrev pub Entries : Type 0
@@ -77,7 +77,22 @@ pub record AreWithin (r : Registry) (k : ℕ) : Type 0 where
 
 -- The shipped encodings.
 abbrev pub shipped_encodings : List Encoding
-shipped_encodings = Null ∷ Bool ∷ Primitive ∷ Decimal ∷ VarBin ∷ VarBinView ∷ Dict ∷ FixedSizeList ∷ Struct ∷ Extension ∷ ListOf ∷ ListView ∷ Map ∷ Union ∷ Variant ∷ []
+shipped_encodings =
+    V.Null ∷
+    V.Bool ∷
+    V.Primitive ∷
+    V.Decimal ∷
+    V.VarBin ∷
+    V.VarBinView ∷
+    V.Dict ∷
+    V.FixedSizeList ∷
+    V.Struct ∷
+    V.Extension ∷
+    V.List ∷
+    V.ListView ∷
+    V.Map ∷
+    V.Union ∷
+    V.Variant ∷ []
 
 -- The registry of the shipped encodings, each under its own identifier.
 abbrev pub shipped_registry : Registry

@@ -12,14 +12,14 @@ use Rattle.vx_arrays.proofs.+naturals.Goals as goal
 
 pub array::Array::flag_at-returns-in-Bool : goal.array::Array::flag_at-returns-in-Bool
 array::Array::flag_at-returns-in-Bool t c =
-    ap (λ b. Some b) c.flag_at.ensures
+    ap (λ b. Some b) c.bit.ensures
     ∙ flag_row _ _ c.args.index _ c.self.inside.body c.in-Bool.flags (roses_of c.self.inside.children.items) c.in-Bool.is (ap (λ (t : Tree). (label t).dtype) c.self.view_is ∙ c.requires.flags) c.self.invariant.0
     ∙ ap (λ (t : Tree). flag_in (row_at t c.args.index)) c.self.view_is
 
 -- ---- dictionaries
 
-pub array::Array::flag_at-flag_at-requires-in-Some : goal.array::Array::flag_at-flag_at-requires-in-Some
-array::Array::flag_at-flag_at-requires-in-Some t c =
+pub array::Array::flag_at-flag_at-requires : goal.array::Array::flag_at-flag_at-requires
+array::Array::flag_at-flag_at-requires t c =
     let a : IsDict c.args.self.now c.pair_in.result.0.now c.pair_in.result.1.now =
     dict_of (typ c.self.inside.dtype) c.self.inside.len c.self.inside.stats c.self.inside.body c.in-Dict.flag (roses_of c.self.inside.children.items) c.args.self.now c.pair_in.result.0.now c.pair_in.result.1.now
     c.in-Dict.is c.self.view_is c.self.invariant.0 (ap (λ (us : List Tree). roses_of us) (sym c.as_slice-children.ensures.value) ∙ c.pair_in.ensures.pair) in
@@ -30,7 +30,7 @@ array::Array::flag_at-returns-in-Some t c =
     let a : IsDict c.args.self.now c.pair_in.result.0.now c.pair_in.result.1.now =
     dict_of (typ c.self.inside.dtype) c.self.inside.len c.self.inside.stats c.self.inside.body c.in-Dict.flag (roses_of c.self.inside.children.items) c.args.self.now c.pair_in.result.0.now c.pair_in.result.1.now
     c.in-Dict.is c.self.view_is c.self.invariant.0 (ap (λ (us : List Tree). roses_of us) (sym c.as_slice-children.ensures.value) ∙ c.pair_in.ensures.pair) in
-    c.flag_at-in-Some.ensures ∙ ap (λ (w : Value). flag_in w) (named_row c.args.self.now c.pair_in.result.0.now c.pair_in.result.1.now a c.args.index c.in-Some.code (sym c.in-Some.is ∙ c.natural_at.ensures))
+    c.flag_at.ensures ∙ ap (λ (w : Value). flag_in w) (named_row c.args.self.now c.pair_in.result.0.now c.pair_in.result.1.now a c.args.index c.in-Some.code (sym c.in-Some.is ∙ c.natural_at.ensures))
 
 pub array::Array::flag_at-returns-in-None : goal.array::Array::flag_at-returns-in-None
 array::Array::flag_at-returns-in-None t c =

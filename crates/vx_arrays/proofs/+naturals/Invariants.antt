@@ -10,8 +10,8 @@ decreases-array::Array::flag_at l = 3 * nodes l.self.now
 abbrev pub decreases-array::Array::natural_at : goal.decreases-array::Array::natural_at
 decreases-array::Array::natural_at l = 3 * nodes l.self.now
 
-abbrev pub decreases-primitive::PrimitiveData::natural_at : goal.decreases-primitive::PrimitiveData::natural_at
-decreases-primitive::PrimitiveData::natural_at l = 3 * nodes_of (roses_of l.children.now) + 2
+abbrev pub decreases-encodings::primitive::PrimitiveData::natural_at : goal.decreases-encodings::primitive::PrimitiveData::natural_at
+decreases-encodings::primitive::PrimitiveData::natural_at l = 3 * nodes_of (roses_of l.children.now) + 2
 
 abbrev pub decreases-validity::validity_at : goal.decreases-validity::validity_at
 decreases-validity::validity_at l = 3 * nodes_of (roses_of l.children.now) + 1

@@ -1,0 +1,13 @@
+-- A node is of the shape exactly where its first three children and what stands behind them are right.
+use Rattle.std.proofs.lemmas.Bool.{false≢true}
+use Rattle.vx_types.specs.Seen.{typ}
+use Rattle.vx_arrays.proofs.ListViewed.{never_few, parts_decide}
+use Rattle.vx_arrays.proofs.encodings.list_view.is_shaped.Goals as goal
+
+pub returns-then-children-lt3 : goal.returns-then-children-lt3
+returns-then-children-lt3 c = (λ t. absurd (false≢true t), λ s. absurd (never_few (typ c.args.dtype.now) c.args.len c.args.zero_copy c.args.children.now c.if-children-lt3.true s))
+
+pub returns : goal.returns
+returns c =
+    parts_decide (typ c.args.dtype.now) c.args.len c.args.zero_copy c.are_parts.result c.args.children.now c.parted.result.0.now c.parted-2.result.0.now c.parted-3.result.0.now c.parted.result.1.now c.parted-2.result.1.now c.parted-3.result.1.now
+    c.parted.ensures c.parted-2.ensures c.parted-3.ensures c.are_parts.ensures

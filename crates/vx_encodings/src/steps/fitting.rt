@@ -1,0 +1,32 @@
+//! Whether a node's metadata fits its message, asked of each encoding.
+
+ghost use Rattle.std.specs.Prelude.{IsTrue, IsFalse};
+ghost use Rattle.vx_trees.specs.Rose.{label, below};
+ghost use Rattle.vx_wire_tree.specs.Limits.{HasMessage};
+
+use crate::encodings;
+use vx_arrays::{Array, Body};
+
+/// Whether the root's metadata fits its message: a node of which it does not is not written.
+#[tactic(auto, using(crate::proofs::Fit::fit))]
+pub fn has_message(array: &Array) -> bool
+    ensures fits { IsTrue result → HasMessage (label array.now) (below array.now) }
+    ensures over { IsFalse result → HasMessage (label array.now) (below array.now) → ⊥ }
+{
+    match array.body() {
+        Body::Null => true,
+        Body::Bool(_) => true,
+        Body::Primitive(_) => true,
+        Body::Decimal(_) => true,
+        Body::VarBin(_) => true,
+        Body::VarBinView(_) => true,
+        Body::FixedSizeList => true,
+        Body::Struct => true,
+        Body::Ext => true,
+        Body::List | Body::ListView(_) => encodings::lists::has_message(array.children()),
+        Body::Dict(_) => encodings::dict::has_message(array.children()),
+        Body::Map | Body::Union => true,
+        Body::Variant => encodings::variant::has_message(array.children()),
+        Body::Foreign(_) => true,
+    }
+}
