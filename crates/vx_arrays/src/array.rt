@@ -2,24 +2,18 @@
 
 ghost use Rattle.std.specs.Prelude.{◌≡◌, ◌<◌, ◌≤◌, ◌==◌, ◌+◌, length, IfOk, IfErr, OnOk, OnErr, IsOk, IsOkUnless, IsTrue, IsFalse, Some, slice_get};
 ghost use Rattle.vx_trees.specs.Everywhere.{EverywhereBelow};
-ghost use Rattle.vx_trees.specs.Rose.{label, below, node, end, roses_of};
-ghost use Rattle.vx_types.specs.Kind.{boolean};
+ghost use Rattle.vx_trees.specs.Rose.{label, below, node, roses_of};
 ghost use Rattle.vx_types.specs.Seen.{typ};
-ghost use Rattle.vx_types.specs.Value.{natural};
-ghost use Rattle.vx_scalars.specs.Stats.{FitStats, no_stats};
-ghost use Rattle.vx_types.specs.declared.nullability.Nullability.TheVariants.{NonNullable};
+ghost use Rattle.vx_scalars.specs.Stats.{FitStats};
 ghost use Rattle.vx_array_tree.specs.Refused.{IsWellShaped};
-ghost use Rattle.vx_types.specs.Value.{flag_in};
 ghost use Rattle.vx_array_tree.specs.Sound.{IsControlled, IsSound, IsSoundNode};
 ghost use Rattle.vx_array_tree.specs.Encoding as E;
 ghost use Rattle.vx_array_tree.specs.Table.{encoding_of, own_id, buffers_of, Content, IsNative};
-ghost use Rattle.vx_array_tree.specs.Tree.{Tree, rows_of, rows_below, row_at, valid_at, cells, untold, with_stats};
+ghost use Rattle.vx_array_tree.specs.Tree.{Tree, rows_of, rows_below, row_at, cells, untold, with_stats};
 ghost use Rattle.vx_trees.specs.Walks.{nodes};
-ghost use Rattle.vx_arrays.specs.NewBuffers.{RefusesBuffers, with_buffers};
-ghost use Rattle.vx_arrays.specs.Parts.{AreThere, parts_cells, parts_nodes, parts_value};
 ghost use Rattle.vx_rows.specs.Plain.{plain_value};
 ghost use Rattle.vx_arrays.specs.Plain.{plain_body, plain_head};
-ghost use Rattle.vx_arrays.specs.Refused.{RefusesRow, IsOkOrMemory};
+ghost use Rattle.vx_arrays.specs.Refused.{RefusesRow};
 
 mod flag_at;
 mod is_valid;

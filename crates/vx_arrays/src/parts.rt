@@ -3,15 +3,14 @@
 //! An encoding's file says of what a row of its nodes is made, without memory. The one recursion over the arrays below a
 //! node stands here: it builds rows of their parts, and spends cells before it takes memory for them.
 
-ghost use Rattle.std.specs.Prelude.{suc, ℕ, false, ◌≡◌, ◌+◌, ◌^◌, ◌<◌, ◌≤◌, IfOk, IfErr, OnOk, IsOkUnless};
+ghost use Rattle.std.specs.Prelude.{ℕ, false, ◌≡◌, ◌+◌, ◌^◌, ◌<◌, ◌≤◌, IfOk, IfErr, OnOk};
 ghost use Rattle.vx_trees.specs.Rose.{label, roses_of};
 ghost use Rattle.vx_types.specs.Fits.{Fits, IsVariant};
 ghost use Rattle.vx_types.specs.Seen.{typ};
-ghost use Rattle.vx_types.specs.Value.{Value, has_opaque, lone, mark_cells, value_cells};
+ghost use Rattle.vx_types.specs.Value.{Value, has_opaque, value_cells};
 ghost use Rattle.vx_array_tree.specs.Encodings.Variants.{row_over};
 ghost use Rattle.vx_array_tree.specs.Rows.{cells_at, cells_from, cells_where, values_at, values_from, where_valid};
 ghost use Rattle.vx_array_tree.specs.Tree.{rows_below, rows_of};
-ghost use Rattle.vx_rows.specs.Lone.{lone_mark};
 ghost use Rattle.vx_arrays.specs.Parts.{AreThere, HaveRow, parts_cells, parts_nodes, parts_value};
 ghost use Rattle.vx_rows.specs.Plain.{plain_value};
 ghost use Rattle.vx_rows.specs.Refused.{RefusesCells};

@@ -1,6 +1,6 @@
 //! Texts and bytes: which bytes are texts, parts of bytes by offsets, and rows of bytes.
 
-ghost use Rattle.std.specs.Prelude.{ℕ, suc, ◌≡◌, ◌<◌, ◌≤◌, ◌↔◌, [], Some, IsTrue, length};
+ghost use Rattle.std.specs.Prelude.{ℕ, suc, ◌≡◌, ◌<◌, ◌↔◌, [], Some, IsTrue, length};
 ghost use Rattle.vx_trees.specs.Rose.{count, label};
 ghost use Rattle.vx_types.specs.Content.{IsText};
 ghost use Rattle.vx_types.specs.Seen.{typ};

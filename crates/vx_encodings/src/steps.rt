@@ -1,9 +1,8 @@
 //! The steps of one node: what its children are to be, the node out of its parts, and its metadata. Each is asked of the
 //! encodings in a file of its own.
 
-ghost use Rattle.std.specs.Prelude.{◌≡◌, ℕ, List, IfOk, IfErr, OnOk};
+ghost use Rattle.std.specs.Prelude.{◌≡◌, List, IfOk, IfErr, OnOk};
 ghost use Rattle.vx_trees.specs.Rose.{label, below};
-ghost use Rattle.vx_types.specs.Known.{ExtMeaning};
 ghost use Rattle.vx_type_wire.specs.Session.{ext_meaning};
 ghost use Rattle.vx_array_tree.specs.Place.{Place};
 ghost use Rattle.vx_array_tree.specs.Sound.{IsSound, metadata_in};

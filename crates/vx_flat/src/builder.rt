@@ -1,7 +1,7 @@
 //! A message that is written block by block.
 
 ghost use Rattle.std.specs.Prelude.{◌≡◌, [], ◌<◌, ◌≤◌, ◌^◌, true, false, length, None};
-ghost use Rattle.std.specs.Prelude.{IfOk, IfErr, OnOk, OnErr, IsOk, IsErrOf, ◌∷◌};
+ghost use Rattle.std.specs.Prelude.{IfOk, IfErr, OnOk, IsOk, IsErrOf};
 ghost use Rattle.vx_flat.specs.Schema.{Schema};
 ghost use Rattle.vx_flat.specs.Value.{Fields};
 ghost use Rattle.vx_flat.specs.IsOf.{IsOf};

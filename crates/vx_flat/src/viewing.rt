@@ -1,7 +1,7 @@
 //! Views of messages that were verified: each lends the parts of one value, without a check, a
 //! refusal or memory.
 
-ghost use Rattle.std.specs.Prelude.{◌≡◌, ℕ, ◌<◌, ◌≤◌, length, Some, IsSome, IsTrue};
+ghost use Rattle.std.specs.Prelude.{◌≡◌, ◌<◌, ◌≤◌, length, Some, IsSome, IsTrue};
 ghost use Rattle.vx_flat.specs.Schema.{fields_of, is_lawful};
 ghost use Rattle.vx_flat.specs.SchemaLists.{schema_of};
 ghost use Rattle.vx_flat.specs.Places.{table_at as table_found, u32_at as number_of_four};
@@ -82,13 +82,12 @@ impl<'a> View<'a> {
 }
 
 impl<'a> View<'a> {
-    ghost use Rattle.std.specs.Prelude.{◌+◌, true, false, MatchOption, OnSome, IfSome, IfNone, None, option_map, if◌then◌else◌};
+    ghost use Rattle.std.specs.Prelude.{◌+◌, true, false, MatchOption, IfSome, IfNone, None, if◌then◌else◌};
     ghost use Rattle.vx_flat.specs.Places.{place_of as placed, inline_size};
     ghost use Rattle.vx_flat.specs.Reading.{absent_shown, present_shown, member_shown};
     ghost use Rattle.vx_flat.specs.Schema.{members_of, table_of as table_of_tag};
     ghost use Rattle.vx_flat.specs.Value as value;
     ghost use Rattle.vx_flat.specs.Seen.{kind_in, kinds_in, part_in, vector_seen, seen, schema_in, table_seen, kind_seen, IsBelow, IsVectorBelow, IsPart, HasMember};
-    ghost use Rattle.vx_flat.specs.Entries.{kind_from};
     ghost use Rattle.vx_flat.specs.declared.schema.FieldKind.TheVariants as kind;
 
     /// The fields of the view's table, in order.
@@ -330,7 +329,7 @@ impl<'a> View<'a> {
 }
 
 impl<'a> VectorView<'a> {
-    ghost use Rattle.std.specs.Prelude.{◌+◌, ◌*◌, take};
+    ghost use Rattle.std.specs.Prelude.{◌+◌, ◌*◌};
     ghost use Rattle.vx_flat.specs.Seen.{vector_seen, seen, IsElement, kind_seen, count_seen, size_seen, member_seen, table_seen};
     ghost use Rattle.vx_flat.specs.declared.schema.FieldKind.TheVariants as kind;
 

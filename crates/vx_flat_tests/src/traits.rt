@@ -1,7 +1,7 @@
 //! A type that is written and read by the traits of tables.
 
-ghost use Rattle.std.specs.Prelude.{◌≡◌, ◌∷◌, [], ◌++◌, ◌⊎◌, IfOk, IfErr, OnOk, OnErr, IsOk, ◌<◌, ◌^◌};
-ghost use Rattle.vx_flat.specs.declared.error.FlatError.TheVariants.{OutOfMemory, BadTable};
+ghost use Rattle.std.specs.Prelude.{◌≡◌, ◌<◌};
+ghost use Rattle.vx_flat.specs.declared.error.FlatError.TheVariants.{BadTable};
 ghost use Rattle.vx_flat.specs.Building.{RefusesPieces, Built};
 ghost use Rattle.vx_flat.specs.Pieces.{pieces, default_entry};
 ghost use Rattle.vx_flat.specs.Value.{Fields, number, member, field, no_fields};

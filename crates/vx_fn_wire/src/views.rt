@@ -1,6 +1,6 @@
 //! What is seen of a function: its options, and how its calls look.
 
-ghost use Rattle.std.specs.Prelude.{◌≡◌, ◌&&◌, Some, None, option_map, unwrap_or, slice_get, IfOk, IsOkUnless};
+ghost use Rattle.std.specs.Prelude.{◌≡◌, Some, None, option_map, IfOk, IsOkUnless};
 ghost use Rattle.vx_types.specs.Content.{IsText};
 ghost use Rattle.vx_fn_wire.specs.Texts.{child_name_of};
 

@@ -1,6 +1,6 @@
 //! A plugin that asks the session's readers of extensions.
 
-ghost use Rattle.std.specs.Prelude.{◌≡◌, IfOk, IsOkUnless};
+ghost use Rattle.std.specs.Prelude.{◌≡◌};
 ghost use Rattle.vx_type_wire.specs.Lent.{lent_meaning};
 ghost use Rattle.vx_types.specs.Seen.{typ};
 ghost use Rattle.vx_plugin_tests.specs.Asking.{is_accepted};

@@ -1,6 +1,6 @@
 //! Reading of plain values: the fields of a message, each put into its slot, and what each slot keeps.
 
-ghost use Rattle.std.specs.Prelude.{◌≡◌, ◌<◌, ◌^◌, ℕ, List, length, map, option_map, replicate, [], ◌∷◌, ◌++◌, IfSome, IfOk, OnOk, Ok};
+ghost use Rattle.std.specs.Prelude.{◌≡◌, ◌<◌, length, map, replicate, [], ◌∷◌, ◌++◌, IfSome, IfOk, OnOk, Ok};
 ghost use Rattle.std.specs.Str.{is_utf8};
 ghost use Rattle.vx_proto.specs.Wire.{cut};
 ghost use Rattle.vx_proto.specs.WireView.{part_view};

@@ -1,4 +1,4 @@
-ghost use Rattle.std.specs.Prelude.{◌≡◌, ◌≤◌, ◌<◌, [], ◌∷◌, ◌++◌, length, true, false, None, Some, IfOk, IfNone, IfSome, OnErr, OnOk, IsOkUnless, option_map};
+ghost use Rattle.std.specs.Prelude.{◌≡◌, ◌≤◌, ◌<◌, [], ◌∷◌, ◌++◌, true, false, None, Some, IfOk, IfNone, IfSome, OnErr, OnOk, IsOkUnless, option_map};
 ghost use Rattle.vx_wire_tree.specs.Context.{interned, is_allowed, is_among, index_of, with_ids};
 
 use crate::error::RegistryError;

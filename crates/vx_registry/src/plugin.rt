@@ -1,6 +1,6 @@
 //! Readers and writers of arrays, of the caller.
 
-ghost use Rattle.std.specs.Prelude.{◌≡◌, ℕ, IfOk, IsOkUnless};
+ghost use Rattle.std.specs.Prelude.{◌≡◌, IfOk, IsOkUnless};
 ghost use Rattle.vx_type_wire.specs.Lent.{lent_meaning};
 ghost use Rattle.vx_wire_tree.specs.Plugin.{PluginMeaning};
 ghost use Rattle.vx_registry.specs.Plugin.{IsAnswer, IsWrittenAs, head_in, read_head};

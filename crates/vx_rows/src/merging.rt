@@ -1,6 +1,6 @@
 //! The variant of a typed value that stands over another variant, which keeps what the typed one leaves out.
 
-ghost use Rattle.std.specs.Prelude.{◌≡◌, ◌≤◌, ◌<◌, ◌++◌, List, [], Some, IfOk, IfErr, OnOk, IfSome, IsOkUnless, false, option_copied, option_map};
+ghost use Rattle.std.specs.Prelude.{◌≡◌, ◌≤◌, ◌<◌, ◌++◌, List, [], Some, IfOk, IfErr, OnOk, IfSome, IsOkUnless, option_copied, option_map};
 ghost use Rattle.vx_trees.specs.Rose.{node, end, more, roses_of};
 ghost use Rattle.vx_trees.specs.Walks.{nodes, nodes_of};
 ghost use Rattle.vx_types.specs.Fits.{EachFits, Fits, IsVariant};

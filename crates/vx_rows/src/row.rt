@@ -1,7 +1,5 @@
 //! The values of rows.
 
-ghost use Rattle.std.specs.Prelude.{◌≡◌, IfOk, IsOkUnless};
-
 use crate::error::ArrayError;
 use crate::row_ref::RowRef;
 use crate::row_values::RowValues;

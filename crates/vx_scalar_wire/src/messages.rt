@@ -18,7 +18,7 @@ ghost use Rattle.vx_scalars.specs.Seen.{seen};
 ghost use Rattle.vx_scalars.specs.Told.{Typed};
 ghost use Rattle.vx_scalar_wire.specs.ScalarMessage.{scalar_lists, value_message, scalar_message};
 ghost use Rattle.vx_scalar_wire.specs.Shallow.{IsShallow, IsShallowScalar};
-ghost use Rattle.vx_scalar_wire.specs.Writing.{Writes, RefusesWritingValue, RefusesWritingValueBytes};
+ghost use Rattle.vx_scalar_wire.specs.Writing.{Writes, RefusesWritingValueBytes};
 
 use crate::error::{ScalarWireError, or_memory};
 use crate::pb;

@@ -3,7 +3,7 @@
 pub mod leaves;
 pub mod numbers;
 
-ghost use Rattle.std.specs.Prelude.{◌≡◌, ◌+◌, ◌*◌, ℕ, IfOk, IfErr, Ok, Some, None, MatchOption, [], ◌∷◌};
+ghost use Rattle.std.specs.Prelude.{◌≡◌, ◌+◌, ◌*◌, IfOk, IfErr, Ok, Some, None, MatchOption, [], ◌∷◌};
 ghost use Rattle.std.specs.Fn.{FnReturnsAt};
 ghost use Rattle.vx_trees.specs.Rose.{roses_of};
 ghost use Rattle.vx_proto.specs.Form.{HasForm};

@@ -3,16 +3,15 @@
 ghost use Rattle.std.specs.Prelude.{◌≡◌, ◌≤◌, ◌<◌, ◌^◌, IfOk, OnOk, IsOkUnless, option_copied};
 ghost use Rattle.vx_trees.specs.Rose.{roses_of};
 ghost use Rattle.vx_trees.specs.Walks.{levels};
-ghost use Rattle.vx_proto.specs.Parts.{flag_number};
 ghost use Rattle.vx_proto.specs.Value.{value_view, entries_view};
 ghost use Rattle.vx_proto.specs.Value.{one_number, one_octets, one_message};
-ghost use Rattle.vx_type_wire.specs.TypeMessage.{type_message, all_messages, most_levels};
+ghost use Rattle.vx_type_wire.specs.TypeMessage.{type_message, most_levels};
 ghost use Rattle.vx_trees.specs.Bytes.{AreBytes};
 ghost use Rattle.vx_types.specs.Seen.{typ};
 ghost use Rattle.vx_types.specs.Typ.{IsType};
 ghost use Rattle.vx_types.specs.Well.{IsInRange, IsDecimalInRange, IsWell, AreWell};
 ghost use Rattle.vx_scalars.specs.Decimals.{decimal_of};
-ghost use Rattle.vx_scalars.specs.Seen.{value_of, seen, all_seen};
+ghost use Rattle.vx_scalars.specs.Seen.{seen, all_seen};
 ghost use Rattle.vx_scalar_wire.specs.ScalarMessage as message;
 ghost use Rattle.vx_scalar_wire.specs.Shallow.{IsShallow, AreShallow, IsShallowScalar};
 ghost use Rattle.vx_scalar_wire.specs.Typed.{IsTyped};

@@ -1,6 +1,6 @@
 //! Scalars.
 
-ghost use Rattle.std.specs.Prelude.{◌≡◌, ◌==◌, ◌↔◌, IsTrue, IfOk, IfErr, IsOkUnless, option_copied};
+ghost use Rattle.std.specs.Prelude.{◌≡◌, ◌↔◌, IsTrue, IfOk, IfErr, IsOkUnless, option_copied};
 ghost use Rattle.vx_trees.specs.Rose.{end, more};
 ghost use Rattle.vx_types.specs.Fits.{Fits, FitBy, IsVariant};
 ghost use Rattle.vx_types.specs.Seen.{typ};

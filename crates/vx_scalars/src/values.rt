@@ -1,6 +1,6 @@
 //! Lists of values.
 
-ghost use Rattle.std.specs.Prelude.{◌≡◌, ◌==◌, [], ◌∷◌, ◌++◌, OnOk, OnErr, IfOk, IsOkUnless, length, slice_get, option_map, option_copied};
+ghost use Rattle.std.specs.Prelude.{◌≡◌, ◌==◌, [], ◌∷◌, ◌++◌, OnOk, OnErr, IfOk, IsOkUnless, length};
 ghost use Rattle.vx_scalars.specs.Seen.{seen, all_seen};
 
 use crate::copy::copy_all;

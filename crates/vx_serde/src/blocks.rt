@@ -1,6 +1,6 @@
 //! Blocks of a message that hang on a node.
 
-ghost use Rattle.std.specs.Prelude.{◌≡◌, ◌%◌, ◌<◌, ◌^◌, ◌∷◌, [], true, false, length, OnOk, IfErr};
+ghost use Rattle.std.specs.Prelude.{◌≡◌, ◌%◌, ◌<◌, ◌∷◌, [], true, length, OnOk, IfErr};
 ghost use Rattle.vx_flat.specs.Building.{AreWritten, Takes, RefusesPieces};
 ghost use Rattle.vx_flat.specs.Pieces.{elements_piece, default_entry, is_width};
 ghost use Rattle.vx_trees.specs.Rose.{label};

@@ -1,6 +1,6 @@
 //! The limits on trees that are written, and on a buffer's alignment.
 
-ghost use Rattle.std.specs.Prelude.{◌≡◌, ◌≤◌, ◌<◌, ◌^◌, ◌-◌, ◌↔◌, IsTrue, All, length};
+ghost use Rattle.std.specs.Prelude.{◌≡◌, ◌<◌, ◌-◌, ◌↔◌, IsTrue};
 ghost use Rattle.vx_wire_tree.specs.Limits.{IsDescribable, AreDescribable};
 ghost use Rattle.vx_serde.specs.Limits.{most_levels as levels_by};
 

@@ -1,6 +1,6 @@
 //! Arrays as blobs.
 
-ghost use Rattle.std.specs.Prelude.{◌≡◌, ◌+◌, ◌≤◌, ◌<◌, ◌-◌, ◌^◌, ◌++◌, [], ◌∷◌, Some, false, IsTrue, IsFalse, length, IfOk, IfErr, OnOk};
+ghost use Rattle.std.specs.Prelude.{◌≡◌, ◌+◌, ◌≤◌, ◌<◌, ◌-◌, ◌^◌, ◌++◌, [], ◌∷◌, Some, IsTrue, IsFalse, length, IfOk, IfErr, OnOk};
 ghost use Rattle.std.specs.Int.{w32, to_le_bytes};
 ghost use Rattle.vx_flat.specs.Building.{AreWritten, Takes, RefusesPieces};
 ghost use Rattle.vx_flat.specs.IsOf.{IsOf};
@@ -19,7 +19,6 @@ ghost use Rattle.vx_wire_tree.specs.Wire.{ids_in, buffers_in};
 ghost use Rattle.vx_wire_tree.specs.Written.{writes_two, wire};
 ghost use Rattle.vx_encodings.specs.Messages.{codec};
 ghost use Rattle.vx_registry.specs.Meaning.{arrays_meaning};
-ghost use Rattle.vx_buffer.specs.Joined.{joined};
 ghost use Rattle.vx_serialized.specs.ArraySchema.{array_schema};
 ghost use Rattle.vx_serde.specs.Blocks.{encodings_in, message_by, layout_by};
 ghost use Rattle.vx_serde.specs.Causes.{RefusesArray, RefusesWriting};

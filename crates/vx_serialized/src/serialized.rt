@@ -1,6 +1,6 @@
 //! Serialized arrays: a message that was verified, with the buffers that its nodes name.
 
-ghost use Rattle.std.specs.Prelude.{◌≡◌, ◌<◌, List, ℕ, Some, None, [], length, slice_get, IfOk, IfErr, OnOk, OnErr, IsOkUnless};
+ghost use Rattle.std.specs.Prelude.{◌≡◌, ◌<◌, Some, None, [], length, slice_get, IfOk, IfErr, OnOk, OnErr, IsOkUnless};
 ghost use Rattle.vx_trees.specs.Rose.{label, below, count};
 ghost use Rattle.vx_flat.specs.Limits.{limits, limits_to, IsLight};
 ghost use Rattle.vx_flat.specs.Seen.{seen, IsViewOf};

@@ -3,8 +3,7 @@
 //! A session owns its readers in boxes, and a method of a boxed trait cannot take such a session. So it lends them: the same
 //! readers as trait objects, under the same identifiers.
 
-ghost use Rattle.std.specs.Prelude.{◌≡◌, ◌≤◌, ◌+◌, ◌∷◌, map, drop, length, bytes_eq, get_or, Some, None};
-ghost use Rattle.std.specs.Map.{lookup};
+ghost use Rattle.std.specs.Prelude.{◌≡◌};
 ghost use Rattle.vx_types.specs.Seen.{typ};
 ghost use Rattle.vx_type_wire.specs.Lent.{lent_meaning, accepts_by};
 

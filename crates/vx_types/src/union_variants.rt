@@ -1,6 +1,6 @@
 //! The members of a union.
 
-ghost use Rattle.std.specs.Prelude.{◌≡◌, ◌≢◌, ◌==◌, ◌⊎◌, ◌-◌, ◌^◌, IfOk, IfErr, IsOkUnless, MatchBool, length, min, position};
+ghost use Rattle.std.specs.Prelude.{◌≡◌, ◌==◌, ◌-◌, ◌^◌, IfOk, IfErr, IsOkUnless, MatchBool, length, min, position};
 ghost use Rattle.vx_trees.specs.Rose.{roses_of};
 ghost use Rattle.vx_trees.specs.Walks.{levels_below};
 ghost use Rattle.vx_types.specs.Content.{AreDistinct};

@@ -1,6 +1,6 @@
 //! The listing of an array: its nodes and its first rows.
 
-ghost use Rattle.std.specs.Prelude.{◌≡◌, ◌≤◌, ◌<◌, ◌++◌, min, [], IfOk, OnOk, IsErrOf, string_bytes, codes, decimal};
+ghost use Rattle.std.specs.Prelude.{◌≡◌, ◌≤◌, ◌<◌, ◌++◌, min, IfOk, OnOk, IsErrOf, string_bytes, codes, decimal};
 ghost use Rattle.std.specs.Io.KnownBytes.{Appends};
 ghost use Rattle.vx_trees.specs.Rose.{label};
 ghost use Rattle.vx_array_tree.specs.Table.{buffers_of};

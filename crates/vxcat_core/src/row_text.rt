@@ -1,6 +1,6 @@
 //! The text of a row's value.
 
-ghost use Rattle.std.specs.Prelude.{◌≡◌, ◌++◌, IfOk, OnOk, codes, option_map, string_bytes, if◌then◌else◌};
+ghost use Rattle.std.specs.Prelude.{◌≡◌, ◌++◌, IfOk, OnOk, option_map, string_bytes, if◌then◌else◌};
 ghost use Rattle.vx_trees.specs.Rose.{end, more, node, roses_of};
 ghost use Rattle.vx_types.specs.Fits.{bare, member};
 ghost use Rattle.vx_types.specs.Seen.{typ, typs};

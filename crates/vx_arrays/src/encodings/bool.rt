@@ -1,13 +1,12 @@
 //! Arrays of flags.
 
-ghost use Rattle.std.specs.Prelude.{◌≡◌, ◌<◌, ◌≤◌, ◌↔◌, IfOk, IfErr, IsOkUnless, IsTrue, ◌+◌, ◌*◌, length, Some};
+ghost use Rattle.std.specs.Prelude.{◌≡◌, ◌<◌, ◌↔◌, IfOk, IfErr, IsOkUnless, IsTrue, ◌+◌, ◌*◌, length, Some};
 ghost use Rattle.vx_trees.specs.Everywhere.{EverywhereBelow};
 ghost use Rattle.vx_trees.specs.Rose.{label, node, roses_of};
 ghost use Rattle.vx_types.specs.Seen.{typ};
 ghost use Rattle.vx_types.specs.Value.{lone};
 ghost use Rattle.vx_array_tree.specs.Body as B;
 ghost use Rattle.vx_array_tree.specs.Encodings.Bools.{bit_at, rows as rows_of_flags};
-ghost use Rattle.vx_types.specs.Value.{flag_in};
 ghost use Rattle.vx_array_tree.specs.Sound.{IsSound, IsSoundNode};
 ghost use Rattle.vx_array_tree.specs.Tree.{Tree, option_trees, rows_below, untold};
 ghost use Rattle.vx_array_tree.specs.Refused.{IsWellShaped};

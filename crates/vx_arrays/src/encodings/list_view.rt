@@ -1,7 +1,7 @@
 //! Arrays of lists, each with an offset and a size of its own.
 
 ghost use Rattle.std.specs.Prelude.{◌≡◌, ◌+◌, ◌^◌, ◌<◌, ◌≤◌, ◌↔◌, ℕ, [], Some, true, IfOk, IfErr, IsTrue};
-ghost use Rattle.vx_trees.specs.Rose.{count, label, more, node, roses_of};
+ghost use Rattle.vx_trees.specs.Rose.{count, label, node, roses_of};
 ghost use Rattle.vx_trees.specs.Walks.{nodes_of};
 ghost use Rattle.vx_types.specs.Seen.{typ};
 ghost use Rattle.vx_array_tree.specs.Body as B;

@@ -1,13 +1,13 @@
 //! Arrays of texts or of bytes by offsets.
 
-ghost use Rattle.std.specs.Prelude.{suc, ◌^◌, ◌-◌, ◌≡◌, ◌<◌, ◌≤◌, ◌↔◌, ◌∷◌, IfOk, IfErr, OnOk, IsOkUnless, IsTrue, Some};
+ghost use Rattle.std.specs.Prelude.{suc, ◌^◌, ◌-◌, ◌≡◌, ◌<◌, ◌↔◌, ◌∷◌, IfOk, IfErr, IsOkUnless, IsTrue, Some};
 ghost use Rattle.vx_trees.specs.Everywhere.{EverywhereBelow};
 ghost use Rattle.vx_trees.specs.Rose.{label, more, node, roses_of};
 ghost use Rattle.vx_buffer.specs.Buffer.{Buffer};
 ghost use Rattle.vx_types.specs.Seen.{typ};
 ghost use Rattle.vx_types.specs.Value.{lone};
 ghost use Rattle.vx_array_tree.specs.Body as B;
-ghost use Rattle.vx_array_tree.specs.Encodings.VarBins.{Content, IsContent, mark_of, rows as rows_of_parts};
+ghost use Rattle.vx_array_tree.specs.Encodings.VarBins.{Content, rows as rows_of_parts};
 ghost use Rattle.vx_array_tree.specs.Refused.{IsWellShaped};
 ghost use Rattle.vx_array_tree.specs.Rows.{rest, validity};
 ghost use Rattle.vx_array_tree.specs.Sound.{IsControlled, IsSound, IsSoundNode};
@@ -16,7 +16,7 @@ ghost use Rattle.vx_arrays.specs.Compared.{compared_body};
 ghost use Rattle.vx_arrays.specs.NewBuffers.{RefusesBuffers, with_buffers};
 ghost use Rattle.vx_rows.specs.Lone.{lone_mark};
 ghost use Rattle.vx_arrays.specs.Refused.{RefusesMaking, IsOkOrMemory};
-ghost use Rattle.vx_arrays.specs.VarBins.{IsOfBytes, varbin_head, varbin_tree};
+ghost use Rattle.vx_arrays.specs.VarBins.{varbin_head, varbin_tree};
 
 use crate::array::Array;
 use crate::body::Body;

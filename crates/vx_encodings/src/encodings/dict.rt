@@ -3,8 +3,7 @@
 
 ghost use Rattle.std.specs.Prelude.{◌≡◌, ◌∷◌, [], ◌≤◌, ◌-◌, ◌^◌, Some, IfOk, IfErr, IsOkUnless, IsTrue, IsFalse, option_map, refl};
 ghost use Rattle.std.proofs.Common.{arith, ap};
-ghost use Rattle.vx_trees.specs.Rose.{end, node, roses_of};
-ghost use Rattle.vx_types.specs.Kind.{primitive};
+ghost use Rattle.vx_trees.specs.Rose.{roses_of};
 ghost use Rattle.vx_types.specs.Known.{ExtMeaning};
 ghost use Rattle.vx_types.specs.Seen.{typ};
 ghost use Rattle.vx_types.specs.Words.{nullability};
@@ -16,7 +15,7 @@ ghost use Rattle.vx_array_tree.specs.Metadata as M;
 ghost use Rattle.vx_array_tree.specs.Place.{exactly, first_place, place, ptype_of, second_place};
 ghost use Rattle.vx_array_tree.specs.Sound.{IsSound};
 ghost use Rattle.vx_array_tree.specs.Tree.{places};
-ghost use Rattle.vx_wire_tree.specs.Fields.{codes_nullability, is_nullable, told};
+ghost use Rattle.vx_wire_tree.specs.Fields.{codes_nullability, told};
 ghost use Rattle.vx_encodings.specs.DictMessage.{dict_schema, dict_value, flag_content, flag_of, same_dict};
 ghost use Rattle.vx_encodings.specs.Messages.{message_bytes};
 ghost use Rattle.vx_encodings.specs.Steps.{IsPlanned, RefusesPlanning, IsBuilt, RefusesBuilding, RefusesPlaces};

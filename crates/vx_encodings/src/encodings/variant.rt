@@ -1,7 +1,7 @@
 //! Nodes of variants: the type of the shredded child as metadata, where one stands; no buffers, and below the core and that
 //! child.
 
-ghost use Rattle.std.specs.Prelude.{◌≡◌, ◌∷◌, ◌≤◌, [], ℕ, List, Some, IfOk, IfErr, IsOkUnless, IsTrue, IsFalse, option_map, option_copied, refl};
+ghost use Rattle.std.specs.Prelude.{◌≡◌, ◌∷◌, [], Some, IfOk, IfErr, IsOkUnless, IsTrue, IsFalse, option_map, refl};
 ghost use Rattle.std.proofs.Common.{arith, ap};
 ghost use Rattle.vx_trees.specs.Rose.{roses_of};
 ghost use Rattle.vx_types.specs.Known.{ExtMeaning};
@@ -13,7 +13,7 @@ ghost use Rattle.vx_array_tree.specs.Encodings.Variants.{IsFair, metadata_of};
 ghost use Rattle.vx_array_tree.specs.Metadata as M;
 ghost use Rattle.vx_array_tree.specs.Place.{exactly};
 ghost use Rattle.vx_array_tree.specs.Sound.{IsSound};
-ghost use Rattle.vx_array_tree.specs.Tree.{Tree, places};
+ghost use Rattle.vx_array_tree.specs.Tree.{places};
 ghost use Rattle.vx_wire_tree.specs.Fields.{FitsMessage, told};
 ghost use Rattle.vx_encodings.specs.Messages.{message_bytes};
 ghost use Rattle.vx_encodings.specs.Plain.{planned_place};

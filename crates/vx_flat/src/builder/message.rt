@@ -46,7 +46,7 @@ fn add_links(left: &mut Vec<Slot>, links: &mut Vec<Slot>) -> Result<(), AllocErr
 }
 
 impl Message {
-    ghost use Rattle.vx_flat.specs.BuilderView.{begun, SlotLies, IsOpen, IsSame};
+    ghost use Rattle.vx_flat.specs.BuilderView.{begun, SlotLies, IsSame};
 
     /// No blocks, over an empty list of bytes.
     pub fn new(alloc: Global, bytes: Vec<u8>) -> Message

@@ -8,7 +8,6 @@ ghost use Rattle.vx_types.specs.declared.ptype.PType.{PType};
 ghost use Rattle.vx_types.specs.declared.value.PValue.{PValue};
 ghost use Rattle.vx_types.specs.Value as V;
 ghost use Rattle.vx_proto.specs.Signed.{zigzag};
-ghost use Rattle.std.specs.Prelude.{pos};
 ghost use Rattle.vx_proto.specs.Value.{number as a_number};
 ghost use Rattle.vx_type_wire.specs.Known.{ExtMeaning};
 ghost use Rattle.vx_types.specs.Seen.{typ};

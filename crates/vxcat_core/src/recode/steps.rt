@@ -1,6 +1,6 @@
 //! The steps of the command: loading its inputs, recoding the blob, and saving the outputs.
 
-ghost use Rattle.std.specs.Prelude.{◌≡◌, ◌≢◌, ◌⊎◌, [], ◌∷◌, ◌++◌, ◌≤◌, List, ℕ, None, Some, false, IfOk, IfErr, OnOk, Option, option_map};
+ghost use Rattle.std.specs.Prelude.{◌≡◌, ◌≢◌, ◌≤◌, List, ℕ, None, Some, false, IfOk, IfErr, OnOk, Option, option_map};
 ghost use Rattle.vx_types.specs.Known.{ExtMeaning};
 ghost use Rattle.vx_types.specs.Seen.{typ};
 ghost use Rattle.vx_types.specs.Typ.{Typ};

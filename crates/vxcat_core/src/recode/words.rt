@@ -1,6 +1,6 @@
 //! The words of the command `recode`.
 
-ghost use Rattle.std.specs.Prelude.{List, ℕ, IfSome, IfNone};
+ghost use Rattle.std.specs.Prelude.{IfSome, IfNone};
 ghost use Rattle.vxcat_core.specs.Recode.{InvokesRecode, Recode};
 ghost use Rattle.vxcat_core.specs.RecodeViews.{line_of};
 
