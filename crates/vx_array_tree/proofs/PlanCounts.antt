@@ -7,8 +7,8 @@ use Rattle.vx_trees.specs.Rose.{node, end, more}
 use Rattle.vx_types.specs.Kind as K
 use Rattle.vx_types.specs.Typ.{Typ}
 use Rattle.vx_types.specs.Words.{entries}
-use Rattle.vx_types.specs.declared.ptype.PType.{PType}
-use Rattle.vx_types.specs.declared.ptype.PType.TheVariants.{U8}
+use Rattle.vx_numbers.specs.declared.ptype.PType.{PType}
+use Rattle.vx_numbers.specs.declared.ptype.PType.TheVariants.{U8}
 use Rattle.vx_array_tree.specs.Encoding.{Encoding}
 use Rattle.vx_array_tree.specs.Encoding as E
 use Rattle.vx_array_tree.specs.Encodings.Nulls as Nulls

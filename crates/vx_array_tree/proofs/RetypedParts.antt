@@ -4,7 +4,7 @@ use Rattle.vx_trees.specs.Rose.{Roses, node, end, more, count}
 use Rattle.vx_types.specs.Kind as K
 use Rattle.vx_types.specs.Kind.{Kind}
 use Rattle.vx_types.specs.Typ.{Typ}
-use Rattle.vx_types.specs.Numbers.{width_of}
+use Rattle.vx_numbers.specs.Numbers.{width_of}
 use Rattle.vx_types.specs.Words.{with_nullability, with_first_nullability}
 use Rattle.vx_types.specs.declared.nullability.Nullability.{Nullability}
 use Rattle.vx_array_tree.specs.Body.{Body}

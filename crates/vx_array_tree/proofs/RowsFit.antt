@@ -7,12 +7,12 @@ use Rattle.vx_trees.proofs.LawsOfLists.{heads, tails}
 use Rattle.vx_types.specs.Kind as K
 use Rattle.vx_types.specs.Kind.{Kind}
 use Rattle.vx_types.specs.Typ.{Typ}
-use Rattle.vx_types.specs.Numbers.{kind_of}
+use Rattle.vx_numbers.specs.Numbers.{kind_of}
 use Rattle.vx_types.specs.Words.{nullability, with_nullability, entries}
 use Rattle.vx_types.specs.declared.nullability.Nullability.{Nullability}
 use Rattle.vx_types.specs.declared.nullability.Nullability.TheVariants.{Nullable, NonNullable}
-use Rattle.vx_types.specs.declared.ptype.PType.{PType}
-use Rattle.vx_types.specs.declared.ptype.PType.TheVariants as P
+use Rattle.vx_numbers.specs.declared.ptype.PType.{PType}
+use Rattle.vx_numbers.specs.declared.ptype.PType.TheVariants as P
 use Rattle.vx_array_tree.specs.Bytes.{number_at, primitive_at, decimal_at}
 use Rattle.vx_types.specs.Fits.{Fits, EachFits, FitBy, IsVariant, member}
 use Rattle.vx_array_tree.specs.FitRows.{FitRows}

@@ -1,14 +1,14 @@
 -- Numbers in bytes.
 use Rattle.std.specs.Prelude.{ℕ, List, ◌*◌, take, drop, slice_index}
 use Rattle.std.specs.Int.{w8, w16, w32, w64, w128, from_le_bytes, cast_signed}
-use Rattle.vx_types.specs.Numbers.{width_of}
-use Rattle.vx_types.specs.Decimals.{decimal_width_of}
-use Rattle.vx_types.specs.declared.ptype.PType.{PType}
-use Rattle.vx_types.specs.declared.ptype.PType.TheVariants.{U8, U16, U32, U64, I8, I16, I32, I64, F16, F32, F64}
-use Rattle.vx_types.specs.declared.decimal.DecimalType.{DecimalType}
-use Rattle.vx_types.specs.declared.decimal.DecimalType.TheVariants as D
-use Rattle.vx_types.specs.declared.value.PValue.{PValue}
-use Rattle.vx_types.specs.declared.value.PValue.TheVariants.{U8 as u8, U16 as u16, U32 as u32, U64 as u64, I8 as i8, I16 as i16, I32 as i32, I64 as i64, F16 as f16, F32 as f32, F64 as f64}
+use Rattle.vx_numbers.specs.Numbers.{width_of}
+use Rattle.vx_numbers.specs.Decimals.{decimal_width_of}
+use Rattle.vx_numbers.specs.declared.ptype.PType.{PType}
+use Rattle.vx_numbers.specs.declared.ptype.PType.TheVariants.{U8, U16, U32, U64, I8, I16, I32, I64, F16, F32, F64}
+use Rattle.vx_numbers.specs.declared.decimal_type.DecimalType.{DecimalType}
+use Rattle.vx_numbers.specs.declared.decimal_type.DecimalType.TheVariants as D
+use Rattle.vx_numbers.specs.declared.value.PValue.{PValue}
+use Rattle.vx_numbers.specs.declared.value.PValue.TheVariants.{U8 as u8, U16 as u16, U32 as u32, U64 as u64, I8 as i8, I16 as i16, I32 as i32, I64 as i64, F16 as f16, F32 as f32, F64 as f64}
 use Rattle.vx_types.specs.Value as V
 use Rattle.vx_types.specs.Value.{DecimalValue}
 

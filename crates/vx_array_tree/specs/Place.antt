@@ -5,8 +5,8 @@ use Rattle.vx_trees.specs.Rose.{Roses, node, end, more}
 use Rattle.vx_types.specs.Kind.{Kind, boolean, primitive}
 use Rattle.vx_types.specs.Typ.{Typ, typ_code}
 use Rattle.vx_types.specs.Words.{nullability}
-use Rattle.vx_types.specs.declared.ptype.PType.{PType}
-use Rattle.vx_types.specs.declared.ptype.PType.TheVariants.{U8}
+use Rattle.vx_numbers.specs.declared.ptype.PType.{PType}
+use Rattle.vx_numbers.specs.declared.ptype.PType.TheVariants.{U8}
 use Rattle.vx_types.specs.declared.nullability.Nullability.TheVariants.{NonNullable, Nullable}
 
 -- A child's place: the type and the number of rows that it has.

@@ -9,8 +9,8 @@ use Rattle.vx_types.specs.Typ.{Typ}
 use Rattle.vx_types.specs.Words.{nullability}
 use Rattle.vx_types.specs.declared.nullability.Nullability.{Nullability}
 use Rattle.vx_types.specs.declared.nullability.Nullability.TheVariants.{Nullable, NonNullable}
-use Rattle.vx_types.specs.declared.ptype.PType.TheVariants as P
-use Rattle.vx_types.specs.declared.decimal.DecimalType.TheVariants as D
+use Rattle.vx_numbers.specs.declared.ptype.PType.TheVariants as P
+use Rattle.vx_numbers.specs.declared.decimal_type.DecimalType.TheVariants as D
 use Rattle.vx_array_tree.specs.Body as B
 use Rattle.vx_array_tree.specs.Encoding as E
 use Rattle.vx_array_tree.specs.Metadata as M

@@ -10,7 +10,7 @@ use Rattle.vx_types.specs.Value as V
 use Rattle.vx_types.specs.Value.{Value, lone}
 use Rattle.vx_types.specs.declared.nullability.Nullability.{Nullability}
 use Rattle.vx_types.specs.declared.nullability.Nullability.TheVariants.{Nullable, NonNullable}
-use Rattle.vx_types.specs.declared.ptype.PType.TheVariants as P
+use Rattle.vx_numbers.specs.declared.ptype.PType.TheVariants as P
 use Rattle.vx_scalars.proofs.LawsStats.{none_fit}
 use Rattle.vx_scalars.specs.Stats.{no_stats}
 use Rattle.vx_scalars.specs.declared.precision.Precision.TheVariants.{Exact, Absent}

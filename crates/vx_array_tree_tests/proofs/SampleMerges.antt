@@ -7,8 +7,8 @@ use Rattle.vx_types.specs.Typ.{Typ}
 use Rattle.vx_types.specs.Value as V
 use Rattle.vx_types.specs.Value.{Value, lone, variant_of}
 use Rattle.vx_types.specs.declared.nullability.Nullability.TheVariants.{Nullable, NonNullable}
-use Rattle.vx_types.specs.declared.ptype.PType.TheVariants as P
-use Rattle.vx_types.specs.declared.value.PValue.TheVariants as N
+use Rattle.vx_numbers.specs.declared.ptype.PType.TheVariants as P
+use Rattle.vx_numbers.specs.declared.value.PValue.TheVariants as N
 use Rattle.vx_array_tree.specs.Merge.{merge, variants}
 use Rattle.vx_array_tree_tests.proofs.Samples.{kind, number_type, flag_type, text_type, list_of, i32, u16, flag, null, tuple, utf8}
 

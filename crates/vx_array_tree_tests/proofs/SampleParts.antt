@@ -2,9 +2,9 @@
 use Rattle.std.specs.Prelude.{◌≡◌, ◌-◌, ◌^◌, List, [], ◌∷◌, Some, None, false, true, replicate, codes, pos, refl}
 use Rattle.vx_trees.specs.Rose.{node, end, more, label, below}
 use Rattle.vx_types.specs.Kind as K
-use Rattle.vx_types.specs.declared.decimal.DecimalType.TheVariants as D
+use Rattle.vx_numbers.specs.declared.decimal_type.DecimalType.TheVariants as D
 use Rattle.vx_types.specs.declared.nullability.Nullability.TheVariants.{Nullable, NonNullable}
-use Rattle.vx_types.specs.declared.ptype.PType.TheVariants as P
+use Rattle.vx_numbers.specs.declared.ptype.PType.TheVariants as P
 use Rattle.vx_array_tree.specs.Canon.{Spelling, canon}
 use Rattle.vx_array_tree.specs.Encoding as E
 use Rattle.vx_array_tree.specs.Metadata.{Metadata}

@@ -8,11 +8,11 @@ use Rattle.vx_types.specs.Value as V
 use Rattle.vx_types.specs.Value.{Value, lone}
 use Rattle.vx_types.specs.declared.nullability.Nullability.{Nullability}
 use Rattle.vx_types.specs.declared.nullability.Nullability.TheVariants.{Nullable, NonNullable}
-use Rattle.vx_types.specs.declared.ptype.PType.{PType}
-use Rattle.vx_types.specs.declared.ptype.PType.TheVariants as P
-use Rattle.vx_types.specs.declared.decimal.DecimalType.{DecimalType}
-use Rattle.vx_types.specs.declared.decimal.DecimalType.TheVariants as D
-use Rattle.vx_types.specs.declared.value.PValue.TheVariants as N
+use Rattle.vx_numbers.specs.declared.ptype.PType.{PType}
+use Rattle.vx_numbers.specs.declared.ptype.PType.TheVariants as P
+use Rattle.vx_numbers.specs.declared.decimal_type.DecimalType.{DecimalType}
+use Rattle.vx_numbers.specs.declared.decimal_type.DecimalType.TheVariants as D
+use Rattle.vx_numbers.specs.declared.value.PValue.TheVariants as N
 use Rattle.vx_scalars.specs.Stats.{Stats, Told, no_stats}
 use Rattle.vx_scalars.specs.declared.precision.Precision.TheVariants.{Exact, Inexact}
 use Rattle.vx_array_tree.specs.Body.{Body}

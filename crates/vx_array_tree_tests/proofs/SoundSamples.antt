@@ -6,10 +6,10 @@ use Rattle.std.specs.Str.{is_utf8, chars}
 use lib.Utf8.{encode}
 use Rattle.vx_types.specs.Content.{IsText}
 use Rattle.vx_types.specs.Typ.{Typ}
-use Rattle.vx_types.specs.declared.decimal.DecimalType.TheVariants as D
+use Rattle.vx_numbers.specs.declared.decimal_type.DecimalType.TheVariants as D
 use Rattle.vx_types.specs.declared.nullability.Nullability.{Nullability}
 use Rattle.vx_types.specs.declared.nullability.Nullability.TheVariants.{Nullable, NonNullable}
-use Rattle.vx_types.specs.declared.ptype.PType.TheVariants as P
+use Rattle.vx_numbers.specs.declared.ptype.PType.TheVariants as P
 use Rattle.vx_scalars.proofs.LawsStats.{none_fit}
 use Rattle.vx_array_tree.specs.Encoding as E
 use Rattle.vx_array_tree.specs.Encodings.Dicts as Dicts

@@ -12,13 +12,13 @@ use Rattle.vx_trees.specs.Walks.{nodes, nodes_of}
 use Rattle.vx_trees.proofs.LawsOfLists.{heads, tails}
 use Rattle.vx_types.proofs.LawsOfTypes.{nullable_under, same_nullability}
 use Rattle.vx_types.specs.Kind.{primitive, boolean}
-use Rattle.vx_types.specs.Numbers.{is_integer}
+use Rattle.vx_numbers.specs.Numbers.{is_integer}
 use Rattle.vx_types.specs.Typ.{Typ, typ_code}
 use Rattle.vx_types.specs.Value.{Value, lone, null, opaque, natural}
 use Rattle.vx_types.specs.Words.{nullability}
 use Rattle.vx_types.specs.declared.nullability.Nullability.{Nullability}
 use Rattle.vx_types.specs.declared.nullability.Nullability.TheVariants.{Nullable, NonNullable}
-use Rattle.vx_types.specs.declared.ptype.PType.{PType}
+use Rattle.vx_numbers.specs.declared.ptype.PType.{PType}
 use Rattle.vx_scalars.specs.Stats.{Stats}
 use Rattle.vx_array_tree.specs.Body as B
 use Rattle.vx_array_tree.specs.Encodings.Dicts.{Data, Content, IsCode, lifted, raised, rows, valid_by}

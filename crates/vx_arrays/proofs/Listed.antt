@@ -13,7 +13,7 @@ use Rattle.vx_types.specs.Typ.{Typ}
 use Rattle.vx_types.specs.Value.{Value, tuple}
 use Rattle.vx_types.specs.Words.{nullability}
 use Rattle.vx_types.specs.declared.nullability.Nullability.{Nullability}
-use Rattle.vx_types.specs.declared.ptype.PType.{PType}
+use Rattle.vx_numbers.specs.declared.ptype.PType.{PType}
 use Rattle.vx_array_tree.specs.Body as B
 use Rattle.vx_array_tree.specs.Encodings.Lists.{Metadata, Content, metadata_of, plan, rows, size_at}
 use Rattle.vx_array_tree.specs.Encodings.VarBins.{AreOffsets}

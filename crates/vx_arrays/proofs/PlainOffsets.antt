@@ -6,8 +6,8 @@ use Rattle.std.specs.Prelude.{◌↔◌, IsTrue, is_some, unwrap_or, pos, negsuc
 use Rattle.std.specs.Int.{Width, w8, w16, w32, w64, cast_signed}
 use mir.Val.{bits, hbits, sel}
 use Rattle.vx_types.specs.Value.{natural, natural_int, natural_number}
-use Rattle.vx_types.specs.declared.ptype.PType.{PType}
-use Rattle.vx_types.specs.declared.ptype.PType.TheVariants.{U8, U16, U32, U64, I8, I16, I32, I64}
+use Rattle.vx_numbers.specs.declared.ptype.PType.{PType}
+use Rattle.vx_numbers.specs.declared.ptype.PType.TheVariants.{U8, U16, U32, U64, I8, I16, I32, I64}
 use Rattle.vx_array_tree.specs.Bytes.{primitive_at}
 use Rattle.vx_array_tree.specs.Encodings.VarBins.{AreOffsets}
 use Rattle.vx_array_tree.specs.Rows.{Rows, index_at, IsIndex, IsThere}

@@ -15,7 +15,7 @@ use Rattle.vx_types.specs.Parts.{Members}
 use Rattle.vx_types.specs.Typ.{Typ}
 use Rattle.vx_types.specs.Value.{lone, null, opaque, union, natural}
 use Rattle.vx_types.specs.declared.nullability.Nullability.{Nullability}
-use Rattle.vx_types.specs.declared.ptype.PType.TheVariants.{U8}
+use Rattle.vx_numbers.specs.declared.ptype.PType.TheVariants.{U8}
 use Rattle.vx_array_tree.specs.Body as B
 use Rattle.vx_array_tree.specs.Encodings.Unions.{Content, HasMember, member_at, member_rows, plan, rows, rows_or_none, tags_of}
 use Rattle.vx_array_tree.specs.Place.{Place, place, exactly, places_at}

@@ -2,7 +2,7 @@
 use Rattle.std.specs.Prelude.{ℕ, ◌≡◌, Bool, IsTrue}
 use Rattle.vx_trees.specs.Rose.{node, end, more, label}
 use Rattle.vx_types.specs.Kind.{primitive}
-use Rattle.vx_types.specs.Numbers.{is_integer}
+use Rattle.vx_numbers.specs.Numbers.{is_integer}
 use Rattle.vx_types.specs.Typ.{Typ}
 use Rattle.vx_types.specs.Words.{nullability}
 use Rattle.vx_array_tree.specs.Body as B

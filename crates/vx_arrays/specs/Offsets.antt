@@ -1,7 +1,7 @@
 -- Rows of numbers without a validity, as offsets mostly stand.
 use Rattle.std.specs.Prelude.{ℕ, List, []}
 use Rattle.vx_types.specs.Value.{number, lone}
-use Rattle.vx_types.specs.declared.ptype.PType.{PType}
+use Rattle.vx_numbers.specs.declared.ptype.PType.{PType}
 use Rattle.vx_array_tree.specs.Bytes.{primitive_at}
 use Rattle.vx_array_tree.specs.Rows.{Rows, by_validity, validity}
 

@@ -4,7 +4,7 @@ use Rattle.vx_buffer.specs.Buffer.{Buffer}
 use Rattle.vx_trees.specs.Rose.{node, end}
 use Rattle.vx_types.specs.Kind.{primitive}
 use Rattle.vx_types.specs.declared.nullability.Nullability.{Nullability}
-use Rattle.vx_types.specs.declared.ptype.PType.{PType}
+use Rattle.vx_numbers.specs.declared.ptype.PType.{PType}
 use Rattle.vx_array_tree.specs.Body as B
 use Rattle.vx_array_tree.specs.Tree.{Tree, option_trees, untold}
 

@@ -70,6 +70,10 @@ pub(crate) fn over_children(
 {
     match judge(&dtype, len, &body, children.as_slice(), shaped, right) {
         Ok(()) => Ok(Array::from_parts(dtype, len, body, children)),
-        Err(error) => Err(error),
+        Err(error) => {
+            // A body that falls by itself is taken apart here, case by case.
+            drop(body);
+            Err(error)
+        }
     }
 }

@@ -91,6 +91,7 @@ pub(crate) fn without_buffers(
         (u : Tree) → with_buffers t buffers ≡ Some u → IsSound u → IsOkOrMemory result }
 {
     if !buffers.is_empty() {
+        drop(body);
         return Err(ArrayError::BadShape);
     }
     once_more(alloc, dtype, len, body, children)
@@ -117,7 +118,10 @@ pub(crate) fn once_more(
             let stats = StatsSet::new(alloc);
             Ok(Array::with_parts(dtype, len, stats, body, children))
         }
-        _ => Err(ArrayError::OutOfMemory),
+        _ => {
+            drop(body);
+            Err(ArrayError::OutOfMemory)
+        }
     }
 }
 

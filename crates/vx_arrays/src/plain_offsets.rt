@@ -2,10 +2,10 @@
 
 ghost use Rattle.std.specs.Prelude.{suc, ℕ, Some, ◌≡◌, ◌<◌, ◌≤◌, ◌↔◌, ◌+◌, ◌*◌, ◌^◌, IfSome, IsTrue, length};
 ghost use Rattle.vx_trees.specs.Rose.{label};
-ghost use Rattle.vx_types.specs.Numbers.{width_of};
+ghost use Rattle.vx_numbers.specs.Numbers.{width_of};
 ghost use Rattle.vx_types.specs.Value.{natural_number};
-ghost use Rattle.vx_types.specs.declared.ptype.PType.{PType as Kind};
-ghost use Rattle.vx_types.specs.declared.ptype.PType.TheVariants.{U8, U16, U32, U64};
+ghost use Rattle.vx_numbers.specs.declared.ptype.PType.{PType as Kind};
+ghost use Rattle.vx_numbers.specs.declared.ptype.PType.TheVariants.{U8, U16, U32, U64};
 ghost use Rattle.vx_array_tree.specs.Bytes.{primitive_at};
 ghost use Rattle.vx_array_tree.specs.Encodings.VarBins.{AreOffsets};
 ghost use Rattle.vx_array_tree.specs.Tree.{rows_of};

@@ -119,7 +119,10 @@ pub(crate) fn over_validity(
 {
     match only_validity(alloc, validity) {
         Ok(children) => over_children(dtype, len, body, children, shaped, true),
-        Err(error) => Err(error),
+        Err(error) => {
+            drop(body);
+            Err(error)
+        }
     }
 }
 

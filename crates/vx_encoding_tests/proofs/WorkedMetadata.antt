@@ -1,8 +1,8 @@
 -- The bytes of worked metadata, by the definitions of its messages.
 use Rattle.std.specs.Prelude.{◌≡◌, [], ◌∷◌, Some, None, true, false, refl}
-use Rattle.vx_types.specs.declared.decimal.DecimalType.TheVariants as D
+use Rattle.vx_numbers.specs.declared.decimal_type.DecimalType.TheVariants as D
 use Rattle.vx_types.specs.declared.nullability.Nullability.TheVariants.{Nullable}
-use Rattle.vx_types.specs.declared.ptype.PType.TheVariants as P
+use Rattle.vx_numbers.specs.declared.ptype.PType.TheVariants as P
 use Rattle.vx_types.specs.Kind.{primitive}
 use Rattle.vx_trees.specs.Rose.{node, end}
 use Rattle.vx_proto.specs.Written.{written, varint_bytes, counted}

@@ -7,7 +7,7 @@ use Rattle.vx_types.specs.Kind.{decimal}
 use Rattle.vx_types.specs.Known.{ExtMeaning}
 use Rattle.vx_types.specs.Seen.{typ}
 use Rattle.vx_types.specs.Typ.{Typ}
-use Rattle.vx_types.specs.declared.decimal.DecimalType.{DecimalType}
+use Rattle.vx_numbers.specs.declared.decimal_type.DecimalType.{DecimalType}
 use Rattle.vx_types.specs.declared.dtype.DType.TheVariants as D
 use Rattle.vx_types.specs.declared.nullability.Nullability.{Nullability}
 use Rattle.vx_proto.specs.Reads.{Reads}
@@ -25,11 +25,12 @@ use Rattle.vx_rows.specs.declared.error.ArrayError.{ArrayError}
 use Rattle.vx_encodings.proofs.Singles.{single_children, single_planned, single_unplanned, single_without, single_built, single_refused, single_buffers}
 use Rattle.vx_encodings.proofs.Widths.{decimal_metadata, decimal_width, ReadsWidth}
 use Rattle.vx_encodings.specs.DecimalMessage.{decimal_schema, decimal_value}
-use Rattle.vx_encodings.specs.Steps.{IsPlanned, RefusesPlanning, RefusesPlaces, IsBuilt, RefusesBuilding, RefusesMetadata, constructor_error}
+use Rattle.vx_encodings.specs.Steps.{IsPlanned, RefusesPlanning, IsBuilt, RefusesBuilding, RefusesMetadata, constructor_error}
+use Rattle.vx_plans.specs.Plans.{RefusesPlaces}
 use Rattle.vx_encodings.specs.declared.encoding.Encoding.TheVariants.{Decimal}
-use Rattle.vx_encodings.specs.declared.error.EncodingError.{EncodingError}
-use Rattle.vx_encodings.specs.declared.error.EncodingError.TheVariants.{OutOfMemory, BadMetadata, BadShape}
-use Rattle.vx_encodings.specs.declared.head.ArrayHead.{ArrayHead}
+use Rattle.vx_plans.specs.declared.error.EncodingError.{EncodingError}
+use Rattle.vx_plans.specs.declared.error.EncodingError.TheVariants.{OutOfMemory, BadMetadata, BadShape}
+use Rattle.vx_plans.specs.declared.head.ArrayHead.{ArrayHead}
 
 -- Under a type of decimals what is planned is a validity or nothing.
 plan_is : (h : ArrayHead) (c : Digits) (m : Nullability) → h.dtype ≡ D.Decimal c m → plan (typ h.dtype) h.len h.nchildren ≡ before_validity [] h.len h.nchildren

@@ -5,10 +5,10 @@ use Rattle.vx_buffer.specs.Buffer.{Buffer}
 use Rattle.vx_trees.specs.Rose.{node, end, count}
 use Rattle.vx_types.specs.Kind.{primitive}
 use Rattle.vx_types.specs.Known.{ExtMeaning}
-use Rattle.vx_types.specs.Numbers.{is_integer}
+use Rattle.vx_numbers.specs.Numbers.{is_integer}
 use Rattle.vx_types.specs.Seen.{typ}
 use Rattle.vx_types.specs.Typ.{Typ}
-use Rattle.vx_types.specs.declared.ptype.PType.{PType}
+use Rattle.vx_numbers.specs.declared.ptype.PType.{PType}
 use Rattle.vx_proto.specs.Reads.{Reads}
 use Rattle.vx_array_tree.specs.Body.{Body}
 use Rattle.vx_array_tree.specs.Body as B
@@ -33,11 +33,12 @@ use Rattle.vx_encodings.proofs.DictFields.{dict_metadata, dict_read, dict_fields
 use Rattle.vx_encodings.proofs.Fitting.{unfit}
 use Rattle.vx_encodings.proofs.Singles.{single_unplanned, single_built}
 use Rattle.vx_encodings.specs.DictMessage.{dict_schema, dict_value, kept_of}
-use Rattle.vx_encodings.specs.Steps.{IsPlanned, RefusesPlanning, RefusesMetadata, RefusesPlaces, IsBuilt, RefusesBuilding, constructor_error}
+use Rattle.vx_encodings.specs.Steps.{IsPlanned, RefusesPlanning, RefusesMetadata, IsBuilt, RefusesBuilding, constructor_error}
+use Rattle.vx_plans.specs.Plans.{RefusesPlaces}
 use Rattle.vx_encodings.specs.declared.encoding.Encoding.TheVariants as C
-use Rattle.vx_encodings.specs.declared.error.EncodingError.{EncodingError}
-use Rattle.vx_encodings.specs.declared.error.EncodingError.TheVariants.{OutOfMemory, BadMetadata, BadShape}
-use Rattle.vx_encodings.specs.declared.head.ArrayHead.{ArrayHead}
+use Rattle.vx_plans.specs.declared.error.EncodingError.{EncodingError}
+use Rattle.vx_plans.specs.declared.error.EncodingError.TheVariants.{OutOfMemory, BadMetadata, BadShape}
+use Rattle.vx_plans.specs.declared.head.ArrayHead.{ArrayHead}
 
 -- ---- a plan
 

@@ -15,7 +15,7 @@ use Rattle.vx_encodings.proofs.DictFields.{flags_nest}
 use Rattle.vx_encodings.proofs.Fit.{fits_over}
 use Rattle.vx_encodings.specs.DictMessage.{dict_bytes, dict_schema, dict_value}
 use Rattle.vx_encodings.specs.Messages.{message_bytes}
-use Rattle.vx_encodings.specs.declared.error.EncodingError.{EncodingError}
+use Rattle.vx_plans.specs.declared.error.EncodingError.{EncodingError}
 
 -- The fields that are written of metadata.
 abbrev pub told_fields : Dicts.Metadata → DictFields

@@ -2,9 +2,9 @@
 -- readers.
 use Rattle.std.proofs.Common.{ℕ, ◌≡◌, ◌^◌, ◌≤◌, ◌<◌, ◌==◌, ◌+◌, ◌++◌, Bool, true, false, if◌then◌else◌, List, [], length, length-append, IsTrue, refl, sym, ap, ◌∙◌, subst, arith}
 use Rattle.vx_types.specs.Known.{ExtMeaning}
-use Rattle.vx_types.specs.Numbers.{code_of, is_integer}
+use Rattle.vx_numbers.specs.Numbers.{code_of, is_integer}
 use Rattle.vx_types.specs.Typ.{Typ}
-use Rattle.vx_types.specs.declared.ptype.PType.{PType}
+use Rattle.vx_numbers.specs.declared.ptype.PType.{PType}
 use Rattle.vx_proto.specs.Form.{HasForm}
 use Rattle.vx_proto.specs.Reads.{Reads}
 use Rattle.vx_proto.specs.Written.{written, varint_bytes}

@@ -25,7 +25,7 @@ use Rattle.vx_encodings.specs.Messages.{codec}
 use Rattle.vx_encodings.specs.Plain.{plain_encoding}
 use Rattle.vx_encodings.specs.Steps.{RefusesBuilding, constructor_error}
 use Rattle.vx_encodings.specs.declared.encoding.Encoding as Declared
-use Rattle.vx_encodings.specs.declared.head.ArrayHead.{ArrayHead}
+use Rattle.vx_plans.specs.declared.head.ArrayHead.{ArrayHead}
 
 module _ (e : Encoding) (d : Typ) (n : ℕ) (v : Metadata) (bs : List Buffer) (b : Body) (us : Trees) where
   same_body : (c : Body) → body_of e v bs ≡ Some b → body_of e v bs ≡ Some c → c ≡ b

@@ -9,7 +9,7 @@ use Rattle.vx_wire_tree.specs.Fields.{told}
 use Rattle.vx_arrays.specs.Plain.{plain_body}
 use Rattle.vx_arrays.specs.declared.body.Body.{Body}
 use Rattle.vx_encodings.specs.Messages.{message_bytes}
-use Rattle.vx_encodings.specs.declared.error.EncodingError.{EncodingError}
+use Rattle.vx_plans.specs.declared.error.EncodingError.{EncodingError}
 
 -- The bytes that are written of the metadata of a node that holds this, over these children.
 abbrev pub kept_bytes : B.Body → Trees → List ℕ

@@ -23,7 +23,6 @@ mod DictSteps
 mod FixedSizeListSteps
 mod StructSteps
 mod ExtensionSteps
-mod Alone
 mod ElementCounts
 mod ViewCounts
 mod ListSteps

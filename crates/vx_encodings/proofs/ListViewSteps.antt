@@ -26,11 +26,12 @@ use Rattle.vx_encodings.proofs.Fitting.{constructor_refused}
 use Rattle.vx_encodings.proofs.Singles.{single_unplanned, single_built}
 use Rattle.vx_encodings.proofs.ViewCounts.{views_metadata, views_read, views_fair}
 use Rattle.vx_encodings.specs.ListViewMessage.{view_schema, view_value}
-use Rattle.vx_encodings.specs.Steps.{IsPlanned, RefusesPlanning, RefusesMetadata, RefusesPlaces, IsBuilt, RefusesBuilding, constructor_error}
+use Rattle.vx_encodings.specs.Steps.{IsPlanned, RefusesPlanning, RefusesMetadata, IsBuilt, RefusesBuilding, constructor_error}
+use Rattle.vx_plans.specs.Plans.{RefusesPlaces}
 use Rattle.vx_encodings.specs.declared.encoding.Encoding.TheVariants.{ListView}
-use Rattle.vx_encodings.specs.declared.error.EncodingError.{EncodingError}
-use Rattle.vx_encodings.specs.declared.error.EncodingError.TheVariants.{OutOfMemory, BadMetadata, BadShape}
-use Rattle.vx_encodings.specs.declared.head.ArrayHead.{ArrayHead}
+use Rattle.vx_plans.specs.declared.error.EncodingError.{EncodingError}
+use Rattle.vx_plans.specs.declared.error.EncodingError.TheVariants.{OutOfMemory, BadMetadata, BadShape}
+use Rattle.vx_plans.specs.declared.head.ArrayHead.{ArrayHead}
 
 -- ---- a plan
 

@@ -18,8 +18,8 @@ use Rattle.vx_arrays.specs.Nulls.{null_tree}
 use Rattle.vx_encodings.proofs.Bare.{null_metadata, null_nothing}
 use Rattle.vx_encodings.specs.Steps.{IsPlanned, RefusesPlanning, IsBuilt, RefusesBuilding}
 use Rattle.vx_encodings.specs.declared.encoding.Encoding.TheVariants.{Null}
-use Rattle.vx_encodings.specs.declared.error.EncodingError.TheVariants.{BadMetadata, BadShape}
-use Rattle.vx_encodings.specs.declared.head.ArrayHead.{ArrayHead}
+use Rattle.vx_plans.specs.declared.error.EncodingError.TheVariants.{BadMetadata, BadShape}
+use Rattle.vx_plans.specs.declared.head.ArrayHead.{ArrayHead}
 
 plan_none : (d : Typ) (n k : ℕ) → d ≡ node null end → k ≡ 0 → plan d n k ≡ Some []
 plan_none d n k e q = rw (e, q) refl

@@ -10,7 +10,7 @@ use Rattle.vx_types.specs.Typ.{Typ}
 use Rattle.vx_types.specs.declared.dtype.DType.{DType}
 use Rattle.vx_types.specs.declared.dtype.DType.TheVariants as D
 use Rattle.vx_types.specs.declared.nullability.Nullability.{Nullability}
-use Rattle.vx_types.specs.declared.ptype.PType.TheVariants.{U8}
+use Rattle.vx_numbers.specs.declared.ptype.PType.TheVariants.{U8}
 use Rattle.vx_array_tree.specs.Body as B
 use Rattle.vx_array_tree.specs.Encoding as E
 use Rattle.vx_array_tree.specs.Encodings.Unions.{plan}
@@ -27,11 +27,12 @@ use Rattle.vx_encodings.proofs.Fitting.{constructor_refused}
 use Rattle.vx_array_tree.proofs.LawsOfPlaces.{exactly_self, exactly_none, exactly_count, places_count}
 use Rattle.vx_encodings.proofs.Singles.{single_unplanned, single_built}
 use Rattle.vx_encodings.proofs.StructSteps.{fields_length}
-use Rattle.vx_encodings.specs.Steps.{IsPlanned, RefusesPlanning, RefusesPlaces, IsBuilt, RefusesBuilding, constructor_error}
+use Rattle.vx_encodings.specs.Steps.{IsPlanned, RefusesPlanning, IsBuilt, RefusesBuilding, constructor_error}
+use Rattle.vx_plans.specs.Plans.{RefusesPlaces}
 use Rattle.vx_encodings.specs.declared.encoding.Encoding.TheVariants.{Union}
-use Rattle.vx_encodings.specs.declared.error.EncodingError.{EncodingError}
-use Rattle.vx_encodings.specs.declared.error.EncodingError.TheVariants.{OutOfMemory, BadMetadata, BadShape}
-use Rattle.vx_encodings.specs.declared.head.ArrayHead.{ArrayHead}
+use Rattle.vx_plans.specs.declared.error.EncodingError.{EncodingError}
+use Rattle.vx_plans.specs.declared.error.EncodingError.TheVariants.{OutOfMemory, BadMetadata, BadShape}
+use Rattle.vx_plans.specs.declared.head.ArrayHead.{ArrayHead}
 
 -- ---- a plan
 

@@ -6,10 +6,10 @@ use Rattle.vx_trees.specs.Rose.{node, end, more, roses_of, count, label}
 use Rattle.vx_trees.proofs.Lists.{count-roses_of}
 use Rattle.vx_types.specs.Kind.{utf8, binary}
 use Rattle.vx_types.specs.Known.{ExtMeaning}
-use Rattle.vx_types.specs.Numbers.{is_integer}
+use Rattle.vx_numbers.specs.Numbers.{is_integer}
 use Rattle.vx_types.specs.Seen.{typ}
 use Rattle.vx_types.specs.Typ.{Typ}
-use Rattle.vx_types.specs.declared.ptype.PType.{PType}
+use Rattle.vx_numbers.specs.declared.ptype.PType.{PType}
 use Rattle.vx_proto.specs.Reads.{Reads}
 use Rattle.vx_array_tree.specs.Body as B
 use Rattle.vx_array_tree.specs.Encoding as E
@@ -27,12 +27,13 @@ use Rattle.vx_encodings.proofs.Fitting.{constructor_refused}
 use Rattle.vx_encodings.proofs.OffsetKinds.{varbin_metadata, varbin_kind, kind_is_integer}
 use Rattle.vx_encodings.proofs.Singles.{single_unplanned, single_built, single_buffers}
 use Rattle.vx_encodings.proofs.Validities.{behind_few, behind_place}
-use Rattle.vx_encodings.specs.Steps.{IsPlanned, RefusesPlanning, RefusesPlaces, IsBuilt, RefusesBuilding, RefusesMetadata, constructor_error}
+use Rattle.vx_encodings.specs.Steps.{IsPlanned, RefusesPlanning, IsBuilt, RefusesBuilding, RefusesMetadata, constructor_error}
+use Rattle.vx_plans.specs.Plans.{RefusesPlaces}
 use Rattle.vx_encodings.specs.VarBinMessage.{varbin_schema, varbin_value}
 use Rattle.vx_encodings.specs.declared.encoding.Encoding.TheVariants.{VarBin}
-use Rattle.vx_encodings.specs.declared.error.EncodingError.{EncodingError}
-use Rattle.vx_encodings.specs.declared.error.EncodingError.TheVariants.{OutOfMemory, BadMetadata, BadShape}
-use Rattle.vx_encodings.specs.declared.head.ArrayHead.{ArrayHead}
+use Rattle.vx_plans.specs.declared.error.EncodingError.{EncodingError}
+use Rattle.vx_plans.specs.declared.error.EncodingError.TheVariants.{OutOfMemory, BadMetadata, BadShape}
+use Rattle.vx_plans.specs.declared.head.ArrayHead.{ArrayHead}
 
 -- ---- a plan
 

@@ -24,11 +24,12 @@ use Rattle.vx_encodings.proofs.Bare.{varbinview_metadata, varbinview_nothing}
 use Rattle.vx_encodings.proofs.Fitting.{constructor_refused}
 use Rattle.vx_encodings.proofs.Singles.{single_children, single_planned, single_unplanned, single_without, single_built}
 use Rattle.vx_encodings.proofs.Validities.{validity_few}
-use Rattle.vx_encodings.specs.Steps.{IsPlanned, RefusesPlanning, RefusesPlaces, IsBuilt, RefusesBuilding, constructor_error}
+use Rattle.vx_encodings.specs.Steps.{IsPlanned, RefusesPlanning, IsBuilt, RefusesBuilding, constructor_error}
+use Rattle.vx_plans.specs.Plans.{RefusesPlaces}
 use Rattle.vx_encodings.specs.declared.encoding.Encoding.TheVariants.{VarBinView}
-use Rattle.vx_encodings.specs.declared.error.EncodingError.{EncodingError}
-use Rattle.vx_encodings.specs.declared.error.EncodingError.TheVariants.{BadMetadata, BadShape}
-use Rattle.vx_encodings.specs.declared.head.ArrayHead.{ArrayHead}
+use Rattle.vx_plans.specs.declared.error.EncodingError.{EncodingError}
+use Rattle.vx_plans.specs.declared.error.EncodingError.TheVariants.{BadMetadata, BadShape}
+use Rattle.vx_plans.specs.declared.head.ArrayHead.{ArrayHead}
 
 -- ---- a plan
 

@@ -2,7 +2,7 @@
 -- the readers.
 use Rattle.std.proofs.Common.{ℕ, ◌≡◌, ◌^◌, ◌≤◌, ◌<◌, ◌==◌, List, [], length, refl, sym, ap, ◌∙◌, subst, arith}
 use Rattle.vx_types.specs.Known.{ExtMeaning}
-use Rattle.vx_types.specs.Numbers.{code_of}
+use Rattle.vx_numbers.specs.Numbers.{code_of}
 use Rattle.vx_types.specs.Typ.{Typ}
 use Rattle.vx_proto.specs.Form.{HasForm}
 use Rattle.vx_proto.specs.Reads.{Reads}

@@ -1,10 +1,10 @@
 -- The metadata of decimals: bytes that show a width, whatever the type and the readers.
 use Rattle.std.proofs.Common.{ℕ, zero, suc, ◌≡◌, ◌<◌, List, refl, sym, ap, ◌∙◌, arith}
-use Rattle.vx_types.specs.Decimals.{decimal_code_of}
+use Rattle.vx_numbers.specs.Decimals.{decimal_code_of}
 use Rattle.vx_types.specs.Known.{ExtMeaning}
 use Rattle.vx_types.specs.Typ.{Typ}
-use Rattle.vx_types.specs.declared.decimal.DecimalType.{DecimalType}
-use Rattle.vx_types.specs.declared.decimal.DecimalType.TheVariants.{I8, I16, I32, I64, I128, I256}
+use Rattle.vx_numbers.specs.declared.decimal_type.DecimalType.{DecimalType}
+use Rattle.vx_numbers.specs.declared.decimal_type.DecimalType.TheVariants.{I8, I16, I32, I64, I128, I256}
 use Rattle.vx_proto.specs.declared.schema.ScalarKind.TheVariants.{Enum}
 use Rattle.vx_proto.specs.Reads.{Reads}
 use Rattle.vx_array_tree.specs.Encoding as E

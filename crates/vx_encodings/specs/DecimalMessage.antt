@@ -1,9 +1,9 @@
 -- The message of the metadata of decimals.
 use Rattle.std.specs.Prelude.{◌≡◌, ℕ, zero, suc, List, refl}
 use Rattle.std.proofs.Common.{sym, ap, ◌∙◌}
-use Rattle.vx_types.specs.Decimals.{decimal_code_of}
-use Rattle.vx_types.specs.declared.decimal.DecimalType.{DecimalType}
-use Rattle.vx_types.specs.declared.decimal.DecimalType.TheVariants.{I8, I16, I32, I64, I128, I256}
+use Rattle.vx_numbers.specs.Decimals.{decimal_code_of}
+use Rattle.vx_numbers.specs.declared.decimal_type.DecimalType.{DecimalType}
+use Rattle.vx_numbers.specs.declared.decimal_type.DecimalType.TheVariants.{I8, I16, I32, I64, I128, I256}
 use Rattle.vx_proto.specs.declared.schema.ScalarKind.TheVariants.{Enum}
 use Rattle.vx_proto.specs.Reads.{Reads}
 use Rattle.vx_proto.specs.Schema.{Schema}

@@ -1,7 +1,7 @@
 -- The message of the metadata of dictionaries.
 use Rattle.std.specs.Prelude.{◌≡◌, ℕ, zero, suc, nat_lt, Bool, true, false, Option, unwrap_or, List, [], ◌∷◌, refl}
 use Rattle.std.proofs.Common.{ap, arith}
-use Rattle.vx_types.specs.Numbers.{code_of}
+use Rattle.vx_numbers.specs.Numbers.{code_of}
 use Rattle.vx_types.specs.Typ.{Typ}
 use Rattle.vx_proto.specs.declared.schema.ScalarKind.TheVariants.{Uint32, Enum, Flag}
 use Rattle.vx_proto.specs.Form.{HasForm}

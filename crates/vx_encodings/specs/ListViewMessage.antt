@@ -1,8 +1,8 @@
 -- The message of the metadata of list views.
 use Rattle.std.specs.Prelude.{ℕ, ◌≡◌, List, [], ◌∷◌}
 use Rattle.std.proofs.Common.{ap}
-use Rattle.vx_types.specs.Numbers.{code_of}
-use Rattle.vx_types.specs.declared.ptype.PType.{PType}
+use Rattle.vx_numbers.specs.Numbers.{code_of}
+use Rattle.vx_numbers.specs.declared.ptype.PType.{PType}
 use Rattle.vx_proto.specs.declared.schema.ScalarKind.TheVariants.{Uint64, Enum}
 use Rattle.vx_proto.specs.Form.{HasForm}
 use Rattle.vx_proto.specs.Reads.{Reads}

@@ -1,10 +1,7 @@
--- Encodings, the places of children and refusals as the plain values that contracts see.
-use Rattle.vx_types.specs.Seen.{typ}
+-- Encodings as the plain values that contracts see.
 use Rattle.vx_array_tree.specs.Encoding as E
-use Rattle.vx_array_tree.specs.Place.{Place, place}
 use Rattle.vx_encodings.specs.declared.encoding.Encoding.{Encoding}
 use Rattle.vx_encodings.specs.declared.encoding.Encoding.TheVariants as V
-use Rattle.vx_encodings.specs.declared.plans.ChildPlan.{ChildPlan}
 
 -- An encoding, of those that definitions know.
 abbrev pub plain_encoding : Encoding → E.Encoding
@@ -23,7 +20,3 @@ plain_encoding V.ListView = E.listview
 plain_encoding V.Map = E.map
 plain_encoding V.Union = E.union
 plain_encoding V.Variant = E.variant
-
--- The place that a planned child is to have.
-abbrev pub planned_place : ChildPlan → Place
-planned_place p = place (typ p.dtype) p.len

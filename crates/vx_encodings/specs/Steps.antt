@@ -1,5 +1,5 @@
 -- The steps of one node, as the calls of this crate take them, and when each is refused.
-use Rattle.std.specs.Prelude.{ℕ, ◌≡◌, List, Option, None, Result, Ok, Err}
+use Rattle.std.specs.Prelude.{ℕ, List, Result, Ok, Err}
 use Rattle.vx_buffer.specs.Buffer.{Buffer}
 use Rattle.vx_trees.specs.Rose.{label, below}
 use Rattle.vx_types.specs.Known.{ExtMeaning}
@@ -18,9 +18,9 @@ use Rattle.vx_rows.specs.declared.error.ArrayError.TheVariants as A
 use Rattle.vx_encodings.specs.Messages.{codec}
 use Rattle.vx_encodings.specs.Plain.{plain_encoding}
 use Rattle.vx_encodings.specs.declared.encoding.Encoding.{Encoding}
-use Rattle.vx_encodings.specs.declared.error.EncodingError.{EncodingError}
-use Rattle.vx_encodings.specs.declared.error.EncodingError.TheVariants.{OutOfMemory, BadMetadata, BadShape, BadContent, ForeignControl, WireLimit}
-use Rattle.vx_encodings.specs.declared.head.ArrayHead.{ArrayHead}
+use Rattle.vx_plans.specs.declared.error.EncodingError.{EncodingError}
+use Rattle.vx_plans.specs.declared.error.EncodingError.TheVariants.{OutOfMemory, BadMetadata, BadShape, BadContent, ForeignControl, WireLimit}
+use Rattle.vx_plans.specs.declared.head.ArrayHead.{ArrayHead}
 
 -- The children of a node of this encoding and head are to stand at these places.
 abbrev pub IsPlanned : ExtMeaning → Encoding → ArrayHead → List Place → Type 0
@@ -49,15 +49,6 @@ RefusesBuilding BadShape x e h bs ts = HasWrongShape codec x (plain_encoding e) 
 RefusesBuilding BadContent x e h bs ts = HasWrongContent codec x (plain_encoding e) (typ h.dtype) h.len h.metadata bs ts
 RefusesBuilding ForeignControl x e h bs ts = HasWrongControl codec x (plain_encoding e) (typ h.dtype) h.len h.metadata ts
 RefusesBuilding WireLimit x e h bs ts = ⊥
-
--- There is no such plan, or memory was wanted.
-abbrev pub RefusesPlaces : EncodingError → Option (List Place) → Type 0
-RefusesPlaces OutOfMemory plan = Unit {0}
-RefusesPlaces BadMetadata plan = ⊥
-RefusesPlaces BadShape plan = plan ≡ None
-RefusesPlaces BadContent plan = ⊥
-RefusesPlaces ForeignControl plan = ⊥
-RefusesPlaces WireLimit plan = ⊥
 
 -- No metadata is written of a root: for want of memory, or as it does not fit its message.
 abbrev pub RefusesWritingMetadata : EncodingError → Tree → Type 0

@@ -2,8 +2,8 @@
 
 ghost use Rattle.std.specs.Prelude.{◌≡◌, ◌≢◌, [], OnOk, OnErr, IsOkUnless};
 
-use crate::error::EncodingError;
 use std::alloc::Global;
+use vx_plans::EncodingError;
 use vx_types::Blob;
 
 // Reads the metadata of an encoding that keeps nothing: no byte stands there.

@@ -1,16 +1,17 @@
 //! Metadata that is a message.
 
 ghost use Rattle.std.specs.Prelude.{◌≡◌, ◌≤◌, Some, IfOk, IfErr, IsOkUnless};
-ghost use Rattle.vx_types.specs.Numbers.{code_of};
-ghost use Rattle.vx_types.specs.declared.ptype.PType.{PType};
+ghost use Rattle.vx_numbers.specs.Numbers.{code_of};
+ghost use Rattle.vx_numbers.specs.declared.ptype.PType.{PType};
 ghost use Rattle.vx_proto.specs.Parts.{number_in, entries_in};
 ghost use Rattle.vx_proto.specs.Reads.{Reads};
 ghost use Rattle.vx_proto.specs.Value.{value_view};
 ghost use Rattle.vx_proto.specs.Written.{written, nested};
 ghost use Rattle.vx_encodings.specs.Steps.{RefusesMetadata};
 
-use crate::error::{EncodingError, of_message};
+use crate::error::of_message;
 use std::alloc::Global;
+use vx_plans::EncodingError;
 use vx_proto::{DeserializeMetadata, Entries, Message, ProstMetadata, SerializeMetadata, u8_at};
 use vx_types::{Blob, PType};
 

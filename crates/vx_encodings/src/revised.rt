@@ -3,10 +3,10 @@
 ghost use Rattle.std.specs.Prelude.{◌≡◌, IfOk, IsOkUnless};
 ghost use Rattle.vx_wire_tree.specs.Revised.{revised_holds as holds, revised_id as id_for};
 
-use crate::error::EncodingError;
 use std::alloc::Global;
 use vx_arrays::PrimitiveArray;
-use vx_types::Id;
+use vx_plans::EncodingError;
+use vx_types::{Id, or_memory};
 
 // The identifier of the rows that the old one does not hold.
 const SECOND: &'static str = "vortex.primitive.v2";
@@ -36,8 +36,5 @@ pub fn revised_id(alloc: Global, len: usize) -> Result<Id, EncodingError>
     } else {
         SECOND
     };
-    match Id::new(alloc, text) {
-        Ok(id) => Ok(id),
-        Err(_) => Err(EncodingError::OutOfMemory),
-    }
+    Ok(or_memory(Id::new(alloc, text))?)
 }

@@ -18,9 +18,6 @@ mod planning;
 mod writing;
 
 use crate::encoding::Encoding;
-use crate::error::EncodingError;
-use crate::head::ArrayHead;
-use crate::plans::ChildPlans;
 use crate::steps::building::build_by;
 use crate::steps::fitting::has_message;
 use crate::steps::planning::plan_by;
@@ -28,6 +25,7 @@ use crate::steps::writing::metadata_by;
 use std::alloc::Global;
 use vx_arrays::{Array, Arrays};
 use vx_buffer::BufferHandles;
+use vx_plans::{ArrayHead, ChildPlans, EncodingError};
 use vx_type_wire::ExtSession;
 use vx_types::Blob;
 

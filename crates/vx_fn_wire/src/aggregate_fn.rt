@@ -7,14 +7,14 @@ ghost use Rattle.vx_fn_wire.specs.declared.aggregate_fn.AggregateFn.{AggregateFn
 ghost use Rattle.vx_fn_wire.specs.declared.error.FnWireError.{FnWireError as Refusal};
 
 use crate::aggregate_reading::{function_of, parts_of};
-use crate::error::{FnWireError, or_memory};
+use crate::error::FnWireError;
 use crate::pb;
 use crate::plugin::AggregateFnPlugin;
 use crate::session::FnSession;
 use crate::slots::octets_slot;
 use std::alloc::Global;
 use vx_proto::PlainMessage;
-use vx_types::{Blob, Id};
+use vx_types::{Blob, Id, or_memory};
 
 /// A function of columns, as far as its message tells.
 #[derive(Debug, Drop)]

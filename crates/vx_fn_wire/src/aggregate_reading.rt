@@ -5,14 +5,14 @@ ghost use Rattle.vx_fn_wire.specs.Messages.{metadata_of};
 ghost use Rattle.vx_fn_wire.specs.Session.{aggregates_meaning, IsAggregateOf, RefusesAggregate, HoldsAggregate};
 
 use crate::aggregate_fn::AggregateFn;
-use crate::error::{FnWireError, or_memory};
+use crate::error::FnWireError;
 use crate::foreign_aggregate::new_foreign_aggregate_fn;
 use crate::pb;
 use crate::plugin::{AggregateFnPlugin, PluginError, aggregate_by};
 use crate::session::AggregateFnSession;
 use std::alloc::Global;
 use vx_proto::{octets_at, text_at};
-use vx_types::{Blob, Id};
+use vx_types::{Blob, Id, or_memory};
 
 /// What the message of an aggregate function holds: its identifier, and metadata that may stand.
 #[derive(Clone, Copy)]

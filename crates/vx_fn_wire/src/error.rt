@@ -1,12 +1,11 @@
 //! Refusals of this crate.
 
-ghost use Rattle.std.specs.Prelude.{◌≡◌, Ok, IfOk, IsOkUnless};
+ghost use Rattle.std.specs.Prelude.{◌≡◌};
 ghost use Rattle.vx_fn_wire.specs.declared.error.FnWireError.TheVariants.{OutOfMemory};
 
 use std::alloc::{AllocError, AllocFailed};
 use thiserror::Error;
 use vx_proto::ProtoError;
-use vx_types::TypeError;
 
 /// Why a function or an expression could not be made, read or written.
 #[derive(Clone, Copy, Debug, PartialEq, Eq, Error)]
@@ -68,17 +67,5 @@ impl From<ProtoError> for FnWireError {
             ProtoError::TooDeep => FnWireError::TooDeep,
             ProtoError::OutOfRange => FnWireError::BadMessage,
         }
-    }
-}
-
-// What a call of `vx_types` made whose one refusal is want of memory. No other refusal is told as that.
-pub(crate) fn or_memory<T: Drop>(made: Result<T, TypeError>) -> Result<T, FnWireError>
-    requires { IsOkUnless made TypeError.OutOfMemory }
-    ensures same { IfOk result (λ x. made ≡ Ok x) }
-    ensures err { IsOkUnless result FnWireError.OutOfMemory }
-{
-    match made {
-        Ok(value) => Ok(value),
-        Err(_) => Err(FnWireError::OutOfMemory),
     }
 }

@@ -12,7 +12,7 @@ ghost use Rattle.vx_fn_wire.specs.Schema.{expr_lists};
 ghost use Rattle.vx_fn_wire.specs.Seen.{expr};
 ghost use Rattle.vx_fn_wire.specs.Session.{scalars_meaning, RefusesGiving};
 
-use crate::error::{FnWireError, or_memory};
+use crate::error::FnWireError;
 use crate::expression::Expression;
 use crate::expressions::Expressions;
 use crate::foreign::ForeignScalarFnVTable;
@@ -23,7 +23,7 @@ use crate::session::ScalarFnSession;
 use crate::writing::ROOT_ID;
 use std::alloc::Global;
 use vx_proto::{Entries, entries_at, octets_at, text_at};
-use vx_types::{Blob, Id};
+use vx_types::{Blob, Id, or_memory};
 
 /// The function of metadata, by the plugin that its identifier has.
 fn registered(

@@ -8,12 +8,12 @@ ghost use Rattle.vx_fn_wire.specs.Foreign.{foreign_fn};
 ghost use Rattle.vx_fn_wire.specs.Texts.{foreign_text};
 
 use crate::arity::Arity;
-use crate::error::{FnWireError, or_memory};
+use crate::error::FnWireError;
 use crate::scalar_fn::ScalarFn;
 use std::alloc::Global;
 use std::fmt;
 use std::hash::{Hash, Hasher};
-use vx_types::{Blob, Id, Name, Names};
+use vx_types::{Blob, Id, Name, Names, or_memory};
 
 /// The options of a foreign function: its metadata as it stands in the message, and how many children
 /// a call has.

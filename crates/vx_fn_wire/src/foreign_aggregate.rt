@@ -8,11 +8,11 @@ ghost use Rattle.vx_fn_wire.specs.Foreign.{foreign_aggregate_fn};
 ghost use Rattle.vx_fn_wire.specs.Texts.{foreign_aggregate_text};
 
 use crate::aggregate_fn::AggregateFn;
-use crate::error::{FnWireError, or_memory};
+use crate::error::FnWireError;
 use std::alloc::Global;
 use std::fmt;
 use std::hash::{Hash, Hasher};
-use vx_types::{Blob, Id};
+use vx_types::{Blob, Id, or_memory};
 
 /// The options of a foreign aggregate function: its metadata as it stands in the message.
 #[derive(Debug, Drop, PartialEq, Eq)]

@@ -3,11 +3,11 @@
 ghost use Rattle.std.specs.Prelude.{◌≡◌, ℕ, List, None, Some, cond, bytes_eq, OnOk, OnErr, IsOkUnless};
 ghost use Rattle.vx_fn_wire.specs.Session.{scalars_meaning, aggregates_meaning};
 
-use crate::error::{FnWireError, or_memory};
+use crate::error::FnWireError;
 use crate::plugin::{AggregateFnPlugin, ScalarFnPlugin, id_of_aggregate, id_of_scalar};
 use std::alloc::Global;
 use std::collections::HashMap;
-use vx_types::Id;
+use vx_types::{Id, or_memory};
 
 /// The functions of rows that a caller knows: a plugin for each of some identifiers.
 #[derive(Drop)]

@@ -5,12 +5,12 @@ ghost use Rattle.vx_types.specs.Content.{IsText};
 ghost use Rattle.vx_fn_wire.specs.Texts.{child_name_of};
 
 use crate::arity::Arity;
-use crate::error::{FnWireError, or_memory};
+use crate::error::FnWireError;
 use crate::scalar_fn::ScalarFn;
 use std::alloc::Global;
 use std::fmt;
 use std::hash::{Hash, Hasher};
-use vx_types::{Blob, Name};
+use vx_types::{Blob, Name, or_memory};
 
 /// The options of a function, borrowed from it. They are equal where the identifier, the bytes and the
 /// arity are, and are written as the function's text.
@@ -103,10 +103,10 @@ impl<'a> ScalarFnSignature<'a> {
         ensures err { IsOkUnless result FnWireError.OutOfMemory }
     {
         match self.function.child_names.get(index) {
-            Some(name) => or_memory(name.clone(alloc)),
+            Some(name) => Ok(or_memory(name.clone(alloc))?),
             None => {
                 let text = format!(in alloc; "arg{index}")?;
-                or_memory(Name::new(alloc, text.as_str()))
+                Ok(or_memory(Name::new(alloc, text.as_str()))?)
             }
         }
     }

@@ -8,8 +8,8 @@ use Rattle.std.specs.Int.{w16, w64, cast_signed, cast_unsigned, from_le_bytes}
 use mir.Val.{SFits}
 use Rattle.vx_trees.specs.Rose.{node, end, more}
 use Rattle.vx_types.specs.Value.{Value, lone, null, number, tuple, utf8}
-use Rattle.vx_types.specs.declared.value.PValue.TheVariants.{I64, U16}
-use Rattle.vx_types.specs.declared.ptype.PType.TheVariants.{I64 as PI64}
+use Rattle.vx_numbers.specs.declared.value.PValue.TheVariants.{I64, U16}
+use Rattle.vx_numbers.specs.declared.ptype.PType.TheVariants.{I64 as PI64}
 use Rattle.vx_array_tree.specs.Bytes.{primitive_at}
 use Rattle.vx_array_tree.specs.Encodings.Bools as Bools
 use Rattle.vx_array_tree.specs.Rows.{Rows, values_from, where_valid}

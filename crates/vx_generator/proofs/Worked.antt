@@ -3,7 +3,7 @@ use Rattle.std.proofs.Common.{◌≡◌, [], ◌∷◌, codes, negsuc, refl}
 use Rattle.vx_trees.specs.Rose.{node, end, more}
 use Rattle.vx_types.specs.Value as V
 use Rattle.vx_types.specs.Value.{Value, lone}
-use Rattle.vx_types.specs.declared.value.PValue.TheVariants as N
+use Rattle.vx_numbers.specs.declared.value.PValue.TheVariants as N
 use Rattle.vx_array_tree.specs.Tree.{row_at}
 use Rattle.vx_generator.specs.Columns.{stored}
 use Rattle.vx_generator.specs.Draws.{drawn, next, number_of}

@@ -7,7 +7,7 @@ use Rattle.vx_types.specs.Kind.{boolean, list, primitive, structure, utf8}
 use Rattle.vx_types.specs.Parts.{Fields}
 use Rattle.vx_types.specs.Typ.{Typ}
 use Rattle.vx_types.specs.declared.nullability.Nullability.TheVariants.{Nullable, NonNullable}
-use Rattle.vx_types.specs.declared.ptype.PType.TheVariants.{I64, U8, U16, U32}
+use Rattle.vx_numbers.specs.declared.ptype.PType.TheVariants.{I64, U8, U16, U32}
 use Rattle.vx_array_tree.specs.Body as B
 use Rattle.vx_array_tree.specs.Place.{numbers}
 use Rattle.vx_array_tree.specs.Tree.{Tree, buffers, untold}

@@ -2,7 +2,7 @@
 use Rattle.std.specs.Prelude.{ℕ, zero, suc, ◌%◌, List, codes, if◌then◌else◌}
 use Rattle.vx_trees.specs.Rose.{node, end, more}
 use Rattle.vx_types.specs.Value.{Value, Values, lone, null, number, tuple, utf8}
-use Rattle.vx_types.specs.declared.value.PValue.TheVariants.{I64, U16}
+use Rattle.vx_numbers.specs.declared.value.PValue.TheVariants.{I64, U16}
 use Rattle.vx_generator.specs.Columns.{count_of, is_null, stored}
 use Rattle.vx_generator.specs.Draws.{after, drawn}
 use Rattle.vx_generator.specs.Made.{long_text}

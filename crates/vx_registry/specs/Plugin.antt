@@ -2,7 +2,7 @@
 use Rattle.std.specs.Prelude.{◌≡◌, Option, Some, None, Result, Ok, Err}
 use Rattle.vx_types.specs.Seen.{typ}
 use Rattle.vx_wire_tree.specs.Plugin.{NodeHead, Parts, parts_head, Answer, none, refused, given}
-use Rattle.vx_encodings.specs.declared.head.ArrayHead.{ArrayHead}
+use Rattle.vx_plans.specs.declared.head.ArrayHead.{ArrayHead}
 use Rattle.vx_registry.specs.declared.plugin.PluginError.{PluginError}
 use Rattle.vx_registry.specs.declared.plugin.PluginError.TheVariants.{OutOfMemory, Refused}
 use Rattle.vx_registry.specs.declared.serialization.ArraySerialization.{ArraySerialization}

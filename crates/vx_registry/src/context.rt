@@ -6,7 +6,7 @@ use crate::named::named;
 use indexmap::IndexSet;
 use std::alloc::Global;
 use std::marker::Model;
-use vx_types::{Id, Ids};
+use vx_types::{Id, Ids, or_memory};
 
 /// The identifiers that a written blob's nodes name by number, each once, in the order in which they came.
 #[derive(Drop)]
@@ -145,10 +145,7 @@ fn push_copy(alloc: Global, id: &Id, ids: &mut Ids) -> Result<(), RegistryError>
     ensures err { IsOkUnless result RegistryError.OutOfMemory }
 {
     let id = named(alloc, id.as_str())?;
-    match ids.push(id) {
-        Ok(()) => Ok(()),
-        Err(_) => Err(RegistryError::OutOfMemory),
-    }
+    Ok(or_memory(ids.push(id))?)
 }
 
 // A place as a number that a node can name.

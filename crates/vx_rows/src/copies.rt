@@ -4,17 +4,14 @@ ghost use Rattle.std.specs.Prelude.{◌≡◌, IfOk, IsOkUnless};
 
 use crate::error::ArrayError;
 use std::alloc::Global;
-use vx_types::{Blob, DType, Name};
+use vx_types::{Blob, DType, Name, or_memory};
 
 /// A text of its own.
 pub fn owned_text(alloc: Global, text: &str) -> Result<Name, ArrayError>
     ensures ok { IfOk result (λ name. name ≡ text.now) }
     ensures err { IsOkUnless result ArrayError.OutOfMemory }
 {
-    match Name::new(alloc, text) {
-        Ok(name) => Ok(name),
-        Err(_) => Err(ArrayError::OutOfMemory),
-    }
+    Ok(or_memory(Name::new(alloc, text))?)
 }
 
 /// Bytes of their own.
@@ -22,10 +19,7 @@ pub fn owned_bytes(alloc: Global, bytes: &[u8]) -> Result<Blob, ArrayError>
     ensures ok { IfOk result (λ blob. blob ≡ bytes.now) }
     ensures err { IsOkUnless result ArrayError.OutOfMemory }
 {
-    match Blob::copy_from(alloc, bytes) {
-        Ok(blob) => Ok(blob),
-        Err(_) => Err(ArrayError::OutOfMemory),
-    }
+    Ok(or_memory(Blob::copy_from(alloc, bytes))?)
 }
 
 /// A type once more.
@@ -33,8 +27,5 @@ pub fn copied_type(alloc: Global, dtype: &DType) -> Result<DType, ArrayError>
     ensures ok { IfOk result (λ copy. copy ≡ dtype.now) }
     ensures err { IsOkUnless result ArrayError.OutOfMemory }
 {
-    match dtype.clone(alloc) {
-        Ok(copy) => Ok(copy),
-        Err(_) => Err(ArrayError::OutOfMemory),
-    }
+    Ok(or_memory(dtype.clone(alloc))?)
 }

@@ -17,7 +17,7 @@ use crate::error::ArrayError;
 use crate::named_variants::NamedVariants;
 use std::alloc::Global;
 use vx_scalars::{Scalar, ScalarValue, Values, VariantRef};
-use vx_types::{DType, Name, Nullability, StructFields, TypeRef};
+use vx_types::{DType, Name, Nullability, StructFields, TypeRef, or_memory};
 
 // A structure that is not null: its fields, and their values in the same order.
 #[derive(Clone, Copy)]
@@ -191,10 +191,8 @@ fn lists_of_variants(alloc: Global) -> Result<DType, ArrayError>
     ensures ok { IfOk result (λ d. typ d ≡ node (list NonNullable) (more variants end)) }
     ensures err { IsOkUnless result ArrayError.OutOfMemory }
 {
-    match TypeRef::new(alloc, DType::Variant(Nullability::NonNullable)) {
-        Ok(element) => Ok(DType::List(element, Nullability::NonNullable)),
-        Err(_) => Err(ArrayError::OutOfMemory),
-    }
+    let element = or_memory(TypeRef::new(alloc, DType::Variant(Nullability::NonNullable)))?;
+    Ok(DType::List(element, Nullability::NonNullable))
 }
 
 // A list as one of variants.

@@ -13,7 +13,7 @@ use crate::error::ArrayError;
 use crate::merging::{as_variant, scalar_of};
 use std::alloc::Global;
 use vx_scalars::{Scalar, ScalarValue, Values};
-use vx_types::{DType, DTypes, Name, Names, Nullability, StructFields};
+use vx_types::{DType, DTypes, Name, Names, Nullability, StructFields, or_memory};
 
 // Names, as many types of variants, and as many variants, in one order.
 #[derive(Drop)]
@@ -76,8 +76,5 @@ fn copied_name(alloc: Global, name: &Name) -> Result<Name, ArrayError>
     ensures ok { IfOk result (λ copy. copy ≡ name.now) }
     ensures err { IsOkUnless result ArrayError.OutOfMemory }
 {
-    match name.clone(alloc) {
-        Ok(copy) => Ok(copy),
-        Err(_) => Err(ArrayError::OutOfMemory),
-    }
+    Ok(or_memory(name.clone(alloc))?)
 }

@@ -1,8 +1,8 @@
 //! Numbers out of the bytes of a buffer.
 
 ghost use Rattle.std.specs.Prelude.{◌≡◌, ◌≤◌, ◌↔◌, ◌*◌, ◌^◌, IsTrue, length};
-ghost use Rattle.vx_types.specs.Decimals.{decimal_width_of};
-ghost use Rattle.vx_types.specs.Numbers.{width_of};
+ghost use Rattle.vx_numbers.specs.Decimals.{decimal_width_of};
+ghost use Rattle.vx_numbers.specs.Numbers.{width_of};
 ghost use Rattle.vx_types.specs.Value.{natural_int, natural_number};
 ghost use Rattle.vx_array_tree.specs.Bytes.{number_at, decimal_value};
 ghost use Rattle.vx_scalars.specs.Decimals.{decimal_of};

@@ -23,15 +23,15 @@ use Rattle.vx_types.specs.Content.{IsText}
 use Rattle.vx_types.specs.Fits.{Fits, FitBy, FitsMember, IsBoolean, IsOf, IsDecimal, IsUtf8, IsBinary, IsVariant, bare, bare_first, member}
 use Rattle.vx_types.specs.Kind as K
 use Rattle.vx_types.specs.Kind.{Kind}
-use Rattle.vx_types.specs.Numbers.{is_integer, kind_of}
+use Rattle.vx_numbers.specs.Numbers.{is_integer, kind_of}
 use Rattle.vx_types.specs.Typ.{Typ, IsType, IsTypeNode}
 use Rattle.vx_types.specs.Value as V
 use Rattle.vx_types.specs.Well.{IsInRange}
 use Rattle.vx_types.specs.Words.{entries, key_name, value_name}
-use Rattle.vx_types.specs.declared.ptype.PType.{PType}
-use Rattle.vx_types.specs.declared.ptype.PType.TheVariants as kind
-use Rattle.vx_types.specs.declared.value.PValue.{PValue}
-use Rattle.vx_types.specs.declared.value.PValue.TheVariants.{U8, U16, U32, U64, I8, I16, I32, I64, F16, F32, F64}
+use Rattle.vx_numbers.specs.declared.ptype.PType.{PType}
+use Rattle.vx_numbers.specs.declared.ptype.PType.TheVariants as kind
+use Rattle.vx_numbers.specs.declared.value.PValue.{PValue}
+use Rattle.vx_numbers.specs.declared.value.PValue.TheVariants.{U8, U16, U32, U64, I8, I16, I32, I64, F16, F32, F64}
 use Rattle.vx_scalars.specs.Seen.{seen}
 use Rattle.vx_scalars.specs.Told.{Typed}
 use Rattle.vx_scalars.specs.declared.value.ScalarValue.{ScalarValue}

@@ -22,8 +22,8 @@ use Rattle.vx_types.specs.Typ.{Typ, IsType}
 use Rattle.vx_types.specs.Value as V
 use Rattle.vx_types.specs.Value.{Mark}
 use Rattle.vx_types.specs.Well.{IsInRange, IsWellMark, IsWell, AreWell}
-use Rattle.vx_types.specs.declared.value.PValue.{PValue}
-use Rattle.vx_types.specs.declared.value.PValue.TheVariants.{U8, U16, U32, U64, I8, I16, I32, I64, F16, F32, F64}
+use Rattle.vx_numbers.specs.declared.value.PValue.{PValue}
+use Rattle.vx_numbers.specs.declared.value.PValue.TheVariants.{U8, U16, U32, U64, I8, I16, I32, I64, F16, F32, F64}
 use Rattle.vx_scalars.specs.Told.{Typed}
 use Rattle.vx_scalar_wire.specs.Typed.{IsTyped}
 use Rattle.vx_scalar_wire.specs.ScalarMessage.{value_members, scalar_list, value_list, list_list, union_list, scalar_lists, number_member, decimal_bytes, member_of, value_message, value_messages, scalar_message}

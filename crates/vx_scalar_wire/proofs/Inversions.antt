@@ -9,11 +9,11 @@ use Rattle.vx_proto.specs.Value.{one_number, one_message}
 use Rattle.vx_type_wire.specs.TypeMessage.{IsMessageOf, all_messages}
 use Rattle.vx_types.specs.Content.{IsText}
 use Rattle.vx_types.specs.Fits.{FitBy, FitsMember, IsBoolean, IsOf, IsDecimal, IsUtf8, IsBinary, IsVariant, bare}
-use Rattle.vx_types.specs.Numbers.{kind_of}
+use Rattle.vx_numbers.specs.Numbers.{kind_of}
 use Rattle.vx_types.specs.Typ.{Typ}
 use Rattle.vx_types.specs.Value as V
 use Rattle.vx_types.specs.Well.{IsInRange, IsDecimalInRange}
-use Rattle.vx_types.specs.declared.value.PValue.{PValue}
+use Rattle.vx_numbers.specs.declared.value.PValue.{PValue}
 use Rattle.vx_scalar_wire.specs.Reading.{Holds, HoldsNumber, HoldsOctets, ReadsParts, ReadsValue, EachReads, ReadsBy}
 use Rattle.vx_scalar_wire.specs.ScalarMessage.{decimal_bytes}
 use Rattle.vx_scalar_wire.proofs.OneValue.{rank, rank_in, bytes_rank, ranked, mark_ranked, octets_ranked, decimals, texts, binaries, same_held, one_octets}

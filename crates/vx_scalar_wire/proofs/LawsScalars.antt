@@ -14,8 +14,8 @@ use Rattle.vx_types.specs.Typ.{Typ}
 use Rattle.vx_types.specs.Value as V
 use Rattle.vx_types.specs.Well.{IsWell, AreWell}
 use Rattle.vx_types.specs.Words.{entries}
-use Rattle.vx_types.specs.declared.value.PValue.{PValue}
-use Rattle.vx_types.specs.declared.value.PValue.TheVariants.{U8, U16, U32, U64, I8, I16, I32, I64, F16, F32, F64}
+use Rattle.vx_numbers.specs.declared.value.PValue.{PValue}
+use Rattle.vx_numbers.specs.declared.value.PValue.TheVariants.{U8, U16, U32, U64, I8, I16, I32, I64, F16, F32, F64}
 use Rattle.vx_scalars.specs.Told.{Typed}
 use Rattle.vx_scalar_wire.specs.Typed.{IsTyped}
 use Rattle.vx_scalar_wire.specs.Reading.{HoldsNumber, ReadsParts, ReadsValue, EachReads, ReadsBy, ReadsScalar, ShowsValue, IsKnownValue, AreKnownValues}

@@ -10,8 +10,8 @@ use Rattle.vx_proto.specs.Parts.{flag_number}
 use Rattle.vx_types.specs.Typ.{Typ}
 use Rattle.vx_types.specs.Value as V
 use Rattle.vx_types.specs.Well.{IsWell}
-use Rattle.vx_types.specs.declared.value.PValue.{PValue}
-use Rattle.vx_types.specs.declared.value.PValue.TheVariants.{F16, F32, F64}
+use Rattle.vx_numbers.specs.declared.value.PValue.{PValue}
+use Rattle.vx_numbers.specs.declared.value.PValue.TheVariants.{F16, F32, F64}
 use Rattle.vx_scalars.specs.StatTypes.{stat_type}
 use Rattle.vx_scalars.specs.Stats.{Told, Stats, FitStats}
 use Rattle.vx_scalars.proofs.LawsStats.{none_fit, written_sum_twice, written_flag_exact, written_count_exact}

@@ -10,7 +10,7 @@ use Rattle.vx_type_wire.specs.Known.{ExtMeaning}
 use Rattle.vx_types.specs.Fits.{IsBoolean, IsBinary, IsOf, IsUtf8, bare}
 use Rattle.vx_types.specs.Content.{IsText}
 use Rattle.vx_types.specs.Kind.{primitive}
-use Rattle.vx_types.specs.Numbers.{is_integer, kind_of}
+use Rattle.vx_numbers.specs.Numbers.{is_integer, kind_of}
 use Rattle.vx_types.specs.Seen.{typ}
 use Rattle.vx_types.specs.Typ.{Typ}
 use Rattle.vx_types.specs.Value as V
@@ -19,10 +19,10 @@ use Rattle.vx_types.specs.declared.dtype.DType.{DType}
 use Rattle.vx_types.specs.declared.dtype.DType.TheVariants.{Bool as BoolType, Primitive, Decimal, Utf8, Binary}
 use Rattle.vx_types.specs.declared.decimal.DecimalDType.{DecimalDType}
 use Rattle.vx_types.specs.declared.nullability.Nullability.{Nullability}
-use Rattle.vx_types.specs.declared.ptype.PType.{PType}
-use Rattle.vx_types.specs.declared.ptype.PType.TheVariants as kind
-use Rattle.vx_types.specs.declared.value.PValue.{PValue}
-use Rattle.vx_types.specs.declared.value.PValue.TheVariants.{U8, U16, U32, U64, I8, I16, I32, I64, F16, F32, F64}
+use Rattle.vx_numbers.specs.declared.ptype.PType.{PType}
+use Rattle.vx_numbers.specs.declared.ptype.PType.TheVariants as kind
+use Rattle.vx_numbers.specs.declared.value.PValue.{PValue}
+use Rattle.vx_numbers.specs.declared.value.PValue.TheVariants.{U8, U16, U32, U64, I8, I16, I32, I64, F16, F32, F64}
 use Rattle.vx_scalar_wire.specs.Answers.{lone_member, GivesValue}
 use Rattle.vx_scalar_wire.specs.Reading.{HoldsInteger, HoldsNumber, HoldsOctets, ReadsValue}
 use Rattle.vx_scalar_wire.specs.Refusing.{is_one_of, numeral_members, members_at, integer_of, IsNoInteger, RefusesReadingValue}

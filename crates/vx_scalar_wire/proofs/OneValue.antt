@@ -15,13 +15,13 @@ use Rattle.vx_type_wire.proofs.LawsTypes.{message-injective}
 use Rattle.vx_types.specs.Fits.{FitBy, FitsMember, IsDecimal, IsUtf8, IsBinary, IsOf, bare, member}
 use Rattle.vx_types.specs.Kind as K
 use Rattle.vx_types.specs.Kind.{Kind}
-use Rattle.vx_types.specs.Numbers.{kind_of}
+use Rattle.vx_numbers.specs.Numbers.{kind_of}
 use Rattle.vx_types.specs.Typ.{Typ}
 use Rattle.vx_types.specs.Value as V
 use Rattle.vx_types.specs.Words.{entries}
-use Rattle.vx_types.specs.declared.ptype.PType.{PType}
-use Rattle.vx_types.specs.declared.value.PValue.{PValue}
-use Rattle.vx_types.specs.declared.value.PValue.TheVariants.{U8, U16, U32, U64, I8, I16, I32, I64, F16, F32, F64}
+use Rattle.vx_numbers.specs.declared.ptype.PType.{PType}
+use Rattle.vx_numbers.specs.declared.value.PValue.{PValue}
+use Rattle.vx_numbers.specs.declared.value.PValue.TheVariants.{U8, U16, U32, U64, I8, I16, I32, I64, F16, F32, F64}
 use Rattle.vx_scalar_wire.specs.Reading.{Holds, HoldsInteger, HoldsNumber, HoldsOctets, ReadsParts, ReadsValue, EachReads, ReadsBy}
 use Rattle.vx_scalar_wire.specs.ScalarMessage.{decimal_bytes}
 use Rattle.vx_scalar_wire.proofs.Digits.{one_decimal}

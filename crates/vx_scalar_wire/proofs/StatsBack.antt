@@ -15,8 +15,8 @@ use Rattle.vx_types.specs.Typ.{Typ}
 use Rattle.vx_types.specs.Value as V
 use Rattle.vx_types.specs.Value.{lone}
 use Rattle.vx_types.specs.Well.{IsInRange, IsWell}
-use Rattle.vx_types.specs.declared.value.PValue.{PValue}
-use Rattle.vx_types.specs.declared.value.PValue.TheVariants.{U8, U16, U32, U64, I8, I16, I32, I64, F16, F32, F64}
+use Rattle.vx_numbers.specs.declared.value.PValue.{PValue}
+use Rattle.vx_numbers.specs.declared.value.PValue.TheVariants.{U8, U16, U32, U64, I8, I16, I32, I64, F16, F32, F64}
 use Rattle.vx_scalars.specs.StatTypes.{ordered, sum_type, stat_type}
 use Rattle.vx_scalars.specs.Stats.{Told, Stats, FitsTold, FitStats}
 use Rattle.vx_scalars.proofs.LawsStats.{sum_fits, sum_null}

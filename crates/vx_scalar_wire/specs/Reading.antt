@@ -10,14 +10,14 @@ use Rattle.vx_proto.specs.Value.{one_number, one_message}
 use Rattle.vx_type_wire.specs.TypeMessage.{IsMessageOf, all_messages}
 use Rattle.vx_types.specs.Fits.{Fits, FitBy, FitsMember, IsBoolean, IsOf, IsDecimal, IsUtf8, IsBinary, IsVariant, bare}
 use Rattle.vx_types.specs.Kind.{Kind, list, fixed_size_list, structure, map}
-use Rattle.vx_types.specs.Numbers.{kind_of}
+use Rattle.vx_numbers.specs.Numbers.{kind_of}
 use Rattle.vx_types.specs.Typ.{Typ}
 use Rattle.vx_types.specs.Value as V
 use Rattle.vx_types.specs.Content.{IsText}
 use Rattle.vx_types.specs.Well.{IsInRange, IsDecimalInRange}
 use Rattle.vx_types.specs.Words.{entries}
-use Rattle.vx_types.specs.declared.value.PValue.{PValue}
-use Rattle.vx_types.specs.declared.value.PValue.TheVariants.{U8, U16, U32, U64, I8, I16, I32, I64, F16, F32, F64}
+use Rattle.vx_numbers.specs.declared.value.PValue.{PValue}
+use Rattle.vx_numbers.specs.declared.value.PValue.TheVariants.{U8, U16, U32, U64, I8, I16, I32, I64, F16, F32, F64}
 use Rattle.vx_scalars.specs.Told.{Typed}
 use Rattle.vx_scalar_wire.specs.ScalarMessage.{decimal_bytes, scalar_lists}
 

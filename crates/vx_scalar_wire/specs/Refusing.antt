@@ -11,15 +11,15 @@ use Rattle.vx_type_wire.specs.declared.error.TypeWireError.TheVariants as type_e
 use Rattle.vx_types.specs.Content.{IsText}
 use Rattle.vx_types.specs.Fits.{Fits, FitsMember, IsDecimal, IsOf, IsUtf8, IsVariant, bare, member}
 use Rattle.vx_types.specs.Kind.{Kind, boolean, primitive, decimal, utf8, binary, list, fixed_size_list, structure, union, map, variant}
-use Rattle.vx_types.specs.Numbers.{is_integer, kind_of}
+use Rattle.vx_numbers.specs.Numbers.{is_integer, kind_of}
 use Rattle.vx_types.specs.Typ.{Typ}
 use Rattle.vx_types.specs.Value as V
 use Rattle.vx_types.specs.Well.{IsInRange}
 use Rattle.vx_types.specs.Words.{entries}
-use Rattle.vx_types.specs.declared.ptype.PType.{PType}
-use Rattle.vx_types.specs.declared.ptype.PType.TheVariants.{F16, F32, F64}
-use Rattle.vx_types.specs.declared.value.PValue.{PValue}
-use Rattle.vx_types.specs.declared.value.PValue.TheVariants.{U8, U16, U32, U64, I8, I16, I32, I64}
+use Rattle.vx_numbers.specs.declared.ptype.PType.{PType}
+use Rattle.vx_numbers.specs.declared.ptype.PType.TheVariants.{F16, F32, F64}
+use Rattle.vx_numbers.specs.declared.value.PValue.{PValue}
+use Rattle.vx_numbers.specs.declared.value.PValue.TheVariants.{U8, U16, U32, U64, I8, I16, I32, I64}
 use Rattle.vx_scalar_wire.specs.Reading.{Holds, HoldsInteger, HoldsNumber, HoldsOctets, ReadsValue}
 use Rattle.vx_scalar_wire.specs.declared.error.ScalarWireError.{ScalarWireError}
 use Rattle.vx_scalar_wire.specs.declared.error.ScalarWireError.TheVariants.{OutOfMemory, TooDeep, MissingKind, KindMismatch, OutOfRange, BadChild, BadScalar, BadDType}

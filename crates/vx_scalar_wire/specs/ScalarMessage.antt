@@ -14,8 +14,8 @@ use Rattle.vx_proto.specs.Value.{one_number, one_octets, one_message}
 use Rattle.vx_type_wire.specs.TypeMessage.{type_lists, type_message, first_message, all_messages}
 use Rattle.vx_types.specs.Value as V
 use Rattle.vx_types.specs.Value.{Mark, DecimalValue}
-use Rattle.vx_types.specs.declared.value.PValue.{PValue}
-use Rattle.vx_types.specs.declared.value.PValue.TheVariants.{U8, U16, U32, U64, I8, I16, I32, I64, F16, F32, F64}
+use Rattle.vx_numbers.specs.declared.value.PValue.{PValue}
+use Rattle.vx_numbers.specs.declared.value.PValue.TheVariants.{U8, U16, U32, U64, I8, I16, I32, I64, F16, F32, F64}
 use Rattle.vx_scalars.specs.Told.{Typed}
 
 -- ---- the schema

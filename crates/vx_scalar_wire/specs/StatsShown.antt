@@ -6,7 +6,7 @@ use Rattle.vx_type_wire.specs.Known.{no_readers}
 use Rattle.vx_types.specs.Typ.{Typ}
 use Rattle.vx_types.specs.Value as V
 use Rattle.vx_types.specs.Value.{lone}
-use Rattle.vx_types.specs.declared.value.PValue.TheVariants.{U64}
+use Rattle.vx_numbers.specs.declared.value.PValue.TheVariants.{U64}
 use Rattle.vx_scalars.specs.StatTypes.{stat_type}
 use Rattle.vx_scalars.specs.Stats.{Told, Stats, told_at, no_stats, IsOfType}
 use Rattle.vx_scalars.specs.declared.precision.Precision.TheVariants.{Exact, Inexact, Absent}

@@ -1,6 +1,6 @@
 //! Refusals of this crate.
 
-ghost use Rattle.std.specs.Prelude.{◌≡◌, Ok, IfOk, IsOkUnless};
+ghost use Rattle.std.specs.Prelude.{◌≡◌};
 ghost use Rattle.vx_scalar_wire.specs.Writing.{IsOfBuilder, builder_error};
 ghost use Rattle.vx_scalar_wire.specs.declared.error.ScalarWireError.TheVariants.{OutOfMemory};
 
@@ -9,7 +9,6 @@ use thiserror::Error;
 use vx_flat::FlatError;
 use vx_proto::ProtoError;
 use vx_scalars::ScalarError;
-use vx_types::TypeError;
 
 /// Why the type of a scalar is refused.
 #[derive(Clone, Copy, Debug, PartialEq, Eq, Error)]
@@ -122,17 +121,5 @@ pub(crate) fn of_builder(error: FlatError) -> ScalarWireError
         FlatError::OutOfMemory => ScalarWireError::OutOfMemory,
         FlatError::MessageTooLong => ScalarWireError::MessageTooLong,
         FlatError::BadTable | FlatError::TableLimit => unreachable!(),
-    }
-}
-
-// What a call of `vx_types` made whose one refusal is want of memory. No other refusal is told as that.
-pub(crate) fn or_memory<T: Drop>(made: Result<T, TypeError>) -> Result<T, ScalarWireError>
-    requires { IsOkUnless made TypeError.OutOfMemory }
-    ensures same { IfOk result (λ x. made ≡ Ok x) }
-    ensures err { IsOkUnless result ScalarWireError.OutOfMemory }
-{
-    match made {
-        Ok(value) => Ok(value),
-        Err(_) => Err(ScalarWireError::OutOfMemory),
     }
 }

@@ -20,7 +20,7 @@ ghost use Rattle.vx_scalar_wire.specs.ScalarMessage.{scalar_lists, value_message
 ghost use Rattle.vx_scalar_wire.specs.Shallow.{IsShallow, IsShallowScalar};
 ghost use Rattle.vx_scalar_wire.specs.Writing.{Writes, RefusesWritingValueBytes};
 
-use crate::error::{ScalarWireError, or_memory};
+use crate::error::ScalarWireError;
 use crate::pb;
 use crate::reading::{read_scalar, read_value};
 use crate::writing::{scalar_slots, value_slots};
@@ -28,7 +28,7 @@ use std::alloc::Global;
 use vx_proto::{Message, PlainMessage};
 use vx_scalars::{Scalar, ScalarValue};
 use vx_type_wire::{DTypeExt, ExtSession, TypeWireError, pb as types};
-use vx_types::{Blob, DType};
+use vx_types::{Blob, DType, or_memory};
 
 /// A value into its message.
 pub trait ScalarValueExt: Sized {

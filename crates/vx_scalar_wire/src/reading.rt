@@ -18,7 +18,7 @@ ghost use Rattle.vx_scalar_wire.specs.Reading.{ReadsValue, ReadsScalar};
 ghost use Rattle.vx_scalar_wire.specs.Refusing.{RefusesReadingValue, RefusesReadingScalar};
 ghost use Rattle.vx_scalar_wire.specs.ScalarMessage.{scalar_lists};
 
-use crate::error::{ScalarWireError, TypeRefusal, or_memory};
+use crate::error::{ScalarWireError, TypeRefusal};
 use crate::reading::leaves::octets_value;
 use crate::reading::numbers::number_value;
 use std::alloc::Global;
@@ -27,7 +27,7 @@ use vx_proto::{
 };
 use vx_scalars::{Scalar, ScalarValue, ValueRef, Values, VariantRef, bare_dtype};
 use vx_type_wire::{TypeWireError, pb};
-use vx_types::{DType, StructFields, UnionVariants};
+use vx_types::{DType, StructFields, UnionVariants, or_memory};
 
 // At most so many levels of values are read: each nests two messages.
 const MOST_LEVELS: u8 = 50;

@@ -5,15 +5,15 @@ use Rattle.std.proofs.Common.{ℕ, ◌≡◌, ◌%◌, ◌^◌, Bool, true, fals
 use Rattle.vx_trees.specs.Rose.{node}
 use Rattle.vx_types.specs.Fits.{Fits, IsOf, bare}
 use Rattle.vx_types.specs.Kind as K
-use Rattle.vx_types.specs.Numbers.{kind_of}
+use Rattle.vx_numbers.specs.Numbers.{kind_of}
 use Rattle.vx_types.specs.Typ.{Typ}
 use Rattle.vx_types.specs.Value as V
 use Rattle.vx_types.specs.Value.{is_null}
 use Rattle.vx_types.specs.Words.{with_nullability}
 use Rattle.vx_types.specs.declared.nullability.Nullability.{Nullability}
-use Rattle.vx_types.specs.declared.ptype.PType.{PType}
-use Rattle.vx_types.specs.declared.value.PValue.{PValue}
-use Rattle.vx_types.specs.declared.value.PValue.TheVariants.{U64, F16, F32, F64}
+use Rattle.vx_numbers.specs.declared.ptype.PType.{PType}
+use Rattle.vx_numbers.specs.declared.value.PValue.{PValue}
+use Rattle.vx_numbers.specs.declared.value.PValue.TheVariants.{U64, F16, F32, F64}
 use Rattle.vx_types.proofs.LawsOfTypes.{bare_under}
 use Rattle.vx_scalars.specs.Nans.{quiet, nan_canonical}
 use Rattle.vx_scalars.specs.StatTypes.{ordered, sum_type, flag_type, count_type}

@@ -1,7 +1,7 @@
 -- Floats that are no number.
 use Rattle.std.specs.Prelude.{ℕ, ◌%◌, ◌^◌, nat_lt, if◌then◌else◌, Bool, false}
-use Rattle.vx_types.specs.declared.value.PValue.{PValue}
-use Rattle.vx_types.specs.declared.value.PValue.TheVariants.{F16, F32, F64}
+use Rattle.vx_numbers.specs.declared.value.PValue.{PValue}
+use Rattle.vx_numbers.specs.declared.value.PValue.TheVariants.{F16, F32, F64}
 
 -- A float is no number where its bits but for the sign are past those of infinity.
 abbrev pub is_nan : PValue → Bool

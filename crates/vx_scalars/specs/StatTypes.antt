@@ -5,8 +5,8 @@ use Rattle.vx_types.specs.Fits.{bare}
 use Rattle.vx_types.specs.Kind.{boolean, primitive, decimal, utf8, binary}
 use Rattle.vx_types.specs.Typ.{Typ}
 use Rattle.vx_types.specs.declared.nullability.Nullability.TheVariants.{Nullable, NonNullable}
-use Rattle.vx_types.specs.declared.ptype.PType.{PType}
-use Rattle.vx_types.specs.declared.ptype.PType.TheVariants as P
+use Rattle.vx_numbers.specs.declared.ptype.PType.{PType}
+use Rattle.vx_numbers.specs.declared.ptype.PType.TheVariants as P
 use Rattle.vx_scalars.specs.declared.stat.Stat.{Stat}
 use Rattle.vx_scalars.specs.declared.stat.Stat.TheVariants.{Min, Max, Sum, IsSorted, IsStrictSorted, IsConstant, NullCount, UncompressedSizeInBytes, NaNCount}
 

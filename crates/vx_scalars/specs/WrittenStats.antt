@@ -3,7 +3,7 @@ use Rattle.std.specs.Prelude.{ℕ, Bool, Option, Some, None, option_map}
 use Rattle.vx_trees.specs.Rose.{node}
 use Rattle.vx_types.specs.Value as V
 use Rattle.vx_types.specs.Value.{flag_in, lone}
-use Rattle.vx_types.specs.declared.value.PValue.TheVariants.{U64}
+use Rattle.vx_numbers.specs.declared.value.PValue.TheVariants.{U64}
 use Rattle.vx_scalars.specs.Nans.{nan_canonical}
 use Rattle.vx_scalars.specs.Stats.{Told, Stats}
 use Rattle.vx_scalars.specs.declared.precision.Precision.TheVariants.{Exact, Absent}

@@ -1,11 +1,10 @@
 //! Refusals of this crate.
 
-ghost use Rattle.std.specs.Prelude.{◌≡◌, Ok, IfOk, IsOkUnless};
+ghost use Rattle.std.specs.Prelude.{◌≡◌};
 ghost use Rattle.vx_scalars.specs.declared.error.ScalarError.TheVariants.{OutOfMemory};
 
 use std::alloc::{AllocError, AllocFailed};
 use thiserror::Error;
-use vx_types::TypeError;
 
 /// Why a scalar could not be made.
 #[derive(Clone, Copy, Debug, PartialEq, Eq, Error)]
@@ -31,17 +30,5 @@ impl<T: Drop> From<AllocFailed<T>> for ScalarError {
 
     fn from(_e: AllocFailed<T>) -> ScalarError {
         ScalarError::OutOfMemory
-    }
-}
-
-// What a call of `vx_types` made whose one refusal is want of memory. No other refusal is told as that.
-pub(crate) fn or_memory<T: Drop>(made: Result<T, TypeError>) -> Result<T, ScalarError>
-    requires { IsOkUnless made TypeError.OutOfMemory }
-    ensures same { IfOk result (λ x. made ≡ Ok x) }
-    ensures err { IsOkUnless result ScalarError.OutOfMemory }
-{
-    match made {
-        Ok(value) => Ok(value),
-        Err(_) => Err(ScalarError::OutOfMemory),
     }
 }

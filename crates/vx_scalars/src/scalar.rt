@@ -8,12 +8,12 @@ ghost use Rattle.vx_types.specs.Value.{is_null};
 ghost use Rattle.vx_scalars.specs.Seen.{seen};
 
 use crate::copy::copied;
-use crate::error::{ScalarError, or_memory};
+use crate::error::ScalarError;
 use crate::fits::fits;
 use crate::value::ScalarValue;
 use std::alloc::Global;
 use std::marker::Model;
-use vx_types::DType;
+use vx_types::{DType, or_memory};
 
 /// A value with its type, which it fits. Contracts see the type and the value as
 /// trees.

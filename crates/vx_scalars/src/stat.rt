@@ -4,10 +4,10 @@ ghost use Rattle.std.specs.Prelude.{◌≡◌, IfOk, IsOkUnless, option_map, min
 ghost use Rattle.vx_types.specs.Seen.{typ};
 ghost use Rattle.vx_scalars.specs.StatTypes.{all_stats, stat_index, stat_type, ordered, sum_kind, sum_type};
 
-use crate::error::{ScalarError, or_memory};
+use crate::error::ScalarError;
 use crate::fits::bare_dtype;
 use std::alloc::Global;
-use vx_types::{DType, DecimalDType, Nullability, PType};
+use vx_types::{DType, DecimalDType, Nullability, PType, or_memory};
 
 /// A statistic of an array's rows.
 #[derive(Clone, Copy, Debug, PartialEq, Eq)]

@@ -3,12 +3,12 @@
 ghost use Rattle.std.specs.Prelude.{◌≡◌, IfOk, IsOkUnless};
 
 use crate::decimal::DecimalValue;
-use crate::error::{ScalarError, or_memory};
+use crate::error::ScalarError;
 use crate::value_ref::ValueRef;
 use crate::values::Values;
 use crate::variant_ref::VariantRef;
 use std::alloc::Global;
-use vx_types::{Blob, Name, PValue};
+use vx_types::{Blob, Name, PValue, or_memory};
 
 /// A value that is not null, without its type. A null is `None` in the place of
 /// a value.

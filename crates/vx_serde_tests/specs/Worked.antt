@@ -3,7 +3,7 @@ use Rattle.std.specs.Prelude.{ℕ, List, [], ◌∷◌, ◌++◌, None, false}
 use Rattle.vx_trees.specs.Rose.{node, end}
 use Rattle.vx_types.specs.Kind.{primitive}
 use Rattle.vx_types.specs.declared.nullability.Nullability.TheVariants.{NonNullable}
-use Rattle.vx_types.specs.declared.ptype.PType.TheVariants.{I32}
+use Rattle.vx_numbers.specs.declared.ptype.PType.TheVariants.{I32}
 use Rattle.vx_array_tree.specs.Tree.{Tree, untold}
 use Rattle.vx_array_tree.specs.Body as B
 use Rattle.vx_flat_tests.specs.Worked.{array_message}

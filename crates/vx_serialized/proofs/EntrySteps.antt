@@ -17,9 +17,9 @@ use Rattle.vx_encodings.specs.Plain.{plain_encoding}
 use Rattle.vx_encodings.specs.Steps.{IsPlanned, RefusesPlanning, RefusesBuilding}
 use Rattle.vx_encodings.specs.declared.encoding.Encoding.{Encoding}
 use Rattle.vx_encodings.specs.declared.encoding.Encoding.TheVariants.{Primitive}
-use Rattle.vx_encodings.specs.declared.error.EncodingError.{EncodingError}
-use Rattle.vx_encodings.specs.declared.error.EncodingError.TheVariants as encodings
-use Rattle.vx_encodings.specs.declared.head.ArrayHead.{ArrayHead}
+use Rattle.vx_plans.specs.declared.error.EncodingError.{EncodingError}
+use Rattle.vx_plans.specs.declared.error.EncodingError.TheVariants as encodings
+use Rattle.vx_plans.specs.declared.head.ArrayHead.{ArrayHead}
 use Rattle.vx_registry.specs.Plugin.{head_in, read_head, IsAnswer}
 use Rattle.vx_registry.specs.declared.plugin.PluginError.{PluginError}
 use Rattle.vx_registry.specs.declared.plugin.PluginError.TheVariants as plugins

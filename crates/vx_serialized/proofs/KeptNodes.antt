@@ -11,7 +11,7 @@ use Rattle.vx_wire_tree.specs.Kept.{IsKeptAs, AreKeptAs}
 use Rattle.vx_wire_tree.specs.Wire.{Wire, Wires, all_present}
 use Rattle.vx_wire_tree.proofs.Laws.{kept_node}
 use Rattle.vx_arrays.specs.Foreigns.{foreign_tree}
-use Rattle.vx_encodings.specs.declared.head.ArrayHead.{ArrayHead}
+use Rattle.vx_plans.specs.declared.head.ArrayHead.{ArrayHead}
 use Rattle.vx_serialized.specs.declared.error.WireError.{WireError}
 use Rattle.vx_serialized.specs.declared.error.WireError.TheVariants.{OutOfMemory, OutOfBounds, UnknownIndex}
 use Rattle.vx_serialized.specs.Decoding.{IsHeadOf}

@@ -34,7 +34,7 @@ use Rattle.vx_wire_tree.proofs.Laws.{node_tells, revised_tells, matched_count, p
 use Rattle.vx_encodings.specs.Messages.{codec}
 use Rattle.vx_encodings.specs.Plain.{plain_encoding}
 use Rattle.vx_encodings.proofs.Laws.{one_value}
-use Rattle.vx_encodings.specs.declared.head.ArrayHead.{ArrayHead}
+use Rattle.vx_plans.specs.declared.head.ArrayHead.{ArrayHead}
 use Rattle.vx_registry.specs.Plugin.{head_in}
 use Rattle.vx_registry.specs.Meaning.{reader_in}
 use Rattle.vx_registry.specs.declared.array_session.ArraySession.{ArraySession}

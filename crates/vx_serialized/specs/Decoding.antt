@@ -12,7 +12,7 @@ use Rattle.vx_wire_tree.specs.Session.{SessionMeaning, Reader, plugin, encoding_
 use Rattle.vx_wire_tree.specs.Steps.{HasNoMetadata, PlansChildren, HasNoPlan, HasParts, HasWrongShape, HasWrongControl, HasWrongContent}
 use Rattle.vx_wire_tree.specs.Wire.{Wire}
 use Rattle.vx_encodings.specs.Messages.{codec}
-use Rattle.vx_encodings.specs.declared.head.ArrayHead.{ArrayHead}
+use Rattle.vx_plans.specs.declared.head.ArrayHead.{ArrayHead}
 use Rattle.vx_registry.specs.Plugin.{head_in}
 use Rattle.vx_registry.specs.declared.plugin.PluginError.{PluginError}
 use Rattle.vx_registry.specs.declared.plugin.PluginError.TheVariants as plugins

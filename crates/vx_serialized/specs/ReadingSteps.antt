@@ -13,8 +13,8 @@ use Rattle.vx_wire_tree.specs.Placed.{Anywhere}
 use Rattle.vx_wire_tree.specs.Steps.{HasNoStats}
 use Rattle.vx_wire_tree.specs.Wire.{Wire}
 use Rattle.vx_encodings.specs.Messages.{codec}
-use Rattle.vx_encodings.specs.declared.error.EncodingError.{EncodingError}
-use Rattle.vx_encodings.specs.declared.error.EncodingError.TheVariants as encodings
+use Rattle.vx_plans.specs.declared.error.EncodingError.{EncodingError}
+use Rattle.vx_plans.specs.declared.error.EncodingError.TheVariants as encodings
 use Rattle.vx_scalar_wire.specs.declared.error.ScalarWireError.{ScalarWireError}
 use Rattle.vx_scalar_wire.specs.declared.error.ScalarWireError.TheVariants as scalars
 use Rattle.vx_serialized.specs.declared.error.WireError.{WireError}

@@ -5,8 +5,8 @@ use Rattle.vx_types.specs.Kind.{boolean, primitive, decimal as decimal_kind, utf
 use Rattle.vx_types.specs.Typ.{Typ}
 use Rattle.vx_types.specs.Value.{Value, lone, i256, null, opaque, bool, number, decimal, utf8, tuple, union, variant_of}
 use Rattle.vx_types.specs.declared.nullability.Nullability.TheVariants.{Nullable, NonNullable}
-use Rattle.vx_types.specs.declared.ptype.PType.TheVariants as P
-use Rattle.vx_types.specs.declared.value.PValue.TheVariants.{U8, I8, F16}
+use Rattle.vx_numbers.specs.declared.ptype.PType.TheVariants as P
+use Rattle.vx_numbers.specs.declared.value.PValue.TheVariants.{U8, I8, F16}
 
 -- A value of a type, and its text.
 pub record ShownValue : Type 0 where

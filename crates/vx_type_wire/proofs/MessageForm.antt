@@ -17,10 +17,10 @@ use Rattle.vx_proto.specs.Value.{Value, number, octets, message, entries_of, slo
 use Rattle.vx_proto.specs.Written.{entries_depth, slots_depth, nested as nests}
 use Rattle.vx_types.specs.Content.{IsText, AreTexts, IsDecimal}
 use Rattle.vx_types.specs.declared.nullability.Nullability.{Nullability}
-use Rattle.vx_types.specs.declared.ptype.PType.{PType}
-use Rattle.vx_types.specs.declared.ptype.PType.TheVariants.{U8, U16, U32, U64, I8, I16, I32, I64, F16, F32, F64}
+use Rattle.vx_numbers.specs.declared.ptype.PType.{PType}
+use Rattle.vx_numbers.specs.declared.ptype.PType.TheVariants.{U8, U16, U32, U64, I8, I16, I32, I64, F16, F32, F64}
 use Rattle.vx_types.specs.Kind.{Kind, null, boolean, primitive, decimal, utf8, binary, list, fixed_size_list, structure, union, map, variant, extension}
-use Rattle.vx_types.specs.Numbers.{code_of}
+use Rattle.vx_numbers.specs.Numbers.{code_of}
 use Rattle.vx_types.specs.Typ.{Typ, IsType, IsTypeNode}
 use Rattle.vx_type_wire.specs.TypeTable.{flag_of, bit_of, tag_of}
 use Rattle.vx_proto.specs.Value.{one_number, one_octets, one_message}

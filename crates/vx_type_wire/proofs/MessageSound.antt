@@ -21,9 +21,9 @@ use Rattle.vx_proto.specs.Value.{Content, octets, message, Entry, Value, slots_o
 use Rattle.vx_proto.specs.Codes.{value_again}
 use Rattle.vx_proto.proofs.LawsOfViews.{message_is}
 use Rattle.vx_types.specs.declared.nullability.Nullability.{Nullability}
-use Rattle.vx_types.specs.declared.ptype.PType.{PType}
+use Rattle.vx_numbers.specs.declared.ptype.PType.{PType}
 use Rattle.vx_types.specs.Kind.{Kind, null, boolean, utf8, binary, variant}
-use Rattle.vx_types.specs.Numbers.{code_of}
+use Rattle.vx_numbers.specs.Numbers.{code_of}
 use Rattle.vx_types.specs.Typ.{Typ}
 use Rattle.vx_type_wire.specs.TypeTable.{flag_of, bit_of}
 use Rattle.vx_type_wire.specs.Reading.{nullability_of, truth_of, ptypes, ptype_of, scale_of}

@@ -13,7 +13,7 @@ use Rattle.vx_proto.specs.Value.{Entry, Value, octets, one_number, one_octets, o
 use Rattle.vx_types.specs.Kind.{Kind, null, boolean, primitive, decimal, utf8, binary, list, fixed_size_list}
 use Rattle.vx_types.specs.Kind.{structure, union, map, variant, extension}
 use Rattle.vx_types.specs.Typ.{Typ, IsType}
-use Rattle.vx_types.specs.Numbers.{code_of}
+use Rattle.vx_numbers.specs.Numbers.{code_of}
 use Rattle.vx_proto.specs.declared.error.ProtoError.TheVariants as proto
 use Rattle.vx_type_wire.specs.declared.error.TypeWireError.{TypeWireError}
 use Rattle.vx_type_wire.specs.declared.error.TypeWireError.TheVariants as error

@@ -5,13 +5,13 @@ use Rattle.vx_trees.specs.Rose.{Roses, node, end, more, count}
 use Rattle.vx_types.specs.Fits.{Fits, FitParts, FitsMember, EachFits, FitBy, IsBoolean, IsOf, IsDecimal, IsUtf8, IsBinary, IsVariant, bare, bare_first}
 use Rattle.vx_types.specs.Kind as K
 use Rattle.vx_types.specs.Kind.{Kind}
-use Rattle.vx_types.specs.Numbers.{kind_of}
+use Rattle.vx_numbers.specs.Numbers.{kind_of}
 use Rattle.vx_types.specs.Typ.{Typ}
 use Rattle.vx_types.specs.Value.{Value, null, opaque, bool, number, decimal, utf8, binary, tuple, union, variant}
 use Rattle.vx_types.specs.Words.{with_nullability, with_first_nullability, entries}
 use Rattle.vx_types.specs.declared.nullability.Nullability.{Nullability}
 use Rattle.vx_types.specs.declared.nullability.Nullability.TheVariants.{Nullable}
-use Rattle.vx_types.specs.declared.ptype.PType.{PType}
+use Rattle.vx_numbers.specs.declared.ptype.PType.{PType}
 use Rattle.vx_types.proofs.Nullabilities.{nullable_under}
 
 -- ---- what a type is stored as, under another nullability

@@ -4,8 +4,8 @@ use Rattle.vx_trees.specs.Rose.{Rose, Roses, node, end, more, count}
 use Rattle.vx_types.specs.Kind.{Kind, null as null_kind, boolean, primitive, decimal as decimal_kind, utf8 as utf8_kind, binary as binary_kind, list, fixed_size_list, structure, union as union_kind, map, variant as variant_kind, extension}
 use Rattle.vx_types.specs.Typ.{Typ}
 use Rattle.vx_types.specs.Words.{nullability, entries}
-use Rattle.vx_types.specs.Numbers.{kind_of}
-use Rattle.vx_types.specs.declared.ptype.PType.{PType}
+use Rattle.vx_numbers.specs.Numbers.{kind_of}
+use Rattle.vx_numbers.specs.declared.ptype.PType.{PType}
 use Rattle.vx_types.specs.declared.nullability.Nullability.TheVariants.{Nullable}
 use Rattle.vx_types.specs.Value.{Value, Values, null, opaque, bool, number, decimal, utf8, binary, tuple, union, variant}
 

@@ -4,9 +4,9 @@ use Rattle.std.specs.Coded.{Coded, code_by, coded×, coded⊎, coded_ℕ, coded_
 use mathlib.Core.Logic.{inl, inr}
 use base.Stored.{coded_unit}
 use Rattle.vx_types.specs.declared.nullability.Nullability.{Nullability}
-use Rattle.vx_types.specs.declared.ptype.PType.{PType}
+use Rattle.vx_numbers.specs.declared.ptype.PType.{PType}
 use Rattle.vx_types.specs.contracts.nullability.Nullability as nullability
-use Rattle.vx_types.specs.contracts.ptype.PType as ptype
+use Rattle.vx_numbers.specs.contracts.ptype.PType as ptype
 
 -- Each kind but the first and the last says whether its rows may be null. Beside
 -- that a kind of numbers says which, a decimal its precision and scale, a list of

@@ -1,4 +1,3 @@
-pub mod Numbers
 pub mod Kind
 pub mod Content
 pub mod Digits
@@ -10,7 +9,6 @@ pub mod HeldTypes
 pub mod Falls
 pub mod Words
 pub mod Refused
-pub mod Decimals
 pub mod Known
 pub mod Value
 pub mod Fits

@@ -5,8 +5,8 @@ use Rattle.vx_trees.specs.Rose.{node, end, more}
 use Rattle.vx_trees.specs.Bytes.{AreBytes}
 use Rattle.vx_types.specs.Content.{IsText}
 use Rattle.vx_types.specs.Typ.{IsType}
-use Rattle.vx_types.specs.declared.value.PValue.{PValue}
-use Rattle.vx_types.specs.declared.value.PValue.TheVariants.{U8, U16, U32, U64, I8, I16, I32, I64, F16, F32, F64}
+use Rattle.vx_numbers.specs.declared.value.PValue.{PValue}
+use Rattle.vx_numbers.specs.declared.value.PValue.TheVariants.{U8, U16, U32, U64, I8, I16, I32, I64, F16, F32, F64}
 use Rattle.vx_types.specs.Value as V
 use Rattle.vx_types.specs.Value.{Value, Values, Mark, DecimalValue, number, decimal, utf8, binary, union, variant}
 

@@ -11,12 +11,12 @@ use crate::error::TypeError;
 use crate::ext::ExtDType;
 use crate::map::MapDType;
 use crate::nullability::Nullability;
-use crate::ptype::PType;
 use crate::same::is_same;
 use crate::struct_fields::StructFields;
 use crate::type_ref::TypeRef;
 use crate::union_variants::UnionVariants;
 use std::alloc::Global;
+use vx_numbers::PType;
 
 /// A logical type: what an array's rows may be, whatever their encoding.
 #[cycle(dtype)]

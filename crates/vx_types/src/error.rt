@@ -1,6 +1,6 @@
 //! Refusals of this crate.
 
-ghost use Rattle.std.specs.Prelude.{◌≡◌};
+ghost use Rattle.std.specs.Prelude.{◌≡◌, Ok, IfOk, IsOkUnless};
 ghost use Rattle.vx_types.specs.declared.error.TypeError.TheVariants.{OutOfMemory};
 
 use std::alloc::{AllocError, AllocFailed};
@@ -36,5 +36,17 @@ impl<T: Drop> From<AllocFailed<T>> for TypeError {
 
     fn from(_e: AllocFailed<T>) -> TypeError {
         TypeError::OutOfMemory
+    }
+}
+
+/// What a call of this crate made whose one refusal is want of memory, with that refusal as the allocator's own, which every
+/// crate tells in its words. No other refusal is told as that.
+pub fn or_memory<T: Drop>(made: Result<T, TypeError>) -> Result<T, AllocError>
+    requires only { IsOkUnless made TypeError.OutOfMemory }
+    ensures same { IfOk result (λ x. made ≡ Ok x) }
+{
+    match made {
+        Ok(value) => Ok(value),
+        Err(_) => Err(AllocError),
     }
 }

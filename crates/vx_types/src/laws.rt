@@ -2,13 +2,11 @@
 
 ghost use Rattle.std.specs.Prelude.{◌≡◌, ◌↔◌, IsTrue};
 ghost use Rattle.vx_trees.specs.Same.{same};
-ghost use Rattle.vx_types.specs.declared.decimal.DecimalType.{DecimalType};
 ghost use Rattle.vx_types.specs.declared.dtype.DType.{DType};
-ghost use Rattle.vx_types.specs.declared.ptype.PType.{PType};
-ghost use Rattle.vx_types.specs.Decimals.{decimal_code_of};
-ghost use Rattle.vx_types.specs.Numbers.{code_of};
 ghost use Rattle.vx_types.specs.Seen.{typ};
 ghost use Rattle.vx_types.specs.Typ.{Typ, typ_code};
+
+pub use vx_numbers::laws::{code_is_of_one_decimal_type, code_is_of_one_kind};
 
 /// Types that are seen as the same tree are the same type.
 pub fn same_tree_is_same_type()
@@ -19,14 +17,4 @@ pub fn same_tree_is_same_type()
 /// trees that they are seen as.
 pub fn equal_types_are_one_tree()
     ensures { (a b : Typ) → IsTrue (same typ_code a b) ↔ (a ≡ b) }
-{}
-
-/// A code is of one width of decimals at most.
-pub fn code_is_of_one_decimal_type()
-    ensures { (a b : DecimalType) → decimal_code_of a ≡ decimal_code_of b → a ≡ b }
-{}
-
-/// A code is of one kind of numbers at most.
-pub fn code_is_of_one_kind()
-    ensures { (a b : PType) → code_of a ≡ code_of b → a ≡ b }
 {}

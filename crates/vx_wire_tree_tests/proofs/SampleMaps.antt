@@ -4,7 +4,7 @@ use Rattle.vx_flat.specs.Value.{absent}
 use Rattle.vx_trees.specs.Rose.{more, end, label}
 use Rattle.vx_types.specs.Known.{no_readers}
 use Rattle.vx_types.specs.declared.nullability.Nullability.TheVariants.{NonNullable}
-use Rattle.vx_types.specs.declared.ptype.PType.TheVariants as P
+use Rattle.vx_numbers.specs.declared.ptype.PType.TheVariants as P
 use Rattle.vx_scalars.specs.Stats.{no_stats}
 use Rattle.vx_array_tree.specs.Encoding.{Encoding}
 use Rattle.vx_array_tree.specs.Encoding as E

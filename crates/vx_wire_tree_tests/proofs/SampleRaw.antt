@@ -8,7 +8,7 @@ use Rattle.vx_trees.specs.Rose.{node, end, more, label, below}
 use Rattle.vx_types.specs.Typ.{Typ}
 use Rattle.vx_types.specs.Value.{lone, opaque}
 use Rattle.vx_types.specs.declared.nullability.Nullability.TheVariants.{Nullable, NonNullable}
-use Rattle.vx_types.specs.declared.ptype.PType.TheVariants as P
+use Rattle.vx_numbers.specs.declared.ptype.PType.TheVariants as P
 use Rattle.vx_scalars.proofs.LawsStats.{none_fit}
 use Rattle.vx_array_tree.specs.Body.{Body}
 use Rattle.vx_array_tree.specs.Body as B

@@ -7,7 +7,7 @@ use Rattle.vx_flat.specs.Value.{absent}
 use Rattle.vx_trees.specs.Rose.{node, end, label}
 use Rattle.vx_types.specs.Known.{no_readers}
 use Rattle.vx_types.specs.declared.nullability.Nullability.TheVariants.{NonNullable}
-use Rattle.vx_types.specs.declared.ptype.PType.TheVariants as P
+use Rattle.vx_numbers.specs.declared.ptype.PType.TheVariants as P
 use Rattle.vx_array_tree.specs.Body as B
 use Rattle.vx_array_tree.specs.Encoding as E
 use Rattle.vx_array_tree.specs.Metadata as M

@@ -2,9 +2,9 @@
 use Rattle.std.specs.Prelude.{◌≡◌, [], ◌∷◌, ◌++◌, Some, None, false, true, codes, refl}
 use Rattle.vx_flat.specs.Value.{Field}
 use Rattle.vx_trees.specs.Rose.{node, label, below}
-use Rattle.vx_types.specs.declared.decimal.DecimalType.TheVariants as D
+use Rattle.vx_numbers.specs.declared.decimal_type.DecimalType.TheVariants as D
 use Rattle.vx_types.specs.declared.nullability.Nullability.TheVariants.{Nullable, NonNullable}
-use Rattle.vx_types.specs.declared.ptype.PType.TheVariants as P
+use Rattle.vx_numbers.specs.declared.ptype.PType.TheVariants as P
 use Rattle.vx_array_tree.specs.Metadata as M
 use Rattle.vx_array_tree.specs.Sound.{metadata_in}
 use Rattle.vx_array_tree.specs.Tree.{Tree}

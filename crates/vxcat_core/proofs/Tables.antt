@@ -13,7 +13,7 @@ use Rattle.vx_type_wire.specs.TypeTable.{type_table}
 use Rattle.vx_type_wire.specs.Written as T
 use Rattle.vx_type_wire.specs.declared.error.TypeWireError.{TypeWireError}
 use Rattle.vx_type_wire.specs.declared.error.TypeWireError.TheVariants as type_error
-use Rattle.vx_types.specs.declared.ptype.PType.TheVariants.{U8, U32}
+use Rattle.vx_numbers.specs.declared.ptype.PType.TheVariants.{U8, U32}
 use Rattle.vx_array_tree.specs.Body as B
 use Rattle.vx_array_tree.specs.Encoding as E
 use Rattle.vx_array_tree.specs.Encodings.Primitives as Primitives

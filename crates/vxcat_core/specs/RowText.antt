@@ -9,8 +9,8 @@ use Rattle.vx_types.specs.Fits.{bare, member}
 use Rattle.vx_types.specs.Kind.{Kind, list, fixed_size_list, structure, map, union as union_kind}
 use Rattle.vx_types.specs.Typ.{Typ}
 use Rattle.vx_types.specs.Value.{DecimalValue, i8, i16, i32, i64, i128, i256, Value, Values, null, opaque, bool, number, decimal as decimal_mark, utf8, binary, tuple, union, variant}
-use Rattle.vx_types.specs.declared.value.PValue.{PValue}
-use Rattle.vx_types.specs.declared.value.PValue.TheVariants.{U8, U16, U32, U64, I8, I16, I32, I64, F16, F32, F64}
+use Rattle.vx_numbers.specs.declared.value.PValue.{PValue}
+use Rattle.vx_numbers.specs.declared.value.PValue.TheVariants.{U8, U16, U32, U64, I8, I16, I32, I64, F16, F32, F64}
 
 -- ---- values without values in them
 

@@ -4,11 +4,11 @@ use Rattle.std.specs.Coded.{Coded, code_by, coded×}
 use Rattle.vx_buffer.specs.Buffer.{Buffer, coded_buffer}
 use Rattle.vx_trees.specs.Rose.{node, end}
 use Rattle.vx_types.specs.Kind.{decimal as decimal_kind}
-use Rattle.vx_types.specs.Decimals.{decimal_width_of}
+use Rattle.vx_numbers.specs.Decimals.{decimal_width_of}
 use Rattle.vx_types.specs.Typ.{Typ}
 use Rattle.vx_types.specs.Value.{decimal, lone}
-use Rattle.vx_types.specs.declared.decimal.DecimalType.{DecimalType}
-use Rattle.vx_types.specs.contracts.decimal.DecimalType as width
+use Rattle.vx_numbers.specs.declared.decimal_type.DecimalType.{DecimalType}
+use Rattle.vx_numbers.specs.contracts.decimal_type.DecimalType as width
 use Rattle.vx_array_tree.specs.Bytes.{decimal_at}
 use Rattle.vx_array_tree.specs.Place.{Place, AllowsValidity, before_validity}
 use Rattle.vx_array_tree.specs.Rows.{Rows, by_validity, validity}

@@ -3,10 +3,10 @@ use Rattle.std.specs.Prelude.{ℕ, ◌≡◌, ◌<◌, List, [], ◌∷◌, Opti
 use Rattle.std.specs.Coded.{Coded, code_by, coded_bool}
 use Rattle.vx_trees.specs.Rose.{node, end}
 use Rattle.vx_types.specs.Kind.{primitive}
-use Rattle.vx_types.specs.Numbers.{is_integer}
+use Rattle.vx_numbers.specs.Numbers.{is_integer}
 use Rattle.vx_types.specs.Typ.{Typ}
 use Rattle.vx_types.specs.Words.{nullability, with_nullability}
-use Rattle.vx_types.specs.declared.ptype.PType.{PType}
+use Rattle.vx_numbers.specs.declared.ptype.PType.{PType}
 use Rattle.vx_types.specs.declared.nullability.Nullability.{Nullability}
 use Rattle.vx_types.specs.declared.nullability.Nullability.TheVariants.{Nullable, NonNullable}
 use Rattle.vx_array_tree.specs.Place.{Place, place, exactly, first_place, second_place, ptype_of}

@@ -2,10 +2,10 @@
 use Rattle.std.specs.Prelude.{ℕ, suc, ◌-◌, List, [], ◌∷◌, Option, None, codes, IsTrue, Bool, nat_le}
 use Rattle.vx_trees.specs.Rose.{node, end, more}
 use Rattle.vx_types.specs.Kind.{list}
-use Rattle.vx_types.specs.Numbers.{is_integer}
+use Rattle.vx_numbers.specs.Numbers.{is_integer}
 use Rattle.vx_types.specs.Typ.{Typ}
 use Rattle.vx_types.specs.Value.{tuple}
-use Rattle.vx_types.specs.declared.ptype.PType.{PType}
+use Rattle.vx_numbers.specs.declared.ptype.PType.{PType}
 use Rattle.vx_array_tree.specs.Encodings.VarBins.{AreOffsets}
 use Rattle.vx_array_tree.specs.Place.{Place, place, numbers, is_len, when, AllowsValidity, before_validity, first_place, second_place, ptype_of}
 use Rattle.vx_array_tree.specs.Rows.{Rows, by_validity_with, validity, first, second, rest, index_at, values_from, cells_from}

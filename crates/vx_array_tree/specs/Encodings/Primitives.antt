@@ -4,7 +4,7 @@ use Rattle.std.specs.Coded.{Coded, code_by}
 use Rattle.vx_buffer.specs.Buffer.{Buffer, coded_buffer}
 use Rattle.vx_trees.specs.Rose.{node, end}
 use Rattle.vx_types.specs.Kind.{primitive}
-use Rattle.vx_types.specs.Numbers.{width_of}
+use Rattle.vx_numbers.specs.Numbers.{width_of}
 use Rattle.vx_types.specs.Typ.{Typ}
 use Rattle.vx_types.specs.Value.{number, lone}
 use Rattle.vx_array_tree.specs.Bytes.{primitive_at}

@@ -4,7 +4,7 @@ use Rattle.vx_trees.specs.Rose.{node, end, more}
 use Rattle.vx_types.specs.Kind.{primitive, union as union_kind}
 use Rattle.vx_types.specs.Typ.{Typ}
 use Rattle.vx_types.specs.Value.{union}
-use Rattle.vx_types.specs.declared.ptype.PType.TheVariants.{U8}
+use Rattle.vx_numbers.specs.declared.ptype.PType.TheVariants.{U8}
 use Rattle.vx_array_tree.specs.Place.{Place, place, exactly, places_at}
 use Rattle.vx_array_tree.specs.Rows.{Rows, by_validity_with, first, rest, index_at, IsIndex, IsThere, no_rows}
 

@@ -5,10 +5,10 @@ use Rattle.vx_buffer.specs.Buffer.{Buffer, coded_buffer}
 use Rattle.vx_trees.specs.Rose.{node, end}
 use Rattle.vx_types.specs.Kind.{utf8 as utf8_kind, binary as binary_kind}
 use Rattle.vx_types.specs.Content.{IsText}
-use Rattle.vx_types.specs.Numbers.{is_integer}
+use Rattle.vx_numbers.specs.Numbers.{is_integer}
 use Rattle.vx_types.specs.Typ.{Typ}
 use Rattle.vx_types.specs.Value.{Mark, utf8, binary, lone}
-use Rattle.vx_types.specs.declared.ptype.PType.{PType}
+use Rattle.vx_numbers.specs.declared.ptype.PType.{PType}
 use Rattle.vx_array_tree.specs.Place.{Place, place, numbers, is_len, when, AllowsValidity, before_validity, first_place, ptype_of}
 use Rattle.vx_array_tree.specs.Rows.{Rows, by_validity, validity, first, rest, index_at, IsIndex, IsThere}
 

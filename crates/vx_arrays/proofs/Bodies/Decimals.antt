@@ -5,7 +5,7 @@ use Rattle.vx_trees.specs.Rose.{node, end}
 use Rattle.vx_types.specs.Kind as K
 use Rattle.vx_types.specs.Digits.{Digits}
 use Rattle.vx_types.specs.Typ.{Typ}
-use Rattle.vx_types.specs.declared.decimal.DecimalType.{DecimalType}
+use Rattle.vx_numbers.specs.declared.decimal_type.DecimalType.{DecimalType}
 use Rattle.vx_types.specs.declared.nullability.Nullability.{Nullability}
 use Rattle.vx_array_tree.specs.Body.{Body}
 use Rattle.vx_array_tree.specs.Body as B

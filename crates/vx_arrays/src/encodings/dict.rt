@@ -25,7 +25,7 @@ use crate::validity::listed;
 use std::alloc::Global;
 use std::marker::Model;
 use vx_rows::{ArrayError, LoneRow};
-use vx_types::{DType, Nullability};
+use vx_types::{DType, Nullability, or_memory};
 
 /// What a node of a dictionary holds beside its codes and its values: a flag, which is kept as it is told.
 #[derive(Drop)]
@@ -217,10 +217,7 @@ fn raised_type(alloc: Global, nullability: Nullability, dtype: &DType) -> Result
         Nullability::Nullable => dtype.with_nullability(alloc, Nullability::Nullable),
         Nullability::NonNullable => dtype.clone(alloc),
     };
-    match raised {
-        Ok(raised) => Ok(raised),
-        Err(_) => Err(ArrayError::OutOfMemory),
-    }
+    Ok(or_memory(raised)?)
 }
 
 // Whether the values' type, with the nullability that codes bring, is the dictionary's. Where they bring none that the

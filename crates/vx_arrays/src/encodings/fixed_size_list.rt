@@ -23,7 +23,7 @@ use crate::parts::{RowParts, where_there};
 use crate::validity::{is_validity, parted, validity_at, with_validity};
 use std::alloc::Global;
 use vx_rows::ArrayError;
-use vx_types::{DType, Nullability, TypeRef};
+use vx_types::{DType, Nullability, TypeRef, or_memory};
 
 /// Arrays of lists of one size, whose elements stand one row's after the other's.
 pub struct FixedSizeListArray {}
@@ -156,11 +156,7 @@ fn list_type(
     ensures ok { IfOk result (λ d. typ d ≡ node (fixed_size_list size nullability) (more (typ element.now) end)) }
     ensures err { IsOkUnless result ArrayError.OutOfMemory }
 {
-    let Ok(element) = element.clone(alloc) else {
-        return Err(ArrayError::OutOfMemory);
-    };
-    match TypeRef::new(alloc, element) {
-        Ok(part) => Ok(DType::FixedSizeList(part, size, nullability)),
-        Err(_) => Err(ArrayError::OutOfMemory),
-    }
+    let element = or_memory(element.clone(alloc))?;
+    let part = or_memory(TypeRef::new(alloc, element))?;
+    Ok(DType::FixedSizeList(part, size, nullability))
 }

@@ -23,7 +23,7 @@ use std::fmt;
 use std::marker::Model;
 use vx_buffer::{BufferHandle, BufferHandles};
 use vx_rows::{ArrayError, owned_bytes};
-use vx_types::{Blob, DType, Id};
+use vx_types::{Blob, DType, Id, or_memory};
 
 /// An encoding that nothing reads: its identifier.
 #[derive(Debug, Drop)]
@@ -51,10 +51,8 @@ impl ForeignArray {
         ensures ok { IfOk result (λ array. array ≡ self.now) }
         ensures err { IsOkUnless result ArrayError.OutOfMemory }
     {
-        match self.id.clone(alloc) {
-            Ok(id) => Ok(ForeignArray { id }),
-            Err(_) => Err(ArrayError::OutOfMemory),
-        }
+        let id = or_memory(self.id.clone(alloc))?;
+        Ok(ForeignArray { id })
     }
 }
 

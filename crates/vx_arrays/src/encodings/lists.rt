@@ -26,7 +26,7 @@ use crate::place::is_of_type;
 use crate::validity::{listed, parted, stands_behind, validity_at};
 use std::alloc::Global;
 use vx_rows::ArrayError;
-use vx_types::{DType, Nullability, TypeRef};
+use vx_types::{DType, Nullability, TypeRef, or_memory};
 
 /// Arrays of lists, whose elements stand one row's after the other's, parted by offsets.
 pub struct ListArray {}
@@ -191,11 +191,7 @@ pub(crate) fn list_type(
     ensures ok { IfOk result (λ d. typ d ≡ node (list nullability) (more (typ element.now) end)) }
     ensures err { IsOkUnless result ArrayError.OutOfMemory }
 {
-    let Ok(element) = element.clone(alloc) else {
-        return Err(ArrayError::OutOfMemory);
-    };
-    match TypeRef::new(alloc, element) {
-        Ok(part) => Ok(DType::List(part, nullability)),
-        Err(_) => Err(ArrayError::OutOfMemory),
-    }
+    let element = or_memory(element.clone(alloc))?;
+    let part = or_memory(TypeRef::new(alloc, element))?;
+    Ok(DType::List(part, nullability))
 }

@@ -14,7 +14,7 @@ ghost use Rattle.vx_array_tree.specs.Sound.{IsSound, IsSoundNode};
 ghost use Rattle.vx_array_tree.specs.Tree.{array_place, rows_below, rows_of, untold};
 ghost use Rattle.vx_array_tree.specs.Place.{place};
 ghost use Rattle.vx_types.specs.Kind.{primitive};
-ghost use Rattle.vx_types.specs.declared.ptype.PType.TheVariants.{U8};
+ghost use Rattle.vx_numbers.specs.declared.ptype.PType.TheVariants.{U8};
 ghost use Rattle.vx_arrays.specs.Parts.{AreThere, parts_cells, parts_nodes, parts_value};
 ghost use Rattle.vx_arrays.specs.Refused.{RefusesMaking, IsOkOrMemory};
 ghost use Rattle.vx_arrays.specs.Unions.{IsTagged, union_head, union_tree};

@@ -12,14 +12,13 @@ ghost use Rattle.vx_encodings.specs.Steps.{IsPlanned, RefusesPlanning, IsBuilt, 
 ghost use Rattle.vx_encodings.specs.declared.encoding.Encoding.TheVariants.{Bool};
 
 use crate::buffers::only_buffer;
-use crate::error::{EncodingError, of_constructor};
-use crate::head::ArrayHead;
+use crate::error::of_constructor;
 use crate::messages::{read_message, write_message};
-use crate::plans::ChildPlans;
-use crate::validity::{only_validity, plan_validity};
+use crate::validity::only_validity;
 use std::alloc::Global;
 use vx_arrays::{Array, Arrays, BoolArray, BoolData};
 use vx_buffer::BufferHandles;
+use vx_plans::{ArrayHead, ChildPlans, EncodingError, plan_validity};
 use vx_proto::{Element, Entries, Message, ProtoError, ScalarKind, Schema, Slot, one, u32_at};
 use vx_types::{Blob, DType};
 

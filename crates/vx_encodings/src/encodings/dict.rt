@@ -18,16 +18,16 @@ ghost use Rattle.vx_array_tree.specs.Tree.{places};
 ghost use Rattle.vx_wire_tree.specs.Fields.{codes_nullability, told};
 ghost use Rattle.vx_encodings.specs.DictMessage.{dict_schema, dict_value, flag_content, flag_of, same_dict};
 ghost use Rattle.vx_encodings.specs.Messages.{message_bytes};
-ghost use Rattle.vx_encodings.specs.Steps.{IsPlanned, RefusesPlanning, IsBuilt, RefusesBuilding, RefusesPlaces};
+ghost use Rattle.vx_encodings.specs.Steps.{IsPlanned, RefusesPlanning, IsBuilt, RefusesBuilding};
+ghost use Rattle.vx_plans.specs.Plans.{RefusesPlaces};
 ghost use Rattle.vx_encodings.specs.declared.encoding.Encoding.TheVariants.{Dict};
 
-use crate::error::{EncodingError, of_constructor};
-use crate::head::ArrayHead;
+use crate::error::of_constructor;
 use crate::messages::{read_message, write_message};
-use crate::plans::{ChildPlan, ChildPlans, plan_of};
 use std::alloc::Global;
 use vx_arrays::{Array, Arrays, DictArray, DictData};
 use vx_buffer::BufferHandles;
+use vx_plans::{ArrayHead, ChildPlan, ChildPlans, EncodingError, plan_of};
 use vx_proto::{
     Element, Entries, Message, ProtoError, ScalarKind, Schema, Slot, flag, number_at, one, u8_at,
     u32_at,

@@ -6,17 +6,17 @@ ghost use Rattle.vx_types.specs.Seen.{typ};
 ghost use Rattle.vx_array_tree.specs.Place.{before_validity, is_len, place, when};
 ghost use Rattle.vx_array_tree.specs.Sound.{IsSound};
 ghost use Rattle.vx_array_tree.specs.Tree.{places};
-ghost use Rattle.vx_encodings.specs.Steps.{IsPlanned, RefusesPlanning, IsBuilt, RefusesBuilding, RefusesPlaces};
+ghost use Rattle.vx_encodings.specs.Steps.{IsPlanned, RefusesPlanning, IsBuilt, RefusesBuilding};
+ghost use Rattle.vx_plans.specs.Plans.{RefusesPlaces};
 ghost use Rattle.vx_encodings.specs.declared.encoding.Encoding.TheVariants.{FixedSizeList};
 
 use crate::empty_metadata::read_empty;
-use crate::error::{EncodingError, of_constructor};
-use crate::head::ArrayHead;
-use crate::plans::{ChildPlans, plan_of};
-use crate::validity::{first_and_validity, plan_behind};
+use crate::error::of_constructor;
+use crate::validity::first_and_validity;
 use std::alloc::Global;
 use vx_arrays::{Array, Arrays, FixedSizeListArray};
 use vx_buffer::BufferHandles;
+use vx_plans::{ArrayHead, ChildPlans, EncodingError, plan_behind, plan_of};
 use vx_types::DType;
 
 // What the children of a node of lists of one size are to be: so many elements for each row, and at most a validity.

@@ -11,19 +11,17 @@ ghost use Rattle.vx_array_tree.specs.Place.{before_validity, numbers, place};
 ghost use Rattle.vx_array_tree.specs.Sound.{IsSound};
 ghost use Rattle.vx_array_tree.specs.Tree.{places};
 ghost use Rattle.vx_encodings.specs.ListViewMessage.{kept_views, view_schema, view_value, view_bytes, same_views};
-ghost use Rattle.vx_encodings.specs.Plain.{planned_place};
-ghost use Rattle.vx_encodings.specs.Steps.{IsPlanned, RefusesPlanning, IsBuilt, RefusesBuilding, RefusesPlaces};
+ghost use Rattle.vx_plans.specs.Plans.{planned_place, RefusesPlaces};
+ghost use Rattle.vx_encodings.specs.Steps.{IsPlanned, RefusesPlanning, IsBuilt, RefusesBuilding};
 ghost use Rattle.vx_encodings.specs.declared.encoding.Encoding.TheVariants.{ListView};
 
 use crate::encodings::lists::{count_of, kind_of};
-use crate::error::{EncodingError, of_constructor};
-use crate::head::ArrayHead;
+use crate::error::of_constructor;
 use crate::messages::{kind_at, read_message, write_message};
-use crate::plans::{ChildPlan, ChildPlans, plan_of};
-use crate::validity::plan_behind_all;
 use std::alloc::Global;
 use vx_arrays::{Array, Arrays, ListViewArray};
 use vx_buffer::BufferHandles;
+use vx_plans::{ArrayHead, ChildPlan, ChildPlans, EncodingError, plan_behind_all, plan_of};
 use vx_proto::{Element, Entries, Message, ProtoError, ScalarKind, Schema, Slot, one, u64_at};
 use vx_types::{Blob, DType, Nullability, PType};
 

@@ -9,17 +9,17 @@ ghost use Rattle.vx_types.specs.Words.{entries};
 ghost use Rattle.vx_array_tree.specs.Place.{exactly, place};
 ghost use Rattle.vx_array_tree.specs.Sound.{IsSound};
 ghost use Rattle.vx_array_tree.specs.Tree.{places};
-ghost use Rattle.vx_encodings.specs.Steps.{IsPlanned, RefusesPlanning, IsBuilt, RefusesBuilding, RefusesPlaces};
+ghost use Rattle.vx_encodings.specs.Steps.{IsPlanned, RefusesPlanning, IsBuilt, RefusesBuilding};
+ghost use Rattle.vx_plans.specs.Plans.{RefusesPlaces};
 ghost use Rattle.vx_encodings.specs.declared.encoding.Encoding.TheVariants.{Map};
 
 use crate::empty_metadata::read_empty;
-use crate::error::{EncodingError, of_constructor};
-use crate::head::ArrayHead;
-use crate::plans::{ChildPlan, ChildPlans, plan_only};
+use crate::error::of_constructor;
 use std::alloc::Global;
 use vx_arrays::{Array, Arrays, MapArray};
 use vx_buffer::BufferHandles;
-use vx_types::{DType, MapDType, Nullability, TypeRef};
+use vx_plans::{ArrayHead, ChildPlan, ChildPlans, EncodingError, plan_only};
+use vx_types::{DType, MapDType, Nullability, TypeRef, or_memory};
 
 // What the children of a node of maps are to be: lists of entries, which are null where the maps are.
 #[tactic(auto, using(crate::proofs::MapSteps::map_steps))]
@@ -60,13 +60,9 @@ fn lists_of_entries(
     ensures ok { IfOk result (λ d. typ d ≡ node (list nullability) (more (entries map.now) end)) }
     ensures err { IsOkUnless result EncodingError.OutOfMemory }
 {
-    let Ok(entry) = map.entries_dtype(alloc) else {
-        return Err(EncodingError::OutOfMemory);
-    };
-    match TypeRef::new(alloc, entry) {
-        Ok(element) => Ok(DType::List(element, nullability)),
-        Err(_) => Err(EncodingError::OutOfMemory),
-    }
+    let entry = or_memory(map.entries_dtype(alloc))?;
+    let element = or_memory(TypeRef::new(alloc, entry))?;
+    Ok(DType::List(element, nullability))
 }
 
 // The node of maps of these parts.

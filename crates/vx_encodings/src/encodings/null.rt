@@ -8,12 +8,11 @@ ghost use Rattle.vx_encodings.specs.Steps.{IsPlanned, RefusesPlanning, IsBuilt, 
 ghost use Rattle.vx_encodings.specs.declared.encoding.Encoding.TheVariants.{Null};
 
 use crate::empty_metadata::read_empty;
-use crate::error::{EncodingError, of_constructor};
-use crate::head::ArrayHead;
-use crate::plans::ChildPlans;
+use crate::error::of_constructor;
 use std::alloc::Global;
 use vx_arrays::{Array, Arrays, NullArray};
 use vx_buffer::BufferHandles;
+use vx_plans::{ArrayHead, ChildPlans, EncodingError};
 use vx_types::DType;
 
 // What the children of a node of nulls are to be: none.

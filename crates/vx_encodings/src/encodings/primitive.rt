@@ -9,13 +9,12 @@ ghost use Rattle.vx_encodings.specs.declared.encoding.Encoding.TheVariants.{Prim
 
 use crate::buffers::only_buffer;
 use crate::empty_metadata::read_empty;
-use crate::error::{EncodingError, of_constructor};
-use crate::head::ArrayHead;
-use crate::plans::ChildPlans;
-use crate::validity::{only_validity, plan_validity};
+use crate::error::of_constructor;
+use crate::validity::only_validity;
 use std::alloc::Global;
 use vx_arrays::{Array, Arrays, PrimitiveArray};
 use vx_buffer::BufferHandles;
+use vx_plans::{ArrayHead, ChildPlans, EncodingError, plan_validity};
 use vx_types::DType;
 
 // What the children of a node of numbers are to be: at most a validity.

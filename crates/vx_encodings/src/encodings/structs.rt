@@ -8,17 +8,16 @@ ghost use Rattle.vx_array_tree.specs.Place.{behind_validity as behind, places_at
 ghost use Rattle.vx_array_tree.specs.Sound.{IsSound};
 ghost use Rattle.vx_array_tree.specs.Tree.{places};
 ghost use Rattle.vx_arrays.specs.Structs.{behind_validity};
-ghost use Rattle.vx_encodings.specs.Steps.{IsPlanned, RefusesPlanning, IsBuilt, RefusesBuilding, RefusesPlaces};
+ghost use Rattle.vx_encodings.specs.Steps.{IsPlanned, RefusesPlanning, IsBuilt, RefusesBuilding};
+ghost use Rattle.vx_plans.specs.Plans.{RefusesPlaces};
 ghost use Rattle.vx_encodings.specs.declared.encoding.Encoding.TheVariants.{Struct};
 
 use crate::empty_metadata::read_empty;
-use crate::error::{EncodingError, of_constructor};
-use crate::head::ArrayHead;
-use crate::plans::{ChildPlans, plan_of};
-use crate::validity::validity_of;
+use crate::error::of_constructor;
 use std::alloc::Global;
 use vx_arrays::{Array, Arrays, StructArray};
 use vx_buffer::BufferHandles;
+use vx_plans::{ArrayHead, ChildPlans, EncodingError, plan_of, validity_of};
 use vx_types::DType;
 
 // What the children of a node of structures are to be: at most a validity, and then a child for each field.

@@ -5,22 +5,21 @@ ghost use Rattle.vx_trees.specs.Rose.{end, node, roses_of};
 ghost use Rattle.vx_types.specs.Kind.{primitive};
 ghost use Rattle.vx_types.specs.Known.{ExtMeaning};
 ghost use Rattle.vx_types.specs.Seen.{typs};
-ghost use Rattle.vx_types.specs.declared.ptype.PType.TheVariants.{U8};
+ghost use Rattle.vx_numbers.specs.declared.ptype.PType.TheVariants.{U8};
 ghost use Rattle.vx_array_tree.specs.Place.{exactly, place, places_at};
 ghost use Rattle.vx_array_tree.specs.Sound.{IsSound};
 ghost use Rattle.vx_array_tree.specs.Tree.{places};
-ghost use Rattle.vx_encodings.specs.Plain.{planned_place};
-ghost use Rattle.vx_encodings.specs.Steps.{IsPlanned, RefusesPlanning, IsBuilt, RefusesBuilding, RefusesPlaces};
+ghost use Rattle.vx_plans.specs.Plans.{planned_place, RefusesPlaces};
+ghost use Rattle.vx_encodings.specs.Steps.{IsPlanned, RefusesPlanning, IsBuilt, RefusesBuilding};
 ghost use Rattle.vx_encodings.specs.declared.encoding.Encoding.TheVariants.{Union};
 
 use crate::empty_metadata::read_empty;
 use crate::encodings::structs::with_fields;
-use crate::error::{EncodingError, of_constructor};
-use crate::head::ArrayHead;
-use crate::plans::{ChildPlan, ChildPlans};
+use crate::error::of_constructor;
 use std::alloc::Global;
 use vx_arrays::{Array, Arrays, UnionArray};
 use vx_buffer::BufferHandles;
+use vx_plans::{ArrayHead, ChildPlan, ChildPlans, EncodingError};
 use vx_types::{DType, Nullability, PType};
 
 // What the children of a node of unions are to be: the tags, and then a child for each member.

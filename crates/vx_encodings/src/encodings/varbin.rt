@@ -15,14 +15,13 @@ ghost use Rattle.vx_encodings.specs.VarBinMessage.{varbin_schema, varbin_value, 
 ghost use Rattle.vx_encodings.specs.declared.encoding.Encoding.TheVariants.{VarBin};
 
 use crate::buffers::only_buffer;
-use crate::error::{EncodingError, of_constructor};
-use crate::head::ArrayHead;
+use crate::error::of_constructor;
 use crate::messages::{read_message, write_message};
-use crate::plans::{ChildPlan, ChildPlans};
-use crate::validity::{first_and_validity, plan_behind};
+use crate::validity::first_and_validity;
 use std::alloc::Global;
 use vx_arrays::{Array, Arrays, VarBinArray};
 use vx_buffer::BufferHandles;
+use vx_plans::{ArrayHead, ChildPlan, ChildPlans, EncodingError, plan_behind};
 use vx_proto::{Element, Entries, Message, ProtoError, ScalarKind, Schema, Slot, one, u8_at};
 use vx_types::{Blob, DType, Nullability, PType};
 

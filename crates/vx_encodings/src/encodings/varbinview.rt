@@ -10,13 +10,12 @@ ghost use Rattle.vx_encodings.specs.declared.encoding.Encoding.TheVariants.{VarB
 
 use crate::empty_metadata::read_empty;
 use crate::encodings::varbin::is_of_bytes;
-use crate::error::{EncodingError, of_constructor};
-use crate::head::ArrayHead;
-use crate::plans::ChildPlans;
-use crate::validity::{only_validity, plan_validity};
+use crate::error::of_constructor;
+use crate::validity::only_validity;
 use std::alloc::Global;
 use vx_arrays::{Array, Arrays, VarBinViewArray};
 use vx_buffer::BufferHandles;
+use vx_plans::{ArrayHead, ChildPlans, EncodingError, plan_validity};
 
 // What the children of a node of texts or of bytes by views are to be: at most a validity.
 #[tactic(auto, using(crate::proofs::VarBinViewSteps::varbinview_steps))]

@@ -16,18 +16,17 @@ ghost use Rattle.vx_array_tree.specs.Sound.{IsSound};
 ghost use Rattle.vx_array_tree.specs.Tree.{places};
 ghost use Rattle.vx_wire_tree.specs.Fields.{FitsMessage, told};
 ghost use Rattle.vx_encodings.specs.Messages.{message_bytes};
-ghost use Rattle.vx_encodings.specs.Plain.{planned_place};
-ghost use Rattle.vx_encodings.specs.Steps.{IsPlanned, RefusesPlanning, IsBuilt, RefusesBuilding, RefusesPlaces};
+ghost use Rattle.vx_plans.specs.Plans.{planned_place, RefusesPlaces};
+ghost use Rattle.vx_encodings.specs.Steps.{IsPlanned, RefusesPlanning, IsBuilt, RefusesBuilding};
 ghost use Rattle.vx_encodings.specs.VariantMessage.{IsShredded, RefusesShredded, RefusesShreddedType, child_places, variant_schema, variant_value, variant_parts};
 ghost use Rattle.vx_encodings.specs.declared.encoding.Encoding.TheVariants.{Variant};
 
-use crate::error::{EncodingError, of_constructor, of_message};
-use crate::head::ArrayHead;
+use crate::error::{of_constructor, of_message};
 use crate::messages::write_message;
-use crate::plans::{ChildPlan, ChildPlans, plan_of, plan_only};
 use std::alloc::Global;
 use vx_arrays::{Array, Arrays, VariantArray};
 use vx_buffer::BufferHandles;
+use vx_plans::{ArrayHead, ChildPlan, ChildPlans, EncodingError, plan_of, plan_only};
 use vx_proto::{
     Element, Entries, Kind, Member, Message, PlainMessage, ProtoError, Schema, Slot, one,
     take_message,

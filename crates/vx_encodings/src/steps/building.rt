@@ -8,11 +8,10 @@ ghost use Rattle.vx_encodings.specs.Steps.{IsPlanned, IsBuilt, RefusesBuilding};
 
 use crate::encoding::Encoding;
 use crate::encodings;
-use crate::error::EncodingError;
-use crate::head::ArrayHead;
 use std::alloc::Global;
 use vx_arrays::{Array, Arrays};
 use vx_buffer::BufferHandles;
+use vx_plans::{ArrayHead, EncodingError};
 use vx_type_wire::ExtSession;
 
 // The node that the encoding's file builds.

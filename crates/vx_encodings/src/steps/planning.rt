@@ -6,10 +6,8 @@ ghost use Rattle.vx_encodings.specs.Steps.{IsPlanned, RefusesPlanning};
 
 use crate::encoding::Encoding;
 use crate::encodings;
-use crate::error::EncodingError;
-use crate::head::ArrayHead;
-use crate::plans::ChildPlans;
 use std::alloc::Global;
+use vx_plans::{ArrayHead, ChildPlans, EncodingError};
 use vx_type_wire::ExtSession;
 
 // The plan of the encoding's file.

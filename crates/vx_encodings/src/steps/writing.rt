@@ -9,10 +9,10 @@ ghost use Rattle.vx_encodings.specs.Messages.{message_bytes};
 
 use crate::empty_metadata::write_empty;
 use crate::encodings;
-use crate::error::EncodingError;
 use std::alloc::Global;
 use vx_arrays::{Array, Body, ForeignData};
-use vx_types::Blob;
+use vx_plans::EncodingError;
+use vx_types::{Blob, or_memory};
 
 // The bytes of metadata that fits its message.
 #[tactic(auto, using(crate::proofs::Kept::kept, crate::proofs::DictWritten::values_counted, crate::proofs::VariantFields::typed_fit))]
@@ -46,8 +46,5 @@ fn kept_bytes(alloc: Global, kept: &ForeignData) -> Result<Blob, EncodingError>
     ensures ok { IfOk result (λ bytes. bytes ≡ kept.now.metadata) }
     ensures err { IsOkUnless result EncodingError.OutOfMemory }
 {
-    match kept.metadata().clone(alloc) {
-        Ok(bytes) => Ok(bytes),
-        Err(_) => Err(EncodingError::OutOfMemory),
-    }
+    Ok(or_memory(kept.metadata().clone(alloc))?)
 }

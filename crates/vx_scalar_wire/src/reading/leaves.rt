@@ -14,10 +14,10 @@ ghost use Rattle.vx_scalar_wire.specs.Answers.{GivesValue, lone_member};
 ghost use Rattle.vx_scalar_wire.specs.Refusing.{is_one_of};
 ghost use Rattle.vx_scalar_wire.specs.ScalarMessage.{decimal_bytes, scalar_lists};
 
-use crate::error::{ScalarWireError, or_memory};
+use crate::error::ScalarWireError;
 use std::alloc::Global;
 use vx_scalars::{DecimalValue, ScalarValue, bare_dtype};
-use vx_types::{Blob, DType, Name};
+use vx_types::{Blob, DType, Name, or_memory};
 
 /// What a string or bytes are read as at a type: a text where they are one, or
 /// bytes; bytes as a decimal's integer, too, by how many they are.

@@ -2,10 +2,10 @@
 
 ghost use Rattle.std.specs.Prelude.{◌≡◌, ◌<◌, ℕ, IfOk, IfErr, Some};
 ghost use Rattle.vx_types.specs.Fits.{IsOf, bare};
-ghost use Rattle.vx_types.specs.Numbers.{kind_of};
+ghost use Rattle.vx_numbers.specs.Numbers.{kind_of};
 ghost use Rattle.vx_types.specs.Well.{IsInRange};
-ghost use Rattle.vx_types.specs.declared.ptype.PType.{PType};
-ghost use Rattle.vx_types.specs.declared.value.PValue.{PValue};
+ghost use Rattle.vx_numbers.specs.declared.ptype.PType.{PType};
+ghost use Rattle.vx_numbers.specs.declared.value.PValue.{PValue};
 ghost use Rattle.vx_types.specs.Value as V;
 ghost use Rattle.vx_proto.specs.Signed.{zigzag};
 ghost use Rattle.vx_proto.specs.Value.{number as a_number};

@@ -10,7 +10,7 @@ use crate::error::WireError;
 use std::alloc::Global;
 use vx_flat::View;
 use vx_scalars::Stat;
-use vx_types::{Name, Names};
+use vx_types::{Name, Names, or_memory};
 
 /// The names of the statistics that stand in a table, in the order in which a table has them.
 pub(crate) fn names_of(alloc: Global, table: &View<'_>) -> Result<Names, WireError>
@@ -58,13 +58,8 @@ fn push_name(
     if !stands(table, stat) {
         return Ok(());
     }
-    let Ok(name) = Name::new(alloc, name_of(stat)) else {
-        return Err(WireError::OutOfMemory);
-    };
-    match names.push(name) {
-        Ok(()) => Ok(()),
-        Err(_) => Err(WireError::OutOfMemory),
-    }
+    let name = or_memory(Name::new(alloc, name_of(stat)))?;
+    Ok(or_memory(names.push(name))?)
 }
 
 /// The name of a statistic's field.

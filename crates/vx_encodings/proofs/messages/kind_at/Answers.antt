@@ -1,6 +1,6 @@
 -- A kind of this code there is.
 use Rattle.std.proofs.Common.{◌≡◌, ap, sym, ◌∙◌, Some, arith}
-use Rattle.vx_types.specs.Numbers.{code_of}
+use Rattle.vx_numbers.specs.Numbers.{code_of}
 use Rattle.vx_encodings.proofs.OffsetKinds.{few_kinds}
 use Rattle.vx_encodings.proofs.messages.kind_at.Goals as goal
 

@@ -6,7 +6,7 @@ use Rattle.vx_encodings.proofs.DictSteps.{dicts_built, dicts_refused}
 use Rattle.vx_encodings.specs.DictMessage.{dict_schema, dict_value}
 use Rattle.vx_encodings.specs.Steps.{RefusesBuilding}
 use Rattle.vx_encodings.specs.declared.encoding.Encoding.TheVariants.{Dict}
-use Rattle.vx_encodings.specs.declared.error.EncodingError.{EncodingError}
+use Rattle.vx_plans.specs.declared.error.EncodingError.{EncodingError}
 use Rattle.vx_encodings.proofs.encodings.dict.build.Goals as goal
 
 pub returns-in-Ok-clause-parts : goal.returns-in-Ok-clause-parts

@@ -2,7 +2,7 @@ use Rattle.std.proofs.Common.{◌∙◌, sym, subst}
 use Rattle.vx_encodings.proofs.FixedSizeListSteps.{few_children, lists_built, lists_refused}
 use Rattle.vx_encodings.specs.Steps.{RefusesBuilding}
 use Rattle.vx_encodings.specs.declared.encoding.Encoding.TheVariants.{FixedSizeList}
-use Rattle.vx_encodings.specs.declared.error.EncodingError.{EncodingError}
+use Rattle.vx_plans.specs.declared.error.EncodingError.{EncodingError}
 use Rattle.vx_encodings.proofs.encodings.fixed_size_list.build.Goals as goal
 
 pub first_and_validity-elements-requires-clause-few : goal.first_and_validity-elements-requires-clause-few

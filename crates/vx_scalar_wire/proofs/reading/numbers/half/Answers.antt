@@ -2,7 +2,7 @@ use Rattle.std.proofs.Common.{subst, refl, inl}
 use Rattle.vx_proto.specs.Value.{number}
 use Rattle.vx_types.specs.Fits.{IsOf, bare}
 use Rattle.vx_types.specs.Seen.{typ}
-use Rattle.vx_types.specs.declared.value.PValue.TheVariants.{F16}
+use Rattle.vx_numbers.specs.declared.value.PValue.TheVariants.{F16}
 use Rattle.vx_scalar_wire.proofs.Leaves.{float_given, no_half, other_half}
 use Rattle.vx_scalar_wire.proofs.reading.numbers.half.Goals as goal
 

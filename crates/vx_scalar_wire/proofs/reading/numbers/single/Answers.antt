@@ -2,7 +2,7 @@ use Rattle.std.proofs.Common.{subst, refl}
 use Rattle.vx_proto.specs.Value.{number}
 use Rattle.vx_types.specs.Fits.{IsOf, bare}
 use Rattle.vx_types.specs.Seen.{typ}
-use Rattle.vx_types.specs.declared.value.PValue.TheVariants.{F32}
+use Rattle.vx_numbers.specs.declared.value.PValue.TheVariants.{F32}
 use Rattle.vx_scalar_wire.proofs.Leaves.{float_given, no_single, other_single}
 use Rattle.vx_scalar_wire.proofs.reading.numbers.single.Goals as goal
 

@@ -1,5 +1,5 @@
 use Rattle.std.proofs.Common.{refl}
-use Rattle.vx_types.specs.Decimals.{decimal_code_of}
+use Rattle.vx_numbers.specs.Decimals.{decimal_code_of}
 use Rattle.vx_proto.specs.declared.schema.ScalarKind.TheVariants.{Enum}
 use Rattle.vx_encodings.proofs.Numbers.{number_formed}
 use Rattle.vx_encodings.proofs.Widths.{few_codes}

@@ -1,6 +1,6 @@
 -- A plain value of the form of the message is of its fields.
 use Rattle.std.proofs.Common.{◌≡◌, option_map, ap, sym, ◌∙◌, Some, arith}
-use Rattle.vx_types.specs.Numbers.{code_of}
+use Rattle.vx_numbers.specs.Numbers.{code_of}
 use Rattle.vx_proto.specs.Parts.{number_in, entries_in}
 use Rattle.vx_proto.specs.Value.{value_view}
 use Rattle.vx_proto.proofs.LawsOfParts.{whole_read, enum_range, uint32_range}

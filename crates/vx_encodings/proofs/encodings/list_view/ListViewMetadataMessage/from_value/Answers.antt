@@ -1,7 +1,7 @@
 -- What stands in the three slots is the metadata's.
 use Rattle.std.proofs.Common.{ℕ, ◌≡◌, ap, sym, ◌∙◌, Some}
 use Rattle.std.proofs.lemmas.Option.{same_Some}
-use Rattle.vx_types.specs.Numbers.{code_of}
+use Rattle.vx_numbers.specs.Numbers.{code_of}
 use Rattle.vx_proto.specs.Parts.{number_in, entries_in}
 use Rattle.vx_proto.specs.Value.{value_view}
 use Rattle.vx_proto.proofs.LawsOfParts.{whole_read, enum_range}

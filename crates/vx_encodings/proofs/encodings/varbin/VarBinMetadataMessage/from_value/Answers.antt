@@ -1,5 +1,5 @@
 use Rattle.std.proofs.Common.{◌≡◌, ap, sym, ◌∙◌, Some, arith}
-use Rattle.vx_types.specs.Numbers.{code_of}
+use Rattle.vx_numbers.specs.Numbers.{code_of}
 use Rattle.vx_proto.specs.Parts.{number_in, entries_in}
 use Rattle.vx_proto.specs.Value.{value_view}
 use Rattle.vx_proto.specs.declared.schema.ScalarKind.TheVariants.{Enum}

@@ -1,7 +1,7 @@
 -- What is said of the widths of decimals.
 use Rattle.std.specs.Prelude.{ℕ}
-use Rattle.vx_types.specs.declared.decimal.DecimalType.{DecimalType}
-use Rattle.vx_types.specs.declared.decimal.DecimalType.TheVariants.{I8, I16, I32, I64, I128, I256}
+use Rattle.vx_numbers.specs.declared.decimal_type.DecimalType.{DecimalType}
+use Rattle.vx_numbers.specs.declared.decimal_type.DecimalType.TheVariants.{I8, I16, I32, I64, I128, I256}
 
 -- The integer that holds a decimal takes an eighth as many bytes as its name says
 -- bits.

@@ -1,7 +1,7 @@
 //! Single numbers.
 
 ghost use Rattle.std.specs.Prelude.{◌≡◌};
-ghost use Rattle.vx_types.specs.Numbers.{kind_of};
+ghost use Rattle.vx_numbers.specs.Numbers.{kind_of};
 
 use crate::ptype::PType;
 

@@ -3,13 +3,12 @@
 ghost use Rattle.std.specs.Prelude.{◌≡◌, ◌∷◌, ◌++◌, [], length, slice_get, option_map, Some, IfOk, IfErr, OnOk, OnErr, IsOkUnless};
 ghost use Rattle.vx_types.specs.Seen.{typ};
 ghost use Rattle.vx_array_tree.specs.Place.{exactly, place};
-ghost use Rattle.vx_encodings.specs.Plain.{planned_place};
-ghost use Rattle.vx_encodings.specs.Steps.{RefusesPlaces};
+ghost use Rattle.vx_plans.specs.Plans.{planned_place, RefusesPlaces};
 
 use crate::error::EncodingError;
 use std::alloc::Global;
 use std::marker::Model;
-use vx_types::DType;
+use vx_types::{DType, or_memory};
 
 /// What a child is to be.
 #[derive(Drop)]
@@ -20,15 +19,13 @@ pub struct ChildPlan {
     pub len: usize,
 }
 
-// A child that is to be of this type and length.
-pub(crate) fn plan_of(alloc: Global, dtype: &DType, len: usize) -> Result<ChildPlan, EncodingError>
+/// A child that is to be of this type and length. The only refusal is want of memory.
+pub fn plan_of(alloc: Global, dtype: &DType, len: usize) -> Result<ChildPlan, EncodingError>
     ensures ok { IfOk result (λ plan. planned_place plan ≡ place (typ dtype.now) len) }
     ensures err { IsOkUnless result EncodingError.OutOfMemory }
 {
-    match dtype.clone(alloc) {
-        Ok(dtype) => Ok(ChildPlan { dtype, len }),
-        Err(_) => Err(EncodingError::OutOfMemory),
-    }
+    let dtype = or_memory(dtype.clone(alloc))?;
+    Ok(ChildPlan { dtype, len })
 }
 
 /// What the children of a node are to be, in their order. Contracts see their places.
@@ -40,7 +37,7 @@ pub struct ChildPlans {
 impl Model for ChildPlans {
     ghost use Rattle.std.specs.Prelude.{List, map};
     ghost use Rattle.vx_array_tree.specs.Place.{Place, places_code};
-    ghost use Rattle.vx_encodings.specs.Plain.{planned_place};
+    ghost use Rattle.vx_plans.specs.Plans.{planned_place};
 
     ghost Value = { List Place };
 
@@ -50,7 +47,7 @@ impl Model for ChildPlans {
 }
 
 impl ChildPlans {
-    ghost use Rattle.vx_encodings.specs.Plain.{planned_place};
+    ghost use Rattle.vx_plans.specs.Plans.{planned_place};
 
     /// No children. It takes no memory.
     pub fn new(alloc: Global) -> ChildPlans
@@ -86,13 +83,9 @@ impl ChildPlans {
     }
 }
 
-// A child, where it is the only one.
+/// A child, where it is the only one: `BadShape` exactly for another number of children.
 #[tactic(auto, using(crate::proofs::Alone::alone))]
-pub(crate) fn plan_only(
-    alloc: Global,
-    plan: ChildPlan,
-    count: usize,
-) -> Result<ChildPlans, EncodingError>
+pub fn plan_only(alloc: Global, plan: ChildPlan, count: usize) -> Result<ChildPlans, EncodingError>
     ensures plan { IfOk result (λ plans. exactly (planned_place plan ∷ []) count ≡ Some plans) }
     ensures err { IfErr result (λ e. RefusesPlaces e (exactly (planned_place plan ∷ []) count)) }
 {

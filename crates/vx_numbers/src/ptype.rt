@@ -1,8 +1,8 @@
 //! The kinds of numbers.
 
 ghost use Rattle.std.specs.Prelude.{◌≡◌, ◌≤◌, IfSome, Some};
-ghost use Rattle.vx_types.specs.declared.ptype.PType.{PType};
-ghost use Rattle.vx_types.specs.Numbers.{width_of, is_integer, code_of};
+ghost use Rattle.vx_numbers.specs.declared.ptype.PType.{PType};
+ghost use Rattle.vx_numbers.specs.Numbers.{width_of, is_integer, code_of};
 
 /// A kind of number: an integer with or without sign, or a float, and its bits.
 #[derive(Clone, Copy, Debug, PartialEq, Eq)]

@@ -1,0 +1,12 @@
+//! What is told of a node before its children, what these are to be, and why a node is refused.
+#![tactic(auto)]
+
+mod error;
+mod head;
+mod plans;
+mod validity;
+
+pub use error::EncodingError;
+pub use head::ArrayHead;
+pub use plans::{ChildPlan, ChildPlans, plan_of, plan_only};
+pub use validity::{plan_behind, plan_behind_all, plan_validity, validity_of};
