@@ -1,6 +1,6 @@
 //! Refusals of this crate.
 
-ghost use Rattle.std.specs.Prelude.{◌≡◌, Ok, IfOk, IsOkUnless};
+ghost use Rattle.std.specs.Prelude.{◌≡◌, Ok, OnOk, IfOk, IsOk, IsOkUnless};
 ghost use Rattle.vx_types.specs.declared.error.TypeError.TheVariants.{OutOfMemory};
 
 use std::alloc::{AllocError, AllocFailed};
@@ -44,6 +44,7 @@ impl<T: Drop> From<AllocFailed<T>> for TypeError {
 pub fn or_memory<T: Drop>(made: Result<T, TypeError>) -> Result<T, AllocError>
     requires only { IsOkUnless made TypeError.OutOfMemory }
     ensures same { IfOk result (λ x. made ≡ Ok x) }
+    ensures kept { OnOk made (IsOk result) }
 {
     match made {
         Ok(value) => Ok(value),
