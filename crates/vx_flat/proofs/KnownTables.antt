@@ -5,6 +5,7 @@ use Rattle.std.specs.Prelude.{bytes_eq, nat_eq}
 use Rattle.std.specs.Map.{lookup}
 use Rattle.indexmap.specs.IndexMap.{insert_entry}
 use Rattle.vx_flat.specs.Spots.{Known, known_at}
+use Rattle.vx_flat.proofs.Parts.{both}
 
 eqb_turned : (a b : ℕ) → nat_eq a b ≡ nat_eq b a
 eqb_turned a b = grind arith
@@ -14,6 +15,18 @@ turned [] [] = refl
 turned [] (y ∷ ys) = refl
 turned (x ∷ xs) [] = refl
 turned (x ∷ xs) (y ∷ ys) = λ i. eqb_turned x y i && turned xs ys i
+
+eqb_same : (a b : ℕ) → nat_eq a b ≡ true → a ≡ b
+eqb_same a b e = grind arith
+
+-- bytes that are found equal are the same
+pub same_bytes : (xs ys : List ℕ) → bytes_eq xs ys ≡ true → xs ≡ ys
+same_bytes [] [] e = refl
+same_bytes [] (y ∷ ys) e = absurd cc
+same_bytes (x ∷ xs) [] e = absurd cc
+same_bytes (x ∷ xs) (y ∷ ys) e =
+    let k = both (nat_eq x y) (bytes_eq xs ys) e in
+    λ i. eqb_same x y k.0 i ∷ same_bytes xs ys k.1 i
 
 -- the first entry with these bytes
 pub lookup_known : (es : List (Vec ℕ Global × ℕ)) (bs : List ℕ)

@@ -12,7 +12,7 @@ ghost use Rattle.vx_flat.specs.Building.{Takes, IsNext, RefusesPiece};
 ghost use Rattle.vx_flat.specs.PieceView.{vector_piece, IsVector};
 
 mod composing;
-mod entries;
+pub(crate) mod entries;
 mod known;
 mod message;
 pub(crate) mod piece;
@@ -23,18 +23,17 @@ use crate::builder::composing::{
     is_shared, next_start, push_element_slots, push_elements, push_entry_slots, push_front,
     push_links, push_table, push_text, table_spot,
 };
-use crate::builder::entries::push_entries;
 use crate::builder::known::FieldTables;
 use crate::builder::message::Message;
 use crate::builder::piece::{BlockField, BlockVector, LinkKind};
 use crate::builder::slot::Slot;
 use crate::error::FlatError;
 use crate::limits::MAX_MESSAGE;
-use crate::writing::block::Cell;
-use crate::writing::field_tables::push_field_table;
+use crate::writing::field_tables::{push_field_table, push_parts};
 use crate::writing::spots::plain_spot;
 use std::alloc::Global;
 use std::marker::Model;
+use std::mem::replace;
 
 /// Writes a message block by block: each table, vector and string is a block.
 ///
@@ -58,11 +57,15 @@ pub struct Builder {
     known: FieldTables,
     shares: bool,
     failed: bool,
-    /// The block that is composed: its bytes, its links, and the cells and field table of a table.
+    /// The block that is composed: its bytes, its links, and of a table the distances of its entries, its own
+    /// bytes and its field table.
     block: Vec<u8>,
     links: Vec<Slot>,
-    cells: Vec<Cell>,
+    distances: Vec<u8>,
+    own: Vec<u8>,
     fields: Vec<u8>,
+    /// The entries of a table, for whoever makes them of a value.
+    entries: Vec<BlockField>,
 }
 
 impl Model for Builder {
@@ -113,9 +116,29 @@ impl Builder {
             failed: false,
             block: Vec::new(alloc),
             links: Vec::new(alloc),
-            cells: Vec::new(alloc),
+            distances: Vec::new(alloc),
+            own: Vec::new(alloc),
             fields: Vec::new(alloc),
+            entries: Vec::new(alloc),
         }
+    }
+
+    /// A list without entries, for those of a table. [`give_back`](Builder::give_back) keeps its room
+    /// for the next one.
+    pub(crate) fn take_entries(&mut self) -> Vec<BlockField>
+        ensures same { self.new ≡ self.old }
+        ensures none { result.items ≡ [] }
+    {
+        let mut entries = replace(&mut self.entries, Vec::new(self.alloc));
+        entries.clear();
+        entries
+    }
+
+    /// Keeps the room of a list of entries.
+    pub(crate) fn give_back(&mut self, entries: Vec<BlockField>)
+        ensures { self.new ≡ self.old }
+    {
+        self.entries = entries;
     }
 
     /// [`table`](Builder::table), whatever waits for a block.
@@ -135,18 +158,19 @@ impl Builder {
         }
         let number = self.message.count;
         let start = next_start(&self.message.bytes);
-        self.cells.clear();
-        push_entries(fields, &mut self.cells)?;
+        self.distances.clear();
+        self.own.clear();
+        let end = push_parts(fields, &mut self.distances, &mut self.own)?;
         self.fields.clear();
-        push_field_table(&self.cells, &mut self.fields)?;
-        let spot = table_spot(start, &self.cells, self.known.find(&self.fields));
+        push_field_table(fields.len(), end, &self.distances, &mut self.fields)?;
+        let spot = table_spot(start, fields.len(), end, self.known.find(&self.fields));
         if spot.end > MAX_MESSAGE {
             self.failed = true;
             return Err(FlatError::MessageTooLong);
         }
         self.block.clear();
         push_front(&self.message.bytes, start, &mut self.block)?;
-        push_table(spot, &self.cells, &mut self.block)?;
+        push_table(spot, fields.len(), &self.fields, &self.own, &mut self.block)?;
         self.links.clear();
         push_entry_slots(fields, number, spot.aim, &mut self.links)?;
         let interns = is_shared(self.shares, spot);

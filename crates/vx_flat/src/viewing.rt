@@ -12,7 +12,7 @@ ghost use Rattle.vx_flat.specs.Parts as is;
 mod opening;
 
 use crate::reading::places::{
-    FieldTable, field_table, flag_at, number_at, place_of, tag_at, target, u32_at,
+    FieldTable, behind, flag_at, number_at, place_of, tag_at, target, u16_at, u32_at,
 };
 use crate::schema::{FieldKind, SchemaLists, Width, size_of_struct, table_of_tag};
 use crate::weight::Weight;
@@ -138,6 +138,115 @@ impl<'a> View<'a> {
             None => unreachable!(),
             Some(place) => place,
         }
+    }
+
+    /// Where a field of a kind that is not a union lies; None where it is absent.
+    #[inline(always)]
+    fn find(&self, field: usize, kind: FieldKind) -> Option<usize>
+        requires kind { kind_in self.now field ≡ Some kind }
+        requires plain { is.IsPlain kind }
+        ensures absent { IfNone result (part_in self.now field ≡ absent_shown kind) }
+        ensures lies { IfSome result (λ q. q + inline_size kind ≤ length self.now.message.now) }
+        ensures later { IfSome result (λ q. self.now.place < q) }
+        ensures shown { IfSome result (λ q. present_shown (schema_in self.now)
+            (λ q T. table_shown (schema_in self.now) self.now.message.now q T) self.now.message.now
+            kind q ≡ Some (part_in self.now field)) }
+    {
+        place_of(self.message, self.place, self.fields, field)
+    }
+
+    /// [`number`](View::number) where the caller knows its width.
+    #[inline(always)]
+    pub fn number_of(&self, field: usize, width: Width) -> u64
+        requires { kind_in self.now field ≡ Some (kind.Number width) }
+        ensures { part_in self.now field ≡ value.number result }
+    {
+        match self.find(field, FieldKind::Number(width)) {
+            None => 0,
+            Some(place) => number_at(width, self.message, place),
+        }
+    }
+
+    /// [`opt_number`](View::opt_number) where the caller knows that it is a number, and its width.
+    #[inline(always)]
+    pub fn opt_number_of(&self, field: usize, width: Width) -> Option<u64>
+        requires { kind_in self.now field ≡ Some (kind.OptNumber width) }
+        ensures { MatchOption result (part_in self.now field ≡ value.absent)
+            (λ n. part_in self.now field ≡ value.number n) }
+    {
+        match self.find(field, FieldKind::OptNumber(width)) {
+            None => None,
+            Some(place) => Some(number_at(width, self.message, place)),
+        }
+    }
+
+    /// [`opt_number`](View::opt_number) where the caller knows that it is a flag.
+    #[inline(always)]
+    pub fn opt_flag(&self, field: usize) -> Option<u64>
+        requires { kind_in self.now field ≡ Some kind.OptFlag }
+        ensures { MatchOption result (part_in self.now field ≡ value.absent)
+            (λ n. part_in self.now field ≡ value.number n) }
+    {
+        match self.find(field, FieldKind::OptFlag) {
+            None => None,
+            Some(place) => Some(flag_at(self.message, place)),
+        }
+    }
+
+    /// [`bytes`](View::bytes) where the caller knows that they are numbers, and their width.
+    #[inline(always)]
+    pub fn numbers_of(&self, field: usize, width: Width) -> Option<&'a [u8]>
+        requires { kind_in self.now field ≡ Some (kind.Vector width) }
+        ensures { MatchOption result (part_in self.now field ≡ value.absent)
+            (λ b. part_in self.now field ≡ value.elements b.now) }
+    {
+        match self.find(field, FieldKind::Vector(width)) {
+            None => None,
+            Some(place) => {
+                let aim = target(self.message, place);
+                Some(elements_in(self.message, aim, width.bytes()))
+            }
+        }
+    }
+
+    /// [`table`](View::table) where the caller knows its number.
+    #[inline(always)]
+    pub fn table_of(&self, field: usize, table: u16) -> Option<View<'a>>
+        requires { kind_in self.now field ≡ Some (kind.Table table) }
+        ensures part { MatchOption result (part_in self.now field ≡ value.absent)
+            (λ w. part_in self.now field ≡ value.table (seen w)) }
+        ensures below { IfSome result (λ w. IsBelow self.now w) }
+        ensures kind { IfSome result (λ w. kind_in self.now field ≡ Some (kind.Table (table_seen w))) }
+    {
+        match self.find(field, FieldKind::Table(table)) {
+            None => None,
+            Some(place) => Some(self.below(target(self.message, place), table)),
+        }
+    }
+
+    /// [`vector`](View::vector) where the caller knows its kind.
+    #[inline(always)]
+    pub fn vector_of(&self, field: usize, kind: FieldKind) -> Option<VectorView<'a>>
+        requires kind { kind_in self.now field ≡ Some kind }
+        requires vector { is.IsVector (Some kind) }
+        ensures part { MatchOption result (part_in self.now field ≡ value.absent)
+            (λ w. part_in self.now field ≡ vector_seen w) }
+        ensures below { IfSome result (λ w. IsVectorBelow self.now w) }
+        ensures kind { IfSome result (λ w. kind_in self.now field ≡ Some (kind_seen w)) }
+    {
+        let Some(place) = self.find(field, kind) else {
+            return None;
+        };
+        let place = target(self.message, place);
+        let count = u32_at(self.message, place);
+        Some(VectorView {
+            message: self.message,
+            schema: self.schema,
+            kind,
+            place,
+            count,
+            weight: self.weight,
+        })
     }
 
     /// The number in a field, by its bits.
@@ -354,6 +463,7 @@ impl<'a> VectorView<'a> {
     }
 
     /// A number of an element: its member 0, unless the elements are structs.
+    #[inline]
     pub fn number(&self, i: usize, member: usize) -> u64
         requires within { i < count_seen self.now }
         requires member { IsSome (member_seen self.now member) }
@@ -385,6 +495,7 @@ impl<'a> VectorView<'a> {
     }
 
     /// A table.
+    #[inline(always)]
     pub fn table(&self, i: usize) -> View<'a>
         requires within { i < count_seen self.now }
         requires kind { is.IsTables (kind_seen self.now) }
@@ -434,14 +545,16 @@ fn member_of(widths: &[Width], member: usize) -> MemberPlace
     unreachable!()
 }
 
-/// The field table of a table that is shown.
+/// The field table of a table that is shown. Its form is not judged again.
+#[inline(always)]
 fn fields_found(message: &[u8], _schema: &SchemaLists, place: usize, table: u16) -> FieldTable
     requires { IsSome (table_shown (schema_of _schema.now) message.now place table) }
     ensures { table_found message.now place (fields_of (schema_of _schema.now) table) ≡ Some result }
 {
-    match field_table(message, place) {
-        Some(fields) => fields,
-        None => unreachable!(),
+    let fields = behind(message, place).unwrap_or(0);
+    FieldTable {
+        place: fields,
+        len: u16_at(message, fields) as usize,
     }
 }
 

@@ -4,7 +4,7 @@ ghost use Rattle.vx_flat.specs.Seen.{IsViewOf};
 ghost use Rattle.vx_serialized.specs.ArraySchema.{array_schema};
 
 use std::fmt;
-use vx_flat::View;
+use vx_flat::{FieldKind, View, Width};
 
 /// What a walk sees: how many nodes there are, their numbers added up, and the lengths of their
 /// vectors added up. Sums wrap.
@@ -58,24 +58,24 @@ impl fmt::Display for Tally {
 fn walk_stats(stats: &View<'_>, tally: &mut Tally)
     requires { IsViewOf array_schema 2 stats.now }
 {
-    tally.bytes(stats.bytes(0));
-    tally.number(stats.number(1));
-    tally.bytes(stats.bytes(2));
-    tally.number(stats.number(3));
-    tally.bytes(stats.bytes(4));
-    tally.opt_number(stats.opt_number(5));
-    tally.opt_number(stats.opt_number(6));
-    tally.opt_number(stats.opt_number(7));
-    tally.opt_number(stats.opt_number(8));
-    tally.opt_number(stats.opt_number(9));
-    tally.opt_number(stats.opt_number(10));
+    tally.bytes(stats.numbers_of(0, Width::One));
+    tally.number(stats.number_of(1, Width::One));
+    tally.bytes(stats.numbers_of(2, Width::One));
+    tally.number(stats.number_of(3, Width::One));
+    tally.bytes(stats.numbers_of(4, Width::One));
+    tally.opt_number(stats.opt_flag(5));
+    tally.opt_number(stats.opt_flag(6));
+    tally.opt_number(stats.opt_flag(7));
+    tally.opt_number(stats.opt_number_of(8, Width::Eight));
+    tally.opt_number(stats.opt_number_of(9, Width::Eight));
+    tally.opt_number(stats.opt_number_of(10, Width::Eight));
 }
 
 /// The numbers of a node's buffers.
 fn walk_buffers(node: &View<'_>, tally: &mut Tally)
     requires { IsViewOf array_schema 1 node.now }
 {
-    if let Some(buffers) = node.vector(3) {
+    if let Some(buffers) = node.vector_of(3, FieldKind::Vector(Width::Two)) {
         tally.vector(buffers.len());
         for i in 0..buffers.len() {
             tally.number(buffers.number(i, 0));
@@ -88,13 +88,13 @@ fn walk_node(node: &View<'_>, tally: &mut Tally)
     requires { IsViewOf array_schema 1 node.now }
 {
     tally.node();
-    tally.number(node.number(0));
-    tally.bytes(node.bytes(1));
+    tally.number(node.number_of(0, Width::Two));
+    tally.bytes(node.numbers_of(1, Width::One));
     walk_buffers(node, tally);
-    if let Some(stats) = node.table(4) {
+    if let Some(stats) = node.table_of(4, 2) {
         walk_stats(&stats, tally);
     }
-    if let Some(children) = node.vector(2) {
+    if let Some(children) = node.vector_of(2, FieldKind::Tables(1)) {
         tally.vector(children.len());
         for i in 0..children.len() {
             walk_node(&children.table(i), tally);
@@ -106,7 +106,7 @@ fn walk_node(node: &View<'_>, tally: &mut Tally)
 fn walk_descriptors(root: &View<'_>, tally: &mut Tally)
     requires { IsViewOf array_schema 0 root.now }
 {
-    if let Some(descriptors) = root.vector(1) {
+    if let Some(descriptors) = root.vector_of(1, FieldKind::Structs(0)) {
         tally.vector(descriptors.len());
         for i in 0..descriptors.len() {
             tally.number(descriptors.number(i, 0));
@@ -122,7 +122,7 @@ pub fn walk(root: &View<'_>) -> Tally
     requires { IsViewOf array_schema 0 root.now }
 {
     let mut tally = Tally::default();
-    if let Some(node) = root.table(0) {
+    if let Some(node) = root.table_of(0, 1) {
         walk_node(&node, &mut tally);
     }
     walk_descriptors(root, &mut tally);

@@ -1,23 +1,22 @@
 //! Blocks that are composed, before they are added to a message.
 
-ghost use Rattle.std.specs.Prelude.{◌≡◌, ◌+◌, ◌-◌, ◌++◌, ◌≤◌, ◌<◌, ◌^◌, [], length, true, ◌&&◌, None, OnOk};
+ghost use Rattle.std.specs.Prelude.{◌≡◌, ◌+◌, ◌-◌, ◌*◌, ◌++◌, ◌≤◌, ◌<◌, ◌^◌, List, [], length, true, ◌&&◌, None, OnOk};
 ghost use Rattle.vx_flat.specs.Building.{entry_slots, element_slots};
 ghost use Rattle.vx_flat.specs.BuilderView.{begun, front};
 ghost use Rattle.vx_flat.specs.FieldTables as form;
 ghost use Rattle.vx_flat.specs.Layout as lay;
 ghost use Rattle.vx_flat.specs.Linking as to;
-ghost use Rattle.vx_flat.specs.Blocks.{table_block, elements_block, links_block, text_block};
+ghost use Rattle.vx_flat.specs.Blocks.{Cell, table_block, elements_block, links_block, text_block};
 ghost use Rattle.vx_flat.specs.Spots as place;
 
 use crate::builder::entries::cell_at;
 use crate::builder::piece::{BlockField, LinkKind};
 use crate::builder::slot::Slot;
 use crate::schema::Width;
-use crate::writing::block::{Cell, Spot};
-use crate::writing::field_tables::{end_after, inline_end};
+use crate::writing::block::Spot;
+use crate::writing::field_tables::end_after;
 use crate::writing::numbers::{align, push_number, push_zeros};
-use crate::writing::spots::own_spot;
-use crate::writing::{element_count, push_bytes, push_cells, push_own};
+use crate::writing::{element_count, push_bytes, push_own};
 use std::alloc::AllocError;
 
 /// Where the next block starts: at the next multiple of 8.
@@ -45,21 +44,36 @@ pub fn push_front(bytes: &[u8], start: usize, out: &mut Vec<u8>) -> Result<(), A
     push_zeros(out, start.saturating_sub(bytes.len()))
 }
 
-/// Where a table goes whose block starts at `start`, by the place of an equal field table.
-pub fn table_spot(start: usize, cells: &[Cell], known: Option<usize>) -> Spot
-    requires { start ≤ 2 ^ 32 }
-    ensures value { result ≡ place.table_spot start cells.now known }
+/// Where a table of so many entries and this inline size goes, whose block starts at `start`, by the
+/// place of an equal field table.
+pub fn table_spot(start: usize, count: usize, end: usize, known: Option<usize>) -> Spot
+    requires small { start ≤ 2 ^ 32 }
+    requires few { count ≤ 1000 }
+    requires near { end ≤ 4 + 15 * count }
+    ensures value { (cs : List Cell) → length cs ≡ count → form.inline_end 4 cs ≡ end
+        → result ≡ place.table_spot start cs known }
     ensures own { result.is_own ≡ true → known ≡ None }
+    ensures past { start ≤ result.aim }
+    ensures before { result.aim ≤ result.end }
 {
     match known {
         Some(fields) => Spot {
             start,
             aim: start,
-            end: start + inline_end(cells),
+            end: start + end,
             fields,
             is_own: false,
         },
-        None => own_spot(start, cells),
+        None => {
+            let aim = start + align(Width::Eight, 4 + 2 * count);
+            Spot {
+                start,
+                aim,
+                end: aim + end,
+                fields: start,
+                is_own: true,
+            }
+        }
     }
 }
 
@@ -71,15 +85,23 @@ pub fn is_shared(shares: bool, spot: Spot) -> bool
     if shares { spot.is_own } else { false }
 }
 
-/// Adds a table.
-#[tactic(auto, using(crate::proofs::Pushing::cells_loose))]
-pub fn push_table(spot: Spot, cells: &[Cell], out: &mut Vec<u8>) -> Result<(), AllocError>
-    ensures { OnOk result (out.new.items
-        ≡ out.old.items ++ lay.block_bytes [] spot (table_block cells.now)) }
+/// Adds a table of so many entries, by its field table and its own bytes.
+pub fn push_table(
+    spot: Spot,
+    count: usize,
+    fields: &[u8],
+    own: &[u8],
+    out: &mut Vec<u8>,
+) -> Result<(), AllocError>
+    requires { count ≤ 1000 }
+    ensures table { (cs : List Cell) → length cs ≡ count → fields.now ≡ form.field_table_bytes cs
+        → own.now ≡ lay.cells_bytes [] 0 4 cs
+        → OnOk result (out.new.items ≡ out.old.items ++ lay.block_bytes [] spot (table_block cs)) }
+    ensures some { OnOk result (length out.old.items + 4 ≤ length out.new.items) }
 {
-    push_own(spot.is_own, cells, out)?;
+    push_own(spot.is_own, count, fields, out)?;
     push_number(out, 4, spot.aim.saturating_sub(spot.fields) as u64)?;
-    push_cells(cells, out)
+    push_bytes(own, out)
 }
 
 /// Adds a vector of numbers or structs of `size` bytes each.

@@ -1,12 +1,11 @@
 //! The entries of a table that is written, before its links are set.
 
-ghost use Rattle.std.specs.Prelude.{◌≡◌, ◌++◌, [], OnOk};
+ghost use Rattle.std.specs.Prelude.{◌≡◌};
 ghost use Rattle.vx_flat.specs.Linking as to;
 
 use crate::builder::piece::BlockField;
 use crate::schema::Width;
 use crate::writing::block::Cell;
-use std::alloc::AllocError;
 
 /// The width of so many bytes: 1, 2, 4 or 8.
 fn width_at(bytes: u8) -> Width
@@ -30,14 +29,4 @@ pub fn cell_at(entry: BlockField, block: usize) -> Cell
         BlockField::Link(_) => Cell::Link(block),
         BlockField::UnknownMember => Cell::Null,
     }
-}
-
-/// Adds the cells of entries, whose links are still to be set.
-pub fn push_entries(entries: &[BlockField], cells: &mut Vec<Cell>) -> Result<(), AllocError>
-    ensures { OnOk result (cells.new.items ≡ cells.old.items ++ to.cells_of entries.now []) }
-{
-    for entry in entries {
-        cells.push(cell_at(*entry, 0))?;
-    }
-    Ok(())
 }

@@ -4,6 +4,9 @@ use indexmap::IndexMap;
 use std::alloc::{AllocError, Global};
 use std::marker::Model;
 
+/// How many field tables are looked at one by one.
+const AT_ONCE: usize = 4;
+
 /// The bytes of field tables, with their places, in the order in which they were written.
 #[derive(Drop)]
 pub struct FieldTables {
@@ -34,10 +37,18 @@ impl FieldTables {
         }
     }
 
-    /// The place of the first field table with these bytes.
+    /// The place of the first field table with these bytes. The first ones that were written are looked
+    /// at before the others are searched by a hash: most messages have few.
     pub fn find(&self, bytes: &[u8]) -> Option<usize>
         ensures { result ≡ known_at self.now bytes.now }
     {
+        for i in 0..AT_ONCE {
+            if let Some((key, place)) = self.places.get_index(i)
+                && key.as_slice() == bytes
+            {
+                return Some(*place);
+            }
+        }
         self.places.get(bytes).copied()
     }
 

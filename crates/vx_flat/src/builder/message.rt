@@ -102,7 +102,9 @@ impl Message {
         ensures unchanged { OnErr result (IsSame self.old self.new) }
     {
         let kept = self.left.len();
-        add_links(&mut self.left, links)?;
+        if !links.is_empty() {
+            add_links(&mut self.left, links)?;
+        }
         if let Err(error) = self.bytes.extend_from_slice(block) {
             self.left.truncate(kept);
             return Err(error);

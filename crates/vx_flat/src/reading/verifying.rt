@@ -2,16 +2,18 @@
 //! is read.
 
 ghost use Rattle.std.specs.Prelude.{◌≡◌, ℕ, ◌+◌, ◌*◌, ◌^◌, ◌<◌, ◌≤◌, true, length};
-ghost use Rattle.std.specs.Prelude.{OnOk};
+ghost use Rattle.std.specs.Prelude.{OnOk, None, if◌then◌else◌};
 ghost use Rattle.vx_flat.specs.Schema.{table_of as table_of_tag, members_of};
 ghost use Rattle.vx_flat.specs.Places.{is_inline, are_inline, inline_size, place_of as placed};
 ghost use Rattle.vx_flat.specs.Counting.{Verifies};
 ghost use Rattle.vx_flat.specs.Weight as weigh;
 ghost use Rattle.vx_flat.specs.Reading as read;
+ghost use Rattle.vx_flat.specs.declared.schema.FieldKind.TheVariants as kinds;
 
 use crate::error::FlatError;
 use crate::reading::places::{
-    FieldTable, count_at, elements_at, place_of, table_at, tag_at, target, text_at,
+    FieldTable, are_inline as inline, count_at, elements_at, field_table, fits, is_union_inline,
+    place_of, tag_at, target, text_at,
 };
 use crate::reading::room::Room;
 use crate::schema::{FieldKind, TableKind, struct_size, tag_table};
@@ -213,8 +215,54 @@ fn verify_present<K: TableKind, L: Ledger>(
     }
 }
 
-/// Judges and counts what hangs on the field of an entry and, where it is a union, of the entry after that.
+/// Judges a union's own bytes, and judges and counts what hangs on it.
 #[cycle(verifying)]
+#[inline(never)]
+fn verify_union<K: TableKind, L: Ledger>(
+    message: &[u8],
+    kind: &K,
+    union: u16,
+    here: Option<usize>,
+    next: Option<usize>,
+    levels: u32,
+    room: &mut Room,
+    steps: &mut Steps<L>,
+) -> Result<(), FlatError>
+    ensures verifies { Verifies result
+        (if is_inline message.now (kinds.Union union) here next
+        then read.union_shown K.schema (λ q T. read.table_shown K.schema message.now q T)
+        message.now union here next else None)
+        room.old levels
+        (if is_inline message.now (kinds.Union union) here next
+        then weigh.union_weight K.schema (λ q T. weigh.table_weight K.schema message.now q T)
+        message.now union here next else weigh.nothing)
+        room.new }
+    ensures exact { OnOk result (steps.new + room.new.tables ≡ steps.old + room.old.tables) }
+    ensures bound { steps.new ≤ steps.old + room.old.tables + 1 }
+{
+    if !is_union_inline(message, here, next) {
+        return Err(FlatError::BadTable);
+    }
+    let Some(next) = next else {
+        return Ok(());
+    };
+    let tag = tag_at(message, here);
+    verify_member(
+        message,
+        kind,
+        union,
+        tag,
+        target(message, next),
+        levels,
+        room,
+        steps,
+    )
+}
+
+/// Judges the own bytes of the field of an entry and, where it is a union, of the entry after that,
+/// and judges and counts what hangs on it.
+#[cycle(verifying)]
+#[inline(always)]
 fn verify_field<K: TableKind, L: Ledger>(
     message: &[u8],
     kind: &K,
@@ -229,44 +277,59 @@ fn verify_field<K: TableKind, L: Ledger>(
     requires lies { fields.place + fields.len ≤ length message.now }
     requires here { place < length message.now }
     requires few { entry + 1 < 2 ^ 62 }
-    requires inline { is_inline message.now field (placed message.now place fields entry)
-        (placed message.now place fields (entry + 1)) ≡ true }
     ensures verifies { Verifies result
-        (read.field_shown K.schema (λ q T. read.table_shown K.schema message.now q T)
+        (if is_inline message.now field (placed message.now place fields entry)
+        (placed message.now place fields (entry + 1))
+        then read.field_shown K.schema (λ q T. read.table_shown K.schema message.now q T)
         message.now field (placed message.now place fields entry)
-        (placed message.now place fields (entry + 1)))
+        (placed message.now place fields (entry + 1)) else None)
         room.old levels
-        (weigh.field_weight K.schema (λ q T. weigh.table_weight K.schema message.now q T)
+        (if is_inline message.now field (placed message.now place fields entry)
+        (placed message.now place fields (entry + 1))
+        then weigh.field_weight K.schema (λ q T. weigh.table_weight K.schema message.now q T)
         message.now field (placed message.now place fields entry)
-        (placed message.now place fields (entry + 1)))
+        (placed message.now place fields (entry + 1)) else weigh.nothing)
         room.new }
     ensures exact { OnOk result (steps.new + room.new.tables ≡ steps.old + room.old.tables) }
     ensures bound { steps.new ≤ steps.old + room.old.tables + 1 }
 {
-    let here = place_of(message, place, fields, entry);
     if let FieldKind::Union(union) = field {
-        let Some(next) = place_of(message, place, fields, entry + 1) else {
-            return Ok(());
-        };
-        let tag = tag_at(message, here);
-        return verify_member(
-            message,
-            kind,
-            union,
-            tag,
-            target(message, next),
-            levels,
-            room,
-            steps,
-        );
+        let here = place_of(message, place, fields, entry);
+        let next = place_of(message, place, fields, entry + 1);
+        return verify_union(message, kind, union, here, next, levels, room, steps);
     }
-    match here {
-        None => Ok(()),
-        Some(here) => verify_present(message, kind, field, here, levels, room, steps),
+    let Some(here) = place_of(message, place, fields, entry) else {
+        return Ok(());
+    };
+    if !fits(message, here, field.inline_size()) {
+        return Err(FlatError::BadTable);
+    }
+    verify_present(message, kind, field, here, levels, room, steps)
+}
+
+/// Why a table is refused whose fields were judged one by one: it shows nothing where the own bytes of
+/// any field are not right, whatever was found first.
+#[cold]
+fn refusal(
+    message: &[u8],
+    place: usize,
+    fields: FieldTable,
+    kinds: &[FieldKind],
+    error: FlatError,
+) -> FlatError
+    requires lies { fields.place + fields.len ≤ length message.now }
+    requires here { place < length message.now }
+    ensures { result
+        ≡ (if are_inline message.now place fields kinds.now 0 then error else FlatError.BadTable) }
+{
+    if inline(message, place, fields, kinds) {
+        error
+    } else {
+        FlatError::BadTable
     }
 }
 
-/// Judges and counts what hangs on the fields of a table.
+/// Judges the own bytes of the fields of a table, and judges and counts what hangs on them.
 #[cycle(verifying)]
 fn verify_fields<K: TableKind, L: Ledger>(
     message: &[u8],
@@ -280,22 +343,25 @@ fn verify_fields<K: TableKind, L: Ledger>(
 ) -> Result<(), FlatError>
     requires lies { fields.place + fields.len ≤ length message.now }
     requires here { place < length message.now }
-    requires inline { are_inline message.now place fields kinds.now 0 ≡ true }
     ensures verifies { Verifies result
-        (read.fields_shown K.schema (λ q T. read.table_shown K.schema message.now q T)
-        message.now place fields kinds.now 0)
+        (if are_inline message.now place fields kinds.now 0
+        then read.fields_shown K.schema (λ q T. read.table_shown K.schema message.now q T)
+        message.now place fields kinds.now 0 else None)
         room.old levels
-        (weigh.fields_weight K.schema (λ q T. weigh.table_weight K.schema message.now q T)
-        message.now place fields kinds.now 0)
+        (if are_inline message.now place fields kinds.now 0
+        then weigh.fields_weight K.schema (λ q T. weigh.table_weight K.schema message.now q T)
+        message.now place fields kinds.now 0 else weigh.nothing)
         room.new }
     ensures exact { OnOk result (steps.new + room.new.tables ≡ steps.old + room.old.tables) }
     ensures bound { steps.new ≤ steps.old + room.old.tables + 1 }
 {
     let mut entry: usize = 0;
     for field in kinds {
-        verify_field(
+        if let Err(error) = verify_field(
             message, kind, *field, place, fields, entry, levels, room, steps,
-        )?;
+        ) {
+            return Err(refusal(message, place, fields, kinds, error));
+        }
         entry += field.slots();
     }
     Ok(())
@@ -319,12 +385,14 @@ pub fn verify_table<K: TableKind, L: Ledger>(
 {
     steps.tick();
     let kinds = kind.fields(table);
-    let Some(fields) = table_at(message, place, kinds) else {
+    let Some(fields) = field_table(message, place) else {
         return Err(FlatError::BadTable);
     };
     if levels == 0 {
-        return Err(FlatError::TableLimit);
+        return Err(refusal(message, place, fields, kinds, FlatError::TableLimit));
     }
-    room.add_table(levels - 1)?;
+    if let Err(error) = room.add_table(levels - 1) {
+        return Err(refusal(message, place, fields, kinds, error));
+    }
     verify_fields(message, kind, place, fields, kinds, levels - 1, room, steps)
 }

@@ -172,21 +172,21 @@ fn push_entries<K: TableKind>(
     }
 }
 
-/// The entries of a table.
-fn entries_of<K: TableKind>(
-    alloc: Global,
+/// Adds the entries of a table to an empty list.
+fn push_all<K: TableKind>(
     kinds: &[FieldKind],
     values: &[FieldValue],
-) -> Result<Vec<BlockField>, AllocError>
-    requires { AreOf K.schema kinds.now (views values.now) }
-    ensures { IfOk result (λ v. v.items ≡ piece.entries kinds.now (views values.now)) }
+    entries: &mut Vec<BlockField>,
+) -> Result<(), AllocError>
+    requires of_kinds { AreOf K.schema kinds.now (views values.now) }
+    requires none { entries.old.items ≡ [] }
+    ensures { OnOk result (entries.new.items ≡ piece.entries kinds.now (views values.now)) }
 {
-    let mut entries = Vec::new(alloc);
     for i in 0..values.len() {
         let value = &values[i];
-        push_entries::<K>(kinds[i], value, &mut entries)?;
+        push_entries::<K>(kinds[i], value, entries)?;
     }
-    Ok(entries)
+    Ok(())
 }
 
 /// Writes the block of a vector of numbers or structs, where the next link aims.
@@ -345,7 +345,9 @@ pub fn write_table<K: TableKind>(
         (piece.table_pieces K.schema (kinds.fields_of K.schema table) (views values.now))) e) }
 {
     let kinds = kind.fields(table);
-    let entries = entries_of::<K>(alloc, kinds, values)?;
+    let mut entries = builder.take_entries();
+    push_all::<K>(kinds, values, &mut entries)?;
     builder.put_table(&entries)?;
+    builder.give_back(entries);
     write_fields(alloc, kind, kinds, values, builder)
 }

@@ -7,11 +7,11 @@ use Rattle.vx_walk.proofs.walk.+walk_node.Goals as goal
 pub walk_node-requires : goal.walk_node-requires
 walk_node-requires t c =
     let v = c.args.node.now in
-    let w = c.in-Some-vector.children in
-    let below = c.in-Some-vector.ensures in
-    let child = c.table-in-loop-i.ensures in
-    let same : length c.table-in-loop-i.result.message.now ≡ length v.message.now = ap (λ m. length m.now) (child.below.message ∙ below.below.message) in
+    let w = c.in-Some-vector_of.children in
+    let below = c.in-Some-vector_of.ensures in
+    let child = c.table.ensures in
+    let same : length c.table.result.message.now ≡ length v.message.now = ap (λ m. length m.now) (child.below.message ∙ below.below.message) in
     let tables = vector-of array_schema v w 2 (Tables 1) c.requires.schema (kind-of array_schema 1 v c.requires 2) below.below below.kind in (
       omega (arith, place-within v, below.below.later, child.below.later, same, c.decreases),
-      element-of array_schema 1 w c.table-in-loop-i.result tables child.below child.kind,
+      element-of array_schema 1 w c.table.result tables child.below child.kind,
     )

@@ -1,11 +1,12 @@
-use Rattle.std.proofs.Common.{◌≡◌, ◌++◌, ◌∷◌, [], ap, sym, subst, ◌∙◌, arith, length, refl, List}
+use Rattle.std.proofs.Common.{◌+◌, ◌*◌, ◌≡◌, ◌++◌, ◌∷◌, [], ap, sym, subst, ◌∙◌, arith, length, refl, List}
 use Rattle.std.specs.Prelude.{if◌then◌else◌}
 use Rattle.vx_flat.specs.declared.writing.block.Spot.{Spot}
-use Rattle.vx_flat.specs.Blocks.{table_block}
 use Rattle.vx_flat.specs.Building.{Built, with_piece, entry_slots, failing, IsTooLong}
 use Rattle.vx_flat.specs.BuilderView.{built, begun}
-use Rattle.vx_flat.specs.FieldTables.{align, field_table_bytes}
-use Rattle.vx_flat.specs.Layout.{block_bytes}
+use Rattle.vx_flat.specs.FieldTables.{align, field_table_bytes, le_bytes, entry_bytes}
+use Rattle.vx_flat.specs.FieldTables as form
+use Rattle.vx_flat.proofs.Entering.{length_cells}
+use Rattle.vx_flat.specs.Layout.{block_bytes, cells_bytes}
 use Rattle.vx_flat.specs.Linking.{loose_block, cells_of}
 use Rattle.vx_flat.specs.Pieces.{Piece, table_piece}
 use Rattle.vx_flat.specs.Spots.{spot, table_spot, known_at}
@@ -24,13 +25,16 @@ returns-then-spot-gt-MAX_MESSAGE-clause-refused c =
     let cs = cells_of es [] in
     let q : Piece = table_piece es in
     let start = c.next_start-start.ensures.value ∙ ap (λ d. align 8 (length (begun d))) c.deref.ensures.value in
-    let cells = alone c.push_entries.new.cells.items c.clear.new.self.items cs cs c.in_ok-push_entries.ensures c.clear.ensures.items refl in
-    let fields = alone c.push_field_table.new.out.items c.clear-2.new.self.items (field_table_bytes c.deref-2.result.now) (field_table_bytes cs)
-    c.in_ok-push_field_table.ensures c.clear-2.ensures.items (ap field_table_bytes (c.deref-2.ensures.value ∙ cells)) in
-    let known = c.find.ensures ∙ ap (λ b. known_at n.known b) (c.deref-4.ensures.value ∙ fields) in
-    let shown = c.deref-3.ensures.value ∙ cells in
+    let distances = alone c.push_parts.new.distances.items c.clear.new.self.items (entry_bytes (form.distances 4 cs)) (entry_bytes (form.distances 4 cs))
+    c.in_ok-end.ensures.distances c.clear.ensures.items refl in
+    let long : length es ≡ length cs = sym (length_cells es) in
+    let fields = alone c.push_field_table.new.out.items c.clear-3.new.self.items
+    (le_bytes 2 (4 + 2 * length es) ++ (le_bytes 2 c.in_ok-end.end ++ c.deref-2.result.now)) (field_table_bytes cs)
+    c.in_ok-push_field_table.ensures c.clear-3.ensures.items
+    (λ i. le_bytes 2 (4 + 2 * long i) ++ (le_bytes 2 (c.in_ok-end.ensures.end i) ++ (c.deref-2.ensures.value ∙ distances) i)) in
+    let known = c.find.ensures ∙ ap (λ b. known_at n.known b) (c.deref-3.ensures.value ∙ fields) in
     let place : c.table_spot-spot.result ≡ spot n.known (align 8 (length (begun n.message.bytes.items))) (loose_block q) =
-    c.table_spot-spot.ensures.value ∙ (λ i. table_spot (start i) (shown i) (known i)) in (
+    c.table_spot-spot.ensures.value cs (length_cells es) (sym c.in_ok-end.ensures.end) ∙ (λ i. table_spot (start i) cs (known i)) in (
       ap failing c.self.view_is,
       subst (λ (b : Built). IsTooLong b (q ∷ [])) c.self.view_is
           (too_long n.message n.known n.shares n.failed q c.table_spot-spot.result c.self.invariant.0 place (omega (arith, c.if-spot-gt-MAX_MESSAGE.true))),
@@ -45,23 +49,28 @@ adds c =
     let q : Piece = table_piece es in
     let s = c.table_spot-spot.result in
     let start = c.next_start-start.ensures.value ∙ ap (λ d. align 8 (length (begun d))) c.deref.ensures.value in
-    let cells = alone c.push_entries.new.cells.items c.clear.new.self.items cs cs c.in_ok-push_entries.ensures c.clear.ensures.items refl in
-    let fields = alone c.push_field_table.new.out.items c.clear-2.new.self.items (field_table_bytes c.deref-2.result.now) (field_table_bytes cs)
-    c.in_ok-push_field_table.ensures c.clear-2.ensures.items (ap field_table_bytes (c.deref-2.ensures.value ∙ cells)) in
-    let known = c.find.ensures ∙ ap (λ b. known_at n.known b) (c.deref-4.ensures.value ∙ fields) in
-    let shown = c.deref-3.ensures.value ∙ cells in
+    let distances = alone c.push_parts.new.distances.items c.clear.new.self.items (entry_bytes (form.distances 4 cs)) (entry_bytes (form.distances 4 cs))
+    c.in_ok-end.ensures.distances c.clear.ensures.items refl in
+    let long : length es ≡ length cs = sym (length_cells es) in
+    let fields = alone c.push_field_table.new.out.items c.clear-3.new.self.items
+    (le_bytes 2 (4 + 2 * length es) ++ (le_bytes 2 c.in_ok-end.end ++ c.deref-2.result.now)) (field_table_bytes cs)
+    c.in_ok-push_field_table.ensures c.clear-3.ensures.items
+    (λ i. le_bytes 2 (4 + 2 * long i) ++ (le_bytes 2 (c.in_ok-end.ensures.end i) ++ (c.deref-2.ensures.value ∙ distances) i)) in
+    let known = c.find.ensures ∙ ap (λ b. known_at n.known b) (c.deref-3.ensures.value ∙ fields) in
+    let own = alone c.push_parts.new.own.items c.clear-2.new.self.items (cells_bytes [] 0 4 cs) (cells_bytes [] 0 4 cs)
+    c.in_ok-end.ensures.own c.clear-2.ensures.items refl in
     let place : s ≡ spot n.known (align 8 (length (begun m))) (loose_block q) =
-    c.table_spot-spot.ensures.value ∙ (λ i. table_spot (start i) (shown i) (known i)) in
+    c.table_spot-spot.ensures.value cs (length_cells es) (sym c.in_ok-end.ensures.end) ∙ (λ i. table_spot (start i) cs (known i)) in
     record {
       place = place;
       block_is = c.deref-8.ensures.value
-          ∙ composed c.push_table.new.out.items c.push_front.new.out.items c.clear-3.new.self.items c.deref-5.result.now m
+          ∙ composed c.push_table.new.out.items c.push_front.new.out.items c.clear-4.new.self.items c.deref-4.result.now m
           (block_bytes [] s (loose_block q)) c.next_start-start.result s.start
-          (c.in_ok-push_table.ensures ∙ ap (λ x. c.push_front.new.out.items ++ block_bytes [] s (table_block x)) (c.deref-6.ensures.value ∙ cells))
-          c.in_ok-push_front.ensures c.clear-3.ensures.items c.deref-5.ensures.value
+          (c.in_ok-push_table.ensures.table cs (length_cells es) (c.deref-5.ensures.value ∙ fields) (c.deref-6.ensures.value ∙ own))
+          c.in_ok-push_front.ensures c.clear-4.ensures.items c.deref-4.ensures.value
           (start ∙ (sym (starts n.known (align 8 (length (begun m))) (loose_block q)) ∙ sym (ap (λ (s : Spot). s.start) place)));
-      links_are = alone c.push_entry_slots.new.slots.items c.clear-4.new.self.items (entry_slots n.message.count s.aim 0 4 es) (entry_slots n.message.count s.aim 0 4 es)
-          c.in_ok-push_entry_slots.ensures c.clear-4.ensures.items refl;
+      links_are = alone c.push_entry_slots.new.slots.items c.clear-5.new.self.items (entry_slots n.message.count s.aim 0 4 es) (entry_slots n.message.count s.aim 0 4 es)
+          c.in_ok-push_entry_slots.ensures c.clear-5.ensures.items refl;
       bytes = c.in_default.ensures.bytes;
       count = c.in_default.ensures.count;
       left = c.in_default.ensures.left;

@@ -1,4 +1,4 @@
-use Rattle.std.proofs.Common.{◌≡◌, ◌+◌, ◌*◌, ◌≤◌, drop, true}
+use Rattle.std.proofs.Common.{◌≡◌, ◌+◌, ◌*◌, ◌≤◌, drop}
 use Rattle.vx_flat.specs.Places.{are_inline}
 use Rattle.vx_flat.proofs.FieldsLoop.{FieldsSoFar}
 use Rattle.vx_flat.specs.Weight.{table_weight}
@@ -17,6 +17,9 @@ decreases-verify_tables g l = 6 * l.levels + 2
 
 abbrev pub decreases-verify_member : goal.decreases-verify_member
 decreases-verify_member g l = 6 * l.levels + 1
+
+abbrev pub decreases-verify_union : goal.decreases-verify_union
+decreases-verify_union g l = 6 * l.levels + 3
 
 abbrev pub decreases-verify_present : goal.decreases-verify_present
 decreases-verify_present g l = 6 * l.levels + 3
@@ -37,7 +40,7 @@ invariant-verify_each_table-loop g l =
 abbrev pub invariant-verify_fields-loop-field : goal.invariant-verify_fields-loop-field
 invariant-verify_fields-loop-field g l = record {
   few : l.entry ≤ 2 * l.field-index;
-  inline : are_inline l.message l.place l.fields (drop l.field-index l.kinds) l.entry ≡ true;
+  inline : are_inline l.message l.place l.fields (drop l.field-index l.kinds) l.entry ≡ are_inline l.message l.place l.fields l.kinds 0;
   so_far : FieldsSoFar g.K.TableKind.schema l.message l.place l.fields l.kinds l.fn.room l.levels l.room
       (drop l.field-index l.kinds) l.entry;
   exact : l.steps + l.room.tables ≡ l.fn.steps + l.fn.room.tables;

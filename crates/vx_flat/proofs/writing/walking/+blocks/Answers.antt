@@ -147,7 +147,7 @@ write_table-put_table-requires-clause-few g n c =
     let vs = views c.args.values.now in
     let count = entries_slots s (fields_of s c.args.table) vs c.requires.of_kinds in
     let short = tables_short s g.met.K.TableKind.lawful c.args.table in
-    let same = c.deref.ensures.value ∙ (c.in_ok-entries.ensures ∙ ap (λ ks. entries ks vs) c.fields-kinds.ensures) in
+    let same = c.deref.ensures.value ∙ (c.in_ok-push_all.ensures ∙ ap (λ ks. entries ks vs) c.fields-kinds.ensures) in
     let long = ap length same in
     omega (arith, count, short, long)
 
@@ -155,7 +155,7 @@ pub write_table-put_table-requires-clause-entries : goal.write_table-put_table-r
 write_table-put_table-requires-clause-entries g n c =
     let s = g.K.TableKind.schema in
     let vs = views c.args.values.now in
-    let same = c.deref.ensures.value ∙ (c.in_ok-entries.ensures ∙ ap (λ ks. entries ks vs) c.fields-kinds.ensures) in
+    let same = c.deref.ensures.value ∙ (c.in_ok-push_all.ensures ∙ ap (λ ks. entries ks vs) c.fields-kinds.ensures) in
     rw same (entries_taken s (fields_of s c.args.table) vs c.requires.of_kinds)
 
 pub write_table-returns-in_err-put_table-clause-cut : goal.write_table-returns-in_err-put_table-clause-cut
@@ -166,10 +166,12 @@ write_table-returns-in_err-put_table-clause-cut g n c =
     let e = c.in_err-put_table.field-0.0 in
     let ks = fields_of s c.args.table in
     let vs = views c.args.values.now in
-    let same = c.deref.ensures.value ∙ (c.in_ok-entries.ensures ∙ ap (λ ks. entries ks vs) c.fields-kinds.ensures) in
-    let first = refused_cut b c.put_table.new.self (table_piece c.deref.result.now) e c.requires.works
+    let same = c.deref.ensures.value ∙ (c.in_ok-push_all.ensures ∙ ap (λ ks. entries ks vs) c.fields-kinds.ensures) in
+    let t = c.take_entries-entries.new.self in
+    let first = refused_cut t c.put_table.new.self (table_piece c.deref.result.now) e (ap (λ (m : Built). m.failed) c.take_entries-entries.ensures.same ∙ c.requires.works)
     c.in_err-put_table.ensures.refused in
-    let cut = subst (λ es. IsCut (with_piece b (table_piece es)) e) same first in
+    let cut = subst (λ m. IsCut (with_piece m (table_piece (entries ks vs))) e) c.take_entries-entries.ensures.same
+    (subst (λ es. IsCut (with_piece t (table_piece es)) e) same first) in
     rw (q.1, q.2) (cut_more (with_piece b (table_piece (entries ks vs))) (fields_pieces s ks vs) e cut)
 
 pub write_table-returns : goal.write_table-returns
@@ -178,16 +180,16 @@ write_table-returns g n c =
     let b = c.args.builder.now in
     let ks = fields_of s c.args.table in
     let vs = views c.args.values.now in
-    let same = c.deref.ensures.value ∙ (c.in_ok-entries.ensures ∙ ap (λ ks. entries ks vs) c.fields-kinds.ensures) in
-    let first : c.put_table.new.self ≡ with_piece b (table_piece (entries ks vs)) =
-    c.in_ok-put_table.ensures.written ∙ ap (λ es. with_piece b (table_piece es)) same in
+    let same = c.deref.ensures.value ∙ (c.in_ok-push_all.ensures ∙ ap (λ ks. entries ks vs) c.fields-kinds.ensures) in
+    let first : c.give_back.new.self ≡ with_piece b (table_piece (entries ks vs)) =
+    c.give_back.ensures ∙ (c.in_ok-put_table.ensures.written ∙ (λ i. with_piece (c.take_entries-entries.ensures.same i) (table_piece (same i)))) in
     let more = ap (λ ds. fields_pieces s ds vs) c.fields-kinds.ensures in
     record {
       written = subst (λ m. OnOk c.write_fields.result (c.write_fields.new.builder ≡ with_rest m (fields_pieces s ks vs)))
-          first (told c.write_fields.result c.write_fields.new.builder c.put_table.new.self _ _ more
+          first (told c.write_fields.result c.write_fields.new.builder c.give_back.new.self _ _ more
           c.write_fields.ensures.written);
       cut = subst (λ m. IfErr c.write_fields.result (λ e. IsCut (with_rest m (fields_pieces s ks vs)) e)) first
-          (told_cut c.write_fields.result c.put_table.new.self _ _ more c.write_fields.ensures.cut);
+          (told_cut c.write_fields.result c.give_back.new.self _ _ more c.write_fields.ensures.cut);
     }
 
 -- ---- what hangs on a field

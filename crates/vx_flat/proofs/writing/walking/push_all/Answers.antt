@@ -1,5 +1,5 @@
 use Rattle.vx_flat.proofs.Walking.{kind_there}
-use Rattle.vx_flat.proofs.writing.walking.entries_of.Goals as goal
+use Rattle.vx_flat.proofs.writing.walking.push_all.Goals as goal
 
 pub bounds-kinds-i : goal.bounds-kinds-i
 bounds-kinds-i g c =

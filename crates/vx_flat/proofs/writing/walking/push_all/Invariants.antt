@@ -2,7 +2,7 @@ use Rattle.std.proofs.Common.{◌≡◌, ◌++◌, drop}
 use Rattle.vx_flat.specs.IsOf.{AreOf}
 use Rattle.vx_flat.specs.Pieces.{entries}
 use Rattle.vx_flat.specs.View.{views}
-use Rattle.vx_flat.proofs.writing.walking.entries_of.Given as goal
+use Rattle.vx_flat.proofs.writing.walking.push_all.Given as goal
 
 abbrev pub invariant-loop-i : goal.invariant-loop-i
 invariant-loop-i g l = record {
