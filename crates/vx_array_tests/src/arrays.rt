@@ -140,7 +140,7 @@ pub(crate) fn is_node(
 }
 
 // How many bytes an array of numbers lends.
-fn lent(array: &Array) -> usize {
+fn borrowed(array: &Array) -> usize {
     match array.body() {
         Body::Primitive(numbers) => numbers.values().len(),
         _ => 0,
@@ -159,7 +159,7 @@ fn are_integers(array: &Array) -> bool {
 fn is_of_integers(made: Made, bytes: usize) -> bool {
     match made {
         Ok(array) => {
-            let holds = are_integers(&array) && lent(&array) == bytes;
+            let holds = are_integers(&array) && borrowed(&array) == bytes;
             drop(array);
             holds
         }
@@ -198,7 +198,7 @@ fn listed(alloc: Global) -> Result<(usize, usize), ArrayError> {
 }
 
 #[test]
-fn parts_are_lent_and_cloned(rt: HostRuntime) {
+fn parts_are_borrowed_and_cloned(rt: HostRuntime) {
     assert!(rt; are_copied(rt.alloc(), &INTEGERS, 2));
     assert!(rt; listed(rt.alloc()) == Ok((1, 1)));
 }

@@ -66,7 +66,7 @@ fn is_bit(alloc: Global, offset: usize, len: usize, bits: &[bool]) -> bool {
     }
 }
 
-// Whether so many flags behind so many bits are made, and the last is its bit.
+// Whether so many flags after so many bits are made, and the last is its bit.
 fn is_last(alloc: Global, offset: usize, len: usize) -> bool {
     match BITS.get(..offset.saturating_add(len)) {
         Some(bits) => {
@@ -76,12 +76,12 @@ fn is_last(alloc: Global, offset: usize, len: usize) -> bool {
     }
 }
 
-// Why so many flags behind so many bits are not made, if they are not.
+// Why so many flags after so many bits are not made, if they are not.
 fn flags_refusal(alloc: Global, offset: usize, len: usize) -> Option<ArrayError> {
     flags_from(alloc, offset, len).err()
 }
 
-// Whether behind so many bits each number of flags up to this one is made, and one more is not.
+// Whether after so many bits each number of flags up to this one is made, and one more is not.
 fn are_read_from(alloc: Global, offset: usize, most: u8) -> bool {
     for len in 0..=most {
         if !is_last(alloc, offset, usize::from(len)) {
@@ -259,7 +259,7 @@ fn a_validity_may_say_that_no_row_is_there(rt: HostRuntime) {
     assert!(rt; is_all_invalid(alloc, 9, &[0, 0]));
 }
 
-// Four flags behind two bits, with a validity.
+// Four flags after two bits, with a validity.
 fn behind_two_bits(alloc: Global) -> Made {
     flags_with(
         alloc,
@@ -271,7 +271,7 @@ fn behind_two_bits(alloc: Global) -> Made {
 }
 
 #[test]
-fn flags_are_lent_and_cloned(rt: HostRuntime) {
+fn flags_are_borrowed_and_cloned(rt: HostRuntime) {
     let copy = copy_of(rt.alloc(), behind_two_bits(rt.alloc()));
     assert!(rt; is_node(copy, "vortex.bool", 4, 1, Some(&[0x2c])));
 }

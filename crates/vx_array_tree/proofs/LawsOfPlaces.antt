@@ -24,7 +24,7 @@ pub rows_count : (ts : Trees) → length (rows_below ts) ≡ count ts
 rows_count end = refl
 rows_count (more t ts) = ap (λ k. suc k) (rows_count ts)
 
--- ---- exactly so many, or one more behind a validity
+-- ---- exactly so many, or one more after a validity
 
 pub behind_some : (ps : List Place) (n k : ℕ) (qs : List Place) → exactly ps k ≡ Some qs → behind_validity ps n k ≡ Some qs
 behind_some ps n k qs e = rw (e, behind_validity) refl
@@ -55,7 +55,7 @@ exactly_none [] (suc k) h = refl
 exactly_none (p ∷ ps) zero h = refl
 exactly_none (p ∷ ps) (suc k) h = ap (λ (o : Option (List Place)). option_map (λ qs. p ∷ qs) o) (exactly_none ps k (λ e. h (ap (λ n. suc n) e)))
 
--- As many as there are stand as they are, and one more behind a validity; there is no other way.
+-- As many as there are stand as they are, and one more after a validity; there is no other way.
 pub behind_self : (ps : List Place) (n k : ℕ) → k ≡ length ps → behind_validity ps n k ≡ Some ps
 behind_self ps n k e = ap (λ j. behind_validity ps n j) e ∙ behind_some ps n (length ps) ps (exactly_self ps)
 

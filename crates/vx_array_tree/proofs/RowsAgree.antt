@@ -36,7 +36,7 @@ AllAgree (r ∷ rs) = Agree r × AllAgree rs
 never : true ≡ false → ⊥
 never e = cc
 
--- ---- behind a validity
+-- ---- after a validity
 
 agrees_where : (o : Option Bool) (value : ℕ → Value) (i : ℕ) → is_null (value i) ≡ false → AgreesAt o (where_valid o value i)
 agrees_where None value i h = refl

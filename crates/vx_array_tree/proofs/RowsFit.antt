@@ -43,7 +43,7 @@ abbrev pub FitAll : Trees → Type 0
 FitAll end = Unit {0}
 FitAll (more t ts) = FitRows (label t).dtype (label t).len (rows_of t) × FitAll ts
 
--- ---- values behind a validity
+-- ---- values after a validity
 
 fits_where : (o : Option Bool) (value : ℕ → Value) (i : ℕ) (d : Typ) → (o ≡ Some false → nullability d ≡ Nullable) → (o ≡ Some true → has_opaque (value i) ≡ false → Fits (value i) d)
     → has_opaque (where_valid o value i) ≡ false → Fits (where_valid o value i) d

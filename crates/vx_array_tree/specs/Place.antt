@@ -54,7 +54,7 @@ before_validity [] n (suc (suc k)) = None
 before_validity (p ∷ ps) n zero = None
 before_validity (p ∷ ps) n (suc k) = option_map (λ qs. p ∷ qs) (before_validity ps n k)
 
--- These places behind that of a validity of n rows, which stands where there is one child more.
+-- These places after that of a validity of n rows, which stands where there is one child more.
 abbrev pub behind_validity : List Place → ℕ → ℕ → Option (List Place)
 behind_validity ps n k = elim (exactly ps k) [ Some qs ↦ Some qs | None ↦ exactly (validity_place n ∷ ps) k ]
 

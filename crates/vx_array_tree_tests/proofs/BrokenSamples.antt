@@ -52,8 +52,8 @@ code_past_values = record {
 }
 
 -- Offsets that fall.
-falling_offsets : BreaksContent (lists (0 ∷ 2 ∷ 1 ∷ 3 ∷ []))
-falling_offsets = record {
+decreasing_offsets : BreaksContent (lists (0 ∷ 2 ∷ 1 ∷ 3 ∷ []))
+decreasing_offsets = record {
   shaped = record { fair = refl; planned = refl; allows = λ e. absurd (omega arith); takes = tt; holds = tt };
   controlled = native_controlled _ _ _ (leaf, one_leaf);
   broken = λ c. (let x = c.rising 1 (omega arith) in absurd (omega (arith, x)));

@@ -47,7 +47,7 @@ unknown = foreign (number_type P.U16 NonNullable) 3 []
 abbrev pub pair_type : Typ
 pair_type = node (K.structure (codes "a" ∷ codes "b" ∷ []) Nullable) (more (number_type P.U16 NonNullable) (more (number_type P.U16 NonNullable) end))
 
--- Pairs of which one field is unknown, behind this validity.
+-- Pairs of which one field is unknown, after this validity.
 abbrev pub half_known : Tree → Tree
 half_known validity = array pair_type 3 B.struct (validity ∷ unknown ∷ u16s (7 ∷ 8 ∷ 9 ∷ []) ∷ [])
 

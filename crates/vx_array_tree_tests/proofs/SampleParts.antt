@@ -149,7 +149,7 @@ dictionary_places : plan_of E.dict (text_type Nullable) 4 (M.dict (record { valu
     ≡ Some (place (number_type P.U8 Nullable) 4 ∷ place (text_type Nullable) 3 ∷ [])
 dictionary_places = refl
 
--- The core of variants is of their type, and a typed child stands behind it where the metadata tells a type, and
+-- The core of variants is of their type, and a typed child stands after it where the metadata tells a type, and
 -- nowhere else.
 variants_places : plan_of E.variant (variant_type Nullable) 2 (M.variant (Some (number_type P.I32 Nullable))) 2
     ≡ Some (place (variant_type Nullable) 2 ∷ place (number_type P.I32 Nullable) 2 ∷ [])

@@ -107,7 +107,7 @@ numbers = i32s Nullable (1 ∷ 2 ∷ 3 ∷ 4 ∷ []) (bits 4 5 ∷ [])
 abbrev pub sixteen : ℕ → ℕ → List ℕ
 sixteen a b = a ∷ b ∷ 0 ∷ 0 ∷ 0 ∷ 0 ∷ 0 ∷ 0 ∷ 0 ∷ 0 ∷ 0 ∷ 0 ∷ 0 ∷ 0 ∷ 0 ∷ 0 ∷ []
 
--- Decimals of ten digits, two of them behind the point.
+-- Decimals of ten digits, two of them after the point.
 abbrev pub decimals : DecimalType → List ℕ → ℕ → ℕ → Tree
 decimals w bs e n = array (kind (K.decimal 10 (pos 2) NonNullable)) n (B.decimal (record { values = buffer bs e; values_type = w })) []
 

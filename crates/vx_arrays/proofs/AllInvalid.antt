@@ -50,7 +50,7 @@ buffer_is b n p q = λ i. record { bytes = p i; exponent = q i }
 tree_is : (b : Buffer) (n : ℕ) → b.bytes ≡ replicate ((n + 7) / 8) 0 → b.exponent ≡ 0 → bool_tree b 0 n NonNullable None ≡ all_invalid n
 tree_is b n p q = ap (λ (x : Buffer). bool_tree x 0 n NonNullable None) (buffer_is b n p q)
 
--- So what is made of it is that validity, which says so of each row, and want of memory is the one refusal.
+-- So what is made of it is that validity, which says so of each row, and allocation failure is the one refusal.
 pub is_all_invalid : (b : Buffer) (n : ℕ) (r : Result Tree ArrayError) → b.bytes ≡ replicate ((n + 7) / 8) 0 → b.exponent ≡ 0 → IfOk r (λ t. t ≡ bool_tree b 0 n NonNullable None) → IfOk r (λ t. t ≡ all_invalid n)
 is_all_invalid b n (Ok t) p q e = e ∙ tree_is b n p q
 is_all_invalid b n (Err error) p q e = tt

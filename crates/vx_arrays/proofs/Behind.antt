@@ -1,4 +1,4 @@
--- What stands behind a node's other children.
+-- What stands after a node's other children.
 use Rattle.std.proofs.Common.{ℕ, ◌≡◌, ◌≤◌, List, [], ◌∷◌, ◌++◌, Some, Result, Ok, IfOk, sym, ap, ◌∙◌, subst, length, arith}
 use Rattle.std.specs.Prelude.{OnOk}
 use Rattle.vx_trees.specs.Rose.{end, more, count, roses_list, roses_of}
@@ -12,7 +12,7 @@ never_two n [] l e = omega (arith, l)
 never_two n (u ∷ []) l e = omega (arith, l)
 never_two n (u ∷ v ∷ us) l e = absurd (cc)
 
--- What is put behind others stands behind them: behind none, one, two and three.
+-- What is put after others stands after them: after none, one, two and three.
 listed_are : (ts us : Trees) → roses_list ts ≡ roses_list us → ts ≡ us
 listed_are ts us e = sym (roses_of-roses_list ts) ∙ ap (λ (xs : List Tree). roses_of xs) e ∙ roses_of-roses_list us
 

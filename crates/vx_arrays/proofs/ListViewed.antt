@@ -1,4 +1,4 @@
--- The children of a node of list views: its elements, its offsets, its sizes, and what stands behind them; and its rows.
+-- The children of a node of list views: its elements, its offsets, its sizes, and what stands after them; and its rows.
 use Rattle.std.proofs.Common.{ℕ, suc, ◌≡◌, ◌≤◌, ◌<◌, ◌+◌, ◌⊎◌, inl, inr, List, [], ◌∷◌, Option, Some, None, Bool, true, false, refl, sym, ap, ◌∙◌, subst, length, arith}
 use Rattle.std.proofs.Math.Nat.{eq-or-lt_of_le}
 use Rattle.std.specs.Prelude.{◌↔◌, IsTrue}

@@ -1,4 +1,4 @@
--- The children of a node of texts or of bytes: its offsets, and what stands behind them.
+-- The children of a node of texts or of bytes: its offsets, and what stands after them.
 use Rattle.std.proofs.Common.{take, drop, get_or, ◌<◌, ℕ, suc, ◌≡◌, ◌≢◌, ◌≤◌, ◌-◌, ◌^◌, List, [], ◌∷◌, Option, Some, None, Bool, true, false, refl, sym, ap, ◌∙◌, subst, length, arith}
 use Rattle.std.proofs.lemmas.List.{take_all}
 use Rattle.std.proofs.lemmas.Bool.{false≢true, iff_false, lt-ltb}
@@ -59,7 +59,7 @@ module _ (d : Typ) (n : ℕ) (b : Buffer) where
   pub shaped_some : (ts : Trees) → IsWellShaped (varbin_head d n b) ts → ts ≢ end
   shaped_some ts s = some_planned n (metadata_of (places ts)) ts (plan_of_bytes d n (metadata_of (places ts)) (count ts) (places ts) s.planned).1
 
-  -- The first of them are offsets, and behind them stands a validity or nothing.
+  -- The first of them are offsets, and after them stands a validity or nothing.
   front : (o : Tree) (vs : Trees) → IsWellShaped (varbin_head d n b) (more o vs)
       → (place (label o).dtype (label o).len ≡ place (numbers (ptype_of (label o).dtype)) (suc n)) × (before_validity [] n (count vs) ≡ Some (places vs))
   front o vs s =
@@ -181,7 +181,7 @@ module _ (z : DType) (m : Nullability) (bs : List ℕ) where
 
 -- ---- the first of some children
 
--- The first of some children, and those behind it.
+-- The first of some children, and those after it.
 pub first_and_behind : (ts : List Tree) (o : Tree) → 1 ≤ length ts → o ≡ get_or ts 0 o → roses_of ts ≡ more o (roses_of (take (length ts - 1) (drop 1 ts)))
 first_and_behind [] o h e = absurd (omega (arith, h))
 first_and_behind (t ∷ ts) o h e =

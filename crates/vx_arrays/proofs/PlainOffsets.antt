@@ -12,7 +12,7 @@ use Rattle.vx_array_tree.specs.Bytes.{primitive_at}
 use Rattle.vx_array_tree.specs.Encodings.VarBins.{AreOffsets}
 use Rattle.vx_array_tree.specs.Rows.{Rows, index_at, IsIndex, IsThere}
 use Rattle.vx_arrays.specs.Offsets.{plain_rows}
-use Rattle.vx_arrays.proofs.Rising.{AreRisen, risen_none, risen_more, risen_all, last_within, none_falls, offset_within}
+use Rattle.vx_arrays.proofs.Rising.{AreRisen, risen_none, risen_more, risen_all, last_within, none_decreases, offset_within}
 
 -- ---- while they are read
 
@@ -29,8 +29,8 @@ module _ (p : PType) (n : ℕ) (bytes : List ℕ) (i offset : ℕ) (e : natural_
   plain_risen j last a le s = risen_more (plain_rows p n bytes) i j last offset a plain_index (λ _. plain_is_index) le s
 
   -- Where one falls, they are no offsets.
-  pub plain_falls : (parts total last : ℕ) → AreRisen (plain_rows p n bytes) i last → i < suc parts → offset < last → AreOffsets (plain_rows p n bytes) parts total → ⊥
-  plain_falls parts total last a h lt o = none_falls (plain_rows p n bytes) parts total i last offset a plain_index h lt o
+  pub plain_decreases : (parts total last : ℕ) → AreRisen (plain_rows p n bytes) i last → i < suc parts → offset < last → AreOffsets (plain_rows p n bytes) parts total → ⊥
+  plain_decreases parts total last a h lt o = none_decreases (plain_rows p n bytes) parts total i last offset a plain_index h lt o
 
 pub ruleset plain = (risen_none, risen_all, last_within, plain_risen)
 

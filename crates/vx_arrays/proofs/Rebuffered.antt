@@ -75,7 +75,7 @@ module _ (h : Head) (ts : Trees) (bs : List Buffer) (e : rebuffered h.body bs �
   pub bare_made : bs ≡ [] → with_buffers (node h ts) bs ≡ Some (node h ts)
   bare_made q = remade ∙ ap (λ (cs : List Buffer). option_map (λ (b : Body). node (record { dtype = h.dtype; len = h.len; stats = h.stats; body = b }) ts) (bufferless h.body cs)) q
 
--- A want of memory is among the refusals, and is no other.
+-- A allocation failure is among the refusals, and is no other.
 pub memory_refused : (r : Result Tree ArrayError) (t : Tree) (bs : List Buffer) → IsOkUnless r OutOfMemory → IfErr r (λ x. RefusesBuffers x t bs)
 memory_refused (Ok a) t bs h = tt
 memory_refused (Err x) t bs h = subst (λ (y : ArrayError). RefusesBuffers y t bs) (sym h) tt

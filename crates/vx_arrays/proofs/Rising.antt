@@ -57,15 +57,15 @@ pub last_within : (r : Rows) (n m total last : ℕ) → AreRisen r m last → m 
 last_within r n m total last a s o = omega (arith, a.last_is n (sym s), o.within)
 
 -- Rows of which one falls are no offsets.
-pub none_falls : (r : Rows) (n total i last offset : ℕ) → AreRisen r i last → offset ≡ index_at r i → i < suc n → offset < last → AreOffsets r n total → ⊥
-none_falls r n total zero last offset a e h lt o = omega (arith, a.first refl, lt)
-none_falls r n total (suc k) last offset a e h lt o = omega (arith, a.last_is k refl, e, lt, o.rising k (omega (arith, h)))
+pub none_decreases : (r : Rows) (n total i last offset : ℕ) → AreRisen r i last → offset ≡ index_at r i → i < suc n → offset < last → AreOffsets r n total → ⊥
+none_decreases r n total zero last offset a e h lt o = omega (arith, a.first refl, lt)
+none_decreases r n total (suc k) last offset a e h lt o = omega (arith, a.last_is k refl, e, lt, o.rising k (omega (arith, h)))
 
 -- Nor are rows of which one is there and no natural number.
 pub none_unnatural : (r : Rows) (n total i : ℕ) → ((IsThere r.valid i → IsIndex r i) → ⊥) → i < suc n → AreOffsets r n total → ⊥
 none_unnatural r n total i never h o = never (o.naturals i (omega (arith, h)))
 
-pub ruleset rising = (risen_none, risen_more, risen_all, last_within, none_falls, none_unnatural)
+pub ruleset rising = (risen_none, risen_more, risen_all, last_within, none_decreases, none_unnatural)
 
 -- ---- once they are read
 

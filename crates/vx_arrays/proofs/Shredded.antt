@@ -20,7 +20,7 @@ use Rattle.vx_arrays.specs.Variants.{AreRows, IsOfVariants, merged_cells, merged
 
 -- ---- what a plan says
 
--- A core of a type of variants and of n rows, and so many behind it.
+-- A core of a type of variants and of n rows, and so many after it.
 pub record IsOverCore (d : Typ) (n : ℕ) (c : Tree) (us : Trees) : Type 0 where
   pub variants : IsOfVariants d
   pub core : array_place c ≡ place d n

@@ -1,4 +1,4 @@
--- The children of a node of lists of one size: its elements, and what stands behind them; and its rows.
+-- The children of a node of lists of one size: its elements, and what stands after them; and its rows.
 use Rattle.std.proofs.Common.{ℕ, suc, ◌≡◌, ◌≤◌, ◌<◌, ◌+◌, ◌*◌, ◌^◌, List, [], ◌∷◌, Option, Some, Bool, true, false, refl, sym, ap, ◌∙◌, subst, length, arith}
 use Rattle.std.proofs.lemmas.Bool.{iff_false, false≢true, ltb-true}
 use Rattle.std.specs.Prelude.{◌↔◌, IsTrue}

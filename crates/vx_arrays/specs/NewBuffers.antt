@@ -31,7 +31,7 @@ rebuffered b bs = bufferless b bs
 abbrev pub with_buffers : Tree → List Buffer → Option Tree
 with_buffers (node h ts) bs = option_map (λ (b : Body). node (record { dtype = h.dtype; len = h.len; stats = h.stats; body = b }) ts) (rebuffered h.body bs)
 
--- With these buffers an array is refused for want of memory, or as a constructor refuses the array that they make. Where
+-- With these buffers an array is refused for allocation failure, or as a constructor refuses the array that they make. Where
 -- they make none, there are more or fewer than the encoding has, which is a wrong shape.
 abbrev pub RefusesBuffers : ArrayError → Tree → List Buffer → Type 0
 RefusesBuffers OutOfMemory t bs = Unit {0}

@@ -8,7 +8,7 @@ use Rattle.vx_rows.specs.Refused.{RefusesCells}
 use Rattle.vx_rows.specs.declared.error.ArrayError.{ArrayError}
 use Rattle.vx_rows.specs.declared.error.ArrayError.TheVariants.{OutOfMemory, BadShape, BadContent, ForeignControl, ValueTooLarge, BadCast}
 
--- A constructor refuses the tree of its parts for want of memory, where its root is of another shape than its
+-- A constructor refuses the tree of its parts for allocation failure, where its root is of another shape than its
 -- encoding asks for, where its root is of that shape and a foreign node stands where it says where rows are, or where
 -- neither is so and its content is broken.
 abbrev pub RefusesMaking : ArrayError → Tree → Type 0
@@ -23,7 +23,7 @@ RefusesMaking BadCast t = ⊥
 abbrev pub RefusesRow : ArrayError → Rows → ℕ → ℕ → Type 0
 RefusesRow e r i budget = RefusesCells e (r.cells i) budget
 
--- Of the refusals this one is want of memory.
+-- Of the refusals this one is allocation failure.
 abbrev pub IsMemory : ArrayError → Type 0
 IsMemory OutOfMemory = Unit {0}
 IsMemory BadShape = ⊥
@@ -32,7 +32,7 @@ IsMemory ForeignControl = ⊥
 IsMemory ValueTooLarge = ⊥
 IsMemory BadCast = ⊥
 
--- The answer is Ok, or want of memory.
+-- The answer is Ok, or allocation failure.
 abbrev pub IsOkOrMemory : {A : Type 0} → Result A ArrayError → Type 0
 IsOkOrMemory (Ok r) = Unit {0}
 IsOkOrMemory (Err e) = IsMemory e

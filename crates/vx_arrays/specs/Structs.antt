@@ -1,4 +1,4 @@
--- What is made where an array of structures is asked for, and how its node is parted.
+-- What is made where an array of structures is asked for, and how its node is split.
 use Rattle.std.specs.Prelude.{ℕ, Option, None, Some, if◌then◌else◌}
 use Rattle.vx_trees.specs.Rose.{node, end, more, count, roses_of}
 use Rattle.vx_types.specs.Kind.{structure}
@@ -13,7 +13,7 @@ use Rattle.vx_array_tree.specs.Tree.{Head, Tree, Trees, untold}
 abbrev pub struct_head : Fields → Nullability → ℕ → Head
 struct_head fields m n = untold (node (structure fields.names m) (roses_of fields.types)) n B.struct
 
--- Children behind a validity, where one stands.
+-- Children after a validity, where one stands.
 abbrev pub behind_validity : Option Tree → Trees → Trees
 behind_validity None ts = ts
 behind_validity (Some t) ts = more t ts
@@ -27,7 +27,7 @@ abbrev pub IsOfFields : Typ → Type 0
 IsOfFields (node (structure names m) ts) = Unit {0}
 IsOfFields _ = ⊥
 
--- The children behind the first.
+-- The children after the first.
 abbrev pub behind_first : Trees → Trees
 behind_first end = end
 behind_first (more t ts) = ts

@@ -1,4 +1,4 @@
--- What is made where an array of texts or of bytes by offsets is asked for, and how its node is parted.
+-- What is made where an array of texts or of bytes by offsets is asked for, and how its node is split.
 use Rattle.std.specs.Prelude.{ℕ, suc, ◌≡◌, ◌-◌, [], Option, Some, IsTrue}
 use Rattle.vx_buffer.specs.Buffer.{Buffer}
 use Rattle.vx_trees.specs.Rose.{node, end, more, label, count}
@@ -33,7 +33,7 @@ abbrev pub IsOfOffsets : Typ → Type 0
 IsOfOffsets (node (primitive p NonNullable) end) = IsTrue (is_integer p)
 IsOfOffsets _ = ⊥
 
--- The children of a node of n rows are offsets, one more than there are rows, and what stands behind them as its
+-- The children of a node of n rows are offsets, one more than there are rows, and what stands after them as its
 -- validity.
 pub record IsParted (n : ℕ) (offsets : Tree) (behind : Trees) : Type 0 where
   pub counted : (label offsets).len ≡ suc n

@@ -1,4 +1,4 @@
--- What is made where an array of variants is asked for, and how its node is parted.
+-- What is made where an array of variants is asked for, and how its node is split.
 use Rattle.std.specs.Prelude.{ℕ, ◌≡◌, Option, max}
 use Rattle.vx_trees.specs.Rose.{node, end, more, label}
 use Rattle.vx_types.specs.Kind.{variant as variant_kind}

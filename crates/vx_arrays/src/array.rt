@@ -41,7 +41,7 @@ pub struct Array {
 
 // An array falls by a call of this, wherever one falls, and not part by part.
 impl Drop for Array {
-    #[cycle(fall)]
+    #[cycle(dropping)]
     fn drop(self) {
         let Array {
             dtype: _,

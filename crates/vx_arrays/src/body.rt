@@ -21,7 +21,7 @@ pub enum Body {
     FixedSizeList, // nothing: lists of one size
     Struct, // nothing: structures
     Ext, // nothing: extensions
-    List, // nothing: lists, parted by offsets
+    List, // nothing: lists, split by offsets
     Union, // nothing: unions
     Dict(crate::DictData), // dictionaries: a flag
     ListView(crate::ListViewData), // a flag: lists, each with an offset and a size of its own

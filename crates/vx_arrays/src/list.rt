@@ -92,7 +92,7 @@ impl Arrays {
         self.items.as_slice().len()
     }
 
-    /// The arrays in their order, lent.
+    /// The arrays in their order, borrowed.
     pub fn as_slice(&self) -> &[Array]
         ensures items { roses_of result.now ≡ self.now }
         ensures sound { EverywhereBelow IsSoundNode self.now }

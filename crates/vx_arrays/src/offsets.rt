@@ -31,7 +31,7 @@ pub(crate) fn index_at(array: &Array, index: usize) -> Option<u64>
     }
 }
 
-// Whether rows are offsets: natural numbers that never fall, up to the one behind the last part, which is at most a
+// Whether rows are offsets: natural numbers that never fall, up to the one after the last part, which is at most a
 // total.
 pub(crate) fn are_offsets(offsets: &Array, parts: usize, total: usize) -> bool
     requires counted { (label offsets.now).len ≡ suc parts }

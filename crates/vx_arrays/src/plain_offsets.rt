@@ -114,7 +114,7 @@ pub(crate) fn are_plain_offsets(kind: PType, bytes: &[u8], parts: usize, total: 
     }
 }
 
-// Whether numbers never fall, up to the one behind the last part, which is at most a total.
+// Whether numbers never fall, up to the one after the last part, which is at most a total.
 #[tactic(auto, using(crate::proofs::PlainOffsets::plain))]
 fn are_rising<T: Unsigned>(bytes: &[u8], parts: usize, total: usize) -> bool
     requires filled { length bytes.now ≡ width_of T.kind * suc parts }

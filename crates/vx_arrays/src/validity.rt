@@ -126,7 +126,7 @@ pub(crate) fn over_validity(
     }
 }
 
-// Whether arrays are the validity of so many rows, or none: what stands behind a node's other children.
+// Whether arrays are the validity of so many rows, or none: what stands after a node's other children.
 pub(crate) fn stands_behind(nullability: Nullability, behind: &[Array], len: usize) -> bool
     ensures { IsTrue result ↔ IsValidity nullability len (roses_of behind.now) }
 {
@@ -142,7 +142,7 @@ pub(crate) fn stands_behind(nullability: Nullability, behind: &[Array], len: usi
     }
 }
 
-// The children of a node that has two, and behind them at most a validity.
+// The children of a node that has two, and after them at most a validity.
 pub(crate) fn listed(
     alloc: Global,
     first: Array,
@@ -162,7 +162,7 @@ pub(crate) fn listed(
     }
 }
 
-// The children of a node that has three, and behind them at most a validity.
+// The children of a node that has three, and after them at most a validity.
 pub(crate) fn listed_by_three(
     alloc: Global,
     first: Array,
@@ -184,7 +184,7 @@ pub(crate) fn listed_by_three(
     }
 }
 
-// The first of a node's children, and those behind it.
+// The first of a node's children, and those after it.
 pub(crate) fn parted(children: &[Array]) -> (&Array, &[Array])
     requires { 1 ≤ length children.now }
     ensures { more result.0.now (roses_of result.1.now) ≡ roses_of children.now }
@@ -195,7 +195,7 @@ pub(crate) fn parted(children: &[Array]) -> (&Array, &[Array])
     }
 }
 
-// The children of a node that has one, and behind it at most a validity.
+// The children of a node that has one, and after it at most a validity.
 pub(crate) fn with_validity(
     alloc: Global,
     first: Array,

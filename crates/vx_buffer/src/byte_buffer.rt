@@ -74,7 +74,7 @@ impl ByteBuffer {
         self.bytes.is_empty()
     }
 
-    /// The bytes, lent.
+    /// The bytes, borrowed.
     pub fn as_slice(&self) -> &[u8]
         ensures { result.now ≡ self.now.bytes }
     {

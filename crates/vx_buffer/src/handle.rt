@@ -116,14 +116,14 @@ impl BufferHandle {
         self.slice(alloc, range.start * width..range.end * width)
     }
 
-    /// The buffer on the host, lent: always there.
+    /// The buffer on the host, borrowed: always there.
     pub fn as_host(&self) -> &ByteBuffer
         ensures { result.now ≡ self.now }
     {
         &self.buffer
     }
 
-    /// The buffer on the host, lent: always `Some`.
+    /// The buffer on the host, borrowed: always `Some`.
     pub fn as_host_opt(&self) -> Option<&ByteBuffer>
         ensures { IsSomeAnd result (λ b. b.now ≡ self.now) }
     {

@@ -76,7 +76,7 @@ impl ByteBuffers {
         self.items.get(index)
     }
 
-    /// The buffers in their order, lent.
+    /// The buffers in their order, borrowed.
     pub fn as_slice(&self) -> &[ByteBuffer]
         ensures { result.now ≡ self.now }
     {
@@ -178,7 +178,7 @@ impl BufferHandles {
         self.items.get(index)
     }
 
-    /// The buffers in their order, lent.
+    /// The buffers in their order, borrowed.
     pub fn as_slice(&self) -> &[BufferHandle]
         ensures { result.now ≡ self.now }
     {

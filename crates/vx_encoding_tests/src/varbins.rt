@@ -77,7 +77,7 @@ fn are_parted(alloc: Global, array: &Array) -> bool {
 
 const ENDS: [u8; 16] = [0, 0, 0, 0, 2, 0, 0, 0, 2, 0, 0, 0, 3, 0, 0, 0];
 
-// Whether three letters are parted into such rows.
+// Whether three letters are split into such rows.
 fn are_rows(alloc: Global, rows: Rows) -> Result<bool, ArrayError> {
     let array = made(alloc, rows, PType::I32, &ENDS, b"abc")?;
     let parted = are_parted(alloc, &array);
@@ -91,7 +91,7 @@ fn rows_are_parted_by_offsets(rt: HostRuntime) {
     assert!(rt; are_rows(rt.alloc(), Rows::Bytes) == Ok(true));
 }
 
-// Why three bytes are not parted by offsets of a kind, if they are not.
+// Why three bytes are not split by offsets of a kind, if they are not.
 fn refusal(alloc: Global, kind: PType, offsets: &[u8]) -> Option<ArrayError> {
     made(alloc, Rows::Bytes, kind, offsets, b"abc").err()
 }

@@ -81,7 +81,7 @@ flags_plan x h us p =
     let m = bool_offset x (typ h.dtype) h.metadata p.value p.metadata in
     record { value = p.value; read = m; planned = plan_some p.value m.offset (typ h.dtype) h.len h.nchildren (places us) m.value_is p.plan }
 
--- So its metadata is read again, and want of memory is the one refusal.
+-- So its metadata is read again, and allocation failure is the one refusal.
 pub flags_read : (x : ExtMeaning) (error : EncodingError) (h : ArrayHead) (bs : List Buffer) (us : Trees) → (y : ExtMeaning) × IsPlanned y Bool h (places us) → RefusesMetadata error bool_schema 0 h.metadata → RefusesBuilding error x Bool h bs us
 flags_read x OutOfMemory h bs us planned u = tt
 flags_read x BadMetadata h bs us planned u = absurd (u _ (flags_plan planned.0 h us planned.1).read.reads)

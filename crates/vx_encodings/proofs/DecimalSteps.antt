@@ -71,7 +71,7 @@ decimals_plan x h us p =
     let m = decimal_width x (typ h.dtype) h.metadata p.value p.metadata in
     record { value = p.value; read = m; planned = plan_some p.value m.values_type (typ h.dtype) h.len h.nchildren (places us) m.value_is p.plan }
 
--- So its metadata is read again, and want of memory is the one refusal.
+-- So its metadata is read again, and allocation failure is the one refusal.
 pub decimals_read : (x : ExtMeaning) (error : EncodingError) (h : ArrayHead) (bs : List Buffer) (us : Trees) → (y : ExtMeaning) × IsPlanned y Decimal h (places us) → RefusesMetadata error decimal_schema 0 h.metadata → RefusesBuilding error x Decimal h bs us
 decimals_read x OutOfMemory h bs us planned u = tt
 decimals_read x BadMetadata h bs us planned u = absurd (u _ (decimals_plan planned.0 h us planned.1).read.reads)

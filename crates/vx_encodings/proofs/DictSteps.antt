@@ -115,7 +115,7 @@ dict_plan x h us f r p =
     let k : h.nchildren ≡ count us = sym (planned_count E.dict (typ h.dtype) h.len (M.dict v) h.nchildren (places us) q) ∙ places_count us in
     record { integer = m.1; planned = subst (λ (j : ℕ). plan (typ h.dtype) h.len v j ≡ Some (places us)) k q }
 
--- Metadata is read again, and want of memory is the one refusal.
+-- Metadata is read again, and allocation failure is the one refusal.
 pub dicts_read : (x : ExtMeaning) (error : EncodingError) (h : ArrayHead) (bs : List Buffer) (us : Trees) → (y : ExtMeaning) × IsPlanned y C.Dict h (places us) → RefusesMetadata error dict_schema 0 h.metadata → RefusesBuilding error x C.Dict h bs us
 dicts_read x OutOfMemory h bs us planned u = tt
 dicts_read x BadMetadata h bs us planned u = absurd (u _ (dict_read planned.0 (typ h.dtype) h.metadata planned.1.value planned.1.metadata).reads)

@@ -42,7 +42,7 @@ list_formed n p lt = whole_form list_schema 0 list_parts (n, (code_of p, tt)) ((
 pub both_numbers : (n m : ℕ) (p : PType) (k : ℕ) → n ≡ m → code_of p ≡ k → list_value n p ≡ list_parts.value (m, (k, tt))
 both_numbers n m p k e f = λ i. list_parts.value (e i, (f i, tt))
 
--- A field is a key and a varint at most, and behind it stands the rest.
+-- A field is a key and a varint at most, and after it stands the rest.
 pub field_short : (b : Bool) (key n : ℕ) (rest : List ℕ) (m : ℕ) → key < 2 ^ 64 → n < 2 ^ 64 → length rest ≤ m → length (((if b then [] else varint_bytes key ++ varint_bytes n) ++ []) ++ rest) ≤ 20 + m
 field_short true key n rest m k l h = omega (arith, h)
 field_short false key n rest m k l h =

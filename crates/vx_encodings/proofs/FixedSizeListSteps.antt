@@ -43,7 +43,7 @@ lists_unread x h b v m = b (fixed_size_list_nothing x (typ h.dtype) h.metadata v
 pub lists_unplanned : (x : ExtMeaning) (h : ArrayHead) → h.metadata ≡ [] → plan (typ h.dtype) h.len h.nchildren ≡ None → RefusesPlanning BadShape x FixedSizeList h
 lists_unplanned x h b e = single_unplanned x FixedSizeList h M.empty (fixed_size_list_metadata x (typ h.dtype) h.metadata b) e
 
--- What is planned of elements and a validity behind them.
+-- What is planned of elements and a validity after them.
 abbrev pub elements_plan : Typ → ℕ → ℕ → ℕ → Option (List Place)
 elements_plan e s n k = when (is_len (n * s)) (before_validity (place e (n * s) ∷ []) n k)
 
@@ -88,7 +88,7 @@ lists_plan x h us p =
 pub lists_sized : (h : ArrayHead) (us : Trees) → (y : ExtMeaning) × IsPlanned y FixedSizeList h (places us) → IsOfSize (typ h.dtype)
 lists_sized h us planned = (lists_plan planned.0 h us planned.1).sized
 
--- Elements stand first, and at most a validity behind them.
+-- Elements stand first, and at most a validity after them.
 few_of : (d : Typ) (n k : ℕ) (us : Trees) → plan d n k ≡ Some (places us) → (1 ≤ count us) × (count us ≤ 2) × (k ≡ count us)
 few_of (node (fixed_size_list s m) (more e end)) n k us p = behind_few (place e (n * s)) n k us (let_through (is_len (n * s)) _ _ p)
 few_of _ n k us p = absurd (cc)

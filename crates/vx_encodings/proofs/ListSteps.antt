@@ -53,7 +53,7 @@ no_integer p e t = absurd (cc)
 pub lists_of_floats : (x : ExtMeaning) (h : ArrayHead) (n : ℕ) (p : PType) (t : Bool) → Reads list_schema 0 h.metadata (list_value n p) → t ≡ is_integer p → t ≡ false → RefusesPlanning BadMetadata x C.List h
 lists_of_floats x h n p t r e f v m = no_integer p (sym e ∙ f) (list_kind_is_integer x (typ h.dtype) h.metadata v n p m r)
 
--- What is planned of elements, offsets and a validity behind them.
+-- What is planned of elements, offsets and a validity after them.
 abbrev pub parts_plan : Typ → ℕ → PType → ℕ → ℕ → Option (List Place)
 parts_plan e m p n k = when (is_len (suc n)) (before_validity (place e m ∷ place (numbers p) (suc n) ∷ []) n k)
 

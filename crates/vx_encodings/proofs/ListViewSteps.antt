@@ -52,7 +52,7 @@ told t P i f = i.0 f
 pub views_of_floats : (x : ExtMeaning) (h : ArrayHead) (v : ListViews.Metadata) (t : Bool) → Reads view_schema 0 h.metadata (view_value v) → (IsTrue t ↔ ListViews.IsFair v) → t ≡ false → RefusesPlanning BadMetadata x ListView h
 views_of_floats x h v t r i f w m = not_told t (ListViews.IsFair v) i f (views_fair x (typ h.dtype) h.metadata w v m r)
 
--- What is planned of elements, offsets, sizes and a validity behind them.
+-- What is planned of elements, offsets, sizes and a validity after them.
 abbrev pub parts_plan : Typ → ListViews.Metadata → ℕ → ℕ → Option (List Place)
 parts_plan e v n k = before_validity (place e v.elements_len ∷ place (numbers v.offset_ptype) n ∷ place (numbers v.size_ptype) n ∷ []) n k
 

@@ -105,7 +105,7 @@ built_refusal x ForeignControl e h bs ts t planned u parts sound =
     absurd (not_foreign x (plain_encoding e) (typ h.dtype) h.len h.metadata h.nchildren bs ts t planned parts sound u)
 built_refusal x WireLimit e h bs ts t planned u parts sound = absurd u
 
--- An answer whose refusals are those of a plan is Ok, or want of memory, where there is a plan.
+-- An answer whose refusals are those of a plan is Ok, or allocation failure, where there is a plan.
 pub plan_complete : (x : ExtMeaning) (e : Declared.Encoding) (h : ArrayHead) (r : Result (List Place) EncodingError) → IfErr r (λ error. RefusesPlanning error x e h)
     → (ps : List Place) → IsPlanned x e h ps → IsOkOrMemory r
 plan_complete x e h (Ok qs) u ps p = tt

@@ -81,7 +81,7 @@ pub in_no_way : (ds : List DType) (n k : ℕ) → (k ≡ length ds → ⊥) → 
 in_no_way ds n k h g =
     behind_other (places_at (roses_of (typs ds)) n) n k (λ e. h (e ∙ fields_length ds n)) (λ e. g (e ∙ ap (λ j. suc j) (fields_length ds n)))
 
--- What is answered for the fields behind these places is the answer for a validity that may stand in front of them.
+-- What is answered for the fields after these places is the answer for a validity that may stand in front of them.
 pub without_front_planned : (r : Result (List Place) EncodingError) (front : List Place) (ds : List DType) (n k : ℕ) → front ≡ [] → k ≡ length ds
     → IfOk r (λ ps. ps ≡ front ++ places_at (roses_of (typs ds)) n) → IfOk r (λ ps. behind (places_at (roses_of (typs ds)) n) n k ≡ Some ps)
 without_front_planned (Ok ps) front ds n k f e p =

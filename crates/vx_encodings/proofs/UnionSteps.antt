@@ -44,7 +44,7 @@ member_places ds m n = place (node (primitive U8 m) end) n ∷ places_at (roses_
 pub others_unplanned : (ds : List DType) (m : Nullability) (n k : ℕ) → k ≢ length ds + 1 → exactly (member_places (typs ds) m n) k ≡ None
 others_unplanned ds m n k h = exactly_none (member_places (typs ds) m n) k (λ e. h (e ∙ ap (λ j. suc j) (fields_length ds n) ∙ sym (add-one (length ds))))
 
--- What is answered for the members behind the tags is the answer for both.
+-- What is answered for the members after the tags is the answer for both.
 pub members_planned : (r : Result (List Place) EncodingError) (front none : List Place) (p : Place) (ds : List DType) (m : Nullability) (n k : ℕ) → none ≡ [] → p ≡ place (node (primitive U8 m) end) n → front ≡ none ++ p ∷ []
     → k ≡ length ds + 1 → IfOk r (λ ps. ps ≡ front ++ places_at (roses_of (typs ds)) n) → IfOk r (λ ps. exactly (member_places (typs ds) m n) k ≡ Some ps)
 members_planned (Ok ps) front none p ds m n k o w f e q =

@@ -57,7 +57,7 @@ counted n h = lt-ltb (suc n) (2 ^ 64) h
 uncounted : (n : ℕ) → 2 ^ 64 ≤ suc n → is_len (suc n) ≡ false
 uncounted n h = le-ltb (suc n) (2 ^ 64) h
 
--- Under a type of texts or of bytes what is planned is one offset more than rows, and a validity or nothing behind them.
+-- Under a type of texts or of bytes what is planned is one offset more than rows, and a validity or nothing after them.
 plan_is : (d : Typ) (n : ℕ) (p : PType) (k : ℕ) → IsOfBytes d → suc n < 2 ^ 64 → plan d n p k ≡ before_validity (place (numbers p) (suc n) ∷ []) n k
 plan_is (node (utf8 m) end) n p k h lt = rw (counted n lt) refl
 plan_is (node (binary m) end) n p k h lt = rw (counted n lt) refl
@@ -82,7 +82,7 @@ pub varbins_uncounted : (x : ExtMeaning) (h : ArrayHead) (p : PType) (t : Bool) 
 varbins_uncounted x h p t r e f past =
     single_unplanned x VarBin h (M.varbin p) (varbin_metadata x (typ h.dtype) h.metadata p r (sym e ∙ f)) (plan_past (typ h.dtype) h.len p h.nchildren (omega (arith, past)))
 
--- What is answered for offsets and a validity behind them is the answer for the node.
+-- What is answered for offsets and a validity after them is the answer for the node.
 pub varbins_planned : (x : ExtMeaning) (h : ArrayHead) (r : Result (List Place) EncodingError) (p : PType) (t u : Bool) (k : ℕ) → Reads varbin_schema 0 h.metadata (varbin_value p) → t ≡ is_integer p → t ≡ true → (IsTrue u ↔ IsOfBytes (typ h.dtype)) → u ≡ true → k ≡ h.len + 1 → k < 2 ^ 64
     → IfOk r (λ ps. before_validity (place (numbers p) k ∷ []) h.len h.nchildren ≡ Some ps) → IfOk r (λ ps. IsPlanned x VarBin h ps)
 varbins_planned x h (Ok ps) p t u k shown i f g b e lt q =

@@ -26,7 +26,7 @@ use Rattle.vx_plans.specs.declared.head.ArrayHead.{ArrayHead}
 abbrev pub IsPlanned : ExtMeaning → Encoding → ArrayHead → List Place → Type 0
 IsPlanned x e h ps = PlansChildren codec x (plain_encoding e) (typ h.dtype) h.len h.metadata h.nchildren ps
 
--- No children are planned: for want of memory, for metadata that is none of the encoding's, or for a type or a
+-- No children are planned: for allocation failure, for metadata that is none of the encoding's, or for a type or a
 -- number of children that does not fit.
 abbrev pub RefusesPlanning : EncodingError → ExtMeaning → Encoding → ArrayHead → Type 0
 RefusesPlanning OutOfMemory x e h = Unit {0}
@@ -40,7 +40,7 @@ RefusesPlanning WireLimit x e h = ⊥
 abbrev pub IsBuilt : ExtMeaning → Encoding → ArrayHead → List Buffer → Trees → Tree → Type 0
 IsBuilt x e h bs ts t = HasParts codec x (plain_encoding e) (typ h.dtype) h.len h.metadata bs ts t
 
--- No node is built of a planned one's parts: for want of memory, for a shape that does not fit, for a foreign node where
+-- No node is built of a planned one's parts: for allocation failure, for a shape that does not fit, for a foreign node where
 -- a child says where rows are, or for broken content where the shape fits and no such node stands there. That the metadata is the encoding's was said where the children were planned.
 abbrev pub RefusesBuilding : EncodingError → ExtMeaning → Encoding → ArrayHead → List Buffer → Trees → Type 0
 RefusesBuilding OutOfMemory x e h bs ts = Unit {0}
@@ -50,7 +50,7 @@ RefusesBuilding BadContent x e h bs ts = HasWrongContent codec x (plain_encoding
 RefusesBuilding ForeignControl x e h bs ts = HasWrongControl codec x (plain_encoding e) (typ h.dtype) h.len h.metadata ts
 RefusesBuilding WireLimit x e h bs ts = ⊥
 
--- No metadata is written of a root: for want of memory, or as it does not fit its message.
+-- No metadata is written of a root: for allocation failure, or as it does not fit its message.
 abbrev pub RefusesWritingMetadata : EncodingError → Tree → Type 0
 RefusesWritingMetadata OutOfMemory t = Unit {0}
 RefusesWritingMetadata BadMetadata t = ⊥
@@ -59,7 +59,7 @@ RefusesWritingMetadata BadContent t = ⊥
 RefusesWritingMetadata ForeignControl t = ⊥
 RefusesWritingMetadata WireLimit t = HasMessage (label t) (below t) → ⊥
 
--- Of the refusals this one is want of memory.
+-- Of the refusals this one is allocation failure.
 abbrev pub IsMemory : EncodingError → Type 0
 IsMemory OutOfMemory = Unit {0}
 IsMemory BadMetadata = ⊥
@@ -68,7 +68,7 @@ IsMemory BadContent = ⊥
 IsMemory ForeignControl = ⊥
 IsMemory WireLimit = ⊥
 
--- The answer is Ok, or want of memory.
+-- The answer is Ok, or allocation failure.
 abbrev pub IsOkOrMemory : {A : Type 0} → Result A EncodingError → Type 0
 IsOkOrMemory (Ok r) = Unit {0}
 IsOkOrMemory (Err e) = IsMemory e
@@ -91,7 +91,7 @@ constructor_error A.ForeignControl = ForeignControl
 constructor_error A.ValueTooLarge = OutOfMemory
 constructor_error A.BadCast = OutOfMemory
 
--- A message is not read: for want of memory, or as the bytes show none.
+-- A message is not read: for allocation failure, or as the bytes show none.
 abbrev pub RefusesMetadata : EncodingError → Schema → ℕ → List ℕ → Type 0
 RefusesMetadata OutOfMemory schema place bytes = Unit {0}
 RefusesMetadata BadMetadata schema place bytes = (v : Value) → Reads schema place bytes v → ⊥

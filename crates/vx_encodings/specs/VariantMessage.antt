@@ -74,7 +74,7 @@ RefusesShreddedType OutOfMemory x m = Unit {0}
 RefusesShreddedType BadMetadata x m = (t : Typ) → levels t ≤ most_levels → IsRead (IsMessageOf m) x t → ⊥
 RefusesShreddedType _ x m = ⊥
 
--- Where the children are to stand: a core of a type, and behind it a shredded child, where it has a type.
+-- Where the children are to stand: a core of a type, and after it a shredded child, where it has a type.
 abbrev pub child_places : Typ → Option Typ → ℕ → List Place
 child_places d None n = place d n ∷ []
 child_places d (Some e) n = place d n ∷ place e n ∷ []

@@ -15,7 +15,7 @@ pub enum Encoding {
     FixedSizeList, // lists of one size, whose elements stand one row's after the other's
     Struct, // structures, by their fields
     Extension, // extensions, by their storage
-    List, // lists, whose elements are parted by offsets
+    List, // lists, whose elements are split by offsets
     ListView, // lists, each with an offset and a size of its own
     Map, // maps, by their entries
     Union, // unions, by the tags of their rows

@@ -1,4 +1,4 @@
-//! The validity among a node's children, whose only one it is or which stands behind another child.
+//! The validity among a node's children, whose only one it is or which stands after another child.
 
 ghost use Rattle.std.specs.Prelude.{◌≡◌, ◌≤◌, length};
 ghost use Rattle.vx_trees.specs.Rose.{more, roses_of};
@@ -15,7 +15,7 @@ pub(crate) fn only_validity(children: Vec<Array>) -> Option<Array>
     items.pop()
 }
 
-// The first of the children of a node, and the validity that may stand behind it.
+// The first of the children of a node, and the validity that may stand after it.
 pub(crate) fn first_and_validity(children: Vec<Array>) -> (Array, Option<Array>)
     requires some { 1 ≤ length children.items }
     requires few { length children.items ≤ 2 }

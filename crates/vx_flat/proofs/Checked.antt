@@ -1,6 +1,6 @@
 -- A table whose fields are judged while they are counted.
 use Rattle.std.proofs.Common.{◌≡◌, ℕ, suc, Bool, true, false, ◌&&◌, cond, List, ◌∷◌, Option, Some, None, Result, Ok, Err, refl, subst, ◌+◌, arith}
-use Rattle.vx_flat.specs.declared.reading.room.Room.{Room}
+use Rattle.vx_flat.specs.declared.reading.budget.Budget.{Budget}
 use Rattle.vx_flat.specs.declared.error.FlatError.{FlatError}
 use Rattle.vx_flat.specs.declared.error.FlatError.TheVariants.{OutOfMemory, BadTable, TableLimit, MessageTooLong}
 use Rattle.vx_flat.specs.declared.schema.FieldKind.{FieldKind}
@@ -8,7 +8,7 @@ use Rattle.vx_flat.specs.declared.reading.places.FieldTable.{FieldTable}
 use Rattle.std.specs.Prelude.{IsSome}
 use Rattle.vx_flat.specs.Schema.{Schema, fields_of, slots}
 use Rattle.vx_flat.specs.Weight.{Weight, nothing, table_around, table_weight}
-use Rattle.vx_flat.specs.Counting.{HasRoom, Counted, Fails, Verifies}
+use Rattle.vx_flat.specs.Counting.{HasBudget, Counted, Fails, Verifies}
 use Rattle.vx_flat.specs.declared.schema.FieldKind.TheVariants.{Union}
 use Rattle.std.specs.Prelude.{is_none, ◌==◌}
 use Rattle.std.proofs.Common.{length, ◌≤◌}
@@ -19,7 +19,7 @@ use Rattle.vx_flat.proofs.Tables.{table_missing, no_levels, crowded, table_verif
 use Rattle.vx_flat.proofs.FieldsLoop.{shown_from, weighs_from}
 
 -- a refusal stands where the fields are inline, and else there is nothing to show
-pub judged : {Y : Type 0} (b : Bool) (e : FlatError) (x : Option Y) (c : Room) (levels : ℕ) (w : Weight)
+pub judged : {Y : Type 0} (b : Bool) (e : FlatError) (x : Option Y) (c : Budget) (levels : ℕ) (w : Weight)
     → Fails e x c levels w → Fails (cond b e BadTable) (cond b x None) c levels (cond b w nothing)
 judged true e x c levels w h = h
 judged false e x c levels w h = refl
@@ -28,7 +28,7 @@ pub not_inline : {Y : Type 0} (b : Bool) (x : Option Y) → b ≡ false → cond
 not_inline true x e = absurd cc
 not_inline false x e = refl
 
-pub all_inline : {Y : Type 0} (b : Bool) (x : Option Y) (c : Room) (levels : ℕ) (w : Weight) (d : Room) → b ≡ true
+pub all_inline : {Y : Type 0} (b : Bool) (x : Option Y) (c : Budget) (levels : ℕ) (w : Weight) (d : Budget) → b ≡ true
     → IsSome x × Counted c levels w d → IsSome (cond b x None) × Counted c levels (cond b w nothing) d
 all_inline true x c levels w d e h = h
 all_inline false x c levels w d e h = absurd cc
@@ -38,13 +38,13 @@ pub was_inline : {Y : Type 0} (b : Bool) (x : Option Y) → IsSome (cond b x Non
 was_inline true x h = (refl, h)
 was_inline false x h = absurd cc
 
-pub was_counted : (b : Bool) (c : Room) (levels : ℕ) (w : Weight) (d : Room) → b ≡ true
+pub was_counted : (b : Bool) (c : Budget) (levels : ℕ) (w : Weight) (d : Budget) → b ≡ true
     → Counted c levels (cond b w nothing) d → Counted c levels w d
 was_counted true c levels w d e h = h
 was_counted false c levels w d e h = absurd cc
 
 -- a field fails, whether it is inline or not, and so does the table
-pub field_judged : {X Y : Type 0} (one all : Bool) (e : FlatError) (x : Option X) (y : Option Y) (c d : Room) (levels : ℕ) (v w : Weight)
+pub field_judged : {X Y : Type 0} (one all : Bool) (e : FlatError) (x : Option X) (y : Option Y) (c d : Budget) (levels : ℕ) (v w : Weight)
     → (one ≡ false → all ≡ false) → Fails e (cond one x None) d levels (cond one v nothing)
     → (Fails e x d levels v → Fails e y c levels w)
     → Fails (cond all e BadTable) (cond all y None) c levels (cond all w nothing)
@@ -66,18 +66,18 @@ module _ (s : Schema) (m : List ℕ) (t T : ℕ) (f : FieldTable) (ks : List Fie
   unfolding table_at
   found_at b e = rw (← found, e) refl
 
-  pub checked_levels : (c : Room) (levels : ℕ) (b : Bool) → are_inline m t f ks 0 ≡ b → levels ≡ 0
+  pub checked_levels : (c : Budget) (levels : ℕ) (b : Bool) → are_inline m t f ks 0 ≡ b → levels ≡ 0
       → Fails (cond b TableLimit BadTable) (table_shown s m t T) c levels (table_weight s m t T)
   checked_levels c levels true i e = no_levels s m t T f ks is (found_at true i) c levels e
   checked_levels c levels false i e = table_missing s m t T ks is (found_at false i)
 
-  pub checked_room : (c : Room) (levels : ℕ) (b : Bool) → are_inline m t f ks 0 ≡ b
-      → (HasRoom c (suc levels) (table_around nothing) → ⊥)
+  pub checked_budget : (c : Budget) (levels : ℕ) (b : Bool) → are_inline m t f ks 0 ≡ b
+      → (HasBudget c (suc levels) (table_around nothing) → ⊥)
       → Fails (cond b TableLimit BadTable) (table_shown s m t T) c (suc levels) (table_weight s m t T)
-  checked_room c levels true i h = crowded s m t T f ks is (found_at true i) c levels h
-  checked_room c levels false i h = table_missing s m t T ks is (found_at false i)
+  checked_budget c levels true i h = crowded s m t T f ks is (found_at true i) c levels h
+  checked_budget c levels false i h = table_missing s m t T ks is (found_at false i)
 
-  pub table_checked : {X : Type 0} (r : Result X FlatError) (c d e : Room) (levels : ℕ) (b : Bool)
+  pub table_checked : {X : Type 0} (r : Result X FlatError) (c d e : Budget) (levels : ℕ) (b : Bool)
       → are_inline m t f ks 0 ≡ b → Counted c (suc levels) (table_around nothing) d
       → Verifies r (cond b (shown_from s m t f ks 0) None) d levels (cond b (weighs_from s m t f ks 0) nothing) e
       → Verifies r (table_shown s m t T) c (suc levels) (table_weight s m t T) e
@@ -98,8 +98,8 @@ pub table_lost : (s : Schema) (m : List ℕ) (t T : ℕ) (ks : List FieldKind) �
     ≡ field_table m t → table_shown s m t T ≡ None
 table_lost s m t T ks is e = table_missing s m t T ks is (lost_at m t ks e)
 
-pub verifies_inline : {X Y : Type 0} (r : Result X FlatError) (b : Bool) (x : Option Y) (c : Room) (levels : ℕ) (w : Weight)
-    (d : Room) → b ≡ true → Verifies r x c levels w d → Verifies r (cond b x None) c levels (cond b w nothing) d
+pub verifies_inline : {X Y : Type 0} (r : Result X FlatError) (b : Bool) (x : Option Y) (c : Budget) (levels : ℕ) (w : Weight)
+    (d : Budget) → b ≡ true → Verifies r x c levels w d → Verifies r (cond b x None) c levels (cond b w nothing) d
 verifies_inline r true x c levels w d e h = h
 verifies_inline r false x c levels w d e h = absurd cc
 
@@ -108,8 +108,8 @@ module _ (m : List ℕ) (u : ℕ) (p q : Option ℕ) (i : is_inline m (Union u) 
   pub union_tag : lies m 1 p ≡ true
   union_tag = (both (lies m 1 p) (lies m 4 q && same (tag_at m p == 0) (is_none q)) i).0
 
-  pub union_aim : (n : ℕ) → q ≡ Some n → n + 4 ≤ length m
-  union_aim n e =
+  pub union_target : (n : ℕ) → q ≡ Some n → n + 4 ≤ length m
+  union_target n e =
       let k = both (lies m 1 p) (lies m 4 q && same (tag_at m p == 0) (is_none q)) i in
       let l = both (lies m 4 q) (same (tag_at m p == 0) (is_none q)) k.1 in
       leb_le (n + 4) (length m) (subst (λ q. lies m 4 q ≡ true) e l.0)

@@ -9,7 +9,7 @@ use Rattle.vx_flat.specs.declared.builder.slot.Slot.{Slot}
 use Rattle.vx_flat.specs.declared.error.FlatError.{FlatError}
 use Rattle.vx_flat.specs.declared.error.FlatError.TheVariants.{OutOfMemory, BadTable, TableLimit}
 use Rattle.vx_flat.specs.declared.error.FlatError.TheVariants.{MessageTooLong}
-use Rattle.vx_flat.specs.Building.{Built, patch, aimed, spot_after, with_piece, with_rest, with_pieces, waiting}
+use Rattle.vx_flat.specs.Building.{Built, patch, targeted, offsets_after, with_piece, with_rest, with_pieces, waiting}
 use Rattle.vx_flat.specs.Building.{IsTooLong, RefusesPiece, Keeps, RefusesPieces, AreLeft, links_of, entry_links, element_links}
 use Rattle.vx_flat.specs.Building.{entry_slots, element_slots}
 use Rattle.vx_flat.specs.CellForm.{end_after}
@@ -24,7 +24,7 @@ pub rest_runs : (b : Built) (ps qs : List Piece) → with_rest (with_rest b ps) 
 rest_runs b [] qs = refl
 rest_runs b (p ∷ ps) qs = rest_runs (with_piece (waiting b) p) ps qs
 
--- blocks to which a link aims are written after others
+-- blocks to which a link points are written after others
 pub runs : (b : Built) (p : Piece) (ps : List Piece) (q : Piece) (qs : List Piece)
     → with_pieces (waiting (with_pieces b (p ∷ ps))) (q ∷ qs) ≡ with_pieces b ((p ∷ ps) ++ (q ∷ qs))
 runs b p ps q qs = rest_runs (with_piece b p) ps (q ∷ qs)
@@ -71,16 +71,16 @@ patch_grows m p n =
     let e = length_le 4 n in
     omega (arith, a, b, c, d, e)
 
-aimed_grows : (n : ℕ) (o : Option Slot) (aim : ℕ) (m : List ℕ) → length m ≤ length (aimed n o aim m)
-aimed_grows n (Some l) aim m = patch_grows m l.place (aim - l.place)
-aimed_grows zero None aim m = patch_grows m 0 aim
-aimed_grows (suc n) None aim m = omega arith
+targeted_grows : (n : ℕ) (o : Option Slot) (target : ℕ) (m : List ℕ) → length m ≤ length (targeted n o target m)
+targeted_grows n (Some l) target m = patch_grows m l.place (target - l.place)
+targeted_grows zero None target m = patch_grows m 0 target
+targeted_grows (suc n) None target m = omega arith
 
 piece_grows : (b : Built) (p : Piece) → length b.bytes ≤ length (with_piece b p).bytes
 piece_grows b p =
-    let s = spot_after b p in
-    let m = aimed b.count b.waits s.aim b.bytes in
-    let a = aimed_grows b.count b.waits s.aim b.bytes in
+    let s = offsets_after b p in
+    let m = targeted b.count b.waits s.target b.bytes in
+    let a = targeted_grows b.count b.waits s.target b.bytes in
     let c = length-append m (zeros (s.start - length b.bytes) ++ block_bytes [] s (loose_block p)) in
     omega (arith, a, c)
 
@@ -108,7 +108,7 @@ longer : (b : Built) (ps qs : List Piece) → IsTooLong b ps → IsTooLong b (ps
 longer b ps qs (inl f) = inl f
 longer b ps qs (inr l) = let g = more_grows b ps qs in inr (omega (arith, g, l))
 
--- blocks after others, to which a link aims
+-- blocks after others, to which a link points
 after : (b : Built) (p : Piece) (ps qs : List Piece)
     → (with_pieces (waiting (with_pieces b (p ∷ ps))) qs).bytes ≡ (with_pieces b ((p ∷ ps) ++ qs)).bytes
 after b p ps [] = ap (λ z. (with_pieces b (p ∷ z)).bytes) (sym (append-nil ps))
@@ -179,7 +179,7 @@ elements_left (suc m) n p i k ls = (p, element_slots n k (p + 4) (i + 1) m ++ ls
 
 -- the links of a block are left after it
 pub links_left : (b : Built) (p : Piece) → AreLeft (links_of b.count p) (with_piece b p).left b.left
-links_left b (table_piece es) = entries_left es b.count (spot_after b (table_piece es)).aim 0 4 b.left
+links_left b (table_piece es) = entries_left es b.count (offsets_after b (table_piece es)).target 0 4 b.left
 links_left b (elements_piece n bs) = refl
-links_left b (links_piece k n) = elements_left n b.count ((spot_after b (links_piece k n)).aim + 4) 0 k b.left
+links_left b (links_piece k n) = elements_left n b.count ((offsets_after b (links_piece k n)).target + 4) 0 k b.left
 links_left b (text_piece bs) = refl

@@ -4,7 +4,7 @@ use Rattle.std.proofs.Common.{refl, ap, ◌∙◌, arith}
 use Rattle.std.specs.Prelude.{bytes_eq, nat_eq}
 use Rattle.std.specs.Map.{lookup}
 use Rattle.indexmap.specs.IndexMap.{insert_entry}
-use Rattle.vx_flat.specs.Spots.{Known, known_at}
+use Rattle.vx_flat.specs.BlockOffsets.{Known, known_at}
 use Rattle.vx_flat.proofs.Parts.{both}
 
 eqb_turned : (a b : ℕ) → nat_eq a b ≡ nat_eq b a

@@ -19,7 +19,7 @@ pub bytes-with_pieces : (s : Schema) (shares : Bool) (v : Fields) → IsOf s v
     → (with_pieces (nothing_by shares) (pieces s v)).bytes ≡ layout shares s v
 bytes-with_pieces s shares v of = value_bytes s shares v of
 
--- Blocks that are written in two runs, where a link aims at the second, are written in one.
+-- Blocks that are written in two runs, where a link points at the second, are written in one.
 pub with_pieces-runs : (b : Built) (p : Piece) (ps : List Piece) (q : Piece) (qs : List Piece)
     → with_pieces (waiting (with_pieces b (p ∷ ps))) (q ∷ qs) ≡ with_pieces b ((p ∷ ps) ++ (q ∷ qs))
 with_pieces-runs b p ps q qs = runs b p ps q qs

@@ -49,7 +49,7 @@ pub next_left : (b : Built) (k : LinkKind) (count i : ℕ) (ps : List Piece) (no
     → IsPartWay b (links_piece k count) (record { block = b.count; index = i; kind = k } ∷ element_links b.count (i + 1) k (count - (i + 1))) ps now
 next_left b k count i ps now lt h = subst (λ ls. IsPartWay b (links_piece k count) ls ps now) (element_links-next b.count i count k lt) h
 
--- It aims at a block of its kind.
+-- It points at a block of its kind.
 pub awaited : (b : Built) (p : Piece) (l : Link) (ls : List Link) (ps : List Piece) (now mid : Built) → IsPartWay b p (l ∷ ls) ps now
     → (now.failed ≡ false → mid ≡ waiting now) → Takes l.kind mid
 awaited b p l ls ps now mid h e =

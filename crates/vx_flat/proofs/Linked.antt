@@ -1,5 +1,5 @@
 -- What blocks are that are written one after the other: each link is set when the block comes at
--- which it aims, and in the end all blocks are those of linked pieces.
+-- which it points, and in the end all blocks are those of linked pieces.
 use Rattle.std.proofs.Common.{◌≡◌, refl, sym, ap, subst, ◌∙◌, arith, Bool, true, false, ℕ, zero, suc, ◌+◌, ◌-◌, ◌*◌, ◌≤◌, ◌<◌}
 use Rattle.std.proofs.Common.{List, [], ◌∷◌, ◌++◌, length, take, drop, append_assoc, append-nil, Option, Some, None, length-take, length-drop}
 use Rattle.std.specs.Prelude.{if◌then◌else◌}
@@ -8,7 +8,7 @@ use Rattle.vx_flat.specs.declared.builder.piece.BlockField.{BlockField}
 use Rattle.vx_flat.specs.declared.builder.piece.BlockField.TheVariants as entry
 use Rattle.vx_flat.specs.declared.builder.piece.LinkKind.{LinkKind}
 use Rattle.vx_flat.specs.declared.schema.Width.TheVariants.{Four, Eight}
-use Rattle.vx_flat.specs.declared.writing.block.Spot.{Spot}
+use Rattle.vx_flat.specs.declared.writing.block.BlockOffsets.{BlockOffsets}
 use Rattle.vx_flat.specs.declared.writing.block.Cell.{Cell}
 use Rattle.vx_flat.specs.FieldTables.{align, zeros, le_bytes, inline_end, distances, entry_bytes, field_table_bytes}
 use Rattle.vx_flat.specs.Layout.{cells_bytes, links_bytes, block_bytes, own_field_table, bytes_from, bytes_of, layout}
@@ -17,7 +17,7 @@ use Rattle.vx_flat.specs.IsOf.{IsOf}
 use Rattle.vx_flat.specs.Pieces.{Piece, table_piece, elements_piece, links_piece, text_piece, pieces, entries, fields_pieces}
 use Rattle.vx_flat.specs.Schema.{Schema, width, fields_of}
 use Rattle.vx_flat.specs.Value.{Fields}
-use Rattle.vx_flat.specs.Spots.{Known, known_at, table_spot, spot, intern, spots, aim_of}
+use Rattle.vx_flat.specs.BlockOffsets.{Known, known_at, table_offsets, offsets, intern, block_offsets, target_of}
 use Rattle.vx_flat.proofs.BlockBytes.{entries_length}
 use Rattle.vx_flat.proofs.Bytes.{align_past, length_le}
 use Rattle.vx_flat.proofs.Cells.{end_past}
@@ -26,7 +26,7 @@ use Rattle.vx_flat.proofs.Depth.{value_linked}
 use Rattle.vx_flat.proofs.Loose.{cells_length, links_length}
 use Rattle.vx_flat.specs.declared.builder.slot.Slot.{Slot}
 use Rattle.vx_flat.specs.Building.{patch, entry_slots, element_slots, slots_of, Built, nothing_by, next_link, later_links, waiting}
-use Rattle.vx_flat.specs.Building.{aimed, spot_after, with_piece, with_rest, with_pieces}
+use Rattle.vx_flat.specs.Building.{targeted, offsets_after, with_piece, with_rest, with_pieces}
 use Rattle.vx_flat.specs.BuilderView.{SlotsLie, SlotLies}
 
 -- ---- four bytes
@@ -47,7 +47,7 @@ patch_length m p n h =
     let e = length_le 4 n in
     omega (arith, a, b, c, d, e, h)
 
--- the four bytes behind a list
+-- the four bytes after a list
 patch_here : (m x : List ℕ) (a n : ℕ) → patch (m ++ (le_bytes 4 a ++ x)) (length m) n ≡ m ++ (le_bytes 4 n ++ x)
 patch_here [] x a n = refl
 patch_here (y ∷ m) x a n =
@@ -60,12 +60,12 @@ patch_behind m x a n p e = ap (λ q. patch (m ++ (le_bytes 4 a ++ x)) q n) e ∙
 -- ---- links are set to blocks
 
 -- The links are set to the blocks of these numbers, as far as there are some.
-abbrev pub patches : List Spot → List ℕ → List Slot → List ℕ → List ℕ
+abbrev pub patches : List BlockOffsets → List ℕ → List Slot → List ℕ → List ℕ
 patches places m [] ns = m
 patches places m (l ∷ ls) [] = m
-patches places m (l ∷ ls) (n ∷ ns) = patches places (patch m l.place (aim_of places n - l.place)) ls ns
+patches places m (l ∷ ls) (n ∷ ns) = patches places (patch m l.place (target_of places n - l.place)) ls ns
 
-none_set : (places : List Spot) (m : List ℕ) (ls : List Slot) → patches places m ls [] ≡ m
+none_set : (places : List BlockOffsets) (m : List ℕ) (ls : List Slot) → patches places m ls [] ≡ m
 none_set places m [] = refl
 none_set places m (l ∷ ls) = refl
 
@@ -77,12 +77,12 @@ pub lie_both : (xs ys : List Slot) (n : ℕ) → SlotsLie xs n → SlotsLie ys n
 lie_both [] ys n a b = b
 lie_both (x ∷ xs) ys n a b = (a.0, lie_both xs ys n a.1 b)
 
-set_front : (places : List Spot) (ls : List Slot) (m x ks : List ℕ) → SlotsLie ls (length m)
+set_front : (places : List BlockOffsets) (ls : List Slot) (m x ks : List ℕ) → SlotsLie ls (length m)
     → patches places (m ++ x) ls ks ≡ patches places m ls ks ++ x
 set_front places [] m x ks h = refl
 set_front places (l ∷ ls) m x [] h = refl
 set_front places (l ∷ ls) m x (k ∷ ks) h =
-    let v = aim_of places k - l.place in
+    let v = target_of places k - l.place in
     let same = patch_length m l.place v h.0 in
     ap (λ z. patches places z ls ks) (patch_front m x l.place v h.0)
     ∙ set_front places ls (patch m l.place v) x ks (lie_same ls (length m) (length (patch m l.place v)) (omega (arith, same)) h.1)
@@ -107,8 +107,8 @@ grown m t p d w b h le l =
     let e = length-replicate {A = ℕ} (d - p) 0 in
     omega (arith, h, le, l, a, c, e)
 
-module _ (places : List Spot) where
-  cells_none : (es : List BlockField) (t p : ℕ) → aim_of places 0 ≤ t
+module _ (places : List BlockOffsets) where
+  cells_none : (es : List BlockField) (t p : ℕ) → target_of places 0 ≤ t
       → cells_bytes places t p (cells_of es []) ≡ cells_bytes [] t p (cells_of es [])
   cells_none [] t p h = refl
   cells_none (entry.Absent ∷ es) t p h = cells_none es t p h
@@ -118,23 +118,23 @@ module _ (places : List Spot) where
       ap (λ z. zeros (d - p) ++ (le_bytes (width u) v ++ z)) (cells_none es t (d + width u) h)
   cells_none (entry.Link k ∷ es) t p h =
       let d = align 4 p in
-      let e : aim_of places 0 - (t + d) ≡ 0 - (t + d) = omega (arith, h) in
+      let e : target_of places 0 - (t + d) ≡ 0 - (t + d) = omega (arith, h) in
       let r = cells_none es t (d + 4) h in
       λ i. zeros (d - p) ++ (le_bytes 4 (e i) ++ r i)
   cells_none (entry.UnknownMember ∷ es) t p h =
       let d = align 4 p in
       ap (λ z. zeros (d - p) ++ (le_bytes 4 0 ++ z)) (cells_none es t (d + 4) h)
 
-  links_none : (k p : ℕ) → aim_of places 0 ≤ p → links_bytes places p (firsts k []) ≡ links_bytes [] p (firsts k [])
+  links_none : (k p : ℕ) → target_of places 0 ≤ p → links_bytes places p (firsts k []) ≡ links_bytes [] p (firsts k [])
   links_none zero p h = refl
   links_none (suc k) p h =
-      let e : aim_of places 0 - p ≡ 0 - p = omega (arith, h) in
+      let e : target_of places 0 - p ≡ 0 - p = omega (arith, h) in
       let r = links_none k (p + 4) (omega (arith, h)) in
       λ i. le_bytes 4 (e i) ++ r i
 
   -- the links of a table's entries, and then others
   entries_set : (es : List BlockField) (n i t p : ℕ) (m y : List ℕ) (ls : List Slot) (ns : List ℕ) → t + p ≡ length m
-      → aim_of places 0 ≤ t
+      → target_of places 0 ≤ t
       → patches places (m ++ (cells_bytes [] t p (cells_of es []) ++ y)) (entry_slots n t i p es ++ ls) ns
       ≡ patches places (m ++ (cells_bytes places t p (cells_of es ns) ++ y)) ls (left_by_all es ns)
   entries_set [] n i t p m y ls ns h z = refl
@@ -165,7 +165,7 @@ module _ (places : List Spot) where
       (sym (all_none es)))
   entries_set (entry.Link k ∷ es) n i t p m y ls (x ∷ ns) h z =
       let d = align 4 p in
-      let v = aim_of places x - (t + d) in
+      let v = target_of places x - (t + d) in
       let b = le_bytes 4 v in
       let gap = zeros (d - p) in
       let loose = cells_bytes [] t (d + 4) (cells_of es []) in
@@ -189,7 +189,7 @@ module _ (places : List Spot) where
   rests_none (suc k) = rests_none k
 
   elements_set : (k n p i : ℕ) (kind : LinkKind) (m y : List ℕ) (ls : List Slot) (ns : List ℕ) → p ≡ length m
-      → aim_of places 0 ≤ p
+      → target_of places 0 ≤ p
       → patches places (m ++ (links_bytes [] p (firsts k []) ++ y)) (element_slots n kind p i k ++ ls) ns
       ≡ patches places (m ++ (links_bytes places p (firsts k ns) ++ y)) ls (rests k ns)
   elements_set zero n p i kind m y ls ns h z = refl
@@ -198,7 +198,7 @@ module _ (places : List Spot) where
       ∙ (sym (none_set places (m ++ (links_bytes places p (firsts (suc k) []) ++ y)) ls)
       ∙ ap (λ ns. patches places (m ++ (links_bytes places p (firsts (suc k) []) ++ y)) ls ns) (sym (rests_none k)))
   elements_set (suc k) n p i kind m y ls (x ∷ ns) h z =
-      let v = aim_of places x - p in
+      let v = target_of places x - p in
       let b = le_bytes 4 v in
       let loose = links_bytes [] (p + 4) (firsts k []) in
       let long : p + 4 ≡ length (m ++ b) = let a = length-append m b in let e = length_le 4 v in omega (arith, a, e, h) in
@@ -244,23 +244,23 @@ own_same true es ns ms =
     ++ zeros (align 8 (4 + 2 * counts_same es ns ms i) - (4 + 2 * counts_same es ns ms i))
 own_same false es ns ms = refl
 
-table_spot_same : (p : ℕ) (o : Option ℕ) (es : List BlockField) (ns ms : List ℕ) → table_spot p (cells_of es ns) o ≡ table_spot p (cells_of es ms) o
-table_spot_same p (Some q) es ns ms = λ i. record { start = p; aim = p; end = p + ends_same es 4 ns ms i; fields = q; is_own = false }
-table_spot_same p None es ns ms =
+table_offsets_same : (p : ℕ) (o : Option ℕ) (es : List BlockField) (ns ms : List ℕ) → table_offsets p (cells_of es ns) o ≡ table_offsets p (cells_of es ms) o
+table_offsets_same p (Some q) es ns ms = λ i. record { start = p; target = p; end = p + ends_same es 4 ns ms i; fields = q; is_own = false }
+table_offsets_same p None es ns ms =
     λ i. let t = p + align 8 (4 + 2 * counts_same es ns ms i) in
-    record { start = p; aim = t; end = t + ends_same es 4 ns ms i; fields = p; is_own = true }
+    record { start = p; target = t; end = t + ends_same es 4 ns ms i; fields = p; is_own = true }
 
-spot_same : (known : Known) (p : ℕ) (q : Piece) (ns : List ℕ) → spot known p (block_of q ns) ≡ spot known p (loose_block q)
-spot_same known p (table_piece es) ns =
-    ap (λ b. table_spot p (cells_of es ns) (known_at known b)) (tables_same es ns [])
-    ∙ table_spot_same p (known_at known (field_table_bytes (cells_of es []))) es ns []
-spot_same known p (elements_piece n bs) ns = refl
-spot_same known p (links_piece k n) ns =
-    ap (λ m. record { start = p; aim = p; end = p + (4 + 4 * m); fields = 0; is_own = true })
+offsets_same : (known : Known) (p : ℕ) (q : Piece) (ns : List ℕ) → offsets known p (block_of q ns) ≡ offsets known p (loose_block q)
+offsets_same known p (table_piece es) ns =
+    ap (λ b. table_offsets p (cells_of es ns) (known_at known b)) (tables_same es ns [])
+    ∙ table_offsets_same p (known_at known (field_table_bytes (cells_of es []))) es ns []
+offsets_same known p (elements_piece n bs) ns = refl
+offsets_same known p (links_piece k n) ns =
+    ap (λ m. record { start = p; target = p; end = p + (4 + 4 * m); fields = 0; is_own = true })
     (links_length n ns ∙ sym (links_length n []))
-spot_same known p (text_piece bs) ns = refl
+offsets_same known p (text_piece bs) ns = refl
 
-intern_same : (shares : Bool) (known : Known) (s : Spot) (q : Piece) (ns : List ℕ) → intern shares known s (block_of q ns) ≡ intern shares known s (loose_block q)
+intern_same : (shares : Bool) (known : Known) (s : BlockOffsets) (q : Piece) (ns : List ℕ) → intern shares known s (block_of q ns) ≡ intern shares known s (loose_block q)
 intern_same true known s (table_piece es) ns =
     ap (λ b. if s.is_own then known ++ (b, s.fields) ∷ [] else known) (tables_same es ns [])
 intern_same false known s (table_piece es) ns = refl
@@ -273,7 +273,7 @@ intern_same false known s (text_piece bs) ns = refl
 
 -- ---- the links of a block
 
-own_length : (p : ℕ) (cs : List Cell) (o : Option ℕ) → p + length (own_field_table (table_spot p cs o).is_own cs) ≡ (table_spot p cs o).aim
+own_length : (p : ℕ) (cs : List Cell) (o : Option ℕ) → p + length (own_field_table (table_offsets p cs o).is_own cs) ≡ (table_offsets p cs o).target
 own_length p cs (Some q) = omega arith
 own_length p cs None =
     let n = 4 + 2 * length cs in
@@ -285,31 +285,31 @@ own_length p cs None =
     let l = align_past Eight n in
     omega (arith, a, b, c, d, e, l, length_le 2 n, length_le 2 (inline_end 4 cs))
 
-start_same : (p : ℕ) (cs : List Cell) (o : Option ℕ) → p ≤ (table_spot p cs o).aim
+start_same : (p : ℕ) (cs : List Cell) (o : Option ℕ) → p ≤ (table_offsets p cs o).target
 start_same p cs (Some q) = omega arith
 start_same p cs None = omega arith
 
-module _ (places : List Spot) where
+module _ (places : List BlockOffsets) where
   piece_set : (known : Known) (q : Piece) (n p : ℕ) (m y : List ℕ) (ls : List Slot) (ns : List ℕ) → p ≡ length m
-      → aim_of places 0 ≤ (spot known p (loose_block q)).aim
-      → patches places (m ++ (block_bytes [] (spot known p (loose_block q)) (loose_block q) ++ y))
-      (slots_of n (spot known p (loose_block q)).aim q ++ ls) ns
-      ≡ patches places (m ++ (block_bytes places (spot known p (loose_block q)) (block_of q ns) ++ y)) ls (left_by_piece q ns)
+      → target_of places 0 ≤ (offsets known p (loose_block q)).target
+      → patches places (m ++ (block_bytes [] (offsets known p (loose_block q)) (loose_block q) ++ y))
+      (slots_of n (offsets known p (loose_block q)).target q ++ ls) ns
+      ≡ patches places (m ++ (block_bytes places (offsets known p (loose_block q)) (block_of q ns) ++ y)) ls (left_by_piece q ns)
   piece_set known (table_piece es) n p m y ls ns h z =
-      let s = spot known p (loose_block (table_piece es)) in
+      let s = offsets known p (loose_block (table_piece es)) in
       let cs = cells_of es [] in
       let own = own_field_table s.is_own cs in
-      let back = le_bytes 4 (s.aim - s.fields) in
-      let there : s.aim + 4 ≡ length (m ++ (own ++ back)) =
+      let back = le_bytes 4 (s.target - s.fields) in
+      let there : s.target + 4 ≡ length (m ++ (own ++ back)) =
       let a = length-append m (own ++ back) in
       let b = length-append own back in
       let c = own_length p cs (known_at known (field_table_bytes cs)) in
-      let d = length_le 4 (s.aim - s.fields) in
+      let d = length_le 4 (s.target - s.fields) in
       omega (arith, a, b, c, d, h) in
-      ap (λ x. patches places x (entry_slots n s.aim 0 4 es ++ ls) ns) (regroup m own back (cells_bytes [] s.aim 4 cs) y)
-      ∙ (entries_set places es n 0 s.aim 4 (m ++ (own ++ back)) y ls ns there z
-      ∙ (ap (λ x. patches places x ls (left_by_all es ns)) (sym (regroup m own back (cells_bytes places s.aim 4 (cells_of es ns)) y))
-      ∙ ap (λ o. patches places (m ++ ((o ++ (back ++ cells_bytes places s.aim 4 (cells_of es ns))) ++ y)) ls (left_by_all es ns))
+      ap (λ x. patches places x (entry_slots n s.target 0 4 es ++ ls) ns) (regroup m own back (cells_bytes [] s.target 4 cs) y)
+      ∙ (entries_set places es n 0 s.target 4 (m ++ (own ++ back)) y ls ns there z
+      ∙ (ap (λ x. patches places x ls (left_by_all es ns)) (sym (regroup m own back (cells_bytes places s.target 4 (cells_of es ns)) y))
+      ∙ ap (λ o. patches places (m ++ ((o ++ (back ++ cells_bytes places s.target 4 (cells_of es ns))) ++ y)) ls (left_by_all es ns))
       (own_same s.is_own es [] ns)))
   piece_set known (elements_piece k bs) n p m y ls ns h z = refl
   piece_set known (links_piece kind k) n p m y ls ns h z =
@@ -326,17 +326,17 @@ module _ (places : List Spot) where
 
 -- ---- blocks one after the other
 
-pub aimed_length : (n : ℕ) (o : Option Slot) (aim : ℕ) (m : List ℕ) → 4 ≤ length m → SlotLies o (length m)
-    → length (aimed n o aim m) ≡ length m
-aimed_length n (Some l) aim m h lies = patch_length m l.place (aim - l.place) lies
-aimed_length zero None aim m h lies = patch_length m 0 aim (omega (arith, h))
-aimed_length (suc n) None aim m h lies = refl
+pub targeted_length : (n : ℕ) (o : Option Slot) (target : ℕ) (m : List ℕ) → 4 ≤ length m → SlotLies o (length m)
+    → length (targeted n o target m) ≡ length m
+targeted_length n (Some l) target m h lies = patch_length m l.place (target - l.place) lies
+targeted_length zero None target m h lies = patch_length m 0 target (omega (arith, h))
+targeted_length (suc n) None target m h lies = refl
 
-pub aimed_front : (n : ℕ) (o : Option Slot) (aim : ℕ) (m x : List ℕ) → 4 ≤ length m → SlotLies o (length m)
-    → aimed n o aim (m ++ x) ≡ aimed n o aim m ++ x
-aimed_front n (Some l) aim m x h lies = patch_front m x l.place (aim - l.place) lies
-aimed_front zero None aim m x h lies = patch_front m x 0 aim (omega (arith, h))
-aimed_front (suc n) None aim m x h lies = refl
+pub targeted_front : (n : ℕ) (o : Option Slot) (target : ℕ) (m x : List ℕ) → 4 ≤ length m → SlotLies o (length m)
+    → targeted n o target (m ++ x) ≡ targeted n o target m ++ x
+targeted_front n (Some l) target m x h lies = patch_front m x l.place (target - l.place) lies
+targeted_front zero None target m x h lies = patch_front m x 0 target (omega (arith, h))
+targeted_front (suc n) None target m x h lies = refl
 
 next_lies : (ls : List Slot) (n : ℕ) → SlotsLie ls n → SlotLies (next_link ls) n
 next_lies [] n h = tt
@@ -346,17 +346,17 @@ later_lie : (ls : List Slot) (n : ℕ) → SlotsLie ls n → SlotsLie (later_lin
 later_lie [] n h = tt
 later_lie (l ∷ ls) n h = h.1
 
-aimed_set : (places : List Spot) (n aim k : ℕ) (ls : List Slot) (m ks : List ℕ) → 0 < n → aim ≡ aim_of places k
-    → patches places (aimed n (next_link ls) aim m) (later_links ls) ks ≡ patches places m ls (k ∷ ks)
-aimed_set places zero aim k ls m ks h e = absurd (omega (arith, h))
-aimed_set places (suc n) aim k [] m ks h e = refl
-aimed_set places (suc n) aim k (l ∷ ls) m ks h e = ap (λ a. patches places (patch m l.place (a - l.place)) ls ks) e
+targeted_set : (places : List BlockOffsets) (n target k : ℕ) (ls : List Slot) (m ks : List ℕ) → 0 < n → target ≡ target_of places k
+    → patches places (targeted n (next_link ls) target m) (later_links ls) ks ≡ patches places m ls (k ∷ ks)
+targeted_set places zero target k ls m ks h e = absurd (omega (arith, h))
+targeted_set places (suc n) target k [] m ks h e = refl
+targeted_set places (suc n) target k (l ∷ ls) m ks h e = ap (λ a. patches places (patch m l.place (a - l.place)) ls ks) e
 
-aim_at : (front : List Spot) (s : Spot) (ss : List Spot) (n : ℕ) → length front ≡ n → aim_of (front ++ s ∷ ss) n ≡ s.aim
-aim_at [] s ss zero e = refl
-aim_at [] s ss (suc n) e = absurd (omega (arith, e))
-aim_at (f ∷ front) s ss zero e = absurd (omega (arith, e))
-aim_at (f ∷ front) s ss (suc n) e = aim_at front s ss n (omega (arith, e))
+targeted_block : (front : List BlockOffsets) (s : BlockOffsets) (ss : List BlockOffsets) (n : ℕ) → length front ≡ n → target_of (front ++ s ∷ ss) n ≡ s.target
+targeted_block [] s ss zero e = refl
+targeted_block [] s ss (suc n) e = absurd (omega (arith, e))
+targeted_block (f ∷ front) s ss zero e = absurd (omega (arith, e))
+targeted_block (f ∷ front) s ss (suc n) e = targeted_block front s ss n (omega (arith, e))
 
 entry_slots_lie : (es : List BlockField) (n t i p : ℕ) → SlotsLie (entry_slots n t i p es) (t + inline_end p (cells_of es []))
 entry_slots_lie [] n t i p = tt
@@ -375,31 +375,31 @@ element_slots_lie (suc k) n p i kind =
     let e : p + 4 + 4 * k ≡ p + 4 * suc k = omega arith in
     (omega arith, subst (λ m. SlotsLie (element_slots n kind (p + 4) (i + 1) k) m) e rest)
 
-pub table_end : (p : ℕ) (cs : List Cell) (o : Option ℕ) → (table_spot p cs o).end ≡ (table_spot p cs o).aim + inline_end 4 cs
+pub table_end : (p : ℕ) (cs : List Cell) (o : Option ℕ) → (table_offsets p cs o).end ≡ (table_offsets p cs o).target + inline_end 4 cs
 table_end p cs None = refl
 table_end p cs (Some q) = refl
 
 -- the links of a block lie in it
-slots_lie : (known : Known) (q : Piece) (n p : ℕ) → SlotsLie (slots_of n (spot known p (loose_block q)).aim q) (spot known p (loose_block q)).end
+slots_lie : (known : Known) (q : Piece) (n p : ℕ) → SlotsLie (slots_of n (offsets known p (loose_block q)).target q) (offsets known p (loose_block q)).end
 slots_lie known (table_piece es) n p =
     let cs = cells_of es [] in
     let o = known_at known (field_table_bytes cs) in
-    subst (λ m. SlotsLie (entry_slots n (table_spot p cs o).aim 0 4 es) m) (sym (table_end p cs o))
-    (entry_slots_lie es n (table_spot p cs o).aim 0 4)
+    subst (λ m. SlotsLie (entry_slots n (table_offsets p cs o).target 0 4 es) m) (sym (table_end p cs o))
+    (entry_slots_lie es n (table_offsets p cs o).target 0 4)
 slots_lie known (elements_piece k bs) n p = tt
 slots_lie known (links_piece kind k) n p =
     let e : p + 4 + 4 * k ≡ p + (4 + 4 * length (firsts k [])) = let l = links_length k [] in omega (arith, l) in
     subst (λ m. SlotsLie (element_slots n kind (p + 4) 0 k) m) e (element_slots_lie k n (p + 4) 0 kind)
 slots_lie known (text_piece bs) n p = tt
 
--- a block begins at its place and aims no earlier, and ends no earlier than it aims
-pub aims_past : (known : Known) (q : Piece) (p : ℕ) → p ≤ (spot known p (loose_block q)).aim
-aims_past known (table_piece es) p = start_same p (cells_of es []) (known_at known (field_table_bytes (cells_of es [])))
-aims_past known (elements_piece k bs) p = omega arith
-aims_past known (links_piece kind k) p = omega arith
-aims_past known (text_piece bs) p = omega arith
+-- a block begins at its place and points no earlier, and ends no earlier than it points
+pub targets_past : (known : Known) (q : Piece) (p : ℕ) → p ≤ (offsets known p (loose_block q)).target
+targets_past known (table_piece es) p = start_same p (cells_of es []) (known_at known (field_table_bytes (cells_of es [])))
+targets_past known (elements_piece k bs) p = omega arith
+targets_past known (links_piece kind k) p = omega arith
+targets_past known (text_piece bs) p = omega arith
 
-pub ends_past : (known : Known) (q : Piece) (p : ℕ) → (spot known p (loose_block q)).aim ≤ (spot known p (loose_block q)).end
+pub ends_past : (known : Known) (q : Piece) (p : ℕ) → (offsets known p (loose_block q)).target ≤ (offsets known p (loose_block q)).end
 ends_past known (table_piece es) p =
     let cs = cells_of es [] in
     let o = known_at known (field_table_bytes cs) in
@@ -410,10 +410,10 @@ ends_past known (text_piece bs) p = omega arith
 
 -- how many bytes there are with one more block
 pub with_length : (b : Built) (q : Piece) → 4 ≤ length b.bytes → SlotLies b.waits (length b.bytes)
-    → length (with_piece b q).bytes ≡ (spot_after b q).end
+    → length (with_piece b q).bytes ≡ (offsets_after b q).end
 with_length b q h lies =
-    let s = spot_after b q in
-    let m = aimed b.count b.waits s.aim b.bytes in
+    let s = offsets_after b q in
+    let m = targeted b.count b.waits s.target b.bytes in
     let x = block_bytes [] s (loose_block q) in
     let a = length-append m (zeros (s.start - length b.bytes) ++ x) in
     let c = length-append (zeros (s.start - length b.bytes)) x in
@@ -421,36 +421,36 @@ with_length b q h lies =
     let e = block_length [] b.known (align 8 (length b.bytes)) (loose_block q) in
     let f = starts b.known (align 8 (length b.bytes)) (loose_block q) in
     let g = align_past Eight (length b.bytes) in
-    let l = aimed_length b.count b.waits s.aim b.bytes h lies in
+    let l = targeted_length b.count b.waits s.target b.bytes h lies in
     omega (arith, a, c, d, e, f, g, l)
 
 pub after_lie : (b : Built) (q : Piece) → 4 ≤ length b.bytes → SlotLies b.waits (length b.bytes) → SlotsLie b.left (length b.bytes)
     → SlotsLie (with_piece b q).left (length (with_piece b q).bytes)
 after_lie b q h waits left =
-    let s = spot_after b q in
+    let s = offsets_after b q in
     let n = length (with_piece b q).bytes in
     let e = with_length b q h waits in
     let past = align_past Eight (length b.bytes) in
-    let aims = aims_past b.known q (align 8 (length b.bytes)) in
+    let targets = targets_past b.known q (align 8 (length b.bytes)) in
     let ends = ends_past b.known q (align 8 (length b.bytes)) in
-    lie_both (slots_of b.count s.aim q) b.left n
-    (subst (λ m. SlotsLie (slots_of b.count s.aim q) m) (sym e) (slots_lie b.known q b.count (align 8 (length b.bytes))))
-    (lie_same b.left (length b.bytes) n (omega (arith, e, past, aims, ends)) left)
+    lie_both (slots_of b.count s.target q) b.left n
+    (subst (λ m. SlotsLie (slots_of b.count s.target q) m) (sym e) (slots_lie b.known q b.count (align 8 (length b.bytes))))
+    (lie_same b.left (length b.bytes) n (omega (arith, e, past, targets, ends)) left)
 
 -- the bytes of blocks that came after others, whose links were left, the next one first
-pub rest_bytes : (places : List Spot) (qs : List Piece) (b : Built) (front : List Spot) → length front ≡ b.count → 0 < b.count
-    → places ≡ front ++ spots b.shares b.known (length b.bytes) (all_before b.count qs nothing_linked).blocks
-    → aim_of places 0 ≤ length b.bytes → 4 ≤ length b.bytes → SlotsLie b.left (length b.bytes)
+pub rest_bytes : (places : List BlockOffsets) (qs : List Piece) (b : Built) (front : List BlockOffsets) → length front ≡ b.count → 0 < b.count
+    → places ≡ front ++ block_offsets b.shares b.known (length b.bytes) (all_before b.count qs nothing_linked).blocks
+    → target_of places 0 ≤ length b.bytes → 4 ≤ length b.bytes → SlotsLie b.left (length b.bytes)
     → (with_rest b qs).bytes
     ≡ patches places b.bytes b.left (all_before b.count qs nothing_linked).loose
-    ++ bytes_from places (length b.bytes) (spots b.shares b.known (length b.bytes) (all_before b.count qs nothing_linked).blocks)
+    ++ bytes_from places (length b.bytes) (block_offsets b.shares b.known (length b.bytes) (all_before b.count qs nothing_linked).blocks)
     (all_before b.count qs nothing_linked).blocks
 rest_bytes places [] b front n some is root four lies = sym (append-nil (patches places b.bytes b.left []) ∙ none_set places b.bytes b.left)
 rest_bytes places (q ∷ qs) b front n some is root four lies =
     let w = waiting b in
     let r = all_before (b.count + 1) qs nothing_linked in
     let p = align 8 (length b.bytes) in
-    let s = spot b.known p (loose_block q) in
+    let s = offsets b.known p (loose_block q) in
     let x = block_of q r.loose in
     let next = with_piece w q in
     let known' = intern b.shares b.known s (loose_block q) in
@@ -458,45 +458,45 @@ rest_bytes places (q ∷ qs) b front n some is root four lies =
     let later = later_lie b.left (length b.bytes) lies in
     let long : length next.bytes ≡ s.end = with_length w q four waits in
     let past = align_past Eight (length b.bytes) in
-    let aims = aims_past b.known q p in
+    let targets = targets_past b.known q p in
     let ends = ends_past b.known q p in
-    let same_spot : spot b.known p x ≡ s = spot_same b.known p q r.loose in
-    let same_spots : spots b.shares b.known (length b.bytes) (x ∷ r.blocks) ≡ s ∷ spots b.shares known' (length next.bytes) r.blocks =
-    (λ i. same_spot i ∷ spots b.shares (intern b.shares b.known (same_spot i) x) (same_spot i).end r.blocks)
-    ∙ ((λ i. s ∷ spots b.shares (intern_same b.shares b.known s q r.loose i) s.end r.blocks)
-    ∙ ap (λ m. s ∷ spots b.shares known' m r.blocks) (sym long)) in
-    let ss = spots b.shares known' (length next.bytes) r.blocks in
-    let whole : places ≡ (front ++ s ∷ []) ++ ss = is ∙ (ap (λ z. front ++ z) same_spots ∙ sym (append_assoc front (s ∷ []) ss)) in
-    let here : s.aim ≡ aim_of places b.count =
-    sym (ap (λ z. aim_of z b.count) (is ∙ ap (λ z. front ++ z) same_spots) ∙ aim_at front s ss b.count n) in
-    let m = aimed b.count (next_link b.left) s.aim b.bytes in
+    let same_offsets : offsets b.known p x ≡ s = offsets_same b.known p q r.loose in
+    let same_block_offsets : block_offsets b.shares b.known (length b.bytes) (x ∷ r.blocks) ≡ s ∷ block_offsets b.shares known' (length next.bytes) r.blocks =
+    (λ i. same_offsets i ∷ block_offsets b.shares (intern b.shares b.known (same_offsets i) x) (same_offsets i).end r.blocks)
+    ∙ ((λ i. s ∷ block_offsets b.shares (intern_same b.shares b.known s q r.loose i) s.end r.blocks)
+    ∙ ap (λ m. s ∷ block_offsets b.shares known' m r.blocks) (sym long)) in
+    let ss = block_offsets b.shares known' (length next.bytes) r.blocks in
+    let whole : places ≡ (front ++ s ∷ []) ++ ss = is ∙ (ap (λ z. front ++ z) same_block_offsets ∙ sym (append_assoc front (s ∷ []) ss)) in
+    let here : s.target ≡ target_of places b.count =
+    sym (ap (λ z. target_of z b.count) (is ∙ ap (λ z. front ++ z) same_block_offsets) ∙ targeted_block front s ss b.count n) in
+    let m = targeted b.count (next_link b.left) s.target b.bytes in
     let gap = zeros (s.start - length b.bytes) in
-    let m_long = aimed_length b.count (next_link b.left) s.aim b.bytes four waits in
+    let m_long = targeted_length b.count (next_link b.left) s.target b.bytes four waits in
     let starts_at = starts b.known p (loose_block q) in
     let start : p ≡ length (m ++ gap) =
     let a = length-append m gap in
     let e = length-replicate {A = ℕ} (s.start - length b.bytes) 0 in
     omega (arith, a, e, m_long, starts_at, past) in
     let further = rest_bytes places qs next (front ++ s ∷ []) (let a = length-append front (s ∷ []) in omega (arith, a, n)) (omega arith)
-    whole (omega (arith, root, long, past, aims, ends)) (omega (arith, four, long, past, aims, ends))
+    whole (omega (arith, root, long, past, targets, ends)) (omega (arith, four, long, past, targets, ends))
     (after_lie w q four waits later) in
     let laid : m ++ (gap ++ block_bytes [] s (loose_block q)) ≡ (m ++ gap) ++ (block_bytes [] s (loose_block q) ++ []) = simp (append_assoc, append-nil) in
     let done : (m ++ gap) ++ (block_bytes places s x ++ []) ≡ m ++ (gap ++ block_bytes places s x) = simp (append_assoc, append-nil) in
     let set : patches places next.bytes next.left r.loose ≡ patches places b.bytes b.left (b.count ∷ left_by_piece q r.loose) ++ (gap ++ block_bytes places s x) =
-    ap (λ z. patches places z (slots_of b.count s.aim q ++ later_links b.left) r.loose) laid
-    ∙ (piece_set places b.known q b.count p (m ++ gap) [] (later_links b.left) r.loose start (omega (arith, root, past, aims))
+    ap (λ z. patches places z (slots_of b.count s.target q ++ later_links b.left) r.loose) laid
+    ∙ (piece_set places b.known q b.count p (m ++ gap) [] (later_links b.left) r.loose start (omega (arith, root, past, targets))
     ∙ (ap (λ z. patches places z (later_links b.left) (left_by_piece q r.loose)) done
     ∙ (set_front places (later_links b.left) m (gap ++ block_bytes places s x) (left_by_piece q r.loose)
     (lie_same (later_links b.left) (length b.bytes) (length m) (omega (arith, m_long)) later)
     ∙ ap (λ z. z ++ (gap ++ block_bytes places s x))
-    (aimed_set places b.count s.aim b.count b.left b.bytes (left_by_piece q r.loose) some here)))) in
+    (targeted_set places b.count s.target b.count b.left b.bytes (left_by_piece q r.loose) some here)))) in
     let tail = bytes_from places (length next.bytes) ss r.blocks in
     let f = patches places b.bytes b.left (b.count ∷ left_by_piece q r.loose) in
     further
     ∙ (ap (λ z. z ++ tail) set
     ∙ (assembled f gap (block_bytes places s x) tail
     ∙ (ap (λ z. f ++ (gap ++ (block_bytes places s x ++ bytes_from places z ss r.blocks))) long
-    ∙ ap (λ z. f ++ bytes_from places (length b.bytes) z (x ∷ r.blocks)) (sym same_spots))))
+    ∙ ap (λ z. f ++ bytes_from places (length b.bytes) z (x ∷ r.blocks)) (sym same_block_offsets))))
   where
     assembled : (f g x t : List ℕ) → (f ++ (g ++ x)) ++ t ≡ f ++ (g ++ (x ++ t))
     assembled f g x t = simp append_assoc
@@ -507,42 +507,42 @@ pub pieces_bytes : (shares : Bool) (p : Piece) (qs : List Piece)
 unfolding bytes_of
 pieces_bytes shares p qs =
     let r = all_before 1 qs nothing_linked in
-    let s = spot [] 8 (loose_block p) in
+    let s = offsets [] 8 (loose_block p) in
     let x = block_of p r.loose in
     let b = with_piece (nothing_by shares) p in
     let known' = intern shares [] s (loose_block p) in
     let long : length b.bytes ≡ s.end = with_length (nothing_by shares) p (omega arith) tt in
-    let aims = aims_past [] p 8 in
+    let targets = targets_past [] p 8 in
     let ends = ends_past [] p 8 in
-    let same_spot : spot [] 8 x ≡ s = spot_same [] 8 p r.loose in
-    let ss = spots shares known' (length b.bytes) r.blocks in
-    let places : List Spot = spots shares [] 8 (x ∷ r.blocks) in
-    let same_spots : places ≡ s ∷ ss =
-    (λ i. same_spot i ∷ spots shares (intern shares [] (same_spot i) x) (same_spot i).end r.blocks)
-    ∙ ((λ i. s ∷ spots shares (intern_same shares [] s p r.loose i) s.end r.blocks)
-    ∙ ap (λ m. s ∷ spots shares known' m r.blocks) (sym long)) in
-    let root : aim_of places 0 ≡ s.aim = ap (λ z. aim_of z 0) same_spots in
-    let further = rest_bytes places qs b (s ∷ []) refl (omega arith) same_spots (omega (arith, root, long, ends))
-    (omega (arith, long, aims, ends)) (after_lie (nothing_by shares) p (omega arith) tt tt) in
-    let head = le_bytes 4 s.aim ++ zeros 4 in
+    let same_offsets : offsets [] 8 x ≡ s = offsets_same [] 8 p r.loose in
+    let ss = block_offsets shares known' (length b.bytes) r.blocks in
+    let places : List BlockOffsets = block_offsets shares [] 8 (x ∷ r.blocks) in
+    let same_block_offsets : places ≡ s ∷ ss =
+    (λ i. same_offsets i ∷ block_offsets shares (intern shares [] (same_offsets i) x) (same_offsets i).end r.blocks)
+    ∙ ((λ i. s ∷ block_offsets shares (intern_same shares [] s p r.loose i) s.end r.blocks)
+    ∙ ap (λ m. s ∷ block_offsets shares known' m r.blocks) (sym long)) in
+    let root : target_of places 0 ≡ s.target = ap (λ z. target_of z 0) same_block_offsets in
+    let further = rest_bytes places qs b (s ∷ []) refl (omega arith) same_block_offsets (omega (arith, root, long, ends))
+    (omega (arith, long, targets, ends)) (after_lie (nothing_by shares) p (omega arith) tt tt) in
+    let head = le_bytes 4 s.target ++ zeros 4 in
     let starts_at = starts [] 8 (loose_block p) in
     let gap : zeros (s.start - 8) ≡ [] = ap (λ n. zeros (n - 8)) starts_at in
     let begun : b.bytes ≡ head ++ (block_bytes [] s (loose_block p) ++ []) =
     ap (λ z. head ++ (z ++ block_bytes [] s (loose_block p))) gap
     ∙ ap (λ z. head ++ z) (sym (append-nil (block_bytes [] s (loose_block p)))) in
     let set : patches places b.bytes b.left r.loose ≡ head ++ block_bytes places s x =
-    ap (λ z. patches places z (slots_of 0 s.aim p ++ []) r.loose) begun
+    ap (λ z. patches places z (slots_of 0 s.target p ++ []) r.loose) begun
     ∙ (piece_set places [] p 0 8 head [] [] r.loose refl (omega (arith, root))
     ∙ ap (λ z. head ++ z) (append-nil (block_bytes places s x))) in
     let tail = λ (n : ℕ). bytes_from places n ss r.blocks in
     let gap' : zeros (s.start - 8) ≡ [] = gap in
     further
     ∙ (ap (λ z. z ++ tail (length b.bytes)) set
-    ∙ (regrouped (le_bytes 4 s.aim) (zeros 4) (block_bytes places s x) (tail (length b.bytes))
-    ∙ (ap (λ n. le_bytes 4 s.aim ++ (zeros 4 ++ (block_bytes places s x ++ tail n))) long
-    ∙ (ap (λ z. le_bytes 4 s.aim ++ (zeros 4 ++ (z ++ (block_bytes places s x ++ tail s.end)))) (sym gap')
+    ∙ (regrouped (le_bytes 4 s.target) (zeros 4) (block_bytes places s x) (tail (length b.bytes))
+    ∙ (ap (λ n. le_bytes 4 s.target ++ (zeros 4 ++ (block_bytes places s x ++ tail n))) long
+    ∙ (ap (λ z. le_bytes 4 s.target ++ (zeros 4 ++ (z ++ (block_bytes places s x ++ tail s.end)))) (sym gap')
     ∙ (ap (λ a. le_bytes 4 a ++ (zeros 4 ++ bytes_from places 8 (s ∷ ss) (x ∷ r.blocks))) (sym root)
-    ∙ ap (λ z. le_bytes 4 (aim_of places 0) ++ (zeros 4 ++ bytes_from places 8 z (x ∷ r.blocks))) (sym same_spots))))))
+    ∙ ap (λ z. le_bytes 4 (target_of places 0) ++ (zeros 4 ++ bytes_from places 8 z (x ∷ r.blocks))) (sym same_block_offsets))))))
   where
     regrouped : (a z x t : List ℕ) → ((a ++ z) ++ x) ++ t ≡ a ++ (z ++ (x ++ t))
     regrouped a z x t = simp append_assoc

@@ -50,7 +50,7 @@ cut_more b qs MessageTooLong h = let g = rest_grows b qs in omega (arith, g, h)
 cut_more b qs BadTable h = absurd h
 cut_more b qs TableLimit h = absurd h
 
--- ---- the block at which the next link aims
+-- ---- the block at which the next link points
 
 pub next_written : {T : Type 0} (r : Result T FlatError) (old mid new : Built) (p : Piece) → mid ≡ waiting old
     → OnOk r (new ≡ with_piece mid p) → OnOk r (new ≡ with_rest old (p ∷ []))

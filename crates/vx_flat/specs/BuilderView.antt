@@ -4,7 +4,7 @@ use Rattle.vx_flat.specs.declared.builder.message.Message.{Message}
 use Rattle.vx_flat.specs.declared.builder.slot.Slot.{Slot}
 use Rattle.vx_flat.specs.Building.{Built}
 use Rattle.vx_flat.specs.FieldTables.{zeros}
-use Rattle.vx_flat.specs.Spots.{Known}
+use Rattle.vx_flat.specs.BlockOffsets.{Known}
 
 -- The first eight bytes are written with the first block.
 abbrev pub begun : List ℕ → List ℕ
@@ -26,7 +26,7 @@ SlotLies None n = Unit {0}
 SlotLies (Some l) n = l.place + 4 ≤ n
 
 -- The offsets of the links that are left, and of the one that waits, lie within the bytes so far.
--- Each block has some bytes, and the first one comes behind eight.
+-- Each block has some bytes, and the first one comes after eight.
 pub record IsOpen (m : Message) : Type 0 where
   pub left : SlotsLie (reverse m.left.items) (length m.bytes.items)
   pub waits : SlotLies m.waits (length m.bytes.items)

@@ -3,7 +3,7 @@ use Rattle.std.specs.Prelude.{ℕ, map}
 use Rattle.std.specs.Prelude.{Vec}
 use Rattle.std.specs.Global.{Global}
 use Rattle.indexmap.specs.IndexMap.{IndexMap}
-use Rattle.vx_flat.specs.Spots.{Known}
+use Rattle.vx_flat.specs.BlockOffsets.{Known}
 
 -- The bytes and the place of each field table, in the order in which they came.
 abbrev pub known_of : {S : Type 0} → IndexMap (Vec ℕ Global) ℕ S → Known

@@ -18,5 +18,5 @@ abbrev pub limits : Limits
 limits = limits_to false
 
 -- A weight is within limits: none of its three numbers is above its limit.
-abbrev pub IsLight : Limits → Weight → Type 0
-IsLight l w = (w.nested ≤ l.nested) × (w.tables ≤ l.tables) × (w.bytes ≤ l.bytes)
+abbrev pub KeepsLimits : Limits → Weight → Type 0
+KeepsLimits l w = (w.nested ≤ l.nested) × (w.tables ≤ l.tables) × (w.bytes ≤ l.bytes)

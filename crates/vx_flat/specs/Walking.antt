@@ -9,13 +9,13 @@ use Rattle.vx_flat.specs.declared.schema.FieldKind.{FieldKind}
 use Rattle.vx_flat.specs.declared.schema.FieldKind.TheVariants.{Text, Table}
 use Rattle.vx_flat.specs.Building.{Built}
 
--- What a field's offset aims at.
+-- What a field's offset points at.
 abbrev pub link_kind : FieldKind → LinkKind
 link_kind Text = link.Text
 link_kind (Table t) = link.Table
 link_kind _ = link.Vector
 
--- Why blocks could not all be written, where this would be written with them. Want of memory has no
+-- Why blocks could not all be written, where this would be written with them. Allocation failure has no
 -- cause in them.
 abbrev pub IsCut : Built → FlatError → Type 0
 IsCut all OutOfMemory = Unit {0}

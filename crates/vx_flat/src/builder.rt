@@ -21,7 +21,7 @@ mod slot;
 use crate::buffer::FlatBuffer;
 use crate::builder::composing::{
     is_shared, next_start, push_element_slots, push_elements, push_entry_slots, push_front,
-    push_links, push_table, push_text, table_spot,
+    push_links, push_table, push_text, table_offsets,
 };
 use crate::builder::known::FieldTables;
 use crate::builder::message::Message;
@@ -29,8 +29,8 @@ use crate::builder::piece::{BlockField, BlockVector, LinkKind};
 use crate::builder::slot::Slot;
 use crate::error::FlatError;
 use crate::limits::MAX_MESSAGE;
+use crate::writing::block_offsets::plain_offsets;
 use crate::writing::field_tables::{push_field_table, push_parts};
-use crate::writing::spots::plain_spot;
 use std::alloc::Global;
 use std::marker::Model;
 use std::mem::replace;
@@ -39,13 +39,13 @@ use std::mem::replace;
 ///
 /// The first block is the root table. After a block come the blocks at which its links aim, in the
 /// order of its fields or elements, each with all that hangs on it before the next. [`link`] says
-/// which link aims at the next block, and so comes before each block but the first.
+/// which link points at the next block, and so comes before each block but the first.
 ///
 /// A table whose field table equals one that was written before, byte for byte, shares the first
 /// such one.
 ///
 /// Each block's bytes are added at once, and the offset of the link that waits is set to it. The
-/// only refusals are want of memory, which changes nothing, and [`FlatError::MessageTooLong`] where
+/// only refusals are allocation failure, which changes nothing, and [`FlatError::MessageTooLong`] where
 /// the message would have more than [`MAX_MESSAGE`](crate::MAX_MESSAGE) bytes. After that refusal
 /// the builder has failed: each later call has that refusal too, and [`link`] does nothing.
 ///
@@ -90,10 +90,10 @@ impl Builder {
 
     /// A message without a block, with room for so many bytes where there is memory for them at
     /// once. A message that grows from nothing leaves in the heap each room that became too small.
-    pub fn with_room(alloc: Global, room: usize) -> Builder
+    pub fn with_room(alloc: Global, capacity: usize) -> Builder
         ensures { result ≡ nothing_built }
     {
-        Builder::over(alloc, no_bytes(alloc, room), true)
+        Builder::over(alloc, no_bytes(alloc, capacity), true)
     }
 
     /// A message without a block, of which equal field tables are shared or not.
@@ -163,19 +163,28 @@ impl Builder {
         let end = push_parts(fields, &mut self.distances, &mut self.own)?;
         self.fields.clear();
         push_field_table(fields.len(), end, &self.distances, &mut self.fields)?;
-        let spot = table_spot(start, fields.len(), end, self.known.find(&self.fields));
-        if spot.end > MAX_MESSAGE {
+        let offsets = table_offsets(start, fields.len(), end, self.known.find(&self.fields));
+        if offsets.end > MAX_MESSAGE {
             self.failed = true;
             return Err(FlatError::MessageTooLong);
         }
         self.block.clear();
         push_front(&self.message.bytes, start, &mut self.block)?;
-        push_table(spot, fields.len(), &self.fields, &self.own, &mut self.block)?;
+        push_table(
+            offsets,
+            fields.len(),
+            &self.fields,
+            &self.own,
+            &mut self.block,
+        )?;
         self.links.clear();
-        push_entry_slots(fields, number, spot.aim, &mut self.links)?;
-        let interns = is_shared(self.shares, spot);
-        self.known.intern(interns, &self.fields, spot.fields)?;
-        if let Err(error) = self.message.add(&self.block, &mut self.links, spot.aim) {
+        push_entry_slots(fields, number, offsets.target, &mut self.links)?;
+        let interns = is_shared(self.shares, offsets);
+        self.known.intern(interns, &self.fields, offsets.fields)?;
+        if let Err(error) = self
+            .message
+            .add(&self.block, &mut self.links, offsets.target)
+        {
             self.known.forget(interns);
             return Err(FlatError::from(error));
         }
@@ -212,16 +221,17 @@ impl Builder {
             return Err(FlatError::MessageTooLong);
         }
         let start = next_start(&self.message.bytes);
-        let spot = plain_spot(start, 4 + bytes.len());
-        if spot.end > MAX_MESSAGE {
+        let offsets = plain_offsets(start, 4 + bytes.len());
+        if offsets.end > MAX_MESSAGE {
             self.failed = true;
             return Err(FlatError::MessageTooLong);
         }
         self.block.clear();
         push_front(&self.message.bytes, start, &mut self.block)?;
-        push_elements(spot, size, bytes, &mut self.block)?;
+        push_elements(offsets, size, bytes, &mut self.block)?;
         self.links.clear();
-        self.message.add(&self.block, &mut self.links, spot.aim)?;
+        self.message
+            .add(&self.block, &mut self.links, offsets.target)?;
         Ok(())
     }
 
@@ -239,24 +249,25 @@ impl Builder {
             return Err(FlatError::MessageTooLong);
         }
         let start = next_start(&self.message.bytes);
-        let spot = plain_spot(start, 4 + 4 * count);
-        if spot.end > MAX_MESSAGE {
+        let offsets = plain_offsets(start, 4 + 4 * count);
+        if offsets.end > MAX_MESSAGE {
             self.failed = true;
             return Err(FlatError::MessageTooLong);
         }
         self.block.clear();
         push_front(&self.message.bytes, start, &mut self.block)?;
         let count = count as u32;
-        push_links(spot, count, &mut self.block)?;
+        push_links(offsets, count, &mut self.block)?;
         self.links.clear();
         push_element_slots(
             kind,
             count,
             self.message.count,
-            spot.aim + 4,
+            offsets.target + 4,
             &mut self.links,
         )?;
-        self.message.add(&self.block, &mut self.links, spot.aim)?;
+        self.message
+            .add(&self.block, &mut self.links, offsets.target)?;
         Ok(())
     }
 
@@ -293,16 +304,17 @@ impl Builder {
             return Err(FlatError::MessageTooLong);
         }
         let start = next_start(&self.message.bytes);
-        let spot = plain_spot(start, 5 + text.len());
-        if spot.end > MAX_MESSAGE {
+        let offsets = plain_offsets(start, 5 + text.len());
+        if offsets.end > MAX_MESSAGE {
             self.failed = true;
             return Err(FlatError::MessageTooLong);
         }
         self.block.clear();
         push_front(&self.message.bytes, start, &mut self.block)?;
-        push_text(spot, text.as_bytes(), &mut self.block)?;
+        push_text(offsets, text.as_bytes(), &mut self.block)?;
         self.links.clear();
-        self.message.add(&self.block, &mut self.links, spot.aim)?;
+        self.message
+            .add(&self.block, &mut self.links, offsets.target)?;
         Ok(())
     }
 
@@ -319,7 +331,7 @@ impl Builder {
         self.put_text(text)
     }
 
-    /// Lets the next link aim at the next block. The link is given by the number of its block, and
+    /// Lets the next link point at the next block. The link is given by the number of its block, and
     /// by its place among the table's entries or the vector's elements. The entry of a union's link
     /// is that of its offset.
     pub fn link(&mut self, _block: u32, _index: usize)
@@ -333,7 +345,7 @@ impl Builder {
         }
     }
 
-    /// Lets the next link, if there is one, aim at the next block.
+    /// Lets the next link, if there is one, point at the next block.
     pub(crate) fn go_on(&mut self)
         ensures { self.new ≡ waiting self.old }
     {
@@ -379,10 +391,10 @@ impl Builder {
 }
 
 // No bytes, with room for so many where there is memory for them.
-fn no_bytes(alloc: Global, room: usize) -> Vec<u8>
+fn no_bytes(alloc: Global, capacity: usize) -> Vec<u8>
     ensures { result.items ≡ [] }
 {
-    match Vec::with_capacity(alloc, room) {
+    match Vec::with_capacity(alloc, capacity) {
         Ok(bytes) => bytes,
         Err(_) => Vec::new(alloc),
     }

@@ -7,7 +7,7 @@ ghost use Rattle.vx_flat.specs.Seen.{seen, IsViewOf};
 ghost use Rattle.vx_flat.specs.IsOf.{IsOf};
 ghost use Rattle.vx_flat.specs.Shows.{Shows};
 ghost use Rattle.vx_flat.specs.Layout.{written_layout};
-ghost use Rattle.vx_flat.specs.Limits.{limits, IsLight};
+ghost use Rattle.vx_flat.specs.Limits.{limits, KeepsLimits};
 ghost use Rattle.vx_flat.specs.Weight.{weight};
 ghost use Rattle.vx_flat.specs.Pieces.{table_pieces};
 ghost use Rattle.vx_flat.specs.Building.{Built, nothing_built, Takes, Written, Keeps};
@@ -39,7 +39,7 @@ pub trait ReadFlatBuffer: Sized {
     /// A table and what it is read as.
     ghost reads: { Fields → Self → Type 0 };
 
-    /// Why a table is not read. Want of memory has no cause in the table.
+    /// Why a table is not read. Allocation failure has no cause in the table.
     ghost unread: { Fields → Self.Error → Type 0 };
 
     /// What a table shows: a view of the kind's root table.
@@ -56,14 +56,14 @@ pub trait ReadFlatBuffer: Sized {
     fn read_flatbuffer_bytes(alloc: Global, message: &[u8]) -> Result<Self, Self::Error>
         ensures read { IfOk result
             (λ x. (v : Fields) × Shows Self.Kind.schema message.now v × reads v x) }
-        ensures light { OnOk result (IsLight limits (weight Self.Kind.schema message.now)) }
+        ensures within_limits { OnOk result (KeepsLimits limits (weight Self.Kind.schema message.now)) }
         ensures cause { IfErr result
             (λ e. ((f : FlatError) × RefusesTables Self.Kind.schema message.now f × Self.Error.from_gives f e)
             ⊎ ((v : Fields) × Shows Self.Kind.schema message.now v × unread v e)) }
 
         // What a message shows within the limits and can be read is read, unless memory runs out.
         ensures complete { (v : Fields) (x : Self) → Shows Self.Kind.schema message.now v
-            → IsLight limits (weight Self.Kind.schema message.now) → reads v x
+            → KeepsLimits limits (weight Self.Kind.schema message.now) → reads v x
             → IfErr result (λ e. Self.Error.from_gives OutOfMemory e) }
     {
         let view = verify_uncounted(message, &Self::KIND)?;

@@ -12,7 +12,7 @@ ghost use Rattle.vx_flat.specs.Parts as is;
 mod opening;
 
 use crate::reading::places::{
-    FieldTable, behind, flag_at, number_at, place_of, tag_at, target, u16_at, u32_at,
+    FieldTable, behind, flag_at, number_at, place_of, tag_at, target_at, u16_at, u32_at,
 };
 use crate::schema::{FieldKind, SchemaLists, Width, size_of_struct, table_of_tag};
 use crate::weight::Weight;
@@ -203,8 +203,8 @@ impl<'a> View<'a> {
         match self.find(field, FieldKind::Vector(width)) {
             None => None,
             Some(place) => {
-                let aim = target(self.message, place);
-                Some(elements_in(self.message, aim, width.bytes()))
+                let target = target_at(self.message, place);
+                Some(elements_in(self.message, target, width.bytes()))
             }
         }
     }
@@ -220,7 +220,7 @@ impl<'a> View<'a> {
     {
         match self.find(field, FieldKind::Table(table)) {
             None => None,
-            Some(place) => Some(self.below(target(self.message, place), table)),
+            Some(place) => Some(self.below(target_at(self.message, place), table)),
         }
     }
 
@@ -237,7 +237,7 @@ impl<'a> View<'a> {
         let Some(place) = self.find(field, kind) else {
             return None;
         };
-        let place = target(self.message, place);
+        let place = target_at(self.message, place);
         let count = u32_at(self.message, place);
         Some(VectorView {
             message: self.message,
@@ -309,14 +309,14 @@ impl<'a> View<'a> {
         match self.kind(field) {
             FieldKind::Vector(width) => {
                 let place = self.place_in(field, FieldKind::Vector(width));
-                let aim = target(self.message, place);
-                Some(elements_in(self.message, aim, width.bytes()))
+                let target = target_at(self.message, place);
+                Some(elements_in(self.message, target, width.bytes()))
             }
             FieldKind::Structs(number) => {
                 let place = self.place_in(field, FieldKind::Structs(number));
-                let aim = target(self.message, place);
+                let target = target_at(self.message, place);
                 let size = size_of_struct(self.schema, number);
-                Some(elements_in(self.message, aim, size))
+                Some(elements_in(self.message, target, size))
             }
             _ => unreachable!(),
         }
@@ -332,7 +332,7 @@ impl<'a> View<'a> {
             return None;
         }
         let place = self.place_in(field, FieldKind::Text);
-        Some(text_in(self.message, target(self.message, place)))
+        Some(text_in(self.message, target_at(self.message, place)))
     }
 
     /// A table of the message at a later place.
@@ -369,7 +369,7 @@ impl<'a> View<'a> {
             unreachable!();
         };
         let place = self.place_in(field, FieldKind::Table(table));
-        Some(self.below(target(self.message, place), table))
+        Some(self.below(target_at(self.message, place), table))
     }
 
     /// The vector in a field.
@@ -384,7 +384,7 @@ impl<'a> View<'a> {
             return None;
         }
         let kind = self.kind(field);
-        let place = target(self.message, self.place_in(field, kind));
+        let place = target_at(self.message, self.place_in(field, kind));
         let count = u32_at(self.message, place);
         Some(VectorView {
             message: self.message,
@@ -396,7 +396,7 @@ impl<'a> View<'a> {
         })
     }
 
-    /// The tag of a union, and what its offset aims at.
+    /// The tag of a union, and what its offset points at.
     fn member(&self, field: usize, union: u16) -> Option<(u8, usize)>
         requires { kind_in self.now field ≡ Some (kind.Union union) }
         ensures none { IfNone result (part_in self.now field ≡ value.absent) }
@@ -413,7 +413,7 @@ impl<'a> View<'a> {
                     self.message,
                     place_of(self.message, self.place, self.fields, field),
                 );
-                Some((tag, target(self.message, next)))
+                Some((tag, target_at(self.message, next)))
             }
         }
     }
@@ -429,9 +429,9 @@ impl<'a> View<'a> {
         };
         match self.member(field, union) {
             None => UnionPart::None,
-            Some((tag, aim)) => match table_of_tag(self.schema.members(union), tag) {
+            Some((tag, target)) => match table_of_tag(self.schema.members(union), tag) {
                 None => UnionPart::Unknown(tag),
-                Some(table) => UnionPart::Known(tag, self.below(aim, table)),
+                Some(table) => UnionPart::Known(tag, self.below(target, table)),
             },
         }
     }
@@ -491,7 +491,10 @@ impl<'a> VectorView<'a> {
         requires kind { kind_seen self.now ≡ kind.Texts }
         ensures { is.text_in (vector_seen self.now) i ≡ Some result.now }
     {
-        text_in(self.message, target(self.message, self.place + 4 + 4 * i))
+        text_in(
+            self.message,
+            target_at(self.message, self.place + 4 + 4 * i),
+        )
     }
 
     /// A table.
@@ -506,7 +509,7 @@ impl<'a> VectorView<'a> {
         let FieldKind::Tables(table) = self.kind else {
             unreachable!();
         };
-        let place = target(self.message, self.place + 4 + 4 * i);
+        let place = target_at(self.message, self.place + 4 + 4 * i);
         let fields = fields_found(self.message, self.schema, place, table);
         View {
             message: self.message,

@@ -13,7 +13,7 @@ pub fn prints<T: Display>(alloc: Global, value: &T, text: &str) -> bool {
     }
 }
 
-/// What a call of types made, whose one refusal is want of memory.
+/// What a call of types made, whose one refusal is allocation failure.
 pub fn or_memory<T: Drop>(made: Result<T, TypeError>) -> Result<T, FnWireError> {
     match made {
         Ok(value) => Ok(value),

@@ -72,4 +72,4 @@ written_exprs n [] = refl
 written_exprs n (e ∷ es) = ap (λ (z : List Entry). (n, message (slots_of (expr_message (expr e)))) ∷ z) (written_exprs n es)
 
 -- For loops over expressions.
-pub ruleset falling = (size-at, exprs-length, exprs-at)
+pub ruleset decreasing = (size-at, exprs-length, exprs-at)

@@ -4,7 +4,7 @@ use Rattle.vx_trees.specs.Rose.{Roses, node, end, more}
 use Rattle.vx_fn_wire.specs.Expr.{Head, root, call, Expr}
 
 abbrev mutual
-  -- `root`, or the identifier and the children in parentheses, parted by comma and space.
+  -- `root`, or the identifier and the children in parentheses, split by comma and space.
   pub expr_text : Expr → List ℕ
   expr_text (node root ts) = codes "root"
   expr_text (node (call f) ts) = f.id ++ (codes "(" ++ (children_text ts ++ codes ")"))
@@ -14,7 +14,7 @@ abbrev mutual
   children_text end = []
   children_text (more t ts) = expr_text t ++ more_text ts
 
-  -- The children after the first, each behind a comma and a space.
+  -- The children after the first, each after a comma and a space.
   pub more_text : Roses Head → List ℕ
   more_text end = []
   more_text (more t ts) = codes ", " ++ (expr_text t ++ more_text ts)

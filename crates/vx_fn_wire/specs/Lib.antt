@@ -7,7 +7,7 @@ pub mod Foreign
 pub mod Expr
 pub mod Parts
 pub mod Seen
-pub mod Falls
+pub mod Measures
 pub mod ExprText
 pub mod Plugin
 pub mod Session

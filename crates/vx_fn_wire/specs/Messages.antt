@@ -18,7 +18,7 @@ metadata_of options = unwrap_or options []
 abbrev pub aggregate_message : AggregateFn → Value
 aggregate_message f = one_octets 1 f.id ∷ one_octets 2 (metadata_of f.options) ∷ []
 
--- Why an aggregate function is not written: its options cannot be. Want of memory has no cause.
+-- Why an aggregate function is not written: its options cannot be. Allocation failure has no cause.
 abbrev pub RefusesWritingAggregate : FnWireError → AggregateFn → Type 0
 RefusesWritingAggregate OutOfMemory f = Unit {0}
 RefusesWritingAggregate NotSerializable f = f.options ≡ None
@@ -68,7 +68,7 @@ IsSerializable = Everywhere CanWrite
 abbrev pub AreSerializable : Roses Head → Type 0
 AreSerializable = EverywhereBelow CanWrite
 
--- Why an expression has no message: the options of some function in it cannot be written. Want of memory has no cause.
+-- Why an expression has no message: the options of some function in it cannot be written. Allocation failure has no cause.
 abbrev pub RefusesWritingExpr : FnWireError → Expr → Type 0
 RefusesWritingExpr OutOfMemory e = Unit {0}
 RefusesWritingExpr NotSerializable e = IsSerializable e → ⊥

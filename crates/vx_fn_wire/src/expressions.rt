@@ -32,7 +32,7 @@ impl Model for Expressions {
 
     ghost size = { exprs_size };
 
-    ghost use Rattle.vx_fn_wire.specs.Falls.{most_le-size};
+    ghost use Rattle.vx_fn_wire.specs.Measures.{most_le-size};
 
     ghost size_decreases = { λ a h. Prim.omega (arith, most_le-size a.items.items) };
 }

@@ -36,7 +36,7 @@ pub fn is_serializable(expression: &Expression) -> bool
 
 // The same of each of these.
 #[cycle(serializable)]
-#[tactic(auto, using(crate::proofs::Lists::falling))]
+#[tactic(auto, using(crate::proofs::Lists::decreasing))]
 fn are_serializable(expressions: &[Expression]) -> bool
     ensures { IsTrue result ↔ AreSerializable (roses_of (exprs expressions.now)) }
 {

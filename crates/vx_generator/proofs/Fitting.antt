@@ -54,7 +54,7 @@ offset_kept bytes more i h =
     let t : take 4 (drop (4 * i) bytes ++ more) ≡ take 4 (drop (4 * i) bytes) = take-append-le 4 (drop (4 * i) bytes) more (simp length-drop (omega arith)) in
     ap (λ xs. from_le_bytes w32 xs) (ap (λ xs. take 4 xs) e ∙ t)
 
--- The offset behind others is the one that is written.
+-- The offset after others is the one that is written.
 offset_new : (bytes : List ℕ) (i n : ℕ) → length bytes ≡ 4 * i → n < 2 ^ 32 → offset_at (bytes ++ to_le_bytes w32 n) i ≡ n
 offset_new bytes i n h l =
     let e : drop (4 * i) (bytes ++ to_le_bytes w32 n) ≡ to_le_bytes w32 n = ap (λ k. drop k (bytes ++ to_le_bytes w32 n)) (sym h) ∙ drop-append_seam bytes (to_le_bytes w32 n) in

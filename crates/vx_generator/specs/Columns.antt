@@ -29,7 +29,7 @@ stored d = if is_null d then pos 0 else pos d -ℤ pos (2 ^ 30)
 abbrev pub stored_bytes : ℕ → List ℕ
 stored_bytes d = to_le_bytes w64 (cast_unsigned w64 (stored d))
 
--- The elements of a row's list, each of two bytes: the draws behind the first three, modulo 65,536.
+-- The elements of a row's list, each of two bytes: the draws after the first three, modulo 65,536.
 abbrev pub element_bytes : ℕ → ℕ → List ℕ
 element_bytes x zero = []
 element_bytes x (suc n) = element_bytes x n ++ to_le_bytes w16 (drawn x n % 65536)

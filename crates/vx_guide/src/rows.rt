@@ -46,7 +46,7 @@ fn field(alloc: Global, value: &RowValue) -> Result<String, AllocError> {
     }
 }
 
-// A row: its fields, one behind the other.
+// A row: its fields, one after the other.
 fn row(alloc: Global, value: &RowValue) -> Result<String, AllocError> {
     let RowValue::Tuple(fields) = value else {
         return plain(alloc, value);

@@ -178,7 +178,7 @@ fn each_front_of_the_blob_is_refused(rt: HostRuntime) {
     }
 }
 
-// The worked blob whose message is cut behind so many bytes.
+// The worked blob whose message is cut after so many bytes.
 fn cut(alloc: Global, len: u8) -> Result<Vec<u8>, AllocError> {
     let mut blob = Vec::from_slice(alloc, &BLOB[..16])?;
     blob.extend_from_slice(&BLOB[16..164][..usize::from(len).min(148)])?;

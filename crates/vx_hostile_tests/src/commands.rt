@@ -71,7 +71,7 @@ fn each_call_of_the_store_fails_in_turn(rt: HostRuntime) {
     }
 }
 
-// Whether the program, where the output fails behind so many bytes, has saved what it saves, and has printed those.
+// Whether the program, where the output fails after so many bytes, has saved what it saves, and has printed those.
 fn is_cut_at(
     alloc: Global,
     command: &Command<'_>,
@@ -87,7 +87,7 @@ fn is_cut_at(
     )
 }
 
-// Whether that is so behind each fifth byte.
+// Whether that is so after each fifth byte.
 fn each_write_fails(alloc: Global, command: &Command<'_>) -> Result<bool, StoreError> {
     let mut done = store_of(alloc, &FILES)?;
     if !is_done(alloc, command, &mut done) {

@@ -1,4 +1,4 @@
-//! Writing that is refused behind an identifier that came: a context has its old identifiers, and then those of the tree.
+//! Writing that is refused after an identifier that came: a context has its old identifiers, and then those of the tree.
 
 use crate::asked::{Asked, Kind, number};
 use crate::samples::{blob_of_one_there, has_ids, limited, one_there, session_of};

@@ -12,7 +12,7 @@ use vx_serde::{ArrayExt, SerializeOptions, WireError};
 use vx_types::{Id, TypeError};
 use vxcat_core::{MemSink, MemStore, StoreError};
 
-// Whether the program over a store ends well or for want of memory, and leaves what its status says. A write of the output
+// Whether the program over a store ends well or for allocation failure, and leaves what its status says. A write of the output
 // that finds no memory is a fault.
 fn ends_well(
     alloc: Global,
@@ -133,7 +133,7 @@ fn an_identifier_comes_whole_or_not_at_all(rt: HostRuntime) {
     assert!(rt; interns(rt.alloc()) != Ok(false));
 }
 
-// The identifiers of a number over a validity, behind one.
+// The identifiers of a number over a validity, after one.
 const GROWN: [&str; 3] = ["a", "vortex.primitive", "vortex.bool"];
 
 // Whether what is left of a context is all, or where an answer wants memory, some first of them.

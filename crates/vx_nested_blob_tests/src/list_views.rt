@@ -27,11 +27,11 @@ enum Views {
     Maps,
     // Lists of maps.
     MapViews,
-    // One list of no nulls, behind as many as can be counted.
+    // One list of no nulls, after as many as can be counted.
     NullViews,
     // Extensions that are stored as those entries.
     Stored,
-    // Extensions that are stored as lists of entries that are parted by offsets.
+    // Extensions that are stored as lists of entries that are split by offsets.
     StoredLists,
 }
 
@@ -91,7 +91,7 @@ fn entry_views(alloc: Global) -> Made {
     viewed(alloc, entries(alloc), There::Bits(0b10))
 }
 
-// The same, parted by offsets.
+// The same, split by offsets.
 fn entry_lists(alloc: Global) -> Made {
     lists(
         alloc,
@@ -118,7 +118,7 @@ fn map_views(alloc: Global) -> Made {
     )
 }
 
-// One list of no nulls, behind as many as can be counted.
+// One list of no nulls, after as many as can be counted.
 fn null_views(alloc: Global) -> Made {
     let last = b"\xff\xff\xff\xff\xff\xff\xff\xff";
     let offsets = numbers(alloc, PType::U64, last, There::Always);

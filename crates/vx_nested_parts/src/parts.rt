@@ -150,7 +150,7 @@ pub fn texts(alloc: Global, letters: &[u8], there: There) -> Made {
     )
 }
 
-/// Lists of elements, parted by offsets.
+/// Lists of elements, split by offsets.
 pub fn lists(alloc: Global, elements: Made, offsets: Made, there: There) -> Made {
     let len = len_of(&offsets).saturating_sub(1);
     let parts = both(elements, offsets);
@@ -166,7 +166,7 @@ fn len_of(array: &Made) -> usize {
     }
 }
 
-/// One array more behind others.
+/// One array more after others.
 pub fn and(arrays: AllMade, array: Made) -> AllMade {
     let (mut arrays, array) = both(arrays, array)?;
     match arrays.push(array) {

@@ -53,7 +53,7 @@ fn value_of(alloc: Global, scalar: &Scalar) -> Result<RowValue, AllocError>
     }
 }
 
-// The texts of values, parted by commas.
+// The texts of values, split by commas.
 #[cycle(text)]
 fn texts_of(alloc: Global, values: &[RowValue]) -> Result<String, AllocError> {
     let mut texts = String::new(alloc);

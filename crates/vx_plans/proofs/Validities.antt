@@ -1,4 +1,4 @@
--- A validity behind any number of children.
+-- A validity after any number of children.
 use Rattle.std.proofs.Common.{ℕ, zero, suc, ◌≡◌, ◌≤◌, ◌<◌, ◌-◌, ◌++◌, List, [], ◌∷◌, Option, Some, None, length, option_map, refl, sym, ap, ◌∙◌, arith}
 use Rattle.vx_array_tree.specs.Place.{Place, before_validity, validity_place}
 

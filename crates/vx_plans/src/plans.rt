@@ -19,7 +19,7 @@ pub struct ChildPlan {
     pub len: usize,
 }
 
-/// A child that is to be of this type and length. The only refusal is want of memory.
+/// A child that is to be of this type and length. The only refusal is allocation failure.
 pub fn plan_of(alloc: Global, dtype: &DType, len: usize) -> Result<ChildPlan, EncodingError>
     ensures ok { IfOk result (λ plan. planned_place plan ≡ place (typ dtype.now) len) }
     ensures err { IsOkUnless result EncodingError.OutOfMemory }

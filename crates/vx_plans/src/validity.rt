@@ -1,4 +1,4 @@
-//! The plan of a validity: alone, or behind other children.
+//! The plan of a validity: alone, or after other children.
 
 ghost use Rattle.std.specs.Prelude.{◌≡◌, [], ◌∷◌, Some, IfOk, IfErr};
 ghost use Rattle.vx_array_tree.specs.Place.{before_validity, validity_place};
@@ -35,7 +35,7 @@ pub fn plan_validity(alloc: Global, len: usize, count: usize) -> Result<ChildPla
     }
 }
 
-/// A child, and behind it a validity, where one stands among so many children: `BadShape` exactly for none and for more than
+/// A child, and after it a validity, where one stands among so many children: `BadShape` exactly for none and for more than
 /// two.
 pub fn plan_behind(
     alloc: Global,
@@ -58,7 +58,7 @@ pub fn plan_behind(
     }
 }
 
-/// Children, and behind them a validity, where one stands among so many: `BadShape` exactly for fewer, and for more than one
+/// Children, and after them a validity, where one stands among so many: `BadShape` exactly for fewer, and for more than one
 /// more.
 #[tactic(auto, using(crate::proofs::Validities::behind_all))]
 pub fn plan_behind_all(

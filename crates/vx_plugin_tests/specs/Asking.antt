@@ -4,7 +4,7 @@ use Rattle.vx_trees.specs.Rose.{node, end, more}
 use Rattle.vx_types.specs.Kind.{extension}
 use Rattle.vx_types.specs.Known.{ExtMeaning}
 use Rattle.vx_types.specs.Typ.{Typ}
-use Rattle.vx_type_wire.specs.Lent.{accepts_by}
+use Rattle.vx_type_wire.specs.Borrowed.{accepts_by}
 use Rattle.vx_array_tree.specs.Place.{Place, place}
 use Rattle.vx_wire_tree.specs.Plugin.{NodeHead}
 

@@ -1,7 +1,7 @@
 //! A plugin that asks the session's readers of extensions.
 
 ghost use Rattle.std.specs.Prelude.{◌≡◌};
-ghost use Rattle.vx_type_wire.specs.Lent.{lent_meaning};
+ghost use Rattle.vx_type_wire.specs.Borrowed.{borrowed_meaning};
 ghost use Rattle.vx_types.specs.Seen.{typ};
 ghost use Rattle.vx_plugin_tests.specs.Asking.{is_accepted};
 ghost use Rattle.vx_plugin_tests.specs.Meanings.{asking};
@@ -32,7 +32,7 @@ impl Asking {
 
 // Whether the readers accept a type, if it is that of an extension.
 fn accepts(dtype: &DType, ext: &Readers) -> bool
-    ensures { result ≡ is_accepted (lent_meaning (λ r. accepted r.now) ext.now) (typ dtype.now) }
+    ensures { result ≡ is_accepted (borrowed_meaning (λ r. accepted r.now) ext.now) (typ dtype.now) }
 {
     match dtype {
         DType::Extension(it) => ext.accepts(it.id(), it.metadata().as_slice(), it.storage_dtype()),

@@ -22,7 +22,7 @@ pub(crate) const NEW: &str = "vortex.test.primitive_v2";
 /// The identifier of nodes that are read where the session accepts their type.
 pub(crate) const ASKING: &str = "vortex.test.asking";
 
-/// Want of memory, whatever wanted it.
+/// Allocation failure, whatever wanted it.
 pub(crate) fn lacking<T: Drop, E: Drop>(made: Result<T, E>) -> Result<T, WireError> {
     match made {
         Ok(value) => Ok(value),

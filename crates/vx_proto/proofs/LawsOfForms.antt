@@ -10,7 +10,7 @@ use Rattle.vx_proto.specs.Schema.{Slot, Schema, list_at, kind_in, members_of}
 use Rattle.vx_proto.specs.Value.{Content, number, octets, message, Slots, Entry, Value, entries_of, slots_of, list_of, value_of}
 use Rattle.vx_proto.specs.Form.{FormContent, FormEntries, FormSlots, FormWithin, HasForm}
 use Rattle.vx_proto.specs.Written.{content_depth, entries_depth, slots_depth, nested}
--- A value has a form in a message of a schema, and in the schema with more messages behind it, alike.
+-- A value has a form in a message of a schema, and in the schema with more messages after it, alike.
 pub use Rattle.vx_proto.proofs.Longer.{same_form}
 
 -- ---- a form within so many messages
@@ -129,7 +129,7 @@ pub same_content : (m n : ℕ) (a b : Content) (xs ys : List Entry) → (m, a) �
 unfolding first_content
 same_content m n a b xs ys e = ap first_content e
 
--- The members behind the first are the same.
+-- The members after the first are the same.
 pub same_others : (m n : ℕ) (a b : Content) (xs ys : List Entry) → (m, a) ∷ xs ≡ (n, b) ∷ ys → xs ≡ ys
 same_others m n a b xs ys e = cc
 
@@ -137,7 +137,7 @@ same_others m n a b xs ys e = cc
 pub same_slot : (xs ys : List Entry) (v w : Value) → xs ∷ v ≡ ys ∷ w → xs ≡ ys
 same_slot xs ys v w e = cc
 
--- The slots behind the first are the same.
+-- The slots after the first are the same.
 pub same_rest : (xs ys : List Entry) (v w : Value) → xs ∷ v ≡ ys ∷ w → v ≡ w
 same_rest xs ys v w e = cc
 

@@ -14,7 +14,7 @@ use Rattle.vx_proto.specs.Parts.{number_in, octets_in, message_in}
 use Rattle.vx_proto.specs.Codes.{value_again}
 use Rattle.vx_proto.proofs.LawsOfForms.{HoldsMember, none_or_one, form_of_slots, slots_of_form, same_content, same_number, same_octets, same_message, same_slot, same_rest}
 use Rattle.vx_proto.proofs.LawsOfSlots.{Has, plain_holds, has_plain, has_none, has_nested, nested_holds}
--- Elements from a place on are the one there and those behind it.
+-- Elements from a place on are the one there and those after it.
 pub use Rattle.vx_proto.proofs.Suffixes.{entries_at}
 
 -- A slot as a value: its members of a value that fits, the value of its members, and that they tell it.

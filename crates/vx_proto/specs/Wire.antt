@@ -31,7 +31,7 @@ number_at bytes = varint_at 10 bytes
 
 -- ---- fields
 
--- What a field holds, by its wire type: VARINT a number, I64 eight bytes, LEN bytes behind their length, I32 four bytes.
+-- What a field holds, by its wire type: VARINT a number, I64 eight bytes, LEN bytes after their length, I32 four bytes.
 pub data Part : Type 0 where
   varint : ℕ → Part
   i64 : ℕ → Part

@@ -33,7 +33,7 @@ pub fn nothing_is_the_default()
     ensures { (s : Schema) (place : ℕ) → Reads s place [] (default_value s place) }
 {}
 
-/// The messages of a lawful schema stay what they are where more messages stand behind them: so a
+/// The messages of a lawful schema stay what they are where more messages stand after them: so a
 /// message type can nest one of another schema, whose messages come first in its own.
 pub fn longer_schema()
     ensures form { (s t : Schema) (place : ℕ) (v : Value) → IsTrue (is_lawful s) → place < length s → HasForm s place v ↔ HasForm (s ++ t) place v }

@@ -1,5 +1,5 @@
 //! Metadata with a message in it, as metadata with a type in it has: the messages of the nested type
-//! come first in its schema, and its own behind them.
+//! come first in its schema, and its own after them.
 
 ghost use Rattle.std.specs.Prelude.{refl};
 ghost use Rattle.std.proofs.Common.{arith, ap};

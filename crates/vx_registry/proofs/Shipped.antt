@@ -34,7 +34,7 @@ tables_of es = record { readers = put_in [] es; writers = put_in [] es }
 pub tables_of-snoc : (es : List Encoding) (e : Encoding) → tables_of (es ++ e ∷ []) ≡ registered e (tables_of es)
 tables_of-snoc es e = ap (λ m. record { readers = m; writers = m }) (put_in-snoc [] es e)
 
--- and the next of a list, behind those before it
+-- and the next of a list, after those before it
 pub next_tables : (es : List Encoding) (i : ℕ) (d : Encoding) (r : Registry) → i < length es → r ≡ tables_of (take i es) → registered (slice_index_or es i d) r ≡ tables_of (take (i + 1) es)
 next_tables es i d r here e =
     ap (λ z. registered (slice_index_or es i d) z) e ∙ sym (tables_of-snoc (take i es) (slice_index_or es i d)) ∙ ap (λ z. tables_of z) (sym (take_more es i d here))

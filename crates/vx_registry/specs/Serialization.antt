@@ -29,7 +29,7 @@ pub record HasPartsOf (two : Bool) (t : Tree) (s : ArraySerialization) : Type 0 
   pub buffers_are : s.buffers ≡ buffers_of (label t).body
   pub children_are : s.children ≡ below t
 
--- No parts are given of an array: for want of memory, or as its root's metadata does not fit its message.
+-- No parts are given of an array: for allocation failure, or as its root's metadata does not fit its message.
 abbrev pub RefusesPartsOf : RegistryError → Tree → Type 0
 RefusesPartsOf OutOfMemory t = Unit {0}
 RefusesPartsOf NotRegistered t = ⊥
@@ -57,7 +57,7 @@ abbrev pub HasLargeMetadata : Step → Type 0
 HasLargeMetadata (written h ts) = HasMessage h ts → ⊥
 HasLargeMetadata (unwritten why) = ⊥
 
--- Why a root is not serialized: for want of memory; nothing writes it; its plugin names an identifier that it does not
+-- Why a root is not serialized: for allocation failure; nothing writes it; its plugin names an identifier that it does not
 -- declare, or refuses it; or its metadata does not fit its message.
 abbrev pub RefusesSerializing : RegistryError → Step → Type 0
 RefusesSerializing OutOfMemory x = Unit {0}

@@ -66,7 +66,7 @@ impl ArrayContext {
     }
 
     /// The place of an identifier, which goes last if it is new. `None` exactly where it is not allowed, or
-    /// its place is not below 65,536; nothing has changed then, nor for want of memory.
+    /// its place is not below 65,536; nothing has changed then, nor for allocation failure.
     pub fn intern(&mut self, id: &Id) -> Result<Option<u16>, RegistryError>
         ensures interned { IfOk result (λ place. IfSome place (λ _. interned id.now self.old ≡ Some self.new)) }
         ensures place { IfOk result (λ place. IfSome place (λ i. index_of id.now self.new.ids ≡ i)) }

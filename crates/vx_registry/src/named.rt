@@ -6,7 +6,7 @@ use crate::error::RegistryError;
 use std::alloc::Global;
 use vx_types::{Id, or_memory};
 
-/// The identifier of this text. The only refusal is want of memory.
+/// The identifier of this text. The only refusal is allocation failure.
 pub(crate) fn named(alloc: Global, text: &str) -> Result<Id, RegistryError>
     ensures ok { IfOk result (λ id. id ≡ text.now) }
     ensures err { IsOkUnless result RegistryError.OutOfMemory }

@@ -1,7 +1,7 @@
 //! Readers and writers of arrays, of the caller.
 
 ghost use Rattle.std.specs.Prelude.{◌≡◌, IfOk, IsOkUnless};
-ghost use Rattle.vx_type_wire.specs.Lent.{lent_meaning};
+ghost use Rattle.vx_type_wire.specs.Borrowed.{borrowed_meaning};
 ghost use Rattle.vx_wire_tree.specs.Plugin.{PluginMeaning};
 ghost use Rattle.vx_registry.specs.Plugin.{IsAnswer, IsWrittenAs, head_in, read_head};
 ghost use Rattle.vx_registry.specs.declared.plugin.PluginError.TheVariants.{OutOfMemory};
@@ -43,7 +43,7 @@ impl<T: Drop> From<AllocFailed<T>> for PluginError {
 
 /// What a caller reads and writes arrays by: a form of its own for the arrays of one encoding, under identifiers of its own.
 ///
-/// Its meaning (`means`) says what each method answers, want of memory aside, and brings the laws that it keeps: it plans one
+/// Its meaning (`means`) says what each method answers, allocation failure aside, and brings the laws that it keeps: it plans one
 /// place for each child; of children that stand there it builds arrays of the type and the length that are asked, of an
 /// encoding that it supports; and what it gave for a sound and normal array it plans and builds again as that array.
 pub trait ArrayPlugin: Drop {
@@ -75,7 +75,7 @@ pub trait ArrayPlugin: Drop {
         head: &ArrayHead,
         ext: &Readers,
     ) -> Result<ChildPlans, PluginError>
-        ensures { IsAnswer ((means self.now).plan (head_in head.now) (lent_meaning (λ r. accepted r.now) ext.now)) result };
+        ensures { IsAnswer ((means self.now).plan (head_in head.now) (borrowed_meaning (λ r. accepted r.now) ext.now)) result };
 
     /// The array of a node's parts; `Refused` where the plugin refuses them.
     fn build(
@@ -84,7 +84,7 @@ pub trait ArrayPlugin: Drop {
         parts: ArrayDeserialization,
         ext: &Readers,
     ) -> Result<Array, PluginError>
-        ensures { IsAnswer ((means self.now).build (read_head parts) parts.buffers parts.children (lent_meaning (λ r. accepted r.now) ext.now)) result };
+        ensures { IsAnswer ((means self.now).build (read_head parts) parts.buffers parts.children (borrowed_meaning (λ r. accepted r.now) ext.now)) result };
 
     /// Whether the plugin may build arrays of the encoding of this identifier.
     fn is_supported_encoding(&self, encoding: &Id) -> bool
@@ -124,7 +124,7 @@ pub fn plan_by(
     head: &ArrayHead,
     ext: &Readers,
 ) -> Result<ChildPlans, PluginError>
-    ensures { IsAnswer ((means plugin.now).plan (head_in head.now) (lent_meaning (λ r. accepted r.now) ext.now)) result }
+    ensures { IsAnswer ((means plugin.now).plan (head_in head.now) (borrowed_meaning (λ r. accepted r.now) ext.now)) result }
 {
     plugin.plan(alloc, head, ext)
 }
@@ -136,7 +136,7 @@ pub fn build_by(
     parts: ArrayDeserialization,
     ext: &Readers,
 ) -> Result<Array, PluginError>
-    ensures { IsAnswer ((means plugin.now).build (read_head parts) parts.buffers parts.children (lent_meaning (λ r. accepted r.now) ext.now)) result }
+    ensures { IsAnswer ((means plugin.now).build (read_head parts) parts.buffers parts.children (borrowed_meaning (λ r. accepted r.now) ext.now)) result }
 {
     plugin.build(alloc, parts, ext)
 }

@@ -106,7 +106,7 @@ impl ArraySerialization {
     }
 }
 
-/// The identifier under which an array's root is written, where primitives have two or not. The only refusal is want of memory.
+/// The identifier under which an array's root is written, where primitives have two or not. The only refusal is allocation failure.
 pub fn written_id(alloc: Global, array: &Array, two: bool) -> Result<Id, RegistryError>
     ensures ok { IfOk result (λ id. id ≡ array_id two array.now) }
     ensures err { IsOkUnless result RegistryError.OutOfMemory }

@@ -201,7 +201,7 @@ impl ArraySession {
         self.tables.writer(id)
     }
 
-    /// Whether primitives are written under two identifiers. The only refusal is want of memory.
+    /// Whether primitives are written under two identifiers. The only refusal is allocation failure.
     pub fn writes_two(&self, alloc: Global) -> Result<bool, RegistryError>
         ensures two { IfOk result (λ two. (x : ExtMeaning) → writes_two (arrays_meaning means self.now x) ≡ two) }
         ensures paired { OnOk result ((x : ExtMeaning) → IsPaired (arrays_meaning means self.now x)) }

@@ -27,7 +27,7 @@ pub(crate) enum Registered {
     RevisedAlone,
 }
 
-/// Want of memory, whatever wanted it.
+/// Allocation failure, whatever wanted it.
 pub(crate) fn lacking<T: Drop, E: Drop>(made: Result<T, E>) -> Result<T, WireError> {
     match made {
         Ok(value) => Ok(value),

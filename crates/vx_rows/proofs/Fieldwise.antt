@@ -1,4 +1,4 @@
--- Fields of structures that are lent, found by their names and gathered.
+-- Fields of structures that are borrowed, found by their names and gathered.
 use Rattle.std.proofs.Common.{ℕ, zero, suc, ◌≡◌, ◌<◌, ◌≤◌, ◌+◌, List, [], ◌∷◌, ◌++◌, Option, Some, None, Bool, true, false, Result, Ok, OnOk, refl, sym, ap, ◌∙◌, subst, length, drop, take, get_or, arith, add-one, bytes_eq, if◌then◌else◌}
 use Rattle.std.proofs.lemmas.List.{append-nil}
 use Rattle.std.proofs.lemmas.Option.{none-some}
@@ -101,7 +101,7 @@ not_null_value d (S.Tuple vs) = refl
 not_null_value d (S.Union tag v) = refl
 not_null_value d (S.Variant s) = refl
 
--- Of a structure as it is lent: a name for each type and for each value.
+-- Of a structure as it is borrowed: a name for each type and for each value.
 pub same_counts : (r : Raw) (ns : List (List ℕ)) (ds : List DType) (ws : List (Option ScalarValue)) → ns ≡ r.names → roses_of (typs ds) ≡ r.types → roses_of (all_seen ws) ≡ r.values → length r.names ≡ count r.types → FitBy r.values r.types
     → (length ns ≡ length ds) × (length ns ≡ length ws)
 same_counts r ns ds ws a b c e f =
@@ -257,7 +257,7 @@ pub wrapped_more : (e : Typ) (ws : List Value) (os : List (Option ScalarValue)) 
 wrapped_more e ws os i o w h q p r =
     rw (add-one i) (wrapped_push e ws (all_seen (take i os)) (seen o) w p r ∙ ap (λ (vs : List Value). each_wrapped e (roses_of vs)) (sym (seen_take os i o h q)))
 
--- ---- a field of a structure that is lent
+-- ---- a field of a structure that is borrowed
 
 module _ (names : List (List ℕ)) (types : List Typ) (values : List Value) (name : List ℕ) (ns : List (List ℕ)) (ds : List DType) (ws : List (Option ScalarValue)) (a : ns ≡ names) (b : typs ds ≡ types) (e : all_seen ws ≡ values) where
   whole : (o : Option (Typ × Value)) → raw_field name ns (roses_of (typs ds)) (roses_of (all_seen ws)) ≡ o → raw_field name names (roses_of types) (roses_of values) ≡ o
@@ -289,10 +289,10 @@ module _ (names : List (List ℕ)) (types : List Typ) (values : List Value) (nam
   pub field_none : (i : ℕ) → length ns ≤ i → Searches name ns ds ws i → None ≡ not_null (raw_field name names (roses_of types) (roses_of values))
   field_none i h s = sym (ap (λ (f : Option (Typ × Value)). not_null f) (whole None (search_ends name ns ds ws i h s)))
 
--- Of a structure as it is lent there is a name for each type and for each value.
-pub lent_counts : (names : List (List ℕ)) (types : List Typ) (values : List Value) (ns : List (List ℕ)) (ds : List DType) (ws : List (Option ScalarValue)) → ns ≡ names → typs ds ≡ types → all_seen ws ≡ values
+-- Of a structure as it is borrowed there is a name for each type and for each value.
+pub borrowed_counts : (names : List (List ℕ)) (types : List Typ) (values : List Value) (ns : List (List ℕ)) (ds : List DType) (ws : List (Option ScalarValue)) → ns ≡ names → typs ds ≡ types → all_seen ws ≡ values
     → length names ≡ count (roses_of types) → FitBy (roses_of values) (roses_of types) → (length ns ≡ length ds) × (length ns ≡ length ws)
-lent_counts names types values ns ds ws a b e l f =
+borrowed_counts names types values ns ds ws a b e l f =
     same_counts (record { names = names; types = roses_of types; values = roses_of values }) ns ds ws a (ap (λ (ts : List Typ). roses_of ts) b) (ap (λ (vs : List Value). roses_of vs) e) l f
 
 -- What is said where an answer is Ok.

@@ -6,7 +6,7 @@ use Rattle.vx_trees.proofs.Counting.{nodes-at}
 use Rattle.vx_trees.proofs.Lists.{roses_list-roses_of}
 use Rattle.vx_trees.proofs.LawsOfLists.{heads, tails}
 use Rattle.vx_types.specs.Value.{Value}
-use Rattle.vx_scalars.specs.Falls.{value_size, slice_size}
+use Rattle.vx_scalars.specs.Measures.{value_size, slice_size}
 use Rattle.vx_rows.specs.Plain.{plain_value, plain_values}
 use Rattle.vx_rows.specs.declared.row.RowValue.{RowValue}
 

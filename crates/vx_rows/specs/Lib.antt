@@ -3,4 +3,4 @@ pub mod Lone
 pub mod Merging
 pub mod RowScalars
 pub mod Refused
-pub mod Falling
+pub mod Decreasing

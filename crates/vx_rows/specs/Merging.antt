@@ -1,4 +1,4 @@
--- The merge of a typed value over a fallback, in the words of its code: structures that are lent, and the fields that are
+-- The merge of a typed value over a fallback, in the words of its code: structures that are borrowed, and the fields that are
 -- gathered of them.
 use Rattle.std.specs.Prelude.{ℕ, ◌≡◌, List, [], ◌∷◌, ◌++◌, Option, Some, None, length}
 use Rattle.vx_trees.specs.Rose.{node, count, roses_of}
@@ -15,7 +15,7 @@ use Rattle.vx_rows.specs.declared.error.ArrayError.TheVariants.{OutOfMemory, Bad
 use Rattle.vx_rows.specs.declared.merging.Structure.{Structure}
 use Rattle.vx_rows.specs.declared.named_variants.NamedVariants.{NamedVariants}
 
--- A structure that is lent.
+-- A structure that is borrowed.
 abbrev pub raw_of : Structure → Raw
 raw_of s = record { names = s.fields.now.names; types = roses_of s.fields.now.types; values = roses_of s.values.now }
 
@@ -74,7 +74,7 @@ listed f (n ∷ ns) = kept n (f n) ++ listed f ns
 abbrev pub merged_structures : Raw → Raw → Value
 merged_structures t r = joined (merged_fields t.values t.names t.types r) r
 
--- A merge is refused for want of memory, or where it is null and of a type without nulls.
+-- A merge is refused for allocation failure, or where it is null and of a type without nulls.
 abbrev pub RefusesMerge : ArrayError → Typ → Value → Type 0
 RefusesMerge OutOfMemory d v = Unit {0}
 RefusesMerge BadCast d v = (v ≡ lone null) × (nullability d ≡ NonNullable)

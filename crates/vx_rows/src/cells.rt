@@ -48,7 +48,7 @@ pub fn spent_row(row: RowValue, budget: &mut u64) -> Result<RowValue, ArrayError
 
 // Spends the cells of a scalar's value.
 #[cycle(cells)]
-#[tactic(auto, using(vx_scalars::proofs::LawsOfLists::falling, crate::proofs::Scalared::value_spends, crate::proofs::LawsOfCells::spending))]
+#[tactic(auto, using(vx_scalars::proofs::LawsOfLists::decreasing, crate::proofs::Scalared::value_spends, crate::proofs::LawsOfCells::spending))]
 fn spend_value(value: Option<&ScalarValue>, budget: &mut u64) -> Result<(), ArrayError>
     ensures spent { OnOk result (budget.old ≡ value_cells (seen (option_copied value.entry)) + budget.new) }
     ensures err { IfErr result (λ e. RefusesCells e (value_cells (seen (option_copied value.entry))) budget.old) }
@@ -79,7 +79,7 @@ fn spend_value(value: Option<&ScalarValue>, budget: &mut u64) -> Result<(), Arra
 
 // Spends the cells of several.
 #[cycle(cells)]
-#[tactic(auto, using(vx_scalars::proofs::LawsOfLists::falling, crate::proofs::Scalared::value_spends, crate::proofs::LawsOfCells::spending))]
+#[tactic(auto, using(vx_scalars::proofs::LawsOfLists::decreasing, crate::proofs::Scalared::value_spends, crate::proofs::LawsOfCells::spending))]
 fn spend_values(values: &[Option<ScalarValue>], budget: &mut u64) -> Result<(), ArrayError>
     ensures spent { OnOk result (budget.old ≡ values_cells (roses_of (all_seen values.now)) + budget.new) }
     ensures err { IfErr result (λ e. RefusesCells e (values_cells (roses_of (all_seen values.now))) budget.old) }

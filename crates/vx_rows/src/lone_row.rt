@@ -13,7 +13,7 @@ use std::alloc::Global;
 use vx_scalars::DecimalValue;
 use vx_types::PValue;
 
-/// A row without rows below it. Texts and bytes are lent.
+/// A row without rows below it. Texts and bytes are borrowed.
 #[derive(Clone, Copy)]
 pub enum LoneRow<'a> {
     /// The row is not there.

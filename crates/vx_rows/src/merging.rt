@@ -242,7 +242,7 @@ fn joined(alloc: Global, typed: Structure<'_>, raw: Structure<'_>) -> Result<Sca
     Ok(fields.into_scalar())
 }
 
-// Puts the fields of a structure that are not null behind others, each merged with what a raw structure has under its name.
+// Puts the fields of a structure that are not null after others, each merged with what a raw structure has under its name.
 #[cycle(merging)]
 fn push_given(
     alloc: Global,
@@ -269,7 +269,7 @@ fn push_given(
     Ok(())
 }
 
-// Puts the field of a name of a structure, where there is one that is not null, behind others.
+// Puts the field of a name of a structure, where there is one that is not null, after others.
 fn push_field(
     alloc: Global,
     structure: Structure<'_>,
@@ -290,7 +290,7 @@ fn push_field(
     }
 }
 
-// Puts those fields of a raw structure behind others that are not null, and whose names a structure does not give.
+// Puts those fields of a raw structure after others that are not null, and whose names a structure does not give.
 fn push_others(
     alloc: Global,
     typed: Structure<'_>,

@@ -36,7 +36,7 @@ pub enum RowValue {
 
 // A row's value falls by a call of this, wherever one falls, and not part by part.
 impl Drop for RowValue {
-    #[cycle(fall)]
+    #[cycle(dropping)]
     fn drop(self) {
         match self {
             RowValue::Null => {}

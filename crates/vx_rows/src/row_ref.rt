@@ -18,7 +18,7 @@ pub struct RowRef {
 impl Model for RowRef {
     ghost use Rattle.std.proofs.Common.{arith};
     ghost use Rattle.vx_types.specs.Value.{Value as Tree, value_code};
-    ghost use Rattle.vx_scalars.specs.Falls.{ref_size};
+    ghost use Rattle.vx_scalars.specs.Measures.{ref_size};
 
     ghost Value = { Tree };
 
@@ -30,13 +30,13 @@ impl Model for RowRef {
 
     ghost size = { ref_size };
 
-    ghost use Rattle.vx_rows.specs.Falling.{deep_le-size};
+    ghost use Rattle.vx_rows.specs.Decreasing.{deep_le-size};
 
     ghost size_decreases = { λ a h. Prim.omega (arith, deep_le-size a.value.value) };
 }
 
 impl RowRef {
-    /// This value, kept behind a pointer.
+    /// This value, kept after a pointer.
     pub fn new(alloc: Global, value: RowValue) -> Result<RowRef, ArrayError>
         ensures ok { IfOk result (λ part. part ≡ plain_value value) }
         ensures err { IsOkUnless result ArrayError.OutOfMemory }

@@ -141,7 +141,7 @@ impl RowValue {
 
 // A scalar's value as a row's; `None` is a null.
 #[cycle(rows_of_scalars)]
-#[tactic(auto, using(vx_scalars::proofs::LawsOfLists::falling, crate::proofs::Scalared::value_rows))]
+#[tactic(auto, using(vx_scalars::proofs::LawsOfLists::decreasing, crate::proofs::Scalared::value_rows))]
 fn row_of_value(alloc: Global, value: Option<&ScalarValue>) -> Result<RowValue, ArrayError>
     ensures ok { IfOk result (λ row. plain_value row ≡ seen (option_copied value.entry)) }
     ensures err { IsOkUnless result ArrayError.OutOfMemory }
@@ -175,7 +175,7 @@ fn row_of_value(alloc: Global, value: Option<&ScalarValue>) -> Result<RowValue, 
 
 // Scalars' values as rows'.
 #[cycle(rows_of_scalars)]
-#[tactic(auto, using(vx_scalars::proofs::LawsOfLists::falling, crate::proofs::Scalared::value_rows))]
+#[tactic(auto, using(vx_scalars::proofs::LawsOfLists::decreasing, crate::proofs::Scalared::value_rows))]
 fn rows_of_values(alloc: Global, values: &[Option<ScalarValue>]) -> Result<RowValues, ArrayError>
     ensures ok { IfOk result (λ rows. rows ≡ all_seen values.now) }
     ensures err { IsOkUnless result ArrayError.OutOfMemory }

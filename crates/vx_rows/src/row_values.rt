@@ -20,7 +20,7 @@ impl Model for RowValues {
     ghost use Rattle.std.specs.Coded.{coded_list};
     ghost use Rattle.std.proofs.Common.{arith};
     ghost use Rattle.vx_types.specs.Value.{Value as Tree, value_code};
-    ghost use Rattle.vx_scalars.specs.Falls.{values_size};
+    ghost use Rattle.vx_scalars.specs.Measures.{values_size};
 
     ghost Value = { List Tree };
 
@@ -32,7 +32,7 @@ impl Model for RowValues {
 
     ghost size = { values_size };
 
-    ghost use Rattle.vx_rows.specs.Falling.{most_le-size};
+    ghost use Rattle.vx_rows.specs.Decreasing.{most_le-size};
 
     ghost size_decreases = { λ a h. Prim.omega (arith, most_le-size a.items.items) };
 }

@@ -7,7 +7,7 @@ use vx_scalars::{Scalar, ScalarValue};
 
 // Whether two scalars are the same value of the same type.
 #[cycle(same_scalars)]
-#[tactic(auto, using(vx_scalars::proofs::LawsOfLists::falling, crate::proofs::Scalared::same_values))]
+#[tactic(auto, using(vx_scalars::proofs::LawsOfLists::decreasing, crate::proofs::Scalared::same_values))]
 pub(crate) fn is_same_scalar(a: &Scalar, b: &Scalar) -> bool
     ensures { IsTrue result ↔ (a.now ≡ b.now) }
 {
@@ -16,7 +16,7 @@ pub(crate) fn is_same_scalar(a: &Scalar, b: &Scalar) -> bool
 
 // Whether two values, or nulls, are the same.
 #[cycle(same_scalars)]
-#[tactic(auto, using(vx_scalars::proofs::LawsOfLists::falling, crate::proofs::Scalared::same_values))]
+#[tactic(auto, using(vx_scalars::proofs::LawsOfLists::decreasing, crate::proofs::Scalared::same_values))]
 fn is_same_value(a: Option<&ScalarValue>, b: Option<&ScalarValue>) -> bool
     ensures { IsTrue result ↔ (seen (option_copied a.entry) ≡ seen (option_copied b.entry)) }
 {
@@ -29,7 +29,7 @@ fn is_same_value(a: Option<&ScalarValue>, b: Option<&ScalarValue>) -> bool
 
 // Whether two values that are not null are the same.
 #[cycle(same_scalars)]
-#[tactic(auto, using(vx_scalars::proofs::LawsOfLists::falling, crate::proofs::Scalared::same_values))]
+#[tactic(auto, using(vx_scalars::proofs::LawsOfLists::decreasing, crate::proofs::Scalared::same_values))]
 fn is_same_present(a: &ScalarValue, b: &ScalarValue) -> bool
     ensures { IsTrue result ↔ (value_of a.now ≡ value_of b.now) }
 {
@@ -52,7 +52,7 @@ fn is_same_present(a: &ScalarValue, b: &ScalarValue) -> bool
 
 // Whether two lists have the same values in the same order.
 #[cycle(same_scalars)]
-#[tactic(auto, using(vx_scalars::proofs::LawsOfLists::falling, crate::proofs::Scalared::same_values))]
+#[tactic(auto, using(vx_scalars::proofs::LawsOfLists::decreasing, crate::proofs::Scalared::same_values))]
 fn are_same_values(a: &[Option<ScalarValue>], b: &[Option<ScalarValue>]) -> bool
     ensures { IsTrue result ↔ (all_seen a.now ≡ all_seen b.now) }
 {

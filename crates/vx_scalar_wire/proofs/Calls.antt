@@ -54,7 +54,7 @@ pub message_refused : (r : Result (Option ScalarValue) ScalarWireError) (s : Ext
 message_refused (Ok x) s d bytes m q h = tt
 message_refused (Err e) s d bytes m q h = message_caused e s d bytes m q h
 
--- and what they show is given, want of memory aside.
+-- and what they show is given, allocation failure aside.
 pub bytes_complete : (r : Result (Option ScalarValue) ScalarWireError) (s : ExtMeaning) (v : V.Value) (d : Typ) (bytes : List ℕ) (m : Value) → Reads scalar_lists 15 bytes m → nested m ≤ 100
     → ((u : V.Value) → nested m ≤ 100 → ReadsValue s u d m → MatchResult r (λ x. seen x ≡ u) (λ e. e ≡ OutOfMemory)) → ShowsValue s v d bytes → MatchResult r (λ x. seen x ≡ v) (λ e. e ≡ OutOfMemory)
 bytes_complete r s v d bytes m q n h k =

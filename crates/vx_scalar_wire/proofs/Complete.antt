@@ -472,7 +472,7 @@ no_cause_within (suc depth) e s v d m f u is n r w c =
     let p = part_read s v d m w.0 w.1 is r w.2 in
     no_cause_within depth e s p.1.0 w.0 w.1 f u p.0 (omega (arith, part_depth s d m w.0 w.1 w.2, n)) p.1.1 w.3 c
 
--- What is read at a type, with at most 100 messages nested, is refused for want of memory alone.
+-- What is read at a type, with at most 100 messages nested, is refused for allocation failure alone.
 pub only_memory : (e : ScalarWireError) (s : ExtMeaning) (v : V.Value) (d : Typ) (m : Value) → IsType d → nested m ≤ 100 → ReadsValue s v d m → RefusesReadingValue e s 100 d m → e ≡ OutOfMemory
 only_memory OutOfMemory s v d m is n r h = refl
 only_memory TooDeep s v d m is n r h = absurd (omega (arith, n, h))
@@ -480,7 +480,7 @@ only_memory e s v d m is n r h = absurd (no_cause_within h.0 e s v d m h.1 h.2 i
 
 -- ---- answers
 
--- What is read at a type is given, want of memory aside.
+-- What is read at a type is given, allocation failure aside.
 pub value_complete : (r : Result (Option ScalarValue) ScalarWireError) (s : ExtMeaning) (d : Typ) (m : Value) → IsType d → IfOk r (λ x. ReadsValue s (seen x) d m) → IfErr r (λ e. RefusesReadingValue e s 100 d m)
     → (v : V.Value) → nested m ≤ 100 → ReadsValue s v d m → MatchResult r (λ x. seen x ≡ v) (λ e. e ≡ OutOfMemory)
 value_complete (Ok x) s d m is h k v n r = reads-one s (seen x) v d m h r
@@ -492,7 +492,7 @@ scalar_held s x l r = record { typed_by = r.0; inner = r.1; is = r.2; dtype = x.
 inner_depth : (l t w : Value) → l ≡ one_message 1 t ∷ one_message 2 w ∷ [] → nested l ≤ 100 → nested w ≤ 100
 inner_depth l t w e n = let whole : nested l ≡ nested (one_message 1 t ∷ one_message 2 w ∷ []) = ap nested e in omega (arith, whole, n)
 
--- A scalar's message that is read is refused for want of memory alone.
+-- A scalar's message that is read is refused for allocation failure alone.
 pub scalar_memory : (e : ScalarWireError) (s : ExtMeaning) (x : Typed) (l : Value) → nested l ≤ 100 → ReadsScalar s x l → RefusesReadingScalar e s 100 l → e ≡ OutOfMemory
 scalar_memory OutOfMemory s x l n r c = refl
 scalar_memory e s x l n r (inl c) = absurd (no_scalar_cause e s l (scalar_held s x l r) n c)
@@ -504,7 +504,7 @@ scalar_memory e s x l n r (inr c) =
     let read : ReadsValue s x.value c.2 c.1 = subst (λ w. ReadsValue s x.value c.2 w) (sym inner) (subst (λ t. ReadsValue s x.value t r.1) (sym same) r.4) in
     only_memory e s x.value c.2 c.1 c.4.shows.is_type (inner_depth l c.0 c.1 c.3 n) read c.5
 
--- What is read of a scalar's message is given, want of memory aside.
+-- What is read of a scalar's message is given, allocation failure aside.
 pub scalar_complete : (r : Result Typed ScalarWireError) (s : ExtMeaning) (l : Value) → IfOk r (λ x. ReadsScalar s x l) → IfErr r (λ e. RefusesReadingScalar e s 100 l)
     → (x : Typed) → nested l ≤ 100 → ReadsScalar s x l → MatchResult r (λ y. y ≡ x) (λ e. e ≡ OutOfMemory)
 scalar_complete (Ok y) s l h k x n r = one_scalar s l y x h r

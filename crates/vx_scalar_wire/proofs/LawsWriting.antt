@@ -1,4 +1,4 @@
--- A set of statistics that fit is written but for want of memory, or where the message would be too long.
+-- A set of statistics that fit is written but for allocation failure, or where the message would be too long.
 use Rattle.std.proofs.Common.{◌≡◌, ◌∙◌, ◌≤◌, ◌⊎◌, Option, Some, None, refl, sym, subst, inl, inr, arith}
 use Rattle.vx_flat.specs.Building.{Built}
 use Rattle.vx_proto.specs.Written.{nested}
@@ -67,7 +67,7 @@ one_of_three e d t f (inl u) = told_written e (stat_type Min d) t.least (λ k h.
 one_of_three e d t f (inr (inl u)) = told_written e (stat_type Max d) t.greatest (λ k h. ordered_leaf (bare d) k h) (f Max) u
 one_of_three e d t f (inr (inr u)) = told_written e (stat_type Sum d) (written_sum t.total) (λ k h. sum_leaf d k h) (sum_told (stat_type Sum d) t.total (f Sum)) u
 
--- Of a set that fits, nothing is refused but for want of memory, or where the message would be too long.
+-- Of a set that fits, nothing is refused but for allocation failure, or where the message would be too long.
 pub fit_written : (e : ScalarWireError) (d : Typ) (t : Stats) (b : Built) → FitStats d t → RefusesWritingStats e t b → (e ≡ OutOfMemory) ⊎ (e ≡ MessageTooLong)
 fit_written OutOfMemory d t b f u = inl refl
 fit_written MessageTooLong d t b f u = inr refl

@@ -117,4 +117,4 @@ greatest_at s ks d vs x e k h =
     subst (λ (js : List FieldKind). ShowsBound (stat_type s d) (part_at js vs 2) (part_at js vs 3) x) (sym k)
     (subst (λ (r : Stat). ShowsBound (stat_type r d) (part_at stats_fields vs 2) (part_at stats_fields vs 3) x) (sym e) (subst (λ (r : Stat). ShowsStat r d vs x) e h))
 
--- ---- want of memory
+-- ---- allocation failure

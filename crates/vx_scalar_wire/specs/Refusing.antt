@@ -203,7 +203,7 @@ IsWithin (suc depth) s d m f u = (e : Typ) × (w : Value) × IsPart s d m e w ×
 
 -- ---- refusals
 
--- A message has a cause, or one that stands within it has, or more than so many nest. Want of memory has no cause.
+-- A message has a cause, or one that stands within it has, or more than so many nest. Allocation failure has no cause.
 abbrev pub RefusesReadingValue : ScalarWireError → ExtMeaning → ℕ → Typ → Value → Type 0
 RefusesReadingValue OutOfMemory s most d m = Unit {0}
 RefusesReadingValue TooDeep s most d m = most < nested m

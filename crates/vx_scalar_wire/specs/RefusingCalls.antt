@@ -14,7 +14,7 @@ use Rattle.vx_scalar_wire.specs.Writing.{refusal_of_proto}
 use Rattle.vx_scalar_wire.specs.declared.error.ScalarWireError.{ScalarWireError}
 use Rattle.vx_scalar_wire.specs.declared.error.ScalarWireError.TheVariants.{OutOfMemory, BadScalar}
 
--- Bytes are no message of a value, or are read as one that is refused. Want of memory has no cause.
+-- Bytes are no message of a value, or are read as one that is refused. Allocation failure has no cause.
 abbrev pub RefusesReadingValueBytes : ScalarWireError → ExtMeaning → Typ → List ℕ → Type 0
 RefusesReadingValueBytes OutOfMemory s d bytes = Unit {0}
 RefusesReadingValueBytes e s d bytes =

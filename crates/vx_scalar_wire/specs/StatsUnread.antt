@@ -19,7 +19,7 @@ use Rattle.vx_scalar_wire.specs.declared.error.ScalarWireError.TheVariants.{OutO
 abbrev pub ShowsUnfit : Typ → List ℕ → Type 0
 ShowsUnfit d bytes = (v : V.Value) × ShowsValue no_readers v d bytes × (is_null v ≡ false) × (Fits v d → ⊥)
 
--- Bytes are refused as a value's, or what they show does not fit. Want of memory has no cause.
+-- Bytes are refused as a value's, or what they show does not fit. Allocation failure has no cause.
 abbrev pub RefusesStatBytes : ScalarWireError → Typ → List ℕ → Type 0
 RefusesStatBytes BadScalar d bytes = RefusesReadingValueBytes BadScalar no_readers d bytes ⊎ ShowsUnfit d bytes
 RefusesStatBytes e d bytes = RefusesReadingValueBytes e no_readers d bytes

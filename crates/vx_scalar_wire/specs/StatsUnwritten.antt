@@ -37,7 +37,7 @@ RefusesWritingTold e (Inexact v) = RefusesWritingValueBytes e (IsShallow v) (val
 RefusesWritingTold e Absent = ⊥
 
 -- Why a set is not written after what a builder has: one of its values is not, or with its blocks the message is too
--- long. Want of memory has no cause.
+-- long. Allocation failure has no cause.
 abbrev pub RefusesWritingStats : ScalarWireError → Stats → Built → Type 0
 RefusesWritingStats OutOfMemory t b = Unit {0}
 RefusesWritingStats MessageTooLong t b = IsTooLong b (stats_pieces t)

@@ -12,7 +12,7 @@ use Rattle.vx_scalars.specs.declared.error.ScalarError.TheVariants as scalar
 use Rattle.vx_scalar_wire.specs.declared.error.ScalarWireError.TheVariants.{OutOfMemory, BadMessage, TooDeep, OutOfRange, BadScalar, BadDType, MessageTooLong}
 use Rattle.vx_scalar_wire.specs.declared.error.TypeRefusal.TheVariants.{WireLimit}
 
--- Why nothing is written: something is not shallow. Want of memory has no cause.
+-- Why nothing is written: something is not shallow. Allocation failure has no cause.
 abbrev pub RefusesWritingValue : ScalarWireError → Type 0 → Type 0
 RefusesWritingValue OutOfMemory Shallow = Unit {0}
 RefusesWritingValue (BadDType WireLimit) Shallow = Shallow → ⊥
@@ -30,7 +30,7 @@ refusal_of_proto proto.BadMessage = BadMessage
 refusal_of_proto proto.TooDeep = TooDeep
 refusal_of_proto proto.OutOfRange = OutOfRange
 
--- A builder reads no table, so it refuses for want of memory, or as the message would be too long.
+-- A builder reads no table, so it refuses for allocation failure, or as the message would be too long.
 abbrev pub IsOfBuilder : FlatError → Type 0
 IsOfBuilder flat.OutOfMemory = Unit {0}
 IsOfBuilder flat.MessageTooLong = Unit {0}

@@ -266,7 +266,7 @@ fn is_text(alloc: Global, error: ScalarWireError, text: &str) -> bool {
     }
 }
 
-// What each refusal is printed as, the refusal of a type behind the words that one is refused.
+// What each refusal is printed as, the refusal of a type after the words that one is refused.
 const TEXTS: [(ScalarWireError, &str); 14] = [
     (ScalarWireError::OutOfMemory, "out of memory"),
     (

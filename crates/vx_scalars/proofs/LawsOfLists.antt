@@ -16,7 +16,7 @@ use Rattle.vx_types.specs.Value.{Value}
 use Rattle.vx_types.specs.declared.dtype.DType.{DType}
 use Rattle.vx_types.specs.declared.nullability.Nullability.{Nullability}
 use Rattle.vx_types.proofs.LawsOfTypes.{typs-at}
-use Rattle.vx_scalars.specs.Falls.{value_size, slice_size}
+use Rattle.vx_scalars.specs.Measures.{value_size, slice_size}
 use Rattle.vx_scalars.specs.Seen.{seen, all_seen}
 use Rattle.vx_scalars.specs.declared.value.ScalarValue.{ScalarValue}
 
@@ -182,4 +182,4 @@ two-parts (a ∷ b ∷ c ∷ vs) v k x f = absurd (f.1.1)
 pub no-entry : (ws : List Value) (vs : List (Option ScalarValue)) (k x : Typ) → all_seen vs ≡ ws → (length vs ≡ 2 → ⊥) → FitBy (roses_of ws) (more k (more x end)) → ⊥
 no-entry ws vs k x e h f = h (two-parts vs None k x (subst (λ us. FitBy (roses_of us) (more k (more x end))) (sym e) f)).0
 
-pub ruleset falling = (size-at, seen-length, seen-at, count-roses_of, each-at, each-more, by-length, by-at, by-more, two-fit, two-parts, member-at, member-nowhere, no-entry)
+pub ruleset decreasing = (size-at, seen-length, seen-at, count-roses_of, each-at, each-more, by-length, by-at, by-more, two-fit, two-parts, member-at, member-nowhere, no-entry)

@@ -1,8 +1,8 @@
 pub mod Decimals
 pub mod Seen
 pub mod Told
-pub mod Falls
-pub mod Falling
+pub mod Measures
+pub mod Decreasing
 pub mod StatTypes
 pub mod Stats
 pub mod Places

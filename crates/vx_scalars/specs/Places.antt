@@ -19,11 +19,11 @@ absence (Exact v) = false
 absence (Inexact v) = false
 absence Absent = true
 
--- What is told of a value that is lent.
-abbrev pub lent : {A : Type 0} → Precision (Bor A) → Precision A
-lent (Exact v) = Exact v.now
-lent (Inexact v) = Inexact v.now
-lent Absent = Absent
+-- What is told of a value that is borrowed.
+abbrev pub borrowed : {A : Type 0} → Precision (Bor A) → Precision A
+borrowed (Exact v) = Exact v.now
+borrowed (Inexact v) = Inexact v.now
+borrowed Absent = Absent
 
 -- What a function tells, but for one statistic.
 abbrev pub changed : Stat → Told → (Stat → Told) → Stat → Told

@@ -26,7 +26,7 @@ seen (Some v) = value_of v
 abbrev pub all_seen : List (Option ScalarValue) → List Value
 all_seen vs = each seen vs
 
--- A value behind a pointer, which may be null.
+-- A value after a pointer, which may be null.
 abbrev pub value_behind : {A : Type 0} → Option (Box ScalarValue A) → Value
 value_behind None = lone null
 value_behind (Some b) = value_of b.value

@@ -23,7 +23,7 @@ pub(crate) fn copied(
 
 // Copies of the values.
 #[cycle(copy)]
-#[tactic(auto, using(crate::proofs::LawsOfLists::falling))]
+#[tactic(auto, using(crate::proofs::LawsOfLists::decreasing))]
 pub(crate) fn copy_all(
     values: &[Option<ScalarValue>],
     alloc: Global,

@@ -24,7 +24,7 @@ pub fn bare_dtype(dtype: &DType) -> &DType
 
 // Whether a value, or a null, fits a type.
 #[cycle(fits)]
-#[tactic(auto, using(crate::proofs::LawsOfLists::falling))]
+#[tactic(auto, using(crate::proofs::LawsOfLists::decreasing))]
 pub(crate) fn fits(value: Option<&ScalarValue>, dtype: &DType) -> bool
     ensures { IsTrue result ↔ Fits (seen (option_copied value.entry)) (typ dtype.now) }
 {
@@ -49,7 +49,7 @@ pub(crate) fn fits(value: Option<&ScalarValue>, dtype: &DType) -> bool
 
 // Whether the parts of a tuple fit a type that is no extension.
 #[cycle(fits)]
-#[tactic(auto, using(crate::proofs::LawsOfLists::falling))]
+#[tactic(auto, using(crate::proofs::LawsOfLists::decreasing))]
 fn fit_parts(values: &Values, dtype: &DType) -> bool
     ensures { IsTrue result ↔ FitParts (count (roses_of values.now)) (λ e. EachFits (roses_of values.now) e) (λ ts. FitBy (roses_of values.now) ts) (typ dtype.now) }
 {
@@ -66,7 +66,7 @@ fn fit_parts(values: &Values, dtype: &DType) -> bool
 
 // Whether each of the values fits a type.
 #[cycle(fits)]
-#[tactic(auto, using(crate::proofs::LawsOfLists::falling))]
+#[tactic(auto, using(crate::proofs::LawsOfLists::decreasing))]
 fn each_fits(values: &[Option<ScalarValue>], dtype: &DType) -> bool
     ensures { IsTrue result ↔ EachFits (roses_of (all_seen values.now)) (typ dtype.now) }
 {
@@ -80,7 +80,7 @@ fn each_fits(values: &[Option<ScalarValue>], dtype: &DType) -> bool
 
 // Whether the values fit the types one by one.
 #[cycle(fits)]
-#[tactic(auto, using(crate::proofs::LawsOfLists::falling))]
+#[tactic(auto, using(crate::proofs::LawsOfLists::decreasing))]
 fn fit_by(values: &[Option<ScalarValue>], dtypes: &[DType]) -> bool
     ensures { IsTrue result ↔ FitBy (roses_of (all_seen values.now)) (roses_of (typs dtypes.now)) }
 {
@@ -97,7 +97,7 @@ fn fit_by(values: &[Option<ScalarValue>], dtypes: &[DType]) -> bool
 
 // Whether each of the values is an entry of a map.
 #[cycle(fits)]
-#[tactic(auto, using(crate::proofs::LawsOfLists::falling))]
+#[tactic(auto, using(crate::proofs::LawsOfLists::decreasing))]
 fn each_is_entry(values: &[Option<ScalarValue>], map: &MapDType) -> bool
     ensures { IsTrue result ↔ EachFits (roses_of (all_seen values.now)) (entries map.now) }
 {
@@ -111,7 +111,7 @@ fn each_is_entry(values: &[Option<ScalarValue>], map: &MapDType) -> bool
 
 // Whether a value is an entry of a map: a tuple of a key and a value, not null.
 #[cycle(fits)]
-#[tactic(auto, using(crate::proofs::LawsOfLists::falling))]
+#[tactic(auto, using(crate::proofs::LawsOfLists::decreasing))]
 fn is_entry(value: Option<&ScalarValue>, map: &MapDType) -> bool
     ensures { IsTrue result ↔ Fits (seen (option_copied value.entry)) (entries map.now) }
 {
@@ -129,7 +129,7 @@ fn is_entry(value: Option<&ScalarValue>, map: &MapDType) -> bool
 
 // Whether the value under a tag fits the member that the tag names.
 #[cycle(fits)]
-#[tactic(auto, using(crate::proofs::LawsOfLists::falling))]
+#[tactic(auto, using(crate::proofs::LawsOfLists::decreasing))]
 fn fits_member(tag: u8, value: &ValueRef, dtype: &DType) -> bool
     ensures { IsTrue result ↔ FitsMember tag (λ ts. FitBy (more value.now end) ts) (typ dtype.now) }
 {

@@ -26,7 +26,7 @@ pub struct Scalar {
 
 // A scalar falls by a call of this, wherever one falls, and not part by part.
 impl Drop for Scalar {
-    #[cycle(fall)]
+    #[cycle(dropping)]
     fn drop(self) {
         let Scalar { dtype: _, value: _ } = self;
     }
@@ -36,7 +36,7 @@ impl Model for Scalar {
     ghost use Rattle.std.proofs.Common.{arith};
     ghost use Rattle.vx_scalars.specs.Told.{Typed, typed_code};
     ghost use Rattle.vx_types.specs.Seen.{typ};
-    ghost use Rattle.vx_scalars.specs.Falls.{typed_size};
+    ghost use Rattle.vx_scalars.specs.Measures.{typed_size};
 
     ghost Value = { Typed };
 
@@ -52,7 +52,7 @@ impl Model for Scalar {
 
     ghost size = { typed_size };
 
-    ghost use Rattle.vx_scalars.specs.Falling.{scalar_le-size};
+    ghost use Rattle.vx_scalars.specs.Decreasing.{scalar_le-size};
 
     ghost size_decreases = { λ a h. Prim.omega (arith, scalar_le-size a.value) };
 }

@@ -3,7 +3,7 @@
 ghost use Rattle.std.specs.Prelude.{◌≡◌, ◌==◌, false, IfOk, OnOk, OnErr, IsOkUnless, MatchOption};
 ghost use Rattle.std.specs.Slice.Iter.{iter_rest};
 ghost use Rattle.vx_types.specs.Value.{Value};
-ghost use Rattle.vx_scalars.specs.Places.{IsPlace, Changes, lent, absence};
+ghost use Rattle.vx_scalars.specs.Places.{IsPlace, Changes, borrowed, absence};
 ghost use Rattle.vx_scalars.specs.Stats.{no_stats, told, told_at, with_told, told_in, IsNowhere, IsTold, AreEntries, ListsEach};
 ghost use Rattle.vx_scalars.specs.declared.precision.Precision.TheVariants.{Absent};
 
@@ -48,10 +48,10 @@ impl StatsSet {
 
     /// What is told of a statistic.
     pub fn get(&self, stat: Stat) -> Precision<&ScalarValue>
-        ensures { told (lent result) ≡ told_at self.now stat }
+        ensures { told (borrowed result) ≡ told_at self.now stat }
     {
         match place_in(self.entries.as_slice(), stat) {
-            Some(place) => borrowed(&self.entries[place].1),
+            Some(place) => as_borrowed(&self.entries[place].1),
             None => Precision::Absent,
         }
     }
@@ -99,9 +99,9 @@ impl StatsSet {
     }
 }
 
-// What is told, with its value lent.
-fn borrowed(value: &Precision<ScalarValue>) -> Precision<&ScalarValue>
-    ensures { lent result ≡ value.now }
+// What is told, with its value borrowed.
+fn as_borrowed(value: &Precision<ScalarValue>) -> Precision<&ScalarValue>
+    ensures { borrowed result ≡ value.now }
 {
     match value {
         Precision::Exact(value) => Precision::Exact(value),

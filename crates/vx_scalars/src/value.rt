@@ -36,7 +36,7 @@ pub enum ScalarValue {
 
 // A value falls by a call of this, wherever one falls, and not part by part.
 impl Drop for ScalarValue {
-    #[cycle(fall)]
+    #[cycle(dropping)]
     fn drop(self) {
         match self {
             ScalarValue::Bool(_) => {}

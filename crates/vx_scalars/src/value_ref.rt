@@ -18,7 +18,7 @@ pub struct ValueRef {
 impl Model for ValueRef {
     ghost use Rattle.std.proofs.Common.{arith};
     ghost use Rattle.vx_types.specs.Value.{Value as Tree, value_code};
-    ghost use Rattle.vx_scalars.specs.Falls.{ref_size};
+    ghost use Rattle.vx_scalars.specs.Measures.{ref_size};
 
     ghost Value = { Tree };
 
@@ -30,13 +30,13 @@ impl Model for ValueRef {
 
     ghost size = { ref_size };
 
-    ghost use Rattle.vx_scalars.specs.Falling.{place_le-size};
+    ghost use Rattle.vx_scalars.specs.Decreasing.{place_le-size};
 
     ghost size_decreases = { λ a h. Prim.omega (arith, place_le-size a.value) };
 }
 
 impl ValueRef {
-    /// This value, kept behind a pointer; a null takes no memory.
+    /// This value, kept after a pointer; a null takes no memory.
     pub fn new(alloc: Global, value: Option<ScalarValue>) -> Result<ValueRef, ScalarError>
         ensures ok { IfOk result (λ place. place ≡ seen value) }
         ensures err { IsOkUnless result ScalarError.OutOfMemory }

@@ -17,7 +17,7 @@ pub struct VariantRef {
 impl Model for VariantRef {
     ghost use Rattle.std.proofs.Common.{arith};
     ghost use Rattle.vx_scalars.specs.Told.{Typed, typed_code};
-    ghost use Rattle.vx_scalars.specs.Falls.{variant_size};
+    ghost use Rattle.vx_scalars.specs.Measures.{variant_size};
 
     ghost Value = { Typed };
 
@@ -31,7 +31,7 @@ impl Model for VariantRef {
 }
 
 impl VariantRef {
-    /// This scalar, kept behind a pointer.
+    /// This scalar, kept after a pointer.
     pub fn new(alloc: Global, scalar: Scalar) -> Result<VariantRef, ScalarError>
         ensures ok { IfOk result (λ variant. variant ≡ scalar) }
         ensures err { IsOkUnless result ScalarError.OutOfMemory }

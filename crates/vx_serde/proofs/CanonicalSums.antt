@@ -12,7 +12,7 @@ use Rattle.vx_array_tree.specs.Normal.{IsNormal, IsNormalBy, IsNormalForeign, Is
 use Rattle.vx_array_tree.specs.Tree.{Tree, Trees, Head}
 use Rattle.vx_wire_tree.specs.Matches.{Matches, AllMatch, IsNodeBy, IsRaw, AreRaw}
 use Rattle.vx_wire_tree.specs.Session.{SessionMeaning, Reader, shipped, revised, plugin, IsShipped, IsShippedReader}
-use Rattle.vx_wire_tree.specs.Tells.{Tells}
+use Rattle.vx_wire_tree.specs.DecodesTo.{DecodesTo}
 use Rattle.vx_wire_tree.specs.Wire.{WireHead, Wire, Wires}
 use Rattle.vx_wire_tree.specs.Written.{canon}
 use Rattle.vx_wire_tree.proofs.Laws.{canon_written}
@@ -63,5 +63,5 @@ module _ (s : SessionMeaning) (ok : IsShipped s) where
 
   -- Of an array that a wire tree tells nothing is lost where it is read back, and a sum that is no number becomes the NaN of
   -- its width.
-  pub told_sums : (w : Wire) (d : Typ) (n : ℕ) (t : Tree) → Tells codec s w d n t → canon codec s t ≡ sums_canonical t
+  pub told_sums : (w : Wire) (d : Typ) (n : ℕ) (t : Tree) → DecodesTo codec s w d n t → canon codec s t ≡ sums_canonical t
   told_sums w d n t x = canon_written codec s t x.sound (x.normal ok) ∙ matched_sums w t x.matched (x.normal ok)

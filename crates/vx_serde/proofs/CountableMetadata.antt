@@ -1,6 +1,6 @@
 -- The bytes of the metadata in a message that is light can be counted.
 use Rattle.std.proofs.Common.{ℕ, ◌<◌, ◌≤◌, ◌+◌, ◌^◌, List, length, ap, arith}
-use Rattle.vx_flat.specs.Limits.{IsLight}
+use Rattle.vx_flat.specs.Limits.{KeepsLimits}
 use Rattle.vx_flat.specs.ValueWeight.{weight_of_fields, weight_of_rows}
 use Rattle.vx_flat.specs.Weight.{weight}
 use Rattle.vx_flat.specs.declared.weight.Weight.{Weight}
@@ -34,7 +34,7 @@ module _ (ids : List (List ℕ)) (s : SessionMeaning) where
 
   -- That of each node of an array whose message is light can.
   pub countable_in : (t : Tree) (options : SerializeOptions) (message : List ℕ) (ds : List Descriptor) → Shows array_schema message (message_value (numbered ids 0 (wire codec s t)) ds)
-      → IsLight (message_limits options) (weight array_schema message) → HasCountableMetadata codec t
-  countable_in t options message ds shows light =
+      → KeepsLimits (message_limits options) (weight array_schema message) → HasCountableMetadata codec t
+  countable_in t options message ds shows within_limits =
       let same = ap (λ (x : Weight). x.bytes) (weight-shown array_schema message (message_value (numbered ids 0 (wire codec s t)) ds) shows) in
-      in_node t 0 (2 ^ 31) (omega (arith, same, light.2)) (omega arith)
+      in_node t 0 (2 ^ 31) (omega (arith, same, within_limits.2)) (omega arith)

@@ -52,7 +52,7 @@ grown-child ts i child b c d h at q g =
     ap (λ ids. grown_by ids b) (gathered_below-take (λ h. id_in h) ts i child h)
     ∙ grown-both (gathered_below (λ h. id_in h) (roses_of (take i ts))) (ids_in (get_or ts i child)) b c d q (ap (λ t. grown_by (ids_in t) c) (sym at) ∙ g)
 
--- ---- behind all of them
+-- ---- after all of them
 
 pub grown-whole : (w : Wire) (ts : List Wire) (i : ℕ) (a b c : Context) → roses_of ts ≡ below w → length ts ≤ i
     → grown_by (id_in (label w)) a ≡ Some b → grown_by (gathered_below (λ h. id_in h) (roses_of (take i ts))) b ≡ Some c → grown_by (ids_in w) a ≡ Some c

@@ -21,7 +21,7 @@ stands-within id (other ∷ ids) h = at (bytes_eq id other) (bytes_eq-Decides id
   at true f h g = ap (λ x. Some x) (sym (f refl))
   at false f h g = g (omega (arith, h))
 
--- It stays where it is, whatever comes behind the list.
+-- It stays where it is, whatever comes after the list.
 pub placed-more : (id : List ℕ) (ids rest : List (List ℕ)) → IsPlaced ids id → IsPlaced (ids ++ rest) id
 placed-more id ids rest h =
     let within = slice_get_within ids (index_of id ids) id h.stands in
@@ -33,7 +33,7 @@ placed-more id ids rest h =
 
 -- ---- a list with an identifier
 
--- What an identifier's coming makes of a list: more may stand behind what was there, and the identifier has its place.
+-- What an identifier's coming makes of a list: more may stand after what was there, and the identifier has its place.
 record Comes (ids new : List (List ℕ)) (id : List ℕ) : Type 0 where
   pub rest : List (List ℕ)
   pub front : new ≡ ids ++ rest
@@ -51,7 +51,7 @@ comes ids id fits = at (is_among id ids) (λ e. index_of-among id ids e) (λ e. 
 
 -- ---- contexts
 
--- What a context is after identifiers have come to it: more may stand behind what was there, and each of those that
+-- What a context is after identifiers have come to it: more may stand after what was there, and each of those that
 -- came has its place.
 pub record IsGrownBy (came : List (List ℕ)) (old new : Context) : Type 0 where
   pub rest : List (List ℕ)

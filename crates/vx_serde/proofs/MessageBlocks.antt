@@ -9,7 +9,7 @@ use Rattle.vx_flat.specs.Building.{Built, Link, nothing_built, with_pieces, Refu
 use Rattle.vx_flat.specs.IsOf.{IsOf}
 use Rattle.vx_flat.specs.Layout.{shares}
 use Rattle.vx_flat.specs.declared.limits.Limits.{Limits}
-use Rattle.vx_flat.specs.Limits.{limits_to, IsLight}
+use Rattle.vx_flat.specs.Limits.{limits_to, KeepsLimits}
 use Rattle.vx_flat.specs.Pieces.{Piece, table_piece, elements_piece, pieces}
 use Rattle.vx_flat.specs.Schema.{struct_size}
 use Rattle.vx_flat.specs.Shows.{Shows}
@@ -71,7 +71,7 @@ module _ (es : List ℕ) (w : Wire) (bytes : List ℕ) (of : IsOf array_schema (
 
   pub blocks-refused : (most : Limits) (e : FlatError) (b : Built) → RefusesPieces nothing_built (pieces array_schema (message_by es w bytes)) e b → RefusesBytes most (layout_by es w bytes) (message_refusal e)
   blocks-refused most flat.OutOfMemory b h = tt
-  blocks-refused most flat.MessageTooLong b h = λ short light. at h.2 short where
+  blocks-refused most flat.MessageTooLong b h = λ short within_limits. at h.2 short where
     at : IsTooLong nothing_built (pieces array_schema (message_by es w bytes)) → length (layout_by es w bytes) < 2 ^ 31 → ⊥
     at (inl f) short = absurd (cc)
     at (inr l) short = omega (arith, l, short, ap (λ z. length z) (bytes-with_pieces array_schema shares (message_by es w bytes) of))
@@ -80,15 +80,15 @@ module _ (es : List ℕ) (w : Wire) (bytes : List ℕ) (of : IsOf array_schema (
 
   -- More nodes have too many tables.
   pub too-many : (deep : Bool) → Everywhere IsToldNode w → 499999 < nodes w → RefusesBytes (limits_to deep) (layout_by es w bytes) WireLimit
-  too-many deep told n = λ short light.
+  too-many deep told n = λ short within_limits.
       let shown = shows-layout (message_by es w bytes) of short in
-      omega (arith, n, light.1, ap (λ z. z.tables) (weight-shown array_schema (layout_by es w bytes) (message_by es w bytes) shown), message-tables es w bytes told)
+      omega (arith, n, within_limits.1, ap (λ z. z.tables) (weight-shown array_schema (layout_by es w bytes) (message_by es w bytes) shown), message-tables es w bytes told)
 
-  pub heavy : (most : Limits) (m : List ℕ) (e : WireError) → m ≡ layout_by es w bytes → (e ≡ WireLimit) × (IsLight most (weight array_schema m) → ⊥) → RefusesBytes most (layout_by es w bytes) e
-  heavy most m e is h =
-      let P : List ℕ → Type 0 = λ z. IsLight most (weight array_schema z) → ⊥ in
+  pub over_limits : (most : Limits) (m : List ℕ) (e : WireError) → m ≡ layout_by es w bytes → (e ≡ WireLimit) × (KeepsLimits most (weight array_schema m) → ⊥) → RefusesBytes most (layout_by es w bytes) e
+  over_limits most m e is h =
+      let P : List ℕ → Type 0 = λ z. KeepsLimits most (weight array_schema z) → ⊥ in
       let Q : WireError → Type 0 = λ z. RefusesBytes most (layout_by es w bytes) z in
-      subst Q (sym h.0) (λ short light. subst P is h.1 light)
+      subst Q (sym h.0) (λ short within_limits. subst P is h.1 within_limits)
 
   -- A builder has them at least, and is not in the midst of one.
   module _ (b : Built) (h : AreWritten nothing_built (pieces array_schema (message_by es w bytes)) b) where

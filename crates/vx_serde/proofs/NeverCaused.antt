@@ -1,4 +1,4 @@
--- Where a blob spells an array within the limits, no refusal but want of memory has a cause.
+-- Where a blob spells an array within the limits, no refusal but allocation failure has a cause.
 use Rattle.std.proofs.Common.{ℕ, ◌≡◌, List, ◌++◌, Option, Some, None, length, refl, sym, ap, ◌∙◌, subst, arith, length-append, inl, inr}
 use Rattle.std.specs.Prelude.{IsSome}
 use Rattle.std.specs.Int.{w32, from_le_bytes}
@@ -79,14 +79,14 @@ module _ (asked : Request) (ok : IsShipped asked.session) (law : IsLawful codec 
 
   -- The blob is opened.
   pub never_closed : KeepsReaderLimits asked.options asked.blob → (x : WireError) → RefusesOpening (message_limits asked.options) x asked.blob → x ≡ OutOfMemory
-  never_closed light OutOfMemory h = refl
-  never_closed light TooShort h = absurd (not_short asked.blob spelled.carried.segment spelled.carried.message spelled.carried.blob_is h)
-  never_closed light BadTable h = absurd (not_rootless h)
-  never_closed light TableLimit h = absurd (h.heavy (light.light h.segment h.message h.blob_is))
-  never_closed light BadAlignment h = not_described BadAlignment h
-  never_closed light Compressed h = not_described Compressed h
-  never_closed light OutOfBounds h = not_described OutOfBounds h
-  never_closed light _ h = absurd h
+  never_closed within_limits OutOfMemory h = refl
+  never_closed within_limits TooShort h = absurd (not_short asked.blob spelled.carried.segment spelled.carried.message spelled.carried.blob_is h)
+  never_closed within_limits BadTable h = absurd (not_rootless h)
+  never_closed within_limits TableLimit h = absurd (h.over_limits (within_limits.within_limits h.segment h.message h.blob_is))
+  never_closed within_limits BadAlignment h = not_described BadAlignment h
+  never_closed within_limits Compressed h = not_described Compressed h
+  never_closed within_limits OutOfBounds h = not_described OutOfBounds h
+  never_closed within_limits _ h = absurd h
 
   is_grown : (o : Option Context) → IsSome o → o ≡ None → ⊥
   is_grown (Some d) some e = absurd (cc)
@@ -106,7 +106,7 @@ module _ (asked : Request) (ok : IsShipped asked.session) (law : IsLawful codec 
     pub never_unwritten : IsSome (grown codec asked.session asked.context t) → (x : WireError) → RefusesArray asked.session t asked.context asked.options x → x ≡ OutOfMemory
     never_unwritten grows x h = has_blob grows x (refused_own asked.session ok t asked.context asked.options x has_writers h)
 
--- Where what is asked can be done, no refusal but want of memory has a cause: none of the blob,
+-- Where what is asked can be done, no refusal but allocation failure has a cause: none of the blob,
 pub memory_at_blob : (asked : Request) → IsShipped asked.session → IsLawful codec asked.session → (e : WireError) → CanRecode asked → RefusesOpening (message_limits asked.options) e asked.blob → e ≡ OutOfMemory
 memory_at_blob asked ok law e can cause = never_closed asked ok law can.array can.spelled can.reader_limits e cause
 

@@ -108,7 +108,7 @@ module _ (s : SessionMeaning) (ts : List Tree) where
     at (u ∷ us) (suc i) = λ j. wired-nodes s u j + at us i j
 
   module _ (i : ℕ) (u : Tree) (lt : i < length ts) (is : u ≡ get_or ts i u) where
-    -- The buffers of all of them: of those before one, its own, and of those behind it.
+    -- The buffers of all of them: of those before one, its own, and of those after it.
     pub buffers-parts : length (gathered_below (λ h. buffers_at_node h) (wires codec s (roses_of ts)))
         ≡ buffers_below (take i (wired s ts)) + (length (buffers_in (wire codec s u)) + buffers_below (drop (suc i) (wired s ts)))
     buffers-parts =

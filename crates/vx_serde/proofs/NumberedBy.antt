@@ -40,7 +40,7 @@ mutual
 pub as-many : (ids : List (List ℕ)) (w : Wire) (es : List ℕ) → es ≡ encodings_in ids w → length es ≡ nodes w
 as-many ids w es e = ap (λ z. length z) e ∙ encodings-count ids w
 
--- The numbers of a tree's encodings, where they were found behind none.
+-- The numbers of a tree's encodings, where they were found after none.
 pub first-encodings : (w : Wire) (ids : List (List ℕ)) (start es : List ℕ) → start ≡ [] → es ≡ start ++ encodings_in (ids ++ []) w → es ≡ encodings_in ids w
 first-encodings w ids start es e h =
     h ∙ ap (λ z. z ++ encodings_in (ids ++ []) w) e ∙ ap (λ z. encodings_in z w) (append-nil ids)

@@ -4,7 +4,7 @@ use Rattle.vx_types.specs.Typ.{Typ}
 use Rattle.vx_array_tree.specs.Tree.{Tree}
 use Rattle.vx_wire_tree.specs.Codec.{IsLawful}
 use Rattle.vx_wire_tree.specs.Session.{SessionMeaning, IsShipped}
-use Rattle.vx_wire_tree.specs.Tells.{Tells}
+use Rattle.vx_wire_tree.specs.DecodesTo.{DecodesTo}
 use Rattle.vx_wire_tree.specs.Wire.{Wire}
 use Rattle.vx_wire_tree.proofs.Laws.{one_tree}
 use Rattle.vx_encodings.specs.Messages.{codec}
@@ -15,5 +15,5 @@ use Rattle.vx_serialized.proofs.LawsOfBlobs.{carried_once}
 pub spelled_once : (blob : List ℕ) (ids : List (List ℕ)) (d : Typ) (n : ℕ) (s : SessionMeaning) (t u : Tree) → IsShipped s → IsLawful codec s → Spells blob ids d n s t → Spells blob ids d n s u → t ≡ u
 spelled_once blob ids d n s t u ok law x y =
     let w = (carried_once blob ids y.wire x.wire y.carried x.carried).tree in
-    let P : Wire → Type 0 = λ z. Tells codec s z d n u in
+    let P : Wire → Type 0 = λ z. DecodesTo codec s z d n u in
     one_tree codec s ok law x.wire d n t u x.told (subst P w y.told)

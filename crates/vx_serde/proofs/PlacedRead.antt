@@ -23,7 +23,7 @@ taken before zeros bytes after p n e g =
     ∙ ap (λ s. take (length bytes) s) (drop-append_seam (before ++ zeros) (bytes ++ after))
     ∙ take-append_seam bytes after
 
--- Descriptors give back the buffers that they were made for, whatever stands in front of the data and behind it.
+-- Descriptors give back the buffers that they were made for, whatever stands in front of the data and after it.
 pub buffers_at-descriptors_from : (options : SerializeOptions) (position : ℕ) (bs : List Buffer) (before after : List ℕ) (p : ℕ) → length before ≡ p
     → buffers_at (before ++ (data_from options position bs ++ after)) p (descriptors_from options position bs) ≡ bs
 buffers_at-descriptors_from options position [] before after p e = refl

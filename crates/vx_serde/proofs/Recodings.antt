@@ -3,7 +3,7 @@ use Rattle.std.proofs.Common.{ℕ, ◌≡◌, List, ◌++◌, Option, None, Some
 use Rattle.std.specs.Prelude.{IsSome}
 use Rattle.vx_array_tree.specs.Tree.{Tree, Trees}
 use Rattle.vx_flat.specs.Weight.{weight}
-use Rattle.vx_flat.specs.Limits.{IsLight}
+use Rattle.vx_flat.specs.Limits.{KeepsLimits}
 use Rattle.vx_wire_tree.specs.Codec.{IsLawful}
 use Rattle.vx_trees.specs.Rose.{node, end, more}
 use Rattle.vx_trees.specs.Everywhere.{EverywhereBelow}
@@ -16,7 +16,7 @@ use Rattle.vx_wire_tree.specs.Fields.{FitsMessage}
 use Rattle.vx_wire_tree.specs.Limits.{HasMessage, HasMessages}
 use Rattle.vx_wire_tree.specs.Session.{IsShipped, IsPaired}
 use Rattle.vx_wire_tree.specs.Taken.{Unwritten, unregistered, unserializable, undeclared, unwilling, HasUntaken}
-use Rattle.vx_wire_tree.specs.Tells.{Tells}
+use Rattle.vx_wire_tree.specs.DecodesTo.{DecodesTo}
 use Rattle.vx_wire_tree.specs.Wire.{Wire, ids_in, buffers_in}
 use Rattle.vx_wire_tree.specs.Written.{wire, canon}
 use Rattle.vx_wire_tree.proofs.Laws.{matched_written, canon_wire, canon_written, canon_grown, never_untaken, no_plugin_refuses}
@@ -51,7 +51,7 @@ use Rattle.vx_serde.proofs.Growing.{kept-same}
 use Rattle.vx_serde.proofs.Taking.{refused_own}
 
 -- An opened blob spells the array that its wire tree tells.
-pub spells : (asked : Request) (w : Wire) (t : Tree) → IsOpened (message_limits asked.options) asked.blob asked.ids w → Tells codec asked.session w asked.dtype asked.len t → IsSpelled asked t
+pub spells : (asked : Request) (w : Wire) (t : Tree) → IsOpened (message_limits asked.options) asked.blob asked.ids w → DecodesTo codec asked.session w asked.dtype asked.len t → IsSpelled asked t
 spells asked w t opened told = record {
   wire = w;
   carried = opened.carried;
@@ -61,16 +61,16 @@ spells asked w t opened told = record {
 
 reader_limits : (options : SerializeOptions) (blob : List ℕ) (ids : List (List ℕ)) (w : Wire) → IsOpened (message_limits options) blob ids w → KeepsReaderLimits options blob
 reader_limits options blob ids w opened = record {
-  light = λ segment message is.
-      let P : List ℕ → Type 0 = λ m. IsLight (message_limits options) (weight array_schema m) in
-      subst P (one_blob blob opened.carried.segment segment opened.carried.message message opened.carried.blob_is is).1 opened.light;
+  within_limits = λ segment message is.
+      let P : List ℕ → Type 0 = λ m. KeepsLimits (message_limits options) (weight array_schema m) in
+      subst P (one_blob blob opened.carried.segment segment opened.carried.message message opened.carried.blob_is is).1 opened.within_limits;
 }
 
 -- ---- what is made
 
 -- An array that was read is recoded where it is serialized.
 pub recoded : (asked : Request) (made : Product) → IsLawful codec asked.session → IsPaired asked.session → (read : Wire) → IsOpened (message_limits asked.options) asked.blob asked.ids read
-    → Tells codec asked.session read asked.dtype asked.len made.array → IsSerialized asked.session made.array asked.options asked.context made.context made.buffers → IsRecoded asked made
+    → DecodesTo codec asked.session read asked.dtype asked.len made.array → IsSerialized asked.session made.array asked.options asked.context made.context made.buffers → IsRecoded asked made
 recoded asked made law paired read opened told serialized = record {
   spelled = spells asked read made.array opened told;
   reader_limits = reader_limits asked.options asked.blob asked.ids read opened;
@@ -79,15 +79,15 @@ recoded asked made law paired read opened told serialized = record {
 }
 
 -- A blob that was written keeps the limits on reading.
-written_light : (ids : List (List ℕ)) (o : SerializeOptions) (w : Wire) → IsWritable ids o w → KeepsReaderLimits o (blob_bytes ids o w)
-written_light ids o w fit =
+written_within_limits : (ids : List (List ℕ)) (o : SerializeOptions) (w : Wire) → IsWritable ids o w → KeepsReaderLimits o (blob_bytes ids o w)
+written_within_limits ids o w fit =
     let bytes = data_from o o.offset (buffers_in w) in
     let zeros : List ℕ = replicate (message_pad o w) 0 in
     let own = is_blob bytes zeros (message_bytes ids o w) fit.short in
     record {
-      light = λ segment message is.
-          let P : List ℕ → Type 0 = λ m. IsLight (message_limits o) (weight array_schema m) in
-          subst P (one_blob (blob_bytes ids o w) (bytes ++ zeros) segment (message_bytes ids o w) message own is).1 fit.light;
+      within_limits = λ segment message is.
+          let P : List ℕ → Type 0 = λ m. KeepsLimits (message_limits o) (weight array_schema m) in
+          subst P (one_blob (blob_bytes ids o w) (bytes ++ zeros) segment (message_bytes ids o w) message own is).1 fit.within_limits;
     }
 
 is_some : {A : Type 0} (o : Option A) (x : A) → o ≡ Some x → IsSome o
@@ -126,7 +126,7 @@ twice asked made ok law spelled blob again =
       can = record {
         array = canon codec s t;
         spelled = again;
-        reader_limits = subst Q (sym blob.written) (written_light (ids_after s t asked.context) o (wire codec s t) blob.limits.writable);
+        reader_limits = subst Q (sym blob.written) (written_within_limits (ids_after s t asked.context) o (wire codec s t) blob.limits.writable);
         writer_limits = record {
           messages = subst (λ (z : Tree). HasMessages z) (sym (canon_written codec s t sound normal)) (written_messages t blob.limits.messages);
           writable = subst P (sym own) blob.limits.writable;

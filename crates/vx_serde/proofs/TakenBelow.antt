@@ -18,7 +18,7 @@ use Rattle.vx_serde.specs.Taking.{source_tree, root_head, root_below, root_node,
 use Rattle.vx_serde.proofs.ListSteps.{take_next}
 use Rattle.vx_serde.proofs.Taking.{stands_at, own_messages, taken_at, is_taken_at, below_at, one_refused}
 
--- ---- trees, and one more behind them
+-- ---- trees, and one more after them
 
 -- One of the arrays that lie below another.
 pub item_below : (xs : List Tree) (ts : Trees) (i : ℕ) (x : Tree) → roses_of xs ≡ ts → i < length xs → x ≡ get_or xs i x → slice_get (roses_list ts) i ≡ Some x

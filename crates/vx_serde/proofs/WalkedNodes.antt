@@ -1,4 +1,4 @@
--- What is gathered at a node, before, at and behind one of the trees below it.
+-- What is gathered at a node, before, at and after one of the trees below it.
 use Rattle.std.specs.Prelude.{ℕ, suc, ◌≡◌, ◌<◌, ◌≤◌, List, [], ◌∷◌, ◌++◌, length, take, drop, refl}
 use Rattle.std.proofs.Common.{sym, ◌∙◌, ap, get_or, append_assoc, drop-cons}
 use Rattle.std.proofs.lemmas.List.{take-append-drop, take_all}

@@ -4,7 +4,7 @@ use Rattle.std.specs.Int.{w32, to_le_bytes}
 use Rattle.std.proofs.Common.{arith, sym, ◌∙◌, ap, subst, append-nil, length-append}
 use Rattle.std.proofs.lemmas.List.{length-replicate}
 use Rattle.vx_buffer.specs.Buffer.{Buffer}
-use Rattle.vx_flat.specs.Limits.{IsLight}
+use Rattle.vx_flat.specs.Limits.{KeepsLimits}
 use Rattle.vx_flat.specs.Weight.{weight}
 use Rattle.vx_trees.specs.Walks.{levels}
 use Rattle.vx_array_tree.specs.Tree.{Tree}
@@ -63,13 +63,13 @@ pub writable-placeable : (ids : List (List ℕ)) (o : SerializeOptions) (w : Wir
 writable-placeable ids o w h = record { tree = h.tree; ends = omega (arith, h.ends, length-blob ids o w) }
 
 pub writable-is : (ids : List (List ℕ)) (o : SerializeOptions) (w : Wire) (last : ℕ) (ds message : List ℕ) → IsLaidOut o w ds last → message ≡ message_bytes ids o w
-    → length message < 2 ^ 31 → IsLight (message_limits o) (weight array_schema message) → last + (pad o 3 last + length message + 4) < 2 ^ 64 → IsWritable ids o w
-writable-is ids o w last ds message p e short light ends =
-    let P : List ℕ → Type 0 = λ m. IsLight (message_limits o) (weight array_schema m) in
+    → length message < 2 ^ 31 → KeepsLimits (message_limits o) (weight array_schema message) → last + (pad o 3 last + length message + 4) < 2 ^ 64 → IsWritable ids o w
+writable-is ids o w last ds message p e short within_limits ends =
+    let P : List ℕ → Type 0 = λ m. KeepsLimits (message_limits o) (weight array_schema m) in
     record {
       tree = p.placeable.tree;
       short = omega (arith, short, ap (λ m. length m) e);
-      light = subst P e light;
+      within_limits = subst P e within_limits;
       ends = omega (arith, ends, length-blob ids o w, p.last_is, ap (λ n. pad o 3 n) p.last_is, ap (λ m. length m) e);
     }
 
@@ -110,8 +110,8 @@ module _ (s : SessionMeaning) (t : Tree) (c : Context) (o : SerializeOptions) wh
   unwritten bytes message OutOfMemory p q h = tt
   unwritten bytes message WireLimit p q h = λ k.
       let same = q ∙ message-is (ids_after s t c) o w bytes p in
-      let P : List ℕ → Type 0 = λ m. IsLight (message_limits o) (weight array_schema m) in
-      h (omega (arith, k.writable.short, ap (λ m. length m) same)) (subst P (sym same) k.writable.light)
+      let P : List ℕ → Type 0 = λ m. KeepsLimits (message_limits o) (weight array_schema m) in
+      h (omega (arith, k.writable.short, ap (λ m. length m) same)) (subst P (sym same) k.writable.within_limits)
   unwritten bytes message _ p q h = absurd h
 
   -- A blob that would end past the positions of 64 bits.

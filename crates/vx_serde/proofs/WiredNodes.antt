@@ -152,7 +152,7 @@ module _ (s : SessionMeaning) where
       ∙ ap (λ w. start ++ (gathered_first f ts i ++ gathered f w)) (wired-at ts i t h e)
       ∙ ap (λ r. start ++ r) (sym (gathered_below-take f (wired ts) i (wire codec s t) below))
 
-  -- All of them, behind the node's own.
+  -- All of them, after the node's own.
   pub gathered-all : {A : Type 0} (f : WireHead → List A) (before start now : List A) (t : Tree) (ts : List Tree) (i : ℕ) → length ts ≤ i → roses_of ts ≡ below t
       → start ≡ before ++ f (label (wire codec s t)) → now ≡ start ++ gathered_first f ts i → now ≡ before ++ gathered f (wire codec s t)
   gathered-all f before start now t ts i h e p q =

@@ -12,7 +12,7 @@ use Rattle.vx_wire_tree.specs.Codec.{Codec, IsLawful}
 use Rattle.vx_wire_tree.specs.Context.{Context, grown}
 use Rattle.vx_wire_tree.specs.ReadBack.{HasStorableStats, HasCountableMetadata, IsWritten}
 use Rattle.vx_wire_tree.specs.Session.{SessionMeaning, IsShipped, IsPaired}
-use Rattle.vx_wire_tree.specs.Tells.{Tells}
+use Rattle.vx_wire_tree.specs.DecodesTo.{DecodesTo}
 use Rattle.vx_wire_tree.specs.Wire.{IsWhole, IsWholeNode, buffers_in, ids_in}
 use Rattle.vx_wire_tree.specs.Written.{written_id, wire, wires, canon}
 use Rattle.vx_wire_tree.proofs.Laws.{told_again, canon_normal, matched_types, matched_written, matched_unread, returned}
@@ -59,10 +59,10 @@ module _ (s : SessionMeaning) (u : Tree) (old new : Context) (options : Serializ
   pub written_countable : HasCountableMetadata codec u
   written_countable =
       let w = wire codec s u in
-      countable_in new.ids s u options (message_bytes new.ids options w) (descriptors_from options options.offset (buffers_in w)) (message_shows new.ids options w (wire-whole codec s u) (wire-tabled s u) placed writable) writable.light
+      countable_in new.ids s u options (message_bytes new.ids options w) (descriptors_from options options.offset (buffers_in w)) (message_shows new.ids options w (wire-whole codec s u) (wire-tabled s u) placed writable) writable.within_limits
 
   -- Its blob spells the array that its wire tree tells, with the identifiers of the grown context.
-  pub told_spelled : (d : Typ) (n : ℕ) (t : Tree) → Tells codec s (wire codec s u) d n t → Spells (blob_of s u old options) new.ids d n s t
+  pub told_spelled : (d : Typ) (n : ℕ) (t : Tree) → DecodesTo codec s (wire codec s u) d n t → Spells (blob_of s u old options) new.ids d n s t
   told_spelled d n t told =
       let w = wire codec s u in
       let c = carried new.ids options w (wire-whole codec s u) (wire-tabled s u) placed writable in
@@ -80,8 +80,8 @@ spelled_again s ok law paired blob read d n t old new options x stored grew fit 
     told_again codec s ok law paired t x.told.sound (matched_unread codec s ok law x.wire t m) (matched_written codec s ok law paired x.wire t m) fit.messages (written_countable s t old new options grew fit)
     (matched_types codec s ok x.wire t m) stored
     in
-    let T : Typ → Type 0 = λ z. Tells codec s w z (label t).len (canon codec s t) in
-    let L : ℕ → Type 0 = λ z. Tells codec s w d z (canon codec s t) in
+    let T : Typ → Type 0 = λ z. DecodesTo codec s w z (label t).len (canon codec s t) in
+    let L : ℕ → Type 0 = λ z. DecodesTo codec s w d z (canon codec s t) in
     told_spelled s t old new options grew fit d n (canon codec s t) (subst L x.told.len (subst T x.told.dtype again))
 
 -- What encodings and plugins write of an array that returns spells that array.

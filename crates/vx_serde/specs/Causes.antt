@@ -30,7 +30,7 @@ pub record SpellsOne (asked : Request) (P : Tree → Type 0) : Type 0 where
   pub spelled : IsSpelled asked array
   pub holds : P array
 
--- Why a tree that is written has no blob under a context: by the refusal. Want of memory has no cause but itself. The context
+-- Why a tree that is written has no blob under a context: by the refusal. Allocation failure has no cause but itself. The context
 -- does not take one of the tree's identifiers, or a limit on writing is passed.
 abbrev pub RefusesWriting : SessionMeaning → Tree → Context → SerializeOptions → WireError → Type 0
 RefusesWriting s t context options OutOfMemory = Unit {0}
@@ -59,7 +59,7 @@ pub record RefusesSpelled (asked : Request) (e : WireError) (t : Tree) : Type 0 
   pub written : RefusesArray asked.session t asked.context asked.options e
   pub own : IsShipped asked.session → RefusesWriting asked.session t asked.context asked.options e
 
--- Why `recode` refuses: by the refusal. Want of memory has no cause but itself. The
+-- Why `recode` refuses: by the refusal. Allocation failure has no cause but itself. The
 -- blob's own faults come first, then those of its nodes, then those of the array
 -- that it spells: an identifier that the context does not take, a limit on writing, or that a node of it is not written. Where
 -- no plugin reads or writes, what is read is also written: then no node is without a writer, and there is no plugin to refuse.

@@ -6,8 +6,8 @@ pub mod Written
 pub mod KeptContext
 pub mod WrittenBuffers
 pub mod Taking
-pub mod TakenFalls
-pub mod Lent
+pub mod TakenMeasures
+pub mod Borrowed
 pub mod Spells
 pub mod Request
 pub mod Causes

@@ -14,7 +14,7 @@ gap_to n position = (n - position % n) % n
 abbrev pub pad : SerializeOptions → ℕ → ℕ → ℕ
 pad options exponent position = if options.include_padding then gap_to (2 ^ exponent) position else 0
 
--- The position where a buffer ends that may start, behind its pad, at a position.
+-- The position where a buffer ends that may start, after its pad, at a position.
 abbrev pub position_behind : SerializeOptions → ℕ → Buffer → ℕ
 position_behind options position b = position + pad options b.exponent position + length b.bytes
 
@@ -26,7 +26,7 @@ descriptors_from options position (b ∷ bs) =
     record { padding = pad options b.exponent position; exponent = b.exponent; compression = 0; len = length b.bytes }
     ∷ descriptors_from options (position_behind options position b) bs
 
--- The bytes of these buffers, each behind its pad of zeros.
+-- The bytes of these buffers, each after its pad of zeros.
 abbrev pub data_from : SerializeOptions → ℕ → List Buffer → List ℕ
 data_from options position [] = []
 data_from options position (b ∷ bs) = replicate (pad options b.exponent position) 0 ++ (b.bytes ++ data_from options (position_behind options position b) bs)

@@ -3,12 +3,12 @@ use Rattle.std.specs.Prelude.{ℕ, List}
 use Rattle.vx_types.specs.Typ.{Typ}
 use Rattle.vx_buffer.specs.Buffer.{Buffer}
 use Rattle.vx_flat.specs.Weight.{weight}
-use Rattle.vx_flat.specs.Limits.{IsLight}
+use Rattle.vx_flat.specs.Limits.{KeepsLimits}
 use Rattle.vx_array_tree.specs.Tree.{Tree}
 use Rattle.vx_wire_tree.specs.Context.{Context, with_ids}
 use Rattle.vx_wire_tree.specs.Limits.{HasMessages}
 use Rattle.vx_wire_tree.specs.Session.{SessionMeaning}
-use Rattle.vx_wire_tree.specs.Tells.{Tells}
+use Rattle.vx_wire_tree.specs.DecodesTo.{DecodesTo}
 use Rattle.vx_wire_tree.specs.Wire.{Wire, ids_in}
 use Rattle.vx_wire_tree.specs.Written.{wire}
 use Rattle.vx_encodings.specs.Messages.{codec}
@@ -27,11 +27,11 @@ pub record Spells (blob : List ℕ) (ids : List (List ℕ)) (d : Typ) (n : ℕ) 
   pub wire : Wire
   pub carried : Carries blob ids wire
   pub clean : AreClean carried.segment (message_of carried.value).descriptors
-  pub told : Tells codec s wire d n t
+  pub told : DecodesTo codec s wire d n t
 
 -- A blob's message keeps the limits on reading.
 pub record KeepsReaderLimits (options : SerializeOptions) (blob : List ℕ) : Type 0 where
-  pub light : (segment message : List ℕ) → IsBlob blob segment message → IsLight (message_limits options) (weight array_schema message)
+  pub within_limits : (segment message : List ℕ) → IsBlob blob segment message → KeepsLimits (message_limits options) (weight array_schema message)
 
 -- The identifiers by which an array is written that is written under a context.
 abbrev pub ids_after : SessionMeaning → Tree → Context → List (List ℕ)

@@ -16,7 +16,7 @@ use Rattle.vx_serialized.specs.declared.error.WireError.TheVariants.{OutOfMemory
 use Rattle.vx_serde.specs.declared.options.SerializeOptions.{SerializeOptions}
 use Rattle.vx_serde.specs.declared.taken.GivenParts.{GivenParts}
 use Rattle.vx_serde.specs.declared.taken.Source.{Source}
-use Rattle.vx_serde.specs.declared.taken.Source.TheVariants.{Lent, Held}
+use Rattle.vx_serde.specs.declared.taken.Source.TheVariants.{Borrowed, Held}
 use Rattle.vx_serde.specs.declared.taken.TakenRoot.{TakenRoot}
 use Rattle.vx_serde.specs.Limits.{most_levels}
 
@@ -27,7 +27,7 @@ as_written s options t = taken s (most_levels options) t
 
 -- The array of a source.
 abbrev pub source_tree : Source → Tree
-source_tree (Lent array) = array.now
+source_tree (Borrowed array) = array.now
 source_tree (Held array) = array.value
 
 -- What a plugin gives for a node itself.

@@ -2,7 +2,7 @@
 use Rattle.std.specs.Prelude.{ℕ, ◌≡◌, ◌<◌, ◌^◌, List, None, length}
 use Rattle.vx_flat.specs.Layout.{written_layout}
 use Rattle.vx_flat.specs.declared.limits.Limits.{Limits}
-use Rattle.vx_flat.specs.Limits.{IsLight}
+use Rattle.vx_flat.specs.Limits.{KeepsLimits}
 use Rattle.vx_flat.specs.Value.{table, elements, field, no_fields}
 use Rattle.vx_flat.specs.Weight.{weight}
 use Rattle.vx_flat.specs.declared.error.FlatError.{FlatError}
@@ -38,10 +38,10 @@ pub record IsLaidOut (options : SerializeOptions) (w : Wire) (descriptors : List
   pub descriptors_are : descriptors ≡ descriptors_bytes (descriptors_from options options.offset (buffers_in w))
   pub last_is : last ≡ data_end options options.offset (buffers_in w)
 
--- The bytes of a message are refused for want of memory, or because they are too many or weigh more than limits allow.
+-- The bytes of a message are refused for allocation failure, or because they are too many or weigh more than limits allow.
 abbrev pub RefusesBytes : Limits → List ℕ → WireError → Type 0
 RefusesBytes most message OutOfMemory = Unit {0}
-RefusesBytes most message WireLimit = length message < 2 ^ 31 → IsLight most (weight array_schema message) → ⊥
+RefusesBytes most message WireLimit = length message < 2 ^ 31 → KeepsLimits most (weight array_schema message) → ⊥
 RefusesBytes most message _ = ⊥
 
 -- Bytes that are descriptors.
@@ -59,7 +59,7 @@ builder_refusal _ = tables.MessageTooLong
 
 -- ---- nodes
 
--- Identifiers are not taken for want of memory, or because the context does not take one of them.
+-- Identifiers are not taken for allocation failure, or because the context does not take one of them.
 abbrev pub RefusesIds : List (List ℕ) → Context → WireError → Type 0
 RefusesIds ids c OutOfMemory = Unit {0}
 RefusesIds ids c NotPermitted = grown_by ids c ≡ None

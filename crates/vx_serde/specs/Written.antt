@@ -3,7 +3,7 @@ use Rattle.std.specs.Prelude.{ℕ, ◌+◌, ◌≤◌, ◌-◌, ◌^◌, List, �
 use Rattle.std.specs.Int.{w32, to_le_bytes}
 use Rattle.vx_flat.specs.Layout.{written_layout}
 use Rattle.vx_flat.specs.Weight.{weight}
-use Rattle.vx_flat.specs.Limits.{IsLight}
+use Rattle.vx_flat.specs.Limits.{KeepsLimits}
 use Rattle.vx_serde.specs.declared.options.SerializeOptions.{SerializeOptions}
 use Rattle.vx_serialized.specs.ArraySchema.{array_schema}
 use Rattle.vx_wire_tree.specs.Limits.{IsWritableTree}
@@ -23,7 +23,7 @@ message_bytes ids options w =
 abbrev pub message_pad : SerializeOptions → Wire → ℕ
 message_pad options w = pad options 3 (data_end options options.offset (buffers_in w))
 
--- The blob: the buffers in preorder, each behind its pad, the message behind its
+-- The blob: the buffers in preorder, each after its pad, the message after its
 -- own, and the message's length as a word of four bytes.
 abbrev pub blob_bytes : List (List ℕ) → SerializeOptions → Wire → List ℕ
 blob_bytes ids options w =
@@ -35,5 +35,5 @@ blob_bytes ids options w =
 pub record IsWritable (ids : List (List ℕ)) (options : SerializeOptions) (w : Wire) : Type 0 where
   pub tree : IsWritableTree (most_levels options) w
   pub short : length (message_bytes ids options w) ≤ 2 ^ 31 - 1
-  pub light : IsLight (message_limits options) (weight array_schema (message_bytes ids options w))
+  pub within_limits : KeepsLimits (message_limits options) (weight array_schema (message_bytes ids options w))
   pub ends : options.offset + length (blob_bytes ids options w) ≤ 2 ^ 64 - 1

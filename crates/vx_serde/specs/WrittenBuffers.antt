@@ -16,7 +16,7 @@ abbrev pub pad_buffers : ℕ → List Buffer
 pad_buffers zero = []
 pad_buffers (suc n) = unaligned (replicate (suc n) 0) ∷ []
 
--- Data buffers with no alignment, each behind its pad; the first may start at a position.
+-- Data buffers with no alignment, each after its pad; the first may start at a position.
 abbrev pub data_buffers : SerializeOptions → ℕ → List Buffer → List Buffer
 data_buffers options position [] = []
 data_buffers options position (b ∷ bs) =
@@ -28,7 +28,7 @@ greatest_exponent n [] = n
 greatest_exponent n (b ∷ bs) = greatest_exponent (max n b.exponent) bs
 
 -- The buffers of a blob: an empty one with the greatest alignment of the tree's buffers,
--- at least 8 bytes; the data, each buffer behind its pad; the message behind its own;
+-- at least 8 bytes; the data, each buffer after its pad; the message after its own;
 -- and the message's length. All but the first have no alignment, and no pad is empty.
 abbrev pub written_buffers : List (List ℕ) → SerializeOptions → Wire → List Buffer
 written_buffers ids options w =

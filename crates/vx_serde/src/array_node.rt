@@ -64,7 +64,7 @@ impl<'a> ArrayNodeFlatBuffer<'a> {
         let unknown = session.allows_unknown();
         let array = take(
             alloc,
-            Source::Lent(array),
+            Source::Borrowed(array),
             &session.arrays,
             unknown,
             MAX_LEVELS,

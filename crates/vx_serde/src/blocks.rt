@@ -64,7 +64,7 @@ pub(crate) fn write_statistics(
     }
 }
 
-/// The refusal of a set of statistics that fit, as its builder's: besides want of memory there is no other than that
+/// The refusal of a set of statistics that fit, as its builder's: besides allocation failure there is no other than that
 /// the message would be too long.
 fn as_flat_error(error: ScalarWireError) -> FlatError
     ensures { result ≡ builder_refusal error }

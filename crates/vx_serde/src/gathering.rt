@@ -13,17 +13,17 @@ ghost use Rattle.vx_serde.specs.Blocks.{encodings_in};
 ghost use Rattle.vx_serde.specs.KeptContext.{KeepsContext};
 ghost use Rattle.vx_serde.specs.WritingSteps.{RefusesIds};
 
-use crate::lent_buffers::LentBuffers;
+use crate::borrowed_buffers::BorrowedBuffers;
 use crate::node_ref::NodeRef;
 use std::alloc::Global;
 use vx_buffer::BufferError;
 use vx_registry::ArrayContext;
 use vx_serialized::WireError;
 
-/// The buffers of nodes, lent, and the numbers of their encodings in a context, both in preorder.
+/// The buffers of nodes, borrowed, and the numbers of their encodings in a context, both in preorder.
 #[derive(Drop)]
 pub(crate) struct Gathered<'a> {
-    pub(crate) buffers: LentBuffers<'a>,
+    pub(crate) buffers: BorrowedBuffers<'a>,
     pub(crate) encodings: Vec<u16>,
 }
 
@@ -34,7 +34,7 @@ impl<'a> Gathered<'a> {
         ensures encodings { result.encodings.items ≡ [] }
     {
         Gathered {
-            buffers: LentBuffers::new(alloc),
+            buffers: BorrowedBuffers::new(alloc),
             encodings: Vec::new(alloc),
         }
     }
@@ -62,8 +62,8 @@ fn encoding_number(
     }
 }
 
-/// The buffers of an array's root, behind those that were found.
-fn push_own<'a>(array: &NodeRef<'a, '_>, found: &mut LentBuffers<'a>) -> Result<(), BufferError>
+/// The buffers of an array's root, after those that were found.
+fn push_own<'a>(array: &NodeRef<'a, '_>, found: &mut BorrowedBuffers<'a>) -> Result<(), BufferError>
     ensures { OnOk result (found.new ≡ found.old ++ buffers_of (label array.now).body) }
 {
     for i in 0..array.nbuffers() {
@@ -72,7 +72,7 @@ fn push_own<'a>(array: &NodeRef<'a, '_>, found: &mut LentBuffers<'a>) -> Result<
     Ok(())
 }
 
-/// What an array's root brings along, behind what was found.
+/// What an array's root brings along, after what was found.
 fn push_root<'a>(
     alloc: Global,
     array: &NodeRef<'a, '_>,
@@ -92,7 +92,7 @@ fn push_root<'a>(
     Ok(())
 }
 
-/// What an array's nodes bring along in preorder, behind what was found. Their identifiers are taken into the context
+/// What an array's nodes bring along in preorder, after what was found. Their identifiers are taken into the context
 /// in preorder; primitives have two (`two`) or one. `NotPermitted` where the context does not take an identifier.
 #[tactic(auto, using(vx_trees::proofs::Roses::roses))]
 pub(crate) fn gather<'a>(

@@ -3,9 +3,9 @@
 
 mod array_node;
 mod blocks;
+mod borrowed_buffers;
 mod gathering;
 pub mod laws;
-mod lent_buffers;
 mod limits;
 mod node_ref;
 mod nodes;

@@ -4,7 +4,7 @@ ghost use Rattle.std.specs.Prelude.{◌≡◌, ◌<◌, ◌-◌, ◌↔◌, IsTr
 ghost use Rattle.vx_wire_tree.specs.Limits.{IsDescribable, AreDescribable};
 ghost use Rattle.vx_serde.specs.Limits.{most_levels as levels_by};
 
-use crate::lent_buffers::LentBuffers;
+use crate::borrowed_buffers::BorrowedBuffers;
 use crate::options::SerializeOptions;
 use vx_buffer::BufferHandle;
 use vx_serialized::Descriptor;
@@ -46,7 +46,7 @@ fn is_describable(buffer: &BufferHandle) -> bool
 }
 
 /// Whether a descriptor can tell each of these buffers: its exponent and its length.
-pub(crate) fn are_describable(buffers: &LentBuffers<'_>) -> bool
+pub(crate) fn are_describable(buffers: &BorrowedBuffers<'_>) -> bool
     ensures { IsTrue result ↔ AreDescribable buffers.now }
 {
     for i in 0..buffers.len() {

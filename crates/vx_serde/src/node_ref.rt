@@ -1,4 +1,4 @@
-//! Nodes that are written, lent: arrays as they stand, or nodes as they were taken.
+//! Nodes that are written, borrowed: arrays as they stand, or nodes as they were taken.
 
 ghost use Rattle.std.specs.Prelude.{◌≡◌, ◌<◌, Some, length, get_or, slice_get, IfOk, IsOkUnless};
 ghost use Rattle.vx_trees.specs.Rose.{label, below, roses_of};
@@ -19,17 +19,17 @@ use vx_scalars::StatsSet;
 use vx_serialized::WireError;
 use vx_types::{Blob, Id};
 
-/// What stands behind a node: an array, which is written as it stands, or a node that was taken.
+/// What stands after a node: an array, which is written as it stands, or a node that was taken.
 #[derive(Drop)]
-enum Lent<'n, 'a> {
+enum Borrowed<'n, 'a> {
     Own(&'n Array),
     Taken(&'n TakenNode<'a>),
 }
 
-/// A node that is written, lent. Contracts see the tree that is written.
+/// A node that is written, borrowed. Contracts see the tree that is written.
 #[derive(Drop)]
 pub(crate) struct NodeRef<'n, 'a> {
-    node: Lent<'n, 'a>,
+    node: Borrowed<'n, 'a>,
 }
 
 impl<'n, 'a> Model for NodeRef<'n, 'a> {
@@ -39,9 +39,9 @@ impl<'n, 'a> Model for NodeRef<'n, 'a> {
 
     ghost coded = { tree_code };
 
-    ghost use Rattle.vx_serde.specs.Lent.{lent_tree};
+    ghost use Rattle.vx_serde.specs.Borrowed.{borrowed_tree};
 
-    ghost view = { λ n. lent_tree n.node };
+    ghost view = { λ n. borrowed_tree n.node };
 }
 
 impl<'n, 'a> NodeRef<'n, 'a> {
@@ -50,7 +50,7 @@ impl<'n, 'a> NodeRef<'n, 'a> {
         ensures { result ≡ node.now }
     {
         NodeRef {
-            node: Lent::Taken(node),
+            node: Borrowed::Taken(node),
         }
     }
 
@@ -59,7 +59,7 @@ impl<'n, 'a> NodeRef<'n, 'a> {
         ensures { result ≡ array.now }
     {
         NodeRef {
-            node: Lent::Own(array),
+            node: Borrowed::Own(array),
         }
     }
 
@@ -69,11 +69,11 @@ impl<'n, 'a> NodeRef<'n, 'a> {
         ensures err { IsOkUnless result WireError.OutOfMemory }
     {
         match &self.node {
-            Lent::Own(array) => match written_id(alloc, array, two) {
+            Borrowed::Own(array) => match written_id(alloc, array, two) {
                 Ok(id) => Ok(id),
                 Err(_) => Err(WireError::OutOfMemory),
             },
-            Lent::Taken(node) => node.written_id(alloc, two),
+            Borrowed::Taken(node) => node.written_id(alloc, two),
         }
     }
 
@@ -83,8 +83,8 @@ impl<'n, 'a> NodeRef<'n, 'a> {
         ensures err { IsOkUnless result WireError.OutOfMemory }
     {
         match &self.node {
-            Lent::Own(array) => own_metadata(alloc, array),
-            Lent::Taken(node) => node.metadata(alloc),
+            Borrowed::Own(array) => own_metadata(alloc, array),
+            Borrowed::Taken(node) => node.metadata(alloc),
         }
     }
 
@@ -93,8 +93,8 @@ impl<'n, 'a> NodeRef<'n, 'a> {
         ensures { result ≡ length (buffers_of (label self.now).body) }
     {
         match &self.node {
-            Lent::Own(array) => array.nbuffers(),
-            Lent::Taken(node) => node.nbuffers(),
+            Borrowed::Own(array) => array.nbuffers(),
+            Borrowed::Taken(node) => node.nbuffers(),
         }
     }
 
@@ -104,8 +104,8 @@ impl<'n, 'a> NodeRef<'n, 'a> {
         ensures { slice_get (buffers_of (label self.now).body) i ≡ Some result.now }
     {
         match &self.node {
-            Lent::Own(array) => array.buffer(i),
-            Lent::Taken(node) => node.buffer(i),
+            Borrowed::Own(array) => array.buffer(i),
+            Borrowed::Taken(node) => node.buffer(i),
         }
     }
 
@@ -115,8 +115,8 @@ impl<'n, 'a> NodeRef<'n, 'a> {
         ensures fits { FitStats (label self.now).dtype (label self.now).stats }
     {
         match &self.node {
-            Lent::Own(array) => array.statistics(),
-            Lent::Taken(node) => node.statistics(),
+            Borrowed::Own(array) => array.statistics(),
+            Borrowed::Taken(node) => node.statistics(),
         }
     }
 
@@ -125,23 +125,23 @@ impl<'n, 'a> NodeRef<'n, 'a> {
         ensures children { roses_of result ≡ below self.now }
     {
         match &self.node {
-            Lent::Own(array) => NodeRefs::own(array.children()),
-            Lent::Taken(node) => node.children(),
+            Borrowed::Own(array) => NodeRefs::own(array.children()),
+            Borrowed::Taken(node) => node.children(),
         }
     }
 }
 
-/// What stands behind nodes that lie beside each other.
+/// What stands after nodes that lie beside each other.
 #[derive(Drop)]
-enum LentNodes<'n, 'a> {
+enum BorrowedNodes<'n, 'a> {
     Own(&'n [Array]),
     Taken(&'n [TakenNode<'a>]),
 }
 
-/// Nodes that are written, beside each other, lent. Contracts see the trees that are written.
+/// Nodes that are written, beside each other, borrowed. Contracts see the trees that are written.
 #[derive(Drop)]
 pub(crate) struct NodeRefs<'n, 'a> {
-    nodes: LentNodes<'n, 'a>,
+    nodes: BorrowedNodes<'n, 'a>,
 }
 
 impl<'n, 'a> Model for NodeRefs<'n, 'a> {
@@ -153,9 +153,9 @@ impl<'n, 'a> Model for NodeRefs<'n, 'a> {
 
     ghost coded = { coded_list tree_code };
 
-    ghost use Rattle.vx_serde.specs.Lent.{lent_trees};
+    ghost use Rattle.vx_serde.specs.Borrowed.{borrowed_trees};
 
-    ghost view = { λ n. lent_trees n.nodes };
+    ghost view = { λ n. borrowed_trees n.nodes };
 }
 
 impl<'n, 'a> NodeRefs<'n, 'a> {
@@ -164,7 +164,7 @@ impl<'n, 'a> NodeRefs<'n, 'a> {
         ensures { result ≡ nodes.now }
     {
         NodeRefs {
-            nodes: LentNodes::Taken(nodes),
+            nodes: BorrowedNodes::Taken(nodes),
         }
     }
 
@@ -173,7 +173,7 @@ impl<'n, 'a> NodeRefs<'n, 'a> {
         ensures { result ≡ arrays.now }
     {
         NodeRefs {
-            nodes: LentNodes::Own(arrays),
+            nodes: BorrowedNodes::Own(arrays),
         }
     }
 
@@ -182,8 +182,8 @@ impl<'n, 'a> NodeRefs<'n, 'a> {
         ensures { result ≡ length self.now }
     {
         match &self.nodes {
-            LentNodes::Own(arrays) => arrays.len(),
-            LentNodes::Taken(nodes) => nodes.len(),
+            BorrowedNodes::Own(arrays) => arrays.len(),
+            BorrowedNodes::Taken(nodes) => nodes.len(),
         }
     }
 
@@ -193,8 +193,8 @@ impl<'n, 'a> NodeRefs<'n, 'a> {
         ensures { result ≡ get_or self.now i result }
     {
         match &self.nodes {
-            LentNodes::Own(arrays) => NodeRef::own(item_at(arrays, i)),
-            LentNodes::Taken(nodes) => NodeRef::taken(item_at(nodes, i)),
+            BorrowedNodes::Own(arrays) => NodeRef::own(item_at(arrays, i)),
+            BorrowedNodes::Taken(nodes) => NodeRef::taken(item_at(nodes, i)),
         }
     }
 }

@@ -52,7 +52,7 @@ fn number_bytes(alloc: Global, first: usize, count: usize) -> Result<Vec<u8>, Al
 }
 
 /// The parts of a root, which is passed by. That its metadata fits its message was judged where the nodes were taken,
-/// so want of memory is what is left.
+/// so allocation failure is what is left.
 fn node_parts(
     alloc: Global,
     array: &NodeRef<'_, '_>,

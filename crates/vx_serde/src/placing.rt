@@ -6,7 +6,7 @@ ghost use Rattle.vx_serde.specs.MessageValue.{descriptor_bytes, descriptors_byte
 ghost use Rattle.vx_serde.specs.Placing.{pad, descriptors_from, data_end};
 ghost use Rattle.vx_serde.specs.WrittenBuffers.{pad_buffers, data_buffers, greatest_exponent};
 
-use crate::lent_buffers::LentBuffers;
+use crate::borrowed_buffers::BorrowedBuffers;
 use crate::options::SerializeOptions;
 use std::alloc::{AllocError, Global};
 use vx_buffer::{Alignment, BufferError, BufferHandle, ByteBuffer, ByteBuffers};
@@ -65,7 +65,7 @@ fn push_descriptor(descriptor: Descriptor, out: &mut Vec<u8>) -> Result<(), Allo
 pub(crate) fn describe(
     alloc: Global,
     options: &SerializeOptions,
-    buffers: &LentBuffers<'_>,
+    buffers: &BorrowedBuffers<'_>,
 ) -> Result<Option<LaidOut>, AllocError>
     requires { AreDescribable buffers.now }
     ensures descriptors { IfOk result (λ o. IfSome o (λ p. p.descriptors.items ≡ descriptors_bytes (descriptors_from options.now options.now.offset buffers.now))) }
@@ -115,11 +115,11 @@ pub(crate) fn push_pad(
     out.push(ByteBuffer::from_vec(zeros(alloc, count)?)?)
 }
 
-/// The buffers, each behind its pad and with no alignment.
+/// The buffers, each after its pad and with no alignment.
 pub(crate) fn push_data(
     alloc: Global,
     options: &SerializeOptions,
-    buffers: &LentBuffers<'_>,
+    buffers: &BorrowedBuffers<'_>,
     out: &mut ByteBuffers,
 ) -> Result<(), BufferError>
     requires describable { AreDescribable buffers.now }
@@ -139,7 +139,7 @@ pub(crate) fn push_data(
 }
 
 /// The greatest alignment of these buffers, at least 8.
-pub(crate) fn greatest_alignment(buffers: &LentBuffers<'_>) -> Alignment
+pub(crate) fn greatest_alignment(buffers: &BorrowedBuffers<'_>) -> Alignment
     ensures { result ≡ greatest_exponent 3 buffers.now }
 {
     let mut greatest = eight();

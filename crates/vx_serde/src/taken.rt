@@ -29,10 +29,10 @@ use vx_scalars::StatsSet;
 use vx_serialized::WireError;
 use vx_types::{Blob, Id};
 
-/// An array that is written: one that is lent, or, below what a plugin gave, one that is held.
+/// An array that is written: one that is borrowed, or, below what a plugin gave, one that is held.
 #[derive(Drop)]
 pub(crate) enum Source<'a> {
-    Lent(&'a Array),
+    Borrowed(&'a Array),
     Held(Box<Array>),
 }
 
@@ -42,7 +42,7 @@ impl<'a> Source<'a> {
         ensures { result.now ≡ source_tree self.now }
     {
         match self {
-            Source::Lent(array) => array,
+            Source::Borrowed(array) => array,
             Source::Held(array) => array,
         }
     }
@@ -62,23 +62,23 @@ fn copy_of<'a>(alloc: Global, array: &Array) -> Result<Source<'a>, WireError>
     }
 }
 
-// A child of an array: lent, where the array is lent itself, or a copy.
+// A child of an array: borrowed, where the array is borrowed itself, or a copy.
 fn child_of<'a>(alloc: Global, source: &Source<'a>, i: usize) -> Result<Source<'a>, WireError>
     requires { i < count (below (source_tree source.now)) }
     ensures ok { IfOk result (λ s. slice_get (roses_list (below (source_tree source.now))) i ≡ Some (source_tree s)) }
     ensures err { IsOkUnless result WireError.OutOfMemory }
 {
     match source {
-        Source::Lent(array) => Ok(Source::Lent(lent_child(array, i))),
+        Source::Borrowed(array) => Ok(Source::Borrowed(borrowed_child(array, i))),
         Source::Held(array) => {
-            let child = lent_child(array, i);
+            let child = borrowed_child(array, i);
             copy_of(alloc, child)
         }
     }
 }
 
 // A child of an array.
-fn lent_child(array: &Array, i: usize) -> &Array
+fn borrowed_child(array: &Array, i: usize) -> &Array
     requires { i < count (below array.now) }
     ensures { slice_get (roses_list (below array.now)) i ≡ Some result.now }
 {
@@ -122,7 +122,7 @@ impl<'a> Model for TakenNode<'a> {
 
     ghost size = { nodes };
 
-    ghost use Rattle.vx_serde.specs.TakenFalls.{children_le-nodes};
+    ghost use Rattle.vx_serde.specs.TakenMeasures.{children_le-nodes};
 
     ghost size_decreases = { λ n h. Prim.omega (arith, children_le-nodes (below (source_tree n.source)) n.children) };
 }
@@ -231,7 +231,7 @@ impl<'a> TakenRoot<'a> {
         }
     }
 
-    /// One of the arrays that it is written over: lent, where it can be, or a copy.
+    /// One of the arrays that it is written over: borrowed, where it can be, or a copy.
     fn child(&self, alloc: Global, i: usize) -> Result<Source<'a>, WireError>
         requires { i < count (root_arrays self.now) }
         ensures ok { IfOk result (λ s. slice_get (roses_list (root_arrays self.now)) i ≡ Some (source_tree s)) }

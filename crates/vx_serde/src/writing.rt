@@ -4,7 +4,7 @@ ghost use Rattle.std.specs.Prelude.{◌≡◌, ◌+◌, ◌≤◌, ◌<◌, ◌-
 ghost use Rattle.std.specs.Int.{w32, to_le_bytes};
 ghost use Rattle.vx_flat.specs.Building.{AreWritten, Takes, RefusesPieces};
 ghost use Rattle.vx_flat.specs.IsOf.{IsOf};
-ghost use Rattle.vx_flat.specs.Limits.{limits_to, IsLight};
+ghost use Rattle.vx_flat.specs.Limits.{limits_to, KeepsLimits};
 ghost use Rattle.vx_flat.specs.Pieces.{pieces};
 ghost use Rattle.vx_flat.specs.Shows.{Shows};
 ghost use Rattle.vx_flat.specs.Value.{Fields};
@@ -31,8 +31,8 @@ ghost use Rattle.vx_serde.specs.WritingSteps.{IsLaidOut, RefusesLayout, RefusesB
 ghost use Rattle.vx_serde.specs.WrittenBuffers.{unaligned, pad_buffers, data_buffers, greatest_exponent};
 
 use crate::blocks::{TABLE, VECTOR, write_elements};
+use crate::borrowed_buffers::BorrowedBuffers;
 use crate::gathering::{Gathered, gather};
-use crate::lent_buffers::LentBuffers;
 use crate::limits::{MAX_BUFFERS, MAX_NODES, are_describable, most_levels};
 use crate::node_ref::NodeRef;
 use crate::nodes::{Passed, write_node};
@@ -56,7 +56,7 @@ const PARTS_BESIDE: usize = 4;
 fn blob_buffers(
     alloc: Global,
     options: &SerializeOptions,
-    buffers: &LentBuffers<'_>,
+    buffers: &BorrowedBuffers<'_>,
     padding: usize,
     message: Vec<u8>,
 ) -> Result<ByteBuffers, BufferError>
@@ -77,11 +77,11 @@ fn blob_buffers(
 }
 
 /// A message, where a reader's limits admit it, deep or not.
-fn light_message(message: FlatBuffer, deep: bool) -> Result<Vec<u8>, WireError>
+fn limited_message(message: FlatBuffer, deep: bool) -> Result<Vec<u8>, WireError>
     requires { (v : Fields) × Shows array_schema message v }
     ensures same { IfOk result (λ m. m.items ≡ message) }
-    ensures light { OnOk result (IsLight (limits_to deep) (weigh.weight array_schema message)) }
-    ensures refused { IfErr result (λ e. (e ≡ WireError.WireLimit) × (IsLight (limits_to deep) (weigh.weight array_schema message) → ⊥)) }
+    ensures within_limits { OnOk result (KeepsLimits (limits_to deep) (weigh.weight array_schema message)) }
+    ensures refused { IfErr result (λ e. (e ≡ WireError.WireLimit) × (KeepsLimits (limits_to deep) (weigh.weight array_schema message) → ⊥)) }
 {
     match verify_uncounted_to(message.as_slice(), &ArrayKind, deep) {
         Ok(_) => {}
@@ -138,7 +138,7 @@ fn write_message(
     ensures written { (s : SessionMeaning) → IfOk result (λ m. m.items ≡ layout_by encodings.now (wire codec s array.now) descriptors.now) }
     ensures storable { OnOk result (HasStorableStats codec array.now) }
     ensures short { IfOk result (λ m. length m.items < 2 ^ 31) }
-    ensures light { IfOk result (λ m. IsLight (limits_to deep) (weigh.weight array_schema m.items)) }
+    ensures within_limits { IfOk result (λ m. KeepsLimits (limits_to deep) (weigh.weight array_schema m.items)) }
     ensures refused { (s : SessionMeaning) → IfErr result (RefusesBytes (limits_to deep) (layout_by encodings.now (wire codec s array.now) descriptors.now)) }
 {
     if encodings.len() > MAX_NODES {
@@ -151,7 +151,7 @@ fn write_message(
         Ok(message) => message,
         Err(_) => unreachable!(),
     };
-    light_message(message, deep)
+    limited_message(message, deep)
 }
 
 /// What an array's nodes bring along in preorder, and where its buffers go. Its identifiers are taken into the context
@@ -246,7 +246,7 @@ pub(crate) fn write_array(
         Err(_) => return Err(WireError::OutOfMemory),
     };
     let room = most_levels(options);
-    let node = take(alloc, Source::Lent(array), arrays, unknown, room)?;
+    let node = take(alloc, Source::Borrowed(array), arrays, unknown, room)?;
     let root = NodeRef::taken(&node);
     write_taken(alloc, &root, two, ctx, options)
 }

@@ -31,7 +31,7 @@ fn end_of(alloc: Global, exponent: u8, size: u8) -> Result<Vec<u8>, AllocError> 
     Ok(end)
 }
 
-// The blob of a buffer of so many bytes, aligned to two to the exponent: that end behind other bytes.
+// The blob of a buffer of so many bytes, aligned to two to the exponent: that end after other bytes.
 fn blob_of(alloc: Global, exponent: u8, size: u8) -> Result<Vec<u8>, AllocError> {
     let mut blob = Vec::new(alloc);
     for i in 0..size {

@@ -330,7 +330,7 @@ fn push_leaf(message: &mut Vec<u8>, level: u8) -> Result<(), AllocError> {
     Ok(())
 }
 
-// A message of nodes in levels up to this one, whose two child offsets aim at the one node of the next level. The
+// A message of nodes in levels up to this one, whose two child offsets point at the one node of the next level. The
 // metadata of a node is its level.
 fn levels(alloc: Global, last: u8) -> Result<Vec<u8>, AllocError> {
     let mut message = Vec::from_slice(alloc, &FRONT)?;

@@ -79,12 +79,12 @@ module _ {B : Type 0} (means : B → PluginMeaning) where
   no_plugin None e h = absurd (cc)
   no_plugin (Some b) e h = absurd (cc)
 
-  module _ (o : Option B) (b : B) (is : Some b ≡ o) (x y : ExtMeaning) (lent : y ≡ x) where
+  module _ (o : Option B) (b : B) (is : Some b ≡ o) (x y : ExtMeaning) (borrowed : y ≡ x) where
     own : reader_of o ≡ Some (plugin (means b))
     own = ap (λ z. reader_of z) (sym is)
 
     pub plugin_plans : (h : ArrayHead) (ps : List Place) → (means b).plan (head_in h) y ≡ Some ps → PlansBy x (reader_of o) h ps
-    plugin_plans h ps e = subst (λ r. PlansBy x r h ps) (sym own) (ap (λ z. (means b).plan (head_in h) z) (sym lent) ∙ e)
+    plugin_plans h ps e = subst (λ r. PlansBy x r h ps) (sym own) (ap (λ z. (means b).plan (head_in h) z) (sym borrowed) ∙ e)
 
     plugin_refuses : (e : PluginError) (h : ArrayHead) → IsAnswer {A = List Place} ((means b).plan (head_in h) x) (Err e) → RefusesPlan (plugin_refusal e) x (Some (plugin (means b))) h
     plugin_refuses plugins.OutOfMemory h u = tt
@@ -92,11 +92,11 @@ module _ {B : Type 0} (means : B → PluginMeaning) where
 
     pub plugin_unplanned : (e : PluginError) (h : ArrayHead) → IsAnswer {A = List Place} ((means b).plan (head_in h) y) (Err e) → RefusesPlan (plugin_refusal e) x (reader_of o) h
     plugin_unplanned e h u =
-        subst (λ r. RefusesPlan (plugin_refusal e) x r h) (sym own) (plugin_refuses e h (subst (λ z. IsAnswer {A = List Place} ((means b).plan (head_in h) z) (Err e)) lent u))
+        subst (λ r. RefusesPlan (plugin_refusal e) x r h) (sym own) (plugin_refuses e h (subst (λ z. IsAnswer {A = List Place} ((means b).plan (head_in h) z) (Err e)) borrowed u))
 
     module _ (h : ArrayHead) (p : ArrayDeserialization) (bs : List Buffer) (ts : Trees) (head : read_head p ≡ head_over h bs ts) (buffers : p.buffers ≡ bs) (children : p.children ≡ ts) where
       same : (means b).build (read_head p) p.buffers p.children y ≡ (means b).build (head_over h bs ts) bs ts x
-      same = λ i. (means b).build (head i) (buffers i) (children i) (lent i)
+      same = λ i. (means b).build (head i) (buffers i) (children i) (borrowed i)
 
       pub plugin_builds : (t : Tree) → (means b).build (read_head p) p.buffers p.children y ≡ Some t → BuildsBy x (reader_of o) h bs ts t
       plugin_builds t e = subst (λ r. BuildsBy x r h bs ts t) (sym own) (sym same ∙ e)

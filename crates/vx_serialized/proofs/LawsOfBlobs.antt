@@ -75,5 +75,5 @@ opened most blob ids a h =
         wire_is = ap (λ bs. wire_of ids bs a.root) own;
       };
       clean = subst P told.descriptors h.clean;
-      light = told.light;
+      within_limits = told.within_limits;
     }

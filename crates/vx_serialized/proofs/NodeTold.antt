@@ -28,9 +28,9 @@ use Rattle.vx_wire_tree.specs.Plugin.{PluginMeaning, head_at}
 use Rattle.vx_wire_tree.specs.Revised.{revised_holds}
 use Rattle.vx_wire_tree.specs.Session.{SessionMeaning, Reader, shipped, revised, plugin, encoding_by}
 use Rattle.vx_wire_tree.specs.Steps.{PlansChildren, HasNoMetadata, HasNoPlan, HasParts, HasWrongShape, HasWrongControl, HasWrongContent, IsToldBy}
-use Rattle.vx_wire_tree.specs.Tells.{Tells}
+use Rattle.vx_wire_tree.specs.DecodesTo.{DecodesTo}
 use Rattle.vx_wire_tree.specs.Wire.{Wire, all_present}
-use Rattle.vx_wire_tree.proofs.Laws.{node_tells, revised_tells, matched_count, plugin_tells}
+use Rattle.vx_wire_tree.proofs.Laws.{node_decodes, revised_decodes, matched_count, plugin_decodes}
 use Rattle.vx_encodings.specs.Messages.{codec}
 use Rattle.vx_encodings.specs.Plain.{plain_encoding}
 use Rattle.vx_encodings.proofs.Laws.{one_value}
@@ -71,7 +71,7 @@ places-snoc_suc (t ∷ ts) u (q ∷ ps) (suc i) p e g d n =
 
 -- One more child that tells the array of its place.
 pub told-snoc : (s : SessionMeaning) (ws : List Wire) (ps : List Place) (i : ℕ) (w : Wire) (p : Place) (us vs : Trees) (u : Tree) → i < length ws → AllTell codec s (roses_of (take i ws)) (take i ps) us
-    → w ≡ get_or ws i w → slice_get ps i ≡ Some p → Tells codec s w p.dtype p.len u → roses_list vs ≡ roses_list us ++ u ∷ [] → AllTell codec s (roses_of (take (i + 1) ws)) (take (i + 1) ps) vs
+    → w ≡ get_or ws i w → slice_get ps i ≡ Some p → DecodesTo codec s w p.dtype p.len u → roses_list vs ≡ roses_list us ++ u ∷ [] → AllTell codec s (roses_of (take (i + 1) ws)) (take (i + 1) ps) vs
 told-snoc s ws ps i w p us vs u h k f g x e =
     let ts = roses_list us in
     let back = sym (roses_of-roses_list us) in
@@ -402,20 +402,20 @@ caused_by_stats s _ w d n r h there read c = absurd c
 -- The node of parts that a plan has told, over children that tell arrays, with the statistics that it shows.
 pub told_node : (s : SessionMeaning) → IsLawful codec s → (w : Wire) (d : Typ) (n : ℕ) (r : Option Reader) (h : ArrayHead) (ps : List Place) (bs : List Buffer) (ws : List Wire) (ts : Trees) (t u : Tree) → IsNodeOf s w d n r h
     → PlansBy s.ext r h ps → (label w).buffers ≡ all_present bs → roses_of ws ≡ below w → AllTell codec s (roses_of ws) ps ts → BuildsBy s.ext r h bs ts t → IsSound t
-    → IsToldBy codec d (label w).stats t u → Tells codec s w d n u
+    → IsToldBy codec d (label w).stats t u → DecodesTo codec s w d n u
 told_node s law (node w below) d n None h ps bs ws ts t u read plan own own_children told parts sound stats = absurd parts
 told_node s law (node w below) d n (Some (shipped e)) h ps bs ws ts t u read plan own own_children told parts sound stats =
-    node_tells codec s law read.id e w below d n ps bs ts t u read.id_is read.reader_is
+    node_decodes codec s law read.id e w below d n ps bs ts t u read.id_is read.reader_is
     (at_node (λ f m b k. PlansChildren codec s.ext e f m b k ps) h (node w below) d n read.head plan.0) own
     (children_of s (node w below) ws ps ts own_children told)
     (at_node (λ f m b k. HasParts codec s.ext e f m b bs ts t) h (node w below) d n read.head parts) sound stats
 told_node s law (node w below) d n (Some revised) h ps bs ws ts t u read plan own own_children told parts sound stats =
-    revised_tells codec s law read.id w below d n ps bs ts t u read.id_is read.reader_is (held_at true h (node w below) d n read.id read.head read.named plan.1)
+    revised_decodes codec s law read.id w below d n ps bs ts t u read.id_is read.reader_is (held_at true h (node w below) d n read.id read.head read.named plan.1)
     (at_node (λ f m b k. PlansChildren codec s.ext Encodings.primitive f m b k ps) h (node w below) d n read.head plan.0) own
     (children_of s (node w below) ws ps ts own_children told)
     (at_node (λ f m b k. HasParts codec s.ext Encodings.primitive f m b bs ts t) h (node w below) d n read.head parts) sound stats
 told_node s law (node w below) d n (Some (plugin p)) h ps bs ws ts t u read plan own own_children told parts sound stats =
     let kids = children_of s (node w below) ws ps ts own_children told in
-    plugin_tells codec s law.stats read.id p w below d n ps bs ts t u read.id_is read.reader_is
+    plugin_decodes codec s law.stats read.id p w below d n ps bs ts t u read.id_is read.reader_is
     (ap (λ z. p.plan z s.ext) (sym (told_head h (node w below) d n read.id read.head read.named)) ∙ plan) own kids
     (ap (λ z. p.build z bs ts s.ext) (sym (head_of_parts s (node w below) d n read.id h bs ts read.head read.named own kids.matched)) ∙ parts) sound stats

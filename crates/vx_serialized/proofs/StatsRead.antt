@@ -8,7 +8,7 @@ use Rattle.vx_scalar_wire.specs.declared.error.ScalarWireError.{ScalarWireError}
 use Rattle.vx_scalar_wire.specs.declared.error.ScalarWireError.TheVariants.{OutOfMemory, BadMessage, TooDeep, MissingKind, KindMismatch, OutOfRange, BadChild, BadScalar, BadPrecision, BadDType, MessageTooLong}
 use Rattle.vx_serialized.specs.ReadingSteps.{RefusesStats, stats_refusal}
 
--- Nothing but want of memory is out of memory.
+-- Nothing but allocation failure is out of memory.
 abbrev IsMemory : ScalarWireError → Type 0
 IsMemory OutOfMemory = Unit {0}
 IsMemory _ = ⊥

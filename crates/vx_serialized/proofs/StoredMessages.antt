@@ -7,7 +7,7 @@ use Rattle.vx_flat.specs.declared.error.FlatError.{FlatError}
 use Rattle.vx_flat.specs.declared.error.FlatError.TheVariants as tables
 use Rattle.vx_flat.specs.declared.viewing.View.{View}
 use Rattle.vx_flat.specs.declared.limits.Limits.{Limits}
-use Rattle.vx_flat.specs.Limits.{IsLight}
+use Rattle.vx_flat.specs.Limits.{KeepsLimits}
 use Rattle.vx_flat.specs.Reading.{table_shown}
 use Rattle.vx_flat.specs.Seen.{seen, part_in, fields_or_none, IsViewAt, IsViewOf}
 use Rattle.vx_flat.specs.Shows.{Shows, ShowsAt}
@@ -63,12 +63,12 @@ stored_seen m t w v r bs h e =
 
 -- ---- why a message is not kept
 
-pub unread : (most : Limits) (m : List ℕ) (e : FlatError) → (e ≡ tables.BadTable → (v : Fields) → Shows array_schema m v → ⊥) → (e ≡ tables.TableLimit → IsLight most (weight array_schema m) → ⊥) → (e ≡ tables.MessageTooLong → ⊥)
+pub unread : (most : Limits) (m : List ℕ) (e : FlatError) → (e ≡ tables.BadTable → (v : Fields) → Shows array_schema m v → ⊥) → (e ≡ tables.TableLimit → KeepsLimits most (weight array_schema m) → ⊥) → (e ≡ tables.MessageTooLong → ⊥)
     → RefusesMessage most (message_refusal e) m
-unread most m tables.OutOfMemory bad heavy long = tt
-unread most m tables.BadTable bad heavy long = λ v r shows root. bad refl v shows
-unread most m tables.TableLimit bad heavy long = heavy refl
-unread most m tables.MessageTooLong bad heavy long = absurd (long refl)
+unread most m tables.OutOfMemory bad over_limits long = tt
+unread most m tables.BadTable bad over_limits long = λ v r shows root. bad refl v shows
+unread most m tables.TableLimit bad over_limits long = over_limits refl
+unread most m tables.MessageTooLong bad over_limits long = absurd (long refl)
 
 pub refused_message : (most : Limits) (e : WireError) (given : Overrides) (segment m : List ℕ) → RefusesMessage most e m → RefusesSegment most e given segment m
 refused_message most OutOfMemory given segment m r = tt
@@ -100,7 +100,7 @@ refused_descriptors most NotRegistered given segment m value shows r = absurd (n
 
 -- ---- blobs
 
--- The segment is the blob's front, and the message stands behind it.
+-- The segment is the blob's front, and the message stands after it.
 module _ (blob segment message : List ℕ) (is : IsBlob blob segment message) where
   pub segment_is : slice_range blob 0 (length segment) ≡ segment
   segment_is = ap (λ z. slice_range z 0 (length segment)) (is.parts ∙ append_assoc segment message is.word) ∙ front segment (message ++ is.word)
@@ -119,7 +119,7 @@ module _ (blob segment message : List ℕ) (is : IsBlob blob segment message) wh
   pub blob_refused : (most : Limits) (e : WireError) → RefusesSegment most e no_override segment message → RefusesOpening most e blob
   blob_refused most OutOfMemory r = tt
   blob_refused most BadTable r = record { segment = segment; message = message; blob_is = is; none = r }
-  blob_refused most TableLimit r = record { segment = segment; message = message; blob_is = is; heavy = r }
+  blob_refused most TableLimit r = record { segment = segment; message = message; blob_is = is; over_limits = r }
   blob_refused most BadAlignment r = record { segment = segment; message = message; value = r.value; blob_is = is; shows = r.shows; refused = aligned-any (length segment) 0 0 (message_of r.value).descriptors r.refused }
   blob_refused most Compressed r = record { segment = segment; message = message; value = r.value; blob_is = is; shows = r.shows; refused = plain-any (length segment) 0 0 (message_of r.value).descriptors r.refused }
   blob_refused most OutOfBounds r = record { segment = segment; message = message; value = r.value; blob_is = is; shows = r.shows; refused = past-end (length segment) 0 0 (message_of r.value).descriptors r.refused }

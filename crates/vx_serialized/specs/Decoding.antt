@@ -49,7 +49,7 @@ pub record IsPastHead (x : ExtMeaning) (r : Option Reader) (h : ArrayHead) : Typ
   pub plan : IsSomeAnd (encoding_by r) (λ e. PlansChildren codec x e (typ h.dtype) h.len h.metadata h.nchildren places)
   pub past : HoldsLength r h.serialized_id h.len → ⊥
 
--- No children are planned: for want of memory, or by the refusal.
+-- No children are planned: for allocation failure, or by the refusal.
 abbrev pub RefusesPlan : WireError → ExtMeaning → Option Reader → ArrayHead → Type 0
 RefusesPlan OutOfMemory x r h = Unit {0}
 RefusesPlan BadMetadata x r h = IsSomeAnd (encoding_by r) (λ e. HasNoMetadata codec x e (typ h.dtype) h.metadata)
@@ -66,7 +66,7 @@ abbrev pub BuildsBy : ExtMeaning → Option Reader → ArrayHead → List Buffer
 BuildsBy x (Some (plugin p)) h bs ts t = p.build (head_over h bs ts) bs ts x ≡ Some t
 BuildsBy x r h bs ts t = IsSomeAnd (encoding_by r) (λ e. HasParts codec x e (typ h.dtype) h.len h.metadata bs ts t)
 
--- None is built: for want of memory, or by the refusal.
+-- None is built: for allocation failure, or by the refusal.
 abbrev pub RefusesBuild : WireError → ExtMeaning → Option Reader → ArrayHead → List Buffer → Trees → Type 0
 RefusesBuild OutOfMemory x r h bs ts = Unit {0}
 RefusesBuild BadShape x r h bs ts = IsSomeAnd (encoding_by r) (λ e. HasWrongShape codec x e (typ h.dtype) h.len h.metadata bs ts)

@@ -5,7 +5,7 @@ use Rattle.vx_flat.specs.Value.{Fields}
 use Rattle.vx_flat.specs.Shows.{Shows}
 use Rattle.vx_flat.specs.Weight.{weight}
 use Rattle.vx_flat.specs.declared.limits.Limits.{Limits}
-use Rattle.vx_flat.specs.Limits.{IsLight}
+use Rattle.vx_flat.specs.Limits.{KeepsLimits}
 use Rattle.vx_trees.specs.Rose.{Rose}
 use Rattle.vx_serialized.specs.declared.error.WireError.{WireError}
 use Rattle.vx_serialized.specs.declared.error.WireError.TheVariants.{OutOfMemory, TooShort, BadTable, TableLimit, BadAlignment, Compressed, OutOfBounds}
@@ -32,7 +32,7 @@ pub record IsHeavy (most : Limits) (blob : List ℕ) : Type 0 where
   pub segment : List ℕ
   pub message : List ℕ
   pub blob_is : IsBlob blob segment message
-  pub heavy : IsLight most (weight array_schema message) → ⊥
+  pub over_limits : KeepsLimits most (weight array_schema message) → ⊥
 
 -- The refusals of descriptors over a segment: an exponent over 16, a compression,
 -- or a range that ends past the segment.

@@ -26,7 +26,7 @@ buffer_with None segment p d = record { bytes = take d.len (drop (p + d.padding)
 buffer_with (Some b) segment p d = record { bytes = b.bytes; exponent = d.exponent }
 
 -- The buffers of descriptors from the number i on, the first of which begins its padding at the place p of the segment, and
--- each other behind the descriptor's range before it, given or not.
+-- each other after the descriptor's range before it, given or not.
 abbrev pub buffers_with : Overrides → List ℕ → ℕ → ℕ → List Descriptor → List Buffer
 buffers_with given segment i p [] = []
 buffers_with given segment i p (d ∷ ds) = buffer_with (given i) segment p d ∷ buffers_with given segment (suc i) (place_behind p d) ds

@@ -4,7 +4,7 @@ use Rattle.vx_buffer.specs.Buffer.{Buffer}
 use Rattle.vx_flat.specs.declared.error.FlatError.{FlatError}
 use Rattle.vx_flat.specs.declared.error.FlatError.TheVariants as tables
 use Rattle.vx_flat.specs.declared.limits.Limits.{Limits}
-use Rattle.vx_flat.specs.Limits.{IsLight}
+use Rattle.vx_flat.specs.Limits.{KeepsLimits}
 use Rattle.vx_flat.specs.Weight.{weight}
 use Rattle.vx_flat.specs.Value.{Field}
 use Rattle.vx_types.specs.Typ.{Typ}
@@ -29,7 +29,7 @@ use Rattle.vx_serialized.specs.Overrides.{RefusesAt}
 pub record IsOpened (most : Limits) (blob : List ℕ) (ids : List (List ℕ)) (w : Wire) : Type 0 where
   pub carried : Carries blob ids w
   pub clean : AreClean carried.segment (message_of carried.value).descriptors
-  pub light : IsLight most (weight array_schema carried.message)
+  pub within_limits : KeepsLimits most (weight array_schema carried.message)
 
 -- Why the buffer of a descriptor is not taken: the descriptor is refused, or memory was wanted.
 abbrev pub RefusesBuffer : WireError → Option Buffer → ℕ → ℕ → Descriptor → Type 0

@@ -1,7 +1,7 @@
 -- What is kept of a message, and why it is not.
 use Rattle.std.specs.Prelude.{ℕ, ◌≡◌, ◌<◌, List, Option, Some, None, slice_index}
 use Rattle.vx_buffer.specs.Buffer.{Buffer}
-use Rattle.vx_flat.specs.Limits.{IsLight}
+use Rattle.vx_flat.specs.Limits.{KeepsLimits}
 use Rattle.vx_flat.specs.Reading.{table_shown}
 use Rattle.vx_flat.specs.declared.viewing.View.{View}
 use Rattle.vx_flat.specs.Seen.{fields_or_none, message_seen, IsViewOf}
@@ -23,7 +23,7 @@ use Rattle.vx_serialized.specs.Serialized.{Serialized}
 pub record IsMessageOf (most : Limits) (message : List ℕ) (a : Serialized) : Type 0 where
   pub value : Fields
   pub shows : Shows array_schema message value
-  pub light : IsLight most (weight array_schema message)
+  pub within_limits : KeepsLimits most (weight array_schema message)
   pub root : (message_of value).root ≡ Some a.root
   pub descriptors : a.descriptors ≡ (message_of value).descriptors
 
@@ -40,7 +40,7 @@ pub record IsBlobOf (most : Limits) (blob : List ℕ) (a : Serialized) : Type 0 
 abbrev pub RefusesMessage : Limits → WireError → List ℕ → Type 0
 RefusesMessage most OutOfMemory message = Unit {0}
 RefusesMessage most BadTable message = (value : Fields) (root : Rose NodeFields) → Shows array_schema message value → (message_of value).root ≡ Some root → ⊥
-RefusesMessage most TableLimit message = IsLight most (weight array_schema message) → ⊥
+RefusesMessage most TableLimit message = KeepsLimits most (weight array_schema message) → ⊥
 RefusesMessage most _ message = ⊥
 
 -- The message shows an array value whose descriptors are refused over a segment.

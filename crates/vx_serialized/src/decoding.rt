@@ -5,11 +5,11 @@ ghost use Rattle.vx_trees.specs.Rose.{label};
 ghost use Rattle.vx_types.specs.Seen.{typ};
 ghost use Rattle.vx_scalars.specs.Stats.{FitStats};
 ghost use Rattle.vx_array_tree.specs.Tree.{Tree};
-ghost use Rattle.vx_type_wire.specs.Lent.{lent_meaning};
+ghost use Rattle.vx_type_wire.specs.Borrowed.{borrowed_meaning};
 ghost use Rattle.vx_type_wire.specs.Session.{ext_meaning};
 ghost use Rattle.vx_wire_tree.specs.Session.{IsShipped, IsPaired};
 ghost use Rattle.vx_wire_tree.specs.Steps.{IsToldBy};
-ghost use Rattle.vx_wire_tree.specs.Tells.{Tells};
+ghost use Rattle.vx_wire_tree.specs.DecodesTo.{DecodesTo};
 ghost use Rattle.vx_wire_tree.specs.Wire.{all_present};
 ghost use Rattle.vx_scalar_wire.specs.StatsShown.{ShowsStatsIn};
 ghost use Rattle.vx_encodings.specs.Messages.{codec};
@@ -101,7 +101,7 @@ fn plan_node(
     session: &VortexSession,
     ext: &Readers,
 ) -> Result<PlannedNode, WireError>
-    requires lent { lent_meaning (λ r. accepted r.now) ext.now ≡ ext_meaning (λ b. accepted (b.vtable, b.value)) session.now.ext }
+    requires borrowed { borrowed_meaning (λ r. accepted r.now) ext.now ≡ ext_meaning (λ b. accepted (b.vtable, b.value)) session.now.ext }
     requires within { IsSome (reader_in (λ b. means (b.vtable, b.value)) session.now.arrays entry) }
     ensures read { let s = session_meaning (λ b. means (b.vtable, b.value)) (λ b. accepted (b.vtable, b.value)) session.now in
         (ids : List (List ℕ)) → (label (wire_in ids node.now)).id ≡ Some id.now → s.reader id.now ≡ reader_in (λ b. means (b.vtable, b.value)) session.now.arrays entry
@@ -197,7 +197,7 @@ fn unread_node(
     requires unread { let s = session_meaning (λ b. means (b.vtable, b.value)) (λ b. accepted (b.vtable, b.value)) session.now in
         s.reader id.now ≡ None }
     ensures told { let s = session_meaning (λ b. means (b.vtable, b.value)) (λ b. accepted (b.vtable, b.value)) session.now in
-        IfOk result (λ t. Tells codec s (wire_in ids.now node.now) (typ dtype.now) len t) }
+        IfOk result (λ t. DecodesTo codec s (wire_in ids.now node.now) (typ dtype.now) len t) }
     ensures cause { let s = session_meaning (λ b. means (b.vtable, b.value)) (λ b. accepted (b.vtable, b.value)) session.now in
         IfErr result (λ e. RefusesWire s e (wire_in ids.now node.now) (typ dtype.now) len) }
 {
@@ -217,9 +217,9 @@ fn decode_node(
     session: &VortexSession,
     ext: &Readers,
 ) -> Result<Array, WireError>
-    requires lent { lent_meaning (λ r. accepted r.now) ext.now ≡ ext_meaning (λ b. accepted (b.vtable, b.value)) session.now.ext }
+    requires borrowed { borrowed_meaning (λ r. accepted r.now) ext.now ≡ ext_meaning (λ b. accepted (b.vtable, b.value)) session.now.ext }
     ensures told { let s = session_meaning (λ b. means (b.vtable, b.value)) (λ b. accepted (b.vtable, b.value)) session.now in
-        IfOk result (λ t. Tells codec s (wire_in ids.now node.now) (typ dtype.now) len t) }
+        IfOk result (λ t. DecodesTo codec s (wire_in ids.now node.now) (typ dtype.now) len t) }
     ensures paired { let s = session_meaning (λ b. means (b.vtable, b.value)) (λ b. accepted (b.vtable, b.value)) session.now in
         OnOk result (IsPaired s) }
     ensures cause { let s = session_meaning (λ b. means (b.vtable, b.value)) (λ b. accepted (b.vtable, b.value)) session.now in
@@ -268,10 +268,10 @@ impl<'a> SerializedNode<'a> {
         // The array matches the node's wire tree and is of this type and length; it is sound, and normal where no plugin
         // reads or writes.
         ensures told { let s = session_meaning (λ b. means (b.vtable, b.value)) (λ b. accepted (b.vtable, b.value)) session.now in
-            IfOk result (λ t. Tells codec s (wire_in ids.now self.now) (typ dtype.now) len t) }
+            IfOk result (λ t. DecodesTo codec s (wire_in ids.now self.now) (typ dtype.now) len t) }
         // With shipped encodings only it is the one that does; and where there is one, it is answered, or memory is wanted.
         ensures one { let s = session_meaning (λ b. means (b.vtable, b.value)) (λ b. accepted (b.vtable, b.value)) session.now in
-            IsShipped s → (t : Tree) → Tells codec s (wire_in ids.now self.now) (typ dtype.now) len t
+            IsShipped s → (t : Tree) → DecodesTo codec s (wire_in ids.now self.now) (typ dtype.now) len t
             → IfOk result (λ u. u ≡ t) × IfErr result (λ e. e ≡ WireError.OutOfMemory) }
         ensures paired { let s = session_meaning (λ b. means (b.vtable, b.value)) (λ b. accepted (b.vtable, b.value)) session.now in
             OnOk result (IsPaired s) }
@@ -301,9 +301,9 @@ impl SerializedArray {
         session: &VortexSession,
     ) -> Result<Array, WireError>
         ensures told { let s = session_meaning (λ b. means (b.vtable, b.value)) (λ b. accepted (b.vtable, b.value)) session.now in
-            IfOk result (λ t. Tells codec s (wire_in ids.now self.now) (typ dtype.now) len t) }
+            IfOk result (λ t. DecodesTo codec s (wire_in ids.now self.now) (typ dtype.now) len t) }
         ensures one { let s = session_meaning (λ b. means (b.vtable, b.value)) (λ b. accepted (b.vtable, b.value)) session.now in
-            IsShipped s → (t : Tree) → Tells codec s (wire_in ids.now self.now) (typ dtype.now) len t
+            IsShipped s → (t : Tree) → DecodesTo codec s (wire_in ids.now self.now) (typ dtype.now) len t
             → IfOk result (λ u. u ≡ t) × IfErr result (λ e. e ≡ WireError.OutOfMemory) }
         ensures paired { let s = session_meaning (λ b. means (b.vtable, b.value)) (λ b. accepted (b.vtable, b.value)) session.now in
             OnOk result (IsPaired s) }

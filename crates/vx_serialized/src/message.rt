@@ -21,7 +21,7 @@ impl Descriptor {
     pub const MAX_EXPONENT: u8 = 16;
 }
 
-/// The descriptor of the first eight bytes, and the bytes behind them.
+/// The descriptor of the first eight bytes, and the bytes after them.
 pub(crate) fn first_descriptor(bytes: &[u8]) -> Option<(Descriptor, &[u8])>
     ensures some { IfSome result (λ p. descriptors_of bytes.now ≡ p.0 ∷ descriptors_of p.1.now) }
     ensures shorter { IfSome result (λ p. length p.1.now < length bytes.now) }

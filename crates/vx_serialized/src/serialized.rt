@@ -2,7 +2,7 @@
 
 ghost use Rattle.std.specs.Prelude.{◌≡◌, ◌<◌, Some, None, [], length, slice_get, IfOk, IfErr, OnOk, OnErr, IsOkUnless};
 ghost use Rattle.vx_trees.specs.Rose.{label, below, count};
-ghost use Rattle.vx_flat.specs.Limits.{limits, limits_to, IsLight};
+ghost use Rattle.vx_flat.specs.Limits.{limits, limits_to, KeepsLimits};
 ghost use Rattle.vx_flat.specs.Seen.{seen, IsViewOf};
 ghost use Rattle.vx_flat.specs.Shows.{Shows};
 ghost use Rattle.vx_flat.specs.Weight.{weight};
@@ -99,7 +99,7 @@ fn verify_message(message: &[u8], deep: bool) -> Result<Verified<'_>, WireError>
     ensures stored { IfOk result (λ v. IsStored message.now v.place) }
     ensures shows { IfOk result (λ v. Shows array_schema message.now (array_at message.now v.place)) }
     ensures descriptors { IfOk result (λ v. descriptors_of v.descriptors.now ≡ (message_of (array_at message.now v.place)).descriptors) }
-    ensures light { OnOk result (IsLight (limits_to deep) (weight array_schema message.now)) }
+    ensures within_limits { OnOk result (KeepsLimits (limits_to deep) (weight array_schema message.now)) }
     ensures cause { IfErr result (λ e. RefusesMessage (limits_to deep) e message.now) }
 {
     let view = match verify_uncounted_to(message, &ArrayKind, deep) {
@@ -216,7 +216,7 @@ impl SerializedArray {
 
     /// The array of a message whose descriptors tell its buffers in a segment, but for those that are given by the number
     /// of their descriptor. A buffer that is given takes the descriptor's alignment, and neither its length nor the
-    /// descriptor's range is judged; the next buffer starts behind that range all the same.
+    /// descriptor's range is judged; the next buffer starts after that range all the same.
     ///
     /// # Errors
     /// Those of [`SerializedArray::from_flatbuffer_and_segment`], `OutOfBounds` only where no buffer is given.
@@ -272,7 +272,7 @@ impl SerializedArray {
     /// The array again. No byte of its message or its buffers is copied.
     ///
     /// # Errors
-    /// Want of memory alone.
+    /// Allocation failure alone.
     pub fn clone(&self, alloc: Global) -> Result<SerializedArray, WireError>
         ensures ok { IfOk result (λ a. a ≡ self.now) }
         ensures err { IsOkUnless result WireError.OutOfMemory }
@@ -289,7 +289,7 @@ impl SerializedArray {
 }
 
 impl SerializedArray {
-    /// The array's root, lent.
+    /// The array's root, borrowed.
     pub fn root(&self) -> SerializedNode<'_>
         ensures { result ≡ self.now }
     {
@@ -322,7 +322,7 @@ impl SerializedArray {
         self.root().nchildren()
     }
 
-    /// The root's child at this place, lent.
+    /// The root's child at this place, borrowed.
     pub fn child(&self, i: usize) -> SerializedNode<'_>
         requires { i < count (below self.now.root) }
         ensures { IsChildOf self.now i result }
@@ -345,7 +345,7 @@ impl SerializedArray {
         self.root().buffer_index(i)
     }
 
-    /// The root's buffer at this place, lent.
+    /// The root's buffer at this place, borrowed.
     ///
     /// # Errors
     /// `OutOfBounds`, exactly where the root names no buffer at this place, or one that is not there.
@@ -360,7 +360,7 @@ impl SerializedArray {
     /// The names of the root's statistics that stand, in the order in which a table has them.
     ///
     /// # Errors
-    /// Want of memory alone.
+    /// Allocation failure alone.
     pub fn stat_names(&self, alloc: Global) -> Result<Names, WireError>
         ensures ok { IfOk result (λ names. names ≡ names_in (label self.now.root).stats) }
         ensures err { IsOkUnless result WireError.OutOfMemory }
@@ -371,7 +371,7 @@ impl SerializedArray {
     /// The length of each buffer of the message, by its descriptor.
     ///
     /// # Errors
-    /// Want of memory alone.
+    /// Allocation failure alone.
     pub fn buffer_lengths(&self, alloc: Global) -> Result<BufferLengths, WireError>
         ensures ok { IfOk result (λ ls. ls ≡ lengths_of self.now.descriptors) }
         ensures err { IsOkUnless result WireError.OutOfMemory }

@@ -1,7 +1,7 @@
 //! The steps of one node, by what reads it: an encoding or a plugin.
 
 ghost use Rattle.std.specs.Prelude.{◌≡◌, Option, Some, IfOk, IfErr, IsSome, IsTrue, IsFalse};
-ghost use Rattle.vx_type_wire.specs.Lent.{lent_meaning};
+ghost use Rattle.vx_type_wire.specs.Borrowed.{borrowed_meaning};
 ghost use Rattle.vx_type_wire.specs.Session.{ext_meaning};
 ghost use Rattle.vx_array_tree.specs.Sound.{IsSound};
 ghost use Rattle.vx_array_tree.specs.Tree.{places};
@@ -30,7 +30,7 @@ pub(crate) fn plan_entry(
     session: &VortexSession,
     ext: &Readers,
 ) -> Result<ChildPlans, WireError>
-    requires lent { lent_meaning (λ r. accepted r.now) ext.now ≡ ext_meaning (λ b. accepted (b.vtable, b.value)) session.now.ext }
+    requires borrowed { borrowed_meaning (λ r. accepted r.now) ext.now ≡ ext_meaning (λ b. accepted (b.vtable, b.value)) session.now.ext }
     requires within { IsSome (reader_in (λ b. means (b.vtable, b.value)) session.now.arrays entry) }
     ensures plan { let s = session_meaning (λ b. means (b.vtable, b.value)) (λ b. accepted (b.vtable, b.value)) session.now in
         IfOk result (λ ps. PlansBy s.ext (reader_in (λ b. means (b.vtable, b.value)) session.now.arrays entry) head.now ps) }
@@ -66,7 +66,7 @@ pub(crate) fn build_entry(
     session: &VortexSession,
     ext: &Readers,
 ) -> Result<Array, WireError>
-    requires lent { lent_meaning (λ r. accepted r.now) ext.now ≡ ext_meaning (λ b. accepted (b.vtable, b.value)) session.now.ext }
+    requires borrowed { borrowed_meaning (λ r. accepted r.now) ext.now ≡ ext_meaning (λ b. accepted (b.vtable, b.value)) session.now.ext }
     requires within { IsSome (reader_in (λ b. means (b.vtable, b.value)) session.now.arrays entry) }
     requires planned { let s = session_meaning (λ b. means (b.vtable, b.value)) (λ b. accepted (b.vtable, b.value)) session.now in
         PlansBy s.ext (reader_in (λ b. means (b.vtable, b.value)) session.now.arrays entry) head (places children) }

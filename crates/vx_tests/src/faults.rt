@@ -18,7 +18,7 @@ fn store_that_allows(alloc: Global, allowed: &str) -> Result<MemStore, StoreErro
     Ok(store)
 }
 
-// The files behind `--allow`, and the status.
+// The files after `--allow`, and the status.
 const ALLOWED: [(&str, u8); 4] = [
     ("a\nvortex.primitive\na\n", 0),
     ("vortex.bool\n", 23),
@@ -42,7 +42,7 @@ fn are_allowed(alloc: Global, allowed: &str, status: u8) -> bool {
     }
 }
 
-// Only identifiers of the file behind `--allow` may be written; it is judged as the other files are.
+// Only identifiers of the file after `--allow` may be written; it is judged as the other files are.
 #[test]
 fn identifiers_are_allowed(rt: HostRuntime) {
     for (allowed, status) in &ALLOWED {

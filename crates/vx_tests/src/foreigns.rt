@@ -130,7 +130,7 @@ const FIRST_ROW: &str = "x.y len=4 buffers=[16]\n0: ?\n";
 
 const FOUR_ROWS: &str = "x.y len=4 buffers=[16]\n0: ?\n1: ?\n2: ?\n3: ?\n";
 
-// The option stands anywhere among the others, and behind `--allow` it is the name of a file.
+// The option stands anywhere among the others, and after `--allow` it is the name of a file.
 #[test]
 fn the_option_stands_among_others(rt: HostRuntime) {
     let saved = (PADDED_BLOB.as_slice(), "x.y\n");
@@ -285,7 +285,7 @@ fn chains_of_foreign_nodes_are_written_up_to_a_level(rt: HostRuntime) {
 enum Outer {
     // Structures of a flag and a number.
     Struct,
-    // Lists of a flag, parted by offsets.
+    // Lists of a flag, split by offsets.
     Lists,
     // Lists of a flag, with offsets and with sizes that codes name.
     Views,

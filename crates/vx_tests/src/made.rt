@@ -134,7 +134,7 @@ fn fails(alloc: Global, row: &(u64, u8, bool, bool, bool)) -> Result<bool, Store
     )
 }
 
-// Whether all is saved where the line is cut behind seven bytes.
+// Whether all is saved where the line is cut after seven bytes.
 fn is_cut(alloc: Global) -> bool {
     let mut store = MemStore::new(alloc);
     let mut out = MemSink::failing(alloc, 2).taking(7);

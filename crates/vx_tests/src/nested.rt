@@ -20,7 +20,7 @@ enum Nested {
     Views,
     // The same, of which the first is null.
     SomeViews,
-    // Three lists of numbers, parted by offsets.
+    // Three lists of numbers, split by offsets.
     Lists,
     // Five lists of no numbers.
     NoBytes,

@@ -5,7 +5,7 @@ mod Rows
 mod TypeViews
 mod OfParts
 mod Judging
-mod LentReaders
+mod BorrowedReaders
 mod OneType
 mod Found
 mod Members

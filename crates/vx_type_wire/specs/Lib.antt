@@ -2,7 +2,7 @@ pub mod Schema
 pub mod TypeTable
 pub mod Known
 pub mod Session
-pub mod Lent
+pub mod Borrowed
 pub mod Reading
 pub mod Answers
 pub mod Shown

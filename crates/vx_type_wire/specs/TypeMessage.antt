@@ -132,7 +132,7 @@ pub record ShowsMessage (bytes : List ℕ) (t : Typ) : Type 0 where
 abbrev pub IsNoMessage : Value → Type 0
 IsNoMessage v = (t : Typ) → levels t ≤ most_levels → IsMessageOf v t → ⊥
 
--- Why a plain value is read as no type under a session. Want of memory has no cause.
+-- Why a plain value is read as no type under a session. Allocation failure has no cause.
 abbrev pub RefusesReadingType : TypeWireError → ExtMeaning → Value → Type 0
 RefusesReadingType error.OutOfMemory s v = Unit {0}
 RefusesReadingType error.BadType s v = IsNoMessage v

@@ -32,7 +32,7 @@ mod writing;
 
 pub use error::TypeWireError;
 pub use kind::TypeKind;
-pub use lending::{LentReader, Readers, ReadersOf};
+pub use lending::{BorrowedReader, Readers, ReadersOf};
 pub use messages::DTypeExt;
 pub use proto::{TypeMessage, slots};
 pub use readers::{ExtPlugin, ExtSession};

@@ -327,7 +327,7 @@ fn extensions_without_a_reader_may_be_allowed(rt: HostRuntime) {
 }
 
 // Whether the readers that a session of these rows lends accept a day.
-fn lent_judgement(
+fn borrowed_judgement(
     alloc: Global,
     rows: &[(&str, bool)],
     unknown: bool,
@@ -336,21 +336,21 @@ fn lent_judgement(
     if unknown {
         readers.allow_unknown();
     }
-    let Ok(lent) = readers.lend(alloc) else {
+    let Ok(borrowed) = readers.lend(alloc) else {
         return Err(TypeWireError::OutOfMemory);
     };
     let day = Id::new(alloc, "x.day")?;
-    Ok(lent.accepts(&day, &[], &DType::Null) && lent.allows_unknown() == unknown)
+    Ok(borrowed.accepts(&day, &[], &DType::Null) && borrowed.allows_unknown() == unknown)
 }
 
 #[test]
-fn lent_readers_accept_what_the_session_accepts(rt: HostRuntime) {
+fn borrowed_readers_accept_what_the_session_accepts(rt: HostRuntime) {
     let alloc = rt.alloc();
     let rows = [("x.night", true), ("x.day", false), ("x.day", true)];
-    assert!(rt; lent_judgement(alloc, &rows, false) == Ok(true));
-    assert!(rt; lent_judgement(alloc, &[("x.day", false)], true) == Ok(false));
-    assert!(rt; lent_judgement(alloc, &[("x.night", true)], false) == Ok(false));
-    assert!(rt; lent_judgement(alloc, &[("x.night", true)], true) == Ok(true));
+    assert!(rt; borrowed_judgement(alloc, &rows, false) == Ok(true));
+    assert!(rt; borrowed_judgement(alloc, &[("x.day", false)], true) == Ok(false));
+    assert!(rt; borrowed_judgement(alloc, &[("x.night", true)], false) == Ok(false));
+    assert!(rt; borrowed_judgement(alloc, &[("x.night", true)], true) == Ok(true));
 }
 
 #[test]

@@ -70,4 +70,4 @@ pub typs-levels_push : (ds es : List DType) (d : DType) → es ≡ ds ++ d ∷ [
 typs-levels_push ds es d e = ap (λ (xs : List DType). levels_below (roses_of (typs xs))) e ∙ typs-levels_more ds d
 
 -- For loops over types.
-pub ruleset falling = (size-at, roses_of-injective, typs-length, typs-at, same-more, same-at)
+pub ruleset decreasing = (size-at, roses_of-injective, typs-length, typs-at, same-more, same-at)

@@ -6,7 +6,7 @@ pub mod Parts
 pub mod Seen
 pub mod HeldNames
 pub mod HeldTypes
-pub mod Falls
+pub mod Measures
 pub mod Words
 pub mod Refused
 pub mod Known

@@ -8,7 +8,7 @@ use std::alloc::Global;
 
 // Copies of the types.
 #[cycle(copy)]
-#[tactic(auto, using(crate::proofs::Lists::falling))]
+#[tactic(auto, using(crate::proofs::Lists::decreasing))]
 pub(crate) fn copy_all(types: &[DType], alloc: Global) -> Result<Vec<DType>, TypeError>
     ensures ok { IfOk result (λ copies. copies.items ≡ types.now) }
     ensures err { IsOkUnless result TypeError.OutOfMemory }

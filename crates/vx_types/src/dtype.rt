@@ -53,7 +53,7 @@ pub enum DType {
 
 // A type falls by a call of this, wherever one falls, and not part by part.
 impl Drop for DType {
-    #[cycle(fall)]
+    #[cycle(dropping)]
     fn drop(self) {
         match self {
             DType::Null => {}

@@ -16,7 +16,7 @@ use std::marker::Model;
 /// A list of types, in order, as of a structure's fields. Contracts see the list
 /// of their trees.
 ///
-/// The types stand behind a pointer from the first one on: a type is to be small,
+/// The types stand after a pointer from the first one on: a type is to be small,
 /// and most types hold no others.
 #[cycle(dtype)]
 #[derive(Debug, Drop)]
@@ -25,7 +25,7 @@ pub struct DTypes {
     alloc: Global,
 }
 
-/// Nothing, or some types behind a pointer.
+/// Nothing, or some types after a pointer.
 #[cycle(dtype)]
 #[derive(Debug, Drop)]
 enum HeldTypes {
@@ -49,7 +49,7 @@ impl Model for DTypes {
 
     ghost size = { types_size };
 
-    ghost use Rattle.vx_types.specs.Falls.{held_le-size};
+    ghost use Rattle.vx_types.specs.Measures.{held_le-size};
 
     ghost size_decreases = { λ a h. held_le-size a.held };
 }
@@ -160,7 +160,7 @@ impl DTypes {
     }
 }
 
-// A list of no type, with room for so many, behind a pointer.
+// A list of no type, with room for so many, after a pointer.
 fn none(alloc: Global, room: usize) -> Result<Box<TypeList>, TypeError>
     ensures ok { IfOk result (λ b. b.value ≡ []) }
     ensures err { IsOkUnless result TypeError.OutOfMemory }
@@ -169,7 +169,7 @@ fn none(alloc: Global, room: usize) -> Result<Box<TypeList>, TypeError>
     Ok(Box::new(alloc, types)?)
 }
 
-// A list of this type alone, behind a pointer.
+// A list of this type alone, after a pointer.
 fn first(alloc: Global, dtype: DType) -> Result<Box<TypeList>, TypeError>
     ensures ok { IfOk result (λ b. b.value ≡ typ dtype ∷ []) }
     ensures err { IsOkUnless result TypeError.OutOfMemory }

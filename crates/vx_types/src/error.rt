@@ -39,7 +39,7 @@ impl<T: Drop> From<AllocFailed<T>> for TypeError {
     }
 }
 
-/// What a call of this crate made whose one refusal is want of memory, with that refusal as the allocator's own, which every
+/// What a call of this crate made whose one refusal is allocation failure, with that refusal as the allocator's own, which every
 /// crate tells in its words. No other refusal is told as that.
 pub fn or_memory<T: Drop>(made: Result<T, TypeError>) -> Result<T, AllocError>
     requires only { IsOkUnless made TypeError.OutOfMemory }

@@ -12,7 +12,7 @@ use std::marker::Model;
 /// A list of names, in order, as of a structure's fields. Contracts see the list
 /// of their UTF-8 bytes.
 ///
-/// The names stand behind a pointer from the first one on: a type is to be small,
+/// The names stand after a pointer from the first one on: a type is to be small,
 /// and most types have no names.
 #[derive(Debug, Drop)]
 pub struct Names {
@@ -20,7 +20,7 @@ pub struct Names {
     alloc: Global,
 }
 
-/// Nothing, or some names behind a pointer.
+/// Nothing, or some names after a pointer.
 #[derive(Debug, Drop)]
 enum HeldNames {
     Nothing,
@@ -129,7 +129,7 @@ impl Names {
     }
 }
 
-// One more name behind the others. Where there is no memory for it, nothing changes.
+// One more name after the others. Where there is no memory for it, nothing changes.
 fn push_name(held: &mut HeldNames, alloc: Global, name: Name) -> Result<(), TypeError>
     ensures ok { OnOk result (names_held held.new ≡ names_held held.old ++ name ∷ []) }
     ensures unchanged { OnErr result (names_held held.new ≡ names_held held.old) }
@@ -147,7 +147,7 @@ fn push_name(held: &mut HeldNames, alloc: Global, name: Name) -> Result<(), Type
     }
 }
 
-// A list of no name, with room for so many, behind a pointer.
+// A list of no name, with room for so many, after a pointer.
 fn none(alloc: Global, room: usize) -> Result<Box<Vec<Name>>, TypeError>
     ensures ok { IfOk result (λ b. b.value.items ≡ []) }
     ensures err { IsOkUnless result TypeError.OutOfMemory }

@@ -10,7 +10,7 @@ use crate::union_variants::UnionVariants;
 
 // Whether two types are the same tree.
 #[cycle(same)]
-#[tactic(auto, using(crate::proofs::Lists::falling))]
+#[tactic(auto, using(crate::proofs::Lists::decreasing))]
 pub(crate) fn is_same(a: &DType, b: &DType) -> bool
     ensures { IsTrue result ↔ (typ a.now ≡ typ b.now) }
 {
@@ -45,7 +45,7 @@ pub(crate) fn is_same(a: &DType, b: &DType) -> bool
 
 // Whether two lists have the same types in the same order.
 #[cycle(same)]
-#[tactic(auto, using(crate::proofs::Lists::falling))]
+#[tactic(auto, using(crate::proofs::Lists::decreasing))]
 fn are_same(a: &[DType], b: &[DType]) -> bool
     ensures { IsTrue result ↔ (typs a.now ≡ typs b.now) }
 {
@@ -62,7 +62,7 @@ fn are_same(a: &[DType], b: &[DType]) -> bool
 
 // Whether two structures have the same fields.
 #[cycle(same)]
-#[tactic(auto, using(crate::proofs::Lists::falling))]
+#[tactic(auto, using(crate::proofs::Lists::decreasing))]
 fn are_same_fields(a: &StructFields, b: &StructFields) -> bool
     ensures { IsTrue result ↔ (a.now.names ≡ b.now.names) × (a.now.types ≡ b.now.types) }
 {
@@ -71,7 +71,7 @@ fn are_same_fields(a: &StructFields, b: &StructFields) -> bool
 
 // Whether two unions have the same members.
 #[cycle(same)]
-#[tactic(auto, using(crate::proofs::Lists::falling))]
+#[tactic(auto, using(crate::proofs::Lists::decreasing))]
 fn are_same_members(a: &UnionVariants, b: &UnionVariants) -> bool
     ensures { IsTrue result ↔ (a.now.names ≡ b.now.names) × (a.now.types ≡ b.now.types) × (a.now.ids ≡ b.now.ids) }
 {

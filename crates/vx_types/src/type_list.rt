@@ -1,4 +1,4 @@
-//! What a list of types holds behind its pointer.
+//! What a list of types holds after its pointer.
 
 ghost use Rattle.std.specs.Prelude.{◌≡◌, ◌-◌, ◌^◌, [], ◌∷◌, ◌++◌, OnOk, OnErr, IfOk, IsOkUnless, length, min};
 ghost use Rattle.vx_trees.specs.Rose.{roses_of};
@@ -42,7 +42,7 @@ impl Model for TypeList {
 
     ghost size = { slice_size };
 
-    ghost use Rattle.vx_types.specs.Falls.{most_le-size};
+    ghost use Rattle.vx_types.specs.Measures.{most_le-size};
 
     ghost size_decreases = { λ a h. Prim.omega (arith, most_le-size a.items.items) };
 }

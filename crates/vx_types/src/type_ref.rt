@@ -39,13 +39,13 @@ impl Model for TypeRef {
 
     ghost size = { ref_size };
 
-    ghost use Rattle.vx_types.specs.Falls.{deep_le-size};
+    ghost use Rattle.vx_types.specs.Measures.{deep_le-size};
 
     ghost size_decreases = { λ a h. Prim.omega (arith, deep_le-size a.dtype.value) };
 }
 
 impl TypeRef {
-    /// This type, kept behind a pointer.
+    /// This type, kept after a pointer.
     pub fn new(alloc: Global, dtype: DType) -> Result<TypeRef, TypeError>
         ensures ok { IfOk result (λ part. part ≡ typ dtype) }
         ensures err { IsOkUnless result TypeError.OutOfMemory }

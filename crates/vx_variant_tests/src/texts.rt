@@ -8,7 +8,7 @@ use vx_types::{DType, Name, PValue};
 
 // The text of a value of a type.
 #[cycle(text)]
-#[tactic(auto, using(vx_scalars::proofs::LawsOfLists::falling))]
+#[tactic(auto, using(vx_scalars::proofs::LawsOfLists::decreasing))]
 fn text_of(
     alloc: Global,
     value: Option<&ScalarValue>,
@@ -33,7 +33,7 @@ fn text_of(
 
 // The text of a tuple, by its type.
 #[cycle(text)]
-#[tactic(auto, using(vx_scalars::proofs::LawsOfLists::falling))]
+#[tactic(auto, using(vx_scalars::proofs::LawsOfLists::decreasing))]
 fn tuple_text(
     alloc: Global,
     values: &[Option<ScalarValue>],
@@ -53,9 +53,9 @@ fn tuple_text(
     }
 }
 
-// The texts of fields, each behind its name, parted by commas.
+// The texts of fields, each after its name, split by commas.
 #[cycle(text)]
-#[tactic(auto, using(vx_scalars::proofs::LawsOfLists::falling))]
+#[tactic(auto, using(vx_scalars::proofs::LawsOfLists::decreasing))]
 fn field_texts(
     alloc: Global,
     values: &[Option<ScalarValue>],
@@ -73,9 +73,9 @@ fn field_texts(
     Ok(texts)
 }
 
-// The texts of elements, parted by commas.
+// The texts of elements, split by commas.
 #[cycle(text)]
-#[tactic(auto, using(vx_scalars::proofs::LawsOfLists::falling))]
+#[tactic(auto, using(vx_scalars::proofs::LawsOfLists::decreasing))]
 fn element_texts(
     alloc: Global,
     values: &[Option<ScalarValue>],

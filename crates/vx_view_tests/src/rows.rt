@@ -193,7 +193,7 @@ fn is_slot(alloc: Global, array: &Array, slot: &str) -> bool {
     }
 }
 
-// Whether the views of an array stand behind its one buffer of data.
+// Whether the views of an array stand after its one buffer of data.
 fn has_views_last(alloc: Global, array: &Array) -> bool {
     begins(array, 0, b'a')
         && is_named(alloc, array, 0, Some("buffer_0"))

@@ -19,7 +19,7 @@ use Rattle.vx_wire_tree.specs.ReadBack.{IsReadAs}
 use Rattle.vx_wire_tree.specs.Reads.{IsMetadata}
 use Rattle.vx_wire_tree.specs.Session.{SessionMeaning}
 use Rattle.vx_wire_tree.specs.Steps.{PlansChildren, HasParts, IsToldBy}
-use Rattle.vx_wire_tree.specs.Tells.{Tells}
+use Rattle.vx_wire_tree.specs.DecodesTo.{DecodesTo}
 use Rattle.vx_wire_tree.specs.Wire.{WireHead, Wires, all_present}
 use Rattle.vx_wire_tree.proofs.TwoIdentifiers.{node_by}
 use Rattle.vx_wire_tree.proofs.Unique.{all_count, one_metadata}
@@ -27,10 +27,10 @@ use Rattle.vx_wire_tree.proofs.Unique.{all_count, one_metadata}
 module _ (c : Codec) (s : SessionMeaning) (law : IsLawful c s) where
   -- A node whose children tell arrays where they are planned tells the array that is built of its parts, with
   -- the statistics that its field shows.
-  pub node_tells : (id : List ℕ) (e : Encoding) (w : WireHead) (ws : Wires) (d : Typ) (n : ℕ) (ps : List Place) (bs : List Buffer) (ts : Trees) (t u : Tree)
+  pub node_decodes : (id : List ℕ) (e : Encoding) (w : WireHead) (ws : Wires) (d : Typ) (n : ℕ) (ps : List Place) (bs : List Buffer) (ts : Trees) (t u : Tree)
       → w.id ≡ Some id → IsReadAs (s.reader id) e id n → PlansChildren c s.ext e d n w.metadata (count ws) ps → w.buffers ≡ all_present bs
-      → HasChildren c s (node w ws) ps ts → HasParts c s.ext e d n w.metadata bs ts t → IsSound t → IsToldBy c d w.stats t u → Tells c s (node w ws) d n u
-  node_tells id e w ws d n ps bs ts t u i r p b k x sound y =
+      → HasChildren c s (node w ws) ps ts → HasParts c s.ext e d n w.metadata bs ts t → IsSound t → IsToldBy c d w.stats t u → DecodesTo c s (node w ws) d n u
+  node_decodes id e w ws d n ps bs ts t u i r p b k x sound y =
       let same = one_metadata c s e (law.messages id e r.encoding) d d w.metadata p.value x.value refl p.metadata x.metadata in
       let plan : plan_of e d n x.value (count ts) ≡ Some (places ts) =
       (λ j. plan_of e d n (sym same j) (all_count c s ws ts k.matched j)) ∙ p.plan ∙ ap (λ (qs : List Place). Some qs) (sym k.placed) in
@@ -47,11 +47,11 @@ module _ (c : Codec) (s : SessionMeaning) (law : IsLawful c s) where
         children = k.matched;
       } in
       let native : IsNative x.body = subst (λ f. IsNativeEncoding f) (sym (body_encoding e x.value bs x.body x.body_is)) (law.messages id e r.encoding).native in
-      let all : Tells c s (node w ws) d n told = record {
+      let all : DecodesTo c s (node w ws) d n told = record {
         matched = (id, i, node_by c s (s.reader id) e id w ws told (λ us. AllMatch c s ws us) r i m);
         dtype = refl;
         len = refl;
         sound = stats_sound y.stats built same_sound fit;
         normal = λ ok. (normal_by x.body (label told) ts native (built_normal e d n x.value (count ts) bs x.body (places ts) x.body_is plan), k.normal ok);
       } in
-      subst (λ (z : Tree). Tells c s (node w ws) d n z) (sym (y.tree_is ∙ ap (λ (z : Tree). with_stats y.stats z) x.tree_is)) all
+      subst (λ (z : Tree). DecodesTo c s (node w ws) d n z) (sym (y.tree_is ∙ ap (λ (z : Tree). with_stats y.stats z) x.tree_is)) all

@@ -15,7 +15,7 @@ use Rattle.vx_wire_tree.specs.Codec.{Codec}
 use Rattle.vx_wire_tree.specs.Kept.{IsKeptAs, AreKeptAs}
 use Rattle.vx_wire_tree.specs.Matches.{IsRaw, AreRaw, IsNodeBy, AllMatch}
 use Rattle.vx_wire_tree.specs.Session.{SessionMeaning}
-use Rattle.vx_wire_tree.specs.Tells.{Tells}
+use Rattle.vx_wire_tree.specs.DecodesTo.{DecodesTo}
 use Rattle.vx_wire_tree.specs.Wire.{Wire, Wires, WireHead, all_present}
 
 -- The foreign node of a node's parts, over children that are kept.
@@ -65,8 +65,8 @@ all_kept ws d n i us h k = subst (λ z. AreKeptAs (roses_of z) d n us) (take_all
 -- ---- what is kept is told
 
 -- A wire tree whose root nothing reads, under a session that allows such nodes, tells the array that is kept of it.
-pub kept_tells : (c : Codec) (s : SessionMeaning) (id : List ℕ) (w : Wire) (d : Typ) (n : ℕ) (t : Tree) → (label w).id ≡ Some id → s.reader id ≡ None → IsTrue s.ext.unknown → IsKeptAs w d n t → Tells c s w d n t
-kept_tells c s id (node w ws) d n t i r allowed k = record {
+pub kept_decodes : (c : Codec) (s : SessionMeaning) (id : List ℕ) (w : Wire) (d : Typ) (n : ℕ) (t : Tree) → (label w).id ≡ Some id → s.reader id ≡ None → IsTrue s.ext.unknown → IsKeptAs w d n t → DecodesTo c s w d n t
+kept_decodes c s id (node w ws) d n t i r allowed k = record {
   matched = (id, i, subst (λ z. IsNodeBy c s z w ws t (λ us. AllMatch c s ws us)) (sym r) (allowed, k.raw));
   dtype = k.place.dtype;
   len = k.place.len;

@@ -27,7 +27,7 @@ use Rattle.vx_wire_tree.specs.ReadBack.{IsUnread, IsWritten, HasCountableMetadat
 use Rattle.vx_wire_tree.specs.Revised.{revised_holds}
 use Rattle.vx_wire_tree.specs.Session.{SessionMeaning, IsShipped, IsPaired, shipped, revised}
 use Rattle.vx_wire_tree.specs.Steps.{PlansChildren, HasParts, IsToldBy}
-use Rattle.vx_wire_tree.specs.Tells.{Tells}
+use Rattle.vx_wire_tree.specs.DecodesTo.{DecodesTo}
 use Rattle.vx_wire_tree.specs.Wire.{Wire, Wires, WireHead, IsWhole, ids_in, all_present}
 use Rattle.vx_wire_tree.specs.Returns.{IsOwnCanon, Returns}
 use Rattle.vx_wire_tree.specs.Taken.{taken, IsTaken, Unwritten, HasUntaken}
@@ -47,7 +47,7 @@ pub use Rattle.vx_wire_tree.proofs.TakenPlaces.{places_taken}
 -- Where primitives are not written under two identifiers, a body is written under its own.
 pub use Rattle.vx_wire_tree.proofs.TwoIdentifiers.{one_own}
 -- What a plugin builds is told.
-pub use Rattle.vx_wire_tree.proofs.Plugins.{plugin_tells}
+pub use Rattle.vx_wire_tree.proofs.Plugins.{plugin_decodes}
 -- What is written of an array that is read back matches its canon.
 pub use Rattle.vx_wire_tree.proofs.ReadAgain.{written_matches}
 
@@ -105,19 +105,19 @@ module _ (c : Codec) (s : SessionMeaning) where
       matched_unread w t m = Matched.matched_unread c s ok law w t m
 
       -- A wire tree tells at most one array of a type and a length.
-      pub one_tree : (w : Wire) (d : Typ) (n : ℕ) (t u : Tree) → Tells c s w d n t → Tells c s w d n u → t ≡ u
+      pub one_tree : (w : Wire) (d : Typ) (n : ℕ) (t u : Tree) → DecodesTo c s w d n t → DecodesTo c s w d n u → t ≡ u
       one_tree w d n t u x y =
           Unique.one_tree c s law ok w t u x.matched y.matched x.sound y.sound (x.normal ok) (y.normal ok) (x.dtype ∙ sym y.dtype) (x.len ∙ sym y.len)
 
       -- Where it tells one, no refusal has its cause.
-      pub never_refused : (r : Refusal) (w : Wire) (d : Typ) (n : ℕ) (t : Tree) → Tells c s w d n t → RefusesTree r c s w d n → ⊥
+      pub never_refused : (r : Refusal) (w : Wire) (d : Typ) (n : ℕ) (t : Tree) → DecodesTo c s w d n t → RefusesTree r c s w d n → ⊥
       never_refused r w d n t x k = NeverRefused.never_refused c s ok law r w d n t x k
 
       -- A sound array is told by its wire tree as it is read back, where each of its nodes is written, its metadata fits its
       -- message, of which the bytes can be counted, the types in it are known, and its statistics can be stored; and nothing
       -- reads its topmost foreign nodes.
       pub told_again : IsPaired s → (t : Tree) → IsSound t → IsUnread s t → IsWritten s t → HasMessages t → HasCountableMetadata c t → KnowsTypes s.ext t → HasStorableStats c t
-          → Tells c s (wire c s t) (label t).dtype (label t).len (canon c s t)
+          → DecodesTo c s (wire c s t) (label t).dtype (label t).len (canon c s t)
       told_again p t x u w m n k b = record {
         matched = ReadAgain.written_matches c s law t x (ReadAgain.reads_back c s ok p t u w m n k b);
         dtype = canon_dtype (spelled c s) (label t).dtype t;
@@ -128,20 +128,20 @@ module _ (c : Codec) (s : SessionMeaning) where
 
   -- A node whose children tell arrays where they are planned tells the array that is built of its parts, with
   -- the statistics that its field shows.
-  pub node_tells : IsLawful c s → (id : List ℕ) (e : Encoding) (w : WireHead) (ws : Wires) (d : Typ) (n : ℕ) (ps : List Place) (bs : List Buffer) (ts : Trees) (t u : Tree)
+  pub node_decodes : IsLawful c s → (id : List ℕ) (e : Encoding) (w : WireHead) (ws : Wires) (d : Typ) (n : ℕ) (ps : List Place) (bs : List Buffer) (ts : Trees) (t u : Tree)
       → w.id ≡ Some id → s.reader id ≡ Some (shipped e) → PlansChildren c s.ext e d n w.metadata (count ws) ps → w.buffers ≡ all_present bs
-      → HasChildren c s (node w ws) ps ts → HasParts c s.ext e d n w.metadata bs ts t → IsSound t → IsToldBy c d w.stats t u → Tells c s (node w ws) d n u
-  node_tells law id e w ws d n ps bs ts t u i r p b k x y z = Built.node_tells c s law id e w ws d n ps bs ts t u i (read_shipped (s.reader id) e id n r) p b k x y z
+      → HasChildren c s (node w ws) ps ts → HasParts c s.ext e d n w.metadata bs ts t → IsSound t → IsToldBy c d w.stats t u → DecodesTo c s (node w ws) d n u
+  node_decodes law id e w ws d n ps bs ts t u i r p b k x y z = Built.node_decodes c s law id e w ws d n ps bs ts t u i (read_shipped (s.reader id) e id n r) p b k x y z
 
   -- So does a node of primitives under two identifiers, whose identifier holds its length.
-  pub revised_tells : IsLawful c s → (id : List ℕ) (w : WireHead) (ws : Wires) (d : Typ) (n : ℕ) (ps : List Place) (bs : List Buffer) (ts : Trees) (t u : Tree)
+  pub revised_decodes : IsLawful c s → (id : List ℕ) (w : WireHead) (ws : Wires) (d : Typ) (n : ℕ) (ps : List Place) (bs : List Buffer) (ts : Trees) (t u : Tree)
       → w.id ≡ Some id → s.reader id ≡ Some revised → IsTrue (revised_holds id n) → PlansChildren c s.ext E.primitive d n w.metadata (count ws) ps → w.buffers ≡ all_present bs
-      → HasChildren c s (node w ws) ps ts → HasParts c s.ext E.primitive d n w.metadata bs ts t → IsSound t → IsToldBy c d w.stats t u → Tells c s (node w ws) d n u
-  revised_tells law id w ws d n ps bs ts t u i r h p b k x y z = Built.node_tells c s law id E.primitive w ws d n ps bs ts t u i (read_revised (s.reader id) id n r h) p b k x y z
+      → HasChildren c s (node w ws) ps ts → HasParts c s.ext E.primitive d n w.metadata bs ts t → IsSound t → IsToldBy c d w.stats t u → DecodesTo c s (node w ws) d n u
+  revised_decodes law id w ws d n ps bs ts t u i r h p b k x y z = Built.node_decodes c s law id E.primitive w ws d n ps bs ts t u i (read_revised (s.reader id) id n r h) p b k x y z
 
   -- A wire tree whose root nothing reads, under a session that allows such nodes, tells the array that is kept of it.
-  pub kept_tells : (id : List ℕ) (w : Wire) (d : Typ) (n : ℕ) (t : Tree) → (label w).id ≡ Some id → s.reader id ≡ None → IsTrue s.ext.unknown → IsKeptAs w d n t → Tells c s w d n t
-  kept_tells id w d n t i r allowed k = Kept.kept_tells c s id w d n t i r allowed k
+  pub kept_decodes : (id : List ℕ) (w : Wire) (d : Typ) (n : ℕ) (t : Tree) → (label w).id ≡ Some id → s.reader id ≡ None → IsTrue s.ext.unknown → IsKeptAs w d n t → DecodesTo c s w d n t
+  kept_decodes id w d n t i r allowed k = Kept.kept_decodes c s id w d n t i r allowed k
 
 -- An array that is its own canon, in which types are known, and that returns, is told as itself by what encodings and plugins
 -- write of it, where the bytes of the metadata that is written can be counted.

@@ -23,7 +23,7 @@ use Rattle.vx_wire_tree.specs.Reads.{IsMetadata}
 use Rattle.vx_wire_tree.specs.Revised.{revised_holds}
 use Rattle.vx_wire_tree.specs.Session.{SessionMeaning, Reader, shipped, revised, plugin, encoding_by, HoldsLength, IsShippedReader, IsShipped}
 use Rattle.vx_wire_tree.specs.Steps.{PlansChildren}
-use Rattle.vx_wire_tree.specs.Tells.{Tells}
+use Rattle.vx_wire_tree.specs.DecodesTo.{DecodesTo}
 use Rattle.vx_wire_tree.specs.Wire.{WireHead, Wire, Wires, all_present, IsWholeNode, IsWhole}
 use Rattle.vx_wire_tree.proofs.Unique.{all_present_inj, all_count, one_metadata, one_tree_each}
 
@@ -205,20 +205,20 @@ module _ (c : Codec) (s : SessionMeaning) where
       -- ---- the placed nodes of what is told are told at their places
 
       -- A placed child, with the array that it tells.
-      pub record ChildTells (t : Tree) (i : ℕ) (v : Wire) (p : Place) : Type 0 where
+      pub record ChildDecodesTo (t : Tree) (i : ℕ) (v : Wire) (p : Place) : Type 0 where
         pub array : Tree
-        pub tells : Tells c s v p.dtype p.len array
+        pub decodes_to : DecodesTo c s v p.dtype p.len array
         pub child : slice_get (roses_list (below t)) i ≡ Some array
 
       child_at : (w : Wire) (h : Head) (ts : Trees) (i : ℕ) (v : Wire) (p : Place) → Matches c s w (node h ts) → IsSound (node h ts) → IsNormal (node h ts)
-          → IsChild c s w h.dtype h.len i v p → ChildTells (node h ts) i v p
+          → IsChild c s w h.dtype h.len i v p → ChildDecodesTo (node h ts) i v p
       child_at w h ts i v p m y n k =
           let x = plan_told w h ts k.places m y.0 n.0 k.planned in
           let z = child_told (below w) ts i v x.told.told.children k.child in
           let q : place (label z.told).dtype (label z.told).len ≡ p = same_Some _ p (sym z.place_is ∙ ap (λ qs. slice_get qs i) (sym x.places_are) ∙ k.place) in
           record {
             array = z.told;
-            tells = record {
+            decodes_to = record {
               matched = z.matched;
               dtype = ap (λ a. a.dtype) q;
               len = ap (λ a. a.len) q;
@@ -229,33 +229,33 @@ module _ (c : Codec) (s : SessionMeaning) where
           }
 
       -- The child of what is told tells its array.
-      pub child_tells : (w : Wire) (d : Typ) (n : ℕ) (t : Tree) (i : ℕ) (v : Wire) (p : Place) → Tells c s w d n t → IsChild c s w d n i v p → ChildTells t i v p
-      child_tells w d n (node h ts) i v p x k =
+      pub child_decodes : (w : Wire) (d : Typ) (n : ℕ) (t : Tree) (i : ℕ) (v : Wire) (p : Place) → DecodesTo c s w d n t → IsChild c s w d n i v p → ChildDecodesTo t i v p
+      child_decodes w d n (node h ts) i v p x k =
           child_at w h ts i v p x.matched x.sound (x.normal ok) (subst (λ z. IsChild c s w z h.len i v p) (sym x.dtype) (subst (λ z. IsChild c s w d z i v p) (sym x.len) k))
 
       -- A claim that never holds of what is told does not hold of a placed node below it.
-      pub never_somewhere : (P : Claim) → ((w : Wire) (d : Typ) (n : ℕ) (t : Tree) → Tells c s w d n t → P w d n → ⊥)
-          → (path : List ℕ) (w : Wire) (d : Typ) (n : ℕ) (t : Tree) → Tells c s w d n t → HoldsAt c s P path w d n → ⊥
+      pub never_somewhere : (P : Claim) → ((w : Wire) (d : Typ) (n : ℕ) (t : Tree) → DecodesTo c s w d n t → P w d n → ⊥)
+          → (path : List ℕ) (w : Wire) (d : Typ) (n : ℕ) (t : Tree) → DecodesTo c s w d n t → HoldsAt c s P path w d n → ⊥
       never_somewhere P never [] w d n t x h = never w d n t x h
       never_somewhere P never (i ∷ path) w d n t x h =
-          let y = child_tells w d n t i h.0 h.1 x h.2 in
-          never_somewhere P never path h.0 h.1.dtype h.1.len y.array y.tells h.3
+          let y = child_decodes w d n t i h.0 h.1 x h.2 in
+          never_somewhere P never path h.0 h.1.dtype h.1.len y.array y.decodes_to h.3
 
       -- ---- the causes, one by one
 
-      not_unregistered : (w : Wire) (d : Typ) (n : ℕ) (t : Tree) → Tells c s w d n t → IsUnregistered s w d n → ⊥
+      not_unregistered : (w : Wire) (d : Typ) (n : ℕ) (t : Tree) → DecodesTo c s w d n t → IsUnregistered s w d n → ⊥
       not_unregistered w d n t x b = go (node_told w t x.matched)
         where
           go : ((e : Encoding) × IsEncodedBy e w t) ⊎ IsForeignBy w t → ⊥
           go (inl y) = not_both w y.0 b.unregistered y.1.by
           go (inr f) = closed_open s.ext.unknown b.closed f.allowed
 
-      metadata_told : (w : Wire) (d : Typ) (n : ℕ) (t : Tree) → Tells c s w d n t → HasBadMetadata c s w d n → ⊥
+      metadata_told : (w : Wire) (d : Typ) (n : ℕ) (t : Tree) → DecodesTo c s w d n t → HasBadMetadata c s w d n → ⊥
       metadata_told w d n t x y =
           let z = encoded_told w t y.encoding x.matched y.by in
           y.none (metadata_in (label t) (below t)) (subst (λ k. IsMetadata c s.ext y.encoding k (label w).metadata (metadata_in (label t) (below t))) x.dtype z.told.metadata)
 
-      stats_told : (w : Wire) (d : Typ) (n : ℕ) (t : Tree) → Tells c s w d n t → HasBadStats c s w d n → ⊥
+      stats_told : (w : Wire) (d : Typ) (n : ℕ) (t : Tree) → DecodesTo c s w d n t → HasBadStats c s w d n → ⊥
       stats_told w d n t x y = go (node_told w t x.matched)
         where
           go : ((e : Encoding) × IsEncodedBy e w t) ⊎ IsForeignBy w t → ⊥
@@ -317,16 +317,16 @@ module _ (c : Codec) (s : SessionMeaning) where
           k.foreign (subst (λ (z : Trees). IsControlledBy k.encoding h.dtype z) (sym r) (subst (λ (f : Encoding). IsControlledBy f h.dtype ts) x.told.encoding y.0.controlled))
 
       -- No plugin reads a node.
-      not_by_plugin : (w : Wire) (d : Typ) (n : ℕ) (t : Tree) → Tells c s w d n t → IsRefusedByPlugin c s w d n → ⊥
+      not_by_plugin : (w : Wire) (d : Typ) (n : ℕ) (t : Tree) → DecodesTo c s w d n t → IsRefusedByPlugin c s w d n → ⊥
       not_by_plugin w d n t x k = subst (λ r. IsShippedReader r) k.by.reader_is (ok.reads k.by.id)
 
       -- ---- all causes
 
       at_own : (P : Claim) → ((w : Wire) (h : Head) (ts : Trees) → Matches c s w (node h ts) → IsSound (node h ts) → IsNormal (node h ts) → P w h.dtype h.len → ⊥)
-          → (w : Wire) (d : Typ) (n : ℕ) (t : Tree) → Tells c s w d n t → P w d n → ⊥
+          → (w : Wire) (d : Typ) (n : ℕ) (t : Tree) → DecodesTo c s w d n t → P w d n → ⊥
       at_own P never w d n (node h ts) x k = never w h ts x.matched x.sound (x.normal ok) (subst (λ z. P w z h.len) (sym x.dtype) (subst (λ z. P w d z) (sym x.len) k))
 
-      pub never_refused : (r : Refusal) (w : Wire) (d : Typ) (n : ℕ) (t : Tree) → Tells c s w d n t → RefusesTree r c s w d n → ⊥
+      pub never_refused : (r : Refusal) (w : Wire) (d : Typ) (n : ℕ) (t : Tree) → DecodesTo c s w d n t → RefusesTree r c s w d n → ⊥
       never_refused out_of_bounds w d n t x k = never_under IsWholeNode LacksBuffer has_buffers k.0 w (whole w t x.matched) k.1
       never_refused unknown_index w d n t x k = never_under IsWholeNode LacksId has_id k.0 w (whole w t x.matched) k.1
       never_refused unknown_encoding w d n t x k = never_somewhere (IsUnregistered s) not_unregistered k.0 w d n t x k.1

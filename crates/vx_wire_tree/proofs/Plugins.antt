@@ -14,7 +14,7 @@ use Rattle.vx_wire_tree.specs.Matches.{IsNodeBy, IsPluginNode, AllMatch}
 use Rattle.vx_wire_tree.specs.Plugin.{PluginMeaning, head_at}
 use Rattle.vx_wire_tree.specs.Session.{SessionMeaning, plugin, IsShippedReader}
 use Rattle.vx_wire_tree.specs.Steps.{IsToldBy}
-use Rattle.vx_wire_tree.specs.Tells.{Tells}
+use Rattle.vx_wire_tree.specs.DecodesTo.{DecodesTo}
 use Rattle.vx_wire_tree.specs.Wire.{WireHead, Wires, all_present}
 
 -- Other statistics change neither the type nor the length.
@@ -26,10 +26,10 @@ told_len x (node h ts) = refl
 
 -- A node that a plugin reads tells the array that the plugin builds of its parts, with the statistics that its field shows,
 -- where its children tell sound arrays that stand where the plugin plans them.
-pub plugin_tells : (c : Codec) (s : SessionMeaning) → HasLawfulStats c → (id : List ℕ) (p : PluginMeaning) (w : WireHead) (ws : Wires) (d : Typ) (n : ℕ) (ps : List Place) (bs : List Buffer) (ts : Trees) (t u : Tree)
+pub plugin_decodes : (c : Codec) (s : SessionMeaning) → HasLawfulStats c → (id : List ℕ) (p : PluginMeaning) (w : WireHead) (ws : Wires) (d : Typ) (n : ℕ) (ps : List Place) (bs : List Buffer) (ts : Trees) (t u : Tree)
     → w.id ≡ Some id → s.reader id ≡ Some (plugin p) → p.plan (head_at id w (count ws) d n) s.ext ≡ Some ps → w.buffers ≡ all_present bs
-    → HasChildren c s (node w ws) ps ts → p.build (head_at id w (count ws) d n) bs ts s.ext ≡ Some t → IsSound t → IsToldBy c d w.stats t u → Tells c s (node w ws) d n u
-plugin_tells c s law id p w ws d n ps bs ts t u i r plan b k build sound y =
+    → HasChildren c s (node w ws) ps ts → p.build (head_at id w (count ws) d n) bs ts s.ext ≡ Some t → IsSound t → IsToldBy c d w.stats t u → DecodesTo c s (node w ws) d n u
+plugin_decodes c s law id p w ws d n ps bs ts t u i r plan b k build sound y =
     let planned : p.plan (head_at id w (count ws) d n) s.ext ≡ Some (places ts) = plan ∙ ap (λ (qs : List Place). Some qs) (sym k.placed) in
     let asked = p.as_asked (head_at id w (count ws) d n) bs ts s.ext t planned k.sound build in
     let told = with_stats y.stats t in
@@ -51,11 +51,11 @@ plugin_tells c s law id p w ws d n ps bs ts t u i r plan b k build sound y =
       shown = subst (λ (z : Typ). c.ShowsStats z w.stats y.stats) (sym dtype) y.shown;
       tree_is = refl;
     } in
-    let all : Tells c s (node w ws) d n told = record {
+    let all : DecodesTo c s (node w ws) d n told = record {
       matched = (id, i, subst (λ z. IsNodeBy c s z w ws told (λ us. AllMatch c s ws us)) (sym r) m);
       dtype = dtype;
       len = len;
       sound = stats_sound y.stats t sound fit;
       normal = λ ok. absurd (subst (λ z. IsShippedReader z) r (ok.reads id));
     } in
-    subst (λ (z : Tree). Tells c s (node w ws) d n z) (sym y.tree_is) all
+    subst (λ (z : Tree). DecodesTo c s (node w ws) d n z) (sym y.tree_is) all

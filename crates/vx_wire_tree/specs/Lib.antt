@@ -7,7 +7,7 @@ pub mod Plugin
 pub mod Revised
 pub mod Session
 pub mod Matches
-pub mod Tells
+pub mod DecodesTo
 pub mod Kept
 pub mod Written
 pub mod Taken

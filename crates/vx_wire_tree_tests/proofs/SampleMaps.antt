@@ -20,7 +20,7 @@ use Rattle.vx_wire_tree.specs.Fields as F
 use Rattle.vx_wire_tree.specs.Fields.{Fields}
 use Rattle.vx_wire_tree.specs.Matches.{Matches}
 use Rattle.vx_wire_tree.specs.Session.{SessionMeaning, Reader, shipped}
-use Rattle.vx_wire_tree.specs.Tells.{Tells}
+use Rattle.vx_wire_tree.specs.DecodesTo.{DecodesTo}
 use Rattle.vx_wire_tree.specs.Written.{wire}
 
 -- No byte tells the kind of offsets, and of lists that there is one element; numbers, structures and maps keep no metadata.
@@ -100,7 +100,7 @@ listed_matches = (
 )
 
 -- The list tells itself, where a list stands.
-listed_told : Tells codec session (wire codec session listed) (list_of entry_type) 1 listed
+listed_told : DecodesTo codec session (wire codec session listed) (list_of entry_type) 1 listed
 listed_told = record { matched = listed_matches; dtype = refl; len = refl; sound = listed_sound; normal = λ _. (tt, ((tt, (leaf, ((tt, one_leaf), tt))), one_leaf)) }
 
 -- As the entries of maps it is of the wrong shape, and the maps' node is where that shows.

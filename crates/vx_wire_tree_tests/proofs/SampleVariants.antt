@@ -68,7 +68,7 @@ bits_node = node (record { id = Some (codes "vortex.bool"); metadata = []; buffe
 abbrev numbers_node : Wire
 numbers_node = node (record { id = Some (codes "vortex.primitive"); metadata = []; buffers = Some (buffer (four (1 ∷ 2 ∷ [])) 2) ∷ []; stats = absent }) (more bits_node end)
 
--- Variants of this metadata over the core, with these nodes behind it.
+-- Variants of this metadata over the core, with these nodes after it.
 abbrev variants_node : List ℕ → Wires → Wire
 variants_node metadata ws = node (record { id = Some (codes "vortex.variant"); metadata = metadata; buffers = []; stats = absent }) (more core_node ws)
 
@@ -107,7 +107,7 @@ core_refused d = (
   ),
 )
 
--- Numbers behind it are a typed child.
+-- Numbers after it are a typed child.
 typed_matches : Matches (codec numbers) (session true) (variants_node (7 ∷ []) (more numbers_node end)) (variants (typed ∷ []))
 typed_matches = (
   codes "vortex.variant",

@@ -7,7 +7,7 @@ use std::{env, io};
 use vx_types::{Name, TypeError};
 use vxcat_core::{DirStore, Output, run};
 
-// The status for want of memory while the words are read.
+// The status for allocation failure while the words are read.
 const OUT_OF_MEMORY: u8 = 1;
 
 // The status for words that are no command, as those that are no text.
@@ -62,7 +62,7 @@ fn print(rt: &impl Print, text: &str) -> ExitCode {
     }
 }
 
-// The words behind the program's name.
+// The words after the program's name.
 fn words(alloc: Global, args: env::Args) -> Result<Vec<Name>, TypeError> {
     let mut words = Vec::new(alloc);
     for word in args.skip(1) {

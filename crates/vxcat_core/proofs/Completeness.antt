@@ -1,4 +1,4 @@
--- Where inputs can be recoded and no fault comes, a run ends well or for want of memory.
+-- Where inputs can be recoded and no fault comes, a run ends well or for allocation failure.
 use Rattle.std.proofs.Common.{◌≡◌, ◌⊎◌, inl, inr, ℕ, Option, Some, None, List, [], get_or, drop, length, refl, sym, ap, subst, ◌∙◌, arith}
 use Rattle.std.specs.Bool.{IsTrue}
 use Rattle.std.specs.List.{flat_map}
@@ -100,7 +100,7 @@ not_recode words line made first second = omega (arith, ap (λ (l : List (List �
 not_expr : (words : List (List ℕ)) (file : List ℕ) (made : Make) → InvokesExpr words file → InvokesMake words made → ⊥
 not_expr words file made first second = omega (arith, ap (λ (l : List (List ℕ)). length l) (sym first ∙ second.words_are))
 
--- A command that can end well does so, or for want of memory.
+-- A command that can end well does so, or for allocation failure.
 pub complete : (words : List (List ℕ)) (status : Status) (command : Command) (run : Run) → CanRun words run.before → HasNoFault run → Invokes words command → Ends status command run
     → (status_number status ≡ 0) ⊎ (status_number status ≡ 1)
 complete words status command run can none invoked ends = by_commands can.command can.invoked can.can_end command invoked ends where

@@ -38,7 +38,7 @@ read_as registry bytes e none read = subst (λ (r : Registry ScalarFn). ReadsExp
 pub as_read : (registry : Registry ScalarFn) (bytes : List ℕ) (e : Expr) → ((id : List ℕ) → registry id ≡ None) → IsReadAsExpression bytes e → ReadsExprBytes registry true bytes e
 as_read registry bytes e none read = subst (λ (r : Registry ScalarFn). ReadsExprBytes r true bytes e) (sym (same_registry registry none)) read
 
--- Bytes are refused where they are read as no expression, or for want of memory.
+-- Bytes are refused where they are read as no expression, or for allocation failure.
 pub refused : (e : FnWireError) (bytes : List ℕ) → ((x : Expr) → IsReadAsExpression bytes x → e ≡ error.OutOfMemory) → RefusesExpr (expr_status e) bytes
 refused error.OutOfMemory bytes complete = tt
 refused error.BadMessage bytes complete = λ x read. (let never = complete x read in cc)

@@ -19,7 +19,7 @@ cut (c ∷ l) (d ∷ m) x y nl nm is =
     let heads : c ≡ d = ap (λ (l : List ℕ). get_or l 0 0) is in
     ((λ i. heads i ∷ tails.0 i), tails.1)
 
--- one line, and what stands behind it
+-- one line, and what stands after it
 behind : (id : List ℕ) (ids : List (List ℕ)) (rest : List ℕ) → id_text (id ∷ ids) ++ rest ≡ id ++ 10 ∷ (id_text ids ++ rest)
 behind id ids rest = append_assoc (id ++ 10 ∷ []) (id_text ids) rest ∙ append_assoc id (10 ∷ []) (id_text ids ++ rest)
 
@@ -94,7 +94,7 @@ feed_free xs n first within = recursion_from_All (λ (b : ℕ). b ≢ 10) (take 
     let yes : get_or xs k d ≡ 10 = sym same ∙ is in
     grind (arith, nat_tests))
 
--- the first line of a text, and what stands behind its line feed
+-- the first line of a text, and what stands after its line feed
 pub first_line_is : (xs : List ℕ) → position_or_len is_feed xs < length xs → (xs ≡ before_first is_feed xs ++ 10 ∷ after_first is_feed xs) × NoFeed (before_first is_feed xs)
 first_line_is xs within =
     let at = position_or_len is_feed xs in

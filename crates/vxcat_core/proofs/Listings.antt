@@ -25,7 +25,7 @@ first_from : (buffers : List Buffer) (b : Buffer) → slice_get buffers 0 ≡ So
 first_from [] b at = absurd (cc)
 first_from (x ∷ xs) b at = let same : x ≡ b = cc in ap (λ (z : Buffer). length_text z ++ flat_map further_length xs) same
 
--- With the next buffer's length, the text goes on to what is left behind it.
+-- With the next buffer's length, the text goes on to what is left after it.
 pub lengths_next : (buffers : List Buffer) (i : ℕ) (b : Buffer) (old new : List ℕ) → slice_get buffers i ≡ Some b → old ++ lengths_from i buffers ≡ lengths_text buffers
     → (i ≡ 0 → new ≡ old ++ length_text b) → (0 < i → new ≡ old ++ further_length b) → new ++ lengths_from (i + 1) buffers ≡ lengths_text buffers
 lengths_next buffers zero b old new at so first further =

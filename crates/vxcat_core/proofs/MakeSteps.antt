@@ -54,7 +54,7 @@ type_refused array is t same e u status s = s ∙ ap type_status (type_memory e 
 -- ---- the blob
 
 module _ (array : Tree) (is : IsTable array) (s : SessionMeaning) (c : Context) (o : SerializeOptions) (session : s ≡ make_session) (context : c ≡ no_ids) (options : o ≡ make_options) where
-  -- A table is refused for want of memory alone.
+  -- A table is refused for allocation failure alone.
   pub once_refused : (e : WireError) → RefusesArray s array c o e → (status : Status) → status ≡ blob_status e → status ≡ OutOfMemory
   once_refused e r status same =
       let a = subst (λ (z : SessionMeaning). RefusesArray z array c o e) session r in

@@ -18,7 +18,7 @@ behind a b same = ap (λ (l : List (List ℕ)). drop 2 l) same
 behind_one : (a b : List (List ℕ)) → a ≡ b → drop 1 a ≡ drop 1 b
 behind_one a b same = ap (λ (l : List (List ℕ)). drop 1 l) same
 
--- The option at the front of words is determined by them, and so is what stands behind it.
+-- The option at the front of words is determined by them, and so is what stands after it.
 pub front : (c d : Setting) (rest other : List (List ℕ)) → IsInRange c → IsInRange d → setting_words c ++ rest ≡ setting_words d ++ other → (c ≡ d) × (rest ≡ other)
 front (pad n) (pad m) rest other fits also same = (ap (λ (k : ℕ). pad k) (decimal_injective n m fits also (second _ _ same)), behind _ _ same)
 front (rows n) (rows m) rest other few also same =

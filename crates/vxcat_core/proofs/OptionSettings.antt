@@ -22,7 +22,7 @@ none_some given e = absurd (cc)
 abbrev given : Option ℕ → Option ℕ → Option (List ℕ) → Bool → Bool → Bool → Given
 given p r a u d v = record { pad = p; rows = r; allow = a; unknown = u; deep = d; revised = v }
 
--- Each kind holds what it held before, and behind it what was given.
+-- Each kind holds what it held before, and after it what was given.
 record Adds (p r : Option ℕ) (a : Option (List ℕ)) (u d v : Bool) (more : List Setting) (after : Given) : Type 0 where
   pub pads : held after.pad ≡ held p ++ filter_map pad_of more
   pub rows : held after.rows ≡ held r ++ filter_map rows_of more

@@ -37,7 +37,7 @@ outputs_made asked made (Ok outputs) recoded faithful array buffers ids =
     record { made = made; recoded = recoded; faithful = faithful; holds = record { array_is = array; buffers_are = buffers; ids_are = ids } }
 outputs_made asked made (Err status) recoded faithful array buffers ids = tt
 
--- Want of memory needs no cause.
+-- Allocation failure needs no cause.
 pub memory_refused : (asked : Request) (result : Result Outputs Status) → IfErr result (λ status. status ≡ OutOfMemory) → IfErr result (λ status. RefusesBlob status asked)
 memory_refused asked (Ok made) memory = tt
 memory_refused asked (Err status) memory = subst (λ (s : Status). RefusesBlob s asked) (sym memory) tt
@@ -77,7 +77,7 @@ pub given_alike : (bytes others : List ℕ) (x : ExtMeaning) (result : Result DT
     → IfOk result (λ d. IsRead (ShowsType others) x (typ d))
 given_alike bytes others x result e p = subst (λ (m : List ℕ). IfOk result (λ d. IsRead (ShowsType m) x (typ d))) e p
 
--- A type file that is refused, but for want of memory, is read as no type.
+-- A type file that is refused, but for allocation failure, is read as no type.
 pub type_cause : (status : Status) (line : Recode) (loaded : Loaded) (bytes : List ℕ) (x : ExtMeaning) → bytes ≡ loaded.type_bytes → x ≡ readers_of line.settings → RefusesTypeFile status
     → ((t : Typ) → IsRead (ShowsType bytes) x t → status ≡ OutOfMemory) → RefusesInputs status line loaded
 type_cause OutOfMemory line loaded bytes x e p s complete = tt
@@ -91,7 +91,7 @@ type_cause WriteFault line loaded bytes x e p s complete = absurd s
 type_cause BadIds line loaded bytes x e p s complete = absurd s
 type_cause (Refused error) line loaded bytes x e p s complete = absurd s
 
--- Where what was loaded can be recoded, its type file is refused for want of memory alone.
+-- Where what was loaded can be recoded, its type file is refused for allocation failure alone.
 pub type_memory : (status : Status) (line : Recode) (loaded : Loaded) (bytes : List ℕ) (x : ExtMeaning) → bytes ≡ loaded.type_bytes → x ≡ readers_of line.settings
     → ((t : Typ) → IsRead (ShowsType bytes) x t → status ≡ OutOfMemory) → CanRecodeInputs line loaded → status ≡ OutOfMemory
 type_memory status line loaded bytes x e p complete can =
@@ -122,7 +122,7 @@ allowed_cause WriteFault line loaded h = absurd h
 allowed_cause BadType line loaded h = absurd h
 allowed_cause (Refused error) line loaded h = absurd h
 
--- A file of which something is read is refused for want of memory alone.
+-- A file of which something is read is refused for allocation failure alone.
 pub ids_memory : {A : Type 0} (status : Status) (Reads : A → Type 0) → RefusesIdFile status Reads → (ids : A) → Reads ids → status ≡ OutOfMemory
 ids_memory OutOfMemory Reads h ids r = refl
 ids_memory BadIds Reads h ids r = absurd (h ids r)
@@ -194,6 +194,6 @@ module _ (line : Recode) (loaded : Loaded) (dtype : Typ) (read_ids ids : List (L
       let same : asked_by line loaded can.terms ≡ asked_by line loaded terms = λ k. asked_by line loaded (record { dtype = types k; ids = same_ids k; allowed = alloweds k }) in
       complete (subst CanRecode (same ∙ sym asked) can.can_recode)
 
--- Where the refusal of a blob is want of memory, so is the status.
+-- Where the refusal of a blob is allocation failure, so is the status.
 pub memory_status : (error : WireError) (status : Status) → status ≡ blob_status error → error ≡ wire.OutOfMemory → status ≡ OutOfMemory
 memory_status error status is memory = is ∙ ap blob_status memory

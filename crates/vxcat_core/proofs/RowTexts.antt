@@ -23,13 +23,13 @@ smaller_value [] i v h q = absurd (omega (arith, h))
 smaller_value (u ∷ vs) zero v h q = let e : nodes (plain_value v) ≡ nodes (plain_value u) = ap (λ (w : RowValue). nodes (plain_value w)) q in omega (arith, e)
 smaller_value (u ∷ vs) (suc i) v h q = let g : i < length vs = omega (arith, h) in omega (arith, smaller_value vs i v g q)
 
--- ---- texts that are parted
+-- ---- texts that are split
 
 abbrev pub is_first : List (List ℕ) → Bool
 is_first [] = true
 is_first (text ∷ texts) = false
 
--- One text more stands behind the others.
+-- One text more stands after the others.
 parted-more : (texts : List (List ℕ)) (text : List ℕ) → parted (texts ++ text ∷ []) ≡ parted texts ++ (if is_first texts then text else further_text text)
 parted-more [] text = append-nil text
 parted-more (first ∷ texts) text =

@@ -22,14 +22,14 @@ use Rattle.vx_array_tree.specs.Tree.{Tree}
 use Rattle.vx_scalars.specs.Stats.{no_stats}
 use Rattle.vx_flat.specs.Blocks.{Block, table_block, elements_block, links_block, text_block, blocks}
 use Rattle.vx_flat.specs.declared.writing.block.Cell.{Cell}
-use Rattle.vx_flat.specs.declared.writing.block.Spot.{Spot}
+use Rattle.vx_flat.specs.declared.writing.block.BlockOffsets.{BlockOffsets}
 use Rattle.vx_flat.specs.Building.{nothing_built, with_pieces}
 use Rattle.vx_flat.specs.FieldTables.{align, inline_end, field_table_bytes}
 use Rattle.vx_flat.specs.Layout.{length_of, written_layout, shares}
-use Rattle.vx_flat.specs.Limits.{limits, IsLight}
+use Rattle.vx_flat.specs.Limits.{limits, KeepsLimits}
 use Rattle.vx_flat.specs.Pieces.{pieces}
 use Rattle.vx_flat.specs.Schema.{Schema}
-use Rattle.vx_flat.specs.Spots.{Known, known_at, table_spot, spot, intern, spots, last_end}
+use Rattle.vx_flat.specs.BlockOffsets.{Known, known_at, table_offsets, offsets, intern, block_offsets, last_end}
 use Rattle.vx_flat.specs.Value.{Fields, table, elements, field, no_fields}
 use Rattle.vx_flat.specs.ValueWeight.{weight_of}
 use Rattle.vx_flat.specs.Weight.{weight}
@@ -42,7 +42,7 @@ use Rattle.vx_wire_tree.specs.ReadBack.{IsReadAs, IsWritten, ReadsBack}
 use Rattle.vx_wire_tree.specs.Session.{IsShipped, shipped}
 use Rattle.vx_wire_tree.specs.Taken.{unregistered, unserializable, undeclared, unwilling}
 use Rattle.vx_wire_tree.specs.Wire.{Wire, buffers_in, ids_in}
-use Rattle.vx_wire_tree.specs.Tells.{Tells}
+use Rattle.vx_wire_tree.specs.DecodesTo.{DecodesTo}
 use Rattle.vx_wire_tree.specs.Matches.{Matches}
 use Rattle.vx_wire_tree.specs.Written.{wire, canon, body_id, writes_two}
 use Rattle.vx_wire_tree.proofs.Laws.{canon_own, never_untaken, taken_whole, written_matches}
@@ -91,21 +91,21 @@ sizes (b ∷ bs) = size b + sizes bs
 aligned : (p : ℕ) → align 8 p ≤ p + 7
 aligned p = omega arith
 
-table_end : (p : ℕ) (cs : List Cell) (o : Option ℕ) → (table_spot p cs o).end ≤ p + (align 8 (4 + 2 * length cs) + inline_end 4 cs)
+table_end : (p : ℕ) (cs : List Cell) (o : Option ℕ) → (table_offsets p cs o).end ≤ p + (align 8 (4 + 2 * length cs) + inline_end 4 cs)
 table_end p cs None = omega arith
 table_end p cs (Some q) = omega arith
 
-spot_end : (known : Known) (p : ℕ) (b : Block) → (spot known (align 8 p) b).end ≤ p + size b
-spot_end known p (table_block cs) = omega (arith, aligned p, table_end (align 8 p) cs (known_at known (field_table_bytes cs)))
-spot_end known p (elements_block n bs) = omega (arith, aligned p)
-spot_end known p (links_block ls) = omega (arith, aligned p)
-spot_end known p (text_block bs) = omega (arith, aligned p)
+offsets_end : (known : Known) (p : ℕ) (b : Block) → (offsets known (align 8 p) b).end ≤ p + size b
+offsets_end known p (table_block cs) = omega (arith, aligned p, table_end (align 8 p) cs (known_at known (field_table_bytes cs)))
+offsets_end known p (elements_block n bs) = omega (arith, aligned p)
+offsets_end known p (links_block ls) = omega (arith, aligned p)
+offsets_end known p (text_block bs) = omega (arith, aligned p)
 
-ends : (sharing : Bool) (known : Known) (p : ℕ) (bs : List Block) → last_end p (spots sharing known p bs) ≤ p + sizes bs
+ends : (sharing : Bool) (known : Known) (p : ℕ) (bs : List Block) → last_end p (block_offsets sharing known p bs) ≤ p + sizes bs
 ends sharing known p [] = omega arith
 ends sharing known p (b ∷ bs) =
-    let s : Spot = spot known (align 8 p) b in
-    omega (arith, spot_end known p b, ends sharing (intern sharing known s b) s.end bs)
+    let s : BlockOffsets = offsets known (align 8 p) b in
+    omega (arith, offsets_end known p b, ends sharing (intern sharing known s b) s.end bs)
 
 pub layout_short : (s : Schema) (v : Fields) → length (written_layout s v) ≤ 8 + sizes (blocks s v)
 unfolding length_of
@@ -120,7 +120,7 @@ varint_short (suc left) n = at (varint_short left (n / 128)) (nat_lt n 128) wher
   at h true = omega arith
   at h false = omega (arith, h)
 
--- The number of elements behind its key, or nothing where it is 0.
+-- The number of elements after its key, or nothing where it is 0.
 abbrev counted : Bool → ℕ → List ℕ
 counted b n = if b then [] else 8 ∷ varint_within 10 n
 
@@ -168,8 +168,8 @@ table_value flags texts lists descriptors = field (table (node_value (table_node
 value_short : (flags texts lists descriptors : List ℕ) → sizes (blocks array_schema (table_value flags texts lists descriptors)) ≤ 4000 + (length flags + length texts + length lists + length descriptors)
 value_short flags texts lists descriptors = omega arith
 
-pub value_light : (flags texts lists descriptors : List ℕ) → length flags + length texts + length lists + length descriptors ≤ 1000 → IsLight limits (weight_of (table_value flags texts lists descriptors))
-value_light flags texts lists descriptors few = (omega arith, omega arith, omega (arith, few))
+pub value_within_limits : (flags texts lists descriptors : List ℕ) → length flags + length texts + length lists + length descriptors ≤ 1000 → KeepsLimits limits (weight_of (table_value flags texts lists descriptors))
+value_within_limits flags texts lists descriptors few = (omega arith, omega arith, omega (arith, few))
 
 -- ---- the table
 
@@ -357,20 +357,20 @@ module _ (seed rows : ℕ) (h : rows ≤ 1000000) where
       (value_short (bool_bytes 0) (dict_bytes dict_fields) (list_bytes (columns seed rows rows).count U32) (descriptors_bytes ds)) in
       omega (arith, layout_short array_schema value, bound, parts_short)
 
-  message_light : IsLight limits (weight array_schema (message_bytes table_ids make_options w))
-  message_light =
+  message_within_limits : KeepsLimits limits (weight array_schema (message_bytes table_ids make_options w))
+  message_within_limits =
       let placed = placed_from_ids table_ids w (wire-whole codec make_session t) (grown_by-placed (ids_in w) no_ids (record { ids = table_ids; allowed = None }) (table_grows seed rows)).placed in
       let of = message_value_is_of (numbered table_ids 0 w) ds (numbered_fits table_ids 0 w (omega (arith, table_few seed rows)) placed (wire-tabled make_session t)) in
       let shown = shows-layout value of (omega (arith, message_short)) in
-      let light = subst (λ (z : Fields). IsLight limits (weight_of z)) (sym value_is)
-      (value_light (bool_bytes 0) (dict_bytes dict_fields) (list_bytes (columns seed rows rows).count U32) (descriptors_bytes ds) (omega (arith, parts_short))) in
-      subst (λ z. IsLight limits z) (sym (weight-shown array_schema (message_bytes table_ids make_options w) value shown)) light
+      let within_limits = subst (λ (z : Fields). KeepsLimits limits (weight_of z)) (sym value_is)
+      (value_within_limits (bool_bytes 0) (dict_bytes dict_fields) (list_bytes (columns seed rows rows).count U32) (descriptors_bytes ds) (omega (arith, parts_short))) in
+      subst (λ z. KeepsLimits limits z) (sym (weight-shown array_schema (message_bytes table_ids make_options w) value shown)) within_limits
 
   writable : IsWritable table_ids make_options w
   writable = record {
     tree = record { nested = omega (arith, table_nested seed rows); few = omega (arith, table_few seed rows); describable = table_describable seed rows h };
     short = omega (arith, message_short);
-    light = message_light;
+    within_limits = message_within_limits;
     ends = omega (arith, length-blob table_ids make_options w, data_small seed rows h, message_short);
   }
 
@@ -387,7 +387,7 @@ module _ (seed rows : ℕ) (h : rows ≤ 1000000) where
   pub table_own : canon codec make_session t ≡ t
   table_own = canon_own codec make_session t (made_sound seed rows h) (made_normal seed rows) (made_stats seed rows)
 
-  table_told : Tells codec make_session w (label t).dtype (label t).len t
+  table_told : DecodesTo codec make_session w (label t).dtype (label t).len t
   table_told =
       let sound = made_sound seed rows h in
       let normal = made_normal seed rows in
@@ -411,17 +411,17 @@ module _ (seed rows : ℕ) (h : rows ≤ 1000000) where
         subst (λ (b : List ℕ). Spells b after.ids (label t).dtype (label t).len make_session t) (sym blob.written)
         (told_spelled make_session t no_ids after make_options blob.grown_is blob.limits (label t).dtype (label t).len t table_told)
 
-    written_light : KeepsReaderLimits make_options (blob_of make_session t no_ids make_options)
-    written_light =
+    written_within_limits : KeepsReaderLimits make_options (blob_of make_session t no_ids make_options)
+    written_within_limits =
         let ids = ids_after make_session t no_ids in
         let bytes = data_from make_options 0 (buffers_in w) in
         let zeros : List ℕ = replicate (message_pad make_options w) 0 in
         let fit = blob.limits.writable in
         let own = is_blob bytes zeros (message_bytes ids make_options w) fit.short in
         record {
-          light = λ segment message is.
-              let P : List ℕ → Type 0 = λ m. IsLight limits (weight array_schema m) in
-              subst P (one_blob (blob_bytes ids make_options w) (bytes ++ zeros) segment (message_bytes ids make_options w) message own is).1 fit.light;
+          within_limits = λ segment message is.
+              let P : List ℕ → Type 0 = λ m. KeepsLimits limits (weight array_schema m) in
+              subst P (one_blob (blob_bytes ids make_options w) (bytes ++ zeros) segment (message_bytes ids make_options w) message own is).1 fit.within_limits;
         }
 
     -- It can be recoded.
@@ -429,7 +429,7 @@ module _ (seed rows : ℕ) (h : rows ≤ 1000000) where
     table_again = record {
       array = t;
       spelled = table_spelled;
-      reader_limits = subst (λ (b : List ℕ). KeepsReaderLimits make_options b) (sym blob.written) written_light;
+      reader_limits = subst (λ (b : List ℕ). KeepsReaderLimits make_options b) (sym blob.written) written_within_limits;
       writer_limits = blob.limits;
       grows = ap is_some blob.grown_is;
     }
@@ -437,7 +437,7 @@ module _ (seed rows : ℕ) (h : rows ≤ 1000000) where
 -- ---- the bytes of its type
 
 type_writable : T.IsWritable made_type
-type_writable = record { shallow = omega arith; light = (omega arith, omega arith, omega arith) }
+type_writable = record { shallow = omega arith; within_limits = (omega arith, omega arith, omega arith) }
 
 type_fits : length (with_pieces nothing_built (pieces type_schema (type_table made_type))).bytes ≤ 1000
 type_fits = omega arith

@@ -34,7 +34,7 @@ two_lines e bytes = expr_text e ++ (codes "\n" ++ (encode_lower bytes ++ codes "
 abbrev pub lines_of : Expr → List ℕ
 lines_of e = two_lines e (written expr_lists 0 (expr_message e))
 
--- Why bytes have no lines: they are read as no expression. Want of memory needs no cause.
+-- Why bytes have no lines: they are read as no expression. Allocation failure needs no cause.
 abbrev pub RefusesExpr : Status → List ℕ → Type 0
 RefusesExpr OutOfMemory bytes = Unit {0}
 RefusesExpr BadExpression bytes = (e : Expr) → ¬ (IsReadAsExpression bytes e)

@@ -11,7 +11,7 @@ use Rattle.vxcat_core.specs.RowText.{value_text}
 abbrev pub length_text : Buffer → List ℕ
 length_text buffer = decimal (length buffer.bytes)
 
--- Each further buffer stands behind a comma and a space.
+-- Each further buffer stands after a comma and a space.
 abbrev pub further_length : Buffer → List ℕ
 further_length buffer = codes ", " ++ length_text buffer
 

@@ -110,7 +110,7 @@ pub data Output : Type 0 where
   at_blob : Output
   at_ids : Output
 
--- The outputs before that one are saved, and those behind it were not touched. What stands at its own name is not said.
+-- The outputs before that one are saved, and those after it were not touched. What stands at its own name is not said.
 abbrev pub StopsAt : Output → Make → StoreState → StoreState → MadeFiles → Type 0
 StopsAt at_type line before after files = KeepsName before after line.out × KeepsName before after line.id_file
 StopsAt at_blob line before after files = Stands after line.type_file files.type_bytes × KeepsName before after line.id_file

@@ -2,7 +2,7 @@
 use Rattle.std.specs.Prelude.{ℕ, ◌<◌, ◌≤◌, ◌^◌, Bool, true, false, List, [], ◌∷◌, Option, Some, None, codes, decimal, length, slice_get, unwrap_or}
 use Rattle.std.specs.List.{AllByRecursion, filter_map}
 
--- An option behind the words of a command: the position at which pads are written as if the blob stood there, how many rows
+-- An option after the words of a command: the position at which pads are written as if the blob stood there, how many rows
 -- a listing has, the file of the identifiers that the new blob may have, that unknown encodings and unknown extensions are
 -- allowed, that deep trees are, or that primitives have two identifiers.
 pub data Setting : Type 0 where
@@ -13,7 +13,7 @@ pub data Setting : Type 0 where
   deep : Setting
   revised : Setting
 
--- An option is written as its name, and behind it its number or the file's name, if it has one.
+-- An option is written as its name, and after it its number or the file's name, if it has one.
 abbrev pub setting_words : Setting → List (List ℕ)
 setting_words (pad n) = codes "--pad" ∷ decimal n ∷ []
 setting_words (rows n) = codes "--rows" ∷ decimal n ∷ []

@@ -36,7 +36,7 @@ pub record Recode : Type 0 where
   pub out_ids : List ℕ
   pub settings : Settings
 
--- The words are `recode TYPE BLOB LEN IDS OUT OUTIDS` with options behind them. A number is written in decimal digits
+-- The words are `recode TYPE BLOB LEN IDS OUT OUTIDS` with options after them. A number is written in decimal digits
 -- without leading zeros and lies below 2^64, and the names of the two outputs differ; an output may have the name of an
 -- input.
 pub record InvokesRecode (words : List (List ℕ)) (line : Recode) : Type 0 where
@@ -154,7 +154,7 @@ pub record CanRecodeInputs (line : Recode) (loaded : Loaded) : Type 0 where
 
 -- Why what was loaded is not recoded: the type file shows no type within the limits, or one with an extension that is not
 -- allowed; an id file, or the file of those that are allowed, is no text of at most 65,536 lines; or the blob is refused at
--- the type and with the identifiers that were read. Want of memory needs no cause.
+-- the type and with the identifiers that were read. Allocation failure needs no cause.
 abbrev pub RefusesInputs : Status → Recode → Loaded → Type 0
 RefusesInputs OutOfMemory line loaded = Unit {0}
 RefusesInputs BadType line loaded = (dtype : Typ) → ¬ (IsRead (ShowsType loaded.type_bytes) (readers_of line.settings) dtype)

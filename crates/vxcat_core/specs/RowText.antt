@@ -14,7 +14,7 @@ use Rattle.vx_numbers.specs.declared.value.PValue.TheVariants.{U8, U16, U32, U64
 
 -- ---- values without values in them
 
--- Bytes as hex digits, two for each, behind `0x`.
+-- Bytes as hex digits, two for each, after `0x`.
 abbrev pub hex_text : List ℕ → List ℕ
 hex_text bytes = codes "0x" ++ encode_lower bytes
 
@@ -42,17 +42,17 @@ decimal_text (i64 z) = signed_decimal z
 decimal_text (i128 z) = signed_decimal z
 decimal_text (i256 bytes) = hex_text (reverse bytes)
 
--- A text, and bytes, as hex digits behind an `x`.
+-- A text, and bytes, as hex digits after an `x`.
 abbrev pub bytes_text : List ℕ → List ℕ
 bytes_text bytes = codes "x" ++ encode_lower bytes
 
 -- ---- values with values in them
 
--- A further text stands behind a comma and a space.
+-- A further text stands after a comma and a space.
 abbrev pub further_text : List ℕ → List ℕ
 further_text text = codes ", " ++ text
 
--- Texts one after the other, parted by a comma and a space.
+-- Texts one after the other, split by a comma and a space.
 abbrev pub parted : List (List ℕ) → List ℕ
 parted [] = []
 parted (text ∷ texts) = text ++ flat_map further_text texts

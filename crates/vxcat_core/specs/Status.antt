@@ -30,7 +30,7 @@ wire_error refusal.NotSerializable = wire.NotSerializable
 wire_error refusal.UndeclaredId = wire.UndeclaredId
 wire_error refusal.PluginRefused = wire.PluginRefused
 
--- The process ends with 0 where all went well, 1 for want of memory, 2 where the words match no command, 3, 4 or 5
+-- The process ends with 0 where all went well, 1 for allocation failure, 2 where the words match no command, 3, 4 or 5
 -- where a load, a save or a write failed, 6, 7 or 8 for a bad type file, id file or expression file, and else with the blob's refusal.
 abbrev pub status_number : Status → ℕ
 status_number Done = 0

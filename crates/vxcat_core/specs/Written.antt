@@ -2,7 +2,7 @@
 use Rattle.std.specs.Prelude.{◌≡◌, ℕ, Option, List, ◌++◌}
 use Rattle.std.specs.Io.KnownBytes.{Appends}
 
--- A front is a prefix of a text where the text is the front and something behind it.
+-- A front is a prefix of a text where the text is the front and something after it.
 abbrev pub IsPrefixOf : List ℕ → List ℕ → Type 0
 IsPrefixOf front text = (rest : List ℕ) × (front ++ rest ≡ text)
 

@@ -44,7 +44,7 @@ impl<'a, R: Files> DirStore<'a, R> {
 
     // Counts a save that failed.
     fn count_save(&mut self, saved: Result<(), StoreError>) -> Result<(), StoreError>
-        ensures never_falls { self.old.save_faults ≤ self.new.save_faults }
+        ensures never_decreases { self.old.save_faults ≤ self.new.save_faults }
         ensures ok { IsOk saved → (result ≡ saved) × (self.new ≡ self.old) }
         ensures err { IsErr saved → IsErrOf result store_error.Failed
             × (self.new ≡ record self.old { save_faults = min (self.old.save_faults + 1) (2 ^ 64 - 1) }) }
@@ -136,7 +136,7 @@ fn save_file<R: Files>(files: &R, name: &Name, bytes: &[u8]) -> Result<(), Store
     flush(&mut file)
 }
 
-// Gathers a small piece behind others, or writes them and the piece where it has no room among them.
+// Gathers a small piece after others, or writes them and the piece where it has no room among them.
 fn gather<F: Write>(file: &mut F, gathered: &mut Vec<u8>, piece: &[u8]) -> Result<(), StoreError> {
     let room = PIECE.saturating_sub(gathered.len());
     if piece.len() <= room && gathered.extend_from_slice(piece).is_ok() {

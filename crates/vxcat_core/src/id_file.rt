@@ -81,7 +81,7 @@ fn push_line(alloc: Global, ids: &mut Ids, line: &str) -> Result<(), IdFileError
 /// The text of identifiers: each on a line, which a line feed ends.
 ///
 /// # Errors
-/// Want of memory.
+/// Allocation failure.
 pub fn write_ids(alloc: Global, ids: &Ids) -> Result<Vec<u8>, AllocError>
     ensures { IfOk result (λ bytes. bytes.items ≡ id_text ids.now) }
 {

@@ -30,7 +30,7 @@ pub fn print_listing<O: Sink>(
 ) -> Result<(), PrintError>
     ensures ok { OnOk result (Appends (O.state out.old).written (O.state out.new).written (listing array.now rows)) }
     ensures prefix { AppendsPrefix (O.state out.old).written (O.state out.new).written (listing array.now rows) }
-    ensures never_falls { (O.state out.old).faults ≤ (O.state out.new).faults }
+    ensures never_decreases { (O.state out.old).faults ≤ (O.state out.new).faults }
     ensures fault { IsErrOf result print_error.Failed → HasRisen (O.state out.old).faults (O.state out.new).faults }
 {
     let mut nodes = String::new(alloc);
@@ -82,7 +82,7 @@ fn lengths_text(alloc: Global, array: &Array) -> Result<String, AllocError>
     Ok(text)
 }
 
-// Appends the length of buffer i, behind a comma and a space but for the first.
+// Appends the length of buffer i, after a comma and a space but for the first.
 fn push_length(text: &mut String, i: usize, len: usize) -> Result<(), AllocError>
     ensures first { i ≡ 0 → OnOk result (string_bytes text.new ≡ string_bytes text.old ++ decimal len) }
     ensures further { 0 < i → OnOk result (string_bytes text.new ≡ string_bytes text.old ++ (codes ", " ++ decimal len)) }
@@ -103,7 +103,7 @@ fn print_rows<O: Sink>(
         (row_lines array.now 0 (min rows (label array.now).len))) }
     ensures prefix { AppendsPrefix (O.state out.old).written (O.state out.new).written
         (row_lines array.now 0 (min rows (label array.now).len)) }
-    ensures never_falls { (O.state out.old).faults ≤ (O.state out.new).faults }
+    ensures never_decreases { (O.state out.old).faults ≤ (O.state out.new).faults }
     ensures fault { IsErrOf result print_error.Failed → HasRisen (O.state out.old).faults (O.state out.new).faults }
 {
     let shown = rows.min(array.len());

@@ -102,13 +102,13 @@ impl Store for MemStore {
       save_faults = s.save_faults;
     } };
 
-    /// The file at the name. Want of memory counts no fault.
+    /// The file at the name. Allocation failure counts no fault.
     fn load(&mut self, alloc: Global, name: &Name) -> Result<Blob, StoreError>
         ensures bytes { IfOk result (λ bytes. (⟦<MemStore as Store>⟧.state self.old).file name.now ≡ Some bytes) }
         ensures rest { ⟦<MemStore as Store>⟧.state self.new ≡ record (⟦<MemStore as Store>⟧.state self.old) { asked = (⟦<MemStore as Store>⟧.state self.new).asked; load_faults = (⟦<MemStore as Store>⟧.state self.new).load_faults } }
         ensures asked { ((⟦<MemStore as Store>⟧.state self.new).asked ≡ (⟦<MemStore as Store>⟧.state self.old).asked ++ name.now ∷ [])
             ⊎ (((⟦<MemStore as Store>⟧.state self.new).asked ≡ (⟦<MemStore as Store>⟧.state self.old).asked) × IsErrOf result StoreError.OutOfMemory) }
-        ensures never_falls { (⟦<MemStore as Store>⟧.state self.old).load_faults ≤ (⟦<MemStore as Store>⟧.state self.new).load_faults }
+        ensures never_decreases { (⟦<MemStore as Store>⟧.state self.old).load_faults ≤ (⟦<MemStore as Store>⟧.state self.new).load_faults }
         ensures no_fault { OnOk result ((⟦<MemStore as Store>⟧.state self.new).load_faults ≡ (⟦<MemStore as Store>⟧.state self.old).load_faults) }
         ensures no_memory { IsErrOf result StoreError.OutOfMemory → (⟦<MemStore as Store>⟧.state self.new).load_faults ≡ (⟦<MemStore as Store>⟧.state self.old).load_faults }
         ensures fault { IsErrOf result StoreError.Failed
@@ -128,14 +128,14 @@ impl Store for MemStore {
         Err(StoreError::Failed)
     }
 
-    /// Puts the file at the name. A refused save changes no file, and want of memory counts no fault.
+    /// Puts the file at the name. A refused save changes no file, and allocation failure counts no fault.
     #[tactic(auto, using(std::proofs::lemmas::Map::Text::text_keys))]
     fn save(&mut self, alloc: Global, name: &Name, bytes: &[u8]) -> Result<(), StoreError>
         ensures saved { OnOk result ((⟦<MemStore as Store>⟧.state self.new).file name.now ≡ Some bytes.now) }
         ensures others { (other : List ℕ) → other ≢ name.now → (⟦<MemStore as Store>⟧.state self.new).file other ≡ (⟦<MemStore as Store>⟧.state self.old).file other }
         ensures unchanged { OnErr result ((⟦<MemStore as Store>⟧.state self.new).file ≡ (⟦<MemStore as Store>⟧.state self.old).file) }
         ensures rest { ⟦<MemStore as Store>⟧.state self.new ≡ record (⟦<MemStore as Store>⟧.state self.old) { file = (⟦<MemStore as Store>⟧.state self.new).file; save_faults = (⟦<MemStore as Store>⟧.state self.new).save_faults } }
-        ensures never_falls { (⟦<MemStore as Store>⟧.state self.old).save_faults ≤ (⟦<MemStore as Store>⟧.state self.new).save_faults }
+        ensures never_decreases { (⟦<MemStore as Store>⟧.state self.old).save_faults ≤ (⟦<MemStore as Store>⟧.state self.new).save_faults }
         ensures no_fault { OnOk result ((⟦<MemStore as Store>⟧.state self.new).save_faults ≡ (⟦<MemStore as Store>⟧.state self.old).save_faults) }
         ensures no_memory { IsErrOf result StoreError.OutOfMemory → (⟦<MemStore as Store>⟧.state self.new).save_faults ≡ (⟦<MemStore as Store>⟧.state self.old).save_faults }
         ensures fault { IsErrOf result StoreError.Failed

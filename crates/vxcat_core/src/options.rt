@@ -1,4 +1,4 @@
-//! The options behind the words of a command.
+//! The options after the words of a command.
 
 ghost use Rattle.std.specs.Prelude.{◌≡◌, ◌≢◌, ℕ, List, ◌++◌, IfSome, IfNone, option_map};
 ghost use Rattle.vxcat_core.specs.Options.{IsInRange, Setting, setting_words};
@@ -10,7 +10,7 @@ use vx_types::Name;
 /// How many rows a listing may have.
 pub const MAX_ROWS: u64 = 1000;
 
-/// An option behind the words of a command.
+/// An option after the words of a command.
 #[derive(Clone, Copy)]
 pub enum Choice<'a> {
     /// `--pad OFFSET`: the blob is written with pads, as at this position.
@@ -84,7 +84,7 @@ impl<'a> Options<'a> {
     }
 }
 
-/// The option at the front of the words, and the words behind it.
+/// The option at the front of the words, and the words after it.
 pub fn next_choice<'a>(words: &'a [Name]) -> Option<(Choice<'a>, &'a [Name])>
     ensures spelled { IfSome result (λ found. words.now ≡ setting_words (setting_of found.0) ++ found.1.now) }
     ensures in_range { IfSome result (λ found. IsInRange (setting_of found.0)) }

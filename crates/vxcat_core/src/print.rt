@@ -16,7 +16,7 @@ pub enum PrintError {
     /// Memory was wanted for the text and not to be had.
     #[error("out of memory")]
     OutOfMemory,
-    /// A write failed, behind none or some of the text.
+    /// A write failed, after none or some of the text.
     #[error("the text could not be written")]
     Failed,
 }
@@ -44,7 +44,7 @@ impl From<SinkError> for PrintError {
 pub fn write_text<O: Sink>(out: &mut O, text: &[u8]) -> Result<(), SinkError>
     ensures ok { OnOk result (Appends (O.state out.old).written (O.state out.new).written text.now) }
     ensures prefix { AppendsPrefix (O.state out.old).written (O.state out.new).written text.now }
-    ensures never_falls { (O.state out.old).faults ≤ (O.state out.new).faults }
+    ensures never_decreases { (O.state out.old).faults ≤ (O.state out.new).faults }
     ensures fault { OnErr result (HasRisen (O.state out.old).faults (O.state out.new).faults) }
 {
     let mut rest = text;

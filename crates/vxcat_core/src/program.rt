@@ -17,7 +17,7 @@ use vx_types::Name;
 /// Runs the command that the words invoke, and answers the status with which the program is to end.
 ///
 /// The words stand without the program's name. `recode TYPE BLOB LEN IDS OUT OUTIDS`, with
-/// `--pad OFFSET`, `--rows N`, `--allow FILE`, `--unknown`, `--deep` and `--rev2` behind, loads TYPE, BLOB, IDS and FILE,
+/// `--pad OFFSET`, `--rows N`, `--allow FILE`, `--unknown`, `--deep` and `--rev2` after, loads TYPE, BLOB, IDS and FILE,
 /// saves OUT and OUTIDS, and prints the listing of the array. `expr FILE` loads FILE, reads an expression of
 /// it, and prints its text and the bytes by which it is written again, as hex digits, each on a line.
 /// `make SEED ROWS TYPE OUT IDS` generates a table, saves its type, its blob and the blob's

@@ -15,12 +15,12 @@ use vx_scalars::{DecimalValue, Scalar, bare_dtype};
 use vx_types::{DType, MapDType, PValue};
 
 /// The text of a row's value, of a row of this type: `null`, `true`, `false`, an integer in decimal, a float's bits as `0x`
-/// and hex digits, a decimal's unscaled integer, a text or bytes as hex digits behind an `x`, or `?` where nothing is known
+/// and hex digits, a decimal's unscaled integer, a text or bytes as hex digits after an `x`, or `?` where nothing is known
 /// of the row; and of values with values in them `[a, b]` for lists, `{a, b}` for structures, `{k=>v, k=>v}` for maps, `#5(a)`
 /// for unions and `v(a)` for variants.
 ///
 /// # Errors
-/// Want of memory.
+/// Allocation failure.
 #[cycle(text)]
 pub fn row_text(alloc: Global, value: &RowValue, dtype: &DType) -> Result<String, AllocError>
     ensures { IfOk result (λ text. string_bytes text ≡ value_text (plain_value value.now) (typ dtype.now)) }
@@ -135,7 +135,7 @@ fn named<'a>(tag: u8, ids: &[u8], dtypes: &'a [DType]) -> Option<&'a DType>
     None
 }
 
-// One text more, parted from those before it.
+// One text more, split from those before it.
 fn add_text(texts: &mut String, text: &str, first: bool) -> Result<(), AllocError>
     ensures { OnOk result (string_bytes texts.new ≡ string_bytes texts.old ++ (if first then text.now else further_text text.now)) }
 {
@@ -146,7 +146,7 @@ fn add_text(texts: &mut String, text: &str, first: bool) -> Result<(), AllocErro
     texts.push_str(text)
 }
 
-// The texts of values of one type, parted by commas.
+// The texts of values of one type, split by commas.
 #[cycle(text)]
 fn texts_of_one(alloc: Global, values: &[RowValue], dtype: &DType) -> Result<String, AllocError>
     ensures { IfOk result (λ texts. string_bytes texts ≡ parted (each_text (roses_of (plain_values values.now)) (typ dtype.now))) }
@@ -159,7 +159,7 @@ fn texts_of_one(alloc: Global, values: &[RowValue], dtype: &DType) -> Result<Str
     Ok(texts)
 }
 
-// The texts of values, each by its type, parted by commas.
+// The texts of values, each by its type, split by commas.
 #[cycle(text)]
 fn texts_by(alloc: Global, values: &[RowValue], dtypes: &[DType]) -> Result<String, AllocError>
     ensures { IfOk result (λ texts. string_bytes texts ≡ parted (texts_by (roses_of (plain_values values.now)) (roses_of (typs dtypes.now)))) }
@@ -172,7 +172,7 @@ fn texts_by(alloc: Global, values: &[RowValue], dtypes: &[DType]) -> Result<Stri
     Ok(texts)
 }
 
-// The texts of a map's entries, parted by commas.
+// The texts of a map's entries, split by commas.
 #[cycle(text)]
 fn entry_texts(alloc: Global, values: &[RowValue], map: &MapDType) -> Result<String, AllocError>
     ensures { IfOk result (λ texts. string_bytes texts ≡ parted (entry_texts (roses_of (plain_values values.now)) map.now.key map.now.value)) }
@@ -240,7 +240,7 @@ fn decimal_text(alloc: Global, decimal: &DecimalValue) -> Result<String, AllocEr
     }
 }
 
-// A text's bytes, or bytes, as hex digits behind an `x`.
+// A text's bytes, or bytes, as hex digits after an `x`.
 fn bytes_text(alloc: Global, bytes: &[u8]) -> Result<String, AllocError>
     ensures { IfOk result (λ text. string_bytes text ≡ bytes_text bytes.now) }
 {
@@ -248,7 +248,7 @@ fn bytes_text(alloc: Global, bytes: &[u8]) -> Result<String, AllocError>
     format!(in alloc; "x{digits}")
 }
 
-// Bytes as hex digits behind `0x`.
+// Bytes as hex digits after `0x`.
 fn hex_text(alloc: Global, bytes: &[u8]) -> Result<String, AllocError>
     ensures { IfOk result (λ text. string_bytes text ≡ hex_text bytes.now) }
 {

@@ -32,7 +32,7 @@ pub trait Sink {
         ensures some { IfOk result (λ taken. 0 < taken) }
         ensures within { IfOk result (λ taken. taken ≤ length piece.now) }
         ensures written { WriteAppends (state self.old).written (state self.new).written result piece.now }
-        ensures never_falls { (state self.old).faults ≤ (state self.new).faults }
+        ensures never_decreases { (state self.old).faults ≤ (state self.new).faults }
         ensures no_fault { OnOk result ((state self.new).faults ≡ (state self.old).faults) }
         ensures fault { OnErr result (HasRisen (state self.old).faults (state self.new).faults) };
 }

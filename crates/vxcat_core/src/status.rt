@@ -11,7 +11,7 @@ use vx_fn_wire::FnWireError;
 use vx_serde::WireError;
 use vx_type_wire::TypeWireError;
 
-/// Why a blob is not recoded, but for want of memory: the refusals of `WireError` beside that.
+/// Why a blob is not recoded, but for allocation failure: the refusals of `WireError` beside that.
 #[derive(Clone, Copy, Debug, PartialEq, Eq)]
 pub enum BlobRefusal {
     TooShort,

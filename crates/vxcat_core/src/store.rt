@@ -59,10 +59,10 @@ pub trait Store {
         ensures files { (state self.new).file ≡ (state self.old).file }
         ensures save_faults { (state self.new).save_faults ≡ (state self.old).save_faults }
 
-        // The name is added to those that were asked for; it may be missing there after want of memory.
+        // The name is added to those that were asked for; it may be missing there after allocation failure.
         ensures asked { ((state self.new).asked ≡ (state self.old).asked ++ name.now ∷ [])
             ⊎ (((state self.new).asked ≡ (state self.old).asked) × IsErrOf result store_error.OutOfMemory) }
-        ensures never_falls { (state self.old).load_faults ≤ (state self.new).load_faults }
+        ensures never_decreases { (state self.old).load_faults ≤ (state self.new).load_faults }
         ensures no_fault { OnOk result ((state self.new).load_faults ≡ (state self.old).load_faults) }
         ensures fault { IsErrOf result store_error.Failed
             → HasRisen (state self.old).load_faults (state self.new).load_faults };
@@ -79,7 +79,7 @@ pub trait Store {
         ensures told { (state self.new).tells ≡ (state self.old).tells }
         ensures asked { (state self.new).asked ≡ (state self.old).asked }
         ensures load_faults { (state self.new).load_faults ≡ (state self.old).load_faults }
-        ensures never_falls { (state self.old).save_faults ≤ (state self.new).save_faults }
+        ensures never_decreases { (state self.old).save_faults ≤ (state self.new).save_faults }
         ensures no_fault { OnOk result ((state self.new).save_faults ≡ (state self.old).save_faults) }
         ensures fault { IsErrOf result store_error.Failed
             → HasRisen (state self.old).save_faults (state self.new).save_faults };
@@ -102,7 +102,7 @@ pub trait Store {
         ensures told { (state self.new).tells ≡ (state self.old).tells }
         ensures asked { (state self.new).asked ≡ (state self.old).asked }
         ensures load_faults { (state self.new).load_faults ≡ (state self.old).load_faults }
-        ensures never_falls { (state self.old).save_faults ≤ (state self.new).save_faults }
+        ensures never_decreases { (state self.old).save_faults ≤ (state self.new).save_faults }
         ensures no_fault { OnOk result ((state self.new).save_faults ≡ (state self.old).save_faults) }
         ensures fault { IsErrOf result store_error.Failed
             → HasRisen (state self.old).save_faults (state self.new).save_faults }

@@ -29,7 +29,7 @@ abbrev pub size_of : Typ → ℕ
 size_of (node (fixed_size_list s m) ts) = s
 size_of _ = 0
 
--- A row that is there is its elements, which stand behind those of the rows before it, null or not.
+-- A row that is there is its elements, which stand after those of the rows before it, null or not.
 abbrev pub rows : Typ → ℕ → List Rows → Rows
 rows d n rs =
     by_validity_with n (validity (rest rs))

@@ -1,4 +1,4 @@
--- Lists, whose elements stand one row's after the other's, parted by offsets.
+-- Lists, whose elements stand one row's after the other's, split by offsets.
 use Rattle.std.specs.Prelude.{ℕ, suc, ◌-◌, List, [], ◌∷◌, Option, None, codes, IsTrue, Bool, nat_le}
 use Rattle.vx_trees.specs.Rose.{node, end, more}
 use Rattle.vx_types.specs.Kind.{list}

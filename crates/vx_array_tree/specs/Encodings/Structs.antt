@@ -11,7 +11,7 @@ use Rattle.vx_array_tree.specs.Rows.{Rows, by_validity_with, validity, rest, val
 abbrev pub id : List ℕ
 id = codes "vortex.struct"
 
--- A node is of a type of structures, and has a child for each field, of its type and as many rows, behind at
+-- A node is of a type of structures, and has a child for each field, of its type and as many rows, after at
 -- most a validity.
 abbrev pub plan : Typ → ℕ → ℕ → Option (List Place)
 plan (node (structure ns m) ts) n k = behind_validity (places_at ts n) n k

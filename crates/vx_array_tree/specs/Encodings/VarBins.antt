@@ -1,4 +1,4 @@
--- Texts and bytes, one after the other in one buffer, parted by offsets.
+-- Texts and bytes, one after the other in one buffer, split by offsets.
 use Rattle.std.specs.Prelude.{ℕ, suc, ◌-◌, ◌<◌, ◌≤◌, List, [], ◌∷◌, Option, Some, None, codes, length, take, drop, IsTrue, refl, Bool, true}
 use Rattle.std.specs.Coded.{Coded, code_by}
 use Rattle.vx_buffer.specs.Buffer.{Buffer, coded_buffer}

@@ -207,7 +207,7 @@ fn is_shaped(zero_copy: bool, dtype: &DType, len: usize, children: &[Array]) -> 
     are_parts(dtype, len, elements, offsets, sizes, behind)
 }
 
-// The same of the elements, the offsets, the sizes and what stands behind them.
+// The same of the elements, the offsets, the sizes and what stands after them.
 fn are_parts(
     dtype: &DType,
     len: usize,

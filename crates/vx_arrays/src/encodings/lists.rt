@@ -1,4 +1,4 @@
-//! Arrays of lists, whose elements are parted by offsets.
+//! Arrays of lists, whose elements are split by offsets.
 
 ghost use Rattle.std.specs.Prelude.{◌≡◌, ◌<◌, ◌≤◌, ◌↔◌, IfOk, IfErr, IsOkUnless, IsTrue, option_map};
 ghost use Rattle.vx_trees.specs.Rose.{end, more, node, roses_of};
@@ -28,7 +28,7 @@ use std::alloc::Global;
 use vx_rows::ArrayError;
 use vx_types::{DType, Nullability, TypeRef, or_memory};
 
-/// Arrays of lists, whose elements stand one row's after the other's, parted by offsets.
+/// Arrays of lists, whose elements stand one row's after the other's, split by offsets.
 pub struct ListArray {}
 
 impl ListArray {
@@ -154,7 +154,7 @@ fn is_shaped(dtype: &DType, len: usize, children: &[Array]) -> bool
     are_parts(dtype, len, elements, offsets, behind)
 }
 
-// The same of the elements, the offsets and what stands behind them.
+// The same of the elements, the offsets and what stands after them.
 fn are_parts(dtype: &DType, len: usize, elements: &Array, offsets: &Array, behind: &[Array]) -> bool
     ensures { IsTrue result ↔ IsWellShaped (untold (typ dtype.now) len B.list) (more elements.now (more offsets.now (roses_of behind.now))) }
 {

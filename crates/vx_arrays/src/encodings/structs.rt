@@ -151,7 +151,7 @@ fn columns_of<'a>(dtype: &DType, children: &'a [Array]) -> &'a [Array]
     }
 }
 
-// Whether arrays are the children of a node of structures: the columns of the fields, behind a validity only where rows may
+// Whether arrays are the children of a node of structures: the columns of the fields, after a validity only where rows may
 // be null.
 fn are_shaped(
     fields: &StructFields,

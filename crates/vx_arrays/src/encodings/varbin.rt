@@ -153,7 +153,7 @@ impl VarBinData {
     }
 }
 
-/// Arrays of texts or of bytes, one after the other in a buffer, parted by offsets.
+/// Arrays of texts or of bytes, one after the other in a buffer, split by offsets.
 pub struct VarBinArray {}
 
 impl VarBinArray {

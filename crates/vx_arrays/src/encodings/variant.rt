@@ -83,7 +83,7 @@ impl VariantArray {
 
     /// The array of a node of this type and length over these children.
     ///
-    /// `BadShape` where they are not a core of so many rows and of this type, which is one of variants, and behind it at most
+    /// `BadShape` where they are not a core of so many rows and of this type, which is one of variants, and after it at most
     /// a typed child of as many rows.
     pub fn of_children(dtype: DType, len: usize, children: Arrays) -> Result<Array, ArrayError>
         ensures ok { IfOk result (λ a. a ≡ node (untold (typ dtype) len B.variant) children) }
@@ -96,7 +96,7 @@ impl VariantArray {
     }
 }
 
-// The children of a node of variants: the core, and behind it the shredded child, where there is one.
+// The children of a node of variants: the core, and after it the shredded child, where there is one.
 fn with_shredded(alloc: Global, core: Array, shredded: Option<Array>) -> Result<Arrays, ArrayError>
     ensures children { IfOk result (λ children. children ≡ more core (option_trees shredded)) }
     ensures err { IsOkUnless result ArrayError.OutOfMemory }
@@ -110,7 +110,7 @@ fn with_shredded(alloc: Global, core: Array, shredded: Option<Array>) -> Result<
     }
 }
 
-// The core among the children of a node of this type and length, and what stands behind it.
+// The core among the children of a node of this type and length, and what stands after it.
 #[tactic(auto, using(crate::proofs::Shredded::parts))]
 pub(crate) fn core_in<'a>(
     dtype: &DType,
@@ -127,7 +127,7 @@ pub(crate) fn core_in<'a>(
     parted(children)
 }
 
-// Whether arrays are the children of a node of variants: a core, and behind it at most a shredded child.
+// Whether arrays are the children of a node of variants: a core, and after it at most a shredded child.
 #[tactic(auto, using(crate::proofs::Shredded::shapes))]
 fn is_shaped(dtype: &DType, len: usize, children: &[Array]) -> bool
     ensures { IsTrue result ↔ IsWellShaped (untold (typ dtype.now) len B.variant) (roses_of children.now) }

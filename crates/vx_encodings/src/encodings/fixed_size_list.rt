@@ -34,7 +34,7 @@ pub(crate) fn plan(alloc: Global, head: &ArrayHead) -> Result<ChildPlans, Encodi
     }
 }
 
-// So many elements of a type for each row, and behind them a validity, where one stands among so many children.
+// So many elements of a type for each row, and after them a validity, where one stands among so many children.
 fn plan_elements(
     alloc: Global,
     element: &DType,

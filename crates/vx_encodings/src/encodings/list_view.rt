@@ -120,7 +120,7 @@ fn is_fair(metadata: &ListViewMetadata) -> bool
     metadata.offset_ptype.is_int() && metadata.size_ptype.is_int()
 }
 
-// The elements, the offsets and the sizes of so many rows, and a validity behind them, where one stands among so many children.
+// The elements, the offsets and the sizes of so many rows, and a validity after them, where one stands among so many children.
 fn plan_parts(
     alloc: Global,
     element: &DType,

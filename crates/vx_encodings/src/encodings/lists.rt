@@ -104,7 +104,7 @@ pub(crate) fn plan(alloc: Global, head: &ArrayHead) -> Result<ChildPlans, Encodi
     }
 }
 
-// The elements, the offsets of so many rows, and a validity behind them, where one stands among so many children.
+// The elements, the offsets of so many rows, and a validity after them, where one stands among so many children.
 fn plan_parts(
     alloc: Global,
     element: &DType,

@@ -35,7 +35,7 @@ pub(crate) fn plan(alloc: Global, head: &ArrayHead) -> Result<ChildPlans, Encodi
     }
 }
 
-// A child for each of the types, behind a validity, where one stands among so many children.
+// A child for each of the types, after a validity, where one stands among so many children.
 #[tactic(auto, using(crate::proofs::StructSteps::struct_steps))]
 fn plan_fields(
     alloc: Global,

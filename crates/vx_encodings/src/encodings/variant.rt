@@ -160,7 +160,7 @@ fn known_type(
     }
 }
 
-// What the children of a node of variants are to be: the core, and behind it the shredded child, where the metadata tells
+// What the children of a node of variants are to be: the core, and after it the shredded child, where the metadata tells
 // its type.
 #[tactic(auto, using(crate::proofs::VariantSteps::variant_steps))]
 pub(crate) fn plan(

@@ -7,13 +7,13 @@ ghost use Rattle.vx_flat.specs.FieldTables as form;
 ghost use Rattle.vx_flat.specs.Layout as lay;
 ghost use Rattle.vx_flat.specs.Linking as to;
 ghost use Rattle.vx_flat.specs.Blocks.{Cell, table_block, elements_block, links_block, text_block};
-ghost use Rattle.vx_flat.specs.Spots as place;
+ghost use Rattle.vx_flat.specs.BlockOffsets as place;
 
 use crate::builder::entries::cell_at;
 use crate::builder::piece::{BlockField, LinkKind};
 use crate::builder::slot::Slot;
 use crate::schema::Width;
-use crate::writing::block::Spot;
+use crate::writing::block::BlockOffsets;
 use crate::writing::field_tables::end_after;
 use crate::writing::numbers::{align, push_number, push_zeros};
 use crate::writing::{element_count, push_bytes, push_own};
@@ -46,30 +46,30 @@ pub fn push_front(bytes: &[u8], start: usize, out: &mut Vec<u8>) -> Result<(), A
 
 /// Where a table of so many entries and this inline size goes, whose block starts at `start`, by the
 /// place of an equal field table.
-pub fn table_spot(start: usize, count: usize, end: usize, known: Option<usize>) -> Spot
+pub fn table_offsets(start: usize, count: usize, end: usize, known: Option<usize>) -> BlockOffsets
     requires small { start ≤ 2 ^ 32 }
     requires few { count ≤ 1000 }
     requires near { end ≤ 4 + 15 * count }
     ensures value { (cs : List Cell) → length cs ≡ count → form.inline_end 4 cs ≡ end
-        → result ≡ place.table_spot start cs known }
+        → result ≡ place.table_offsets start cs known }
     ensures own { result.is_own ≡ true → known ≡ None }
-    ensures past { start ≤ result.aim }
-    ensures before { result.aim ≤ result.end }
+    ensures past { start ≤ result.target }
+    ensures before { result.target ≤ result.end }
 {
     match known {
-        Some(fields) => Spot {
+        Some(fields) => BlockOffsets {
             start,
-            aim: start,
+            target: start,
             end: start + end,
             fields,
             is_own: false,
         },
         None => {
-            let aim = start + align(Width::Eight, 4 + 2 * count);
-            Spot {
+            let target = start + align(Width::Eight, 4 + 2 * count);
+            BlockOffsets {
                 start,
-                aim,
-                end: aim + end,
+                target,
+                end: target + end,
                 fields: start,
                 is_own: true,
             }
@@ -78,16 +78,16 @@ pub fn table_spot(start: usize, count: usize, end: usize, known: Option<usize>) 
 }
 
 /// Whether the field table of a block is one that others may share.
-pub fn is_shared(shares: bool, spot: Spot) -> bool
-    ensures value { result ≡ (shares && spot.is_own) }
-    ensures own { result ≡ true → spot.is_own ≡ true }
+pub fn is_shared(shares: bool, offsets: BlockOffsets) -> bool
+    ensures value { result ≡ (shares && offsets.is_own) }
+    ensures own { result ≡ true → offsets.is_own ≡ true }
 {
-    if shares { spot.is_own } else { false }
+    if shares { offsets.is_own } else { false }
 }
 
 /// Adds a table of so many entries, by its field table and its own bytes.
 pub fn push_table(
-    spot: Spot,
+    offsets: BlockOffsets,
     count: usize,
     fields: &[u8],
     own: &[u8],
@@ -96,32 +96,32 @@ pub fn push_table(
     requires { count ≤ 1000 }
     ensures table { (cs : List Cell) → length cs ≡ count → fields.now ≡ form.field_table_bytes cs
         → own.now ≡ lay.cells_bytes [] 0 4 cs
-        → OnOk result (out.new.items ≡ out.old.items ++ lay.block_bytes [] spot (table_block cs)) }
+        → OnOk result (out.new.items ≡ out.old.items ++ lay.block_bytes [] offsets (table_block cs)) }
     ensures some { OnOk result (length out.old.items + 4 ≤ length out.new.items) }
 {
-    push_own(spot.is_own, count, fields, out)?;
-    push_number(out, 4, spot.aim.saturating_sub(spot.fields) as u64)?;
+    push_own(offsets.is_own, count, fields, out)?;
+    push_number(out, 4, offsets.target.saturating_sub(offsets.fields) as u64)?;
     push_bytes(own, out)
 }
 
 /// Adds a vector of numbers or structs of `size` bytes each.
 pub fn push_elements(
-    spot: Spot,
+    offsets: BlockOffsets,
     size: usize,
     bytes: &[u8],
     out: &mut Vec<u8>,
 ) -> Result<(), AllocError>
     ensures { OnOk result (out.new.items
-        ≡ out.old.items ++ lay.block_bytes [] spot (elements_block size bytes.now)) }
+        ≡ out.old.items ++ lay.block_bytes [] offsets (elements_block size bytes.now)) }
 {
     push_number(out, 4, element_count(size, bytes.len()) as u64)?;
     push_bytes(bytes, out)
 }
 
 /// Adds a vector of links that are still to be set.
-pub fn push_links(spot: Spot, count: u32, out: &mut Vec<u8>) -> Result<(), AllocError>
+pub fn push_links(offsets: BlockOffsets, count: u32, out: &mut Vec<u8>) -> Result<(), AllocError>
     ensures { OnOk result (out.new.items
-        ≡ out.old.items ++ lay.block_bytes [] spot (links_block (to.firsts count []))) }
+        ≡ out.old.items ++ lay.block_bytes [] offsets (links_block (to.firsts count []))) }
 {
     push_number(out, 4, count as u64)?;
     push_zeros(out, 4 * count as usize)?;
@@ -129,9 +129,9 @@ pub fn push_links(spot: Spot, count: u32, out: &mut Vec<u8>) -> Result<(), Alloc
 }
 
 /// Adds a string.
-pub fn push_text(spot: Spot, text: &[u8], out: &mut Vec<u8>) -> Result<(), AllocError>
+pub fn push_text(offsets: BlockOffsets, text: &[u8], out: &mut Vec<u8>) -> Result<(), AllocError>
     ensures { OnOk result (out.new.items
-        ≡ out.old.items ++ lay.block_bytes [] spot (text_block text.now)) }
+        ≡ out.old.items ++ lay.block_bytes [] offsets (text_block text.now)) }
 {
     push_number(out, 4, text.len() as u64)?;
     push_bytes(text, out)?;
@@ -142,20 +142,20 @@ pub fn push_text(spot: Spot, text: &[u8], out: &mut Vec<u8>) -> Result<(), Alloc
 pub fn push_entry_slots(
     entries: &[BlockField],
     block: u32,
-    aim: usize,
+    target: usize,
     slots: &mut Vec<Slot>,
 ) -> Result<(), AllocError>
     requires few { length entries.now ≤ 1000 }
-    requires short { aim < 2 ^ 33 }
+    requires short { target < 2 ^ 33 }
     ensures { OnOk result
-        (slots.new.items ≡ slots.old.items ++ entry_slots block aim 0 4 entries.now) }
+        (slots.new.items ≡ slots.old.items ++ entry_slots block target 0 4 entries.now) }
 {
     let mut end: usize = 4;
     let mut index: u32 = 0;
     for entry in entries {
         let cell = cell_at(*entry, 0);
         if let BlockField::Link(kind) = *entry {
-            let place = aim + align(Width::Four, end);
+            let place = target + align(Width::Four, end);
             slots.push(Slot {
                 block,
                 index,

@@ -19,7 +19,7 @@ fn width_at(bytes: u8) -> Width
     }
 }
 
-/// The cell of an entry, where a link aims at a block.
+/// The cell of an entry, where a link points at a block.
 pub fn cell_at(entry: BlockField, block: usize) -> Cell
     ensures { result ≡ to.cell_at entry block }
 {

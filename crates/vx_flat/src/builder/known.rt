@@ -16,7 +16,7 @@ pub struct FieldTables {
 
 impl Model for FieldTables {
     ghost use Rattle.vx_flat.specs.KnownView.{known_of};
-    ghost use Rattle.vx_flat.specs.Spots.{Known};
+    ghost use Rattle.vx_flat.specs.BlockOffsets.{Known};
 
     ghost Value = { Known };
 
@@ -25,7 +25,7 @@ impl Model for FieldTables {
 
 impl FieldTables {
     ghost use Rattle.std.specs.Prelude.{◌≡◌, ◌++◌, ◌∷◌, [], true, OnOk, OnErr, None, ℕ, List, if◌then◌else◌};
-    ghost use Rattle.vx_flat.specs.Spots.{Known, known_at};
+    ghost use Rattle.vx_flat.specs.BlockOffsets.{Known, known_at};
 
     /// No field tables.
     pub fn new(alloc: Global) -> FieldTables

@@ -1,7 +1,7 @@
 //! The bytes of a message that is written block by block, and its links that are still to be set.
 
 ghost use Rattle.std.specs.Prelude.{◌≡◌, ◌+◌, ◌++◌, ◌≤◌, ◌<◌, ◌^◌, [], length, reverse, take, OnOk, OnErr, None};
-ghost use Rattle.vx_flat.specs.Building.{patch, aimed};
+ghost use Rattle.vx_flat.specs.Building.{patch, targeted};
 
 use crate::builder::slot::Slot;
 use std::alloc::{AllocError, Global};
@@ -65,36 +65,41 @@ impl Message {
     }
 
     /// Sets the offset of the link that waits, or, at the first block, the place of the root table.
-    fn aim(&mut self, aim: usize)
+    fn target(&mut self, target: usize)
         requires begun { 4 ≤ length self.old.bytes.items }
         requires lies { SlotLies self.old.waits (length self.old.bytes.items) }
-        requires behind { SlotLies self.old.waits aim }
-        requires small { aim < 2 ^ 32 }
+        requires behind { SlotLies self.old.waits target }
+        requires small { target < 2 ^ 32 }
         ensures bytes { self.new.bytes.items
-            ≡ aimed self.old.count self.old.waits aim self.old.bytes.items }
+            ≡ targeted self.old.count self.old.waits target self.old.bytes.items }
         ensures count { self.new.count ≡ self.old.count }
         ensures left { self.new.left.items ≡ self.old.left.items }
     {
         match self.waits {
-            Some(link) => set_number(&mut self.bytes, link.place, (aim - link.place) as u32),
+            Some(link) => set_number(&mut self.bytes, link.place, (target - link.place) as u32),
             None => {
                 if self.count == 0 {
-                    set_number(&mut self.bytes, 0, aim as u32);
+                    set_number(&mut self.bytes, 0, target as u32);
                 }
             }
         }
     }
 
-    /// Adds a composed block, with what stands before it, and its links. The link that waits aims
+    /// Adds a composed block, with what stands before it, and its links. The link that waits points
     /// at it. Where memory runs out, nothing changes.
-    pub fn add(&mut self, block: &[u8], links: &mut Vec<Slot>, aim: usize) -> Result<(), AllocError>
+    pub fn add(
+        &mut self,
+        block: &[u8],
+        links: &mut Vec<Slot>,
+        target: usize,
+    ) -> Result<(), AllocError>
         requires some { 4 ≤ length self.old.bytes.items + length block.now }
         requires lies { SlotLies self.old.waits (length self.old.bytes.items) }
-        requires behind { length self.old.bytes.items ≤ aim }
-        requires small { aim < 2 ^ 32 }
+        requires behind { length self.old.bytes.items ≤ target }
+        requires small { target < 2 ^ 32 }
         requires few { self.old.count < 2 ^ 31 }
         ensures bytes { OnOk result (self.new.bytes.items
-            ≡ aimed self.old.count self.old.waits aim (self.old.bytes.items ++ block.now)) }
+            ≡ targeted self.old.count self.old.waits target (self.old.bytes.items ++ block.now)) }
         ensures count { OnOk result (self.new.count ≡ self.old.count + 1) }
         ensures left { OnOk result (reverse self.new.left.items
             ≡ links.old.items ++ reverse self.old.left.items) }
@@ -109,7 +114,7 @@ impl Message {
             self.left.truncate(kept);
             return Err(error);
         }
-        self.aim(aim);
+        self.target(target);
         self.waits = None;
         self.count += 1;
         Ok(())

@@ -9,7 +9,7 @@ pub struct Slot {
     pub block: u32,
     /// The entry or element that it is.
     pub index: u32,
-    /// What it aims at.
+    /// What it points at.
     pub kind: LinkKind,
     /// Where its offset lies.
     pub place: usize,

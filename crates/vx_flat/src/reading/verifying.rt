@@ -11,25 +11,25 @@ ghost use Rattle.vx_flat.specs.Reading as read;
 ghost use Rattle.vx_flat.specs.declared.schema.FieldKind.TheVariants as kinds;
 
 use crate::error::FlatError;
+use crate::reading::budget::Budget;
 use crate::reading::places::{
     FieldTable, are_inline as inline, count_at, elements_at, field_table, fits, is_union_inline,
-    place_of, tag_at, target, text_at,
+    place_of, tag_at, target_at, text_at,
 };
-use crate::reading::room::Room;
 use crate::schema::{FieldKind, TableKind, struct_size, tag_table};
 use crate::steps::Steps;
 use std::sync::ledger::Ledger;
 
 /// Judges and counts the string at a place.
-fn verify_text(message: &[u8], place: usize, room: &mut Room) -> Result<(), FlatError>
+fn verify_text(message: &[u8], place: usize, budget: &mut Budget) -> Result<(), FlatError>
     ensures verifies { (levels : ℕ) → Verifies result (read.text_shown message.now place)
-        room.old levels (weigh.text_weight message.now place) room.new }
-    ensures tables { OnOk result (room.new.tables ≡ room.old.tables) }
+        budget.old levels (weigh.text_weight message.now place) budget.new }
+    ensures tables { OnOk result (budget.new.tables ≡ budget.old.tables) }
 {
     let Some(text) = text_at(message, place) else {
         return Err(FlatError::BadTable);
     };
-    room.add_bytes(5 + text.len() as u64)
+    budget.add_bytes(5 + text.len() as u64)
 }
 
 /// Judges and counts the elements of the vector at a place, of `size` bytes each.
@@ -37,54 +37,59 @@ fn verify_elements(
     message: &[u8],
     place: usize,
     size: usize,
-    room: &mut Room,
+    budget: &mut Budget,
 ) -> Result<(), FlatError>
     requires { size ≤ 8000 }
     ensures verifies { (levels : ℕ) → Verifies result (read.elements_shown message.now place size)
-        room.old levels (weigh.elements_weight message.now place size) room.new }
-    ensures tables { OnOk result (room.new.tables ≡ room.old.tables) }
+        budget.old levels (weigh.elements_weight message.now place size) budget.new }
+    ensures tables { OnOk result (budget.new.tables ≡ budget.old.tables) }
 {
     let Some(bytes) = elements_at(message, place, size) else {
         return Err(FlatError::BadTable);
     };
-    room.add_bytes(4 + bytes.len() as u64)
+    budget.add_bytes(4 + bytes.len() as u64)
 }
 
-/// Judges and counts the strings that the `n` offsets from a place on aim at.
-fn verify_each_text(message: &[u8], place: usize, n: u32, room: &mut Room) -> Result<(), FlatError>
+/// Judges and counts the strings that the `n` offsets from a place on point at.
+fn verify_each_text(
+    message: &[u8],
+    place: usize,
+    n: u32,
+    budget: &mut Budget,
+) -> Result<(), FlatError>
     requires { place + 4 * n ≤ length message.now }
     ensures verifies { (levels : ℕ) → Verifies result
         (read.each_shown (λ q. read.text_shown message.now q) message.now place n)
-        room.old levels
+        budget.old levels
         (weigh.each_weight (λ q. weigh.text_weight message.now q) message.now place n)
-        room.new }
-    ensures tables { OnOk result (room.new.tables ≡ room.old.tables) }
+        budget.new }
+    ensures tables { OnOk result (budget.new.tables ≡ budget.old.tables) }
 {
     let mut at = place;
     for _ in 0..n {
-        verify_text(message, target(message, at), room)?;
+        verify_text(message, target_at(message, at), budget)?;
         at += 4;
     }
     Ok(())
 }
 
 /// Judges and counts the strings of the vector at a place.
-fn verify_texts(message: &[u8], place: usize, room: &mut Room) -> Result<(), FlatError>
+fn verify_texts(message: &[u8], place: usize, budget: &mut Budget) -> Result<(), FlatError>
     ensures verifies { (levels : ℕ) → Verifies result
         (read.vector_shown (λ q. read.text_shown message.now q) message.now place)
-        room.old levels
+        budget.old levels
         (weigh.vector_weight (λ q. weigh.text_weight message.now q) message.now place)
-        room.new }
-    ensures tables { OnOk result (room.new.tables ≡ room.old.tables) }
+        budget.new }
+    ensures tables { OnOk result (budget.new.tables ≡ budget.old.tables) }
 {
     let Some(n) = count_at(message, place) else {
         return Err(FlatError::BadTable);
     };
-    room.add_bytes(4 + 4 * n as u64)?;
-    verify_each_text(message, place + 4, n, room)
+    budget.add_bytes(4 + 4 * n as u64)?;
+    verify_each_text(message, place + 4, n, budget)
 }
 
-/// Judges and counts the tables that the `n` offsets from a place on aim at.
+/// Judges and counts the tables that the `n` offsets from a place on point at.
 #[cycle(verifying)]
 fn verify_each_table<K: TableKind, L: Ledger>(
     message: &[u8],
@@ -93,23 +98,23 @@ fn verify_each_table<K: TableKind, L: Ledger>(
     n: u32,
     table: u16,
     levels: u32,
-    room: &mut Room,
+    budget: &mut Budget,
     steps: &mut Steps<L>,
 ) -> Result<(), FlatError>
     requires { place + 4 * n ≤ length message.now }
     ensures verifies { Verifies result
         (read.each_shown (λ q. read.table_shown K.schema message.now q table) message.now place n)
-        room.old levels
+        budget.old levels
         (weigh.each_weight (λ q. weigh.table_weight K.schema message.now q table)
         message.now place n)
-        room.new }
-    ensures exact { OnOk result (steps.new + room.new.tables ≡ steps.old + room.old.tables) }
-    ensures bound { steps.new ≤ steps.old + room.old.tables + 1 }
+        budget.new }
+    ensures exact { OnOk result (steps.new + budget.new.tables ≡ steps.old + budget.old.tables) }
+    ensures bound { steps.new ≤ steps.old + budget.old.tables + 1 }
 {
     let mut at = place;
     for _ in 0..n {
-        let aim = target(message, at);
-        verify_table(message, kind, aim, table, levels, room, steps)?;
+        let target = target_at(message, at);
+        verify_table(message, kind, target, table, levels, budget, steps)?;
         at += 4;
     }
     Ok(())
@@ -123,49 +128,49 @@ fn verify_tables<K: TableKind, L: Ledger>(
     place: usize,
     table: u16,
     levels: u32,
-    room: &mut Room,
+    budget: &mut Budget,
     steps: &mut Steps<L>,
 ) -> Result<(), FlatError>
     ensures verifies { Verifies result
         (read.vector_shown (λ q. read.table_shown K.schema message.now q table) message.now place)
-        room.old levels
+        budget.old levels
         (weigh.vector_weight (λ q. weigh.table_weight K.schema message.now q table)
         message.now place)
-        room.new }
-    ensures exact { OnOk result (steps.new + room.new.tables ≡ steps.old + room.old.tables) }
-    ensures bound { steps.new ≤ steps.old + room.old.tables + 1 }
+        budget.new }
+    ensures exact { OnOk result (steps.new + budget.new.tables ≡ steps.old + budget.old.tables) }
+    ensures bound { steps.new ≤ steps.old + budget.old.tables + 1 }
 {
     let Some(n) = count_at(message, place) else {
         return Err(FlatError::BadTable);
     };
-    room.add_bytes(4 + 4 * n as u64)?;
-    verify_each_table(message, kind, place + 4, n, table, levels, room, steps)
+    budget.add_bytes(4 + 4 * n as u64)?;
+    verify_each_table(message, kind, place + 4, n, table, levels, budget, steps)
 }
 
-/// Judges and counts the table that a union's offset aims at, where its tag has one.
+/// Judges and counts the table that a union's offset points at, where its tag has one.
 #[cycle(verifying)]
 fn verify_member<K: TableKind, L: Ledger>(
     message: &[u8],
     kind: &K,
     union: u16,
     tag: u8,
-    aim: usize,
+    target: usize,
     levels: u32,
-    room: &mut Room,
+    budget: &mut Budget,
     steps: &mut Steps<L>,
 ) -> Result<(), FlatError>
     ensures verifies { Verifies result
-        (read.member_shown (λ q T. read.table_shown K.schema message.now q T) aim tag
+        (read.member_shown (λ q T. read.table_shown K.schema message.now q T) target tag
         (table_of_tag (members_of K.schema union) tag))
-        room.old levels
-        (weigh.member_weight (λ q T. weigh.table_weight K.schema message.now q T) aim
+        budget.old levels
+        (weigh.member_weight (λ q T. weigh.table_weight K.schema message.now q T) target
         (table_of_tag (members_of K.schema union) tag))
-        room.new }
-    ensures exact { OnOk result (steps.new + room.new.tables ≡ steps.old + room.old.tables) }
-    ensures bound { steps.new ≤ steps.old + room.old.tables + 1 }
+        budget.new }
+    ensures exact { OnOk result (steps.new + budget.new.tables ≡ steps.old + budget.old.tables) }
+    ensures bound { steps.new ≤ steps.old + budget.old.tables + 1 }
 {
     match tag_table(kind, union, tag) {
-        Some(table) => verify_table(message, kind, aim, table, levels, room, steps),
+        Some(table) => verify_table(message, kind, target, table, levels, budget, steps),
         None => Ok(()),
     }
 }
@@ -178,38 +183,38 @@ fn verify_present<K: TableKind, L: Ledger>(
     field: FieldKind,
     place: usize,
     levels: u32,
-    room: &mut Room,
+    budget: &mut Budget,
     steps: &mut Steps<L>,
 ) -> Result<(), FlatError>
     requires { place + inline_size field ≤ length message.now }
     ensures verifies { Verifies result
         (read.present_shown K.schema (λ q T. read.table_shown K.schema message.now q T)
         message.now field place)
-        room.old levels
+        budget.old levels
         (weigh.present_weight K.schema (λ q T. weigh.table_weight K.schema message.now q T)
         message.now field place)
-        room.new }
-    ensures exact { OnOk result (steps.new + room.new.tables ≡ steps.old + room.old.tables) }
-    ensures bound { steps.new ≤ steps.old + room.old.tables + 1 }
+        budget.new }
+    ensures exact { OnOk result (steps.new + budget.new.tables ≡ steps.old + budget.old.tables) }
+    ensures bound { steps.new ≤ steps.old + budget.old.tables + 1 }
 {
     match field {
         FieldKind::Vector(width) => {
-            let aim = target(message, place);
-            verify_elements(message, aim, width.bytes(), room)
+            let target = target_at(message, place);
+            verify_elements(message, target, width.bytes(), budget)
         }
         FieldKind::Structs(number) => {
-            let aim = target(message, place);
-            verify_elements(message, aim, struct_size(kind, number), room)
+            let target = target_at(message, place);
+            verify_elements(message, target, struct_size(kind, number), budget)
         }
-        FieldKind::Text => verify_text(message, target(message, place), room),
-        FieldKind::Texts => verify_texts(message, target(message, place), room),
+        FieldKind::Text => verify_text(message, target_at(message, place), budget),
+        FieldKind::Texts => verify_texts(message, target_at(message, place), budget),
         FieldKind::Table(table) => {
-            let aim = target(message, place);
-            verify_table(message, kind, aim, table, levels, room, steps)
+            let target = target_at(message, place);
+            verify_table(message, kind, target, table, levels, budget, steps)
         }
         FieldKind::Tables(table) => {
-            let aim = target(message, place);
-            verify_tables(message, kind, aim, table, levels, room, steps)
+            let target = target_at(message, place);
+            verify_tables(message, kind, target, table, levels, budget, steps)
         }
         _ => Ok(()),
     }
@@ -225,20 +230,20 @@ fn verify_union<K: TableKind, L: Ledger>(
     here: Option<usize>,
     next: Option<usize>,
     levels: u32,
-    room: &mut Room,
+    budget: &mut Budget,
     steps: &mut Steps<L>,
 ) -> Result<(), FlatError>
     ensures verifies { Verifies result
         (if is_inline message.now (kinds.Union union) here next
         then read.union_shown K.schema (λ q T. read.table_shown K.schema message.now q T)
         message.now union here next else None)
-        room.old levels
+        budget.old levels
         (if is_inline message.now (kinds.Union union) here next
         then weigh.union_weight K.schema (λ q T. weigh.table_weight K.schema message.now q T)
         message.now union here next else weigh.nothing)
-        room.new }
-    ensures exact { OnOk result (steps.new + room.new.tables ≡ steps.old + room.old.tables) }
-    ensures bound { steps.new ≤ steps.old + room.old.tables + 1 }
+        budget.new }
+    ensures exact { OnOk result (steps.new + budget.new.tables ≡ steps.old + budget.old.tables) }
+    ensures bound { steps.new ≤ steps.old + budget.old.tables + 1 }
 {
     if !is_union_inline(message, here, next) {
         return Err(FlatError::BadTable);
@@ -252,9 +257,9 @@ fn verify_union<K: TableKind, L: Ledger>(
         kind,
         union,
         tag,
-        target(message, next),
+        target_at(message, next),
         levels,
-        room,
+        budget,
         steps,
     )
 }
@@ -271,7 +276,7 @@ fn verify_field<K: TableKind, L: Ledger>(
     fields: FieldTable,
     entry: usize,
     levels: u32,
-    room: &mut Room,
+    budget: &mut Budget,
     steps: &mut Steps<L>,
 ) -> Result<(), FlatError>
     requires lies { fields.place + fields.len ≤ length message.now }
@@ -283,20 +288,20 @@ fn verify_field<K: TableKind, L: Ledger>(
         then read.field_shown K.schema (λ q T. read.table_shown K.schema message.now q T)
         message.now field (placed message.now place fields entry)
         (placed message.now place fields (entry + 1)) else None)
-        room.old levels
+        budget.old levels
         (if is_inline message.now field (placed message.now place fields entry)
         (placed message.now place fields (entry + 1))
         then weigh.field_weight K.schema (λ q T. weigh.table_weight K.schema message.now q T)
         message.now field (placed message.now place fields entry)
         (placed message.now place fields (entry + 1)) else weigh.nothing)
-        room.new }
-    ensures exact { OnOk result (steps.new + room.new.tables ≡ steps.old + room.old.tables) }
-    ensures bound { steps.new ≤ steps.old + room.old.tables + 1 }
+        budget.new }
+    ensures exact { OnOk result (steps.new + budget.new.tables ≡ steps.old + budget.old.tables) }
+    ensures bound { steps.new ≤ steps.old + budget.old.tables + 1 }
 {
     if let FieldKind::Union(union) = field {
         let here = place_of(message, place, fields, entry);
         let next = place_of(message, place, fields, entry + 1);
-        return verify_union(message, kind, union, here, next, levels, room, steps);
+        return verify_union(message, kind, union, here, next, levels, budget, steps);
     }
     let Some(here) = place_of(message, place, fields, entry) else {
         return Ok(());
@@ -304,7 +309,7 @@ fn verify_field<K: TableKind, L: Ledger>(
     if !fits(message, here, field.inline_size()) {
         return Err(FlatError::BadTable);
     }
-    verify_present(message, kind, field, here, levels, room, steps)
+    verify_present(message, kind, field, here, levels, budget, steps)
 }
 
 /// Why a table is refused whose fields were judged one by one: it shows nothing where the own bytes of
@@ -338,7 +343,7 @@ fn verify_fields<K: TableKind, L: Ledger>(
     fields: FieldTable,
     kinds: &[FieldKind],
     levels: u32,
-    room: &mut Room,
+    budget: &mut Budget,
     steps: &mut Steps<L>,
 ) -> Result<(), FlatError>
     requires lies { fields.place + fields.len ≤ length message.now }
@@ -347,18 +352,18 @@ fn verify_fields<K: TableKind, L: Ledger>(
         (if are_inline message.now place fields kinds.now 0
         then read.fields_shown K.schema (λ q T. read.table_shown K.schema message.now q T)
         message.now place fields kinds.now 0 else None)
-        room.old levels
+        budget.old levels
         (if are_inline message.now place fields kinds.now 0
         then weigh.fields_weight K.schema (λ q T. weigh.table_weight K.schema message.now q T)
         message.now place fields kinds.now 0 else weigh.nothing)
-        room.new }
-    ensures exact { OnOk result (steps.new + room.new.tables ≡ steps.old + room.old.tables) }
-    ensures bound { steps.new ≤ steps.old + room.old.tables + 1 }
+        budget.new }
+    ensures exact { OnOk result (steps.new + budget.new.tables ≡ steps.old + budget.old.tables) }
+    ensures bound { steps.new ≤ steps.old + budget.old.tables + 1 }
 {
     let mut entry: usize = 0;
     for field in kinds {
         if let Err(error) = verify_field(
-            message, kind, *field, place, fields, entry, levels, room, steps,
+            message, kind, *field, place, fields, entry, levels, budget, steps,
         ) {
             return Err(refusal(message, place, fields, kinds, error));
         }
@@ -375,13 +380,13 @@ pub fn verify_table<K: TableKind, L: Ledger>(
     place: usize,
     table: u16,
     levels: u32,
-    room: &mut Room,
+    budget: &mut Budget,
     steps: &mut Steps<L>,
 ) -> Result<(), FlatError>
     ensures verifies { Verifies result (read.table_shown K.schema message.now place table)
-        room.old levels (weigh.table_weight K.schema message.now place table) room.new }
-    ensures exact { OnOk result (steps.new + room.new.tables ≡ steps.old + room.old.tables) }
-    ensures bound { steps.new ≤ steps.old + room.old.tables + 1 }
+        budget.old levels (weigh.table_weight K.schema message.now place table) budget.new }
+    ensures exact { OnOk result (steps.new + budget.new.tables ≡ steps.old + budget.old.tables) }
+    ensures bound { steps.new ≤ steps.old + budget.old.tables + 1 }
 {
     steps.tick();
     let kinds = kind.fields(table);
@@ -391,8 +396,17 @@ pub fn verify_table<K: TableKind, L: Ledger>(
     if levels == 0 {
         return Err(refusal(message, place, fields, kinds, FlatError::TableLimit));
     }
-    if let Err(error) = room.add_table(levels - 1) {
+    if let Err(error) = budget.add_table(levels - 1) {
         return Err(refusal(message, place, fields, kinds, error));
     }
-    verify_fields(message, kind, place, fields, kinds, levels - 1, room, steps)
+    verify_fields(
+        message,
+        kind,
+        place,
+        fields,
+        kinds,
+        levels - 1,
+        budget,
+        steps,
+    )
 }

@@ -4,13 +4,13 @@ ghost use Rattle.std.specs.Prelude.{◌≡◌, ◌+◌, ◌<◌, ◌≤◌, IsOk
 ghost use Rattle.vx_flat.specs.Value.{Fields};
 ghost use Rattle.vx_flat.specs.Shows.{Shows, ShowsAt};
 ghost use Rattle.vx_flat.specs.Weight as weigh;
-ghost use Rattle.vx_flat.specs.Limits.{limits, limits_to, IsLight};
+ghost use Rattle.vx_flat.specs.Limits.{limits, limits_to, KeepsLimits};
 ghost use Rattle.vx_flat.specs.Seen.{IsViewAt, IsRootView};
 
 use crate::error::FlatError;
 use crate::limits::Limits;
+use crate::reading::budget::Budget;
 use crate::reading::places::u32_at;
-use crate::reading::room::Room;
 use crate::reading::verifying::verify_table;
 use crate::schema::TableKind;
 use crate::steps::Steps;
@@ -27,31 +27,39 @@ fn verify_within<'a, K: TableKind, L: Ledger>(
     steps: &mut Steps<L>,
 ) -> Result<View<'a>, FlatError>
     ensures shows { IfOk result (λ v. IsRootView K.schema message.now v) }
-    ensures light { OnOk result (IsLight limits (weigh.weight K.schema message.now)) }
+    ensures within_limits { OnOk result (KeepsLimits limits (weigh.weight K.schema message.now)) }
     ensures bad { IsErrOf result FlatError.BadTable
         → (v : Fields) → Shows K.schema message.now v → ⊥ }
     ensures limit { IsErrOf result FlatError.TableLimit
-        → IsLight limits (weigh.weight K.schema message.now) → ⊥ }
+        → KeepsLimits limits (weigh.weight K.schema message.now) → ⊥ }
     ensures takes_no_memory { IsErrOf result FlatError.OutOfMemory → ⊥ }
     ensures never_long { IsErrOf result FlatError.MessageTooLong → ⊥ }
     ensures complete { (v : Fields) → Shows K.schema message.now v
-        → IsLight limits (weigh.weight K.schema message.now) → IsOk result }
+        → KeepsLimits limits (weigh.weight K.schema message.now) → IsOk result }
     ensures exact { OnOk result (steps.new ≡ steps.old + (weigh.weight K.schema message.now).tables) }
     ensures bound { steps.new ≤ steps.old + limits.tables + 1 }
 {
     if message.len() < 4 {
         return Err(FlatError::BadTable);
     }
-    let mut room = Room::new(limits);
+    let mut budget = Budget::new(limits);
     let place = u32_at(message, 0) as usize;
     let table = kind.root();
-    verify_table(message, kind, place, table, limits.nested, &mut room, steps)?;
+    verify_table(
+        message,
+        kind,
+        place,
+        table,
+        limits.nested,
+        &mut budget,
+        steps,
+    )?;
     let schema = kind.lists();
     let fields = fields_found(message, schema, place, table);
     let weight = Weight {
-        nested: (limits.nested - room.levels) as u64,
-        tables: (limits.tables - room.tables) as u64,
-        bytes: limits.bytes - room.bytes,
+        nested: (limits.nested - budget.levels) as u64,
+        tables: (limits.tables - budget.tables) as u64,
+        bytes: limits.bytes - budget.bytes,
     };
     Ok(View {
         message,
@@ -77,15 +85,15 @@ pub fn verify_to<'a, K: TableKind, L: Ledger>(
     steps: &mut Steps<L>,
 ) -> Result<View<'a>, FlatError>
     ensures shows { IfOk result (λ v. IsRootView K.schema message.now v) }
-    ensures light { OnOk result (IsLight (limits_to deep) (weigh.weight K.schema message.now)) }
+    ensures within_limits { OnOk result (KeepsLimits (limits_to deep) (weigh.weight K.schema message.now)) }
     ensures bad { IsErrOf result FlatError.BadTable
         → (v : Fields) → Shows K.schema message.now v → ⊥ }
     ensures limit { IsErrOf result FlatError.TableLimit
-        → IsLight (limits_to deep) (weigh.weight K.schema message.now) → ⊥ }
+        → KeepsLimits (limits_to deep) (weigh.weight K.schema message.now) → ⊥ }
     ensures takes_no_memory { IsErrOf result FlatError.OutOfMemory → ⊥ }
     ensures never_long { IsErrOf result FlatError.MessageTooLong → ⊥ }
     ensures complete { (v : Fields) → Shows K.schema message.now v
-        → IsLight (limits_to deep) (weigh.weight K.schema message.now) → IsOk result }
+        → KeepsLimits (limits_to deep) (weigh.weight K.schema message.now) → IsOk result }
     ensures exact { OnOk result (steps.new ≡ steps.old + (weigh.weight K.schema message.now).tables) }
     ensures bound { steps.new ≤ steps.old + 1000001 }
 {
@@ -99,15 +107,15 @@ pub fn verify<'a, K: TableKind, L: Ledger>(
     steps: &mut Steps<L>,
 ) -> Result<View<'a>, FlatError>
     ensures shows { IfOk result (λ v. IsRootView K.schema message.now v) }
-    ensures light { OnOk result (IsLight limits (weigh.weight K.schema message.now)) }
+    ensures within_limits { OnOk result (KeepsLimits limits (weigh.weight K.schema message.now)) }
     ensures bad { IsErrOf result FlatError.BadTable
         → (v : Fields) → Shows K.schema message.now v → ⊥ }
     ensures limit { IsErrOf result FlatError.TableLimit
-        → IsLight limits (weigh.weight K.schema message.now) → ⊥ }
+        → KeepsLimits limits (weigh.weight K.schema message.now) → ⊥ }
     ensures takes_no_memory { IsErrOf result FlatError.OutOfMemory → ⊥ }
     ensures never_long { IsErrOf result FlatError.MessageTooLong → ⊥ }
     ensures complete { (v : Fields) → Shows K.schema message.now v
-        → IsLight limits (weigh.weight K.schema message.now) → IsOk result }
+        → KeepsLimits limits (weigh.weight K.schema message.now) → IsOk result }
     ensures exact { OnOk result (steps.new ≡ steps.old + (weigh.weight K.schema message.now).tables) }
     ensures bound { steps.new ≤ steps.old + 1000001 }
 {
@@ -125,15 +133,15 @@ fn verify_by<'a, K: TableKind, L: Ledger>(
     requires parts { blank.parts ≡ L.parts }
     requires some { 0 < blank.parts }
     ensures shows { IfOk result (λ v. IsRootView K.schema message.now v) }
-    ensures light { OnOk result (IsLight (limits_to deep) (weigh.weight K.schema message.now)) }
+    ensures within_limits { OnOk result (KeepsLimits (limits_to deep) (weigh.weight K.schema message.now)) }
     ensures bad { IsErrOf result FlatError.BadTable
         → (v : Fields) → Shows K.schema message.now v → ⊥ }
     ensures limit { IsErrOf result FlatError.TableLimit
-        → IsLight (limits_to deep) (weigh.weight K.schema message.now) → ⊥ }
+        → KeepsLimits (limits_to deep) (weigh.weight K.schema message.now) → ⊥ }
     ensures takes_no_memory { IsErrOf result FlatError.OutOfMemory → ⊥ }
     ensures never_long { IsErrOf result FlatError.MessageTooLong → ⊥ }
     ensures complete { (v : Fields) → Shows K.schema message.now v
-        → IsLight (limits_to deep) (weigh.weight K.schema message.now) → IsOk result }
+        → KeepsLimits (limits_to deep) (weigh.weight K.schema message.now) → IsOk result }
 {
     let mut steps: Steps<L> = Steps::new(blank);
     verify_to(message, kind, deep, &mut steps)
@@ -146,15 +154,15 @@ pub fn verify_uncounted_to<'a, K: TableKind>(
     deep: bool,
 ) -> Result<View<'a>, FlatError>
     ensures shows { IfOk result (λ v. IsRootView K.schema message.now v) }
-    ensures light { OnOk result (IsLight (limits_to deep) (weigh.weight K.schema message.now)) }
+    ensures within_limits { OnOk result (KeepsLimits (limits_to deep) (weigh.weight K.schema message.now)) }
     ensures bad { IsErrOf result FlatError.BadTable
         → (v : Fields) → Shows K.schema message.now v → ⊥ }
     ensures limit { IsErrOf result FlatError.TableLimit
-        → IsLight (limits_to deep) (weigh.weight K.schema message.now) → ⊥ }
+        → KeepsLimits (limits_to deep) (weigh.weight K.schema message.now) → ⊥ }
     ensures takes_no_memory { IsErrOf result FlatError.OutOfMemory → ⊥ }
     ensures never_long { IsErrOf result FlatError.MessageTooLong → ⊥ }
     ensures complete { (v : Fields) → Shows K.schema message.now v
-        → IsLight (limits_to deep) (weigh.weight K.schema message.now) → IsOk result }
+        → KeepsLimits (limits_to deep) (weigh.weight K.schema message.now) → IsOk result }
 {
     verify_by::<K, Brand>(message, kind, deep, Blank::new(1))
 }
@@ -165,15 +173,15 @@ pub fn verify_uncounted<'a, K: TableKind>(
     kind: &K,
 ) -> Result<View<'a>, FlatError>
     ensures shows { IfOk result (λ v. IsRootView K.schema message.now v) }
-    ensures light { OnOk result (IsLight limits (weigh.weight K.schema message.now)) }
+    ensures within_limits { OnOk result (KeepsLimits limits (weigh.weight K.schema message.now)) }
     ensures bad { IsErrOf result FlatError.BadTable
         → (v : Fields) → Shows K.schema message.now v → ⊥ }
     ensures limit { IsErrOf result FlatError.TableLimit
-        → IsLight limits (weigh.weight K.schema message.now) → ⊥ }
+        → KeepsLimits limits (weigh.weight K.schema message.now) → ⊥ }
     ensures takes_no_memory { IsErrOf result FlatError.OutOfMemory → ⊥ }
     ensures never_long { IsErrOf result FlatError.MessageTooLong → ⊥ }
     ensures complete { (v : Fields) → Shows K.schema message.now v
-        → IsLight limits (weigh.weight K.schema message.now) → IsOk result }
+        → KeepsLimits limits (weigh.weight K.schema message.now) → IsOk result }
 {
     verify_uncounted_to(message, kind, false)
 }

@@ -42,7 +42,7 @@ pub fn end_after(cell: Cell, end: usize) -> usize
     }
 }
 
-/// Adds the distances of a table's entries from it, and its own bytes behind the first four, in which
+/// Adds the distances of a table's entries from it, and its own bytes after the first four, in which
 /// links are still to be set. Gives the table's inline size: where the last of its bytes ends.
 pub fn push_parts(
     entries: &[BlockField],

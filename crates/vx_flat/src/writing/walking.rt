@@ -68,7 +68,7 @@ fn member_table<K: TableKind>(kind: &K, union: u16, tag: u8) -> u16
     tag_table(kind, union, tag).unwrap_or(0)
 }
 
-/// What a field's offset aims at.
+/// What a field's offset points at.
 fn link_kind(field: FieldKind) -> LinkKind
     ensures { result ≡ link_kind field }
 {
@@ -189,7 +189,7 @@ fn push_all<K: TableKind>(
     Ok(())
 }
 
-/// Writes the block of a vector of numbers or structs, where the next link aims.
+/// Writes the block of a vector of numbers or structs, where the next link points.
 fn write_elements(size: usize, bytes: &[u8], builder: &mut Builder) -> Result<(), FlatError>
     requires { builder.old.failed ≡ false }
     ensures written { OnOk result
@@ -201,7 +201,7 @@ fn write_elements(size: usize, bytes: &[u8], builder: &mut Builder) -> Result<()
     builder.elements(size, bytes)
 }
 
-/// Writes the block of a string, where the next link aims.
+/// Writes the block of a string, where the next link points.
 fn write_text(text: &str, builder: &mut Builder) -> Result<(), FlatError>
     requires { builder.old.failed ≡ false }
     ensures written { OnOk result
@@ -213,7 +213,7 @@ fn write_text(text: &str, builder: &mut Builder) -> Result<(), FlatError>
     builder.put_text(text)
 }
 
-/// Writes the block of a vector of so many links of a kind, where the next link aims.
+/// Writes the block of a vector of so many links of a kind, where the next link points.
 fn write_links(kind: LinkKind, count: usize, builder: &mut Builder) -> Result<(), FlatError>
     requires works { builder.old.failed ≡ false }
     requires few { count ≤ 2 ^ 61 }
@@ -226,7 +226,7 @@ fn write_links(kind: LinkKind, count: usize, builder: &mut Builder) -> Result<()
     builder.links(kind, count)
 }
 
-/// Writes the blocks of a vector of strings, where the next link aims.
+/// Writes the blocks of a vector of strings, where the next link points.
 fn write_texts(texts: &[String], builder: &mut Builder) -> Result<(), FlatError>
     requires { builder.old.failed ≡ false }
     ensures written { OnOk result (builder.new ≡ with_rest builder.old
@@ -302,7 +302,7 @@ fn write_fields<K: TableKind>(
     Ok(())
 }
 
-/// Writes the blocks of a vector of tables, where the next link aims.
+/// Writes the blocks of a vector of tables, where the next link points.
 #[cycle(blocks)]
 fn write_rows<K: TableKind>(
     alloc: Global,

@@ -2,7 +2,7 @@
 
 ghost use Rattle.std.specs.Prelude.{◌≡◌};
 ghost use Rattle.vx_flat.specs.Pieces.{default_entry};
-ghost use Rattle.vx_scalars.specs.Places.{lent};
+ghost use Rattle.vx_scalars.specs.Places.{borrowed};
 ghost use Rattle.vx_scalars.specs.Stats.{told as told_of};
 ghost use Rattle.vx_scalar_wire.specs.StatsBlocks.{vector_entry, flag_entry, count_entry, table_entries, stored_field};
 ghost use Rattle.vx_scalar_wire.specs.StatsTable.{precision_of, IsStorableCount};
@@ -56,7 +56,7 @@ fn vector_entry_of(bytes: &Option<Blob>) -> BlockField
 
 // The entry of a precision, which is left out where it is 0.
 fn precision_entry(told: Precision<&ScalarValue>) -> BlockField
-    ensures { result ≡ default_entry 1 (precision_of (told_of (lent told.entry))) }
+    ensures { result ≡ default_entry 1 (precision_of (told_of (borrowed told.entry))) }
 {
     match told {
         Precision::Exact(_) => BlockField::Number { width: 1, bits: 1 },
@@ -66,7 +66,7 @@ fn precision_entry(told: Precision<&ScalarValue>) -> BlockField
 
 // The entry of a flag, where what is told is one, and exact.
 fn flag_entry_of(told: Precision<&ScalarValue>) -> BlockField
-    ensures { result ≡ flag_entry (told_of (lent told.entry)) }
+    ensures { result ≡ flag_entry (told_of (borrowed told.entry)) }
 {
     let Precision::Exact(value) = told else {
         return BlockField::Absent;
@@ -82,8 +82,8 @@ fn flag_entry_of(told: Precision<&ScalarValue>) -> BlockField
 
 // The entry of a count, where what is told is one, and exact.
 fn count_entry_of(told: Precision<&ScalarValue>) -> BlockField
-    ensures entry { result ≡ count_entry (told_of (lent told.entry)) }
-    ensures storable { IsStorableCount (told_of (lent told.entry)) }
+    ensures entry { result ≡ count_entry (told_of (borrowed told.entry)) }
+    ensures storable { IsStorableCount (told_of (borrowed told.entry)) }
 {
     let Precision::Exact(counted) = told else {
         return BlockField::Absent;

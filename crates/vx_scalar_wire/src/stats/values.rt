@@ -1,7 +1,7 @@
 //! The values of a set of statistics as bytes.
 
 ghost use Rattle.std.specs.Prelude.{◌≡◌, IfOk, IfErr, OnOk};
-ghost use Rattle.vx_scalars.specs.Places.{lent};
+ghost use Rattle.vx_scalars.specs.Places.{borrowed};
 ghost use Rattle.vx_scalars.specs.Stats.{told as told_of};
 ghost use Rattle.vx_scalar_wire.specs.StatsBlocks.{stored_field};
 ghost use Rattle.vx_scalars.specs.WrittenStats.{written_sum};
@@ -20,10 +20,10 @@ pub fn value_bytes(
     alloc: Global,
     told: Precision<&ScalarValue>,
 ) -> Result<Option<Blob>, ScalarWireError>
-    ensures written { IfOk result (λ b. stored_field b ≡ value_field (told_of (lent told.entry))) }
-    ensures writable { OnOk result (IsWritableTold (told_of (lent told.entry))) }
-    ensures storable { OnOk result (IsStorable (told_of (lent told.entry))) }
-    ensures cause { IfErr result (λ e. RefusesWritingTold e (told_of (lent told.entry))) }
+    ensures written { IfOk result (λ b. stored_field b ≡ value_field (told_of (borrowed told.entry))) }
+    ensures writable { OnOk result (IsWritableTold (told_of (borrowed told.entry))) }
+    ensures storable { OnOk result (IsStorable (told_of (borrowed told.entry))) }
+    ensures cause { IfErr result (λ e. RefusesWritingTold e (told_of (borrowed told.entry))) }
 {
     match told {
         Precision::Exact(value) | Precision::Inexact(value) => {
@@ -41,10 +41,10 @@ pub fn sum_bytes(
     alloc: Global,
     told: Precision<&ScalarValue>,
 ) -> Result<Option<Blob>, ScalarWireError>
-    ensures written { IfOk result (λ b. stored_field b ≡ value_field (written_sum (told_of (lent told.entry)))) }
-    ensures writable { OnOk result (IsWritableTold (written_sum (told_of (lent told.entry)))) }
-    ensures storable { OnOk result (IsStorable (written_sum (told_of (lent told.entry)))) }
-    ensures cause { IfErr result (λ e. RefusesWritingTold e (written_sum (told_of (lent told.entry)))) }
+    ensures written { IfOk result (λ b. stored_field b ≡ value_field (written_sum (told_of (borrowed told.entry)))) }
+    ensures writable { OnOk result (IsWritableTold (written_sum (told_of (borrowed told.entry)))) }
+    ensures storable { OnOk result (IsStorable (written_sum (told_of (borrowed told.entry)))) }
+    ensures cause { IfErr result (λ e. RefusesWritingTold e (written_sum (told_of (borrowed told.entry)))) }
 {
     let Precision::Exact(value) = told else {
         return Ok(None);

@@ -1,5 +1,5 @@
 use Rattle.std.proofs.Common.{◌≡◌, ◌+◌, take, option_copied}
-use Rattle.vx_scalars.specs.Falls.{value_size, ref_size, values_size, slice_size, typed_size, variant_size}
+use Rattle.vx_scalars.specs.Measures.{value_size, ref_size, values_size, slice_size, typed_size, variant_size}
 use Rattle.vx_scalars.specs.Seen.{value_of, seen, all_seen}
 use Rattle.vx_scalars.proofs.+copy.Given as goal
 

@@ -38,7 +38,7 @@ impl BufferLengths {
         Ok(())
     }
 
-    /// The lengths in their order, lent.
+    /// The lengths in their order, borrowed.
     pub fn as_slice(&self) -> &[usize]
         ensures { result.now ≡ self.now }
     {

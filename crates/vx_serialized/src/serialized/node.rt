@@ -1,4 +1,4 @@
-//! The nodes of a serialized array, lent.
+//! The nodes of a serialized array, borrowed.
 
 ghost use Rattle.std.specs.Prelude.{◌≡◌, ◌<◌, Some, None, length, slice_get, IfOk, IfSome, IfNone, OnErr, IsOkUnless};
 ghost use Rattle.vx_trees.specs.Rose.{label, below, count};
@@ -20,7 +20,7 @@ use vx_buffer::{BufferHandle, BufferHandles};
 use vx_flat::View;
 use vx_types::Names;
 
-/// A node of a serialized array, with the nodes below it: a place in the message, lent. Contracts see its tree.
+/// A node of a serialized array, with the nodes below it: a place in the message, borrowed. Contracts see its tree.
 #[derive(Drop)]
 pub struct SerializedNode<'a> {
     view: View<'a>,
@@ -127,7 +127,7 @@ impl<'a> SerializedNode<'a> {
         u16::from_le_bytes([indices[2 * i], indices[2 * i + 1]])
     }
 
-    /// The node's buffer at this place, lent.
+    /// The node's buffer at this place, borrowed.
     ///
     /// # Errors
     /// `OutOfBounds`, exactly where the node names no buffer at this place, or one that is not there.
@@ -157,7 +157,7 @@ impl<'a> SerializedNode<'a> {
     /// The names of the node's statistics that stand, in the order in which a table has them.
     ///
     /// # Errors
-    /// Want of memory alone.
+    /// Allocation failure alone.
     pub fn stat_names(&self, alloc: Global) -> Result<Names, WireError>
         ensures ok { IfOk result (λ names. names ≡ names_in (label self.now.root).stats) }
         ensures err { IsOkUnless result WireError.OutOfMemory }
@@ -171,7 +171,7 @@ impl<'a> SerializedNode<'a> {
     /// The length of each buffer of the message, by its descriptor.
     ///
     /// # Errors
-    /// Want of memory alone.
+    /// Allocation failure alone.
     pub fn buffer_lengths(&self, alloc: Global) -> Result<BufferLengths, WireError>
         ensures ok { IfOk result (λ ls. ls ≡ lengths_of self.now.descriptors) }
         ensures err { IsOkUnless result WireError.OutOfMemory }

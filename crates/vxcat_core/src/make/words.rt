@@ -10,7 +10,7 @@ use vx_types::Name;
 /// How many rows a table may have.
 pub const MAX_ROWS: u64 = 1_000_000;
 
-/// The words behind `make`: the seed, how many rows the table has, and the files that are saved.
+/// The words after `make`: the seed, how many rows the table has, and the files that are saved.
 #[derive(Drop)]
 pub struct MakeWords<'a> {
     pub seed: u64,

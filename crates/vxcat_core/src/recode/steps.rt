@@ -93,7 +93,7 @@ fn load_named<S: Store>(
     ensures told { (S.state store.new).tells ≡ (S.state store.old).tells }
     ensures files { (S.state store.new).file ≡ (S.state store.old).file }
     ensures save_faults { (S.state store.new).save_faults ≡ (S.state store.old).save_faults }
-    ensures never_falls { (S.state store.old).load_faults ≤ (S.state store.new).load_faults }
+    ensures never_decreases { (S.state store.old).load_faults ≤ (S.state store.new).load_faults }
     ensures cause { IfErr result (λ status. RefusesLoad status (S.state store.old) (S.state store.new)) }
 {
     match name {

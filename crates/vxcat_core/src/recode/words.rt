@@ -8,7 +8,7 @@ use crate::numbers::decimal_number;
 use crate::options::{Options, parse_options};
 use vx_types::Name;
 
-/// The words behind `recode`: the files that it reads and writes, the length of the array, and the options.
+/// The words after `recode`: the files that it reads and writes, the length of the array, and the options.
 #[derive(Drop)]
 pub struct RecodeWords<'a> {
     pub type_file: &'a Name,
@@ -20,7 +20,7 @@ pub struct RecodeWords<'a> {
     pub options: Options<'a>,
 }
 
-/// What the words name where they are `recode TYPE BLOB LEN IDS OUT OUTIDS` and options behind these, and where the two
+/// What the words name where they are `recode TYPE BLOB LEN IDS OUT OUTIDS` and options after these, and where the two
 /// names of outputs differ.
 pub fn parse_recode<'a>(words: &'a [Name]) -> Option<RecodeWords<'a>>
     ensures invoked { IfSome result (λ recode. InvokesRecode words.now (line_of recode)) }

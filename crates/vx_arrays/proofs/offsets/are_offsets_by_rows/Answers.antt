@@ -2,7 +2,7 @@
 use Rattle.std.proofs.Common.{arith}
 use Rattle.std.proofs.lemmas.Bool.{false≢true}
 use Rattle.vx_array_tree.specs.Tree.{rows_of}
-use Rattle.vx_arrays.proofs.Rising.{none_unnatural, none_falls}
+use Rattle.vx_arrays.proofs.Rising.{none_unnatural, none_decreases}
 use Rattle.vx_arrays.proofs.offsets.are_offsets_by_rows.Goals as goal
 
 pub returns-in-None : goal.returns-in-None
@@ -14,5 +14,5 @@ returns-in-None c = (
 pub returns-then-offset-last : goal.returns-then-offset-last
 returns-then-offset-last c = (
   λ t. absurd (false≢true t),
-  λ o. absurd (none_falls (rows_of c.args.offsets.now) c.args.parts c.args.total c.loop-i.i c.loop-i.last c.in-Some.offset c.loop-i.invariant c.in-Some.ensures.value (omega arith) c.if-offset-last.true o),
+  λ o. absurd (none_decreases (rows_of c.args.offsets.now) c.args.parts c.args.total c.loop-i.i c.loop-i.last c.in-Some.offset c.loop-i.invariant c.in-Some.ensures.value (omega arith) c.if-offset-last.true o),
 )

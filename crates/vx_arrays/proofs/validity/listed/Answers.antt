@@ -1,4 +1,4 @@
--- What was put behind two children stands behind them.
+-- What was put after two children stands after them.
 use Rattle.vx_array_tree.specs.Tree.{option_trees}
 use Rattle.vx_arrays.proofs.Behind.{behind_two, on_ok}
 use Rattle.vx_arrays.proofs.validity.listed.Goals as goal

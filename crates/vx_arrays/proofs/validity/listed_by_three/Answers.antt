@@ -1,4 +1,4 @@
--- What was put behind three children stands behind them.
+-- What was put after three children stands after them.
 use Rattle.vx_array_tree.specs.Tree.{option_trees}
 use Rattle.vx_arrays.proofs.Behind.{behind_three, on_ok}
 use Rattle.vx_arrays.proofs.validity.listed_by_three.Goals as goal

@@ -1,4 +1,4 @@
--- What was put behind the first child stands behind it.
+-- What was put after the first child stands after it.
 use Rattle.std.proofs.Common.{◌∙◌}
 use Rattle.vx_array_tree.specs.Tree.{option_trees}
 use Rattle.vx_arrays.proofs.Behind.{behind_one, on_ok}

@@ -1,7 +1,7 @@
 use Rattle.std.proofs.Common.{◌≡◌, ◌+◌, take, option_copied}
 use Rattle.vx_trees.specs.Rose.{roses_of}
 use Rattle.vx_types.specs.Value.{values_cells}
-use Rattle.vx_scalars.specs.Falls.{value_size, slice_size}
+use Rattle.vx_scalars.specs.Measures.{value_size, slice_size}
 use Rattle.vx_scalars.specs.Seen.{all_seen, seen}
 use Rattle.vx_rows.proofs.cells.+cells.Given as goal
 

@@ -1,6 +1,6 @@
 -- The search for a field goes on until the name is the one.
 use Rattle.std.proofs.Common.{sym, ◌∙◌, arith}
-use Rattle.vx_rows.proofs.Fieldwise.{field_found, field_fits, field_null, field_smaller, field_none, lent_counts, search_on}
+use Rattle.vx_rows.proofs.Fieldwise.{field_found, field_fits, field_null, field_smaller, field_none, borrowed_counts, search_on}
 use Rattle.vx_rows.proofs.merging.field_in.Goals as goal
 
 pub returns-in-Some-clause-found : goal.returns-in-Some-clause-found
@@ -44,7 +44,7 @@ loop-i-preserved c =
 pub returns-clause-found : goal.returns-clause-found
 returns-clause-found c =
     let s = c.args.structure in
-    let l = lent_counts s.fields.now.names s.fields.now.types s.values.now c.as_slice-names.result.now c.as_slice-types.result.now c.as_slice-values.result.now
+    let l = borrowed_counts s.fields.now.names s.fields.now.types s.values.now c.as_slice-names.result.now c.as_slice-types.result.now c.as_slice-values.result.now
     (c.as_slice-names.ensures ∙ c.names.ensures) (c.as_slice-types.ensures ∙ c.fields.ensures) c.as_slice-values.ensures c.requires.named c.requires.fits in
     field_none s.fields.now.names s.fields.now.types s.values.now c.args.name.now c.as_slice-names.result.now c.as_slice-types.result.now c.as_slice-values.result.now
     (c.as_slice-names.ensures ∙ c.names.ensures) (c.as_slice-types.ensures ∙ c.fields.ensures) c.as_slice-values.ensures c.loop-i.i

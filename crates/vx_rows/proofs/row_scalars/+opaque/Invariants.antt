@@ -1,7 +1,7 @@
 use Rattle.std.proofs.Common.{◌≡◌, false, take}
 use Rattle.vx_trees.specs.Rose.{roses_of}
 use Rattle.vx_types.specs.Value.{have_opaque}
-use Rattle.vx_scalars.specs.Falls.{value_size, slice_size}
+use Rattle.vx_scalars.specs.Measures.{value_size, slice_size}
 use Rattle.vx_rows.specs.Plain.{plain_value, plain_values}
 use Rattle.vx_rows.proofs.row_scalars.+opaque.Given as goal
 

@@ -1,5 +1,5 @@
 use Rattle.std.proofs.Common.{◌≡◌, take, option_copied}
-use Rattle.vx_scalars.specs.Falls.{value_size, slice_size}
+use Rattle.vx_scalars.specs.Measures.{value_size, slice_size}
 use Rattle.vx_scalars.specs.Seen.{all_seen, seen}
 use Rattle.vx_rows.proofs.row_scalars.+rows_of_scalars.Given as goal
 

@@ -1,5 +1,5 @@
 use Rattle.std.proofs.Common.{◌≡◌, ◌+◌, take, option_copied}
-use Rattle.vx_scalars.specs.Falls.{value_size, slice_size, typed_size}
+use Rattle.vx_scalars.specs.Measures.{value_size, slice_size, typed_size}
 use Rattle.vx_scalars.specs.Seen.{all_seen, seen, value_of}
 use Rattle.vx_rows.proofs.same_scalars.+same_scalars.Given as goal
 

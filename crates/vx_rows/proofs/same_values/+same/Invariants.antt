@@ -1,5 +1,5 @@
 use Rattle.std.proofs.Common.{◌≡◌, take}
-use Rattle.vx_scalars.specs.Falls.{value_size, slice_size}
+use Rattle.vx_scalars.specs.Measures.{value_size, slice_size}
 use Rattle.vx_rows.specs.Plain.{plain_value, plain_values}
 use Rattle.vx_rows.proofs.same_values.+same.Given as goal
 

@@ -3,7 +3,7 @@ use Rattle.vx_trees.specs.Rose.{roses_of}
 use Rattle.vx_types.specs.Fits.{EachFits, FitBy}
 use Rattle.vx_types.specs.Seen.{typ, typs}
 use Rattle.vx_types.specs.Words.{entries}
-use Rattle.vx_scalars.specs.Falls.{value_size, ref_size, values_size, slice_size}
+use Rattle.vx_scalars.specs.Measures.{value_size, ref_size, values_size, slice_size}
 use Rattle.vx_scalars.specs.Seen.{seen, all_seen}
 use Rattle.vx_scalars.proofs.fits.+fits.Given as goal
 

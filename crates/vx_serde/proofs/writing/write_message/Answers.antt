@@ -3,7 +3,7 @@ use Rattle.std.proofs.lemmas.Result.{err_from_is_err_and, IfOk-weaker, IfErr-wea
 use Rattle.vx_flat.specs.declared.builder.piece.LinkKind.TheVariants as link
 use Rattle.vx_flat.specs.Building.{Takes, RefusesPieces, nothing_built}
 use Rattle.vx_flat.specs.Pieces.{pieces}
-use Rattle.vx_flat.specs.Limits.{limits_to, IsLight}
+use Rattle.vx_flat.specs.Limits.{limits_to, KeepsLimits}
 use Rattle.vx_flat.specs.Weight as weigh
 use Rattle.vx_wire_tree.specs.ReadBack.{HasStorableStats}
 use Rattle.vx_wire_tree.specs.Written.{wire}
@@ -11,7 +11,7 @@ use Rattle.vx_encodings.specs.Messages.{codec}
 use Rattle.vx_serialized.specs.ArraySchema.{array_schema}
 use Rattle.vx_flat.specs.Building.{AreWritten}
 use Rattle.vx_serde.specs.Blocks.{message_by, layout_by}
-use Rattle.vx_serde.proofs.MessageBlocks.{layout-written, message-shown, blocks-refused, too-many, heavy, some-written, works-written, idle-written, if_ok-same}
+use Rattle.vx_serde.proofs.MessageBlocks.{layout-written, message-shown, blocks-refused, too-many, over_limits, some-written, works-written, idle-written, if_ok-same}
 use Rattle.vx_serialized.proofs.LawsOfAnswers.{ok_of}
 use Rattle.vx_serde.proofs.WiredNodes.{no_session, wired-nodes}
 use Rattle.vx_serde.proofs.WiredStats.{wire-told}
@@ -90,8 +90,8 @@ unreachable-requires c =
     let ok = c.in-Err.ensures.complete (works-written es w ds of b wrote) in
     absurd cc
 
-pub light_message-requires : goal.light_message-requires
-light_message-requires c =
+pub limited_message-requires : goal.limited_message-requires
+limited_message-requires c =
     let a = c.args.array.now in
     let es = c.args.encodings.now in
     let ds = c.args.descriptors.now in
@@ -112,18 +112,18 @@ returns-clause-written c = λ s.
     let b = c.write_blocks.new.builder in
     let wrote : AreWritten nothing_built (pieces array_schema (message_by es w ds)) b = subst (λ z. AreWritten z (pieces array_schema (message_by es w ds)) b) c.with_room-builder.ensures (c.in_ok-write_blocks.ensures.written s) in
     let m = c.in-Ok.ensures.built ∙ layout-written es w ds of b wrote in
-    IfOk-weaker c.light_message.result (λ x. x.items ≡ c.in-Ok.message) (λ x. x.items ≡ layout_by es w ds) (λ x h. h ∙ m) c.light_message.ensures.same
+    IfOk-weaker c.limited_message.result (λ x. x.items ≡ c.in-Ok.message) (λ x. x.items ≡ layout_by es w ds) (λ x h. h ∙ m) c.limited_message.ensures.same
 
 pub returns-clause-storable : goal.returns-clause-storable
-returns-clause-storable c = ok_of c.light_message.result (HasStorableStats codec c.args.array.now) c.in_ok-write_blocks.ensures.storable
+returns-clause-storable c = ok_of c.limited_message.result (HasStorableStats codec c.args.array.now) c.in_ok-write_blocks.ensures.storable
 
 pub returns-clause-short : goal.returns-clause-short
 returns-clause-short c =
-    IfOk-weaker c.light_message.result (λ x. x.items ≡ c.in-Ok.message) (λ x. length x.items < 2 ^ 31) (λ x h. subst (λ z. length z < 2 ^ 31) (sym h) c.in-Ok.ensures.fits) c.light_message.ensures.same
+    IfOk-weaker c.limited_message.result (λ x. x.items ≡ c.in-Ok.message) (λ x. length x.items < 2 ^ 31) (λ x h. subst (λ z. length z < 2 ^ 31) (sym h) c.in-Ok.ensures.fits) c.limited_message.ensures.same
 
-pub returns-clause-light : goal.returns-clause-light
-returns-clause-light c =
-    if_ok-same c.light_message.result (λ x. x.items) c.in-Ok.message (λ z. IsLight (limits_to c.args.deep) (weigh.weight array_schema z)) c.light_message.ensures.same c.light_message.ensures.light
+pub returns-clause-within_limits : goal.returns-clause-within_limits
+returns-clause-within_limits c =
+    if_ok-same c.limited_message.result (λ x. x.items) c.in-Ok.message (λ z. KeepsLimits (limits_to c.args.deep) (weigh.weight array_schema z)) c.limited_message.ensures.same c.limited_message.ensures.within_limits
 
 pub returns-clause-refused : goal.returns-clause-refused
 returns-clause-refused c = λ s.
@@ -135,4 +135,4 @@ returns-clause-refused c = λ s.
     let b = c.write_blocks.new.builder in
     let wrote : AreWritten nothing_built (pieces array_schema (message_by es w ds)) b = subst (λ z. AreWritten z (pieces array_schema (message_by es w ds)) b) c.with_room-builder.ensures (c.in_ok-write_blocks.ensures.written s) in
     let m = c.in-Ok.ensures.built ∙ layout-written es w ds of b wrote in
-    IfErr-weaker c.light_message.result _ _ (λ e h. heavy es w ds of (limits_to c.args.deep) c.in-Ok.message e m h) c.light_message.ensures.refused
+    IfErr-weaker c.limited_message.result _ _ (λ e h. over_limits es w ds of (limits_to c.args.deep) c.in-Ok.message e m h) c.limited_message.ensures.refused

@@ -97,7 +97,7 @@ returns-clause-made c = λ s q.
     let now = c.place.new.ctx.ids in
     let m = c.in_ok-message.ensures.written s ∙ numbered ∙ message-is now o w ds described in
     serialized s a o c.args.ctx.now c.place.new.ctx _ (c.in_ok-found.ensures.grown s q) c.in_ok-message.ensures.storable c.requires.messages
-    (writable-is now o w c.in_ok-found.placed.end c.in_ok-found.placed.descriptors.items c.in_ok-message.message.items placed m c.in_ok-message.ensures.short c.in_ok-message.ensures.light
+    (writable-is now o w c.in_ok-found.placed.end c.in_ok-found.placed.descriptors.items c.in_ok-message.message.items placed m c.in_ok-message.ensures.short c.in_ok-message.ensures.within_limits
     (omega (arith, c.has_end.ensures.within c.if-not-has_end.false, c.pad_at-padding.ensures.value, c.len.ensures)))
     (c.in_ok-blob_buffers.ensures
     ∙ buffers-are now o w c.in_ok-found.placed.end c.in_ok-found.placed.descriptors.items c.in_ok-message.message.items c.in_ok-found.found.buffers c.pad_at-padding.result

@@ -46,7 +46,7 @@ unreachable-requires g t c =
     get_past node.children c.loop-i.i (omega (arith, same, wire-length c.args.ids.now c.args.node.now, c.nchildren-i-end.ensures, c.loop-i-test.true)) (sym c.in_default-get.ensures)
 
 pub decode_node-requires : goal.decode_node-requires
-decode_node-requires g t c = (omega (arith, child-smaller c.args.node.now c.loop-i.i c.child-below.result c.child-below.ensures, c.decreases), c.requires.lent)
+decode_node-requires g t c = (omega (arith, child-smaller c.args.node.now c.loop-i.i c.child-below.result c.child-below.ensures, c.decreases), c.requires.borrowed)
 
 pub returns-in_err-child-clause-cause : goal.returns-in_err-child-clause-cause
 returns-in_err-child-clause-cause g t c =

@@ -1,7 +1,7 @@
 use Rattle.std.proofs.Common.{sym, ◌∙◌}
 use Rattle.std.proofs.lemmas.Result.{IfOk-weaker, IfErr-weaker}
 use Rattle.vx_types.specs.Seen.{typ}
-use Rattle.vx_wire_tree.proofs.Laws.{kept_tells}
+use Rattle.vx_wire_tree.proofs.Laws.{kept_decodes}
 use Rattle.vx_encodings.specs.Messages.{codec}
 use Rattle.vx_registry.specs.Meaning.{session_meaning}
 use Rattle.vx_serialized.specs.Serialized.{wire_in}
@@ -18,7 +18,7 @@ pub returns-clause-told : goal.returns-clause-told
 returns-clause-told g c =
     let s = session_meaning (λ b. (goal.ArrayPlugin-dyn g (b.vtable, b.value)).means b.value) (λ b. (goal.ExtPlugin-dyn g (b.vtable, b.value)).accepted b.value) c.args.session.now in
     IfOk-weaker c.keep_node.result _ _
-    (λ t kept. kept_tells codec s c.args.id.now (wire_in c.args.ids.now c.args.node.now) (typ c.args.dtype.now) c.args.len t c.requires.named c.requires.unread
+    (λ t kept. kept_decodes codec s c.args.id.now (wire_in c.args.ids.now c.args.node.now) (typ c.args.dtype.now) c.args.len t c.requires.named c.requires.unread
     (sym c.allows_unknown.ensures ∙ c.if-not-allows_unknown.false) kept) c.keep_node.ensures.kept
 
 pub returns-clause-cause : goal.returns-clause-cause

@@ -31,14 +31,14 @@ returns-in-Revised-clause-cause g c = rw c.in-Revised.is (c.build_of-in-Revised.
 pub returns-in-Ok-clause-built : goal.returns-in-Ok-clause-built
 returns-in-Ok-clause-built g c =
     rw c.in-Boxed.is
-    (plugin_builds (λ b. (goal.ArrayPlugin-dyn g (b.vtable, b.value)).means b.value) _ c.in-Some.plugin.now c.in-Some.ensures _ _ c.requires.lent c.args.head c.new-parts.result c.args.buffers c.args.children
+    (plugin_builds (λ b. (goal.ArrayPlugin-dyn g (b.vtable, b.value)).means b.value) _ c.in-Some.plugin.now c.in-Some.ensures _ _ c.requires.borrowed c.args.head c.new-parts.result c.args.buffers c.args.children
     (told_parts c.new-parts.result c.args.head c.args.buffers c.args.children c.new-parts.ensures.id c.new-parts.ensures.dtype c.new-parts.ensures.len c.new-parts.ensures.metadata c.new-parts.ensures.buffers c.new-parts.ensures.children) c.new-parts.ensures.buffers c.new-parts.ensures.children c.in-Ok.array c.in-Ok.ensures)
 
 pub returns-in-Err-clause-cause : goal.returns-in-Err-clause-cause
 returns-in-Err-clause-cause g c =
     rw c.in-Boxed.is
     (rw c.plugin_error.ensures
-    (plugin_unbuilt (λ b. (goal.ArrayPlugin-dyn g (b.vtable, b.value)).means b.value) _ c.in-Some.plugin.now c.in-Some.ensures _ _ c.requires.lent c.args.head c.new-parts.result c.args.buffers c.args.children
+    (plugin_unbuilt (λ b. (goal.ArrayPlugin-dyn g (b.vtable, b.value)).means b.value) _ c.in-Some.plugin.now c.in-Some.ensures _ _ c.requires.borrowed c.args.head c.new-parts.result c.args.buffers c.args.children
     (told_parts c.new-parts.result c.args.head c.args.buffers c.args.children c.new-parts.ensures.id c.new-parts.ensures.dtype c.new-parts.ensures.len c.new-parts.ensures.metadata c.new-parts.ensures.buffers c.new-parts.ensures.children) c.new-parts.ensures.buffers c.new-parts.ensures.children c.in-Err.e c.in-Err.ensures))
 
 pub unreachable-requires : goal.unreachable-requires

@@ -29,13 +29,13 @@ returns-in-Err-plan-clause-cause g c = rw c.in-Revised.is (rw c.from-in-Err-plan
 pub returns-in-Ok-plan_by-clause-plan : goal.returns-in-Ok-plan_by-clause-plan
 returns-in-Ok-plan_by-clause-plan g c =
     rw c.in-Boxed.is
-    (plugin_plans (λ b. (goal.ArrayPlugin-dyn g (b.vtable, b.value)).means b.value) _ c.in-Some.plugin.now c.in-Some.ensures _ _ c.requires.lent c.args.head.now c.in-Ok-plan_by.children c.in-Ok-plan_by.ensures)
+    (plugin_plans (λ b. (goal.ArrayPlugin-dyn g (b.vtable, b.value)).means b.value) _ c.in-Some.plugin.now c.in-Some.ensures _ _ c.requires.borrowed c.args.head.now c.in-Ok-plan_by.children c.in-Ok-plan_by.ensures)
 
 pub returns-in-Err-plan_by-clause-cause : goal.returns-in-Err-plan_by-clause-cause
 returns-in-Err-plan_by-clause-cause g c =
     rw c.in-Boxed.is
     (rw c.plugin_error.ensures
-    (plugin_unplanned (λ b. (goal.ArrayPlugin-dyn g (b.vtable, b.value)).means b.value) _ c.in-Some.plugin.now c.in-Some.ensures _ _ c.requires.lent c.in-Err-plan_by.e c.args.head.now c.in-Err-plan_by.ensures))
+    (plugin_unplanned (λ b. (goal.ArrayPlugin-dyn g (b.vtable, b.value)).means b.value) _ c.in-Some.plugin.now c.in-Some.ensures _ _ c.requires.borrowed c.in-Err-plan_by.e c.args.head.now c.in-Err-plan_by.ensures))
 
 pub unreachable-requires : goal.unreachable-requires
 unreachable-requires g c = no_plugin (λ b. (goal.ArrayPlugin-dyn g (b.vtable, b.value)).means b.value) _ c.in-None.ensures (rw c.in-Boxed.is at c.requires.within)

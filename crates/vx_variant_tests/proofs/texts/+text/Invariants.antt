@@ -1,5 +1,5 @@
 use Rattle.std.proofs.Common.{option_copied}
-use Rattle.vx_scalars.specs.Falls.{value_size, slice_size, values_size}
+use Rattle.vx_scalars.specs.Measures.{value_size, slice_size, values_size}
 use Rattle.vx_scalars.specs.Seen.{all_seen, seen}
 use Rattle.vx_variant_tests.proofs.texts.+text.Given as goal
 

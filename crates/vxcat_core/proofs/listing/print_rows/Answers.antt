@@ -19,5 +19,5 @@ loop-i-preserved g c =
     let shown = next ∙ ap (λ (l : List ℕ). l ++ row_lines c.args.array.now (c.loop-i.i + 1) (c.min-shown.result - (c.loop-i.i + 1))) (sym line) in
     record {
       written = up_to_ok _ _ _ _ _ _ _ c.loop-i.invariant.written shown c.in_ok-write_text.ensures.ok;
-      never_falls = omega (arith, c.loop-i.invariant.never_falls, c.write_text.ensures.never_falls);
+      never_decreases = omega (arith, c.loop-i.invariant.never_decreases, c.write_text.ensures.never_decreases);
     }

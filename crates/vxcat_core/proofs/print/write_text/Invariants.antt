@@ -5,7 +5,7 @@ use Rattle.vxcat_core.proofs.print.write_text.Given as goal
 abbrev pub invariant-loop-rest : goal.invariant-loop-rest
 invariant-loop-rest g l = record {
   written : AppendsUpTo (g.O.Sink.state l.fn.out).written (g.O.Sink.state l.out).written l.fn.text l.rest;
-  never_falls : (g.O.Sink.state l.fn.out).faults ≤ (g.O.Sink.state l.out).faults;
+  never_decreases : (g.O.Sink.state l.fn.out).faults ≤ (g.O.Sink.state l.out).faults;
 }
 
 abbrev pub decreases-loop-rest : goal.decreases-loop-rest

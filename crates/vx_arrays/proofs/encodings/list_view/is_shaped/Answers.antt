@@ -1,4 +1,4 @@
--- A node is of the shape exactly where its first three children and what stands behind them are right.
+-- A node is of the shape exactly where its first three children and what stands after them are right.
 use Rattle.std.proofs.lemmas.Bool.{false≢true}
 use Rattle.vx_types.specs.Seen.{typ}
 use Rattle.vx_arrays.proofs.ListViewed.{never_few, parts_decide}

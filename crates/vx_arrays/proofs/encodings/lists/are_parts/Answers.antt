@@ -1,4 +1,4 @@
--- Parts are of the shape where the elements are of the type, and the offsets and what stands behind are right.
+-- Parts are of the shape where the elements are of the type, and the offsets and what stands after are right.
 use Rattle.std.proofs.Common.{Some, refl, ◌∙◌, ap, sym}
 use Rattle.std.proofs.lemmas.Bool.{false≢true, iff_false}
 use Rattle.std.specs.Prelude.{option_map}

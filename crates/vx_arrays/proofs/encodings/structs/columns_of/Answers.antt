@@ -1,4 +1,4 @@
--- The columns stand behind a validity, where there is one child more than fields.
+-- The columns stand after a validity, where there is one child more than fields.
 use Rattle.std.proofs.Common.{◌≡◌, ◌-◌, length, take, drop, arith}
 use Rattle.vx_trees.specs.Rose.{count, roses_of}
 use Rattle.vx_trees.proofs.Lists.{count-roses_of}

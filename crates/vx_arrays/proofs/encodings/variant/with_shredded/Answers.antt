@@ -1,4 +1,4 @@
--- What was put behind the core stands behind it.
+-- What was put after the core stands after it.
 use Rattle.vx_array_tree.specs.Tree.{option_trees}
 use Rattle.vx_arrays.proofs.Behind.{behind_one, on_ok}
 use Rattle.vx_arrays.proofs.encodings.variant.with_shredded.Goals as goal

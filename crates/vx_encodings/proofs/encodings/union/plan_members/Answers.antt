@@ -1,4 +1,4 @@
--- There is a child for each member behind the tags.
+-- There is a child for each member after the tags.
 use Rattle.vx_encodings.proofs.UnionSteps.{members_planned}
 use Rattle.vx_encodings.proofs.encodings.union.plan_members.Goals as goal
 

@@ -6,6 +6,6 @@ abbrev pub invariant-loop-entry : goal.invariant-loop-entry
 invariant-loop-entry l = record {
   near : l.end ≤ 4 + 15 * l.entry-index;
   at : l.index ≡ l.entry-index;
-  slots : l.slots.items ++ entry_slots l.block l.aim l.index l.end (drop l.entry-index l.entries)
-      ≡ l.fn.slots.items ++ entry_slots l.block l.aim 0 4 l.entries;
+  slots : l.slots.items ++ entry_slots l.block l.target l.index l.end (drop l.entry-index l.entries)
+      ≡ l.fn.slots.items ++ entry_slots l.block l.target 0 4 l.entries;
 }

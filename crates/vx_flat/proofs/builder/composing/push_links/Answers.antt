@@ -11,4 +11,4 @@ returns c =
     c.in_ok-push_zeros.ensures
     ∙ (ap (λ x. x ++ zeros (4 * n)) c.in_ok-push_number.ensures
     ∙ (append_assoc m (le_bytes 4 n) (zeros (4 * n))
-    ∙ (λ i. m ++ (le_bytes 4 (sym (links_length n []) i) ++ sym (links_zero n (c.args.spot.aim + 4)) i))))
+    ∙ (λ i. m ++ (le_bytes 4 (sym (links_length n []) i) ++ sym (links_zero n (c.args.offsets.target + 4)) i))))

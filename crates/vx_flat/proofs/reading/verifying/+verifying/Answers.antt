@@ -15,7 +15,7 @@ use Rattle.vx_flat.specs.declared.schema.FieldKind.TheVariants.{Union}
 use Rattle.vx_flat.proofs.Counting.{counted_nothing}
 use Rattle.vx_flat.specs.Reading.{union_shown}
 use Rattle.vx_flat.specs.Weight.{union_weight}
-use Rattle.vx_flat.proofs.Checked.{not_inline, verifies_inline, union_tag, union_aim, was_inline, was_counted, field_judged, all_inline, inline_next, inline_here, checked_levels, checked_room, table_checked, table_lost}
+use Rattle.vx_flat.proofs.Checked.{not_inline, verifies_inline, union_tag, union_target, was_inline, was_counted, field_judged, all_inline, inline_next, inline_here, checked_levels, checked_budget, table_checked, table_lost}
 use Rattle.vx_flat.proofs.FieldsLoop.{fields_start, fields_fail, fields_next, one_shown, one_weighs, shown_from, weighs_from}
 use Rattle.vx_flat.proofs.reading.verifying.+verifying.Goals as goal
 
@@ -25,7 +25,7 @@ verify_each_table-loop-init g n c =
     let s = g.K.TableKind.schema in (
       omega arith,
       each_starts m (λ q. table_shown s m q c.args.table)
-          (λ q. table_weight s m q c.args.table) c.args.room.now c.args.levels c.args.place c.args.n,
+          (λ q. table_weight s m q c.args.table) c.args.budget.now c.args.levels c.args.place c.args.n,
       refl,
     )
 
@@ -36,9 +36,9 @@ verify_each_table-returns-in_err-verify_table-clause-verifies g n c =
     let s = g.K.TableKind.schema in
     rw (p.1, p.2)
     (each_fails m (λ q. table_shown s m q c.args.table)
-    (λ q. table_weight s m q c.args.table) c.args.room.now c.args.levels c.args.place c.args.n
-    c.in_err-verify_table.field-0.0 c.loop.room c.loop.at c.loop.counter
-    c.loop-test.true c.loop.invariant.1 (rw (← c.target-aim.ensures) c.in_err-verify_table.ensures.verifies))
+    (λ q. table_weight s m q c.args.table) c.args.budget.now c.args.levels c.args.place c.args.n
+    c.in_err-verify_table.field-0.0 c.loop.budget c.loop.at c.loop.counter
+    c.loop-test.true c.loop.invariant.1 (rw (← c.target_at-target.ensures) c.in_err-verify_table.ensures.verifies))
 
 pub verify_each_table-loop-preserved : goal.verify_each_table-loop-preserved
 verify_each_table-loop-preserved g n c =
@@ -47,10 +47,10 @@ verify_each_table-loop-preserved g n c =
     let k = c.in_ok-verify_table.ensures.verifies in (
       omega (arith, c.loop.invariant.0),
       each_next m (λ q. table_shown s m q c.args.table)
-          (λ q. table_weight s m q c.args.table) c.args.room.now c.args.levels c.args.place c.args.n c.loop.room
-          c.verify_table.new.room c.loop.at c.loop.counter c.loop-test.true c.loop.invariant.1
-          (rw (← c.target-aim.ensures) k.0)
-          (rw (← c.target-aim.ensures) k.1),
+          (λ q. table_weight s m q c.args.table) c.args.budget.now c.args.levels c.args.place c.args.n c.loop.budget
+          c.verify_table.new.budget c.loop.at c.loop.counter c.loop-test.true c.loop.invariant.1
+          (rw (← c.target_at-target.ensures) k.0)
+          (rw (← c.target_at-target.ensures) k.1),
       let e = c.in_ok-verify_table.ensures.exact in
           omega (arith, c.loop.invariant.2, e),
     )
@@ -60,7 +60,7 @@ verify_each_table-returns-clause-verifies g n c =
     let m = c.args.message.now in
     let s = g.K.TableKind.schema in
     each_done m (λ q. table_shown s m q c.args.table)
-    (λ q. table_weight s m q c.args.table) c.args.room.now c.args.levels c.args.place c.args.n c.loop.room
+    (λ q. table_weight s m q c.args.table) c.args.budget.now c.args.levels c.args.place c.args.n c.loop.budget
     c.loop.at c.loop.counter
     c.loop-test.false c.loop.invariant.1
 
@@ -72,7 +72,7 @@ verify_tables-returns-in_err-add_bytes-clause-verifies g n c =
     let s = g.K.TableKind.schema in
     rw (p.1, p.2, k.0)
     (vector_crowded m (λ q. table_shown s m q c.args.table)
-    (λ q. table_weight s m q c.args.table) c.args.room.now c.args.levels c.args.place c.in-Some.n
+    (λ q. table_weight s m q c.args.table) c.args.budget.now c.args.levels c.args.place c.in-Some.n
     c.in-Some.ensures.count k.1)
 
 pub verify_tables-returns-clause-verifies : goal.verify_tables-returns-clause-verifies
@@ -80,57 +80,57 @@ verify_tables-returns-clause-verifies g n c =
     let m = c.args.message.now in
     let s = g.K.TableKind.schema in
     vector_verified m (λ q. table_shown s m q c.args.table)
-    (λ q. table_weight s m q c.args.table) c.args.room.now c.args.levels c.args.place c.in-Some.n
+    (λ q. table_weight s m q c.args.table) c.args.budget.now c.args.levels c.args.place c.in-Some.n
     c.in-Some.ensures.count
-    c.verify_each_table.result c.add_bytes.new.self c.verify_each_table.new.room
+    c.verify_each_table.result c.add_bytes.new.self c.verify_each_table.new.budget
     (c.in_ok-add_bytes.ensures.counts c.args.levels) c.verify_each_table.ensures.verifies
 
 pub verify_present-returns-in-Vector-clause-verifies : goal.verify_present-returns-in-Vector-clause-verifies
 verify_present-returns-in-Vector-clause-verifies g n c =
     let m = c.args.message.now in
     let s = g.K.TableKind.schema in
-    rw (c.in-Vector.is, ← c.target-aim.ensures, ← c.bytes.ensures.value)
-    (verifies_map c.verify_elements.result (elements_shown m c.target-aim.result c.bytes.result) (λ bs. elements bs) c.args.room.now c.args.levels
-    (elements_weight m c.target-aim.result c.bytes.result) c.verify_elements.new.room (c.verify_elements.ensures.verifies c.args.levels))
+    rw (c.in-Vector.is, ← c.target_at-target.ensures, ← c.bytes.ensures.value)
+    (verifies_map c.verify_elements.result (elements_shown m c.target_at-target.result c.bytes.result) (λ bs. elements bs) c.args.budget.now c.args.levels
+    (elements_weight m c.target_at-target.result c.bytes.result) c.verify_elements.new.budget (c.verify_elements.ensures.verifies c.args.levels))
 
 pub verify_present-returns-in-Structs-clause-verifies : goal.verify_present-returns-in-Structs-clause-verifies
 verify_present-returns-in-Structs-clause-verifies g n c =
     let m = c.args.message.now in
     let s = g.K.TableKind.schema in
-    rw (c.in-Structs.is, ← c.target-aim-in-Structs.ensures, ← c.struct_size.ensures.value)
-    (verifies_map c.verify_elements-in-Structs.result (elements_shown m c.target-aim-in-Structs.result c.struct_size.result) (λ bs. elements bs) c.args.room.now c.args.levels
-    (elements_weight m c.target-aim-in-Structs.result c.struct_size.result) c.verify_elements-in-Structs.new.room (c.verify_elements-in-Structs.ensures.verifies c.args.levels))
+    rw (c.in-Structs.is, ← c.target_at-target-in-Structs.ensures, ← c.struct_size.ensures.value)
+    (verifies_map c.verify_elements-in-Structs.result (elements_shown m c.target_at-target-in-Structs.result c.struct_size.result) (λ bs. elements bs) c.args.budget.now c.args.levels
+    (elements_weight m c.target_at-target-in-Structs.result c.struct_size.result) c.verify_elements-in-Structs.new.budget (c.verify_elements-in-Structs.ensures.verifies c.args.levels))
 
 pub verify_present-returns-in-Text-clause-verifies : goal.verify_present-returns-in-Text-clause-verifies
 verify_present-returns-in-Text-clause-verifies g n c =
     let m = c.args.message.now in
     let s = g.K.TableKind.schema in
-    rw (c.in-Text.is, ← c.target.ensures)
-    (verifies_map c.verify_text.result (text_shown m c.target.result) (λ bs. text bs) c.args.room.now c.args.levels
-    (text_weight m c.target.result) c.verify_text.new.room (c.verify_text.ensures.verifies c.args.levels))
+    rw (c.in-Text.is, ← c.target_at.ensures)
+    (verifies_map c.verify_text.result (text_shown m c.target_at.result) (λ bs. text bs) c.args.budget.now c.args.levels
+    (text_weight m c.target_at.result) c.verify_text.new.budget (c.verify_text.ensures.verifies c.args.levels))
 
 pub verify_present-returns-in-Texts-clause-verifies : goal.verify_present-returns-in-Texts-clause-verifies
 verify_present-returns-in-Texts-clause-verifies g n c =
     let m = c.args.message.now in
     let s = g.K.TableKind.schema in
-    rw (c.in-Texts.is, ← c.target-in-Texts.ensures)
-    (verifies_map c.verify_texts.result (vector_shown (λ q. text_shown m q) m c.target-in-Texts.result) (λ ss. texts ss) c.args.room.now c.args.levels
-    (vector_weight (λ q. text_weight m q) m c.target-in-Texts.result) c.verify_texts.new.room (c.verify_texts.ensures.verifies c.args.levels))
+    rw (c.in-Texts.is, ← c.target_at-in-Texts.ensures)
+    (verifies_map c.verify_texts.result (vector_shown (λ q. text_shown m q) m c.target_at-in-Texts.result) (λ ss. texts ss) c.args.budget.now c.args.levels
+    (vector_weight (λ q. text_weight m q) m c.target_at-in-Texts.result) c.verify_texts.new.budget (c.verify_texts.ensures.verifies c.args.levels))
 
 pub verify_present-returns-in-Tables-clause-verifies : goal.verify_present-returns-in-Tables-clause-verifies
 verify_present-returns-in-Tables-clause-verifies g n c =
     let m = c.args.message.now in
     let s = g.K.TableKind.schema in
-    rw (c.in-Tables.is, ← c.target-aim-in-Tables.ensures)
-    (verifies_map c.verify_tables.result (vector_shown (λ q. table_shown s m q c.in-Tables.table) m c.target-aim-in-Tables.result) (λ rs. tables (rows_from rs)) c.args.room.now c.args.levels
-    (vector_weight (λ q. table_weight s m q c.in-Tables.table) m c.target-aim-in-Tables.result) c.verify_tables.new.room c.verify_tables.ensures.verifies)
+    rw (c.in-Tables.is, ← c.target_at-target-in-Tables.ensures)
+    (verifies_map c.verify_tables.result (vector_shown (λ q. table_shown s m q c.in-Tables.table) m c.target_at-target-in-Tables.result) (λ rs. tables (rows_from rs)) c.args.budget.now c.args.levels
+    (vector_weight (λ q. table_weight s m q c.in-Tables.table) m c.target_at-target-in-Tables.result) c.verify_tables.new.budget c.verify_tables.ensures.verifies)
 
 pub verify_fields-loop-field-init : goal.verify_fields-loop-field-init
 verify_fields-loop-field-init g n c = record {
   few = omega arith;
   inline = refl;
   so_far = fields_start g.K.TableKind.schema c.args.message.now c.args.place c.args.fields c.args.kinds.now
-      c.args.room.now c.args.levels;
+      c.args.budget.now c.args.levels;
   exact = refl;
 }
 
@@ -152,10 +152,10 @@ verify_fields-loop-field-preserved g n c =
       inline = rw c.slots-entry.ensures.value
           (inline_next m p f k (drop (i + 1) ks) (drop i ks) entry more was.0 ∙ c.loop-field.invariant.inline);
       so_far = rw c.slots-entry.ensures.value
-          (fields_next s m p f ks c.args.room.now
-          c.args.levels c.loop-field.room k (drop (i + 1) ks) (drop i ks) entry more
-          c.loop-field.invariant.so_far c.verify_field.new.room was.1
-          (was_counted one c.loop-field.room c.args.levels (one_weighs s m p f k entry) c.verify_field.new.room was.0 c.in_default.ensures.verifies.1));
+          (fields_next s m p f ks c.args.budget.now
+          c.args.levels c.loop-field.budget k (drop (i + 1) ks) (drop i ks) entry more
+          c.loop-field.invariant.so_far c.verify_field.new.budget was.1
+          (was_counted one c.loop-field.budget c.args.levels (one_weighs s m p f k entry) c.verify_field.new.budget was.0 c.in_default.ensures.verifies.1));
       exact = let e = c.in_default.ensures.exact in omega (arith, c.loop-field.invariant.exact, e);
     }
 
@@ -176,7 +176,7 @@ pub verify_table-returns-then-levels-eq0-clause-verifies : goal.verify_table-ret
 verify_table-returns-then-levels-eq0-clause-verifies g n c =
     rw c.refusal.ensures
     (checked_levels g.K.TableKind.schema c.args.message.now c.args.place c.args.table c.in-Some.fields
-    c.fields-kinds.result.now c.fields-kinds.ensures c.in-Some.ensures c.args.room.now c.args.levels
+    c.fields-kinds.result.now c.fields-kinds.ensures c.in-Some.ensures c.args.budget.now c.args.levels
     _ refl c.if-levels-eq0.true)
 
 pub verify_table-refusal-requires-in-Err-clause-lies : goal.verify_table-refusal-requires-in-Err-clause-lies
@@ -192,8 +192,8 @@ verify_table-returns-in-Err-clause-verifies g n c =
     let k = c.in-Err.ensures in
     let l : c.args.levels ≡ suc (c.args.levels - 1) = omega arith in
     rw (c.refusal-in-Err.ensures, k.0, l)
-    (checked_room g.K.TableKind.schema c.args.message.now c.args.place c.args.table c.in-Some.fields
-    c.fields-kinds.result.now c.fields-kinds.ensures c.in-Some.ensures c.args.room.now (c.args.levels - 1) _ refl k.1)
+    (checked_budget g.K.TableKind.schema c.args.message.now c.args.place c.args.table c.in-Some.fields
+    c.fields-kinds.result.now c.fields-kinds.ensures c.in-Some.ensures c.args.budget.now (c.args.levels - 1) _ refl k.1)
 
 pub verify_table-verify_fields-requires : goal.verify_table-verify_fields-requires
 verify_table-verify_fields-requires g n c =
@@ -204,8 +204,8 @@ pub verify_table-returns-clause-verifies : goal.verify_table-returns-clause-veri
 verify_table-returns-clause-verifies g n c =
     let l : c.args.levels ≡ suc (c.args.levels - 1) = omega arith in
     rw l (table_checked g.K.TableKind.schema c.args.message.now c.args.place c.args.table c.in-Some.fields
-    c.fields-kinds.result.now c.fields-kinds.ensures c.in-Some.ensures c.verify_fields.result c.args.room.now
-    c.add_table.new.self c.verify_fields.new.room
+    c.fields-kinds.result.now c.fields-kinds.ensures c.in-Some.ensures c.verify_fields.result c.args.budget.now
+    c.add_table.new.self c.verify_fields.new.budget
     (c.args.levels - 1) _ refl c.in_default-add_table.ensures c.verify_fields.ensures.verifies)
 
 pub verify_fields-returns-in-Err-clause-verifies : goal.verify_fields-returns-in-Err-clause-verifies
@@ -222,10 +222,10 @@ verify_fields-returns-in-Err-clause-verifies g n c =
     let one = is_inline m k (place_of m p f entry) (place_of m p f (entry + 1)) in
     rw c.refusal.ensures
     (field_judged one (are_inline m p f ks 0) c.in-Err.error (one_shown s m p f k entry) (shown_from s m p f ks 0)
-    c.args.room.now c.loop-field.room c.args.levels (one_weighs s m p f k entry) (weighs_from s m p f ks 0)
+    c.args.budget.now c.loop-field.budget c.args.levels (one_weighs s m p f k entry) (weighs_from s m p f ks 0)
     (λ e. sym c.loop-field.invariant.inline ∙ inline_here m p f k (drop (i + 1) ks) (drop i ks) entry more e)
     c.in-Err.ensures.verifies
-    (λ h. fields_fail s m p f ks c.args.room.now c.args.levels c.loop-field.room k (drop (i + 1) ks) (drop i ks) entry
+    (λ h. fields_fail s m p f ks c.args.budget.now c.args.levels c.loop-field.budget k (drop (i + 1) ks) (drop i ks) entry
     more c.loop-field.invariant.so_far c.in-Err.error h))
 
 pub verify_union-returns-then-not-is_union_inline-clause-verifies : goal.verify_union-returns-then-not-is_union_inline-clause-verifies
@@ -242,20 +242,20 @@ verify_union-returns-in_default-clause-verifies g n c =
     let m = c.args.message.now in
     all_inline (is_inline m (Union c.args.union) c.args.here c.args.next)
     (union_shown s (λ q T. table_shown s m q T) m c.args.union c.args.here c.args.next)
-    c.args.room.now c.args.levels
+    c.args.budget.now c.args.levels
     (union_weight s (λ q T. table_weight s m q T) m c.args.union c.args.here c.args.next)
-    c.args.room.now
+    c.args.budget.now
     (sym (c.is_union_inline.ensures c.args.union) ∙ c.if-not-is_union_inline.false)
-    (rw c.in_default.is (refl, counted_nothing c.args.room.now c.args.levels))
+    (rw c.in_default.is (refl, counted_nothing c.args.budget.now c.args.levels))
 
 pub verify_union-tag_at-tag-requires : goal.verify_union-tag_at-tag-requires
 verify_union-tag_at-tag-requires g n c =
     union_tag c.args.message.now c.args.union c.args.here c.args.next
     (sym (c.is_union_inline.ensures c.args.union) ∙ c.if-not-is_union_inline.false)
 
-pub verify_union-target-requires : goal.verify_union-target-requires
-verify_union-target-requires g n c =
-    union_aim c.args.message.now c.args.union c.args.here c.args.next
+pub verify_union-target_at-requires : goal.verify_union-target_at-requires
+verify_union-target_at-requires g n c =
+    union_target c.args.message.now c.args.union c.args.here c.args.next
     (sym (c.is_union_inline.ensures c.args.union) ∙ c.if-not-is_union_inline.false) c.in-Some.next c.in-Some.is
 
 pub verify_union-returns-clause-verifies : goal.verify_union-returns-clause-verifies
@@ -264,8 +264,8 @@ verify_union-returns-clause-verifies g n c =
     let m = c.args.message.now in
     verifies_inline c.verify_member.result (is_inline m (Union c.args.union) c.args.here c.args.next)
     (union_shown s (λ q T. table_shown s m q T) m c.args.union c.args.here c.args.next)
-    c.args.room.now c.args.levels
+    c.args.budget.now c.args.levels
     (union_weight s (λ q T. table_weight s m q T) m c.args.union c.args.here c.args.next)
-    c.verify_member.new.room
+    c.verify_member.new.budget
     (sym (c.is_union_inline.ensures c.args.union) ∙ c.if-not-is_union_inline.false)
-    (rw (c.in-Some.is, ← c.target.ensures, ← c.tag_at-tag.ensures) c.verify_member.ensures.verifies)
+    (rw (c.in-Some.is, ← c.target_at.ensures, ← c.tag_at-tag.ensures) c.verify_member.ensures.verifies)

@@ -34,14 +34,14 @@ abbrev pub invariant-verify_each_table-loop : goal.invariant-verify_each_table-l
 invariant-verify_each_table-loop g l =
     (l.at ≡ l.place + 4 * l.counter)
     × EachSoFar l.message (λ q. table_shown g.K.TableKind.schema l.message q l.table)
-    (λ q. table_weight g.K.TableKind.schema l.message q l.table) l.fn.room l.levels l.place l.n l.room l.at l.counter
-    × (l.steps + l.room.tables ≡ l.fn.steps + l.fn.room.tables)
+    (λ q. table_weight g.K.TableKind.schema l.message q l.table) l.fn.budget l.levels l.place l.n l.budget l.at l.counter
+    × (l.steps + l.budget.tables ≡ l.fn.steps + l.fn.budget.tables)
 
 abbrev pub invariant-verify_fields-loop-field : goal.invariant-verify_fields-loop-field
 invariant-verify_fields-loop-field g l = record {
   few : l.entry ≤ 2 * l.field-index;
   inline : are_inline l.message l.place l.fields (drop l.field-index l.kinds) l.entry ≡ are_inline l.message l.place l.fields l.kinds 0;
-  so_far : FieldsSoFar g.K.TableKind.schema l.message l.place l.fields l.kinds l.fn.room l.levels l.room
+  so_far : FieldsSoFar g.K.TableKind.schema l.message l.place l.fields l.kinds l.fn.budget l.levels l.budget
       (drop l.field-index l.kinds) l.entry;
-  exact : l.steps + l.room.tables ≡ l.fn.steps + l.fn.room.tables;
+  exact : l.steps + l.budget.tables ≡ l.fn.steps + l.fn.budget.tables;
 }

@@ -9,5 +9,5 @@ invariant-loop l =
     (l.at ≡ l.place + 4 * l.counter)
     × ((levels : ℕ)
     → EachSoFar l.message (λ q. text_shown l.message q)
-    (λ q. text_weight l.message q) l.fn.room levels l.place l.n l.room l.at l.counter)
-    × (l.room.tables ≡ l.fn.room.tables)
+    (λ q. text_weight l.message q) l.fn.budget levels l.place l.n l.budget l.at l.counter)
+    × (l.budget.tables ≡ l.fn.budget.tables)

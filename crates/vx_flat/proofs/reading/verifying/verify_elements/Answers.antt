@@ -10,5 +10,5 @@ returns-clause-verifies c = λ levels.
     let m = c.args.message.now in
     let s = c.in-Some.bytes.now in
     rw (elements_weigh m c.args.place c.args.size s c.in-Some.ensures)
-    (counted_alone c.add_bytes.result (elements_shown m c.args.place c.args.size) s c.args.room.now levels
+    (counted_alone c.add_bytes.result (elements_shown m c.args.place c.args.size) s c.args.budget.now levels
     (bytes_alone (4 + length s)) c.add_bytes.new.self c.in-Some.ensures (c.add_bytes.ensures.counts levels))

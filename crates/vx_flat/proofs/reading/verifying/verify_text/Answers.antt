@@ -10,5 +10,5 @@ returns-clause-verifies c = λ levels.
     let m = c.args.message.now in
     let s = c.in-Some.text.now in
     rw (text_weighs m c.args.place s c.in-Some.ensures)
-    (counted_alone c.add_bytes.result (text_shown m c.args.place) s c.args.room.now levels (bytes_alone (5 + length s))
+    (counted_alone c.add_bytes.result (text_shown m c.args.place) s c.args.budget.now levels (bytes_alone (5 + length s))
     c.add_bytes.new.self c.in-Some.ensures (c.add_bytes.ensures.counts levels))

@@ -11,12 +11,12 @@ returns-in_err-add_bytes-clause-verifies c = λ levels.
     let m = c.args.message.now in
     rw (p.1, p.2, k.0)
     (vector_crowded m (λ q. text_shown m q)
-    (λ q. text_weight m q) c.args.room.now levels c.args.place c.in-Some.n c.in-Some.ensures.count k.1)
+    (λ q. text_weight m q) c.args.budget.now levels c.args.place c.in-Some.n c.in-Some.ensures.count k.1)
 
 pub returns-clause-verifies : goal.returns-clause-verifies
 returns-clause-verifies c = λ levels.
     let m = c.args.message.now in
     vector_verified m (λ q. text_shown m q)
-    (λ q. text_weight m q) c.args.room.now levels c.args.place c.in-Some.n c.in-Some.ensures.count
-    c.verify_each_text.result c.add_bytes.new.self c.verify_each_text.new.room
+    (λ q. text_weight m q) c.args.budget.now levels c.args.place c.in-Some.n c.in-Some.ensures.count
+    c.verify_each_text.result c.add_bytes.new.self c.verify_each_text.new.budget
     (c.in_ok-add_bytes.ensures.counts levels) (c.verify_each_text.ensures.verifies levels)

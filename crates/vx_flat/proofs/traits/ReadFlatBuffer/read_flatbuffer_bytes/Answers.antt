@@ -17,12 +17,12 @@ returns-in_err-view-clause-cause g c =
     ))
 
 pub returns-in_err-view-clause-complete : goal.returns-in_err-view-clause-complete
-returns-in_err-view-clause-complete g c = λ v x shows light reads.
-    let ok = c.in_err-view.ensures.complete v shows light in
+returns-in_err-view-clause-complete g c = λ v x shows within_limits reads.
+    let ok = c.in_err-view.ensures.complete v shows within_limits in
     absurd cc
 
 pub returns-clause-complete : goal.returns-clause-complete
-returns-clause-complete g c = λ v x shows light reads.
+returns-clause-complete g c = λ v x shows within_limits reads.
     let view = c.in_ok-view.view in
     let same =
     same_shown g.Self.Kind.TableKind.schema c.args.message.now (seen view) v c.in_ok-view.ensures.shows.0 shows in

@@ -1,5 +1,5 @@
 use Rattle.std.proofs.Common.{◌∙◌, sym, ap, ◌≡◌, Some, refl}
-use Rattle.vx_flat.specs.Places.{target}
+use Rattle.vx_flat.specs.Places.{target_at}
 use Rattle.vx_flat.specs.Reading.{table_shown}
 use Rattle.vx_flat.specs.Parts.{elements_of_kind}
 use Rattle.vx_flat.specs.Seen.{schema_in, part_in, field_or_absent}
@@ -13,9 +13,9 @@ u32_at-count-requires c =
     let m = v.message.now in
     let k = c.args.kind in
     let p = vector_present s (λ q T. table_shown s m q T) m k c.in-Some.place (Some k) refl c.requires.vector in
-    let e : elements_of_kind s (λ q T. table_shown s m q T) m k (target m c.in-Some.place) ≡ Some (part_in v c.args.field) =
+    let e : elements_of_kind s (λ q T. table_shown s m q T) m k (target_at m c.in-Some.place) ≡ Some (part_in v c.args.field) =
     sym p.2 ∙ c.in-Some.ensures.shown in
-    rw c.target-place.ensures (have s (λ q T. table_shown s m q T) m (target m c.in-Some.place) k (rw e refl)).0
+    rw c.target_at-place.ensures (have s (λ q T. table_shown s m q T) m (target_at m c.in-Some.place) k (rw e refl)).0
 
 pub returns-clause-part : goal.returns-clause-part
 returns-clause-part c =
@@ -24,7 +24,7 @@ returns-clause-part c =
     let m = v.message.now in
     let k = c.args.kind in
     let p = vector_present s (λ q T. table_shown s m q T) m k c.in-Some.place (Some k) refl c.requires.vector in
-    let e : elements_of_kind s (λ q T. table_shown s m q T) m k (target m c.in-Some.place) ≡ Some (part_in v c.args.field) =
+    let e : elements_of_kind s (λ q T. table_shown s m q T) m k (target_at m c.in-Some.place) ≡ Some (part_in v c.args.field) =
     sym p.2 ∙ c.in-Some.ensures.shown in
-    let at = ap (λ q. field_or_absent (elements_of_kind s (λ q T. table_shown s m q T) m k q)) c.target-place.ensures in
+    let at = ap (λ q. field_or_absent (elements_of_kind s (λ q T. table_shown s m q T) m k q)) c.target_at-place.ensures in
     sym (at ∙ ap field_or_absent e)

@@ -8,22 +8,22 @@ returns-in_err-verify_table-clause-bad g c =
     let p = err_from_is_err_and c.from_residual.result c.from_residual.ensures.1 in
     rw (p.1, p.2)
     (λ e. bad_is g.K.TableKind.schema c.args.message.now c.u32_at-place.result c.root-table.result c.args.limits
-    c.new-room.result c.u32_at-place.ensures c.root-table.ensures c.in_err-verify_table.field-0.0
+    c.new-budget.result c.u32_at-place.ensures c.root-table.ensures c.in_err-verify_table.field-0.0
     c.in_err-verify_table.ensures.verifies (cc))
 
 pub returns-in_err-verify_table-clause-complete : goal.returns-in_err-verify_table-clause-complete
 returns-in_err-verify_table-clause-complete g c =
-    λ v shows light. absurd (complete_is g.K.TableKind.schema c.args.message.now c.u32_at-place.result c.root-table.result
-    c.args.limits c.new-room.result c.u32_at-place.ensures c.root-table.ensures c.if-message-lt4.false
-    c.new-room.ensures c.in_err-verify_table.field-0.0
-    c.in_err-verify_table.ensures.verifies v shows light)
+    λ v shows within_limits. absurd (complete_is g.K.TableKind.schema c.args.message.now c.u32_at-place.result c.root-table.result
+    c.args.limits c.new-budget.result c.u32_at-place.ensures c.root-table.ensures c.if-message-lt4.false
+    c.new-budget.ensures c.in_err-verify_table.field-0.0
+    c.in_err-verify_table.ensures.verifies v shows within_limits)
 
 pub returns-clause-shows : goal.returns-clause-shows
 returns-clause-shows g c =
     let s = g.K.TableKind.schema in
     let m = c.args.message.now in
     root_view_is _ s m c.if-message-lt4.false c.lists-schema.ensures refl c.root-table.ensures c.u32_at-place.ensures
-    (weight_counted s m c.u32_at-place.result c.root-table.result c.args.limits c.new-room.result
-    c.verify_table.new.room c.u32_at-place.ensures c.root-table.ensures c.if-message-lt4.false
-    c.new-room.ensures c.in_ok-verify_table.ensures.verifies.1
+    (weight_counted s m c.u32_at-place.result c.root-table.result c.args.limits c.new-budget.result
+    c.verify_table.new.budget c.u32_at-place.ensures c.root-table.ensures c.if-message-lt4.false
+    c.new-budget.ensures c.in_ok-verify_table.ensures.verifies.1
     _ _ refl refl)

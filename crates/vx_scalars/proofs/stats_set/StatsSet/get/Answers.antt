@@ -14,7 +14,7 @@ pub returns-in-Some : goal.returns-in-Some
 returns-in-Some c =
     let es = c.self.inside.entries.items in
     let p : IsPlace c.args.stat c.in-Some.place es = subst (λ xs. IsPlace c.args.stat c.in-Some.place xs) c.as_slice.ensures.value c.in-Some.ensures in
-    ap told c.borrowed.ensures ∙ ap (λ e. told e.1) c.index.ensures ∙ place-tells c.args.stat c.in-Some.place es c.index.result.now p
+    ap told c.as_borrowed.ensures ∙ ap (λ e. told e.1) c.index.ensures ∙ place-tells c.args.stat c.in-Some.place es c.index.result.now p
     ∙ sym (told_at-stats_of (λ s. told_in s es) c.args.stat) ∙ ap (λ t. told_at t c.args.stat) c.self.view_is
 
 pub returns-in-None : goal.returns-in-None

@@ -1,4 +1,4 @@
--- A foreign node takes any buffers, and is refused for want of memory alone.
+-- A foreign node takes any buffers, and is refused for allocation failure alone.
 use Rattle.vx_trees.specs.Rose.{node, roses_of}
 use Rattle.vx_types.specs.Seen.{typ}
 use Rattle.vx_array_tree.specs.Body as B

@@ -1,4 +1,4 @@
--- What is judged of the offsets and of what may stand behind them is judged of the children.
+-- What is judged of the offsets and of what may stand after them is judged of the children.
 use Rattle.std.proofs.Common.{◌∙◌, ◌∷◌, Bool, IsTrue, refl, subst, sym}
 use Rattle.std.proofs.lemmas.Bool.{false≢true}
 use Rattle.std.specs.Prelude.{◌↔◌}

@@ -1,7 +1,7 @@
 use Rattle.std.proofs.Common.{ap, sym, ◌∙◌, ◌≡◌}
 use Rattle.std.specs.Prelude.{bytes_eq}
 use Rattle.std.specs.Map.{lookup}
-use Rattle.vx_flat.specs.Spots.{known_at}
+use Rattle.vx_flat.specs.BlockOffsets.{known_at}
 use Rattle.vx_flat.proofs.KnownTables.{lookup_known, same_bytes}
 use Rattle.vx_flat.proofs.builder.known.FieldTables.find.Goals as goal
 

@@ -1,7 +1,7 @@
 use Rattle.std.proofs.Common.{List, ℕ, sym, subst, rules}
 use Rattle.vx_flat.specs.Shows.{Shows}
 use Rattle.vx_serialized.specs.ArraySchema.{array_schema}
-use Rattle.vx_serde.proofs.writing.light_message.Goals as goal
+use Rattle.vx_serde.proofs.writing.limited_message.Goals as goal
 
 pub unreachable-requires-in-Err-BadTable : goal.unreachable-requires-in-Err-BadTable
 unreachable-requires-in-Err-BadTable c =

@@ -1,4 +1,4 @@
-//! Buffers that arrays hold, lent.
+//! Buffers that arrays hold, borrowed.
 
 ghost use Rattle.std.specs.Prelude.{◌≡◌, ◌<◌, ◌∷◌, ◌++◌, [], length, get_or, OnOk};
 
@@ -6,13 +6,13 @@ use std::alloc::Global;
 use std::marker::Model;
 use vx_buffer::{BufferError, BufferHandle};
 
-/// Buffers that arrays hold, in order, lent. Contracts see the list of the buffers.
+/// Buffers that arrays hold, in order, borrowed. Contracts see the list of the buffers.
 #[derive(Drop)]
-pub(crate) struct LentBuffers<'a> {
+pub(crate) struct BorrowedBuffers<'a> {
     items: Vec<&'a BufferHandle>,
 }
 
-impl<'a> Model for LentBuffers<'a> {
+impl<'a> Model for BorrowedBuffers<'a> {
     ghost use Rattle.std.specs.Prelude.{List, map};
     ghost use Rattle.vx_buffer.specs.Buffer.{Buffer};
 
@@ -21,12 +21,12 @@ impl<'a> Model for LentBuffers<'a> {
     ghost view = { λ b. map (λ h. h.now) b.items.items };
 }
 
-impl<'a> LentBuffers<'a> {
+impl<'a> BorrowedBuffers<'a> {
     /// No buffer.
-    pub(crate) fn new(alloc: Global) -> LentBuffers<'a>
+    pub(crate) fn new(alloc: Global) -> BorrowedBuffers<'a>
         ensures { result ≡ [] }
     {
-        LentBuffers {
+        BorrowedBuffers {
             items: Vec::new(alloc),
         }
     }

@@ -12,7 +12,7 @@ use Rattle.vx_wire_tree.specs.Wire.{Wire}
 
 -- The array matches the wire tree, is sound, and is of this type and length. It is normal, where no plugin reads or writes:
 -- plugins may build what they like.
-pub record Tells (c : Codec) (s : SessionMeaning) (w : Wire) (d : Typ) (n : ℕ) (t : Tree) : Type 0 where
+pub record DecodesTo (c : Codec) (s : SessionMeaning) (w : Wire) (d : Typ) (n : ℕ) (t : Tree) : Type 0 where
   pub matched : Matches c s w t
   pub dtype : (label t).dtype ≡ d
   pub len : (label t).len ≡ n

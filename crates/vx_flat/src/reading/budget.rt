@@ -10,18 +10,18 @@ use crate::limits::Limits;
 /// How many tables may still be entered, how many bytes may still be counted, and how many tables
 /// could have been nested in the deepest one that was entered.
 #[derive(Drop)]
-pub struct Room {
+pub struct Budget {
     pub tables: u32,
     pub bytes: u64,
     pub levels: u32,
 }
 
-impl Room {
+impl Budget {
     /// All of what limits allow.
-    pub fn new(limits: Limits) -> Room
+    pub fn new(limits: Limits) -> Budget
         ensures { result ≡ all_of limits }
     {
-        Room {
+        Budget {
             tables: limits.tables,
             bytes: limits.bytes,
             levels: limits.nested,

@@ -5,7 +5,7 @@ use Rattle.vx_trees.specs.Rose.{roses_of}
 use Rattle.vx_trees.specs.Walks.{nodes_of}
 use denote.Param.Weighed.{most}
 use Rattle.vx_scalars.specs.Seen.{value_of, seen, all_seen, value_behind}
-use Rattle.vx_scalars.specs.Falls.{value_size}
+use Rattle.vx_scalars.specs.Measures.{value_size}
 use Rattle.vx_scalars.specs.declared.value.ScalarValue.{ScalarValue}
 use Rattle.vx_scalars.specs.declared.value.ScalarValue.TheVariants.{the_data, Bool, Primitive, Decimal, Utf8, Binary, Tuple, Union, Variant}
 use Rattle.vx_scalars.specs.declared.scalar.Scalar.TheDeep.{deep-ScalarValue}

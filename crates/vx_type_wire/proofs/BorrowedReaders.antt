@@ -1,4 +1,4 @@
--- Readers that are lent mean what they mean where they stand.
+-- Readers that are borrowed mean what they mean where they stand.
 use Rattle.std.specs.Prelude.{ℕ, ◌≡◌, Bool, true, false, List, [], ◌∷◌, ◌++◌, Option, Some, cond, map, option_map, bytes_eq, refl}
 use Rattle.std.specs.Map.{lookup}
 use Rattle.std.proofs.Common.{sym, ap, ◌∙◌}
@@ -20,14 +20,14 @@ pub found_each : {A B : Type 0} (f : A → B) (test : List ℕ → Bool) (es : L
 found_each f test [] = refl
 found_each f test (e ∷ es) = found_at f (test e.0) e.1 (lookup test es) (lookup test (each_value f es)) (found_each f test es)
 
--- Entries that are lent one by one mean what the entries mean where they stand.
-pub lent_alike : {A : Type 0} (f : A → List ℕ → Typ → Bool) (es rest : List (List ℕ × A)) (lent : List (List ℕ × (List ℕ → Typ → Bool))) (unknown : Bool) → rest ≡ [] → lent ++ each_value f rest ≡ each_value f es
-    → ◌≡◌ {A = ExtMeaning} (record { reader = λ id. lookup (bytes_eq id) lent; unknown = unknown }) (record { reader = λ id. option_map f (lookup (bytes_eq id) es); unknown = unknown })
-lent_alike f es rest lent unknown none e =
-    let all : lent ≡ each_value f es = sym (append-nil lent) ∙ ap (λ z. lent ++ each_value f z) (sym none) ∙ e in
+-- Entries that are borrowed one by one mean what the entries mean where they stand.
+pub borrowed_alike : {A : Type 0} (f : A → List ℕ → Typ → Bool) (es rest : List (List ℕ × A)) (borrowed : List (List ℕ × (List ℕ → Typ → Bool))) (unknown : Bool) → rest ≡ [] → borrowed ++ each_value f rest ≡ each_value f es
+    → ◌≡◌ {A = ExtMeaning} (record { reader = λ id. lookup (bytes_eq id) borrowed; unknown = unknown }) (record { reader = λ id. option_map f (lookup (bytes_eq id) es); unknown = unknown })
+borrowed_alike f es rest borrowed unknown none e =
+    let all : borrowed ≡ each_value f es = sym (append-nil borrowed) ∙ ap (λ z. borrowed ++ each_value f z) (sym none) ∙ e in
     let with : (List ℕ → Option (List ℕ → Typ → Bool)) → ExtMeaning = λ r. record { reader = r; unknown = unknown } in
     ap with (fun_ext (λ id. ap (λ z. lookup (bytes_eq id) z) all ∙ found_each f (bytes_eq id) es))
 
--- Before the first nothing is lent, and all are left.
-pub none_lent : {A : Type 0} (f : A → List ℕ → Typ → Bool) (es rest : List (List ℕ × A)) (lent : List (List ℕ × (List ℕ → Typ → Bool))) → lent ≡ [] → rest ≡ es → lent ++ each_value f rest ≡ each_value f es
-none_lent f es rest lent none all = λ i. none i ++ each_value f (all i)
+-- Before the first nothing is borrowed, and all are left.
+pub none_borrowed : {A : Type 0} (f : A → List ℕ → Typ → Bool) (es rest : List (List ℕ × A)) (borrowed : List (List ℕ × (List ℕ → Typ → Bool))) → borrowed ≡ [] → rest ≡ es → borrowed ++ each_value f rest ≡ each_value f es
+none_borrowed f es rest borrowed none all = λ i. none i ++ each_value f (all i)

@@ -4,7 +4,7 @@ use Rattle.std.proofs.Common.{arith}
 use Rattle.vx_trees.specs.Rose.{roses_of}
 use Rattle.vx_trees.specs.Walks.{nodes_of}
 use denote.Param.Weighed.{most}
-use Rattle.vx_scalars.specs.Falls.{value_size}
+use Rattle.vx_scalars.specs.Measures.{value_size}
 use Rattle.vx_rows.specs.Plain.{plain_value, plain_values}
 use Rattle.vx_rows.specs.declared.row.RowValue.{RowValue}
 use Rattle.vx_rows.specs.declared.row.RowValue.TheVariants.{Null, Opaque, Bool, Primitive, Decimal, Utf8, Binary, Tuple, Union, Variant}
