@@ -13,7 +13,7 @@ use Rattle.vx_proto.specs.Written.{content_depth, entries_depth, slots_depth, ne
 -- A value has a form in a message of a schema exactly where it has it in the schema with more messages after it.
 pub use Rattle.vx_proto.proofs.Longer.{same_form}
 
--- ---- a form within so many messages
+-- ---- a form within n messages
 
 elem_within : (F G : ℕ → Value → Type 0) (m : ℕ) (k : Kind) (e : Content) → ((p : ℕ) (v : Value) → F p v → nested v ≤ m → G p v) → FormContent F k e → content_depth e ≤ m → FormContent G k e
 elem_within F G m (Scalar k) e h f le = f
