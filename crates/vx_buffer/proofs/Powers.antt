@@ -4,7 +4,7 @@ use Rattle.std.specs.Int.{IsPowerOfTwo}
 use Rattle.std.proofs.Math.Pow.{pow_mono}
 use Rattle.std.proofs.lemmas.Bool.{cases_lt}
 
--- a number of 64 bits that is none of the first 64 powers of two is no power of two
+-- A number below 2^64 that is none of the first 64 powers of two is no power of two.
 pub no_power : (n : ℕ) → n < 2 ^ 64 → ((k : ℕ) → k < 64 → n ≡ 2 ^ k → ⊥) → IsPowerOfTwo n → ⊥
 no_power n small none power =
     elim (cases_lt power.0 64) [

@@ -2,7 +2,7 @@
 use Rattle.std.specs.Prelude.{ℕ, List, ◌≡◌, ◌%◌, ◌^◌, refl}
 use Rattle.std.specs.Coded.{Coded, code_by, coded×, coded_ℕ, coded_list}
 
--- a buffer is a list of bytes, and the exponent of the power of two that it is aligned to
+-- A buffer: its bytes, and the exponent of its alignment, a power of two.
 pub record Buffer : Type 0 where
   pub bytes : List ℕ
   pub exponent : ℕ
@@ -11,7 +11,6 @@ pub record Buffer : Type 0 where
 abbrev pub coded_buffer : Coded Buffer
 coded_buffer = code_by (List ℕ × ℕ) (coded× (coded_list coded_ℕ) coded_ℕ) (λ b. (b.bytes, b.exponent)) (λ p. record { bytes = p.0; exponent = p.1 }) (λ _. refl)
 
--- a place in a buffer at which a slice may start, so that the slice keeps the alignment: a multiple of
--- two to the exponent
+-- An offset into a buffer at which a slice keeps the alignment: a multiple of two to the exponent.
 abbrev pub IsAligned : ℕ → ℕ → Type 0
 IsAligned place exponent = place % 2 ^ exponent ≡ 0

@@ -7,7 +7,7 @@ use std::marker::Model;
 
 /// A power of two of at most 2^63 bytes, that the start of a buffer is a multiple of.
 ///
-/// Contracts see its exponent, from 0 to 63.
+/// Contracts see its exponent, from 0 to 63: the blob format stores alignments as exponents.
 #[derive(Clone, Copy, Debug, Drop, PartialEq, Eq)]
 pub struct Alignment {
     exponent: u8,
@@ -39,7 +39,7 @@ impl Alignment {
         None
     }
 
-    /// The alignment of two to this exponent: `None` exactly where it is over 63.
+    /// The alignment of 2^`exponent` bytes: `None` exactly where `exponent` is over 63.
     pub fn from_exponent(exponent: u8) -> Option<Alignment>
         ensures value { IfSome result (λ a. a ≡ exponent) }
         ensures none { IfNone result (exponent ≤ 63 → ⊥) }
@@ -50,14 +50,14 @@ impl Alignment {
         Some(Alignment { exponent })
     }
 
-    /// No alignment at all: one byte.
+    /// No alignment: one byte, exponent 0.
     pub fn none() -> Alignment
         ensures { result ≡ 0 }
     {
         Alignment { exponent: 0 }
     }
 
-    /// The power that two is raised to.
+    /// The exponent of the power of two, from 0 to 63.
     pub fn exponent(self) -> u8
         ensures value { result ≡ self }
         ensures bound { result ≤ 63 }
@@ -72,7 +72,7 @@ impl Alignment {
         1usize << self.exponent
     }
 
-    /// Whether each place that is aligned so is aligned to `other` too.
+    /// Whether every place with this alignment has the alignment `other` too.
     pub fn is_aligned_to(self, other: Alignment) -> bool
         ensures { IsTrue result ↔ (other ≤ self) }
     {

@@ -11,7 +11,8 @@ use std::ops::Range;
 
 /// Bytes with an alignment, shared by its clones and slices.
 ///
-/// The alignment is a number beside the bytes: nothing moves them to such a place.
+/// The alignment is a number beside the bytes. No call moves bytes so that their address has it; a
+/// writer of blobs uses it to place them in a file.
 #[derive(Drop)]
 pub struct ByteBuffer {
     bytes: Bytes,
@@ -27,7 +28,7 @@ impl Model for ByteBuffer {
 }
 
 impl ByteBuffer {
-    /// A buffer of no bytes, with no alignment.
+    /// A buffer of no bytes, with no alignment. It takes no memory.
     pub fn empty() -> ByteBuffer
         ensures bytes { result.bytes ≡ [] }
         ensures exponent { result.exponent ≡ 0 }
@@ -38,7 +39,7 @@ impl ByteBuffer {
         }
     }
 
-    /// A copy of these bytes, with no alignment.
+    /// A copy of these bytes, with no alignment. The only refusal is `OutOfMemory`.
     pub fn copy_from(alloc: Global, bytes: &[u8]) -> Result<ByteBuffer, BufferError>
         ensures bytes { IfOk result (λ b. b.bytes ≡ bytes.now) }
         ensures exponent { IfOk result (λ b. b.exponent ≡ 0) }
@@ -49,7 +50,8 @@ impl ByteBuffer {
         })
     }
 
-    /// These bytes, which are not copied, with no alignment. The count of their owners takes memory.
+    /// A buffer of these bytes, with no alignment. No byte is copied; `OutOfMemory` where the count of
+    /// owners cannot be allocated.
     pub fn from_vec(bytes: Vec<u8>) -> Result<ByteBuffer, BufferError>
         ensures bytes { IfOk result (λ b. b.bytes ≡ bytes.items) }
         ensures exponent { IfOk result (λ b. b.exponent ≡ 0) }
@@ -60,7 +62,7 @@ impl ByteBuffer {
         })
     }
 
-    /// How many bytes there are.
+    /// The length in bytes.
     pub fn len(&self) -> usize
         ensures { result ≡ length self.now.bytes }
     {
@@ -81,14 +83,14 @@ impl ByteBuffer {
         self.bytes.as_slice()
     }
 
-    /// The alignment that the bytes are said to have.
+    /// The alignment that the buffer was given.
     pub fn alignment(&self) -> Alignment
         ensures { result ≡ self.now.exponent }
     {
         self.alignment
     }
 
-    /// The same bytes with this alignment.
+    /// The same bytes with this alignment. Nothing is moved or copied.
     pub fn aligned(self, alignment: Alignment) -> ByteBuffer
         ensures bytes { result.bytes ≡ self.bytes }
         ensures exponent { result.exponent ≡ alignment }
@@ -99,8 +101,8 @@ impl ByteBuffer {
         }
     }
 
-    /// These places of the buffer, with its alignment. No byte is copied; the count of their owners may
-    /// be full.
+    /// The bytes at `range`, with the buffer's alignment. No byte is copied. The only refusal is
+    /// `OutOfMemory`, where the count of owners is full.
     pub fn slice(&self, _alloc: Global, range: Range<usize>) -> Result<ByteBuffer, BufferError>
         requires in_order { range.start ≤ range.end }
         requires inside { range.end ≤ length self.now.bytes }
@@ -112,7 +114,7 @@ impl ByteBuffer {
         Ok(ByteBuffer { bytes, alignment })
     }
 
-    /// The same buffer again. No byte is copied; the count of their owners may be full.
+    /// Another owner of the same bytes. None is copied; `OutOfMemory` where the count of owners is full.
     pub fn clone(&self, _alloc: Global) -> Result<ByteBuffer, BufferError>
         ensures { IfOk result (λ b. b ≡ self.now) }
     {

@@ -1,4 +1,4 @@
-//! Refusals of this crate.
+//! The refusals of this crate.
 
 ghost use Rattle.std.specs.Prelude.{◌≡◌};
 ghost use Rattle.vx_buffer.specs.declared.error.BufferError.TheVariants.{OutOfMemory};
@@ -9,7 +9,7 @@ use thiserror::Error;
 /// Why a call on buffers was refused.
 #[derive(Clone, Copy, Debug, PartialEq, Eq, Error)]
 pub enum BufferError {
-    /// Memory was wanted and not to be had.
+    /// An allocation failed, or a count of owners is full.
     #[error("out of memory")]
     OutOfMemory,
 }

@@ -13,6 +13,9 @@ use std::marker::Model;
 use std::ops::Range;
 
 /// A buffer of an array, always in the memory of the host.
+///
+/// A device's memory is outside this project, so the calls that ask for the place of the bytes have one
+/// answer each, and the calls that move them to the host hand over what is there.
 #[derive(Drop)]
 pub struct BufferHandle {
     buffer: ByteBuffer,
@@ -27,28 +30,28 @@ impl Model for BufferHandle {
 }
 
 impl BufferHandle {
-    /// The handle of a buffer on the host. No byte is copied.
+    /// The handle of a buffer in host memory. No byte is copied.
     pub fn new_host(buffer: ByteBuffer) -> BufferHandle
         ensures { result ≡ buffer }
     {
         BufferHandle { buffer }
     }
 
-    /// Whether the bytes are in the memory of the host: always.
+    /// Always true.
     pub fn is_on_host(&self) -> bool
         ensures { result ≡ true }
     {
         true
     }
 
-    /// Whether the bytes are in the memory of a device: never.
+    /// Always false.
     pub fn is_on_device(&self) -> bool
         ensures { result ≡ false }
     {
         false
     }
 
-    /// How many bytes there are.
+    /// The length in bytes.
     pub fn len(&self) -> usize
         ensures { result ≡ length self.now.bytes }
     {
@@ -62,7 +65,7 @@ impl BufferHandle {
         self.buffer.is_empty()
     }
 
-    /// The alignment that the bytes are said to have.
+    /// The alignment that the buffer was given.
     pub fn alignment(&self) -> Alignment
         ensures { result ≡ self.now.exponent }
     {
@@ -76,7 +79,7 @@ impl BufferHandle {
         self.buffer.alignment().is_aligned_to(alignment)
     }
 
-    /// The same bytes with this alignment.
+    /// The same bytes with this alignment. Nothing is moved or copied.
     pub fn ensure_aligned(self, alignment: Alignment) -> BufferHandle
         ensures bytes { result.bytes ≡ self.bytes }
         ensures exponent { result.exponent ≡ alignment }
@@ -86,7 +89,8 @@ impl BufferHandle {
         }
     }
 
-    /// These places of the buffer, counted in bytes, with its alignment.
+    /// The bytes at `range`, with the buffer's alignment. No byte is copied. The only refusal is
+    /// `OutOfMemory`, where the count of owners is full.
     pub fn slice(&self, alloc: Global, range: Range<usize>) -> Result<BufferHandle, BufferError>
         requires in_order { range.start ≤ range.end }
         requires inside { range.end ≤ length self.now.bytes }
@@ -99,7 +103,8 @@ impl BufferHandle {
         })
     }
 
-    /// These places of the buffer, counted in values of `width` bytes, with its alignment.
+    /// The values at `range`, each of `width` bytes, with the buffer's alignment. No byte is copied. The
+    /// only refusal is `OutOfMemory`, where the count of owners is full.
     pub fn slice_typed(
         &self,
         alloc: Global,
@@ -116,58 +121,56 @@ impl BufferHandle {
         self.slice(alloc, range.start * width..range.end * width)
     }
 
-    /// The buffer on the host, borrowed: always there.
+    /// The buffer, borrowed.
     pub fn as_host(&self) -> &ByteBuffer
         ensures { result.now ≡ self.now }
     {
         &self.buffer
     }
 
-    /// The buffer on the host, borrowed: always `Some`.
+    /// The buffer, borrowed: always `Some`.
     pub fn as_host_opt(&self) -> Option<&ByteBuffer>
         ensures { IsSomeAnd result (λ b. b.now ≡ self.now) }
     {
         Some(&self.buffer)
     }
 
-    /// The buffer on the host, handed over: always there.
+    /// The buffer, moved out.
     pub fn unwrap_host(self) -> ByteBuffer
         ensures { result ≡ self }
     {
         self.buffer
     }
 
-    /// The buffer on the host, handed over. There is nothing to wait for.
+    /// The buffer, moved out. There is nothing to wait for.
     pub fn into_host_sync(self) -> ByteBuffer
         ensures { result ≡ self }
     {
         self.buffer
     }
 
-    /// The buffer on the host, handed over. There is nothing to wait for, and nothing to refuse.
+    /// The buffer, moved out. There is nothing to wait for, and nothing to refuse.
     pub fn try_into_host_sync(self) -> ByteBuffer
         ensures { result ≡ self }
     {
         self.buffer
     }
 
-    /// The buffer on the host, as a clone. No byte is copied; `OutOfMemory` where the count of their owners
-    /// is full.
+    /// A clone of the buffer. No byte is copied; `OutOfMemory` where the count of owners is full.
     pub fn to_host_sync(&self, alloc: Global) -> Result<ByteBuffer, BufferError>
         ensures { IfOk result (λ b. b ≡ self.now) }
     {
         self.buffer.clone(alloc)
     }
 
-    /// The buffer on the host, as a clone. No byte is copied; `OutOfMemory` where the count of their owners
-    /// is full.
+    /// A clone of the buffer. No byte is copied; `OutOfMemory` where the count of owners is full.
     pub fn try_to_host_sync(&self, alloc: Global) -> Result<ByteBuffer, BufferError>
         ensures { IfOk result (λ b. b ≡ self.now) }
     {
         self.buffer.clone(alloc)
     }
 
-    /// The same buffer again. No byte is copied; the count of their owners may be full.
+    /// Another handle of the same bytes. None is copied; `OutOfMemory` where the count of owners is full.
     pub fn clone(&self, alloc: Global) -> Result<BufferHandle, BufferError>
         ensures { IfOk result (λ h. h ≡ self.now) }
     {
@@ -176,14 +179,14 @@ impl BufferHandle {
         })
     }
 
-    /// Whether the bytes are equal, whatever the alignments.
+    /// Whether the bytes are equal. Alignments are not compared.
     pub fn array_eq(&self, other: &BufferHandle) -> bool
         ensures { IsTrue result ↔ (self.now.bytes ≡ other.now.bytes) }
     {
         self.buffer.as_slice() == other.buffer.as_slice()
     }
 
-    /// Feeds the bytes to a hash, and not the alignment.
+    /// Feeds the bytes to a hash, and not the alignment, as `array_eq` does not compare it.
     pub fn array_hash<H: Hasher>(&self, state: &mut H)
         ensures { state.new ≡ fold H.write state.old (fed.slice fed.u8 self.now.bytes) }
     {

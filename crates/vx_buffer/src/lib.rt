@@ -1,4 +1,4 @@
-//! Buffers of bytes with their alignment: plain values that share memory when they are sliced.
+//! Buffers of bytes with their alignment: plain values that share memory when they are cloned or sliced.
 #![tactic(auto)]
 
 mod align;

@@ -35,7 +35,8 @@ impl ByteBuffers {
         }
     }
 
-    /// The empty list, with room for so many buffers where there is memory for them at once.
+    /// The empty list, with room for this many buffers where that memory can be allocated. A failure here
+    /// is no refusal: `push` allocates what is missing.
     pub fn with_room(alloc: Global, room: usize) -> ByteBuffers
         ensures { result ≡ [] }
     {
@@ -45,8 +46,7 @@ impl ByteBuffers {
         }
     }
 
-    /// One more buffer at the end. `OutOfMemory` where there is no memory for it: the list stays as it was,
-    /// and the buffer is dropped.
+    /// Appends a buffer. `OutOfMemory` where allocation fails: the list stays as it was, and the buffer is dropped.
     pub fn push(&mut self, buffer: ByteBuffer) -> Result<(), BufferError>
         ensures ok { OnOk result (self.new ≡ self.old ++ buffer ∷ []) }
         ensures err { OnErr result (self.new ≡ self.old) }
@@ -69,7 +69,7 @@ impl ByteBuffers {
         self.items.is_empty()
     }
 
-    /// The buffer at this place: `None` exactly past the end.
+    /// The buffer at this index: `None` exactly past the end.
     pub fn get(&self, index: usize) -> Option<&ByteBuffer>
         ensures { option_copied result ≡ slice_get self.now index }
     {
@@ -83,14 +83,15 @@ impl ByteBuffers {
         self.items.as_slice()
     }
 
-    /// The buffers in their order, handed over.
+    /// The buffers in their order, moved out.
     pub fn into_vec(self) -> Vec<ByteBuffer>
         ensures { result.items ≡ self }
     {
         self.items
     }
 
-    /// The bytes of the buffers, one after the other, as one buffer with no alignment. They are copied.
+    /// The bytes of the buffers, one after the other, copied into one buffer with no alignment. The only
+    /// refusal is `OutOfMemory`, which also answers a total length over `usize`.
     pub fn join(&self, alloc: Global) -> Result<ByteBuffer, BufferError>
         ensures { IfOk result (λ b. b ≡ record { bytes = joined self.now; exponent = 0 }) }
     {
@@ -101,7 +102,8 @@ impl ByteBuffers {
         ByteBuffer::from_vec(bytes)
     }
 
-    /// The same list again. No buffer's bytes are copied.
+    /// A list of the same buffers. No buffer's bytes are copied; `OutOfMemory` where allocation fails or a count of
+    /// owners is full.
     pub fn clone(&self, alloc: Global) -> Result<ByteBuffers, BufferError>
         ensures { IfOk result (λ b. b ≡ self.now) }
     {
@@ -113,7 +115,7 @@ impl ByteBuffers {
     }
 }
 
-// How many bytes the buffers have together, or the greatest number where they have more.
+// // The length of all buffers in bytes, or the greatest `usize` where it is larger: no allocation has that size.
 fn total_len(buffers: &[ByteBuffer]) -> usize {
     let mut total: usize = 0;
     for buffer in buffers {
@@ -147,8 +149,7 @@ impl BufferHandles {
         }
     }
 
-    /// One more buffer at the end. `OutOfMemory` where there is no memory for it: the list stays as it was,
-    /// and the buffer is dropped.
+    /// Appends a handle. `OutOfMemory` where allocation fails: the list stays as it was, and the handle is dropped.
     pub fn push(&mut self, buffer: BufferHandle) -> Result<(), BufferError>
         ensures ok { OnOk result (self.new ≡ self.old ++ buffer ∷ []) }
         ensures err { OnErr result (self.new ≡ self.old) }
@@ -171,28 +172,29 @@ impl BufferHandles {
         self.items.is_empty()
     }
 
-    /// The buffer at this place: `None` exactly past the end.
+    /// The handle at this index: `None` exactly past the end.
     pub fn get(&self, index: usize) -> Option<&BufferHandle>
         ensures { option_copied result ≡ slice_get self.now index }
     {
         self.items.get(index)
     }
 
-    /// The buffers in their order, borrowed.
+    /// The handles in their order, borrowed.
     pub fn as_slice(&self) -> &[BufferHandle]
         ensures { result.now ≡ self.now }
     {
         self.items.as_slice()
     }
 
-    /// The buffers in their order, handed over.
+    /// The handles in their order, moved out.
     pub fn into_vec(self) -> Vec<BufferHandle>
         ensures { result.items ≡ self }
     {
         self.items
     }
 
-    /// The same list again. No buffer's bytes are copied.
+    /// A list of the same buffers. No buffer's bytes are copied; `OutOfMemory` where allocation fails or a count of
+    /// owners is full.
     pub fn clone(&self, alloc: Global) -> Result<BufferHandles, BufferError>
         ensures { IfOk result (λ b. b ≡ self.now) }
     {

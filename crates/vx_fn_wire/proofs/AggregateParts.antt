@@ -96,14 +96,14 @@ one_metadata v a b m n h k =
 one_given : (reader : Option (List ℕ → Option AggregateFn)) (unknown : Bool) (id metadata : List ℕ) (f g : AggregateFn) → IsAggregateOf reader unknown id metadata f → IsAggregateOf reader unknown id metadata g → f ≡ g
 one_given reader unknown id metadata f g h k = given_same reader unknown metadata (foreign_aggregate_fn id metadata) f g h.0 k.0
 
--- Where there is one, no cause stands.
+-- Where a function is given, no cause of a refusal holds.
 none_given : (e : FnWireError) (reader : Option (List ℕ → Option AggregateFn)) (unknown : Bool) (id metadata : List ℕ) (g : AggregateFn) → RefusesAggregate e reader unknown id metadata → IsAggregateOf reader unknown id metadata g → ⊥
 none_given IdMismatch reader unknown id metadata g h k =
     let same = given_same reader unknown metadata (foreign_aggregate_fn id metadata) h.0 g h.1 k.0 in
     h.2 (ap (λ (f : AggregateFn). f.id) same ∙ k.1)
 none_given e reader unknown id metadata g h k = given_excludes e reader unknown metadata (foreign_aggregate_fn id metadata) g k.0 h
 
--- What is given of the parts is read, and what is not has its cause.
+-- What is given of the parts is read, and a refusal has its cause.
 pub read_of : (registry : Registry AggregateFn) (unknown : Bool) (v : Value) (id there : List ℕ) (m : Option (List ℕ)) (metadata : List ℕ) (r : Result AggregateFn FnWireError)
     → HoldsAggregate v there m → id ≡ there → metadata ≡ metadata_of m → IfOk r (λ f. IsAggregateOf (registry id) unknown id metadata f) → IfOk r (λ f. ReadsAggregate registry unknown v f)
 read_of registry unknown v id there m metadata (Ok f) holds same is given =
@@ -132,14 +132,14 @@ module _ (registry : Registry AggregateFn) (unknown : Bool) (v : Value) where
       none_given e (registry cause.id) unknown cause.id (metadata_of cause.metadata) g cause.cause
       (subst (λ n. IsAggregateOf (registry cause.id) unknown cause.id (metadata_of n) g) m (subst (λ i. IsAggregateOf (registry i) unknown i (metadata_of k.metadata) g) id k.given))
 
-  -- One function is read of a message, and where one is, memory alone can run out.
+  -- At most one function is read of a message, and where one is, the only refusal is `OutOfMemory`.
   pub one_read : (r : Result AggregateFn FnWireError) (g : AggregateFn) → IfOk r (λ f. ReadsAggregate registry unknown v f) → IfErr r (λ e. (e ≡ OutOfMemory) ⊎ RefusesReadingAggregate e registry unknown v) → ReadsAggregate registry unknown v g
       → MatchResult r (λ f. f ≡ g) (λ e. e ≡ OutOfMemory)
   one_read (Ok f) g read cause k = one_function f g read k
   one_read (Err e) g read (inl h) k = h
   one_read (Err e) g read (inr cause) k = absurd (uncaused e g cause k)
 
-  -- A message is refused where a cause stands.
+  -- A message is refused where a cause holds.
   pub none_read : (r : Result AggregateFn FnWireError) (e : FnWireError) → IfOk r (λ f. ReadsAggregate registry unknown v f) → RefusesReadingAggregate e registry unknown v → IsErr r
   none_read (Ok f) e read cause = absurd (uncaused e f cause read)
   none_read (Err y) e read cause = refl

@@ -62,7 +62,7 @@ parts v h =
       formed = subst (FormEntries F (nested_member 2 0 ∷ [])) (sym (ap (λ w. entries_in w 1) three.is)) three.has_b.form;
     }
 
--- An identifier stands.
+-- Each message of the form has an identifier.
 pub id_found : (v : Value) → HasForm expr_lists 0 v → None ≡ text_in (entries_in v 0) → ⊥
 id_found v h none = let p = parts v h in absurd (let e : None ≡ Some p.id = none ∙ p.id_there in cc)
 
@@ -77,13 +77,13 @@ child_held es i x lt is f none =
     let h = holds_message F 2 0 (x.0, view x.1) (entry_form F (nested_member 2 0 ∷ []) es i x lt is f) in
     none-some h.value (none ∙ message_is (view x.1) h.value (ap (λ (e : Entry). e.1) h.is))
 
--- It has the form.
+-- That message has the form.
 pub child_form : (es : List (ℕ × Element)) (i : ℕ) (x : ℕ × Element) (w : Value) → i < length es → x ≡ get_or es i x → FormEntries F (nested_member 2 0 ∷ []) (entries_view es) → Some w ≡ message_of (view x.1) → HasForm expr_lists 0 w
 child_form es i x w lt is f some =
     let h = holds_message F 2 0 (x.0, view x.1) (entry_form F (nested_member 2 0 ∷ []) es i x lt is f) in
     subst (F 0) (sym (same_Some w h.value (some ∙ message_is (view x.1) h.value (ap (λ (e : Entry). e.1) h.is)))) h.form
 
--- It is the child at that place.
+-- That message is the child at that place.
 pub record IsAt (vs : List Value) (i : ℕ) (w : Value) : Type 0 where
   pub within : i < length vs
   pub at : w ≡ get_or vs i w
@@ -99,7 +99,7 @@ child_at (y ∷ es) (v ∷ vs) (suc i) x w lt is some same =
     let r = child_at es vs i x w (omega arith) is some (same_others y.0 2 (view y.1) (message (slots_of v)) (entries_view es) (messages (λ w. w) 2 vs) same) in
     record { within = omega (arith, r.within); at = r.at }
 
--- It nests less deep than the message.
+-- It nests less deep than the message that holds it.
 pub child_depth : (v : Value) (es : List (ℕ × Element)) (i : ℕ) (x : ℕ × Element) (w : Value) → i < length es → x ≡ get_or es i x → entries_view es ≡ entries_in v 1 → Some w ≡ message_of (view x.1) → slots_depth (slots_of w) < slots_depth (slots_of v)
 child_depth v es i x w lt is same some =
     let a : content_depth (view x.1) ≤ entries_depth (entries_of (entries_view es)) = entry_depth_le es i x lt is in
@@ -111,7 +111,7 @@ child_depth v es i x w lt is same some =
 -- ---- children one after the other
 
 module _ (registry : Registry ScalarFn) (unknown : Bool) where
-  -- The children so far are those of the messages before the place.
+  -- The children so far are those of the messages before the index.
   abbrev pub AreReadTo : List Expr → List (ℕ × Element) → ℕ → Type 0
   AreReadTo ts es i = (vs : List Value) → entries_view es ≡ messages (λ w. w) 2 vs → AreMessagesOf registry unknown (roses_of ts) (take i vs)
 
@@ -133,11 +133,11 @@ module _ (registry : Registry ScalarFn) (unknown : Bool) where
   entries_long (x ∷ es) [] same = absurd cc
   entries_long (x ∷ es) (v ∷ vs) same = ap (λ n. suc n) (entries_long es vs (same_others x.0 2 (view x.1) (message (slots_of v)) (entries_view es) (messages (λ w. w) 2 vs) same))
 
-  -- All children are read.
+  -- Where the index is past the end, all children are read.
   pub all_read : (ts : List Expr) (es : List (ℕ × Element)) (i : ℕ) (vs : List Value) → length es ≤ i → entries_view es ≡ messages (λ w. w) 2 vs → AreReadTo ts es i → AreMessagesOf registry unknown (roses_of ts) vs
   all_read ts es i vs le same so_far = subst (AreMessagesOf registry unknown (roses_of ts)) (take_all i vs (omega (arith, entries_long es vs same))) (so_far vs same)
 
-  -- There are as many as messages.
+  -- There are as many children as messages.
   pub same_number : (ts : Roses Head) (vs : List Value) → AreMessagesOf registry unknown ts vs → length vs ≡ count ts
   same_number end vs h = ap length h
   same_number (more t ts) vs h = ap length h.2 ∙ ap (λ n. suc n) (same_number ts h.1 h.4)

@@ -1,4 +1,4 @@
--- One function is given of metadata, and no cause stands where one is.
+-- At most one function is given of metadata, and where one is, no cause of a refusal holds.
 use Rattle.std.proofs.Common.{◌≡◌, Bool, true, false, ℕ, List, Option, Some, None, ap, sym, ◌∙◌}
 use Rattle.vx_fn_wire.specs.Session.{IsGiven, RefusesGiving}
 use Rattle.vx_fn_wire.specs.declared.error.FnWireError.{FnWireError}

@@ -1,6 +1,6 @@
--- Laws of reading expressions: a message is of one expression at most, no cause stands where one is, it nests as deep as
--- that has levels, what is read without plugins can be written, and what is written is read back where the session gives
--- the functions back.
+-- Laws of reading expressions. A message is of one expression at most, and where it is, no cause holds. It nests as
+-- deep as the expression has levels. What is read without plugins can be written. What is written is read back where
+-- the session gives the functions back.
 use Rattle.std.specs.Prelude.{IsSome}
 use Rattle.std.proofs.Common.{◌≡◌, ◌<◌, ℕ, zero, suc, Bool, List, [], ◌∷◌, length, get_or, Option, Some, None, refl, ap, sym, subst, ◌∙◌, arith}
 use Rattle.vx_trees.specs.Rose.{Roses, node, end, more, count}

@@ -44,7 +44,7 @@ nodes_at es i e h is = subst (λ x. expr_size (expr x) < slice_size (exprs es)) 
 
 -- ---- facts at each node
 
--- A fact that holds in each of the first ones, and in one more.
+-- A fact that holds at each node of the first expressions, and of one more.
 pub every_more : (F : Head → Roses Head → Type 0) (es : List Expression) (i : ℕ) (e : Expression) → i < length es → e ≡ get_or es i e → EverywhereBelow F (roses_of (exprs (take i es))) → Everywhere F (expr e)
     → EverywhereBelow F (roses_of (exprs (take (i + 1) es)))
 every_more F es i e h is some this =
@@ -58,7 +58,7 @@ call_formed t f children is admitted text below =
 
 -- ---- options that can be written
 
--- Each of a list, and so the one at a place.
+-- Where the options of each expression can be written, so can those of the one at a place.
 pub serializable_at : (es : List Expression) (i : ℕ) (e : Expression) → i < length es → e ≡ get_or es i e → AreSerializable (roses_of (exprs es)) → IsSerializable (expr e)
 serializable_at es i e h is all =
     let g : i < length (exprs es) = omega (arith, h, exprs-length es) in

@@ -1,4 +1,4 @@
--- Expressions out of bytes: why none is read, and that each answer is the only one.
+-- Expressions from bytes: why none is read, and that at most one result is right.
 use Rattle.std.proofs.Common.{◌≡◌, ◌≤◌, ◌⊎◌, inl, inr, ℕ, zero, suc, Bool, true, false, if◌then◌else◌, eqb, List, [], ◌∷◌, Some, None, Result, Ok, Err, IfOk, IfErr, MatchResult, refl, subst, arith}
 use Rattle.std.specs.Prelude.{IsErr, is_some}
 use Rattle.vx_trees.specs.Walks.{levels}
@@ -58,7 +58,7 @@ parts_none inside none [] h = h
 parts_none inside none (f ∷ fs) (inl h) = part_none inside none h.0 f.part (known_kind f.number h.0 h.1) h.2
 parts_none inside none (f ∷ fs) (inr h) = parts_none inside none fs h
 
--- A number out of its range stands nowhere.
+-- A number out of its range occurs nowhere.
 no_range : (left : ℕ) (bytes : List ℕ) → Cause expr_lists left proto.OutOfRange 0 bytes → ⊥
 unfolding Cause
 no_range zero bytes h = absurd (let e : proto.OutOfRange ≡ proto.TooDeep = h in cc)
@@ -69,19 +69,19 @@ no_range (suc left) bytes (inr (inr h)) = absurd (let e : proto.OutOfRange ≡ p
 -- ---- answers
 
 module _ (registry : Registry ScalarFn) (unknown : Bool) where
-  -- One expression is read of a message, and where one is, memory alone can run out.
+  -- At most one expression is read of a message, and where one is, the only refusal is `OutOfMemory`.
   pub one_read : (v : Value) (r : Result Expression FnWireError) → IfOk r (λ x. ReadsExpr registry unknown v (expr x)) → IfErr r (λ e. (e ≡ OutOfMemory) ⊎ RefusesReadingExpr registry unknown e v) → (t : Expr) → ReadsExpr registry unknown v t
       → MatchResult r (λ x. expr x ≡ t) (λ e. e ≡ OutOfMemory)
   one_read v (Ok x) read cause t h = one_expr registry unknown v (expr x) t read h
   one_read v (Err e) read (inl m) t h = m
   one_read v (Err e) read (inr c) t h = absurd (read_uncaused registry unknown e v t h c)
 
-  -- A message is refused where a cause stands.
+  -- A message is refused where a cause holds.
   pub none_read : (v : Value) (r : Result Expression FnWireError) → IfOk r (λ x. ReadsExpr registry unknown v (expr x)) → (e : FnWireError) → RefusesReadingExpr registry unknown e v → IsErr r
   none_read v (Ok x) read e c = absurd (read_uncaused registry unknown e v (expr x) read c)
   none_read v (Err y) read e c = refl
 
-  -- Why bytes are no message is why they are read as no expression.
+  -- Why bytes are no message is also why they are read as no expression.
   pub bytes_unread : (bytes : List ℕ) (p : ProtoError) → (p ≡ proto.OutOfMemory) ⊎ Cause expr_lists 100 p 0 bytes → (refusal_of_proto p ≡ OutOfMemory) ⊎ RefusesReadingExprBytes registry unknown (refusal_of_proto p) bytes
   bytes_unread bytes proto.OutOfMemory h = inl refl
   bytes_unread bytes proto.BadMessage (inl m) = absurd cc
@@ -91,11 +91,11 @@ module _ (registry : Registry ScalarFn) (unknown : Bool) where
   bytes_unread bytes proto.OutOfRange (inl m) = absurd cc
   bytes_unread bytes proto.OutOfRange (inr c) = absurd (no_range 100 bytes c)
 
-  -- What bytes are read as, their message is read as.
+  -- The expression of bytes is the expression of the message that they show.
   pub of_bytes : (bytes : List ℕ) (v : Value) (t : Expr) → Reads expr_lists 0 bytes v → ReadsExprBytes registry unknown bytes t → ReadsExpr registry unknown v t
   of_bytes bytes v t shown h = subst (λ (w : Value). ReadsExpr registry unknown w t) (laws.reads_one expr_lists 0 bytes h.value v h.shown shown) h.read
 
-  -- Bytes that are a message are refused where that is.
+  -- Bytes that show a message are refused where the message is.
   pub refused_bytes : (bytes : List ℕ) (v : Value) (r : Result Expression FnWireError) (e : FnWireError) → Reads expr_lists 0 bytes v → ((x : FnWireError) → RefusesReadingExpr registry unknown x v → IsErr r) → RefusesReadingExprBytes registry unknown e bytes → IsErr r
   refused_bytes bytes v r BadMessage shown refused c = absurd (laws.read_uncaused expr_lists 0 bytes v proto.BadMessage shown c)
   refused_bytes bytes v r TooDeep shown refused c = absurd (laws.read_uncaused expr_lists 0 bytes v proto.TooDeep shown c)

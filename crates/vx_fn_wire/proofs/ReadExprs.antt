@@ -1,4 +1,4 @@
--- The expression that is read of a message, from the parts of that message, or why none is.
+-- The expression that is read of a message, from the message's parts, or why there is none.
 use Rattle.std.proofs.Common.{◌≡◌, ◌≤◌, ◌<◌, ◌⊎◌, inl, inr, ℕ, suc, Bool, List, [], length, get_or, Option, Some, None, Result, Ok, Err, IfOk, IfErr, refl, ap, sym, subst, ◌∙◌}
 use Rattle.vx_trees.specs.Rose.{Roses, node, end, count, roses_of}
 use Rattle.vx_trees.proofs.Lists.{count-roses_of}
@@ -32,7 +32,7 @@ module _ (registry : Registry ScalarFn) (unknown : Bool) where
   node_unread e v id vs m holds (inl h) = inl h
   node_unread e v id vs m holds (inr h) = inr (record { depth = 0; at = v; stands = refl; cause = record { id = id; children = vs; metadata = m; holds = holds; cause = h } })
 
-  -- What is known of a node's identifier and metadata, where its children are read.
+  -- What is known of a node's identifier and metadata once its children are read.
   record Read (v : Value) (id metadata : List ℕ) (ts : List Expr) : Type 0 where
     pub parts : Parts v
     pub id_is : id ≡ parts.id
@@ -72,7 +72,7 @@ module _ (registry : Registry ScalarFn) (unknown : Bool) where
       (subst (λ (z : List ℕ). (e ≡ OutOfMemory) ⊎ RefusesCall registry unknown e p.parts.id z (length ts)) p.metadata_is
       (subst (λ (z : List ℕ). (e ≡ OutOfMemory) ⊎ RefusesCall registry unknown e z metadata (length ts)) p.id_is cause)))
 
-  -- A child is read as none, and so is the message.
+  -- Where a child is read as no expression, neither is the message.
   pub child_unread : (e : FnWireError) (v : Value) (es : List (ℕ × Element)) (i : ℕ) (x : ℕ × Element) (w : Value) → HasForm expr_lists 0 v → entries_view es ≡ entries_in v 1 → i < length es → x ≡ get_or es i x → Some w ≡ message_of (view x.1)
       → (e ≡ OutOfMemory) ⊎ RefusesReadingExpr registry unknown e w → (e ≡ OutOfMemory) ⊎ RefusesReadingExpr registry unknown e v
   child_unread e v es i x w h same lt is some (inl m) = inl m

@@ -30,7 +30,7 @@ module _ (registry : Registry ScalarFn) (unknown : Bool) where
   given_at id there metadata n m f same number h =
       subst (λ (k : ℕ). IsFunctionOf registry unknown id metadata k f) number (subst (λ (i : List ℕ). IsFunctionOf registry unknown i metadata m f) same h)
 
-  -- The arity of the function that is given does not admit so many children.
+  -- The arity of the function that is given does not admit that many children.
   pub not_admitted : (id there metadata : List ℕ) (n m : ℕ) (f : ScalarFn) → there ≡ id → false ≡ bytes_eq id root_id → m ≡ n → IsFunctionOf registry unknown there metadata m f → (Admits f.arity n → ⊥)
       → RefusesCall registry unknown ArityMismatch id metadata n
   not_admitted id there metadata n m f same other number h not = (not_root id other, f, given_at id there metadata n m f same number h, not)

@@ -12,7 +12,7 @@ use Rattle.vx_fn_wire.specs.declared.expression.Expression.{Expression}
 use Rattle.vx_fn_wire.specs.declared.scalar_fn.ScalarFn.{ScalarFn}
 use Rattle.vx_fn_wire.proofs.Lists.{nodes_at}
 
--- What is written is written to an equal formatter.
+-- What is written to a formatter is written to an equal one.
 pub same_written : {W : Type 0} (took : W → List ℕ → W → Type 0) (f g h : Formatter W) (bs : List ℕ) → h ≡ g → HasWritten took f bs g → HasWritten took f bs h
 same_written took f g h bs same written = subst (HasWritten took f bs) (sym same) written
 

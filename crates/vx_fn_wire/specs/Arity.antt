@@ -3,12 +3,12 @@ use Rattle.std.specs.Prelude.{◌≡◌, ◌≤◌, ℕ, Option, Some, None}
 use Rattle.vx_fn_wire.specs.declared.arity.Arity.{Arity}
 use Rattle.vx_fn_wire.specs.declared.arity.Arity.TheVariants.{Exact, Variadic}
 
--- So many are not too many: there is no upper end, or they are at most that.
+-- The number n is not too large: there is no upper end, or n is at most that.
 abbrev pub IsAtMost : Option ℕ → ℕ → Type 0
 IsAtMost None children = Unit {0}
 IsAtMost (Some max) children = children ≤ max
 
--- So many children are inside the arity: the exact number, or one from the lower to the upper end.
+-- The number n of children is inside the arity: the exact number, or one from the lower to the upper end.
 abbrev pub Admits : Arity → ℕ → Type 0
 Admits (Exact n) children = children ≡ n
 Admits (Variadic min max) children = (min ≤ children) × IsAtMost max children

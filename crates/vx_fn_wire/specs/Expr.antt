@@ -36,11 +36,11 @@ restored-stored (call f) = refl
 abbrev pub head_code : Coded Head
 head_code = code_by (Unit {0} ⊎ ScalarFn) (coded⊎ coded_unit scalar_fn.the_row.coded) stored restored restored-stored
 
--- The code by which expressions are told apart.
+-- The code by which expressions are compared.
 abbrev pub expr_code : Coded Expr
 expr_code = coded_rose root head_code
 
--- The root has no children, and a call as many as its function's arity admits. An identifier is a text.
+-- The root has no children, and a call has as many as its function's arity admits. An identifier is a text.
 abbrev pub IsExprNode : Head → Roses Head → Type 0
 IsExprNode root ts = count ts ≡ 0
 IsExprNode (call f) ts = Admits f.arity (count ts) × IsText f.id

@@ -4,12 +4,12 @@ use Rattle.vx_trees.specs.Rose.{Roses, node, end, more}
 use Rattle.vx_fn_wire.specs.Expr.{Head, root, call, Expr}
 
 abbrev mutual
-  -- `root`, or the identifier and the children in parentheses, split by comma and space.
+  -- `root`; or the identifier, and the children in parentheses with a comma and a space between them.
   pub expr_text : Expr → List ℕ
   expr_text (node root ts) = codes "root"
   expr_text (node (call f) ts) = f.id ++ (codes "(" ++ (children_text ts ++ codes ")"))
 
-  -- Children as they stand in the parentheses.
+  -- The children as they are printed in the parentheses.
   pub children_text : Roses Head → List ℕ
   children_text end = []
   children_text (more t ts) = expr_text t ++ more_text ts

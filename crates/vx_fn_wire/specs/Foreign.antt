@@ -1,11 +1,11 @@
--- Functions that nobody registered.
+-- Functions that no plugin knows.
 use Rattle.std.specs.Prelude.{ℕ, false, List, [], Some}
 use Rattle.vx_fn_wire.specs.declared.arity.Arity.TheVariants.{Exact}
 use Rattle.vx_fn_wire.specs.declared.scalar_fn.ScalarFn.{ScalarFn}
 use Rattle.vx_fn_wire.specs.declared.aggregate_fn.AggregateFn.{AggregateFn}
 use Rattle.vx_fn_wire.specs.Texts.{foreign_text}
 
--- The foreign function of an identifier and metadata: its metadata are its options, its calls have exactly so many children,
+-- The foreign function of an identifier and metadata: the metadata is its options, its calls have exactly n children,
 -- none of them named, and nothing more is known of it.
 abbrev pub foreign_fn : List ℕ → List ℕ → ℕ → ScalarFn
 foreign_fn id metadata arity = record {

@@ -1,4 +1,4 @@
--- Each part of an expression is smaller than it: what recursions go down by.
+-- Each part of an expression is smaller than the expression: the measure of recursions.
 use Rattle.std.specs.Prelude.{◌+◌, ◌*◌, ◌≤◌, List, [], ◌∷◌, max}
 use Rattle.std.proofs.Common.{arith}
 use Rattle.vx_trees.specs.Rose.{roses_of}

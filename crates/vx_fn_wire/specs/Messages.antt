@@ -14,7 +14,7 @@ use Rattle.vx_fn_wire.specs.Expr.{Head, root, call, Expr}
 abbrev pub metadata_of : Option (List ℕ) → List ℕ
 metadata_of options = unwrap_or options []
 
--- The message of an aggregate function: its identifier and its metadata, which always stands.
+-- The message of an aggregate function: its identifier and its metadata, which is always written.
 abbrev pub aggregate_message : AggregateFn → Value
 aggregate_message f = one_octets 1 f.id ∷ one_octets 2 (metadata_of f.options) ∷ []
 
@@ -40,8 +40,8 @@ abbrev pub metadata_at : Head → List ℕ
 metadata_at root = []
 metadata_at (call f) = metadata_of f.options
 
--- A node's message, where those of its children are given: the identifier, the children, and the metadata, which always
--- stands.
+-- A node's message over the given messages of its children: the identifier, the children, and the metadata, which is
+-- always written.
 abbrev pub call_message : Head → List Value → Value
 call_message h children = one_octets 1 (id_of h) ∷ messages (λ v. v) 2 children ∷ one_octets 3 (metadata_at h) ∷ []
 
@@ -50,7 +50,7 @@ abbrev mutual
   pub expr_message : Expr → Value
   expr_message (node h ts) = call_message h (expr_messages ts)
 
-  -- Those of expressions, in order.
+  -- The messages of expressions, in order.
   pub expr_messages : Roses Head → List Value
   expr_messages end = []
   expr_messages (more t ts) = expr_message t ∷ expr_messages ts
@@ -64,7 +64,7 @@ CanWrite (call f) ts = IsSome f.options
 abbrev pub IsSerializable : Expr → Type 0
 IsSerializable = Everywhere CanWrite
 
--- The same of each of these.
+-- The same for each of these.
 abbrev pub AreSerializable : Roses Head → Type 0
 AreSerializable = EverywhereBelow CanWrite
 

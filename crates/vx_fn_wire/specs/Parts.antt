@@ -7,7 +7,7 @@ use Rattle.vx_fn_wire.specs.Expr.{Expr, expr_code}
 use Rattle.vx_fn_wire.specs.declared.scalar_fn.ScalarFn.{ScalarFn}
 use Rattle.vx_fn_wire.specs.contracts.scalar_fn.ScalarFn as scalar_fn
 
--- A call: the function, and what it is called on.
+-- A call: the function, and its arguments.
 pub record CallParts : Type 0 where
   pub function : ScalarFn
   pub children : List Expr

@@ -23,24 +23,24 @@ abbrev pub HoldsExpr : Value → List ℕ → List Value → Option (List ℕ) �
 HoldsExpr v id children metadata = v ≡ one_octets 1 id ∷ messages (λ w. w) 2 children ∷ optional_octets 3 metadata ∷ []
 
 module _ (registry : Registry ScalarFn) (unknown : Bool) where
-  -- The function of an identifier and metadata, for a call on so many children: the one that is given, a foreign one being
-  -- that of so many.
+  -- The function of an identifier and metadata, for a call on n children: the one that is given, where a foreign one is
+  -- that of n children.
   abbrev pub IsFunctionOf : List ℕ → List ℕ → ℕ → ScalarFn → Type 0
   IsFunctionOf id metadata children f = IsGiven (registry id) unknown metadata (foreign_fn id metadata children) f
 
-  -- What stands at a node, by its message's identifier and metadata and how many children it has: the root at the root's
-  -- identifier, whatever the metadata; at any other a call of the function of these.
+  -- What stands at a node, by the identifier and metadata of its message and the number of its children: the root at
+  -- the root's identifier, whatever the metadata; at any other a call of the function of these.
   abbrev pub IsHeadOf : List ℕ → List ℕ → ℕ → Head → Type 0
   IsHeadOf id metadata children root = id ≡ root_id
   IsHeadOf id metadata children (call f) = (id ≡ root_id → ⊥) × IsFunctionOf id metadata children f
 
-  -- An expression is such a node over these.
+  -- An expression is such a node over these trees.
   abbrev pub IsNodeOf : List ℕ → List ℕ → Roses Head → Expr → Type 0
   IsNodeOf id metadata below (node h ts) = (ts ≡ below) × IsHeadOf id metadata (count below) h
 
   abbrev mutual
-    -- The message of an expression: it holds the messages of the trees below the node, and an identifier and metadata, absent
-    -- ones being empty, of what stands there.
+    -- The message of an expression: it holds the messages of the trees below the node, and an identifier and metadata
+    -- of what stands there; absent metadata counts as empty.
     pub IsMessageOf : Expr → Value → Type 0
     IsMessageOf (node h ts) v =
         (id : List ℕ) × (children : List Value) × (metadata : Option (List ℕ)) × HoldsExpr v id children metadata × IsHeadOf id (metadata_of metadata) (count ts) h
@@ -56,7 +56,7 @@ module _ (registry : Registry ScalarFn) (unknown : Bool) where
     pub is_expr : IsExpr e
     pub message : IsMessageOf e v
 
-  -- Bytes are read as an expression: they are those of its message.
+  -- Bytes are read as an expression: they show its message.
   pub record ReadsExprBytes (bytes : List ℕ) (e : Expr) : Type 0 where
     pub value : Value
     pub shown : Reads expr_lists 0 bytes value
@@ -64,15 +64,15 @@ module _ (registry : Registry ScalarFn) (unknown : Bool) where
 
   -- ---- why there is none
 
-  -- Why nothing stands at a node, by its message's identifier and metadata and how many children it has: the root has some;
-  -- no function is given; or its arity does not admit so many.
+  -- Why nothing stands at a node, by the identifier and metadata of its message and the number of its children: the
+  -- root has some; no function is given; or the function's arity does not admit that many.
   abbrev pub RefusesCall : FnWireError → List ℕ → List ℕ → ℕ → Type 0
   RefusesCall RootWithChildren id metadata children = (id ≡ root_id) × (0 < children)
   RefusesCall ArityMismatch id metadata children =
       (id ≡ root_id → ⊥) × (f : ScalarFn) × IsFunctionOf id metadata children f × (Admits f.arity children → ⊥)
   RefusesCall error id metadata children = (id ≡ root_id → ⊥) × RefusesGiving error (registry id) unknown metadata
 
-  -- Nothing stands at the node of a message.
+  -- Nothing can stand at the node of a message.
   pub record RefusesNode (error : FnWireError) (v : Value) : Type 0 where
     pub id : List ℕ
     pub children : List Value
@@ -84,7 +84,8 @@ module _ (registry : Registry ScalarFn) (unknown : Bool) where
 abbrev pub IsChild : Value → Value → Type 0
 IsChild v w = (id : List ℕ) × (children : List Value) × (metadata : Option (List ℕ)) × HoldsExpr v id children metadata × IsAmong children w
 
--- A message stands so many levels below another: it is that one, or stands below one of its children.
+-- A message stands n levels below another: for n = 0 it is that one, for n + 1 it stands n levels below one of its
+-- children.
 abbrev pub StandsBelow : ℕ → Value → Value → Type 0
 StandsBelow zero v w = v ≡ w
 StandsBelow (suc n) v w = (u : Value) × IsChild v u × StandsBelow n u w
@@ -105,12 +106,12 @@ module _ (registry : Registry ScalarFn) (unknown : Bool) where
 
   -- ---- what is read back
 
-  -- The session gives the function of a call back, of the identifier and the metadata by which it is written. No function has
-  -- the root's identifier.
+  -- The session gives the function of a call back, from the identifier and the metadata as which it is written. No
+  -- function has the root's identifier.
   abbrev pub GivesBack : Head → Roses Head → Type 0
   GivesBack root ts = Unit {0}
   GivesBack (call f) ts = (f.id ≡ root_id → ⊥) × IsFunctionOf registry unknown f.id (metadata_of f.options) (count ts) f
 
-  -- It does for each function in an expression.
+  -- It gives back each function in an expression.
   abbrev pub GivesEachBack : Expr → Type 0
   GivesEachBack = Everywhere GivesBack

@@ -1,4 +1,4 @@
-//! Functions of columns.
+//! Aggregate functions: functions of columns.
 
 ghost use Rattle.std.specs.Prelude.{◌≡◌, ◌⊎◌, None, IfOk, IfErr, IsErr, MatchResult};
 ghost use Rattle.vx_fn_wire.specs.Messages.{aggregate_message, RefusesWritingAggregate};
@@ -16,23 +16,24 @@ use std::alloc::Global;
 use vx_proto::PlainMessage;
 use vx_types::{Blob, Id, or_memory};
 
-/// A function of columns, as far as its message tells.
+/// A function of columns: what its message says of it.
 #[derive(Debug, Drop)]
 pub struct AggregateFn {
-    /// Which function it is.
+    /// The identifier of the function.
     pub id: Id,
-    /// Its options as bytes; None where they cannot be written.
+    /// Its options as bytes; `None` where they cannot be written.
     pub options: Option<Blob>,
 }
 
-/// An aggregate function, as it is held.
+/// An aggregate function by the name that other interfaces give it. It is a plain value here, and not a reference.
 pub type AggregateFnRef = AggregateFn;
 
 impl AggregateFn {
-    /// The function whose message this is: its plugin's, or the foreign one where no plugin stands and
-    /// unknown ones are allowed. Absent metadata is read as empty. `UnknownId` where neither is,
-    /// `IdMismatch` where the plugin gives another identifier, `PluginRefused` where it refuses the
-    /// metadata.
+    /// The function whose message this is: the one that its plugin makes of the metadata, or the foreign
+    /// one where no plugin stands and unknown ones are allowed. Absent metadata is read as empty.
+    ///
+    /// Refuses with `UnknownId` where neither is, `IdMismatch` where the plugin's function has another
+    /// identifier, and `PluginRefused` where the plugin refuses the metadata.
     pub fn from_proto(
         alloc: Global,
         message: &pb::AggregateFn,

@@ -1,4 +1,4 @@
-//! Aggregate functions out of messages.
+//! Reading aggregate functions from messages.
 
 ghost use Rattle.std.specs.Prelude.{◌≡◌, ◌⊎◌, Bool, Some, IfOk, IfErr, option_map};
 ghost use Rattle.vx_fn_wire.specs.Messages.{metadata_of};
@@ -14,7 +14,7 @@ use std::alloc::Global;
 use vx_proto::{octets_at, text_at};
 use vx_types::{Blob, Id, or_memory};
 
-/// What the message of an aggregate function holds: its identifier, and metadata that may stand.
+/// What the message of an aggregate function holds: an identifier, and metadata that may be absent.
 #[derive(Clone, Copy)]
 pub struct AggregateParts<'a> {
     pub id: &'a str,
@@ -22,7 +22,7 @@ pub struct AggregateParts<'a> {
 }
 
 impl<'a> AggregateParts<'a> {
-    /// The metadata, which are empty where none stand.
+    /// The metadata; empty where it is absent.
     pub fn metadata_or_none(&self) -> &'a [u8]
         ensures { result.now ≡ metadata_of (option_map (λ s. s.now) self.now.metadata) }
     {
@@ -33,7 +33,7 @@ impl<'a> AggregateParts<'a> {
     }
 }
 
-/// The parts of a message.
+/// The parts of a message, borrowed from it.
 pub fn parts_of(message: &pb::AggregateFn) -> AggregateParts<'_>
     ensures { HoldsAggregate message.now result.id.now (option_map (λ s. s.now) result.metadata) }
 {
@@ -74,7 +74,7 @@ fn registered(
     }
 }
 
-/// The function that is given of an identifier and metadata.
+/// The function of an identifier and metadata: a plugin's, or the foreign one.
 pub fn function_of(
     alloc: Global,
     id: Id,

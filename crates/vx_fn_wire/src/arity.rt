@@ -6,14 +6,14 @@ ghost use Rattle.vx_fn_wire.specs.Arity.{Admits};
 /// How many children a call of a function may have.
 #[derive(Clone, Copy, Debug, PartialEq, Eq, Hash)]
 pub enum Arity {
-    /// Exactly so many.
+    /// Exactly this many.
     Exact(usize),
-    /// From `min` to `max`; without an upper end where that is None.
+    /// From `min` to `max`, both included; without an upper end where `max` is `None`.
     Variadic { min: usize, max: Option<usize> },
 }
 
 impl Arity {
-    /// Whether a call may have so many children.
+    /// Whether a call may have this many children.
     pub fn admits(self, children: usize) -> bool
         ensures { IsTrue result ↔ Admits self children }
     {

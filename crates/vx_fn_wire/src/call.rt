@@ -7,7 +7,7 @@ use crate::expressions::Expressions;
 use crate::scalar_fn::ScalarFn;
 use std::marker::Model;
 
-/// A call of a function: the function, and the expressions that it is called on.
+/// A call of a function: the function and its arguments, which are expressions.
 #[cycle(expression)]
 #[derive(Debug, Drop)]
 pub struct Call {
@@ -35,7 +35,7 @@ impl Model for Call {
 }
 
 impl Call {
-    /// The call of a function on these. The function's arity admits their number.
+    /// The call of a function on these children. The function's arity admits their number.
     pub fn new(function: ScalarFn, children: Expressions) -> Call
         requires { Admits function.arity (length children) }
         ensures { result ≡ record { function = function; children = children } }
@@ -50,7 +50,7 @@ impl Call {
         &self.function
     }
 
-    /// What it is called on: as many as the function's arity admits.
+    /// The children, in order: as many as the function's arity admits.
     pub fn children(&self) -> &Expressions
         ensures same { result.now ≡ self.now.children }
         ensures arity { Admits self.now.function.arity (length self.now.children) }

@@ -1,4 +1,4 @@
-//! Refusals of this crate.
+//! The refusals of this crate.
 
 ghost use Rattle.std.specs.Prelude.{◌≡◌};
 ghost use Rattle.vx_fn_wire.specs.declared.error.FnWireError.TheVariants.{OutOfMemory};
@@ -10,7 +10,7 @@ use vx_proto::ProtoError;
 /// Why a function or an expression could not be made, read or written.
 #[derive(Clone, Copy, Debug, PartialEq, Eq, Error)]
 pub enum FnWireError {
-    /// The allocator gave no memory.
+    /// An allocation failed.
     #[error("out of memory")]
     OutOfMemory,
     /// The bytes are no message of the schema: 1.
@@ -22,19 +22,19 @@ pub enum FnWireError {
     /// An expression with the identifier of the root has children: 3.
     #[error("a root has children")]
     RootWithChildren,
-    /// An identifier has no reader, and such ones are not allowed: 4.
+    /// An identifier has no plugin, and functions without one are not allowed: 4.
     #[error("a function's identifier has no reader")]
     UnknownId,
     /// The number of a call's children is outside the function's arity: 5.
     #[error("the number of children is outside the function's arity")]
     ArityMismatch,
-    /// The reader of an aggregate function gave one of another identifier: 6.
+    /// The plugin of an aggregate function gave one of another identifier: 6.
     #[error("an aggregate function's reader gave another identifier")]
     IdMismatch,
     /// A function's options cannot be written: 7.
     #[error("a function's options cannot be written")]
     NotSerializable,
-    /// The reader of an identifier refuses the metadata: 8.
+    /// The plugin of an identifier refuses the metadata: 8.
     #[error("a function's reader refuses its metadata")]
     PluginRefused,
 }

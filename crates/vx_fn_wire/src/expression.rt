@@ -31,7 +31,7 @@ use std::fmt::Display;
 use vx_proto::{Message, PlainMessage};
 use vx_types::Blob;
 
-/// An expression: what rows are, or a call of a function on expressions. Contracts see its tree.
+/// An expression: the root, or a call of a function on expressions. Contracts see its tree.
 #[cycle(expression)]
 #[derive(Debug, Drop)]
 pub enum Expression {
@@ -43,7 +43,7 @@ pub enum Expression {
 
 impl Expression {
     /// The call of a function on these children. The function's arity admits their number, which
-    /// [`crate::Arity::admits`] tells.
+    /// [`crate::Arity::admits`] tests.
     pub fn call(function: ScalarFn, children: Expressions) -> Expression
         requires { Admits function.arity (length children) }
         ensures { expr result ≡ node (call function) (roses_of children) }
@@ -51,12 +51,15 @@ impl Expression {
         Expression::Call(Call::new(function, children))
     }
 
-    /// The expression whose message this is. Each identifier is that of the root, which is looked at
-    /// first, or has its plugin's function, or the foreign one where no plugin stands and unknown ones
-    /// are allowed. Absent metadata is read as empty, and a root's is ignored. `RootWithChildren` where a
-    /// root has children, `UnknownId` where an identifier has no plugin and unknown ones are not allowed,
-    /// `PluginRefused` where a plugin refuses the metadata, and `ArityMismatch` where the number of a
-    /// call's children is outside its function's arity.
+    /// The expression whose message this is. The identifier of the root is looked at first. Any other
+    /// identifier has the function that its plugin makes of the metadata, or the foreign one where no
+    /// plugin stands and unknown ones are allowed. Absent metadata is read as empty, and a root's is
+    /// ignored.
+    ///
+    /// Refuses with `RootWithChildren` where a root has children, `UnknownId` where an identifier has no
+    /// plugin and unknown ones are not allowed, `PluginRefused` where a plugin refuses the metadata, and
+    /// `ArityMismatch` where the number of a call's children is outside its function's arity. Where several
+    /// of them have a cause, any is answered.
     pub fn from_proto(
         alloc: Global,
         message: &pb::Expr,
@@ -71,8 +74,8 @@ impl Expression {
         expression_of(alloc, message, &session.scalars, session.unknown)
     }
 
-    /// The expression whose message these bytes are. `BadMessage` where they are no fields of the
-    /// schema, `TooDeep` where over 100 messages nest, and as `from_proto`.
+    /// The expression whose message these bytes are. `BadMessage` where they are no fields of the schema,
+    /// `TooDeep` where over 100 messages nest, and the refusals of `from_proto`.
     pub fn from_proto_bytes(
         alloc: Global,
         bytes: &[u8],
@@ -89,16 +92,17 @@ impl Expression {
         Expression::from_proto(alloc, &message, session)
     }
 
-    /// Whether the options of each function in it can be written.
+    /// Whether the options of each function in the expression can be written.
     pub fn is_serializable(&self) -> bool
         ensures { IsTrue result ↔ IsSerializable (expr self.now) }
     {
         writing::is_serializable(self)
     }
 
-    /// The bytes of the expression's message. `NotSerializable` where the options of some function in
-    /// it cannot be written, `TooDeep` where over 100 calls nest, the root counted as one. What is
-    /// written is read as the expression by each session that gives its functions back.
+    /// The bytes of the expression's message. `NotSerializable` where the options of some function in it
+    /// cannot be written, `TooDeep` where it has over 100 levels, the root counted as one: each level is a
+    /// message in the one above. What is written is read as the expression by each session that gives its
+    /// functions back.
     #[tactic(auto, using(crate::proofs::Forms::expr_form, crate::proofs::Forms::expr_depth))]
     pub fn to_proto_bytes(&self, alloc: Global) -> Result<Blob, FnWireError>
         ensures exact { IfOk result (λ bytes. bytes ≡ written expr_lists 0 (expr_message (expr self.now))) }
@@ -113,8 +117,8 @@ impl Expression {
         Ok(Blob::new(bytes.into_vec()))
     }
 
-    // The message of the expression, which is one: each call in it has as many children as its
-    // function's arity admits.
+    // The message of the expression. The walk that makes it also shows that each call has as many children
+    // as its function's arity admits.
     #[tactic(auto, using(crate::proofs::Forms::expr_form))]
     fn message(&self, alloc: Global) -> Result<pb::Expr, FnWireError>
         ensures same { IfOk result (λ m. m ≡ expr_message (expr self.now)) }
@@ -151,9 +155,9 @@ pub trait ExprSerializeProtoExt {
     /// The tree of the expression.
     ghost tree: { Self → Expr };
 
-    /// The message of the expression. `NotSerializable` where the options of some function in it cannot
-    /// be written. What is written is read as the expression by each session that gives its functions
-    /// back.
+    /// The message of the expression. `NotSerializable` where the options of some function in it cannot be
+    /// written. A message in memory may nest as deep as it likes; the limit of 100 is one of bytes. What is
+    /// written is read as the expression by each session that gives its functions back.
     fn serialize_proto(&self, alloc: Global) -> Result<pb::Expr, FnWireError>
         ensures same { IfOk result (λ m. m ≡ expr_message (tree self.now)) }
         ensures read_back { IfOk result (λ m. (registry : Registry Scalar) (unknown : Bool) → GivesEachBack registry unknown (tree self.now) → ReadsExpr registry unknown m (tree self.now)) }

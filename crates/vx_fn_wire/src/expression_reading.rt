@@ -1,4 +1,4 @@
-//! Expressions out of messages.
+//! Reading expressions from messages.
 
 ghost use Rattle.std.specs.Prelude.{◌≡◌, ◌⊎◌, None, Some, IfOk, IfErr, length};
 ghost use Rattle.vx_trees.specs.Rose.{roses_of};
@@ -25,7 +25,7 @@ use std::alloc::Global;
 use vx_proto::{Entries, entries_at, octets_at, text_at};
 use vx_types::{Blob, Id, or_memory};
 
-/// The function of metadata, by the plugin that its identifier has.
+/// The function that the plugin of an identifier makes of metadata.
 fn registered(
     alloc: Global,
     metadata: &[u8],
@@ -41,7 +41,7 @@ fn registered(
     }
 }
 
-/// The function that is given of an identifier and metadata, for a call on so many children.
+/// The function of an identifier and metadata, for a call on `arity` children.
 fn function_of(
     alloc: Global,
     id: Id,
@@ -92,7 +92,7 @@ fn node_of(
     Ok(Expression::call(function, children))
 }
 
-/// The metadata of a message, which are empty where none stand.
+/// The metadata of a message; empty where it is absent.
 fn metadata_at(slots: &[Entries]) -> &[u8]
     ensures { result.now ≡ metadata_of (octets_in (entries_in (value_view slots.now) 2)) }
 {

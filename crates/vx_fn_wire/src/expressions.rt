@@ -8,7 +8,7 @@ use crate::expression::Expression;
 use std::alloc::Global;
 use std::marker::Model;
 
-/// A list of expressions, in order, as of a call's children. Contracts see the list of their trees.
+/// A list of expressions, in order: the children of a call. Contracts see the list of their trees.
 #[cycle(expression)]
 #[derive(Debug, Drop)]
 pub struct Expressions {
@@ -38,7 +38,7 @@ impl Model for Expressions {
 }
 
 impl Expressions {
-    /// No expression; more are stored by this allocator.
+    /// The empty list, which takes no memory. Later items are stored with this allocator.
     pub fn new(alloc: Global) -> Expressions
         ensures { result ≡ [] }
     {
@@ -47,36 +47,36 @@ impl Expressions {
         }
     }
 
-    /// How many expressions there are.
+    /// The number of expressions.
     pub fn len(&self) -> usize
         ensures { result ≡ length self.now }
     {
         self.items.len()
     }
 
-    /// Whether there is no expression.
+    /// Whether the list is empty.
     pub fn is_empty(&self) -> bool
         ensures { result ≡ (length self.now == 0) }
     {
         self.items.is_empty()
     }
 
-    /// The expression at this place, counted from 0; None past the end.
+    /// The expression at this index; `None` past the end.
     pub fn get(&self, index: usize) -> Option<&Expression>
         ensures { option_map expr (option_copied result) ≡ slice_get self.now index }
     {
         self.items.as_slice().get(index)
     }
 
-    /// All expressions, in order.
+    /// All expressions, in order, borrowed.
     pub fn as_slice(&self) -> &[Expression]
         ensures { exprs result.now ≡ self.now }
     {
         self.items.as_slice()
     }
 
-    /// One more expression at the end. Where there is no memory for it, the list stays as it was, and
-    /// the expression is dropped.
+    /// Appends an expression. The only refusal is `OutOfMemory`: the list then stays as it was, and the
+    /// expression is dropped.
     pub fn push(&mut self, expression: Expression) -> Result<(), FnWireError>
         ensures ok { OnOk result (self.new ≡ self.old ++ expr expression ∷ []) }
         ensures unchanged { OnErr result (self.new ≡ self.old) }

@@ -1,4 +1,4 @@
-//! Functions of rows that nobody registered.
+//! Functions of rows that no plugin knows.
 
 ghost use Rattle.std.specs.Prelude.{◌≡◌, ◌++◌, Some, false, IfOk, IsOkUnless};
 ghost use Rattle.std.proofs.Common.{rules};
@@ -15,8 +15,8 @@ use std::fmt;
 use std::hash::{Hash, Hasher};
 use vx_types::{Blob, Id, Name, Names, or_memory};
 
-/// The options of a foreign function: its metadata as it stands in the message, and how many children
-/// a call has.
+/// The options of a foreign function: its metadata unchanged, and how many children a call has. The
+/// number of children is part of the options, since it is all that a message shows of the arity.
 #[derive(Debug, Drop, PartialEq, Eq)]
 pub struct ForeignScalarFnOptions {
     metadata: Blob,
@@ -24,14 +24,14 @@ pub struct ForeignScalarFnOptions {
 }
 
 impl ForeignScalarFnOptions {
-    /// Options of this metadata, of a function whose calls have so many children.
+    /// Options of this metadata, for a function whose calls have exactly `arity` children.
     pub fn new(metadata: Blob, arity: usize) -> ForeignScalarFnOptions
         ensures { result ≡ record { metadata = metadata; arity = arity } }
     {
         ForeignScalarFnOptions { metadata, arity }
     }
 
-    /// Equal options.
+    /// A copy of the options. The only refusal is `OutOfMemory`.
     pub fn clone(&self, alloc: Global) -> Result<ForeignScalarFnOptions, FnWireError>
         ensures same { IfOk result (λ options. options ≡ self.now) }
         ensures err { IsOkUnless result FnWireError.OutOfMemory }
@@ -64,14 +64,14 @@ impl fmt::Display for ForeignScalarFnOptions {
     }
 }
 
-/// What makes the foreign functions of one identifier.
+/// The maker of the foreign functions of one identifier.
 #[derive(Debug, Drop)]
 pub struct ForeignScalarFnVTable {
     id: Id,
 }
 
 impl ForeignScalarFnVTable {
-    /// What makes the foreign functions of this identifier.
+    /// The maker of the foreign functions of this identifier.
     pub fn new(id: Id) -> ForeignScalarFnVTable
         ensures { result.id ≡ id }
     {
@@ -85,8 +85,9 @@ impl ForeignScalarFnVTable {
         &self.id
     }
 
-    /// The foreign function of this identifier and metadata, whose calls have exactly so many children.
-    /// It is not strict, and its rows may fail.
+    /// The foreign function of this identifier and metadata, whose calls have exactly `arity` children. It
+    /// is not strict, and its rows may fail, since nothing is known of it. The only refusal is
+    /// `OutOfMemory`.
     pub fn make_scalar_fn(
         alloc: Global,
         id: Id,
@@ -109,7 +110,7 @@ impl ForeignScalarFnVTable {
         })
     }
 
-    /// What makes the same functions.
+    /// A maker of the same functions. The only refusal is `OutOfMemory`.
     pub fn clone(&self, alloc: Global) -> Result<ForeignScalarFnVTable, FnWireError>
         ensures same { IfOk result (λ vtable. vtable ≡ self.now) }
         ensures err { IsOkUnless result FnWireError.OutOfMemory }

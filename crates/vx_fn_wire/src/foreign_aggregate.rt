@@ -1,4 +1,4 @@
-//! Aggregate functions that nobody registered.
+//! Aggregate functions that no plugin knows.
 
 ghost use Rattle.std.specs.Prelude.{◌≡◌, Some, IfOk, IsOkUnless};
 ghost use Rattle.std.proofs.Common.{rules};
@@ -14,7 +14,7 @@ use std::fmt;
 use std::hash::{Hash, Hasher};
 use vx_types::{Blob, Id, or_memory};
 
-/// The options of a foreign aggregate function: its metadata as it stands in the message.
+/// The options of a foreign aggregate function: its metadata unchanged.
 #[derive(Debug, Drop, PartialEq, Eq)]
 pub struct ForeignAggregateFnOptions {
     metadata: Blob,
@@ -28,7 +28,7 @@ impl ForeignAggregateFnOptions {
         ForeignAggregateFnOptions { metadata }
     }
 
-    /// Equal options.
+    /// A copy of the options. The only refusal is `OutOfMemory`.
     pub fn clone(&self, alloc: Global) -> Result<ForeignAggregateFnOptions, FnWireError>
         ensures same { IfOk result (λ options. options ≡ self.now) }
         ensures err { IsOkUnless result FnWireError.OutOfMemory }
@@ -58,14 +58,14 @@ impl fmt::Display for ForeignAggregateFnOptions {
     }
 }
 
-/// What makes the foreign aggregate functions of one identifier.
+/// The maker of the foreign aggregate functions of one identifier.
 #[derive(Debug, Drop)]
 pub struct ForeignAggregateFnVTable {
     id: Id,
 }
 
 impl ForeignAggregateFnVTable {
-    /// What makes the foreign aggregate functions of this identifier.
+    /// The maker of the foreign aggregate functions of this identifier.
     pub fn new(id: Id) -> ForeignAggregateFnVTable
         ensures { result.id ≡ id }
     {
@@ -79,7 +79,7 @@ impl ForeignAggregateFnVTable {
         &self.id
     }
 
-    /// What makes the same functions.
+    /// A maker of the same functions. The only refusal is `OutOfMemory`.
     pub fn clone(&self, alloc: Global) -> Result<ForeignAggregateFnVTable, FnWireError>
         ensures same { IfOk result (λ vtable. vtable ≡ self.now) }
         ensures err { IsOkUnless result FnWireError.OutOfMemory }
@@ -90,7 +90,7 @@ impl ForeignAggregateFnVTable {
     }
 }
 
-/// The foreign aggregate function of this identifier and metadata.
+/// The foreign aggregate function of this identifier and metadata, both moved in.
 pub fn new_foreign_aggregate_fn(id: Id, metadata: Blob) -> AggregateFn
     ensures { result ≡ foreign_aggregate_fn id metadata }
 {

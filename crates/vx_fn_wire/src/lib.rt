@@ -1,19 +1,19 @@
 //! Expressions and functions as tagged messages.
 //!
-//! A [`ScalarFn`] is a function of rows as far as its messages tell: its identifier, its options as
-//! bytes, the text of these, and how its calls look. An [`AggregateFn`] is a function of columns, an
-//! identifier and options. Functions that nobody registered are foreign: [`ForeignScalarFnVTable`] and
-//! [`new_foreign_aggregate_fn`] make them of what their messages hold.
+//! A [`ScalarFn`] is a function of rows, as far as messages describe it: its identifier, its options as
+//! bytes, their text, and the form of its calls. An [`AggregateFn`] is a function of columns: an
+//! identifier and options. Functions that no plugin knows are foreign: [`ForeignScalarFnVTable`] and
+//! [`new_foreign_aggregate_fn`] make them from what their messages hold.
 //!
-//! An [`Expression`] is a tree of calls over the root. It is written as a message and printed. A
-//! [`FnSession`] holds boxed plugins, by which expressions and aggregate functions are read of their
+//! An [`Expression`] is a tree of calls over the root. It is written as a message and printed. An
+//! [`FnSession`] holds boxed plugins, by which expressions and aggregate functions are read from their
 //! messages.
 //!
 //! The definitions that the contracts cite are public: `specs::Arity` says how many children a call may
 //! have, `specs::Expr` which trees are expressions, `specs::Messages` which message a function and an
 //! expression have, `specs::Foreign` what a foreign function is, `specs::Texts` and `specs::ExprText`
-//! how options and expressions look, `specs::ReadsExpr` which expression a message is under a session,
-//! or why it is none, and `specs::Session` the same of aggregate functions.
+//! how options and expressions are printed, `specs::ReadsExpr` which expression a message is under a
+//! session, or why it is none, and `specs::Session` the same of aggregate functions.
 #![tactic(auto)]
 
 mod aggregate_fn;

@@ -1,4 +1,4 @@
-//! Readers of functions, of the caller.
+//! Plugins: the caller's readers of functions.
 
 ghost use Rattle.std.specs.Prelude.{◌≡◌, ℕ, List, Option, Some, None};
 ghost use Rattle.vx_types.specs.Seen.{typ};
@@ -17,7 +17,7 @@ use vx_types::{DType, Id};
 /// Why a plugin gives no function.
 #[derive(Clone, Copy, Debug, PartialEq, Eq, Error)]
 pub enum PluginError {
-    /// The allocator gave no memory.
+    /// An allocation failed.
     #[error("out of memory")]
     OutOfMemory,
     /// The plugin refuses the metadata.
@@ -41,12 +41,12 @@ impl<T: Drop> From<AllocFailed<T>> for PluginError {
     }
 }
 
-/// What a caller knows of the functions of rows of one identifier.
+/// A caller's reader of the functions of rows of one identifier.
 pub trait ScalarFnPlugin: Drop {
     /// The identifier that the plugin is for.
     ghost scalar_id: { Self → List ℕ };
 
-    /// The function of metadata; None where the plugin refuses them.
+    /// The function that the plugin makes of metadata; None where it refuses the metadata.
     ghost scalar_of: { Self → List ℕ → Option Scalar };
 
     /// The identifier of the functions.
@@ -58,12 +58,12 @@ pub trait ScalarFnPlugin: Drop {
         ensures { IsAnswer (scalar_of self.now metadata.now) result };
 }
 
-/// What a caller knows of the aggregate functions of one identifier.
+/// A caller's reader of the aggregate functions of one identifier.
 pub trait AggregateFnPlugin: Drop {
     /// The identifier that the plugin is for.
     ghost aggregate_id: { Self → List ℕ };
 
-    /// The function of metadata; None where the plugin refuses them.
+    /// The function that the plugin makes of metadata; None where it refuses the metadata.
     ghost aggregate_of: { Self → List ℕ → Option Aggregate };
 
     /// The identifier of the functions.
@@ -74,13 +74,13 @@ pub trait AggregateFnPlugin: Drop {
     fn deserialize(&self, alloc: Global, metadata: &[u8]) -> Result<AggregateFn, PluginError>
         ensures { IsAnswer (aggregate_of self.now metadata.now) result };
 
-    /// The function by which zones of rows of a type are told apart, if there is one; None where the
+    /// The function whose results tell zones of rows of a type apart, if there is one; None where the
     /// plugin refuses the type. A plugin that has none for each type is written as a
     /// `PlainAggregateFnPlugin`.
     ghost zone_default: { Self → Typ → Option (Option Aggregate) } = { λ _ _. Some None };
 
-    /// The function by which zones of rows of this type are told apart, if there is one. `Refused`
-    /// exactly where the plugin's meaning refuses it.
+    /// The function whose results tell zones of rows of this type apart, if there is one. `Refused`
+    /// exactly where the plugin's meaning refuses the type.
     fn zone_stat_default(
         &self,
         alloc: Global,
@@ -89,14 +89,15 @@ pub trait AggregateFnPlugin: Drop {
         ensures { IsAnswer (zone_default self.now (typ dtype.now)) result };
 }
 
-/// What a caller knows of the aggregate functions of one identifier, where zones of rows are told
-/// apart by none of them. Each such plugin is an `AggregateFnPlugin`, whose `zone_stat_default` has
-/// none for each type.
+/// A caller's reader of the aggregate functions of one identifier, for which no function tells zones
+/// of rows apart. Each such plugin is an `AggregateFnPlugin` whose `zone_stat_default` has none for
+/// each type. It is a trait of its own, since a body in `AggregateFnPlugin` would be proved of every
+/// plugin, whatever its meaning.
 pub trait PlainAggregateFnPlugin: Drop {
     /// The identifier that the plugin is for.
     ghost plain_id: { Self → List ℕ };
 
-    /// The function of metadata; None where the plugin refuses them.
+    /// The function that the plugin makes of metadata; None where it refuses the metadata.
     ghost plain_of: { Self → List ℕ → Option Aggregate };
 
     /// The identifier of the functions.
@@ -130,21 +131,21 @@ impl<P: PlainAggregateFnPlugin> AggregateFnPlugin for P {
     }
 }
 
-/// `id` of a box.
+/// `id` of a boxed plugin.
 pub(crate) fn id_of_scalar(plugin: &Box<dyn ScalarFnPlugin>) -> &Id
     ensures { result.now ≡ scalar_id plugin.now }
 {
     plugin.id()
 }
 
-/// `id` of a box.
+/// `id` of a boxed plugin.
 pub(crate) fn id_of_aggregate(plugin: &Box<dyn AggregateFnPlugin>) -> &Id
     ensures { result.now ≡ aggregate_id plugin.now }
 {
     plugin.id()
 }
 
-/// `deserialize` of a box.
+/// `deserialize` of a boxed plugin.
 pub(crate) fn scalar_by(
     alloc: Global,
     plugin: &Box<dyn ScalarFnPlugin>,
@@ -155,7 +156,7 @@ pub(crate) fn scalar_by(
     plugin.deserialize(alloc, metadata)
 }
 
-/// `deserialize` of a box.
+/// `deserialize` of a boxed plugin.
 pub(crate) fn aggregate_by(
     alloc: Global,
     plugin: &Box<dyn AggregateFnPlugin>,

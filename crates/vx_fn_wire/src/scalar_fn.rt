@@ -1,4 +1,4 @@
-//! Functions of rows.
+//! Scalar functions: functions of rows.
 
 ghost use Rattle.std.specs.Prelude.{◌≡◌, option_map};
 ghost use Rattle.vx_types.specs.Content.{IsText};
@@ -7,30 +7,30 @@ use crate::arity::Arity;
 use crate::views::{ScalarFnOptions, ScalarFnSignature};
 use vx_types::{Blob, Id, Name, Names};
 
-/// A function of rows, as far as its messages and its texts tell.
+/// A function of rows: what its messages and its texts say of it.
 #[derive(Debug, Drop)]
 pub struct ScalarFn {
-    /// Which function it is.
+    /// The identifier of the function.
     pub id: Id,
-    /// Its options as bytes; None where they cannot be written.
+    /// Its options as bytes; `None` where they cannot be written.
     pub options: Option<Blob>,
     /// Its options as a text.
     pub text: Name,
     /// How many children a call of it may have.
     pub arity: Arity,
-    /// The names of its first children.
+    /// The names of its first children. Later ones are called `arg` and their number.
     pub child_names: Names,
-    /// Whether a row is null where that of a child is.
+    /// Whether a row of the result is null where a child's row is.
     pub strict: bool,
-    /// Whether no row fails.
+    /// Whether the function succeeds on every row.
     pub infallible: bool,
 }
 
-/// A function, as it is held.
+/// A function by the name that other interfaces give it. It is a plain value here, and not a reference.
 pub type ScalarFnRef = ScalarFn;
 
 impl ScalarFn {
-    /// Its options.
+    /// A view of its options, borrowed.
     pub fn options(&self) -> ScalarFnOptions<'_>
         ensures id { result.id.now ≡ self.now.id }
         ensures bytes { option_map (λ s. s.now) result.bytes ≡ self.now.options }
@@ -40,7 +40,7 @@ impl ScalarFn {
         ScalarFnOptions::of(self)
     }
 
-    /// How its calls look. The identifier in it is a text.
+    /// A view of the form of its calls, borrowed. The identifier in it is a text.
     pub fn signature(&self) -> ScalarFnSignature<'_>
         ensures function { result.function.now ≡ self.now }
         ensures id { result.id.now ≡ self.now.id }

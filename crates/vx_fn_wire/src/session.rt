@@ -1,4 +1,4 @@
-//! Sessions: which functions a caller knows.
+//! Sessions: the functions that a caller knows.
 
 ghost use Rattle.std.specs.Prelude.{◌≡◌, ℕ, List, None, Some, cond, bytes_eq, OnOk, OnErr, IsOkUnless};
 ghost use Rattle.vx_fn_wire.specs.Session.{scalars_meaning, aggregates_meaning};
@@ -9,7 +9,7 @@ use std::alloc::Global;
 use std::collections::HashMap;
 use vx_types::{Id, or_memory};
 
-/// The functions of rows that a caller knows: a plugin for each of some identifiers.
+/// The functions of rows that a caller knows: one plugin for each identifier.
 #[derive(Drop)]
 pub struct ScalarFnSession {
     pub(crate) plugins: HashMap<Id, Box<dyn ScalarFnPlugin>>,
@@ -17,7 +17,7 @@ pub struct ScalarFnSession {
 }
 
 impl ScalarFnSession {
-    /// No plugin; more are stored by this allocator.
+    /// A session without plugins, which takes no memory. Later ones are stored with this allocator.
     pub fn new(alloc: Global) -> ScalarFnSession
         ensures { (id : List ℕ) → scalars_meaning scalar_of result id ≡ None }
     {
@@ -27,8 +27,8 @@ impl ScalarFnSession {
         }
     }
 
-    /// Sets the plugin of its identifier, in place of the one that there was. Where there is no memory
-    /// for it, the session stays as it was, and the plugin is dropped.
+    /// Sets the plugin of its identifier, in place of an earlier one. The only refusal is `OutOfMemory`:
+    /// the session then stays as it was, and the plugin is dropped.
     pub fn register(&mut self, plugin: Box<dyn ScalarFnPlugin>) -> Result<(), FnWireError>
         ensures set { OnOk result ((id : List ℕ) → scalars_meaning scalar_of self.new id
             ≡ cond (bytes_eq (scalar_id plugin) id) (Some (scalar_of plugin)) (scalars_meaning scalar_of self.old id)) }
@@ -48,7 +48,7 @@ impl ScalarFnSession {
     }
 }
 
-/// The aggregate functions that a caller knows: a plugin for each of some identifiers.
+/// The aggregate functions that a caller knows: one plugin for each identifier.
 #[derive(Drop)]
 pub struct AggregateFnSession {
     pub(crate) plugins: HashMap<Id, Box<dyn AggregateFnPlugin>>,
@@ -56,7 +56,7 @@ pub struct AggregateFnSession {
 }
 
 impl AggregateFnSession {
-    /// No plugin; more are stored by this allocator.
+    /// A session without plugins, which takes no memory. Later ones are stored with this allocator.
     pub fn new(alloc: Global) -> AggregateFnSession
         ensures functions { (id : List ℕ) → aggregates_meaning aggregate_of result id ≡ None }
         ensures zones { (id : List ℕ) → aggregates_meaning zone_default result id ≡ None }
@@ -67,8 +67,8 @@ impl AggregateFnSession {
         }
     }
 
-    /// Sets the plugin of its identifier, in place of the one that there was. Where there is no memory
-    /// for it, the session stays as it was, and the plugin is dropped.
+    /// Sets the plugin of its identifier, in place of an earlier one. The only refusal is `OutOfMemory`:
+    /// the session then stays as it was, and the plugin is dropped.
     pub fn register(&mut self, plugin: Box<dyn AggregateFnPlugin>) -> Result<(), FnWireError>
         ensures set { OnOk result ((id : List ℕ) → aggregates_meaning aggregate_of self.new id
             ≡ cond (bytes_eq (aggregate_id plugin) id) (Some (aggregate_of plugin)) (aggregates_meaning aggregate_of self.old id)) }
@@ -91,13 +91,13 @@ impl AggregateFnSession {
     }
 }
 
-/// The functions that a caller knows, and whether others are allowed.
+/// The functions that a caller knows, and whether others are read as foreign ones.
 #[derive(Drop)]
 pub struct FnSession {
     /// The functions of rows.
     pub scalars: ScalarFnSession,
     /// The aggregate functions.
     pub aggregates: AggregateFnSession,
-    /// Whether functions without a plugin are allowed.
+    /// Whether identifiers without a plugin are read as foreign functions.
     pub unknown: bool,
 }

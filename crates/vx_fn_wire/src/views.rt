@@ -1,4 +1,4 @@
-//! What is seen of a function: its options, and how its calls look.
+//! Views of a function: its options, and the form of its calls.
 
 ghost use Rattle.std.specs.Prelude.{◌≡◌, Some, None, option_map, IfOk, IsOkUnless};
 ghost use Rattle.vx_types.specs.Content.{IsText};
@@ -12,8 +12,8 @@ use std::fmt;
 use std::hash::{Hash, Hasher};
 use vx_types::{Blob, Name, or_memory};
 
-/// The options of a function, borrowed from it. They are equal where the identifier, the bytes and the
-/// arity are, and are written as the function's text.
+/// The options of a function, borrowed from it. Two are equal where identifier, bytes and arity are;
+/// they are printed as the function's text.
 #[derive(Clone, Copy, Debug)]
 #[derive_where(PartialEq, Eq, Hash)]
 pub struct ScalarFnOptions<'a> {
@@ -43,7 +43,7 @@ impl<'a> ScalarFnOptions<'a> {
         }
     }
 
-    /// The options as bytes; None where they cannot be written.
+    /// A copy of the options as bytes; `None` where they cannot be written. The only refusal is `OutOfMemory`.
     pub fn serialize(&self, alloc: Global) -> Result<Option<Blob>, FnWireError>
         ensures same { IfOk result (λ options. options ≡ option_map (λ s. s.now) self.now.bytes) }
         ensures err { IsOkUnless result FnWireError.OutOfMemory }
@@ -63,7 +63,7 @@ impl fmt::Display for ScalarFnOptions<'_> {
     }
 }
 
-/// How the calls of a function look, borrowed from it, its identifier among it.
+/// The form of a function's calls, borrowed from the function, with its identifier.
 #[derive(Clone, Copy, Debug)]
 pub struct ScalarFnSignature<'a> {
     id: &'a str,
@@ -96,8 +96,8 @@ impl<'a> ScalarFnSignature<'a> {
         self.function.arity
     }
 
-    /// The name of the child at this place, counted from 0: `arg` and the number where the function
-    /// names none.
+    /// The name of the child at this index, as a copy: `arg` and the index where the function has no name
+    /// for it.
     pub fn child_name(&self, alloc: Global, index: usize) -> Result<Name, FnWireError>
         ensures same { IfOk result (λ name. name ≡ child_name_of self.now.function.now.child_names index) }
         ensures err { IsOkUnless result FnWireError.OutOfMemory }
@@ -111,14 +111,14 @@ impl<'a> ScalarFnSignature<'a> {
         }
     }
 
-    /// Whether a row is null where that of a child is.
+    /// Whether a row of the result is null where a child's row is.
     pub fn is_strict(&self) -> bool
         ensures { result ≡ self.now.function.now.strict }
     {
         self.function.strict
     }
 
-    /// Whether no row fails.
+    /// Whether the function succeeds on every row.
     pub fn is_infallible(&self) -> bool
         ensures { result ≡ self.now.function.now.infallible }
     {

@@ -1,4 +1,4 @@
-//! Expressions as messages.
+//! Writing expressions as messages.
 
 ghost use Rattle.std.specs.Prelude.{◌≡◌, ◌↔◌, IfOk, IsOkUnless, IsTrue};
 ghost use Rattle.vx_trees.specs.Rose.{roses_of};
@@ -15,7 +15,7 @@ use crate::slots::octets_slot;
 use std::alloc::Global;
 use vx_proto::{Element, Entries, ProtoError};
 
-/// The identifier of the root.
+/// The identifier of the root, which no function has.
 pub const ROOT_ID: &str = "vortex.root";
 
 /// Whether the options of each function in an expression can be written.
@@ -34,7 +34,7 @@ pub fn is_serializable(expression: &Expression) -> bool
     }
 }
 
-// The same of each of these.
+// The same for each of these expressions.
 #[cycle(serializable)]
 #[tactic(auto, using(crate::proofs::Lists::decreasing))]
 fn are_serializable(expressions: &[Expression]) -> bool
@@ -48,8 +48,9 @@ fn are_serializable(expressions: &[Expression]) -> bool
     true
 }
 
-/// The plain value of an expression's message. Options that cannot be written stand there as none. The
-/// walk looks at each call, so it tells that the expression is one.
+/// The plain value of an expression's message. Options that cannot be written stand there as absent
+/// ones do, so callers test `is_serializable` first. The walk looks at each call, so it also shows that
+/// the expression is one.
 #[cycle(values)]
 pub fn slots_of(alloc: Global, expression: &Expression) -> Result<Vec<Entries>, ProtoError>
     ensures same { IfOk result (λ v. value_view v.items ≡ expr_message (expr expression.now)) }
@@ -71,7 +72,7 @@ pub fn slots_of(alloc: Global, expression: &Expression) -> Result<Vec<Entries>, 
     }
 }
 
-// The metadata by which the options of a call's function are written.
+// The metadata as which the options of a call's function are written.
 fn metadata_of(call: &Call) -> &[u8]
     ensures { result.now ≡ message.metadata_of call.now.function.options }
 {

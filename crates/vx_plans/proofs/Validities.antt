@@ -8,14 +8,14 @@ mapped_some p o qs e = ap (λ (z : Option (List Place)). option_map (λ (rs : Li
 mapped_none : (p : Place) (o : Option (List Place)) → o ≡ None → option_map (λ (rs : List Place). p ∷ rs) o ≡ None
 mapped_none p o e = ap (λ (z : Option (List Place)). option_map (λ (rs : List Place). p ∷ rs) z) e
 
--- Where there are as many, no validity stands.
+-- Where there are as many children as places, no validity stands after them.
 pub as_many : (ps : List Place) (n k : ℕ) → length ps ≤ k → k - length ps ≡ 0 → before_validity ps n k ≡ Some ps
 as_many [] n zero h e = refl
 as_many [] n (suc k) h e = absurd (omega (arith, e))
 as_many (p ∷ ps) n zero h e = absurd (omega (arith, h))
 as_many (p ∷ ps) n (suc k) h e = mapped_some p (before_validity ps n k) ps (as_many ps n k (omega (arith, h)) (omega (arith, h, e)))
 
--- Where there is one more, it is the validity.
+-- Where there is one child more, it is the validity.
 pub one_more : (ps qs : List Place) (n k : ℕ) → length ps ≤ k → k - length ps ≡ 1 → qs ≡ ps ++ validity_place n ∷ [] → before_validity ps n k ≡ Some qs
 one_more [] qs n zero h e q = absurd (omega (arith, e))
 one_more [] qs n (suc zero) h e q = ap (λ (z : List Place). Some z) (sym q)

@@ -1,4 +1,4 @@
--- The places of children that are planned, and when none are.
+-- The places of the children that are planned, and when there is no plan.
 use Rattle.std.specs.Prelude.{◌≡◌, List, Option, None}
 use Rattle.vx_types.specs.Seen.{typ}
 use Rattle.vx_array_tree.specs.Place.{Place, place}
@@ -10,7 +10,7 @@ use Rattle.vx_plans.specs.declared.plans.ChildPlan.{ChildPlan}
 abbrev pub planned_place : ChildPlan → Place
 planned_place p = place (typ p.dtype) p.len
 
--- There is no such plan, or memory was wanted.
+-- There is no such plan, or allocation failed.
 abbrev pub RefusesPlaces : EncodingError → Option (List Place) → Type 0
 RefusesPlaces OutOfMemory plan = Unit {0}
 RefusesPlaces BadMetadata plan = ⊥

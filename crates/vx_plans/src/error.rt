@@ -1,4 +1,4 @@
-//! Why a node is refused.
+//! Why a node of a wire tree is refused.
 
 ghost use Rattle.std.specs.Prelude.{◌≡◌};
 ghost use Rattle.vx_plans.specs.declared.error.EncodingError.TheVariants.{OutOfMemory};
@@ -6,25 +6,25 @@ ghost use Rattle.vx_plans.specs.declared.error.EncodingError.TheVariants.{OutOfM
 use std::alloc::{AllocError, AllocFailed};
 use thiserror::Error;
 
-/// Why a node was not planned or built, or its metadata not written.
+/// Why a node was not planned or built, or why its metadata was not written.
 #[derive(Clone, Copy, Debug, PartialEq, Eq, Error)]
 pub enum EncodingError {
-    /// Memory was wanted and not to be had.
+    /// An allocation failed.
     #[error("out of memory")]
     OutOfMemory,
-    /// The metadata is none of the encoding's.
+    /// The metadata is none of the encoding's messages.
     #[error("the metadata is none of the encoding's")]
     BadMetadata,
-    /// Type, counts, or a buffer's length or alignment do not fit.
+    /// The node's type, its numbers of buffers and children, or a buffer's length or alignment do not fit the encoding.
     #[error("the parts do not fit the encoding")]
     BadShape,
-    /// A value in a buffer or a child names nothing that is there, or bytes are no text where one is to be.
+    /// A value in a buffer or a child points at nothing that is there, or bytes that are to be a text are not UTF-8.
     #[error("the content is broken")]
     BadContent,
-    /// A foreign node stands where it says where rows are, or as the entries of maps.
+    /// A foreign node stands as a child whose values say where rows are, or as the entries of maps.
     #[error("a foreign node says where rows are, or is the entries of a map")]
     ForeignControl,
-    /// The metadata does not fit its message.
+    /// The metadata has a number that its message cannot hold.
     #[error("the metadata does not fit its message")]
     WireLimit,
 }

@@ -1,4 +1,4 @@
-//! What is told of a node before its children, what these are to be, and why a node is refused.
+//! What is known of a node before its children are read, the plans of its children, and why a node is refused.
 #![tactic(auto)]
 
 mod error;

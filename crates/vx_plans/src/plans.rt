@@ -1,4 +1,4 @@
-//! Lists of the places of children.
+//! Plans of children, in lists.
 
 ghost use Rattle.std.specs.Prelude.{◌≡◌, ◌∷◌, ◌++◌, [], length, slice_get, option_map, Some, IfOk, IfErr, OnOk, OnErr, IsOkUnless};
 ghost use Rattle.vx_types.specs.Seen.{typ};
@@ -10,16 +10,16 @@ use std::alloc::Global;
 use std::marker::Model;
 use vx_types::{DType, or_memory};
 
-/// What a child is to be.
+/// The type and length that a child is to have.
 #[derive(Drop)]
 pub struct ChildPlan {
-    /// Its type.
+    /// The type that it is to have.
     pub dtype: DType,
-    /// How many rows it has.
+    /// The number of rows that it is to have.
     pub len: usize,
 }
 
-/// A child that is to be of this type and length. The only refusal is allocation failure.
+/// The plan of a child with this type, which is copied, and this number of rows. The only refusal is `OutOfMemory`.
 pub fn plan_of(alloc: Global, dtype: &DType, len: usize) -> Result<ChildPlan, EncodingError>
     ensures ok { IfOk result (λ plan. planned_place plan ≡ place (typ dtype.now) len) }
     ensures err { IsOkUnless result EncodingError.OutOfMemory }
@@ -28,7 +28,7 @@ pub fn plan_of(alloc: Global, dtype: &DType, len: usize) -> Result<ChildPlan, En
     Ok(ChildPlan { dtype, len })
 }
 
-/// What the children of a node are to be, in their order. Contracts see their places.
+/// The plans of a node's children, in order. Contracts see the places that they stand for.
 #[derive(Drop)]
 pub struct ChildPlans {
     items: Vec<ChildPlan>,
@@ -58,7 +58,7 @@ impl ChildPlans {
         }
     }
 
-    /// One more child at the end.
+    /// Appends a plan. The only refusal is `OutOfMemory`.
     pub fn push(&mut self, plan: ChildPlan) -> Result<(), EncodingError>
         ensures ok { OnOk result (self.new ≡ self.old ++ planned_place plan ∷ []) }
         ensures unchanged { OnErr result (self.new ≡ self.old) }
@@ -75,7 +75,7 @@ impl ChildPlans {
         self.items.as_slice().len()
     }
 
-    /// What the child of this number is to be: `None` exactly past the end.
+    /// The plan of the child at this index: `None` exactly past the end.
     pub fn get(&self, index: usize) -> Option<&ChildPlan>
         ensures { option_map (λ p. planned_place p.now) result ≡ slice_get self.now index }
     {
@@ -83,7 +83,8 @@ impl ChildPlans {
     }
 }
 
-/// A child, where it is the only one: `BadShape` exactly for another number of children.
+/// The list of this one plan, for a node of exactly one child: `BadShape` exactly where `count` is
+/// another number.
 #[tactic(auto, using(crate::proofs::Alone::alone))]
 pub fn plan_only(alloc: Global, plan: ChildPlan, count: usize) -> Result<ChildPlans, EncodingError>
     ensures plan { IfOk result (λ plans. exactly (planned_place plan ∷ []) count ≡ Some plans) }

@@ -1,4 +1,4 @@
-//! The plan of a validity: alone, or after other children.
+//! Plans of a validity child: alone, or after other children.
 
 ghost use Rattle.std.specs.Prelude.{◌≡◌, [], ◌∷◌, Some, IfOk, IfErr};
 ghost use Rattle.vx_array_tree.specs.Place.{before_validity, validity_place};
@@ -9,7 +9,7 @@ use crate::plans::{ChildPlan, ChildPlans};
 use std::alloc::Global;
 use vx_types::{DType, Nullability};
 
-/// What the validity of so many rows is to be: flags without null.
+/// The plan of the validity of `len` rows: booleans without nulls.
 pub fn validity_of(len: usize) -> ChildPlan
     ensures { planned_place result ≡ validity_place len }
 {
@@ -19,7 +19,8 @@ pub fn validity_of(len: usize) -> ChildPlan
     }
 }
 
-/// A validity child, where one stands among so many children: `BadShape` exactly where there are more than one.
+/// The plan of a validity, where `count` is 1; and no plan where it is 0. `BadShape`
+/// exactly where `count` is over 1.
 pub fn plan_validity(alloc: Global, len: usize, count: usize) -> Result<ChildPlans, EncodingError>
     ensures plan { IfOk result (λ plans. before_validity [] len count ≡ Some plans) }
     ensures err { IfErr result (λ e. RefusesPlaces e (before_validity [] len count)) }
@@ -35,8 +36,8 @@ pub fn plan_validity(alloc: Global, len: usize, count: usize) -> Result<ChildPla
     }
 }
 
-/// A child, and after it a validity, where one stands among so many children: `BadShape` exactly for none and for more than
-/// two.
+/// The plan of one child, and after it that of a validity where `count` is 2. `BadShape` exactly where
+/// `count` is 0 or over 2.
 pub fn plan_behind(
     alloc: Global,
     first: ChildPlan,
@@ -58,8 +59,8 @@ pub fn plan_behind(
     }
 }
 
-/// Children, and after them a validity, where one stands among so many: `BadShape` exactly for fewer, and for more than one
-/// more.
+/// These plans, and after them that of a validity where `count` is one more than their number.
+/// `BadShape` exactly where `count` is smaller than their number, or larger by more than one.
 #[tactic(auto, using(crate::proofs::Validities::behind_all))]
 pub fn plan_behind_all(
     front: ChildPlans,

@@ -11,7 +11,7 @@ slots_append : (u v : List (Vec (ℕ × Element))) → value_view (u ++ v) ≡ v
 slots_append [] v = refl
 slots_append (x ∷ u) v = ap (λ (t : Value). entries_view x.items ∷ t) (slots_append u v)
 
--- One more member copied: the members so far and those that are left are all.
+-- One more member copied: the members copied so far, then those that are left, are all.
 pub entry_copied : (copy es : List (ℕ × Element)) (i : ℕ) (x : ℕ × Element) (e : Element) → i < length es → x ≡ get_or es i x → view e ≡ view x.1
     → entries_view copy ++ entries_view (drop i es) ≡ entries_view es → entries_view (copy ++ (x.0, e) ∷ []) ++ entries_view (drop (i + 1) es) ≡ entries_view es
 entry_copied copy es i x e lt is same so_far =
@@ -20,7 +20,7 @@ entry_copied copy es i x e lt is same so_far =
     ∙ ap (λ (z : List Entry). entries_view copy ++ z) (sym (entries_at es i x lt is))
     ∙ so_far
 
--- The same of slots.
+-- The same for slots.
 pub entries_copied : (copy v : List (Vec (ℕ × Element))) (i : ℕ) (x y : Vec (ℕ × Element)) → i < length v → x ≡ get_or v i x → entries_view y.items ≡ entries_view x.items
     → value_view copy ++ value_view (drop i v) ≡ value_view v → value_view (copy ++ y ∷ []) ++ value_view (drop (i + 1) v) ≡ value_view v
 entries_copied copy v i x y lt is same so_far =

@@ -10,10 +10,10 @@ use Rattle.vx_proto.specs.Schema.{Slot, Schema, list_at, kind_in, members_of}
 use Rattle.vx_proto.specs.Value.{Content, number, octets, message, Slots, Entry, Value, entries_of, slots_of, list_of, value_of}
 use Rattle.vx_proto.specs.Form.{FormContent, FormEntries, FormSlots, FormWithin, HasForm}
 use Rattle.vx_proto.specs.Written.{content_depth, entries_depth, slots_depth, nested}
--- A value has a form in a message of a schema, and in the schema with more messages after it, alike.
+-- A value has a form in a message of a schema exactly where it has it in the schema with more messages after it.
 pub use Rattle.vx_proto.proofs.Longer.{same_form}
 
--- ---- a form within so many messages
+-- ---- a form within n messages
 
 elem_within : (F G : ℕ → Value → Type 0) (m : ℕ) (k : Kind) (e : Content) → ((p : ℕ) (v : Value) → F p v → nested v ≤ m → G p v) → FormContent F k e → content_depth e ≤ m → FormContent G k e
 elem_within F G m (Scalar k) e h f le = f
@@ -29,7 +29,7 @@ slots_within F G m (s ∷ ss) v h f le =
     let both : slots_depth (slots_of (f.0 ∷ f.1)) ≤ m = subst (λ t. slots_depth (slots_of t) ≤ m) f.2 le in
     (f.0, f.1, f.2, f.3, entries_within F G m (members_of s) f.0 h f.4 (omega (arith, both)), slots_within F G m ss f.1 h f.5 (omega (arith, both)))
 
--- A value that nests so many messages at most has its form within so many.
+-- A value in which at most n messages nest has its form within n.
 pub form_within : (schema : Schema) (left m place : ℕ) (v : Value) → FormWithin schema left place v → nested v ≤ m → FormWithin schema m place v
 unfolding FormWithin
 form_within schema zero m place v f le = absurd f
@@ -37,14 +37,14 @@ form_within schema (suc left) zero place v f le = absurd (omega arith)
 form_within schema (suc left) (suc m) place v f le =
     slots_within (FormWithin schema left) (FormWithin schema m) m (list_at schema place) v (λ p w x y. form_within schema left m p w x y) f (omega arith)
 
--- A message has the form of its schema where its slots have it, the messages in them as well.
+-- A message has the form of its schema where its slots have it, including the messages in them.
 pub form_of_slots : (schema : Schema) (place : ℕ) (v : Value) → FormSlots (HasForm schema) (list_at schema place) v → HasForm schema place v
 unfolding HasForm FormWithin
 form_of_slots schema place v f =
     let m = slots_depth (slots_of v) in
     (suc m, slots_within (HasForm schema) (FormWithin schema m) m (list_at schema place) v (λ p w x le. form_within schema x.0 m p w x.1 le) f (omega arith))
 
--- The slots of a message have the form of their schema where it has, the messages in them as well.
+-- Where a message has the form of its schema, its slots have it, including the messages in them.
 pub slots_of_form : (schema : Schema) (place : ℕ) (v : Value) → HasForm schema place v → FormSlots (HasForm schema) (list_at schema place) v
 unfolding HasForm FormWithin
 slots_of_form schema place v f = go f.0 f.1
@@ -81,13 +81,13 @@ known F m n k e h f = go (eqb m.number n) refl h
     go true is q = (sym (eqb-true m.number n is), (let same : k ≡ m.kind = cc in subst (λ j. FormContent F j e) same f))
     go false is q = absurd cc
 
--- A slot that keeps exactly one member, and has but this one, holds it.
+-- A slot that keeps exactly one member, and knows only this one, holds it.
 pub exactly_one : (F : ℕ → Value → Type 0) (m : Member) (es : List Entry) → length es ≡ 1 → FormEntries F (m ∷ []) es → HoldsMember F m es
 exactly_one F m [] one f = absurd (omega arith)
 exactly_one F m (x ∷ []) one f = let w = known F m x.0 f.0.0 x.1 f.0.1 f.0.2 in record { element = x.1; is = ap (λ (n : ℕ). (n, x.1) ∷ []) w.0; form = w.1 }
 exactly_one F m (x ∷ y ∷ es) one f = absurd (omega arith)
 
--- Of a oneof's members the first is the one that is held, or it is one of the later; of none it is none.
+-- The member that a oneof holds is the first of its members or one of the later ones; with no members there is none.
 pub first_or_later : (F : ℕ → Value → Type 0) (m : Member) (ms : List Member) (es : List Entry) → HoldsOne F (m ∷ ms) es → HoldsMember F m es ⊎ HoldsOne F ms es
 first_or_later F m ms es h = go (eqb m.number h.name) refl h.has
   where
@@ -101,13 +101,13 @@ first_or_later F m ms es h = go (eqb m.number h.name) refl h.has
 pub holds_none : (F : ℕ → Value → Type 0) (es : List Entry) → HoldsOne F [] es → ⊥
 holds_none F es h = absurd (none-some h.kind h.has)
 
--- A slot with one member that need not stand: empty, or holding that member.
+-- A slot with one optional member is empty or holds that member.
 pub none_or_one : (F : ℕ → Value → Type 0) (m : Member) (es : List Entry) → length es ≤ 1 → FormEntries F (m ∷ []) es → (es ≡ []) ⊎ HoldsMember F m es
 none_or_one F m [] le f = inl refl
 none_or_one F m (x ∷ []) le f = inr (exactly_one F m (x ∷ []) refl f)
 none_or_one F m (x ∷ y ∷ es) le f = absurd (omega arith)
 
--- ---- lists that are equal have equal parts
+-- ---- equal lists have equal parts
 
 -- The number of the first member, or 0.
 first_name : List Entry → ℕ
@@ -119,7 +119,7 @@ first_content : List Entry → Content
 first_content [] = number 0
 first_content (x ∷ xs) = x.1
 
--- The first members have one number.
+-- The first members have the same number.
 pub same_name : (m n : ℕ) (a b : Content) (xs ys : List Entry) → (m, a) ∷ xs ≡ (n, b) ∷ ys → m ≡ n
 unfolding first_name
 same_name m n a b xs ys e = ap first_name e
@@ -129,27 +129,27 @@ pub same_content : (m n : ℕ) (a b : Content) (xs ys : List Entry) → (m, a) �
 unfolding first_content
 same_content m n a b xs ys e = ap first_content e
 
--- The members after the first are the same.
+-- The members after the first are equal.
 pub same_others : (m n : ℕ) (a b : Content) (xs ys : List Entry) → (m, a) ∷ xs ≡ (n, b) ∷ ys → xs ≡ ys
 same_others m n a b xs ys e = cc
 
--- The first slots are the same.
+-- The first slots are equal.
 pub same_slot : (xs ys : List Entry) (v w : Value) → xs ∷ v ≡ ys ∷ w → xs ≡ ys
 same_slot xs ys v w e = cc
 
--- The slots after the first are the same.
+-- The slots after the first are equal.
 pub same_rest : (xs ys : List Entry) (v w : Value) → xs ∷ v ≡ ys ∷ w → v ≡ w
 same_rest xs ys v w e = cc
 
--- Members that hold the same number.
+-- Members of equal numbers hold the same number.
 pub same_number : (a b : ℕ) → number a ≡ number b → a ≡ b
 same_number a b e = cc
 
--- Members that hold the same bytes.
+-- Members of equal bytes hold the same bytes.
 pub same_octets : (a b : List ℕ) → octets a ≡ octets b → a ≡ b
 same_octets a b e = cc
 
--- Members that hold the same message: its values are the same.
+-- Members of equal messages hold the same value.
 pub same_message : (v w : Value) → message (slots_of v) ≡ message (slots_of w) → v ≡ w
 same_message v w e = sym (slots_back v) ∙ ap value_of (go (slots_of v) (slots_of w) e) ∙ slots_back w
   where
@@ -164,6 +164,6 @@ same_message v w e = sym (slots_back v) ∙ ap value_of (go (slots_of v) (slots_
     slots_back [] = refl
     slots_back (es ∷ u) = ap (λ (t : List Entry). t ∷ value_of (slots_of u)) (list_back es) ∙ ap (λ (t : Value). es ∷ t) (slots_back u)
 
--- Slots of one member each, which is the same.
+-- Slots of one member each have the same member.
 pub same_entry : (x y : Entry) → x ∷ [] ≡ y ∷ [] → x ≡ y
 same_entry x y e = cc

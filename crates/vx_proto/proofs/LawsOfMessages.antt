@@ -1,4 +1,4 @@
--- What a reader tells of its answer, in the words of the bytes.
+-- What the result of a reader says, in terms of the bytes.
 use Rattle.std.proofs.Common.{◌≡◌, ◌≤◌, ◌<◌, ◌^◌, ◌⊎◌, inl, inr, ℕ, List, [], ◌∷◌, length, arith, Result, Ok, Err, refl, sym, subst}
 use Rattle.std.specs.Prelude.{IsTrue, IfOk, IfErr, OnOk, IsOk, IsErrOf, IsOkUnless, MatchResult}
 use Rattle.vx_proto.specs.declared.error.ProtoError.{ProtoError}
@@ -21,12 +21,12 @@ use Rattle.vx_proto.specs.Written.{written, nested}
 use Rattle.vx_proto.proofs.Again.{written_reads}
 use Rattle.vx_proto.proofs.LawfulTest.{lawful_by}
 
--- an answer that is Ok keeps what follows
+-- What follows from an Ok value holds of every Ok result.
 pub where_ok : {X E : Type 0} (r : Result X E) (P Q : X → Type 0) → IfOk r P → ((x : X) → P x → Q x) → IfOk r Q
 where_ok (Ok x) P Q h more = more x h
 where_ok (Err e) P Q h more = tt
 
--- an answer that has one refusal alone
+-- A result with one refusal alone.
 pub ok_unless : {X E : Type 0} (r : Result X E) (only : E) (P Q : X → Type 0) → IfOk r P → IsOkUnless r only → ((x : X) → P x → Q x) → MatchResult r Q (λ e. e ≡ only)
 ok_unless (Ok x) only P Q h err more = more x h
 ok_unless (Err e) only P Q h err more = err
@@ -65,7 +65,7 @@ pub read_uncaused : (schema : Schema) (place : ℕ) (bytes : List ℕ) (v : Valu
 unfolding Reads
 read_uncaused schema place bytes v e r c = reads_excludes schema 100 place bytes v e r c
 
--- bytes read as one value at most
+-- Bytes are read as one value at most.
 pub reads_one : (schema : Schema) (place : ℕ) (bytes : List ℕ) (v w : Value) → Reads schema place bytes v → Reads schema place bytes w → v ≡ w
 reads_one schema place bytes v w a b = same_ok (decoded schema 100 place bytes) v w (reads_given schema place bytes v a) (reads_given schema place bytes w b)
 
@@ -79,7 +79,7 @@ pub written_shown : (schema : Schema) (place : ℕ) (v : Value) → IsTrue (is_l
 unfolding Reads HasForm
 written_shown schema place v l f le lt = written_reads schema 100 place v (lawful_by schema l) (form_within schema f.0 100 place v f.1 le) lt
 
--- no bytes show the value of a message without fields
+-- No bytes show the value of a message without fields.
 default_kept : (s : Slot) → Keeps s [] (default_of s)
 default_kept (plain n k) = refl
 default_kept (optional n k) = refl
@@ -111,14 +111,14 @@ pub default_fails : (schema : Schema) (place : ℕ) (r : Result (Vec (Vec (ℕ �
 default_fails schema place (Ok v) h = tt
 default_fails schema place (Err e) h = fails_only e schema place [] (default_value schema place) h (nothing_shown schema place)
 
--- What was written of a value that has the form is read as it.
+-- What is written of a value that has the form is read as that value.
 pub encoded_reads : (schema : Schema) (place : ℕ) (v : Value) (r : Result (List ℕ) ProtoError) → IsTrue (is_lawful schema) → OnOk r (HasForm schema place v)
     → IfOk r (λ bytes. bytes ≡ written schema place v) → IfOk r (λ bytes. length bytes < 2 ^ 64) → (IsOk r → nested v ≤ 100) → IfOk r (λ bytes. Reads schema place bytes v)
 encoded_reads schema place v (Ok bytes) l f exact short nests =
     subst (λ (b : List ℕ). Reads schema place b v) (sym exact) (written_shown schema place v l f (nests refl) (subst (λ (b : List ℕ). length b < 2 ^ 64) exact short))
 encoded_reads schema place v (Err e) l f exact short nests = tt
 
--- A refusal for depth is one of what nests in the bytes.
+-- A refusal for depth comes from messages that nest in the bytes.
 pub refused_deep : {X : Type 0} (schema : Schema) (place : ℕ) (bytes : List ℕ) (r : Result X ProtoError) → IfErr r (λ e. (e ≡ errors.OutOfMemory) ⊎ Cause schema 100 e place bytes) → IsErrOf r errors.TooDeep → NestsOver schema 100 place bytes
 refused_deep schema place bytes (Ok x) h e = absurd cc
 refused_deep schema place bytes (Err f) (inl h) e = absurd cc

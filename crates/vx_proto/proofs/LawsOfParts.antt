@@ -1,6 +1,6 @@
--- Combinators: what a slot of each form holds, as a value of a type, with its laws proved once; and messages as their slots
--- one after the other. A message type gives one part for each slot and gets its plain value, its form both ways, and that
--- it is determined by the plain value.
+-- Combinators: the value that a slot of each form stands for, with its laws proved once; and messages as their slots,
+-- one after the other. A message type gives one part for each slot. It gets its plain value, its form both ways, and
+-- the law that the plain value determines it.
 use Rattle.std.specs.Prelude.{◌≡◌, ◌<◌, ◌^◌, ◌⊎◌, ℕ, List, [], ◌∷◌, Option, Some, None, refl}
 use Rattle.std.proofs.Common.{sym, ap, subst, ◌∙◌, inl, inr, arith}
 use Rattle.std.proofs.lemmas.Bool.{eq-eqb}
@@ -17,14 +17,14 @@ use Rattle.vx_proto.proofs.LawsOfSlots.{Has, plain_holds, has_plain, has_none, h
 -- Elements from a place on are the one there and those after it.
 pub use Rattle.vx_proto.proofs.Suffixes.{entries_at}
 
--- A slot as a value: its members of a value that fits, the value of its members, and that they tell it.
+-- A slot as a value: its members for a value that fits, the value of its members, and that the members determine it.
 pub record Part (F : ℕ → Value → Type 0) (s : Slot) (T : Type 0) (Fits : T → Type 0) : Type 0 where
   pub entries : T → List Entry
   pub form : (t : T) → Fits t → Has F s (entries t)
   pub read : (es : List Entry) → Has F s es → (t : T) × (es ≡ entries t) × Fits t
   pub same : (t u : T) → entries t ≡ entries u → t ≡ u
 
--- Slots one after the other as a value.
+-- Slots one after the other, as a value.
 pub record Parts (F : ℕ → Value → Type 0) (ss : List Slot) (T : Type 0) (Fits : T → Type 0) : Type 0 where
   pub value : T → Value
   pub form : (t : T) → Fits t → FormSlots F ss (value t)
@@ -43,7 +43,7 @@ with_form F s ss a v h f = (a, v, refl, h.count, h.form, f)
 split_form : (F : ℕ → Value → Type 0) (s : Slot) (ss : List Slot) (v : Value) → FormSlots F (s ∷ ss) v → (a : List Entry) × (w : Value) × (v ≡ a ∷ w) × Has F s a × FormSlots F ss w
 split_form F s ss v f = (f.0, f.1, f.2, record { count = f.3; form = f.4 }, f.5)
 
--- Each of two fits.
+-- Each of the two fits.
 abbrev pub Both : {T U : Type 0} → (T → Type 0) → (U → Type 0) → T × U → Type 0
 Both P Q x = P x.0 × Q x.1
 
@@ -96,7 +96,7 @@ number_held Fixed64 e h f = (f.0, f.1, (f.0, refl, f.2))
 number_held String e h f = absurd h
 number_held Bytes e h f = absurd h
 
--- What a member of a kind of texts or bytes holds is some.
+-- What a member of a kind of texts or bytes holds is bytes of that kind.
 pub octets_held : (k : ScalarKind) (e : Content) → IsOctets k → FormScalar k e → (s : List ℕ) × (e ≡ octets s) × FormScalar k (octets s)
 octets_held Uint32 e h f = absurd h
 octets_held Uint64 e h f = absurd h
@@ -109,7 +109,7 @@ octets_held Fixed64 e h f = absurd h
 octets_held String e h f = (f.0, f.1, (f.0, refl, f.2))
 octets_held Bytes e h f = (f.0, f.1, (f.0, refl))
 
--- What is held by a member of a kind, as values of a type that lie in a range.
+-- What a member of a kind holds, as the values of a type that lie in a range.
 pub record Held (k : ScalarKind) (T : Type 0) : Type 0 where
   pub content : T → Content
   pub held : (e : Content) → FormScalar k e → (t : T) × (e ≡ content t) × FormScalar k (content t)
@@ -131,7 +131,7 @@ abbrev pub slot_with : {T : Type 0} → (T → Content) → ℕ → Option T →
 slot_with content i None = []
 slot_with content i (Some t) = (i, content t) ∷ []
 
--- Where a value stands, a fact of it.
+-- A fact of a value, where one stands.
 abbrev pub IfStands : {T : Type 0} → (T → Type 0) → Option T → Type 0
 IfStands P None = Unit {0}
 IfStands P (Some t) = P t
@@ -171,7 +171,7 @@ plain_part {F = F} i {k = k} h = record {
   same = plain_same h.content i h.same;
 }
 
--- An optional one.
+-- An optional slot.
 abbrev pub optional_part : {F : ℕ → Value → Type 0} {T : Type 0} (i : ℕ) {k : ScalarKind} (h : Held k T) → Part F (optional i k) (Option T) (IfStands (InRange h))
 optional_part {F = F} i {k = k} h = record {
   entries = slot_with h.content i;
@@ -186,7 +186,7 @@ seen_held {k = k} {T = T} h to of again e f =
     let p = sym (again r.0 r.2) in
     (of r.0, r.1 ∙ ap h.content p, subst (λ (t : T). FormScalar k (h.content t)) p r.2)
 
--- Values seen as those of another type, each in its range: an enum by its codes, a flag by its numbers.
+-- Values seen as those of another type, each in its range: an enum as its codes, a flag as its numbers.
 abbrev pub seen_as : {k : ScalarKind} {T U : Type 0} (h : Held k T) (to : U → T) (of : T → U) → ((u : U) → of (to u) ≡ u) → ((t : T) → InRange h t → to (of t) ≡ t) → Held k U
 seen_as {k = k} {T = T} {U = U} h to of back again = record {
   content = λ u. h.content (to u);
@@ -196,7 +196,7 @@ seen_as {k = k} {T = T} {U = U} h to of back again = record {
 
 -- ---- messages
 
--- A message that may stand, of a type that has its own plain value.
+-- A message that need not stand, of a type that has its own plain value.
 abbrev pub message_of : {M : Type 0} → (M → Value) → M → Content
 message_of value m = message (slots_of (value m))
 
@@ -214,7 +214,8 @@ nested_read {M = M} F i place value P inside es h = go (nested_holds F i place e
         let r = inside w.form.0 w.form.2 in
         (Some r.0, w.is ∙ ap (λ (e : Content). (i, e) ∷ []) (w.form.1 ∙ ap (λ (v : Value). message (slots_of v)) r.1), r.2)
 
--- A message that may stand: that those which fit have the form, that each of the form is of one, and that each is determined.
+-- A message that need not stand: values that fit have the form, each value of the form comes from one that fits, and it
+-- determines that one.
 abbrev pub nested_part : {F : ℕ → Value → Type 0} {M : Type 0} (i place : ℕ) (value : M → Value) (P : M → Type 0) → ((m : M) → P m → F place (value m)) → ((v : Value) → F place v → (m : M) × (v ≡ value m) × P m)
     → ((m n : M) → value m ≡ value n → m ≡ n) → Part F (nested i place) (Option M) (IfStands P)
 nested_part {F = F} i place value P formed inside same = record {
@@ -233,7 +234,7 @@ whole_form schema place parts t h = form_of_slots schema place (parts.value t) (
 pub whole_read : {T : Type 0} {P : T → Type 0} (schema : Schema) (place : ℕ) (parts : Parts (HasForm schema) (list_at schema place) T P) (v : Value) → HasForm schema place v → (t : T) × (v ≡ parts.value t) × P t
 whole_read schema place parts v f = parts.read v (slots_of_form schema place v f)
 
--- What a slot holds is what it is of.
+-- The number in a slot that was made of an optional number is that number.
 pub number_is : (i : ℕ) (x : Option ℕ) → number_in (slot_with number i x) ≡ x
 number_is i None = refl
 number_is i (Some n) = refl

@@ -29,7 +29,7 @@ shows_message slots v is = view_message slots ∙ ap (λ (w : Value). message (s
 one_more : (n : ℕ) (out : List (ℕ × Element)) (e : Element) (c : Content) → view e ≡ c → entries_view (out ++ (n, e) ∷ []) ≡ entries_view out ++ (n, c) ∷ []
 one_more n out e c is = view_append out ((n, e) ∷ []) ∙ ap (λ (d : Content). entries_view out ++ (n, d) ∷ []) is
 
--- The members so far, beside those of the values that are left, are all; and so with one value more.
+-- The members so far and those of the values that are left are all; the same holds with one value more.
 pub member_written : {T : Type 0} (content : T → Content) (n : ℕ) (out : List (ℕ × Element)) (e : Element) (ts : List T) (i : ℕ) (t : T) → i < length ts → t ≡ get_or ts i t → view e ≡ content t
     → entries_view out ++ members content n (drop i ts) ≡ members content n ts → entries_view (out ++ (n, e) ∷ []) ++ members content n (drop (i + 1) ts) ≡ members content n ts
 member_written {T = T} content n out e ts i t lt is same so_far =
@@ -42,7 +42,7 @@ member_written {T = T} content n out e ts i t lt is same so_far =
 pub all_written : {T : Type 0} (content : T → Content) (n : ℕ) (out : List (ℕ × Element)) (ts : List T) (i : ℕ) → length ts ≤ i → entries_view out ++ members content n (drop i ts) ≡ members content n ts → entries_view out ≡ members content n ts
 all_written {T = T} content n out ts i le so_far = sym (append-nil (entries_view out)) ∙ ap (λ (z : List T). entries_view out ++ members content n z) (sym (past ts i le)) ∙ so_far
 
--- The members so far have the form, and so with one more.
+-- Where the members so far have the form, they have it with one more.
 pub form_written : (F : ℕ → Value → Type 0) (n : ℕ) (k : Kind) (out : List (ℕ × Element)) (e : Element) (c : Content) → view e ≡ c → FormContent F k c
     → FormEntries F (field n k ∷ []) (entries_view out) → FormEntries F (field n k ∷ []) (entries_view (out ++ (n, e) ∷ []))
 form_written F n k out e c is f so_far =
@@ -55,7 +55,7 @@ members_append : {T : Type 0} (content : T → Content) (n : ℕ) (ts us : List 
 members_append content n [] us = refl
 members_append content n (t ∷ ts) us = ap (λ (z : List Entry). (n, content t) ∷ z) (members_append content n ts us)
 
--- The members of the values so far, beside the members that are left, are all; and so with one value more.
+-- The members of the values so far and the members that are left are all; the same holds with one value more.
 pub member_read : {T : Type 0} (content : T → Content) (n : ℕ) (ts : List T) (t : T) (es : List (ℕ × Element)) (i : ℕ) (x : ℕ × Element) → i < length es → x ≡ get_or es i x → seen x ≡ (n, content t)
     → members content n ts ++ entries_view (drop i es) ≡ entries_view es → members content n (ts ++ t ∷ []) ++ entries_view (drop (i + 1) es) ≡ entries_view es
 member_read content n ts t es i x lt is same so_far =
@@ -65,11 +65,11 @@ member_read content n ts t es i x lt is same so_far =
     ∙ ap (λ (z : List (ℕ × Element)). members content n ts ++ entries_view z) (sym (drop_more es i x lt ∙ ap (λ (y : ℕ × Element). y ∷ drop (i + 1) es) (sym is)))
     ∙ so_far
 
--- The loop that reads is done: the list's members are those that were there.
+-- The loop that reads is done: the list's members are those that were read.
 pub all_read : {T : Type 0} (content : T → Content) (n : ℕ) (ts : List T) (es : List (ℕ × Element)) (i : ℕ) → length es ≤ i → members content n ts ++ entries_view (drop i es) ≡ entries_view es → members content n ts ≡ entries_view es
 all_read content n ts es i le so_far = sym (append-nil (members content n ts)) ∙ ap (λ (z : List (ℕ × Element)). members content n ts ++ entries_view z) (sym (past es i le)) ∙ so_far
 
--- A member of the form: the number, and a message of the form.
+-- A member of the form: its number, and a message of the form.
 pub record HoldsMessage (F : ℕ → Value → Type 0) (n place : ℕ) (x : Entry) : Type 0 where
   pub value : Value
   pub is : x ≡ (n, message (slots_of value))

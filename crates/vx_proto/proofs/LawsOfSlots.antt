@@ -11,14 +11,14 @@ use Rattle.vx_proto.specs.Form.{FormScalar, FormContent, FormEntries, FormCount,
 use Rattle.vx_proto.proofs.LawsOfForms.{HoldsMember, exactly_one, none_or_one}
 use Rattle.vx_proto.specs.Repeated.{members}
 
--- The members of a slot have its form: so many as it keeps, each of its kind.
+-- The members of a slot have its form: as many as it keeps, each of its kind.
 pub record Has (F : ℕ → Value → Type 0) (s : Slot) (es : List Entry) : Type 0 where
   pub count : FormCount s es
   pub form : FormEntries F (members_of s) es
 
 -- ---- taken apart
 
--- A message of one slot, of two, three and four.
+-- Messages of one slot, of two, three and four.
 pub record One (F : ℕ → Value → Type 0) (s : Slot) (v : Value) : Type 0 where
   pub a : List Entry
   pub is : v ≡ a ∷ []
@@ -79,7 +79,7 @@ four_of F s r q p v f =
     let y = three_of F r q p x.1 x.4 in
     record { a = x.0; b = y.a; c = y.b; d = y.c; is = x.2 ∙ ap (λ (z : Value). x.0 ∷ z) y.is; has_a = x.3; has_b = y.has_a; has_c = y.has_b; has_d = y.has_c }
 
--- What a plain slot holds: its one member. What a slot of a message holds: none, or its member.
+-- What a plain slot holds: its one member. What a slot of a message holds: no member, or its own.
 pub plain_holds : (F : ℕ → Value → Type 0) (n : ℕ) (k : ScalarKind) (es : List Entry) → Has F (plain n k) es → HoldsMember F (field n (Scalar k)) es
 plain_holds F n k es h = exactly_one F (field n (Scalar k)) es h.count h.form
 

@@ -1,4 +1,4 @@
--- What the code holds as plain values, put together and taken apart: for the types that are messages.
+-- What the code holds as plain values, put together and taken apart, for the types that are messages.
 use Rattle.std.specs.Prelude.{◌≡◌, ◌<◌, ◌≤◌, ℕ, zero, suc, List, [], ◌∷◌, ◌++◌, length, get_or, map, Some, refl}
 use Rattle.std.specs.Global.{Vec}
 use Rattle.std.proofs.Common.{sym, ap, subst, ◌∙◌, arith}
@@ -22,7 +22,7 @@ map_twice {C = C} f g (x ∷ xs) = ap (λ (t : List C). g (f x) ∷ t) (map_twic
 pub view_message : (slots : Vec (Vec (ℕ × Element))) → view (Message slots) ≡ message (slots_of (value_view slots.items))
 view_message slots = ap view (sym (rolls-Message slots)) ∙ fold-roll-Element Content view_step (Element-F.Message slots) ∙ ap (λ (l : Value). message (slots_of l)) (map_twice _ (λ es. es.items) slots.items)
 
--- Members one after the other show what they show apart.
+-- What members one after the other show is what the two lists show, one after the other.
 pub view_append : (xs ys : List (ℕ × Element)) → entries_view (xs ++ ys) ≡ entries_view xs ++ entries_view ys
 view_append [] ys = refl
 view_append (x ∷ xs) ys = ap (λ (t : List Entry). (x.0, view x.1) ∷ t) (view_append xs ys)
@@ -43,7 +43,7 @@ message_is e v is = ap message_of is ∙ ap (λ (w : Value). Some w) (value_agai
 
 -- ---- how deep
 
--- A message that a member holds nests one less deep than the member.
+-- A message that a member holds has one level less than the member.
 pub held_depth : (e : Content) (w : Value) → message_of e ≡ Some w → suc (slots_depth (slots_of w)) ≡ content_depth e
 held_depth (number n) w h = absurd cc
 held_depth (octets s) w h = absurd cc
@@ -63,7 +63,7 @@ slot_depth_in (es ∷ v) (suc i) = omega (arith, slot_depth_in v i)
 
 -- ---- the form of members
 
--- Members one after the other have the form that they have apart.
+-- Members one after the other have the form that the two lists have.
 pub form_append : (F : ℕ → Value → Type 0) (members : List Member) (xs ys : List Entry) → FormEntries F members xs → FormEntries F members ys → FormEntries F members (xs ++ ys)
 form_append F members [] ys f g = g
 form_append F members (x ∷ xs) ys f g = (f.0, form_append F members xs ys f.1 g)

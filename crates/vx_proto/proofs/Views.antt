@@ -18,12 +18,12 @@ view_get [] i x lt e = absurd (omega arith)
 view_get (s ∷ slots) zero x lt e = ap (λ (y : Vec (ℕ × Element)). entries_view y.items) (sym e)
 view_get (s ∷ slots) (suc i) x lt e = view_get slots i x (omega arith) e
 
--- one more entry in a slot
+-- One more entry in a slot.
 pub view_push : (slots : List (Vec (ℕ × Element))) (i : ℕ) (old new : Vec (ℕ × Element)) (e : ℕ × Element) → i < length slots → old ≡ get_or slots i old → new.items ≡ old.items ++ e ∷ []
     → value_view (set slots i new) ≡ push_at i (e.0, view e.1) (value_view slots)
 view_push slots i old new e lt was more = view_set slots i new ∙ ap (set (value_view slots) i) (ap entries_view more ∙ view_append old.items (e ∷ []) ∙ ap (λ (t : List Entry). t ++ (e.0, view e.1) ∷ []) (sym (view_get slots i old lt was)))
 
--- the first entry of a slot, taken out
+-- The first entry of a slot, taken out.
 head_view : (es : List (ℕ × Element)) (x : ℕ × Element) → 0 < length es → x ≡ get_or es 0 x → first_in (entries_view es) ≡ Some (view x.1)
 head_view [] x lt e = absurd (omega arith)
 head_view (y ∷ es) x lt e = ap (λ (z : ℕ × Element). Some (view z.1)) (sym e)

@@ -10,7 +10,7 @@ list_again : (es : List Entry) → list_of (entries_of es) ≡ es
 list_again [] = refl
 list_again (x ∷ xs) = ap (λ (t : List Entry). x ∷ t) (list_again xs)
 
--- What was nested is taken out as it was.
+-- Taking the nested slots of a value out again gives the value.
 pub value_again : (v : Value) → value_of (slots_of v) ≡ v
 value_again [] = refl
 value_again (es ∷ v) = ap (λ (t : List Entry). t ∷ value_of (slots_of v)) (list_again es) ∙ ap (λ (t : Value). es ∷ t) (value_again v)
@@ -43,7 +43,7 @@ number_of (Some (inl n)) = n
 number_of (Some (inr s)) = 0
 
 abbrev mutual
-  -- What the tree is of.
+  -- The content that a tree stands for.
   pub tree_content : Rose Label → Content
   tree_content (node None ts) = message (tree_slots ts)
   tree_content (node (Some (inl n)) ts) = number n

@@ -1,4 +1,4 @@
--- A schema is lawful, as a test that computes: so a type proves it of its schema by `refl`.
+-- The lawfulness of a schema, as a test that computes, so that a type proves it of its schema by `refl`.
 use Rattle.std.specs.Prelude.{ℕ, ◌+◌, ◌^◌, Bool, true, ◌&&◌, nat_lt, nat_le, List, [], ◌∷◌, ◌++◌, length}
 use Rattle.vx_proto.specs.declared.schema.ScalarKind.{ScalarKind}
 use Rattle.vx_proto.specs.declared.schema.ScalarKind.TheVariants.{Enum}

@@ -1,4 +1,4 @@
--- What is seen of a message that is held as its plain value.
+-- What contracts see of a message that is held as its plain value.
 use Rattle.std.specs.Prelude.{ℕ, Option, Some, None}
 use Rattle.std.specs.Global.{Vec}
 use Rattle.vx_proto.specs.declared.element.Element.{Element}

@@ -9,16 +9,16 @@ use Rattle.vx_proto.specs.declared.schema.Slot.{Slot as CodeSlot}
 use Rattle.vx_proto.specs.declared.schema.Slot.TheVariants as code
 use Rattle.vx_proto.specs.declared.schema.Schema.{Schema as CodeSchema}
 
--- What a message keeps of some members. Plain: of a number, a text or bytes the last occurrence, or the default; it is not
--- written at the default. Optional: the last occurrence, or none. A oneof: the one member of these that occurs, or none; of
--- a message that may stand alone it has that one member. Repeated: all occurrences.
+-- What a message keeps of some members. Plain: the last occurrence of a number, a text or bytes, or the default; it is
+-- not written at the default. Optional: the last occurrence, or none. A oneof: the one member of these that occurs, or
+-- none; a message that need not stand is a oneof of that one member. Repeated: all occurrences.
 pub data Slot : Type 0 where
   plain : ℕ → ScalarKind → Slot
   optional : ℕ → ScalarKind → Slot
   oneof : List Member → Slot
   repeated : ℕ → Kind → Slot
 
--- A schema: of each message, by its place, the slots in the order of their field numbers.
+-- A schema: for each message, by its place, the slots in the order of their field numbers.
 abbrev pub Schema : Type 0
 Schema = List (List Slot)
 
@@ -26,7 +26,7 @@ Schema = List (List Slot)
 abbrev pub field : ℕ → Kind → Member
 field n k = record { number = n; kind = k }
 
--- A message that may stand, by its place.
+-- A message that need not stand, by its place.
 abbrev pub nested : ℕ → ℕ → Slot
 nested n place = oneof (field n (Message place) ∷ [])
 
@@ -66,7 +66,7 @@ wire_of (Message place) = 2
 
 -- ---- what the code holds
 
--- A slot of the code as a slot. Where its members lie in memory is left out.
+-- A slot of the code as a slot. Where its members lie in memory is not seen.
 abbrev pub slot_view : CodeSlot → Slot
 slot_view (code.Plain n k) = plain n k
 slot_view (code.Optional n k) = optional n k

@@ -4,8 +4,8 @@ use Rattle.std.specs.Int.{w32, w64, from_le_bytes}
 
 -- ---- numbers
 
--- A spelling of a number: seven bits a byte, lowest first; a byte from 128 on is followed by the higher bits. Longer
--- spellings of a number stand too.
+-- A spelling of a number: seven bits a byte, lowest first; a byte from 128 on is followed by the higher bits. A
+-- spelling may be longer than the shortest.
 abbrev pub IsVarint : List ℕ → ℕ → Type 0
 IsVarint [] n = ⊥
 IsVarint (b ∷ []) n = (b < 128) × (n ≡ b)
@@ -17,7 +17,7 @@ pub record SpellsNumber (bytes : List ℕ) (n : ℕ) : Type 0 where
   pub short : length bytes ≤ 10
   pub fits : n < 2 ^ 64
 
--- The number at the front, of at most so many bytes, and the bytes after it.
+-- The number at the front, of at most n bytes, and the bytes after it.
 abbrev pub varint_at : ℕ → List ℕ → Option (ℕ × List ℕ)
 varint_at zero bytes = None
 varint_at (suc left) [] = None
@@ -85,11 +85,11 @@ BeginsWithNone bytes = (f : Field) (rest : List ℕ) → BeginsWith bytes f rest
 
 -- ---- cutting
 
--- So many bytes at the front, and the bytes after them; none where there are fewer.
+-- The first n bytes, and the bytes after them; none where there are fewer.
 abbrev pub bytes_at : ℕ → List ℕ → Option (List ℕ × List ℕ)
 bytes_at n bytes = if nat_lt (length bytes) n then None else Some (take n bytes, drop n bytes)
 
--- The part of this wire type at the front, and the bytes after it; none for a wire type that is none.
+-- The part of this wire type at the front, and the bytes after it; none for a number that is no wire type.
 unfoldable pub part_at : ℕ → List ℕ → Option (Part × List ℕ)
 part_at zero bytes = option_and_then (λ n. Some (varint n.0, n.1)) (number_at bytes)
 part_at (suc zero) bytes = option_and_then (λ x. Some (i64 (from_le_bytes w64 x.0), x.1)) (bytes_at 8 bytes)
@@ -110,7 +110,7 @@ field_at bytes = option_and_then (λ key.
 abbrev pub with_field : Field → List Field × Bool → List Field × Bool
 with_field f more = (f ∷ more.0, more.1)
 
--- The field at the front, if there is one, and then those that more finds after it.
+-- The field at the front, if there is one, and then those that `more` finds after it.
 abbrev pub cut_from : (List ℕ → List Field × Bool) → Option (Field × List ℕ) → List Field × Bool
 cut_from more None = ([], false)
 cut_from more (Some x) = with_field x.0 (more x.1)

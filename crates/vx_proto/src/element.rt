@@ -1,5 +1,5 @@
-//! Plain values: what a message of any schema shows, and the calls by which a message type takes
-//! one apart and puts one together.
+//! Plain values: what a message of any schema shows, and the calls by which a message type takes one
+//! apart and puts one together.
 
 ghost use Rattle.std.specs.Prelude.{◌≡◌, ◌<◌, ◌≤◌, ◌^◌, ℕ, pos, Some, None, ◌∷◌, [], IfOk, IsOkUnless, IsTrue, IsFalse, option_map};
 ghost use Rattle.vx_proto.specs.Value.{view, value_view, entries_view, number, octets};
@@ -11,25 +11,25 @@ use crate::error::ProtoError;
 use crate::signed::int32_of;
 use std::alloc::Global;
 
-/// What a member of a message holds.
+/// What a member of a message holds. Which kind it has, the schema says.
 #[derive(Debug, Drop)]
 pub enum Element {
-    /// A number as on the wire: of a flag 0 or 1, of an int32 its 64-bit two's complement, of a
-    /// sint64 its zigzag number.
+    /// A number as on the wire: 0 or 1 for a flag, the 64-bit two's complement for an int32, the zigzag
+    /// number for a sint64.
     Number(u64),
-    /// The bytes of a text, or bytes.
+    /// The bytes of a text or of bytes.
     Octets(Vec<u8>),
-    /// A message: of each slot of its list the members that count.
+    /// A nested message: for each slot of its list, the members that count.
     Message(Vec<Entries>),
 }
 
 /// A member's field number, and what it holds.
 pub type Entry = (u32, Element);
 
-/// The members of a slot that count.
+/// The members of a slot that count, in order.
 pub type Entries = Vec<Entry>;
 
-/// The members of a slot that count; none past the last slot.
+/// The members of the slot at this index; none past the last slot.
 pub fn entries_at(slots: &[Entries], slot: usize) -> &[Entry]
     ensures { entries_view result.now ≡ entries_in (value_view slots.now) slot }
 {
@@ -62,7 +62,7 @@ impl Element {
         }
     }
 
-    /// The text, if the member holds one: bytes that are UTF-8.
+    /// The text, if the member holds bytes that are UTF-8.
     pub fn as_text(&self) -> Option<&str>
         ensures { option_map (λ s. s.now) result ≡ text_of (view self.now) }
     {
@@ -73,7 +73,7 @@ impl Element {
         }
     }
 
-    /// The message, if the member holds one.
+    /// The slots of the message, if the member holds one.
     pub fn as_message(&self) -> Option<&[Entries]>
         ensures { option_map (λ v. value_view v.now) result ≡ message_of (view self.now) }
     {
@@ -85,7 +85,7 @@ impl Element {
     }
 }
 
-/// The text that bytes are, if they are UTF-8.
+/// The bytes as a text, if they are UTF-8.
 fn as_utf8(bytes: &[u8]) -> Option<&str>
     ensures { option_map (λ s. s.now) result ≡ text_of_bytes bytes.now }
 {
@@ -105,7 +105,8 @@ pub fn number_at(slots: &[Entries], slot: usize) -> Option<u64>
     }
 }
 
-/// The number that a slot's first member holds, or 0.
+/// The number that a slot's first member holds, or 0. This call and those after it serve members whose
+/// kind the schema fixes, so the 0 stands for a value that no decoded message has.
 pub fn u64_at(slots: &[Entries], slot: usize) -> u64
     ensures same { (n : ℕ) → number_in (entries_in (value_view slots.now) slot) ≡ Some n → result ≡ n }
     ensures none { number_in (entries_in (value_view slots.now) slot) ≡ None → result ≡ 0 }
@@ -116,7 +117,7 @@ pub fn u64_at(slots: &[Entries], slot: usize) -> u64
     }
 }
 
-/// The number that a slot's first member holds, where it is below 2^32, or 0.
+/// The number that a slot's first member holds if it is below 2^32, else 0.
 pub fn u32_at(slots: &[Entries], slot: usize) -> u32
     ensures same { (n : ℕ) → number_in (entries_in (value_view slots.now) slot) ≡ Some n → n < 2 ^ 32 → result ≡ n }
     ensures past { (n : ℕ) → number_in (entries_in (value_view slots.now) slot) ≡ Some n → 2 ^ 32 ≤ n → result ≡ 0 }
@@ -126,7 +127,7 @@ pub fn u32_at(slots: &[Entries], slot: usize) -> u32
     if n < 1 << 32 { n as u32 } else { 0 }
 }
 
-/// The number that a slot's first member holds, where it is below 256, or 0.
+/// The number that a slot's first member holds if it is below 256, else 0.
 pub fn u8_at(slots: &[Entries], slot: usize) -> u8
     ensures same { (n : ℕ) → number_in (entries_in (value_view slots.now) slot) ≡ Some n → n < 256 → result ≡ n }
     ensures past { (n : ℕ) → number_in (entries_in (value_view slots.now) slot) ≡ Some n → 256 ≤ n → result ≡ 0 }
@@ -145,7 +146,7 @@ pub fn i32_at(slots: &[Entries], slot: usize) -> i32
     int32_of(u64_at(slots, slot))
 }
 
-/// Whether the number that a slot's first member holds isn't 0.
+/// Whether the slot's first member holds a number other than 0.
 pub fn flag_at(slots: &[Entries], slot: usize) -> bool
     ensures same { (n : ℕ) → number_in (entries_in (value_view slots.now) slot) ≡ Some n → n < 2 → flag_number result ≡ n }
     ensures past { (n : ℕ) → number_in (entries_in (value_view slots.now) slot) ≡ Some n → 2 ≤ n → IsTrue result }
@@ -154,7 +155,7 @@ pub fn flag_at(slots: &[Entries], slot: usize) -> bool
     u64_at(slots, slot) != 0
 }
 
-/// The bytes that a slot's first member holds, if it is a text or bytes.
+/// The bytes that a slot's first member holds, if they are a text or bytes.
 pub fn octets_at(slots: &[Entries], slot: usize) -> Option<&[u8]>
     ensures { option_map (λ s. s.now) result ≡ octets_in (entries_in (value_view slots.now) slot) }
 {
@@ -174,7 +175,7 @@ pub fn text_at(slots: &[Entries], slot: usize) -> Option<&str>
     }
 }
 
-/// The message that a slot's first member holds, if it is one.
+/// The slots of the message that a slot's first member holds, if it is one.
 pub fn message_at(slots: &[Entries], slot: usize) -> Option<&[Entries]>
     ensures { option_map (λ v. value_view v.now) result ≡ message_in (entries_in (value_view slots.now) slot) }
 {
@@ -184,7 +185,7 @@ pub fn message_at(slots: &[Entries], slot: usize) -> Option<&[Entries]>
     }
 }
 
-/// A copy of bytes, or of the bytes of a text, as what a member holds.
+/// The element of a copy of these bytes, a text or bytes. The only refusal is `OutOfMemory`.
 pub fn copied(alloc: Global, bytes: &[u8]) -> Result<Element, ProtoError>
     ensures same { IfOk result (λ element. view element ≡ octets bytes.now) }
     ensures err { IsOkUnless result ProtoError.OutOfMemory }
@@ -192,14 +193,14 @@ pub fn copied(alloc: Global, bytes: &[u8]) -> Result<Element, ProtoError>
     Ok(Element::Octets(Vec::from_slice(alloc, bytes)?))
 }
 
-/// A flag as what a member holds.
+/// The element of a flag: the number 0 or 1.
 pub fn flag(value: bool) -> Element
     ensures { view result ≡ number (flag_number value) }
 {
     Element::Number(if value { 1 } else { 0 })
 }
 
-/// A slot with one member.
+/// The slot of this one member, with its field number. The only refusal is `OutOfMemory`.
 pub fn one(alloc: Global, number: u32, element: Element) -> Result<Entries, ProtoError>
     ensures same { IfOk result (λ entries. entries_view entries.items ≡ (number, view element) ∷ []) }
     ensures err { IsOkUnless result ProtoError.OutOfMemory }
@@ -209,7 +210,8 @@ pub fn one(alloc: Global, number: u32, element: Element) -> Result<Entries, Prot
     Ok(entries)
 }
 
-/// The message that a slot's first member holds, if it is one, taken out of a plain value.
+/// The slots of the message that a slot's first member holds, if it is one, moved out of the plain value and not
+/// copied.
 pub fn take_message(mut slots: Vec<Entries>, slot: usize) -> Option<Vec<Entries>>
     ensures { option_map (λ v. value_view v.items) result ≡ message_in (entries_in (value_view slots.items) slot) }
 {

@@ -1,4 +1,5 @@
-//! What holds of the definitions of this crate, for each schema at once. A caller of these functions learns the laws.
+//! The laws of this crate's definitions, for each schema at once. The functions have empty bodies: a
+//! caller learns a law from the clause of its function.
 
 ghost use Rattle.std.specs.Prelude.{◌≡◌, ◌<◌, ◌≤◌, ◌^◌, ◌↔◌, ℕ, ℤ, List, [], ◌++◌, length, IsTrue, Some, true};
 ghost use Rattle.vx_proto.specs.Wire.{Field, field_at, cut, BeginsWith, SpellsMessage};
@@ -28,13 +29,14 @@ pub fn written_is_read()
     ensures { (s : Schema) (place : ℕ) (v : Value) → IsTrue (is_lawful s) → HasForm s place v → nested v ≤ 100 → length (written s place v) < 2 ^ 64 → Reads s place (written s place v) v }
 {}
 
-/// No bytes read as the value of a message without fields: each plain member at its default, and nothing else.
+/// No bytes read as the value of a message without fields: each plain member at its default, and
+/// nothing else.
 pub fn nothing_is_the_default()
     ensures { (s : Schema) (place : ℕ) → Reads s place [] (default_value s place) }
 {}
 
-/// The messages of a lawful schema stay what they are where more messages stand after them: so a
-/// message type can nest one of another schema, whose messages come first in its own.
+/// A lawful schema may be continued by more messages, and its own keep their values, their bytes and
+/// their causes. So a message type can nest one of another schema, whose messages come first in its own.
 pub fn longer_schema()
     ensures form { (s t : Schema) (place : ℕ) (v : Value) → IsTrue (is_lawful s) → place < length s → HasForm s place v ↔ HasForm (s ++ t) place v }
     ensures read { (s t : Schema) (place : ℕ) (bytes : List ℕ) (v : Value) → IsTrue (is_lawful s) → place < length s → Reads s place bytes v ↔ Reads (s ++ t) place bytes v }
@@ -42,7 +44,7 @@ pub fn longer_schema()
     ensures written { (s t : Schema) (place : ℕ) (v : Value) → IsTrue (is_lawful s) → place < length s → written s place v ≡ written (s ++ t) place v }
 {}
 
-/// Signed numbers of one zigzag number are one number.
+/// Signed numbers with the same zigzag number are equal.
 pub fn one_zigzag()
     ensures { (a b : ℤ) → zigzag a ≡ zigzag b → a ≡ b }
 {}

@@ -1,9 +1,9 @@
-//! Tagged messages: one decoder and one encoder, proved once for every schema.
+//! Tagged messages: one decoder and one encoder, proved once for every schema. The wire rules are those
+//! of Protocol Buffers (proto3).
 //!
-//! A type becomes a message by [`Message`]: it says its schema, its place there, and how its values
-//! and plain values go over into one another. A [`PlainMessage`] is a message of any schema that is
-//! its plain value, and needs no more than the schema. The definitions that the contracts cite are
-//! public:
+//! A type becomes a message by [`Message`]: it gives its schema, its place there, and the conversions
+//! between its values and plain values. A [`PlainMessage`] is a message of any schema that is its plain
+//! value, and needs no more than the schema. The definitions that the contracts cite are public:
 //!
 //! - `specs::Schema`, `specs::Lawful`: the slots of messages, and which schemas are lawful;
 //! - `specs::Value`, `specs::Form`: plain values, and which of them a message has;

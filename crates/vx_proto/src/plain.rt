@@ -1,4 +1,4 @@
-//! Messages as their plain values: a message type for each schema, at no cost.
+//! Messages as their plain values: a message type for each schema, without a conversion.
 
 ghost use Rattle.std.specs.Prelude.{◌≡◌, ◌<◌, ℕ, length, IfOk, IsOkUnless, IsTrue, MatchOption};
 ghost use Rattle.vx_proto.specs.Schema.{Schema, schema_view};
@@ -22,29 +22,29 @@ pub trait MessageKind {
     /// The messages of the schema, each as its list of slots.
     ghost schema: { Schema };
 
-    /// Which of them it is.
+    /// The index of the message among them.
     ghost place: { ℕ };
 
-    /// The schema.
+    /// The schema, as a constant of the code.
     fn lists() -> Lists
         ensures { schema_view result ≡ schema };
 
-    /// The place of the message among the schema's.
+    /// The index of the message among the schema's.
     fn schema_place() -> u32
         ensures { result ≡ place };
 
     /// The schema is lawful: a test, which `refl` proves of a schema that is written out.
     ghost lawful: { IsTrue (is_lawful schema) };
 
-    /// The message is one of the schema's: a test as well.
+    /// The message is one of the schema's: a test that `refl` proves, too.
     ghost placed: { place < length schema };
 }
 
-/// A message of a kind. Contracts see its plain value, which has the form of the schema: of each
-/// plain slot one member, of a oneof at most one, each in its range.
+/// A message of a kind. Contracts see its plain value, which has the form of the schema: one member in
+/// each plain slot, at most one in a oneof, each in its range.
 #[derive(Debug, Drop)]
 pub struct PlainMessage<K: MessageKind> {
-    // None where each slot is at its default.
+    // None where each slot is at its default, so that `default` takes no memory.
     slots: Option<Vec<Entries>>,
     kind: PhantomData<K>,
 }
@@ -66,7 +66,7 @@ impl<K: MessageKind> Model for PlainMessage<K> {
 }
 
 impl<K: MessageKind> PlainMessage<K> {
-    /// The message of a plain value that has the form.
+    /// The message of a plain value that has the form, moved in and not copied.
     pub fn new(slots: Vec<Entries>) -> PlainMessage<K>
         requires { HasForm K.schema K.place (value_view slots.items) }
         ensures { result ≡ value_view slots.items }
@@ -77,7 +77,8 @@ impl<K: MessageKind> PlainMessage<K> {
         }
     }
 
-    /// The plain value, which has the form of the kind; None where each slot is at its default.
+    /// The slots of the plain value, which has the form of the kind; `None` where each slot is at its
+    /// default.
     pub fn slots(&self) -> Option<&[Entries]>
         ensures form { HasForm K.schema K.place self.now }
         ensures value { MatchOption result (self.now ≡ default_value K.schema K.place) (λ v. value_view v.now ≡ self.now) }
@@ -89,7 +90,7 @@ impl<K: MessageKind> PlainMessage<K> {
     }
 }
 
-/// The plain value of a message without fields.
+/// The plain value of a message without fields. The only refusal is `OutOfMemory`.
 fn default_slots(alloc: Global, schema: Lists, place: u32) -> Result<Vec<Entries>, ProtoError>
     ensures same { IfOk result (λ v. value_view v.items ≡ default_value (schema_view schema) place) }
     ensures err { IsOkUnless result ProtoError.OutOfMemory }
@@ -131,7 +132,7 @@ impl<K: MessageKind> Message for PlainMessage<K> {
         }
     }
 
-    // The slots are at hand, so they are not copied first.
+    // The message is its plain value, so nothing is made first.
     fn encode_value(&self, alloc: Global) -> Result<Blob, ProtoError> {
         match self.slots() {
             Some(slots) => encoded(alloc, K::lists(), K::schema_place(), slots),

@@ -1,4 +1,4 @@
-//! Reading of plain values: the fields of a message, each put into its slot, and what each slot keeps.
+//! The decoder: the fields of a message, each put into its slot, and what each slot keeps.
 
 ghost use Rattle.std.specs.Prelude.{◌≡◌, ◌<◌, length, map, replicate, [], ◌∷◌, ◌++◌, IfSome, IfOk, OnOk, Ok};
 ghost use Rattle.std.specs.Str.{is_utf8};
@@ -15,7 +15,7 @@ use crate::schema::{Kind, Member, ScalarKind, Schema, Slot};
 use crate::wire::{Part, field_of};
 use std::alloc::{AllocError, Global};
 
-/// The kind of the member of this number.
+/// The kind of the member of this field number.
 fn member_kind(members: &[Member], number: u32) -> Option<Kind>
     ensures { result ≡ kind_in members.now number }
 {
@@ -27,7 +27,7 @@ fn member_kind(members: &[Member], number: u32) -> Option<Kind>
     None
 }
 
-/// The kind that a slot has under this number.
+/// The kind that a slot has under this field number.
 pub fn kind_of(slot: &Slot, number: u32) -> Option<Kind>
     ensures { result ≡ kind_in (members_of (slot_view slot.now)) number }
 {
@@ -44,7 +44,7 @@ pub fn kind_of(slot: &Slot, number: u32) -> Option<Kind>
     }
 }
 
-/// The slot of this number, and its kind.
+/// The slot of this field number, and its kind.
 fn slot_of(list: &[Slot], number: u32) -> Option<(usize, Kind)>
     ensures place { result ≡ first_slot (map slot_view list.now) number }
     ensures bound { IfSome result (λ x. x.0 < length list.now) }
@@ -57,7 +57,7 @@ fn slot_of(list: &[Slot], number: u32) -> Option<(usize, Kind)>
     None
 }
 
-/// A number in a field.
+/// The number in a field: `BadMessage` for another wire type.
 fn varint_of(part: Part<'_>) -> Result<u64, ProtoError>
     ensures { Gives (λ n. n) result (varint_in (part_view part.entry)) }
 {
@@ -67,7 +67,7 @@ fn varint_of(part: Part<'_>) -> Result<u64, ProtoError>
     }
 }
 
-/// The bytes in a field.
+/// The bytes in a field: `BadMessage` for another wire type.
 fn octets_of(part: Part<'_>) -> Result<&[u8], ProtoError>
     ensures { Gives (λ s. s.now) result (octets_in (part_view part.entry)) }
 {
@@ -87,7 +87,7 @@ fn empty_slots(alloc: Global, count: usize) -> Result<Vec<Entries>, ProtoError>
     Ok(slots)
 }
 
-/// The default of a kind.
+/// The default of a kind: 0, or no bytes. It takes no memory.
 fn default_of(alloc: Global, kind: ScalarKind) -> Element
     ensures { view result ≡ default_in kind }
 {
@@ -97,7 +97,7 @@ fn default_of(alloc: Global, kind: ScalarKind) -> Element
     }
 }
 
-/// Leaves the last entry alone, if there is one.
+/// Drops all entries but the last, as a slot of one member keeps the last occurrence.
 fn keep_last(entries: &mut Entries) -> Result<(), AllocError>
     ensures { OnOk result (entries_view entries.new.items ≡ last_of [] (entries_view entries.old.items)) }
 {
@@ -112,7 +112,7 @@ fn keep_last(entries: &mut Entries) -> Result<(), AllocError>
     Ok(())
 }
 
-/// Leaves a slot with what it keeps of the occurrences of its members.
+/// Leaves in a slot what it keeps of the occurrences of its members. `BadMessage` where a oneof occurs twice.
 #[tactic(auto, unfolding(crate::specs::Reading::kept_of))]
 fn keep(alloc: Global, slot: &Slot, entries: &mut Entries) -> Result<(), ProtoError>
     ensures { Gives (λ _. entries_view entries.new.items) result (kept_of (slot_view slot.now) (entries_view entries.old.items)) }
@@ -151,7 +151,7 @@ fn finish(alloc: Global, list: &[Slot], mut slots: Vec<Entries>) -> Result<Vec<E
     Ok(slots)
 }
 
-/// A number that is below a limit.
+/// The number, which is to be below a limit: `OutOfRange` else.
 fn limited_number(n: u64, limit: u64) -> Result<Element, ProtoError>
     ensures { Gives view result (limited limit n) }
 {
@@ -161,7 +161,7 @@ fn limited_number(n: u64, limit: u64) -> Result<Element, ProtoError>
     Ok(Element::Number(n))
 }
 
-/// The number of an int32.
+/// The number, which is to be the 64-bit two's complement of an int32: `OutOfRange` else.
 fn signed_number(n: u64) -> Result<Element, ProtoError>
     ensures { Gives view result (limited_signed n) }
 {
@@ -171,7 +171,7 @@ fn signed_number(n: u64) -> Result<Element, ProtoError>
     Err(ProtoError::OutOfRange)
 }
 
-/// What a part shows of a scalar kind.
+/// What a part shows at a scalar kind.
 fn scalar_of(alloc: Global, kind: ScalarKind, part: Part<'_>) -> Result<Element, ProtoError>
     ensures { Gives view result (typed_scalar kind (part_view part.entry)) }
 {
@@ -200,7 +200,7 @@ fn scalar_of(alloc: Global, kind: ScalarKind, part: Part<'_>) -> Result<Element,
     }
 }
 
-/// What a part shows of a kind, with at most so many messages nested in it.
+/// What a part shows at a kind. At most `left` messages may nest in it.
 #[cycle(reading)]
 #[tactic(auto, unfolding(crate::specs::Reading::typed))]
 fn element_of(
@@ -228,7 +228,7 @@ fn is_text(bytes: &[u8]) -> bool
     simdutf8::basic::from_utf8(bytes).is_ok()
 }
 
-/// One more entry, where most slots have but one.
+/// Appends an entry. Most slots have one, so the first append allocates room for one alone.
 fn push_entry(entries: &mut Entries, entry: Entry) -> Result<(), AllocError>
     ensures { OnOk result (entries.new.items ≡ entries.old.items ++ entry ∷ []) }
 {
@@ -239,7 +239,7 @@ fn push_entry(entries: &mut Entries, entry: Entry) -> Result<(), AllocError>
     Ok(())
 }
 
-/// What the fields show, each in its slot.
+/// What the fields show, each in its slot, before it is decided what a slot keeps: every occurrence is judged.
 #[cycle(reading)]
 fn gather(
     alloc: Global,
@@ -266,7 +266,7 @@ fn gather(
     Ok(slots)
 }
 
-/// The message at this place of the schema, with at most so many messages nested.
+/// The plain value of the message at this place of the schema. At most `left` messages may nest, itself counted.
 #[cycle(reading)]
 #[tactic(auto, unfolding(crate::specs::Reading::decoded))]
 pub fn message_of(
@@ -286,7 +286,7 @@ pub fn message_of(
     finish(alloc, list, slots)
 }
 
-/// The slots of the message at this place of the schema; none past the last.
+/// The slots of the message at this place of the schema; none past the last message.
 pub fn list_of(schema: Schema, place: u32) -> &'static [Slot]
     ensures { list_view result.now ≡ list_at (schema_view schema) place }
 {

@@ -21,6 +21,6 @@ module _ {L : Type 0} where
   everywhere_below-snoc_at F [] u g h = (h, tt)
   everywhere_below-snoc_at F (t ∷ ts) u g h = (g.0, everywhere_below-snoc_at F ts u g.1 h)
 
-  -- One tree more at the end.
+  -- A fact that holds at each node of some trees, and of one more, holds at each node of all of them.
   pub everywhere_below-snoc : (F : L → Roses L → Type 0) (ts us : List (Rose L)) (u : Rose L) → EverywhereBelow F (roses_of ts) → Everywhere F u → us ≡ ts ++ u ∷ [] → EverywhereBelow F (roses_of us)
   everywhere_below-snoc F ts us u g h e = rw e (everywhere_below-snoc_at F ts u g h)

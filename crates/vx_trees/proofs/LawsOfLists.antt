@@ -1,4 +1,4 @@
--- What two lists that are the same have in common: their first elements, and what follows them.
+-- What two equal lists have in common: their first elements, and what follows them.
 use Rattle.std.specs.Prelude.{◌≡◌, List, ◌∷◌}
 
 pub heads : {A : Type 0} (x y : A) (xs ys : List A) → x ∷ xs ≡ y ∷ ys → x ≡ y

@@ -1,4 +1,4 @@
--- What holds of an error holds of it where it is handed on.
+-- What holds of an error holds of it where it is passed on.
 use Rattle.std.specs.Prelude.{IfErr, MatchResult, OnErr}
 use Rattle.std.proofs.Common.{◌≡◌, ◌∙◌, Result, Err, ap, sym, subst}
 

@@ -29,6 +29,6 @@ module _ {L : Type 0} where
   length-roses_list end = refl
   length-roses_list (more t ts) = ap (λ n. suc n) (length-roses_list ts)
 
-  -- A node made again, of as many trees as stand below it.
+  -- A node rebuilt from as many trees as stand below it is the node.
   pub node-again : (t : Rose L) (ts us : List (Rose L)) (i : ℕ) → roses_of ts ≡ below t → us ≡ take i ts → length ts < i + 1 → node (label t) (roses_of us) ≡ t
   node-again (node l rs) ts us i p q h = ap (λ r. node l (roses_of r)) (q ∙ take_all i ts (omega (arith, h))) ∙ ap (λ r. node l r) p

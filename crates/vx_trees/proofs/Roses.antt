@@ -1,4 +1,4 @@
--- The laws that a loop over the trees below a node wants.
+-- The laws that a loop over the trees below a node needs.
 use Rattle.vx_trees.proofs.Lists.{roses_of-empty, length-roses_of_end}
 use Rattle.vx_trees.proofs.Counting.{nodes-is, nodes-at}
 use Rattle.vx_trees.proofs.Gathering.{gathered-is, gathered_below-take}

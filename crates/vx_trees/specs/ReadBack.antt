@@ -1,4 +1,4 @@
--- The list of a tree's nodes gives back the tree: the law that its code wants.
+-- The list of a tree's nodes gives back the tree: the law that the code of a tree needs.
 use Rattle.std.specs.Prelude.{ℕ, ◌≡◌, List, [], refl}
 use Rattle.std.proofs.Common.{◌∙◌, ap}
 use Rattle.vx_trees.specs.Rose.{Rose, Roses, node, end, more, count}

@@ -14,7 +14,7 @@ module _ {L : Type 0} where
     nodes_of (more t ts) = nodes t + nodes_of ts
 
   abbrev mutual
-    -- How many levels a tree has: one more than the deepest tree below its root.
+    -- How many levels a tree has: one more than the deepest tree below its root has.
     pub levels : Rose L → ℕ
     levels (node l ts) = suc (levels_below ts)
 

@@ -1,4 +1,4 @@
--- The array that a node tells, from what its steps say.
+-- The array that a node decodes to, from what its steps say.
 use Rattle.std.proofs.Common.{ℕ, ◌≡◌, List, Some, refl, sym, ap, ◌∙◌, subst}
 use Rattle.vx_buffer.specs.Buffer.{Buffer}
 use Rattle.vx_trees.specs.Rose.{node, label, count}
@@ -25,7 +25,7 @@ use Rattle.vx_wire_tree.proofs.TwoIdentifiers.{node_by}
 use Rattle.vx_wire_tree.proofs.Unique.{all_count, one_metadata}
 
 module _ (c : Codec) (s : SessionMeaning) (law : IsLawful c s) where
-  -- A node whose children tell arrays where they are planned tells the array that is built of its parts, with
+  -- A node whose children decode to arrays where they are planned decodes to the array that is built of its parts, with
   -- the statistics that its field shows.
   pub node_decodes : (id : List ℕ) (e : Encoding) (w : WireHead) (ws : Wires) (d : Typ) (n : ℕ) (ps : List Place) (bs : List Buffer) (ts : Trees) (t u : Tree)
       → w.id ≡ Some id → IsReadAs (s.reader id) e id n → PlansChildren c s.ext e d n w.metadata (count ws) ps → w.buffers ≡ all_present bs

@@ -1,4 +1,4 @@
--- Wire trees that are kept as they stand, node by node, and what they tell.
+-- Wire trees that are kept unchanged, node by node, and what they decode to.
 use Rattle.std.proofs.Common.{ℕ, suc, ◌≡◌, ◌+◌, ◌<◌, ◌≤◌, arith, add-one, List, [], ◌∷◌, ◌++◌, Some, None, IsTrue, refl, sym, ap, ◌∙◌, subst, take, length, get_or, zero}
 use Rattle.std.proofs.lemmas.List.{take_all}
 use Rattle.vx_buffer.specs.Buffer.{Buffer}
@@ -18,7 +18,7 @@ use Rattle.vx_wire_tree.specs.Session.{SessionMeaning}
 use Rattle.vx_wire_tree.specs.DecodesTo.{DecodesTo}
 use Rattle.vx_wire_tree.specs.Wire.{Wire, Wires, WireHead, all_present}
 
--- The foreign node of a node's parts, over children that are kept.
+-- The foreign node of a node's parts, over children that are kept, is kept.
 pub kept_node : (id : List ℕ) (w : WireHead) (ws : Wires) (d : Typ) (n : ℕ) (metadata : List ℕ) (bs : List Buffer) (ts : Trees) → w.id ≡ Some id → metadata ≡ w.metadata → w.buffers ≡ all_present bs
     → AreKeptAs ws d n ts → let t : Tree = node (untold d n (B.foreign (record { id = id; metadata = metadata; buffers = bs }))) ts in IsSound t → IsKeptAs (node w ws) d n t
 kept_node id w ws d n metadata bs ts i m b k sound = record {
@@ -62,9 +62,10 @@ kept-snoc ws d n i w us vs u h k f x e =
 pub all_kept : (ws : List Wire) (d : Typ) (n : ℕ) (i : ℕ) (us : Trees) → length ws ≤ i → AreKeptAs (roses_of (take i ws)) d n us → AreKeptAs (roses_of ws) d n us
 all_kept ws d n i us h k = subst (λ z. AreKeptAs (roses_of z) d n us) (take_all i ws h) k
 
--- ---- what is kept is told
+-- ---- what is kept is decoded
 
--- A wire tree whose root nothing reads, under a session that allows such nodes, tells the array that is kept of it.
+-- A wire tree whose root nothing reads, under a session that allows such nodes, decodes to the array that is kept of
+-- it.
 pub kept_decodes : (c : Codec) (s : SessionMeaning) (id : List ℕ) (w : Wire) (d : Typ) (n : ℕ) (t : Tree) → (label w).id ≡ Some id → s.reader id ≡ None → IsTrue s.ext.unknown → IsKeptAs w d n t → DecodesTo c s w d n t
 kept_decodes c s id (node w ws) d n t i r allowed k = record {
   matched = (id, i, subst (λ z. IsNodeBy c s z w ws t (λ us. AllMatch c s ws us)) (sym r) (allowed, k.raw));

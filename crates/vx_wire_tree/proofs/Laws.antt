@@ -42,11 +42,11 @@ use Rattle.vx_wire_tree.proofs.TakenOwn as TakenOwn
 use Rattle.vx_wire_tree.proofs.TwoIdentifiers.{read_shipped, read_revised}
 use Rattle.vx_wire_tree.proofs.Unique as Unique
 use Rattle.vx_wire_tree.proofs.WrittenAlike as WrittenAlike
--- What is written of arrays stands where they do.
+-- The places of what is written of arrays are those of the arrays.
 pub use Rattle.vx_wire_tree.proofs.TakenPlaces.{places_taken}
 -- Where primitives are not written under two identifiers, a body is written under its own.
 pub use Rattle.vx_wire_tree.proofs.TwoIdentifiers.{one_own}
--- What a plugin builds is told.
+-- A node that a plugin reads decodes to what the plugin builds.
 pub use Rattle.vx_wire_tree.proofs.Plugins.{plugin_decodes}
 -- What is written of an array that is read back matches its canon.
 pub use Rattle.vx_wire_tree.proofs.ReadAgain.{written_matches}
@@ -56,8 +56,8 @@ module _ (c : Codec) (s : SessionMeaning) where
   pub own_spelling : Canon.SpellsOwn (spelled c s)
   own_spelling h ts x e = ap (λ b. record { id = body_id (writes_two s) b h.len; metadata = metadata_bytes c (told (metadata_of b (places ts))); buffers = buffers_of b }) e
 
-  -- A sound normal array is read back as itself, where its statistics are kept, and in any case but for
-  -- statistics; it is written as what is read back.
+  -- A sound normal array is read back as itself where its statistics are kept, and as itself but for statistics in any
+  -- case. It is written as what is read back of it.
   pub canon_own : (t : Tree) → IsSound t → IsNormal t → KeepsStats t → canon c s t ≡ t
   canon_own t x n k = Canon.canon_own (spelled c s) own_spelling t x n k
 
@@ -83,7 +83,7 @@ module _ (c : Codec) (s : SessionMeaning) where
   pub canon_twice : (t : Tree) → IsSound t → canon c s (canon c s t) ≡ canon c s t
   canon_twice t x = Canon.canon_twice (spelled c s) own_spelling t x
 
-  -- Wire trees that match arrays one by one are as many as these.
+  -- Wire trees match as many arrays as there are trees.
   pub matched_count : (ws : Wires) (ts : Trees) → AllMatch c s ws ts → count ts ≡ count ws
   matched_count ws ts m = Unique.all_count c s ws ts m
 
@@ -104,18 +104,18 @@ module _ (c : Codec) (s : SessionMeaning) where
       pub matched_unread : (w : Wire) (t : Tree) → Matches c s w t → IsUnread s t
       matched_unread w t m = Matched.matched_unread c s ok law w t m
 
-      -- A wire tree tells at most one array of a type and a length.
+      -- A wire tree decodes to at most one array of a type and a length.
       pub one_tree : (w : Wire) (d : Typ) (n : ℕ) (t u : Tree) → DecodesTo c s w d n t → DecodesTo c s w d n u → t ≡ u
       one_tree w d n t u x y =
           Unique.one_tree c s law ok w t u x.matched y.matched x.sound y.sound (x.normal ok) (y.normal ok) (x.dtype ∙ sym y.dtype) (x.len ∙ sym y.len)
 
-      -- Where it tells one, no refusal has its cause.
+      -- Where it decodes to one, no cause of a refusal holds.
       pub never_refused : (r : Refusal) (w : Wire) (d : Typ) (n : ℕ) (t : Tree) → DecodesTo c s w d n t → RefusesTree r c s w d n → ⊥
       never_refused r w d n t x k = NeverRefused.never_refused c s ok law r w d n t x k
 
-      -- A sound array is told by its wire tree as it is read back, where each of its nodes is written, its metadata fits its
-      -- message, of which the bytes can be counted, the types in it are known, and its statistics can be stored; and nothing
-      -- reads its topmost foreign nodes.
+      -- The wire tree of a sound array decodes to what is read back of it, where each of its nodes is written, its
+      -- metadata fits its message, whose bytes can be counted, the types in it are known, and its statistics can be
+      -- stored; and nothing reads its topmost foreign nodes.
       pub told_again : IsPaired s → (t : Tree) → IsSound t → IsUnread s t → IsWritten s t → HasMessages t → HasCountableMetadata c t → KnowsTypes s.ext t → HasStorableStats c t
           → DecodesTo c s (wire c s t) (label t).dtype (label t).len (canon c s t)
       told_again p t x u w m n k b = record {
@@ -126,30 +126,31 @@ module _ (c : Codec) (s : SessionMeaning) where
         normal = λ _. Canon.canon_normal (spelled c s) t x;
       }
 
-  -- A node whose children tell arrays where they are planned tells the array that is built of its parts, with
+  -- A node whose children decode to arrays where they are planned decodes to the array that is built of its parts, with
   -- the statistics that its field shows.
   pub node_decodes : IsLawful c s → (id : List ℕ) (e : Encoding) (w : WireHead) (ws : Wires) (d : Typ) (n : ℕ) (ps : List Place) (bs : List Buffer) (ts : Trees) (t u : Tree)
       → w.id ≡ Some id → s.reader id ≡ Some (shipped e) → PlansChildren c s.ext e d n w.metadata (count ws) ps → w.buffers ≡ all_present bs
       → HasChildren c s (node w ws) ps ts → HasParts c s.ext e d n w.metadata bs ts t → IsSound t → IsToldBy c d w.stats t u → DecodesTo c s (node w ws) d n u
   node_decodes law id e w ws d n ps bs ts t u i r p b k x y z = Built.node_decodes c s law id e w ws d n ps bs ts t u i (read_shipped (s.reader id) e id n r) p b k x y z
 
-  -- So does a node of primitives under two identifiers, whose identifier holds its length.
+  -- The same for a node of primitives under two identifiers, whose identifier holds its length.
   pub revised_decodes : IsLawful c s → (id : List ℕ) (w : WireHead) (ws : Wires) (d : Typ) (n : ℕ) (ps : List Place) (bs : List Buffer) (ts : Trees) (t u : Tree)
       → w.id ≡ Some id → s.reader id ≡ Some revised → IsTrue (revised_holds id n) → PlansChildren c s.ext E.primitive d n w.metadata (count ws) ps → w.buffers ≡ all_present bs
       → HasChildren c s (node w ws) ps ts → HasParts c s.ext E.primitive d n w.metadata bs ts t → IsSound t → IsToldBy c d w.stats t u → DecodesTo c s (node w ws) d n u
   revised_decodes law id w ws d n ps bs ts t u i r h p b k x y z = Built.node_decodes c s law id E.primitive w ws d n ps bs ts t u i (read_revised (s.reader id) id n r h) p b k x y z
 
-  -- A wire tree whose root nothing reads, under a session that allows such nodes, tells the array that is kept of it.
+  -- A wire tree whose root nothing reads, under a session that allows such nodes, decodes to the array that is kept of
+  -- it.
   pub kept_decodes : (id : List ℕ) (w : Wire) (d : Typ) (n : ℕ) (t : Tree) → (label w).id ≡ Some id → s.reader id ≡ None → IsTrue s.ext.unknown → IsKeptAs w d n t → DecodesTo c s w d n t
   kept_decodes id w d n t i r allowed k = Kept.kept_decodes c s id w d n t i r allowed k
 
--- An array that is its own canon, in which types are known, and that returns, is told as itself by what encodings and plugins
--- write of it, where the bytes of the metadata that is written can be counted.
+-- Take an array that is its own canon, in which types are known, and that returns. What encodings and plugins write of
+-- it decodes to it, where the bytes of the metadata that is written can be counted.
 pub returned : (c : Codec) (s : SessionMeaning) → IsLawful c s → IsPaired s → (n : ℕ) (t : Tree) → IsOwnCanon c s t → Returns c s n t → HasCountableMetadata c (taken s n t) → Matches c s (wire c s (taken s n t)) t
 returned c s law paired n t own r counted = PluginsAgain.returned c s law paired (own_spelling c s) n t (PluginsAgain.own_of c s law paired (own_spelling c s) t own) r counted
 
--- What is written of an array has at most one level more than the descent goes down, whatever plugins give; and where no
--- plugin writes, an array that is written within the levels is written as it is.
+-- What is written of an array has at most one level more than the descent goes down, whatever plugins give. Where no
+-- plugin writes, an array that is written within the levels is written unchanged.
 pub taken_within : (s : SessionMeaning) (n : ℕ) (t : Tree) → levels (taken s n t) ≤ n + 1
 taken_within s n t = TakenOwn.taken_within s n t
 
@@ -160,8 +161,8 @@ taken_own s ok n t k l = TakenOwn.taken_own s ok n t k l
 pub taken_written : (s : SessionMeaning) → IsShipped s → (n : ℕ) (t : Tree) → IsTaken s n t → levels (taken s n t) ≤ n → IsWritten s t
 taken_written s ok n t k l = TakenOwn.taken_written s ok n t k l
 
--- And where each of its nodes has a writer, or is such a foreign one, it is written as it is within the levels, and no node
--- is not written.
+-- And where each of its nodes has a writer, or is such a foreign one, it is written unchanged within the levels, and no
+-- node is left unwritten.
 pub taken_whole : (s : SessionMeaning) → IsShipped s → (n : ℕ) (t : Tree) → IsWritten s t → levels t ≤ n → taken s n t ≡ t
 taken_whole s ok n t w l = TakenOwn.taken_whole s ok n t w l
 
@@ -177,7 +178,7 @@ pub kept_node : (id : List ℕ) (w : WireHead) (ws : Wires) (d : Typ) (n : ℕ) 
     → AreKeptAs ws d n ts → let t : Tree = node (untold d n (B.foreign (record { id = id; metadata = metadata; buffers = bs }))) ts in IsSound t → IsKeptAs (node w ws) d n t
 kept_node id w ws d n metadata bs ts i m b k sound = Kept.kept_node id w ws d n metadata bs ts i m b k sound
 
--- One child more is kept, and then all of them.
+-- One child more is kept, and in the end all of them are.
 pub kept-snoc : (ws : List Wire) (d : Typ) (n : ℕ) (i : ℕ) (w : Wire) (us vs : Trees) (u : Tree) → i < length ws → AreKeptAs (roses_of (take i ws)) d n us → w ≡ get_or ws i w → IsKeptAs w d n u
     → roses_list vs ≡ roses_list us ++ u ∷ [] → AreKeptAs (roses_of (take (i + 1) ws)) d n vs
 kept-snoc ws d n i w us vs u h k f x e = Kept.kept-snoc ws d n i w us vs u h k f x e

@@ -1,4 +1,4 @@
--- Where a wire tree tells an array, no refusal has its cause.
+-- Where a wire tree decodes to an array, no cause of a refusal holds.
 use Rattle.std.proofs.Common.{ℕ, zero, suc, ◌≡◌, inl, inr, ◌⊎◌, Bool, false, IsTrue, List, [], ◌∷◌, Option, Some, None, refl, sym, ap, ◌∙◌, subst, slice_get}
 use Rattle.std.proofs.lemmas.Option.{same_Some, none-some}
 use Rattle.vx_buffer.specs.Buffer.{Buffer}
@@ -58,7 +58,7 @@ never_under : {L : Type 0} (F : L → Roses L → Type 0) (P : Rose L → Type 0
 never_under F P never [] t a h = never t (everywhere_here F t a) h
 never_under F P never (i ∷ path) t a h = never_under F P never path h.0 (below_get F (below t) i h.0 (everywhere_below F t a) h.1) h.2
 
--- What stands in a list of which nothing is missing may stand for it.
+-- The items of a list of which nothing is missing may stand for it.
 may_stand : (os : List (Option Buffer)) (bs : List Buffer) → os ≡ all_present bs → MayStandFor os bs
 may_stand [] [] e = refl
 may_stand [] (b ∷ bs) e = absurd (cc)
@@ -73,9 +73,9 @@ closed_open b e t = false_true (subst (λ z. IsTrue z) e t)
     false_true x = absurd (cc)
 
 module _ (c : Codec) (s : SessionMeaning) where
-  -- ---- what is told, node by node
+  -- ---- what is decoded, node by node
 
-  -- A matched node is read by an encoding, which may read so many rows, and is of it.
+  -- A matched node is read by an encoding, which may read n rows, and the array is of that encoding.
   pub record IsEncodedBy (e : Encoding) (w : Wire) (t : Tree) : Type 0 where
     pub by : IsOf s w e
     pub held : HoldsLength (s.reader by.id) by.id (label t).len
@@ -109,7 +109,7 @@ module _ (c : Codec) (s : SessionMeaning) where
       let same : a.id ≡ b.id = same_Some a.id b.id (sym a.id_is ∙ b.id_is) in
       same_Some e f (sym a.encoding_is ∙ ap (λ z. encoding_by (s.reader z)) same ∙ b.encoding_is)
 
-  -- Nothing is missing in what tells a foreign array.
+  -- Nothing is missing in a wire tree that matches a foreign array.
   raw_node : (w : Wire) (t : Tree) → IsRawNode (label w) (label t) → IsWholeNode (label w) (below w)
   raw_node w t x = record { id = x.kept.id; id_is = x.id; buffers = x.kept.buffers; buffers_are = x.buffers }
 
@@ -122,7 +122,7 @@ module _ (c : Codec) (s : SessionMeaning) where
     raw_whole_each (more w ws) end r = absurd r
     raw_whole_each (more w ws) (more t ts) r = (raw_whole w t r.0, raw_whole_each ws ts r.1)
 
-  -- Nothing is missing in what tells an array, whatever reads its nodes.
+  -- Nothing is missing in a wire tree that matches an array, whatever reads its nodes.
   whole_by : (r : Option Reader) (id : List ℕ) (w : WireHead) (ws : Wires) (t : Tree) → w.id ≡ Some id → IsNodeBy c s r w ws t (λ us. AllMatch c s ws us)
       → ((us : Trees) → AllMatch c s ws us → EverywhereBelow IsWholeNode ws) → IsWhole (node w ws)
   whole_by None id w ws t i m kids = raw_whole (node w ws) t m.1
@@ -149,7 +149,7 @@ module _ (c : Codec) (s : SessionMeaning) where
     pub node_told : (w : Wire) (t : Tree) → Matches c s w t → ((e : Encoding) × IsEncodedBy e w t) ⊎ IsForeignBy w t
     node_told (node w ws) t m = told_by (s.reader m.0) (ok.reads m.0) m.0 w ws t m.1 refl m.2
 
-    -- A told node that is read by an encoding is of it.
+    -- The array of a matched node that is read by an encoding is of it.
     pub encoded_told : (w : Wire) (t : Tree) (e : Encoding) → Matches c s w t → IsOf s w e → IsEncodedBy e w t
     encoded_told w t e m b = go (node_told w t m)
       where
@@ -157,7 +157,7 @@ module _ (c : Codec) (s : SessionMeaning) where
         go (inl x) = subst (λ (z : Encoding). IsEncodedBy z w t) (same_encoding w x.0 e x.1.by b) x.1
         go (inr f) = absurd (not_both w e f.by b)
 
-    -- A child of what is told, with the array that it tells.
+    -- A child of a matched node, with the array that it matches.
     pub record ChildTold (ts : Trees) (i : ℕ) (u : Wire) : Type 0 where
       pub told : Tree
       pub matched : Matches c s u told
@@ -171,7 +171,7 @@ module _ (c : Codec) (s : SessionMeaning) where
     child_told (more w ws) (more t ts) (suc i) u m e = let x = child_told ws ts i u m.1 e in record { told = x.told; matched = x.matched; child = x.child; place_is = x.place_is }
 
     module _ (law : IsLawful c s) where
-      -- ---- what a told node is read as
+      -- ---- what a matched node is read as
 
       value_is : (e : Encoding) (w : Wire) (h : Head) (ts : Trees) (v : Metadata) → IsEncodedBy e w (node h ts) → IsMetadata c s.ext e h.dtype (label w).metadata v → v ≡ metadata_in h ts
       value_is e w h ts v x m = one_metadata c s e (law.messages x.by.id e x.by.encoding_is) h.dtype h.dtype (label w).metadata v (metadata_in h ts) refl m x.told.metadata
@@ -190,7 +190,7 @@ module _ (c : Codec) (s : SessionMeaning) where
       planned_by (Some (shipped e)) q id w d n ps i r p = (e, record { id = id; id_is = i; encoding_is = ap (λ z. encoding_by z) r }, p)
       planned_by (Some revised) q id w d n ps i r p = (E.primitive, record { id = id; id_is = i; encoding_is = ap (λ z. encoding_by z) r }, p)
 
-      -- A told node of which children are planned is read by an encoding, and their places are planned.
+      -- A matched node with planned children is read by an encoding, and the places of the children are planned.
       pub record PlanTold (w : Wire) (h : Head) (ts : Trees) (ps : List Place) : Type 0 where
         pub encoding : Encoding
         pub told : IsEncodedBy encoding w (node h ts)
@@ -202,9 +202,9 @@ module _ (c : Codec) (s : SessionMeaning) where
           let x = encoded_told w (node h ts) z.0 m z.1 in
           record { encoding = z.0; told = x; places_are = same_Some ps (places ts) (sym z.2.plan ∙ plan_is z.0 w h ts z.2.value x y n z.2.metadata) }
 
-      -- ---- the placed nodes of what is told are told at their places
+      -- ---- placed nodes decode to arrays at their places
 
-      -- A placed child, with the array that it tells.
+      -- A placed child, with the array that it decodes to.
       pub record ChildDecodesTo (t : Tree) (i : ℕ) (v : Wire) (p : Place) : Type 0 where
         pub array : Tree
         pub decodes_to : DecodesTo c s v p.dtype p.len array
@@ -228,12 +228,12 @@ module _ (c : Codec) (s : SessionMeaning) where
             child = z.child;
           }
 
-      -- The child of what is told tells its array.
+      -- The child of a node that decodes to an array decodes to one itself.
       pub child_decodes : (w : Wire) (d : Typ) (n : ℕ) (t : Tree) (i : ℕ) (v : Wire) (p : Place) → DecodesTo c s w d n t → IsChild c s w d n i v p → ChildDecodesTo t i v p
       child_decodes w d n (node h ts) i v p x k =
           child_at w h ts i v p x.matched x.sound (x.normal ok) (subst (λ z. IsChild c s w z h.len i v p) (sym x.dtype) (subst (λ z. IsChild c s w d z i v p) (sym x.len) k))
 
-      -- A claim that never holds of what is told does not hold of a placed node below it.
+      -- A claim that never holds of a node that decodes to an array does not hold of a placed node below it.
       pub never_somewhere : (P : Claim) → ((w : Wire) (d : Typ) (n : ℕ) (t : Tree) → DecodesTo c s w d n t → P w d n → ⊥)
           → (path : List ℕ) (w : Wire) (d : Typ) (n : ℕ) (t : Tree) → DecodesTo c s w d n t → HoldsAt c s P path w d n → ⊥
       never_somewhere P never [] w d n t x h = never w d n t x h
@@ -262,7 +262,7 @@ module _ (c : Codec) (s : SessionMeaning) where
           go (inl z) = y.none (label t).stats (subst (λ (k : Typ). c.ShowsStats k (label w).stats (label t).stats) x.dtype z.1.told.stats)
           go (inr f) = none-some _ (same_reader (label w).id f.by.id y.by.id None (Some y.reader) f.by.id_is y.by.id_is f.by.reader_is y.by.reader_is)
 
-      -- The parts of a told node are of its encoding's shape.
+      -- The parts of a matched node are of its encoding's shape.
       shaped_told : (e : Encoding) (w : Wire) (h : Head) (ts : Trees) (v : Metadata) → IsEncodedBy e w (node h ts) → IsSoundNode h ts → IsNormalNode h ts → v ≡ metadata_in h ts
           → IsShaped e h.dtype h.len v (buffers_of h.body) (count (below w))
       shaped_told e w h ts v x y n q =
@@ -277,7 +277,7 @@ module _ (c : Codec) (s : SessionMeaning) where
                 (subst (λ (z : ℕ). Allows (encoding_of h.body) h.dtype (metadata_in h ts) z) k y.allows));
           }
 
-      -- Children that match sound and normal arrays at the planned places are the told array's.
+      -- Children that match sound and normal arrays at the planned places match the array's own children.
       children_told : (w : Wire) (ts us : Trees) (ps : List Place) → AllMatch c s (below w) ts → EverywhereBelow IsSoundNode ts → EverywhereBelow IsNormalNode ts → HasChildren c s w ps us → ps ≡ places ts → us ≡ ts
       children_told w ts us ps m y n k q = one_tree_each c s law ok (below w) us ts k.matched m k.sound y (k.normal ok) n (k.placed ∙ q)
 

@@ -24,8 +24,8 @@ told_dtype x (node h ts) = refl
 told_len : (x : Stats) (t : Tree) → (label (with_stats x t)).len ≡ (label t).len
 told_len x (node h ts) = refl
 
--- A node that a plugin reads tells the array that the plugin builds of its parts, with the statistics that its field shows,
--- where its children tell sound arrays that stand where the plugin plans them.
+-- A node that a plugin reads decodes to the array that the plugin builds of its parts, with the statistics that its
+-- field shows, where its children decode to sound arrays that stand where the plugin plans them.
 pub plugin_decodes : (c : Codec) (s : SessionMeaning) → HasLawfulStats c → (id : List ℕ) (p : PluginMeaning) (w : WireHead) (ws : Wires) (d : Typ) (n : ℕ) (ps : List Place) (bs : List Buffer) (ts : Trees) (t u : Tree)
     → w.id ≡ Some id → s.reader id ≡ Some (plugin p) → p.plan (head_at id w (count ws) d n) s.ext ≡ Some ps → w.buffers ≡ all_present bs
     → HasChildren c s (node w ws) ps ts → p.build (head_at id w (count ws) d n) bs ts s.ext ≡ Some t → IsSound t → IsToldBy c d w.stats t u → DecodesTo c s (node w ws) d n u

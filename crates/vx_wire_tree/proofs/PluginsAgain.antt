@@ -1,4 +1,4 @@
--- What encodings and plugins write of an array that returns is told as that array.
+-- What encodings and plugins write of an array that returns decodes to that array.
 use Rattle.std.proofs.Common.{ℕ, zero, suc, ◌≡◌, ◌<◌, ◌^◌, List, Option, Some, None, Bool, true, IsTrue, cond, refl, sym, ap, ◌∙◌, subst, length}
 use Rattle.std.proofs.lemmas.List.{length-map}
 use Rattle.vx_trees.specs.Rose.{node, end, more, label, count}
@@ -37,15 +37,15 @@ use Rattle.vx_wire_tree.proofs.TakenPlaces.{places_taken}
 use Rattle.vx_wire_tree.proofs.ReadAgain.{meant_told, own_bytes}
 use Rattle.vx_wire_tree.proofs.TwoIdentifiers.{holds_own, native_under, revised_under, read_shipped, read_revised, node_by}
 
--- What is said of an array down to what plugins write: it is sound and normal, its statistics are kept, and the types in it
--- are known.
+-- What is said of an array down to what plugins write: it is sound and normal, its statistics are kept, and the types
+-- in it are known.
 pub record IsOwn (s : SessionMeaning) (t : Tree) : Type 0 where
   pub sound : IsSound t
   pub normal : IsNormal t
   pub kept : KeepsStats t
   pub known : KnowsTypes s.ext t
 
--- The same of several arrays.
+-- The same for several arrays.
 record AreOwn (s : SessionMeaning) (ts : Trees) : Type 0 where
   sound : EverywhereBelow IsSoundNode ts
   normal : EverywhereBelow IsNormalNode ts
@@ -56,7 +56,7 @@ own_below : (s : SessionMeaning) (h : Head) (ts : Trees) → IsOwn s (node h ts)
 own_below s h ts x = record { sound = x.sound.1; normal = x.normal.1; kept = x.kept.1; known = x.known.1 }
 
 module _ (c : Codec) (s : SessionMeaning) (law : IsLawful c s) (paired : IsPaired s) where
-  -- An array that is its own canon is so.
+  -- This holds of an array that is its own canon.
   pub own_of : (spells : Canon.SpellsOwn (spelled c s)) (t : Tree) → IsOwnCanon c s t → IsOwn s t
   own_of spells t x = record {
     sound = x.sound;
@@ -68,8 +68,8 @@ module _ (c : Codec) (s : SessionMeaning) (law : IsLawful c s) (paired : IsPaire
   own_stats : (d : Typ) (x : Stats) → FitStats d x → c.IsStorable x → written_stats x ≡ x → c.ShowsStats d (c.stats_field x) x
   own_stats d x f k w = subst (λ (z : Stats). c.ShowsStats d (c.stats_field x) z) w (law.stats.stats_again d x f k)
 
-  -- The wire tree of a node over what its children are written as, as it matches. Children are written at their own types
-  -- and lengths.
+  -- The wire tree of a node over what its children are written as, and that it matches. Children are written at their
+  -- own types and lengths.
   abbrev Told : Head → Trees → Tree → Type 0
   Told g us t = Matches c s (node (wire_head c s g us) (wires c s us)) t
 
@@ -123,7 +123,7 @@ module _ (c : Codec) (s : SessionMeaning) (law : IsLawful c s) (paired : IsPaire
   same_encoding : (e f : Encoding) → s.writer (id_of e) ≡ Some (shipped f) → e ≡ f
   same_encoding e f w = distinct_ids e f (paired.own_identifier (id_of e) f w)
 
-  -- What primitives are written under is read as primitives, where it is read by what wrote it.
+  -- The identifier under which primitives are written is read as primitives, where it is read by what wrote it.
   revised_told : (h : Head) → IsNative h.body → s.writer (id_of (encoding_of h.body)) ≡ Some revised → s.reader (written_id s h) ≡ Some revised
       → IsReadAs (s.reader (written_id s h)) (encoding_of h.body) (written_id s h) h.len
   revised_told h native w r =
@@ -133,8 +133,8 @@ module _ (c : Codec) (s : SessionMeaning) (law : IsLawful c s) (paired : IsPaire
       let held : IsTrue (revised_holds (written_id s h) h.len) = subst (λ (id : List ℕ). IsTrue (revised_holds id h.len)) (sym under) (holds_own h.len) in
       subst (λ (e : Encoding). IsReadAs (s.reader (written_id s h)) e (written_id s h) h.len) (sym own) (read_revised (s.reader (written_id s h)) (written_id s h) h.len r held)
 
-  -- What a step is told as, where a function makes of each array below what is written of it, and the bytes of metadata can
-  -- be counted.
+  -- What a step matches, where a function gives what is written of each array below, and the bytes of metadata can be
+  -- counted.
   abbrev Counted : Head → Trees → Type 0
   Counted g us = HasCountableMetadata c (node g us)
 
@@ -177,7 +177,7 @@ module _ (c : Codec) (s : SessionMeaning) (law : IsLawful c s) (paired : IsPaire
   each_count n end = refl
   each_count n (more u us) = ap (λ k. suc k) (each_count n us)
 
-  -- What is said of each array down to so many levels.
+  -- What is said of each array down to n levels.
   abbrev IsReturned : ℕ → Type 0
   IsReturned n = (t : Tree) → IsOwn s t → Returns c s n t → HasCountableMetadata c (taken s n t) → Matches c s (wire c s (taken s n t)) t
 
@@ -196,7 +196,7 @@ module _ (c : Codec) (s : SessionMeaning) (law : IsLawful c s) (paired : IsPaire
       let r = all_given spells n ih us k.1 counted.1 in
       ((ih u (own_of spells u k.0.0) k.0.1 counted.0, r.0), (k.0.0.sound, r.1))
 
-  -- An array that returns is told by what is written of it, where the bytes of the metadata can be counted.
+  -- What is written of an array that returns decodes to it, where the bytes of the metadata can be counted.
   pub returned : (spells : Canon.SpellsOwn (spelled c s)) (n : ℕ) → IsReturned n
   returned spells zero t x r counted = absurd r
   returned spells (suc n) (node h ts) x r counted =

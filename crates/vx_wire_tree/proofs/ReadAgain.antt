@@ -43,13 +43,13 @@ nullable_again : (n : Nullability) → nullable_if (is_nullable n) ≡ n
 nullable_again Nullable = refl
 nullable_again NonNullable = refl
 
--- No encoding that is known admits a foreign node's metadata.
+-- No known encoding admits a foreign node's metadata.
 never_foreign : (e : Encoding) (x : Foreigns.Metadata) → IsNativeEncoding e → IsFair e (M.foreign x) → ⊥
 never_foreign E.foreign x k f = k
 never_foreign _ x k f = f
 
--- The message that is written of metadata that such an encoding admits means it, at any type, and its bytes are
--- the message's.
+-- The message that is written of metadata that such an encoding admits means that metadata, at any type, and its bytes
+-- are the message's.
 pub meant_told : (e : Encoding) (d : Typ) (v : Metadata) → IsNativeEncoding e → IsFair e v → meant d (told v) ≡ v
 meant_told e d (M.foreign x) k f = absurd (never_foreign e x k f)
 meant_told e d (M.dict x) k f = ap (λ (n : Nullability). M.dict (record { values_len = x.values_len; codes_ptype = x.codes_ptype; nullable_codes = n; all_values_referenced = x.all_values_referenced })) (nullable_again x.nullable_codes)
@@ -61,7 +61,7 @@ own_bytes c e _ k f = refl
 
 module _ (c : Codec) (s : SessionMeaning) where
   mutual
-    -- A foreign array is told by what is spelled of an array, whatever it is.
+    -- What is spelled of an array, whatever it is, matches the foreign array of it.
     pub raw_again : (d : Typ) (n : ℕ) (t : Tree) → IsRaw (wire c s t) (as_foreign (spelled c s) d n t)
     raw_again d n (node h ts) = (record { kept = spelled c s h ts; body = refl; id = refl; metadata = refl; buffers = refl }, raw_again_each d n ts)
 
@@ -117,8 +117,8 @@ module _ (c : Codec) (s : SessionMeaning) where
         (written_id s h, refl, subst (λ z. IsNodeBy c s z (wire_head c s h ts) (wires c s ts) t (λ us. AllMatch c s (wires c s ts) us)) (sym r) (k.allowed, raw_again d h.len (node h ts)))
 
     mutual
-      -- A sound array that can be read back matches its wire tree as it is read back, at its own type or at one
-      -- that differs by nullability.
+      -- A sound array that can be read back: what is read back matches its wire tree, at its own type or at one that
+      -- differs by nullability.
       pub canon_matches : (d : Typ) (t : Tree) → IsSound t → ReadsBack c s t → IsRetyped (label t).dtype d → Matches c s (wire c s t) (canon_at (spelled c s) d t)
       canon_matches d (node h ts) x b r =
           by_node (spelled c s) (λ u. Matches c s (wire c s (node h ts)) u) d h ts
@@ -150,7 +150,7 @@ read_by_revised (Some revised) ok b = refl
 read_by_revised (Some (shipped f)) ok b = absurd b
 
 module _ (c : Codec) (s : SessionMeaning) (ok : IsShipped s) (paired : IsPaired s) where
-  -- What nodes of an encoding are written under is read by it.
+  -- The identifier under which nodes of an encoding are written is read by it.
   abbrev ReadsAs : Encoding → ℕ → Type 0
   ReadsAs e n = IsReadAs (s.reader (id_under (writes_two s) e n)) e (id_under (writes_two s) e n) n
 

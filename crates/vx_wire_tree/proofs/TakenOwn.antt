@@ -1,4 +1,4 @@
--- An array as it is written: how many levels it has, and that it is itself, and has writers, where no plugin writes.
+-- An array as it is written: how many levels it has, and that it is unchanged, and has writers, where no plugin writes.
 use Rattle.std.proofs.Common.{ℕ, zero, suc, ◌≡◌, ◌+◌, ◌≤◌, inl, inr, Option, Some, None, Bool, true, false, refl, sym, ap, ◌∙◌, subst, arith}
 use Rattle.vx_trees.specs.Everywhere.{EverywhereBelow}
 use Rattle.vx_trees.specs.Rose.{node, end, more}
@@ -33,7 +33,7 @@ module _ (s : SessionMeaning) where
     foreign_own true h ts w = refl
     foreign_own false h ts w = absurd w
 
-    -- A node that is written is written as it is.
+    -- A node that is written is written unchanged.
     step_own : (b : Body) (h : Head) (ts : Trees) → IsWrittenStep (step_by s b h ts) → step_by s b h ts ≡ written h ts
     step_own b h ts w =
         elim (native_or b) [
@@ -52,7 +52,7 @@ module _ (s : SessionMeaning) where
         let b = each_own n ih us k.1 (omega (arith, l)) in
         λ i. more (a i) (b i)
 
-    -- An array that is written, within the levels, is written as it is.
+    -- An array that is written, within the levels, is written unchanged.
     pub taken_own : (n : ℕ) (t : Tree) → IsTaken s n t → levels (taken s n t) ≤ n → taken s n t ≡ t
     taken_own zero (node h ts) k l = absurd (omega (arith, l))
     taken_own (suc n) (node h ts) k l =
@@ -142,7 +142,7 @@ module _ (s : SessionMeaning) where
         let b = each_whole n ih us w.1 (omega (arith, l)) in
         λ i. more (a i) (b i)
 
-    -- It is written as it is, within the levels.
+    -- It is written unchanged, within the levels.
     pub taken_whole : (n : ℕ) (t : Tree) → IsWritten s t → levels t ≤ n → taken s n t ≡ t
     taken_whole zero (node h ts) w l = absurd (omega (arith, l))
     taken_whole (suc n) (node h ts) w l =

@@ -1,4 +1,4 @@
--- What is written of an array stands where the array does.
+-- The places of what is written of an array are those of the array.
 use Rattle.std.proofs.Common.{ℕ, zero, suc, ◌≡◌, Option, Some, None, Bool, true, false, ◌∷◌, refl}
 use Rattle.std.specs.Prelude.{if◌then◌else◌}
 use Rattle.vx_trees.specs.Rose.{node, end, more, label}
@@ -11,7 +11,7 @@ use Rattle.vx_wire_tree.specs.Plugin.{PluginMeaning, Parts, Answer, none, refuse
 use Rattle.vx_wire_tree.specs.Session.{SessionMeaning, Reader, shipped, revised, plugin}
 use Rattle.vx_wire_tree.specs.Taken.{written, unwritten, undeclared, given_head, foreign_step, plugin_step, writer_step, step_by, step_head, each, taken}
 
--- Where a node stands.
+-- The place of a node.
 abbrev at : Head → Place
 at h = place h.dtype h.len
 

@@ -23,7 +23,7 @@ held_by : (n : ℕ) (b : Bool) → nat_le n 4 ≡ b → IsTrue (revised_holds (i
 held_by n true q = q
 held_by n false q = refl
 
--- The identifier of so many rows holds them.
+-- The identifier of n rows holds them.
 pub holds_own : (n : ℕ) → IsTrue (revised_holds (revised_id n) n)
 holds_own n = held_by n (nat_le n 4) refl
 
@@ -31,7 +31,7 @@ either_way : (b : Bool) (x : List ℕ) → (if b then x else x) ≡ x
 either_way true x = refl
 either_way false x = refl
 
--- What a node of a known encoding is written under goes by its encoding and its length.
+-- The identifier under which a node of a known encoding is written depends on its encoding and its length.
 pub native_under : (two : Bool) (b : Body) (n : ℕ) → IsNative b → body_id two b n ≡ id_under two (encoding_of b) n
 native_under two (B.foreign x) n k = absurd k
 native_under two _ n k = refl
@@ -59,7 +59,7 @@ module _ (s : SessionMeaning) where
 
 -- ---- reading by an encoding
 
--- What reads by an encoding reads a node of it as such, where it may read so many rows.
+-- A reader by an encoding reads a node of it as such, where it may read n rows.
 pub read_shipped : (r : Option Reader) (e : Encoding) (id : List ℕ) (n : ℕ) → r ≡ Some (shipped e) → IsReadAs r e id n
 read_shipped r e id n q = subst (λ z. IsReadAs z e id n) (sym q) (record { encoding = refl; held = tt })
 

@@ -1,4 +1,4 @@
--- A wire tree tells at most one sound and normal array of a type and a length.
+-- A wire tree decodes to at most one sound and normal array of a type and a length.
 use Rattle.std.proofs.Common.{ℕ, suc, ◌≡◌, List, [], ◌∷◌, Option, Some, None, refl, sym, ap, ◌∙◌, subst}
 use Rattle.vx_trees.specs.Rose.{node, end, more, label, count}
 use Rattle.vx_trees.specs.Everywhere.{EverywhereBelow}
@@ -21,7 +21,7 @@ use Rattle.vx_wire_tree.specs.Reads.{IsMetadata}
 use Rattle.vx_wire_tree.specs.Session.{SessionMeaning, Reader, shipped, revised, plugin, encoding_by, IsShippedReader, IsShipped}
 use Rattle.vx_wire_tree.specs.Wire.{WireHead, Wire, Wires, all_present}
 
--- A list of which nothing is missing is given back by what stands in it.
+-- A list of which nothing is missing determines its items.
 pub all_present_inj : {A : Type 0} (xs ys : List A) → all_present xs ≡ all_present ys → xs ≡ ys
 all_present_inj [] [] e = refl
 all_present_inj [] (y ∷ ys) e = absurd (cc)
@@ -31,7 +31,7 @@ all_present_inj (x ∷ xs) (y ∷ ys) e =
     let b : all_present xs ≡ all_present ys = cc in
     λ i. a i ∷ all_present_inj xs ys b i
 
--- The first of equal lists of places.
+-- Equal lists of places have equal first places.
 same_place : (t u : Tree) (ts us : Trees) → places (more t ts) ≡ places (more u us)
     → ((label t).dtype ≡ (label u).dtype) × ((label t).len ≡ (label u).len) × (places ts ≡ places us)
 same_place t u ts us e =
@@ -46,14 +46,14 @@ module _ (c : Codec) (s : SessionMeaning) where
   all_count (more w ws) end m = absurd m
   all_count (more w ws) (more t ts) m = ap (λ n. suc n) (all_count ws ts m.1)
 
-  -- Bytes are one metadata at most, at a type.
+  -- Bytes are at most one metadata, at a type.
   pub one_metadata : (e : Encoding) → IsLawfulAt c e → (d f : Typ) (bytes : List ℕ) (v u : Metadata) → d ≡ f → IsMetadata c s.ext e d bytes v → IsMetadata c s.ext e f bytes u → v ≡ u
   one_metadata e law d f bytes v u p a b =
       let x = law.one_message bytes a.fields b.fields a.shown b.shown in
       sym a.meaning ∙ (λ i. meant (p i) (x i)) ∙ b.meaning
 
-  -- Two nodes of one encoding that match one wire node are equal, if their children are wherever they stand
-  -- at equal places.
+  -- Two nodes of one encoding that match one wire node are equal, if their children are equal wherever they stand at
+  -- equal places.
   encoded_unique : (e : Encoding) → IsLawfulAt c e → HasLawfulStats c → (w : WireHead) (h g : Head) (ts us : Trees) (Below : Trees → Type 0)
       → IsEncodedNode c s e w (node h ts) Below → IsEncodedNode c s e w (node g us) Below
       → IsSoundNode h ts → IsSoundNode g us → IsNormalNode h ts → IsNormalNode g us → h.dtype ≡ g.dtype → h.len ≡ g.len
@@ -76,7 +76,7 @@ module _ (c : Codec) (s : SessionMeaning) where
     same_id : (o : Option (List ℕ)) (i j : List ℕ) → o ≡ Some i → o ≡ Some j → i ≡ j
     same_id o i j p q = cc
 
-    -- Two foreign nodes that keep what stands on one wire node keep the same.
+    -- Two foreign nodes that keep what stands on one wire node are equal in what they keep.
     same_kept : (w : WireHead) (h g : Head) → (x : IsRawNode w h) (y : IsRawNode w g) → x.kept ≡ y.kept
     same_kept w h g x y =
         let a = same_id w.id x.kept.id y.kept.id x.id y.id in

@@ -33,7 +33,7 @@ LacksBuffer w = (i : ℕ) × (slice_get (label w).buffers i ≡ Some None)
 
 -- ---- placed nodes, by what reads them
 
--- A node's identifier is there, and this is what reads it.
+-- A node's identifier is there, and this reads it, or nothing does.
 pub record IsReadBy (s : SessionMeaning) (w : Wire) (r : Option Reader) : Type 0 where
   pub id : List ℕ
   pub id_is : (label w).id ≡ Some id
@@ -53,32 +53,34 @@ pub record IsUnknownNode (s : SessionMeaning) (w : Wire) : Type 0 where
 abbrev pub IsUnregistered : SessionMeaning → Claim
 IsUnregistered s w d n = IsUnknownNode s w
 
--- A node's metadata is none that its encoding reads.
+-- A node's metadata is none of its encoding's.
 pub record HasBadMetadata (c : Codec) (s : SessionMeaning) (w : Wire) (d : Typ) (n : ℕ) : Type 0 where
   pub encoding : Encoding
   pub by : IsOf s w encoding
   pub none : HasNoMetadata c s.ext encoding d (label w).metadata
 
--- These buffers may stand for a node's: each that is there is its own, and any stands for one that is missing.
+-- These buffers may stand for a node's: each that is there is its own, and any buffer may stand for one that is
+-- missing.
 abbrev pub MayStandFor : List (Option Buffer) → List Buffer → Type 0
 MayStandFor [] bs = bs ≡ []
 MayStandFor (o ∷ os) [] = ⊥
 MayStandFor (Some b ∷ os) (x ∷ xs) = (x ≡ b) × MayStandFor os xs
 MayStandFor (None ∷ os) (x ∷ xs) = MayStandFor os xs
 
--- Wire trees match sound arrays one by one, which stand at these places. The arrays are normal, where no plugin reads or
--- writes.
+-- Wire trees match sound arrays one by one, which stand at these places. The arrays are normal, where no plugin reads
+-- or writes.
 pub record AllTell (c : Codec) (s : SessionMeaning) (ws : Wires) (ps : List Place) (ts : Trees) : Type 0 where
   pub matched : AllMatch c s ws ts
   pub sound : EverywhereBelow IsSoundNode ts
   pub normal : IsShipped s → EverywhereBelow IsNormalNode ts
   pub placed : places ts ≡ ps
 
--- So it is with a node's children.
+-- The same for a node's children.
 abbrev pub HasChildren : Codec → SessionMeaning → Wire → List Place → Trees → Type 0
 HasChildren c s w ps ts = AllTell c s (below w) ps ts
 
--- A node's children match sound arrays where they are planned, and these are of encodings that may not stand below it.
+-- A node's children match sound arrays at the planned places, and these are of encodings that may not stand below the
+-- node.
 pub record HasOtherChildren (c : Codec) (s : SessionMeaning) (e : Encoding) (v : Metadata) (w : Wire) (d : Typ) (n : ℕ) : Type 0 where
   pub places_are : List Place
   pub plan : plan_of e d n v (count (below w)) ≡ Some places_are
@@ -86,15 +88,15 @@ pub record HasOtherChildren (c : Codec) (s : SessionMeaning) (e : Encoding) (v :
   pub matched : HasChildren c s w places_are children
   pub untaken : Takes e (encodings children) → ⊥
 
--- Primitives under two identifiers read a node, and its identifier does not hold so many rows.
+-- Primitives under two identifiers read a node, and its identifier does not hold n rows.
 pub record IsPastLength (s : SessionMeaning) (w : Wire) (n : ℕ) : Type 0 where
   pub by : IsReadBy s w (Some revised)
   pub past : IsFalse (revised_holds by.id n)
 
--- The parts of a node whose metadata is read break its encoding's row: nothing is planned for such a type
--- and so many children; what is planned may not stand, or the buffers are wrong, by their number or by one
--- that is there, whatever stands for those that are missing; its children are of encodings that may not stand
--- below it; or its identifier does not hold its length.
+-- The parts of a node whose metadata is read break its encoding's row: nothing is planned for its type and its number
+-- of children; what is planned may not stand, or the buffers are wrong, by their number or by one that is there,
+-- whatever stands for those that are missing; its children are of encodings that may not stand below it; or its
+-- identifier does not hold its length.
 abbrev pub IsBroken : Codec → SessionMeaning → Encoding → Metadata → Claim
 IsBroken c s e v w d n =
     (plan_of e d n v (count (below w)) ≡ None)
@@ -110,8 +112,8 @@ pub record HasBadShape (c : Codec) (s : SessionMeaning) (w : Wire) (d : Typ) (n 
   pub metadata : IsMetadata c s.ext encoding d (label w).metadata value
   pub broken : IsBroken c s encoding value w d n
 
--- A node's metadata is read, its children match sound arrays, and one that says where the node's rows are holds
--- a foreign node, or the entries of a map are one.
+-- A node's metadata is read, its children match sound arrays, and a child that says where the node's rows are holds a
+-- foreign node, or the entries of a map are one.
 pub record HasForeignControl (c : Codec) (s : SessionMeaning) (w : Wire) (d : Typ) (n : ℕ) : Type 0 where
   pub encoding : Encoding
   pub by : IsOf s w encoding
@@ -123,8 +125,8 @@ pub record HasForeignControl (c : Codec) (s : SessionMeaning) (w : Wire) (d : Ty
   pub matched : HasChildren c s w places_are children
   pub foreign : IsControlledBy encoding d children → ⊥
 
--- A node's parts are right, its children match sound arrays, it is known where its rows are, and its content is
--- broken over them.
+-- A node's parts are right, its children match sound arrays, it is known where its rows are, and its content over them
+-- is broken.
 pub record HasBadContent (c : Codec) (s : SessionMeaning) (w : Wire) (d : Typ) (n : ℕ) : Type 0 where
   pub encoding : Encoding
   pub by : IsOf s w encoding
@@ -152,8 +154,8 @@ pub record RefusesHead (s : SessionMeaning) (p : PluginMeaning) (w : Wire) (d : 
   pub id_is : (label w).id ≡ Some id
   pub none : p.plan (head_at id (label w) (count (below w)) d n) s.ext ≡ None
 
--- It refuses the node's parts: sound arrays that match the children stand where it plans them, and of them, of the head
--- and of the buffers it builds nothing.
+-- The plugin refuses the node's parts: sound arrays that match the children stand where it plans them, and it builds
+-- nothing of them, of the head and of the buffers.
 pub record RefusesParts (c : Codec) (s : SessionMeaning) (p : PluginMeaning) (w : Wire) (d : Typ) (n : ℕ) : Type 0 where
   pub id : List ℕ
   pub id_is : (label w).id ≡ Some id
@@ -185,8 +187,8 @@ pub data Refusal : Type 0 where
   bad_stats : Refusal
   plugin_refused : Refusal
 
--- Why a wire tree tells no array at a type and a length, by the refusal. An identifier or a buffer may be
--- missing at any node, placed or not; all else is said of placed nodes.
+-- Why a wire tree decodes to no array at a type and a length, by the refusal. An identifier or a buffer may be missing
+-- at any node, placed or not; all else is said of placed nodes.
 abbrev pub RefusesTree : Refusal → Codec → SessionMeaning → Wire → Typ → ℕ → Type 0
 RefusesTree out_of_bounds c s w d n = Anywhere LacksBuffer w
 RefusesTree unknown_index c s w d n = Anywhere LacksId w

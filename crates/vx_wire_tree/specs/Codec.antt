@@ -1,6 +1,6 @@
--- The messages of metadata and the tables of statistics, as far as trees look at them: which bytes show a
--- message, which field shows a set, and what is written. The crates of the messages and of the tables say which
--- they are.
+-- The messages of metadata and the tables of statistics, as far as the definitions of trees need them: which bytes show
+-- a message, which field shows a set, and what is written. The crates of the messages and of the tables give this
+-- record its values, so these definitions depend on neither.
 use Rattle.std.specs.Prelude.{ℕ, ◌≡◌, ◌<◌, ◌^◌, List, Some, length}
 use Rattle.vx_flat.specs.Value.{Field}
 use Rattle.vx_types.specs.Typ.{Typ}
@@ -21,16 +21,15 @@ pub record Codec : Type 1 where
   pub stats_field : Stats → Field
   pub IsStorable : Stats → Type 0
 
--- The messages of the metadata of an encoding that is known: bytes show one at most, and what is written of
+-- The messages of a known encoding's metadata are lawful: bytes show one message at most, and what is written of
 -- metadata shows it, where its bytes can be counted in 64 bits.
 pub record IsLawfulAt (c : Codec) (e : Encoding) : Type 0 where
   pub native : IsNativeEncoding e
   pub one_message : (bytes : List ℕ) (f g : Fields) → c.Shows e bytes f → c.Shows e bytes g → f ≡ g
   pub message_again : (v : Metadata) → IsFair e v → FitsMessage v → length (c.fields_bytes (told v)) < 2 ^ 64 → c.Shows e (c.fields_bytes (told v)) (told v)
 
--- The tables of statistics: a field shows one set at most, which fits; that of a set which fits and can be
--- stored shows what is written of the set, which can be stored and is written alike. The set of none can be
--- stored.
+-- The tables of statistics are lawful: a field shows one set at most, which fits. The field of a set that fits and can
+-- be stored shows what is written of the set, which can be stored and is written alike. The empty set can be stored.
 pub record HasLawfulStats (c : Codec) : Type 0 where
   pub one_set : (d : Typ) (f : Field) (x y : Stats) → c.ShowsStats d f x → c.ShowsStats d f y → x ≡ y
   pub shown_fit : (d : Typ) (f : Field) (x : Stats) → c.ShowsStats d f x → FitStats d x
@@ -39,7 +38,7 @@ pub record HasLawfulStats (c : Codec) : Type 0 where
   pub written_alike : (x : Stats) → c.stats_field (written_stats x) ≡ c.stats_field x
   pub none_storable : c.IsStorable no_stats
 
--- The bytes that are written of a message; those that are kept as they are stay so.
+-- The bytes that are written of a message; a foreign node's bytes are written unchanged.
 abbrev pub metadata_bytes : Codec → Fields → List ℕ
 metadata_bytes c (raw bytes) = bytes
 metadata_bytes c f = c.fields_bytes f

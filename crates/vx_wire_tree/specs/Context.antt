@@ -1,4 +1,4 @@
--- The numbered identifiers of a write: how they grow.
+-- The numbered identifiers of a write, and how they grow.
 use Rattle.std.specs.Prelude.{ℕ, suc, List, [], ◌∷◌, ◌++◌, Option, Some, None, Bool, true, ◌&&◌, bytes_eq, nat_lt, if◌then◌else◌}
 use Rattle.std.specs.List.{list_any}
 use Rattle.vx_array_tree.specs.Tree.{Tree}
@@ -7,13 +7,13 @@ use Rattle.vx_wire_tree.specs.Session.{SessionMeaning}
 use Rattle.vx_wire_tree.specs.Wire.{ids_in}
 use Rattle.vx_wire_tree.specs.Written.{wire}
 
--- A context is a list of identifiers, each numbered by its place; where they are limited, also a list of
--- those that may come.
+-- A context is a list of identifiers, each numbered by its place, and, where new ones are limited, a list of those that
+-- are allowed.
 pub record Context : Type 0 where
   pub ids : List (List ℕ)
   pub allowed : Option (List (List ℕ))
 
--- The first place of an identifier in a list; past the end where it is not there.
+-- The first place of an identifier in a list; past the end where the list does not have it.
 abbrev pub index_of : List ℕ → List (List ℕ) → ℕ
 index_of id [] = 0
 index_of id (other ∷ ids) = if bytes_eq id other then 0 else suc (index_of id ids)
@@ -31,20 +31,20 @@ abbrev pub with_ids : List (List ℕ) → List (List ℕ) → List (List ℕ)
 with_ids ids [] = ids
 with_ids ids (id ∷ others) = with_ids (with_id id ids) others
 
--- An identifier may come where they are not limited, or where it is one of those that may.
+-- An identifier is allowed where they are not limited, or where it is in the list of those that are.
 abbrev pub is_allowed : Option (List (List ℕ)) → List ℕ → Bool
 is_allowed None id = true
 is_allowed (Some ids) id = is_among id ids
 
--- The context with an identifier, which goes last where it is new: none where it may not come, or where its
--- place is not below 65,536.
+-- The context with an identifier, which goes last where it is new: none where the identifier is not allowed, or where
+-- its place is not below 65,536.
 abbrev pub interned : List ℕ → Context → Option Context
 interned id ctx =
     if is_allowed ctx.allowed id && nat_lt (index_of id ctx.ids) 65536
     then Some (record { ids = with_id id ctx.ids; allowed = ctx.allowed })
     else None
 
--- What a step makes of a context, where there is one.
+-- The context that a step makes of another, where there is one.
 abbrev pub stepped : Option Context → (Context → Option Context) → Option Context
 stepped None step = None
 stepped (Some ctx) step = step ctx

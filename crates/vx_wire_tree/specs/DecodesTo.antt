@@ -1,4 +1,4 @@
--- The array that a wire tree tells at a type and a length.
+-- The array that a wire tree decodes to at a type and a length.
 use Rattle.std.specs.Prelude.{ℕ, ◌≡◌}
 use Rattle.vx_trees.specs.Rose.{label}
 use Rattle.vx_types.specs.Typ.{Typ}
@@ -10,8 +10,8 @@ use Rattle.vx_wire_tree.specs.Matches.{Matches}
 use Rattle.vx_wire_tree.specs.Session.{SessionMeaning, IsShipped}
 use Rattle.vx_wire_tree.specs.Wire.{Wire}
 
--- The array matches the wire tree, is sound, and is of this type and length. It is normal, where no plugin reads or writes:
--- plugins may build what they like.
+-- The array matches the wire tree, is sound, and is of this type and length. It is normal, where no plugin reads or
+-- writes: plugins may build any array.
 pub record DecodesTo (c : Codec) (s : SessionMeaning) (w : Wire) (d : Typ) (n : ℕ) (t : Tree) : Type 0 where
   pub matched : Matches c s w t
   pub dtype : (label t).dtype ≡ d

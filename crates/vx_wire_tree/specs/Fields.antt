@@ -10,16 +10,15 @@ use Rattle.vx_numbers.specs.declared.decimal_type.DecimalType.{DecimalType}
 use Rattle.vx_array_tree.specs.Metadata.{Metadata}
 use Rattle.vx_array_tree.specs.Metadata as M
 
--- A dictionary's message: how many values there are, the kind of the codes, and two flags, each of which may
--- be absent.
+-- A dictionary's message: the number of values, the kind of the codes, and two flags, each of which may be absent.
 pub record DictFields : Type 0 where
   pub values_len : ℕ
   pub codes_ptype : PType
   pub is_nullable_codes : Option Bool
   pub all_values_referenced : Option Bool
 
--- One message for each encoding that keeps something, and none for the others; the metadata of a foreign node
--- is bytes, whatever they show. A type in a message is one that the message shows.
+-- One message for each encoding that has metadata, and an empty one for the others; the metadata of a foreign node is
+-- bytes, whatever they show. A type in a message is one that the message shows.
 pub data Fields : Type 0 where
   empty : Fields
   bool : ℕ → Fields
@@ -45,8 +44,8 @@ abbrev pub codes_nullability : Typ → Option Bool → Nullability
 codes_nullability d (Some b) = nullable_if b
 codes_nullability d None = nullability d
 
--- What a message means as metadata of a node of a type. A dictionary's second flag is false where it is
--- absent. (Bytes that are kept as they are mean nothing.)
+-- What a message means as metadata of a node of a type. A dictionary's second flag is false where it is absent. A
+-- foreign node's bytes have no meaning.
 abbrev pub meant : Typ → Fields → Metadata
 meant d empty = M.empty
 meant d (raw bytes) = M.empty
@@ -63,8 +62,7 @@ meant d (dict f) = M.dict (record {
   all_values_referenced = unwrap_or f.all_values_referenced false;
 })
 
--- The message that is written of metadata: in a dictionary's both flags stand. A foreign node's bytes are
--- written as they are.
+-- The message that is written of metadata. A dictionary's has both flags. A foreign node's bytes are written unchanged.
 abbrev pub told : Metadata → Fields
 told M.empty = empty
 told (M.bool offset) = bool offset
@@ -81,8 +79,8 @@ told (M.dict v) = dict (record {
 })
 told (M.foreign v) = raw v.bytes
 
--- Metadata fits a message: values are counted in 32 bits, elements in 64 (as each length of an array in
--- memory is), and a shredded type has at most 49 levels.
+-- Metadata fits a message: values are counted in 32 bits, elements in 64 (as the length of each array in memory is),
+-- and a shredded type has at most 49 levels.
 abbrev pub FitsMessage : Metadata → Type 0
 FitsMessage (M.list v) = v.elements_len < 2 ^ 64
 FitsMessage (M.listview v) = v.elements_len < 2 ^ 64

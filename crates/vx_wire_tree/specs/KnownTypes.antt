@@ -16,6 +16,6 @@ IsKnownIn x _ = Unit {0}
 abbrev pub KnowsNode : ExtMeaning → Head → Trees → Type 0
 KnowsNode x h ts = IsKnownIn x (metadata_in h ts)
 
--- Those of each node of an array are.
+-- The types in the metadata of each node of an array are known.
 abbrev pub KnowsTypes : ExtMeaning → Tree → Type 0
 KnowsTypes x = Everywhere (KnowsNode x)

@@ -12,21 +12,21 @@ use Rattle.vx_wire_tree.specs.Wire.{Wire, buffers_in}
 abbrev pub HasMessage : Head → Trees → Type 0
 HasMessage h ts = FitsMessage (metadata_in h ts)
 
--- Each node's does.
+-- Each node's metadata fits its message.
 abbrev pub HasMessages : Tree → Type 0
 HasMessages = Everywhere HasMessage
 
--- A descriptor can tell a buffer: its exponent is at most 16, and its length fits four bytes.
+-- A descriptor can describe a buffer: its exponent is at most 16, and its length fits four bytes.
 pub record IsDescribable (b : Buffer) : Type 0 where
   pub exponent : b.exponent ≤ 16
   pub len : length b.bytes ≤ 2 ^ 32 - 1
 
--- Descriptors can tell each of these buffers.
+-- Descriptors can describe each of these buffers.
 abbrev pub AreDescribable : List Buffer → Type 0
 AreDescribable bs = All (λ b. IsDescribable b) bs
 
--- The limits on a written tree whatever its identifiers: at most so many levels, and at most 65,535 buffers,
--- each of which a descriptor can tell.
+-- The limits on a written tree whatever its identifiers: at most this many levels, and at most 65,535 buffers, each of
+-- which a descriptor can describe.
 pub record IsWritableTree (most : ℕ) (w : Wire) : Type 0 where
   pub nested : levels w ≤ most
   pub few : length (buffers_in w) ≤ 65535

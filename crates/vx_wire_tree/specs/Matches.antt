@@ -1,4 +1,4 @@
--- When an array is the one that a wire tree tells, under a session.
+-- When a wire tree matches an array, under a session.
 use Rattle.std.specs.Prelude.{ℕ, ◌≡◌, List, Option, Some, None, IsTrue}
 use Rattle.vx_buffer.specs.Buffer.{Buffer}
 use Rattle.vx_trees.specs.Everywhere.{EverywhereBelow}
@@ -19,7 +19,7 @@ use Rattle.vx_wire_tree.specs.Session.{SessionMeaning, Reader, shipped, revised,
 use Rattle.vx_wire_tree.specs.Wire.{WireHead, Wire, Wires, all_present}
 
 -- A foreign node keeps what stands on the wire: the identifier, the metadata's bytes, and the buffers with their
--- exponents. Its statistics are not looked at.
+-- exponents. Its statistics are not compared.
 pub record IsRawNode (w : WireHead) (h : Head) : Type 0 where
   pub kept : Foreigns.Data
   pub body : h.body ≡ B.foreign kept
@@ -28,11 +28,11 @@ pub record IsRawNode (w : WireHead) (h : Head) : Type 0 where
   pub buffers : w.buffers ≡ all_present kept.buffers
 
 abbrev mutual
-  -- An array is foreign, as the wire tree stands: so is each node of it, whatever may read their identifiers.
+  -- An array is foreign and the wire tree unchanged, at each of its nodes, whatever may read their identifiers.
   pub IsRaw : Wire → Tree → Type 0
   IsRaw (node w ws) t = IsRawNode w (label t) × AreRaw ws (below t)
 
-  -- Arrays are so, one by one.
+  -- The same for arrays, one by one.
   pub AreRaw : Wires → Trees → Type 0
   AreRaw end us = us ≡ end
   AreRaw (more w ws) us = elim us [ end ↦ ⊥ | more u vs ↦ IsRaw w u × AreRaw ws vs ]
@@ -46,14 +46,14 @@ pub record IsEncodedNode (c : Codec) (s : SessionMeaning) (e : Encoding) (w : Wi
   pub stats : c.ShowsStats (label t).dtype w.stats (label t).stats
   pub children : Below (below t)
 
--- A node's identifier holds so many rows, where primitives have two identifiers.
+-- A node's identifier holds n rows, where primitives have two identifiers.
 pub record IsHeldNode (w : WireHead) (n : ℕ) : Type 0 where
   pub id : List ℕ
   pub id_is : w.id ≡ Some id
   pub holds : IsTrue (revised_holds id n)
 
--- A node that a plugin reads: the array is, with the statistics that the field shows, what the plugin builds of the node's
--- head, of its buffers, and of sound arrays that match the children and stand where the plugin plans them.
+-- A node that a plugin reads: with the statistics that the field shows, the array is what the plugin builds of the
+-- node's head, of its buffers, and of sound arrays that match the children and stand where the plugin plans them.
 pub record IsPluginNode (c : Codec) (s : SessionMeaning) (p : PluginMeaning) (w : WireHead) (k : ℕ) (t : Tree) (Below : Trees → Type 0) : Type 0 where
   pub id : List ℕ
   pub id_is : w.id ≡ Some id
@@ -69,8 +69,8 @@ pub record IsPluginNode (c : Codec) (s : SessionMeaning) (p : PluginMeaning) (w 
   pub shown : c.ShowsStats (label t).dtype w.stats stats
   pub tree_is : t ≡ with_stats stats built
 
--- A node by what reads its identifier. Primitives under two identifiers hold some lengths under each; a node that nothing
--- reads is foreign, with all below it, where such nodes are allowed, and else tells no array.
+-- A node by what reads its identifier. Primitives under two identifiers hold some lengths under each. A node that
+-- nothing reads is foreign, with all below it, where such nodes are allowed, and else decodes to no array.
 abbrev pub IsNodeBy : Codec → SessionMeaning → Option Reader → WireHead → Wires → Tree → (Trees → Type 0) → Type 0
 IsNodeBy c s (Some (shipped e)) w ws t Below = IsEncodedNode c s e w t Below
 IsNodeBy c s (Some revised) w ws t Below = IsHeldNode w (label t).len × IsEncodedNode c s E.primitive w t Below

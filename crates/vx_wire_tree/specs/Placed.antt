@@ -16,7 +16,8 @@ pub record PlansByPlugin (s : SessionMeaning) (p : PluginMeaning) (w : Wire) (d 
   pub id_is : (label w).id ≡ Some id
   pub plan : p.plan (head_at id (label w) (count (below w)) d n) s.ext ≡ Some ps
 
--- A plan by what reads a node: its encoding or its plugin plans its children. Of its buffers only the number is looked at, and by plugins alone.
+-- A plan by what reads a node: its encoding or its plugin plans its children. Only the number of its buffers is looked
+-- at, and by plugins alone.
 abbrev pub IsPlannedBy : Codec → SessionMeaning → Option Reader → Wire → Typ → ℕ → List Place → Type 0
 IsPlannedBy c s (Some (shipped e)) w d n ps = PlansChildren c s.ext e d n (label w).metadata (count (below w)) ps
 IsPlannedBy c s (Some revised) w d n ps = PlansChildren c s.ext E.primitive d n (label w).metadata (count (below w)) ps
@@ -29,7 +30,7 @@ pub record HasPlan (c : Codec) (s : SessionMeaning) (w : Wire) (d : Typ) (n : �
   pub id_is : (label w).id ≡ Some id
   pub planned : IsPlannedBy c s (s.reader id) w d n ps
 
--- v is child i of a node that stands at a type and a length, and p is its own place.
+-- v is child i of a node that stands at a type and a length, and p is the place of that child.
 pub record IsChild (c : Codec) (s : SessionMeaning) (w : Wire) (d : Typ) (n : ℕ) (i : ℕ) (v : Wire) (p : Place) : Type 0 where
   pub places : List Place
   pub planned : HasPlan c s w d n places
@@ -40,7 +41,7 @@ pub record IsChild (c : Codec) (s : SessionMeaning) (w : Wire) (d : Typ) (n : �
 abbrev pub Claim : Type 1
 Claim = Wire → Typ → ℕ → Type 0
 
--- Each node on this path is placed, and the claim holds of the last at its place.
+-- Each node on this path is placed, and the claim holds of the last one at its place.
 abbrev pub HoldsAt : Codec → SessionMeaning → Claim → List ℕ → Wire → Typ → ℕ → Type 0
 HoldsAt c s P [] w d n = P w d n
 HoldsAt c s P (i ∷ path) w d n = (v : Wire) × (p : Place) × IsChild c s w d n i v p × HoldsAt c s P path v p.dtype p.len

@@ -29,7 +29,7 @@ IsWrittenBy s b = HasWriter s (encoding_of b)
 abbrev pub IsWrittenNode : SessionMeaning → Head → Trees → Type 0
 IsWrittenNode s h ts = IsWrittenBy s h.body
 
--- Each node of an array is.
+-- Each node of an array is written.
 abbrev pub IsWritten : SessionMeaning → Tree → Type 0
 IsWritten s = Everywhere (IsWrittenNode s)
 
@@ -37,7 +37,7 @@ IsWritten s = Everywhere (IsWrittenNode s)
 abbrev pub IsStorableNode : Codec → Head → Trees → Type 0
 IsStorableNode c h ts = c.IsStorable h.stats
 
--- Those of each node of an array can be.
+-- The statistics of each node of an array can be stored.
 abbrev pub HasStorableStats : Codec → Tree → Type 0
 HasStorableStats c = Everywhere (IsStorableNode c)
 
@@ -45,32 +45,32 @@ HasStorableStats c = Everywhere (IsStorableNode c)
 abbrev pub IsCountableNode : Codec → Head → Trees → Type 0
 IsCountableNode c h ts = length (metadata_bytes c (told (metadata_in h ts))) < 2 ^ 64
 
--- Those of each node of an array can be.
+-- The bytes of each node's metadata can be counted in 64 bits.
 abbrev pub HasCountableMetadata : Codec → Tree → Type 0
 HasCountableMetadata c = Everywhere (IsCountableNode c)
 
--- Nothing reads a foreign node; of any other node the same is said of what is below it.
+-- Nothing reads a foreign node; for any other node the same is said of what is below it.
 abbrev pub IsUnreadBy : SessionMeaning → Body → Type 0 → Type 0
 IsUnreadBy s (B.foreign x) Below = s.reader x.id ≡ None
 IsUnreadBy s _ Below = Below
 
 abbrev mutual
-  -- Nothing reads the topmost foreign nodes of an array. Below them identifiers are free.
+  -- Nothing reads the topmost foreign nodes of an array. Below them identifiers are free, since nothing there is read.
   pub IsUnread : SessionMeaning → Tree → Type 0
   IsUnread s (node h ts) = IsUnreadBy s h.body (AreUnread s ts)
 
-  -- Nor those of any of several arrays.
+  -- The same for several arrays.
   pub AreUnread : SessionMeaning → Trees → Type 0
   AreUnread s end = Unit {0}
   AreUnread s (more t ts) = IsUnread s t × AreUnread s ts
 
--- What reads an identifier is of this encoding, and may read so many rows under it.
+-- What reads an identifier is of this encoding, and may read n rows under it.
 pub record IsReadAs (r : Option Reader) (e : Encoding) (id : List ℕ) (n : ℕ) : Type 0 where
   pub encoding : encoding_by r ≡ Some e
   pub held : HoldsLength r id n
 
 -- A node of an encoding is read back: the identifier under which it is written is read by its encoding, its metadata
--- fits a message of which the bytes can be counted, a type in it is known, and its statistics can be stored.
+-- fits a message whose bytes can be counted, a type in it is known, and its statistics can be stored.
 pub record IsReadBack (c : Codec) (s : SessionMeaning) (h : Head) (ts : Trees) : Type 0 where
   pub reader : IsReadAs (s.reader (written_id s h)) (encoding_of h.body) (written_id s h) h.len
   pub message : HasMessage h ts
@@ -92,7 +92,7 @@ abbrev mutual
   pub ReadsBack : Codec → SessionMeaning → Tree → Type 0
   ReadsBack c s (node h ts) = ReadsBackBy c s h.body h ts (AllReadBack c s ts)
 
-  -- So is each of several arrays.
+  -- The same for each of several arrays.
   pub AllReadBack : Codec → SessionMeaning → Trees → Type 0
   AllReadBack c s end = Unit {0}
   AllReadBack c s (more t ts) = ReadsBack c s t × AllReadBack c s ts

@@ -9,8 +9,8 @@ use Rattle.vx_wire_tree.specs.Codec.{Codec}
 use Rattle.vx_wire_tree.specs.Fields.{Fields, meant}
 use Rattle.vx_wire_tree.specs.KnownTypes.{IsKnownIn}
 
--- Bytes are metadata of an encoding's node of a type: they show a message, the encoding admits what it means
--- at that type, and a type in it is known.
+-- Bytes are metadata of an encoding's node of a type: they show a message, the encoding admits its meaning at that
+-- type, and a type in it is known.
 pub record IsMetadata (c : Codec) (x : ExtMeaning) (e : Encoding) (d : Typ) (bytes : List ℕ) (v : Metadata) : Type 0 where
   pub fields : Fields
   pub shown : c.Shows e bytes fields

@@ -1,4 +1,4 @@
--- When an array that encodings and plugins write is read again as itself.
+-- When what encodings and plugins write of an array is read again as that array.
 use Rattle.std.specs.Prelude.{ℕ, zero, suc, ◌≡◌, Option, Some, None, true}
 use Rattle.vx_trees.specs.Rose.{node}
 use Rattle.vx_array_tree.specs.Body.{Body}
@@ -27,8 +27,8 @@ pub record IsEncodedAgain (s : SessionMeaning) (e : Reader) (h : Head) (ts : Tre
   pub reader : s.reader (written_id s h) ≡ Some e
   pub below : Below ts
 
--- A node that a plugin writes: it gives parts under an identifier that it declares and that it reads, and the same is said of
--- the arrays that it gives.
+-- A node that a plugin writes: the plugin gives parts under an identifier that it declares and that it reads, and the
+-- same is said of the arrays that it gives.
 pub record IsGivenAgain (s : SessionMeaning) (p : PluginMeaning) (h : Head) (ts : Trees) (Given : Trees → Type 0) : Type 0 where
   pub parts : Parts
   pub serialized : p.serialize (node h ts) ≡ given parts
@@ -43,13 +43,13 @@ ReturnsBy s (Some (shipped e)) h ts Below Given = IsEncodedAgain s (shipped e) h
 ReturnsBy s (Some revised) h ts Below Given = IsEncodedAgain s revised h ts Below
 ReturnsBy s (Some (plugin p)) h ts Below Given = IsGivenAgain s p h ts Given
 
--- No node is foreign.
+-- A node by what it is: a foreign one does not return, any other one does by what writes its encoding.
 abbrev pub ReturnsAs : SessionMeaning → Body → Head → Trees → (Trees → Type 0) → (Trees → Type 0) → Type 0
 ReturnsAs s (B.foreign x) h ts Below Given = ⊥
 ReturnsAs s b h ts Below Given = ReturnsBy s (s.writer (id_of (encoding_of b))) h ts Below Given
 
--- An array of at most so many levels, as it is written, is read again: each node's statistics can be stored, and what writes
--- a node reads it. Each array that a plugin gives on the way is its own canon.
+-- What is written of an array of at most n levels is read again as the array: each node's statistics can be stored, and
+-- what writes a node reads it. Each array that a plugin gives on the way is its own canon.
 abbrev pub Returns : Codec → SessionMeaning → ℕ → Tree → Type 0
 Returns c s zero t = ⊥
 Returns c s (suc n) (node h ts) =

@@ -8,14 +8,14 @@ use Rattle.vx_array_tree.specs.Table.{id_of}
 use Rattle.vx_wire_tree.specs.Plugin.{PluginMeaning}
 use Rattle.vx_wire_tree.specs.Revised.{revised_name, revised_holds}
 
--- What reads or writes a node: an encoding that is shipped, primitives under two identifiers, or a plugin of the caller.
+-- What reads or writes a node: a shipped encoding, primitives under two identifiers, or a plugin of the caller.
 pub data Reader : Type 0 where
   shipped : Encoding → Reader
   revised : Reader
   plugin : PluginMeaning → Reader
 
--- An identifier is read in one way or not at all; what writes the arrays of an encoding stands under the
--- encoding's identifier. Extension types have readers of their own.
+-- An identifier is read in one way or not at all. What writes the arrays of an encoding stands under the encoding's
+-- identifier. Extension types have readers of their own.
 pub record SessionMeaning : Type 0 where
   pub reader : List ℕ → Option Reader
   pub writer : List ℕ → Option Reader
@@ -27,7 +27,7 @@ IsShippedReader (Some (shipped e)) = Unit {0}
 IsShippedReader (Some revised) = Unit {0}
 IsShippedReader (Some (plugin p)) = ⊥
 
--- The session reads and writes by shipped encodings alone, among which primitives may have two identifiers.
+-- The session reads and writes by shipped encodings alone; primitives may have two identifiers.
 pub record IsShipped (s : SessionMeaning) : Type 0 where
   pub reads : (id : List ℕ) → IsShippedReader (s.reader id)
   pub writes : (id : List ℕ) → IsShippedReader (s.writer id)
@@ -45,7 +45,7 @@ encoding_by (Some (shipped e)) = Some e
 encoding_by (Some revised) = Some E.primitive
 encoding_by (Some (plugin p)) = None
 
--- What reads an identifier may read so many rows under it: primitives under two identifiers where this one holds them,
+-- What reads an identifier may read n rows under it: primitives under two identifiers where this one holds them,
 -- anything else any number.
 abbrev pub HoldsLength : Option Reader → List ℕ → ℕ → Type 0
 HoldsLength (Some revised) id n = IsTrue (revised_holds id n)
@@ -65,9 +65,9 @@ IsRevisedAgainBy (Some (shipped f)) = ⊥
 IsRevisedAgainBy (Some revised) = Unit {0}
 IsRevisedAgainBy (Some (plugin p)) = Unit {0}
 
--- The readers and the writers of a session fit one another, as far as encodings go: what an encoding reads is written,
--- an encoding that writes stands under its own identifier, and what it writes is read again; so it is with primitives under
--- two identifiers, both of which are read again while they are written so.
+-- The readers and the writers of a session fit one another, as far as encodings go. What an encoding reads is written,
+-- an encoding that writes stands under its own identifier, and what it writes is read again. The same holds of
+-- primitives under two identifiers: both are read again where they are written.
 pub record IsPaired (s : SessionMeaning) : Type 0 where
   pub read_is_written : (id : List ℕ) (e : Encoding) → s.reader id ≡ Some (shipped e) → (q : Reader) × (s.writer (id_of e) ≡ Some q)
   pub own_identifier : (id : List ℕ) (e : Encoding) → s.writer id ≡ Some (shipped e) → id ≡ id_of e

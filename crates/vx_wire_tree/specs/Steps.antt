@@ -28,14 +28,14 @@ pub record PlansChildren (c : Codec) (x : ExtMeaning) (e : Encoding) (d : Typ) (
   pub metadata : IsMetadata c x e d bytes value
   pub plan : plan_of e d n value k ≡ Some ps
 
--- A node's metadata is read, and nothing is planned: its type is of another kind, so many children do not
--- fit, or a length cannot be counted.
+-- A node's metadata is read, and nothing is planned: its type is of another kind, k children do not fit, or a length
+-- cannot be counted.
 pub record HasNoPlan (c : Codec) (x : ExtMeaning) (e : Encoding) (d : Typ) (n : ℕ) (bytes : List ℕ) (k : ℕ) : Type 0 where
   pub value : Metadata
   pub metadata : IsMetadata c x e d bytes value
   pub none : plan_of e d n value k ≡ None
 
--- ---- building, of what a plan has said: metadata that is read, and children that stand where they are planned
+-- ---- building, where a plan was made: metadata that is read, and children that stand where they are planned
 
 -- What is built: the node that metadata and buffers give, over these children and without statistics.
 pub record HasParts (c : Codec) (x : ExtMeaning) (e : Encoding) (d : Typ) (n : ℕ) (bytes : List ℕ) (bs : List Buffer) (ts : Trees) (t : Tree) : Type 0 where
@@ -45,8 +45,8 @@ pub record HasParts (c : Codec) (x : ExtMeaning) (e : Encoding) (d : Typ) (n : �
   pub body_is : body_of e value bs ≡ Some body
   pub tree_is : t ≡ node (untold d n body) ts
 
--- Parts break their encoding's row: their shape is wrong, or the children are of encodings that may not stand
--- below it.
+-- Parts break their encoding's row: their shape is wrong, or the children are of encodings that may not stand below the
+-- node.
 pub record HasWrongShape (c : Codec) (x : ExtMeaning) (e : Encoding) (d : Typ) (n : ℕ) (bytes : List ℕ) (bs : List Buffer) (ts : Trees) : Type 0 where
   pub value : Metadata
   pub metadata : IsMetadata c x e d bytes value
@@ -72,7 +72,7 @@ pub record HasWrongContent (c : Codec) (x : ExtMeaning) (e : Encoding) (d : Typ)
 abbrev pub HasNoStats : Codec → Typ → Field → Type 0
 HasNoStats c d f = (x : Stats) → c.ShowsStats d f x → ⊥
 
--- An array of a type with the statistics that a field shows at its root.
+-- An array of a type, with the statistics that a field shows at its root.
 pub record IsToldBy (c : Codec) (d : Typ) (f : Field) (t u : Tree) : Type 0 where
   pub stats : Stats
   pub shown : c.ShowsStats d f stats

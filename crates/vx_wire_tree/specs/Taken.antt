@@ -1,4 +1,5 @@
--- An array as it is written under a session: each node as its writer takes it, down to a level at which the descent ends.
+-- An array as it is written under a session: each node as its writer takes it, down to a level at which the descent
+-- ends.
 use Rattle.std.specs.Prelude.{ℕ, zero, suc, ◌≡◌, ◌⊎◌, Option, Some, None, Bool, true, false, if◌then◌else◌}
 use Rattle.vx_trees.specs.Rose.{Rose, Roses, node, end, more, label}
 use Rattle.vx_array_tree.specs.Body.{Body}
@@ -22,12 +23,12 @@ pub data Step : Type 0 where
   written : Head → Trees → Step
   unwritten : Unwritten → Step
 
--- A node as a plugin gives it: of the node's own type, length and statistics, and with the parts that the plugin gives, as
--- those of a node of which nothing else is known.
+-- A node as a plugin gives it: with the node's own type, length and statistics, and with the parts that the plugin
+-- gives, as those of a node of which nothing else is known.
 abbrev pub given_head : Head → Parts → Head
 given_head h y = record { dtype = h.dtype; len = h.len; stats = h.stats; body = B.foreign (record { id = y.id; metadata = y.metadata; buffers = y.buffers }) }
 
--- A foreign node is written as it is, where such ones are allowed.
+-- A foreign node is written unchanged, where such nodes are allowed.
 abbrev pub foreign_step : Bool → Head → Trees → Step
 foreign_step true h ts = written h ts
 foreign_step false h ts = unwritten unregistered
@@ -45,7 +46,7 @@ writer_step (Some (shipped e)) h ts = written h ts
 writer_step (Some revised) h ts = written h ts
 writer_step (Some (plugin p)) h ts = plugin_step p h (p.serialize (node h ts))
 
--- A node by what it is.
+-- A node by what it is: foreign, or of an encoding.
 abbrev pub step_by : SessionMeaning → Body → Head → Trees → Step
 step_by s (B.foreign x) h ts = foreign_step s.ext.unknown h ts
 step_by s b h ts = writer_step (s.writer (id_of (encoding_of b))) h ts
@@ -54,24 +55,24 @@ step_by s b h ts = writer_step (s.writer (id_of (encoding_of b))) h ts
 abbrev pub step : SessionMeaning → Tree → Step
 step s (node h ts) = step_by s h.body h ts
 
--- The node of a step; one that is not written stands as it is, over nothing.
+-- The node of a step; one that is not written stands unchanged, over nothing.
 abbrev pub step_head : Step → Head → Head
 step_head (written g ts) h = g
 step_head (unwritten why) h = h
 
--- What is written below it.
+-- The trees that are written below the node of a step.
 abbrev pub step_below : Step → Trees
 step_below (written g ts) = ts
 step_below (unwritten why) = end
 
--- What a function makes of each of several trees.
+-- A function applied to each of several trees.
 abbrev pub each : {A B : Type 0} → (Rose A → Rose B) → Roses A → Roses B
 each f end = end
 each f (more t ts) = more (f t) (each f ts)
 
--- An array as it is written, down to n levels below its root. What is deeper is left out, so that of an array that is deeper
--- than a limit one level too many stands here, whatever plugins give. What a plugin gives stands as a node of which nothing
--- else is known: nobody reads it as an array, it is written alone.
+-- An array as it is written, down to n levels below its root. What is deeper is left out: of an array that is deeper
+-- than a limit, one level too many stands here, whatever plugins give. What a plugin gives stands as a node of which
+-- nothing else is known: it is written, and never read as an array.
 abbrev pub taken : SessionMeaning → ℕ → Tree → Tree
 taken s zero t = node (step_head (step s t) (label t)) end
 taken s (suc n) t = node (step_head (step s t) (label t)) (each (taken s n) (step_below (step s t)))

@@ -1,4 +1,4 @@
--- Trees as the wire tells them, before any encoding is looked at.
+-- Trees as they stand on the wire, before any encoding is looked at.
 use Rattle.std.specs.Prelude.{ℕ, ◌≡◌, List, [], ◌∷◌, Option, Some, None, map}
 use Rattle.vx_buffer.specs.Buffer.{Buffer}
 use Rattle.vx_flat.specs.Value.{Field}
@@ -6,8 +6,8 @@ use Rattle.vx_trees.specs.Rose.{Rose, Roses}
 use Rattle.vx_trees.specs.Everywhere.{Everywhere}
 use Rattle.vx_trees.specs.Walks.{gathered}
 
--- A node: its identifier, its metadata, its buffers, and the field that may hold a table of statistics. An
--- identifier or a buffer is missing where the index that names it has none.
+-- A node: its identifier, its metadata, its buffers, and the field that may hold a table of statistics. An identifier
+-- or a buffer is missing where its index has none.
 pub record WireHead : Type 0 where
   pub id : Option (List ℕ)
   pub metadata : List ℕ
@@ -22,11 +22,11 @@ Wire = Rose WireHead
 abbrev pub Wires : Type 0
 Wires = Roses WireHead
 
--- A list of which nothing is missing.
+-- A list as one of which nothing is missing.
 abbrev pub all_present : {A : Type 0} → List A → List (Option A)
 all_present xs = map (λ x. Some x) xs
 
--- What stands, of a list in which something may be missing.
+-- The items that are there, of a list in which some may be missing.
 abbrev pub present : {A : Type 0} → List (Option A) → List A
 present [] = []
 present (Some x ∷ xs) = x ∷ present xs
@@ -47,7 +47,7 @@ IsWhole = Everywhere IsWholeNode
 abbrev pub id_in : WireHead → List (List ℕ)
 id_in h = present (h.id ∷ [])
 
--- A node's buffers that stand.
+-- A node's buffers that are there.
 abbrev pub buffers_at_node : WireHead → List Buffer
 buffers_at_node h = present h.buffers
 

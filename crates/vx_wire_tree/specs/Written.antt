@@ -17,31 +17,31 @@ use Rattle.vx_wire_tree.specs.Revised.{id_of_rows}
 use Rattle.vx_wire_tree.specs.Session.{SessionMeaning, Reader, revised}
 use Rattle.vx_wire_tree.specs.Wire.{WireHead, Wire, Wires, all_present}
 
--- Primitives are written under two identifiers, by what writes them.
+-- A writer writes primitives under two identifiers.
 abbrev pub is_revised : Option Reader → Bool
 is_revised (Some revised) = true
 is_revised _ = false
 
--- So it is under a session.
+-- A session writes primitives under two identifiers.
 abbrev pub writes_two : SessionMeaning → Bool
 writes_two s = is_revised (s.writer Primitives.id)
 
--- The identifier under which nodes of an encoding, of so many rows, are written: the encoding's, but for primitives, which may
--- have two.
+-- The identifier under which nodes of an encoding with n rows are written: the encoding's, but for primitives, which
+-- may have two.
 abbrev pub id_under : Bool → Encoding → ℕ → List ℕ
 id_under two E.primitive n = id_of_rows two n
 id_under two e n = id_of e
 
--- A body's, of so many rows: a foreign one has its own.
+-- The identifier of a body with n rows: a foreign one has its own.
 abbrev pub body_id : Bool → Body → ℕ → List ℕ
 body_id two (B.foreign x) n = x.id
 body_id two b n = id_under two (encoding_of b) n
 
--- A node's.
+-- The identifier of a node.
 abbrev pub head_id : Bool → Head → List ℕ
 head_id two h = body_id two h.body h.len
 
--- A node's under a session.
+-- The identifier of a node under a session.
 abbrev pub written_id : SessionMeaning → Head → List ℕ
 written_id s h = head_id (writes_two s) h
 
@@ -53,7 +53,7 @@ spelled c s h ts = record {
   buffers = buffers_of h.body;
 }
 
--- A node on the wire: as it is spelled, with its statistics' field.
+-- A node on the wire: as it is spelled, with the field of its statistics.
 abbrev pub wire_head : Codec → SessionMeaning → Head → Trees → WireHead
 wire_head c s h ts = record {
   id = Some (written_id s h);
@@ -72,7 +72,7 @@ abbrev mutual
   wires c s end = end
   wires c s (more t ts) = more (wire c s t) (wires c s ts)
 
--- The array that is read back where an array was written: the same one in the form in which it is read, at
--- its own type, and foreign nodes with all below them as they are spelled.
+-- The array that is read back where an array was written: the same array in the form in which it is read, at its own
+-- type, with foreign nodes and all below them as they are spelled.
 abbrev pub canon : Codec → SessionMeaning → Tree → Tree
 canon c s t = canon_at (spelled c s) (label t).dtype t

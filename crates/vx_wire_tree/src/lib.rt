@@ -1,3 +1,3 @@
-//! What sessions and wire trees mean, and which arrays they tell: definitions alone, for all encodings, and
-//! their laws.
+//! What sessions and wire trees mean, and which arrays wire trees decode to, for all encodings: definitions and their
+//! laws alone.
 #![tactic(auto)]
