@@ -115,7 +115,7 @@ impl ByteBuffers {
     }
 }
 
-// // The length of all buffers in bytes, or the greatest `usize` where it is larger: no allocation has that size.
+// The length of all buffers in bytes, or the greatest `usize` where it is larger: no allocation has that size.
 fn total_len(buffers: &[ByteBuffer]) -> usize {
     let mut total: usize = 0;
     for buffer in buffers {
