@@ -2,9 +2,10 @@
 
 use crate::columns::{numbers_or_null, small_numbers, texts};
 use anyhow::Result;
+use duriancards::arrays::{DictArray, ListArray, StructArray};
+use duriancards::dtype::{DTypes, Name, Names, StructFields};
+use duriancards::prelude::{Array, Arrays, Nullability};
 use std::alloc::Global;
-use vx_arrays::{Array, Arrays, DictArray, ListArray, StructArray};
-use vx_types::{DTypes, Name, Names, Nullability, StructFields};
 
 // Of the second city nothing is known.
 fn people(alloc: Global) -> Result<Array> {

@@ -1,10 +1,9 @@
 //! Arrays of numbers and of texts, by their values.
 
 use anyhow::Result;
+use duriancards::arrays::{BoolArray, PrimitiveArray, VarBinArray};
+use duriancards::prelude::{Alignment, Array, BufferHandle, ByteBuffer, DType, Nullability, PType};
 use std::alloc::Global;
-use vx_arrays::{Array, BoolArray, PrimitiveArray, VarBinArray};
-use vx_buffer::{Alignment, BufferHandle, ByteBuffer};
-use vx_types::{DType, Nullability, PType};
 
 /// A buffer of these bytes, at a place that this is a divisor of.
 fn buffer(alloc: Global, bytes: &[u8], alignment: usize) -> Result<BufferHandle> {

@@ -9,13 +9,12 @@ mod rows;
 use crate::cities::cities;
 use crate::rows::print_rows;
 use anyhow::{Result, bail};
+use duriancards::prelude::{
+    Array, ArrayContext, ArrayExt, ArraySession, ByteBuffer, DType, ExtSession, ReadContext,
+    SerializeOptions, SerializedArray, VortexSession,
+};
+use duriancards::serde::SerializedNode;
 use std::alloc::Global;
-use vx_arrays::Array;
-use vx_buffer::ByteBuffer;
-use vx_registry::{ArrayContext, ArraySession, ReadContext, VortexSession};
-use vx_serde::{ArrayExt, SerializeOptions, SerializedArray, SerializedNode};
-use vx_type_wire::ExtSession;
-use vx_types::DType;
 
 /// The bytes of a blob, and the identifiers that its numbers count in.
 #[derive(Drop)]

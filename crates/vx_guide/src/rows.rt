@@ -1,9 +1,10 @@
 //! Rows of the table as lines of text.
 
 use anyhow::Result;
+use duriancards::arrays::RowValues;
+use duriancards::dtype::PValue;
+use duriancards::prelude::{Array, RowValue};
 use std::alloc::{AllocError, Global};
-use vx_arrays::{Array, RowValue, RowValues};
-use vx_types::PValue;
 
 // A row may take as many values as this, the parts of its parts counted too.
 const BUDGET: u64 = 100;

@@ -1,0 +1,3 @@
+//! Buffers of bytes with their alignment.
+
+pub use vx_buffer::{Alignment, BufferError, BufferHandle, BufferHandles, ByteBuffer, ByteBuffers};
