@@ -41,8 +41,7 @@ impl Model for Columns {
 
 impl Columns {
     /// The columns before the first row. The buffers whose size `rows` determines are allocated here; only the elements
-    /// of the
-    /// lists grow with each row.
+    /// of the lists grow with each row.
     pub(crate) fn new(alloc: Global, rows: usize) -> Result<Columns, GeneratorError>
         requires { rows ≤ 1000000 }
         ensures { IfOk result (λ c. c ≡ no_rows rows) }

@@ -1,10 +1,8 @@
 //! Tables of any size, drawn from a seed: the same seed and number of rows always make the same table. The table's form
-//! is
-//! this project's own.
+//! is this project's own.
 //!
 //! Contracts see a table as a plain tree (`specs/Made`), whose buffers hold what `specs/Columns` defines by the draws
-//! in
-//! `specs/Draws`.
+//! in `specs/Draws`.
 #![tactic(auto)]
 
 mod arrays;

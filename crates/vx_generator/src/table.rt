@@ -22,8 +22,7 @@ pub struct Table {
 }
 
 /// The table of `rows` rows that is drawn from a seed: structures of a 64-bit number that may be null, of a text and of
-/// a
-/// list of 16-bit numbers. Each row takes three draws and as many more as its list has elements. The only refusal is
+/// a list of 16-bit numbers. Each row takes three draws and as many more as its list has elements. The only refusal is
 /// `OutOfMemory`. A million rows at most keep all offsets and lengths in 32 bits.
 pub fn generate(alloc: Global, seed: u64, rows: usize) -> Result<Table, GeneratorError>
     requires { rows ≤ 1000000 }

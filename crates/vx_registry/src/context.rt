@@ -39,8 +39,7 @@ impl ArrayContext {
     }
 
     /// A context of these identifiers, each once: one that occurs again is dropped, so later ones have smaller numbers
-    /// than in
-    /// `ids`. All are allowed. The only refusal is `OutOfMemory`.
+    /// than in `ids`. All are allowed. The only refusal is `OutOfMemory`.
     pub fn new(alloc: Global, ids: &Ids) -> Result<ArrayContext, RegistryError>
         ensures ids { IfOk result (λ c. c.ids ≡ with_ids [] ids.now) }
         ensures allowed { IfOk result (λ c. c.allowed ≡ None) }
@@ -69,9 +68,8 @@ impl ArrayContext {
     }
 
     /// The number of an identifier, which is appended if it is new. `None` exactly where it is not allowed, or where
-    /// its place
-    /// is not below 65,536, as nodes name identifiers by a u16. The context is unchanged then, and where allocation
-    /// fails.
+    /// its place is not below 65,536, as nodes name identifiers by a u16. The context is unchanged then, and where
+    /// allocation fails.
     pub fn intern(&mut self, id: &Id) -> Result<Option<u16>, RegistryError>
         ensures interned { IfOk result (λ place. IfSome place (λ _. interned id.now self.old ≡ Some self.new)) }
         ensures place { IfOk result (λ place. IfSome place (λ i. index_of id.now self.new.ids ≡ i)) }

@@ -45,9 +45,8 @@ impl<T: Drop> From<AllocFailed<T>> for PluginError {
 ///
 /// Its meaning (`means`) says what each method returns, allocation failure aside, and brings the laws that it keeps. It
 /// plans one place for each child. Of children that stand there it builds arrays of the type and the length that are
-/// asked
-/// for, of an encoding that it supports. What it gave for a sound and normal array it plans and builds again as that
-/// array.
+/// asked for, of an encoding that it supports. What it gave for a sound and normal array it plans and builds again as
+/// that array.
 pub trait ArrayPlugin: Drop {
     /// The meaning of the plugin: plain functions with their laws.
     ghost means: { Self → PluginMeaning };
@@ -57,15 +56,13 @@ pub trait ArrayPlugin: Drop {
         ensures { result.now ≡ (means self.now).id };
 
     /// The identifiers that the plugin declares: those of the nodes that it writes and those that it reads. The only
-    /// refusal
-    /// is `OutOfMemory`.
+    /// refusal is `OutOfMemory`.
     fn serialized_ids(&self, alloc: Global) -> Result<Ids, PluginError>
         ensures declared { IfOk result (λ ids. ids ≡ (means self.now).declared) }
         ensures err { IsOkUnless result PluginError.OutOfMemory };
 
     /// The parts as which an array is written: `None` where the plugin has no form for it, and `Refused` where it
-    /// refuses the
-    /// array.
+    /// refuses the array.
     fn serialize(
         &self,
         alloc: Global,
@@ -74,8 +71,7 @@ pub trait ArrayPlugin: Drop {
         ensures { IsWrittenAs ((means self.now).serialize array.now) result };
 
     /// The type and length of each child of a node, in order; `Refused` where the plugin refuses the head. The
-    /// extension
-    /// readers are borrowed from the session.
+    /// extension readers are borrowed from the session.
     fn plan(
         &self,
         alloc: Global,

@@ -54,9 +54,8 @@ impl ArraySerialization {
     }
 
     /// The parts of an array, under the identifier of its encoding; those of a foreign node as it keeps them. No
-    /// buffer's bytes
-    /// are copied. `WireLimit` exactly where the root's metadata does not fit its message, `OutOfMemory` where
-    /// allocation fails.
+    /// buffer's bytes are copied. `WireLimit` exactly where the root's metadata does not fit its message, `OutOfMemory`
+    /// where allocation fails.
     pub fn from_array(alloc: Global, array: &Array) -> Result<ArraySerialization, RegistryError>
         ensures parts { IfOk result (HasPartsOf false array.now) }
         ensures fits { OnOk result (HasMessage (label array.now) (below array.now)) }

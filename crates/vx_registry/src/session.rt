@@ -30,8 +30,7 @@ pub enum PluginEntry {
     /// A shipped encoding, which reads and writes under its own identifier.
     Shipped(Encoding),
     /// Primitives under two identifiers: `vortex.primitive`, for up to four rows, and `vortex.primitive.v2`, which is
-    /// written
-    /// for more rows and read for any number.
+    /// written for more rows and read for any number.
     Revised,
     /// A plugin of the caller, which reads the identifiers that it declares and writes the arrays of its encoding.
     Boxed(Box<dyn ArrayPlugin>),
@@ -86,8 +85,7 @@ impl ArraySession {
     }
 
     /// A session of the shipped encodings in which primitives have two identifiers: `default`, and then `Revised`
-    /// registered.
-    /// The only refusal is `OutOfMemory`.
+    /// registered. The only refusal is `OutOfMemory`.
     pub fn revised(alloc: Global) -> Result<ArraySession, RegistryError>
         ensures entries { IfOk result (λ s. s.tables ≡ with_revised shipped_registry) }
         ensures revised { IfOk result (λ s. (x : ExtMeaning) → arrays_meaning means s x ≡ revised_meaning x) }
@@ -105,10 +103,8 @@ impl ArraySession {
 
     /// Registers an entry in place of what read its identifiers and of what wrote the arrays of its encoding. A shipped
     /// encoding reads its own identifier, `Revised` both of primitives, a plugin those that it declares. In `registry`
-    /// the
-    /// entry takes the places of what read them before, and the end where nothing did. Where allocation fails, the
-    /// session
-    /// keeps its entries and its meaning, and the entry is handed back.
+    /// the entry takes the places of what read them before, and the end where nothing did. Where allocation fails, the
+    /// session keeps its entries and its meaning, and the entry is handed back.
     pub fn register(&mut self, entry: PluginEntry) -> Result<(), AllocFailed<PluginEntry>>
         ensures entries { OnOk result (self.new.tables ≡ with_entry means (length self.old.plugins.items) entry self.old.tables) }
         ensures readers { OnOk result ((x : ExtMeaning) (id : List ℕ) → (arrays_meaning means self.new x).reader id
@@ -261,15 +257,12 @@ impl VortexSession {
     }
 
     /// An array's root as it is written: its parts, under the identifier that the writer of its encoding's arrays gives
-    /// them;
-    /// the own parts of a foreign node, where unknown nodes are allowed; and `None` where its plugin has no form for
-    /// it.
+    /// them; the own parts of a foreign node, where unknown nodes are allowed; and `None` where its plugin has no form
+    /// for it.
     ///
     /// Refuses with `NotRegistered` exactly where nothing writes it, `UndeclaredId` where its plugin names an
-    /// identifier that
-    /// it does not declare, `PluginRefused` where its plugin refuses it, and `WireLimit` where its metadata does not
-    /// fit its
-    /// message.
+    /// identifier that it does not declare, `PluginRefused` where its plugin refuses it, and `WireLimit` where its
+    /// metadata does not fit its message.
     pub fn array_serialize(
         &self,
         alloc: Global,

@@ -76,8 +76,7 @@ impl Tables {
     }
 
     /// Makes primitives under two identifiers what reads both, and what writes primitives. The two are those of no rows
-    /// and of
-    /// the greatest number of rows.
+    /// and of the greatest number of rows.
     pub(crate) fn set_revised(&mut self) -> Result<(), RegistryError>
         ensures registered { OnOk result (self.new ≡ with_revised self.old) }
         ensures unchanged { OnErr result (self.new ≡ self.old) }
