@@ -54,8 +54,8 @@ pub fn plan(
 ///
 /// `BadShape` where the parts are not as the encoding's row asks, else `ForeignControl` where a child that says where
 /// rows are holds a foreign node, or the entries of maps are one, else `BadContent` where their content is broken.
-/// Content is
-/// judged after control, so that no walk over rows rests on a foreign node, whose number of rows no bytes bound.
+/// Content is judged after control, so that no walk over rows rests on a foreign node, whose number of rows no bytes
+/// bound.
 pub fn build(
     alloc: Global,
     encoding: Encoding,
