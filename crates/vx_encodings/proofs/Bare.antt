@@ -1,4 +1,4 @@
--- Metadata of encodings that keep nothing: no byte, whatever the type and the readers.
+-- The metadata of encodings that have none: no byte, whatever the type and the readers.
 use Rattle.std.proofs.Common.{ℕ, ◌≡◌, List, [], refl}
 use Rattle.vx_types.specs.Known.{ExtMeaning}
 use Rattle.vx_types.specs.Typ.{Typ}
@@ -10,7 +10,7 @@ use Rattle.vx_wire_tree.specs.Fields as F
 use Rattle.vx_wire_tree.specs.Reads.{IsMetadata}
 use Rattle.vx_encodings.specs.Messages.{ShowsNothing, codec}
 
--- No byte shows that nothing is kept.
+-- An empty list of bytes shows that there is no metadata.
 nothing_shown : (bytes : List ℕ) → bytes ≡ [] → ShowsNothing bytes F.empty
 nothing_shown bytes e = record { bytes_are = e; fields_are = refl }
 
@@ -70,7 +70,7 @@ fair_map : (v : Metadata) → IsFair E.map v → v ≡ M.empty
 fair_map M.empty f = refl
 fair_map _ f = absurd f
 
--- What is read is that nothing is kept, of no byte.
+-- What is read is that there is no metadata, and it is read from no byte.
 pub null_nothing : (x : ExtMeaning) (d : Typ) (bytes : List ℕ) (v : Metadata) → IsMetadata codec x E.null d bytes v → (bytes ≡ []) × (v ≡ M.empty)
 null_nothing x d bytes v m = (m.shown.bytes_are, fair_null v m.fair)
 

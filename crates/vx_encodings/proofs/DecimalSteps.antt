@@ -32,11 +32,11 @@ use Rattle.vx_plans.specs.declared.error.EncodingError.{EncodingError}
 use Rattle.vx_plans.specs.declared.error.EncodingError.TheVariants.{OutOfMemory, BadMetadata, BadShape}
 use Rattle.vx_plans.specs.declared.head.ArrayHead.{ArrayHead}
 
--- Under a type of decimals what is planned is a validity or nothing.
+-- Under a decimal type a validity or nothing is planned.
 plan_is : (h : ArrayHead) (c : Digits) (m : Nullability) → h.dtype ≡ D.Decimal c m → plan (typ h.dtype) h.len h.nchildren ≡ before_validity [] h.len h.nchildren
 plan_is h c m d = let e : typ h.dtype ≡ node (decimal c.precision c.scale m) end = ap (λ z. typ z) d in rw e refl
 
--- So what is answered for a validity is the answer for the node.
+-- So the result for a validity is the result for the node.
 pub decimals_planned : (x : ExtMeaning) (h : ArrayHead) (r : Result (List Place) EncodingError) (w : DecimalType) (c : Digits) (m : Nullability) → Reads decimal_schema 0 h.metadata (decimal_value w) → h.dtype ≡ D.Decimal c m
     → IfOk r (λ ps. before_validity [] h.len h.nchildren ≡ Some ps) → IfOk r (λ ps. IsPlanned x Decimal h ps)
 decimals_planned x h r w c m shown d e = single_planned x Decimal h (M.decimal w) (decimal_metadata x (typ h.dtype) h.metadata w shown) r (plan_is h c m d) e
@@ -48,16 +48,16 @@ decimals_unread x BadMetadata h u = λ v m. u _ (decimal_width x (typ h.dtype) h
 decimals_unread x BadShape h u = absurd u
 decimals_unread x _ h u = absurd u
 
--- Where nothing is planned the shape does not fit.
+-- Where nothing is planned, the shape does not fit.
 pub decimals_unplanned : (x : ExtMeaning) (h : ArrayHead) (w : DecimalType) → Reads decimal_schema 0 h.metadata (decimal_value w) → plan (typ h.dtype) h.len h.nchildren ≡ None → RefusesPlanning BadShape x Decimal h
 decimals_unplanned x h w shown e = single_unplanned x Decimal h (M.decimal w) (decimal_metadata x (typ h.dtype) h.metadata w shown) e
 
--- Nor does it where no validity is.
+-- Why no validity is planned is why the node has no plan.
 pub decimals_without : (error : EncodingError) (x : ExtMeaning) (h : ArrayHead) (w : DecimalType) (c : Digits) (m : Nullability) → Reads decimal_schema 0 h.metadata (decimal_value w) → h.dtype ≡ D.Decimal c m
     → RefusesPlaces error (before_validity [] h.len h.nchildren) → RefusesPlanning error x Decimal h
 decimals_without error x h w c m shown d e = single_without x Decimal h (M.decimal w) (decimal_metadata x (typ h.dtype) h.metadata w shown) error (plan_is h c m d) e
 
--- What was planned: metadata of a width, a type of decimals, and at most one child, a validity.
+-- What was planned: metadata of a width, a decimal type, and at most one child, a validity.
 pub record DecimalsPlan (h : ArrayHead) (us : Trees) : Type 0 where
   pub value : Metadata
   pub read : ReadsWidth h.metadata value
@@ -71,14 +71,14 @@ decimals_plan x h us p =
     let m = decimal_width x (typ h.dtype) h.metadata p.value p.metadata in
     record { value = p.value; read = m; planned = plan_some p.value m.values_type (typ h.dtype) h.len h.nchildren (places us) m.value_is p.plan }
 
--- So its metadata is read again, and allocation failure is the one refusal.
+-- So its metadata is read again, and the only refusal is `OutOfMemory`.
 pub decimals_read : (x : ExtMeaning) (error : EncodingError) (h : ArrayHead) (bs : List Buffer) (us : Trees) → (y : ExtMeaning) × IsPlanned y Decimal h (places us) → RefusesMetadata error decimal_schema 0 h.metadata → RefusesBuilding error x Decimal h bs us
 decimals_read x OutOfMemory h bs us planned u = tt
 decimals_read x BadMetadata h bs us planned u = absurd (u _ (decimals_plan planned.0 h us planned.1).read.reads)
 decimals_read x BadShape h bs us planned u = absurd u
 decimals_read x _ h bs us planned u = absurd u
 
--- A planned node of decimals has at most one child.
+-- A planned decimal node has at most one child.
 pub few_children : (h : ArrayHead) (us : Trees) (ts : List Tree) (c : Digits) (m : Nullability) → (y : ExtMeaning) × IsPlanned y Decimal h (places us) → h.dtype ≡ D.Decimal c m → roses_of ts ≡ us → length ts ≤ 1
 few_children h us ts c m planned d e = single_children h.len h.nchildren us ts (sym (plan_is h c m d) ∙ (decimals_plan planned.0 h us planned.1).planned) e
 
@@ -87,7 +87,7 @@ made : (h : ArrayHead) (us : Trees) (w : DecimalType) (c : Digits) (m : Nullabil
     → decimal_tree b w c m h.len v ≡ node (untold (typ h.dtype) h.len (B.decimal (record { values = b; values_type = w }))) us
 made h us w c m b v d e = rw (ap (λ z. typ z) d, e) refl
 
--- What is built has the parts.
+-- The array that is built has these parts.
 pub decimals_built : (x : ExtMeaning) (h : ArrayHead) (bs : List Buffer) (us : Trees) (w : DecimalType) (c : Digits) (m : Nullability) (b : Buffer) (v : Option Tree) (t : Tree)
     → Reads decimal_schema 0 h.metadata (decimal_value w) → h.dtype ≡ D.Decimal c m → bs ≡ b ∷ [] → option_trees v ≡ us → t ≡ decimal_tree b w c m h.len v → IsBuilt x Decimal h bs us t
 decimals_built x h bs us w c m b v t shown d p e q =
@@ -101,9 +101,9 @@ decimals_refused x error h bs us w c m b v planned shown d p e refused =
     single_refused x Decimal h (M.decimal w) (decimal_metadata x (typ h.dtype) h.metadata w shown) error bs us b (B.decimal (record { values = b; values_type = w })) (decimal_tree b w c m h.len v)
     p refl tt (plan_is h c m d) (decimals_plan planned.0 h us planned.1).planned refl tt (made h us w c m b v d e) refused
 
--- Buffers of another number than one do not fit.
+-- Another number of buffers than one does not fit.
 pub decimals_buffers : (x : ExtMeaning) (h : ArrayHead) (bs : List Buffer) (us : Trees) (w : DecimalType) → Reads decimal_schema 0 h.metadata (decimal_value w) → (length bs ≡ 1 → ⊥) → RefusesBuilding BadShape x Decimal h bs us
 decimals_buffers x h bs us w shown none = single_buffers x Decimal h (M.decimal w) (decimal_metadata x (typ h.dtype) h.metadata w shown) bs us tt none
 
--- What the steps of decimals rest on.
+-- The lemmas for the steps of decimals.
 pub ruleset decimal_steps = (decimals_planned, decimals_unread, decimals_unplanned, decimals_without, decimals_read, few_children, decimals_built, decimals_refused, decimals_buffers)

@@ -1,4 +1,4 @@
--- The metadata of dictionaries: bytes that show how many values there are, a kind of integers and two flags, whatever the
+-- The metadata of dictionaries: bytes that show the number of values, a kind of integers and two flags, whatever the
 -- readers.
 use Rattle.std.proofs.Common.{ℕ, ◌≡◌, ◌^◌, ◌≤◌, ◌<◌, ◌+◌, ◌-◌, ◌==◌, ◌++◌, Bool, true, false, if◌then◌else◌, Option, Some, None, option_map, List, [], ◌∷◌, length, length-append, IsTrue, refl, sym, ap, ◌∙◌, subst, arith}
 use Rattle.vx_types.specs.Known.{ExtMeaning}
@@ -59,7 +59,7 @@ flag_held i (Some b) = ap (λ (c : Bool). Some c) (flag_back b)
 
 -- ---- what is written
 
--- A plain number is a key and a varint at most, and so is a flag that stands.
+-- A plain number is a key and a varint at most, and so is a flag that is there.
 left_out : (b : Bool) (s : List ℕ) → length ((if b then [] else s) ++ []) ≤ length s
 left_out true s = omega arith
 left_out false s = omega (arith, length-append s [])
@@ -118,7 +118,7 @@ flags_nest f = nest f.values_len (code_of f.codes_ptype) f.is_nullable_codes f.a
     nest n k (Some a) None = omega arith
     nest n k (Some a) (Some b) = omega arith
 
--- What is written of fields is read as them.
+-- What is written of fields is read as these.
 pub dict_again : (f : DictFields) → f.values_len ≤ 2 ^ 32 - 1 → ShowsDict (dict_bytes f) (F.dict f)
 dict_again f le =
     let lt : f.values_len < 2 ^ 32 = omega (arith, le) in

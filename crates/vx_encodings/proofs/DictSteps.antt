@@ -64,16 +64,16 @@ dicts_unread x _ h u = absurd u
 no_integer : (p : PType) → is_integer p ≡ false → IsTrue (is_integer p) → ⊥
 no_integer p e t = absurd (cc)
 
--- Nor are those of a kind of floats.
+-- Nor are those of a float kind.
 pub dicts_of_floats : (x : ExtMeaning) (h : ArrayHead) (f : DictFields) (t : Bool) → Reads dict_schema 0 h.metadata (dict_value f) → t ≡ is_integer f.codes_ptype → t ≡ false → RefusesPlanning BadMetadata x C.Dict h
 dicts_of_floats x h f t r e g v m =
     no_integer f.codes_ptype (sym e ∙ g) (dict_fields_are (typ h.dtype) h.metadata v f (dict_read x (typ h.dtype) h.metadata v m) r).1
 
--- What is planned of codes and values.
+-- The plan of codes and values.
 abbrev pub pair_plan : Typ → Typ → ℕ → ℕ → ℕ → Option (List Place)
 pair_plan c d n m k = exactly (place c n ∷ place d m ∷ []) k
 
--- What is answered for the codes and the values is the answer for the node.
+-- The result for the codes and the values is the result for the node.
 pub dicts_planned : (x : ExtMeaning) (h : ArrayHead) (r : Result (List Place) EncodingError) (f : DictFields) (t : Bool) (c : Typ) → Reads dict_schema 0 h.metadata (dict_value f) → t ≡ is_integer f.codes_ptype → t ≡ true
     → c ≡ node (primitive f.codes_ptype (codes_nullability (typ h.dtype) f.is_nullable_codes)) end
     → IfOk r (λ ps. pair_plan c (typ h.dtype) h.len f.values_len h.nchildren ≡ Some ps) → IfOk r (λ ps. IsPlanned x C.Dict h ps)
@@ -115,7 +115,7 @@ dict_plan x h us f r p =
     let k : h.nchildren ≡ count us = sym (planned_count E.dict (typ h.dtype) h.len (M.dict v) h.nchildren (places us) q) ∙ places_count us in
     record { integer = m.1; planned = subst (λ (j : ℕ). plan (typ h.dtype) h.len v j ≡ Some (places us)) k q }
 
--- Metadata is read again, and allocation failure is the one refusal.
+-- Metadata is read again, and the only refusal is `OutOfMemory`.
 pub dicts_read : (x : ExtMeaning) (error : EncodingError) (h : ArrayHead) (bs : List Buffer) (us : Trees) → (y : ExtMeaning) × IsPlanned y C.Dict h (places us) → RefusesMetadata error dict_schema 0 h.metadata → RefusesBuilding error x C.Dict h bs us
 dicts_read x OutOfMemory h bs us planned u = tt
 dicts_read x BadMetadata h bs us planned u = absurd (u _ (dict_read planned.0 (typ h.dtype) h.metadata planned.1.value planned.1.metadata).reads)
@@ -127,14 +127,15 @@ bodied v b bs e q =
     ap (λ (cs : List Buffer). body_of E.dict (M.dict v) cs) e
     ∙ ap (λ (c : Bool). let y : Dicts.Data = record { all_values_referenced = c } in Some (B.dict y)) (sym q)
 
--- What is built has the parts.
+-- The array that is built has these parts.
 pub dicts_built : (x : ExtMeaning) (h : ArrayHead) (bs : List Buffer) (us : Trees) (f : DictFields) (b : Bool) (t : Tree) → (y : ExtMeaning) × IsPlanned y C.Dict h (places us) → Reads dict_schema 0 h.metadata (dict_value f) → bs ≡ []
     → b ≡ unwrap_or f.all_values_referenced false → t ≡ node (dict_head (typ h.dtype) h.len b) us → IsBuilt x C.Dict h bs us t
 dicts_built x h bs us f b t planned r e q w =
     let k = dict_plan planned.0 h us f r planned.1 in
     single_built x C.Dict h (M.dict (kept_of (typ h.dtype) f)) (dict_metadata x (typ h.dtype) h.metadata f r k.integer) bs us (B.dict (record { all_values_referenced = b })) t (bodied (kept_of (typ h.dtype) f) b bs e q) w
 
--- Children that stand where they are planned are of the dictionary's own type, where codes may be null only where rows may.
+-- Children that stand where they are planned are of the dictionary's own type, where codes may be null only where rows
+-- may.
 level : (d : Typ) (n : ℕ) (v : Dicts.Metadata) (b : Bool) (us : Trees) → plan d n v (count us) ≡ Some (places us) → Allows d v → lifted (places us) ≡ places us
 level d n v b us p a =
     let e = exactly_is (place (node (primitive v.codes_ptype v.nullable_codes) end) n ∷ place d v.values_len ∷ []) (count us) (places us) p in
@@ -174,7 +175,7 @@ dicts_refused x A.BadContent h bs us f b planned r e q refused =
 dicts_refused x A.ValueTooLarge h bs us f b planned r e q refused = absurd refused
 dicts_refused x A.BadCast h bs us f b planned r e q refused = absurd refused
 
--- Buffers do not fit.
+-- A node with buffers does not fit.
 bufferless : (d : Typ) (n : ℕ) (v : Dicts.Metadata) (bs : List Buffer) (k : ℕ) → bs ≢ [] → IsShaped E.dict d n (M.dict v) bs k → ⊥
 bufferless d n v [] k none s = none refl
 bufferless d n v (b ∷ bs) k none s = let f : None ≡ Some s.body = s.body_is in cc
@@ -188,5 +189,5 @@ dicts_buffers x h bs us planned none =
       wrong = inl (bufferless (typ h.dtype) h.len (kept_of (typ h.dtype) m.fields) bs (count us) none);
     }
 
--- What the steps of dictionaries rest on.
+-- The lemmas for the steps of dictionaries.
 pub ruleset dict_steps = (dicts_unread, dicts_of_floats, dicts_planned, dicts_without, dicts_read, dicts_built, dicts_refused, dicts_buffers)

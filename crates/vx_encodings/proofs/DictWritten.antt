@@ -37,7 +37,7 @@ none_counted [] h = refl
 none_counted (t ∷ []) h = refl
 none_counted (t ∷ u ∷ ts) h = absurd (omega (arith, h))
 
--- What the writing of their metadata rests on.
+-- The lemmas for writing this metadata.
 pub ruleset dict_written = (flags_nest)
 
 -- The values of a root that fits its message are counted in 32 bits.

@@ -1,4 +1,4 @@
--- The metadata of lists: bytes that show how many elements there are and a kind of integers, whatever the type and the
+-- The metadata of lists: bytes that show the number of elements and a kind of integers, whatever the type and the
 -- readers.
 use Rattle.std.proofs.Common.{ℕ, ◌≡◌, ◌^◌, ◌≤◌, ◌<◌, ◌==◌, ◌+◌, ◌++◌, Bool, true, false, if◌then◌else◌, List, [], length, length-append, IsTrue, refl, sym, ap, ◌∙◌, subst, arith}
 use Rattle.vx_types.specs.Known.{ExtMeaning}
@@ -64,7 +64,7 @@ short n p lt =
     let few : length (list_bytes n p) ≤ 40 = field_short (n == 0) 8 n _ 20 (omega arith) lt y in
     omega (arith, few)
 
--- What is written of them is read as them.
+-- What is written of them is read as these.
 pub list_again : (n : ℕ) (p : PType) → n < 2 ^ 64 → ShowsList (list_bytes n p) (F.list n p)
 list_again n p lt = record {
   elements_len = n;
@@ -84,7 +84,7 @@ list_metadata x d bytes n p r h = record {
   known = tt;
 }
 
--- What metadata of theirs is read as: a number of elements, and a kind of integers, that the bytes show.
+-- What this metadata is read as: a number of elements and a kind of integers that the bytes show.
 pub record ReadsList (bytes : List ℕ) (v : Metadata) : Type 0 where
   pub elements_len : ℕ
   pub offset_ptype : PType
@@ -106,7 +106,7 @@ list_read x d bytes v m =
       integer = subst (λ (z : Metadata). IsFair E.list z) e m.fair;
     }
 
--- Bytes that show another kind are none.
+-- Bytes that show another kind are no metadata.
 pub list_kind_is_integer : (x : ExtMeaning) (d : Typ) (bytes : List ℕ) (v : Metadata) (n : ℕ) (p : PType) → IsMetadata codec x E.list d bytes v → Reads list_schema 0 bytes (list_value n p) → IsTrue (is_integer p)
 list_kind_is_integer x d bytes v n p m r =
     let k = list_read x d bytes v m in

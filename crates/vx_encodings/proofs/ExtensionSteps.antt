@@ -31,18 +31,18 @@ use Rattle.vx_plans.specs.declared.head.ArrayHead.{ArrayHead}
 
 -- ---- a plan
 
--- Where a byte stands there is no metadata.
+-- Metadata that is not empty is refused.
 pub extensions_unread : (x : ExtMeaning) (h : ArrayHead) → h.metadata ≢ [] → RefusesPlanning BadMetadata x Extension h
 extensions_unread x h b v m = b (ext_nothing x (typ h.dtype) h.metadata v m).0
 
--- Where nothing is planned the shape does not fit.
+-- Where nothing is planned, the shape does not fit.
 pub extensions_unplanned : (x : ExtMeaning) (h : ArrayHead) → h.metadata ≡ [] → plan (typ h.dtype) h.len h.nchildren ≡ None → RefusesPlanning BadShape x Extension h
 extensions_unplanned x h b e = single_unplanned x Extension h M.empty (ext_metadata x (typ h.dtype) h.metadata b) e
 
 plan_at : (d : DType) (e : P.Ext) (n k : ℕ) → d ≡ D.Extension e → plan (typ d) n k ≡ exactly (place e.storage n ∷ []) k
 plan_at d e n k q = ap (λ (z : DType). plan (typ z) n k) q
 
--- What is answered for the storage is the answer for the node.
+-- The result for the storage is the result for the node.
 pub extensions_planned : (x : ExtMeaning) (h : ArrayHead) (r : Result (List Place) EncodingError) (e : P.Ext) (f : Typ) → h.metadata ≡ [] → h.dtype ≡ D.Extension e → f ≡ e.storage
     → IfOk r (λ ps. exactly (place f h.len ∷ []) h.nchildren ≡ Some ps) → IfOk r (λ ps. IsPlanned x Extension h ps)
 extensions_planned x h (Ok ps) e f b q g p =
@@ -83,7 +83,7 @@ extension_plan x h us p =
 bodied : (bs : List Buffer) → bs ≡ [] → body_of E.ext M.empty bs ≡ Some B.ext
 bodied bs e = ap (λ (cs : List Buffer). body_of E.ext M.empty cs) e
 
--- What is built has the parts.
+-- The array that is built has these parts.
 pub extensions_built : (x : ExtMeaning) (h : ArrayHead) (bs : List Buffer) (us : Trees) (t : Tree) → (y : ExtMeaning) × IsPlanned y Extension h (places us) → bs ≡ [] → t ≡ node (untold (typ h.dtype) h.len B.ext) us → IsBuilt x Extension h bs us t
 extensions_built x h bs us t planned b w =
     let k = extension_plan planned.0 h us planned.1 in
@@ -96,7 +96,7 @@ extensions_refused x error h bs us planned b refused =
     let k = extension_plan planned.0 h us planned.1 in
     constructor_refused x Extension h M.empty (ext_metadata x (typ h.dtype) h.metadata k.no_byte) error bs us B.ext (node (untold (typ h.dtype) h.len B.ext) us) (bodied bs b) tt k.planned refl tt refl refused
 
--- Buffers do not fit.
+-- A node with buffers does not fit.
 bufferless : (d : Typ) (n : ℕ) (bs : List Buffer) (k : ℕ) → bs ≢ [] → IsShaped E.ext d n M.empty bs k → ⊥
 bufferless d n [] k none s = none refl
 bufferless d n (b ∷ bs) k none s = let f : None ≡ Some s.body = s.body_is in cc
@@ -109,5 +109,5 @@ extensions_buffers x h bs us planned none =
       wrong = inl (bufferless (typ h.dtype) h.len bs (count us) none);
     }
 
--- What the steps of extensions rest on.
+-- The lemmas for the steps of extensions.
 pub ruleset extension_steps = (extensions_unread, extensions_unplanned, extensions_planned, extensions_without, extensions_built, extensions_refused, extensions_buffers)

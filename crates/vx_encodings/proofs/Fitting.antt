@@ -50,7 +50,7 @@ module _ (e : Encoding) (d : Typ) (n : ℕ) (v : Metadata) (bs : List Buffer) (b
       refused (well_shaped (body_encoding e v bs b body_is) (metadata_again e d n v (count us) bs b (places us) body_is planned) fair
       (planned ∙ ap (λ (ps : List Place). Some ps) (sym level)) s.allows takes (subst (λ (c : Body). Holds d n c) (same_body s.body body_is s.body_is) s.holds))
 
-  -- And so many children may stand below a well-shaped node.
+  -- And that many children may stand below a well-shaped node.
   allowed : body_of e v bs ≡ Some b → plan_of e d n v (count us) ≡ Some (places us) → IsWellShaped (untold d n b) us → Allows e d v (count us)
   allowed body_is planned s =
       subst (λ (w : Metadata). Allows e d w (count us)) (metadata_again e d n v (count us) bs b (places us) body_is planned)
@@ -58,7 +58,7 @@ module _ (e : Encoding) (d : Typ) (n : ℕ) (v : Metadata) (bs : List Buffer) (b
 
 -- A planned node whose metadata is read.
 module _ (x : ExtMeaning) (e : Declared.Encoding) (h : ArrayHead) (v : Metadata) (m : IsMetadata codec x (plain_encoding e) (typ h.dtype) h.metadata v) where
-  -- A foreign node stands where the constructor says so.
+  -- Where the constructor says so, a foreign node stands where rows must be known.
   pub control_refused : (bs : List Buffer) (us : Trees) (body : Body) (t : Tree) → body_of (plain_encoding e) v bs ≡ Some body → t ≡ node (untold (typ h.dtype) h.len body) us
       → RefusesMaking A.ForeignControl t → RefusesBuilding (constructor_error A.ForeignControl) x e h bs us
   control_refused bs us body t body_is q refused =
@@ -69,7 +69,7 @@ module _ (x : ExtMeaning) (e : Declared.Encoding) (h : ArrayHead) (v : Metadata)
         foreign = λ c. r.foreign (subst (λ (z : Encoding). IsControlledBy z (typ h.dtype) us) (sym (body_encoding (plain_encoding e) v bs body body_is)) c);
       }
 
-  -- What says where rows are is known by the encoding that parts are of.
+  -- The children that say where rows are, are known to the encoding that the parts are of.
   pub controlled_by : (bs : List Buffer) (us : Trees) (body : Body) → body_of (plain_encoding e) v bs ≡ Some body → IsControlled (untold (typ h.dtype) h.len body) us → IsControlledBy (plain_encoding e) (typ h.dtype) us
   controlled_by bs us body body_is c = subst (λ (z : Encoding). IsControlledBy z (typ h.dtype) us) (body_encoding (plain_encoding e) v bs body body_is) c
 
@@ -99,7 +99,7 @@ module _ (x : ExtMeaning) (e : Declared.Encoding) (h : ArrayHead) (v : Metadata)
   constructor_refused A.ValueTooLarge bs us body t body_is fair planned level takes q refused = absurd refused
   constructor_refused A.BadCast bs us body t body_is fair planned level takes q refused = absurd refused
 
-  -- Nor do they where children of their encodings may not stand below it.
+  -- Nor do they where children of their encodings may not stand below the node.
   either_refused : (error : ArrayError) (bs : List Buffer) (us : Trees) (body : Body) (t : Tree) → Takes (plain_encoding e) (encodings us) ⊎ (Takes (plain_encoding e) (encodings us) → ⊥) → body_of (plain_encoding e) v bs ≡ Some body → IsFair (plain_encoding e) v
       → plan_of (plain_encoding e) (typ h.dtype) h.len v (count us) ≡ Some (places us) → lifted (typ h.dtype) h.len body (places us) ≡ places us
       → t ≡ node (untold (typ h.dtype) h.len body) us → RefusesMaking error t → RefusesBuilding (constructor_error error) x e h bs us

@@ -1,4 +1,4 @@
--- The steps of nodes of lists of one size.
+-- The steps of nodes of fixed-size lists.
 use Rattle.std.proofs.Common.{ℕ, ◌≡◌, ◌≢◌, ◌≤◌, ◌*◌, List, [], ◌∷◌, Option, Some, None, Result, Ok, Err, IfOk, refl, sym, ap, ◌∙◌, subst, inl, length, arith}
 use Rattle.vx_buffer.specs.Buffer.{Buffer}
 use Rattle.vx_trees.specs.Rose.{node, end, more, roses_of, count, label}
@@ -35,22 +35,22 @@ use Rattle.vx_plans.specs.declared.head.ArrayHead.{ArrayHead}
 
 -- ---- a plan
 
--- Where a byte stands there is no metadata.
+-- Metadata that is not empty is refused.
 pub lists_unread : (x : ExtMeaning) (h : ArrayHead) → h.metadata ≢ [] → RefusesPlanning BadMetadata x FixedSizeList h
 lists_unread x h b v m = b (fixed_size_list_nothing x (typ h.dtype) h.metadata v m).0
 
--- Where nothing is planned the shape does not fit.
+-- Where nothing is planned, the shape does not fit.
 pub lists_unplanned : (x : ExtMeaning) (h : ArrayHead) → h.metadata ≡ [] → plan (typ h.dtype) h.len h.nchildren ≡ None → RefusesPlanning BadShape x FixedSizeList h
 lists_unplanned x h b e = single_unplanned x FixedSizeList h M.empty (fixed_size_list_metadata x (typ h.dtype) h.metadata b) e
 
--- What is planned of elements and a validity after them.
+-- The plan of elements and a validity after them.
 abbrev pub elements_plan : Typ → ℕ → ℕ → ℕ → Option (List Place)
 elements_plan e s n k = when (is_len (n * s)) (before_validity (place e (n * s) ∷ []) n k)
 
 plan_at : (d : DType) (e : Typ) (s : ℕ) (m : Nullability) (n k : ℕ) → d ≡ D.FixedSizeList e s m → plan (typ d) n k ≡ elements_plan e s n k
 plan_at d e s m n k q = ap (λ (z : DType). plan (typ z) n k) q
 
--- What is answered for them is the answer for the node.
+-- The result for them is the result for the node.
 pub lists_planned : (x : ExtMeaning) (h : ArrayHead) (r : Result (List Place) EncodingError) (e f : Typ) (s : ℕ) (m : Nullability) → h.metadata ≡ [] → h.dtype ≡ D.FixedSizeList e s m → f ≡ e
     → IfOk r (λ ps. elements_plan f s h.len h.nchildren ≡ Some ps) → IfOk r (λ ps. IsPlanned x FixedSizeList h ps)
 lists_planned x h (Ok ps) e f s m b q g p =
@@ -66,7 +66,7 @@ lists_without _ x h e f s m b q g w = absurd w
 
 -- ---- building
 
--- What was planned: no byte of metadata, a type of lists of one size, and the places of the children.
+-- What was planned: no byte of metadata, a type of fixed-size lists, and the places of the children.
 pub record ListsPlan (h : ArrayHead) (us : Trees) : Type 0 where
   pub no_byte : h.metadata ≡ []
   pub sized : IsOfSize (typ h.dtype)
@@ -117,7 +117,7 @@ made h us o v e s m p q r =
 bodied : (bs : List Buffer) → bs ≡ [] → body_of E.fixed_size_list M.empty bs ≡ Some B.fixed_size_list
 bodied bs e = ap (λ (cs : List Buffer). body_of E.fixed_size_list M.empty cs) e
 
--- What is built has the parts.
+-- The array that is built has these parts.
 pub lists_built : (x : ExtMeaning) (h : ArrayHead) (bs : List Buffer) (us : Trees) (o : Tree) (v : Option Tree) (e : Typ) (s : ℕ) (m : Nullability) (t : Tree)
     → (y : ExtMeaning) × IsPlanned y FixedSizeList h (places us) → bs ≡ [] → h.dtype ≡ D.FixedSizeList e s m → more o (option_trees v) ≡ us → t ≡ fixed_size_list_tree o s m h.len v → IsBuilt x FixedSizeList h bs us t
 lists_built x h bs us o v e s m t planned b q r w =
@@ -135,7 +135,7 @@ lists_refused x error h bs us o v e s m planned b q r refused =
     constructor_refused x FixedSizeList h M.empty (fixed_size_list_metadata x (typ h.dtype) h.metadata k.no_byte) error bs us B.fixed_size_list (fixed_size_list_tree o s m h.len v)
     (bodied bs b) tt counted refl tt (made h us o v e s m k q r) refused
 
--- Buffers do not fit.
+-- A node with buffers does not fit.
 bufferless : (d : Typ) (n : ℕ) (bs : List Buffer) (k : ℕ) → bs ≢ [] → IsShaped E.fixed_size_list d n M.empty bs k → ⊥
 bufferless d n [] k none s = none refl
 bufferless d n (b ∷ bs) k none s = let f : None ≡ Some s.body = s.body_is in cc
@@ -148,5 +148,5 @@ lists_buffers x h bs us planned none =
       wrong = inl (bufferless (typ h.dtype) h.len bs (count us) none);
     }
 
--- What the steps of lists of one size rest on.
+-- The lemmas for the steps of fixed-size lists.
 pub ruleset fixed_size_list_steps = (lists_unread, lists_unplanned, lists_planned, lists_without, lists_sized, some_child, few_children, lists_built, lists_refused, lists_buffers)

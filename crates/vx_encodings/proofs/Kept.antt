@@ -19,7 +19,7 @@ module _ (t : Tree) (b c : Body) (e : b ≡ c) (p : plain_body b ≡ (label t).b
   root : (us : Trees) → us ≡ below t → kept_bytes (plain_body c) us ≡ message_bytes (told (metadata_in (label t) (below t)))
   root us u = (λ i. kept_bytes (plain_body (sym e i)) (u i)) ∙ ap (λ (x : B.Body). kept_bytes x (below t)) p
 
-  -- Where nothing is kept, no byte is written.
+  -- Where there is no metadata, no byte is written.
   pub nothing_kept : (bytes : List ℕ) → bytes ≡ [] → kept_bytes (plain_body c) (below t) ≡ [] → bytes ≡ message_bytes (told (metadata_in (label t) (below t)))
   nothing_kept bytes q n = q ∙ sym n ∙ root (below t) refl
 
@@ -28,5 +28,5 @@ module _ (t : Tree) (b c : Body) (e : b ≡ c) (p : plain_body b ≡ (label t).b
       → IfOk r (λ bytes. bytes ≡ message_bytes (told (metadata_in (label t) (below t))))
   message_kept us r u q = subst (λ (z : List ℕ). IfOk r (λ bytes. bytes ≡ z)) (root us u) q
 
--- What the writing of metadata rests on.
+-- The lemmas for writing metadata.
 pub ruleset kept = (nothing_kept, message_kept)

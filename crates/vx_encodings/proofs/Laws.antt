@@ -74,12 +74,12 @@ message_again E.variant (M.variant v) native fair fits short = variant_again v f
 message_again E.foreign v native fair fits short = absurd native
 message_again _ v native fair fits short = absurd fair
 
--- What has code is known.
+-- Each encoding with code is known.
 pub native : (e : Encoding) → IsNativeEncoding (plain_encoding e)
 native Null = tt
 native _ = tt
 
--- The messages of each encoding that is known are lawful: one is shown at most, and what is written is shown.
+-- The messages of each known encoding are lawful: bytes show at most one, and what is written is shown.
 pub lawful : (e : E.Encoding) → IsNativeEncoding e → IsLawfulAt codec e
 lawful e known = record {
   native = known;

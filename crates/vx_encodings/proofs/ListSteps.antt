@@ -49,11 +49,11 @@ lists_unread x _ h u = absurd u
 no_integer : (p : PType) → is_integer p ≡ false → IsTrue (is_integer p) → ⊥
 no_integer p e t = absurd (cc)
 
--- Nor are those of a kind of floats.
+-- Nor are those of a float kind.
 pub lists_of_floats : (x : ExtMeaning) (h : ArrayHead) (n : ℕ) (p : PType) (t : Bool) → Reads list_schema 0 h.metadata (list_value n p) → t ≡ is_integer p → t ≡ false → RefusesPlanning BadMetadata x C.List h
 lists_of_floats x h n p t r e f v m = no_integer p (sym e ∙ f) (list_kind_is_integer x (typ h.dtype) h.metadata v n p m r)
 
--- What is planned of elements, offsets and a validity after them.
+-- The plan of elements, offsets and a validity after them.
 abbrev pub parts_plan : Typ → ℕ → PType → ℕ → ℕ → Option (List Place)
 parts_plan e m p n k = when (is_len (suc n)) (before_validity (place e m ∷ place (numbers p) (suc n) ∷ []) n k)
 
@@ -67,11 +67,11 @@ plan_none : (d : Typ) (n : ℕ) (v : Lists.Metadata) (k : ℕ) → ((s : Nullabi
 plan_none (node (list s) (more e end)) n v k h = absurd (h s e refl)
 plan_none _ n v k h = refl
 
--- Where the type is another one the shape does not fit.
+-- Where the type is of another kind, the shape does not fit.
 pub lists_of_others : (x : ExtMeaning) (h : ArrayHead) (n : ℕ) (p : PType) (t : Bool) → Reads list_schema 0 h.metadata (list_value n p) → t ≡ is_integer p → t ≡ true → plan (typ h.dtype) h.len (kept n p) h.nchildren ≡ None → RefusesPlanning BadShape x C.List h
 lists_of_others x h n p t r e f none = single_unplanned x C.List h (M.list (kept n p)) (list_metadata x (typ h.dtype) h.metadata n p r (sym e ∙ f)) none
 
--- What is answered for the parts is the answer for the node.
+-- The result for the parts is the result for the node.
 pub lists_planned : (x : ExtMeaning) (h : ArrayHead) (r : Result (List Place) EncodingError) (m : ℕ) (p : PType) (t : Bool) (e f : Typ) (s : Nullability) → Reads list_schema 0 h.metadata (list_value m p) → t ≡ is_integer p → t ≡ true → h.dtype ≡ D.List e s → f ≡ e
     → IfOk r (λ ps. parts_plan f m p h.len h.nchildren ≡ Some ps) → IfOk r (λ ps. IsPlanned x C.List h ps)
 lists_planned x h (Ok ps) m p t e f s shown i j q g a =
@@ -120,7 +120,7 @@ list_plan x h us p =
 bodied : (v : Lists.Metadata) (bs : List Buffer) → bs ≡ [] → body_of E.list (M.list v) bs ≡ Some B.list
 bodied v bs e = ap (λ (cs : List Buffer). body_of E.list (M.list v) cs) e
 
--- What is built has the parts.
+-- The array that is built has these parts.
 pub lists_built : (x : ExtMeaning) (h : ArrayHead) (bs : List Buffer) (us : Trees) (t : Tree) → (y : ExtMeaning) × IsPlanned y C.List h (places us) → bs ≡ [] → t ≡ node (untold (typ h.dtype) h.len B.list) us → IsBuilt x C.List h bs us t
 lists_built x h bs us t planned b w =
     let k = list_plan planned.0 h us planned.1 in
@@ -134,7 +134,7 @@ lists_refused x error h bs us planned b refused =
     constructor_refused x C.List h (M.list (kept k.elements_len k.kind)) (list_metadata x (typ h.dtype) h.metadata k.elements_len k.kind k.reads k.integer) error bs us B.list (node (untold (typ h.dtype) h.len B.list) us)
     (bodied (kept k.elements_len k.kind) bs b) k.integer k.planned refl tt refl refused
 
--- Buffers do not fit.
+-- A node with buffers does not fit.
 bufferless : (d : Typ) (n : ℕ) (v : Lists.Metadata) (bs : List Buffer) (k : ℕ) → bs ≢ [] → IsShaped E.list d n (M.list v) bs k → ⊥
 bufferless d n v [] k none s = none refl
 bufferless d n v (b ∷ bs) k none s = let f : None ≡ Some s.body = s.body_is in cc
@@ -148,11 +148,11 @@ lists_buffers x h bs us planned none =
       wrong = inl (bufferless (typ h.dtype) h.len (kept k.elements_len k.kind) bs (count us) none);
     }
 
--- Fewer than two children have no kind of offsets, so the first kind is taken.
+-- Fewer than two children have no kind of offsets, so the first kind stands in.
 pub lone_kind : (ts : List Tree) → length ts < 2 → U8 ≡ ptype_of (second_place (places (roses_of ts))).dtype
 lone_kind [] h = refl
 lone_kind (t ∷ []) h = refl
 lone_kind (t ∷ u ∷ ts) h = absurd (omega (arith, h))
 
--- What the steps of lists rest on.
+-- The lemmas for the steps of lists.
 pub ruleset list_steps = (lists_unread, lists_of_floats, lists_of_others, lists_planned, lists_without, lists_built, lists_refused, lists_buffers)

@@ -48,22 +48,22 @@ not_told t P i f p = let g = i.1 p in absurd (cc)
 told : (t : Bool) (P : Type 0) → (IsTrue t ↔ P) → t ≡ true → P
 told t P i f = i.0 f
 
--- Nor are those of a kind of floats.
+-- Nor are those of a float kind.
 pub views_of_floats : (x : ExtMeaning) (h : ArrayHead) (v : ListViews.Metadata) (t : Bool) → Reads view_schema 0 h.metadata (view_value v) → (IsTrue t ↔ ListViews.IsFair v) → t ≡ false → RefusesPlanning BadMetadata x ListView h
 views_of_floats x h v t r i f w m = not_told t (ListViews.IsFair v) i f (views_fair x (typ h.dtype) h.metadata w v m r)
 
--- What is planned of elements, offsets, sizes and a validity after them.
+-- The plan of elements, offsets, sizes and a validity after them.
 abbrev pub parts_plan : Typ → ListViews.Metadata → ℕ → ℕ → Option (List Place)
 parts_plan e v n k = before_validity (place e v.elements_len ∷ place (numbers v.offset_ptype) n ∷ place (numbers v.size_ptype) n ∷ []) n k
 
 plan_at : (d : DType) (e : Typ) (s : Nullability) (v : ListViews.Metadata) (n k : ℕ) → d ≡ D.List e s → plan (typ d) n v k ≡ parts_plan e v n k
 plan_at d e s v n k q = ap (λ (z : DType). plan (typ z) n v k) q
 
--- Where the type is another one the shape does not fit.
+-- Where the type is of another kind, the shape does not fit.
 pub views_of_others : (x : ExtMeaning) (h : ArrayHead) (v : ListViews.Metadata) (t : Bool) → Reads view_schema 0 h.metadata (view_value v) → (IsTrue t ↔ ListViews.IsFair v) → t ≡ true → plan (typ h.dtype) h.len v h.nchildren ≡ None → RefusesPlanning BadShape x ListView h
 views_of_others x h v t r i f none = single_unplanned x ListView h (M.listview v) (views_metadata x (typ h.dtype) h.metadata v r (told t (ListViews.IsFair v) i f)) none
 
--- What is answered for the parts is the answer for the node.
+-- The result for the parts is the result for the node.
 pub views_planned : (x : ExtMeaning) (h : ArrayHead) (r : Result (List Place) EncodingError) (v : ListViews.Metadata) (t : Bool) (e f : Typ) (s : Nullability) → Reads view_schema 0 h.metadata (view_value v) → (IsTrue t ↔ ListViews.IsFair v) → t ≡ true → h.dtype ≡ D.List e s → f ≡ e
     → IfOk r (λ ps. parts_plan f v h.len h.nchildren ≡ Some ps) → IfOk r (λ ps. IsPlanned x ListView h ps)
 views_planned x h (Ok ps) v t e f s shown i j q g a =
@@ -115,7 +115,7 @@ list_view_plan x h us p =
 bodied : (v : ListViews.Metadata) (bs : List Buffer) → bs ≡ [] → body_of E.listview (M.listview v) bs ≡ Some (views_of false)
 bodied v bs e = ap (λ (cs : List Buffer). body_of E.listview (M.listview v) cs) e
 
--- What is built has the parts.
+-- The array that is built has these parts.
 pub views_built : (x : ExtMeaning) (h : ArrayHead) (bs : List Buffer) (us : Trees) (t : Tree) → (y : ExtMeaning) × IsPlanned y ListView h (places us) → bs ≡ [] → t ≡ node (untold (typ h.dtype) h.len (views_of false)) us → IsBuilt x ListView h bs us t
 views_built x h bs us t planned b w =
     let k = list_view_plan planned.0 h us planned.1 in
@@ -129,7 +129,7 @@ views_refused x error h bs us planned b refused =
     constructor_refused x ListView h (M.listview k.value) (views_metadata x (typ h.dtype) h.metadata k.value k.reads k.fair) error bs us (views_of false) (node (untold (typ h.dtype) h.len (views_of false)) us)
     (bodied k.value bs b) k.fair k.planned refl tt refl refused
 
--- Buffers do not fit.
+-- A node with buffers does not fit.
 bufferless : (d : Typ) (n : ℕ) (v : ListViews.Metadata) (bs : List Buffer) (k : ℕ) → bs ≢ [] → IsShaped E.listview d n (M.listview v) bs k → ⊥
 bufferless d n v [] k none s = none refl
 bufferless d n v (b ∷ bs) k none s = let f : None ≡ Some s.body = s.body_is in cc
@@ -143,5 +143,5 @@ views_buffers x h bs us planned none =
       wrong = inl (bufferless (typ h.dtype) h.len k.value bs (count us) none);
     }
 
--- What the steps of list views rest on.
+-- The lemmas for the steps of list views.
 pub ruleset list_view_steps = (views_unread, views_built, views_refused, views_buffers)

@@ -38,18 +38,18 @@ use Rattle.vx_plans.specs.declared.head.ArrayHead.{ArrayHead}
 abbrev pub entries_place : Entries → Nullability → ℕ → Place
 entries_place v s n = place (node (list s) (more (entries v) end)) n
 
--- Where a byte stands there is no metadata.
+-- Metadata that is not empty is refused.
 pub maps_unread : (x : ExtMeaning) (h : ArrayHead) → h.metadata ≢ [] → RefusesPlanning BadMetadata x Map h
 maps_unread x h b v m = b (map_nothing x (typ h.dtype) h.metadata v m).0
 
--- Where nothing is planned the shape does not fit.
+-- Where nothing is planned, the shape does not fit.
 pub maps_unplanned : (x : ExtMeaning) (h : ArrayHead) → h.metadata ≡ [] → plan (typ h.dtype) h.len h.nchildren ≡ None → RefusesPlanning BadShape x Map h
 maps_unplanned x h b e = single_unplanned x Map h M.empty (map_metadata x (typ h.dtype) h.metadata b) e
 
 plan_at : (d : DType) (v : Entries) (s : Nullability) (n k : ℕ) → d ≡ D.Map v s → plan (typ d) n k ≡ exactly (entries_place v s n ∷ []) k
 plan_at d v s n k q = ap (λ (z : DType). plan (typ z) n k) q
 
--- What is answered for the entries is the answer for the node.
+-- The result for the entries is the result for the node.
 pub maps_planned : (x : ExtMeaning) (h : ArrayHead) (r : Result (List Place) EncodingError) (v : Entries) (s : Nullability) → h.metadata ≡ [] → h.dtype ≡ D.Map v s
     → IfOk r (λ ps. exactly (entries_place v s h.len ∷ []) h.nchildren ≡ Some ps) → IfOk r (λ ps. IsPlanned x Map h ps)
 maps_planned x h (Ok ps) v s b q p = record { value = M.empty; metadata = map_metadata x (typ h.dtype) h.metadata b; plan = plan_at h.dtype v s h.len h.nchildren q ∙ p }
@@ -85,21 +85,21 @@ map_plan x h us p =
 bodied : (bs : List Buffer) → bs ≡ [] → body_of E.map M.empty bs ≡ Some B.map
 bodied bs e = ap (λ (cs : List Buffer). body_of E.map M.empty cs) e
 
--- What is built has the parts.
+-- The array that is built has these parts.
 pub maps_built : (x : ExtMeaning) (h : ArrayHead) (bs : List Buffer) (us : Trees) (t : Tree) → (y : ExtMeaning) × IsPlanned y Map h (places us) → bs ≡ [] → t ≡ node (untold (typ h.dtype) h.len B.map) us → IsBuilt x Map h bs us t
 maps_built x h bs us t planned b w =
     let k = map_plan planned.0 h us planned.1 in
     single_built x Map h M.empty (map_metadata x (typ h.dtype) h.metadata k.no_byte) bs us B.map t (bodied bs b) w
 
--- Parts that the constructor refuses do not fit the row of a planned node: where they are shaped as they are to be, the
--- entries are no list view.
+-- Parts that the constructor refuses do not fit the row of a planned node: where their shape is right, the entries are
+-- no list view.
 pub maps_refused : (x : ExtMeaning) (error : ArrayError) (h : ArrayHead) (bs : List Buffer) (us : Trees) → (y : ExtMeaning) × IsPlanned y Map h (places us) → bs ≡ []
     → RefusesMaking error (node (untold (typ h.dtype) h.len B.map) us) → RefusesBuilding (constructor_error error) x Map h bs us
 maps_refused x error h bs us planned b refused =
     let k = map_plan planned.0 h us planned.1 in
     children_refused x Map h M.empty (map_metadata x (typ h.dtype) h.metadata k.no_byte) error bs us B.map (node (untold (typ h.dtype) h.len B.map) us) (bodied bs b) tt k.planned refl refl refused
 
--- Buffers do not fit.
+-- A node with buffers does not fit.
 bufferless : (d : Typ) (n : ℕ) (bs : List Buffer) (k : ℕ) → bs ≢ [] → IsShaped E.map d n M.empty bs k → ⊥
 bufferless d n [] k none s = none refl
 bufferless d n (b ∷ bs) k none s = let f : None ≡ Some s.body = s.body_is in cc
@@ -112,5 +112,5 @@ maps_buffers x h bs us planned none =
       wrong = inl (bufferless (typ h.dtype) h.len bs (count us) none);
     }
 
--- What the steps of maps rest on.
+-- The lemmas for the steps of maps.
 pub ruleset map_steps = (maps_unread, maps_unplanned, maps_without, maps_built, maps_refused, maps_buffers)

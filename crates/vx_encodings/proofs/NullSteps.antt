@@ -33,11 +33,11 @@ null_planned x h ps b d k e =
       plan = plan_none (typ h.dtype) h.len h.nchildren d k;
     })
 
--- Where a byte stands there is no metadata.
+-- Metadata that is not empty is refused.
 pub null_unread : (x : ExtMeaning) (h : ArrayHead) → h.metadata ≢ [] → RefusesPlanning BadMetadata x Null h
 null_unread x h b v m = b (null_nothing x (typ h.dtype) h.metadata v m).0
 
--- Where nothing is planned the shape does not fit.
+-- Where nothing is planned, the shape does not fit.
 pub null_unplanned : (x : ExtMeaning) (h : ArrayHead) → h.metadata ≡ [] → plan (typ h.dtype) h.len h.nchildren ≡ None → RefusesPlanning BadShape x Null h
 null_unplanned x h b e = record { value = M.empty; metadata = null_metadata x (typ h.dtype) h.metadata b; none = e }
 
@@ -62,7 +62,7 @@ null_plan x h us p =
     let q = childless (typ h.dtype) h.len h.nchildren us (plan_some p.value (typ h.dtype) h.len h.nchildren (places us) m.1 p.plan) in
     record { no_byte = m.0; dtype_is = q.0; childless = q.1 }
 
--- What is built has the parts.
+-- The array that is built has these parts.
 pub null_built : (x : ExtMeaning) (h : ArrayHead) (bs : List Buffer) (us : Trees) (t : Tree) → (y : ExtMeaning) × IsPlanned y Null h (places us) → bs ≡ [] → t ≡ null_tree h.len → IsBuilt x Null h bs us t
 null_built x h bs us t planned e r =
     let p = null_plan planned.0 h us planned.1 in
@@ -78,7 +78,7 @@ misshaped : (d : Typ) (n : ℕ) (bs : List Buffer) (k : ℕ) → bs ≢ [] → I
 misshaped d n [] k none s = none refl
 misshaped d n (b ∷ bs) k none s = let f : None ≡ Some s.body = s.body_is in cc
 
--- A buffer does not fit.
+-- A node with a buffer does not fit.
 pub null_unbuilt : (x : ExtMeaning) (h : ArrayHead) (bs : List Buffer) (us : Trees) → (y : ExtMeaning) × IsPlanned y Null h (places us) → bs ≢ [] → RefusesBuilding BadShape x Null h bs us
 null_unbuilt x h bs us planned none =
     let p = null_plan planned.0 h us planned.1 in
@@ -88,5 +88,5 @@ null_unbuilt x h bs us planned none =
       wrong = inl (misshaped (typ h.dtype) h.len bs (count us) none);
     }
 
--- What the steps of nulls rest on.
+-- The lemmas for the steps of nulls.
 pub ruleset null_steps = (null_planned, null_unread, null_unplanned, null_built, null_unbuilt)

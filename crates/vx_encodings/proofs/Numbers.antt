@@ -1,4 +1,4 @@
--- Messages of one number: bytes show one at most, and what is written of a small one is shown.
+-- Messages of one number: bytes show at most one, and what is written of a small number is shown.
 use Rattle.std.proofs.Common.{ℕ, ◌≡◌, ◌^◌, ◌≤◌, ◌<◌, ◌==◌, ◌++◌, Bool, true, false, if◌then◌else◌, List, [], length, length-append, IsTrue, arith}
 use Rattle.vx_proto.specs.declared.schema.ScalarKind.{ScalarKind}
 use Rattle.vx_proto.specs.declared.schema.ScalarKind.TheVariants.{Uint32, Enum}
@@ -20,7 +20,7 @@ one_number k bytes a b r s = same_value a b (reads_one (number_schema k) 0 bytes
 pub number_formed : (k : ScalarKind) (h : IsNumeric k) (n : ℕ) → FormScalar k (number n) → HasForm (number_schema k) 0 (number_value n)
 number_formed k h n f = whole_form (number_schema k) 0 (number_parts k h) (n, tt) (f, tt)
 
--- The kinds whose numbers are written as varints as they are, and that metadata has.
+-- The kinds that metadata has, whose numbers are written as varints without a conversion.
 abbrev pub IsSpelled : ScalarKind → Type 0
 IsSpelled Uint32 = Unit {0}
 IsSpelled (Enum codes) = Unit {0}

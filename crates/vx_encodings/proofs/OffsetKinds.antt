@@ -58,7 +58,7 @@ one_read bytes p q r s = one_kind_of_code p q (one_number (Enum 11) bytes (code_
 pub one_kind : (bytes : List ℕ) (f g : Fields) → ShowsVarBin bytes f → ShowsVarBin bytes g → f ≡ g
 one_kind bytes f g a b = a.fields_are ∙ ap (λ (p : PType). F.varbin p) (one_read bytes a.offsets_ptype b.offsets_ptype a.reads b.reads) ∙ sym b.fields_are
 
--- What is written of a kind is read as it.
+-- What is written of a kind is read as that kind.
 pub kind_again : (p : PType) → ShowsVarBin (varbin_bytes p) (F.varbin p)
 kind_again p = record {
   offsets_ptype = p;
@@ -76,7 +76,7 @@ varbin_metadata x d bytes p r h = record {
   known = tt;
 }
 
--- What metadata of theirs is read as: a kind of integers that the bytes show.
+-- What this metadata is read as: a kind of integers that the bytes show.
 pub record ReadsKind (bytes : List ℕ) (v : Metadata) : Type 0 where
   pub offsets_ptype : PType
   pub reads : Reads varbin_schema 0 bytes (varbin_value offsets_ptype)
@@ -96,7 +96,7 @@ varbin_kind x d bytes v m =
       integer = subst (λ (z : Metadata). IsFair E.varbin z) e m.fair;
     }
 
--- Bytes that show another kind are none.
+-- Bytes that show another kind are no metadata.
 pub kind_is_integer : (x : ExtMeaning) (d : Typ) (bytes : List ℕ) (v : Metadata) (p : PType) → IsMetadata codec x E.varbin d bytes v → Reads varbin_schema 0 bytes (varbin_value p) → IsTrue (is_integer p)
 kind_is_integer x d bytes v p m r =
     let k = varbin_kind x d bytes v m in

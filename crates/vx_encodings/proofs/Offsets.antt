@@ -1,4 +1,4 @@
--- The metadata of flags: bytes that show an offset below 8, whatever the type and the readers.
+-- The metadata of booleans: bytes that show an offset below 8, whatever the type and the readers.
 use Rattle.std.proofs.Common.{ℕ, ◌≡◌, ◌<◌, List, refl, sym, ap, ◌∙◌, subst, arith}
 use Rattle.vx_types.specs.Known.{ExtMeaning}
 use Rattle.vx_types.specs.Typ.{Typ}
@@ -19,11 +19,11 @@ use Rattle.vx_encodings.specs.Messages.{codec}
 pub one_offset : (bytes : List ℕ) (f g : Fields) → ShowsBool bytes f → ShowsBool bytes g → f ≡ g
 one_offset bytes f g a b = a.fields_are ∙ ap (λ (n : ℕ). F.bool n) (one_number Uint32 bytes a.offset b.offset a.reads b.reads) ∙ sym b.fields_are
 
--- What is written of an offset below 8 is read as it.
+-- What is written of an offset below 8 is read as that offset.
 pub offset_again : (n : ℕ) → n < 8 → ShowsBool (bool_bytes n) (F.bool n)
 offset_again n lt = record { offset = n; reads = number_again Uint32 tt n tt refl (n, refl, omega arith) (omega arith); fields_are = refl }
 
--- Bytes that show an offset below 8 are metadata of flags.
+-- Bytes that show an offset below 8 are metadata of booleans.
 pub bool_metadata : (x : ExtMeaning) (d : Typ) (bytes : List ℕ) (o : ℕ) → Reads bool_schema 0 bytes (bool_value o) → o < 8 → IsMetadata codec x E.bool d bytes (M.bool o)
 bool_metadata x d bytes o r lt = record {
   fields = F.bool o;
@@ -33,7 +33,7 @@ bool_metadata x d bytes o r lt = record {
   known = tt;
 }
 
--- What metadata of flags is read as: an offset that the bytes show, below 8.
+-- What metadata of booleans is read as: an offset that the bytes show, below 8.
 pub record ReadsOffset (bytes : List ℕ) (v : Metadata) : Type 0 where
   pub offset : ℕ
   pub reads : Reads bool_schema 0 bytes (bool_value offset)
@@ -53,6 +53,6 @@ bool_offset x d bytes v m =
       below = subst (λ (z : Metadata). IsFair E.bool z) e m.fair;
     }
 
--- And the one that is read is that.
+-- An offset that the bytes show is the one that is read.
 pub offset_is : (bytes : List ℕ) (v : Metadata) (o : ℕ) → ReadsOffset bytes v → Reads bool_schema 0 bytes (bool_value o) → v ≡ M.bool o
 offset_is bytes v o r s = r.value_is ∙ ap (λ (n : ℕ). M.bool n) (one_number Uint32 bytes r.offset o r.reads s)

@@ -29,24 +29,24 @@ use Rattle.vx_plans.specs.declared.error.EncodingError.{EncodingError}
 use Rattle.vx_plans.specs.declared.error.EncodingError.TheVariants.{BadMetadata, BadShape}
 use Rattle.vx_plans.specs.declared.head.ArrayHead.{ArrayHead}
 
--- Under a type of numbers what is planned is a validity or nothing.
+-- Under a type of numbers a validity or nothing is planned.
 plan_is : (d : Typ) (n k : ℕ) (p : PType) (m : Nullability) → d ≡ node (primitive p m) end → plan d n k ≡ before_validity [] n k
 plan_is d n k p m e = rw e refl
 
--- So what is answered for a validity is the answer for the node.
+-- So the result for a validity is the result for the node.
 pub validity_planned : (x : ExtMeaning) (h : ArrayHead) (r : Result (List Place) EncodingError) (p : PType) (m : Nullability) → h.metadata ≡ [] → h.dtype ≡ D.Primitive p m
     → IfOk r (λ ps. before_validity [] h.len h.nchildren ≡ Some ps) → IfOk r (λ ps. IsPlanned x Primitive h ps)
 validity_planned x h r p m b d e = single_planned x Primitive h M.empty (primitive_metadata x (typ h.dtype) h.metadata b) r (plan_is (typ h.dtype) h.len h.nchildren p m (ap (λ z. typ z) d)) e
 
--- Where a byte stands there is no metadata.
+-- Metadata that is not empty is refused.
 pub primitive_unread : (x : ExtMeaning) (h : ArrayHead) → h.metadata ≢ [] → RefusesPlanning BadMetadata x Primitive h
 primitive_unread x h b v m = b (primitive_nothing x (typ h.dtype) h.metadata v m).0
 
--- Where nothing is planned the shape does not fit.
+-- Where nothing is planned, the shape does not fit.
 pub primitive_unplanned : (x : ExtMeaning) (h : ArrayHead) → h.metadata ≡ [] → plan (typ h.dtype) h.len h.nchildren ≡ None → RefusesPlanning BadShape x Primitive h
 primitive_unplanned x h b e = single_unplanned x Primitive h M.empty (primitive_metadata x (typ h.dtype) h.metadata b) e
 
--- Nor does it where no validity is.
+-- Why no validity is planned is why the node has no plan.
 pub validity_unplanned : (error : EncodingError) (x : ExtMeaning) (h : ArrayHead) (p : PType) (m : Nullability) → h.metadata ≡ [] → h.dtype ≡ D.Primitive p m
     → RefusesPlaces error (before_validity [] h.len h.nchildren) → RefusesPlanning error x Primitive h
 validity_unplanned error x h p m b d e = single_without x Primitive h M.empty (primitive_metadata x (typ h.dtype) h.metadata b) error (plan_is (typ h.dtype) h.len h.nchildren p m (ap (λ z. typ z) d)) e
@@ -74,7 +74,7 @@ made : (h : ArrayHead) (us : Trees) (p : PType) (m : Nullability) (b : Buffer) (
     → primitive_tree p m h.len b o ≡ node (untold (typ h.dtype) h.len (B.primitive (record { values = b }))) us
 made h us p m b o d e = rw (ap (λ z. typ z) d, e) refl
 
--- What is built has the parts.
+-- The array that is built has these parts.
 pub primitive_built : (x : ExtMeaning) (h : ArrayHead) (bs : List Buffer) (us : Trees) (p : PType) (m : Nullability) (b : Buffer) (o : Option Tree) (t : Tree)
     → (y : ExtMeaning) × IsPlanned y Primitive h (places us) → h.dtype ≡ D.Primitive p m → bs ≡ b ∷ [] → option_trees o ≡ us → t ≡ primitive_tree p m h.len b o → IsBuilt x Primitive h bs us t
 primitive_built x h bs us p m b o t planned d e c r =
@@ -90,10 +90,10 @@ primitive_refused x error h bs us p m b o planned d e c refused =
     single_refused x Primitive h M.empty (primitive_metadata x (typ h.dtype) h.metadata q.no_byte) error bs us b (B.primitive (record { values = b })) (primitive_tree p m h.len b o)
     e refl tt (plan_is (typ h.dtype) h.len h.nchildren p m (ap (λ z. typ z) d)) q.planned refl tt (made h us p m b o d c) refused
 
--- Buffers of another number than one do not fit.
+-- Another number of buffers than one does not fit.
 pub primitive_buffers : (x : ExtMeaning) (h : ArrayHead) (bs : List Buffer) (us : Trees) → (y : ExtMeaning) × IsPlanned y Primitive h (places us) → (length bs ≡ 1 → ⊥) → RefusesBuilding BadShape x Primitive h bs us
 primitive_buffers x h bs us planned none =
     single_buffers x Primitive h M.empty (primitive_metadata x (typ h.dtype) h.metadata (primitive_plan planned.0 h us planned.1).no_byte) bs us tt none
 
--- What the steps of numbers rest on.
+-- The lemmas for the steps of numbers.
 pub ruleset primitive_steps = (validity_planned, primitive_unread, primitive_unplanned, validity_unplanned, few_children, primitive_built, primitive_refused, primitive_buffers)

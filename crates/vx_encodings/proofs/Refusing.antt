@@ -34,14 +34,14 @@ no_plan x e d n bytes k ps u p =
     let same = one_value x e d bytes u.value p.value u.metadata p.metadata in
     not_both (plan_of e d n p.value k) (sym (ap (λ v. plan_of e d n v k) same) ∙ u.none) p.plan
 
--- Of what is planned only memory is refused.
+-- Where there is a plan, the only refusal is `OutOfMemory`.
 pub planned_refusal : (x : ExtMeaning) (error : EncodingError) (e : Declared.Encoding) (h : ArrayHead) (ps : List Place) → RefusesPlanning error x e h → IsPlanned x e h ps → IsMemory error
 planned_refusal x OutOfMemory e h ps u p = tt
 planned_refusal x BadMetadata e h ps u p = absurd (u p.value p.metadata)
 planned_refusal x BadShape e h ps u p = absurd (no_plan x (plain_encoding e) (typ h.dtype) h.len h.metadata h.nchildren ps u p)
 planned_refusal x _ e h ps u p = absurd u
 
--- Parts of a sound array, of which the children were planned, are as its encoding's row asks.
+-- The parts of a sound array whose children were planned are as the encoding's row asks.
 module _ (x : ExtMeaning) (e : Encoding) (d : Typ) (n : ℕ) (bytes : List ℕ) (k : ℕ) (bs : List Buffer) (ts : Trees) where
   root_is : (t : Tree) (h : Head) → t ≡ node h ts → IsSound t → IsSoundNode h ts
   root_is t h q s = let r : IsSound (node h ts) = subst (λ (z : Tree). IsSound z) q s in r.0
@@ -92,7 +92,7 @@ module _ (x : ExtMeaning) (e : Encoding) (d : Typ) (n : ℕ) (bytes : List ℕ) 
       let s = root_is t (untold d n parts.body) parts.tree_is sound in
       w.foreign (subst (λ (z : Encoding). IsControlledBy z d ts) (body_encoding e parts.value bs parts.body parts.body_is) s.controlled)
 
--- Of what is a sound array's parts only memory is refused.
+-- For the parts of a sound array, the only refusal is `OutOfMemory`.
 pub built_refusal : (x : ExtMeaning) (error : EncodingError) (e : Declared.Encoding) (h : ArrayHead) (bs : List Buffer) (ts : Trees) (t : Tree)
     → IsPlanned x e h (places ts) → RefusesBuilding error x e h bs ts → IsBuilt x e h bs ts t → IsSound t → IsMemory error
 built_refusal x OutOfMemory e h bs ts t planned u parts sound = tt
@@ -105,19 +105,19 @@ built_refusal x ForeignControl e h bs ts t planned u parts sound =
     absurd (not_foreign x (plain_encoding e) (typ h.dtype) h.len h.metadata h.nchildren bs ts t planned parts sound u)
 built_refusal x WireLimit e h bs ts t planned u parts sound = absurd u
 
--- An answer whose refusals are those of a plan is Ok, or allocation failure, where there is a plan.
+-- A result whose refusals are those of a plan is Ok or `OutOfMemory`, where there is a plan.
 pub plan_complete : (x : ExtMeaning) (e : Declared.Encoding) (h : ArrayHead) (r : Result (List Place) EncodingError) → IfErr r (λ error. RefusesPlanning error x e h)
     → (ps : List Place) → IsPlanned x e h ps → IsOkOrMemory r
 plan_complete x e h (Ok qs) u ps p = tt
 plan_complete x e h (Err error) u ps p = planned_refusal x error e h ps u p
 
--- And one whose refusals are those of a node that is built, where such a node is sound.
+-- A result whose refusals are those of building is Ok or `OutOfMemory`, where the node is sound.
 pub build_complete : (x : ExtMeaning) (e : Declared.Encoding) (h : ArrayHead) (bs : List Buffer) (ts : Trees) (r : Result Tree EncodingError) → IsPlanned x e h (places ts)
     → IfErr r (λ error. RefusesBuilding error x e h bs ts) → (t : Tree) → IsBuilt x e h bs ts t → IsSound t → IsOkOrMemory r
 build_complete x e h bs ts (Ok u) planned refused t parts sound = tt
 build_complete x e h bs ts (Err error) planned refused t parts sound = built_refusal x error e h bs ts t planned refused parts sound
 
--- Of metadata that fits its message only memory is refused.
+-- For metadata that fits its message, the only refusal is `OutOfMemory`.
 written_refusal : (error : EncodingError) (t : Tree) → RefusesWritingMetadata error t → HasMessage (label t) (below t) → IsMemory error
 written_refusal OutOfMemory t u h = tt
 written_refusal BadMetadata t u h = absurd u

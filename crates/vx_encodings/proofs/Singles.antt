@@ -1,4 +1,4 @@
--- The steps of encodings that have one buffer, and of those that have, below, at most a validity: what is planned, what is
+-- The steps of encodings with one buffer, and of those with at most a validity as a child: what is planned, what is
 -- built, and why not.
 use Rattle.std.proofs.Common.{ℕ, ◌≡◌, ◌≤◌, List, [], ◌∷◌, Some, None, Result, Ok, Err, IfOk, refl, sym, ap, ◌∙◌, subst, inl, length, arith}
 use Rattle.vx_buffer.specs.Buffer.{Buffer}
@@ -60,23 +60,23 @@ bodiless _ v bs s none = absurd s
 misshaped : (e : Encoding) (d : Typ) (n : ℕ) (v : Metadata) (bs : List Buffer) (k : ℕ) → IsSingle e → (length bs ≡ 1 → ⊥) → IsShaped e d n v bs k → ⊥
 misshaped e d n v bs k s none shaped = let f : None ≡ Some shaped.body = sym (bodiless e v bs s none) ∙ shaped.body_is in absurd (cc)
 
--- Where a validity or nothing is planned there is at most one child.
+-- Where a validity or nothing is planned, there is at most one child.
 pub single_children : (n k : ℕ) (us : Trees) (ts : List Tree) → before_validity [] n k ≡ Some (places us) → roses_of ts ≡ us → length ts ≤ 1
 single_children n k us ts planned e = let f = validity_few n k us planned in omega (arith, f.0, count-roses_of ts, ap (λ z. count z) e)
 
 -- A node whose metadata is read.
 module _ (x : ExtMeaning) (e : Declared.Encoding) (h : ArrayHead) (v : Metadata) (m : IsMetadata codec x (plain_encoding e) (typ h.dtype) h.metadata v) where
-  -- What is answered for a validity is the answer for the node.
+  -- The result for a validity is the result for the node.
   pub single_planned : (r : Result (List Place) EncodingError) → plan_of (plain_encoding e) (typ h.dtype) h.len v h.nchildren ≡ before_validity [] h.len h.nchildren
       → IfOk r (λ ps. before_validity [] h.len h.nchildren ≡ Some ps) → IfOk r (λ ps. IsPlanned x e h ps)
   single_planned (Ok ps) p q = record { value = v; metadata = m; plan = p ∙ q }
   single_planned (Err error) p q = tt
 
-  -- Where nothing is planned the shape does not fit.
+  -- Where nothing is planned, the shape does not fit.
   pub single_unplanned : plan_of (plain_encoding e) (typ h.dtype) h.len v h.nchildren ≡ None → RefusesPlanning BadShape x e h
   single_unplanned none = record { value = v; metadata = m; none = none }
 
-  -- Nor does it where no validity is.
+  -- Why no validity is planned is why the node has no plan.
   pub single_without : (error : EncodingError) → plan_of (plain_encoding e) (typ h.dtype) h.len v h.nchildren ≡ before_validity [] h.len h.nchildren
       → RefusesPlaces error (before_validity [] h.len h.nchildren) → RefusesPlanning error x e h
   single_without OutOfMemory p w = tt
@@ -84,7 +84,7 @@ module _ (x : ExtMeaning) (e : Declared.Encoding) (h : ArrayHead) (v : Metadata)
   single_without BadShape p w = single_unplanned (p ∙ w)
   single_without _ p w = absurd w
 
-  -- What is built has the parts.
+  -- The array that is built has these parts.
   pub single_built : (bs : List Buffer) (us : Trees) (body : Body) (t : Tree) → body_of (plain_encoding e) v bs ≡ Some body → t ≡ node (untold (typ h.dtype) h.len body) us → IsBuilt x e h bs us t
   single_built bs us body t p q = record { value = v; metadata = m; body = body; body_is = p; tree_is = q }
 
@@ -98,6 +98,6 @@ module _ (x : ExtMeaning) (e : Declared.Encoding) (h : ArrayHead) (v : Metadata)
       let counted : plan_of (plain_encoding e) (typ h.dtype) h.len v (count us) ≡ Some (places us) = subst (λ (z : ℕ). plan_of (plain_encoding e) (typ h.dtype) h.len v z ≡ Some (places us)) few.1 planned in
       constructor_refused x e h v m error bs us body t (ap (λ (z : List Buffer). body_of (plain_encoding e) v z) p ∙ body_is) fair counted level takes q refused
 
-  -- Buffers of another number than one do not fit.
+  -- Another number of buffers than one does not fit.
   pub single_buffers : (bs : List Buffer) (us : Trees) → IsSingle (plain_encoding e) → (length bs ≡ 1 → ⊥) → RefusesBuilding BadShape x e h bs us
   single_buffers bs us s none = record { value = v; metadata = m; wrong = inl (misshaped (plain_encoding e) (typ h.dtype) h.len v bs (count us) s none) }

@@ -36,18 +36,18 @@ use Rattle.vx_plans.specs.declared.head.ArrayHead.{ArrayHead}
 
 -- ---- a plan
 
--- Where a byte stands there is no metadata.
+-- Metadata that is not empty is refused.
 pub structures_unread : (x : ExtMeaning) (h : ArrayHead) → h.metadata ≢ [] → RefusesPlanning BadMetadata x Struct h
 structures_unread x h b v m = b (struct_nothing x (typ h.dtype) h.metadata v m).0
 
--- Where nothing is planned the shape does not fit.
+-- Where nothing is planned, the shape does not fit.
 pub structures_unplanned : (x : ExtMeaning) (h : ArrayHead) → h.metadata ≡ [] → plan (typ h.dtype) h.len h.nchildren ≡ None → RefusesPlanning BadShape x Struct h
 structures_unplanned x h b e = single_unplanned x Struct h M.empty (struct_metadata x (typ h.dtype) h.metadata b) e
 
 plan_at : (d : DType) (f : Fields) (m : Nullability) (n k : ℕ) → d ≡ D.Struct f m → plan (typ d) n k ≡ behind (places_at (roses_of f.types) n) n k
 plan_at d f m n k q = ap (λ (z : DType). plan (typ z) n k) q
 
--- What is answered for a validity and the fields is the answer for the node.
+-- The result for a validity and the fields is the result for the node.
 pub structures_planned : (x : ExtMeaning) (h : ArrayHead) (r : Result (List Place) EncodingError) (f : Fields) (ds : List Typ) (m : Nullability) → h.metadata ≡ [] → h.dtype ≡ D.Struct f m → ds ≡ f.types
     → IfOk r (λ ps. behind (places_at (roses_of ds) h.len) h.len h.nchildren ≡ Some ps) → IfOk r (λ ps. IsPlanned x Struct h ps)
 structures_planned x h (Ok ps) f ds m b q g p =
@@ -81,7 +81,7 @@ pub in_no_way : (ds : List DType) (n k : ℕ) → (k ≡ length ds → ⊥) → 
 in_no_way ds n k h g =
     behind_other (places_at (roses_of (typs ds)) n) n k (λ e. h (e ∙ fields_length ds n)) (λ e. g (e ∙ ap (λ j. suc j) (fields_length ds n)))
 
--- What is answered for the fields after these places is the answer for a validity that may stand in front of them.
+-- The result for the fields after these places is the result for an optional validity in front of them.
 pub without_front_planned : (r : Result (List Place) EncodingError) (front : List Place) (ds : List DType) (n k : ℕ) → front ≡ [] → k ≡ length ds
     → IfOk r (λ ps. ps ≡ front ++ places_at (roses_of (typs ds)) n) → IfOk r (λ ps. behind (places_at (roses_of (typs ds)) n) n k ≡ Some ps)
 without_front_planned (Ok ps) front ds n k f e p =
@@ -95,8 +95,8 @@ with_front_planned (Ok ps) front none v ds n k o w f e p =
     with_front ds n k e ∙ ap (λ (qs : List Place). Some qs) (sym (p ∙ ap (λ (qs : List Place). qs ++ places_at (roses_of (typs ds)) n) q))
 with_front_planned (Err error) front none v ds n k o w f e p = tt
 
--- The places so far are followed by those of the fields that are left: so it is with one place more, and at the end there
--- are all.
+-- The places so far and those of the fields that are left are all; the same holds with one place more, and at the end
+-- no field is left.
 pub fields_more : (so_far all : List Place) (p : Place) (ds : List DType) (n i : ℕ) (d : DType) → i < length ds → d ≡ get_or ds i d → p ≡ place (typ d) n
     → so_far ++ places_at (roses_of (typs (drop i ds))) n ≡ all → (so_far ++ p ∷ []) ++ places_at (roses_of (typs (drop (i + 1) ds))) n ≡ all
 fields_more so_far all p ds n i d lt is planned kept =
@@ -154,7 +154,7 @@ made h us columns v f m q r =
 bodied : (bs : List Buffer) → bs ≡ [] → body_of E.struct M.empty bs ≡ Some B.struct
 bodied bs e = ap (λ (cs : List Buffer). body_of E.struct M.empty cs) e
 
--- What is built has the parts.
+-- The array that is built has these parts.
 pub structures_built : (x : ExtMeaning) (h : ArrayHead) (bs : List Buffer) (us columns : Trees) (v : Option Tree) (f : Fields) (m : Nullability) (t : Tree)
     → (y : ExtMeaning) × IsPlanned y Struct h (places us) → bs ≡ [] → h.dtype ≡ D.Struct f m → behind_validity v columns ≡ us → t ≡ struct_tree f m columns h.len v → IsBuilt x Struct h bs us t
 structures_built x h bs us columns v f m t planned b q r w =
@@ -171,7 +171,7 @@ structures_refused x error h bs us columns v f m planned b q r refused =
     constructor_refused x Struct h M.empty (struct_metadata x (typ h.dtype) h.metadata k.no_byte) error bs us B.struct (struct_tree f m columns h.len v)
     (bodied bs b) tt counted refl tt (made h us columns v f m q r) refused
 
--- Buffers do not fit.
+-- A node with buffers does not fit.
 bufferless : (d : Typ) (n : ℕ) (bs : List Buffer) (k : ℕ) → bs ≢ [] → IsShaped E.struct d n M.empty bs k → ⊥
 bufferless d n [] k none s = none refl
 bufferless d n (b ∷ bs) k none s = let f : None ≡ Some s.body = s.body_is in cc
@@ -184,5 +184,5 @@ structures_buffers x h bs us planned none =
       wrong = inl (bufferless (typ h.dtype) h.len bs (count us) none);
     }
 
--- What the steps of structures rest on.
+-- The lemmas for the steps of structures.
 pub ruleset struct_steps = (structures_unread, structures_unplanned, structures_without, in_no_way, structures_fielded, structures_built, structures_refused, structures_buffers)

@@ -44,7 +44,7 @@ member_places ds m n = place (node (primitive U8 m) end) n ∷ places_at (roses_
 pub others_unplanned : (ds : List DType) (m : Nullability) (n k : ℕ) → k ≢ length ds + 1 → exactly (member_places (typs ds) m n) k ≡ None
 others_unplanned ds m n k h = exactly_none (member_places (typs ds) m n) k (λ e. h (e ∙ ap (λ j. suc j) (fields_length ds n) ∙ sym (add-one (length ds))))
 
--- What is answered for the members after the tags is the answer for both.
+-- The result for the members after the tags is the result for both.
 pub members_planned : (r : Result (List Place) EncodingError) (front none : List Place) (p : Place) (ds : List DType) (m : Nullability) (n k : ℕ) → none ≡ [] → p ≡ place (node (primitive U8 m) end) n → front ≡ none ++ p ∷ []
     → k ≡ length ds + 1 → IfOk r (λ ps. ps ≡ front ++ places_at (roses_of (typs ds)) n) → IfOk r (λ ps. exactly (member_places (typs ds) m n) k ≡ Some ps)
 members_planned (Ok ps) front none p ds m n k o w f e q =
@@ -56,18 +56,18 @@ members_planned (Err error) front none p ds m n k o w f e q = tt
 
 pub ruleset member_steps = (others_unplanned, members_planned)
 
--- Where a byte stands there is no metadata.
+-- Metadata that is not empty is refused.
 pub unions_unread : (x : ExtMeaning) (h : ArrayHead) → h.metadata ≢ [] → RefusesPlanning BadMetadata x Union h
 unions_unread x h b v m = b (union_nothing x (typ h.dtype) h.metadata v m).0
 
--- Where nothing is planned the shape does not fit.
+-- Where nothing is planned, the shape does not fit.
 pub unions_unplanned : (x : ExtMeaning) (h : ArrayHead) → h.metadata ≡ [] → plan (typ h.dtype) h.len h.nchildren ≡ None → RefusesPlanning BadShape x Union h
 unions_unplanned x h b e = single_unplanned x Union h M.empty (union_metadata x (typ h.dtype) h.metadata b) e
 
 plan_at : (d : DType) (v : Members) (m : Nullability) (n k : ℕ) → d ≡ D.Union v m → plan (typ d) n k ≡ exactly (member_places v.types m n) k
 plan_at d v m n k q = ap (λ (z : DType). plan (typ z) n k) q
 
--- What is answered for the tags and the members is the answer for the node.
+-- The result for the tags and the members is the result for the node.
 pub unions_planned : (x : ExtMeaning) (h : ArrayHead) (r : Result (List Place) EncodingError) (v : Members) (ds : List Typ) (m : Nullability) → h.metadata ≡ [] → h.dtype ≡ D.Union v m → ds ≡ v.types
     → IfOk r (λ ps. exactly (member_places ds m h.len) h.nchildren ≡ Some ps) → IfOk r (λ ps. IsPlanned x Union h ps)
 unions_planned x h (Ok ps) v ds m b q g p =
@@ -112,7 +112,7 @@ union_plan x h us p =
 bodied : (bs : List Buffer) → bs ≡ [] → body_of E.union M.empty bs ≡ Some B.union
 bodied bs e = ap (λ (cs : List Buffer). body_of E.union M.empty cs) e
 
--- What is built has the parts.
+-- The array that is built has these parts.
 pub unions_built : (x : ExtMeaning) (h : ArrayHead) (bs : List Buffer) (us : Trees) (t : Tree) → (y : ExtMeaning) × IsPlanned y Union h (places us) → bs ≡ [] → t ≡ node (untold (typ h.dtype) h.len B.union) us → IsBuilt x Union h bs us t
 unions_built x h bs us t planned b w =
     let k = union_plan planned.0 h us planned.1 in
@@ -125,7 +125,7 @@ unions_refused x error h bs us planned b refused =
     let k = union_plan planned.0 h us planned.1 in
     constructor_refused x Union h M.empty (union_metadata x (typ h.dtype) h.metadata k.no_byte) error bs us B.union (node (untold (typ h.dtype) h.len B.union) us) (bodied bs b) tt k.planned refl tt refl refused
 
--- Buffers do not fit.
+-- A node with buffers does not fit.
 bufferless : (d : Typ) (n : ℕ) (bs : List Buffer) (k : ℕ) → bs ≢ [] → IsShaped E.union d n M.empty bs k → ⊥
 bufferless d n [] k none s = none refl
 bufferless d n (b ∷ bs) k none s = let f : None ≡ Some s.body = s.body_is in cc
@@ -138,5 +138,5 @@ unions_buffers x h bs us planned none =
       wrong = inl (bufferless (typ h.dtype) h.len bs (count us) none);
     }
 
--- What the steps of unions rest on.
+-- The lemmas for the steps of unions.
 pub ruleset union_steps = (unions_unread, unions_unplanned, unions_without, unions_built, unions_refused, unions_buffers)

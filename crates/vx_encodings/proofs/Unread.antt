@@ -16,5 +16,5 @@ unread_message s place bytes TooDeep (inr c) = λ v r. read_uncaused s place byt
 unread_message s place bytes OutOfRange (inl h) = absurd (cc)
 unread_message s place bytes OutOfRange (inr c) = λ v r. read_uncaused s place bytes v OutOfRange r c
 
--- What the reading of messages rests on.
+-- The lemmas for the reading of messages.
 pub ruleset unread = (unread_message)

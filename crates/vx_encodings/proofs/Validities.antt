@@ -15,7 +15,7 @@ validity_few n (suc zero) (more u end) e = (omega arith, refl)
 validity_few n (suc zero) (more u (more v us)) e = absurd (cc)
 validity_few n (suc (suc k)) us e = absurd (cc)
 
--- Where it may stand after one child, there are at most two.
+-- Where a validity may stand after one child, there are at most two.
 pub behind_few : (p : Place) (n k : ℕ) (us : Trees) → before_validity (p ∷ []) n k ≡ Some (places us) → (1 ≤ count us) × (count us ≤ 2) × (k ≡ count us)
 behind_few p n zero us e = absurd (cc)
 behind_few p n (suc k) end e = let m = mapped (λ (qs : List Place). p ∷ qs) (before_validity [] n k) [] e in absurd (no_places p m.0 m.1)

@@ -47,7 +47,7 @@ varbins_unread x _ h u = absurd u
 no_integer : (p : PType) → is_integer p ≡ false → IsTrue (is_integer p) → ⊥
 no_integer p e t = absurd (cc)
 
--- Nor are those of a kind of floats.
+-- Nor are those of a float kind.
 pub varbins_of_floats : (x : ExtMeaning) (h : ArrayHead) (p : PType) (t : Bool) → Reads varbin_schema 0 h.metadata (varbin_value p) → t ≡ is_integer p → t ≡ false → RefusesPlanning BadMetadata x VarBin h
 varbins_of_floats x h p t r e f v m = no_integer p (sym e ∙ f) (kind_is_integer x (typ h.dtype) h.metadata v p m r)
 
@@ -57,7 +57,7 @@ counted n h = lt-ltb (suc n) (2 ^ 64) h
 uncounted : (n : ℕ) → 2 ^ 64 ≤ suc n → is_len (suc n) ≡ false
 uncounted n h = le-ltb (suc n) (2 ^ 64) h
 
--- Under a type of texts or of bytes what is planned is one offset more than rows, and a validity or nothing after them.
+-- Under a type of texts or bytes one offset more than rows is planned, and a validity or nothing after the offsets.
 plan_is : (d : Typ) (n : ℕ) (p : PType) (k : ℕ) → IsOfBytes d → suc n < 2 ^ 64 → plan d n p k ≡ before_validity (place (numbers p) (suc n) ∷ []) n k
 plan_is (node (utf8 m) end) n p k h lt = rw (counted n lt) refl
 plan_is (node (binary m) end) n p k h lt = rw (counted n lt) refl
@@ -82,7 +82,7 @@ pub varbins_uncounted : (x : ExtMeaning) (h : ArrayHead) (p : PType) (t : Bool) 
 varbins_uncounted x h p t r e f past =
     single_unplanned x VarBin h (M.varbin p) (varbin_metadata x (typ h.dtype) h.metadata p r (sym e ∙ f)) (plan_past (typ h.dtype) h.len p h.nchildren (omega (arith, past)))
 
--- What is answered for offsets and a validity after them is the answer for the node.
+-- The result for offsets and a validity after them is the result for the node.
 pub varbins_planned : (x : ExtMeaning) (h : ArrayHead) (r : Result (List Place) EncodingError) (p : PType) (t u : Bool) (k : ℕ) → Reads varbin_schema 0 h.metadata (varbin_value p) → t ≡ is_integer p → t ≡ true → (IsTrue u ↔ IsOfBytes (typ h.dtype)) → u ≡ true → k ≡ h.len + 1 → k < 2 ^ 64
     → IfOk r (λ ps. before_validity (place (numbers p) k ∷ []) h.len h.nchildren ≡ Some ps) → IfOk r (λ ps. IsPlanned x VarBin h ps)
 varbins_planned x h (Ok ps) p t u k shown i f g b e lt q =
@@ -133,7 +133,7 @@ varbin_plan x h us p =
       planned = q;
     }
 
--- A planned node has one child, or two.
+-- A planned node has one child or two.
 pub some_child : (h : ArrayHead) (us : Trees) (ts : List Tree) → (y : ExtMeaning) × IsPlanned y VarBin h (places us) → roses_of ts ≡ us → 1 ≤ length ts
 some_child h us ts planned e =
     let p = varbin_plan planned.0 h us planned.1 in
@@ -155,7 +155,7 @@ made h us o b v p e =
     let n : (label o).len - 1 ≡ h.len = omega (arith, l) in
     rw (n, e) refl
 
--- What is built has the parts.
+-- The array that is built has these parts.
 pub varbins_built : (x : ExtMeaning) (h : ArrayHead) (bs : List Buffer) (us : Trees) (o : Tree) (b : Buffer) (v : Option Tree) (t : Tree)
     → (y : ExtMeaning) × IsPlanned y VarBin h (places us) → bs ≡ b ∷ [] → more o (option_trees v) ≡ us → t ≡ varbin_tree (typ h.dtype) o b v → IsBuilt x VarBin h bs us t
 varbins_built x h bs us o b v t planned p e q =
@@ -172,11 +172,11 @@ varbins_refused x error h bs us o b v planned p e refused =
     constructor_refused x VarBin h (M.varbin k.kind) (varbin_metadata x (typ h.dtype) h.metadata k.kind k.reads k.integer) error bs us (B.varbin (record { bytes = b })) (varbin_tree (typ h.dtype) o b v)
     (rw p refl) k.integer counted refl tt (made h us o b v k e) refused
 
--- Buffers of another number than one do not fit.
+-- Another number of buffers than one does not fit.
 pub varbins_buffers : (x : ExtMeaning) (h : ArrayHead) (bs : List Buffer) (us : Trees) → (y : ExtMeaning) × IsPlanned y VarBin h (places us) → (length bs ≡ 1 → ⊥) → RefusesBuilding BadShape x VarBin h bs us
 varbins_buffers x h bs us planned none =
     let k = varbin_plan planned.0 h us planned.1 in
     single_buffers x VarBin h (M.varbin k.kind) (varbin_metadata x (typ h.dtype) h.metadata k.kind k.reads k.integer) bs us tt none
 
--- What the steps of texts and of bytes rest on.
+-- The lemmas for the steps of texts and of bytes.
 pub ruleset varbin_steps = (varbins_unread, varbins_of_floats, varbins_of_others, varbins_uncounted, varbins_planned, varbins_without, some_child, few_children, varbins_built, varbins_refused, varbins_buffers)

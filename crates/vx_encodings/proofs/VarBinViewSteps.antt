@@ -33,7 +33,7 @@ use Rattle.vx_plans.specs.declared.head.ArrayHead.{ArrayHead}
 
 -- ---- a plan
 
--- Under a type of texts or of bytes what is planned is a validity or nothing.
+-- Under a type of texts or bytes a validity or nothing is planned.
 plan_is : (d : Typ) (n k : ℕ) → IsOfBytes d → plan d n k ≡ before_validity [] n k
 plan_is (node (utf8 m) end) n k h = refl
 plan_is (node (binary m) end) n k h = refl
@@ -44,15 +44,15 @@ plan_none (node (utf8 m) end) n k h = absurd (h tt)
 plan_none (node (binary m) end) n k h = absurd (h tt)
 plan_none _ n k h = refl
 
--- Where a byte stands there is no metadata.
+-- Metadata that is not empty is refused.
 pub views_unread : (x : ExtMeaning) (h : ArrayHead) → h.metadata ≢ [] → RefusesPlanning BadMetadata x VarBinView h
 views_unread x h b v m = b (varbinview_nothing x (typ h.dtype) h.metadata v m).0
 
--- Where the type is another one the shape does not fit.
+-- Where the type is of another kind, the shape does not fit.
 pub views_of_others : (x : ExtMeaning) (h : ArrayHead) (t : Bool) → h.metadata ≡ [] → (IsTrue t ↔ IsOfBytes (typ h.dtype)) → t ≡ false → RefusesPlanning BadShape x VarBinView h
 views_of_others x h t b f e = single_unplanned x VarBinView h M.empty (varbinview_metadata x (typ h.dtype) h.metadata b) (plan_none (typ h.dtype) h.len h.nchildren (iff_false f e))
 
--- Else what is answered for a validity is the answer for the node.
+-- Else the result for a validity is the result for the node.
 pub views_planned : (x : ExtMeaning) (h : ArrayHead) (r : Result (List Place) EncodingError) (t : Bool) → h.metadata ≡ [] → (IsTrue t ↔ IsOfBytes (typ h.dtype)) → t ≡ true
     → IfOk r (λ ps. before_validity [] h.len h.nchildren ≡ Some ps) → IfOk r (λ ps. IsPlanned x VarBinView h ps)
 views_planned x h r t b f e q = single_planned x VarBinView h M.empty (varbinview_metadata x (typ h.dtype) h.metadata b) r (plan_is (typ h.dtype) h.len h.nchildren (f.0 e)) q
@@ -87,7 +87,7 @@ views_plan x h us p =
 pub few_children : (h : ArrayHead) (us : Trees) (ts : List Tree) → (y : ExtMeaning) × IsPlanned y VarBinView h (places us) → roses_of ts ≡ us → length ts ≤ 1
 few_children h us ts planned e = single_children h.len h.nchildren us ts (views_plan planned.0 h us planned.1).children e
 
--- Of its buffers the last is that of the views.
+-- The last of its buffers is that of the views.
 views_last : (bs front : List Buffer) (b : Buffer) → bs ≡ front ++ b ∷ [] → body_of E.varbinview M.empty bs ≡ Some (B.varbinview (record { buffers = front; views = b }))
 views_last bs front b e = ap (λ (cs : List Buffer). body_of E.varbinview M.empty cs) e ∙ body_again (B.varbinview (record { buffers = front; views = b })) []
 
@@ -96,7 +96,7 @@ made : (h : ArrayHead) (us : Trees) (front : List Buffer) (b : Buffer) (o : Opti
     → varbinview_tree (typ h.dtype) h.len front b o ≡ node (varbinview_head (typ h.dtype) h.len (record { buffers = front; views = b })) us
 made h us front b o e = ap (λ (z : Trees). node (varbinview_head (typ h.dtype) h.len (record { buffers = front; views = b })) z) e
 
--- What is built has the parts.
+-- The array that is built has these parts.
 pub views_built : (x : ExtMeaning) (h : ArrayHead) (bs : List Buffer) (us : Trees) (front : List Buffer) (b : Buffer) (o : Option Tree) (t : Tree)
     → (y : ExtMeaning) × IsPlanned y VarBinView h (places us) → bs ≡ front ++ b ∷ [] → option_trees o ≡ us → t ≡ varbinview_tree (typ h.dtype) h.len front b o → IsBuilt x VarBinView h bs us t
 views_built x h bs us front b o t planned e c r =
@@ -126,5 +126,5 @@ views_missing x h bs us planned e =
       wrong = inl (viewless (typ h.dtype) h.len bs (count us) e);
     }
 
--- What the steps of texts and of bytes by views rest on.
+-- The lemmas for the steps of texts and of bytes by views.
 pub ruleset varbinview_steps = (views_unread, views_of_others, views_planned, views_without, few_children, views_built, views_refused, views_missing)

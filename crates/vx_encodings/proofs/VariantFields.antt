@@ -64,7 +64,7 @@ pub few_nested : (v : Option Typ) → IsFair v → FitsMessage (M.variant v) →
 few_nested None f l = omega arith
 few_nested (Some e) f l = omega (arith, l, type_depth e f)
 
--- What is written is read again.
+-- What is written is read as the same type.
 pub variant_again : (v : Option Typ) → IsFair v → FitsMessage (M.variant v) → length (variant_bytes v) < 2 ^ 64 → ShowsVariant (variant_bytes v) (F.variant v)
 variant_again v f l short = record {
   shredded = v;
@@ -75,7 +75,7 @@ variant_again v f l short = record {
 
 -- ---- metadata
 
--- A type that bytes tell and readers know is metadata.
+-- A type that bytes show and readers know is metadata.
 pub variant_metadata : (x : ExtMeaning) (bytes : List ℕ) (d : Typ) (v : Option Typ) → IsShredded x bytes v → IsMetadata codec x E.variant d bytes (M.variant v)
 variant_metadata x bytes d v s = record {
   fields = F.variant v;
@@ -85,7 +85,7 @@ variant_metadata x bytes d v s = record {
   known = s.known;
 }
 
--- What metadata of theirs is read as.
+-- What this metadata is read as.
 pub record ReadsVariant (x : ExtMeaning) (bytes : List ℕ) (v : Metadata) : Type 0 where
   pub shredded : Option Typ
   pub value_is : v ≡ M.variant shredded
@@ -105,18 +105,18 @@ variant_read x d bytes v m =
 
 -- ---- the type of a shredded child
 
--- Bytes that are no message tell none.
+-- Bytes that are no message show no type.
 pub nothing_told : (x : ExtMeaning) (bytes : List ℕ) (e : EncodingError) → RefusesMetadata e variant_schema 14 bytes → RefusesShredded e x bytes
 nothing_told x bytes OutOfMemory u = tt
 nothing_told x bytes BadMetadata u = λ d h. u _ h.reads
 nothing_told x bytes BadShape u = absurd u
 nothing_told x bytes _ u = absurd u
 
--- A message without a type tells that there is none.
+-- A message without a type shows that there is none.
 pub none_told : (x : ExtMeaning) (bytes : List ℕ) (v : Option Value) → Reads variant_schema 14 bytes (variant_value v) → v ≡ None → IsShredded x bytes None
 none_told x bytes v r e = record { is_type = tt; reads = subst (λ (z : Option Value). Reads variant_schema 14 bytes (variant_value z)) e r; known = tt }
 
--- A message with a type that is read tells it.
+-- A message with a type that is read shows it.
 pub type_told : (x : ExtMeaning) (bytes : List ℕ) (v : Option Value) (m : Value) (t : Typ) → Reads variant_schema 14 bytes (variant_value v) → v ≡ Some m → IsRead (IsMessageOf m) x t → IsShredded x bytes (Some t)
 type_told x bytes v m t r e k =
     let q : v ≡ Some (type_message t) = e ∙ ap (λ (z : Value). Some z) k.shows.is in
@@ -125,7 +125,7 @@ type_told x bytes v m t r e k =
 few_levels : (t : Typ) → IsType t → nested (shredded_value (Some t)) ≤ 100 → levels t ≤ 50
 few_levels t f n = omega (arith, n, type_depth t f)
 
--- A message with a type that is not read tells none.
+-- A message with a type that is not read shows none.
 pub type_untold : (x : ExtMeaning) (bytes : List ℕ) (v : Option Value) (m : Value) → Reads variant_schema 14 bytes (variant_value v) → nested (variant_value v) ≤ 100 → v ≡ Some m
     → ((t : Typ) → levels t ≤ 50 → IsRead (IsMessageOf m) x t → ⊥) → (d : Option Typ) → IsShredded x bytes d → ⊥
 type_untold x bytes v m r n e never None s =
@@ -145,7 +145,7 @@ pub ruleset shredded_types = (nothing_told, none_told, type_told, types_unknown)
 
 -- ---- what is written of it
 
--- Fewer than two children tell no type.
+-- Fewer than two children have no shredded type.
 pub lone_untold : (ts : List Tree) → length ts < 2 → None ≡ metadata_of (places (roses_of ts))
 lone_untold [] few = refl
 lone_untold (t ∷ []) few = refl
@@ -163,6 +163,6 @@ pub ruleset variant_written = (written_nests, written_is)
 
 -- ---- what fits
 
--- The type in a root that fits its message has few levels.
+-- The type in a root whose metadata fits its message has few levels.
 pub typed_fit : (t : Tree) (b : Body) (us : Trees) → b ≡ Variant → plain_body b ≡ (label t).body → us ≡ below t → HasMessage (label t) (below t) → FitsMessage (M.variant (metadata_of (places us)))
 typed_fit t b us e p u h = fits_over t b Variant e p us u h

@@ -35,14 +35,14 @@ use Rattle.vx_plans.specs.declared.head.ArrayHead.{ArrayHead}
 
 -- ---- a plan
 
--- Bytes that tell no type that is known are no metadata.
+-- Bytes that show no known type are no metadata.
 pub variants_unread : (x : ExtMeaning) (error : EncodingError) (h : ArrayHead) → RefusesShredded error x h.metadata → RefusesPlanning error x Variant h
 variants_unread x OutOfMemory h u = tt
 variants_unread x BadMetadata h u = λ v m. let k = variant_read x (typ h.dtype) h.metadata v m in u k.shredded k.told
 variants_unread x BadShape h u = absurd u
 variants_unread x _ h u = absurd u
 
--- Where nothing is planned the shape does not fit.
+-- Where nothing is planned, the shape does not fit.
 unplanned : (x : ExtMeaning) (h : ArrayHead) (s : Option Typ) → IsShredded x h.metadata s → plan (typ h.dtype) h.len s h.nchildren ≡ None → RefusesPlanning BadShape x Variant h
 unplanned x h s k e = single_unplanned x Variant h (M.variant s) (variant_metadata x h.metadata (typ h.dtype) s k) e
 
@@ -56,7 +56,7 @@ plan_is m n (Some e) k = refl
 plan_at : (d : DType) (m : Nullability) (n : ℕ) (s : Option Typ) (k : ℕ) → d ≡ D.Variant m → plan (typ d) n s k ≡ exactly (child_places (typ d) s n) k
 plan_at d m n s k q = ap (λ (z : DType). plan (typ z) n s k) q ∙ plan_is m n s k ∙ ap (λ (z : DType). exactly (child_places (typ z) s n) k) (sym q)
 
--- What is answered for the core and the shredded child is the answer for the node.
+-- The result for the core and the shredded child is the result for the node.
 pub variants_planned : (x : ExtMeaning) (h : ArrayHead) (r : Result (List Place) EncodingError) (bytes : List ℕ) (s : Option Typ) (m : Nullability) → bytes ≡ h.metadata → IsShredded x bytes s → h.dtype ≡ D.Variant m
     → IfOk r (λ ps. exactly (child_places (typ h.dtype) s h.len) h.nchildren ≡ Some ps) → IfOk r (λ ps. IsPlanned x Variant h ps)
 variants_planned x h (Ok ps) bytes s m same k q p =
@@ -75,7 +75,7 @@ pub variants_without : (x : ExtMeaning) (h : ArrayHead) (r : Result (List Place)
 variants_without x h (Ok ps) s m k q w = tt
 variants_without x h (Err error) s m k q w = without error x h s m k q w
 
--- What is planned of variants, and why nothing is, holds of an encoding that is theirs.
+-- What holds of the plan of variants holds of an encoding that is theirs.
 pub planned_at : (x : ExtMeaning) (e : Encoding) (h : ArrayHead) (r : Result (List Place) EncodingError) → e ≡ Variant → IfOk r (λ ps. IsPlanned x Variant h ps) → IfOk r (λ ps. IsPlanned x e h ps)
 planned_at x e h r q p = subst (λ (z : Encoding). IfOk r (λ ps. IsPlanned x z h ps)) (sym q) p
 
@@ -105,7 +105,7 @@ variant_plan x h us p =
 bodied : (s : Option Typ) (bs : List Buffer) → bs ≡ [] → body_of E.variant (M.variant s) bs ≡ Some B.variant
 bodied s bs e = ap (λ (cs : List Buffer). body_of E.variant (M.variant s) cs) e
 
--- What is built has the parts.
+-- The array that is built has these parts.
 pub variants_built : (x : ExtMeaning) (h : ArrayHead) (bs : List Buffer) (us : Trees) (t : Tree) → IsPlanned x Variant h (places us) → bs ≡ [] → t ≡ node (untold (typ h.dtype) h.len B.variant) us → IsBuilt x Variant h bs us t
 variants_built x h bs us t planned b w =
     let k = variant_plan x h us planned in
@@ -119,7 +119,7 @@ variants_refused x error h bs us planned b refused =
     children_refused x Variant h (M.variant k.shredded) (variant_metadata x h.metadata (typ h.dtype) k.shredded k.told) error bs us B.variant
     (node (untold (typ h.dtype) h.len B.variant) us) (bodied k.shredded bs b) k.told.is_type k.planned refl refl refused
 
--- Buffers do not fit.
+-- A node with buffers does not fit.
 bufferless : (d : Typ) (n : ℕ) (s : Option Typ) (bs : List Buffer) (k : ℕ) → bs ≢ [] → IsShaped E.variant d n (M.variant s) bs k → ⊥
 bufferless d n s [] k none z = none refl
 bufferless d n s (b ∷ bs) k none z = let f : None ≡ Some z.body = z.body_is in cc
@@ -133,5 +133,5 @@ variants_buffers x h bs us planned none =
       wrong = inl (bufferless (typ h.dtype) h.len k.shredded bs (count us) none);
     }
 
--- What the steps of variants rest on.
+-- The lemmas for the steps of variants.
 pub ruleset variant_steps = (variants_unread, variants_unplanned, variants_planned, variants_without, variants_built, variants_refused, variants_buffers)

@@ -1,4 +1,4 @@
--- The metadata of list views: bytes that show how many elements there are and two kinds of integers, whatever the type and
+-- The metadata of list views: bytes that show the number of elements and two kinds of integers, whatever the type and
 -- the readers.
 use Rattle.std.proofs.Common.{ℕ, ◌≡◌, ◌^◌, ◌≤◌, ◌<◌, ◌==◌, List, [], length, refl, sym, ap, ◌∙◌, subst, arith}
 use Rattle.vx_types.specs.Known.{ExtMeaning}
@@ -35,7 +35,7 @@ views_formed v lt =
     whole_form view_schema 0 view_parts (v.elements_len, (code_of v.offset_ptype, (code_of v.size_ptype, tt)))
     ((v.elements_len, refl, lt), ((code_of v.offset_ptype, refl, few_kinds v.offset_ptype), ((code_of v.size_ptype, refl, few_kinds v.size_ptype), tt)))
 
--- Three slots that hold a number of elements and the codes of two kinds are the plain value of these.
+-- Three slots that hold a number of elements and the codes of two kinds are their plain value.
 pub three_numbers : (v : ListViews.Metadata) (m k l : ℕ) → v.elements_len ≡ m → code_of v.offset_ptype ≡ k → code_of v.size_ptype ≡ l → view_value v ≡ view_parts.value (m, (k, (l, tt)))
 three_numbers v m k l e f g = λ i. view_parts.value (e i, (f i, (g i, tt)))
 
@@ -49,7 +49,7 @@ short v lt =
     let few : length (view_bytes v) ≤ 60 = field_short (v.elements_len == 0) 8 v.elements_len _ 40 (omega arith) lt y in
     omega (arith, few)
 
--- What is written of them is read as them.
+-- What is written of them is read as these.
 pub views_again : (v : ListViews.Metadata) → v.elements_len < 2 ^ 64 → ShowsListView (view_bytes v) (view_fields v)
 views_again v lt = record {
   value = v;
@@ -67,7 +67,7 @@ views_metadata x d bytes v r h = record {
   known = tt;
 }
 
--- What metadata of theirs is read as: a number of elements, and two kinds of integers, that the bytes show.
+-- What this metadata is read as: a number of elements and two kinds of integers that the bytes show.
 pub record ReadsViews (bytes : List ℕ) (w : Metadata) : Type 0 where
   pub value : ListViews.Metadata
   pub reads : Reads view_schema 0 bytes (view_value value)
@@ -82,7 +82,7 @@ views_read x d bytes w m =
     let e = meant_views d m.fields m.shown.value w m.shown.fields_are m.meaning in
     record { value = m.shown.value; reads = m.shown.reads; value_is = e; fair = subst (λ (z : Metadata). IsFair E.listview z) e m.fair }
 
--- Bytes that show other kinds are none.
+-- Bytes that show other kinds are no metadata.
 pub views_fair : (x : ExtMeaning) (d : Typ) (bytes : List ℕ) (w : Metadata) (v : ListViews.Metadata) → IsMetadata codec x E.listview d bytes w → Reads view_schema 0 bytes (view_value v) → ListViews.IsFair v
 views_fair x d bytes w v m r =
     let k = views_read x d bytes w m in

@@ -47,7 +47,7 @@ one_read bytes v w r s = one_width_of_code v w (one_number (Enum 6) bytes (decim
 pub one_width : (bytes : List ℕ) (f g : Fields) → ShowsDecimal bytes f → ShowsDecimal bytes g → f ≡ g
 one_width bytes f g a b = a.fields_are ∙ ap (λ (w : DecimalType). F.decimal w) (one_read bytes a.values_type b.values_type a.reads b.reads) ∙ sym b.fields_are
 
--- What is written of a width is read as it.
+-- What is written of a width is read as that width.
 pub width_again : (w : DecimalType) → ShowsDecimal (decimal_bytes w) (F.decimal w)
 width_again w = record {
   values_type = w;
@@ -78,6 +78,6 @@ decimal_width x d bytes v m = record {
   value_is = sym m.meaning ∙ ap (λ (z : Fields). F.meant d z) m.shown.fields_are;
 }
 
--- And the one that is read is that.
+-- A width that the bytes show is the one that is read.
 pub width_is : (bytes : List ℕ) (v : Metadata) (w : DecimalType) → ReadsWidth bytes v → Reads decimal_schema 0 bytes (decimal_value w) → v ≡ M.decimal w
 width_is bytes v w r s = r.value_is ∙ ap (λ (z : DecimalType). M.decimal z) (one_read bytes r.values_type w r.reads s)

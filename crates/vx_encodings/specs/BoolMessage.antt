@@ -1,4 +1,4 @@
--- The message of the metadata of flags.
+-- The message of the metadata of booleans.
 use Rattle.std.specs.Prelude.{ℕ, ◌≡◌, List}
 use Rattle.vx_proto.specs.declared.schema.ScalarKind.TheVariants.{Uint32}
 use Rattle.vx_proto.specs.Reads.{Reads}
@@ -8,7 +8,7 @@ use Rattle.vx_wire_tree.specs.Fields.{Fields}
 use Rattle.vx_wire_tree.specs.Fields as F
 use Rattle.vx_encodings.specs.NumberMessage.{number_schema, number_value, number_bytes}
 
--- It has one number, of 32 bits: the offset, how many bits stand before the first row's.
+-- It has one number of 32 bits: the offset, which is the number of bits before the first row's.
 abbrev pub bool_schema : Schema
 bool_schema = number_schema Uint32
 

@@ -30,7 +30,7 @@ pub record ShowsDecimal (bytes : List ℕ) (f : Fields) : Type 0 where
 abbrev pub decimal_bytes : DecimalType → List ℕ
 decimal_bytes w = number_bytes (Enum 6) (decimal_code_of w)
 
--- The width of a code. (Which it is past the last code does not matter.)
+-- The width of a code. (Past the last code any will do.)
 abbrev pub width_of_code : ℕ → DecimalType
 width_of_code zero = I8
 width_of_code (suc zero) = I16
@@ -48,7 +48,7 @@ width_of_code_of I64 = refl
 width_of_code_of I128 = refl
 width_of_code_of I256 = refl
 
--- So a code is one width's, and a plain value one width's.
+-- So each code is that of one width, and each plain value, too.
 pub one_width_of_code : (v w : DecimalType) → decimal_code_of v ≡ decimal_code_of w → v ≡ w
 one_width_of_code v w e = sym (width_of_code_of v) ∙ ap (λ n. width_of_code n) e ∙ width_of_code_of w
 

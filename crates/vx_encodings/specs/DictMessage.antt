@@ -16,7 +16,7 @@ use Rattle.vx_wire_tree.specs.Fields.{Fields, DictFields, codes_nullability}
 use Rattle.vx_wire_tree.specs.Fields as F
 use Rattle.vx_encodings.specs.VarBinMessage.{one_kind_of_code}
 
--- It has two numbers, how many values there are and the code of the kind of the codes, one of eleven; and two flags, each of
+-- It has two numbers, the number of values and the code of the kind of the codes, one of eleven; and two flags, each of
 -- which may be absent.
 abbrev pub dict_schema : Schema
 dict_schema = (plain 1 Uint32 ∷ plain 2 (Enum 11) ∷ optional 3 Flag ∷ optional 4 Flag ∷ []) ∷ []
@@ -34,11 +34,11 @@ flag_again zero r = refl
 flag_again (suc zero) r = refl
 flag_again (suc (suc n)) r = absurd (omega (arith, flag_range (suc (suc n)) r))
 
--- What a flag is held as.
+-- The values of a flag.
 abbrev pub flags : Held Flag Bool
 flags = seen_as (numbers Flag tt) flag_number flag_of flag_back flag_again
 
--- How its slots are numbers and flags.
+-- Its slots as numbers and flags.
 abbrev pub dict_parts : Parts (HasForm dict_schema) (list_at dict_schema 0) (ℕ × (ℕ × (Option Bool × (Option Bool × Unit {0}))))
     (Both (InRange (numbers Uint32 tt)) (Both (InRange (numbers (Enum 11) tt)) (Both (IfStands (InRange flags)) (Both (IfStands (InRange flags)) (λ _. Unit {0})))))
 dict_parts = plain_part 1 (numbers Uint32 tt) and plain_part 2 (numbers (Enum 11) tt) and optional_part 3 flags and optional_part 4 flags and nothing
@@ -57,11 +57,11 @@ pub record ShowsDict (bytes : List ℕ) (f : Fields) : Type 0 where
   pub reads : Reads dict_schema 0 bytes (dict_value fields)
   pub fields_are : f ≡ F.dict fields
 
--- The bytes of their message. (Which stand there past what the message counts does not matter.)
+-- The bytes of their message. (For more values than the message counts, any bytes will do.)
 abbrev pub dict_bytes : DictFields → List ℕ
 dict_bytes f = written dict_schema 0 (dict_value f)
 
--- What the fields say of a node of a type.
+-- The metadata of these fields, for a node of a type.
 abbrev pub kept_of : Typ → DictFields → Dicts.Metadata
 kept_of d f = record {
   values_len = f.values_len;
@@ -70,7 +70,7 @@ kept_of d f = record {
   all_values_referenced = unwrap_or f.all_values_referenced false;
 }
 
--- A plain value is of one set of fields.
+-- A plain value is that of one set of fields.
 pub same_dict : (f g : DictFields) → dict_value f ≡ dict_value g → f ≡ g
 same_dict f g e =
     let s = dict_parts.same (f.values_len, (code_of f.codes_ptype, (f.is_nullable_codes, (f.all_values_referenced, tt)))) (g.values_len, (code_of g.codes_ptype, (g.is_nullable_codes, (g.all_values_referenced, tt)))) e in

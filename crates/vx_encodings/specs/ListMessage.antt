@@ -14,11 +14,11 @@ use Rattle.vx_wire_tree.specs.Fields.{Fields}
 use Rattle.vx_wire_tree.specs.Fields as F
 use Rattle.vx_encodings.specs.VarBinMessage.{one_kind_of_code}
 
--- It has two numbers: how many elements there are, and the code of the kind of the offsets, one of eleven.
+-- It has two numbers: the number of elements, and the code of the kind of the offsets, one of eleven.
 abbrev pub list_schema : Schema
 list_schema = (plain 1 Uint64 ∷ plain 2 (Enum 11) ∷ []) ∷ []
 
--- How its slots are numbers.
+-- Its slots as numbers.
 abbrev pub list_parts : Parts (HasForm list_schema) (list_at list_schema 0) (ℕ × (ℕ × Unit {0})) (Both (InRange (numbers Uint64 tt)) (Both (InRange (numbers (Enum 11) tt)) (λ _. Unit {0})))
 list_parts = plain_part 1 (numbers Uint64 tt) and plain_part 2 (numbers (Enum 11) tt) and nothing
 
@@ -37,7 +37,7 @@ pub record ShowsList (bytes : List ℕ) (f : Fields) : Type 0 where
 abbrev pub list_bytes : ℕ → PType → List ℕ
 list_bytes n p = written list_schema 0 (list_value n p)
 
--- A plain value is of one number of elements and one kind.
+-- A plain value is that of one number of elements and one kind.
 pub same_count : (n m : ℕ) (p q : PType) → list_value n p ≡ list_value m q → n ≡ m
 same_count n m p q e = ap (λ (x : ℕ × (ℕ × Unit {0})). x.0) (list_parts.same (n, (code_of p, tt)) (m, (code_of q, tt)) e)
 

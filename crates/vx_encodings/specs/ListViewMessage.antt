@@ -15,12 +15,12 @@ use Rattle.vx_wire_tree.specs.Fields.{Fields}
 use Rattle.vx_wire_tree.specs.Fields as F
 use Rattle.vx_encodings.specs.VarBinMessage.{one_kind_of_code}
 
--- It has three numbers: how many elements there are, and the codes of the kinds of the offsets and of the sizes, each one of
+-- It has three numbers: the number of elements, and the codes of the kinds of the offsets and of the sizes, each one of
 -- eleven.
 abbrev pub view_schema : Schema
 view_schema = (plain 1 Uint64 ∷ plain 2 (Enum 11) ∷ plain 3 (Enum 11) ∷ []) ∷ []
 
--- How its slots are numbers.
+-- Its slots as numbers.
 abbrev pub view_parts : Parts (HasForm view_schema) (list_at view_schema 0) (ℕ × (ℕ × (ℕ × Unit {0}))) (Both (InRange (numbers Uint64 tt)) (Both (InRange (numbers (Enum 11) tt)) (Both (InRange (numbers (Enum 11) tt)) (λ _. Unit {0}))))
 view_parts = plain_part 1 (numbers Uint64 tt) and plain_part 2 (numbers (Enum 11) tt) and plain_part 3 (numbers (Enum 11) tt) and nothing
 
@@ -32,7 +32,7 @@ kept_views n p q = record { elements_len = n; offset_ptype = p; size_ptype = q }
 abbrev pub view_value : Metadata → Value
 view_value v = ((1, number v.elements_len) ∷ []) ∷ ((2, number (code_of v.offset_ptype)) ∷ []) ∷ ((3, number (code_of v.size_ptype)) ∷ []) ∷ []
 
--- What the message tells.
+-- The fields of the message.
 abbrev pub view_fields : Metadata → Fields
 view_fields v = F.listview v.elements_len v.offset_ptype v.size_ptype
 
@@ -46,7 +46,7 @@ pub record ShowsListView (bytes : List ℕ) (f : Fields) : Type 0 where
 abbrev pub view_bytes : Metadata → List ℕ
 view_bytes v = written view_schema 0 (view_value v)
 
--- Its numbers, one in the other.
+-- Its numbers, as nested pairs.
 abbrev view_numbers : Metadata → ℕ × (ℕ × (ℕ × Unit {0}))
 view_numbers v = (v.elements_len, (code_of v.offset_ptype, (code_of v.size_ptype, tt)))
 

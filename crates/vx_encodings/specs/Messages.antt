@@ -17,14 +17,14 @@ use Rattle.vx_encodings.specs.ListMessage.{ShowsList, list_bytes}
 use Rattle.vx_encodings.specs.ListViewMessage.{ShowsListView, kept_views, view_bytes}
 use Rattle.vx_encodings.specs.VariantMessage.{ShowsVariant, variant_bytes}
 
--- An encoding that keeps nothing has no metadata: no byte stands there.
+-- An encoding that has no metadata: its bytes are empty.
 pub record ShowsNothing (bytes : List ℕ) (f : Fields) : Type 0 where
   pub bytes_are : bytes ≡ []
   pub fields_are : f ≡ F.empty
 
--- Eight encodings keep nothing, flags an offset, decimals a width, texts by offsets a kind of numbers, dictionaries a number of
--- values, a kind and two flags, lists a number of elements and a kind, list views another kind too, and variants a type that may
--- stand. A foreign node has no message: no bytes show one.
+-- Eight encodings have no metadata, booleans an offset, decimals a width, texts by offsets a kind of numbers,
+-- dictionaries a number of values, a kind and two flags, lists a number of elements and a kind, list views another kind
+-- too, and variants an optional type. A foreign node has no message: no bytes show one.
 abbrev pub Shows : Encoding → List ℕ → Fields → Type 0
 Shows E.null = ShowsNothing
 Shows E.bool = ShowsBool
@@ -43,7 +43,7 @@ Shows E.variant = ShowsVariant
 Shows E.ext = ShowsNothing
 Shows E.foreign = λ bytes f. ⊥
 
--- What keeps nothing is written as no byte, what is kept as its message, and a foreign node's bytes as they are.
+-- Where there is no metadata no byte is written, where there is some its message, and a foreign node's bytes unchanged.
 abbrev pub message_bytes : Fields → List ℕ
 message_bytes (F.bool offset) = bool_bytes offset
 message_bytes (F.decimal width) = decimal_bytes width
@@ -55,7 +55,7 @@ message_bytes (F.variant d) = variant_bytes d
 message_bytes (F.raw bytes) = bytes
 message_bytes F.empty = []
 
--- A set of statistics is written as its table, whatever it tells.
+-- A set of statistics is written as its table, whatever is in it.
 abbrev pub stats_field : Stats → Field
 stats_field t = table (stats_table t)
 

@@ -9,11 +9,11 @@ use Rattle.vx_proto.specs.Value.{Value, number}
 use Rattle.vx_proto.specs.Written.{written}
 use Rattle.vx_proto.proofs.LawsOfParts.{Parts, Both, InRange, IsNumeric, ◌and◌, nothing, numbers, plain_part}
 
--- The first field is a number of a kind, and there is no other.
+-- The first field is a number of a kind, and there is no other field.
 abbrev pub number_schema : ScalarKind → Schema
 number_schema k = (plain 1 k ∷ []) ∷ []
 
--- How its slot is a number.
+-- Its slot as a number.
 abbrev pub number_parts : (k : ScalarKind) (h : IsNumeric k) → Parts (HasForm (number_schema k)) (list_at (number_schema k) 0) (ℕ × Unit {0}) (Both (InRange (numbers k h)) (λ _. Unit {0}))
 number_parts k h = plain_part 1 (numbers k h) and nothing
 
@@ -25,6 +25,6 @@ number_value n = ((1, number n) ∷ []) ∷ []
 abbrev pub number_bytes : ScalarKind → ℕ → List ℕ
 number_bytes k n = written (number_schema k) 0 (number_value n)
 
--- A plain value is of one number.
+-- A plain value is that of one number.
 pub same_value : (a b : ℕ) → number_value a ≡ number_value b → a ≡ b
 same_value a b e = ap (λ (x : ℕ × Unit {0}). x.0) ((number_parts Uint64 tt).same (a, tt) (b, tt) e)

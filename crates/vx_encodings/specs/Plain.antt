@@ -3,7 +3,7 @@ use Rattle.vx_array_tree.specs.Encoding as E
 use Rattle.vx_encodings.specs.declared.encoding.Encoding.{Encoding}
 use Rattle.vx_encodings.specs.declared.encoding.Encoding.TheVariants as V
 
--- An encoding, of those that definitions know.
+-- An encoding of the code, as one of the definitions.
 abbrev pub plain_encoding : Encoding → E.Encoding
 plain_encoding V.Null = E.null
 plain_encoding V.Bool = E.bool

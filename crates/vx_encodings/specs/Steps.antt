@@ -26,8 +26,8 @@ use Rattle.vx_plans.specs.declared.head.ArrayHead.{ArrayHead}
 abbrev pub IsPlanned : ExtMeaning → Encoding → ArrayHead → List Place → Type 0
 IsPlanned x e h ps = PlansChildren codec x (plain_encoding e) (typ h.dtype) h.len h.metadata h.nchildren ps
 
--- No children are planned: for allocation failure, for metadata that is none of the encoding's, or for a type or a
--- number of children that does not fit.
+-- No children are planned: allocation failed, the metadata is none of the encoding's, or the type or the number of
+-- children does not fit.
 abbrev pub RefusesPlanning : EncodingError → ExtMeaning → Encoding → ArrayHead → Type 0
 RefusesPlanning OutOfMemory x e h = Unit {0}
 RefusesPlanning BadMetadata x e h = HasNoMetadata codec x (plain_encoding e) (typ h.dtype) h.metadata
@@ -40,8 +40,9 @@ RefusesPlanning WireLimit x e h = ⊥
 abbrev pub IsBuilt : ExtMeaning → Encoding → ArrayHead → List Buffer → Trees → Tree → Type 0
 IsBuilt x e h bs ts t = HasParts codec x (plain_encoding e) (typ h.dtype) h.len h.metadata bs ts t
 
--- No node is built of a planned one's parts: for allocation failure, for a shape that does not fit, for a foreign node where
--- a child says where rows are, or for broken content where the shape fits and no such node stands there. That the metadata is the encoding's was said where the children were planned.
+-- No node is built of a planned one's parts: allocation failed, the shape does not fit, a child that says where rows
+-- are is a foreign node, or the content is broken where the shape fits and no such node stands there. That the metadata
+-- is the encoding's was judged where the children were planned.
 abbrev pub RefusesBuilding : EncodingError → ExtMeaning → Encoding → ArrayHead → List Buffer → Trees → Type 0
 RefusesBuilding OutOfMemory x e h bs ts = Unit {0}
 RefusesBuilding BadMetadata x e h bs ts = ⊥
@@ -50,7 +51,7 @@ RefusesBuilding BadContent x e h bs ts = HasWrongContent codec x (plain_encoding
 RefusesBuilding ForeignControl x e h bs ts = HasWrongControl codec x (plain_encoding e) (typ h.dtype) h.len h.metadata ts
 RefusesBuilding WireLimit x e h bs ts = ⊥
 
--- No metadata is written of a root: for allocation failure, or as it does not fit its message.
+-- No metadata is written of a root: allocation failed, or the metadata does not fit its message.
 abbrev pub RefusesWritingMetadata : EncodingError → Tree → Type 0
 RefusesWritingMetadata OutOfMemory t = Unit {0}
 RefusesWritingMetadata BadMetadata t = ⊥
@@ -59,7 +60,7 @@ RefusesWritingMetadata BadContent t = ⊥
 RefusesWritingMetadata ForeignControl t = ⊥
 RefusesWritingMetadata WireLimit t = HasMessage (label t) (below t) → ⊥
 
--- Of the refusals this one is allocation failure.
+-- This refusal is `OutOfMemory`.
 abbrev pub IsMemory : EncodingError → Type 0
 IsMemory OutOfMemory = Unit {0}
 IsMemory BadMetadata = ⊥
@@ -68,12 +69,12 @@ IsMemory BadContent = ⊥
 IsMemory ForeignControl = ⊥
 IsMemory WireLimit = ⊥
 
--- The answer is Ok, or allocation failure.
+-- The result is Ok, or `OutOfMemory`.
 abbrev pub IsOkOrMemory : {A : Type 0} → Result A EncodingError → Type 0
 IsOkOrMemory (Ok r) = Unit {0}
 IsOkOrMemory (Err e) = IsMemory e
 
--- A constructor of arrays answers no row and merges nothing, so none of its refusals is one of a row or of a merge.
+-- A constructor of arrays reads no row and merges nothing, so none of its refusals is one of a row or of a merge.
 abbrev pub IsOfConstructor : ArrayError → Type 0
 IsOfConstructor A.OutOfMemory = Unit {0}
 IsOfConstructor A.BadShape = Unit {0}
@@ -91,7 +92,7 @@ constructor_error A.ForeignControl = ForeignControl
 constructor_error A.ValueTooLarge = OutOfMemory
 constructor_error A.BadCast = OutOfMemory
 
--- A message is not read: for allocation failure, or as the bytes show none.
+-- A message is not read: allocation failed, or the bytes show none.
 abbrev pub RefusesMetadata : EncodingError → Schema → ℕ → List ℕ → Type 0
 RefusesMetadata OutOfMemory schema place bytes = Unit {0}
 RefusesMetadata BadMetadata schema place bytes = (v : Value) → Reads schema place bytes v → ⊥

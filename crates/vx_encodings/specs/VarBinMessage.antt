@@ -30,7 +30,7 @@ pub record ShowsVarBin (bytes : List ℕ) (f : Fields) : Type 0 where
 abbrev pub varbin_bytes : PType → List ℕ
 varbin_bytes p = number_bytes (Enum 11) (code_of p)
 
--- The kind of a code. (Which it is past the last code does not matter.)
+-- The kind of a code. (Past the last code any will do.)
 abbrev pub kind_of_code : ℕ → PType
 kind_of_code zero = U8
 kind_of_code (suc zero) = U16
@@ -58,7 +58,7 @@ kind_of_code_of F16 = refl
 kind_of_code_of F32 = refl
 kind_of_code_of F64 = refl
 
--- So a code is one kind's, and a plain value one kind's.
+-- So each code is that of one kind, and each plain value, too.
 pub one_kind_of_code : (p q : PType) → code_of p ≡ code_of q → p ≡ q
 one_kind_of_code p q e = sym (kind_of_code_of p) ∙ ap (λ n. kind_of_code n) e ∙ kind_of_code_of q
 

@@ -1,4 +1,4 @@
--- The message of the metadata of variants: the type of the shredded child, where one stands.
+-- The message of the metadata of variants: the type of the shredded child, where there is one.
 use Rattle.std.specs.Prelude.{ℕ, ◌≡◌, ◌≤◌, List, [], ◌∷◌, ◌++◌, Option, Some, None, option_map, refl}
 use Rattle.std.proofs.Common.{arith}
 use Rattle.vx_trees.specs.Walks.{levels}
@@ -33,7 +33,7 @@ shredded_part = nested_part 1 0 (λ v. v) (HasForm type_lists 0)
     (λ v f. (v, refl, (same_form type_lists ((nested 1 0 ∷ []) ∷ []) 0 v type_lists_lawful (omega arith)).1 f))
     (λ v w e. e)
 
--- How its slots are values.
+-- Its slots as values.
 abbrev pub variant_parts : Parts (HasForm variant_schema) (list_at variant_schema 14) (Option Value × Unit {0}) (Both (IfStands (HasForm type_lists 0)) (λ _. Unit {0}))
 variant_parts = shredded_part and nothing
 
@@ -56,25 +56,25 @@ pub record ShowsVariant (bytes : List ℕ) (f : Fields) : Type 0 where
 abbrev pub variant_bytes : Option Typ → List ℕ
 variant_bytes d = written variant_schema 14 (shredded_value d)
 
--- Bytes tell this type of a shredded child, or none, and the readers know it.
+-- The type of the shredded child that bytes show, or none; the readers know it.
 pub record IsShredded (x : ExtMeaning) (bytes : List ℕ) (d : Option Typ) : Type 0 where
   pub is_type : IsFair d
   pub reads : Reads variant_schema 14 bytes (shredded_value d)
   pub known : IsKnownIn x (M.variant d)
 
--- Bytes tell none that the readers know, or memory was wanted.
+-- Bytes show none that the readers know, or allocation failed.
 abbrev pub RefusesShredded : EncodingError → ExtMeaning → List ℕ → Type 0
 RefusesShredded OutOfMemory x bytes = Unit {0}
 RefusesShredded BadMetadata x bytes = (d : Option Typ) → IsShredded x bytes d → ⊥
 RefusesShredded _ x bytes = ⊥
 
--- A message is of no type that the readers know and whose message nests few enough others, or memory was wanted.
+-- A message is of no type that the readers know and whose message nests few enough others, or allocation failed.
 abbrev pub RefusesShreddedType : EncodingError → ExtMeaning → Value → Type 0
 RefusesShreddedType OutOfMemory x m = Unit {0}
 RefusesShreddedType BadMetadata x m = (t : Typ) → levels t ≤ most_levels → IsRead (IsMessageOf m) x t → ⊥
 RefusesShreddedType _ x m = ⊥
 
--- Where the children are to stand: a core of a type, and after it a shredded child, where it has a type.
+-- The places of the children: a core of a type, and after it a shredded child, where there is a type for it.
 abbrev pub child_places : Typ → Option Typ → ℕ → List Place
 child_places d None n = place d n ∷ []
 child_places d (Some e) n = place d n ∷ place e n ∷ []

@@ -4,7 +4,7 @@ ghost use Rattle.std.specs.Prelude.{◌≡◌, [], ◌∷◌, IfSome, IfNone, le
 
 use vx_buffer::{BufferHandle, BufferHandles};
 
-// The one buffer, where there is one alone.
+// The buffer of a node that has exactly one.
 pub(crate) fn only_buffer(buffers: BufferHandles) -> Option<BufferHandle>
     ensures one { IfSome result (λ b. buffers ≡ b ∷ []) }
     ensures none { IfNone result (length buffers ≡ 1 → ⊥) }

@@ -1,4 +1,4 @@
-//! Metadata of encodings that keep nothing.
+//! Metadata of the encodings that have none.
 
 ghost use Rattle.std.specs.Prelude.{◌≡◌, ◌≢◌, [], OnOk, OnErr, IsOkUnless};
 
@@ -6,7 +6,7 @@ use std::alloc::Global;
 use vx_plans::EncodingError;
 use vx_types::Blob;
 
-// Reads the metadata of an encoding that keeps nothing: no byte stands there.
+// Reads the metadata of an encoding that has none: `BadMetadata` unless it is empty.
 pub(crate) fn read_empty(bytes: &[u8]) -> Result<(), EncodingError>
     ensures ok { OnOk result (bytes.now ≡ []) }
     ensures refused { OnErr result (bytes.now ≢ []) }
@@ -18,7 +18,7 @@ pub(crate) fn read_empty(bytes: &[u8]) -> Result<(), EncodingError>
     Ok(())
 }
 
-// The metadata of an encoding that keeps nothing, as it is written: no byte.
+// The metadata of an encoding that has none, as it is written: empty. It takes no memory.
 pub(crate) fn write_empty(alloc: Global) -> Blob
     ensures { result ≡ [] }
 {

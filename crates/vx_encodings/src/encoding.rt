@@ -2,7 +2,7 @@
 
 mod id;
 
-/// The shipped encodings.
+/// The shipped encodings, one for each file of `encodings`.
 #[derive(Clone, Copy, Debug, PartialEq, Eq)]
 pub enum Encoding {
     Null, // nulls alone

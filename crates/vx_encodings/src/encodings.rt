@@ -1,4 +1,4 @@
-//! The rooms of the encodings: all that is said of one stands in the file named after it.
+//! The modules of the encodings: all code of one stands in the file named after it.
 
 pub(crate) mod bool;
 pub(crate) mod decimal;

@@ -7,8 +7,8 @@ use vx_arrays::ArrayError;
 use vx_plans::EncodingError;
 use vx_proto::ProtoError;
 
-// The refusal of an array's constructor as one of its encoding. A constructor answers no row and merges nothing, so none of
-// its refusals is one of a row or of a merge.
+// The refusal of an array's constructor, as one of its encoding. A constructor reads no row and merges nothing, so it
+// has none of the refusals of those.
 pub(crate) fn of_constructor(error: ArrayError) -> EncodingError
     requires { IsOfConstructor error }
     ensures { result ≡ constructor_error error }
@@ -22,7 +22,7 @@ pub(crate) fn of_constructor(error: ArrayError) -> EncodingError
     }
 }
 
-// The refusal of a message as one of its encoding.
+// The refusal of a message, as one of its encoding.
 pub(crate) fn of_message(error: ProtoError) -> EncodingError
     ensures { result ≡ message_error error }
 {

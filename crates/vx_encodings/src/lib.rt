@@ -1,7 +1,7 @@
-//! The rows of the encodings: what each one's nodes are on the wire, one level at a time.
+//! The encodings on the wire: what the nodes of each look like, one level at a time.
 //!
 //! All code of an encoding stands in its own file of `encodings`. A file of `encoding` or `steps` asks one thing of all
-//! encodings, and hands on to those files by a line for each.
+//! encodings, and passes it on to those files by a line for each.
 #![tactic(auto)]
 
 mod buffers;

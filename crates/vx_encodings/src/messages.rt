@@ -1,4 +1,4 @@
-//! Metadata that is a message.
+//! Metadata that is a tagged message.
 
 ghost use Rattle.std.specs.Prelude.{◌≡◌, ◌≤◌, Some, IfOk, IfErr, IsOkUnless};
 ghost use Rattle.vx_numbers.specs.Numbers.{code_of};
@@ -15,7 +15,7 @@ use vx_plans::EncodingError;
 use vx_proto::{DeserializeMetadata, Entries, Message, ProstMetadata, SerializeMetadata, u8_at};
 use vx_types::{Blob, PType};
 
-// Reads metadata as a message: as the one that the bytes show.
+// Reads metadata as the message that the bytes show.
 #[tactic(auto, using(crate::proofs::Unread::unread))]
 pub(crate) fn read_message<M: Message>(alloc: Global, bytes: &[u8]) -> Result<M, EncodingError>
     ensures read { IfOk result (λ m. Reads M.schema M.place bytes.now (M.value m)) }
@@ -27,7 +27,7 @@ pub(crate) fn read_message<M: Message>(alloc: Global, bytes: &[u8]) -> Result<M,
     }
 }
 
-// The metadata that is a message, as it is written.
+// Metadata that is a message, as it is written.
 pub(crate) fn write_message<M: Message>(alloc: Global, message: M) -> Result<Blob, EncodingError>
     requires { nested (M.value message) ≤ 100 }
     ensures ok { IfOk result (λ bytes. bytes ≡ written M.schema M.place (M.value message)) }
@@ -39,7 +39,7 @@ pub(crate) fn write_message<M: Message>(alloc: Global, message: M) -> Result<Blo
     }
 }
 
-// The kind of numbers of which a slot holds the code.
+// The kind of numbers whose code a slot holds.
 pub(crate) fn kind_at(slots: &[Entries], slot: usize) -> PType
     requires { (p : PType) × (number_in (entries_in (value_view slots.now) slot) ≡ Some (code_of p)) }
     ensures { number_in (entries_in (value_view slots.now) slot) ≡ Some (code_of result) }

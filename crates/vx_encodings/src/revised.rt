@@ -8,13 +8,13 @@ use vx_arrays::PrimitiveArray;
 use vx_plans::EncodingError;
 use vx_types::{Id, or_memory};
 
-// The identifier of the rows that the old one does not hold.
+// The identifier of the lengths that the old one does not hold.
 const SECOND: &'static str = "vortex.primitive.v2";
 
-// So many rows the old identifier holds.
+// The greatest number of rows that the old identifier holds.
 const MOST: usize = 4;
 
-/// Whether nodes of this identifier hold so many rows, where primitives have two identifiers: `false` exactly for
+/// Whether nodes of this identifier hold `len` rows, where primitives have two identifiers: `false` exactly for
 /// `vortex.primitive` and more than four rows.
 pub fn revised_holds(id: &Id, len: usize) -> bool
     ensures { result ≡ holds id.now len }
@@ -25,8 +25,8 @@ pub fn revised_holds(id: &Id, len: usize) -> bool
     true
 }
 
-/// The identifier under which primitives of so many rows are written, where they have two. The only refusal is want of
-/// memory.
+/// The identifier under which primitives of `len` rows are written, where they have two. The only refusal is
+/// `OutOfMemory`.
 pub fn revised_id(alloc: Global, len: usize) -> Result<Id, EncodingError>
     ensures ok { IfOk result (λ id. id ≡ id_for len) }
     ensures err { IsOkUnless result EncodingError.OutOfMemory }

@@ -1,4 +1,4 @@
-//! The steps of one node: what its children are to be, the node out of its parts, and its metadata. Each is asked of the
+//! The steps of one node: the plan of its children, the node built of its parts, and its metadata. Each is asked of the
 //! encodings in a file of its own.
 
 ghost use Rattle.std.specs.Prelude.{◌≡◌, List, IfOk, IfErr, OnOk};
@@ -29,10 +29,11 @@ use vx_plans::{ArrayHead, ChildPlans, EncodingError};
 use vx_type_wire::ExtSession;
 use vx_types::Blob;
 
-/// What the children of a node of this encoding are to be. Buffers are not looked at.
+/// The plan of the children of a node of this encoding. Buffers are not looked at; only `build` judges them.
 ///
-/// `BadMetadata` where its metadata is none of the encoding's, else `BadShape` where its type is of another
-/// kind or so many children do not fit.
+/// `BadMetadata` where its metadata is none of the encoding's, else `BadShape` where its type is of another kind or its
+/// number of children does not fit. A validity is planned under types that are not nullable as well: so its own faults
+/// are found first, and `build` refuses it.
 pub fn plan(
     alloc: Global,
     encoding: Encoding,
@@ -49,10 +50,12 @@ pub fn plan(
     plan_by(alloc, encoding, head, readers)
 }
 
-/// The array of these parts, of which the children have the planned places.
+/// The array of these parts. The children have the planned places, which `build` does not judge again.
 ///
 /// `BadShape` where the parts are not as the encoding's row asks, else `ForeignControl` where a child that says where
 /// rows are holds a foreign node, or the entries of maps are one, else `BadContent` where their content is broken.
+/// Content is judged after control, so that no walk over rows rests on a foreign node, whose number of rows no bytes
+/// bound.
 pub fn build(
     alloc: Global,
     encoding: Encoding,

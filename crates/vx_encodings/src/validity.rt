@@ -1,4 +1,4 @@
-//! The validity among a node's children, whose only one it is or which stands after another child.
+//! The validity among a node's children: the only child, or the one after another.
 
 ghost use Rattle.std.specs.Prelude.{◌≡◌, ◌≤◌, length};
 ghost use Rattle.vx_trees.specs.Rose.{more, roses_of};
@@ -6,7 +6,7 @@ ghost use Rattle.vx_array_tree.specs.Tree.{option_trees};
 
 use vx_arrays::Array;
 
-// The validity among the children of a node that has no others.
+// The validity of a node that has no other children.
 pub(crate) fn only_validity(children: Vec<Array>) -> Option<Array>
     requires { length children.items ≤ 1 }
     ensures { option_trees result ≡ roses_of children.items }
@@ -15,7 +15,7 @@ pub(crate) fn only_validity(children: Vec<Array>) -> Option<Array>
     items.pop()
 }
 
-// The first of the children of a node, and the validity that may stand after it.
+// The first of a node's children, and the optional validity after it.
 pub(crate) fn first_and_validity(children: Vec<Array>) -> (Array, Option<Array>)
     requires some { 1 ≤ length children.items }
     requires few { length children.items ≤ 2 }

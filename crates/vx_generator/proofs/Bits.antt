@@ -47,14 +47,14 @@ zeros (suc m) (suc j) = zeros m j
 in_bytes : (seed rows n : ℕ) → suc n ≤ rows → n / 8 < length (columns seed rows n).validity
 in_bytes seed rows n h = omega (arith, validity_len seed rows n)
 
--- Those of rows to come are not set.
+-- The bits of rows that are still to come are not set.
 unset : (seed rows n i : ℕ) → n ≤ rows → n ≤ i → bit_of (columns seed rows n).validity i ≡ 0
 unset seed rows zero i m h = ap (λ b. bit_at b (i % 8)) (zeros ((rows + 7) / 8) (i / 8)) ∙ bit_at-zero (i % 8)
 unset seed rows (suc n) i m h =
     row_other (is_null (drawn (before seed n) 0)) (columns seed rows n).validity n i (in_bytes seed rows n m) (λ e. absurd (omega arith))
     ∙ unset seed rows n i (omega arith) (omega arith)
 
--- Those of rows are set whose numbers are there.
+-- The bit of a row is set exactly where its number is there.
 pub bits_are : (seed rows n i : ℕ) → n ≤ rows → i < n → bit_of (columns seed rows n).validity i ≡ cond (is_null (drawn (before seed i) 0)) 0 1
 bits_are seed rows zero i m h = absurd (omega arith)
 bits_are seed rows (suc n) i m h =

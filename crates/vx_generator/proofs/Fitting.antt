@@ -10,7 +10,7 @@ use Rattle.vx_generator.specs.Draws.{after, drawn}
 use Rattle.vx_generator.proofs.Grown.{few, validity_len}
 use Rattle.vx_generator.proofs.Sound.{Fit, offset_at}
 
--- ---- as much of each column as rows ask for
+-- ---- each column has the length that its rows need
 
 pub numbers_len : (seed rows n : ℕ) → length (columns seed rows n).numbers ≡ 8 * n
 numbers_len seed rows zero = refl
@@ -33,7 +33,7 @@ offsets_len : (seed rows n : ℕ) → length (columns seed rows n).offsets ≡ 4
 offsets_len seed rows zero = refl
 offsets_len seed rows (suc n) = simp length-append (omega (arith, offsets_len seed rows n))
 
--- ---- codes name one of five
+-- ---- each code is that of one of the five texts
 
 named_more : (xs : List ℕ) (v : ℕ) → v < 5 → ((i : ℕ) → get_or xs i 0 < 5) → (i : ℕ) → get_or (xs ++ v ∷ []) i 0 < 5
 named_more [] v h f zero = h
@@ -47,7 +47,7 @@ named seed rows (suc n) i = named_more (columns seed rows n).codes (drawn (befor
 
 -- ---- offsets
 
--- An offset stays where more bytes follow.
+-- An offset stays where more bytes are appended.
 offset_kept : (bytes more : List ℕ) (i : ℕ) → 4 * i + 4 ≤ length bytes → offset_at (bytes ++ more) i ≡ offset_at bytes i
 offset_kept bytes more i h =
     let e : drop (4 * i) (bytes ++ more) ≡ drop (4 * i) bytes ++ more = drop-append-le (4 * i) bytes more (omega arith) in
@@ -60,7 +60,7 @@ offset_new bytes i n h l =
     let e : drop (4 * i) (bytes ++ to_le_bytes w32 n) ≡ to_le_bytes w32 n = ap (λ k. drop k (bytes ++ to_le_bytes w32 n)) (sym h) ∙ drop-append_seam bytes (to_le_bytes w32 n) in
     ap (λ xs. from_le_bytes w32 (take 4 xs)) e ∙ from_le_bytes-to_le_bytes_4 n l
 
--- The offset at a place is how many elements the rows before have.
+-- The offset at an index is the number of elements in the rows before it.
 pub offset_is : (seed rows n i : ℕ) → n ≤ 1000000 → i ≤ n → offset_at (columns seed rows n).offsets i ≡ (columns seed rows i).count
 offset_is seed rows zero zero m h = refl
 offset_is seed rows zero (suc i) m h = absurd (omega arith)
@@ -74,7 +74,7 @@ offset_is seed rows (suc n) i m h =
     ∙ ap (λ k. (columns seed rows k).count) e)
     (cases_lt i (suc n))
 
--- The columns of so many rows fit these.
+-- The columns of n rows fit n rows.
 pub fit : (seed rows : ℕ) → rows ≤ 1000000 → Fit (columns seed rows rows) rows
 fit seed rows h = record {
   few = omega arith;
@@ -88,7 +88,7 @@ fit seed rows h = record {
   within = rw (offset_is seed rows rows rows h (omega arith)) (omega arith);
 }
 
--- They are few enough to be counted.
+-- Their lengths are small enough to be counted.
 pub small : (seed rows : ℕ) → rows ≤ 1000000
     → length (columns seed rows rows).numbers + length (columns seed rows rows).validity + length (columns seed rows rows).codes + length (columns seed rows rows).elements + length (columns seed rows rows).offsets < 2 ^ 32
 small seed rows h =

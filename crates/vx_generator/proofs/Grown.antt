@@ -4,12 +4,12 @@ use Rattle.std.proofs.lemmas.List.{length-set, length-replicate}
 use Rattle.vx_generator.specs.Columns.{is_null, before, columns, with_bit}
 use Rattle.vx_generator.specs.Draws.{drawn}
 
--- Setting a bit leaves the number of bytes.
+-- Setting a bit keeps the number of bytes.
 kept : (b : Bool) (bits : List ℕ) (i : ℕ) → length (cond b bits (with_bit bits i)) ≡ length bits
 kept true bits i = refl
 kept false bits i = simp length-set
 
--- There are as many bytes of bits as rows need, and at most three elements a row.
+-- The validity has the bytes that the rows need, and a row has at most three elements.
 pub validity_len : (seed rows n : ℕ) → length (columns seed rows n).validity ≡ (rows + 7) / 8
 validity_len seed rows zero = simp length-replicate
 validity_len seed rows (suc n) = kept (is_null (drawn (before seed n) 0)) (columns seed rows n).validity n ∙ validity_len seed rows n

@@ -1,4 +1,4 @@
--- What those above need of the table that a number tells.
+-- What crates above need of the table of a seed.
 use Rattle.std.proofs.Common.{ℕ, ◌≡◌, ◌≤◌, refl, [], ◌∷◌, arith}
 use Rattle.vx_trees.specs.Rose.{label}
 use Rattle.vx_trees.specs.Walks.{levels}
@@ -19,7 +19,7 @@ use Rattle.vx_generator.proofs.Fitting.{fit}
 use Rattle.vx_generator.proofs.Grown.{validity_len}
 use Rattle.vx_generator.proofs.Sound.{table_sound}
 use Rattle.vx_generator.proofs.Tabled.{long_len, views_len}
--- Its numbers, validity, codes, elements and offsets have few bytes together, and its dictionary few values.
+-- The total of its numbers, validity, codes, elements and offsets is small, and its dictionary has few values.
 pub use Rattle.vx_generator.proofs.Fitting.{small}
 pub use Rattle.vx_generator.proofs.Grown.{few}
 
@@ -28,7 +28,7 @@ pub made_sound : (seed rows : ℕ) → rows ≤ 1000000 → IsSound (made seed r
 unfolding made
 made_sound seed rows h = table_sound (columns seed rows rows) rows (fit seed rows h)
 
--- It has the type of tables, and as many rows as are asked for.
+-- It has the type of tables, and as many rows as were asked for.
 pub made_dtype : (seed rows : ℕ) → (label (made seed rows)).dtype ≡ made_type
 unfolding made
 made_dtype seed rows = refl
@@ -37,12 +37,12 @@ pub made_len : (seed rows : ℕ) → (label (made seed rows)).len ≡ rows
 unfolding made
 made_len seed rows = refl
 
--- It has the one form in which it is read.
+-- It is in the normal form, in which it is read.
 pub made_normal : (seed rows : ℕ) → IsNormal (made seed rows)
 unfolding made
 made_normal seed rows = (tt, ((tt, ((tt, tt), tt)), ((refl, ((tt, tt), ((tt, tt), tt))), ((tt, ((tt, tt), ((tt, tt), tt))), tt))))
 
--- It has no statistics, and what is written of these are none.
+-- It has no statistics, and none are written.
 pub made_stats : (seed rows : ℕ) → KeepsStats (made seed rows)
 unfolding made
 made_stats seed rows = (refl, ((refl, ((refl, tt), tt)), ((refl, ((refl, tt), ((refl, tt), tt))), ((refl, ((refl, tt), ((refl, tt), tt))), tt))))

@@ -9,7 +9,7 @@ use Rattle.vx_generator.specs.Columns.{before, columns, count_of, element_bytes,
 use Rattle.vx_generator.specs.Draws.{after, drawn}
 use Rattle.vx_generator.proofs.Fitting.{codes_len, element_len, elements_len, numbers_len}
 
--- So many bytes at a place.
+-- The bytes of n bytes each, at an index.
 abbrev pub piece : ℕ → List ℕ → ℕ → List ℕ
 piece w bytes i = take w (drop (w * i) bytes)
 

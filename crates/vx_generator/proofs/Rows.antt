@@ -1,4 +1,4 @@
--- The rows of the table are those that the draws tell.
+-- The rows of the table are those of the draws.
 use Rattle.std.proofs.Common.{ℕ, zero, suc, ◌≡◌, ◌+◌, ◌-◌, ◌*◌, ◌%◌, ◌^◌, ◌<◌, ◌≤◌, Bool, true, false, cond, eqb, Some, get_or, drop, refl, ap, ◌∙◌, arith, zero-add}
 use Rattle.std.proofs.Math.Facts.{Fits-of_z}
 use Rattle.std.proofs.lemmas.Int.{ints, to_z-of_z}
@@ -34,7 +34,7 @@ stored_fits : (d : ℕ) → d < 2 ^ 31 → SFits w64 (stored d)
 unfolding stored
 stored_fits d h = grind (arith, ints)
 
--- What is stored is read again.
+-- What is stored is read as the number that was stored.
 stored_again : (d : ℕ) → d < 2 ^ 31 → cast_signed w64 (from_le_bytes w64 (stored_bytes d)) ≡ stored d
 stored_again d h =
     ap (λ n. cast_signed w64 n) (from_le_bytes-to_le_bytes_8 (cast_unsigned w64 (stored d)) (omega (arith, Fits-of_z {w = w64} {z = stored d} (stored_fits d h))))
@@ -119,7 +119,7 @@ list_is seed rows i m h =
 joined : (a b c x y z : Value) → a ≡ x → b ≡ y → c ≡ z → node tuple (more a (more b (more c end))) ≡ node tuple (more x (more y (more z end)))
 joined a b c x y z p q r = cc
 
--- Each row of the table is the one that the state before it tells.
+-- Each row of the table is that of the state before it.
 pub rows_are : (seed rows i : ℕ) → rows ≤ 1000000 → i < rows → row_at (made seed rows) i ≡ row_value (before seed i)
 unfolding made
 rows_are seed rows i m h = joined _ _ _ _ _ _ (number_is seed rows i h) (text_is seed rows i h) (list_is seed rows i m h)

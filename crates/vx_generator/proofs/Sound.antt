@@ -14,12 +14,12 @@ use Rattle.vx_trees.specs.Rose.{label, below}
 use Rattle.vx_generator.specs.Columns.{Columns}
 use Rattle.vx_generator.specs.Made.{flags_tree, numbers_tree, codes_tree, texts_tree, names_tree, elements_tree, offsets_tree, lists_tree, table_tree, long_text, views}
 
--- The offset at a place, in four bytes.
+-- The offset at an index, in four bytes.
 abbrev pub offset_at : List ℕ → ℕ → ℕ
 offset_at bytes i = from_le_bytes w32 (take 4 (drop (4 * i) bytes))
 
--- Columns fit so many rows: there is as much of each as the rows ask for, codes name one of the five texts, and
--- offsets do not fall and end within the elements.
+-- Columns fit n rows: each has the length that the rows need, codes are those of the five texts, and offsets never
+-- decrease and end within the elements.
 pub record Fit (c : Columns) (n : ℕ) : Type 0 where
   pub few : suc n < 2 ^ 64
   pub numbers : length c.numbers ≡ 8 * n

@@ -1,4 +1,4 @@
--- Arrays in hand are the parts of the table.
+-- Arrays in memory are the parts of the table.
 use Rattle.std.proofs.Common.{ℕ, ◌≡◌, List, [], ◌∷◌, ◌++◌, None, length, refl, sym, ap, ◌∙◌}
 use Rattle.vx_buffer.specs.Buffer.{Buffer}
 use Rattle.vx_trees.specs.Rose.{end, more, roses_list, roses_of}
@@ -23,7 +23,7 @@ texts_made bs b p q = ap (λ u. varbinview_tree texts_type 5 u b None) p ∙ ap 
 abbrev pub fields_tree : Columns → ℕ → Trees
 fields_tree c n = more (numbers_tree c.numbers c.validity n) (more (names_tree c.codes n) (more (lists_tree c.elements c.count c.offsets n) end))
 
--- What three pushes leave.
+-- The list that three pushes leave.
 pushed : (a b c : Tree) (e p q r : Trees) → e ≡ end → roses_list p ≡ roses_list e ++ a ∷ [] → roses_list q ≡ roses_list p ++ b ∷ [] → roses_list r ≡ roses_list q ++ c ∷ []
     → r ≡ more a (more b (more c end))
 pushed a b c e p q r i x y z =

@@ -1,4 +1,4 @@
--- The first row that the seed 0 tells.
+-- The first row of the seed 0.
 use Rattle.std.proofs.Common.{◌≡◌, [], ◌∷◌, codes, negsuc, refl}
 use Rattle.vx_trees.specs.Rose.{node, end, more}
 use Rattle.vx_types.specs.Value as V

@@ -3,12 +3,11 @@ use Rattle.std.specs.Prelude.{ℕ, zero, suc, ℤ, pos, ◌-ℤ◌, ◌+◌, ◌
 use Rattle.std.specs.Int.{w16, w32, w64, to_le_bytes, cast_unsigned}
 use Rattle.vx_generator.specs.Draws.{after, drawn}
 
--- A row is made of three draws and of as many more as the third says, modulo 4. These more are the elements of
--- its list.
+-- A row is made of three draws and of as many more as the third leaves modulo 4. These are the elements of its list.
 abbrev pub count_of : ℕ → ℕ
 count_of x = drawn x 2 % 4
 
--- The state that a row leaves of the one before it.
+-- The state after the draws of a row, by the state before it.
 abbrev pub after_row : ℕ → ℕ
 after_row x = after (after x 3) (count_of x)
 
@@ -21,11 +20,11 @@ before seed (suc n) = after_row (before seed n)
 abbrev pub is_null : ℕ → Bool
 is_null d = d % 8 == 0
 
--- The number that is stored of it: 0 where there is none, and else the draw less 2^30.
+-- The number that is stored for a row: 0 where it is null, and else the draw less 2^30.
 unfoldable pub stored : ℕ → ℤ
 stored d = if is_null d then pos 0 else pos d -ℤ pos (2 ^ 30)
 
--- The same as 8 bytes, the lowest first, in two's complement.
+-- The same as 8 bytes, lowest first, in two's complement.
 abbrev pub stored_bytes : ℕ → List ℕ
 stored_bytes d = to_le_bytes w64 (cast_unsigned w64 (stored d))
 
@@ -34,8 +33,8 @@ abbrev pub element_bytes : ℕ → ℕ → List ℕ
 element_bytes x zero = []
 element_bytes x (suc n) = element_bytes x n ++ to_le_bytes w16 (drawn x n % 65536)
 
--- The bytes of the five buffers, and how many elements there are: the numbers, the bits that say which of them are
--- there, the codes, the elements of all lists, and the offsets that part them.
+-- The bytes of the five buffers, and the number of elements: the numbers, the bits that say which of them are there,
+-- the codes, the elements of all lists, and the offsets that split them.
 pub record Columns : Type 0 where
   pub numbers : List ℕ
   pub validity : List ℕ
@@ -48,7 +47,7 @@ pub record Columns : Type 0 where
 abbrev pub with_bit : List ℕ → ℕ → List ℕ
 with_bit bits i = slice_set bits (i / 8) (bit_or (slice_index bits (i / 8)) (2 ^ (i % 8)))
 
--- Before the first of so many rows there is a bit of 0 for each, in the fewest bytes, and the first offset.
+-- Before the first of n rows there is a bit of 0 for each, in the fewest bytes, and the first offset.
 abbrev pub no_rows : ℕ → Columns
 no_rows rows = record {
   numbers = [];
@@ -59,18 +58,18 @@ no_rows rows = record {
   count = 0;
 }
 
--- A number more, of this draw, and the bit of its row, where it is there.
+-- One number more, of this draw, with the bit of its row set where the number is there.
 abbrev pub with_number : Columns → ℕ → ℕ → Columns
 with_number c d i = record c {
   numbers = c.numbers ++ stored_bytes d;
   validity = if is_null d then c.validity else with_bit c.validity i;
 }
 
--- A code more, of this draw, modulo 5.
+-- One code more, of this draw, modulo 5.
 abbrev pub with_code : Columns → ℕ → Columns
 with_code c e = record c { codes = c.codes ++ (e % 5) ∷ [] }
 
--- A list more, of so many draws from a state on, and the offset at which it ends.
+-- One list more, of n draws from a state on, and the offset at which it ends.
 abbrev pub with_list : Columns → ℕ → ℕ → Columns
 with_list c x n = record c {
   elements = c.elements ++ element_bytes x n;
@@ -78,12 +77,12 @@ with_list c x n = record c {
   count = c.count + n;
 }
 
--- A row more, by the state before it and its own number: of the first draw a number, of the second a code, and of
--- the third how long its list is.
+-- One row more, by the state before it and its own number: the first draw gives the number, the second the code, and
+-- the third the length of the list.
 abbrev pub with_row : Columns → ℕ → ℕ → Columns
 with_row c x i = with_list (with_code (with_number c (drawn x 0) i) (drawn x 1)) (after x 3) (count_of x)
 
--- The columns of a seed, of so many rows, of which the first are made.
+-- The columns of a seed, allocated for a number of rows, of which the first n are made.
 abbrev pub columns : ℕ → ℕ → ℕ → Columns
 columns seed rows zero = no_rows rows
 columns seed rows (suc n) = with_row (columns seed rows n) (before seed n) n

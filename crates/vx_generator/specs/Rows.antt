@@ -1,4 +1,4 @@
--- The rows of the table that a number tells, as values.
+-- The rows of the table of a seed, as values.
 use Rattle.std.specs.Prelude.{ℕ, zero, suc, ◌%◌, List, codes, if◌then◌else◌}
 use Rattle.vx_trees.specs.Rose.{node, end, more}
 use Rattle.vx_types.specs.Value.{Value, Values, lone, null, number, tuple, utf8}
@@ -15,12 +15,12 @@ text_of (suc (suc zero)) = codes "cedar"
 text_of (suc (suc (suc zero))) = codes "oak"
 text_of (suc (suc (suc (suc n)))) = long_text
 
--- The number of a row, by the state before it: none where its first draw is a multiple of 8, and else the draw less
+-- The number of a row, by the state before it: null where its first draw is a multiple of 8, and else the draw less
 -- 2^30.
 abbrev pub number_value : ℕ → Value
 number_value x = if is_null (drawn x 0) then lone null else lone (number (I64 (stored (drawn x 0))))
 
--- So many draws from one of them on, modulo 65,536.
+-- The values of n draws from one of them on, modulo 65,536.
 abbrev pub element_values : ℕ → ℕ → ℕ → Values
 element_values x j zero = end
 element_values x j (suc n) = more (lone (number (U16 (drawn x j % 65536)))) (element_values x (suc j) n)

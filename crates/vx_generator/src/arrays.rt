@@ -1,4 +1,4 @@
-//! The arrays that a table is made of.
+//! The arrays of a generated table.
 
 ghost use Rattle.std.specs.Prelude.{◌≡◌, ◌+◌, ◌<◌, ◌≤◌, IfOk, None, Some};
 ghost use Rattle.vx_trees.specs.Rose.{node};
@@ -20,14 +20,14 @@ use vx_arrays::{
 use vx_buffer::{Alignment, BufferHandle, ByteBuffer};
 use vx_types::{DType, Nullability, PType, TypeError};
 
-// The one text that does not fit into its view.
+// The one text that is too long to stand in its view.
 const LONG_TEXT: &[u8; 21] = b"a long name of a tree";
 
 // The views of the five texts.
 const VIEWS: &[u8; 80] =
     b"\x03\0\0\0ash\0\0\0\0\0\0\0\0\0\x05\0\0\0birch\0\0\0\0\0\0\0\x05\0\0\0cedar\0\0\0\0\0\0\0\x03\0\0\0oak\0\0\0\0\0\0\0\0\0\x15\0\0\0a lo\0\0\0\0\0\0\0\0";
 
-/// The table of these columns.
+/// The table of these columns, with `rows` rows.
 pub(crate) fn table_of(alloc: Global, columns: Columns, rows: usize) -> Result<Array, ArrayError>
     requires few { rows ≤ 1000000 }
     requires sound { IsSound (table_tree columns rows) }
@@ -79,7 +79,7 @@ fn plain_numbers(
     PrimitiveArray::try_new(alloc, values, kind, Nullability::NonNullable, len, None)
 }
 
-// A buffer of these bytes, aligned to two to this exponent.
+// A buffer of these bytes, with the alignment 2^`exponent`.
 fn buffer_of(bytes: Vec<u8>, exponent: u8) -> Result<BufferHandle, ArrayError>
     requires { exponent ≤ 63 }
     ensures ok { IfOk result (λ b. b ≡ buffer bytes.items exponent) }
@@ -92,7 +92,7 @@ fn buffer_of(bytes: Vec<u8>, exponent: u8) -> Result<BufferHandle, ArrayError>
     }
 }
 
-// The column of numbers, and which of them are there.
+// The column of numbers, and a validity that says which of them are there.
 fn numbers_of(
     alloc: Global,
     bytes: Vec<u8>,
@@ -115,7 +115,7 @@ fn numbers_of(
     )
 }
 
-// A flag for each row.
+// One bit for each row.
 fn flags_of(alloc: Global, bits: Vec<u8>, rows: usize) -> Result<Array, ArrayError>
     requires { IsSound (flags_tree bits.items rows) }
     ensures ok { IfOk result (λ a. a ≡ flags_tree bits.items rows) }
@@ -148,7 +148,7 @@ fn texts_of(alloc: Global) -> Result<Array, ArrayError>
     VarBinViewArray::try_new(alloc, dtype, 5, buffers, views, None)
 }
 
-// The column of lists, by their elements and the offsets that part them.
+// The column of lists, by their elements and the offsets that split them.
 fn lists_of(
     alloc: Global,
     elements: Vec<u8>,

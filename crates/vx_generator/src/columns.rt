@@ -10,10 +10,10 @@ use crate::error::GeneratorError;
 use std::alloc::Global;
 use std::marker::Model;
 
-// How many bytes the texts and their views have.
+// The length in bytes of the texts and their views.
 const TEXTS_LEN: usize = 101;
 
-/// The bytes of the columns so far, and how many elements the lists have.
+/// The bytes of the columns so far, and the number of elements in the lists.
 #[derive(Drop)]
 pub(crate) struct Columns {
     pub(crate) numbers: Vec<u8>,
@@ -40,7 +40,8 @@ impl Model for Columns {
 }
 
 impl Columns {
-    /// The columns before the first of so many rows.
+    /// The columns before the first row. The buffers whose size `rows` determines are allocated here; only the elements
+    /// of the lists grow with each row.
     pub(crate) fn new(alloc: Global, rows: usize) -> Result<Columns, GeneratorError>
         requires { rows ≤ 1000000 }
         ensures { IfOk result (λ c. c ≡ no_rows rows) }
@@ -57,7 +58,7 @@ impl Columns {
         })
     }
 
-    /// One row more, of this number, by its draws.
+    /// Appends the row of this number, drawn from `draws`.
     pub(crate) fn push_row(&mut self, draws: &mut Draws, row: usize) -> Result<(), GeneratorError>
         requires inside { row / 8 < length self.old.validity }
         requires few { self.old.count ≤ 3000000 }
@@ -72,7 +73,8 @@ impl Columns {
         self.push_list(draws, count)
     }
 
-    /// How many bytes the buffers of the table have that these columns make.
+    /// The number of bytes in the buffers of the table that these columns make, those of the dictionary's texts
+    /// included.
     pub(crate) fn data_len(&self) -> u64
         requires { length self.now.numbers + length self.now.validity + length self.now.codes + length self.now.elements + length self.now.offsets < 2 ^ 32 }
         ensures { (n : ℕ) → result ≡ data_len (table_tree self.now n) }
@@ -82,7 +84,7 @@ impl Columns {
         (fixed + TEXTS_LEN + lists) as u64
     }
 
-    // One number more, of this draw, and the bit of its row.
+    // Appends the number of a draw, and sets the bit of its row.
     fn push_number(&mut self, draw: u32, row: usize) -> Result<(), GeneratorError>
         requires inside { row / 8 < length self.old.validity }
         requires small { draw < 2 ^ 31 }
@@ -95,7 +97,7 @@ impl Columns {
         Ok(())
     }
 
-    // One list more, of so many draws, and the offset at which it ends.
+    // Appends a list of `count` draws, and the offset at which it ends.
     fn push_list(&mut self, draws: &mut Draws, count: u32) -> Result<(), GeneratorError>
         requires { self.old.count + count < 2 ^ 32 }
         ensures columns { OnOk result (self.new ≡ with_list self.old draws.old count) }
@@ -108,7 +110,7 @@ impl Columns {
     }
 }
 
-// The number that is stored of a draw.
+// The number that is stored for a draw.
 fn stored(draw: u32) -> i64
     requires { draw < 2 ^ 31 }
     ensures { result ≡ stored draw }
@@ -128,7 +130,7 @@ fn set_bit(bits: &mut Vec<u8>, row: usize)
     bits[row / 8] |= 1 << (row % 8);
 }
 
-// So many draws more, as elements of a list.
+// Appends this many draws as elements of a list.
 fn push_elements(
     elements: &mut Vec<u8>,
     draws: &mut Draws,
@@ -144,7 +146,7 @@ fn push_elements(
     Ok(())
 }
 
-/// The columns of so many rows that are drawn from a seed.
+/// The columns of `rows` rows, drawn from a seed.
 #[tactic(auto, using(crate::proofs::Grown::validity_len, crate::proofs::Grown::few))]
 pub(crate) fn columns_of(alloc: Global, seed: u64, rows: usize) -> Result<Columns, GeneratorError>
     requires { rows ≤ 1000000 }

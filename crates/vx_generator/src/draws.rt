@@ -5,12 +5,12 @@ ghost use Rattle.vx_generator.specs.Draws.{next, number_of};
 
 use std::marker::Model;
 
-// What a state is multiplied by, and what is added to it.
+// The factor and the summand of a step from one state to the next, both modulo 2^64.
 const FACTOR: u64 = 6364136223846793005;
 
 const STEP: u64 = 1442695040888963407;
 
-/// A source of numbers, as its state of 64 bits. Each draw changes it.
+/// A source of numbers, as its state of 64 bits. Each draw changes the state.
 #[derive(Drop)]
 pub(crate) struct Draws {
     state: u64,

@@ -1,4 +1,4 @@
-//! Refusals of this crate.
+//! The refusals of this crate.
 
 ghost use Rattle.std.specs.Prelude.{◌≡◌};
 ghost use Rattle.vx_generator.specs.declared.error.GeneratorError.TheVariants.{OutOfMemory};
@@ -10,7 +10,7 @@ use vx_buffer::BufferError;
 /// Why a table was not made.
 #[derive(Clone, Copy, Debug, PartialEq, Eq, Error)]
 pub enum GeneratorError {
-    /// Memory was wanted and not to be had.
+    /// An allocation failed.
     #[error("out of memory")]
     OutOfMemory,
 }

@@ -1,7 +1,8 @@
-//! A table of any size that a number tells: what each of its rows holds is drawn from the seed.
+//! Tables of any size, drawn from a seed: the same seed and number of rows always make the same table. The table's form
+//! is this project's own.
 //!
-//! Contracts see the table as a plain tree (`specs/Made`), whose buffers hold what `specs/Columns` says of the draws in
-//! `specs/Draws`.
+//! Contracts see a table as a plain tree (`specs/Made`), whose buffers hold what `specs/Columns` defines by the draws
+//! in `specs/Draws`.
 #![tactic(auto)]
 
 mod arrays;

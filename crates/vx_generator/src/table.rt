@@ -1,4 +1,4 @@
-//! A table that a number tells.
+//! Tables drawn from a seed.
 
 ghost use Rattle.std.specs.Prelude.{◌≡◌, ◌<◌, ◌≤◌, ℕ, IfOk, IsOkUnless};
 ghost use Rattle.vx_array_tree.specs.Tree.{row_at};
@@ -12,17 +12,18 @@ use crate::error::GeneratorError;
 use std::alloc::Global;
 use vx_arrays::{Array, ArrayError};
 
-/// A table, and how many bytes its buffers have together.
+/// A table, and the total length of its buffers.
 #[derive(Drop)]
 pub struct Table {
     /// The table.
     pub array: Array,
-    /// How many bytes its buffers have.
+    /// The total length of its buffers in bytes.
     pub data_len: u64,
 }
 
-/// The table of so many rows that a seed tells: structures of a number that may be null, of a text and of a list of
-/// numbers, which are drawn from the seed row by row.
+/// The table of `rows` rows that is drawn from a seed: structures of a 64-bit number that may be null, of a text and of
+/// a list of 16-bit numbers. Each row takes three draws and as many more as its list has elements. The only refusal is
+/// `OutOfMemory`. A million rows at most keep all offsets and lengths in 32 bits.
 pub fn generate(alloc: Global, seed: u64, rows: usize) -> Result<Table, GeneratorError>
     requires { rows ≤ 1000000 }
     ensures array { IfOk result (λ t. t.array ≡ made seed rows) }

@@ -33,7 +33,7 @@ also_revised : (t : Bool) (o : Option Reader) → IsShippedReader o → IsShippe
 also_revised true o h = tt
 also_revised false o h = h
 
--- So does the one in which primitives have two identifiers.
+-- The same for the session in which primitives have two identifiers.
 pub revised_alone : (x : ExtMeaning) → IsShipped (revised_meaning x)
 revised_alone x =
     let all = shipped_alone x in
@@ -71,15 +71,15 @@ no_plugin (Some (shipped f)) p h e = cc
 no_plugin (Some revised) p h e = cc
 no_plugin (Some (plugin q)) p h e = absurd h
 
--- Where no plugin reads or writes, none is without its writer.
+-- Where no plugin reads or writes, no plugin lacks its writer.
 pub paired_alone : (s : SessionMeaning) → IsShipped s → HasPairedPlugins s
 paired_alone s h = record {
   read_is_written = λ id p e. absurd (no_plugin (s.reader id) p (h.reads id) e);
   own_identifier = λ id p e. absurd (no_plugin (s.writer id) p (h.writes id) e);
 }
 
--- A reader that comes under identifiers, and as the writer of its own, leaves each plugin that reads with its writer, and each
--- that writes under its own identifier.
+-- A reader that is put under identifiers, and made the writer of its own, leaves each plugin that reads with its
+-- writer, and each that writes under its own identifier.
 pub paired_registered : (old now : SessionMeaning) (ids : List (List ℕ)) (r : Reader) → ((id : List ℕ) → now.reader id ≡ found_with ids r old.reader id)
     → ((id : List ℕ) → now.writer id ≡ found_with (entry_id r ∷ []) r old.writer id) → HasPairedPlugins old → HasPairedPlugins now
 paired_registered old now ids r reads writes h =

@@ -1,4 +1,4 @@
--- What the tables of a session mean, once an entry is registered.
+-- The meaning of a session's tables, once an entry is registered.
 use Rattle.std.proofs.Common.{ℕ, zero, suc, ◌≡◌, ◌<◌, arith, List, [], ◌∷◌, ◌++◌, Option, Some, None, Bool, true, false, cond, length, refl, sym, ap, ◌∙◌, subst}
 use Rattle.std.specs.Prelude.{bytes_eq, option_map, option_and_then, slice_get}
 use Rattle.std.specs.List.{list_any}
@@ -41,7 +41,7 @@ module _ {B : Type 0} (means : B → PluginMeaning) where
   found_kept bs b None h = refl
   found_kept bs b (Some e) h = entry_kept bs b e (λ n p. h n (ap (λ z. Some z) p))
 
-  -- What is found after the plugin of the last number came under identifiers.
+  -- What is found after the plugin of the last number is put under identifiers.
   found_at : (bs : List B) (b : B) (n : ℕ) (t : Bool) (o p : Option Entry) → n ≡ length bs → p ≡ cond t (Some (Boxed n)) o → ((m : ℕ) → o ≡ Some (Boxed m) → m < length bs)
       → option_and_then (entry_in (of (bs ++ b ∷ []))) p ≡ cond t (Some (plugin (means b))) (option_and_then (entry_in (of bs)) o)
   found_at bs b n true o p same e h =
@@ -56,7 +56,7 @@ module _ {B : Type 0} (means : B → PluginMeaning) where
       ap (λ z. found (of z) now id) e
       ∙ found_at bs b n (list_any (bytes_eq id) ids) (lookup (bytes_eq id) table) (lookup (bytes_eq id) now) same (ap (λ z. lookup (bytes_eq id) z) is ∙ lookup_put_all (Boxed n) ids id table) h
 
--- What is found after an entry came under identifiers that means a reader whatever plugins there are.
+-- What is found after an entry is put under identifiers, where it means a reader whatever plugins there are.
 entry_at : (f : Plugins) (e : Entry) (r : Reader) (t : Bool) (o p : Option Entry) → entry_in f e ≡ Some r → p ≡ cond t (Some e) o → option_and_then (entry_in f) p ≡ cond t (Some r) (option_and_then (entry_in f) o)
 entry_at f e r true o p m q = ap (λ z. option_and_then (entry_in f) z) q ∙ m
 entry_at f e r false o p m q = ap (λ z. option_and_then (entry_in f) z) q
@@ -83,7 +83,7 @@ idle = record {
   builds_again = λ t y x sound normal known p. absurd (cc);
 }
 
--- A plugin where there is one, and else the one that does nothing.
+-- The plugin where there is one, and else the one that does nothing.
 abbrev filled : Option PluginMeaning → PluginMeaning
 filled None = idle
 filled (Some p) = p
@@ -93,14 +93,14 @@ filled_is None h = absurd (none-some _ h.1)
 filled_is (Some p) h = refl
 
 module _ (f : Plugins) (k : ℕ) (all : (n : ℕ) → n < k → (p : PluginMeaning) × (f n ≡ Some p)) where
-  -- What is found is the same with a plugin for each number, where those that stand in the table are below.
+  -- What is found stays the same with a plugin for each number, where the numbers in the table are below k.
   found_filled : (o : Option Entry) → ((n : ℕ) → o ≡ Some (Boxed n) → n < k) → option_and_then (entry_in (λ n. Some (filled (f n)))) o ≡ option_and_then (entry_in f) o
   found_filled None h = refl
   found_filled (Some (Shipped e)) h = refl
   found_filled (Some Revised) h = refl
   found_filled (Some (Boxed n)) h = ap (λ z. option_map (λ p. plugin p) z) (filled_is (f n) (all n (h n refl)))
 
-  -- Tables that fit one another, and whose numbers are below, mean readers and writers that do.
+  -- Tables that fit one another, and whose numbers are below k, mean readers and writers that fit one another.
   pub paired_meaning : (r : Registry) → ArePaired r → AreWithin r k → (x : ExtMeaning) → IsPaired (tables_meaning f r x)
   paired_meaning r h w x =
       let read = λ (id : List ℕ). found_filled (lookup (bytes_eq id) r.readers) (λ n q. w.readers id n q) in
@@ -114,13 +114,13 @@ module _ {B : Type 0} (means : B → PluginMeaning) (bs : List B) where
   abbrev of_boxes : Plugins
   of_boxes n = option_map means (slice_get bs n)
 
-  -- Each number below has its plugin.
+  -- Each number below the length has its plugin.
   pub all_there : (n : ℕ) → n < length bs → (p : PluginMeaning) × (of_boxes n ≡ Some p)
   all_there n h = let x = get_within bs n h in (means x.0, ap (λ z. option_map means z) x.1)
 
 -- ---- the shipped encodings, and then primitives under two identifiers
 
--- What a session means, once they were registered in one that means the shipped encodings.
+-- The meaning of a session, once they are registered in one that means the shipped encodings.
 pub revised_as : (now old : SessionMeaning) (x : ExtMeaning) → old ≡ shipped_meaning x → ((id : List ℕ) → now.reader id ≡ found_with both_ids revised old.reader id)
     → ((id : List ℕ) → now.writer id ≡ found_with (entry_id revised ∷ []) revised old.writer id) → now.ext ≡ x → now ≡ revised_meaning x
 revised_as now old x e reads writes ext =

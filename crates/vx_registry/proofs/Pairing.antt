@@ -1,4 +1,4 @@
--- Tables that fit one another, once an entry more is registered.
+-- Tables that fit one another still do once one more entry is registered.
 use Rattle.std.proofs.Common.{ℕ, ◌≡◌, ◌⊎◌, ◌+◌, ◌||◌, inl, inr, arith, List, [], ◌∷◌, Option, Some, Result, Ok, Err, OnOk, OnErr, Bool, true, false, refl, sym, ap, ◌∙◌, subst}
 use Rattle.std.specs.Prelude.{bytes_eq}
 use Rattle.std.specs.List.{list_any}
@@ -24,33 +24,33 @@ never_second E.null = refl
 never_second _ = refl
 
 -- The identifier under which a reader writes and those under which it reads: an encoding's own, or both of primitives;
--- those of a plugin are any.
+-- for a plugin any.
 abbrev StandsUnder : Reader → List ℕ → List (List ℕ) → Type 0
 StandsUnder (shipped e) w ids = (w ≡ id_of e) × (ids ≡ w ∷ [])
 StandsUnder revised w ids = (w ≡ Primitives.id) × (ids ≡ both_ids)
 StandsUnder (plugin p) w ids = Unit {0}
 
--- A reader that comes under an identifier is a plugin, or does not come there.
+-- A reader that is put under an identifier is a plugin, or is not put there.
 abbrev IsPluginAt : Reader → List (List ℕ) → List ℕ → Type 0
 IsPluginAt r ids id = ((p : PluginMeaning) × (r ≡ plugin p)) ⊎ (is_among id ids ≡ false)
 
 module _ (w : List ℕ) (ids : List (List ℕ)) where
-  -- So it is under an identifier that is not its own, nor the second of primitives.
+  -- This holds under an identifier that is not the reader's own, nor the second of primitives.
   elsewhere : (r : Reader) → StandsUnder r w ids → (id : List ℕ) → is_among id (w ∷ []) ≡ false → bytes_eq id revised_name ≡ false → IsPluginAt r ids id
   elsewhere (shipped f) s id a b = inr (ap (λ z. is_among id z) s.1 ∙ a)
   elsewhere revised s id a b = inr (ap (λ z. is_among id z) s.1 ∙ ap (λ t. bytes_eq id Primitives.id || (t || false)) b ∙ sym (ap (λ z. is_among id (z ∷ [])) s.0) ∙ a)
   elsewhere (plugin p) s id a b = inl (p, refl)
 
-  -- And under the second of primitives, where their first is not its own.
+  -- And under the second of primitives, where the reader's own is not their first.
   at_second : (r : Reader) → StandsUnder r w ids → is_among Primitives.id (w ∷ []) ≡ false → IsPluginAt r ids revised_name
   at_second (shipped f) s a = inr (ap (λ z. is_among revised_name z) s.1 ∙ ap (λ z. is_among revised_name (z ∷ [])) s.0 ∙ ap (λ t. t || false) (eq_sym revised_name (id_of f) ∙ never_second f))
   at_second revised s a = let q : true ≡ false = sym (ap (λ z. is_among Primitives.id (z ∷ [])) s.0) ∙ a in absurd (cc)
   at_second (plugin p) s a = inl (p, refl)
 
--- A session in which a reader came under identifiers, and as the writer of one.
+-- A session in which a reader was put under identifiers, and made the writer of one.
 module _ (old now : SessionMeaning) (r : Reader) (w : List ℕ) (ids : List (List ℕ)) (stands : StandsUnder r w ids)
     (reads : (id : List ℕ) → now.reader id ≡ found_with ids r old.reader id) (writes : (id : List ℕ) → now.writer id ≡ found_with (w ∷ []) r old.writer id) where
-  -- What it reads is written where the reader is, and where it was.
+  -- What it reads is written: where the new reader is, and where it was before.
   written_still : (q : Reader) (v id : List ℕ) → (r ≡ q → w ≡ v) → (old.reader id ≡ Some q → (z : Reader) × (old.writer v ≡ Some z)) → now.reader id ≡ Some q → (z : Reader) × (now.writer v ≡ Some z)
   written_still q v id new before p =
       let own = is_among v (w ∷ []) in
@@ -67,11 +67,11 @@ module _ (old now : SessionMeaning) (r : Reader) (w : List ℕ) (ids : List (Lis
         | inr k ↦ before k.1
       ]
 
-  -- What reads an identifier is what came, where it came.
+  -- The reader that was put under an identifier reads it.
   reads_new : (q : Reader) (id : List ℕ) → r ≡ q → is_among id ids ≡ true → now.reader id ≡ Some q
   reads_new q id e t = at_true (is_among id ids) r (old.reader id) (now.reader id) (reads id) t ∙ ap (λ z. Some z) e
 
-  -- What holds of each plugin, and of what read an identifier, holds of what reads it now.
+  -- A fact of each plugin, and of what read an identifier before, holds of what reads it now.
   kept_at : (P : Option Reader → Type 0) → ((p : PluginMeaning) → P (Some (plugin p))) → (id : List ℕ) (t : Bool) → is_among id ids ≡ t → IsPluginAt r ids id → P (old.reader id) → P (now.reader id)
   kept_at P all id true e (inl k) h = subst P (sym (reads_new (plugin k.0) id k.1 e)) (all k.0)
   kept_at P all id true e (inr k) h = absurd (cc)
@@ -83,7 +83,7 @@ module _ (old now : SessionMeaning) (r : Reader) (w : List ℕ) (ids : List (Lis
   own_revised : r ≡ revised → (w ≡ Primitives.id) × (ids ≡ both_ids)
   own_revised k = subst (λ z. StandsUnder z w ids) k stands
 
-  -- It is paired where the one before was.
+  -- The session is paired where the one before was.
   pub paired_with : IsPaired old → IsPaired now
   paired_with h = record {
     read_is_written = λ id e p. written_still (shipped e) (id_of e) id (λ k. (own_shipped e k).0) (λ q. h.read_is_written id e q) p;
@@ -114,7 +114,7 @@ module _ (old now : SessionMeaning) (r : Reader) (w : List ℕ) (ids : List (Lis
         ];
   }
 
--- An entry comes under identifiers, and as the writer of one.
+-- An entry is put under identifiers, and made the writer of one.
 paired_entry : (e : Entry) (w : List ℕ) (ids : List (List ℕ)) (old now : Registry) → now.readers ≡ put_all e ids old.readers → now.writers ≡ put_all e (w ∷ []) old.writers
     → ((f : ℕ → PluginMeaning) → (r : Reader) × (entry_in (λ n. Some (f n)) e ≡ Some r) × StandsUnder r w ids) → ArePaired old → ArePaired now
 paired_entry e w ids old now readers writers stands h = λ f x.
@@ -124,19 +124,19 @@ paired_entry e w ids old now readers writers stands h = λ f x.
     let write = λ (id : List ℕ). found_put plugins e s.0 (w ∷ []) old.writers now.writers id s.1 writers in
     paired_with _ _ s.0 w ids s.2 read write (h f x)
 
--- An encoding comes under its own identifier.
+-- An encoding is put under its own identifier.
 pub paired_shipped : (e : Encoding) (r : Registry) → ArePaired r → ArePaired (registered e r)
 paired_shipped e r h = paired_entry (Shipped e) (shipped_id e) (shipped_id e ∷ []) r (registered e r) refl refl (λ f. (entry e, refl, (refl, refl))) h
 
--- A plugin comes under identifiers.
+-- A plugin is put under identifiers.
 pub paired_boxed : (n : ℕ) (i : List ℕ) (ids : List (List ℕ)) (r : Registry) → ArePaired r → ArePaired (with_plugin n i ids r)
 paired_boxed n i ids r h = paired_entry (Boxed n) i ids r (with_plugin n i ids r) refl refl (λ f. (plugin (f n), refl, tt)) h
 
--- Primitives come under two identifiers.
+-- Primitives are put under two identifiers.
 pub paired_revised : (r : Registry) → ArePaired r → ArePaired (with_revised r)
 paired_revised r h = paired_entry Revised Primitives.id both_ids r (with_revised r) refl refl (λ f. (revised, refl, (refl, refl))) h
 
--- Tables that are equal to such ones are paired, too.
+-- Tables that are equal to paired ones are paired.
 pub paired_as : (r q : Registry) → r ≡ q → ArePaired q → ArePaired r
 paired_as r q e h = subst (λ z. ArePaired z) (sym e) h
 
@@ -148,7 +148,7 @@ same_number n m p = cc
 no_number : {A : Type 0} (e : Encoding) (n : ℕ) → Shipped e ≡ Boxed n → A
 no_number e n p = absurd (cc)
 
--- The plugin of the last number comes.
+-- The plugin of the last number is put in.
 pub within_boxed : (n : ℕ) (i : List ℕ) (ids : List (List ℕ)) (r : Registry) → AreWithin r n → AreWithin (with_plugin n i ids r) (n + 1)
 within_boxed n i ids r h = record {
   readers = λ id m p.
@@ -163,7 +163,7 @@ within_boxed n i ids r h = record {
       ];
 }
 
--- An encoding comes.
+-- An encoding is put in.
 pub within_shipped : (e : Encoding) (k : ℕ) (r : Registry) → AreWithin r k → AreWithin (registered e r) k
 within_shipped e k r h = record {
   readers = λ id m p.
@@ -181,7 +181,7 @@ within_shipped e k r h = record {
 revised_number : {A : Type 0} (n : ℕ) → Revised ≡ Boxed n → A
 revised_number n p = absurd (cc)
 
--- Primitives come under two identifiers.
+-- Primitives are put in under two identifiers.
 pub within_revised : (k : ℕ) (r : Registry) → AreWithin r k → AreWithin (with_revised r) k
 within_revised k r h = record {
   readers = λ id m p.
@@ -199,17 +199,17 @@ within_revised k r h = record {
 pub within_as : (r q : Registry) (j k : ℕ) → r ≡ q → j ≡ k → AreWithin q k → AreWithin r j
 within_as r q j k e f h = subst (λ z. AreWithin z j) (sym e) (subst (λ z. AreWithin q z) (sym f) h)
 
--- What comes, or does not, leaves numbers below.
+-- Whether an entry is put in or not, the numbers stay below k.
 pub within_set : (k : ℕ) (old new with_it : Registry) (r : Result (Unit {0}) RegistryError) → OnOk r (new ≡ with_it) → OnErr r (new ≡ old) → AreWithin with_it k → AreWithin old k → AreWithin new k
 within_set k old new with_it (Ok u) done left came h = within_as new with_it k k done refl came
 within_set k old new with_it (Err x) done left came h = within_as new old k k left refl h
 
--- What holds at all holds where something came.
+-- What always holds also holds of an Ok result.
 pub on_any : {A P : Type 0} (r : Result A RegistryError) → P → OnOk r P
 on_any (Ok a) p = p
 on_any (Err e) p = tt
 
--- What holds of what came holds where it came.
+-- What follows from an Ok value holds of an Ok result.
 pub on_ok : {P Q : Type 0} (r : Result (Unit {0}) RegistryError) → (P → Q) → OnOk r P → OnOk r Q
 on_ok (Ok u) f p = f p
 on_ok (Err e) f p = tt

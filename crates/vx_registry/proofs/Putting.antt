@@ -1,4 +1,4 @@
--- What is found in a table of entries once an entry was put under identifiers.
+-- What is found in a table of entries once an entry is put under identifiers.
 use Rattle.std.proofs.Common.{ℕ, ◌≡◌, ◌⊎◌, ◌||◌, inl, inr, List, [], ◌∷◌, Option, Some, None, Bool, true, false, cond, refl, sym, ap, ◌∙◌}
 use Rattle.std.specs.Prelude.{bytes_eq}
 use Rattle.std.specs.List.{list_any}
@@ -65,12 +65,12 @@ the_one false e = e
 -- ---- what is found once something came
 
 module _ {A : Type 0} where
-  -- It is what came, or what was found before.
+  -- It is the new entry, or what was found before.
   pub which : (t : Bool) (a b : A) (o p : Option A) → p ≡ cond t (Some a) o → p ≡ Some b → ((t ≡ true) × (a ≡ b)) ⊎ ((t ≡ false) × (o ≡ Some b))
   which true a b o p e f = inl (refl, cc)
   which false a b o p e f = inr (refl, sym e ∙ f)
 
-  -- Something is found where something was, or where it came.
+  -- Something is found where something was before, or where the new entry is.
   pub some_still : (t : Bool) (a : A) (o p : Option A) → p ≡ cond t (Some a) o → ((q : A) × (o ≡ Some q)) → (q : A) × (p ≡ Some q)
   some_still true a o p e h = (a, e)
   some_still false a o p e h = (h.0, e ∙ h.1)
@@ -79,7 +79,7 @@ module _ {A : Type 0} where
   some_new true a o p e h = (a, e)
   some_new false a o p e h = absurd (cc)
 
-  -- Where it came, it is found; where it did not, what was found before is.
+  -- Where the new entry is, it is found; elsewhere, what was found before is.
   pub at_true : (t : Bool) (a : A) (o p : Option A) → p ≡ cond t (Some a) o → t ≡ true → p ≡ Some a
   at_true true a o p e h = e
   at_true false a o p e h = absurd (cc)
@@ -88,7 +88,7 @@ module _ {A : Type 0} where
   at_false true a o p e h = absurd (cc)
   at_false false a o p e h = e
 
--- An identifier is one of a single one exactly where it is that one.
+-- An identifier is in a list of one exactly where it is that one.
 pub is_one : (id w : List ℕ) → list_any (bytes_eq id) (w ∷ []) ≡ true → id ≡ w
 is_one id w e = (bytes_eq-Decides id w).0 (the_one (bytes_eq id w) e)
 

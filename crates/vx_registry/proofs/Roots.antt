@@ -24,25 +24,25 @@ native_by s _ h ts k = refl
 pub native_root : (s : SessionMeaning) (t : Tree) (id : List ℕ) (o : Option Reader) → IsNative (label t).body → id ≡ own_id (label t).body → s.writer id ≡ o → step s t ≡ writer_step o (label t) (below t)
 native_root s (node h ts) id o k i e = native_by s h.body h ts k ∙ ap (λ z. writer_step (s.writer z) h ts) (sym i) ∙ ap (λ z. writer_step z h ts) e
 
--- And by a plugin.
+-- The same where a plugin writes it.
 pub plugin_root : (s : SessionMeaning) (t : Tree) (id : List ℕ) (p : PluginMeaning) → IsNative (label t).body → id ≡ own_id (label t).body → s.writer id ≡ Some (plugin p) → step s t ≡ plugin_step p (label t) (p.serialize t)
 plugin_root s (node h ts) id p k i e = native_root s (node h ts) id (Some (plugin p)) k i e
 
--- Those of a root that is written as it is.
+-- The parts of a root that is written unchanged.
 pub own_parts : (s : SessionMeaning) (t : Tree) (x : Step) (p : ArraySerialization) → x ≡ written (label t) (below t) → HasPartsOf (writes_two s) t p → HasMessage (label t) (below t) → IsSerializedAs s x (Some p)
 own_parts s (node h ts) x p e k m = subst (λ z. IsSerializedAs s z (Some p)) (sym e) (k, m)
 
--- Those that a plugin gives.
+-- The parts that a plugin gives.
 pub given_parts : (s : SessionMeaning) (h : Head) (x : Step) (p : ArraySerialization) → x ≡ written (given_head h (parts_in p)) p.children → IsSerializedAs s x (Some p)
 given_parts s h x p e =
     let own : HasPartsOf (writes_two s) (node (given_head h (parts_in p)) p.children) p = record { id_is = refl; metadata_is = refl; buffers_are = refl; children_are = refl } in
     subst (λ z. IsSerializedAs s z (Some p)) (sym e) (own, tt)
 
--- None.
+-- No parts, where a plugin has no form.
 pub no_parts : (s : SessionMeaning) (x : Step) → x ≡ unwritten unserializable → IsSerializedAs s x None
 no_parts s x e = subst (λ z. IsSerializedAs s z None) (sym e) tt
 
--- Why a root that is written as it is has none.
+-- Why a root that is written unchanged has no parts.
 pub without_parts : (t : Tree) (x : Step) (e : RegistryError) → x ≡ written (label t) (below t) → RefusesPartsOf e t → RefusesSerializing e x
 without_parts t x registry.OutOfMemory e k = tt
 without_parts t x registry.NotRegistered e k = absurd k

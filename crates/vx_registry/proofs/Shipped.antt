@@ -9,11 +9,11 @@ use Rattle.vx_registry.specs.Session.{Registry, Entries, Plugins, AreWithin, ent
 use Rattle.vx_registry.specs.declared.tables.Entry.{Entry}
 use Rattle.vx_registry.specs.declared.tables.Entry.TheVariants.{Shipped, Boxed}
 
--- encodings under their own identifiers
+-- Encodings under their own identifiers.
 abbrev pub own_entries : List Encoding → Entries
 own_entries es = map (λ e. (shipped_id e, Shipped e)) es
 
--- entries after encodings are put in one after the other, each under its own identifier
+-- The entries once encodings are put in one after the other, each under its own identifier.
 abbrev pub put_in : Entries → List Encoding → Entries
 put_in m [] = m
 put_in m (e ∷ es) = put_in (put (Shipped e) (shipped_id e) m) es
@@ -22,24 +22,24 @@ pub put_in-snoc : (m : Entries) (es : List Encoding) (e : Encoding) → put_in m
 put_in-snoc m [] e = refl
 put_in-snoc m (x ∷ xs) e = put_in-snoc (put (Shipped x) (shipped_id x) m) xs e
 
--- no two of the shipped ones have one identifier
+-- No two of the shipped encodings have the same identifier.
 pub all_in : put_in [] shipped_encodings ≡ own_entries shipped_encodings
 all_in = refl
 
--- the tables of a session into which these encodings were put
+-- The tables of a session into which these encodings were put.
 abbrev pub tables_of : List Encoding → Registry
 tables_of es = record { readers = put_in [] es; writers = put_in [] es }
 
--- one encoding more
+-- The tables with one encoding more.
 pub tables_of-snoc : (es : List Encoding) (e : Encoding) → tables_of (es ++ e ∷ []) ≡ registered e (tables_of es)
 tables_of-snoc es e = ap (λ m. record { readers = m; writers = m }) (put_in-snoc [] es e)
 
--- and the next of a list, after those before it
+-- The tables with the next encoding of a list, after those before it.
 pub next_tables : (es : List Encoding) (i : ℕ) (d : Encoding) (r : Registry) → i < length es → r ≡ tables_of (take i es) → registered (slice_index_or es i d) r ≡ tables_of (take (i + 1) es)
 next_tables es i d r here e =
     ap (λ z. registered (slice_index_or es i d) z) e ∙ sym (tables_of-snoc (take i es) (slice_index_or es i d)) ∙ ap (λ z. tables_of z) (sym (take_more es i d here))
 
--- and all of them
+-- The tables with all encodings.
 pub all_tables : (n : ℕ) → length shipped_encodings ≤ n → tables_of (take n shipped_encodings) ≡ shipped_registry
 all_tables n h = ap (λ es. tables_of es) (take_all n shipped_encodings h) ∙ ap (λ m. record { readers = m; writers = m }) all_in
 

@@ -15,11 +15,11 @@ use Rattle.vx_registry.specs.declared.session.VortexSession.{VortexSession}
 use Rattle.vx_registry.specs.declared.tables.Entry.{Entry}
 
 module _ {Y : Type 0} {G : Y → Type 0} (means : DynBox Y Global G → PluginMeaning) where
-  -- What boxed plugins mean, by their numbers, where it is given what a box means.
+  -- The meanings of boxed plugins, by their numbers, as a function of what a box means.
   abbrev pub plugins_meaning : List (DynBox Y Global G) → Plugins
   plugins_meaning boxes = λ n. option_map means (slice_get boxes n)
 
-  -- What a session's tables and plugins mean, beside readers of extension types.
+  -- The meaning of a session's tables and plugins, beside readers of extension types.
   abbrev pub arrays_meaning : ArraySession Y G → ExtMeaning → SessionMeaning
   arrays_meaning s x = tables_meaning (plugins_meaning s.plugins.items) s.tables x
 
@@ -39,14 +39,14 @@ module _ {Y : Type 0} {G : Y → Type 0} (means : DynBox Y Global G → PluginMe
   entry_ids Revised = both_ids
   entry_ids (Boxed b) = (means b).declared
 
-  -- A registry in which an entry stands under the identifiers that it reads and that of the arrays that it writes, each in
-  -- the place of what stood there or at the end; a plugin stands there by its number.
+  -- A registry in which an entry stands under the identifiers that it reads and under that of the arrays that it
+  -- writes, each in the place of what stood there or at the end; a plugin stands there by its number.
   abbrev pub with_entry : ℕ → PluginEntry Y G → Registry → Registry
   with_entry n (Shipped e) r = registered e r
   with_entry n Revised r = with_revised r
   with_entry n (Boxed b) r = with_plugin n (means b).id (means b).declared r
 
-  -- Its tables and plugins read and write arrays, and its boxed readers judge extension types, where it is given what a box
-  -- accepts.
+  -- The session's tables and plugins read and write arrays, and its boxed readers judge extension types, as a function
+  -- of what a box accepts.
   abbrev pub session_meaning : {X : Type 0} {F : X → Type 0} → (DynBox X Global F → List ℕ → Typ → Bool) → VortexSession Y X G F → SessionMeaning
   session_meaning accepted s = arrays_meaning s.arrays (ext_meaning accepted s.ext)

@@ -29,7 +29,7 @@ pub record HasPartsOf (two : Bool) (t : Tree) (s : ArraySerialization) : Type 0 
   pub buffers_are : s.buffers ≡ buffers_of (label t).body
   pub children_are : s.children ≡ below t
 
--- No parts are given of an array: for allocation failure, or as its root's metadata does not fit its message.
+-- No parts are given of an array: allocation failed, or its root's metadata does not fit its message.
 abbrev pub RefusesPartsOf : RegistryError → Tree → Type 0
 RefusesPartsOf OutOfMemory t = Unit {0}
 RefusesPartsOf NotRegistered t = ⊥
@@ -39,14 +39,14 @@ RefusesPartsOf WireLimit t = HasMessage (label t) (below t) → ⊥
 
 -- ---- by what writes a root
 
--- A root is serialized as the parts of what is written of it, whose metadata fits its message; or its plugin has no form for
--- it.
+-- A root is serialized as the parts of what is written of it, whose metadata fits its message; or its plugin has no
+-- form for it.
 abbrev pub IsSerializedAs : SessionMeaning → Step → Option ArraySerialization → Type 0
 IsSerializedAs s (written h ts) (Some p) = HasPartsOf (writes_two s) (node h ts) p × HasMessage h ts
 IsSerializedAs s (unwritten unserializable) None = Unit {0}
 IsSerializedAs s _ _ = ⊥
 
--- A root is written as it is, as the parts that its plugin gives, or not, as its plugin has no form for it.
+-- A root is written unchanged, as the parts that its plugin gives, or not at all, as its plugin has no form for it.
 abbrev pub IsRootOf : Tree → Step → WrittenRoot → Type 0
 IsRootOf t x Own = x ≡ written (label t) (below t)
 IsRootOf t x (Given p) = x ≡ written (given_head (label t) (parts_in p)) p.children
@@ -57,7 +57,7 @@ abbrev pub HasLargeMetadata : Step → Type 0
 HasLargeMetadata (written h ts) = HasMessage h ts → ⊥
 HasLargeMetadata (unwritten why) = ⊥
 
--- Why a root is not serialized: for allocation failure; nothing writes it; its plugin names an identifier that it does not
+-- Why a root is not serialized: allocation failed; nothing writes it; its plugin names an identifier that it does not
 -- declare, or refuses it; or its metadata does not fit its message.
 abbrev pub RefusesSerializing : RegistryError → Step → Type 0
 RefusesSerializing OutOfMemory x = Unit {0}

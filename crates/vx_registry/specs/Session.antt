@@ -28,7 +28,7 @@ pub record Registry : Type 0 where
 abbrev pub empty_registry : Registry
 empty_registry = record { readers = []; writers = [] }
 
--- What the plugins of a session mean, by their numbers.
+-- The meanings of a session's plugins, by their numbers.
 abbrev pub Plugins : Type 0
 Plugins = ℕ → Option PluginMeaning
 
@@ -46,7 +46,7 @@ entry_in plugins (Shipped e) = Some (entry e)
 entry_in plugins Revised = Some revised
 entry_in plugins (Boxed n) = option_map (λ p. plugin p) (plugins n)
 
--- What an identifier finds in a table: its entry is the first that has it.
+-- What is found under an identifier in a table: the first entry that stands there.
 abbrev pub found : Plugins → Entries → List ℕ → Option Reader
 found plugins table id = option_and_then (entry_in plugins) (lookup (bytes_eq id) table)
 
@@ -54,11 +54,12 @@ found plugins table id = option_and_then (entry_in plugins) (lookup (bytes_eq id
 abbrev pub shipped_id : Encoding → List ℕ
 shipped_id e = id_of (plain_encoding e)
 
--- What an identifier finds once a reader stands under others: there the reader, elsewhere what it found before.
+-- What is found under an identifier once a reader is put under others: there the reader, elsewhere what was found
+-- before.
 abbrev pub found_with : List (List ℕ) → Reader → (List ℕ → Option Reader) → List ℕ → Option Reader
 found_with ids r before id = if is_among id ids then Some r else before id
 
--- What the tables mean, beside readers of extension types.
+-- The meaning of the tables, beside readers of extension types.
 abbrev pub tables_meaning : Plugins → Registry → ExtMeaning → SessionMeaning
 tables_meaning plugins r x = record { reader = found plugins r.readers; writer = found plugins r.writers; ext = x }
 
@@ -66,7 +67,7 @@ tables_meaning plugins r x = record { reader = found plugins r.readers; writer =
 abbrev pub both_ids : List (List ℕ)
 both_ids = Primitives.id ∷ revised_name ∷ []
 
--- The tables fit one another: whatever the plugins of their numbers mean, what the tables mean does.
+-- The tables fit one another: their meaning does, whatever the plugins of their numbers mean.
 abbrev pub ArePaired : Registry → Type 0
 ArePaired r = (f : ℕ → PluginMeaning) (x : ExtMeaning) → IsPaired (tables_meaning (λ n. Some (f n)) r x)
 
@@ -98,7 +99,7 @@ shipped_encodings =
 abbrev pub shipped_registry : Registry
 shipped_registry = record { readers = map (λ e. (shipped_id e, Shipped e)) shipped_encodings; writers = map (λ e. (shipped_id e, Shipped e)) shipped_encodings }
 
--- What a session of the shipped encodings means, beside readers of extension types.
+-- The meaning of a session of the shipped encodings, beside readers of extension types.
 abbrev pub shipped_meaning : ExtMeaning → SessionMeaning
 shipped_meaning x = tables_meaning no_plugins shipped_registry x
 
@@ -119,7 +120,8 @@ registered e r = record { readers = put (Shipped e) (shipped_id e) r.readers; wr
 abbrev pub with_revised : Registry → Registry
 with_revised r = record { readers = put_all Revised both_ids r.readers; writers = put Revised Primitives.id r.writers }
 
--- What a session of the shipped encodings means in which primitives have two identifiers, beside readers of extension types.
+-- The meaning of a session of the shipped encodings in which primitives have two identifiers, beside readers of
+-- extension types.
 abbrev pub revised_meaning : ExtMeaning → SessionMeaning
 revised_meaning x = tables_meaning no_plugins (with_revised shipped_registry) x
 

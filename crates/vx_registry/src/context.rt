@@ -8,7 +8,7 @@ use std::alloc::Global;
 use std::marker::Model;
 use vx_types::{Id, Ids, or_memory};
 
-/// The identifiers that a written blob's nodes name by number, each once, in the order in which they came.
+/// The identifiers that the nodes of a written blob name by number, each once, in the order of their first use.
 #[derive(Drop)]
 pub struct ArrayContext {
     ids: IndexSet<Id>,
@@ -26,7 +26,7 @@ impl Model for ArrayContext {
 }
 
 impl ArrayContext {
-    /// A context with no identifier that allows all. It takes no memory.
+    /// A context without identifiers, in which all are allowed. It takes no memory.
     pub fn empty(alloc: Global) -> ArrayContext
         ensures ids { result.ids ≡ [] }
         ensures allowed { result.allowed ≡ None }
@@ -38,7 +38,8 @@ impl ArrayContext {
         }
     }
 
-    /// A context that has these identifiers, each once: one that stands there again is dropped. It allows all.
+    /// A context of these identifiers, each once: one that occurs again is dropped, so later ones have smaller numbers
+    /// than in `ids`. All are allowed. The only refusal is `OutOfMemory`.
     pub fn new(alloc: Global, ids: &Ids) -> Result<ArrayContext, RegistryError>
         ensures ids { IfOk result (λ c. c.ids ≡ with_ids [] ids.now) }
         ensures allowed { IfOk result (λ c. c.allowed ≡ None) }
@@ -51,7 +52,8 @@ impl ArrayContext {
         })
     }
 
-    /// The context with what it has, in which only these identifiers may come from now on.
+    /// The context with the identifiers that it has, in which only those of `ids` are allowed from now on, also of
+    /// those that it has already. The only refusal is `OutOfMemory`.
     pub fn with_allowed_ids(self, alloc: Global, ids: &Ids) -> Result<ArrayContext, RegistryError>
         ensures ids { IfOk result (λ c. c.ids ≡ self.ids) }
         ensures allowed { IfOk result (λ c. c.allowed ≡ Some (with_ids [] ids.now)) }
@@ -65,8 +67,9 @@ impl ArrayContext {
         })
     }
 
-    /// The place of an identifier, which goes last if it is new. `None` exactly where it is not allowed, or
-    /// its place is not below 65,536; nothing has changed then, nor for allocation failure.
+    /// The number of an identifier, which is appended if it is new. `None` exactly where it is not allowed, or where
+    /// its place is not below 65,536, as nodes name identifiers by a u16. The context is unchanged then, and where
+    /// allocation fails.
     pub fn intern(&mut self, id: &Id) -> Result<Option<u16>, RegistryError>
         ensures interned { IfOk result (λ place. IfSome place (λ _. interned id.now self.old ≡ Some self.new)) }
         ensures place { IfOk result (λ place. IfSome place (λ i. index_of id.now self.new.ids ≡ i)) }
@@ -84,7 +87,7 @@ impl ArrayContext {
         }
     }
 
-    // Puts a new identifier last.
+    // Appends a new identifier.
     fn append(&mut self, id: &Id) -> Result<Option<u16>, RegistryError>
         requires allowed { is_allowed self.old.allowed id.now ≡ true }
         requires new { is_among id.now self.old.ids ≡ false }
@@ -104,7 +107,7 @@ impl ArrayContext {
         Ok(Some(last))
     }
 
-    /// The identifiers by number.
+    /// The identifiers, each at its number. The only refusal is `OutOfMemory`.
     pub fn to_ids(&self, alloc: Global) -> Result<Ids, RegistryError>
         ensures ids { IfOk result (λ ids. ids ≡ self.now.ids) }
         ensures err { IsOkUnless result RegistryError.OutOfMemory }
@@ -117,7 +120,7 @@ impl ArrayContext {
     }
 }
 
-// Identifiers as a set: each once, in the order in which they come first.
+// Identifiers as a set: each once, in the order of their first occurrences.
 fn set_of(alloc: Global, ids: &Ids) -> Result<IndexSet<Id>, RegistryError>
     ensures ids { IfOk result (λ set. set.keys ≡ with_ids [] ids.now) }
     ensures err { IsOkUnless result RegistryError.OutOfMemory }
@@ -129,7 +132,7 @@ fn set_of(alloc: Global, ids: &Ids) -> Result<IndexSet<Id>, RegistryError>
     Ok(set)
 }
 
-// Whether an identifier is among those that may come, where they are limited.
+// Whether an identifier is among the allowed ones, where they are limited.
 fn is_allowed(allowed: &Option<IndexSet<Id>>, id: &Id) -> bool
     ensures { result ≡ is_allowed (option_map (λ s. s.keys) allowed.now) id.now }
 {
@@ -139,7 +142,7 @@ fn is_allowed(allowed: &Option<IndexSet<Id>>, id: &Id) -> bool
     }
 }
 
-// Puts a copy of an identifier last.
+// Appends a copy of an identifier.
 fn push_copy(alloc: Global, id: &Id, ids: &mut Ids) -> Result<(), RegistryError>
     ensures ok { OnOk result (ids.new ≡ ids.old ++ id.now ∷ []) }
     ensures err { IsOkUnless result RegistryError.OutOfMemory }
@@ -148,7 +151,7 @@ fn push_copy(alloc: Global, id: &Id, ids: &mut Ids) -> Result<(), RegistryError>
     Ok(or_memory(ids.push(id))?)
 }
 
-// A place as a number that a node can name.
+// A place as the number by which a node can name it.
 fn place(index: usize) -> Option<u16>
     ensures some { IfSome result (λ place. place ≡ index) }
     ensures small { IfSome result (λ _. index < 65536) }

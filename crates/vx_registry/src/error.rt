@@ -7,10 +7,10 @@ use thiserror::Error;
 /// Why a call on sessions and contexts was refused.
 #[derive(Clone, Copy, Debug, PartialEq, Eq, Error)]
 pub enum RegistryError {
-    /// Memory was wanted and not to be had.
+    /// An allocation failed.
     #[error("out of memory")]
     OutOfMemory,
-    /// Nothing writes the arrays of this encoding, or it is foreign and such nodes are not allowed.
+    /// Nothing writes the arrays of this encoding, or the node is foreign and such nodes are not allowed.
     #[error("nothing writes the arrays of this encoding")]
     NotRegistered,
     /// The plugin that writes the array names an identifier that it does not declare.
@@ -19,7 +19,7 @@ pub enum RegistryError {
     /// The plugin that writes the array refuses it.
     #[error("a plugin refuses the array")]
     PluginRefused,
-    /// The metadata does not fit its message.
+    /// The metadata has a number or a type that its message cannot hold.
     #[error("the metadata does not fit its message")]
     WireLimit,
 }

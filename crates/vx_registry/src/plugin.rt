@@ -1,4 +1,4 @@
-//! Readers and writers of arrays, of the caller.
+//! Plugins: the caller's readers and writers of arrays.
 
 ghost use Rattle.std.specs.Prelude.{◌≡◌, IfOk, IsOkUnless};
 ghost use Rattle.vx_type_wire.specs.Borrowed.{borrowed_meaning};
@@ -14,10 +14,10 @@ use vx_encodings::{ArrayHead, ChildPlans};
 use vx_type_wire::{ExtPlugin, Readers};
 use vx_types::{Id, Ids};
 
-/// Why a plugin gives no answer.
+/// Why a plugin returns nothing.
 #[derive(Clone, Copy, Debug, PartialEq, Eq, Error)]
 pub enum PluginError {
-    /// Memory was wanted and not to be had.
+    /// An allocation failed.
     #[error("out of memory")]
     OutOfMemory,
     /// The plugin refuses what it was given.
@@ -41,26 +41,28 @@ impl<T: Drop> From<AllocFailed<T>> for PluginError {
     }
 }
 
-/// What a caller reads and writes arrays by: a form of its own for the arrays of one encoding, under identifiers of its own.
+/// A caller's reader and writer: a form of its own for the arrays of one encoding, under identifiers of its own.
 ///
-/// Its meaning (`means`) says what each method answers, allocation failure aside, and brings the laws that it keeps: it plans one
-/// place for each child; of children that stand there it builds arrays of the type and the length that are asked, of an
-/// encoding that it supports; and what it gave for a sound and normal array it plans and builds again as that array.
+/// Its meaning (`means`) says what each method returns, allocation failure aside, and brings the laws that it keeps. It
+/// plans one place for each child. Of children that stand there it builds arrays of the type and the length that are
+/// asked for, of an encoding that it supports. What it gave for a sound and normal array it plans and builds again as
+/// that array.
 pub trait ArrayPlugin: Drop {
-    /// What the plugin means.
+    /// The meaning of the plugin: plain functions with their laws.
     ghost means: { Self → PluginMeaning };
 
     /// The identifier of the encoding whose arrays the plugin writes.
     fn id(&self) -> &Id
         ensures { result.now ≡ (means self.now).id };
 
-    /// The identifiers that the plugin declares: those of the nodes that it writes, and that it reads. The only refusal is want
-    /// of memory.
+    /// The identifiers that the plugin declares: those of the nodes that it writes and those that it reads. The only
+    /// refusal is `OutOfMemory`.
     fn serialized_ids(&self, alloc: Global) -> Result<Ids, PluginError>
         ensures declared { IfOk result (λ ids. ids ≡ (means self.now).declared) }
         ensures err { IsOkUnless result PluginError.OutOfMemory };
 
-    /// What an array is written as; `None` where the plugin has no form for it, and `Refused` where it refuses the array.
+    /// The parts as which an array is written: `None` where the plugin has no form for it, and `Refused` where it
+    /// refuses the array.
     fn serialize(
         &self,
         alloc: Global,
@@ -68,7 +70,8 @@ pub trait ArrayPlugin: Drop {
     ) -> Result<Option<ArraySerialization>, PluginError>
         ensures { IsWrittenAs ((means self.now).serialize array.now) result };
 
-    /// What the children of a node are to be, one entry for each; `Refused` where the plugin refuses the head.
+    /// The type and length of each child of a node, in order; `Refused` where the plugin refuses the head. The
+    /// extension readers are borrowed from the session.
     fn plan(
         &self,
         alloc: Global,
@@ -77,7 +80,8 @@ pub trait ArrayPlugin: Drop {
     ) -> Result<ChildPlans, PluginError>
         ensures { IsAnswer ((means self.now).plan (head_in head.now) (borrowed_meaning (λ r. accepted r.now) ext.now)) result };
 
-    /// The array of a node's parts; `Refused` where the plugin refuses them.
+    /// The array of a node's parts, whose statistics the reader sets afterwards; `Refused` where the plugin refuses the
+    /// parts.
     fn build(
         &self,
         alloc: Global,
@@ -91,14 +95,14 @@ pub trait ArrayPlugin: Drop {
         ensures { result ≡ (means self.now).supported encoding.now };
 }
 
-/// `id` of a box.
+/// `id` of a boxed plugin.
 pub(crate) fn id_of(plugin: &Box<dyn ArrayPlugin>) -> &Id
     ensures { result.now ≡ (means plugin.now).id }
 {
     plugin.id()
 }
 
-/// `serialized_ids` of a box.
+/// `serialized_ids` of a boxed plugin.
 pub(crate) fn ids_of(alloc: Global, plugin: &Box<dyn ArrayPlugin>) -> Result<Ids, PluginError>
     ensures declared { IfOk result (λ ids. ids ≡ (means plugin.now).declared) }
     ensures err { IsOkUnless result PluginError.OutOfMemory }
@@ -106,7 +110,7 @@ pub(crate) fn ids_of(alloc: Global, plugin: &Box<dyn ArrayPlugin>) -> Result<Ids
     plugin.serialized_ids(alloc)
 }
 
-/// `serialize` of a box.
+/// `serialize` of a boxed plugin.
 pub(crate) fn serialize_by(
     alloc: Global,
     plugin: &Box<dyn ArrayPlugin>,
@@ -117,7 +121,7 @@ pub(crate) fn serialize_by(
     plugin.serialize(alloc, array)
 }
 
-/// `plan` of a box.
+/// `plan` of a boxed plugin.
 pub fn plan_by(
     alloc: Global,
     plugin: &Box<dyn ArrayPlugin>,
@@ -129,7 +133,7 @@ pub fn plan_by(
     plugin.plan(alloc, head, ext)
 }
 
-/// `build` of a box.
+/// `build` of a boxed plugin.
 pub fn build_by(
     alloc: Global,
     plugin: &Box<dyn ArrayPlugin>,

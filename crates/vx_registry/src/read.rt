@@ -18,14 +18,15 @@ impl Model for ReadContext {
 }
 
 impl ReadContext {
-    /// These identifiers, numbered from 0; one that stands there more than once is kept.
+    /// These identifiers, numbered from 0. One that occurs more than once is kept, since nodes count in the list as it
+    /// comes.
     pub fn new(ids: Ids) -> ReadContext
         ensures { result ≡ ids }
     {
         ReadContext { ids }
     }
 
-    /// The identifier of this number: `None` exactly where there are not so many.
+    /// The identifier of this number: `None` exactly where `index` is past the end.
     pub fn resolve(&self, index: u16) -> Option<&Id>
         ensures { option_copied result ≡ slice_get self.now index }
     {

@@ -18,22 +18,22 @@ use vx_buffer::BufferHandles;
 use vx_encodings::{EncodingError, metadata};
 use vx_types::{Blob, DType, Id};
 
-/// An array's root as it is written: the identifier of its node, the bytes of its metadata, its buffers and the
-/// arrays below it.
+/// An array's root as it is written: the identifier of its node, the bytes of its metadata, its buffers and the arrays
+/// below it.
 #[derive(Drop)]
 pub struct ArraySerialization {
     /// The identifier of the node.
     pub serialized_id: Id,
-    /// The message of the metadata.
+    /// The bytes of the metadata: its message, or for a plugin any bytes.
     pub metadata: Blob,
-    /// The root's own buffers.
+    /// The root's own buffers, in order.
     pub buffers: BufferHandles,
     /// The arrays below the root, in the order in which they are written.
     pub children: Arrays,
 }
 
 impl ArraySerialization {
-    /// These parts.
+    /// A root of these parts.
     pub fn new(
         serialized_id: Id,
         metadata: Blob,
@@ -53,8 +53,9 @@ impl ArraySerialization {
         }
     }
 
-    /// The parts of an array, under the identifier of its encoding; those of a foreign node as it keeps them. No buffer's
-    /// bytes are copied. `WireLimit` exactly where the root's metadata does not fit its message.
+    /// The parts of an array, under the identifier of its encoding; those of a foreign node as it keeps them. No
+    /// buffer's bytes are copied. `WireLimit` exactly where the root's metadata does not fit its message, `OutOfMemory`
+    /// where allocation fails.
     pub fn from_array(alloc: Global, array: &Array) -> Result<ArraySerialization, RegistryError>
         ensures parts { IfOk result (HasPartsOf false array.now) }
         ensures fits { OnOk result (HasMessage (label array.now) (below array.now)) }
@@ -63,7 +64,7 @@ impl ArraySerialization {
         ArraySerialization::written_as(alloc, array, false)
     }
 
-    // The same under the identifier under which the array is written, where primitives have two or not.
+    // The same under the identifier with which the array is written; `two` says whether primitives have two.
     pub(crate) fn written_as(
         alloc: Global,
         array: &Array,
@@ -84,7 +85,7 @@ impl ArraySerialization {
         Ok(ArraySerialization::new(serialized_id, metadata, buffers, children))
     }
 
-    /// The same parts again.
+    /// A copy of the parts. No buffer's bytes are copied. The only refusal is `OutOfMemory`.
     pub fn clone(&self, alloc: Global) -> Result<ArraySerialization, RegistryError>
         ensures id { IfOk result (λ s. s.serialized_id ≡ self.now.serialized_id) }
         ensures metadata { IfOk result (λ s. s.metadata ≡ self.now.metadata) }
@@ -106,7 +107,8 @@ impl ArraySerialization {
     }
 }
 
-/// The identifier under which an array's root is written, where primitives have two or not. The only refusal is allocation failure.
+/// The identifier under which an array's root is written; `two` says whether primitives have two. The only refusal is
+/// `OutOfMemory`.
 pub fn written_id(alloc: Global, array: &Array, two: bool) -> Result<Id, RegistryError>
     ensures ok { IfOk result (λ id. id ≡ array_id two array.now) }
     ensures err { IsOkUnless result RegistryError.OutOfMemory }
@@ -127,26 +129,26 @@ fn is_primitive(array: &Array) -> bool
     }
 }
 
-/// What a node is built of: its identifier, the type and the length at which it stands, the bytes of its metadata,
-/// its buffers and the arrays of its children.
+/// The parts that a node is built of: its identifier, the type and the length at which it stands, the bytes of its
+/// metadata, its buffers and the arrays of its children.
 #[derive(Drop)]
 pub struct ArrayDeserialization {
     /// The identifier of the node.
     pub serialized_id: Id,
-    /// The logical type of the rows.
+    /// The logical type that the array is to have.
     pub dtype: DType,
-    /// How many rows there are.
+    /// The number of rows that the array is to have.
     pub len: usize,
-    /// The message of the metadata.
+    /// The bytes of the metadata.
     pub metadata: Blob,
-    /// The node's own buffers.
+    /// The node's own buffers, in order.
     pub buffers: BufferHandles,
     /// The arrays of the node's children, in their order.
     pub children: Arrays,
 }
 
 impl ArrayDeserialization {
-    /// These parts.
+    /// A node of these parts.
     pub fn new(
         serialized_id: Id,
         dtype: DType,
@@ -192,7 +194,7 @@ fn own_buffers(alloc: Global, array: &Array) -> Result<BufferHandles, RegistryEr
     Ok(buffers)
 }
 
-// The same arrays again.
+// Clones of the arrays.
 fn copies(alloc: Global, arrays: &[Array]) -> Result<Arrays, RegistryError>
     ensures ok { IfOk result (λ ts. ts ≡ roses_of arrays.now) }
     ensures err { IsOkUnless result RegistryError.OutOfMemory }

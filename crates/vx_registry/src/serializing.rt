@@ -23,18 +23,19 @@ use vx_types::{Id, Ids};
 /// How an array's root is written.
 #[derive(Drop)]
 pub enum WrittenRoot {
-    /// As it is: by its encoding, or as the foreign node that it is.
+    /// Unchanged: by its encoding, or as the foreign node that it is.
     Own,
     /// As the parts that its plugin gives.
     Given(ArraySerialization),
-    /// Its plugin has no form for it.
+    /// Not at all: its plugin has no form for it.
     Nothing,
 }
 
 /// How an array's root is written by an entry of the session, or, where it is foreign, where such nodes are allowed
-/// (`unknown`). Its metadata is not looked at. `NotRegistered` where nothing writes it or it is foreign and such nodes are not
-/// allowed, `UndeclaredId` where its plugin names an identifier that it does not declare, `PluginRefused` where its plugin
-/// refuses it.
+/// (`unknown`). Its metadata is not looked at.
+///
+/// Refuses with `NotRegistered` where nothing writes it or it is foreign and such nodes are not allowed, `UndeclaredId`
+/// where its plugin names an identifier that it does not declare, and `PluginRefused` where its plugin refuses it.
 pub fn written_root(
     alloc: Global,
     array: &Array,
@@ -62,7 +63,7 @@ pub fn written_root(
     }
 }
 
-// What a plugin gives for an array, where it declares the identifier.
+// What a plugin gives for an array, where the plugin declares the identifier.
 fn given_root(
     alloc: Global,
     plugin: &Box<dyn ArrayPlugin>,
@@ -86,9 +87,9 @@ fn given_root(
     Ok(WrittenRoot::Given(parts))
 }
 
-/// An array's root as it is written, where foreign nodes are allowed (`unknown`) or not: its parts, or `None` where its plugin
-/// has no form for it. The refusals are those of `written_root`, and `WireLimit` where the metadata of what is written as it
-/// stands does not fit its message.
+/// An array's root as it is written, where foreign nodes are allowed (`unknown`) or not: its parts, or `None` where its
+/// plugin has no form for it. The refusals are those of `written_root`, and `WireLimit` where a root that is written
+/// unchanged has metadata that does not fit its message.
 pub fn serialize_root(
     alloc: Global,
     array: &Array,
@@ -105,7 +106,7 @@ pub fn serialize_root(
     }
 }
 
-// The parts of a root that is written as it is.
+// The parts of a root that is written unchanged.
 fn own_parts(
     alloc: Global,
     array: &Array,

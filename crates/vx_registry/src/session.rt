@@ -24,20 +24,20 @@ use vx_encodings::Encoding;
 use vx_type_wire::ExtSession;
 use vx_types::Id;
 
-/// What is registered to read and write arrays.
+/// What can be registered to read and write arrays.
 #[derive(Drop)]
 pub enum PluginEntry {
     /// A shipped encoding, which reads and writes under its own identifier.
     Shipped(Encoding),
-    /// Primitives under two identifiers: `vortex.primitive` up to four rows, and `vortex.primitive.v2`, which is written of more
-    /// and read of any number.
+    /// Primitives under two identifiers: `vortex.primitive`, for up to four rows, and `vortex.primitive.v2`, which is
+    /// written for more rows and read for any number.
     Revised,
     /// A plugin of the caller, which reads the identifiers that it declares and writes the arrays of its encoding.
     Boxed(Box<dyn ArrayPlugin>),
 }
 
 impl ArraySession {
-    /// A session that reads and writes nothing.
+    /// A session that reads and writes nothing. It takes no memory.
     pub fn empty(alloc: Global) -> ArraySession
         ensures entries { result.tables ≡ empty_registry }
         ensures readers { (x : ExtMeaning) (id : List ℕ) → (arrays_meaning means result x).reader id ≡ None }
@@ -51,7 +51,7 @@ impl ArraySession {
         }
     }
 
-    /// A session of the shipped encodings.
+    /// A session of the shipped encodings. The only refusal is `OutOfMemory`.
     pub fn default(alloc: Global) -> Result<ArraySession, RegistryError>
         ensures entries { IfOk result (λ s. s.tables ≡ shipped_registry) }
         ensures shipped { IfOk result (λ s. (x : ExtMeaning) → arrays_meaning means s x ≡ shipped_meaning x) }
@@ -84,7 +84,8 @@ impl ArraySession {
         })
     }
 
-    /// A session of the shipped encodings in which primitives have two identifiers: `default`, and then `Revised`.
+    /// A session of the shipped encodings in which primitives have two identifiers: `default`, and then `Revised`
+    /// registered. The only refusal is `OutOfMemory`.
     pub fn revised(alloc: Global) -> Result<ArraySession, RegistryError>
         ensures entries { IfOk result (λ s. s.tables ≡ with_revised shipped_registry) }
         ensures revised { IfOk result (λ s. (x : ExtMeaning) → arrays_meaning means s x ≡ revised_meaning x) }
@@ -100,10 +101,10 @@ impl ArraySession {
         }
     }
 
-    /// Registers an entry in the place of what read its identifiers and of what wrote its encoding's arrays: a shipped
-    /// encoding reads its own identifier, `Revised` both of primitives, a plugin those that it declares. In `registry` it stands
-    /// in the places of what read them, and at the end where nothing did. Where there is no memory for it, the session has the
-    /// entries and the meaning that it had, and the entry is handed back.
+    /// Registers an entry in place of what read its identifiers and of what wrote the arrays of its encoding. A shipped
+    /// encoding reads its own identifier, `Revised` both of primitives, a plugin those that it declares. In `registry`
+    /// the entry takes the places of what read them before, and the end where nothing did. Where allocation fails, the
+    /// session keeps its entries and its meaning, and the entry is handed back.
     pub fn register(&mut self, entry: PluginEntry) -> Result<(), AllocFailed<PluginEntry>>
         ensures entries { OnOk result (self.new.tables ≡ with_entry means (length self.old.plugins.items) entry self.old.tables) }
         ensures readers { OnOk result ((x : ExtMeaning) (id : List ℕ) → (arrays_meaning means self.new x).reader id
@@ -178,14 +179,14 @@ impl ArraySession {
         Ok(())
     }
 
-    /// The entries by the identifiers that they read, in the order in which these came: encodings, and numbers of plugins.
+    /// The entries by the identifiers that they read, in the order of registration: encodings, and numbers of plugins.
     pub fn registry(&self) -> &IndexMap<Id, Entry>
         ensures { result.now.entries ≡ self.now.tables.readers }
     {
         self.tables.readers()
     }
 
-    /// What reads the arrays of this identifier: `None` where it is not registered.
+    /// What reads nodes of this identifier: `None` where nothing is registered for it.
     pub fn reader(&self, id: &Id) -> Option<Entry>
         ensures found { (x : ExtMeaning) → (arrays_meaning means self.now x).reader id.now ≡ option_and_then (reader_in means self.now) result }
         ensures within { IfSome result (λ entry. IsSome (reader_in means self.now entry)) }
@@ -194,14 +195,14 @@ impl ArraySession {
         self.tables.reader(id)
     }
 
-    /// What writes the arrays of this identifier: `None` where nothing does.
+    /// What writes the arrays of this encoding's identifier: `None` where nothing does.
     pub fn writer(&self, id: &Id) -> Option<Entry>
         ensures found { (x : ExtMeaning) → (arrays_meaning means self.now x).writer id.now ≡ option_and_then (reader_in means self.now) result }
     {
         self.tables.writer(id)
     }
 
-    /// Whether primitives are written under two identifiers. The only refusal is allocation failure.
+    /// Whether primitives are written under two identifiers. The only refusal is `OutOfMemory`.
     pub fn writes_two(&self, alloc: Global) -> Result<bool, RegistryError>
         ensures two { IfOk result (λ two. (x : ExtMeaning) → writes_two (arrays_meaning means self.now x) ≡ two) }
         ensures paired { OnOk result ((x : ExtMeaning) → IsPaired (arrays_meaning means self.now x)) }
@@ -214,7 +215,8 @@ impl ArraySession {
         }
     }
 
-    /// The plugin of this number: `None` exactly where there are not so many.
+    /// The plugin of this number: `None` exactly where `number` is past the end. Boxes stand in a list, as one plugin
+    /// may serve several identifiers.
     pub fn plugin(&self, number: usize) -> Option<&Box<dyn ArrayPlugin>>
         ensures { option_copied result ≡ slice_get self.now.plugins.items number }
     {
@@ -222,7 +224,7 @@ impl ArraySession {
     }
 }
 
-/// What arrays and types are read and written by.
+/// A session: what reads and writes arrays, and what reads extension types.
 pub struct VortexSession {
     /// The encodings and plugins of arrays.
     pub arrays: ArraySession,
@@ -230,7 +232,7 @@ pub struct VortexSession {
     pub ext: ExtSession,
 }
 
-// A session falls by a call of this, wherever one falls, and not part by part.
+// A session is dropped by a call of this, wherever it is dropped, and not part by part.
 impl Drop for VortexSession {
     fn drop(self) {
         let VortexSession { arrays: _, ext: _ } = self;
@@ -238,7 +240,7 @@ impl Drop for VortexSession {
 }
 
 impl VortexSession {
-    /// A session of these encodings and these readers.
+    /// A session of these encodings and plugins and of these extension readers.
     pub fn new(arrays: ArraySession, ext: ExtSession) -> VortexSession
         ensures arrays { result.arrays ≡ arrays }
         ensures ext { result.ext ≡ ext }
@@ -246,17 +248,21 @@ impl VortexSession {
         VortexSession { arrays, ext }
     }
 
-    /// Whether what nothing is registered for is allowed: the flag of `ext`, which `allow_unknown` sets there.
+    /// Whether extension types and nodes that nothing is registered for are allowed. The flag is that of `ext`, and
+    /// `allow_unknown` sets it there.
     pub fn allows_unknown(&self) -> bool
         ensures { result ≡ (ext_meaning (λ b. accepted (b.vtable, b.value)) self.now.ext).unknown }
     {
         self.ext.allows_unknown()
     }
 
-    /// An array's root as it is written: its parts, under the identifier that what writes its encoding's arrays gives them; a
-    /// foreign node's own, where unknown ones are allowed; and `None` where its plugin has no form for it. `NotRegistered`
-    /// exactly where nothing writes it, `UndeclaredId` where its plugin names an identifier that it does not declare,
-    /// `PluginRefused` where its plugin refuses it, and `WireLimit` where its metadata does not fit its message.
+    /// An array's root as it is written: its parts, under the identifier that the writer of its encoding's arrays gives
+    /// them; the own parts of a foreign node, where unknown nodes are allowed; and `None` where its plugin has no form
+    /// for it.
+    ///
+    /// Refuses with `NotRegistered` exactly where nothing writes it, `UndeclaredId` where its plugin names an
+    /// identifier that it does not declare, `PluginRefused` where its plugin refuses it, and `WireLimit` where its
+    /// metadata does not fit its message.
     pub fn array_serialize(
         &self,
         alloc: Global,

@@ -14,14 +14,14 @@ use std::marker::Model;
 use vx_encodings::{Encoding, revised_id};
 use vx_types::{Id, Ids};
 
-/// What reads or writes: a shipped encoding, primitives under two identifiers, or the plugin of this number.
+/// An entry of the tables: a shipped encoding, primitives under two identifiers, or the number of a plugin.
 #[derive(Clone, Copy, Debug, PartialEq, Eq)]
 pub enum Entry {
     /// A shipped encoding.
     Shipped(Encoding),
     /// Primitives under two identifiers.
     Revised,
-    /// The plugin that was registered as this one, counted from 0.
+    /// The plugin that was registered with this number, counted from 0.
     Boxed(usize),
 }
 
@@ -44,7 +44,7 @@ impl Model for Tables {
 }
 
 impl Tables {
-    /// Tables by which nothing is read or written.
+    /// Tables without entries. They take no memory.
     pub(crate) fn new(alloc: Global) -> Tables
         ensures readers { result.readers ≡ [] }
         ensures writers { result.writers ≡ [] }
@@ -56,7 +56,7 @@ impl Tables {
         }
     }
 
-    /// Sets what reads and what writes an encoding's identifier to the encoding.
+    /// Makes the encoding what reads its own identifier, and what writes its arrays.
     pub(crate) fn set(&mut self, encoding: Encoding) -> Result<(), RegistryError>
         ensures registered { OnOk result (self.new ≡ registered encoding self.old) }
         ensures unchanged { OnErr result (self.new ≡ self.old) }
@@ -75,8 +75,8 @@ impl Tables {
         Ok(())
     }
 
-    /// Sets what reads both identifiers of primitives, and what writes primitives, to these under two identifiers: those of no
-    /// rows and of the most.
+    /// Makes primitives under two identifiers what reads both, and what writes primitives. The two are those of no rows
+    /// and of the greatest number of rows.
     pub(crate) fn set_revised(&mut self) -> Result<(), RegistryError>
         ensures registered { OnOk result (self.new ≡ with_revised self.old) }
         ensures unchanged { OnErr result (self.new ≡ self.old) }
@@ -99,7 +99,7 @@ impl Tables {
         Ok(())
     }
 
-    /// Sets what reads these identifiers and what writes the arrays of one to the plugin of a number.
+    /// Makes the plugin of a number what reads these identifiers, and what writes the arrays of one.
     pub(crate) fn set_boxed(
         &mut self,
         number: usize,
@@ -121,7 +121,7 @@ impl Tables {
         Ok(())
     }
 
-    /// The entries by the identifiers that they read, in the order in which these came.
+    /// The entries by the identifiers that they read, in the order of registration.
     pub(crate) fn readers(&self) -> &IndexMap<Id, Entry>
         ensures { result.now.entries ≡ self.now.readers }
     {
@@ -145,7 +145,7 @@ impl Tables {
     }
 }
 
-// The identifier of primitives of so many rows, where they have two.
+// The identifier of primitives with this number of rows, where they have two.
 pub(crate) fn revised(alloc: Global, len: usize) -> Result<Id, RegistryError>
     ensures ok { IfOk result (λ id. id ≡ revised_id len) }
     ensures err { IsOkUnless result RegistryError.OutOfMemory }
@@ -156,7 +156,7 @@ pub(crate) fn revised(alloc: Global, len: usize) -> Result<Id, RegistryError>
     }
 }
 
-// Identifiers, one by one.
+// Copies of the identifiers, in a list.
 fn copies(alloc: Global, ids: &Ids) -> Result<Vec<Id>, RegistryError>
     ensures ids { IfOk result (λ v. v.items ≡ ids.now) }
     ensures err { IsOkUnless result RegistryError.OutOfMemory }
@@ -168,7 +168,7 @@ fn copies(alloc: Global, ids: &Ids) -> Result<Vec<Id>, RegistryError>
     Ok(copies)
 }
 
-// Puts an entry under each of these identifiers, for which there is room.
+// Puts an entry under each of these identifiers. There is room for them, so this cannot fail half-way.
 fn put_all(table: &mut IndexMap<Id, Entry>, entry: Entry, ids: Vec<Id>)
     requires { length ids.items ≤ spare table.old }
     ensures { table.new.entries ≡ put_all entry ids.items table.old.entries }

@@ -88,7 +88,7 @@ named_there None bs b e = absurd (cc)
 named_there (Some k) bs b e = ap (λ z. Some z) e
 
 module _ (a : Serialized) (i : ℕ) where
-  -- What the numbers of a node's buffers stand for, each where it has one.
+  -- What the numbers of a node's buffers stand for, where they stand for one.
   abbrev named : List (Option Buffer)
   named = map (λ k. slice_get a.buffers k) (label a.root).buffers
 
@@ -106,7 +106,7 @@ module _ (a : Serialized) (i : ℕ) where
 
 -- ---- statistics
 
--- What a node's field shows, or why it shows nothing, is said of its wire tree.
+-- What a node's field shows, or why it shows nothing, holds of its wire tree.
 pub shown_at : (ids : List (List ℕ)) (a : Serialized) (d : Typ) (t u : Tree) → IsToldBy codec d (label a.root).stats t u → IsToldBy codec d (label (wire_in ids a)).stats t u
 shown_at ids a d t u h = subst (λ (f : Field). IsToldBy codec d f t u) (sym (wire-stats ids a)) h
 

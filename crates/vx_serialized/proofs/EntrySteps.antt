@@ -32,7 +32,7 @@ use Rattle.vx_serialized.specs.declared.error.WireError.TheVariants.{BadShape}
 -- ---- an encoding refuses
 
 module _ (x : ExtMeaning) (r : Option Reader) (g : Encoding) (by : encoding_by r ≡ Some (plain_encoding g)) (h : ArrayHead) where
-  -- What is said of the encoding is said of the one that reads.
+  -- What holds of the encoding holds of the one that reads.
   of_reader : (P : E.Encoding → Type 0) → P (plain_encoding g) → IsSomeAnd (encoding_by r) P
   of_reader P k = subst (λ o. IsSomeAnd o P) (sym by) k
 
@@ -109,7 +109,7 @@ module _ {B : Type 0} (means : B → PluginMeaning) where
       plugin_unbuilt e u =
           subst (λ r. RefusesBuild (plugin_refusal e) x r h bs ts) (sym own) (refuses_parts e (subst (λ z. IsAnswer {A = Tree} z (Err e)) same u))
 
--- What is told of a node whose parts are there.
+-- The head of a node whose parts are there.
 pub told_parts : (p : ArrayDeserialization) (h : ArrayHead) (bs : List Buffer) (ts : Trees) → p.serialized_id ≡ h.serialized_id → typ p.dtype ≡ typ h.dtype → p.len ≡ h.len → p.metadata ≡ h.metadata → p.buffers ≡ bs → p.children ≡ ts
     → read_head p ≡ head_over h bs ts
 told_parts p h bs ts a b c d e f = λ i. record { id = a i; dtype = b i; len = c i; metadata = d i; nbuffers = length (e i); nchildren = count (f i) }

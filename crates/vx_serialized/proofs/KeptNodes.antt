@@ -17,24 +17,24 @@ use Rattle.vx_serialized.specs.declared.error.WireError.TheVariants.{OutOfMemory
 use Rattle.vx_serialized.specs.Decoding.{IsHeadOf}
 use Rattle.vx_serialized.specs.ReadingSteps.{RefusesNodeBuffers, RefusesKept}
 
--- a child's cause is its parent's
+-- A child's cause is its parent's.
 pub kept_above : (x : WireError) (w : Wire) (i : ℕ) (v : Wire) → slice_get (roses_list (below w)) i ≡ Some v → RefusesKept x v → RefusesKept x w
 kept_above OutOfMemory w i v child c = tt
 kept_above OutOfBounds w i v child c = (i ∷ c.0, (v, child, c.1))
 kept_above UnknownIndex w i v child c = (i ∷ c.0, (v, child, c.1))
 kept_above _ w i v child c = absurd c
 
--- a missing buffer
+-- A missing buffer.
 pub unkept_by_buffers : (x : WireError) (w : Wire) → RefusesNodeBuffers x (label w).buffers → RefusesKept x w
 unkept_by_buffers OutOfMemory w c = tt
 unkept_by_buffers OutOfBounds w c = ([], c)
 unkept_by_buffers _ w c = absurd c
 
--- a missing identifier
+-- A missing identifier.
 pub unkept_by_id : (w : Wire) → (label w).id ≡ None → RefusesKept UnknownIndex w
 unkept_by_id w e = ([], e)
 
--- wanted memory
+-- Allocation failure.
 pub unkept_by_memory : (x : WireError) (w : Wire) → x ≡ OutOfMemory → RefusesKept x w
 unkept_by_memory x w e = subst (λ z. RefusesKept z w) (sym e) tt
 

@@ -1,4 +1,4 @@
--- A blob carries at most one tree, and its array tells that one, for the proofs of other crates.
+-- A blob carries at most one tree, which is that of its array, for the proofs of other crates.
 use Rattle.std.proofs.Common.{ℕ, ◌≡◌, List, ◌++◌, length, take, drop, sym, ap, ◌∙◌, subst, arith, length-append}
 use Rattle.std.specs.Int.{w32, from_le_bytes}
 use Rattle.std.proofs.Math.Seq.{take-append_seam, drop-append_seam}
@@ -14,7 +14,7 @@ use Rattle.vx_serialized.specs.ReadingSteps.{IsOpened}
 use Rattle.vx_serialized.specs.Serialized.{Serialized, wire_in}
 use Rattle.vx_serialized.specs.Stored.{IsBlobOf}
 
--- Lists that are cut as far from their end fall apart alike.
+-- Two equal lists that are cut at the same distance from their end have equal parts.
 fronts : (a b c d : List ℕ) → a ++ b ≡ c ++ d → length b ≡ length d → a ≡ c
 fronts a b c d e h =
     let n : length a ≡ length c = omega (arith, ap length e, length-append a b, length-append c d, h) in
@@ -25,7 +25,7 @@ backs a b c d e h =
     let n : length a ≡ length c = omega (arith, ap length e, length-append a b, length-append c d, h) in
     sym (drop-append_seam a b) ∙ ap (λ s. drop (length a) s) e ∙ ap (λ n. drop n (c ++ d)) n ∙ drop-append_seam c d
 
--- A blob's message is told by its last four bytes, and its segment is what is left.
+-- A blob's message is determined by its last four bytes, and its segment is what is left.
 pub one_blob : (blob segment segment' message message' : List ℕ) → IsBlob blob segment message → IsBlob blob segment' message' → (segment ≡ segment') × (message ≡ message')
 one_blob blob segment segment' message message' a b =
     let same = sym a.parts ∙ b.parts in
@@ -42,7 +42,7 @@ pub record AreSame (blob : List ℕ) (ids : List (List ℕ)) (w w' : Wire) (a : 
   pub root : a.root ≡ b.root
   pub tree : w ≡ w'
 
--- What a blob carries beside identifiers is one tree, with one segment, message and value.
+-- What a blob carries, with a list of identifiers, is one tree, with one segment, message and value.
 pub carried_once : (blob : List ℕ) (ids : List (List ℕ)) (w w' : Wire) (a : Carries blob ids w) (b : Carries blob ids w') → AreSame blob ids w w' a b
 carried_once blob ids w w' a b =
     let parts = one_blob blob a.segment b.segment a.message b.message a.blob_is b.blob_is in
@@ -57,7 +57,7 @@ carried_once blob ids w w' a b =
     ∙ sym b.wire_is in
     record { segment = parts.0; message = parts.1; value = value; root = root; tree = tree }
 
--- A blob's array tells the wire tree that the blob carries.
+-- The wire tree of a blob's array is the one that the blob carries.
 pub opened : (most : Limits) (blob : List ℕ) (ids : List (List ℕ)) (a : Serialized) → IsBlobOf most blob a → IsOpened most blob ids (wire_in ids a)
 opened most blob ids a h =
     let told = h.message_is in

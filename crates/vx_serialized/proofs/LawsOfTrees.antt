@@ -1,4 +1,5 @@
--- What a wire tree tells, and that none that tells an array is refused, for the proofs of other crates too.
+-- What a wire tree decodes to, and that one which decodes to an array is not refused, for the proofs of other crates
+-- too.
 use Rattle.std.proofs.Common.{ℕ, ◌≡◌, refl}
 use Rattle.std.specs.Prelude.{Result, Ok, Err, IfOk, IfErr}
 use Rattle.vx_types.specs.Typ.{Typ}
@@ -14,7 +15,7 @@ use Rattle.vx_serialized.specs.declared.error.WireError.{WireError}
 use Rattle.vx_serialized.specs.declared.error.WireError.TheVariants.{OutOfMemory, OutOfBounds, UnknownIndex, UnknownEncoding, BadMetadata, BadShape, BadContent, ForeignControl, BadStats, PluginRefused}
 use Rattle.vx_serialized.specs.Causes.{RefusesWire}
 
--- No node of a wire tree that tells an array is refused.
+-- No node of a wire tree that decodes to an array is refused.
 pub never_caused : (s : SessionMeaning) → IsShipped s → IsLawful codec s → (x : WireError) (w : Wire) (d : Typ) (n : ℕ) (t : Tree) → DecodesTo codec s w d n t → RefusesWire s x w d n → x ≡ OutOfMemory
 never_caused s ok law OutOfMemory w d n t told c = refl
 never_caused s ok law OutOfBounds w d n t told c = absurd (never_refused codec s ok law trees.out_of_bounds w d n t told c)
@@ -28,7 +29,8 @@ never_caused s ok law BadStats w d n t told c = absurd (never_refused codec s ok
 never_caused s ok law PluginRefused w d n t told c = absurd (never_refused codec s ok law trees.plugin_refused w d n t told c)
 never_caused s ok law _ w d n t told c = absurd c
 
--- What a wire tree tells is the one array that it tells, and where it tells one only allocation failure is left to refuse.
+-- What a wire tree decodes to is the only array that it decodes to, and where there is one, the only refusal is
+-- `OutOfMemory`.
 pub told_one : (s : SessionMeaning) → IsShipped s → IsLawful codec s → (w : Wire) (d : Typ) (n : ℕ) (r : Result Tree WireError) → IfOk r (λ u. DecodesTo codec s w d n u) → IfErr r (λ e. RefusesWire s e w d n)
     → (t : Tree) → DecodesTo codec s w d n t → IfOk r (λ u. u ≡ t) × IfErr r (λ e. e ≡ OutOfMemory)
 told_one s ok law w d n (Ok u) told cause t x = (one_tree codec s ok law w d n u t told x, tt)

@@ -69,7 +69,7 @@ places-snoc_suc (t ∷ ts) u (q ∷ ps) (suc i) p e g d n =
     let b : places (roses_of ts) ≡ take i ps = cc in
     λ j. a j ∷ places-snoc_suc ts u ps i p b g d n j
 
--- One more child that tells the array of its place.
+-- One more child that decodes to the array of its place.
 pub told-snoc : (s : SessionMeaning) (ws : List Wire) (ps : List Place) (i : ℕ) (w : Wire) (p : Place) (us vs : Trees) (u : Tree) → i < length ws → AllTell codec s (roses_of (take i ws)) (take i ps) us
     → w ≡ get_or ws i w → slice_get ps i ≡ Some p → DecodesTo codec s w p.dtype p.len u → roses_list vs ≡ roses_list us ++ u ∷ [] → AllTell codec s (roses_of (take (i + 1) ws)) (take (i + 1) ps) vs
 told-snoc s ws ps i w p us vs u h k f g x e =
@@ -96,7 +96,7 @@ all_told s ws ps us i h same k =
 
 -- ---- what is at a place of a list
 
--- as many places as children
+-- There are as many places as children.
 enough_by : (r : Option PluginMeaning) (x : ExtMeaning) (h : ArrayHead) (ps : List Place) (ws : List Wire) (w : Wire) (d : Typ) (n : ℕ) → PlansBy x (option_map (λ p. plugin p) r) h ps → IsHeadOf h w d n → roses_of ws ≡ below w → length ps ≡ length ws
 enough_by None x h ps ws w d n plan is own = absurd plan.0
 enough_by (Some p) x h ps ws w d n plan is own = p.one_each (head_in h) x ps plan ∙ is.children ∙ sym (ap (λ z. count z) own) ∙ count-roses_of ws
@@ -115,7 +115,7 @@ get_past (x ∷ xs) (suc i) h g = get_past xs i (omega (arith, h)) g
 
 -- ---- causes
 
--- a child's cause is its parent's
+-- A child's cause is its parent's.
 caused_above : (s : SessionMeaning) (x : WireError) (w : Wire) (d : Typ) (n : ℕ) (i : ℕ) (v : Wire) (p : Place) → IsChild codec s w d n i v p → RefusesWire s x v p.dtype p.len → RefusesWire s x w d n
 caused_above s OutOfMemory w d n i v p child c = tt
 caused_above s OutOfBounds w d n i v p child c = (i ∷ c.0, (v, child.child, c.1))
@@ -129,33 +129,33 @@ caused_above s BadStats w d n i v p child c = (i ∷ c.0, (v, p, child, c.1))
 caused_above s PluginRefused w d n i v p child c = (i ∷ c.0, (v, p, child, c.1))
 caused_above s _ w d n i v p child c = absurd c
 
--- and so is that of the child that stands at a place of a list
+-- So is that of the child at an index of a list.
 pub caused_by_child : (s : SessionMeaning) (x : WireError) (w : Wire) (d : Typ) (n : ℕ) (ws : List Wire) (ps : List Place) (i : ℕ) (v : Wire) (p : Place) → HasPlan codec s w d n ps → roses_of ws ≡ below w
     → slice_get ws i ≡ Some v → slice_get ps i ≡ Some p → RefusesWire s x v p.dtype p.len → RefusesWire s x w d n
 caused_by_child s x w d n ws ps i v p plan e g f c =
     let child : slice_get (roses_list (below w)) i ≡ Some v = ap (λ z. slice_get z i) (ap (λ z. roses_list z) (sym e) ∙ roses_list-roses_of ws) ∙ g in
     caused_above s x w d n i v p (record { places = ps; planned = plan; child = child; place = f }) c
 
--- a missing buffer
+-- A missing buffer.
 pub caused_by_buffers : (s : SessionMeaning) (x : WireError) (w : Wire) (d : Typ) (n : ℕ) → RefusesNodeBuffers x (label w).buffers → RefusesWire s x w d n
 caused_by_buffers s OutOfMemory w d n c = tt
 caused_by_buffers s OutOfBounds w d n c = ([], c)
 caused_by_buffers s _ w d n c = absurd c
 
--- nothing reads the node, and such nodes are not allowed
+-- Nothing reads the node, and such nodes are not allowed.
 pub caused_by_reader : (s : SessionMeaning) (w : Wire) (d : Typ) (n : ℕ) (id : List ℕ) → (label w).id ≡ Some id → s.reader id ≡ None → s.ext.unknown ≡ false → RefusesWire s UnknownEncoding w d n
 caused_by_reader s w d n id i r closed = ([], record { unregistered = record { id = id; id_is = i; reader_is = r }; closed = closed })
 
--- a wire tree that is not kept
+-- A wire tree that is not kept.
 pub caused_by_keeping : (s : SessionMeaning) (x : WireError) (w : Wire) (d : Typ) (n : ℕ) → RefusesKept x w → RefusesWire s x w d n
 caused_by_keeping s OutOfMemory w d n c = tt
 caused_by_keeping s OutOfBounds w d n c = c
 caused_by_keeping s UnknownIndex w d n c = c
 caused_by_keeping s _ w d n c = absurd c
 
--- ---- what is told of a node
+-- ---- what is known of a node
 
--- what holds of a head's parts holds of the wire node's
+-- What holds of a head's parts holds of the wire node's.
 at_node : (P : Typ → ℕ → List ℕ → ℕ → Type 0) (h : ArrayHead) (w : Wire) (d : Typ) (n : ℕ) → IsHeadOf h w d n → P (typ h.dtype) h.len h.metadata h.nchildren → P d n (label w).metadata (count (below w))
 at_node P h w d n is x =
     let A : Typ → Type 0 = λ z. P z h.len h.metadata h.nchildren in
@@ -164,24 +164,24 @@ at_node P h w d n is x =
     let D : ℕ → Type 0 = λ z. P d n (label w).metadata z in
     subst D is.children (subst C is.metadata (subst B is.len (subst A is.dtype x)))
 
--- what is told to a plugin
+-- The head that a plugin is given.
 told_head : (h : ArrayHead) (w : Wire) (d : Typ) (n : ℕ) (id : List ℕ) → IsHeadOf h w d n → h.serialized_id ≡ id → head_in h ≡ head_at id (label w) (count (below w)) d n
 told_head h w d n id is named = λ i. record { id = named i; dtype = is.dtype i; len = is.len i; metadata = is.metadata i; nbuffers = is.buffers i; nchildren = is.children i }
 
 own_encoding : (s : SessionMeaning) (w : Wire) (d : Typ) (n : ℕ) (r : Option Reader) (e : Encodings.Encoding) (h : ArrayHead) → IsNodeOf s w d n r h → encoding_by r ≡ Some e → IsOf s w e
 own_encoding s w d n r e h read by = record { id = read.id; id_is = read.id_is; encoding_is = ap (λ z. encoding_by z) read.reader_is ∙ by }
 
--- what is said of what is there
+-- A fact of a value, where there is one.
 there : {A : Type 0} (o : Option A) (P : A → Type 0) → IsSomeAnd o P → (a : A) × (o ≡ Some a) × P a
 there None P k = absurd k
 there (Some a) P k = (a, refl, k)
 
--- the encoding that reads plans
+-- The encoding that reads a node plans its children.
 plans_own : (x : ExtMeaning) (r : Option Reader) (e : Encodings.Encoding) (h : ArrayHead) (ps : List Place) → encoding_by r ≡ Some e → PlansBy x r h ps → PlansChildren codec x e (typ h.dtype) h.len h.metadata h.nchildren ps
 plans_own x (Some (plugin p)) e h ps by plan = absurd (cc)
 plans_own x r e h ps by plan = subst (λ (o : Option Encodings.Encoding). IsSomeAnd o (λ f. PlansChildren codec x f (typ h.dtype) h.len h.metadata h.nchildren ps)) by plan.0
 
--- a node by what reads its identifier
+-- A node by what reads its identifier.
 pub node_of : (s : SessionMeaning) (w : Wire) (d : Typ) (n : ℕ) (r : Option Reader) (h : ArrayHead) (id : List ℕ) → (label w).id ≡ Some id → h.serialized_id ≡ id → s.reader id ≡ r → IsHeadOf h w d n → IsNodeOf s w d n r h
 node_of s w d n r h id i named q head = record { id = id; id_is = i; named = named; reader_is = q; head = head }
 
@@ -197,7 +197,7 @@ planned s w d n r h ps read plan =
     let P : Option Reader → Type 0 = λ z. IsPlannedBy codec s z w d n ps in
     record { id = read.id; id_is = read.id_is; planned = subst P (sym read.reader_is) (planned_by s w d n r h ps read plan) }
 
--- an encoding refuses a node's metadata, or plans nothing
+-- An encoding refuses a node's metadata, or plans nothing.
 no_metadata : (s : SessionMeaning) (w : Wire) (d : Typ) (n : ℕ) (e : Encodings.Encoding) (h : ArrayHead) → IsHeadOf h w d n → IsOf s w e → HasNoMetadata codec s.ext e (typ h.dtype) h.metadata → RefusesWire s BadMetadata w d n
 no_metadata s w d n e h head by c = ([], record { encoding = e; by = by; none = at_node (λ f m b k. HasNoMetadata codec s.ext e f b) h w d n head c })
 
@@ -207,7 +207,7 @@ no_plan s w d n e h head by c =
     let none = at_node (λ f m b k. HasNoPlan codec s.ext e f m b k) h w d n head c in
     ([], record { encoding = e; by = by; value = none.value; metadata = none.metadata; broken = inl none.none })
 
--- what an identifier holds of a head's rows it holds of the node's
+-- An identifier that holds a head's rows holds the node's.
 held_at : (b : Bool) (h : ArrayHead) (w : Wire) (d : Typ) (n : ℕ) (id : List ℕ) → IsHeadOf h w d n → h.serialized_id ≡ id → revised_holds h.serialized_id h.len ≡ b → revised_holds id n ≡ b
 held_at b h w d n id head named e = (λ i. revised_holds (sym named i) (sym head.len i)) ∙ e
 
@@ -249,23 +249,23 @@ caused_by_plan s PluginRefused w d n (Some (plugin p)) h read c = (
 )
 caused_by_plan s _ w d n r h read c = absurd c
 
--- no other buffers may stand for those that are there
+-- No other buffers may stand for those that are there.
 standing : (bs cs : List Buffer) → MayStandFor (all_present bs) cs → cs ≡ bs
 standing [] cs m = m
 standing (b ∷ bs) [] m = absurd m
 standing (b ∷ bs) (c ∷ cs) m = λ i. m.0 i ∷ standing bs cs m.1 i
 
--- parts of as many children are of the same shape
+-- Parts with as many children are of the same shape.
 content_broken : (e : Encodings.Encoding) (d : Typ) (n : ℕ) (v : Metadata) (bs : List Buffer) (j k : ℕ) (ts : Trees) → j ≡ k → (x : IsShaped e d n v bs j) → (Content d n x.body (rows_below ts) → ⊥)
     → (y : IsShaped e d n v bs k) × (Content d n y.body (rows_below ts) → ⊥)
 content_broken e d n v bs j k ts same x wrong =
     (record { body = x.body; body_is = x.body_is; holds = x.holds; allows = subst (λ (z : ℕ). Allows e d v z) same x.allows }, wrong)
 
--- arrays that the children tell are a node's children
+-- Arrays that the children decode to are a node's children.
 children_of : (s : SessionMeaning) (w : Wire) (ws : List Wire) (ps : List Place) (ts : Trees) → roses_of ws ≡ below w → AllTell codec s (roses_of ws) ps ts → HasChildren codec s w ps ts
 children_of s w ws ps ts own told = subst (λ z. AllTell codec s z ps ts) own told
 
--- what is told to a plugin with the parts
+-- The head that a plugin is given with the parts.
 head_of_parts : (s : SessionMeaning) (w : Wire) (d : Typ) (n : ℕ) (id : List ℕ) (h : ArrayHead) (bs : List Buffer) (ts : Trees) → IsHeadOf h w d n → h.serialized_id ≡ id → (label w).buffers ≡ all_present bs → AllMatch codec s (below w) ts
     → head_over h bs ts ≡ head_at id (label w) (count (below w)) d n
 head_of_parts s w d n id h bs ts is named own matched =
@@ -273,7 +273,7 @@ head_of_parts s w d n id h bs ts is named own matched =
     let b : length bs ≡ length (label w).buffers = sym (ap (λ z. length z) own ∙ length-map bs (λ b. Some b)) in
     λ i. record { id = named i; dtype = is.dtype i; len = is.len i; metadata = is.metadata i; nbuffers = b i; nchildren = k i }
 
--- what an encoding builds nothing of, after it has planned, by its refusal
+-- Why an encoding that has planned builds nothing, by its refusal.
 wrong_shape : (s : SessionMeaning) (w : Wire) (d : Typ) (n : ℕ) (e : Encodings.Encoding) (h : ArrayHead) (bs : List Buffer) (ws : List Wire) (ps : List Place) (ts : Trees) → IsHeadOf h w d n → IsOf s w e
     → PlansChildren codec s.ext e (typ h.dtype) h.len h.metadata h.nchildren ps → (label w).buffers ≡ all_present bs → roses_of ws ≡ below w → AllTell codec s (roses_of ws) ps ts → HasWrongShape codec s.ext e (typ h.dtype) h.len h.metadata bs ts → RefusesWire s BadShape w d n
 wrong_shape s w d n e h bs ws ps ts head by plan own own_children told c =
@@ -380,7 +380,7 @@ caused_by_build s PluginRefused w d n (Some (plugin p)) h bs ws ps ts read plan 
     )
 caused_by_build s _ w d n r h bs ws ps ts read plan own own_children told c = absurd c
 
--- What is built is of the type that is asked.
+-- What is built is of the type that was asked for.
 pub built_dtype : (s : SessionMeaning) (w : Wire) (d : Typ) (n : ℕ) (r : Option Reader) (h : ArrayHead) (bs : List Buffer) (ws : List Wire) (ps : List Place) (ts : Trees) (t : Tree) → IsNodeOf s w d n r h → PlansBy s.ext r h ps
     → (label w).buffers ≡ all_present bs → roses_of ws ≡ below w → AllTell codec s (roses_of ws) ps ts → BuildsBy s.ext r h bs ts t → (label t).dtype ≡ d
 built_dtype s w d n (Some (plugin p)) h bs ws ps ts t read plan own own_children told parts =
@@ -392,14 +392,15 @@ built_dtype s w d n r h bs ws ps ts t read plan own own_children told parts =
     let k = there (encoding_by r) (λ e. HasParts codec s.ext e (typ h.dtype) h.len h.metadata bs ts t) parts in
     ap (λ (z : Tree). (label z).dtype) k.2.tree_is ∙ read.head.dtype
 
--- Statistics that a node shows none of.
+-- Statistics that a node's table does not show.
 pub caused_by_stats : (s : SessionMeaning) (x : WireError) (w : Wire) (d : Typ) (n : ℕ) (r : Option Reader) (h : ArrayHead) → IsSome r → IsNodeOf s w d n r h → RefusesStats x d (label w).stats → RefusesWire s x w d n
 caused_by_stats s OutOfMemory w d n r h there read c = tt
 caused_by_stats s BadStats w d n None h there read c = absurd (cc)
 caused_by_stats s BadStats w d n (Some r) h there read c = ([], record { reader = r; by = record { id = read.id; id_is = read.id_is; reader_is = read.reader_is }; none = c })
 caused_by_stats s _ w d n r h there read c = absurd c
 
--- The node of parts that a plan has told, over children that tell arrays, with the statistics that it shows.
+-- The array of a planned node's parts, over children that decode to arrays, with the statistics that the node's table
+-- shows: the node decodes to it.
 pub told_node : (s : SessionMeaning) → IsLawful codec s → (w : Wire) (d : Typ) (n : ℕ) (r : Option Reader) (h : ArrayHead) (ps : List Place) (bs : List Buffer) (ws : List Wire) (ts : Trees) (t u : Tree) → IsNodeOf s w d n r h
     → PlansBy s.ext r h ps → (label w).buffers ≡ all_present bs → roses_of ws ≡ below w → AllTell codec s (roses_of ws) ps ts → BuildsBy s.ext r h bs ts t → IsSound t
     → IsToldBy codec d (label w).stats t u → DecodesTo codec s w d n u

@@ -1,4 +1,4 @@
--- Descriptors one by one, with buffers that are given in the place of some; and where none is given.
+-- Descriptors one by one, with buffers that are given in place of some, or of none.
 use Rattle.std.proofs.Common.{ℕ, suc, ◌≡◌, ◌+◌, ◌<◌, ◌≤◌, ◌^◌, Bool, true, false, List, [], ◌∷◌, ◌++◌, Option, None, length, refl, sym, ap, ◌∙◌, subst, arith, append_assoc, inl, inr}
 use Rattle.std.specs.Prelude.{All, Any, nat_lt, if◌then◌else◌, Result, Ok, Err, IfOk}
 use Rattle.std.specs.BTreeMap.{BTreeMap, get}
@@ -38,7 +38,7 @@ module _ (given : Overrides) (i p : ℕ) (ds rest : List Descriptor) (d : Descri
       let R : List Descriptor → Type 0 = λ z. RefusesOne e given n i p z in
       inv (subst R (sym front) (inr (subst Q behind (subst P next others))))
 
--- A refusal that no descriptor has, none of them has.
+-- A refusal that no descriptor has is none of the list's.
 pub never-refused : (e : WireError) (given : Overrides) → ((g : Option Buffer) (n p : ℕ) (d : Descriptor) → RefusesAt e g n p d → ⊥) → (n i p : ℕ) (ds : List Descriptor) → RefusesOne e given n i p ds → ⊥
 never-refused e given never n i p [] h = h
 never-refused e given never n i p (d ∷ ds) (inl h) = never (given i) n p d h

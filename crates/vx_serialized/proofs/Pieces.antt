@@ -3,7 +3,7 @@ use Rattle.std.proofs.Common.{ℕ, ◌≡◌, ◌≤◌, List, [], ◌∷◌, le
 use Rattle.std.specs.Int.{w16, w32, from_le_bytes}
 use Rattle.vx_serialized.specs.Message.{Descriptor, descriptors_of}
 
--- the descriptor that the first eight bytes tell
+-- The descriptor in the first eight bytes.
 abbrev pub first_descriptor : List ℕ → Descriptor
 first_descriptor s = record {
   padding = from_le_bytes w16 (get_or s 0 0 ∷ get_or s 1 0 ∷ []);

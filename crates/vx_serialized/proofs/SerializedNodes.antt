@@ -20,7 +20,7 @@ use Rattle.vx_trees.specs.Rose.{Rose, node, label, below, roses_list, count}
 use Rattle.vx_serialized.specs.ArraySchema.{array_schema, node_fields, stats_fields}
 use Rattle.vx_serialized.specs.Message.{NodeFields, node_of, nodes_of, nodes_in, number_of_field, bytes_of_field, indices_of}
 
--- A node is what its fields tell.
+-- A node is what its fields show.
 pub node_seen : (v : View) → IsViewOf array_schema 1 v
     → node_of (seen v) ≡ node (record { encoding = number_of_field (part_in v 0); metadata = bytes_of_field (part_in v 1); buffers = indices_of (bytes_of_field (part_in v 3)); stats = part_in v 4 }) (nodes_in (part_in v 2))
 node_seen v h = ap (λ vs. node_of vs) (seen-of array_schema 1 v h)
@@ -44,7 +44,7 @@ module _ (v : View) (h : IsViewOf array_schema 1 v) (t : Rose NodeFields) (own :
   pub below_told : below t ≡ nodes_in (part_in v 2)
   below_told = ap (λ (z : Rose NodeFields). below z) told
 
-  -- The table of its statistics, where one stands.
+  -- The table of its statistics, if it has one.
   pub table_fields : (r : Option View) → IfSome r (λ w. IsBelow v w) → IfSome r (λ w. kind_in v 4 ≡ Some (Table (table_seen w))) → IfSome r (λ w. kinds_in w ≡ stats_fields)
   table_fields None b k = tt
   table_fields (Some w) b k = kinds-of array_schema 2 w (table-of array_schema v w 4 2 h.schema (kind-of array_schema 1 v h 4) b k)
@@ -74,7 +74,7 @@ indices_of-at (a ∷ b ∷ rest) (suc i) h =
     let odd : 2 * suc i + 1 ≡ suc (suc (2 * i + 1)) = omega arith in
     rw (odd, even) (indices_of-at rest i (omega (arith, h)))
 
--- An index's bytes lie within those of all.
+-- An index's bytes lie within those of all indices.
 pub index-within : (bs is : List ℕ) (i : ℕ) → indices_of bs ≡ is → i < length is → 2 * i + 1 < length bs
 index-within bs is i e h = omega (arith, h, ap (λ xs. length xs) e, length-indices_of bs)
 
@@ -89,7 +89,7 @@ nodes_of-at no_rows i vs e = absurd (cc)
 nodes_of-at (row us rs) zero vs e = ap (λ o. option_map (λ z. node_of z) o) e
 nodes_of-at (row us rs) (suc i) vs e = nodes_of-at rs i vs e
 
--- The nodes of a vector of tables are as many as it counts, and each is the table's.
+-- The nodes of a vector of tables are as many as it counts, and each is its table's.
 pub children-count : (f : Field) (rs : Rows) (size n : ℕ) → tables rs ≡ f → HasElements size f n → count (nodes_in f) ≡ n
 children-count f rs size n is h =
     let P : Field → Type 0 = λ z. HasElements size z n in

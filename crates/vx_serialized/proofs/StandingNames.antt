@@ -1,4 +1,4 @@
--- The names of the statistics that stand in a table, one after the other.
+-- The names of the statistics that a table has, one after the other.
 use Rattle.std.proofs.Common.{ℕ, zero, suc, ◌≡◌, ◌<◌, ◌≤◌, ◌+◌, Bool, true, false, List, [], ◌∷◌, ◌++◌, length, drop, get_or, refl, sym, ap, ◌∙◌, append_assoc, append-nil, drop-cons, add-one, arith}
 use Rattle.std.specs.Prelude.{if◌then◌else◌}
 use Rattle.vx_flat.specs.Value.{Fields}
@@ -9,7 +9,7 @@ first : (b : Bool) (x : List ℕ) (xs : List (List ℕ)) → (if b then x ∷ xs
 first true x xs = refl
 first false x xs = refl
 
--- Those of one statistic come before those of the others.
+-- The names of one statistic come before those of the others.
 names-cons : (vs : Fields) (s : Stat) (ss : List Stat) → names_standing vs (s ∷ ss) ≡ names_standing vs (s ∷ []) ++ names_standing vs ss
 names-cons vs s ss = first (is_standing vs s) (stat_name s) (names_standing vs ss)
 

@@ -8,7 +8,7 @@ use Rattle.vx_scalar_wire.specs.declared.error.ScalarWireError.{ScalarWireError}
 use Rattle.vx_scalar_wire.specs.declared.error.ScalarWireError.TheVariants.{OutOfMemory, BadMessage, TooDeep, MissingKind, KindMismatch, OutOfRange, BadChild, BadScalar, BadPrecision, BadDType, MessageTooLong}
 use Rattle.vx_serialized.specs.ReadingSteps.{RefusesStats, stats_refusal}
 
--- Nothing but allocation failure is out of memory.
+-- Only allocation failure becomes `OutOfMemory`.
 abbrev IsMemory : ScalarWireError → Type 0
 IsMemory OutOfMemory = Unit {0}
 IsMemory _ = ⊥
@@ -16,7 +16,7 @@ IsMemory _ = ⊥
 memory : (e : ScalarWireError) → e ≡ OutOfMemory → IsMemory e
 memory e q = subst (λ (z : ScalarWireError). IsMemory z) (sym q) tt
 
--- A table is refused where it shows no statistics, or memory was wanted.
+-- A table is refused where it shows no statistics, or where allocation failed.
 refused_by : (e : ScalarWireError) (d : Typ) (f : Field) → ((x : Stats) → ShowsStatsIn d f x → e ≡ OutOfMemory) → RefusesStats (stats_refusal e) d f
 refused_by OutOfMemory d f h = tt
 refused_by BadMessage d f h = λ x k. memory BadMessage (h x k)

@@ -1,4 +1,4 @@
--- What a blob carries: its segment, its message, and the wire tree that they tell.
+-- What a blob carries: its segment, its message, and the wire tree of both.
 use Rattle.std.specs.Prelude.{ℕ, ◌≡◌, ◌≤◌, ◌+◌, List, [], ◌∷◌, ◌++◌, Some, map, length, take, drop, slice_get, All}
 use Rattle.std.specs.Int.{w32, from_le_bytes}
 use Rattle.vx_buffer.specs.Buffer.{Buffer}
@@ -16,20 +16,20 @@ pub record IsBlob (blob segment message : List ℕ) : Type 0 where
   pub word_len : length word ≡ 4
   pub message_len : length message ≡ from_le_bytes w32 word
 
--- The buffers that descriptors tell, the first of which begins its padding after
--- the place p of the segment, and each other its own padding after the one before it.
+-- The buffers of descriptors. The padding of the first begins at the place p of the segment, that of each other at the
+-- end of the buffer before it.
 abbrev pub buffers_at : List ℕ → ℕ → List Descriptor → List Buffer
 buffers_at segment p [] = []
 buffers_at segment p (d ∷ ds) =
     record { bytes = take d.len (drop (p + d.padding) segment); exponent = d.exponent } ∷ buffers_at segment (place_behind p d) ds
 
--- The place where the last of these descriptors' buffers ends.
+-- The place where the buffer of the last of these descriptors ends.
 abbrev pub end_of : ℕ → List Descriptor → ℕ
 end_of p [] = p
 end_of p (d ∷ ds) = end_of (place_behind p d) ds
 
 abbrev mutual
-  -- A message's node with its identifier and its buffers in the place of their indices.
+  -- A message's node with its identifier and its buffers in place of their indices.
   pub wire_of : List (List ℕ) → List Buffer → Rose NodeFields → Wire
   wire_of ids bs (node f ts) =
       node (record { id = slice_get ids f.encoding; metadata = f.metadata; buffers = map (λ i. slice_get bs i) f.buffers; stats = f.stats }) (wires_of ids bs ts)

@@ -9,7 +9,7 @@ use Rattle.vx_encodings.specs.Messages.{codec}
 use Rattle.vx_serialized.specs.declared.error.WireError.{WireError}
 use Rattle.vx_serialized.specs.declared.error.WireError.TheVariants.{OutOfMemory, OutOfBounds, UnknownIndex, UnknownEncoding, BadMetadata, BadShape, BadContent, ForeignControl, BadStats, PluginRefused}
 
--- Why a wire tree tells no array at a type and a length: by the refusal.
+-- Why a wire tree decodes to no array at a type and a length: by the refusal.
 abbrev pub RefusesWire : SessionMeaning → WireError → Wire → Typ → ℕ → Type 0
 RefusesWire s OutOfMemory w d n = Unit {0}
 RefusesWire s OutOfBounds w d n = RefusesTree trees.out_of_bounds codec s w d n

@@ -19,7 +19,8 @@ use Rattle.vx_registry.specs.declared.plugin.PluginError.TheVariants as plugins
 use Rattle.vx_serialized.specs.declared.error.WireError.{WireError}
 use Rattle.vx_serialized.specs.declared.error.WireError.TheVariants.{OutOfMemory, BadMetadata, BadShape, BadContent, ForeignControl, PluginRefused}
 
--- A head tells of a node that is to be of a type and a length: its metadata, and how many children it has.
+-- A head holds what is known of a node that is to be of a type and a length: its metadata, and the number of its
+-- children.
 pub record IsHeadOf (h : ArrayHead) (w : Wire) (d : Typ) (n : ℕ) : Type 0 where
   pub dtype : typ h.dtype ≡ d
   pub len : h.len ≡ n
@@ -27,7 +28,7 @@ pub record IsHeadOf (h : ArrayHead) (w : Wire) (d : Typ) (n : ℕ) : Type 0 wher
   pub buffers : h.nbuffers ≡ length (label w).buffers
   pub children : h.nchildren ≡ count (below w)
 
--- This is what reads a node's identifier, and a head tells of the node.
+-- This is what reads a node's identifier, and the head is that of the node.
 pub record IsNodeOf (s : SessionMeaning) (w : Wire) (d : Typ) (n : ℕ) (r : Option Reader) (h : ArrayHead) : Type 0 where
   pub id : List ℕ
   pub id_is : (label w).id ≡ Some id
@@ -49,7 +50,7 @@ pub record IsPastHead (x : ExtMeaning) (r : Option Reader) (h : ArrayHead) : Typ
   pub plan : IsSomeAnd (encoding_by r) (λ e. PlansChildren codec x e (typ h.dtype) h.len h.metadata h.nchildren places)
   pub past : HoldsLength r h.serialized_id h.len → ⊥
 
--- No children are planned: for allocation failure, or by the refusal.
+-- No children are planned: allocation failed, or by the refusal.
 abbrev pub RefusesPlan : WireError → ExtMeaning → Option Reader → ArrayHead → Type 0
 RefusesPlan OutOfMemory x r h = Unit {0}
 RefusesPlan BadMetadata x r h = IsSomeAnd (encoding_by r) (λ e. HasNoMetadata codec x e (typ h.dtype) h.metadata)
@@ -57,7 +58,7 @@ RefusesPlan BadShape x r h = IsSomeAnd (encoding_by r) (λ e. HasNoPlan codec x 
 RefusesPlan PluginRefused x (Some (plugin p)) h = p.plan (head_in h) x ≡ None
 RefusesPlan _ x r h = ⊥
 
--- What is told of a node of this head once its buffers and children are there.
+-- The head of a node once its buffers and children are there.
 abbrev pub head_over : ArrayHead → List Buffer → Trees → NodeHead
 head_over h bs ts = parts_head (record { id = h.serialized_id; metadata = h.metadata; buffers = bs; children = ts }) (typ h.dtype) h.len
 
@@ -66,7 +67,7 @@ abbrev pub BuildsBy : ExtMeaning → Option Reader → ArrayHead → List Buffer
 BuildsBy x (Some (plugin p)) h bs ts t = p.build (head_over h bs ts) bs ts x ≡ Some t
 BuildsBy x r h bs ts t = IsSomeAnd (encoding_by r) (λ e. HasParts codec x e (typ h.dtype) h.len h.metadata bs ts t)
 
--- None is built: for allocation failure, or by the refusal.
+-- None is built: allocation failed, or by the refusal.
 abbrev pub RefusesBuild : WireError → ExtMeaning → Option Reader → ArrayHead → List Buffer → Trees → Type 0
 RefusesBuild OutOfMemory x r h bs ts = Unit {0}
 RefusesBuild BadShape x r h bs ts = IsSomeAnd (encoding_by r) (λ e. HasWrongShape codec x e (typ h.dtype) h.len h.metadata bs ts)

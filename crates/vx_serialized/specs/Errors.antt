@@ -5,8 +5,8 @@ use Rattle.vx_registry.specs.declared.error.RegistryError.TheVariants as registr
 use Rattle.vx_serialized.specs.declared.error.WireError.{WireError}
 use Rattle.vx_serialized.specs.declared.error.WireError.TheVariants.{OutOfMemory, TooShort, BadTable, TableLimit, BadAlignment, Compressed, OutOfBounds, UnknownIndex, UnknownEncoding, BadMetadata, BadShape, BadContent, ForeignControl, BadStats, NotPermitted, WireLimit, NotRegistered, NotSerializable, UndeclaredId, PluginRefused}
 
--- Allocation failure is 1. The blob's own faults are 10 to 15, a node's 16 to 22, and
--- those of writing 23 to 27, and 28 is a plugin's, on reading and on writing.
+-- Allocation failure is 1. The blob's own faults are 10 to 15, a node's 16 to 22, those of writing 23 to 27, and 28 is
+-- a plugin's, on reading and on writing.
 abbrev pub error_number : WireError → ℕ
 error_number OutOfMemory = 1
 error_number TooShort = 10

@@ -8,8 +8,8 @@ use Rattle.vx_flat.specs.Value.{Field, absent, number, elements, text, texts, ta
 use Rattle.vx_trees.specs.Codes.{coded_rose}
 use Rattle.vx_trees.specs.Rose.{Rose, Roses, node, end, more}
 
--- What a field is but for its tables: absent, a number, elements, a text, texts; a table, tables; a member by its tag, and
--- a tag alone.
+-- What a field is, apart from its tables: absent, a number, elements, a text, texts; a table, tables; a member by its
+-- tag, and a tag alone.
 abbrev Mark : Type 0
 Mark = Unit {0} ⊎ (ℕ ⊎ (List ℕ ⊎ (List ℕ ⊎ (List (List ℕ) ⊎ (Unit {0} ⊎ (Unit {0} ⊎ (ℕ ⊎ ℕ)))))))
 

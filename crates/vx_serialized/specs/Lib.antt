@@ -9,6 +9,6 @@ pub mod Opening
 pub mod Overrides
 pub mod Stored
 pub mod Causes
--- What the contracts of private functions alone cite.
+-- What only the contracts of private functions cite.
 pub mod Decoding
 pub mod ReadingSteps

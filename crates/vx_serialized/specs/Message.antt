@@ -1,25 +1,25 @@
--- An array message as plain data, and what a table value tells of it.
+-- An array message as plain data, and what a table value shows of it.
 use Rattle.std.specs.Prelude.{ℕ, ◌+◌, List, [], ◌∷◌, Option, Some, None}
 use Rattle.std.specs.Int.{w16, w32, from_le_bytes}
 use Rattle.vx_flat.specs.Value.{Field, absent, number, elements, table, tables, Fields, field, Rows, no_rows, row}
 use Rattle.vx_trees.specs.Rose.{Rose, Roses, node, end, more}
--- A buffer descriptor: how many bytes are skipped in front of the buffer, the
--- exponent of its alignment, its compression (0 is none) and its length.
+-- A buffer descriptor: the number of bytes to skip before the buffer, the exponent of its alignment, its compression (0
+-- is none) and its length.
 pub use Rattle.vx_serialized.specs.declared.message.Descriptor.{Descriptor}
 
--- The place where the buffer of a descriptor ends that begins its padding at a place.
+-- The place where the buffer of a descriptor ends, by the place at which its padding begins.
 abbrev pub place_behind : ℕ → Descriptor → ℕ
 place_behind place d = place + d.padding + d.len
 
--- A node names its encoding by its place in a list of identifiers that stands
--- beside the blob, and its buffers by the places of their descriptors. A field of it may hold a table of statistics.
+-- A node names its encoding by its place in a list of identifiers that comes with the blob, and its buffers by the
+-- places of their descriptors. One of its fields may hold a table of statistics.
 pub record NodeFields : Type 0 where
   pub encoding : ℕ
   pub metadata : List ℕ
   pub buffers : List ℕ
   pub stats : Field
 
--- A node of which nothing stands.
+-- A node without any field.
 abbrev pub no_node : NodeFields
 no_node = record { encoding = 0; metadata = []; buffers = []; stats = absent }
 
@@ -28,7 +28,7 @@ pub record Message : Type 0 where
   pub root : Option (Rose NodeFields)
   pub descriptors : List Descriptor
 
--- A number that stands; what is absent counts as 0.
+-- The number in a field; an absent one counts as 0.
 abbrev pub number_of_field : Field → ℕ
 number_of_field (number n) = n
 number_of_field _ = 0
@@ -50,7 +50,7 @@ descriptors_of (a ∷ b ∷ exponent ∷ compression ∷ e ∷ f ∷ g ∷ h ∷
 descriptors_of _ = []
 
 abbrev mutual
-  -- The node that a table value tells, with all nodes below it.
+  -- The node that a table value shows, with all nodes below it.
   pub node_of : Fields → Rose NodeFields
   node_of (field encoding (field metadata (field children (field buffers (field stats vs))))) =
       node (record { encoding = number_of_field encoding; metadata = bytes_of_field metadata; buffers = indices_of (bytes_of_field buffers); stats = stats })
@@ -62,17 +62,17 @@ abbrev mutual
   nodes_in (tables rows) = nodes_of rows
   nodes_in _ = end
 
-  -- The nodes that table values tell, in order.
+  -- The nodes that table values show, in order.
   pub nodes_of : Rows → Roses NodeFields
   nodes_of no_rows = end
   nodes_of (row vs rows) = more (node_of vs) (nodes_of rows)
 
--- The root, where it stands.
+-- The root, if there is one.
 abbrev pub root_in : Field → Option (Rose NodeFields)
 root_in (table vs) = Some (node_of vs)
 root_in _ = None
 
--- The message that a table value tells; absent descriptors are none.
+-- The message that a table value shows; absent descriptors are none.
 abbrev pub message_of : Fields → Message
 message_of (field root (field descriptors vs)) = record { root = root_in root; descriptors = descriptors_of (bytes_of_field descriptors) }
 message_of _ = record { root = None; descriptors = [] }

@@ -13,8 +13,7 @@ use Rattle.vx_serialized.specs.ArraySchema.{array_schema}
 use Rattle.vx_serialized.specs.Message.{Descriptor, NodeFields, message_of}
 use Rattle.vx_serialized.specs.Blob.{IsBlob, end_of}
 
--- A blob of under four bytes, or one that has fewer bytes in front of its last
--- four than these tell.
+-- A blob of under four bytes, or one that has fewer bytes before its last four than these say.
 abbrev pub IsTooShort : List ℕ → Type 0
 IsTooShort blob =
     (length blob < 4)

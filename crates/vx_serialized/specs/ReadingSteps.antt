@@ -24,38 +24,38 @@ use Rattle.vx_serialized.specs.Blob.{Carries, AreClean}
 use Rattle.vx_serialized.specs.Message.{Descriptor, message_of}
 use Rattle.vx_serialized.specs.Overrides.{RefusesAt}
 
--- What opening a blob gives: the wire tree that it carries, under clean
--- descriptors, from a message within the limits on reading.
+-- What opening a blob gives: the wire tree that it carries, under clean descriptors, from a message within the limits
+-- on reading.
 pub record IsOpened (most : Limits) (blob : List ℕ) (ids : List (List ℕ)) (w : Wire) : Type 0 where
   pub carried : Carries blob ids w
   pub clean : AreClean carried.segment (message_of carried.value).descriptors
   pub within_limits : KeepsLimits most (weight array_schema carried.message)
 
--- Why the buffer of a descriptor is not taken: the descriptor is refused, or memory was wanted.
+-- Why the buffer of a descriptor is not taken: the descriptor is refused, or allocation failed.
 abbrev pub RefusesBuffer : WireError → Option Buffer → ℕ → ℕ → Descriptor → Type 0
 RefusesBuffer OutOfMemory given n p d = Unit {0}
 RefusesBuffer e given n p d = RefusesAt e given n p d
 
--- Why a node's buffers are not taken: one is missing, or memory was wanted.
+-- Why a node's buffers are not taken: one is missing, or allocation failed.
 abbrev pub RefusesNodeBuffers : WireError → List (Option Buffer) → Type 0
 RefusesNodeBuffers OutOfMemory bs = Unit {0}
 RefusesNodeBuffers OutOfBounds bs = (i : ℕ) × (slice_get bs i ≡ Some None)
 RefusesNodeBuffers _ bs = ⊥
 
--- Why a wire tree is not kept: an identifier or a buffer is missing somewhere, or memory was wanted.
+-- Why a wire tree is not kept: an identifier or a buffer is missing somewhere, or allocation failed.
 abbrev pub RefusesKept : WireError → Wire → Type 0
 RefusesKept OutOfMemory w = Unit {0}
 RefusesKept OutOfBounds w = Anywhere LacksBuffer w
 RefusesKept UnknownIndex w = Anywhere LacksId w
 RefusesKept _ w = ⊥
 
--- Why a node's statistics are not taken: its field shows none of arrays of the type, or memory was wanted.
+-- Why a node's statistics are not taken: its field shows none of arrays of the type, or allocation failed.
 abbrev pub RefusesStats : WireError → Typ → Field → Type 0
 RefusesStats OutOfMemory d f = Unit {0}
 RefusesStats BadStats d f = HasNoStats codec d f
 RefusesStats _ d f = ⊥
 
--- Why a table of statistics is not read, as a refusal of a blob: whatever is wrong with a value, it is `BadStats`.
+-- Why a table of statistics is not read, as a refusal of a blob: any fault of a value is `BadStats`.
 abbrev pub stats_refusal : ScalarWireError → WireError
 stats_refusal scalars.OutOfMemory = OutOfMemory
 stats_refusal _ = BadStats

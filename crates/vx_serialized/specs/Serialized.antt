@@ -1,4 +1,4 @@
--- What a serialized array tells, or one of its nodes: a tree of nodes, and what their numbers stand for.
+-- A serialized array, or one of its nodes, as contracts see it: a tree of nodes, and what their numbers stand for.
 use Rattle.std.specs.Prelude.{ℕ, ◌≡◌, List, Option, Some, map, option_and_then, slice_get, refl}
 use Rattle.std.specs.Coded.{Coded, code_by, coded×, coded_ℕ, coded_list}
 use Rattle.vx_flat.specs.Value.{Field}
@@ -28,7 +28,7 @@ named_buffer a i = option_and_then (λ k. slice_get a.buffers k) (slice_get (lab
 abbrev pub lengths_of : List Descriptor → List ℕ
 lengths_of ds = map (λ d. d.len) ds
 
--- One is the child i of another: the tree that stands there right below the root, in the same message, over the same buffers.
+-- One is the child i of another: the tree at that index below the root, in the same message, over the same buffers.
 pub record IsChildOf (a : Serialized) (i : ℕ) (child : Serialized) : Type 0 where
   pub root : slice_get (roses_list (below a.root)) i ≡ Some child.root
   pub descriptors : child.descriptors ≡ a.descriptors

@@ -1,4 +1,4 @@
--- The names of a node's statistics that stand.
+-- The names of the statistics that a node has.
 use Rattle.std.specs.Prelude.{ℕ, List, [], ◌∷◌, Bool, true, false, codes, if◌then◌else◌}
 use Rattle.vx_flat.specs.Value.{Field, absent, table, Fields}
 use Rattle.vx_scalars.specs.StatTypes.{all_stats}
@@ -30,22 +30,22 @@ stat_name NullCount = codes "null_count"
 stat_name UncompressedSizeInBytes = codes "uncompressed_size_in_bytes"
 stat_name NaNCount = codes "nan_count"
 
--- A field stands.
+-- A field is present.
 abbrev pub is_there : Field → Bool
 is_there absent = false
 is_there _ = true
 
--- A statistic's field stands in a table.
+-- The field of a statistic is present in a table.
 abbrev pub is_standing : Fields → Stat → Bool
 is_standing vs s = is_there (part vs (stat_entry s))
 
--- The names of those of these statistics that stand in a table.
+-- The names of those of these statistics whose fields are present in a table.
 abbrev pub names_standing : Fields → List Stat → List (List ℕ)
 names_standing vs [] = []
 names_standing vs (s ∷ ss) = if is_standing vs s then stat_name s ∷ names_standing vs ss else names_standing vs ss
 
--- The names of the statistics that stand in a node's field, in the order in which a table has them. Precisions have no part
--- in that.
+-- The names of the statistics whose fields are present in a node's table, in the order of the table. Precisions have no
+-- part in that.
 abbrev pub names_in : Field → List (List ℕ)
 names_in (table vs) = names_standing vs all_stats
 names_in _ = []

@@ -18,8 +18,8 @@ use Rattle.vx_serialized.specs.Message.{NodeFields, no_node, message_of}
 use Rattle.vx_serialized.specs.Overrides.{Overrides, RefusesWith}
 use Rattle.vx_serialized.specs.Serialized.{Serialized}
 
--- The message shows an array value with a root and keeps the limits on reading; the tree is that root's, and the descriptors
--- are the message's.
+-- The message shows an array value with a root and keeps the limits on reading; the tree is that root's, and the
+-- descriptors are the message's.
 pub record IsMessageOf (most : Limits) (message : List ℕ) (a : Serialized) : Type 0 where
   pub value : Fields
   pub shows : Shows array_schema message value
@@ -27,7 +27,8 @@ pub record IsMessageOf (most : Limits) (message : List ℕ) (a : Serialized) : T
   pub root : (message_of value).root ≡ Some a.root
   pub descriptors : a.descriptors ≡ (message_of value).descriptors
 
--- The blob's message is such a one, its descriptors are clean, and the buffers are those that they tell over its segment.
+-- The same of the blob's message; its descriptors are clean, and the buffers are those that they describe in its
+-- segment.
 pub record IsBlobOf (most : Limits) (blob : List ℕ) (a : Serialized) : Type 0 where
   pub segment : List ℕ
   pub message : List ℕ
@@ -56,18 +57,18 @@ RefusesSegment most Compressed given segment message = HasRefused Compressed giv
 RefusesSegment most OutOfBounds given segment message = HasRefused OutOfBounds given segment message
 RefusesSegment most e given segment message = RefusesMessage most e message
 
--- ---- what a stored message tells
+-- ---- what a stored message shows
 
 -- The value that a message shows at a place, where it shows an array value there.
 abbrev pub array_at : List ℕ → ℕ → Fields
 array_at message place = fields_or_none (table_shown array_schema message place 0)
 
--- A root, or a leaf of which nothing is known where there is none.
+-- A root, or, where there is none, a leaf of which nothing is known.
 abbrev pub root_or_leaf : Option (Rose NodeFields) → Rose NodeFields
 root_or_leaf (Some t) = t
 root_or_leaf None = node no_node end
 
--- What the message tells whose array value stands at a place, over these buffers.
+-- What a message shows whose array value stands at a place, over these buffers.
 abbrev pub stored : List ℕ → ℕ → List Buffer → Serialized
 stored message place buffers = record {
   root = root_or_leaf (message_of (array_at message place)).root;

@@ -1,8 +1,9 @@
-//! The messages of arrays.
+//! The schema of array messages.
 
 use vx_flat::{FieldKind, SchemaLists, TableKind, Width};
 
-/// The kind of array messages: a root node and descriptors of buffers.
+/// The kind of array messages: a root node and the descriptors of buffers. The tables and their fields are this
+/// project's own.
 #[derive(Clone, Copy, Debug)]
 pub struct ArrayKind;
 
@@ -11,7 +12,7 @@ static ARRAYS: SchemaLists = SchemaLists {
     tables: &[
         // An array: root, buffers.
         &[FieldKind::Table(1), FieldKind::Structs(0)],
-        // A node: encoding, metadata, children, buffers, stats.
+        // A node: encoding, metadata, children, buffers, statistics.
         &[
             FieldKind::Number(Width::Two),
             FieldKind::Vector(Width::One),

@@ -1,4 +1,4 @@
-//! From a serialized array to the array that it tells.
+//! Decoding: from a serialized array to the array that its wire tree decodes to.
 
 ghost use Rattle.std.specs.Prelude.{◌≡◌, List, ℕ, Some, None, IfOk, IfErr, OnOk, IsOkUnless, IsSome};
 ghost use Rattle.vx_trees.specs.Rose.{label};
@@ -52,7 +52,7 @@ impl From<EncodingError> for WireError {
     }
 }
 
-/// What an encoding is told of a node before its children.
+/// What is known of a node before its children: its head, with a copy of the identifier, the metadata and the type.
 pub(crate) fn head_of(
     alloc: Global,
     node: &SerializedNode<'_>,
@@ -83,14 +83,14 @@ pub(crate) fn head_of(
     })
 }
 
-/// A node whose children are planned.
+/// A node whose children are planned, and what reads it.
 #[derive(Drop)]
 struct PlannedNode {
     head: ArrayHead,
     children: ChildPlans,
 }
 
-/// What the entry that reads a node plans of the node's children.
+/// The plan of a node's children, by the entry that reads the node.
 fn plan_node(
     alloc: Global,
     node: &SerializedNode<'_>,
@@ -117,7 +117,7 @@ fn plan_node(
     Ok(PlannedNode { head, children })
 }
 
-/// A node's buffers, where none is missing.
+/// A node's buffers. `OutOfBounds` where one is missing.
 pub(crate) fn own_buffers(
     alloc: Global,
     node: &SerializedNode<'_>,
@@ -135,7 +135,7 @@ pub(crate) fn own_buffers(
     Ok(own)
 }
 
-/// The statistics that a node shows, of arrays of a type.
+/// The statistics in a node's table, for arrays of a type.
 fn statistics_in(
     alloc: Global,
     node: &SerializedNode<'_>,
@@ -164,7 +164,7 @@ fn as_wire_error(error: ScalarWireError) -> WireError
     }
 }
 
-/// The array of a node's parts, with the statistics that the node shows.
+/// The array of a node's parts, with the statistics in the node's table.
 fn tell(
     alloc: Global,
     node: &SerializedNode<'_>,
@@ -182,8 +182,8 @@ fn tell(
     }
 }
 
-/// A node of an encoding that nothing reads, and of which this is the identifier: kept as it stands, with those below it,
-/// where the session allows such nodes.
+/// A node that nothing reads, of this identifier: kept unchanged, with all below it, where the session allows such
+/// nodes, and else `UnknownEncoding`.
 fn unread_node(
     alloc: Global,
     node: &SerializedNode<'_>,
@@ -207,7 +207,8 @@ fn unread_node(
     keep_node(alloc, node, dtype, len, ids)
 }
 
-/// The array that a node tells, with those below it, at a type and a length.
+/// The array of a node at a type and a length, with those below it. The function calls itself for the children: two
+/// functions that call one another could not both take a session, which holds boxed readers.
 fn decode_node(
     alloc: Global,
     node: &SerializedNode<'_>,
@@ -249,14 +250,14 @@ fn decode_node(
 }
 
 impl<'a> SerializedNode<'a> {
-    /// The array of this type and length that the node tells, with those below it.
+    /// The array that the node decodes to at this type and length, with the nodes below it.
     ///
     /// # Errors
-    /// `UnknownIndex`, `UnknownEncoding`, `BadMetadata`, `BadShape`, `BadContent`, `ForeignControl` and `BadStats` where a
-    /// node has that fault at the type and length that follow for it, `OutOfBounds` where one names a buffer that is not
-    /// there, and `PluginRefused` where the plugin that reads a node refuses its head or its parts. Where several have a
-    /// cause, any of them may be answered. A node of an encoding that nothing reads is `UnknownEncoding`, unless the
-    /// session allows such nodes: then it is kept, with all below it, as it stands.
+    /// `UnknownIndex`, `UnknownEncoding`, `BadMetadata`, `BadShape`, `BadContent`, `ForeignControl` and `BadStats`
+    /// where a node has that fault at the type and length that its parent plans for it. `OutOfBounds` where a node
+    /// names a buffer that is not there. `PluginRefused` where the plugin that reads a node refuses its head or its
+    /// parts. Where several have a cause, any of them may be answered. A node whose identifier nothing reads is
+    /// `UnknownEncoding`, unless the session allows such nodes: then it is kept unchanged, with all below it.
     pub fn decode(
         &self,
         alloc: Global,
@@ -265,11 +266,11 @@ impl<'a> SerializedNode<'a> {
         ids: &ReadContext,
         session: &VortexSession,
     ) -> Result<Array, WireError>
-        // The array matches the node's wire tree and is of this type and length; it is sound, and normal where no plugin
-        // reads or writes.
+        // The array matches the node's wire tree and is of this type and length; it is sound, and normal where no
+        // plugin reads or writes.
         ensures told { let s = session_meaning (λ b. means (b.vtable, b.value)) (λ b. accepted (b.vtable, b.value)) session.now in
             IfOk result (λ t. DecodesTo codec s (wire_in ids.now self.now) (typ dtype.now) len t) }
-        // With shipped encodings only it is the one that does; and where there is one, it is answered, or memory is wanted.
+        // With shipped encodings alone it is the only one; and where there is one, it is returned, or `OutOfMemory`.
         ensures one { let s = session_meaning (λ b. means (b.vtable, b.value)) (λ b. accepted (b.vtable, b.value)) session.now in
             IsShipped s → (t : Tree) → DecodesTo codec s (wire_in ids.now self.now) (typ dtype.now) len t
             → IfOk result (λ u. u ≡ t) × IfErr result (λ e. e ≡ WireError.OutOfMemory) }
@@ -288,7 +289,7 @@ impl<'a> SerializedNode<'a> {
 }
 
 impl SerializedArray {
-    /// The array of this type and length that the root tells, with the nodes below it.
+    /// The array that the root decodes to at this type and length, with the nodes below it.
     ///
     /// # Errors
     /// As of [`SerializedNode::decode`].

@@ -1,4 +1,4 @@
-//! Nodes of encodings that nothing reads, kept as they stand.
+//! Nodes that nothing reads, kept unchanged.
 
 ghost use Rattle.std.specs.Prelude.{IfOk, IfErr};
 ghost use Rattle.vx_types.specs.Seen.{typ};
@@ -14,8 +14,9 @@ use vx_arrays::{Array, Arrays, new_foreign_array};
 use vx_registry::ReadContext;
 use vx_types::DType;
 
-/// The foreign array of a node with those below it, each of this type and length: identifiers, metadata and buffers as
-/// they stand. No encoding is asked, and no statistics are looked at.
+/// The foreign array of a node with those below it, each of this type and length: identifiers, metadata and buffers are
+/// kept unchanged. Neither an encoding nor the session is asked, and no statistics are looked at: nothing is known of
+/// what stands below such a node.
 pub(crate) fn keep_node(
     alloc: Global,
     node: &SerializedNode<'_>,

@@ -1,4 +1,4 @@
-//! Serialized arrays: a blob, or a message with its buffers, opened, looked at node by node, and decoded.
+//! Serialized arrays: a blob, or a message with its buffers, which is opened, read node by node, and decoded.
 #![tactic(auto)]
 
 mod array_kind;

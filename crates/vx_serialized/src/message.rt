@@ -3,14 +3,15 @@
 ghost use Rattle.std.specs.Prelude.{◌≡◌, ◌+◌, ◌<◌, ◌^◌, ◌∷◌, [], IfSome, IfNone, length};
 ghost use Rattle.vx_serialized.specs.Message.{descriptors_of};
 
-/// Where a buffer lies in the segment.
+/// The descriptor of a buffer: a struct of eight bytes, which says where the buffer lies in the segment.
 #[derive(Clone, Copy, Debug, PartialEq, Eq)]
 pub struct Descriptor {
-    /// How many bytes are skipped in front of the buffer.
+    /// The bytes to skip before the buffer, counted from the end of the one before it. No place is stored in the
+    /// message: each follows from the descriptors before it.
     pub padding: u16,
     /// The exponent of the buffer's alignment.
     pub exponent: u8,
-    /// How the buffer is compressed; 0 is not at all.
+    /// How the buffer is compressed. Only 0, not at all, is read.
     pub compression: u8,
     /// The buffer's length in bytes.
     pub len: u32,
@@ -21,7 +22,7 @@ impl Descriptor {
     pub const MAX_EXPONENT: u8 = 16;
 }
 
-/// The descriptor of the first eight bytes, and the bytes after them.
+/// The descriptor in the first eight bytes, and the bytes after it. `None` where there are fewer.
 pub(crate) fn first_descriptor(bytes: &[u8]) -> Option<(Descriptor, &[u8])>
     ensures some { IfSome result (λ p. descriptors_of bytes.now ≡ p.0 ∷ descriptors_of p.1.now) }
     ensures shorter { IfSome result (λ p. length p.1.now < length bytes.now) }

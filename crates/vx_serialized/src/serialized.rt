@@ -34,8 +34,8 @@ use vx_buffer::{BufferHandle, BufferHandles, ByteBuffer};
 use vx_flat::{FlatError, View, Weight, verify_uncounted_to, view_at};
 use vx_types::Names;
 
-/// An array as a blob has it: its message, verified once, and the buffers that the message's nodes name. Contracts see what
-/// it tells: the tree of its nodes, the message's descriptors, and the buffers.
+/// An array as a blob holds it: its message, verified once, and the buffers that the message's nodes name. It owns the
+/// message, and nodes borrow from it. Contracts see the tree of its nodes, the message's descriptors, and the buffers.
 #[derive(Drop)]
 pub struct SerializedArray {
     message: ByteBuffer,
@@ -86,7 +86,7 @@ fn descriptors_in<'a>(view: &View<'a>) -> &'a [u8]
     }
 }
 
-/// A message that was verified: where its array value stands, what it weighs, and the bytes of its descriptors.
+/// What verifying a message gives: the place of its array value, its weight, and the bytes of its descriptors.
 #[derive(Drop)]
 struct Verified<'a> {
     place: usize,
@@ -94,7 +94,7 @@ struct Verified<'a> {
     descriptors: &'a [u8],
 }
 
-/// What is kept of a message that shows an array value with a root, deep or not.
+/// Verifies that a message shows an array value with a root. `deep` allows 128 tables to nest instead of 64.
 fn verify_message(message: &[u8], deep: bool) -> Result<Verified<'_>, WireError>
     ensures stored { IfOk result (λ v. IsStored message.now v.place) }
     ensures shows { IfOk result (λ v. Shows array_schema message.now (array_at message.now v.place)) }
@@ -117,7 +117,7 @@ fn verify_message(message: &[u8], deep: bool) -> Result<Verified<'_>, WireError>
 }
 
 impl SerializedArray {
-    /// The array of a message without any buffer.
+    /// The array of a message, without buffers.
     ///
     /// # Errors
     /// `BadTable` where the message shows no array value with a root, `TableLimit` where it passes a limit on reading.
@@ -130,7 +130,7 @@ impl SerializedArray {
         SerializedArray::from_flatbuffer_with_buffers(alloc, tree, BufferHandles::new(alloc))
     }
 
-    /// The array of a message whose nodes name these buffers.
+    /// The array of a message, with these buffers. Nodes name them by their index here, and not by a descriptor.
     ///
     /// # Errors
     /// `BadTable` where the message shows no array value with a root, `TableLimit` where it passes a limit on reading.
@@ -155,11 +155,12 @@ impl SerializedArray {
         })
     }
 
-    /// The array of a message whose descriptors tell its buffers in a segment.
+    /// The array of a message, with the buffers that its descriptors describe in a segment. Each buffer is a slice of
+    /// it; no byte is copied.
     ///
     /// # Errors
-    /// Those of [`SerializedArray::from_flatbuffer_with_buffers`]; `BadAlignment` where a descriptor's exponent is over 16,
-    /// `Compressed` where it tells a compression, `OutOfBounds` where its range ends past the segment.
+    /// Those of [`SerializedArray::from_flatbuffer_with_buffers`]; `BadAlignment` where a descriptor's exponent is over
+    /// 16, `Compressed` where it has a compression, `OutOfBounds` where its range ends past the segment.
     pub fn from_flatbuffer_and_segment(
         alloc: Global,
         tree: ByteBuffer,
@@ -214,9 +215,9 @@ impl SerializedArray {
         })
     }
 
-    /// The array of a message whose descriptors tell its buffers in a segment, but for those that are given by the number
-    /// of their descriptor. A buffer that is given takes the descriptor's alignment, and neither its length nor the
-    /// descriptor's range is judged; the next buffer starts after that range all the same.
+    /// The array of a message, with the buffers that its descriptors describe in a segment, or that are given here by
+    /// the number of a descriptor. A given buffer takes the descriptor's alignment, and neither its length nor the
+    /// descriptor's range is judged. The next buffer starts after that range all the same.
     ///
     /// # Errors
     /// Those of [`SerializedArray::from_flatbuffer_and_segment`], `OutOfBounds` only where no buffer is given.
@@ -234,11 +235,11 @@ impl SerializedArray {
         SerializedArray::over_segment_with(alloc, tree, segment, overrides, false)
     }
 
-    /// The array of a blob: its message, whose length stands in the last four bytes, and the buffers that its descriptors
-    /// tell in front of the message. No byte is copied.
+    /// The array of a blob. Its last four bytes are the length of its message, which stands before them; all before the
+    /// message is the segment, in which the descriptors describe the buffers. No byte is copied.
     ///
     /// # Errors
-    /// `TooShort` where the blob has under four bytes, or fewer in front of the last four than these tell; else those of
+    /// `TooShort` where the blob has under four bytes, or fewer before the last four than these say; else those of
     /// [`SerializedArray::from_flatbuffer_and_segment`].
     pub fn try_from_buffer(alloc: Global, blob: ByteBuffer) -> Result<SerializedArray, WireError>
         ensures opened { IfOk result (IsBlobOf limits blob.bytes) }
@@ -247,7 +248,7 @@ impl SerializedArray {
         SerializedArray::try_from_buffer_to(alloc, blob, false)
     }
 
-    /// [`SerializedArray::try_from_buffer`], where with `deep` 128 tables may nest in the message instead of 64.
+    /// [`SerializedArray::try_from_buffer`], where `deep` allows 128 tables to nest in the message instead of 64.
     ///
     /// # Errors
     /// Those of [`SerializedArray::try_from_buffer`].
@@ -269,10 +270,10 @@ impl SerializedArray {
         SerializedArray::over_segment(alloc, message, BufferHandle::new_host(segment), deep)
     }
 
-    /// The array again. No byte of its message or its buffers is copied.
+    /// A clone of the array. No byte of its message or its buffers is copied.
     ///
     /// # Errors
-    /// Allocation failure alone.
+    /// `OutOfMemory` alone.
     pub fn clone(&self, alloc: Global) -> Result<SerializedArray, WireError>
         ensures ok { IfOk result (λ a. a ≡ self.now) }
         ensures err { IsOkUnless result WireError.OutOfMemory }
@@ -301,28 +302,28 @@ impl SerializedArray {
         }
     }
 
-    /// The number that names the root's encoding, in a list of identifiers that stands beside the message.
+    /// The number of the root's encoding, in the list of identifiers that comes with the message.
     pub fn encoding_id(&self) -> u16
         ensures { result ≡ (label self.now.root).encoding }
     {
         self.root().encoding_id()
     }
 
-    /// The bytes of the root's metadata.
+    /// The bytes of the root's metadata, borrowed from the message.
     pub fn metadata(&self) -> &[u8]
         ensures { result.now ≡ (label self.now.root).metadata }
     {
         self.root().metadata()
     }
 
-    /// How many children the root has.
+    /// The number of the root's children.
     pub fn nchildren(&self) -> usize
         ensures { result ≡ count (below self.now.root) }
     {
         self.root().nchildren()
     }
 
-    /// The root's child at this place, borrowed.
+    /// The root's child at this index, borrowed.
     pub fn child(&self, i: usize) -> SerializedNode<'_>
         requires { i < count (below self.now.root) }
         ensures { IsChildOf self.now i result }
@@ -330,14 +331,14 @@ impl SerializedArray {
         self.root().child(i)
     }
 
-    /// How many buffers the root names.
+    /// The number of buffers that the root names.
     pub fn nbuffers(&self) -> usize
         ensures { result ≡ length (label self.now.root).buffers }
     {
         self.root().nbuffers()
     }
 
-    /// The number that names the root's buffer at this place.
+    /// The number of the root's buffer at this index, in the list of all buffers.
     pub fn buffer_index(&self, i: usize) -> u16
         requires { i < length (label self.now.root).buffers }
         ensures { slice_get (label self.now.root).buffers i ≡ Some result }
@@ -345,10 +346,10 @@ impl SerializedArray {
         self.root().buffer_index(i)
     }
 
-    /// The root's buffer at this place, borrowed.
+    /// The root's buffer at this index, borrowed.
     ///
     /// # Errors
-    /// `OutOfBounds`, exactly where the root names no buffer at this place, or one that is not there.
+    /// `OutOfBounds`, exactly where the root names no buffer at this index, or one that is not there.
     pub fn buffer(&self, i: usize) -> Result<&BufferHandle, WireError>
         ensures ok { IfOk result (λ b. named_buffer self.now i ≡ Some b.now) }
         ensures error { IsOkUnless result WireError.OutOfBounds }
@@ -357,10 +358,10 @@ impl SerializedArray {
         self.root().buffer(i)
     }
 
-    /// The names of the root's statistics that stand, in the order in which a table has them.
+    /// The names of the statistics that the root's table has, in the order of the table's fields.
     ///
     /// # Errors
-    /// Allocation failure alone.
+    /// `OutOfMemory` alone.
     pub fn stat_names(&self, alloc: Global) -> Result<Names, WireError>
         ensures ok { IfOk result (λ names. names ≡ names_in (label self.now.root).stats) }
         ensures err { IsOkUnless result WireError.OutOfMemory }
@@ -368,10 +369,10 @@ impl SerializedArray {
         self.root().stat_names(alloc)
     }
 
-    /// The length of each buffer of the message, by its descriptor.
+    /// The length in bytes of each of the message's buffers, as its descriptor says.
     ///
     /// # Errors
-    /// Allocation failure alone.
+    /// `OutOfMemory` alone.
     pub fn buffer_lengths(&self, alloc: Global) -> Result<BufferLengths, WireError>
         ensures ok { IfOk result (λ ls. ls ≡ lengths_of self.now.descriptors) }
         ensures err { IsOkUnless result WireError.OutOfMemory }

@@ -22,7 +22,7 @@ use vx_registry::{
 };
 use vx_type_wire::{ExtPlugin, Readers};
 
-/// What an entry plans of a node's children.
+/// The plan of a node's children, by an entry.
 pub(crate) fn plan_entry(
     alloc: Global,
     entry: Entry,
@@ -120,7 +120,7 @@ fn build_of(
     }
 }
 
-// What is planned of a node of primitives under two identifiers, where its identifier holds its length.
+// The plan of a node of primitives under two identifiers, where its identifier holds its length.
 fn held(head: &ArrayHead, children: ChildPlans) -> Result<ChildPlans, WireError>
     ensures ok { IfOk result (λ ps. (ps ≡ children) × IsTrue (holds head.now.serialized_id head.now.len)) }
     ensures err { IfErr result (λ e. (e ≡ WireError.BadShape) × IsFalse (holds head.now.serialized_id head.now.len)) }

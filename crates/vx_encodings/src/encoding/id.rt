@@ -7,7 +7,7 @@ ghost use Rattle.vx_encodings.specs.Plain.{plain_encoding};
 use crate::encoding::Encoding;
 
 impl Encoding {
-    /// The identifier by which nodes of the encoding are known.
+    /// The identifier of the encoding's nodes. It is borrowed as a text, since an `Id` would own memory.
     pub fn id(self) -> &'static str
         ensures { result.now ≡ id_of (plain_encoding self) }
     {

@@ -1,5 +1,5 @@
-//! Nodes of flags: the offset of the first row's bit as metadata, the bits in one buffer, and a validity that may stand
-//! below.
+//! Nodes of booleans: the offset of the first row's bit as metadata, the bits in one buffer, and an optional validity
+//! child.
 
 ghost use Rattle.std.specs.Prelude.{◌≡◌, IfOk, IfErr, IsOkUnless, refl};
 ghost use Rattle.std.proofs.Common.{arith, ap};
@@ -22,10 +22,10 @@ use vx_plans::{ArrayHead, ChildPlans, EncodingError, plan_validity};
 use vx_proto::{Element, Entries, Message, ProtoError, ScalarKind, Schema, Slot, one, u32_at};
 use vx_types::{Blob, DType};
 
-/// The metadata of flags.
+/// The metadata of booleans.
 #[derive(Debug, Drop)]
 pub struct BoolMetadata {
-    /// How many bits stand before the first row's.
+    /// The number of bits before the first row's, below 8.
     pub offset: u32,
 }
 
@@ -69,7 +69,7 @@ impl Message for BoolMetadata {
     ghost determined = { λ m n p q e. ap (λ o. record { offset = o }) (same_value m.offset n.offset e) };
 }
 
-// What the children of a node of flags are to be: at most a validity.
+// The plan of a boolean node's children: at most a validity.
 #[tactic(auto, using(crate::proofs::BoolSteps::bool_steps))]
 pub(crate) fn plan(alloc: Global, head: &ArrayHead) -> Result<ChildPlans, EncodingError>
     ensures plan { (x : ExtMeaning) → IfOk result (λ plans. IsPlanned x Bool head.now plans) }
@@ -86,7 +86,7 @@ pub(crate) fn plan(alloc: Global, head: &ArrayHead) -> Result<ChildPlans, Encodi
     plan_validity(alloc, head.len, head.nchildren)
 }
 
-// The node of flags of these parts.
+// The boolean node of these parts.
 #[tactic(auto, using(crate::proofs::BoolSteps::bool_steps))]
 pub(crate) fn build(
     alloc: Global,
@@ -116,7 +116,7 @@ pub(crate) fn build(
     }
 }
 
-// The metadata of a node of flags, as it is written.
+// The metadata of a boolean node, as it is written.
 pub(crate) fn metadata(alloc: Global, flags: &BoolData) -> Result<Blob, EncodingError>
     ensures ok { IfOk result (λ bytes. bytes ≡ bool_bytes flags.now.offset) }
     ensures err { IsOkUnless result EncodingError.OutOfMemory }

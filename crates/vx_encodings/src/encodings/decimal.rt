@@ -1,5 +1,5 @@
-//! Nodes of decimals: the width of their integers as metadata, the integers in one buffer, and a validity that may stand
-//! below.
+//! Nodes of decimals: the width of their integers as metadata, the integers in one buffer, and an optional validity
+//! child.
 
 ghost use Rattle.std.specs.Prelude.{◌≡◌, IfOk, IfErr, IsOkUnless, refl};
 ghost use Rattle.std.proofs.Common.{arith, ap};
@@ -74,7 +74,7 @@ impl Message for DecimalMetadata {
     ghost determined = { λ m n p q e. ap (λ w. record { values_type = w }) (same_width m.values_type n.values_type e) };
 }
 
-// What the children of a node of decimals are to be: at most a validity.
+// The plan of a decimal node's children: at most a validity.
 #[tactic(auto, using(crate::proofs::DecimalSteps::decimal_steps))]
 pub(crate) fn plan(alloc: Global, head: &ArrayHead) -> Result<ChildPlans, EncodingError>
     ensures plan { (x : ExtMeaning) → IfOk result (λ plans. IsPlanned x Decimal head.now plans) }
@@ -88,7 +88,7 @@ pub(crate) fn plan(alloc: Global, head: &ArrayHead) -> Result<ChildPlans, Encodi
     plan_validity(alloc, head.len, head.nchildren)
 }
 
-// The same digits again.
+// A copy of the digits.
 fn same_digits(digits: &DecimalDType) -> DecimalDType
     ensures { result ≡ digits.now }
 {

@@ -1,5 +1,5 @@
-//! Nodes of dictionaries: how many values there are, the kind of the codes and two flags as metadata, no buffers, and below
-//! the codes and the values.
+//! Nodes of dictionaries: the number of values, the kind of the codes and two flags as metadata, no buffers, and as
+//! children the codes and the values.
 
 ghost use Rattle.std.specs.Prelude.{◌≡◌, ◌∷◌, [], ◌≤◌, ◌-◌, ◌^◌, Some, IfOk, IfErr, IsOkUnless, IsTrue, IsFalse, option_map, refl};
 ghost use Rattle.std.proofs.Common.{arith, ap};
@@ -37,13 +37,13 @@ use vx_types::{Blob, DType, Nullability, PType};
 /// The metadata of dictionaries.
 #[derive(Debug, Drop)]
 pub struct DictMetadata {
-    /// How many values there are.
+    /// The number of values.
     pub values_len: u32,
     /// The kind of the codes.
     pub codes_ptype: PType,
-    /// Whether codes may be null. Where it is absent they may as rows may.
+    /// Whether codes may be null. Where it is absent, they may exactly where rows of the type may.
     pub is_nullable_codes: Option<bool>,
-    /// Whether some code names each of the values. Where it is absent that is not said.
+    /// Whether each value has a code. Where it is absent, nothing is promised.
     pub all_values_referenced: Option<bool>,
 }
 
@@ -110,7 +110,7 @@ impl Message for DictMetadata {
     ghost determined = { λ m n p q e. ap (λ f. record { values_len = f.values_len; codes_ptype = f.codes_ptype; is_nullable_codes = f.is_nullable_codes; all_values_referenced = f.all_values_referenced }) (same_dict (record { values_len = m.values_len; codes_ptype = m.codes_ptype; is_nullable_codes = m.is_nullable_codes; all_values_referenced = m.all_values_referenced }) (record { values_len = n.values_len; codes_ptype = n.codes_ptype; is_nullable_codes = n.is_nullable_codes; all_values_referenced = n.all_values_referenced }) e) };
 }
 
-// The flag that a slot holds, where one stands there.
+// The flag that a slot holds, if it has one.
 fn option_at(slots: &[Entries], slot: usize) -> Option<bool>
     ensures { result ≡ option_map flag_of (number_in (entries_in (value_view slots.now) slot)) }
 {
@@ -120,7 +120,7 @@ fn option_at(slots: &[Entries], slot: usize) -> Option<bool>
     }
 }
 
-// A slot with a flag, where one is to stand there.
+// The slot of a flag, or an empty slot.
 fn option_slot(alloc: Global, number: u32, told: Option<bool>) -> Result<Entries, ProtoError>
     ensures same { IfOk result (λ entries. entries_view entries.items ≡ slot_with flag_content number told) }
     ensures err { IsOkUnless result ProtoError.OutOfMemory }
@@ -131,7 +131,7 @@ fn option_slot(alloc: Global, number: u32, told: Option<bool>) -> Result<Entries
     }
 }
 
-// Whether codes may be null: as is told, or else as rows may.
+// Whether codes may be null: as the flag says, or else as rows of the type may.
 fn nullability_of(dtype: &DType, told: Option<bool>) -> Nullability
     ensures { result ≡ codes_nullability (typ dtype.now) told }
 {
@@ -142,7 +142,7 @@ fn nullability_of(dtype: &DType, told: Option<bool>) -> Nullability
     }
 }
 
-// What the children of a dictionary are to be: codes and values.
+// The plan of a dictionary's children: codes and values.
 #[tactic(auto, using(crate::proofs::DictSteps::dict_steps))]
 pub(crate) fn plan(alloc: Global, head: &ArrayHead) -> Result<ChildPlans, EncodingError>
     ensures plan { (x : ExtMeaning) → IfOk result (λ plans. IsPlanned x Dict head.now plans) }
@@ -164,7 +164,7 @@ pub(crate) fn plan(alloc: Global, head: &ArrayHead) -> Result<ChildPlans, Encodi
     )
 }
 
-// Codes of a type, so many, and so many values, where they are the only children.
+// The plan of codes and values, for a node of exactly two children. The values have the dictionary's own type.
 #[tactic(auto, using(crate::proofs::DictSteps::pair_steps))]
 fn plan_pair(
     alloc: Global,
@@ -211,8 +211,8 @@ pub(crate) fn build(
     }
 }
 
-// The metadata of a dictionary over these children, as it is written. (Which stands there for children that no node has does
-// not matter.)
+// The metadata of a dictionary over these children, as it is written. Children that no node has give some metadata, so
+// the call needs no condition on them.
 #[tactic(auto, using(crate::proofs::DictWritten::dict_written))]
 pub(crate) fn metadata(
     alloc: Global,
@@ -236,7 +236,7 @@ pub(crate) fn metadata(
     )
 }
 
-// Whether how many values there are fits the message, which counts them in 32 bits.
+// Whether the number of values fits the message, which counts them in 32 bits.
 pub(crate) fn has_message(children: &[Array]) -> bool
     ensures fits { IsTrue result → (second_place (places (roses_of children.now))).len ≤ 2 ^ 32 - 1 }
     ensures over { IsFalse result → (second_place (places (roses_of children.now))).len ≤ 2 ^ 32 - 1 → ⊥ }
@@ -244,7 +244,7 @@ pub(crate) fn has_message(children: &[Array]) -> bool
     count_of(children) <= u32::MAX as usize
 }
 
-// How many values there are.
+// The number of values.
 fn count_of(children: &[Array]) -> usize
     ensures { result ≡ (second_place (places (roses_of children.now))).len }
 {

@@ -1,4 +1,4 @@
-//! Nodes of extensions: no metadata, no buffers, and below the storage alone.
+//! Nodes of extensions: no metadata, no buffers, and the storage as the only child.
 
 ghost use Rattle.std.specs.Prelude.{◌≡◌, ◌∷◌, [], Some, IfOk, IfErr};
 ghost use Rattle.vx_types.specs.Known.{ExtMeaning};
@@ -18,7 +18,7 @@ use vx_buffer::BufferHandles;
 use vx_plans::{ArrayHead, ChildPlans, EncodingError, plan_of, plan_only};
 use vx_types::DType;
 
-// What the children of a node of an extension are to be: its storage.
+// The plan of an extension node's child: its storage.
 #[tactic(auto, using(crate::proofs::ExtensionSteps::extension_steps))]
 pub(crate) fn plan(alloc: Global, head: &ArrayHead) -> Result<ChildPlans, EncodingError>
     ensures plan { (x : ExtMeaning) → IfOk result (λ plans. IsPlanned x Extension head.now plans) }
@@ -33,7 +33,7 @@ pub(crate) fn plan(alloc: Global, head: &ArrayHead) -> Result<ChildPlans, Encodi
     }
 }
 
-// So many rows of a type, where they are the only child.
+// The plan of `len` rows of a type, for a node of exactly one child.
 fn plan_storage(
     alloc: Global,
     storage: &DType,

@@ -1,4 +1,4 @@
-//! Nodes of lists of one size: no metadata, no buffers, and below the elements and a validity that may stand.
+//! Nodes of fixed-size lists: no metadata, no buffers, and as children the elements and an optional validity.
 
 ghost use Rattle.std.specs.Prelude.{◌≡◌, ◌*◌, ◌∷◌, [], Some, IfOk, IfErr};
 ghost use Rattle.vx_types.specs.Known.{ExtMeaning};
@@ -19,7 +19,7 @@ use vx_buffer::BufferHandles;
 use vx_plans::{ArrayHead, ChildPlans, EncodingError, plan_behind, plan_of};
 use vx_types::DType;
 
-// What the children of a node of lists of one size are to be: so many elements for each row, and at most a validity.
+// The plan of a fixed-size list node's children: the size times as many elements as rows, and at most a validity.
 #[tactic(auto, using(crate::proofs::FixedSizeListSteps::fixed_size_list_steps))]
 pub(crate) fn plan(alloc: Global, head: &ArrayHead) -> Result<ChildPlans, EncodingError>
     ensures plan { (x : ExtMeaning) → IfOk result (λ plans. IsPlanned x FixedSizeList head.now plans) }
@@ -34,7 +34,8 @@ pub(crate) fn plan(alloc: Global, head: &ArrayHead) -> Result<ChildPlans, Encodi
     }
 }
 
-// So many elements of a type for each row, and after them a validity, where one stands among so many children.
+// The plan of the elements, and of a validity after them where `count` asks for one. `BadShape` where the number of
+// elements is not below 2^64.
 fn plan_elements(
     alloc: Global,
     element: &DType,
@@ -54,7 +55,7 @@ fn plan_elements(
     }
 }
 
-// The node of lists of one size of these parts.
+// The node of fixed-size lists of these parts.
 #[tactic(auto, using(crate::proofs::FixedSizeListSteps::fixed_size_list_steps))]
 pub(crate) fn build(
     alloc: Global,

@@ -1,5 +1,5 @@
-//! Nodes of list views: how many elements there are and the kinds of the offsets and of the sizes as metadata, no buffers, and
-//! below the elements, the offsets, the sizes and a validity that may stand.
+//! Nodes of list views: the number of elements and the kinds of the offsets and of the sizes as metadata, no buffers,
+//! and as children the elements, the offsets, the sizes and an optional validity.
 
 ghost use Rattle.std.specs.Prelude.{◌≡◌, ◌∷◌, ◌↔◌, [], Some, IfOk, IfErr, IsOkUnless, IsTrue, false, refl};
 ghost use Rattle.std.proofs.Common.{arith};
@@ -28,7 +28,7 @@ use vx_types::{Blob, DType, Nullability, PType};
 /// The metadata of list views.
 #[derive(Debug, Drop)]
 pub struct ListViewMetadata {
-    /// How many elements there are.
+    /// The number of elements.
     pub elements_len: u64,
     /// The kind of the offsets.
     pub offset_ptype: PType,
@@ -95,7 +95,7 @@ impl Message for ListViewMetadata {
     ghost determined = { λ m n p q e. let s = same_views (kept_views m.elements_len m.offset_ptype m.size_ptype) (kept_views n.elements_len n.offset_ptype n.size_ptype) e in λ i. record { elements_len = (s i).elements_len; offset_ptype = (s i).offset_ptype; size_ptype = (s i).size_ptype } };
 }
 
-// What the children of a node of list views are to be: elements, an offset and a size for each row, and at most a validity.
+// The plan of a list view node's children: elements, an offset and a size for each row, and at most a validity.
 #[tactic(auto, using(crate::proofs::ListViewSteps::list_view_steps))]
 pub(crate) fn plan(alloc: Global, head: &ArrayHead) -> Result<ChildPlans, EncodingError>
     ensures plan { (x : ExtMeaning) → IfOk result (λ plans. IsPlanned x ListView head.now plans) }
@@ -113,14 +113,15 @@ pub(crate) fn plan(alloc: Global, head: &ArrayHead) -> Result<ChildPlans, Encodi
     }
 }
 
-// Whether the offsets and the sizes are integers.
+// Whether the offsets and the sizes are of integer kinds.
 fn is_fair(metadata: &ListViewMetadata) -> bool
     ensures { IsTrue result ↔ IsFair (kept_views metadata.now.elements_len metadata.now.offset_ptype metadata.now.size_ptype) }
 {
     metadata.offset_ptype.is_int() && metadata.size_ptype.is_int()
 }
 
-// The elements, the offsets and the sizes of so many rows, and a validity after them, where one stands among so many children.
+// The plan of the elements, the offsets and the sizes of `len` rows, and of a validity after them where `count` asks
+// for one.
 fn plan_parts(
     alloc: Global,
     element: &DType,
@@ -138,7 +139,7 @@ fn plan_parts(
     plan_behind_all(front, len, count)
 }
 
-// So many numbers of a kind.
+// The plan of `len` numbers of a kind, none of them null.
 fn numbers_of(kind: PType, len: usize) -> ChildPlan
     ensures { planned_place result ≡ place (numbers kind) len }
 {
@@ -148,7 +149,8 @@ fn numbers_of(kind: PType, len: usize) -> ChildPlan
     }
 }
 
-// The node of list views of these parts. That its rows stand one after the other is not told.
+// The node of list views of these parts. It never carries the promise that its rows stand one after the other, which no
+// wire node can make.
 #[tactic(auto, using(crate::proofs::ListViewSteps::list_view_steps))]
 pub(crate) fn build(
     head: ArrayHead,
@@ -169,8 +171,8 @@ pub(crate) fn build(
     }
 }
 
-// The metadata of a node over these children, as it is written. (Which stands there for children that no node has does not
-// matter.)
+// The metadata of a node over these children, as it is written. Children that no node has give some metadata, so the
+// call needs no condition on them.
 pub(crate) fn metadata(alloc: Global, children: &[Array]) -> Result<Blob, EncodingError>
     ensures ok { IfOk result (λ bytes. bytes ≡ view_bytes (metadata_of (places (roses_of children.now)))) }
     ensures err { IsOkUnless result EncodingError.OutOfMemory }

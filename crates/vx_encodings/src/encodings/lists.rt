@@ -1,5 +1,5 @@
-//! Nodes of lists: how many elements there are and the kind of the offsets as metadata, no buffers, and below the elements,
-//! the offsets and a validity that may stand.
+//! Nodes of lists: the number of elements and the kind of the offsets as metadata, no buffers, and as children the
+//! elements, the offsets and an optional validity.
 
 ghost use Rattle.std.specs.Prelude.{suc, ◌≡◌, ◌∷◌, [], ◌<◌, ◌^◌, Some, IfOk, IfErr, IsOkUnless, IsTrue, IsFalse, refl};
 ghost use Rattle.std.proofs.Common.{arith};
@@ -27,7 +27,7 @@ use vx_types::{Blob, DType, Nullability, PType};
 /// The metadata of lists.
 #[derive(Debug, Drop)]
 pub struct ListMetadata {
-    /// How many elements there are.
+    /// The number of elements.
     pub elements_len: u64,
     /// The kind of the offsets.
     pub offset_ptype: PType,
@@ -86,7 +86,7 @@ impl Message for ListMetadata {
     ghost determined = { λ m n p q e. λ i. record { elements_len = same_count m.elements_len n.elements_len m.offset_ptype n.offset_ptype e i; offset_ptype = same_kinds m.elements_len n.elements_len m.offset_ptype n.offset_ptype e i } };
 }
 
-// What the children of a node of lists are to be: elements, one offset more than rows, and at most a validity.
+// The plan of a list node's children: elements, one offset more than rows, and at most a validity.
 #[tactic(auto, using(crate::proofs::ListSteps::list_steps))]
 pub(crate) fn plan(alloc: Global, head: &ArrayHead) -> Result<ChildPlans, EncodingError>
     ensures plan { (x : ExtMeaning) → IfOk result (λ plans. IsPlanned x List head.now plans) }
@@ -104,7 +104,7 @@ pub(crate) fn plan(alloc: Global, head: &ArrayHead) -> Result<ChildPlans, Encodi
     }
 }
 
-// The elements, the offsets of so many rows, and a validity after them, where one stands among so many children.
+// The plan of the elements, the offsets of `len` rows, and a validity after them where `count` asks for one.
 fn plan_parts(
     alloc: Global,
     element: &DType,
@@ -148,8 +148,8 @@ pub(crate) fn build(
     }
 }
 
-// The metadata of a node over these children, as it is written. (Which stands there for children that no node has does not
-// matter.)
+// The metadata of a node over these children, as it is written. Children that no node has give some metadata, so the
+// call needs no condition on them.
 pub(crate) fn metadata(alloc: Global, children: &[Array]) -> Result<Blob, EncodingError>
     ensures ok { let v = metadata_of (places (roses_of children.now)) in IfOk result (λ bytes. bytes ≡ list_bytes v.elements_len v.offset_ptype) }
     ensures err { IsOkUnless result EncodingError.OutOfMemory }
@@ -165,7 +165,7 @@ pub(crate) fn metadata(alloc: Global, children: &[Array]) -> Result<Blob, Encodi
     )
 }
 
-// Whether how many elements there are fits the message: it does, since arrays are counted in 64 bits.
+// Whether the number of elements fits the message: always, since arrays are counted in 64 bits.
 pub(crate) fn has_message(children: &[Array]) -> bool
     ensures fits { IsTrue result → (first_place (places (roses_of children.now))).len < 2 ^ 64 }
     ensures over { IsFalse result → (first_place (places (roses_of children.now))).len < 2 ^ 64 → ⊥ }
@@ -174,7 +174,7 @@ pub(crate) fn has_message(children: &[Array]) -> bool
     true
 }
 
-// How many elements there are.
+// The number of elements.
 pub(crate) fn count_of(children: &[Array]) -> u64
     ensures { result ≡ (metadata_of (places (roses_of children.now))).elements_len }
 {

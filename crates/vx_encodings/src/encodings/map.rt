@@ -1,4 +1,4 @@
-//! Nodes of maps: no metadata, no buffers, and below their entries alone.
+//! Nodes of maps: no metadata, no buffers, and the entries as the only child.
 
 ghost use Rattle.std.specs.Prelude.{◌≡◌, ◌∷◌, [], Some, IfOk, IfErr, IsOkUnless};
 ghost use Rattle.vx_trees.specs.Rose.{end, more, node};
@@ -21,7 +21,7 @@ use vx_buffer::BufferHandles;
 use vx_plans::{ArrayHead, ChildPlan, ChildPlans, EncodingError, plan_only};
 use vx_types::{DType, MapDType, Nullability, TypeRef, or_memory};
 
-// What the children of a node of maps are to be: lists of entries, which are null where the maps are.
+// The plan of a map node's child: lists of entries, which are null where the maps are.
 #[tactic(auto, using(crate::proofs::MapSteps::map_steps))]
 pub(crate) fn plan(alloc: Global, head: &ArrayHead) -> Result<ChildPlans, EncodingError>
     ensures plan { (x : ExtMeaning) → IfOk result (λ plans. IsPlanned x Map head.now plans) }
@@ -36,7 +36,7 @@ pub(crate) fn plan(alloc: Global, head: &ArrayHead) -> Result<ChildPlans, Encodi
     }
 }
 
-// The entries of so many maps, where they are the only child.
+// The plan of the entries of `len` maps, for a node of exactly one child.
 fn plan_entries(
     alloc: Global,
     map: &MapDType,
@@ -51,7 +51,7 @@ fn plan_entries(
     plan_only(alloc, ChildPlan { dtype, len }, count)
 }
 
-// The type of lists of a map's entries.
+// The type of the lists of a map's entries.
 fn lists_of_entries(
     alloc: Global,
     map: &MapDType,

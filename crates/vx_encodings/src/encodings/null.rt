@@ -15,7 +15,7 @@ use vx_buffer::BufferHandles;
 use vx_plans::{ArrayHead, ChildPlans, EncodingError};
 use vx_types::DType;
 
-// What the children of a node of nulls are to be: none.
+// The plan of a null node's children: none.
 #[tactic(auto, using(crate::proofs::NullSteps::null_steps))]
 pub(crate) fn plan(alloc: Global, head: &ArrayHead) -> Result<ChildPlans, EncodingError>
     ensures plan { (x : ExtMeaning) → IfOk result (λ plans. IsPlanned x Null head.now plans) }

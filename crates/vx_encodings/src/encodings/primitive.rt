@@ -1,4 +1,4 @@
-//! Nodes of numbers: no metadata, the numbers in one buffer, and a validity that may stand below.
+//! Nodes of numbers: no metadata, the numbers in one buffer, and an optional validity child.
 
 ghost use Rattle.std.specs.Prelude.{IfOk, IfErr};
 ghost use Rattle.vx_types.specs.Known.{ExtMeaning};
@@ -17,7 +17,7 @@ use vx_buffer::BufferHandles;
 use vx_plans::{ArrayHead, ChildPlans, EncodingError, plan_validity};
 use vx_types::DType;
 
-// What the children of a node of numbers are to be: at most a validity.
+// The plan of a number node's children: at most a validity.
 #[tactic(auto, using(crate::proofs::PrimitiveSteps::primitive_steps))]
 pub(crate) fn plan(alloc: Global, head: &ArrayHead) -> Result<ChildPlans, EncodingError>
     ensures plan { (x : ExtMeaning) → IfOk result (λ plans. IsPlanned x Primitive head.now plans) }

@@ -1,4 +1,4 @@
-//! Nodes of structures: no metadata, no buffers, and below a validity that may stand, and then each field.
+//! Nodes of structures: no metadata, no buffers, and as children an optional validity and then each field.
 
 ghost use Rattle.std.specs.Prelude.{◌≡◌, ◌++◌, Some, IfOk, IfErr, IsOkUnless};
 ghost use Rattle.vx_trees.specs.Rose.{roses_of};
@@ -20,7 +20,7 @@ use vx_buffer::BufferHandles;
 use vx_plans::{ArrayHead, ChildPlans, EncodingError, plan_of, validity_of};
 use vx_types::DType;
 
-// What the children of a node of structures are to be: at most a validity, and then a child for each field.
+// The plan of a structure node's children: at most a validity, and then a child for each field.
 #[tactic(auto, using(crate::proofs::StructSteps::struct_steps))]
 pub(crate) fn plan(alloc: Global, head: &ArrayHead) -> Result<ChildPlans, EncodingError>
     ensures plan { (x : ExtMeaning) → IfOk result (λ plans. IsPlanned x Struct head.now plans) }
@@ -35,7 +35,7 @@ pub(crate) fn plan(alloc: Global, head: &ArrayHead) -> Result<ChildPlans, Encodi
     }
 }
 
-// A child for each of the types, after a validity, where one stands among so many children.
+// The plan of a child for each type, after a validity where `count` asks for one.
 #[tactic(auto, using(crate::proofs::StructSteps::struct_steps))]
 fn plan_fields(
     alloc: Global,
@@ -57,7 +57,7 @@ fn plan_fields(
     }
 }
 
-// These children, and then one for each of the types.
+// These plans, and then one for each type.
 pub(crate) fn with_fields(
     alloc: Global,
     front: ChildPlans,
@@ -101,7 +101,8 @@ pub(crate) fn build(
     }
 }
 
-// The validity that may stand in front of so many children, and these.
+// The optional validity in front of the fields, and the fields. A node has a validity where it has one child more than
+// fields.
 fn front_and_fields(children: Arrays, width: usize) -> (Option<Array>, Arrays)
     ensures { behind_validity result.0 result.1 ≡ children }
 {

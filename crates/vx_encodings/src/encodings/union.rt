@@ -1,4 +1,4 @@
-//! Nodes of unions: no metadata, no buffers, and below the tags, and then each member.
+//! Nodes of unions: no metadata, no buffers, and as children the tags and then each member.
 
 ghost use Rattle.std.specs.Prelude.{◌≡◌, ◌∷◌, Some, IfOk, IfErr};
 ghost use Rattle.vx_trees.specs.Rose.{end, node, roses_of};
@@ -22,7 +22,7 @@ use vx_buffer::BufferHandles;
 use vx_plans::{ArrayHead, ChildPlan, ChildPlans, EncodingError};
 use vx_types::{DType, Nullability, PType};
 
-// What the children of a node of unions are to be: the tags, and then a child for each member.
+// The plan of a union node's children: the tags, and then a child for each member.
 #[tactic(auto, using(crate::proofs::UnionSteps::union_steps))]
 pub(crate) fn plan(alloc: Global, head: &ArrayHead) -> Result<ChildPlans, EncodingError>
     ensures plan { (x : ExtMeaning) → IfOk result (λ plans. IsPlanned x Union head.now plans) }
@@ -38,7 +38,7 @@ pub(crate) fn plan(alloc: Global, head: &ArrayHead) -> Result<ChildPlans, Encodi
     }
 }
 
-// The tags, and a child for each of the types, where they are as many as the children.
+// The plan of the tags and of a child for each type. `BadShape` where `count` is not one more than the types.
 #[tactic(auto, using(crate::proofs::UnionSteps::member_steps))]
 fn plan_members(
     alloc: Global,
@@ -58,7 +58,7 @@ fn plan_members(
     with_fields(alloc, plans, types, len)
 }
 
-// What the tags of so many rows are to be.
+// The plan of the tags of `len` rows.
 fn tags_of(nullability: Nullability, len: usize) -> ChildPlan
     ensures { planned_place result ≡ place (node (primitive U8 nullability) end) len }
 {

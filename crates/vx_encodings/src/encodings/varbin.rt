@@ -1,5 +1,5 @@
-//! Nodes of texts and of bytes by offsets: the kind of the offsets as metadata, the bytes in one buffer, and below the
-//! offsets and a validity that may stand.
+//! Nodes of texts and of bytes by offsets: the kind of the offsets as metadata, the bytes in one buffer, and as
+//! children the offsets and an optional validity.
 
 ghost use Rattle.std.specs.Prelude.{◌≡◌, ◌↔◌, IfOk, IfErr, IsOkUnless, IsTrue, refl};
 ghost use Rattle.std.proofs.Common.{arith, ap};
@@ -78,7 +78,7 @@ impl Message for VarBinMetadata {
     ghost determined = { λ m n p q e. ap (λ k. record { offsets_ptype = k }) (same_kind m.offsets_ptype n.offsets_ptype e) };
 }
 
-// What the children of a node of texts or of bytes are to be: one offset more than rows, and at most a validity.
+// The plan of the children of a node of texts or bytes: one offset more than rows, and at most a validity.
 #[tactic(auto, using(crate::proofs::VarBinSteps::varbin_steps))]
 pub(crate) fn plan(alloc: Global, head: &ArrayHead) -> Result<ChildPlans, EncodingError>
     ensures plan { (x : ExtMeaning) → IfOk result (λ plans. IsPlanned x VarBin head.now plans) }
@@ -114,7 +114,7 @@ pub(crate) fn is_of_bytes(dtype: &DType) -> bool
     }
 }
 
-// The node of texts or of bytes of these parts.
+// The node of texts or bytes of these parts.
 #[tactic(auto, using(crate::proofs::VarBinSteps::varbin_steps))]
 pub(crate) fn build(
     alloc: Global,
@@ -138,8 +138,8 @@ pub(crate) fn build(
     }
 }
 
-// The metadata of a node over these children, as it is written: the kind of its offsets. (Which stands there for
-// children that no node has does not matter.)
+// The metadata of a node over these children, as it is written: the kind of its offsets. Children that no node has give
+// some metadata, so the call needs no condition on them.
 pub(crate) fn metadata(alloc: Global, children: &[Array]) -> Result<Blob, EncodingError>
     ensures ok { IfOk result (λ bytes. bytes ≡ varbin_bytes (metadata_of (places (roses_of children.now)))) }
     ensures err { IsOkUnless result EncodingError.OutOfMemory }

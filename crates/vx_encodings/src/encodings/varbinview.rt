@@ -1,5 +1,5 @@
-//! Nodes of texts and of bytes by views: no metadata, the views in the last of the buffers, and a validity that may stand
-//! below.
+//! Nodes of texts and of bytes by views: no metadata, the views in the last of the buffers, and an optional validity
+//! child.
 
 ghost use Rattle.std.specs.Prelude.{IfOk, IfErr};
 ghost use Rattle.vx_types.specs.Known.{ExtMeaning};
@@ -17,7 +17,7 @@ use vx_arrays::{Array, Arrays, VarBinViewArray};
 use vx_buffer::BufferHandles;
 use vx_plans::{ArrayHead, ChildPlans, EncodingError, plan_validity};
 
-// What the children of a node of texts or of bytes by views are to be: at most a validity.
+// The plan of the children of a node of texts or bytes by views: at most a validity.
 #[tactic(auto, using(crate::proofs::VarBinViewSteps::varbinview_steps))]
 pub(crate) fn plan(alloc: Global, head: &ArrayHead) -> Result<ChildPlans, EncodingError>
     ensures plan { (x : ExtMeaning) → IfOk result (λ plans. IsPlanned x VarBinView head.now plans) }
@@ -30,7 +30,7 @@ pub(crate) fn plan(alloc: Global, head: &ArrayHead) -> Result<ChildPlans, Encodi
     plan_validity(alloc, head.len, head.nchildren)
 }
 
-// The node of texts or of bytes by views of these parts.
+// The node of texts or bytes by views of these parts.
 #[tactic(auto, using(crate::proofs::VarBinViewSteps::varbinview_steps))]
 pub(crate) fn build(
     alloc: Global,

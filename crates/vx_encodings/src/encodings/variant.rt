@@ -1,5 +1,5 @@
-//! Nodes of variants: the type of the shredded child as metadata, where one stands; no buffers, and below the core and that
-//! child.
+//! Nodes of variants: the type of the shredded child as metadata, where there is one; no buffers, and as children the
+//! core and that child.
 
 ghost use Rattle.std.specs.Prelude.{◌≡◌, ◌∷◌, [], Some, IfOk, IfErr, IsOkUnless, IsTrue, IsFalse, option_map, refl};
 ghost use Rattle.std.proofs.Common.{arith, ap};
@@ -40,7 +40,7 @@ use vx_types::{Blob, DType};
 /// The metadata of variants.
 #[derive(Debug, Drop)]
 pub struct VariantMetadata {
-    /// The type of the shredded child, where one stands.
+    /// The type of the shredded child, where there is one.
     pub shredded_dtype: Option<pb::DType>,
 }
 
@@ -117,7 +117,7 @@ impl Message for VariantMetadata {
     ghost determined = { λ m n p q e. ap (λ x. record { shredded_dtype = x.0 }) (variant_parts.same (m.shredded_dtype, tt) (n.shredded_dtype, tt) e) };
 }
 
-// The type of the shredded child that metadata tells, where it tells one.
+// The type of the shredded child in metadata, where it has one.
 #[tactic(auto, using(crate::proofs::VariantFields::shredded_types))]
 fn shredded_type(
     alloc: Global,
@@ -142,7 +142,7 @@ fn shredded_type(
     }
 }
 
-// The type of a message, where it is one that the readers know.
+// The type that a message shows, if the readers know it.
 fn known_type(
     alloc: Global,
     message: &pb::DType,
@@ -160,8 +160,7 @@ fn known_type(
     }
 }
 
-// What the children of a node of variants are to be: the core, and after it the shredded child, where the metadata tells
-// its type.
+// The plan of a variant node's children: the core, and after it the shredded child, where the metadata has its type.
 #[tactic(auto, using(crate::proofs::VariantSteps::variant_steps))]
 pub(crate) fn plan(
     alloc: Global,
@@ -181,7 +180,8 @@ pub(crate) fn plan(
     plan_children(alloc, &head.dtype, shredded, head.len, head.nchildren)
 }
 
-// A core of a type and a shredded child of another, where it stands, each of so many rows, where they are the only children.
+// The plan of the core and of the shredded child, where there is one, each of `len` rows. `BadShape` for another number
+// of children.
 fn plan_children(
     alloc: Global,
     core: &DType,
@@ -199,7 +199,7 @@ fn plan_children(
     }
 }
 
-// Two children, where they are the only ones.
+// The plan of two children, for a node of exactly two.
 #[tactic(auto, using(crate::proofs::DictSteps::pair_steps))]
 fn plan_both(
     alloc: Global,
@@ -240,7 +240,7 @@ pub(crate) fn build(
     }
 }
 
-// The type of the second of a node's children, where there is one.
+// The type of a node's second child, where there is one.
 #[tactic(auto, using(crate::proofs::VariantFields::lone_untold))]
 fn shredded_of(children: &[Array]) -> Option<&DType>
     ensures { option_map (λ d. typ d.now) result ≡ metadata_of (places (roses_of children.now)) }
@@ -251,7 +251,7 @@ fn shredded_of(children: &[Array]) -> Option<&DType>
     }
 }
 
-// The message of the type of the shredded child, where there is one.
+// The message of the shredded child's type, where there is one.
 fn shredded_message(alloc: Global, children: &[Array]) -> Result<Option<pb::DType>, EncodingError>
     requires { FitsMessage (M.variant (metadata_of (places (roses_of children.now)))) }
     ensures ok { IfOk result (λ m. m ≡ option_map type_message (metadata_of (places (roses_of children.now)))) }
@@ -279,7 +279,7 @@ pub(crate) fn metadata(alloc: Global, children: &[Array]) -> Result<Blob, Encodi
     write_message(alloc, VariantMetadata { shredded_dtype })
 }
 
-// Whether the type of the shredded child fits the message, in which it has at most 49 levels.
+// Whether the type of the shredded child fits the message, in which a type has at most 49 levels.
 pub(crate) fn has_message(children: &[Array]) -> bool
     ensures fits { IsTrue result → FitsMessage (M.variant (metadata_of (places (roses_of children.now)))) }
     ensures over { IsFalse result → FitsMessage (M.variant (metadata_of (places (roses_of children.now)))) → ⊥ }

@@ -1,4 +1,4 @@
-//! The node out of its parts, asked of each encoding.
+//! Building a node of its parts, asked of each encoding.
 
 ghost use Rattle.std.specs.Prelude.{IfOk, IfErr};
 ghost use Rattle.vx_type_wire.specs.Session.{ext_meaning};

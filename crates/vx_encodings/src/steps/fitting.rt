@@ -7,7 +7,7 @@ ghost use Rattle.vx_wire_tree.specs.Limits.{HasMessage};
 use crate::encodings;
 use vx_arrays::{Array, Body};
 
-/// Whether the root's metadata fits its message: a node of which it does not is not written.
+/// Whether the root's metadata fits its message. A node whose metadata does not is not written.
 #[tactic(auto, using(crate::proofs::Fit::fit))]
 pub fn has_message(array: &Array) -> bool
     ensures fits { IsTrue result → HasMessage (label array.now) (below array.now) }

@@ -10,7 +10,7 @@ use std::alloc::Global;
 use vx_plans::{ArrayHead, ChildPlans, EncodingError};
 use vx_type_wire::ExtSession;
 
-// The plan of the encoding's file.
+// The plan that the encoding's file makes.
 pub(crate) fn plan_by(
     alloc: Global,
     encoding: Encoding,

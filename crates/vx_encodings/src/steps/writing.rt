@@ -41,7 +41,7 @@ pub(crate) fn metadata_by(alloc: Global, array: &Array) -> Result<Blob, Encoding
     }
 }
 
-// The bytes of a foreign node's metadata, as it keeps them.
+// A copy of the bytes that a foreign node keeps as metadata.
 fn kept_bytes(alloc: Global, kept: &ForeignData) -> Result<Blob, EncodingError>
     ensures ok { IfOk result (λ bytes. bytes ≡ kept.now.metadata) }
     ensures err { IsOkUnless result EncodingError.OutOfMemory }

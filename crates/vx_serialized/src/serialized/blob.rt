@@ -4,7 +4,8 @@ ghost use Rattle.std.specs.Prelude.{IfSome, IfNone};
 ghost use Rattle.vx_serialized.specs.Blob.{IsBlob};
 ghost use Rattle.vx_serialized.specs.Opening.{IsTooShort};
 
-/// A blob's segment and its message, which the length in its last four bytes tells.
+/// A blob's segment and its message, whose length stands in the blob's last four bytes. `None` where these say more
+/// than there is.
 pub(crate) fn split_blob(blob: &[u8]) -> Option<(&[u8], &[u8])>
     ensures some { IfSome result (λ p. IsBlob blob.now p.0.now p.1.now) }
     ensures none { IfNone result (IsTooShort blob.now) }

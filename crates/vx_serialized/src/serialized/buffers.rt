@@ -1,4 +1,4 @@
-//! The buffers that descriptors tell over a segment.
+//! The buffers that descriptors describe in a segment.
 
 ghost use Rattle.std.specs.Prelude.{◌≡◌, ◌<◌, ◌^◌, length, IfOk, IfErr, OnOk};
 ghost use Rattle.std.specs.Option.{option_copied};
@@ -12,7 +12,7 @@ use std::alloc::Global;
 use std::collections::BTreeMap;
 use vx_buffer::{Alignment, BufferHandle, BufferHandles, ByteBuffer};
 
-/// The buffer that is given in the place of a descriptor's, by the descriptor's number.
+/// The buffer that is given in place of a descriptor's, by the descriptor's number.
 fn override_at(overrides: &BTreeMap<u32, ByteBuffer>, number: u64) -> Option<&ByteBuffer>
     ensures { option_copied result ≡ overrides_in overrides.now number }
 {
@@ -23,6 +23,7 @@ fn override_at(overrides: &BTreeMap<u32, ByteBuffer>, number: u64) -> Option<&By
 }
 
 /// The buffer of a descriptor whose padding begins at a place of the segment, or the one that is given in its place.
+/// The place has 128 bits, since the paddings and lengths of descriptors whose range is not judged may pass 64.
 fn take_buffer(
     alloc: Global,
     segment: &BufferHandle,
@@ -62,7 +63,7 @@ fn take_buffer(
     }
 }
 
-/// The buffers of descriptors over a segment, but for those that are given in the place of one.
+/// The buffers of descriptors in a segment, except those that are given.
 pub(crate) fn take_buffers(
     alloc: Global,
     segment: &BufferHandle,

@@ -29,7 +29,7 @@ impl BufferLengths {
         }
     }
 
-    /// One more length at the end.
+    /// Appends a length.
     pub(crate) fn push(&mut self, length: usize) -> Result<(), AllocError>
         ensures ok { OnOk result (self.new ≡ self.old ++ length ∷ []) }
         ensures err { OnErr result (self.new ≡ self.old) }

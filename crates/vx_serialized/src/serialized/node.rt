@@ -20,7 +20,8 @@ use vx_buffer::{BufferHandle, BufferHandles};
 use vx_flat::View;
 use vx_types::Names;
 
-/// A node of a serialized array, with the nodes below it: a place in the message, borrowed. Contracts see its tree.
+/// A node of a serialized array, with the nodes below it: a place in the message, borrowed for as long as the array is.
+/// Reading it takes no memory. Contracts see its tree.
 #[derive(Drop)]
 pub struct SerializedNode<'a> {
     view: View<'a>,
@@ -45,7 +46,7 @@ impl<'a> Model for SerializedNode<'a> {
 }
 
 impl<'a> SerializedNode<'a> {
-    /// The node that a view is of, in a message with these descriptors, over these buffers.
+    /// The node that a view shows, in a message with these descriptors, over these buffers.
     pub(crate) fn new(
         view: View<'a>,
         descriptors: &'a [u8],
@@ -61,14 +62,14 @@ impl<'a> SerializedNode<'a> {
         }
     }
 
-    /// The number that names the node's encoding, in a list of identifiers that stands beside the message.
+    /// The number of the node's encoding, in the list of identifiers that comes with the message.
     pub fn encoding_id(&self) -> u16
         ensures { result ≡ (label self.now.root).encoding }
     {
         self.view.number(0) as u16
     }
 
-    /// The bytes of the node's metadata.
+    /// The bytes of the node's metadata, borrowed from the message.
     pub fn metadata(&self) -> &'a [u8]
         ensures { result.now ≡ (label self.now.root).metadata }
     {
@@ -78,7 +79,7 @@ impl<'a> SerializedNode<'a> {
         }
     }
 
-    /// How many children the node has.
+    /// The number of the node's children.
     pub fn nchildren(&self) -> usize
         ensures { result ≡ count (below self.now.root) }
     {
@@ -88,7 +89,7 @@ impl<'a> SerializedNode<'a> {
         }
     }
 
-    /// The child at this place.
+    /// The child at this index.
     pub fn child(&self, i: usize) -> SerializedNode<'a>
         requires { i < count (below self.now.root) }
         ensures { IsChildOf self.now i result }
@@ -101,7 +102,7 @@ impl<'a> SerializedNode<'a> {
         }
     }
 
-    // The bytes of the numbers that the node's buffers are named by.
+    // The bytes of the indices by which the node names its buffers.
     fn indices(&self) -> &'a [u8]
         ensures { indices_of result.now ≡ (label self.now.root).buffers }
     {
@@ -111,14 +112,14 @@ impl<'a> SerializedNode<'a> {
         }
     }
 
-    /// How many buffers the node names.
+    /// The number of buffers that the node names.
     pub fn nbuffers(&self) -> usize
         ensures { result ≡ length (label self.now.root).buffers }
     {
         self.indices().len() / 2
     }
 
-    /// The number that names the node's buffer at this place.
+    /// The number of the node's buffer at this index, in the list of all buffers.
     pub fn buffer_index(&self, i: usize) -> u16
         requires { i < length (label self.now.root).buffers }
         ensures { slice_get (label self.now.root).buffers i ≡ Some result }
@@ -127,10 +128,10 @@ impl<'a> SerializedNode<'a> {
         u16::from_le_bytes([indices[2 * i], indices[2 * i + 1]])
     }
 
-    /// The node's buffer at this place, borrowed.
+    /// The node's buffer at this index, borrowed.
     ///
     /// # Errors
-    /// `OutOfBounds`, exactly where the node names no buffer at this place, or one that is not there.
+    /// `OutOfBounds`, exactly where the node names no buffer at this index, or one that is not there.
     pub fn buffer(&self, i: usize) -> Result<&'a BufferHandle, WireError>
         ensures ok { IfOk result (λ b. named_buffer self.now i ≡ Some b.now) }
         ensures error { IsOkUnless result WireError.OutOfBounds }
@@ -145,7 +146,7 @@ impl<'a> SerializedNode<'a> {
         }
     }
 
-    /// The table of the node's statistics, where it stands.
+    /// The table of the node's statistics, if it has one.
     pub(crate) fn statistics(&self) -> Option<View<'a>>
         ensures fields { IfSome result (λ table. kinds_in table ≡ stats_fields) }
         ensures some { IfSome result (λ table. (label self.now.root).stats ≡ value.table (seen table)) }
@@ -154,10 +155,10 @@ impl<'a> SerializedNode<'a> {
         self.view.table(4)
     }
 
-    /// The names of the node's statistics that stand, in the order in which a table has them.
+    /// The names of the statistics that the node's table has, in the order of the table's fields.
     ///
     /// # Errors
-    /// Allocation failure alone.
+    /// `OutOfMemory` alone.
     pub fn stat_names(&self, alloc: Global) -> Result<Names, WireError>
         ensures ok { IfOk result (λ names. names ≡ names_in (label self.now.root).stats) }
         ensures err { IsOkUnless result WireError.OutOfMemory }
@@ -168,10 +169,10 @@ impl<'a> SerializedNode<'a> {
         }
     }
 
-    /// The length of each buffer of the message, by its descriptor.
+    /// The length in bytes of each of the message's buffers, as its descriptor says.
     ///
     /// # Errors
-    /// Allocation failure alone.
+    /// `OutOfMemory` alone.
     pub fn buffer_lengths(&self, alloc: Global) -> Result<BufferLengths, WireError>
         ensures ok { IfOk result (λ ls. ls ≡ lengths_of self.now.descriptors) }
         ensures err { IsOkUnless result WireError.OutOfMemory }
@@ -180,7 +181,7 @@ impl<'a> SerializedNode<'a> {
     }
 }
 
-/// The lengths that descriptors tell.
+/// The lengths in descriptors.
 fn lengths(alloc: Global, descriptors: &[u8]) -> Result<BufferLengths, WireError>
     ensures ok { IfOk result (λ ls. ls ≡ lengths_of (descriptors_of descriptors.now)) }
     ensures err { IsOkUnless result WireError.OutOfMemory }

@@ -1,4 +1,4 @@
-//! The names of the statistics that stand in a table.
+//! The names of the statistics that a table has.
 
 ghost use Rattle.std.specs.Prelude.{◌≡◌, ◌++◌, ◌∷◌, [], IfOk, OnOk, IsOkUnless};
 ghost use Rattle.vx_flat.specs.Seen.{kinds_in, seen};
@@ -12,7 +12,7 @@ use vx_flat::View;
 use vx_scalars::Stat;
 use vx_types::{Name, Names, or_memory};
 
-/// The names of the statistics that stand in a table, in the order in which a table has them.
+/// The names of the statistics that a table has, in the order of its fields.
 pub(crate) fn names_of(alloc: Global, table: &View<'_>) -> Result<Names, WireError>
     requires { kinds_in table.now ≡ stats_fields }
     ensures ok { IfOk result (λ names. names ≡ names_standing (seen table.now) all_stats) }
@@ -26,7 +26,7 @@ pub(crate) fn names_of(alloc: Global, table: &View<'_>) -> Result<Names, WireErr
     Ok(names)
 }
 
-/// Whether a statistic stands in a table.
+/// Whether a table has a statistic.
 fn stands(table: &View<'_>, stat: Stat) -> bool
     requires { kinds_in table.now ≡ stats_fields }
     ensures { result ≡ is_standing (seen table.now) stat }
@@ -44,7 +44,7 @@ fn stands(table: &View<'_>, stat: Stat) -> bool
     }
 }
 
-/// One more name, that of a statistic, where it stands in a table.
+/// Appends the name of a statistic, where a table has it.
 fn push_name(
     alloc: Global,
     table: &View<'_>,

@@ -1,4 +1,4 @@
--- A kind of this code there is.
+-- There is a kind with this code.
 use Rattle.std.proofs.Common.{◌≡◌, ap, sym, ◌∙◌, Some, arith}
 use Rattle.vx_numbers.specs.Numbers.{code_of}
 use Rattle.vx_encodings.proofs.OffsetKinds.{few_kinds}

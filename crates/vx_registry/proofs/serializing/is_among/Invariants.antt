@@ -2,6 +2,6 @@ use Rattle.std.proofs.Common.{◌≡◌, drop}
 use Rattle.vx_wire_tree.specs.Context.{is_among}
 use Rattle.vx_registry.proofs.serializing.is_among.Given as goal
 
--- whether it is among those that are left is whether it is among all
+-- An identifier is among those that are left exactly where it is among all of them.
 abbrev pub invariant-loop-other : goal.invariant-loop-other
 invariant-loop-other l = is_among l.id (drop l.other-index l.other-items) ≡ is_among l.id l.other-items

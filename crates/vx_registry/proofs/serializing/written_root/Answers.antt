@@ -17,7 +17,7 @@ returns-in-Some-Revised-clause-root g c = λ x u.
     native_root (arrays_meaning (λ b. (goal.ArrayPlugin-dyn g (b.vtable, b.value)).means b.value) c.args.arrays.now x) c.args.array.now c.in_ok-id.id (Some revised) (c.is_foreign.ensures.native c.if-is_foreign.false) (c.in_ok-id.ensures.ok ∙ c.encoding_id.ensures)
     (c.writer.ensures.found x ∙ ap (λ o. option_and_then (reader_in (λ b. (goal.ArrayPlugin-dyn g (b.vtable, b.value)).means b.value) c.args.arrays.now) o) (c.in-Some-Revised.is ∙ ap (λ e. Some e) c.in-Some-Revised.field-0-is))
 
--- a plugin of that number is there
+-- A plugin of that number is there.
 pub returns-in-Some-clause-root : goal.returns-in-Some-clause-root
 returns-in-Some-clause-root g c = λ x u.
     subst (λ z. IfOk c.given_root.result (IsRootOf c.args.array.now z))
@@ -34,7 +34,7 @@ returns-in-Some-clause-cause g c = λ x u.
     ∙ ap (λ z. option_map (λ p. plugin p) (option_map (λ b. (goal.ArrayPlugin-dyn g (b.vtable, b.value)).means b.value) z)) (sym c.plugin.ensures ∙ ap (λ z. option_copied z) c.in-Some.is))))
     c.given_root.ensures.cause
 
--- and where none is
+-- No plugin of that number is there.
 pub returns-in-Some-Boxed-clause-cause : goal.returns-in-Some-Boxed-clause-cause
 returns-in-Some-Boxed-clause-cause g c = λ x u.
     native_root (arrays_meaning (λ b. (goal.ArrayPlugin-dyn g (b.vtable, b.value)).means b.value) c.args.arrays.now x) c.args.array.now c.in_ok-id.id None (c.is_foreign.ensures.native c.if-is_foreign.false) (c.in_ok-id.ensures.ok ∙ c.encoding_id.ensures)

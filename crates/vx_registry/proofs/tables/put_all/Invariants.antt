@@ -4,7 +4,7 @@ use Rattle.indexmap.specs.IndexMap.{spare}
 use Rattle.vx_registry.specs.Session.{put_all}
 use Rattle.vx_registry.proofs.tables.put_all.Given as goal
 
--- the identifiers that are left are still to be put in, and there is room for them
+-- The identifiers that are left are still to be put in, and there is room for them.
 abbrev pub invariant-loop-id : goal.invariant-loop-id
 invariant-loop-id l =
     (put_all l.entry (into_iter_items l.id-iterator) l.table.entries ≡ put_all l.entry (into_iter_items l.initial.id-iterator) l.initial.table.entries)

@@ -93,7 +93,7 @@ build_entry-requires-clause-planned g t c =
     let told = all_told s nodes node.children c.loop-i.children c.loop-i.i past same c.loop-i.invariant in
     subst (λ (ps : List Place). PlansBy s.ext r node.head ps) (sym told.placed) c.in_ok-planned.ensures.planned
 
--- What was built is of the type that is asked, and is told with its statistics.
+-- What was built is of the type that was asked for, and decodes with its statistics.
 pub tell-requires : goal.tell-requires
 tell-requires g t c =
     let s = session_meaning (λ b. ((dyn-2-ghosts g.dyn-2 g.dyn-1).0.entry b.vtable).1.means b.value) (λ b. ((dyn-1-ghosts g.dyn-2 g.dyn-1).0.entry b.vtable).1.accepted b.value) c.args.session.now in

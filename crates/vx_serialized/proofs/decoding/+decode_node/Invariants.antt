@@ -11,7 +11,7 @@ use Rattle.vx_serialized.proofs.decoding.+decode_node.Given as goal
 abbrev pub decreases-decode_node : goal.decreases-decode_node
 decreases-decode_node g l = nodes l.node.now.root
 
--- the children so far tell the arrays so far
+-- The children so far decode to the arrays so far.
 abbrev pub invariant-loop-i : goal.invariant-loop-i
 invariant-loop-i g l =
     let s = session_meaning (λ b. ((dyn-2-ghosts g.dyn-2 g.dyn-1).0.entry b.vtable).1.means b.value) (λ b. ((dyn-1-ghosts g.dyn-2 g.dyn-1).0.entry b.vtable).1.accepted b.value) l.session in

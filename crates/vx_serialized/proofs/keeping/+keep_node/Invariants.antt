@@ -9,6 +9,6 @@ use Rattle.vx_serialized.proofs.keeping.+keep_node.Given as goal
 abbrev pub decreases-keep_node : goal.decreases-keep_node
 decreases-keep_node l = nodes l.node.now.root
 
--- the children so far are kept
+-- The children so far are kept.
 abbrev pub invariant-loop-i : goal.invariant-loop-i
 invariant-loop-i l = AreKeptAs (roses_of (take l.i (roses_list (below (wire_in l.ids l.node))))) (typ l.dtype) l.len l.children

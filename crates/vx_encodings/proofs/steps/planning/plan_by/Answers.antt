@@ -1,4 +1,4 @@
--- The step of variants alone asks the readers.
+-- Only the step of variants asks the readers.
 use Rattle.vx_encodings.proofs.VariantSteps.{planned_at, unplanned_at}
 use Rattle.vx_encodings.proofs.steps.planning.plan_by.Goals as goal
 

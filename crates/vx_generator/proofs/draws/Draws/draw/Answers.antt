@@ -3,7 +3,7 @@ use Rattle.std.proofs.Math.Nat.{mod-add-mod}
 use Rattle.vx_generator.specs.Draws.{next, number_of}
 use Rattle.vx_generator.proofs.draws.Draws.draw.Goals as goal
 
--- A product that wraps, and a sum that wraps, are the one that wraps at its end.
+-- A step that wraps the product and then the sum is the step that wraps once, at its end.
 stepped : (x : ℕ) → (x * 6364136223846793005 % 2 ^ 64 + 1442695040888963407) % 2 ^ 64 ≡ next x
 unfolding next
 stepped x = mod-add-mod (x * 6364136223846793005) (2 ^ 64) 1442695040888963407

@@ -5,7 +5,7 @@ use Rattle.vx_registry.proofs.Meanings.{found_boxed}
 use Rattle.vx_registry.proofs.Pairing.{within_as, within_boxed}
 use Rattle.vx_registry.proofs.array_session.ArraySession.add.Goals as goal
 
--- the number is below, and no other came
+-- The number is below the length, and no other number was put in.
 pub invariant_of-self-2 : goal.invariant_of-self-2
 invariant_of-self-2 g c =
     let own = c.args.self.now in
@@ -13,7 +13,7 @@ invariant_of-self-2 g c =
     let after : length c.push_reserved.new.self.items ≡ c.len.result + 1 = omega (arith, c.push_reserved.ensures.len, c.len.ensures) in
     record { in_range = within_as _ _ _ _ c.in-Ok-set_boxed.ensures.registered after (within_boxed c.len.result c.in-Ok-clone.id c.in-Ok.ids own.tables (within_as own.tables own.tables _ _ refl before own.in_range)) }
 
--- the number is that of the last plugin, and the identifiers are those that the plugin means
+-- The number is that of the last plugin, and the identifiers are those of the plugin's meaning.
 pub returns-clause-entries : goal.returns-clause-entries
 returns-clause-entries g c =
     let own = c.args.self.now in

@@ -9,7 +9,7 @@ use Rattle.vx_serialized.proofs.StoredMessages.{segment_is, message_is, is_blob_
 use Rattle.vx_serialized.proofs.serialized.SerializedArray.try_from_buffer_to.Goals as goal
 use Rattle.vx_serialized.proofs.serialized.SerializedArray.try_from_buffer_to.Goals.{Joined-blob-4}
 
--- the two parts of the blob
+-- The two parts of the blob.
 parts : (c : Joined-blob-4) → IsBlob c.args.blob.bytes c.in-Some.segment.now c.in-Some.message.now
 parts c = rw c.as_slice.ensures at c.in-Some.ensures.some
 

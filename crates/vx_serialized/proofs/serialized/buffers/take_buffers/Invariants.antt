@@ -4,7 +4,7 @@ use Rattle.vx_serialized.specs.Message.{descriptors_of}
 use Rattle.vx_serialized.specs.Overrides.{overrides_in, buffers_with, AreCleanWith, RefusesOne}
 use Rattle.vx_serialized.proofs.serialized.buffers.take_buffers.Given as goal
 
--- what was taken, with what is left, is the whole
+-- What was taken, and then what is left, is the whole.
 abbrev pub invariant-loop-descriptor : goal.invariant-loop-descriptor
 invariant-loop-descriptor l =
     let given = overrides_in l.overrides in

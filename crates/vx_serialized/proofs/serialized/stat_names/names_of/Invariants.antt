@@ -4,7 +4,7 @@ use Rattle.vx_scalars.specs.StatTypes.{all_stats}
 use Rattle.vx_serialized.specs.StatNames.{names_standing}
 use Rattle.vx_serialized.proofs.serialized.stat_names.names_of.Given as goal
 
--- the names so far, and those of the statistics that are left
+-- The names so far, and then those of the statistics that are left.
 abbrev pub invariant-loop-stat : goal.invariant-loop-stat
 invariant-loop-stat l = record {
   whole : l.stat-items ≡ all_stats;

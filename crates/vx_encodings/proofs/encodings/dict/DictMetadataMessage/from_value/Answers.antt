@@ -1,4 +1,4 @@
--- A plain value of the form of the message is of its fields.
+-- A plain value of the form of the message is that of its fields.
 use Rattle.std.proofs.Common.{◌≡◌, option_map, ap, sym, ◌∙◌, Some, arith}
 use Rattle.vx_numbers.specs.Numbers.{code_of}
 use Rattle.vx_proto.specs.Parts.{number_in, entries_in}

@@ -1,4 +1,4 @@
--- What stands in the two slots is the metadata's.
+-- The two slots hold the metadata.
 use Rattle.std.proofs.Common.{ℕ, ◌≡◌, ap, sym, ◌∙◌, Some}
 use Rattle.std.proofs.lemmas.Option.{same_Some}
 use Rattle.vx_numbers.specs.Numbers.{code_of}
