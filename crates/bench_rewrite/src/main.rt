@@ -12,7 +12,7 @@ use std::time::CpuClock;
 use std::{env, fs};
 use vx_flat::{FlatBuffer, read_value, write_value};
 use vx_serde::ArrayKind;
-use vx_timing::print_least;
+use bench_timing::print_least;
 
 fn rewrite<R: Files + AllocGlobal + Print>(rt: &R, from: &str, to: &str) -> Result<()> {
     let message = fs::read(rt, from).context(format_args!("reading {from}"))?;
@@ -43,7 +43,7 @@ fn time<R: CpuClock + Files + AllocGlobal + Print>(rt: &R, from: &str, rounds: u
 fn main(rt: HostRuntime) -> Result<()> {
     let mut words = env::args(&rt)?.skip(1);
     let (Some(from), Some(to)) = (words.next(), words.next()) else {
-        bail!("usage: vx_rewrite FROM TO [ROUNDS]");
+        bail!("usage: bench_rewrite FROM TO [ROUNDS]");
     };
     rewrite(&rt, from.as_str(), to.as_str())?;
     if let Some(rounds) = words.next() {

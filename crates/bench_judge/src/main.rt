@@ -10,7 +10,7 @@ use std::{env, fs};
 use vx_buffer::ByteBuffer;
 use vx_registry::{ArraySession, ReadContext, VortexSession};
 use vx_serde::SerializedArray;
-use vx_timing::print_least;
+use bench_timing::print_least;
 use vx_type_wire::{DTypeExt, ExtSession};
 use vx_types::{DType, Id, Ids};
 
@@ -74,7 +74,7 @@ fn main(rt: HostRuntime) -> Result<()> {
         words.next(),
         words.next(),
     ) else {
-        bail!("usage: vx_judge TYPE BLOB LEN ID,.. [ROUNDS]");
+        bail!("usage: bench_judge TYPE BLOB LEN ID,.. [ROUNDS]");
     };
     let len = len.as_str().parse()?;
     let dtype = type_in(&rt, of.as_str())?;

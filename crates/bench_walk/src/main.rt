@@ -12,7 +12,7 @@ use anyhow::{Context, Result, bail};
 use std::{env, fs};
 use vx_flat::{FlatError, View, verify_uncounted};
 use vx_serde::ArrayKind;
-use vx_timing::print_least;
+use bench_timing::print_least;
 use walk::walk;
 
 /// The view of a message's root table.
@@ -25,7 +25,7 @@ fn verify(message: &[u8]) -> Result<View<'_>, FlatError>
 fn main(rt: HostRuntime) -> Result<()> {
     let mut words = env::args(&rt)?.skip(1);
     let Some(from) = words.next() else {
-        bail!("usage: vx_walk FROM [ROUNDS]");
+        bail!("usage: bench_walk FROM [ROUNDS]");
     };
     let message = fs::read(&rt, from.as_str()).context(format_args!("reading {from}"))?;
     let root = verify(&message)?;

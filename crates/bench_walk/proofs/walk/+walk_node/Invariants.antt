@@ -1,5 +1,5 @@
 use Rattle.std.proofs.Common.{◌-◌, length}
-use Rattle.vx_walk.proofs.walk.+walk_node.Given as goal
+use Rattle.bench_walk.proofs.walk.+walk_node.Given as goal
 
 abbrev pub decreases-walk_node : goal.decreases-walk_node
 decreases-walk_node l = length l.node.now.message.now - l.node.now.place

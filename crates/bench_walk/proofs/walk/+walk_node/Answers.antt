@@ -2,7 +2,7 @@ use Rattle.std.proofs.Common.{◌≡◌, length, ap, ◌∙◌, arith}
 use Rattle.vx_flat.specs.declared.schema.FieldKind.TheVariants.{Tables}
 use Rattle.vx_flat.proofs.LawsOfViews.{place-within, kind-of, vector-of, element-of}
 use Rattle.vx_serialized.specs.ArraySchema.{array_schema}
-use Rattle.vx_walk.proofs.walk.+walk_node.Goals as goal
+use Rattle.bench_walk.proofs.walk.+walk_node.Goals as goal
 
 pub walk_node-requires : goal.walk_node-requires
 walk_node-requires t c =

@@ -2,7 +2,7 @@
 
 ghost use Rattle.std.specs.Prelude.{refl};
 ghost use Rattle.std.proofs.Common.{arith};
-ghost use Rattle.vx_reencode.specs.Document.{document_lists};
+ghost use Rattle.bench_reencode.specs.Document.{document_lists};
 
 use vx_proto::{Kind, MessageKind, PlainMessage, ScalarKind, Schema, Slot};
 
